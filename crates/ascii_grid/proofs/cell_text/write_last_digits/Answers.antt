@@ -1,0 +1,13 @@
+use Rattle.std.proofs.Common.{arith, rules, ◌≡◌, ◌+◌, ◌-◌, ◌/◌, ◌<◌, length, ap, ◌∙◌}
+use Rattle.ascii_grid.proofs.Decimals.{div_pow_last, digit_before}
+use Rattle.ascii_grid.proofs.cell_text.write_last_digits.Goals as goal
+
+pub loop-done-preserved : goal.loop-done-preserved
+loop-done-preserved c =
+    let before : 24 - (c.loop-done.done + 1) ≡ 23 - c.loop-done.done = omega arith in
+    let after : 24 - c.loop-done.done ≡ (23 - c.loop-done.done) + 1 = omega arith in
+    let within : 23 - c.loop-done.done < length c.loop-done.buffer = search rules in
+    record {
+      left = ap (λ n. n / 10) c.loop-done.invariant.left ∙ div_pow_last c.args.size c.loop-done.done;
+      written = rw before (digit_before _ _ _ _ _ c.loop-done.invariant.left within (rw after at c.loop-done.invariant.written));
+    }

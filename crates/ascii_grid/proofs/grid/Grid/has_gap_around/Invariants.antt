@@ -1,0 +1,8 @@
+use Rattle.ascii_grid.proofs.Places.{HasNoGapBefore}
+use Rattle.ascii_grid.proofs.grid.Grid.has_gap_around.Given as goal
+
+abbrev pub invariant-loop-col : goal.invariant-loop-col
+invariant-loop-col l = HasNoGapBefore l.self.terrain l.place l.row l.col
+
+abbrev pub invariant-loop-row : goal.invariant-loop-row
+invariant-loop-row l = HasNoGapBefore l.self.terrain l.place l.row 0

@@ -1,0 +1,11 @@
+pub mod Words
+pub mod Decimal
+pub mod Raster
+pub mod Parts
+pub mod PlainText
+pub mod Neighbours
+pub mod Filled
+pub mod Text
+pub mod Device
+pub mod Gathers
+pub mod Laws

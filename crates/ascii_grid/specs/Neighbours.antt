@@ -1,0 +1,51 @@
+-- Which cells are next to each other, and which drain off the data.
+use Rattle.std.specs.Prelude.{◌≡◌, ◌≢◌, ℕ, ◌+◌, ◌*◌, ◌<◌, ◌≤◌, ℤ, List, Option, None, IsSome, IsNone, ◌&&◌, nat_lt, if◌then◌else◌, slice_index_or, ◌⊎◌}
+use Rattle.ascii_grid.specs.Raster.{Terrain}
+use Rattle.ascii_grid.specs.declared.place.Place.{Place}
+
+-- The place is one of the grid.
+abbrev pub IsInside : Terrain → Place → Type 0
+IsInside t p = (p.row < t.rows) × (p.col < t.cols)
+
+-- Where the cell of a place stands in row order.
+abbrev pub index_of : ℕ → Place → ℕ
+index_of cols p = p.row * cols + p.col
+
+-- The entry at a place of a list in row order, None outside.
+abbrev pub entry_at : {X : Type 0} → ℕ → ℕ → List (Option X) → Place → Option X
+entry_at cols rows entries p =
+    if nat_lt p.row rows && nat_lt p.col cols
+    then slice_index_or entries (index_of cols p) None
+    else None
+
+-- The height at a place, None outside the grid and where there is no data.
+abbrev pub height_at : Terrain → Place → Option ℤ
+height_at t p = entry_at t.cols t.rows t.cells p
+
+-- The place is in the grid and has a height.
+abbrev pub IsDataCell : Terrain → Place → Type 0
+IsDataCell t p = IsSome (height_at t p)
+
+-- The rows and the columns each differ by at most 1.
+pub record Touches (p q : Place) : Type 0 where
+  pub row_down : q.row ≤ p.row + 1
+  pub row_up : p.row ≤ q.row + 1
+  pub col_right : q.col ≤ p.col + 1
+  pub col_left : p.col ≤ q.col + 1
+
+-- Two different data cells whose rows and columns each differ by at most 1.
+pub record IsNeighbour (t : Terrain) (p q : Place) : Type 0 where
+  pub different : p ≢ q
+  pub touches : Touches p q
+  pub from_data : IsDataCell t p
+  pub to_data : IsDataCell t q
+
+-- At least one of the eight places around is outside the grid or has no data. A place of the first
+-- row or column has one outside, to the north or the west; the others are places with numbers.
+abbrev pub HasGapAround : Terrain → Place → Type 0
+HasGapAround t p =
+    (p.row ≡ 0) ⊎ (p.col ≡ 0) ⊎ ((q : Place) × Touches p q × IsNone (height_at t q))
+
+-- A data cell with a gap around it.
+abbrev pub IsEdge : Terrain → Place → Type 0
+IsEdge t p = IsDataCell t p × HasGapAround t p

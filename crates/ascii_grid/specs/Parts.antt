@@ -1,0 +1,15 @@
+-- A grid's parts as contracts see them.
+use Rattle.std.specs.Prelude.{ℕ, ℤ, List, Option}
+use Rattle.ascii_grid.specs.Raster.{Raster}
+use Rattle.ascii_grid.specs.declared.grid.Header.{Header}
+
+-- The grid of a header, a scale and cells.
+abbrev pub raster_of : Header → ℕ → List (Option ℤ) → Raster
+raster_of header scale cells = record {
+  terrain = record { cols = header.cols; rows = header.rows; cells = cells };
+  xll = record { centre = header.xll.centre; word = header.xll.word };
+  yll = record { centre = header.yll.centre; word = header.yll.word };
+  cellsize = header.cellsize;
+  nodata = header.nodata;
+  scale = scale;
+}

@@ -1,0 +1,91 @@
+// The text of one value.
+ghost use Rattle.std.specs.Prelude.{◌≡◌, ◌+◌, ◌-◌, ◌/◌, ◌^◌, ◌≤◌, ◌++◌, ℕ, List, length, drop, decimal};
+ghost use Rattle.ascii_grid.specs.Text.{last_digits, decimals_text, height_text};
+
+use crate::page::Page;
+use crate::place::Height;
+use itoa::write_digits;
+
+/// Room for the longest text of a value, which is written from its end.
+const ROOM: usize = 24;
+
+/// Writes the last digits at the end of the buffer, and answers the number before them.
+#[inline(always)]
+fn write_last_digits(size: u32, count: usize, buffer: &mut [u8; ROOM]) -> u32
+    requires { count ≤ 6 }
+    ensures left { result ≡ size / 10 ^ count }
+    ensures written { drop (24 - count) buffer.new ≡ last_digits count size }
+{
+    let mut left = size;
+    for done in 0..count {
+        buffer[ROOM - 1 - done] = b'0' + (left % 10) as u8;
+        left /= 10;
+    }
+    left
+}
+
+/// Writes the decimals at the end of the buffer, and answers the whole part and where they start.
+#[inline(always)]
+fn write_decimals(size: u32, scale: usize, buffer: &mut [u8; ROOM]) -> (u32, usize)
+    requires { scale ≤ 6 }
+    ensures left { result.0 ≡ size / 10 ^ scale }
+    ensures within { 17 ≤ result.1 × (result.1 ≤ 24) }
+    ensures written { drop result.1 buffer.new ≡ decimals_text scale size }
+{
+    if scale == 0 {
+        return (size, ROOM);
+    }
+    let left = write_last_digits(size, scale, buffer);
+    let point = ROOM - 1 - scale;
+    buffer[point] = b'.';
+    (left, point)
+}
+
+/// Writes a height at the end of the buffer, and answers where it starts.
+#[inline(always)]
+fn write_height(height: Height, scale: u8, buffer: &mut [u8; ROOM]) -> usize
+    requires { scale ≤ 6 }
+    ensures within { result ≤ 24 }
+    ensures written { drop result buffer.new ≡ height_text scale height }
+{
+    let (whole, end) = write_decimals(height.unsigned_abs(), scale as usize, buffer);
+    let start = write_digits(whole as u64, buffer, end);
+    if height >= 0 {
+        return start;
+    }
+    buffer[start - 1] = b'-';
+    start - 1
+}
+
+/// A value that a cell of a grid text can have.
+pub(crate) trait CellValue: Copy {
+    /// Its text in a grid of this scale.
+    ghost text: { ℕ → Self → List ℕ };
+
+    fn push_to(self, scale: u8, page: &mut Page)
+        requires scale { scale ≤ 6 }
+        requires room { length page.old + 24 ≤ 4096 }
+        ensures { page.new ≡ page.old ++ text scale self };
+}
+
+impl CellValue for i32 {
+    ghost text = { height_text };
+
+    #[inline(always)]
+    fn push_to(self, scale: u8, page: &mut Page) {
+        let mut buffer = [0; ROOM];
+        let start = write_height(self, scale, &mut buffer);
+        page.push(&buffer[start..]);
+    }
+}
+
+impl CellValue for u32 {
+    ghost text = { λ _. decimal };
+
+    #[inline(always)]
+    fn push_to(self, _scale: u8, page: &mut Page) {
+        let mut buffer = [0; ROOM];
+        let start = write_digits(self as u64, &mut buffer, ROOM);
+        page.push(&buffer[start..]);
+    }
+}

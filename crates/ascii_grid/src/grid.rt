@@ -1,0 +1,201 @@
+// A grid, seen as its size, its header words, its scale and its cells.
+ghost use Rattle.std.specs.Prelude.{◌≡◌, ◌↔◌, ◌+◌, ◌*◌, ◌<◌, ◌≤◌, ℕ, length, All, Any, Contains, IfSome, IfOk, IsTrue, Some};
+ghost use Rattle.ascii_grid.specs.Raster.{Raster, IsLawful};
+ghost use Rattle.ascii_grid.specs.Neighbours.{IsInside, height_at, IsEdge, HasGapAround};
+
+use crate::place::{Height, Place};
+use crate::word::Word;
+use std::alloc::Global;
+use std::marker::Model;
+
+/// There was no memory for the list of cells.
+#[derive(Clone, Copy, Debug, PartialEq, Eq)]
+pub struct NoMemory;
+
+/// Where the lower left cell lies along one axis: a word for its corner or for its centre.
+#[derive(Drop)]
+pub struct Anchor {
+    pub centre: bool,
+    pub word: Word,
+}
+
+impl Anchor {
+    fn copy(&self) -> Self
+        ensures { result ≡ self.now }
+    {
+        Anchor {
+            centre: self.centre,
+            word: self.word.copy(),
+        }
+    }
+}
+
+/// What the header of a grid text gives.
+#[derive(Drop)]
+pub(crate) struct Header {
+    pub(crate) cols: u32,
+    pub(crate) rows: u32,
+    pub(crate) xll: Anchor,
+    pub(crate) yll: Anchor,
+    pub(crate) cellsize: Word,
+    pub(crate) nodata: Word,
+}
+
+impl Header {
+    fn copy(&self) -> Self
+        ensures { result ≡ self.now }
+    {
+        Header {
+            cols: self.cols,
+            rows: self.rows,
+            xll: self.xll.copy(),
+            yll: self.yll.copy(),
+            cellsize: self.cellsize.copy(),
+            nodata: self.nodata.copy(),
+        }
+    }
+}
+
+/// A terrain grid.
+#[derive(Drop)]
+pub struct Grid {
+    header: Header,
+    scale: u8,
+    cells: Vec<Option<Height>>,
+}
+
+impl Model for Grid {
+    ghost use Rattle.ascii_grid.specs.Raster.{Raster, IsLawful};
+    ghost use Rattle.ascii_grid.specs.Parts.{raster_of};
+
+    ghost Value = { Raster };
+
+    ghost view = { λ g. raster_of g.header g.scale g.cells.items };
+
+    ghost invariant = { λ g. IsLawful (raster_of g.header g.scale g.cells.items) };
+}
+
+impl Grid {
+    ghost use Rattle.ascii_grid.specs.Parts.{raster_of};
+
+    /// The grid of a header, a scale and the cells in row order.
+    pub(crate) fn from_parts(header: Header, scale: u8, cells: Vec<Option<Height>>) -> Self
+        requires { IsLawful (raster_of header scale cells.items) }
+        ensures { result ≡ raster_of header scale cells.items }
+    {
+        Grid {
+            header,
+            scale,
+            cells,
+        }
+    }
+
+    /// The number of columns, from 1 to 4,096.
+    pub fn cols(&self) -> u32
+        ensures value { result ≡ self.now.terrain.cols }
+        ensures lawful { IsLawful self.now }
+    {
+        self.header.cols
+    }
+
+    /// The number of rows, from 1 to 4,096.
+    pub fn rows(&self) -> u32
+        ensures value { result ≡ self.now.terrain.rows }
+        ensures lawful { IsLawful self.now }
+    {
+        self.header.rows
+    }
+
+    /// How many decimals the heights have: a unit is 10^-scale.
+    pub fn scale(&self) -> u8
+        ensures value { result ≡ self.now.scale }
+        ensures lawful { IsLawful self.now }
+    {
+        self.scale
+    }
+
+    /// The heights in row order, None where there is no data.
+    pub fn cells(&self) -> &[Option<Height>]
+        ensures value { result.now ≡ self.now.terrain.cells }
+        ensures lawful { IsLawful self.now }
+    {
+        &self.cells
+    }
+
+    /// The position along the columns' axis, as read.
+    pub fn xll(&self) -> &Anchor
+        ensures centre { result.now.centre ≡ self.now.xll.centre }
+        ensures word { result.now.word ≡ self.now.xll.word }
+    {
+        &self.header.xll
+    }
+
+    /// The position along the rows' axis, as read.
+    pub fn yll(&self) -> &Anchor
+        ensures centre { result.now.centre ≡ self.now.yll.centre }
+        ensures word { result.now.word ≡ self.now.yll.word }
+    {
+        &self.header.yll
+    }
+
+    /// The size of a cell, as read.
+    pub fn cellsize(&self) -> &Word
+        ensures { result.now ≡ self.now.cellsize }
+    {
+        &self.header.cellsize
+    }
+
+    /// The NODATA word, as read.
+    pub fn nodata(&self) -> &Word
+        ensures { result.now ≡ self.now.nodata }
+    {
+        &self.header.nodata
+    }
+
+    /// The height at a place, None where there is no data.
+    pub fn at(&self, place: Place) -> Option<Height>
+        requires { IsInside self.now.terrain place }
+        ensures { result ≡ height_at self.now.terrain place }
+    {
+        self.cells[place.row as usize * self.header.cols as usize + place.col as usize]
+    }
+
+    /// Whether the cell has a height and, at one of the eight places around it, there is none.
+    pub fn is_edge(&self, place: Place) -> bool
+        requires { IsInside self.now.terrain place }
+        ensures { IsTrue result ↔ IsEdge self.now.terrain place }
+    {
+        self.at(place).is_some() && self.has_gap_around(place)
+    }
+
+    fn has_gap_around(&self, place: Place) -> bool
+        requires { IsInside self.now.terrain place }
+        ensures { IsTrue result ↔ HasGapAround self.now.terrain place }
+    {
+        let cols = self.cols();
+        let rows = self.rows();
+        if place.row == 0 || place.col == 0 || place.row + 1 == rows || place.col + 1 == cols {
+            return true;
+        }
+        for row in place.row - 1..place.row + 2 {
+            for col in place.col - 1..place.col + 2 {
+                if self.at(Place { row, col }).is_none() {
+                    return true;
+                }
+            }
+        }
+        false
+    }
+
+    /// The same grid with these cells. Each height among them stands in the grid.
+    pub fn with_cells(&self, alloc: Global, cells: &[Option<Height>]) -> Result<Grid, NoMemory>
+        requires size { length cells.now ≡ self.now.terrain.cols * self.now.terrain.rows }
+        requires heights { All (λ c. IfSome c (λ h. Contains self.now.terrain.cells (Some h))) cells.now }
+        ensures { IfOk result (λ g. g ≡ record self.now { terrain = record self.now.terrain { cells = cells.now } }) }
+    {
+        let Ok(cells) = Vec::from_slice(alloc, cells) else {
+            return Err(NoMemory);
+        };
+        Ok(Grid::from_parts(self.header.copy(), self.scale, cells))
+    }
+}

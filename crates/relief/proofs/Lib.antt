@@ -1,0 +1,6 @@
+mod Loops
+mod Lowest
+mod Settling
+mod Starting
+mod Standing
+mod Refused

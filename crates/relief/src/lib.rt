@@ -1,0 +1,13 @@
+//! Maps of terrain grids, from bytes to bytes.
+#![tactic(auto)]
+
+pub mod fault;
+mod lowering;
+pub mod map;
+pub mod options;
+pub mod running;
+
+pub use fault::RunFault;
+pub use map::Map;
+pub use options::Options;
+pub use running::run;

@@ -1,0 +1,6 @@
+/// Which map is asked for.
+#[derive(Drop)]
+pub enum Map {
+    /// Filled heights.
+    Fill,
+}
