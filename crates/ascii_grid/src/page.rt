@@ -1,14 +1,18 @@
-// The bytes that wait for a device.
-ghost use Rattle.std.specs.Prelude.{◌≡◌, ◌↔◌, ◌+◌, ◌≤◌, ◌∷◌, ◌++◌, [], ℕ, List, length, take, IsTrue};
+// Bytes that wait for a device.
+ghost use Rattle.std.specs.Prelude.{◌≡◌, ◌↔◌, ◌+◌, ◌≤◌, ◌∷◌, ◌++◌, [], ℕ, List, length, take, IsTrue, ◌<◌, ◌-◌, ◌^◌};
+ghost use Rattle.ascii_grid.specs.Device.{Writes};
 
+use crate::counted::{Counted, WriteFailed};
+use std::io::Write;
 use std::marker::Model;
 
-/// How many bytes are gathered before they are handed on.
-const PAGE: usize = 4096;
+/// How many bytes a page holds.
+pub const PAGE: usize = 4096;
 
-/// Bytes that wait to be handed to a device together.
+/// At most [`PAGE`] bytes on the stack that wait to be handed to a device together. Contracts see it as
+/// the list of the bytes.
 #[derive(Drop)]
-pub(crate) struct Page {
+pub struct Page {
     bytes: [u8; PAGE],
     len: usize,
 }
@@ -22,7 +26,8 @@ impl Model for Page {
 }
 
 impl Page {
-    pub(crate) fn new() -> Self
+    /// An empty page.
+    pub fn new() -> Self
         ensures { result ≡ [] }
     {
         Page {
@@ -40,8 +45,9 @@ impl Page {
         self.len <= PAGE - count
     }
 
+    /// Adds bytes, for which there is room.
     #[inline(always)]
-    pub(crate) fn push(&mut self, bytes: &[u8])
+    pub fn push(&mut self, bytes: &[u8])
         requires { length self.old + length bytes.now ≤ 4096 }
         ensures { self.new ≡ self.old ++ bytes.now }
     {
@@ -50,8 +56,9 @@ impl Page {
         self.len = end;
     }
 
+    /// Adds a byte, for which there is room.
     #[inline(always)]
-    pub(crate) fn push_byte(&mut self, byte: u8)
+    pub fn push_byte(&mut self, byte: u8)
         requires { length self.old + 1 ≤ 4096 }
         ensures { self.new ≡ self.old ++ byte ∷ [] }
     {
@@ -63,6 +70,15 @@ impl Page {
         ensures { result.now ≡ self.now }
     {
         &self.bytes[..self.len]
+    }
+
+    /// Hands the bytes to a device, and flushes it.
+    pub fn write_to<W: Write>(&self, out: &mut Counted<W>) -> Result<(), WriteFailed>
+        requires { out.old.failures < 2 ^ 64 - 1 }
+        ensures { Writes W.contents out.old out.new self.now result }
+    {
+        out.write_all(self.as_bytes())?;
+        out.flush()
     }
 
     pub(crate) fn clear(&mut self)

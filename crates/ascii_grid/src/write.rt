@@ -228,15 +228,6 @@ fn write_header<W: Write>(
     write_line(b"NODATA_value  ", nodata, page, out)
 }
 
-/// Hands on what waits, and flushes.
-fn finish<W: Write>(page: &Page, out: &mut Counted<W>) -> Result<(), WriteFailed>
-    requires { out.old.failures < 2 ^ 64 - 1 }
-    ensures { Writes W.contents out.old out.new page.now result }
-{
-    out.write_all(page.as_bytes())?;
-    out.flush()
-}
-
 /// Writes the grid's header with this NODATA word, and these cells.
 fn write_cells<T: CellValue, W: Write>(
     grid: &Grid,
@@ -256,7 +247,7 @@ fn write_cells<T: CellValue, W: Write>(
     let scale = grid.scale();
     write_header(grid, nodata, &mut page, out)?;
     write_rows(cells, cols, scale, nodata, &mut page, out)?;
-    finish(&page, out)
+    page.write_to(out)
 }
 
 /// Writes the grid and its heights. It takes no memory.

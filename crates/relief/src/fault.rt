@@ -1,5 +1,5 @@
 // Why a run was refused.
-ghost use Rattle.std.specs.Prelude.{◌≡◌, option_map};
+ghost use Rattle.std.specs.Prelude.{◌≡◌, ◌≤◌, length, option_map};
 ghost use Rattle.relief.specs.FaultLine.{telling, grid_telling, fault_status, slot_text, detail_text};
 
 use ascii_grid::{GridFault, Key};
@@ -47,7 +47,8 @@ impl RunFault {
 
     /// The fault's name.
     pub(crate) fn name(&self) -> &'static [u8]
-        ensures { result.now ≡ (telling self.now).name }
+        ensures name { result.now ≡ (telling self.now).name }
+        ensures short { length result.now ≤ 40 }
     {
         match self {
             RunFault::Grid(fault) => grid_name(fault),
@@ -88,7 +89,8 @@ fn grid_number(fault: &GridFault) -> u8
 }
 
 fn grid_name(fault: &GridFault) -> &'static [u8]
-    ensures { result.now ≡ (grid_telling fault.now).name }
+    ensures name { result.now ≡ (grid_telling fault.now).name }
+    ensures short { length result.now ≤ 40 }
 {
     match fault {
         GridFault::UnknownKey => b"UnknownKey",
@@ -123,7 +125,8 @@ fn grid_detail(fault: &GridFault) -> Option<Detail>
 
 /// A slot as it is written.
 pub(crate) fn slot_name(key: Key) -> &'static [u8]
-    ensures { result.now ≡ slot_text key }
+    ensures name { result.now ≡ slot_text key }
+    ensures short { length result.now ≤ 40 }
 {
     match key {
         Key::Ncols => b"ncols",

@@ -6,8 +6,10 @@ mod lowering;
 pub mod map;
 pub mod options;
 pub mod running;
+pub mod telling;
 
 pub use fault::RunFault;
 pub use map::Map;
 pub use options::Options;
 pub use running::run;
+pub use telling::tell;

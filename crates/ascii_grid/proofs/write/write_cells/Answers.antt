@@ -22,4 +22,4 @@ returns g c =
     let some : 0 < c.args.grid.now.terrain.cols = omega (arith, c.cols-cols.ensures.lawful.terrain.some_col) in
     let rows : length c.args.cells.now / c.args.grid.now.terrain.cols ≡ c.args.grid.now.terrain.rows =
     ap (λ n. n / c.args.grid.now.terrain.cols) c.requires.size ∙ mul-div_cancel_left c.args.grid.now.terrain.rows some in
-    written_out _ _ _ _ _ _ _ _ (gathered _ _ _ _ _ _ _ _ _ _ _ (rw c.new-page.ensures at c.in_ok-write_header.ensures) (rw (c.cols-cols.ensures.value, c.scale-scale.ensures.value, rows) at c.in_ok-write_rows.ensures)) c.finish.ensures
+    written_out _ _ _ _ _ _ _ _ (gathered _ _ _ _ _ _ _ _ _ _ _ (rw c.new-page.ensures at c.in_ok-write_header.ensures) (rw (c.cols-cols.ensures.value, c.scale-scale.ensures.value, rows) at c.in_ok-write_rows.ensures)) c.write_to.ensures

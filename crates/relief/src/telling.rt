@@ -1,0 +1,54 @@
+// A fault as a line.
+ghost use Rattle.std.specs.Prelude.{◌≡◌, ◌<◌, ◌≤◌, ◌+◌, ◌-◌, ◌^◌, ◌++◌, [], length, codes, decimal, option_map};
+ghost use Rattle.std.specs.Option.{option_map_or};
+ghost use Rattle.ascii_grid.specs.Device.{Writes};
+ghost use Rattle.relief.specs.FaultLine.{fault_line, detail_text};
+
+use crate::fault::{Detail, RunFault, slot_name};
+use ascii_grid::{Counted, Page, WriteFailed};
+use itoa::Buffer;
+use std::io::Write;
+
+fn push_number(number: u32, line: &mut Page)
+    requires { length line.old ≤ 1000 }
+    ensures text { line.new ≡ line.old ++ decimal number }
+    ensures short { length line.new ≤ length line.old + 40 }
+{
+    let mut digits = Buffer::new();
+    line.push(digits.format(number).as_bytes());
+}
+
+/// Adds a space and the detail, where there is one.
+fn push_detail(detail: Option<Detail>, line: &mut Page)
+    requires { length line.old ≤ 500 }
+    ensures text { line.new ≡ line.old ++ option_map_or (λ d. codes " " ++ d) (option_map detail_text detail) [] }
+    ensures short { length line.new ≤ length line.old + 41 }
+{
+    match detail {
+        Some(Detail::Slot(key)) => {
+            line.push_byte(b' ');
+            line.push(slot_name(key));
+        }
+        Some(Detail::Count(count)) => {
+            line.push_byte(b' ');
+            push_number(count, line);
+        }
+        None => {}
+    }
+}
+
+/// Writes the line of a fault: `relief: `, its number, a space, its name and, where it has one, a space
+/// and its detail. It takes no memory.
+pub fn tell<W: Write>(fault: &RunFault, out: &mut Counted<W>) -> Result<(), WriteFailed>
+    requires { out.old.failures < 2 ^ 64 - 1 }
+    ensures { Writes W.contents out.old out.new (fault_line fault.now) result }
+{
+    let mut line = Page::new();
+    line.push(b"relief: ");
+    push_number(u32::from(fault.number()), &mut line);
+    line.push_byte(b' ');
+    line.push(fault.name());
+    push_detail(fault.detail(), &mut line);
+    line.push_byte(b'\n');
+    line.write_to(out)
+}
