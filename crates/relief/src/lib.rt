@@ -1,6 +1,7 @@
 //! Maps of terrain grids, from bytes to bytes.
 #![tactic(auto)]
 
+pub mod command;
 pub mod fault;
 mod lowering;
 pub mod map;
@@ -8,6 +9,7 @@ pub mod options;
 pub mod running;
 pub mod telling;
 
+pub use command::run_words;
 pub use fault::RunFault;
 pub use map::Map;
 pub use options::Options;
