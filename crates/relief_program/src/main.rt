@@ -1,0 +1,39 @@
+//! The program `relief`: the words, standard input, standard output and standard error of a process.
+#![tactic(auto)]
+
+use ascii_grid::Counted;
+use relief::run_words;
+use std::env;
+use std::io::{self, ErrorKind};
+use std::process::ExitCode;
+use std::rt::Env;
+
+const WORDS_REFUSED: u8 = 1;
+const NO_MEMORY: u8 = 3;
+
+fn status_of(error: &io::Error) -> u8 {
+    if error.kind() == ErrorKind::OutOfMemory {
+        NO_MEMORY
+    } else {
+        WORDS_REFUSED
+    }
+}
+
+fn read_words(rt: &(impl Env + AllocGlobal)) -> io::Result<Vec<String>> {
+    let words = env::args(rt)?.collect(rt.alloc())?;
+    Ok(words)
+}
+
+fn main(rt: HostRuntime) -> ExitCode {
+    let words = match read_words(&rt) {
+        Ok(words) => words,
+        Err(error) => return ExitCode::from(status_of(&error)),
+    };
+    let Ok(words) = words.iter().map(|word| word.as_str()).collect::<Vec<&str>>(rt.alloc()) else {
+        return ExitCode::from(NO_MEMORY);
+    };
+    let mut reader = Counted::new(rt.stdin());
+    let mut writer = Counted::new(rt.stdout());
+    let mut errors = Counted::new(rt.stderr());
+    ExitCode::from(run_words(rt.alloc(), &words, &mut reader, &mut writer, &mut errors))
+}
