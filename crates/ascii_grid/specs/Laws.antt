@@ -1,9 +1,44 @@
--- What the definitions satisfy, as statements.
-use Rattle.std.specs.Prelude.{◌≡◌, ℤ}
-use Rattle.ascii_grid.specs.Raster.{Terrain}
-use Rattle.ascii_grid.specs.Filled.{IsFilledHeight}
+-- What the definitions satisfy. Source: this project.
+use Rattle.std.specs.Prelude.{◌≡◌, ℕ, ◌≤◌, ◌++◌, ℤ, List, length, Option, Some, Contains}
+use Rattle.ascii_grid.specs.Raster.{Raster, Terrain, IsLawful}
+use Rattle.ascii_grid.specs.Neighbours.{IsDataCell}
+use Rattle.ascii_grid.specs.Filled.{IsFilled, IsFilledHeight}
+use Rattle.ascii_grid.specs.GridText.{IsGridText, text_fault, fault_so_far, most_bytes}
+use Rattle.ascii_grid.specs.Text.{heights_text}
 use Rattle.ascii_grid.specs.declared.place.Place.{Place}
+use Rattle.ascii_grid.specs.declared.fault.GridFault.{GridFault}
 
--- A cell has at most one filled height.
+-- A text that is a grid is a lawful one, and only one.
+abbrev pub GridsAreLawful : Type 0
+GridsAreLawful = (d : ℕ) (text : List ℕ) (g : Raster) → d ≤ 6 → IsGridText d text g → IsLawful g
+
+abbrev pub GridsAreOne : Type 0
+GridsAreOne = (d : ℕ) (text : List ℕ) (g h : Raster) → IsGridText d text g → IsGridText d text h → g ≡ h
+
+-- A grid's text is read again as that grid.
+abbrev pub GridsReadBack : Type 0
+GridsReadBack = (g : Raster) → IsLawful g → length (heights_text g) ≤ most_bytes → IsGridText g.scale (heights_text g) g
+
+-- A grid whose NODATA word has at most 14 bytes has a text that isn't too long.
+abbrev pub GridTextsFit : Type 0
+GridTextsFit = (g : Raster) → IsLawful g → length g.nodata ≤ 14 → length (heights_text g) ≤ most_bytes
+
+-- A fault that has shown stays the text's fault, however the text goes on.
+abbrev pub FaultsStay : Type 0
+FaultsStay = (d : ℕ) (text more : List ℕ) (f : GridFault) → fault_so_far d text ≡ Some f → text_fault d (text ++ more) ≡ Some f
+
+-- Each data cell has a filled height, and no cell has two.
+abbrev pub EachHasFilledHeight : Type 0
+EachHasFilledHeight = (t : Terrain) (p : Place) → IsDataCell t p → (level : ℤ) × IsFilledHeight t p level
+
 abbrev pub FilledHeightsAreOne : Type 0
 FilledHeightsAreOne = (t : Terrain) (p : Place) (l m : ℤ) → IsFilledHeight t p l → IsFilledHeight t p m → l ≡ m
+
+-- A filled height is a height of the terrain.
+abbrev pub FilledHeightsStand : Type 0
+FilledHeightsStand = (t : Terrain) (p : Place) (level : ℤ) → IsFilledHeight t p level → Contains t.cells (Some level)
+
+-- The filled heights of filled heights are their own.
+abbrev pub FilledTwiceIsFilled : Type 0
+FilledTwiceIsFilled = (t : Terrain) (levels : List (Option ℤ)) → IsFilled t levels →
+    IsFilled (record t { cells = levels }) levels

@@ -2,10 +2,14 @@ pub mod Words
 pub mod Decimal
 pub mod Raster
 pub mod Parts
-pub mod PlainText
+pub mod Header
+pub mod GridText
 pub mod Neighbours
+pub mod Ways
 pub mod Filled
 pub mod Text
 pub mod Device
 pub mod Gathers
+pub mod Slots
+pub mod Reading
 pub mod Laws

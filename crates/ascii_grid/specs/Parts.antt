@@ -1,11 +1,11 @@
 -- A grid's parts as contracts see them.
 use Rattle.std.specs.Prelude.{ℕ, ℤ, List, Option}
 use Rattle.ascii_grid.specs.Raster.{Raster}
-use Rattle.ascii_grid.specs.declared.grid.Header.{Header}
+use Rattle.ascii_grid.specs.declared.grid.GridHeader.{GridHeader}
 
 -- The grid of a header, a scale and cells.
-abbrev pub raster_of : Header → ℕ → List (Option ℤ) → Raster
-raster_of header scale cells = record {
+abbrev pub raster_with : GridHeader → ℕ → List (Option ℤ) → Raster
+raster_with header scale cells = record {
   terrain = record { cols = header.cols; rows = header.rows; cells = cells };
   xll = record { centre = header.xll.centre; word = header.xll.word };
   yll = record { centre = header.yll.centre; word = header.yll.word };

@@ -38,6 +38,4 @@ pub enum GridFault {
     TooLong,
     /// There was no memory for the list of cells.
     Memory,
-    /// The text is not in the plain form.
-    NotPlain,
 }

@@ -32,7 +32,7 @@ impl Anchor {
 
 /// What the header of a grid text gives.
 #[derive(Drop)]
-pub(crate) struct Header {
+pub(crate) struct GridHeader {
     pub(crate) cols: u32,
     pub(crate) rows: u32,
     pub(crate) xll: Anchor,
@@ -41,11 +41,11 @@ pub(crate) struct Header {
     pub(crate) nodata: Word,
 }
 
-impl Header {
+impl GridHeader {
     fn copy(&self) -> Self
         ensures { result ≡ self.now }
     {
-        Header {
+        GridHeader {
             cols: self.cols,
             rows: self.rows,
             xll: self.xll.copy(),
@@ -59,29 +59,29 @@ impl Header {
 /// A terrain grid.
 #[derive(Drop)]
 pub struct Grid {
-    header: Header,
+    header: GridHeader,
     scale: u8,
     cells: Vec<Option<Height>>,
 }
 
 impl Model for Grid {
     ghost use Rattle.ascii_grid.specs.Raster.{Raster, IsLawful};
-    ghost use Rattle.ascii_grid.specs.Parts.{raster_of};
+    ghost use Rattle.ascii_grid.specs.Parts.{raster_with};
 
     ghost Value = { Raster };
 
-    ghost view = { λ g. raster_of g.header g.scale g.cells.items };
+    ghost view = { λ g. raster_with g.header g.scale g.cells.items };
 
-    ghost invariant = { λ g. IsLawful (raster_of g.header g.scale g.cells.items) };
+    ghost invariant = { λ g. IsLawful (raster_with g.header g.scale g.cells.items) };
 }
 
 impl Grid {
-    ghost use Rattle.ascii_grid.specs.Parts.{raster_of};
+    ghost use Rattle.ascii_grid.specs.Parts.{raster_with};
 
     /// The grid of a header, a scale and the cells in row order.
-    pub(crate) fn from_parts(header: Header, scale: u8, cells: Vec<Option<Height>>) -> Self
-        requires { IsLawful (raster_of header scale cells.items) }
-        ensures { result ≡ raster_of header scale cells.items }
+    pub(crate) fn from_parts(header: GridHeader, scale: u8, cells: Vec<Option<Height>>) -> Self
+        requires { IsLawful (raster_with header scale cells.items) }
+        ensures { result ≡ raster_with header scale cells.items }
     {
         Grid {
             header,
@@ -199,3 +199,6 @@ impl Grid {
         Ok(Grid::from_parts(self.header.copy(), self.scale, cells))
     }
 }
+
+#[cfg(test)]
+mod tests;

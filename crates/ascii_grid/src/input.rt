@@ -1,52 +1,79 @@
-// All bytes that a reader gives, up to a limit.
-ghost use Rattle.std.specs.Prelude.{◌≡◌, ◌≤◌, ◌+◌, ◌-◌, ◌^◌, ◌<◌, ◌++◌, ℕ, List, length, take, OnOk, OnErr, IfOk, IfErr, IsOk, MatchResult};
-ghost use Rattle.std.specs.Io.KnownBytes.{Consumes, IsAtEnd};
-ghost use Rattle.ascii_grid.specs.Device.{CountsFailure, ReadsAll};
+// A grid from a reader, piece by piece.
+ghost use Rattle.std.specs.Prelude.{◌≡◌, ◌≢◌, ◌≤◌, ◌+◌, ◌-◌, ◌^◌, ◌<◌, ℕ, List, length, Some, None, Err, IfOk};
+ghost use Rattle.std.specs.Io.KnownBytes.{Consumes};
+ghost use Rattle.ascii_grid.specs.Reading.{HasTaken};
+ghost use Rattle.ascii_grid.specs.GridText.{IsGridText, IsRefusal, fault_so_far, most_bytes};
 
 use crate::counted::Counted;
+use crate::fault::GridFault;
+use crate::grid::Grid;
+use crate::reader::GridReader;
 use std::alloc::Global;
 use std::io::Read;
 
 /// The most bytes that a text may have: 2^28.
 pub const MOST_TEXT_BYTES: usize = 268_435_456;
 
-/// Why the bytes were not read.
+// One system call reads this much.
+const PIECE: usize = 65_536;
+
+/// Why no grid was read.
 #[derive(Clone, Copy, Debug, PartialEq, Eq)]
-pub enum ReadFault {
+pub enum InputFault {
+    /// The text's fault, or want of memory for its cells.
+    Grid(GridFault),
     /// The reader failed: its count has risen by one.
     Read,
-    /// There was no memory for the bytes.
-    Memory,
 }
 
-const PIECE: usize = 4096;
-
-/// Reads to the end, or one byte past the limit.
-pub fn read_all<R: Read>(alloc: Global, reader: &mut Counted<R>) -> Result<Vec<u8>, ReadFault>
-    requires { reader.old.failures < 2 ^ 64 - 1 }
-    ensures all { IfOk result (λ v. ReadsAll (R.remaining reader.old.device) v.items) }
+/// The grid that a reader's bytes spell, its heights in units of 10^-scale. No text is kept whole, and
+/// at most 2^28 + 1 bytes are taken. Where the reader fails, a fault of a word that was ended before
+/// goes first.
+pub fn read_grid<R: Read>(
+    alloc: Global,
+    scale: u8,
+    reader: &mut Counted<R>,
+) -> Result<Grid, InputFault>
+    requires scale { scale ≤ 6 }
+    requires few { reader.old.failures < 2 ^ 64 - 1 }
+    ensures grid { (text : List ℕ) → R.remaining reader.old.device ≡ Some text →
+        IfOk result (λ g. IsGridText scale text g) }
+    ensures fault { (text : List ℕ) (f : _) → R.remaining reader.old.device ≡ Some text →
+        result ≡ Err (InputFault.Grid f) → IsRefusal scale text f }
+    ensures read { result ≡ Err InputFault.Read → reader.new.failures ≡ reader.old.failures + 1 }
+    ensures sound { result ≢ Err InputFault.Read → reader.new.failures ≡ reader.old.failures }
     ensures taken { (taken : List ℕ) × Consumes (R.remaining reader.old.device) (R.remaining reader.new.device) taken
-        × (length taken ≤ 2 ^ 28 + 1) }
-    ensures count { IfOk result (λ _. reader.new.failures ≡ reader.old.failures) }
-    ensures read { result ≡ Err ReadFault.Read → reader.new.failures ≡ reader.old.failures + 1 }
-    ensures memory { result ≡ Err ReadFault.Memory → reader.new.failures ≡ reader.old.failures }
+        × (length taken ≤ most_bytes + 1)
+        × (result ≡ Err InputFault.Read → fault_so_far scale taken ≡ None) }
 {
-    let mut bytes = Vec::new(alloc);
+    let mut grid_reader = GridReader::new(alloc, scale);
     let mut piece = [0; PIECE];
-    for _ in 0..MOST_TEXT_BYTES + 1 {
-        if bytes.len() > MOST_TEXT_BYTES {
-            return Ok(bytes);
-        }
-        let most = PIECE.min(MOST_TEXT_BYTES + 1 - bytes.len());
-        let Ok(count) = reader.read(&mut piece[..most]) else {
-            return Err(ReadFault::Read);
+    let mut taken = 0;
+    loop {
+        let room = PIECE.min(MOST_TEXT_BYTES + 1 - taken);
+        let Ok(count) = reader.read(&mut piece[..room]) else {
+            return Err(InputFault::Read);
         };
         if count == 0 {
-            return Ok(bytes);
+            return finished(grid_reader);
         }
-        if bytes.extend_from_slice(&piece[..count]).is_err() {
-            return Err(ReadFault::Memory);
+        if grid_reader.feed(&piece[..count]).is_err() {
+            return finished(grid_reader);
         }
+        taken += count;
     }
-    Ok(bytes)
+}
+
+/// The grid of the pieces that were fed, or what the reader has to say of them.
+fn finished(grid_reader: GridReader) -> Result<Grid, InputFault>
+    ensures grid { (text : List ℕ) → HasTaken grid_reader text →
+        IfOk result (λ g. IsGridText grid_reader.scale text g) }
+    ensures fault { (text : List ℕ) (f : _) → HasTaken grid_reader text →
+        result ≡ Err (InputFault.Grid f) → IsRefusal grid_reader.scale text f }
+    ensures sound { result ≢ Err InputFault.Read }
+{
+    match grid_reader.finish() {
+        Ok(grid) => Ok(grid),
+        Err(fault) => Err(InputFault::Grid(fault)),
+    }
 }

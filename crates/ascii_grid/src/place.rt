@@ -1,5 +1,5 @@
 /// A place in a grid: rows count from 0 at the north, columns from 0 at the west.
-#[derive(Clone, Copy, Debug, PartialEq, Eq)]
+#[derive(Clone, Copy, Debug, Default, PartialEq, Eq)]
 pub struct Place {
     pub row: u32,
     pub col: u32,

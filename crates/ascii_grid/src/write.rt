@@ -2,6 +2,7 @@
 ghost use Rattle.std.specs.Prelude.{◌≡◌, ◌↔◌, ◌∷◌, ◌+◌, ◌++◌, ◌*◌, ◌/◌, ◌-◌, ◌^◌, ◌<◌, ◌≤◌, [], length, decimal, codes, OnOk};
 ghost use Rattle.ascii_grid.specs.Device.{Writes};
 ghost use Rattle.ascii_grid.specs.Gathers.{Gathers};
+ghost use Rattle.ascii_grid.specs.GridText.{IsGridText, most_bytes};
 ghost use Rattle.ascii_grid.specs.Text.{cell_text, row_text, rows_text, line_text, anchor_text, header_text, heights_text, counts_text, counts_nodata};
 
 use crate::cell_text::CellValue;
@@ -253,7 +254,10 @@ fn write_cells<T: CellValue, W: Write>(
 /// Writes the grid and its heights. It takes no memory.
 pub fn write_heights<W: Write>(grid: &Grid, out: &mut Counted<W>) -> Result<(), WriteFailed>
     requires { out.old.failures < 2 ^ 64 - 1 }
-    ensures { Writes W.contents out.old out.new (heights_text grid.now) result }
+    ensures text { Writes W.contents out.old out.new (heights_text grid.now) result }
+    // What is written is read again as the same grid.
+    ensures again { length (heights_text grid.now) ≤ most_bytes →
+        IsGridText grid.now.scale (heights_text grid.now) grid.now }
 {
     write_cells(grid, grid.cells(), grid.nodata().as_bytes(), out)
 }
@@ -270,3 +274,6 @@ pub fn write_counts<W: Write>(
 {
     write_cells(grid, values, COUNTS_NODATA, out)
 }
+
+#[cfg(test)]
+mod tests;

@@ -1,10 +1,22 @@
-use Rattle.ascii_grid.proofs.Plain.{plain_grid_is_lawful}
+use Rattle.std.proofs.Common.{subst, ◌∙◌, []}
+use Rattle.std.specs.Prelude.{IfErr, IfOk}
+use Rattle.std.proofs.lemmas.Result.{err_from_is_err_and}
+use Rattle.ascii_grid.specs.GridText.{IsGridText, IsRefusal}
+use Rattle.ascii_grid.proofs.Feeding.{answered_refusal}
 use Rattle.ascii_grid.proofs.read.read_text.Goals as goal
 
-pub returns-in_default-clause-fault : goal.returns-in_default-clause-fault
-returns-in_default-clause-fault c = λ g plain. c.in_default.ensures.none g.terrain.cols g.terrain.rows g.xll.word g.yll.word g.cellsize plain.heights plain.header
+pub returns-in_err-feed-clause-fault : goal.returns-in_err-feed-clause-fault
+returns-in_err-feed-clause-fault c =
+    let p = err_from_is_err_and c.from_residual.result c.from_residual.ensures.1 in
+    let scale = c.in_err-feed.ensures.scale ∙ c.new-reader.ensures.scale in
+    rw (p.1, p.2) (subst (λ d. IsRefusal d c.args.bytes.now c.in_err-feed.field-0.0) scale (answered_refusal c.feed.new.self c.args.bytes.now c.in_err-feed.field-0.0 c.in_err-feed.ensures.err (c.in_err-feed.ensures.taken [] c.new-reader.ensures.taken)))
 
-pub from_parts-requires : goal.from_parts-requires
-from_parts-requires c =
-    let lawful = plain_grid_is_lawful _ _ _ _ _ _ _ _ c.in-Some.ensures.some c.in_ok-cells.ensures.cells in
-    rw (c.corner.ensures, c.corner-2.ensures, c.from_bytes.ensures, c.requires) lawful
+pub returns-clause-grid : goal.returns-clause-grid
+returns-clause-grid c =
+    let scale = c.in_ok-feed.ensures.scale ∙ c.new-reader.ensures.scale in
+    subst (λ d. IfOk c.finish.result (λ g. IsGridText d c.args.bytes.now g)) scale (c.finish.ensures.grid c.args.bytes.now (c.in_ok-feed.ensures.taken [] c.new-reader.ensures.taken))
+
+pub returns-clause-fault : goal.returns-clause-fault
+returns-clause-fault c =
+    let scale = c.in_ok-feed.ensures.scale ∙ c.new-reader.ensures.scale in
+    subst (λ d. IfErr c.finish.result (λ f. IsRefusal d c.args.bytes.now f)) scale (c.finish.ensures.fault c.args.bytes.now (c.in_ok-feed.ensures.taken [] c.new-reader.ensures.taken))

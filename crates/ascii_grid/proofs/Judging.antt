@@ -1,0 +1,219 @@
+-- One more word of a text: what it does to the header, the heights and the first fault.
+use Rattle.std.proofs.Common.{◌≡◌, ℕ, ◌+◌, ◌*◌, ◌<◌, ◌≤◌, Bool, true, false, not, ◌&&◌, ◌||◌, cond, nat_lt, ◌==◌, List, [], ◌∷◌, ◌++◌, length, map, Option, None, Some, arith, refl, ap, sym, ◌∙◌}
+use Rattle.std.specs.Prelude.{find, is_some, is_none, unwrap_or, option_map, codes}
+use Rattle.std.specs.Option.{option_or, option_map_or, option_and_then}
+use Rattle.std.specs.List.{list_any, list_all}
+use Rattle.std.proofs.lemmas.Bool.{cases_lt, and_parts, lt-ltb, le-ltb}
+use Rattle.std.proofs.lemmas.List.{append-nil, append_assoc}
+use Rattle.std.proofs.lemmas.List.Folds.{find-append}
+use Rattle.ascii_grid.specs.Words.{Word}
+use Rattle.ascii_grid.specs.Decimal.{number_of}
+use Rattle.ascii_grid.specs.Header.{fills, slot_of, slot_number, is_key, is_long, is_value, bad_value, begins_with_letter, header_words, height_words, pairs, key_left, pair_for, value_for, word_for, size_for, nodata_for, header_fault, key_fault, value_fault, missing_fault}
+use Rattle.ascii_grid.specs.GridText.{cells_wanted, words_fault, whole_header_fault, heights_fault, height_fault}
+use Rattle.ascii_grid.specs.Slots.{no_slots, is_given, anchor_at, with_value, missing_of, wanted_of}
+use Rattle.ascii_grid.specs.Reading.{flat, given, is_centre, slots_of, keys_before, HasBegun}
+use Rattle.ascii_grid.specs.declared.fault.Key.{Key}
+use Rattle.ascii_grid.specs.declared.fault.Key.TheVariants.{Ncols, Nrows, Xll, Yll, Cellsize, Nodata}
+use Rattle.ascii_grid.specs.declared.fault.GridFault.{GridFault}
+use Rattle.ascii_grid.specs.declared.fault.GridFault.TheVariants.{UnknownKey, RepeatedKey, MissingKey, TooLong}
+use Rattle.ascii_grid.specs.declared.header.Header.{Header}
+
+abbrev pub Pairs : Type 0
+Pairs = List (Word × Word)
+
+abbrev pub are_keys : Pairs → Bool
+are_keys ps = list_all (λ (p : Word × Word). begins_with_letter p.0) ps
+
+-- ---- options
+
+pub option_or-none : {X : Type 0} (o : Option X) → option_or o None ≡ o
+option_or-none None = refl
+option_or-none (Some x) = refl
+
+pub option_or-assoc : {X : Type 0} (o p q : Option X) → option_or (option_or o p) q ≡ option_or o (option_or p q)
+option_or-assoc None p q = refl
+option_or-assoc (Some x) p q = refl
+
+pub is_some-option_map : {X Y : Type 0} (f : X → Y) (o : Option X) → is_some (option_map f o) ≡ is_some o
+is_some-option_map f None = refl
+is_some-option_map f (Some x) = refl
+
+pub none_from_is_some : {X : Type 0} (o : Option X) → is_some o ≡ false → o ≡ None
+none_from_is_some None h = refl
+none_from_is_some (Some x) h = cc
+
+-- ---- pairs and what follows them
+
+pub header_words-flat : (ps : Pairs) (rest : List Word) → are_keys ps ≡ true → header_words (flat ps ++ rest) ≡ flat ps ++ header_words rest
+header_words-flat [] rest h = refl
+header_words-flat (p ∷ ps) rest h =
+    let k = and_parts (begins_with_letter p.0) (are_keys ps) h in
+    rw k.0 (ap (λ z. p.0 ∷ p.1 ∷ z) (header_words-flat ps rest k.1))
+
+pub height_words-flat : (ps : Pairs) (rest : List Word) → are_keys ps ≡ true → height_words (flat ps ++ rest) ≡ height_words rest
+height_words-flat [] rest h = refl
+height_words-flat (p ∷ ps) rest h =
+    let k = and_parts (begins_with_letter p.0) (are_keys ps) h in
+    rw k.0 (height_words-flat ps rest k.1)
+
+pub key_left-flat : (ps : Pairs) (rest : List Word) → key_left (flat ps ++ rest) ≡ key_left rest
+key_left-flat [] rest = refl
+key_left-flat (p ∷ ps) rest = key_left-flat ps rest
+
+pub pairs-flat : (ps : Pairs) → pairs (flat ps) ≡ ps
+pairs-flat [] = refl
+pairs-flat (p ∷ ps) = ap (λ z. p ∷ z) (pairs-flat ps)
+
+pub flat-push : (ps : Pairs) (k v : Word) → flat (ps ++ (k, v) ∷ []) ≡ flat ps ++ k ∷ v ∷ []
+flat-push [] k v = refl
+flat-push (p ∷ ps) k v = ap (λ z. p.0 ∷ p.1 ∷ z) (flat-push ps k v)
+
+pub are_keys-push : (ps : Pairs) (k v : Word) → are_keys ps ≡ true → begins_with_letter k ≡ true → are_keys (ps ++ (k, v) ∷ []) ≡ true
+are_keys-push [] k v h b = rw b refl
+are_keys-push (p ∷ ps) k v h b =
+    let parts = and_parts (begins_with_letter p.0) (are_keys ps) h in
+    rw parts.0 (are_keys-push ps k v parts.1 b)
+
+pub header_fault-flat : (before : List Word) (ps : Pairs) (rest : List Word) → header_fault before (flat ps ++ rest) ≡ option_or (header_fault before (flat ps)) (header_fault (keys_before ps before) rest)
+header_fault-flat before [] rest = refl
+header_fault-flat before (p ∷ ps) rest =
+    let more = header_fault-flat (p.0 ∷ before) ps rest in
+    rw more (sym (option_or-assoc (key_fault before p.0) (option_or (value_fault p.0 p.1) (header_fault (p.0 ∷ before) (flat ps))) (header_fault (keys_before ps (p.0 ∷ before)) rest) ∙ ap (option_or (key_fault before p.0)) (option_or-assoc (value_fault p.0 p.1) (header_fault (p.0 ∷ before) (flat ps)) (header_fault (keys_before ps (p.0 ∷ before)) rest))))
+
+pub list_any-keys_before : (t : Word → Bool) (ps : Pairs) (before : List Word) → list_any t (keys_before ps before) ≡ (is_some (find (λ (p : Word × Word). t p.0) ps) || list_any t before)
+list_any-keys_before t [] before = refl
+list_any-keys_before t (p ∷ ps) before = list_any-keys_before t ps (p.0 ∷ before) ∙ go (t p.0) (find (λ (q : Word × Word). t q.0) ps)
+  where
+    go : (a : Bool) (o : Option (Word × Word)) → (is_some o || (a || list_any t before)) ≡ (is_some (cond a (Some p) o) || list_any t before)
+    go true None = refl
+    go true (Some q) = refl
+    go false None = refl
+    go false (Some q) = refl
+
+-- ---- the slots of pairs
+
+pub given-pair_for : (slot : Key) (ps : Pairs) → pair_for slot (flat ps) ≡ given slot ps
+given-pair_for slot ps = ap (find (λ (p : Word × Word). fills slot p.0)) (pairs-flat ps)
+
+pub is_given-slots_of : (slot : Key) (ps : Pairs) → is_given (slots_of ps) slot ≡ is_some (given slot ps)
+is_given-slots_of Ncols ps = is_some-option_map _ _
+is_given-slots_of Nrows ps = is_some-option_map _ _
+is_given-slots_of Xll ps = is_some-option_map _ _
+is_given-slots_of Yll ps = is_some-option_map _ _
+is_given-slots_of Cellsize ps = is_some-option_map _ _
+is_given-slots_of Nodata ps = is_some-option_map _ _
+
+pub missing_of-slots_of : (ps : Pairs) → missing_of (slots_of ps) ≡ missing_fault (flat ps)
+missing_of-slots_of ps =
+    rw (pairs-flat ps, is_given-slots_of Ncols ps, is_given-slots_of Nrows ps, is_given-slots_of Xll ps, is_given-slots_of Yll ps, is_given-slots_of Cellsize ps) refl
+
+pub nodata-slots_of : (ps : Pairs) → unwrap_or (slots_of ps).nodata (codes "-9999") ≡ nodata_for (flat ps)
+nodata-slots_of ps = rw (pairs-flat ps) refl
+
+pub number-of_pair : (o : Option (Word × Word)) → unwrap_or (option_map (λ (p : Word × Word). number_of p.1) o) 0 ≡ number_of (unwrap_or (option_map (λ (p : Word × Word). p.1) o) [])
+number-of_pair None = refl
+number-of_pair (Some p) = refl
+
+pub wanted_of-slots_of : (ps : Pairs) → wanted_of (slots_of ps) ≡ cells_wanted (flat ps)
+wanted_of-slots_of ps = rw (pairs-flat ps, number-of_pair (given Ncols ps), number-of_pair (given Nrows ps)) refl
+
+-- a pair for another slot, or the first for this one
+pub given-push : (s slot : Key) (ps : Pairs) (k v : Word) → slot_of k ≡ Some slot → given s (ps ++ (k, v) ∷ []) ≡ option_or (given s ps) (cond (slot_number slot == slot_number s) (Some (k, v)) None)
+given-push s slot ps k v h =
+    find-append (λ (p : Word × Word). fills s p.0) ps ((k, v) ∷ [])
+    ∙ ap (λ (o : Option Key). option_or (given s ps) (cond (option_map_or (λ t. slot_number t == slot_number s) o false) (Some (k, v)) None)) h
+
+-- the slots from the pairs of each
+abbrev slots_from : (a b c d e f : Option (Word × Word)) → Header
+slots_from a b c d e f = record {
+  cols = option_map (λ (p : Word × Word). number_of p.1) a;
+  rows = option_map (λ (p : Word × Word). number_of p.1) b;
+  xll = option_map (λ (p : Word × Word). anchor_at (is_centre p.0) p.1) c;
+  yll = option_map (λ (p : Word × Word). anchor_at (is_centre p.0) p.1) d;
+  cellsize = option_map (λ (p : Word × Word). p.1) e;
+  nodata = option_map (λ (p : Word × Word). p.1) f;
+}
+
+same_slots : (a b c d e f a' b' c' d' e' f' : Option (Word × Word)) → a ≡ a' → b ≡ b' → c ≡ c' → d ≡ d' → e ≡ e' → f ≡ f' → slots_from a b c d e f ≡ slots_from a' b' c' d' e' f'
+same_slots a b c d e f a' b' c' d' e' f' p q r s t u = rw (p, q, r, s, t, u) refl
+
+-- the pair of a slot after one more pair
+abbrev pair_after : Pairs → Word → Word → Key → Key → Option (Word × Word)
+pair_after ps k v slot s = option_or (given s ps) (cond (slot_number slot == slot_number s) (Some (k, v)) None)
+
+abbrev PairsAfter : Pairs → Word → Word → Key → Type 0
+PairsAfter ps k v slot = (s : Key) → given s (ps ++ (k, v) ∷ []) ≡ pair_after ps k v slot s
+
+filled : (s : Key) (ps : Pairs) (k v : Word) → given s (ps ++ (k, v) ∷ []) ≡ option_or (given s ps) (Some (k, v)) → given s ps ≡ None → Some (k, v) ≡ given s (ps ++ (k, v) ∷ [])
+filled s ps k v more none = sym (more ∙ ap (λ o. option_or o (Some (k, v))) none)
+
+stays : (s : Key) (ps : Pairs) (k v : Word) → given s (ps ++ (k, v) ∷ []) ≡ option_or (given s ps) None → given s ps ≡ given s (ps ++ (k, v) ∷ [])
+stays s ps k v more = sym (more ∙ option_or-none (given s ps))
+
+with_value-by_slot : (slot : Key) (ps : Pairs) (k v : Word) → PairsAfter ps k v slot → given slot ps ≡ None → with_value (slots_of ps) slot (is_centre k) v ≡ slots_of (ps ++ (k, v) ∷ [])
+with_value-by_slot Ncols ps k v more none =
+    same_slots (Some (k, v)) (given Nrows ps) (given Xll ps) (given Yll ps) (given Cellsize ps) (given Nodata ps) (given Ncols (ps ++ (k, v) ∷ [])) (given Nrows (ps ++ (k, v) ∷ [])) (given Xll (ps ++ (k, v) ∷ [])) (given Yll (ps ++ (k, v) ∷ [])) (given Cellsize (ps ++ (k, v) ∷ [])) (given Nodata (ps ++ (k, v) ∷ [])) (filled Ncols ps k v (more Ncols) none) (stays Nrows ps k v (more Nrows)) (stays Xll ps k v (more Xll)) (stays Yll ps k v (more Yll)) (stays Cellsize ps k v (more Cellsize)) (stays Nodata ps k v (more Nodata))
+with_value-by_slot Nrows ps k v more none =
+    same_slots (given Ncols ps) (Some (k, v)) (given Xll ps) (given Yll ps) (given Cellsize ps) (given Nodata ps) (given Ncols (ps ++ (k, v) ∷ [])) (given Nrows (ps ++ (k, v) ∷ [])) (given Xll (ps ++ (k, v) ∷ [])) (given Yll (ps ++ (k, v) ∷ [])) (given Cellsize (ps ++ (k, v) ∷ [])) (given Nodata (ps ++ (k, v) ∷ [])) (stays Ncols ps k v (more Ncols)) (filled Nrows ps k v (more Nrows) none) (stays Xll ps k v (more Xll)) (stays Yll ps k v (more Yll)) (stays Cellsize ps k v (more Cellsize)) (stays Nodata ps k v (more Nodata))
+with_value-by_slot Xll ps k v more none =
+    same_slots (given Ncols ps) (given Nrows ps) (Some (k, v)) (given Yll ps) (given Cellsize ps) (given Nodata ps) (given Ncols (ps ++ (k, v) ∷ [])) (given Nrows (ps ++ (k, v) ∷ [])) (given Xll (ps ++ (k, v) ∷ [])) (given Yll (ps ++ (k, v) ∷ [])) (given Cellsize (ps ++ (k, v) ∷ [])) (given Nodata (ps ++ (k, v) ∷ [])) (stays Ncols ps k v (more Ncols)) (stays Nrows ps k v (more Nrows)) (filled Xll ps k v (more Xll) none) (stays Yll ps k v (more Yll)) (stays Cellsize ps k v (more Cellsize)) (stays Nodata ps k v (more Nodata))
+with_value-by_slot Yll ps k v more none =
+    same_slots (given Ncols ps) (given Nrows ps) (given Xll ps) (Some (k, v)) (given Cellsize ps) (given Nodata ps) (given Ncols (ps ++ (k, v) ∷ [])) (given Nrows (ps ++ (k, v) ∷ [])) (given Xll (ps ++ (k, v) ∷ [])) (given Yll (ps ++ (k, v) ∷ [])) (given Cellsize (ps ++ (k, v) ∷ [])) (given Nodata (ps ++ (k, v) ∷ [])) (stays Ncols ps k v (more Ncols)) (stays Nrows ps k v (more Nrows)) (stays Xll ps k v (more Xll)) (filled Yll ps k v (more Yll) none) (stays Cellsize ps k v (more Cellsize)) (stays Nodata ps k v (more Nodata))
+with_value-by_slot Cellsize ps k v more none =
+    same_slots (given Ncols ps) (given Nrows ps) (given Xll ps) (given Yll ps) (Some (k, v)) (given Nodata ps) (given Ncols (ps ++ (k, v) ∷ [])) (given Nrows (ps ++ (k, v) ∷ [])) (given Xll (ps ++ (k, v) ∷ [])) (given Yll (ps ++ (k, v) ∷ [])) (given Cellsize (ps ++ (k, v) ∷ [])) (given Nodata (ps ++ (k, v) ∷ [])) (stays Ncols ps k v (more Ncols)) (stays Nrows ps k v (more Nrows)) (stays Xll ps k v (more Xll)) (stays Yll ps k v (more Yll)) (filled Cellsize ps k v (more Cellsize) none) (stays Nodata ps k v (more Nodata))
+with_value-by_slot Nodata ps k v more none =
+    same_slots (given Ncols ps) (given Nrows ps) (given Xll ps) (given Yll ps) (given Cellsize ps) (Some (k, v)) (given Ncols (ps ++ (k, v) ∷ [])) (given Nrows (ps ++ (k, v) ∷ [])) (given Xll (ps ++ (k, v) ∷ [])) (given Yll (ps ++ (k, v) ∷ [])) (given Cellsize (ps ++ (k, v) ∷ [])) (given Nodata (ps ++ (k, v) ∷ [])) (stays Ncols ps k v (more Ncols)) (stays Nrows ps k v (more Nrows)) (stays Xll ps k v (more Xll)) (stays Yll ps k v (more Yll)) (stays Cellsize ps k v (more Cellsize)) (filled Nodata ps k v (more Nodata) none)
+
+-- one more pair fills its slot
+pub with_value-slots_of : (slot : Key) (ps : Pairs) (k v : Word) → slot_of k ≡ Some slot → is_given (slots_of ps) slot ≡ false → with_value (slots_of ps) slot (is_centre k) v ≡ slots_of (ps ++ (k, v) ∷ [])
+with_value-slots_of slot ps k v h free =
+    with_value-by_slot slot ps k v (λ s. given-push s slot ps k v h) (none_from_is_some (given slot ps) (sym (is_given-slots_of slot ps) ∙ free))
+
+-- ---- the first fault of the words after pairs
+
+pub words_fault-flat : (d : ℕ) (ps : Pairs) (rest header heights : List Word) → are_keys ps ≡ true → header_fault [] (flat ps) ≡ None → header_words rest ≡ header → height_words rest ≡ heights → words_fault d (flat ps ++ rest) ≡ option_or (header_fault (keys_before ps []) header) (option_or (whole_header_fault (flat ps ++ header) heights) (heights_fault d (nodata_for (flat ps ++ header)) (cells_wanted (flat ps ++ header)) 0 heights))
+words_fault-flat d ps rest header heights keys none h k =
+    let front : header_words (flat ps ++ rest) ≡ flat ps ++ header = header_words-flat ps rest keys ∙ ap (λ z. flat ps ++ z) h in
+    let back : height_words (flat ps ++ rest) ≡ heights = height_words-flat ps rest keys ∙ k in
+    let first : header_fault [] (flat ps ++ header) ≡ header_fault (keys_before ps []) header = header_fault-flat [] ps header ∙ ap (λ o. option_or o (header_fault (keys_before ps []) header)) none in
+    rw (front, back, first) refl
+
+-- a key
+pub words_fault-key : (d : ℕ) (ps : Pairs) (k : Word) → are_keys ps ≡ true → header_fault [] (flat ps) ≡ None → begins_with_letter k ≡ true → words_fault d (flat ps ++ k ∷ []) ≡ key_fault (keys_before ps []) k
+words_fault-key d ps k keys none b =
+    words_fault-flat d ps (k ∷ []) (k ∷ []) [] keys none (rw b refl) (rw b refl) ∙ option_or-none (key_fault (keys_before ps []) k)
+
+-- a value
+pub words_fault-value : (d : ℕ) (ps : Pairs) (k v : Word) → are_keys ps ≡ true → header_fault [] (flat ps) ≡ None → begins_with_letter k ≡ true → key_fault (keys_before ps []) k ≡ None → words_fault d (flat ps ++ k ∷ v ∷ []) ≡ value_fault k v
+words_fault-value d ps k v keys none b first =
+    words_fault-flat d ps (k ∷ v ∷ []) (k ∷ v ∷ []) [] keys none (rw b refl) (rw b refl)
+    ∙ option_or-none (header_fault (keys_before ps []) (k ∷ v ∷ []))
+    ∙ rw first (option_or-none (value_fault k v))
+
+pub header_words-begun : (hs : List Word) → HasBegun hs → header_words hs ≡ []
+header_words-begun [] h = absurd h
+header_words-begun (x ∷ []) h = rw h refl
+header_words-begun (x ∷ y ∷ hs) h = rw h refl
+
+pub height_words-begun : (hs : List Word) → HasBegun hs → height_words hs ≡ hs
+height_words-begun [] h = absurd h
+height_words-begun (x ∷ []) h = rw h refl
+height_words-begun (x ∷ y ∷ hs) h = rw h refl
+
+pub HasBegun-push : (hs : List Word) (w : Word) → HasBegun hs → HasBegun (hs ++ w ∷ [])
+HasBegun-push [] w h = absurd h
+HasBegun-push (x ∷ hs) w h = h
+
+-- heights
+pub words_fault-heights : (d : ℕ) (ps : Pairs) (hs : List Word) → are_keys ps ≡ true → header_fault [] (flat ps) ≡ None → HasBegun hs → words_fault d (flat ps ++ hs) ≡ option_or (whole_header_fault (flat ps) hs) (heights_fault d (nodata_for (flat ps)) (cells_wanted (flat ps)) 0 hs)
+words_fault-heights d ps hs keys none h =
+    words_fault-flat d ps hs [] hs keys none (header_words-begun hs h) (height_words-begun hs h)
+    ∙ ap (λ z. option_or (whole_header_fault z hs) (heights_fault d (nodata_for z) (cells_wanted z) 0 hs)) (append-nil (flat ps))
+
+pub heights_fault-push : (d : ℕ) (nodata : Word) (wanted place : ℕ) (hs : List Word) (w : Word) → heights_fault d nodata wanted place (hs ++ w ∷ []) ≡ option_or (heights_fault d nodata wanted place hs) (height_fault d nodata wanted (place + length hs) w)
+heights_fault-push d nodata wanted place [] w =
+    option_or-none (height_fault d nodata wanted place w) ∙ ap (λ n. height_fault d nodata wanted n w) (omega arith)
+heights_fault-push d nodata wanted place (x ∷ hs) w =
+    ap (option_or (height_fault d nodata wanted place x)) (heights_fault-push d nodata wanted (place + 1) hs w)
+    ∙ sym (option_or-assoc (height_fault d nodata wanted place x) (heights_fault d nodata wanted (place + 1) hs) (height_fault d nodata wanted (place + 1 + length hs) w))
+    ∙ ap (λ n. option_or (option_or (height_fault d nodata wanted place x) (heights_fault d nodata wanted (place + 1) hs)) (height_fault d nodata wanted n w)) (omega arith)

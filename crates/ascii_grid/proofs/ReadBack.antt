@@ -1,0 +1,251 @@
+-- A grid's text is read again as that grid.
+use Rattle.std.proofs.Common.{◌≡◌, ℕ, ◌*◌, ◌^◌, ◌<◌, ◌≤◌, Bool, true, false, ◌&&◌, leb, ltb, cond, List, [], ◌∷◌, ◌++◌, length, map, get_or, Option, None, Some, ℤ, sym, ap, refl, ◌∙◌, arith, zero-add}
+use Rattle.std.specs.Prelude.{codes, decimal}
+use Rattle.std.specs.List.{All}
+use Rattle.std.specs.Option.{option_or}
+use Rattle.std.proofs.lemmas.Bool.{cond-true, cond-false, and_from, le-leb, le-ltb}
+use Rattle.std.proofs.lemmas.List.{append_assoc, length-map}
+use Rattle.std.proofs.lemmas.List.Elements.{All-head}
+use Rattle.std.proofs.Math.Nat.{mul_comm, le_of_eq}
+use Rattle.std.proofs.lemmas.Fmt.{length-decimal-le}
+use Rattle.ascii_grid.specs.Words.{Word, words}
+use Rattle.ascii_grid.specs.Decimal.{number_of, are_digits, is_decimal, is_above_zero}
+use Rattle.ascii_grid.specs.Raster.{Anchor, Raster, IsLawful}
+use Rattle.ascii_grid.specs.Header.{header_words, height_words, header_fault, missing_fault, no_value_fault, nodata_for, size_for, anchor_for, word_for, is_long, is_size}
+use Rattle.ascii_grid.specs.GridText.{IsGridText, most_bytes, words_fault, end_fault, whole_header_fault, heights_fault, cells_wanted, grid_of, cell_of, fault_so_far}
+use Rattle.ascii_grid.specs.Text.{line_text, anchor_text, header_text, rows_text, cell_text, height_text, heights_text}
+use Rattle.ascii_grid.specs.declared.fault.Key.TheVariants.{Ncols, Nrows, Xll, Yll, Cellsize}
+use Rattle.ascii_grid.specs.declared.fault.GridFault.{GridFault}
+use Rattle.ascii_grid.specs.declared.fault.GridFault.TheVariants.{TooFew, TooLong}
+use Rattle.ascii_grid.proofs.ReadBackWords.{IsClean, words-word, words-rows}
+use Rattle.ascii_grid.proofs.ReadBackDecimals.{decimal_clean, digits_clean}
+use Rattle.ascii_grid.proofs.ReadBackNumbers.{decimal_value, decimal_are_digits, decimal_word, decimal_digits}
+use Rattle.ascii_grid.proofs.ReadBackCells.{ReadsAs, reads_cell, not_long, no_heights_fault, cells_again}
+use Rattle.ascii_grid.proofs.ReadBackHeader.{xll_key, yll_key, header_and, AreValues, or_none, only_heights, header_is, heights_are, no_header_fault, Gives, header_gives}
+
+-- a line of the header, and the rest
+words-line : (key word value rest : List ℕ) → ((x : List ℕ) → words (key ++ x) ≡ word ∷ words x) → IsClean value → words (line_text key value ++ rest) ≡ word ∷ value ∷ words rest
+words-line key word value rest begins clean =
+    ap words (regroup key value (10 ∷ []) rest)
+    ∙ begins (value ++ 10 ∷ rest)
+    ∙ ap (λ ws. word ∷ ws) (words-word value rest 10 clean refl) where
+      regroup : (a b c d : List ℕ) → ((a ++ b) ++ c) ++ d ≡ a ++ (b ++ (c ++ d))
+      regroup a b c d = simp append_assoc
+
+words-xll : (x : Bool) (value rest : List ℕ) → IsClean value → words (anchor_text (codes "xllcorner     ") (codes "xllcenter     ") (record { centre = x; word = value }) ++ rest) ≡ xll_key x ∷ value ∷ words rest
+words-xll true value rest clean = words-line (codes "xllcenter     ") (codes "xllcenter") value rest (λ z. refl) clean
+words-xll false value rest clean = words-line (codes "xllcorner     ") (codes "xllcorner") value rest (λ z. refl) clean
+
+words-yll : (y : Bool) (value rest : List ℕ) → IsClean value → words (anchor_text (codes "yllcorner     ") (codes "yllcenter     ") (record { centre = y; word = value }) ++ rest) ≡ yll_key y ∷ value ∷ words rest
+words-yll true value rest clean = words-line (codes "yllcenter     ") (codes "yllcenter") value rest (λ z. refl) clean
+words-yll false value rest clean = words-line (codes "yllcorner     ") (codes "yllcorner") value rest (λ z. refl) clean
+
+-- what is known of a written grid's values
+record HasCleanValues (g : Raster) : Type 0 where
+  cols : IsClean (decimal g.terrain.cols)
+  rows : IsClean (decimal g.terrain.rows)
+  xll : IsClean g.xll.word
+  yll : IsClean g.yll.word
+  cellsize : IsClean g.cellsize
+  nodata : IsClean g.nodata
+
+regroup_lines : (a b c d e f rest : List ℕ) → (((((a ++ b) ++ c) ++ d) ++ e) ++ f) ++ rest ≡ a ++ (b ++ (c ++ (d ++ (e ++ (f ++ rest)))))
+regroup_lines a b c d e f rest = simp append_assoc
+
+words-header : (g : Raster) (rest : List ℕ) → HasCleanValues g → words (header_text g g.nodata ++ rest) ≡ header_and g.xll.centre g.yll.centre (decimal g.terrain.cols) (decimal g.terrain.rows) g.xll.word g.yll.word g.cellsize g.nodata (words rest)
+words-header g rest clean =
+    let l1 = line_text (codes "ncols         ") (decimal g.terrain.cols) in
+    let l2 = line_text (codes "nrows         ") (decimal g.terrain.rows) in
+    let l3 = anchor_text (codes "xllcorner     ") (codes "xllcenter     ") g.xll in
+    let l4 = anchor_text (codes "yllcorner     ") (codes "yllcenter     ") g.yll in
+    let l5 = line_text (codes "cellsize      ") g.cellsize in
+    let l6 = line_text (codes "NODATA_value  ") g.nodata in
+    ap words (regroup_lines l1 l2 l3 l4 l5 l6 rest)
+    ∙ words-line (codes "ncols         ") (codes "ncols") (decimal g.terrain.cols) (l2 ++ (l3 ++ (l4 ++ (l5 ++ (l6 ++ rest))))) (λ z. refl) clean.cols
+    ∙ ap (λ ws. codes "ncols" ∷ decimal g.terrain.cols ∷ ws) (words-line (codes "nrows         ") (codes "nrows") (decimal g.terrain.rows) (l3 ++ (l4 ++ (l5 ++ (l6 ++ rest)))) (λ z. refl) clean.rows)
+    ∙ ap (λ ws. codes "ncols" ∷ decimal g.terrain.cols ∷ codes "nrows" ∷ decimal g.terrain.rows ∷ ws) (words-xll g.xll.centre g.xll.word (l4 ++ (l5 ++ (l6 ++ rest))) clean.xll)
+    ∙ ap (λ ws. codes "ncols" ∷ decimal g.terrain.cols ∷ codes "nrows" ∷ decimal g.terrain.rows ∷ xll_key g.xll.centre ∷ g.xll.word ∷ ws) (words-yll g.yll.centre g.yll.word (l5 ++ (l6 ++ rest)) clean.yll)
+    ∙ ap (λ ws. codes "ncols" ∷ decimal g.terrain.cols ∷ codes "nrows" ∷ decimal g.terrain.rows ∷ xll_key g.xll.centre ∷ g.xll.word ∷ yll_key g.yll.centre ∷ g.yll.word ∷ ws) (words-line (codes "cellsize      ") (codes "cellsize") g.cellsize (l6 ++ rest) (λ z. refl) clean.cellsize)
+    ∙ ap (λ ws. codes "ncols" ∷ decimal g.terrain.cols ∷ codes "nrows" ∷ decimal g.terrain.rows ∷ xll_key g.xll.centre ∷ g.xll.word ∷ yll_key g.yll.centre ∷ g.yll.word ∷ codes "cellsize" ∷ g.cellsize ∷ ws) (words-line (codes "NODATA_value  ") (codes "NODATA_value") g.nodata rest (λ z. refl) clean.nodata)
+
+-- a number from 1 to 4,096
+size_ok : (n : ℕ) → 1 ≤ n → n ≤ 4096 → is_size (decimal n) ≡ true
+size_ok n low high =
+    let small : n < 2 ^ 64 = omega arith in
+    let value = decimal_value n small in
+    and_from (are_digits (decimal n) && leb 1 (number_of (decimal n))) (leb (number_of (decimal n)) 4096)
+    (and_from (are_digits (decimal n)) (leb 1 (number_of (decimal n))) (decimal_are_digits n small) (le-leb 1 (number_of (decimal n)) (omega (arith, value))))
+    (le-leb (number_of (decimal n)) 4096 (omega (arith, value)))
+
+size_short : (n : ℕ) → n ≤ 4096 → is_long (decimal n) ≡ false
+size_short n high = not_long (decimal n) (let l = length-decimal-le 4 n (omega arith) (omega arith) (omega arith) in omega (arith, l))
+
+values_ok : (g : Raster) → IsLawful g → AreValues (decimal g.terrain.cols) (decimal g.terrain.rows) g.xll.word g.yll.word g.cellsize g.nodata
+values_ok g h = record {
+  cols = size_ok g.terrain.cols h.terrain.some_col h.terrain.few_cols;
+  rows = size_ok g.terrain.rows h.terrain.some_row h.terrain.few_rows;
+  xll = h.xll.1;
+  yll = h.yll.1;
+  cellsize = and_from (is_decimal g.cellsize) (is_above_zero g.cellsize) h.cellsize.1 h.above_zero;
+  nodata = h.nodata.1;
+  short_cols = size_short g.terrain.cols h.terrain.few_cols;
+  short_rows = size_short g.terrain.rows h.terrain.few_rows;
+  short_xll = not_long g.xll.word h.xll.0;
+  short_yll = not_long g.yll.word h.yll.0;
+  short_cellsize = not_long g.cellsize h.cellsize.0;
+  short_nodata = not_long g.nodata h.nodata.0;
+}
+
+size_clean : (n : ℕ) → n ≤ 4096 → IsClean (decimal n)
+size_clean n h = let small : n < 2 ^ 64 = omega arith in digits_clean (decimal n) (decimal_word n small) (decimal_digits n small)
+
+clean_values : (g : Raster) → IsLawful g → HasCleanValues g
+clean_values g h = record {
+  cols = size_clean g.terrain.cols h.terrain.few_cols;
+  rows = size_clean g.terrain.rows h.terrain.few_rows;
+  xll = decimal_clean g.xll.word h.xll.1;
+  yll = decimal_clean g.yll.word h.yll.1;
+  cellsize = decimal_clean g.cellsize h.cellsize.1;
+  nodata = decimal_clean g.nodata h.nodata.1;
+}
+
+all_read : (g : Raster) → IsLawful g → All (λ c. ReadsAs g.scale g.nodata c (cell_text (height_text g.scale) g.nodata c)) g.terrain.cells
+all_read g h = λ k d within. reads_cell g.scale g.nodata (get_or g.terrain.cells k d) h.scale h.nodata (record { height = h.terrain.heights k d within; apart = h.apart k d within })
+
+-- the words of a grid's text
+words_are : (g : Raster) → IsLawful g → words (heights_text g) ≡ header_and g.xll.centre g.yll.centre (decimal g.terrain.cols) (decimal g.terrain.rows) g.xll.word g.yll.word g.cellsize g.nodata (map (cell_text (height_text g.scale) g.nodata) g.terrain.cells)
+words_are g h =
+    words-header g (rows_text (height_text g.scale) g.nodata g.terrain.cols g.terrain.rows g.terrain.cells) (clean_values g h)
+    ∙ ap (λ (ws : List Word). header_and g.xll.centre g.yll.centre (decimal g.terrain.cols) (decimal g.terrain.rows) g.xll.word g.yll.word g.cellsize g.nodata ws)
+    (words-rows (height_text g.scale) g.nodata g.terrain.cols g.terrain.rows g.terrain.cells (omega (arith, h.terrain.some_col)) (h.terrain.size ∙ mul_comm g.terrain.cols g.terrain.rows)
+    (λ k d within. (all_read g h k d within).clean))
+
+-- the words of the cells are heights
+cells_are_heights : (d : ℕ) (nodata : Word) (cells : List (Option ℤ)) → All (λ c. ReadsAs d nodata c (cell_text (height_text d) nodata c)) cells → (header_words (map (cell_text (height_text d) nodata) cells) ≡ []) × (height_words (map (cell_text (height_text d) nodata) cells) ≡ map (cell_text (height_text d) nodata) cells)
+cells_are_heights d nodata [] reads = (refl, refl)
+cells_are_heights d nodata (c ∷ cells) reads =
+    only_heights (cell_text (height_text d) nodata c) (map (cell_text (height_text d) nodata) cells)
+    (All-head (λ x. ReadsAs d nodata x (cell_text (height_text d) nodata x)) c cells reads).begins
+
+header_whole : (d : ℕ) (nodata : Word) (header : List Word) (cells : List (Option ℤ)) → missing_fault header ≡ None → All (λ c. ReadsAs d nodata c (cell_text (height_text d) nodata c)) cells → whole_header_fault header (map (cell_text (height_text d) nodata) cells) ≡ None
+header_whole d nodata header [] whole reads = refl
+header_whole d nodata header (c ∷ cells) whole reads =
+    cond-false (is_long (cell_text (height_text d) nodata c)) (Some TooLong) (missing_fault header) (All-head (λ x. ReadsAs d nodata x (cell_text (height_text d) nodata x)) c cells reads).short
+    ∙ whole
+
+-- the faults of a header and heights
+abbrev fault_with : ℕ → List Word → List Word → Option GridFault
+fault_with d header heights =
+    option_or (header_fault [] header)
+    (option_or (whole_header_fault header heights)
+    (heights_fault d (nodata_for header) (cells_wanted header) 0 heights))
+
+abbrev end_with : List Word → List Word → Option GridFault
+end_with header heights =
+    option_or (no_value_fault header)
+    (option_or (missing_fault header)
+    (cond (ltb (length heights) (cells_wanted header)) (Some (TooFew (length heights))) None))
+
+abbrev grid_with : ℕ → List Word → List Word → Raster
+grid_with d header heights = record {
+  terrain = record {
+    cols = size_for Ncols header;
+    rows = size_for Nrows header;
+    cells = map (cell_of d (nodata_for header)) heights;
+  };
+  xll = anchor_for Xll header;
+  yll = anchor_for Yll header;
+  cellsize = word_for Cellsize header;
+  nodata = nodata_for header;
+  scale = d;
+}
+
+-- what a text's header and heights make, its words being known
+with_words : {Y : Type 0} (f : List Word → List Word → Y) (ws whole header heights : List Word) → ws ≡ whole → header_words whole ≡ header → height_words whole ≡ heights → f (header_words ws) (height_words ws) ≡ f header heights
+with_words f ws whole header heights a b c =
+    ap (λ (z : List Word). f (header_words z) (height_words z)) a
+    ∙ ap (λ (z : List Word). f z (height_words whole)) b
+    ∙ ap (λ (z : List Word). f header z) c
+
+-- the header, its words and the cells' words of a grid's text
+abbrev header_of : Raster → List Word → List Word
+header_of g rest = header_and g.xll.centre g.yll.centre (decimal g.terrain.cols) (decimal g.terrain.rows) g.xll.word g.yll.word g.cellsize g.nodata rest
+
+abbrev words_of_cells : Raster → List Word
+words_of_cells g = map (cell_text (height_text g.scale) g.nodata) g.terrain.cells
+
+text_with : {Y : Type 0} (f : List Word → List Word → Y) (g : Raster) → IsLawful g → f (header_words (words (heights_text g))) (height_words (words (heights_text g))) ≡ f (header_of g []) (words_of_cells g)
+text_with f g h =
+    let cells = cells_are_heights g.scale g.nodata g.terrain.cells (all_read g h) in
+    with_words f (words (heights_text g)) (header_of g (words_of_cells g)) (header_of g []) (words_of_cells g)
+    (words_are g h)
+    (header_is g.xll.centre g.yll.centre (decimal g.terrain.cols) (decimal g.terrain.rows) g.xll.word g.yll.word g.cellsize g.nodata (words_of_cells g) cells.0)
+    (heights_are g.xll.centre g.yll.centre (decimal g.terrain.cols) (decimal g.terrain.rows) g.xll.word g.yll.word g.cellsize g.nodata (words_of_cells g) cells.1)
+
+gives_of : (g : Raster) → Gives g.xll.centre g.yll.centre (decimal g.terrain.cols) (decimal g.terrain.rows) g.xll.word g.yll.word g.cellsize g.nodata (header_of g [])
+gives_of g = header_gives g.xll.centre g.yll.centre (decimal g.terrain.cols) (decimal g.terrain.rows) g.xll.word g.yll.word g.cellsize g.nodata
+
+cols_again : (g : Raster) → IsLawful g → size_for Ncols (header_of g []) ≡ g.terrain.cols
+cols_again g h = (gives_of g).cols ∙ decimal_value g.terrain.cols (omega (arith, h.terrain.few_cols))
+
+rows_again : (g : Raster) → IsLawful g → size_for Nrows (header_of g []) ≡ g.terrain.rows
+rows_again g h = (gives_of g).rows ∙ decimal_value g.terrain.rows (omega (arith, h.terrain.few_rows))
+
+wanted_again : (g : Raster) → IsLawful g → cells_wanted (header_of g []) ≡ g.terrain.cols * g.terrain.rows
+wanted_again g h = ap (λ n. n * size_for Nrows (header_of g [])) (cols_again g h) ∙ ap (λ n. g.terrain.cols * n) (rows_again g h)
+
+no_words_fault : (g : Raster) → IsLawful g → words_fault g.scale (words (heights_text g)) ≡ None
+no_words_fault g h =
+    text_with (fault_with g.scale) g h
+    ∙ or_none (header_fault [] (header_of g [])) _ (no_header_fault g.xll.centre g.yll.centre (decimal g.terrain.cols) (decimal g.terrain.rows) g.xll.word g.yll.word g.cellsize g.nodata (values_ok g h))
+    (or_none (whole_header_fault (header_of g []) (words_of_cells g)) _ (header_whole g.scale g.nodata (header_of g []) g.terrain.cells (gives_of g).whole (all_read g h))
+    (ap (λ w. heights_fault g.scale w (cells_wanted (header_of g [])) 0 (words_of_cells g)) (gives_of g).nodata
+    ∙ ap (λ n. heights_fault g.scale g.nodata n 0 (words_of_cells g)) (wanted_again g h)
+    ∙ no_heights_fault g.scale g.nodata (g.terrain.cols * g.terrain.rows) 0 g.terrain.cells (zero-add (length g.terrain.cells) ∙ h.terrain.size) (all_read g h)))
+
+enough : (g : Raster) → IsLawful g → ltb (length (words_of_cells g)) (cells_wanted (header_of g [])) ≡ false
+enough g h =
+    let n = length-map g.terrain.cells (cell_text (height_text g.scale) g.nodata) in
+    let m = wanted_again g h in
+    let size = h.terrain.size in
+    le-ltb (length (words_of_cells g)) (cells_wanted (header_of g [])) (le_of_eq (m ∙ sym size ∙ sym n))
+
+no_end_fault : (g : Raster) → IsLawful g → end_fault (words (heights_text g)) ≡ None
+no_end_fault g h =
+    text_with end_with g h
+    ∙ or_none (no_value_fault (header_of g [])) _ (gives_of g).paired
+    (or_none (missing_fault (header_of g [])) _ (gives_of g).whole
+    (cond-false (ltb (length (words_of_cells g)) (cells_wanted (header_of g []))) (Some (TooFew (length (words_of_cells g)))) None (enough g h)))
+
+abbrev raster : ℕ → ℕ → List (Option ℤ) → Anchor → Anchor → Word → Word → ℕ → Raster
+raster cols rows cells xll yll cellsize nodata d = record {
+  terrain = record { cols = cols; rows = rows; cells = cells };
+  xll = xll;
+  yll = yll;
+  cellsize = cellsize;
+  nodata = nodata;
+  scale = d;
+}
+
+grid_again : (g : Raster) → IsLawful g → grid_of g.scale (words (heights_text g)) ≡ g
+grid_again g h =
+    let header = header_of g [] in
+    let gives = gives_of g in
+    let cells : map (cell_of g.scale (nodata_for (header_of g []))) (words_of_cells g) ≡ g.terrain.cells =
+    ap (λ w. map (cell_of g.scale w) (words_of_cells g)) (gives_of g).nodata ∙ cells_again g.scale g.nodata g.terrain.cells (all_read g h) in
+    text_with (grid_with g.scale) g h
+    ∙ ap (λ n. raster n (size_for Nrows header) (map (cell_of g.scale (nodata_for header)) (words_of_cells g)) (anchor_for Xll header) (anchor_for Yll header) (word_for Cellsize header) (nodata_for header) g.scale) (cols_again g h)
+    ∙ ap (λ n. raster g.terrain.cols n (map (cell_of g.scale (nodata_for header)) (words_of_cells g)) (anchor_for Xll header) (anchor_for Yll header) (word_for Cellsize header) (nodata_for header) g.scale) (rows_again g h)
+    ∙ ap (λ (z : List (Option ℤ)). raster g.terrain.cols g.terrain.rows z (anchor_for Xll header) (anchor_for Yll header) (word_for Cellsize header) (nodata_for header) g.scale) cells
+    ∙ ap (λ (z : Anchor). raster g.terrain.cols g.terrain.rows g.terrain.cells z (anchor_for Yll header) (word_for Cellsize header) (nodata_for header) g.scale) gives.xll
+    ∙ ap (λ (z : Anchor). raster g.terrain.cols g.terrain.rows g.terrain.cells g.xll z (word_for Cellsize header) (nodata_for header) g.scale) gives.yll
+    ∙ ap (λ (z : Word). raster g.terrain.cols g.terrain.rows g.terrain.cells g.xll g.yll z (nodata_for header) g.scale) gives.cellsize
+    ∙ ap (λ (z : Word). raster g.terrain.cols g.terrain.rows g.terrain.cells g.xll g.yll g.cellsize z g.scale) gives.nodata
+
+pub read_back : (g : Raster) → IsLawful g → length (heights_text g) ≤ most_bytes → IsGridText g.scale (heights_text g) g
+read_back g h short = record {
+  faultless =
+      cond-true (leb (length (heights_text g)) most_bytes) (option_or (words_fault g.scale (words (heights_text g))) (end_fault (words (heights_text g)))) (fault_so_far g.scale (heights_text g)) (le-leb (length (heights_text g)) most_bytes short)
+      ∙ or_none (words_fault g.scale (words (heights_text g))) (end_fault (words (heights_text g))) (no_words_fault g h) (no_end_fault g h);
+  grid = sym (grid_again g h);
+}

@@ -1,0 +1,160 @@
+-- The fault of a text stays when the text goes on.
+use Rattle.std.proofs.Common.{◌≡◌, ℕ, ◌+◌, ◌-◌, ◌^◌, ◌<◌, ◌≤◌, Bool, true, false, cond, nat_le, List, [], ◌∷◌, ◌++◌, length, take, drop, Option, None, Some, arith, refl, ap, sym, ◌∙◌, subst, inl, inr}
+use Rattle.std.specs.Prelude.{filter}
+use Rattle.std.specs.Option.{option_or}
+use Rattle.std.proofs.lemmas.Bool.{cases_Bool, cases_lt, le-leb, lt-leb, leb-true}
+use Rattle.std.proofs.lemmas.List.{append-nil, append_assoc, length-append, take_all, take-append-le}
+use Rattle.std.proofs.Math.Seq.{take-append-add}
+use Rattle.ascii_grid.specs.Words.{Word, is_word, is_separator, words, ended_words}
+use Rattle.ascii_grid.specs.Header.{begins_with_letter, header_words, height_words, nodata_for, header_fault, key_fault, value_fault, key_left, missing_fault}
+use Rattle.ascii_grid.specs.GridText.{most_bytes, cells_wanted, words_fault, whole_header_fault, heights_fault, height_fault, end_fault, fault_so_far, text_fault, judged_words, AsksForCells, IsRefusal, IsRefusalSoFar}
+use Rattle.ascii_grid.specs.Reading.{IsParted}
+use Rattle.ascii_grid.specs.declared.fault.GridFault.{GridFault}
+use Rattle.ascii_grid.specs.declared.fault.GridFault.TheVariants.{UnknownKey, RepeatedKey, MissingKey, BadSize, BadPlace, BadNodata, BadHeight, TooFew, TooMany, NoValue, TooLong, Memory}
+use Rattle.ascii_grid.proofs.Parting.{words-parted, IsParted-none, IsParted-byte, IsParted-separator}
+
+-- ---- the words of a longer text
+
+abbrev Further : List ℕ → List Word → Type 0
+Further text ws = (others : List Word) × (w : Word) × IsParted text (ws ++ others) w
+
+further : (text : List ℕ) (ws : List Word) (w : Word) (more : List ℕ) → IsParted text ws w → Further (text ++ more) ws
+further text ws w [] h =
+    ([], w, subst (λ t. IsParted t (ws ++ []) w) (sym (append-nil text)) (subst (λ z. IsParted text z w) (sym (append-nil ws)) h))
+further text ws w (b ∷ more) h =
+    elim (cases_Bool (is_separator b)) [
+      | inl ends ↦
+        let next = subst (λ z. IsParted (text ++ b ∷ []) z []) (words-parted text ws w h) (IsParted-separator text ws w b h ends) in
+        let rest = further (text ++ b ∷ []) (ws ++ filter is_word (w ∷ [])) [] more next in
+        (filter is_word (w ∷ []) ++ rest.0, rest.1, subst (λ z. IsParted (text ++ b ∷ more) z rest.1) (append_assoc ws (filter is_word (w ∷ [])) rest.0) (subst (λ t. IsParted t ((ws ++ filter is_word (w ∷ [])) ++ rest.0) rest.1) (append_assoc text (b ∷ []) more) rest.2))
+      | inr stays ↦
+        let rest = further (text ++ b ∷ []) ws (w ++ b ∷ []) more (IsParted-byte text ws w b h stays) in
+        (rest.0, rest.1, subst (λ t. IsParted t (ws ++ rest.0) rest.1) (append_assoc text (b ∷ []) more) rest.2)
+    ]
+
+-- each text is parted
+pub parted : (text : List ℕ) → (ws : List Word) × (w : Word) × IsParted text ws w
+parted text = further [] [] [] text IsParted-none
+
+pub ended-more : (front more : List ℕ) → (others : List Word) × (ended_words (front ++ more) ≡ ended_words front ++ others)
+ended-more front more =
+    let at = parted front in
+    let next = further front at.0 at.1 more at.2 in
+    (next.0, next.2.ended ∙ ap (λ z. z ++ next.0) (sym at.2.ended))
+
+pub words-more : (front more : List ℕ) → (others : List Word) × (words (front ++ more) ≡ ended_words front ++ others)
+words-more front more =
+    let at = parted front in
+    let next = further front at.0 at.1 more at.2 in
+    (next.0 ++ filter is_word (next.1 ∷ []),
+     words-parted (front ++ more) (at.0 ++ next.0) next.1 next.2 ∙ append_assoc at.0 next.0 (filter is_word (next.1 ∷ [])) ∙ ap (λ z. z ++ (next.0 ++ filter is_word (next.1 ∷ []))) (sym at.2.ended))
+
+-- ---- the fault of more words
+
+or_more : {X : Type 0} (o p q : Option X) (f : X) → option_or o p ≡ Some f → (p ≡ Some f → q ≡ Some f) → option_or o q ≡ Some f
+or_more None p q f h k = k h
+or_more (Some x) p q f h k = h
+
+heights_more : (d : ℕ) (nodata : Word) (wanted place : ℕ) (hs more : List Word) (f : GridFault) → heights_fault d nodata wanted place hs ≡ Some f → heights_fault d nodata wanted place (hs ++ more) ≡ Some f
+heights_more d nodata wanted place [] more f h = cc
+heights_more d nodata wanted place (w ∷ hs) more f h =
+    or_more (height_fault d nodata wanted place w) (heights_fault d nodata wanted (place + 1) hs) (heights_fault d nodata wanted (place + 1) (hs ++ more)) f h
+    (heights_more d nodata wanted (place + 1) hs more f)
+
+-- what is told of the heights after a header
+abbrev after_header : ℕ → List Word → List Word → Option GridFault
+after_header d header hs = option_or (whole_header_fault header hs) (heights_fault d (nodata_for header) (cells_wanted header) 0 hs)
+
+after_header-more : (d : ℕ) (header : List Word) (hs more : List Word) (f : GridFault) → after_header d header hs ≡ Some f → after_header d header (hs ++ more) ≡ Some f
+after_header-more d header [] more f h = cc
+after_header-more d header (w ∷ hs) more f h =
+    or_more (whole_header_fault header (w ∷ hs)) (heights_fault d (nodata_for header) (cells_wanted header) 0 (w ∷ hs)) (heights_fault d (nodata_for header) (cells_wanted header) 0 ((w ∷ hs) ++ more)) f h
+    (heights_more d (nodata_for header) (cells_wanted header) 0 (w ∷ hs) more f)
+
+-- what is told of words after a header's front
+abbrev after_front : ℕ → List Word → List Word → List Word → Option GridFault
+after_front d before front ws = option_or (header_fault before (header_words ws)) (after_header d (front ++ header_words ws) (height_words ws))
+
+or-assoc : {X : Type 0} (o p q r : Option X) → option_or (option_or o (option_or p q)) r ≡ option_or o (option_or p (option_or q r))
+or-assoc None None q r = refl
+or-assoc None (Some x) q r = refl
+or-assoc (Some x) p q r = refl
+
+after_front-pair : (d : ℕ) (before front : List Word) (k v : Word) (rest : List Word) → begins_with_letter k ≡ true → after_front d before front (k ∷ v ∷ rest) ≡ option_or (key_fault before k) (option_or (value_fault k v) (after_front d (k ∷ before) (front ++ k ∷ v ∷ []) rest))
+after_front-pair d before front k v rest letter =
+    let header : header_words (k ∷ v ∷ rest) ≡ k ∷ v ∷ header_words rest = rw letter refl in
+    let heights : height_words (k ∷ v ∷ rest) ≡ height_words rest = rw letter refl in
+    ap (λ z. option_or (header_fault before z) (after_header d (front ++ z) (height_words (k ∷ v ∷ rest)))) header
+    ∙ ap (λ z. option_or (header_fault before (k ∷ v ∷ header_words rest)) (after_header d (front ++ (k ∷ v ∷ header_words rest)) z)) heights
+    ∙ ap (λ z. option_or (header_fault before (k ∷ v ∷ header_words rest)) (after_header d z (height_words rest))) (sym (append_assoc front (k ∷ v ∷ []) (header_words rest)))
+    ∙ or-assoc (key_fault before k) (value_fault k v) (header_fault (k ∷ before) (header_words rest)) (after_header d ((front ++ k ∷ v ∷ []) ++ header_words rest) (height_words rest))
+
+-- a word that is no key ends the header
+after_front-height : (d : ℕ) (before front : List Word) (k : Word) (rest : List Word) → begins_with_letter k ≡ false → after_front d before front (k ∷ rest) ≡ after_header d (front ++ []) (k ∷ rest)
+after_front-height d before front k [] letter = rw letter refl
+after_front-height d before front k (v ∷ rest) letter = rw letter refl
+
+after_front-more : (d : ℕ) (before front ws more : List Word) (f : GridFault) → after_front d before front ws ≡ Some f → after_front d before front (ws ++ more) ≡ Some f
+after_front-more d before front [] more f h = cc
+after_front-more d before front (k ∷ []) [] f h = h
+after_front-more d before front (k ∷ []) (v ∷ more) f h =
+    elim (cases_Bool (begins_with_letter k)) [
+      | inl letter ↦
+        let first : after_front d before front (k ∷ []) ≡ option_or (key_fault before k) None = rw letter refl in
+        after_front-pair d before front k v more letter
+        ∙ or_more (key_fault before k) None (option_or (value_fault k v) (after_front d (k ∷ before) (front ++ k ∷ v ∷ []) more)) f (sym first ∙ h) (λ e. absurd (cc))
+      | inr height ↦
+        after_front-height d before front k (v ∷ more) height
+        ∙ after_header-more d (front ++ []) (k ∷ []) (v ∷ more) f (sym (after_front-height d before front k [] height) ∙ h)
+    ]
+after_front-more d before front (k ∷ v ∷ rest) more f h =
+    elim (cases_Bool (begins_with_letter k)) [
+      | inl letter ↦
+        after_front-pair d before front k v (rest ++ more) letter
+        ∙ or_more (key_fault before k) (option_or (value_fault k v) (after_front d (k ∷ before) (front ++ k ∷ v ∷ []) rest)) (option_or (value_fault k v) (after_front d (k ∷ before) (front ++ k ∷ v ∷ []) (rest ++ more))) f
+          (sym (after_front-pair d before front k v rest letter) ∙ h)
+          (λ e. or_more (value_fault k v) (after_front d (k ∷ before) (front ++ k ∷ v ∷ []) rest) (after_front d (k ∷ before) (front ++ k ∷ v ∷ []) (rest ++ more)) f e
+            (after_front-more d (k ∷ before) (front ++ k ∷ v ∷ []) rest more f))
+      | inr height ↦
+        after_front-height d before front k (v ∷ rest ++ more) height
+        ∙ after_header-more d (front ++ []) (k ∷ v ∷ rest) more f (sym (after_front-height d before front k (v ∷ rest) height) ∙ h)
+    ]
+
+pub words_fault-more : (d : ℕ) (ws more : List Word) (f : GridFault) → words_fault d ws ≡ Some f → words_fault d (ws ++ more) ≡ Some f
+words_fault-more d ws more f h = after_front-more d [] [] ws more f h
+
+-- ---- want of memory
+
+same_header : (ws more : List Word) → 0 < length (height_words ws) → (header_words (ws ++ more) ≡ header_words ws) × (height_words (ws ++ more) ≡ height_words ws ++ more)
+same_header [] more h = absurd (omega arith)
+same_header (k ∷ []) more h =
+    elim (cases_Bool (begins_with_letter k)) [
+      | inl letter ↦ let none : height_words (k ∷ []) ≡ [] = rw letter refl in absurd (let n = ap length none in omega arith)
+      | inr height ↦ one k more height
+    ]
+  where
+    one : (k : Word) (more : List Word) → begins_with_letter k ≡ false → (header_words (k ∷ more) ≡ header_words (k ∷ [])) × (height_words (k ∷ more) ≡ height_words (k ∷ []) ++ more)
+    one k [] b = (refl, sym (append-nil (height_words (k ∷ []))))
+    one k (v ∷ more) b = (rw b refl, rw b refl)
+same_header (k ∷ v ∷ rest) more h =
+    elim (cases_Bool (begins_with_letter k)) [
+      | inl letter ↦
+        let heights : height_words (k ∷ v ∷ rest) ≡ height_words rest = rw letter refl in
+        let next = same_header rest more (let n = ap length heights in omega arith) in
+        (rw letter (ap (λ z. k ∷ v ∷ z) next.0), rw letter next.1)
+      | inr height ↦ (rw height refl, rw height refl)
+    ]
+
+same_first : (header hs more : List Word) → 0 < length hs → whole_header_fault header (hs ++ more) ≡ whole_header_fault header hs
+same_first header [] more h = absurd (omega arith)
+same_first header (w ∷ hs) more h = refl
+
+pub asks-more : (ws more : List Word) → 0 < length (height_words ws) → AsksForCells ws → AsksForCells (ws ++ more)
+asks-more ws more some h =
+    let same = same_header ws more some in
+    record {
+      faultless = ap (header_fault []) same.0 ∙ h.faultless;
+      paired = ap key_left same.0 ∙ h.paired;
+      given = ap missing_fault same.0 ∙ h.given;
+      first = ap (λ z. whole_header_fault z (height_words (ws ++ more))) same.0 ∙ ap (whole_header_fault (header_words ws)) same.1 ∙ same_first (header_words ws) (height_words ws) more some ∙ h.first;
+    }

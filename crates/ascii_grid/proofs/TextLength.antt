@@ -1,0 +1,100 @@
+-- How long a written grid is.
+use Rattle.std.proofs.Common.{◌≡◌, ℕ, zero, suc, ◌+◌, ◌*◌, ◌/◌, ◌^◌, ◌<◌, ◌≤◌, Bool, true, false, List, [], ◌∷◌, ◌++◌, length, take, drop, map, get_or, Option, None, Some, ℤ, pos, negsuc, ap, refl, ◌∙◌, arith}
+use Rattle.std.specs.Prelude.{codes, decimal, unsigned_abs, IfSome}
+use Rattle.std.specs.List.{All, join_with_byte}
+use Rattle.std.proofs.Math.Nat.{mul_comm, mul-le-mul}
+use Rattle.std.proofs.lemmas.List.{length-append, length-take-le, length-drop}
+use Rattle.std.proofs.lemmas.List.Elements.{All-head, All-tail, All-take, All-drop}
+use Rattle.std.proofs.lemmas.Fmt.{length-decimal-le}
+use Rattle.ascii_grid.specs.Raster.{Anchor, Raster, IsHeight, IsLawful}
+use Rattle.ascii_grid.specs.GridText.{most_bytes}
+use Rattle.ascii_grid.specs.Text.{decimals_text, height_text, cell_text, row_text, rows_text, line_text, anchor_text, header_text, heights_text}
+use Rattle.ascii_grid.proofs.ReadBackHeights.{body, text-pos, length-decimals}
+use Rattle.ascii_grid.proofs.ReadBackCells.{size_of_height}
+
+-- the whole part of a height has at most ten digits, less one for each decimal
+whole_digits : (d n : ℕ) → d ≤ 6 → n ≤ 10 ^ 9 → length (decimal (n / 10 ^ d)) + d ≤ 10
+whole_digits zero n few h = let l = length-decimal-le 10 (n / 10 ^ 0) (omega arith) (omega arith) (omega arith) in omega (arith, l)
+whole_digits (suc zero) n few h = let l = length-decimal-le 9 (n / 10 ^ 1) (omega arith) (omega arith) (omega arith) in omega (arith, l)
+whole_digits (suc (suc zero)) n few h = let l = length-decimal-le 8 (n / 10 ^ 2) (omega arith) (omega arith) (omega arith) in omega (arith, l)
+whole_digits (suc (suc (suc zero))) n few h = let l = length-decimal-le 7 (n / 10 ^ 3) (omega arith) (omega arith) (omega arith) in omega (arith, l)
+whole_digits (suc (suc (suc (suc zero)))) n few h = let l = length-decimal-le 6 (n / 10 ^ 4) (omega arith) (omega arith) (omega arith) in omega (arith, l)
+whole_digits (suc (suc (suc (suc (suc zero))))) n few h = let l = length-decimal-le 5 (n / 10 ^ 5) (omega arith) (omega arith) (omega arith) in omega (arith, l)
+whole_digits (suc (suc (suc (suc (suc (suc zero)))))) n few h = let l = length-decimal-le 4 (n / 10 ^ 6) (omega arith) (omega arith) (omega arith) in omega (arith, l)
+whole_digits (suc (suc (suc (suc (suc (suc (suc d))))))) n few h = absurd (omega arith)
+
+body_short : (d n : ℕ) → d ≤ 6 → n ≤ 10 ^ 9 → length (body d n) ≤ 11
+body_short d n few h =
+    let whole = whole_digits d n few h in
+    omega (arith, whole, length-decimals d n, length-append (decimal (n / 10 ^ d)) (decimals_text d n))
+
+height_short : (d : ℕ) (z : ℤ) → d ≤ 6 → unsigned_abs z ≤ 10 ^ 9 → length (height_text d z) ≤ 12
+height_short d (pos n) few h = let size = body_short d n few h in let same = ap length (text-pos d n) in omega (arith, size, same)
+height_short d (negsuc n) few h = let size = body_short d (suc n) few h in omega (arith, size)
+
+-- words of at most 14 bytes, each with the byte after it
+line_short : {X : Type 0} (f : X → List ℕ) (cells : List X) → 0 < length cells → All (λ c. length (f c) ≤ 14) cells → length (join_with_byte 32 (map f cells)) + 1 ≤ 15 * length cells
+line_short f [] h short = absurd (omega arith)
+line_short f (c ∷ []) h short = let here = All-head (λ x. length (f x) ≤ 14) c [] short in omega (arith, here)
+line_short f (c ∷ d ∷ cells) h short =
+    let here = All-head (λ x. length (f x) ≤ 14) c (d ∷ cells) short in
+    let rest = line_short f (d ∷ cells) (omega arith) (All-tail (λ x. length (f x) ≤ 14) c (d ∷ cells) short) in
+    omega (arith, here, rest, length-append (f c) (32 ∷ join_with_byte 32 (map f (d ∷ cells))))
+
+rows_short : {X : Type 0} (v : X → List ℕ) (nodata : List ℕ) (cols n : ℕ) (cells : List (Option X)) → 0 < cols → length cells ≡ n * cols → All (λ c. length (cell_text v nodata c) ≤ 14) cells → length (rows_text v nodata cols n cells) ≤ 15 * length cells
+rows_short v nodata cols zero cells h size short = omega arith
+rows_short v nodata cols (suc n) cells h size short =
+    let front : length (take cols cells) ≡ cols = length-take-le cols cells (omega (arith, size)) in
+    let back : length (drop cols cells) ≡ n * cols = omega (arith, size, length-drop cols cells) in
+    let line = line_short (cell_text v nodata) (take cols cells) (omega (arith, front)) (All-take (λ c. length (cell_text v nodata c) ≤ 14) cols cells short) in
+    let rest = rows_short v nodata cols n (drop cols cells) h back (All-drop (λ c. length (cell_text v nodata c) ≤ 14) cols cells short) in
+    let row = length-append (join_with_byte 32 (map (cell_text v nodata) (take cols cells))) (10 ∷ []) in
+    let both = length-append (row_text v nodata (take cols cells)) (rows_text v nodata cols n (drop cols cells)) in
+    omega (arith, size, front, back, line, rest, row, both)
+
+-- a line of the header
+line_length : (key value : List ℕ) → length (line_text key value) ≡ length key + length value + 1
+line_length key value = omega (arith, length-append (key ++ value) (10 ∷ []), length-append key value)
+
+anchor_length : (corner centre : List ℕ) (a : Anchor) → length corner ≡ 14 → length centre ≡ 14 → length (anchor_text corner centre a) ≡ 15 + length a.word
+anchor_length corner centre a h k = anchor_at corner centre a.centre a.word h k where
+  anchor_at : (corner centre : List ℕ) (c : Bool) (w : List ℕ) → length corner ≡ 14 → length centre ≡ 14 → length (anchor_text corner centre (record { centre = c; word = w })) ≡ 15 + length w
+  anchor_at corner centre true w h k = omega (arith, line_length centre w, k)
+  anchor_at corner centre false w h k = omega (arith, line_length corner w, h)
+
+size_digits : (n : ℕ) → n ≤ 4096 → length (decimal n) ≤ 4
+size_digits n h = length-decimal-le 4 n (omega arith) (omega arith) (omega arith)
+
+header_short : (g : Raster) → IsLawful g → length (header_text g g.nodata) ≤ 400
+header_short g h =
+    let l1 = line_text (codes "ncols         ") (decimal g.terrain.cols) in
+    let l2 = line_text (codes "nrows         ") (decimal g.terrain.rows) in
+    let l3 = anchor_text (codes "xllcorner     ") (codes "xllcenter     ") g.xll in
+    let l4 = anchor_text (codes "yllcorner     ") (codes "yllcenter     ") g.yll in
+    let l5 = line_text (codes "cellsize      ") g.cellsize in
+    let l6 = line_text (codes "NODATA_value  ") g.nodata in
+    six l1 l2 l3 l4 l5 l6
+    (let e = line_length (codes "ncols         ") (decimal g.terrain.cols) in omega (arith, e, size_digits g.terrain.cols h.terrain.few_cols))
+    (let e = line_length (codes "nrows         ") (decimal g.terrain.rows) in omega (arith, e, size_digits g.terrain.rows h.terrain.few_rows))
+    (let e = anchor_length (codes "xllcorner     ") (codes "xllcenter     ") g.xll refl refl in omega (arith, e, h.xll.0))
+    (let e = anchor_length (codes "yllcorner     ") (codes "yllcenter     ") g.yll refl refl in omega (arith, e, h.yll.0))
+    (let e = line_length (codes "cellsize      ") g.cellsize in omega (arith, e, h.cellsize.0))
+    (let e = line_length (codes "NODATA_value  ") g.nodata in omega (arith, e, h.nodata.0)) where
+      six : (a b c d e f : List ℕ) → length a ≤ 19 → length b ≤ 19 → length c ≤ 79 → length d ≤ 79 → length e ≤ 79 → length f ≤ 79 → length (((((a ++ b) ++ c) ++ d) ++ e) ++ f) ≤ 400
+      six a b c d e f i j k l m n = omega (arith, i, j, k, l, m, n, length-append ((((a ++ b) ++ c) ++ d) ++ e) f, length-append (((a ++ b) ++ c) ++ d) e, length-append ((a ++ b) ++ c) d, length-append (a ++ b) c, length-append a b)
+
+cells_short : (g : Raster) → IsLawful g → length g.nodata ≤ 14 → All (λ c. length (cell_text (height_text g.scale) g.nodata c) ≤ 14) g.terrain.cells
+cells_short g h nodata = λ k d within. cell_short g h nodata (get_or g.terrain.cells k d) (h.terrain.heights k d within) where
+  cell_short : (g : Raster) → IsLawful g → length g.nodata ≤ 14 → (c : Option ℤ) → IfSome c IsHeight → length (cell_text (height_text g.scale) g.nodata c) ≤ 14
+  cell_short g h nodata None height = nodata
+  cell_short g h nodata (Some z) height = let l = height_short g.scale z h.scale (size_of_height z height) in omega (arith, l)
+
+pub text_short : (g : Raster) → IsLawful g → length g.nodata ≤ 14 → length (heights_text g) ≤ most_bytes
+text_short g h nodata =
+    let some : 0 < g.terrain.cols = omega (arith, h.terrain.some_col) in
+    let header = header_short g h in
+    let rows = rows_short (height_text g.scale) g.nodata g.terrain.cols g.terrain.rows g.terrain.cells some (h.terrain.size ∙ mul_comm g.terrain.cols g.terrain.rows) (cells_short g h nodata) in
+    let few : g.terrain.cols * g.terrain.rows ≤ 4096 * 4096 = mul-le-mul h.terrain.few_cols h.terrain.few_rows in
+    sum (header_text g g.nodata) (rows_text (height_text g.scale) g.nodata g.terrain.cols g.terrain.rows g.terrain.cells) (length g.terrain.cells) header rows (omega (arith, few, h.terrain.size)) where
+      sum : (a b : List ℕ) (n : ℕ) → length a ≤ 400 → length b ≤ 15 * n → n ≤ 16777216 → length (a ++ b) ≤ most_bytes
+      sum a b n i j k = omega (arith, i, j, k, length-append a b)

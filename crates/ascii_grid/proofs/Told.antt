@@ -1,0 +1,163 @@
+-- No fault of words is want of memory, and a word that is too long is told first.
+use Rattle.std.proofs.Common.{◌≡◌, ℕ, ◌+◌, ◌<◌, ◌≤◌, Bool, true, false, cond, nat_lt, List, [], ◌∷◌, ◌++◌, length, Option, None, Some, arith, refl, ap, sym, ◌∙◌, ◌⊎◌, inl, inr, Result, Ok, Err, MatchResult}
+use Rattle.std.proofs.lemmas.Result.{MatchResult-weaker}
+use Rattle.std.specs.Prelude.{find, option_map}
+use Rattle.std.specs.Option.{option_or, option_map_or, option_and_then}
+use Rattle.std.specs.List.{list_any}
+use Rattle.std.proofs.lemmas.Bool.{cases_Bool, cond_both, lt-ltb}
+use Rattle.std.proofs.lemmas.List.{append-nil, append_assoc}
+use Rattle.ascii_grid.specs.Words.{Word}
+use Rattle.ascii_grid.specs.Header.{fills, slot_of, is_long, is_value, bad_value, begins_with_letter, header_words, height_words, nodata_for, header_fault, key_fault, value_fault, missing_fault, required_slots}
+use Rattle.ascii_grid.specs.GridText.{AsksForCells, is_cell, cells_wanted, words_fault, whole_header_fault, heights_fault, height_fault}
+use Rattle.ascii_grid.specs.Reading.{flat, keys_before, IsHeaderOf, HasBegun, AreHeights, HasJudged, IsWordFault}
+use Rattle.ascii_grid.specs.declared.fault.Key.{Key}
+use Rattle.ascii_grid.specs.declared.fault.Key.TheVariants.{Ncols, Nrows, Xll, Yll, Cellsize, Nodata}
+use Rattle.ascii_grid.specs.declared.fault.GridFault.{GridFault}
+use Rattle.ascii_grid.specs.declared.fault.GridFault.TheVariants.{UnknownKey, RepeatedKey, MissingKey, BadSize, BadPlace, BadNodata, BadHeight, TooFew, TooMany, NoValue, TooLong, Memory}
+use Rattle.ascii_grid.specs.declared.header.Header.{Header}
+use Rattle.ascii_grid.specs.declared.judge.Stage.{Stage}
+use Rattle.ascii_grid.specs.declared.judge.Stage.TheVariants.{AtKey, AtValue, AtHeights}
+use Rattle.ascii_grid.specs.declared.judge.Judge.{Judge}
+use Rattle.ascii_grid.proofs.Judging.{Pairs, option_or-none, words_fault-key, words_fault-value, words_fault-heights, HasBegun-push, heights_fault-push}
+use Rattle.ascii_grid.proofs.JudgedWords.{at_key, at_value, at_heights, fault-height_after, first_begun, judged-height, fault-height, memory-height, fault-first}
+
+-- want of memory
+abbrev pub is_memory : Option GridFault → Bool
+is_memory None = false
+is_memory (Some Memory) = true
+is_memory (Some f) = false
+
+told_or : (o p : Option GridFault) → is_memory o ≡ false → is_memory p ≡ false → is_memory (option_or o p) ≡ false
+told_or None p h k = k
+told_or (Some f) p h k = h
+
+told_bad_value : (slot : Key) → is_memory (Some (bad_value slot)) ≡ false
+told_bad_value Ncols = refl
+told_bad_value Nrows = refl
+told_bad_value Xll = refl
+told_bad_value Yll = refl
+told_bad_value Cellsize = refl
+told_bad_value Nodata = refl
+
+told_cond : (b : Bool) (o p : Option GridFault) → is_memory o ≡ false → is_memory p ≡ false → is_memory (cond b o p) ≡ false
+told_cond true o p h k = h
+told_cond false o p h k = k
+
+told_slot : (before : List Word) (o : Option Key) → is_memory (option_map_or (λ slot. cond (list_any (fills slot) before) (Some (RepeatedKey slot)) None) o (Some UnknownKey)) ≡ false
+told_slot before None = refl
+told_slot before (Some slot) = told_cond (list_any (fills slot) before) (Some (RepeatedKey slot)) None refl refl
+
+told_key : (before : List Word) (k : Word) → is_memory (key_fault before k) ≡ false
+told_key before k = told_cond (is_long k) (Some TooLong) _ refl (told_slot before (slot_of k))
+
+told_of_slot : (v : Word) (o : Option Key) → is_memory (option_and_then (λ slot. cond (is_value slot v) None (Some (bad_value slot))) o) ≡ false
+told_of_slot v None = refl
+told_of_slot v (Some slot) = told_cond (is_value slot v) None (Some (bad_value slot)) refl (told_bad_value slot)
+
+told_value : (k v : Word) → is_memory (value_fault k v) ≡ false
+told_value k v = told_cond (is_long v) (Some TooLong) _ refl (told_of_slot v (slot_of k))
+
+pub told_header : (before header : List Word) → is_memory (header_fault before header) ≡ false
+told_header before [] = refl
+told_header before (k ∷ []) = told_key before k
+told_header before (k ∷ v ∷ rest) =
+    told_or (key_fault before k) (option_or (value_fault k v) (header_fault (k ∷ before) rest)) (told_key before k)
+    (told_or (value_fault k v) (header_fault (k ∷ before) rest) (told_value k v) (told_header (k ∷ before) rest))
+
+told_missing_slot : (o : Option Key) → is_memory (option_map MissingKey o) ≡ false
+told_missing_slot None = refl
+told_missing_slot (Some slot) = refl
+
+pub told_missing : (header : List Word) → is_memory (missing_fault header) ≡ false
+told_missing header = told_missing_slot _
+
+told_whole : (header hs : List Word) → is_memory (whole_header_fault header hs) ≡ false
+told_whole header [] = refl
+told_whole header (w ∷ rest) = told_cond (is_long w) (Some TooLong) (missing_fault header) refl (told_missing header)
+
+told_height : (d : ℕ) (nodata : Word) (wanted place : ℕ) (w : Word) → is_memory (height_fault d nodata wanted place w) ≡ false
+told_height d nodata wanted place w =
+    told_cond (is_long w) (Some TooLong) _ refl
+    (told_cond (nat_lt place wanted) _ (Some TooMany) (told_cond (is_cell d nodata w) None (Some (BadHeight place)) refl refl) refl)
+
+told_heights : (d : ℕ) (nodata : Word) (wanted place : ℕ) (hs : List Word) → is_memory (heights_fault d nodata wanted place hs) ≡ false
+told_heights d nodata wanted place [] = refl
+told_heights d nodata wanted place (w ∷ hs) =
+    told_or (height_fault d nodata wanted place w) (heights_fault d nodata wanted (place + 1) hs) (told_height d nodata wanted place w) (told_heights d nodata wanted (place + 1) hs)
+
+pub told_words : (d : ℕ) (ws : List Word) → is_memory (words_fault d ws) ≡ false
+told_words d ws =
+    told_or (header_fault [] (header_words ws)) _ (told_header [] (header_words ws))
+    (told_or (whole_header_fault (header_words ws) (height_words ws)) _ (told_whole (header_words ws) (height_words ws))
+    (told_heights d (nodata_for (header_words ws)) (cells_wanted (header_words ws)) 0 (height_words ws)))
+
+never_memory : (o : Option GridFault) → is_memory o ≡ false → o ≡ Some Memory → ⊥
+never_memory o h e = let k : is_memory o ≡ true = ap is_memory e in cc
+
+-- a fault of words as the fault that is answered
+pub word_fault : (d : ℕ) (ws : List Word) (f : GridFault) → words_fault d ws ≡ Some f → IsWordFault d ws f
+word_fault d ws UnknownKey h = h
+word_fault d ws (RepeatedKey slot) h = h
+word_fault d ws (MissingKey slot) h = h
+word_fault d ws (BadSize slot) h = h
+word_fault d ws (BadPlace slot) h = h
+word_fault d ws BadNodata h = h
+word_fault d ws (BadHeight place) h = h
+word_fault d ws (TooFew n) h = h
+word_fault d ws TooMany h = h
+word_fault d ws (NoValue slot) h = h
+word_fault d ws TooLong h = h
+word_fault d ws Memory h = absurd (never_memory (words_fault d ws) (told_words d ws) h)
+
+pub memory_fault : (d : ℕ) (ws : List Word) (f : GridFault) → f ≡ Memory → AsksForCells ws × (0 < length (height_words ws)) → IsWordFault d ws f
+memory_fault d ws f e h = rw e h
+
+-- a word of more than 64 bytes
+pub long_fault : (j : Judge) (ws : List Word) (w : Word) → HasJudged j ws → 64 < length w → words_fault j.scale (ws ++ w ∷ []) ≡ Some TooLong
+long_fault j ws w h far = by_stage j.stage refl
+  where
+    long : is_long w ≡ true
+    long = lt-ltb 64 (length w) far
+    by_stage : (s : Stage) → j.stage ≡ s → words_fault j.scale (ws ++ w ∷ []) ≡ Some TooLong
+    by_stage AtKey e =
+        elim (cases_Bool (begins_with_letter w)) [
+          | inl letter ↦
+            ap (λ z. words_fault j.scale (z ++ w ∷ [])) (at_key j ws h e)
+            ∙ words_fault-key j.scale h.pairs w h.header.keys h.header.faultless letter
+            ∙ rw long refl
+          | inr begun ↦
+            ap (λ z. words_fault j.scale (z ++ w ∷ [])) (at_key j ws h e)
+            ∙ words_fault-heights j.scale h.pairs (w ∷ []) h.header.keys h.header.faultless begun
+            ∙ rw long refl
+        ]
+    by_stage (AtValue slot centre) e =
+        let there = at_value j ws h slot centre e in
+        ap (λ z. words_fault j.scale (z ++ w ∷ [])) there.1
+        ∙ ap (words_fault j.scale) (append_assoc (flat h.pairs) (there.0 ∷ []) (w ∷ []))
+        ∙ words_fault-value j.scale h.pairs there.0 w h.header.keys h.header.faultless there.2.letter there.2.faultless
+        ∙ rw long refl
+    by_stage AtHeights e =
+        let there = at_heights j ws h e in
+        fault-height_after j ws h.pairs h.rest w TooLong j.header h.header h.words (HasBegun-push h.rest w there.0) there.1
+        (first_begun h.pairs j.scale j.nodata j.wanted h.rest w there.0 there.1.whole there.1.faultless) (rw long refl)
+
+-- a height, the first or a further one
+pub height_word : {T : Type 0} (j j' : Judge) (ws : List Word) (ps : Pairs) (hs : List Word) (w : Word) (r : Result T GridFault) → IsHeaderOf j.header ps → ws ≡ flat ps ++ hs → HasBegun (hs ++ w ∷ []) → AreHeights j ps hs → length w ≤ 64 → j'.header ≡ j.header → j'.stage ≡ AtHeights → MatchResult r (λ _. AreHeights j' ps (hs ++ w ∷ [])) (λ f. (f ≡ Memory) ⊎ (height_fault j.scale j.nodata j.wanted (length hs) w ≡ Some f)) → MatchResult r (λ _. HasJudged j' (ws ++ w ∷ [])) (IsWordFault j.scale (ws ++ w ∷ []))
+height_word j j' ws ps hs w r k e begun heights short same stage m =
+    MatchResult-weaker r m (λ _ more. judged-height j j' ws ps hs w k e begun more same stage)
+    (λ f why. elim why [
+      | inl lack ↦ memory_fault j.scale (ws ++ w ∷ []) f lack (memory-height j ws ps hs w j.header k e begun heights.whole heights.faultless short)
+      | inr fault ↦ word_fault j.scale (ws ++ w ∷ []) f (fault-height j ws ps hs w f j.header k e begun heights short fault)
+    ])
+
+-- no first height: the header isn't whole, or there is no memory
+pub no_first_height : (j : Judge) (ws : List Word) (w : Word) (f : GridFault) (h : HasJudged j ws) → j.stage ≡ AtKey → begins_with_letter w ≡ false → length w ≤ 64 → (missing_fault (flat h.pairs) ≡ Some f) ⊎ ((f ≡ Memory) × (missing_fault (flat h.pairs) ≡ None)) → IsWordFault j.scale (ws ++ w ∷ []) f
+no_first_height j ws w f h stage begun short why =
+    let e = at_key j ws h stage in
+    elim why [
+      | inl missing ↦ word_fault j.scale (ws ++ w ∷ []) f (fault-first j.scale ws h.pairs w f j.header h.header e begun short missing)
+      | inr lack ↦ memory_fault j.scale (ws ++ w ∷ []) f lack.0 (memory-height j ws h.pairs [] w j.header h.header (e ∙ sym (append-nil (flat h.pairs))) begun lack.1 refl short)
+    ]
+
+pub same_header : (h h' : Header) (ps : Pairs) → h' ≡ h → IsHeaderOf h ps → IsHeaderOf h' ps
+same_header h h' ps e k = record { keys = k.keys; faultless = k.faultless; slots = e ∙ k.slots }

@@ -1,0 +1,174 @@
+-- The end of a text: what is told there, and the grid.
+use Rattle.std.proofs.Common.{◌≡◌, ◌≢◌, ℕ, ◌+◌, ◌*◌, ◌<◌, ◌≤◌, Bool, true, false, not, ◌&&◌, ◌||◌, cond, nat_lt, nat_le, ◌==◌, List, [], ◌∷◌, ◌++◌, length, map, Option, None, Some, ℤ, arith, refl, ap, sym, ◌∙◌, subst, inl, inr}
+use Rattle.std.specs.Prelude.{find, is_some, IsSome, All, IfSome, unwrap_or, option_map, codes, int_le, ◌≤ℤ◌}
+use Rattle.std.specs.Option.{option_or, option_map_or, option_and_then}
+use Rattle.std.specs.Str.{bytes_eq}
+use Rattle.std.specs.Ordering.{int_eq}
+use Rattle.std.proofs.lemmas.Bool.Decides.{Decides-int_eq}
+use Rattle.std.proofs.lemmas.Bool.{cases_Bool, and_parts, or_parts, ltb-true, ltb-false, leb-true, eqb-true, lt-ltb, le-ltb}
+use Rattle.std.proofs.lemmas.Option.{same_Some}
+use Rattle.std.proofs.lemmas.List.{append-nil, length-map}
+use Rattle.std.proofs.lemmas.Int.{ints}
+use Rattle.std.proofs.lemmas.List.Elements.{All-cons}
+use Rattle.ascii_grid.specs.Words.{Word}
+use Rattle.ascii_grid.specs.Decimal.{number_of, is_decimal, is_above_zero, scaled_value}
+use Rattle.ascii_grid.specs.Raster.{Raster, raster, lowest, highest, IsHeight, is_height, IsTerrain, IsLawful}
+use Rattle.ascii_grid.specs.Header.{fills, slot_of, slot_number, is_long, is_size, is_value, bad_value, header_words, height_words, key_left, nodata_for, header_fault, key_fault, value_fault, missing_fault, no_value_fault}
+use Rattle.ascii_grid.specs.GridText.{AsksForCells, same_value, is_nodata, is_cell, cell_of, cells_wanted, heights_fault, height_fault, end_fault, grid_of}
+use Rattle.ascii_grid.specs.Slots.{missing_of, IsWhole, raster_of}
+use Rattle.ascii_grid.specs.Reading.{flat, given, slots_of, keys_before, IsHeaderOf, HasBegun, AreHeights, HasJudged, IsEndFault}
+use Rattle.ascii_grid.specs.declared.fault.Key.{Key}
+use Rattle.ascii_grid.specs.declared.fault.Key.TheVariants.{Ncols, Nrows, Xll, Yll, Cellsize, Nodata}
+use Rattle.ascii_grid.specs.declared.fault.GridFault.{GridFault}
+use Rattle.ascii_grid.specs.declared.fault.GridFault.TheVariants.{MissingKey, BadHeight, TooFew, TooMany, NoValue, TooLong, Memory}
+use Rattle.ascii_grid.specs.declared.header.Header.{Header}
+use Rattle.ascii_grid.specs.declared.judge.Judge.{Judge}
+use Rattle.ascii_grid.specs.declared.judge.Stage.TheVariants.{AtKey, AtValue, AtHeights}
+use Rattle.ascii_grid.proofs.Judging.{Pairs, pairs-flat, header_words-flat, height_words-flat, key_left-flat, header_words-begun, height_words-begun, is_given-slots_of, missing_of-slots_of, number-of_pair}
+use Rattle.ascii_grid.proofs.JudgedWords.{at_key, at_value, at_heights, place_of}
+
+-- ---- a header whose words have no fault
+
+or_none : {X : Type 0} (o p : Option X) → option_or o p ≡ None → (o ≡ None) × (p ≡ None)
+or_none None p h = (refl, h)
+or_none (Some x) p h = cc
+
+slot_at : ℕ → Key
+slot_at n = cond (n == 0) Ncols (cond (n == 1) Nrows (cond (n == 2) Xll (cond (n == 3) Yll (cond (n == 4) Cellsize Nodata))))
+
+slot_at-number : (slot : Key) → slot_at (slot_number slot) ≡ slot
+unfolding slot_at
+slot_at-number Ncols = refl
+slot_at-number Nrows = refl
+slot_at-number Xll = refl
+slot_at-number Yll = refl
+slot_at-number Cellsize = refl
+slot_at-number Nodata = refl
+
+fills-slot : (o : Option Key) (slot : Key) → option_map_or (λ s. slot_number s == slot_number slot) o false ≡ true → o ≡ Some slot
+fills-slot None slot h = cc
+fills-slot (Some s) slot h =
+    ap Some (sym (slot_at-number s) ∙ ap slot_at (eqb-true (slot_number s) (slot_number slot) h) ∙ slot_at-number slot)
+
+value_ok : (k v : Word) (slot : Key) → fills slot k ≡ true → value_fault k v ≡ None → (is_value slot v ≡ true) × (length v ≤ 64)
+value_ok k v slot h e =
+    let s = fills-slot (slot_of k) slot h in
+    elim (cases_Bool (is_long v)) [
+      | inl long ↦ let clash : value_fault k v ≡ Some TooLong = rw long refl in absurd (cc)
+      | inr short ↦
+        elim (cases_Bool (is_value slot v)) [
+          | inl ok ↦ (ok, ltb-false 64 (length v) short)
+          | inr bad ↦ let clash : value_fault k v ≡ Some (bad_value slot) = rw (short, s, bad) refl in absurd (cc)
+        ]
+    ]
+
+-- the value given for a slot is one
+pub valid : (before : List Word) (ps : Pairs) (slot : Key) (p : Word × Word) → header_fault before (flat ps) ≡ None → given slot ps ≡ Some p → (is_value slot p.1 ≡ true) × (length p.1 ≤ 64)
+valid before [] slot p none e = cc
+valid before (q ∷ ps) slot p none e =
+    let parts = or_none (key_fault before q.0) _ none in
+    let rest = or_none (value_fault q.0 q.1) _ parts.1 in
+    elim (cases_Bool (fills slot q.0)) [
+      | inl here ↦
+        let found : given slot (q ∷ ps) ≡ Some q = rw here refl in
+        let same : q ≡ p = same_Some q p (sym found ∙ e) in
+        subst (λ (r : Word × Word). (is_value slot r.1 ≡ true) × (length r.1 ≤ 64)) same (value_ok q.0 q.1 slot here rest.0)
+      | inr apart ↦
+        let found : given slot (q ∷ ps) ≡ given slot ps = rw apart refl in
+        valid (q.0 ∷ before) ps slot p rest.1 (sym found ∙ e)
+    ]
+
+some_of : {X : Type 0} (o : Option X) → is_some o ≡ true → (x : X) × (o ≡ Some x)
+some_of None h = cc
+some_of (Some x) h = (x, refl)
+
+given_slot : (a : Bool) (s : Key) (o : Option Key) → option_map MissingKey (cond (not a) (Some s) o) ≡ None → (a ≡ true) × (option_map MissingKey o ≡ None)
+given_slot true s o h = (refl, h)
+given_slot false s o h = cc
+
+pub IsWhole-from_missing : (h : Header) → missing_of h ≡ None → IsWhole h
+IsWhole-from_missing h none =
+    let a = given_slot (is_some h.cols) Ncols _ none in
+    let b = given_slot (is_some h.rows) Nrows _ a.1 in
+    let c = given_slot (is_some h.xll) Xll _ b.1 in
+    let d = given_slot (is_some h.yll) Yll _ c.1 in
+    let e = given_slot (is_some h.cellsize) Cellsize _ d.1 in
+    record { cols = a.0; rows = b.0; xll = c.0; yll = d.0; cellsize = e.0 }
+
+-- the value word of a required slot
+pub value_of : (ps : Pairs) (slot : Key) → header_fault [] (flat ps) ≡ None → is_some (given slot ps) ≡ true → (p : Word × Word) × (given slot ps ≡ Some p) × (is_value slot p.1 ≡ true) × (length p.1 ≤ 64)
+value_of ps slot none some =
+    let p = some_of (given slot ps) some in
+    let ok = valid [] ps slot p.0 none p.1 in
+    (p.0, p.1, ok.0, ok.1)
+
+pub size_between : (w : Word) → is_size w ≡ true → (1 ≤ number_of w) × (number_of w ≤ 4096)
+size_between w h =
+    let parts = and_parts _ (nat_le (number_of w) 4096) h in
+    let low = and_parts _ (nat_le 1 (number_of w)) parts.0 in
+    (leb-true 1 (number_of w) low.1, leb-true (number_of w) 4096 parts.1)
+
+-- ---- cells without a fault
+
+-- a scaled value that isn't NODATA's
+differs : (d : ℕ) (nodata : Word) (o : Option ℤ) (z : ℤ) → o ≡ Some z → same_value o (scaled_value d nodata) ≡ false → scaled_value d nodata ≢ Some z
+differs d nodata o z e h k =
+    let both : same_value o (scaled_value d nodata) ≡ int_eq z z = rw (e, k) refl in
+    let equal : int_eq z z ≡ true = (Decides-int_eq z z).1 refl in
+    cc
+
+le_from : (a b : ℤ) → int_le a b ≡ true → a ≤ℤ b
+le_from a b h = grind (arith, ints)
+
+height_from : (z : ℤ) → is_height z ≡ true → IsHeight z
+height_from z h =
+    let parts = and_parts (int_le lowest z) (int_le z highest) h in
+    (le_from lowest z parts.0, le_from z highest parts.1)
+
+some_ok : (d : ℕ) (nodata w : Word) (o : Option ℤ) → scaled_value d w ≡ o → is_nodata d nodata w ≡ false → is_cell d nodata w ≡ true → IfSome (cell_of d nodata w) IsHeight × IfSome (cell_of d nodata w) (λ h. scaled_value d nodata ≢ Some h)
+some_ok d nodata w None e n h = let clash : is_cell d nodata w ≡ false = rw (n, e) refl in absurd (cc)
+some_ok d nodata w (Some z) e n h =
+    let high : is_cell d nodata w ≡ is_height z = rw (n, e) refl in
+    let apart = (or_parts (bytes_eq w nodata) (same_value (scaled_value d w) (scaled_value d nodata)) n).1 in
+    let other = differs d nodata (scaled_value d w) z e apart in
+    let cell : cell_of d nodata w ≡ Some z = rw (n, e) refl in
+    rw cell (height_from z (sym high ∙ h), other)
+
+-- a word that stands for a cell has a height, apart from NODATA's value, or none
+cell_ok : (d : ℕ) (nodata w : Word) → is_cell d nodata w ≡ true → IfSome (cell_of d nodata w) IsHeight × IfSome (cell_of d nodata w) (λ h. scaled_value d nodata ≢ Some h)
+cell_ok d nodata w h =
+    elim (cases_Bool (is_nodata d nodata w)) [
+      | inl none ↦ let cell : cell_of d nodata w ≡ None = rw none refl in rw cell (tt, tt)
+      | inr some ↦ some_ok d nodata w (scaled_value d w) refl some h
+    ]
+
+-- a height without a fault
+height_ok : (d : ℕ) (nodata : Word) (wanted place : ℕ) (w : Word) → height_fault d nodata wanted place w ≡ None → (place < wanted) × (is_cell d nodata w ≡ true)
+height_ok d nodata wanted place w h =
+    elim (cases_Bool (is_long w)) [
+      | inl long ↦ let clash : height_fault d nodata wanted place w ≡ Some TooLong = rw long refl in absurd (cc)
+      | inr short ↦
+        elim (cases_Bool (nat_lt place wanted)) [
+          | inr over ↦ let clash : height_fault d nodata wanted place w ≡ Some TooMany = rw (short, over) refl in absurd (cc)
+          | inl room ↦
+            elim (cases_Bool (is_cell d nodata w)) [
+              | inl ok ↦ (ltb-true place wanted room, ok)
+              | inr bad ↦ let clash : height_fault d nodata wanted place w ≡ Some (BadHeight place) = rw (short, room, bad) refl in absurd (cc)
+            ]
+        ]
+    ]
+
+abbrev pub AreLawful : ℕ → Word → List (Option ℤ) → Type 0
+AreLawful d nodata cells = All (λ c. IfSome c IsHeight) cells × All (λ c. IfSome c (λ h. scaled_value d nodata ≢ Some h)) cells
+
+none_lawful : (d : ℕ) (nodata : Word) → AreLawful d nodata []
+none_lawful d nodata = (λ k x h. absurd (omega arith), λ k x h. absurd (omega arith))
+
+pub cells_ok : (d : ℕ) (nodata : Word) (wanted place : ℕ) (hs : List Word) → place ≤ wanted → heights_fault d nodata wanted place hs ≡ None → (place + length hs ≤ wanted) × AreLawful d nodata (map (cell_of d nodata) hs)
+cells_ok d nodata wanted place [] h none = (omega arith, none_lawful d nodata)
+cells_ok d nodata wanted place (w ∷ hs) h none =
+    let parts = or_none (height_fault d nodata wanted place w) (heights_fault d nodata wanted (place + 1) hs) none in
+    let first = height_ok d nodata wanted place w parts.0 in
+    let cell = cell_ok d nodata w first.1 in
+    let rest = cells_ok d nodata wanted (place + 1) hs (omega (arith, first.0)) parts.1 in
+    (omega (arith, rest.0), (All-cons (λ c. IfSome c IsHeight) (cell_of d nodata w) (map (cell_of d nodata) hs) cell.0 rest.1.0, All-cons (λ c. IfSome c (λ z. scaled_value d nodata ≢ Some z)) (cell_of d nodata w) (map (cell_of d nodata) hs) cell.1 rest.1.1))

@@ -1,0 +1,37 @@
+use Rattle.std.proofs.Common.{◌++◌, ◌∷◌, [], ap, sym, ◌∙◌, subst, arith, MatchResult}
+use Rattle.std.proofs.lemmas.Result.{err_from_is_err_and}
+use Rattle.std.proofs.lemmas.List.{append-nil}
+use Rattle.ascii_grid.specs.Reading.{flat, HasJudged, IsWordFault}
+use Rattle.ascii_grid.specs.declared.judge.Judge.{Judge}
+use Rattle.ascii_grid.proofs.Judging.{HasBegun-push}
+use Rattle.ascii_grid.proofs.Told.{long_fault, height_word, no_first_height, same_header}
+use Rattle.ascii_grid.proofs.JudgedWords.{at_key, at_heights}
+use Rattle.ascii_grid.proofs.judge.Judge.judge.Goals as goal
+
+pub returns-then-word-gt64-clause-word : goal.returns-then-word-gt64-clause-word
+returns-then-word-gt64-clause-word c = λ ws h. long_fault c.args.self.now ws c.args.word.now h c.if-word-gt64.true
+
+pub returns-in_err-begin_heights-in-AtKey-clause-word : goal.returns-in_err-begin_heights-in-AtKey-clause-word
+returns-in_err-begin_heights-in-AtKey-clause-word c = λ ws h.
+    let p = err_from_is_err_and c.from_residual.result c.from_residual.ensures.1 in
+    let letter = sym c.begins_with_letter.ensures ∙ c.if-begins_with_letter.false in
+    rw (p.1, p.2) (no_first_height c.args.self.now ws c.args.word.now _ h c.in-AtKey.is letter (omega arith) (c.in_err-begin_heights-in-AtKey.ensures.none h.pairs h.header))
+
+pub returns-in-AtHeights-clause-word : goal.returns-in-AtHeights-clause-word
+returns-in-AtHeights-clause-word c = λ ws h.
+    let there = at_heights c.args.self.now ws h c.in-AtHeights.is in
+    let kept = c.judge_height.ensures.kept in
+    height_word c.args.self.now c.judge_height.new.self ws h.pairs h.rest c.args.word.now c.judge_height.result h.header h.words (HasBegun-push h.rest c.args.word.now there.0) there.1 (omega arith)
+    (ap (λ (j : Judge). j.header) kept) (ap (λ (j : Judge). j.stage) kept ∙ c.in-AtHeights.is) (c.judge_height.ensures.word h.pairs h.rest there.1)
+
+pub returns-in_ok-begin_heights-in-AtKey-clause-word : goal.returns-in_ok-begin_heights-in-AtKey-clause-word
+returns-in_ok-begin_heights-in-AtKey-clause-word c = λ ws h.
+    let letter = sym c.begins_with_letter.ensures ∙ c.if-begins_with_letter.false in
+    let begun = c.in_ok-begin_heights-in-AtKey.ensures.none h.pairs h.header in
+    let began = c.in_ok-begin_heights-in-AtKey.ensures.kept in
+    let kept = c.judge_height-in-AtKey.ensures.kept in
+    let header = same_header c.args.self.now.header c.begin_heights.new.self.header h.pairs (ap (λ (j : Judge). j.header) began) h.header in
+    let words = at_key c.args.self.now ws h c.in-AtKey.is ∙ sym (append-nil (flat h.pairs)) in
+    let more = height_word c.begin_heights.new.self c.judge_height-in-AtKey.new.self ws h.pairs [] c.args.word.now c.judge_height-in-AtKey.result header words letter begun (omega arith)
+          (ap (λ (j : Judge). j.header) kept) (ap (λ (j : Judge). j.stage) kept ∙ c.in_ok-begin_heights-in-AtKey.ensures.stage) (c.judge_height-in-AtKey.ensures.word h.pairs [] begun) in
+    subst (λ d. MatchResult c.judge_height-in-AtKey.result (λ _. HasJudged c.judge_height-in-AtKey.new.self (ws ++ c.args.word.now ∷ [])) (IsWordFault d (ws ++ c.args.word.now ∷ []))) (ap (λ (j : Judge). j.scale) began) more

@@ -1,0 +1,32 @@
+use Rattle.std.proofs.Common.{◌≡◌, List, ℕ, Result, MatchResult, sym, ap, subst, ◌∙◌, None}
+use Rattle.std.specs.Prelude.{IfErr, IfOk}
+use Rattle.std.proofs.lemmas.Result.{err_from_is_err_and}
+use Rattle.ascii_grid.specs.Words.{words}
+use Rattle.ascii_grid.specs.GridText.{IsGridText, IsRefusal, words_fault, end_fault, grid_of}
+use Rattle.ascii_grid.specs.Reading.{HasTaken, IsEndFault}
+use Rattle.ascii_grid.proofs.Feeding.{answered_refusal, reading, end_refused, judged_none, finished, ok_part, err_part}
+use Rattle.ascii_grid.proofs.reader.GridReader.finish.Goals as goal
+
+pub returns-in-Some-clause-fault : goal.returns-in-Some-clause-fault
+returns-in-Some-clause-fault c = λ text h.
+    subst (λ r. IsRefusal r.scale text c.in-Some.fault) c.self.view_is (answered_refusal _ text c.in-Some.fault c.in-Some.is (subst (λ r. HasTaken r text) (sym c.self.view_is) h))
+
+pub returns-in_err-end_word-clause-fault : goal.returns-in_err-end_word-clause-fault
+returns-in_err-end_word-clause-fault c = λ text h.
+    let p = err_from_is_err_and c.from_residual.result c.from_residual.ensures.1 in
+    let k = reading _ text c.in_default.is (subst (λ r. HasTaken r text) (sym c.self.view_is) h) in
+    rw (p.1, p.2, ← c.self.view_is) (end_refused _ text _ k.short (c.in_err-end_word.ensures.words text k.words_of))
+
+pub returns-clause-fault : goal.returns-clause-fault
+returns-clause-fault c = λ text h.
+    let k = reading _ text c.in_default.is (subst (λ r. HasTaken r text) (sym c.self.view_is) h) in
+    let judged = (c.in_ok-end_word.ensures.words text k.words_of).1 in
+    let m = finished c.end_word.new.self.judge.scale text c.finish.result k.short (judged_none c.end_word.new.self.judge (words text) judged) (c.finish.ensures (words text) judged) in
+    subst (λ d. IfErr c.finish.result (λ f. IsRefusal d text f)) (c.in_ok-end_word.ensures.scale ∙ ap (λ r. r.scale) c.self.view_is) (err_part c.finish.result _ _ m)
+
+pub returns-clause-grid : goal.returns-clause-grid
+returns-clause-grid c = λ text h.
+    let k = reading _ text c.in_default.is (subst (λ r. HasTaken r text) (sym c.self.view_is) h) in
+    let judged = (c.in_ok-end_word.ensures.words text k.words_of).1 in
+    let m = finished c.end_word.new.self.judge.scale text c.finish.result k.short (judged_none c.end_word.new.self.judge (words text) judged) (c.finish.ensures (words text) judged) in
+    subst (λ d. IfOk c.finish.result (λ g. IsGridText d text g)) (c.in_ok-end_word.ensures.scale ∙ ap (λ r. r.scale) c.self.view_is) (ok_part c.finish.result _ _ m)

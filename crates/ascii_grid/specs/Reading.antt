@@ -1,0 +1,134 @@
+-- What a reader keeps of the text that it was fed. None of this is part of what a text means: a new reader has it of no
+-- text, a piece keeps it, and at the end it turns into the definitions of GridText.
+use Rattle.std.specs.Prelude.{◌≡◌, ℕ, ◌+◌, ◌*◌, ◌<◌, ◌≤◌, Bool, true, false, ◌||◌, List, [], ◌∷◌, ◌++◌, map, filter, find, length, take, codes, ℤ, Option, None, Some, option_map, MatchOption, Result, MatchResult}
+use Rattle.std.specs.List.{slice_split, list_all}
+use Rattle.ascii_grid.specs.Words.{Word, is_word, is_separator, ended_words}
+use Rattle.ascii_grid.specs.Decimal.{number_of, scaled_value}
+use Rattle.ascii_grid.specs.Header.{fills, slot_of, is_key, begins_with_letter, header_words, height_words, header_fault, key_fault, missing_fault, nodata_for}
+use Rattle.ascii_grid.specs.GridText.{AsksForCells, cell_of, cells_wanted, words_fault, heights_fault, end_fault, grid_of, fault_so_far, IsRefusalSoFar, most_bytes}
+use Rattle.ascii_grid.specs.Slots.{anchor_at, is_given}
+use Rattle.ascii_grid.specs.Raster.{Raster}
+use Rattle.ascii_grid.specs.declared.fault.Key.{Key}
+use Rattle.ascii_grid.specs.declared.fault.Key.TheVariants.{Ncols, Nrows, Xll, Yll, Cellsize, Nodata}
+use Rattle.ascii_grid.specs.declared.fault.GridFault.{GridFault}
+use Rattle.ascii_grid.specs.declared.fault.GridFault.TheVariants.{Memory}
+use Rattle.ascii_grid.specs.declared.header.Header.{Header}
+use Rattle.ascii_grid.specs.declared.judge.Stage.{Stage}
+use Rattle.ascii_grid.specs.declared.judge.Stage.TheVariants.{AtKey, AtValue, AtHeights}
+use Rattle.ascii_grid.specs.declared.judge.Judge.{Judge}
+use Rattle.ascii_grid.specs.declared.progress.Progress.{Progress}
+
+-- The words of pairs.
+abbrev pub flat : List (Word × Word) → List Word
+flat [] = []
+flat (p ∷ ps) = p.0 ∷ p.1 ∷ flat ps
+
+-- The first pair for a slot.
+abbrev pub given : Key → List (Word × Word) → Option (Word × Word)
+given slot ps = find (λ (p : Word × Word). fills slot p.0) ps
+
+abbrev pub is_centre : Word → Bool
+is_centre k = is_key (codes "xllcenter") k || is_key (codes "yllcenter") k
+
+-- The slots that these pairs fill.
+abbrev pub slots_of : List (Word × Word) → Header
+slots_of ps = record {
+  cols = option_map (λ (p : Word × Word). number_of p.1) (given Ncols ps);
+  rows = option_map (λ (p : Word × Word). number_of p.1) (given Nrows ps);
+  xll = option_map (λ (p : Word × Word). anchor_at (is_centre p.0) p.1) (given Xll ps);
+  yll = option_map (λ (p : Word × Word). anchor_at (is_centre p.0) p.1) (given Yll ps);
+  cellsize = option_map (λ (p : Word × Word). p.1) (given Cellsize ps);
+  nodata = option_map (λ (p : Word × Word). p.1) (given Nodata ps);
+}
+
+-- The keys of pairs, before other keys, the last first.
+abbrev pub keys_before : List (Word × Word) → List Word → List Word
+keys_before [] before = before
+keys_before (p ∷ ps) before = keys_before ps (p.0 ∷ before)
+
+-- The slots are those of these pairs, which have no fault.
+pub record IsHeaderOf (h : Header) (ps : List (Word × Word)) : Type 0 where
+  pub keys : list_all (λ (p : Word × Word). begins_with_letter p.0) ps ≡ true
+  pub faultless : header_fault [] (flat ps) ≡ None
+  pub slots : h ≡ slots_of ps
+
+-- A key word after these pairs, for this slot.
+pub record AwaitsValue (ps : List (Word × Word)) (k : Word) (slot : Key) (centre : Bool) : Type 0 where
+  pub letter : begins_with_letter k ≡ true
+  pub faultless : key_fault (keys_before ps []) k ≡ None
+  pub slot_is : slot_of k ≡ Some slot
+  pub centre_is : centre ≡ is_centre k
+  pub free : is_given (slots_of ps) slot ≡ false
+
+-- The first height has come: no further word is a key.
+abbrev pub HasBegun : List Word → Type 0
+HasBegun [] = ⊥
+HasBegun (h ∷ rest) = begins_with_letter h ≡ false
+
+-- The heights so far after these pairs.
+pub record AreHeights (j : Judge) (ps : List (Word × Word)) (hs : List Word) : Type 0 where
+  pub whole : missing_fault (flat ps) ≡ None
+  pub wanted : j.wanted ≡ cells_wanted (flat ps)
+  pub nodata : j.nodata ≡ nodata_for (flat ps)
+  pub value : j.nodata_value ≡ scaled_value j.scale j.nodata
+  pub faultless : heights_fault j.scale j.nodata j.wanted 0 hs ≡ None
+  pub cells : j.cells.items ≡ map (cell_of j.scale j.nodata) hs
+
+-- The words after the pairs of the header.
+abbrev pub IsAt : Judge → List (Word × Word) → List Word → Stage → Type 0
+IsAt j ps rest AtKey = rest ≡ []
+IsAt j ps rest (AtValue slot centre) = (k : Word) × (rest ≡ k ∷ []) × AwaitsValue ps k slot centre
+IsAt j ps rest AtHeights = HasBegun rest × AreHeights j ps rest
+
+-- These words were judged, and have no fault.
+pub record HasJudged (j : Judge) (ws : List Word) : Type 0 where
+  pub pairs : List (Word × Word)
+  pub rest : List Word
+  pub words : ws ≡ flat pairs ++ rest
+  pub header : IsHeaderOf j.header pairs
+  pub at : IsAt j pairs rest j.stage
+
+-- The first fault of words, or want of memory at the first height.
+abbrev pub IsWordFault : ℕ → List Word → GridFault → Type 0
+IsWordFault d ws Memory = AsksForCells ws × (0 < length (height_words ws))
+IsWordFault d ws fault = words_fault d ws ≡ Some fault
+
+-- What the end of the text tells, or want of memory before a first height.
+abbrev pub IsEndFault : List Word → GridFault → Type 0
+IsEndFault ws Memory = AsksForCells ws
+IsEndFault ws fault = end_fault ws ≡ Some fault
+
+-- The words that a separator has ended, and what follows the last separator.
+pub record IsParted (text : List ℕ) (ws : List Word) (w : Word) : Type 0 where
+  pub parts : List Word
+  pub split : slice_split is_separator text ≡ parts ++ w ∷ []
+  pub kept : filter is_word parts ≡ ws
+  pub ended : ended_words text ≡ ws
+
+-- The ended words of this text were judged, and of the word in progress this is kept.
+pub record HasWords (p : Progress) (text : List ℕ) : Type 0 where
+  pub ended : List Word
+  pub last : Word
+  pub parted : IsParted text ended last
+  pub judged : HasJudged p.judge ended
+  pub front : p.word ≡ take 65 last
+
+-- What a reader keeps: its words, how many bytes it has taken, and the fault that it has answered.
+pub record Reading : Type 0 where
+  pub scale : ℕ
+  pub words : Progress
+  pub count : ℕ
+  pub fault : Option GridFault
+
+-- No fault has come, and this is kept of the text.
+pub record IsReading (r : Reading) (text : List ℕ) : Type 0 where
+  pub words_of : HasWords r.words text
+  pub same_scale : r.words.judge.scale ≡ r.scale
+  pub size : r.count ≡ length text
+  pub short : length text ≤ most_bytes
+
+-- The reader was fed this text, or has answered a fault of a front of it.
+abbrev pub HasTaken : Reading → List ℕ → Type 0
+HasTaken r text =
+    MatchOption r.fault (IsReading r text)
+    (λ f. (front : List ℕ) × (more : List ℕ) × (text ≡ front ++ more) × IsRefusalSoFar r.scale front f)

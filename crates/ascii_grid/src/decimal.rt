@@ -1,0 +1,203 @@
+// Decimal texts, and the whole numbers that they stand for at a scale.
+ghost use Rattle.std.specs.Prelude.{◌≡◌, IfSome, ℤ, pos, neg_ℤ, ◌≤◌, not, ℕ, ◌+◌, ◌*◌, ◌-◌, ◌^◌, ◌++◌, ◌&&◌, ◌==◌, nat_le, take, drop, replicate, min, fold, if◌then◌else◌, Option, Some, None};
+ghost use Rattle.std.specs.List.{before_first, after_first, position, list_all, list_any};
+ghost use Rattle.std.specs.Char.{is_ascii_digit};
+ghost use Rattle.ascii_grid.specs.Decimal.{without_sign, is_negative, is_point, is_exponent_mark, has_exponent, are_digits, is_decimal, is_above_zero, number_of, scaled_value};
+ghost use Rattle.ascii_grid.specs.Header.{is_size};
+
+/// One more than the greatest scaled value: numbers above it are kept as this.
+const OVER: u64 = 1_000_000_000_000_000_001;
+
+/// Whether the word is a decimal text.
+pub(crate) fn is_decimal(word: &[u8]) -> bool
+    ensures { result ≡ is_decimal word.now }
+{
+    let (mantissa, _) = round_exponent(without_sign(word));
+    let (whole, fraction) = round_point(mantissa);
+    let (_, exponent) = round_exponent(word);
+    are_digits_in_all(whole, fraction) && (!has_exponent(word) || are_digits(without_sign(exponent)))
+}
+
+/// Whether a decimal text is above zero.
+pub(crate) fn is_above_zero(word: &[u8]) -> bool
+    ensures { result ≡ is_above_zero word.now }
+{
+    let (mantissa, _) = round_exponent(without_sign(word));
+    let (whole, fraction) = round_point(mantissa);
+    !is_negative(word) && (has_other_than_zero(whole) || has_other_than_zero(fraction))
+}
+
+/// A number of columns or rows: digits, from 1 to 4,096.
+pub(crate) fn size(word: &[u8]) -> Option<u16>
+    ensures { result ≡ (if is_size word.now then Some (number_of word.now) else None) }
+{
+    if !are_digits(word) {
+        return None;
+    }
+    let number = digits_after(0, word);
+    if 1 <= number && number <= 4096 {
+        Some(number as u16)
+    } else {
+        None
+    }
+}
+
+/// The word times 10^scale, where it is a whole number from -10^18 to 10^18.
+pub(crate) fn scaled_value(scale: u8, word: &[u8]) -> Option<i64>
+    ensures { result ≡ scaled_value scale word.now }
+{
+    if has_exponent(word) {
+        return None;
+    }
+    let (whole, fraction) = round_point(without_sign(word));
+    if !are_digits_in_all(whole, fraction) {
+        return None;
+    }
+    let size = scaled_size(scale, whole, fraction)?;
+    Some(signed(is_negative(word), size))
+}
+
+fn without_sign(word: &[u8]) -> &[u8]
+    ensures { result.now ≡ without_sign word.now }
+{
+    match word {
+        [b'+' | b'-', rest @ ..] => rest,
+        _ => word,
+    }
+}
+
+fn is_negative(word: &[u8]) -> bool
+    ensures { result ≡ is_negative word.now }
+{
+    matches!(word, [b'-', ..])
+}
+
+fn is_exponent_mark(b: u8) -> bool
+    ensures { result ≡ is_exponent_mark b }
+{
+    b == b'e' || b == b'E'
+}
+
+fn has_exponent(word: &[u8]) -> bool
+    ensures { result ≡ has_exponent word.now }
+{
+    word.iter().any(|b| is_exponent_mark(*b))
+}
+
+// What stands before and after the first mark of an exponent.
+fn round_exponent(word: &[u8]) -> (&[u8], &[u8])
+    ensures before { result.0.now ≡ before_first is_exponent_mark word.now }
+    ensures after { result.1.now ≡ after_first is_exponent_mark word.now }
+{
+    match exponent_at(word) {
+        Some(at) => (&word[..at], &word[at + 1..]),
+        None => (word, &word[word.len()..]),
+    }
+}
+
+fn exponent_at(word: &[u8]) -> Option<usize>
+    ensures { result ≡ position is_exponent_mark word.now }
+{
+    word.iter().position(|b| is_exponent_mark(*b))
+}
+
+// What stands before and after the first point.
+fn round_point(word: &[u8]) -> (&[u8], &[u8])
+    ensures before { result.0.now ≡ before_first is_point word.now }
+    ensures after { result.1.now ≡ after_first is_point word.now }
+{
+    match point_at(word) {
+        Some(at) => (&word[..at], &word[at + 1..]),
+        None => (word, &word[word.len()..]),
+    }
+}
+
+fn point_at(word: &[u8]) -> Option<usize>
+    ensures { result ≡ position is_point word.now }
+{
+    word.iter().position(|b| *b == b'.')
+}
+
+fn are_digits(bytes: &[u8]) -> bool
+    ensures { result ≡ are_digits bytes.now }
+{
+    !bytes.is_empty() && all_digits(bytes)
+}
+
+fn are_digits_in_all(whole: &[u8], fraction: &[u8]) -> bool
+    ensures { result ≡ are_digits (whole.now ++ fraction.now) }
+{
+    if whole.is_empty() {
+        are_digits(fraction)
+    } else {
+        all_digits(whole) && all_digits(fraction)
+    }
+}
+
+fn all_digits(bytes: &[u8]) -> bool
+    ensures { result ≡ list_all is_ascii_digit bytes.now }
+{
+    bytes.iter().all(|b| b.is_ascii_digit())
+}
+
+fn only_zeros(bytes: &[u8]) -> bool
+    ensures { result ≡ list_all (λ b. b == 48) bytes.now }
+{
+    bytes.iter().all(|b| *b == b'0')
+}
+
+fn has_other_than_zero(bytes: &[u8]) -> bool
+    ensures { result ≡ list_any (λ b. not (b == 48)) bytes.now }
+{
+    bytes.iter().any(|b| *b != b'0')
+}
+
+// The digits that count at the scale, as a number of at most 10^18. Behind them only 0 may stand.
+fn scaled_size(scale: u8, whole: &[u8], fraction: &[u8]) -> Option<u64>
+    ensures small { IfSome result (λ size. size ≤ 10 ^ 18) }
+    ensures value { result ≡ (if list_all (λ b. b == 48) (drop scale fraction.now)
+            && nat_le (number_of (whole.now ++ take scale (fraction.now ++ replicate scale 48))) (10 ^ 18)
+        then Some (number_of (whole.now ++ take scale (fraction.now ++ replicate scale 48))) else None) }
+{
+    let kept = usize::from(scale).min(fraction.len());
+    if !only_zeros(&fraction[kept..]) {
+        return None;
+    }
+    let number = digits_after(digits_after(0, whole), &fraction[..kept]);
+    let size = zeros_after(number, usize::from(scale) - kept);
+    (size < OVER).then_some(size)
+}
+
+fn signed(negative: bool, size: u64) -> i64
+    requires { size ≤ 10 ^ 18 }
+    ensures { result ≡ (if negative then neg_ℤ (pos size) else pos size) }
+{
+    let value = size as i64;
+    if negative { -value } else { value }
+}
+
+// The same with so many zeros behind it.
+fn zeros_after(number: u64, zeros: usize) -> u64
+    requires { number ≤ OVER }
+    ensures small { result ≤ OVER }
+    ensures value { (n : ℕ) → number ≡ min n OVER → result ≡ min (fold (λ n b. 10 * n + (b - 48)) n (replicate zeros 48)) OVER }
+{
+    let mut value = number;
+    for _ in 0..zeros {
+        value = (10 * value).min(OVER);
+    }
+    value
+}
+
+// The number that these digits make after a number's own, not above OVER.
+fn digits_after(number: u64, digits: &[u8]) -> u64
+    requires { number ≤ OVER }
+    ensures small { result ≤ OVER }
+    ensures value { (n : ℕ) → number ≡ min n OVER → result ≡ min (fold (λ n b. 10 * n + (b - 48)) n digits.now) OVER }
+{
+    let mut value = number;
+    for b in digits {
+        value = (10 * value + u64::from(b.saturating_sub(b'0'))).min(OVER);
+    }
+    value
+}

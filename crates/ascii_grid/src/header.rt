@@ -1,0 +1,179 @@
+// The slots of a header.
+ghost use Rattle.std.specs.Prelude.{◌≡◌, ◌≤◌, ◌*◌, length, true, false, Option, Some, None, IfOk, IfErr, MatchOption, unwrap_or, codes, if◌then◌else◌};
+ghost use Rattle.ascii_grid.specs.Decimal.{is_decimal};
+ghost use Rattle.ascii_grid.specs.Header.{is_value, bad_value, slot_of};
+ghost use Rattle.ascii_grid.specs.Slots.{no_slots, is_given, with_value, missing_of, wanted_of, IsWhole, raster_of};
+ghost use Rattle.ascii_grid.specs.Raster.{IsLawful};
+
+use crate::decimal::{is_above_zero, is_decimal, size};
+use crate::fault::{GridFault, Key};
+use crate::grid::{Anchor, Grid, GridHeader};
+use crate::key::slot_of;
+use crate::place::Height;
+use crate::word::Word;
+
+/// What a header has given so far.
+#[derive(Drop)]
+pub(crate) struct Header {
+    pub(crate) cols: Option<u16>,
+    pub(crate) rows: Option<u16>,
+    pub(crate) xll: Option<Anchor>,
+    pub(crate) yll: Option<Anchor>,
+    pub(crate) cellsize: Option<Word>,
+    pub(crate) nodata: Option<Word>,
+}
+
+impl Header {
+    pub(crate) fn new() -> Self
+        ensures { result ≡ no_slots }
+    {
+        Header {
+            cols: None,
+            rows: None,
+            xll: None,
+            yll: None,
+            cellsize: None,
+            nodata: None,
+        }
+    }
+
+    /// The slot of a key word that isn't given yet.
+    pub(crate) fn slot_for(&self, word: &[u8]) -> Result<Key, GridFault>
+        ensures ok { IfOk result (λ slot. (slot_of word.now ≡ Some slot) × (is_given self.now slot ≡ false)) }
+        ensures err { IfErr result (λ f. MatchOption (slot_of word.now) (f ≡ GridFault.UnknownKey)
+            (λ slot. (is_given self.now slot ≡ true) × (f ≡ GridFault.RepeatedKey slot))) }
+    {
+        let Some(slot) = slot_of(word) else {
+            return Err(GridFault::UnknownKey);
+        };
+        if self.is_given(slot) {
+            return Err(GridFault::RepeatedKey(slot));
+        }
+        Ok(slot)
+    }
+
+    fn is_given(&self, slot: Key) -> bool
+        ensures { result ≡ is_given self.now slot }
+    {
+        match slot {
+            Key::Ncols => self.cols.is_some(),
+            Key::Nrows => self.rows.is_some(),
+            Key::Xll => self.xll.is_some(),
+            Key::Yll => self.yll.is_some(),
+            Key::Cellsize => self.cellsize.is_some(),
+            Key::Nodata => self.nodata.is_some(),
+        }
+    }
+
+    /// Fills a slot.
+    pub(crate) fn put(&mut self, slot: Key, centre: bool, word: &[u8]) -> Result<(), GridFault>
+        requires { length word.now ≤ 64 }
+        ensures ok { IfOk result (λ _. (is_value slot word.now ≡ true)
+            × (self.new ≡ with_value self.old slot centre word.now)) }
+        ensures err { IfErr result (λ f. (is_value slot word.now ≡ false) × (f ≡ bad_value slot)) }
+    {
+        match slot {
+            Key::Ncols => {
+                let Some(cols) = size(word) else {
+                    return Err(GridFault::BadSize(Key::Ncols));
+                };
+                self.cols = Some(cols);
+            }
+            Key::Nrows => {
+                let Some(rows) = size(word) else {
+                    return Err(GridFault::BadSize(Key::Nrows));
+                };
+                self.rows = Some(rows);
+            }
+            Key::Xll => {
+                let Some(word) = decimal(word) else {
+                    return Err(GridFault::BadPlace(Key::Xll));
+                };
+                self.xll = Some(Anchor { centre, word });
+            }
+            Key::Yll => {
+                let Some(word) = decimal(word) else {
+                    return Err(GridFault::BadPlace(Key::Yll));
+                };
+                self.yll = Some(Anchor { centre, word });
+            }
+            Key::Cellsize => {
+                if !is_decimal(word) || !is_above_zero(word) {
+                    return Err(GridFault::BadPlace(Key::Cellsize));
+                }
+                self.cellsize = Some(Word::from_bytes(word));
+            }
+            Key::Nodata => {
+                let Some(word) = decimal(word) else {
+                    return Err(GridFault::BadNodata);
+                };
+                self.nodata = Some(word);
+            }
+        }
+        Ok(())
+    }
+
+    /// The NODATA word, `-9999` where none is given.
+    pub(crate) fn nodata_word(&self) -> Word
+        ensures { result ≡ unwrap_or self.now.nodata (codes "-9999") }
+    {
+        match &self.nodata {
+            Some(word) => word.copy(),
+            None => Word::from_bytes(b"-9999"),
+        }
+    }
+
+    /// The grid with these slots and cells.
+    pub(crate) fn into_grid(self, scale: u8, nodata: Word, cells: Vec<Option<Height>>) -> Grid
+        requires whole { IsWhole self }
+        requires lawful { IsLawful (raster_of self scale nodata cells.items) }
+        ensures { result ≡ raster_of self scale nodata cells.items }
+    {
+        let Header { cols, rows, xll, yll, cellsize, nodata: _ } = self;
+        let header = GridHeader {
+            cols: u32::from(cols.unwrap()),
+            rows: u32::from(rows.unwrap()),
+            xll: xll.unwrap(),
+            yll: yll.unwrap(),
+            cellsize: cellsize.unwrap(),
+            nodata,
+        };
+        Grid::from_parts(header, scale, cells)
+    }
+
+    /// How many cells the header wants, where no required slot is missing.
+    pub(crate) fn cells_wanted(&self) -> Result<u32, GridFault>
+        ensures ok { IfOk result (λ n. (missing_of self.now ≡ None) × (n ≡ wanted_of self.now)) }
+        ensures err { IfErr result (λ f. missing_of self.now ≡ Some f) }
+    {
+        let Some(cols) = self.cols else {
+            return Err(GridFault::MissingKey(Key::Ncols));
+        };
+        let Some(rows) = self.rows else {
+            return Err(GridFault::MissingKey(Key::Nrows));
+        };
+        if self.xll.is_none() {
+            return Err(GridFault::MissingKey(Key::Xll));
+        }
+        if self.yll.is_none() {
+            return Err(GridFault::MissingKey(Key::Yll));
+        }
+        if self.cellsize.is_none() {
+            return Err(GridFault::MissingKey(Key::Cellsize));
+        }
+        Ok(cell_count(cols, rows))
+    }
+}
+
+fn cell_count(cols: u16, rows: u16) -> u32
+    ensures { result ≡ cols * rows }
+{
+    u32::from(cols) * u32::from(rows)
+}
+
+fn decimal(word: &[u8]) -> Option<Word>
+    requires { length word.now ≤ 64 }
+    ensures { result ≡ (if is_decimal word.now then Some word.now else None) }
+{
+    is_decimal(word).then_some(Word::from_bytes(word))
+}

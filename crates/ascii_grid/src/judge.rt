@@ -1,0 +1,173 @@
+// The words of a text, judged one after another.
+ghost use Rattle.std.specs.Prelude.{◌≡◌, ◌≤◌, ◌<◌, ◌⊎◌, ◌++◌, [], ◌∷◌, List, length, true, false, Option, Some, None, Err, IfOk, IfErr, MatchResult};
+ghost use Rattle.ascii_grid.specs.Words.{Word};
+ghost use Rattle.ascii_grid.specs.Header.{begins_with_letter, missing_fault};
+ghost use Rattle.ascii_grid.specs.GridText.{height_fault, end_fault, grid_of};
+ghost use Rattle.ascii_grid.specs.Reading.{flat, IsHeaderOf, AreHeights, HasJudged, IsWordFault, IsEndFault};
+
+use crate::cell::cell;
+use crate::decimal::scaled_value;
+use crate::fault::{GridFault, Key};
+use crate::grid::Grid;
+use crate::header::Header;
+use crate::key::{begins_with_letter, names_centre};
+use crate::place::Height;
+use crate::word::Word;
+use std::alloc::Global;
+
+/// What the next word is.
+#[derive(Clone, Copy)]
+pub(crate) enum Stage {
+    /// A key, or the first height.
+    AtKey,
+    /// The value of this slot. The key names a centre, or not.
+    AtValue(Key, bool),
+    /// A height.
+    AtHeights,
+}
+
+/// What is kept of the words so far.
+#[derive(Drop)]
+pub(crate) struct Judge {
+    alloc: Global,
+    scale: u8,
+    header: Header,
+    stage: Stage,
+    wanted: u32,
+    nodata: Word,
+    nodata_value: Option<i64>,
+    cells: Vec<Option<Height>>,
+}
+
+impl Judge {
+    pub(crate) fn new(alloc: Global, scale: u8) -> Self
+        ensures scale { result.scale ≡ scale }
+        ensures none { HasJudged result [] }
+    {
+        Judge {
+            alloc,
+            scale,
+            header: Header::new(),
+            stage: Stage::AtKey,
+            wanted: 0,
+            nodata: Word::from_bytes(b""),
+            nodata_value: None,
+            cells: Vec::new(alloc),
+        }
+    }
+
+    /// Judges the next word.
+    pub(crate) fn judge(&mut self, word: &[u8]) -> Result<(), GridFault>
+        ensures scale { self.new.scale ≡ self.old.scale }
+        ensures long { 64 < length word.now → result ≡ Err GridFault.TooLong }
+        ensures word { (ws : List Word) → HasJudged self.old ws → MatchResult result
+            (λ _. HasJudged self.new (ws ++ word.now ∷ []))
+            (IsWordFault self.old.scale (ws ++ word.now ∷ [])) }
+    {
+        if word.len() > 64 {
+            return Err(GridFault::TooLong);
+        }
+        match self.stage {
+            Stage::AtHeights => self.judge_height(word),
+            Stage::AtValue(slot, centre) => self.judge_value(slot, centre, word),
+            Stage::AtKey => {
+                if begins_with_letter(word) {
+                    return self.judge_key(word);
+                }
+                self.begin_heights()?;
+                self.judge_height(word)
+            }
+        }
+    }
+
+    /// The grid that the words spell.
+    pub(crate) fn finish(mut self) -> Result<Grid, GridFault>
+        requires judged { (ws : List Word) × HasJudged self ws }
+        requires scale { self.scale ≤ 6 }
+        ensures { (ws : List Word) → HasJudged self ws → MatchResult result
+            (λ g. (end_fault ws ≡ None) × (g ≡ grid_of self.scale ws)) (IsEndFault ws) }
+    {
+        match self.stage {
+            Stage::AtValue(slot, _) => Err(GridFault::NoValue(slot)),
+            Stage::AtKey => {
+                self.begin_heights()?;
+                Err(GridFault::TooFew(0))
+            }
+            Stage::AtHeights => {
+                let place = self.cells.len();
+                if place < self.wanted as usize {
+                    return Err(GridFault::TooFew(place as u32));
+                }
+                Ok(self.header.into_grid(self.scale, self.nodata, self.cells))
+            }
+        }
+    }
+
+    fn judge_key(&mut self, word: &[u8]) -> Result<(), GridFault>
+        requires short { length word.now ≤ 64 }
+        requires letter { begins_with_letter word.now ≡ true }
+        requires stage { self.old.stage ≡ Stage.AtKey }
+        ensures scale { self.new.scale ≡ self.old.scale }
+        ensures word { (ws : List Word) → HasJudged self.old ws → MatchResult result
+            (λ _. HasJudged self.new (ws ++ word.now ∷ []))
+            (IsWordFault self.old.scale (ws ++ word.now ∷ [])) }
+    {
+        let slot = self.header.slot_for(word)?;
+        self.stage = Stage::AtValue(slot, names_centre(word));
+        Ok(())
+    }
+
+    fn judge_value(&mut self, slot: Key, centre: bool, word: &[u8]) -> Result<(), GridFault>
+        requires short { length word.now ≤ 64 }
+        requires stage { self.old.stage ≡ Stage.AtValue slot centre }
+        ensures scale { self.new.scale ≡ self.old.scale }
+        ensures word { (ws : List Word) → HasJudged self.old ws → MatchResult result
+            (λ _. HasJudged self.new (ws ++ word.now ∷ []))
+            (IsWordFault self.old.scale (ws ++ word.now ∷ [])) }
+    {
+        self.header.put(slot, centre, word)?;
+        self.stage = Stage::AtKey;
+        Ok(())
+    }
+
+    // Asks for the memory of the cells.
+    fn begin_heights(&mut self) -> Result<(), GridFault>
+        ensures kept { self.new ≡ record self.old { stage = self.new.stage; wanted = self.new.wanted; nodata = self.new.nodata; nodata_value = self.new.nodata_value; cells = self.new.cells } }
+        ensures stage { IfOk result (λ _. self.new.stage ≡ Stage.AtHeights) }
+        ensures none { (ps : List (Word × Word)) → IsHeaderOf self.old.header ps → MatchResult result
+            (λ _. AreHeights self.new ps [])
+            (λ f. (missing_fault (flat ps) ≡ Some f)
+                ⊎ ((f ≡ GridFault.Memory) × (missing_fault (flat ps) ≡ None))) }
+    {
+        self.wanted = self.header.cells_wanted()?;
+        self.nodata = self.header.nodata_word();
+        self.nodata_value = scaled_value(self.scale, self.nodata.as_bytes());
+        let Ok(cells) = Vec::with_capacity(self.alloc, self.wanted as usize) else {
+            return Err(GridFault::Memory);
+        };
+        self.cells = cells;
+        self.stage = Stage::AtHeights;
+        Ok(())
+    }
+
+    fn judge_height(&mut self, word: &[u8]) -> Result<(), GridFault>
+        requires { length word.now ≤ 64 }
+        ensures kept { self.new ≡ record self.old { cells = self.new.cells } }
+        ensures word { (ps : List (Word × Word)) (hs : List Word) → AreHeights self.old ps hs →
+            MatchResult result (λ _. AreHeights self.new ps (hs ++ word.now ∷ []))
+            (λ f. (f ≡ GridFault.Memory)
+                ⊎ (height_fault self.old.scale self.old.nodata self.old.wanted (length hs) word.now ≡ Some f)) }
+    {
+        let place = self.cells.len();
+        if place >= self.wanted as usize {
+            return Err(GridFault::TooMany);
+        }
+        let Some(cell) = cell(self.scale, self.nodata.as_bytes(), self.nodata_value, word) else {
+            return Err(GridFault::BadHeight(place as u32));
+        };
+        if self.cells.push(cell).is_err() {
+            return Err(GridFault::Memory);
+        }
+        Ok(())
+    }
+}

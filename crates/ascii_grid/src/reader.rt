@@ -1,0 +1,98 @@
+// A text that comes in pieces.
+ghost use Rattle.std.specs.Prelude.{◌≡◌, ◌≤◌, ◌++◌, [], ℕ, List, None, Some, Err, IfOk, IfErr, OnOk};
+ghost use Rattle.ascii_grid.specs.GridText.{IsGridText, IsRefusal};
+ghost use Rattle.ascii_grid.specs.Reading.{HasTaken};
+
+use crate::fault::GridFault;
+use crate::grid::Grid;
+use crate::progress::Progress;
+use std::alloc::Global;
+use std::marker::Model;
+
+/// The most bytes that a text may have.
+const MOST_BYTES: usize = 268_435_456;
+
+/// What a reader has taken so far.
+#[derive(Drop)]
+pub struct GridReader {
+    words: Progress,
+    taken: usize,
+    fault: Option<GridFault>,
+}
+
+impl Model for GridReader {
+    ghost use Rattle.std.specs.Prelude.{ℕ, List, ◌≤◌};
+    ghost use Rattle.ascii_grid.specs.Reading.{Reading, HasTaken};
+
+    ghost Value = { Reading };
+
+    ghost view = { λ r. record {
+      scale = r.words.judge.scale;
+      words = r.words;
+      count = r.taken;
+      fault = r.fault;
+    } };
+
+    ghost invariant = { λ r. (r.words.judge.scale ≤ 6) × ((text : List ℕ) × HasTaken (record {
+      scale = r.words.judge.scale;
+      words = r.words;
+      count = r.taken;
+      fault = r.fault;
+    }) text) };
+}
+
+impl GridReader {
+    /// A reader of a text whose heights are in units of 10^-scale.
+    pub fn new(alloc: Global, scale: u8) -> Self
+        requires { scale ≤ 6 }
+        ensures scale { result.scale ≡ scale }
+        ensures fault { result.fault ≡ None }
+        ensures taken { HasTaken result [] }
+    {
+        GridReader {
+            words: Progress::new(alloc, scale),
+            taken: 0,
+            fault: None,
+        }
+    }
+
+    /// Takes the next piece of the text. After a fault it answers that fault again.
+    pub fn feed(&mut self, piece: &[u8]) -> Result<(), GridFault>
+        ensures scale { self.new.scale ≡ self.old.scale }
+        ensures taken { (text : List ℕ) → HasTaken self.old text → HasTaken self.new (text ++ piece.now) }
+        ensures ok { OnOk result (self.new.fault ≡ None) }
+        ensures err { IfErr result (λ f. self.new.fault ≡ Some f) }
+        ensures again { (f : GridFault) → self.old.fault ≡ Some f → result ≡ Err f }
+    {
+        if let Some(fault) = self.fault {
+            return Err(fault);
+        }
+        let within = piece.len().min(MOST_BYTES - self.taken);
+        if let Err(fault) = self.words.take_all(&piece[..within]) {
+            self.fault = Some(fault);
+            return Err(fault);
+        }
+        self.taken += within;
+        if within < piece.len() {
+            self.fault = Some(GridFault::TooLong);
+            return Err(GridFault::TooLong);
+        }
+        Ok(())
+    }
+
+    /// The grid that the pieces spell together, or the text's fault.
+    pub fn finish(self) -> Result<Grid, GridFault>
+        ensures grid { (text : List ℕ) → HasTaken self text →
+            IfOk result (λ g. IsGridText self.scale text g) }
+        ensures fault { (text : List ℕ) → HasTaken self text →
+            IfErr result (λ f. IsRefusal self.scale text f) }
+        ensures again { (f : GridFault) → self.fault ≡ Some f → result ≡ Err f }
+    {
+        let GridReader { mut words, taken: _, fault } = self;
+        if let Some(fault) = fault {
+            return Err(fault);
+        }
+        words.end_word()?;
+        words.judge.finish()
+    }
+}

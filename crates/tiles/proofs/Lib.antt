@@ -1,0 +1,9 @@
+pub mod Quotients
+pub mod Cut
+pub mod RimSteps
+pub mod Shown
+pub mod SliceGet
+pub mod PutBack
+pub mod Outer
+pub mod TileOrder
+pub mod Members

@@ -1,0 +1,27 @@
+ghost use Rattle.std.specs.Prelude.{◌≡◌, ◌+◌, ◌≤◌};
+ghost use Rattle.tiles.specs.Cutting.{is_first_or_last, IsInBounds};
+
+use ascii_grid::Place;
+
+/// The first row and column of a tile, and its size.
+#[derive(Clone, Copy, Debug, PartialEq, Eq)]
+pub struct Bounds {
+    pub top: u32,
+    pub left: u32,
+    pub rows: u32,
+    pub cols: u32,
+}
+
+impl Bounds {
+    // Whether a place of these bounds lies in their first or last row or column.
+    #[inline(always)]
+    pub(crate) fn is_first_or_last(self, place: Place) -> bool
+        requires { IsInBounds self place }
+        ensures { result ≡ is_first_or_last self place }
+    {
+        place.row == self.top
+            || place.row - self.top + 1 == self.rows
+            || place.col == self.left
+            || place.col - self.left + 1 == self.cols
+    }
+}

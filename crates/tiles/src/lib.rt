@@ -1,0 +1,17 @@
+//! A grid cut into square tiles, lent views of the tiles, and the whole list put back from theirs.
+#![tactic(auto)]
+
+pub mod bounds;
+mod neighbours;
+pub mod rim;
+mod slices;
+pub mod tiling;
+pub mod view;
+
+pub use bounds::Bounds;
+pub use rim::Rim;
+pub use tiling::{Tiling, TilingFault};
+pub use view::TileView;
+
+#[cfg(test)]
+mod tests;

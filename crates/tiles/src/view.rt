@@ -1,0 +1,102 @@
+ghost use Rattle.std.specs.Prelude.{◌≡◌, ◌<◌, length, option_copied};
+ghost use Rattle.tiles.specs.Cutting.{View, IsView, AreBounds, bounds_of, is_shown, cell_shown, row_shown};
+
+use crate::bounds::Bounds;
+use crate::slices::{element, part};
+use crate::tiling::Tiling;
+use ascii_grid::Place;
+use std::marker::Model;
+
+/// The cells of a tile and those of the grid next to them, lent.
+#[derive(Drop)]
+pub struct TileView<'a, T> {
+    tiling: Tiling,
+    tile: u32,
+    bounds: Bounds,
+    cells: &'a [T],
+}
+
+impl<'a, T> Model for TileView<'a, T> {
+    ghost use Rattle.tiles.specs.Cutting.{View, IsView, bounds_of};
+    ghost use Rattle.std.specs.Prelude.{◌≡◌};
+
+    ghost Value = { View T };
+
+    ghost view = { λ v. record { cutting = v.tiling; tile = v.tile; cells = v.cells.now } };
+
+    ghost invariant = { λ v. (v.bounds ≡ bounds_of v.tiling v.tile)
+        × IsView {X = T} (record { cutting = v.tiling; tile = v.tile; cells = v.cells.now }) };
+}
+
+impl<'a, T> TileView<'a, T> {
+    pub(crate) fn new(tiling: Tiling, tile: u32, bounds: Bounds, cells: &'a [T]) -> Self
+        requires bounds { bounds ≡ bounds_of tiling tile }
+        requires view { IsView (record { cutting = tiling; tile = tile; cells = cells.now }) }
+        ensures { result ≡ record { cutting = tiling; tile = tile; cells = cells.now } }
+    {
+        TileView {
+            tiling,
+            tile,
+            bounds,
+            cells,
+        }
+    }
+
+    /// The tile's first row and column, and its size.
+    #[inline(always)]
+    pub fn bounds(&self) -> Bounds
+        ensures value { result ≡ bounds_of self.now.cutting self.now.tile }
+        ensures inside { AreBounds self.now.cutting result }
+        ensures lawful { IsView self.now }
+    {
+        self.bounds
+    }
+
+    /// Row `index` of the tile, from 0: one cell for each of its columns.
+    #[inline(always)]
+    pub fn row(&self, index: u32) -> &'a [T]
+        requires { index < (bounds_of self.now.cutting self.now.tile).rows }
+        ensures value { result.now ≡ row_shown self.now index }
+        ensures size { length result.now ≡ (bounds_of self.now.cutting self.now.tile).cols }
+    {
+        let Bounds {
+            top,
+            left,
+            cols,
+            ..
+        } = self.bounds;
+        let from = (top + index) as usize * self.tiling.cols() as usize + left as usize;
+        part(self.cells, from, cols as usize)
+    }
+
+    /// The cell at a place of the tile or of the grid next to it, None at any other place.
+    #[inline(always)]
+    pub fn at(&self, place: Place) -> Option<&'a T>
+        ensures { option_copied result ≡ cell_shown self.now place }
+    {
+        if self.shows(place) {
+            let index = place.row as usize * self.tiling.cols() as usize + place.col as usize;
+            Some(element(self.cells, index))
+        } else {
+            None
+        }
+    }
+
+    #[inline(always)]
+    fn shows(&self, place: Place) -> bool
+        ensures { result ≡ is_shown self.now.cutting self.now.tile place }
+    {
+        let Bounds {
+            top,
+            left,
+            rows,
+            cols,
+        } = self.bounds;
+        place.row < self.tiling.rows()
+            && place.col < self.tiling.cols()
+            && top <= place.row + 1
+            && place.row <= top + rows
+            && left <= place.col + 1
+            && place.col <= left + cols
+    }
+}
