@@ -1,8 +1,9 @@
 -- The word in progress, and what its end makes of it.
-use Rattle.std.proofs.Common.{◌≡◌, ℕ, ◌+◌, ◌-◌, ◌<◌, ◌≤◌, Bool, true, false, List, [], ◌∷◌, ◌++◌, length, take, set, get_or, min, Some, arith, refl, ap, sym, ◌∙◌, subst, inl, inr}
+use Rattle.std.proofs.Common.{◌≡◌, ℕ, ◌+◌, ◌<◌, ◌≤◌, true, false, List, [], ◌∷◌, ◌++◌, length, take, drop, suc, zero, set, get_or, Some, arith, refl, ap, sym, ◌∙◌, subst, inl, inr}
 use Rattle.std.specs.Prelude.{filter}
-use Rattle.std.proofs.lemmas.Bool.{cases_lt}
-use Rattle.std.proofs.lemmas.List.{append-nil, length-append, length-take, take_all, take_at, take-take, take_more_set, take_more, append_assoc, take-append-le, nil_from_length}
+use Rattle.std.specs.List.{list_any}
+use Rattle.std.proofs.lemmas.Bool.{cases_lt, or_parts}
+use Rattle.std.proofs.lemmas.List.{append-nil, length-append, length-take, length-drop, take_all, take_at, take_more_set, take_more, append_assoc, take-append-le, nil_from_length}
 use Rattle.ascii_grid.specs.Words.{Word, is_word, is_separator, words, ended_words}
 use Rattle.ascii_grid.specs.GridText.{words_fault}
 use Rattle.ascii_grid.specs.Reading.{IsParted, HasWords, HasJudged, IsWordFault}
@@ -32,8 +33,8 @@ take-push w b =
     elim (cases_lt (length w) 65) [
       | inl short ↦ ap (λ z. take 65 (z ++ b ∷ [])) (take_all 65 w (omega arith))
       | inr long ↦
-        let size : length (take 65 w) ≡ 65 = omega (arith, length-take 65 w) in
-        take_at (take 65 w) (b ∷ []) 65 size ∙ sym (take-append-le 65 w (b ∷ []) long)
+          let size : length (take 65 w) ≡ 65 = omega (arith, length-take 65 w) in
+          take_at (take 65 w) (b ∷ []) 65 size ∙ sym (take-append-le 65 w (b ∷ []) long)
     ]
 
 -- ---- the end of a word
@@ -63,12 +64,12 @@ ended_fault p text f h some long k =
     let size = ap length h.front in
     elim (cases_lt 64 (length p.word)) [
       | inl far ↦
-        let more : 64 < length h.last = omega (arith, length-take 65 h.last) in
-        let at : words_fault p.judge.scale (words text) ≡ Some TooLong = ap (words_fault p.judge.scale) (words-last p text h some) ∙ long_fault p.judge h.ended h.last h.judged more in
-        word_fault p.judge.scale (words text) f (at ∙ ap Some (sym (long far)))
+          let more : 64 < length h.last = omega (arith, length-take 65 h.last) in
+          let at : words_fault p.judge.scale (words text) ≡ Some TooLong = ap (words_fault p.judge.scale) (words-last p text h some) ∙ long_fault p.judge h.ended h.last h.judged more in
+          word_fault p.judge.scale (words text) f (at ∙ ap Some (sym (long far)))
       | inr near ↦
-        let same : p.word ≡ h.last = h.front ∙ whole h.last (omega arith) in
-        subst (λ ws. IsWordFault p.judge.scale ws f) (ap (λ w. h.ended ++ w ∷ []) same ∙ sym (words-last p text h some)) k
+          let same : p.word ≡ h.last = h.front ∙ whole h.last (omega arith) in
+          subst (λ ws. IsWordFault p.judge.scale ws f) (ap (λ w. h.ended ++ w ∷ []) same ∙ sym (words-last p text h some)) k
     ]
 
 pub ended_none : (p : Progress) (text : List ℕ) (h : HasWords p text) → p.word ≡ [] → HasJudged p.judge (words text)
@@ -105,3 +106,76 @@ pub fault_at : (d d' : ℕ) (text bytes : List ℕ) (i b : ℕ) (f : GridFault) 
 fault_at d d' text bytes i b f same inside at k =
     let more : (text ++ take i bytes) ++ b ∷ [] ≡ text ++ take (i + 1) bytes = append_assoc text (take i bytes) (b ∷ []) ∙ ap (λ x. text ++ (take i bytes ++ x ∷ [])) at ∙ ap (λ z. text ++ z) (sym (take_more bytes i 0 inside)) in
     (i + 1, omega arith, subst (λ e. IsWordFault e (ended_words (text ++ take (i + 1) bytes)) f) same (subst (λ z. IsWordFault d' (ended_words z) f) more k))
+
+-- ---- a word whole in a piece
+
+IsParted-bytes : (text : List ℕ) (ws : List Word) (w more : List ℕ) → IsParted text ws w → list_any is_separator more ≡ false → IsParted (text ++ more) ws (w ++ more)
+IsParted-bytes text ws w [] h none =
+    subst (λ t. IsParted t ws (w ++ [])) (sym (append-nil text)) (subst (λ z. IsParted text ws z) (sym (append-nil w)) h)
+IsParted-bytes text ws w (b ∷ more) h none =
+    let parts = or_parts (is_separator b) (list_any is_separator more) none in
+    let next = IsParted-bytes (text ++ b ∷ []) ws (w ++ b ∷ []) more (IsParted-byte text ws w b h parts.0) parts.1 in
+    subst (λ t. IsParted t ws (w ++ b ∷ more)) (append_assoc text (b ∷ []) more) (subst (λ z. IsParted ((text ++ b ∷ []) ++ more) ws z) (append_assoc w (b ∷ []) more) next)
+
+-- nothing of a word in progress
+none_last : (p : Progress) (text : List ℕ) (h : HasWords p text) → p.word ≡ [] → h.last ≡ []
+none_last p text h e =
+    let size = ap length (sym h.front ∙ e) in
+    nil_from_length h.last (omega (arith, length-take 65 h.last))
+
+-- a word between separators
+pub whole_word : (p : Progress) (text w : List ℕ) (h : HasWords p text) → p.word ≡ [] → list_any is_separator w ≡ false → IsParted (text ++ w) h.ended w
+whole_word p text w h e none =
+    let begun = subst (λ z. IsParted text h.ended z) (none_last p text h e) h.parted in
+    IsParted-bytes text h.ended [] w begun none
+
+pub words_of_whole : (p : Progress) (text w : List ℕ) (h : HasWords p text) → p.word ≡ [] → list_any is_separator w ≡ false → 0 < length w → words (text ++ w) ≡ h.ended ++ w ∷ []
+words_of_whole p text w h e none some =
+    words-parted (text ++ w) h.ended w (whole_word p text w h e none) ∙ ap (λ z. h.ended ++ z) (filter-word w some)
+
+-- the bytes of a word and the separator behind it
+front_more : (bytes : List ℕ) (len b : ℕ) → len < length bytes → b ≡ get_or bytes len 0 → take (len + 1) bytes ≡ take len bytes ++ b ∷ []
+front_more bytes len b inside at = take_more bytes len 0 inside ∙ ap (λ x. take len bytes ++ x ∷ []) (sym at)
+
+pub taken_plain : (p p' : Progress) (text bytes : List ℕ) (len b : ℕ) (h : HasWords p text) → p.word ≡ [] → p'.word ≡ [] → list_any is_separator (take len bytes) ≡ false → 0 < len → len < length bytes → b ≡ get_or bytes len 0 → is_separator b ≡ true → HasJudged p'.judge (h.ended ++ take len bytes ∷ []) → HasWords p' (text ++ take (len + 1) bytes)
+taken_plain p p' text bytes len b h e e' none some inside at ends judged =
+    let w = take len bytes in
+    let more : 0 < length w = omega (arith, length-take len bytes) in
+    let all = words_of_whole p text w h e none more in
+    let whole : (text ++ w) ++ b ∷ [] ≡ text ++ take (len + 1) bytes = append_assoc text w (b ∷ []) ∙ ap (λ z. text ++ z) (sym (front_more bytes len b inside at)) in
+    record {
+      ended = words (text ++ w);
+      last = [];
+      parted = subst (λ t. IsParted t (words (text ++ w)) []) whole (IsParted-separator (text ++ w) h.ended w b (whole_word p text w h e none) ends);
+      judged = subst (HasJudged p'.judge) (sym all) judged;
+      front = e';
+    }
+
+pub refused_plain : (d : ℕ) (p : Progress) (text bytes : List ℕ) (len b : ℕ) (f : GridFault) (h : HasWords p text) → p.word ≡ [] → list_any is_separator (take len bytes) ≡ false → 0 < len → len < length bytes → b ≡ get_or bytes len 0 → is_separator b ≡ true → IsWordFault d (h.ended ++ take len bytes ∷ []) f → (n : ℕ) × (n ≤ length bytes) × IsWordFault d (ended_words (text ++ take n bytes)) f
+refused_plain d p text bytes len b f h e none some inside at ends fault =
+    let w = take len bytes in
+    let more : 0 < length w = omega (arith, length-take len bytes) in
+    let all = words_of_whole p text w h e none more in
+    let whole : (text ++ w) ++ b ∷ [] ≡ text ++ take (len + 1) bytes = append_assoc text w (b ∷ []) ∙ ap (λ z. text ++ z) (sym (front_more bytes len b inside at)) in
+    (len + 1, omega arith, subst (λ t. IsWordFault d (ended_words t) f) whole (fault_after_separator d (text ++ w) b f ends (subst (λ ws. IsWordFault d ws f) (sym all) fault)))
+
+-- one front after another
+pub take-add : (a b : ℕ) (xs : List ℕ) → take (a + b) xs ≡ take a xs ++ take b (drop a xs)
+take-add zero b xs = ap (λ n. take n xs) (let e : 0 + b ≡ b = omega arith in e)
+take-add (suc a) b [] = ap (λ n. take n []) (let e : suc a + b ≡ suc (a + b) = omega arith in e) ∙ sym (take_all b (drop (suc a) []) (omega arith))
+take-add (suc a) b (x ∷ xs) = ap (λ n. take n (x ∷ xs)) (let e : suc a + b ≡ suc (a + b) = omega arith in e) ∙ ap (λ z. x ∷ z) (take-add a b xs)
+
+pub nothing_taken : (p : Progress) (text rest : List ℕ) → HasWords p text → HasWords p (text ++ take 0 rest)
+nothing_taken p text rest h = subst (HasWords p) (sym (append-nil text)) h
+
+same_front : (text bytes rest : List ℕ) (at n : ℕ) → rest ≡ drop at bytes → (text ++ take at bytes) ++ take n rest ≡ text ++ take (at + n) bytes
+same_front text bytes rest at n e =
+    append_assoc text (take at bytes) (take n rest) ∙ ap (λ z. text ++ z) (ap (λ z. take at bytes ++ take n z) e ∙ sym (take-add at n bytes))
+
+pub words_further : (p : Progress) (text bytes rest : List ℕ) (at n : ℕ) → rest ≡ drop at bytes → HasWords p ((text ++ take at bytes) ++ take n rest) → HasWords p (text ++ take (at + n) bytes)
+words_further p text bytes rest at n e h = subst (HasWords p) (same_front text bytes rest at n e) h
+
+pub fault_further : (d d' : ℕ) (text bytes rest : List ℕ) (at : ℕ) (f : GridFault) → d' ≡ d → rest ≡ drop at bytes → at ≤ length bytes → (n : ℕ) × (n ≤ length rest) × IsWordFault d' (ended_words ((text ++ take at bytes) ++ take n rest)) f → (n : ℕ) × (n ≤ length bytes) × IsWordFault d (ended_words (text ++ take n bytes)) f
+fault_further d d' text bytes rest at f same e within k =
+    let size = ap length e in
+    (at + k.0, omega (arith, size, k.1, length-drop at bytes), subst (λ x. IsWordFault x (ended_words (text ++ take (at + k.0) bytes)) f) same (subst (λ z. IsWordFault d' (ended_words z) f) (same_front text bytes rest at k.0 e) k.2))

@@ -1,5 +1,5 @@
 -- What a piece and the end of the text make of a reader.
-use Rattle.std.proofs.Common.{◌≡◌, ℕ, ◌+◌, ◌-◌, ◌^◌, ◌<◌, ◌≤◌, Bool, true, false, cond, nat_le, nat_lt, List, [], ◌∷◌, ◌++◌, length, take, drop, min, Option, None, Some, arith, refl, ap, sym, ◌∙◌, subst, inl, inr, Result, Ok, Err, MatchResult}
+use Rattle.std.proofs.Common.{◌≡◌, ℕ, ◌+◌, ◌-◌, ◌<◌, ◌≤◌, List, [], ◌++◌, length, take, drop, min, None, Some, arith, refl, ap, sym, ◌∙◌, subst, inl, inr, Result, Ok, Err, MatchResult}
 use Rattle.std.specs.Prelude.{MatchOption, IfOk, IfErr}
 use Rattle.std.specs.Option.{option_or}
 use Rattle.std.proofs.lemmas.Bool.{cases_lt, le-leb, lt-leb}
@@ -9,7 +9,7 @@ use Rattle.std.proofs.Math.Seq.{take-append-add}
 use Rattle.ascii_grid.specs.Words.{Word, words, ended_words}
 use Rattle.ascii_grid.specs.Raster.{Raster}
 use Rattle.ascii_grid.specs.Header.{height_words, nodata_for}
-use Rattle.ascii_grid.specs.GridText.{most_bytes, words_fault, whole_header_fault, heights_fault, end_fault, fault_so_far, text_fault, judged_words, cells_wanted, grid_of, AsksForCells, IsGridText, IsRefusal, IsRefusalSoFar}
+use Rattle.ascii_grid.specs.GridText.{most_bytes, words_fault, heights_fault, end_fault, fault_so_far, text_fault, judged_words, cells_wanted, grid_of, AsksForCells, IsGridText, IsRefusal, IsRefusalSoFar}
 use Rattle.ascii_grid.specs.Reading.{flat, HasJudged, HasWords, IsWordFault, IsEndFault, Reading, IsReading, HasTaken}
 use Rattle.ascii_grid.specs.declared.fault.GridFault.{GridFault}
 use Rattle.ascii_grid.specs.declared.fault.GridFault.TheVariants.{UnknownKey, RepeatedKey, MissingKey, BadSize, BadPlace, BadNodata, BadHeight, TooFew, TooMany, NoValue, TooLong, Memory}
@@ -47,9 +47,10 @@ front_of front more =
     elim (cases_lt most_bytes (length front)) [
       | inl far ↦ ([], take-append-le most_bytes front more (omega arith) ∙ sym (append-nil (take most_bytes front)))
       | inr near ↦
-        let at : length front + (most_bytes - length front) ≡ most_bytes = omega arith in
-        (take (most_bytes - length front) more,
-         ap (λ n. take n (front ++ more)) (sym at) ∙ take-append-add front more (most_bytes - length front) ∙ ap (λ z. z ++ take (most_bytes - length front) more) (sym (take_all most_bytes front near)))
+          let at : length front + (most_bytes - length front) ≡ most_bytes = omega arith in (
+            take (most_bytes - length front) more,
+            ap (λ n. take n (front ++ more)) (sym at) ∙ take-append-add front more (most_bytes - length front) ∙ ap (λ z. z ++ take (most_bytes - length front) more) (sym (take_all most_bytes front near)),
+          )
     ]
 
 -- the words judged of a longer text begin with those that ended
@@ -57,13 +58,13 @@ judged-more : (front more : List ℕ) → (others : List Word) × (judged_words 
 judged-more front more =
     elim (cases_lt most_bytes (length (front ++ more))) [
       | inl far ↦
-        let cut = front_of front more in
-        let next = ended-more (take most_bytes front) cut.0 in
-        (next.0, many_words (front ++ more) far ∙ ap ended_words cut.1 ∙ next.1)
+          let cut = front_of front more in
+          let next = ended-more (take most_bytes front) cut.0 in
+          (next.0, many_words (front ++ more) far ∙ ap ended_words cut.1 ∙ next.1)
       | inr near ↦
-        let short : length front ≤ most_bytes = omega (arith, length-append front more) in
-        let next = words-more front more in
-        (next.0, few_words (front ++ more) near ∙ next.1 ∙ ap (λ z. ended_words z ++ next.0) (sym (take_all most_bytes front short)))
+          let short : length front ≤ most_bytes = omega (arith, length-append front more) in
+          let next = words-more front more in
+          (next.0, few_words (front ++ more) near ∙ next.1 ∙ ap (λ z. ended_words z ++ next.0) (sym (take_all most_bytes front short)))
     ]
 
 -- a fault of the words judged is the text's
@@ -74,19 +75,19 @@ word_told d text f h =
       | inr near ↦ few_fault d text near ∙ ap (λ o. option_or o (end_fault (words text))) (ap (words_fault d) (sym (few_words text near)) ∙ h)
     ]
 
-fault_stays : (d : ℕ) (front more : List ℕ) (f : GridFault) → fault_so_far d front ≡ Some f → text_fault d (front ++ more) ≡ Some f
+pub fault_stays : (d : ℕ) (front more : List ℕ) (f : GridFault) → fault_so_far d front ≡ Some f → text_fault d (front ++ more) ≡ Some f
 fault_stays d front more f h =
     elim (cases_lt most_bytes (length front)) [
       | inl far ↦
-        let longer : most_bytes < length (front ++ more) = omega (arith, length-append front more) in
-        let same : take most_bytes (front ++ more) ≡ take most_bytes front = take-append-le most_bytes front more (omega arith) in
-        many_fault d (front ++ more) longer ∙ many_so_far d (front ++ more) longer
-        ∙ ap (λ z. option_or (words_fault d (ended_words z)) (Some TooLong)) same
-        ∙ sym (many_so_far d front far) ∙ h
+          let longer : most_bytes < length (front ++ more) = omega (arith, length-append front more) in
+          let same : take most_bytes (front ++ more) ≡ take most_bytes front = take-append-le most_bytes front more (omega arith) in
+          many_fault d (front ++ more) longer ∙ many_so_far d (front ++ more) longer
+          ∙ ap (λ z. option_or (words_fault d (ended_words z)) (Some TooLong)) same
+          ∙ sym (many_so_far d front far) ∙ h
       | inr near ↦
-        let next = judged-more front more in
-        let told : words_fault d (ended_words (take most_bytes front)) ≡ Some f = ap (λ z. words_fault d (ended_words z)) (take_all most_bytes front near) ∙ sym (few_so_far d front near) ∙ h in
-        word_told d (front ++ more) f (ap (words_fault d) next.1 ∙ words_fault-more d (ended_words (take most_bytes front)) next.0 f told)
+          let next = judged-more front more in
+          let told : words_fault d (ended_words (take most_bytes front)) ≡ Some f = ap (λ z. words_fault d (ended_words z)) (take_all most_bytes front near) ∙ sym (few_so_far d front near) ∙ h in
+          word_told d (front ++ more) f (ap (words_fault d) next.1 ∙ words_fault-more d (ended_words (take most_bytes front)) next.0 f told)
     ]
 
 -- a refusal of a front is one of the text
@@ -217,10 +218,12 @@ fed_fault r text piece within f cut none h fault =
     let part = take within piece in
     let at = fault text k.words_of in
     let size : length (text ++ take at.0 part) ≤ most_bytes = omega (arith, cut, k.size, k.short, at.1, length-append text (take at.0 part), length-take at.0 part, length-take within piece) in
-    let whole : piece ≡ take at.0 part ++ (drop at.0 part ++ drop within piece) = sym (take-append-drop within piece) ∙ ap (λ z. z ++ drop within piece) (sym (take-append-drop at.0 part)) ∙ append_assoc (take at.0 part) (drop at.0 part) (drop within piece) in
-    (text ++ take at.0 part, drop at.0 part ++ drop within piece,
-     ap (λ z. text ++ z) whole ∙ sym (append_assoc text (take at.0 part) (drop at.0 part ++ drop within piece)),
-     refused r.words.judge.scale (text ++ take at.0 part) f size at.2)
+    let whole : piece ≡ take at.0 part ++ (drop at.0 part ++ drop within piece) = sym (take-append-drop within piece) ∙ ap (λ z. z ++ drop within piece) (sym (take-append-drop at.0 part)) ∙ append_assoc (take at.0 part) (drop at.0 part) (drop within piece) in (
+      text ++ take at.0 part,
+      drop at.0 part ++ drop within piece,
+      ap (λ z. text ++ z) whole ∙ sym (append_assoc text (take at.0 part) (drop at.0 part ++ drop within piece)),
+      refused r.words.judge.scale (text ++ take at.0 part) f size at.2,
+    )
 
 -- a piece past the most bytes
 pub fed_long : (r : Reading) (p : Progress) (text piece : List ℕ) (within : ℕ) → within ≡ min (length piece) (most_bytes - r.count) → r.fault ≡ None → HasTaken r text → within < length piece → ((t : List ℕ) → HasWords r.words t → HasWords p (t ++ take within piece)) → (front : List ℕ) × (more : List ℕ) × (text ++ piece ≡ front ++ more) × (fault_so_far p.judge.scale front ≡ Some TooLong)
@@ -239,11 +242,11 @@ fed_whole r r' text piece within cut none h all next scale count none' =
     let k = reading r text none h in
     let size : length (text ++ piece) ≡ length text + length piece = length-append text piece in
     let fed : IsReading r' (text ++ piece) = record {
-          words_of = subst (λ z. HasWords r'.words (text ++ z)) (take_all within piece all) (next text k.words_of);
-          same_scale = scale;
-          size = omega (arith, cut, size, count, k.size, all);
-          short = omega (arith, cut, size, k.size, k.short, all);
-        } in
+      words_of = subst (λ z. HasWords r'.words (text ++ z)) (take_all within piece all) (next text k.words_of);
+      same_scale = scale;
+      size = omega (arith, cut, size, count, k.size, all);
+      short = omega (arith, cut, size, k.size, k.short, all);
+    } in
     subst (λ o. MatchOption o (IsReading r' (text ++ piece)) (λ g. (front : List ℕ) × (rest : List ℕ) × (text ++ piece ≡ front ++ rest) × IsRefusalSoFar r'.scale front g)) (sym none') fed
 
 -- ---- the answer at the end

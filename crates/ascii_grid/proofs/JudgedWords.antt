@@ -1,16 +1,15 @@
 -- What a judge has kept after one more word, and the fault of a word that has one.
-use Rattle.std.proofs.Common.{◌≡◌, ℕ, ◌+◌, ◌*◌, ◌<◌, ◌≤◌, Bool, true, false, not, ◌&&◌, ◌||◌, cond, nat_lt, ◌==◌, List, [], ◌∷◌, ◌++◌, length, map, Option, None, Some, arith, refl, ap, sym, ◌∙◌, subst, inl, inr}
-use Rattle.std.specs.Prelude.{find, is_some, MatchOption}
-use Rattle.std.specs.Option.{option_or, option_map_or, option_and_then}
+use Rattle.std.proofs.Common.{◌≡◌, ℕ, ◌+◌, ◌<◌, ◌≤◌, Bool, true, false, ◌||◌, cond, List, [], ◌∷◌, ◌++◌, length, Option, None, Some, arith, refl, ap, sym, ◌∙◌, subst, inl, inr}
+use Rattle.std.specs.Prelude.{MatchOption}
+use Rattle.std.specs.Option.{option_or, option_map_or}
 use Rattle.std.specs.List.{list_any}
 use Rattle.std.proofs.lemmas.Bool.{cases_Bool, lt-ltb, le-ltb}
-use Rattle.std.proofs.lemmas.List.{append-nil, append_assoc, map_push, length-map, length-append}
+use Rattle.std.proofs.lemmas.List.{append-nil, append_assoc, map_push, length-map}
 use Rattle.ascii_grid.specs.Words.{Word}
-use Rattle.ascii_grid.specs.Decimal.{scaled_value}
 use Rattle.ascii_grid.specs.Header.{fills, slot_of, is_long, is_value, bad_value, begins_with_letter, header_words, height_words, key_left, nodata_for, header_fault, key_fault, value_fault, missing_fault}
 use Rattle.ascii_grid.specs.GridText.{AsksForCells, is_cell, cell_of, cells_wanted, words_fault, whole_header_fault, heights_fault, height_fault}
 use Rattle.ascii_grid.specs.Slots.{is_given, with_value}
-use Rattle.ascii_grid.specs.Reading.{flat, given, is_centre, slots_of, keys_before, IsHeaderOf, AwaitsValue, HasBegun, AreHeights, IsAt, HasJudged}
+use Rattle.ascii_grid.specs.Reading.{flat, is_centre, slots_of, keys_before, IsHeaderOf, AwaitsValue, HasBegun, AreHeights, IsAt, HasJudged}
 use Rattle.ascii_grid.specs.declared.fault.Key.{Key}
 use Rattle.ascii_grid.specs.declared.fault.GridFault.{GridFault}
 use Rattle.ascii_grid.specs.declared.fault.GridFault.TheVariants.{UnknownKey, RepeatedKey, BadHeight, TooMany, TooLong}
@@ -18,7 +17,7 @@ use Rattle.ascii_grid.specs.declared.header.Header.{Header}
 use Rattle.ascii_grid.specs.declared.judge.Stage.{Stage}
 use Rattle.ascii_grid.specs.declared.judge.Stage.TheVariants.{AtKey, AtValue, AtHeights}
 use Rattle.ascii_grid.specs.declared.judge.Judge.{Judge}
-use Rattle.ascii_grid.proofs.Judging.{Pairs, option_or-none, header_words-flat, height_words-flat, key_left-flat, flat-push, are_keys-push, header_fault-flat, list_any-keys_before, is_given-slots_of, with_value-slots_of, words_fault-key, words_fault-value, words_fault-heights, HasBegun-push, header_words-begun, height_words-begun, heights_fault-push}
+use Rattle.ascii_grid.proofs.Judging.{Pairs, header_words-flat, height_words-flat, key_left-flat, flat-push, are_keys-push, header_fault-flat, list_any-keys_before, is_given-slots_of, with_value-slots_of, words_fault-key, words_fault-value, words_fault-heights, header_words-begun, height_words-begun, heights_fault-push}
 
 -- ---- where a judge stands
 

@@ -1,21 +1,19 @@
 -- One more word of a text: what it does to the header, the heights and the first fault.
-use Rattle.std.proofs.Common.{◌≡◌, ℕ, ◌+◌, ◌*◌, ◌<◌, ◌≤◌, Bool, true, false, not, ◌&&◌, ◌||◌, cond, nat_lt, ◌==◌, List, [], ◌∷◌, ◌++◌, length, map, Option, None, Some, arith, refl, ap, sym, ◌∙◌}
-use Rattle.std.specs.Prelude.{find, is_some, is_none, unwrap_or, option_map, codes}
-use Rattle.std.specs.Option.{option_or, option_map_or, option_and_then}
+use Rattle.std.proofs.Common.{◌≡◌, ℕ, ◌+◌, Bool, true, false, ◌||◌, cond, ◌==◌, List, [], ◌∷◌, ◌++◌, length, Option, None, Some, arith, refl, ap, sym, ◌∙◌}
+use Rattle.std.specs.Prelude.{find, is_some, unwrap_or, option_map, codes}
+use Rattle.std.specs.Option.{option_or, option_map_or}
 use Rattle.std.specs.List.{list_any, list_all}
-use Rattle.std.proofs.lemmas.Bool.{cases_lt, and_parts, lt-ltb, le-ltb}
-use Rattle.std.proofs.lemmas.List.{append-nil, append_assoc}
+use Rattle.std.proofs.lemmas.Bool.{and_parts}
+use Rattle.std.proofs.lemmas.List.{append-nil}
 use Rattle.std.proofs.lemmas.List.Folds.{find-append}
 use Rattle.ascii_grid.specs.Words.{Word}
 use Rattle.ascii_grid.specs.Decimal.{number_of}
-use Rattle.ascii_grid.specs.Header.{fills, slot_of, slot_number, is_key, is_long, is_value, bad_value, begins_with_letter, header_words, height_words, pairs, key_left, pair_for, value_for, word_for, size_for, nodata_for, header_fault, key_fault, value_fault, missing_fault}
+use Rattle.ascii_grid.specs.Header.{fills, slot_of, slot_number, begins_with_letter, header_words, height_words, pairs, key_left, pair_for, nodata_for, header_fault, key_fault, value_fault, missing_fault}
 use Rattle.ascii_grid.specs.GridText.{cells_wanted, words_fault, whole_header_fault, heights_fault, height_fault}
-use Rattle.ascii_grid.specs.Slots.{no_slots, is_given, anchor_at, with_value, missing_of, wanted_of}
+use Rattle.ascii_grid.specs.Slots.{is_given, anchor_at, with_value, missing_of, wanted_of}
 use Rattle.ascii_grid.specs.Reading.{flat, given, is_centre, slots_of, keys_before, HasBegun}
 use Rattle.ascii_grid.specs.declared.fault.Key.{Key}
 use Rattle.ascii_grid.specs.declared.fault.Key.TheVariants.{Ncols, Nrows, Xll, Yll, Cellsize, Nodata}
-use Rattle.ascii_grid.specs.declared.fault.GridFault.{GridFault}
-use Rattle.ascii_grid.specs.declared.fault.GridFault.TheVariants.{UnknownKey, RepeatedKey, MissingKey, TooLong}
 use Rattle.ascii_grid.specs.declared.header.Header.{Header}
 
 abbrev pub Pairs : Type 0

@@ -1,32 +1,34 @@
 pub mod Places
+pub mod Reading
 pub mod Uniqueness
+pub mod Writing
+pub mod Scaled
+pub mod Judging
+pub mod JudgedWords
+pub mod Told
+pub mod Parting
+pub mod Ending
+pub mod Whole
+pub mod Spelled
+pub mod Stays
+pub mod Feeding
+pub mod Taking
+mod Rows
+pub mod PlainNumbers
+pub mod Cells
+pub mod Gathering
+pub mod Decimals
+pub mod RowText
 pub mod Heights
 pub mod FilledTwice
 pub mod Reach
 pub mod FilledExists
-pub mod Writing
-mod Gathering
-mod Decimals
-mod RowText
-mod TextLength
-mod Reading
-mod Parts
-mod Scaled
-mod Judging
-mod JudgedWords
-mod Told
-mod Parting
-mod Ending
-mod Whole
-mod Spelled
-mod Stays
-mod Feeding
-mod Taking
-mod ReadBackWords
-mod ReadBackDecimals
-mod ReadBackNumbers
-mod ReadBackHeights
-mod ReadBackCells
-mod ReadBackHeader
-mod ReadBack
-mod Rows
+pub mod TextLength
+pub mod ReadBack
+pub mod ReadBackWords
+pub mod ReadBackDecimals
+pub mod ReadBackNumbers
+pub mod ReadBackHeights
+pub mod ReadBackCells
+pub mod ReadBackHeader
+pub mod TextLaws

@@ -1,10 +1,9 @@
 -- One more byte of a text: what it does to the ended words and to the word in progress.
-use Rattle.std.proofs.Common.{◌≡◌, ℕ, ◌+◌, ◌-◌, ◌<◌, ◌≤◌, Bool, true, false, not, cond, List, [], ◌∷◌, ◌++◌, length, take, drop, arith, refl, ap, sym, ◌∙◌, inl, inr}
-use Rattle.std.specs.Prelude.{filter, reverse}
+use Rattle.std.proofs.Common.{◌≡◌, ℕ, ◌+◌, ◌-◌, ◌<◌, ◌≤◌, Bool, true, false, not, cond, List, [], ◌∷◌, ◌++◌, length, take, arith, refl, ap, sym, ◌∙◌, inl, inr}
+use Rattle.std.specs.Prelude.{filter}
 use Rattle.std.specs.List.{slice_split, onto_first, before_last, suffix_len, prefix_len}
 use Rattle.std.proofs.lemmas.Bool.{cases_Bool}
-use Rattle.std.proofs.lemmas.List.{append-nil, append_assoc, reverse-append, length-append, length-reverse, take_at, take-append-le}
-use Rattle.std.proofs.lemmas.List.Sums.{prefix_len-le-length}
+use Rattle.std.proofs.lemmas.List.{reverse-append, length-append, take_at, take-append-le}
 use Rattle.std.proofs.lemmas.List.Splits.{slice_split-cons_yes, slice_split-cons_no}
 use Rattle.ascii_grid.specs.Words.{Word, is_word, is_separator, words, ended_words}
 use Rattle.ascii_grid.specs.Reading.{IsParted}
@@ -28,8 +27,8 @@ some_part p (x ∷ xs) =
     elim (cases_Bool (p x)) [
       | inl here ↦ ([], slice_split p xs, slice_split-cons_yes p x xs here)
       | inr apart ↦
-        let more = some_part p xs in
-        (x ∷ more.0, more.1, slice_split-cons_no p x xs apart ∙ ap (onto_first x) more.2)
+          let more = some_part p xs in
+          (x ∷ more.0, more.1, slice_split-cons_no p x xs apart ∙ ap (onto_first x) more.2)
     ]
 
 onto_last-cons : (b : ℕ) (part : Word) (parts : List Word) → 0 < length parts → onto_last b (part ∷ parts) ≡ part ∷ onto_last b parts
@@ -50,11 +49,11 @@ slice_split-push_no p (x ∷ xs) b h =
     let some = some_part p xs in
     elim (cases_Bool (p x)) [
       | inl here ↦
-        slice_split-cons_yes p x (xs ++ b ∷ []) here ∙ ap (λ z. [] ∷ z) more
-        ∙ sym (ap (onto_last b) (slice_split-cons_yes p x xs here) ∙ onto_last-cons b [] (slice_split p xs) (rw some.2 (omega arith)))
+          slice_split-cons_yes p x (xs ++ b ∷ []) here ∙ ap (λ z. [] ∷ z) more
+          ∙ sym (ap (onto_last b) (slice_split-cons_yes p x xs here) ∙ onto_last-cons b [] (slice_split p xs) (rw some.2 (omega arith)))
       | inr apart ↦
-        slice_split-cons_no p x (xs ++ b ∷ []) apart ∙ ap (onto_first x) (more ∙ ap (onto_last b) some.2)
-        ∙ sym (ap (onto_last b) (slice_split-cons_no p x xs apart ∙ ap (onto_first x) some.2) ∙ onto_last-onto_first b x some.0 some.1)
+          slice_split-cons_no p x (xs ++ b ∷ []) apart ∙ ap (onto_first x) (more ∙ ap (onto_last b) some.2)
+          ∙ sym (ap (onto_last b) (slice_split-cons_no p x xs apart ∙ ap (onto_first x) some.2) ∙ onto_last-onto_first b x some.0 some.1)
     ]
 
 onto_first-append : (x : ℕ) (part : Word) (parts more : List Word) → onto_first x ((part ∷ parts) ++ more) ≡ onto_first x (part ∷ parts) ++ more
@@ -67,11 +66,11 @@ slice_split-push_yes p (x ∷ xs) b h =
     let some = some_part p xs in
     elim (cases_Bool (p x)) [
       | inl here ↦
-        slice_split-cons_yes p x (xs ++ b ∷ []) here ∙ ap (λ z. [] ∷ z) more
-        ∙ sym (ap (λ z. z ++ [] ∷ []) (slice_split-cons_yes p x xs here))
+          slice_split-cons_yes p x (xs ++ b ∷ []) here ∙ ap (λ z. [] ∷ z) more
+          ∙ sym (ap (λ z. z ++ [] ∷ []) (slice_split-cons_yes p x xs here))
       | inr apart ↦
-        slice_split-cons_no p x (xs ++ b ∷ []) apart ∙ ap (onto_first x) (more ∙ ap (λ z. z ++ [] ∷ []) some.2)
-        ∙ sym (ap (λ z. z ++ [] ∷ []) (slice_split-cons_no p x xs apart ∙ ap (onto_first x) some.2))
+          slice_split-cons_no p x (xs ++ b ∷ []) apart ∙ ap (onto_first x) (more ∙ ap (λ z. z ++ [] ∷ []) some.2)
+          ∙ sym (ap (λ z. z ++ [] ∷ []) (slice_split-cons_no p x xs apart ∙ ap (onto_first x) some.2))
     ]
 
 -- ---- what a separator ends

@@ -1,17 +1,16 @@
 -- The value of a decimal text, from its parts.
-use Rattle.std.proofs.Common.{◌≡◌, ℕ, ◌+◌, ◌*◌, ◌-◌, ◌^◌, ◌<◌, ◌≤◌, min, Bool, true, false, not, ◌&&◌, ◌||◌, cond, nat_le, nat_lt, ◌==◌, List, [], ◌∷◌, ◌++◌, length, take, drop, fold, replicate, Option, None, Some, ℤ, pos, neg_ℤ, inl, inr, arith, refl, ap, sym, ◌∙◌, suc, zero}
+use Rattle.std.proofs.Common.{◌≡◌, ℕ, ◌+◌, ◌*◌, ◌-◌, ◌^◌, ◌<◌, ◌≤◌, min, Bool, true, false, ◌&&◌, ◌||◌, cond, nat_le, nat_lt, ◌==◌, List, [], ◌∷◌, ◌++◌, length, take, drop, fold, replicate, Option, None, Some, ℤ, pos, neg_ℤ, inl, inr, arith, refl, ap, sym, ◌∙◌, suc}
 use Rattle.std.specs.List.{list_any, list_all, position_or_len, before_first, after_first}
 use Rattle.std.specs.Char.{is_ascii_digit}
-use Rattle.std.proofs.lemmas.Grind.{common_steps}
-use Rattle.std.proofs.lemmas.List.{take-append-le, drop-append-le, take-replicate, length-take, take_all, append-nil}
+use Rattle.std.proofs.lemmas.List.{take-append-le, take-replicate, take_all, append-nil}
 use Rattle.std.proofs.Math.Seq.{take-append-add}
 use Rattle.std.proofs.lemmas.List.Sums.{fold-append}
 use Rattle.std.proofs.lemmas.List.Folds.{list_all-append}
 use Rattle.std.proofs.lemmas.Bool.{cases_lt, cond_both, or_parts, lt-ltb, le-leb, lt-leb}
 use Rattle.std.proofs.lemmas.Option.{same_Some}
 use Rattle.std.specs.Bool.{then_some}
-use Rattle.ascii_grid.specs.Words.{Word, is_word}
-use Rattle.ascii_grid.specs.Decimal.{without_sign, is_negative, is_point, is_exponent_mark, mantissa, whole_part, fraction, has_exponent, are_digits, is_decimal, number_of, scaled_size, has_scaled_value, scaled_value}
+use Rattle.ascii_grid.specs.Words.{Word}
+use Rattle.ascii_grid.specs.Decimal.{without_sign, is_negative, is_point, is_exponent_mark, mantissa, whole_part, fraction, has_exponent, are_digits, number_of, scaled_value}
 
 -- digits in two parts, the first with one at least
 pub are_digits-append : (a b : List ℕ) → 0 < length a → are_digits (a ++ b) ≡ (list_all is_ascii_digit a && list_all is_ascii_digit b)
@@ -23,18 +22,18 @@ pub take-padded : (d : ℕ) (xs : List ℕ) → take d (xs ++ replicate d 48) �
 take-padded d xs =
     elim (cases_lt (length xs) d) [
       | inl h ↦
-        let past : take (length xs + (d - length xs)) (xs ++ replicate d 48) ≡ xs ++ take (d - length xs) (replicate d 48) = take-append-add xs (replicate d 48) (d - length xs) in
-        let at : length xs + (d - length xs) ≡ d = omega arith in
-        let fewer : d - length xs ≤ d = omega arith in
-        let zeros : take (d - length xs) (replicate {A = ℕ} d 48) ≡ replicate {A = ℕ} (d - length xs) 48 = take-replicate (d - length xs) d 48 fewer in
-        let rest : d - length xs ≡ d - min d (length xs) = omega arith in
-        let reaches : length xs ≤ d = omega arith in
-        let all : take d xs ≡ xs = take_all d xs reaches in
-        ap (λ n. take n (xs ++ replicate d 48)) (sym at) ∙ past ∙ ap (λ z. xs ++ z) (zeros ∙ ap (λ n. replicate n 48) rest) ∙ ap (λ z. z ++ replicate (d - min d (length xs)) 48) (sym all)
+          let past : take (length xs + (d - length xs)) (xs ++ replicate d 48) ≡ xs ++ take (d - length xs) (replicate d 48) = take-append-add xs (replicate d 48) (d - length xs) in
+          let at : length xs + (d - length xs) ≡ d = omega arith in
+          let fewer : d - length xs ≤ d = omega arith in
+          let zeros : take (d - length xs) (replicate {A = ℕ} d 48) ≡ replicate {A = ℕ} (d - length xs) 48 = take-replicate (d - length xs) d 48 fewer in
+          let rest : d - length xs ≡ d - min d (length xs) = omega arith in
+          let reaches : length xs ≤ d = omega arith in
+          let all : take d xs ≡ xs = take_all d xs reaches in
+          ap (λ n. take n (xs ++ replicate d 48)) (sym at) ∙ past ∙ ap (λ z. xs ++ z) (zeros ∙ ap (λ n. replicate n 48) rest) ∙ ap (λ z. z ++ replicate (d - min d (length xs)) 48) (sym all)
       | inr h ↦
-        let front : take d (xs ++ replicate d 48) ≡ take d xs = take-append-le d xs (replicate d 48) h in
-        let none : replicate (d - min d (length xs)) 48 ≡ [] = ap (λ n. replicate n 48) (let z : d - min d (length xs) ≡ 0 = omega arith in z) in
-        front ∙ sym (ap (λ z. take d xs ++ z) none ∙ append-nil (take d xs))
+          let front : take d (xs ++ replicate d 48) ≡ take d xs = take-append-le d xs (replicate d 48) h in
+          let none : replicate (d - min d (length xs)) 48 ≡ [] = ap (λ n. replicate n 48) (let z : d - min d (length xs) ≡ 0 = omega arith in z) in
+          front ∙ sym (ap (λ z. take d xs ++ z) none ∙ append-nil (take d xs))
     ]
 
 -- digits, their first fractional digits and zeros, one after another
@@ -97,11 +96,11 @@ pub size-kept : (x : Bool) (n size : ℕ) → x ≡ true → size ≡ min n 1000
 size-kept x n size h e =
     elim (cases_lt n 1000000000000000001) [
       | inl k ↦
-        let same : size ≡ n = omega arith in
-        let low : nat_le n (10 ^ 18) ≡ true = le-leb n (10 ^ 18) (omega arith) in
-        rw (same, lt-ltb n 1000000000000000001 k, h, low) refl
+          let same : size ≡ n = omega arith in
+          let low : nat_le n (10 ^ 18) ≡ true = le-leb n (10 ^ 18) (omega arith) in
+          rw (same, lt-ltb n 1000000000000000001 k, h, low) refl
       | inr k ↦
-        let same : size ≡ 1000000000000000001 = omega arith in
-        let high : nat_le n (10 ^ 18) ≡ false = lt-leb n (10 ^ 18) (omega arith) in
-        rw (same, h, high) refl
+          let same : size ≡ 1000000000000000001 = omega arith in
+          let high : nat_le n (10 ^ 18) ≡ false = lt-leb n (10 ^ 18) (omega arith) in
+          rw (same, h, high) refl
     ]

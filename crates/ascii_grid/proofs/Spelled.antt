@@ -1,16 +1,16 @@
 -- What the end of a text tells, and that the grid which its words spell is lawful.
-use Rattle.std.proofs.Common.{◌≡◌, ◌≢◌, ℕ, ◌+◌, ◌*◌, ◌<◌, ◌≤◌, Bool, true, false, ◌||◌, cond, nat_lt, List, [], ◌∷◌, ◌++◌, length, map, Option, None, Some, ℤ, arith, lit≤, refl, ap, sym, ◌∙◌, subst, inl, inr}
-use Rattle.std.specs.Prelude.{is_some, unwrap_or, option_map, codes}
-use Rattle.std.specs.Option.{option_or, option_map_or, option_and_then}
+use Rattle.std.proofs.Common.{◌≡◌, ℕ, ◌*◌, ◌<◌, ◌≤◌, Bool, true, false, nat_lt, List, [], ◌∷◌, ◌++◌, length, map, Option, None, Some, arith, lit≤, refl, ap, sym, ◌∙◌, subst}
+use Rattle.std.specs.Prelude.{unwrap_or, option_map, codes}
+use Rattle.std.specs.Option.{option_map_or}
 use Rattle.std.proofs.lemmas.Bool.{and_parts, lt-ltb, le-ltb}
 use Rattle.std.proofs.Math.Nat.{one-le-mul}
 use Rattle.std.proofs.lemmas.List.{append-nil, length-map}
 use Rattle.ascii_grid.specs.Words.{Word}
 use Rattle.ascii_grid.specs.Decimal.{number_of, is_decimal, is_above_zero}
-use Rattle.ascii_grid.specs.Raster.{Raster, raster, IsHeaderWord, IsTerrain, IsLawful}
-use Rattle.ascii_grid.specs.Header.{is_key, header_words, height_words, key_left, slot_of, nodata_for, missing_fault, no_value_fault, header_fault}
+use Rattle.ascii_grid.specs.Raster.{IsHeaderWord, IsLawful}
+use Rattle.ascii_grid.specs.Header.{header_words, height_words, key_left, nodata_for, missing_fault, header_fault}
 use Rattle.ascii_grid.specs.GridText.{AsksForCells, cell_of, cells_wanted, heights_fault, end_fault, grid_of}
-use Rattle.ascii_grid.specs.Slots.{anchor_at, missing_of, wanted_of, IsWhole, raster_of}
+use Rattle.ascii_grid.specs.Slots.{anchor_at, wanted_of, IsWhole, raster_of}
 use Rattle.ascii_grid.specs.Reading.{flat, given, is_centre, slots_of, IsHeaderOf, HasBegun, AreHeights, HasJudged, IsEndFault}
 use Rattle.ascii_grid.specs.declared.fault.Key.{Key}
 use Rattle.ascii_grid.specs.declared.fault.Key.TheVariants.{Ncols, Nrows, Xll, Yll, Cellsize, Nodata}
@@ -23,7 +23,7 @@ use Rattle.ascii_grid.specs.declared.judge.Stage.TheVariants.{AtKey, AtValue, At
 use Rattle.ascii_grid.proofs.Judging.{Pairs, pairs-flat, header_words-flat, height_words-flat, key_left-flat, header_words-begun, height_words-begun, is_given-slots_of, missing_of-slots_of, wanted_of-slots_of, number-of_pair}
 use Rattle.ascii_grid.proofs.JudgedWords.{at_key, at_value, at_heights, place_of}
 use Rattle.ascii_grid.proofs.Told.{is_memory, told_missing}
-use Rattle.ascii_grid.proofs.Whole.{AreLawful, cells_ok, size_between, valid, value_of, IsWhole-from_missing}
+use Rattle.ascii_grid.proofs.Whole.{cells_ok, size_between, valid, value_of, IsWhole-from_missing}
 
 -- ---- header and heights of the words
 

@@ -1,16 +1,14 @@
 -- The fault of a text stays when the text goes on.
-use Rattle.std.proofs.Common.{◌≡◌, ℕ, ◌+◌, ◌-◌, ◌^◌, ◌<◌, ◌≤◌, Bool, true, false, cond, nat_le, List, [], ◌∷◌, ◌++◌, length, take, drop, Option, None, Some, arith, refl, ap, sym, ◌∙◌, subst, inl, inr}
+use Rattle.std.proofs.Common.{◌≡◌, ℕ, ◌+◌, ◌<◌, true, false, List, [], ◌∷◌, ◌++◌, length, Option, None, Some, arith, refl, ap, sym, ◌∙◌, subst, inl, inr}
 use Rattle.std.specs.Prelude.{filter}
 use Rattle.std.specs.Option.{option_or}
-use Rattle.std.proofs.lemmas.Bool.{cases_Bool, cases_lt, le-leb, lt-leb, leb-true}
-use Rattle.std.proofs.lemmas.List.{append-nil, append_assoc, length-append, take_all, take-append-le}
-use Rattle.std.proofs.Math.Seq.{take-append-add}
+use Rattle.std.proofs.lemmas.Bool.{cases_Bool}
+use Rattle.std.proofs.lemmas.List.{append-nil, append_assoc}
 use Rattle.ascii_grid.specs.Words.{Word, is_word, is_separator, words, ended_words}
 use Rattle.ascii_grid.specs.Header.{begins_with_letter, header_words, height_words, nodata_for, header_fault, key_fault, value_fault, key_left, missing_fault}
-use Rattle.ascii_grid.specs.GridText.{most_bytes, cells_wanted, words_fault, whole_header_fault, heights_fault, height_fault, end_fault, fault_so_far, text_fault, judged_words, AsksForCells, IsRefusal, IsRefusalSoFar}
+use Rattle.ascii_grid.specs.GridText.{cells_wanted, words_fault, whole_header_fault, heights_fault, height_fault, AsksForCells}
 use Rattle.ascii_grid.specs.Reading.{IsParted}
 use Rattle.ascii_grid.specs.declared.fault.GridFault.{GridFault}
-use Rattle.ascii_grid.specs.declared.fault.GridFault.TheVariants.{UnknownKey, RepeatedKey, MissingKey, BadSize, BadPlace, BadNodata, BadHeight, TooFew, TooMany, NoValue, TooLong, Memory}
 use Rattle.ascii_grid.proofs.Parting.{words-parted, IsParted-none, IsParted-byte, IsParted-separator}
 
 -- ---- the words of a longer text
@@ -24,12 +22,12 @@ further text ws w [] h =
 further text ws w (b ∷ more) h =
     elim (cases_Bool (is_separator b)) [
       | inl ends ↦
-        let next = subst (λ z. IsParted (text ++ b ∷ []) z []) (words-parted text ws w h) (IsParted-separator text ws w b h ends) in
-        let rest = further (text ++ b ∷ []) (ws ++ filter is_word (w ∷ [])) [] more next in
-        (filter is_word (w ∷ []) ++ rest.0, rest.1, subst (λ z. IsParted (text ++ b ∷ more) z rest.1) (append_assoc ws (filter is_word (w ∷ [])) rest.0) (subst (λ t. IsParted t ((ws ++ filter is_word (w ∷ [])) ++ rest.0) rest.1) (append_assoc text (b ∷ []) more) rest.2))
+          let next = subst (λ z. IsParted (text ++ b ∷ []) z []) (words-parted text ws w h) (IsParted-separator text ws w b h ends) in
+          let rest = further (text ++ b ∷ []) (ws ++ filter is_word (w ∷ [])) [] more next in
+          (filter is_word (w ∷ []) ++ rest.0, rest.1, subst (λ z. IsParted (text ++ b ∷ more) z rest.1) (append_assoc ws (filter is_word (w ∷ [])) rest.0) (subst (λ t. IsParted t ((ws ++ filter is_word (w ∷ [])) ++ rest.0) rest.1) (append_assoc text (b ∷ []) more) rest.2))
       | inr stays ↦
-        let rest = further (text ++ b ∷ []) ws (w ++ b ∷ []) more (IsParted-byte text ws w b h stays) in
-        (rest.0, rest.1, subst (λ t. IsParted t (ws ++ rest.0) rest.1) (append_assoc text (b ∷ []) more) rest.2)
+          let rest = further (text ++ b ∷ []) ws (w ++ b ∷ []) more (IsParted-byte text ws w b h stays) in
+          (rest.0, rest.1, subst (λ t. IsParted t (ws ++ rest.0) rest.1) (append_assoc text (b ∷ []) more) rest.2)
     ]
 
 -- each text is parted
@@ -45,9 +43,10 @@ ended-more front more =
 pub words-more : (front more : List ℕ) → (others : List Word) × (words (front ++ more) ≡ ended_words front ++ others)
 words-more front more =
     let at = parted front in
-    let next = further front at.0 at.1 more at.2 in
-    (next.0 ++ filter is_word (next.1 ∷ []),
-     words-parted (front ++ more) (at.0 ++ next.0) next.1 next.2 ∙ append_assoc at.0 next.0 (filter is_word (next.1 ∷ [])) ∙ ap (λ z. z ++ (next.0 ++ filter is_word (next.1 ∷ []))) (sym at.2.ended))
+    let next = further front at.0 at.1 more at.2 in (
+      next.0 ++ filter is_word (next.1 ∷ []),
+      words-parted (front ++ more) (at.0 ++ next.0) next.1 next.2 ∙ append_assoc at.0 next.0 (filter is_word (next.1 ∷ [])) ∙ ap (λ z. z ++ (next.0 ++ filter is_word (next.1 ∷ []))) (sym at.2.ended),
+    )
 
 -- ---- the fault of more words
 
@@ -100,24 +99,24 @@ after_front-more d before front (k ∷ []) [] f h = h
 after_front-more d before front (k ∷ []) (v ∷ more) f h =
     elim (cases_Bool (begins_with_letter k)) [
       | inl letter ↦
-        let first : after_front d before front (k ∷ []) ≡ option_or (key_fault before k) None = rw letter refl in
-        after_front-pair d before front k v more letter
-        ∙ or_more (key_fault before k) None (option_or (value_fault k v) (after_front d (k ∷ before) (front ++ k ∷ v ∷ []) more)) f (sym first ∙ h) (λ e. absurd (cc))
+          let first : after_front d before front (k ∷ []) ≡ option_or (key_fault before k) None = rw letter refl in
+          after_front-pair d before front k v more letter
+          ∙ or_more (key_fault before k) None (option_or (value_fault k v) (after_front d (k ∷ before) (front ++ k ∷ v ∷ []) more)) f (sym first ∙ h) (λ e. absurd (cc))
       | inr height ↦
-        after_front-height d before front k (v ∷ more) height
-        ∙ after_header-more d (front ++ []) (k ∷ []) (v ∷ more) f (sym (after_front-height d before front k [] height) ∙ h)
+          after_front-height d before front k (v ∷ more) height
+          ∙ after_header-more d (front ++ []) (k ∷ []) (v ∷ more) f (sym (after_front-height d before front k [] height) ∙ h)
     ]
 after_front-more d before front (k ∷ v ∷ rest) more f h =
     elim (cases_Bool (begins_with_letter k)) [
       | inl letter ↦
-        after_front-pair d before front k v (rest ++ more) letter
-        ∙ or_more (key_fault before k) (option_or (value_fault k v) (after_front d (k ∷ before) (front ++ k ∷ v ∷ []) rest)) (option_or (value_fault k v) (after_front d (k ∷ before) (front ++ k ∷ v ∷ []) (rest ++ more))) f
+          after_front-pair d before front k v (rest ++ more) letter
+          ∙ or_more (key_fault before k) (option_or (value_fault k v) (after_front d (k ∷ before) (front ++ k ∷ v ∷ []) rest)) (option_or (value_fault k v) (after_front d (k ∷ before) (front ++ k ∷ v ∷ []) (rest ++ more))) f
           (sym (after_front-pair d before front k v rest letter) ∙ h)
           (λ e. or_more (value_fault k v) (after_front d (k ∷ before) (front ++ k ∷ v ∷ []) rest) (after_front d (k ∷ before) (front ++ k ∷ v ∷ []) (rest ++ more)) f e
-            (after_front-more d (k ∷ before) (front ++ k ∷ v ∷ []) rest more f))
+          (after_front-more d (k ∷ before) (front ++ k ∷ v ∷ []) rest more f))
       | inr height ↦
-        after_front-height d before front k (v ∷ rest ++ more) height
-        ∙ after_header-more d (front ++ []) (k ∷ v ∷ rest) more f (sym (after_front-height d before front k (v ∷ rest) height) ∙ h)
+          after_front-height d before front k (v ∷ rest ++ more) height
+          ∙ after_header-more d (front ++ []) (k ∷ v ∷ rest) more f (sym (after_front-height d before front k (v ∷ rest) height) ∙ h)
     ]
 
 pub words_fault-more : (d : ℕ) (ws more : List Word) (f : GridFault) → words_fault d ws ≡ Some f → words_fault d (ws ++ more) ≡ Some f
@@ -139,9 +138,9 @@ same_header (k ∷ []) more h =
 same_header (k ∷ v ∷ rest) more h =
     elim (cases_Bool (begins_with_letter k)) [
       | inl letter ↦
-        let heights : height_words (k ∷ v ∷ rest) ≡ height_words rest = rw letter refl in
-        let next = same_header rest more (let n = ap length heights in omega arith) in
-        (rw letter (ap (λ z. k ∷ v ∷ z) next.0), rw letter next.1)
+          let heights : height_words (k ∷ v ∷ rest) ≡ height_words rest = rw letter refl in
+          let next = same_header rest more (let n = ap length heights in omega arith) in
+          (rw letter (ap (λ z. k ∷ v ∷ z) next.0), rw letter next.1)
       | inr height ↦ (rw height refl, rw height refl)
     ]
 

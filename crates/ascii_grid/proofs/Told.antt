@@ -1,15 +1,15 @@
 -- No fault of words is want of memory, and a word that is too long is told first.
-use Rattle.std.proofs.Common.{◌≡◌, ℕ, ◌+◌, ◌<◌, ◌≤◌, Bool, true, false, cond, nat_lt, List, [], ◌∷◌, ◌++◌, length, Option, None, Some, arith, refl, ap, sym, ◌∙◌, ◌⊎◌, inl, inr, Result, Ok, Err, MatchResult}
+use Rattle.std.proofs.Common.{◌≡◌, ℕ, ◌+◌, ◌<◌, ◌≤◌, Bool, true, false, cond, nat_lt, List, [], ◌∷◌, ◌++◌, length, Option, None, Some, refl, ap, sym, ◌∙◌, ◌⊎◌, inl, inr, Result, MatchResult}
 use Rattle.std.proofs.lemmas.Result.{MatchResult-weaker}
-use Rattle.std.specs.Prelude.{find, option_map}
+use Rattle.std.specs.Prelude.{option_map}
 use Rattle.std.specs.Option.{option_or, option_map_or, option_and_then}
 use Rattle.std.specs.List.{list_any}
-use Rattle.std.proofs.lemmas.Bool.{cases_Bool, cond_both, lt-ltb}
+use Rattle.std.proofs.lemmas.Bool.{cases_Bool, lt-ltb}
 use Rattle.std.proofs.lemmas.List.{append-nil, append_assoc}
 use Rattle.ascii_grid.specs.Words.{Word}
-use Rattle.ascii_grid.specs.Header.{fills, slot_of, is_long, is_value, bad_value, begins_with_letter, header_words, height_words, nodata_for, header_fault, key_fault, value_fault, missing_fault, required_slots}
+use Rattle.ascii_grid.specs.Header.{fills, slot_of, is_long, is_value, bad_value, begins_with_letter, header_words, height_words, nodata_for, header_fault, key_fault, value_fault, missing_fault}
 use Rattle.ascii_grid.specs.GridText.{AsksForCells, is_cell, cells_wanted, words_fault, whole_header_fault, heights_fault, height_fault}
-use Rattle.ascii_grid.specs.Reading.{flat, keys_before, IsHeaderOf, HasBegun, AreHeights, HasJudged, IsWordFault}
+use Rattle.ascii_grid.specs.Reading.{flat, IsHeaderOf, HasBegun, AreHeights, HasJudged, IsWordFault}
 use Rattle.ascii_grid.specs.declared.fault.Key.{Key}
 use Rattle.ascii_grid.specs.declared.fault.Key.TheVariants.{Ncols, Nrows, Xll, Yll, Cellsize, Nodata}
 use Rattle.ascii_grid.specs.declared.fault.GridFault.{GridFault}
@@ -18,7 +18,7 @@ use Rattle.ascii_grid.specs.declared.header.Header.{Header}
 use Rattle.ascii_grid.specs.declared.judge.Stage.{Stage}
 use Rattle.ascii_grid.specs.declared.judge.Stage.TheVariants.{AtKey, AtValue, AtHeights}
 use Rattle.ascii_grid.specs.declared.judge.Judge.{Judge}
-use Rattle.ascii_grid.proofs.Judging.{Pairs, option_or-none, words_fault-key, words_fault-value, words_fault-heights, HasBegun-push, heights_fault-push}
+use Rattle.ascii_grid.proofs.Judging.{Pairs, words_fault-key, words_fault-value, words_fault-heights, HasBegun-push}
 use Rattle.ascii_grid.proofs.JudgedWords.{at_key, at_value, at_heights, fault-height_after, first_begun, judged-height, fault-height, memory-height, fault-first}
 
 -- want of memory
@@ -118,17 +118,18 @@ long_fault j ws w h far = by_stage j.stage refl
   where
     long : is_long w ≡ true
     long = lt-ltb 64 (length w) far
+
     by_stage : (s : Stage) → j.stage ≡ s → words_fault j.scale (ws ++ w ∷ []) ≡ Some TooLong
     by_stage AtKey e =
         elim (cases_Bool (begins_with_letter w)) [
           | inl letter ↦
-            ap (λ z. words_fault j.scale (z ++ w ∷ [])) (at_key j ws h e)
-            ∙ words_fault-key j.scale h.pairs w h.header.keys h.header.faultless letter
-            ∙ rw long refl
+              ap (λ z. words_fault j.scale (z ++ w ∷ [])) (at_key j ws h e)
+              ∙ words_fault-key j.scale h.pairs w h.header.keys h.header.faultless letter
+              ∙ rw long refl
           | inr begun ↦
-            ap (λ z. words_fault j.scale (z ++ w ∷ [])) (at_key j ws h e)
-            ∙ words_fault-heights j.scale h.pairs (w ∷ []) h.header.keys h.header.faultless begun
-            ∙ rw long refl
+              ap (λ z. words_fault j.scale (z ++ w ∷ [])) (at_key j ws h e)
+              ∙ words_fault-heights j.scale h.pairs (w ∷ []) h.header.keys h.header.faultless begun
+              ∙ rw long refl
         ]
     by_stage (AtValue slot centre) e =
         let there = at_value j ws h slot centre e in
@@ -161,3 +162,18 @@ no_first_height j ws w f h stage begun short why =
 
 pub same_header : (h h' : Header) (ps : Pairs) → h' ≡ h → IsHeaderOf h ps → IsHeaderOf h' ps
 same_header h h' ps e k = record { keys = k.keys; faultless = k.faultless; slots = e ∙ k.slots }
+
+-- a height judged by its value
+pub plain_ok : (j j' : Judge) (ws : List Word) (w : Word) (h : HasJudged j ws) → j.stage ≡ AtHeights → j'.header ≡ j.header → j'.stage ≡ j.stage → AreHeights j' h.pairs (h.rest ++ w ∷ []) → HasJudged j' (ws ++ w ∷ [])
+plain_ok j j' ws w h e header stage more =
+    let there = at_heights j ws h e in
+    judged-height j j' ws h.pairs h.rest w h.header h.words (HasBegun-push h.rest w there.0) more header (stage ∙ e)
+
+pub plain_refused : (j : Judge) (ws : List Word) (w : Word) (f : GridFault) (h : HasJudged j ws) → j.stage ≡ AtHeights → length w ≤ 64 → (f ≡ Memory) ⊎ (height_fault j.scale j.nodata j.wanted (length h.rest) w ≡ Some f) → IsWordFault j.scale (ws ++ w ∷ []) f
+plain_refused j ws w f h e short why =
+    let there = at_heights j ws h e in
+    let begun = HasBegun-push h.rest w there.0 in
+    elim why [
+      | inl lack ↦ memory_fault j.scale (ws ++ w ∷ []) f lack (memory-height j ws h.pairs h.rest w j.header h.header h.words begun there.1.whole there.1.faultless short)
+      | inr fault ↦ word_fault j.scale (ws ++ w ∷ []) f (fault-height j ws h.pairs h.rest w f j.header h.header h.words begun there.1 short fault)
+    ]

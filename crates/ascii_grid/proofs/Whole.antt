@@ -1,31 +1,26 @@
 -- The end of a text: what is told there, and the grid.
-use Rattle.std.proofs.Common.{◌≡◌, ◌≢◌, ℕ, ◌+◌, ◌*◌, ◌<◌, ◌≤◌, Bool, true, false, not, ◌&&◌, ◌||◌, cond, nat_lt, nat_le, ◌==◌, List, [], ◌∷◌, ◌++◌, length, map, Option, None, Some, ℤ, arith, refl, ap, sym, ◌∙◌, subst, inl, inr}
-use Rattle.std.specs.Prelude.{find, is_some, IsSome, All, IfSome, unwrap_or, option_map, codes, int_le, ◌≤ℤ◌}
-use Rattle.std.specs.Option.{option_or, option_map_or, option_and_then}
+use Rattle.std.proofs.Common.{◌≡◌, ◌≢◌, ℕ, ◌+◌, ◌<◌, ◌≤◌, Bool, true, false, not, cond, nat_lt, nat_le, ◌==◌, List, [], ◌∷◌, length, map, Option, None, Some, ℤ, arith, refl, ap, sym, ◌∙◌, subst, inl, inr}
+use Rattle.std.specs.Prelude.{is_some, All, IfSome, option_map, int_le, ◌≤ℤ◌}
+use Rattle.std.specs.Option.{option_or, option_map_or}
 use Rattle.std.specs.Str.{bytes_eq}
 use Rattle.std.specs.Ordering.{int_eq}
 use Rattle.std.proofs.lemmas.Bool.Decides.{Decides-int_eq}
-use Rattle.std.proofs.lemmas.Bool.{cases_Bool, and_parts, or_parts, ltb-true, ltb-false, leb-true, eqb-true, lt-ltb, le-ltb}
+use Rattle.std.proofs.lemmas.Bool.{cases_Bool, and_parts, or_parts, ltb-true, ltb-false, leb-true, eqb-true}
 use Rattle.std.proofs.lemmas.Option.{same_Some}
-use Rattle.std.proofs.lemmas.List.{append-nil, length-map}
 use Rattle.std.proofs.lemmas.Int.{ints}
 use Rattle.std.proofs.lemmas.List.Elements.{All-cons}
 use Rattle.ascii_grid.specs.Words.{Word}
-use Rattle.ascii_grid.specs.Decimal.{number_of, is_decimal, is_above_zero, scaled_value}
-use Rattle.ascii_grid.specs.Raster.{Raster, raster, lowest, highest, IsHeight, is_height, IsTerrain, IsLawful}
-use Rattle.ascii_grid.specs.Header.{fills, slot_of, slot_number, is_long, is_size, is_value, bad_value, header_words, height_words, key_left, nodata_for, header_fault, key_fault, value_fault, missing_fault, no_value_fault}
-use Rattle.ascii_grid.specs.GridText.{AsksForCells, same_value, is_nodata, is_cell, cell_of, cells_wanted, heights_fault, height_fault, end_fault, grid_of}
-use Rattle.ascii_grid.specs.Slots.{missing_of, IsWhole, raster_of}
-use Rattle.ascii_grid.specs.Reading.{flat, given, slots_of, keys_before, IsHeaderOf, HasBegun, AreHeights, HasJudged, IsEndFault}
+use Rattle.ascii_grid.specs.Decimal.{number_of, scaled_value}
+use Rattle.ascii_grid.specs.Raster.{lowest, highest, IsHeight, is_height}
+use Rattle.ascii_grid.specs.Header.{fills, slot_of, slot_number, is_long, is_size, is_value, bad_value, header_fault, key_fault, value_fault}
+use Rattle.ascii_grid.specs.GridText.{same_value, is_nodata, is_cell, cell_of, heights_fault, height_fault}
+use Rattle.ascii_grid.specs.Slots.{missing_of, IsWhole}
+use Rattle.ascii_grid.specs.Reading.{flat, given}
 use Rattle.ascii_grid.specs.declared.fault.Key.{Key}
 use Rattle.ascii_grid.specs.declared.fault.Key.TheVariants.{Ncols, Nrows, Xll, Yll, Cellsize, Nodata}
-use Rattle.ascii_grid.specs.declared.fault.GridFault.{GridFault}
-use Rattle.ascii_grid.specs.declared.fault.GridFault.TheVariants.{MissingKey, BadHeight, TooFew, TooMany, NoValue, TooLong, Memory}
+use Rattle.ascii_grid.specs.declared.fault.GridFault.TheVariants.{MissingKey, BadHeight, TooMany, TooLong}
 use Rattle.ascii_grid.specs.declared.header.Header.{Header}
-use Rattle.ascii_grid.specs.declared.judge.Judge.{Judge}
-use Rattle.ascii_grid.specs.declared.judge.Stage.TheVariants.{AtKey, AtValue, AtHeights}
-use Rattle.ascii_grid.proofs.Judging.{Pairs, pairs-flat, header_words-flat, height_words-flat, key_left-flat, header_words-begun, height_words-begun, is_given-slots_of, missing_of-slots_of, number-of_pair}
-use Rattle.ascii_grid.proofs.JudgedWords.{at_key, at_value, at_heights, place_of}
+use Rattle.ascii_grid.proofs.Judging.{Pairs}
 
 -- ---- a header whose words have no fault
 
@@ -56,10 +51,10 @@ value_ok k v slot h e =
     elim (cases_Bool (is_long v)) [
       | inl long ↦ let clash : value_fault k v ≡ Some TooLong = rw long refl in absurd (cc)
       | inr short ↦
-        elim (cases_Bool (is_value slot v)) [
-          | inl ok ↦ (ok, ltb-false 64 (length v) short)
-          | inr bad ↦ let clash : value_fault k v ≡ Some (bad_value slot) = rw (short, s, bad) refl in absurd (cc)
-        ]
+          elim (cases_Bool (is_value slot v)) [
+            | inl ok ↦ (ok, ltb-false 64 (length v) short)
+            | inr bad ↦ let clash : value_fault k v ≡ Some (bad_value slot) = rw (short, s, bad) refl in absurd (cc)
+          ]
     ]
 
 -- the value given for a slot is one
@@ -70,12 +65,12 @@ valid before (q ∷ ps) slot p none e =
     let rest = or_none (value_fault q.0 q.1) _ parts.1 in
     elim (cases_Bool (fills slot q.0)) [
       | inl here ↦
-        let found : given slot (q ∷ ps) ≡ Some q = rw here refl in
-        let same : q ≡ p = same_Some q p (sym found ∙ e) in
-        subst (λ (r : Word × Word). (is_value slot r.1 ≡ true) × (length r.1 ≤ 64)) same (value_ok q.0 q.1 slot here rest.0)
+          let found : given slot (q ∷ ps) ≡ Some q = rw here refl in
+          let same : q ≡ p = same_Some q p (sym found ∙ e) in
+          subst (λ (r : Word × Word). (is_value slot r.1 ≡ true) × (length r.1 ≤ 64)) same (value_ok q.0 q.1 slot here rest.0)
       | inr apart ↦
-        let found : given slot (q ∷ ps) ≡ given slot ps = rw apart refl in
-        valid (q.0 ∷ before) ps slot p rest.1 (sym found ∙ e)
+          let found : given slot (q ∷ ps) ≡ given slot ps = rw apart refl in
+          valid (q.0 ∷ before) ps slot p rest.1 (sym found ∙ e)
     ]
 
 some_of : {X : Type 0} (o : Option X) → is_some o ≡ true → (x : X) × (o ≡ Some x)
@@ -148,14 +143,14 @@ height_ok d nodata wanted place w h =
     elim (cases_Bool (is_long w)) [
       | inl long ↦ let clash : height_fault d nodata wanted place w ≡ Some TooLong = rw long refl in absurd (cc)
       | inr short ↦
-        elim (cases_Bool (nat_lt place wanted)) [
-          | inr over ↦ let clash : height_fault d nodata wanted place w ≡ Some TooMany = rw (short, over) refl in absurd (cc)
-          | inl room ↦
-            elim (cases_Bool (is_cell d nodata w)) [
-              | inl ok ↦ (ltb-true place wanted room, ok)
-              | inr bad ↦ let clash : height_fault d nodata wanted place w ≡ Some (BadHeight place) = rw (short, room, bad) refl in absurd (cc)
-            ]
-        ]
+          elim (cases_Bool (nat_lt place wanted)) [
+            | inr over ↦ let clash : height_fault d nodata wanted place w ≡ Some TooMany = rw (short, over) refl in absurd (cc)
+            | inl room ↦
+                elim (cases_Bool (is_cell d nodata w)) [
+                  | inl ok ↦ (ltb-true place wanted room, ok)
+                  | inr bad ↦ let clash : height_fault d nodata wanted place w ≡ Some (BadHeight place) = rw (short, room, bad) refl in absurd (cc)
+                ]
+          ]
     ]
 
 abbrev pub AreLawful : ℕ → Word → List (Option ℤ) → Type 0

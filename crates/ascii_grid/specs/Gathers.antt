@@ -1,4 +1,4 @@
--- A text on its way to a device through a page of waiting bytes: for the writers' own steps.
+-- A text on its way to a device through a page of waiting bytes: for the writers' own steps. Source: this project.
 use Rattle.std.specs.Prelude.{◌≡◌, ℕ, List, ◌++◌, Option, Result, OnOk, OnErr}
 use Rattle.std.specs.Io.KnownBytes.{Appends}
 use Rattle.ascii_grid.specs.Device.{Device, AppendsPart, CountsFailure}

@@ -1,12 +1,13 @@
 -- What the definitions satisfy. Source: this project.
 use Rattle.std.specs.Prelude.{◌≡◌, ℕ, ◌≤◌, ◌++◌, ℤ, List, length, Option, Some, Contains}
-use Rattle.ascii_grid.specs.Raster.{Raster, Terrain, IsLawful}
+use Rattle.ascii_grid.specs.Raster.{Raster, Terrain, IsLawful, IsTerrain}
 use Rattle.ascii_grid.specs.Neighbours.{IsDataCell}
 use Rattle.ascii_grid.specs.Filled.{IsFilled, IsFilledHeight}
-use Rattle.ascii_grid.specs.GridText.{IsGridText, text_fault, fault_so_far, most_bytes}
+use Rattle.ascii_grid.specs.GridText.{IsGridText, text_fault, fault_so_far, most_bytes, judged_words, AsksForCells, IsRefusalSoFar}
 use Rattle.ascii_grid.specs.Text.{heights_text}
 use Rattle.ascii_grid.specs.declared.place.Place.{Place}
 use Rattle.ascii_grid.specs.declared.fault.GridFault.{GridFault}
+use Rattle.ascii_grid.specs.declared.fault.GridFault.TheVariants.{Memory}
 
 -- A text that is a grid is a lawful one, and only one.
 abbrev pub GridsAreLawful : Type 0
@@ -26,6 +27,10 @@ GridTextsFit = (g : Raster) → IsLawful g → length g.nodata ≤ 14 → length
 -- A fault that has shown stays the text's fault, however the text goes on.
 abbrev pub FaultsStay : Type 0
 FaultsStay = (d : ℕ) (text more : List ℕ) (f : GridFault) → fault_so_far d text ≡ Some f → text_fault d (text ++ more) ≡ Some f
+
+-- A want of memory that has shown stays one: the cells are asked for at that height, however the text goes on.
+abbrev pub WantsStay : Type 0
+WantsStay = (d : ℕ) (text more : List ℕ) → IsRefusalSoFar d text Memory → AsksForCells (judged_words (text ++ more))
 
 -- Each data cell has a filled height, and no cell has two.
 abbrev pub EachHasFilledHeight : Type 0

@@ -1,4 +1,4 @@
--- A grid's parts as contracts see them.
+-- A grid's parts as contracts see them. Source: this project.
 use Rattle.std.specs.Prelude.{ℕ, ℤ, List, Option}
 use Rattle.ascii_grid.specs.Raster.{Raster}
 use Rattle.ascii_grid.specs.declared.grid.GridHeader.{GridHeader}

@@ -1,13 +1,12 @@
 -- What a reader keeps of the text that it was fed. None of this is part of what a text means: a new reader has it of no
 -- text, a piece keeps it, and at the end it turns into the definitions of GridText.
-use Rattle.std.specs.Prelude.{◌≡◌, ℕ, ◌+◌, ◌*◌, ◌<◌, ◌≤◌, Bool, true, false, ◌||◌, List, [], ◌∷◌, ◌++◌, map, filter, find, length, take, codes, ℤ, Option, None, Some, option_map, MatchOption, Result, MatchResult}
+use Rattle.std.specs.Prelude.{◌≡◌, ℕ, ◌<◌, ◌≤◌, Bool, true, false, ◌||◌, List, [], ◌∷◌, ◌++◌, map, filter, find, length, take, codes, Option, None, Some, option_map, MatchOption}
 use Rattle.std.specs.List.{slice_split, list_all}
 use Rattle.ascii_grid.specs.Words.{Word, is_word, is_separator, ended_words}
 use Rattle.ascii_grid.specs.Decimal.{number_of, scaled_value}
-use Rattle.ascii_grid.specs.Header.{fills, slot_of, is_key, begins_with_letter, header_words, height_words, header_fault, key_fault, missing_fault, nodata_for}
-use Rattle.ascii_grid.specs.GridText.{AsksForCells, cell_of, cells_wanted, words_fault, heights_fault, end_fault, grid_of, fault_so_far, IsRefusalSoFar, most_bytes}
+use Rattle.ascii_grid.specs.Header.{fills, slot_of, is_key, begins_with_letter, height_words, header_fault, key_fault, missing_fault, nodata_for}
+use Rattle.ascii_grid.specs.GridText.{AsksForCells, cell_of, cells_wanted, words_fault, heights_fault, end_fault, IsRefusalSoFar, most_bytes}
 use Rattle.ascii_grid.specs.Slots.{anchor_at, is_given}
-use Rattle.ascii_grid.specs.Raster.{Raster}
 use Rattle.ascii_grid.specs.declared.fault.Key.{Key}
 use Rattle.ascii_grid.specs.declared.fault.Key.TheVariants.{Ncols, Nrows, Xll, Yll, Cellsize, Nodata}
 use Rattle.ascii_grid.specs.declared.fault.GridFault.{GridFault}

@@ -1,10 +1,10 @@
 -- The slots of a header as a reader fills them, pair by pair.
-use Rattle.std.specs.Prelude.{ℕ, ◌*◌, ℤ, IsSome, Bool, false, not, ◌||◌, List, [], ◌∷◌, find, codes, Option, None, Some, is_some, unwrap_or, option_map}
+use Rattle.std.specs.Prelude.{ℕ, ◌*◌, ℤ, IsSome, Bool, false, not, List, [], find, Option, None, Some, is_some, unwrap_or, option_map}
 use Rattle.std.specs.Option.{option_map_or}
 use Rattle.ascii_grid.specs.Words.{Word}
 use Rattle.ascii_grid.specs.Decimal.{number_of}
 use Rattle.ascii_grid.specs.Raster.{Raster, raster}
-use Rattle.ascii_grid.specs.Header.{fills, is_key, required_slots}
+use Rattle.ascii_grid.specs.Header.{required_slots}
 use Rattle.ascii_grid.specs.declared.fault.Key.{Key}
 use Rattle.ascii_grid.specs.declared.fault.Key.TheVariants.{Ncols, Nrows, Xll, Yll, Cellsize, Nodata}
 use Rattle.ascii_grid.specs.declared.fault.GridFault.{GridFault}

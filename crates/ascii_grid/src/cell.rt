@@ -1,5 +1,5 @@
 // The cell that a word among the heights stands for.
-ghost use Rattle.std.specs.Prelude.{◌≡◌, if◌then◌else◌, Option, Some, None};
+ghost use Rattle.std.specs.Prelude.{◌≡◌, ℕ, List, if◌then◌else◌, Option, Some, None};
 ghost use Rattle.ascii_grid.specs.Decimal.{scaled_value};
 ghost use Rattle.ascii_grid.specs.GridText.{same_value, is_cell, cell_of};
 
@@ -7,6 +7,7 @@ use crate::decimal::scaled_value;
 use crate::place::Height;
 
 const LOWEST: i64 = -1_000_000_000;
+
 const HIGHEST: i64 = 1_000_000_000;
 
 /// The cell that the word stands for, beside a NODATA word and its scaled value. None: it stands for none.
@@ -19,16 +20,29 @@ pub(crate) fn cell(
     ensures { nodata_value ≡ scaled_value scale nodata.now →
         result ≡ (if is_cell scale nodata.now word.now then Some (cell_of scale nodata.now word.now) else None) }
 {
-    let value = scaled_value(scale, word);
-    if word == nodata || is_same_value(value, nodata_value) {
-        return Some(None);
-    }
-    match value {
-        Some(height) if LOWEST <= height && height <= HIGHEST => Some(Some(height as Height)),
-        _ => None,
+    match scaled_value(scale, word) {
+        Some(value) => value_cell(value, nodata_value),
+        None => (word == nodata).then_some(None),
     }
 }
 
+/// The cell of a word that has a scaled value, beside the one of the NODATA word.
+#[inline(always)]
+pub(crate) fn value_cell(value: i64, nodata_value: Option<i64>) -> Option<Option<Height>>
+    ensures { (d : ℕ) (nodata word : List ℕ) → scaled_value d word ≡ Some value → nodata_value ≡ scaled_value d nodata →
+        result ≡ (if is_cell d nodata word then Some (cell_of d nodata word) else None) }
+{
+    if is_same_value(Some(value), nodata_value) {
+        return Some(None);
+    }
+    if LOWEST <= value && value <= HIGHEST {
+        Some(Some(value as Height))
+    } else {
+        None
+    }
+}
+
+#[inline(always)]
 fn is_same_value(value: Option<i64>, other: Option<i64>) -> bool
     ensures { result ≡ same_value value other }
 {

@@ -62,13 +62,14 @@ pub(crate) trait CellValue: Copy {
     /// Its text in a grid of this scale.
     ghost text: { ℕ → Self → List ℕ };
 
+    /// Adds the text to the page.
     fn push_to(self, scale: u8, page: &mut Page)
         requires scale { scale ≤ 6 }
         requires room { length page.old + 24 ≤ 4096 }
         ensures { page.new ≡ page.old ++ text scale self };
 }
 
-impl CellValue for i32 {
+impl CellValue for Height {
     ghost text = { height_text };
 
     #[inline(always)]

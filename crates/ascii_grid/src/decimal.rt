@@ -1,9 +1,10 @@
 // Decimal texts, and the whole numbers that they stand for at a scale.
-ghost use Rattle.std.specs.Prelude.{◌≡◌, IfSome, ℤ, pos, neg_ℤ, ◌≤◌, not, ℕ, ◌+◌, ◌*◌, ◌-◌, ◌^◌, ◌++◌, ◌&&◌, ◌==◌, nat_le, take, drop, replicate, min, fold, if◌then◌else◌, Option, Some, None};
+ghost use Rattle.std.specs.Prelude.{nat_lt, ◌<◌, true, length, ◌≡◌, IfSome, ℤ, pos, neg_ℤ, ◌≤◌, not, ℕ, ◌+◌, ◌*◌, ◌-◌, ◌^◌, ◌++◌, ◌&&◌, ◌==◌, nat_le, take, drop, replicate, min, fold, if◌then◌else◌, Option, Some, None};
 ghost use Rattle.std.specs.List.{before_first, after_first, position, list_all, list_any};
 ghost use Rattle.std.specs.Char.{is_ascii_digit};
 ghost use Rattle.ascii_grid.specs.Decimal.{without_sign, is_negative, is_point, is_exponent_mark, has_exponent, are_digits, is_decimal, is_above_zero, number_of, scaled_value};
 ghost use Rattle.ascii_grid.specs.Header.{is_size};
+ghost use Rattle.ascii_grid.specs.Plain.{IsPlain};
 
 /// One more than the greatest scaled value: numbers above it are kept as this.
 const OVER: u64 = 1_000_000_000_000_000_001;
@@ -15,7 +16,8 @@ pub(crate) fn is_decimal(word: &[u8]) -> bool
     let (mantissa, _) = round_exponent(without_sign(word));
     let (whole, fraction) = round_point(mantissa);
     let (_, exponent) = round_exponent(word);
-    are_digits_in_all(whole, fraction) && (!has_exponent(word) || are_digits(without_sign(exponent)))
+    are_digits_in_all(whole, fraction)
+        && (!has_exponent(word) || are_digits(without_sign(exponent)))
 }
 
 /// Whether a decimal text is above zero.
@@ -42,6 +44,17 @@ pub(crate) fn size(word: &[u8]) -> Option<u16>
     }
 }
 
+/// The number that one or more digits spell, where it fits 32 bits.
+pub fn whole_number(digits: &[u8]) -> Option<u32>
+    ensures { result ≡ (if are_digits digits.now && nat_lt (number_of digits.now) (2 ^ 32)
+        then Some (number_of digits.now) else None) }
+{
+    if !are_digits(digits) {
+        return None;
+    }
+    u32::try_from(digits_after(0, digits)).ok()
+}
+
 /// The word times 10^scale, where it is a whole number from -10^18 to 10^18.
 pub(crate) fn scaled_value(scale: u8, word: &[u8]) -> Option<i64>
     ensures { result ≡ scaled_value scale word.now }
@@ -57,6 +70,73 @@ pub(crate) fn scaled_value(scale: u8, word: &[u8]) -> Option<i64>
     Some(signed(is_negative(word), size))
 }
 
+/// A whole number of one to nine digits, with `-` or without, at the front of the bytes, times 10^scale. It
+/// comes with its length. What follows it isn't looked at.
+#[inline(always)]
+pub(crate) fn plain_number(scale: u8, bytes: &[u8]) -> Option<(usize, i64)>
+    requires { scale ≤ 6 }
+    ensures { IfSome result (λ r. IsPlain scale bytes.now r.0 r.1) }
+{
+    if is_negative(bytes) {
+        let (len, number) = digits_in_front(&bytes[1..]);
+        if len == 0 {
+            return None;
+        }
+        return Some((len + 1, signed(true, scaled(number, scale))));
+    }
+    let (len, number) = digits_in_front(bytes);
+    if len == 0 {
+        return None;
+    }
+    Some((len, signed(false, scaled(number, scale))))
+}
+
+#[inline(always)]
+fn scaled(number: u64, scale: u8) -> u64
+    requires small { number < 10 ^ 9 }
+    requires given { scale ≤ 6 }
+    ensures value { result ≡ number * 10 ^ scale }
+    ensures small { result ≤ 10 ^ 18 }
+{
+    number * unit(scale)
+}
+
+// At most nine digits, and their number.
+#[inline(always)]
+fn digits_in_front(bytes: &[u8]) -> (usize, u64)
+    ensures within { (result.0 ≤ 9) × (result.0 ≤ length bytes.now) }
+    ensures digits { list_all is_ascii_digit (take result.0 bytes.now) ≡ true }
+    ensures number { result.1 ≡ number_of (take result.0 bytes.now) }
+    ensures small { result.1 < 10 ^ 9 }
+{
+    let mut number = 0;
+    let end = bytes.len().min(9);
+    for at in 0..end {
+        if !bytes[at].is_ascii_digit() {
+            return (at, number);
+        }
+        number = 10 * number + u64::from(bytes[at] - b'0');
+    }
+    (end, number)
+}
+
+#[inline(always)]
+fn unit(scale: u8) -> u64
+    requires { scale ≤ 6 }
+    ensures power { result ≡ 10 ^ scale }
+    ensures small { result ≤ 1000000 }
+{
+    match scale {
+        0 => 1,
+        1 => 10,
+        2 => 100,
+        3 => 1_000,
+        4 => 10_000,
+        5 => 100_000,
+        _ => 1_000_000,
+    }
+}
+
 fn without_sign(word: &[u8]) -> &[u8]
     ensures { result.now ≡ without_sign word.now }
 {
@@ -66,6 +146,7 @@ fn without_sign(word: &[u8]) -> &[u8]
     }
 }
 
+#[inline(always)]
 fn is_negative(word: &[u8]) -> bool
     ensures { result ≡ is_negative word.now }
 {
@@ -156,7 +237,7 @@ fn has_other_than_zero(bytes: &[u8]) -> bool
 fn scaled_size(scale: u8, whole: &[u8], fraction: &[u8]) -> Option<u64>
     ensures small { IfSome result (λ size. size ≤ 10 ^ 18) }
     ensures value { result ≡ (if list_all (λ b. b == 48) (drop scale fraction.now)
-            && nat_le (number_of (whole.now ++ take scale (fraction.now ++ replicate scale 48))) (10 ^ 18)
+        && nat_le (number_of (whole.now ++ take scale (fraction.now ++ replicate scale 48))) (10 ^ 18)
         then Some (number_of (whole.now ++ take scale (fraction.now ++ replicate scale 48))) else None) }
 {
     let kept = usize::from(scale).min(fraction.len());
@@ -168,6 +249,7 @@ fn scaled_size(scale: u8, whole: &[u8], fraction: &[u8]) -> Option<u64>
     (size < OVER).then_some(size)
 }
 
+#[inline(always)]
 fn signed(negative: bool, size: u64) -> i64
     requires { size ≤ 10 ^ 18 }
     ensures { result ≡ (if negative then neg_ℤ (pos size) else pos size) }

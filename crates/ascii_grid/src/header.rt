@@ -129,7 +129,14 @@ impl Header {
         requires lawful { IsLawful (raster_of self scale nodata cells.items) }
         ensures { result ≡ raster_of self scale nodata cells.items }
     {
-        let Header { cols, rows, xll, yll, cellsize, nodata: _ } = self;
+        let Header {
+            cols,
+            rows,
+            xll,
+            yll,
+            cellsize,
+            nodata: _,
+        } = self;
         let header = GridHeader {
             cols: u32::from(cols.unwrap()),
             rows: u32::from(rows.unwrap()),

@@ -1,11 +1,12 @@
 // The words of a text, judged one after another.
-ghost use Rattle.std.specs.Prelude.{◌≡◌, ◌≤◌, ◌<◌, ◌⊎◌, ◌++◌, [], ◌∷◌, List, length, true, false, Option, Some, None, Err, IfOk, IfErr, MatchResult};
+ghost use Rattle.std.specs.Prelude.{◌↔◌, IsTrue, if◌then◌else◌, ◌≡◌, ◌≤◌, ◌<◌, ◌⊎◌, ◌++◌, [], ◌∷◌, List, length, true, false, Option, Some, None, Err, IfOk, IfErr, MatchResult};
 ghost use Rattle.ascii_grid.specs.Words.{Word};
+ghost use Rattle.ascii_grid.specs.Decimal.{scaled_value};
 ghost use Rattle.ascii_grid.specs.Header.{begins_with_letter, missing_fault};
-ghost use Rattle.ascii_grid.specs.GridText.{height_fault, end_fault, grid_of};
+ghost use Rattle.ascii_grid.specs.GridText.{is_cell, cell_of, height_fault, end_fault, grid_of};
 ghost use Rattle.ascii_grid.specs.Reading.{flat, IsHeaderOf, AreHeights, HasJudged, IsWordFault, IsEndFault};
 
-use crate::cell::cell;
+use crate::cell::{cell, value_cell};
 use crate::decimal::scaled_value;
 use crate::fault::{GridFault, Key};
 use crate::grid::Grid;
@@ -30,7 +31,7 @@ pub(crate) enum Stage {
 #[derive(Drop)]
 pub(crate) struct Judge {
     alloc: Global,
-    scale: u8,
+    pub(crate) scale: u8,
     header: Header,
     stage: Stage,
     wanted: u32,
@@ -137,7 +138,7 @@ impl Judge {
         ensures none { (ps : List (Word × Word)) → IsHeaderOf self.old.header ps → MatchResult result
             (λ _. AreHeights self.new ps [])
             (λ f. (missing_fault (flat ps) ≡ Some f)
-                ⊎ ((f ≡ GridFault.Memory) × (missing_fault (flat ps) ≡ None))) }
+            ⊎ ((f ≡ GridFault.Memory) × (missing_fault (flat ps) ≡ None))) }
     {
         self.wanted = self.header.cells_wanted()?;
         self.nodata = self.header.nodata_word();
@@ -150,24 +151,62 @@ impl Judge {
         Ok(())
     }
 
+    #[inline(never)]
     fn judge_height(&mut self, word: &[u8]) -> Result<(), GridFault>
         requires { length word.now ≤ 64 }
         ensures kept { self.new ≡ record self.old { cells = self.new.cells } }
         ensures word { (ps : List (Word × Word)) (hs : List Word) → AreHeights self.old ps hs →
             MatchResult result (λ _. AreHeights self.new ps (hs ++ word.now ∷ []))
             (λ f. (f ≡ GridFault.Memory)
-                ⊎ (height_fault self.old.scale self.old.nodata self.old.wanted (length hs) word.now ≡ Some f)) }
+            ⊎ (height_fault self.old.scale self.old.nodata self.old.wanted (length hs) word.now ≡ Some f)) }
+    {
+        let cell = cell(self.scale, self.nodata.as_bytes(), self.nodata_value, word);
+        self.add_cell(cell)
+    }
+
+    /// Judges a height by its scaled value.
+    #[inline(always)]
+    pub(crate) fn judge_value_of_height(&mut self, value: i64) -> Result<(), GridFault>
+        ensures kept { self.new ≡ record self.old { cells = self.new.cells } }
+        ensures word { (ps : List (Word × Word)) (hs : List Word) (word : Word) → AreHeights self.old ps hs →
+            length word ≤ 64 → scaled_value self.old.scale word ≡ Some value →
+            MatchResult result (λ _. AreHeights self.new ps (hs ++ word ∷ []))
+            (λ f. (f ≡ GridFault.Memory)
+            ⊎ (height_fault self.old.scale self.old.nodata self.old.wanted (length hs) word ≡ Some f)) }
+    {
+        let cell = value_cell(value, self.nodata_value);
+        self.add_cell(cell)
+    }
+
+    // Adds the cell of the next height, where it has one.
+    #[inline(always)]
+    fn add_cell(&mut self, cell: Option<Option<Height>>) -> Result<(), GridFault>
+        ensures kept { self.new ≡ record self.old { cells = self.new.cells } }
+        ensures word { (ps : List (Word × Word)) (hs : List Word) (word : Word) → AreHeights self.old ps hs →
+            length word ≤ 64 →
+            cell ≡ (if is_cell self.old.scale self.old.nodata word
+            then Some (cell_of self.old.scale self.old.nodata word) else None) →
+            MatchResult result (λ _. AreHeights self.new ps (hs ++ word ∷ []))
+            (λ f. (f ≡ GridFault.Memory)
+            ⊎ (height_fault self.old.scale self.old.nodata self.old.wanted (length hs) word ≡ Some f)) }
     {
         let place = self.cells.len();
         if place >= self.wanted as usize {
             return Err(GridFault::TooMany);
         }
-        let Some(cell) = cell(self.scale, self.nodata.as_bytes(), self.nodata_value, word) else {
+        let Some(cell) = cell else {
             return Err(GridFault::BadHeight(place as u32));
         };
         if self.cells.push(cell).is_err() {
             return Err(GridFault::Memory);
         }
         Ok(())
+    }
+
+    #[inline(always)]
+    pub(crate) fn is_at_heights(&self) -> bool
+        ensures { IsTrue result ↔ (self.now.stage ≡ Stage.AtHeights) }
+    {
+        matches!(self.stage, Stage::AtHeights)
     }
 }

@@ -1,5 +1,20 @@
 // Facts of the definitions alone.
-ghost use Rattle.ascii_grid.specs.Laws.{GridsAreOne, GridTextsFit, GridsReadBack, EachHasFilledHeight, FilledHeightsAreOne, FilledHeightsStand, FilledTwiceIsFilled};
+ghost use Rattle.ascii_grid.specs.Laws.{GridsAreLawful, GridsAreOne, FaultsStay, WantsStay, GridTextsFit, GridsReadBack, EachHasFilledHeight, FilledHeightsAreOne, FilledHeightsStand, FilledTwiceIsFilled};
+
+/// A text that is a grid is a lawful one.
+pub fn grids_are_lawful()
+    ensures { GridsAreLawful }
+{}
+
+/// A fault that has shown stays the text's fault, however the text goes on.
+pub fn faults_stay()
+    ensures { FaultsStay }
+{}
+
+/// A want of memory that has shown stays one, however the text goes on.
+pub fn wants_stay()
+    ensures { WantsStay }
+{}
 
 /// A text is at most one grid.
 pub fn grids_are_one()

@@ -4,7 +4,7 @@
 mod cell;
 mod cell_text;
 pub mod counted;
-mod decimal;
+pub mod decimal;
 pub mod fault;
 pub mod grid;
 mod header;
@@ -21,6 +21,7 @@ pub mod word;
 pub mod write;
 
 pub use counted::{Counted, ReadFailed, WriteFailed};
+pub use decimal::whole_number;
 pub use fault::{GridFault, Key};
 pub use grid::{Grid, NoMemory};
 pub use input::{InputFault, read_grid};

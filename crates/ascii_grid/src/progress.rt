@@ -1,8 +1,9 @@
 // The words of a text, parted byte by byte and judged where a separator ends them.
-ghost use Rattle.std.specs.Prelude.{◌≡◌, ℕ, ◌≤◌, ◌++◌, [], ◌∷◌, List, length, take, MatchResult};
+ghost use Rattle.std.specs.Prelude.{◌≡◌, ℕ, ◌≤◌, ◌++◌, [], ◌∷◌, ◌<◌, List, length, take, IfOk, MatchResult};
 ghost use Rattle.ascii_grid.specs.Words.{is_separator, words, ended_words};
 ghost use Rattle.ascii_grid.specs.Reading.{HasJudged, HasWords, IsWordFault};
 
+use crate::decimal::plain_number;
 use crate::fault::GridFault;
 use crate::judge::Judge;
 use std::alloc::Global;
@@ -80,19 +81,65 @@ impl Progress {
 
     /// Takes the next bytes.
     pub(crate) fn take_all(&mut self, bytes: &[u8]) -> Result<(), GridFault>
+        requires { self.old.judge.scale ≤ 6 }
         ensures scale { self.new.judge.scale ≡ self.old.judge.scale }
         ensures words { (text : List ℕ) → HasWords self.old text → MatchResult result
             (λ _. HasWords self.new (text ++ bytes.now))
             (λ f. (n : ℕ) × (n ≤ length bytes.now)
-                × IsWordFault self.old.judge.scale (ended_words (text ++ take n bytes.now)) f) }
+            × IsWordFault self.old.judge.scale (ended_words (text ++ take n bytes.now)) f) }
     {
-        for byte in bytes {
-            self.take(*byte)?;
+        let mut at = 0;
+        while at < bytes.len() {
+            at += self.take_some(&bytes[at..])?;
         }
         Ok(())
     }
 
+    // Takes a plain height with the separator behind it, or one byte.
     #[inline(always)]
+    fn take_some(&mut self, rest: &[u8]) -> Result<usize, GridFault>
+        requires some { 0 < length rest.now }
+        requires scale { self.old.judge.scale ≤ 6 }
+        ensures scale { self.new.judge.scale ≡ self.old.judge.scale }
+        ensures taken { IfOk result (λ n. (0 < n) × (n ≤ length rest.now)) }
+        ensures words { (text : List ℕ) → HasWords self.old text → MatchResult result
+            (λ n. HasWords self.new (text ++ take n rest.now))
+            (λ f. (n : ℕ) × (n ≤ length rest.now)
+            × IsWordFault self.old.judge.scale (ended_words (text ++ take n rest.now)) f) }
+    {
+        let taken = self.take_plain(rest)?;
+        if taken != 0 {
+            return Ok(taken);
+        }
+        self.take(rest[0])?;
+        Ok(1)
+    }
+
+    // Takes a plain height and the separator behind it, where they are next. Else it takes nothing.
+    #[inline(always)]
+    fn take_plain(&mut self, rest: &[u8]) -> Result<usize, GridFault>
+        requires { self.old.judge.scale ≤ 6 }
+        ensures scale { self.new.judge.scale ≡ self.old.judge.scale }
+        ensures taken { IfOk result (λ n. n ≤ length rest.now) }
+        ensures words { (text : List ℕ) → HasWords self.old text → MatchResult result
+            (λ n. HasWords self.new (text ++ take n rest.now))
+            (λ f. (n : ℕ) × (n ≤ length rest.now)
+            × IsWordFault self.old.judge.scale (ended_words (text ++ take n rest.now)) f) }
+    {
+        if !self.judge.is_at_heights() || !self.word.as_bytes().is_empty() {
+            return Ok(0);
+        }
+        let Some((len, value)) = plain_number(self.judge.scale, rest) else {
+            return Ok(0);
+        };
+        if len == rest.len() || !is_separator(rest[len]) {
+            return Ok(0);
+        }
+        self.judge.judge_value_of_height(value)?;
+        Ok(len + 1)
+    }
+
+    #[inline(never)]
     fn take(&mut self, byte: u8) -> Result<(), GridFault>
         ensures scale { self.new.judge.scale ≡ self.old.judge.scale }
         ensures words { (text : List ℕ) → HasWords self.old text → MatchResult result

@@ -88,7 +88,11 @@ impl GridReader {
             IfErr result (λ f. IsRefusal self.scale text f) }
         ensures again { (f : GridFault) → self.fault ≡ Some f → result ≡ Err f }
     {
-        let GridReader { mut words, taken: _, fault } = self;
+        let GridReader {
+            mut words,
+            taken: _,
+            fault,
+        } = self;
         if let Some(fault) = fault {
             return Err(fault);
         }
@@ -96,3 +100,6 @@ impl GridReader {
         words.judge.finish()
     }
 }
+
+#[cfg(test)]
+mod tests;

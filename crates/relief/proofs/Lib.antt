@@ -1,6 +1,4 @@
-mod Loops
-mod Lowest
-mod Settling
-mod Starting
-mod Standing
 mod Refused
+mod Ran
+mod Viewing
+mod Commas

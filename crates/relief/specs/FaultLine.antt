@@ -5,8 +5,14 @@ use Rattle.ascii_grid.specs.declared.fault.Key.{Key}
 use Rattle.ascii_grid.specs.declared.fault.Key.TheVariants.{Ncols, Nrows, Xll, Yll, Cellsize, Nodata}
 use Rattle.ascii_grid.specs.declared.fault.GridFault.{GridFault}
 use Rattle.ascii_grid.specs.declared.fault.GridFault.TheVariants as grid
+use Rattle.tiles.specs.declared.tiling.TilingFault.{TilingFault}
+use Rattle.tiles.specs.declared.tiling.TilingFault.TheVariants as tiling
+use Rattle.tile_jobs.specs.declared.JobFault.{JobFault}
+use Rattle.tile_jobs.specs.declared.JobFault.TheVariants as jobs
+use Rattle.sight.specs.declared.fault.SightFault.{SightFault}
+use Rattle.sight.specs.declared.fault.SightFault.TheVariants as sight
 use Rattle.relief.specs.declared.fault.RunFault.{RunFault}
-use Rattle.relief.specs.declared.fault.RunFault.TheVariants.{Grid, Read, Write}
+use Rattle.relief.specs.declared.fault.RunFault.TheVariants.{Grid, Tiling, Jobs, Sight, Read, Write}
 use Rattle.relief.specs.declared.fault.Detail.{Detail}
 use Rattle.relief.specs.declared.fault.Detail.TheVariants.{Slot, Count}
 
@@ -49,10 +55,30 @@ grid_telling grid.TooMany = plain 9 (codes "TooMany")
 grid_telling (grid.NoValue slot) = detailed 10 (codes "NoValue") (slot_text slot)
 grid_telling grid.TooLong = plain 11 (codes "TooLong")
 grid_telling grid.Memory = plain 12 (codes "Memory")
-grid_telling grid.NotPlain = plain 13 (codes "NotPlain")
+
+abbrev pub tiling_telling : TilingFault → Telling
+tiling_telling tiling.BadSide = plain 21 (codes "BadSide")
+tiling_telling tiling.TooManyTiles = plain 22 (codes "TooManyTiles")
+
+abbrev pub jobs_telling : JobFault → Telling
+jobs_telling jobs.Memory = plain 12 (codes "Memory")
+jobs_telling jobs.BadWorkers = plain 31 (codes "BadWorkers")
+jobs_telling jobs.NoThread = plain 32 (codes "NoThread")
+
+abbrev pub sight_telling : SightFault → Telling
+sight_telling (sight.Outside i) = detailed 41 (codes "Outside") (decimal i)
+sight_telling (sight.OnNodata i) = detailed 42 (codes "OnNodata") (decimal i)
+sight_telling sight.TooManyObservers = plain 43 (codes "TooManyObservers")
+sight_telling (sight.BadEye None) = plain 44 (codes "BadEye")
+sight_telling (sight.BadEye (Some i)) = detailed 44 (codes "BadEye") (decimal i)
+sight_telling sight.BadRadius = plain 45 (codes "BadRadius")
+sight_telling (sight.Jobs fault) = jobs_telling fault
 
 abbrev pub telling : RunFault → Telling
 telling (Grid fault) = grid_telling fault
+telling (Tiling fault) = tiling_telling fault
+telling (Jobs fault) = jobs_telling fault
+telling (Sight fault) = sight_telling fault
 telling Read = plain 51 (codes "Read")
 telling Write = plain 52 (codes "Write")
 
@@ -63,8 +89,8 @@ fault_line fault =
     codes "relief: " ++ decimal t.number ++ codes " " ++ t.name
     ++ option_map_or (λ d. codes " " ++ d) t.detail [] ++ codes "\n"
 
--- The status with which the program ends: 3 for want of memory, 4 for a device, and else 2.
+-- The status with which the program ends: 3 for want of memory or of a thread, 4 for a device, and else 2.
 abbrev pub fault_status : RunFault → ℕ
 fault_status fault =
     let n = (telling fault).number in
-    if n == 12 then 3 else if n == 51 || n == 52 then 4 else 2
+    if n == 12 || n == 32 then 3 else if n == 51 || n == 52 then 4 else 2

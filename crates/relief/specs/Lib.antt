@@ -1,5 +1,9 @@
-pub mod Levels
 pub mod Wish
 pub mod FaultLine
+pub mod Faults
 pub mod MapText
 pub mod Refusals
+pub mod Runs
+pub mod MadeMap
+pub mod ObserverWord
+pub mod Laws

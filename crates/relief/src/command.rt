@@ -1,32 +1,57 @@
 // The words of the command line.
 ghost use Rattle.std.specs.Prelude.{◌≤◌, ◌<◌, ◌-◌, ◌^◌};
 
+use crate::help::{ABOUT, EXAMPLES, MAPS, STATUSES, VIEW_ABOUT, VIEW_WORDS};
 use crate::map::Map;
+use crate::observer_word::parse_observer;
 use crate::options::Options;
 use crate::running::run;
-use crate::telling::tell;
+use crate::telling::{tell, tell_bad_word};
 use ascii_grid::Counted;
 use clap::error::ErrorKind;
-use clap::{Arg, ArgMatches, Command, Error, value_parser};
+use clap::{Arg, ArgAction, ArgMatches, Command, Error, value_parser};
+use sight::Observer;
 use std::alloc::{AllocError, Global};
 use std::io::{Read, Write};
+use std::sync::Wait;
+use std::thread::Threads;
 
 const DONE: u8 = 0;
 const WORDS_REFUSED: u8 = 1;
 const NO_MEMORY: u8 = 3;
 
-static NAME_ALONE: [&str; 1] = ["relief"];
-
 const DEFAULT_TILE: u32 = 256;
 const DEFAULT_WORKERS: u32 = 1;
+const DEFAULT_SCALE: u8 = 0;
+const DEFAULT_TARGET: u32 = 0;
+const DEFAULT_RADIUS: u32 = 8192;
 
-const ABOUT: &str = "Maps drainage of a terrain grid: reads one grid in Esri ASCII raster form from standard input and writes one map of it in the same form to standard output";
+static NAME_ALONE: [&str; 1] = ["relief"];
 
-const FILL_ABOUT: &str = "Writes the filled heights: each cell's least crest over all paths to the data's edge";
+/// Why the words name no map.
+#[derive(Drop)]
+enum WordsFault {
+    /// `clap` refuses them, or was asked for its help.
+    Clap(Error),
+    /// The observer word at this place from 0 is none.
+    BadObserver(u32),
+    /// They name no map, which `clap` refuses before.
+    NoMap,
+}
 
-const STATUSES: &str = "Exit status: 0 done, 1 words refused, 2 text refused, 3 no memory, 4 reading or writing failed. A fault is told in one line on standard error: `relief: NUMBER NAME [DETAIL]`.";
+impl From<Error> for WordsFault {
+    fn from(error: Error) -> Self {
+        WordsFault::Clap(error)
+    }
+}
 
-/// The options that each map has.
+impl From<AllocError> for WordsFault {
+    fn from(error: AllocError) -> Self {
+        WordsFault::Clap(Error::from(error))
+    }
+}
+
+/// A subcommand with the options that each map has.
 fn map_command<'a>(alloc: Global, name: &'a str, about: &'a str) -> Result<Command<'a>, AllocError> {
     let tile = Arg::new(alloc, "tile")
         .long("tile")
@@ -40,40 +65,102 @@ fn map_command<'a>(alloc: Global, name: &'a str, about: &'a str) -> Result<Comma
         .value_parser(value_parser!(u32).range(1..=64))
         .default_value("1")
         .help("Number of threads, 1 to 64; the map is the same for each");
+    let scale = Arg::new(alloc, "scale")
+        .long("scale")
+        .value_name("D")
+        .value_parser(value_parser!(u8).range(0..=6))
+        .default_value("0")
+        .help("Decimals of the heights, 0 to 6: heights are whole numbers of 10^-D");
     let command = Command::new(alloc, name)
         .about(about)
         .after_help(STATUSES)
         .arg(tile)?;
-    command.arg(workers)
+    command.arg(workers)?.arg(scale)
+}
+
+fn view_command<'a>(alloc: Global) -> Result<Command<'a>, AllocError> {
+    let target = Arg::new(alloc, "target")
+        .long("target")
+        .value_name("N")
+        .value_parser(value_parser!(u32))
+        .default_value("0")
+        .help("Height of the targets above the ground in scaled units, 0 to 1000000");
+    let radius = Arg::new(alloc, "radius")
+        .long("radius")
+        .value_name("N")
+        .value_parser(value_parser!(u32))
+        .default_value("8192")
+        .help("How far is seen, in cells, 1 to 8192");
+    let observers = Arg::new(alloc, "observers")
+        .value_name("ROW,COL,EYE")
+        .required(true)
+        .action(ArgAction::Append)
+        .num_args(1..)
+        .help(VIEW_WORDS);
+    map_command(alloc, "view", VIEW_ABOUT)?
+        .arg(target)?
+        .arg(radius)?
+        .arg(observers)
 }
 
 fn program<'a>(alloc: Global) -> Result<Command<'a>, AllocError> {
-    Command::new(alloc, "relief")
+    let mut program = Command::new(alloc, "relief")
         .about(ABOUT)
-        .after_help(STATUSES)
+        .after_help(EXAMPLES)
         .subcommand_required(true)
-        .disable_help_subcommand(true)
-        .subcommand(map_command(alloc, "fill", FILL_ABOUT)?)
+        .disable_help_subcommand(true);
+    for (name, about) in MAPS {
+        program = program.subcommand(map_command(alloc, name, about)?)?;
+    }
+    program.subcommand(view_command(alloc)?)
 }
 
-fn options_of(map: Map, found: &ArgMatches<'_>) -> Option<Options> {
+fn observers_of(alloc: Global, found: &ArgMatches<'_>) -> Result<Vec<Observer>, WordsFault> {
+    let mut observers = Vec::new(alloc);
+    let Some(words) = found.get_strs("observers") else {
+        return Ok(observers);
+    };
+    let mut place = 0u32;
+    for word in words {
+        let Some(observer) = parse_observer(word) else {
+            return Err(WordsFault::BadObserver(place));
+        };
+        observers.push(observer).map_err(AllocError::from)?;
+        place = place.saturating_add(1);
+    }
+    Ok(observers)
+}
+
+fn map_of(alloc: Global, name: &str, found: &ArgMatches<'_>) -> Result<Map, WordsFault> {
+    match name {
+        "fill" => Ok(Map::Fill),
+        "flow" => Ok(Map::Flow),
+        "accumulate" => Ok(Map::Accumulate),
+        "basins" => Ok(Map::Basins),
+        "view" => Ok(Map::View {
+            observers: observers_of(alloc, found)?,
+            target: found.get_one::<u32>("target").unwrap_or(DEFAULT_TARGET),
+            radius: found.get_one::<u32>("radius").unwrap_or(DEFAULT_RADIUS),
+        }),
+        _ => Err(WordsFault::NoMap),
+    }
+}
+
+fn options_asked<'a>(alloc: Global, words: &'a [&'a str]) -> Result<Options, WordsFault> {
+    let command = program(alloc)?;
+    let matches = command.try_get_matches_from(words)?;
+    let Some((name, found)) = matches.subcommand() else {
+        return Err(WordsFault::NoMap);
+    };
+    let map = map_of(alloc, name, found)?;
     let tile = found.get_one::<u32>("tile").unwrap_or(DEFAULT_TILE);
     let workers = found.get_one::<u32>("workers").unwrap_or(DEFAULT_WORKERS);
-    Options::new(map, tile, workers, 0)
+    let scale = found.get_one::<u8>("scale").unwrap_or(DEFAULT_SCALE);
+    Options::new(map, tile, workers, scale).ok_or(WordsFault::NoMap)
 }
 
-/// The options that the words ask for, None where they name no map, which `clap` refuses before.
-fn options_asked<'a>(alloc: Global, words: &'a [&'a str]) -> Result<Option<Options>, Error> {
-    let command = program(alloc)?;
-    let found = command.try_get_matches_from(words)?;
-    Ok(match found.subcommand() {
-        Some(("fill", found)) => options_of(Map::Fill, found),
-        _ => None,
-    })
-}
-
-/// The same, where an empty list of words is taken for the name alone.
-fn parse(alloc: Global, words: &[&str]) -> Result<Option<Options>, Error> {
+/// The options that the words ask for; an empty list of words is taken for the name alone.
+fn parse(alloc: Global, words: &[&str]) -> Result<Options, WordsFault> {
     if words.is_empty() {
         options_asked(alloc, NAME_ALONE.as_slice())
     } else {
@@ -117,10 +204,11 @@ fn show_error<W: Write, E: Write>(
 }
 
 /// Runs the program on its words, its name first, and answers the status with which it ends: 0 done,
-/// 1 words refused, 2 the text refused, 3 no memory, 4 a device failed. An empty list of words is
-/// taken for the name alone. Fault lines go to `errors`, as does what `clap` says of refused words; its
-/// help goes to `writer`.
-pub fn run_words<R: Read, W: Write, E: Write>(
+/// 1 words refused, 2 the text, the tiles or an observer refused, 3 no memory or no thread, 4 a device
+/// failed. An empty list of words is taken for the name alone. Fault lines, the line of a bad observer
+/// word and what `clap` says of refused words go to `errors`, its help to `writer`.
+pub fn run_words<H: Threads + Wait + Sync, R: Read, W: Write, E: Write>(
+    rt: &H,
     alloc: Global,
     words: &[&str],
     reader: &mut Counted<R>,
@@ -132,12 +220,31 @@ pub fn run_words<R: Read, W: Write, E: Write>(
     requires errors { errors.old.failures < 2 ^ 64 - 1 }
     ensures { result ≤ 4 }
 {
-    let options = match parse(alloc, words) {
-        Ok(Some(options)) => options,
-        Ok(None) => return WORDS_REFUSED,
-        Err(error) => return show_error(alloc, &error, writer, errors),
-    };
-    match run(alloc, &options, reader, writer) {
+    match parse(alloc, words) {
+        Ok(options) => run_options(rt, alloc, &options, reader, writer, errors),
+        Err(WordsFault::Clap(error)) => show_error(alloc, &error, writer, errors),
+        Err(WordsFault::BadObserver(place)) => {
+            let _ = tell_bad_word(place, errors);
+            WORDS_REFUSED
+        }
+        Err(WordsFault::NoMap) => WORDS_REFUSED,
+    }
+}
+
+fn run_options<H: Threads + Wait + Sync, R: Read, W: Write, E: Write>(
+    rt: &H,
+    alloc: Global,
+    options: &Options,
+    reader: &mut Counted<R>,
+    writer: &mut Counted<W>,
+    errors: &mut Counted<E>,
+) -> u8
+    requires reader { reader.old.failures < 2 ^ 64 - 1 }
+    requires writer { writer.old.failures < 2 ^ 64 - 1 }
+    requires errors { errors.old.failures < 2 ^ 64 - 1 }
+    ensures { result ≤ 4 }
+{
+    match run(rt, alloc, options, reader, writer) {
         Ok(()) => DONE,
         Err(fault) => {
             let _ = tell(&fault, errors);

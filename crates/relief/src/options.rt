@@ -25,14 +25,14 @@ impl Model for Options {
 }
 
 impl Options {
-    /// None exactly where the tile's side (1 to 4,096), the workers (1 to 64) or the scale are outside
-    /// their limits. The plain form of a text has the scale 0 alone.
+    /// None exactly where the tile's side (1 to 4,096), the workers (1 to 64) or the scale (0 to 6) is
+    /// outside its limits.
     pub fn new(map: Map, tile: u32, workers: u32, scale: u8) -> Option<Self>
         ensures some { IfSome result (λ o. o ≡ record { map = map; tile = tile; workers = workers; scale = scale }) }
         ensures limits { IfSome result (λ _. AreLimits tile workers scale) }
         ensures none { IfNone result (AreLimits tile workers scale → ⊥) }
     {
-        if (1..=4096).contains(&tile) && (1..=64).contains(&workers) && scale == 0 {
+        if (1..=4096).contains(&tile) && (1..=64).contains(&workers) && scale <= 6 {
             Some(Options {
                 map,
                 tile,
@@ -49,6 +49,22 @@ impl Options {
         ensures { result.now ≡ self.now.map }
     {
         &self.map
+    }
+
+    /// The side of the tiles, in cells.
+    pub(crate) fn tile(&self) -> u32
+        ensures value { result ≡ self.now.tile }
+        ensures limits { AreLimits self.now.tile self.now.workers self.now.scale }
+    {
+        self.tile
+    }
+
+    /// The number of workers.
+    pub(crate) fn workers(&self) -> u32
+        ensures value { result ≡ self.now.workers }
+        ensures limits { AreLimits self.now.tile self.now.workers self.now.scale }
+    {
+        self.workers
     }
 
     /// The scale at which heights are read.

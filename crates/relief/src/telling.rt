@@ -52,3 +52,15 @@ pub fn tell<W: Write>(fault: &RunFault, out: &mut Counted<W>) -> Result<(), Writ
     line.push_byte(b'\n');
     line.write_to(out)
 }
+
+/// Writes the line of an observer word that is none, by its place from 0.
+pub(crate) fn tell_bad_word<W: Write>(place: u32, out: &mut Counted<W>) -> Result<(), WriteFailed>
+    requires { out.old.failures < 2 ^ 64 - 1 }
+    ensures { Writes W.contents out.old out.new (codes "relief: bad observer word " ++ decimal place ++ codes "\n") result }
+{
+    let mut line = Page::new();
+    line.push(b"relief: bad observer word ");
+    push_number(place, &mut line);
+    line.push_byte(b'\n');
+    line.write_to(out)
+}

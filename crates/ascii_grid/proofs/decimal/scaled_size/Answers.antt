@@ -1,4 +1,4 @@
-use Rattle.std.proofs.Common.{arith, ◌≡◌, ◌++◌, ◌∙◌, ap, sym, ℕ, take, drop, replicate, length, min, fold, ◌+◌, ◌*◌, ◌-◌, true, false, ◌==◌, refl}
+use Rattle.std.proofs.Common.{arith, ◌≡◌, ◌∙◌, ap, sym, take, drop, replicate, length, min, fold, ◌+◌, ◌*◌, ◌-◌, true, false, ◌==◌, refl}
 use Rattle.std.specs.List.{list_all}
 use Rattle.std.proofs.lemmas.List.{take_rest, drop_min, take_min}
 use Rattle.ascii_grid.specs.Decimal.{number_of}

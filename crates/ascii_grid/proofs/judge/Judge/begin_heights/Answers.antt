@@ -1,4 +1,4 @@
-use Rattle.std.proofs.Common.{arith, ap, refl, sym, ◌∙◌, Some, inl, inr, unwrap_or}
+use Rattle.std.proofs.Common.{ap, refl, sym, ◌∙◌, inl, inr, unwrap_or}
 use Rattle.std.specs.Prelude.{codes}
 use Rattle.std.proofs.lemmas.Result.{err_from_is_err_and}
 use Rattle.ascii_grid.specs.Decimal.{scaled_value}

@@ -1,4 +1,4 @@
-use Rattle.std.proofs.Common.{arith, ◌≡◌, ◌≤◌, ◌<◌, length, refl, ap, sym, ◌∙◌, Some, inl, inr}
+use Rattle.std.proofs.Common.{arith, ◌≡◌, length, ap, sym, ◌∙◌, Some, inl, inr}
 use Rattle.std.proofs.lemmas.Result.{err_from_is_err_and}
 use Rattle.ascii_grid.specs.declared.fault.GridFault.TheVariants.{TooFew}
 use Rattle.ascii_grid.proofs.Spelled.{whole-grid, lawful-grid, spelled-grid, end-value, end-missing, end-memory, end-none, end-few, end-enough}

@@ -33,5 +33,5 @@ returns-in_ok-begin_heights-in-AtKey-clause-word c = λ ws h.
     let header = same_header c.args.self.now.header c.begin_heights.new.self.header h.pairs (ap (λ (j : Judge). j.header) began) h.header in
     let words = at_key c.args.self.now ws h c.in-AtKey.is ∙ sym (append-nil (flat h.pairs)) in
     let more = height_word c.begin_heights.new.self c.judge_height-in-AtKey.new.self ws h.pairs [] c.args.word.now c.judge_height-in-AtKey.result header words letter begun (omega arith)
-          (ap (λ (j : Judge). j.header) kept) (ap (λ (j : Judge). j.stage) kept ∙ c.in_ok-begin_heights-in-AtKey.ensures.stage) (c.judge_height-in-AtKey.ensures.word h.pairs [] begun) in
+    (ap (λ (j : Judge). j.header) kept) (ap (λ (j : Judge). j.stage) kept ∙ c.in_ok-begin_heights-in-AtKey.ensures.stage) (c.judge_height-in-AtKey.ensures.word h.pairs [] begun) in
     subst (λ d. MatchResult c.judge_height-in-AtKey.result (λ _. HasJudged c.judge_height-in-AtKey.new.self (ws ++ c.args.word.now ∷ [])) (IsWordFault d (ws ++ c.args.word.now ∷ []))) (ap (λ (j : Judge). j.scale) began) more

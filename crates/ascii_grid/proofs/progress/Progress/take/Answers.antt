@@ -1,4 +1,4 @@
-use Rattle.std.proofs.Common.{arith, rules, sym, ◌∙◌, refl, ap}
+use Rattle.std.proofs.Common.{sym, ◌∙◌, refl}
 use Rattle.std.proofs.lemmas.Result.{MatchResult-weaker}
 use Rattle.ascii_grid.proofs.Ending.{words_after_byte, words_after_separator, fault_after_separator}
 use Rattle.ascii_grid.proofs.progress.Progress.take.Goals as goal

@@ -1,10 +1,17 @@
-use Rattle.std.proofs.Common.{arith, rules, ◌≡◌, ◌<◌, ◌++◌, take, length, get_or, sym, ◌∙◌, refl, ap}
+use Rattle.std.proofs.Common.{arith, ap, length, ◌++◌, ◌∙◌, take}
+use Rattle.std.proofs.lemmas.List.{take_rest, length-drop}
 use Rattle.std.proofs.lemmas.Result.{err_from_is_err_and}
-use Rattle.ascii_grid.proofs.Ending.{fault_at}
+use Rattle.ascii_grid.proofs.Ending.{words_further, fault_further}
 use Rattle.ascii_grid.proofs.progress.Progress.take_all.Goals as goal
 
-pub returns-in_err-take-clause-words : goal.returns-in_err-take-clause-words
-returns-in_err-take-clause-words c = λ text h.
+pub returns-in_err-at-clause-words : goal.returns-in_err-at-clause-words
+returns-in_err-at-clause-words c = λ text h.
     let p = err_from_is_err_and c.from_residual.result c.from_residual.ensures.1 in
-    let inside : c.loop-byte.byte-index < length c.args.bytes.now = omega arith in
-    rw (p.1, p.2) (fault_at c.args.self.now.judge.scale c.loop-byte.self.judge.scale text c.args.bytes.now c.loop-byte.byte-index _ _ c.loop-byte.invariant.scale inside refl (c.in_err-take.ensures.words (text ++ take c.loop-byte.byte-index c.args.bytes.now) (c.loop-byte.invariant.words text h)))
+    rw (p.1, p.2) (fault_further c.args.self.now.judge.scale c.loop-at.self.judge.scale text c.args.bytes.now _ c.loop-at.at c.in_err-at.field-0.0 c.loop-at.invariant.scale (take_rest c.args.bytes.now c.loop-at.at) c.loop-at.invariant.within (c.in_err-at.ensures.words (text ++ take c.loop-at.at c.args.bytes.now) (c.loop-at.invariant.words text h)))
+
+pub loop-at-preserved : goal.loop-at-preserved
+loop-at-preserved c = record {
+  within = (let n = c.in_ok-at.ensures.taken.1 in let size = ap length (take_rest c.args.bytes.now c.loop-at.at) in omega (arith, n, size, length-drop c.loop-at.at c.args.bytes.now, c.loop-at.invariant.within));
+  scale = c.in_ok-at.ensures.scale ∙ c.loop-at.invariant.scale;
+  words = λ text h. words_further c.take_some.new.self text c.args.bytes.now _ c.loop-at.at c.in_ok-at.field-0 (take_rest c.args.bytes.now c.loop-at.at) (c.in_ok-at.ensures.words (text ++ take c.loop-at.at c.args.bytes.now) (c.loop-at.invariant.words text h));
+}

@@ -1,4 +1,4 @@
-use Rattle.std.proofs.Common.{arith, rules, ◌≡◌, ◌≤◌, ◌<◌, length, sym, ◌∙◌, ap, take, ◌++◌, ◌∷◌, []}
+use Rattle.std.proofs.Common.{rules, ◌≡◌, length, sym, ◌∙◌, ap, take, ◌++◌, ◌∷◌, []}
 use Rattle.ascii_grid.proofs.Ending.{push-room, push-full}
 use Rattle.ascii_grid.proofs.progress.WordInProgress.push.Goals as goal
 

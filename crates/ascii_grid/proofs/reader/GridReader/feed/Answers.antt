@@ -1,4 +1,4 @@
-use Rattle.std.proofs.Common.{arith, rules, ◌≡◌, ◌≤◌, ◌<◌, ◌++◌, length, refl, sym, ap, subst, None}
+use Rattle.std.proofs.Common.{arith, ◌++◌, refl, sym, subst}
 use Rattle.ascii_grid.specs.Reading.{HasTaken}
 use Rattle.ascii_grid.proofs.Feeding.{answered_more, fed_fault, fed_long, fed_whole}
 use Rattle.ascii_grid.proofs.reader.GridReader.feed.Goals as goal

@@ -1,9 +1,9 @@
-use Rattle.std.proofs.Common.{◌≡◌, List, ℕ, Result, MatchResult, sym, ap, subst, ◌∙◌, None}
+use Rattle.std.proofs.Common.{sym, ap, subst, ◌∙◌}
 use Rattle.std.specs.Prelude.{IfErr, IfOk}
 use Rattle.std.proofs.lemmas.Result.{err_from_is_err_and}
 use Rattle.ascii_grid.specs.Words.{words}
-use Rattle.ascii_grid.specs.GridText.{IsGridText, IsRefusal, words_fault, end_fault, grid_of}
-use Rattle.ascii_grid.specs.Reading.{HasTaken, IsEndFault}
+use Rattle.ascii_grid.specs.GridText.{IsGridText, IsRefusal}
+use Rattle.ascii_grid.specs.Reading.{HasTaken}
 use Rattle.ascii_grid.proofs.Feeding.{answered_refusal, reading, end_refused, judged_none, finished, ok_part, err_part}
 use Rattle.ascii_grid.proofs.reader.GridReader.finish.Goals as goal
 

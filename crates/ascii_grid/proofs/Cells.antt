@@ -1,0 +1,64 @@
+-- The cell of a word, by its scaled value.
+use Rattle.std.proofs.Common.{◌≡◌, ℕ, true, false, cond, None, Some, ℤ, pos, negsuc, ◌<◌, ◌^◌, arith, refl, ap, sym, ◌∙◌, inl, inr}
+use Rattle.std.specs.Prelude.{int_le, unsigned_abs}
+use Rattle.std.proofs.lemmas.Int.{fits_signed_from_abs}
+use mir.Val.{SFits}
+use mir.Syntax.{w32}
+use Rattle.std.specs.Str.{bytes_eq}
+use Rattle.std.specs.Ordering.{int_eq}
+use Rattle.std.proofs.lemmas.Bool.{cases_Bool, leb-true}
+use Rattle.std.proofs.lemmas.Bool.Decides.{Decides-int_eq}
+use Rattle.std.proofs.lemmas.Slice.Eq.{bytes_eq-Decides}
+use Rattle.ascii_grid.specs.Raster.{is_height}
+use Rattle.ascii_grid.specs.Words.{Word}
+use Rattle.ascii_grid.specs.Decimal.{scaled_value}
+use Rattle.ascii_grid.specs.GridText.{same_value, is_nodata, is_cell, cell_of}
+
+-- a word with a scaled value is NODATA by that value alone
+nodata_by_value : (d : ℕ) (nodata w : Word) (z : ℤ) → scaled_value d w ≡ Some z → is_nodata d nodata w ≡ same_value (Some z) (scaled_value d nodata)
+nodata_by_value d nodata w z e =
+    elim (cases_Bool (bytes_eq w nodata)) [
+      | inl equal ↦
+          let same : w ≡ nodata = (bytes_eq-Decides w nodata).0 equal in
+          let value : scaled_value d nodata ≡ Some z = ap (scaled_value d) (sym same) ∙ e in
+          let reflexive : int_eq z z ≡ true = (Decides-int_eq z z).1 refl in
+          let left : is_nodata d nodata w ≡ true = rw equal refl in
+          let right : same_value (Some z) (scaled_value d nodata) ≡ true = rw value reflexive in
+          left ∙ sym right
+      | inr other ↦ rw (other, e) refl
+    ]
+
+-- the cell of a word with a scaled value
+pub cell_by_value : (d : ℕ) (nodata w : Word) (z : ℤ) → scaled_value d w ≡ Some z → cond (is_cell d nodata w) (Some (cell_of d nodata w)) None ≡ cond (same_value (Some z) (scaled_value d nodata)) (Some None) (cond (is_height z) (Some (Some z)) None)
+cell_by_value d nodata w z e =
+    let by = nodata_by_value d nodata w z e in
+    elim (cases_Bool (same_value (Some z) (scaled_value d nodata))) [
+      | inl same ↦ let is : is_nodata d nodata w ≡ true = by ∙ same in rw (is, same) refl
+      | inr other ↦
+          let is : is_nodata d nodata w ≡ false = by ∙ other in
+          let cell : is_cell d nodata w ≡ is_height z = rw (is, e) refl in
+          let value : cell_of d nodata w ≡ Some z = rw (is, e) refl in
+          rw (cell, value, other) refl
+    ]
+
+-- the cell of a word without one
+pub cell_without_value : (d : ℕ) (nodata w : Word) → scaled_value d w ≡ None → cond (is_cell d nodata w) (Some (cell_of d nodata w)) None ≡ cond (bytes_eq w nodata) (Some None) None
+cell_without_value d nodata w e =
+    elim (cases_Bool (bytes_eq w nodata)) [
+      | inl same ↦ rw (same) refl
+      | inr other ↦ rw (other, e) refl
+    ]
+
+-- a height stands for itself
+pub cell_of_height : (d : ℕ) (nodata w : Word) (z : ℤ) → scaled_value d w ≡ Some z → same_value (Some z) (scaled_value d nodata) ≡ false → is_height z ≡ true → Some (Some z) ≡ cond (is_cell d nodata w) (Some (cell_of d nodata w)) None
+cell_of_height d nodata w z e other high = sym (cell_by_value d nodata w z e ∙ rw (other, high) refl)
+
+pub height_between : (z : ℤ) → int_le (negsuc 999999999) z ≡ true → int_le z (pos 1000000000) ≡ true → is_height z ≡ true
+height_between z low high = rw (low, high) refl
+
+height_abs : (z : ℤ) → int_le (negsuc 999999999) z ≡ true → int_le z (pos 1000000000) ≡ true → unsigned_abs z < 2 ^ 31
+height_abs (pos n) low high = let k = leb-true n 1000000000 high in omega (arith, k)
+height_abs (negsuc n) low high = let k = leb-true n 999999999 low in omega (arith, k)
+
+pub height_fits : (z : ℤ) → int_le (negsuc 999999999) z ≡ true → int_le z (pos 1000000000) ≡ true → SFits w32 z
+height_fits z low high = fits_signed_from_abs w32 z (height_abs z low high)

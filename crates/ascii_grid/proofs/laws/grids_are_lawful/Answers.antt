@@ -1,0 +1,5 @@
+use Rattle.ascii_grid.proofs.TextLaws.{lawful_text}
+use Rattle.ascii_grid.proofs.laws.grids_are_lawful.Goals as goal
+
+pub returns : goal.returns
+returns c = lawful_text

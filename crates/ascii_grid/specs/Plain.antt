@@ -1,0 +1,13 @@
+-- A plain whole number at the front of a text, which a reader takes in one go.
+use Rattle.std.specs.Prelude.{◌≡◌, ℕ, ◌≤◌, ◌<◌, ℤ, List, length, take, false, Some}
+use Rattle.std.specs.List.{list_any}
+use Rattle.ascii_grid.specs.Words.{is_separator}
+use Rattle.ascii_grid.specs.Decimal.{scaled_value}
+
+-- The first bytes are a short word with this scaled value, and none of them parts words.
+pub record IsPlain (d : ℕ) (bytes : List ℕ) (len : ℕ) (value : ℤ) : Type 0 where
+  pub some : 0 < len
+  pub short : len ≤ 10
+  pub within : len ≤ length bytes
+  pub scaled : scaled_value d (take len bytes) ≡ Some value
+  pub whole : list_any is_separator (take len bytes) ≡ false

@@ -1,0 +1,86 @@
+-- Each data cell of a filled terrain has steps, fewer than the terrain has cells.
+use Rattle.std.proofs.Common.{◌≡◌, ◌≢◌, ℕ, zero, suc, ◌+◌, ◌-◌, ◌*◌, ◌^◌, ◌<◌, ◌≤◌, ◌<ℤ◌, ◌≤ℤ◌, Bool, true, false, ◌⊎◌, inl, inr, List, [], ◌∷◌, length, get_or, Option, None, Some, is_some, unwrap_or, MatchOption, ℤ, pos, sym, ap, subst, refl, ◌∙◌, arith}
+use Rattle.std.specs.Int.{int_max}
+use Rattle.std.proofs.lemmas.Int.{by_lt_z, ints, clamps}
+use Rattle.std.proofs.lemmas.Bool.{cases_eq, cases_lt, cases_Bool, false≢true}
+use Rattle.std.proofs.lemmas.Option.{MatchOption-at_some}
+use Rattle.ascii_grid.proofs.Places.{inside_from_entry, index_below, index_injective}
+use Rattle.ascii_grid.specs.Raster.{Terrain, IsTerrain}
+use Rattle.ascii_grid.specs.Neighbours.{height_at, index_of, IsDataCell, IsNeighbour, IsEdge}
+use Rattle.ascii_grid.specs.Filled.{height_of, IsPath, crest, IsFilled, IsFilledHeight}
+use Rattle.ascii_grid.specs.declared.place.Place.{Place}
+use Rattle.drain.specs.Steps.{HasLower, DrainsAtOnce, IsFlatWalk, IsSteps}
+use Rattle.drain.proofs.Nearby.{Decided, WalksIn, walks_in}
+use Rattle.drain.proofs.Pigeonhole.{pigeonhole}
+
+pub height_is : (t : Terrain) (p : Place) → IsDataCell t p → height_at t p ≡ Some (height_of t p)
+height_is t p is = some_of (height_at t p) is
+  where
+    some_of : (o : Option ℤ) → is_some o ≡ true → o ≡ Some (unwrap_or o (pos 0))
+    some_of (Some x) h = refl
+    some_of None h = cc
+
+not_above_max : (x y : ℤ) → (x ≤ℤ int_max x y) × (y ≤ℤ int_max x y)
+not_above_max x y = (omega (arith, ints, clamps), omega (arith, ints, clamps))
+
+le_then : (x y z : ℤ) → x ≤ℤ y → y ≤ℤ z → x ≤ℤ z
+le_then x y z a b = omega (arith, ints)
+
+same_int : (x y : ℤ) → x ≤ℤ y → y ≤ℤ x → x ≡ y
+same_int x y a b = grind (arith, a, b)
+
+own_on_path : (t : Terrain) (p : Place) (rest : List Place) → height_of t p ≤ℤ crest t p rest
+own_on_path t p [] = omega (arith, ints)
+own_on_path t p (q ∷ rest) = (not_above_max (height_of t p) (crest t q rest)).0
+
+-- a path that doesn't rise begins with a walk over the flat
+walk_on : (t : Terrain) (rest : List Place) (p : Place) → IsPath t p rest → crest t p rest ≤ℤ height_of t p → (walk : List Place) × IsFlatWalk t p walk
+walk_on t [] p path low = ([], inr path)
+walk_on t (q ∷ rest) p path low =
+    let after : crest t q rest ≤ℤ height_of t p = le_then _ _ _ (not_above_max (height_of t p) (crest t q rest)).1 low in
+    by_lt_z {P = (walk : List Place) × IsFlatWalk t p walk} (height_of t q) (height_of t p)
+    (λ lower. ([], inl (q, path.0, lower)))
+    (λ level.
+    let same : height_of t q ≡ height_of t p = same_int _ _ (le_then _ _ _ (own_on_path t q rest) after) level in
+    let walk = walk_on t rest q path.1 (le_then _ _ _ after level) in
+    (q ∷ walk.0, (path.0, height_is t q path.0.to_data ∙ ap Some same ∙ sym (height_is t p path.0.from_data), walk.1)))
+
+own_filled : (t : Terrain) (p : Place) → IsFilled t t.cells → IsDataCell t p → IsFilledHeight t p (height_of t p)
+own_filled t p filled is =
+    let inside = inside_from_entry t.cols t.rows t.cells p (height_of t p) (height_is t p is) in
+    let own = MatchOption-at_some _ _ (height_of t p) (height_is t p is) (filled.each p inside) in
+    subst (λ level. IsFilledHeight t p level) (ap (λ (o : Option ℤ). unwrap_or o (pos 0)) (sym own.1)) own.2
+
+pub some_walk : (t : Terrain) (p : Place) → IsFilled t t.cells → IsDataCell t p → (n : ℕ) × WalksIn t p n
+some_walk t p filled is =
+    let own = own_filled t p filled is in
+    let walk = walk_on t own.reached.0 p own.reached.1 (subst (λ z. z ≤ℤ height_of t p) (sym own.reached.2) (omega (arith, ints))) in
+    (length walk.0, (walk.0, walk.1, refl))
+
+-- the shortest of the walks with fewer moves, or there is none
+shortest_below : (t : Terrain) (p : Place) (b : ℕ) → ((n : ℕ) × WalksIn t p n × ((k : ℕ) → k < n → WalksIn t p k → ⊥)) ⊎ ((k : ℕ) → k < b → WalksIn t p k → ⊥)
+shortest_below t p zero = inr (λ k h _. omega arith)
+shortest_below t p (suc b) = elim (shortest_below t p b) [
+  | inl found ↦ inl found
+  | inr none ↦ elim (walks_in t b p) [
+    | inl w ↦ inl (b, w, none)
+    | inr not_here ↦ inr (λ k h. elim (cases_eq k b) [
+      | inl e ↦ subst (λ (j : ℕ). WalksIn t p j → ⊥) (sym e) not_here
+      | inr ne ↦ none k (omega arith)
+    ])
+  ]
+]
+
+steps_of_shortest : (t : Terrain) (p : Place) (n : ℕ) → WalksIn t p n → ((k : ℕ) → k < n → WalksIn t p k → ⊥) → IsSteps t p n
+steps_of_shortest t p n w none = record {
+  reached = w;
+  least = λ rest walk. elim (cases_lt (length rest) n) [ inl lt ↦ absurd (none (length rest) lt (rest, walk, refl)) | inr le ↦ le ];
+}
+
+pub has_steps : (t : Terrain) (p : Place) → IsFilled t t.cells → IsDataCell t p → (n : ℕ) × IsSteps t p n
+has_steps t p filled is =
+    let some = some_walk t p filled is in
+    elim (shortest_below t p (some.0 + 1)) [
+      | inl found ↦ (found.0, steps_of_shortest t p found.0 found.1 found.2)
+      | inr none ↦ absurd (none some.0 (omega arith) some.1)
+    ]

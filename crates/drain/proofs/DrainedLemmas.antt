@@ -1,0 +1,92 @@
+-- Codes and steps together make a map of directions along which the pair of height and steps falls.
+use Rattle.std.proofs.Common.{◌≡◌, ◌≢◌, ℕ, ◌*◌, ◌<◌, ◌≤◌, ◌⊎◌, inl, inr, List, length, Option, None, Some, is_some, ℤ, sym, ap, subst, refl, ◌∙◌, arith}
+use Rattle.std.proofs.lemmas.Bool.{cases_lt}
+use Rattle.std.proofs.lemmas.Option.{MatchOption-at_some, MatchOption-at_none, same_Some, none-some}
+use Rattle.ascii_grid.proofs.Places.{entry-inside, entry-below, entry-beside, inside_from_entry, index_below}
+use Rattle.ascii_grid.specs.Raster.{Terrain, Raster, IsTerrain}
+use Rattle.ascii_grid.specs.Neighbours.{IsInside, height_at, entry_at, index_of, IsDataCell}
+use Rattle.ascii_grid.specs.declared.place.Place.{Place}
+use Rattle.drain.specs.Steps.{AreSteps}
+use Rattle.drain.specs.Directions.{IsCodeAt, AreCodesBelow, AreDirections}
+use Rattle.drain.specs.Drained.{Drained, directed_of, IsDraining}
+use Rattle.drain.specs.Following.{code_at}
+use Rattle.tiles.specs.Cutting.{Cutting, Cuts, tile_of_place}
+use Rattle.ascii_grid.specs.Filled.{IsFilled}
+use Rattle.drain.specs.Rounds.{AreSettled}
+use Rattle.drain.proofs.Quiet.{still_is_steps, in_own_tile, data_inside}
+use Rattle.drain.proofs.Tiles.{tile_below}
+use Rattle.drain.proofs.AroundLemmas.{direction_leads, cases_option}
+
+codes_each : (t : Terrain) (steps codes : List (Option ℕ)) → AreCodesBelow t steps (t.cols * t.rows) codes → (p : Place) → IsInside t p → IsCodeAt t steps p (entry_at t.cols t.rows codes p)
+codes_each t steps codes all p inside =
+    subst (λ (o : Option ℕ). IsCodeAt t steps p o) (sym (entry-inside t.cols t.rows codes p inside.0 inside.1))
+    (all.each p inside (index_below t.cols t.rows p inside.0 inside.1))
+
+pub are_directions : (t : Terrain) (steps codes : List (Option ℕ)) → AreSteps t steps → AreCodesBelow t steps (t.cols * t.rows) codes → AreDirections t codes
+are_directions t steps codes are all = record {
+  size = all.size;
+  by_steps = (steps, are, codes_each t steps codes all);
+}
+
+outside_same : {X Y : Type 0} (cols rows : ℕ) (xs : List (Option X)) (ys : List (Option Y)) (p : Place) → (rows ≤ p.row) ⊎ (cols ≤ p.col) → is_some (entry_at cols rows xs p) ≡ is_some (entry_at cols rows ys p)
+outside_same cols rows xs ys p (inl a) = ap is_some (entry-below cols rows xs p a) ∙ sym (ap is_some (entry-below cols rows ys p a))
+outside_same cols rows xs ys p (inr a) = ap is_some (entry-beside cols rows xs p a) ∙ sym (ap is_some (entry-beside cols rows ys p a))
+
+-- what holds at each place inside, and is the same outside, is the same everywhere
+everywhere : {X Y : Type 0} (cols rows : ℕ) (xs : List (Option X)) (ys : List (Option Y)) → ((p : Place) → p.row < rows → p.col < cols → is_some (entry_at cols rows xs p) ≡ is_some (entry_at cols rows ys p)) →
+    (p : Place) → is_some (entry_at cols rows xs p) ≡ is_some (entry_at cols rows ys p)
+everywhere cols rows xs ys same p = elim (cases_lt p.row rows) [
+  | inl row ↦ elim (cases_lt p.col cols) [ inl col ↦ same p row col | inr past ↦ outside_same cols rows xs ys p (inr past) ]
+  | inr past ↦ outside_same cols rows xs ys p (inl past)
+]
+
+pub are_draining : (t : Terrain) (steps codes : List (Option ℕ)) → AreSteps t steps → AreCodesBelow t steps (t.cols * t.rows) codes → IsDraining (record { terrain = t; steps = steps; codes = codes })
+are_draining t steps codes are all = record {
+  codes_size = all.size;
+  steps_size = are.size;
+  same_data = everywhere t.cols t.rows codes t.cells (λ p row col. elim (cases_option (height_at t p)) [
+    | inl none ↦ ap is_some (MatchOption-at_none _ _ none (codes_each t steps codes all p (row, col))) ∙ sym (ap is_some none)
+    | inr some ↦ ap is_some (MatchOption-at_some _ _ some.0 some.1 (codes_each t steps codes all p (row, col))).1 ∙ sym (ap is_some some.1)
+  ]);
+  same_steps = everywhere t.cols t.rows steps t.cells (λ p row col. elim (cases_option (height_at t p)) [
+    | inl none ↦ ap is_some (MatchOption-at_none _ _ none (are.each p (row, col))) ∙ sym (ap is_some none)
+    | inr some ↦ ap is_some (MatchOption-at_some _ _ some.0 some.1 (are.each p (row, col))).1 ∙ sym (ap is_some some.1)
+  ]);
+  leads = λ p code e some.
+      let inside = inside_from_entry t.cols t.rows codes p code e in
+      elim (cases_option (height_at t p)) [
+        | inl none ↦ absurd (none-some code (sym (MatchOption-at_none _ _ none (codes_each t steps codes all p inside)) ∙ e))
+        | inr h ↦
+            (let at = MatchOption-at_some _ _ h.0 h.1 (codes_each t steps codes all p inside) in
+            let same : code ≡ at.0 = same_Some _ _ (sym e ∙ at.1) in
+            direction_leads t steps codes p at.2.0 code at.2.1 (same ∙ at.2.2) some)
+      ];
+}
+
+-- where nothing is left to change, the counts are the steps
+pub settled_is_steps : (c : Cutting) (t : Terrain) (steps : List (Option ℕ)) → Cuts c t → IsTerrain t → IsFilled t t.cells → AreSettled c t steps → AreSteps t steps
+settled_is_steps c t steps cuts lawful filled settled =
+    still_is_steps t steps settled.counting.zeros (record {
+      walked = settled.counting.walked;
+      near = λ p q m next level e less.
+          let inside = in_own_tile t c p cuts (data_inside t p next.from_data) in
+          (settled.still (tile_of_place c p) (tile_below c p settled.cutting inside.0)).near p q m inside next level e less;
+    }) lawful filled settled.counting.size
+
+make_terrain : ℕ → ℕ → List (Option ℤ) → Terrain
+make_terrain cols rows cells = record { cols = cols; rows = rows; cells = cells }
+
+-- a terrain by its parts
+pub same_terrain : (t : Terrain) (cols rows : ℕ) (cells : List (Option ℤ)) → cols ≡ t.cols → rows ≡ t.rows → cells ≡ t.cells → t ≡ record { cols = cols; rows = rows; cells = cells }
+unfolding make_terrain
+same_terrain t cols rows cells a b c =
+    sym (ap (λ (n : ℕ). make_terrain n rows cells) a ∙ ap (λ (n : ℕ). make_terrain t.cols n cells) b ∙ ap (λ (xs : List (Option ℤ)). make_terrain t.cols t.rows xs) c)
+
+-- a grid with its own cells has its own terrain
+pub own_terrain : (g own : Raster) (cells : List (Option ℤ)) → cells ≡ g.terrain.cells → own ≡ record g { terrain = record g.terrain { cells = cells } } → own.terrain ≡ g.terrain
+own_terrain g own cells e is = ap (λ (x : Raster). x.terrain) is ∙ sym (same_terrain g.terrain g.terrain.cols g.terrain.rows cells refl refl e)
+
+pub codes_of : (g f : Raster) (seen steps codes : List (Option ℕ)) → g ≡ f → seen ≡ steps → AreCodesBelow g.terrain seen (g.terrain.cols * g.terrain.rows) codes → AreCodesBelow f.terrain steps (f.terrain.cols * f.terrain.rows) codes
+codes_of g f seen steps codes e is all =
+    subst (λ (xs : List (Option ℕ)). AreCodesBelow f.terrain xs (f.terrain.cols * f.terrain.rows) codes) is
+    (subst (λ (x : Raster). AreCodesBelow x.terrain seen (x.terrain.cols * x.terrain.rows) codes) e all)

@@ -1,0 +1,84 @@
+-- The greatest of a list of numbers, and where it first stands.
+use Rattle.std.proofs.Common.{◌≡◌, ◌≢◌, ℕ, zero, suc, ◌+◌, ◌<◌, ◌≤◌, max, Bool, true, false, eqb, ltb, not, cond, List, [], ◌∷◌, length, get_or, fold, Option, None, Some, ◌⊎◌, inl, inr, sym, ap, refl, ◌∙◌, subst, arith}
+use Rattle.std.proofs.lemmas.Bool.{cases_eq, cases_lt, eq-eqb, ne_eqb, lt-ltb, cond-true, or_from}
+use Rattle.std.specs.List.{position, position_or_len, list_any}
+use Rattle.std.proofs.lemmas.List.Sums.{position_or_len_is}
+
+pub fold-max_is : (xs : List ℕ) (a m : ℕ) → a ≤ m → ((k : ℕ) → k < length xs → get_or xs k 0 ≤ m)
+    → ((a ≡ m) ⊎ ((k : ℕ) × (k < length xs) × (get_or xs k 0 ≡ m))) → fold max a xs ≡ m
+fold-max_is [] a m le all (inl e) = e
+fold-max_is [] a m le all (inr h) = absurd (omega (arith, h.1))
+fold-max_is (x ∷ xs) a m le all (inl e) =
+    let x_le : x ≤ m = all 0 (omega arith) in
+    fold-max_is xs (max a x) m (omega arith) (λ k h. all (suc k) (omega arith)) (inl (omega arith))
+fold-max_is (x ∷ xs) a m le all (inr (k, h, e)) =
+    let x_le : x ≤ m = all 0 (omega arith) in
+    fold-max_is xs (max a x) m (omega arith) (λ k h. all (suc k) (omega arith)) (rest k h e)
+  where
+    rest : (k : ℕ) → k < length (x ∷ xs) → get_or (x ∷ xs) k 0 ≡ m → (max a x ≡ m) ⊎ ((j : ℕ) × (j < length xs) × (get_or xs j 0 ≡ m))
+    rest zero h e = let x_le : x ≤ m = all 0 (omega arith) in let is : x ≡ m = e in inl (omega arith)
+    rest (suc j) h e = inr (j, omega arith, e)
+
+-- the first place that passes
+pub position_is : {X : Type 0} (p : X → Bool) (xs : List X) (i : ℕ) (d : X) → i < length xs → ((k : ℕ) → k < i → p (get_or xs k d) ≡ false) → p (get_or xs i d) ≡ true → position p xs ≡ Some i
+position_is p xs i d within before here =
+    let at : position_or_len p xs ≡ i = position_or_len_is p xs i d (omega arith) before (λ _. here) in
+    rw at (cond-true _ _ _ (lt-ltb _ _ within))
+
+-- Among the first so many numbers this is the greatest, and where it isn't 0 it first stands at this place.
+pub record IsFirstGreatest (xs : List ℕ) (seen greatest place : ℕ) : Type 0 where
+  pub bound : (k : ℕ) → k < seen → get_or xs k 0 ≤ greatest
+  pub within : 0 < greatest → place < seen
+  pub at : 0 < greatest → get_or xs place 0 ≡ greatest
+  pub before : (k : ℕ) → 0 < greatest → k < place → get_or xs k 0 < greatest
+
+pub none_seen : (xs : List ℕ) (place : ℕ) → IsFirstGreatest xs 0 0 place
+none_seen xs place = record {
+  bound = λ k h. omega arith;
+  within = λ h. omega arith;
+  at = λ h. absurd (omega arith);
+  before = λ k h _. omega arith;
+}
+
+pub takes_greater : (xs : List ℕ) (seen greatest place x : ℕ) → IsFirstGreatest xs seen greatest place → x ≡ get_or xs seen 0 → greatest < x → IsFirstGreatest xs (seen + 1) x seen
+takes_greater xs seen greatest place x f is more = record {
+  bound = λ k h. elim (cases_eq k seen) [ inl e ↦ (let at_k : get_or xs k 0 ≡ x = ap (λ j. get_or xs j 0) e ∙ sym is in omega arith) | inr ne ↦ (let le : get_or xs k 0 ≤ greatest = f.bound k (omega arith) in omega arith) ];
+  within = λ h. omega arith;
+  at = λ h. sym is;
+  before = λ k h lt. (let le : get_or xs k 0 ≤ greatest = f.bound k lt in omega arith);
+}
+
+pub keeps_greatest : (xs : List ℕ) (seen greatest place x : ℕ) → IsFirstGreatest xs seen greatest place → x ≡ get_or xs seen 0 → x ≤ greatest → IsFirstGreatest xs (seen + 1) greatest place
+keeps_greatest xs seen greatest place x f is less = record {
+  bound = λ k h. elim (cases_eq k seen) [ inl e ↦ (let at_k : get_or xs k 0 ≡ x = ap (λ j. get_or xs j 0) e ∙ sym is in omega arith) | inr ne ↦ f.bound k (omega arith) ];
+  within = λ h. (let lt : place < seen = f.within h in omega arith);
+  at = f.at;
+  before = f.before;
+}
+
+pub is_fold : (xs : List ℕ) (greatest place : ℕ) → IsFirstGreatest xs (length xs) greatest place → fold max 0 xs ≡ greatest
+is_fold xs greatest place f =
+    fold-max_is xs 0 greatest (omega arith) f.bound
+    (elim (cases_eq 0 greatest) [ inl e ↦ inl e | inr ne ↦ (let some : 0 < greatest = omega arith in inr (place, f.within some, f.at some)) ])
+
+pub is_position : (xs : List ℕ) (greatest place : ℕ) → IsFirstGreatest xs (length xs) greatest place → 0 < greatest → position (λ w. eqb w greatest) xs ≡ Some place
+is_position xs greatest place f some =
+    position_is (λ w. eqb w greatest) xs place 0 (f.within some)
+    (λ k h. ne_eqb _ _ (λ e. (let lt : get_or xs k 0 < greatest = f.before k some h in absurd (omega arith))))
+    (eq-eqb _ _ (f.at some))
+
+pub le-fold_max : (xs : List ℕ) (a k : ℕ) → (a ≤ fold max a xs) × (k < length xs → get_or xs k 0 ≤ fold max a xs)
+le-fold_max [] a k = (omega arith, λ h. absurd (omega arith))
+le-fold_max (x ∷ xs) a zero =
+    let rest = le-fold_max xs (max a x) 0 in
+    let low : max a x ≤ fold max (max a x) xs = rest.0 in
+    (omega arith, λ h. omega arith)
+le-fold_max (x ∷ xs) a (suc k) =
+    let rest = le-fold_max xs (max a x) k in
+    let low : max a x ≤ fold max (max a x) xs = rest.0 in
+    (omega arith, λ h. rest.1 (omega arith))
+
+-- no element passes
+pub none_passes : {X : Type 0} (p : X → Bool) (xs : List X) (d : X) → ((k : ℕ) → k < length xs → p (get_or xs k d) ≡ false) → list_any p xs ≡ false
+none_passes p [] d h = refl
+none_passes p (x ∷ xs) d h = or_from _ _ (h 0 (omega arith)) (none_passes p xs d (λ k lt. h (suc k) (omega arith)))

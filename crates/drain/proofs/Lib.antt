@@ -1,0 +1,24 @@
+mod Rows
+pub mod Local
+pub mod Pigeonhole
+pub mod Tiles
+pub mod Quiet
+pub mod Spreading
+pub mod Least
+pub mod Spots
+pub mod TileRound
+pub mod Block
+pub mod Ways
+pub mod AroundLemmas
+pub mod CodeList
+pub mod DrainedLemmas
+pub mod TileRows
+pub mod RoundLemmas
+pub mod Touching
+pub mod Ends
+pub mod Few
+pub mod Unique
+pub mod Nearby
+pub mod Counted
+pub mod Greatest
+pub mod Weights

@@ -1,0 +1,109 @@
+-- What the spots of a tile and the places around it show.
+use Rattle.std.proofs.Common.{◌≡◌, ◌≢◌, ℕ, zero, suc, ◌+◌, ◌-◌, ◌*◌, ◌<◌, ◌≤◌, Bool, true, false, ◌&&◌, leb, cond, ◌⊎◌, inl, inr, List, [], ◌∷◌, ◌++◌, length, get_or, slice_get, Option, None, Some, sym, ap, subst, refl, ◌∙◌, arith}
+use Rattle.std.proofs.lemmas.Bool.{cases_Bool, cases_eq, cond-true, cond-false, and_from, and_left, le-leb}
+use Rattle.std.proofs.lemmas.List.{get_or_append_left, get_or_push, length_push, get_or_past}
+use Rattle.std.proofs.lemmas.Nat.{mul-add-lt}
+use Rattle.std.proofs.Math.Nat.{mul-le-mul_right}
+use Rattle.ascii_grid.proofs.Places.{make_place, same_place, index_injective}
+use Rattle.ascii_grid.specs.Neighbours.{entry_at, index_of}
+use Rattle.ascii_grid.specs.declared.place.Place.{Place}
+use Rattle.tiles.specs.declared.bounds.Bounds.{Bounds}
+use Rattle.tiles.specs.Cutting.{Cutting, View, bounds_of, is_within, is_shown, cell_shown}
+use Rattle.drain.specs.Window.{IsInner, inner_index, known, count_on, AreKnownBelow, spot_index, area_of, IsSpot, Shows, IsShown, AreShownBelow, AreShown}
+
+-- what stands in an option, if it is one
+abbrev pub joined : {X : Type 0} → Option (Option X) → Option X
+joined None = None
+joined (Some o) = o
+
+joined-slice_get : {X : Type 0} (xs : List (Option X)) (i : ℕ) → joined (slice_get xs i) ≡ get_or xs i None
+joined-slice_get [] i = refl
+joined-slice_get (x ∷ xs) zero = refl
+joined-slice_get (x ∷ xs) (suc i) = joined-slice_get xs i
+
+-- the place of a spot is shown, if it is in the grid
+shows_within : (c : Cutting) (tile : ℕ) (b : Bounds) (s p : Place) → b ≡ bounds_of c tile → IsSpot b s → Shows b s p → is_within c p ≡ true → is_shown c tile p ≡ true
+shows_within c tile b s p e spot shows within =
+    let top : b.top ≡ (bounds_of c tile).top = ap (λ (z : Bounds). z.top) e in
+    let left : b.left ≡ (bounds_of c tile).left = ap (λ (z : Bounds). z.left) e in
+    let rows : b.rows ≡ (bounds_of c tile).rows = ap (λ (z : Bounds). z.rows) e in
+    let cols : b.cols ≡ (bounds_of c tile).cols = ap (λ (z : Bounds). z.cols) e in
+    and_from _ _ (and_from _ _ (and_from _ _ (and_from _ _ within
+    (le-leb _ _ (omega (arith, shows.0, top))))
+    (le-leb _ _ (omega (arith, shows.0, spot.0, top, rows))))
+    (le-leb _ _ (omega (arith, shows.1, left))))
+    (le-leb _ _ (omega (arith, shows.1, spot.1, left, cols)))
+
+not_shown : (c : Cutting) (tile : ℕ) (p : Place) → is_within c p ≡ false → is_shown c tile p ≡ false
+not_shown c tile p out = and_left _ _ (and_left _ _ (and_left _ _ (and_left _ _ out)))
+
+-- a view has at the place of a spot what the grid has there
+pub shown_is : {X : Type 0} (v : View (Option X)) (b : Bounds) (s p : Place) → b ≡ bounds_of v.cutting v.tile → IsSpot b s → Shows b s p →
+    joined (cell_shown v p) ≡ entry_at v.cutting.cols v.cutting.rows v.cells p
+shown_is v b s p e spot shows =
+    elim (cases_Bool (is_within v.cutting p)) [
+      | inl within ↦
+          ap joined (cond-true _ _ _ (shows_within v.cutting v.tile b s p e spot shows within))
+          ∙ joined-slice_get v.cells (index_of v.cutting.cols p) ∙ sym (cond-true _ _ _ within)
+      | inr out ↦ ap joined (cond-false _ _ _ (not_shown v.cutting v.tile p out)) ∙ sym (cond-false _ _ _ out)
+    ]
+
+-- the same, where the place was computed
+pub shown_at : {X : Type 0} (v : View (Option X)) (b : Bounds) (s : Place) (o : Option (Option X)) → b ≡ bounds_of v.cutting v.tile → IsSpot b s →
+    (b.top + s.row ≢ 0) → (b.left + s.col ≢ 0) → o ≡ cell_shown v (make_place (b.top + s.row - 1) (b.left + s.col - 1)) →
+    IsShown v.cutting.cols v.cutting.rows v.cells b s (joined o)
+shown_at v b s o e spot row col is = (
+  λ p shows.
+      let here : p ≡ make_place (b.top + s.row - 1) (b.left + s.col - 1) = same_place p (make_place (b.top + s.row - 1) (b.left + s.col - 1)) (omega (arith, shows.0)) (omega (arith, shows.1)) in
+      ap joined (is ∙ ap (λ (q : Place). cell_shown v q) (sym here)) ∙ shown_is v b s p e spot shows,
+  λ off. absurd (elim off [ inl a ↦ row a | inr a ↦ col a ]),
+)
+
+-- one spot more
+pub shown_push : {X : Type 0} (cols rows : ℕ) (entries : List (Option X)) (b : Bounds) (s : Place) (shown : List (Option X)) (x : Option X) → IsSpot b s →
+    AreShownBelow cols rows entries b (spot_index b s) shown → IsShown cols rows entries b s x → AreShownBelow cols rows entries b (spot_index b s + 1) (shown ++ x ∷ [])
+shown_push {X = X} cols rows entries b s shown x spot before here = record {
+  size = length_push shown x ∙ ap (λ n. n + 1) before.size;
+  each = λ r inside below. elim (cases_eq (spot_index b r) (spot_index b s)) [
+    | inl e ↦ (let one : s ≡ r = index_injective (b.cols + 2) s r spot.1 inside.1 (sym e) in
+        subst (λ (q : Place). IsShown cols rows entries b q (get_or (shown ++ x ∷ []) (spot_index b q) None)) one
+        (subst (λ (o : Option X). IsShown cols rows entries b s o) (sym (get_or_push shown x None (spot_index b s) before.size)) here))
+    | inr ne ↦ (let lower : spot_index b r < spot_index b s = omega arith in
+        subst (λ (o : Option X). IsShown cols rows entries b r o) (sym (get_or_append_left shown (x ∷ []) None (spot_index b r) (omega (arith, before.size))))
+        (before.each r inside lower))
+  ];
+}
+
+pub shown_all : {X : Type 0} (cols rows : ℕ) (entries : List (Option X)) (b : Bounds) (end : ℕ) (shown : List (Option X)) → area_of b ≤ end →
+    AreShownBelow cols rows entries b end shown → AreShown cols rows entries b shown
+shown_all cols rows entries b end shown whole f = λ s spot. f.each s spot (omega (arith, mul-add-lt s.row (b.cols + 2) s.col (b.rows + 2) spot.0 spot.1))
+
+-- all spots that a list shows, where the bounds go by another name
+pub shown_whole : {X : Type 0} (cols rows : ℕ) (entries : List (Option X)) (b c : Bounds) (end : ℕ) (shown : List (Option X)) → b ≡ c → end ≡ (b.rows + 2) * (b.cols + 2) →
+    AreShownBelow cols rows entries b end shown → (length shown ≡ area_of c) × AreShown cols rows entries c shown
+shown_whole {X = X} cols rows entries b c end shown same whole f = (
+  f.size ∙ (let e : end ≡ area_of b = omega (arith, whole) in e) ∙ ap (λ (z : Bounds). area_of z) same,
+  subst (λ (z : Bounds). AreShown {X = X} cols rows entries z shown) same (shown_all cols rows entries b end shown (omega (arith, whole)) f),
+)
+
+-- two spots of the tile that stand at one place of its row order are one
+inner_injective : (b : Bounds) (s r : Place) → IsInner b s → IsInner b r → inner_index b s ≡ inner_index b r → s ≡ r
+inner_injective b s r i j e =
+    let one = index_injective b.cols (make_place (s.row - 1) (s.col - 1)) (make_place (r.row - 1) (r.col - 1)) (omega (arith, i.first_col, i.last_col)) (omega (arith, j.first_col, j.last_col)) e in
+    let row : s.row - 1 ≡ r.row - 1 = ap (λ (p : Place). p.row) one in
+    let col : s.col - 1 ≡ r.col - 1 = ap (λ (p : Place). p.col) one in
+    same_place s r (omega (arith, i.first_row, j.first_row)) (omega (arith, i.first_col, j.first_col))
+
+-- one count more
+pub known_push : (b : Bounds) (counts : List ℕ) (s : Place) (list : List (Option ℕ)) (x : Option ℕ) → IsInner b s →
+    AreKnownBelow b counts (inner_index b s) list → x ≡ known (count_on b counts s) → AreKnownBelow b counts (inner_index b s + 1) (list ++ x ∷ [])
+known_push b counts s list x inner before here = record {
+  size = length_push list x ∙ ap (λ n. n + 1) before.size;
+  each = λ r inside below. elim (cases_eq (inner_index b r) (inner_index b s)) [
+    | inl e ↦ (let one : s ≡ r = inner_injective b s r inner inside (sym e) in
+        subst (λ (q : Place). get_or (list ++ x ∷ []) (inner_index b q) None ≡ known (count_on b counts q)) one
+        (get_or_push list x None (inner_index b s) before.size ∙ here))
+    | inr ne ↦ (let lower : inner_index b r < inner_index b s = omega arith in
+        get_or_append_left list (x ∷ []) None (inner_index b r) (omega (arith, before.size)) ∙ before.each r inside lower)
+  ];
+}

@@ -1,0 +1,80 @@
+-- The eight ways from a place, and what stands on them.
+use Rattle.std.proofs.Common.{◌≡◌, ◌≢◌, ℕ, zero, suc, ◌+◌, ◌-◌, ◌*◌, ◌<◌, ◌≤◌, ◌<ℤ◌, ◌⊎◌, inl, inr, Bool, true, false, eqb, List, [], ◌∷◌, ◌++◌, length, get_or, Option, None, Some, is_some, unwrap_or, ℤ, pos, sym, ap, subst, refl, ◌∙◌, arith}
+use Rattle.std.proofs.lemmas.Bool.{cases_eq}
+use Rattle.std.proofs.lemmas.Option.{none-some, some_pair_parts}
+use Rattle.std.specs.Option.{option_zip, option_and_then}
+use Rattle.ascii_grid.proofs.Places.{make_place, same_place}
+use Rattle.ascii_grid.specs.Neighbours.{Touches}
+use Rattle.ascii_grid.specs.Ways.{place_on, place_of, place_toward, code_of, before}
+use Rattle.ascii_grid.specs.declared.place.Place.{Place}
+
+-- what holds of each of eight numbers
+pub eight : (P : ℕ → Type 0) → P 0 → P 1 → P 2 → P 3 → P 4 → P 5 → P 6 → P 7 → (n : ℕ) → n < 8 → P n
+eight P a b c d e f g h zero l = a
+eight P a b c d e f g h (suc zero) l = b
+eight P a b c d e f g h (suc (suc zero)) l = c
+eight P a b c d e f g h (suc (suc (suc zero))) l = d
+eight P a b c d e f g h (suc (suc (suc (suc zero)))) l = e
+eight P a b c d e f g h (suc (suc (suc (suc (suc zero))))) l = f
+eight P a b c d e f g h (suc (suc (suc (suc (suc (suc zero)))))) l = g
+eight P a b c d e f g h (suc (suc (suc (suc (suc (suc (suc zero))))))) l = h
+eight P a b c d e f g h (suc (suc (suc (suc (suc (suc (suc (suc n)))))))) l = absurd (omega arith)
+
+-- a way's code points to the place on that way
+pub toward-code : (p : Place) (way : ℕ) → way < 8 → place_toward (code_of (Some way)) p ≡ place_on way p
+toward-code p = eight (λ way. place_toward (code_of (Some way)) p ≡ place_on way p) refl refl refl refl refl refl refl refl
+
+before-is : (n m : ℕ) → n ≡ m + 1 → before n ≡ Some m
+before-is zero m e = absurd (omega arith)
+before-is (suc n) m e = let same : n ≡ m = omega arith in ap Some same
+
+here : (q : Place) (row col : ℕ) → q.row ≡ row → q.col ≡ col → Some (make_place row col) ≡ Some q
+here q row col e f = ap Some (sym (same_place q (make_place row col) e f))
+
+-- each place that touches another lies on one of its ways
+pub way_to : (p q : Place) → Touches p q → p ≢ q → (way : ℕ) × (way < 8) × (place_on way p ≡ Some q)
+way_to p q t differ = elim (cases_eq q.row (p.row + 1)) [
+  | inl south ↦ elim (cases_eq q.col (p.col + 1)) [
+    | inl east ↦ (1, omega arith, here q (p.row + 1) (p.col + 1) south east)
+    | inr not_east ↦ elim (cases_eq q.col p.col) [
+      | inl amid ↦ (2, omega arith, here q (p.row + 1) p.col south amid)
+      | inr not_amid ↦ (3, omega arith, ap (λ (o : Option ℕ). place_of (Some (p.row + 1)) o) (before-is p.col q.col (omega (arith, t.col_left, t.col_right))) ∙ here q (p.row + 1) q.col south refl)
+    ]
+  ]
+  | inr not_south ↦ elim (cases_eq q.row p.row) [
+    | inl level ↦ elim (cases_eq q.col (p.col + 1)) [
+      | inl east ↦ (0, omega arith, here q p.row (p.col + 1) level east)
+      | inr not_east ↦ elim (cases_eq q.col p.col) [
+        | inl amid ↦ absurd (differ (same_place p q (sym level) (sym amid)))
+        | inr not_amid ↦ (4, omega arith, ap (λ (o : Option ℕ). place_of (Some p.row) o) (before-is p.col q.col (omega (arith, t.col_left, t.col_right))) ∙ here q p.row q.col level refl)
+      ]
+    ]
+    | inr not_level ↦
+        (let north : before p.row ≡ Some q.row = before-is p.row q.row (omega (arith, t.row_up, t.row_down)) in
+        elim (cases_eq q.col (p.col + 1)) [
+          | inl east ↦ (7, omega arith, ap (λ (o : Option ℕ). place_of o (Some (p.col + 1))) north ∙ here q q.row (p.col + 1) refl east)
+          | inr not_east ↦ elim (cases_eq q.col p.col) [
+            | inl amid ↦ (6, omega arith, ap (λ (o : Option ℕ). place_of o (Some p.col)) north ∙ here q q.row p.col refl amid)
+            | inr not_amid ↦ (
+              5,
+              omega arith,
+              ap (λ (o : Option ℕ). place_of o (before p.col)) north
+                  ∙ ap (λ (o : Option ℕ). place_of (Some q.row) o) (before-is p.col q.col (omega (arith, t.col_left, t.col_right))) ∙ here q q.row q.col refl refl,
+            )
+          ]
+        ])
+  ]
+]
+
+-- two things on one way stand at one place
+pub zip_some : {X Y : Type 0} (f : Place → Option X) (g : Place → Option Y) (o : Option Place) (x : X) (y : Y) → option_zip (option_and_then f o) (option_and_then g o) ≡ Some (x, y) →
+    (q : Place) × (o ≡ Some q) × (f q ≡ Some x) × (g q ≡ Some y)
+zip_some {X = X} {Y = Y} f g None x y e = absurd (none-some (x, y) e)
+zip_some {X = X} {Y = Y} f g (Some q) x y e = at (f q) (g q) refl refl e
+  where
+    at : (a : Option X) (b : Option Y) → f q ≡ a → g q ≡ b → option_zip (f q) (g q) ≡ Some (x, y) → (r : Place) × (Some q ≡ Some r) × (f r ≡ Some x) × (g r ≡ Some y)
+    at None b u v e = absurd (none-some (x, y) (sym (ap (λ (z : Option X). option_zip z (g q)) u) ∙ e))
+    at (Some a) None u v e = absurd (none-some (x, y) (sym (ap (λ (z : Option X). option_zip z (g q)) u ∙ ap (λ (z : Option Y). option_zip (Some a) z) v) ∙ e))
+    at (Some a) (Some b) u v e =
+        let both = some_pair_parts a x b y (sym (ap (λ (z : Option X). option_zip z (g q)) u ∙ ap (λ (z : Option Y). option_zip (Some a) z) v) ∙ e) in
+        (q, refl, u ∙ ap Some both.0, v ∙ ap Some both.1)

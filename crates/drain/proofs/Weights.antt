@@ -1,0 +1,86 @@
+-- The weights of the eight ways, one by one.
+use Rattle.std.proofs.Common.{◌≡◌, ℕ, ◌+◌, ◌*◌, ◌<◌, ◌≤◌, ◌%◌, max, Bool, true, false, eqb, ltb, cond, List, length, get_or, fold, map, Option, None, Some, ℤ, sym, ap, refl, ◌∙◌, subst, arith, ◌⊎◌, inl, inr}
+use Rattle.std.proofs.Math.Nat.{mul-le-mul_right}
+use Rattle.std.proofs.lemmas.Bool.{false≢true, cases_Bool, cond-true, cond-false, le-ltb, lt-ltb, cases_eq}
+use Rattle.std.proofs.lemmas.List.{get_or-map, length-map}
+use Rattle.std.proofs.lemmas.List.FromFn.{length-enumerate_from, get_or-enumerate_from}
+use Rattle.std.specs.List.{enumerate_from, list_any, position}
+use Rattle.drain.specs.Steepness.{weight, weights, drop_to, leads_on, direction_of}
+use Rattle.ascii_grid.specs.Ways.{code_of}
+use Rattle.drain.specs.declared.around.Around.{Around}
+use Rattle.drain.proofs.Greatest.{IsFirstGreatest, takes_greater, keeps_greatest, le-fold_max, none_passes}
+use Rattle.drain.specs.Fitting.{IsFitting}
+
+abbrev pub own_weight : Around → ℕ × Option (ℤ × ℕ) → ℕ
+own_weight a e = weight e.0 (drop_to a.level e.1)
+
+abbrev pub no_way : ℕ × Option (ℤ × ℕ)
+no_way = (0, None)
+
+pub length-weights : (a : Around) → length (weights a) ≡ length a.ways
+length-weights a = length-map (enumerate_from 0 a.ways) (own_weight a) ∙ length-enumerate_from 0 a.ways
+
+pub get_or-weights : (a : Around) (k : ℕ) → k < length a.ways → get_or (weights a) k 0 ≡ weight k (drop_to a.level (get_or a.ways k None))
+get_or-weights a k h =
+    let within : k < length (enumerate_from 0 a.ways) = omega (arith, length-enumerate_from 0 a.ways) in
+    let zero_and : 0 + k ≡ k = omega arith in
+    get_or-map (own_weight a) (enumerate_from 0 a.ways) k no_way 0 within
+    ∙ ap (own_weight a) (get_or-enumerate_from 0 a.ways k no_way h)
+    ∙ ap (λ way. weight way (drop_to a.level (get_or a.ways k None))) zero_and
+
+square-above_zero : (n : ℕ) → 1 ≤ n → 1 ≤ n * n
+square-above_zero n h = let more : 1 * n ≤ n * n = mul-le-mul_right n h in omega arith
+
+-- only a drop of 0 has the weight 0
+pub drop_from_weight : (way drop : ℕ) → weight way drop ≤ 0 → drop ≡ 0
+drop_from_weight way drop h = elim (cases_eq drop 0) [ inl e ↦ e | inr ne ↦ absurd (weighs way drop (omega arith) h) ]
+  where
+    weighs : (way drop : ℕ) → 1 ≤ drop → weight way drop ≤ 0 → ⊥
+    weighs way drop some low =
+        let square : 1 ≤ drop * drop = square-above_zero drop some in
+        elim (cases_Bool (eqb (way % 2) 0)) [
+          | inl e ↦ (let is : weight way drop ≡ 2 * (drop * drop) = cond-true _ _ _ e in omega arith)
+          | inr e ↦ (let is : weight way drop ≡ drop * drop = cond-false _ _ _ e in omega arith)
+        ]
+
+-- where no weight is above 0, no way leads down
+pub no_way_down : (a : Around) → fold max 0 (weights a) ≤ 0 → list_any (λ w. ltb 0 (drop_to a.level w)) a.ways ≡ false
+no_way_down a h =
+    none_passes (λ w. ltb 0 (drop_to a.level w)) a.ways None
+    (λ k lt.
+    let within : k < length (weights a) = omega (arith, length-weights a) in
+    let low : get_or (weights a) k 0 ≤ fold max 0 (weights a) = (le-fold_max (weights a) 0 k).1 within in
+    let own : weight k (drop_to a.level (get_or a.ways k None)) ≤ 0 = omega (arith, get_or-weights a k lt) in
+    let none : drop_to a.level (get_or a.ways k None) ≡ 0 = drop_from_weight k _ own in
+    le-ltb _ _ (omega arith))
+
+-- a cell that fits its surroundings and has no way down is an edge cell or has a way that leads on
+pub drains_onward : (a : Around) → IsFitting a → fold max 0 (weights a) ≤ 0 → a.edge ≡ false → list_any (leads_on a) a.ways ≡ true
+drains_onward a f low inside = go a low inside f.drains
+  where
+    go : (a : Around) → fold max 0 (weights a) ≤ 0 → a.edge ≡ false
+        → ((a.edge ≡ true) ⊎ (list_any (λ w. ltb 0 (drop_to a.level w)) a.ways ≡ true) ⊎ (list_any (leads_on a) a.ways ≡ true))
+        → list_any (leads_on a) a.ways ≡ true
+    go a low inside (inl e) = absurd (false≢true (sym inside ∙ e))
+    go a low inside (inr (inl e)) = absurd (false≢true (sym (no_way_down a low) ∙ e))
+    go a low inside (inr (inr e)) = e
+
+-- the greatest so far, after one way more
+pub next_greatest : (a : Around) (way greatest place own next_greatest next_place drop : ℕ) → way < length a.ways → IsFirstGreatest (weights a) way greatest place
+    → drop ≡ drop_to a.level (get_or a.ways way None) → own ≡ weight way drop
+    → ((greatest < own) × (next_greatest ≡ own) × (next_place ≡ way)) ⊎ ((own ≤ greatest) × (next_greatest ≡ greatest) × (next_place ≡ place))
+    → IsFirstGreatest (weights a) (way + 1) next_greatest next_place
+next_greatest a way greatest place own g p drop within f d w (inl (more, is_own, is_way)) =
+    subst (λ n. IsFirstGreatest (weights a) (way + 1) n p) (sym is_own)
+    (subst (λ n. IsFirstGreatest (weights a) (way + 1) own n) (sym is_way)
+    (takes_greater (weights a) way greatest place own f (w ∙ ap (weight way) d ∙ sym (get_or-weights a way within)) more))
+next_greatest a way greatest place own g p drop within f d w (inr (less, is_old, is_place)) =
+    subst (λ n. IsFirstGreatest (weights a) (way + 1) n p) (sym is_old)
+    (subst (λ n. IsFirstGreatest (weights a) (way + 1) greatest n) (sym is_place)
+    (keeps_greatest (weights a) way greatest place own f (w ∙ ap (weight way) d ∙ sym (get_or-weights a way within)) less))
+
+pub direction_down : (a : Around) (greatest way : ℕ) → greatest ≡ fold max 0 (weights a) → 0 < greatest → position (λ w. eqb w greatest) (weights a) ≡ Some way → direction_of a ≡ code_of (Some way)
+direction_down a greatest way is some first =
+    let above : 0 < fold max 0 (weights a) = omega (arith, is) in
+    cond-true _ _ _ (lt-ltb _ _ above)
+    ∙ ap code_of (subst (λ m. position (λ w. eqb w m) (weights a) ≡ Some way) is first)

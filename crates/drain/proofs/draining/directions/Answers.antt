@@ -1,0 +1,35 @@
+use Rattle.std.proofs.Common.{◌≡◌, ◌∙◌, List, Option, ℕ, sym, ap, subst}
+use Rattle.ascii_grid.specs.Raster.{Raster, Terrain}
+use Rattle.drain.specs.Directions.{AreDirections}
+use Rattle.drain.specs.Drained.{Drained, IsDraining, AllFlowEnds, directed_of}
+use Rattle.drain.proofs.DrainedLemmas.{are_directions, are_draining, codes_of, own_terrain}
+use Rattle.drain.proofs.Ends.{falling_ends}
+use Rattle.drain.proofs.draining.directions.Goals as goal
+
+pub new-requires : goal.new-requires
+new-requires g c =
+    let t = c.args.filled.now.terrain in
+    let steps = c.in_ok-steps.steps.items in
+    let codes = c.in_ok-codes.codes.items in
+    let all = codes_of c.grid-grid.result.now c.args.filled.now c.deref.result.now steps codes c.grid-grid.ensures.value c.deref.ensures.value c.in_ok-codes.ensures in
+    let same = own_terrain c.grid-grid.result.now c.in-Ok.own c.cells.result.now c.cells.ensures.value c.in-Ok.ensures ∙ ap (λ (x : Raster). x.terrain) c.grid-grid.ensures.value in
+    subst (λ (x : Terrain). IsDraining (record { terrain = x; steps = steps; codes = codes })) (sym same) (are_draining t steps codes c.in_ok-steps.ensures.steps all)
+
+pub returns-clause-codes : goal.returns-clause-codes
+returns-clause-codes g c =
+    let t = c.args.filled.now.terrain in
+    let steps = c.in_ok-steps.steps.items in
+    let codes = c.in_ok-codes.codes.items in
+    let all = codes_of c.grid-grid.result.now c.args.filled.now c.deref.result.now steps codes c.grid-grid.ensures.value c.deref.ensures.value c.in_ok-codes.ensures in
+    subst (λ (d : Drained). AreDirections t d.codes) (sym c.new.ensures) (are_directions t steps codes c.in_ok-steps.ensures.steps all)
+
+pub returns-clause-ends : goal.returns-clause-ends
+returns-clause-ends g c =
+    let t = c.args.filled.now.terrain in
+    let steps = c.in_ok-steps.steps.items in
+    let codes = c.in_ok-codes.codes.items in
+    let all = codes_of c.grid-grid.result.now c.args.filled.now c.deref.result.now steps codes c.grid-grid.ensures.value c.deref.ensures.value c.in_ok-codes.ensures in
+    let same = own_terrain c.grid-grid.result.now c.in-Ok.own c.cells.result.now c.cells.ensures.value c.in-Ok.ensures ∙ ap (λ (x : Raster). x.terrain) c.grid-grid.ensures.value in
+    let d : Drained = record { terrain = c.in-Ok.own.terrain; steps = steps; codes = codes } in
+    let draining = subst (λ (x : Terrain). IsDraining (record { terrain = x; steps = steps; codes = codes })) (sym same) (are_draining t steps codes c.in_ok-steps.ensures.steps all) in
+    subst (λ (x : Drained). AllFlowEnds (directed_of x)) (sym c.new.ensures) (falling_ends d draining)

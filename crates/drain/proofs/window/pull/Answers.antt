@@ -1,0 +1,27 @@
+use Rattle.std.proofs.Common.{◌≡◌, ◌+◌, ◌≤◌, ◌<◌, inl, inr, List, All, ℕ, sym, subst, arith}
+use Rattle.std.proofs.lemmas.Bool.{cases_eq}
+use Rattle.std.proofs.lemmas.List.Elements.{All-nil}
+use Rattle.ascii_grid.specs.declared.place.Place.{Place}
+use Rattle.drain.specs.Window.{IsNear, IsInner, IsSpread, same}
+use Rattle.drain.proofs.Spreading.{near_after}
+use Rattle.drain.proofs.window.pull.Goals as goal
+
+pub loop-row-init : goal.loop-row-init
+loop-row-init c = record {
+  spread = subst (λ (xs : List ℕ). IsSpread c.args.ground.now.bounds c.args.ground.now.levels.items c.args.old.now xs) (sym c.requires.same) same;
+  near = λ s inner below. absurd (omega (arith, inner.first_row));
+  inner = subst (λ (xs : List Place). All (λ (s : Place). IsInner c.args.ground.now.bounds s) xs) (sym c.new-reached.ensures.items) (All-nil (λ (s : Place). IsInner c.args.ground.now.bounds s));
+}
+
+pub loop-row-preserved : goal.loop-row-preserved
+loop-row-preserved c =
+    let b = c.args.ground.now.bounds in
+    let levels = c.args.ground.now.levels.items in
+    record {
+      spread = c.in_ok-pull_along.ensures.spread;
+      near = λ s inner below. elim (cases_eq s.row c.loop-row.row) [
+        | inl e ↦ c.in_ok-pull_along.ensures.near s inner e
+        | inr ne ↦ near_after b levels c.args.old.now c.loop-row.counts c.pull_along.new.counts s (c.loop-row.invariant.near s inner (omega arith)) c.in_ok-pull_along.ensures.kept
+      ];
+      inner = c.in_ok-pull_along.ensures.inner;
+    }

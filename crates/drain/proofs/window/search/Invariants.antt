@@ -1,0 +1,12 @@
+use Rattle.std.proofs.Common.{◌+◌, ◌-◌, ◌≤◌, All, sum, vec_len}
+use Rattle.drain.specs.Window.{IsInner, IsSpread}
+use Rattle.drain.proofs.window.search.Given as goal
+
+abbrev pub invariant-loop-done : goal.invariant-loop-done
+invariant-loop-done l = record {
+  spread : IsSpread l.ground.bounds l.ground.levels.items l.initial.counts l.counts;
+  inner : All (IsInner l.ground.bounds) l.reached.items;
+}
+
+abbrev pub decreases-loop-done : goal.decreases-loop-done
+decreases-loop-done l = (vec_len l.reached - l.done) + sum l.counts

@@ -1,0 +1,36 @@
+-- What the definitions are to satisfy, as statements.
+use Rattle.std.specs.Prelude.{◌≡◌, ℕ, ◌*◌, ◌^◌, ◌<◌, List, length, Option}
+use Rattle.ascii_grid.specs.Raster.{Terrain, IsTerrain}
+use Rattle.ascii_grid.specs.Neighbours.{IsDataCell}
+use Rattle.ascii_grid.specs.Filled.{IsFilled}
+use Rattle.ascii_grid.specs.declared.place.Place.{Place}
+use Rattle.tiles.specs.Cutting.{Cutting, IsCutting, Cuts}
+use Rattle.drain.specs.Steps.{IsSteps, AreSteps}
+use Rattle.drain.specs.Rounds.{HasZeros, IsQuiet}
+use Rattle.drain.specs.Directions.{AreDirections}
+use Rattle.drain.specs.Drained.{Drained, IsDraining, directed_of, AllFlowEnds}
+
+-- Where a terrain's filled heights are its own, each data cell has exactly one number of steps.
+abbrev pub EachHasSteps : Type 0
+EachHasSteps = (t : Terrain) (p : Place) → IsTerrain t → IsFilled t t.cells → IsDataCell t p → (n : ℕ) × IsSteps t p n
+
+-- A shortest walk meets no cell twice.
+abbrev pub StepsAreFew : Type 0
+StepsAreFew = (t : Terrain) (p : Place) (n : ℕ) → IsTerrain t → IsSteps t p n → n < 2 ^ 24
+
+abbrev pub StepsAreOne : Type 0
+StepsAreOne = (t : Terrain) (p : Place) (m n : ℕ) → IsSteps t p m → IsSteps t p n → m ≡ n
+
+-- Where a round over all tiles changes nothing, the counts are the steps.
+abbrev pub QuietIsCounted : Type 0
+QuietIsCounted = (t : Terrain) (c : Cutting) (steps : List (Option ℕ)) (lists : ℕ → List (Option ℕ)) →
+    IsTerrain t → IsFilled t t.cells → Cuts c t → IsCutting c → length steps ≡ t.cols * t.rows →
+    HasZeros t steps → IsQuiet t c steps lists → AreSteps t steps
+
+-- There is one map of directions.
+abbrev pub DirectionsAreOne : Type 0
+DirectionsAreOne = (t : Terrain) (codes others : List (Option ℕ)) → AreDirections t codes → AreDirections t others → codes ≡ others
+
+-- Where the pair of filled height and steps falls along each code, every flow path ends.
+abbrev pub FallingEnds : Type 0
+FallingEnds = (d : Drained) → IsTerrain d.terrain → IsDraining d → AllFlowEnds (directed_of d)

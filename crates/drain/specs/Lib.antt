@@ -1,0 +1,11 @@
+pub mod CodeNumber
+pub mod Steepness
+pub mod Steps
+pub mod Directions
+pub mod Following
+pub mod Drained
+pub mod Rounds
+pub mod Window
+pub mod Beginning
+pub mod Fitting
+pub mod Laws

@@ -1,0 +1,115 @@
+-- A tile with the places around it, one row and one column more on each side: what the search for steps
+-- works on. A spot of it is a place counted from the row and the column before the tile's first.
+use Rattle.std.specs.Prelude.{◌≡◌, ◌≢◌, ℕ, ◌+◌, ◌-◌, ◌*◌, ◌^◌, ◌<◌, ◌≤◌, ◌⊎◌, ℤ, List, map, length, Option, None, Some, nat_lt, if◌then◌else◌, slice_index_or, slice_set, unwrap_or}
+use Rattle.ascii_grid.specs.Raster.{Terrain}
+use Rattle.ascii_grid.specs.Neighbours.{height_at, entry_at, index_of, Touches}
+use Rattle.ascii_grid.specs.declared.place.Place.{Place}
+use Rattle.tiles.specs.declared.bounds.Bounds.{Bounds}
+use Rattle.drain.specs.Rounds.{IsWalked}
+
+-- the count where none is known: greater than every number of steps
+abbrev pub no_count : ℕ
+no_count = 2 ^ 24
+
+abbrev pub width_of : Bounds → ℕ
+width_of b = b.cols + 2
+
+abbrev pub area_of : Bounds → ℕ
+area_of b = (b.cols + 2) * (b.rows + 2)
+
+-- Where a spot stands in row order.
+abbrev pub spot_index : Bounds → Place → ℕ
+spot_index b s = index_of (b.cols + 2) s
+
+abbrev pub IsSpot : Bounds → Place → Type 0
+IsSpot b s = (s.row < b.rows + 2) × (s.col < b.cols + 2)
+
+-- The spot is one of the tile's.
+pub record IsInner (b : Bounds) (s : Place) : Type 0 where
+  pub first_row : 1 ≤ s.row
+  pub last_row : s.row ≤ b.rows
+  pub first_col : 1 ≤ s.col
+  pub last_col : s.col ≤ b.cols
+
+-- The spot shows the place.
+abbrev pub Shows : Bounds → Place → Place → Type 0
+Shows b s p = (b.top + s.row ≡ p.row + 1) × (b.left + s.col ≡ p.col + 1)
+
+-- The spot lies north or west of the grid.
+abbrev pub IsOff : Bounds → Place → Type 0
+IsOff b s = (b.top + s.row ≡ 0) ⊎ (b.left + s.col ≡ 0)
+
+-- What a list in row order has at the place of a spot; None off the grid.
+abbrev pub IsShown : {X : Type 0} → ℕ → ℕ → List (Option X) → Bounds → Place → Option X → Type 0
+IsShown cols rows entries b s x = ((p : Place) → Shows b s p → x ≡ entry_at cols rows entries p) × (IsOff b s → x ≡ None)
+
+abbrev pub level_on : Bounds → List (Option ℤ) → Place → Option ℤ
+level_on b levels s = slice_index_or levels (spot_index b s) None
+
+abbrev pub count_on : Bounds → List ℕ → Place → ℕ
+count_on b counts s = slice_index_or counts (spot_index b s) 0
+
+-- No count is greater than the one that stands for none.
+abbrev pub AreCounts : List ℕ → Type 0
+AreCounts counts = (k : ℕ) → slice_index_or counts k 0 ≤ no_count
+
+-- The counts come from the old ones by moves from spot to spot on one level: a move gives a spot one more than
+-- a spot that it touches has after some moves, where that is less than its own.
+pub data IsSpread (b : Bounds) (levels : List (Option ℤ)) (old : List ℕ) : List ℕ → Type 0 where
+  same : IsSpread b levels old old
+  moved : (counts : List ℕ) (some : List ℕ) (s r : Place) (n : ℕ) → IsSpread b levels old counts → IsSpread b levels old some
+      → IsSpot b s → IsSpot b r → Touches s r → s ≢ r → level_on b levels s ≡ level_on b levels r → n ≡ count_on b some s + 1
+      → n < count_on b counts r → IsSpread b levels old (slice_set counts (spot_index b r) n)
+
+-- One more than the least count of a row's spots from one on, up to a column, on a level; the bound where none is less.
+pub record IsLeastAlong (b : Bounds) (levels : List (Option ℤ)) (counts : List ℕ) (from : Place) (end : ℕ) (level : Option ℤ) (bound least : ℕ) : Type 0 where
+  pub low : least ≤ bound
+  pub each : (r : Place) → r.row ≡ from.row → from.col ≤ r.col → r.col < end → level_on b levels r ≡ level → least ≤ count_on b counts r + 1
+  pub one : (least ≡ bound) ⊎ ((r : Place) × (r.row ≡ from.row) × (from.col ≤ r.col) × (r.col < end)
+      × (level_on b levels r ≡ level) × (least ≡ count_on b counts r + 1) × (least < bound))
+
+-- No number of the list is greater than the one in its place.
+pub record IsNotAbove (new old : List ℕ) : Type 0 where
+  pub each : (k : ℕ) → slice_index_or new k 0 ≤ slice_index_or old k 0
+
+-- The count of a spot is at most one above the old count of each spot that it touches on its level.
+pub record IsNear (b : Bounds) (levels : List (Option ℤ)) (old new : List ℕ) (s : Place) : Type 0 where
+  pub each : (r : Place) → Touches s r → level_on b levels r ≡ level_on b levels s → count_on b new s ≤ count_on b old r + 1
+
+-- The list has what each spot shows.
+abbrev pub AreShown : {X : Type 0} → ℕ → ℕ → List (Option X) → Bounds → List (Option X) → Type 0
+AreShown cols rows entries b shown = (s : Place) → IsSpot b s → IsShown cols rows entries b s (slice_index_or shown (spot_index b s) None)
+
+-- The list has what each spot shows that stands before a place in row order, and nothing more.
+pub record AreShownBelow {X : Type 0} (cols rows : ℕ) (entries : List (Option X)) (b : Bounds) (end : ℕ) (shown : List (Option X)) : Type 0 where
+  pub size : length shown ≡ end
+  pub each : (s : Place) → IsSpot b s → spot_index b s < end → IsShown cols rows entries b s (slice_index_or shown (spot_index b s) None)
+
+-- The counts as numbers.
+abbrev pub known_counts : List (Option ℕ) → List ℕ
+known_counts shown = map (λ o. unwrap_or o no_count) shown
+
+-- A count as it is handed out.
+abbrev pub known : ℕ → Option ℕ
+known n = if nat_lt n no_count then Some n else None
+
+-- Where a spot of the tile stands in the row order of the tile.
+abbrev pub inner_index : Bounds → Place → ℕ
+inner_index b s = (s.row - 1) * b.cols + (s.col - 1)
+
+-- The list has the count of each of the tile's spots that stands before a place in the tile's row order, and nothing more.
+pub record AreKnownBelow (b : Bounds) (counts : List ℕ) (end : ℕ) (list : List (Option ℕ)) : Type 0 where
+  pub size : length list ≡ end
+  pub each : (s : Place) → IsInner b s → inner_index b s < end → slice_index_or list (inner_index b s) None ≡ known (count_on b counts s)
+
+-- Moves lead from the old counts to the new, and each spot of the tile is near to the old counts around it.
+pub record IsSettled (b : Bounds) (levels : List (Option ℤ)) (old new : List ℕ) : Type 0 where
+  pub spread : IsSpread b levels old new
+  pub near : (s : Place) → IsInner b s → IsNear b levels old new s
+
+-- The counts are those that the spots show, as numbers.
+pub record AreLent (cols rows : ℕ) (entries : List (Option ℕ)) (b : Bounds) (counts : List ℕ) : Type 0 where
+  pub shown : List (Option ℕ)
+  pub size : length shown ≡ area_of b
+  pub seen : AreShown cols rows entries b shown
+  pub value : counts ≡ known_counts shown

@@ -1,0 +1,121 @@
+// The counts that the rounds begin with: 0 at each cell that drains at once.
+ghost use Rattle.std.specs.Prelude.{◌≡◌, ℕ, ◌+◌, ◌*◌, ◌<◌, ◌≤◌, ◌↔◌, Some, None, length, vec_len, IsTrue, OnOk, IfOk, slice_index_or};
+ghost use Rattle.std.specs.Bool.{MatchBool};
+ghost use Rattle.ascii_grid.specs.Neighbours.{IsInside, height_at};
+ghost use Rattle.drain.specs.Steps.{DrainsAtOnce};
+ghost use Rattle.drain.specs.Beginning.{IsGapOrLower, IsOutermost, IsBegun, AreBegunBelow};
+ghost use Rattle.drain.specs.Rounds.{AreCounting};
+
+use ascii_grid::{Grid, Height, Place};
+use std::alloc::{AllocError, Global};
+
+/// Whether a cell has no data or is lower than this level.
+#[inline(always)]
+fn is_gap_or_lower(level: Height, cell: Option<Height>) -> bool
+    ensures { IsTrue result ↔ IsGapOrLower level cell }
+{
+    match cell {
+        Some(height) => height < level,
+        None => true,
+    }
+}
+
+/// Whether one of three cells in a row has no data or is lower than this level.
+#[inline(always)]
+fn gap_or_lower(
+    cells: &[Option<Height>],
+    cols: usize,
+    row: usize,
+    col: usize,
+    level: Height,
+) -> bool
+    requires { row * cols + col + 3 ≤ length cells.now }
+    ensures { MatchBool result
+        ((c : ℕ) × (col ≤ c) × (c < col + 3) × IsGapOrLower level (slice_index_or cells.now (row * cols + c) None))
+        ((c : ℕ) → col ≤ c → c < col + 3 → IsGapOrLower level (slice_index_or cells.now (row * cols + c) None) → ⊥) }
+{
+    for next in col..col + 3 {
+        if is_gap_or_lower(level, cells[row * cols + next]) {
+            return true;
+        }
+    }
+    false
+}
+
+/// Whether a place lies in the first or last row or column.
+#[inline(always)]
+fn is_outermost(grid: &Grid, place: Place) -> bool
+    requires { IsInside grid.now.terrain place }
+    ensures { IsTrue result ↔ IsOutermost grid.now.terrain place }
+{
+    place.row == 0 || place.col == 0 || place.row == grid.rows() - 1 || place.col == grid.cols() - 1
+}
+
+/// Whether one of the eight cells around a data cell has no data or is lower.
+#[inline(always)]
+fn drains_inside(grid: &Grid, place: Place, level: Height) -> bool
+    requires inside { IsInside grid.now.terrain place }
+    requires amid { IsOutermost grid.now.terrain place → ⊥ }
+    requires level { height_at grid.now.terrain place ≡ Some level }
+    ensures { MatchBool result (DrainsAtOnce grid.now.terrain place) (DrainsAtOnce grid.now.terrain place → ⊥) }
+{
+    let cells = grid.cells();
+    let cols = grid.cols() as usize;
+    let row = place.row as usize;
+    let col = place.col as usize - 1;
+    if gap_or_lower(cells, cols, row - 1, col, level) {
+        return true;
+    }
+    if gap_or_lower(cells, cols, row, col, level) {
+        return true;
+    }
+    gap_or_lower(cells, cols, row + 1, col, level)
+}
+
+/// Whether a data cell has a lower neighbour or is an edge cell.
+#[inline(always)]
+fn drains_at_once(grid: &Grid, place: Place, level: Height) -> bool
+    requires inside { IsInside grid.now.terrain place }
+    requires level { height_at grid.now.terrain place ≡ Some level }
+    ensures { MatchBool result (DrainsAtOnce grid.now.terrain place) (DrainsAtOnce grid.now.terrain place → ⊥) }
+{
+    if is_outermost(grid, place) {
+        return true;
+    }
+    drains_inside(grid, place, level)
+}
+
+/// The count of a cell: 0 where it drains at once, and none elsewhere.
+#[inline(always)]
+fn begin_at(grid: &Grid, place: Place) -> Option<u32>
+    requires { IsInside grid.now.terrain place }
+    ensures { IsBegun grid.now.terrain place result }
+{
+    match grid.at(place) {
+        Some(level) if drains_at_once(grid, place, level) => Some(0),
+        _ => None,
+    }
+}
+
+/// Begins the counts of one row.
+fn begin_along(grid: &Grid, row: u32, counts: &mut Vec<Option<u32>>) -> Result<(), AllocError>
+    requires row { row < grid.now.terrain.rows }
+    requires counts { AreBegunBelow grid.now.terrain (row * grid.now.terrain.cols) counts.old.items }
+    ensures { OnOk result (AreBegunBelow grid.now.terrain ((row + 1) * grid.now.terrain.cols) counts.new.items) }
+{
+    for col in 0..grid.cols() {
+        counts.push(begin_at(grid, Place { row, col }))?;
+    }
+    Ok(())
+}
+
+/// The counts that the rounds begin with.
+pub(crate) fn begin(alloc: Global, grid: &Grid) -> Result<Vec<Option<u32>>, AllocError>
+    ensures { IfOk result (λ counts. AreCounting grid.now.terrain counts.items) }
+{
+    let mut counts = Vec::with_capacity(alloc, grid.cells().len())?;
+    for row in 0..grid.rows() {
+        begin_along(grid, row, &mut counts)?;
+    }
+    Ok(counts)
+}

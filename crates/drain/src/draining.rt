@@ -1,0 +1,117 @@
+// Steps and directions of a filled grid, by tiles and workers.
+ghost use Rattle.std.specs.Prelude.{◌≡◌, ◌≢◌, ◌<◌, ◌≤◌, Err, IfOk, IfErr};
+ghost use Rattle.tiles.specs.Cutting.{Cuts, terrain_of};
+ghost use Rattle.tile_jobs.specs.Fault.{RefusesWorkers};
+ghost use Rattle.drain.specs.Rounds.{AreWalked, AreCounting, HasZeros, IsRound};
+ghost use Rattle.drain.specs.Steps.{AreSteps};
+ghost use Rattle.drain.specs.Directions.{AreDirections};
+ghost use Rattle.drain.specs.Drained.{AllFlowEnds, directed_of};
+
+use crate::beginning::begin;
+use crate::direction_map::Directions;
+use crate::rounds::settle;
+use crate::surroundings::codes;
+use crate::{looking, window};
+use ascii_grid::{Height, NoMemory};
+use fill::Filled;
+use std::alloc::{AllocError, Global};
+use std::sync::Wait;
+use std::thread::Threads;
+use tile_jobs::{Gate, JobFault};
+use tiles::{TileView, Tiling};
+
+/// One round over one tile, as far as it can go.
+fn round(
+    alloc: Global,
+    levels: &TileView<'_, Option<Height>>,
+    steps: &TileView<'_, Option<u32>>,
+) -> Result<Vec<Option<u32>>, AllocError>
+    requires cutting { steps.now.cutting ≡ levels.now.cutting }
+    requires tile { steps.now.tile ≡ levels.now.tile }
+    requires walked { AreWalked (terrain_of levels.now) steps.now.cells }
+    ensures { IfOk result (λ v.
+        IsRound (terrain_of levels.now) levels.now.cutting levels.now.tile steps.now.cells v.items) }
+{
+    let ground = looking::ground(alloc, levels)?;
+    let old = looking::counts(alloc, steps)?;
+    let counts = window::settled(alloc, &ground, &old)?;
+    looking::hand_out(alloc, &ground, &counts)
+}
+
+/// One round of counting steps over one tile, which it answers in its row order: a search from all counts that
+/// are lent, as far as it goes inside the tile. No count rises or is lost. For want of memory nothing is handed out.
+pub fn flat_steps(
+    alloc: Global,
+    levels: &TileView<'_, Option<Height>>,
+    steps: &TileView<'_, Option<u32>>,
+) -> Result<Vec<Option<u32>>, NoMemory>
+    requires cutting { steps.now.cutting ≡ levels.now.cutting }
+    requires tile { steps.now.tile ≡ levels.now.tile }
+    requires zeros { HasZeros (terrain_of levels.now) steps.now.cells }
+    requires walked { AreWalked (terrain_of levels.now) steps.now.cells }
+    ensures { IfOk result (λ v.
+        IsRound (terrain_of levels.now) levels.now.cutting levels.now.tile steps.now.cells v.items) }
+{
+    match round(alloc, levels, steps) {
+        Ok(counts) => Ok(counts),
+        Err(_) => Err(NoMemory),
+    }
+}
+
+/// The steps of each cell of a filled grid.
+fn counted<R: Threads + Wait + Sync, G: Gate + Sync>(
+    rt: &R,
+    alloc: Global,
+    filled: &Filled,
+    tiling: &Tiling,
+    begun: Vec<Option<u32>>,
+    workers: u32,
+    gate: &G,
+) -> Result<Vec<Option<u32>>, JobFault>
+    requires cuts { Cuts tiling.now filled.now.terrain }
+    requires workers { (1 ≤ workers) × (workers ≤ 64) }
+    requires begun { AreCounting filled.now.terrain begun.items }
+    ensures steps { IfOk result (λ s. AreSteps filled.now.terrain s.items) }
+    ensures fault { IfErr result (λ e. e ≢ JobFault.BadWorkers) }
+    ensures no_thread { result ≡ Err JobFault.NoThread → 1 < workers }
+{
+    settle(
+        rt,
+        alloc,
+        tiling,
+        filled.grid().cells(),
+        begun,
+        workers,
+        gate,
+    )
+}
+
+/// The direction of each cell of a filled grid. The tiles' rounds are jobs of the workers; a bad number of
+/// workers is refused first. Nothing is handed out where memory or a thread is refused.
+pub fn directions<R: Threads + Wait + Sync, G: Gate + Sync>(
+    rt: &R,
+    alloc: Global,
+    filled: &Filled,
+    tiling: &Tiling,
+    workers: u32,
+    gate: &G,
+) -> Result<Directions, JobFault>
+    requires { Cuts tiling.now filled.now.terrain }
+    ensures terrain { IfOk result (λ d. d.terrain ≡ filled.now.terrain) }
+    ensures steps { IfOk result (λ d. AreSteps filled.now.terrain d.steps) }
+    ensures codes { IfOk result (λ d. AreDirections filled.now.terrain d.codes) }
+    ensures ends { IfOk result (λ d. AllFlowEnds (directed_of d)) }
+    ensures workers { RefusesWorkers workers result }
+{
+    if workers == 0 || workers > 64 {
+        return Err(JobFault::BadWorkers);
+    }
+    let grid = filled.grid();
+    let begun = begin(alloc, grid)?;
+    let steps = counted(rt, alloc, filled, tiling, begun, workers, gate)?;
+    let codes = codes(alloc, grid, &steps)?;
+    let Ok(own) = grid.with_cells(alloc, grid.cells()) else {
+        return Err(JobFault::Memory);
+    };
+    Ok(Directions::new(own, steps, codes))
+}

@@ -1,0 +1,33 @@
+// Facts of the definitions alone.
+ghost use Rattle.drain.specs.Laws.{DirectionsAreOne, EachHasSteps, FallingEnds, QuietIsCounted, StepsAreFew, StepsAreOne};
+
+/// A cell has at most one number of steps.
+pub fn steps_are_one()
+    ensures { StepsAreOne }
+{}
+
+/// Where the pair of filled height and steps falls along each code, every flow path ends at an
+/// outlet, and has no more cells than the grid.
+pub fn falling_ends()
+    ensures { FallingEnds }
+{}
+
+/// Where a terrain's filled heights are its own, each data cell has a number of steps.
+pub fn each_has_steps()
+    ensures { EachHasSteps }
+{}
+
+/// A cell of a grid has fewer steps than the grid may have cells.
+pub fn steps_are_few()
+    ensures { StepsAreFew }
+{}
+
+/// A terrain has at most one map of directions.
+pub fn directions_are_one()
+    ensures { DirectionsAreOne }
+{}
+
+/// Where a round over all tiles changes nothing, the counts are the steps.
+pub fn quiet_is_counted()
+    ensures { QuietIsCounted }
+{}

@@ -1,0 +1,23 @@
+//! Directions of flow.
+#![tactic(auto)]
+
+pub mod around;
+mod beginning;
+pub mod code;
+pub mod direction_map;
+pub mod draining;
+pub mod laws;
+mod looking;
+mod rounds;
+pub mod steepness;
+mod surroundings;
+mod window;
+
+pub use around::Around;
+pub use code::Code;
+pub use direction_map::Directions;
+pub use draining::{directions, flat_steps};
+pub use steepness::direction;
+
+#[cfg(test)]
+mod tests;

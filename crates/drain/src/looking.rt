@@ -1,0 +1,151 @@
+// A tile and the places around it, taken out of the lists of the whole grid, and put back.
+ghost use Rattle.std.specs.Prelude.{◌≡◌, ℕ, ◌+◌, ◌-◌, ◌*◌, ◌^◌, ◌<◌, ◌≤◌, length, None, OnOk, IfOk, slice_index_or};
+ghost use Rattle.ascii_grid.specs.declared.place.Place.{Place};
+ghost use Rattle.tiles.specs.Cutting.{IsCutting, AreBounds, bounds_of, terrain_of};
+ghost use Rattle.drain.specs.Window.{area_of, spot_index, IsSpot, IsShown, AreShown, AreShownBelow, AreKnownBelow, AreLent, known};
+
+use crate::window::Ground;
+use ascii_grid::{Height, Place};
+use std::alloc::{AllocError, Global};
+use tiles::{Bounds, TileView};
+
+/// Stands for a count that is not known: greater than every number of steps.
+pub(crate) const NO_COUNT: u32 = 1 << 24;
+
+/// What a view has at the place of a spot, None off the grid.
+#[inline(always)]
+fn shown<T: Copy>(view: &TileView<'_, Option<T>>, bounds: Bounds, spot: Place) -> Option<T>
+    requires bounds { bounds ≡ bounds_of view.now.cutting view.now.tile }
+    requires inside { AreBounds view.now.cutting bounds }
+    requires lawful { IsCutting view.now.cutting }
+    requires spot { IsSpot bounds spot }
+    ensures { IsShown view.now.cutting.cols view.now.cutting.rows view.now.cells bounds spot result }
+{
+    let row = bounds.top + spot.row;
+    let col = bounds.left + spot.col;
+    if row == 0 || col == 0 {
+        return None;
+    }
+    let place = Place {
+        row: row - 1,
+        col: col - 1,
+    };
+    match view.at(place) {
+        Some(entry) => *entry,
+        None => None,
+    }
+}
+
+/// Takes one row of spots.
+fn look_along<T: Copy + Drop>(
+    view: &TileView<'_, Option<T>>,
+    bounds: Bounds,
+    row: u32,
+    list: &mut Vec<Option<T>>,
+) -> Result<(), AllocError>
+    requires bounds { bounds ≡ bounds_of view.now.cutting view.now.tile }
+    requires inside { AreBounds view.now.cutting bounds }
+    requires lawful { IsCutting view.now.cutting }
+    requires row { row < bounds.rows + 2 }
+    requires list { AreShownBelow view.now.cutting.cols view.now.cutting.rows view.now.cells bounds (row * (bounds.cols + 2)) list.old.items }
+    ensures { OnOk result (AreShownBelow view.now.cutting.cols view.now.cutting.rows view.now.cells bounds ((row + 1) * (bounds.cols + 2)) list.new.items) }
+{
+    for col in 0..bounds.cols + 2 {
+        list.push(shown(view, bounds, Place { row, col }))?;
+    }
+    Ok(())
+}
+
+/// What a view has at each spot, in row order.
+fn look<T: Copy + Drop>(
+    alloc: Global,
+    view: &TileView<'_, Option<T>>,
+) -> Result<Vec<Option<T>>, AllocError>
+    ensures size { IfOk result (λ v. length v.items ≡ area_of (bounds_of view.now.cutting view.now.tile)) }
+    ensures shown { IfOk result (λ v. AreShown view.now.cutting.cols view.now.cutting.rows view.now.cells (bounds_of view.now.cutting view.now.tile) v.items) }
+{
+    let bounds = view.bounds();
+    let mut list = Vec::with_capacity(
+        alloc,
+        (bounds.rows as usize + 2) * (bounds.cols as usize + 2),
+    )?;
+    for row in 0..bounds.rows + 2 {
+        look_along(view, bounds, row, &mut list)?;
+    }
+    Ok(list)
+}
+
+/// The filled heights of a tile and the places around it.
+pub(crate) fn ground(
+    alloc: Global,
+    levels: &TileView<'_, Option<Height>>,
+) -> Result<Ground, AllocError>
+    ensures lawful { IfOk result (λ _. IsCutting levels.now.cutting) }
+    ensures bounds { IfOk result (λ g. g.bounds ≡ bounds_of levels.now.cutting levels.now.tile) }
+    ensures shown { IfOk result (λ g. AreShown levels.now.cutting.cols levels.now.cutting.rows levels.now.cells g.bounds g.levels.items) }
+{
+    let bounds = levels.bounds();
+    Ok(Ground {
+        bounds,
+        levels: look(alloc, levels)?,
+    })
+}
+
+/// The counts of a tile and the places around it.
+pub(crate) fn counts(
+    alloc: Global,
+    steps: &TileView<'_, Option<u32>>,
+) -> Result<Vec<u32>, AllocError>
+    ensures { IfOk result (λ v. AreLent steps.now.cutting.cols steps.now.cutting.rows steps.now.cells (bounds_of steps.now.cutting steps.now.tile) v.items) }
+{
+    let shown = look(alloc, steps)?;
+    shown
+        .iter()
+        .map(|count| count.unwrap_or(NO_COUNT))
+        .collect(alloc)
+}
+
+/// A count as it is handed out.
+#[inline(always)]
+fn known(count: u32) -> Option<u32>
+    ensures { result ≡ known count }
+{
+    if count < NO_COUNT { Some(count) } else { None }
+}
+
+/// Hands out the counts of one row of the tile.
+fn hand_out_along(
+    ground: &Ground,
+    counts: &[u32],
+    row: u32,
+    list: &mut Vec<Option<u32>>,
+) -> Result<(), AllocError>
+    requires size { length counts.now ≡ area_of ground.now.bounds }
+    requires row { (1 ≤ row) × (row ≤ ground.now.bounds.rows) }
+    requires list { AreKnownBelow ground.now.bounds counts.now ((row - 1) * ground.now.bounds.cols) list.old.items }
+    ensures { OnOk result (AreKnownBelow ground.now.bounds counts.now (row * ground.now.bounds.cols) list.new.items) }
+{
+    for col in 1..ground.bounds.cols + 1 {
+        list.push(known(counts[ground.index(Place { row, col })]))?;
+    }
+    Ok(())
+}
+
+/// Hands out the counts of the tile, in its row order.
+pub(crate) fn hand_out(
+    alloc: Global,
+    ground: &Ground,
+    counts: &[u32],
+) -> Result<Vec<Option<u32>>, AllocError>
+    requires { length counts.now ≡ area_of ground.now.bounds }
+    ensures { IfOk result (λ v. AreKnownBelow ground.now.bounds counts.now (ground.now.bounds.rows * ground.now.bounds.cols) v.items) }
+{
+    let mut list = Vec::with_capacity(
+        alloc,
+        ground.bounds.rows as usize * ground.bounds.cols as usize,
+    )?;
+    for row in 1..ground.bounds.rows + 1 {
+        hand_out_along(ground, counts, row, &mut list)?;
+    }
+    Ok(list)
+}

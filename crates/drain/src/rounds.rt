@@ -1,0 +1,327 @@
+// Rounds over all tiles until nothing changes.
+ghost use Rattle.std.specs.Prelude.{◌≡◌, ◌≢◌, ℕ, ◌+◌, ◌*◌, ◌<◌, ◌≤◌, ◌⊎◌, Err, None, true, false, IsSome, IfSome, length, vec_len, IfOk, IfErr, OnOk, slice_index_or};
+ghost use Rattle.std.specs.Bool.{MatchBool, OnFalse};
+ghost use Rattle.ascii_grid.specs.declared.place.Place.{Place};
+ghost use Rattle.ascii_grid.specs.Neighbours.{entry_at};
+ghost use Rattle.tiles.specs.Cutting.{IsCutting, AreBounds, IsWithin, IsInTile, tile_count, tile_entry, cell_count, tile_of_place};
+ghost use Rattle.drain.specs.Rounds.{told, told_by, AreSized, IsBoundsOf, IsUntouched, AreAnswered, IsRounding, AreStill, AreCounting, AreSettled, left_to_count};
+
+use crate::draining::flat_steps;
+use ascii_grid::{Height, Place};
+use std::alloc::{AllocError, Global};
+use std::marker::Model;
+use std::sync::Wait;
+use std::thread::Threads;
+use tile_jobs::{Gate, JobFault, Work, run_jobs};
+use tiles::{Bounds, TileView, Tiling};
+
+/// What the jobs of a round work on: filled heights, the counts so far, and which tiles may change.
+#[derive(Drop)]
+struct Round<'a> {
+    tiling: &'a Tiling,
+    levels: &'a [Option<Height>],
+    steps: &'a [Option<u32>],
+    active: &'a [bool],
+}
+
+impl<'a> Model for Round<'a> {
+    ghost use Rattle.drain.specs.Rounds.{Rounding, IsRounding};
+
+    ghost Value = { Rounding };
+
+    ghost view = { λ r. record { cutting = r.tiling.now; levels = r.levels.now; steps = r.steps.now; active = r.active.now } };
+
+    ghost invariant = { λ r. IsRounding (record { cutting = r.tiling.now; levels = r.levels.now; steps = r.steps.now; active = r.active.now }) };
+}
+
+/// Whether a row of a tile's list differs from what the view has there.
+fn row_differs(old: &[Option<u32>], new: &[Option<u32>], from: usize) -> bool
+    requires { from + length old.now ≤ length new.now }
+    ensures { MatchBool result
+        ((k : ℕ) × (k < length old.now) × (slice_index_or new.now (from + k) None ≢ slice_index_or old.now k None))
+        ((k : ℕ) → k < length old.now → slice_index_or new.now (from + k) None ≡ slice_index_or old.now k None) }
+{
+    for (k, count) in old.iter().enumerate() {
+        if new[from + k] != *count {
+            return true;
+        }
+    }
+    false
+}
+
+/// Whether a tile's list differs from what the view has.
+fn differs(steps: &TileView<'_, Option<u32>>, list: &[Option<u32>]) -> bool
+    requires { length list.now ≡ cell_count steps.now.cutting steps.now.tile }
+    ensures { MatchBool result
+        ((p : Place) × IsInTile steps.now.cutting steps.now.tile p
+        × (tile_entry steps.now.cutting steps.now.tile list.now p ≢ entry_at steps.now.cutting.cols steps.now.cutting.rows steps.now.cells p))
+        ((p : Place) → IsInTile steps.now.cutting steps.now.tile p →
+        tile_entry steps.now.cutting steps.now.tile list.now p ≡ entry_at steps.now.cutting.cols steps.now.cutting.rows steps.now.cells p) }
+{
+    let bounds = steps.bounds();
+    for row in 0..bounds.rows {
+        if row_differs(steps.row(row), list, row as usize * bounds.cols as usize) {
+            return true;
+        }
+    }
+    false
+}
+
+impl<'a> Work for Round<'a> {
+    ghost use Rattle.tiles.specs.Cutting.{tile_count};
+    ghost use Rattle.drain.specs.Rounds.{IsTileAnswer, levels_of};
+
+    type Out = Option<Vec<Option<u32>>>;
+
+    ghost most = { λ r. tile_count r.cutting };
+
+    ghost gives = { λ r tile out. IsTileAnswer (levels_of r) r.cutting tile r.steps out };
+
+    fn run(&self, alloc: Global, job: u32) -> Result<Option<Vec<Option<u32>>>, JobFault> {
+        if !self.active[job as usize] {
+            return Ok(None);
+        }
+        let levels = self.tiling.view(self.levels, job);
+        let steps = self.tiling.view(self.steps, job);
+        let Ok(list) = flat_steps(alloc, &levels, &steps) else {
+            return Err(JobFault::Memory);
+        };
+        if differs(&steps, &list) {
+            Ok(Some(list))
+        } else {
+            Ok(None)
+        }
+    }
+}
+
+/// Writes a row of a tile's list into the counts of the grid.
+fn put_row(steps: &mut [Option<u32>], at: usize, list: &[Option<u32>], from: usize, count: usize)
+    requires steps { at + count ≤ length steps.old }
+    requires list { from + count ≤ length list.now }
+    ensures written { (k : ℕ) → k < count → slice_index_or steps.new (at + k) None ≡ slice_index_or list.now (from + k) None }
+    ensures kept { (i : ℕ) → (i < at) ⊎ (at + count ≤ i) → slice_index_or steps.new i None ≡ slice_index_or steps.old i None }
+{
+    for k in 0..count {
+        steps[at + k] = list[from + k];
+    }
+}
+
+/// Writes a tile's list into the counts of the grid.
+fn put_tile(tiling: &Tiling, steps: &mut [Option<u32>], tile: u32, list: &[Option<u32>])
+    requires steps { length steps.old ≡ tiling.now.cols * tiling.now.rows }
+    requires tile { tile < tile_count tiling.now }
+    requires list { length list.now ≡ cell_count tiling.now tile }
+    ensures written { (p : Place) → IsInTile tiling.now tile p →
+        entry_at tiling.now.cols tiling.now.rows steps.new p ≡ tile_entry tiling.now tile list.now p }
+    ensures kept { (p : Place) → IsWithin tiling.now p → tile_of_place tiling.now p ≢ tile →
+        entry_at tiling.now.cols tiling.now.rows steps.new p ≡ entry_at tiling.now.cols tiling.now.rows steps.old p }
+{
+    let Bounds {
+        top,
+        left,
+        rows,
+        cols,
+    } = tiling.bounds(tile);
+    for row in 0..rows {
+        let at = (top + row) as usize * tiling.cols() as usize + left as usize;
+        put_row(steps, at, list, row as usize * cols as usize, cols as usize);
+    }
+}
+
+/// Writes what a tile's job answered into the counts of the grid.
+fn put_answer(tiling: &Tiling, steps: &mut [Option<u32>], tile: u32, out: &Option<Vec<Option<u32>>>)
+    requires steps { length steps.old ≡ tiling.now.cols * tiling.now.rows }
+    requires tile { tile < tile_count tiling.now }
+    requires sized { IfSome out.now (λ list. length list.items ≡ cell_count tiling.now tile) }
+    ensures told { (p : Place) → IsInTile tiling.now tile p →
+        entry_at tiling.now.cols tiling.now.rows steps.new p ≡ told_by tiling.now steps.old p out.now }
+    ensures kept { (p : Place) → IsWithin tiling.now p → tile_of_place tiling.now p ≢ tile →
+        entry_at tiling.now.cols tiling.now.rows steps.new p ≡ entry_at tiling.now.cols tiling.now.rows steps.old p }
+{
+    if let Some(list) = out {
+        put_tile(tiling, steps, tile, list);
+    }
+}
+
+/// Writes back what changed.
+fn put_all(tiling: &Tiling, steps: &mut [Option<u32>], outs: &[Option<Vec<Option<u32>>>])
+    requires steps { length steps.old ≡ tiling.now.cols * tiling.now.rows }
+    requires outs { length outs.now ≡ tile_count tiling.now }
+    requires sized { AreSized tiling.now outs.now }
+    ensures { (p : Place) → IsWithin tiling.now p → entry_at tiling.now.cols tiling.now.rows steps.new p ≡ told tiling.now steps.old outs.now p }
+{
+    for tile in 0..tiling.tiles() {
+        put_answer(tiling, steps, tile, &outs[tile as usize]);
+    }
+}
+
+/// Whether a round changed something.
+fn any_changed(outs: &[Option<Vec<Option<u32>>>]) -> bool
+    ensures { MatchBool result
+        ((tile : ℕ) × (tile < length outs.now) × IsSome (slice_index_or outs.now tile None))
+        ((tile : ℕ) → tile < length outs.now → slice_index_or outs.now tile None ≡ None) }
+{
+    for out in outs {
+        if out.is_some() {
+            return true;
+        }
+    }
+    false
+}
+
+/// Whether the tile of a place changed. Rows and columns are counted from 1 here; 0 is off the grid.
+#[inline(always)]
+fn changed_near(tiling: &Tiling, outs: &[Option<Vec<Option<u32>>>], row: u32, col: u32) -> bool
+    requires { length outs.now ≡ tile_count tiling.now }
+    ensures { OnFalse result ((p : Place) → IsWithin tiling.now p → p.row + 1 ≡ row → p.col + 1 ≡ col →
+        slice_index_or outs.now (tile_of_place tiling.now p) None ≡ None) }
+{
+    if row == 0 || col == 0 || row > tiling.rows() || col > tiling.cols() {
+        return false;
+    }
+    let tile = tiling.tile_of(Place {
+        row: row - 1,
+        col: col - 1,
+    });
+    outs[tile as usize].is_some()
+}
+
+/// Whether a tile changed that has a cell in this row, in a tile's columns or beside them.
+#[inline(always)]
+fn changed_along(
+    tiling: &Tiling,
+    outs: &[Option<Vec<Option<u32>>>],
+    bounds: Bounds,
+    row: u32,
+) -> bool
+    requires outs { length outs.now ≡ tile_count tiling.now }
+    requires bounds { IsBoundsOf tiling.now bounds }
+    requires inside { AreBounds tiling.now bounds }
+    requires lawful { IsCutting tiling.now }
+    ensures { OnFalse result ((p : Place) → IsWithin tiling.now p → p.row + 1 ≡ row → bounds.left ≤ p.col + 1 → p.col ≤ bounds.left + bounds.cols →
+        slice_index_or outs.now (tile_of_place tiling.now p) None ≡ None) }
+{
+    if changed_near(tiling, outs, row, bounds.left) {
+        return true;
+    }
+    if changed_near(tiling, outs, row, bounds.left + 1) {
+        return true;
+    }
+    changed_near(tiling, outs, row, bounds.left + bounds.cols + 1)
+}
+
+/// Whether a tile changed or one that it touches.
+fn is_touched(tiling: &Tiling, outs: &[Option<Vec<Option<u32>>>], tile: u32) -> bool
+    requires outs { length outs.now ≡ tile_count tiling.now }
+    requires tile { tile < tile_count tiling.now }
+    ensures { OnFalse result (IsUntouched tiling.now outs.now tile) }
+{
+    let bounds = tiling.bounds(tile);
+    if changed_along(tiling, outs, bounds, bounds.top) {
+        return true;
+    }
+    if changed_along(tiling, outs, bounds, bounds.top + 1) {
+        return true;
+    }
+    changed_along(tiling, outs, bounds, bounds.top + bounds.rows + 1)
+}
+
+/// Which tiles may change in the next round: those that changed, and those that they touch.
+fn next_active(
+    alloc: Global,
+    tiling: &Tiling,
+    outs: &[Option<Vec<Option<u32>>>],
+) -> Result<Vec<bool>, AllocError>
+    requires { length outs.now ≡ tile_count tiling.now }
+    ensures size { IfOk result (λ v. length v.items ≡ tile_count tiling.now) }
+    ensures untouched { IfOk result (λ v. (tile : ℕ) → tile < tile_count tiling.now → slice_index_or v.items tile true ≡ false → IsUntouched tiling.now outs.now tile) }
+{
+    let mut active = Vec::with_capacity(alloc, outs.len())?;
+    for tile in 0..tiling.tiles() {
+        active.push(is_touched(tiling, outs, tile))?;
+    }
+    Ok(active)
+}
+
+/// What the jobs of a round answer, in tile order.
+fn answers<R: Threads + Wait + Sync, G: Gate + Sync>(
+    rt: &R,
+    alloc: Global,
+    round: &Round<'_>,
+    workers: u32,
+    gate: &G,
+) -> Result<Vec<Option<Vec<Option<u32>>>>, JobFault>
+    requires { (1 ≤ workers) × (workers ≤ 64) }
+    ensures answered { IfOk result (λ outs. AreAnswered round.now outs.items) }
+    ensures fault { IfErr result (λ e. e ≢ JobFault.BadWorkers) }
+    ensures no_thread { result ≡ Err JobFault.NoThread → 1 < workers }
+{
+    run_jobs(rt, alloc, round, round.tiling.tiles(), workers, gate)
+}
+
+/// One round over all tiles; whether it changed something.
+fn one_round<R: Threads + Wait + Sync, G: Gate + Sync>(
+    rt: &R,
+    alloc: Global,
+    tiling: &Tiling,
+    levels: &[Option<Height>],
+    steps: &mut [Option<u32>],
+    active: &mut Vec<bool>,
+    workers: u32,
+    gate: &G,
+) -> Result<bool, JobFault>
+    requires workers { (1 ≤ workers) × (workers ≤ 64) }
+    requires rounding { IsRounding (record { cutting = tiling.now; levels = levels.now; steps = steps.old; active = active.old.items }) }
+    ensures rounding { OnOk result (IsRounding (record { cutting = tiling.now; levels = levels.now; steps = steps.new; active = active.new.items })) }
+    ensures more { IfOk result (λ more. MatchBool more (left_to_count steps.new < left_to_count steps.old)
+        (AreStill (record { cutting = tiling.now; levels = levels.now; steps = steps.new; active = active.new.items }))) }
+    ensures fault { IfErr result (λ e. e ≢ JobFault.BadWorkers) }
+    ensures no_thread { result ≡ Err JobFault.NoThread → 1 < workers }
+{
+    let outs = {
+        let round = Round {
+            tiling,
+            levels,
+            steps,
+            active,
+        };
+        answers(rt, alloc, &round, workers, gate)?
+    };
+    if !any_changed(&outs) {
+        return Ok(false);
+    }
+    *active = next_active(alloc, tiling, &outs)?;
+    put_all(tiling, steps, &outs);
+    Ok(true)
+}
+
+/// Rounds over all tiles, each from the counts that the one before put back, until one changes nothing.
+pub(crate) fn settle<R: Threads + Wait + Sync, G: Gate + Sync>(
+    rt: &R,
+    alloc: Global,
+    tiling: &Tiling,
+    levels: &[Option<Height>],
+    mut steps: Vec<Option<u32>>,
+    workers: u32,
+    gate: &G,
+) -> Result<Vec<Option<u32>>, JobFault>
+    requires workers { (1 ≤ workers) × (workers ≤ 64) }
+    requires size { length levels.now ≡ tiling.now.cols * tiling.now.rows }
+    requires counting { AreCounting (record { cols = tiling.now.cols; rows = tiling.now.rows; cells = levels.now }) steps.items }
+    ensures settled { IfOk result (λ s. AreSettled tiling.now (record { cols = tiling.now.cols; rows = tiling.now.rows; cells = levels.now }) s.items) }
+    ensures fault { IfErr result (λ e. e ≢ JobFault.BadWorkers) }
+    ensures no_thread { result ≡ Err JobFault.NoThread → 1 < workers }
+{
+    let mut active = vec![in alloc; true; tiling.tiles() as usize]?;
+    while one_round(
+        rt,
+        alloc,
+        tiling,
+        levels,
+        &mut steps,
+        &mut active,
+        workers,
+        gate,
+    )? {}
+    Ok(steps)
+}

@@ -1,0 +1,131 @@
+// What stands around each cell, and the codes of all cells.
+ghost use Rattle.std.specs.Prelude.{◌≡◌, ℕ, ◌+◌, ◌*◌, ◌<◌, ◌≤◌, Some, None, length, OnOk, IfOk, MatchOption, option_and_then};
+ghost use Rattle.std.specs.Option.{option_zip};
+ghost use Rattle.ascii_grid.specs.Raster.{IsTerrain};
+ghost use Rattle.ascii_grid.specs.Neighbours.{IsInside, height_at, entry_at};
+ghost use Rattle.ascii_grid.specs.Ways.{place_of, before};
+ghost use Rattle.drain.specs.Steps.{AreSteps};
+ghost use Rattle.drain.specs.Directions.{IsAround, IsCodeAt, AreCodesBelow};
+
+use crate::around::Around;
+use crate::code::Code;
+use crate::steepness::direction;
+use ascii_grid::{Grid, Height, Place};
+use std::alloc::{AllocError, Global};
+
+/// The row or column before this one, None before the first.
+#[inline(always)]
+fn before(index: u32) -> Option<u32>
+    ensures { result ≡ before index }
+{
+    if index == 0 { None } else { Some(index - 1) }
+}
+
+/// Filled height and steps at a place, where it is one of the grid's with data.
+#[inline(always)]
+fn entry(
+    grid: &Grid,
+    steps: &[Option<u32>],
+    row: Option<u32>,
+    col: Option<u32>,
+) -> Option<(Height, u32)>
+    requires { length steps.now ≡ grid.now.terrain.cols * grid.now.terrain.rows }
+    ensures { result ≡ option_zip
+        (option_and_then (λ q. height_at grid.now.terrain q) (place_of row col))
+        (option_and_then (λ q. entry_at grid.now.terrain.cols grid.now.terrain.rows steps.now q) (place_of row col)) }
+{
+    let (Some(row), Some(col)) = (row, col) else {
+        return None;
+    };
+    if row >= grid.rows() || col >= grid.cols() {
+        return None;
+    }
+    let index = row as usize * grid.cols() as usize + col as usize;
+    match (grid.cells()[index], steps[index]) {
+        (Some(height), Some(count)) => Some((height, count)),
+        _ => None,
+    }
+}
+
+/// What stands around a data cell.
+#[inline(always)]
+fn around(grid: &Grid, steps: &[Option<u32>], place: Place, level: Height, own: u32) -> Around
+    requires size { length steps.now ≡ grid.now.terrain.cols * grid.now.terrain.rows }
+    requires lawful { IsTerrain grid.now.terrain }
+    requires inside { IsInside grid.now.terrain place }
+    requires level { height_at grid.now.terrain place ≡ Some level }
+    requires own { entry_at grid.now.terrain.cols grid.now.terrain.rows steps.now place ≡ Some own }
+    ensures { IsAround grid.now.terrain steps.now place result }
+{
+    let row = Some(place.row);
+    let col = Some(place.col);
+    let east = Some(place.col + 1);
+    let south = Some(place.row + 1);
+    let west = before(place.col);
+    let north = before(place.row);
+    Around {
+        level,
+        steps: own,
+        edge: grid.is_edge(place),
+        ways: [
+            entry(grid, steps, row, east),
+            entry(grid, steps, south, east),
+            entry(grid, steps, south, col),
+            entry(grid, steps, south, west),
+            entry(grid, steps, row, west),
+            entry(grid, steps, north, west),
+            entry(grid, steps, north, col),
+            entry(grid, steps, north, east),
+        ],
+    }
+}
+
+/// The code of a cell, None where there is no data.
+#[inline(always)]
+fn code_at(grid: &Grid, steps: &[Option<u32>], place: Place) -> Option<Code>
+    requires lawful { IsTerrain grid.now.terrain }
+    requires steps { AreSteps grid.now.terrain steps.now }
+    requires inside { IsInside grid.now.terrain place }
+    ensures { IsCodeAt grid.now.terrain steps.now place result }
+{
+    let index = place.row as usize * grid.cols() as usize + place.col as usize;
+    match (grid.at(place), steps[index]) {
+        (Some(level), Some(own)) => Some(direction(&around(grid, steps, place, level, own))),
+        _ => None,
+    }
+}
+
+/// The codes of one row.
+fn codes_along(
+    grid: &Grid,
+    steps: &[Option<u32>],
+    row: u32,
+    codes: &mut Vec<Option<Code>>,
+) -> Result<(), AllocError>
+    requires lawful { IsTerrain grid.now.terrain }
+    requires steps { AreSteps grid.now.terrain steps.now }
+    requires row { row < grid.now.terrain.rows }
+    requires codes { AreCodesBelow grid.now.terrain steps.now (row * grid.now.terrain.cols) codes.old.items }
+    ensures { OnOk result (AreCodesBelow grid.now.terrain steps.now ((row + 1) * grid.now.terrain.cols) codes.new.items) }
+{
+    for col in 0..grid.cols() {
+        codes.push(code_at(grid, steps, Place { row, col }))?;
+    }
+    Ok(())
+}
+
+/// The codes of all cells, in row order.
+pub(crate) fn codes(
+    alloc: Global,
+    grid: &Grid,
+    steps: &[Option<u32>],
+) -> Result<Vec<Option<Code>>, AllocError>
+    requires { AreSteps grid.now.terrain steps.now }
+    ensures { IfOk result (λ codes. AreCodesBelow grid.now.terrain steps.now (grid.now.terrain.cols * grid.now.terrain.rows) codes.items) }
+{
+    let mut codes = Vec::with_capacity(alloc, grid.cells().len())?;
+    for row in 0..grid.rows() {
+        codes_along(grid, steps, row, &mut codes)?;
+    }
+    Ok(codes)
+}

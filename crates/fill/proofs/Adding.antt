@@ -1,0 +1,156 @@
+-- Joins that are added cell by cell.
+use Rattle.std.proofs.Common.{◌≡◌, ◌≢◌, ◌==◌, ℕ, ◌+◌, ◌-◌, ◌*◌, ◌/◌, ◌%◌, ◌<◌, ◌≤◌, ◌⊎◌, inl, inr, ℤ, List, [], ◌∷◌, ◌++◌, Option, None, Some, ◌∙◌, sym, ap, subst, refl, arith}
+use Rattle.std.specs.Int.{int_max}
+use Rattle.std.specs.List.{Contains}
+use Rattle.std.proofs.lemmas.Bool.{cases_eq, cond-true, cond-false, eq-eqb, eqb-true, cases_Bool}
+use Rattle.std.proofs.lemmas.Nat.{same_from_place, mod_below, div-add-mod'}
+use Rattle.std.proofs.lemmas.Option.{same_Some}
+use Rattle.std.proofs.lemmas.List.Elements.{Contains-append_left, Contains-append_right, Contains-append_cases}
+use Rattle.ascii_grid.specs.Neighbours.{Touches}
+use Rattle.ascii_grid.specs.declared.place.Place.{Place}
+use Rattle.ascii_grid.proofs.Places.{same_place}
+use Rattle.tiles.specs.Cutting.{Cutting}
+use Rattle.fill.specs.TileFlood.{Flood}
+use Rattle.fill.specs.Gathering.{mark_among, Meets, IsMeeting, joins_of, Adds}
+use Rattle.fill.specs.declared.spills.Join.{Join}
+use Rattle.fill.specs.declared.marks.Mark.{Mark}
+use Rattle.fill.proofs.Steps.{none_some}
+use Rattle.fill.proofs.Heaps.{cons_head, cons_cases}
+
+-- the join of two marks
+joins_of_differ : (from to : Mark) → from.node ≢ to.node → joins_of from (Some to) ≡ record { from = from.node; to = to.node; height = int_max from.level to.level } ∷ []
+joins_of_differ from to differ = elim (cases_Bool (from.node == to.node)) [
+  | inl same ↦ absurd (differ (eqb-true _ _ same))
+  | inr other ↦ cond-false _ _ _ other
+]
+
+pub no_join : (j : Join) → Contains [] j → ⊥
+no_join j h = omega (arith, h.1)
+
+joins_of_is : (from : Mark) (o : Option Mark) (j : Join) → Contains (joins_of from o) j → (to : Mark) × (o ≡ Some to) × (from.node ≢ to.node) × (record { from = from.node; to = to.node; height = int_max from.level to.level } ≡ j)
+joins_of_is from None j h = absurd (no_join j h)
+joins_of_is from (Some to) j h = elim (cases_eq from.node to.node) [
+  | inl same ↦ absurd (no_join j (subst (λ (z : List Join). Contains z j) (cond-true _ _ _ (eq-eqb _ _ same)) h))
+  | inr differ ↦ elim (cons_cases _ [] j (subst (λ (z : List Join). Contains z j) (joins_of_differ from to differ) h)) [
+    | inl same ↦ (to, refl, differ, sym same)
+    | inr none ↦ absurd (no_join j none)
+  ]
+]
+
+-- the joins of a cell that have been added before a way
+pub record HasAdded (c : Cutting) (floods : List Flood) (p : Place) (way : ℕ) (old new : List Join) : Type 0 where
+  pub kept : (j : Join) → Contains old j → Contains new j
+  pub only : (j : Join) → Contains new j → Contains old j ⊎ IsMeeting c floods j
+  pub every : (q : Place) (j : Join) → (q.row + 1 - p.row) * 3 + (q.col + 1 - p.col) < way → Meets c floods p q j → Contains new j
+
+pub none_added : (c : Cutting) (floods : List Flood) (p : Place) (old : List Join) → HasAdded c floods p 0 old old
+none_added c floods p old = record {
+  kept = λ j h. h;
+  only = λ j h. inl h;
+  every = λ q j low m. absurd (omega (arith, low));
+}
+
+-- the place on a way
+way_place : (p q : Place) (way : ℕ) → Touches p q → (q.row + 1 - p.row) * 3 + (q.col + 1 - p.col) ≡ way → (q.row + 1 ≡ p.row + way / 3) × (q.col + 1 ≡ p.col + way % 3)
+way_place p q way t e =
+    let both = same_from_place (q.row + 1 - p.row) (q.col + 1 - p.col) (way / 3) (way % 3) 3 (omega (arith, t.col_right)) (mod_below way 3 (omega arith)) (e ∙ sym (div-add-mod' way 3)) in
+    (omega (arith, both.0, t.row_up), omega (arith, both.1, t.col_left))
+
+-- the mark on the way was none, or its join was added
+pub added_more : (c : Cutting) (floods : List Flood) (p near : Place) (way : ℕ) (from : Mark) (o : Option Mark) (old now new : List Join) → mark_among c floods p ≡ Some from → mark_among c floods near ≡ o → near.row + 1 ≡ p.row + way / 3 → near.col + 1 ≡ p.col + way % 3 → way < 9 → HasAdded c floods p way old now → new ≡ now ++ joins_of from o → HasAdded c floods p (way + 1) old new
+added_more c floods p near way from o old now new here there row col few s is = record {
+  kept = λ j h. subst (λ (z : List Join). Contains z j) (sym is) (Contains-append_left now (joins_of from o) j (s.kept j h));
+  only = λ j h. elim (Contains-append_cases now (joins_of from o) j (subst (λ (z : List Join). Contains z j) is h)) [
+    | inl was ↦ s.only j was
+    | inr made ↦
+        let m = joins_of_is from o j made in
+        inr (
+          p,
+          near,
+          subst (λ (z : Join). Meets c floods p near z) m.3 (record {
+            touches = touch;
+            from_level = from.level;
+            to_level = m.0.level;
+            from_is = here;
+            to_is = there ∙ m.1;
+            different = m.2;
+            greater = refl;
+          }),
+        )
+  ];
+  every = λ q j low m. elim (cases_eq ((q.row + 1 - p.row) * 3 + (q.col + 1 - p.col)) way) [
+    | inr other ↦ subst (λ (z : List Join). Contains z j) (sym is) (Contains-append_left now (joins_of from o) j (s.every q j (omega (arith, low, other)) m))
+    | inl same ↦
+        let at = way_place p q way m.touches same in
+        let q_is : q ≡ near = same_place q near (omega (arith, at.0, row)) (omega (arith, at.1, col)) in
+        let to : Mark = record { level = m.to_level; node = j.to } in
+        let mark_is : o ≡ Some to = sym there ∙ ap (mark_among c floods) (sym q_is) ∙ m.to_is in
+        let from_same = same_Some from (record { level = m.from_level; node = j.from }) (sym here ∙ m.from_is) in
+        let made : Contains (joins_of from o) j =
+        subst (λ (f : Mark). Contains (joins_of f o) j) (sym from_same) (subst (λ (z : Option Mark). Contains (joins_of (record { level = m.from_level; node = j.from }) z) j) (sym mark_is)
+        (subst (λ (z : List Join). Contains z j) (sym (joins_of_differ (record { level = m.from_level; node = j.from }) to m.different))
+        (subst (λ (h : ℤ). Contains (record { from = j.from; to = j.to; height = h } ∷ []) j) (sym m.greater) (cons_head j [])))) in
+        subst (λ (z : List Join). Contains z j) (sym is) (Contains-append_right now (joins_of from o) j made)
+  ];
+} where
+  rows : (way / 3) ≤ 2
+  rows = omega arith
+
+  cols : way % 3 < 3
+  cols = omega arith
+
+  touch : Touches p near
+  touch = record { row_down = omega (arith, rows, row); row_up = omega (arith, row); col_right = omega (arith, cols, col); col_left = omega (arith, col) }
+
+-- there is no place on the way, or it is outside
+pub added_none : (c : Cutting) (floods : List Flood) (p : Place) (way : ℕ) (old now : List Join) → HasAdded c floods p way old now → (p.row + way / 3 ≡ 0) ⊎ (p.col + way % 3 ≡ 0) → HasAdded c floods p (way + 1) old now
+added_none c floods p way old now s out = record {
+  kept = s.kept;
+  only = s.only;
+  every = λ q j low m. elim (cases_eq ((q.row + 1 - p.row) * 3 + (q.col + 1 - p.col)) way) [
+    | inr other ↦ s.every q j (omega (arith, low, other)) m
+    | inl same ↦ absurd (nowhere q j m (way_place p q way m.touches same))
+  ];
+} where
+  nowhere : (q : Place) (j : Join) → Meets c floods p q j → (q.row + 1 ≡ p.row + way / 3) × (q.col + 1 ≡ p.col + way % 3) → ⊥
+  nowhere q j m at = elim out [
+    | inl top ↦ omega (arith, at.0, top)
+    | inr left ↦ omega (arith, at.1, left)
+  ]
+
+pub all_added : (c : Cutting) (floods : List Flood) (p : Place) (old new : List Join) → HasAdded c floods p 9 old new → Adds c floods (λ q. q ≡ p) old new
+all_added c floods p old new s = record {
+  kept = s.kept;
+  only = s.only;
+  every = λ x q j same m.
+      let here = subst (λ (z : Place). Meets c floods z q j) same m in
+      let t = here.touches in
+      s.every q j (omega (arith, t.row_down, t.col_right)) here;
+}
+
+-- a cell with no mark has no joins
+pub no_mark_adds : (c : Cutting) (floods : List Flood) (p : Place) (old : List Join) → mark_among c floods p ≡ None → Adds c floods (λ q. q ≡ p) old old
+no_mark_adds c floods p old none = record {
+  kept = λ j h. h;
+  only = λ j h. inl h;
+  every = λ x q j same m. none_some _ (record { level = m.from_level; node = j.from }) (ap (mark_among c floods) same ∙ none) m.from_is;
+}
+
+-- nothing has been added
+pub adds_none : (c : Cutting) (floods : List Flood) (places : Place → Type 0) (old : List Join) → ((p : Place) → places p → ⊥) → Adds c floods places old old
+adds_none c floods places old none = record {
+  kept = λ j h. h;
+  only = λ j h. inl h;
+  every = λ p q j at m. absurd (none p at);
+}
+
+-- one after another
+pub adds_then : (c : Cutting) (floods : List Flood) (first later both : Place → Type 0) (old now new : List Join) → ((p : Place) → both p → first p ⊎ later p) → Adds c floods first old now → Adds c floods later now new → Adds c floods both old new
+adds_then c floods first later both old now new split a b = record {
+  kept = λ j h. b.kept j (a.kept j h);
+  only = λ j h. elim (b.only j h) [ inl was ↦ a.only j was | inr meets ↦ inr meets ];
+  every = λ p q j at m. elim (split p at) [ inl early ↦ b.kept j (a.every p q j early m) | inr late ↦ b.every p q j late m ];
+}
+
+pub adds_as : (c : Cutting) (floods : List Flood) (first both : Place → Type 0) (old new : List Join) → ((p : Place) → both p → first p) → Adds c floods first old new → Adds c floods both old new
+adds_as c floods first both old new split a = record { kept = a.kept; only = a.only; every = λ p q j at m. a.every p q j (split p at) m }

@@ -1,0 +1,332 @@
+-- The gathered joins and sources are those of the spill graph.
+use Rattle.std.proofs.Common.{◌≡◌, ◌≢◌, ℕ, ◌+◌, ◌-◌, ◌*◌, ◌/◌, ◌%◌, ◌<◌, ◌≤◌, inl, inr, ℤ, ◌≤ℤ◌, List, [], ◌∷◌, ◌++◌, length, get_or, Option, None, Some, is_some, IfSome, ◌∙◌, sym, ap, subst, refl, arith}
+use Rattle.std.specs.Int.{int_max}
+use Rattle.std.specs.List.{Contains}
+use Rattle.std.proofs.lemmas.Int.{ints, clamps}
+use Rattle.std.proofs.lemmas.Bool.{cases_eq, cases_lt, cases_order}
+use Rattle.std.proofs.lemmas.Nat.{div-mul-add, mod-mul-add, div-add-mod', mul-le}
+use Rattle.std.proofs.lemmas.Option.{same_Some, slice_get_within}
+use Rattle.std.specs.Prelude.{IfNone}
+use Rattle.std.proofs.lemmas.List.{get_or_default, get_or_past, get_or_append_left, get_or_push, length_push}
+use Rattle.std.proofs.lemmas.List.Elements.{Contains-append_left, Contains-append_right, Contains-append_cases, All-contains}
+use Rattle.ascii_grid.specs.Raster.{Terrain}
+use Rattle.ascii_grid.specs.Neighbours.{height_at, index_of, IsDataCell, IsEdge, HasGapAround}
+use Rattle.ascii_grid.specs.declared.place.Place.{Place}
+use Rattle.ascii_grid.proofs.Places.{same_place, index_below}
+use Rattle.tiles.specs.Cutting.{Cutting, IsCutting, IsWithin, IsInTile, IsInBounds, bounds_of, tile_count, tile_of_place}
+use Rattle.tiles.proofs.Cut.{tile_of_place_below, in_bounds}
+use Rattle.tiles.specs.declared.bounds.Bounds.{Bounds}
+use Rattle.tiles.proofs.TileOrder.{place_in, place_in_tile, index_in-place_in}
+use Rattle.fill.specs.TileFlood.{Flood, LabelsInside, IsTileFlood, label_in}
+use Rattle.fill.specs.Spills.{AreFloods, level_among, label_among, IsPass, Graph, source_in, AreSpillSources, IsGraphOf}
+use Rattle.fill.specs.Gathering.{Fit, mark_among, Meets, Adds, IsBefore, AreRising, AreLowest, AreGathered, HasGapAmong, IsSpillSource, IsSourceEntry, AreSources, IsGraph}
+use Rattle.fill.specs.declared.spills.Join.{Join}
+use Rattle.fill.specs.declared.marks.Mark.{Mark}
+use Rattle.fill.proofs.Steps.{seen, none_some, none_done, at_some, at_none}
+use Rattle.fill.proofs.Heaps.{all_by_contains}
+use Rattle.fill.proofs.Windows.{data_is, no_data}
+use Rattle.fill.proofs.TileWindows.{data_within, entry_in-inside}
+use Rattle.fill.proofs.WindowLevels.{height_is}
+use Rattle.fill.proofs.Ways.{le_of, le_both}
+use Rattle.fill.proofs.Rims.{HasTileLevel, has_tile_level, level_has_data, label_has_data, edge_level, edge_label, flood_there, among_is}
+use Rattle.fill.proofs.CellMarks.{label_within, mark_some, mark_parts, mark_outside}
+use Rattle.fill.proofs.Adding.{no_join}
+
+max_turned : (a b : ℤ) → int_max b a ≡ int_max a b
+max_turned a b = omega (arith, ints, clamps)
+
+-- nothing is gathered before the first tile
+pub gathered_none : (c : Cutting) (floods : List Flood) → AreGathered c floods (λ p. IsWithin c p × (tile_of_place c p < 0)) []
+gathered_none c floods = record {
+  only = λ j h. absurd (no_join j h);
+  every = λ p q j at m. absurd (omega (arith, at.1));
+}
+
+-- one more tile
+pub gathered_more : (c : Cutting) (floods : List Flood) (tile : ℕ) (joins met lowest new : List Join) → AreGathered c floods (λ p. IsWithin c p × (tile_of_place c p < tile)) joins → Adds c floods (IsInTile c tile) [] met → AreLowest met lowest → new ≡ joins ++ lowest → AreGathered c floods (λ p. IsWithin c p × (tile_of_place c p < tile + 1)) new
+gathered_more c floods tile joins met lowest new s adds low is = subst (AreGathered c floods (λ p. IsWithin c p × (tile_of_place c p < tile + 1))) (sym is) (record {
+  only = λ j h. elim (Contains-append_cases joins lowest j h) [
+    | inl was ↦ s.only j was
+    | inr made ↦ elim (adds.only j (low.only j made)) [ inl none ↦ absurd (no_join j none) | inr meets ↦ meets ]
+  ];
+  every = λ p q j at m. elim (cases_eq (tile_of_place c p) tile) [
+    | inr other ↦ let was = s.every p q j (at.0, omega (arith, at.1, other)) m in (was.0, Contains-append_left joins lowest was.0 was.1, was.2, was.3, was.4)
+    | inl same ↦ let made = low.every j (adds.every p q j (at.0, same) m) in (made.0, Contains-append_right joins lowest made.0 made.1, made.2, made.3, made.4)
+  ];
+})
+
+-- the lowest of all
+pub gathered_lowest : (c : Cutting) (floods : List Flood) (joins lowest : List Join) → IsCutting c → AreGathered c floods (λ p. IsWithin c p × (tile_of_place c p < tile_count c)) joins → AreLowest joins lowest → AreGathered c floods (IsWithin c) lowest
+gathered_lowest c floods joins lowest h s low = record {
+  only = λ j k. s.only j (low.only j k);
+  every = λ p q j within m.
+      let was = s.every p q j (within, tile_of_place_below c p h within) m in
+      let now = low.every was.0 was.1 in
+      (now.0, now.1, now.2 ∙ was.2, now.3 ∙ was.3, le_of _ _ _ now.4 was.4);
+}
+
+-- joins that rise have each two labels once
+one_join : (joins : List Join) → AreRising joins → (j k : Join) → Contains joins j → Contains joins k → j.from ≡ k.from → j.to ≡ k.to → j ≡ k
+one_join joins rise j k a b e f = elim (cases_order a.0 b.0) [
+  | inl same ↦ sym (there a.0 j a.2 a.1) ∙ ap (λ n. get_or joins n j) same ∙ move b.0 b.1 b.2
+  | inr other ↦ elim other [
+    | inl less ↦ absurd (apart (get_or joins a.0 j) (get_or joins b.0 j) j k a.2 (move b.0 b.1 b.2) e f (rise a.0 b.0 j less b.1))
+    | inr more ↦ absurd (apart (get_or joins b.0 j) (get_or joins a.0 j) k j (move b.0 b.1 b.2) a.2 (sym e) (sym f) (rise b.0 a.0 j more a.1))
+  ]
+] where
+  there : (n : ℕ) (x : Join) → get_or joins n x ≡ x → n < length joins → get_or joins n x ≡ x
+  there n x h l = h
+
+  move : (n : ℕ) → n < length joins → get_or joins n k ≡ k → get_or joins n j ≡ k
+  move n l h = get_or_default joins n j k l ∙ h
+
+  apart : (x y u v : Join) → x ≡ u → y ≡ v → u.from ≡ v.from → u.to ≡ v.to → IsBefore x y → ⊥
+  apart x y u v p q g h (inl a) = let s = ap (λ (z : Join). z.from) p in let t = ap (λ (z : Join). z.from) q in omega (arith, a, g, s, t)
+  apart x y u v p q g h (inr a) = let s = ap (λ (z : Join). z.to) p in let t = ap (λ (z : Join). z.to) q in omega (arith, a.1, h, s, t)
+
+-- a meeting has its cells in the grid, and its labels too
+marked_within : (c : Cutting) (floods : List Flood) (p : Place) (m : Mark) → IsCutting c → Fit c floods → mark_among c floods p ≡ Some m → IsWithin c p
+marked_within c floods p m h fit e = elim (cases_lt p.row c.rows) [
+  | inr below ↦ none_some _ m (mark_outside c floods p h fit (λ w. omega (arith, w.0, below))) e
+  | inl row ↦ elim (cases_lt p.col c.cols) [
+    | inr beside ↦ none_some _ m (mark_outside c floods p h fit (λ w. omega (arith, w.1, beside))) e
+    | inl col ↦ (row, col)
+  ]
+]
+
+node_below : (c : Cutting) (floods : List Flood) (p : Place) (m : Mark) → IsCutting c → Fit c floods → mark_among c floods p ≡ Some m → m.node < c.cols * c.rows
+node_below c floods p m h fit e =
+    let parts = mark_parts c.cols (level_among c floods p) (label_among c floods p) m e in
+    let tile = tile_of_place c p in
+    let f = flood_there floods tile (omega (arith, fit.count, tile_of_place_below c p h (marked_within c floods p m h fit e))) in
+    let label : label_in f.0 p ≡ Some parts.0 = sym (among_is (λ f. label_in f p) floods tile f.0 f.1) ∙ parts.2 in
+    let within = label_within c f.0 p parts.0 (fit.sizes tile f.0 f.1) (fit.labels tile f.0 f.1) label in
+    omega (arith, index_below c.cols c.rows parts.0 within.0 within.1, parts.3)
+
+abbrev turned : Join → Join
+turned j = record { from = j.to; to = j.from; height = j.height }
+
+meets_turned : (c : Cutting) (floods : List Flood) (p q : Place) (j : Join) → Meets c floods p q j → Meets c floods q p (turned j)
+meets_turned c floods p q j m = record {
+  touches = record { row_down = m.touches.row_up; row_up = m.touches.row_down; col_right = m.touches.col_left; col_left = m.touches.col_right };
+  from_level = m.to_level;
+  to_level = m.from_level;
+  from_is = m.to_is;
+  to_is = m.from_is;
+  different = λ e. m.different (sym e);
+  greater = max_turned m.from_level m.to_level ∙ m.greater;
+}
+
+-- a gathered join is as low as each meeting of its labels
+low_as : (c : Cutting) (floods : List Flood) (joins : List Join) → IsCutting c → Fit c floods → AreGathered c floods (IsWithin c) joins → AreRising joins → (j k : Join) (p q : Place) → Contains joins j → Meets c floods p q k → j.from ≡ k.from → j.to ≡ k.to → j.height ≤ℤ k.height
+low_as c floods joins h fit s rise j k p q there m e f =
+    let cover = s.every p q k (marked_within c floods p _ h fit m.from_is) m in
+    let same = one_join joins rise j cover.0 there cover.1 (e ∙ sym cover.2) (f ∙ sym cover.3) in
+    subst (λ (z : Join). z.height ≤ℤ k.height) (sym same) cover.4
+
+-- a gathered join stands there both ways
+join_back : (c : Cutting) (floods : List Flood) (joins : List Join) → IsCutting c → Fit c floods → AreGathered c floods (IsWithin c) joins → AreRising joins → (j : Join) → Contains joins j → Contains joins (turned j)
+join_back c floods joins h fit s rise j there =
+    let meet = s.only j there in
+    let back = meets_turned c floods meet.0 meet.1 j meet.2 in
+    let cover = s.every meet.1 meet.0 (turned j) (marked_within c floods meet.1 _ h fit back.from_is) back in
+    let other = s.only cover.0 cover.1 in
+    let again = meets_turned c floods other.0 other.1 cover.0 other.2 in
+    let low = low_as c floods joins h fit s rise j (turned cover.0) other.1 other.0 there again (sym cover.3) (sym cover.2) in
+    let height : cover.0.height ≡ j.height = le_both _ _ cover.4 low in
+    subst (Contains joins) (same_join cover.0 (turned j) cover.2 cover.3 height) cover.1 where
+      same_join : (x y : Join) → x.from ≡ y.from → x.to ≡ y.to → x.height ≡ y.height → x ≡ y
+      same_join x y a b e = ap (λ n. record { from = n; to = x.to; height = x.height }) a ∙ ap (λ n. record { from = y.from; to = n; height = x.height }) b ∙ ap (λ n. record { from = y.from; to = y.to; height = n }) e
+
+-- what is gathered is a graph
+pub gathered_graph : (c : Cutting) (floods : List Flood) (nodes : ℕ) (joins : List Join) (sources : List (Option ℤ)) → IsCutting c → Fit c floods → AreGathered c floods (IsWithin c) joins → AreRising joins → AreSources c floods (c.cols * c.rows) sources → nodes ≡ c.cols * c.rows → IsGraph (record { nodes = nodes; joins = joins; sources = sources })
+gathered_graph c floods nodes joins sources h fit s rise are count = record {
+  few = omega (arith, count, mul-le c.cols c.rows 4096 4096 h.few_cols h.few_rows);
+  sources = are.size ∙ sym count;
+  ends = all_by_contains (λ (j : Join). (j.from < nodes) × (j.to < nodes)) joins (λ j there.
+      let meet = s.only j there in
+      (omega (arith, count, node_below c floods meet.0 _ h fit meet.2.from_is), omega (arith, count, node_below c floods meet.1 _ h fit meet.2.to_is)));
+  back = join_back c floods joins h fit s rise;
+  rising = λ m n d low below. elim (cases_eq m n) [
+    | inl same ↦ let e = ap (λ k. (get_or joins k d).from) same in omega (arith, e)
+    | inr other ↦ up (get_or joins m d) (get_or joins n d) (rise m n d (omega (arith, low, other)) below)
+  ];
+} where
+  up : (x y : Join) → IsBefore x y → x.from ≤ y.from
+  up x y (inl a) = omega arith
+  up x y (inr a) = omega (arith, a.0)
+
+-- floods of tiles fit
+fit_labels : (t : Terrain) (c : Cutting) (tile : ℕ) (f : Flood) → IsCutting c → tile < tile_count c → (c.cols ≡ t.cols) × (c.rows ≡ t.rows) → IsTileFlood t c tile f → LabelsInside c f
+fit_labels t c tile f h below cuts flood k label e = elim (cases_lt k (length f.labels)) [
+  | inr past ↦ none_some _ label (get_or_past f.labels k None past) e
+  | inl low ↦
+      let p = place_in (bounds_of c tile) k in
+      let i = place_in_tile c tile k h below (omega (arith, low, flood.labels_size)) in
+      let at : label_in f p ≡ Some label =
+      entry_in-inside f.bounds f.labels p (subst (λ b. IsInBounds b p) (sym flood.bounds) (in_bounds c tile p h i))
+      ∙ ap (λ (b : Bounds). get_or f.labels ((p.row - b.top) * b.cols + (p.col - b.left)) None) flood.bounds
+      ∙ ap (λ n. get_or f.labels n None) (index_in-place_in (bounds_of c tile) k) ∙ e in
+      elim (seen (height_at t p)) [
+        | inl none ↦ none_some (label_in f p) label (at_none (height_at t p) _ _ none (flood.each p i)).1 at
+        | inr height ↦
+            let here = at_some (height_at t p) _ _ height.0 height.1 (flood.each p i) in
+            let same = same_Some here.1 label (sym here.3 ∙ at) in
+            data_within t c label cuts (subst (IsDataCell t) same (label_has_data t c p here.1 here.0 here.4))
+      ]
+]
+
+pub fit_of : (t : Terrain) (c : Cutting) (floods : List Flood) → IsCutting c → AreFloods t c floods → Fit c floods
+fit_of t c floods h are = record {
+  count = are.count;
+  bounds = λ tile f e. (are.each tile f e).bounds;
+  labels = λ tile f e. fit_labels t c tile f h (omega (arith, are.count, slice_get_within floods tile f e)) are.cuts (are.each tile f e);
+  sizes = λ tile f e. (are.each tile f e).labels_size ∙ ap (λ (b : Bounds). b.rows * b.cols) (sym (are.each tile f e).bounds);
+}
+
+-- marks and levels
+mark_is : (t : Terrain) (c : Cutting) (floods : List Flood) (p : Place) (l : HasTileLevel t c floods p) (node : ℕ) → node ≡ index_of c.cols l.label → mark_among c floods p ≡ Some (record { level = l.level; node = node })
+mark_is t c floods p l node e = mark_some c.cols (level_among c floods p) (label_among c floods p) l.level l.label node l.level_is l.label_is e
+
+-- a pass is a meeting, and back
+pass_meets : (t : Terrain) (c : Cutting) (floods : List Flood) (a b : ℕ) (h : ℤ) → a ≢ b → (x : IsPass t c floods a b h) → Meets c floods x.from x.to (record { from = a; to = b; height = h })
+pass_meets t c floods a b h differ x = record {
+  touches = x.neighbours.touches;
+  from_level = x.from_level;
+  to_level = x.to_level;
+  from_is = mark_some c.cols _ _ x.from_level x.from_label.0 a x.from_is x.from_label.1 (sym x.from_label.2);
+  to_is = mark_some c.cols _ _ x.to_level x.to_label.0 b x.to_is x.to_label.1 (sym x.to_label.2);
+  different = differ;
+  greater = x.greater;
+}
+
+meets_pass : (t : Terrain) (c : Cutting) (floods : List Flood) (p q : Place) (j : Join) → IsCutting c → AreFloods t c floods → Meets c floods p q j → IsPass t c floods j.from j.to j.height
+meets_pass t c floods p q j h are m =
+    let fit = fit_of t c floods h are in
+    let x = mark_parts c.cols (level_among c floods p) (label_among c floods p) _ m.from_is in
+    let y = mark_parts c.cols (level_among c floods q) (label_among c floods q) _ m.to_is in
+    let p_data = level_has_data t c floods h are p m.from_level (marked_within c floods p _ h fit m.from_is) x.1 in
+    let q_data = level_has_data t c floods h are q m.to_level (marked_within c floods q _ h fit m.to_is) y.1 in
+    let differ : p ≢ q = λ e.
+    let same = same_Some (record { level = m.from_level; node = j.from }) (record { level = m.to_level; node = j.to }) (sym m.from_is ∙ ap (mark_among c floods) e ∙ m.to_is) in
+    m.different (ap (λ (z : Mark). z.node) same) in
+    record {
+      from = p;
+      to = q;
+      from_level = m.from_level;
+      to_level = m.to_level;
+      neighbours = record { different = differ; touches = m.touches; from_data = p_data; to_data = q_data };
+      from_label = (x.0, x.2, x.3);
+      to_label = (y.0, y.2, y.3);
+      from_is = x.1;
+      to_is = y.1;
+      greater = m.greater;
+    }
+
+-- gaps among the marks are gaps in the data
+gap_of : (t : Terrain) (c : Cutting) (floods : List Flood) (p : Place) → IsCutting c → AreFloods t c floods → HasGapAround t p → HasGapAmong c floods p
+gap_of t c floods p h are (inl e) = inl e
+gap_of t c floods p h are (inr (inl e)) = inr (inl e)
+gap_of t c floods p h are (inr (inr (q, touches, none))) = inr (inr (
+  q,
+  touches,
+  elim (seen (mark_among c floods q)) [
+    | inl no_mark ↦ no_mark
+    | inr found ↦
+        let within = marked_within c floods q found.0 h (fit_of t c floods h are) found.1 in
+        let parts = mark_parts c.cols (level_among c floods q) (label_among c floods q) found.0 found.1 in
+        none_done (height_at t q) (no_data _ none) (level_has_data t c floods h are q found.0.level within parts.1)
+  ],
+))
+
+gap_back : (t : Terrain) (c : Cutting) (floods : List Flood) (p : Place) → IsCutting c → AreFloods t c floods → HasGapAmong c floods p → HasGapAround t p
+gap_back t c floods p h are (inl e) = inl e
+gap_back t c floods p h are (inr (inl e)) = inr (inl e)
+gap_back t c floods p h are (inr (inr (q, touches, none))) = inr (inr (
+  q,
+  touches,
+  elim (seen (height_at t q)) [
+    | inl no_height ↦ ap is_some no_height
+    | inr found ↦ none_some _ _ none (mark_is t c floods q (has_tile_level t c floods h are q (ap is_some found.1)) _ refl)
+  ],
+))
+
+-- the sources are those of the graph
+source_place : (c : Cutting) (p : Place) → IsWithin c p → record { row = index_of c.cols p / c.cols; col = index_of c.cols p % c.cols } ≡ p
+source_place c p within = same_place _ p (div-mul-add p.row c.cols p.col within.1) (mod-mul-add p.row c.cols p.col within.1)
+
+spill_sources : (t : Terrain) (c : Cutting) (floods : List Flood) (g : Graph) → IsCutting c → AreFloods t c floods → AreSources c floods (c.cols * c.rows) g.sources → AreSpillSources t c floods g
+spill_sources t c floods g h are s = record {
+  each = λ p z carries edge height.
+      let within = data_within t c p are.cuts edge.0 in
+      let l = has_tile_level t c floods h are p edge.0 in
+      let own = edge_label t c p l.label l.level l.right edge in
+      let level : l.level ≡ z = edge_level t c p l.label l.level l.right (inr edge) ∙ height_is t p z height in
+      let here : IsSpillSource c floods p z = record {
+        mark = mark_is t c floods p l (index_of c.cols p) (ap (index_of c.cols) (sym own)) ∙ ap (λ n. Some (record { level = n; node = index_of c.cols p })) level;
+        gap = gap_of t c floods p h are edge.1;
+      } in
+      let entry = subst (λ q. IsSourceEntry c floods q (source_in g (index_of c.cols p))) (source_place c p within) (s.each (index_of c.cols p) (index_below c.cols c.rows p within.0 within.1)) in
+      elim (seen (source_in g (index_of c.cols p))) [
+        | inl none ↦ absurd (at_none (source_in g (index_of c.cols p)) _ _ none entry z here)
+        | inr found ↦
+            let other = at_some (source_in g (index_of c.cols p)) _ _ found.0 found.1 entry in
+            let same = same_Some (record { level = found.0; node = index_of c.cols p }) (record { level = z; node = index_of c.cols p }) (sym other.mark ∙ here.mark) in
+            found.1 ∙ ap Some (ap (λ (m : Mark). m.level) same)
+      ];
+  only = λ a z e. elim (cases_lt a (length g.sources)) [
+    | inr past ↦ none_some (source_in g a) z (get_or_past g.sources a None past) e
+    | inl below ↦
+        let low : a < c.cols * c.rows = omega (arith, below, s.size) in
+        let p : Place = record { row = a / c.cols; col = a % c.cols } in
+        let node : index_of c.cols p ≡ a = div-add-mod' a c.cols in
+        let here = at_some (source_in g a) _ _ z e (s.each a low) in
+        let fit = fit_of t c floods h are in
+        let within = marked_within c floods p _ h fit here.mark in
+        let parts = mark_parts c.cols (level_among c floods p) (label_among c floods p) _ here.mark in
+        let has_data = level_has_data t c floods h are p z within parts.1 in
+        let edge : IsEdge t p = (has_data, gap_back t c floods p h are here.gap) in
+        let l = has_tile_level t c floods h are p has_data in
+        let level = same_Some l.level z (sym l.level_is ∙ parts.1) in
+        let height = data_is (height_at t p) has_data in
+        let same : height.0 ≡ z = sym (height_is t p height.0 height.1) ∙ sym (edge_level t c p l.label l.level l.right (inr edge)) ∙ level in
+        (p, node, (parts.0, parts.2, parts.3 ∙ node), edge, height.1 ∙ ap Some same)
+  ];
+}
+
+-- the graph is that of the floods
+pub graph_of : (t : Terrain) (c : Cutting) (floods : List Flood) (nodes : ℕ) (joins : List Join) (sources : List (Option ℤ)) → IsCutting c → AreFloods t c floods → AreGathered c floods (IsWithin c) joins → AreRising joins → AreSources c floods (c.cols * c.rows) sources → nodes ≡ c.cols * c.rows → IsGraphOf t c floods (record { nodes = nodes; joins = joins; sources = sources })
+graph_of t c floods nodes joins sources h are s rise srcs count =
+    let fit = fit_of t c floods h are in
+    let graph = gathered_graph c floods nodes joins sources h fit s rise srcs count in
+    record {
+      count = count;
+      joined = λ a b z differ pass.
+          let m = pass_meets t c floods a b z differ pass in
+          let cover = s.every pass.from pass.to (record { from = a; to = b; height = z }) (marked_within c floods pass.from _ h fit m.from_is) m in
+          let there : Contains joins (record { from = a; to = b; height = cover.0.height }) = subst (Contains joins) (ap (λ n. record { from = n; to = cover.0.to; height = cover.0.height }) cover.2 ∙ ap (λ n. record { from = a; to = n; height = cover.0.height }) cover.3) cover.1 in
+          let ends = All-contains (λ (j : Join). (j.from < nodes) × (j.to < nodes)) joins (record { from = a; to = b; height = cover.0.height }) graph.ends there in
+          (cover.0.height, record { from_node = ends.0; to_node = ends.1; there = there; back = graph.back _ there });
+      joined_only = λ a b z join.
+          let meet = s.only (record { from = a; to = b; height = z }) join.there in
+          record {
+            different = meet.2.different;
+            pass = meets_pass t c floods meet.0 meet.1 (record { from = a; to = b; height = z }) h are meet.2;
+            least = λ other pass. low_as c floods joins h fit s rise (record { from = a; to = b; height = z }) (record { from = a; to = b; height = other }) pass.from pass.to join.there (pass_meets t c floods a b other meet.2.different pass) refl refl;
+          };
+      sources = spill_sources t c floods (record { nodes = nodes; joins = joins; sources = sources }) h are srcs;
+    }
+
+-- one more entry
+pub sources_more : (c : Cutting) (floods : List Flood) (k : ℕ) (o : Option ℤ) (old new : List (Option ℤ)) → AreSources c floods k old → IsSourceEntry c floods (record { row = k / c.cols; col = k % c.cols }) o → new ≡ old ++ o ∷ [] → AreSources c floods (k + 1) new
+sources_more c floods k o old new s here is = subst (AreSources c floods (k + 1)) (sym is) (record {
+  size = length_push old o ∙ ap (λ n. n + 1) s.size;
+  each = λ i low. elim (cases_eq i k) [
+    | inr other ↦ subst (IsSourceEntry c floods (record { row = i / c.cols; col = i % c.cols })) (sym (get_or_append_left old (o ∷ []) None i (omega (arith, low, other, s.size)))) (s.each i (omega (arith, low, other)))
+    | inl same ↦ subst (λ n. IsSourceEntry c floods (record { row = n / c.cols; col = n % c.cols }) (get_or (old ++ o ∷ []) n None)) (sym same) (subst (IsSourceEntry c floods (record { row = k / c.cols; col = k % c.cols })) (sym (get_or_push old o None k s.size)) here)
+  ];
+})
+
+pub entry_from : (c : Cutting) (floods : List Flood) (p : Place) (o : Option ℤ) → IfSome o (λ h. IsSpillSource c floods p h) → IfNone o ((h : ℤ) → IsSpillSource c floods p h → ⊥) → IsSourceEntry c floods p o
+entry_from c floods p None a b = b
+entry_from c floods p (Some h) a b = a

@@ -1,0 +1,132 @@
+-- What a heap of waiting nodes has after each pop and push.
+use Rattle.std.proofs.Common.{◌≡◌, ℕ, zero, suc, ◌+◌, ◌<◌, true, false, List, [], ◌∷◌, ◌++◌, length, get_or, map, filter, is_none, take, ℤ, ◌≤ℤ◌, Option, None, Some, is_some, is_err, Result, Ok, Err, OnOk, sym, ap, subst, refl, ◌∙◌, arith, ◌⊎◌, inl, inr}
+use Rattle.std.specs.List.{Contains, All}
+use Rattle.std.specs.List.Sorted.{IsPermutation}
+use Rattle.std.specs.BinaryHeap.{IsUpperBound}
+use Rattle.std.specs.Ordering.{is_lt}
+use Rattle.std.proofs.lemmas.Int.{ints, by_lt_z}
+use Rattle.std.proofs.lemmas.Bool.{cases_eq, cond-true}
+use Rattle.std.proofs.lemmas.List.{take_more, append_assoc, map-append}
+use Rattle.std.proofs.lemmas.List.Elements.{All-contains, All-contains_itself, All-from_recursion, filter-append}
+use Rattle.std.proofs.lemmas.List.Sorted.{Contains-permutation, IsPermutation-sym, IsPermutation-push_more, IsPermutation-refl, IsPermutation-trans, IsPermutation-append_left}
+use Rattle.std.proofs.lemmas.Option.{same_Some}
+use Rattle.fill.specs.declared.net.Spill.{Spill}
+use Rattle.fill.specs.declared.flooding.Waiting.{Waiting}
+use Rattle.fill.specs.Walk.{Sources}
+use Rattle.fill.specs.Flood.{entry_of, IsDone, TakesLowest, OnlyDoneLeft, waiting_by, waiting_order, SourcesWait, is_open}
+
+pub all_by_contains : {X : Type 0} (P : X → Type 0) (xs : List X) → ((x : X) → Contains xs x → P x) → All P xs
+all_by_contains P xs h k d below = h (get_or xs k d) (All-contains_itself xs k d below)
+
+pub cons_head : {X : Type 0} (x : X) (xs : List X) → Contains (x ∷ xs) x
+cons_head x xs = (0, omega arith, refl)
+
+pub cons_cases : {X : Type 0} (x : X) (xs : List X) (y : X) → Contains (x ∷ xs) y → (y ≡ x) ⊎ Contains xs y
+cons_cases x xs y h = go h.0 h.1 h.2 where
+  go : (k : ℕ) → k < length (x ∷ xs) → get_or (x ∷ xs) k y ≡ y → (y ≡ x) ⊎ Contains xs y
+  go zero below e = inl (sym e)
+  go (suc k) below e = inr (k, omega arith, e)
+
+pub cons_tail : {X : Type 0} (x : X) (xs : List X) (y : X) → Contains xs y → Contains (x ∷ xs) y
+cons_tail x xs y h = (suc h.0, omega (arith, h.1), h.2)
+
+-- the order puts the least height first
+order_le : (x y : Waiting) → is_lt (waiting_order x y) ≡ false → x.height.0 ≤ℤ y.height.0
+order_le x y e = by_lt_z y.height.0 x.height.0 (λ less. absurd (grind arith)) (λ h. h)
+
+le_refl : (a b : ℤ) → a ≡ b → b ≤ℤ a
+le_refl a b e = omega (arith, ints)
+
+pub nothing_left : (levels : List (Option ℤ)) (xs : List Waiting) → OnlyDoneLeft levels xs xs
+nothing_left levels xs = record {
+  left = All-contains_itself xs;
+  kept = λ k d below. inr (All-contains_itself xs k d below);
+}
+
+pub one_left : (levels : List (Option ℤ)) (old now rest : List Waiting) (x : Waiting) → OnlyDoneLeft levels old now → IsPermutation now (x ∷ rest) → IsDone levels x → OnlyDoneLeft levels old rest
+one_left levels old now rest x s perm done = record {
+  left = all_by_contains (Contains old) rest (λ y h. All-contains (Contains old) now y s.left (Contains-permutation _ _ y (IsPermutation-sym _ _ perm) (cons_tail x rest y h)));
+  kept = all_by_contains (λ y. IsDone levels y ⊎ Contains rest y) old (λ y h.
+      elim (All-contains (λ z. IsDone levels z ⊎ Contains now z) old y s.kept h) [
+        | inl d ↦ inl d
+        | inr held ↦ elim (cons_cases x rest y (Contains-permutation _ _ y perm held)) [
+          | inl same ↦ inl (subst (λ (z : Waiting). IsDone levels z) (sym same) done)
+          | inr still ↦ inr still
+        ]
+      ]);
+}
+
+pub first_open : (levels : List (Option ℤ)) (old now rest : List Waiting) (x : Waiting) → OnlyDoneLeft levels old now → IsPermutation now (x ∷ rest) → IsUpperBound waiting_order x rest → entry_of levels x.node ≡ None → TakesLowest levels old x rest
+first_open levels old now rest x s perm bound is_open =
+    let above : All (λ y. is_lt (waiting_order x y) ≡ false) rest = All-from_recursion (λ y. is_lt (waiting_order x y) ≡ false) rest bound in
+    record {
+      was_open = is_open;
+      was = All-contains (Contains old) now x s.left (Contains-permutation _ _ x (IsPermutation-sym _ _ perm) (cons_head x rest));
+      lowest = all_by_contains (λ y. IsDone levels y ⊎ (x.height.0 ≤ℤ y.height.0)) old (λ y h.
+          elim (All-contains (λ z. IsDone levels z ⊎ Contains now z) old y s.kept h) [
+            | inl d ↦ inl d
+            | inr held ↦ elim (cons_cases x rest y (Contains-permutation _ _ y perm held)) [
+              | inl same ↦ inr (le_refl y.height.0 x.height.0 (ap (λ (z : Waiting). z.height.0) same))
+              | inr still ↦ inr (order_le x y (All-contains (λ z. is_lt (waiting_order x z) ≡ false) rest y above still))
+            ]
+          ]);
+      left = all_by_contains (Contains old) rest (λ y h. All-contains (Contains old) now y s.left (Contains-permutation _ _ y (IsPermutation-sym _ _ perm) (cons_tail x rest y h)));
+      kept = all_by_contains (λ y. IsDone levels y ⊎ (y ≡ x) ⊎ Contains rest y) old (λ y h.
+          elim (All-contains (λ z. IsDone levels z ⊎ Contains now z) old y s.kept h) [
+            | inl d ↦ inl d
+            | inr held ↦ inr (cons_cases x rest y (Contains-permutation _ _ y perm held))
+          ]);
+    }
+
+-- a node with no level is open
+pub open_way : {X : Type 0} (o : Option X) → is_some o ≡ false → is_none o ≡ true
+open_way None e = refl
+open_way (Some x) e = absurd (cc)
+
+-- one way that leads to an open node
+pub one_way : (from : Waiting) (levels : List (Option ℤ)) (way : Spill) (old new : List Waiting) → is_open levels way ≡ true → IsPermutation (waiting_by from way ∷ old) new → IsPermutation (old ++ map (waiting_by from) (filter (is_open levels) (way ∷ []))) new
+one_way from levels way old new is_so p =
+    subst (λ (z : List Spill). IsPermutation (old ++ map (waiting_by from) z) new) (sym (cond-true (is_open levels way) (way ∷ []) [] is_so))
+    (IsPermutation-push_more old old new (waiting_by from way) (IsPermutation-refl old) p)
+
+-- one more way
+pub way_more : (from : Waiting) (levels : List (Option ℤ)) (ways : List Spill) (i : ℕ) (d : Spill) (old now new : List Waiting) → i < length ways → IsPermutation (old ++ map (waiting_by from) (filter (is_open levels) (take i ways))) now → IsPermutation (now ++ map (waiting_by from) (filter (is_open levels) (get_or ways i d ∷ []))) new → IsPermutation (old ++ map (waiting_by from) (filter (is_open levels) (take (i + 1) ways))) new
+way_more from levels ways i d old now new below s p =
+    let f : List Spill → List Waiting = λ (z : List Spill). map (waiting_by from) (filter (is_open levels) z) in
+    let joined : f (take (i + 1) ways) ≡ f (take i ways) ++ f (get_or ways i d ∷ []) =
+    ap f (take_more ways i d below) ∙ ap (map (waiting_by from)) (filter-append (is_open levels) (take i ways) (get_or ways i d ∷ [])) ∙ map-append (waiting_by from) (filter (is_open levels) (take i ways)) (filter (is_open levels) (get_or ways i d ∷ [])) in
+    subst (λ (z : List Waiting). IsPermutation z new)
+    (append_assoc old (f (take i ways)) (f (get_or ways i d ∷ [])) ∙ ap (λ (z : List Waiting). old ++ z) (sym joined))
+    (IsPermutation-trans _ _ _ (IsPermutation-append_left (f (get_or ways i d ∷ [])) _ _ s) p)
+
+-- a node that is no source
+pub source_passed : (source : Sources) (n : ℕ) (waiting : List Waiting) → SourcesWait n source waiting → source n ≡ None → SourcesWait (n + 1) source waiting
+source_passed source n waiting s none = record {
+  only = λ k d below. let o = s.only k d below in (omega (arith, o.0), o.1, o.2);
+  every = λ a h below e. elim (cases_eq a n) [
+    | inl same ↦ let no : source n ≡ Some h = subst (λ (k : ℕ). source k ≡ Some h) same e in absurd (cc)
+    | inr other ↦ s.every a h (omega arith) e
+  ];
+}
+
+-- a source that waits
+pub source_more : (source : Sources) (n : ℕ) (h : ℤ) (now new : List Waiting) (w : Waiting) → SourcesWait n source now → source n ≡ Some h → w.node ≡ n → w.label ≡ n → w.height.0 ≡ h → IsPermutation (w ∷ now) new → SourcesWait (n + 1) source new
+source_more source n h now new w s is node label height perm = record {
+  only = all_by_contains (λ x. (x.node < n + 1) × (source x.node ≡ Some x.height.0) × (x.label ≡ x.node)) new (λ x held.
+      elim (cons_cases w now x (Contains-permutation _ _ x (IsPermutation-sym _ _ perm) held)) [
+        | inl same ↦ subst (λ (x : Waiting). (x.node < n + 1) × (source x.node ≡ Some x.height.0) × (x.label ≡ x.node)) (sym same) (omega arith, ap source node ∙ is ∙ ap Some (sym height), label ∙ sym node)
+        | inr was ↦ let o = All-contains (λ x. (x.node < n) × (source x.node ≡ Some x.height.0) × (x.label ≡ x.node)) now x s.only was in (omega (arith, o.0), o.1, o.2)
+      ]);
+  every = λ a k below e. elim (cases_eq a n) [
+    | inl same ↦ (w, Contains-permutation _ _ w perm (cons_head w now), node ∙ sym same, height ∙ same_Some h k (sym is ∙ subst (λ (j : ℕ). source j ≡ Some k) same e))
+    | inr other ↦ let x = s.every a k (omega arith) e in (x.0, Contains-permutation _ _ x.0 perm (cons_tail w now x.0 x.1), x.2, x.3)
+  ];
+}
+
+pub not_some : {X : Type 0} (o : Option X) → is_some o ≡ false → o ≡ None
+not_some None e = refl
+not_some (Some x) e = absurd (cc)
+
+pub on_ok : {T E P : Type 0} (r : Result T E) → is_err r ≡ false → OnOk r P → P
+on_ok (Ok x) e h = h
+on_ok (Err x) e h = absurd (cc)

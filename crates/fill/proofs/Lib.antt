@@ -1,0 +1,17 @@
+mod Steps
+mod Heaps
+mod CellWays
+mod Borders
+mod Windows
+mod WindowLevels
+mod WholeGrid
+mod TileWindows
+mod Ways
+mod Rims
+mod CellMarks
+mod Adding
+mod Lowest
+mod Gathered
+mod GraphWays
+mod Raised
+mod Together

@@ -1,0 +1,221 @@
+-- A flood, step by step.
+use Rattle.std.proofs.Common.{◌≡◌, ◌≢◌, ℕ, ◌<◌, Bool, true, List, [], ◌∷◌, ◌++◌, length, get_or, set, map, filter, replicate, ℤ, pos, ◌≤ℤ◌, Option, None, Some, is_some, is_none, cond, IsSome, MatchOption, unwrap_or, sym, ap, subst, refl, ◌∙◌, arith, ◌⊎◌, inl, inr}
+use Rattle.std.specs.Int.{int_max}
+use Rattle.std.specs.List.{Contains, All, count_by}
+use Rattle.std.proofs.lemmas.List.Sums.{sum_by-set}
+use Rattle.std.specs.List.Sorted.{IsPermutation}
+use Rattle.std.proofs.lemmas.Int.{ints, clamps}
+use Rattle.std.proofs.lemmas.List.{length-set, get_or-set_same, get_or-set_other, get_or-replicate, length-replicate, get_or_past, length-map, get_or-map, get_or_default}
+use Rattle.std.proofs.lemmas.List.Elements.{All-contains, All-filter, Contains-append_left, Contains-append_right, Contains-append_cases}
+use Rattle.std.proofs.lemmas.List.Sorted.{Contains-permutation, IsPermutation-sym}
+use Rattle.std.proofs.lemmas.Option.{same_Some}
+use Rattle.std.proofs.lemmas.Bool.{cases_eq, cases_lt, cases_Bool, cond-true, cond-false}
+use Rattle.fill.specs.declared.net.Spill.{Spill}
+use Rattle.fill.specs.declared.flooding.Waiting.{Waiting}
+use Rattle.fill.specs.Walk.{Joins, Sources, IsWalk, crest, IsLevel, HasNoWalk, IsFlooded, HasJust}
+use Rattle.fill.specs.Flood.{entry_of, IsDone, TakesLowest, waiting_by, SourcesWait, SomeWaits, HasWalk, IsFlooding, IsLabelOf, is_open}
+use Rattle.fill.proofs.Heaps.{cons_head, cons_tail, cons_cases, all_by_contains}
+
+-- what an entry is, as a case to split on
+pub seen : {X : Type 0} (o : Option X) → (o ≡ None) ⊎ ((x : X) × (o ≡ Some x))
+seen None = inl refl
+seen (Some x) = inr (x, refl)
+
+pub none_some : {X P : Type 0} (o : Option X) (x : X) → o ≡ None → o ≡ Some x → P
+none_some o x e f = absurd (cc)
+
+pub none_done : {X P : Type 0} (o : Option X) → o ≡ None → IsSome o → P
+none_done None e h = absurd (cc)
+none_done (Some x) e h = absurd (cc)
+
+pub at_some : {X : Type 0} (o : Option X) (P : Type 0) (Q : X → Type 0) (x : X) → o ≡ Some x → MatchOption o P Q → Q x
+at_some {X = X} o P Q x e h = subst (λ (z : Option X). MatchOption z P Q) e h
+
+pub at_none : {X : Type 0} (o : Option X) (P : Type 0) (Q : X → Type 0) → o ≡ None → MatchOption o P Q → P
+at_none {X = X} o P Q e h = subst (λ (z : Option X). MatchOption z P Q) e h
+
+pub from_some : {X : Type 0} (o : Option X) (P : Type 0) (Q : X → Type 0) (x : X) → o ≡ Some x → Q x → MatchOption o P Q
+from_some {X = X} o P Q x e h = subst (λ (z : Option X). MatchOption z P Q) (sym e) h
+
+pub from_none : {X : Type 0} (o : Option X) (P : Type 0) (Q : X → Type 0) → o ≡ None → P → MatchOption o P Q
+from_none {X = X} o P Q e h = subst (λ (z : Option X). MatchOption z P Q) (sym e) h
+
+grows : (h l k c : ℤ) → k ≤ℤ int_max h l → l ≤ℤ c → k ≤ℤ int_max h c
+grows h l k c e f = omega (arith, ints, clamps)
+
+max_right : (h k c : ℤ) → k ≤ℤ c → k ≤ℤ int_max h c
+max_right h k c f = omega (arith, ints, clamps)
+
+pub le_same : (a b c : ℤ) → a ≤ℤ b → b ≡ c → a ≤ℤ c
+le_same a b c h e = omega (arith, ints)
+
+pub le_trans : (a b c : ℤ) → a ≤ℤ b → b ≤ℤ c → a ≤ℤ c
+le_trans a b c h e = omega (arith, ints)
+
+-- on a walk from a node without a level, some node without a level waits at no more than the crest
+pub open_walk : (joins : Joins) (source : Sources) (nodes : ℕ) (levels : List (Option ℤ)) (labels : List (Option ℕ)) (waiting : List Waiting) → ((a b : ℕ) (h : ℤ) → joins a b h → b < nodes) → IsFlooding joins source nodes levels labels waiting → (walk : List Spill) (a : ℕ) → a < nodes → entry_of levels a ≡ None → IsWalk joins source a walk → (w : Waiting) × Contains waiting w × (entry_of levels w.node ≡ None) × (w.height.0 ≤ℤ crest source a walk)
+open_walk joins source nodes levels labels waiting inside s [] a below none walk =
+    elim (seen (source a)) [
+      | inl none_here ↦ none_done (source a) none_here walk
+      | inr found ↦
+          let w = s.sources a found.0 below found.1 none in
+          (w.0, w.1, ap (λ n. entry_of levels n) w.2 ∙ none, le_same w.0.height.0 found.0 _ w.3 (sym (ap (λ o. unwrap_or o (pos 0)) found.1)))
+    ]
+open_walk joins source nodes levels labels waiting inside s (step ∷ rest) a below none walk =
+    let next = inside a step.to step.height walk.0 in
+    elim (seen (entry_of levels step.to)) [
+      | inl open_next ↦
+          let w = open_walk joins source nodes levels labels waiting inside s rest step.to next open_next walk.1 in
+          (w.0, w.1, w.2, max_right step.height w.0.height.0 (crest source step.to rest) w.3)
+      | inr found ↦
+          let w = s.frontier a step.to found.0 step.height below walk.0 found.1 none in
+          let level = at_some (entry_of levels step.to) _ _ found.0 found.1 (s.settled step.to next) in
+          (w.0, w.1, ap (λ n. entry_of levels n) w.2 ∙ none, grows step.height found.0 w.0.height.0 (crest source step.to rest) w.3 (level.2.least rest walk.1))
+    ]
+
+-- the lowest node that waits has its level
+pub lowest_is_least : (joins : Joins) (source : Sources) (nodes : ℕ) (levels : List (Option ℤ)) (labels : List (Option ℕ)) (old new : List Waiting) (w : Waiting) → ((a b : ℕ) (h : ℤ) → joins a b h → b < nodes) → IsFlooding joins source nodes levels labels old → TakesLowest levels old w new → (walk : List Spill) → IsWalk joins source w.node walk → w.height.0 ≤ℤ crest source w.node walk
+lowest_is_least joins source nodes levels labels old new w inside s t walk is_walk =
+    let here = All-contains (λ x. (x.node < nodes) × HasWalk joins source x) old w s.waits t.was in
+    let found = open_walk joins source nodes levels labels old inside s walk w.node here.0 t.was_open is_walk in
+    elim (All-contains (λ x. IsDone levels x ⊎ (w.height.0 ≤ℤ x.height.0)) old found.0 t.lowest found.1) [
+      | inl done ↦ none_done (entry_of levels found.0.node) found.2 done
+      | inr low ↦ le_trans w.height.0 found.0.height.0 _ low found.3
+    ]
+
+-- where all that wait have levels, a node without one has no walk
+pub no_walk : (joins : Joins) (source : Sources) (nodes : ℕ) (levels : List (Option ℤ)) (labels : List (Option ℕ)) (waiting : List Waiting) → ((a b : ℕ) (h : ℤ) → joins a b h → b < nodes) → IsFlooding joins source nodes levels labels waiting → All (IsDone levels) waiting → (a : ℕ) → a < nodes → entry_of levels a ≡ None → HasNoWalk joins source a
+no_walk joins source nodes levels labels waiting inside s all a below none walk is_walk =
+    let found = open_walk joins source nodes levels labels waiting inside s walk a below none is_walk in
+    none_done (entry_of levels found.0.node) found.2 (All-contains (IsDone levels) waiting found.0 all found.1)
+
+-- the flood is over
+pub flooded : (joins : Joins) (source : Sources) (nodes : ℕ) (levels : List (Option ℤ)) (labels : List (Option ℕ)) (waiting : List Waiting) → ((a b : ℕ) (h : ℤ) → joins a b h → b < nodes) → IsFlooding joins source nodes levels labels waiting → All (IsDone levels) waiting → IsFlooded joins source nodes levels labels
+flooded joins source nodes levels labels waiting inside s all = record {
+  levels_size = s.levels_size;
+  labels_size = s.labels_size;
+  each = λ a below. elim (seen (entry_of levels a)) [
+    | inl none ↦ from_none (entry_of levels a) _ _ none (no_walk joins source nodes levels labels waiting inside s all a below none, at_none (entry_of levels a) _ _ none (s.settled a below))
+    | inr some ↦ from_some (entry_of levels a) _ _ some.0 some.1 (at_some (entry_of levels a) _ _ some.0 some.1 (s.settled a below))
+  ];
+}
+
+-- before the first step
+pub begun : (joins : Joins) (source : Sources) (nodes : ℕ) (waiting : List Waiting) → SourcesWait nodes source waiting → IsFlooding joins source nodes (replicate nodes None) (replicate nodes None) waiting
+begun joins source nodes waiting s = record {
+  levels_size = length-replicate nodes None;
+  labels_size = length-replicate nodes None;
+  settled = λ a below. from_none (entry_of (replicate nodes None) a) _ _ (get_or-replicate nodes a None None below) (get_or-replicate nodes a None None below);
+  waits = λ k d lt. let o = s.only k d lt in (o.0, ([], ap is_some o.1, ap (λ (z : Option ℤ). unwrap_or z (pos 0)) o.1, sym o.2));
+  sources = λ a h below e _. let w = s.every a h below e in (w.0, w.1, w.2, le_of_same w.0.height.0 h w.3);
+  frontier = λ a b l h below joined e _. none_some (entry_of (replicate nodes None) b) l (empty b) e;
+} where
+  le_of_same : (x y : ℤ) → x ≡ y → x ≤ℤ y
+  le_of_same x y e = omega (arith, ints)
+
+  empty : (b : ℕ) → entry_of {X = ℤ} (replicate nodes None) b ≡ None
+  empty b = elim (cases_lt b nodes) [ inl h ↦ get_or-replicate nodes b None None h | inr h ↦ get_or_past (replicate nodes None) b None (omega (arith, length-replicate {A = Option ℤ} nodes None)) ]
+
+-- what a list's members are made to
+Contains-map : {X Y : Type 0} (f : X → Y) (xs : List X) (x : X) → Contains xs x → Contains (map f xs) (f x)
+Contains-map f xs x h = (h.0, omega (arith, h.1, length-map xs f), get_or-map f xs h.0 x (f x) h.1 ∙ ap f h.2)
+
+Contains-map_from : {X Y : Type 0} (f : X → Y) (d : X) (xs : List X) (y : Y) → Contains (map f xs) y → (x : X) × Contains xs x × (f x ≡ y)
+Contains-map_from f d xs y h =
+    let below : h.0 < length xs = omega (arith, h.1, length-map xs f) in
+    (get_or xs h.0 d, (h.0, below, get_or_default xs h.0 _ d below), sym (get_or-map f xs h.0 d y below) ∙ h.2)
+
+level_of_lowest : (joins : Joins) (source : Sources) (w : Waiting) (label : ℕ) → HasWalk joins source w → ((walk : List Spill) → IsWalk joins source w.node walk → w.height.0 ≤ℤ crest source w.node walk) → IsLabelOf source w label → IsLevel joins source w.node w.height.0 label
+level_of_lowest joins source w label walk least (inl own) = record {
+  reached = ([], ap is_some own.0, ap (λ (z : Option ℤ). unwrap_or z (pos 0)) own.0, sym own.1);
+  least = least;
+  own = λ _. own.1;
+}
+level_of_lowest joins source w label walk least (inr other) = record {
+  reached = (walk.0, walk.1, walk.2, walk.3 ∙ sym other.1);
+  least = least;
+  own = λ e. absurd (other.0 e);
+}
+
+Contains-filter : {X : Type 0} (p : X → Bool) (xs : List X) (x : X) → Contains xs x → p x ≡ true → Contains (filter p xs) x
+Contains-filter p [] x h e = absurd (omega (arith, h.1))
+Contains-filter p (y ∷ ys) x h e = elim (cons_cases y ys x h) [
+  | inl same ↦ subst (λ z. Contains z x) (sym (cond-true (p y) (y ∷ filter p ys) (filter p ys) (ap p (sym same) ∙ e))) (subst (λ z. Contains (y ∷ filter p ys) z) (sym same) (cons_head y (filter p ys)))
+  | inr later ↦
+      let rest = Contains-filter p ys x later e in
+      elim (cases_Bool (p y)) [
+        | inl pass ↦ subst (λ z. Contains z x) (sym (cond-true (p y) (y ∷ filter p ys) (filter p ys) pass)) (cons_tail y (filter p ys) x rest)
+        | inr fail ↦ subst (λ z. Contains z x) (sym (cond-false (p y) (y ∷ filter p ys) (filter p ys) fail)) rest
+      ]
+]
+
+-- the lowest node takes its level, and its neighbours wait
+pub settle : (joins : Joins) (source : Sources) (nodes : ℕ) (levels : List (Option ℤ)) (labels : List (Option ℕ)) (old new more : List Waiting) (w : Waiting) (ways : List Spill) (label : ℕ) → ((a b : ℕ) (h : ℤ) → joins a b h → b < nodes) → ((a b : ℕ) (h : ℤ) → joins a b h → joins b a h) → IsFlooding joins source nodes levels labels old → TakesLowest levels old w new → HasJust (joins w.node) ways → IsPermutation (new ++ map (waiting_by w) (filter (is_open levels) ways)) more → IsLabelOf source w label → IsFlooding joins source nodes (set levels w.node (Some w.height.0)) (set labels w.node (Some label)) more
+settle joins source nodes levels labels old new more w ways label inside back s t just perm labelled =
+    let here = All-contains (λ x. (x.node < nodes) × HasWalk joins source x) old w s.waits t.was in
+    let least = lowest_is_least joins source nodes levels labels old new w inside s t in
+    let level_here : entry_of (set levels w.node (Some w.height.0)) w.node ≡ Some w.height.0 = get_or-set_same levels w.node (Some w.height.0) None (omega (arith, here.0, s.levels_size)) in
+    let label_here : entry_of (set labels w.node (Some label)) w.node ≡ Some label = get_or-set_same labels w.node (Some label) None (omega (arith, here.0, s.labels_size)) in
+    let level_there : (a : ℕ) → a ≢ w.node → entry_of (set levels w.node (Some w.height.0)) a ≡ entry_of levels a = λ a n. get_or-set_other levels w.node a (Some w.height.0) None n in
+    let label_there : (a : ℕ) → a ≢ w.node → entry_of (set labels w.node (Some label)) a ≡ entry_of labels a = λ a n. get_or-set_other labels w.node a (Some label) None n in
+    let other : (a : ℕ) → entry_of (set levels w.node (Some w.height.0)) a ≡ None → a ≢ w.node = λ a none e. none_some (entry_of (set levels w.node (Some w.height.0)) w.node) w.height.0 (subst (λ (n : ℕ). entry_of (set levels w.node (Some w.height.0)) n ≡ None) e none) level_here in
+    let still : (a : ℕ) (h : ℤ) → a ≢ w.node → entry_of levels a ≡ None → SomeWaits old a h → SomeWaits more a h = λ a h n none x.
+    elim (All-contains (λ y. IsDone levels y ⊎ (y ≡ w) ⊎ Contains new y) old x.0 t.kept x.1) [
+      | inl done ↦ none_done (entry_of levels x.0.node) (ap (λ k. entry_of levels k) x.2 ∙ none) done
+      | inr open_still ↦ elim open_still [
+        | inl same ↦ absurd (n (sym x.2 ∙ ap (λ (y : Waiting). y.node) same))
+        | inr held ↦ (x.0, Contains-permutation _ _ x.0 perm (Contains-append_left new (map (waiting_by w) (filter (is_open levels) ways)) x.0 held), x.2, x.3)
+      ]
+    ] in
+    record {
+      levels_size = length-set levels w.node (Some w.height.0) ∙ s.levels_size;
+      labels_size = length-set labels w.node (Some label) ∙ s.labels_size;
+      settled = λ a below. elim (cases_eq a w.node) [
+        | inl e ↦ subst (λ (n : ℕ). MatchOption (entry_of (set levels w.node (Some w.height.0)) n) (entry_of (set labels w.node (Some label)) n ≡ None) (λ l. (b : ℕ) × (entry_of (set labels w.node (Some label)) n ≡ Some b) × IsLevel joins source n l b)) (sym e)
+            (from_some (entry_of (set levels w.node (Some w.height.0)) w.node) _ _ w.height.0 level_here (label, label_here, level_of_lowest joins source w label here.1 least labelled))
+        | inr n ↦ elim (seen (entry_of levels a)) [
+          | inl none ↦ from_none (entry_of (set levels w.node (Some w.height.0)) a) _ _ (level_there a n ∙ none) (label_there a n ∙ at_none (entry_of levels a) _ _ none (s.settled a below))
+          | inr some ↦
+              let was = at_some (entry_of levels a) _ _ some.0 some.1 (s.settled a below) in
+              from_some (entry_of (set levels w.node (Some w.height.0)) a) _ _ some.0 (level_there a n ∙ some.1) (was.0, label_there a n ∙ was.1, was.2)
+        ]
+      ];
+      waits = all_by_contains (λ x. (x.node < nodes) × HasWalk joins source x) more (λ x h.
+          elim (Contains-append_cases new (map (waiting_by w) (filter (is_open levels) ways)) x (Contains-permutation _ _ x (IsPermutation-sym _ _ perm) h)) [
+            | inl held ↦ All-contains (λ y. (y.node < nodes) × HasWalk joins source y) old x s.waits (All-contains (Contains old) new x t.left held)
+            | inr made ↦
+                let way = Contains-map_from (waiting_by w) (record { to = 0; height = pos 0 }) (filter (is_open levels) ways) x made in
+                let joined = All-contains (λ z. joins w.node z.to z.height) (filter (is_open levels) ways) way.0 (All-filter (is_open levels) (λ z. joins w.node z.to z.height) ways just.only) way.1 in
+                let walk : HasWalk joins source (waiting_by w way.0) =
+                (record { to = w.node; height = way.0.height } ∷ here.1.0, (back w.node way.0.to way.0.height joined, here.1.1), ap (λ z. int_max way.0.height z) here.1.2, here.1.3) in
+                subst (λ (y : Waiting). (y.node < nodes) × HasWalk joins source y) way.2 (inside w.node way.0.to way.0.height joined, walk)
+          ]);
+      sources = λ a h below e none.
+          let n = other a none in
+          let was = sym (level_there a n) ∙ none in
+          still a h n was (s.sources a h below e was);
+      frontier = λ a b l h below joined e none.
+          let n = other a none in
+          let was = sym (level_there a n) ∙ none in
+          elim (cases_eq b w.node) [
+            | inl same ↦
+                let back_here : joins w.node a h = subst (λ (k : ℕ). joins k a h) same (back a b h joined) in
+                let level_is : w.height.0 ≡ l = same_Some _ _ (sym level_here ∙ subst (λ (k : ℕ). entry_of (set levels w.node (Some w.height.0)) k ≡ Some l) same e) in (
+                  waiting_by w (record { to = a; height = h }),
+                  Contains-permutation _ _ _ perm (Contains-append_right new (map (waiting_by w) (filter (is_open levels) ways)) _ (Contains-map (waiting_by w) (filter (is_open levels) ways) (record { to = a; height = h }) (Contains-filter (is_open levels) ways (record { to = a; height = h }) (just.every a h back_here) (ap is_none was)))),
+                  refl,
+                  le_max h w.height.0 l level_is,
+                )
+            | inr m ↦ still a (int_max h l) n was (s.frontier a b l h below joined (sym (level_there b m) ∙ e) was)
+          ];
+    } where
+      le_max : (h x l : ℤ) → x ≡ l → int_max h x ≤ℤ int_max h l
+      le_max h x l e = omega (arith, ints, clamps)
+
+-- one node fewer is without a level
+pub fewer_open : (levels : List (Option ℤ)) (a : ℕ) (l : ℤ) → a < length levels → entry_of levels a ≡ None → count_by is_none (set levels a (Some l)) < count_by is_none levels
+fewer_open levels a l below none =
+    let f : Option ℤ → ℕ = λ o. cond (is_none o) 1 0 in
+    let step = sum_by-set f levels a (Some l) None below in
+    let was = ap f none in
+    omega (arith, step, was)

@@ -1,0 +1,196 @@
+-- A tile is a window of its terrain: its paths are those of the window.
+use Rattle.std.proofs.Common.{◌≡◌, ℕ, ◌+◌, ◌-◌, ◌*◌, ◌<◌, inl, inr, ℤ, true, List, [], ◌∷◌, length, get_or, map, take, Option, None, Some, is_some, option_map, ◌∙◌, sym, ap, subst, refl, arith, length-drop, length-take-le}
+use Rattle.std.proofs.lemmas.Bool.{and_from, and_parts, or_cases, or_left, or_right, cond-true, cond-false, le-leb, lt-ltb, leb-true, ltb-true, eqb-true, eq-eqb, cases_Bool}
+use Rattle.std.proofs.lemmas.Nat.{mul-add-lt, div-mul-add, mod-mul-add}
+use Rattle.std.proofs.lemmas.List.{get_or-map, length-map}
+use Rattle.std.proofs.lemmas.Slice.{between_is}
+use Rattle.ascii_grid.specs.Raster.{Terrain}
+use Rattle.ascii_grid.specs.Neighbours.{height_at, IsDataCell}
+use Rattle.ascii_grid.specs.declared.place.Place.{Place}
+use Rattle.ascii_grid.proofs.Places.{same_place, entry-inside, inside_from_entry}
+use Rattle.tiles.specs.declared.bounds.Bounds.{Bounds}
+use Rattle.tiles.specs.Cutting.{Cutting, IsCutting, View, IsView, AreBounds, IsInBounds, IsInTile, IsWithin, tile_count, bounds_of, is_on_rim, is_first_or_last, row_shown, terrain_of}
+use Rattle.tiles.proofs.Cut.{in_bounds, in_tile, bounds_inside}
+use Rattle.tiles.proofs.Shown.{row_end, get_or-row_shown}
+use Rattle.fill.specs.Walk.{IsFlooded}
+use Rattle.fill.specs.Cells.{Cells, node_at, IsNetOf, IsCellJoin, source_of, bordered_rows, inner_rows, place_of_node, window_of}
+use Rattle.fill.specs.TileFlood.{IsTileSource, IsTilePath, IsTileLevel, Flood, is_in_bounds, entry_in, IsFlood, IsTileFlood}
+use Rattle.fill.proofs.Steps.{seen, none_some, from_some, from_none}
+use Rattle.fill.proofs.Borders.{AreRows, ShowRows, net_of_rows}
+use Rattle.fill.proofs.Windows.{IsOnRim, IsWindowSource, IsWindowPath, data_is}
+use Rattle.fill.proofs.WindowLevels.{IsWindowLevel, window_level, window_none}
+use Rattle.fill.proofs.WholeGrid.{inner_rows_at, length-inner_rows}
+
+-- places in bounds, and what lists in their row order have there
+pub in_bounds_parts : (b : Bounds) (p : Place) → is_in_bounds b p ≡ true → IsInBounds b p
+in_bounds_parts b p e =
+    let a = and_parts _ _ e in
+    let d = and_parts _ _ a.0 in
+    let f = and_parts _ _ d.0 in
+    (leb-true _ _ f.0, ltb-true _ _ f.1, leb-true _ _ d.1, ltb-true _ _ a.1)
+
+pub in_bounds_from : (b : Bounds) (p : Place) → IsInBounds b p → is_in_bounds b p ≡ true
+in_bounds_from b p h = and_from _ _ (and_from _ _ (and_from _ _ (le-leb _ _ h.0) (lt-ltb _ _ h.1)) (le-leb _ _ h.2)) (lt-ltb _ _ h.3)
+
+pub entry_in-inside : {X : Type 0} (b : Bounds) (xs : List (Option X)) (p : Place) → IsInBounds b p → entry_in b xs p ≡ get_or xs ((p.row - b.top) * b.cols + (p.col - b.left)) None
+entry_in-inside b xs p h = cond-true _ _ _ (in_bounds_from b p h)
+
+pub bounds_from_entry : {X : Type 0} (b : Bounds) (xs : List (Option X)) (p : Place) (x : X) → entry_in b xs p ≡ Some x → IsInBounds b p
+bounds_from_entry b xs p x e = elim (cases_Bool (is_in_bounds b p)) [
+  | inl inside ↦ in_bounds_parts b p inside
+  | inr outside ↦ none_some _ x (cond-false _ _ _ outside) e
+]
+
+pub entry_index : (b : Bounds) (p : Place) → IsInBounds b p → (p.row - b.top) * b.cols + (p.col - b.left) < b.rows * b.cols
+entry_index b p h = omega (arith, mul-add-lt (p.row - b.top) b.cols (p.col - b.left) b.rows (omega (arith, h)) (omega (arith, h)))
+
+-- the rows of a view
+row_shown_length : (v : View (Option ℤ)) → IsView v → AreRows (row_shown v) (bounds_of v.cutting v.tile).cols (bounds_of v.cutting v.tile).rows
+row_shown_length v is r below =
+    let b = bounds_of v.cutting v.tile in
+    let end = row_end v.cutting b r (bounds_inside v.cutting v.tile is.cutting is.tile) below in
+    let from = (b.top + r) * v.cutting.cols + b.left in
+    ap length (between_is v.cells from (from + b.cols)) ∙ length-drop from (take (from + b.cols) v.cells)
+    ∙ ap (λ n. n - from) (length-take-le (from + b.cols) v.cells (omega (arith, end, is.size))) ∙ omega arith
+
+row_shown_cells : (v : View (Option ℤ)) → IsView v → ShowRows (terrain_of v) (window_of (bounds_of v.cutting v.tile)) (row_shown v)
+row_shown_cells v is r c below inside =
+    let b = bounds_of v.cutting v.tile in
+    let all = bounds_inside v.cutting v.tile is.cutting is.tile in
+    get_or-row_shown v r c None inside
+    ∙ sym (entry-inside v.cutting.cols v.cutting.rows v.cells (record { row = b.top + r; col = b.left + c }) (omega (arith, below, all.rows_inside)) (omega (arith, inside, all.cols_inside)))
+
+pub net_of_view : (v : View (Option ℤ)) (b : Bounds) (items : List (Option ℤ)) → IsView v → b ≡ bounds_of v.cutting v.tile → items ≡ bordered_rows (row_shown v) ((bounds_of v.cutting v.tile).cols + 2) (bounds_of v.cutting v.tile).rows → IsNetOf (terrain_of v) (window_of (bounds_of v.cutting v.tile)) (record { stride = b.cols + 2; cells = items })
+net_of_view v b items is same are = rw (same, are) (net_of_rows (terrain_of v) (window_of (bounds_of v.cutting v.tile)) (row_shown v) (row_shown_length v is) (row_shown_cells v is))
+
+-- sources and paths of a tile
+pub rim_of_tile : (c : Cutting) (tile : ℕ) (p : Place) → IsInTile c tile p → IsOnRim (window_of (bounds_of c tile)) p → is_on_rim c p ≡ true
+rim_of_tile c tile p i rim = subst (λ n. is_first_or_last (bounds_of c n) p ≡ true) (sym i.1) (at rim) where
+  b : Bounds
+  b = bounds_of c tile
+
+  at : IsOnRim (window_of b) p → is_first_or_last b p ≡ true
+  at (inl e) = or_left _ _ (or_left _ _ (or_left _ _ (eq-eqb _ _ e)))
+  at (inr (inl e)) = or_left _ _ (or_left _ _ (or_right _ _ (eq-eqb _ _ e)))
+  at (inr (inr (inl e))) = or_left _ _ (or_right _ _ (eq-eqb _ _ e))
+  at (inr (inr (inr e))) = or_right _ _ (eq-eqb _ _ e)
+
+rim_of_window : (c : Cutting) (tile : ℕ) (p : Place) → IsInTile c tile p → is_on_rim c p ≡ true → IsOnRim (window_of (bounds_of c tile)) p
+rim_of_window c tile p i e = at (subst (λ n. is_first_or_last (bounds_of c n) p ≡ true) i.1 e) where
+  at : is_first_or_last (bounds_of c tile) p ≡ true → IsOnRim (window_of (bounds_of c tile)) p
+  at e = elim (or_cases _ _ e) [
+    | inr last ↦ inr (inr (inr (eqb-true _ _ last)))
+    | inl three ↦ elim (or_cases _ _ three) [
+      | inr left ↦ inr (inr (inl (eqb-true _ _ left)))
+      | inl two ↦ elim (or_cases _ _ two) [
+        | inr bottom ↦ inr (inl (eqb-true _ _ bottom))
+        | inl top ↦ inl (eqb-true _ _ top)
+      ]
+    ]
+  ]
+
+tile_source : (t : Terrain) (c : Cutting) (tile : ℕ) (p : Place) → IsInTile c tile p → IsWindowSource t (window_of (bounds_of c tile)) p → IsTileSource t c p
+tile_source t c tile p i source = elim source.1 [ inl rim ↦ inl (source.0, rim_of_tile c tile p i rim) | inr gap ↦ inr (source.0, gap) ]
+
+window_source : (t : Terrain) (c : Cutting) (tile : ℕ) (p : Place) → IsInTile c tile p → IsTileSource t c p → IsWindowSource t (window_of (bounds_of c tile)) p
+window_source t c tile p i (inl rim) = (rim.0, inl (rim_of_window c tile p i rim.1))
+window_source t c tile p i (inr edge) = (edge.0, inr edge.1)
+
+pub data_within : (t : Terrain) (c : Cutting) (p : Place) → (c.cols ≡ t.cols) × (c.rows ≡ t.rows) → IsDataCell t p → IsWithin c p
+data_within t c p cuts some =
+    let inside = inside_from_entry t.cols t.rows t.cells p (data_is (height_at t p) some).0 (data_is (height_at t p) some).1 in
+    (omega (arith, inside, cuts), omega (arith, inside, cuts))
+
+tile_path : (t : Terrain) (c : Cutting) (tile : ℕ) → IsCutting c → tile < tile_count c → (p : Place) (rest : List Place) → IsInTile c tile p → IsWindowPath t (window_of (bounds_of c tile)) p rest → IsTilePath t c p rest
+tile_path t c tile h l p [] i path = tile_source t c tile p i path
+tile_path t c tile h l p (q ∷ rest) i path =
+    let j = in_tile c tile q h l path.1 in
+    (path.0, j.1 ∙ sym i.1, tile_path t c tile h l q rest j path.2)
+
+window_path : (t : Terrain) (c : Cutting) (tile : ℕ) → IsCutting c → (c.cols ≡ t.cols) × (c.rows ≡ t.rows) → (p : Place) (rest : List Place) → IsInTile c tile p → IsTilePath t c p rest → IsWindowPath t (window_of (bounds_of c tile)) p rest
+window_path t c tile h cuts p [] i path = window_source t c tile p i path
+window_path t c tile h cuts p (q ∷ rest) i path =
+    let j : IsInTile c tile q = (data_within t c q cuts path.0.to_data, path.1 ∙ i.1) in
+    (path.0, in_bounds c tile q h j, window_path t c tile h cuts q rest j path.2)
+
+tile_level : (t : Terrain) (c : Cutting) (tile : ℕ) → IsCutting c → tile < tile_count c → (c.cols ≡ t.cols) × (c.rows ≡ t.rows) → (p label : Place) (level : ℤ) → IsInTile c tile p → IsWindowLevel t (window_of (bounds_of c tile)) p level label → IsTileLevel t c p level label
+tile_level t c tile h l cuts p label level i w = record {
+  reached = (w.reached.0, tile_path t c tile h l p w.reached.0 i w.reached.1, w.reached.2, w.reached.3);
+  least = λ rest path. w.least rest (window_path t c tile h cuts p rest i path);
+  own = λ source height. w.own (window_source t c tile p i source) height;
+}
+
+-- a node's place
+place_back : (b : Bounds) (p : Place) → IsInBounds b p → place_of_node b.top b.left b.cols (node_at (window_of b) p) ≡ p
+place_back b p i =
+    let col : p.col - b.left + 1 < b.cols + 2 = omega (arith, i) in
+    same_place _ p
+    (ap (λ n. b.top + n - 1) (div-mul-add (p.row - b.top + 1) (b.cols + 2) (p.col - b.left + 1) col) ∙ omega (arith, i))
+    (ap (λ n. b.left + n - 1) (mod-mul-add (p.row - b.top + 1) (b.cols + 2) (p.col - b.left + 1) col) ∙ omega (arith, i))
+
+-- what the lists of a tile have at a place, in those of its net
+inner_entry : {X : Type 0} (b : Bounds) (list : List (Option X)) (p : Place) → length list ≡ (b.rows + 2) * (b.cols + 2) → IsInBounds b p → entry_in b (inner_rows list b.cols b.rows) p ≡ get_or list (node_at (window_of b) p) None
+inner_entry b list p size i =
+    entry_in-inside b (inner_rows list b.cols b.rows) p i
+    ∙ inner_rows_at list b.cols b.rows (omega (arith, size)) (p.row - b.top) (p.col - b.left) (omega (arith, i)) (omega (arith, i))
+
+mapped_entry : {X Y : Type 0} (f : X → Y) (b : Bounds) (xs : List (Option X)) (p : Place) → length xs ≡ b.rows * b.cols → IsInBounds b p → entry_in b (map (option_map f) xs) p ≡ option_map f (entry_in b xs p)
+mapped_entry f b xs p size i =
+    entry_in-inside b (map (option_map f) xs) p i
+    ∙ get_or-map (option_map f) xs _ None None (omega (arith, size, entry_index b p i))
+    ∙ ap (option_map f) (sym (entry_in-inside b xs p i))
+
+-- The lists of a flood of a tile, from those of its net.
+abbrev pub FloodLists : Bounds → List (Option ℤ) → List (Option ℕ) → Flood
+FloodLists b levels labels = record {
+  bounds = b;
+  levels = inner_rows levels b.cols b.rows;
+  labels = map (option_map (place_of_node b.top b.left b.cols)) (inner_rows labels b.cols b.rows);
+}
+
+pub flood_lists_sound : (c : Cutting) (b : Bounds) (levels : List (Option ℤ)) (labels : List (Option ℕ)) → IsCutting c → AreBounds c b → length levels ≡ (b.rows + 2) * (b.cols + 2) → length labels ≡ (b.rows + 2) * (b.cols + 2) → IsFlood (FloodLists b levels labels)
+flood_lists_sound c b levels labels h all a d = record {
+  few_rows = omega (arith, all.rows_inside, h.few_rows);
+  few_cols = omega (arith, all.cols_inside, h.few_cols);
+  levels_size = length-inner_rows levels b.cols b.rows (omega (arith, a));
+  labels_size = length-map (inner_rows labels b.cols b.rows) (option_map (place_of_node b.top b.left b.cols)) ∙ length-inner_rows labels b.cols b.rows (omega (arith, d));
+}
+
+pub tile_flooded : (t : Terrain) (c : Cutting) (tile : ℕ) (n : Cells) (levels : List (Option ℤ)) (labels : List (Option ℕ)) → IsCutting c → tile < tile_count c → (c.cols ≡ t.cols) × (c.rows ≡ t.rows) → IsNetOf t (window_of (bounds_of c tile)) n → IsFlooded (IsCellJoin n) (source_of n) (length n.cells) levels labels → IsTileFlood t c tile (FloodLists (bounds_of c tile) levels labels)
+tile_flooded t c tile n levels labels h l cuts net flooded =
+    let b = bounds_of c tile in
+    let w = window_of b in
+    let size : length levels ≡ (b.rows + 2) * (b.cols + 2) = flooded.levels_size ∙ net.size in
+    let labels_long : length labels ≡ (b.rows + 2) * (b.cols + 2) = flooded.labels_size ∙ net.size in
+    let sound = flood_lists_sound c b levels labels h (bounds_inside c tile h l) size labels_long in
+    record {
+      bounds = refl;
+      levels_size = sound.levels_size;
+      labels_size = sound.labels_size;
+      each = λ p i.
+          let inside = in_bounds c tile p h i in
+          let level = inner_entry b levels p size inside in
+          let node = inner_entry b labels p labels_long inside in
+          let label = mapped_entry (place_of_node b.top b.left b.cols) b (inner_rows labels b.cols b.rows) p (length-inner_rows labels b.cols b.rows (omega (arith, labels_long))) inside ∙ ap (option_map (place_of_node b.top b.left b.cols)) node in
+          elim (seen (height_at t p)) [
+            | inl none ↦
+                let both = window_none t w n levels labels net flooded p inside none (omega (arith, net.size, mul-add-lt (p.row - b.top + 1) (b.cols + 2) (p.col - b.left + 1) (b.rows + 2) (omega (arith, inside)) (omega (arith, inside)))) in
+                from_none (height_at t p) _ _ none (level ∙ both.0, label ∙ ap (option_map (place_of_node b.top b.left b.cols)) both.1)
+            | inr found ↦
+                let here = window_level t w n levels labels net flooded p inside (ap is_some found.1) in
+                from_some (height_at t p) _ _ found.0 found.1 (
+                  here.level,
+                  here.label,
+                  level ∙ here.level_is,
+                  label ∙ ap (option_map (place_of_node b.top b.left b.cols)) here.label_is ∙ ap Some (place_back b here.label here.inside),
+                  tile_level t c tile h l cuts p here.label here.level i here.right,
+                )
+          ];
+    }
+
+pub tile_flood_is : (t : Terrain) (c : Cutting) (tile : ℕ) (n : Cells) (b : Bounds) (levels levels_in : List (Option ℤ)) (labels nodes_in : List (Option ℕ)) (labels_in : List (Option Place)) → IsCutting c → tile < tile_count c → (c.cols ≡ t.cols) × (c.rows ≡ t.rows) → IsNetOf t (window_of (bounds_of c tile)) n → IsFlooded (IsCellJoin n) (source_of n) (length n.cells) levels labels → b ≡ bounds_of c tile → levels_in ≡ inner_rows levels b.cols b.rows → nodes_in ≡ inner_rows labels b.cols b.rows → labels_in ≡ map (option_map (place_of_node b.top b.left b.cols)) nodes_in → IsTileFlood t c tile (record { bounds = b; levels = levels_in; labels = labels_in }) × IsFlood (record { bounds = b; levels = levels_in; labels = labels_in })
+tile_flood_is t c tile n b levels levels_in labels nodes_in labels_in h l cuts net flooded same x y z =
+    rw (z, y, x, same) (
+      tile_flooded t c tile n levels labels h l cuts net flooded,
+      flood_lists_sound c (bounds_of c tile) levels labels h (bounds_inside c tile h l) (flooded.levels_size ∙ net.size) (flooded.labels_size ∙ net.size),
+    )

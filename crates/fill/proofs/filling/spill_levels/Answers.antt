@@ -1,0 +1,21 @@
+use Rattle.std.proofs.Common.{◌≡◌, ◌*◌, length, Vec, Global, Option, ℤ, ◌∙◌}
+use Rattle.std.proofs.lemmas.Result.{IfOk-weaker}
+use Rattle.ascii_grid.specs.Raster.{Terrain}
+use Rattle.fill.specs.Spills.{AreFloods, AreSpillLevels, AreLevelsOf}
+use Rattle.fill.proofs.filling.spill_levels.Goals as goal
+
+pub returns-clause-levels : goal.returns-clause-levels
+returns-clause-levels c =
+    IfOk-weaker c.levels.result
+    (λ (v : Vec (Option ℤ) Global). AreLevelsOf c.in_ok-graph.graph v.items)
+    (λ (v : Vec (Option ℤ) Global). (t : Terrain) → AreFloods t c.args.tiling.now c.args.floods.now → AreSpillLevels t c.args.tiling.now c.args.floods.now v.items)
+    (λ v l t are. (c.in_ok-graph.graph, c.in_ok-graph.ensures t are, l))
+    c.levels.ensures
+
+pub returns-clause-size : goal.returns-clause-size
+returns-clause-size c =
+    IfOk-weaker c.levels.result
+    (λ (v : Vec (Option ℤ) Global). AreLevelsOf c.in_ok-graph.graph v.items)
+    (λ (v : Vec (Option ℤ) Global). length v.items ≡ c.args.tiling.now.cols * c.args.tiling.now.rows)
+    (λ v l. l.1.levels_size ∙ (c.in_ok-graph.ensures c.requires.0 c.requires.1).count)
+    c.levels.ensures

@@ -1,0 +1,80 @@
+-- The state of a flood: settled nodes with their levels, and nodes that wait with a walk each.
+use Rattle.std.specs.Prelude.{◌≡◌, ℕ, ◌<◌, ◌⊎◌, ℤ, ◌≤ℤ◌, List, length, Option, None, Some, IsSome, MatchOption, Bool, is_none, map, filter, slice_index_or, ◌++◌}
+use Rattle.std.specs.Ordering.{nat_cmp, int_cmp, ordering_then}
+use Rattle.std.specs.declared.cmp.Ordering.{Ordering}
+use Rattle.fill.specs.declared.flooding.Waiting.{Waiting}
+use Rattle.std.specs.Int.{int_max}
+use Rattle.std.specs.List.{Contains, All}
+use Rattle.fill.specs.Walk.{Joins, Sources, IsWalk, crest, end_of, IsLevel, HasJust}
+use Rattle.std.specs.List.Sorted.{IsPermutation}
+use Rattle.fill.specs.declared.net.Spill.{Spill}
+
+-- The least height first. Ties go by node and label.
+abbrev pub waiting_order : Waiting → Waiting → Ordering
+waiting_order x y = ordering_then (int_cmp y.height.0 x.height.0) (ordering_then (nat_cmp x.node y.node) (nat_cmp x.label y.label))
+
+-- The entry of a node, None past the end.
+abbrev pub entry_of : {X : Type 0} → List (Option X) → ℕ → Option X
+entry_of xs a = slice_index_or xs a None
+
+-- A node that waits already has a level.
+abbrev pub IsDone : List (Option ℤ) → Waiting → Type 0
+IsDone levels w = IsSome (entry_of levels w.node)
+
+-- The first node without a level has left the heap, and perhaps others that have one.
+pub record TakesLowest (levels : List (Option ℤ)) (old : List Waiting) (w : Waiting) (new : List Waiting) : Type 0 where
+  pub was_open : entry_of levels w.node ≡ None
+  pub was : Contains old w
+  pub lowest : All (λ x. IsDone levels x ⊎ (w.height.0 ≤ℤ x.height.0)) old
+  pub left : All (Contains old) new
+  pub kept : All (λ x. IsDone levels x ⊎ (x ≡ w) ⊎ Contains new x) old
+
+-- A way from a node that waits makes its neighbour wait.
+abbrev pub waiting_by : Waiting → Spill → Waiting
+waiting_by from way = record { height = record { 0 = int_max way.height from.height.0 }; node = way.to; label = from.label }
+
+-- Each source waits at its height, and nothing else does.
+pub record SourcesWait (nodes : ℕ) (source : Sources) (waiting : List Waiting) : Type 0 where
+  pub only : All (λ w. (w.node < nodes) × (source w.node ≡ Some w.height.0) × (w.label ≡ w.node)) waiting
+  pub every : (a : ℕ) (h : ℤ) → a < nodes → source a ≡ Some h →
+      (w : Waiting) × Contains waiting w × (w.node ≡ a) × (w.height.0 ≡ h)
+
+-- Some entry of the node is not above the height.
+abbrev pub SomeWaits : List Waiting → ℕ → ℤ → Type 0
+SomeWaits waiting a h = (w : Waiting) × Contains waiting w × (w.node ≡ a) × (w.height.0 ≤ℤ h)
+
+-- A walk from the node has this crest and ends at the label.
+abbrev pub HasWalk : Joins → Sources → Waiting → Type 0
+HasWalk joins source w =
+    (walk : List Spill) × IsWalk joins source w.node walk × (crest source w.node walk ≡ w.height.0) × (end_of w.node walk ≡ w.label)
+
+-- The state of a flood: nodes with a level have their final one; of the others each source waits,
+-- and so does each neighbour of a node with a level.
+pub record IsFlooding (joins : Joins) (source : Sources) (nodes : ℕ) (levels : List (Option ℤ)) (labels : List (Option ℕ)) (waiting : List Waiting) : Type 0 where
+  pub levels_size : length levels ≡ nodes
+  pub labels_size : length labels ≡ nodes
+  pub settled : (a : ℕ) → a < nodes →
+      MatchOption (entry_of levels a) (entry_of labels a ≡ None)
+      (λ l. (b : ℕ) × (entry_of labels a ≡ Some b) × IsLevel joins source a l b)
+  pub waits : All (λ w. (w.node < nodes) × HasWalk joins source w) waiting
+  pub sources : (a : ℕ) (h : ℤ) → a < nodes → source a ≡ Some h → entry_of levels a ≡ None → SomeWaits waiting a h
+  pub frontier : (a b : ℕ) (l h : ℤ) → a < nodes → joins a b h → entry_of levels b ≡ Some l → entry_of levels a ≡ None → SomeWaits waiting a (int_max h l)
+
+-- What has left the heap so far has a level.
+pub record OnlyDoneLeft (levels : List (Option ℤ)) (old new : List Waiting) : Type 0 where
+  pub left : All (Contains old) new
+  pub kept : All (λ x. IsDone levels x ⊎ Contains new x) old
+
+-- A source whose level is its own height is its own label; any other node has that of its walk.
+abbrev pub IsLabelOf : Sources → Waiting → ℕ → Type 0
+IsLabelOf source w label = (source w.node ≡ Some w.height.0) × (label ≡ w.node) ⊎ (source w.node ≡ Some w.height.0 → ⊥) × (label ≡ w.label)
+
+-- The way leads to a node that has no level yet.
+abbrev pub is_open : List (Option ℤ) → Spill → Bool
+is_open levels way = is_none (entry_of levels way.to)
+
+-- Each neighbour of the node that has no level yet now waits behind it.
+abbrev pub Spreads : Joins → List (Option ℤ) → Waiting → List Waiting → List Waiting → Type 0
+Spreads joins levels from old new =
+    (ways : List Spill) × HasJust (joins from.node) ways
+    × IsPermutation (old ++ map (waiting_by from) (filter (is_open levels) ways)) new

@@ -1,0 +1,109 @@
+-- How the joins of a spill graph are gathered from the floods of the tiles.
+use Rattle.std.specs.Prelude.{◌≡◌, ◌≢◌, ℕ, ◌-◌, ◌*◌, ◌/◌, ◌%◌, ◌<◌, ◌≤◌, ◌⊎◌, ◌==◌, if◌then◌else◌, ℤ, ◌≤ℤ◌, List, [], ◌∷◌, length, Option, None, Some, MatchOption, slice_get, slice_index_or}
+use Rattle.std.specs.Int.{int_max}
+use Rattle.std.specs.List.{Contains, All}
+use Rattle.ascii_grid.specs.Neighbours.{index_of, Touches}
+use Rattle.ascii_grid.specs.declared.place.Place.{Place}
+use Rattle.tiles.specs.Cutting.{Cutting, tile_count, bounds_of}
+use Rattle.fill.specs.TileFlood.{Flood, LabelsInside}
+use Rattle.fill.specs.Spills.{level_among, label_among, Graph}
+use Rattle.fill.specs.declared.spills.Join.{Join}
+use Rattle.fill.specs.declared.marks.Mark.{Mark}
+use Rattle.fill.specs.declared.net.Spill.{Spill}
+
+-- The floods are of this cutting's tiles, and their labels lie in the grid.
+pub record Fit (c : Cutting) (floods : List Flood) : Type 0 where
+  pub count : length floods ≡ tile_count c
+  pub bounds : (tile : ℕ) (f : Flood) → slice_get floods tile ≡ Some f → f.bounds ≡ bounds_of c tile
+  pub labels : (tile : ℕ) (f : Flood) → slice_get floods tile ≡ Some f → LabelsInside c f
+  pub sizes : (tile : ℕ) (f : Flood) → slice_get floods tile ≡ Some f → length f.labels ≡ f.bounds.rows * f.bounds.cols
+
+-- A cell's level with its label's number.
+abbrev pub mark_of : ℕ → Option ℤ → Option Place → Option Mark
+mark_of cols (Some level) (Some label) = Some (record { level = level; node = index_of cols label })
+mark_of cols (Some level) None = None
+mark_of cols None label = None
+
+abbrev pub mark_among : Cutting → List Flood → Place → Option Mark
+mark_among c floods p = mark_of c.cols (level_among c floods p) (label_among c floods p)
+
+-- Cells that touch carry the two labels of the join, and its height is the greater of their levels.
+pub record Meets (c : Cutting) (floods : List Flood) (p q : Place) (j : Join) : Type 0 where
+  pub touches : Touches p q
+  pub from_level : ℤ
+  pub to_level : ℤ
+  pub from_is : mark_among c floods p ≡ Some (record { level = from_level; node = j.from })
+  pub to_is : mark_among c floods q ≡ Some (record { level = to_level; node = j.to })
+  pub different : j.from ≢ j.to
+  pub greater : int_max from_level to_level ≡ j.height
+
+abbrev pub IsMeeting : Cutting → List Flood → Join → Type 0
+IsMeeting c floods j = (p q : Place) × Meets c floods p q j
+
+-- The joins that two marks give: one, where their labels differ.
+abbrev pub joins_of : Mark → Option Mark → List Join
+joins_of from None = []
+joins_of from (Some to) =
+    if from.node == to.node then [] else (record { from = from.node; to = to.node; height = int_max from.level to.level }) ∷ []
+
+-- The joins of these places have been added, and no others.
+pub record Adds (c : Cutting) (floods : List Flood) (places : Place → Type 0) (old new : List Join) : Type 0 where
+  pub kept : (j : Join) → Contains old j → Contains new j
+  pub only : (j : Join) → Contains new j → Contains old j ⊎ IsMeeting c floods j
+  pub every : (p q : Place) (j : Join) → places p → Meets c floods p q j → Contains new j
+
+-- A join of the same labels that is not higher.
+abbrev pub Covered : List Join → Join → Type 0
+Covered joins j = (k : Join) × Contains joins k × (k.from ≡ j.from) × (k.to ≡ j.to) × (k.height ≤ℤ j.height)
+
+-- The first join has labels before those of the second.
+abbrev pub IsBefore : Join → Join → Type 0
+IsBefore j k = (j.from < k.from) ⊎ ((j.from ≡ k.from) × (j.to < k.to))
+
+-- The joins rise by their labels.
+abbrev pub AreRising : List Join → Type 0
+AreRising joins = (m n : ℕ) (d : Join) → m < n → n < length joins → IsBefore (slice_index_or joins m d) (slice_index_or joins n d)
+
+-- Of the joins of two labels only a lowest is left, and they rise by their labels.
+pub record AreLowest (joins lowest : List Join) : Type 0 where
+  pub only : (j : Join) → Contains lowest j → Contains joins j
+  pub every : (j : Join) → Contains joins j → Covered lowest j
+  pub rising : AreRising lowest
+
+-- The joins of the places of the first tiles, each as low as those that were met.
+pub record AreGathered (c : Cutting) (floods : List Flood) (places : Place → Type 0) (joins : List Join) : Type 0 where
+  pub only : (j : Join) → Contains joins j → IsMeeting c floods j
+  pub every : (p q : Place) (j : Join) → places p → Meets c floods p q j → Covered joins j
+
+-- A place outside or without data touches the place.
+abbrev pub HasGapAmong : Cutting → List Flood → Place → Type 0
+HasGapAmong c floods p = (p.row ≡ 0) ⊎ (p.col ≡ 0) ⊎ ((q : Place) × Touches p q × (mark_among c floods q ≡ None))
+
+-- The place is its own label, with a gap around it.
+pub record IsSpillSource (c : Cutting) (floods : List Flood) (p : Place) (height : ℤ) : Type 0 where
+  pub mark : mark_among c floods p ≡ Some (record { level = height; node = index_of c.cols p })
+  pub gap : HasGapAmong c floods p
+
+abbrev pub IsSourceEntry : Cutting → List Flood → Place → Option ℤ → Type 0
+IsSourceEntry c floods p o = MatchOption o ((h : ℤ) → IsSpillSource c floods p h → ⊥) (λ h. IsSpillSource c floods p h)
+
+-- What holds of every graph.
+pub record IsGraph (g : Graph) : Type 0 where
+  pub few : g.nodes ≤ 16777216
+  pub sources : length g.sources ≡ g.nodes
+  pub ends : All (λ j. (j.from < g.nodes) × (j.to < g.nodes)) g.joins
+  pub back : (j : Join) → Contains g.joins j → Contains g.joins (record { from = j.to; to = j.from; height = j.height })
+  pub rising : (m n : ℕ) (d : Join) → m ≤ n → n < length g.joins → (slice_index_or g.joins m d).from ≤ (slice_index_or g.joins n d).from
+
+-- The join before this one is of the same labels.
+abbrev pub IsRepeat : List Join → ℕ → Type 0
+IsRepeat joins i = (0 < i) × ((d : Join) → ((slice_index_or joins (i - 1) d).from ≡ (slice_index_or joins i d).from) × ((slice_index_or joins (i - 1) d).to ≡ (slice_index_or joins i d).to))
+
+-- The entries of the first places in row order, each its place's height where that is a source.
+pub record AreSources (c : Cutting) (floods : List Flood) (count : ℕ) (sources : List (Option ℤ)) : Type 0 where
+  pub size : length sources ≡ count
+  pub each : (k : ℕ) → k < count → IsSourceEntry c floods (record { row = k / c.cols; col = k % c.cols }) (slice_index_or sources k None)
+
+-- The way from the first label of a join.
+abbrev pub way_of : Join → Spill
+way_of j = record { to = j.to; height = j.height }

@@ -1,0 +1,7 @@
+pub mod Walk
+pub mod Flood
+pub mod Cells
+pub mod CellJoins
+pub mod TileFlood
+pub mod Spills
+pub mod Gathering

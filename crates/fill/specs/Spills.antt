@@ -1,0 +1,113 @@
+-- The spill graph: how the labels of all tiles are joined, and the levels that it gives them.
+use Rattle.std.specs.Prelude.{◌≡◌, ◌≢◌, ℕ, ◌*◌, ◌<◌, ℤ, ◌≤ℤ◌, List, length, Option, None, Some, MatchOption, Vec, slice_get, slice_index_or, option_and_then}
+use Rattle.std.specs.declared.alloc.Global.{Global}
+use Rattle.std.specs.Int.{int_max}
+use Rattle.std.specs.List.{Contains}
+use Rattle.ascii_grid.specs.Raster.{Raster, Terrain}
+use Rattle.ascii_grid.specs.Neighbours.{height_at, index_of, IsNeighbour, IsEdge}
+use Rattle.ascii_grid.specs.Filled.{IsFilled, IsFilledHeight}
+use Rattle.ascii_grid.specs.declared.place.Place.{Place}
+use Rattle.tiles.specs.Cutting.{Cutting, IsCutting, Cuts, tile_count, tile_of_place, IsInTile, tile_entry, cell_count}
+use Rattle.fill.specs.TileFlood.{Flood, IsTileFlood, level_in, label_in}
+use Rattle.fill.specs.Walk.{IsFlooded}
+use Rattle.fill.specs.declared.spills.Join.{Join}
+
+-- One flood for each tile, in tile order.
+pub record AreFloods (t : Terrain) (c : Cutting) (floods : List Flood) : Type 0 where
+  pub lawful : IsCutting c
+  pub cuts : Cuts c t
+  pub count : length floods ≡ tile_count c
+  pub each : (tile : ℕ) (f : Flood) → slice_get floods tile ≡ Some f → IsTileFlood t c tile f
+
+-- A cell's level and label in the flood of its tile.
+abbrev pub level_among : Cutting → List Flood → Place → Option ℤ
+level_among c floods p = option_and_then (λ f. level_in f p) (slice_get floods (tile_of_place c p))
+
+abbrev pub label_among : Cutting → List Flood → Place → Option Place
+label_among c floods p = option_and_then (λ f. label_in f p) (slice_get floods (tile_of_place c p))
+
+-- The cell carries the label with this number.
+abbrev pub Carries : Cutting → List Flood → Place → ℕ → Type 0
+Carries c floods p a = (label : Place) × (label_among c floods p ≡ Some label) × (index_of c.cols label ≡ a)
+
+-- Two neighbouring cells carry these labels, and the greater of their levels is this height.
+pub record IsPass (t : Terrain) (c : Cutting) (floods : List Flood) (a b : ℕ) (height : ℤ) : Type 0 where
+  pub from : Place
+  pub to : Place
+  pub from_level : ℤ
+  pub to_level : ℤ
+  pub neighbours : IsNeighbour t from to
+  pub from_label : Carries c floods from a
+  pub to_label : Carries c floods to b
+  pub from_is : level_among c floods from ≡ Some from_level
+  pub to_is : level_among c floods to ≡ Some to_level
+  pub greater : int_max from_level to_level ≡ height
+
+-- Two labels are joined at the least height of their passes.
+pub record IsJoined (t : Terrain) (c : Cutting) (floods : List Flood) (a b : ℕ) (height : ℤ) : Type 0 where
+  pub different : a ≢ b
+  pub pass : IsPass t c floods a b height
+  pub least : (other : ℤ) → IsPass t c floods a b other → height ≤ℤ other
+
+-- What contracts see of a spill graph: its nodes, its joins, each both ways, and its sources.
+pub record Graph : Type 0 where
+  pub nodes : ℕ
+  pub joins : List Join
+  pub sources : List (Option ℤ)
+
+pub record HasJoin (g : Graph) (a b : ℕ) (height : ℤ) : Type 0 where
+  pub from_node : a < g.nodes
+  pub to_node : b < g.nodes
+  pub there : Contains g.joins (record { from = a; to = b; height = height })
+  pub back : Contains g.joins (record { from = b; to = a; height = height })
+
+abbrev pub source_in : Graph → ℕ → Option ℤ
+source_in g a = slice_index_or g.sources a None
+
+-- A label that is an edge cell is a source, at its height.
+pub record AreSpillSources (t : Terrain) (c : Cutting) (floods : List Flood) (g : Graph) : Type 0 where
+  pub each : (p : Place) (h : ℤ) → Carries c floods p (index_of c.cols p) → IsEdge t p → height_at t p ≡ Some h → source_in g (index_of c.cols p) ≡ Some h
+  pub only : (a : ℕ) (h : ℤ) → source_in g a ≡ Some h →
+      (p : Place) × (index_of c.cols p ≡ a) × Carries c floods p a × IsEdge t p × (height_at t p ≡ Some h)
+
+-- The graph of these floods: its nodes, joins and sources. A node's number is its label's place in row order.
+pub record IsGraphOf (t : Terrain) (c : Cutting) (floods : List Flood) (g : Graph) : Type 0 where
+  pub count : g.nodes ≡ c.cols * c.rows
+  pub joined : (a b : ℕ) (h : ℤ) → a ≢ b → IsPass t c floods a b h → (least : ℤ) × HasJoin g a b least
+  pub joined_only : (a b : ℕ) (h : ℤ) → HasJoin g a b h → IsJoined t c floods a b h
+  pub sources : AreSpillSources t c floods g
+
+-- The least crest from each node of the graph.
+abbrev pub AreLevelsOf : Graph → List (Option ℤ) → Type 0
+AreLevelsOf g levels = (labels : List (Option ℕ)) × IsFlooded (HasJoin g) (source_in g) g.nodes levels labels
+
+-- The levels of the graph of these floods.
+abbrev pub AreSpillLevels : Terrain → Cutting → List Flood → List (Option ℤ) → Type 0
+AreSpillLevels t c floods levels = (g : Graph) × IsGraphOf t c floods g × AreLevelsOf g levels
+
+-- A data cell is raised to the greater of its level in its tile and its label's level.
+abbrev pub raised_by : Cutting → List (Option ℤ) → Option ℤ → Option Place → Option ℤ
+raised_by c levels (Some level) (Some label) = option_and_then (λ n. Some (int_max level n)) (slice_index_or levels (index_of c.cols label) None)
+raised_by c levels (Some level) None = None
+raised_by c levels None label = None
+
+pub record IsRaised (c : Cutting) (f : Flood) (levels : List (Option ℤ)) (raised : List (Option ℤ)) : Type 0 where
+  pub size : length raised ≡ length f.levels
+  pub each : (i : ℕ) → i < length f.levels →
+      slice_index_or raised i None ≡ raised_by c levels (slice_index_or f.levels i None) (slice_index_or f.labels i None)
+
+-- The list has the filled heights of a tile's cells, in its row order.
+pub record IsFilledTile (t : Terrain) (c : Cutting) (tile : ℕ) (levels : List (Option ℤ)) : Type 0 where
+  pub size : length levels ≡ cell_count c tile
+  pub each : (p : Place) → IsInTile c tile p →
+      MatchOption (height_at t p) (tile_entry c tile levels p ≡ None)
+      (λ _. (level : ℤ) × (tile_entry c tile levels p ≡ Some level) × IsFilledHeight t p level)
+
+-- The filled heights of the grid are its own.
+abbrev pub IsOwnFilled : Raster → Type 0
+IsOwnFilled f = IsFilled f.terrain f.terrain.cells
+
+-- The lists of all tiles, each with its filled heights.
+pub record AreFilledTiles (t : Terrain) (c : Cutting) (lists : List (Vec (Option ℤ) Global)) : Type 0 where
+  pub count : length lists ≡ tile_count c
+  pub each : (tile : ℕ) (list : Vec (Option ℤ) Global) → slice_get lists tile ≡ Some list → IsFilledTile t c tile list.items

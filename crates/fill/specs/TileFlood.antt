@@ -1,0 +1,69 @@
+-- Levels and labels inside one tile.
+use Rattle.std.specs.Prelude.{◌≡◌, ℕ, ◌+◌, ◌-◌, ◌*◌, ◌≤◌, ◌⊎◌, ℤ, ◌≤ℤ◌, Bool, ◌&&◌, nat_le, nat_lt, if◌then◌else◌, List, [], ◌∷◌, length, Option, None, Some, IsTrue, MatchOption, slice_index_or}
+use Rattle.ascii_grid.specs.Raster.{Terrain}
+use Rattle.ascii_grid.specs.Neighbours.{height_at, IsDataCell, IsNeighbour, IsEdge}
+use Rattle.ascii_grid.specs.Filled.{crest}
+use Rattle.ascii_grid.specs.declared.place.Place.{Place}
+use Rattle.tiles.specs.declared.bounds.Bounds.{Bounds}
+use Rattle.tiles.specs.Cutting.{Cutting, IsWithin, tile_of_place, bounds_of, is_on_rim, IsInTile, cell_count}
+
+-- A data cell on the rim of its tile, or an edge cell.
+abbrev pub IsTileSource : Terrain → Cutting → Place → Type 0
+IsTileSource t c p = (IsDataCell t p × IsTrue (is_on_rim c p)) ⊎ IsEdge t p
+
+-- A path that stays in one tile and ends at a source of it.
+abbrev pub IsTilePath : Terrain → Cutting → Place → List Place → Type 0
+IsTilePath t c p [] = IsTileSource t c p
+IsTilePath t c p (q ∷ rest) = IsNeighbour t p q × (tile_of_place c q ≡ tile_of_place c p) × IsTilePath t c q rest
+
+-- The cell at which a path ends.
+abbrev pub last_of : Place → List Place → Place
+last_of p [] = p
+last_of p (q ∷ rest) = last_of q rest
+
+-- The level is the least crest of the paths in the tile, and the label ends a path of that crest. A
+-- source whose level is its own height is its own label.
+pub record IsTileLevel (t : Terrain) (c : Cutting) (p : Place) (level : ℤ) (label : Place) : Type 0 where
+  pub reached : (rest : List Place) × IsTilePath t c p rest × (crest t p rest ≡ level) × (last_of p rest ≡ label)
+  pub least : (rest : List Place) → IsTilePath t c p rest → level ≤ℤ crest t p rest
+  pub own : IsTileSource t c p → height_at t p ≡ Some level → label ≡ p
+
+-- The bounds of a tile, and its levels and labels in its row order.
+pub record Flood : Type 0 where
+  pub bounds : Bounds
+  pub levels : List (Option ℤ)
+  pub labels : List (Option Place)
+
+abbrev pub is_in_bounds : Bounds → Place → Bool
+is_in_bounds b p = nat_le b.top p.row && nat_lt p.row (b.top + b.rows) && nat_le b.left p.col && nat_lt p.col (b.left + b.cols)
+
+-- The entry of a place in a list in the row order of these bounds, None outside.
+abbrev pub entry_in : {X : Type 0} → Bounds → List (Option X) → Place → Option X
+entry_in b entries p =
+    if is_in_bounds b p then slice_index_or entries ((p.row - b.top) * b.cols + (p.col - b.left)) None else None
+
+abbrev pub level_in : Flood → Place → Option ℤ
+level_in f p = entry_in f.bounds f.levels p
+
+abbrev pub label_in : Flood → Place → Option Place
+label_in f p = entry_in f.bounds f.labels p
+
+-- What holds of every flood of a tile.
+pub record IsFlood (f : Flood) : Type 0 where
+  pub few_rows : f.bounds.top + f.bounds.rows ≤ 4096
+  pub few_cols : f.bounds.left + f.bounds.cols ≤ 4096
+  pub levels_size : length f.levels ≡ f.bounds.rows * f.bounds.cols
+  pub labels_size : length f.labels ≡ f.bounds.rows * f.bounds.cols
+
+-- Each data cell of the tile has its level and label, and a cell without data neither.
+pub record IsTileFlood (t : Terrain) (c : Cutting) (tile : ℕ) (f : Flood) : Type 0 where
+  pub bounds : f.bounds ≡ bounds_of c tile
+  pub levels_size : length f.levels ≡ cell_count c tile
+  pub labels_size : length f.labels ≡ cell_count c tile
+  pub each : (p : Place) → IsInTile c tile p →
+      MatchOption (height_at t p) ((level_in f p ≡ None) × (label_in f p ≡ None))
+      (λ _. (level : ℤ) × (label : Place) × (level_in f p ≡ Some level) × (label_in f p ≡ Some label) × IsTileLevel t c p level label)
+
+-- The labels are places of the grid.
+abbrev pub LabelsInside : Cutting → Flood → Type 0
+LabelsInside c f = (i : ℕ) (label : Place) → slice_index_or f.labels i None ≡ Some label → IsWithin c label

@@ -1,0 +1,186 @@
+// The filled heights of a grid, by tiles and workers.
+ghost use Rattle.std.specs.Prelude.{◌≡◌, ◌*◌, ◌≤◌, length, ℕ, Some, slice_get, IfOk};
+ghost use Rattle.ascii_grid.specs.Filled.{IsFilledGrid};
+ghost use Rattle.tiles.specs.Cutting.{Cuts, IsCutting};
+ghost use Rattle.ascii_grid.specs.Raster.{Terrain};
+ghost use Rattle.fill.specs.Spills.{AreFloods, AreSpillLevels, AreFilledTiles};
+ghost use Rattle.tile_jobs.specs.Fault.{RefusesWorkers};
+ghost use Rattle.fill.specs.TileFlood.{Flood, LabelsInside};
+
+use crate::filled_grid::Filled;
+use crate::raising::raise;
+use crate::spills::SpillGraph;
+use crate::tile::{TileFlood, tile_flood};
+use ascii_grid::{Grid, Height, NoMemory};
+use std::alloc::Global;
+use std::sync::Wait;
+use std::thread::Threads;
+use tile_jobs::{Gate, JobFault, Work, run_jobs};
+use tiles::Tiling;
+
+/// Floods each tile.
+#[derive(Drop)]
+struct FloodTiles<'a> {
+    grid: &'a Grid,
+    tiling: &'a Tiling,
+    ghost cuts: { Cuts tiling.now grid.now.terrain },
+}
+
+impl<'a> Work for FloodTiles<'a> {
+    type Out = TileFlood;
+
+    ghost use Rattle.tiles.specs.Cutting.{tile_count};
+    ghost use Rattle.fill.specs.TileFlood.{IsTileFlood};
+
+    ghost most = { λ w. tile_count w.tiling.now };
+
+    ghost gives = { λ w job out. IsTileFlood w.grid.now.terrain w.tiling.now job out };
+
+    fn run(&self, alloc: Global, job: u32) -> Result<TileFlood, JobFault> {
+        let view = self.tiling.view(self.grid.cells(), job);
+        let Ok(flood) = tile_flood(alloc, &view) else {
+            return Err(JobFault::Memory);
+        };
+        Ok(flood)
+    }
+}
+
+/// Raises each tile.
+#[derive(Drop)]
+struct RaiseTiles<'a> {
+    tiling: &'a Tiling,
+    floods: &'a [TileFlood],
+    levels: &'a [Option<Height>],
+    ghost size: { length levels.now ≡ tiling.now.cols * tiling.now.rows },
+    ghost labels: { (i : ℕ) (f : Flood) → slice_get floods.now i ≡ Some f → LabelsInside tiling.now f },
+}
+
+impl<'a> Work for RaiseTiles<'a> {
+    type Out = Vec<Option<Height>>;
+
+    ghost use Rattle.std.specs.Prelude.{length};
+    ghost use Rattle.ascii_grid.specs.Raster.{Terrain};
+    ghost use Rattle.fill.specs.Spills.{AreFloods, AreSpillLevels, IsFilledTile};
+
+    ghost most = { λ w. length w.floods.now };
+
+    ghost gives = { λ w job out. (t : Terrain) → AreFloods t w.tiling.now w.floods.now →
+        AreSpillLevels t w.tiling.now w.floods.now w.levels.now → IsFilledTile t w.tiling.now job out.items };
+
+    fn run(&self, alloc: Global, job: u32) -> Result<Vec<Option<Height>>, JobFault> {
+        let flood = &self.floods[job as usize];
+        let Ok(raised) = raise(alloc, self.tiling, flood, self.levels) else {
+            return Err(JobFault::Memory);
+        };
+        Ok(raised)
+    }
+}
+
+fn flood_tiles<R: Threads + Wait + Sync, G: Gate + Sync>(
+    rt: &R,
+    alloc: Global,
+    grid: &Grid,
+    tiling: &Tiling,
+    workers: u32,
+    gate: &G,
+) -> Result<Vec<TileFlood>, JobFault>
+    requires { Cuts tiling.now grid.now.terrain }
+    ensures floods { IfOk result (λ v. AreFloods grid.now.terrain tiling.now v.items) }
+    ensures workers { RefusesWorkers workers result }
+{
+    let tiles = tiling.tiles();
+    run_jobs(
+        rt,
+        alloc,
+        &FloodTiles { grid, tiling },
+        tiles,
+        workers,
+        gate,
+    )
+}
+
+/// The levels of the spill graph of these floods.
+fn spill_levels(
+    alloc: Global,
+    tiling: &Tiling,
+    floods: &[TileFlood],
+) -> Result<Vec<Option<Height>>, NoMemory>
+    requires { (t : Terrain) × AreFloods t tiling.now floods.now }
+    ensures levels { IfOk result (λ v. (t : Terrain) → AreFloods t tiling.now floods.now → AreSpillLevels t tiling.now floods.now v.items) }
+    ensures size { IfOk result (λ v. length v.items ≡ tiling.now.cols * tiling.now.rows) }
+{
+    let graph = SpillGraph::gather(alloc, tiling, floods)?;
+    graph.levels(alloc)
+}
+
+fn raise_tiles<R: Threads + Wait + Sync, G: Gate + Sync>(
+    rt: &R,
+    alloc: Global,
+    tiling: &Tiling,
+    floods: &[TileFlood],
+    levels: &[Option<Height>],
+    workers: u32,
+    gate: &G,
+) -> Result<Vec<Vec<Option<Height>>>, JobFault>
+    requires floods { (t : Terrain) × AreFloods t tiling.now floods.now }
+    requires size { length levels.now ≡ tiling.now.cols * tiling.now.rows }
+    ensures raised { IfOk result (λ v. (t : Terrain) → AreFloods t tiling.now floods.now →
+        AreSpillLevels t tiling.now floods.now levels.now → AreFilledTiles t tiling.now v.items) }
+    ensures workers { RefusesWorkers workers result }
+{
+    let tiles = tiling.tiles();
+    let work = RaiseTiles {
+        tiling,
+        floods,
+        levels,
+    };
+    run_jobs(rt, alloc, &work, tiles, workers, gate)
+}
+
+/// The grid with each height replaced by its filled height. Each tile is flooded in a job of its own,
+/// and raised in another.
+pub fn filled<R: Threads + Wait + Sync, G: Gate + Sync>(
+    rt: &R,
+    alloc: Global,
+    grid: &Grid,
+    tiling: &Tiling,
+    workers: u32,
+    gate: &G,
+) -> Result<Filled, JobFault>
+    requires { Cuts tiling.now grid.now.terrain }
+    ensures filled { IfOk result (λ f. IsFilledGrid grid.now f) }
+    ensures workers { RefusesWorkers workers result }
+{
+    let floods = flood_tiles(rt, alloc, grid, tiling, workers, gate)?;
+    let Ok(levels) = spill_levels(alloc, tiling, &floods) else {
+        return Err(JobFault::Memory);
+    };
+    let raised = raise_tiles(rt, alloc, tiling, &floods, &levels, workers, gate)?;
+    drop(floods);
+    drop(levels);
+    match put_back(alloc, grid, tiling, raised) {
+        Ok(filled) => Ok(filled),
+        Err(NoMemory) => Err(JobFault::Memory),
+    }
+}
+
+/// The filled grid, of the filled heights of its tiles.
+fn put_back(
+    alloc: Global,
+    grid: &Grid,
+    tiling: &Tiling,
+    raised: Vec<Vec<Option<Height>>>,
+) -> Result<Filled, NoMemory>
+    requires cuts { Cuts tiling.now grid.now.terrain }
+    requires lawful { IsCutting tiling.now }
+    requires raised { AreFilledTiles grid.now.terrain tiling.now raised.items }
+    ensures { IfOk result (λ f. IsFilledGrid grid.now f) }
+{
+    let cells = tiling.put_back(alloc, &raised)?;
+    drop(raised);
+    let filled = grid.with_cells(alloc, &cells)?;
+    Ok(Filled::from_grid(filled))
+}
+
+#[cfg(test)]
+mod tests;

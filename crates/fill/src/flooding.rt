@@ -1,0 +1,188 @@
+// Levels and labels by a heap of waiting nodes.
+ghost use Rattle.std.specs.Prelude.{◌≡◌, ◌<◌, ◌++◌, ◌∷◌, [], ℕ, ℤ, IfOk, OnOk, IfSome, IfNone, length, map, filter, All, replicate, None};
+ghost use Rattle.std.specs.BinaryHeap.{IsHeap, heap_items};
+ghost use Rattle.std.specs.List.Sorted.{IsPermutation};
+ghost use Rattle.fill.specs.Walk.{IsFlooded};
+ghost use Rattle.fill.specs.Flood.{waiting_order, waiting_by, is_open, IsDone, TakesLowest, SourcesWait, IsLabelOf, Spreads};
+
+use crate::net::{Net, Spill};
+use ascii_grid::{Height, NoMemory};
+use std::alloc::Global;
+use std::cmp::Reverse;
+use std::collections::BinaryHeap;
+
+/// The level of each node, and the source that it drains to.
+#[derive(Drop)]
+pub struct Flooded {
+    pub level: Vec<Option<Height>>,
+    pub label: Vec<Option<u32>>,
+}
+
+/// A node that waits: a walk from it, which ends at the label, has this crest.
+#[derive(Clone, Copy, PartialEq, Eq, PartialOrd, Ord)]
+struct Waiting {
+    height: Reverse<Height>,
+    node: u32,
+    label: u32,
+}
+
+/// Takes the lowest node that has no level yet.
+fn next_open(heap: &mut BinaryHeap<Waiting>, levels: &[Option<Height>]) -> Option<Waiting>
+    requires heap { IsHeap waiting_order (heap_items heap.old) }
+    requires inside { All (λ w. w.node < length levels.now) (heap_items heap.old) }
+    ensures heap { IsHeap waiting_order (heap_items heap.new) }
+    ensures some { IfSome result (λ w.
+        TakesLowest levels.now (heap_items heap.old) w (heap_items heap.new)) }
+    ensures none { IfNone result (All (IsDone levels.now) (heap_items heap.old)) }
+{
+    while let Some(waiting) = heap.pop() {
+        if levels[waiting.node as usize].is_none() {
+            return Some(waiting);
+        }
+    }
+    None
+}
+
+/// Makes one neighbour of a node wait, where it has no level yet.
+#[inline(always)]
+fn push_way(
+    heap: &mut BinaryHeap<Waiting>,
+    way: Spill,
+    from: &Waiting,
+    levels: &[Option<Height>],
+) -> Result<(), NoMemory>
+    requires heap { IsHeap waiting_order (heap_items heap.old) }
+    requires inside { way.to < length levels.now }
+    ensures heap { OnOk result (IsHeap waiting_order (heap_items heap.new)) }
+    ensures added { OnOk result (IsPermutation
+        (heap_items heap.old ++ map (waiting_by from.now) (filter (is_open levels.now) (way ∷ [])))
+        (heap_items heap.new)) }
+{
+    if levels[way.to as usize].is_some() {
+        return Ok(());
+    }
+    let Reverse(level) = from.height;
+    let waiting = Waiting {
+        height: Reverse(way.height.max(level)),
+        node: way.to,
+        label: from.label,
+    };
+    if heap.push(waiting).is_err() {
+        return Err(NoMemory);
+    }
+    Ok(())
+}
+
+/// Makes the neighbours of a node wait that have no level yet.
+fn push_ways(
+    heap: &mut BinaryHeap<Waiting>,
+    ways: &[Spill],
+    from: &Waiting,
+    levels: &[Option<Height>],
+) -> Result<(), NoMemory>
+    requires heap { IsHeap waiting_order (heap_items heap.old) }
+    requires inside { All (λ way. way.to < length levels.now) ways.now }
+    ensures heap { OnOk result (IsHeap waiting_order (heap_items heap.new)) }
+    ensures added { OnOk result (IsPermutation
+        (heap_items heap.old ++ map (waiting_by from.now) (filter (is_open levels.now) ways.now))
+        (heap_items heap.new)) }
+{
+    for way in ways {
+        push_way(heap, *way, from, levels)?;
+    }
+    Ok(())
+}
+
+/// Makes the sources wait.
+fn waiting_sources<N: Net>(alloc: Global, net: &N) -> Result<BinaryHeap<Waiting>, NoMemory>
+    ensures heap { IfOk result (λ heap. IsHeap waiting_order (heap_items heap)) }
+    ensures sources { IfOk result (λ heap.
+        SourcesWait (N.node_count net.now) (N.source_height net.now) (heap_items heap)) }
+{
+    let mut heap = BinaryHeap::new(alloc);
+    for node in 0..net.nodes() {
+        if let Some(height) = net.source(node) {
+            let waiting = Waiting {
+                height: Reverse(height),
+                node,
+                label: node,
+            };
+            if heap.push(waiting).is_err() {
+                return Err(NoMemory);
+            }
+        }
+    }
+    Ok(heap)
+}
+
+/// A list of this many entries, all None.
+pub(crate) fn empty_list<T: Copy>(alloc: Global, count: usize) -> Result<Vec<Option<T>>, NoMemory>
+    ensures { IfOk result (λ v. v.items ≡ replicate count None) }
+{
+    let mut entries = match Vec::with_capacity(alloc, count) {
+        Ok(entries) => entries,
+        Err(_) => return Err(NoMemory),
+    };
+    for _ in 0..count {
+        if entries.push(None).is_err() {
+            return Err(NoMemory);
+        }
+    }
+    Ok(entries)
+}
+
+/// Makes the neighbours of a node of the net wait that have no level yet.
+#[inline]
+fn spread<N: Net>(
+    alloc: Global,
+    net: &N,
+    heap: &mut BinaryHeap<Waiting>,
+    from: &Waiting,
+    levels: &[Option<Height>],
+) -> Result<(), NoMemory>
+    requires heap { IsHeap waiting_order (heap_items heap.old) }
+    requires inside { from.now.node < N.node_count net.now }
+    requires size { length levels.now ≡ N.node_count net.now }
+    ensures heap { OnOk result (IsHeap waiting_order (heap_items heap.new)) }
+    ensures added { OnOk result (Spreads (N.joins net.now) levels.now from.now
+        (heap_items heap.old) (heap_items heap.new)) }
+{
+    let ways = net.neighbours(alloc, from.node)?;
+    push_ways(heap, ways.as_slice(), from, levels)
+}
+
+/// The label of a node that takes its level: a source at its own height is its own.
+#[inline]
+fn label_of<N: Net>(net: &N, waiting: &Waiting) -> u32
+    requires { waiting.now.node < N.node_count net.now }
+    ensures { IsLabelOf (N.source_height net.now) waiting.now result }
+{
+    let Reverse(height) = waiting.height;
+    match net.source(waiting.node) {
+        Some(own) if own == height => waiting.node,
+        _ => waiting.label,
+    }
+}
+
+/// The least crest from each node, and a source that has it.
+pub fn flood<N: Net>(alloc: Global, net: &N) -> Result<Flooded, NoMemory>
+    ensures { IfOk result (λ f.
+        IsFlooded (N.joins net.now) (N.source_height net.now) (N.node_count net.now)
+        f.level.items f.label.items) }
+{
+    let count = net.nodes() as usize;
+    let mut level = empty_list(alloc, count)?;
+    let mut label = empty_list(alloc, count)?;
+    let mut heap = waiting_sources(alloc, net)?;
+    while let Some(waiting) = next_open(&mut heap, &level) {
+        let node = waiting.node as usize;
+        let Reverse(height) = waiting.height;
+        spread(alloc, net, &mut heap, &waiting, &level)?;
+        level[node] = Some(height);
+        label[node] = Some(label_of(net, &waiting));
+    }
+    Ok(Flooded { level, label })
+}
+
+#[cfg(test)]
+mod tests;

@@ -1,0 +1,103 @@
+// What the floods of all tiles say of a cell.
+ghost use Rattle.std.specs.Prelude.{◌≡◌, ◌*◌, ◌<◌, ◌≤◌, ◌⊎◌, ℕ, ℤ, ◌↔◌, IsTrue, Some, None, slice_get, IfSome, IfNone};
+ghost use Rattle.tiles.specs.Cutting.{IsWithin, tile_count};
+ghost use Rattle.ascii_grid.specs.Neighbours.{index_of};
+ghost use Rattle.fill.specs.TileFlood.{LabelsInside, level_in, label_in};
+ghost use Rattle.fill.specs.Gathering.{Fit, mark_of, mark_among, HasGapAmong, IsSpillSource};
+
+use crate::tile::TileFlood;
+use ascii_grid::{Height, Place};
+use tiles::Tiling;
+
+/// A cell's level, and the number of its label: its place in row order of the whole grid.
+#[derive(Clone, Copy, Debug, PartialEq, Eq)]
+pub struct Mark {
+    pub level: Height,
+    pub node: u32,
+}
+
+/// The number of a place: where it stands in row order of the whole grid.
+#[inline(always)]
+pub(crate) fn node_of(tiling: &Tiling, place: Place) -> u32
+    requires { IsWithin tiling.now place }
+    ensures value { result ≡ index_of tiling.now.cols place }
+    ensures below { result < tiling.now.cols * tiling.now.rows }
+{
+    place.row * tiling.cols() + place.col
+}
+
+#[inline]
+fn mark_in(tiling: &Tiling, flood: &TileFlood, place: Place) -> Option<Mark>
+    requires { LabelsInside tiling.now flood.now }
+    ensures { result ≡ mark_of tiling.now.cols (level_in flood.now place) (label_in flood.now place) }
+{
+    let level = flood.level(place)?;
+    let label = flood.label(place)?;
+    Some(Mark {
+        level,
+        node: node_of(tiling, label),
+    })
+}
+
+/// What the flood of its own tile says of a cell in or next to this tile, None outside the grid and
+/// where there is no data.
+#[inline]
+pub(crate) fn mark_at(
+    tiling: &Tiling,
+    floods: &[TileFlood],
+    tile: u32,
+    place: Place,
+) -> Option<Mark>
+    requires fit { Fit tiling.now floods.now }
+    requires tile { tile < tile_count tiling.now }
+    ensures { result ≡ mark_among tiling.now floods.now place }
+{
+    let rows = tiling.rows();
+    let cols = tiling.cols();
+    let flood = &floods[tile as usize];
+    if flood.holds(place) {
+        return mark_in(tiling, flood, place);
+    }
+    if place.row < rows && place.col < cols {
+        return mark_in(tiling, &floods[tiling.tile_of(place) as usize], place);
+    }
+    None
+}
+
+/// Whether a place next to this one is outside the grid or has no data.
+fn has_gap(tiling: &Tiling, floods: &[TileFlood], tile: u32, place: Place) -> bool
+    requires fit { Fit tiling.now floods.now }
+    requires tile { tile < tile_count tiling.now }
+    requires place { IsWithin tiling.now place }
+    ensures { IsTrue result ↔ HasGapAmong tiling.now floods.now place }
+{
+    let rows = tiling.rows();
+    let cols = tiling.cols();
+    if place.row == 0 || place.col == 0 || place.row + 1 == rows || place.col + 1 == cols {
+        return true;
+    }
+    for row in place.row - 1..place.row + 2 {
+        for col in place.col - 1..place.col + 2 {
+            if mark_at(tiling, floods, tile, Place { row, col }).is_none() {
+                return true;
+            }
+        }
+    }
+    false
+}
+
+/// The height of a place that is a source of the spill graph: its own label, with a gap around it.
+pub(crate) fn source_at(tiling: &Tiling, floods: &[TileFlood], place: Place) -> Option<Height>
+    requires fit { Fit tiling.now floods.now }
+    requires place { IsWithin tiling.now place }
+    ensures some { IfSome result (λ h. IsSpillSource tiling.now floods.now place h) }
+    ensures none { IfNone result ((h : ℤ) → IsSpillSource tiling.now floods.now place h → ⊥) }
+{
+    let tile = tiling.tile_of(place);
+    let mark = mark_at(tiling, floods, tile, place)?;
+    if mark.node == node_of(tiling, place) && has_gap(tiling, floods, tile, place) {
+        Some(mark.level)
+    } else {
+        None
+    }
+}

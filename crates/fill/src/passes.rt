@@ -1,0 +1,136 @@
+// Where the labels of neighbouring cells meet.
+ghost use Rattle.std.specs.Prelude.{◌≡◌, ◌+◌, ◌<◌, ◌≤◌, ◌++◌, [], ℕ, Some, IfOk, OnOk, slice_index_or, length, IsTrue, ◌↔◌};
+ghost use Rattle.std.specs.List.{Contains};
+ghost use Rattle.ascii_grid.specs.declared.place.Place.{Place};
+ghost use Rattle.tiles.specs.Cutting.{IsCutting, IsWithin, IsInTile, bounds_of, tile_count};
+ghost use Rattle.fill.specs.Gathering.{Fit, Adds, AreLowest, IsRepeat, joins_of, mark_among};
+
+use crate::marks::{Mark, mark_at};
+use crate::spills::Join;
+use crate::tile::TileFlood;
+use ascii_grid::{NoMemory, Place};
+use std::alloc::Global;
+use tiles::{Bounds, Tiling};
+
+/// Adds the join of two marks, where their labels differ.
+#[inline(always)]
+fn push_join(joins: &mut Vec<Join>, from: Mark, to: Option<Mark>) -> Result<(), NoMemory>
+    ensures { OnOk result (joins.new.items ≡ joins.old.items ++ joins_of from to) }
+{
+    let Some(to) = to else { return Ok(()) };
+    if from.node == to.node {
+        return Ok(());
+    }
+    let join = Join {
+        from: from.node,
+        to: to.node,
+        height: from.level.max(to.level),
+    };
+    if joins.push(join).is_err() {
+        return Err(NoMemory);
+    }
+    Ok(())
+}
+
+/// Adds the joins of a cell with those that touch it.
+#[inline]
+fn push_cell(
+    joins: &mut Vec<Join>,
+    tiling: &Tiling,
+    floods: &[TileFlood],
+    tile: u32,
+    place: Place,
+) -> Result<(), NoMemory>
+    requires fit { Fit tiling.now floods.now }
+    requires tile { tile < tile_count tiling.now }
+    requires place { IsWithin tiling.now place }
+    requires lawful { IsCutting tiling.now }
+    ensures { OnOk result (Adds tiling.now floods.now (λ p. p ≡ place) joins.old.items joins.new.items) }
+{
+    let Some(from) = mark_at(tiling, floods, tile, place) else {
+        return Ok(());
+    };
+    for way in 0..9 {
+        let row = place.row + way / 3;
+        let col = place.col + way % 3;
+        if row > 0 && col > 0 {
+            let near = Place {
+                row: row - 1,
+                col: col - 1,
+            };
+            push_join(joins, from, mark_at(tiling, floods, tile, near))?;
+        }
+    }
+    Ok(())
+}
+
+/// Adds the joins of the cells of one row of a tile.
+fn push_cells(
+    joins: &mut Vec<Join>,
+    tiling: &Tiling,
+    floods: &[TileFlood],
+    tile: u32,
+    row: u32,
+) -> Result<(), NoMemory>
+    requires fit { Fit tiling.now floods.now }
+    requires tile { tile < tile_count tiling.now }
+    requires row { row < (bounds_of tiling.now tile).top + (bounds_of tiling.now tile).rows }
+    ensures { OnOk result (Adds tiling.now floods.now
+        (λ p. IsInTile tiling.now tile p × (p.row ≡ row)) joins.old.items joins.new.items) }
+{
+    let Bounds { left, cols, .. } = tiling.bounds(tile);
+    for col in left..left + cols {
+        push_cell(joins, tiling, floods, tile, Place { row, col })?;
+    }
+    Ok(())
+}
+
+/// The joins of the cells of a tile with those that touch them.
+pub(crate) fn tile_joins(
+    alloc: Global,
+    tiling: &Tiling,
+    floods: &[TileFlood],
+    tile: u32,
+) -> Result<Vec<Join>, NoMemory>
+    requires fit { Fit tiling.now floods.now }
+    requires tile { tile < tile_count tiling.now }
+    ensures { IfOk result (λ v. Adds tiling.now floods.now (IsInTile tiling.now tile) [] v.items) }
+{
+    let mut joins = Vec::new(alloc);
+    let Bounds { top, rows, .. } = tiling.bounds(tile);
+    for row in top..top + rows {
+        push_cells(&mut joins, tiling, floods, tile, row)?;
+    }
+    Ok(joins)
+}
+
+/// Whether the join before this one is of the same labels.
+#[inline(always)]
+fn is_repeat(joins: &[Join], index: usize) -> bool
+    requires { index < length joins.now }
+    ensures { IsTrue result ↔ IsRepeat joins.now index }
+{
+    if index == 0 {
+        return false;
+    }
+    let before = joins[index - 1];
+    let join = joins[index];
+    before.from == join.from && before.to == join.to
+}
+
+/// The lowest join of each two labels, in the order of the labels.
+pub(crate) fn lowest_joins(alloc: Global, mut joins: Vec<Join>) -> Result<Vec<Join>, NoMemory>
+    ensures { IfOk result (λ v. AreLowest joins.items v.items) }
+{
+    joins.sort_unstable();
+    let mut lowest = Vec::new(alloc);
+    for index in 0..joins.len() {
+        if is_repeat(&joins, index) {
+            continue;
+        }
+        if lowest.push(joins[index]).is_err() {
+            return Err(NoMemory);
+        }
+    }
+    Ok(lowest)
+}

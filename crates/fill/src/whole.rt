@@ -1,0 +1,20 @@
+// The filled heights of a grid by one flood.
+ghost use Rattle.std.specs.Prelude.{IfOk};
+ghost use Rattle.ascii_grid.specs.Filled.{IsFilled};
+
+use crate::cell_net::{CellNet, without_border};
+use crate::flooding::flood;
+use ascii_grid::{Grid, Height, NoMemory};
+use std::alloc::Global;
+
+/// The filled height of each cell of the grid, in row order.
+pub fn filled_heights(alloc: Global, grid: &Grid) -> Result<Vec<Option<Height>>, NoMemory>
+    ensures { IfOk result (λ v. IsFilled grid.now.terrain v.items) }
+{
+    let net = CellNet::of_grid(alloc, grid)?;
+    let flooded = flood(alloc, &net)?;
+    without_border(alloc, &flooded.level, grid.cols(), grid.rows())
+}
+
+#[cfg(test)]
+mod tests;

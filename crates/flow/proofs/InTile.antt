@@ -1,0 +1,138 @@
+-- Paths along the links of a tile are the parts of flow paths that stay in it.
+use Rattle.std.proofs.Common.{◌≡◌, ◌≢◌, ◌↔◌, ℕ, zero, suc, ◌+◌, ◌-◌, ◌*◌, ◌<◌, ◌≤◌, ◌⊎◌, inl, inr, true, false, List, length, get_or, sym, ap, subst, refl, ◌∙◌, arith}
+use Rattle.std.proofs.lemmas.Bool.{cases_eq, cases_lt, cases_Bool, and_from, and_parts, lt-ltb, le-leb, ltb-true, leb-true, cond-true, cond-false, false_from_ne_true}
+use Rattle.ascii_grid.specs.declared.place.Place.{Place}
+use Rattle.tiles.specs.declared.bounds.Bounds.{Bounds}
+use Rattle.tiles.specs.Cutting.{Cutting, IsCutting, IsWithin, IsInTile, IsInBounds, AreBounds, tile_of_place}
+use Rattle.tiles.proofs.TileOrder.{place_in_bounds, index_in_below, index_in-place_in, place_in-index_in}
+use Rattle.drain.specs.Following.{Directed, code_at, next, follow, moves, last_of, IsOutlet}
+use Rattle.drain.specs.Drained.{AllFlowEnds}
+use Rattle.flow.specs.Streams.{AreStreams, onward, node_after, end_of}
+use Rattle.flow.specs.TileFlow.{is_in_bounds}
+use Rattle.flow.specs.TileLinks.{place_in, index_in, link_in, AreTileLinks}
+use Rattle.flow.proofs.EarlyEnds.{IsStop, streams_from}
+use Rattle.flow.proofs.Coded.{IsCoded, cases_coded, none_stays, outlet_stays, coded_along, coded_inside}
+
+pub bounds_from_test : (b : Bounds) (p : Place) → is_in_bounds b p ≡ true → IsInBounds b p
+bounds_from_test b p h =
+    let x = and_parts _ _ h in let y = and_parts _ _ x.0 in let z = and_parts _ _ y.0 in
+    (leb-true _ _ z.0, ltb-true _ _ z.1, leb-true _ _ y.1, ltb-true _ _ x.1)
+
+pub test_from_bounds : (b : Bounds) (p : Place) → IsInBounds b p → is_in_bounds b p ≡ true
+test_from_bounds b p h = and_from _ _ (and_from _ _ (and_from _ _ (le-leb _ _ h.0) (lt-ltb _ _ h.1)) (le-leb _ _ h.2)) (lt-ltb _ _ h.3)
+
+pub cases_bounds : (b : Bounds) (p : Place) → IsInBounds b p ⊎ (IsInBounds b p → ⊥)
+cases_bounds b p = elim (cases_Bool (is_in_bounds b p)) [
+    inl t ↦ inl (bounds_from_test b p t)
+  | inr f ↦ inr (λ h. (let t = test_from_bounds b p h in absurd cc)) ]
+
+pub link-in : (d : Directed) (b : Bounds) (i : ℕ) → IsInBounds b (next d (place_in b i)) → link_in d b i ≡ index_in b (next d (place_in b i))
+link-in d b i h = cond-true _ _ _ (test_from_bounds b _ h)
+
+pub link-out : (d : Directed) (b : Bounds) (i : ℕ) → (IsInBounds b (next d (place_in b i)) → ⊥) → link_in d b i ≡ i
+link-out d b i out = cond-false _ _ _ (false_from_ne_true _ (λ t. out (bounds_from_test b _ t)))
+
+-- a tile of a map of directions whose paths all end, and its links
+pub record IsPiece (d : Directed) (c : Cutting) (tile : ℕ) (b : Bounds) (links : List ℕ) : Type 0 where
+  pub cutting : IsCutting c
+  pub cols : d.cols ≡ c.cols
+  pub rows : d.rows ≡ c.rows
+  pub ends : AllFlowEnds d
+  pub inside : AreBounds c b
+  pub places : (p : Place) → IsInTile c tile p ↔ IsInBounds b p
+  pub made : AreTileLinks d b links
+
+module _ (d : Directed) (c : Cutting) (tile : ℕ) (b : Bounds) (links : List ℕ) (s : IsPiece d c tile b links) where
+  pub in_place : (i : ℕ) → i < length links → IsInBounds b (place_in b i)
+  in_place i h = place_in_bounds b i s.inside.some_col (omega (arith, h, s.made.size))
+
+  pub link_is : (i : ℕ) → i < length links → onward links i ≡ link_in d b i
+  link_is i h = s.made.each i (omega (arith, h, s.made.size))
+
+  pub links_inside : (i : ℕ) → i < length links → onward links i < length links
+  links_inside i h = elim (cases_bounds b (next d (place_in b i))) [
+      inl y ↦ omega (arith, link_is i h, link-in d b i y, index_in_below b (next d (place_in b i)) y, s.made.size)
+    | inr n ↦ omega (arith, link_is i h, link-out d b i n) ]
+
+  pub node_inside : (i : ℕ) → i < length links → (k : ℕ) → node_after links i k < length links
+  node_inside i h zero = h
+  node_inside i h (suc k) = links_inside (node_after links i k) (node_inside i h k)
+
+  pub self_link : (i : ℕ) → i < length links → next d (place_in b i) ≡ place_in b i → onward links i ≡ i
+  self_link i h e =
+      link_is i h ∙ link-in d b i (subst (λ (q : Place). IsInBounds b q) (sym e) (in_place i h)) ∙ ap (index_in b) e ∙ index_in-place_in b i
+
+  -- a link to a place in the tile
+  pub link_place : (i : ℕ) → i < length links → IsInBounds b (next d (place_in b i)) → place_in b (onward links i) ≡ next d (place_in b i)
+  link_place i h y = ap (place_in b) (link_is i h ∙ link-in d b i y) ∙ place_in-index_in b (next d (place_in b i)) y
+
+  -- how far the path along links follows the flow path
+  pub record Tracks (j k : ℕ) : Type 0 where
+    pub met : ℕ
+    pub few : met ≤ k
+    pub way : (l : ℕ) → l ≤ met → IsInBounds b (follow d (place_in b j) l)
+    pub here : place_in b (node_after links j k) ≡ follow d (place_in b j) met
+    pub done : (met ≡ k) ⊎ IsStop links j k
+
+  stopped : (j k : ℕ) → Tracks j k → IsStop links j k → Tracks j (suc k)
+  stopped j k t stop = record {
+    met = t.met;
+    few = omega (arith, t.few);
+    way = t.way;
+    here = ap (place_in b) stop ∙ t.here;
+    done = inr (ap (onward links) stop);
+  }
+
+  way_on : (j m : ℕ) → ((l : ℕ) → l ≤ m → IsInBounds b (follow d (place_in b j) l)) → IsInBounds b (follow d (place_in b j) (suc m)) →
+      (l : ℕ) → l ≤ suc m → IsInBounds b (follow d (place_in b j) l)
+  way_on j m way more l le = elim (cases_eq l (suc m)) [
+      inl e ↦ subst (λ (n : ℕ). IsInBounds b (follow d (place_in b j) n)) (sym e) more
+    | inr ne ↦ way l (omega arith) ]
+
+  pub tracks : (j : ℕ) → j < length links → (k : ℕ) → Tracks j k
+  tracks j h zero = record {
+    met = 0;
+    few = omega arith;
+    way = λ l le. (let z : 0 ≡ l = omega arith in subst (λ (n : ℕ). IsInBounds b (follow d (place_in b j) n)) z (in_place j h));
+    here = refl;
+    done = inl refl;
+  }
+  tracks j h (suc k) =
+      let t = tracks j h k in
+      elim t.done [
+          inr stop ↦ stopped j k t stop
+        | inl same ↦ elim (cases_bounds b (next d (place_in b (node_after links j k)))) [
+              inr out ↦ stopped j k t (link_is (node_after links j k) (node_inside j h k) ∙ link-out d b (node_after links j k) out)
+            | inl y ↦ (let on : next d (place_in b (node_after links j k)) ≡ follow d (place_in b j) (suc t.met) = ap (next d) t.here in
+                record {
+                  met = suc t.met;
+                  few = omega (arith, t.few);
+                  way = way_on j t.met t.way (subst (λ (q : Place). IsInBounds b q) on y);
+                  here = link_place (node_after links j k) (node_inside j h k) y ∙ on;
+                  done = inl (ap suc same);
+                }) ] ]
+
+  -- while the flow path stays, the links follow it
+  pub in_step : (j : ℕ) → j < length links → (k : ℕ) → ((l : ℕ) → l ≤ k → IsInBounds b (follow d (place_in b j) l)) →
+      place_in b (node_after links j k) ≡ follow d (place_in b j) k
+  in_step j h zero way = refl
+  in_step j h (suc k) way =
+      let before = in_step j h k (λ l le. way l (omega arith)) in
+      let on : next d (place_in b (node_after links j k)) ≡ follow d (place_in b j) (suc k) = ap (next d) before in
+      link_place (node_after links j k) (node_inside j h k) (subst (λ (q : Place). IsInBounds b q) (sym on) (way (suc k) (omega arith))) ∙ on
+
+  pub stops : (j : ℕ) → j < length links → (k : ℕ) × IsStop links j k
+  stops j h = elim (cases_coded d (place_in b j)) [
+      inl none ↦ (0, self_link j h (none_stays d (place_in b j) none))
+    | inr is ↦ (let t = tracks j h (moves d) in elim t.done [
+          inr stop ↦ (moves d, stop)
+        | inl same ↦ (let last : place_in b (node_after links j (moves d)) ≡ last_of d (place_in b j) = t.here ∙ ap (follow d (place_in b j)) same in
+            (moves d, self_link (node_after links j (moves d)) (node_inside j h (moves d))
+              (ap (next d) last ∙ outlet_stays d (last_of d (place_in b j)) (s.ends (place_in b j) is.code is.is) ∙ sym last))) ]) ]
+
+  pub tile_streams : AreStreams links
+  tile_streams = streams_from links links_inside stops
+
+  -- a data cell's place in the grid
+  pub coded_within : (p : Place) → IsCoded d p → IsWithin c p
+  coded_within p is = let w = coded_inside d p is in (omega (arith, w.0, s.rows), omega (arith, w.1, s.cols))

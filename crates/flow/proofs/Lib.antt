@@ -1,0 +1,22 @@
+mod Rows
+pub mod Sums
+pub mod Arriving
+pub mod Waiting
+pub mod Moving
+pub mod Settled
+pub mod Stepping
+pub mod Ending
+pub mod EarlyEnds
+pub mod Windows
+pub mod Ranges
+pub mod Coded
+pub mod InTile
+pub mod Through
+pub mod Pushing
+pub mod Shown
+pub mod Piece
+pub mod OneTile
+pub mod Directed
+pub mod Testing
+pub mod Inflow
+pub mod Joined

@@ -1,0 +1,187 @@
+-- The flow of a tile, of the lists that are made for it.
+use Rattle.std.proofs.Common.{◌≡◌, ℕ, ◌+◌, ◌-◌, ◌*◌, ◌^◌, ◌<◌, ◌≤◌, inl, inr, true, List, map, length, get_or, Option, None, Some, is_some, MatchOption, cond, sym, ap, subst, refl, ◌∙◌, arith, mul_comm}
+use Rattle.std.proofs.Math.Nat.{mul-le-mul}
+use Rattle.std.specs.List.{range_with_len}
+use Rattle.std.proofs.lemmas.Bool.{cond-true, cond-false, cases_Bool}
+use Rattle.std.proofs.Math.ListN.{length-map}
+use Rattle.std.proofs.lemmas.List.{get_or-map}
+use Rattle.std.proofs.lemmas.List.FromFn.{get_or-map-range_with_len, length-map-range_with_len}
+use Rattle.ascii_grid.specs.declared.place.Place.{Place}
+use Rattle.tiles.specs.declared.bounds.Bounds.{Bounds}
+use Rattle.tiles.specs.Cutting.{View, IsView, AreBounds, IsInTile, IsInBounds, bounds_of}
+use Rattle.tiles.proofs.Cut.{places_from_value}
+use Rattle.tiles.proofs.TileOrder.{index_in_below, place_in-index_in}
+use Rattle.drain.specs.Following.{Directed, code_at}
+use Rattle.drain.specs.Drained.{AllFlowEnds}
+use Rattle.flow.specs.Streams.{AreStreams, AreUpstream, AreEnds, sum_below, share, total, end_of}
+use Rattle.flow.specs.TileFlow.{directed_by, entry_in, through_of, IsExitOf, Flow, IsFlow, IsTileFlow}
+use Rattle.flow.specs.TileLinks.{place_in, index_in, link_in, link_by, weight_in, AreTileCodes, AreTileLinks, AreTileWeights, IsSmall, links_by, weights_by, where_data, through_by, exits_by}
+use Rattle.flow.proofs.Sums.{sum_below-few}
+use Rattle.flow.proofs.Ending.{end-inside}
+use Rattle.flow.proofs.EarlyEnds.{share-some, share-cases}
+use Rattle.flow.proofs.Coded.{IsCoded, cases_coded, coded_some}
+use Rattle.flow.proofs.InTile.{IsPiece, test_from_bounds, tile_streams}
+use Rattle.flow.proofs.Through.{total_is, exit_is}
+
+pub small_from : {X : Type 0} (v : View X) (b : Bounds) → AreBounds v.cutting b → IsView v → IsSmall b
+small_from v b a w =
+    let r = w.cutting.few_rows in let k = w.cutting.few_cols in let s = a.rows_inside in let t = a.cols_inside in
+    record { some_col = a.some_col; few_rows = omega arith; few_cols = omega arith }
+
+pub links_from : (d : Directed) (b : Bounds) (cells : List (Option ℕ)) → AreTileCodes d b cells → AreTileLinks d b (links_by b cells)
+links_from d b cells codes = record {
+  size = length-map-range_with_len (λ i. link_by b i (get_or cells i None)) 0 (b.rows * b.cols);
+  each = λ i h. get_or-map-range_with_len (λ i. link_by b i (get_or cells i None)) 0 (b.rows * b.cols) i i 0 h (omega arith) ∙ ap (link_by b i) (codes.each i h);
+}
+
+pub weights_from : (d : Directed) (b : Bounds) (cells : List (Option ℕ)) → AreTileCodes d b cells → AreTileWeights d b (weights_by cells)
+weights_from d b cells codes = record {
+  size = length-map cells (λ (code : Option ℕ). cond {A = ℕ} (is_some code) 1 0) ∙ codes.size;
+  each = λ i h. get_or-map (λ (code : Option ℕ). cond {A = ℕ} (is_some code) 1 0) cells i None 0 (omega (arith, codes.size))
+    ∙ ap (λ (code : Option ℕ). cond {A = ℕ} (is_some code) 1 0) (codes.each i h);
+}
+
+pub piece_from : (v : View (Option ℕ)) (b : Bounds) (cells : List (Option ℕ)) (links : List ℕ) → AllFlowEnds (directed_by v) → b ≡ bounds_of v.cutting v.tile → AreBounds v.cutting b → IsView v →
+    AreTileCodes (directed_by v) b cells → links ≡ links_by b cells → IsPiece (directed_by v) v.cutting v.tile b links
+piece_from v b cells links ends is inside lawful codes made = record {
+  cutting = lawful.cutting;
+  cols = refl;
+  rows = refl;
+  ends = ends;
+  inside = inside;
+  places = places_from_value v.cutting v.tile b lawful.cutting lawful.tile is;
+  made = subst (λ (l : List ℕ). AreTileLinks (directed_by v) b l) (sym made) (links_from (directed_by v) b cells codes);
+}
+
+abbrev pub make_flow : Bounds → List (Option ℕ) → List (Option ℕ) → List (Option Place) → Flow
+make_flow b cells through exits = record { bounds = b; codes = cells; through = through; exits = exits }
+
+-- the lists of a tile
+pub record AreLists (v : View (Option ℕ)) (b : Bounds) (cells : List (Option ℕ)) (links weights : List ℕ) : Type 0 where
+  pub ends : AllFlowEnds (directed_by v)
+  pub bounds : b ≡ bounds_of v.cutting v.tile
+  pub inside : AreBounds v.cutting b
+  pub lawful : IsView v
+  pub codes : AreTileCodes (directed_by v) b cells
+  pub made : links ≡ links_by b cells
+  pub weighed : weights ≡ weights_by cells
+
+pub match_none : {X : Type 0} (o : Option X) (P : Type 0) (Q : X → Type 0) → o ≡ None → P → MatchOption o P Q
+match_none {X} o P Q e p = subst (λ (z : Option X). MatchOption z P Q) (sym e) p
+
+pub match_some : {X : Type 0} (o : Option X) (P : Type 0) (Q : X → Type 0) (x : X) → o ≡ Some x → Q x → MatchOption o P Q
+match_some {X} o P Q x e q = subst (λ (z : Option X). MatchOption z P Q) (sym e) q
+
+module _ (v : View (Option ℕ)) (b : Bounds) (cells : List (Option ℕ)) (links weights : List ℕ) (s : AreLists v b cells links weights) where
+  pub piece : IsPiece (directed_by v) v.cutting v.tile b links
+  piece = piece_from v b cells links s.ends s.bounds s.inside s.lawful s.codes s.made
+
+  weighs : AreTileWeights (directed_by v) b weights
+  weighs = subst (λ (w : List ℕ). AreTileWeights (directed_by v) b w) (sym s.weighed) (weights_from (directed_by v) b cells s.codes)
+
+  pub streams : AreStreams links
+  streams = tile_streams (directed_by v) v.cutting v.tile b links piece
+
+  pub few : length links ≤ 2 ^ 24
+  few =
+      let small = small_from v b s.inside s.lawful in
+      let r : b.rows ≤ 4096 = omega (arith, small.few_rows) in
+      let k : b.cols ≤ 4096 = omega (arith, small.few_cols) in
+      let most : b.rows * b.cols ≤ 4096 * 4096 = mul-le-mul r k in
+      omega (arith, piece.made.size)
+
+  pub same_size : length weights ≡ length links
+  same_size = weighs.size ∙ sym piece.made.size
+
+  weight_le : (i : ℕ) → i < length links → get_or weights i 0 ≤ 1
+  weight_le i h = elim (cases_Bool (is_some (code_at (directed_by v) (place_in b i)))) [
+      inl t ↦ omega (arith, weighs.each i (omega (arith, h, piece.made.size)), cond-true {A = ℕ} _ 1 0 t)
+    | inr f ↦ omega (arith, weighs.each i (omega (arith, h, piece.made.size)), cond-false {A = ℕ} _ 1 0 f) ]
+
+  pub fits : (i : ℕ) → i < length links → total links weights i < 2 ^ 32
+  fits i h = omega (arith, few, sum_below-few (λ j. share links (length links) j i (get_or weights j 0)) (length links)
+      (λ j l. elim (share-cases links (length links) j i (get_or weights j 0)) [
+          inl r ↦ omega (arith, share-some links (length links) j i (get_or weights j 0) r.0 r.1 r.2, weight_le j l)
+        | inr z ↦ omega arith ]))
+
+  pub sizes : length links ≡ length cells
+  sizes = piece.made.size ∙ sym s.codes.size
+
+  pub entry_is : {X : Type 0} (entries : List (Option X)) (p : Place) → IsInBounds b p → entry_in b entries p ≡ get_or entries (index_in b p) None
+  entry_is entries p h = cond-true _ _ _ (test_from_bounds b p h)
+
+  in_cells : (p : Place) → IsInBounds b p → index_in b p < length cells
+  in_cells p h = omega (arith, index_in_below b p h, s.codes.size)
+
+  code_is : (p : Place) → IsInBounds b p → get_or cells (index_in b p) None ≡ code_at (directed_by v) p
+  code_is p h = s.codes.each (index_in b p) (index_in_below b p h) ∙ ap (code_at (directed_by v)) (place_in-index_in b p h)
+
+  module _ (came : List ℕ) (up : AreUpstream links weights came) where
+    pub came_size : length came ≡ length cells
+    came_size = up.size ∙ sizes
+
+    pub through_is : (p : Place) → IsInBounds b p → entry_in b (through_by cells came) p ≡ where_data (code_at (directed_by v) p) (get_or came (index_in b p) 0)
+    through_is p h =
+        entry_is (through_by cells came) p h
+        ∙ get_or-map-range_with_len (λ i. where_data (get_or cells i None) (get_or came i 0)) 0 (length cells) (index_in b p) (index_in b p) None (in_cells p h) (omega arith)
+        ∙ ap (λ o. where_data o (get_or came (index_in b p) 0)) (code_is p h)
+
+    pub count_of : (p : Place) → IsInBounds b p → IsCoded (directed_by v) p → get_or came (index_in b p) 0 ≡ through_of (directed_by v) v.cutting p
+    count_of p h is =
+        let at = place_in-index_in b p h in
+        let i : index_in b p < length links = omega (arith, in_cells p h, sizes) in
+        let some = coded_some (directed_by v) p is in
+        let there : is_some (code_at (directed_by v) (place_in b (index_in b p))) ≡ true = ap (λ (q : Place). is_some (code_at (directed_by v) q)) at ∙ some in
+        let one : get_or weights (index_in b p) 0 ≡ 1 = weighs.each (index_in b p) (index_in_below b p h) ∙ cond-true {A = ℕ} _ 1 0 there in
+        omega (arith, one, up.each (index_in b p) i, total_is (directed_by v) v.cutting v.tile b links piece weights weighs (index_in b p) i there)
+        ∙ ap (through_of (directed_by v) v.cutting) at
+
+  module _ (ends : List ℕ) (last : AreEnds links ends) where
+    pub ends_size : length ends ≡ length cells
+    ends_size = last.size ∙ sizes
+
+    pub ends_inside : (i : ℕ) → i < length cells → get_or ends i 0 < b.rows * b.cols
+    ends_inside i h = omega (arith, last.each i (omega (arith, h, sizes)), end-inside links streams i (omega (arith, h, sizes)), piece.made.size)
+
+    exit_entry : (p : Place) → IsInBounds b p → entry_in b (exits_by b cells ends) p ≡ where_data (code_at (directed_by v) p) (place_in b (get_or ends (index_in b p) 0))
+    exit_entry p h =
+        entry_is (exits_by b cells ends) p h
+        ∙ get_or-map-range_with_len (λ i. where_data (get_or cells i None) (place_in b (get_or ends i 0))) 0 (length cells) (index_in b p) (index_in b p) None (in_cells p h) (omega arith)
+        ∙ ap (λ o. where_data o (place_in b (get_or ends (index_in b p) 0))) (code_is p h)
+
+    exit_of : (p : Place) → IsInBounds b p → IsCoded (directed_by v) p → IsExitOf (directed_by v) v.cutting p (place_in b (get_or ends (index_in b p) 0))
+    exit_of p h is =
+        let at = place_in-index_in b p h in
+        let i : index_in b p < length links = omega (arith, in_cells p h, sizes) in
+        let there = subst (λ (q : Place). IsCoded (directed_by v) q) (sym at) is in
+        let e = exit_is (directed_by v) v.cutting v.tile b links piece (index_in b p) i there in
+        subst (λ (q : Place). IsExitOf (directed_by v) v.cutting q (place_in b (get_or ends (index_in b p) 0))) at
+          (subst (λ n. IsExitOf (directed_by v) v.cutting (place_in b (index_in b p)) (place_in b n)) (sym (last.each (index_in b p) i)) e)
+
+  module _ (came ends : List ℕ) (up : AreUpstream links weights came) (last : AreEnds links ends) where
+    pub flow_lawful : IsFlow (make_flow b cells (through_by cells came) (exits_by b cells ends))
+    flow_lawful =
+        let small = small_from v b s.inside s.lawful in
+        record {
+          some_col = small.some_col;
+          few_rows = small.few_rows;
+          few_cols = small.few_cols;
+          codes_size = s.codes.size;
+          through_size = length-map-range_with_len (λ i. where_data (get_or cells i None) (get_or came i 0)) 0 (length cells) ∙ s.codes.size;
+          exits_size = length-map-range_with_len (λ i. where_data (get_or cells i None) (place_in b (get_or ends i 0))) 0 (length cells) ∙ s.codes.size;
+        }
+
+    pub flow_is : IsTileFlow (directed_by v) v.cutting v.tile (make_flow b cells (through_by cells came) (exits_by b cells ends))
+    flow_is = record {
+      bounds = s.bounds;
+      lawful = flow_lawful;
+      same_codes = λ p i. (let h = (piece.places p).0 i in entry_is cells p h ∙ code_is p h);
+      each = λ p i. (let h = (piece.places p).0 i in
+        elim (cases_coded (directed_by v) p) [
+            inl none ↦ match_none (code_at (directed_by v) p) _ _ none
+              (through_is came up p h ∙ ap (λ o. where_data o (get_or came (index_in b p) 0)) none,
+               exit_entry ends last p h ∙ ap (λ o. where_data o (place_in b (get_or ends (index_in b p) 0))) none)
+          | inr is ↦ match_some (code_at (directed_by v) p) _ _ is.code is.is
+              (through_is came up p h ∙ ap (λ o. where_data o (get_or came (index_in b p) 0)) is.is ∙ ap Some (count_of came up p h is),
+               place_in b (get_or ends (index_in b p) 0), exit_entry ends last p h ∙ ap (λ o. where_data o (place_in b (get_or ends (index_in b p) 0))) is.is, exit_of ends last p h is) ]);
+    }

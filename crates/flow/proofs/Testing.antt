@@ -1,0 +1,45 @@
+-- Maps of directions whose paths end by a test.
+use Rattle.std.proofs.Common.{◌≡◌, ℕ, ◌*◌, ◌<◌, ◌≤◌, true, false, inl, inr, List, map, length, Option, None, Some, sym, ap, subst, refl, ◌∙◌, arith}
+use Rattle.std.proofs.Math.ListN.{length-map}
+use Rattle.std.specs.List.{list_all, range_with_len}
+use Rattle.std.proofs.lemmas.Bool.{and_parts, or_cases, leb-true, eqb-true}
+use Rattle.ascii_grid.specs.declared.place.Place.{Place}
+use Rattle.drain.specs.Following.{Directed, code_at, last_of, IsOutlet}
+use Rattle.drain.specs.Drained.{AllFlowEnds}
+use Rattle.flow.specs.Whole.{make_directed, is_outlet_code, IsGridFlow}
+use Rattle.flow.specs.Tested.{code_of_number, codes_by, is_none_code, ends_at, flows}
+use Rattle.flow.proofs.Ranges.{every_in_range}
+use Rattle.flow.proofs.Coded.{coded_inside}
+
+outlet_from_code : (o : Option ℕ) → is_outlet_code o ≡ true → o ≡ Some 0
+outlet_from_code None h = cc
+outlet_from_code (Some n) h = ap Some (eqb-true _ _ h)
+
+ends_from_test : (d : Directed) → list_all (λ row. list_all (λ col. ends_at d row col) (range_with_len 0 d.cols)) (range_with_len 0 d.rows) ≡ true → AllFlowEnds d
+ends_from_test d t p code e =
+    let w = coded_inside d p (record { code = code; is = e }) in
+    let row = every_in_range (λ row. list_all (λ col. ends_at d row col) (range_with_len 0 d.cols)) d.rows t p.row w.0 in
+    let at = every_in_range (λ col. ends_at d p.row col) d.cols row p.col w.1 in
+    elim (or_cases _ _ at) [
+        inl none ↦ absurd (not_both (code_at d p) code e none)
+      | inr out ↦ outlet_from_code (code_at d (last_of d p)) out ]
+  where
+    not_both : (o : Option ℕ) (n : ℕ) → o ≡ Some n → is_none_code o ≡ true → ⊥
+    not_both None n e h = cc
+    not_both (Some m) n e h = cc
+
+pub grid_from_test : (cols rows : ℕ) (numbers : List ℕ) → flows cols rows numbers ≡ true → IsGridFlow cols rows (codes_by numbers)
+grid_from_test cols rows numbers t =
+    let a = and_parts _ _ t in
+    let b = and_parts _ _ a.0 in
+    let c = and_parts _ _ b.0 in
+    let d = and_parts _ _ c.0 in
+    let e = and_parts _ _ d.0 in
+    record {
+      some_col = leb-true _ _ e.0;
+      some_row = leb-true _ _ e.1;
+      few_cols = leb-true _ _ d.1;
+      few_rows = leb-true _ _ c.1;
+      size = length-map numbers code_of_number ∙ eqb-true _ _ b.1;
+      ends = ends_from_test (make_directed cols rows (codes_by numbers)) a.1;
+    }

@@ -1,0 +1,92 @@
+-- Counts over the places of a grid as sums over rows and columns, and over the indexes of bounds.
+use Rattle.std.proofs.Common.{◌≡◌, ◌≢◌, ℕ, zero, suc, ◌+◌, ◌-◌, ◌*◌, ◌/◌, ◌%◌, ◌<◌, ◌≤◌, Bool, true, false, cond, inl, inr, List, [], ◌∷◌, ◌++◌, map, sym, ap, refl, ◌∙◌, arith, add-one, add-zero, zero-mul, mul_comm}
+use Rattle.std.proofs.lemmas.Bool.{cases_lt}
+use Rattle.std.proofs.lemmas.List.Sums.{sum_by-append, sum_by-cons, sum_by_push}
+use Rattle.std.proofs.lemmas.List.FromFn.{map-range_with_len_more}
+use Rattle.std.proofs.lemmas.Nat.{div-mul-add, mod-mul-add}
+use Rattle.std.specs.List.{range_with_len, flat_map, sum_by}
+use Rattle.ascii_grid.specs.Ways.{places}
+use Rattle.ascii_grid.specs.declared.place.Place.{Place}
+use Rattle.ascii_grid.proofs.Places.{make_place}
+use Rattle.tiles.specs.declared.bounds.Bounds.{Bounds}
+use Rattle.flow.specs.Streams.{sum_below}
+use Rattle.flow.specs.TileLinks.{place_in}
+use Rattle.flow.proofs.Sums.{sum_below-same, sum_more}
+
+-- a sum over a range
+sum_by_row : {X : Type 0} (f : X → ℕ) (g : ℕ → X) (n : ℕ) → sum_by f (map g (range_with_len 0 n)) ≡ sum_below (λ i. f (g i)) n
+sum_by_row f g zero = refl
+sum_by_row f g (suc n) =
+    ap (λ (k : ℕ). sum_by f (map g (range_with_len 0 k))) (sym (add-one n))
+    ∙ ap (λ xs. sum_by f xs) (map-range_with_len_more g 0 n n (omega arith))
+    ∙ sum_by_push f (map g (range_with_len 0 n)) (g n)
+    ∙ ap (λ k. k + f (g n)) (sum_by_row f g n)
+
+-- a sum over lists that are joined
+sum_by_rows : {X Y : Type 0} (f : X → ℕ) (g : Y → List X) (ys : List Y) → sum_by f (flat_map g ys) ≡ sum_by (λ y. sum_by f (g y)) ys
+sum_by_rows f g [] = refl
+sum_by_rows f g (y ∷ ys) =
+    sum_by-append f (g y) (flat_map g ys) ∙ ap (λ k. sum_by f (g y) + k) (sum_by_rows f g ys) ∙ sym (sum_by-cons (λ z. sum_by f (g z)) y ys)
+
+map_id : (xs : List ℕ) → map (λ x. x) xs ≡ xs
+map_id [] = refl
+map_id (x ∷ xs) = ap (λ ys. x ∷ ys) (map_id xs)
+
+-- what a function has in a row
+abbrev pub row_sum : (Place → ℕ) → ℕ → ℕ → ℕ
+row_sum f cols r = sum_below (λ c. f (make_place r c)) cols
+
+pub sum_by_places : (f : Place → ℕ) (cols rows : ℕ) → sum_by f (places cols rows) ≡ sum_below (row_sum f cols) rows
+sum_by_places f cols rows =
+    sum_by_rows f (λ (r : ℕ). map (λ (c : ℕ). make_place r c) (range_with_len 0 cols)) (range_with_len 0 rows)
+    ∙ ap (λ xs. sum_by (λ (r : ℕ). sum_by f (map (λ (c : ℕ). make_place r c) (range_with_len 0 cols))) xs) (sym (map_id (range_with_len 0 rows)))
+    ∙ sum_by_row (λ (r : ℕ). sum_by f (map (λ (c : ℕ). make_place r c) (range_with_len 0 cols))) (λ (r : ℕ). r) rows
+    ∙ sum_below-same _ (row_sum f cols) rows (λ r h. sum_by_row f (λ (c : ℕ). make_place r c) cols)
+
+-- a sum in two parts
+pub sum_below-split : (f : ℕ → ℕ) (a n : ℕ) → sum_below f (a + n) ≡ sum_below f a + sum_below (λ i. f (a + i)) n
+sum_below-split f a zero = ap (sum_below f) (add-zero a) ∙ omega arith
+sum_below-split f a (suc n) =
+    let next : a + suc n ≡ suc (a + n) = omega arith in
+    let rest : sum_below f (a + n) ≡ sum_below f a + sum_below (λ i. f (a + i)) n = sum_below-split f a n in
+    ap (sum_below f) next ∙ omega arith
+
+pub sum_below-none : (f : ℕ → ℕ) (n : ℕ) → ((i : ℕ) → i < n → f i ≡ 0) → sum_below f n ≡ 0
+sum_below-none f zero none = refl
+sum_below-none f (suc n) none = omega (arith, sum_below-none f n (λ i h. none i (omega arith)), none n (omega arith))
+
+-- a sum whose terms are 0 outside a window
+pub sum_window : (f : ℕ → ℕ) (from n m : ℕ) → from + n ≤ m → ((i : ℕ) → i < from → f i ≡ 0) → ((i : ℕ) → from + n ≤ i → i < m → f i ≡ 0) →
+    sum_below f m ≡ sum_below (λ i. f (from + i)) n
+sum_window f from n m le low high =
+    let total : m ≡ from + n + (m - (from + n)) = omega arith in
+    let first : sum_below f (from + n) ≡ sum_below f from + sum_below (λ i. f (from + i)) n = sum_below-split f from n in
+    let both : sum_below f (from + n + (m - (from + n))) ≡ sum_below f (from + n) + sum_below (λ i. f (from + n + i)) (m - (from + n)) = sum_below-split f (from + n) (m - (from + n)) in
+    let none : sum_below f from ≡ 0 = sum_below-none f from low in
+    let rest : sum_below (λ i. f (from + n + i)) (m - (from + n)) ≡ 0 = sum_below-none (λ i. f (from + n + i)) (m - (from + n)) (λ i h. high (from + n + i) (omega arith) (omega arith)) in
+    ap (sum_below f) total ∙ omega arith
+
+-- a sum over the indexes of bounds, row by row
+pub sum_in_rows : (f : Place → ℕ) (b : Bounds) (rows : ℕ) →
+    sum_below (λ i. f (place_in b i)) (rows * b.cols) ≡ sum_below (λ r. sum_below (λ c. f (make_place (b.top + r) (b.left + c))) b.cols) rows
+sum_in_rows f b zero = ap (sum_below (λ i. f (place_in b i))) (zero-mul b.cols)
+sum_in_rows f b (suc rows) =
+    let size : suc rows * b.cols ≡ rows * b.cols + b.cols = grind arith in
+    let split : sum_below (λ i. f (place_in b i)) (rows * b.cols + b.cols) ≡ sum_below (λ i. f (place_in b i)) (rows * b.cols) + sum_below (λ c. f (place_in b (rows * b.cols + c))) b.cols =
+      sum_below-split (λ i. f (place_in b i)) (rows * b.cols) b.cols in
+    let row : sum_below (λ c. f (place_in b (rows * b.cols + c))) b.cols ≡ sum_below (λ c. f (make_place (b.top + rows) (b.left + c))) b.cols =
+      sum_below-same _ _ b.cols (λ c h. ap (λ q. f (make_place (b.top + q) (b.left + (rows * b.cols + c) % b.cols))) (div-mul-add rows b.cols c h)
+        ∙ ap (λ q. f (make_place (b.top + rows) (b.left + q))) (mod-mul-add rows b.cols c h)) in
+    let rest : sum_below (λ i. f (place_in b i)) (rows * b.cols) ≡ sum_below (λ r. sum_below (λ c. f (make_place (b.top + r) (b.left + c))) b.cols) rows = sum_in_rows f b rows in
+    ap (sum_below (λ i. f (place_in b i))) size ∙ omega arith
+
+-- a sum over the places of a grid whose terms are 0 outside bounds
+pub sum_in_bounds : (f : Place → ℕ) (b : Bounds) (cols rows : ℕ) → b.top + b.rows ≤ rows → b.left + b.cols ≤ cols →
+    ((r c : ℕ) → r < b.top → f (make_place r c) ≡ 0) → ((r c : ℕ) → b.top + b.rows ≤ r → f (make_place r c) ≡ 0) →
+    ((r c : ℕ) → c < b.left → f (make_place r c) ≡ 0) → ((r c : ℕ) → b.left + b.cols ≤ c → f (make_place r c) ≡ 0) →
+    sum_by f (places cols rows) ≡ sum_below (λ i. f (place_in b i)) (b.rows * b.cols)
+sum_in_bounds f b cols rows r_in c_in above below west east =
+    sum_by_places f cols rows
+    ∙ sum_window (row_sum f cols) b.top b.rows rows r_in (λ r h. sum_below-none _ cols (λ c k. above r c h)) (λ r h k. sum_below-none _ cols (λ c l. below r c h))
+    ∙ sum_below-same _ _ b.rows (λ r h. sum_window (λ c. f (make_place (b.top + r) c)) b.left b.cols cols c_in (λ c k. west (b.top + r) c k) (λ c k l. east (b.top + r) c k))
+    ∙ sym (sum_in_rows f b b.rows)

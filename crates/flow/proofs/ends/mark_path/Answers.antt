@@ -1,0 +1,28 @@
+use Rattle.std.proofs.Common.{◌≡◌, ◌≢◌, ℕ, ◌+◌, ◌<◌, ◌⊎◌, inl, inr, List, length, get_or, set, subst, sym, ap, refl, ◌∙◌, arith}
+use Rattle.flow.specs.Streams.{end_of}
+use Rattle.flow.specs.Finding.{AreFound, IsKnown, unknown_mark}
+use Rattle.flow.proofs.Ending.{found_more, known_same, known_still, end-onward, end-inside}
+use Rattle.flow.proofs.ends.mark_path.Goals as goal
+
+pub path-init : goal.path-init
+path-init c = record {
+  found = c.requires.found;
+  inside = c.requires.inside;
+  last = c.requires.last;
+  kept = λ i k. k;
+  marked = inl (refl, refl);
+}
+
+pub path-preserved : goal.path-preserved
+path-preserved c =
+    let at : c.path.node < length c.path.ends = omega (arith, c.path.invariant.found.size, c.path.invariant.inside) in
+    let ne : c.args.last ≢ unknown_mark = λ e. omega (arith, e, c.requires.last, end-inside c.args.links.now c.requires.streams c.args.from c.requires.inside, c.requires.few) in
+    record {
+      found = found_more _ _ _ _ c.path.invariant.found c.path.invariant.inside c.path.invariant.last;
+      inside = c.requires.streams.inside c.path.node c.path.invariant.inside;
+      last = c.path.invariant.last ∙ sym (end-onward c.args.links.now c.requires.streams c.path.node c.path.invariant.inside);
+      kept = λ i k. known_still c.path.ends c.path.node c.args.last at ne i (c.path.invariant.kept i k);
+      marked = inr (elim c.path.invariant.marked [
+          inl b ↦ subst (λ (n : ℕ). IsKnown (set c.path.ends c.path.node c.args.last) n) b.1 (known_same c.path.ends c.path.node c.args.last at ne)
+        | inr k ↦ known_still c.path.ends c.path.node c.args.last at ne c.args.from k ]);
+    }

@@ -1,0 +1,13 @@
+use Rattle.std.proofs.Common.{◌≡◌, ℕ, ◌<◌, ◌⊎◌, length}
+use Rattle.flow.specs.Streams.{end_of}
+use Rattle.flow.specs.Finding.{AreFound, IsKnown}
+use Rattle.flow.proofs.ends.mark_path.Given as goal
+
+abbrev pub invariant-path : goal.invariant-path
+invariant-path l = record {
+  found : AreFound l.links l.ends;
+  inside : l.node < length l.links;
+  last : l.last ≡ end_of l.links l.node;
+  kept : (i : ℕ) → IsKnown l.initial.ends i → IsKnown l.ends i;
+  marked : ((l.counter ≡ 0) × (l.node ≡ l.from)) ⊎ IsKnown l.ends l.from
+}

@@ -1,0 +1,11 @@
+pub mod Counts
+pub mod TileFlow
+pub mod Links
+pub mod Streams
+pub mod Sending
+pub mod Finding
+pub mod TileLinks
+pub mod Whole
+pub mod Tested
+pub mod Crossing
+pub mod Joining

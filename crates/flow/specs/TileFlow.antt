@@ -1,0 +1,88 @@
+-- Flow inside one tile, and over its rim.
+use Rattle.std.specs.Prelude.{◌*◌, ◌≤◌, nat_le, nat_lt, if◌then◌else◌, slice_index_or, ◌≡◌, ◌≢◌, ℕ, ◌+◌, ◌-◌, ◌<◌, ◌⊎◌, Bool, not, ◌&&◌, ◌==◌, List, length, count_by, Option, None, Some, is_some, IsSome, MatchOption, slice_get, IsTrue}
+use Rattle.std.specs.List.{list_any, list_all, range_with_len}
+use Rattle.ascii_grid.specs.Ways.{places}
+use Rattle.ascii_grid.specs.declared.place.Place.{Place}
+use Rattle.tiles.specs.declared.bounds.Bounds.{Bounds}
+use Rattle.tiles.specs.Cutting.{Cutting, View, longest_axis, tile_of_place, tile_count, IsInTile, bounds_of}
+use Rattle.drain.specs.Following.{Directed, code_at, next, follow, moves, IsOutlet}
+use Rattle.flow.specs.Counts.{is_place}
+
+-- The map of directions of which a view shows a tile.
+abbrev pub directed_by : View (Option ℕ) → Directed
+directed_by v = record { cols = v.cutting.cols; rows = v.cutting.rows; codes = v.cells }
+
+-- The first k moves from p stay in its tile.
+abbrev pub stays : Directed → Cutting → Place → ℕ → Bool
+stays d c p k = list_all (λ j. tile_of_place c (follow d p j) == tile_of_place c p) (range_with_len 0 (k + 1))
+
+-- The flow path of q reaches p without leaving the tile of q.
+abbrev pub reaches_inside : Directed → Cutting → Place → Place → Bool
+reaches_inside d c p q = list_any (λ k. is_place p (follow d q k) && stays d c q k) (range_with_len 0 (moves d))
+
+-- How many other data cells reach p without leaving the tile.
+abbrev pub through_of : Directed → Cutting → Place → ℕ
+through_of d c p =
+    count_by (λ q. is_some (code_at d q) && not (is_place p q) && reaches_inside d c p q) (places d.cols d.rows)
+
+-- A data cell whose water leaves its tile, or an outlet.
+abbrev pub IsExitCell : Directed → Cutting → Place → Type 0
+IsExitCell d c p =
+    IsSome (code_at d p) × (IsOutlet d p ⊎ (tile_of_place c (next d p) ≢ tile_of_place c p))
+
+-- The exit of p ends the part of its flow path that stays in the tile.
+abbrev pub IsExitOf : Directed → Cutting → Place → Place → Type 0
+IsExitOf d c p e = (k : ℕ) × (k < moves d) × IsTrue (stays d c p k) × (follow d p k ≡ e) × IsExitCell d c e
+
+-- How many cells' flow paths hold p right after a cell of another tile.
+abbrev pub inflow_of : Directed → Cutting → Place → ℕ
+inflow_of d c p =
+    count_by (λ q. is_some (code_at d q)
+    && list_any (λ k. is_place p (follow d q (k + 1)) && not (tile_of_place c (follow d q k) == tile_of_place c p))
+    (range_with_len 0 (moves d - 1)))
+    (places d.cols d.rows)
+
+-- The bounds of a tile and, in its row order, its codes, the counts and the exits.
+pub record Flow : Type 0 where
+  pub bounds : Bounds
+  pub codes : List (Option ℕ)
+  pub through : List (Option ℕ)
+  pub exits : List (Option Place)
+
+abbrev pub is_in_bounds : Bounds → Place → Bool
+is_in_bounds b p = nat_le b.top p.row && nat_lt p.row (b.top + b.rows) && nat_le b.left p.col && nat_lt p.col (b.left + b.cols)
+
+-- The entry of a place in a list in the row order of these bounds, None outside.
+abbrev pub entry_in : {X : Type 0} → Bounds → List (Option X) → Place → Option X
+entry_in b entries p =
+    if is_in_bounds b p then slice_index_or entries ((p.row - b.top) * b.cols + (p.col - b.left)) None else None
+
+abbrev pub through_in : Flow → Place → Option ℕ
+through_in f p = entry_in f.bounds f.through p
+
+abbrev pub exit_in : Flow → Place → Option Place
+exit_in f p = entry_in f.bounds f.exits p
+
+-- What holds of every flow of a tile.
+pub record IsFlow (f : Flow) : Type 0 where
+  pub some_col : 1 ≤ f.bounds.cols
+  pub few_rows : f.bounds.top + f.bounds.rows ≤ longest_axis
+  pub few_cols : f.bounds.left + f.bounds.cols ≤ longest_axis
+  pub codes_size : length f.codes ≡ f.bounds.rows * f.bounds.cols
+  pub through_size : length f.through ≡ f.bounds.rows * f.bounds.cols
+  pub exits_size : length f.exits ≡ f.bounds.rows * f.bounds.cols
+
+-- The flow is the tile's: each data cell of the tile has its count and its exit, and a cell without data neither.
+pub record IsTileFlow (d : Directed) (c : Cutting) (tile : ℕ) (f : Flow) : Type 0 where
+  pub bounds : f.bounds ≡ bounds_of c tile
+  pub lawful : IsFlow f
+  pub same_codes : (p : Place) → IsInTile c tile p → entry_in f.bounds f.codes p ≡ code_at d p
+  pub each : (p : Place) → IsInTile c tile p →
+      MatchOption (code_at d p) ((through_in f p ≡ None) × (exit_in f p ≡ None))
+      (λ _. (through_in f p ≡ Some (through_of d c p)) × (e : Place) × (exit_in f p ≡ Some e) × IsExitOf d c p e)
+
+-- One flow for each tile, in tile order.
+pub record AreTileFlows (d : Directed) (c : Cutting) (flows : List Flow) : Type 0 where
+  pub size : (d.cols ≡ c.cols) × (d.rows ≡ c.rows)
+  pub count : length flows ≡ tile_count c
+  pub each : (tile : ℕ) (f : Flow) → slice_get flows tile ≡ Some f → IsTileFlow d c tile f

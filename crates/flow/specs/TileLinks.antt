@@ -1,0 +1,66 @@
+-- The directions of a tile as links between its cells, which are numbered in its row order. Only the contracts of private functions speak of it.
+use Rattle.std.specs.Prelude.{◌≡◌, ℕ, ◌+◌, ◌-◌, ◌*◌, ◌/◌, ◌%◌, ◌<◌, ◌≤◌, if◌then◌else◌, is_some, List, map, length, Option, None, Some, slice_index, slice_index_or, unwrap_or, option_and_then}
+use Rattle.std.specs.List.{range_with_len}
+use Rattle.ascii_grid.specs.Ways.{place_toward}
+use Rattle.tiles.specs.Cutting.{longest_axis}
+use Rattle.ascii_grid.specs.declared.place.Place.{Place}
+use Rattle.tiles.specs.declared.bounds.Bounds.{Bounds}
+use Rattle.drain.specs.Following.{Directed, code_at, next}
+use Rattle.flow.specs.TileFlow.{is_in_bounds}
+
+abbrev pub place_in : Bounds → ℕ → Place
+place_in b i = record { row = b.top + i / b.cols; col = b.left + i % b.cols }
+
+abbrev pub index_in : Bounds → Place → ℕ
+index_in b p = (p.row - b.top) * b.cols + (p.col - b.left)
+
+-- The cell to which the water of a cell goes on, or the cell itself where it stays or leaves the tile.
+abbrev pub link_in : Directed → Bounds → ℕ → ℕ
+link_in d b i = if is_in_bounds b (next d (place_in b i)) then index_in b (next d (place_in b i)) else i
+
+-- 1 for a data cell, and 0 for one without data.
+abbrev pub weight_in : Directed → Bounds → ℕ → ℕ
+weight_in d b i = if is_some (code_at d (place_in b i)) then 1 else 0
+
+pub record AreTileLinks (d : Directed) (b : Bounds) (links : List ℕ) : Type 0 where
+  pub size : length links ≡ b.rows * b.cols
+  pub each : (i : ℕ) → i < b.rows * b.cols → slice_index links i ≡ link_in d b i
+
+pub record AreTileWeights (d : Directed) (b : Bounds) (weights : List ℕ) : Type 0 where
+  pub size : length weights ≡ b.rows * b.cols
+  pub each : (i : ℕ) → i < b.rows * b.cols → slice_index weights i ≡ weight_in d b i
+
+-- What holds of the bounds of a tile: they have a cell, and lie in a grid within the limits.
+pub record IsSmall (b : Bounds) : Type 0 where
+  pub some_col : 1 ≤ b.cols
+  pub few_rows : b.top + b.rows ≤ longest_axis
+  pub few_cols : b.left + b.cols ≤ longest_axis
+
+-- the codes of the cells in the bounds, in their row order
+pub record AreTileCodes (d : Directed) (b : Bounds) (cells : List (Option ℕ)) : Type 0 where
+  pub size : length cells ≡ b.rows * b.cols
+  pub each : (i : ℕ) → i < b.rows * b.cols → slice_index_or cells i None ≡ code_at d (place_in b i)
+
+-- the same of the codes alone
+abbrev pub link_by : Bounds → ℕ → Option ℕ → ℕ
+link_by b i code =
+    let p = place_in b i in
+    let q = unwrap_or (option_and_then (λ c. place_toward c p) code) p in
+    if is_in_bounds b q then index_in b q else i
+
+abbrev pub links_by : Bounds → List (Option ℕ) → List ℕ
+links_by b cells = map (λ i. link_by b i (slice_index_or cells i None)) (range_with_len 0 (b.rows * b.cols))
+
+abbrev pub weights_by : List (Option ℕ) → List ℕ
+weights_by cells = map (λ code. if is_some code then 1 else 0) cells
+
+-- a value of a data cell, None for a cell without data
+abbrev pub where_data : {X : Type 0} → Option ℕ → X → Option X
+where_data None x = None
+where_data (Some code) x = Some x
+
+abbrev pub through_by : List (Option ℕ) → List ℕ → List (Option ℕ)
+through_by cells came = map (λ i. where_data (slice_index_or cells i None) (slice_index came i)) (range_with_len 0 (length cells))
+
+abbrev pub exits_by : Bounds → List (Option ℕ) → List ℕ → List (Option Place)
+exits_by b cells ends = map (λ i. where_data (slice_index_or cells i None) (place_in b (slice_index ends i))) (range_with_len 0 (length cells))

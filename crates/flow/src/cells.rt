@@ -1,0 +1,174 @@
+// The cells of a tile, numbered in its row order, and the cells to which their water goes on.
+ghost use Rattle.std.specs.Prelude.{◌≡◌, ◌+◌, ◌-◌, ◌*◌, ◌^◌, ◌<◌, ◌≤◌, ℕ, length, Some, IfOk, unwrap_or, option_and_then, if◌then◌else◌};
+ghost use Rattle.ascii_grid.specs.Ways.{before, place_of, place_toward};
+ghost use Rattle.tiles.specs.Cutting.{AreBounds, IsInBounds, bounds_of};
+ghost use Rattle.drain.specs.Following.{code_at};
+ghost use Rattle.drain.specs.CodeNumber.{IsCode};
+ghost use Rattle.flow.specs.TileFlow.{directed_by, is_in_bounds};
+ghost use Rattle.flow.specs.TileLinks.{AreTileCodes, AreTileLinks, AreTileWeights, IsSmall, place_in, index_in, link_by, links_by, weights_by};
+
+use ascii_grid::{NoMemory, Place};
+use drain::Code;
+use std::alloc::Global;
+use tiles::{Bounds, TileView};
+
+/// The codes of a tile in its row order.
+pub fn tile_codes(alloc: Global, codes: &TileView<'_, Option<Code>>) -> Result<Vec<Option<Code>>, NoMemory>
+    ensures { IfOk result (λ v. AreTileCodes (directed_by codes.now) (bounds_of codes.now.cutting codes.now.tile) v.items) }
+{
+    let bounds = codes.bounds();
+    let count = bounds.rows * bounds.cols;
+    let Ok(mut cells) = Vec::with_capacity(alloc, count as usize) else {
+        return Err(NoMemory);
+    };
+    for index in 0..count {
+        let code = code_shown(codes, bounds, place_at(bounds, index));
+        if cells.push(code).is_err() {
+            return Err(NoMemory);
+        }
+    }
+    Ok(cells)
+}
+
+/// For each cell the one to which its water goes on, or itself where it stays or leaves the tile.
+pub fn tile_links(alloc: Global, bounds: Bounds, cells: &[Option<Code>]) -> Result<Vec<u32>, NoMemory>
+    requires small { IsSmall bounds }
+    requires size { length cells.now ≡ bounds.rows * bounds.cols }
+    ensures { IfOk result (λ v. v.items ≡ links_by bounds cells.now) }
+{
+    let Ok(mut links) = Vec::with_capacity(alloc, cells.len()) else {
+        return Err(NoMemory);
+    };
+    for index in 0..bounds.rows * bounds.cols {
+        let link = link_of(bounds, index, cells[index as usize]);
+        if links.push(link).is_err() {
+            return Err(NoMemory);
+        }
+    }
+    Ok(links)
+}
+
+/// 1 for each data cell, and 0 for each without data.
+pub fn tile_weights(alloc: Global, cells: &[Option<Code>]) -> Result<Vec<u32>, NoMemory>
+    ensures { IfOk result (λ v. v.items ≡ weights_by cells.now) }
+{
+    let Ok(weights) = cells.iter().map(|code| u32::from(code.is_some())).collect(alloc) else {
+        return Err(NoMemory);
+    };
+    Ok(weights)
+}
+
+/// The place of an index.
+#[inline(always)]
+pub fn place_at(bounds: Bounds, index: u32) -> Place
+    requires small { IsSmall bounds }
+    requires given { index < bounds.rows * bounds.cols }
+    ensures value { result ≡ place_in bounds index }
+    ensures inside { IsInBounds bounds result }
+{
+    Place {
+        row: bounds.top + index / bounds.cols,
+        col: bounds.left + index % bounds.cols,
+    }
+}
+
+/// The index of a place.
+#[inline(always)]
+pub fn index_of(bounds: Bounds, place: Place) -> usize
+    requires small { IsSmall bounds }
+    requires given { IsInBounds bounds place }
+    ensures value { result ≡ index_in bounds place }
+    ensures below { result < bounds.rows * bounds.cols }
+{
+    (place.row - bounds.top) as usize * bounds.cols as usize + (place.col - bounds.left) as usize
+}
+
+#[inline(always)]
+fn code_shown(codes: &TileView<'_, Option<Code>>, bounds: Bounds, place: Place) -> Option<Code>
+    requires bounds { bounds ≡ bounds_of codes.now.cutting codes.now.tile }
+    requires inside { AreBounds codes.now.cutting bounds }
+    requires given { IsInBounds bounds place }
+    ensures { result ≡ code_at (directed_by codes.now) place }
+{
+    match codes.at(place) {
+        Some(code) => *code,
+        None => None,
+    }
+}
+
+#[inline(always)]
+fn link_of(bounds: Bounds, index: u32, code: Option<Code>) -> u32
+    requires small { IsSmall bounds }
+    requires given { index < bounds.rows * bounds.cols }
+    ensures { result ≡ link_by bounds index code }
+{
+    let place = place_at(bounds, index);
+    let next = next_of(code, place);
+    if contains(bounds, next) {
+        (next.row - bounds.top) * bounds.cols + (next.col - bounds.left)
+    } else {
+        index
+    }
+}
+
+/// Whether a place lies in the bounds.
+#[inline(always)]
+pub fn contains(bounds: Bounds, place: Place) -> bool
+    requires { IsSmall bounds }
+    ensures { result ≡ is_in_bounds bounds place }
+{
+    bounds.top <= place.row
+        && place.row < bounds.top + bounds.rows
+        && bounds.left <= place.col
+        && place.col < bounds.left + bounds.cols
+}
+
+#[inline(always)]
+fn next_of(code: Option<Code>, place: Place) -> Place
+    requires row { place.row < 2 ^ 32 - 1 }
+    requires col { place.col < 2 ^ 32 - 1 }
+    ensures { result ≡ unwrap_or (option_and_then (λ c. place_toward c place) code) place }
+{
+    match code {
+        Some(code) => toward(code, place).unwrap_or(place),
+        None => place,
+    }
+}
+
+// The place to which a code points.
+#[inline(always)]
+fn toward(code: Code, place: Place) -> Option<Place>
+    requires row { place.row < 2 ^ 32 - 1 }
+    requires col { place.col < 2 ^ 32 - 1 }
+    ensures { result ≡ place_toward code place }
+{
+    let Place { row, col } = place;
+    match code.number() {
+        1 => place_of(Some(row), Some(col + 1)),
+        2 => place_of(Some(row + 1), Some(col + 1)),
+        4 => place_of(Some(row + 1), Some(col)),
+        8 => place_of(Some(row + 1), before(col)),
+        16 => place_of(Some(row), before(col)),
+        32 => place_of(before(row), before(col)),
+        64 => place_of(before(row), Some(col)),
+        128 => place_of(before(row), Some(col + 1)),
+        _ => None,
+    }
+}
+
+#[inline(always)]
+fn before(index: u32) -> Option<u32>
+    ensures { result ≡ before index }
+{
+    if index == 0 { None } else { Some(index - 1) }
+}
+
+#[inline(always)]
+fn place_of(row: Option<u32>, col: Option<u32>) -> Option<Place>
+    ensures { result ≡ place_of row col }
+{
+    match (row, col) {
+        (Some(row), Some(col)) => Some(Place { row, col }),
+        _ => None,
+    }
+}

@@ -1,0 +1,95 @@
+// Where the paths along links end.
+ghost use Rattle.std.specs.Prelude.{◌≡◌, ◌+◌, ◌^◌, ◌<◌, ◌≤◌, ℕ, length, slice_index, IfOk};
+ghost use Rattle.flow.specs.Streams.{AreStreams, AreEnds, end_of};
+ghost use Rattle.flow.specs.Finding.{AreFound, IsKnown};
+
+use ascii_grid::NoMemory;
+use std::alloc::Global;
+
+// The entry of a node whose end is not found yet.
+const UNKNOWN: u32 = u32::MAX;
+
+/// Where the path of each node ends.
+pub fn ends(alloc: Global, links: &[u32]) -> Result<Vec<u32>, NoMemory>
+    requires streams { AreStreams links.now }
+    requires few { length links.now ≤ 2 ^ 24 }
+    ensures { IfOk result (λ v. AreEnds links.now v.items) }
+{
+    let mut ends = unknown(alloc, links)?;
+    mark_ends(links, &mut ends);
+    find_ends(links, &mut ends);
+    Ok(ends)
+}
+
+fn unknown(alloc: Global, links: &[u32]) -> Result<Vec<u32>, NoMemory>
+    ensures { IfOk result (λ v. AreFound links.now v.items) }
+{
+    let Ok(list) = vec![in alloc; UNKNOWN; links.len()] else {
+        return Err(NoMemory);
+    };
+    Ok(list)
+}
+
+// Marks the nodes that are ends.
+fn mark_ends(links: &[u32], ends: &mut [u32])
+    requires few { length links.now ≤ 2 ^ 24 }
+    requires found { AreFound links.now ends.old }
+    ensures { AreFound links.now ends.new }
+{
+    for node in 0..links.len() {
+        if links[node] as usize == node {
+            ends[node] = links[node];
+        }
+    }
+}
+
+fn find_ends(links: &[u32], ends: &mut [u32])
+    requires streams { AreStreams links.now }
+    requires few { length links.now ≤ 2 ^ 24 }
+    requires found { AreFound links.now ends.old }
+    ensures { AreEnds links.now ends.new }
+{
+    for node in 0..links.len() {
+        let last = end_from(links, ends, node);
+        mark_path(links, ends, node, last);
+    }
+}
+
+// The end of a node's path, read off where the path meets a known one.
+fn end_from(links: &[u32], ends: &[u32], from: usize) -> u32
+    requires streams { AreStreams links.now }
+    requires few { length links.now ≤ 2 ^ 24 }
+    requires found { AreFound links.now ends.now }
+    requires inside { from < length links.now }
+    ensures { result ≡ end_of links.now from }
+{
+    let mut node = from;
+    'path: for _ in 0..links.len() {
+        if ends[node] != UNKNOWN {
+            return ends[node];
+        }
+        node = links[node] as usize;
+    }
+    node as u32
+}
+
+// Marks the nodes of a path with its end, up to the first that is known.
+fn mark_path(links: &[u32], ends: &mut [u32], from: usize, last: u32)
+    requires streams { AreStreams links.now }
+    requires few { length links.now ≤ 2 ^ 24 }
+    requires found { AreFound links.now ends.old }
+    requires inside { from < length links.now }
+    requires last { last ≡ end_of links.now from }
+    ensures found { AreFound links.now ends.new }
+    ensures kept { (i : ℕ) → IsKnown ends.old i → IsKnown ends.new i }
+    ensures marked { IsKnown ends.new from }
+{
+    let mut node = from;
+    'path: for _ in 0..links.len() {
+        if ends[node] != UNKNOWN {
+            return;
+        }
+        ends[node] = last;
+        node = links[node] as usize;
+    }
+}

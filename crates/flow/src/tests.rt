@@ -1,0 +1,165 @@
+ghost use Rattle.std.specs.Prelude.{◌≡◌, ◌≤◌, IfOk, IfSome, IsTrue};
+ghost use Rattle.flow.specs.Tested.{codes_by, code_of_number, flows};
+ghost use Rattle.flow.specs.Whole.{IsGridFlow};
+
+use crate::counting::{grid_accumulation, grid_basins};
+use crate::tile::{TileFlow, tile_flow};
+use ascii_grid::{NoMemory, Place};
+use drain::Code;
+use std::alloc::Global;
+use tiles::Tiling;
+
+fn code_of(number: u8) -> Option<Code>
+    ensures { result ≡ code_of_number number }
+{
+    Code::from_number(number)
+}
+
+// The codes of these numbers; a number that is no code stands for a cell without data.
+fn codes_of(alloc: Global, numbers: &[u8]) -> Result<Vec<Option<Code>>, NoMemory>
+    ensures { IfOk result (λ v. v.items ≡ codes_by numbers.now) }
+{
+    let Ok(codes) = numbers.iter().map(|number| code_of(*number)).collect(alloc) else {
+        return Err(NoMemory);
+    };
+    Ok(codes)
+}
+
+fn accumulation_of(
+    alloc: Global,
+    cols: u32,
+    rows: u32,
+    numbers: &[u8],
+) -> Result<Vec<Option<u32>>, NoMemory>
+    requires { IsTrue (flows cols rows numbers.now) }
+{
+    let codes = codes_of(alloc, numbers)?;
+    grid_accumulation(alloc, cols, rows, &codes)
+}
+
+fn basins_of(
+    alloc: Global,
+    cols: u32,
+    rows: u32,
+    numbers: &[u8],
+) -> Result<Vec<Option<u32>>, NoMemory>
+    requires { IsTrue (flows cols rows numbers.now) }
+{
+    let codes = codes_of(alloc, numbers)?;
+    grid_basins(alloc, cols, rows, &codes)
+}
+
+// The flow of one tile.
+fn tile_flow_of(
+    alloc: Global,
+    size: (u32, u32),
+    side: u32,
+    tile: u32,
+    numbers: &[u8],
+) -> Result<TileFlow, NoMemory>
+    requires flows { IsTrue (flows size.0 size.1 numbers.now) }
+    requires cols { (1 ≤ size.0) × (size.0 ≤ 4096) }
+    requires rows { (1 ≤ size.1) × (size.1 ≤ 4096) }
+{
+    let codes = codes_of(alloc, numbers)?;
+    let Some(tiling) = tiling_of(size.0, size.1, side) else {
+        return Err(NoMemory);
+    };
+    if tile >= tiling.tiles() {
+        return Err(NoMemory);
+    }
+    tile_flow(alloc, &tiling.view(&codes, tile))
+}
+
+fn tiling_of(cols: u32, rows: u32, side: u32) -> Option<Tiling>
+    requires cols { (1 ≤ cols) × (cols ≤ 4096) }
+    requires rows { (1 ≤ rows) × (rows ≤ 4096) }
+    ensures { IfSome result (λ t. t ≡ record { cols = cols; rows = rows; side = side }) }
+{
+    match Tiling::new(cols, rows, side) {
+        Ok(tiling) => Some(tiling),
+        Err(_) => None,
+    }
+}
+
+fn is(values: &[Option<u32>], wanted: &[u32]) -> bool {
+    values.len() == wanted.len()
+        && values
+            .iter()
+            .zip(wanted.iter())
+            .all(|(value, want)| *value == Some(*want))
+}
+
+#[test]
+fn bowl_of_nines(rt: HostRuntime) {
+    let codes = [0, 0, 0, 0, 1, 0, 0, 0, 0];
+    let accumulation = accumulation_of(rt.alloc(), 3, 3, &codes).expect(&rt, "accumulation");
+    assert!(rt; is(&accumulation, &[0, 0, 0, 0, 0, 1, 0, 0, 0]));
+    let basins = basins_of(rt.alloc(), 3, 3, &codes).expect(&rt, "basins");
+    assert!(rt; is(&basins, &[1, 2, 3, 4, 5, 5, 6, 7, 8]));
+}
+
+#[test]
+fn valley_across_tiles(rt: HostRuntime) {
+    let codes = [2, 4, 8, 0, 1, 2, 4, 8, 128, 1, 2, 4, 0, 128, 1, 0];
+    let accumulation = accumulation_of(rt.alloc(), 4, 4, &codes).expect(&rt, "accumulation");
+    assert!(rt;
+        is(&accumulation, &[0, 0, 0, 0, 0, 5, 0, 0, 0, 0, 10, 0, 0, 0, 0, 13])
+    );
+    let basins = basins_of(rt.alloc(), 4, 4, &codes).expect(&rt, "basins");
+    assert!(rt; is(&basins, &[3, 3, 3, 1, 3, 3, 3, 3, 3, 3, 3, 3, 2, 3, 3, 3]));
+}
+
+#[test]
+fn slope(rt: HostRuntime) {
+    let codes = [1, 1, 1, 1, 1, 0, 128, 128, 64, 64, 64, 64];
+    let accumulation = accumulation_of(rt.alloc(), 6, 2, &codes).expect(&rt, "accumulation");
+    assert!(rt; is(&accumulation, &[0, 2, 5, 7, 9, 11, 0, 0, 0, 0, 0, 0]));
+}
+
+#[test]
+fn greatest_drops(rt: HostRuntime) {
+    let codes = [1, 0, 16, 0, 16, 32];
+    let accumulation = accumulation_of(rt.alloc(), 3, 2, &codes).expect(&rt, "accumulation");
+    assert!(rt; is(&accumulation, &[0, 3, 0, 1, 0, 0]));
+    let basins = basins_of(rt.alloc(), 3, 2, &codes).expect(&rt, "basins");
+    assert!(rt; is(&basins, &[1, 1, 1, 2, 2, 1]));
+}
+
+#[test]
+fn level_ground(rt: HostRuntime) {
+    let codes = [0, 0, 0, 0, 0, 0, 0, 0];
+    let accumulation = accumulation_of(rt.alloc(), 4, 2, &codes).expect(&rt, "accumulation");
+    assert!(rt; is(&accumulation, &[0, 0, 0, 0, 0, 0, 0, 0]));
+    let basins = basins_of(rt.alloc(), 4, 2, &codes).expect(&rt, "basins");
+    assert!(rt; is(&basins, &[1, 2, 3, 4, 5, 6, 7, 8]));
+}
+
+#[test]
+fn one_cell(rt: HostRuntime) {
+    let accumulation = accumulation_of(rt.alloc(), 1, 1, &[0]).expect(&rt, "accumulation");
+    assert!(rt; is(&accumulation, &[0]));
+    let basins = basins_of(rt.alloc(), 1, 1, &[0]).expect(&rt, "basins");
+    assert!(rt; is(&basins, &[1]));
+}
+
+#[test]
+fn no_data(rt: HostRuntime) {
+    let accumulation = accumulation_of(rt.alloc(), 2, 1, &[3, 3]).expect(&rt, "accumulation");
+    assert!(rt; accumulation.as_slice() == [None, None].as_slice());
+    let basins = basins_of(rt.alloc(), 2, 1, &[3, 3]).expect(&rt, "basins");
+    assert!(rt; basins.as_slice() == [None, None].as_slice());
+
+}
+
+#[test]
+fn slope_in_tiles(rt: HostRuntime) {
+    let codes = [1, 1, 1, 1, 1, 0, 128, 128, 64, 64, 64, 64];
+    let west = tile_flow_of(rt.alloc(), (6, 2), 2, 0, &codes).expect(&rt, "a flow");
+    assert_eq!(rt; west.exit(Place { row: 1, col: 0 }), Some(Place { row: 0, col: 1 }));
+    assert_eq!(rt; west.through(Place { row: 0, col: 1 }), Some(2));
+    assert_eq!(rt; west.through(Place { row: 0, col: 2 }), None);
+    let middle = tile_flow_of(rt.alloc(), (6, 2), 2, 1, &codes).expect(&rt, "a flow");
+    assert_eq!(rt; middle.through(Place { row: 0, col: 3 }), Some(3));
+    assert_eq!(rt; middle.exit(Place { row: 0, col: 1 }), None);
+}

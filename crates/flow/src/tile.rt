@@ -1,0 +1,162 @@
+// Flow inside one tile.
+ghost use Rattle.std.specs.Prelude.{◌≡◌, ◌*◌, ◌<◌, ℕ, length, slice_index, IfOk};
+ghost use Rattle.drain.specs.Drained.{AllFlowEnds};
+ghost use Rattle.flow.specs.TileFlow.{directed_by, IsTileFlow, entry_in, through_in, exit_in};
+ghost use Rattle.flow.specs.TileLinks.{IsSmall, where_data, through_by, exits_by};
+
+use crate::cells::{contains, index_of, place_at, tile_codes, tile_links, tile_weights};
+use crate::ends::ends;
+use crate::streams::upstream;
+use ascii_grid::{NoMemory, Place};
+use drain::Code;
+use std::alloc::Global;
+use std::marker::Model;
+use tiles::{Bounds, TileView};
+
+/// What flows through each cell of a tile from inside it, and where its water leaves.
+#[derive(Drop)]
+pub struct TileFlow {
+    bounds: Bounds,
+    codes: Vec<Option<Code>>,
+    through: Vec<Option<u32>>,
+    exits: Vec<Option<Place>>,
+}
+
+impl Model for TileFlow {
+    ghost use Rattle.flow.specs.TileFlow.{Flow, IsFlow};
+
+    ghost Value = { Flow };
+
+    ghost view = { λ f. record {
+      bounds = f.bounds;
+      codes = f.codes.items;
+      through = f.through.items;
+      exits = f.exits.items;
+    } };
+
+    ghost invariant = { λ f. IsFlow (record {
+      bounds = f.bounds;
+      codes = f.codes.items;
+      through = f.through.items;
+      exits = f.exits.items;
+    }) };
+}
+
+impl TileFlow {
+    /// How many other cells of the tile flow through the place without leaving the tile; None outside.
+    pub fn through(&self, place: Place) -> Option<u32>
+        ensures { result ≡ through_in self.now place }
+    {
+        if contains(self.bounds, place) {
+            self.through[index_of(self.bounds, place)]
+        } else {
+            None
+        }
+    }
+
+    // The code of the place, None outside.
+    pub(crate) fn code(&self, place: Place) -> Option<Code>
+        ensures { result ≡ entry_in self.now.bounds self.now.codes place }
+    {
+        if contains(self.bounds, place) {
+            self.codes[index_of(self.bounds, place)]
+        } else {
+            None
+        }
+    }
+
+    /// The last place of its flow path before it leaves the tile, or its outlet; None outside.
+    pub fn exit(&self, place: Place) -> Option<Place>
+        ensures { result ≡ exit_in self.now place }
+    {
+        if contains(self.bounds, place) {
+            self.exits[index_of(self.bounds, place)]
+        } else {
+            None
+        }
+    }
+}
+
+/// Flow inside a tile of a map of directions.
+pub fn tile_flow(alloc: Global, codes: &TileView<'_, Option<Code>>) -> Result<TileFlow, NoMemory>
+    requires { AllFlowEnds (directed_by codes.now) }
+    ensures { IfOk result (λ f.
+        IsTileFlow (directed_by codes.now) codes.now.cutting codes.now.tile f) }
+{
+    let bounds = codes.bounds();
+    let cells = tile_codes(alloc, codes)?;
+    let links = tile_links(alloc, bounds, &cells)?;
+    let weights = tile_weights(alloc, &cells)?;
+    let came = upstream(alloc, &links, &weights)?;
+    let ends = ends(alloc, &links)?;
+    let through = through_counts(alloc, &cells, &came)?;
+    let exits = exit_places(alloc, bounds, &cells, &ends)?;
+    Ok(TileFlow {
+        bounds,
+        codes: cells,
+        through,
+        exits,
+    })
+}
+
+/// The count of each data cell.
+pub(crate) fn through_counts(alloc: Global, cells: &[Option<Code>], came: &[u32]) -> Result<Vec<Option<u32>>, NoMemory>
+    requires { length came.now ≡ length cells.now }
+    ensures { IfOk result (λ v. v.items ≡ through_by cells.now came.now) }
+{
+    let Ok(mut through) = Vec::with_capacity(alloc, cells.len()) else {
+        return Err(NoMemory);
+    };
+    for index in 0..cells.len() {
+        let count = counted(cells[index], came[index]);
+        if through.push(count).is_err() {
+            return Err(NoMemory);
+        }
+    }
+    Ok(through)
+}
+
+/// A count where there is data.
+#[inline(always)]
+pub(crate) fn counted(code: Option<Code>, count: u32) -> Option<u32>
+    ensures { result ≡ where_data code count }
+{
+    match code {
+        Some(_) => Some(count),
+        None => None,
+    }
+}
+
+// The exit of each data cell, of where its links end.
+fn exit_places(
+    alloc: Global,
+    bounds: Bounds,
+    cells: &[Option<Code>],
+    ends: &[u32],
+) -> Result<Vec<Option<Place>>, NoMemory>
+    requires small { IsSmall bounds }
+    requires size { length ends.now ≡ length cells.now }
+    requires inside { (i : ℕ) → i < length cells.now → slice_index ends.now i < bounds.rows * bounds.cols }
+    ensures { IfOk result (λ v. v.items ≡ exits_by bounds cells.now ends.now) }
+{
+    let Ok(mut exits) = Vec::with_capacity(alloc, cells.len()) else {
+        return Err(NoMemory);
+    };
+    for index in 0..cells.len() {
+        let exit = placed(cells[index], place_at(bounds, ends[index]));
+        if exits.push(exit).is_err() {
+            return Err(NoMemory);
+        }
+    }
+    Ok(exits)
+}
+
+#[inline(always)]
+fn placed(code: Option<Code>, place: Place) -> Option<Place>
+    ensures { result ≡ where_data code place }
+{
+    match code {
+        Some(_) => Some(place),
+        None => None,
+    }
+}

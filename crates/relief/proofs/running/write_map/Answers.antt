@@ -1,0 +1,9 @@
+use Rattle.std.proofs.Common.{ap, sym, ◌∙◌, subst, ◌≡◌, List, ℕ}
+use Rattle.ascii_grid.specs.Text.{heights_text}
+use Rattle.relief.specs.MadeMap.{made_text}
+use Rattle.relief.proofs.running.write_map.Goals as goal
+
+pub returns-in-Heights : goal.returns-in-Heights
+returns-in-Heights g c =
+    let text : made_text c.args.grid.now c.args.map.now ≡ heights_text c.in-Heights.filled = ap (λ m. made_text c.args.grid.now m) c.in-Heights.is in
+    rw (text, ← c.grid.ensures.value) c.write_heights.ensures.text

@@ -1,0 +1,16 @@
+-- Faults of the layers below as faults of a run.
+use Rattle.ascii_grid.specs.declared.input.InputFault.{InputFault}
+use Rattle.ascii_grid.specs.declared.input.InputFault.TheVariants as input
+use Rattle.sight.specs.declared.fault.SightFault.{SightFault}
+use Rattle.sight.specs.declared.fault.SightFault.TheVariants as sight
+use Rattle.relief.specs.declared.fault.RunFault.{RunFault}
+use Rattle.relief.specs.declared.fault.RunFault.TheVariants.{Grid, Jobs, Sight, Read}
+
+abbrev pub of_input : InputFault → RunFault
+of_input (input.Grid fault) = Grid fault
+of_input input.Read = Read
+
+-- The work's faults have one shape, whichever map is asked for.
+abbrev pub of_sight : SightFault → RunFault
+of_sight (sight.Jobs fault) = Jobs fault
+of_sight fault = Sight fault

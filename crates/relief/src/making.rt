@@ -1,0 +1,175 @@
+// A map of a grid.
+ghost use Rattle.std.specs.Prelude.{◌≡◌, ◌<◌, ◌≤◌, ◌*◌, length, None, IfOk, IfErr, OnOk};
+ghost use Rattle.tiles.specs.Cutting.{Cuts, longest_side, most_tiles};
+ghost use Rattle.tile_jobs.specs.Fault.{RefusesWorkers};
+ghost use Rattle.ascii_grid.specs.Text.{counts_text};
+ghost use Rattle.drain.specs.Drained.{directed_of};
+ghost use Rattle.relief.specs.MadeMap.{made_text, FitsGrid};
+ghost use Rattle.relief.specs.MapText.{IsMapText, IsDrainage};
+ghost use Rattle.relief.specs.Refusals.{IsWorkRefusal, wish_fault, tiles_of};
+
+use crate::fault::RunFault;
+use crate::map::Map;
+use crate::options::Options;
+use ascii_grid::Grid;
+use drain::{Code, Directions, directions};
+use fill::{Filled, filled};
+use flow::{accumulation, basins};
+use sight::viewshed;
+use std::alloc::Global;
+use std::sync::Wait;
+use std::thread::Threads;
+use tile_jobs::{Gate, JobFault};
+use tiles::{Tiling, TilingFault};
+
+/// A map that waits to be written.
+#[derive(Drop)]
+pub(crate) enum MadeMap {
+    Heights(Filled),
+    Counts(Vec<Option<u32>>),
+}
+
+/// The numbers of direction codes.
+fn code_numbers(alloc: Global, codes: &[Option<Code>]) -> Result<Vec<Option<u32>>, JobFault>
+    ensures numbers { IfOk result (λ v. v.items ≡ codes.now) }
+    ensures fault { IfErr result (λ f. f ≡ JobFault.Memory) }
+{
+    let Ok(mut numbers) = Vec::with_capacity(alloc, codes.len()) else {
+        return Err(JobFault::Memory);
+    };
+    for code in codes {
+        let number = code.map(|code| u32::from(code.number()));
+        if numbers.push(number).is_err() {
+            return Err(JobFault::Memory);
+        }
+    }
+    Ok(numbers)
+}
+
+/// The directions on a grid's filled heights, which are let go.
+fn drained<H: Threads + Wait + Sync, G: Gate + Sync>(
+    rt: &H,
+    alloc: Global,
+    grid: &Grid,
+    tiling: &Tiling,
+    workers: u32,
+    gate: &G,
+) -> Result<Directions, JobFault>
+    requires { Cuts tiling.now grid.now.terrain }
+    ensures drainage { IfOk result (λ d. IsDrainage grid.now (directed_of d)) }
+    ensures size { IfOk result (λ d. Cuts tiling.now d.terrain) }
+    ensures workers { RefusesWorkers workers result }
+{
+    let filled = filled(rt, alloc, grid, tiling, workers, gate)?;
+    directions(rt, alloc, &filled, tiling, workers, gate)
+}
+
+/// The map of direction codes.
+fn flow_map<H: Threads + Wait + Sync, G: Gate + Sync>(
+    rt: &H,
+    alloc: Global,
+    grid: &Grid,
+    tiling: &Tiling,
+    workers: u32,
+    gate: &G,
+) -> Result<Vec<Option<u32>>, JobFault>
+    requires { Cuts tiling.now grid.now.terrain }
+    ensures map { IfOk result (λ v. IsMapText grid.now Map.Flow (counts_text grid.now v.items)) }
+    ensures size { IfOk result (λ v. length v.items ≡ grid.now.terrain.cols * grid.now.terrain.rows) }
+    ensures workers { RefusesWorkers workers result }
+{
+    let directions = drained(rt, alloc, grid, tiling, workers, gate)?;
+    code_numbers(alloc, directions.codes())
+}
+
+/// The map of accumulations.
+fn accumulation_map<H: Threads + Wait + Sync, G: Gate + Sync>(
+    rt: &H,
+    alloc: Global,
+    grid: &Grid,
+    tiling: &Tiling,
+    workers: u32,
+    gate: &G,
+) -> Result<Vec<Option<u32>>, JobFault>
+    requires { Cuts tiling.now grid.now.terrain }
+    ensures map { IfOk result (λ v. IsMapText grid.now Map.Accumulate (counts_text grid.now v.items)) }
+    ensures size { IfOk result (λ v. length v.items ≡ grid.now.terrain.cols * grid.now.terrain.rows) }
+    ensures workers { RefusesWorkers workers result }
+{
+    let directions = drained(rt, alloc, grid, tiling, workers, gate)?;
+    accumulation(rt, alloc, &directions, tiling, workers, gate)
+}
+
+/// The map of basins.
+fn basin_map<H: Threads + Wait + Sync, G: Gate + Sync>(
+    rt: &H,
+    alloc: Global,
+    grid: &Grid,
+    tiling: &Tiling,
+    workers: u32,
+    gate: &G,
+) -> Result<Vec<Option<u32>>, JobFault>
+    requires { Cuts tiling.now grid.now.terrain }
+    ensures map { IfOk result (λ v. IsMapText grid.now Map.Basins (counts_text grid.now v.items)) }
+    ensures size { IfOk result (λ v. length v.items ≡ grid.now.terrain.cols * grid.now.terrain.rows) }
+    ensures workers { RefusesWorkers workers result }
+{
+    let directions = drained(rt, alloc, grid, tiling, workers, gate)?;
+    basins(rt, alloc, &directions, tiling, workers, gate)
+}
+
+/// Cuts a grid into tiles of this side.
+fn cut(grid: &Grid, side: u32) -> Result<Tiling, TilingFault>
+    requires some { 1 ≤ side }
+    requires short { side ≤ longest_side }
+    ensures cuts { IfOk result (λ t. Cuts t grid.now.terrain) }
+    ensures few { OnOk result (tiles_of grid.now side ≤ most_tiles) }
+    ensures many { IfErr result (λ f. (f ≡ TilingFault.TooManyTiles) × (most_tiles < tiles_of grid.now side)) }
+{
+    Tiling::new(grid.cols(), grid.rows(), side)
+}
+
+/// Cuts the grid, judges the observers, and makes the map that is asked for.
+pub(crate) fn make_map<H: Threads + Wait + Sync, G: Gate + Sync>(
+    rt: &H,
+    alloc: Global,
+    options: &Options,
+    grid: &Grid,
+    gate: &G,
+) -> Result<MadeMap, RunFault>
+    ensures map { IfOk result (λ m. IsMapText grid.now options.now.map (made_text grid.now m)) }
+    ensures size { IfOk result (λ m. FitsGrid grid.now m) }
+    ensures ready { OnOk result (wish_fault options.now grid.now ≡ None) }
+    ensures fault { IfErr result (λ f. IsWorkRefusal options.now grid.now f) }
+{
+    let tiling = cut(grid, options.tile())?;
+    let workers = options.workers();
+    match options.map() {
+        Map::Fill => {
+            let filled = filled(rt, alloc, grid, &tiling, workers, gate)?;
+            Ok(MadeMap::Heights(filled))
+        }
+        Map::Flow => {
+            let codes = flow_map(rt, alloc, grid, &tiling, workers, gate)?;
+            Ok(MadeMap::Counts(codes))
+        }
+        Map::Accumulate => {
+            let counts = accumulation_map(rt, alloc, grid, &tiling, workers, gate)?;
+            Ok(MadeMap::Counts(counts))
+        }
+        Map::Basins => {
+            let numbers = basin_map(rt, alloc, grid, &tiling, workers, gate)?;
+            Ok(MadeMap::Counts(numbers))
+        }
+        Map::View {
+            observers,
+            target,
+            radius,
+        } => {
+            let counts = viewshed(
+                rt, alloc, grid, observers, *target, *radius, &tiling, workers, gate,
+            )?;
+            Ok(MadeMap::Counts(counts))
+        }
+    }
+}

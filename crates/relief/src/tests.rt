@@ -1,0 +1,292 @@
+use crate::map::Map;
+use crate::options::Options;
+use crate::running::{run, run_gated};
+use crate::{RunFault, parse_observer, run_words, tell};
+use ascii_grid::{Counted, GridFault, Key};
+use sight::{Observer, SightFault};
+use std::io;
+use std::io::{Read, Write};
+use std::sync::atomic::{AtomicU64, Ordering};
+use std::test::Fail;
+use tile_jobs::{Gate, JobFault};
+use tiles::TilingFault;
+
+/// How often a held job looks for the other.
+const MOST_LOOKS: u32 = 10_000_000;
+
+const BOWL: &[u8] = b"ncols 3\nnrows 3\nxllcorner 0\nyllcorner 0\ncellsize 1\n9 9 9\n9 1 9\n9 9 9\n";
+
+const FILLED: &[u8] = b"ncols         3\nnrows         3\nxllcorner     0\nyllcorner     0\ncellsize      1\nNODATA_value  -9999\n9 9 9\n9 9 9\n9 9 9\n";
+
+/// A reader of these bytes that then fails.
+#[derive(Drop)]
+struct Broken<'a> {
+    bytes: &'a [u8],
+}
+
+impl Read for Broken<'_> {
+    fn read(&mut self, buf: &mut [u8]) -> io::Result<usize> {
+        if self.bytes.is_empty() {
+            return Err(io::Error::from(io::ErrorKind::Interrupted));
+        }
+        self.bytes.read(buf)
+    }
+}
+
+/// A reader of spaces without end, which counts them.
+#[derive(Drop)]
+struct Endless {
+    given: u64,
+}
+
+impl Read for Endless {
+    fn read(&mut self, buf: &mut [u8]) -> io::Result<usize> {
+        for byte in buf.iter_mut() {
+            *byte = b' ';
+        }
+        self.given = self.given.wrapping_add(buf.len() as u64);
+        Ok(buf.len())
+    }
+}
+
+/// A writer that takes so many bytes in all and then fails.
+#[derive(Drop)]
+struct Short {
+    taken: Vec<u8>,
+    room: usize,
+}
+
+impl Write for Short {
+    fn write(&mut self, buf: &[u8]) -> io::Result<usize> {
+        let count = self.room.min(buf.len());
+        if count == 0 && !buf.is_empty() {
+            return Err(io::Error::from(io::ErrorKind::Other));
+        }
+        self.taken.write(&buf[..count])?;
+        self.room -= count;
+        Ok(count)
+    }
+
+    fn flush(&mut self) -> io::Result<()> {
+        Ok(())
+    }
+}
+
+/// Holds each of the first two jobs until the other has entered.
+#[derive(Drop)]
+struct Meeting {
+    entered: [AtomicU64; 2],
+    missed: AtomicU64,
+}
+
+impl Gate for Meeting {
+    fn enter(&self, job: u32) {
+        if job > 1 {
+            return;
+        }
+        let own = job as usize;
+        self.entered[own].store(1, Ordering::SeqCst);
+        for _ in 0..MOST_LOOKS {
+            if self.entered[1 - own].load(Ordering::SeqCst) == 1 {
+                return;
+            }
+        }
+        self.missed.store(1, Ordering::SeqCst);
+    }
+}
+
+#[test]
+fn bowl_of_nines(rt: HostRuntime) -> Result<(), Fail> {
+    let options = Options::new(Map::Fill, 256, 1, 0).ok_or("options")?;
+    let mut out = Vec::new(rt.alloc());
+    let mut reader = Counted::new(BOWL);
+    let mut writer = Counted::new(&mut out);
+    let result = run(&rt, rt.alloc(), &options, &mut reader, &mut writer);
+    assert_eq!(rt; result, Ok(()));
+    assert_eq!(rt; reader.failures(), 0);
+    assert_eq!(rt; writer.failures(), 0);
+    drop(writer);
+    assert_eq!(rt; out.as_slice(), FILLED);
+    Ok(())
+}
+
+#[test]
+fn ten_bytes_and_then_a_failure(rt: HostRuntime) -> Result<(), Fail> {
+    let options = Options::new(Map::Fill, 256, 1, 0).ok_or("options")?;
+    let mut short = Short {
+        taken: Vec::new(rt.alloc()),
+        room: 10,
+    };
+    let mut reader = Counted::new(BOWL);
+    let mut writer = Counted::new(&mut short);
+    let result = run(&rt, rt.alloc(), &options, &mut reader, &mut writer);
+    assert_eq!(rt; result, Err(RunFault::Write));
+    assert_eq!(rt; writer.failures(), 1);
+    drop(writer);
+    assert_eq!(rt; short.taken.as_slice(), b"ncols     ".as_slice());
+    assert_eq!(rt; RunFault::Write.number(), 52);
+    assert_eq!(rt; RunFault::Write.status(), 4);
+    Ok(())
+}
+
+#[test]
+fn a_reader_that_fails(rt: HostRuntime) -> Result<(), Fail> {
+    let options = Options::new(Map::Fill, 256, 1, 0).ok_or("options")?;
+    // A word that a separator has ended is judged before the failure, a word in progress is not.
+    for (bytes, fault) in [
+        (b"".as_slice(), RunFault::Read),
+        (b"ncols 4097".as_slice(), RunFault::Read),
+        (b"ncols 3 ".as_slice(), RunFault::Read),
+        (BOWL, RunFault::Read),
+        (b"ncols 4097 ".as_slice(), RunFault::Grid(GridFault::BadSize(Key::Ncols))),
+    ] {
+        let mut out = Vec::new(rt.alloc());
+        let mut reader = Counted::new(Broken { bytes });
+        let mut writer = Counted::new(&mut out);
+        let result = run(&rt, rt.alloc(), &options, &mut reader, &mut writer);
+        assert_eq!(rt; result, Err(fault), "after {bytes:?}");
+        let failures = if fault == RunFault::Read { 1 } else { 0 };
+        assert_eq!(rt; reader.failures(), failures, "after {bytes:?}");
+        drop(writer);
+        assert!(rt; out.is_empty());
+    }
+    assert_eq!(rt; RunFault::Read.number(), 51);
+    Ok(())
+}
+
+#[test]
+fn a_reader_without_end(rt: HostRuntime) -> Result<(), Fail> {
+    let options = Options::new(Map::Fill, 256, 1, 0).ok_or("options")?;
+    let mut endless = Endless { given: 0 };
+    let mut out = Vec::new(rt.alloc());
+    let mut reader = Counted::new(&mut endless);
+    let mut writer = Counted::new(&mut out);
+    let result = run(&rt, rt.alloc(), &options, &mut reader, &mut writer);
+    assert_eq!(rt; result, Err(RunFault::Grid(GridFault::TooLong)));
+    drop(reader);
+    assert!(rt; endless.given <= 268_435_457, "{} bytes", endless.given);
+    Ok(())
+}
+
+#[test]
+fn tiles_meet(rt: HostRuntime) -> Result<(), Fail> {
+    let options = Options::new(Map::Fill, 2, 2, 0).ok_or("options")?;
+    let gate = Meeting {
+        entered: [AtomicU64::new(0), AtomicU64::new(0)],
+        missed: AtomicU64::new(0),
+    };
+    let mut out = Vec::new(rt.alloc());
+    let mut reader = Counted::new(BOWL);
+    let mut writer = Counted::new(&mut out);
+    let result = run_gated(&rt, rt.alloc(), &options, &mut reader, &mut writer, &gate);
+    assert_eq!(rt; result, Ok(()));
+    assert_eq!(rt; gate.missed.load(Ordering::SeqCst), 0);
+    drop(writer);
+    assert_eq!(rt; out.as_slice(), FILLED);
+    Ok(())
+}
+
+#[test]
+fn words_and_statuses(rt: HostRuntime) -> Result<(), Fail> {
+    for (words, status, errors) in [
+        (["relief", "fill", "--tile=1"].as_slice(), 0, b"".as_slice()),
+        (["relief", "view", "3,0,0"].as_slice(), 2, b"relief: 41 Outside 0\n".as_slice()),
+        (
+            ["relief", "view", "0,0,0", "0,0"].as_slice(),
+            1,
+            b"relief: bad observer word 1\n".as_slice(),
+        ),
+        (["relief", "--help"].as_slice(), 0, b"".as_slice()),
+    ] {
+        let mut out = Vec::new(rt.alloc());
+        let mut told = Vec::new(rt.alloc());
+        let mut reader = Counted::new(BOWL);
+        let mut writer = Counted::new(&mut out);
+        let mut lines = Counted::new(&mut told);
+        let ended = run_words(&rt, rt.alloc(), words, &mut reader, &mut writer, &mut lines);
+        assert_eq!(rt; ended, status, "{words:?}");
+        drop(lines);
+        assert_eq!(rt; told.as_slice(), errors, "{words:?}");
+    }
+    Ok(())
+}
+
+/// The status of these words, and whether anything was told on the errors.
+fn told_by(rt: &HostRuntime, words: &[&str]) -> (u8, bool) {
+    let mut out = Vec::new(rt.alloc());
+    let mut told = Vec::new(rt.alloc());
+    let mut reader = Counted::new(BOWL);
+    let mut writer = Counted::new(&mut out);
+    let mut lines = Counted::new(&mut told);
+    let status = run_words(rt, rt.alloc(), words, &mut reader, &mut writer, &mut lines);
+    drop(lines);
+    (status, !told.is_empty())
+}
+
+#[test]
+fn no_words_and_refused_words(rt: HostRuntime) {
+    assert_eq!(rt; told_by(&rt, &[]), (1, true));
+    assert_eq!(rt; told_by(&rt, &["relief"]), (1, true));
+    assert_eq!(rt; told_by(&rt, &["relief", "fill", "--tile", "0"]), (1, true));
+    assert_eq!(rt; told_by(&rt, &["relief", "fill", "--workers", "65"]), (1, true));
+    assert_eq!(rt; told_by(&rt, &["relief", "help"]), (1, true));
+}
+
+#[test]
+fn observer_words(rt: HostRuntime) {
+    let observer = Observer {
+        row: 4_294_967_295,
+        col: 2,
+        eye: 0,
+    };
+    assert_eq!(rt; parse_observer("4294967295,02,0000000000"), Some(observer));
+    for word in ["", ",,", "1,2", "1,2,3,4", "+1,2,3", "1,2,3 ", "4294967296,2,3", "00000000001,2,3"] {
+        assert_eq!(rt; parse_observer(word), None, "{word:?}");
+    }
+}
+
+#[test]
+fn fault_lines(rt: HostRuntime) -> Result<(), Fail> {
+    for (fault, line) in [
+        (RunFault::Grid(GridFault::UnknownKey), b"relief: 1 UnknownKey\n".as_slice()),
+        (
+            RunFault::Grid(GridFault::RepeatedKey(Key::Xll)),
+            b"relief: 2 RepeatedKey xll\n".as_slice(),
+        ),
+        (
+            RunFault::Grid(GridFault::BadHeight(16_777_215)),
+            b"relief: 7 BadHeight 16777215\n".as_slice(),
+        ),
+        (RunFault::Tiling(TilingFault::TooManyTiles), b"relief: 22 TooManyTiles\n".as_slice()),
+        (RunFault::Jobs(JobFault::NoThread), b"relief: 32 NoThread\n".as_slice()),
+        (RunFault::Sight(SightFault::BadEye(None)), b"relief: 44 BadEye\n".as_slice()),
+        (RunFault::Sight(SightFault::BadEye(Some(7))), b"relief: 44 BadEye 7\n".as_slice()),
+        (RunFault::Read, b"relief: 51 Read\n".as_slice()),
+    ] {
+        let mut out = Vec::new(rt.alloc());
+        let mut writer = Counted::new(&mut out);
+        assert!(rt; tell(&fault, &mut writer).is_ok());
+        drop(writer);
+        assert_eq!(rt; out.as_slice(), line);
+    }
+    Ok(())
+}
+
+#[test]
+fn options_in_their_limits(rt: HostRuntime) {
+    for (tile, workers, scale, within) in [
+        (1, 1, 0, true),
+        (4096, 64, 6, true),
+        (0, 1, 0, false),
+        (4097, 1, 0, false),
+        (1, 0, 0, false),
+        (1, 65, 0, false),
+        (1, 1, 7, false),
+    ] {
+        assert_eq!(rt;
+            Options::new(Map::Flow, tile, workers, scale).is_some(),
+            within,
+            "{tile} {workers} {scale}"
+        );
+    }
+}

@@ -1,0 +1,70 @@
+-- What holds of observers that have no fault.
+use Rattle.std.proofs.Common.{arith, refl, ◌≡◌, ◌+◌, ◌<◌, ◌≤◌, ℕ, zero, suc, Bool, true, false, cond, ◌&&◌, ◌||◌, ltb, List, [], ◌∷◌, length, get_or, Option, None, Some, option_map, is_none}
+use Rattle.std.specs.Option.{option_or}
+use Rattle.std.specs.List.{position_from}
+use Rattle.std.proofs.lemmas.Bool.{ltb-true, ltb-false, and_parts, or_parts, not-false}
+use Rattle.ascii_grid.specs.Raster.{Terrain}
+use Rattle.ascii_grid.specs.Neighbours.{IsInside, height_at}
+use Rattle.sight.specs.Sight.{place_of}
+use Rattle.sight.specs.Refusals.{is_high, is_outside, place_fault_of, place_fault}
+use Rattle.sight.specs.Viewed.{IsFaultless}
+use Rattle.sight.specs.declared.observer.Observer.{Observer}
+use Rattle.sight.specs.declared.fault.SightFault.TheVariants.{Outside, OnNodata, TooManyObservers, BadEye, BadRadius}
+
+-- the parts of a choice that is none
+none_if : {X : Type 0} (b : Bool) (x : X) (rest : Option X) → is_none (cond b (Some x) rest) ≡ true → (b ≡ false) × (is_none rest ≡ true)
+none_if true x rest e = absurd (cc)
+none_if false x rest e = (refl, e)
+
+none_or : {X : Type 0} (a b : Option X) → is_none (option_or a b) ≡ true → (is_none a ≡ true) × (is_none b ≡ true)
+none_or None b e = (refl, e)
+none_or (Some x) b e = absurd (cc)
+
+none_map : {X Y : Type 0} (f : X → Y) (a : Option X) → is_none (option_map f a) ≡ true → is_none a ≡ true
+none_map f None e = refl
+none_map f (Some x) e = absurd (cc)
+
+-- no element passes a test
+pub no_position : {X : Type 0} (p : X → Bool) (i : ℕ) (xs : List X) → is_none (position_from p i xs) ≡ true → (k : ℕ) (d : X) → k < length xs → p (get_or xs k d) ≡ false
+no_position p i [] e k d h = absurd (omega arith)
+no_position p i (x ∷ xs) e zero d h = (none_if (p x) i (position_from p (i + 1) xs) e).0
+no_position p i (x ∷ xs) e (suc k) d h = no_position p (i + 1) xs (none_if (p x) i (position_from p (i + 1) xs) e).1 k d (omega arith)
+
+inside_from : (t : Terrain) (i : ℕ) (o : Observer) → is_none (place_fault_of t i o) ≡ true → IsInside t (place_of o)
+inside_from t i o e =
+    let parts = none_if (is_outside t o) (Outside i) (cond (is_none (height_at t (place_of o))) (Some (OnNodata i)) None) e in
+    let both = and_parts (ltb o.row t.rows) (ltb o.col t.cols) (not-false (ltb o.row t.rows && ltb o.col t.cols) parts.0) in
+    (ltb-true o.row t.rows both.0, ltb-true o.col t.cols both.1)
+
+-- every observer is inside
+no_place_fault : (t : Terrain) (i : ℕ) (os : List Observer) → is_none (place_fault t i os) ≡ true → (k : ℕ) (d : Observer) → k < length os → IsInside t (place_of (get_or os k d))
+no_place_fault t i [] e k d h = absurd (omega arith)
+no_place_fault t i (o ∷ rest) e zero d h = inside_from t i o (none_or (place_fault_of t i o) (place_fault t (i + 1) rest) e).0
+no_place_fault t i (o ∷ rest) e (suc k) d h = no_place_fault t (i + 1) rest (none_or (place_fault_of t i o) (place_fault t (i + 1) rest) e).1 k d (omega arith)
+
+pub record Lawful (t : Terrain) (os : List Observer) (target radius : ℕ) : Type 0 where
+  pub few : length os ≤ 1024
+  pub target_low : target ≤ 1000000
+  pub eyes_low : (k : ℕ) (d : Observer) → k < length os → (get_or os k d).eye ≤ 1000000
+  pub some_radius : 1 ≤ radius
+  pub short_radius : radius ≤ 8192
+  pub inside : (k : ℕ) (d : Observer) → k < length os → IsInside t (place_of (get_or os k d))
+
+pub lawful_from : (t : Terrain) (os : List Observer) (target radius : ℕ) → IsFaultless t os target radius → Lawful t os target radius
+lawful_from t os target radius e =
+    let eyes = option_map (λ i. BadEye (Some i)) (position_from (λ (o : Observer). is_high o.eye) 0 os) in
+    let reach = cond (ltb radius 1 || ltb 8192 radius) (Some BadRadius) (place_fault t 0 os) in
+    let many = none_if (ltb 1024 (length os)) TooManyObservers (cond (is_high target) (Some (BadEye None)) (option_or eyes reach)) e in
+    let high = none_if (is_high target) (BadEye None) (option_or eyes reach) many.1 in
+    let rest = none_or eyes reach high.1 in
+    let low = no_position (λ (o : Observer). is_high o.eye) 0 os (none_map (λ i. BadEye (Some i)) (position_from (λ (o : Observer). is_high o.eye) 0 os) rest.0) in
+    let far = none_if (ltb radius 1 || ltb 8192 radius) BadRadius (place_fault t 0 os) rest.1 in
+    let ends = or_parts (ltb radius 1) (ltb 8192 radius) far.0 in
+    record {
+      few = ltb-false 1024 (length os) many.0;
+      target_low = ltb-false 1000000 target high.0;
+      eyes_low = λ k d h. ltb-false 1000000 (get_or os k d).eye (low k d h);
+      some_radius = ltb-false radius 1 ends.0;
+      short_radius = ltb-false 8192 radius ends.1;
+      inside = no_place_fault t 0 os far.1;
+    }

@@ -1,0 +1,44 @@
+-- A terrain has one viewshed.
+use Rattle.std.proofs.Common.{arith, sym, ap, ◌∙◌, ◌≡◌, ◌*◌, ◌/◌, ◌%◌, ◌<◌, ℕ, ℤ, List, map, get_or, Option, None, Some, option_map, MatchOption}
+use Rattle.std.specs.List.{range_with_len}
+use Rattle.std.proofs.lemmas.List.FromFn.{fill_by_all}
+use Rattle.std.proofs.lemmas.Nat.{div-add-mod', mod_below, div_below}
+use Rattle.ascii_grid.specs.Raster.{Terrain}
+use Rattle.ascii_grid.specs.Neighbours.{height_at, entry_at, index_of}
+use Rattle.ascii_grid.specs.declared.place.Place.{Place}
+use Rattle.ascii_grid.proofs.Places.{entry-inside}
+use Rattle.sight.specs.Sight.{viewshed_value, IsViewshed}
+use Rattle.sight.specs.Viewed.{value_at}
+use Rattle.sight.specs.Laws.{ViewshedsAreOne}
+use Rattle.sight.specs.declared.observer.Observer.{Observer}
+
+abbrev place_of_index : ℕ → ℕ → Place
+place_of_index cols k = record { row = k / cols; col = k % cols }
+
+told : (h : Option ℤ) (n : ℕ) (entry : Option ℕ) → MatchOption h (entry ≡ None) (λ _. entry ≡ Some n) → entry ≡ option_map (λ _. n) h
+told None n entry e = e
+told (Some x) n entry e = e
+
+-- the entry at an index
+entry_is : (t : Terrain) (observers : List Observer) (target radius : ℕ) (values : List (Option ℕ)) (k : ℕ) → IsViewshed t observers target radius values → k < t.cols * t.rows
+    → get_or values k None ≡ value_at t observers target radius (place_of_index t.cols k)
+entry_is t observers target radius values k is below =
+    let p = place_of_index t.cols k in
+    let some : 0 < t.cols = positive t.cols t.rows k below in
+    let row : p.row < t.rows = div_below k t.cols t.rows some (omega (arith, below)) in
+    let col : p.col < t.cols = mod_below k t.cols some in
+    let at : index_of t.cols p ≡ k = div-add-mod' k t.cols in
+    ap (λ n. get_or values n None) (sym at)
+    ∙ sym (entry-inside t.cols t.rows values p row col)
+    ∙ told (height_at t p) (viewshed_value t observers target radius p) (entry_at t.cols t.rows values p) (is.each p (row, col))
+  where
+    positive : (a b k : ℕ) → k < a * b → 0 < a
+    positive a b k h = grind arith
+
+all_are : (t : Terrain) (observers : List Observer) (target radius : ℕ) (values : List (Option ℕ)) → IsViewshed t observers target radius values
+    → values ≡ map (λ k. value_at t observers target radius (place_of_index t.cols k)) (range_with_len 0 (t.cols * t.rows))
+all_are t observers target radius values is =
+    fill_by_all (λ k. value_at t observers target radius (place_of_index t.cols k)) values (t.cols * t.rows) None is.size (λ k h. entry_is t observers target radius values k is h)
+
+pub viewsheds_are_one : ViewshedsAreOne
+viewsheds_are_one t observers target radius values others a b = all_are t observers target radius values a ∙ sym (all_are t observers target radius others b)

@@ -1,0 +1,19 @@
+use Rattle.std.proofs.Common.{rules, arith, ◌<◌, ◌+ℤ◌, sym, FitsSigned}
+use Rattle.std.specs.Int.{w32, w64}
+use Rattle.std.proofs.lemmas.Int.{to_z-of_z}
+use Rattle.sight.proofs.Ground.{above_both}
+use Rattle.sight.proofs.walk.is_higher.Goals as goal
+
+pub returns : goal.returns
+returns c =
+    let near : FitsSigned w32 c.in-Some.near = search rules in
+    let far : FitsSigned w32 c.in-Some-cells.far = search rules in
+    let one : FitsSigned w64 c.weighed-2.result = search rules in
+    let two : FitsSigned w64 c.weighed-3.result = search rules in
+    let sight : FitsSigned w64 c.args.sight = search rules in
+    let both : FitsSigned w64 (c.weighed-2.result +ℤ c.weighed-3.result) = search rules in
+    let some_far : 0 < c.args.far_weight = omega arith in
+    let some_near : 0 < c.args.near_weight = omega arith in
+    rw (c.in-Some.is, c.in-Some-cells.is) (simp to_z-of_z (
+    rw (simp to_z-of_z at c.weighed-2.ensures.value, simp to_z-of_z at c.weighed-3.ensures.value)
+    (sym (above_both c.in-Some.near c.in-Some-cells.far c.args.near_weight c.args.far_weight c.args.sight some_near some_far))))

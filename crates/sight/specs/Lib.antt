@@ -1,0 +1,6 @@
+pub mod Sight
+pub mod Walk
+pub mod Pace
+pub mod Refusals
+pub mod Viewed
+pub mod Laws

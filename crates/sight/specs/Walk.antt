@@ -1,0 +1,51 @@
+-- A walk along a line of sight, over a list of cells: the crossings of the line, as the crate's own functions
+-- find them. No public clause cites it. The line's two coordinates are a leading one, at whose whole steps
+-- the line is tested, and the one at its side.
+use Rattle.std.specs.Prelude.{ℕ, ◌+◌, ◌-◌, ◌*◌, ◌/◌, ◌%◌, ◌<◌, Bool, false, ◌==◌, if◌then◌else◌, ℤ, pos, negsuc, ◌≤ℤ◌, ◌+ℤ◌, ◌*ℤ◌, int_lt, List, length, Option, None, Some, option_map, option_and_then, slice_index_or, max}
+use Rattle.std.specs.Int.{abs_diff}
+use Rattle.std.specs.List.{list_any, range_with_len}
+use Rattle.std.specs.Option.{option_map_or}
+use Rattle.sight.specs.Sight.{toward, sight}
+use Rattle.sight.specs.declared.walk.Axis.{Axis}
+
+-- Where the line is along an axis at step k of n: the whole cell, and n-ths of a cell past it.
+abbrev pub whole_at : Axis → ℕ → ℕ → ℕ
+whole_at a n k = toward a.from a.to n k / n
+
+abbrev pub part_at : Axis → ℕ → ℕ → ℕ
+part_at a n k = toward a.from a.to n k % n
+
+-- Where the near cell of step k of n stands in the list.
+abbrev pub index_at : Axis → Axis → ℕ → ℕ → ℕ
+index_at lead side n k = whole_at lead n k * lead.stride + whole_at side n k * side.stride
+
+-- Weight times height; 0 for a cell of weight 0, and None for NODATA of weight above 0.
+abbrev pub weighed_height : Option ℤ → ℕ → Option ℤ
+weighed_height height weight = if weight == 0 then Some (pos 0) else option_map (λ h. pos weight *ℤ h) height
+
+-- The ground between two cells is there and greater than the sight.
+abbrev pub is_above : Option ℤ → ℕ → Option ℤ → ℕ → ℤ → Bool
+is_above near near_weight far far_weight z =
+    option_map_or (λ g. int_lt z g)
+    (option_and_then (λ x. option_map (λ y. x +ℤ y) (weighed_height far far_weight)) (weighed_height near near_weight)) false
+
+-- Step k of n blocks.
+abbrev pub step_blocks : List (Option ℤ) → Axis → Axis → ℤ → ℤ → ℕ → ℕ → Bool
+step_blocks cells lead side e f n k =
+    let i = index_at lead side n k in
+    let m = part_at side n k in
+    is_above (slice_index_or cells i None) (n - m) (slice_index_or cells (i + side.stride) None) m (sight e f n k)
+
+-- A step of the walk blocks.
+abbrev pub walk_blocks : List (Option ℤ) → Axis → Axis → ℤ → ℤ → Bool
+walk_blocks cells lead side e f =
+    let n = abs_diff lead.from lead.to in
+    list_any (λ k. step_blocks cells lead side e f n k) (range_with_len 1 (n - 1))
+
+-- The cells between the two ends are in the list.
+abbrev pub IsOver : List (Option ℤ) → Axis → Axis → Type 0
+IsOver cells lead side = max lead.from lead.to * lead.stride + max side.from side.to * side.stride < length cells
+
+-- A height with an eye or a target on it fits: it is well within 2^33.
+abbrev pub IsLevel : ℤ → Type 0
+IsLevel z = (negsuc 4294967295 ≤ℤ z) × (z ≤ℤ pos 4294967296)

@@ -1,0 +1,22 @@
+//! Lines of sight over a terrain grid, and viewsheds: how many observers see each cell.
+//!
+//! A line of sight runs from an observer's eye to a height above a cell. It is tested where it crosses
+//! the lines that join the centres of neighbouring cells, against the ground straight between the two
+//! centres. Earth's curvature and refraction are left out.
+#![tactic(auto)]
+
+pub mod fault;
+mod judging;
+pub mod laws;
+pub mod line;
+pub mod observer;
+#[cfg(test)]
+mod tests;
+mod tile;
+pub mod viewing;
+mod walk;
+
+pub use fault::SightFault;
+pub use line::sees;
+pub use observer::Observer;
+pub use viewing::viewshed;

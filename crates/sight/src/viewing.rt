@@ -1,0 +1,72 @@
+// A viewshed, by tiles and workers.
+ghost use Rattle.std.specs.Prelude.{◌≡◌, IfOk};
+ghost use Rattle.tiles.specs.Cutting.{Cuts};
+ghost use Rattle.tile_jobs.specs.Fault.{RefusesWorkers};
+ghost use Rattle.sight.specs.Sight.{IsViewshed};
+ghost use Rattle.sight.specs.Refusals.{RefusesSight, observers_fault};
+
+use crate::fault::SightFault;
+use crate::judging::first_fault;
+use crate::observer::Observer;
+use crate::tile::Viewing;
+use ascii_grid::Grid;
+use std::alloc::Global;
+use std::sync::Wait;
+use std::thread::Threads;
+use tile_jobs::{Gate, JobFault, run_jobs};
+use tiles::Tiling;
+
+/// The values of all tiles, put back.
+fn viewed<R: Threads + Wait + Sync, G: Gate + Sync>(
+    rt: &R,
+    alloc: Global,
+    work: &Viewing,
+    workers: u32,
+    gate: &G,
+) -> Result<Vec<Option<u32>>, JobFault>
+    ensures values { IfOk result (λ v. IsViewshed work.now.grid.now.terrain work.now.observers.now
+        work.now.target_height work.now.radius v.items) }
+    ensures refusals { RefusesWorkers workers result }
+{
+    let lists = run_jobs(rt, alloc, work, work.tiling.tiles(), workers, gate)?;
+    let Ok(values) = work.tiling.put_back(alloc, &lists) else {
+        return Err(JobFault::Memory);
+    };
+    Ok(values)
+}
+
+/// How many entries of the list of observers see each cell, in row order, and None where there is
+/// no data. Each tile is one job, and `workers` threads share them.
+///
+/// It refuses more than 1,024 observers, then a target height or an eye above 1,000,000, a radius
+/// that is not from 1 to 8,192, and the first observer outside the grid or on no data, in this
+/// order; then come the faults of its jobs.
+pub fn viewshed<R: Threads + Wait + Sync, G: Gate + Sync>(
+    rt: &R,
+    alloc: Global,
+    grid: &Grid,
+    observers: &[Observer],
+    target_height: u32,
+    radius: u32,
+    tiling: &Tiling,
+    workers: u32,
+    gate: &G,
+) -> Result<Vec<Option<u32>>, SightFault>
+    requires given { Cuts tiling.now grid.now.terrain }
+    ensures values { IfOk result (λ v.
+        IsViewshed grid.now.terrain observers.now target_height radius v.items) }
+    ensures refusals { RefusesSight
+        (observers_fault grid.now.terrain observers.now target_height radius) workers result }
+{
+    if let Some(fault) = first_fault(grid, observers, target_height, radius) {
+        return Err(fault);
+    }
+    let work = Viewing {
+        grid,
+        observers,
+        target_height,
+        radius,
+        tiling,
+    };
+    Ok(viewed(rt, alloc, &work, workers, gate)?)
+}

@@ -1,0 +1,119 @@
+-- Closing a deque.
+use Rattle.std.proofs.Common.{◌≡◌, ◌≢◌, ℕ, zero, suc, ◌+◌, ◌<◌, ◌≤◌, Bool, true, false, true≢false, cond, ◌==◌, nat_lt, add-one, List, [], ◌∷◌, ◌++◌, length, take, drop, replicate, sym, refl, ap, ◌∙◌, arith}
+use Rattle.std.proofs.lemmas.List.{append-nil, append_assoc}
+use Rattle.std.proofs.lemmas.Bool.Decides.{nat_tests}
+use lib.ListN.{length-append}
+use Rattle.tile_jobs.specs.declared.deque.Entry.TheVariants.{Job, End}
+use Rattle.tile_jobs.specs.Board.{deal, feed, jobs_in, times, sum_to}
+use Rattle.tile_jobs.specs.declared.deque.Log.{Log}
+use Rattle.tile_jobs.specs.Ends.{IsSeated, ClosingState, place_of, deal_of}
+use Rattle.tile_jobs.proofs.Entries.{times_append}
+
+job_only : (n t j : ℕ) → Job j ∷ [] ≡ take 1 (drop t (replicate n End)) → ⊥
+job_only zero zero j e = cc
+job_only zero (suc t) j e = cc
+job_only (suc n) zero j e = cc
+job_only (suc n) (suc t) j e = job_only n t j e
+
+job_at : (d : List ℕ) (n t j : ℕ) → Job j ∷ [] ≡ take 1 (drop t (jobs_in d ++ replicate n End)) → j ∷ drop (suc t) d ≡ drop t d
+job_at [] n t j e = absurd (job_only n t j e)
+job_at (i ∷ d) n zero j e = let q : j ≡ i = cc in ap (λ k. k ∷ d) q
+job_at (i ∷ d) n (suc t) j e = job_at d n t j e
+
+end_at : (d : List ℕ) (n t : ℕ) → End ∷ [] ≡ take 1 (drop t (jobs_in d ++ replicate n End)) → length d ≤ t
+end_at [] n t e = omega arith
+end_at (i ∷ d) n zero e = cc
+end_at (i ∷ d) n (suc t) e = let h = end_at d n t e in omega arith
+
+pub feed_job_at : (jobs seats v t j : ℕ) → Job j ∷ [] ≡ take 1 (drop t (feed jobs seats v)) → j ∷ drop (suc t) (deal jobs seats v) ≡ drop t (deal jobs seats v)
+unfolding feed
+feed_job_at jobs seats v t j e = job_at (deal jobs seats v) seats t j e
+
+pub feed_end_at : (jobs seats v t : ℕ) → End ∷ [] ≡ take 1 (drop t (feed jobs seats v)) → length (deal jobs seats v) ≤ t
+unfolding feed
+feed_end_at jobs seats v t e = end_at (deal jobs seats v) seats t e
+
+pub one_share : (marked : Bool) (u : Log) → IsSeated marked u → u.leaves + u.marks ≡ 1
+one_share true u is = let a = is.1 in let b = is.2 in omega arith
+one_share false u is = let a = is.1 in let b = is.2 in omega arith
+
+pub mark_shows : (marked : Bool) (u : Log) → IsSeated marked u → marked ≡ true → 0 < u.marks
+mark_shows true u is e = let b = is.2 in omega arith
+mark_shows false u is e = absurd (true≢false (sym e))
+
+-- the jobs that were popped go on
+pub part_more : (d p : List ℕ) (k t j : ℕ) → t ≡ k + length p → p ++ drop t d ≡ drop k d → j ∷ drop (suc t) d ≡ drop t d → (p ++ j ∷ []) ++ drop (suc t) d ≡ drop k d
+part_more d p k t j at e next = append_assoc p (j ∷ []) (drop (suc t) d) ∙ ap (λ l. p ++ l) next ∙ e
+
+drop_past : (d : List ℕ) (t : ℕ) → length d ≤ t → drop t d ≡ []
+drop_past [] zero l = refl
+drop_past [] (suc t) l = refl
+drop_past (x ∷ d) zero l = absurd (omega arith)
+drop_past (x ∷ d) (suc t) l = drop_past d t (omega arith)
+
+-- and end as the rest of the deal
+pub part_ends : (d p : List ℕ) (k t m : ℕ) → p ++ drop t d ≡ drop k d → (m ≡ 0 → length d ≤ t) → (0 < m → p ≡ []) → (i : ℕ) × (p ≡ drop i d)
+part_ends d p k t zero e past none = (k, sym (append-nil p) ∙ ap (λ l. p ++ l) (sym (drop_past d t (past refl))) ∙ e)
+part_ends d p k t (suc m) e past none = (length d, none (omega arith) ∙ sym (drop_past d (length d) (omega arith)))
+
+module _ (s0 s : ClosingState) (p : List ℕ) (now : s ≡ record s0 { took = s0.took ++ p; marks = s.marks; marked = s.marked }) where
+  pub now_deal : deal_of s ≡ deal_of s0
+  now_deal = ap (λ (x : ClosingState). deal_of x) now
+
+  pub now_more : (n : ClosingState) (j : ℕ) → n ≡ record s { took = s.took ++ j ∷ [] } → n ≡ record s0 { took = s0.took ++ (p ++ j ∷ []); marks = n.marks; marked = n.marked }
+  now_more n j e =
+      let a = ap (λ (x : ClosingState). x.id) e ∙ ap (λ (x : ClosingState). x.id) now in
+      let b = ap (λ (x : ClosingState). x.jobs) e ∙ ap (λ (x : ClosingState). x.jobs) now in
+      let c = ap (λ (x : ClosingState). x.seats) e ∙ ap (λ (x : ClosingState). x.seats) now in
+      let d = ap (λ (x : ClosingState). x.deque) e ∙ ap (λ (x : ClosingState). x.deque) now in
+      let f = ap (λ (x : ClosingState). x.took) e ∙ ap (λ (x : ClosingState). x.took ++ j ∷ []) now ∙ append_assoc s0.took p (j ∷ []) in
+      let g = ap (λ (x : ClosingState). x.gathered) e ∙ ap (λ (x : ClosingState). x.gathered) now in
+      let h = ap (λ (x : ClosingState). x.back) e ∙ ap (λ (x : ClosingState). x.back) now in
+      λ i. record { id = a i; jobs = b i; seats = c i; deque = d i; took = f i; gathered = g i; back = h i; marks = n.marks; marked = n.marked }
+
+  pub now_place : (n : ClosingState) (j : ℕ) → n ≡ record s { took = s.took ++ j ∷ [] } → place_of n ≡ suc (place_of s)
+  now_place n j e =
+      let a = ap (λ (x : ClosingState). place_of x) e in
+      let b = length-append (s.took ++ j ∷ []) s.gathered in
+      let c = length-append s.took (j ∷ []) in
+      let d = length-append s.took s.gathered in
+      omega arith
+
+  pub now_times : (y : ℕ) → times y (s.took ++ s.gathered) ≡ times y (deal_of s) → times y (s0.took ++ s0.gathered) + times y p ≡ times y (deal_of s0)
+  now_times y e =
+      let a = ap (λ (x : ClosingState). times y (x.took ++ x.gathered)) now in
+      let b = times_append y (s0.took ++ p) s0.gathered in
+      let c = times_append y s0.took p in
+      let d = times_append y s0.took s0.gathered in
+      let f = ap (times y) now_deal in
+      omega arith
+
+-- counting the ends that came back
+pub back_here : (v s b : ℕ) → s ≡ v → b + cond (nat_lt v s) 1 0 ≡ suc s → b + cond (nat_lt v (s + 1)) 1 0 ≡ suc (s + 1)
+back_here v s b e h = let t : nat_lt v s ≡ false = grind (arith, nat_tests) in let u : nat_lt v (s + 1) ≡ true = grind (arith, nat_tests) in let h' : b + cond false 1 0 ≡ suc s = rw t at h in rw u (omega arith)
+
+apart : (s v : ℕ) → s ≤ v → s ≢ v → s < v
+apart zero zero l far = absurd (far refl)
+apart zero (suc v) l far = omega arith
+apart (suc s) zero l far = absurd (omega arith)
+apart (suc s) (suc v) l far = let h = apart s v (omega arith) (λ e. far (ap suc e)) in omega arith
+
+not_same_at : (b : Bool) (s v : ℕ) → (s == v) ≡ b → s ≢ v → b ≡ false
+not_same_at true s v is far = absurd (far (grind (arith, nat_tests)))
+not_same_at false s v is far = refl
+
+pub not_same : (s v : ℕ) → s ≢ v → (s == v) ≡ false
+not_same s v far = let h = not_same_at (s == v) s v refl far in h
+
+back_else_at : (v s b : ℕ) → s ≢ v → (t : Bool) → nat_lt v s ≡ t → b + cond t 1 0 ≡ suc s → suc b + cond (nat_lt v (s + 1)) 1 0 ≡ suc (s + 1)
+back_else_at v s b far true is h = let u : nat_lt v (s + 1) ≡ true = grind (arith, nat_tests) in rw u (omega arith)
+back_else_at v s b far false is h = let near : s ≤ v = grind (arith, nat_tests) in let below : s < v = apart s v near far in let u : nat_lt v (s + 1) ≡ false = grind (arith, nat_tests) in rw u (omega arith)
+
+pub back_else : (v s b : ℕ) → s ≢ v → b + cond (nat_lt v s) 1 0 ≡ suc s → suc b + cond (nat_lt v (s + 1)) 1 0 ≡ suc (s + 1)
+back_else v s b far h = back_else_at v s b far (nat_lt v s) refl h
+
+pub sum_here : (s v : ℕ) (f : ℕ → ℕ) → s ≡ v → sum_to (s + 1) (λ i. cond (i == v) 0 (f i)) ≡ sum_to s (λ i. cond (i == v) 0 (f i))
+sum_here s v f e = let t : (s == v) ≡ true = grind (arith, nat_tests) in rw (add-one, t) (omega arith)
+
+pub sum_else : (s v : ℕ) (f : ℕ → ℕ) → s ≢ v → sum_to (s + 1) (λ i. cond (i == v) 0 (f i)) ≡ sum_to s (λ i. cond (i == v) 0 (f i)) + f s
+sum_else s v f far = let t : (s == v) ≡ false = not_same s v far in rw (add-one, t) refl

@@ -1,0 +1,9 @@
+pub mod Answers
+pub mod Entries
+pub mod Totals
+pub mod Steps
+pub mod Seats
+pub mod Residues
+pub mod Closings
+pub mod Closes
+pub mod Workers

@@ -1,0 +1,41 @@
+-- A worker's answers go with its seat's list.
+use Rattle.std.proofs.Common.{◌≡◌, ℕ, zero, suc, ◌+◌, ◌<◌, Result, Ok, Err, sym, subst, ◌==◌, cond, Bool, true, false, List, [], ◌∷◌, ◌++◌, get_or, refl, ◌∙◌, arith}
+use Rattle.std.proofs.lemmas.Bool.Decides.{nat_tests}
+use Rattle.tile_jobs.specs.declared.slots.Answer.{Answer}
+use Rattle.tile_jobs.specs.Answers.{IsAnswered}
+use Rattle.tile_jobs.proofs.Answers.{answered_more, answered_last}
+use Rattle.std.specs.Prelude.{IsOkAnd}
+use Rattle.tile_jobs.specs.declared.JobFault.{JobFault}
+use Rattle.tile_jobs.specs.declared.worker.Shift.{Shift}
+use Rattle.tile_jobs.specs.Workers.{IsOutcome}
+use Rattle.tile_jobs.specs.Board.{times, sum_to}
+use Rattle.tile_jobs.specs.Ends.{EndState, SameEnd, SeatState, SameSeat, HasAllMarks}
+use Rattle.tile_jobs.proofs.Entries.{times_append}
+
+end_trans : (a b c : EndState) → SameEnd a b → SameEnd b c → SameEnd a c
+end_trans a b c x y = (y.0 ∙ x.0, y.1 ∙ x.1, y.2 ∙ x.2, y.3 ∙ x.3)
+
+pub seat_trans : (a b c : SeatState) → SameSeat a b → SameSeat b c → SameSeat a c
+seat_trans a b c x y = (y.0 ∙ x.0, end_trans a.own b.own c.own x.1 y.1, y.2 ∙ x.2, λ k d low. let l = x.2 in end_trans (get_or a.others k d) (get_or b.others k d) (get_or c.others k d) (x.3 k d low) (y.3 k d (omega arith)))
+
+module _ {O : Type 0} where
+  whole_at : (b : Bool) (j job : ℕ) (taken : List ℕ) (list : List (Answer O)) (a : Answer O) → (job == j) ≡ b → a.job ≡ job → (0 < times j taken → IsAnswered list j) → 0 < times j taken + (cond b 1 0 + 0) → IsAnswered (list ++ a ∷ []) j
+  whole_at true j job taken list a is e old n = answered_last list a j (e ∙ grind (arith, nat_tests))
+  whole_at false j job taken list a is e old n = answered_more list (a ∷ []) j (old (omega arith))
+
+  pub whole_more : (j job : ℕ) (taken : List ℕ) (list : List (Answer O)) (a : Answer O) → a.job ≡ job → (0 < times j taken → IsAnswered list j) → 0 < times j (taken ++ job ∷ []) → IsAnswered (list ++ a ∷ []) j
+  whole_more j job taken list a e old n = let s = times_append j taken (job ∷ []) in whole_at (job == j) j job taken list a refl e old (omega arith)
+
+  -- a seat that came back with an outcome that is no fault
+  pub back_same : (gives : ℕ → O → Type 0) (s t : SeatState) (result : Result (Shift O) JobFault) → IsOutcome gives s result → IsOkAnd result (λ shift. t ≡ shift.seat) → SameSeat s t × HasAllMarks t
+  back_same gives s t (Ok shift) out e = (subst (SameSeat s) (sym e) out.0.same, subst HasAllMarks (sym e) out.0.empty)
+  back_same gives s t (Err f) out e = absurd e
+
+part_at : (n : ℕ) (f : ℕ → ℕ) → (0 < sum_to n f → (s : ℕ) × (s < n) × (0 < f s)) → 0 < sum_to n f + f n → (k : ℕ) → f n ≡ k → (s : ℕ) × (s < suc n) × (0 < f s)
+part_at n f more h zero e = let rest = more (omega arith) in (rest.0, omega (arith, rest.1), rest.2)
+part_at n f more h (suc k) e = (n, omega arith, omega arith)
+
+-- where a sum isn't 0, one of its parts isn't
+pub some_part : (n : ℕ) (f : ℕ → ℕ) → 0 < sum_to n f → (s : ℕ) × (s < n) × (0 < f s)
+some_part zero f h = absurd (omega arith)
+some_part (suc n) f h = part_at n f (some_part n f) h (f n) refl

@@ -1,0 +1,40 @@
+-- What is dealt to the deques of a board, and counts over it. Source: this project's own.
+use Rattle.std.specs.Prelude.{ℕ, zero, suc, ◌+◌, ◌%◌, List, [], ◌∷◌, ◌++◌, replicate, cond, ◌==◌}
+use Rattle.tile_jobs.specs.declared.deque.Entry.{Entry}
+use Rattle.tile_jobs.specs.declared.deque.Entry.TheVariants.{Job, End}
+
+-- the numbers below `jobs` whose remainder by `seats` is v, rising
+abbrev pub deal : ℕ → ℕ → ℕ → List ℕ
+deal zero seats v = []
+deal (suc j) seats v = cond (j % seats == v) (deal j seats v ++ j ∷ []) (deal j seats v)
+
+-- jobs as the entries of a deque
+abbrev pub jobs_in : List ℕ → List Entry
+jobs_in [] = []
+jobs_in (j ∷ js) = Job j ∷ jobs_in js
+
+-- all that is pushed to deque v: its jobs, and then an end mark for each seat
+unfoldable pub feed : ℕ → ℕ → ℕ → List Entry
+feed jobs seats v = jobs_in (deal jobs seats v) ++ replicate seats End
+
+-- the jobs among entries
+abbrev pub jobs_of : List Entry → List ℕ
+jobs_of [] = []
+jobs_of (Job j ∷ es) = j ∷ jobs_of es
+jobs_of (End ∷ es) = jobs_of es
+
+-- how many end marks stand among entries
+abbrev pub ends_of : List Entry → ℕ
+ends_of [] = 0
+ends_of (Job j ∷ es) = ends_of es
+ends_of (End ∷ es) = suc (ends_of es)
+
+-- how often x stands in the list
+abbrev pub times : ℕ → List ℕ → ℕ
+times x [] = 0
+times x (y ∷ ys) = cond (y == x) 1 0 + times x ys
+
+-- f of each number below n, added up
+abbrev pub sum_to : ℕ → (ℕ → ℕ) → ℕ
+sum_to zero f = 0
+sum_to (suc n) f = sum_to n f + f n

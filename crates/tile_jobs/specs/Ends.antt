@@ -1,0 +1,178 @@
+-- A seat, and the ends by which it takes from the deques of its board. Source: this project's own.
+use Rattle.std.specs.Prelude.{◌≡◌, ◌≢◌, ℕ, zero, suc, ◌%◌, ◌<◌, ◌≤◌, Bool, true, false, cond, nat_lt, ◌==◌, List, [], ◌∷◌, ◌++◌, length, get_or, drop}
+use Rattle.std.specs.declared.alloc.Global.{Global}
+use Rattle.atomic_blocks.specs.Lent.{RowsId}
+use Rattle.tile_jobs.specs.declared.deque.Log.{Log}
+use Rattle.tile_jobs.specs.Board.{deal, feed}
+use Rattle.tile_jobs.specs.Rule.{joined, share}
+
+abbrev pub DequeId : Type 0
+DequeId = RowsId × Global
+
+-- one seat's end of one deque: which deque, the jobs that the seat took there, and whether it has the deque's mark
+pub record EndState : Type 0 where
+  pub id : DequeId
+  pub jobs : ℕ
+  pub seats : ℕ
+  pub deque : ℕ
+  pub took : List ℕ
+  pub marked : Bool
+
+abbrev pub end_of : DequeId → Bool → Log → EndState
+end_of id marked u = record { id = id; jobs = u.jobs; seats = u.seats; deque = u.deque; took = u.took; marked = marked }
+
+-- what a seat's view is between two calls
+abbrev pub IsSeated : Bool → Log → Type 0
+IsSeated marked u = (u.gathered ≡ []) × (u.leaves ≡ cond marked 0 1) × (u.marks ≡ cond marked 1 0) × (length u.took ≤ length (deal u.jobs u.seats u.deque))
+
+abbrev pub IsOwn : Bool → Log → Type 0
+IsOwn marked u = IsSeated marked u × (u.owns ≡ true) × (u.pushed ≡ length (feed u.jobs u.seats u.deque))
+
+abbrev pub IsOther : Bool → Log → Type 0
+IsOther marked u = IsSeated marked u × (u.ready ≡ true)
+
+abbrev pub SameEnd : EndState → EndState → Type 0
+SameEnd e f = (f.id ≡ e.id) × (f.jobs ≡ e.jobs) × (f.seats ≡ e.seats) × (f.deque ≡ e.deque)
+
+-- no job was taken, and a mark that was taken stays
+abbrev pub Kept : EndState → EndState → Type 0
+Kept e f = SameEnd e f × (f.took ≡ e.took) × (e.marked ≡ true → f.marked ≡ true)
+
+-- a job of this end's deque was taken
+abbrev pub TookJob : EndState → ℕ → EndState → Type 0
+TookJob e j f = SameEnd e f × (f.took ≡ e.took ++ j ∷ []) × (j < e.jobs) × (j % e.seats ≡ e.deque) × (length f.took ≤ length (deal e.jobs e.seats e.deque)) × (e.marked ≡ true → f.marked ≡ true)
+
+abbrev pub AllKept : List EndState → List EndState → Type 0
+AllKept es fs = (i : ℕ) (d : EndState) → i < length es → Kept (get_or es i d) (get_or fs i d)
+
+-- a job of one of the ends was taken
+abbrev pub TookAmong : List EndState → ℕ → List EndState → Type 0
+TookAmong es j fs = (k : ℕ) × (k < length es) × ((d : EndState) → TookJob (get_or es k d) j (get_or fs k d)) × ((i : ℕ) (d : EndState) → i ≢ k → i < length es → Kept (get_or es i d) (get_or fs i d))
+
+-- the numbers of a list whose remainder by `seats` is v
+abbrev pub of : ℕ → ℕ → List ℕ → List ℕ
+of v seats [] = []
+of v seats (x ∷ xs) = cond (x % seats == v) (x ∷ of v seats xs) (of v seats xs)
+
+-- the k-th number that isn't n
+abbrev pub skip : ℕ → ℕ → ℕ
+skip n k = cond (nat_lt k n) k (suc k)
+
+-- an end for deque v of a seat that took `taken`
+abbrev pub IsEnd : ℕ → ℕ → ℕ → List ℕ → EndState → Type 0
+IsEnd jobs seats v taken e = (e.jobs ≡ jobs) × (e.seats ≡ seats) × (e.deque ≡ v) × (e.took ≡ of v seats taken) × (length e.took ≤ length (deal jobs seats v))
+
+pub record SeatState : Type 0 where
+  pub number : ℕ
+  -- its end of its own deque, and of the others in their order
+  pub own : EndState
+  pub others : List EndState
+  -- the jobs that it took, in its order
+  pub taken : List ℕ
+
+pub record IsSeat (s : SeatState) : Type 0 where
+  pub below : s.number < s.own.seats
+  pub count : suc (length s.others) ≡ s.own.seats
+  pub own_is : IsEnd s.own.jobs s.own.seats s.number s.taken s.own
+  pub others_are : (k : ℕ) (d : EndState) → k < length s.others → IsEnd s.own.jobs s.own.seats (skip s.number k) s.taken (get_or s.others k d)
+
+abbrev pub seat_of : ℕ → EndState → List EndState → List ℕ → SeatState
+seat_of number own others taken = record { number = number; own = own; others = others; taken = taken }
+
+-- the same seat
+abbrev pub SameSeat : SeatState → SeatState → Type 0
+SameSeat s t = (t.number ≡ s.number) × SameEnd s.own t.own × (length t.others ≡ length s.others) × ((k : ℕ) (d : EndState) → k < length s.others → SameEnd (get_or s.others k d) (get_or t.others k d))
+
+-- the seat has the mark of every deque
+abbrev pub HasAllMarks : SeatState → Type 0
+HasAllMarks s = (s.own.marked ≡ true) × ((k : ℕ) (d : EndState) → k < length s.others → (get_or s.others k d).marked ≡ true)
+
+-- the seat took nothing, and has no mark
+abbrev pub IsNew : SeatState → Type 0
+IsNew s = (s.taken ≡ []) × (s.own.marked ≡ false) × ((k : ℕ) (d : EndState) → k < length s.others → (get_or s.others k d).marked ≡ false)
+
+-- marks stay
+abbrev pub MarksStay : SeatState → SeatState → Type 0
+MarksStay s t = (s.own.marked ≡ true → t.own.marked ≡ true) × ((k : ℕ) (d : EndState) → k < length s.others → (get_or s.others k d).marked ≡ true → (get_or t.others k d).marked ≡ true)
+
+-- the dealer of one deque, who may still hand out leaves
+pub record DealerState : Type 0 where
+  pub id : DequeId
+  pub jobs : ℕ
+  pub seats : ℕ
+  pub deque : ℕ
+  pub leaves : ℕ
+
+abbrev pub dealer_of : DequeId → Log → DealerState
+dealer_of id u = record { id = id; jobs = u.jobs; seats = u.seats; deque = u.deque; leaves = u.leaves }
+
+abbrev pub IsDealer : Log → Type 0
+IsDealer u = (u.owns ≡ true) × (u.pushed ≡ length (feed u.jobs u.seats u.deque)) × (u.gathered ≡ []) × (u.took ≡ []) × (u.marks ≡ 0)
+
+-- an end through which nothing was taken yet
+abbrev pub fresh : DealerState → EndState
+fresh d = record { id = d.id; jobs = d.jobs; seats = d.seats; deque = d.deque; took = []; marked = false }
+
+-- the list without its n-th element
+abbrev pub without : {A : Type 0} → ℕ → List A → List A
+without n [] = []
+without zero (x ∷ xs) = xs
+without (suc n) (x ∷ xs) = x ∷ without n xs
+
+-- an end of deque v through which nothing was taken
+abbrev pub IsFresh : ℕ → ℕ → ℕ → EndState → Type 0
+IsFresh jobs seats v e = (e.jobs ≡ jobs) × (e.seats ≡ seats) × (e.deque ≡ v) × (e.took ≡ []) × (e.marked ≡ false)
+
+abbrev pub AllFresh : ℕ → ℕ → List EndState → Type 0
+AllFresh jobs seats es = (v : ℕ) (d : EndState) → v < length es → IsFresh jobs seats v (get_or es v d)
+
+-- all seats of one deal in their order: each has an end of each deque
+pub record IsDeal (jobs seats : ℕ) (ss : List SeatState) : Type 0 where
+  pub count : length ss ≡ seats
+  pub numbers : (s : ℕ) (d : SeatState) → s < seats → ((get_or ss s d).number ≡ s) × ((get_or ss s d).own.jobs ≡ jobs) × ((get_or ss s d).own.seats ≡ seats)
+  pub others : (s : ℕ) (d : SeatState) → s < seats → suc (length (get_or ss s d).others) ≡ seats
+  pub ends : (s k : ℕ) (d : SeatState) (e : EndState) → s < seats → suc k < seats → (get_or (get_or ss s d).others k e).id ≡ (get_or ss (skip s k) d).own.id
+
+-- a deque that is being closed: the owner's list, the lists that came back, and the marks
+pub record ClosingState : Type 0 where
+  pub id : DequeId
+  pub jobs : ℕ
+  pub seats : ℕ
+  pub deque : ℕ
+  pub took : List ℕ
+  pub gathered : List ℕ
+  -- how many passes came back, and how many of them have their mark
+  pub back : ℕ
+  pub marks : ℕ
+  pub marked : Bool
+
+abbrev pub closing_of : DequeId → Bool → Log → ClosingState
+closing_of id marked u = record { id = id; jobs = u.jobs; seats = u.seats; deque = u.deque; took = u.took; gathered = joined u.gathered; back = share u; marks = u.marks; marked = marked }
+
+abbrev pub IsClosing : Bool → Log → Type 0
+IsClosing marked u = (u.owns ≡ true) × (u.pushed ≡ length (feed u.jobs u.seats u.deque)) × (marked ≡ true → 0 < u.marks) × (marked ≡ false → 0 < u.leaves)
+
+-- the closing begins with the owner's end
+abbrev pub Begins : EndState → ClosingState → Type 0
+Begins e s = (s.id ≡ e.id) × (s.jobs ≡ e.jobs) × (s.seats ≡ e.seats) × (s.deque ≡ e.deque) × (s.took ≡ e.took) × (s.gathered ≡ []) × (s.back ≡ 1) × (e.marked ≡ true → 0 < s.marks) × (s.marked ≡ true → 0 < s.marks)
+
+-- an end came back
+abbrev pub CameBack : ClosingState → EndState → ClosingState → Type 0
+CameBack s e t = (t.id ≡ s.id) × (t.jobs ≡ s.jobs) × (t.seats ≡ s.seats) × (t.deque ≡ s.deque) × (t.took ≡ s.took) × (t.gathered ≡ s.gathered ++ e.took) × (t.back ≡ suc s.back) × (s.marks ≤ t.marks) × (e.marked ≡ true → 0 < t.marks) × (t.marked ≡ s.marked)
+
+-- where the next job of the deque stands
+abbrev pub place_of : ClosingState → ℕ
+place_of s = length (s.took ++ s.gathered)
+
+abbrev pub deal_of : ClosingState → List ℕ
+deal_of s = deal s.jobs s.seats s.deque
+
+abbrev pub PoppedJob : ClosingState → ℕ → ClosingState → Type 0
+PoppedJob s j t = (t ≡ record s { took = s.took ++ j ∷ [] }) × (s.marks ≡ 0) × (j ∷ drop (suc (place_of s)) (deal_of s) ≡ drop (place_of s) (deal_of s))
+
+abbrev pub PoppedMark : ClosingState → ClosingState → Type 0
+PoppedMark s t = (t ≡ record s { marks = suc s.marks; marked = true }) × (s.marks ≡ 0 → length (deal_of s) ≤ place_of s)
+
+-- all seats of some deal, in their order
+abbrev pub IsBoard : ℕ → List SeatState → Type 0
+IsBoard seats ss = (jobs : ℕ) × (0 < seats) × IsDeal jobs seats ss

@@ -1,0 +1,10 @@
+pub mod Answers
+pub mod Fault
+pub mod Board
+pub mod Rule
+pub mod Ends
+pub mod Got
+pub mod Stolen
+pub mod Take
+pub mod Workers
+pub mod Closed

@@ -1,0 +1,144 @@
+//! The board: jobs in deques, dealt to seats and gathered again.
+ghost use Rattle.std.specs.Prelude.{◌≡◌, ◌≢◌, ℕ, ◌+◌, ◌<◌, ◌≤◌, ◌==◌, ◌⊎◌, ◌↔◌, cond, true, List, [], ◌++◌, length, drop, vec_len, vec_capacity, slice_index_or, IfOk, IfErr, OnOk, Err};
+ghost use Rattle.tile_jobs.specs.Board.{deal as deal_list, times, sum_to};
+ghost use Rattle.tile_jobs.specs.Closed.{IsClosed};
+ghost use Rattle.tile_jobs.specs.Ends.{EndState, SeatState, IsBoard, IsDeal, IsSeat, IsNew};
+
+use crate::JobFault;
+use crate::closing::Closing;
+use crate::dealing::{deal_all, seat_all};
+use crate::ends::{Other, Own};
+use crate::room::put;
+use crate::seat::Seat;
+use std::alloc::Global;
+
+#[cfg(test)]
+mod tests;
+
+/// The most seats of a board.
+const MOST_SEATS: u32 = 64;
+
+/// Takes back every end of deque `v`.
+fn gather(own: Own, rows: &mut Vec<Vec<Other>>, v: usize) -> Closing
+    requires own { v < vec_len rows.old }
+    requires ids { (s : ℕ) (d : _) (e : EndState) → s < vec_len rows.old → s ≢ v → (0 < length (slice_index_or rows.old.items s d).items) × ((slice_index_or (slice_index_or rows.old.items s d).items 0 e).id ≡ own.id) }
+    ensures len { vec_len rows.new ≡ vec_len rows.old }
+    ensures rows { (s : ℕ) (d : _) → s < vec_len rows.old → (slice_index_or rows.new.items s d).items ≡ cond (s == v) (slice_index_or rows.old.items s d).items (drop 1 (slice_index_or rows.old.items s d).items) }
+    ensures names { (result.jobs ≡ own.jobs) × (result.seats ≡ own.seats) × (result.deque ≡ own.deque) × (result.took ≡ own.took) × (result.back ≡ vec_len rows.old) }
+    ensures times { (y : ℕ) (f : ℕ → ℕ) → ((s : ℕ) (d : _) (e : EndState) → s < vec_len rows.old → s ≢ v → times y (slice_index_or (slice_index_or rows.old.items s d).items 0 e).took ≡ f s) → times y result.gathered ≡ sum_to (vec_len rows.old) (λ i. cond (i == v) 0 (f i)) }
+    ensures own_mark { own.marked ≡ true → 0 < result.marks }
+    ensures marks { (s : ℕ) (d : _) (e : EndState) → s < vec_len rows.old → s ≢ v → (slice_index_or (slice_index_or rows.old.items s d).items 0 e).marked ≡ true → 0 < result.marks }
+    ensures flag { result.marked ≡ true → 0 < result.marks }
+{
+    let mut closing = Closing::new(own);
+    for s in 0..rows.len() {
+        if s != v {
+            let other = rows[s].remove(0);
+            closing.absorb(other);
+        }
+    }
+    closing
+}
+
+/// Takes back every end of deque `v`, and then what is left in it.
+fn close_one(own: Own, rows: &mut Vec<Vec<Other>>, v: usize, left: &mut Vec<u32>)
+    requires own { (v < vec_len rows.old) × (own.seats ≡ vec_len rows.old) }
+    requires ids { (s : ℕ) (d : _) (e : EndState) → s < vec_len rows.old → s ≢ v → (0 < length (slice_index_or rows.old.items s d).items) × ((slice_index_or (slice_index_or rows.old.items s d).items 0 e).id ≡ own.id) }
+    requires room { vec_len left.old + length (deal_list own.jobs own.seats own.deque) ≤ vec_capacity left.old }
+    ensures len { vec_len rows.new ≡ vec_len rows.old }
+    ensures rows { (s : ℕ) (d : _) → s < vec_len rows.old → (slice_index_or rows.new.items s d).items ≡ cond (s == v) (slice_index_or rows.old.items s d).items (drop 1 (slice_index_or rows.old.items s d).items) }
+    ensures room { vec_capacity left.old ≤ vec_capacity left.new }
+    ensures left { (p : List ℕ) × (left.new.items ≡ left.old.items ++ p) × ((k : ℕ) × (p ≡ drop k (deal_list own.jobs own.seats own.deque))) × (own.marked ≡ true → p ≡ []) × ((s : ℕ) (d : _) (e : EndState) → s < vec_len rows.old → s ≢ v → (slice_index_or (slice_index_or rows.old.items s d).items 0 e).marked ≡ true → p ≡ []) × ((y : ℕ) (f : ℕ → ℕ) → ((s : ℕ) (d : _) (e : EndState) → s < vec_len rows.old → s ≢ v → times y (slice_index_or (slice_index_or rows.old.items s d).items 0 e).took ≡ f s) → times y own.took ≡ f v → sum_to (vec_len rows.old) f + times y p ≡ times y (deal_list own.jobs own.seats own.deque)) }
+{
+    let closing = gather(own, rows, v);
+    closing.drain(left);
+}
+
+/// Takes the seats apart.
+fn open_all(
+    seats: Vec<Seat>,
+    owns: &mut Vec<Own>,
+    rows: &mut Vec<Vec<Other>>,
+    taken: &mut Vec<Vec<u32>>,
+)
+    requires empty { (owns.old.items ≡ []) × (rows.old.items ≡ []) × (taken.old.items ≡ []) }
+    requires room { (vec_len seats ≤ vec_capacity owns.old) × (vec_len seats ≤ vec_capacity rows.old) × (vec_len seats ≤ vec_capacity taken.old) }
+    ensures len { (vec_len owns.new ≡ vec_len seats) × (vec_len rows.new ≡ vec_len seats) × (vec_len taken.new ≡ vec_len seats) }
+    ensures seats { (s : ℕ) (d : SeatState) → s < vec_len seats → IsSeat (slice_index_or seats.items s d) }
+    ensures owns { (s : ℕ) (d : SeatState) (o : EndState) → s < vec_len seats → slice_index_or owns.new.items s o ≡ (slice_index_or seats.items s d).own }
+    ensures rows { (s : ℕ) (d : SeatState) (o : _) → s < vec_len seats → (slice_index_or rows.new.items s o).items ≡ (slice_index_or seats.items s d).others }
+    ensures taken { (s : ℕ) (d : SeatState) (o : _) → s < vec_len seats → (slice_index_or taken.new.items s o).items ≡ (slice_index_or seats.items s d).taken }
+{
+    for seat in seats {
+        let (own, others, list) = seat.into_parts();
+        put(owns, own);
+        put(rows, others);
+        put(taken, list);
+    }
+}
+
+/// What the seats of a board took, and what is left.
+#[derive(Drop)]
+pub struct Closed {
+    /// The jobs that each seat took, in its order.
+    pub taken: Vec<Vec<u32>>,
+    /// The jobs that no seat took, deque by deque.
+    pub left: Vec<u32>,
+}
+
+/// A board of numbered jobs. Each of its seats has a deque with jobs of its own, and may take from
+/// every other one. Behind the jobs each deque has an end mark for each seat.
+///
+/// It has no value of its own: it stands in its seats, which their owners move into threads.
+pub struct Board;
+
+impl Board {
+    /// Deals the jobs below `jobs` to `seats` seats, 1 to 64: job `j` to the deque of seat
+    /// `j % seats`, in rising order. The seats come in the order of their numbers.
+    ///
+    /// Of two reasons to refuse, `BadWorkers` goes before `Memory`.
+    pub fn deal(alloc: Global, jobs: u32, seats: u32) -> Result<Vec<Seat>, JobFault>
+        requires { jobs ≤ 65536 }
+        ensures some { OnOk result ((0 < seats) × (seats ≤ 64)) }
+        ensures deal { IfOk result (λ v. IsDeal jobs seats v.items) }
+        ensures new { IfOk result (λ v. (s : ℕ) (d : SeatState) → s < seats → IsNew (slice_index_or v.items s d)) }
+        ensures bad { (result ≡ Err JobFault.BadWorkers) ↔ ((seats ≡ 0) ⊎ (64 < seats)) }
+        ensures faults { IfErr result (λ e. (e ≡ JobFault.BadWorkers) ⊎ (e ≡ JobFault.Memory)) }
+    {
+        if seats == 0 || seats > MOST_SEATS {
+            return Err(JobFault::BadWorkers);
+        }
+        let ends = deal_all(alloc, jobs, seats)?;
+        Ok(seat_all(alloc, jobs, ends)?)
+    }
+
+    /// Takes back all seats of one deal, in their order, with what is left in the deques. At `Err`
+    /// no memory was left for the lists, and the seats are as before.
+    pub fn close(alloc: Global, seats: Vec<Seat>) -> Result<Closed, Vec<Seat>>
+        requires board { IsBoard (vec_len seats) seats.items }
+        ensures back { IfErr result (λ r. r ≡ seats) }
+        ensures taken { IfOk result (λ c. (vec_len c.taken ≡ vec_len seats) × ((s : ℕ) (d : SeatState) (o : _) → s < vec_len seats → (slice_index_or c.taken.items s o).items ≡ (slice_index_or seats.items s d).taken)) }
+        ensures closed { (jobs : ℕ) → IsDeal jobs (vec_len seats) seats.items → IfOk result (λ c. IsClosed jobs (vec_len seats) seats.items c.left.items) }
+    {
+        let count = seats.len();
+        let Ok(mut left) = Vec::with_capacity(alloc, seats[0].room()) else {
+            return Err(seats);
+        };
+        let Ok(mut owns) = Vec::with_capacity(alloc, count) else {
+            return Err(seats);
+        };
+        let Ok(mut rows) = Vec::with_capacity(alloc, count) else {
+            return Err(seats);
+        };
+        let Ok(mut taken) = Vec::with_capacity(alloc, count) else {
+            return Err(seats);
+        };
+        open_all(seats, &mut owns, &mut rows, &mut taken);
+        let mut v = 0;
+        for own in owns {
+            close_one(own, &mut rows, v, &mut left);
+            v += 1;
+        }
+        Ok(Closed { taken, left })
+    }
+}

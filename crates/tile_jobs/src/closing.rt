@@ -1,0 +1,88 @@
+//! A deque that is being closed.
+ghost use Rattle.std.specs.Prelude.{◌≡◌, ℕ, ◌+◌, ◌-◌, ◌<◌, ◌≤◌, true, false, List, [], ◌++◌, length, drop, vec_len, vec_capacity, MatchOption};
+ghost use Rattle.crossbeam_deque.specs.Handles.{worker_deque, worker_view, worker_flavor};
+ghost use Rattle.tile_jobs.specs.Board.{times};
+ghost use Rattle.tile_jobs.specs.Ends.{ClosingState, closing_of, IsClosing, Begins, CameBack, PoppedJob, PoppedMark, deal_of};
+
+use crate::deque::{Deque, Entry, Lends, Whole, pop_next};
+use crate::ends::{Other, Own};
+use crate::room::put;
+use std::marker::Model;
+
+#[derive(Drop)]
+pub struct Closing {
+    worker: Deque,
+    marked: bool,
+}
+
+impl Model for Closing {
+    ghost Value = { ClosingState };
+
+    ghost view = { λ s. closing_of (worker_deque s.worker) s.marked (worker_view s.worker) };
+
+    ghost invariant = { λ s. IsClosing s.marked (worker_view s.worker) × (worker_flavor s.worker ≡ 0) };
+}
+
+impl Closing {
+    pub fn new(own: Own) -> Closing
+        ensures { Begins own result }
+    {
+        let (worker, marked) = own.into_parts();
+        Closing { worker, marked }
+    }
+
+    /// Takes back the end of another seat.
+    pub fn absorb(&mut self, other: Other)
+        requires { self.old.id ≡ other.id }
+        ensures { CameBack self.old other self.new }
+    {
+        let pass = other.into_pass();
+        self.worker.absorb::<Lends>(pass);
+    }
+
+    /// The next job, or `None`, which takes the owner's mark.
+    pub fn next(&mut self) -> Option<u32>
+        requires back { self.old.back ≡ self.old.seats }
+        requires unmarked { self.old.marked ≡ false }
+        ensures { MatchOption result (PoppedMark self.old self.new) (λ j. PoppedJob self.old j self.new) }
+    {
+        match pop_next(&mut self.worker) {
+            Entry::Job(job) => Some(job),
+            Entry::End => {
+                self.marked = true;
+                None
+            }
+        }
+    }
+
+    /// Every job was taken once.
+    pub fn settle(self)
+        requires back { self.back ≡ self.seats }
+        requires marked { self.marked ≡ true }
+        ensures { (y : ℕ) → times y (self.took ++ self.gathered) ≡ times y (deal_of self) }
+    {
+        let Closing {
+            mut worker,
+            marked: _,
+        } = self;
+        worker.len_as::<Whole>();
+    }
+
+    /// Takes what is left, up to the owner's mark.
+    pub fn drain(self, left: &mut Vec<u32>)
+        requires back { self.back ≡ self.seats }
+        requires marked { self.marked ≡ true → 0 < self.marks }
+        requires room { vec_len left.old + length (deal_of self) ≤ vec_capacity left.old + length self.took }
+        ensures room { vec_capacity left.old ≤ vec_capacity left.new }
+        ensures left { (p : List ℕ) × (left.new.items ≡ left.old.items ++ p) × ((k : ℕ) × (p ≡ drop k (deal_of self))) × (0 < self.marks → p ≡ []) × ((y : ℕ) → times y (self.took ++ self.gathered) + times y p ≡ times y (deal_of self)) }
+    {
+        let mut closing = self;
+        while !closing.marked {
+            match closing.next() {
+                Some(job) => put(left, job),
+                None => {}
+            }
+        }
+        closing.settle();
+    }
+}

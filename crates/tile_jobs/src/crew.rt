@@ -1,0 +1,69 @@
+//! The workers of a board, on the caller's thread or on threads of their own.
+ghost use Rattle.std.specs.Prelude.{◌≡◌, ◌≢◌, IfOk, IfErr};
+ghost use Rattle.tile_jobs.specs.Workers.{AreNew, AreOutcomes};
+
+use crate::JobFault;
+use crate::gate::Gate;
+use crate::seat::Seat;
+use crate::work::Work;
+use crate::worker::{Duty, Shift, work_seat};
+use std::alloc::{AllocError, Global};
+use std::snapshot::Snapshot;
+use std::sync::Wait;
+use std::thread;
+use std::thread::{Scope, Threads};
+
+/// Moves each seat into a thread of its own, and joins them.
+pub fn work_apart<'s, E, R: Threads + Wait + Sync, W: Work + Sync, G: Gate + Sync>(
+    rt: &'s R,
+    alloc: Global,
+    scope: &Scope<'s, E>,
+    work: &'s W,
+    gate: &'s G,
+    seats: Vec<Seat>,
+) -> Result<Vec<Result<Shift<W::Out>, JobFault>>, JobFault>
+where
+    W::Out: Send + Drop + 's,
+    requires { AreNew (W.most work.now) seats.items }
+    ensures outcomes { IfOk result (λ v. AreOutcomes (W.gives work.now) seats.items v.items) }
+    ensures fault { IfErr result (λ e. e ≢ JobFault.BadWorkers) }
+{
+    let mut children = Vec::with_capacity(alloc, seats.len())?;
+    for seat in seats {
+        let duty = Duty {
+            work,
+            seat: Snapshot::of(&seat),
+        };
+        match scope.spawn_with(duty, move || work_seat(rt, alloc, work, gate, seat)) {
+            Ok(child) => children.push(child).map_err(AllocError::from)?,
+            Err(_) => return Err(JobFault::NoThread),
+        }
+    }
+    match thread::join_promised(rt, children) {
+        Ok(results) => Ok(results),
+        Err(_) => Err(JobFault::Memory),
+    }
+}
+
+/// Works at each seat in turn, on the caller's thread.
+pub fn work_here<R: Wait, W: Work, G: Gate>(
+    rt: &R,
+    alloc: Global,
+    work: &W,
+    gate: &G,
+    seats: Vec<Seat>,
+) -> Result<Vec<Result<Shift<W::Out>, JobFault>>, JobFault>
+where
+    W::Out: Drop,
+    requires { AreNew (W.most work.now) seats.items }
+    ensures outcomes { IfOk result (λ v. AreOutcomes (W.gives work.now) seats.items v.items) }
+    ensures fault { IfErr result (λ e. e ≡ JobFault.Memory) }
+{
+    let mut results = Vec::with_capacity(alloc, seats.len())?;
+    for seat in seats {
+        results
+            .push(work_seat(rt, alloc, work, gate, seat))
+            .map_err(AllocError::from)?;
+    }
+    Ok(results)
+}

@@ -1,0 +1,106 @@
+//! The dealer of one deque.
+ghost use Rattle.std.specs.Prelude.{◌≡◌, ◌+◌, ◌-◌, ◌%◌, ◌<◌, ◌≤◌, length, IfOk};
+ghost use Rattle.crossbeam_deque.specs.Handles.{worker_deque, worker_view, worker_flavor, worker_index, worker_capacity, SameWorker};
+ghost use Rattle.tile_jobs.specs.Board.{deal};
+ghost use Rattle.tile_jobs.specs.Rule.{dealing};
+ghost use Rattle.tile_jobs.specs.Ends.{DealerState, dealer_of, IsDealer, fresh};
+
+use crate::deque::{Deque, Entry, Lends, Place, push};
+use crate::ends::{Other, Own};
+use std::alloc::{AllocError, Global};
+use std::marker::Model;
+
+/// A deque with all its entries, whose marks aren't handed out yet.
+#[derive(Drop)]
+pub struct Dealer {
+    worker: Deque,
+}
+
+impl Model for Dealer {
+    ghost Value = { DealerState };
+
+    ghost view = { λ d. dealer_of (worker_deque d.worker) (worker_view d.worker) };
+
+    ghost invariant = { λ d. IsDealer (worker_view d.worker) × (worker_flavor d.worker ≡ 0) };
+}
+
+/// How many jobs below `jobs` are of deque `v`.
+fn count_jobs(jobs: u32, seats: u32, v: u32) -> usize
+    requires { 0 < seats }
+    ensures count { result ≡ length (deal jobs seats v) }
+    ensures few { result ≤ jobs }
+{
+    let mut count = 0;
+    for job in 0..jobs {
+        if job % seats == v {
+            count += 1;
+        }
+    }
+    count
+}
+
+/// Pushes the jobs of deque `v`, in rising order.
+fn push_jobs<D: Place>(worker: &mut Deque, jobs: u32, seats: u32, v: u32)
+    requires place { (D.jobs ≡ jobs) × (D.seats ≡ seats) × (D.deque ≡ v) }
+    requires some { 0 < seats }
+    requires none_yet { (worker_index worker.old ≡ 0) × (worker_view worker.old ≡ dealing D.jobs D.seats D.deque 0) }
+    requires room { length (deal jobs seats v) ≤ worker_capacity worker.old }
+    ensures same { SameWorker worker.old worker.new }
+    ensures index { worker_index worker.new ≡ length (deal jobs seats v) }
+    ensures view { worker_view worker.new ≡ dealing D.jobs D.seats D.deque (worker_index worker.new) }
+{
+    for job in 0..jobs {
+        if job % seats == v {
+            push::<D>(worker, Entry::Job(job));
+        }
+    }
+}
+
+/// Pushes an end mark for each seat behind the jobs.
+fn push_marks<D: Place>(worker: &mut Deque, seats: u32)
+    requires place { D.seats ≡ seats }
+    requires index { worker_index worker.old ≡ length (deal D.jobs seats D.deque) }
+    requires view { worker_view worker.old ≡ dealing D.jobs seats D.deque (worker_index worker.old) }
+    requires room { length (deal D.jobs seats D.deque) + seats ≤ worker_capacity worker.old }
+    ensures same { SameWorker worker.old worker.new }
+    ensures index { worker_index worker.new ≡ length (deal D.jobs seats D.deque) + seats }
+    ensures view { worker_view worker.new ≡ dealing D.jobs seats D.deque (worker_index worker.new) }
+{
+    for _ in 0..seats {
+        push::<D>(worker, Entry::End);
+    }
+}
+
+impl Dealer {
+    /// The deque of `v` with its jobs and marks.
+    pub fn new<D: Place>(alloc: Global, jobs: u32, seats: u32, v: u32) -> Result<Dealer, AllocError>
+        requires place { (D.jobs ≡ jobs) × (D.seats ≡ seats) × (D.deque ≡ v) }
+        requires some { 0 < seats }
+        ensures { IfOk result (λ d. (d.jobs ≡ jobs) × (d.seats ≡ seats) × (d.deque ≡ v) × (d.leaves ≡ seats)) }
+    {
+        let count = count_jobs(jobs, seats, v);
+        let mut worker = Deque::fifo_as(alloc, count + seats as usize)?;
+        push_jobs::<D>(&mut worker, jobs, seats, v);
+        push_marks::<D>(&mut worker, seats);
+        Ok(Dealer { worker })
+    }
+
+    /// An end for another seat.
+    pub fn lend(&mut self) -> Result<Other, AllocError>
+        requires { 1 < self.old.leaves }
+        ensures { IfOk result (λ e. (e ≡ fresh self.old) × (self.new ≡ record self.old { leaves = self.old.leaves - 1 })) }
+    {
+        let thief = self.worker.stealer()?;
+        let pass = self.worker.another::<Lends>();
+        Ok(Other::new(thief, pass))
+    }
+
+    /// The owner's end.
+    pub fn own(self) -> Own
+        requires { self.leaves ≡ 1 }
+        ensures { result ≡ fresh self }
+    {
+        let Dealer { worker } = self;
+        Own::new(worker)
+    }
+}

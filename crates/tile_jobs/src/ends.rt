@@ -1,0 +1,174 @@
+//! A seat's ends of the deques.
+ghost use Rattle.std.specs.Prelude.{◌≡◌, ℕ, ◌<◌, ◌≤◌, true, false, vec_len, slice_index_or, MatchOption};
+ghost use Rattle.crossbeam_deque.specs.Handles.{view as pass_view, IsPassOf, worker_deque, stealer_deque, worker_view, worker_flavor, stealer_flavor};
+ghost use Rattle.tile_jobs.specs.Ends.{EndState, end_of, IsOwn, IsOther, TookJob, Kept, AllKept, TookAmong};
+ghost use Rattle.tile_jobs.specs.Stolen.{MatchStolen};
+ghost use Rattle.tile_jobs.specs.Got.{MatchGot};
+
+use crate::deque::{Deque, Entry, Log, Thief, pop, steal};
+use crossbeam_deque::Pass;
+use std::marker::Model;
+
+/// The owner's end of its deque.
+#[derive(Drop)]
+pub struct Own {
+    worker: Deque,
+    marked: bool,
+}
+
+impl Model for Own {
+    ghost Value = { EndState };
+
+    ghost view = { λ o. end_of (worker_deque o.worker) o.marked (worker_view o.worker) };
+
+    ghost invariant = { λ o. IsOwn o.marked (worker_view o.worker) × (worker_flavor o.worker ≡ 0) };
+}
+
+/// Another seat's end of a deque.
+#[derive(Drop)]
+pub struct Other {
+    thief: Thief,
+    pass: Pass<Entry, Log>,
+    marked: bool,
+}
+
+impl Model for Other {
+    ghost Value = { EndState };
+
+    ghost view = { λ o. end_of (stealer_deque o.thief) o.marked (pass_view o.pass) };
+
+    ghost invariant = { λ o. IsOther o.marked (pass_view o.pass) × IsPassOf (stealer_deque o.thief) o.pass × (stealer_flavor o.thief ≡ 0) };
+}
+
+/// What one steal gave.
+#[derive(Clone, Copy, PartialEq, Eq, Debug)]
+pub enum Got {
+    Job(u32),
+    // the mark behind the jobs, now or before
+    Mark,
+    // another taker was met
+    Missed,
+}
+
+impl Own {
+    pub fn new(worker: Deque) -> Own
+        requires { IsOwn false (worker_view worker) × (worker_flavor worker ≡ 0) }
+        ensures { result ≡ end_of (worker_deque worker) false (worker_view worker) }
+    {
+        Own {
+            worker,
+            marked: false,
+        }
+    }
+
+    pub fn into_parts(self) -> (Deque, bool)
+        ensures own { IsOwn result.1 (worker_view result.0) × (worker_flavor result.0 ≡ 0) }
+        ensures parts { self ≡ end_of (worker_deque result.0) result.1 (worker_view result.0) }
+    {
+        let Own { worker, marked } = self;
+        (worker, marked)
+    }
+
+    /// Takes the first job, or `None` where it gets or has the mark.
+    pub fn take(&mut self) -> Option<u32>
+        ensures { MatchOption result (Kept self.old self.new × (self.new.marked ≡ true)) (λ j. TookJob self.old j self.new) }
+    {
+        if self.marked {
+            return None;
+        }
+        match pop(&mut self.worker) {
+            Entry::Job(job) => Some(job),
+            Entry::End => {
+                self.marked = true;
+                None
+            }
+        }
+    }
+}
+
+impl Other {
+    pub fn new(thief: Thief, pass: Pass<Entry, Log>) -> Other
+        requires { IsOther false (pass_view pass) × IsPassOf (stealer_deque thief) pass × (stealer_flavor thief ≡ 0) }
+        ensures { result ≡ end_of (stealer_deque thief) false (pass_view pass) }
+    {
+        Other {
+            thief,
+            pass,
+            marked: false,
+        }
+    }
+
+    pub fn into_pass(self) -> Pass<Entry, Log>
+        ensures other { IsOther self.marked (pass_view result) × IsPassOf self.id result }
+        ensures parts { self ≡ end_of self.id self.marked (pass_view result) }
+    {
+        let Other {
+            thief,
+            pass,
+            marked: _,
+        } = self;
+        drop(thief);
+        pass
+    }
+
+    /// Tries one steal, unless it has the mark.
+    pub fn take(&mut self) -> Got
+        ensures { MatchGot result (Kept self.old self.new × (self.new.marked ≡ true)) (self.new ≡ self.old) (λ j. TookJob self.old j self.new) }
+    {
+        if self.marked {
+            return Got::Mark;
+        }
+        match steal(&self.thief, &mut self.pass) {
+            Some(Entry::Job(job)) => Got::Job(job),
+            Some(Entry::End) => {
+                self.marked = true;
+                Got::Mark
+            }
+            None => Got::Missed,
+        }
+    }
+}
+
+/// What a round of steals gave.
+#[derive(Clone, Copy, PartialEq, Eq, Debug)]
+pub enum Stolen {
+    Job(u32),
+    // no job was got, and a steal met another taker
+    Met,
+    // every mark was got
+    Nothing,
+}
+
+/// Tries the ends from `from` to `to`, until it gets a job.
+pub fn steal_among(others: &mut Vec<Other>, from: usize, to: usize) -> Stolen
+    requires { (from ≤ to) × (to ≤ vec_len others.old) }
+    ensures len { vec_len others.new ≡ vec_len others.old }
+    ensures ends { MatchStolen result (λ j. TookAmong others.old.items j others.new.items) (AllKept others.old.items others.new.items × (from < to)) (AllKept others.old.items others.new.items × ((k : ℕ) (d : EndState) → from ≤ k → k < to → (slice_index_or others.new.items k d).marked ≡ true)) }
+{
+    let mut met = false;
+    for k in from..to {
+        match others[k].take() {
+            Got::Job(job) => return Stolen::Job(job),
+            Got::Mark => {}
+            Got::Missed => met = true,
+        }
+    }
+    if met { Stolen::Met } else { Stolen::Nothing }
+}
+
+/// Tries each end once, from place `first` on and then from the start, until it gets a job.
+pub fn steal_round(others: &mut Vec<Other>, first: usize) -> Stolen
+    requires { first ≤ vec_len others.old }
+    ensures len { vec_len others.new ≡ vec_len others.old }
+    ensures ends { MatchStolen result (λ j. TookAmong others.old.items j others.new.items) (AllKept others.old.items others.new.items × (0 < vec_len others.old)) (AllKept others.old.items others.new.items × ((k : ℕ) (d : EndState) → k < vec_len others.old → (slice_index_or others.new.items k d).marked ≡ true)) }
+{
+    let count = others.len();
+    match steal_among(others, first, count) {
+        Stolen::Job(job) => Stolen::Job(job),
+        Stolen::Nothing => steal_among(others, 0, first),
+        Stolen::Met => match steal_among(others, 0, first) {
+            Stolen::Job(job) => Stolen::Job(job),
+            _ => Stolen::Met,
+        },
+    }
+}

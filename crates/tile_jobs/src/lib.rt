@@ -1,0 +1,50 @@
+//! Numbered jobs, run by workers on threads of their own, whose answers come back in the order of
+//! the jobs' numbers.
+//!
+//! What a job does and answers is told by [`Work`], and how many there are by a number: the jobs
+//! are 0, 1, 2 and so on. [`run_jobs`] runs each of them once, whichever worker it falls to.
+#![tactic(auto)]
+
+mod board;
+mod closing;
+mod crew;
+mod dealer;
+mod dealing;
+mod deque;
+mod ends;
+mod gate;
+mod room;
+mod running;
+mod seat;
+mod slots;
+mod work;
+mod worker;
+
+pub use board::{Board, Closed};
+pub use gate::{Gate, NoGate};
+pub use running::run_jobs;
+pub use seat::{Seat, Take};
+use std::alloc::AllocError;
+pub use work::Work;
+
+/// Why jobs were not run to their end.
+#[derive(Clone, Copy, PartialEq, Eq, Debug)]
+pub enum JobFault {
+    /// Memory ran out, in a job or for the answers.
+    Memory,
+    /// The number of workers is 0 or above 64.
+    BadWorkers,
+    /// A thread could not be started.
+    NoThread,
+}
+
+impl From<AllocError> for JobFault {
+    ghost use Rattle.std.specs.Prelude.{◌≡◌};
+    ghost use Rattle.tile_jobs.specs.declared.JobFault.TheVariants.{Memory};
+
+    ghost from_gives = { λ e r. r ≡ Memory };
+
+    fn from(_error: AllocError) -> JobFault {
+        JobFault::Memory
+    }
+}

@@ -1,0 +1,106 @@
+//! Seats, each of which takes jobs from every deque of its board.
+ghost use Rattle.std.specs.Prelude.{◌≡◌, ◌+◌, ◌%◌, ◌⊎◌, ⊤, ◌<◌, ◌≤◌, true, ◌∷◌, [], ◌++◌, vec_capacity, IfOk};
+ghost use Rattle.tile_jobs.specs.Ends.{SeatState, seat_of, IsSeat, SameSeat, MarksStay, HasAllMarks};
+ghost use Rattle.tile_jobs.specs.Take.{MatchTake};
+
+use crate::ends::{Other, Own, Stolen, steal_round};
+use crate::room::put;
+use std::alloc::{AllocError, Global};
+use std::marker::Model;
+
+/// What a try to take a job gave.
+#[derive(Clone, Copy, PartialEq, Eq, Debug)]
+pub enum Take {
+    /// This job is the caller's, and no other's.
+    Job(u32),
+    /// Another taker was met. A later try may get a job.
+    Again,
+    /// No deque holds a job, and none will.
+    Empty,
+}
+
+/// One worker's seat at a board.
+#[derive(Drop)]
+pub struct Seat {
+    number: u32,
+    own: Own,
+    // the ends of the other deques, in their order
+    others: Vec<Other>,
+    taken: Vec<u32>,
+}
+
+impl Model for Seat {
+    ghost Value = { SeatState };
+
+    ghost view = { λ s. seat_of s.number s.own s.others.items s.taken.items };
+
+    ghost invariant = { λ s. IsSeat (seat_of s.number s.own s.others.items s.taken.items) × (s.own.jobs ≤ vec_capacity s.taken) };
+}
+
+impl Seat {
+    /// A seat that took nothing yet, with room for all jobs.
+    pub(crate) fn new(
+        alloc: Global,
+        number: u32,
+        own: Own,
+        others: Vec<Other>,
+        jobs: u32,
+    ) -> Result<Seat, AllocError>
+        requires seat { IsSeat (seat_of number own others.items []) }
+        requires jobs { own.jobs ≡ jobs }
+        ensures { IfOk result (λ s. s ≡ seat_of number own others.items []) }
+    {
+        let taken = Vec::with_capacity(alloc, jobs as usize)?;
+        Ok(Seat {
+            number,
+            own,
+            others,
+            taken,
+        })
+    }
+
+    /// No fewer than all jobs.
+    pub(crate) fn room(&self) -> usize
+        ensures { self.now.own.jobs ≤ result }
+    {
+        self.taken.capacity()
+    }
+
+    pub(crate) fn into_parts(self) -> (Own, Vec<Other>, Vec<u32>)
+        ensures seat { IsSeat self }
+        ensures parts { self ≡ seat_of self.number result.0 result.1.items result.2.items }
+    {
+        let Seat {
+            number: _,
+            own,
+            others,
+            taken,
+        } = self;
+        (own, others, taken)
+    }
+
+    /// Takes the first job of its own deque. Where that has none, it tries one steal from each
+    /// other deque that may have one, beginning with the next seat's and going round.
+    ///
+    /// It takes no memory and waits for nobody. `Empty` comes once this seat has seen the end of
+    /// every deque, and `Again` where a steal met another taker and no job was got.
+    pub fn try_take(&mut self) -> Take
+        ensures same { SameSeat self.old self.new }
+        ensures stay { MarksStay self.old self.new }
+        ensures own_first { MatchTake result (λ j. (j % self.old.own.seats ≡ self.old.number) ⊎ (self.new.own.marked ≡ true)) ⊤ ⊤ }
+        ensures took { MatchTake result (λ j. (j < self.old.own.jobs) × (self.new.taken ≡ self.old.taken ++ j ∷ [])) ((self.new.taken ≡ self.old.taken) × (self.new.own.marked ≡ true) × (1 < self.old.own.seats)) ((self.new.taken ≡ self.old.taken) × HasAllMarks self.new) }
+    {
+        if let Some(job) = self.own.take() {
+            put(&mut self.taken, job);
+            return Take::Job(job);
+        }
+        match steal_round(&mut self.others, self.number as usize) {
+            Stolen::Job(job) => {
+                put(&mut self.taken, job);
+                Take::Job(job)
+            }
+            Stolen::Met => Take::Again,
+            Stolen::Nothing => Take::Empty,
+        }
+    }
+}
