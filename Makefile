@@ -1,7 +1,7 @@
 # `make` proves and builds the program and maps an example; `make test` passes all tests.
 PROGRAM := crates/relief_program/out/relief_program
 
-.PHONY: all relief test bench
+.PHONY: all relief test
 
 all: relief
 	./relief fill < examples/valley.asc

@@ -1,26 +1,25 @@
 -- What stands around a cell whose steps are known fits, and the pair of height and steps falls along its direction.
-use Rattle.std.proofs.Common.{◌≡◌, ◌≢◌, ℕ, zero, suc, ◌+◌, ◌-◌, ◌*◌, ◌<◌, ◌≤◌, ◌<ℤ◌, ◌≤ℤ◌, ◌-ℤ◌, ◌%◌, ◌==◌, ◌&&◌, ◌⊎◌, inl, inr, Bool, true, false, eqb, ltb, cond, max, fold, List, [], ◌∷◌, length, get_or, Option, None, Some, is_some, unwrap_or, IfSome, MatchOption, All, ℤ, pos, negsuc, sym, ap, subst, refl, ◌∙◌, arith}
+use Rattle.std.proofs.Common.{◌≡◌, ◌≢◌, ℕ, zero, suc, ◌+◌, ◌*◌, ◌<◌, ◌≤◌, ◌<ℤ◌, ◌-ℤ◌, ◌%◌, ◌⊎◌, inl, inr, Bool, true, eqb, ltb, max, fold, List, [], ◌∷◌, length, get_or, Option, None, Some, is_some, unwrap_or, IfSome, MatchOption, ℤ, pos, negsuc, sym, ap, subst, refl, ◌∙◌, arith}
 use Rattle.std.proofs.lemmas.Int.{ints}
-use Rattle.std.proofs.lemmas.Bool.{cases_eq, cases_lt, cases_Bool, and_from, and_parts, eq-eqb, eqb-true, lt-ltb, ltb-true, or_left, or_right, cond-true, cond-false, false≢true}
+use Rattle.std.proofs.lemmas.Bool.{cases_lt, cases_Bool, and_from, and_parts, eq-eqb, eqb-true, lt-ltb, ltb-true, or_left, or_right, cond-true, cond-false, false≢true}
 use Rattle.std.proofs.lemmas.List.{get_or_past}
 use Rattle.std.proofs.lemmas.List.Elements.{All-get_or}
 use Rattle.std.proofs.lemmas.List.Quantifiers.{position-Some}
-use Rattle.std.proofs.lemmas.Option.{MatchOption-at_some, MatchOption-at_none, none-some, same_Some}
+use Rattle.std.proofs.lemmas.Option.{MatchOption-at_some, none-some, same_Some}
 use Rattle.std.specs.List.{list_any, position}
 use Rattle.std.specs.Option.{option_zip, option_and_then}
 use Rattle.std.proofs.lemmas.Bool.Decides.{Decides-int_eq}
-use Rattle.std.specs.Ordering.{int_eq}
 use Rattle.ascii_grid.proofs.Places.{inside_from_entry, entry-inside, index_below}
 use Rattle.ascii_grid.specs.Raster.{Terrain, IsTerrain, IsHeight}
-use Rattle.ascii_grid.specs.Neighbours.{IsInside, height_at, entry_at, index_of, IsDataCell, IsNeighbour}
+use Rattle.ascii_grid.specs.Neighbours.{height_at, entry_at, index_of, IsDataCell, IsNeighbour}
 use Rattle.ascii_grid.specs.Filled.{height_of}
-use Rattle.ascii_grid.specs.Ways.{place_on, place_toward, code_of, entry_on}
+use Rattle.ascii_grid.specs.Ways.{place_on, place_toward, code_of}
 use Rattle.ascii_grid.specs.declared.place.Place.{Place}
-use Rattle.drain.specs.Steps.{DrainsAtOnce, IsFlatWalk, IsSteps, AreSteps}
+use Rattle.drain.specs.Steps.{IsFlatWalk, IsSteps, AreSteps}
 use Rattle.drain.specs.Steepness.{weight, positive_part, drop_to, weights, leads_on, direction_of}
 use Rattle.drain.specs.Fitting.{IsFitting}
 use Rattle.drain.specs.Directions.{IsAround, IsDirection, IsCodeAt}
-use Rattle.drain.specs.Drained.{Drained, Falls}
+use Rattle.drain.specs.Drained.{Falls}
 use Rattle.drain.specs.declared.around.Around.{Around}
 use Rattle.drain.proofs.Counted.{height_is}
 use Rattle.drain.proofs.Quiet.{data_inside, if_some}

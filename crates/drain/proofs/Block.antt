@@ -1,11 +1,11 @@
 -- The three by three cells around a cell that is not in an outermost row or column.
-use Rattle.std.proofs.Common.{◌≡◌, ◌≢◌, ℕ, ◌+◌, ◌-◌, ◌*◌, ◌<◌, ◌≤◌, ◌<ℤ◌, ◌⊎◌, inl, inr, List, ◌++◌, ◌∷◌, [], length, get_or, Bool, true, false, IfSome, Option, None, Some, is_some, unwrap_or, ℤ, pos, sym, ap, subst, refl, ◌∙◌, arith}
+use Rattle.std.proofs.Common.{◌≡◌, ◌≢◌, ℕ, ◌+◌, ◌-◌, ◌*◌, ◌<◌, ◌≤◌, ◌<ℤ◌, inl, inr, List, ◌++◌, ◌∷◌, [], length, get_or, Bool, true, false, Option, None, Some, is_some, unwrap_or, ℤ, pos, sym, ap, subst, refl, ◌∙◌, arith}
 use Rattle.std.proofs.lemmas.Int.{ints}
 use Rattle.std.proofs.lemmas.Bool.{cases_eq, false≢true}
 use Rattle.std.proofs.lemmas.List.{get_or_append_left, get_or_push, length_push}
-use Rattle.ascii_grid.proofs.Places.{make_place, same_place, cases_place, entry-inside, entry-below, entry-beside, index_below, inside_from_entry, index_injective}
+use Rattle.ascii_grid.proofs.Places.{make_place, entry-inside, entry-below, entry-beside, index_below, inside_from_entry, index_injective}
 use Rattle.ascii_grid.specs.Raster.{Terrain}
-use Rattle.ascii_grid.specs.Neighbours.{IsInside, height_at, entry_at, index_of, Touches, IsNeighbour, IsEdge}
+use Rattle.ascii_grid.specs.Neighbours.{IsInside, height_at, entry_at, index_of, Touches}
 use Rattle.ascii_grid.specs.Filled.{height_of}
 use Rattle.ascii_grid.specs.declared.place.Place.{Place}
 use Rattle.drain.specs.Steps.{DrainsAtOnce}

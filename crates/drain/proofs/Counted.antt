@@ -1,17 +1,16 @@
 -- Each data cell of a filled terrain has steps, fewer than the terrain has cells.
-use Rattle.std.proofs.Common.{◌≡◌, ◌≢◌, ℕ, zero, suc, ◌+◌, ◌-◌, ◌*◌, ◌^◌, ◌<◌, ◌≤◌, ◌<ℤ◌, ◌≤ℤ◌, Bool, true, false, ◌⊎◌, inl, inr, List, [], ◌∷◌, length, get_or, Option, None, Some, is_some, unwrap_or, MatchOption, ℤ, pos, sym, ap, subst, refl, ◌∙◌, arith}
+use Rattle.std.proofs.Common.{◌≡◌, ℕ, zero, suc, ◌+◌, ◌<◌, ◌≤ℤ◌, true, ◌⊎◌, inl, inr, List, [], ◌∷◌, length, Option, None, Some, is_some, unwrap_or, ℤ, pos, sym, ap, subst, refl, ◌∙◌, arith}
 use Rattle.std.specs.Int.{int_max}
 use Rattle.std.proofs.lemmas.Int.{by_lt_z, ints, clamps}
-use Rattle.std.proofs.lemmas.Bool.{cases_eq, cases_lt, cases_Bool, false≢true}
+use Rattle.std.proofs.lemmas.Bool.{cases_eq, cases_lt}
 use Rattle.std.proofs.lemmas.Option.{MatchOption-at_some}
-use Rattle.ascii_grid.proofs.Places.{inside_from_entry, index_below, index_injective}
-use Rattle.ascii_grid.specs.Raster.{Terrain, IsTerrain}
-use Rattle.ascii_grid.specs.Neighbours.{height_at, index_of, IsDataCell, IsNeighbour, IsEdge}
+use Rattle.ascii_grid.proofs.Places.{inside_from_entry}
+use Rattle.ascii_grid.specs.Raster.{Terrain}
+use Rattle.ascii_grid.specs.Neighbours.{height_at, IsDataCell}
 use Rattle.ascii_grid.specs.Filled.{height_of, IsPath, crest, IsFilled, IsFilledHeight}
 use Rattle.ascii_grid.specs.declared.place.Place.{Place}
-use Rattle.drain.specs.Steps.{HasLower, DrainsAtOnce, IsFlatWalk, IsSteps}
-use Rattle.drain.proofs.Nearby.{Decided, WalksIn, walks_in}
-use Rattle.drain.proofs.Pigeonhole.{pigeonhole}
+use Rattle.drain.specs.Steps.{IsFlatWalk, IsSteps}
+use Rattle.drain.proofs.Nearby.{WalksIn, walks_in}
 
 pub height_is : (t : Terrain) (p : Place) → IsDataCell t p → height_at t p ≡ Some (height_of t p)
 height_is t p is = some_of (height_at t p) is

@@ -1,15 +1,14 @@
 -- Codes and steps together make a map of directions along which the pair of height and steps falls.
-use Rattle.std.proofs.Common.{◌≡◌, ◌≢◌, ℕ, ◌*◌, ◌<◌, ◌≤◌, ◌⊎◌, inl, inr, List, length, Option, None, Some, is_some, ℤ, sym, ap, subst, refl, ◌∙◌, arith}
+use Rattle.std.proofs.Common.{◌≡◌, ℕ, ◌*◌, ◌<◌, ◌≤◌, ◌⊎◌, inl, inr, List, Option, is_some, ℤ, sym, ap, subst, refl, ◌∙◌}
 use Rattle.std.proofs.lemmas.Bool.{cases_lt}
 use Rattle.std.proofs.lemmas.Option.{MatchOption-at_some, MatchOption-at_none, same_Some, none-some}
 use Rattle.ascii_grid.proofs.Places.{entry-inside, entry-below, entry-beside, inside_from_entry, index_below}
 use Rattle.ascii_grid.specs.Raster.{Terrain, Raster, IsTerrain}
-use Rattle.ascii_grid.specs.Neighbours.{IsInside, height_at, entry_at, index_of, IsDataCell}
+use Rattle.ascii_grid.specs.Neighbours.{IsInside, height_at, entry_at}
 use Rattle.ascii_grid.specs.declared.place.Place.{Place}
 use Rattle.drain.specs.Steps.{AreSteps}
 use Rattle.drain.specs.Directions.{IsCodeAt, AreCodesBelow, AreDirections}
-use Rattle.drain.specs.Drained.{Drained, directed_of, IsDraining}
-use Rattle.drain.specs.Following.{code_at}
+use Rattle.drain.specs.Drained.{IsDraining}
 use Rattle.tiles.specs.Cutting.{Cutting, Cuts, tile_of_place}
 use Rattle.ascii_grid.specs.Filled.{IsFilled}
 use Rattle.drain.specs.Rounds.{AreSettled}

@@ -1,15 +1,14 @@
 -- Where the pair of filled height and steps falls along each code, every flow path ends.
-use Rattle.std.proofs.Common.{◌≡◌, ◌≢◌, ℕ, zero, suc, ◌+◌, ◌*◌, ◌<◌, ◌≤◌, ◌<ℤ◌, Bool, true, false, ◌⊎◌, inl, inr, Option, None, Some, is_some, unwrap_or, IsSome, ℤ, pos, sym, ap, subst, refl, ◌∙◌, arith}
+use Rattle.std.proofs.Common.{◌≡◌, ◌≢◌, ℕ, zero, suc, ◌+◌, ◌<◌, ◌≤◌, ◌<ℤ◌, true, ◌⊎◌, inl, inr, Option, None, Some, is_some, unwrap_or, pos, sym, ap, subst, refl, ◌∙◌, arith}
 use Rattle.std.proofs.lemmas.Int.{ints}
-use Rattle.std.proofs.lemmas.Bool.{cases_eq, cases_lt}
+use Rattle.std.proofs.lemmas.Bool.{cases_eq}
 use Rattle.std.specs.Option.{option_and_then}
 use Rattle.ascii_grid.proofs.Places.{inside_from_entry, index_below, index_injective}
-use Rattle.ascii_grid.specs.Raster.{Terrain, IsTerrain}
-use Rattle.ascii_grid.specs.Neighbours.{height_at, entry_at, index_of, IsDataCell}
+use Rattle.ascii_grid.specs.Neighbours.{entry_at, index_of, IsDataCell}
 use Rattle.ascii_grid.specs.Filled.{height_of}
 use Rattle.ascii_grid.specs.Ways.{place_toward}
 use Rattle.ascii_grid.specs.declared.place.Place.{Place}
-use Rattle.drain.specs.Following.{Directed, code_at, follow, next, moves, IsOutlet, FlowEnds}
+use Rattle.drain.specs.Following.{code_at, follow, next, moves, IsOutlet, FlowEnds}
 use Rattle.drain.specs.Drained.{Drained, directed_of, Falls, IsDraining}
 use Rattle.drain.proofs.Pigeonhole.{pigeonhole}
 

@@ -1,5 +1,5 @@
 -- The least of the counts in a row, on a level.
-use Rattle.std.proofs.Common.{◌≡◌, ℕ, ◌+◌, ◌<◌, ◌≤◌, ◌⊎◌, inl, inr, List, ℤ, Option, sym, ap, subst, refl, ◌∙◌, arith}
+use Rattle.std.proofs.Common.{◌≡◌, ℕ, ◌+◌, ◌<◌, ◌≤◌, ◌⊎◌, inl, inr, List, ℤ, Option, sym, subst, refl, ◌∙◌, arith}
 use Rattle.std.proofs.lemmas.Bool.{cases_eq}
 use Rattle.ascii_grid.proofs.Places.{make_place, same_place}
 use Rattle.ascii_grid.specs.declared.place.Place.{Place}

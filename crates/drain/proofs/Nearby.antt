@@ -1,13 +1,13 @@
 -- What can be decided around a cell: neighbours, cells that drain at once, and walks of so many moves.
-use Rattle.std.proofs.Common.{◌≡◌, ◌≢◌, ℕ, zero, suc, ◌+◌, ◌-◌, ◌<◌, ◌≤◌, ◌<ℤ◌, ◌≤ℤ◌, Bool, true, false, ◌⊎◌, inl, inr, List, [], ◌∷◌, length, Option, None, Some, is_some, IsNone, ℤ, pos, negsuc, sym, ap, subst, refl, ◌∙◌, arith}
+use Rattle.std.proofs.Common.{◌≡◌, ◌≢◌, ℕ, zero, suc, ◌+◌, ◌-◌, ◌≤◌, ◌<ℤ◌, Bool, true, false, ◌⊎◌, inl, inr, List, [], ◌∷◌, length, Option, None, Some, is_some, IsNone, ℤ, pos, negsuc, sym, ap, subst, refl, arith}
 use Rattle.std.proofs.lemmas.Int.{by_lt_z, ints}
-use Rattle.std.proofs.lemmas.Bool.{cases_eq, cases_lt, cases_Bool, false≢true}
+use Rattle.std.proofs.lemmas.Bool.{cases_eq, cases_lt, false≢true}
 use Rattle.ascii_grid.proofs.Places.{make_place, cases_place}
 use Rattle.ascii_grid.specs.Raster.{Terrain}
-use Rattle.ascii_grid.specs.Neighbours.{height_at, IsDataCell, Touches, IsNeighbour, HasGapAround, IsEdge}
+use Rattle.ascii_grid.specs.Neighbours.{height_at, IsDataCell, Touches, IsNeighbour, HasGapAround}
 use Rattle.ascii_grid.specs.Filled.{height_of}
 use Rattle.ascii_grid.specs.declared.place.Place.{Place}
-use Rattle.drain.specs.Steps.{HasLower, DrainsAtOnce, IsFlatWalk}
+use Rattle.drain.specs.Steps.{DrainsAtOnce, IsFlatWalk}
 
 -- holds, or does not
 abbrev pub Decided : Type 0 → Type 0

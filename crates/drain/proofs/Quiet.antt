@@ -1,15 +1,15 @@
 -- Where a round over all tiles changes nothing, the counts are the steps.
-use Rattle.std.proofs.Common.{◌≡◌, ℕ, ◌+◌, ◌-◌, ◌*◌, ◌^◌, ◌<◌, ◌≤◌, ◌⊎◌, inl, inr, List, [], ◌∷◌, length, Option, None, Some, is_some, true, IfSome, MatchOption, ℤ, sym, ap, subst, refl, ◌∙◌, arith}
+use Rattle.std.proofs.Common.{◌≡◌, ℕ, ◌+◌, ◌-◌, ◌*◌, ◌^◌, ◌<◌, ◌≤◌, List, [], ◌∷◌, length, Option, None, Some, is_some, true, IfSome, MatchOption, ℤ, sym, ap, subst, refl, ◌∙◌, arith}
 use Rattle.std.proofs.lemmas.Bool.{false≢true}
 use Rattle.std.proofs.lemmas.Option.{MatchOption-at_some}
 use Rattle.ascii_grid.proofs.Places.{inside_from_entry}
 use Rattle.ascii_grid.specs.Raster.{Terrain, IsTerrain}
-use Rattle.ascii_grid.specs.Neighbours.{IsInside, height_at, entry_at, IsDataCell, IsNeighbour}
+use Rattle.ascii_grid.specs.Neighbours.{height_at, entry_at, IsDataCell, IsNeighbour}
 use Rattle.ascii_grid.specs.Filled.{height_of, IsFilled}
 use Rattle.ascii_grid.specs.declared.place.Place.{Place}
-use Rattle.tiles.specs.Cutting.{Cutting, Cuts, IsCutting, IsWithin, tile_of_place, tile_count, IsInTile, tile_entry}
+use Rattle.tiles.specs.Cutting.{Cutting, Cuts, IsCutting, tile_of_place, IsInTile}
 use Rattle.drain.specs.Steps.{IsFlatWalk, IsSteps, AreSteps}
-use Rattle.drain.specs.Rounds.{IsWalked, AreWalked, IsRound, HasZeros, IsQuiet}
+use Rattle.drain.specs.Rounds.{IsWalked, AreWalked, HasZeros, IsQuiet}
 use Rattle.drain.proofs.Counted.{has_steps, height_is}
 use Rattle.drain.proofs.Few.{steps_are_few, data_on_walk}
 use Rattle.drain.proofs.Tiles.{tile_below}

@@ -1,12 +1,12 @@
 -- What a round over all tiles makes of the counts.
-use Rattle.std.proofs.Common.{◌≡◌, ◌≢◌, ℕ, zero, suc, ◌+◌, ◌-◌, ◌*◌, ◌^◌, ◌<◌, ◌≤◌, ◌⊎◌, inl, inr, Bool, true, false, List, [], ◌∷◌, length, get_or, Option, None, Some, is_some, unwrap_or, sum_by, IfSome, Vec, Global, ℤ, sym, ap, subst, refl, ◌∙◌, arith}
-use Rattle.std.proofs.lemmas.Option.{MatchOption-at_some, none-some, same_Some}
+use Rattle.std.proofs.Common.{◌≡◌, ◌≢◌, ℕ, zero, suc, ◌*◌, ◌^◌, ◌<◌, ◌≤◌, inl, inr, true, List, [], ◌∷◌, length, get_or, Option, None, Some, is_some, unwrap_or, sum_by, IfSome, Vec, Global, ℤ, sym, ap, subst, refl, ◌∙◌, arith}
+use Rattle.std.proofs.lemmas.Option.{MatchOption-at_some}
 use Rattle.ascii_grid.proofs.Places.{inside_from_entry, entry-inside, index_below}
-use Rattle.ascii_grid.specs.Raster.{Terrain, IsTerrain}
-use Rattle.ascii_grid.specs.Neighbours.{height_at, entry_at, index_of, IsNeighbour}
+use Rattle.ascii_grid.specs.Raster.{Terrain}
+use Rattle.ascii_grid.specs.Neighbours.{entry_at, index_of}
 use Rattle.ascii_grid.specs.declared.place.Place.{Place}
-use Rattle.tiles.specs.Cutting.{Cutting, IsCutting, View, Cuts, IsWithin, IsInTile, tile_entry, tile_of_place, tile_count, cell_count, terrain_of}
-use Rattle.drain.specs.Rounds.{IsWalked, AreWalked, HasZeros, IsRound, IsTileStill, IsTileAnswer, AreCounting, Rounding, levels_of, IsRounding, told, told_by, AreSized, IsUntouched, AreAnswered, left_to_count}
+use Rattle.tiles.specs.Cutting.{Cutting, View, Cuts, IsWithin, IsInTile, tile_entry, tile_of_place, tile_count, cell_count, terrain_of}
+use Rattle.drain.specs.Rounds.{IsWalked, AreWalked, IsRound, IsTileStill, IsTileAnswer, AreCounting, Rounding, levels_of, IsRounding, told, told_by, AreSized, IsUntouched, AreAnswered, left_to_count}
 use Rattle.drain.proofs.Quiet.{if_some, data_inside}
 use Rattle.drain.proofs.Few.{data_on_walk}
 use Rattle.drain.proofs.Unique.{at_place}

@@ -1,13 +1,12 @@
 -- Moves from spot to spot: they join, keep the length, and raise no count.
-use Rattle.std.proofs.Common.{◌≡◌, ◌≢◌, ℕ, zero, suc, ◌+◌, ◌-◌, ◌*◌, ◌^◌, ◌<◌, ◌≤◌, ◌⊎◌, inl, inr, List, [], ◌∷◌, length, get_or, set, sum, ℤ, Option, None, Some, sym, ap, subst, refl, ◌∙◌, arith}
+use Rattle.std.proofs.Common.{◌≡◌, ◌≢◌, ℕ, ◌+◌, ◌<◌, ◌≤◌, ◌⊎◌, inl, inr, List, length, get_or, set, sum, ℤ, Option, sym, ap, subst, refl, ◌∙◌, arith}
 use Rattle.std.proofs.lemmas.Bool.{cases_eq, cases_lt}
 use Rattle.std.proofs.lemmas.List.{length-set, get_or-set_same, get_or-set_other, get_or_past}
-use Rattle.std.proofs.lemmas.List.Elements.{All-set, All-get_or}
 use Rattle.std.proofs.lemmas.List.Sums.{sum_by-set}
 use Rattle.ascii_grid.specs.Neighbours.{Touches}
 use Rattle.ascii_grid.specs.declared.place.Place.{Place}
 use Rattle.tiles.specs.declared.bounds.Bounds.{Bounds}
-use Rattle.drain.specs.Window.{AreCounts, no_count, spot_index, IsSpot, IsInner, level_on, count_on, IsSpread, IsNotAbove, IsNear, same, moved}
+use Rattle.drain.specs.Window.{AreCounts, spot_index, IsSpot, IsInner, level_on, count_on, IsSpread, IsNotAbove, IsNear, same, moved}
 
 pub not_above_itself : (xs : List ℕ) → IsNotAbove xs xs
 not_above_itself xs = record { each = λ k. omega arith }

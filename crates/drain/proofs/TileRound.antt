@@ -1,18 +1,17 @@
 -- What the search over a tile and the places around it leaves is a round over the tile.
-use Rattle.std.proofs.Common.{◌≡◌, ◌≢◌, ℕ, zero, suc, ◌+◌, ◌-◌, ◌*◌, ◌^◌, ◌<◌, ◌≤◌, Bool, true, cond, ◌⊎◌, inl, inr, List, [], ◌∷◌, map, length, get_or, set, Option, None, Some, is_some, unwrap_or, MatchOption, IfSome, ℤ, pos, sym, ap, subst, refl, ◌∙◌, arith}
+use Rattle.std.proofs.Common.{◌≡◌, ◌≢◌, ℕ, ◌+◌, ◌-◌, ◌*◌, ◌^◌, ◌<◌, ◌≤◌, inl, inr, List, ◌∷◌, length, get_or, set, Option, None, Some, is_some, unwrap_or, IfSome, ℤ, sym, ap, subst, refl, ◌∙◌, arith}
 use Rattle.std.proofs.lemmas.Bool.{cases_eq, cases_lt, cond-true, cond-false, and_from, lt-ltb, le-ltb, eq-eqb}
 use Rattle.std.proofs.lemmas.List.{get_or-map, get_or-set_same, get_or-set_other, get_or_past, length-map}
 use Rattle.std.proofs.lemmas.Nat.{mul-add-lt}
-use Rattle.std.proofs.lemmas.Option.{MatchOption-at_some, none-some, same_Some}
+use Rattle.std.proofs.lemmas.Option.{MatchOption-at_some, none-some}
 use Rattle.ascii_grid.proofs.Places.{make_place, same_place, index_injective, cases_place}
 use Rattle.ascii_grid.specs.Raster.{Terrain}
-use Rattle.ascii_grid.specs.Neighbours.{height_at, entry_at, index_of, IsDataCell, Touches, IsNeighbour}
+use Rattle.ascii_grid.specs.Neighbours.{height_at, entry_at, Touches, IsNeighbour}
 use Rattle.ascii_grid.specs.Filled.{height_of}
 use Rattle.ascii_grid.specs.declared.place.Place.{Place}
 use Rattle.tiles.specs.declared.bounds.Bounds.{Bounds}
-use Rattle.tiles.specs.Cutting.{Cutting, IsCutting, IsInBounds, IsInTile, bounds_of, tile_count, tile_entry, index_in_tile, View, terrain_of}
+use Rattle.tiles.specs.Cutting.{Cutting, IsCutting, IsInBounds, IsInTile, bounds_of, tile_entry, index_in_tile, View, terrain_of}
 use Rattle.tiles.proofs.Cut.{in_bounds}
-use Rattle.drain.specs.Steps.{IsFlatWalk}
 use Rattle.drain.specs.Rounds.{IsWalked, AreWalked, IsRound}
 use Rattle.drain.specs.Window.{no_count, AreCounts, spot_index, area_of, IsSpot, IsInner, Shows, IsShown, AreShown, level_on, count_on, IsSpread, same, moved, IsSettled, known, known_counts, inner_index, AreKnownBelow, AreLent}
 use Rattle.drain.proofs.Spreading.{spread-not_above, spread-counts, spread-length, spot_from_inner}

@@ -1,10 +1,10 @@
 -- What the rows of a tile have, and the list of the tile.
-use Rattle.std.proofs.Common.{◌≡◌, ◌≢◌, ℕ, ◌+◌, ◌-◌, ◌*◌, ◌<◌, ◌≤◌, ◌⊎◌, inl, inr, Bool, true, false, List, length, get_or, take, drop, slice_range, Option, None, Some, sym, ap, subst, refl, ◌∙◌, arith}
+use Rattle.std.proofs.Common.{◌≡◌, ◌≢◌, ℕ, ◌+◌, ◌-◌, ◌*◌, ◌<◌, ◌≤◌, ◌⊎◌, inl, inr, List, length, get_or, drop, slice_range, Option, None, sym, ap, subst, refl, ◌∙◌, arith}
 use Rattle.std.proofs.lemmas.Bool.{cases_lt, cases_eq, cond-true, and_from, lt-ltb, eq-eqb}
 use Rattle.std.proofs.lemmas.List.{get_or-take, get_or-drop}
 use Rattle.std.proofs.Math.Nat.{mul-le-mul_right}
 use Rattle.std.proofs.lemmas.Nat.{row_fits}
-use Rattle.ascii_grid.proofs.Places.{make_place, same_place, entry-inside}
+use Rattle.ascii_grid.proofs.Places.{make_place, entry-inside}
 use Rattle.ascii_grid.specs.Neighbours.{entry_at, index_of}
 use Rattle.ascii_grid.specs.declared.place.Place.{Place}
 use Rattle.tiles.specs.declared.bounds.Bounds.{Bounds}

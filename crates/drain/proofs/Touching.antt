@@ -1,11 +1,10 @@
 -- The tiles of places beside a tile.
-use Rattle.std.proofs.Common.{◌≡◌, ℕ, ◌+◌, ◌*◌, ◌/◌, ◌%◌, ◌<◌, ◌≤◌, ◌⊎◌, inl, inr, List, Option, None, Vec, Global, get_or, sym, ap, subst, ◌∙◌, arith}
-use Rattle.std.proofs.lemmas.Bool.{cases_eq, cases_lt}
+use Rattle.std.proofs.Common.{◌≡◌, ℕ, ◌+◌, ◌*◌, ◌/◌, ◌%◌, ◌<◌, ◌≤◌, inl, inr, List, Option, None, Vec, Global, get_or, sym, ap, subst, ◌∙◌, arith}
+use Rattle.std.proofs.lemmas.Bool.{cases_lt}
 use Rattle.ascii_grid.proofs.Places.{make_place}
-use Rattle.ascii_grid.specs.Neighbours.{Touches}
 use Rattle.ascii_grid.specs.declared.place.Place.{Place}
 use Rattle.tiles.specs.declared.bounds.Bounds.{Bounds}
-use Rattle.tiles.specs.Cutting.{Cutting, IsCutting, AreBounds, IsWithin, IsInTile, IsInBounds, bounds_of, across, tile_of_place, tile_count}
+use Rattle.tiles.specs.Cutting.{Cutting, IsCutting, AreBounds, IsWithin, IsInBounds, bounds_of, across, tile_of_place, tile_count}
 use Rattle.tiles.proofs.Quotients.{piece_is}
 use Rattle.tiles.proofs.Cut.{in_bounds}
 use Rattle.drain.specs.Rounds.{IsBoundsOf, IsUntouched}

@@ -1,17 +1,15 @@
 -- There is one list of steps, and one of directions.
-use Rattle.std.proofs.Common.{◌≡◌, ℕ, ◌+◌, ◌*◌, ◌/◌, ◌%◌, ◌<◌, ◌≤◌, ◌↔◌, ◌⊎◌, Bool, true, false, inl, inr, List, length, get_or, Option, None, Some, is_some, unwrap_or, MatchOption, IsTrue, ℤ, pos, sym, ap, subst, refl, ◌∙◌, arith}
+use Rattle.std.proofs.Common.{◌≡◌, ℕ, ◌+◌, ◌*◌, ◌/◌, ◌%◌, ◌<◌, ◌≤◌, ◌⊎◌, Bool, true, false, inl, inr, List, length, get_or, Option, None, Some, ℤ, sym, ap, subst, refl, ◌∙◌, arith}
 use Rattle.std.proofs.lemmas.Bool.{cases_eq}
 use Rattle.std.proofs.lemmas.Option.{MatchOption-at_none, MatchOption-at_some, same_Some}
 use Rattle.std.proofs.Math.Nat.{div-add-mod}
 use Rattle.std.proofs.lemmas.List.{ext_get_or}
 use Rattle.std.proofs.lemmas.Nat.{div_below, mod_below}
-use Rattle.std.specs.Option.{option_zip}
 use Rattle.ascii_grid.proofs.Places.{make_place, entry-inside}
 use Rattle.ascii_grid.specs.Raster.{Terrain}
-use Rattle.ascii_grid.specs.Neighbours.{IsInside, height_at, entry_at, index_of, IsDataCell, IsEdge}
-use Rattle.ascii_grid.specs.Ways.{entry_on}
+use Rattle.ascii_grid.specs.Neighbours.{height_at, entry_at, index_of}
 use Rattle.ascii_grid.specs.declared.place.Place.{Place}
-use Rattle.drain.specs.Steps.{IsSteps, AreSteps}
+use Rattle.drain.specs.Steps.{AreSteps}
 use Rattle.drain.specs.Steepness.{direction_of}
 use Rattle.drain.specs.Directions.{IsAround, IsDirection, AreDirections}
 use Rattle.drain.specs.declared.around.Around.{Around}

@@ -1,5 +1,5 @@
 -- The weights of the eight ways, one by one.
-use Rattle.std.proofs.Common.{◌≡◌, ℕ, ◌+◌, ◌*◌, ◌<◌, ◌≤◌, ◌%◌, max, Bool, true, false, eqb, ltb, cond, List, length, get_or, fold, map, Option, None, Some, ℤ, sym, ap, refl, ◌∙◌, subst, arith, ◌⊎◌, inl, inr}
+use Rattle.std.proofs.Common.{◌≡◌, ℕ, ◌+◌, ◌*◌, ◌<◌, ◌≤◌, ◌%◌, max, true, false, eqb, ltb, length, get_or, fold, Option, None, Some, ℤ, sym, ap, ◌∙◌, subst, arith, ◌⊎◌, inl, inr}
 use Rattle.std.proofs.Math.Nat.{mul-le-mul_right}
 use Rattle.std.proofs.lemmas.Bool.{false≢true, cases_Bool, cond-true, cond-false, le-ltb, lt-ltb, cases_eq}
 use Rattle.std.proofs.lemmas.List.{get_or-map, length-map}

@@ -1,11 +1,9 @@
 -- A tile with the places around it, one row and one column more on each side: what the search for steps
 -- works on. A spot of it is a place counted from the row and the column before the tile's first.
 use Rattle.std.specs.Prelude.{◌≡◌, ◌≢◌, ℕ, ◌+◌, ◌-◌, ◌*◌, ◌^◌, ◌<◌, ◌≤◌, ◌⊎◌, ℤ, List, map, length, Option, None, Some, nat_lt, if◌then◌else◌, slice_index_or, slice_set, unwrap_or}
-use Rattle.ascii_grid.specs.Raster.{Terrain}
-use Rattle.ascii_grid.specs.Neighbours.{height_at, entry_at, index_of, Touches}
+use Rattle.ascii_grid.specs.Neighbours.{entry_at, index_of, Touches}
 use Rattle.ascii_grid.specs.declared.place.Place.{Place}
 use Rattle.tiles.specs.declared.bounds.Bounds.{Bounds}
-use Rattle.drain.specs.Rounds.{IsWalked}
 
 -- the count where none is known: greater than every number of steps
 abbrev pub no_count : ℕ

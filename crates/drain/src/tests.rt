@@ -203,7 +203,16 @@ fn code_between(east: Height, south_east: Height) -> Code
         level: 20,
         steps: 0,
         edge: true,
-        ways: [Some((east, 0)), Some((south_east, 0)), None, None, None, None, None, None],
+        ways: [
+            Some((east, 0)),
+            Some((south_east, 0)),
+            None,
+            None,
+            None,
+            None,
+            None,
+            None,
+        ],
     })
 }
 

@@ -13,7 +13,8 @@ use Rattle.std.proofs.lemmas.Option.{same_Some}
 use Rattle.fill.specs.declared.net.Spill.{Spill}
 use Rattle.fill.specs.declared.flooding.Waiting.{Waiting}
 use Rattle.fill.specs.Walk.{Sources}
-use Rattle.fill.specs.Flood.{entry_of, IsDone, TakesLowest, OnlyDoneLeft, waiting_by, waiting_order, SourcesWait, is_open}
+use Rattle.fill.specs.Flood.{entry_of, IsDone, TakesLowest, waiting_by, waiting_order, SourcesWait, is_open}
+use Rattle.fill.proofs.FloodState.{OnlyDoneLeft}
 
 pub all_by_contains : {X : Type 0} (P : X → Type 0) (xs : List X) → ((x : X) → Contains xs x → P x) → All P xs
 all_by_contains P xs h k d below = h (get_or xs k d) (All-contains_itself xs k d below)

@@ -1,3 +1,4 @@
+mod FloodState
 mod Steps
 mod Heaps
 mod CellWays

@@ -13,7 +13,8 @@ use Rattle.std.proofs.lemmas.Bool.{cases_eq, cases_lt, cases_Bool, cond-true, co
 use Rattle.fill.specs.declared.net.Spill.{Spill}
 use Rattle.fill.specs.declared.flooding.Waiting.{Waiting}
 use Rattle.fill.specs.Walk.{Joins, Sources, IsWalk, crest, IsLevel, HasNoWalk, IsFlooded, HasJust}
-use Rattle.fill.specs.Flood.{entry_of, IsDone, TakesLowest, waiting_by, SourcesWait, SomeWaits, HasWalk, IsFlooding, IsLabelOf, is_open}
+use Rattle.fill.specs.Flood.{entry_of, IsDone, TakesLowest, waiting_by, SourcesWait, IsLabelOf, is_open}
+use Rattle.fill.proofs.FloodState.{SomeWaits, HasWalk, IsFlooding}
 use Rattle.fill.proofs.Heaps.{cons_head, cons_tail, cons_cases, all_by_contains}
 
 -- what an entry is, as a case to split on

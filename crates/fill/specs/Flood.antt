@@ -1,11 +1,11 @@
--- The state of a flood: settled nodes with their levels, and nodes that wait with a walk each.
-use Rattle.std.specs.Prelude.{◌≡◌, ℕ, ◌<◌, ◌⊎◌, ℤ, ◌≤ℤ◌, List, length, Option, None, Some, IsSome, MatchOption, Bool, is_none, map, filter, slice_index_or, ◌++◌}
+-- Nodes that wait while a net is flooded, and what the steps of a flood do to them.
+use Rattle.std.specs.Prelude.{◌≡◌, ℕ, ◌<◌, ◌⊎◌, ℤ, ◌≤ℤ◌, List, Option, None, Some, IsSome, Bool, is_none, map, filter, slice_index_or, ◌++◌}
 use Rattle.std.specs.Ordering.{nat_cmp, int_cmp, ordering_then}
 use Rattle.std.specs.declared.cmp.Ordering.{Ordering}
 use Rattle.fill.specs.declared.flooding.Waiting.{Waiting}
 use Rattle.std.specs.Int.{int_max}
 use Rattle.std.specs.List.{Contains, All}
-use Rattle.fill.specs.Walk.{Joins, Sources, IsWalk, crest, end_of, IsLevel, HasJust}
+use Rattle.fill.specs.Walk.{Joins, Sources, HasJust}
 use Rattle.std.specs.List.Sorted.{IsPermutation}
 use Rattle.fill.specs.declared.net.Spill.{Spill}
 
@@ -38,32 +38,6 @@ pub record SourcesWait (nodes : ℕ) (source : Sources) (waiting : List Waiting)
   pub only : All (λ w. (w.node < nodes) × (source w.node ≡ Some w.height.0) × (w.label ≡ w.node)) waiting
   pub every : (a : ℕ) (h : ℤ) → a < nodes → source a ≡ Some h →
       (w : Waiting) × Contains waiting w × (w.node ≡ a) × (w.height.0 ≡ h)
-
--- Some entry of the node is not above the height.
-abbrev pub SomeWaits : List Waiting → ℕ → ℤ → Type 0
-SomeWaits waiting a h = (w : Waiting) × Contains waiting w × (w.node ≡ a) × (w.height.0 ≤ℤ h)
-
--- A walk from the node has this crest and ends at the label.
-abbrev pub HasWalk : Joins → Sources → Waiting → Type 0
-HasWalk joins source w =
-    (walk : List Spill) × IsWalk joins source w.node walk × (crest source w.node walk ≡ w.height.0) × (end_of w.node walk ≡ w.label)
-
--- The state of a flood: nodes with a level have their final one; of the others each source waits,
--- and so does each neighbour of a node with a level.
-pub record IsFlooding (joins : Joins) (source : Sources) (nodes : ℕ) (levels : List (Option ℤ)) (labels : List (Option ℕ)) (waiting : List Waiting) : Type 0 where
-  pub levels_size : length levels ≡ nodes
-  pub labels_size : length labels ≡ nodes
-  pub settled : (a : ℕ) → a < nodes →
-      MatchOption (entry_of levels a) (entry_of labels a ≡ None)
-      (λ l. (b : ℕ) × (entry_of labels a ≡ Some b) × IsLevel joins source a l b)
-  pub waits : All (λ w. (w.node < nodes) × HasWalk joins source w) waiting
-  pub sources : (a : ℕ) (h : ℤ) → a < nodes → source a ≡ Some h → entry_of levels a ≡ None → SomeWaits waiting a h
-  pub frontier : (a b : ℕ) (l h : ℤ) → a < nodes → joins a b h → entry_of levels b ≡ Some l → entry_of levels a ≡ None → SomeWaits waiting a (int_max h l)
-
--- What has left the heap so far has a level.
-pub record OnlyDoneLeft (levels : List (Option ℤ)) (old new : List Waiting) : Type 0 where
-  pub left : All (Contains old) new
-  pub kept : All (λ x. IsDone levels x ⊎ Contains new x) old
 
 -- A source whose level is its own height is its own label; any other node has that of its walk.
 abbrev pub IsLabelOf : Sources → Waiting → ℕ → Type 0

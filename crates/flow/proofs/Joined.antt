@@ -24,6 +24,7 @@ use Rattle.flow.specs.Crossing.{are_apart, crosses, crossing, AreInflows}
 use Rattle.flow.specs.Joining.{grid_bounds, code_in, codes_joined, AreGridCodes, AreGridStreams, is_exit, outlets_by}
 use Rattle.flow.specs.Links.{Links, IsLinks, AreLinks}
 use Rattle.flow.proofs.Sums.{sum_below-few, sum_more}
+use Rattle.flow.proofs.Windows.{sum_below-split}
 use Rattle.flow.proofs.Ending.{end-inside}
 use Rattle.flow.proofs.EarlyEnds.{share-some, share-cases}
 use Rattle.flow.proofs.Coded.{IsCoded, coded_inside, coded_some, coded_from_some, outlet_from_stays, outlet_stays}
@@ -260,3 +261,20 @@ codes_from d t flows h ends f = record {
     code_of_flow d t flows h f p w = elim (slice_get_cases flows (tile_of_place t p)).1 [
         inl r ↦ ap (λ (o : Option Flow). option_and_then (λ (x : Flow). entry_in x.bounds x.codes p) o) r.2 ∙ (f.each (tile_of_place t p) r.0 r.2).same_codes p (w, refl)
       | inr r ↦ absurd (omega (arith, tile_of_place_below t p h w, f.count, r.0)) ]
+
+sum_below-part : (f : ℕ → ℕ) (k n : ℕ) → k ≤ n → sum_below f k ≤ sum_below f n
+sum_below-part f k n le =
+    let whole : k + (n - k) ≡ n = omega arith in
+    omega (arith, sum_below-split f k (n - k), ap (sum_below f) whole)
+
+-- what crosses from a cell, and what has crossed with it, fits
+pub crossed_fits : (t : Cutting) (b : Bounds) (links weights came inflows : List ℕ) (node : ℕ) → node < length links → get_or links node 0 < length links →
+    (get_or links node 0 ≡ node → ⊥) → are_apart t b node (get_or links node 0) ≡ true →
+    ((i : ℕ) → i < length links → sum_below (crossing t b links weights came i) (length links) < 2 ^ 32) →
+    ((i : ℕ) → i < length links → get_or inflows i 0 ≡ sum_below (crossing t b links weights came i) node) →
+    get_or inflows (get_or links node 0) 0 + (get_or came node 0 + get_or weights node 0) < 2 ^ 32
+crossed_fits t b links weights came inflows node h at ne apart few so_far =
+    let on : crosses t b links node (get_or links node 0) ≡ true =
+      and_from _ _ (and_from _ _ (eq-eqb _ _ refl) (not_from_false _ (ne_eqb _ _ (λ z. ne (sym z))))) apart in
+    omega (arith, so_far (get_or links node 0) at, crossing_on t b links weights came (get_or links node 0) node on, sum_more (crossing t b links weights came (get_or links node 0)) node,
+      sum_below-part (crossing t b links weights came (get_or links node 0)) (node + 1) (length links) (omega arith), few (get_or links node 0) at)

@@ -1,5 +1,5 @@
 // Flow over the rims of all tiles.
-ghost use Rattle.std.specs.Prelude.{◌≡◌, ◌^◌, ◌*◌, ◌<◌, ◌≤◌, ℕ, length, slice_index, IfOk, if◌then◌else◌};
+ghost use Rattle.std.specs.Prelude.{◌≡◌, ◌^◌, ◌*◌, ◌<◌, ◌≤◌, ◌&&◌, ◌||◌, ◌==◌, ℕ, length, slice_index, IfOk, None, Some, is_some, if◌then◌else◌};
 ghost use Rattle.tiles.specs.Cutting.{IsCutting, IsWithin, tile_count};
 ghost use Rattle.drain.specs.Drained.{AllFlowEnds};
 ghost use Rattle.drain.specs.Following.{Directed};
@@ -42,7 +42,8 @@ impl RimLinks {
     /// Joins one flow for each tile, in tile order.
     pub fn join(alloc: Global, tiling: &Tiling, flows: &[TileFlow]) -> Result<RimLinks, NoMemory>
         requires { (d : Directed) × AllFlowEnds d × AreTileFlows d tiling.now flows.now }
-        ensures { IfOk result (λ l. (d : Directed) → AllFlowEnds d →
+        ensures cutting { IfOk result (λ l. l.cutting ≡ tiling.now) }
+        ensures links { IfOk result (λ l. (d : Directed) → AllFlowEnds d →
             AreTileFlows d tiling.now flows.now → AreLinks d tiling.now l) }
     {
         let codes = grid_codes(alloc, tiling, flows)?;
@@ -97,7 +98,8 @@ fn bounds_of_grid(tiling: &Tiling) -> Bounds
 // The codes of the whole grid, of the flows of its tiles.
 fn grid_codes(alloc: Global, tiling: &Tiling, flows: &[TileFlow]) -> Result<Vec<Option<Code>>, NoMemory>
     requires { length flows.now ≡ tile_count tiling.now }
-    ensures { IfOk result (λ v. v.items ≡ codes_joined tiling.now flows.now) }
+    ensures value { IfOk result (λ v. v.items ≡ codes_joined tiling.now flows.now) }
+    ensures lawful { IsCutting tiling.now }
 {
     let bounds = bounds_of_grid(tiling);
     let count = bounds.rows * bounds.cols;
@@ -206,13 +208,26 @@ fn outlets_along(
     };
     for node in 0..codes.len() {
         let next = links[node] as usize;
-        let exit = codes[node].is_some() && (next == node || lie_apart(tiling, node, next));
+        let exit = is_exit(tiling, codes[node], node, next);
         let outlet = place_if(exit, place_at(bounds, ends[node]));
         if outlets.push(outlet).is_err() {
             return Err(NoMemory);
         }
     }
     Ok(outlets)
+}
+
+// Whether the water of a cell leaves its tile, or the cell is an outlet.
+#[inline(always)]
+fn is_exit(tiling: &Tiling, code: Option<Code>, node: usize, next: usize) -> bool
+    requires node { node < tiling.now.rows * tiling.now.cols }
+    requires next { next < tiling.now.rows * tiling.now.cols }
+    ensures { result ≡ (is_some code && (next == node || are_apart tiling.now (grid_bounds tiling.now) node next)) }
+{
+    match code {
+        Some(_) => next == node || lie_apart(tiling, node, next),
+        None => false,
+    }
 }
 
 #[inline(always)]

@@ -1,8 +1,11 @@
-ghost use Rattle.std.specs.Prelude.{◌≡◌, ◌≤◌, IfOk, IfSome, IsTrue};
+ghost use Rattle.std.specs.Prelude.{◌≡◌, ◌*◌, ◌<◌, ◌≤◌, length, IfOk, IfSome, IsTrue};
 ghost use Rattle.flow.specs.Tested.{codes_by, code_of_number, flows};
-ghost use Rattle.flow.specs.Whole.{IsGridFlow};
+ghost use Rattle.drain.specs.Drained.{AllFlowEnds};
+ghost use Rattle.flow.specs.TileFlow.{AreTileFlows};
+ghost use Rattle.flow.specs.Whole.{make_directed};
 
 use crate::counting::{grid_accumulation, grid_basins};
+use crate::links::RimLinks;
 use crate::tile::{TileFlow, tile_flow};
 use ascii_grid::{NoMemory, Place};
 use drain::Code;
@@ -69,6 +72,48 @@ fn tile_flow_of(
         return Err(NoMemory);
     }
     tile_flow(alloc, &tiling.view(&codes, tile))
+}
+
+// The flows of all tiles, in tile order.
+fn flows_of(
+    alloc: Global,
+    tiling: &Tiling,
+    codes: &[Option<Code>],
+) -> Result<Vec<TileFlow>, NoMemory>
+    requires size { length codes.now ≡ tiling.now.cols * tiling.now.rows }
+    requires ends { AllFlowEnds (make_directed tiling.now.cols tiling.now.rows codes.now) }
+    ensures { IfOk result (λ v. AreTileFlows (make_directed tiling.now.cols tiling.now.rows codes.now) tiling.now v.items) }
+{
+    let mut flows = Vec::new(alloc);
+    for tile in 0..tiling.tiles() {
+        let flow = tile_flow(alloc, &tiling.view(codes, tile))?;
+        if flows.push(flow).is_err() {
+            return Err(NoMemory);
+        }
+    }
+    Ok(flows)
+}
+
+// The inflow and the outlet of a place.
+fn crossings_at(
+    alloc: Global,
+    size: (u32, u32),
+    side: u32,
+    numbers: &[u8],
+    place: Place,
+) -> Result<(u32, Option<Place>), NoMemory>
+    requires flows { IsTrue (flows size.0 size.1 numbers.now) }
+    requires cols { (1 ≤ size.0) × (size.0 ≤ 4096) }
+    requires rows { (1 ≤ size.1) × (size.1 ≤ 4096) }
+    requires place { (place.row < size.1) × (place.col < size.0) }
+{
+    let codes = codes_of(alloc, numbers)?;
+    let Some(tiling) = tiling_of(size.0, size.1, side) else {
+        return Err(NoMemory);
+    };
+    let flows = flows_of(alloc, &tiling, &codes)?;
+    let links = RimLinks::join(alloc, &tiling, &flows)?;
+    Ok((links.inflow(place), links.outlet(place)))
 }
 
 fn tiling_of(cols: u32, rows: u32, side: u32) -> Option<Tiling>
@@ -162,4 +207,19 @@ fn slope_in_tiles(rt: HostRuntime) {
     let middle = tile_flow_of(rt.alloc(), (6, 2), 2, 1, &codes).expect(&rt, "a flow");
     assert_eq!(rt; middle.through(Place { row: 0, col: 3 }), Some(3));
     assert_eq!(rt; middle.exit(Place { row: 0, col: 1 }), None);
+}
+
+#[test]
+fn slope_joined(rt: HostRuntime) {
+    let codes = [1, 1, 1, 1, 1, 0, 128, 128, 64, 64, 64, 64];
+    let place = Place { row: 0, col: 2 };
+    let (inflow, outlet) =
+        crossings_at(rt.alloc(), (6, 2), 2, &codes, place).expect(&rt, "links");
+    assert_eq!(rt; inflow, 4);
+    assert_eq!(rt; outlet, None);
+    let exit = Place { row: 0, col: 1 };
+    let (inflow, outlet) =
+        crossings_at(rt.alloc(), (6, 2), 2, &codes, exit).expect(&rt, "links");
+    assert_eq!(rt; inflow, 0);
+    assert_eq!(rt; outlet, Some(Place { row: 0, col: 5 }));
 }

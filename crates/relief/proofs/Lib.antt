@@ -2,3 +2,4 @@ mod Refused
 mod Ran
 mod Viewing
 mod Commas
+mod Maps

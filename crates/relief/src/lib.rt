@@ -4,6 +4,7 @@
 pub mod command;
 pub mod fault;
 mod help;
+pub mod laws;
 mod making;
 pub mod map;
 pub mod observer_word;

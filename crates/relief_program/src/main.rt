@@ -35,5 +35,5 @@ fn main(rt: HostRuntime) -> ExitCode {
     let mut reader = Counted::new(rt.stdin());
     let mut writer = Counted::new(rt.stdout());
     let mut errors = Counted::new(rt.stderr());
-    ExitCode::from(run_words(rt.alloc(), &words, &mut reader, &mut writer, &mut errors))
+    ExitCode::from(run_words(&rt, rt.alloc(), &words, &mut reader, &mut writer, &mut errors))
 }

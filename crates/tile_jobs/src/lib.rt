@@ -3,6 +3,9 @@
 //!
 //! What a job does and answers is told by [`Work`], and how many there are by a number: the jobs
 //! are 0, 1, 2 and so on. [`run_jobs`] runs each of them once, whichever worker it falls to.
+//!
+//! Below it stands a [`Board`]: jobs dealt to the deques of its seats. Each [`Seat`] takes the jobs of
+//! its own deque and then steals those of the others, with no lock and no waiting.
 #![tactic(auto)]
 
 mod board;
@@ -32,7 +35,7 @@ pub use work::Work;
 pub enum JobFault {
     /// Memory ran out, in a job or for the answers.
     Memory,
-    /// The number of workers is 0 or above 64.
+    /// The number of workers or seats is 0 or above 64.
     BadWorkers,
     /// A thread could not be started.
     NoThread,

@@ -1,4 +1,4 @@
-use Rattle.std.proofs.Common.{◌≡◌, ◌∙◌, ◌+◌, ◌-◌, ◌≤◌, ℤ, sym, arith, rules, to_z-of_z}
+use Rattle.std.proofs.Common.{◌+◌, ◌-◌, arith, rules, to_z-of_z}
 use mir.Val.{SFits}
 use mir.Syntax.{w32}
 use Rattle.drain.proofs.Block.{block_found, block_keeps, block_clear, three_fit, MatchBool-weaker}

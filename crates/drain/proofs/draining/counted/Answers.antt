@@ -1,4 +1,4 @@
-use Rattle.std.proofs.Common.{◌≡◌, ◌∙◌, List, Option, Vec, Global, ℕ, sym, ap, subst}
+use Rattle.std.proofs.Common.{◌∙◌, Option, Vec, Global, ℕ, sym, ap, subst}
 use Rattle.std.proofs.lemmas.Result.{IfOk-weaker}
 use Rattle.ascii_grid.specs.Raster.{Raster, Terrain, IsTerrain}
 use Rattle.drain.specs.Rounds.{AreCounting, AreSettled}

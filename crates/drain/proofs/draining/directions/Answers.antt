@@ -1,4 +1,4 @@
-use Rattle.std.proofs.Common.{◌≡◌, ◌∙◌, List, Option, ℕ, sym, ap, subst}
+use Rattle.std.proofs.Common.{◌∙◌, sym, ap, subst}
 use Rattle.ascii_grid.specs.Raster.{Raster, Terrain}
 use Rattle.drain.specs.Directions.{AreDirections}
 use Rattle.drain.specs.Drained.{Drained, IsDraining, AllFlowEnds, directed_of}

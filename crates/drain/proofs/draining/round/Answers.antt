@@ -1,4 +1,4 @@
-use Rattle.std.proofs.Common.{◌≡◌, ◌∙◌, ◌*◌, List, Option, Vec, Global, ℕ, length, sym, ap, subst}
+use Rattle.std.proofs.Common.{◌∙◌, ◌*◌, List, Option, Vec, Global, ℕ, length, sym, ap, subst}
 use Rattle.std.proofs.lemmas.Result.{IfOk-weaker}
 use Rattle.tiles.specs.Cutting.{terrain_of}
 use Rattle.drain.specs.Rounds.{IsRound}

@@ -1,4 +1,4 @@
-use Rattle.std.proofs.Common.{◌≡◌, ◌+◌, ℕ, Option, Some, None, arith}
+use Rattle.std.proofs.Common.{Some, None}
 use Rattle.drain.proofs.Spots.{shown_at}
 use Rattle.drain.proofs.looking.shown.Goals as goal
 

@@ -1,4 +1,3 @@
-use Rattle.std.proofs.Common.{◌≡◌}
 use Rattle.std.proofs.lemmas.Bool.{OnFalse_at, OnFalse_from}
 use Rattle.drain.proofs.Touching.{unchanged_along}
 use Rattle.drain.proofs.rounds.changed_along.Goals as goal

@@ -1,4 +1,3 @@
-use Rattle.std.proofs.Common.{◌≡◌}
 use Rattle.std.proofs.lemmas.Bool.{OnFalse_at, OnFalse_from}
 use Rattle.drain.proofs.Touching.{untouched}
 use Rattle.drain.proofs.rounds.is_touched.Goals as goal

@@ -1,8 +1,7 @@
-use Rattle.std.proofs.Common.{◌≡◌, ◌∙◌, ◌<◌, ℕ, List, Option, None, Bool, true, false, is_some, IsSome, Vec, Global, length, get_or, sym, ap, subst, arith}
-use Rattle.std.proofs.lemmas.Bool.{false≢true}
+use Rattle.std.proofs.Common.{◌≡◌, ◌∙◌, ◌<◌, ℕ, List, Option, None, Bool, IsSome, Vec, Global, length, get_or, subst, arith}
 use Rattle.ascii_grid.specs.Neighbours.{entry_at}
 use Rattle.ascii_grid.specs.declared.place.Place.{Place}
-use Rattle.tiles.specs.Cutting.{IsWithin, tile_count}
+use Rattle.tiles.specs.Cutting.{IsWithin}
 use Rattle.drain.specs.Rounds.{Rounding, AreAnswered, IsUntouched, told}
 use Rattle.drain.proofs.RoundLemmas.{all_still, counting_after, left_after, still_after}
 use Rattle.drain.proofs.rounds.one_round.Goals as goal

@@ -1,4 +1,4 @@
-use Rattle.std.proofs.Common.{◌≡◌, ◌∙◌, ◌+◌, ◌*◌, ℕ, sym, ap, subst, refl, arith}
+use Rattle.std.proofs.Common.{◌≡◌, ◌∙◌, ◌+◌, ◌*◌, ℕ, ap, subst, refl, arith}
 use Rattle.drain.proofs.TileRows.{IsWrittenBelow, row_written, none_written, row_in_grid, row_in_list, tile_written}
 use Rattle.drain.proofs.rounds.put_tile.Goals as goal
 

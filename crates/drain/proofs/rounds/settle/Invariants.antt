@@ -1,4 +1,3 @@
-use Rattle.std.proofs.Common.{◌≡◌}
 use Rattle.drain.specs.Rounds.{IsRounding, left_to_count}
 use Rattle.drain.proofs.rounds.settle.Given as goal
 

@@ -1,6 +1,4 @@
-use Rattle.std.proofs.Common.{rules, ◌≡◌, ◌<◌, ◌≤◌, ℕ, fold, max, sym, subst, ◌∙◌, arith}
-use Rattle.std.proofs.lemmas.Bool.{cond-true, lt-ltb, false≢true}
-use Rattle.drain.specs.Steepness.{weights}
+use Rattle.std.proofs.Common.{sym, ◌∙◌, arith}
 use Rattle.drain.proofs.Weights.{drains_onward, direction_down}
 use Rattle.drain.proofs.steepness.direction.Goals as goal
 

@@ -1,4 +1,4 @@
-use Rattle.std.proofs.Common.{◌≡◌, ◌<◌, ◌≤◌, ℕ, None, length, false, sym, ◌∙◌, arith}
+use Rattle.std.proofs.Common.{None, sym, ◌∙◌, arith}
 use Rattle.std.proofs.lemmas.Bool.{false≢true}
 use Rattle.drain.specs.Steepness.{leads_on}
 use Rattle.drain.proofs.Greatest.{position_is, none_passes}

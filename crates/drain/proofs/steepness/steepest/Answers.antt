@@ -1,9 +1,9 @@
-use Rattle.std.proofs.Common.{◌≡◌, ◌<◌, ◌≤◌, ◌+◌, ℕ, None, length, get_or, false, sym, ap, subst, ◌∙◌, arith, eqb, rules, inl, inr, to_z-of_z}
+use Rattle.std.proofs.Common.{◌≡◌, ◌<◌, length, sym, subst, arith, rules, inl, inr, to_z-of_z}
 use mir.Val.{SFits}
 use mir.Syntax.{w32}
 use Rattle.drain.specs.Steepness.{weights}
-use Rattle.drain.proofs.Greatest.{IsFirstGreatest, is_fold, is_position, takes_greater, keeps_greatest}
-use Rattle.drain.proofs.Weights.{length-weights, get_or-weights, next_greatest}
+use Rattle.drain.proofs.Greatest.{IsFirstGreatest, is_fold, is_position}
+use Rattle.drain.proofs.Weights.{length-weights, next_greatest}
 use Rattle.drain.proofs.steepness.steepest.Goals as goal
 use Rattle.drain.proofs.steepness.steepest.Goals.{then-own-weight, else-own-weight}
 

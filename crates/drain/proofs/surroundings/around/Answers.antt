@@ -1,4 +1,4 @@
-use Rattle.std.proofs.Common.{◌≡◌, ◌+◌, ℕ, List, Option, None, Some, ◌∷◌, [], get_or, ℤ, refl, sym, ap, ◌∙◌, arith, rules, to_z-of_z}
+use Rattle.std.proofs.Common.{◌≡◌, ℕ, None, Some, ◌∷◌, [], get_or, refl, sym, ap, ◌∙◌, rules, to_z-of_z}
 use mir.Val.{SFits}
 use mir.Syntax.{w32}
 use Rattle.std.specs.Option.{option_zip}

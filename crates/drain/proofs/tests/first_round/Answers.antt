@@ -1,4 +1,4 @@
-use Rattle.std.proofs.Common.{◌≡◌, ◌∙◌, List, Option, ℕ, sym, subst}
+use Rattle.std.proofs.Common.{List, Option, ℕ, sym, subst}
 use Rattle.ascii_grid.specs.Raster.{Terrain}
 use Rattle.drain.specs.Rounds.{HasZeros, AreWalked}
 use Rattle.drain.proofs.DrainedLemmas.{same_terrain}

@@ -1,8 +1,8 @@
-use Rattle.std.proofs.Common.{◌≡◌, ◌+◌, ◌≤◌, ◌<◌, inl, inr, List, All, ℕ, sym, subst, arith}
+use Rattle.std.proofs.Common.{inl, inr, List, All, ℕ, sym, subst, arith}
 use Rattle.std.proofs.lemmas.Bool.{cases_eq}
 use Rattle.std.proofs.lemmas.List.Elements.{All-nil}
 use Rattle.ascii_grid.specs.declared.place.Place.{Place}
-use Rattle.drain.specs.Window.{IsNear, IsInner, IsSpread, same}
+use Rattle.drain.specs.Window.{IsInner, IsSpread, same}
 use Rattle.drain.proofs.Spreading.{near_after}
 use Rattle.drain.proofs.window.pull.Goals as goal
 

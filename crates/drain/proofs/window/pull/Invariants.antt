@@ -1,6 +1,6 @@
-use Rattle.std.proofs.Common.{◌≡◌, ◌<◌, All}
+use Rattle.std.proofs.Common.{◌<◌, All}
 use Rattle.ascii_grid.specs.declared.place.Place.{Place}
-use Rattle.drain.specs.Window.{IsInner, IsSpread, IsNotAbove, IsNear}
+use Rattle.drain.specs.Window.{IsInner, IsSpread, IsNear}
 use Rattle.drain.proofs.window.pull.Given as goal
 
 abbrev pub invariant-loop-row : goal.invariant-loop-row

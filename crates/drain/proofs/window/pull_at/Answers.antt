@@ -1,7 +1,7 @@
-use Rattle.std.proofs.Common.{◌≡◌, ◌+◌, ◌≤◌, ◌<◌, ℕ, All, List, sym, subst, arith}
+use Rattle.std.proofs.Common.{All, List, sym, subst}
 use Rattle.std.proofs.lemmas.List.Elements.{All-push}
 use Rattle.ascii_grid.specs.declared.place.Place.{Place}
-use Rattle.drain.specs.Window.{IsSpot, IsInner}
+use Rattle.drain.specs.Window.{IsInner}
 use Rattle.drain.proofs.Spreading.{pulled, spot_from_inner}
 use Rattle.drain.proofs.window.pull_at.Goals as goal
 

@@ -1,8 +1,7 @@
-use Rattle.std.proofs.Common.{◌≡◌, ◌+◌, ◌≤◌, ℕ, All, Vec, Global, List, sym, subst, arith, rules}
+use Rattle.std.proofs.Common.{All, Vec, Global, List, sym, subst}
 use Rattle.std.proofs.lemmas.List.Elements.{All-push}
-use Rattle.std.proofs.lemmas.Grind.{common_steps}
 use Rattle.ascii_grid.specs.declared.place.Place.{Place}
-use Rattle.drain.specs.Window.{IsSpread, IsInner, same}
+use Rattle.drain.specs.Window.{IsInner, same}
 use Rattle.drain.proofs.Spreading.{move_at}
 use Rattle.drain.proofs.window.reach.Goals as goal
 use Rattle.drain.proofs.window.reach.Goals.{then-is_inner+in_ok-push, else-is_inner}

@@ -1,5 +1,5 @@
-use Rattle.std.proofs.Common.{◌≡◌, ◌+◌, ◌≤◌, ◌<◌, ℕ, vec_len, sum, arith}
-use Rattle.drain.specs.Window.{IsSpread, same}
+use Rattle.std.proofs.Common.{◌≤◌, ◌<◌, vec_len, sum, arith}
+use Rattle.drain.specs.Window.{same}
 use Rattle.drain.proofs.Spreading.{spread_on, spread-counts, sum-spread}
 use Rattle.drain.proofs.window.search.Goals as goal
 

@@ -1,4 +1,4 @@
-use Rattle.std.proofs.Common.{◌+◌, ◌-◌, ◌≤◌, All, sum, vec_len}
+use Rattle.std.proofs.Common.{◌+◌, ◌-◌, All, sum, vec_len}
 use Rattle.drain.specs.Window.{IsInner, IsSpread}
 use Rattle.drain.proofs.window.search.Given as goal
 

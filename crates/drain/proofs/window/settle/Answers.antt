@@ -1,6 +1,5 @@
-use Rattle.std.proofs.Common.{◌≡◌, ℕ, List, sym, subst}
 use Rattle.std.proofs.lemmas.Result.{on_ok_weaker}
-use Rattle.drain.specs.Window.{IsSpread, AreCounts, IsSettled}
+use Rattle.drain.specs.Window.{IsSpread, IsSettled}
 use Rattle.drain.proofs.Spreading.{spread-counts, spread-not_above, spread_on, near_after}
 use Rattle.drain.proofs.window.settle.Goals as goal
 

@@ -1,5 +1,5 @@
-use Rattle.std.proofs.Common.{◌≡◌, ◌+◌, ◌≤◌, ℕ, arith}
-use Rattle.drain.specs.Window.{IsSpread, same}
+use Rattle.std.proofs.Common.{arith}
+use Rattle.drain.specs.Window.{same}
 use Rattle.drain.proofs.Spreading.{spread_on, spread-counts}
 use Rattle.drain.proofs.window.spread.Goals as goal
 

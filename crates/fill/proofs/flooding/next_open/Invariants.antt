@@ -1,5 +1,6 @@
 use Rattle.std.specs.BinaryHeap.{IsHeap, heap_items, heap_len}
-use Rattle.fill.specs.Flood.{waiting_order, OnlyDoneLeft}
+use Rattle.fill.specs.Flood.{waiting_order}
+use Rattle.fill.proofs.FloodState.{OnlyDoneLeft}
 use Rattle.fill.proofs.flooding.next_open.Given as goal
 
 abbrev pub invariant-loop-waiting : goal.invariant-loop-waiting

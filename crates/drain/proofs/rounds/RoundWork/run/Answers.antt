@@ -1,4 +1,4 @@
-use Rattle.std.proofs.Common.{◌≡◌, sym, subst}
+use Rattle.std.proofs.Common.{subst}
 use Rattle.drain.specs.Rounds.{Rounding, levels_of, IsTileStill}
 use Rattle.drain.proofs.RoundLemmas.{still_from}
 use Rattle.drain.proofs.rounds.RoundWork.run.Goals as goal

@@ -1,4 +1,4 @@
-use Rattle.std.proofs.Common.{arith, ◌+◌}
+use Rattle.std.proofs.Common.{◌+◌}
 use Rattle.std.proofs.lemmas.Nat.{mul-add-lt}
 use Rattle.drain.proofs.window.Ground.index.Goals as goal
 

@@ -1,0 +1,83 @@
+-- A text has one map.
+use Rattle.std.proofs.Common.{◌≡◌, ℕ, ◌*◌, ◌<◌, ◌⊎◌, List, length, Option, None, Some, ℤ, sym, ap, subst, refl, ◌∙◌, inl, inr}
+use Rattle.std.specs.Option.{MatchOption}
+use Rattle.std.proofs.lemmas.Option.{MatchOption-at_none, MatchOption-at_some}
+use Rattle.ascii_grid.specs.Raster.{Raster, Terrain}
+use Rattle.ascii_grid.specs.Neighbours.{height_at, entry_at}
+use Rattle.ascii_grid.specs.Filled.{IsFilled, IsFilledGrid}
+use Rattle.ascii_grid.specs.Text.{heights_text, counts_text}
+use Rattle.ascii_grid.specs.declared.place.Place.{Place}
+use Rattle.ascii_grid.proofs.Uniqueness.{one_filled_height}
+use Rattle.drain.specs.Following.{Directed, code_at}
+use Rattle.drain.specs.Directions.{AreDirections}
+use Rattle.drain.proofs.Unique.{same_entries, one_list_of_directions}
+use Rattle.flow.specs.Counts.{IsMapOf, accumulation, basin}
+use Rattle.sight.proofs.Uniqueness.{viewsheds_are_one}
+use Rattle.relief.specs.declared.map.Map.{Map}
+use Rattle.relief.specs.declared.map.Map.TheVariants.{Fill, Flow, Accumulate, Basins, View}
+use Rattle.relief.specs.MapText.{IsDrainage, IsMapText, IsMapOfText}
+
+cases_option : {X : Type 0} (o : Option X) → (o ≡ None) ⊎ ((x : X) × (o ≡ Some x))
+cases_option None = inl refl
+cases_option (Some x) = inr (x, refl)
+
+-- there is one list of filled heights
+one_list_of_heights : (t : Terrain) (xs ys : List (Option ℤ)) → IsFilled t xs → IsFilled t ys → xs ≡ ys
+one_list_of_heights t xs ys a b =
+    same_entries t.cols t.rows xs ys a.size b.size (λ p row col.
+    elim (cases_option (height_at t p)) [
+      | inl none ↦ MatchOption-at_none _ _ none (a.each p (row, col)) ∙ sym (MatchOption-at_none _ _ none (b.each p (row, col)))
+      | inr some ↦
+          (let m = MatchOption-at_some _ _ some.0 some.1 (a.each p (row, col)) in
+          let n = MatchOption-at_some _ _ some.0 some.1 (b.each p (row, col)) in
+          m.1 ∙ ap Some (one_filled_height t p m.0 n.0 m.2 n.2) ∙ sym n.1)
+    ])
+
+abbrev with_heights : Raster → List (Option ℤ) → Raster
+with_heights g levels = record g { terrain = record g.terrain { cells = levels } }
+
+one_filled_grid : (g f h : Raster) → IsFilledGrid g f → IsFilledGrid g h → f ≡ h
+one_filled_grid g f h a b =
+    a.rest ∙ ap (λ levels. with_heights g levels) (one_list_of_heights g.terrain f.terrain.cells h.terrain.cells a.filled b.filled) ∙ sym b.rest
+
+-- there is one list of a value at each cell
+one_list_of_values : (d : Directed) (value : Place → ℕ) (xs ys : List (Option ℕ)) → IsMapOf d value xs → IsMapOf d value ys → xs ≡ ys
+one_list_of_values d value xs ys a b =
+    same_entries d.cols d.rows xs ys a.size b.size (λ p row col.
+    elim (cases_option (code_at d p)) [
+      | inl none ↦ MatchOption-at_none _ _ none (a.each p (row, col)) ∙ sym (MatchOption-at_none _ _ none (b.each p (row, col)))
+      | inr some ↦ MatchOption-at_some _ _ some.0 some.1 (a.each p (row, col)) ∙ sym (MatchOption-at_some _ _ some.0 some.1 (b.each p (row, col)))
+    ])
+
+abbrev directed : ℕ → ℕ → List (Option ℕ) → Directed
+directed cols rows codes = record { cols = cols; rows = rows; codes = codes }
+
+one_drainage : (g : Raster) (d e : Directed) → IsDrainage g d → IsDrainage g e → d ≡ e
+one_drainage g d e a b =
+    let filled : a.filled ≡ b.filled = one_filled_grid g a.filled b.filled a.is_filled b.is_filled in
+    let codes : d.codes ≡ e.codes =
+        one_list_of_directions b.filled.terrain d.codes e.codes
+        (subst (λ (f : Raster). AreDirections f.terrain d.codes) filled a.directions) b.directions in
+    ap (λ cols. directed cols d.rows d.codes) (a.same_size.0 ∙ sym b.same_size.0)
+    ∙ ap (λ rows. directed e.cols rows d.codes) (a.same_size.1 ∙ sym b.same_size.1)
+    ∙ ap (λ cs. directed e.cols e.rows cs) codes
+
+one_map_of_grid : (g : Raster) (m : Map) (text other : List ℕ) → IsMapText g m text → IsMapText g m other → text ≡ other
+one_map_of_grid g Fill text other a b = a.2 ∙ ap heights_text (one_filled_grid g a.0 b.0 a.1 b.1) ∙ sym b.2
+one_map_of_grid g Flow text other a b =
+    a.2 ∙ ap (λ (d : Directed). counts_text g d.codes) (one_drainage g a.0 b.0 a.1 b.1) ∙ sym b.2
+one_map_of_grid g Accumulate text other a b =
+    let same : a.0 ≡ b.0 = one_drainage g a.0 b.0 a.2 b.2 in
+    let values : a.1 ≡ b.1 = one_list_of_values b.0 (accumulation b.0) a.1 b.1 (subst (λ (d : Directed). IsMapOf d (accumulation d) a.1) same a.3) b.3 in
+    a.4 ∙ ap (λ vs. counts_text g vs) values ∙ sym b.4
+one_map_of_grid g Basins text other a b =
+    let same : a.0 ≡ b.0 = one_drainage g a.0 b.0 a.2 b.2 in
+    let values : a.1 ≡ b.1 = one_list_of_values b.0 (basin b.0) a.1 b.1 (subst (λ (d : Directed). IsMapOf d (basin d) a.1) same a.3) b.3 in
+    a.4 ∙ ap (λ vs. counts_text g vs) values ∙ sym b.4
+one_map_of_grid g (View observers target radius) text other a b =
+    a.2 ∙ ap (λ vs. counts_text g vs) (viewsheds_are_one g.terrain observers.items target radius a.0 b.0 a.1 b.1) ∙ sym b.2
+
+pub one_map : (scale : ℕ) (m : Map) (input text other : List ℕ) → IsMapOfText scale m input text → IsMapOfText scale m input other → text ≡ other
+one_map scale m input text other a b =
+    let same : a.0 ≡ b.0 = a.1.grid ∙ sym b.1.grid in
+    one_map_of_grid b.0 m text other (subst (λ (g : Raster). IsMapText g m text) same a.2) b.2
