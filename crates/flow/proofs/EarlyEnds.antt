@@ -1,8 +1,8 @@
 -- A path that ends does so within as many moves as there are nodes.
-use Rattle.std.proofs.Common.{◌≡◌, ◌≢◌, ℕ, zero, suc, ◌+◌, ◌-◌, ◌<◌, ◌≤◌, ◌⊎◌, inl, inr, List, length, get_or, sym, ap, subst, refl, ◌∙◌, arith, cond}
+use Rattle.std.proofs.Common.{◌≡◌, ◌≢◌, ℕ, zero, suc, ◌+◌, ◌-◌, ◌<◌, ◌≤◌, ◌⊎◌, inl, inr, List, length, sym, ap, subst, refl, ◌∙◌, arith}
 use Rattle.std.proofs.lemmas.Bool.{cases_eq, cases_lt, eq-eqb, ne_eqb, cond-true, cond-false}
 use Rattle.drain.proofs.Pigeonhole.{pigeonhole}
-use Rattle.flow.specs.Streams.{AreStreams, onward, node_after, end_of, share}
+use Rattle.flow.specs.Streams.{AreStreams, onward, node_after, share}
 use Rattle.flow.proofs.Ending.{node_after-first}
 
 abbrev pub IsStop : List ℕ → ℕ → ℕ → Type 0
@@ -15,8 +15,9 @@ same_at links i a b e = ap (node_after links i) e
 pub stays_from : (links : List ℕ) (i k m : ℕ) → k ≤ m → IsStop links i k → node_after links i m ≡ node_after links i k
 stays_from links i k zero le stop = same_at links i 0 k (omega arith)
 stays_from links i k (suc m) le stop = elim (cases_eq k (suc m)) [
-    inl e ↦ sym (ap (node_after links i) e)
-  | inr ne ↦ (let before = stays_from links i k m (omega arith) stop in ap (onward links) before ∙ stop) ]
+  | inl e ↦ sym (ap (node_after links i) e)
+  | inr ne ↦ (let before = stays_from links i k m (omega arith) stop in ap (onward links) before ∙ stop)
+]
 
 -- the path repeats itself where a node comes twice
 again : (links : List ℕ) (i a b : ℕ) → node_after links i a ≡ node_after links i b → (t : ℕ) → node_after links i (a + t) ≡ node_after links i (b + t)
@@ -30,19 +31,23 @@ pub never : (links : List ℕ) (i n a b : ℕ) → a < b → b ≤ n → node_af
     (fuel m : ℕ) → m ≤ fuel → IsStop links i m → ⊥
 never links i n a b lt le same none zero m few stop = none m (omega arith) stop
 never links i n a b lt le same none (suc fuel) m few stop = elim (cases_lt m n) [
-    inl l ↦ none m l stop
+  | inl l ↦ none m l stop
   | inr far ↦ (let back : node_after links i (a + (m - b)) ≡ node_after links i m = again links i a b same (m - b) ∙ same_at links i (b + (m - b)) m (omega arith) in
-      never links i n a b lt le same none fuel (a + (m - b)) (omega arith) (ap (onward links) back ∙ stop ∙ sym back)) ]
+      never links i n a b lt le same none fuel (a + (m - b)) (omega arith) (ap (onward links) back ∙ stop ∙ sym back))
+]
 
 cases_stop : (links : List ℕ) (i n : ℕ) → ((k : ℕ) × (k < n) × IsStop links i k) ⊎ ((k : ℕ) → k < n → IsStop links i k → ⊥)
 cases_stop links i zero = inr (λ k h _. omega arith)
 cases_stop links i (suc n) = elim (cases_stop links i n) [
-    inl r ↦ inl (r.0, omega (arith, r.1), r.2)
+  | inl r ↦ inl (r.0, omega (arith, r.1), r.2)
   | inr none ↦ elim (cases_eq (onward links (node_after links i n)) (node_after links i n)) [
-        inl e ↦ inl (n, omega arith, e)
-      | inr ne ↦ inr (λ k h. elim (cases_eq k n) [
-            inl e ↦ (λ stop. ne (subst (λ (j : ℕ). IsStop links i j) e stop))
-          | inr other ↦ none k (omega arith) ]) ] ]
+    | inl e ↦ inl (n, omega arith, e)
+    | inr ne ↦ inr (λ k h. elim (cases_eq k n) [
+      | inl e ↦ (λ stop. ne (subst (λ (j : ℕ). IsStop links i j) e stop))
+      | inr other ↦ none k (omega arith)
+    ])
+  ]
+]
 
 inside_along : (links : List ℕ) → ((i : ℕ) → i < length links → onward links i < length links) → (i : ℕ) → i < length links → (k : ℕ) → node_after links i k < length links
 inside_along links inside i h zero = h
@@ -55,18 +60,19 @@ pairs_apart links i n m none stop a b lt le same = never links i n a b lt (omega
 pub early_end : (links : List ℕ) → ((i : ℕ) → i < length links → onward links i < length links) → (i : ℕ) → i < length links → (m : ℕ) → IsStop links i m →
     (k : ℕ) × (k < length links) × IsStop links i k
 early_end links inside i h m stop = elim (cases_stop links i (length links)) [
-    inl r ↦ r
+  | inl r ↦ r
   | inr none ↦ (let count : length links + 1 ≤ length links =
-        pigeonhole (length links) (length links + 1) (node_after links i) (λ k l. inside_along links inside i h k) (pairs_apart links i (length links) m none stop) in
-      absurd (omega arith)) ]
+      pigeonhole (length links) (length links + 1) (node_after links i) (λ k l. inside_along links inside i h k) (pairs_apart links i (length links) m none stop) in
+      absurd (omega arith))
+]
 
 pub streams_from : (links : List ℕ) → ((i : ℕ) → i < length links → onward links i < length links) → ((i : ℕ) → i < length links → (m : ℕ) × IsStop links i m) → AreStreams links
 streams_from links inside stops = record {
   inside = inside;
   ends = λ i h. (let s = stops i h in
-    let r = early_end links inside i h s.0 s.1 in
-    let last = stays_from links i r.0 (length links) (omega (arith, r.1)) r.2 in
-    ap (onward links) last ∙ r.2 ∙ sym last);
+      let r = early_end links inside i h s.0 s.1 in
+      let last = stays_from links i r.0 (length links) (omega (arith, r.1)) r.2 in
+      ap (onward links) last ∙ r.2 ∙ sym last);
 }
 
 -- each node of a path comes before as many moves as there are nodes
@@ -74,22 +80,27 @@ pub within : (links : List ℕ) → AreStreams links → (i : ℕ) → i < lengt
 within links s i h k =
     let r = early_end links s.inside i h (length links) (s.ends i h) in
     elim (cases_lt k r.0) [
-        inl l ↦ (k, omega (arith, r.1), omega arith, refl)
-      | inr far ↦ (r.0, r.1, far, sym (stays_from links i r.0 k far r.2)) ]
+      | inl l ↦ (k, omega (arith, r.1), omega arith, refl)
+      | inr far ↦ (r.0, r.1, far, sym (stays_from links i r.0 k far r.2))
+    ]
 
 pub share-some : (links : List ℕ) (n from to w : ℕ) → (k : ℕ) → k ≤ n → node_after links from k ≡ to → share links n from to w ≡ w
 share-some links zero from to w k le e = cond-true _ _ _ (eq-eqb _ _ (same_at links from 0 k (omega arith) ∙ e))
 share-some links (suc n) from to w zero le e = cond-true _ _ _ (eq-eqb _ _ e)
 share-some links (suc n) from to w (suc k) le e = elim (cases_eq from to) [
-    inl s ↦ cond-true _ _ _ (eq-eqb _ _ s)
-  | inr ne ↦ cond-false _ _ _ (ne_eqb _ _ ne) ∙ share-some links n (onward links from) to w k (omega arith) (node_after-first links from k ∙ e) ]
+  | inl s ↦ cond-true _ _ _ (eq-eqb _ _ s)
+  | inr ne ↦ cond-false _ _ _ (ne_eqb _ _ ne) ∙ share-some links n (onward links from) to w k (omega arith) (node_after-first links from k ∙ e)
+]
 
 pub share-cases : (links : List ℕ) (n from to w : ℕ) → ((k : ℕ) × (k ≤ n) × (node_after links from k ≡ to)) ⊎ (share links n from to w ≡ 0)
 share-cases links zero from to w = elim (cases_eq from to) [
-    inl s ↦ inl (0, omega arith, s)
-  | inr ne ↦ inr (cond-false _ _ _ (ne_eqb _ _ ne)) ]
+  | inl s ↦ inl (0, omega arith, s)
+  | inr ne ↦ inr (cond-false _ _ _ (ne_eqb _ _ ne))
+]
 share-cases links (suc n) from to w = elim (cases_eq from to) [
-    inl s ↦ inl (0, omega arith, s)
+  | inl s ↦ inl (0, omega arith, s)
   | inr ne ↦ elim (share-cases links n (onward links from) to w) [
-        inl r ↦ inl (suc r.0, omega (arith, r.1), sym (node_after-first links from r.0) ∙ r.2)
-      | inr z ↦ inr (cond-false _ _ _ (ne_eqb _ _ ne) ∙ z) ] ]
+    | inl r ↦ inl (suc r.0, omega (arith, r.1), sym (node_after-first links from r.0) ∙ r.2)
+    | inr z ↦ inr (cond-false _ _ _ (ne_eqb _ _ ne) ∙ z)
+  ]
+]

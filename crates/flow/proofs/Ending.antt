@@ -1,5 +1,5 @@
 -- Where paths end.
-use Rattle.std.proofs.Common.{◌≡◌, ◌≢◌, ℕ, zero, suc, ◌+◌, ◌^◌, ◌<◌, ◌≤◌, inl, inr, List, length, get_or, set, sym, ap, refl, ◌∙◌, arith, add-one}
+use Rattle.std.proofs.Common.{◌≡◌, ◌≢◌, ℕ, zero, suc, ◌+◌, ◌<◌, inl, inr, List, length, get_or, set, sym, ap, refl, ◌∙◌, arith, add-one}
 use Rattle.std.proofs.lemmas.Bool.{cases_eq}
 use Rattle.std.proofs.lemmas.List.{get_or-set_same, get_or-set_other}
 use Rattle.std.proofs.Math.ListN.{length-set}
@@ -36,8 +36,9 @@ pub found_more : (links ends : List ℕ) (node end : ℕ) → AreFound links end
 found_more links ends node end f h e = record {
   size = length-set ends node end ∙ f.size;
   right = λ i l known. elim (cases_eq i node) [
-      inl s ↦ ap (λ n. get_or (set ends node end) n 0) s ∙ get_or-set_same ends node end 0 (omega (arith, f.size)) ∙ e ∙ sym (ap (end_of links) s)
-    | inr ne ↦ (let same = get_or-set_other ends node i end 0 ne in same ∙ f.right i l (λ u. known (same ∙ u))) ];
+    | inl s ↦ ap (λ n. get_or (set ends node end) n 0) s ∙ get_or-set_same ends node end 0 (omega (arith, f.size)) ∙ e ∙ sym (ap (end_of links) s)
+    | inr ne ↦ (let same = get_or-set_other ends node i end 0 ne in same ∙ f.right i l (λ u. known (same ∙ u)))
+  ];
 }
 
 pub known_same : (ends : List ℕ) (node end : ℕ) → node < length ends → end ≢ unknown_mark → IsKnown (set ends node end) node
@@ -45,8 +46,9 @@ known_same ends node end h ne e = ne (sym (get_or-set_same ends node end 0 h) �
 
 pub known_still : (ends : List ℕ) (node end : ℕ) → node < length ends → end ≢ unknown_mark → (i : ℕ) → IsKnown ends i → IsKnown (set ends node end) i
 known_still ends node end h ne i known = elim (cases_eq i node) [
-    inl s ↦ (λ e. known_same ends node end h ne (sym (ap (λ n. get_or (set ends node end) n 0) s) ∙ e))
-  | inr other ↦ (λ e. known (sym (get_or-set_other ends node i end 0 other) ∙ e)) ]
+  | inl s ↦ (λ e. known_same ends node end h ne (sym (ap (λ n. get_or (set ends node end) n 0) s) ∙ e))
+  | inr other ↦ (λ e. known (sym (get_or-set_other ends node i end 0 other) ∙ e))
+]
 
 pub ends_from : (links ends : List ℕ) → AreFound links ends → ((i : ℕ) → i < length links → IsKnown ends i) → AreEnds links ends
 ends_from links ends f known = record { size = f.size; each = λ i h. f.right i h (known i h) }

@@ -1,17 +1,17 @@
 -- Paths along the links of a tile are the parts of flow paths that stay in it.
-use Rattle.std.proofs.Common.{◌≡◌, ◌≢◌, ◌↔◌, ℕ, zero, suc, ◌+◌, ◌-◌, ◌*◌, ◌<◌, ◌≤◌, ◌⊎◌, inl, inr, true, false, List, length, get_or, sym, ap, subst, refl, ◌∙◌, arith}
-use Rattle.std.proofs.lemmas.Bool.{cases_eq, cases_lt, cases_Bool, and_from, and_parts, lt-ltb, le-leb, ltb-true, leb-true, cond-true, cond-false, false_from_ne_true}
+use Rattle.std.proofs.Common.{◌≡◌, ◌↔◌, ℕ, zero, suc, ◌<◌, ◌≤◌, ◌⊎◌, inl, inr, true, List, length, sym, ap, subst, refl, ◌∙◌, arith}
+use Rattle.std.proofs.lemmas.Bool.{cases_eq, cases_Bool, and_from, and_parts, lt-ltb, le-leb, ltb-true, leb-true, cond-true, cond-false, false_from_ne_true}
 use Rattle.ascii_grid.specs.declared.place.Place.{Place}
 use Rattle.tiles.specs.declared.bounds.Bounds.{Bounds}
-use Rattle.tiles.specs.Cutting.{Cutting, IsCutting, IsWithin, IsInTile, IsInBounds, AreBounds, tile_of_place}
+use Rattle.tiles.specs.Cutting.{Cutting, IsCutting, IsWithin, IsInTile, IsInBounds, AreBounds}
 use Rattle.tiles.proofs.TileOrder.{place_in_bounds, index_in_below, index_in-place_in, place_in-index_in}
-use Rattle.drain.specs.Following.{Directed, code_at, next, follow, moves, last_of, IsOutlet}
+use Rattle.drain.specs.Following.{Directed, next, follow, moves, last_of}
 use Rattle.drain.specs.Drained.{AllFlowEnds}
-use Rattle.flow.specs.Streams.{AreStreams, onward, node_after, end_of}
+use Rattle.flow.specs.Streams.{AreStreams, onward, node_after}
 use Rattle.flow.specs.TileFlow.{is_in_bounds}
 use Rattle.flow.specs.TileLinks.{place_in, index_in, link_in, AreTileLinks}
 use Rattle.flow.proofs.EarlyEnds.{IsStop, streams_from}
-use Rattle.flow.proofs.Coded.{IsCoded, cases_coded, none_stays, outlet_stays, coded_along, coded_inside}
+use Rattle.flow.proofs.Coded.{IsCoded, cases_coded, none_stays, outlet_stays, coded_inside}
 
 pub bounds_from_test : (b : Bounds) (p : Place) → is_in_bounds b p ≡ true → IsInBounds b p
 bounds_from_test b p h =
@@ -23,8 +23,9 @@ test_from_bounds b p h = and_from _ _ (and_from _ _ (and_from _ _ (le-leb _ _ h.
 
 pub cases_bounds : (b : Bounds) (p : Place) → IsInBounds b p ⊎ (IsInBounds b p → ⊥)
 cases_bounds b p = elim (cases_Bool (is_in_bounds b p)) [
-    inl t ↦ inl (bounds_from_test b p t)
-  | inr f ↦ inr (λ h. (let t = test_from_bounds b p h in absurd cc)) ]
+  | inl t ↦ inl (bounds_from_test b p t)
+  | inr f ↦ inr (λ h. (let t = test_from_bounds b p h in absurd cc))
+]
 
 pub link-in : (d : Directed) (b : Bounds) (i : ℕ) → IsInBounds b (next d (place_in b i)) → link_in d b i ≡ index_in b (next d (place_in b i))
 link-in d b i h = cond-true _ _ _ (test_from_bounds b _ h)
@@ -51,8 +52,9 @@ module _ (d : Directed) (c : Cutting) (tile : ℕ) (b : Bounds) (links : List �
 
   pub links_inside : (i : ℕ) → i < length links → onward links i < length links
   links_inside i h = elim (cases_bounds b (next d (place_in b i))) [
-      inl y ↦ omega (arith, link_is i h, link-in d b i y, index_in_below b (next d (place_in b i)) y, s.made.size)
-    | inr n ↦ omega (arith, link_is i h, link-out d b i n) ]
+    | inl y ↦ omega (arith, link_is i h, link-in d b i y, index_in_below b (next d (place_in b i)) y, s.made.size)
+    | inr n ↦ omega (arith, link_is i h, link-out d b i n)
+  ]
 
   pub node_inside : (i : ℕ) → i < length links → (k : ℕ) → node_after links i k < length links
   node_inside i h zero = h
@@ -86,8 +88,9 @@ module _ (d : Directed) (c : Cutting) (tile : ℕ) (b : Bounds) (links : List �
   way_on : (j m : ℕ) → ((l : ℕ) → l ≤ m → IsInBounds b (follow d (place_in b j) l)) → IsInBounds b (follow d (place_in b j) (suc m)) →
       (l : ℕ) → l ≤ suc m → IsInBounds b (follow d (place_in b j) l)
   way_on j m way more l le = elim (cases_eq l (suc m)) [
-      inl e ↦ subst (λ (n : ℕ). IsInBounds b (follow d (place_in b j) n)) (sym e) more
-    | inr ne ↦ way l (omega arith) ]
+    | inl e ↦ subst (λ (n : ℕ). IsInBounds b (follow d (place_in b j) n)) (sym e) more
+    | inr ne ↦ way l (omega arith)
+  ]
 
   pub tracks : (j : ℕ) → j < length links → (k : ℕ) → Tracks j k
   tracks j h zero = record {
@@ -100,17 +103,19 @@ module _ (d : Directed) (c : Cutting) (tile : ℕ) (b : Bounds) (links : List �
   tracks j h (suc k) =
       let t = tracks j h k in
       elim t.done [
-          inr stop ↦ stopped j k t stop
+        | inr stop ↦ stopped j k t stop
         | inl same ↦ elim (cases_bounds b (next d (place_in b (node_after links j k)))) [
-              inr out ↦ stopped j k t (link_is (node_after links j k) (node_inside j h k) ∙ link-out d b (node_after links j k) out)
-            | inl y ↦ (let on : next d (place_in b (node_after links j k)) ≡ follow d (place_in b j) (suc t.met) = ap (next d) t.here in
-                record {
-                  met = suc t.met;
-                  few = omega (arith, t.few);
-                  way = way_on j t.met t.way (subst (λ (q : Place). IsInBounds b q) on y);
-                  here = link_place (node_after links j k) (node_inside j h k) y ∙ on;
-                  done = inl (ap suc same);
-                }) ] ]
+          | inr out ↦ stopped j k t (link_is (node_after links j k) (node_inside j h k) ∙ link-out d b (node_after links j k) out)
+          | inl y ↦ (let on : next d (place_in b (node_after links j k)) ≡ follow d (place_in b j) (suc t.met) = ap (next d) t.here in
+              record {
+                met = suc t.met;
+                few = omega (arith, t.few);
+                way = way_on j t.met t.way (subst (λ (q : Place). IsInBounds b q) on y);
+                here = link_place (node_after links j k) (node_inside j h k) y ∙ on;
+                done = inl (ap suc same);
+              })
+        ]
+      ]
 
   -- while the flow path stays, the links follow it
   pub in_step : (j : ℕ) → j < length links → (k : ℕ) → ((l : ℕ) → l ≤ k → IsInBounds b (follow d (place_in b j) l)) →
@@ -123,12 +128,16 @@ module _ (d : Directed) (c : Cutting) (tile : ℕ) (b : Bounds) (links : List �
 
   pub stops : (j : ℕ) → j < length links → (k : ℕ) × IsStop links j k
   stops j h = elim (cases_coded d (place_in b j)) [
-      inl none ↦ (0, self_link j h (none_stays d (place_in b j) none))
+    | inl none ↦ (0, self_link j h (none_stays d (place_in b j) none))
     | inr is ↦ (let t = tracks j h (moves d) in elim t.done [
-          inr stop ↦ (moves d, stop)
-        | inl same ↦ (let last : place_in b (node_after links j (moves d)) ≡ last_of d (place_in b j) = t.here ∙ ap (follow d (place_in b j)) same in
-            (moves d, self_link (node_after links j (moves d)) (node_inside j h (moves d))
-              (ap (next d) last ∙ outlet_stays d (last_of d (place_in b j)) (s.ends (place_in b j) is.code is.is) ∙ sym last))) ]) ]
+      | inr stop ↦ (moves d, stop)
+      | inl same ↦ (let last : place_in b (node_after links j (moves d)) ≡ last_of d (place_in b j) = t.here ∙ ap (follow d (place_in b j)) same in (
+        moves d,
+        self_link (node_after links j (moves d)) (node_inside j h (moves d))
+            (ap (next d) last ∙ outlet_stays d (last_of d (place_in b j)) (s.ends (place_in b j) is.code is.is) ∙ sym last),
+      ))
+    ])
+  ]
 
   pub tile_streams : AreStreams links
   tile_streams = streams_from links links_inside stops

@@ -1,12 +1,11 @@
 -- The codes of a grid, joined from the flows of its tiles, and what is found along its links.
-use Rattle.std.proofs.Common.{◌≡◌, ◌≢◌, ℕ, ◌+◌, ◌-◌, ◌*◌, ◌^◌, ◌<◌, ◌≤◌, ◌⊎◌, Bool, true, false, not, ◌&&◌, ◌||◌, inl, inr, cond, eqb, List, map, length, get_or, set, Option, None, Some, is_some, IsSome, slice_get, sym, ap, subst, refl, ◌∙◌, arith, mul_comm}
+use Rattle.std.proofs.Common.{◌≡◌, ℕ, ◌+◌, ◌-◌, ◌*◌, ◌^◌, ◌<◌, ◌≤◌, ◌⊎◌, true, false, inl, inr, cond, List, length, get_or, set, Option, None, Some, is_some, sym, ap, subst, refl, ◌∙◌, arith, mul_comm}
 use Rattle.std.specs.Option.{option_and_then}
-use Rattle.std.specs.List.{range_with_len}
 use Rattle.std.proofs.Math.Nat.{mul-le-mul}
 use Rattle.std.proofs.lemmas.Bool.{cases_eq, cases_Bool, cases_lt, and_from, and_parts, and_left, and_right, or_cases, or_left, or_right, eq-eqb, ne_eqb, eqb-true, cond-true, cond-false, false_from_ne_true, not_from_true, not_from_false, not-true, false≢true}
 use Rattle.std.proofs.lemmas.List.{get_or-set_same, get_or-set_other}
 use Rattle.std.proofs.lemmas.List.FromFn.{get_or-map-range_with_len, length-map-range_with_len}
-use Rattle.std.proofs.lemmas.Option.{slice_get_cases, slice_get-get_or}
+use Rattle.std.proofs.lemmas.Option.{slice_get_cases}
 use Rattle.ascii_grid.specs.Neighbours.{entry_at, index_of}
 use Rattle.ascii_grid.specs.declared.place.Place.{Place}
 use Rattle.ascii_grid.proofs.Places.{entry-inside, entry-below, entry-beside}
@@ -15,23 +14,22 @@ use Rattle.tiles.specs.Cutting.{Cutting, IsCutting, IsWithin, AreBounds, IsInBou
 use Rattle.tiles.proofs.Cut.{places_from_value, tile_of_place_below}
 use Rattle.tiles.proofs.Quotients.{pieces_some}
 use Rattle.tiles.proofs.TileOrder.{index_in_below, place_in-index_in, place_in_bounds}
-use Rattle.drain.specs.Following.{Directed, code_at, next, follow, moves, last_of, IsOutlet}
+use Rattle.drain.specs.Following.{Directed, code_at, next, follow, last_of}
 use Rattle.drain.specs.Drained.{AllFlowEnds}
-use Rattle.flow.specs.Streams.{AreStreams, AreUpstream, AreEnds, onward, node_after, end_of, sum_below, share, total}
+use Rattle.flow.specs.Streams.{AreStreams, AreUpstream, AreEnds, onward, end_of, sum_below, share, total}
 use Rattle.flow.specs.TileFlow.{Flow, entry_in, AreTileFlows, IsExitCell, inflow_of}
-use Rattle.flow.specs.TileLinks.{place_in, index_in, AreTileCodes, AreTileLinks, AreTileWeights, links_by, weights_by}
+use Rattle.flow.specs.TileLinks.{place_in, index_in, AreTileLinks, AreTileWeights, links_by, weights_by}
 use Rattle.flow.specs.Crossing.{are_apart, crosses, crossing, AreInflows}
-use Rattle.flow.specs.Joining.{grid_bounds, code_in, codes_joined, AreGridCodes, AreGridStreams, is_exit, outlets_by}
+use Rattle.flow.specs.Joining.{grid_bounds, code_in, codes_joined, AreGridCodes, is_exit, outlets_by}
 use Rattle.flow.specs.Links.{Links, IsLinks, AreLinks}
 use Rattle.flow.proofs.Sums.{sum_below-few, sum_more}
 use Rattle.flow.proofs.Windows.{sum_below-split}
-use Rattle.flow.proofs.Ending.{end-inside}
 use Rattle.flow.proofs.EarlyEnds.{share-some, share-cases}
-use Rattle.flow.proofs.Coded.{IsCoded, coded_inside, coded_some, coded_from_some, outlet_from_stays, outlet_stays}
-use Rattle.flow.proofs.InTile.{IsPiece, tile_streams, link_place, self_link}
+use Rattle.flow.proofs.Coded.{IsCoded, coded_inside, coded_from_some, outlet_from_stays, outlet_stays}
+use Rattle.flow.proofs.InTile.{IsPiece, tile_streams, self_link}
 use Rattle.flow.proofs.Piece.{links_from, weights_from}
-use Rattle.flow.proofs.OneTile.{one_tile, whole_bounds, one_piece, whole_is}
-use Rattle.flow.proofs.Inflow.{way, along, few, inflow_is, inflow_few}
+use Rattle.flow.proofs.OneTile.{one_tile, one_piece, whole_is}
+use Rattle.flow.proofs.Inflow.{along, few, inflow_is, inflow_few}
 
 module _ (d : Directed) (t : Cutting) (codes : List (Option ℕ)) (g : AreGridCodes d t codes) where
   cut : IsCutting (one_tile t.cols t.rows)
@@ -44,8 +42,12 @@ module _ (d : Directed) (t : Cutting) (codes : List (Option ℕ)) (g : AreGridCo
   around =
       let h = g.cutting in
       record {
-        some_row = h.some_row; some_col = h.some_col; short_rows = h.few_rows; short_cols = h.few_cols;
-        rows_inside = omega arith; cols_inside = omega arith;
+        some_row = h.some_row;
+        some_col = h.some_col;
+        short_rows = h.few_rows;
+        short_cols = h.few_cols;
+        rows_inside = omega arith;
+        cols_inside = omega arith;
       }
 
   first : 0 < tile_count (one_tile t.cols t.rows)
@@ -91,14 +93,20 @@ module _ (d : Directed) (t : Cutting) (codes : List (Option ℕ)) (g : AreGridCo
 
     weight_le : (i : ℕ) → i < length links → get_or weights i 0 ≤ 1
     weight_le i h = elim (cases_Bool (is_some (code_at d (place_in (grid_bounds t) i)))) [
-        inl y ↦ omega (arith, grid_weights.each i (omega (arith, h, grid_size)), cond-true {A = ℕ} _ 1 0 y)
-      | inr f ↦ omega (arith, grid_weights.each i (omega (arith, h, grid_size)), cond-false {A = ℕ} _ 1 0 f) ]
+      | inl y ↦ omega (arith, grid_weights.each i (omega (arith, h, grid_size)), cond-true {A = ℕ} _ 1 0 y)
+      | inr f ↦ omega (arith, grid_weights.each i (omega (arith, h, grid_size)), cond-false {A = ℕ} _ 1 0 f)
+    ]
 
     pub grid_fits : (i : ℕ) → i < length links → total links weights i < 2 ^ 32
-    grid_fits i h = omega (arith, grid_few, sum_below-few (λ j. share links (length links) j i (get_or weights j 0)) (length links)
-        (λ j l. elim (share-cases links (length links) j i (get_or weights j 0)) [
-            inl r ↦ omega (arith, share-some links (length links) j i (get_or weights j 0) r.0 r.1 r.2, weight_le j l)
-          | inr z ↦ omega arith ]))
+    grid_fits i h = omega (
+      arith,
+      grid_few,
+      sum_below-few (λ j. share links (length links) j i (get_or weights j 0)) (length links)
+          (λ j l. elim (share-cases links (length links) j i (get_or weights j 0)) [
+            | inl r ↦ omega (arith, share-some links (length links) j i (get_or weights j 0) r.0 r.1 r.2, weight_le j l)
+            | inr z ↦ omega arith
+          ]),
+    )
 
     pub crossing_fits : (came : List ℕ) → AreUpstream links weights came → (i : ℕ) → i < length links → sum_below (crossing t (grid_bounds t) links weights came i) (length links) < 2 ^ 32
     crossing_fits came up i h = omega (arith, grid_few, inflow_few d t t.cols t.rows links weights grid_piece grid_weights came up i h)
@@ -125,11 +133,14 @@ module _ (d : Directed) (t : Cutting) (codes : List (Option ℕ)) (g : AreGridCo
         let is = coded_from_some d p some in
         let there = subst (λ (q : Place). IsCoded d q) (sym at) is in
         let on : place_in (grid_bounds t) (onward links (index_in (grid_bounds t) p)) ≡ next d p =
-          along d t t.cols t.rows links weights grid_piece grid_weights (index_in (grid_bounds t) p) i there 1 ∙ ap (next d) at in
-        (some, elim (or_cases _ _ x.1) [
-            inl e ↦ inl (outlet_from_stays d g.ends p is (sym on ∙ ap (place_in (grid_bounds t)) (eqb-true _ _ e) ∙ at))
-          | inr apart ↦ inr (λ same. (let f = not-true _ apart in
-              let y = eq-eqb _ _ (ap (tile_of_place t) at ∙ sym same ∙ sym (ap (tile_of_place t) on)) in false≢true (sym f ∙ y))) ])
+        along d t t.cols t.rows links weights grid_piece grid_weights (index_in (grid_bounds t) p) i there 1 ∙ ap (next d) at in (
+          some,
+          elim (or_cases _ _ x.1) [
+            | inl e ↦ inl (outlet_from_stays d g.ends p is (sym on ∙ ap (place_in (grid_bounds t)) (eqb-true _ _ e) ∙ at))
+            | inr apart ↦ inr (λ same. (let f = not-true _ apart in
+                let y = eq-eqb _ _ (ap (tile_of_place t) at ∙ sym same ∙ sym (ap (tile_of_place t) on)) in false≢true (sym f ∙ y)))
+          ],
+        )
 
     exit_test : (p : Place) → IsInBounds (grid_bounds t) p → IsExitCell d t p → is_exit t codes links (index_in (grid_bounds t) p) ≡ true
     exit_test p h e =
@@ -138,10 +149,11 @@ module _ (d : Directed) (t : Cutting) (codes : List (Option ℕ)) (g : AreGridCo
         let is = coded_from_some d p e.0 in
         let there = subst (λ (q : Place). IsCoded d q) (sym at) is in
         let on : place_in (grid_bounds t) (onward links (index_in (grid_bounds t) p)) ≡ next d p =
-          along d t t.cols t.rows links weights grid_piece grid_weights (index_in (grid_bounds t) p) i there 1 ∙ ap (next d) at in
+        along d t t.cols t.rows links weights grid_piece grid_weights (index_in (grid_bounds t) p) i there 1 ∙ ap (next d) at in
         and_from _ _ (ap is_some (code_here p h) ∙ e.0) (elim e.1 [
-            inl out ↦ or_left _ _ (eq-eqb _ _ (self_link d (one_tile t.cols t.rows) 0 (grid_bounds t) links grid_piece (index_in (grid_bounds t) p) i (ap (next d) at ∙ outlet_stays d p out ∙ sym at)))
-          | inr far ↦ or_right _ _ (not_from_false _ (ne_eqb _ _ (λ same. far (sym (ap (tile_of_place t) on) ∙ sym same ∙ ap (tile_of_place t) at)))) ])
+          | inl out ↦ or_left _ _ (eq-eqb _ _ (self_link d (one_tile t.cols t.rows) 0 (grid_bounds t) links grid_piece (index_in (grid_bounds t) p) i (ap (next d) at ∙ outlet_stays d p out ∙ sym at)))
+          | inr far ↦ or_right _ _ (not_from_false _ (ne_eqb _ _ (λ same. far (sym (ap (tile_of_place t) on) ∙ sym same ∙ ap (tile_of_place t) at))))
+        ])
 
     last_is : (p : Place) → IsInBounds (grid_bounds t) p → IsCoded d p → place_in (grid_bounds t) (end_of links (index_in (grid_bounds t) p)) ≡ last_of d p
     last_is p h is =
@@ -200,12 +212,14 @@ module _ (d : Directed) (t : Cutting) (codes : List (Option ℕ)) (g : AreGridCo
 
       no_outlet_here : (p : Place) → (IsExitCell d t p → ⊥) → entry_at t.cols t.rows (outlets_by t codes links ends) p ≡ None
       no_outlet_here p out = elim (cases_lt p.row t.rows) [
-          inr far ↦ entry-below t.cols t.rows (outlets_by t codes links ends) p far
+        | inr far ↦ entry-below t.cols t.rows (outlets_by t codes links ends) p far
         | inl r ↦ elim (cases_lt p.col t.cols) [
-              inr far ↦ entry-beside t.cols t.rows (outlets_by t codes links ends) p far
-            | inl k ↦ outlet_entry p (r, k)
-                ∙ cond-false _ (Some (place_in (grid_bounds t) (get_or ends (index_in (grid_bounds t) p) 0))) None
-                  (false_from_ne_true _ (λ y. out (exit_from p (within p (r, k)) y))) ] ]
+          | inr far ↦ entry-beside t.cols t.rows (outlets_by t codes links ends) p far
+          | inl k ↦ outlet_entry p (r, k)
+              ∙ cond-false _ (Some (place_in (grid_bounds t) (get_or ends (index_in (grid_bounds t) p) 0))) None
+              (false_from_ne_true _ (λ y. out (exit_from p (within p (r, k)) y)))
+        ]
+      ]
 
       pub links_are : AreLinks d t joined
       links_are = record { cutting = refl; inflows = inflow_here; outlets = outlet_here; no_outlets = no_outlet_here }
@@ -223,25 +237,28 @@ pub crossed_more : (t : Cutting) (b : Bounds) (links weights came inflows : List
     (i : ℕ) → i < length links →
     get_or (set inflows (get_or links node 0) (get_or inflows (get_or links node 0) 0 + (get_or came node 0 + get_or weights node 0))) i 0 ≡ sum_below (crossing t b links weights came i) (node + 1)
 crossed_more t b links weights came inflows node size at ne apart so_far i l = elim (cases_eq i (get_or links node 0)) [
-    inl e ↦ (let on : crosses t b links node i ≡ true =
-        and_from _ _ (and_from _ _ (eq-eqb _ _ (sym e)) (not_from_false _ (ne_eqb _ _ (λ z. ne (sym e ∙ sym z))))) (ap (are_apart t b node) e ∙ apart) in
+  | inl e ↦ (let on : crosses t b links node i ≡ true =
+      and_from _ _ (and_from _ _ (eq-eqb _ _ (sym e)) (not_from_false _ (ne_eqb _ _ (λ z. ne (sym e ∙ sym z))))) (ap (are_apart t b node) e ∙ apart) in
       ap (λ n. get_or (set inflows (get_or links node 0) (get_or inflows (get_or links node 0) 0 + (get_or came node 0 + get_or weights node 0))) n 0) e
       ∙ get_or-set_same inflows (get_or links node 0) (get_or inflows (get_or links node 0) 0 + (get_or came node 0 + get_or weights node 0)) 0 (omega (arith, at, size))
       ∙ ap (λ n. get_or inflows n 0 + (get_or came node 0 + get_or weights node 0)) (sym e)
       ∙ omega (arith, so_far i l, crossing_on t b links weights came i node on, sum_more (crossing t b links weights came i) node))
   | inr other ↦ (let off : crosses t b links node i ≡ false = and_left _ _ (and_left _ _ (ne_eqb _ _ (λ z. other (sym z)))) in
       get_or-set_other inflows (get_or links node 0) i (get_or inflows (get_or links node 0) 0 + (get_or came node 0 + get_or weights node 0)) 0 other
-      ∙ omega (arith, so_far i l, crossing_off t b links weights came i node off, sum_more (crossing t b links weights came i) node)) ]
+      ∙ omega (arith, so_far i l, crossing_off t b links weights came i node off, sum_more (crossing t b links weights came i) node))
+]
 
 pub crossed_still : (t : Cutting) (b : Bounds) (links weights came inflows : List ℕ) (node : ℕ) →
     (get_or links node 0 ≡ node) ⊎ (are_apart t b node (get_or links node 0) ≡ false) →
     ((i : ℕ) → i < length links → get_or inflows i 0 ≡ sum_below (crossing t b links weights came i) node) →
     (i : ℕ) → i < length links → get_or inflows i 0 ≡ sum_below (crossing t b links weights came i) (node + 1)
 crossed_still t b links weights came inflows node still so_far i l = elim (cases_eq (get_or links node 0) i) [
-    inr ne ↦ omega (arith, so_far i l, crossing_off t b links weights came i node (and_left _ _ (and_left _ _ (ne_eqb _ _ ne))), sum_more (crossing t b links weights came i) node)
+  | inr ne ↦ omega (arith, so_far i l, crossing_off t b links weights came i node (and_left _ _ (and_left _ _ (ne_eqb _ _ ne))), sum_more (crossing t b links weights came i) node)
   | inl e ↦ elim still [
-        inl s ↦ omega (arith, so_far i l, crossing_off t b links weights came i node (and_left _ _ (and_right _ _ (not_from_true _ (eq-eqb _ _ (sym s ∙ e))))), sum_more (crossing t b links weights came i) node)
-      | inr f ↦ omega (arith, so_far i l, crossing_off t b links weights came i node (and_right _ _ (sym (ap (are_apart t b node) e) ∙ f)), sum_more (crossing t b links weights came i) node) ] ]
+    | inl s ↦ omega (arith, so_far i l, crossing_off t b links weights came i node (and_left _ _ (and_right _ _ (not_from_true _ (eq-eqb _ _ (sym s ∙ e))))), sum_more (crossing t b links weights came i) node)
+    | inr f ↦ omega (arith, so_far i l, crossing_off t b links weights came i node (and_right _ _ (sym (ap (are_apart t b node) e) ∙ f)), sum_more (crossing t b links weights came i) node)
+  ]
+]
 
 -- the codes of the flows are those of the map of directions
 pub codes_from : (d : Directed) (t : Cutting) (flows : List Flow) → IsCutting t → AllFlowEnds d → AreTileFlows d t flows → AreGridCodes d t (codes_joined t flows)
@@ -253,14 +270,15 @@ codes_from d t flows h ends f = record {
   codes = record {
     size = length-map-range_with_len (λ i. code_in t flows (place_in (grid_bounds t) i)) 0 (t.rows * t.cols);
     each = λ i l. get_or-map-range_with_len (λ i. code_in t flows (place_in (grid_bounds t) i)) 0 (t.rows * t.cols) i i None l (omega arith) ∙ code_of_flow d t flows h f (place_in (grid_bounds t) i)
-      (let w = place_in_bounds (grid_bounds t) i h.some_col l in (omega (arith, w.1), omega (arith, w.3)));
+        (let w = place_in_bounds (grid_bounds t) i h.some_col l in (omega (arith, w.1), omega (arith, w.3)));
   };
 }
   where
     code_of_flow : (d : Directed) (t : Cutting) (flows : List Flow) → IsCutting t → AreTileFlows d t flows → (p : Place) → IsWithin t p → code_in t flows p ≡ code_at d p
     code_of_flow d t flows h f p w = elim (slice_get_cases flows (tile_of_place t p)).1 [
-        inl r ↦ ap (λ (o : Option Flow). option_and_then (λ (x : Flow). entry_in x.bounds x.codes p) o) r.2 ∙ (f.each (tile_of_place t p) r.0 r.2).same_codes p (w, refl)
-      | inr r ↦ absurd (omega (arith, tile_of_place_below t p h w, f.count, r.0)) ]
+      | inl r ↦ ap (λ (o : Option Flow). option_and_then (λ (x : Flow). entry_in x.bounds x.codes p) o) r.2 ∙ (f.each (tile_of_place t p) r.0 r.2).same_codes p (w, refl)
+      | inr r ↦ absurd (omega (arith, tile_of_place_below t p h w, f.count, r.0))
+    ]
 
 sum_below-part : (f : ℕ → ℕ) (k n : ℕ) → k ≤ n → sum_below f k ≤ sum_below f n
 sum_below-part f k n le =
@@ -275,6 +293,12 @@ pub crossed_fits : (t : Cutting) (b : Bounds) (links weights came inflows : List
     get_or inflows (get_or links node 0) 0 + (get_or came node 0 + get_or weights node 0) < 2 ^ 32
 crossed_fits t b links weights came inflows node h at ne apart few so_far =
     let on : crosses t b links node (get_or links node 0) ≡ true =
-      and_from _ _ (and_from _ _ (eq-eqb _ _ refl) (not_from_false _ (ne_eqb _ _ (λ z. ne (sym z))))) apart in
-    omega (arith, so_far (get_or links node 0) at, crossing_on t b links weights came (get_or links node 0) node on, sum_more (crossing t b links weights came (get_or links node 0)) node,
-      sum_below-part (crossing t b links weights came (get_or links node 0)) (node + 1) (length links) (omega arith), few (get_or links node 0) at)
+    and_from _ _ (and_from _ _ (eq-eqb _ _ refl) (not_from_false _ (ne_eqb _ _ (λ z. ne (sym z))))) apart in
+    omega (
+      arith,
+      so_far (get_or links node 0) at,
+      crossing_on t b links weights came (get_or links node 0) node on,
+      sum_more (crossing t b links weights came (get_or links node 0)) node,
+      sum_below-part (crossing t b links weights came (get_or links node 0)) (node + 1) (length links) (omega arith),
+      few (get_or links node 0) at,
+    )

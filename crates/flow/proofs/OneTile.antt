@@ -1,10 +1,10 @@
 -- A grid that is one tile: what flows through a cell is its accumulation, and its exit ends its flow path.
-use Rattle.std.proofs.Common.{◌≡◌, ◌≢◌, ℕ, ◌+◌, ◌-◌, ◌*◌, ◌/◌, ◌%◌, ◌<◌, ◌≤◌, min, Bool, true, false, not, ◌&&◌, inl, inr, cond, List, length, get_or, map, count_by, take, Option, None, Some, is_some, MatchOption, sym, ap, subst, refl, ◌∙◌, arith, mul_comm}
+use Rattle.std.proofs.Common.{◌≡◌, ℕ, ◌+◌, ◌-◌, ◌*◌, ◌/◌, ◌%◌, ◌<◌, ◌≤◌, min, true, false, not, ◌&&◌, inl, inr, cond, List, length, get_or, count_by, take, Option, None, Some, is_some, sym, ap, subst, ◌∙◌, arith, mul_comm}
 use Rattle.std.specs.Int.{div_ceil}
-use Rattle.std.specs.List.{range_with_len, sum_by}
+use Rattle.std.specs.List.{sum_by}
 use Rattle.std.proofs.Math.Nat.{zero-div, zero-mod, mul-le-mul}
 use Rattle.std.proofs.lemmas.Nat.{div-add-mod'}
-use Rattle.std.proofs.lemmas.Bool.{cases_Bool, cases_lt, and_from, and_parts, and_left, and_right, cond-true, cond-false, false_from_ne_true}
+use Rattle.std.proofs.lemmas.Bool.{cases_Bool, cases_lt, and_from, and_parts, and_left, cond-false, false_from_ne_true}
 use Rattle.std.proofs.lemmas.List.Sums.{sum_by-le-sum_by}
 use Rattle.std.proofs.lemmas.List.FromFn.{get_or-map-range_with_len, length-map-range_with_len}
 use Rattle.ascii_grid.specs.Neighbours.{entry_at, index_of}
@@ -15,10 +15,10 @@ use Rattle.tiles.specs.declared.bounds.Bounds.{Bounds}
 use Rattle.tiles.specs.Cutting.{Cutting, IsCutting, View, IsView, AreBounds, IsInBounds, tile_count, across, down, bounds_of}
 use Rattle.tiles.proofs.TileOrder.{place_in_bounds, place_in-index_in, index_in_below}
 use Rattle.tiles.proofs.Quotients.{piece_begins, pieces_some}
-use Rattle.drain.specs.Following.{Directed, code_at, follow, moves, last_of}
+use Rattle.drain.specs.Following.{code_at, follow, moves, last_of}
 use Rattle.flow.specs.Counts.{is_place, drains_through, accumulation, basin, IsMapOf}
 use Rattle.flow.specs.Streams.{AreUpstream, AreEnds, node_after, end_of}
-use Rattle.flow.specs.TileFlow.{directed_by, stays, reaches_inside, through_of, entry_in}
+use Rattle.flow.specs.TileFlow.{stays, reaches_inside, through_of}
 use Rattle.flow.specs.TileLinks.{place_in, index_in, AreTileCodes, links_by, weights_by, where_data, through_by}
 use Rattle.flow.specs.Whole.{make_directed, IsGridFlow, is_outlet_code, outlet_numbers_by, basins_by}
 use Rattle.flow.proofs.Ranges.{some_in_range, any_in_range}
@@ -39,8 +39,9 @@ whole_view cols rows codes = record { cutting = one_tile cols rows; tile = 0; ce
 
 pub one_piece : (n : ℕ) → n ≤ 4096 → div_ceil n 4096 ≤ 1
 one_piece n le = elim (cases_lt 1 (div_ceil n 4096)) [
-    inl l ↦ absurd (let begins = piece_begins n 4096 1 (omega arith) l in omega (arith, begins))
-  | inr g ↦ g ]
+  | inl l ↦ absurd (let begins = piece_begins n 4096 1 (omega arith) l in omega (arith, begins))
+  | inr g ↦ g
+]
 
 pub make_whole : ℕ → ℕ → ℕ → ℕ → Bounds
 make_whole top left rows cols = record { top = top; left = left; rows = rows; cols = cols }
@@ -75,8 +76,12 @@ module _ (cols rows : ℕ) (codes : List (Option ℕ)) (s : IsGridFlow cols rows
 
   around : AreBounds (one_tile cols rows) (whole_bounds cols rows)
   around = record {
-    some_row = s.some_row; some_col = s.some_col; short_rows = s.few_rows; short_cols = s.few_cols;
-    rows_inside = omega arith; cols_inside = omega arith;
+    some_row = s.some_row;
+    some_col = s.some_col;
+    short_rows = s.few_rows;
+    short_cols = s.few_cols;
+    rows_inside = omega arith;
+    cols_inside = omega arith;
   }
 
   pub at_inside : (i : ℕ) → i < rows * cols → ((place_in (whole_bounds cols rows) i).row < rows) × ((place_in (whole_bounds cols rows) i).col < cols)
@@ -92,7 +97,7 @@ module _ (cols rows : ℕ) (codes : List (Option ℕ)) (s : IsGridFlow cols rows
   coded = record {
     size = s.size ∙ mul_comm cols rows;
     each = λ i h. sym (entry-inside cols rows codes (place_in (whole_bounds cols rows) i) (at_inside i h).0 (at_inside i h).1
-      ∙ ap (λ n. get_or codes n None) (index_at i));
+        ∙ ap (λ n. get_or codes n None) (index_at i));
   }
 
   pub whole_lists : (links weights : List ℕ) → links ≡ links_by (whole_bounds cols rows) codes → weights ≡ weights_by codes →
@@ -128,11 +133,12 @@ module _ (cols rows : ℕ) (codes : List (Option ℕ)) (s : IsGridFlow cols rows
     reach_same : (p q : Place) → IsCoded (make_directed cols rows codes) q →
         reaches_inside (make_directed cols rows codes) (one_tile cols rows) p q ≡ drains_through (make_directed cols rows codes) p q
     reach_same p q is = elim (cases_Bool (drains_through (make_directed cols rows codes) p q)) [
-        inl t ↦ (let r = some_in_range (λ k. is_place p (follow (make_directed cols rows codes) q k)) (moves (make_directed cols rows codes)) t in
+      | inl t ↦ (let r = some_in_range (λ k. is_place p (follow (make_directed cols rows codes) q k)) (moves (make_directed cols rows codes)) t in
           any_in_range (λ k. is_place p (follow (make_directed cols rows codes) q k) && stays (make_directed cols rows codes) (one_tile cols rows) q k) (moves (make_directed cols rows codes)) r.0 r.1
-            (and_from _ _ r.2 (stays_from_way (make_directed cols rows codes) (one_tile cols rows) 0 (whole_bounds cols rows) links (piece _ _ _ _ _ lists) q r.0 (λ l le. way q is l)))
+          (and_from _ _ r.2 (stays_from_way (make_directed cols rows codes) (one_tile cols rows) 0 (whole_bounds cols rows) links (piece _ _ _ _ _ lists) q r.0 (λ l le. way q is l)))
           ∙ sym t)
-      | inr f ↦ false_from_ne_true _ (reach_not p q f) ∙ sym f ]
+      | inr f ↦ false_from_ne_true _ (reach_not p q f) ∙ sym f
+    ]
       where
         reach_not : (p q : Place) → drains_through (make_directed cols rows codes) p q ≡ false → reaches_inside (make_directed cols rows codes) (one_tile cols rows) p q ≡ true → ⊥
         reach_not p q f t =
@@ -145,8 +151,9 @@ module _ (cols rows : ℕ) (codes : List (Option ℕ)) (s : IsGridFlow cols rows
         cond {A = ℕ} (is_some (code_at (make_directed cols rows codes) q) && not (is_place p q) && reaches_inside (make_directed cols rows codes) (one_tile cols rows) p q) 1 0
         ≡ cond {A = ℕ} (is_some (code_at (make_directed cols rows codes) q) && not (is_place p q) && drains_through (make_directed cols rows codes) p q) 1 0
     counted_same p q = elim (cases_Bool (is_some (code_at (make_directed cols rows codes) q))) [
-        inl t ↦ ap (λ x. cond {A = ℕ} (is_some (code_at (make_directed cols rows codes) q) && not (is_place p q) && x) 1 0) (reach_same p q (coded_from_some (make_directed cols rows codes) q t))
-      | inr f ↦ cond-false {A = ℕ} _ 1 0 (and_left _ _ (and_left _ _ f)) ∙ sym (cond-false {A = ℕ} _ 1 0 (and_left _ _ (and_left _ _ f))) ]
+      | inl t ↦ ap (λ x. cond {A = ℕ} (is_some (code_at (make_directed cols rows codes) q) && not (is_place p q) && x) 1 0) (reach_same p q (coded_from_some (make_directed cols rows codes) q t))
+      | inr f ↦ cond-false {A = ℕ} _ 1 0 (and_left _ _ (and_left _ _ f)) ∙ sym (cond-false {A = ℕ} _ 1 0 (and_left _ _ (and_left _ _ f)))
+    ]
 
     pub through_whole : (p : Place) → through_of (make_directed cols rows codes) (one_tile cols rows) p ≡ accumulation (make_directed cols rows codes) p
     through_whole p = same_sum _ _ (places cols rows) (counted_same p)
@@ -155,11 +162,12 @@ module _ (cols rows : ℕ) (codes : List (Option ℕ)) (s : IsGridFlow cols rows
     accumulations_are came up = record {
       size = length-map-range_with_len (λ i. where_data (get_or codes i None) (get_or came i 0)) 0 (length codes) ∙ s.size;
       each = λ p i. (let h = in_whole p i.0 i.1 in
-        let at = entry_whole (through_by codes came) p i.0 i.1 ∙ sym (entry_is _ _ _ _ _ lists (through_by codes came) p h) ∙ through_is _ _ _ _ _ lists came up p h in
-        elim (cases_coded (make_directed cols rows codes) p) [
-            inl none ↦ match_none (code_at (make_directed cols rows codes) p) _ _ none (at ∙ ap (λ o. where_data o (get_or came (index_in (whole_bounds cols rows) p) 0)) none)
-          | inr is ↦ match_some (code_at (make_directed cols rows codes) p) _ _ is.code is.is
-              (at ∙ ap (λ o. where_data o (get_or came (index_in (whole_bounds cols rows) p) 0)) is.is ∙ ap Some (count_of _ _ _ _ _ lists came up p h is ∙ through_whole p)) ]);
+          let at = entry_whole (through_by codes came) p i.0 i.1 ∙ sym (entry_is _ _ _ _ _ lists (through_by codes came) p h) ∙ through_is _ _ _ _ _ lists came up p h in
+          elim (cases_coded (make_directed cols rows codes) p) [
+            | inl none ↦ match_none (code_at (make_directed cols rows codes) p) _ _ none (at ∙ ap (λ o. where_data o (get_or came (index_in (whole_bounds cols rows) p) 0)) none)
+            | inr is ↦ match_some (code_at (make_directed cols rows codes) p) _ _ is.code is.is
+                (at ∙ ap (λ o. where_data o (get_or came (index_in (whole_bounds cols rows) p) 0)) is.is ∙ ap Some (count_of _ _ _ _ _ lists came up p h is ∙ through_whole p))
+          ]);
     }
 
     -- the index of the cell at which a flow path ends
@@ -171,7 +179,7 @@ module _ (cols rows : ℕ) (codes : List (Option ℕ)) (s : IsGridFlow cols rows
         let i : index_in (whole_bounds cols rows) p < length links = omega (arith, index_in_below (whole_bounds cols rows) p h, sizes _ _ _ _ _ lists, coded.size) in
         let there = subst (λ (q : Place). IsCoded (make_directed cols rows codes) q) (sym at) is in
         let step = in_step (make_directed cols rows codes) (one_tile cols rows) 0 (whole_bounds cols rows) links (piece _ _ _ _ _ lists) (index_in (whole_bounds cols rows) p) i (moves (make_directed cols rows codes))
-          (λ l le. way (place_in (whole_bounds cols rows) (index_in (whole_bounds cols rows) p)) there l) in
+        (λ l le. way (place_in (whole_bounds cols rows) (index_in (whole_bounds cols rows) p)) there l) in
         let few : moves (make_directed cols rows codes) ≡ length links = omega (arith, sizes _ _ _ _ _ lists, s.size) in
         sym (ap (λ (q : Place). index_of cols (last_of (make_directed cols rows codes) q)) at)
         ∙ sym (ap (index_of cols) step)
@@ -183,22 +191,23 @@ module _ (cols rows : ℕ) (codes : List (Option ℕ)) (s : IsGridFlow cols rows
     basins_are ends numbers last made = record {
       size = length-map-range_with_len (λ i. where_data (get_or codes i None) (get_or numbers (get_or ends i 0) 0)) 0 (length codes) ∙ s.size;
       each = λ p i. (let h = in_whole p i.0 i.1 in
-        let j = index_in (whole_bounds cols rows) p in
-        let below : index_in (whole_bounds cols rows) p < length codes = omega (arith, index_in_below (whole_bounds cols rows) p h, coded.size) in
-        let own : get_or codes (index_in (whole_bounds cols rows) p) None ≡ code_at (make_directed cols rows codes) p = sym (entry_whole codes p i.0 i.1) in
-        let at = entry_whole (basins_by codes ends numbers) p i.0 i.1
+          let j = index_in (whole_bounds cols rows) p in
+          let below : index_in (whole_bounds cols rows) p < length codes = omega (arith, index_in_below (whole_bounds cols rows) p h, coded.size) in
+          let own : get_or codes (index_in (whole_bounds cols rows) p) None ≡ code_at (make_directed cols rows codes) p = sym (entry_whole codes p i.0 i.1) in
+          let at = entry_whole (basins_by codes ends numbers) p i.0 i.1
           ∙ get_or-map-range_with_len (λ i. where_data (get_or codes i None) (get_or numbers (get_or ends i 0) 0)) 0 (length codes) (index_in (whole_bounds cols rows) p) (index_in (whole_bounds cols rows) p) None below (omega arith)
           ∙ ap (λ o. where_data o (get_or numbers (get_or ends (index_in (whole_bounds cols rows) p) 0) 0)) own in
-        elim (cases_coded (make_directed cols rows codes) p) [
-            inl none ↦ match_none (code_at (make_directed cols rows codes) p) _ _ none (at ∙ ap (λ o. where_data o (get_or numbers (get_or ends (index_in (whole_bounds cols rows) p) 0) 0)) none)
-          | inr is ↦ (let k : index_in (whole_bounds cols rows) p < length links = omega (arith, below, sizes _ _ _ _ _ lists) in
-              let end : get_or ends (index_in (whole_bounds cols rows) p) 0 ≡ index_of cols (last_of (make_directed cols rows codes) p) =
+          elim (cases_coded (make_directed cols rows codes) p) [
+            | inl none ↦ match_none (code_at (make_directed cols rows codes) p) _ _ none (at ∙ ap (λ o. where_data o (get_or numbers (get_or ends (index_in (whole_bounds cols rows) p) 0) 0)) none)
+            | inr is ↦ (let k : index_in (whole_bounds cols rows) p < length links = omega (arith, below, sizes _ _ _ _ _ lists) in
+                let end : get_or ends (index_in (whole_bounds cols rows) p) 0 ≡ index_of cols (last_of (make_directed cols rows codes) p) =
                 last.each (index_in (whole_bounds cols rows) p) k ∙ sym (last_index p i.0 i.1 is) in
-              let inside : index_of cols (last_of (make_directed cols rows codes) p) < length codes =
+                let inside : index_of cols (last_of (make_directed cols rows codes) p) < length codes =
                 omega (arith, last_index p i.0 i.1 is, end-inside links (streams _ _ _ _ _ lists) (index_in (whole_bounds cols rows) p) k, sizes _ _ _ _ _ lists) in
-              let number : get_or numbers (get_or ends (index_in (whole_bounds cols rows) p) 0) 0 ≡ basin (make_directed cols rows codes) p =
+                let number : get_or numbers (get_or ends (index_in (whole_bounds cols rows) p) 0) 0 ≡ basin (make_directed cols rows codes) p =
                 ap (λ n. get_or numbers n 0) end ∙ ap (λ xs. get_or xs (index_of cols (last_of (make_directed cols rows codes) p)) 0) made
                 ∙ get_or-map-range_with_len (λ i. 1 + count_by is_outlet_code (take i codes)) 0 (length codes) (index_of cols (last_of (make_directed cols rows codes) p)) (index_of cols (last_of (make_directed cols rows codes) p)) 0 inside (omega arith) in
-              match_some (code_at (make_directed cols rows codes) p) _ _ is.code is.is
-                (at ∙ ap (λ o. where_data o (get_or numbers (get_or ends (index_in (whole_bounds cols rows) p) 0) 0)) is.is ∙ ap Some number)) ]);
+                match_some (code_at (make_directed cols rows codes) p) _ _ is.code is.is
+                (at ∙ ap (λ o. where_data o (get_or numbers (get_or ends (index_in (whole_bounds cols rows) p) 0) 0)) is.is ∙ ap Some number))
+          ]);
     }

@@ -1,21 +1,20 @@
 -- The flow of a tile, of the lists that are made for it.
-use Rattle.std.proofs.Common.{◌≡◌, ℕ, ◌+◌, ◌-◌, ◌*◌, ◌^◌, ◌<◌, ◌≤◌, inl, inr, true, List, map, length, get_or, Option, None, Some, is_some, MatchOption, cond, sym, ap, subst, refl, ◌∙◌, arith, mul_comm}
+use Rattle.std.proofs.Common.{◌≡◌, ℕ, ◌*◌, ◌^◌, ◌<◌, ◌≤◌, inl, inr, true, List, length, get_or, Option, None, Some, is_some, MatchOption, cond, sym, ap, subst, refl, ◌∙◌, arith}
 use Rattle.std.proofs.Math.Nat.{mul-le-mul}
-use Rattle.std.specs.List.{range_with_len}
 use Rattle.std.proofs.lemmas.Bool.{cond-true, cond-false, cases_Bool}
 use Rattle.std.proofs.Math.ListN.{length-map}
 use Rattle.std.proofs.lemmas.List.{get_or-map}
 use Rattle.std.proofs.lemmas.List.FromFn.{get_or-map-range_with_len, length-map-range_with_len}
 use Rattle.ascii_grid.specs.declared.place.Place.{Place}
 use Rattle.tiles.specs.declared.bounds.Bounds.{Bounds}
-use Rattle.tiles.specs.Cutting.{View, IsView, AreBounds, IsInTile, IsInBounds, bounds_of}
+use Rattle.tiles.specs.Cutting.{View, IsView, AreBounds, IsInBounds, bounds_of}
 use Rattle.tiles.proofs.Cut.{places_from_value}
 use Rattle.tiles.proofs.TileOrder.{index_in_below, place_in-index_in}
 use Rattle.drain.specs.Following.{Directed, code_at}
 use Rattle.drain.specs.Drained.{AllFlowEnds}
-use Rattle.flow.specs.Streams.{AreStreams, AreUpstream, AreEnds, sum_below, share, total, end_of}
+use Rattle.flow.specs.Streams.{AreStreams, AreUpstream, AreEnds, share, total}
 use Rattle.flow.specs.TileFlow.{directed_by, entry_in, through_of, IsExitOf, Flow, IsFlow, IsTileFlow}
-use Rattle.flow.specs.TileLinks.{place_in, index_in, link_in, link_by, weight_in, AreTileCodes, AreTileLinks, AreTileWeights, IsSmall, links_by, weights_by, where_data, through_by, exits_by}
+use Rattle.flow.specs.TileLinks.{place_in, index_in, link_by, AreTileCodes, AreTileLinks, AreTileWeights, IsSmall, links_by, weights_by, where_data, through_by, exits_by}
 use Rattle.flow.proofs.Sums.{sum_below-few}
 use Rattle.flow.proofs.Ending.{end-inside}
 use Rattle.flow.proofs.EarlyEnds.{share-some, share-cases}
@@ -38,7 +37,7 @@ pub weights_from : (d : Directed) (b : Bounds) (cells : List (Option ℕ)) → A
 weights_from d b cells codes = record {
   size = length-map cells (λ (code : Option ℕ). cond {A = ℕ} (is_some code) 1 0) ∙ codes.size;
   each = λ i h. get_or-map (λ (code : Option ℕ). cond {A = ℕ} (is_some code) 1 0) cells i None 0 (omega (arith, codes.size))
-    ∙ ap (λ (code : Option ℕ). cond {A = ℕ} (is_some code) 1 0) (codes.each i h);
+      ∙ ap (λ (code : Option ℕ). cond {A = ℕ} (is_some code) 1 0) (codes.each i h);
 }
 
 pub piece_from : (v : View (Option ℕ)) (b : Bounds) (cells : List (Option ℕ)) (links : List ℕ) → AllFlowEnds (directed_by v) → b ≡ bounds_of v.cutting v.tile → AreBounds v.cutting b → IsView v →
@@ -95,14 +94,20 @@ module _ (v : View (Option ℕ)) (b : Bounds) (cells : List (Option ℕ)) (links
 
   weight_le : (i : ℕ) → i < length links → get_or weights i 0 ≤ 1
   weight_le i h = elim (cases_Bool (is_some (code_at (directed_by v) (place_in b i)))) [
-      inl t ↦ omega (arith, weighs.each i (omega (arith, h, piece.made.size)), cond-true {A = ℕ} _ 1 0 t)
-    | inr f ↦ omega (arith, weighs.each i (omega (arith, h, piece.made.size)), cond-false {A = ℕ} _ 1 0 f) ]
+    | inl t ↦ omega (arith, weighs.each i (omega (arith, h, piece.made.size)), cond-true {A = ℕ} _ 1 0 t)
+    | inr f ↦ omega (arith, weighs.each i (omega (arith, h, piece.made.size)), cond-false {A = ℕ} _ 1 0 f)
+  ]
 
   pub fits : (i : ℕ) → i < length links → total links weights i < 2 ^ 32
-  fits i h = omega (arith, few, sum_below-few (λ j. share links (length links) j i (get_or weights j 0)) (length links)
-      (λ j l. elim (share-cases links (length links) j i (get_or weights j 0)) [
-          inl r ↦ omega (arith, share-some links (length links) j i (get_or weights j 0) r.0 r.1 r.2, weight_le j l)
-        | inr z ↦ omega arith ]))
+  fits i h = omega (
+    arith,
+    few,
+    sum_below-few (λ j. share links (length links) j i (get_or weights j 0)) (length links)
+        (λ j l. elim (share-cases links (length links) j i (get_or weights j 0)) [
+          | inl r ↦ omega (arith, share-some links (length links) j i (get_or weights j 0) r.0 r.1 r.2, weight_le j l)
+          | inr z ↦ omega arith
+        ]),
+  )
 
   pub sizes : length links ≡ length cells
   sizes = piece.made.size ∙ sym s.codes.size
@@ -156,7 +161,7 @@ module _ (v : View (Option ℕ)) (b : Bounds) (cells : List (Option ℕ)) (links
         let there = subst (λ (q : Place). IsCoded (directed_by v) q) (sym at) is in
         let e = exit_is (directed_by v) v.cutting v.tile b links piece (index_in b p) i there in
         subst (λ (q : Place). IsExitOf (directed_by v) v.cutting q (place_in b (get_or ends (index_in b p) 0))) at
-          (subst (λ n. IsExitOf (directed_by v) v.cutting (place_in b (index_in b p)) (place_in b n)) (sym (last.each (index_in b p) i)) e)
+        (subst (λ n. IsExitOf (directed_by v) v.cutting (place_in b (index_in b p)) (place_in b n)) (sym (last.each (index_in b p) i)) e)
 
   module _ (came ends : List ℕ) (up : AreUpstream links weights came) (last : AreEnds links ends) where
     pub flow_lawful : IsFlow (make_flow b cells (through_by cells came) (exits_by b cells ends))
@@ -177,11 +182,16 @@ module _ (v : View (Option ℕ)) (b : Bounds) (cells : List (Option ℕ)) (links
       lawful = flow_lawful;
       same_codes = λ p i. (let h = (piece.places p).0 i in entry_is cells p h ∙ code_is p h);
       each = λ p i. (let h = (piece.places p).0 i in
-        elim (cases_coded (directed_by v) p) [
-            inl none ↦ match_none (code_at (directed_by v) p) _ _ none
-              (through_is came up p h ∙ ap (λ o. where_data o (get_or came (index_in b p) 0)) none,
-               exit_entry ends last p h ∙ ap (λ o. where_data o (place_in b (get_or ends (index_in b p) 0))) none)
-          | inr is ↦ match_some (code_at (directed_by v) p) _ _ is.code is.is
-              (through_is came up p h ∙ ap (λ o. where_data o (get_or came (index_in b p) 0)) is.is ∙ ap Some (count_of came up p h is),
-               place_in b (get_or ends (index_in b p) 0), exit_entry ends last p h ∙ ap (λ o. where_data o (place_in b (get_or ends (index_in b p) 0))) is.is, exit_of ends last p h is) ]);
+          elim (cases_coded (directed_by v) p) [
+            | inl none ↦ match_none (code_at (directed_by v) p) _ _ none (
+              through_is came up p h ∙ ap (λ o. where_data o (get_or came (index_in b p) 0)) none,
+              exit_entry ends last p h ∙ ap (λ o. where_data o (place_in b (get_or ends (index_in b p) 0))) none,
+            )
+            | inr is ↦ match_some (code_at (directed_by v) p) _ _ is.code is.is (
+              through_is came up p h ∙ ap (λ o. where_data o (get_or came (index_in b p) 0)) is.is ∙ ap Some (count_of came up p h is),
+              place_in b (get_or ends (index_in b p) 0),
+              exit_entry ends last p h ∙ ap (λ o. where_data o (place_in b (get_or ends (index_in b p) 0))) is.is,
+              exit_of ends last p h is,
+            )
+          ]);
     }

@@ -1,6 +1,6 @@
 -- Some and all of the numbers of a range.
-use Rattle.std.proofs.Common.{◌≡◌, ℕ, zero, suc, ◌+◌, ◌<◌, Bool, true, false, ◌||◌, ◌&&◌, inl, inr, sym, ap, subst, refl, ◌∙◌, arith}
-use Rattle.std.proofs.lemmas.Bool.{cases_eq, or_cases, or_left, or_right, and_from, and_parts}
+use Rattle.std.proofs.Common.{◌≡◌, ℕ, zero, suc, ◌+◌, ◌<◌, Bool, true, inl, inr, sym, ap, refl, ◌∙◌, arith}
+use Rattle.std.proofs.lemmas.Bool.{or_cases, or_left, or_right, and_from, and_parts}
 use Rattle.std.specs.List.{list_any, list_all, range_with_len}
 
 some_at : (f : ℕ → Bool) (a b : ℕ) → a ≡ b → f a ≡ true → f b ≡ true
@@ -8,8 +8,9 @@ some_at f a b e h = ap f (sym e) ∙ h
 
 some_from : (f : ℕ → Bool) (a n : ℕ) → list_any f (range_with_len a n) ≡ true → (k : ℕ) × (k < n) × (f (a + k) ≡ true)
 some_from f a (suc n) h = elim (or_cases _ _ h) [
-    inl here ↦ (0, omega arith, some_at f a (a + 0) (omega arith) here)
-  | inr rest ↦ (let r = some_from f (a + 1) n rest in (suc r.0, omega (arith, r.1), some_at f (a + 1 + r.0) (a + suc r.0) (omega arith) r.2)) ]
+  | inl here ↦ (0, omega arith, some_at f a (a + 0) (omega arith) here)
+  | inr rest ↦ (let r = some_from f (a + 1) n rest in (suc r.0, omega (arith, r.1), some_at f (a + 1 + r.0) (a + suc r.0) (omega arith) r.2))
+]
 some_from f a zero h = cc
 
 any_from : (f : ℕ → Bool) (a n k : ℕ) → k < n → f (a + k) ≡ true → list_any f (range_with_len a n) ≡ true

@@ -1,12 +1,12 @@
 -- The state in which nothing has been sent, and the one in which all has.
-use Rattle.std.proofs.Common.{◌≡◌, ◌≢◌, ℕ, zero, suc, ◌+◌, ◌^◌, ◌<◌, ◌≤◌, Bool, true, false, cond, eqb, inl, inr, List, length, get_or, set, sym, ap, subst, refl, ◌∙◌, arith}
-use Rattle.std.proofs.lemmas.Bool.{cases_eq, cases_Bool, false≢true, cond-true, cond-false, eq-eqb, ne_eqb}
+use Rattle.std.proofs.Common.{◌≡◌, ◌≢◌, ℕ, zero, suc, ◌+◌, ◌^◌, ◌<◌, ◌≤◌, true, false, cond, eqb, inl, inr, List, length, get_or, set, sym, ap, refl, ◌∙◌, arith}
+use Rattle.std.proofs.lemmas.Bool.{cases_eq, cases_Bool, false≢true, cond-true, cond-false}
 use Rattle.std.proofs.lemmas.List.{get_or-set_same, get_or-set_other}
-use Rattle.flow.specs.Streams.{AreStreams, AreUpstream, onward, node_after, end_of, sum_below, share, total}
+use Rattle.flow.specs.Streams.{AreStreams, AreUpstream, onward, node_after, sum_below, share, total}
 use Rattle.flow.specs.Sending.{IsSending, AreNone, AreDonorCounts, sent_mark, has_sent, donor, waiting, arrived}
 use Rattle.flow.proofs.Sums.{sum_more, sum_below-few, sum_below-same, sum_below-le, sum_below-except, some_term}
-use Rattle.flow.proofs.Arriving.{after, after-first, arrived-here, arrived-none, arrived-stuck, arrived-on, arrived-le, arrived-all}
-use Rattle.flow.proofs.Waiting.{donor-one, donor-self, donor-apart, donor-le, waiting-one, waiting-self, waiting-apart, IsAwaited, awaited_from, open_from_count}
+use Rattle.flow.proofs.Arriving.{after, after-first, arrived-here, arrived-stuck, arrived-le, arrived-all}
+use Rattle.flow.proofs.Waiting.{donor-one, donor-self, donor-apart, donor-le, waiting-one, waiting-self, waiting-apart, awaited_from, open_from_count}
 
 pub after_is : (links : List ℕ) (i k : ℕ) → after (onward links) i k ≡ node_after links i k
 after_is links i zero = refl
@@ -22,16 +22,20 @@ share_is links (suc k) from to w = ap (λ n. cond (eqb from to) w n) (share_is l
 -- no more has come to a node than its total
 pub came_le : (links weights waits came : List ℕ) → IsSending links weights waits came → (i : ℕ) → i < length links → get_or came i 0 + get_or weights i 0 ≤ total links weights i
 came_le links weights waits came s i h =
-    omega (arith, s.sums i h, sum_below-le (λ from. arrived (onward links) (has_sent waits) (length links) from i (get_or weights from 0)) (λ from. share links (length links) from i (get_or weights from 0)) (length links)
-      (λ from l. omega (arith, arrived-le (onward links) (has_sent waits) (length links) from i (get_or weights from 0), share_is links (length links) from i (get_or weights from 0))))
+    omega (
+      arith,
+      s.sums i h,
+      sum_below-le (λ from. arrived (onward links) (has_sent waits) (length links) from i (get_or weights from 0)) (λ from. share links (length links) from i (get_or weights from 0)) (length links)
+          (λ from l. omega (arith, arrived-le (onward links) (has_sent waits) (length links) from i (get_or weights from 0), share_is links (length links) from i (get_or weights from 0))),
+    )
 
 -- where all have sent, it is the total
 pub came_all : (links weights waits came : List ℕ) → AreStreams links → IsSending links weights waits came → ((i : ℕ) → i < length links → has_sent waits i ≡ true) →
     (i : ℕ) → i < length links → get_or came i 0 + get_or weights i 0 ≡ total links weights i
 came_all links weights waits came streams s all i h =
     s.sums i h ∙ sum_below-same (λ from. arrived (onward links) (has_sent waits) (length links) from i (get_or weights from 0)) (λ from. share links (length links) from i (get_or weights from 0)) (length links)
-      (λ from l. arrived-all (onward links) (has_sent waits) (length links) streams.inside all (length links) from i (get_or weights from 0) l
-        ∙ share_is links (length links) from i (get_or weights from 0))
+    (λ from l. arrived-all (onward links) (has_sent waits) (length links) streams.inside all (length links) from i (get_or weights from 0) l
+    ∙ share_is links (length links) from i (get_or weights from 0))
 
 -- a node that has not sent, where no count is 0, waits for one that has not either, and so on
 unsent_chain : (links weights waits came : List ℕ) → IsSending links weights waits came → ((i : ℕ) → i < length links → get_or waits i 0 ≢ 0) →
@@ -55,9 +59,10 @@ unsent_chain links weights waits came s some i h f (suc k) =
 pub all_sent : (links weights waits came : List ℕ) → AreStreams links → IsSending links weights waits came → ((i : ℕ) → i < length links → get_or waits i 0 ≢ 0) →
     (i : ℕ) → i < length links → has_sent waits i ≡ true
 all_sent links weights waits came streams s some i h = elim (cases_Bool (has_sent waits i)) [
-    inl t ↦ t
+  | inl t ↦ t
   | inr f ↦ (let r = unsent_chain links weights waits came s some i h f (suc (length links)) in
-      absurd (r.3 (length links) (omega arith) (ends_after links streams r.0 r.1))) ]
+      absurd (r.3 (length links) (omega arith) (ends_after links streams r.0 r.1)))
+]
 
 none_sum : (n : ℕ) → sum_below (λ _. 0) n ≡ 0
 none_sum zero = refl
@@ -67,8 +72,12 @@ arrived-alone : (links weights waits : List ℕ) → ((i : ℕ) → i < length l
     sum_below (λ from. arrived (onward links) (has_sent waits) (length links) from i (get_or weights from 0)) (length links) ≡ get_or weights i 0
 arrived-alone links weights waits none i h =
     let f : ℕ → ℕ = λ from. arrived (onward links) (has_sent waits) (length links) from i (get_or weights from 0) in
-    omega (arith, sum_below-except f (λ _. 0) (length links) i h (λ j l ne. arrived-stuck (onward links) (has_sent waits) (length links) j i (get_or weights j 0) ne (none j l)),
-      none_sum (length links), arrived-here (onward links) (has_sent waits) (length links) i i (get_or weights i 0) refl)
+    omega (
+      arith,
+      sum_below-except f (λ _. 0) (length links) i h (λ j l ne. arrived-stuck (onward links) (has_sent waits) (length links) j i (get_or weights j 0) ne (none j l)),
+      none_sum (length links),
+      arrived-here (onward links) (has_sent waits) (length links) i i (get_or weights i 0) refl,
+    )
 
 pub sending_begun : (links weights waits came : List ℕ) → length waits ≡ length links → length came ≡ length links →
     ((i : ℕ) → i < length links → get_or waits i 0 < sent_mark) →
@@ -94,26 +103,28 @@ pub unsent_falls : (waits new : List ℕ) (n node : ℕ) → node < n → has_se
     ((j : ℕ) → j ≢ node → has_sent new j ≡ has_sent waits j) → unsent new n < unsent waits n
 unsent_falls waits new n node h f t same =
     let change : sum_below (unsent_one new) n + unsent_one waits node ≡ sum_below (unsent_one waits) n + unsent_one new node =
-      sum_below-except (unsent_one new) (unsent_one waits) n node h (λ j l ne. ap (λ b. cond {A = ℕ} b 0 1) (same j ne)) in
+    sum_below-except (unsent_one new) (unsent_one waits) n node h (λ j l ne. ap (λ b. cond {A = ℕ} b 0 1) (same j ne)) in
     let old_term : unsent_one waits node ≡ 1 = cond-false _ _ _ f in
     let new_term : unsent_one new node ≡ 0 = cond-true _ _ _ t in
     omega arith
 
 donor-waiting : (links waits : List ℕ) (i j : ℕ) → has_sent waits j ≡ false → donor links i j ≡ waiting links waits i j
 donor-waiting links waits i j f = elim (cases_eq (onward links j) i) [
-    inl e ↦ elim (cases_eq j i) [
-        inl s ↦ donor-self links i j s ∙ sym (waiting-self links waits i j s)
-      | inr ne ↦ donor-one links i j e ne ∙ sym (waiting-one links waits i j e ne f) ]
-  | inr ne ↦ donor-apart links i j ne ∙ sym (waiting-apart links waits i j ne) ]
+  | inl e ↦ elim (cases_eq j i) [
+    | inl s ↦ donor-self links i j s ∙ sym (waiting-self links waits i j s)
+    | inr ne ↦ donor-one links i j e ne ∙ sym (waiting-one links waits i j e ne f)
+  ]
+  | inr ne ↦ donor-apart links i j ne ∙ sym (waiting-apart links waits i j ne)
+]
 
 pub donors_begin : (links weights waits came : List ℕ) → length links ≤ 2 ^ 24 → AreDonorCounts links waits → AreNone (length links) came → IsSending links weights waits came
 donors_begin links weights waits came few d none =
     let low : (i : ℕ) → i < length links → get_or waits i 0 < sent_mark =
-      λ i h. omega (arith, d.each i h, sum_below-few (donor links i) (length links) (λ j l. donor-le links i j)) in
+    λ i h. omega (arith, d.each i h, sum_below-few (donor links i) (length links) (λ j l. donor-le links i j)) in
     sending_begun links weights waits came d.size none.size low
-      (λ i h. d.each i h ∙ sum_below-same (donor links i) (waiting links waits i) (length links)
-        (λ j l. donor-waiting links waits i j (open_from_count waits j (low j l))))
-      none.zeros
+    (λ i h. d.each i h ∙ sum_below-same (donor links i) (waiting links waits i) (length links)
+    (λ j l. donor-waiting links waits i j (open_from_count waits j (low j l))))
+    none.zeros
 
 pub upstream_from : (links weights waits came : List ℕ) → AreStreams links → IsSending links weights waits came → ((i : ℕ) → i < length links → get_or waits i 0 ≢ 0) → AreUpstream links weights came
 upstream_from links weights waits came streams s some = record {
@@ -126,20 +137,22 @@ pub counted_more : (links counts : List ℕ) (node : ℕ) → AreStreams links �
     ((i : ℕ) → i < length links → get_or counts i 0 ≡ sum_below (donor links i) node) →
     (i : ℕ) → i < length links → get_or (set counts (get_or links node 0) (get_or counts (get_or links node 0) 0 + 1)) i 0 ≡ sum_below (donor links i) (node + 1)
 counted_more links counts node streams size h ne counted i l = elim (cases_eq i (get_or links node 0)) [
-    inl e ↦ (let at : get_or links node 0 < length counts = omega (arith, streams.inside node h, size) in
+  | inl e ↦ (let at : get_or links node 0 < length counts = omega (arith, streams.inside node h, size) in
       ap (λ n. get_or (set counts (get_or links node 0) (get_or counts (get_or links node 0) 0 + 1)) n 0) e
       ∙ get_or-set_same counts (get_or links node 0) (get_or counts (get_or links node 0) 0 + 1) 0 at
       ∙ ap (λ n. get_or counts n 0 + 1) (sym e)
       ∙ omega (arith, counted i l, donor-one links i node (sym e) (λ s. ne (sym e ∙ sym s)), sum_more (donor links i) node))
   | inr other ↦ get_or-set_other counts (get_or links node 0) i (get_or counts (get_or links node 0) 0 + 1) 0 other
-      ∙ omega (arith, counted i l, donor-apart links i node (λ s. other (sym s)), sum_more (donor links i) node) ]
+      ∙ omega (arith, counted i l, donor-apart links i node (λ s. other (sym s)), sum_more (donor links i) node)
+]
 
 pub counted_still : (links counts : List ℕ) (node : ℕ) → get_or links node 0 ≡ node →
     ((i : ℕ) → i < length links → get_or counts i 0 ≡ sum_below (donor links i) node) →
     (i : ℕ) → i < length links → get_or counts i 0 ≡ sum_below (donor links i) (node + 1)
 counted_still links counts node e counted i l = elim (cases_eq node i) [
-    inl s ↦ omega (arith, counted i l, donor-self links i node s, sum_more (donor links i) node)
-  | inr ne ↦ omega (arith, counted i l, donor-apart links i node (λ s. ne (sym e ∙ s)), sum_more (donor links i) node) ]
+  | inl s ↦ omega (arith, counted i l, donor-self links i node s, sum_more (donor links i) node)
+  | inr ne ↦ omega (arith, counted i l, donor-apart links i node (λ s. ne (sym e ∙ s)), sum_more (donor links i) node)
+]
 
 pub counted_few : (links : List ℕ) (i n : ℕ) → sum_below (donor links i) n ≤ n
 counted_few links i n = sum_below-few (donor links i) n (λ j l. donor-le links i j)

@@ -1,6 +1,6 @@
 -- What a view shows of a tile.
-use Rattle.std.proofs.Common.{◌≡◌, ℕ, ◌+◌, ◌<◌, ◌≤◌, true, Option, None, sym, ap, subst, ◌∙◌, arith}
-use Rattle.std.proofs.lemmas.Bool.{cases_Bool, and_from, le-leb, lt-ltb, cond-true, cond-false}
+use Rattle.std.proofs.Common.{◌≡◌, ℕ, true, Option, None, sym, subst, ◌∙◌, arith}
+use Rattle.std.proofs.lemmas.Bool.{and_from, le-leb, lt-ltb, cond-true}
 use Rattle.ascii_grid.specs.Neighbours.{index_of}
 use Rattle.ascii_grid.specs.declared.place.Place.{Place}
 use Rattle.ascii_grid.proofs.Places.{entry-inside}
@@ -23,4 +23,4 @@ shown_none v b p e a i none =
     let inside = subst (λ (z : Bounds). IsInBounds z p) e i in
     let r = there.rows_inside in let k = there.cols_inside in
     sym (entry-inside v.cutting.cols v.cutting.rows v.cells p (omega arith) (omega arith)
-      ∙ none_there v.cells (index_of v.cutting.cols p) (sym (none ∙ cond-true _ _ _ (shown v p there inside))))
+    ∙ none_there v.cells (index_of v.cutting.cols p) (sym (none ∙ cond-true _ _ _ (shown v p there inside))))

@@ -24,7 +24,7 @@ module _ (links weights waits came : List ℕ) (streams : AreStreams links) (few
 
   moves : MovesOn weights waits came (next_waits_list waits node (get_or links node 0)) (next_came_list weights came node (get_or links node 0)) node (get_or links node 0)
   moves = moves_on weights waits came node (get_or links node 0) (omega (arith, s.waits_size)) (omega (arith, s.waits_size, streams.inside node inside))
-    (omega (arith, s.came_size, streams.inside node inside)) apart step_waits
+      (omega (arith, s.came_size, streams.inside node inside)) apart step_waits
 
   pub step_sending : IsSending links weights (next_waits_list waits node (get_or links node 0)) (next_came_list weights came node (get_or links node 0))
   step_sending = sending-onward links weights waits came streams few s node inside ready _ _ apart moves (ends_after links streams)
@@ -34,13 +34,14 @@ module _ (links weights waits came : List ℕ) (streams : AreStreams links) (few
 
   pub step_falls : unsent (next_waits_list waits node (get_or links node 0)) (length links) < unsent waits (length links)
   step_falls = unsent_falls waits _ (length links) node inside (node_open links weights waits came streams few s node inside ready) (sent_from_mark _ node moves.marked)
-    (other_sent links weights waits came streams few s node inside ready _ _ apart moves)
+      (other_sent links weights waits came streams few s node inside ready _ _ apart moves)
 
   pub step_early : (from : ℕ) → ((i : ℕ) → i < from → i ≢ node → get_or waits i 0 ≢ 0) →
       (i : ℕ) → i < from → i ≢ get_or links node 0 → get_or (next_waits_list waits node (get_or links node 0)) i 0 ≢ 0
   step_early from early i h ne = elim (cases_eq i node) [
-      inl e ↦ (λ z. omega (arith, z, ap (λ n. get_or (next_waits_list waits node (get_or links node 0)) n 0) e, moves.marked))
-    | inr other ↦ (λ z. early i h other (sym (moves.other_waits i other ne) ∙ z)) ]
+    | inl e ↦ (λ z. omega (arith, z, ap (λ n. get_or (next_waits_list waits node (get_or links node 0)) n 0) e, moves.marked))
+    | inr other ↦ (λ z. early i h other (sym (moves.other_waits i other ne) ∙ z))
+  ]
 
 module _ (links weights waits came : List ℕ) (streams : AreStreams links) (few : length links ≤ 2 ^ 24) (s : IsSending links weights waits came) (node : ℕ) (inside : node < length links) (ready : get_or waits node 0 ≡ 0) (end : get_or links node 0 ≡ node) where
   marked : get_or (set waits node sent_mark) node 0 ≡ sent_mark
@@ -55,5 +56,6 @@ module _ (links weights waits came : List ℕ) (streams : AreStreams links) (few
   pub end_early : (from : ℕ) → ((i : ℕ) → i < from → i ≢ node → get_or waits i 0 ≢ 0) →
       (i : ℕ) → i < from → get_or (set waits node sent_mark) i 0 ≢ 0
   end_early from early i h = elim (cases_eq i node) [
-      inl e ↦ (λ z. omega (arith, z, ap (λ n. get_or (set waits node sent_mark) n 0) e, marked))
-    | inr other ↦ (λ z. early i h other (sym (others i other) ∙ z)) ]
+    | inl e ↦ (λ z. omega (arith, z, ap (λ n. get_or (set waits node sent_mark) n 0) e, marked))
+    | inr other ↦ (λ z. early i h other (sym (others i other) ∙ z))
+  ]

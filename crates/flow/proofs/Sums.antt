@@ -1,5 +1,5 @@
 -- Sums of what a function has at each number below another.
-use Rattle.std.proofs.Common.{◌≡◌, ◌≢◌, ℕ, zero, suc, ◌+◌, ◌<◌, ◌≤◌, inl, inr, sym, ap, refl, ◌∙◌, arith, add-one}
+use Rattle.std.proofs.Common.{◌≡◌, ◌≢◌, ℕ, zero, suc, ◌+◌, ◌<◌, ◌≤◌, inl, inr, sym, ap, refl, arith, add-one}
 use Rattle.std.proofs.lemmas.Bool.{cases_eq, cases_lt}
 use Rattle.flow.specs.Streams.{sum_below}
 
@@ -26,23 +26,26 @@ sum_below-few f (suc n) le =
 pub term-le-sum_below : (f : ℕ → ℕ) (n i : ℕ) → i < n → f i ≤ sum_below f n
 term-le-sum_below f zero i h = absurd (omega arith)
 term-le-sum_below f (suc n) i h = elim (cases_eq i n) [
-    inl e ↦ (let same : f i ≡ f n = ap f e in omega arith)
-  | inr ne ↦ omega (arith, term-le-sum_below f n i (omega arith)) ]
+  | inl e ↦ (let same : f i ≡ f n = ap f e in omega arith)
+  | inr ne ↦ omega (arith, term-le-sum_below f n i (omega arith))
+]
 
 -- a sum changes by what one term changes
 pub sum_below-except : (f g : ℕ → ℕ) (n i : ℕ) → i < n → ((j : ℕ) → j < n → j ≢ i → f j ≡ g j) → sum_below f n + g i ≡ sum_below g n + f i
 sum_below-except f g zero i h same = absurd (omega arith)
 sum_below-except f g (suc n) i h same = elim (cases_eq i n) [
-    inl e ↦ (let rest : sum_below f n ≡ sum_below g n = sum_below-same f g n (λ j l. same j (omega arith) (omega arith)) in
+  | inl e ↦ (let rest : sum_below f n ≡ sum_below g n = sum_below-same f g n (λ j l. same j (omega arith) (omega arith)) in
       let here : f i ≡ f n = ap f e in let there : g i ≡ g n = ap g e in omega arith)
-  | inr ne ↦ omega (arith, sum_below-except f g n i (omega arith) (λ j l m. same j (omega arith) m), same n (omega arith) (λ e. ne (sym e))) ]
+  | inr ne ↦ omega (arith, sum_below-except f g n i (omega arith) (λ j l m. same j (omega arith) m), same n (omega arith) (λ e. ne (sym e)))
+]
 
 -- a sum above 0 has a term above 0
 pub some_term : (f : ℕ → ℕ) (n : ℕ) → 0 < sum_below f n → (i : ℕ) × (i < n) × (0 < f i)
 some_term f zero h = absurd (omega arith)
 some_term f (suc n) h = elim (cases_lt 0 (f n)) [
-    inl l ↦ (n, omega arith, l)
-  | inr none ↦ (let r = some_term f n (omega arith) in (r.0, omega (arith, r.1), r.2)) ]
+  | inl l ↦ (n, omega arith, l)
+  | inr none ↦ (let r = some_term f n (omega arith) in (r.0, omega (arith, r.1), r.2))
+]
 
 pub sum_more : (f : ℕ → ℕ) (n : ℕ) → sum_below f (n + 1) ≡ sum_below f n + f n
 sum_more f n = rw add-one refl

@@ -1,10 +1,9 @@
 -- Maps of directions whose paths end by a test.
-use Rattle.std.proofs.Common.{◌≡◌, ℕ, ◌*◌, ◌<◌, ◌≤◌, true, false, inl, inr, List, map, length, Option, None, Some, sym, ap, subst, refl, ◌∙◌, arith}
+use Rattle.std.proofs.Common.{◌≡◌, ℕ, true, inl, inr, List, Option, None, Some, ap, ◌∙◌}
 use Rattle.std.proofs.Math.ListN.{length-map}
 use Rattle.std.specs.List.{list_all, range_with_len}
 use Rattle.std.proofs.lemmas.Bool.{and_parts, or_cases, leb-true, eqb-true}
-use Rattle.ascii_grid.specs.declared.place.Place.{Place}
-use Rattle.drain.specs.Following.{Directed, code_at, last_of, IsOutlet}
+use Rattle.drain.specs.Following.{Directed, code_at, last_of}
 use Rattle.drain.specs.Drained.{AllFlowEnds}
 use Rattle.flow.specs.Whole.{make_directed, is_outlet_code, IsGridFlow}
 use Rattle.flow.specs.Tested.{code_of_number, codes_by, is_none_code, ends_at, flows}
@@ -21,8 +20,9 @@ ends_from_test d t p code e =
     let row = every_in_range (λ row. list_all (λ col. ends_at d row col) (range_with_len 0 d.cols)) d.rows t p.row w.0 in
     let at = every_in_range (λ col. ends_at d p.row col) d.cols row p.col w.1 in
     elim (or_cases _ _ at) [
-        inl none ↦ absurd (not_both (code_at d p) code e none)
-      | inr out ↦ outlet_from_code (code_at d (last_of d p)) out ]
+      | inl none ↦ absurd (not_both (code_at d p) code e none)
+      | inr out ↦ outlet_from_code (code_at d (last_of d p)) out
+    ]
   where
     not_both : (o : Option ℕ) (n : ℕ) → o ≡ Some n → is_none_code o ≡ true → ⊥
     not_both None n e h = cc

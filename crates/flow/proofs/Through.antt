@@ -1,24 +1,23 @@
 -- What flows through a cell of a tile is its total along the tile's links, and its exit is where they end.
-use Rattle.std.proofs.Common.{◌≡◌, ◌≢◌, ◌↔◌, ℕ, zero, suc, ◌+◌, ◌-◌, ◌*◌, ◌<◌, ◌≤◌, ◌⊎◌, inl, inr, Bool, true, false, not, ◌&&◌, cond, eqb, List, length, get_or, count_by, is_some, None, sym, ap, subst, refl, ◌∙◌, arith, mul_comm}
+use Rattle.std.proofs.Common.{◌≡◌, ◌≢◌, ℕ, ◌+◌, ◌*◌, ◌<◌, ◌≤◌, inl, inr, Bool, true, false, not, ◌&&◌, cond, eqb, List, length, get_or, is_some, sym, ap, subst, refl, ◌∙◌, arith, mul_comm}
 use Rattle.std.proofs.Math.Nat.{mul-le-mul}
-use Rattle.std.proofs.lemmas.Bool.{cases_eq, cases_Bool, and_from, and_parts, and_left, and_right, eq-eqb, eqb-true, cond-true, cond-false, false_from_ne_true, not_from_true, not_from_false}
-use Rattle.ascii_grid.specs.Ways.{places}
+use Rattle.std.proofs.lemmas.Bool.{cases_Bool, and_from, and_parts, and_left, and_right, eq-eqb, eqb-true, cond-true, cond-false, false_from_ne_true, not_from_true, not_from_false}
 use Rattle.ascii_grid.specs.declared.place.Place.{Place}
 use Rattle.ascii_grid.proofs.Places.{make_place, same_place}
 use Rattle.tiles.specs.declared.bounds.Bounds.{Bounds}
-use Rattle.tiles.specs.Cutting.{Cutting, IsInTile, IsInBounds, tile_of_place}
-use Rattle.tiles.proofs.TileOrder.{index_in_below, index_in-place_in, place_in-index_in}
-use Rattle.drain.specs.Following.{Directed, code_at, next, follow, moves, IsOutlet}
+use Rattle.tiles.specs.Cutting.{Cutting, IsInBounds, tile_of_place}
+use Rattle.tiles.proofs.TileOrder.{index_in-place_in}
+use Rattle.drain.specs.Following.{Directed, code_at, next, follow, moves}
 use Rattle.flow.specs.Counts.{is_place}
 use Rattle.flow.specs.Streams.{onward, node_after, end_of, sum_below, share, total}
-use Rattle.flow.specs.TileFlow.{stays, reaches_inside, through_of, IsExitCell, IsExitOf}
+use Rattle.flow.specs.TileFlow.{stays, reaches_inside, through_of, IsExitOf}
 use Rattle.flow.specs.TileLinks.{place_in, index_in, weight_in, AreTileWeights}
-use Rattle.flow.proofs.Sums.{sum_below-same, sum_below-except}
+use Rattle.flow.proofs.Sums.{sum_below-except}
 use Rattle.flow.proofs.Ranges.{some_in_range, any_in_range, every_in_range, all_in_range}
-use Rattle.flow.proofs.EarlyEnds.{IsStop, within, early_end, stays_from, share-some, share-cases}
-use Rattle.flow.proofs.Coded.{IsCoded, cases_coded, coded_along, coded_some, coded_from_some, outlet_from_stays}
+use Rattle.flow.proofs.EarlyEnds.{within, early_end, stays_from, share-some, share-cases}
+use Rattle.flow.proofs.Coded.{IsCoded, coded_along, coded_some, coded_from_some, outlet_from_stays}
 use Rattle.flow.proofs.Windows.{sum_in_bounds}
-use Rattle.flow.proofs.InTile.{IsPiece, cases_bounds, link-in, tracks, in_step, in_place, link_is, link_place, node_inside, tile_streams, coded_within}
+use Rattle.flow.proofs.InTile.{IsPiece, cases_bounds, tracks, in_step, in_place, link_place, node_inside, tile_streams, coded_within}
 
 pub place_test : (p q : Place) → p ≡ q → is_place p q ≡ true
 place_test p q e = and_from _ _ (eq-eqb _ _ (ap (λ (r : Place). r.row) e)) (eq-eqb _ _ (ap (λ (r : Place). r.col) e))
@@ -43,9 +42,10 @@ module _ (d : Directed) (c : Cutting) (tile : ℕ) (b : Bounds) (links : List �
 
   pub way_from_stays : (q : Place) → IsCoded d q → IsInBounds b q → (k : ℕ) → stays d c q k ≡ true → (l : ℕ) → l ≤ k → IsInBounds b (follow d q l)
   way_from_stays q is h k t l le =
-      (s.places (follow d q l)).0
-        (coded_within d c tile b links s (follow d q l) (coded_along d s.ends q is l),
-         eqb-true _ _ (every_in_range (λ j. eqb (tile_of_place c (follow d q j)) (tile_of_place c q)) (k + 1) t l (omega arith)) ∙ tile_is q h)
+      (s.places (follow d q l)).0 (
+        coded_within d c tile b links s (follow d q l) (coded_along d s.ends q is l),
+        eqb-true _ _ (every_in_range (λ j. eqb (tile_of_place c (follow d q j)) (tile_of_place c q)) (k + 1) t l (omega arith)) ∙ tile_is q h,
+      )
 
   -- a cell that reaches another inside the tile does so along the links
   pub reaches_by_links : (j i : ℕ) → j < length links → i < length links → IsCoded d (place_in b j) → reaches_inside d c (place_in b i) (place_in b j) ≡ true →
@@ -55,7 +55,7 @@ module _ (d : Directed) (c : Cutting) (tile : ℕ) (b : Bounds) (links : List �
       let w = and_parts _ _ r.2 in
       let at = in_step d c tile b links s j h r.0 (way_from_stays (place_in b j) is (in_place d c tile b links s j h) r.0 w.1) in
       let same : node_after links j r.0 ≡ i =
-        sym (index_in-place_in b (node_after links j r.0)) ∙ ap (index_in b) (at ∙ sym (place_from_test (place_in b i) (follow d (place_in b j) r.0) w.0)) ∙ index_in-place_in b i in
+      sym (index_in-place_in b (node_after links j r.0)) ∙ ap (index_in b) (at ∙ sym (place_from_test (place_in b i) (follow d (place_in b j) r.0) w.0)) ∙ index_in-place_in b i in
       let m = within links (tile_streams d c tile b links s) j h r.0 in
       (m.0, m.1, m.3 ∙ same)
 
@@ -63,8 +63,8 @@ module _ (d : Directed) (c : Cutting) (tile : ℕ) (b : Bounds) (links : List �
   links_reach j i k h l e =
       let t = tracks d c tile b links s j h k in
       any_in_range (λ k. is_place (place_in b i) (follow d (place_in b j) k) && stays d c (place_in b j) k) (moves d) t.met (omega (arith, t.few, few_cells))
-        (and_from _ _ (place_test (place_in b i) (follow d (place_in b j) t.met) (sym (ap (place_in b) e) ∙ t.here))
-          (stays_from_way (place_in b j) t.met t.way))
+      (and_from _ _ (place_test (place_in b i) (follow d (place_in b j) t.met) (sym (ap (place_in b) e) ∙ t.here))
+      (stays_from_way (place_in b j) t.met t.way))
 
   -- whether a cell is counted
   abbrev counts : Place → Place → Bool
@@ -81,21 +81,25 @@ module _ (d : Directed) (c : Cutting) (tile : ℕ) (b : Bounds) (links : List �
     share_counts : (j i : ℕ) → j < length links → i < length links → j ≢ i →
         share links (length links) j i (get_or weights j 0) ≡ cond {A = ℕ} (counts (place_in b i) (place_in b j)) 1 0
     share_counts j i h l ne = elim (cases_Bool (is_some (code_at d (place_in b j)))) [
-        inr none ↦ (let no_weight : get_or weights j 0 ≡ 0 = weight_is j h ∙ cond-false _ _ _ none in
+      | inr none ↦ (let no_weight : get_or weights j 0 ≡ 0 = weight_is j h ∙ cond-false _ _ _ none in
           let not_counted : cond {A = ℕ} (counts (place_in b i) (place_in b j)) 1 0 ≡ 0 = cond-false _ _ _ (and_left _ _ (and_left _ _ none)) in
           elim (share-cases links (length links) j i (get_or weights j 0)) [
-              inl r ↦ share-some links (length links) j i (get_or weights j 0) r.0 r.1 r.2 ∙ no_weight ∙ sym not_counted
-            | inr z ↦ z ∙ sym not_counted ])
+            | inl r ↦ share-some links (length links) j i (get_or weights j 0) r.0 r.1 r.2 ∙ no_weight ∙ sym not_counted
+            | inr z ↦ z ∙ sym not_counted
+          ])
       | inl some ↦ (let one : get_or weights j 0 ≡ 1 = weight_is j h ∙ cond-true _ _ _ some in
           elim (share-cases links (length links) j i (get_or weights j 0)) [
-              inl r ↦ (let m = within links (tile_streams d c tile b links s) j h r.0 in
+            | inl r ↦ (let m = within links (tile_streams d c tile b links s) j h r.0 in
                 share-some links (length links) j i (get_or weights j 0) r.0 r.1 r.2 ∙ one
                 ∙ sym (cond-true _ _ _ (and_from _ _ (and_from _ _ some (not_from_false _ (apart_places j i ne))) (links_reach j i m.0 h m.1 (m.3 ∙ r.2)))))
             | inr z ↦ elim (cases_Bool (reaches_inside d c (place_in b i) (place_in b j))) [
-                  inr no_way ↦ z ∙ sym (cond-false _ _ _ (and_right _ _ no_way))
-                | inl t ↦ (let r = reaches_by_links j i h l (coded_from_some d (place_in b j) some) t in
-                    let full = share-some links (length links) j i (get_or weights j 0) r.0 (omega (arith, r.1)) r.2 in
-                    absurd (omega (arith, full, z, one))) ] ]) ]
+              | inr no_way ↦ z ∙ sym (cond-false _ _ _ (and_right _ _ no_way))
+              | inl t ↦ (let r = reaches_by_links j i h l (coded_from_some d (place_in b j) some) t in
+                  let full = share-some links (length links) j i (get_or weights j 0) r.0 (omega (arith, r.1)) r.2 in
+                  absurd (omega (arith, full, z, one)))
+            ]
+          ])
+    ]
 
     -- only cells of the tile are counted
     counted_inside : (i : ℕ) → i < length links → (q : Place) → counts (place_in b i) q ≡ true → IsInBounds b q
@@ -104,11 +108,13 @@ module _ (d : Directed) (c : Cutting) (tile : ℕ) (b : Bounds) (links : List �
         let f = and_parts _ _ a.0 in
         let is = coded_from_some d q f.0 in
         let r = some_in_range (λ k. is_place (place_in b i) (follow d q k) && stays d c q k) (moves d) a.1 in
-        let e = and_parts _ _ r.2 in
+        let e : (is_place (place_in b i) (follow d q r.0) ≡ true) × (stays d c q r.0 ≡ true) = and_parts _ _ r.2 in
         let at : r.0 < r.0 + 1 = omega arith in
         let same = eqb-true _ _ (every_in_range (λ j. eqb (tile_of_place c (follow d q j)) (tile_of_place c q)) (r.0 + 1) e.1 r.0 at) in
-        (s.places q).0 (coded_within d c tile b links s q is,
-          sym same ∙ sym (ap (tile_of_place c) (place_from_test (place_in b i) (follow d q r.0) e.0)) ∙ tile_is (place_in b i) (in_place d c tile b links s i l))
+        (s.places q).0 (
+          coded_within d c tile b links s q is,
+          sym same ∙ sym (ap (tile_of_place c) (place_from_test (place_in b i) (follow d q r.0) e.0)) ∙ tile_is (place_in b i) (in_place d c tile b links s i l),
+        )
 
     uncounted : (i : ℕ) → i < length links → (q : Place) → (IsInBounds b q → ⊥) → cond {A = ℕ} (counts (place_in b i) q) 1 0 ≡ 0
     uncounted i l q out = cond-false _ _ _ (false_from_ne_true _ (λ t. out (counted_inside i l q t)))
@@ -116,11 +122,11 @@ module _ (d : Directed) (c : Cutting) (tile : ℕ) (b : Bounds) (links : List �
     count_is : (i : ℕ) → i < length links → through_of d c (place_in b i) ≡ sum_below (λ j. cond {A = ℕ} (counts (place_in b i) (place_in b j)) 1 0) (b.rows * b.cols)
     count_is i l =
         sum_in_bounds (λ (q : Place). cond {A = ℕ} (counts (place_in b i) q) 1 0) b d.cols d.rows
-          (omega (arith, s.inside.rows_inside, s.rows)) (omega (arith, s.inside.cols_inside, s.cols))
-          (λ r k h. uncounted i l (make_place r k) (λ y. (let z = y.0 in omega arith)))
-          (λ r k h. uncounted i l (make_place r k) (λ y. (let z = y.1 in omega arith)))
-          (λ r k h. uncounted i l (make_place r k) (λ y. (let z = y.2 in omega arith)))
-          (λ r k h. uncounted i l (make_place r k) (λ y. (let z = y.3 in omega arith)))
+        (omega (arith, s.inside.rows_inside, s.rows)) (omega (arith, s.inside.cols_inside, s.cols))
+        (λ r k h. uncounted i l (make_place r k) (λ y. (let z = y.0 in omega arith)))
+        (λ r k h. uncounted i l (make_place r k) (λ y. (let z = y.1 in omega arith)))
+        (λ r k h. uncounted i l (make_place r k) (λ y. (let z = y.2 in omega arith)))
+        (λ r k h. uncounted i l (make_place r k) (λ y. (let z = y.3 in omega arith)))
 
     own_uncounted : (i : ℕ) → cond {A = ℕ} (counts (place_in b i) (place_in b i)) 1 0 ≡ 0
     own_uncounted i = cond-false _ _ _ (and_left _ _ (and_right _ _ (not_from_true _ (place_test (place_in b i) (place_in b i) refl))))
@@ -130,7 +136,7 @@ module _ (d : Directed) (c : Cutting) (tile : ℕ) (b : Bounds) (links : List �
     total_is i l some =
         let one : get_or weights i 0 ≡ 1 = weight_is i l ∙ cond-true _ _ _ some in
         let change = sum_below-except (λ j. share links (length links) j i (get_or weights j 0)) (λ j. cond {A = ℕ} (counts (place_in b i) (place_in b j)) 1 0) (length links) i l
-          (λ j h ne. share_counts j i h l ne) in
+        (λ j h ne. share_counts j i h l ne) in
         let own = share-some links (length links) i i (get_or weights i 0) 0 (omega arith) refl in
         let count = count_is i l ∙ ap (sum_below (λ j. cond {A = ℕ} (counts (place_in b i) (place_in b j)) 1 0)) (sym s.made.size) in
         omega (arith, change, own, one, count, own_uncounted i)
@@ -144,12 +150,20 @@ module _ (d : Directed) (c : Cutting) (tile : ℕ) (b : Bounds) (links : List �
       let at : follow d (place_in b i) t.met ≡ place_in b (end_of links i) = sym t.here ∙ ap (place_in b) last in
       let coded = subst (λ (q : Place). IsCoded d q) at (coded_along d s.ends (place_in b i) is t.met) in
       let stop : onward links (end_of links i) ≡ end_of links i = (tile_streams d c tile b links s).ends i h in
-      let inside = node_inside d c tile b links s i h (length links) in
-      (t.met, omega (arith, t.few, r.1, few_cells), stays_from_way (place_in b i) t.met t.way, at,
-       (coded_some d (place_in b (end_of links i)) coded,
-        elim (cases_bounds b (next d (place_in b (end_of links i)))) [
-            inl y ↦ inl (outlet_from_stays d s.ends (place_in b (end_of links i)) coded
-              (sym (link_place d c tile b links s (end_of links i) inside y) ∙ ap (place_in b) stop))
-          | inr out ↦ inr (λ same. out ((s.places (next d (place_in b (end_of links i)))).0
-              (coded_within d c tile b links s (next d (place_in b (end_of links i))) (coded_along d s.ends (place_in b (end_of links i)) coded 1),
-               same ∙ tile_is (place_in b (end_of links i)) (in_place d c tile b links s (end_of links i) inside)))) ]))
+      let inside = node_inside d c tile b links s i h (length links) in (
+        t.met,
+        omega (arith, t.few, r.1, few_cells),
+        stays_from_way (place_in b i) t.met t.way,
+        at,
+        (
+          coded_some d (place_in b (end_of links i)) coded,
+          elim (cases_bounds b (next d (place_in b (end_of links i)))) [
+            | inl y ↦ inl (outlet_from_stays d s.ends (place_in b (end_of links i)) coded
+                (sym (link_place d c tile b links s (end_of links i) inside y) ∙ ap (place_in b) stop))
+            | inr out ↦ inr (λ same. out ((s.places (next d (place_in b (end_of links i)))).0 (
+              coded_within d c tile b links s (next d (place_in b (end_of links i))) (coded_along d s.ends (place_in b (end_of links i)) coded 1),
+              same ∙ tile_is (place_in b (end_of links i)) (in_place d c tile b links s (end_of links i) inside),
+            )))
+          ],
+        ),
+      )

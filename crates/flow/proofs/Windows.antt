@@ -1,6 +1,5 @@
 -- Counts over the places of a grid as sums over rows and columns, and over the indexes of bounds.
-use Rattle.std.proofs.Common.{◌≡◌, ◌≢◌, ℕ, zero, suc, ◌+◌, ◌-◌, ◌*◌, ◌/◌, ◌%◌, ◌<◌, ◌≤◌, Bool, true, false, cond, inl, inr, List, [], ◌∷◌, ◌++◌, map, sym, ap, refl, ◌∙◌, arith, add-one, add-zero, zero-mul, mul_comm}
-use Rattle.std.proofs.lemmas.Bool.{cases_lt}
+use Rattle.std.proofs.Common.{◌≡◌, ℕ, zero, suc, ◌+◌, ◌-◌, ◌*◌, ◌%◌, ◌<◌, ◌≤◌, List, [], ◌∷◌, map, sym, ap, refl, ◌∙◌, arith, add-one, add-zero, zero-mul}
 use Rattle.std.proofs.lemmas.List.Sums.{sum_by-append, sum_by-cons, sum_by_push}
 use Rattle.std.proofs.lemmas.List.FromFn.{map-range_with_len_more}
 use Rattle.std.proofs.lemmas.Nat.{div-mul-add, mod-mul-add}
@@ -11,7 +10,7 @@ use Rattle.ascii_grid.proofs.Places.{make_place}
 use Rattle.tiles.specs.declared.bounds.Bounds.{Bounds}
 use Rattle.flow.specs.Streams.{sum_below}
 use Rattle.flow.specs.TileLinks.{place_in}
-use Rattle.flow.proofs.Sums.{sum_below-same, sum_more}
+use Rattle.flow.proofs.Sums.{sum_below-same}
 
 -- a sum over a range
 sum_by_row : {X : Type 0} (f : X → ℕ) (g : ℕ → X) (n : ℕ) → sum_by f (map g (range_with_len 0 n)) ≡ sum_below (λ i. f (g i)) n
@@ -73,10 +72,10 @@ sum_in_rows f b zero = ap (sum_below (λ i. f (place_in b i))) (zero-mul b.cols)
 sum_in_rows f b (suc rows) =
     let size : suc rows * b.cols ≡ rows * b.cols + b.cols = grind arith in
     let split : sum_below (λ i. f (place_in b i)) (rows * b.cols + b.cols) ≡ sum_below (λ i. f (place_in b i)) (rows * b.cols) + sum_below (λ c. f (place_in b (rows * b.cols + c))) b.cols =
-      sum_below-split (λ i. f (place_in b i)) (rows * b.cols) b.cols in
+    sum_below-split (λ i. f (place_in b i)) (rows * b.cols) b.cols in
     let row : sum_below (λ c. f (place_in b (rows * b.cols + c))) b.cols ≡ sum_below (λ c. f (make_place (b.top + rows) (b.left + c))) b.cols =
-      sum_below-same _ _ b.cols (λ c h. ap (λ q. f (make_place (b.top + q) (b.left + (rows * b.cols + c) % b.cols))) (div-mul-add rows b.cols c h)
-        ∙ ap (λ q. f (make_place (b.top + rows) (b.left + q))) (mod-mul-add rows b.cols c h)) in
+    sum_below-same _ _ b.cols (λ c h. ap (λ q. f (make_place (b.top + q) (b.left + (rows * b.cols + c) % b.cols))) (div-mul-add rows b.cols c h)
+    ∙ ap (λ q. f (make_place (b.top + rows) (b.left + q))) (mod-mul-add rows b.cols c h)) in
     let rest : sum_below (λ i. f (place_in b i)) (rows * b.cols) ≡ sum_below (λ r. sum_below (λ c. f (make_place (b.top + r) (b.left + c))) b.cols) rows = sum_in_rows f b rows in
     ap (sum_below (λ i. f (place_in b i))) size ∙ omega arith
 

@@ -1,5 +1,5 @@
 -- The flows of all tiles, joined over the grid. Only the contracts of private functions speak of it.
-use Rattle.std.specs.Prelude.{◌≡◌, ℕ, ◌*◌, ◌<◌, Bool, ◌&&◌, ◌||◌, ◌==◌, if◌then◌else◌, is_some, List, map, length, Option, None, Some, slice_get, slice_index, slice_index_or, option_and_then}
+use Rattle.std.specs.Prelude.{◌≡◌, ℕ, ◌*◌, Bool, ◌&&◌, ◌||◌, ◌==◌, if◌then◌else◌, is_some, List, map, length, Option, None, Some, slice_get, slice_index, slice_index_or, option_and_then}
 use Rattle.std.specs.List.{range_with_len}
 use Rattle.ascii_grid.specs.declared.place.Place.{Place}
 use Rattle.tiles.specs.declared.bounds.Bounds.{Bounds}

@@ -1,5 +1,5 @@
 -- Maps of directions that are written out. Only tests speak of them.
-use Rattle.std.specs.Prelude.{◌≡◌, ℕ, ◌*◌, ◌≤◌, Bool, true, false, ◌||◌, ◌&&◌, ◌==◌, nat_le, List, map, length, Option, None, Some, IsTrue, if◌then◌else◌}
+use Rattle.std.specs.Prelude.{ℕ, ◌*◌, Bool, true, false, ◌||◌, ◌&&◌, ◌==◌, nat_le, List, map, length, Option, None, Some, if◌then◌else◌}
 use Rattle.std.specs.List.{list_any, list_all, range_with_len}
 use Rattle.ascii_grid.specs.Ways.{way_codes}
 use Rattle.ascii_grid.specs.declared.place.Place.{Place}

@@ -13,7 +13,10 @@ use std::alloc::Global;
 use tiles::{Bounds, TileView};
 
 /// The codes of a tile in its row order.
-pub fn tile_codes(alloc: Global, codes: &TileView<'_, Option<Code>>) -> Result<Vec<Option<Code>>, NoMemory>
+pub fn tile_codes(
+    alloc: Global,
+    codes: &TileView<'_, Option<Code>>,
+) -> Result<Vec<Option<Code>>, NoMemory>
     ensures { IfOk result (λ v. AreTileCodes (directed_by codes.now) (bounds_of codes.now.cutting codes.now.tile) v.items) }
 {
     let bounds = codes.bounds();
@@ -31,7 +34,11 @@ pub fn tile_codes(alloc: Global, codes: &TileView<'_, Option<Code>>) -> Result<V
 }
 
 /// For each cell the one to which its water goes on, or itself where it stays or leaves the tile.
-pub fn tile_links(alloc: Global, bounds: Bounds, cells: &[Option<Code>]) -> Result<Vec<u32>, NoMemory>
+pub fn tile_links(
+    alloc: Global,
+    bounds: Bounds,
+    cells: &[Option<Code>],
+) -> Result<Vec<u32>, NoMemory>
     requires small { IsSmall bounds }
     requires size { length cells.now ≡ bounds.rows * bounds.cols }
     ensures { IfOk result (λ v. v.items ≡ links_by bounds cells.now) }
@@ -52,7 +59,11 @@ pub fn tile_links(alloc: Global, bounds: Bounds, cells: &[Option<Code>]) -> Resu
 pub fn tile_weights(alloc: Global, cells: &[Option<Code>]) -> Result<Vec<u32>, NoMemory>
     ensures { IfOk result (λ v. v.items ≡ weights_by cells.now) }
 {
-    let Ok(weights) = cells.iter().map(|code| u32::from(code.is_some())).collect(alloc) else {
+    let Ok(weights) = cells
+        .iter()
+        .map(|code| u32::from(code.is_some()))
+        .collect(alloc)
+    else {
         return Err(NoMemory);
     };
     Ok(weights)

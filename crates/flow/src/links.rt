@@ -96,7 +96,11 @@ fn bounds_of_grid(tiling: &Tiling) -> Bounds
 }
 
 // The codes of the whole grid, of the flows of its tiles.
-fn grid_codes(alloc: Global, tiling: &Tiling, flows: &[TileFlow]) -> Result<Vec<Option<Code>>, NoMemory>
+fn grid_codes(
+    alloc: Global,
+    tiling: &Tiling,
+    flows: &[TileFlow],
+) -> Result<Vec<Option<Code>>, NoMemory>
     requires { length flows.now ≡ tile_count tiling.now }
     ensures value { IfOk result (λ v. v.items ≡ codes_joined tiling.now flows.now) }
     ensures lawful { IsCutting tiling.now }
@@ -116,7 +120,11 @@ fn grid_codes(alloc: Global, tiling: &Tiling, flows: &[TileFlow]) -> Result<Vec<
     Ok(codes)
 }
 
-fn grid_streams(alloc: Global, tiling: &Tiling, codes: &[Option<Code>]) -> Result<GridStreams, NoMemory>
+fn grid_streams(
+    alloc: Global,
+    tiling: &Tiling,
+    codes: &[Option<Code>],
+) -> Result<GridStreams, NoMemory>
     requires { (d : Directed) × AreGridCodes d tiling.now codes.now }
     ensures { IfOk result (λ s. AreGridStreams tiling.now codes.now s.links.items s.weights.items s.came.items s.ends.items) }
 {
@@ -143,7 +151,13 @@ fn grid_inflows(
     ensures { IfOk result (λ v. AreInflows tiling.now (grid_bounds tiling.now) streams.now.links.items streams.now.weights.items streams.now.came.items v.items) }
 {
     let mut inflows = zeros(alloc, codes.len())?;
-    add_inflows(tiling, &streams.links, &streams.weights, &streams.came, &mut inflows);
+    add_inflows(
+        tiling,
+        &streams.links,
+        &streams.weights,
+        &streams.came,
+        &mut inflows,
+    );
     Ok(inflows)
 }
 

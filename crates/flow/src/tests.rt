@@ -149,7 +149,10 @@ fn valley_across_tiles(rt: HostRuntime) {
     let codes = [2, 4, 8, 0, 1, 2, 4, 8, 128, 1, 2, 4, 0, 128, 1, 0];
     let accumulation = accumulation_of(rt.alloc(), 4, 4, &codes).expect(&rt, "accumulation");
     assert!(rt;
-        is(&accumulation, &[0, 0, 0, 0, 0, 5, 0, 0, 0, 0, 10, 0, 0, 0, 0, 13])
+        is(
+            &accumulation,
+            &[0, 0, 0, 0, 0, 5, 0, 0, 0, 0, 10, 0, 0, 0, 0, 13]
+        )
     );
     let basins = basins_of(rt.alloc(), 4, 4, &codes).expect(&rt, "basins");
     assert!(rt; is(&basins, &[3, 3, 3, 1, 3, 3, 3, 3, 3, 3, 3, 3, 2, 3, 3, 3]));
@@ -194,14 +197,16 @@ fn no_data(rt: HostRuntime) {
     assert!(rt; accumulation.as_slice() == [None, None].as_slice());
     let basins = basins_of(rt.alloc(), 2, 1, &[3, 3]).expect(&rt, "basins");
     assert!(rt; basins.as_slice() == [None, None].as_slice());
-
 }
 
 #[test]
 fn slope_in_tiles(rt: HostRuntime) {
     let codes = [1, 1, 1, 1, 1, 0, 128, 128, 64, 64, 64, 64];
     let west = tile_flow_of(rt.alloc(), (6, 2), 2, 0, &codes).expect(&rt, "a flow");
-    assert_eq!(rt; west.exit(Place { row: 1, col: 0 }), Some(Place { row: 0, col: 1 }));
+    assert_eq!(rt;
+        west.exit(Place { row: 1, col: 0 }),
+        Some(Place { row: 0, col: 1 })
+    );
     assert_eq!(rt; west.through(Place { row: 0, col: 1 }), Some(2));
     assert_eq!(rt; west.through(Place { row: 0, col: 2 }), None);
     let middle = tile_flow_of(rt.alloc(), (6, 2), 2, 1, &codes).expect(&rt, "a flow");
@@ -213,13 +218,11 @@ fn slope_in_tiles(rt: HostRuntime) {
 fn slope_joined(rt: HostRuntime) {
     let codes = [1, 1, 1, 1, 1, 0, 128, 128, 64, 64, 64, 64];
     let place = Place { row: 0, col: 2 };
-    let (inflow, outlet) =
-        crossings_at(rt.alloc(), (6, 2), 2, &codes, place).expect(&rt, "links");
+    let (inflow, outlet) = crossings_at(rt.alloc(), (6, 2), 2, &codes, place).expect(&rt, "links");
     assert_eq!(rt; inflow, 4);
     assert_eq!(rt; outlet, None);
     let exit = Place { row: 0, col: 1 };
-    let (inflow, outlet) =
-        crossings_at(rt.alloc(), (6, 2), 2, &codes, exit).expect(&rt, "links");
+    let (inflow, outlet) = crossings_at(rt.alloc(), (6, 2), 2, &codes, exit).expect(&rt, "links");
     assert_eq!(rt; inflow, 0);
     assert_eq!(rt; outlet, Some(Place { row: 0, col: 5 }));
 }

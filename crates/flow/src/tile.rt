@@ -100,7 +100,11 @@ pub fn tile_flow(alloc: Global, codes: &TileView<'_, Option<Code>>) -> Result<Ti
 }
 
 /// The count of each data cell.
-pub(crate) fn through_counts(alloc: Global, cells: &[Option<Code>], came: &[u32]) -> Result<Vec<Option<u32>>, NoMemory>
+pub(crate) fn through_counts(
+    alloc: Global,
+    cells: &[Option<Code>],
+    came: &[u32],
+) -> Result<Vec<Option<u32>>, NoMemory>
     requires { length came.now ≡ length cells.now }
     ensures { IfOk result (λ v. v.items ≡ through_by cells.now came.now) }
 {

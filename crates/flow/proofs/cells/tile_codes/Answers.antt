@@ -1,4 +1,4 @@
-use Rattle.std.proofs.Common.{◌≡◌, ℕ, [], ◌∷◌, ◌++◌, get_or, None, Option, ap, ◌∙◌, sym, rules, arith}
+use Rattle.std.proofs.Common.{◌≡◌, [], ◌∷◌, ◌++◌, None, ap, ◌∙◌, rules}
 use Rattle.drain.specs.Following.{code_at}
 use Rattle.flow.specs.TileFlow.{directed_by}
 use Rattle.flow.specs.TileLinks.{place_in}
@@ -11,5 +11,5 @@ loop-index-preserved c =
     record {
       size = pushed_size _ _ _ _ pushed c.loop-index.invariant.size;
       each = pushed_each (λ i. code_at (directed_by c.args.codes.now) (place_in c.bounds-bounds.result i)) None _ _ _ _ pushed c.loop-index.invariant.size c.loop-index.invariant.each
-        (c.code_shown-code.ensures ∙ ap (code_at (directed_by c.args.codes.now)) c.place_at.ensures.value);
+          (c.code_shown-code.ensures ∙ ap (code_at (directed_by c.args.codes.now)) c.place_at.ensures.value);
     }

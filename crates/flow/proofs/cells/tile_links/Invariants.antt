@@ -1,4 +1,4 @@
-use Rattle.std.proofs.Common.{◌≡◌, ℕ, get_or, map, None}
+use Rattle.std.proofs.Common.{◌≡◌, get_or, map, None}
 use Rattle.std.specs.List.{range_with_len}
 use Rattle.flow.specs.TileLinks.{link_by}
 use Rattle.flow.proofs.cells.tile_links.Given as goal

@@ -1,7 +1,4 @@
-use Rattle.std.proofs.Common.{◌≡◌, ℕ, subst}
-use Rattle.drain.specs.Following.{Directed}
-use Rattle.flow.specs.Counts.{AreAccumulations}
-use Rattle.flow.proofs.Directed.{directed_same, grid_flow}
+use Rattle.flow.proofs.Directed.{grid_flow}
 use Rattle.flow.proofs.counting.accumulation.Goals as goal
 
 pub grid_accumulation-requires : goal.grid_accumulation-requires

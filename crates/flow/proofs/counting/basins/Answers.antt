@@ -1,7 +1,4 @@
-use Rattle.std.proofs.Common.{◌≡◌, ℕ, subst}
-use Rattle.drain.specs.Following.{Directed}
-use Rattle.flow.specs.Counts.{AreBasins}
-use Rattle.flow.proofs.Directed.{directed_same, grid_flow}
+use Rattle.flow.proofs.Directed.{grid_flow}
 use Rattle.flow.proofs.counting.basins.Goals as goal
 
 pub grid_basins-requires : goal.grid_basins-requires

@@ -1,4 +1,4 @@
-use Rattle.std.proofs.Common.{◌≡◌, ℕ, get_or, map, None}
+use Rattle.std.proofs.Common.{◌≡◌, get_or, map, None}
 use Rattle.std.specs.List.{range_with_len}
 use Rattle.flow.specs.TileLinks.{where_data}
 use Rattle.flow.proofs.counting.numbered.Given as goal

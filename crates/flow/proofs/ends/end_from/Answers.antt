@@ -1,4 +1,4 @@
-use Rattle.std.proofs.Common.{◌≡◌, ap, ◌∙◌}
+use Rattle.std.proofs.Common.{ap, ◌∙◌}
 use Rattle.flow.specs.Streams.{end_of}
 use Rattle.flow.proofs.Ending.{end-along}
 use Rattle.flow.proofs.ends.end_from.Goals as goal

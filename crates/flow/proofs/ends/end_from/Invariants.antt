@@ -5,5 +5,5 @@ use Rattle.flow.proofs.ends.end_from.Given as goal
 abbrev pub invariant-path : goal.invariant-path
 invariant-path l = record {
   along : l.node ≡ node_after l.links l.from l.counter;
-  inside : l.node < length l.links
+  inside : l.node < length l.links;
 }

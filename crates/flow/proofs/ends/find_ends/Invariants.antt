@@ -5,5 +5,5 @@ use Rattle.flow.proofs.ends.find_ends.Given as goal
 abbrev pub invariant-loop-node : goal.invariant-loop-node
 invariant-loop-node l = record {
   found : AreFound l.links l.ends;
-  early : (i : ℕ) → i < l.node → IsKnown l.ends i
+  early : (i : ℕ) → i < l.node → IsKnown l.ends i;
 }

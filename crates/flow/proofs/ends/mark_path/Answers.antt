@@ -1,6 +1,5 @@
-use Rattle.std.proofs.Common.{◌≡◌, ◌≢◌, ℕ, ◌+◌, ◌<◌, ◌⊎◌, inl, inr, List, length, get_or, set, subst, sym, ap, refl, ◌∙◌, arith}
-use Rattle.flow.specs.Streams.{end_of}
-use Rattle.flow.specs.Finding.{AreFound, IsKnown, unknown_mark}
+use Rattle.std.proofs.Common.{◌≢◌, ℕ, ◌<◌, inl, inr, length, set, subst, sym, refl, ◌∙◌, arith}
+use Rattle.flow.specs.Finding.{IsKnown, unknown_mark}
 use Rattle.flow.proofs.Ending.{found_more, known_same, known_still, end-onward, end-inside}
 use Rattle.flow.proofs.ends.mark_path.Goals as goal
 
@@ -23,6 +22,7 @@ path-preserved c =
       last = c.path.invariant.last ∙ sym (end-onward c.args.links.now c.requires.streams c.path.node c.path.invariant.inside);
       kept = λ i k. known_still c.path.ends c.path.node c.args.last at ne i (c.path.invariant.kept i k);
       marked = inr (elim c.path.invariant.marked [
-          inl b ↦ subst (λ (n : ℕ). IsKnown (set c.path.ends c.path.node c.args.last) n) b.1 (known_same c.path.ends c.path.node c.args.last at ne)
-        | inr k ↦ known_still c.path.ends c.path.node c.args.last at ne c.args.from k ]);
+        | inl b ↦ subst (λ (n : ℕ). IsKnown (set c.path.ends c.path.node c.args.last) n) b.1 (known_same c.path.ends c.path.node c.args.last at ne)
+        | inr k ↦ known_still c.path.ends c.path.node c.args.last at ne c.args.from k
+      ]);
     }

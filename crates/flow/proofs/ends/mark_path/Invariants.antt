@@ -9,5 +9,5 @@ invariant-path l = record {
   inside : l.node < length l.links;
   last : l.last ≡ end_of l.links l.node;
   kept : (i : ℕ) → IsKnown l.initial.ends i → IsKnown l.ends i;
-  marked : ((l.counter ≡ 0) × (l.node ≡ l.from)) ⊎ IsKnown l.ends l.from
+  marked : ((l.counter ≡ 0) × (l.node ≡ l.from)) ⊎ IsKnown l.ends l.from;
 }

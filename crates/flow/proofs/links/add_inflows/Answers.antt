@@ -1,24 +1,10 @@
-use Rattle.std.proofs.Common.{◌≡◌, ◌≢◌, ℕ, ◌+◌, ◌*◌, ◌^◌, ◌<◌, ◌≤◌, ◌&&◌, ◌||◌, true, eqb, inl, inr, [], ◌∷◌, ◌++◌, List, length, get_or, Option, None, Some, slice_get, cond, is_some, subst, sym, ap, refl, ◌∙◌, arith, rules, mul_comm}
-use Rattle.std.specs.Option.{option_and_then}
-use Rattle.std.proofs.lemmas.List.{get_or_default}
-use Rattle.std.proofs.lemmas.Option.{slice_get_read}
-use Rattle.ascii_grid.specs.declared.place.Place.{Place}
-use Rattle.ascii_grid.specs.Neighbours.{index_of}
-use Rattle.ascii_grid.proofs.Places.{index_below, entry-inside}
+use Rattle.std.proofs.Common.{◌≡◌, ℕ, ◌+◌, ◌^◌, ◌<◌, true, inl, inr, List, length, get_or, sym, ap, ◌∙◌, arith, rules}
 use Rattle.tiles.specs.declared.bounds.Bounds.{Bounds}
-use Rattle.tiles.specs.Cutting.{Cutting, IsWithin, tile_of_place}
-use Rattle.tiles.proofs.Cut.{tile_of_place_below}
-use Rattle.drain.specs.Following.{Directed}
-use Rattle.flow.specs.Streams.{AreStreams, AreUpstream, AreEnds, total, sum_below}
-use Rattle.flow.specs.Sending.{AreNone}
-use Rattle.flow.specs.TileFlow.{Flow, entry_in}
-use Rattle.flow.specs.TileLinks.{place_in, links_by, weights_by}
-use Rattle.flow.specs.Crossing.{AreInflows, crossing, are_apart}
-use Rattle.flow.specs.Joining.{AreGridCodes, AreGridStreams, grid_bounds, code_in, codes_joined, is_exit, outlets_by}
-use Rattle.flow.specs.Links.{Links, IsLinks, AreLinks, inflow_in, outlet_in}
-use Rattle.flow.proofs.Ending.{end-inside}
-use Rattle.flow.proofs.Pushing.{mapped_more}
-use Rattle.flow.proofs.Joined.{grid_are_streams, grid_size, grid_few, grid_same, grid_fits, crossing_fits, crossed_more, crossed_still, crossed_fits, codes_from, links_lawful, links_are}
+use Rattle.tiles.specs.Cutting.{Cutting}
+use Rattle.flow.specs.Streams.{sum_below}
+use Rattle.flow.specs.Crossing.{crossing, are_apart}
+use Rattle.flow.specs.Joining.{grid_bounds}
+use Rattle.flow.proofs.Joined.{crossed_more, crossed_still, crossed_fits}
 use Rattle.flow.proofs.links.add_inflows.Goals as goal
 use Rattle.flow.proofs.links.add_inflows.Goals.{then-next-node+then-lie_apart, else-next-node, else-next-node-via-then-next-node+else-lie_apart, else-next-node-via-else-next-node}
 
@@ -26,14 +12,14 @@ pub overflow_add-inflows : goal.overflow_add-inflows
 overflow_add-inflows c =
     let apart : are_apart c.args.tiling.now (grid_bounds c.args.tiling.now) c.loop-node.node (get_or c.args.links.now c.loop-node.node 0) ≡ true = sym c.if-lie_apart.ensures in
     let fits : get_or c.args.came.now c.loop-node.node 0 + get_or c.args.weights.now c.loop-node.node 0 < 2 ^ 32 =
-      omega (arith, crossed_fits c.args.tiling.now (grid_bounds c.args.tiling.now) c.args.links.now c.args.weights.now c.args.came.now c.loop-node.inflows c.loop-node.node c.loop-node-test.true (c.requires.streams.inside c.loop-node.node c.loop-node-test.true) c.if-next-node.true apart c.requires.few c.loop-node.invariant.each) in
+    omega (arith, crossed_fits c.args.tiling.now (grid_bounds c.args.tiling.now) c.args.links.now c.args.weights.now c.args.came.now c.loop-node.inflows c.loop-node.node c.loop-node-test.true (c.requires.streams.inside c.loop-node.node c.loop-node-test.true) c.if-next-node.true apart c.requires.few c.loop-node.invariant.each) in
     search rules
 
 pub overflow_add-inflows-then-lie_apart : goal.overflow_add-inflows-then-lie_apart
 overflow_add-inflows-then-lie_apart c =
     let apart : are_apart c.args.tiling.now (grid_bounds c.args.tiling.now) c.loop-node.node (get_or c.args.links.now c.loop-node.node 0) ≡ true = sym c.if-lie_apart.ensures in
     let fits : get_or c.loop-node.inflows (get_or c.args.links.now c.loop-node.node 0) 0 + (get_or c.args.came.now c.loop-node.node 0 + get_or c.args.weights.now c.loop-node.node 0) < 2 ^ 32 =
-      crossed_fits c.args.tiling.now (grid_bounds c.args.tiling.now) c.args.links.now c.args.weights.now c.args.came.now c.loop-node.inflows c.loop-node.node c.loop-node-test.true (c.requires.streams.inside c.loop-node.node c.loop-node-test.true) c.if-next-node.true apart c.requires.few c.loop-node.invariant.each in
+    crossed_fits c.args.tiling.now (grid_bounds c.args.tiling.now) c.args.links.now c.args.weights.now c.args.came.now c.loop-node.inflows c.loop-node.node c.loop-node-test.true (c.requires.streams.inside c.loop-node.node c.loop-node-test.true) c.if-next-node.true apart c.requires.few c.loop-node.invariant.each in
     search rules
 
 flows_are : (t : Cutting) (b : Bounds) (links weights came inflows new : List ℕ) (node : ℕ) → new ≡ inflows →
@@ -46,12 +32,14 @@ loop-node-preserved c =
     record {
       size = omega (arith, c.if-next-node.auto.inflows, c.loop-node.invariant.size);
       each = elim c.if-next-node.branch [
-          then-next-node+then-lie_apart w ↦ flows_are c.args.tiling.now (grid_bounds c.args.tiling.now) c.args.links.now c.args.weights.now c.args.came.now _ _ _ w.inflows-is
+        | then-next-node+then-lie_apart w ↦ flows_are c.args.tiling.now (grid_bounds c.args.tiling.now) c.args.links.now c.args.weights.now c.args.came.now _ _ _ w.inflows-is
             (crossed_more c.args.tiling.now (grid_bounds c.args.tiling.now) c.args.links.now c.args.weights.now c.args.came.now c.loop-node.inflows c.loop-node.node c.loop-node.invariant.size (c.requires.streams.inside c.loop-node.node c.loop-node-test.true) w.if-next-node.true (sym w.if-lie_apart.ensures) c.loop-node.invariant.each)
         | else-next-node w ↦ flows_are c.args.tiling.now (grid_bounds c.args.tiling.now) c.args.links.now c.args.weights.now c.args.came.now _ _ _ w.inflows-is
             (crossed_still c.args.tiling.now (grid_bounds c.args.tiling.now) c.args.links.now c.args.weights.now c.args.came.now c.loop-node.inflows c.loop-node.node
-              (elim w.else-next-node.branch [
-                  else-next-node-via-then-next-node+else-lie_apart v ↦ inr (sym v.if-lie_apart.ensures)
-                | else-next-node-via-else-next-node v ↦ inl v.if-next-node.false ])
-              c.loop-node.invariant.each) ];
+            (elim w.else-next-node.branch [
+              | else-next-node-via-then-next-node+else-lie_apart v ↦ inr (sym v.if-lie_apart.ensures)
+              | else-next-node-via-else-next-node v ↦ inl v.if-next-node.false
+            ])
+            c.loop-node.invariant.each)
+      ];
     }

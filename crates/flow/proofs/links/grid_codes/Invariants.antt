@@ -1,4 +1,4 @@
-use Rattle.std.proofs.Common.{◌≡◌, ℕ, map}
+use Rattle.std.proofs.Common.{◌≡◌, map}
 use Rattle.std.specs.List.{range_with_len}
 use Rattle.flow.specs.TileLinks.{place_in}
 use Rattle.flow.specs.Joining.{code_in, grid_bounds}

@@ -1,4 +1,4 @@
-use Rattle.std.proofs.Common.{◌≡◌, ℕ, get_or, map, None, Some, cond}
+use Rattle.std.proofs.Common.{◌≡◌, get_or, map, None, Some, cond}
 use Rattle.std.specs.List.{range_with_len}
 use Rattle.flow.specs.TileLinks.{place_in}
 use Rattle.flow.specs.Joining.{is_exit, grid_bounds}

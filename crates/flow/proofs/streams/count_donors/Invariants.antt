@@ -6,5 +6,5 @@ use Rattle.flow.proofs.streams.count_donors.Given as goal
 abbrev pub invariant-loop-node : goal.invariant-loop-node
 invariant-loop-node l = record {
   size : length l.counts ≡ length l.links;
-  each : (i : ℕ) → i < length l.links → get_or l.counts i 0 ≡ sum_below (donor l.links i) l.node
+  each : (i : ℕ) → i < length l.links → get_or l.counts i 0 ≡ sum_below (donor l.links i) l.node;
 }

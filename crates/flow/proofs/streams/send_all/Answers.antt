@@ -1,4 +1,4 @@
-use Rattle.std.proofs.Common.{◌≡◌, ◌≢◌, ℕ, ◌<◌, length, get_or, arith}
+use Rattle.std.proofs.Common.{arith}
 use Rattle.flow.proofs.Settled.{donors_begin, upstream_from}
 use Rattle.flow.proofs.streams.send_all.Goals as goal
 

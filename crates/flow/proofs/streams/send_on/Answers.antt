@@ -1,4 +1,4 @@
-use Rattle.std.proofs.Common.{◌≡◌, ◌≢◌, ℕ, ◌+◌, ◌-◌, ◌^◌, ◌<◌, ◌≤◌, length, get_or, set, sym, ◌∙◌, arith, rules}
+use Rattle.std.proofs.Common.{◌+◌, ◌^◌, ◌<◌, get_or, arith, rules}
 use Rattle.std.proofs.lemmas.List.{get_or-set_other}
 use Rattle.flow.specs.Sending.{sent_mark}
 use Rattle.flow.proofs.Settled.{came_le}
@@ -14,20 +14,26 @@ bounds-came-next-in-downstream c = omega (arith, c.requires.streams.inside c.dow
 pub overflow_add-came : goal.overflow_add-came
 overflow_add-came c =
     let fits : get_or c.downstream.came c.downstream.node 0 + get_or c.args.weights.now c.downstream.node 0 < 2 ^ 32 =
-      omega (arith, came_le _ _ _ _ c.downstream.invariant.sending c.downstream.node c.downstream.invariant.inside, c.requires.fits c.downstream.node c.downstream.invariant.inside) in
+    omega (arith, came_le _ _ _ _ c.downstream.invariant.sending c.downstream.node c.downstream.invariant.inside, c.requires.fits c.downstream.node c.downstream.invariant.inside) in
     search rules
 
 pub overflow_add-came-in-downstream : goal.overflow_add-came-in-downstream
 overflow_add-came-in-downstream c =
     let fits : get_or c.downstream.came (get_or c.args.links.now c.downstream.node 0) 0 + (get_or c.downstream.came c.downstream.node 0 + get_or c.args.weights.now c.downstream.node 0) < 2 ^ 32 =
-      omega (arith, step_fits _ _ _ _ c.requires.streams c.requires.few c.downstream.invariant.sending c.downstream.node c.downstream.invariant.inside c.downstream-test.true c.if-next-node.false,
-        c.requires.fits (get_or c.args.links.now c.downstream.node 0) (c.requires.streams.inside c.downstream.node c.downstream.invariant.inside)) in
+    omega (
+      arith,
+      step_fits _ _ _ _ c.requires.streams c.requires.few c.downstream.invariant.sending c.downstream.node c.downstream.invariant.inside c.downstream-test.true c.if-next-node.false,
+      c.requires.fits (get_or c.args.links.now c.downstream.node 0) (c.requires.streams.inside c.downstream.node c.downstream.invariant.inside),
+    ) in
     search rules
 
 pub overflow_sub-waits : goal.overflow_sub-waits
 overflow_sub-waits c =
-    omega (arith, step_waits _ _ _ _ c.requires.streams c.requires.few c.downstream.invariant.sending c.downstream.node c.downstream.invariant.inside c.downstream-test.true c.if-next-node.false,
-      get_or-set_other c.downstream.waits c.downstream.node (get_or c.args.links.now c.downstream.node 0) sent_mark 0 c.if-next-node.false)
+    omega (
+      arith,
+      step_waits _ _ _ _ c.requires.streams c.requires.few c.downstream.invariant.sending c.downstream.node c.downstream.invariant.inside c.downstream-test.true c.if-next-node.false,
+      get_or-set_other c.downstream.waits c.downstream.node (get_or c.args.links.now c.downstream.node 0) sent_mark 0 c.if-next-node.false,
+    )
 
 pub returns-then-next-node-clause-sending : goal.returns-then-next-node-clause-sending
 returns-then-next-node-clause-sending c =
@@ -36,7 +42,7 @@ returns-then-next-node-clause-sending c =
 pub returns-then-next-node-clause-early : goal.returns-then-next-node-clause-early
 returns-then-next-node-clause-early c =
     end_early _ _ _ _ c.requires.streams c.requires.few c.downstream.invariant.sending c.downstream.node c.downstream.invariant.inside c.downstream-test.true c.if-next-node.true
-      (c.args.from + 1) c.downstream.invariant.early
+    (c.args.from + 1) c.downstream.invariant.early
 
 pub downstream-smaller : goal.downstream-smaller
 downstream-smaller c =
@@ -47,5 +53,5 @@ downstream-preserved c = record {
   sending = step_sending _ _ _ _ c.requires.streams c.requires.few c.downstream.invariant.sending c.downstream.node c.downstream.invariant.inside c.downstream-test.true c.if-next-node.false;
   inside = c.requires.streams.inside c.downstream.node c.downstream.invariant.inside;
   early = step_early _ _ _ _ c.requires.streams c.requires.few c.downstream.invariant.sending c.downstream.node c.downstream.invariant.inside c.downstream-test.true c.if-next-node.false
-    (c.args.from + 1) c.downstream.invariant.early;
+      (c.args.from + 1) c.downstream.invariant.early;
 }

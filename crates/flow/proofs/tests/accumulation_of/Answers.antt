@@ -1,4 +1,4 @@
-use Rattle.std.proofs.Common.{◌≡◌, ℕ, List, Option, subst, sym, ◌∙◌}
+use Rattle.std.proofs.Common.{ℕ, List, Option, subst, sym, ◌∙◌}
 use Rattle.flow.specs.Whole.{IsGridFlow}
 use Rattle.flow.proofs.Testing.{grid_from_test}
 use Rattle.flow.proofs.tests.accumulation_of.Goals as goal

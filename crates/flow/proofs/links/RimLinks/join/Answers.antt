@@ -1,24 +1,9 @@
-use Rattle.std.proofs.Common.{◌≡◌, ◌≢◌, ℕ, ◌+◌, ◌*◌, ◌^◌, ◌<◌, ◌≤◌, ◌&&◌, ◌||◌, true, eqb, inl, inr, [], ◌∷◌, ◌++◌, List, length, get_or, Option, None, Some, slice_get, cond, is_some, subst, sym, ap, refl, ◌∙◌, arith, rules, mul_comm}
-use Rattle.std.specs.Option.{option_and_then}
-use Rattle.std.proofs.lemmas.List.{get_or_default}
-use Rattle.std.proofs.lemmas.Option.{slice_get_read}
+use Rattle.std.proofs.Common.{◌≡◌, ℕ, List, Option, subst, sym, ap, ◌∙◌}
 use Rattle.ascii_grid.specs.declared.place.Place.{Place}
-use Rattle.ascii_grid.specs.Neighbours.{index_of}
-use Rattle.ascii_grid.proofs.Places.{index_below, entry-inside}
-use Rattle.tiles.specs.declared.bounds.Bounds.{Bounds}
-use Rattle.tiles.specs.Cutting.{Cutting, IsWithin, tile_of_place}
-use Rattle.tiles.proofs.Cut.{tile_of_place_below}
-use Rattle.drain.specs.Following.{Directed}
-use Rattle.flow.specs.Streams.{AreStreams, AreUpstream, AreEnds, total, sum_below}
-use Rattle.flow.specs.Sending.{AreNone}
-use Rattle.flow.specs.TileFlow.{Flow, entry_in}
-use Rattle.flow.specs.TileLinks.{place_in, links_by, weights_by}
-use Rattle.flow.specs.Crossing.{AreInflows, crossing, are_apart}
-use Rattle.flow.specs.Joining.{AreGridCodes, AreGridStreams, grid_bounds, code_in, codes_joined, is_exit, outlets_by}
-use Rattle.flow.specs.Links.{Links, IsLinks, AreLinks, inflow_in, outlet_in}
-use Rattle.flow.proofs.Ending.{end-inside}
-use Rattle.flow.proofs.Pushing.{mapped_more}
-use Rattle.flow.proofs.Joined.{grid_are_streams, grid_size, grid_few, grid_same, grid_fits, crossing_fits, crossed_more, crossed_still, crossed_fits, codes_from, links_lawful, links_are}
+use Rattle.tiles.specs.Cutting.{Cutting}
+use Rattle.flow.specs.Joining.{AreGridCodes, AreGridStreams, codes_joined, outlets_by}
+use Rattle.flow.specs.Links.{Links, IsLinks, AreLinks}
+use Rattle.flow.proofs.Joined.{codes_from, links_lawful, links_are}
 use Rattle.flow.proofs.links.RimLinks.join.Goals as goal
 
 abbrev make_links : Cutting → List ℕ → List (Option Place) → Links
@@ -46,12 +31,12 @@ invariant_of-result c =
     let joined_too : c.deref.result.now ≡ codes_joined c.args.tiling.now c.args.flows.now = c.deref.ensures.value ∙ c.in_ok-codes.ensures.value in
     let joined_last : c.deref-3.result.now ≡ codes_joined c.args.tiling.now c.args.flows.now = c.deref-3.ensures.value ∙ c.in_ok-codes.ensures.value in
     let s : AreGridStreams c.args.tiling.now (codes_joined c.args.tiling.now c.args.flows.now) c.in_ok-streams.streams.links.items c.in_ok-streams.streams.weights.items c.in_ok-streams.streams.came.items c.in_ok-streams.streams.ends.items =
-      subst (λ (x : List (Option ℕ)). AreGridStreams c.args.tiling.now x c.in_ok-streams.streams.links.items c.in_ok-streams.streams.weights.items c.in_ok-streams.streams.came.items c.in_ok-streams.streams.ends.items) joined_too c.in_ok-streams.ensures in
+    subst (λ (x : List (Option ℕ)). AreGridStreams c.args.tiling.now x c.in_ok-streams.streams.links.items c.in_ok-streams.streams.weights.items c.in_ok-streams.streams.came.items c.in_ok-streams.streams.ends.items) joined_too c.in_ok-streams.ensures in
     let out : c.in_ok-outlets.outlets.items ≡ outlets_by c.args.tiling.now (codes_joined c.args.tiling.now c.args.flows.now) c.in_ok-streams.streams.links.items c.in_ok-streams.streams.ends.items =
-      c.in_ok-outlets.ensures ∙ ap (λ (x : List (Option ℕ)). outlets_by c.args.tiling.now x c.in_ok-streams.streams.links.items c.in_ok-streams.streams.ends.items) joined_last in
+    c.in_ok-outlets.ensures ∙ ap (λ (x : List (Option ℕ)). outlets_by c.args.tiling.now x c.in_ok-streams.streams.links.items c.in_ok-streams.streams.ends.items) joined_last in
     let codes = codes_from c.requires.0 c.args.tiling.now c.args.flows.now c.grid_codes.ensures.lawful c.requires.1 c.requires.2 in
     subst (λ (o : List (Option Place)). IsLinks (make_links c.args.tiling.now c.in_ok-inflows.inflows.items o)) (sym out)
-      (links_lawful _ _ _ codes _ _ s.links s.weights _ _ _ s.came s.ends c.in_ok-inflows.ensures)
+    (links_lawful _ _ _ codes _ _ s.links s.weights _ _ _ s.came s.ends c.in_ok-inflows.ensures)
 
 pub returns-clause-links : goal.returns-clause-links
 returns-clause-links c =
@@ -60,9 +45,9 @@ returns-clause-links c =
     let joined_too : c.deref.result.now ≡ codes_joined c.args.tiling.now c.args.flows.now = c.deref.ensures.value ∙ c.in_ok-codes.ensures.value in
     let joined_last : c.deref-3.result.now ≡ codes_joined c.args.tiling.now c.args.flows.now = c.deref-3.ensures.value ∙ c.in_ok-codes.ensures.value in
     let s : AreGridStreams c.args.tiling.now (codes_joined c.args.tiling.now c.args.flows.now) c.in_ok-streams.streams.links.items c.in_ok-streams.streams.weights.items c.in_ok-streams.streams.came.items c.in_ok-streams.streams.ends.items =
-      subst (λ (x : List (Option ℕ)). AreGridStreams c.args.tiling.now x c.in_ok-streams.streams.links.items c.in_ok-streams.streams.weights.items c.in_ok-streams.streams.came.items c.in_ok-streams.streams.ends.items) joined_too c.in_ok-streams.ensures in
+    subst (λ (x : List (Option ℕ)). AreGridStreams c.args.tiling.now x c.in_ok-streams.streams.links.items c.in_ok-streams.streams.weights.items c.in_ok-streams.streams.came.items c.in_ok-streams.streams.ends.items) joined_too c.in_ok-streams.ensures in
     let out : c.in_ok-outlets.outlets.items ≡ outlets_by c.args.tiling.now (codes_joined c.args.tiling.now c.args.flows.now) c.in_ok-streams.streams.links.items c.in_ok-streams.streams.ends.items =
-      c.in_ok-outlets.ensures ∙ ap (λ (x : List (Option ℕ)). outlets_by c.args.tiling.now x c.in_ok-streams.streams.links.items c.in_ok-streams.streams.ends.items) joined_last in
+    c.in_ok-outlets.ensures ∙ ap (λ (x : List (Option ℕ)). outlets_by c.args.tiling.now x c.in_ok-streams.streams.links.items c.in_ok-streams.streams.ends.items) joined_last in
     λ d ends f.
-      subst (λ (o : List (Option Place)). AreLinks d c.args.tiling.now (make_links c.args.tiling.now c.in_ok-inflows.inflows.items o)) (sym out)
-        (links_are _ _ _ (codes_from d c.args.tiling.now c.args.flows.now c.grid_codes.ensures.lawful ends f) _ _ s.links s.weights _ _ _ s.came s.ends c.in_ok-inflows.ensures)
+    subst (λ (o : List (Option Place)). AreLinks d c.args.tiling.now (make_links c.args.tiling.now c.in_ok-inflows.inflows.items o)) (sym out)
+    (links_are _ _ _ (codes_from d c.args.tiling.now c.args.flows.now c.grid_codes.ensures.lawful ends f) _ _ s.links s.weights _ _ _ s.came s.ends c.in_ok-inflows.ensures)
