@@ -16,7 +16,7 @@ returns-in_err-counts-in-View-clause-fault g c =
     let asked : map_fault grid w.map ≡ observers_fault grid.terrain c.in-View.observers.items c.in-View.target c.in-View.radius = ap (λ m. map_fault grid m) (sym c.map.ensures ∙ c.in-View.is) in
     let refusals = rw (c.deref.ensures.value, c.workers-workers.ensures.value) at c.in_err-counts-in-View.ensures.refusals in
     let told = rw (← asked) at refusals in
-    rw (p.1, p.2) (view_refused w grid c.in_err-counts-in-View.field-0.0 c.tile.ensures.limits.2 c.tile.ensures.limits.3 (wish_of_few w grid (rw c.tile.ensures.value at c.in_ok-tiling.ensures.few)) ?)
+    rw (p.1, p.2) (view_refused w grid c.in_err-counts-in-View.field-0.0 c.tile.ensures.limits.2 c.tile.ensures.limits.3 (wish_of_few w grid (rw c.tile.ensures.value at c.in_ok-tiling.ensures.few)) told)
 
 pub returns-in_ok-counts-in-View-clause-ready : goal.returns-in_ok-counts-in-View-clause-ready
 returns-in_ok-counts-in-View-clause-ready g c =
