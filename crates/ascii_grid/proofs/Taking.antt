@@ -1,11 +1,10 @@
 -- A grid that is read piece by piece.
-use Rattle.std.proofs.Common.{◌≡◌, ℕ, ◌+◌, ◌-◌, ◌^◌, ◌<◌, ◌≤◌, Bool, true, false, cond, leb, List, [], ◌++◌, length, take, drop, Option, None, Some, sym, ap, subst, refl, ◌∙◌, arith}
-use Rattle.std.specs.Option.{option_or, MatchOption}
-use Rattle.std.specs.Io.KnownBytes.{Consumes, Keeps, IsAtEnd}
+use Rattle.std.proofs.Common.{◌≡◌, ℕ, ◌≤◌, List, [], ◌++◌, length, Option, None, Some, sym, ap, ◌∙◌}
+use Rattle.std.specs.Option.{MatchOption}
+use Rattle.std.specs.Io.KnownBytes.{Consumes, IsAtEnd}
 use Rattle.std.proofs.lemmas.Bool.{cond-true, le-leb}
 use Rattle.std.proofs.lemmas.List.{append-nil, append_assoc}
 use Rattle.std.proofs.lemmas.Option.{same_Some}
-use Rattle.ascii_grid.specs.Words.{ended_words}
 use Rattle.ascii_grid.specs.Device.{Device}
 use Rattle.ascii_grid.specs.GridText.{fault_so_far, words_fault, most_bytes, IsRefusalSoFar}
 use Rattle.ascii_grid.specs.Reading.{Reading, IsReading, HasTaken}

@@ -1,6 +1,6 @@
 -- What the definitions satisfy. Source: this project.
 use Rattle.std.specs.Prelude.{◌≡◌, ℕ, ◌≤◌, ◌++◌, ℤ, List, length, Option, Some, Contains}
-use Rattle.ascii_grid.specs.Raster.{Raster, Terrain, IsLawful, IsTerrain}
+use Rattle.ascii_grid.specs.Raster.{Raster, Terrain, IsLawful}
 use Rattle.ascii_grid.specs.Neighbours.{IsDataCell}
 use Rattle.ascii_grid.specs.Filled.{IsFilled, IsFilledHeight}
 use Rattle.ascii_grid.specs.GridText.{IsGridText, text_fault, fault_so_far, most_bytes, judged_words, AsksForCells, IsRefusalSoFar}

@@ -1,9 +1,8 @@
 -- A text has one map.
-use Rattle.std.proofs.Common.{◌≡◌, ℕ, ◌*◌, ◌<◌, ◌⊎◌, List, length, Option, None, Some, ℤ, sym, ap, subst, refl, ◌∙◌, inl, inr}
-use Rattle.std.specs.Option.{MatchOption}
+use Rattle.std.proofs.Common.{◌≡◌, ℕ, ◌⊎◌, List, Option, None, Some, ℤ, sym, ap, subst, refl, ◌∙◌, inl, inr}
 use Rattle.std.proofs.lemmas.Option.{MatchOption-at_none, MatchOption-at_some}
 use Rattle.ascii_grid.specs.Raster.{Raster, Terrain}
-use Rattle.ascii_grid.specs.Neighbours.{height_at, entry_at}
+use Rattle.ascii_grid.specs.Neighbours.{height_at}
 use Rattle.ascii_grid.specs.Filled.{IsFilled, IsFilledGrid}
 use Rattle.ascii_grid.specs.Text.{heights_text, counts_text}
 use Rattle.ascii_grid.specs.declared.place.Place.{Place}
@@ -56,8 +55,8 @@ one_drainage : (g : Raster) (d e : Directed) → IsDrainage g d → IsDrainage g
 one_drainage g d e a b =
     let filled : a.filled ≡ b.filled = one_filled_grid g a.filled b.filled a.is_filled b.is_filled in
     let codes : d.codes ≡ e.codes =
-        one_list_of_directions b.filled.terrain d.codes e.codes
-        (subst (λ (f : Raster). AreDirections f.terrain d.codes) filled a.directions) b.directions in
+    one_list_of_directions b.filled.terrain d.codes e.codes
+    (subst (λ (f : Raster). AreDirections f.terrain d.codes) filled a.directions) b.directions in
     ap (λ cols. directed cols d.rows d.codes) (a.same_size.0 ∙ sym b.same_size.0)
     ∙ ap (λ rows. directed e.cols rows d.codes) (a.same_size.1 ∙ sym b.same_size.1)
     ∙ ap (λ cs. directed e.cols e.rows cs) codes

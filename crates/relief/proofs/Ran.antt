@@ -1,5 +1,5 @@
 -- A run from what its parts left.
-use Rattle.std.proofs.Common.{◌≡◌, ℕ, ◌+◌, ◌<◌, ◌≤◌, List, [], length, Option, None, Some, Result, Ok, Err, sym, ap, refl, ◌∙◌, arith}
+use Rattle.std.proofs.Common.{◌≡◌, ℕ, ◌+◌, ◌≤◌, List, length, Option, None, Some, Ok, Err, refl, ◌∙◌, arith}
 use Rattle.std.specs.Io.KnownBytes.{Keeps, Consumes}
 use Rattle.ascii_grid.specs.Raster.{Raster}
 use Rattle.ascii_grid.specs.Device.{Device, Writes}
@@ -9,7 +9,7 @@ use Rattle.ascii_grid.specs.declared.counted.WriteFailed.{WriteFailed}
 use Rattle.ascii_grid.specs.declared.input.InputFault.{InputFault}
 use Rattle.ascii_grid.specs.declared.input.InputFault.TheVariants as input
 use Rattle.relief.specs.declared.fault.RunFault.{RunFault}
-use Rattle.relief.specs.declared.fault.RunFault.TheVariants.{Grid, Read, Write}
+use Rattle.relief.specs.declared.fault.RunFault.TheVariants.{Read, Write}
 use Rattle.relief.specs.declared.making.MadeMap.{MadeMap}
 use Rattle.relief.specs.Wish.{Wish}
 use Rattle.relief.specs.Faults.{of_input}
@@ -32,11 +32,11 @@ pub record Took {R : Type 0} (remaining : R → Option (List ℕ)) (scale : ℕ)
 
 -- nothing was read as a grid
 pub reading_refused : {R W : Type 0} (remaining : R → Option (List ℕ)) (contents : W → Option (List ℕ)) (w : Wish) (reader left : Device R) (writer : Device W) (e : InputFault)
-  → ((text : List ℕ) (f : GridFault) → remaining reader.device ≡ Some text → e ≡ input.Grid f → IsRefusal w.scale text f)
-  → (e ≡ input.Read → left.failures ≡ reader.failures + 1)
-  → ((e ≡ input.Read → ⊥) → left.failures ≡ reader.failures)
-  → Took remaining w.scale reader left (e ≡ input.Read)
-  → Runs {T = Unit {0}} remaining contents w reader left writer writer (Err (of_input e))
+    → ((text : List ℕ) (f : GridFault) → remaining reader.device ≡ Some text → e ≡ input.Grid f → IsRefusal w.scale text f)
+    → (e ≡ input.Read → left.failures ≡ reader.failures + 1)
+    → ((e ≡ input.Read → ⊥) → left.failures ≡ reader.failures)
+    → Took remaining w.scale reader left (e ≡ input.Read)
+    → Runs {T = Unit {0}} remaining contents w reader left writer writer (Err (of_input e))
 reading_refused remaining contents w reader left writer (input.Grid f) fault read sound took =
     let same : left.failures ≡ reader.failures = sound (λ e. cc) in record {
       written = λ text told. tt;
@@ -64,10 +64,10 @@ reading_refused remaining contents w reader left writer input.Read fault read so
 
 -- a grid was read, and no map was made of it
 pub making_refused : {R W : Type 0} (remaining : R → Option (List ℕ)) (contents : W → Option (List ℕ)) (w : Wish) (reader left : Device R) (writer : Device W) (g : Raster) (f : RunFault)
-  → ((text : List ℕ) → remaining reader.device ≡ Some text → IsGridText w.scale text g)
-  → left.failures ≡ reader.failures → Took remaining w.scale reader left ⊥
-  → IsWorkRefusal w g f
-  → Runs {T = Unit {0}} remaining contents w reader left writer writer (Err f)
+    → ((text : List ℕ) → remaining reader.device ≡ Some text → IsGridText w.scale text g)
+    → left.failures ≡ reader.failures → Took remaining w.scale reader left ⊥
+    → IsWorkRefusal w g f
+    → Runs {T = Unit {0}} remaining contents w reader left writer writer (Err f)
 making_refused remaining contents w reader left writer g f is same took refusal =
     let other = work_is_no_device w g f refusal in record {
       written = λ text told. tt;
@@ -83,11 +83,11 @@ making_refused remaining contents w reader left writer g f is same took refusal 
 
 -- a map was made, and its writing failed
 pub writing_failed : {R W : Type 0} (remaining : R → Option (List ℕ)) (contents : W → Option (List ℕ)) (w : Wish) (reader left : Device R) (writer grown : Device W) (g : Raster) (m : MadeMap) (e : WriteFailed)
-  → ((text : List ℕ) → remaining reader.device ≡ Some text → IsGridText w.scale text g)
-  → left.failures ≡ reader.failures → Took remaining w.scale reader left ⊥
-  → wish_fault w g ≡ None → IsMapText g w.map (made_text g m)
-  → Writes {T = Unit {0}} {E = WriteFailed} contents writer grown (made_text g m) (Err e)
-  → Runs {T = Unit {0}} remaining contents w reader left writer grown (Err Write)
+    → ((text : List ℕ) → remaining reader.device ≡ Some text → IsGridText w.scale text g)
+    → left.failures ≡ reader.failures → Took remaining w.scale reader left ⊥
+    → wish_fault w g ≡ None → IsMapText g w.map (made_text g m)
+    → Writes {T = Unit {0}} {E = WriteFailed} contents writer grown (made_text g m) (Err e)
+    → Runs {T = Unit {0}} remaining contents w reader left writer grown (Err Write)
 writing_failed remaining contents w reader left writer grown g m e is same took ready made writes =
     let more : grown.failures ≡ writer.failures + 1 = writes.count.err in record {
       written = λ text told. tt;
@@ -103,11 +103,11 @@ writing_failed remaining contents w reader left writer grown g m e is same took 
 
 -- a map was made and written
 pub ran : {R W : Type 0} (remaining : R → Option (List ℕ)) (contents : W → Option (List ℕ)) (w : Wish) (reader left : Device R) (writer grown : Device W) (g : Raster) (m : MadeMap)
-  → ((text : List ℕ) → remaining reader.device ≡ Some text → IsGridText w.scale text g)
-  → left.failures ≡ reader.failures → Took remaining w.scale reader left ⊥
-  → IsMapText g w.map (made_text g m)
-  → Writes {T = Unit {0}} {E = WriteFailed} contents writer grown (made_text g m) (Ok tt)
-  → Runs {T = Unit {0}} remaining contents w reader left writer grown (Ok tt)
+    → ((text : List ℕ) → remaining reader.device ≡ Some text → IsGridText w.scale text g)
+    → left.failures ≡ reader.failures → Took remaining w.scale reader left ⊥
+    → IsMapText g w.map (made_text g m)
+    → Writes {T = Unit {0}} {E = WriteFailed} contents writer grown (made_text g m) (Ok tt)
+    → Runs {T = Unit {0}} remaining contents w reader left writer grown (Ok tt)
 ran remaining contents w reader left writer grown g m is same took made writes = record {
   written = λ text told. (made_text g m, (g, is text told, made), writes.all);
   refused = λ text told. tt;

@@ -1,5 +1,5 @@
 -- Refusals of the parts of a run as refusals of the run.
-use Rattle.std.proofs.Common.{◌≡◌, ℕ, ◌<◌, Bool, true, false, cond, List, Option, None, Some, sym, ap, subst, refl, ◌∙◌}
+use Rattle.std.proofs.Common.{◌≡◌, ℕ, Bool, true, false, cond, List, Option, None, Some, sym, ap, subst, ◌∙◌}
 use Rattle.std.specs.Prelude.{⊤, nat_lt}
 use Rattle.std.specs.Option.{option_or, option_map}
 use Rattle.ascii_grid.specs.Raster.{Raster}
@@ -51,6 +51,7 @@ wish_forbids w g f e = go (nat_lt most_tiles (tiles_of g w.tile)) e where
   sights : (o : Option SightFault) → option_map Sight o ≡ Some f → Forbids f
   sights None h = absurd (cc)
   sights (Some s) h = let same : Sight s ≡ f = cc in subst Forbids same tt
+
   go : (t : Bool) → cond t (Some (Tiling TooManyTiles)) (option_map Sight (map_fault g w.map)) ≡ Some f → Forbids f
   go true h = let same : Tiling TooManyTiles ≡ f = cc in subst Forbids same tt
   go false h = sights (map_fault g w.map) h

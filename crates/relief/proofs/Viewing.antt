@@ -1,5 +1,5 @@
 -- What a viewshed's answer says of the wish.
-use Rattle.std.proofs.Common.{◌≡◌, ◌↔◌, ◌⊎◌, ℕ, ◌+◌, ◌<◌, ◌≤◌, Bool, true, false, ◌||◌, cond, List, [], ◌∷◌, length, Option, None, Some, Result, Ok, Err, sym, ap, subst, refl, ◌∙◌, arith, inl, inr}
+use Rattle.std.proofs.Common.{◌≡◌, ◌⊎◌, ℕ, ◌+◌, ◌≤◌, Bool, true, false, ◌||◌, cond, List, [], ◌∷◌, length, Option, None, Some, Ok, Err, sym, ap, subst, refl, ◌∙◌, arith, inl, inr}
 use Rattle.std.specs.Prelude.{nat_lt, is_none}
 use Rattle.std.specs.Option.{option_map, option_or}
 use Rattle.std.specs.List.{position_from}
@@ -7,7 +7,6 @@ use Rattle.std.proofs.lemmas.Bool.{le-ltb, cond-false}
 use Rattle.ascii_grid.specs.Raster.{Raster, Terrain}
 use Rattle.ascii_grid.specs.Neighbours.{height_at}
 use Rattle.tiles.specs.Cutting.{most_tiles}
-use Rattle.tiles.specs.declared.tiling.TilingFault.TheVariants.{TooManyTiles}
 use Rattle.tile_jobs.specs.declared.JobFault.{JobFault}
 use Rattle.tile_jobs.specs.declared.JobFault.TheVariants as jobs
 use Rattle.sight.specs.declared.fault.SightFault.{SightFault}
@@ -17,8 +16,7 @@ use Rattle.sight.specs.Refusals.{RefusesSight, is_high, is_outside, place_fault_
 use Rattle.sight.specs.declared.observer.Observer.{Observer}
 use Rattle.relief.specs.declared.map.Map.{Map}
 use Rattle.relief.specs.declared.map.Map.TheVariants.{Fill, Flow, Accumulate, Basins, View}
-use Rattle.relief.specs.declared.fault.RunFault.{RunFault}
-use Rattle.relief.specs.declared.fault.RunFault.TheVariants.{Tiling, Jobs, Sight}
+use Rattle.relief.specs.declared.fault.RunFault.TheVariants.{Sight}
 use Rattle.relief.specs.Faults.{of_sight}
 use Rattle.relief.specs.Wish.{Wish}
 use Rattle.relief.specs.Refusals.{tiles_of, map_fault, wish_fault, IsWorkRefusal}
@@ -38,6 +36,7 @@ outside_or_nodata t i o x e = go (is_outside t o) e where
   nodata : (b : Bool) → cond b (Some (sight.OnNodata i)) None ≡ Some (sight.Jobs x) → ⊥
   nodata true h = cc
   nodata false h = cc
+
   go : (b : Bool) → cond b (Some (sight.Outside i)) (cond (is_none (height_at t (place_of o))) (Some (sight.OnNodata i)) None) ≡ Some (sight.Jobs x) → ⊥
   go true h = cc
   go false h = nodata (is_none (height_at t (place_of o))) h
@@ -55,12 +54,15 @@ observers_are_no_work t os target radius x e = many (nat_lt most_observers (leng
   eye : (o : Option ℕ) → option_map (λ i. sight.BadEye (Some i)) o ≡ Some (sight.Jobs x) → ⊥
   eye None h = cc
   eye (Some i) h = cc
+
   reach : (b : Bool) → cond b (Some sight.BadRadius) (place_fault t 0 os) ≡ Some (sight.Jobs x) → ⊥
   reach true h = cc
   reach false h = place_is_no_work t 0 os x h
+
   high : (b : Bool) → cond b (Some (sight.BadEye None)) (option_or (option_map (λ i. sight.BadEye (Some i)) (position_from (λ (o : Observer). is_high o.eye) 0 os)) (cond (nat_lt radius 1 || nat_lt longest_radius radius) (Some sight.BadRadius) (place_fault t 0 os))) ≡ Some (sight.Jobs x) → ⊥
   high true h = cc
   high false h = first_of _ _ _ (eye (position_from (λ (o : Observer). is_high o.eye) 0 os)) (reach (nat_lt radius 1 || nat_lt longest_radius radius)) h
+
   many : (b : Bool) → cond b (Some sight.TooManyObservers) (cond (is_high target) (Some (sight.BadEye None)) (option_or (option_map (λ i. sight.BadEye (Some i)) (position_from (λ (o : Observer). is_high o.eye) 0 os)) (cond (nat_lt radius 1 || nat_lt longest_radius radius) (Some sight.BadRadius) (place_fault t 0 os)))) ≡ Some (sight.Jobs x) → ⊥
   many true h = cc
   many false h = high (is_high target) h
@@ -86,16 +88,19 @@ pub view_refused : {T : Type 0} (w : Wish) (g : Raster) (f : SightFault) → 1 �
 view_refused {T} w g f some few is h = go (map_fault g w.map) refl h where
   work : (k : SightFault) → map_fault g w.map ≡ None → (k ≡ sight.Jobs jobs.Memory) ⊎ (k ≡ sight.Jobs jobs.BadWorkers) ⊎ (k ≡ sight.Jobs jobs.NoThread) → k ≡ f → IsWorkRefusal w g (of_sight k)
   work k none told same = elim told [
-      inl memory ↦ subst (λ (s : SightFault). IsWorkRefusal w g (of_sight s)) (sym memory) (is ∙ ap (λ o. option_map Sight o) none)
+    | inl memory ↦ subst (λ (s : SightFault). IsWorkRefusal w g (of_sight s)) (sym memory) (is ∙ ap (λ o. option_map Sight o) none)
     | inr rest ↦ elim rest [
-        inl workers ↦
+      | inl workers ↦
           let bad = (h.bad_workers none).0 (ap Err (sym same ∙ workers)) in
           absurd (elim bad [ inl zero_workers ↦ omega arith | inr many ↦ omega arith ])
       | inr thread ↦
           subst (λ (s : SightFault). IsWorkRefusal w g (of_sight s)) (sym thread)
-          (is ∙ ap (λ o. option_map Sight o) none, h.no_thread (ap Err (sym same ∙ thread))) ] ]
+          (is ∙ ap (λ o. option_map Sight o) none, h.no_thread (ap Err (sym same ∙ thread)))
+    ]
+  ]
+
   go : (o : Option SightFault) → map_fault g w.map ≡ o → RefusesSight {T = T} o w.workers (Err f) → IsWorkRefusal w g (of_sight f)
   go None e r = work f e (r.jobs refl f refl) refl
   go (Some k) e r =
-    let same : k ≡ f = let told = r.told k refl in cc in
-    told_fault w g f (λ x bad. map_is_no_work g w.map x (e ∙ ap Some (same ∙ bad))) (is ∙ ap (λ o. option_map Sight o) e ∙ ap (λ (s : SightFault). Some (Sight s)) same)
+      let same : k ≡ f = let told = r.told k refl in cc in
+      told_fault w g f (λ x bad. map_is_no_work g w.map x (e ∙ ap Some (same ∙ bad))) (is ∙ ap (λ o. option_map Sight o) e ∙ ap (λ (s : SightFault). Some (Sight s)) same)

@@ -1,5 +1,5 @@
 -- A map that waits to be written.
-use Rattle.std.specs.Prelude.{◌≡◌, ℕ, ◌*◌, ⊤, List, length, Option}
+use Rattle.std.specs.Prelude.{◌≡◌, ℕ, ◌*◌, ⊤, List, length}
 use Rattle.ascii_grid.specs.Raster.{Raster}
 use Rattle.ascii_grid.specs.Text.{heights_text, counts_text}
 use Rattle.relief.specs.declared.making.MadeMap.{MadeMap}

@@ -1,6 +1,6 @@
 -- Which refusals a run may answer, and in which order: the text's fault, too many tiles, the observers'
 -- fault, the work's want of memory or of a thread, a failed write.
-use Rattle.std.specs.Prelude.{◌≡◌, ℕ, ◌*◌, ◌<◌, nat_lt, ⊤, if◌then◌else◌, List, Option, None, Some, option_map}
+use Rattle.std.specs.Prelude.{◌≡◌, ℕ, ◌<◌, nat_lt, ⊤, if◌then◌else◌, List, Option, None, Some, option_map}
 use Rattle.std.specs.Option.{option_or}
 use Rattle.ascii_grid.specs.Words.{words}
 use Rattle.ascii_grid.specs.Raster.{Raster}

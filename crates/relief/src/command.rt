@@ -17,13 +17,19 @@ use std::sync::Wait;
 use std::thread::Threads;
 
 const DONE: u8 = 0;
+
 const WORDS_REFUSED: u8 = 1;
+
 const NO_MEMORY: u8 = 3;
 
 const DEFAULT_TILE: u32 = 256;
+
 const DEFAULT_WORKERS: u32 = 1;
+
 const DEFAULT_SCALE: u8 = 0;
+
 const DEFAULT_TARGET: u32 = 0;
+
 const DEFAULT_RADIUS: u32 = 8192;
 
 static NAME_ALONE: [&str; 1] = ["relief"];
@@ -52,7 +58,11 @@ impl From<AllocError> for WordsFault {
 }
 
 /// A subcommand with the options that each map has.
-fn map_command<'a>(alloc: Global, name: &'a str, about: &'a str) -> Result<Command<'a>, AllocError> {
+fn map_command<'a>(
+    alloc: Global,
+    name: &'a str,
+    about: &'a str,
+) -> Result<Command<'a>, AllocError> {
     let tile = Arg::new(alloc, "tile")
         .long("tile")
         .value_name("N")

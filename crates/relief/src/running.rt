@@ -54,7 +54,11 @@ pub fn run_gated<H: Threads + Wait + Sync, R: Read, W: Write, G: Gate + Sync>(
 }
 
 /// Writes a map with the header of its grid. It takes no memory.
-fn write_map<W: Write>(grid: &Grid, map: &MadeMap, writer: &mut Counted<W>) -> Result<(), WriteFailed>
+fn write_map<W: Write>(
+    grid: &Grid,
+    map: &MadeMap,
+    writer: &mut Counted<W>,
+) -> Result<(), WriteFailed>
     requires few { writer.old.failures < 2 ^ 64 - 1 }
     requires size { FitsGrid grid.now map.now }
     ensures { Writes W.contents writer.old writer.new (made_text grid.now map.now) result }

@@ -14,9 +14,11 @@ use tiles::TilingFault;
 /// How often a held job looks for the other.
 const MOST_LOOKS: u32 = 10_000_000;
 
-const BOWL: &[u8] = b"ncols 3\nnrows 3\nxllcorner 0\nyllcorner 0\ncellsize 1\n9 9 9\n9 1 9\n9 9 9\n";
+const BOWL: &[u8] =
+    b"ncols 3\nnrows 3\nxllcorner 0\nyllcorner 0\ncellsize 1\n9 9 9\n9 1 9\n9 9 9\n";
 
-const FILLED: &[u8] = b"ncols         3\nnrows         3\nxllcorner     0\nyllcorner     0\ncellsize      1\nNODATA_value  -9999\n9 9 9\n9 9 9\n9 9 9\n";
+const FILLED: &[u8] =
+    b"ncols         3\nnrows         3\nxllcorner     0\nyllcorner     0\ncellsize      1\nNODATA_value  -9999\n9 9 9\n9 9 9\n9 9 9\n";
 
 /// A reader of these bytes that then fails.
 #[derive(Drop)]
@@ -138,7 +140,10 @@ fn a_reader_that_fails(rt: HostRuntime) -> Result<(), Fail> {
         (b"ncols 4097".as_slice(), RunFault::Read),
         (b"ncols 3 ".as_slice(), RunFault::Read),
         (BOWL, RunFault::Read),
-        (b"ncols 4097 ".as_slice(), RunFault::Grid(GridFault::BadSize(Key::Ncols))),
+        (
+            b"ncols 4097 ".as_slice(),
+            RunFault::Grid(GridFault::BadSize(Key::Ncols)),
+        ),
     ] {
         let mut out = Vec::new(rt.alloc());
         let mut reader = Counted::new(Broken { bytes });
@@ -190,7 +195,11 @@ fn tiles_meet(rt: HostRuntime) -> Result<(), Fail> {
 fn words_and_statuses(rt: HostRuntime) -> Result<(), Fail> {
     for (words, status, errors) in [
         (["relief", "fill", "--tile=1"].as_slice(), 0, b"".as_slice()),
-        (["relief", "view", "3,0,0"].as_slice(), 2, b"relief: 41 Outside 0\n".as_slice()),
+        (
+            ["relief", "view", "3,0,0"].as_slice(),
+            2,
+            b"relief: 41 Outside 0\n".as_slice(),
+        ),
         (
             ["relief", "view", "0,0,0", "0,0"].as_slice(),
             1,
@@ -228,7 +237,10 @@ fn no_words_and_refused_words(rt: HostRuntime) {
     assert_eq!(rt; told_by(&rt, &[]), (1, true));
     assert_eq!(rt; told_by(&rt, &["relief"]), (1, true));
     assert_eq!(rt; told_by(&rt, &["relief", "fill", "--tile", "0"]), (1, true));
-    assert_eq!(rt; told_by(&rt, &["relief", "fill", "--workers", "65"]), (1, true));
+    assert_eq!(rt;
+        told_by(&rt, &["relief", "fill", "--workers", "65"]),
+        (1, true)
+    );
     assert_eq!(rt; told_by(&rt, &["relief", "help"]), (1, true));
 }
 
@@ -240,7 +252,16 @@ fn observer_words(rt: HostRuntime) {
         eye: 0,
     };
     assert_eq!(rt; parse_observer("4294967295,02,0000000000"), Some(observer));
-    for word in ["", ",,", "1,2", "1,2,3,4", "+1,2,3", "1,2,3 ", "4294967296,2,3", "00000000001,2,3"] {
+    for word in [
+        "",
+        ",,",
+        "1,2",
+        "1,2,3,4",
+        "+1,2,3",
+        "1,2,3 ",
+        "4294967296,2,3",
+        "00000000001,2,3",
+    ] {
         assert_eq!(rt; parse_observer(word), None, "{word:?}");
     }
 }
@@ -248,7 +269,10 @@ fn observer_words(rt: HostRuntime) {
 #[test]
 fn fault_lines(rt: HostRuntime) -> Result<(), Fail> {
     for (fault, line) in [
-        (RunFault::Grid(GridFault::UnknownKey), b"relief: 1 UnknownKey\n".as_slice()),
+        (
+            RunFault::Grid(GridFault::UnknownKey),
+            b"relief: 1 UnknownKey\n".as_slice(),
+        ),
         (
             RunFault::Grid(GridFault::RepeatedKey(Key::Xll)),
             b"relief: 2 RepeatedKey xll\n".as_slice(),
@@ -257,10 +281,22 @@ fn fault_lines(rt: HostRuntime) -> Result<(), Fail> {
             RunFault::Grid(GridFault::BadHeight(16_777_215)),
             b"relief: 7 BadHeight 16777215\n".as_slice(),
         ),
-        (RunFault::Tiling(TilingFault::TooManyTiles), b"relief: 22 TooManyTiles\n".as_slice()),
-        (RunFault::Jobs(JobFault::NoThread), b"relief: 32 NoThread\n".as_slice()),
-        (RunFault::Sight(SightFault::BadEye(None)), b"relief: 44 BadEye\n".as_slice()),
-        (RunFault::Sight(SightFault::BadEye(Some(7))), b"relief: 44 BadEye 7\n".as_slice()),
+        (
+            RunFault::Tiling(TilingFault::TooManyTiles),
+            b"relief: 22 TooManyTiles\n".as_slice(),
+        ),
+        (
+            RunFault::Jobs(JobFault::NoThread),
+            b"relief: 32 NoThread\n".as_slice(),
+        ),
+        (
+            RunFault::Sight(SightFault::BadEye(None)),
+            b"relief: 44 BadEye\n".as_slice(),
+        ),
+        (
+            RunFault::Sight(SightFault::BadEye(Some(7))),
+            b"relief: 44 BadEye 7\n".as_slice(),
+        ),
         (RunFault::Read, b"relief: 51 Read\n".as_slice()),
     ] {
         let mut out = Vec::new(rt.alloc());

@@ -9,6 +9,7 @@ use std::process::ExitCode;
 use std::rt::Env;
 
 const WORDS_REFUSED: u8 = 1;
+
 const NO_MEMORY: u8 = 3;
 
 fn status_of(error: &io::Error) -> u8 {
@@ -29,11 +30,22 @@ fn main(rt: HostRuntime) -> ExitCode {
         Ok(words) => words,
         Err(error) => return ExitCode::from(status_of(&error)),
     };
-    let Ok(words) = words.iter().map(|word| word.as_str()).collect::<Vec<&str>>(rt.alloc()) else {
+    let Ok(words) = words
+        .iter()
+        .map(|word| word.as_str())
+        .collect::<Vec<&str>>(rt.alloc())
+    else {
         return ExitCode::from(NO_MEMORY);
     };
     let mut reader = Counted::new(rt.stdin());
     let mut writer = Counted::new(rt.stdout());
     let mut errors = Counted::new(rt.stderr());
-    ExitCode::from(run_words(&rt, rt.alloc(), &words, &mut reader, &mut writer, &mut errors))
+    ExitCode::from(run_words(
+        &rt,
+        rt.alloc(),
+        &words,
+        &mut reader,
+        &mut writer,
+        &mut errors,
+    ))
 }

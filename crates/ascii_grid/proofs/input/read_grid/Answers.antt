@@ -1,4 +1,4 @@
-use Rattle.std.proofs.Common.{rules, arith, ◌≡◌, ◌≢◌, ◌+◌, ◌≤◌, ◌<◌, ◌++◌, ℕ, List, [], length, take, drop, Option, None, Some, Ok, Err, Result, sym, ap, subst, ◌∙◌, true, false}
+use Rattle.std.proofs.Common.{rules, arith, ◌≡◌, ◌≤◌, ◌<◌, ◌++◌, ℕ, List, [], length, take, drop, None, Some, Ok, Err, Result, sym, ap, subst, ◌∙◌, true, false}
 use Rattle.std.specs.Result.{is_err, IfOk, IfErr, OnOk}
 use Rattle.std.specs.Io.KnownBytes.{Consumes}
 use Rattle.std.proofs.lemmas.List.{append-nil, length-append, length-take-le, length-take, take-append-le}
@@ -28,34 +28,35 @@ refusal_at d e text f same h = subst (λ (n : ℕ). IsRefusal n text f) same h
 pub returns-then-count-eq0-clause-grid : goal.returns-then-count-eq0-clause-grid
 returns-then-count-eq0-clause-grid g c = λ text told.
     let held = c.loop-count.invariant in
-    grid_at _ _ text c.finished.result held.scale_kept (c.finished.ensures.grid text (subst (λ (z : List ℕ). HasTaken c.loop-count.grid_reader z) 
-      (let none : take c.in-Ok.count c.read.new.buffer ≡ [] = ap (λ n. take n c.read.new.buffer) c.if-count-eq0.true in
-       let bytes = c.in-Ok.ensures.bytes in
-       let full : length c.loop-count.piece ≡ 65536 = search rules in
-       let cut = length-take c.min-room.result c.loop-count.piece in
-       let room : 0 < length c.read.new.buffer = omega (arith, held.room, c.min-room.ensures, c.read.auto.buffer, full, cut) in
-       consumed_all _ _ _ text held.text told held.bytes (rw none at bytes.0) (bytes.1 c.if-count-eq0.true room)) held.fed))
+    grid_at _ _ text c.finished.result held.scale_kept (c.finished.ensures.grid text (subst (λ (z : List ℕ). HasTaken c.loop-count.grid_reader z)
+    (let none : take c.in-Ok.count c.read.new.buffer ≡ [] = ap (λ n. take n c.read.new.buffer) c.if-count-eq0.true in
+    let bytes = c.in-Ok.ensures.bytes in
+    let full : length c.loop-count.piece ≡ 65536 = search rules in
+    let cut = length-take c.min-room.result c.loop-count.piece in
+    let room : 0 < length c.read.new.buffer = omega (arith, held.room, c.min-room.ensures, c.read.auto.buffer, full, cut) in
+    consumed_all _ _ _ text held.text told held.bytes (rw none at bytes.0) (bytes.1 c.if-count-eq0.true room)) held.fed))
 
 pub returns-then-count-eq0-clause-fault : goal.returns-then-count-eq0-clause-fault
 returns-then-count-eq0-clause-fault g c = λ text f told is.
     let held = c.loop-count.invariant in
-    refusal_at _ _ text f held.scale_kept (c.finished.ensures.fault text f (subst (λ (z : List ℕ). HasTaken c.loop-count.grid_reader z) 
-      (let none : take c.in-Ok.count c.read.new.buffer ≡ [] = ap (λ n. take n c.read.new.buffer) c.if-count-eq0.true in
-       let bytes = c.in-Ok.ensures.bytes in
-       let full : length c.loop-count.piece ≡ 65536 = search rules in
-       let cut = length-take c.min-room.result c.loop-count.piece in
-       let room : 0 < length c.read.new.buffer = omega (arith, held.room, c.min-room.ensures, c.read.auto.buffer, full, cut) in
-       consumed_all _ _ _ text held.text told held.bytes (rw none at bytes.0) (bytes.1 c.if-count-eq0.true room)) held.fed) is)
+    refusal_at _ _ text f held.scale_kept (c.finished.ensures.fault text f (subst (λ (z : List ℕ). HasTaken c.loop-count.grid_reader z)
+    (let none : take c.in-Ok.count c.read.new.buffer ≡ [] = ap (λ n. take n c.read.new.buffer) c.if-count-eq0.true in
+    let bytes = c.in-Ok.ensures.bytes in
+    let full : length c.loop-count.piece ≡ 65536 = search rules in
+    let cut = length-take c.min-room.result c.loop-count.piece in
+    let room : 0 < length c.read.new.buffer = omega (arith, held.room, c.min-room.ensures, c.read.auto.buffer, full, cut) in
+    consumed_all _ _ _ text held.text told held.bytes (rw none at bytes.0) (bytes.1 c.if-count-eq0.true room)) held.fed) is)
 
 pub returns-then-count-eq0-clause-taken : goal.returns-then-count-eq0-clause-taken
 returns-then-count-eq0-clause-taken g c =
     let held = c.loop-count.invariant in
-    let none : take c.in-Ok.count c.read.new.buffer ≡ [] = ap (λ n. take n c.read.new.buffer) c.if-count-eq0.true in
-    (held.text,
+    let none : take c.in-Ok.count c.read.new.buffer ≡ [] = ap (λ n. take n c.read.new.buffer) c.if-count-eq0.true in (
+      held.text,
       subst (λ (z : List ℕ). Consumes (g.R.Read.remaining c.args.reader.now.device) (g.R.Read.remaining c.read.new.self.device) z) (append-nil held.text)
-        (Consumes-more _ _ _ _ _ held.bytes (rw none at (c.in-Ok.ensures.bytes).0)),
+          (Consumes-more _ _ _ _ _ held.bytes (rw none at (c.in-Ok.ensures.bytes).0)),
       omega (arith, held.size, held.room),
-      λ bad. absurd (c.finished.ensures.sound bad))
+      λ bad. absurd (c.finished.ensures.sound bad),
+    )
 
 pub returns-then-is_err-clause-grid : goal.returns-then-is_err-clause-grid
 returns-then-is_err-clause-grid g c = λ text told.
@@ -89,11 +90,12 @@ returns-then-is_err-clause-taken g c =
     let cut = length-take c.min-room.result c.loop-count.piece in
     let within : c.in-Ok.count ≤ length c.read.new.buffer = search (rules, c.in-Ok.ensures.bound) in
     let read = length-take-le c.in-Ok.count c.read.new.buffer within in
-    let sizes = length-append held.text front in
-    (held.text ++ front,
+    let sizes = length-append held.text front in (
+      held.text ++ front,
       Consumes-more _ _ _ _ _ held.bytes (c.in-Ok.ensures.bytes).0,
       omega (arith, sizes, read, held.size, held.room, within, c.min-room.ensures, c.read.auto.buffer, full, cut),
-      λ bad. absurd (c.finished-then-is_err.ensures.sound bad))
+      λ bad. absurd (c.finished-then-is_err.ensures.sound bad),
+    )
 
 pub loop-count-preserved : goal.loop-count-preserved
 loop-count-preserved g c =
@@ -121,8 +123,9 @@ loop-count-preserved g c =
 
 pub returns-in_default-clause-taken : goal.returns-in_default-clause-taken
 returns-in_default-clause-taken g c =
-    let held = c.loop-count.invariant in
-    (held.text,
+    let held = c.loop-count.invariant in (
+      held.text,
       Consumes-kept _ _ _ held.text held.bytes c.in_default.ensures.bytes,
       omega (arith, held.size, held.room),
-      λ failed. subst (λ (d : ℕ). fault_so_far d held.text ≡ None) held.scale_kept (faultless c.loop-count.grid_reader held.text held.fed held.going))
+      λ failed. subst (λ (d : ℕ). fault_so_far d held.text ≡ None) held.scale_kept (faultless c.loop-count.grid_reader held.text held.fed held.going),
+    )

@@ -1,9 +1,8 @@
-use Rattle.std.proofs.Common.{◌≡◌, ◌≤◌, ap, sym, ◌∙◌, arith}
+use Rattle.std.proofs.Common.{◌≡◌, ap, sym, ◌∙◌}
 use Rattle.std.specs.Option.{option_map}
 use Rattle.std.proofs.lemmas.Result.{err_from_is_err_and}
-use Rattle.tiles.specs.Cutting.{most_tiles}
 use Rattle.relief.specs.declared.fault.RunFault.TheVariants.{Sight}
-use Rattle.relief.specs.Refusals.{tiles_of, wish_fault, map_fault, IsWorkRefusal}
+use Rattle.relief.specs.Refusals.{map_fault}
 use Rattle.sight.specs.Refusals.{observers_fault}
 use Rattle.relief.proofs.Viewing.{wish_of_few, no_fault, view_refused}
 use Rattle.relief.proofs.making.make_map.Goals as goal

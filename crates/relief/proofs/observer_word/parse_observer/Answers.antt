@@ -1,4 +1,3 @@
-use Rattle.std.proofs.Common.{sym, ap, ◌∙◌}
 use Rattle.relief.proofs.Commas.{too_many_parts}
 use Rattle.relief.proofs.observer_word.parse_observer.Goals as goal
 

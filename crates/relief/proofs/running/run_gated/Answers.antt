@@ -1,4 +1,4 @@
-use Rattle.std.proofs.Common.{◌≡◌, ap, Err, ℕ, List, subst}
+use Rattle.std.proofs.Common.{ap, Err}
 use Rattle.std.proofs.lemmas.Result.{err_from_is_err_and}
 use Rattle.relief.proofs.Ran.{reading_refused, making_refused, writing_failed, ran}
 use Rattle.relief.proofs.running.run_gated.Goals as goal
@@ -9,36 +9,36 @@ returns-in_err-grid g c =
     let took = rw c.scale.ensures.value at c.in_err-grid.ensures.taken in
     let read = c.in_err-grid.ensures in
     rw (p.1, p.2) (reading_refused g.R.Read.remaining g.W.Write.contents c.args.options.now c.args.reader.now c.read_grid.new.reader c.args.writer.now c.in_err-grid.field-0.0
-      (λ text f told same. rw c.scale.ensures.value at (read.fault text f told (ap Err same)))
-      (λ same. read.read (ap Err same))
-      (λ other. read.sound (λ bad. other (cc)))
-      (record { bytes = took.0; consumed = took.1; few = took.2; clean = λ same. took.3 (ap Err same) }))
+    (λ text f told same. rw c.scale.ensures.value at (read.fault text f told (ap Err same)))
+    (λ same. read.read (ap Err same))
+    (λ other. read.sound (λ bad. other (cc)))
+    (record { bytes = took.0; consumed = took.1; few = took.2; clean = λ same. took.3 (ap Err same) }))
 
 pub returns-in_err-map : goal.returns-in_err-map
 returns-in_err-map g c =
     let p = err_from_is_err_and c.from_residual-in_err-map.result c.from_residual-in_err-map.ensures.1 in
     let took = c.in_ok-grid.ensures.taken in
     rw (p.1, p.2) (making_refused g.R.Read.remaining g.W.Write.contents c.args.options.now c.args.reader.now c.read_grid.new.reader c.args.writer.now c.in_ok-grid.grid c.in_err-map.field-0.0
-      (λ text told. rw c.scale.ensures.value at (c.in_ok-grid.ensures.grid text told))
-      (c.in_ok-grid.ensures.sound (λ bad. cc))
-      (record { bytes = took.0; consumed = took.1; few = took.2; clean = λ no_read. absurd no_read })
-      c.in_err-map.ensures.fault)
+    (λ text told. rw c.scale.ensures.value at (c.in_ok-grid.ensures.grid text told))
+    (c.in_ok-grid.ensures.sound (λ bad. cc))
+    (record { bytes = took.0; consumed = took.1; few = took.2; clean = λ no_read. absurd no_read })
+    c.in_err-map.ensures.fault)
 
 pub returns-in_err-write_map : goal.returns-in_err-write_map
 returns-in_err-write_map g c =
     let p = err_from_is_err_and c.from_residual-in_err-write_map.result c.from_residual-in_err-write_map.ensures.1 in
     let took = c.in_ok-grid.ensures.taken in
     rw (p.1, p.2) (writing_failed g.R.Read.remaining g.W.Write.contents c.args.options.now c.args.reader.now c.read_grid.new.reader c.args.writer.now c.write_map.new.writer c.in_ok-grid.grid c.in_ok-map.map _
-      (λ text told. rw c.scale.ensures.value at (c.in_ok-grid.ensures.grid text told))
-      (c.in_ok-grid.ensures.sound (λ bad. cc))
-      (record { bytes = took.0; consumed = took.1; few = took.2; clean = λ no_read. absurd no_read })
-      c.in_ok-map.ensures.ready c.in_ok-map.ensures.map c.in_err-write_map.ensures)
+    (λ text told. rw c.scale.ensures.value at (c.in_ok-grid.ensures.grid text told))
+    (c.in_ok-grid.ensures.sound (λ bad. cc))
+    (record { bytes = took.0; consumed = took.1; few = took.2; clean = λ no_read. absurd no_read })
+    c.in_ok-map.ensures.ready c.in_ok-map.ensures.map c.in_err-write_map.ensures)
 
 pub returns : goal.returns
 returns g c =
     let took = c.in_ok-grid.ensures.taken in
     ran g.R.Read.remaining g.W.Write.contents c.args.options.now c.args.reader.now c.read_grid.new.reader c.args.writer.now c.write_map.new.writer c.in_ok-grid.grid c.in_ok-map.map
-      (λ text told. rw c.scale.ensures.value at (c.in_ok-grid.ensures.grid text told))
-      (c.in_ok-grid.ensures.sound (λ bad. cc))
-      (record { bytes = took.0; consumed = took.1; few = took.2; clean = λ no_read. absurd no_read })
-      c.in_ok-map.ensures.map c.in_ok-write_map.ensures
+    (λ text told. rw c.scale.ensures.value at (c.in_ok-grid.ensures.grid text told))
+    (c.in_ok-grid.ensures.sound (λ bad. cc))
+    (record { bytes = took.0; consumed = took.1; few = took.2; clean = λ no_read. absurd no_read })
+    c.in_ok-map.ensures.map c.in_ok-write_map.ensures

@@ -1,4 +1,4 @@
-use Rattle.std.proofs.Common.{ap, sym, ◌∙◌, subst, ◌≡◌, List, ℕ}
+use Rattle.std.proofs.Common.{ap, ◌≡◌}
 use Rattle.ascii_grid.specs.Text.{heights_text}
 use Rattle.relief.specs.MadeMap.{made_text}
 use Rattle.relief.proofs.running.write_map.Goals as goal
