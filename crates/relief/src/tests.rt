@@ -4,10 +4,13 @@ use crate::running::{run, run_gated};
 use crate::{RunFault, parse_observer, run_words, tell};
 use ascii_grid::{Counted, GridFault, Key};
 use sight::{Observer, SightFault};
+use std::alloc::Global;
 use std::io;
 use std::io::{Read, Write};
+use std::sync::Wait;
 use std::sync::atomic::{AtomicU64, Ordering};
 use std::test::Fail;
+use std::thread::Threads;
 use tile_jobs::{Gate, JobFault};
 use tiles::TilingFault;
 
@@ -19,6 +22,9 @@ const BOWL: &[u8] =
 
 const FILLED: &[u8] =
     b"ncols         3\nnrows         3\nxllcorner     0\nyllcorner     0\ncellsize      1\nNODATA_value  -9999\n9 9 9\n9 9 9\n9 9 9\n";
+
+/// A word of 70 letters, six more than a word may have.
+const LONG_WORD: &[u8] = b"nnnnnnnnnnnnnnnnnnnnnnnnnnnnnnnnnnnnnnnnnnnnnnnnnnnnnnnnnnnnnnnnnnnnnn";
 
 /// A reader of these bytes that then fails.
 #[derive(Drop)]
@@ -139,6 +145,7 @@ fn a_reader_that_fails(rt: HostRuntime) -> Result<(), Fail> {
         (b"".as_slice(), RunFault::Read),
         (b"ncols 4097".as_slice(), RunFault::Read),
         (b"ncols 3 ".as_slice(), RunFault::Read),
+        (LONG_WORD, RunFault::Read),
         (BOWL, RunFault::Read),
         (
             b"ncols 4097 ".as_slice(),
@@ -221,27 +228,30 @@ fn words_and_statuses(rt: HostRuntime) -> Result<(), Fail> {
 }
 
 /// The status of these words, and whether anything was told on the errors.
-fn told_by(rt: &HostRuntime, words: &[&str]) -> (u8, bool) {
-    let mut out = Vec::new(rt.alloc());
-    let mut told = Vec::new(rt.alloc());
+fn told_by<H: Threads + Wait + Sync>(rt: &H, alloc: Global, words: &[&str]) -> (u8, bool) {
+    let mut out = Vec::new(alloc);
+    let mut told = Vec::new(alloc);
     let mut reader = Counted::new(BOWL);
     let mut writer = Counted::new(&mut out);
     let mut lines = Counted::new(&mut told);
-    let status = run_words(rt, rt.alloc(), words, &mut reader, &mut writer, &mut lines);
+    let status = run_words(rt, alloc, words, &mut reader, &mut writer, &mut lines);
     drop(lines);
     (status, !told.is_empty())
 }
 
 #[test]
 fn no_words_and_refused_words(rt: HostRuntime) {
-    assert_eq!(rt; told_by(&rt, &[]), (1, true));
-    assert_eq!(rt; told_by(&rt, &["relief"]), (1, true));
-    assert_eq!(rt; told_by(&rt, &["relief", "fill", "--tile", "0"]), (1, true));
+    assert_eq!(rt; told_by(&rt, rt.alloc(), &[]), (1, true));
+    assert_eq!(rt; told_by(&rt, rt.alloc(), &["relief"]), (1, true));
     assert_eq!(rt;
-        told_by(&rt, &["relief", "fill", "--workers", "65"]),
+        told_by(&rt, rt.alloc(), &["relief", "fill", "--tile", "0"]),
         (1, true)
     );
-    assert_eq!(rt; told_by(&rt, &["relief", "help"]), (1, true));
+    assert_eq!(rt;
+        told_by(&rt, rt.alloc(), &["relief", "fill", "--workers", "65"]),
+        (1, true)
+    );
+    assert_eq!(rt; told_by(&rt, rt.alloc(), &["relief", "help"]), (1, true));
 }
 
 #[test]
