@@ -1,6 +1,6 @@
 // Filled heights of small grids.
 use super::*;
-use ascii_grid::read_text;
+use ascii_grid::{HIGHEST, read_text};
 use std::test::Fail;
 
 fn filled(rt: &HostRuntime, size: &str, cells: &str) -> Result<Vec<Option<Height>>, Fail> {
@@ -63,5 +63,128 @@ fn one_cell_and_none(rt: HostRuntime) -> Result<(), Fail> {
         filled(&rt, "ncols 2 nrows 1", "-9999 -9999")?.as_slice(),
         [None, None].as_slice()
     );
+    Ok(())
+}
+
+/// Numbers that look random and are the same at every run.
+#[derive(Drop)]
+struct Numbers {
+    state: u32,
+}
+
+impl Numbers {
+    fn next(&mut self) -> u32 {
+        self.state = self
+            .state
+            .wrapping_mul(1_664_525)
+            .wrapping_add(1_013_904_223);
+        self.state >> 16
+    }
+}
+
+/// One cell in some thirty is a gap, and the others stand at 0 to 3.
+fn cell_word(number: u32) -> &'static str {
+    match number % 31 {
+        0..=7 => " 0",
+        8..=15 => " 1",
+        16..=23 => " 2",
+        24..=29 => " 3",
+        _ => " -9999",
+    }
+}
+
+fn grid_text(alloc: Global, numbers: &mut Numbers, cols: u8, rows: u8) -> Result<String, Fail> {
+    let mut text = format!(in alloc;
+        "ncols {cols} nrows {rows} xllcorner 0 yllcorner 0 cellsize 1"
+    )?;
+    for _ in 0..u32::from(cols) * u32::from(rows) {
+        text.push_str(cell_word(numbers.next()))?;
+    }
+    Ok(text)
+}
+
+/// Where a row and a column stand in row order. They count from 1, with 0 and one more as the border.
+fn index_of(cols: u8, row: u8, col: u8) -> Option<usize> {
+    if row == 0 || col == 0 || col > cols {
+        return None;
+    }
+    Some((row - 1) as usize * cols as usize + (col - 1) as usize)
+}
+
+fn level_at(levels: &[Option<Height>], cols: u8, row: u8, col: u8) -> Option<Height> {
+    let index = index_of(cols, row, col)?;
+    *levels.get(index)?
+}
+
+/// The lowest of the nine levels at a cell and around it, `None` at an edge cell and at a gap.
+fn lowest_of_nine(levels: &[Option<Height>], cols: u8, row: u8, col: u8) -> Option<Height> {
+    let mut lowest = HIGHEST;
+    for near_row in row.saturating_sub(1)..=row.saturating_add(1) {
+        for near_col in col.saturating_sub(1)..=col.saturating_add(1) {
+            lowest = lowest.min(level_at(levels, cols, near_row, near_col)?);
+        }
+    }
+    Some(lowest)
+}
+
+/// Lowers each level that is no edge cell's to the greater of its height and the lowest near it.
+fn sweep(heights: &[Option<Height>], levels: &mut [Option<Height>], cols: u8, rows: u8) {
+    for row in 1..=rows {
+        for col in 1..=cols {
+            let Some(lowest) = lowest_of_nine(levels, cols, row, col) else {
+                continue;
+            };
+            let Some(index) = index_of(cols, row, col) else {
+                continue;
+            };
+            let height = level_at(heights, cols, row, col);
+            if let Some(level) = levels.get_mut(index) {
+                *level = height.map(|height| height.max(lowest));
+            }
+        }
+    }
+}
+
+/// Filled heights by lowering: the levels begin at the heights of edge cells and at the greatest height
+/// elsewhere, and sink in as many sweeps as there are cells.
+fn lowered(
+    alloc: Global,
+    heights: &[Option<Height>],
+    cols: u8,
+    rows: u8,
+) -> Result<Vec<Option<Height>>, Fail> {
+    let mut levels = Vec::new(alloc);
+    for row in 1..=rows {
+        for col in 1..=cols {
+            let inner = lowest_of_nine(heights, cols, row, col).is_some();
+            let height = level_at(heights, cols, row, col);
+            levels.push(if inner { Some(HIGHEST) } else { height })?;
+        }
+    }
+    for _ in 0..heights.len() {
+        sweep(heights, &mut levels, cols, rows);
+    }
+    Ok(levels)
+}
+
+#[test]
+fn as_by_lowering(rt: HostRuntime) -> Result<(), Fail> {
+    let mut numbers = Numbers { state: 1 };
+    let mut raised = 0u32;
+    for rows in 1..=6u8 {
+        for cols in 1..=6u8 {
+            for _ in 0..16 {
+                let text = grid_text(rt.alloc(), &mut numbers, cols, rows)?;
+                let grid = read_text(rt.alloc(), 0, text.as_bytes())?;
+                let wanted = lowered(rt.alloc(), grid.cells(), cols, rows)?;
+                let levels = filled_heights(rt.alloc(), &grid)?;
+                assert_eq!(rt; levels.as_slice(), wanted.as_slice(), "{text}");
+                if levels.as_slice() != grid.cells() {
+                    raised = raised.saturating_add(1);
+                }
+            }
+        }
+    }
+    assert!(rt; raised > 20, "{raised} grids with a pit");
     Ok(())
 }
