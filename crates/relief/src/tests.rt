@@ -5,12 +5,12 @@ use crate::{RunFault, parse_observer, run_words, tell};
 use ascii_grid::{Counted, GridFault, Key};
 use sight::{Observer, SightFault};
 use std::alloc::Global;
-use std::io;
 use std::io::{Read, Write};
 use std::sync::Wait;
 use std::sync::atomic::{AtomicU64, Ordering};
 use std::test::Fail;
 use std::thread::Threads;
+use std::{io, thread};
 use tile_jobs::{Gate, JobFault};
 use tiles::TilingFault;
 
@@ -22,6 +22,13 @@ const BOWL: &[u8] =
 
 const FILLED: &[u8] =
     b"ncols         3\nnrows         3\nxllcorner     0\nyllcorner     0\ncellsize      1\nNODATA_value  -9999\n9 9 9\n9 9 9\n9 9 9\n";
+
+/// A pit along the diagonal, which spills at the height of the last cell.
+const PIT: &[u8] =
+    b"ncols 4\nnrows 4\nxllcorner 0\nyllcorner 0\ncellsize 1\n9 9 9 9\n9 1 9 9\n9 9 2 9\n9 9 9 3\n";
+
+const PIT_HEADER: &str =
+    "ncols         4\nnrows         4\nxllcorner     0\nyllcorner     0\ncellsize      1\nNODATA_value  -9999\n";
 
 /// A word of 70 letters, six more than a word may have.
 const LONG_WORD: &[u8] = b"nnnnnnnnnnnnnnnnnnnnnnnnnnnnnnnnnnnnnnnnnnnnnnnnnnnnnnnnnnnnnnnnnnnnnn";
@@ -80,9 +87,10 @@ impl Write for Short {
     }
 }
 
-/// Holds each of the first two jobs until the other has entered.
+/// At each stage of a map, holds each of the first two jobs until the other has entered too.
 #[derive(Drop)]
 struct Meeting {
+    // how often each of the two has entered: once at each stage
     entered: [AtomicU64; 2],
     missed: AtomicU64,
 }
@@ -93,13 +101,14 @@ impl Gate for Meeting {
             return;
         }
         let own = job as usize;
-        self.entered[own].store(1, Ordering::SeqCst);
+        let before = self.entered[own].fetch_add(1, Ordering::SeqCst);
         for _ in 0..MOST_LOOKS {
-            if self.entered[1 - own].load(Ordering::SeqCst) == 1 {
+            if self.entered[1 - own].load(Ordering::SeqCst) > before {
                 return;
             }
+            thread::yield_now();
         }
-        self.missed.store(1, Ordering::SeqCst);
+        self.missed.fetch_add(1, Ordering::SeqCst);
     }
 }
 
@@ -180,21 +189,59 @@ fn a_reader_without_end(rt: HostRuntime) -> Result<(), Fail> {
     Ok(())
 }
 
-#[test]
-fn tiles_meet(rt: HostRuntime) -> Result<(), Fail> {
-    let options = Options::new(Map::Fill, 2, 2, 0).ok_or("options")?;
+/// A map of the pit in tiles of side 2 by two workers, and the gate at which they met.
+fn met<H: Threads + Wait + Sync>(
+    rt: &H,
+    alloc: Global,
+    map: Map,
+) -> Result<(Vec<u8>, Meeting), Fail> {
+    let options = Options::new(map, 2, 2, 0).ok_or("options")?;
     let gate = Meeting {
         entered: [AtomicU64::new(0), AtomicU64::new(0)],
         missed: AtomicU64::new(0),
     };
-    let mut out = Vec::new(rt.alloc());
-    let mut reader = Counted::new(BOWL);
+    let mut out = Vec::new(alloc);
+    let mut reader = Counted::new(PIT);
     let mut writer = Counted::new(&mut out);
-    let result = run_gated(&rt, rt.alloc(), &options, &mut reader, &mut writer, &gate);
-    assert_eq!(rt; result, Ok(()));
-    assert_eq!(rt; gate.missed.load(Ordering::SeqCst), 0);
+    let result = run_gated(rt, alloc, &options, &mut reader, &mut writer, &gate);
     drop(writer);
-    assert_eq!(rt; out.as_slice(), FILLED);
+    if result.is_err() {
+        return Err(Fail::from("no map"));
+    }
+    Ok((out, gate))
+}
+
+#[test]
+fn tiles_meet(rt: HostRuntime) -> Result<(), Fail> {
+    let mut observers = Vec::new(rt.alloc());
+    for at in [0, 0, 3] {
+        observers.push(Observer {
+            row: at,
+            col: at,
+            eye: 1_000_000,
+        })?;
+    }
+    let view = Map::View {
+        observers,
+        target: 0,
+        radius: 2,
+    };
+    for (map, least_stages, rows) in [
+        (Map::Fill, 2, "9 9 9 9\n9 3 9 9\n9 9 3 9\n9 9 9 3\n"),
+        (Map::Flow, 3, "2 4 8 0\n1 2 4 8\n128 1 2 4\n0 128 1 0\n"),
+        (Map::Accumulate, 3, "0 0 0 0\n0 5 0 0\n0 0 10 0\n0 0 0 13\n"),
+        (Map::Basins, 3, "3 3 3 1\n3 3 3 3\n3 3 3 3\n2 3 3 3\n"),
+        (view, 1, "2 2 2 0\n2 2 0 1\n2 0 1 1\n0 1 1 1\n"),
+    ] {
+        let (out, gate) = met(&rt, rt.alloc(), map)?;
+        let wanted = format!(in rt.alloc(); "{PIT_HEADER}{rows}")?;
+        assert_eq!(rt; out.as_slice(), wanted.as_bytes());
+        let [first, second] = gate.entered;
+        let stages = first.load(Ordering::SeqCst);
+        assert!(rt; stages >= least_stages, "{rows}");
+        assert_eq!(rt; second.load(Ordering::SeqCst), stages, "{rows}");
+        assert_eq!(rt; gate.missed.load(Ordering::SeqCst), 0, "{rows}");
+    }
     Ok(())
 }
 
