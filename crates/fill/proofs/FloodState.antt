@@ -3,13 +3,9 @@ use Rattle.std.proofs.Common.{◌≡◌, ℕ, ◌<◌, ◌⊎◌, ℤ, ◌≤ℤ
 use Rattle.std.specs.Int.{int_max}
 use Rattle.std.specs.List.{Contains, All}
 use Rattle.fill.specs.Walk.{Joins, Sources, IsWalk, crest, end_of, IsLevel}
-use Rattle.fill.specs.Flood.{entry_of, IsDone}
+use Rattle.fill.specs.Flood.{entry_of, IsDone, SomeWaits}
 use Rattle.fill.specs.declared.net.Spill.{Spill}
 use Rattle.fill.specs.declared.flooding.Waiting.{Waiting}
-
--- Some entry of the node is not above the height.
-abbrev pub SomeWaits : List Waiting → ℕ → ℤ → Type 0
-SomeWaits waiting a h = (w : Waiting) × Contains waiting w × (w.node ≡ a) × (w.height.0 ≤ℤ h)
 
 -- A walk from the node has this crest and ends at the label.
 abbrev pub HasWalk : Joins → Sources → Waiting → Type 0

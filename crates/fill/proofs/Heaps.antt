@@ -13,7 +13,7 @@ use Rattle.std.proofs.lemmas.Option.{same_Some}
 use Rattle.fill.specs.declared.net.Spill.{Spill}
 use Rattle.fill.specs.declared.flooding.Waiting.{Waiting}
 use Rattle.fill.specs.Walk.{Sources}
-use Rattle.fill.specs.Flood.{entry_of, IsDone, TakesLowest, waiting_by, waiting_order, SourcesWait, is_open}
+use Rattle.fill.specs.Flood.{entry_of, IsDone, TakesLowest, waiting_by, waiting_order, SourcesWait}
 use Rattle.fill.proofs.FloodState.{OnlyDoneLeft}
 
 pub all_by_contains : {X : Type 0} (P : X → Type 0) (xs : List X) → ((x : X) → Contains xs x → P x) → All P xs
@@ -78,27 +78,6 @@ first_open levels old now rest x s perm bound is_open =
             | inr held ↦ inr (cons_cases x rest y (Contains-permutation _ _ y perm held))
           ]);
     }
-
--- a node with no level is open
-pub open_way : {X : Type 0} (o : Option X) → is_some o ≡ false → is_none o ≡ true
-open_way None e = refl
-open_way (Some x) e = absurd (cc)
-
--- one way that leads to an open node
-pub one_way : (from : Waiting) (levels : List (Option ℤ)) (way : Spill) (old new : List Waiting) → is_open levels way ≡ true → IsPermutation (waiting_by from way ∷ old) new → IsPermutation (old ++ map (waiting_by from) (filter (is_open levels) (way ∷ []))) new
-one_way from levels way old new is_so p =
-    subst (λ (z : List Spill). IsPermutation (old ++ map (waiting_by from) z) new) (sym (cond-true (is_open levels way) (way ∷ []) [] is_so))
-    (IsPermutation-push_more old old new (waiting_by from way) (IsPermutation-refl old) p)
-
--- one more way
-pub way_more : (from : Waiting) (levels : List (Option ℤ)) (ways : List Spill) (i : ℕ) (d : Spill) (old now new : List Waiting) → i < length ways → IsPermutation (old ++ map (waiting_by from) (filter (is_open levels) (take i ways))) now → IsPermutation (now ++ map (waiting_by from) (filter (is_open levels) (get_or ways i d ∷ []))) new → IsPermutation (old ++ map (waiting_by from) (filter (is_open levels) (take (i + 1) ways))) new
-way_more from levels ways i d old now new below s p =
-    let f : List Spill → List Waiting = λ (z : List Spill). map (waiting_by from) (filter (is_open levels) z) in
-    let joined : f (take (i + 1) ways) ≡ f (take i ways) ++ f (get_or ways i d ∷ []) =
-    ap f (take_more ways i d below) ∙ ap (map (waiting_by from)) (filter-append (is_open levels) (take i ways) (get_or ways i d ∷ [])) ∙ map-append (waiting_by from) (filter (is_open levels) (take i ways)) (filter (is_open levels) (get_or ways i d ∷ [])) in
-    subst (λ (z : List Waiting). IsPermutation z new)
-    (append_assoc old (f (take i ways)) (f (get_or ways i d ∷ [])) ∙ ap (λ (z : List Waiting). old ++ z) (sym joined))
-    (IsPermutation-trans _ _ _ (IsPermutation-append_left (f (get_or ways i d ∷ [])) _ _ s) p)
 
 -- a node that is no source
 pub source_passed : (source : Sources) (n : ℕ) (waiting : List Waiting) → SourcesWait n source waiting → source n ≡ None → SourcesWait (n + 1) source waiting

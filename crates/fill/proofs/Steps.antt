@@ -13,8 +13,8 @@ use Rattle.std.proofs.lemmas.Bool.{cases_eq, cases_lt, cases_Bool, cond-true, co
 use Rattle.fill.specs.declared.net.Spill.{Spill}
 use Rattle.fill.specs.declared.flooding.Waiting.{Waiting}
 use Rattle.fill.specs.Walk.{Joins, Sources, IsWalk, crest, IsLevel, HasNoWalk, IsFlooded, HasJust}
-use Rattle.fill.specs.Flood.{entry_of, IsDone, TakesLowest, waiting_by, SourcesWait, IsLabelOf, is_open}
-use Rattle.fill.proofs.FloodState.{SomeWaits, HasWalk, IsFlooding}
+use Rattle.fill.specs.Flood.{entry_of, IsDone, TakesLowest, waiting_by, SourcesWait, IsLabelOf, SomeWaits, ComesBy, MakesWait, AreLowest}
+use Rattle.fill.proofs.FloodState.{HasWalk, IsFlooding}
 use Rattle.fill.proofs.Heaps.{cons_head, cons_tail, cons_cases, all_by_contains}
 
 -- what an entry is, as a case to split on
@@ -117,15 +117,6 @@ begun joins source nodes waiting s = record {
   empty : (b : ℕ) → entry_of {X = ℤ} (replicate nodes None) b ≡ None
   empty b = elim (cases_lt b nodes) [ inl h ↦ get_or-replicate nodes b None None h | inr h ↦ get_or_past (replicate nodes None) b None (omega (arith, length-replicate {A = Option ℤ} nodes None)) ]
 
--- what a list's members are made to
-Contains-map : {X Y : Type 0} (f : X → Y) (xs : List X) (x : X) → Contains xs x → Contains (map f xs) (f x)
-Contains-map f xs x h = (h.0, omega (arith, h.1, length-map xs f), get_or-map f xs h.0 x (f x) h.1 ∙ ap f h.2)
-
-Contains-map_from : {X Y : Type 0} (f : X → Y) (d : X) (xs : List X) (y : Y) → Contains (map f xs) y → (x : X) × Contains xs x × (f x ≡ y)
-Contains-map_from f d xs y h =
-    let below : h.0 < length xs = omega (arith, h.1, length-map xs f) in
-    (get_or xs h.0 d, (h.0, below, get_or_default xs h.0 _ d below), sym (get_or-map f xs h.0 d y below) ∙ h.2)
-
 level_of_lowest : (joins : Joins) (source : Sources) (w : Waiting) (label : ℕ) → HasWalk joins source w → ((walk : List Spill) → IsWalk joins source w.node walk → w.height.0 ≤ℤ crest source w.node walk) → IsLabelOf source w label → IsLevel joins source w.node w.height.0 label
 level_of_lowest joins source w label walk least (inl own) = record {
   reached = ([], ap is_some own.0, ap (λ (z : Option ℤ). unwrap_or z (pos 0)) own.0, sym own.1);
@@ -138,21 +129,9 @@ level_of_lowest joins source w label walk least (inr other) = record {
   own = λ e. absurd (other.0 e);
 }
 
-Contains-filter : {X : Type 0} (p : X → Bool) (xs : List X) (x : X) → Contains xs x → p x ≡ true → Contains (filter p xs) x
-Contains-filter p [] x h e = absurd (omega (arith, h.1))
-Contains-filter p (y ∷ ys) x h e = elim (cons_cases y ys x h) [
-  | inl same ↦ subst (λ z. Contains z x) (sym (cond-true (p y) (y ∷ filter p ys) (filter p ys) (ap p (sym same) ∙ e))) (subst (λ z. Contains (y ∷ filter p ys) z) (sym same) (cons_head y (filter p ys)))
-  | inr later ↦
-      let rest = Contains-filter p ys x later e in
-      elim (cases_Bool (p y)) [
-        | inl pass ↦ subst (λ z. Contains z x) (sym (cond-true (p y) (y ∷ filter p ys) (filter p ys) pass)) (cons_tail y (filter p ys) x rest)
-        | inr fail ↦ subst (λ z. Contains z x) (sym (cond-false (p y) (y ∷ filter p ys) (filter p ys) fail)) rest
-      ]
-]
-
 -- the lowest node takes its level, and its neighbours wait
-pub settle : (joins : Joins) (source : Sources) (nodes : ℕ) (levels : List (Option ℤ)) (labels : List (Option ℕ)) (old new more : List Waiting) (w : Waiting) (ways : List Spill) (label : ℕ) → ((a b : ℕ) (h : ℤ) → joins a b h → b < nodes) → ((a b : ℕ) (h : ℤ) → joins a b h → joins b a h) → IsFlooding joins source nodes levels labels old → TakesLowest levels old w new → HasJust (joins w.node) ways → IsPermutation (new ++ map (waiting_by w) (filter (is_open levels) ways)) more → IsLabelOf source w label → IsFlooding joins source nodes (set levels w.node (Some w.height.0)) (set labels w.node (Some label)) more
-settle joins source nodes levels labels old new more w ways label inside back s t just perm labelled =
+pub settle : (joins : Joins) (source : Sources) (nodes : ℕ) (levels : List (Option ℤ)) (labels : List (Option ℕ)) (old new more : List Waiting) (w : Waiting) (ways : List Spill) (label : ℕ) → ((a b : ℕ) (h : ℤ) → joins a b h → b < nodes) → ((a b : ℕ) (h : ℤ) → joins a b h → joins b a h) → IsFlooding joins source nodes levels labels old → TakesLowest levels old w new → HasJust (joins w.node) ways → MakesWait (set levels w.node (Some w.height.0)) w ways new more → IsLabelOf source w label → IsFlooding joins source nodes (set levels w.node (Some w.height.0)) (set labels w.node (Some label)) more
+settle joins source nodes levels labels old new more w ways label inside back s t just spread labelled =
     let here = All-contains (λ x. (x.node < nodes) × HasWalk joins source x) old w s.waits t.was in
     let least = lowest_is_least joins source nodes levels labels old new w inside s t in
     let level_here : entry_of (set levels w.node (Some w.height.0)) w.node ≡ Some w.height.0 = get_or-set_same levels w.node (Some w.height.0) None (omega (arith, here.0, s.levels_size)) in
@@ -165,7 +144,7 @@ settle joins source nodes levels labels old new more w ways label inside back s 
       | inl done ↦ none_done (entry_of levels x.0.node) (ap (λ k. entry_of levels k) x.2 ∙ none) done
       | inr open_still ↦ elim open_still [
         | inl same ↦ absurd (n (sym x.2 ∙ ap (λ (y : Waiting). y.node) same))
-        | inr held ↦ (x.0, Contains-permutation _ _ x.0 perm (Contains-append_left new (map (waiting_by w) (filter (is_open levels) ways)) x.0 held), x.2, x.3)
+        | inr held ↦ (x.0, All-contains (Contains more) new x.0 spread.kept held, x.2, x.3)
       ]
     ] in
     record {
@@ -182,14 +161,14 @@ settle joins source nodes levels labels old new more w ways label inside back s 
         ]
       ];
       waits = all_by_contains (λ x. (x.node < nodes) × HasWalk joins source x) more (λ x h.
-          elim (Contains-append_cases new (map (waiting_by w) (filter (is_open levels) ways)) x (Contains-permutation _ _ x (IsPermutation-sym _ _ perm) h)) [
+          elim (All-contains (λ y. Contains new y ⊎ ComesBy w ways y) more x spread.made h) [
             | inl held ↦ All-contains (λ y. (y.node < nodes) × HasWalk joins source y) old x s.waits (All-contains (Contains old) new x t.left held)
             | inr made ↦
-                let way = Contains-map_from (waiting_by w) (record { to = 0; height = pos 0 }) (filter (is_open levels) ways) x made in
-                let joined = All-contains (λ z. joins w.node z.to z.height) (filter (is_open levels) ways) way.0 (All-filter (is_open levels) (λ z. joins w.node z.to z.height) ways just.only) way.1 in
-                let walk : HasWalk joins source (waiting_by w way.0) =
-                (record { to = w.node; height = way.0.height } ∷ here.1.0, (back w.node way.0.to way.0.height joined, here.1.1), ap (λ z. int_max way.0.height z) here.1.2, here.1.3) in
-                subst (λ (y : Waiting). (y.node < nodes) × HasWalk joins source y) way.2 (inside w.node way.0.to way.0.height joined, walk)
+                let way = made.0 in
+                let joined = All-contains (λ z. joins w.node z.to z.height) ways way just.only made.1 in
+                let walk : HasWalk joins source (waiting_by w way) =
+                (record { to = w.node; height = way.height } ∷ here.1.0, (back w.node way.to way.height joined, here.1.1), ap (λ z. int_max way.height z) here.1.2, here.1.3) in
+                subst (λ (y : Waiting). (y.node < nodes) × HasWalk joins source y) (sym made.2) (inside w.node way.to way.height joined, walk)
           ]);
       sources = λ a h below e none.
           let n = other a none in
@@ -201,12 +180,9 @@ settle joins source nodes levels labels old new more w ways label inside back s 
           elim (cases_eq b w.node) [
             | inl same ↦
                 let back_here : joins w.node a h = subst (λ (k : ℕ). joins k a h) same (back a b h joined) in
-                let level_is : w.height.0 ≡ l = same_Some _ _ (sym level_here ∙ subst (λ (k : ℕ). entry_of (set levels w.node (Some w.height.0)) k ≡ Some l) same e) in (
-                  waiting_by w (record { to = a; height = h }),
-                  Contains-permutation _ _ _ perm (Contains-append_right new (map (waiting_by w) (filter (is_open levels) ways)) _ (Contains-map (waiting_by w) (filter (is_open levels) ways) (record { to = a; height = h }) (Contains-filter (is_open levels) ways (record { to = a; height = h }) (just.every a h back_here) (ap is_none was)))),
-                  refl,
-                  le_max h w.height.0 l level_is,
-                )
+                let level_is : w.height.0 ≡ l = same_Some _ _ (sym level_here ∙ subst (λ (k : ℕ). entry_of (set levels w.node (Some w.height.0)) k ≡ Some l) same e) in
+                let x = All-contains (λ way. entry_of (set levels w.node (Some w.height.0)) way.to ≡ None → SomeWaits more way.to (int_max way.height w.height.0)) ways (record { to = a; height = h }) spread.reached (just.every a h back_here) none in
+                (x.0, x.1, x.2, le_trans _ _ _ x.3 (le_max h w.height.0 l level_is))
             | inr m ↦ still a (int_max h l) n was (s.frontier a b l h below joined (sym (level_there b m) ∙ e) was)
           ];
     } where
@@ -220,3 +196,33 @@ fewer_open levels a l below none =
     let step = sum_by-set f levels a (Some l) None below in
     let was = ap f none in
     omega (arith, step, was)
+
+-- what was noted stands once the lowest has its level
+pub noted_still : (levels lowest : List (Option ℤ)) (old new : List Waiting) (w : Waiting) (l : ℤ) → w.node < length levels → AreLowest levels lowest old → TakesLowest levels old w new → AreLowest (set levels w.node (Some l)) lowest new
+noted_still levels lowest old new w l below s t = record {
+  size = s.size ∙ sym (length-set levels w.node (Some l));
+  waits = λ a h none noted.
+      let there : (n : a ≢ w.node) → entry_of (set levels w.node (Some l)) a ≡ entry_of levels a = λ n. get_or-set_other levels w.node a (Some l) None n in
+      elim (cases_eq a w.node) [
+        | inl same ↦ none_some (entry_of (set levels w.node (Some l)) w.node) l (subst (λ (n : ℕ). entry_of (set levels w.node (Some l)) n ≡ None) same none) (get_or-set_same levels w.node (Some l) None below)
+        | inr n ↦
+            let was = sym (there n) ∙ none in
+            let x = s.waits a h was noted in
+            elim (All-contains (λ y. IsDone levels y ⊎ (y ≡ w) ⊎ Contains new y) old x.0 t.kept x.1) [
+              | inl done ↦ none_done (entry_of levels x.0.node) (ap (λ k. entry_of levels k) x.2 ∙ was) done
+              | inr open_still ↦ elim open_still [
+                | inl y ↦ absurd (n (sym x.2 ∙ ap (λ (z : Waiting). z.node) y))
+                | inr held ↦ (x.0, held, x.2, x.3)
+              ]
+            ]
+      ];
+}
+
+-- nothing is noted at first
+pub none_noted : (nodes : ℕ) (waiting : List Waiting) → AreLowest (replicate nodes None) (replicate nodes None) waiting
+none_noted nodes waiting = record {
+  size = refl;
+  waits = λ a h _ noted. none_some (entry_of {X = ℤ} (replicate nodes None) a) h (empty a) noted;
+} where
+  empty : (a : ℕ) → entry_of {X = ℤ} (replicate nodes None) a ≡ None
+  empty a = elim (cases_lt a nodes) [ inl h ↦ get_or-replicate nodes a None None h | inr h ↦ get_or_past (replicate nodes None) a None (omega (arith, length-replicate {A = Option ℤ} nodes None)) ]

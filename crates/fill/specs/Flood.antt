@@ -1,12 +1,11 @@
 -- Nodes that wait while a net is flooded, and what the steps of a flood do to them.
-use Rattle.std.specs.Prelude.{◌≡◌, ℕ, ◌<◌, ◌⊎◌, ℤ, ◌≤ℤ◌, List, Option, None, Some, IsSome, Bool, is_none, map, filter, slice_index_or, ◌++◌}
+use Rattle.std.specs.Prelude.{◌≡◌, ℕ, ◌<◌, ◌⊎◌, ℤ, ◌≤ℤ◌, List, length, Option, None, Some, IsSome, slice_index_or}
 use Rattle.std.specs.Ordering.{nat_cmp, int_cmp, ordering_then}
 use Rattle.std.specs.declared.cmp.Ordering.{Ordering}
 use Rattle.fill.specs.declared.flooding.Waiting.{Waiting}
 use Rattle.std.specs.Int.{int_max}
 use Rattle.std.specs.List.{Contains, All}
 use Rattle.fill.specs.Walk.{Joins, Sources, HasJust}
-use Rattle.std.specs.List.Sorted.{IsPermutation}
 use Rattle.fill.specs.declared.net.Spill.{Spill}
 
 -- The least height first. Ties go by node and label.
@@ -43,12 +42,27 @@ pub record SourcesWait (nodes : ℕ) (source : Sources) (waiting : List Waiting)
 abbrev pub IsLabelOf : Sources → Waiting → ℕ → Type 0
 IsLabelOf source w label = (source w.node ≡ Some w.height.0) × (label ≡ w.node) ⊎ (source w.node ≡ Some w.height.0 → ⊥) × (label ≡ w.label)
 
--- The way leads to a node that has no level yet.
-abbrev pub is_open : List (Option ℤ) → Spill → Bool
-is_open levels way = is_none (entry_of levels way.to)
+-- Some entry of the node is not above the height.
+abbrev pub SomeWaits : List Waiting → ℕ → ℤ → Type 0
+SomeWaits waiting a h = (w : Waiting) × Contains waiting w × (w.node ≡ a) × (w.height.0 ≤ℤ h)
 
--- Each neighbour of the node that has no level yet now waits behind it.
+-- The entry comes by one of the ways from a node.
+abbrev pub ComesBy : Waiting → List Spill → Waiting → Type 0
+ComesBy from ways w = (way : Spill) × Contains ways way × (w ≡ waiting_by from way)
+
+-- The ways from a node have been followed: what is new comes by one of them, and where a way leads to a
+-- node without a level, some entry of that node is not above the crest by this way.
+pub record MakesWait (levels : List (Option ℤ)) (from : Waiting) (ways : List Spill) (old : List Waiting) (new : List Waiting) : Type 0 where
+  pub kept : All (Contains new) old
+  pub made : All (λ w. Contains old w ⊎ ComesBy from ways w) new
+  pub reached : All (λ way. entry_of levels way.to ≡ None → SomeWaits new way.to (int_max way.height from.height.0)) ways
+
+-- Each neighbour of the node that has no level yet now waits behind it, or waits no higher.
 abbrev pub Spreads : Joins → List (Option ℤ) → Waiting → List Waiting → List Waiting → Type 0
 Spreads joins levels from old new =
-    (ways : List Spill) × HasJust (joins from.node) ways
-    × IsPermutation (old ++ map (waiting_by from) (filter (is_open levels) ways)) new
+    (ways : List Spill) × HasJust (joins from.node) ways × MakesWait levels from ways old new
+
+-- The lowest crest noted for each node: where the node has no level yet, some entry is not above it.
+pub record AreLowest (levels : List (Option ℤ)) (lowest : List (Option ℤ)) (waiting : List Waiting) : Type 0 where
+  pub size : length lowest ≡ length levels
+  pub waits : (a : ℕ) (h : ℤ) → entry_of levels a ≡ None → entry_of lowest a ≡ Some h → SomeWaits waiting a h

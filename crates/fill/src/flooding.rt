@@ -1,9 +1,9 @@
 // Levels and labels by a heap of waiting nodes.
-ghost use Rattle.std.specs.Prelude.{◌≡◌, ◌<◌, ◌++◌, ◌∷◌, [], ℕ, ℤ, IfOk, OnOk, IfSome, IfNone, length, map, filter, All, replicate, None};
+ghost use Rattle.std.specs.Prelude.{◌≡◌, ◌<◌, ◌≤ℤ◌, ◌∷◌, [], ℕ, ℤ, IfOk, OnOk, IfSome, IfNone, length, All, replicate, None, Some};
+ghost use Rattle.std.specs.Bool.{OnTrue};
 ghost use Rattle.std.specs.BinaryHeap.{IsHeap, heap_items};
-ghost use Rattle.std.specs.List.Sorted.{IsPermutation};
 ghost use Rattle.fill.specs.Walk.{IsFlooded};
-ghost use Rattle.fill.specs.Flood.{waiting_order, waiting_by, is_open, IsDone, TakesLowest, SourcesWait, IsLabelOf, Spreads};
+ghost use Rattle.fill.specs.Flood.{waiting_order, IsDone, TakesLowest, SourcesWait, IsLabelOf, MakesWait, AreLowest, Spreads};
 
 use crate::net::{Net, Spill};
 use ascii_grid::{Height, NoMemory};
@@ -43,52 +43,70 @@ fn next_open(heap: &mut BinaryHeap<Waiting>, levels: &[Option<Height>]) -> Optio
     None
 }
 
-/// Makes one neighbour of a node wait, where it has no level yet.
+/// Whether a crest that was noted is not above this one.
+#[inline(always)]
+fn is_no_lower(crest: Height, noted: Option<Height>) -> bool
+    ensures { OnTrue result ((h : ℤ) × (noted ≡ Some h) × (h ≤ℤ crest)) }
+{
+    match noted {
+        Some(height) => height <= crest,
+        None => false,
+    }
+}
+
+/// Makes one neighbour of a node wait, where it has no level yet and does not wait as low.
 #[inline(always)]
 fn push_way(
     heap: &mut BinaryHeap<Waiting>,
     way: Spill,
     from: &Waiting,
     levels: &[Option<Height>],
+    lowest: &mut [Option<Height>],
 ) -> Result<(), NoMemory>
     requires heap { IsHeap waiting_order (heap_items heap.old) }
     requires inside { way.to < length levels.now }
+    requires lowest { AreLowest levels.now lowest.old (heap_items heap.old) }
     ensures heap { OnOk result (IsHeap waiting_order (heap_items heap.new)) }
-    ensures added { OnOk result (IsPermutation
-        (heap_items heap.old ++ map (waiting_by from.now) (filter (is_open levels.now) (way ∷ [])))
-        (heap_items heap.new)) }
+    ensures lowest { OnOk result (AreLowest levels.now lowest.new (heap_items heap.new)) }
+    ensures waits { OnOk result (MakesWait levels.now from.now (way ∷ []) (heap_items heap.old) (heap_items heap.new)) }
 {
+    let Reverse(level) = from.height;
+    let crest = way.height.max(level);
+    if is_no_lower(crest, lowest[way.to as usize]) {
+        return Ok(());
+    }
     if levels[way.to as usize].is_some() {
         return Ok(());
     }
-    let Reverse(level) = from.height;
     let waiting = Waiting {
-        height: Reverse(way.height.max(level)),
+        height: Reverse(crest),
         node: way.to,
         label: from.label,
     };
     if heap.push(waiting).is_err() {
         return Err(NoMemory);
     }
+    lowest[way.to as usize] = Some(crest);
     Ok(())
 }
 
-/// Makes the neighbours of a node wait that have no level yet.
+/// Makes the neighbours of a node wait that have no level yet and do not wait as low.
 fn push_ways(
     heap: &mut BinaryHeap<Waiting>,
     ways: &[Spill],
     from: &Waiting,
     levels: &[Option<Height>],
+    lowest: &mut [Option<Height>],
 ) -> Result<(), NoMemory>
     requires heap { IsHeap waiting_order (heap_items heap.old) }
     requires inside { All (λ way. way.to < length levels.now) ways.now }
+    requires lowest { AreLowest levels.now lowest.old (heap_items heap.old) }
     ensures heap { OnOk result (IsHeap waiting_order (heap_items heap.new)) }
-    ensures added { OnOk result (IsPermutation
-        (heap_items heap.old ++ map (waiting_by from.now) (filter (is_open levels.now) ways.now))
-        (heap_items heap.new)) }
+    ensures lowest { OnOk result (AreLowest levels.now lowest.new (heap_items heap.new)) }
+    ensures waits { OnOk result (MakesWait levels.now from.now ways.now (heap_items heap.old) (heap_items heap.new)) }
 {
     for way in ways {
-        push_way(heap, *way, from, levels)?;
+        push_way(heap, *way, from, levels, lowest)?;
     }
     Ok(())
 }
@@ -131,7 +149,7 @@ pub(crate) fn empty_list<T: Copy>(alloc: Global, count: usize) -> Result<Vec<Opt
     Ok(entries)
 }
 
-/// Makes the neighbours of a node of the net wait that have no level yet.
+/// Makes the neighbours of a node of the net wait that have no level yet and do not wait as low.
 #[inline]
 fn spread<N: Net>(
     alloc: Global,
@@ -139,16 +157,19 @@ fn spread<N: Net>(
     heap: &mut BinaryHeap<Waiting>,
     from: &Waiting,
     levels: &[Option<Height>],
+    lowest: &mut [Option<Height>],
 ) -> Result<(), NoMemory>
     requires heap { IsHeap waiting_order (heap_items heap.old) }
     requires inside { from.now.node < N.node_count net.now }
     requires size { length levels.now ≡ N.node_count net.now }
+    requires lowest { AreLowest levels.now lowest.old (heap_items heap.old) }
     ensures heap { OnOk result (IsHeap waiting_order (heap_items heap.new)) }
+    ensures lowest { OnOk result (AreLowest levels.now lowest.new (heap_items heap.new)) }
     ensures added { OnOk result (Spreads (N.joins net.now) levels.now from.now
         (heap_items heap.old) (heap_items heap.new)) }
 {
     let ways = net.neighbours(alloc, from.node)?;
-    push_ways(heap, ways.as_slice(), from, levels)
+    push_ways(heap, ways.as_slice(), from, levels, lowest)
 }
 
 /// The label of a node that takes its level: a source at its own height is its own.
@@ -173,13 +194,14 @@ pub fn flood<N: Net>(alloc: Global, net: &N) -> Result<Flooded, NoMemory>
     let count = net.nodes() as usize;
     let mut level = empty_list(alloc, count)?;
     let mut label = empty_list(alloc, count)?;
+    let mut lowest = empty_list(alloc, count)?;
     let mut heap = waiting_sources(alloc, net)?;
     while let Some(waiting) = next_open(&mut heap, &level) {
         let node = waiting.node as usize;
         let Reverse(height) = waiting.height;
-        spread(alloc, net, &mut heap, &waiting, &level)?;
         level[node] = Some(height);
         label[node] = Some(label_of(net, &waiting));
+        spread(alloc, net, &mut heap, &waiting, &level, &mut lowest)?;
     }
     Ok(Flooded { level, label })
 }

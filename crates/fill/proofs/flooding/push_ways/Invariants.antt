@@ -1,11 +1,11 @@
-use Rattle.std.proofs.Common.{◌++◌, map, filter, take}
+use Rattle.std.proofs.Common.{take}
 use Rattle.std.specs.BinaryHeap.{IsHeap, heap_items}
-use Rattle.std.specs.List.Sorted.{IsPermutation}
-use Rattle.fill.specs.Flood.{waiting_order, waiting_by, is_open}
+use Rattle.fill.specs.Flood.{waiting_order, MakesWait, AreLowest}
 use Rattle.fill.proofs.flooding.push_ways.Given as goal
 
 abbrev pub invariant-loop-way : goal.invariant-loop-way
 invariant-loop-way l = record {
   heap : IsHeap waiting_order (heap_items l.heap);
-  added : IsPermutation (heap_items l.initial.heap ++ map (waiting_by l.from) (filter (is_open l.levels) (take l.way-index l.ways))) (heap_items l.heap);
+  lowest : AreLowest l.levels l.lowest (heap_items l.heap);
+  waits : MakesWait l.levels l.from (take l.way-index l.ways) (heap_items l.initial.heap) (heap_items l.heap);
 }
