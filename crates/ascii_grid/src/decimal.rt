@@ -101,7 +101,7 @@ fn scaled(number: u64, scale: u8) -> u64
     number * unit(scale)
 }
 
-// At most nine digits, and their number.
+// At most nine digits, and their number. Over nine bytes the loop has a fixed length, and is unrolled.
 #[inline(always)]
 fn digits_in_front(bytes: &[u8]) -> (usize, u64)
     ensures within { (result.0 ≤ 9) × (result.0 ≤ length bytes.now) }
@@ -109,15 +109,28 @@ fn digits_in_front(bytes: &[u8]) -> (usize, u64)
     ensures number { result.1 ≡ number_of (take result.0 bytes.now) }
     ensures small { result.1 < 10 ^ 9 }
 {
+    if bytes.len() < 9 {
+        return leading_digits(bytes);
+    }
+    leading_digits(&bytes[..9])
+}
+
+#[inline(always)]
+fn leading_digits(bytes: &[u8]) -> (usize, u64)
+    requires { length bytes.now ≤ 9 }
+    ensures within { result.0 ≤ length bytes.now }
+    ensures digits { list_all is_ascii_digit (take result.0 bytes.now) ≡ true }
+    ensures number { result.1 ≡ number_of (take result.0 bytes.now) }
+    ensures small { result.1 < 10 ^ 9 }
+{
     let mut number = 0;
-    let end = bytes.len().min(9);
-    for at in 0..end {
+    for at in 0..bytes.len() {
         if !bytes[at].is_ascii_digit() {
             return (at, number);
         }
         number = 10 * number + u64::from(bytes[at] - b'0');
     }
-    (end, number)
+    (bytes.len(), number)
 }
 
 #[inline(always)]
