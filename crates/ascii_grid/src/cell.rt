@@ -4,11 +4,11 @@ ghost use Rattle.ascii_grid.specs.Decimal.{scaled_value};
 ghost use Rattle.ascii_grid.specs.GridText.{same_value, is_cell, cell_of};
 
 use crate::decimal::scaled_value;
-use crate::place::Height;
+use crate::place::{self, Height};
 
-const LOWEST: i64 = -1_000_000_000;
+const LOWEST: i64 = place::LOWEST as i64;
 
-const HIGHEST: i64 = 1_000_000_000;
+const HIGHEST: i64 = place::HIGHEST as i64;
 
 /// The cell that the word stands for, beside a NODATA word and its scaled value. None: it stands for none.
 pub(crate) fn cell(

@@ -7,12 +7,9 @@ ghost use Rattle.ascii_grid.specs.GridText.{IsGridText, IsRefusal, fault_so_far,
 use crate::counted::Counted;
 use crate::fault::GridFault;
 use crate::grid::Grid;
-use crate::reader::GridReader;
+use crate::reader::{GridReader, MOST_TEXT_BYTES};
 use std::alloc::Global;
 use std::io::Read;
-
-/// The most bytes that a text may have: 2^28.
-pub const MOST_TEXT_BYTES: usize = 268_435_456;
 
 // One system call reads this much.
 const PIECE: usize = 65_536;

@@ -9,8 +9,8 @@ use crate::progress::Progress;
 use std::alloc::Global;
 use std::marker::Model;
 
-/// The most bytes that a text may have.
-const MOST_BYTES: usize = 268_435_456;
+/// The most bytes that a text may have: 2^28.
+pub const MOST_TEXT_BYTES: usize = 268_435_456;
 
 /// What a reader has taken so far.
 #[derive(Drop)]
@@ -67,7 +67,7 @@ impl GridReader {
         if let Some(fault) = self.fault {
             return Err(fault);
         }
-        let within = piece.len().min(MOST_BYTES - self.taken);
+        let within = piece.len().min(MOST_TEXT_BYTES - self.taken);
         if let Err(fault) = self.words.take_all(&piece[..within]) {
             self.fault = Some(fault);
             return Err(fault);
