@@ -155,7 +155,7 @@ pub fn write_terrain(words: &[String]) -> Result<(), String> {
         rows,
         west: ("xllcorner".to_owned(), "0".to_owned()),
         south: ("yllcorner".to_owned(), "0".to_owned()),
-        cell_size: "10".to_owned(),
+        cell_size: "30".to_owned(),
         nodata: "-9999".to_owned(),
     };
     write_map(&header, &terrain, &header.nodata, scale, 1).map_err(|error| error.to_string())
