@@ -29,11 +29,11 @@ recipes:
 	$(BUILT)
 	tools/recipes
 
-# Draws a map: make picture IN=filled.asc OUT=filled.png AS=heights OVER=dem.asc
-OUT ?= $(basename $(IN)).png
+# Draws a map: make picture IN=filled.asc OUT=filled.png KIND=heights OVER=dem.asc
+OUT = $(basename $(IN)).png
 picture:
-	@test -n "$(IN)" || { echo "make picture IN=grid.asc [OUT=grid.png] [AS=heights|flow|accumulate|basins|view] [OVER=terrain.asc]" >&2; exit 1; }
-	tools/picture "$(IN)" "$(OUT)" $(if $(AS),--as $(AS)) $(if $(OVER),--over "$(OVER)")
+	@test -n "$(IN)" || { echo "make picture IN=grid.asc [OUT=grid.png] [KIND=heights|flow|accumulate|basins|view] [OVER=terrain.asc]" >&2; exit 1; }
+	tools/picture "$(IN)" "$(OUT)" $(if $(KIND),--as $(KIND)) $(if $(OVER),--over "$(OVER)")
 
 # The pictures in docs/, of the maps of examples/hills.asc.
 pictures:
