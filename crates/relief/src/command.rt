@@ -1,7 +1,7 @@
 // The words of the command line.
 ghost use Rattle.std.specs.Prelude.{◌≤◌, ◌<◌, ◌-◌, ◌^◌};
 
-use crate::help::{ABOUT, EXAMPLES, MAPS, STATUSES, VIEW_ABOUT, VIEW_WORDS};
+use crate::help::{ABOUT, COMMON, EXAMPLES, MAPS, MapHelp, VIEW, VIEW_WORDS};
 use crate::map::Map;
 use crate::observer_word::parse_observer;
 use crate::options::Options;
@@ -58,11 +58,7 @@ impl From<AllocError> for WordsFault {
 }
 
 /// A subcommand with the options that each map has.
-fn map_command<'a>(
-    alloc: Global,
-    name: &'a str,
-    about: &'a str,
-) -> Result<Command<'a>, AllocError> {
+fn map_command<'a>(alloc: Global, help: MapHelp) -> Result<Command<'a>, AllocError> {
     let tile = Arg::new(alloc, "tile")
         .long("tile")
         .value_name("N")
@@ -81,9 +77,10 @@ fn map_command<'a>(
         .value_parser(value_parser!(u8).range(0..=6))
         .default_value("0")
         .help("Decimals of the heights, 0 to 6: heights are whole numbers of 10^-D");
-    let command = Command::new(alloc, name)
-        .about(about)
-        .after_help(STATUSES)
+    let command = Command::new(alloc, help.name)
+        .about(help.about)
+        .long_about(help.details)
+        .after_help(COMMON)
         .arg(tile)?;
     command.arg(workers)?.arg(scale)
 }
@@ -94,7 +91,7 @@ fn view_command<'a>(alloc: Global) -> Result<Command<'a>, AllocError> {
         .value_name("N")
         .value_parser(value_parser!(u32))
         .default_value("0")
-        .help("Height of the targets above the ground in scaled units, 0 to 1000000");
+        .help("Height of the targets above the ground in units of 10^-D, 0 to 1000000");
     let radius = Arg::new(alloc, "radius")
         .long("radius")
         .value_name("N")
@@ -107,7 +104,7 @@ fn view_command<'a>(alloc: Global) -> Result<Command<'a>, AllocError> {
         .action(ArgAction::Append)
         .num_args(1..)
         .help(VIEW_WORDS);
-    map_command(alloc, "view", VIEW_ABOUT)?
+    map_command(alloc, VIEW)?
         .arg(target)?
         .arg(radius)?
         .arg(observers)
@@ -119,8 +116,8 @@ fn program<'a>(alloc: Global) -> Result<Command<'a>, AllocError> {
         .after_help(EXAMPLES)
         .subcommand_required(true)
         .disable_help_subcommand(true);
-    for (name, about) in MAPS {
-        program = program.subcommand(map_command(alloc, name, about)?)?;
+    for help in MAPS {
+        program = program.subcommand(map_command(alloc, help)?)?;
     }
     program.subcommand(view_command(alloc)?)
 }

@@ -301,6 +301,42 @@ fn no_words_and_refused_words(rt: HostRuntime) {
     assert_eq!(rt; told_by(&rt, rt.alloc(), &["relief", "help"]), (1, true));
 }
 
+/// The help of a map says what goes in and comes out, and names its defaults, limits and statuses.
+#[test]
+fn help_of_each_map(rt: HostRuntime) -> Result<(), Fail> {
+    for name in ["fill", "flow", "accumulate", "basins", "view"] {
+        let mut out = Vec::new(rt.alloc());
+        let mut told = Vec::new(rt.alloc());
+        let mut reader = Counted::new(BOWL);
+        let mut writer = Counted::new(&mut out);
+        let mut lines = Counted::new(&mut told);
+        let words = ["relief", name, "--help"];
+        let ended = run_words(
+            &rt,
+            rt.alloc(),
+            words.as_slice(),
+            &mut reader,
+            &mut writer,
+            &mut lines,
+        );
+        assert_eq!(rt; ended, 0, "{name}");
+        drop(lines);
+        drop(writer);
+        assert!(rt; told.is_empty(), "{name}");
+        let help = String::from_utf8_lossy(rt.alloc(), out.as_slice())?;
+        for part in [
+            "\nIn: ",
+            "\nOut: ",
+            "[default: 256]",
+            "\nLimits: ",
+            "\nExit status:",
+        ] {
+            assert!(rt; help.contains(part), "{name}: {part}");
+        }
+    }
+    Ok(())
+}
+
 #[test]
 fn observer_words(rt: HostRuntime) {
     let observer = Observer {

@@ -1,0 +1,129 @@
+//! A plain Rust twin of `relief`: the same words, the same bytes, and no proof. `make bench` times the two
+//! against each other. It stops with a message at a text that it cannot read, without fault numbers.
+//!
+//!     rustc --edition 2021 -O main.rs -o twin
+//!     twin fill|flow|accumulate|basins [--workers N] [--scale D] < grid.asc > map.asc
+//!     twin view [--workers N] [--scale D] [--target N] [--radius N] ROW,COL,EYE.. < grid.asc > map.asc
+//!     twin terrain hills|serpentine COLUMNS ROWS SEED [SCALE] > grid.asc
+
+mod accumulate;
+mod basins;
+mod directions;
+mod fill;
+mod frame;
+mod parallel;
+mod queue;
+mod read;
+mod spill_graph;
+mod terrain;
+mod view;
+mod write;
+
+use frame::{Frame, NODATA};
+use read::Header;
+use std::io::{self, Read};
+use std::process::ExitCode;
+use view::{Observer, Sight};
+
+const DEFAULT_RADIUS: u32 = 8192;
+
+/// The words of a command line that makes a map.
+struct Wish {
+    map: String,
+    workers: usize,
+    scale: usize,
+    target: u32,
+    radius: u32,
+    observers: Vec<Observer>,
+}
+
+fn number<T: std::str::FromStr>(word: Option<&String>) -> Result<T, String> {
+    let word = word.ok_or("a number is missing")?;
+    word.parse()
+        .map_err(|_| format!("{word} is no number here"))
+}
+
+impl Wish {
+    fn from_words(words: &[String]) -> Result<Self, String> {
+        let mut words = words.iter();
+        let map = words.next().ok_or("no map is named")?.clone();
+        let mut wish = Wish {
+            map,
+            workers: 1,
+            scale: 0,
+            target: 0,
+            radius: DEFAULT_RADIUS,
+            observers: Vec::new(),
+        };
+        while let Some(word) = words.next() {
+            match word.as_str() {
+                "--workers" => wish.workers = number(words.next())?,
+                "--scale" => wish.scale = number(words.next())?,
+                "--target" => wish.target = number(words.next())?,
+                "--radius" => wish.radius = number(words.next())?,
+                // The twin cuts tiles of one side.
+                "--tile" => drop(number::<u32>(words.next())?),
+                _ => wish.observers.push(word.parse()?),
+            }
+        }
+        Ok(wish)
+    }
+}
+
+fn make_map(wish: &Wish) -> Result<(), String> {
+    let mut text = Vec::new();
+    io::stdin()
+        .lock()
+        .read_to_end(&mut text)
+        .map_err(|error| error.to_string())?;
+    let (header, terrain) = read::read_grid(&text, wish.scale, wish.workers)?;
+    drop(text);
+    let (map, nodata, scale) = map_of(wish, &header, terrain)?;
+    write::write_map(&header, &map, nodata, scale, wish.workers).map_err(|error| error.to_string())
+}
+
+/// The asked map, the word for its cells without data, and its decimals.
+fn map_of<'a>(
+    wish: &Wish,
+    header: &'a Header,
+    terrain: Frame<i32>,
+) -> Result<(Frame<i32>, &'a str, usize), String> {
+    let workers = wish.workers;
+    if wish.map == "view" {
+        let sight = Sight {
+            terrain: &terrain,
+            target: wish.target,
+            radius: wish.radius,
+        };
+        return Ok((sight.viewshed(&wish.observers, workers), "-9999", 0));
+    }
+    let filled = fill::fill(&terrain, workers);
+    if wish.map == "fill" {
+        return Ok((filled, &header.nodata, wish.scale));
+    }
+    drop(terrain);
+    let ways = directions::directions(&filled, workers);
+    drop(filled);
+    let map = match wish.map.as_str() {
+        "flow" => ways.map(NODATA, |way| way.code()),
+        "accumulate" => accumulate::accumulate(&ways),
+        "basins" => basins::basins(&ways),
+        other => return Err(format!("there is no map {other}")),
+    };
+    Ok((map, "-9999", 0))
+}
+
+fn main() -> ExitCode {
+    let words: Vec<String> = std::env::args().skip(1).collect();
+    let done = match words.first().map(String::as_str) {
+        Some("terrain") => terrain::write_terrain(&words[1..]),
+        _ => Wish::from_words(&words).and_then(|wish| make_map(&wish)),
+    };
+    match done {
+        Ok(()) => ExitCode::SUCCESS,
+        Err(message) => {
+            eprintln!("twin: {message}");
+            ExitCode::FAILURE
+        }
+    }
+}
