@@ -4,6 +4,7 @@ pub mod Faults
 pub mod MapText
 pub mod Refusals
 pub mod Runs
+pub mod Ends
 pub mod MadeMap
 pub mod ObserverWord
 pub mod Laws

@@ -1,5 +1,7 @@
 // The words of the command line.
-ghost use Rattle.std.specs.Prelude.{◌≤◌, ◌<◌, ◌-◌, ◌^◌};
+ghost use Rattle.std.specs.Prelude.{◌≡◌, ◌≤◌, ◌<◌, ◌-◌, ◌^◌, ◌⊎◌};
+ghost use Rattle.relief.specs.Ends.{EndsRun, EndsUnread};
+ghost use Rattle.relief.specs.Wish.{Wish};
 
 use crate::help::{ABOUT, COMMON, EXAMPLES, MAPS, MapHelp, VIEW, VIEW_WORDS};
 use crate::map::Map;
@@ -193,7 +195,7 @@ fn show_error<W: Write, E: Write>(
 ) -> u8
     requires writer { writer.old.failures < 2 ^ 64 - 1 }
     requires errors { errors.old.failures < 2 ^ 64 - 1 }
-    ensures { result ≤ 4 }
+    ensures { (result ≡ 0) ⊎ (((result ≡ 1) ⊎ (result ≡ 3)) × (writer.new ≡ writer.old)) }
 {
     if error.kind() == ErrorKind::OutOfMemory {
         return NO_MEMORY;
@@ -225,7 +227,9 @@ pub fn run_words<H: Threads + Wait + Sync, R: Read, W: Write, E: Write>(
     requires reader { reader.old.failures < 2 ^ 64 - 1 }
     requires writer { writer.old.failures < 2 ^ 64 - 1 }
     requires errors { errors.old.failures < 2 ^ 64 - 1 }
-    ensures { result ≤ 4 }
+    ensures small { result ≤ 4 }
+    ensures ends { EndsUnread reader.old reader.new writer.old writer.new result
+        ⊎ ((wish : Wish) × EndsRun R.remaining W.contents E.contents wish reader.old reader.new writer.old writer.new errors.old errors.new result) }
 {
     match parse(alloc, words) {
         Ok(options) => run_options(rt, alloc, &options, reader, writer, errors),
@@ -249,7 +253,8 @@ fn run_options<H: Threads + Wait + Sync, R: Read, W: Write, E: Write>(
     requires reader { reader.old.failures < 2 ^ 64 - 1 }
     requires writer { writer.old.failures < 2 ^ 64 - 1 }
     requires errors { errors.old.failures < 2 ^ 64 - 1 }
-    ensures { result ≤ 4 }
+    ensures small { result ≤ 4 }
+    ensures ends { EndsRun R.remaining W.contents E.contents options.now reader.old reader.new writer.old writer.new errors.old errors.new result }
 {
     match run(rt, alloc, options, reader, writer) {
         Ok(()) => DONE,
