@@ -1,6 +1,6 @@
 -- Nodes that wait while a net is flooded, and what the steps of a flood do to them.
 use Rattle.std.specs.Prelude.{◌≡◌, ℕ, ◌<◌, ◌⊎◌, ℤ, ◌≤ℤ◌, List, length, Option, None, Some, IsSome, slice_index_or}
-use Rattle.std.specs.Ordering.{nat_cmp, int_cmp, ordering_then}
+use Rattle.std.specs.Ordering.{int_cmp}
 use Rattle.std.specs.declared.cmp.Ordering.{Ordering}
 use Rattle.fill.specs.declared.flooding.Waiting.{Waiting}
 use Rattle.std.specs.Int.{int_max}
@@ -8,9 +8,9 @@ use Rattle.std.specs.List.{Contains, All}
 use Rattle.fill.specs.Walk.{Joins, Sources, HasJust}
 use Rattle.fill.specs.declared.net.Spill.{Spill}
 
--- The least height first. Ties go by node and label.
+-- The least height first.
 abbrev pub waiting_order : Waiting → Waiting → Ordering
-waiting_order x y = ordering_then (int_cmp y.height.0 x.height.0) (ordering_then (nat_cmp x.node y.node) (nat_cmp x.label y.label))
+waiting_order x y = int_cmp y.height.0 x.height.0
 
 -- The entry of a node, None past the end.
 abbrev pub entry_of : {X : Type 0} → List (Option X) → ℕ → Option X

@@ -18,11 +18,14 @@ pub struct Flooded {
     pub label: Vec<Option<u32>>,
 }
 
-/// A node that waits: a walk from it, which ends at the label, has this crest.
-#[derive(Clone, Copy, PartialEq, Eq, PartialOrd, Ord)]
+/// A node that waits: a walk from it, which ends at the label, has this crest. The lowest comes first.
+#[derive(Clone, Copy)]
+#[derive_where(PartialEq, Eq, PartialOrd, Ord)]
 struct Waiting {
     height: Reverse<Height>,
+    #[derive_where(skip(EqHashOrd))]
     node: u32,
+    #[derive_where(skip(EqHashOrd))]
     label: u32,
 }
 

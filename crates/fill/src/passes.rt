@@ -74,12 +74,17 @@ fn push_cells(
 ) -> Result<(), NoMemory>
     requires fit { Fit tiling.now floods.now }
     requires tile { tile < tile_count tiling.now }
+    requires top { (bounds_of tiling.now tile).top ≤ row }
     requires row { row < (bounds_of tiling.now tile).top + (bounds_of tiling.now tile).rows }
     ensures { OnOk result (Adds tiling.now floods.now
         (λ p. IsInTile tiling.now tile p × (p.row ≡ row)) joins.old.items joins.new.items) }
 {
     let Bounds { left, cols, .. } = tiling.bounds(tile);
+    let flood = &floods[tile as usize];
     for col in left..left + cols {
+        if flood.has_one_label_around(Place { row, col }) {
+            continue;
+        }
         push_cell(joins, tiling, floods, tile, Place { row, col })?;
     }
     Ok(())
