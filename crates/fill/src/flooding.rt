@@ -95,6 +95,7 @@ fn push_way(
 }
 
 /// Makes the neighbours of a node wait that have no label yet and do not wait as low.
+#[inline]
 fn push_ways(
     heap: &mut BinaryHeap<Waiting>,
     ways: &[Spill],
