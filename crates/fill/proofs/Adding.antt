@@ -1,6 +1,7 @@
 -- Joins that are added cell by cell.
-use Rattle.std.proofs.Common.{◌≡◌, ◌≢◌, ◌==◌, ℕ, ◌+◌, ◌-◌, ◌*◌, ◌/◌, ◌%◌, ◌<◌, ◌≤◌, ◌⊎◌, inl, inr, ℤ, List, [], ◌∷◌, ◌++◌, Option, None, Some, ◌∙◌, sym, ap, subst, refl, arith}
+use Rattle.std.proofs.Common.{◌≡◌, ◌≢◌, ◌==◌, ℕ, ◌+◌, ◌-◌, ◌*◌, ◌/◌, ◌%◌, ◌<◌, ◌≤◌, ◌⊎◌, inl, inr, ℤ, ◌≤ℤ◌, List, [], ◌∷◌, ◌++◌, Option, None, Some, ◌∙◌, sym, ap, subst, refl, arith}
 use Rattle.std.specs.Int.{int_max}
+use Rattle.std.proofs.lemmas.Int.{ints}
 use Rattle.std.specs.List.{Contains}
 use Rattle.std.proofs.lemmas.Bool.{cases_eq, cond-true, cond-false, eq-eqb, eqb-true, cases_Bool}
 use Rattle.std.proofs.lemmas.Nat.{same_from_place, mod_below, div-add-mod'}
@@ -11,7 +12,7 @@ use Rattle.ascii_grid.specs.declared.place.Place.{Place}
 use Rattle.ascii_grid.proofs.Places.{same_place}
 use Rattle.tiles.specs.Cutting.{Cutting}
 use Rattle.fill.specs.TileFlood.{Flood}
-use Rattle.fill.specs.Gathering.{mark_among, Meets, IsMeeting, joins_of, Adds}
+use Rattle.fill.specs.Gathering.{mark_among, Meets, IsMeeting, joins_of, Adds, AddsCovered, Covered}
 use Rattle.fill.specs.declared.spills.Join.{Join}
 use Rattle.fill.specs.declared.marks.Mark.{Mark}
 use Rattle.fill.proofs.Steps.{none_some}
@@ -37,11 +38,35 @@ joins_of_is from (Some to) j h = elim (cases_eq from.node to.node) [
   ]
 ]
 
+-- what covers a join stays
+covered_still : (now new : List Join) → ((j : Join) → Contains now j → Contains new j) → (j : Join) → Covered now j → Covered new j
+covered_still now new kept j c = (c.0, kept c.0 c.1, c.2, c.3, c.4)
+
+le_refl : (a b : ℤ) → a ≡ b → a ≤ℤ b
+le_refl a b e = omega (arith, ints)
+
+-- a join that is covered, and one that is added
+pub adds_covered_join : (old : List Join) (from to : Mark) → Covered old (record { from = from.node; to = to.node; height = int_max from.level to.level }) → AddsCovered old (joins_of from (Some to)) old
+adds_covered_join old from to covered = record {
+  kept = λ j h. h;
+  only = λ j h. inl h;
+  every = λ j h. subst (Covered old) (joins_of_is from (Some to) j h).3 (subst (λ (m : Mark). Covered old (record { from = from.node; to = m.node; height = int_max from.level m.level })) (same_Some to (joins_of_is from (Some to) j h).0 (joins_of_is from (Some to) j h).1) covered);
+}
+
+pub adds_join : (old new : List Join) (from to : Mark) → from.node ≢ to.node → new ≡ old ++ record { from = from.node; to = to.node; height = int_max from.level to.level } ∷ [] → AddsCovered old (joins_of from (Some to)) new
+adds_join old new from to differ is = subst (λ (z : List Join). AddsCovered old (joins_of from (Some to)) z) (sym is) (subst (λ (z : List Join). AddsCovered old z (old ++ made ∷ [])) (sym (joins_of_differ from to differ)) (record {
+  kept = λ j h. Contains-append_left old (made ∷ []) j h;
+  only = λ j h. Contains-append_cases old (made ∷ []) j h;
+  every = λ j h. (j, Contains-append_right old (made ∷ []) j h, refl, refl, le_refl j.height j.height refl);
+})) where
+  made : Join
+  made = record { from = from.node; to = to.node; height = int_max from.level to.level }
+
 -- the joins of a cell that have been added before a way
 pub record HasAdded (c : Cutting) (floods : List Flood) (p : Place) (way : ℕ) (old new : List Join) : Type 0 where
   pub kept : (j : Join) → Contains old j → Contains new j
   pub only : (j : Join) → Contains new j → Contains old j ⊎ IsMeeting c floods j
-  pub every : (q : Place) (j : Join) → (q.row + 1 - p.row) * 3 + (q.col + 1 - p.col) < way → Meets c floods p q j → Contains new j
+  pub every : (q : Place) (j : Join) → (q.row + 1 - p.row) * 3 + (q.col + 1 - p.col) < way → Meets c floods p q j → Covered new j
 
 pub none_added : (c : Cutting) (floods : List Flood) (p : Place) (old : List Join) → HasAdded c floods p 0 old old
 none_added c floods p old = record {
@@ -57,10 +82,10 @@ way_place p q way t e =
     (omega (arith, both.0, t.row_up), omega (arith, both.1, t.col_left))
 
 -- the mark on the way was none, or its join was added
-pub added_more : (c : Cutting) (floods : List Flood) (p near : Place) (way : ℕ) (from : Mark) (o : Option Mark) (old now new : List Join) → mark_among c floods p ≡ Some from → mark_among c floods near ≡ o → near.row + 1 ≡ p.row + way / 3 → near.col + 1 ≡ p.col + way % 3 → way < 9 → HasAdded c floods p way old now → new ≡ now ++ joins_of from o → HasAdded c floods p (way + 1) old new
+pub added_more : (c : Cutting) (floods : List Flood) (p near : Place) (way : ℕ) (from : Mark) (o : Option Mark) (old now new : List Join) → mark_among c floods p ≡ Some from → mark_among c floods near ≡ o → near.row + 1 ≡ p.row + way / 3 → near.col + 1 ≡ p.col + way % 3 → way < 9 → HasAdded c floods p way old now → AddsCovered now (joins_of from o) new → HasAdded c floods p (way + 1) old new
 added_more c floods p near way from o old now new here there row col few s is = record {
-  kept = λ j h. subst (λ (z : List Join). Contains z j) (sym is) (Contains-append_left now (joins_of from o) j (s.kept j h));
-  only = λ j h. elim (Contains-append_cases now (joins_of from o) j (subst (λ (z : List Join). Contains z j) is h)) [
+  kept = λ j h. is.kept j (s.kept j h);
+  only = λ j h. elim (is.only j h) [
     | inl was ↦ s.only j was
     | inr made ↦
         let m = joins_of_is from o j made in
@@ -79,7 +104,7 @@ added_more c floods p near way from o old now new here there row col few s is = 
         )
   ];
   every = λ q j low m. elim (cases_eq ((q.row + 1 - p.row) * 3 + (q.col + 1 - p.col)) way) [
-    | inr other ↦ subst (λ (z : List Join). Contains z j) (sym is) (Contains-append_left now (joins_of from o) j (s.every q j (omega (arith, low, other)) m))
+    | inr other ↦ covered_still now new is.kept j (s.every q j (omega (arith, low, other)) m)
     | inl same ↦
         let at = way_place p q way m.touches same in
         let q_is : q ≡ near = same_place q near (omega (arith, at.0, row)) (omega (arith, at.1, col)) in
@@ -90,7 +115,7 @@ added_more c floods p near way from o old now new here there row col few s is = 
         subst (λ (f : Mark). Contains (joins_of f o) j) (sym from_same) (subst (λ (z : Option Mark). Contains (joins_of (record { level = m.from_level; node = j.from }) z) j) (sym mark_is)
         (subst (λ (z : List Join). Contains z j) (sym (joins_of_differ (record { level = m.from_level; node = j.from }) to m.different))
         (subst (λ (h : ℤ). Contains (record { from = j.from; to = j.to; height = h } ∷ []) j) (sym m.greater) (cons_head j [])))) in
-        subst (λ (z : List Join). Contains z j) (sym is) (Contains-append_right now (joins_of from o) j made)
+        is.every j made
   ];
 } where
   rows : (way / 3) ≤ 2
@@ -149,7 +174,7 @@ pub adds_then : (c : Cutting) (floods : List Flood) (first later both : Place �
 adds_then c floods first later both old now new split a b = record {
   kept = λ j h. b.kept j (a.kept j h);
   only = λ j h. elim (b.only j h) [ inl was ↦ a.only j was | inr meets ↦ inr meets ];
-  every = λ p q j at m. elim (split p at) [ inl early ↦ b.kept j (a.every p q j early m) | inr late ↦ b.every p q j late m ];
+  every = λ p q j at m. elim (split p at) [ inl early ↦ covered_still now new b.kept j (a.every p q j early m) | inr late ↦ b.every p q j late m ];
 }
 
 pub adds_as : (c : Cutting) (floods : List Flood) (first both : Place → Type 0) (old new : List Join) → ((p : Place) → both p → first p) → Adds c floods first old new → Adds c floods both old new

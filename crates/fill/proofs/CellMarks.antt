@@ -1,18 +1,21 @@
 -- What the floods say of a cell.
-use Rattle.std.proofs.Common.{◌≡◌, ℕ, ◌+◌, ◌-◌, ◌*◌, ◌<◌, inl, inr, ℤ, true, List, length, get_or, Option, None, Some, ◌∙◌, sym, ap, subst, refl, arith}
+use Rattle.std.proofs.Common.{◌≡◌, ℕ, ◌+◌, ◌-◌, ◌*◌, ◌<◌, ◌≤◌, ◌⊎◌, map, inl, inr, ℤ, true, List, length, get_or, Option, None, Some, ◌∙◌, sym, ap, subst, refl, arith}
 use Rattle.std.specs.Prelude.{slice_get, option_and_then}
-use Rattle.std.proofs.lemmas.Bool.{cond-false, cases_Bool}
+use Rattle.std.proofs.lemmas.Bool.{cond-false, cases_Bool, cases_eq, cases_lt}
+use Rattle.std.proofs.lemmas.List.{get_or-map}
 use Rattle.std.proofs.lemmas.Option.{same_Some, slice_get_within}
 use Rattle.ascii_grid.specs.Neighbours.{index_of, Touches}
 use Rattle.ascii_grid.proofs.Places.{IsBefore}
 use Rattle.ascii_grid.specs.declared.place.Place.{Place}
+use Rattle.tiles.specs.declared.bounds.Bounds.{Bounds}
 use Rattle.tiles.specs.Cutting.{Cutting, IsCutting, IsWithin, IsInTile, IsInBounds, tile_count, tile_of_place, bounds_of}
 use Rattle.tiles.proofs.Cut.{in_tile}
-use Rattle.fill.specs.TileFlood.{Flood, LabelsInside, is_in_bounds, level_in, label_in}
-use Rattle.fill.specs.Gathering.{Fit, mark_of, mark_among}
+use Rattle.fill.specs.TileFlood.{Flood, LabelsInside, is_in_bounds, level_in, label_in, entry_in, label_of_node, AreEqualAround, HasOneLabelAround}
+use Rattle.fill.specs.Gathering.{Fit, mark_of, mark_among, Meets, Adds}
+use Rattle.fill.specs.declared.spills.Join.{Join}
 use Rattle.fill.specs.declared.marks.Mark.{Mark}
 use Rattle.fill.proofs.Steps.{seen}
-use Rattle.fill.proofs.TileWindows.{in_bounds_parts, bounds_from_entry, entry_in-inside}
+use Rattle.fill.proofs.TileWindows.{in_bounds_parts, bounds_from_entry, entry_in-inside, entry_index}
 
 -- a label lies in the grid
 pub label_within : (c : Cutting) (f : Flood) (p label : Place) → length f.labels ≡ f.bounds.rows * f.bounds.cols → LabelsInside c f → label_in f p ≡ Some label → IsWithin c label
@@ -67,3 +70,72 @@ held c floods tile f p h fit below e inside = in_tile c tile p h below (subst (�
 -- The places that touch p and come before the row and the column have marks.
 abbrev pub HasNoGapBefore : Cutting → List Flood → Place → ℕ → ℕ → Type 0
 HasNoGapBefore c floods p row col = (q : Place) → Touches p q → IsBefore q row col → mark_among c floods q ≡ None → ⊥
+
+-- a row or column that differs by at most 1
+one_of_three : (a b : ℕ) → a ≤ b + 1 → b ≤ a + 1 → (b + 1 ≡ a) ⊎ (b ≡ a) ⊎ (b ≡ a + 1)
+one_of_three a b low high = elim (cases_lt b a) [
+  | inl below ↦ inl (omega arith)
+  | inr past ↦ elim (cases_eq b a) [
+    | inl same ↦ inr (inl same)
+    | inr other ↦ inr (inr (omega (arith, other)))
+  ]
+]
+
+-- an entry that is equal to those around it, at each of their rows and columns
+equal_near : (xs : List ℕ) (w r c s d : ℕ) → 1 ≤ r → 1 ≤ c → AreEqualAround xs (r * w + c) w → r ≤ s + 1 → s ≤ r + 1 → c ≤ d + 1 → d ≤ c + 1 → get_or xs (s * w + d) 0 ≡ get_or xs (r * w + c) 0
+equal_near xs w r c s d one_row one_col e up down left right =
+    elim (one_of_three r s up down) [
+      | inl before ↦
+          let rows : s * w + w ≡ r * w = omega (arith, ap (λ n. n * w) before) in
+          elim (one_of_three c d left right) [
+            | inl west ↦ let i : s * w + d ≡ r * w + c - w - 1 = omega (arith, rows, west) in at _ _ i ∙ e.north_west
+            | inr (inl same) ↦ let i : s * w + d ≡ r * w + c - w = omega (arith, rows, same) in at _ _ i ∙ e.north
+            | inr (inr east) ↦ let i : s * w + d ≡ r * w + c - w + 1 = omega (arith, rows, east) in at _ _ i ∙ e.north_east
+          ]
+      | inr (inl level) ↦
+          let rows : s * w ≡ r * w = ap (λ n. n * w) level in
+          elim (one_of_three c d left right) [
+            | inl west ↦ let i : s * w + d ≡ r * w + c - 1 = omega (arith, rows, west) in at _ _ i ∙ e.west
+            | inr (inl same) ↦ let i : s * w + d ≡ r * w + c = omega (arith, rows, same) in at _ _ i
+            | inr (inr east) ↦ let i : s * w + d ≡ r * w + c + 1 = omega (arith, rows, east) in at _ _ i ∙ e.east
+          ]
+      | inr (inr after) ↦
+          let rows : s * w ≡ r * w + w = omega (arith, ap (λ n. n * w) after) in
+          elim (one_of_three c d left right) [
+            | inl west ↦ let i : s * w + d ≡ r * w + c + w - 1 = omega (arith, rows, west) in at _ _ i ∙ e.south_west
+            | inr (inl same) ↦ let i : s * w + d ≡ r * w + c + w = omega (arith, rows, same) in at _ _ i ∙ e.south
+            | inr (inr east) ↦ let i : s * w + d ≡ r * w + c + w + 1 = omega (arith, rows, east) in at _ _ i ∙ e.south_east
+          ]
+    ] where
+      at : (i j : ℕ) → i ≡ j → get_or xs i 0 ≡ get_or xs j 0
+      at i j same = ap (λ n. get_or xs n 0) same
+
+-- labels by their nodes
+label_by_node : (b : Bounds) (nodes : List ℕ) (p : Place) → length nodes ≡ b.rows * b.cols → IsInBounds b p → entry_in b (map (label_of_node b) nodes) p ≡ label_of_node b (get_or nodes ((p.row - b.top) * b.cols + (p.col - b.left)) 0)
+label_by_node b nodes p size i =
+    entry_in-inside b (map (label_of_node b) nodes) p i
+    ∙ get_or-map (label_of_node b) nodes ((p.row - b.top) * b.cols + (p.col - b.left)) 0 None (omega (arith, size, entry_index b p i))
+
+-- where the nodes are equal around a cell that is not on the rim, so are the labels
+pub one_label_around : (f : Flood) (nodes : List ℕ) (p : Place) → f.labels ≡ map (label_of_node f.bounds) nodes → length nodes ≡ f.bounds.rows * f.bounds.cols → 1 ≤ p.row - f.bounds.top → 1 ≤ p.col - f.bounds.left → p.row - f.bounds.top + 1 < f.bounds.rows → p.col - f.bounds.left + 1 < f.bounds.cols → AreEqualAround nodes ((p.row - f.bounds.top) * f.bounds.cols + (p.col - f.bounds.left)) f.bounds.cols → HasOneLabelAround f p
+one_label_around f nodes p are size row col last_row last_col e q t =
+    let b = f.bounds in
+    let here : IsInBounds b p = (omega (arith, row), omega (arith, row, last_row), omega (arith, col), omega (arith, col, last_col)) in
+    let there : IsInBounds b q = (omega (arith, t.row_up, row), omega (arith, t.row_down, row, last_row), omega (arith, t.col_left, col), omega (arith, t.col_right, col, last_col)) in
+    let same = equal_near nodes b.cols (p.row - b.top) (p.col - b.left) (q.row - b.top) (q.col - b.left) row col e (omega (arith, t.row_up, row)) (omega (arith, t.row_down, row)) (omega (arith, t.col_left, col)) (omega (arith, t.col_right, col)) in
+    (there, ap (λ (z : List (Option Place)). entry_in b z q) are ∙ label_by_node b nodes q size there ∙ ap (label_of_node b) same ∙ sym (label_by_node b nodes p size here) ∙ ap (λ (z : List (Option Place)). entry_in b z p) (sym are))
+
+-- a cell with one label around it adds no joins
+pub one_label_adds : (c : Cutting) (floods : List Flood) (tile : ℕ) (f : Flood) (p : Place) (old : List Join) → IsCutting c → tile < tile_count c → slice_get floods tile ≡ Some f → f.bounds ≡ bounds_of c tile → IsInTile c tile p → HasOneLabelAround f p → Adds c floods (λ q. q ≡ p) old old
+one_label_adds c floods tile f p old h below e bounds i around = record {
+  kept = λ j held. held;
+  only = λ j held. inl held;
+  every = λ x q j same m.
+      let here = subst (λ (z : Place). Meets c floods z q j) same m in
+      let near = around q here.touches in
+      let inside = in_tile c tile q h below (subst (λ (b : Bounds). IsInBounds b q) bounds near.0) in
+      let from = mark_parts c.cols _ _ _ (mark_from_tile c floods tile f p e i.1 ∙ here.from_is) in
+      let to = mark_parts c.cols _ _ _ (mark_from_tile c floods tile f q e inside.1 ∙ here.to_is) in
+      let label = same_Some _ _ (sym from.2 ∙ sym near.1 ∙ to.2) in
+      absurd (here.different (sym from.3 ∙ ap (index_of c.cols) label ∙ to.3));
+}

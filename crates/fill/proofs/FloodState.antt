@@ -1,5 +1,5 @@
 -- The state of a flood: settled nodes with their levels, and nodes that wait with a walk each.
-use Rattle.std.proofs.Common.{◌≡◌, ℕ, ◌<◌, ◌⊎◌, ℤ, ◌≤ℤ◌, List, length, Option, None, Some, MatchOption}
+use Rattle.std.proofs.Common.{◌≡◌, ℕ, ◌<◌, ◌⊎◌, ℤ, List, length, Option, None, Some, IsSome}
 use Rattle.std.specs.Int.{int_max}
 use Rattle.std.specs.List.{Contains, All}
 use Rattle.fill.specs.Walk.{Joins, Sources, IsWalk, crest, end_of, IsLevel}
@@ -12,19 +12,17 @@ abbrev pub HasWalk : Joins → Sources → Waiting → Type 0
 HasWalk joins source w =
     (walk : List Spill) × IsWalk joins source w.node walk × (crest source w.node walk ≡ w.height.0) × (end_of w.node walk ≡ w.label)
 
--- The state of a flood: nodes with a level have their final one; of the others each source waits,
--- and so does each neighbour of a node with a level.
+-- The state of a flood: nodes that are done have their level and label; of the others each source waits,
+-- and so does each neighbour of a node that is done.
 pub record IsFlooding (joins : Joins) (source : Sources) (nodes : ℕ) (levels : List (Option ℤ)) (labels : List (Option ℕ)) (waiting : List Waiting) : Type 0 where
   pub levels_size : length levels ≡ nodes
   pub labels_size : length labels ≡ nodes
-  pub settled : (a : ℕ) → a < nodes →
-      MatchOption (entry_of levels a) (entry_of labels a ≡ None)
-      (λ l. (b : ℕ) × (entry_of labels a ≡ Some b) × IsLevel joins source a l b)
+  pub settled : (a b : ℕ) → entry_of labels a ≡ Some b → (l : ℤ) × (entry_of levels a ≡ Some l) × IsLevel joins source a l b
   pub waits : All (λ w. (w.node < nodes) × HasWalk joins source w) waiting
-  pub sources : (a : ℕ) (h : ℤ) → a < nodes → source a ≡ Some h → entry_of levels a ≡ None → SomeWaits waiting a h
-  pub frontier : (a b : ℕ) (l h : ℤ) → a < nodes → joins a b h → entry_of levels b ≡ Some l → entry_of levels a ≡ None → SomeWaits waiting a (int_max h l)
+  pub sources : (a : ℕ) (h : ℤ) → a < nodes → source a ≡ Some h → entry_of labels a ≡ None → SomeWaits waiting a h
+  pub frontier : (a b : ℕ) (l h : ℤ) → a < nodes → joins a b h → IsSome (entry_of labels b) → entry_of levels b ≡ Some l → entry_of labels a ≡ None → SomeWaits waiting a (int_max h l)
 
--- What has left the heap so far has a level.
-pub record OnlyDoneLeft (levels : List (Option ℤ)) (old new : List Waiting) : Type 0 where
+-- What has left the heap so far is done.
+pub record OnlyDoneLeft (labels : List (Option ℕ)) (old new : List Waiting) : Type 0 where
   pub left : All (Contains old) new
-  pub kept : All (λ x. IsDone levels x ⊎ Contains new x) old
+  pub kept : All (λ x. IsDone labels x ⊎ Contains new x) old

@@ -51,7 +51,10 @@ gathered_more c floods tile joins met lowest new s adds low is = subst (AreGathe
   ];
   every = λ p q j at m. elim (cases_eq (tile_of_place c p) tile) [
     | inr other ↦ let was = s.every p q j (at.0, omega (arith, at.1, other)) m in (was.0, Contains-append_left joins lowest was.0 was.1, was.2, was.3, was.4)
-    | inl same ↦ let made = low.every j (adds.every p q j (at.0, same) m) in (made.0, Contains-append_right joins lowest made.0 made.1, made.2, made.3, made.4)
+    | inl same ↦
+        let was = adds.every p q j (at.0, same) m in
+        let made = low.every was.0 was.1 in
+        (made.0, Contains-append_right joins lowest made.0 made.1, made.2 ∙ was.2, made.3 ∙ was.3, le_of _ _ _ made.4 was.4)
   ];
 })
 
@@ -330,3 +333,11 @@ sources_more c floods k o old new s here is = subst (AreSources c floods (k + 1)
 pub entry_from : (c : Cutting) (floods : List Flood) (p : Place) (o : Option ℤ) → IfSome o (λ h. IsSpillSource c floods p h) → IfNone o ((h : ℤ) → IsSpillSource c floods p h → ⊥) → IsSourceEntry c floods p o
 entry_from c floods p None a b = b
 entry_from c floods p (Some h) a b = a
+
+-- one more entry of a row
+pub row_sources_more : (c : Cutting) (floods : List Flood) (row col : ℕ) (o : Option ℤ) (old new : List (Option ℤ)) → col < c.cols → AreSources c floods (row * c.cols + col) old → IsSourceEntry c floods (record { row = row; col = col }) o → new ≡ old ++ o ∷ [] → AreSources c floods (row * c.cols + (col + 1)) new
+row_sources_more c floods row col o old new below s here is =
+    let next : row * c.cols + col + 1 ≡ row * c.cols + (col + 1) = omega arith in
+    let place : record { row = row; col = col } ≡ record { row = (row * c.cols + col) / c.cols; col = (row * c.cols + col) % c.cols } =
+    same_place (record { row = row; col = col }) (record { row = (row * c.cols + col) / c.cols; col = (row * c.cols + col) % c.cols }) (sym (div-mul-add row c.cols col below)) (sym (mod-mul-add row c.cols col below)) in
+    subst (λ n. AreSources c floods n new) next (sources_more c floods (row * c.cols + col) o old new s (subst (λ (p : Place). IsSourceEntry c floods p o) place here) is)

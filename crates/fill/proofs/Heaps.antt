@@ -1,19 +1,17 @@
 -- What a heap of waiting nodes has after each pop and push.
-use Rattle.std.proofs.Common.{◌≡◌, ℕ, zero, suc, ◌+◌, ◌<◌, true, false, List, [], ◌∷◌, ◌++◌, length, get_or, map, filter, is_none, take, ℤ, ◌≤ℤ◌, Option, None, Some, is_some, is_err, Result, Ok, Err, OnOk, sym, ap, subst, refl, ◌∙◌, arith, ◌⊎◌, inl, inr}
+use Rattle.std.proofs.Common.{◌≡◌, ℕ, zero, suc, ◌+◌, ◌<◌, false, List, ◌∷◌, length, get_or, ℤ, ◌≤ℤ◌, Option, None, Some, is_some, is_err, Result, Ok, Err, OnOk, sym, ap, subst, refl, ◌∙◌, arith, ◌⊎◌, inl, inr}
 use Rattle.std.specs.List.{Contains, All}
 use Rattle.std.specs.List.Sorted.{IsPermutation}
 use Rattle.std.specs.BinaryHeap.{IsUpperBound}
 use Rattle.std.specs.Ordering.{is_lt}
 use Rattle.std.proofs.lemmas.Int.{ints, by_lt_z}
-use Rattle.std.proofs.lemmas.Bool.{cases_eq, cond-true}
-use Rattle.std.proofs.lemmas.List.{take_more, append_assoc, map-append}
-use Rattle.std.proofs.lemmas.List.Elements.{All-contains, All-contains_itself, All-from_recursion, filter-append}
-use Rattle.std.proofs.lemmas.List.Sorted.{Contains-permutation, IsPermutation-sym, IsPermutation-push_more, IsPermutation-refl, IsPermutation-trans, IsPermutation-append_left}
+use Rattle.std.proofs.lemmas.Bool.{cases_eq}
+use Rattle.std.proofs.lemmas.List.Elements.{All-contains, All-contains_itself, All-from_recursion}
+use Rattle.std.proofs.lemmas.List.Sorted.{Contains-permutation, IsPermutation-sym}
 use Rattle.std.proofs.lemmas.Option.{same_Some}
-use Rattle.fill.specs.declared.net.Spill.{Spill}
 use Rattle.fill.specs.declared.flooding.Waiting.{Waiting}
 use Rattle.fill.specs.Walk.{Sources}
-use Rattle.fill.specs.Flood.{entry_of, IsDone, TakesLowest, waiting_by, waiting_order, SourcesWait}
+use Rattle.fill.specs.Flood.{entry_of, IsDone, TakesLowest, waiting_order, SourcesWait}
 use Rattle.fill.proofs.FloodState.{OnlyDoneLeft}
 
 pub all_by_contains : {X : Type 0} (P : X → Type 0) (xs : List X) → ((x : X) → Contains xs x → P x) → All P xs
@@ -38,33 +36,33 @@ order_le x y e = by_lt_z y.height.0 x.height.0 (λ less. absurd (grind arith)) (
 le_refl : (a b : ℤ) → a ≡ b → b ≤ℤ a
 le_refl a b e = omega (arith, ints)
 
-pub nothing_left : (levels : List (Option ℤ)) (xs : List Waiting) → OnlyDoneLeft levels xs xs
-nothing_left levels xs = record {
+pub nothing_left : (labels : List (Option ℕ)) (xs : List Waiting) → OnlyDoneLeft labels xs xs
+nothing_left labels xs = record {
   left = All-contains_itself xs;
   kept = λ k d below. inr (All-contains_itself xs k d below);
 }
 
-pub one_left : (levels : List (Option ℤ)) (old now rest : List Waiting) (x : Waiting) → OnlyDoneLeft levels old now → IsPermutation now (x ∷ rest) → IsDone levels x → OnlyDoneLeft levels old rest
-one_left levels old now rest x s perm done = record {
+pub one_left : (labels : List (Option ℕ)) (old now rest : List Waiting) (x : Waiting) → OnlyDoneLeft labels old now → IsPermutation now (x ∷ rest) → IsDone labels x → OnlyDoneLeft labels old rest
+one_left labels old now rest x s perm done = record {
   left = all_by_contains (Contains old) rest (λ y h. All-contains (Contains old) now y s.left (Contains-permutation _ _ y (IsPermutation-sym _ _ perm) (cons_tail x rest y h)));
-  kept = all_by_contains (λ y. IsDone levels y ⊎ Contains rest y) old (λ y h.
-      elim (All-contains (λ z. IsDone levels z ⊎ Contains now z) old y s.kept h) [
+  kept = all_by_contains (λ y. IsDone labels y ⊎ Contains rest y) old (λ y h.
+      elim (All-contains (λ z. IsDone labels z ⊎ Contains now z) old y s.kept h) [
         | inl d ↦ inl d
         | inr held ↦ elim (cons_cases x rest y (Contains-permutation _ _ y perm held)) [
-          | inl same ↦ inl (subst (λ (z : Waiting). IsDone levels z) (sym same) done)
+          | inl same ↦ inl (subst (λ (z : Waiting). IsDone labels z) (sym same) done)
           | inr still ↦ inr still
         ]
       ]);
 }
 
-pub first_open : (levels : List (Option ℤ)) (old now rest : List Waiting) (x : Waiting) → OnlyDoneLeft levels old now → IsPermutation now (x ∷ rest) → IsUpperBound waiting_order x rest → entry_of levels x.node ≡ None → TakesLowest levels old x rest
-first_open levels old now rest x s perm bound is_open =
+pub first_open : (labels : List (Option ℕ)) (old now rest : List Waiting) (x : Waiting) → OnlyDoneLeft labels old now → IsPermutation now (x ∷ rest) → IsUpperBound waiting_order x rest → entry_of labels x.node ≡ None → TakesLowest labels old x rest
+first_open labels old now rest x s perm bound is_open =
     let above : All (λ y. is_lt (waiting_order x y) ≡ false) rest = All-from_recursion (λ y. is_lt (waiting_order x y) ≡ false) rest bound in
     record {
       was_open = is_open;
       was = All-contains (Contains old) now x s.left (Contains-permutation _ _ x (IsPermutation-sym _ _ perm) (cons_head x rest));
-      lowest = all_by_contains (λ y. IsDone levels y ⊎ (x.height.0 ≤ℤ y.height.0)) old (λ y h.
-          elim (All-contains (λ z. IsDone levels z ⊎ Contains now z) old y s.kept h) [
+      lowest = all_by_contains (λ y. IsDone labels y ⊎ (x.height.0 ≤ℤ y.height.0)) old (λ y h.
+          elim (All-contains (λ z. IsDone labels z ⊎ Contains now z) old y s.kept h) [
             | inl d ↦ inl d
             | inr held ↦ elim (cons_cases x rest y (Contains-permutation _ _ y perm held)) [
               | inl same ↦ inr (le_refl y.height.0 x.height.0 (ap (λ (z : Waiting). z.height.0) same))
@@ -72,8 +70,8 @@ first_open levels old now rest x s perm bound is_open =
             ]
           ]);
       left = all_by_contains (Contains old) rest (λ y h. All-contains (Contains old) now y s.left (Contains-permutation _ _ y (IsPermutation-sym _ _ perm) (cons_tail x rest y h)));
-      kept = all_by_contains (λ y. IsDone levels y ⊎ (y ≡ x) ⊎ Contains rest y) old (λ y h.
-          elim (All-contains (λ z. IsDone levels z ⊎ Contains now z) old y s.kept h) [
+      kept = all_by_contains (λ y. IsDone labels y ⊎ (y ≡ x) ⊎ Contains rest y) old (λ y h.
+          elim (All-contains (λ z. IsDone labels z ⊎ Contains now z) old y s.kept h) [
             | inl d ↦ inl d
             | inr held ↦ inr (cons_cases x rest y (Contains-permutation _ _ y perm held))
           ]);

@@ -1,9 +1,10 @@
 -- Ways followed one by one, and what is noted of the nodes that they lead to.
-use Rattle.std.proofs.Common.{◌≡◌, ℕ, ◌+◌, ◌<◌, List, [], ◌∷◌, ◌++◌, length, get_or, set, take, drop, ℤ, ◌≤ℤ◌, Option, None, Some, IsSome, sym, ap, subst, refl, ◌∙◌, arith, ◌⊎◌, inl, inr}
+use Rattle.std.proofs.Common.{◌≡◌, ℕ, ◌+◌, ◌<◌, List, [], ◌∷◌, ◌++◌, length, get_or, set, take, drop, ℤ, ◌≤ℤ◌, Option, None, Some, IsSome, sym, subst, refl, ◌∙◌, arith, ◌⊎◌, inl, inr, to_z, of_z, w32}
 use Rattle.std.specs.Int.{int_max}
-use Rattle.std.specs.List.{Contains, All}
+use Rattle.std.specs.List.{Contains}
 use Rattle.std.specs.List.Sorted.{IsPermutation}
-use Rattle.std.proofs.lemmas.Int.{ints}
+use Rattle.std.proofs.lemmas.Int.{ints, to_z-of_z}
+use mir.Val.{SFits}
 use Rattle.std.proofs.lemmas.Bool.{cases_eq}
 use Rattle.std.proofs.lemmas.List.{length-set, get_or-set_same, get_or-set_other, take_more}
 use Rattle.std.proofs.lemmas.List.Elements.{All-contains, All-contains_itself, Contains-append_left, Contains-append_right, Contains-append_cases}
@@ -12,7 +13,7 @@ use Rattle.std.proofs.Math.Seq.{take-append_seam}
 use Rattle.std.proofs.lemmas.Option.{same_Some}
 use Rattle.fill.specs.declared.net.Spill.{Spill}
 use Rattle.fill.specs.declared.flooding.Waiting.{Waiting}
-use Rattle.fill.specs.Flood.{entry_of, SomeWaits, ComesBy, waiting_by, MakesWait, AreLowest}
+use Rattle.fill.specs.Flood.{entry_of, SomeWaits, ComesBy, waiting_by, MakesWait, AreNoted, KeepsDone}
 use Rattle.fill.proofs.Heaps.{all_by_contains, cons_head, cons_tail, cons_cases}
 use Rattle.fill.proofs.Steps.{none_done, le_trans}
 
@@ -26,65 +27,77 @@ one_held x y h = elim (cons_cases x [] y h) [
 ]
 
 -- a way that is not followed, since nothing is won by it
-pub passed : (levels : List (Option ℤ)) (from : Waiting) (way : Spill) (waiting : List Waiting) → (entry_of levels way.to ≡ None → SomeWaits waiting way.to (int_max way.height from.height.0)) → MakesWait levels from (way ∷ []) waiting waiting
-passed levels from way waiting reached = record {
+pub passed : (labels : List (Option ℕ)) (from : Waiting) (way : Spill) (waiting : List Waiting) → (entry_of labels way.to ≡ None → SomeWaits waiting way.to (int_max way.height from.height.0)) → MakesWait labels from (way ∷ []) waiting waiting
+passed labels from way waiting reached = record {
   kept = All-contains_itself waiting;
   made = λ k d below. inl (All-contains_itself waiting k d below);
-  reached = all_by_contains (λ y. entry_of levels y.to ≡ None → SomeWaits waiting y.to (int_max y.height from.height.0)) (way ∷ []) (λ y h. subst (λ (y : Spill). entry_of levels y.to ≡ None → SomeWaits waiting y.to (int_max y.height from.height.0)) (sym (one_held way y h)) reached);
+  reached = all_by_contains (λ y. entry_of labels y.to ≡ None → SomeWaits waiting y.to (int_max y.height from.height.0)) (way ∷ []) (λ y h. subst (λ (y : Spill). entry_of labels y.to ≡ None → SomeWaits waiting y.to (int_max y.height from.height.0)) (sym (one_held way y h)) reached);
 }
 
--- the node at its end has a level
-pub passed_done : (levels : List (Option ℤ)) (from : Waiting) (way : Spill) (waiting : List Waiting) → IsSome (entry_of levels way.to) → MakesWait levels from (way ∷ []) waiting waiting
-passed_done levels from way waiting done = passed levels from way waiting (λ none. none_done (entry_of levels way.to) none done)
+-- the node at its end is done
+pub passed_done : (labels : List (Option ℕ)) (from : Waiting) (way : Spill) (waiting : List Waiting) → IsSome (entry_of labels way.to) → MakesWait labels from (way ∷ []) waiting waiting
+passed_done labels from way waiting done = passed labels from way waiting (λ none. none_done (entry_of labels way.to) none done)
 
 -- the node at its end waits as low
-pub passed_low : (levels lowest : List (Option ℤ)) (from : Waiting) (way : Spill) (waiting : List Waiting) (h : ℤ) → AreLowest levels lowest waiting → entry_of lowest way.to ≡ Some h → h ≤ℤ int_max way.height from.height.0 → MakesWait levels from (way ∷ []) waiting waiting
-passed_low levels lowest from way waiting h s noted low = passed levels from way waiting (λ none.
+pub passed_low : (labels : List (Option ℕ)) (levels : List (Option ℤ)) (from : Waiting) (way : Spill) (waiting : List Waiting) (h : ℤ) → AreNoted labels levels waiting → entry_of levels way.to ≡ Some h → h ≤ℤ int_max way.height from.height.0 → MakesWait labels from (way ∷ []) waiting waiting
+passed_low labels levels from way waiting h s noted low = passed labels from way waiting (λ none.
     let x = s.waits way.to h none noted in
     (x.0, x.1, x.2, le_trans _ _ _ x.3 low))
 
 -- a way that is followed
-pub followed : (levels : List (Option ℤ)) (from : Waiting) (way : Spill) (old new : List Waiting) → IsPermutation (waiting_by from way ∷ old) new → MakesWait levels from (way ∷ []) old new
-followed levels from way old new perm = record {
+pub followed : (labels : List (Option ℕ)) (from : Waiting) (way : Spill) (old new : List Waiting) → IsPermutation (waiting_by from way ∷ old) new → MakesWait labels from (way ∷ []) old new
+followed labels from way old new perm = record {
   kept = all_by_contains (Contains new) old (λ y h. Contains-permutation _ _ y perm (cons_tail (waiting_by from way) old y h));
   made = all_by_contains (λ y. Contains old y ⊎ ComesBy from (way ∷ []) y) new (λ y h.
       elim (cons_cases (waiting_by from way) old y (Contains-permutation _ _ y (IsPermutation-sym _ _ perm) h)) [
         | inl same ↦ inr (way, cons_head way [], same)
         | inr held ↦ inl held
       ]);
-  reached = all_by_contains (λ y. entry_of levels y.to ≡ None → SomeWaits new y.to (int_max y.height from.height.0)) (way ∷ []) (λ y h. subst (λ (y : Spill). entry_of levels y.to ≡ None → SomeWaits new y.to (int_max y.height from.height.0)) (sym (one_held way y h)) (λ _. here));
+  reached = all_by_contains (λ y. entry_of labels y.to ≡ None → SomeWaits new y.to (int_max y.height from.height.0)) (way ∷ []) (λ y h. subst (λ (y : Spill). entry_of labels y.to ≡ None → SomeWaits new y.to (int_max y.height from.height.0)) (sym (one_held way y h)) (λ _. here));
 } where
   here : SomeWaits new way.to (int_max way.height from.height.0)
   here = (waiting_by from way, Contains-permutation _ _ _ perm (cons_head (waiting_by from way) old), refl, le_refl _ _ refl)
 
 -- the crest by a way that is followed is noted
-pub noted : (levels lowest : List (Option ℤ)) (from : Waiting) (way : Spill) (old new : List Waiting) → way.to < length levels → AreLowest levels lowest old → IsPermutation (waiting_by from way ∷ old) new → AreLowest levels (set lowest way.to (Some (int_max way.height from.height.0))) new
-noted levels lowest from way old new below s perm = record {
-  size = length-set lowest way.to (Some crest) ∙ s.size;
+pub noted : (labels : List (Option ℕ)) (levels : List (Option ℤ)) (from : Waiting) (way : Spill) (old new : List Waiting) → way.to < length labels → AreNoted labels levels old → IsPermutation (waiting_by from way ∷ old) new → AreNoted labels (set levels way.to (Some (int_max way.height from.height.0))) new
+noted labels levels from way old new below s perm = record {
+  size = length-set levels way.to (Some crest) ∙ s.size;
   waits = λ a h none found. elim (cases_eq a way.to) [
     | inl same ↦
-        let found_there : entry_of (set lowest way.to (Some crest)) way.to ≡ Some h = subst (λ (n : ℕ). entry_of (set lowest way.to (Some crest)) n ≡ Some h) same found in
-        let is : crest ≡ h = same_Some _ _ (sym (get_or-set_same lowest way.to (Some crest) None (omega (arith, below, s.size))) ∙ found_there) in
+        let found_there : entry_of (set levels way.to (Some crest)) way.to ≡ Some h = subst (λ (n : ℕ). entry_of (set levels way.to (Some crest)) n ≡ Some h) same found in
+        let is : crest ≡ h = same_Some _ _ (sym (get_or-set_same levels way.to (Some crest) None (omega (arith, below, s.size))) ∙ found_there) in
         (waiting_by from way, Contains-permutation _ _ _ perm (cons_head (waiting_by from way) old), sym same, le_refl crest h is)
     | inr n ↦
-        let x = s.waits a h none (sym (get_or-set_other lowest way.to a (Some crest) None n) ∙ found) in
+        let x = s.waits a h none (sym (get_or-set_other levels way.to a (Some crest) None n) ∙ found) in
         (x.0, Contains-permutation _ _ x.0 perm (cons_tail (waiting_by from way) old x.0 x.1), x.2, x.3)
   ];
 } where
   crest : ℤ
   crest = int_max way.height from.height.0
 
+-- a node that is not done is noted, and the others keep their levels
+pub keeps_done : (labels : List (Option ℕ)) (levels : List (Option ℤ)) (a : ℕ) (level : Option ℤ) → entry_of labels a ≡ None → KeepsDone labels levels (set levels a level)
+keeps_done labels levels a level none = λ b done. elim (cases_eq b a) [
+  | inl same ↦ none_done (entry_of labels a) none (subst (λ (n : ℕ). IsSome (entry_of labels n)) same done)
+  | inr n ↦ get_or-set_other levels a b level None n
+]
+
+-- the crest by a way, as a machine keeps it
+pub kept_crest : (height level greater : ℤ) → SFits w32 height → SFits w32 level → SFits w32 greater → greater ≡ int_max (to_z w32 (of_z w32 height)) (to_z w32 (of_z w32 level)) → to_z w32 (of_z w32 greater) ≡ int_max height level
+kept_crest height level greater fits_height fits_level fits_greater e =
+    to_z-of_z w32 greater fits_greater ∙ (rw (to_z-of_z w32 height fits_height, to_z-of_z w32 level fits_level) at e)
+
 -- no way so far
-pub no_ways : (levels : List (Option ℤ)) (from : Waiting) (waiting : List Waiting) → MakesWait levels from [] waiting waiting
-no_ways levels from waiting = record {
+pub no_ways : (labels : List (Option ℕ)) (from : Waiting) (waiting : List Waiting) → MakesWait labels from [] waiting waiting
+no_ways labels from waiting = record {
   kept = All-contains_itself waiting;
   made = λ k d below. inl (All-contains_itself waiting k d below);
   reached = λ k d below. absurd (omega (arith, below));
 }
 
 -- one more way
-pub way_more : (levels : List (Option ℤ)) (from : Waiting) (ways : List Spill) (i : ℕ) (d : Spill) (old now new : List Waiting) → i < length ways → MakesWait levels from (take i ways) old now → MakesWait levels from (get_or ways i d ∷ []) now new → MakesWait levels from (take (i + 1) ways) old new
-way_more levels from ways i d old now new below s t = subst (λ z. MakesWait levels from z old new) (sym (take_more ways i d below)) (record {
+pub way_more : (labels : List (Option ℕ)) (from : Waiting) (ways : List Spill) (i : ℕ) (d : Spill) (old now new : List Waiting) → i < length ways → MakesWait labels from (take i ways) old now → MakesWait labels from (get_or ways i d ∷ []) now new → MakesWait labels from (take (i + 1) ways) old new
+way_more labels from ways i d old now new below s t = subst (λ z. MakesWait labels from z old new) (sym (take_more ways i d below)) (record {
   kept = all_by_contains (Contains new) old (λ y h. All-contains (Contains new) now y t.kept (All-contains (Contains now) old y s.kept h));
   made = all_by_contains (λ y. Contains old y ⊎ ComesBy from joined y) new (λ y h.
       elim (All-contains (λ z. Contains now z ⊎ ComesBy from last z) new y t.made h) [
@@ -94,12 +107,12 @@ way_more levels from ways i d old now new below s t = subst (λ z. MakesWait lev
         ]
         | inr by ↦ inr (by.0, Contains-append_right (take i ways) last by.0 by.1, by.2)
       ]);
-  reached = all_by_contains (λ y. entry_of levels y.to ≡ None → SomeWaits new y.to (int_max y.height from.height.0)) joined (λ y h none.
+  reached = all_by_contains (λ y. entry_of labels y.to ≡ None → SomeWaits new y.to (int_max y.height from.height.0)) joined (λ y h none.
       elim (Contains-append_cases (take i ways) last y h) [
         | inl early ↦
-            let x = All-contains (λ z. entry_of levels z.to ≡ None → SomeWaits now z.to (int_max z.height from.height.0)) (take i ways) y s.reached early none in
+            let x = All-contains (λ z. entry_of labels z.to ≡ None → SomeWaits now z.to (int_max z.height from.height.0)) (take i ways) y s.reached early none in
             (x.0, All-contains (Contains new) now x.0 t.kept x.1, x.2, x.3)
-        | inr late ↦ All-contains (λ z. entry_of levels z.to ≡ None → SomeWaits new z.to (int_max z.height from.height.0)) last y t.reached late none
+        | inr late ↦ All-contains (λ z. entry_of labels z.to ≡ None → SomeWaits new z.to (int_max z.height from.height.0)) last y t.reached late none
       ]);
 }) where
   last : List Spill

@@ -1,21 +1,19 @@
 -- A flood, step by step.
-use Rattle.std.proofs.Common.{◌≡◌, ◌≢◌, ℕ, ◌<◌, Bool, true, List, [], ◌∷◌, ◌++◌, length, get_or, set, map, filter, replicate, ℤ, pos, ◌≤ℤ◌, Option, None, Some, is_some, is_none, cond, IsSome, MatchOption, unwrap_or, sym, ap, subst, refl, ◌∙◌, arith, ◌⊎◌, inl, inr}
+use Rattle.std.proofs.Common.{◌≡◌, ◌≢◌, ℕ, ◌<◌, List, [], ◌∷◌, length, set, replicate, ℤ, pos, ◌≤ℤ◌, Option, None, Some, is_some, is_none, cond, IsSome, MatchOption, unwrap_or, sym, ap, subst, refl, ◌∙◌, arith, ◌⊎◌, inl, inr}
 use Rattle.std.specs.Int.{int_max}
 use Rattle.std.specs.List.{Contains, All, count_by}
 use Rattle.std.proofs.lemmas.List.Sums.{sum_by-set}
-use Rattle.std.specs.List.Sorted.{IsPermutation}
 use Rattle.std.proofs.lemmas.Int.{ints, clamps}
-use Rattle.std.proofs.lemmas.List.{length-set, get_or-set_same, get_or-set_other, get_or-replicate, length-replicate, get_or_past, length-map, get_or-map, get_or_default}
-use Rattle.std.proofs.lemmas.List.Elements.{All-contains, All-filter, Contains-append_left, Contains-append_right, Contains-append_cases}
-use Rattle.std.proofs.lemmas.List.Sorted.{Contains-permutation, IsPermutation-sym}
+use Rattle.std.proofs.lemmas.List.{length-set, get_or-set_same, get_or-set_other, get_or-replicate, length-replicate, get_or_past}
+use Rattle.std.proofs.lemmas.List.Elements.{All-contains}
 use Rattle.std.proofs.lemmas.Option.{same_Some}
-use Rattle.std.proofs.lemmas.Bool.{cases_eq, cases_lt, cases_Bool, cond-true, cond-false}
+use Rattle.std.proofs.lemmas.Bool.{cases_eq, cases_lt}
 use Rattle.fill.specs.declared.net.Spill.{Spill}
 use Rattle.fill.specs.declared.flooding.Waiting.{Waiting}
 use Rattle.fill.specs.Walk.{Joins, Sources, IsWalk, crest, IsLevel, HasNoWalk, IsFlooded, HasJust}
-use Rattle.fill.specs.Flood.{entry_of, IsDone, TakesLowest, waiting_by, SourcesWait, IsLabelOf, SomeWaits, ComesBy, MakesWait, AreLowest}
+use Rattle.fill.specs.Flood.{entry_of, IsDone, TakesLowest, waiting_by, SourcesWait, IsLabelOf, SomeWaits, ComesBy, MakesWait, AreNoted, KeepsDone}
 use Rattle.fill.proofs.FloodState.{HasWalk, IsFlooding}
-use Rattle.fill.proofs.Heaps.{cons_head, cons_tail, cons_cases, all_by_contains}
+use Rattle.fill.proofs.Heaps.{all_by_contains}
 
 -- what an entry is, as a case to split on
 pub seen : {X : Type 0} (o : Option X) → (o ≡ None) ⊎ ((x : X) × (o ≡ Some x))
@@ -53,69 +51,87 @@ le_same a b c h e = omega (arith, ints)
 pub le_trans : (a b c : ℤ) → a ≤ℤ b → b ≤ℤ c → a ≤ℤ c
 le_trans a b c h e = omega (arith, ints)
 
--- on a walk from a node without a level, some node without a level waits at no more than the crest
-pub open_walk : (joins : Joins) (source : Sources) (nodes : ℕ) (levels : List (Option ℤ)) (labels : List (Option ℕ)) (waiting : List Waiting) → ((a b : ℕ) (h : ℤ) → joins a b h → b < nodes) → IsFlooding joins source nodes levels labels waiting → (walk : List Spill) (a : ℕ) → a < nodes → entry_of levels a ≡ None → IsWalk joins source a walk → (w : Waiting) × Contains waiting w × (entry_of levels w.node ≡ None) × (w.height.0 ≤ℤ crest source a walk)
+-- on a walk from a node that is not done, some node that is not done waits at no more than the crest
+pub open_walk : (joins : Joins) (source : Sources) (nodes : ℕ) (levels : List (Option ℤ)) (labels : List (Option ℕ)) (waiting : List Waiting) → ((a b : ℕ) (h : ℤ) → joins a b h → b < nodes) → IsFlooding joins source nodes levels labels waiting → (walk : List Spill) (a : ℕ) → a < nodes → entry_of labels a ≡ None → IsWalk joins source a walk → (w : Waiting) × Contains waiting w × (entry_of labels w.node ≡ None) × (w.height.0 ≤ℤ crest source a walk)
 open_walk joins source nodes levels labels waiting inside s [] a below none walk =
     elim (seen (source a)) [
       | inl none_here ↦ none_done (source a) none_here walk
       | inr found ↦
           let w = s.sources a found.0 below found.1 none in
-          (w.0, w.1, ap (λ n. entry_of levels n) w.2 ∙ none, le_same w.0.height.0 found.0 _ w.3 (sym (ap (λ o. unwrap_or o (pos 0)) found.1)))
+          (w.0, w.1, ap (λ n. entry_of labels n) w.2 ∙ none, le_same w.0.height.0 found.0 _ w.3 (sym (ap (λ o. unwrap_or o (pos 0)) found.1)))
     ]
 open_walk joins source nodes levels labels waiting inside s (step ∷ rest) a below none walk =
     let next = inside a step.to step.height walk.0 in
-    elim (seen (entry_of levels step.to)) [
+    elim (seen (entry_of labels step.to)) [
       | inl open_next ↦
           let w = open_walk joins source nodes levels labels waiting inside s rest step.to next open_next walk.1 in
           (w.0, w.1, w.2, max_right step.height w.0.height.0 (crest source step.to rest) w.3)
       | inr found ↦
-          let w = s.frontier a step.to found.0 step.height below walk.0 found.1 none in
-          let level = at_some (entry_of levels step.to) _ _ found.0 found.1 (s.settled step.to next) in
-          (w.0, w.1, ap (λ n. entry_of levels n) w.2 ∙ none, grows step.height found.0 w.0.height.0 (crest source step.to rest) w.3 (level.2.least rest walk.1))
+          let level = s.settled step.to found.0 found.1 in
+          let w = s.frontier a step.to level.0 step.height below walk.0 (ap is_some found.1) level.1 none in
+          (w.0, w.1, ap (λ n. entry_of labels n) w.2 ∙ none, grows step.height level.0 w.0.height.0 (crest source step.to rest) w.3 (level.2.least rest walk.1))
     ]
 
 -- the lowest node that waits has its level
-pub lowest_is_least : (joins : Joins) (source : Sources) (nodes : ℕ) (levels : List (Option ℤ)) (labels : List (Option ℕ)) (old new : List Waiting) (w : Waiting) → ((a b : ℕ) (h : ℤ) → joins a b h → b < nodes) → IsFlooding joins source nodes levels labels old → TakesLowest levels old w new → (walk : List Spill) → IsWalk joins source w.node walk → w.height.0 ≤ℤ crest source w.node walk
+pub lowest_is_least : (joins : Joins) (source : Sources) (nodes : ℕ) (levels : List (Option ℤ)) (labels : List (Option ℕ)) (old new : List Waiting) (w : Waiting) → ((a b : ℕ) (h : ℤ) → joins a b h → b < nodes) → IsFlooding joins source nodes levels labels old → TakesLowest labels old w new → (walk : List Spill) → IsWalk joins source w.node walk → w.height.0 ≤ℤ crest source w.node walk
 lowest_is_least joins source nodes levels labels old new w inside s t walk is_walk =
     let here = All-contains (λ x. (x.node < nodes) × HasWalk joins source x) old w s.waits t.was in
     let found = open_walk joins source nodes levels labels old inside s walk w.node here.0 t.was_open is_walk in
-    elim (All-contains (λ x. IsDone levels x ⊎ (w.height.0 ≤ℤ x.height.0)) old found.0 t.lowest found.1) [
-      | inl done ↦ none_done (entry_of levels found.0.node) found.2 done
+    elim (All-contains (λ x. IsDone labels x ⊎ (w.height.0 ≤ℤ x.height.0)) old found.0 t.lowest found.1) [
+      | inl done ↦ none_done (entry_of labels found.0.node) found.2 done
       | inr low ↦ le_trans w.height.0 found.0.height.0 _ low found.3
     ]
 
--- where all that wait have levels, a node without one has no walk
-pub no_walk : (joins : Joins) (source : Sources) (nodes : ℕ) (levels : List (Option ℤ)) (labels : List (Option ℕ)) (waiting : List Waiting) → ((a b : ℕ) (h : ℤ) → joins a b h → b < nodes) → IsFlooding joins source nodes levels labels waiting → All (IsDone levels) waiting → (a : ℕ) → a < nodes → entry_of levels a ≡ None → HasNoWalk joins source a
+-- where all that wait are done, any other node has no walk
+pub no_walk : (joins : Joins) (source : Sources) (nodes : ℕ) (levels : List (Option ℤ)) (labels : List (Option ℕ)) (waiting : List Waiting) → ((a b : ℕ) (h : ℤ) → joins a b h → b < nodes) → IsFlooding joins source nodes levels labels waiting → All (IsDone labels) waiting → (a : ℕ) → a < nodes → entry_of labels a ≡ None → HasNoWalk joins source a
 no_walk joins source nodes levels labels waiting inside s all a below none walk is_walk =
     let found = open_walk joins source nodes levels labels waiting inside s walk a below none is_walk in
-    none_done (entry_of levels found.0.node) found.2 (All-contains (IsDone levels) waiting found.0 all found.1)
+    none_done (entry_of labels found.0.node) found.2 (All-contains (IsDone labels) waiting found.0 all found.1)
+
+-- where all that wait are done, any other node has no level noted
+pub none_left : (labels : List (Option ℕ)) (levels : List (Option ℤ)) (waiting : List Waiting) (a : ℕ) → AreNoted labels levels waiting → All (IsDone labels) waiting → entry_of labels a ≡ None → entry_of levels a ≡ None
+none_left labels levels waiting a s all none = elim (seen (entry_of levels a)) [
+  | inl unnoted ↦ unnoted
+  | inr some ↦
+      let w = s.waits a some.0 none some.1 in
+      none_done (entry_of labels w.0.node) (ap (λ n. entry_of labels n) w.2 ∙ none) (All-contains (IsDone labels) waiting w.0 all w.1)
+]
 
 -- the flood is over
-pub flooded : (joins : Joins) (source : Sources) (nodes : ℕ) (levels : List (Option ℤ)) (labels : List (Option ℕ)) (waiting : List Waiting) → ((a b : ℕ) (h : ℤ) → joins a b h → b < nodes) → IsFlooding joins source nodes levels labels waiting → All (IsDone levels) waiting → IsFlooded joins source nodes levels labels
-flooded joins source nodes levels labels waiting inside s all = record {
+pub flooded : (joins : Joins) (source : Sources) (nodes : ℕ) (levels : List (Option ℤ)) (labels : List (Option ℕ)) (waiting : List Waiting) → ((a b : ℕ) (h : ℤ) → joins a b h → b < nodes) → IsFlooding joins source nodes levels labels waiting → AreNoted labels levels waiting → All (IsDone labels) waiting → IsFlooded joins source nodes levels labels
+flooded joins source nodes levels labels waiting inside s noted all = record {
   levels_size = s.levels_size;
   labels_size = s.labels_size;
-  each = λ a below. elim (seen (entry_of levels a)) [
-    | inl none ↦ from_none (entry_of levels a) _ _ none (no_walk joins source nodes levels labels waiting inside s all a below none, at_none (entry_of levels a) _ _ none (s.settled a below))
-    | inr some ↦ from_some (entry_of levels a) _ _ some.0 some.1 (at_some (entry_of levels a) _ _ some.0 some.1 (s.settled a below))
+  each = λ a below. elim (seen (entry_of labels a)) [
+    | inl none ↦ from_none (entry_of levels a) _ _ (none_left labels levels waiting a noted all none) (no_walk joins source nodes levels labels waiting inside s all a below none, none)
+    | inr some ↦
+        let level = s.settled a some.0 some.1 in
+        from_some (entry_of levels a) _ _ level.0 level.1 (some.0, some.1, level.2)
   ];
 }
+
+empty : {X : Type 0} (nodes a : ℕ) → entry_of {X = X} (replicate nodes None) a ≡ None
+empty {X = X} nodes a = elim (cases_lt a nodes) [ inl h ↦ get_or-replicate nodes a None None h | inr h ↦ get_or_past (replicate nodes None) a None (omega (arith, length-replicate {A = Option X} nodes None)) ]
 
 -- before the first step
 pub begun : (joins : Joins) (source : Sources) (nodes : ℕ) (waiting : List Waiting) → SourcesWait nodes source waiting → IsFlooding joins source nodes (replicate nodes None) (replicate nodes None) waiting
 begun joins source nodes waiting s = record {
   levels_size = length-replicate nodes None;
   labels_size = length-replicate nodes None;
-  settled = λ a below. from_none (entry_of (replicate nodes None) a) _ _ (get_or-replicate nodes a None None below) (get_or-replicate nodes a None None below);
+  settled = λ a b e. none_some (entry_of (replicate nodes None) a) b (empty nodes a) e;
   waits = λ k d lt. let o = s.only k d lt in (o.0, ([], ap is_some o.1, ap (λ (z : Option ℤ). unwrap_or z (pos 0)) o.1, sym o.2));
   sources = λ a h below e _. let w = s.every a h below e in (w.0, w.1, w.2, le_of_same w.0.height.0 h w.3);
-  frontier = λ a b l h below joined e _. none_some (entry_of (replicate nodes None) b) l (empty b) e;
+  frontier = λ a b l h below joined done e _. none_some (entry_of (replicate nodes None) b) l (empty nodes b) e;
 } where
   le_of_same : (x y : ℤ) → x ≡ y → x ≤ℤ y
   le_of_same x y e = omega (arith, ints)
 
-  empty : (b : ℕ) → entry_of {X = ℤ} (replicate nodes None) b ≡ None
-  empty b = elim (cases_lt b nodes) [ inl h ↦ get_or-replicate nodes b None None h | inr h ↦ get_or_past (replicate nodes None) b None (omega (arith, length-replicate {A = Option ℤ} nodes None)) ]
+-- nothing is noted at first
+pub none_noted : (nodes : ℕ) (waiting : List Waiting) → AreNoted (replicate nodes None) (replicate nodes None) waiting
+none_noted nodes waiting = record {
+  size = length-replicate nodes None ∙ sym (length-replicate nodes None);
+  waits = λ a h _ noted. none_some (entry_of {X = ℤ} (replicate nodes None) a) h (empty nodes a) noted;
+}
 
 level_of_lowest : (joins : Joins) (source : Sources) (w : Waiting) (label : ℕ) → HasWalk joins source w → ((walk : List Spill) → IsWalk joins source w.node walk → w.height.0 ≤ℤ crest source w.node walk) → IsLabelOf source w label → IsLevel joins source w.node w.height.0 label
 level_of_lowest joins source w label walk least (inl own) = record {
@@ -129,36 +145,45 @@ level_of_lowest joins source w label walk least (inr other) = record {
   own = λ e. absurd (other.0 e);
 }
 
--- the lowest node takes its level, and its neighbours wait
-pub settle : (joins : Joins) (source : Sources) (nodes : ℕ) (levels : List (Option ℤ)) (labels : List (Option ℕ)) (old new more : List Waiting) (w : Waiting) (ways : List Spill) (label : ℕ) → ((a b : ℕ) (h : ℤ) → joins a b h → b < nodes) → ((a b : ℕ) (h : ℤ) → joins a b h → joins b a h) → IsFlooding joins source nodes levels labels old → TakesLowest levels old w new → HasJust (joins w.node) ways → MakesWait (set levels w.node (Some w.height.0)) w ways new more → IsLabelOf source w label → IsFlooding joins source nodes (set levels w.node (Some w.height.0)) (set labels w.node (Some label)) more
-settle joins source nodes levels labels old new more w ways label inside back s t just spread labelled =
-    let here = All-contains (λ x. (x.node < nodes) × HasWalk joins source x) old w s.waits t.was in
-    let least = lowest_is_least joins source nodes levels labels old new w inside s t in
-    let level_here : entry_of (set levels w.node (Some w.height.0)) w.node ≡ Some w.height.0 = get_or-set_same levels w.node (Some w.height.0) None (omega (arith, here.0, s.levels_size)) in
-    let label_here : entry_of (set labels w.node (Some label)) w.node ≡ Some label = get_or-set_same labels w.node (Some label) None (omega (arith, here.0, s.labels_size)) in
-    let level_there : (a : ℕ) → a ≢ w.node → entry_of (set levels w.node (Some w.height.0)) a ≡ entry_of levels a = λ a n. get_or-set_other levels w.node a (Some w.height.0) None n in
-    let label_there : (a : ℕ) → a ≢ w.node → entry_of (set labels w.node (Some label)) a ≡ entry_of labels a = λ a n. get_or-set_other labels w.node a (Some label) None n in
-    let other : (a : ℕ) → entry_of (set levels w.node (Some w.height.0)) a ≡ None → a ≢ w.node = λ a none e. none_some (entry_of (set levels w.node (Some w.height.0)) w.node) w.height.0 (subst (λ (n : ℕ). entry_of (set levels w.node (Some w.height.0)) n ≡ None) e none) level_here in
-    let still : (a : ℕ) (h : ℤ) → a ≢ w.node → entry_of levels a ≡ None → SomeWaits old a h → SomeWaits more a h = λ a h n none x.
-    elim (All-contains (λ y. IsDone levels y ⊎ (y ≡ w) ⊎ Contains new y) old x.0 t.kept x.1) [
-      | inl done ↦ none_done (entry_of levels x.0.node) (ap (λ k. entry_of levels k) x.2 ∙ none) done
+-- a node that waits and is not the one taken waits still
+still_waits : (labels : List (Option ℕ)) (old new : List Waiting) (w : Waiting) (a : ℕ) (h : ℤ) → TakesLowest labels old w new → a ≢ w.node → entry_of labels a ≡ None → SomeWaits old a h → SomeWaits new a h
+still_waits labels old new w a h t n none x =
+    elim (All-contains (λ y. IsDone labels y ⊎ (y ≡ w) ⊎ Contains new y) old x.0 t.kept x.1) [
+      | inl done ↦ none_done (entry_of labels x.0.node) (ap (λ k. entry_of labels k) x.2 ∙ none) done
       | inr open_still ↦ elim open_still [
         | inl same ↦ absurd (n (sym x.2 ∙ ap (λ (y : Waiting). y.node) same))
-        | inr held ↦ (x.0, All-contains (Contains more) new x.0 spread.kept held, x.2, x.3)
+        | inr held ↦ (x.0, held, x.2, x.3)
       ]
-    ] in
+    ]
+
+-- a node that has its label and still none after another has got one is not that other
+other_open : (labels : List (Option ℕ)) (n label a : ℕ) → n < length labels → entry_of (set labels n (Some label)) a ≡ None → a ≢ n
+other_open labels n label a below none e = none_some (entry_of (set labels n (Some label)) n) label (subst (λ (k : ℕ). entry_of (set labels n (Some label)) k ≡ None) e none) (get_or-set_same labels n (Some label) None below)
+
+-- the lowest node takes its level, and its neighbours wait
+pub settle : (joins : Joins) (source : Sources) (nodes : ℕ) (levels after : List (Option ℤ)) (labels : List (Option ℕ)) (old new more : List Waiting) (w : Waiting) (ways : List Spill) (label : ℕ) → ((a b : ℕ) (h : ℤ) → joins a b h → b < nodes) → ((a b : ℕ) (h : ℤ) → joins a b h → joins b a h) → IsFlooding joins source nodes levels labels old → TakesLowest labels old w new → HasJust (joins w.node) ways → MakesWait (set labels w.node (Some label)) w ways new more → length after ≡ length levels → KeepsDone (set labels w.node (Some label)) (set levels w.node (Some w.height.0)) after → IsLabelOf source w label → IsFlooding joins source nodes after (set labels w.node (Some label)) more
+settle joins source nodes levels after labels old new more w ways label inside back s t just spread size keeps labelled =
+    let here = All-contains (λ x. (x.node < nodes) × HasWalk joins source x) old w s.waits t.was in
+    let least = lowest_is_least joins source nodes levels labels old new w inside s t in
+    let inside_labels : w.node < length labels = omega (arith, here.0, s.labels_size) in
+    let label_here : entry_of (set labels w.node (Some label)) w.node ≡ Some label = get_or-set_same labels w.node (Some label) None inside_labels in
+    let label_there : (a : ℕ) → a ≢ w.node → entry_of (set labels w.node (Some label)) a ≡ entry_of labels a = λ a n. get_or-set_other labels w.node a (Some label) None n in
+    let level_here : entry_of after w.node ≡ Some w.height.0 = keeps w.node (ap is_some label_here) ∙ get_or-set_same levels w.node (Some w.height.0) None (omega (arith, here.0, s.levels_size)) in
+    let level_there : (a : ℕ) → a ≢ w.node → IsSome (entry_of (set labels w.node (Some label)) a) → entry_of after a ≡ entry_of levels a = λ a n done. keeps a done ∙ get_or-set_other levels w.node a (Some w.height.0) None n in
+    let still : (a : ℕ) (h : ℤ) → a ≢ w.node → entry_of labels a ≡ None → SomeWaits old a h → SomeWaits more a h = λ a h n none x.
+    let y = still_waits labels old new w a h t n none x in
+    (y.0, All-contains (Contains more) new y.0 spread.kept y.1, y.2, y.3) in
     record {
-      levels_size = length-set levels w.node (Some w.height.0) ∙ s.levels_size;
+      levels_size = size ∙ s.levels_size;
       labels_size = length-set labels w.node (Some label) ∙ s.labels_size;
-      settled = λ a below. elim (cases_eq a w.node) [
-        | inl e ↦ subst (λ (n : ℕ). MatchOption (entry_of (set levels w.node (Some w.height.0)) n) (entry_of (set labels w.node (Some label)) n ≡ None) (λ l. (b : ℕ) × (entry_of (set labels w.node (Some label)) n ≡ Some b) × IsLevel joins source n l b)) (sym e)
-            (from_some (entry_of (set levels w.node (Some w.height.0)) w.node) _ _ w.height.0 level_here (label, label_here, level_of_lowest joins source w label here.1 least labelled))
-        | inr n ↦ elim (seen (entry_of levels a)) [
-          | inl none ↦ from_none (entry_of (set levels w.node (Some w.height.0)) a) _ _ (level_there a n ∙ none) (label_there a n ∙ at_none (entry_of levels a) _ _ none (s.settled a below))
-          | inr some ↦
-              let was = at_some (entry_of levels a) _ _ some.0 some.1 (s.settled a below) in
-              from_some (entry_of (set levels w.node (Some w.height.0)) a) _ _ some.0 (level_there a n ∙ some.1) (was.0, label_there a n ∙ was.1, was.2)
-        ]
+      settled = λ a b e. elim (cases_eq a w.node) [
+        | inl same ↦
+            let is : label ≡ b = same_Some _ _ (sym label_here ∙ subst (λ (n : ℕ). entry_of (set labels w.node (Some label)) n ≡ Some b) same e) in
+            subst (λ (n : ℕ). (l : ℤ) × (entry_of after n ≡ Some l) × IsLevel joins source n l b) (sym same)
+            (w.height.0, level_here, subst (λ (k : ℕ). IsLevel joins source w.node w.height.0 k) is (level_of_lowest joins source w label here.1 least labelled))
+        | inr n ↦
+            let was = s.settled a b (sym (label_there a n) ∙ e) in
+            (was.0, level_there a n (ap is_some e) ∙ was.1, was.2)
       ];
       waits = all_by_contains (λ x. (x.node < nodes) × HasWalk joins source x) more (λ x h.
           elim (All-contains (λ y. Contains new y ⊎ ComesBy w ways y) more x spread.made h) [
@@ -171,58 +196,38 @@ settle joins source nodes levels labels old new more w ways label inside back s 
                 subst (λ (y : Waiting). (y.node < nodes) × HasWalk joins source y) (sym made.2) (inside w.node way.to way.height joined, walk)
           ]);
       sources = λ a h below e none.
-          let n = other a none in
-          let was = sym (level_there a n) ∙ none in
+          let n = other_open labels w.node label a inside_labels none in
+          let was = sym (label_there a n) ∙ none in
           still a h n was (s.sources a h below e was);
-      frontier = λ a b l h below joined e none.
-          let n = other a none in
-          let was = sym (level_there a n) ∙ none in
+      frontier = λ a b l h below joined done e none.
+          let n = other_open labels w.node label a inside_labels none in
+          let was = sym (label_there a n) ∙ none in
           elim (cases_eq b w.node) [
             | inl same ↦
                 let back_here : joins w.node a h = subst (λ (k : ℕ). joins k a h) same (back a b h joined) in
-                let level_is : w.height.0 ≡ l = same_Some _ _ (sym level_here ∙ subst (λ (k : ℕ). entry_of (set levels w.node (Some w.height.0)) k ≡ Some l) same e) in
-                let x = All-contains (λ way. entry_of (set levels w.node (Some w.height.0)) way.to ≡ None → SomeWaits more way.to (int_max way.height w.height.0)) ways (record { to = a; height = h }) spread.reached (just.every a h back_here) none in
+                let level_is : w.height.0 ≡ l = same_Some _ _ (sym level_here ∙ subst (λ (k : ℕ). entry_of after k ≡ Some l) same e) in
+                let x = All-contains (λ way. entry_of (set labels w.node (Some label)) way.to ≡ None → SomeWaits more way.to (int_max way.height w.height.0)) ways (record { to = a; height = h }) spread.reached (just.every a h back_here) none in
                 (x.0, x.1, x.2, le_trans _ _ _ x.3 (le_max h w.height.0 l level_is))
-            | inr m ↦ still a (int_max h l) n was (s.frontier a b l h below joined (sym (level_there b m) ∙ e) was)
+            | inr m ↦ still a (int_max h l) n was (s.frontier a b l h below joined (subst (λ (o : Option ℕ). IsSome o) (label_there b m) done) (sym (level_there b m done) ∙ e) was)
           ];
     } where
       le_max : (h x l : ℤ) → x ≡ l → int_max h x ≤ℤ int_max h l
       le_max h x l e = omega (arith, ints, clamps)
 
--- one node fewer is without a level
-pub fewer_open : (levels : List (Option ℤ)) (a : ℕ) (l : ℤ) → a < length levels → entry_of levels a ≡ None → count_by is_none (set levels a (Some l)) < count_by is_none levels
-fewer_open levels a l below none =
-    let f : Option ℤ → ℕ = λ o. cond (is_none o) 1 0 in
-    let step = sum_by-set f levels a (Some l) None below in
+-- one node fewer is not done
+pub fewer_open : (labels : List (Option ℕ)) (a label : ℕ) → a < length labels → entry_of labels a ≡ None → count_by is_none (set labels a (Some label)) < count_by is_none labels
+fewer_open labels a label below none =
+    let f : Option ℕ → ℕ = λ o. cond (is_none o) 1 0 in
+    let step = sum_by-set f labels a (Some label) None below in
     let was = ap f none in
     omega (arith, step, was)
 
--- what was noted stands once the lowest has its level
-pub noted_still : (levels lowest : List (Option ℤ)) (old new : List Waiting) (w : Waiting) (l : ℤ) → w.node < length levels → AreLowest levels lowest old → TakesLowest levels old w new → AreLowest (set levels w.node (Some l)) lowest new
-noted_still levels lowest old new w l below s t = record {
-  size = s.size ∙ sym (length-set levels w.node (Some l));
+-- what was noted stands once the lowest has its level and label
+pub noted_still : (labels : List (Option ℕ)) (levels : List (Option ℤ)) (old new : List Waiting) (w : Waiting) (level : ℤ) (label : ℕ) → w.node < length labels → AreNoted labels levels old → TakesLowest labels old w new → AreNoted (set labels w.node (Some label)) (set levels w.node (Some level)) new
+noted_still labels levels old new w level label below s t = record {
+  size = length-set levels w.node (Some level) ∙ s.size ∙ sym (length-set labels w.node (Some label));
   waits = λ a h none noted.
-      let there : (n : a ≢ w.node) → entry_of (set levels w.node (Some l)) a ≡ entry_of levels a = λ n. get_or-set_other levels w.node a (Some l) None n in
-      elim (cases_eq a w.node) [
-        | inl same ↦ none_some (entry_of (set levels w.node (Some l)) w.node) l (subst (λ (n : ℕ). entry_of (set levels w.node (Some l)) n ≡ None) same none) (get_or-set_same levels w.node (Some l) None below)
-        | inr n ↦
-            let was = sym (there n) ∙ none in
-            let x = s.waits a h was noted in
-            elim (All-contains (λ y. IsDone levels y ⊎ (y ≡ w) ⊎ Contains new y) old x.0 t.kept x.1) [
-              | inl done ↦ none_done (entry_of levels x.0.node) (ap (λ k. entry_of levels k) x.2 ∙ was) done
-              | inr open_still ↦ elim open_still [
-                | inl y ↦ absurd (n (sym x.2 ∙ ap (λ (z : Waiting). z.node) y))
-                | inr held ↦ (x.0, held, x.2, x.3)
-              ]
-            ]
-      ];
+      let n = other_open labels w.node label a below none in
+      let was = sym (get_or-set_other labels w.node a (Some label) None n) ∙ none in
+      still_waits labels old new w a h t n was (s.waits a h was (sym (get_or-set_other levels w.node a (Some level) None n) ∙ noted));
 }
-
--- nothing is noted at first
-pub none_noted : (nodes : ℕ) (waiting : List Waiting) → AreLowest (replicate nodes None) (replicate nodes None) waiting
-none_noted nodes waiting = record {
-  size = refl;
-  waits = λ a h _ noted. none_some (entry_of {X = ℤ} (replicate nodes None) a) h (empty a) noted;
-} where
-  empty : (a : ℕ) → entry_of {X = ℤ} (replicate nodes None) a ≡ None
-  empty a = elim (cases_lt a nodes) [ inl h ↦ get_or-replicate nodes a None None h | inr h ↦ get_or_past (replicate nodes None) a None (omega (arith, length-replicate {A = Option ℤ} nodes None)) ]

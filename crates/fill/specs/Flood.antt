@@ -1,6 +1,6 @@
 -- Nodes that wait while a net is flooded, and what the steps of a flood do to them.
 use Rattle.std.specs.Prelude.{◌≡◌, ℕ, ◌<◌, ◌⊎◌, ℤ, ◌≤ℤ◌, List, length, Option, None, Some, IsSome, slice_index_or}
-use Rattle.std.specs.Ordering.{nat_cmp, int_cmp, ordering_then}
+use Rattle.std.specs.Ordering.{int_cmp}
 use Rattle.std.specs.declared.cmp.Ordering.{Ordering}
 use Rattle.fill.specs.declared.flooding.Waiting.{Waiting}
 use Rattle.std.specs.Int.{int_max}
@@ -8,25 +8,26 @@ use Rattle.std.specs.List.{Contains, All}
 use Rattle.fill.specs.Walk.{Joins, Sources, HasJust}
 use Rattle.fill.specs.declared.net.Spill.{Spill}
 
--- The least height first. Ties go by node and label.
+-- The least height first.
 abbrev pub waiting_order : Waiting → Waiting → Ordering
-waiting_order x y = ordering_then (int_cmp y.height.0 x.height.0) (ordering_then (nat_cmp x.node y.node) (nat_cmp x.label y.label))
+waiting_order x y = int_cmp y.height.0 x.height.0
 
 -- The entry of a node, None past the end.
 abbrev pub entry_of : {X : Type 0} → List (Option X) → ℕ → Option X
 entry_of xs a = slice_index_or xs a None
 
--- A node that waits already has a level.
-abbrev pub IsDone : List (Option ℤ) → Waiting → Type 0
-IsDone levels w = IsSome (entry_of levels w.node)
+-- A node is done once it has a label: its level is final then. Before, its level is the lowest crest
+-- noted for it.
+abbrev pub IsDone : List (Option ℕ) → Waiting → Type 0
+IsDone labels w = IsSome (entry_of labels w.node)
 
--- The first node without a level has left the heap, and perhaps others that have one.
-pub record TakesLowest (levels : List (Option ℤ)) (old : List Waiting) (w : Waiting) (new : List Waiting) : Type 0 where
-  pub was_open : entry_of levels w.node ≡ None
+-- The first node that is not done has left the heap, and perhaps others that are.
+pub record TakesLowest (labels : List (Option ℕ)) (old : List Waiting) (w : Waiting) (new : List Waiting) : Type 0 where
+  pub was_open : entry_of labels w.node ≡ None
   pub was : Contains old w
-  pub lowest : All (λ x. IsDone levels x ⊎ (w.height.0 ≤ℤ x.height.0)) old
+  pub lowest : All (λ x. IsDone labels x ⊎ (w.height.0 ≤ℤ x.height.0)) old
   pub left : All (Contains old) new
-  pub kept : All (λ x. IsDone levels x ⊎ (x ≡ w) ⊎ Contains new x) old
+  pub kept : All (λ x. IsDone labels x ⊎ (x ≡ w) ⊎ Contains new x) old
 
 -- A way from a node that waits makes its neighbour wait.
 abbrev pub waiting_by : Waiting → Spill → Waiting
@@ -51,18 +52,22 @@ abbrev pub ComesBy : Waiting → List Spill → Waiting → Type 0
 ComesBy from ways w = (way : Spill) × Contains ways way × (w ≡ waiting_by from way)
 
 -- The ways from a node have been followed: what is new comes by one of them, and where a way leads to a
--- node without a level, some entry of that node is not above the crest by this way.
-pub record MakesWait (levels : List (Option ℤ)) (from : Waiting) (ways : List Spill) (old : List Waiting) (new : List Waiting) : Type 0 where
+-- node that is not done, some entry of that node is not above the crest by this way.
+pub record MakesWait (labels : List (Option ℕ)) (from : Waiting) (ways : List Spill) (old : List Waiting) (new : List Waiting) : Type 0 where
   pub kept : All (Contains new) old
   pub made : All (λ w. Contains old w ⊎ ComesBy from ways w) new
-  pub reached : All (λ way. entry_of levels way.to ≡ None → SomeWaits new way.to (int_max way.height from.height.0)) ways
+  pub reached : All (λ way. entry_of labels way.to ≡ None → SomeWaits new way.to (int_max way.height from.height.0)) ways
 
--- Each neighbour of the node that has no level yet now waits behind it, or waits no higher.
-abbrev pub Spreads : Joins → List (Option ℤ) → Waiting → List Waiting → List Waiting → Type 0
-Spreads joins levels from old new =
-    (ways : List Spill) × HasJust (joins from.node) ways × MakesWait levels from ways old new
+-- Each neighbour of the node that is not done now waits behind it, or waits no higher.
+abbrev pub Spreads : Joins → List (Option ℕ) → Waiting → List Waiting → List Waiting → Type 0
+Spreads joins labels from old new =
+    (ways : List Spill) × HasJust (joins from.node) ways × MakesWait labels from ways old new
 
--- The lowest crest noted for each node: where the node has no level yet, some entry is not above it.
-pub record AreLowest (levels : List (Option ℤ)) (lowest : List (Option ℤ)) (waiting : List Waiting) : Type 0 where
-  pub size : length lowest ≡ length levels
-  pub waits : (a : ℕ) (h : ℤ) → entry_of levels a ≡ None → entry_of lowest a ≡ Some h → SomeWaits waiting a h
+-- Where a node is not done and has a crest noted as its level, some entry of it is not above that.
+pub record AreNoted (labels : List (Option ℕ)) (levels : List (Option ℤ)) (waiting : List Waiting) : Type 0 where
+  pub size : length levels ≡ length labels
+  pub waits : (a : ℕ) (h : ℤ) → entry_of labels a ≡ None → entry_of levels a ≡ Some h → SomeWaits waiting a h
+
+-- The levels of the nodes that are done stay as they are.
+abbrev pub KeepsDone : List (Option ℕ) → List (Option ℤ) → List (Option ℤ) → Type 0
+KeepsDone labels old new = (a : ℕ) → IsSome (entry_of labels a) → entry_of new a ≡ entry_of old a

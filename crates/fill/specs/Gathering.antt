@@ -46,15 +46,21 @@ joins_of from None = []
 joins_of from (Some to) =
     if from.node == to.node then [] else (record { from = from.node; to = to.node; height = int_max from.level to.level }) ∷ []
 
--- The joins of these places have been added, and no others.
-pub record Adds (c : Cutting) (floods : List Flood) (places : Place → Type 0) (old new : List Join) : Type 0 where
-  pub kept : (j : Join) → Contains old j → Contains new j
-  pub only : (j : Join) → Contains new j → Contains old j ⊎ IsMeeting c floods j
-  pub every : (p q : Place) (j : Join) → places p → Meets c floods p q j → Contains new j
-
 -- A join of the same labels that is not higher.
 abbrev pub Covered : List Join → Join → Type 0
 Covered joins j = (k : Join) × Contains joins k × (k.from ≡ j.from) × (k.to ≡ j.to) × (k.height ≤ℤ j.height)
+
+-- The joins have been added, but for those that others cover.
+pub record AddsCovered (old added new : List Join) : Type 0 where
+  pub kept : (j : Join) → Contains old j → Contains new j
+  pub only : (j : Join) → Contains new j → Contains old j ⊎ Contains added j
+  pub every : (j : Join) → Contains added j → Covered new j
+
+-- The joins of these places have been added, but for those that others cover, and no others.
+pub record Adds (c : Cutting) (floods : List Flood) (places : Place → Type 0) (old new : List Join) : Type 0 where
+  pub kept : (j : Join) → Contains old j → Contains new j
+  pub only : (j : Join) → Contains new j → Contains old j ⊎ IsMeeting c floods j
+  pub every : (p q : Place) (j : Join) → places p → Meets c floods p q j → Covered new j
 
 -- The first join has labels before those of the second.
 abbrev pub IsBefore : Join → Join → Type 0

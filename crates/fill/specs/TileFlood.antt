@@ -1,11 +1,12 @@
 -- Levels and labels inside one tile.
-use Rattle.std.specs.Prelude.{◌≡◌, ℕ, ◌+◌, ◌-◌, ◌*◌, ◌≤◌, ◌⊎◌, ℤ, ◌≤ℤ◌, Bool, ◌&&◌, nat_le, nat_lt, if◌then◌else◌, List, [], ◌∷◌, length, Option, None, Some, IsTrue, MatchOption, slice_index_or}
+use Rattle.std.specs.Prelude.{◌≡◌, ℕ, ◌+◌, ◌-◌, ◌*◌, ◌≤◌, ◌⊎◌, ℤ, ◌≤ℤ◌, Bool, ◌&&◌, ◌==◌, nat_le, nat_lt, if◌then◌else◌, List, [], ◌∷◌, length, Option, None, Some, IsTrue, MatchOption, slice_index_or}
 use Rattle.ascii_grid.specs.Raster.{Terrain}
-use Rattle.ascii_grid.specs.Neighbours.{height_at, IsDataCell, IsNeighbour, IsEdge}
+use Rattle.ascii_grid.specs.Neighbours.{height_at, IsDataCell, IsNeighbour, IsEdge, Touches}
 use Rattle.ascii_grid.specs.Filled.{crest}
 use Rattle.ascii_grid.specs.declared.place.Place.{Place}
 use Rattle.tiles.specs.declared.bounds.Bounds.{Bounds}
-use Rattle.tiles.specs.Cutting.{Cutting, IsWithin, tile_of_place, bounds_of, is_on_rim, IsInTile, cell_count}
+use Rattle.fill.specs.Cells.{place_of_node}
+use Rattle.tiles.specs.Cutting.{Cutting, IsWithin, tile_of_place, bounds_of, is_on_rim, IsInBounds, IsInTile, cell_count}
 
 -- A data cell on the rim of its tile, or an edge cell.
 abbrev pub IsTileSource : Terrain → Cutting → Place → Type 0
@@ -47,6 +48,25 @@ level_in f p = entry_in f.bounds f.levels p
 
 abbrev pub label_in : Flood → Place → Option Place
 label_in f p = entry_in f.bounds f.labels p
+
+-- The place of a label's node, None at node 0, which lies on the border and is no label.
+abbrev pub label_of_node : Bounds → ℕ → Option Place
+label_of_node b node = if node == 0 then None else Some (place_of_node b.top b.left b.cols node)
+
+-- A place and those that touch it are of the tile, and have one label or none of them any.
+abbrev pub HasOneLabelAround : Flood → Place → Type 0
+HasOneLabelAround f p = (q : Place) → Touches p q → IsInBounds f.bounds q × (label_in f q ≡ label_in f p)
+
+-- The entry is equal to the eight around it in rows of this width.
+pub record AreEqualAround (xs : List ℕ) (i width : ℕ) : Type 0 where
+  pub west : slice_index_or xs (i - 1) 0 ≡ slice_index_or xs i 0
+  pub east : slice_index_or xs (i + 1) 0 ≡ slice_index_or xs i 0
+  pub north_west : slice_index_or xs (i - width - 1) 0 ≡ slice_index_or xs i 0
+  pub north : slice_index_or xs (i - width) 0 ≡ slice_index_or xs i 0
+  pub north_east : slice_index_or xs (i - width + 1) 0 ≡ slice_index_or xs i 0
+  pub south_west : slice_index_or xs (i + width - 1) 0 ≡ slice_index_or xs i 0
+  pub south : slice_index_or xs (i + width) 0 ≡ slice_index_or xs i 0
+  pub south_east : slice_index_or xs (i + width + 1) 0 ≡ slice_index_or xs i 0
 
 -- What holds of every flood of a tile.
 pub record IsFlood (f : Flood) : Type 0 where

@@ -3,7 +3,7 @@ ghost use Rattle.std.specs.Prelude.{◌≡◌, ◌<◌, ◌≤ℤ◌, ◌∷◌,
 ghost use Rattle.std.specs.Bool.{OnTrue};
 ghost use Rattle.std.specs.BinaryHeap.{IsHeap, heap_items};
 ghost use Rattle.fill.specs.Walk.{IsFlooded};
-ghost use Rattle.fill.specs.Flood.{waiting_order, IsDone, TakesLowest, SourcesWait, IsLabelOf, MakesWait, AreLowest, Spreads};
+ghost use Rattle.fill.specs.Flood.{waiting_order, IsDone, TakesLowest, SourcesWait, IsLabelOf, MakesWait, AreNoted, KeepsDone, Spreads};
 
 use crate::net::{Net, Spill};
 use ascii_grid::{Height, NoMemory};
@@ -18,25 +18,28 @@ pub struct Flooded {
     pub label: Vec<Option<u32>>,
 }
 
-/// A node that waits: a walk from it, which ends at the label, has this crest.
-#[derive(Clone, Copy, PartialEq, Eq, PartialOrd, Ord)]
+/// A node that waits: a walk from it, which ends at the label, has this crest. The lowest comes first.
+#[derive(Clone, Copy)]
+#[derive_where(PartialEq, Eq, PartialOrd, Ord)]
 struct Waiting {
     height: Reverse<Height>,
+    #[derive_where(skip(EqHashOrd))]
     node: u32,
+    #[derive_where(skip(EqHashOrd))]
     label: u32,
 }
 
-/// Takes the lowest node that has no level yet.
-fn next_open(heap: &mut BinaryHeap<Waiting>, levels: &[Option<Height>]) -> Option<Waiting>
+/// Takes the lowest node that has no label yet.
+fn next_open(heap: &mut BinaryHeap<Waiting>, labels: &[Option<u32>]) -> Option<Waiting>
     requires heap { IsHeap waiting_order (heap_items heap.old) }
-    requires inside { All (λ w. w.node < length levels.now) (heap_items heap.old) }
+    requires inside { All (λ w. w.node < length labels.now) (heap_items heap.old) }
     ensures heap { IsHeap waiting_order (heap_items heap.new) }
     ensures some { IfSome result (λ w.
-        TakesLowest levels.now (heap_items heap.old) w (heap_items heap.new)) }
-    ensures none { IfNone result (All (IsDone levels.now) (heap_items heap.old)) }
+        TakesLowest labels.now (heap_items heap.old) w (heap_items heap.new)) }
+    ensures none { IfNone result (All (IsDone labels.now) (heap_items heap.old)) }
 {
     while let Some(waiting) = heap.pop() {
-        if levels[waiting.node as usize].is_none() {
+        if labels[waiting.node as usize].is_none() {
             return Some(waiting);
         }
     }
@@ -54,28 +57,29 @@ fn is_no_lower(crest: Height, noted: Option<Height>) -> bool
     }
 }
 
-/// Makes one neighbour of a node wait, where it has no level yet and does not wait as low.
+/// Makes one neighbour of a node wait, where it has no label yet and does not wait as low.
 #[inline(always)]
 fn push_way(
     heap: &mut BinaryHeap<Waiting>,
     way: Spill,
     from: &Waiting,
-    levels: &[Option<Height>],
-    lowest: &mut [Option<Height>],
+    labels: &[Option<u32>],
+    levels: &mut [Option<Height>],
 ) -> Result<(), NoMemory>
     requires heap { IsHeap waiting_order (heap_items heap.old) }
-    requires inside { way.to < length levels.now }
-    requires lowest { AreLowest levels.now lowest.old (heap_items heap.old) }
+    requires inside { way.to < length labels.now }
+    requires noted { AreNoted labels.now levels.old (heap_items heap.old) }
     ensures heap { OnOk result (IsHeap waiting_order (heap_items heap.new)) }
-    ensures lowest { OnOk result (AreLowest levels.now lowest.new (heap_items heap.new)) }
-    ensures waits { OnOk result (MakesWait levels.now from.now (way ∷ []) (heap_items heap.old) (heap_items heap.new)) }
+    ensures noted { OnOk result (AreNoted labels.now levels.new (heap_items heap.new)) }
+    ensures kept { OnOk result (KeepsDone labels.now levels.old levels.new) }
+    ensures waits { OnOk result (MakesWait labels.now from.now (way ∷ []) (heap_items heap.old) (heap_items heap.new)) }
 {
     let Reverse(level) = from.height;
     let crest = way.height.max(level);
-    if is_no_lower(crest, lowest[way.to as usize]) {
+    if is_no_lower(crest, levels[way.to as usize]) {
         return Ok(());
     }
-    if levels[way.to as usize].is_some() {
+    if labels[way.to as usize].is_some() {
         return Ok(());
     }
     let waiting = Waiting {
@@ -86,27 +90,29 @@ fn push_way(
     if heap.push(waiting).is_err() {
         return Err(NoMemory);
     }
-    lowest[way.to as usize] = Some(crest);
+    levels[way.to as usize] = Some(crest);
     Ok(())
 }
 
-/// Makes the neighbours of a node wait that have no level yet and do not wait as low.
+/// Makes the neighbours of a node wait that have no label yet and do not wait as low.
+#[inline]
 fn push_ways(
     heap: &mut BinaryHeap<Waiting>,
     ways: &[Spill],
     from: &Waiting,
-    levels: &[Option<Height>],
-    lowest: &mut [Option<Height>],
+    labels: &[Option<u32>],
+    levels: &mut [Option<Height>],
 ) -> Result<(), NoMemory>
     requires heap { IsHeap waiting_order (heap_items heap.old) }
-    requires inside { All (λ way. way.to < length levels.now) ways.now }
-    requires lowest { AreLowest levels.now lowest.old (heap_items heap.old) }
+    requires inside { All (λ way. way.to < length labels.now) ways.now }
+    requires noted { AreNoted labels.now levels.old (heap_items heap.old) }
     ensures heap { OnOk result (IsHeap waiting_order (heap_items heap.new)) }
-    ensures lowest { OnOk result (AreLowest levels.now lowest.new (heap_items heap.new)) }
-    ensures waits { OnOk result (MakesWait levels.now from.now ways.now (heap_items heap.old) (heap_items heap.new)) }
+    ensures noted { OnOk result (AreNoted labels.now levels.new (heap_items heap.new)) }
+    ensures kept { OnOk result (KeepsDone labels.now levels.old levels.new) }
+    ensures waits { OnOk result (MakesWait labels.now from.now ways.now (heap_items heap.old) (heap_items heap.new)) }
 {
     for way in ways {
-        push_way(heap, *way, from, levels, lowest)?;
+        push_way(heap, *way, from, labels, levels)?;
     }
     Ok(())
 }
@@ -149,27 +155,28 @@ pub(crate) fn empty_list<T: Copy>(alloc: Global, count: usize) -> Result<Vec<Opt
     Ok(entries)
 }
 
-/// Makes the neighbours of a node of the net wait that have no level yet and do not wait as low.
+/// Makes the neighbours of a node of the net wait that have no label yet and do not wait as low.
 #[inline]
 fn spread<N: Net>(
     alloc: Global,
     net: &N,
     heap: &mut BinaryHeap<Waiting>,
     from: &Waiting,
-    levels: &[Option<Height>],
-    lowest: &mut [Option<Height>],
+    labels: &[Option<u32>],
+    levels: &mut [Option<Height>],
 ) -> Result<(), NoMemory>
     requires heap { IsHeap waiting_order (heap_items heap.old) }
     requires inside { from.now.node < N.node_count net.now }
-    requires size { length levels.now ≡ N.node_count net.now }
-    requires lowest { AreLowest levels.now lowest.old (heap_items heap.old) }
+    requires size { length labels.now ≡ N.node_count net.now }
+    requires noted { AreNoted labels.now levels.old (heap_items heap.old) }
     ensures heap { OnOk result (IsHeap waiting_order (heap_items heap.new)) }
-    ensures lowest { OnOk result (AreLowest levels.now lowest.new (heap_items heap.new)) }
-    ensures added { OnOk result (Spreads (N.joins net.now) levels.now from.now
+    ensures noted { OnOk result (AreNoted labels.now levels.new (heap_items heap.new)) }
+    ensures kept { OnOk result (KeepsDone labels.now levels.old levels.new) }
+    ensures added { OnOk result (Spreads (N.joins net.now) labels.now from.now
         (heap_items heap.old) (heap_items heap.new)) }
 {
     let ways = net.neighbours(alloc, from.node)?;
-    push_ways(heap, ways.as_slice(), from, levels, lowest)
+    push_ways(heap, ways.as_slice(), from, labels, levels)
 }
 
 /// The label of a node that takes its level: a source at its own height is its own.
@@ -194,14 +201,13 @@ pub fn flood<N: Net>(alloc: Global, net: &N) -> Result<Flooded, NoMemory>
     let count = net.nodes() as usize;
     let mut level = empty_list(alloc, count)?;
     let mut label = empty_list(alloc, count)?;
-    let mut lowest = empty_list(alloc, count)?;
     let mut heap = waiting_sources(alloc, net)?;
-    while let Some(waiting) = next_open(&mut heap, &level) {
+    while let Some(waiting) = next_open(&mut heap, &label) {
         let node = waiting.node as usize;
         let Reverse(height) = waiting.height;
         level[node] = Some(height);
         label[node] = Some(label_of(net, &waiting));
-        spread(alloc, net, &mut heap, &waiting, &level, &mut lowest)?;
+        spread(alloc, net, &mut heap, &waiting, &label, &mut level)?;
     }
     Ok(Flooded { level, label })
 }

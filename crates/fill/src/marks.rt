@@ -87,13 +87,18 @@ fn has_gap(tiling: &Tiling, floods: &[TileFlood], tile: u32, place: Place) -> bo
 }
 
 /// The height of a place that is a source of the spill graph: its own label, with a gap around it.
-pub(crate) fn source_at(tiling: &Tiling, floods: &[TileFlood], place: Place) -> Option<Height>
+pub(crate) fn source_at(
+    tiling: &Tiling,
+    floods: &[TileFlood],
+    tile: u32,
+    place: Place,
+) -> Option<Height>
     requires fit { Fit tiling.now floods.now }
+    requires tile { tile < tile_count tiling.now }
     requires place { IsWithin tiling.now place }
     ensures some { IfSome result (λ h. IsSpillSource tiling.now floods.now place h) }
     ensures none { IfNone result ((h : ℤ) → IsSpillSource tiling.now floods.now place h → ⊥) }
 {
-    let tile = tiling.tile_of(place);
     let mark = mark_at(tiling, floods, tile, place)?;
     if mark.node == node_of(tiling, place) && has_gap(tiling, floods, tile, place) {
         Some(mark.level)

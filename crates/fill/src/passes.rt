@@ -1,9 +1,10 @@
 // Where the labels of neighbouring cells meet.
 ghost use Rattle.std.specs.Prelude.{◌≡◌, ◌+◌, ◌<◌, ◌≤◌, ◌++◌, [], ℕ, Some, IfOk, OnOk, slice_index_or, length, IsTrue, ◌↔◌};
+ghost use Rattle.std.specs.Bool.{OnTrue};
 ghost use Rattle.std.specs.List.{Contains};
 ghost use Rattle.ascii_grid.specs.declared.place.Place.{Place};
 ghost use Rattle.tiles.specs.Cutting.{IsCutting, IsWithin, IsInTile, bounds_of, tile_count};
-ghost use Rattle.fill.specs.Gathering.{Fit, Adds, AreLowest, IsRepeat, joins_of, mark_among};
+ghost use Rattle.fill.specs.Gathering.{Fit, Adds, AddsCovered, Covered, AreLowest, IsRepeat, joins_of, mark_among};
 
 use crate::marks::{Mark, mark_at};
 use crate::spills::Join;
@@ -12,10 +13,23 @@ use ascii_grid::{NoMemory, Place};
 use std::alloc::Global;
 use tiles::{Bounds, Tiling};
 
-/// Adds the join of two marks, where their labels differ.
+/// Whether the last of the joins is of the same labels as this one and not higher.
+#[inline(always)]
+fn last_covers(joins: &[Join], join: Join) -> bool
+    ensures { OnTrue result (Covered joins.now join) }
+{
+    let count = joins.len();
+    if count == 0 {
+        return false;
+    }
+    let last = joins[count - 1];
+    last.from == join.from && last.to == join.to && last.height <= join.height
+}
+
+/// Adds the join of two marks, where their labels differ and the last join does not cover it.
 #[inline(always)]
 fn push_join(joins: &mut Vec<Join>, from: Mark, to: Option<Mark>) -> Result<(), NoMemory>
-    ensures { OnOk result (joins.new.items ≡ joins.old.items ++ joins_of from to) }
+    ensures { OnOk result (AddsCovered joins.old.items (joins_of from to) joins.new.items) }
 {
     let Some(to) = to else { return Ok(()) };
     if from.node == to.node {
@@ -26,6 +40,9 @@ fn push_join(joins: &mut Vec<Join>, from: Mark, to: Option<Mark>) -> Result<(), 
         to: to.node,
         height: from.level.max(to.level),
     };
+    if last_covers(joins, join) {
+        return Ok(());
+    }
     if joins.push(join).is_err() {
         return Err(NoMemory);
     }
@@ -74,12 +91,17 @@ fn push_cells(
 ) -> Result<(), NoMemory>
     requires fit { Fit tiling.now floods.now }
     requires tile { tile < tile_count tiling.now }
+    requires top { (bounds_of tiling.now tile).top ≤ row }
     requires row { row < (bounds_of tiling.now tile).top + (bounds_of tiling.now tile).rows }
     ensures { OnOk result (Adds tiling.now floods.now
         (λ p. IsInTile tiling.now tile p × (p.row ≡ row)) joins.old.items joins.new.items) }
 {
     let Bounds { left, cols, .. } = tiling.bounds(tile);
+    let flood = &floods[tile as usize];
     for col in left..left + cols {
+        if flood.has_one_label_around(Place { row, col }) {
+            continue;
+        }
         push_cell(joins, tiling, floods, tile, Place { row, col })?;
     }
     Ok(())

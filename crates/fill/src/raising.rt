@@ -47,12 +47,11 @@ pub fn raise(
         AreSpillLevels t tiling.now floods levels.now → IsFilledTile t tiling.now tile v.items) }
 {
     let heights = flood.levels();
-    let labels = flood.labels();
     let Ok(mut raised) = Vec::with_capacity(alloc, heights.len()) else {
         return Err(NoMemory);
     };
     for index in 0..heights.len() {
-        let level = raised_level(tiling, levels, heights[index], labels[index]);
+        let level = raised_level(tiling, levels, heights[index], flood.label_at(index));
         if raised.push(level).is_err() {
             return Err(NoMemory);
         }

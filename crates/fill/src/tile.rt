@@ -1,8 +1,9 @@
 // Flooding of one tile.
-ghost use Rattle.std.specs.Prelude.{◌≡◌, ◌≤◌, ◌+◌, map, option_map, IfOk, OnOk, length, true, false, MatchOption, ◌*◌, ◌-◌, ◌<◌};
-ghost use Rattle.tiles.specs.Cutting.{terrain_of, bounds_of};
+ghost use Rattle.std.specs.Prelude.{◌≡◌, ◌≤◌, ◌+◌, map, unwrap_or, IfOk, OnOk, length, true, false, MatchOption, None, slice_index_or, ◌*◌, ◌-◌, ◌<◌};
+ghost use Rattle.std.specs.Bool.{OnTrue};
+ghost use Rattle.tiles.specs.Cutting.{terrain_of, bounds_of, IsInBounds};
 ghost use Rattle.fill.specs.Cells.{place_of_node};
-ghost use Rattle.fill.specs.TileFlood.{IsFlood, IsTileFlood, level_in, label_in, is_in_bounds};
+ghost use Rattle.fill.specs.TileFlood.{IsFlood, IsTileFlood, level_in, label_in, label_of_node, is_in_bounds, HasOneLabelAround, AreEqualAround};
 
 use crate::cell_net::{CellNet, without_border};
 use crate::flooding::flood;
@@ -17,17 +18,19 @@ use tiles::{Bounds, TileView};
 pub struct TileFlood {
     bounds: Bounds,
     levels: Vec<Option<Height>>,
-    labels: Vec<Option<Place>>,
+    // The label's node in the net of the tile; 0, a node on the border, where there is none.
+    labels: Vec<u32>,
 }
 
 impl Model for TileFlood {
-    ghost use Rattle.fill.specs.TileFlood.{Flood, IsFlood};
+    ghost use Rattle.std.specs.Prelude.{map};
+    ghost use Rattle.fill.specs.TileFlood.{Flood, IsFlood, label_of_node};
 
     ghost Value = { Flood };
 
-    ghost view = { λ f. record { bounds = f.bounds; levels = f.levels.items; labels = f.labels.items } };
+    ghost view = { λ f. record { bounds = f.bounds; levels = f.levels.items; labels = map (label_of_node f.bounds) f.labels.items } };
 
-    ghost invariant = { λ f. IsFlood (record { bounds = f.bounds; levels = f.levels.items; labels = f.labels.items }) };
+    ghost invariant = { λ f. IsFlood (record { bounds = f.bounds; levels = f.levels.items; labels = map (label_of_node f.bounds) f.labels.items }) };
 }
 
 /// Whether a place lies in the bounds.
@@ -61,6 +64,26 @@ fn index_in(bounds: Bounds, place: Place) -> Option<usize>
     Some((place.row - top) as usize * cols as usize + (place.col - left) as usize)
 }
 
+/// Whether an entry is equal to the eight around it in rows of this width.
+#[inline(always)]
+fn are_equal_around(labels: &[u32], index: usize, width: usize) -> bool
+    requires before { width + 1 ≤ index }
+    requires after { index + width + 1 < length labels.now }
+    ensures { OnTrue result (AreEqualAround labels.now index width) }
+{
+    let label = labels[index];
+    let above = index - width;
+    let below = index + width;
+    labels[index - 1] == label
+        && labels[index + 1] == label
+        && labels[above - 1] == label
+        && labels[above] == label
+        && labels[above + 1] == label
+        && labels[below - 1] == label
+        && labels[below] == label
+        && labels[below + 1] == label
+}
+
 impl TileFlood {
     /// The first row and column of the tile, and its size.
     #[inline(always)]
@@ -86,7 +109,37 @@ impl TileFlood {
         ensures { result ≡ label_in self.now place }
     {
         let index = index_in(self.bounds, place)?;
-        self.labels[index]
+        self.label_at(index)
+    }
+
+    /// The label of the cell with this index in the tile's row order.
+    #[inline(always)]
+    pub(crate) fn label_at(&self, index: usize) -> Option<Place>
+        requires { index < length self.now.labels }
+        ensures { result ≡ slice_index_or self.now.labels index None }
+    {
+        label_of(self.bounds, self.labels[index])
+    }
+
+    /// Whether a cell and the eight around it lie in the tile and have one label, or none of them any.
+    #[inline]
+    pub(crate) fn has_one_label_around(&self, place: Place) -> bool
+        requires { IsInBounds self.now.bounds place }
+        ensures { OnTrue result (HasOneLabelAround self.now place) }
+    {
+        let Bounds {
+            top,
+            left,
+            rows,
+            cols,
+        } = self.bounds;
+        let (row, col) = (place.row - top, place.col - left);
+        if row == 0 || col == 0 || row + 1 == rows || col + 1 == cols {
+            return false;
+        }
+        let width = cols as usize;
+        let index = row as usize * width + col as usize;
+        are_equal_around(&self.labels, index, width)
     }
 
     /// Whether a place is one of the tile's.
@@ -105,15 +158,6 @@ impl TileFlood {
     {
         &self.levels
     }
-
-    /// The labels in the tile's row order.
-    #[inline(always)]
-    pub(crate) fn labels(&self) -> &[Option<Place>]
-        ensures value { result.now ≡ self.now.labels }
-        ensures lawful { IsFlood self.now }
-    {
-        &self.labels
-    }
 }
 
 /// The place of a node of the tile's net.
@@ -129,24 +173,32 @@ fn place_of(bounds: Bounds, node: u32) -> Place
     }
 }
 
-fn places_of(
-    alloc: Global,
-    nodes: &[Option<u32>],
-    bounds: Bounds,
-) -> Result<Vec<Option<Place>>, NoMemory>
+/// The place of a label's node, None at node 0.
+#[inline(always)]
+fn label_of(bounds: Bounds, node: u32) -> Option<Place>
     requires { (bounds.top ≤ 4096) × (bounds.left ≤ 4096) × (bounds.cols ≤ 4096) }
-    ensures { IfOk result (λ v. v.items ≡ map (option_map (place_of_node bounds.top bounds.left bounds.cols)) nodes.now) }
+    ensures { result ≡ label_of_node bounds node }
 {
-    let Ok(mut places) = Vec::with_capacity(alloc, nodes.len()) else {
+    if node == 0 {
+        None
+    } else {
+        Some(place_of(bounds, node))
+    }
+}
+
+/// The numbers of these nodes, 0 where there is none.
+fn numbers_of(alloc: Global, nodes: &[Option<u32>]) -> Result<Vec<u32>, NoMemory>
+    ensures { IfOk result (λ v. v.items ≡ map (λ node. unwrap_or node 0) nodes.now) }
+{
+    let Ok(mut numbers) = Vec::with_capacity(alloc, nodes.len()) else {
         return Err(NoMemory);
     };
     for node in nodes {
-        let place = node.map(|node| place_of(bounds, node));
-        if places.push(place).is_err() {
+        if numbers.push(node.unwrap_or(0)).is_err() {
             return Err(NoMemory);
         }
     }
-    Ok(places)
+    Ok(numbers)
 }
 
 /// The least crest of each cell's paths in the tile, and a source that has it.
@@ -159,7 +211,7 @@ pub fn tile_flood(alloc: Global, view: &TileView<'_, Option<Height>>) -> Result<
     let flooded = flood(alloc, &net)?;
     let levels = without_border(alloc, &flooded.level, bounds.cols, bounds.rows)?;
     let nodes = without_border(alloc, &flooded.label, bounds.cols, bounds.rows)?;
-    let labels = places_of(alloc, &nodes, bounds)?;
+    let labels = numbers_of(alloc, &nodes)?;
     Ok(TileFlood {
         bounds,
         levels,

@@ -127,3 +127,21 @@ fn valley_through_two_tiles(rt: HostRuntime) -> Result<(), Fail> {
     assert_eq!(rt; filled.grid().cells(), wanted.map(Some).as_slice());
     Ok(())
 }
+
+/// The label of the two low cells of the first tile meets ten others, more than a node's list of ways
+/// holds in place. With ample memory the levels, and with `--fail-alloc` those or a told refusal.
+#[test]
+fn refused_memory_is_told(rt: HostRuntime) -> Result<(), Fail> {
+    let grid = grid(
+        rt.alloc(),
+        "ncols 6 nrows 3",
+        "9 9 9 9 9 9 9 1 5 4 1 6 9 9 9 9 9 9",
+    )?;
+    let tiling = tiling_of(&grid, 3)?;
+    let wanted = [9, 9, 9, 9, 9, 9, 9, 6, 6, 6, 6, 6, 9, 9, 9, 9, 9, 9];
+    match filled(&rt, rt.alloc(), &grid, &tiling, 1, &NoGate) {
+        Ok(filled) => assert_eq!(rt; filled.grid().cells(), wanted.map(Some).as_slice()),
+        Err(fault) => assert_eq!(rt; fault, JobFault::Memory),
+    }
+    Ok(())
+}

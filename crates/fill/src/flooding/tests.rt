@@ -87,3 +87,19 @@ fn four_nodes(rt: HostRuntime) -> Result<(), Fail> {
     }
     Ok(())
 }
+
+/// With ample memory the levels, and with `--fail-alloc` those or a told refusal.
+#[test]
+fn refused_memory_is_told(rt: HostRuntime) {
+    let sources = [None, None, Some(2), None];
+    if let Ok(flooded) = flood(rt.alloc(), &FourNodes { sources }) {
+        assert_eq!(rt;
+            flooded.level.as_slice(),
+            [Some(5), Some(3), Some(2), None].as_slice()
+        );
+        assert_eq!(rt;
+            flooded.label.as_slice(),
+            [Some(2), Some(2), Some(2), None].as_slice()
+        );
+    }
+}

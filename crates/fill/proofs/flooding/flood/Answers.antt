@@ -10,14 +10,21 @@ use Rattle.fill.proofs.Steps.{settle, flooded, noted_still, none_noted, begun}
 use Rattle.fill.proofs.flooding.flood.Goals as goal
 
 pub returns : goal.returns
-returns g c = flooded _ _ _ _ _ _ (g.met.N.Net.joined_inside c.args.net.now) c.loop-waiting.invariant.state (rw c.deref.ensures.value at c.in_default.ensures.none)
+returns g c = flooded _ _ _ _ _ _ (g.met.N.Net.joined_inside c.args.net.now) c.loop-waiting.invariant.state c.loop-waiting.invariant.noted (rw c.deref.ensures.value at c.in_default.ensures.none)
 
-pub spread-requires-clause-lowest : goal.spread-requires-clause-lowest
-spread-requires-clause-lowest g c =
+pub loop-waiting-init : goal.loop-waiting-init
+loop-waiting-init g c = record {
+  heap = c.in_ok-heap.ensures.heap;
+  state = rw (c.in_ok-level.ensures, c.in_ok-label.ensures, c.nodes-count.ensures) (begun _ _ _ _ c.in_ok-heap.ensures.sources);
+  noted = rw (c.in_ok-level.ensures, c.in_ok-label.ensures) (none_noted c.nodes-count.result _);
+}
+
+pub spread-requires-clause-noted : goal.spread-requires-clause-noted
+spread-requires-clause-noted g c =
     let takes = rw c.deref.ensures.value at c.in-Some.ensures.some in
     let here = All-contains (λ x. (x.node < g.N.Net.node_count c.args.net.now) × HasWalk (g.N.Net.joins c.args.net.now) (g.N.Net.source_height c.args.net.now) x) _ c.in-Some.waiting c.loop-waiting.invariant.state.waits takes.was in
-    let inside : c.in-Some.waiting.node < length c.loop-waiting.level.items = omega (arith, here.0, c.loop-waiting.invariant.state.levels_size) in
-    rw (sym c.deref-in-Some.ensures.value, sym c.deref_mut.ensures.value) at (noted_still c.loop-waiting.level.items c.loop-waiting.lowest.items (heap_items c.loop-waiting.heap) (heap_items c.next_open.new.heap) c.in-Some.waiting (to_z w32 (of_z w32 c.in-Some.waiting.height.0)) inside c.loop-waiting.invariant.lowest takes)
+    let inside : c.in-Some.waiting.node < length c.loop-waiting.label.items = omega (arith, here.0, c.loop-waiting.invariant.state.labels_size) in
+    rw (sym c.deref-in-Some.ensures.value, sym c.deref_mut.ensures.value) at (noted_still c.loop-waiting.label.items c.loop-waiting.level.items (heap_items c.loop-waiting.heap) (heap_items c.next_open.new.heap) c.in-Some.waiting (to_z w32 (of_z w32 c.in-Some.waiting.height.0)) c.label_of.result inside c.loop-waiting.invariant.noted takes)
 
 pub loop-waiting-preserved : goal.loop-waiting-preserved
 loop-waiting-preserved g c =
@@ -25,11 +32,15 @@ loop-waiting-preserved g c =
     let height = to_z-of_z w32 c.in-Some.waiting.height.0 fits in
     let takes = rw c.deref.ensures.value at c.in-Some.ensures.some in
     let added = rw (c.deref-in-Some.ensures.value) at c.in_ok-spread.ensures.added in
-    let lowest = rw (c.deref-in-Some.ensures.value) at c.in_ok-spread.ensures.lowest in
-    let size : length c.spread.new.lowest ≡ c.loop-waiting.lowest.len =
-    lowest.size ∙ length-set c.loop-waiting.level.items c.in-Some.waiting.node (Some (to_z w32 (of_z w32 c.in-Some.waiting.height.0))) ∙ sym c.loop-waiting.invariant.lowest.size ∙ sym (ap length c.deref_mut.ensures.value) ∙ c.deref_mut.ensures.len in
+    let noted = rw (c.deref-in-Some.ensures.value) at c.in_ok-spread.ensures.noted in
+    let kept = rw (c.deref-in-Some.ensures.value, c.deref_mut.ensures.value, height) at c.in_ok-spread.ensures.kept in
+    let size_kept : length c.spread.new.levels ≡ length c.loop-waiting.level.items =
+    noted.size ∙ length-set c.loop-waiting.label.items c.in-Some.waiting.node (Some c.label_of.result) ∙ sym c.loop-waiting.invariant.noted.size in
+    let size : length c.spread.new.levels ≡ c.loop-waiting.level.len =
+    size_kept ∙ sym (length-set c.loop-waiting.level.items c.in-Some.waiting.node (Some (to_z w32 (of_z w32 c.in-Some.waiting.height.0)))) ∙ sym (ap length c.deref_mut.ensures.value) ∙ c.deref_mut.ensures.len in
+    let back = sym (written_back c.loop-waiting.level.len c.spread.new.levels _ size) in
     record {
       heap = c.in_ok-spread.ensures.heap;
-      state = rw (sym height) at (settle _ _ _ _ _ _ _ _ c.in-Some.waiting added.0 c.label_of.result (g.met.N.Net.joined_inside c.args.net.now) (g.met.N.Net.joined_back c.args.net.now) c.loop-waiting.invariant.state takes added.1 (rw height at added.2) c.label_of.ensures);
-      lowest = rw (sym (written_back c.loop-waiting.lowest.len c.spread.new.lowest c.loop-waiting.lowest.items size)) at lowest;
+      state = rw back at (settle _ _ _ _ _ _ _ _ _ c.in-Some.waiting added.0 c.label_of.result (g.met.N.Net.joined_inside c.args.net.now) (g.met.N.Net.joined_back c.args.net.now) c.loop-waiting.invariant.state takes added.1 added.2 size_kept kept c.label_of.ensures);
+      noted = rw back at noted;
     }

@@ -10,7 +10,7 @@ pub returns-then-is_none-clause-some : goal.returns-then-is_none-clause-some
 returns-then-is_none-clause-some c =
     first_open _ _ _ _ _ c.loop-waiting.invariant.done c.in-Some.ensures.permutation
     (c.in-Some.ensures.below_top c.loop-waiting.invariant.heap)
-    (not_some (entry_of c.args.levels.now c.in-Some.waiting.node) (c.is_none.ensures ∙ ap not c.if-is_none.true))
+    (not_some (entry_of c.args.labels.now c.in-Some.waiting.node) (c.is_none.ensures ∙ ap not c.if-is_none.true))
 
 pub loop-waiting-preserved : goal.loop-waiting-preserved
 loop-waiting-preserved c = record {

@@ -1,16 +1,17 @@
-use Rattle.std.proofs.Common.{pos}
+use Rattle.std.proofs.Common.{pos, refl, ◌∙◌}
 use Rattle.fill.specs.declared.net.Spill.{Spill}
 use Rattle.fill.proofs.Noting.{no_ways, way_more}
 use Rattle.fill.proofs.flooding.push_ways.Goals as goal
 
 pub loop-way-init : goal.loop-way-init
-loop-way-init c = record { heap = c.requires.heap; lowest = c.requires.lowest; waits = no_ways _ _ _ }
+loop-way-init c = record { heap = c.requires.heap; noted = c.requires.noted; kept = λ a done. refl; waits = no_ways _ _ _ }
 
 pub loop-way-preserved : goal.loop-way-preserved
 loop-way-preserved c =
     let none : Spill = record { to = 0; height = pos 0 } in
     record {
       heap = c.in_ok-push_way.ensures.heap;
-      lowest = c.in_ok-push_way.ensures.lowest;
-      waits = way_more c.args.levels.now c.args.from.now c.args.ways.now c.loop-way.way-index none _ _ _ c.loop-way-test.true c.loop-way.invariant.waits c.in_ok-push_way.ensures.waits;
+      noted = c.in_ok-push_way.ensures.noted;
+      kept = λ a done. c.in_ok-push_way.ensures.kept a done ∙ c.loop-way.invariant.kept a done;
+      waits = way_more c.args.labels.now c.args.from.now c.args.ways.now c.loop-way.way-index none _ _ _ c.loop-way-test.true c.loop-way.invariant.waits c.in_ok-push_way.ensures.waits;
     }

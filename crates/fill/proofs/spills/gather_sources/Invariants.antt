@@ -1,5 +1,6 @@
+use Rattle.std.proofs.Common.{◌*◌}
 use Rattle.fill.specs.Gathering.{AreSources}
 use Rattle.fill.proofs.spills.gather_sources.Given as goal
 
-abbrev pub invariant-loop-index : goal.invariant-loop-index
-invariant-loop-index l = AreSources l.tiling l.floods l.index l.sources.items
+abbrev pub invariant-loop-row : goal.invariant-loop-row
+invariant-loop-row l = AreSources l.tiling l.floods (l.row * l.tiling.cols) l.sources.items
