@@ -10,6 +10,7 @@ use Rattle.ascii_grid.proofs.Places.{entry-inside}
 use Rattle.sight.specs.Sight.{sight, blocks, is_near, is_seen, place_of, column_crossing, row_crossing, column_blocks, row_blocks}
 use Rattle.sight.specs.Walk.{whole_at, part_at, index_at, is_above, step_blocks, walk_blocks, IsOver}
 use Rattle.sight.specs.declared.walk.Axis.{Axis}
+use Rattle.sight.specs.declared.walk.Sightline.{Sightline}
 use Rattle.sight.specs.declared.observer.Observer.{Observer}
 use Rattle.sight.proofs.Steps.{whole_le, whole_lt}
 use Rattle.sight.proofs.Ranges.{any_same}
@@ -27,6 +28,13 @@ columns_of p q = record { from = p.col; to = q.col; stride = 1 }
 
 abbrev pub rows_of : Terrain → Place → Place → Axis
 rows_of t p q = record { from = p.row; to = q.row; stride = t.cols }
+
+-- the two lines between two places, over the columns and over the rows
+abbrev pub over_columns_of : Terrain → Place → Place → ℤ → ℤ → Sightline
+over_columns_of t p q e f = record { lead = columns_of p q; side = rows_of t p q; from_level = e; to_level = f }
+
+abbrev pub over_rows_of : Terrain → Place → Place → ℤ → ℤ → Sightline
+over_rows_of t p q e f = record { lead = rows_of t p q; side = columns_of p q; from_level = e; to_level = f }
 
 -- the height at a place whose index is told
 height_is : (t : Terrain) (r c i : ℕ) → r < t.rows → c < t.cols → i ≡ r * t.cols + c → height_at t (record { row = r; col = c }) ≡ get_or t.cells i None
@@ -62,10 +70,10 @@ row_step t p q e f k inside_p inside_q low high =
     λ some. height_is t row (col + 1) (i + 1) row_in (omega (arith, whole_lt (columns_of p q) n k (omega arith) (omega arith) some)) (omega arith) in
     above_same _ _ _ _ (n - m) m (sight e f n k) near far
 
-pub column_blocks-walk : (t : Terrain) (p q : Place) (e f : ℤ) → IsInside t p → IsInside t q → column_blocks t p q e f ≡ walk_blocks t.cells (columns_of p q) (rows_of t p q) e f
+pub column_blocks-walk : (t : Terrain) (p q : Place) (e f : ℤ) → IsInside t p → IsInside t q → column_blocks t p q e f ≡ walk_blocks t.cells (over_columns_of t p q e f)
 column_blocks-walk t p q e f a b = let n = abs_diff p.col q.col in any_same _ _ 1 (n - 1) (λ k low high. column_step t p q e f k a b low high)
 
-pub row_blocks-walk : (t : Terrain) (p q : Place) (e f : ℤ) → IsInside t p → IsInside t q → row_blocks t p q e f ≡ walk_blocks t.cells (rows_of t p q) (columns_of p q) e f
+pub row_blocks-walk : (t : Terrain) (p q : Place) (e f : ℤ) → IsInside t p → IsInside t q → row_blocks t p q e f ≡ walk_blocks t.cells (over_rows_of t p q e f)
 row_blocks-walk t p q e f a b = let n = abs_diff p.row q.row in any_same _ _ 1 (n - 1) (λ k low high. row_step t p q e f k a b low high)
 
 -- both walks stay in the list
@@ -78,8 +86,8 @@ over_rows t p q size a b = omega (arith, size, mul-add-lt (max p.row q.row) t.co
 -- what is seen, once both ends have heights and are near each other
 pub seen_is : (t : Terrain) (o : Observer) (q : Place) (target radius : ℕ) (from to : ℤ) → IsInside t (place_of o) → IsInside t q
     → height_at t (place_of o) ≡ Some from → height_at t q ≡ Some to → is_near (place_of o) q radius ≡ true
-    → let columns = columns_of (place_of o) q in let rows = rows_of t (place_of o) q in let e = from +ℤ pos o.eye in let f = to +ℤ pos target in
-    is_seen t o q target radius ≡ (not (walk_blocks t.cells columns rows e f) && not (walk_blocks t.cells rows columns e f))
+    → let e = from +ℤ pos o.eye in let f = to +ℤ pos target in
+    is_seen t o q target radius ≡ (not (walk_blocks t.cells (over_columns_of t (place_of o) q e f)) && not (walk_blocks t.cells (over_rows_of t (place_of o) q e f)))
 seen_is t o q target radius from to a b from_is to_is near =
     let e = from +ℤ pos o.eye in
     let f = to +ℤ pos target in

@@ -5,6 +5,7 @@ pub mod Levels
 pub mod Steps
 pub mod Ranges
 pub mod Crossings
+pub mod LowBlocks
 pub mod Faultless
 pub mod TileValues
 pub mod Whole

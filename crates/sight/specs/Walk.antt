@@ -1,12 +1,14 @@
 -- A walk along a line of sight, over a list of cells: the crossings of the line, as the crate's own functions
 -- find them. No public clause cites it. The line's two coordinates are a leading one, at whose whole steps
 -- the line is tested, and the one at its side.
-use Rattle.std.specs.Prelude.{ℕ, ◌+◌, ◌-◌, ◌*◌, ◌/◌, ◌%◌, ◌<◌, Bool, false, ◌==◌, if◌then◌else◌, ℤ, pos, negsuc, ◌≤ℤ◌, ◌+ℤ◌, ◌*ℤ◌, int_lt, List, length, Option, None, Some, option_map, option_and_then, slice_index_or, max}
+use Rattle.std.specs.Prelude.{◌≡◌, ℕ, ◌+◌, ◌-◌, ◌*◌, ◌/◌, ◌%◌, ◌<◌, ◌≤◌, Bool, false, ◌==◌, if◌then◌else◌, ℤ, pos, negsuc, ◌≤ℤ◌, ◌+ℤ◌, ◌*ℤ◌, int_lt, List, length, Option, None, Some, option_map, option_and_then, slice_index_or, max}
 use Rattle.std.specs.Int.{abs_diff}
 use Rattle.std.specs.List.{list_any, range_with_len}
 use Rattle.std.specs.Option.{option_map_or}
 use Rattle.sight.specs.Sight.{toward, sight}
 use Rattle.sight.specs.declared.walk.Axis.{Axis}
+use Rattle.sight.specs.declared.walk.Sightline.{Sightline}
+use Rattle.sight.specs.declared.walk.Step.{Step}
 
 -- Where the line is along an axis at step k of n: the whole cell, and n-ths of a cell past it.
 abbrev pub whole_at : Axis → ℕ → ℕ → ℕ
@@ -36,11 +38,18 @@ step_blocks cells lead side e f n k =
     let m = part_at side n k in
     is_above (slice_index_or cells i None) (n - m) (slice_index_or cells (i + side.stride) None) m (sight e f n k)
 
--- A step of the walk blocks.
-abbrev pub walk_blocks : List (Option ℤ) → Axis → Axis → ℤ → ℤ → Bool
-walk_blocks cells lead side e f =
-    let n = abs_diff lead.from lead.to in
-    list_any (λ k. step_blocks cells lead side e f n k) (range_with_len 1 (n - 1))
+-- How many steps a line has.
+abbrev pub steps_of : Sightline → ℕ
+steps_of l = abs_diff l.lead.from l.lead.to
+
+-- One of `count` steps from the first on blocks.
+abbrev pub step_range_blocks : List (Option ℤ) → Sightline → ℕ → ℕ → Bool
+step_range_blocks cells l first count =
+    list_any (λ k. step_blocks cells l.lead l.side l.from_level l.to_level (steps_of l) k) (range_with_len first count)
+
+-- A step between the two ends blocks.
+abbrev pub walk_blocks : List (Option ℤ) → Sightline → Bool
+walk_blocks cells l = step_range_blocks cells l 1 (steps_of l - 1)
 
 -- The cells between the two ends are in the list.
 abbrev pub IsOver : List (Option ℤ) → Axis → Axis → Type 0
@@ -49,3 +58,16 @@ IsOver cells lead side = max lead.from lead.to * lead.stride + max side.from sid
 -- A height with an eye or a target on it fits: it is well within 2^33.
 abbrev pub IsLevel : ℤ → Type 0
 IsLevel z = (negsuc 4294967295 ≤ℤ z) × (z ≤ℤ pos 4294967296)
+
+-- The numbers of a line are small enough to walk along it.
+pub record IsSightline (l : Sightline) : Type 0 where
+  pub ends : (l.lead.from < 4096) × (l.lead.to < 4096) × (l.side.from < 4096) × (l.side.to < 4096)
+  pub strides : (l.lead.stride ≤ 4096) × (l.side.stride ≤ 4096)
+  pub from_level : IsLevel l.from_level
+  pub to_level : IsLevel l.to_level
+
+-- The line is there at step k.
+pub record IsAt (l : Sightline) (k : ℕ) (s : Step) : Type 0 where
+  pub whole : s.whole ≡ whole_at l.side (steps_of l) k
+  pub part : s.part ≡ part_at l.side (steps_of l) k
+  pub sight : s.sight ≡ sight l.from_level l.to_level (steps_of l) k

@@ -10,6 +10,7 @@ mod judging;
 pub mod laws;
 pub mod line;
 pub mod observer;
+mod passing;
 #[cfg(test)]
 mod tests;
 mod tile;

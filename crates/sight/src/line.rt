@@ -5,7 +5,7 @@ ghost use Rattle.sight.specs.Sight.{highest_eye, longest_radius, is_near, is_see
 ghost use Rattle.sight.specs.Walk.{IsLevel};
 
 use crate::observer::Observer;
-use crate::walk::{Axis, is_blocked};
+use crate::walk::{Axis, Sightline, is_blocked};
 use ascii_grid::{Grid, Height, Place};
 
 /// Whether the target is not farther than the radius.
@@ -77,8 +77,20 @@ pub fn sees(
         to: target.col,
         stride: 1,
     };
-    if is_blocked(cells, columns, rows, from_level, to_level) {
+    let over_columns = Sightline {
+        lead: columns,
+        side: rows,
+        from_level,
+        to_level,
+    };
+    let over_rows = Sightline {
+        lead: rows,
+        side: columns,
+        from_level,
+        to_level,
+    };
+    if is_blocked(cells, over_columns) {
         return false;
     }
-    !is_blocked(cells, rows, columns, from_level, to_level)
+    !is_blocked(cells, over_rows)
 }

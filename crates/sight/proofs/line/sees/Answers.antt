@@ -3,7 +3,7 @@ use Rattle.std.specs.Int.{w32, w64}
 use Rattle.std.proofs.lemmas.Int.{to_z-of_z}
 use Rattle.sight.specs.Sight.{is_near, place_of}
 use Rattle.sight.specs.Walk.{walk_blocks}
-use Rattle.sight.proofs.Crossings.{seen_is, columns_of, rows_of, over_columns, over_rows}
+use Rattle.sight.proofs.Crossings.{seen_is, over_columns_of, over_rows_of, over_columns, over_rows}
 use Rattle.sight.proofs.line.sees.Goals as goal
 
 pub is_blocked-requires-clause-over : goal.is_blocked-requires-clause-over
@@ -31,7 +31,7 @@ returns-then-is_blocked c =
     let to_back = to_z-of_z w64 c.level-to_level.result (search rules) in
     let near : is_near (place_of o) q c.args.radius ≡ true = sym c.is_in_reach.ensures ∙ c.if-not-is_in_reach.false in
     let seen = seen_is t o q c.args.target_height c.args.radius from to c.requires.observer c.requires.target (sym c.at.ensures ∙ c.in-Some.is) (sym c.at-2.ensures ∙ c.in-Some-at.is) near in
-    let columns : true ≡ walk_blocks t.cells (columns_of (place_of o) q) (rows_of t (place_of o) q) (from +ℤ pos o.eye) (to +ℤ pos c.args.target_height) =
+    let columns : true ≡ walk_blocks t.cells (over_columns_of t (place_of o) q (from +ℤ pos o.eye) (to +ℤ pos c.args.target_height)) =
     rw (c.cells-cells.ensures.value, c.cols.ensures.value, from_back, to_back, from_level, to_level) at c.if-is_blocked.ensures in
     sym (rw (sym columns) at seen)
 
@@ -50,8 +50,8 @@ returns c =
     let to_back = to_z-of_z w64 c.level-to_level.result (search rules) in
     let near : is_near (place_of o) q c.args.radius ≡ true = sym c.is_in_reach.ensures ∙ c.if-not-is_in_reach.false in
     let seen = seen_is t o q c.args.target_height c.args.radius from to c.requires.observer c.requires.target (sym c.at.ensures ∙ c.in-Some.is) (sym c.at-2.ensures ∙ c.in-Some-at.is) near in
-    let columns : false ≡ walk_blocks t.cells (columns_of (place_of o) q) (rows_of t (place_of o) q) (from +ℤ pos o.eye) (to +ℤ pos c.args.target_height) =
+    let columns : false ≡ walk_blocks t.cells (over_columns_of t (place_of o) q (from +ℤ pos o.eye) (to +ℤ pos c.args.target_height)) =
     rw (c.cells-cells.ensures.value, c.cols.ensures.value, from_back, to_back, from_level, to_level) at c.if-is_blocked.ensures in
-    let rows : c.is_blocked-2.result ≡ walk_blocks t.cells (rows_of t (place_of o) q) (columns_of (place_of o) q) (from +ℤ pos o.eye) (to +ℤ pos c.args.target_height) =
+    let rows : c.is_blocked-2.result ≡ walk_blocks t.cells (over_rows_of t (place_of o) q (from +ℤ pos o.eye) (to +ℤ pos c.args.target_height)) =
     rw (c.cells-cells.ensures.value, c.cols.ensures.value, from_back, to_back, from_level, to_level) at c.is_blocked-2.ensures in
     rw rows (sym (rw (sym columns) at seen))
