@@ -28,6 +28,10 @@ not_true : (b : Bool) → (b ≡ true → ⊥) → b ≡ false
 not_true true h = absurd (h refl)
 not_true false h = refl
 
+not_false : (b : Bool) → (b ≡ false → ⊥) → b ≡ true
+not_false true h = refl
+not_false false h = absurd (h refl)
+
 -- none passes, one by one
 pub none_at : (p : ℕ → Bool) (a n k : ℕ) → list_any p (range_with_len a n) ≡ false → a ≤ k → k < a + n → p k ≡ false
 none_at p a n k none low high =
@@ -51,6 +55,14 @@ pub any_within : (p : ℕ → Bool) (a m b n : ℕ) → a ≤ b → b + n ≤ a 
 any_within p a m b n low high any = elim (list_any p (range_with_len a m)) as (λ v. list_any p (range_with_len a m) ≡ v → v ≡ true) [
   | true ↦ λ e. refl
   | false ↦ λ e. let none = none_from p b n (λ k above below. none_at p a m k e (omega arith) (omega arith)) in absurd (cc)
+] refl
+
+-- a test of what is as far from the other end
+pub any_back : (p q : ℕ → Bool) (n : ℕ) → ((k : ℕ) → 1 ≤ k → k < n → p k ≡ q (n - k)) → list_any p (range_with_len 1 (n - 1)) ≡ list_any q (range_with_len 1 (n - 1))
+any_back p q n same = elim (list_any q (range_with_len 1 (n - 1))) as (λ v. list_any q (range_with_len 1 (n - 1)) ≡ v → list_any p (range_with_len 1 (n - 1)) ≡ v) [
+  | false ↦ λ e. none_from p 1 (n - 1) (λ k low high. same k low (omega arith) ∙ none_at q 1 (n - 1) (n - k) e (omega arith) (omega arith))
+  | true ↦ λ e. not_false (list_any p (range_with_len 1 (n - 1))) (λ none. let never = none_from q 1 (n - 1) (λ k low high. let back : n - (n - k) ≡ k = omega arith in
+      ap q (sym back) ∙ sym (same (n - k) (omega arith) (omega arith)) ∙ none_at p 1 (n - 1) (n - k) none (omega arith) (omega arith)) in absurd (cc))
 ] refl
 
 -- two tests agree on the range

@@ -1,11 +1,16 @@
 -- A walk along a line of sight, over a list of cells: the crossings of the line, as the crate's own functions
 -- find them. No public clause cites it. The line's two coordinates are a leading one, at whose whole steps
 -- the line is tested, and the one at its side.
-use Rattle.std.specs.Prelude.{◌≡◌, ℕ, ◌+◌, ◌-◌, ◌*◌, ◌/◌, ◌%◌, ◌<◌, ◌≤◌, Bool, false, ◌==◌, if◌then◌else◌, ℤ, pos, negsuc, ◌≤ℤ◌, ◌+ℤ◌, ◌*ℤ◌, int_lt, List, length, Option, None, Some, option_map, option_and_then, slice_index_or, max}
+use Rattle.std.specs.Prelude.{◌≡◌, ℕ, ◌+◌, ◌-◌, ◌*◌, ◌/◌, ◌%◌, ◌<◌, ◌≤◌, Bool, false, not, ◌&&◌, ◌==◌, if◌then◌else◌, ℤ, pos, negsuc, ◌≤ℤ◌, ◌+ℤ◌, ◌*ℤ◌, int_lt, List, length, Option, None, Some, option_map, option_and_then, slice_index_or, max}
 use Rattle.std.specs.Int.{abs_diff}
 use Rattle.std.specs.List.{list_any, range_with_len}
 use Rattle.std.specs.Option.{option_map_or}
-use Rattle.sight.specs.Sight.{toward, sight}
+use Rattle.ascii_grid.specs.Raster.{Terrain}
+use Rattle.ascii_grid.specs.Filled.{height_of}
+use Rattle.ascii_grid.specs.declared.place.Place.{Place}
+use Rattle.sight.specs.Sight.{toward, sight, is_seen, place_of}
+use Rattle.sight.specs.declared.observer.Observer.{Observer}
+use Rattle.sight.specs.declared.line.Sightlines.{Sightlines}
 use Rattle.sight.specs.declared.walk.Axis.{Axis}
 use Rattle.sight.specs.declared.walk.Sightline.{Sightline}
 use Rattle.sight.specs.declared.walk.Step.{Step}
@@ -51,6 +56,19 @@ step_range_blocks cells l first count =
 abbrev pub walk_blocks : List (Option ℤ) → Sightline → Bool
 walk_blocks cells l = step_range_blocks cells l 1 (steps_of l - 1)
 
+-- The coordinates of a line between two places, and the line over each of them as the leading one.
+abbrev pub columns_of : Place → Place → Axis
+columns_of p q = record { from = p.col; to = q.col; stride = 1 }
+
+abbrev pub rows_of : Terrain → Place → Place → Axis
+rows_of t p q = record { from = p.row; to = q.row; stride = t.cols }
+
+abbrev pub over_columns : Terrain → Place → Place → ℤ → ℤ → Sightline
+over_columns t p q e f = record { lead = columns_of p q; side = rows_of t p q; from_level = e; to_level = f }
+
+abbrev pub over_rows : Terrain → Place → Place → ℤ → ℤ → Sightline
+over_rows t p q e f = record { lead = rows_of t p q; side = columns_of p q; from_level = e; to_level = f }
+
 -- The cells between the two ends are in the list.
 abbrev pub IsOver : List (Option ℤ) → Axis → Axis → Type 0
 IsOver cells lead side = max lead.from lead.to * lead.stride + max side.from side.to * side.stride < length cells
@@ -71,3 +89,13 @@ pub record IsAt (l : Sightline) (k : ℕ) (s : Step) : Type 0 where
   pub whole : s.whole ≡ whole_at l.side (steps_of l) k
   pub part : s.part ≡ part_at l.side (steps_of l) k
   pub sight : s.sight ≡ sight l.from_level l.to_level (steps_of l) k
+
+-- The two lines from a target to an observer, which sees it exactly where neither is blocked.
+pub record AreSightlines (t : Terrain) (o : Observer) (q : Place) (target radius : ℕ) (lines : Sightlines) : Type 0 where
+  pub columns : lines.columns ≡ over_columns t q (place_of o) (height_of t q +ℤ pos target) (height_of t (place_of o) +ℤ pos o.eye)
+  pub rows : lines.rows ≡ over_rows t q (place_of o) (height_of t q +ℤ pos target) (height_of t (place_of o) +ℤ pos o.eye)
+  pub small_columns : IsSightline lines.columns
+  pub small_rows : IsSightline lines.rows
+  pub columns_inside : IsOver t.cells lines.columns.lead lines.columns.side
+  pub rows_inside : IsOver t.cells lines.rows.lead lines.rows.side
+  pub seen : is_seen t o q target radius ≡ (not (walk_blocks t.cells lines.columns) && not (walk_blocks t.cells lines.rows))

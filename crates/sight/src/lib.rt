@@ -14,6 +14,7 @@ mod passing;
 #[cfg(test)]
 mod tests;
 mod tile;
+mod tops;
 pub mod viewing;
 mod walk;
 
