@@ -1,5 +1,5 @@
 -- The two walks of a line of sight are over its crossings with the columns and with the rows.
-use Rattle.std.proofs.Common.{arith, refl, sym, ap, ◌∙◌, ◌≡◌, ◌+◌, ◌-◌, ◌*◌, ◌<◌, ◌≤◌, ℕ, ℤ, pos, ◌+ℤ◌, true, not, ◌&&◌, Option, None, Some, get_or, length, max, inl, inr}
+use Rattle.std.proofs.Common.{arith, refl, sym, ap, ◌∙◌, ◌≡◌, ◌+◌, ◌-◌, ◌*◌, ◌<◌, ◌≤◌, ℕ, ℤ, Option, None, get_or, length, max, inl, inr}
 use Rattle.std.specs.Int.{abs_diff}
 use Rattle.std.proofs.lemmas.Bool.{cases_lt}
 use Rattle.std.proofs.lemmas.Nat.{mul-add-lt}
@@ -7,10 +7,8 @@ use Rattle.ascii_grid.specs.Raster.{Terrain}
 use Rattle.ascii_grid.specs.Neighbours.{IsInside, height_at}
 use Rattle.ascii_grid.specs.declared.place.Place.{Place}
 use Rattle.ascii_grid.proofs.Places.{entry-inside}
-use Rattle.sight.specs.Sight.{sight, blocks, is_near, is_seen, place_of, column_crossing, row_crossing, column_blocks, row_blocks}
-use Rattle.sight.specs.Walk.{whole_at, part_at, index_at, is_above, step_blocks, walk_blocks, IsOver}
-use Rattle.sight.specs.declared.walk.Axis.{Axis}
-use Rattle.sight.specs.declared.observer.Observer.{Observer}
+use Rattle.sight.specs.Sight.{sight, blocks, column_crossing, row_crossing, column_blocks, row_blocks}
+use Rattle.sight.specs.Walk.{whole_at, part_at, index_at, is_above, step_blocks, walk_blocks, columns_of, rows_of, over_columns, over_rows, IsOver}
 use Rattle.sight.proofs.Steps.{whole_le, whole_lt}
 use Rattle.sight.proofs.Ranges.{any_same}
 
@@ -22,14 +20,8 @@ above_same near near' far far' v w z e same =
       | inr none ↦ let w_is : w ≡ 0 = omega arith in rw (e, w_is) refl
     ]
 
-abbrev pub columns_of : Place → Place → Axis
-columns_of p q = record { from = p.col; to = q.col; stride = 1 }
-
-abbrev pub rows_of : Terrain → Place → Place → Axis
-rows_of t p q = record { from = p.row; to = q.row; stride = t.cols }
-
 -- the height at a place whose index is told
-height_is : (t : Terrain) (r c i : ℕ) → r < t.rows → c < t.cols → i ≡ r * t.cols + c → height_at t (record { row = r; col = c }) ≡ get_or t.cells i None
+pub height_is : (t : Terrain) (r c i : ℕ) → r < t.rows → c < t.cols → i ≡ r * t.cols + c → height_at t (record { row = r; col = c }) ≡ get_or t.cells i None
 height_is t r c i a b e = entry-inside t.cols t.rows t.cells (record { row = r; col = c }) a b ∙ ap (λ n. get_or t.cells n None) (sym e)
 
 column_step : (t : Terrain) (p q : Place) (e f : ℤ) (k : ℕ) → IsInside t p → IsInside t q → 1 ≤ k → k < 1 + (abs_diff p.col q.col - 1)
@@ -62,27 +54,15 @@ row_step t p q e f k inside_p inside_q low high =
     λ some. height_is t row (col + 1) (i + 1) row_in (omega (arith, whole_lt (columns_of p q) n k (omega arith) (omega arith) some)) (omega arith) in
     above_same _ _ _ _ (n - m) m (sight e f n k) near far
 
-pub column_blocks-walk : (t : Terrain) (p q : Place) (e f : ℤ) → IsInside t p → IsInside t q → column_blocks t p q e f ≡ walk_blocks t.cells (columns_of p q) (rows_of t p q) e f
+pub column_blocks-walk : (t : Terrain) (p q : Place) (e f : ℤ) → IsInside t p → IsInside t q → column_blocks t p q e f ≡ walk_blocks t.cells (over_columns t p q e f)
 column_blocks-walk t p q e f a b = let n = abs_diff p.col q.col in any_same _ _ 1 (n - 1) (λ k low high. column_step t p q e f k a b low high)
 
-pub row_blocks-walk : (t : Terrain) (p q : Place) (e f : ℤ) → IsInside t p → IsInside t q → row_blocks t p q e f ≡ walk_blocks t.cells (rows_of t p q) (columns_of p q) e f
+pub row_blocks-walk : (t : Terrain) (p q : Place) (e f : ℤ) → IsInside t p → IsInside t q → row_blocks t p q e f ≡ walk_blocks t.cells (over_rows t p q e f)
 row_blocks-walk t p q e f a b = let n = abs_diff p.row q.row in any_same _ _ 1 (n - 1) (λ k low high. row_step t p q e f k a b low high)
 
 -- both walks stay in the list
-pub over_columns : (t : Terrain) (p q : Place) → length t.cells ≡ t.cols * t.rows → IsInside t p → IsInside t q → IsOver t.cells (columns_of p q) (rows_of t p q)
-over_columns t p q size a b = omega (arith, size, mul-add-lt (max p.row q.row) t.cols (max p.col q.col) t.rows (omega arith) (omega arith))
+pub columns_in_list : (t : Terrain) (p q : Place) → length t.cells ≡ t.cols * t.rows → IsInside t p → IsInside t q → IsOver t.cells (columns_of p q) (rows_of t p q)
+columns_in_list t p q size a b = omega (arith, size, mul-add-lt (max p.row q.row) t.cols (max p.col q.col) t.rows (omega arith) (omega arith))
 
-pub over_rows : (t : Terrain) (p q : Place) → length t.cells ≡ t.cols * t.rows → IsInside t p → IsInside t q → IsOver t.cells (rows_of t p q) (columns_of p q)
-over_rows t p q size a b = omega (arith, size, mul-add-lt (max p.row q.row) t.cols (max p.col q.col) t.rows (omega arith) (omega arith))
-
--- what is seen, once both ends have heights and are near each other
-pub seen_is : (t : Terrain) (o : Observer) (q : Place) (target radius : ℕ) (from to : ℤ) → IsInside t (place_of o) → IsInside t q
-    → height_at t (place_of o) ≡ Some from → height_at t q ≡ Some to → is_near (place_of o) q radius ≡ true
-    → let columns = columns_of (place_of o) q in let rows = rows_of t (place_of o) q in let e = from +ℤ pos o.eye in let f = to +ℤ pos target in
-    is_seen t o q target radius ≡ (not (walk_blocks t.cells columns rows e f) && not (walk_blocks t.cells rows columns e f))
-seen_is t o q target radius from to a b from_is to_is near =
-    let e = from +ℤ pos o.eye in
-    let f = to +ℤ pos target in
-    let cs = column_blocks-walk t (place_of o) q e f a b in
-    let rs = row_blocks-walk t (place_of o) q e f a b in
-    rw (from_is, to_is, near, cs, rs) refl
+pub rows_in_list : (t : Terrain) (p q : Place) → length t.cells ≡ t.cols * t.rows → IsInside t p → IsInside t q → IsOver t.cells (rows_of t p q) (columns_of p q)
+rows_in_list t p q size a b = omega (arith, size, mul-add-lt (max p.row q.row) t.cols (max p.col q.col) t.rows (omega arith) (omega arith))

@@ -41,8 +41,14 @@ sight_bounded e f n k p q h l = bounded e f (n - k) k p q (omega arith) (omega a
 fits : (z : ℤ) → negsuc 35184372088831 ≤ℤ z → z ≤ℤ pos 35184372088832 → FitsSigned w64 z
 fits z low high = omega (arith, ints)
 
-pub start_fits : (e f : ℤ) (n : ℕ) → IsLevel e → IsLevel f → n ≤ 4096 → FitsSigned w64 (e *ℤ pos n)
-start_fits e f n p q h = let is = sight_bounded e f n 0 p q (omega arith) h in fits (e *ℤ pos n) (rw (sight_none e f n) at is.0) (rw (sight_none e f n) at is.1)
+pub level_fits : (e : ℤ) → IsLevel e → FitsSigned w64 e
+level_fits e p = omega (arith, ints)
+
+pub sight_fits : (e f : ℤ) (n k : ℕ) → IsLevel e → IsLevel f → k ≤ n → n ≤ 4096 → FitsSigned w64 (sight e f n k)
+sight_fits e f n k p q h l = let is = sight_bounded e f n k p q h l in fits (sight e f n k) is.0 is.1
+
+pub scaled_fits : (e : ℤ) (n : ℕ) → IsLevel e → n ≤ 4096 → FitsSigned w64 (e *ℤ pos n)
+scaled_fits e n p h = rw (← sight_none e e n) (sight_fits e e n 0 p p (omega arith) h)
 
 pub rise_fits : (e f : ℤ) → IsLevel e → IsLevel f → FitsSigned w64 (f -ℤ e)
 rise_fits e f p q = omega (arith, ints)
@@ -51,14 +57,12 @@ pub more_fits : (e f : ℤ) (n k : ℕ) → IsLevel e → IsLevel f → k < n �
 more_fits e f n k p q h l = let is = sight_bounded e f n (k + 1) p q (omega arith) l in fits (sight e f n k +ℤ (f -ℤ e)) (rw (sight_more e f n k h) at is.0) (rw (sight_more e f n k h) at is.1)
 
 -- the next level, as the walk adds it up
-pub next_level : (e f : ℤ) (n k bits : ℕ) → FitsSigned w64 e → FitsSigned w64 f → IsLevel e → IsLevel f → k < n → n ≤ 4096
-    → to_z w64 bits ≡ sight (to_z w64 (of_z w64 e)) (to_z w64 (of_z w64 f)) n k
+pub next_level : (e f : ℤ) (n k bits : ℕ) → IsLevel e → IsLevel f → k < n → n ≤ 4096 → to_z w64 bits ≡ sight e f n k
     → let sum = to_z w64 bits +ℤ to_z w64 (of_z w64 (to_z w64 (of_z w64 f) -ℤ to_z w64 (of_z w64 e))) in FitsSigned w64 sum × (to_z w64 (of_z w64 sum) ≡ sight e f n (k + 1))
-next_level e f n k bits e_fits f_fits p q h l was =
-    let from = to_z-of_z w64 e e_fits in
-    let to = to_z-of_z w64 f f_fits in
+next_level e f n k bits p q h l was =
+    let from = to_z-of_z w64 e (level_fits e p) in
+    let to = to_z-of_z w64 f (level_fits f q) in
     let rise_is = to_z-of_z w64 (f -ℤ e) (rise_fits e f p q) in
-    let level : to_z w64 bits ≡ sight e f n k = rw (from, to) at was in
     let sum_fits = more_fits e f n k p q h l in
     let sum_is = to_z-of_z w64 (sight e f n k +ℤ (f -ℤ e)) sum_fits in
-    (rw (from, to, rise_is, level) sum_fits, rw (from, to, rise_is, level) (sum_is ∙ sym (sight_more e f n k h)))
+    (rw (from, to, rise_is, was) sum_fits, rw (from, to, rise_is, was) (sum_is ∙ sym (sight_more e f n k h)))

@@ -1,7 +1,7 @@
 -- A test of some number of a range.
-use Rattle.std.proofs.Common.{arith, refl, sym, ap, ◌∙◌, ◌≡◌, ◌+◌, ◌<◌, ◌≤◌, ℕ, zero, suc, Bool, true, false, [], ◌∷◌, ◌++◌, get_or}
+use Rattle.std.proofs.Common.{arith, refl, sym, ap, ◌∙◌, ◌≡◌, ◌+◌, ◌-◌, ◌<◌, ◌≤◌, ℕ, zero, suc, Bool, true, false, [], ◌∷◌, ◌++◌, get_or, inl, inr}
 use Rattle.std.specs.List.{list_any, range_with_len}
-use Rattle.std.proofs.lemmas.Bool.{or_from}
+use Rattle.std.proofs.lemmas.Bool.{or_from, cases_lt}
 use Rattle.std.proofs.lemmas.List.Folds.{list_any-append, list_any_at}
 use Rattle.std.proofs.lemmas.List.FromFn.{length-range_with_len, get_or-range_with_len}
 
@@ -14,18 +14,56 @@ range_more a (suc n) =
     rw (e, count) (ap (λ l. a ∷ l) (range_more (a + 1) n))
 
 -- none passes, nor does the next
-pub any_more : (p : ℕ → Bool) (n : ℕ) → list_any p (range_with_len 1 n) ≡ false → p (n + 1) ≡ false → list_any p (range_with_len 1 (n + 1)) ≡ false
-any_more p n none next =
-    let e : 1 + n ≡ n + 1 = omega arith in
-    let last : p (1 + n) ≡ false = ap p e ∙ next in
-    ap (list_any p) (sym (range_more 1 n)) ∙ list_any-append p (range_with_len 1 n) ((1 + n) ∷ []) ∙ or_from _ _ none (or_from _ _ last refl)
+pub any_more : (p : ℕ → Bool) (a n : ℕ) → list_any p (range_with_len a n) ≡ false → p (a + n) ≡ false → list_any p (range_with_len a (n + 1)) ≡ false
+any_more p a n none next =
+    ap (list_any p) (sym (range_more a n)) ∙ list_any-append p (range_with_len a n) ((a + n) ∷ []) ∙ or_from _ _ none (or_from _ _ next refl)
 
 -- one passes
-pub any_at : (p : ℕ → Bool) (n k : ℕ) → k < n → p (k + 1) ≡ true → list_any p (range_with_len 1 n) ≡ true
-any_at p n k h here =
-    let e : 1 + k ≡ k + 1 = omega arith in
-    let at : p (get_or (range_with_len 1 n) k 0) ≡ true = ap p (get_or-range_with_len 1 n k 0 h ∙ e) ∙ here in
-    list_any_at p (range_with_len 1 n) k 0 (omega (arith, length-range_with_len 1 n)) at
+pub any_at : (p : ℕ → Bool) (a n k : ℕ) → k < n → p (a + k) ≡ true → list_any p (range_with_len a n) ≡ true
+any_at p a n k h here =
+    let at : p (get_or (range_with_len a n) k 0) ≡ true = ap p (get_or-range_with_len a n k 0 h) ∙ here in
+    list_any_at p (range_with_len a n) k 0 (omega (arith, length-range_with_len a n)) at
+
+not_true : (b : Bool) → (b ≡ true → ⊥) → b ≡ false
+not_true true h = absurd (h refl)
+not_true false h = refl
+
+not_false : (b : Bool) → (b ≡ false → ⊥) → b ≡ true
+not_false true h = refl
+not_false false h = absurd (h refl)
+
+-- none passes, one by one
+pub none_at : (p : ℕ → Bool) (a n k : ℕ) → list_any p (range_with_len a n) ≡ false → a ≤ k → k < a + n → p k ≡ false
+none_at p a n k none low high =
+    let at : a + (k - a) ≡ k = omega arith in
+    not_true (p k) (λ yes. absurd (let any = any_at p a n (k - a) (omega arith) (ap p at ∙ yes) in cc))
+
+pub none_from : (p : ℕ → Bool) (a n : ℕ) → ((k : ℕ) → a ≤ k → k < a + n → p k ≡ false) → list_any p (range_with_len a n) ≡ false
+none_from p a zero none = refl
+none_from p a (suc n) none = or_from _ _ (none a (omega arith) (omega arith)) (none_from p (a + 1) n (λ k low high. none k (omega arith) (omega arith)))
+
+-- one range after the other
+pub none_joined : (p : ℕ → Bool) (a m b n : ℕ) → b ≡ a + m → list_any p (range_with_len a m) ≡ false → list_any p (range_with_len b n) ≡ false → list_any p (range_with_len a (m + n)) ≡ false
+none_joined p a m b n e one two =
+    none_from p a (m + n) (λ k low high. elim (cases_lt k b) [
+      | inl before ↦ none_at p a m k one low (omega arith)
+      | inr after ↦ none_at p b n k two after (omega arith)
+    ])
+
+-- one passes in a part of the range
+pub any_within : (p : ℕ → Bool) (a m b n : ℕ) → a ≤ b → b + n ≤ a + m → list_any p (range_with_len b n) ≡ true → list_any p (range_with_len a m) ≡ true
+any_within p a m b n low high any = elim (list_any p (range_with_len a m)) as (λ v. list_any p (range_with_len a m) ≡ v → v ≡ true) [
+  | true ↦ λ e. refl
+  | false ↦ λ e. let none = none_from p b n (λ k above below. none_at p a m k e (omega arith) (omega arith)) in absurd (cc)
+] refl
+
+-- a test of what is as far from the other end
+pub any_back : (p q : ℕ → Bool) (n : ℕ) → ((k : ℕ) → 1 ≤ k → k < n → p k ≡ q (n - k)) → list_any p (range_with_len 1 (n - 1)) ≡ list_any q (range_with_len 1 (n - 1))
+any_back p q n same = elim (list_any q (range_with_len 1 (n - 1))) as (λ v. list_any q (range_with_len 1 (n - 1)) ≡ v → list_any p (range_with_len 1 (n - 1)) ≡ v) [
+  | false ↦ λ e. none_from p 1 (n - 1) (λ k low high. same k low (omega arith) ∙ none_at q 1 (n - 1) (n - k) e (omega arith) (omega arith))
+  | true ↦ λ e. not_false (list_any p (range_with_len 1 (n - 1))) (λ none. let never = none_from q 1 (n - 1) (λ k low high. let back : n - (n - k) ≡ k = omega arith in
+      ap q (sym back) ∙ sym (same (n - k) (omega arith) (omega arith)) ∙ none_at p 1 (n - 1) (n - k) none (omega arith) (omega arith)) in absurd (cc))
+] refl
 
 -- two tests agree on the range
 pub any_same : (p q : ℕ → Bool) (a n : ℕ) → ((k : ℕ) → a ≤ k → k < a + n → p k ≡ q k) → list_any p (range_with_len a n) ≡ list_any q (range_with_len a n)

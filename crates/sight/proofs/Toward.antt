@@ -79,6 +79,13 @@ lead_whole a b n k e some h =
       | inr high ↦ rw (lead_down a b n k (omega arith) h) (mod-mul-add (b + (n - k)) n 0 some)
     ]
 
+-- the whole cell, counted from the one end
+pub lead_up_is : (a b n k : ℕ) → b ≡ a + n → 0 < n → k ≤ n → toward a b n k / n ≡ a + k
+lead_up_is a b n k e some h = rw (lead_up a b n k e h) (div-mul-add (a + k) n 0 some)
+
+pub lead_down_is : (a b n k : ℕ) → a ≡ b + n → 0 < n → k ≤ n → toward a b n k / n ≡ b + (n - k)
+lead_down_is a b n k e some h = rw (lead_down a b n k e h) (div-mul-add (b + (n - k)) n 0 some)
+
 pub lead_part : (a b n ahead behind part : ℕ) → n ≡ abs_diff a b → b + behind * n ≡ a + ahead * n + part → part < n → part ≡ 0
 lead_part a b n ahead behind part e gains below =
     elim (cases_lt a b) [

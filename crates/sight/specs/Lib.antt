@@ -1,6 +1,7 @@
 pub mod Sight
 pub mod Walk
 pub mod Pace
+pub mod Blocks
 pub mod Refusals
 pub mod Viewed
 pub mod Laws

@@ -1,12 +1,19 @@
 -- A walk along a line of sight, over a list of cells: the crossings of the line, as the crate's own functions
 -- find them. No public clause cites it. The line's two coordinates are a leading one, at whose whole steps
 -- the line is tested, and the one at its side.
-use Rattle.std.specs.Prelude.{ℕ, ◌+◌, ◌-◌, ◌*◌, ◌/◌, ◌%◌, ◌<◌, Bool, false, ◌==◌, if◌then◌else◌, ℤ, pos, negsuc, ◌≤ℤ◌, ◌+ℤ◌, ◌*ℤ◌, int_lt, List, length, Option, None, Some, option_map, option_and_then, slice_index_or, max}
+use Rattle.std.specs.Prelude.{◌≡◌, ℕ, ◌+◌, ◌-◌, ◌*◌, ◌/◌, ◌%◌, ◌<◌, ◌≤◌, Bool, false, not, ◌&&◌, ◌==◌, if◌then◌else◌, ℤ, pos, negsuc, ◌≤ℤ◌, ◌+ℤ◌, ◌*ℤ◌, int_lt, List, length, Option, None, Some, option_map, option_and_then, slice_index_or, max}
 use Rattle.std.specs.Int.{abs_diff}
 use Rattle.std.specs.List.{list_any, range_with_len}
 use Rattle.std.specs.Option.{option_map_or}
-use Rattle.sight.specs.Sight.{toward, sight}
+use Rattle.ascii_grid.specs.Raster.{Terrain}
+use Rattle.ascii_grid.specs.Filled.{height_of}
+use Rattle.ascii_grid.specs.declared.place.Place.{Place}
+use Rattle.sight.specs.Sight.{toward, sight, is_seen, place_of}
+use Rattle.sight.specs.declared.observer.Observer.{Observer}
+use Rattle.sight.specs.declared.line.Sightlines.{Sightlines}
 use Rattle.sight.specs.declared.walk.Axis.{Axis}
+use Rattle.sight.specs.declared.walk.Sightline.{Sightline}
+use Rattle.sight.specs.declared.walk.Step.{Step}
 
 -- Where the line is along an axis at step k of n: the whole cell, and n-ths of a cell past it.
 abbrev pub whole_at : Axis → ℕ → ℕ → ℕ
@@ -36,11 +43,31 @@ step_blocks cells lead side e f n k =
     let m = part_at side n k in
     is_above (slice_index_or cells i None) (n - m) (slice_index_or cells (i + side.stride) None) m (sight e f n k)
 
--- A step of the walk blocks.
-abbrev pub walk_blocks : List (Option ℤ) → Axis → Axis → ℤ → ℤ → Bool
-walk_blocks cells lead side e f =
-    let n = abs_diff lead.from lead.to in
-    list_any (λ k. step_blocks cells lead side e f n k) (range_with_len 1 (n - 1))
+-- How many steps a line has.
+abbrev pub steps_of : Sightline → ℕ
+steps_of l = abs_diff l.lead.from l.lead.to
+
+-- One of `count` steps from the first on blocks.
+abbrev pub step_range_blocks : List (Option ℤ) → Sightline → ℕ → ℕ → Bool
+step_range_blocks cells l first count =
+    list_any (λ k. step_blocks cells l.lead l.side l.from_level l.to_level (steps_of l) k) (range_with_len first count)
+
+-- A step between the two ends blocks.
+abbrev pub walk_blocks : List (Option ℤ) → Sightline → Bool
+walk_blocks cells l = step_range_blocks cells l 1 (steps_of l - 1)
+
+-- The coordinates of a line between two places, and the line over each of them as the leading one.
+abbrev pub columns_of : Place → Place → Axis
+columns_of p q = record { from = p.col; to = q.col; stride = 1 }
+
+abbrev pub rows_of : Terrain → Place → Place → Axis
+rows_of t p q = record { from = p.row; to = q.row; stride = t.cols }
+
+abbrev pub over_columns : Terrain → Place → Place → ℤ → ℤ → Sightline
+over_columns t p q e f = record { lead = columns_of p q; side = rows_of t p q; from_level = e; to_level = f }
+
+abbrev pub over_rows : Terrain → Place → Place → ℤ → ℤ → Sightline
+over_rows t p q e f = record { lead = rows_of t p q; side = columns_of p q; from_level = e; to_level = f }
 
 -- The cells between the two ends are in the list.
 abbrev pub IsOver : List (Option ℤ) → Axis → Axis → Type 0
@@ -49,3 +76,26 @@ IsOver cells lead side = max lead.from lead.to * lead.stride + max side.from sid
 -- A height with an eye or a target on it fits: it is well within 2^33.
 abbrev pub IsLevel : ℤ → Type 0
 IsLevel z = (negsuc 4294967295 ≤ℤ z) × (z ≤ℤ pos 4294967296)
+
+-- The numbers of a line are small enough to walk along it.
+pub record IsSightline (l : Sightline) : Type 0 where
+  pub ends : (l.lead.from < 4096) × (l.lead.to < 4096) × (l.side.from < 4096) × (l.side.to < 4096)
+  pub strides : (l.lead.stride ≤ 4096) × (l.side.stride ≤ 4096)
+  pub from_level : IsLevel l.from_level
+  pub to_level : IsLevel l.to_level
+
+-- The line is there at step k.
+pub record IsAt (l : Sightline) (k : ℕ) (s : Step) : Type 0 where
+  pub whole : s.whole ≡ whole_at l.side (steps_of l) k
+  pub part : s.part ≡ part_at l.side (steps_of l) k
+  pub sight : s.sight ≡ sight l.from_level l.to_level (steps_of l) k
+
+-- The two lines from a target to an observer, which sees it exactly where neither is blocked.
+pub record AreSightlines (t : Terrain) (o : Observer) (q : Place) (target radius : ℕ) (lines : Sightlines) : Type 0 where
+  pub columns : lines.columns ≡ over_columns t q (place_of o) (height_of t q +ℤ pos target) (height_of t (place_of o) +ℤ pos o.eye)
+  pub rows : lines.rows ≡ over_rows t q (place_of o) (height_of t q +ℤ pos target) (height_of t (place_of o) +ℤ pos o.eye)
+  pub small_columns : IsSightline lines.columns
+  pub small_rows : IsSightline lines.rows
+  pub columns_inside : IsOver t.cells lines.columns.lead lines.columns.side
+  pub rows_inside : IsOver t.cells lines.rows.lead lines.rows.side
+  pub seen : is_seen t o q target radius ≡ (not (walk_blocks t.cells lines.columns) && not (walk_blocks t.cells lines.rows))

@@ -10,9 +10,11 @@ mod judging;
 pub mod laws;
 pub mod line;
 pub mod observer;
+mod passing;
 #[cfg(test)]
 mod tests;
 mod tile;
+mod tops;
 pub mod viewing;
 mod walk;
 

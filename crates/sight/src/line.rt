@@ -1,11 +1,14 @@
 // One line of sight.
-ghost use Rattle.std.specs.Prelude.{◌≡◌, ◌<◌, ◌≤◌, pos, ◌+ℤ◌};
+ghost use Rattle.std.specs.Prelude.{◌≡◌, ◌<◌, ◌≤◌, pos, ◌+ℤ◌, false, MatchOption};
 ghost use Rattle.ascii_grid.specs.Neighbours.{IsInside};
 ghost use Rattle.sight.specs.Sight.{highest_eye, longest_radius, is_near, is_seen, place_of};
-ghost use Rattle.sight.specs.Walk.{IsLevel};
+ghost use Rattle.sight.specs.Walk.{IsLevel, AreSightlines};
+ghost use Rattle.sight.specs.Blocks.{AreTops};
 
 use crate::observer::Observer;
-use crate::walk::{Axis, is_blocked};
+use crate::passing::{BlockStrides, is_blocked_past_blocks};
+use crate::tops::blocks_in;
+use crate::walk::{Axis, Sightline, is_blocked};
 use ascii_grid::{Grid, Height, Place};
 
 /// Whether the target is not farther than the radius.
@@ -31,6 +34,70 @@ fn level(height: Height, above: u32) -> i64
     height as i64 + above as i64
 }
 
+/// The two lines of sight of an observer and a target: over the columns between them, and over the
+/// rows.
+#[derive(Clone, Copy)]
+pub struct Sightlines {
+    pub columns: Sightline,
+    pub rows: Sightline,
+}
+
+/// The lines from a target to an observer, or None where one of the two has no data or the target
+/// is out of reach.
+#[inline(always)]
+fn lines_of_sight(
+    grid: &Grid,
+    observer: &Observer,
+    target: Place,
+    target_height: u32,
+    radius: u32,
+) -> Option<Sightlines>
+    requires observer { IsInside grid.now.terrain (place_of observer.now) }
+    requires target { IsInside grid.now.terrain target }
+    requires eye { observer.now.eye ≤ highest_eye }
+    requires height { target_height ≤ highest_eye }
+    requires radius { (1 ≤ radius) × (radius ≤ longest_radius) }
+    ensures { MatchOption result (is_seen grid.now.terrain observer.now target target_height radius ≡ false)
+        (λ lines. AreSightlines grid.now.terrain observer.now target target_height radius lines) }
+{
+    let stride = grid.cols() as usize;
+    let from = Place {
+        row: observer.row,
+        col: observer.col,
+    };
+    if !is_in_reach(from, target, radius) {
+        return None;
+    }
+    let from_height = grid.at(from)?;
+    let to_height = grid.at(target)?;
+    let from_level = level(from_height, observer.eye);
+    let to_level = level(to_height, target_height);
+    let rows = Axis {
+        from: target.row,
+        to: from.row,
+        stride,
+    };
+    let columns = Axis {
+        from: target.col,
+        to: from.col,
+        stride: 1,
+    };
+    Some(Sightlines {
+        columns: Sightline {
+            lead: columns,
+            side: rows,
+            from_level: to_level,
+            to_level: from_level,
+        },
+        rows: Sightline {
+            lead: rows,
+            side: columns,
+            from_level: to_level,
+            to_level: from_level,
+        },
+    })
+}
+
 /// Whether an observer sees a place, from the eye to `target_height` above the place's ground.
 ///
 /// Both are data cells, the target is at most `radius` cells away, and at no crossing of the line
@@ -51,34 +118,50 @@ pub fn sees(
     requires radius { (1 ≤ radius) × (radius ≤ longest_radius) }
     ensures { result ≡ is_seen grid.now.terrain observer.now target target_height radius }
 {
+    let Some(lines) = lines_of_sight(grid, observer, target, target_height, radius) else {
+        return false;
+    };
     let cells = grid.cells();
-    let from = Place {
-        row: observer.row,
-        col: observer.col,
-    };
-    if !is_in_reach(from, target, radius) {
+    if is_blocked(cells, lines.columns) {
         return false;
     }
-    let Some(from_height) = grid.at(from) else {
+    !is_blocked(cells, lines.rows)
+}
+
+/// As `sees`, by passing over the blocks of cells that the line of sight is above. The blocks'
+/// greatest heights are `tops`.
+#[inline(always)]
+pub fn sees_past_blocks(
+    grid: &Grid,
+    tops: &[Option<Height>],
+    observer: &Observer,
+    target: Place,
+    target_height: u32,
+    radius: u32,
+) -> bool
+    requires tops { AreTops grid.now.terrain tops.now }
+    requires observer { IsInside grid.now.terrain (place_of observer.now) }
+    requires target { IsInside grid.now.terrain target }
+    requires eye { observer.now.eye ≤ highest_eye }
+    requires height { target_height ≤ highest_eye }
+    requires radius { (1 ≤ radius) × (radius ≤ longest_radius) }
+    ensures { result ≡ is_seen grid.now.terrain observer.now target target_height radius }
+{
+    let Some(lines) = lines_of_sight(grid, observer, target, target_height, radius) else {
         return false;
     };
-    let Some(to_height) = grid.at(target) else {
-        return false;
+    let cells = grid.cells();
+    let wide = blocks_in(grid.cols());
+    let along_columns = BlockStrides {
+        lead: 1,
+        side: wide,
     };
-    let from_level = level(from_height, observer.eye);
-    let to_level = level(to_height, target_height);
-    let rows = Axis {
-        from: from.row,
-        to: target.row,
-        stride: grid.cols() as usize,
+    let along_rows = BlockStrides {
+        lead: wide,
+        side: 1,
     };
-    let columns = Axis {
-        from: from.col,
-        to: target.col,
-        stride: 1,
-    };
-    if is_blocked(cells, columns, rows, from_level, to_level) {
+    if is_blocked_past_blocks(cells, tops, along_columns, lines.columns) {
         return false;
     }
-    !is_blocked(cells, rows, columns, from_level, to_level)
+    !is_blocked_past_blocks(cells, tops, along_rows, lines.rows)
 }

@@ -225,6 +225,99 @@ fn rough_land(rt: HostRuntime) {
     );
 }
 
+const ROUGH_COLS: u32 = 53;
+
+const ROUGH_ROWS: u32 = 37;
+
+/// Heights from 0 to 39 in some order that the seed gives, one cell in 23 without data.
+fn rough_heights(rt: &impl Abort, alloc: Global, seed: u32) -> String {
+    let mut text = String::new(alloc);
+    let mut state = seed;
+    for _ in 0..ROUGH_COLS * ROUGH_ROWS {
+        state = state.wrapping_mul(1_664_525).wrapping_add(1_013_904_223);
+        let word = state / 65_536;
+        let height = if word % 23 == 0 {
+            -9_999
+        } else {
+            (word % 40) as i32
+        };
+        let next = format!(in alloc; "{height} ").expect(rt, "a word");
+        text.push_str(next.as_str()).expect(rt, "a text");
+    }
+    text
+}
+
+/// Appends what `sees` says of a row.
+fn push_plain_row(
+    rt: &impl Abort,
+    land: &Grid,
+    observer: &Observer,
+    row: u32,
+    target_height: u32,
+    values: &mut Vec<Option<u32>>,
+) {
+    assert!(rt; row < land.rows());
+    assert!(rt; observer.row < land.rows());
+    assert!(rt; observer.col < land.cols());
+    assert!(rt; observer.eye <= 1_000_000);
+    assert!(rt; target_height <= 1_000_000);
+    for col in 0..land.cols() {
+        let place = Place { row, col };
+        let value = if land.at(place).is_none() {
+            None
+        } else {
+            Some(sees(land, observer, place, target_height, FARTHEST) as u32)
+        };
+        values.push(value).expect(rt, "a value");
+    }
+}
+
+/// The viewshed of one observer is what `sees` says of each cell.
+fn expect_plain<R: Abort + Threads + Wait + Sync>(
+    rt: &R,
+    alloc: Global,
+    land: &Grid,
+    observer: Observer,
+    target_height: u32,
+) {
+    let mut plain = Vec::new(alloc);
+    for row in 0..land.rows() {
+        push_plain_row(rt, land, &observer, row, target_height, &mut plain);
+    }
+    let tiling = cut(rt, land, 20);
+    let seen = viewshed(
+        rt,
+        alloc,
+        land,
+        &[observer],
+        target_height,
+        FARTHEST,
+        &tiling,
+        2,
+        &NoGate,
+    );
+    let values = seen.expect(rt, "a viewshed");
+    assert!(rt;
+        values.as_slice() == plain.as_slice(),
+        "{observer:?} {target_height}"
+    );
+}
+
+#[test]
+fn as_by_the_plain_rule(rt: HostRuntime) {
+    let alloc = rt.alloc();
+    for seed in [1, 2, 3] {
+        let heights = rough_heights(&rt, alloc, seed);
+        let rough = land(&rt, alloc, ROUGH_COLS, ROUGH_ROWS, heights.as_str());
+        for row in 0..ROUGH_ROWS {
+            let place = Place { row, col: row };
+            if row < rough.rows() && row < rough.cols() && rough.at(place).is_some() {
+                expect_plain(&rt, alloc, &rough, observer(row, row, row * row), row % 8);
+            }
+        }
+    }
+}
+
 fn refusal<R: Abort + Threads + Wait + Sync>(
     rt: &R,
     alloc: Global,

@@ -3,11 +3,13 @@ ghost use Rattle.std.specs.Prelude.{◌≡◌, ◌+◌, ◌-◌, ◌<◌, ◌≤
 ghost use Rattle.ascii_grid.specs.Neighbours.{IsInside};
 ghost use Rattle.tiles.specs.Cutting.{Cuts};
 ghost use Rattle.sight.specs.Sight.{is_seen};
+ghost use Rattle.std.proofs.Props.{props};
+ghost use Rattle.sight.specs.Blocks.{AreTops};
 ghost use Rattle.sight.specs.Viewed.{value_at, row_places, IsFaultless};
 
-use crate::line::sees;
+use crate::line::sees_past_blocks;
 use crate::observer::Observer;
-use ascii_grid::{Grid, Place};
+use ascii_grid::{Grid, Height, Place};
 use std::alloc::{AllocError, AllocFailed, Global};
 use tile_jobs::{JobFault, Work};
 use tiles::Tiling;
@@ -16,11 +18,14 @@ use tiles::Tiling;
 #[derive(Drop)]
 pub struct Viewing<'a> {
     pub grid: &'a Grid,
+    /// The greatest heights of the grid's blocks.
+    pub tops: &'a [Option<Height>],
     pub observers: &'a [Observer],
     pub target_height: u32,
     pub radius: u32,
     pub tiling: &'a Tiling,
     ghost cut: { Cuts tiling.now grid.now.terrain },
+    ghost topped: { AreTops grid.now.terrain tops.now } by { Prim.hlevel props },
     ghost faultless: { IsFaultless grid.now.terrain observers.now target_height radius },
 }
 
@@ -34,7 +39,14 @@ impl<'a> Viewing<'a> {
     {
         let mut count = 0;
         for observer in self.observers {
-            if sees(self.grid, observer, place, self.target_height, self.radius) {
+            if sees_past_blocks(
+                self.grid,
+                self.tops,
+                observer,
+                place,
+                self.target_height,
+                self.radius,
+            ) {
                 count += 1;
             }
         }

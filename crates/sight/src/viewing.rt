@@ -9,12 +9,16 @@ use crate::fault::SightFault;
 use crate::judging::first_fault;
 use crate::observer::Observer;
 use crate::tile::Viewing;
+use crate::tops::block_tops;
 use ascii_grid::Grid;
 use std::alloc::Global;
 use std::sync::Wait;
 use std::thread::Threads;
 use tile_jobs::{Gate, JobFault, run_jobs};
 use tiles::Tiling;
+
+// Of `run_jobs`.
+const MOST_WORKERS: u32 = 64;
 
 /// The values of all tiles, put back.
 fn viewed<R: Threads + Wait + Sync, G: Gate + Sync>(
@@ -61,8 +65,15 @@ pub fn viewshed<R: Threads + Wait + Sync, G: Gate + Sync>(
     if let Some(fault) = first_fault(grid, observers, target_height, radius) {
         return Err(fault);
     }
+    if workers == 0 || workers > MOST_WORKERS {
+        return Err(SightFault::Jobs(JobFault::BadWorkers));
+    }
+    let Ok(tops) = block_tops(alloc, grid) else {
+        return Err(SightFault::Jobs(JobFault::Memory));
+    };
     let work = Viewing {
         grid,
+        tops: &tops,
         observers,
         target_height,
         radius,

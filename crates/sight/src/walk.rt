@@ -1,6 +1,7 @@
 // A walk along a line of sight, from crossing to crossing.
 ghost use Rattle.std.specs.Prelude.{◌≡◌, ◌^◌, ◌+◌, ◌-◌, ◌*◌, ◌<◌, ◌≤◌, ℤ, pos, negsuc, ◌+ℤ◌, ◌*ℤ◌, ◌≤ℤ◌, ◌<ℤ◌, length, slice_index_or, None, nat_lt, if◌then◌else◌, max};
-ghost use Rattle.sight.specs.Walk.{is_above, walk_blocks, IsOver, IsLevel};
+ghost use Rattle.std.specs.Int.{abs_diff};
+ghost use Rattle.sight.specs.Walk.{is_above, steps_of, whole_at, IsSightline, IsAt, IsOver, step_range_blocks, walk_blocks};
 ghost use Rattle.sight.specs.Pace.{IsPace, Gains};
 
 use ascii_grid::Height;
@@ -14,6 +15,68 @@ pub struct Axis {
     pub stride: usize,
 }
 
+/// A line of sight from one level to another, along two coordinates: a leading one, at whose whole
+/// steps the line is tested, and the one at its side.
+#[derive(Clone, Copy)]
+pub struct Sightline {
+    pub lead: Axis,
+    pub side: Axis,
+    pub from_level: i64,
+    pub to_level: i64,
+}
+
+/// Where a line is at one of its steps: its whole cell at the side, the part of a cell past it, and
+/// how high the sight is there. As many parts as the line has steps make a cell.
+#[derive(Clone, Copy)]
+pub struct Step {
+    pub whole: u32,
+    pub part: u32,
+    pub sight: i64,
+}
+
+impl Sightline {
+    /// From one end to the other.
+    #[inline(always)]
+    pub fn steps(self) -> u32
+        ensures { result ≡ steps_of self }
+    {
+        self.lead.from.abs_diff(self.lead.to)
+    }
+
+    /// The cell of the leading coordinate at a step.
+    #[inline(always)]
+    pub fn lead_at(self, step: u32) -> u32
+        requires line { IsSightline self }
+        requires some { 0 < steps_of self }
+        requires step { step ≤ steps_of self }
+        ensures { result ≡ whole_at self.lead (steps_of self) step }
+    {
+        if self.lead.from <= self.lead.to {
+            self.lead.from + step
+        } else {
+            self.lead.from - step
+        }
+    }
+
+    /// Where the line is at a step.
+    #[inline(always)]
+    pub fn at(self, step: u32) -> Step
+        requires line { IsSightline self }
+        requires some { 0 < steps_of self }
+        requires step { step ≤ steps_of self }
+        ensures { IsAt self step result }
+    {
+        let steps = self.steps();
+        let left = steps - step;
+        let parts = self.side.from * left + self.side.to * step;
+        Step {
+            whole: parts / steps,
+            part: parts % steps,
+            sight: self.from_level * left as i64 + self.to_level * step as i64,
+        }
+    }
+}
+
 /// What a coordinate gains at each of a number of equal steps: whole cells ahead or behind, and then
 /// some parts of a cell. As many parts as there are steps make a cell.
 #[derive(Clone, Copy)]
@@ -24,6 +87,26 @@ struct Gain {
 }
 
 impl Axis {
+    /// In as many steps as there are cells between the two ends.
+    fn whole_gain(self) -> Gain
+        requires { 0 < abs_diff self.from self.to }
+        ensures { Gains self (abs_diff self.from self.to) result.ahead result.behind result.part }
+    {
+        if self.from < self.to {
+            Gain {
+                ahead: 1,
+                behind: 0,
+                part: 0,
+            }
+        } else {
+            Gain {
+                ahead: 0,
+                behind: 1,
+                part: 0,
+            }
+        }
+    }
+
     fn gain(self, steps: u32) -> Gain
         requires steps { 0 < steps }
         requires ends { (self.from < 4096) × (self.to < 4096) }
@@ -50,7 +133,7 @@ impl Axis {
 
 /// At most 2^43 either way, so that two of them can be added.
 #[inline(always)]
-fn weighed(height: Height, weight: u32) -> i64
+pub fn weighed(height: Height, weight: u32) -> i64
     requires { weight ≤ 4096 }
     ensures value { result ≡ pos weight *ℤ height }
     ensures low { negsuc 8796093022207 ≤ℤ result }
@@ -90,7 +173,7 @@ fn is_higher(
 /// How a walk goes on: by how much the index of the near cell and the part past it grow at each of
 /// its steps.
 #[derive(Clone, Copy)]
-struct Pace {
+pub struct Pace {
     steps: u32,
     ahead: usize,
     behind: usize,
@@ -99,20 +182,23 @@ struct Pace {
 }
 
 impl Pace {
-    /// Of a walk in `steps` equal steps.
-    fn new(lead: Axis, side: Axis, steps: u32) -> Self
-        requires steps { (0 < steps) × (steps ≤ 4096) }
-        requires ends { (lead.from < 4096) × (lead.to < 4096) × (side.from < 4096) × (side.to < 4096) }
-        requires strides { (lead.stride ≤ 4096) × (side.stride ≤ 4096) }
-        ensures { IsPace lead side steps result }
+    /// Of a walk along a line.
+    #[inline(always)]
+    pub fn new(line: Sightline) -> Self
+        requires line { IsSightline line }
+        requires some { 0 < steps_of line }
+        ensures { IsPace line.lead line.side (steps_of line) result }
     {
-        let along = lead.gain(steps);
-        let across = side.gain(steps);
+        let steps = line.steps();
+        let along = line.lead.whole_gain();
+        let across = line.side.gain(steps);
         Pace {
             steps,
-            ahead: along.ahead as usize * lead.stride + across.ahead as usize * side.stride,
-            behind: along.behind as usize * lead.stride + across.behind as usize * side.stride,
-            beside: side.stride,
+            ahead: along.ahead as usize * line.lead.stride
+                + across.ahead as usize * line.side.stride,
+            behind: along.behind as usize * line.lead.stride
+                + across.behind as usize * line.side.stride,
+            beside: line.side.stride,
             part: across.part,
         }
     }
@@ -142,38 +228,56 @@ impl Pace {
     }
 }
 
-/// Whether the ground is above the line of sight at a whole step of the leading coordinate between
-/// its two ends, at which the line has these levels.
+/// Whether the ground is above the line at a step from `first` on and before `end`, where the line
+/// is at `start` at the first.
 #[inline(always)]
-pub fn is_blocked(
+pub fn is_blocked_between(
     cells: &[Option<Height>],
-    lead: Axis,
-    side: Axis,
-    from_level: i64,
-    to_level: i64,
+    line: Sightline,
+    pace: Pace,
+    start: Step,
+    first: u32,
+    end: u32,
 ) -> bool
-    requires ends { (lead.from < 4096) × (lead.to < 4096) × (side.from < 4096) × (side.to < 4096) }
-    requires strides { (lead.stride ≤ 4096) × (side.stride ≤ 4096) }
-    requires over { IsOver cells.now lead side }
-    requires from_level { IsLevel from_level }
-    requires to_level { IsLevel to_level }
-    ensures { result ≡ walk_blocks cells.now lead side from_level to_level }
+    requires line { IsSightline line }
+    requires over { IsOver cells.now line.lead line.side }
+    requires pace { IsPace line.lead line.side (steps_of line) pace }
+    requires start { IsAt line first start }
+    requires range { (first < end) × (end ≤ steps_of line) }
+    ensures { result ≡ step_range_blocks cells.now line first (end - first) }
 {
-    let steps = lead.from.abs_diff(lead.to);
+    let rise = line.to_level - line.from_level;
+    let mut index = line.lead_at(first) as usize * line.lead.stride
+        + start.whole as usize * line.side.stride;
+    let mut part = start.part;
+    let mut sight = start.sight;
+    for step in first..end {
+        if is_higher(
+            cells,
+            index,
+            line.side.stride,
+            pace.steps - part,
+            part,
+            sight,
+        ) {
+            return true;
+        }
+        (index, part) = pace.next(index, part);
+        sight += rise;
+    }
+    false
+}
+
+/// Whether the ground is above the line at a step between its two ends.
+#[inline(always)]
+pub fn is_blocked(cells: &[Option<Height>], line: Sightline) -> bool
+    requires line { IsSightline line }
+    requires over { IsOver cells.now line.lead line.side }
+    ensures { result ≡ walk_blocks cells.now line }
+{
+    let steps = line.steps();
     if steps < 2 {
         return false;
     }
-    let pace = Pace::new(lead, side, steps);
-    let rise = to_level - from_level;
-    let mut index = lead.from as usize * lead.stride + side.from as usize * side.stride;
-    let mut part = 0;
-    let mut sight = from_level * steps as i64;
-    for done in 0..steps - 1 {
-        (index, part) = pace.next(index, part);
-        sight += rise;
-        if is_higher(cells, index, side.stride, steps - part, part, sight) {
-            return true;
-        }
-    }
-    false
+    is_blocked_between(cells, line, Pace::new(line), line.at(1), 1, steps)
 }

@@ -1,0 +1,13 @@
+use Rattle.std.proofs.Common.{◌≡◌, ◌*◌, ◌<◌, ℤ, length, None, Some, slice_index_or}
+use Rattle.ascii_grid.specs.Neighbours.{height_at}
+use Rattle.ascii_grid.specs.declared.place.Place.{Place}
+use Rattle.sight.specs.Blocks.{blocks_in, block_of, IsTopOf}
+use Rattle.sight.proofs.tops.block_tops.Given as goal
+
+abbrev pub invariant-loop-row : goal.invariant-loop-row
+invariant-loop-row l =
+    let t = l.grid.terrain in
+    record {
+      size : length l.tops.items ≡ blocks_in t.rows * blocks_in t.cols;
+      above : (p : Place) (h : ℤ) → p.row < l.row → height_at t p ≡ Some h → IsTopOf (slice_index_or l.tops.items (block_of t p) None) h;
+    }

@@ -1,0 +1,41 @@
+use Rattle.std.proofs.Common.{arith, sym, ap, subst, ◌∙◌, ◌≡◌, ℕ, ◌+◌, ◌/◌, ◌*◌, ◌<◌, ℤ, List, length, set, get_or, Option, None, Some, inl, inr}
+use Rattle.std.proofs.lemmas.Bool.{cases_eq, cases_lt}
+use Rattle.std.proofs.lemmas.List.{get_or-set_same, get_or-set_other}
+use Rattle.ascii_grid.specs.Neighbours.{height_at}
+use Rattle.sight.specs.Blocks.{blocks_in, block_of, IsTopOf}
+use Rattle.sight.proofs.BlockTops.{block_below}
+use Rattle.sight.proofs.tops.raise_row.Goals as goal
+
+-- one height is raised
+raised_kept : (tops : List (Option ℤ)) (i : ℕ) (top : Option ℤ) → i < length tops → ((h : ℤ) → IsTopOf (get_or tops i None) h → IsTopOf top h)
+    → (j : ℕ) (h : ℤ) → IsTopOf (get_or tops j None) h → IsTopOf (get_or (set tops i top) j None) h
+raised_kept tops i top within kept j h is =
+    elim (cases_eq j i) [
+      | inl same ↦
+          let P : ℕ → Type 0 = λ n. IsTopOf (get_or (set tops i top) n None) h in
+          let Q : ℕ → Type 0 = λ n. IsTopOf (get_or tops n None) h in
+          subst P (sym same) (rw get_or-set_same (kept h (subst Q same is)))
+      | inr other ↦ rw get_or-set_other is
+    ]
+
+pub loop-col-preserved : goal.loop-col-preserved
+loop-col-preserved c =
+    let t = c.args.grid.now.terrain in
+    let tops = c.loop-col.tops in
+    let top = c.raised.result in
+    let block = c.args.row / 16 * c.blocks_in.result + c.loop-col.col / 16 in
+    let wide : c.blocks_in.result ≡ blocks_in t.cols = rw c.cols.ensures.value at c.blocks_in.ensures in
+    let within : block < length tops = rw wide (omega (arith, c.loop-col.auto.tops, c.requires.size, block_below t.cols t.rows c.args.row c.loop-col.col (omega arith) (omega arith))) in
+    let keep = raised_kept tops block top within c.raised.ensures.kept in
+    record {
+      kept = λ i h is. keep i h (c.loop-col.invariant.kept i h is);
+      raised = λ col h below is. elim (cases_lt col c.loop-col.col) [
+        | inl before ↦ keep (block_of t (record { row = c.args.row; col = col })) h (c.loop-col.invariant.raised col h before is)
+        | inr last ↦
+            let here : c.loop-col.col ≡ col = omega arith in
+            let place : block ≡ block_of t (record { row = c.args.row; col = col }) = ap (λ n. c.args.row / 16 * n + c.loop-col.col / 16) wide ∙ ap (λ n. c.args.row / 16 * blocks_in t.cols + n / 16) here in
+            let height : c.at.result ≡ Some h = c.at.ensures ∙ ap (λ n. height_at t (record { row = c.args.row; col = n })) here ∙ is in
+            let P : ℕ → Type 0 = λ n. IsTopOf (get_or (set tops block top) n None) h in
+            subst P place (rw get_or-set_same (c.raised.ensures.raised h height))
+      ];
+    }

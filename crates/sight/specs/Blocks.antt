@@ -1,0 +1,45 @@
+-- Blocks of 16 by 16 cells and their greatest heights, over which a walk along a line of sight passes. No public
+-- clause cites it.
+use Rattle.std.specs.Prelude.{◌≡◌, ℕ, ◌+◌, ◌*◌, ◌/◌, ◌<◌, ◌≤◌, ℤ, pos, ◌*ℤ◌, ◌≤ℤ◌, List, length, Option, None, Some, MatchOption, slice_index_or, min, max}
+use Rattle.ascii_grid.specs.Raster.{Terrain}
+use Rattle.ascii_grid.specs.Neighbours.{height_at}
+use Rattle.ascii_grid.specs.declared.place.Place.{Place}
+use Rattle.sight.specs.Walk.{steps_of}
+use Rattle.sight.specs.declared.walk.Sightline.{Sightline}
+use Rattle.sight.specs.declared.walk.Step.{Step}
+use Rattle.sight.specs.declared.passing.BlockStrides.{BlockStrides}
+
+-- How many blocks side by side hold n cells.
+abbrev pub blocks_in : ℕ → ℕ
+blocks_in n = (n + 15) / 16
+
+-- Where the block of a place stands in a list of blocks in row order.
+abbrev pub block_of : Terrain → Place → ℕ
+block_of t p = p.row / 16 * blocks_in t.cols + p.col / 16
+
+-- A block's height is there, and h is not above it.
+abbrev pub IsTopOf : Option ℤ → ℤ → Type 0
+IsTopOf top h = MatchOption top ⊥ (λ m. h ≤ℤ m)
+
+-- The list has a height for each block, which none of the block's heights is above.
+pub record AreTops (t : Terrain) (tops : List (Option ℤ)) : Type 0 where
+  pub size : length tops ≡ blocks_in t.rows * blocks_in t.cols
+  pub above : (p : Place) (h : ℤ) → height_at t p ≡ Some h → IsTopOf (slice_index_or tops (block_of t p) None) h
+
+-- The same along the two coordinates of a line.
+pub record AreTopsAlong (cells tops : List (Option ℤ)) (l : Sightline) (s : BlockStrides) : Type 0 where
+  pub over : max l.lead.from l.lead.to / 16 * s.lead + max l.side.from l.side.to / 16 * s.side < length tops
+  pub above : (a b : ℕ) (h : ℤ) → a ≤ max l.lead.from l.lead.to → b ≤ max l.side.from l.side.to
+      → slice_index_or cells (a * l.lead.stride + b * l.side.stride) None ≡ Some h
+      → IsTopOf (slice_index_or tops (a / 16 * s.lead + b / 16 * s.side) None) h
+
+-- A block whose height, taken n times, is not above the sight, or that has none.
+abbrev pub IsLow : Option ℤ → ℕ → ℤ → Type 0
+IsLow top n z = MatchOption top (Unit {0}) (λ m. (pos n *ℤ m) ≤ℤ z)
+
+-- The blocks that a line can meet between two of its steps, in one row of blocks: they are low at both steps.
+abbrev pub AreLowBetween : List (Option ℤ) → BlockStrides → Sightline → ℕ → Step → Step → Type 0
+AreLowBetween tops s l block start end =
+    (cell : ℕ) → min start.whole end.whole ≤ cell → cell ≤ max start.whole end.whole + 1 → cell ≤ max l.side.from l.side.to
+    → let top = slice_index_or tops (block * s.lead + cell / 16 * s.side) None in
+    IsLow top (steps_of l) start.sight × IsLow top (steps_of l) end.sight
