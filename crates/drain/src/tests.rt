@@ -195,6 +195,21 @@ fn thirteen_steps(rt: HostRuntime) {
     assert_eq!(rt; counts[0], Some(0));
 }
 
+#[test]
+fn one_step_from_the_rim(rt: HostRuntime) {
+    let alloc = rt.alloc();
+    let text = grid_text(&rt, alloc, 3, 3, "9 9 9\n9 9 9\n9 9 9");
+    let grid = read_text(alloc, 0, text.as_bytes()).expect(&rt, "a grid");
+    let tiling = Tiling::new(grid.cols(), grid.rows(), 3).expect(&rt, "a tiling");
+    let zero = Some(0);
+    let lent = [zero, zero, zero, zero, None, zero, zero, zero, zero];
+    let begun = begin(alloc, &grid).expect(&rt, "counts");
+    assert_eq!(rt; begun.as_slice(), lent.as_slice());
+    let counts = first_round(alloc, &grid, &tiling).expect(&rt, "counts");
+    let wanted = [zero, zero, zero, zero, Some(1), zero, zero, zero, zero];
+    assert_eq!(rt; counts.as_slice(), wanted.as_slice());
+}
+
 /// The code of an edge cell of level 20 with these heights to the east and the south east.
 fn code_between(east: Height, south_east: Height) -> Code
     requires { IsHeight east × IsHeight south_east }
@@ -221,6 +236,57 @@ fn code_of_one_cell(rt: HostRuntime) {
     assert_eq!(rt; code_between(15, 13).number(), 1);
     assert_eq!(rt; code_between(13, 10).number(), 2);
     assert_eq!(rt; code_between(20, 20).number(), 0);
+}
+
+#[test]
+fn codes_of_surroundings(rt: HostRuntime) {
+    let same = Some((20, 0));
+    let slope = Around {
+        level: 20,
+        steps: 0,
+        edge: false,
+        ways: [
+            Some((15, 0)),
+            Some((13, 0)),
+            same,
+            same,
+            same,
+            same,
+            same,
+            same,
+        ],
+    };
+    assert_eq!(rt; direction(&slope).number(), 1);
+    let flat = Around {
+        level: 5,
+        steps: 2,
+        edge: false,
+        ways: [
+            Some((5, 2)),
+            None,
+            Some((5, 1)),
+            None,
+            Some((5, 1)),
+            None,
+            None,
+            None,
+        ],
+    };
+    assert_eq!(rt; direction(&flat).number(), 4);
+    let outlet = Around {
+        level: 5,
+        steps: 0,
+        edge: true,
+        ways: [Some((5, 1)); 8],
+    };
+    assert_eq!(rt; direction(&outlet).number(), 0);
+    let corner = Around {
+        level: 5,
+        steps: 0,
+        edge: true,
+        ways: [None, None, None, None, None, None, None, Some((4, 0))],
+    };
+    assert_eq!(rt; direction(&corner).number(), 128);
 }
 
 #[test]
