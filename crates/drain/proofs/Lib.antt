@@ -10,9 +10,9 @@ pub mod TileRound
 pub mod Block
 pub mod Ways
 pub mod AroundLemmas
-pub mod CodeList
 pub mod DrainedLemmas
 pub mod TileRows
+pub mod TileLists
 pub mod RoundLemmas
 pub mod Touching
 pub mod Ends

@@ -6,6 +6,8 @@ pub mod Following
 pub mod Drained
 pub mod Rounds
 pub mod Window
+pub mod TileLists
+pub mod Stages
 pub mod Beginning
 pub mod Fitting
 pub mod Laws

@@ -9,6 +9,7 @@ pub mod draining;
 pub mod laws;
 mod looking;
 mod rounds;
+mod stages;
 pub mod steepness;
 mod surroundings;
 mod window;

@@ -1,15 +1,15 @@
 ghost use Rattle.ascii_grid.specs.Raster.{IsHeight};
 ghost use Rattle.tiles.specs.Cutting.{Cuts};
 
-use crate::beginning::begin;
+use crate::stages::begin;
 use crate::{Around, Code, direction, directions, flat_steps};
 use ascii_grid::{Grid, Height, Place, read_text};
 use fill::filled;
-use std::alloc::{AllocError, Global};
+use std::alloc::Global;
 use std::process::Abort;
 use std::sync::Wait;
 use std::thread::Threads;
-use tile_jobs::NoGate;
+use tile_jobs::{JobFault, NoGate};
 use tiles::Tiling;
 
 /// A grid of whole heights. Its rows are given one after another.
@@ -172,14 +172,20 @@ fn refused_workers(rt: HostRuntime) {
 }
 
 /// One round over the first tile of a grid, from the counts that the rounds begin with.
-fn first_round(alloc: Global, grid: &Grid, tiling: &Tiling) -> Result<Vec<Option<u32>>, AllocError>
+fn first_round<R: Threads + Wait + Sync>(
+    rt: &R,
+    alloc: Global,
+    grid: &Grid,
+    tiling: &Tiling,
+) -> Result<Vec<Option<u32>>, JobFault>
     requires { Cuts tiling.now grid.now.terrain }
 {
     let _tiles = tiling.tiles();
-    let begun = begin(alloc, grid)?;
-    let levels = tiling.view(grid.cells(), 0);
+    let cells = grid.cells();
+    let begun = begin(rt, alloc, grid, tiling, 1, &NoGate)?;
+    let levels = tiling.view(cells, 0);
     let steps = tiling.view(begun.as_slice(), 0);
-    flat_steps(alloc, &levels, &steps).map_err(|_| AllocError)
+    flat_steps(alloc, &levels, &steps).map_err(|_| JobFault::Memory)
 }
 
 #[test]
@@ -188,7 +194,7 @@ fn thirteen_steps(rt: HostRuntime) {
     let text = grid_text(&rt, alloc, 7, 7, WINDING);
     let grid = read_text(alloc, 0, text.as_bytes()).expect(&rt, "a grid");
     let tiling = Tiling::new(grid.cols(), grid.rows(), 7).expect(&rt, "a tiling");
-    let counts = first_round(alloc, &grid, &tiling).expect(&rt, "counts");
+    let counts = first_round(&rt, alloc, &grid, &tiling).expect(&rt, "counts");
     assert_eq!(rt; counts.len(), 49);
     assert_eq!(rt; counts[8], Some(13));
     assert_eq!(rt; counts[40], Some(1));
@@ -203,9 +209,10 @@ fn one_step_from_the_rim(rt: HostRuntime) {
     let tiling = Tiling::new(grid.cols(), grid.rows(), 3).expect(&rt, "a tiling");
     let zero = Some(0);
     let lent = [zero, zero, zero, zero, None, zero, zero, zero, zero];
-    let begun = begin(alloc, &grid).expect(&rt, "counts");
+    assert_eq!(rt; grid.cells().len(), 9);
+    let begun = begin(&rt, alloc, &grid, &tiling, 1, &NoGate).expect(&rt, "counts");
     assert_eq!(rt; begun.as_slice(), lent.as_slice());
-    let counts = first_round(alloc, &grid, &tiling).expect(&rt, "counts");
+    let counts = first_round(&rt, alloc, &grid, &tiling).expect(&rt, "counts");
     let wanted = [zero, zero, zero, zero, Some(1), zero, zero, zero, zero];
     assert_eq!(rt; counts.as_slice(), wanted.as_slice());
 }
