@@ -4,6 +4,7 @@ pub mod Pigeonhole
 pub mod Tiles
 pub mod Quiet
 pub mod Spreading
+pub mod Noted
 pub mod Least
 pub mod Spots
 pub mod TileRound
@@ -15,6 +16,7 @@ pub mod TileRows
 pub mod TileLists
 pub mod RoundLemmas
 pub mod Touching
+pub mod Entered
 pub mod Ends
 pub mod Few
 pub mod Unique

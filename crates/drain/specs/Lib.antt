@@ -5,6 +5,7 @@ pub mod Directions
 pub mod Following
 pub mod Drained
 pub mod Rounds
+pub mod Entering
 pub mod Window
 pub mod TileLists
 pub mod Stages

@@ -6,6 +6,7 @@ mod beginning;
 pub mod code;
 pub mod direction_map;
 pub mod draining;
+mod entering;
 pub mod laws;
 mod looking;
 mod rounds;

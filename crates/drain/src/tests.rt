@@ -1,6 +1,7 @@
 ghost use Rattle.ascii_grid.specs.Raster.{IsHeight};
 ghost use Rattle.tiles.specs.Cutting.{Cuts};
 
+use crate::rounds::next_active;
 use crate::stages::begin;
 use crate::{Around, Code, direction, directions, flat_steps};
 use ascii_grid::{Grid, Height, Place, read_text};
@@ -8,6 +9,7 @@ use fill::filled;
 use std::alloc::Global;
 use std::process::Abort;
 use std::sync::Wait;
+use std::test::Fail;
 use std::thread::Threads;
 use tile_jobs::{JobFault, NoGate};
 use tiles::Tiling;
@@ -215,6 +217,17 @@ fn one_step_from_the_rim(rt: HostRuntime) {
     let counts = first_round(&rt, alloc, &grid, &tiling).expect(&rt, "counts");
     let wanted = [zero, zero, zero, zero, Some(1), zero, zero, zero, zero];
     assert_eq!(rt; counts.as_slice(), wanted.as_slice());
+}
+
+#[test]
+fn tiles_beside_a_change_alone(rt: HostRuntime) -> Result<(), Fail> {
+    let alloc = rt.alloc();
+    let tiling = Tiling::new(5, 1, 1).expect(&rt, "a tiling");
+    let list = vec![in alloc; Some(3)]?;
+    let active = next_active(alloc, &tiling, &[None, Some(list), None, None, None])?;
+    let wanted = [true, true, true, false, false];
+    assert_eq!(rt; active.as_slice(), wanted.as_slice());
+    Ok(())
 }
 
 /// The code of an edge cell of level 20 with these heights to the east and the south east.
