@@ -11,6 +11,7 @@ pub mod TileRound
 pub mod Block
 pub mod Ways
 pub mod AroundLemmas
+pub mod Laid
 pub mod DrainedLemmas
 pub mod TileRows
 pub mod TileLists

@@ -5,7 +5,8 @@ ghost use Rattle.ascii_grid.specs.Raster.{IsTerrain};
 ghost use Rattle.ascii_grid.specs.Neighbours.{IsInside, height_at, entry_at};
 ghost use Rattle.ascii_grid.specs.Ways.{place_of, before};
 ghost use Rattle.drain.specs.Steps.{AreSteps};
-ghost use Rattle.drain.specs.Directions.{IsAround, IsCodeAt};
+ghost use Rattle.drain.specs.Directions.{IsCodeAt};
+ghost use Rattle.drain.specs.Fitting.{IsLaidAround};
 ghost use Rattle.drain.specs.TileLists.{IsPartOf, AreMadeBelow};
 
 use crate::around::Around;
@@ -49,7 +50,7 @@ fn entry(
     }
 }
 
-/// What stands around a data cell.
+/// What stands around a data cell. One without a lower neighbour is an edge cell exactly where it has no steps.
 #[inline(always)]
 fn around(grid: &Grid, steps: &[Option<u32>], place: Place, level: Height, own: u32) -> Around
     requires size { length steps.now ≡ grid.now.terrain.cols * grid.now.terrain.rows }
@@ -57,7 +58,7 @@ fn around(grid: &Grid, steps: &[Option<u32>], place: Place, level: Height, own: 
     requires inside { IsInside grid.now.terrain place }
     requires level { height_at grid.now.terrain place ≡ Some level }
     requires own { entry_at grid.now.terrain.cols grid.now.terrain.rows steps.now place ≡ Some own }
-    ensures { IsAround grid.now.terrain steps.now place result }
+    ensures { IsLaidAround grid.now.terrain steps.now place result }
 {
     let row = Some(place.row);
     let col = Some(place.col);
@@ -68,7 +69,7 @@ fn around(grid: &Grid, steps: &[Option<u32>], place: Place, level: Height, own: 
     Around {
         level,
         steps: own,
-        edge: grid.is_edge(place),
+        edge: own == 0,
         ways: [
             entry(grid, steps, row, east),
             entry(grid, steps, south, east),

@@ -1,4 +1,4 @@
-use Rattle.std.proofs.Common.{◌≡◌, ◌+◌, ◌-◌, inl, inr, sym, subst, arith}
+use Rattle.std.proofs.Common.{◌+◌, ◌-◌, inl, inr, sym, subst, arith}
 use Rattle.ascii_grid.proofs.Places.{make_place, same_place}
 use Rattle.ascii_grid.specs.declared.place.Place.{Place}
 use Rattle.drain.specs.Entering.{IsLeastAround, lent_terrain}

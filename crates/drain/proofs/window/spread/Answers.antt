@@ -1,6 +1,6 @@
-use Rattle.std.proofs.Common.{◌≡◌, inl, inr, refl, ap, ◌∙◌, arith}
+use Rattle.std.proofs.Common.{inl, inr, refl, ◌∙◌, arith}
 use Rattle.std.proofs.lemmas.Bool.{cases_eq}
-use Rattle.drain.specs.Window.{spot_index, level_on, count_on, same}
+use Rattle.drain.specs.Window.{spot_index, same}
 use Rattle.drain.proofs.Spreading.{spread_on, spread-counts, spread-not_above}
 use Rattle.drain.proofs.Noted.{noted_none, noted_then}
 use Rattle.drain.proofs.window.spread.Goals as goal
