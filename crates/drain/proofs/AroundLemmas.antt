@@ -39,7 +39,7 @@ on_way t steps p a way w f below e =
     zip_some (λ q. entry_at t.cols t.rows t.cells q) (λ q. entry_at t.cols t.rows steps q) (place_on way p) w.0 w.1 (sym (f.ways way below) ∙ e)
 
 -- a neighbour stands on some way
-neighbour_on : (t : Terrain) (steps : List (Option ℕ)) (p q : Place) (a : Around) (h : ℤ) (n : ℕ) → IsAround t steps p a → IsNeighbour t p q → height_at t q ≡ Some h → entry_at t.cols t.rows steps q ≡ Some n →
+pub neighbour_on : (t : Terrain) (steps : List (Option ℕ)) (p q : Place) (a : Around) (h : ℤ) (n : ℕ) → IsAround t steps p a → IsNeighbour t p q → height_at t q ≡ Some h → entry_at t.cols t.rows steps q ≡ Some n →
     (way : ℕ) × (way < 8) × (get_or a.ways way None ≡ Some (h, n))
 neighbour_on t steps p q a h n f next high count =
     let way = way_to p q next.touches next.different in (
@@ -55,7 +55,7 @@ any_passes p [] k d less e = absurd (omega arith)
 any_passes p (x ∷ xs) zero d less e = or_left _ _ e
 any_passes p (x ∷ xs) (suc k) d less e = or_right _ _ (any_passes p xs k d (omega arith) e)
 
-positive_part-below : (x y : ℤ) → y <ℤ x → 0 < positive_part (x -ℤ y)
+pub positive_part-below : (x y : ℤ) → y <ℤ x → 0 < positive_part (x -ℤ y)
 positive_part-below x y less = part (x -ℤ y) (omega (arith, ints))
   where
     part : (z : ℤ) → pos 0 <ℤ z → 0 < positive_part z
@@ -69,7 +69,7 @@ below-positive_part x y h = let above : pos 0 <ℤ (x -ℤ y) = part (x -ℤ y) 
     part (pos n) h = omega (arith, ints)
     part (negsuc n) h = absurd (omega arith)
 
-steps_at : (t : Terrain) (steps : List (Option ℕ)) (q : Place) → AreSteps t steps → IsDataCell t q → (n : ℕ) × (entry_at t.cols t.rows steps q ≡ Some n) × IsSteps t q n
+pub steps_at : (t : Terrain) (steps : List (Option ℕ)) (q : Place) → AreSteps t steps → IsDataCell t q → (n : ℕ) × (entry_at t.cols t.rows steps q ≡ Some n) × IsSteps t q n
 steps_at t steps q are is = MatchOption-at_some _ _ (height_of t q) (height_is t q is) (are.each q (data_inside t q is))
 
 FitsDrain : Around → Type 0

@@ -1,16 +1,15 @@
 -- The three by three cells around a cell that is not in an outermost row or column.
-use Rattle.std.proofs.Common.{◌≡◌, ◌≢◌, ℕ, ◌+◌, ◌-◌, ◌*◌, ◌<◌, ◌≤◌, ◌<ℤ◌, inl, inr, List, ◌++◌, ◌∷◌, [], length, get_or, Bool, true, false, Option, None, Some, is_some, unwrap_or, ℤ, pos, sym, ap, subst, refl, ◌∙◌, arith}
+use Rattle.std.proofs.Common.{◌≡◌, ◌≢◌, ℕ, ◌+◌, ◌-◌, ◌*◌, ◌<◌, ◌≤◌, ◌<ℤ◌, inl, inr, List, [], length, get_or, Bool, true, false, Option, None, Some, is_some, unwrap_or, ℤ, pos, sym, ap, subst, refl, ◌∙◌, arith}
 use Rattle.std.proofs.lemmas.Int.{ints}
 use Rattle.std.proofs.lemmas.Bool.{cases_eq, false≢true}
-use Rattle.std.proofs.lemmas.List.{get_or_append_left, get_or_push, length_push}
-use Rattle.ascii_grid.proofs.Places.{make_place, entry-inside, entry-below, entry-beside, index_below, inside_from_entry, index_injective}
+use Rattle.ascii_grid.proofs.Places.{make_place, entry-inside, entry-below, entry-beside, inside_from_entry}
 use Rattle.ascii_grid.specs.Raster.{Terrain}
-use Rattle.ascii_grid.specs.Neighbours.{IsInside, height_at, entry_at, index_of, Touches}
+use Rattle.ascii_grid.specs.Neighbours.{IsInside, height_at, entry_at, Touches}
 use Rattle.ascii_grid.specs.Filled.{height_of}
 use Rattle.ascii_grid.specs.declared.place.Place.{Place}
 use Rattle.drain.specs.Steps.{DrainsAtOnce}
 use Rattle.std.specs.Bool.{MatchBool}
-use Rattle.drain.specs.Beginning.{IsGapOrLower, IsOutermost, IsBegun, AreBegunBelow}
+use Rattle.drain.specs.Beginning.{IsGapOrLower, IsOutermost, IsBegun}
 use Rattle.drain.specs.Rounds.{IsWalked, AreCounting}
 use Rattle.drain.proofs.Quiet.{data_inside, if_some}
 use Rattle.drain.proofs.Few.{data_on_walk}
@@ -134,31 +133,13 @@ outermost_drains t p level inside is (inr (inr (inr e))) =
       )),
     )
 
--- one count more
-pub begun_push : (t : Terrain) (p : Place) (counts : List (Option ℕ)) (x : Option ℕ) → IsInside t p → AreBegunBelow t (index_of t.cols p) counts → IsBegun t p x → AreBegunBelow t (index_of t.cols p + 1) (counts ++ x ∷ [])
-begun_push t p counts x inside before here = record {
-  size = length_push counts x ∙ ap (λ n. n + 1) before.size;
-  each = λ q within below. elim (cases_eq (index_of t.cols q) (index_of t.cols p)) [
-    | inl e ↦ (let one : p ≡ q = index_injective t.cols p q inside.1 within.1 (sym e) in
-        subst (λ (r : Place). IsBegun t r (get_or (counts ++ x ∷ []) (index_of t.cols r) None)) one
-        (subst (λ (o : Option ℕ). IsBegun t p o) (sym (get_or_push counts x None (index_of t.cols p) before.size)) here))
-    | inr ne ↦ (let lower : index_of t.cols q < index_of t.cols p = omega arith in
-        subst (λ (o : Option ℕ). IsBegun t q o) (sym (get_or_append_left counts (x ∷ []) None (index_of t.cols q) (omega (arith, before.size))))
-        (before.each q within lower))
-  ];
-}
-
 -- the counts that the rounds begin with are on the way to the steps
-pub begun_counting : (t : Terrain) (end : ℕ) (counts : List (Option ℕ)) → end ≡ t.cols * t.rows → AreBegunBelow t end counts → AreCounting t counts
-begun_counting t end counts whole b = record {
-  size = b.size ∙ whole;
-  zeros = λ p drains.
-      let inside = data_inside t p (data_on_walk t p [] drains) in
-      entry-inside t.cols t.rows counts p inside.0 inside.1 ∙ (b.each p inside (omega (arith, whole, index_below t.cols t.rows p inside.0 inside.1))).zero drains;
+pub begun_counting : (t : Terrain) (counts : List (Option ℕ)) → length counts ≡ t.cols * t.rows → ((p : Place) → IsInside t p → IsBegun t p (entry_at t.cols t.rows counts p)) → AreCounting t counts
+begun_counting t counts size begun = record {
+  size = size;
+  zeros = λ p drains. (begun p (data_inside t p (data_on_walk t p [] drains))).zero drains;
   walked = λ p. if_some (entry_at t.cols t.rows counts p) (IsWalked t p) (λ n e.
-      let inside = inside_from_entry t.cols t.rows counts p n e in
-      let here = b.each p inside (omega (arith, whole, index_below t.cols t.rows p inside.0 inside.1)) in
-      let at = here.only n (sym (entry-inside t.cols t.rows counts p inside.0 inside.1) ∙ e) in
+      let at = (begun p (inside_from_entry t.cols t.rows counts p n e)).only n e in
       (omega (arith, at.1), [], at.0, sym at.1));
 }
 

@@ -1,13 +1,13 @@
 -- Codes and steps together make a map of directions along which the pair of height and steps falls.
-use Rattle.std.proofs.Common.{◌≡◌, ℕ, ◌*◌, ◌<◌, ◌≤◌, ◌⊎◌, inl, inr, List, Option, is_some, ℤ, sym, ap, subst, refl, ◌∙◌}
+use Rattle.std.proofs.Common.{◌≡◌, ℕ, ◌<◌, ◌≤◌, ◌⊎◌, inl, inr, List, Option, is_some, ℤ, sym, ap, subst, refl, ◌∙◌}
 use Rattle.std.proofs.lemmas.Bool.{cases_lt}
 use Rattle.std.proofs.lemmas.Option.{MatchOption-at_some, MatchOption-at_none, same_Some, none-some}
-use Rattle.ascii_grid.proofs.Places.{entry-inside, entry-below, entry-beside, inside_from_entry, index_below}
+use Rattle.ascii_grid.proofs.Places.{entry-below, entry-beside, inside_from_entry}
 use Rattle.ascii_grid.specs.Raster.{Terrain, Raster, IsTerrain}
-use Rattle.ascii_grid.specs.Neighbours.{IsInside, height_at, entry_at}
+use Rattle.ascii_grid.specs.Neighbours.{height_at, entry_at}
 use Rattle.ascii_grid.specs.declared.place.Place.{Place}
 use Rattle.drain.specs.Steps.{AreSteps}
-use Rattle.drain.specs.Directions.{IsCodeAt, AreCodesBelow, AreDirections}
+use Rattle.drain.specs.Directions.{AreCodes, AreDirections}
 use Rattle.drain.specs.Drained.{IsDraining}
 use Rattle.tiles.specs.Cutting.{Cutting, Cuts, tile_of_place}
 use Rattle.ascii_grid.specs.Filled.{IsFilled}
@@ -16,15 +16,10 @@ use Rattle.drain.proofs.Quiet.{still_is_steps, in_own_tile, data_inside}
 use Rattle.drain.proofs.Tiles.{tile_below}
 use Rattle.drain.proofs.AroundLemmas.{direction_leads, cases_option}
 
-codes_each : (t : Terrain) (steps codes : List (Option ℕ)) → AreCodesBelow t steps (t.cols * t.rows) codes → (p : Place) → IsInside t p → IsCodeAt t steps p (entry_at t.cols t.rows codes p)
-codes_each t steps codes all p inside =
-    subst (λ (o : Option ℕ). IsCodeAt t steps p o) (sym (entry-inside t.cols t.rows codes p inside.0 inside.1))
-    (all.each p inside (index_below t.cols t.rows p inside.0 inside.1))
-
-pub are_directions : (t : Terrain) (steps codes : List (Option ℕ)) → AreSteps t steps → AreCodesBelow t steps (t.cols * t.rows) codes → AreDirections t codes
+pub are_directions : (t : Terrain) (steps codes : List (Option ℕ)) → AreSteps t steps → AreCodes t steps codes → AreDirections t codes
 are_directions t steps codes are all = record {
   size = all.size;
-  by_steps = (steps, are, codes_each t steps codes all);
+  by_steps = (steps, are, all.each);
 }
 
 outside_same : {X Y : Type 0} (cols rows : ℕ) (xs : List (Option X)) (ys : List (Option Y)) (p : Place) → (rows ≤ p.row) ⊎ (cols ≤ p.col) → is_some (entry_at cols rows xs p) ≡ is_some (entry_at cols rows ys p)
@@ -39,13 +34,13 @@ everywhere cols rows xs ys same p = elim (cases_lt p.row rows) [
   | inr past ↦ outside_same cols rows xs ys p (inl past)
 ]
 
-pub are_draining : (t : Terrain) (steps codes : List (Option ℕ)) → AreSteps t steps → AreCodesBelow t steps (t.cols * t.rows) codes → IsDraining (record { terrain = t; steps = steps; codes = codes })
+pub are_draining : (t : Terrain) (steps codes : List (Option ℕ)) → AreSteps t steps → AreCodes t steps codes → IsDraining (record { terrain = t; steps = steps; codes = codes })
 are_draining t steps codes are all = record {
   codes_size = all.size;
   steps_size = are.size;
   same_data = everywhere t.cols t.rows codes t.cells (λ p row col. elim (cases_option (height_at t p)) [
-    | inl none ↦ ap is_some (MatchOption-at_none _ _ none (codes_each t steps codes all p (row, col))) ∙ sym (ap is_some none)
-    | inr some ↦ ap is_some (MatchOption-at_some _ _ some.0 some.1 (codes_each t steps codes all p (row, col))).1 ∙ sym (ap is_some some.1)
+    | inl none ↦ ap is_some (MatchOption-at_none _ _ none (all.each p (row, col))) ∙ sym (ap is_some none)
+    | inr some ↦ ap is_some (MatchOption-at_some _ _ some.0 some.1 (all.each p (row, col))).1 ∙ sym (ap is_some some.1)
   ]);
   same_steps = everywhere t.cols t.rows steps t.cells (λ p row col. elim (cases_option (height_at t p)) [
     | inl none ↦ ap is_some (MatchOption-at_none _ _ none (are.each p (row, col))) ∙ sym (ap is_some none)
@@ -54,9 +49,9 @@ are_draining t steps codes are all = record {
   leads = λ p code e some.
       let inside = inside_from_entry t.cols t.rows codes p code e in
       elim (cases_option (height_at t p)) [
-        | inl none ↦ absurd (none-some code (sym (MatchOption-at_none _ _ none (codes_each t steps codes all p inside)) ∙ e))
+        | inl none ↦ absurd (none-some code (sym (MatchOption-at_none _ _ none (all.each p inside)) ∙ e))
         | inr h ↦
-            (let at = MatchOption-at_some _ _ h.0 h.1 (codes_each t steps codes all p inside) in
+            (let at = MatchOption-at_some _ _ h.0 h.1 (all.each p inside) in
             let same : code ≡ at.0 = same_Some _ _ (sym e ∙ at.1) in
             direction_leads t steps codes p at.2.0 code at.2.1 (same ∙ at.2.2) some)
       ];
@@ -85,7 +80,6 @@ same_terrain t cols rows cells a b c =
 pub own_terrain : (g own : Raster) (cells : List (Option ℤ)) → cells ≡ g.terrain.cells → own ≡ record g { terrain = record g.terrain { cells = cells } } → own.terrain ≡ g.terrain
 own_terrain g own cells e is = ap (λ (x : Raster). x.terrain) is ∙ sym (same_terrain g.terrain g.terrain.cols g.terrain.rows cells refl refl e)
 
-pub codes_of : (g f : Raster) (seen steps codes : List (Option ℕ)) → g ≡ f → seen ≡ steps → AreCodesBelow g.terrain seen (g.terrain.cols * g.terrain.rows) codes → AreCodesBelow f.terrain steps (f.terrain.cols * f.terrain.rows) codes
+pub codes_of : (g f : Raster) (seen steps codes : List (Option ℕ)) → g ≡ f → seen ≡ steps → AreCodes g.terrain seen codes → AreCodes f.terrain steps codes
 codes_of g f seen steps codes e is all =
-    subst (λ (xs : List (Option ℕ)). AreCodesBelow f.terrain xs (f.terrain.cols * f.terrain.rows) codes) is
-    (subst (λ (x : Raster). AreCodesBelow x.terrain seen (x.terrain.cols * x.terrain.rows) codes) e all)
+    subst (λ (xs : List (Option ℕ)). AreCodes f.terrain xs codes) is (subst (λ (x : Raster). AreCodes x.terrain seen codes) e all)

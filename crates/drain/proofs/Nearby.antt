@@ -4,7 +4,7 @@ use Rattle.std.proofs.lemmas.Int.{by_lt_z, ints}
 use Rattle.std.proofs.lemmas.Bool.{cases_eq, cases_lt, false≢true}
 use Rattle.ascii_grid.proofs.Places.{make_place, cases_place}
 use Rattle.ascii_grid.specs.Raster.{Terrain}
-use Rattle.ascii_grid.specs.Neighbours.{height_at, IsDataCell, Touches, IsNeighbour, HasGapAround}
+use Rattle.ascii_grid.specs.Neighbours.{height_at, IsDataCell, Touches, IsNeighbour, HasGapAround, IsEdge}
 use Rattle.ascii_grid.specs.Filled.{height_of}
 use Rattle.ascii_grid.specs.declared.place.Place.{Place}
 use Rattle.drain.specs.Steps.{DrainsAtOnce, IsFlatWalk}
@@ -116,11 +116,14 @@ gap t p =
     (λ h. h) (λ h. h)
     (either _ _ (cases_eq p.row 0) (either _ _ (cases_eq p.col 0) (touching (λ q. IsNone (height_at t q)) (λ q. falsity (is_some (height_at t q))) p)))
 
+pub edge_cell : (t : Terrain) (p : Place) → Decided (IsEdge t p)
+edge_cell t p = both _ _ (truth (is_some (height_at t p))) (gap t p)
+
 pub drains_at_once : (t : Terrain) (p : Place) → Decided (DrainsAtOnce t p)
 drains_at_once t p =
     either _ _
     (beside t (λ q. height_of t q <ℤ height_of t p) (λ q. lower (height_of t q) (height_of t p)) p)
-    (both _ _ (truth (is_some (height_at t p))) (gap t p))
+    (edge_cell t p)
 
 -- a walk of so many moves
 abbrev pub WalksIn : Terrain → Place → ℕ → Type 0

@@ -6,12 +6,12 @@ use Rattle.ascii_grid.specs.Raster.{Terrain}
 use Rattle.ascii_grid.specs.Neighbours.{entry_at, index_of}
 use Rattle.ascii_grid.specs.declared.place.Place.{Place}
 use Rattle.tiles.specs.Cutting.{Cutting, View, Cuts, IsWithin, IsInTile, tile_entry, tile_of_place, tile_count, cell_count, terrain_of}
-use Rattle.drain.specs.Rounds.{IsWalked, AreWalked, IsRound, IsTileStill, IsTileAnswer, AreCounting, Rounding, levels_of, IsRounding, told, told_by, AreSized, IsUntouched, AreAnswered, left_to_count}
+use Rattle.drain.specs.Rounds.{IsWalked, AreWalked, IsRound, IsTileEven, IsUnentered, IsTileStill, IsTileAnswer, AreCounting, Rounding, levels_of, IsRounding, told, told_by, AreSized, IsUntouched, AreAnswered, left_to_count}
 use Rattle.drain.proofs.Quiet.{if_some, data_inside}
 use Rattle.drain.proofs.Few.{data_on_walk}
 use Rattle.drain.proofs.Unique.{at_place}
 use Rattle.drain.proofs.Tiles.{tile_below}
-use Rattle.std.proofs.lemmas.Bool.{cases_lt, false≢true}
+use Rattle.std.proofs.lemmas.Bool.{cases_eq, cases_lt, false≢true}
 use Rattle.std.proofs.lemmas.List.{get_or_past}
 use Rattle.std.proofs.lemmas.List.Sums.{sum_by-cons}
 
@@ -32,6 +32,18 @@ still_from r tile v w list xs e f g round same =
     (subst (λ (z : View (Option ℕ)). IsRound (levels_of r) r.cutting tile z.cells list) f (subst (λ (z : View (Option ℤ)). IsRound (terrain_of z) z.cutting z.tile w.cells list) e round))
     (subst (λ (ys : List (Option ℕ)). (p : Place) → IsInTile r.cutting tile p → tile_entry r.cutting tile ys p ≡ entry_at r.cutting.cols r.cutting.rows r.steps p) g
     (subst (λ (z : View (Option ℕ)). (p : Place) → IsInTile z.cutting z.tile p → tile_entry z.cutting z.tile xs p ≡ entry_at z.cutting.cols z.cutting.rows z.cells p) f same))
+
+pub even_when_still : (r : Rounding) (tile : ℕ) → IsTileStill (levels_of r) r.cutting tile r.steps → IsTileEven (levels_of r) r.cutting tile r.steps
+even_when_still r tile still = record { within = λ p q m i j next level e less. still.near p q m i next level e less }
+
+-- a tile that is even and into which no count comes
+pub still_unentered : (r : Rounding) (tile : ℕ) → IsTileEven (levels_of r) r.cutting tile r.steps → IsUnentered (levels_of r) r.cutting tile r.steps → IsTileStill (levels_of r) r.cutting tile r.steps
+still_unentered r tile even out = record {
+  near = λ p q m inside next level e less. elim (cases_eq (tile_of_place r.cutting q) tile) [
+    | inl here ↦ even.within p q m inside (data_inside (levels_of r) q next.to_data, here) next level e less
+    | inr ne ↦ out.each p q m inside (λ i. ne i.1) next level e less
+  ];
+}
 
 answer_sized : (t : Terrain) (c : Cutting) (tile : ℕ) (steps : List (Option ℕ)) (o : Option (Vec (Option ℕ) Global)) → IsTileAnswer t c tile steps o → IfSome o (λ list. length list.items ≡ cell_count c tile)
 answer_sized t c tile steps None a = tt
@@ -164,6 +176,26 @@ module _ (r : Rounding) (outs : List (Option (Vec (Option ℕ) Global))) (new : 
         let near = still.near p q m inside next level (sym (same_at q within other) ∙ e) less in
         (near.0, same_at p inside.0 own ∙ near.1, near.2);
   }
+
+  told_is : (tile : ℕ) (list : Vec (Option ℕ) Global) (p : Place) → get_or outs tile None ≡ Some list → IsInTile r.cutting tile p → entry_at r.cutting.cols r.cutting.rows new p ≡ tile_entry r.cutting tile list.items p
+  told_is tile list p is i =
+      put p i.0 ∙ ap (λ (o : Option (Vec (Option ℕ) Global)). told_by r.cutting r.steps p o) (ap (λ (k : ℕ). get_or outs k None) i.1 ∙ is)
+      ∙ ap (λ (k : ℕ). tile_entry r.cutting k list.items p) i.1
+
+  even_from : (tile : ℕ) (o : Option (Vec (Option ℕ) Global)) → get_or outs tile None ≡ o → IsTileAnswer (levels_of r) r.cutting tile r.steps o → IsTileEven (levels_of r) r.cutting tile new
+  even_from tile None none still = record {
+    within = λ p q m i j next level e less.
+        let own = same_at p i.0 (ap (λ (k : ℕ). get_or outs k None) i.1 ∙ none) in
+        let other = same_at q j.0 (ap (λ (k : ℕ). get_or outs k None) j.1 ∙ none) in
+        let near = still.near p q m i next level (sym other ∙ e) less in (near.0, own ∙ near.1, near.2);
+  }
+  even_from tile (Some list) is answer = record {
+    within = λ p q m i j next level e less.
+        let near = answer.0.within p q m i j next level (sym (told_is tile list q is j) ∙ e) less in (near.0, told_is tile list p is i ∙ near.1, near.2);
+  }
+
+  pub even_after : (tile : ℕ) → tile < tile_count r.cutting → IsTileEven (levels_of r) r.cutting tile new
+  even_after tile below = even_from tile (get_or outs tile None) refl (answered.each tile below)
 
 -- where no tile changed, all are still
 pub all_still : (r : Rounding) (outs : List (Option (Vec (Option ℕ) Global))) → AreAnswered r outs → ((tile : ℕ) → tile < tile_count r.cutting → get_or outs tile None ≡ None) →

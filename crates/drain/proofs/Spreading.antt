@@ -76,7 +76,7 @@ near_after b levels old mid new s near less = record {
   each = λ r touch level. omega (arith, near.each r touch level, less.each (spot_index b s));
 }
 
-touches_back : (p q : Place) → Touches p q → Touches q p
+pub touches_back : (p q : Place) → Touches p q → Touches q p
 touches_back p q t = record { row_down = t.row_up; row_up = t.row_down; col_right = t.col_left; col_left = t.col_right }
 
 -- one move from what a spot had, to what some spot around it had

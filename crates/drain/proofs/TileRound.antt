@@ -3,7 +3,7 @@ use Rattle.std.proofs.Common.{◌≡◌, ◌≢◌, ℕ, ◌+◌, ◌-◌, ◌*�
 use Rattle.std.proofs.lemmas.Bool.{cases_eq, cases_lt, cond-true, cond-false, and_from, lt-ltb, le-ltb, eq-eqb}
 use Rattle.std.proofs.lemmas.List.{get_or-map, get_or-set_same, get_or-set_other, get_or_past, length-map}
 use Rattle.std.proofs.lemmas.Nat.{mul-add-lt}
-use Rattle.std.proofs.lemmas.Option.{MatchOption-at_some, none-some}
+use Rattle.std.proofs.lemmas.Option.{MatchOption-at_some, none-some, same_Some}
 use Rattle.ascii_grid.proofs.Places.{make_place, same_place, index_injective, cases_place}
 use Rattle.ascii_grid.specs.Raster.{Terrain}
 use Rattle.ascii_grid.specs.Neighbours.{height_at, entry_at, Touches, IsNeighbour}
@@ -135,8 +135,23 @@ spot_beside b p q s i f t = (
   record { row_down = omega (arith, f.0, t.row_down); row_up = omega (arith, f.0, t.row_up, i.first_row); col_right = omega (arith, f.1, t.col_right); col_left = omega (arith, f.1, t.col_left, i.first_col) },
 )
 
+-- the spots of places that touch
+touching_spots : (b : Bounds) (p q s r : Place) → Shows b s p → Shows b r q → Touches p q → Touches r s
+touching_spots b p q s r f g t = record {
+  row_down = omega (arith, f.0, g.0, t.row_up);
+  row_up = omega (arith, f.0, g.0, t.row_down);
+  col_right = omega (arith, f.1, g.1, t.col_left);
+  col_left = omega (arith, f.1, g.1, t.col_right);
+}
+
 known-some : (n : ℕ) → n < no_count → known n ≡ Some n
 known-some n less = cond-true _ _ _ (lt-ltb _ _ less)
+
+known_is : (n m : ℕ) → known n ≡ Some m → n ≡ m
+known_is n m e = elim (cases_lt n no_count) [
+  | inl less ↦ same_Some n m (sym (known-some n less) ∙ e)
+  | inr more ↦ absurd (none-some m (sym (cond-false _ _ _ (le-ltb _ _ more)) ∙ e))
+]
 
 known-if : (n : ℕ) (P : ℕ → Type 0) → (n < no_count → P n) → IfSome (known n) P
 known-if n P h = elim (cases_lt n no_count) [
@@ -217,6 +232,19 @@ module _ (t : Terrain) (c : Cutting) (tile : ℕ) (b : Bounds) (steps shown : Li
       let few : count_on b new s < no_count = omega (arith, near, was) in
       (count_on b new s, entry_is p i ∙ known-some (count_on b new s) few, omega (arith, near, was))
 
+  within_here : (p q : Place) (m : ℕ) → IsInTile c tile p → IsInTile c tile q → IsNeighbour t p q → height_at t q ≡ height_at t p →
+      tile_entry c tile list q ≡ Some m → m < 2 ^ 24 - 1 → (n : ℕ) × (tile_entry c tile list p ≡ Some n) × (n ≤ m + 1)
+  within_here p q m i j next level e less =
+      let to = spot_inner b p (in_bounds_of p i) in
+      let from = spot_inner b q (in_bounds_of q j) in
+      let touch = touching_spots b p q (spot_of b p) (spot_of b q) to.1 from.1 next.touches in
+      let levels_are : level_on b levels (spot_of b p) ≡ level_on b levels (spot_of b q) =
+      (on (spot_of b p) (spot_from_inner b (spot_of b p) to.0)).0 p to.1 ∙ sym level ∙ sym ((on (spot_of b q) (spot_from_inner b (spot_of b q) from.0)).0 q from.1) in
+      let near : count_on b new (spot_of b p) ≤ count_on b new (spot_of b q) + 1 = settled.even.each (spot_of b q) (spot_of b p) from.0 to.0 touch levels_are in
+      let was : count_on b new (spot_of b q) ≡ m = known_is (count_on b new (spot_of b q)) m (sym (entry_is q j) ∙ e) in
+      let few : count_on b new (spot_of b p) < no_count = omega (arith, near, was) in
+      (count_on b new (spot_of b p), entry_is p i ∙ known-some (count_on b new (spot_of b p)) few, omega (arith, near, was))
+
   kept_here : (p : Place) (m : ℕ) → IsInTile c tile p → entry_at t.cols t.rows steps p ≡ Some m → (n : ℕ) × (tile_entry c tile list p ≡ Some n) × (n ≤ m)
   kept_here p m i e =
       let inner = spot_inner b p (in_bounds_of p i) in
@@ -232,6 +260,7 @@ module _ (t : Terrain) (c : Cutting) (tile : ℕ) (b : Bounds) (steps shown : Li
     size = out.size ∙ ap (λ (z : Bounds). z.rows * z.cols) bounds;
     walked = walked_here;
     near = near_here;
+    within = within_here;
     kept = kept_here;
   }
 

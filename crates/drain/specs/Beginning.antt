@@ -1,7 +1,6 @@
 -- The counts that the rounds begin with.
-use Rattle.std.specs.Prelude.{◌≡◌, ◌⊎◌, ℕ, ◌-◌, ◌<◌, ℤ, ◌<ℤ◌, List, length, Option, None, Some, slice_index_or}
+use Rattle.std.specs.Prelude.{◌≡◌, ◌⊎◌, ℕ, ◌-◌, ℤ, ◌<ℤ◌, Option, None, Some}
 use Rattle.ascii_grid.specs.Raster.{Terrain}
-use Rattle.ascii_grid.specs.Neighbours.{IsInside, index_of}
 use Rattle.ascii_grid.specs.declared.place.Place.{Place}
 use Rattle.drain.specs.Steps.{DrainsAtOnce}
 
@@ -18,8 +17,3 @@ pub record IsBegun (t : Terrain) (p : Place) (count : Option ℕ) : Type 0 where
 -- The place lies in the first or last row or column.
 abbrev pub IsOutermost : Terrain → Place → Type 0
 IsOutermost t p = (p.row ≡ 0) ⊎ (p.col ≡ 0) ⊎ (p.row ≡ t.rows - 1) ⊎ (p.col ≡ t.cols - 1)
-
--- The list has such counts for the places that stand before one in row order, and nothing more.
-pub record AreBegunBelow (t : Terrain) (end : ℕ) (counts : List (Option ℕ)) : Type 0 where
-  pub size : length counts ≡ end
-  pub each : (p : Place) → IsInside t p → index_of t.cols p < end → IsBegun t p (slice_index_or counts (index_of t.cols p) None)

@@ -3,7 +3,7 @@
 use Rattle.std.specs.Prelude.{◌≡◌, ℕ, ◌*◌, ◌<◌, ◌↔◌, List, length, Option, None, Some, MatchOption, IsTrue, slice_index_or}
 use Rattle.std.specs.Option.{option_zip}
 use Rattle.ascii_grid.specs.Raster.{Terrain}
-use Rattle.ascii_grid.specs.Neighbours.{IsInside, height_at, entry_at, index_of, IsEdge}
+use Rattle.ascii_grid.specs.Neighbours.{IsInside, height_at, entry_at, IsEdge}
 use Rattle.ascii_grid.specs.Ways.{entry_on}
 use Rattle.ascii_grid.specs.declared.place.Place.{Place}
 use Rattle.drain.specs.Steepness.{direction_of}
@@ -34,7 +34,7 @@ pub record AreDirections (t : Terrain) (codes : List (Option ℕ)) : Type 0 wher
   pub by_steps : (steps : List (Option ℕ)) × AreSteps t steps
       × ((p : Place) → IsInside t p → IsCodeAt t steps p (entry_at t.cols t.rows codes p))
 
--- The same for the places that stand before one in row order, and nothing more.
-pub record AreCodesBelow (t : Terrain) (steps : List (Option ℕ)) (end : ℕ) (codes : List (Option ℕ)) : Type 0 where
-  pub size : length codes ≡ end
-  pub each : (p : Place) → IsInside t p → index_of t.cols p < end → IsCodeAt t steps p (slice_index_or codes (index_of t.cols p) None)
+-- The same, with these steps.
+pub record AreCodes (t : Terrain) (steps codes : List (Option ℕ)) : Type 0 where
+  pub size : length codes ≡ t.cols * t.rows
+  pub each : (p : Place) → IsInside t p → IsCodeAt t steps p (entry_at t.cols t.rows codes p)

@@ -5,7 +5,10 @@ pub mod Directions
 pub mod Following
 pub mod Drained
 pub mod Rounds
+pub mod Entering
 pub mod Window
+pub mod TileLists
+pub mod Stages
 pub mod Beginning
 pub mod Fitting
 pub mod Laws

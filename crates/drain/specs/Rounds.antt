@@ -23,6 +23,9 @@ pub record IsRound (t : Terrain) (c : Cutting) (tile : ℕ) (old new : List (Opt
   -- a count is at most one above what a neighbour on the flat had
   pub near : (p q : Place) (m : ℕ) → IsInTile c tile p → IsNeighbour t p q → height_at t q ≡ height_at t p →
       entry_at t.cols t.rows old q ≡ Some m → m < 2 ^ 24 - 1 → (n : ℕ) × (tile_entry c tile new p ≡ Some n) × (n ≤ m + 1)
+  -- it goes as far as it can inside the tile
+  pub within : (p q : Place) (m : ℕ) → IsInTile c tile p → IsInTile c tile q → IsNeighbour t p q → height_at t q ≡ height_at t p →
+      tile_entry c tile new q ≡ Some m → m < 2 ^ 24 - 1 → (n : ℕ) × (tile_entry c tile new p ≡ Some n) × (n ≤ m + 1)
   -- no count rises or is lost
   pub kept : (p : Place) (m : ℕ) → IsInTile c tile p → entry_at t.cols t.rows old p ≡ Some m →
       (n : ℕ) × (tile_entry c tile new p ≡ Some n) × (n ≤ m)
@@ -41,6 +44,16 @@ pub record IsTileStill (t : Terrain) (c : Cutting) (tile : ℕ) (steps : List (O
   pub near : (p q : Place) (m : ℕ) → IsInTile c tile p → IsNeighbour t p q → height_at t q ≡ height_at t p →
       entry_at t.cols t.rows steps q ≡ Some m → m < 2 ^ 24 - 1 → (n : ℕ) × (entry_at t.cols t.rows steps p ≡ Some n) × (n ≤ m + 1)
 
+-- Inside the tile no count would be made less by a neighbour's.
+pub record IsTileEven (t : Terrain) (c : Cutting) (tile : ℕ) (steps : List (Option ℕ)) : Type 0 where
+  pub within : (p q : Place) (m : ℕ) → IsInTile c tile p → IsInTile c tile q → IsNeighbour t p q → height_at t q ≡ height_at t p →
+      entry_at t.cols t.rows steps q ≡ Some m → m < 2 ^ 24 - 1 → (n : ℕ) × (entry_at t.cols t.rows steps p ≡ Some n) × (n ≤ m + 1)
+
+-- No count of the tile would be made less by that of a neighbour in another tile.
+pub record IsUnentered (t : Terrain) (c : Cutting) (tile : ℕ) (steps : List (Option ℕ)) : Type 0 where
+  pub each : (p q : Place) (m : ℕ) → IsInTile c tile p → (IsInTile c tile q → ⊥) → IsNeighbour t p q → height_at t q ≡ height_at t p →
+      entry_at t.cols t.rows steps q ≡ Some m → m < 2 ^ 24 - 1 → (n : ℕ) × (entry_at t.cols t.rows steps p ≡ Some n) × (n ≤ m + 1)
+
 -- What a tile's job answers: nothing where a round would change nothing, and else what the round leaves, which
 -- differs at some cell.
 abbrev pub IsTileAnswer : Terrain → Cutting → ℕ → List (Option ℕ) → Option (Vec (Option ℕ) Global) → Type 0
@@ -54,11 +67,13 @@ pub record AreCounting (t : Terrain) (steps : List (Option ℕ)) : Type 0 where
   pub zeros : HasZeros t steps
   pub walked : AreWalked t steps
 
--- What the jobs of a round work on: filled heights, the counts so far, and which tiles may change.
+-- What the jobs of a round work on: filled heights, the counts so far, whether it is the first round, and
+-- which tiles may change.
 pub record Rounding : Type 0 where
   pub cutting : Cutting
   pub levels : List (Option ℤ)
   pub steps : List (Option ℕ)
+  pub first : Bool
   pub active : List Bool
 
 abbrev pub levels_of : Rounding → Terrain
@@ -68,6 +83,7 @@ pub record IsRounding (r : Rounding) : Type 0 where
   pub cutting : IsCutting r.cutting
   pub size : length r.levels ≡ r.cutting.cols * r.cutting.rows
   pub counting : AreCounting (levels_of r) r.steps
+  pub even : r.first ≡ false → (tile : ℕ) → tile < tile_count r.cutting → IsTileEven (levels_of r) r.cutting tile r.steps
   pub flags : length r.active ≡ tile_count r.cutting
   pub still : (tile : ℕ) → tile < tile_count r.cutting → slice_index_or r.active tile true ≡ false → IsTileStill (levels_of r) r.cutting tile r.steps
 

@@ -1,6 +1,6 @@
 -- A tile with the places around it, one row and one column more on each side: what the search for steps
 -- works on. A spot of it is a place counted from the row and the column before the tile's first.
-use Rattle.std.specs.Prelude.{◌≡◌, ◌≢◌, ℕ, ◌+◌, ◌-◌, ◌*◌, ◌^◌, ◌<◌, ◌≤◌, ◌⊎◌, ℤ, List, map, length, Option, None, Some, nat_lt, if◌then◌else◌, slice_index_or, slice_set, unwrap_or}
+use Rattle.std.specs.Prelude.{◌≡◌, ◌≢◌, ℕ, ◌+◌, ◌-◌, ◌*◌, ◌^◌, ◌<◌, ◌≤◌, ◌⊎◌, ℤ, List, map, length, Option, None, Some, nat_lt, if◌then◌else◌, slice_get, slice_index_or, slice_set, unwrap_or}
 use Rattle.ascii_grid.specs.Neighbours.{entry_at, index_of, Touches}
 use Rattle.ascii_grid.specs.declared.place.Place.{Place}
 use Rattle.tiles.specs.declared.bounds.Bounds.{Bounds}
@@ -74,6 +74,23 @@ pub record IsNotAbove (new old : List ℕ) : Type 0 where
 pub record IsNear (b : Bounds) (levels : List (Option ℤ)) (old new : List ℕ) (s : Place) : Type 0 where
   pub each : (r : Place) → Touches s r → level_on b levels r ≡ level_on b levels s → count_on b new s ≤ count_on b old r + 1
 
+-- A list has grown, and the spots of the tile whose counts changed are among those that were added.
+pub record AreNoted (b : Bounds) (old new : List ℕ) (before after : List Place) : Type 0 where
+  pub longer : length before ≤ length after
+  pub kept : (k : ℕ) → k < length before → slice_get after k ≡ slice_get before k
+  pub each : (s : Place) → IsInner b s → (count_on b new s ≡ count_on b old s) ⊎ ((k : ℕ) × (length before ≤ k) × (slice_get after k ≡ Some s))
+
+-- Each count of the tile is at most one above those that its spot touches on its level, but where it touches
+-- one that stands in the list from a place on.
+pub record IsEvenBut (b : Bounds) (levels : List (Option ℤ)) (counts : List ℕ) (waiting : List Place) (from : ℕ) : Type 0 where
+  pub each : (s r : Place) → IsInner b s → IsInner b r → Touches s r → level_on b levels r ≡ level_on b levels s →
+      (count_on b counts r ≤ count_on b counts s + 1) ⊎ ((k : ℕ) × (from ≤ k) × (slice_get waiting k ≡ Some s))
+
+-- Each count of the tile is at most one above those that its spot touches on its level.
+pub record IsEven (b : Bounds) (levels : List (Option ℤ)) (counts : List ℕ) : Type 0 where
+  pub each : (s r : Place) → IsInner b s → IsInner b r → Touches s r → level_on b levels r ≡ level_on b levels s →
+      count_on b counts r ≤ count_on b counts s + 1
+
 -- The list has what each spot shows.
 abbrev pub AreShown : {X : Type 0} → ℕ → ℕ → List (Option X) → Bounds → List (Option X) → Type 0
 AreShown cols rows entries b shown = (s : Place) → IsSpot b s → IsShown cols rows entries b s (slice_index_or shown (spot_index b s) None)
@@ -100,10 +117,12 @@ pub record AreKnownBelow (b : Bounds) (counts : List ℕ) (end : ℕ) (list : Li
   pub size : length list ≡ end
   pub each : (s : Place) → IsInner b s → inner_index b s < end → slice_index_or list (inner_index b s) None ≡ known (count_on b counts s)
 
--- Moves lead from the old counts to the new, and each spot of the tile is near to the old counts around it.
+-- Moves lead from the old counts to the new, each spot of the tile is near to the old counts around it, and no
+-- move is left inside the tile.
 pub record IsSettled (b : Bounds) (levels : List (Option ℤ)) (old new : List ℕ) : Type 0 where
   pub spread : IsSpread b levels old new
   pub near : (s : Place) → IsInner b s → IsNear b levels old new s
+  pub even : IsEven b levels new
 
 -- The counts are those that the spots show, as numbers.
 pub record AreLent (cols rows : ℕ) (entries : List (Option ℕ)) (b : Bounds) (counts : List ℕ) : Type 0 where

@@ -1,13 +1,15 @@
 // The counts that the rounds begin with: 0 at each cell that drains at once.
 ghost use Rattle.std.specs.Prelude.{◌≡◌, ℕ, ◌+◌, ◌*◌, ◌<◌, ◌≤◌, ◌↔◌, Some, None, length, vec_len, IsTrue, OnOk, IfOk, slice_index_or};
 ghost use Rattle.std.specs.Bool.{MatchBool};
+ghost use Rattle.ascii_grid.specs.Raster.{IsTerrain};
 ghost use Rattle.ascii_grid.specs.Neighbours.{IsInside, height_at};
 ghost use Rattle.drain.specs.Steps.{DrainsAtOnce};
-ghost use Rattle.drain.specs.Beginning.{IsGapOrLower, IsOutermost, IsBegun, AreBegunBelow};
-ghost use Rattle.drain.specs.Rounds.{AreCounting};
+ghost use Rattle.drain.specs.Beginning.{IsGapOrLower, IsOutermost, IsBegun};
+ghost use Rattle.drain.specs.TileLists.{IsPartOf, AreMadeBelow};
 
 use ascii_grid::{Grid, Height, Place};
 use std::alloc::{AllocError, Global};
+use tiles::Bounds;
 
 /// Whether a cell has no data or is lower than this level.
 #[inline(always)]
@@ -97,25 +99,42 @@ fn begin_at(grid: &Grid, place: Place) -> Option<u32>
     }
 }
 
-/// Begins the counts of one row.
-fn begin_along(grid: &Grid, row: u32, counts: &mut Vec<Option<u32>>) -> Result<(), AllocError>
-    requires row { row < grid.now.terrain.rows }
-    requires counts { AreBegunBelow grid.now.terrain (row * grid.now.terrain.cols) counts.old.items }
-    ensures { OnOk result (AreBegunBelow grid.now.terrain ((row + 1) * grid.now.terrain.cols) counts.new.items) }
+/// Begins the counts of one row of a tile.
+fn begin_along(
+    grid: &Grid,
+    bounds: Bounds,
+    row: u32,
+    counts: &mut Vec<Option<u32>>,
+) -> Result<(), AllocError>
+    requires lawful { IsTerrain grid.now.terrain }
+    requires inside { IsPartOf grid.now.terrain bounds }
+    requires row { row < bounds.rows }
+    requires counts { AreMadeBelow bounds (IsBegun grid.now.terrain) (row * bounds.cols) counts.old.items }
+    ensures { OnOk result (AreMadeBelow bounds (IsBegun grid.now.terrain) ((row + 1) * bounds.cols) counts.new.items) }
 {
-    for col in 0..grid.cols() {
-        counts.push(begin_at(grid, Place { row, col }))?;
+    for col in 0..bounds.cols {
+        let place = Place {
+            row: bounds.top + row,
+            col: bounds.left + col,
+        };
+        counts.push(begin_at(grid, place))?;
     }
     Ok(())
 }
 
-/// The counts that the rounds begin with.
-pub(crate) fn begin(alloc: Global, grid: &Grid) -> Result<Vec<Option<u32>>, AllocError>
-    ensures { IfOk result (λ counts. AreCounting grid.now.terrain counts.items) }
+/// The counts of a tile that the rounds begin with, in its row order.
+pub(crate) fn begin_tile(
+    alloc: Global,
+    grid: &Grid,
+    bounds: Bounds,
+) -> Result<Vec<Option<u32>>, AllocError>
+    requires lawful { IsTerrain grid.now.terrain }
+    requires inside { IsPartOf grid.now.terrain bounds }
+    ensures { IfOk result (λ counts. AreMadeBelow bounds (IsBegun grid.now.terrain) (bounds.rows * bounds.cols) counts.items) }
 {
-    let mut counts = Vec::with_capacity(alloc, grid.cells().len())?;
-    for row in 0..grid.rows() {
-        begin_along(grid, row, &mut counts)?;
+    let mut counts = Vec::with_capacity(alloc, bounds.rows as usize * bounds.cols as usize)?;
+    for row in 0..bounds.rows {
+        begin_along(grid, bounds, row, &mut counts)?;
     }
     Ok(counts)
 }

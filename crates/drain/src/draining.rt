@@ -2,15 +2,14 @@
 ghost use Rattle.std.specs.Prelude.{◌≡◌, ◌≢◌, ◌<◌, ◌≤◌, Err, IfOk, IfErr};
 ghost use Rattle.tiles.specs.Cutting.{Cuts, terrain_of};
 ghost use Rattle.tile_jobs.specs.Fault.{RefusesWorkers};
-ghost use Rattle.drain.specs.Rounds.{AreWalked, AreCounting, HasZeros, IsRound};
+ghost use Rattle.drain.specs.Rounds.{AreWalked, HasZeros, IsRound};
 ghost use Rattle.drain.specs.Steps.{AreSteps};
 ghost use Rattle.drain.specs.Directions.{AreDirections};
 ghost use Rattle.drain.specs.Drained.{AllFlowEnds, directed_of};
 
-use crate::beginning::begin;
 use crate::direction_map::Directions;
 use crate::rounds::settle;
-use crate::surroundings::codes;
+use crate::stages::{begin, codes};
 use crate::{looking, window};
 use ascii_grid::{Height, NoMemory};
 use fill::Filled;
@@ -64,26 +63,19 @@ fn counted<R: Threads + Wait + Sync, G: Gate + Sync>(
     alloc: Global,
     filled: &Filled,
     tiling: &Tiling,
-    begun: Vec<Option<u32>>,
     workers: u32,
     gate: &G,
 ) -> Result<Vec<Option<u32>>, JobFault>
     requires cuts { Cuts tiling.now filled.now.terrain }
     requires workers { (1 ≤ workers) × (workers ≤ 64) }
-    requires begun { AreCounting filled.now.terrain begun.items }
     ensures steps { IfOk result (λ s. AreSteps filled.now.terrain s.items) }
     ensures fault { IfErr result (λ e. e ≢ JobFault.BadWorkers) }
     ensures no_thread { result ≡ Err JobFault.NoThread → 1 < workers }
 {
-    settle(
-        rt,
-        alloc,
-        tiling,
-        filled.grid().cells(),
-        begun,
-        workers,
-        gate,
-    )
+    let grid = filled.grid();
+    let cells = grid.cells();
+    let begun = begin(rt, alloc, grid, tiling, workers, gate)?;
+    settle(rt, alloc, tiling, cells, begun, workers, gate)
 }
 
 /// The direction of each cell of a filled grid. The tiles' rounds are jobs of the workers; a bad number of
@@ -107,10 +99,10 @@ pub fn directions<R: Threads + Wait + Sync, G: Gate + Sync>(
         return Err(JobFault::BadWorkers);
     }
     let grid = filled.grid();
-    let begun = begin(alloc, grid)?;
-    let steps = counted(rt, alloc, filled, tiling, begun, workers, gate)?;
-    let codes = codes(alloc, grid, &steps)?;
-    let Ok(own) = grid.with_cells(alloc, grid.cells()) else {
+    let cells = grid.cells();
+    let steps = counted(rt, alloc, filled, tiling, workers, gate)?;
+    let codes = codes(rt, alloc, grid, &steps, tiling, workers, gate)?;
+    let Ok(own) = grid.with_cells(alloc, cells) else {
         return Err(JobFault::Memory);
     };
     Ok(Directions::new(own, steps, codes))

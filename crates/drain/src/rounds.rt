@@ -7,6 +7,7 @@ ghost use Rattle.tiles.specs.Cutting.{IsCutting, AreBounds, IsWithin, IsInTile, 
 ghost use Rattle.drain.specs.Rounds.{told, told_by, AreSized, IsBoundsOf, IsUntouched, AreAnswered, IsRounding, AreStill, AreCounting, AreSettled, left_to_count};
 
 use crate::draining::flat_steps;
+use crate::entering::is_entered;
 use ascii_grid::{Height, Place};
 use std::alloc::{AllocError, Global};
 use std::marker::Model;
@@ -15,12 +16,14 @@ use std::thread::Threads;
 use tile_jobs::{Gate, JobFault, Work, run_jobs};
 use tiles::{Bounds, TileView, Tiling};
 
-/// What the jobs of a round work on: filled heights, the counts so far, and which tiles may change.
+/// What the jobs of a round work on: filled heights, the counts so far, whether it is the first round, and
+/// which tiles may change.
 #[derive(Drop)]
 struct Round<'a> {
     tiling: &'a Tiling,
     levels: &'a [Option<Height>],
     steps: &'a [Option<u32>],
+    first: bool,
     active: &'a [bool],
 }
 
@@ -29,9 +32,9 @@ impl<'a> Model for Round<'a> {
 
     ghost Value = { Rounding };
 
-    ghost view = { λ r. record { cutting = r.tiling.now; levels = r.levels.now; steps = r.steps.now; active = r.active.now } };
+    ghost view = { λ r. record { cutting = r.tiling.now; levels = r.levels.now; steps = r.steps.now; first = r.first; active = r.active.now } };
 
-    ghost invariant = { λ r. IsRounding (record { cutting = r.tiling.now; levels = r.levels.now; steps = r.steps.now; active = r.active.now }) };
+    ghost invariant = { λ r. IsRounding (record { cutting = r.tiling.now; levels = r.levels.now; steps = r.steps.now; first = r.first; active = r.active.now }) };
 }
 
 /// Whether a row of a tile's list differs from what the view has there.
@@ -79,6 +82,9 @@ impl<'a> Work for Round<'a> {
 
     fn run(&self, alloc: Global, job: u32) -> Result<Option<Vec<Option<u32>>>, JobFault> {
         if !self.active[job as usize] {
+            return Ok(None);
+        }
+        if !self.first && !is_entered(self.tiling, self.levels, self.steps, job) {
             return Ok(None);
         }
         let levels = self.tiling.view(self.levels, job);
@@ -227,7 +233,7 @@ fn is_touched(tiling: &Tiling, outs: &[Option<Vec<Option<u32>>>], tile: u32) -> 
 }
 
 /// Which tiles may change in the next round: those that changed, and those that they touch.
-fn next_active(
+pub(crate) fn next_active(
     alloc: Global,
     tiling: &Tiling,
     outs: &[Option<Vec<Option<u32>>>],
@@ -266,15 +272,16 @@ fn one_round<R: Threads + Wait + Sync, G: Gate + Sync>(
     tiling: &Tiling,
     levels: &[Option<Height>],
     steps: &mut [Option<u32>],
+    first: bool,
     active: &mut Vec<bool>,
     workers: u32,
     gate: &G,
 ) -> Result<bool, JobFault>
     requires workers { (1 ≤ workers) × (workers ≤ 64) }
-    requires rounding { IsRounding (record { cutting = tiling.now; levels = levels.now; steps = steps.old; active = active.old.items }) }
-    ensures rounding { OnOk result (IsRounding (record { cutting = tiling.now; levels = levels.now; steps = steps.new; active = active.new.items })) }
+    requires rounding { IsRounding (record { cutting = tiling.now; levels = levels.now; steps = steps.old; first = first; active = active.old.items }) }
+    ensures rounding { OnOk result (IsRounding (record { cutting = tiling.now; levels = levels.now; steps = steps.new; first = false; active = active.new.items })) }
     ensures more { IfOk result (λ more. MatchBool more (left_to_count steps.new < left_to_count steps.old)
-        (AreStill (record { cutting = tiling.now; levels = levels.now; steps = steps.new; active = active.new.items }))) }
+        (AreStill (record { cutting = tiling.now; levels = levels.now; steps = steps.new; first = false; active = active.new.items }))) }
     ensures fault { IfErr result (λ e. e ≢ JobFault.BadWorkers) }
     ensures no_thread { result ≡ Err JobFault.NoThread → 1 < workers }
 {
@@ -283,6 +290,7 @@ fn one_round<R: Threads + Wait + Sync, G: Gate + Sync>(
             tiling,
             levels,
             steps,
+            first,
             active,
         };
         answers(rt, alloc, &round, workers, gate)?
@@ -313,15 +321,19 @@ pub(crate) fn settle<R: Threads + Wait + Sync, G: Gate + Sync>(
     ensures no_thread { result ≡ Err JobFault.NoThread → 1 < workers }
 {
     let mut active = vec![in alloc; true; tiling.tiles() as usize]?;
+    let mut first = true;
     while one_round(
         rt,
         alloc,
         tiling,
         levels,
         &mut steps,
+        first,
         &mut active,
         workers,
         gate,
-    )? {}
+    )? {
+        first = false;
+    }
     Ok(steps)
 }

@@ -1,17 +1,20 @@
-// What stands around each cell, and the codes of all cells.
+// What stands around each cell, and the codes of a tile.
 ghost use Rattle.std.specs.Prelude.{◌≡◌, ℕ, ◌+◌, ◌*◌, ◌<◌, ◌≤◌, Some, None, length, OnOk, IfOk, MatchOption, option_and_then};
 ghost use Rattle.std.specs.Option.{option_zip};
 ghost use Rattle.ascii_grid.specs.Raster.{IsTerrain};
 ghost use Rattle.ascii_grid.specs.Neighbours.{IsInside, height_at, entry_at};
 ghost use Rattle.ascii_grid.specs.Ways.{place_of, before};
 ghost use Rattle.drain.specs.Steps.{AreSteps};
-ghost use Rattle.drain.specs.Directions.{IsAround, IsCodeAt, AreCodesBelow};
+ghost use Rattle.drain.specs.Directions.{IsCodeAt};
+ghost use Rattle.drain.specs.Fitting.{IsLaidAround};
+ghost use Rattle.drain.specs.TileLists.{IsPartOf, AreMadeBelow};
 
 use crate::around::Around;
 use crate::code::Code;
 use crate::steepness::direction;
 use ascii_grid::{Grid, Height, Place};
 use std::alloc::{AllocError, Global};
+use tiles::Bounds;
 
 /// The row or column before this one, None before the first.
 #[inline(always)]
@@ -47,7 +50,7 @@ fn entry(
     }
 }
 
-/// What stands around a data cell.
+/// What stands around a data cell. One without a lower neighbour is an edge cell exactly where it has no steps.
 #[inline(always)]
 fn around(grid: &Grid, steps: &[Option<u32>], place: Place, level: Height, own: u32) -> Around
     requires size { length steps.now ≡ grid.now.terrain.cols * grid.now.terrain.rows }
@@ -55,7 +58,7 @@ fn around(grid: &Grid, steps: &[Option<u32>], place: Place, level: Height, own: 
     requires inside { IsInside grid.now.terrain place }
     requires level { height_at grid.now.terrain place ≡ Some level }
     requires own { entry_at grid.now.terrain.cols grid.now.terrain.rows steps.now place ≡ Some own }
-    ensures { IsAround grid.now.terrain steps.now place result }
+    ensures { IsLaidAround grid.now.terrain steps.now place result }
 {
     let row = Some(place.row);
     let col = Some(place.col);
@@ -66,7 +69,7 @@ fn around(grid: &Grid, steps: &[Option<u32>], place: Place, level: Height, own: 
     Around {
         level,
         steps: own,
-        edge: grid.is_edge(place),
+        edge: own == 0,
         ways: [
             entry(grid, steps, row, east),
             entry(grid, steps, south, east),
@@ -95,37 +98,46 @@ fn code_at(grid: &Grid, steps: &[Option<u32>], place: Place) -> Option<Code>
     }
 }
 
-/// The codes of one row.
+/// The codes of one row of a tile.
 fn codes_along(
     grid: &Grid,
     steps: &[Option<u32>],
+    bounds: Bounds,
     row: u32,
     codes: &mut Vec<Option<Code>>,
 ) -> Result<(), AllocError>
     requires lawful { IsTerrain grid.now.terrain }
     requires steps { AreSteps grid.now.terrain steps.now }
-    requires row { row < grid.now.terrain.rows }
-    requires codes { AreCodesBelow grid.now.terrain steps.now (row * grid.now.terrain.cols) codes.old.items }
-    ensures { OnOk result (AreCodesBelow grid.now.terrain steps.now ((row + 1) * grid.now.terrain.cols) codes.new.items) }
+    requires inside { IsPartOf grid.now.terrain bounds }
+    requires row { row < bounds.rows }
+    requires codes { AreMadeBelow bounds (IsCodeAt grid.now.terrain steps.now) (row * bounds.cols) codes.old.items }
+    ensures { OnOk result (AreMadeBelow bounds (IsCodeAt grid.now.terrain steps.now) ((row + 1) * bounds.cols) codes.new.items) }
 {
-    for col in 0..grid.cols() {
-        codes.push(code_at(grid, steps, Place { row, col }))?;
+    for col in 0..bounds.cols {
+        let place = Place {
+            row: bounds.top + row,
+            col: bounds.left + col,
+        };
+        codes.push(code_at(grid, steps, place))?;
     }
     Ok(())
 }
 
-/// The codes of all cells, in row order.
-pub(crate) fn codes(
+/// The codes of a tile's cells, in its row order.
+pub(crate) fn codes_of_tile(
     alloc: Global,
     grid: &Grid,
     steps: &[Option<u32>],
+    bounds: Bounds,
 ) -> Result<Vec<Option<Code>>, AllocError>
-    requires { AreSteps grid.now.terrain steps.now }
-    ensures { IfOk result (λ codes. AreCodesBelow grid.now.terrain steps.now (grid.now.terrain.cols * grid.now.terrain.rows) codes.items) }
+    requires lawful { IsTerrain grid.now.terrain }
+    requires steps { AreSteps grid.now.terrain steps.now }
+    requires inside { IsPartOf grid.now.terrain bounds }
+    ensures { IfOk result (λ codes. AreMadeBelow bounds (IsCodeAt grid.now.terrain steps.now) (bounds.rows * bounds.cols) codes.items) }
 {
-    let mut codes = Vec::with_capacity(alloc, grid.cells().len())?;
-    for row in 0..grid.rows() {
-        codes_along(grid, steps, row, &mut codes)?;
+    let mut codes = Vec::with_capacity(alloc, bounds.rows as usize * bounds.cols as usize)?;
+    for row in 0..bounds.rows {
+        codes_along(grid, steps, bounds, row, &mut codes)?;
     }
     Ok(codes)
 }

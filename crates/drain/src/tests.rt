@@ -1,15 +1,17 @@
 ghost use Rattle.ascii_grid.specs.Raster.{IsHeight};
 ghost use Rattle.tiles.specs.Cutting.{Cuts};
 
-use crate::beginning::begin;
+use crate::rounds::next_active;
+use crate::stages::begin;
 use crate::{Around, Code, direction, directions, flat_steps};
 use ascii_grid::{Grid, Height, Place, read_text};
 use fill::filled;
-use std::alloc::{AllocError, Global};
+use std::alloc::Global;
 use std::process::Abort;
 use std::sync::Wait;
+use std::test::Fail;
 use std::thread::Threads;
-use tile_jobs::NoGate;
+use tile_jobs::{JobFault, NoGate};
 use tiles::Tiling;
 
 /// A grid of whole heights. Its rows are given one after another.
@@ -172,14 +174,20 @@ fn refused_workers(rt: HostRuntime) {
 }
 
 /// One round over the first tile of a grid, from the counts that the rounds begin with.
-fn first_round(alloc: Global, grid: &Grid, tiling: &Tiling) -> Result<Vec<Option<u32>>, AllocError>
+fn first_round<R: Threads + Wait + Sync>(
+    rt: &R,
+    alloc: Global,
+    grid: &Grid,
+    tiling: &Tiling,
+) -> Result<Vec<Option<u32>>, JobFault>
     requires { Cuts tiling.now grid.now.terrain }
 {
     let _tiles = tiling.tiles();
-    let begun = begin(alloc, grid)?;
-    let levels = tiling.view(grid.cells(), 0);
+    let cells = grid.cells();
+    let begun = begin(rt, alloc, grid, tiling, 1, &NoGate)?;
+    let levels = tiling.view(cells, 0);
     let steps = tiling.view(begun.as_slice(), 0);
-    flat_steps(alloc, &levels, &steps).map_err(|_| AllocError)
+    flat_steps(alloc, &levels, &steps).map_err(|_| JobFault::Memory)
 }
 
 #[test]
@@ -188,11 +196,38 @@ fn thirteen_steps(rt: HostRuntime) {
     let text = grid_text(&rt, alloc, 7, 7, WINDING);
     let grid = read_text(alloc, 0, text.as_bytes()).expect(&rt, "a grid");
     let tiling = Tiling::new(grid.cols(), grid.rows(), 7).expect(&rt, "a tiling");
-    let counts = first_round(alloc, &grid, &tiling).expect(&rt, "counts");
+    let counts = first_round(&rt, alloc, &grid, &tiling).expect(&rt, "counts");
     assert_eq!(rt; counts.len(), 49);
     assert_eq!(rt; counts[8], Some(13));
     assert_eq!(rt; counts[40], Some(1));
     assert_eq!(rt; counts[0], Some(0));
+}
+
+#[test]
+fn one_step_from_the_rim(rt: HostRuntime) {
+    let alloc = rt.alloc();
+    let text = grid_text(&rt, alloc, 3, 3, "9 9 9\n9 9 9\n9 9 9");
+    let grid = read_text(alloc, 0, text.as_bytes()).expect(&rt, "a grid");
+    let tiling = Tiling::new(grid.cols(), grid.rows(), 3).expect(&rt, "a tiling");
+    let zero = Some(0);
+    let lent = [zero, zero, zero, zero, None, zero, zero, zero, zero];
+    assert_eq!(rt; grid.cells().len(), 9);
+    let begun = begin(&rt, alloc, &grid, &tiling, 1, &NoGate).expect(&rt, "counts");
+    assert_eq!(rt; begun.as_slice(), lent.as_slice());
+    let counts = first_round(&rt, alloc, &grid, &tiling).expect(&rt, "counts");
+    let wanted = [zero, zero, zero, zero, Some(1), zero, zero, zero, zero];
+    assert_eq!(rt; counts.as_slice(), wanted.as_slice());
+}
+
+#[test]
+fn tiles_beside_a_change_alone(rt: HostRuntime) -> Result<(), Fail> {
+    let alloc = rt.alloc();
+    let tiling = Tiling::new(5, 1, 1).expect(&rt, "a tiling");
+    let list = vec![in alloc; Some(3)]?;
+    let active = next_active(alloc, &tiling, &[None, Some(list), None, None, None])?;
+    let wanted = [true, true, true, false, false];
+    assert_eq!(rt; active.as_slice(), wanted.as_slice());
+    Ok(())
 }
 
 /// The code of an edge cell of level 20 with these heights to the east and the south east.
@@ -221,6 +256,57 @@ fn code_of_one_cell(rt: HostRuntime) {
     assert_eq!(rt; code_between(15, 13).number(), 1);
     assert_eq!(rt; code_between(13, 10).number(), 2);
     assert_eq!(rt; code_between(20, 20).number(), 0);
+}
+
+#[test]
+fn codes_of_surroundings(rt: HostRuntime) {
+    let same = Some((20, 0));
+    let slope = Around {
+        level: 20,
+        steps: 0,
+        edge: false,
+        ways: [
+            Some((15, 0)),
+            Some((13, 0)),
+            same,
+            same,
+            same,
+            same,
+            same,
+            same,
+        ],
+    };
+    assert_eq!(rt; direction(&slope).number(), 1);
+    let flat = Around {
+        level: 5,
+        steps: 2,
+        edge: false,
+        ways: [
+            Some((5, 2)),
+            None,
+            Some((5, 1)),
+            None,
+            Some((5, 1)),
+            None,
+            None,
+            None,
+        ],
+    };
+    assert_eq!(rt; direction(&flat).number(), 4);
+    let outlet = Around {
+        level: 5,
+        steps: 0,
+        edge: true,
+        ways: [Some((5, 1)); 8],
+    };
+    assert_eq!(rt; direction(&outlet).number(), 0);
+    let corner = Around {
+        level: 5,
+        steps: 0,
+        edge: true,
+        ways: [None, None, None, None, None, None, None, Some((4, 0))],
+    };
+    assert_eq!(rt; direction(&corner).number(), 128);
 }
 
 #[test]

@@ -1,8 +1,8 @@
 // The search for steps over one tile and the places around it.
-ghost use Rattle.std.specs.Prelude.{◌≡◌, ◌≢◌, ℕ, ◌+◌, ◌*◌, ◌^◌, ◌<◌, ◌≤◌, ◌⊎◌, ◌↔◌, IsTrue, All, sum, length, None, OnOk, IfOk, vec_len, slice_index_or};
+ghost use Rattle.std.specs.Prelude.{◌≡◌, ◌≢◌, ℕ, ◌+◌, ◌*◌, ◌^◌, ◌<◌, ◌≤◌, ◌⊎◌, ◌↔◌, IsTrue, [], All, sum, length, None, OnOk, IfOk, vec_len, slice_index_or};
 ghost use Rattle.ascii_grid.specs.Neighbours.{Touches};
 ghost use Rattle.ascii_grid.specs.declared.place.Place.{Place};
-ghost use Rattle.drain.specs.Window.{AreCounts, area_of, spot_index, IsSpot, IsInner, level_on, count_on, IsLeastAlong, IsSpread, IsNotAbove, IsNear, IsSettled};
+ghost use Rattle.drain.specs.Window.{AreCounts, area_of, spot_index, IsSpot, IsInner, level_on, count_on, IsLeastAlong, IsSpread, IsNotAbove, IsNear, AreNoted, IsEvenBut, IsEven, IsSettled};
 
 use ascii_grid::{Height, Place};
 use std::alloc::{AllocError, Global};
@@ -149,6 +149,10 @@ fn reach(
     requires inner { All (IsInner ground.now.bounds) reached.old.items }
     ensures spread { OnOk result (IsSpread ground.now.bounds ground.now.levels.items counts.old counts.new) }
     ensures inner { OnOk result (All (IsInner ground.now.bounds) reached.new.items) }
+    ensures near { OnOk result (level_on ground.now.bounds ground.now.levels.items from ≡ level_on ground.now.bounds ground.now.levels.items to →
+        count_on ground.now.bounds counts.new to ≤ count_on ground.now.bounds counts.old from + 1) }
+    ensures own { OnOk result (count_on ground.now.bounds counts.new from ≡ count_on ground.now.bounds counts.old from) }
+    ensures noted { OnOk result (AreNoted ground.now.bounds counts.old counts.new reached.old.items reached.new.items) }
     ensures left { OnOk result (vec_len reached.new + sum counts.new ≤ vec_len reached.old + sum counts.old) }
 {
     let next = counts[ground.index(from)] + 1;
@@ -178,6 +182,11 @@ fn spread_along(
     requires inner { All (IsInner ground.now.bounds) reached.old.items }
     ensures spread { OnOk result (IsSpread ground.now.bounds ground.now.levels.items counts.old counts.new) }
     ensures inner { OnOk result (All (IsInner ground.now.bounds) reached.new.items) }
+    ensures near { OnOk result ((r : Place) → IsSpot ground.now.bounds r → Touches spot r → r.row ≡ row →
+        level_on ground.now.bounds ground.now.levels.items spot ≡ level_on ground.now.bounds ground.now.levels.items r →
+        count_on ground.now.bounds counts.new r ≤ count_on ground.now.bounds counts.old spot + 1) }
+    ensures own { OnOk result (count_on ground.now.bounds counts.new spot ≡ count_on ground.now.bounds counts.old spot) }
+    ensures noted { OnOk result (AreNoted ground.now.bounds counts.old counts.new reached.old.items reached.new.items) }
     ensures left { OnOk result (vec_len reached.new + sum counts.new ≤ vec_len reached.old + sum counts.old) }
 {
     for col in spot.col - 1..spot.col + 2 {
@@ -199,6 +208,11 @@ fn spread(
     requires inner { All (IsInner ground.now.bounds) reached.old.items }
     ensures spread { OnOk result (IsSpread ground.now.bounds ground.now.levels.items counts.old counts.new) }
     ensures inner { OnOk result (All (IsInner ground.now.bounds) reached.new.items) }
+    ensures near { OnOk result ((r : Place) → IsSpot ground.now.bounds r → Touches spot r →
+        level_on ground.now.bounds ground.now.levels.items spot ≡ level_on ground.now.bounds ground.now.levels.items r →
+        count_on ground.now.bounds counts.new r ≤ count_on ground.now.bounds counts.old spot + 1) }
+    ensures own { OnOk result (count_on ground.now.bounds counts.new spot ≡ count_on ground.now.bounds counts.old spot) }
+    ensures noted { OnOk result (AreNoted ground.now.bounds counts.old counts.new reached.old.items reached.new.items) }
     ensures left { OnOk result (vec_len reached.new + sum counts.new ≤ vec_len reached.old + sum counts.old) }
 {
     for row in spot.row - 1..spot.row + 2 {
@@ -212,7 +226,9 @@ fn search(ground: &Ground, counts: &mut [u32], mut reached: Vec<Place>) -> Resul
     requires size { length counts.old ≡ area_of ground.now.bounds }
     requires counts { AreCounts counts.old }
     requires inner { All (IsInner ground.now.bounds) reached.items }
-    ensures { OnOk result (IsSpread ground.now.bounds ground.now.levels.items counts.old counts.new) }
+    requires even { IsEvenBut ground.now.bounds ground.now.levels.items counts.old reached.items 0 }
+    ensures spread { OnOk result (IsSpread ground.now.bounds ground.now.levels.items counts.old counts.new) }
+    ensures even { OnOk result (IsEven ground.now.bounds ground.now.levels.items counts.new) }
 {
     let mut done = 0;
     while done < reached.len() {
@@ -240,6 +256,7 @@ fn pull_at(
     ensures spread { OnOk result (IsSpread ground.now.bounds ground.now.levels.items old.now counts.new) }
     ensures kept { OnOk result (IsNotAbove counts.new counts.old) }
     ensures near { OnOk result (IsNear ground.now.bounds ground.now.levels.items old.now counts.new spot) }
+    ensures noted { OnOk result (AreNoted ground.now.bounds counts.old counts.new reached.old.items reached.new.items) }
     ensures inner { OnOk result (All (IsInner ground.now.bounds) reached.new.items) }
 {
     let index = ground.index(spot);
@@ -271,6 +288,7 @@ fn pull_along(
     ensures spread { OnOk result (IsSpread ground.now.bounds ground.now.levels.items old.now counts.new) }
     ensures kept { OnOk result (IsNotAbove counts.new counts.old) }
     ensures near { OnOk result ((s : Place) → IsInner ground.now.bounds s → s.row ≡ row → IsNear ground.now.bounds ground.now.levels.items old.now counts.new s) }
+    ensures noted { OnOk result (AreNoted ground.now.bounds counts.old counts.new reached.old.items reached.new.items) }
     ensures inner { OnOk result (All (IsInner ground.now.bounds) reached.new.items) }
 {
     for col in 1..ground.bounds.cols + 1 {
@@ -291,6 +309,7 @@ fn pull(
     requires same { counts.old ≡ old.now }
     ensures spread { OnOk result (IsSpread ground.now.bounds ground.now.levels.items old.now counts.new) }
     ensures near { OnOk result ((s : Place) → IsInner ground.now.bounds s → IsNear ground.now.bounds ground.now.levels.items old.now counts.new s) }
+    ensures noted { IfOk result (λ reached. AreNoted ground.now.bounds old.now counts.new [] reached.items) }
     ensures inner { IfOk result (λ reached. All (IsInner ground.now.bounds) reached.items) }
 {
     let mut reached = Vec::new(alloc);

@@ -1,21 +1,12 @@
-use Rattle.std.proofs.Common.{◌≡◌, ◌+◌, ◌*◌, ℕ, List, Option, sym, subst, arith}
-use Rattle.ascii_grid.proofs.Places.{make_place}
-use Rattle.ascii_grid.specs.Neighbours.{index_of}
-use Rattle.drain.specs.Beginning.{AreBegunBelow}
-use Rattle.drain.proofs.Block.{begun_push}
+use Rattle.std.proofs.Common.{◌+◌, ◌*◌, List, Option, ℕ, sym, subst}
+use Rattle.drain.specs.Beginning.{IsBegun}
+use Rattle.drain.specs.TileLists.{AreMadeBelow}
+use Rattle.drain.proofs.TileLists.{made_next}
 use Rattle.drain.proofs.beginning.begin_along.Goals as goal
 
 pub loop-col-preserved : goal.loop-col-preserved
 loop-col-preserved c =
     let t = c.args.grid.now.terrain in
-    let p = make_place c.args.row c.loop-col.col in
-    let more = begun_push t p c.loop-col.counts.items c.begin_at.result (c.requires.row, omega (arith, c.cols-col-end.ensures.value)) c.loop-col.invariant c.begin_at.ensures in
-    let next : index_of t.cols p + 1 ≡ c.args.row * t.cols + (c.loop-col.col + 1) = omega arith in
-    subst (λ (n : ℕ). AreBegunBelow t n c.push.new.self.items) next
-    (subst (λ (xs : List (Option ℕ)). AreBegunBelow t (index_of t.cols p + 1) xs) (sym c.in_ok-push.ensures.items) more)
-
-pub returns : goal.returns
-returns c =
-    let t = c.args.grid.now.terrain in
-    let end : c.args.row * t.cols + c.loop-col.col ≡ (c.args.row + 1) * t.cols = omega (arith, c.cols-col-end.ensures.value) in
-    subst (λ (n : ℕ). AreBegunBelow t n c.loop-col.counts.items) end c.loop-col.invariant
+    let b = c.args.bounds in
+    subst (λ (xs : List (Option ℕ)). AreMadeBelow b (IsBegun t) (c.args.row * b.cols + (c.loop-col.col + 1)) xs) (sym c.in_ok-push.ensures.items)
+    (made_next b (IsBegun t) c.args.row c.loop-col.col c.loop-col.counts.items c.begin_at.result c.requires.row c.loop-col-test.true c.loop-col.invariant c.begin_at.ensures)

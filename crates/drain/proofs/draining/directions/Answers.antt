@@ -11,8 +11,8 @@ new-requires g c =
     let t = c.args.filled.now.terrain in
     let steps = c.in_ok-steps.steps.items in
     let codes = c.in_ok-codes.codes.items in
-    let all = codes_of c.grid-grid.result.now c.args.filled.now c.deref.result.now steps codes c.grid-grid.ensures.value c.deref.ensures.value c.in_ok-codes.ensures in
-    let same = own_terrain c.grid-grid.result.now c.in-Ok.own c.cells.result.now c.cells.ensures.value c.in-Ok.ensures ∙ ap (λ (x : Raster). x.terrain) c.grid-grid.ensures.value in
+    let all = codes_of c.grid-grid.result.now c.args.filled.now c.deref.result.now steps codes c.grid-grid.ensures.value c.deref.ensures.value c.in_ok-codes.ensures.codes in
+    let same = own_terrain c.grid-grid.result.now c.in-Ok.own c.cells-cells.result.now c.cells-cells.ensures.value c.in-Ok.ensures ∙ ap (λ (x : Raster). x.terrain) c.grid-grid.ensures.value in
     subst (λ (x : Terrain). IsDraining (record { terrain = x; steps = steps; codes = codes })) (sym same) (are_draining t steps codes c.in_ok-steps.ensures.steps all)
 
 pub returns-clause-codes : goal.returns-clause-codes
@@ -20,7 +20,7 @@ returns-clause-codes g c =
     let t = c.args.filled.now.terrain in
     let steps = c.in_ok-steps.steps.items in
     let codes = c.in_ok-codes.codes.items in
-    let all = codes_of c.grid-grid.result.now c.args.filled.now c.deref.result.now steps codes c.grid-grid.ensures.value c.deref.ensures.value c.in_ok-codes.ensures in
+    let all = codes_of c.grid-grid.result.now c.args.filled.now c.deref.result.now steps codes c.grid-grid.ensures.value c.deref.ensures.value c.in_ok-codes.ensures.codes in
     subst (λ (d : Drained). AreDirections t d.codes) (sym c.new.ensures) (are_directions t steps codes c.in_ok-steps.ensures.steps all)
 
 pub returns-clause-ends : goal.returns-clause-ends
@@ -28,8 +28,8 @@ returns-clause-ends g c =
     let t = c.args.filled.now.terrain in
     let steps = c.in_ok-steps.steps.items in
     let codes = c.in_ok-codes.codes.items in
-    let all = codes_of c.grid-grid.result.now c.args.filled.now c.deref.result.now steps codes c.grid-grid.ensures.value c.deref.ensures.value c.in_ok-codes.ensures in
-    let same = own_terrain c.grid-grid.result.now c.in-Ok.own c.cells.result.now c.cells.ensures.value c.in-Ok.ensures ∙ ap (λ (x : Raster). x.terrain) c.grid-grid.ensures.value in
+    let all = codes_of c.grid-grid.result.now c.args.filled.now c.deref.result.now steps codes c.grid-grid.ensures.value c.deref.ensures.value c.in_ok-codes.ensures.codes in
+    let same = own_terrain c.grid-grid.result.now c.in-Ok.own c.cells-cells.result.now c.cells-cells.ensures.value c.in-Ok.ensures ∙ ap (λ (x : Raster). x.terrain) c.grid-grid.ensures.value in
     let d : Drained = record { terrain = c.in-Ok.own.terrain; steps = steps; codes = codes } in
     let draining = subst (λ (x : Terrain). IsDraining (record { terrain = x; steps = steps; codes = codes })) (sym same) (are_draining t steps codes c.in_ok-steps.ensures.steps all) in
     subst (λ (x : Drained). AllFlowEnds (directed_of x)) (sym c.new.ensures) (falling_ends d draining)

@@ -1,4 +1,5 @@
 use Rattle.std.proofs.Common.{◌≡◌, ℕ, None, Some, ◌∷◌, [], get_or, refl, sym, ap, ◌∙◌, rules, to_z-of_z}
+use Rattle.std.proofs.lemmas.Bool.{eq-eqb, eqb-true}
 use mir.Val.{SFits}
 use mir.Syntax.{w32}
 use Rattle.std.specs.Option.{option_zip}
@@ -15,7 +16,7 @@ returns c =
     record {
       level = c.requires.level ∙ ap Some (sym (to_z-of_z fits));
       own_steps = c.requires.own;
-      edge = c.is_edge.ensures;
+      edge = (λ e. eqb-true _ _ e, λ e. eq-eqb _ _ e);
       count = refl;
       ways = eight (λ (way : ℕ). get_or (c.entry.result ∷ c.entry-2.result ∷ c.entry-3.result ∷ c.entry-4.result ∷ c.entry-5.result ∷ c.entry-6.result ∷ c.entry-7.result ∷ c.entry-8.result ∷ []) way None
           ≡ option_zip (entry_on t.cols t.rows t.cells way p) (entry_on t.cols t.rows steps way p))

@@ -1,6 +1,7 @@
 use Rattle.std.proofs.Common.{◌+◌, ◌*◌}
-use Rattle.drain.specs.Directions.{AreCodesBelow}
+use Rattle.drain.specs.Directions.{IsCodeAt}
+use Rattle.drain.specs.TileLists.{AreMadeBelow}
 use Rattle.drain.proofs.surroundings.codes_along.Given as goal
 
 abbrev pub invariant-loop-col : goal.invariant-loop-col
-invariant-loop-col l = AreCodesBelow l.grid.terrain l.steps (l.row * l.grid.terrain.cols + l.col) l.codes.items
+invariant-loop-col l = AreMadeBelow l.bounds (IsCodeAt l.grid.terrain l.steps) (l.row * l.bounds.cols + l.col) l.codes.items

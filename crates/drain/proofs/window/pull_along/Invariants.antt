@@ -1,6 +1,6 @@
 use Rattle.std.proofs.Common.{◌≡◌, ◌<◌, All}
 use Rattle.ascii_grid.specs.declared.place.Place.{Place}
-use Rattle.drain.specs.Window.{IsInner, IsSpread, IsNotAbove, IsNear}
+use Rattle.drain.specs.Window.{IsInner, IsSpread, IsNotAbove, IsNear, AreNoted}
 use Rattle.drain.proofs.window.pull_along.Given as goal
 
 abbrev pub invariant-loop-col : goal.invariant-loop-col
@@ -8,5 +8,6 @@ invariant-loop-col l = record {
   spread : IsSpread l.ground.bounds l.ground.levels.items l.old l.counts;
   kept : IsNotAbove l.counts l.initial.counts;
   near : (s : Place) → IsInner l.ground.bounds s → s.row ≡ l.row → s.col < l.col → IsNear l.ground.bounds l.ground.levels.items l.old l.counts s;
+  noted : AreNoted l.ground.bounds l.initial.counts l.counts l.initial.reached.items l.reached.items;
   inner : All (IsInner l.ground.bounds) l.reached.items;
 }

@@ -1,7 +1,8 @@
-use Rattle.std.proofs.Common.{All, List, sym, subst}
+use Rattle.std.proofs.Common.{All, List, set, sym, subst}
 use Rattle.std.proofs.lemmas.List.Elements.{All-push}
 use Rattle.ascii_grid.specs.declared.place.Place.{Place}
-use Rattle.drain.specs.Window.{IsInner}
+use Rattle.drain.specs.Window.{IsInner, AreNoted}
+use Rattle.drain.proofs.Noted.{noted_set}
 use Rattle.drain.proofs.Spreading.{pulled, spot_from_inner}
 use Rattle.drain.proofs.window.pull_at.Goals as goal
 
@@ -14,3 +15,9 @@ pub returns-in_ok-push-clause-inner : goal.returns-in_ok-push-clause-inner
 returns-in_ok-push-clause-inner c =
     subst (λ (xs : List Place). All (λ (s : Place). IsInner c.args.ground.now.bounds s) xs) (sym c.in_ok-push.ensures.items)
     (All-push (λ (s : Place). IsInner c.args.ground.now.bounds s) c.args.reached.now.items c.args.spot c.requires.inner c.requires.spot)
+
+pub returns-in_ok-push-clause-noted : goal.returns-in_ok-push-clause-noted
+returns-in_ok-push-clause-noted c =
+    let b = c.args.ground.now.bounds in
+    subst (λ (xs : List Place). AreNoted b c.args.counts.now (set c.args.counts.now c.index-index.result c.least_around-least.result) c.args.reached.now.items xs) (sym c.in_ok-push.ensures.items)
+    (noted_set b c.args.counts.now c.args.spot c.index-index.result c.least_around-least.result c.args.reached.now.items c.index-index.ensures.value (spot_from_inner b c.args.spot c.requires.spot))

@@ -1,7 +1,9 @@
-use Rattle.std.proofs.Common.{All, Vec, Global, List, sym, subst}
+use Rattle.std.proofs.Common.{◌+◌, All, Vec, Global, List, get_or, set, sym, subst, ◌∙◌}
+use Rattle.std.proofs.lemmas.Bool.{false≢true}
 use Rattle.std.proofs.lemmas.List.Elements.{All-push}
 use Rattle.ascii_grid.specs.declared.place.Place.{Place}
-use Rattle.drain.specs.Window.{IsInner, same}
+use Rattle.drain.specs.Window.{IsInner, AreNoted, same}
+use Rattle.drain.proofs.Noted.{noted_set, noted_off, reached_near, reached_own}
 use Rattle.drain.proofs.Spreading.{move_at}
 use Rattle.drain.proofs.window.reach.Goals as goal
 use Rattle.drain.proofs.window.reach.Goals.{then-is_inner+in_ok-push, else-is_inner}
@@ -22,3 +24,25 @@ returns-after-is_inner-clause-inner c = elim c.if-is_inner.branch [
 
 pub returns-else-next-counts-clause-spread : goal.returns-else-next-counts-clause-spread
 returns-else-next-counts-clause-spread c = same
+
+pub returns-after-is_inner-clause-near : goal.returns-after-is_inner-clause-near
+returns-after-is_inner-clause-near c = λ level.
+    reached_near c.args.ground.now.bounds c.args.counts.now c.args.from c.args.to c.index.result c.index-index.result c.index.ensures.value c.index-index.ensures.value c.requires.to.0 c.requires.size
+
+pub returns-after-is_inner-clause-own : goal.returns-after-is_inner-clause-own
+returns-after-is_inner-clause-own c =
+    reached_own c.args.ground.now.bounds c.args.counts.now c.args.from c.args.to c.index.result c.index-index.result c.index.ensures.value c.index-index.ensures.value
+    c.requires.from c.requires.to.0 c.if-next-counts.true
+
+pub returns-after-is_inner-clause-noted : goal.returns-after-is_inner-clause-noted
+returns-after-is_inner-clause-noted c =
+    let b = c.args.ground.now.bounds in
+    let new = set c.args.counts.now c.index-index.result (get_or c.args.counts.now c.index.result 0 + 1) in
+    elim c.if-is_inner.branch [
+      | then-is_inner+in_ok-push w ↦ subst (λ (v : Vec Place Global). AreNoted b c.args.counts.now new c.args.reached.now.items v.items) (sym w.reached-is)
+          (subst (λ (xs : List Place). AreNoted b c.args.counts.now new c.args.reached.now.items xs) (sym w.in_ok-push.ensures.items)
+          (noted_set b c.args.counts.now c.args.to c.index-index.result (get_or c.args.counts.now c.index.result 0 + 1) c.args.reached.now.items c.index-index.ensures.value c.requires.to.0))
+      | else-is_inner w ↦ subst (λ (v : Vec Place Global). AreNoted b c.args.counts.now new c.args.reached.now.items v.items) (sym w.reached-is)
+          (noted_off b c.args.counts.now c.args.to c.index-index.result (get_or c.args.counts.now c.index.result 0 + 1) c.args.reached.now.items c.index-index.ensures.value c.requires.to.0
+          (λ inner. false≢true (sym w.if-is_inner.false ∙ c.is_inner.ensures.1 inner)))
+    ]
