@@ -20,3 +20,7 @@ pub mod Directed
 pub mod Testing
 pub mod Inflow
 pub mod Joined
+pub mod RimNumbered
+pub mod RimFlows
+pub mod Together
+pub mod Numbered

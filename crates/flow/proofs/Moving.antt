@@ -36,7 +36,7 @@ moves_on weights waits came node next a b d ne some =
       other_came = λ j m. get_or-set_other came next j (get_or came next 0 + (get_or came node 0 + get_or weights node 0)) 0 m;
     }
 
-module _ (links weights waits came : List ℕ) (streams : AreStreams links) (few : length links ≤ 2 ^ 24) (s : IsSending links weights waits came) (node : ℕ) (inside : node < length links) (ready : get_or waits node 0 ≡ 0) where
+module _ (links weights waits came : List ℕ) (streams : AreStreams links) (few : length links ≤ 2 ^ 30) (s : IsSending links weights waits came) (node : ℕ) (inside : node < length links) (ready : get_or waits node 0 ≡ 0) where
   pub node_open : has_sent waits node ≡ false
   node_open = open_from_count waits node (omega (arith, ready))
 

@@ -1,32 +1,30 @@
 -- A grid that is one tile: what flows through a cell is its accumulation, and its exit ends its flow path.
-use Rattle.std.proofs.Common.{◌≡◌, ℕ, ◌+◌, ◌-◌, ◌*◌, ◌/◌, ◌%◌, ◌<◌, ◌≤◌, min, true, false, not, ◌&&◌, inl, inr, cond, List, length, get_or, count_by, take, Option, None, Some, is_some, sym, ap, subst, ◌∙◌, arith, mul_comm}
+use Rattle.std.proofs.Common.{◌≡◌, ℕ, ◌+◌, ◌-◌, ◌*◌, ◌/◌, ◌%◌, ◌<◌, ◌≤◌, min, true, false, not, ◌&&◌, inl, inr, cond, List, length, get_or, Option, None, Some, is_some, sym, ap, ◌∙◌, arith, mul_comm}
 use Rattle.std.specs.Int.{div_ceil}
 use Rattle.std.specs.List.{sum_by}
 use Rattle.std.proofs.Math.Nat.{zero-div, zero-mod, mul-le-mul}
 use Rattle.std.proofs.lemmas.Nat.{div-add-mod'}
 use Rattle.std.proofs.lemmas.Bool.{cases_Bool, cases_lt, and_from, and_parts, and_left, cond-false, false_from_ne_true}
 use Rattle.std.proofs.lemmas.List.Sums.{sum_by-le-sum_by}
-use Rattle.std.proofs.lemmas.List.FromFn.{get_or-map-range_with_len, length-map-range_with_len}
+use Rattle.std.proofs.lemmas.List.FromFn.{length-map-range_with_len}
 use Rattle.ascii_grid.specs.Neighbours.{entry_at, index_of}
 use Rattle.ascii_grid.specs.Ways.{places}
 use Rattle.ascii_grid.specs.declared.place.Place.{Place}
 use Rattle.ascii_grid.proofs.Places.{entry-inside}
 use Rattle.tiles.specs.declared.bounds.Bounds.{Bounds}
 use Rattle.tiles.specs.Cutting.{Cutting, IsCutting, View, IsView, AreBounds, IsInBounds, tile_count, across, down, bounds_of}
-use Rattle.tiles.proofs.TileOrder.{place_in_bounds, place_in-index_in, index_in_below}
+use Rattle.tiles.proofs.TileOrder.{place_in_bounds}
 use Rattle.tiles.proofs.Quotients.{piece_begins, pieces_some}
-use Rattle.drain.specs.Following.{code_at, follow, moves, last_of}
-use Rattle.flow.specs.Counts.{is_place, drains_through, accumulation, basin, IsMapOf}
-use Rattle.flow.specs.Streams.{AreUpstream, AreEnds, node_after, end_of}
+use Rattle.drain.specs.Following.{code_at, follow, moves}
+use Rattle.flow.specs.Counts.{is_place, drains_through, accumulation, IsMapOf}
+use Rattle.flow.specs.Streams.{AreUpstream}
 use Rattle.flow.specs.TileFlow.{stays, reaches_inside, through_of}
 use Rattle.flow.specs.TileLinks.{place_in, index_in, AreTileCodes, links_by, weights_by, where_data, through_by}
-use Rattle.flow.specs.Whole.{make_directed, IsGridFlow, is_outlet_code, outlet_numbers_by, basins_by}
+use Rattle.flow.specs.Whole.{make_directed, IsGridFlow}
 use Rattle.flow.proofs.Ranges.{some_in_range, any_in_range}
 use Rattle.flow.proofs.Coded.{IsCoded, cases_coded, coded_along, coded_inside, coded_from_some}
-use Rattle.flow.proofs.InTile.{in_step}
 use Rattle.flow.proofs.Through.{stays_from_way}
-use Rattle.flow.proofs.Ending.{end-inside}
-use Rattle.flow.proofs.Piece.{AreLists, streams, match_none, match_some, piece, sizes, entry_is, through_is, count_of}
+use Rattle.flow.proofs.Piece.{AreLists, match_none, match_some, piece, entry_is, through_is, count_of}
 
 abbrev pub whole_bounds : ℕ → ℕ → Bounds
 whole_bounds cols rows = record { top = 0; left = 0; rows = rows; cols = cols }
@@ -167,47 +165,5 @@ module _ (cols rows : ℕ) (codes : List (Option ℕ)) (s : IsGridFlow cols rows
             | inl none ↦ match_none (code_at (make_directed cols rows codes) p) _ _ none (at ∙ ap (λ o. where_data o (get_or came (index_in (whole_bounds cols rows) p) 0)) none)
             | inr is ↦ match_some (code_at (make_directed cols rows codes) p) _ _ is.code is.is
                 (at ∙ ap (λ o. where_data o (get_or came (index_in (whole_bounds cols rows) p) 0)) is.is ∙ ap Some (count_of _ _ _ _ _ lists came up p h is ∙ through_whole p))
-          ]);
-    }
-
-    -- the index of the cell at which a flow path ends
-    last_index : (p : Place) → p.row < rows → p.col < cols → IsCoded (make_directed cols rows codes) p →
-        index_of cols (last_of (make_directed cols rows codes) p) ≡ end_of links (index_in (whole_bounds cols rows) p)
-    last_index p r k is =
-        let h = in_whole p r k in
-        let at = place_in-index_in (whole_bounds cols rows) p h in
-        let i : index_in (whole_bounds cols rows) p < length links = omega (arith, index_in_below (whole_bounds cols rows) p h, sizes _ _ _ _ _ lists, coded.size) in
-        let there = subst (λ (q : Place). IsCoded (make_directed cols rows codes) q) (sym at) is in
-        let step = in_step (make_directed cols rows codes) (one_tile cols rows) 0 (whole_bounds cols rows) links (piece _ _ _ _ _ lists) (index_in (whole_bounds cols rows) p) i (moves (make_directed cols rows codes))
-        (λ l le. way (place_in (whole_bounds cols rows) (index_in (whole_bounds cols rows) p)) there l) in
-        let few : moves (make_directed cols rows codes) ≡ length links = omega (arith, sizes _ _ _ _ _ lists, s.size) in
-        sym (ap (λ (q : Place). index_of cols (last_of (make_directed cols rows codes) q)) at)
-        ∙ sym (ap (index_of cols) step)
-        ∙ index_at (node_after links (index_in (whole_bounds cols rows) p) (moves (make_directed cols rows codes)))
-        ∙ ap (node_after links (index_in (whole_bounds cols rows) p)) few
-
-    pub basins_are : (ends numbers : List ℕ) → AreEnds links ends → numbers ≡ outlet_numbers_by codes →
-        IsMapOf (make_directed cols rows codes) (basin (make_directed cols rows codes)) (basins_by codes ends numbers)
-    basins_are ends numbers last made = record {
-      size = length-map-range_with_len (λ i. where_data (get_or codes i None) (get_or numbers (get_or ends i 0) 0)) 0 (length codes) ∙ s.size;
-      each = λ p i. (let h = in_whole p i.0 i.1 in
-          let j = index_in (whole_bounds cols rows) p in
-          let below : index_in (whole_bounds cols rows) p < length codes = omega (arith, index_in_below (whole_bounds cols rows) p h, coded.size) in
-          let own : get_or codes (index_in (whole_bounds cols rows) p) None ≡ code_at (make_directed cols rows codes) p = sym (entry_whole codes p i.0 i.1) in
-          let at = entry_whole (basins_by codes ends numbers) p i.0 i.1
-          ∙ get_or-map-range_with_len (λ i. where_data (get_or codes i None) (get_or numbers (get_or ends i 0) 0)) 0 (length codes) (index_in (whole_bounds cols rows) p) (index_in (whole_bounds cols rows) p) None below (omega arith)
-          ∙ ap (λ o. where_data o (get_or numbers (get_or ends (index_in (whole_bounds cols rows) p) 0) 0)) own in
-          elim (cases_coded (make_directed cols rows codes) p) [
-            | inl none ↦ match_none (code_at (make_directed cols rows codes) p) _ _ none (at ∙ ap (λ o. where_data o (get_or numbers (get_or ends (index_in (whole_bounds cols rows) p) 0) 0)) none)
-            | inr is ↦ (let k : index_in (whole_bounds cols rows) p < length links = omega (arith, below, sizes _ _ _ _ _ lists) in
-                let end : get_or ends (index_in (whole_bounds cols rows) p) 0 ≡ index_of cols (last_of (make_directed cols rows codes) p) =
-                last.each (index_in (whole_bounds cols rows) p) k ∙ sym (last_index p i.0 i.1 is) in
-                let inside : index_of cols (last_of (make_directed cols rows codes) p) < length codes =
-                omega (arith, last_index p i.0 i.1 is, end-inside links (streams _ _ _ _ _ lists) (index_in (whole_bounds cols rows) p) k, sizes _ _ _ _ _ lists) in
-                let number : get_or numbers (get_or ends (index_in (whole_bounds cols rows) p) 0) 0 ≡ basin (make_directed cols rows codes) p =
-                ap (λ n. get_or numbers n 0) end ∙ ap (λ xs. get_or xs (index_of cols (last_of (make_directed cols rows codes) p)) 0) made
-                ∙ get_or-map-range_with_len (λ i. 1 + count_by is_outlet_code (take i codes)) 0 (length codes) (index_of cols (last_of (make_directed cols rows codes) p)) (index_of cols (last_of (make_directed cols rows codes) p)) 0 inside (omega arith) in
-                match_some (code_at (make_directed cols rows codes) p) _ _ is.code is.is
-                (at ∙ ap (λ o. where_data o (get_or numbers (get_or ends (index_in (whole_bounds cols rows) p) 0) 0)) is.is ∙ ap Some number))
           ]);
     }

@@ -117,7 +117,7 @@ donor-waiting links waits i j f = elim (cases_eq (onward links j) i) [
   | inr ne ↦ donor-apart links i j ne ∙ sym (waiting-apart links waits i j ne)
 ]
 
-pub donors_begin : (links weights waits came : List ℕ) → length links ≤ 2 ^ 24 → AreDonorCounts links waits → AreNone (length links) came → IsSending links weights waits came
+pub donors_begin : (links weights waits came : List ℕ) → length links ≤ 2 ^ 30 → AreDonorCounts links waits → AreNone (length links) came → IsSending links weights waits came
 donors_begin links weights waits came few d none =
     let low : (i : ℕ) → i < length links → get_or waits i 0 < sent_mark =
     λ i h. omega (arith, d.each i h, sum_below-few (donor links i) (length links) (λ j l. donor-le links i j)) in

@@ -15,7 +15,7 @@ next_waits_list waits node next = set (set waits node sent_mark) next (get_or (s
 abbrev pub next_came_list : List ℕ → List ℕ → ℕ → ℕ → List ℕ
 next_came_list weights came node next = set came next (get_or came next 0 + (get_or came node 0 + get_or weights node 0))
 
-module _ (links weights waits came : List ℕ) (streams : AreStreams links) (few : length links ≤ 2 ^ 24) (s : IsSending links weights waits came) (node : ℕ) (inside : node < length links) (ready : get_or waits node 0 ≡ 0) (on : get_or links node 0 ≡ node → ⊥) where
+module _ (links weights waits came : List ℕ) (streams : AreStreams links) (few : length links ≤ 2 ^ 30) (s : IsSending links weights waits came) (node : ℕ) (inside : node < length links) (ready : get_or waits node 0 ≡ 0) (on : get_or links node 0 ≡ node → ⊥) where
   apart : node ≢ get_or links node 0
   apart e = on (sym e)
 
@@ -43,7 +43,7 @@ module _ (links weights waits came : List ℕ) (streams : AreStreams links) (few
     | inr other ↦ (λ z. early i h other (sym (moves.other_waits i other ne) ∙ z))
   ]
 
-module _ (links weights waits came : List ℕ) (streams : AreStreams links) (few : length links ≤ 2 ^ 24) (s : IsSending links weights waits came) (node : ℕ) (inside : node < length links) (ready : get_or waits node 0 ≡ 0) (end : get_or links node 0 ≡ node) where
+module _ (links weights waits came : List ℕ) (streams : AreStreams links) (few : length links ≤ 2 ^ 30) (s : IsSending links weights waits came) (node : ℕ) (inside : node < length links) (ready : get_or waits node 0 ≡ 0) (end : get_or links node 0 ≡ node) where
   marked : get_or (set waits node sent_mark) node 0 ≡ sent_mark
   marked = get_or-set_same waits node sent_mark 0 (omega (arith, s.waits_size))
 

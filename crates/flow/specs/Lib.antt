@@ -9,3 +9,7 @@ pub mod Whole
 pub mod Tested
 pub mod Crossing
 pub mod Joining
+pub mod RimNumbers
+pub mod RimGraph
+pub mod TileMaps
+pub mod Numbering

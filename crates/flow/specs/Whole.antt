@@ -1,11 +1,10 @@
 -- The grid as one tile. Only the contracts of private functions speak of it.
-use Rattle.std.specs.Prelude.{◌≡◌, ℕ, ◌+◌, ◌*◌, ◌≤◌, Bool, false, ◌==◌, List, length, take, count_by, map, Option, slice_index, slice_index_or, None}
+use Rattle.std.specs.Prelude.{◌≡◌, ℕ, ◌+◌, ◌*◌, ◌≤◌, Bool, false, ◌==◌, List, length, take, count_by, map, Option}
 use Rattle.std.specs.Option.{option_map_or}
 use Rattle.std.specs.List.{range_with_len}
 use Rattle.tiles.specs.Cutting.{longest_axis}
 use Rattle.drain.specs.Following.{Directed}
 use Rattle.drain.specs.Drained.{AllFlowEnds}
-use Rattle.flow.specs.TileLinks.{where_data}
 
 abbrev pub make_directed : ℕ → ℕ → List (Option ℕ) → Directed
 make_directed cols rows codes = record { cols = cols; rows = rows; codes = codes }
@@ -25,8 +24,3 @@ is_outlet_code code = option_map_or (λ c. c == 0) code false
 -- the number of each outlet: one more than the outlets that stand before it in row order
 abbrev pub outlet_numbers_by : List (Option ℕ) → List ℕ
 outlet_numbers_by codes = map (λ i. 1 + count_by is_outlet_code (take i codes)) (range_with_len 0 (length codes))
-
--- the number of the outlet at which the water of each data cell ends
-abbrev pub basins_by : List (Option ℕ) → List ℕ → List ℕ → List (Option ℕ)
-basins_by codes ends numbers =
-    map (λ i. where_data (slice_index_or codes i None) (slice_index numbers (slice_index ends i))) (range_with_len 0 (length codes))

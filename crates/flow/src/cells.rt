@@ -134,8 +134,9 @@ pub fn contains(bounds: Bounds, place: Place) -> bool
         && place.col < bounds.left + bounds.cols
 }
 
+/// Where water goes on from a place with this code.
 #[inline(always)]
-fn next_of(code: Option<Code>, place: Place) -> Place
+pub fn next_of(code: Option<Code>, place: Place) -> Place
     requires row { place.row < 2 ^ 32 - 1 }
     requires col { place.col < 2 ^ 32 - 1 }
     ensures { result ≡ unwrap_or (option_and_then (λ c. place_toward c place) code) place }

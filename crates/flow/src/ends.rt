@@ -12,7 +12,7 @@ const UNKNOWN: u32 = u32::MAX;
 /// Where the path of each node ends.
 pub fn ends(alloc: Global, links: &[u32]) -> Result<Vec<u32>, NoMemory>
     requires streams { AreStreams links.now }
-    requires few { length links.now ≤ 2 ^ 24 }
+    requires few { length links.now ≤ 2 ^ 30 }
     ensures { IfOk result (λ v. AreEnds links.now v.items) }
 {
     let mut ends = unknown(alloc, links)?;
@@ -32,7 +32,7 @@ fn unknown(alloc: Global, links: &[u32]) -> Result<Vec<u32>, NoMemory>
 
 // Marks the nodes that are ends.
 fn mark_ends(links: &[u32], ends: &mut [u32])
-    requires few { length links.now ≤ 2 ^ 24 }
+    requires few { length links.now ≤ 2 ^ 30 }
     requires found { AreFound links.now ends.old }
     ensures { AreFound links.now ends.new }
 {
@@ -45,7 +45,7 @@ fn mark_ends(links: &[u32], ends: &mut [u32])
 
 fn find_ends(links: &[u32], ends: &mut [u32])
     requires streams { AreStreams links.now }
-    requires few { length links.now ≤ 2 ^ 24 }
+    requires few { length links.now ≤ 2 ^ 30 }
     requires found { AreFound links.now ends.old }
     ensures { AreEnds links.now ends.new }
 {
@@ -58,7 +58,7 @@ fn find_ends(links: &[u32], ends: &mut [u32])
 // The end of a node's path, read off where the path meets a known one.
 fn end_from(links: &[u32], ends: &[u32], from: usize) -> u32
     requires streams { AreStreams links.now }
-    requires few { length links.now ≤ 2 ^ 24 }
+    requires few { length links.now ≤ 2 ^ 30 }
     requires found { AreFound links.now ends.now }
     requires inside { from < length links.now }
     ensures { result ≡ end_of links.now from }
@@ -76,7 +76,7 @@ fn end_from(links: &[u32], ends: &[u32], from: usize) -> u32
 // Marks the nodes of a path with its end, up to the first that is known.
 fn mark_path(links: &[u32], ends: &mut [u32], from: usize, last: u32)
     requires streams { AreStreams links.now }
-    requires few { length links.now ≤ 2 ^ 24 }
+    requires few { length links.now ≤ 2 ^ 30 }
     requires found { AreFound links.now ends.old }
     requires inside { from < length links.now }
     requires last { last ≡ end_of links.now from }

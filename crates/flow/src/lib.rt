@@ -4,12 +4,17 @@
 mod cells;
 pub mod counting;
 mod ends;
+mod flowing;
 pub mod links;
+pub mod numbering;
+pub mod outlets;
+mod rim;
 mod streams;
 pub mod tile;
 
-pub use counting::{accumulation, basins};
+pub use counting::accumulation;
 pub use links::RimLinks;
+pub use numbering::basins;
 pub use tile::{TileFlow, tile_flow};
 
 #[cfg(test)]

@@ -22,7 +22,7 @@ pub fn zeros(alloc: Global, len: usize) -> Result<Vec<u32>, NoMemory>
 // Counts how many nodes are linked to each node, itself left out.
 fn count_donors(links: &[u32], counts: &mut [u32])
     requires streams { AreStreams links.now }
-    requires few { length links.now ≤ 2 ^ 24 }
+    requires few { length links.now ≤ 2 ^ 30 }
     requires none { AreNone (length links.now) counts.old }
     ensures { AreDonorCounts links.now counts.new }
 {
@@ -37,7 +37,7 @@ fn count_donors(links: &[u32], counts: &mut [u32])
 /// What comes to each node from the nodes upstream of it, of these weights.
 pub fn upstream(alloc: Global, links: &[u32], weights: &[u32]) -> Result<Vec<u32>, NoMemory>
     requires streams { AreStreams links.now }
-    requires few { length links.now ≤ 2 ^ 24 }
+    requires few { length links.now ≤ 2 ^ 30 }
     requires same { length weights.now ≡ length links.now }
     requires fits { (i : ℕ) → i < length links.now → total links.now weights.now i < 2 ^ 32 }
     ensures { IfOk result (λ v. AreUpstream links.now weights.now v.items) }
@@ -52,7 +52,7 @@ pub fn upstream(alloc: Global, links: &[u32], weights: &[u32]) -> Result<Vec<u32
 // Sends from each node in turn, once it waits for none.
 fn send_all(links: &[u32], weights: &[u32], waits: &mut [u32], came: &mut [u32])
     requires streams { AreStreams links.now }
-    requires few { length links.now ≤ 2 ^ 24 }
+    requires few { length links.now ≤ 2 ^ 30 }
     requires same { length weights.now ≡ length links.now }
     requires fits { (i : ℕ) → i < length links.now → total links.now weights.now i < 2 ^ 32 }
     requires donors { AreDonorCounts links.now waits.old }
@@ -67,7 +67,7 @@ fn send_all(links: &[u32], weights: &[u32], waits: &mut [u32], came: &mut [u32])
 // Sends what came to a node that waits for none, and so on downstream up to one that waits.
 fn send_on(links: &[u32], weights: &[u32], waits: &mut [u32], came: &mut [u32], from: usize)
     requires streams { AreStreams links.now }
-    requires few { length links.now ≤ 2 ^ 24 }
+    requires few { length links.now ≤ 2 ^ 30 }
     requires same { length weights.now ≡ length links.now }
     requires fits { (i : ℕ) → i < length links.now → total links.now weights.now i < 2 ^ 32 }
     requires sending { IsSending links.now weights.now waits.old came.old }

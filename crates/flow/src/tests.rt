@@ -2,14 +2,19 @@ ghost use Rattle.std.specs.Prelude.{◌≡◌, ◌*◌, ◌<◌, ◌≤◌, leng
 ghost use Rattle.flow.specs.Tested.{codes_by, code_of_number, flows};
 ghost use Rattle.drain.specs.Drained.{AllFlowEnds};
 ghost use Rattle.flow.specs.TileFlow.{AreTileFlows};
-ghost use Rattle.flow.specs.Whole.{make_directed};
+ghost use Rattle.flow.specs.Whole.{IsGridFlow, make_directed};
 
-use crate::counting::{grid_accumulation, grid_basins};
+use crate::counting::grid_accumulation;
 use crate::links::RimLinks;
+use crate::numbering::basins_along;
 use crate::tile::{TileFlow, tile_flow};
 use ascii_grid::{NoMemory, Place};
 use drain::Code;
 use std::alloc::Global;
+use std::sync::Wait;
+use std::test::Fail;
+use std::thread::Threads;
+use tile_jobs::NoGate;
 use tiles::Tiling;
 
 fn code_of(number: u8) -> Option<Code>
@@ -28,6 +33,18 @@ fn codes_of(alloc: Global, numbers: &[u8]) -> Result<Vec<Option<Code>>, NoMemory
     Ok(codes)
 }
 
+// The codes of a grid in which each flow path ends.
+fn grid_codes_of(
+    alloc: Global,
+    size: (u32, u32),
+    numbers: &[u8],
+) -> Result<Vec<Option<Code>>, NoMemory>
+    requires { IsTrue (flows size.0 size.1 numbers.now) }
+    ensures { IfOk result (λ v. IsGridFlow size.0 size.1 v.items) }
+{
+    codes_of(alloc, numbers)
+}
+
 fn accumulation_of(
     alloc: Global,
     cols: u32,
@@ -40,16 +57,52 @@ fn accumulation_of(
     grid_accumulation(alloc, cols, rows, &codes)
 }
 
-fn basins_of(
+fn basins_of<R: Threads + Wait + Sync>(
+    rt: &R,
     alloc: Global,
-    cols: u32,
-    rows: u32,
+    size: (u32, u32),
+    side: u32,
+    workers: u32,
     numbers: &[u8],
-) -> Result<Vec<Option<u32>>, NoMemory>
-    requires { IsTrue (flows cols rows numbers.now) }
+) -> Result<Vec<Option<u32>>, Fail>
+    requires flows { IsTrue (flows size.0 size.1 numbers.now) }
+    requires cols { (1 ≤ size.0) × (size.0 ≤ 4096) }
+    requires rows { (1 ≤ size.1) × (size.1 ≤ 4096) }
 {
-    let codes = codes_of(alloc, numbers)?;
-    grid_basins(alloc, cols, rows, &codes)
+    let codes = grid_codes_of(alloc, size, numbers)?;
+    let tiling = made_tiling(size, side)?;
+    Ok(basins_along(rt, alloc, &codes, &tiling, workers, &NoGate)?)
+}
+
+// Whether the basins are these for several tilings and numbers of workers.
+fn basins_are<R: Threads + Wait + Sync>(
+    rt: &R,
+    alloc: Global,
+    size: (u32, u32),
+    numbers: &[u8],
+    wanted: &[u32],
+) -> Result<bool, Fail>
+    requires flows { IsTrue (flows size.0 size.1 numbers.now) }
+    requires cols { (1 ≤ size.0) × (size.0 ≤ 4096) }
+    requires rows { (1 ≤ size.1) × (size.1 ≤ 4096) }
+{
+    for (side, workers) in [
+        (1, 1),
+        (1, 8),
+        (2, 1),
+        (2, 2),
+        (2, 8),
+        (3, 2),
+        (4, 1),
+        (4, 8),
+        (7, 2),
+    ] {
+        let basins = basins_of(rt, alloc, size, side, workers, numbers)?;
+        if !is(&basins, wanted) {
+            return Ok(false);
+        }
+    }
+    Ok(true)
 }
 
 // The flow of one tile.
@@ -127,6 +180,14 @@ fn tiling_of(cols: u32, rows: u32, side: u32) -> Option<Tiling>
     }
 }
 
+fn made_tiling(size: (u32, u32), side: u32) -> Result<Tiling, Fail>
+    requires cols { (1 ≤ size.0) × (size.0 ≤ 4096) }
+    requires rows { (1 ≤ size.1) × (size.1 ≤ 4096) }
+    ensures { IfOk result (λ t. (t.cols ≡ size.0) × (t.rows ≡ size.1)) }
+{
+    Ok(Tiling::new(size.0, size.1, side)?)
+}
+
 fn is(values: &[Option<u32>], wanted: &[u32]) -> bool {
     values.len() == wanted.len()
         && values
@@ -135,68 +196,95 @@ fn is(values: &[Option<u32>], wanted: &[u32]) -> bool {
             .all(|(value, want)| *value == Some(*want))
 }
 
+const VALLEY: [u8; 16] = [2, 4, 8, 0, 1, 2, 4, 8, 128, 1, 2, 4, 0, 128, 1, 0];
+
+// A flat that winds through ten tiles of side 2.
+const WINDING: [u8; 49] = [
+    2, 4, 4, 4, 4, 4, 8, 1, 1, 1, 1, 2, 4, 16, 2, 4, 4, 4, 1, 8, 16, 1, 4, 8, 16, 16, 16, 16, 1, 2,
+    4, 4, 4, 4, 4, 1, 1, 1, 1, 1, 1, 0, 128, 64, 64, 64, 64, 64, 64,
+];
+
 #[test]
-fn bowl_of_nines(rt: HostRuntime) {
+fn bowl_of_nines(rt: HostRuntime) -> Result<(), Fail> {
     let codes = [0, 0, 0, 0, 1, 0, 0, 0, 0];
-    let accumulation = accumulation_of(rt.alloc(), 3, 3, &codes).expect(&rt, "accumulation");
+    let accumulation = accumulation_of(rt.alloc(), 3, 3, &codes)?;
     assert!(rt; is(&accumulation, &[0, 0, 0, 0, 0, 1, 0, 0, 0]));
-    let basins = basins_of(rt.alloc(), 3, 3, &codes).expect(&rt, "basins");
-    assert!(rt; is(&basins, &[1, 2, 3, 4, 5, 5, 6, 7, 8]));
+    assert!(rt;
+        basins_are(
+            &rt,
+            rt.alloc(),
+            (3, 3),
+            &codes,
+            &[1, 2, 3, 4, 5, 5, 6, 7, 8]
+        )?
+    );
+    Ok(())
 }
 
 #[test]
-fn valley_across_tiles(rt: HostRuntime) {
-    let codes = [2, 4, 8, 0, 1, 2, 4, 8, 128, 1, 2, 4, 0, 128, 1, 0];
-    let accumulation = accumulation_of(rt.alloc(), 4, 4, &codes).expect(&rt, "accumulation");
+fn valley_across_tiles(rt: HostRuntime) -> Result<(), Fail> {
+    let accumulation = accumulation_of(rt.alloc(), 4, 4, &VALLEY)?;
     assert!(rt;
         is(
             &accumulation,
             &[0, 0, 0, 0, 0, 5, 0, 0, 0, 0, 10, 0, 0, 0, 0, 13]
         )
     );
-    let basins = basins_of(rt.alloc(), 4, 4, &codes).expect(&rt, "basins");
-    assert!(rt; is(&basins, &[3, 3, 3, 1, 3, 3, 3, 3, 3, 3, 3, 3, 2, 3, 3, 3]));
+    let wanted = [3, 3, 3, 1, 3, 3, 3, 3, 3, 3, 3, 3, 2, 3, 3, 3];
+    assert!(rt; basins_are(&rt, rt.alloc(), (4, 4), &VALLEY, &wanted)?);
+    Ok(())
 }
 
 #[test]
-fn slope(rt: HostRuntime) {
+fn flat_through_ten_tiles(rt: HostRuntime) -> Result<(), Fail> {
+    let accumulation = accumulation_of(rt.alloc(), 7, 7, &WINDING)?;
+    assert_eq!(rt; accumulation.get(41).copied(), Some(Some(48)));
+    assert!(rt; basins_are(&rt, rt.alloc(), (7, 7), &WINDING, &[1; 49])?);
+    Ok(())
+}
+
+#[test]
+fn slope(rt: HostRuntime) -> Result<(), Fail> {
     let codes = [1, 1, 1, 1, 1, 0, 128, 128, 64, 64, 64, 64];
-    let accumulation = accumulation_of(rt.alloc(), 6, 2, &codes).expect(&rt, "accumulation");
+    let accumulation = accumulation_of(rt.alloc(), 6, 2, &codes)?;
     assert!(rt; is(&accumulation, &[0, 2, 5, 7, 9, 11, 0, 0, 0, 0, 0, 0]));
+    assert!(rt; basins_are(&rt, rt.alloc(), (6, 2), &codes, &[1; 12])?);
+    Ok(())
 }
 
 #[test]
-fn greatest_drops(rt: HostRuntime) {
+fn greatest_drops(rt: HostRuntime) -> Result<(), Fail> {
     let codes = [1, 0, 16, 0, 16, 32];
-    let accumulation = accumulation_of(rt.alloc(), 3, 2, &codes).expect(&rt, "accumulation");
+    let accumulation = accumulation_of(rt.alloc(), 3, 2, &codes)?;
     assert!(rt; is(&accumulation, &[0, 3, 0, 1, 0, 0]));
-    let basins = basins_of(rt.alloc(), 3, 2, &codes).expect(&rt, "basins");
-    assert!(rt; is(&basins, &[1, 1, 1, 2, 2, 1]));
+    assert!(rt; basins_are(&rt, rt.alloc(), (3, 2), &codes, &[1, 1, 1, 2, 2, 1])?);
+    Ok(())
 }
 
 #[test]
-fn level_ground(rt: HostRuntime) {
-    let codes = [0, 0, 0, 0, 0, 0, 0, 0];
-    let accumulation = accumulation_of(rt.alloc(), 4, 2, &codes).expect(&rt, "accumulation");
-    assert!(rt; is(&accumulation, &[0, 0, 0, 0, 0, 0, 0, 0]));
-    let basins = basins_of(rt.alloc(), 4, 2, &codes).expect(&rt, "basins");
-    assert!(rt; is(&basins, &[1, 2, 3, 4, 5, 6, 7, 8]));
+fn level_ground(rt: HostRuntime) -> Result<(), Fail> {
+    let codes = [0; 8];
+    let accumulation = accumulation_of(rt.alloc(), 4, 2, &codes)?;
+    assert!(rt; is(&accumulation, &[0; 8]));
+    assert!(rt; basins_are(&rt, rt.alloc(), (4, 2), &codes, &[1, 2, 3, 4, 5, 6, 7, 8])?);
+    Ok(())
 }
 
 #[test]
-fn one_cell(rt: HostRuntime) {
-    let accumulation = accumulation_of(rt.alloc(), 1, 1, &[0]).expect(&rt, "accumulation");
+fn one_cell(rt: HostRuntime) -> Result<(), Fail> {
+    let accumulation = accumulation_of(rt.alloc(), 1, 1, &[0])?;
     assert!(rt; is(&accumulation, &[0]));
-    let basins = basins_of(rt.alloc(), 1, 1, &[0]).expect(&rt, "basins");
-    assert!(rt; is(&basins, &[1]));
+    assert!(rt; basins_are(&rt, rt.alloc(), (1, 1), &[0], &[1])?);
+    Ok(())
 }
 
 #[test]
-fn no_data(rt: HostRuntime) {
-    let accumulation = accumulation_of(rt.alloc(), 2, 1, &[3, 3]).expect(&rt, "accumulation");
+fn no_data(rt: HostRuntime) -> Result<(), Fail> {
+    let accumulation = accumulation_of(rt.alloc(), 2, 1, &[3, 3])?;
     assert!(rt; accumulation.as_slice() == [None, None].as_slice());
-    let basins = basins_of(rt.alloc(), 2, 1, &[3, 3]).expect(&rt, "basins");
+    let basins = basins_of(&rt, rt.alloc(), (2, 1), 1, 2, &[3, 3])?;
     assert!(rt; basins.as_slice() == [None, None].as_slice());
+    Ok(())
 }
 
 #[test]

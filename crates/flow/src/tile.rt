@@ -1,8 +1,10 @@
 // Flow inside one tile.
-ghost use Rattle.std.specs.Prelude.{◌≡◌, ◌*◌, ◌<◌, ℕ, length, slice_index, IfOk};
+ghost use Rattle.std.specs.Prelude.{◌≡◌, ◌*◌, ◌<◌, ℕ, length, slice_index, IfOk, None, Some, if◌then◌else◌};
 ghost use Rattle.drain.specs.Drained.{AllFlowEnds};
-ghost use Rattle.flow.specs.TileFlow.{directed_by, IsTileFlow, entry_in, through_in, exit_in};
+ghost use Rattle.flow.specs.TileFlow.{directed_by, IsFlow, IsTileFlow, entry_in, through_in, exit_in};
 ghost use Rattle.flow.specs.TileLinks.{IsSmall, where_data, through_by, exits_by};
+ghost use Rattle.flow.specs.Whole.{is_outlet_code};
+ghost use Rattle.flow.specs.RimGraph.{way_out_in};
 
 use crate::cells::{contains, index_of, place_at, tile_codes, tile_links, tile_weights};
 use crate::ends::ends;
@@ -65,6 +67,33 @@ impl TileFlow {
         }
     }
 
+    // The tile's first row and column, and its size.
+    #[inline(always)]
+    pub(crate) fn bounds(&self) -> Bounds
+        ensures value { result ≡ self.now.bounds }
+        ensures lawful { IsFlow self.now }
+    {
+        self.bounds
+    }
+
+    // The exits of all cells of the tile, in its row order.
+    #[inline(always)]
+    pub(crate) fn exits(&self) -> &[Option<Place>]
+        ensures { result.now ≡ self.now.exits }
+    {
+        &self.exits
+    }
+
+    // Where water that enters the tile at a place leaves it again; None where it ends in the tile.
+    pub(crate) fn way_out(&self, entry: Place) -> Option<Place>
+        ensures { result ≡ way_out_in self.now entry }
+    {
+        match self.exit(entry) {
+            Some(exit) => unless(is_outlet(self.code(exit)), exit),
+            None => None,
+        }
+    }
+
     /// The last place of its flow path before it leaves the tile, or its outlet; None outside.
     pub fn exit(&self, place: Place) -> Option<Place>
         ensures { result ≡ exit_in self.now place }
@@ -74,6 +103,24 @@ impl TileFlow {
         } else {
             None
         }
+    }
+}
+
+#[inline(always)]
+fn unless(not: bool, place: Place) -> Option<Place>
+    ensures { result ≡ if not then None else Some place }
+{
+    if not { None } else { Some(place) }
+}
+
+/// Whether a code is an outlet's.
+#[inline(always)]
+pub(crate) fn is_outlet(code: Option<Code>) -> bool
+    ensures { result ≡ is_outlet_code code }
+{
+    match code {
+        Some(code) => code.number() == 0,
+        None => false,
     }
 }
 

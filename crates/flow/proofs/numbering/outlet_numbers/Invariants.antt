@@ -1,7 +1,7 @@
 use Rattle.std.proofs.Common.{◌≡◌, ◌+◌, map, take, count_by}
 use Rattle.std.specs.List.{range_with_len}
 use Rattle.flow.specs.Whole.{is_outlet_code}
-use Rattle.flow.proofs.counting.outlet_numbers.Given as goal
+use Rattle.flow.proofs.numbering.outlet_numbers.Given as goal
 
 abbrev pub invariant-loop-index : goal.invariant-loop-index
 invariant-loop-index l = record {

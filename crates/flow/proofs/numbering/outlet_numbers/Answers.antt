@@ -3,7 +3,7 @@ use Rattle.std.proofs.lemmas.List.{get_or_default}
 use Rattle.std.proofs.lemmas.List.Sums.{sum_by_more}
 use Rattle.flow.specs.Whole.{is_outlet_code}
 use Rattle.flow.proofs.Pushing.{mapped_more}
-use Rattle.flow.proofs.counting.outlet_numbers.Goals as goal
+use Rattle.flow.proofs.numbering.outlet_numbers.Goals as goal
 
 pub loop-index-preserved : goal.loop-index-preserved
 loop-index-preserved c =

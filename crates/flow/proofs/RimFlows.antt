@@ -1,0 +1,455 @@
+-- The exits that lead into other tiles, and where their water ends.
+use Rattle.std.proofs.Common.{◌≡◌, ◌≢◌, ℕ, zero, suc, ◌+◌, ◌<◌, ◌⊎◌, inl, inr, true, false, cond, eqb, not, ◌&&◌, List, length, get_or, Option, None, Some, MatchOption, IfSome, is_some, slice_get, unwrap_or, sym, ap, subst, refl, ◌∙◌, arith}
+use Rattle.std.specs.Option.{option_and_then}
+use Rattle.std.proofs.lemmas.Bool.{cases_eq, cases_lt, cases_Bool, and_from, and_parts, eq-eqb, eqb-true, lt-ltb, ltb-true, cond-true, cond-false, not_from_false, not-true, false_from_ne_true, false≢true}
+use Rattle.std.proofs.lemmas.List.{get_or_default, get_or_past}
+use Rattle.std.proofs.lemmas.List.FromFn.{get_or-map-range_with_len, length-map-range_with_len}
+use Rattle.std.proofs.lemmas.Option.{slice_get_cases, none-some, same_Some}
+use Rattle.ascii_grid.specs.Neighbours.{Touches}
+use Rattle.ascii_grid.specs.Ways.{place_toward, place_on, way_of, ways_from}
+use Rattle.ascii_grid.specs.declared.place.Place.{Place}
+use Rattle.tiles.specs.Cutting.{Cutting, IsWithin, IsInBounds, is_within, bounds_of, tile_of_place}
+use Rattle.tiles.proofs.Cut.{in_bounds, in_tile, tile_of_place_below}
+use Rattle.tiles.proofs.Members.{Touches-from_ways}
+use Rattle.drain.specs.Following.{Directed, code_at, next, follow, moves, last_of, IsOutlet}
+use Rattle.flow.specs.Counts.{is_place}
+use Rattle.flow.specs.Streams.{AreStreams, AreEnds, onward, node_after, end_of}
+use Rattle.flow.specs.TileFlow.{Flow, is_in_bounds, entry_in, exit_in, IsTileFlow, IsExitOf, IsExitCell}
+use Rattle.flow.specs.Joining.{code_in}
+use Rattle.flow.specs.Whole.{is_outlet_code}
+use Rattle.flow.specs.RimNumbers.{number_count, rim_number, rim_place}
+use Rattle.flow.specs.RimGraph.{AreFlowsOf, next_by, exit_by, target_by, way_out_in, way_out_by, number_or, rim_link, rim_links_by, rim_outlet, rim_outlets_by, outlet_by, AreOutlets}
+use Rattle.flow.proofs.Ranges.{every_in_range}
+use Rattle.flow.proofs.EarlyEnds.{IsStop, streams_from}
+use Rattle.flow.proofs.Ending.{node_after-first, node_after-inside}
+use Rattle.flow.proofs.Coded.{IsCoded, cases_option, cases_coded, coded_along, coded_inside, coded_from_some, none_stays, outlet_stays, follow_stays}
+use Rattle.flow.proofs.InTile.{bounds_from_test, test_from_bounds}
+use Rattle.flow.proofs.Through.{place_test, place_from_test}
+use Rattle.flow.proofs.RimNumbered.{IsSide, number_below, number_back}
+
+pub cases_target : (o : Option Place) → (o ≡ None) ⊎ ((q : Place) × (o ≡ Some q))
+cases_target None = inl refl
+cases_target (Some q) = inr (q, refl)
+
+pub from_some : {X : Type 0} (o : Option X) (P : Type 0) (Q : X → Type 0) (x : X) → o ≡ Some x → MatchOption o P Q → Q x
+from_some {X} o P Q x e m = subst (λ (z : Option X). MatchOption z P Q) e m
+
+pub from_none : {X : Type 0} (o : Option X) (P : Type 0) (Q : X → Type 0) → o ≡ None → MatchOption o P Q → P
+from_none {X} o P Q e m = subst (λ (z : Option X). MatchOption z P Q) e m
+
+pub outlet_from_code : (o : Option ℕ) → is_outlet_code o ≡ true → o ≡ Some 0
+outlet_from_code None h = cc
+outlet_from_code (Some n) h = ap Some (eqb-true _ _ h)
+
+-- a code points to a place beside
+toward_touches : (p q : Place) (code : ℕ) → place_toward code p ≡ Some q → Touches p q
+toward_touches p q code e = elim (cases_option (way_of code)) [
+  | inl none ↦ absurd (none-some q (sym (ap (λ (o : Option ℕ). option_and_then (λ way. place_on way p) o) none) ∙ e))
+  | inr way ↦ (let at : get_or (ways_from p) way.0 None ≡ Some q = sym (ap (λ (o : Option ℕ). option_and_then (λ way. place_on way p) o) way.1) ∙ e in
+      elim (cases_lt way.0 8) [
+        | inl below ↦ (Touches-from_ways p q (way.0, below, get_or_default (ways_from p) way.0 (Some q) None below ∙ at)).0
+        | inr far ↦ absurd (none-some q (sym (get_or_past (ways_from p) way.0 None far) ∙ at))
+      ])
+]
+
+-- what is answered for a place, as far as it is known
+pub outlet_listed : (t : Cutting) (flows : List Flow) (listed : List (Option Place)) (p : Place) → is_outlet_code (code_in t flows p) ≡ false → is_place (rim_place t (rim_number t p)) p ≡ true →
+    outlet_by t flows listed p ≡ get_or listed (rim_number t p) None
+outlet_listed t flows listed p f y = cond-false {A = Option Place} _ (Some p) (cond {A = Option Place} (is_place (rim_place t (rim_number t p)) p) (get_or listed (rim_number t p) None) None) f ∙ cond-true {A = Option Place} _ _ _ y
+
+pub outlet_unlisted : (t : Cutting) (flows : List Flow) (listed : List (Option Place)) (p : Place) → is_outlet_code (code_in t flows p) ≡ false → is_place (rim_place t (rim_number t p)) p ≡ false →
+    outlet_by t flows listed p ≡ None
+outlet_unlisted t flows listed p f n = cond-false {A = Option Place} _ (Some p) (cond {A = Option Place} (is_place (rim_place t (rim_number t p)) p) (get_or listed (rim_number t p) None) None) f ∙ cond-false {A = Option Place} _ _ _ n
+
+-- moves in two parts
+follow_more : (d : Directed) (p : Place) (a b : ℕ) → follow d (follow d p a) b ≡ follow d p (a + b)
+follow_more d p a zero = let z : a ≡ a + 0 = omega arith in ap (follow d p) z
+follow_more d p a (suc b) = let z : suc (a + b) ≡ a + suc b = omega arith in ap (next d) (follow_more d p a b) ∙ ap (follow d p) z
+
+-- no move goes on after so many
+abbrev pub StopsAt : Directed → Place → ℕ → Type 0
+StopsAt d p k = next d (follow d p k) ≡ follow d p k
+
+stops_sooner : (d : Directed) (p e : Place) (k n : ℕ) → follow d p (suc k) ≡ e → StopsAt d p (suc n) → StopsAt d e n
+stops_sooner d p e k n way stop =
+    let later : follow d e n ≡ follow d p (suc n) =
+    ap (λ (q : Place). follow d q n) (sym way) ∙ follow_more d p (suc k) n ∙ follow_stays d p (suc n) (suc k + n) (omega arith) stop in
+    ap (next d) later ∙ stop ∙ sym later
+
+module _ (d : Directed) (t : Cutting) (flows : List Flow) (s : AreFlowsOf d t flows) where
+  pub within_of : (p : Place) → IsCoded d p → IsWithin t p
+  within_of p is = let z = coded_inside d p is in (omega (arith, z.0, s.of_tiles.size.1), omega (arith, z.1, s.of_tiles.size.0))
+
+  stops_of : (p : Place) → IsCoded d p → StopsAt d p (moves d)
+  stops_of p is = outlet_stays d (last_of d p) (s.ends p is.code is.is)
+
+  pub last_same : (p e : Place) (k : ℕ) → IsCoded d p → follow d p k ≡ e → last_of d e ≡ last_of d p
+  last_same p e k is way =
+      ap (λ (q : Place). follow d q (moves d)) (sym way) ∙ follow_more d p k (moves d) ∙ follow_stays d p (moves d) (k + moves d) (omega arith) (stops_of p is)
+
+  last_here : (p : Place) → IsOutlet d p → last_of d p ≡ p
+  last_here p out = follow_stays d p 0 (moves d) (omega arith) (outlet_stays d p out)
+
+  -- the flow of a place's tile
+  record HasFlow (p : Place) : Type 0 where
+    pub flow : Flow
+    pub is : slice_get flows (tile_of_place t p) ≡ Some flow
+    pub right : IsTileFlow d t (tile_of_place t p) flow
+
+  flow_of : (p : Place) → IsWithin t p → HasFlow p
+  flow_of p w = elim (slice_get_cases flows (tile_of_place t p)).1 [
+    | inl r ↦ record { flow = r.0; is = r.2; right = s.of_tiles.each (tile_of_place t p) r.0 r.2 }
+    | inr r ↦ absurd (omega (arith, tile_of_place_below t p s.cutting w, s.of_tiles.count, r.0))
+  ]
+
+  pub code_here : (p : Place) → IsWithin t p → code_in t flows p ≡ code_at d p
+  code_here p w =
+      let f = flow_of p w in
+      ap (λ (o : Option Flow). option_and_then (λ (x : Flow). entry_in x.bounds x.codes p) o) f.is ∙ f.right.same_codes p (w, refl)
+
+  pub next_here : (p : Place) → IsWithin t p → next_by t flows p ≡ next d p
+  next_here p w = ap (λ (o : Option ℕ). unwrap_or (option_and_then (λ code. place_toward code p) o) p) (code_here p w)
+
+  -- a cell whose water goes on into another tile
+  pub record Crosses (p : Place) : Type 0 where
+    pub coded : IsCoded d p
+    pub apart : tile_of_place t (next d p) ≢ tile_of_place t p
+
+  touching : (p : Place) → Crosses p → Touches p (next d p)
+  touching p c =
+      let at : next d p ≡ unwrap_or (place_toward c.coded.code p) p = ap (λ (o : Option ℕ). unwrap_or (option_and_then (λ code. place_toward code p) o) p) c.coded.is in
+      elim (cases_target (place_toward c.coded.code p)) [
+        | inl none ↦ absurd (c.apart (ap (tile_of_place t) (at ∙ ap (λ (o : Option Place). unwrap_or o p) none)))
+        | inr q ↦ subst (λ (z : Place). Touches p z) (sym (at ∙ ap (λ (o : Option Place). unwrap_or o p) q.1)) (toward_touches p q.0 c.coded.code q.1)
+      ]
+
+  -- it lies on the rim
+  on_side : (p : Place) → Crosses p → IsSide (bounds_of t (tile_of_place t p)) p
+  on_side p c a b e =
+      let w = within_of p c.coded in
+      let i = in_bounds t (tile_of_place t p) p s.cutting (w, refl) in
+      let below = tile_of_place_below t p s.cutting w in
+      let touch = touching p c in
+      let bounds = bounds_of t (tile_of_place t p) in
+      elim (cases_eq (p.col + 1) ((bounds_of t (tile_of_place t p)).left + (bounds_of t (tile_of_place t p)).cols)) [
+        | inl y ↦ y
+        | inr ne ↦ absurd (c.apart (in_tile t (tile_of_place t p) (next d p) s.cutting below
+            (omega (arith, a, touch.row_up), omega (arith, b, touch.row_down), omega (arith, e, touch.col_left), omega (arith, ne, touch.col_right))).1)
+      ]
+
+  pub back : (p : Place) → Crosses p → rim_place t (rim_number t p) ≡ p
+  back p c = number_back t s.cutting p (within_of p c.coded) (on_side p c)
+
+  abbrev target_at : Place → ℕ → Option Place
+  target_at p i =
+      cond {A = Option Place} (is_within t p && eqb (rim_number t p) i && not (is_in_bounds (bounds_of t (tile_of_place t p)) (next_by t flows p))) (Some (next_by t flows p)) None
+
+  -- water that stays in the bounds stays in the tile
+  out_of_bounds : (p : Place) → Crosses p → is_in_bounds (bounds_of t (tile_of_place t p)) (next_by t flows p) ≡ false
+  out_of_bounds p c =
+      let w = within_of p c.coded in
+      false_from_ne_true _ (λ y. c.apart (in_tile t (tile_of_place t p) (next d p) s.cutting (tile_of_place_below t p s.cutting w)
+      (bounds_from_test (bounds_of t (tile_of_place t p)) (next d p) (sym (ap (is_in_bounds (bounds_of t (tile_of_place t p))) (next_here p w)) ∙ y))).1)
+
+  pub target_on : (p : Place) → Crosses p → target_by t flows (rim_number t p) ≡ Some (next d p)
+  target_on p c =
+      let w = within_of p c.coded in
+      ap (λ (q : Place). target_at q (rim_number t p)) (back p c)
+      ∙ cond-true {A = Option Place} _ _ _ (and_from _ _ (and_from _ _ (and_from _ _ (lt-ltb _ _ w.0) (lt-ltb _ _ w.1)) (eq-eqb _ _ refl)) (not_from_false _ (out_of_bounds p c)))
+      ∙ ap Some (next_here p w)
+
+  pub record IsTarget (i : ℕ) (q : Place) : Type 0 where
+    pub crosses : Crosses (rim_place t i)
+    pub number : rim_number t (rim_place t i) ≡ i
+    pub is : q ≡ next d (rim_place t i)
+
+  crosses_from : (p : Place) → IsWithin t p → is_in_bounds (bounds_of t (tile_of_place t p)) (next_by t flows p) ≡ false → Crosses p
+  crosses_from p w f =
+      let out : (IsInBounds (bounds_of t (tile_of_place t p)) (next d p) → ⊥) =
+      λ i. false≢true (sym f ∙ ap (is_in_bounds (bounds_of t (tile_of_place t p))) (next_here p w) ∙ test_from_bounds _ _ i) in
+      elim (cases_coded d p) [
+        | inl none ↦ absurd (out (subst (λ (q : Place). IsInBounds (bounds_of t (tile_of_place t p)) q) (sym (none_stays d p none)) (in_bounds t (tile_of_place t p) p s.cutting (w, refl))))
+        | inr is ↦ record {
+          coded = is;
+          apart = λ same. out (in_bounds t (tile_of_place t p) (next d p) s.cutting (within_of (next d p) (coded_along d s.ends p is 1), same));
+        }
+      ]
+
+  pub target_from : (i : ℕ) (q : Place) → target_by t flows i ≡ Some q → IsTarget i q
+  target_from i q e =
+      let p = rim_place t i in
+      elim (cases_Bool (is_within t (rim_place t i) && eqb (rim_number t (rim_place t i)) i && not (is_in_bounds (bounds_of t (tile_of_place t (rim_place t i))) (next_by t flows (rim_place t i))))) [
+        | inr f ↦ absurd (none-some q (sym (cond-false {A = Option Place} _ _ _ f) ∙ e))
+        | inl y ↦ (let a = and_parts _ _ y in let b = and_parts _ _ a.0 in let x = and_parts _ _ b.0 in
+            let w : IsWithin t (rim_place t i) = (ltb-true _ _ x.0, ltb-true _ _ x.1) in
+            record {
+              crosses = crosses_from (rim_place t i) w (not-true _ a.1);
+              number = eqb-true _ _ b.1;
+              is = sym (same_Some _ _ (sym (cond-true {A = Option Place} _ _ _ y) ∙ e)) ∙ next_here (rim_place t i) w;
+            })
+      ]
+
+  pub target_within : (i : ℕ) (q : Place) → target_by t flows i ≡ Some q → IsCoded d q × IsWithin t q
+  target_within i q e =
+      let x = target_from i q e in
+      let is = subst (λ (z : Place). IsCoded d z) (sym x.is) (coded_along d s.ends (rim_place t i) x.crosses.coded 1) in
+      (is, within_of q is)
+
+  pub targets_within : (i : ℕ) → IfSome (target_by t flows i) (IsWithin t)
+  targets_within i = elim (cases_target (target_by t flows i)) [
+    | inl none ↦ subst (λ (o : Option Place). IfSome o (IsWithin t)) (sym none) tt
+    | inr q ↦ subst (λ (o : Option Place). IfSome o (IsWithin t)) (sym q.1) (target_within i q.0 q.1).1
+  ]
+
+  -- water that enters a tile leaves it again, or ends there
+  pub record LeavesAt (q e : Place) : Type 0 where
+    pub out : way_out_by t flows q ≡ Some e
+    pub steps : ℕ
+    pub way : follow d q steps ≡ e
+    pub crosses : Crosses e
+
+  pub record EndsAt (q e : Place) : Type 0 where
+    pub out : way_out_by t flows q ≡ None
+    pub exit : exit_by t flows q ≡ Some e
+    pub steps : ℕ
+    pub way : follow d q steps ≡ e
+    pub outlet : IsOutlet d e
+
+  pub record HasExit (q e : Place) : Type 0 where
+    pub exit : exit_by t flows q ≡ Some e
+    pub leads : IsExitOf d t q e
+    pub out : way_out_by t flows q ≡ cond {A = Option Place} (is_outlet_code (code_at d e)) None (Some e)
+
+  -- an exit is a cell of the tile
+  pub exit_in_tile : (q e : Place) → IsCoded d q → IsExitOf d t q e → IsCoded d e × (tile_of_place t e ≡ tile_of_place t q)
+  exit_in_tile q e is x =
+      let at : x.0 < x.0 + 1 = omega arith in
+      let there : tile_of_place t (follow d q x.0) ≡ tile_of_place t q =
+      eqb-true _ _ (every_in_range (λ j. eqb (tile_of_place t (follow d q j)) (tile_of_place t q)) (x.0 + 1) x.2 x.0 at) in
+      (subst (λ (z : Place). IsCoded d z) x.3 (coded_along d s.ends q is x.0), sym (ap (tile_of_place t) x.3) ∙ there)
+
+  -- an exit is its own exit
+  pub exit_of_exit : (e x : Place) → IsExitCell d t e → IsExitOf d t e x → x ≡ e
+  exit_of_exit e x cell h = elim (cases_eq h.0 0) [
+    | inl z ↦ sym h.3 ∙ ap (follow d e) z
+    | inr ne ↦ elim cell.1 [
+      | inl out ↦ sym h.3 ∙ follow_stays d e 0 h.0 (omega arith) (outlet_stays d e out)
+      | inr apart ↦ (let one : 1 < h.0 + 1 = omega (arith, ne) in
+          absurd (apart (eqb-true _ _ (every_in_range (λ j. eqb (tile_of_place t (follow d e j)) (tile_of_place t e)) (h.0 + 1) h.2 1 one))))
+    ]
+  ]
+
+  pub exit_here : (q : Place) → IsCoded d q → (e : Place) × HasExit q e
+  exit_here q is =
+      let w = within_of q is in
+      let f = flow_of q w in
+      let m = from_some (code_at d q) _ _ is.code is.is (f.right.each q (w, refl)) in
+      let x = exit_in_tile q m.1 is m.3 in
+      let same : entry_in f.flow.bounds f.flow.codes m.1 ≡ code_at d m.1 = f.right.same_codes m.1 (within_of m.1 x.0, x.1) in (
+        m.1,
+        record {
+          exit = ap (λ (o : Option Flow). option_and_then (λ (z : Flow). exit_in z q) o) f.is ∙ m.2;
+          leads = m.3;
+          out = ap (λ (o : Option Flow). option_and_then (λ (z : Flow). way_out_in z q) o) f.is
+              ∙ ap (λ (o : Option Place). option_and_then (λ (e : Place). cond {A = Option Place} (is_outlet_code (entry_in f.flow.bounds f.flow.codes e)) None (Some e)) o) m.2
+              ∙ ap (λ (o : Option ℕ). cond {A = Option Place} (is_outlet_code o) None (Some m.1)) same;
+        },
+      )
+
+  pub not_outlet : (e : Place) → Crosses e → is_outlet_code (code_at d e) ≡ false
+  not_outlet e c = false_from_ne_true _ (λ y. c.apart (ap (tile_of_place t) (outlet_stays d e (outlet_from_code (code_at d e) y))))
+
+  pub way_cases : (q : Place) → IsCoded d q → (e : Place) × (LeavesAt q e ⊎ EndsAt q e)
+  way_cases q is =
+      let x = exit_here q is in
+      let l = x.1.leads in
+      let coded = subst (λ (z : Place). IsCoded d z) l.3 (coded_along d s.ends q is l.0) in (
+        x.0,
+        elim l.4.1 [
+          | inl out ↦ inr (record { out = x.1.out ∙ cond-true {A = Option Place} _ _ _ (ap is_outlet_code out); exit = x.1.exit; steps = l.0; way = l.3; outlet = out })
+          | inr apart ↦ (let c : Crosses x.0 = record { coded = coded; apart = apart } in
+              inl (record { out = x.1.out ∙ cond-false {A = Option Place} _ _ _ (not_outlet x.0 c); steps = l.0; way = l.3; crosses = c }))
+        ],
+      )
+
+  pub way_out_within : (q e : Place) → IsWithin t q → way_out_by t flows q ≡ Some e → IsWithin t e
+  way_out_within q e w x = elim (cases_coded d q) [
+    | inr is ↦ (let y = way_cases q is in elim y.1 [
+      | inl l ↦ subst (λ (z : Place). IsWithin t z) (same_Some _ _ (sym l.out ∙ x)) (within_of y.0 l.crosses.coded)
+      | inr l ↦ absurd (none-some e (sym l.out ∙ x))
+    ])
+    | inl none ↦ (let f = flow_of q w in
+        let m = from_none (code_at d q) _ _ none (f.right.each q (w, refl)) in
+        absurd (none-some e (sym (ap (λ (o : Option Flow). option_and_then (λ (z : Flow). way_out_in z q) o) f.is
+        ∙ ap (λ (o : Option Place). option_and_then (λ (e : Place). cond {A = Option Place} (is_outlet_code (entry_in f.flow.bounds f.flow.codes e)) None (Some e)) o) m.1) ∙ x)))
+  ]
+
+  -- what a number is linked to
+  pub record Goes (i : ℕ) : Type 0 where
+    pub to : Place
+    pub crosses : Crosses to
+    pub steps : ℕ
+    pub way : follow d (rim_place t i) (suc steps) ≡ to
+    pub link : rim_link t flows i ≡ rim_number t to
+
+  pub record Stops (i : ℕ) : Type 0 where
+    pub to : Place
+    pub steps : ℕ
+    pub way : follow d (rim_place t i) (suc steps) ≡ to
+    pub outlet : IsOutlet d to
+    pub exit : option_and_then (λ q. exit_by t flows q) (target_by t flows i) ≡ Some to
+    pub link : rim_link t flows i ≡ i
+
+  abbrev link_by : ℕ → Option Place → ℕ
+  link_by i o = number_or t i (option_and_then (λ q. way_out_by t flows q) o)
+
+  pub targets_on : (i : ℕ) (q : Place) → target_by t flows i ≡ Some q → Goes i ⊎ Stops i
+  targets_on i q e =
+      let x = target_from i q e in
+      let y = way_cases q (target_within i q e).0 in
+      let first : (k : ℕ) → follow d (rim_place t i) (suc k) ≡ follow d q k =
+      λ k. (let z : 1 + k ≡ suc k = omega arith in sym (ap (λ (r : Place). follow d r k) x.is ∙ follow_more d (rim_place t i) 1 k ∙ ap (follow d (rim_place t i)) z)) in
+      elim y.1 [
+        | inl l ↦ inl (record { to = y.0; crosses = l.crosses; steps = l.steps; way = first l.steps ∙ l.way; link = ap (link_by i) e ∙ ap (number_or t i) l.out })
+        | inr l ↦ inr (record {
+          to = y.0;
+          steps = l.steps;
+          way = first l.steps ∙ l.way;
+          outlet = l.outlet;
+          exit = ap (λ (o : Option Place). option_and_then (λ q. exit_by t flows q) o) e ∙ l.exit;
+          link = ap (link_by i) e ∙ ap (number_or t i) l.out;
+        })
+      ]
+
+  untargeted : (i : ℕ) → target_by t flows i ≡ None → rim_link t flows i ≡ i
+  untargeted i e = ap (link_by i) e
+
+  pub to_below : (p : Place) → Crosses p → rim_number t p < number_count t
+  to_below p c = number_below t s.cutting p (within_of p c.coded)
+
+  no_cycle : (n : ℕ) (p e : Place) (k : ℕ) → follow d p (suc k) ≡ e → e ≡ p → Crosses p → StopsAt d p n → ⊥
+  no_cycle zero p e k way same c stop = c.apart (ap (tile_of_place t) stop)
+  no_cycle (suc n) p e k way same c stop = no_cycle n p e k way same c (subst (λ (q : Place). StopsAt d q n) same (stops_sooner d p e k n way stop))
+
+  module _ (links : List ℕ) (made : links ≡ rim_links_by t flows) where
+    pub links_size : length links ≡ number_count t
+    links_size = ap length made ∙ length-map-range_with_len (rim_link t flows) 0 (number_count t)
+
+    pub link_at : (i : ℕ) → i < number_count t → onward links i ≡ rim_link t flows i
+    link_at i h = ap (λ (l : List ℕ). get_or l i 0) made ∙ get_or-map-range_with_len (rim_link t flows) 0 (number_count t) i i 0 h (omega arith)
+
+    links_in : (i : ℕ) → i < number_count t → onward links i < number_count t
+    links_in i h = elim (cases_target (target_by t flows i)) [
+      | inl none ↦ omega (arith, link_at i h, untargeted i none)
+      | inr q ↦ elim (targets_on i q.0 q.1) [
+        | inl g ↦ omega (arith, link_at i h, g.link, to_below g.to g.crosses)
+        | inr e ↦ omega (arith, link_at i h, e.link)
+      ]
+    ]
+
+    stop_within : (n i : ℕ) → i < number_count t → StopsAt d (rim_place t i) n → (m : ℕ) × IsStop links i m
+    stop_within zero i h stop = elim (cases_target (target_by t flows i)) [
+      | inl none ↦ (0, link_at i h ∙ untargeted i none)
+      | inr q ↦ absurd ((target_from i q.0 q.1).crosses.apart (ap (tile_of_place t) stop))
+    ]
+    stop_within (suc n) i h stop = elim (cases_target (target_by t flows i)) [
+      | inl none ↦ (0, link_at i h ∙ untargeted i none)
+      | inr q ↦ elim (targets_on i q.0 q.1) [
+        | inr e ↦ (0, link_at i h ∙ e.link)
+        | inl g ↦ (let there = subst (λ (q : Place). StopsAt d q n) (sym (back g.to g.crosses)) (stops_sooner d (rim_place t i) g.to g.steps n g.way stop) in
+            let r = stop_within n (rim_number t g.to) (to_below g.to g.crosses) there in
+            let same : node_after links (rim_number t g.to) r.0 ≡ node_after links i (suc r.0) =
+            ap (λ j. node_after links j r.0) (sym (link_at i h ∙ g.link)) ∙ node_after-first links i r.0 in
+            (suc r.0, sym (ap (onward links) same) ∙ r.1 ∙ same))
+      ]
+    ]
+
+    stop_of : (i : ℕ) → i < number_count t → (m : ℕ) × IsStop links i m
+    stop_of i h = elim (cases_target (target_by t flows i)) [
+      | inl none ↦ (0, link_at i h ∙ untargeted i none)
+      | inr q ↦ (let c = (target_from i q.0 q.1).crosses in stop_within (moves d) i h (stops_of (rim_place t i) c.coded))
+    ]
+
+    pub rim_streams : AreStreams links
+    rim_streams = streams_from links (λ i h. omega (arith, links_in i (omega (arith, h, links_size)), links_size)) (λ i h. stop_of i (omega (arith, h, links_size)))
+
+    -- the nodes of a path have water that ends at one outlet
+    record OnWay (i j : ℕ) : Type 0 where
+      pub entry : Place
+      pub target : target_by t flows j ≡ Some entry
+      pub last : last_of d (rim_place t j) ≡ last_of d (rim_place t i)
+
+    step_on : (i j : ℕ) → j < number_count t → OnWay i j → OnWay i (onward links j)
+    step_on i j h o =
+        let c = (target_from j o.entry o.target).crosses in
+        elim (targets_on j o.entry o.target) [
+          | inr e ↦ subst (λ (n : ℕ). OnWay i n) (sym (link_at j h ∙ e.link)) o
+          | inl g ↦ subst (λ (n : ℕ). OnWay i n) (sym (link_at j h ∙ g.link)) (record {
+            entry = next d g.to;
+            target = target_on g.to g.crosses;
+            last = ap (last_of d) (back g.to g.crosses) ∙ last_same (rim_place t j) g.to (suc g.steps) c.coded g.way ∙ o.last;
+          })
+        ]
+
+    on_way : (i : ℕ) → i < number_count t → (q : Place) → target_by t flows i ≡ Some q → (k : ℕ) → OnWay i (node_after links i k)
+    on_way i h q e zero = record { entry = q; target = e; last = refl }
+    on_way i h q e (suc k) =
+        step_on i (node_after links i k) (omega (arith, node_after-inside links rim_streams i (omega (arith, h, links_size)) k, links_size)) (on_way i h q e k)
+
+    module _ (ends : List ℕ) (found : AreEnds links ends) where
+      -- where the links end, the water does
+      pub outlet_of : (i : ℕ) → i < number_count t → (q : Place) → target_by t flows i ≡ Some q → rim_outlet t flows ends i ≡ Some (last_of d (rim_place t i))
+      outlet_of i h q e =
+          let here : i < length links = omega (arith, h, links_size) in
+          let z = end_of links i in
+          let below : end_of links i < number_count t = omega (arith, node_after-inside links rim_streams i here (length links), links_size) in
+          let o = on_way i h q e (length links) in
+          let c = (target_from (end_of links i) o.entry o.target).crosses in
+          let first : rim_outlet t flows ends i ≡ option_and_then (λ q. exit_by t flows q) (target_by t flows (end_of links i)) =
+          ap (λ (x : Option Place). option_and_then (λ (y : Place). option_and_then (λ q. exit_by t flows q) (target_by t flows (get_or ends i 0))) x) e
+          ∙ ap (λ n. option_and_then (λ q. exit_by t flows q) (target_by t flows n)) (found.each i here) in
+          elim (targets_on (end_of links i) o.entry o.target) [
+            | inr x ↦ first ∙ x.exit
+                ∙ ap Some (sym (last_here x.to x.outlet) ∙ last_same (rim_place t (end_of links i)) x.to (suc x.steps) c.coded x.way ∙ o.last)
+            | inl g ↦ (let same : rim_number t g.to ≡ end_of links i = sym (link_at (end_of links i) below ∙ g.link) ∙ rim_streams.ends i here in
+                absurd (no_cycle (moves d) (rim_place t (end_of links i)) g.to g.steps g.way (sym (back g.to g.crosses) ∙ ap (rim_place t) same) c (stops_of (rim_place t (end_of links i)) c.coded)))
+          ]
+
+      module _ (outlets : List (Option Place)) (listed : outlets ≡ rim_outlets_by t flows ends) where
+        listed_at : (i : ℕ) → i < number_count t → get_or outlets i None ≡ rim_outlet t flows ends i
+        listed_at i h = ap (λ (l : List (Option Place)). get_or l i None) listed ∙ get_or-map-range_with_len (rim_outlet t flows ends) 0 (number_count t) i i None h (omega arith)
+
+        abbrev at_number : Place → Option Place
+        at_number p = cond {A = Option Place} (is_place (rim_place t (rim_number t p)) p) (get_or outlets (rim_number t p) None) None
+
+        exit_outlet : (p : Place) → IsExitCell d t p → outlet_by t flows outlets p ≡ Some (last_of d p)
+        exit_outlet p x =
+            let is = coded_from_some d p x.0 in
+            let w = within_of p is in
+            elim x.1 [
+              | inl out ↦ cond-true {A = Option Place} _ _ _ (ap is_outlet_code (code_here p w ∙ out)) ∙ ap Some (sym (last_here p out))
+              | inr apart ↦ (let c : Crosses p = record { coded = is; apart = apart } in
+                  cond-false {A = Option Place} _ (Some p) (at_number p) (ap is_outlet_code (code_here p w) ∙ not_outlet p c)
+                  ∙ cond-true {A = Option Place} _ _ _ (place_test _ _ (back p c))
+                  ∙ listed_at (rim_number t p) (to_below p c)
+                  ∙ outlet_of (rim_number t p) (to_below p c) (next d p) (target_on p c)
+                  ∙ ap (λ (q : Place). Some (last_of d q)) (back p c))
+            ]
+
+        no_exit_outlet : (p : Place) → IsWithin t p → (IsExitCell d t p → ⊥) → outlet_by t flows outlets p ≡ None
+        no_exit_outlet p w out =
+            cond-false {A = Option Place} _ (Some p) (at_number p) (false_from_ne_true _ (λ y.
+            (let o = outlet_from_code (code_at d p) (sym (ap is_outlet_code (code_here p w)) ∙ y) in out (ap (λ (c : Option ℕ). is_some c) o, inl o))))
+            ∙ elim (cases_Bool (is_place (rim_place t (rim_number t p)) p)) [
+              | inr f ↦ cond-false {A = Option Place} _ _ _ f
+              | inl y ↦ cond-true {A = Option Place} _ _ _ y
+                  ∙ listed_at (rim_number t p) (number_below t s.cutting p w)
+                  ∙ elim (cases_target (target_by t flows (rim_number t p))) [
+                    | inl none ↦ ap (λ (x : Option Place). option_and_then (λ (z : Place). option_and_then (λ q. exit_by t flows q) (target_by t flows (get_or ends (rim_number t p) 0))) x) none
+                    | inr q ↦ (let c = subst (λ (z : Place). Crosses z) (place_from_test _ _ y) (target_from (rim_number t p) q.0 q.1).crosses in
+                        absurd (out (ap (λ (c : Option ℕ). is_some c) c.coded.is, inr c.apart)))
+                  ]
+            ]
+
+        pub outlets_are : AreOutlets d t (record { cutting = t; flows = flows; listed = outlets })
+        outlets_are = record { outlets = exit_outlet; no_outlets = no_exit_outlet }

@@ -1,0 +1,53 @@
+-- The numbers of outlets, put to the cells of a tile. Only the contracts of private functions speak of it.
+use Rattle.std.specs.Prelude.{◌≡◌, ℕ, ◌*◌, ◌<◌, ◌==◌, if◌then◌else◌, List, map, length, Option, None, Some, IfSome, slice_get, slice_index, slice_index_or}
+use Rattle.std.specs.List.{range_with_len}
+use Rattle.ascii_grid.specs.Neighbours.{index_of}
+use Rattle.ascii_grid.specs.declared.place.Place.{Place}
+use Rattle.tiles.specs.declared.bounds.Bounds.{Bounds}
+use Rattle.tiles.specs.Cutting.{Cutting, IsInBounds, IsWithin, tile_count}
+use Rattle.drain.specs.Following.{Directed}
+use Rattle.flow.specs.TileFlow.{Flow}
+use Rattle.flow.specs.TileLinks.{index_in}
+use Rattle.flow.specs.Whole.{outlet_numbers_by}
+use Rattle.flow.specs.RimGraph.{AreFlowsOf, Outlets, AreOutlets, outlet_in}
+
+-- The flows, the outlets of exits and the numbers of outlets are those of a map of directions.
+pub record IsNumbering (d : Directed) (t : Cutting) (flows : List Flow) (outlets : Outlets) (numbers : List ℕ) : Type 0 where
+  pub are_flows : AreFlowsOf d t flows
+  pub are_outlets : AreOutlets d t outlets
+  pub same_cutting : outlets.cutting ≡ t
+  pub are_numbers : numbers ≡ outlet_numbers_by d.codes
+  pub size : length d.codes ≡ d.cols * d.rows
+
+-- an exit in the bounds, whose outlet has a number
+pub record IsExitOfTile (outlets : Outlets) (numbers : List ℕ) (b : Bounds) (e : Place) : Type 0 where
+  pub inside : IsInBounds b e
+  pub within : IsWithin outlets.cutting e
+  pub numbered : IfSome (outlet_in outlets e) (λ q. index_of outlets.cutting.cols q < length numbers)
+
+-- what the jobs may rely on
+pub record AreReady (t : Cutting) (flows : List Flow) (outlets : Outlets) (numbers : List ℕ) : Type 0 where
+  pub same_cutting : outlets.cutting ≡ t
+  pub count : length flows ≡ tile_count t
+  pub exits : (tile : ℕ) (f : Flow) → slice_get flows tile ≡ Some f → (i : ℕ) →
+      IfSome (slice_index_or f.exits i None) (IsExitOfTile outlets numbers f.bounds)
+
+abbrev pub number_at : ℕ → List ℕ → Option Place → ℕ
+number_at cols numbers None = 0
+number_at cols numbers (Some outlet) = slice_index numbers (index_of cols outlet)
+
+-- the number of the outlet of an exit, at the exit's own index
+abbrev pub label_by : List ℕ → Outlets → Bounds → ℕ → Option Place → ℕ
+label_by numbers outlets b i None = 0
+label_by numbers outlets b i (Some e) = if index_in b e == i then number_at outlets.cutting.cols numbers (outlet_in outlets e) else 0
+
+abbrev pub labels_by : List ℕ → Outlets → Bounds → List (Option Place) → List ℕ
+labels_by numbers outlets b exits = map (λ i. label_by numbers outlets b i (slice_index_or exits i None)) (range_with_len 0 (length exits))
+
+-- the label of a cell's exit
+abbrev pub label_at : Bounds → List ℕ → Option Place → Option ℕ
+label_at b labels None = None
+label_at b labels (Some e) = Some (slice_index labels (index_in b e))
+
+abbrev pub numbered_by : Bounds → List ℕ → List (Option Place) → List (Option ℕ)
+numbered_by b labels exits = map (λ i. label_at b labels (slice_index_or exits i None)) (range_with_len 0 (length exits))

@@ -1,0 +1,85 @@
+-- The exits that lead into other tiles as nodes of a graph. Only the contracts of private functions speak of it.
+use Rattle.std.specs.Prelude.{◌≡◌, ℕ, Bool, not, ◌&&◌, ◌==◌, if◌then◌else◌, List, map, Option, None, Some, slice_get, slice_index, slice_index_or, unwrap_or, option_and_then}
+use Rattle.std.specs.List.{range_with_len}
+use Rattle.ascii_grid.specs.Ways.{place_toward}
+use Rattle.ascii_grid.specs.declared.place.Place.{Place}
+use Rattle.tiles.specs.Cutting.{Cutting, IsCutting, IsWithin, is_within, bounds_of, tile_of_place}
+use Rattle.drain.specs.Following.{Directed, last_of}
+use Rattle.drain.specs.Drained.{AllFlowEnds}
+use Rattle.flow.specs.Counts.{is_place}
+use Rattle.flow.specs.TileFlow.{Flow, is_in_bounds, entry_in, exit_in, AreTileFlows, IsExitCell}
+use Rattle.flow.specs.Joining.{code_in}
+use Rattle.flow.specs.Whole.{is_outlet_code}
+use Rattle.flow.specs.RimNumbers.{number_count, rim_number, rim_place}
+
+-- The flows are those of the tiles of a map of directions whose flow paths end.
+pub record AreFlowsOf (d : Directed) (t : Cutting) (flows : List Flow) : Type 0 where
+  pub cutting : IsCutting t
+  pub ends : AllFlowEnds d
+  pub of_tiles : AreTileFlows d t flows
+
+-- what the flow of its tile has at a place: where its water goes next, and its exit
+abbrev pub next_by : Cutting → List Flow → Place → Place
+next_by t flows p = unwrap_or (option_and_then (λ code. place_toward code p) (code_in t flows p)) p
+
+abbrev pub exit_by : Cutting → List Flow → Place → Option Place
+exit_by t flows p = option_and_then (λ f. exit_in f p) (slice_get flows (tile_of_place t p))
+
+-- the place is in the grid, and this is its number
+abbrev pub stands_for : Cutting → Place → ℕ → Bool
+stands_for t p i = is_within t p && rim_number t p == i
+
+-- where the water of a number's cell enters another tile; None for a number that stands for no such cell
+abbrev pub target_by : Cutting → List Flow → ℕ → Option Place
+target_by t flows i =
+    let p = rim_place t i in
+    if stands_for t p i && not (is_in_bounds (bounds_of t (tile_of_place t p)) (next_by t flows p))
+    then Some (next_by t flows p) else None
+
+abbrev pub targets_by : Cutting → List Flow → List (Option Place)
+targets_by t flows = map (target_by t flows) (range_with_len 0 (number_count t))
+
+-- where water that enters a tile at a place leaves it again; None where it ends in the tile
+abbrev pub way_out_in : Flow → Place → Option Place
+way_out_in f p = option_and_then (λ e. if is_outlet_code (entry_in f.bounds f.codes e) then None else Some e) (exit_in f p)
+
+abbrev pub way_out_by : Cutting → List Flow → Place → Option Place
+way_out_by t flows p = option_and_then (λ f. way_out_in f p) (slice_get flows (tile_of_place t p))
+
+-- each exit is linked to the one over which its water leaves the next tile
+abbrev pub number_or : Cutting → ℕ → Option Place → ℕ
+number_or t i None = i
+number_or t i (Some e) = rim_number t e
+
+abbrev pub rim_link : Cutting → List Flow → ℕ → ℕ
+rim_link t flows i = number_or t i (option_and_then (λ q. way_out_by t flows q) (target_by t flows i))
+
+abbrev pub rim_links_by : Cutting → List Flow → List ℕ
+rim_links_by t flows = map (rim_link t flows) (range_with_len 0 (number_count t))
+
+-- the exit of the place that the last of the links of an exit enters
+abbrev pub rim_outlet : Cutting → List Flow → List ℕ → ℕ → Option Place
+rim_outlet t flows ends i = option_and_then (λ _. option_and_then (λ q. exit_by t flows q) (target_by t flows (slice_index ends i))) (target_by t flows i)
+
+abbrev pub rim_outlets_by : Cutting → List Flow → List ℕ → List (Option Place)
+rim_outlets_by t flows ends = map (rim_outlet t flows ends) (range_with_len 0 (number_count t))
+
+-- the outlet of a place that is an exit
+abbrev pub outlet_by : Cutting → List Flow → List (Option Place) → Place → Option Place
+outlet_by t flows outlets p =
+    if is_outlet_code (code_in t flows p) then Some p
+    else if is_place (rim_place t (rim_number t p)) p then slice_index_or outlets (rim_number t p) None
+    else None
+
+-- Where the water of each exit ends.
+pub record Outlets : Type 0 where
+  pub cutting : Cutting
+  pub flows : List Flow
+  pub listed : List (Option Place)
+
+abbrev pub outlet_in : Outlets → Place → Option Place
+outlet_in o p = outlet_by o.cutting o.flows o.listed p
+
+pub record AreOutlets (d : Directed) (t : Cutting) (o : Outlets) : Type 0 where
+  pub outlets : (p : Place) → IsExitCell d t p → outlet_in o p ≡ Some (last_of d p)
+  pub no_outlets : (p : Place) → IsWithin t p → (IsExitCell d t p → ⊥) → outlet_in o p ≡ None

@@ -1,0 +1,78 @@
+// The flow of each tile, in a job of its own.
+ghost use Rattle.std.specs.Prelude.{◌≡◌, IfOk};
+ghost use Rattle.tiles.specs.Cutting.{Cuts};
+ghost use Rattle.tile_jobs.specs.Fault.{RefusesWorkers};
+ghost use Rattle.drain.specs.Drained.{directed_of};
+ghost use Rattle.flow.specs.RimGraph.{AreFlowsOf};
+ghost use Rattle.flow.specs.Whole.{IsGridFlow, make_directed};
+
+use crate::tile::{TileFlow, tile_flow};
+use drain::{Code, Directions};
+use std::alloc::Global;
+use std::sync::Wait;
+use std::thread::Threads;
+use tile_jobs::{Gate, JobFault, Work, run_jobs};
+use tiles::Tiling;
+
+/// Finds the flow of each tile.
+#[derive(Drop)]
+struct FlowTiles<'a> {
+    codes: &'a [Option<Code>],
+    tiling: &'a Tiling,
+    ghost flows: { IsGridFlow tiling.now.cols tiling.now.rows codes.now },
+}
+
+impl<'a> Work for FlowTiles<'a> {
+    type Out = TileFlow;
+
+    ghost use Rattle.tiles.specs.Cutting.{tile_count};
+    ghost use Rattle.flow.specs.TileFlow.{IsTileFlow};
+    ghost use Rattle.flow.specs.Whole.{make_directed};
+
+    ghost most = { λ w. tile_count w.tiling.now };
+
+    ghost gives = { λ w job out. IsTileFlow (make_directed w.tiling.now.cols w.tiling.now.rows w.codes.now) w.tiling.now job out };
+
+    fn run(&self, alloc: Global, job: u32) -> Result<TileFlow, JobFault> {
+        let view = self.tiling.view(self.codes, job);
+        let Ok(flow) = tile_flow(alloc, &view) else {
+            return Err(JobFault::Memory);
+        };
+        Ok(flow)
+    }
+}
+
+/// The codes of a map of directions.
+pub fn codes_of<'a>(directions: &'a Directions, tiling: &Tiling) -> &'a [Option<Code>]
+    requires { Cuts tiling.now directions.now.terrain }
+    ensures flows { IsGridFlow tiling.now.cols tiling.now.rows result.now }
+    ensures same { make_directed tiling.now.cols tiling.now.rows result.now ≡ directed_of directions.now }
+{
+    let codes = directions.codes();
+    prove!(tiling.cols() > 0);
+    codes
+}
+
+/// The flows of all tiles, in tile order.
+pub fn flow_tiles<R: Threads + Wait + Sync, G: Gate + Sync>(
+    rt: &R,
+    alloc: Global,
+    codes: &[Option<Code>],
+    tiling: &Tiling,
+    workers: u32,
+    gate: &G,
+) -> Result<Vec<TileFlow>, JobFault>
+    requires { IsGridFlow tiling.now.cols tiling.now.rows codes.now }
+    ensures flows { IfOk result (λ v. AreFlowsOf (make_directed tiling.now.cols tiling.now.rows codes.now) tiling.now v.items) }
+    ensures workers { RefusesWorkers workers result }
+{
+    let tiles = tiling.tiles();
+    run_jobs(
+        rt,
+        alloc,
+        &FlowTiles { codes, tiling },
+        tiles,
+        workers,
+        gate,
+    )
+}

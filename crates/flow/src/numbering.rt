@@ -1,0 +1,283 @@
+// The basins of a map of directions, tile by tile.
+ghost use Rattle.std.proofs.Props.{props};
+ghost use Rattle.std.specs.Prelude.{◌≡◌, ◌-◌, ◌*◌, ◌^◌, ◌<◌, ℕ, length, slice_index_or, None, IfOk, IfSome, if◌then◌else◌};
+ghost use Rattle.tiles.specs.Cutting.{Cuts, IsInBounds, IsWithin, tile_count, bounds_of};
+ghost use Rattle.tile_jobs.specs.Fault.{RefusesWorkers};
+ghost use Rattle.drain.specs.Drained.{directed_of};
+ghost use Rattle.drain.specs.Following.{Directed};
+ghost use Rattle.flow.specs.Counts.{AreBasins, basin};
+ghost use Rattle.flow.specs.TileLinks.{IsSmall};
+ghost use Rattle.flow.specs.Whole.{IsGridFlow, make_directed, is_outlet_code, outlet_numbers_by};
+ghost use Rattle.ascii_grid.specs.Neighbours.{index_of};
+ghost use Rattle.flow.specs.RimGraph.{outlet_in};
+ghost use Rattle.flow.specs.TileMaps.{IsTileMapOf, AreTileMapsOf};
+ghost use Rattle.flow.specs.Numbering.{IsNumbering, AreReady, IsExitOfTile, number_at, label_by, labels_by, label_at, numbered_by};
+
+use crate::cells::index_of;
+use crate::flowing::{codes_of, flow_tiles};
+use crate::outlets::Outlets;
+use crate::tile::{TileFlow, is_outlet};
+use ascii_grid::{NoMemory, Place};
+use drain::{Code, Directions};
+use std::alloc::Global;
+use std::sync::Wait;
+use std::thread::Threads;
+use tile_jobs::{Gate, JobFault, Work, run_jobs};
+use tiles::{Bounds, Tiling};
+
+/// Numbers the cells of each tile.
+#[derive(Drop)]
+struct NumberTiles<'a> {
+    tiling: &'a Tiling,
+    flows: &'a [TileFlow],
+    outlets: &'a Outlets<'a>,
+    numbers: &'a [u32],
+    ghost ready: { AreReady tiling.now flows.now outlets.now numbers.now } by { Prim.hlevel props },
+}
+
+impl<'a> Work for NumberTiles<'a> {
+    type Out = Vec<Option<u32>>;
+
+    ghost use Rattle.tiles.specs.Cutting.{tile_count};
+    ghost use Rattle.drain.specs.Following.{Directed};
+    ghost use Rattle.flow.specs.Counts.{basin};
+    ghost use Rattle.flow.specs.Numbering.{IsNumbering};
+    ghost use Rattle.flow.specs.TileMaps.{IsTileMapOf};
+
+    ghost most = { λ w. tile_count w.tiling.now };
+
+    ghost gives = { λ w job out. (d : Directed) → IsNumbering d w.tiling.now w.flows.now w.outlets.now w.numbers.now →
+        IsTileMapOf d w.tiling.now job (basin d) out.items };
+
+    fn run(&self, alloc: Global, job: u32) -> Result<Vec<Option<u32>>, JobFault> {
+        let Ok(values) = tile_basins(
+            alloc,
+            self.tiling,
+            self.flows,
+            self.outlets,
+            self.numbers,
+            job,
+        ) else {
+            return Err(JobFault::Memory);
+        };
+        Ok(values)
+    }
+}
+
+/// The number of the outlet that ends each cell's flow path. Each tile's flow is found in a job of its own,
+/// and its cells are numbered in another.
+pub fn basins<R: Threads + Wait + Sync, G: Gate + Sync>(
+    rt: &R,
+    alloc: Global,
+    d: &Directions,
+    tiling: &Tiling,
+    workers: u32,
+    gate: &G,
+) -> Result<Vec<Option<u32>>, JobFault>
+    requires { Cuts tiling.now d.now.terrain }
+    ensures values { IfOk result (λ v. AreBasins (directed_of d.now) v.items) }
+    ensures workers { RefusesWorkers workers result }
+{
+    basins_along(rt, alloc, codes_of(d, tiling), tiling, workers, gate)
+}
+
+pub(crate) fn basins_along<R: Threads + Wait + Sync, G: Gate + Sync>(
+    rt: &R,
+    alloc: Global,
+    codes: &[Option<Code>],
+    tiling: &Tiling,
+    workers: u32,
+    gate: &G,
+) -> Result<Vec<Option<u32>>, JobFault>
+    requires flows { IsGridFlow tiling.now.cols tiling.now.rows codes.now }
+    ensures values { IfOk result (λ v. AreBasins (make_directed tiling.now.cols tiling.now.rows codes.now) v.items) }
+    ensures workers { RefusesWorkers workers result }
+{
+    let flows = flow_tiles(rt, alloc, codes, tiling, workers, gate)?;
+    let Ok(outlets) = Outlets::join(alloc, tiling, &flows) else {
+        return Err(JobFault::Memory);
+    };
+    let Ok(numbers) = outlet_numbers(alloc, codes) else {
+        return Err(JobFault::Memory);
+    };
+    let tiles = number_tiles(rt, alloc, tiling, &flows, &outlets, &numbers, workers, gate)?;
+    drop(outlets);
+    drop(flows);
+    drop(numbers);
+    match tiling.put_back(alloc, &tiles) {
+        Ok(values) => Ok(values),
+        Err(NoMemory) => Err(JobFault::Memory),
+    }
+}
+
+fn number_tiles<R: Threads + Wait + Sync, G: Gate + Sync>(
+    rt: &R,
+    alloc: Global,
+    tiling: &Tiling,
+    flows: &[TileFlow],
+    outlets: &Outlets<'_>,
+    numbers: &[u32],
+    workers: u32,
+    gate: &G,
+) -> Result<Vec<Vec<Option<u32>>>, JobFault>
+    requires { (d : Directed) × IsNumbering d tiling.now flows.now outlets.now numbers.now }
+    ensures tiles { IfOk result (λ v. (d : Directed) → IsNumbering d tiling.now flows.now outlets.now numbers.now →
+        AreTileMapsOf d tiling.now (basin d) v.items) }
+    ensures workers { RefusesWorkers workers result }
+{
+    let tiles = tiling.tiles();
+    let work = NumberTiles {
+        tiling,
+        flows,
+        outlets,
+        numbers,
+    };
+    run_jobs(rt, alloc, &work, tiles, workers, gate)
+}
+
+// The numbers of a tile's cells.
+fn tile_basins(
+    alloc: Global,
+    tiling: &Tiling,
+    flows: &[TileFlow],
+    outlets: &Outlets<'_>,
+    numbers: &[u32],
+    tile: u32,
+) -> Result<Vec<Option<u32>>, NoMemory>
+    requires ready { AreReady tiling.now flows.now outlets.now numbers.now }
+    requires tile { tile < tile_count tiling.now }
+    ensures { IfOk result (λ v. (d : Directed) → IsNumbering d tiling.now flows.now outlets.now numbers.now →
+        IsTileMapOf d tiling.now tile (basin d) v.items) }
+{
+    let flow = &flows[tile as usize];
+    let bounds = flow.bounds();
+    let labels = exit_labels(alloc, tiling, outlets, numbers, bounds, flow.exits())?;
+    numbered(alloc, bounds, flow.exits(), &labels)
+}
+
+// The number of the outlet of each exit, at its own index.
+fn exit_labels(
+    alloc: Global,
+    tiling: &Tiling,
+    outlets: &Outlets<'_>,
+    numbers: &[u32],
+    bounds: Bounds,
+    exits: &[Option<Place>],
+) -> Result<Vec<u32>, NoMemory>
+    requires small { IsSmall bounds }
+    requires cutting { outlets.now.cutting ≡ tiling.now }
+    requires exits { (i : ℕ) → IfSome (slice_index_or exits.now i None) (IsExitOfTile outlets.now numbers.now bounds) }
+    ensures { IfOk result (λ v. v.items ≡ labels_by numbers.now outlets.now bounds exits.now) }
+{
+    let Ok(mut labels) = Vec::with_capacity(alloc, exits.len()) else {
+        return Err(NoMemory);
+    };
+    for index in 0..exits.len() {
+        let exit = exits[index];
+        let label = label_of(tiling, outlets, numbers, bounds, index, exit);
+        if labels.push(label).is_err() {
+            return Err(NoMemory);
+        }
+    }
+    Ok(labels)
+}
+
+#[inline(always)]
+fn label_of(
+    tiling: &Tiling,
+    outlets: &Outlets<'_>,
+    numbers: &[u32],
+    bounds: Bounds,
+    index: usize,
+    exit: Option<Place>,
+) -> u32
+    requires small { IsSmall bounds }
+    requires cutting { outlets.now.cutting ≡ tiling.now }
+    requires exit { IfSome exit (IsExitOfTile outlets.now numbers.now bounds) }
+    ensures { result ≡ label_by numbers.now outlets.now bounds index exit }
+{
+    let Some(exit) = exit else {
+        return 0;
+    };
+    if index_of(bounds, exit) != index {
+        return 0;
+    }
+    number_of(tiling, outlets, numbers, exit)
+}
+
+// The number of the outlet of an exit.
+fn number_of(tiling: &Tiling, outlets: &Outlets<'_>, numbers: &[u32], exit: Place) -> u32
+    requires cutting { outlets.now.cutting ≡ tiling.now }
+    requires within { IsWithin outlets.now.cutting exit }
+    requires numbered { IfSome (outlet_in outlets.now exit) (λ o. index_of outlets.now.cutting.cols o < length numbers.now) }
+    ensures { result ≡ number_at outlets.now.cutting.cols numbers.now (outlet_in outlets.now exit) }
+{
+    match outlets.outlet(exit) {
+        Some(outlet) => {
+            numbers[outlet.row as usize * tiling.cols() as usize + outlet.col as usize]
+        }
+        None => 0,
+    }
+}
+
+// The label of each cell's exit.
+fn numbered(
+    alloc: Global,
+    bounds: Bounds,
+    exits: &[Option<Place>],
+    labels: &[u32],
+) -> Result<Vec<Option<u32>>, NoMemory>
+    requires small { IsSmall bounds }
+    requires size { length labels.now ≡ bounds.rows * bounds.cols }
+    requires exits { (i : ℕ) → IfSome (slice_index_or exits.now i None) (IsInBounds bounds) }
+    ensures { IfOk result (λ v. v.items ≡ numbered_by bounds labels.now exits.now) }
+{
+    let Ok(mut values) = Vec::with_capacity(alloc, exits.len()) else {
+        return Err(NoMemory);
+    };
+    for index in 0..exits.len() {
+        let value = label_at(bounds, labels, exits[index]);
+        if values.push(value).is_err() {
+            return Err(NoMemory);
+        }
+    }
+    Ok(values)
+}
+
+#[inline(always)]
+fn label_at(bounds: Bounds, labels: &[u32], exit: Option<Place>) -> Option<u32>
+    requires small { IsSmall bounds }
+    requires size { length labels.now ≡ bounds.rows * bounds.cols }
+    requires exit { IfSome exit (IsInBounds bounds) }
+    ensures { result ≡ label_at bounds labels.now exit }
+{
+    match exit {
+        Some(exit) => Some(labels[index_of(bounds, exit)]),
+        None => None,
+    }
+}
+
+// For each cell one more than the outlets that stand before it in row order.
+fn outlet_numbers(alloc: Global, codes: &[Option<Code>]) -> Result<Vec<u32>, NoMemory>
+    requires { length codes.now < 2 ^ 32 - 1 }
+    ensures { IfOk result (λ v. v.items ≡ outlet_numbers_by codes.now) }
+{
+    let Ok(mut numbers) = Vec::with_capacity(alloc, codes.len()) else {
+        return Err(NoMemory);
+    };
+    let mut number = 1;
+    for index in 0..codes.len() {
+        if numbers.push(number).is_err() {
+            return Err(NoMemory);
+        }
+        number += one_if_outlet(codes[index]);
+    }
+    Ok(numbers)
+}
+
+#[inline(always)]
+fn one_if_outlet(code: Option<Code>) -> u32
+    ensures { result ≡ if is_outlet_code code then 1 else 0 }
+{
+    u32::from(is_outlet(code))
+}

@@ -1,0 +1,224 @@
+// Where the water of the exits of all tiles ends.
+ghost use Rattle.std.specs.Prelude.{◌≡◌, ◌<◌, ◌≤◌, ℕ, length, slice_index, IfOk, IfSome, option_and_then};
+ghost use Rattle.tiles.specs.Cutting.{IsCutting, IsWithin, tile_count};
+ghost use Rattle.drain.specs.Following.{Directed};
+ghost use Rattle.flow.specs.Counts.{is_place};
+ghost use Rattle.flow.specs.RimNumbers.{number_count};
+ghost use Rattle.flow.specs.RimGraph.{AreFlowsOf, AreOutlets, target_by, number_or, way_out_by, rim_links_by, rim_outlet, rim_outlets_by, outlet_in, next_by, exit_by, stands_for};
+ghost use Rattle.flow.specs.Joining.{code_in};
+
+use crate::cells::{contains, next_of};
+use crate::ends::ends;
+use crate::rim::{number_count, rim_number, rim_place};
+use crate::tile::{TileFlow, is_outlet};
+use ascii_grid::{NoMemory, Place};
+use drain::Code;
+use std::alloc::Global;
+use std::marker::Model;
+use tiles::Tiling;
+
+/// Where the water of each exit ends.
+#[derive(Drop)]
+pub struct Outlets<'a> {
+    tiling: Tiling,
+    flows: &'a [TileFlow],
+    // of each number of a rim cell whose water goes on into another tile
+    outlets: Vec<Option<Place>>,
+}
+
+impl<'a> Model for Outlets<'a> {
+    ghost use Rattle.std.specs.Prelude.{◌≡◌, length};
+    ghost use Rattle.tiles.specs.Cutting.{IsCutting, tile_count};
+    ghost use Rattle.flow.specs.RimNumbers.{number_count};
+    ghost use Rattle.flow.specs.RimGraph.{Outlets};
+
+    ghost Value = { Outlets };
+
+    ghost view = { λ o. record { cutting = o.tiling; flows = o.flows.now; listed = o.outlets.items } };
+
+    ghost invariant = { λ o. (length o.flows.now ≡ tile_count o.tiling) × (length o.outlets.items ≡ number_count o.tiling) };
+}
+
+impl<'a> Outlets<'a> {
+    /// Follows the water of each exit from tile to tile.
+    pub fn join(
+        alloc: Global,
+        tiling: &Tiling,
+        flows: &'a [TileFlow],
+    ) -> Result<Outlets<'a>, NoMemory>
+        requires { (d : Directed) × AreFlowsOf d tiling.now flows.now }
+        ensures cutting { IfOk result (λ o. o.cutting ≡ tiling.now) }
+        ensures outlets { IfOk result (λ o. (d : Directed) → AreFlowsOf d tiling.now flows.now → AreOutlets d tiling.now o) }
+    {
+        let links = rim_links(alloc, tiling, flows)?;
+        let ends = ends(alloc, &links)?;
+        drop(links);
+        let outlets = rim_outlets(alloc, tiling, flows, &ends)?;
+        Ok(Outlets {
+            tiling: *tiling,
+            flows,
+            outlets,
+        })
+    }
+
+    /// Where the flow path of an exit ends; None for a place that is no exit.
+    pub fn outlet(&self, exit: Place) -> Option<Place>
+        requires { IsWithin self.now.cutting exit }
+        ensures { result ≡ outlet_in self.now exit }
+    {
+        if is_outlet(code_of(&self.tiling, self.flows, exit)) {
+            return Some(exit);
+        }
+        let number = rim_number(&self.tiling, exit);
+        if is_place(rim_place(&self.tiling, number), exit) {
+            self.outlets[number as usize]
+        } else {
+            None
+        }
+    }
+}
+
+#[inline(always)]
+fn is_place(place: Place, other: Place) -> bool
+    ensures { result ≡ is_place place other }
+{
+    place.row == other.row && place.col == other.col
+}
+
+// Whether a place is in the grid and has this number.
+#[inline(always)]
+fn stands_for(tiling: &Tiling, place: Place, number: u32) -> bool
+    ensures { result ≡ stands_for tiling.now place number }
+{
+    place.row < tiling.rows() && place.col < tiling.cols() && rim_number(tiling, place) == number
+}
+
+// Where the water of a place goes on.
+#[inline(always)]
+fn next_from(tiling: &Tiling, flows: &[TileFlow], place: Place) -> Place
+    requires count { length flows.now ≡ tile_count tiling.now }
+    requires within { IsWithin tiling.now place }
+    ensures { result ≡ next_by tiling.now flows.now place }
+{
+    next_of(code_of(tiling, flows, place), place)
+}
+
+#[inline(always)]
+fn code_of(tiling: &Tiling, flows: &[TileFlow], place: Place) -> Option<Code>
+    requires count { length flows.now ≡ tile_count tiling.now }
+    requires within { IsWithin tiling.now place }
+    ensures value { result ≡ code_in tiling.now flows.now place }
+    ensures lawful { IsCutting tiling.now }
+{
+    flows[tiling.tile_of(place) as usize].code(place)
+}
+
+#[inline(always)]
+fn exit_of(tiling: &Tiling, flows: &[TileFlow], place: Place) -> Option<Place>
+    requires count { length flows.now ≡ tile_count tiling.now }
+    requires within { IsWithin tiling.now place }
+    ensures { result ≡ exit_by tiling.now flows.now place }
+{
+    flows[tiling.tile_of(place) as usize].exit(place)
+}
+
+#[inline(always)]
+fn way_out(tiling: &Tiling, flows: &[TileFlow], entry: Place) -> Option<Place>
+    requires count { length flows.now ≡ tile_count tiling.now }
+    requires within { IsWithin tiling.now entry }
+    ensures { result ≡ way_out_by tiling.now flows.now entry }
+{
+    flows[tiling.tile_of(entry) as usize].way_out(entry)
+}
+
+// Where the water of a number's cell enters another tile; None for a number that stands for no such cell.
+fn target_of(tiling: &Tiling, flows: &[TileFlow], number: u32) -> Option<Place>
+    requires count { length flows.now ≡ tile_count tiling.now }
+    requires number { number < number_count tiling.now }
+    ensures { result ≡ target_by tiling.now flows.now number }
+{
+    let place = rim_place(tiling, number);
+    if !stands_for(tiling, place, number) {
+        return None;
+    }
+    let next = next_from(tiling, flows, place);
+    if contains(tiling.bounds(tiling.tile_of(place)), next) {
+        None
+    } else {
+        Some(next)
+    }
+}
+
+// The number to which a number is linked: that of the exit over which its water leaves the next tile.
+fn link_of(tiling: &Tiling, flows: &[TileFlow], number: u32, target: Option<Place>) -> u32
+    requires flows { (d : Directed) × AreFlowsOf d tiling.now flows.now }
+    requires within { IfSome target (IsWithin tiling.now) }
+    ensures { result ≡ number_or tiling.now number (option_and_then (λ q. way_out_by tiling.now flows.now q) target) }
+{
+    let Some(entry) = target else {
+        return number;
+    };
+    match way_out(tiling, flows, entry) {
+        Some(exit) => rim_number(tiling, exit),
+        None => number,
+    }
+}
+
+fn rim_links(alloc: Global, tiling: &Tiling, flows: &[TileFlow]) -> Result<Vec<u32>, NoMemory>
+    requires { (d : Directed) × AreFlowsOf d tiling.now flows.now }
+    ensures { IfOk result (λ v. v.items ≡ rim_links_by tiling.now flows.now) }
+{
+    let count = number_count(tiling);
+    let Ok(mut links) = Vec::with_capacity(alloc, count as usize) else {
+        return Err(NoMemory);
+    };
+    for number in 0..count {
+        let target = target_of(tiling, flows, number);
+        let link = link_of(tiling, flows, number, target);
+        if links.push(link).is_err() {
+            return Err(NoMemory);
+        }
+    }
+    Ok(links)
+}
+
+// The exit of the place that the last of a number's links enters.
+fn outlet_of(tiling: &Tiling, flows: &[TileFlow], ends: &[u32], number: u32) -> Option<Place>
+    requires flows { (d : Directed) × AreFlowsOf d tiling.now flows.now }
+    requires number { number < number_count tiling.now }
+    requires size { length ends.now ≡ number_count tiling.now }
+    requires inside { (i : ℕ) → i < number_count tiling.now → slice_index ends.now i < number_count tiling.now }
+    ensures { result ≡ rim_outlet tiling.now flows.now ends.now number }
+{
+    let Some(_) = target_of(tiling, flows, number) else {
+        return None;
+    };
+    let Some(entry) = target_of(tiling, flows, ends[number as usize]) else {
+        return None;
+    };
+    exit_of(tiling, flows, entry)
+}
+
+fn rim_outlets(
+    alloc: Global,
+    tiling: &Tiling,
+    flows: &[TileFlow],
+    ends: &[u32],
+) -> Result<Vec<Option<Place>>, NoMemory>
+    requires flows { (d : Directed) × AreFlowsOf d tiling.now flows.now }
+    requires size { length ends.now ≡ number_count tiling.now }
+    requires inside { (i : ℕ) → i < number_count tiling.now → slice_index ends.now i < number_count tiling.now }
+    ensures { IfOk result (λ v. v.items ≡ rim_outlets_by tiling.now flows.now ends.now) }
+{
+    let count = number_count(tiling);
+    let Ok(mut outlets) = Vec::with_capacity(alloc, count as usize) else {
+        return Err(NoMemory);
+    };
+    for number in 0..count {
+        let outlet = outlet_of(tiling, flows, ends, number);
+        if outlets.push(outlet).is_err() {
+            return Err(NoMemory);
+        }
+    }
+    Ok(outlets)
+}
