@@ -13,7 +13,8 @@ use Rattle.flow.specs.Streams.{AreUpstream, onward, node_after, sum_below, share
 use Rattle.flow.specs.TileFlow.{inflow_of}
 use Rattle.flow.specs.TileLinks.{place_in, index_in, weight_in, AreTileWeights}
 use Rattle.flow.specs.Crossing.{are_apart, crosses, crossing}
-use Rattle.flow.proofs.Sums.{sum_below-same, sum_below-add, sum_below-except, sum_below-few}
+use Rattle.flow.proofs.Sums.{sum_below-same, sum_below-few}
+use Rattle.flow.proofs.DoubleSums.{exchange, one_term}
 use Rattle.flow.proofs.Ranges.{some_in_range, any_in_range}
 use Rattle.flow.proofs.EarlyEnds.{within, early_end, stays_from, never, share-some, share-cases}
 use Rattle.flow.proofs.Coded.{IsCoded, coded_along, coded_inside, coded_from_some}
@@ -21,15 +22,6 @@ use Rattle.flow.proofs.Windows.{sum_in_bounds, sum_below-none}
 use Rattle.flow.proofs.InTile.{IsPiece, in_step, node_inside, tile_streams}
 use Rattle.flow.proofs.Through.{place_test, place_from_test}
 use Rattle.flow.proofs.OneTile.{whole_bounds, one_tile}
-
--- sums over two numbers in either order
-pub exchange : (f : ℕ → ℕ → ℕ) (n m : ℕ) → sum_below (λ i. sum_below (f i) m) n ≡ sum_below (λ j. sum_below (λ i. f i j) n) m
-exchange f zero m = sym (sum_below-none (λ j. 0) m (λ j h. refl))
-exchange f (suc n) m = ap (λ k. k + sum_below (f n) m) (exchange f n m) ∙ sym (sum_below-add (λ j. sum_below (λ i. f i j) n) (f n) m)
-
--- a sum with one term above 0
-pub one_term : (f : ℕ → ℕ) (n i : ℕ) → i < n → ((j : ℕ) → j < n → j ≢ i → f j ≡ 0) → sum_below f n ≡ f i
-one_term f n i h none = omega (arith, sum_below-except f (λ _. 0) n i h none, sum_below-none (λ _. 0) n (λ j l. refl))
 
 module _ (d : Directed) (t : Cutting) (cols rows : ℕ) (links weights : List ℕ) (s : IsPiece d (one_tile cols rows) 0 (whole_bounds cols rows) links) (w : AreTileWeights d (whole_bounds cols rows) weights) where
   abbrev b : Bounds

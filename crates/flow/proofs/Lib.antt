@@ -24,3 +24,5 @@ pub mod RimNumbered
 pub mod RimFlows
 pub mod Together
 pub mod Numbered
+pub mod DoubleSums
+pub mod Reaching

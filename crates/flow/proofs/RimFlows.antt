@@ -62,7 +62,7 @@ pub outlet_unlisted : (t : Cutting) (flows : List Flow) (listed : List (Option P
 outlet_unlisted t flows listed p f n = cond-false {A = Option Place} _ (Some p) (cond {A = Option Place} (is_place (rim_place t (rim_number t p)) p) (get_or listed (rim_number t p) None) None) f ∙ cond-false {A = Option Place} _ _ _ n
 
 -- moves in two parts
-follow_more : (d : Directed) (p : Place) (a b : ℕ) → follow d (follow d p a) b ≡ follow d p (a + b)
+pub follow_more : (d : Directed) (p : Place) (a b : ℕ) → follow d (follow d p a) b ≡ follow d p (a + b)
 follow_more d p a zero = let z : a ≡ a + 0 = omega arith in ap (follow d p) z
 follow_more d p a (suc b) = let z : suc (a + b) ≡ a + suc b = omega arith in ap (next d) (follow_more d p a b) ∙ ap (follow d p) z
 
@@ -70,7 +70,7 @@ follow_more d p a (suc b) = let z : suc (a + b) ≡ a + suc b = omega arith in a
 abbrev pub StopsAt : Directed → Place → ℕ → Type 0
 StopsAt d p k = next d (follow d p k) ≡ follow d p k
 
-stops_sooner : (d : Directed) (p e : Place) (k n : ℕ) → follow d p (suc k) ≡ e → StopsAt d p (suc n) → StopsAt d e n
+pub stops_sooner : (d : Directed) (p e : Place) (k n : ℕ) → follow d p (suc k) ≡ e → StopsAt d p (suc n) → StopsAt d e n
 stops_sooner d p e k n way stop =
     let later : follow d e n ≡ follow d p (suc n) =
     ap (λ (q : Place). follow d q n) (sym way) ∙ follow_more d p (suc k) n ∙ follow_stays d p (suc n) (suc k + n) (omega arith) stop in
