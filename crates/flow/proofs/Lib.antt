@@ -26,3 +26,5 @@ pub mod Together
 pub mod Numbered
 pub mod DoubleSums
 pub mod Reaching
+pub mod Gathering
+pub mod RimTotals

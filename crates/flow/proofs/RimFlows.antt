@@ -91,12 +91,12 @@ module _ (d : Directed) (t : Cutting) (flows : List Flow) (s : AreFlowsOf d t fl
   last_here p out = follow_stays d p 0 (moves d) (omega arith) (outlet_stays d p out)
 
   -- the flow of a place's tile
-  record HasFlow (p : Place) : Type 0 where
+  pub record HasFlow (p : Place) : Type 0 where
     pub flow : Flow
     pub is : slice_get flows (tile_of_place t p) ≡ Some flow
     pub right : IsTileFlow d t (tile_of_place t p) flow
 
-  flow_of : (p : Place) → IsWithin t p → HasFlow p
+  pub flow_of : (p : Place) → IsWithin t p → HasFlow p
   flow_of p w = elim (slice_get_cases flows (tile_of_place t p)).1 [
     | inl r ↦ record { flow = r.0; is = r.2; right = s.of_tiles.each (tile_of_place t p) r.0 r.2 }
     | inr r ↦ absurd (omega (arith, tile_of_place_below t p s.cutting w, s.of_tiles.count, r.0))

@@ -1,0 +1,114 @@
+-- How many cells' water comes through a cell, the cell itself counted.
+use Rattle.std.proofs.Common.{◌≡◌, ◌≢◌, ℕ, ◌+◌, ◌*◌, ◌<◌, ◌≤◌, Bool, true, false, not, ◌&&◌, cond, inl, inr, is_some, sym, ap, refl, ◌∙◌, arith}
+use Rattle.std.proofs.Math.Nat.{mul-le-mul}
+use Rattle.std.proofs.lemmas.Bool.{cases_Bool, and_from, and_left, and_right, eq-eqb, cond-true, cond-false, false_from_ne_true, not_from_true, not_from_false}
+use Rattle.ascii_grid.specs.Ways.{places}
+use Rattle.std.specs.List.{sum_by}
+use Rattle.ascii_grid.specs.declared.place.Place.{Place}
+use Rattle.tiles.specs.Cutting.{Cutting, tile_of_place}
+use Rattle.tiles.proofs.TileOrder.{index_in-place_in}
+use Rattle.drain.specs.Following.{Directed, code_at, follow, moves}
+use Rattle.flow.specs.Counts.{is_place, drains_through, accumulation}
+use Rattle.flow.specs.Streams.{sum_below}
+use Rattle.flow.specs.TileFlow.{stays, reaches_inside, through_of}
+use Rattle.flow.specs.TileLinks.{place_in, index_in}
+use Rattle.flow.proofs.Sums.{sum_below-except, sum_below-few}
+use Rattle.flow.proofs.Ranges.{any_in_range, all_in_range}
+use Rattle.flow.proofs.Coded.{IsCoded, coded_some}
+use Rattle.flow.proofs.Through.{place_test, place_from_test}
+use Rattle.flow.proofs.OneTile.{whole_bounds}
+use Rattle.flow.proofs.Reaching.{IsEnding, sum_of_cells, cell_below, cell_back}
+
+-- a cell of the grid
+abbrev pub cell : Directed → ℕ → Place
+cell d i = place_in (whole_bounds d.cols d.rows) i
+
+-- 1 where the water of a cell comes through another
+abbrev pub drained : Directed → Place → Place → ℕ
+drained d p q = cond {A = ℕ} (is_some (code_at d q) && drains_through d p q) 1 0
+
+abbrev pub all_drained : Directed → Place → ℕ
+all_drained d p = sum_below (λ j. drained d p (cell d j)) (d.rows * d.cols)
+
+-- 1 where it does so without leaving the tile
+abbrev pub gathered : Directed → Cutting → Place → Place → ℕ
+gathered d t p q = cond {A = ℕ} (is_some (code_at d q) && reaches_inside d t p q) 1 0
+
+abbrev pub all_gathered : Directed → Cutting → Place → ℕ
+all_gathered d t p = sum_below (λ j. gathered d t p (cell d j)) (d.rows * d.cols)
+
+pub drained_on : (d : Directed) (p q : Place) → IsCoded d q → drains_through d p q ≡ true → drained d p q ≡ 1
+drained_on d p q is t = cond-true {A = ℕ} _ 1 0 (and_from _ _ (coded_some d q is) t)
+
+pub drained_off : (d : Directed) (p q : Place) → drains_through d p q ≡ false → drained d p q ≡ 0
+drained_off d p q f = cond-false {A = ℕ} _ 1 0 (and_right _ _ f)
+
+pub drained_none : (d : Directed) (p q : Place) → is_some (code_at d q) ≡ false → drained d p q ≡ 0
+drained_none d p q f = cond-false {A = ℕ} _ 1 0 (and_left _ _ f)
+
+pub drained_le : (d : Directed) (p q : Place) → drained d p q ≤ 1
+drained_le d p q = elim (cases_Bool (is_some (code_at d q) && drains_through d p q)) [
+  | inl y ↦ omega (arith, cond-true {A = ℕ} _ 1 0 y)
+  | inr n ↦ omega (arith, cond-false {A = ℕ} _ 1 0 n)
+]
+
+pub gathered_on : (d : Directed) (t : Cutting) (p q : Place) → IsCoded d q → reaches_inside d t p q ≡ true → gathered d t p q ≡ 1
+gathered_on d t p q is y = cond-true {A = ℕ} _ 1 0 (and_from _ _ (coded_some d q is) y)
+
+pub gathered_off : (d : Directed) (t : Cutting) (p q : Place) → reaches_inside d t p q ≡ false → gathered d t p q ≡ 0
+gathered_off d t p q f = cond-false {A = ℕ} _ 1 0 (and_right _ _ f)
+
+pub gathered_none : (d : Directed) (t : Cutting) (p q : Place) → is_some (code_at d q) ≡ false → gathered d t p q ≡ 0
+gathered_none d t p q f = cond-false {A = ℕ} _ 1 0 (and_left _ _ f)
+
+kept : (a b : Bool) → b ≡ false → (a && not b) ≡ a
+kept true b f = not_from_false _ f
+kept false b f = refl
+
+module _ (d : Directed) (s : IsEnding d) where
+  pub some_moves : 0 < moves d
+  some_moves = let some : 1 * 1 ≤ moves d = mul-le-mul s.some_col s.some_row in omega arith
+
+  other_cell : (p : Place) → IsCoded d p → (j : ℕ) → j ≢ index_in (whole_bounds d.cols d.rows) p → cell d j ≢ p
+  other_cell p is j ne e = ne (sym (index_in-place_in (whole_bounds d.cols d.rows) j) ∙ ap (index_in (whole_bounds d.cols d.rows)) e)
+
+  -- a sum that counts one cell more
+  one_more : (f g : Place → ℕ) (p : Place) → IsCoded d p → ((q : Place) → q ≢ p → f q ≡ g q) → f p ≡ 1 → g p ≡ 0 →
+      sum_below (λ j. f (cell d j)) (d.rows * d.cols) ≡ sum_by g (places d.cols d.rows) + 1
+  one_more f g p is same one none =
+      let i = index_in (whole_bounds d.cols d.rows) p in
+      let change = sum_below-except (λ j. f (cell d j)) (λ j. g (cell d j)) (d.rows * d.cols) (index_in (whole_bounds d.cols d.rows) p) (cell_below d s p is)
+      (λ j h ne. same (cell d j) (other_cell p is j ne)) in
+      let here : f (cell d (index_in (whole_bounds d.cols d.rows) p)) ≡ 1 = ap f (cell_back d s p is) ∙ one in
+      let there : g (cell d (index_in (whole_bounds d.cols d.rows) p)) ≡ 0 = ap g (cell_back d s p is) ∙ none in
+      omega (arith, change, here, there, sum_of_cells g d.cols d.rows)
+
+  other_test : (p q : Place) → q ≢ p → is_place p q ≡ false
+  other_test p q ne = false_from_ne_true _ (λ y. ne (sym (place_from_test p q y)))
+
+  pub drains_itself : (p : Place) → drains_through d p p ≡ true
+  drains_itself p = any_in_range (λ k. is_place p (follow d p k)) (moves d) 0 some_moves (place_test p p refl)
+
+  pub reaches_itself : (t : Cutting) (p : Place) → reaches_inside d t p p ≡ true
+  reaches_itself t p =
+      any_in_range (λ k. is_place p (follow d p k) && stays d t p k) (moves d) 0 some_moves
+      (and_from _ _ (place_test p p refl) (all_in_range _ (0 + 1) (λ l h. (let z : 0 ≡ l = omega arith in eq-eqb _ _ (ap (λ n. tile_of_place t (follow d p n)) (sym z))))))
+
+  pub accumulation_is : (p : Place) → IsCoded d p → all_drained d p ≡ accumulation d p + 1
+  accumulation_is p is =
+      one_more (drained d p) (λ q. cond {A = ℕ} (is_some (code_at d q) && not (is_place p q) && drains_through d p q) 1 0) p is
+      (λ q ne. ap (λ x. cond {A = ℕ} (x && drains_through d p q) 1 0) (sym (kept (is_some (code_at d q)) (is_place p q) (other_test p q ne))))
+      (drained_on d p p is (drains_itself p))
+      (cond-false {A = ℕ} _ 1 0 (and_left _ _ (and_right _ _ (not_from_true _ (place_test p p refl)))))
+
+  pub through_is : (t : Cutting) (p : Place) → IsCoded d p → all_gathered d t p ≡ through_of d t p + 1
+  through_is t p is =
+      one_more (gathered d t p) (λ q. cond {A = ℕ} (is_some (code_at d q) && not (is_place p q) && reaches_inside d t p q) 1 0) p is
+      (λ q ne. ap (λ x. cond {A = ℕ} (x && reaches_inside d t p q) 1 0) (sym (kept (is_some (code_at d q)) (is_place p q) (other_test p q ne))))
+      (gathered_on d t p p is (reaches_itself t p))
+      (cond-false {A = ℕ} _ 1 0 (and_left _ _ (and_right _ _ (not_from_true _ (place_test p p refl)))))
+
+  pub drained_few : (p : Place) → all_drained d p ≤ 16777216
+  drained_few p =
+      let most : d.rows * d.cols ≤ 4096 * 4096 = mul-le-mul s.few_rows s.few_cols in
+      omega (arith, sum_below-few (λ j. drained d p (cell d j)) (d.rows * d.cols) (λ j h. drained_le d p (cell d j)))

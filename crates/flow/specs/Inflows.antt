@@ -1,0 +1,55 @@
+-- Water that enters tiles over their rims. Only the contracts of private functions speak of it.
+use Rattle.std.specs.Prelude.{◌≡◌, ℕ, ◌+◌, ◌<◌, ◌==◌, if◌then◌else◌, List, map, length, Option, None, Some, slice_get, slice_index, unwrap_or, option_and_then}
+use Rattle.std.specs.List.{range_with_len}
+use Rattle.ascii_grid.specs.declared.place.Place.{Place}
+use Rattle.tiles.specs.Cutting.{Cutting, IsWithin, tile_of_place}
+use Rattle.drain.specs.Following.{Directed}
+use Rattle.flow.specs.Counts.{is_place}
+use Rattle.flow.specs.Streams.{sum_below}
+use Rattle.flow.specs.TileFlow.{Flow, through_in, inflow_of}
+use Rattle.flow.specs.RimNumbers.{number_count, rim_number, rim_place}
+use Rattle.flow.specs.RimGraph.{target_by}
+
+-- how many other cells of its tile flow through a place
+abbrev pub through_by : Cutting → List Flow → Place → Option ℕ
+through_by t flows p = option_and_then (λ f. through_in f p) (slice_get flows (tile_of_place t p))
+
+-- how many cells of its tile flow through an exit that leads into another tile; 0 for any other number
+abbrev pub weight_or : Option ℕ → Option Place → ℕ
+weight_or through None = 0
+weight_or through (Some entry) = unwrap_or through 0 + 1
+
+abbrev pub rim_weight : Cutting → List Flow → ℕ → ℕ
+rim_weight t flows i = weight_or (through_by t flows (rim_place t i)) (target_by t flows i)
+
+abbrev pub rim_weights_by : Cutting → List Flow → List ℕ
+rim_weights_by t flows = map (rim_weight t flows) (range_with_len 0 (number_count t))
+
+-- what is sent to the place with a number
+abbrev pub sent_to : Cutting → ℕ → Option Place → ℕ → ℕ
+sent_to t k None amount = 0
+sent_to t k (Some entry) amount = if rim_number t entry == k then amount else 0
+
+abbrev pub entering : Cutting → List Flow → List ℕ → List ℕ → ℕ → ℕ → ℕ
+entering t flows weights came k i = sent_to t k (target_by t flows i) (slice_index came i + slice_index weights i)
+
+-- what enters at the place of each number
+pub record AreEntering (t : Cutting) (flows : List Flow) (weights came listed : List ℕ) : Type 0 where
+  pub size : length listed ≡ number_count t
+  pub each : (k : ℕ) → k < number_count t → slice_index listed k ≡ sum_below (entering t flows weights came k) (number_count t)
+
+-- What flows in over the rims, by numbers.
+pub record Inflows : Type 0 where
+  pub cutting : Cutting
+  pub listed : List ℕ
+
+abbrev pub inflow_by : Cutting → List ℕ → Place → ℕ
+inflow_by t listed p = if is_place (rim_place t (rim_number t p)) p then slice_index listed (rim_number t p) else 0
+
+abbrev pub inflow_in : Inflows → Place → ℕ
+inflow_in l p = inflow_by l.cutting l.listed p
+
+pub record AreInflows (d : Directed) (t : Cutting) (l : Inflows) : Type 0 where
+  pub cutting : l.cutting ≡ t
+  pub size : length l.listed ≡ number_count t
+  pub each : (p : Place) → IsWithin t p → inflow_in l p ≡ inflow_of d t p
