@@ -28,3 +28,4 @@ pub mod DoubleSums
 pub mod Reaching
 pub mod Gathering
 pub mod RimTotals
+pub mod RimInflows

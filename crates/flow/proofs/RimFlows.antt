@@ -115,7 +115,7 @@ module _ (d : Directed) (t : Cutting) (flows : List Flow) (s : AreFlowsOf d t fl
     pub coded : IsCoded d p
     pub apart : tile_of_place t (next d p) ≢ tile_of_place t p
 
-  touching : (p : Place) → Crosses p → Touches p (next d p)
+  pub touching : (p : Place) → Crosses p → Touches p (next d p)
   touching p c =
       let at : next d p ≡ unwrap_or (place_toward c.coded.code p) p = ap (λ (o : Option ℕ). unwrap_or (option_and_then (λ code. place_toward code p) o) p) c.coded.is in
       elim (cases_target (place_toward c.coded.code p)) [

@@ -1,0 +1,252 @@
+-- What enters a tile at a place is the place's inflow.
+use Rattle.std.proofs.Common.{◌≡◌, ◌≢◌, ℕ, suc, ◌+◌, ◌-◌, ◌*◌, ◌<◌, ◌≤◌, ◌⊎◌, inl, inr, Bool, true, false, cond, not, ◌&&◌, eqb, List, length, get_or, Option, None, Some, is_some, sym, ap, subst, refl, ◌∙◌, arith}
+use Rattle.std.specs.List.{list_any, range_with_len}
+use Rattle.std.proofs.Math.Nat.{mul-le-mul}
+use Rattle.std.proofs.lemmas.Bool.{cases_eq, cases_order, cases_Bool, and_from, and_parts, and_left, and_right, eq-eqb, ne_eqb, eqb-true, cond-true, cond-false, not_from_false, not-true, false_from_ne_true, false≢true}
+use Rattle.std.proofs.lemmas.Option.{same_Some}
+use Rattle.ascii_grid.specs.declared.place.Place.{Place}
+use Rattle.tiles.specs.Cutting.{Cutting, IsWithin, IsInBounds, bounds_of, tile_of_place}
+use Rattle.tiles.proofs.Cut.{in_bounds, in_tile, tile_of_place_below}
+use Rattle.drain.specs.Following.{Directed, code_at, next, follow, moves}
+use Rattle.flow.specs.Counts.{is_place, drains_through}
+use Rattle.flow.specs.Streams.{AreUpstream, sum_below, total}
+use Rattle.flow.specs.TileFlow.{Flow, inflow_of}
+use Rattle.flow.specs.RimNumbers.{number_count, rim_number, rim_place}
+use Rattle.flow.specs.RimGraph.{AreFlowsOf, target_by, rim_links_by}
+use Rattle.flow.specs.Inflows.{rim_weights_by, sent_to, entering, AreEntering, Inflows, inflow_by, AreInflows}
+use Rattle.flow.proofs.Sums.{sum_below-same, sum_below-few}
+use Rattle.flow.proofs.Windows.{sum_below-none}
+use Rattle.flow.proofs.DoubleSums.{exchange, one_term}
+use Rattle.flow.proofs.Ranges.{some_in_range, any_in_range}
+use Rattle.flow.proofs.Coded.{IsCoded, coded_along, coded_from_some, follow_stays}
+use Rattle.flow.proofs.Through.{place_test, place_from_test}
+use Rattle.flow.proofs.OneTile.{whole_bounds}
+use Rattle.flow.proofs.RimNumbered.{IsSide, number_below, number_back}
+use Rattle.flow.proofs.RimFlows.{Crosses, cases_target, within_of, touching, back, target_on, target_from, target_within, to_below, links_size}
+use Rattle.flow.proofs.Reaching.{again_stops, early_move, sum_of_cells}
+use Rattle.flow.proofs.Gathering.{cell, drained, all_drained, drained_on, drained_off, drained_none, drained_le}
+use Rattle.flow.proofs.RimTotals.{ending, drains_at, drains_from, weights_size, total_is, total_none}
+
+pub sent-none : (t : Cutting) (k : ℕ) (o : Option Place) → sent_to t k o 0 ≡ 0
+sent-none t k None = refl
+sent-none t k (Some q) = elim (cases_Bool (eqb (rim_number t q) k)) [
+  | inl y ↦ cond-true {A = ℕ} _ 0 0 y
+  | inr n ↦ cond-false {A = ℕ} _ 0 0 n
+]
+
+pub sent-sum : (t : Cutting) (k : ℕ) (o : Option Place) (f : ℕ → ℕ) (n : ℕ) → sent_to t k o (sum_below f n) ≡ sum_below (λ c. sent_to t k o (f c)) n
+sent-sum t k None f n = sym (sum_below-none (λ c. 0) n (λ c h. refl))
+sent-sum t k (Some q) f n = elim (cases_Bool (eqb (rim_number t q) k)) [
+  | inl y ↦ cond-true {A = ℕ} _ (sum_below f n) 0 y ∙ sum_below-same f (λ c. cond {A = ℕ} (eqb (rim_number t q) k) (f c) 0) n (λ c h. sym (cond-true {A = ℕ} _ (f c) 0 y))
+  | inr x ↦ cond-false {A = ℕ} _ (sum_below f n) 0 x ∙ sym (sum_below-none (λ c. cond {A = ℕ} (eqb (rim_number t q) k) (f c) 0) n (λ c h. cond-false {A = ℕ} _ (f c) 0 x))
+]
+
+module _ (d : Directed) (t : Cutting) (flows : List Flow) (s : AreFlowsOf d t flows) where
+  -- a place that water enters lies on the rim
+  entry_side : (p : Place) → Crosses d t flows s p → IsSide (bounds_of t (tile_of_place t (next d p))) (next d p)
+  entry_side p c a b e =
+      let q = next d p in
+      let coded = coded_along d s.ends p c.coded 1 in
+      let w = within_of d t flows s (next d p) coded in
+      let i = in_bounds t (tile_of_place t (next d p)) (next d p) s.cutting (w, refl) in
+      let below = tile_of_place_below t (next d p) s.cutting w in
+      let touch = touching d t flows s p c in
+      elim (cases_eq ((next d p).col + 1) ((bounds_of t (tile_of_place t (next d p))).left + (bounds_of t (tile_of_place t (next d p))).cols)) [
+        | inl y ↦ y
+        | inr ne ↦ absurd (c.apart (sym (in_tile t (tile_of_place t (next d p)) p s.cutting below
+            (omega (arith, a, i, touch.row_up, touch.row_down), omega (arith, b, i, touch.row_up, touch.row_down), omega (arith, e, i, touch.col_left, touch.col_right), omega (arith, ne, i, touch.col_left, touch.col_right))).1))
+      ]
+
+  pub entry_back : (p : Place) → Crosses d t flows s p → rim_place t (rim_number t (next d p)) ≡ next d p
+  entry_back p c = number_back t s.cutting (next d p) (within_of d t flows s (next d p) (coded_along d s.ends p c.coded 1)) (entry_side p c)
+
+  -- whether the flow path of a cell enters another from another tile
+  abbrev enters : Place → Place → ℕ → Bool
+  enters p q k = is_place p (follow d q (k + 1)) && not (eqb (tile_of_place t (follow d q k)) (tile_of_place t p))
+
+  -- 1 where it does
+  abbrev pub entered : Place → Place → ℕ
+  entered p q = cond {A = ℕ} (is_some (code_at d q) && list_any (enters p q) (range_with_len 0 (moves d - 1))) 1 0
+
+  follow-one : (q : Place) (k : ℕ) → follow d q (k + 1) ≡ next d (follow d q k)
+  follow-one q k = let e : k + 1 ≡ suc k = omega arith in ap (follow d q) e
+
+  -- a cell of a path from which water enters another
+  pub record Enters (p q : Place) : Type 0 where
+    pub steps : ℕ
+    pub crosses : Crosses d t flows s (follow d q steps)
+    pub leads : next d (follow d q steps) ≡ p
+
+  pub enters_from : (p q : Place) → IsCoded d q → list_any (enters p q) (range_with_len 0 (moves d - 1)) ≡ true → Enters p q
+  enters_from p q is y =
+      let r = some_in_range (enters p q) (moves d - 1) y in
+      let w = and_parts _ _ r.2 in
+      let leads : next d (follow d q r.0) ≡ p = sym (follow-one q r.0) ∙ sym (place_from_test p (follow d q (r.0 + 1)) w.0) in
+      record {
+        steps = r.0;
+        leads = leads;
+        crosses = record {
+          coded = coded_along d s.ends q is r.0;
+          apart = λ e. false≢true (sym (not-true _ w.1) ∙ eq-eqb _ _ (sym e ∙ ap (tile_of_place t) leads));
+        };
+      }
+
+  pub enters_at : (p q : Place) → IsCoded d q → (k : ℕ) → Crosses d t flows s (follow d q k) → next d (follow d q k) ≡ p →
+      list_any (enters p q) (range_with_len 0 (moves d - 1)) ≡ true
+  enters_at p q is k c leads =
+      any_in_range (enters p q) (moves d - 1) k
+      (early_move d (ending d t flows s) q is k (λ e. c.apart (ap (tile_of_place t) e)))
+      (and_from _ _ (place_test p (follow d q (k + 1)) (sym leads ∙ sym (follow-one q k)))
+      (not_from_false _ (ne_eqb _ _ (λ e. c.apart (ap (tile_of_place t) leads ∙ sym e)))))
+
+  -- it does so from one cell alone
+  enters_later : (p q : Place) → IsCoded d q → (a b : ℕ) → a < b → next d (follow d q a) ≡ p → Crosses d t flows s (follow d q b) → next d (follow d q b) ≡ p → ⊥
+  enters_later p q is a b lt first c second =
+      let stop = again_stops d (ending d t flows s) q is (suc a) (suc b) (omega arith) (first ∙ sym second) in
+      let there : follow d q b ≡ follow d q (suc a) = follow_stays d q (suc a) b (omega arith) stop in
+      c.apart (ap (tile_of_place t) (second ∙ sym first ∙ sym there))
+
+  pub enters_once : (p q : Place) → IsCoded d q → (a b : ℕ) → Crosses d t flows s (follow d q a) → next d (follow d q a) ≡ p → Crosses d t flows s (follow d q b) → next d (follow d q b) ≡ p →
+      follow d q a ≡ follow d q b
+  enters_once p q is a b c first x second = elim (cases_order a b) [
+    | inl e ↦ ap (follow d q) e
+    | inr r ↦ elim r [
+      | inl l ↦ absurd (enters_later p q is a b l first x second)
+      | inr l ↦ absurd (enters_later p q is b a l second c first)
+    ]
+  ]
+
+  -- an exit's part of the water of a cell that enters a place
+  abbrev piece : Place → ℕ → ℕ → ℕ
+  piece p c i = sent_to t (rim_number t p) (target_by t flows i) (drained d (rim_place t i) (cell d c))
+
+  -- an exit that leads to a place on the rim
+  record LeadsTo (p : Place) (i : ℕ) : Type 0 where
+    pub crosses : Crosses d t flows s (rim_place t i)
+    pub number : rim_number t (rim_place t i) ≡ i
+    pub leads : next d (rim_place t i) ≡ p
+
+  cases_lead : (p : Place) → rim_place t (rim_number t p) ≡ p → (i : ℕ) → ((amount : ℕ) → sent_to t (rim_number t p) (target_by t flows i) amount ≡ 0) ⊎ LeadsTo p i
+  cases_lead p on i = elim (cases_target (target_by t flows i)) [
+    | inl none ↦ inl (λ amount. ap (λ (o : Option Place). sent_to t (rim_number t p) o amount) none)
+    | inr q ↦ elim (cases_Bool (eqb (rim_number t q.0) (rim_number t p))) [
+      | inr f ↦ inl (λ amount. ap (λ (o : Option Place). sent_to t (rim_number t p) o amount) q.1 ∙ cond-false {A = ℕ} _ amount 0 f)
+      | inl y ↦
+          let x = target_from d t flows s i q.0 q.1 in
+          inr (record {
+            crosses = x.crosses;
+            number = x.number;
+            leads = sym (entry_back (rim_place t i) x.crosses) ∙ ap (λ z. rim_place t (rim_number t z)) (sym x.is) ∙ ap (rim_place t) (eqb-true _ _ y) ∙ on;
+          })
+    ]
+  ]
+
+  pieces_are : (p : Place) → rim_place t (rim_number t p) ≡ p → (c : ℕ) → sum_below (piece p c) (number_count t) ≡ entered p (cell d c)
+  pieces_are p on c = elim (cases_Bool (is_some (code_at d (cell d c)))) [
+    | inr f ↦ sum_below-none (piece p c) (number_count t) (λ i h. ap (sent_to t (rim_number t p) (target_by t flows i)) (drained_none d (rim_place t i) (cell d c) f) ∙ sent-none t (rim_number t p) (target_by t flows i))
+        ∙ sym (cond-false {A = ℕ} _ 1 0 (and_left _ _ f))
+    | inl some ↦
+        let is = coded_from_some d (cell d c) some in
+        elim (cases_Bool (list_any (enters p (cell d c)) (range_with_len 0 (moves d - 1)))) [
+          | inl y ↦
+              let x = enters_from p (cell d c) is y in
+              let from = follow d (cell d c) x.steps in
+              one_term (piece p c) (number_count t) (rim_number t (follow d (cell d c) x.steps)) (to_below d t flows s (follow d (cell d c) x.steps) x.crosses)
+              (λ i h ne. elim (cases_lead p on i) [
+                | inl z ↦ z (drained d (rim_place t i) (cell d c))
+                | inr l ↦ elim (cases_Bool (drains_through d (rim_place t i) (cell d c))) [
+                  | inr n ↦ ap (sent_to t (rim_number t p) (target_by t flows i)) (drained_off d (rim_place t i) (cell d c) n) ∙ sent-none t (rim_number t p) (target_by t flows i)
+                  | inl through ↦
+                      let m = drains_from d t flows s (cell d c) (rim_place t i) through in
+                      let same = enters_once p (cell d c) is m.0 x.steps (subst (λ (z : Place). Crosses d t flows s z) (sym m.1) l.crosses) (ap (next d) m.1 ∙ l.leads) x.crosses x.leads in
+                      absurd (ne (sym l.number ∙ ap (rim_number t) (sym m.1 ∙ same)))
+                ]
+              ])
+              ∙ ap (λ (o : Option Place). sent_to t (rim_number t p) o (drained d (rim_place t (rim_number t (follow d (cell d c) x.steps))) (cell d c))) (target_on d t flows s (follow d (cell d c) x.steps) x.crosses)
+              ∙ cond-true {A = ℕ} _ (drained d (rim_place t (rim_number t (follow d (cell d c) x.steps))) (cell d c)) 0 (eq-eqb _ _ (ap (rim_number t) x.leads))
+              ∙ ap (λ z. drained d z (cell d c)) (back d t flows s (follow d (cell d c) x.steps) x.crosses)
+              ∙ drained_on d (follow d (cell d c) x.steps) (cell d c) is (drains_at d t flows s (cell d c) (follow d (cell d c) x.steps) is x.steps refl)
+              ∙ sym (cond-true {A = ℕ} _ 1 0 (and_from _ _ some y))
+          | inr n ↦
+              sum_below-none (piece p c) (number_count t) (λ i h. elim (cases_lead p on i) [
+                | inl z ↦ z (drained d (rim_place t i) (cell d c))
+                | inr l ↦ elim (cases_Bool (drains_through d (rim_place t i) (cell d c))) [
+                  | inr off ↦ ap (sent_to t (rim_number t p) (target_by t flows i)) (drained_off d (rim_place t i) (cell d c) off) ∙ sent-none t (rim_number t p) (target_by t flows i)
+                  | inl through ↦
+                      let m = drains_from d t flows s (cell d c) (rim_place t i) through in
+                      absurd (false≢true (sym n ∙ enters_at p (cell d c) is m.0 (subst (λ (z : Place). Crosses d t flows s z) (sym m.1) l.crosses) (ap (next d) m.1 ∙ l.leads)))
+                ]
+              ])
+              ∙ sym (cond-false {A = ℕ} _ 1 0 (and_right _ _ n))
+        ]
+  ]
+
+  pub inflow_sum : (p : Place) → inflow_of d t p ≡ sum_below (λ c. entered p (cell d c)) (d.rows * d.cols)
+  inflow_sum p = sum_of_cells (entered p) d.cols d.rows
+
+  -- nothing enters a place that is not on the rim
+  inflow_none : (p : Place) → rim_place t (rim_number t p) ≢ p → inflow_of d t p ≡ 0
+  inflow_none p off = inflow_sum p ∙ sum_below-none (λ c. entered p (cell d c)) (d.rows * d.cols) (λ c h. elim (cases_Bool (is_some (code_at d (cell d c)))) [
+    | inr f ↦ cond-false {A = ℕ} _ 1 0 (and_left _ _ f)
+    | inl some ↦ elim (cases_Bool (list_any (enters p (cell d c)) (range_with_len 0 (moves d - 1)))) [
+      | inr n ↦ cond-false {A = ℕ} _ 1 0 (and_right _ _ n)
+      | inl y ↦ (let x = enters_from p (cell d c) (coded_from_some d (cell d c) some) y in
+          absurd (off (ap (λ z. rim_place t (rim_number t z)) (sym x.leads) ∙ entry_back (follow d (cell d c) x.steps) x.crosses ∙ x.leads)))
+    ]
+  ])
+
+  module _ (links weights came : List ℕ) (made : links ≡ rim_links_by t flows) (weighed : weights ≡ rim_weights_by t flows) (up : AreUpstream links weights came) where
+    -- what an exit sends
+    sends : (k i : ℕ) → i < number_count t → entering t flows weights came k i ≡ sent_to t k (target_by t flows i) (all_drained d (rim_place t i))
+    sends k i h =
+        let at = up.each i (omega (arith, h, links_size d t flows s links made)) in
+        elim (cases_target (target_by t flows i)) [
+          | inl none ↦ ap (λ (o : Option Place). sent_to t k o (get_or came i 0 + get_or weights i 0)) none ∙ sym (ap (λ (o : Option Place). sent_to t k o (all_drained d (rim_place t i))) none)
+          | inr q ↦ ap (sent_to t k (target_by t flows i)) (at ∙ total_is d t flows s links made weights weighed i q.0 h q.1)
+        ]
+
+    -- all that enters at a place on the rim
+    entering_is : (p : Place) → rim_place t (rim_number t p) ≡ p → sum_below (entering t flows weights came (rim_number t p)) (number_count t) ≡ sum_below (λ c. entered p (cell d c)) (d.rows * d.cols)
+    entering_is p on =
+        sum_below-same (entering t flows weights came (rim_number t p)) (λ i. sum_below (λ c. piece p c i) (d.rows * d.cols)) (number_count t)
+        (λ i h. sends (rim_number t p) i h ∙ sent-sum t (rim_number t p) (target_by t flows i) (λ c. drained d (rim_place t i) (cell d c)) (d.rows * d.cols))
+        ∙ exchange (λ i c. piece p c i) (number_count t) (d.rows * d.cols)
+        ∙ sum_below-same (λ c. sum_below (piece p c) (number_count t)) (λ c. entered p (cell d c)) (d.rows * d.cols) (λ c h. pieces_are p on c)
+
+    entered_le : (p q : Place) → entered p q ≤ 1
+    entered_le p q = elim (cases_Bool (is_some (code_at d q) && list_any (enters p q) (range_with_len 0 (moves d - 1)))) [
+      | inl y ↦ omega (arith, cond-true {A = ℕ} _ 1 0 y)
+      | inr n ↦ omega (arith, cond-false {A = ℕ} _ 1 0 n)
+    ]
+
+    pub entering_few : (k : ℕ) → sum_below (entering t flows weights came k) (number_count t) ≤ 16777216
+    entering_few k =
+        let p = rim_place t k in
+        elim (cases_eq (rim_number t (rim_place t k)) k) [
+          | inl e ↦
+              let most : d.rows * d.cols ≤ 4096 * 4096 = mul-le-mul (ending d t flows s).few_rows (ending d t flows s).few_cols in
+              let same = ap (λ n. sum_below (entering t flows weights came n) (number_count t)) (sym e) in
+              omega (arith, same, entering_is (rim_place t k) (ap (rim_place t) e), sum_below-few (λ c. entered (rim_place t k) (cell d c)) (d.rows * d.cols) (λ c h. entered_le (rim_place t k) (cell d c)))
+          | inr ne ↦
+              omega (arith, sum_below-none (entering t flows weights came k) (number_count t) (λ i h. elim (cases_target (target_by t flows i)) [
+                | inl none ↦ ap (λ (o : Option Place). sent_to t k o (get_or came i 0 + get_or weights i 0)) none
+                | inr q ↦
+                    let x = target_from d t flows s i q.0 q.1 in
+                    let back_at : rim_place t (rim_number t q.0) ≡ q.0 = ap (λ z. rim_place t (rim_number t z)) x.is ∙ entry_back (rim_place t i) x.crosses ∙ sym x.is in
+                    ap (λ (o : Option Place). sent_to t k o (get_or came i 0 + get_or weights i 0)) q.1
+                    ∙ cond-false {A = ℕ} _ (get_or came i 0 + get_or weights i 0) 0 (ne_eqb _ _ (λ e. ne (ap (λ n. rim_number t (rim_place t n)) (sym e) ∙ ap (rim_number t) back_at ∙ e)))
+              ]))
+        ]
+
+    module _ (listed : List ℕ) (are : AreEntering t flows weights came listed) where
+      pub inflow_at : (p : Place) → IsWithin t p → inflow_by t listed p ≡ inflow_of d t p
+      inflow_at p w = elim (cases_Bool (is_place (rim_place t (rim_number t p)) p)) [
+        | inr f ↦ cond-false {A = ℕ} _ (get_or listed (rim_number t p) 0) 0 f ∙ sym (inflow_none p (λ e. false≢true (sym f ∙ place_test _ _ e)))
+        | inl y ↦ cond-true {A = ℕ} _ (get_or listed (rim_number t p) 0) 0 y
+            ∙ are.each (rim_number t p) (number_below t s.cutting p w)
+            ∙ entering_is p (place_from_test _ _ y)
+            ∙ sym (inflow_sum p)
+      ]
+
+      pub inflows_are : AreInflows d t (record { cutting = t; listed = listed })
+      inflows_are = record { cutting = refl; size = are.size; each = inflow_at }
