@@ -1,16 +1,16 @@
 -- How many cells' water comes through a cell, the cell itself counted.
-use Rattle.std.proofs.Common.{◌≡◌, ◌≢◌, ℕ, ◌+◌, ◌*◌, ◌<◌, ◌≤◌, Bool, true, false, not, ◌&&◌, cond, inl, inr, is_some, sym, ap, refl, ◌∙◌, arith}
+use Rattle.std.proofs.Common.{◌≡◌, ◌≢◌, ℕ, ◌+◌, ◌-◌, ◌*◌, ◌<◌, ◌≤◌, Bool, true, false, not, ◌&&◌, cond, eqb, inl, inr, is_some, sym, ap, refl, ◌∙◌, arith}
 use Rattle.std.proofs.Math.Nat.{mul-le-mul}
 use Rattle.std.proofs.lemmas.Bool.{cases_Bool, and_from, and_left, and_right, eq-eqb, cond-true, cond-false, false_from_ne_true, not_from_true, not_from_false}
 use Rattle.ascii_grid.specs.Ways.{places}
-use Rattle.std.specs.List.{sum_by}
+use Rattle.std.specs.List.{sum_by, list_any, range_with_len}
 use Rattle.ascii_grid.specs.declared.place.Place.{Place}
 use Rattle.tiles.specs.Cutting.{Cutting, tile_of_place}
 use Rattle.tiles.proofs.TileOrder.{index_in-place_in}
 use Rattle.drain.specs.Following.{Directed, code_at, follow, moves}
 use Rattle.flow.specs.Counts.{is_place, drains_through, accumulation}
 use Rattle.flow.specs.Streams.{sum_below}
-use Rattle.flow.specs.TileFlow.{stays, reaches_inside, through_of}
+use Rattle.flow.specs.TileFlow.{stays, reaches_inside, through_of, inflow_of}
 use Rattle.flow.specs.TileLinks.{place_in, index_in}
 use Rattle.flow.proofs.Sums.{sum_below-except, sum_below-few}
 use Rattle.flow.proofs.Ranges.{any_in_range, all_in_range}
@@ -36,6 +36,32 @@ gathered d t p q = cond {A = ℕ} (is_some (code_at d q) && reaches_inside d t p
 
 abbrev pub all_gathered : Directed → Cutting → Place → ℕ
 all_gathered d t p = sum_below (λ j. gathered d t p (cell d j)) (d.rows * d.cols)
+
+-- whether the flow path of a cell enters another from another tile
+abbrev pub enters : Directed → Cutting → Place → Place → ℕ → Bool
+enters d t p q k = is_place p (follow d q (k + 1)) && not (eqb (tile_of_place t (follow d q k)) (tile_of_place t p))
+
+-- 1 where it does
+abbrev pub entered : Directed → Cutting → Place → Place → ℕ
+entered d t p q = cond {A = ℕ} (is_some (code_at d q) && list_any (enters d t p q) (range_with_len 0 (moves d - 1))) 1 0
+
+pub entered_on : (d : Directed) (t : Cutting) (p q : Place) → IsCoded d q → list_any (enters d t p q) (range_with_len 0 (moves d - 1)) ≡ true → entered d t p q ≡ 1
+entered_on d t p q is y = cond-true {A = ℕ} _ 1 0 (and_from _ _ (coded_some d q is) y)
+
+pub entered_off : (d : Directed) (t : Cutting) (p q : Place) → list_any (enters d t p q) (range_with_len 0 (moves d - 1)) ≡ false → entered d t p q ≡ 0
+entered_off d t p q f = cond-false {A = ℕ} _ 1 0 (and_right _ _ f)
+
+pub entered_none : (d : Directed) (t : Cutting) (p q : Place) → is_some (code_at d q) ≡ false → entered d t p q ≡ 0
+entered_none d t p q f = cond-false {A = ℕ} _ 1 0 (and_left _ _ f)
+
+pub entered_le : (d : Directed) (t : Cutting) (p q : Place) → entered d t p q ≤ 1
+entered_le d t p q = elim (cases_Bool (is_some (code_at d q) && list_any (enters d t p q) (range_with_len 0 (moves d - 1)))) [
+  | inl y ↦ omega (arith, cond-true {A = ℕ} _ 1 0 y)
+  | inr n ↦ omega (arith, cond-false {A = ℕ} _ 1 0 n)
+]
+
+pub inflow_sum : (d : Directed) (t : Cutting) (p : Place) → inflow_of d t p ≡ sum_below (λ c. entered d t p (cell d c)) (d.rows * d.cols)
+inflow_sum d t p = sum_of_cells (entered d t p) d.cols d.rows
 
 pub drained_on : (d : Directed) (p q : Place) → IsCoded d q → drains_through d p q ≡ true → drained d p q ≡ 1
 drained_on d p q is t = cond-true {A = ℕ} _ 1 0 (and_from _ _ (coded_some d q is) t)

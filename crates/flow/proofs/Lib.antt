@@ -29,3 +29,4 @@ pub mod Reaching
 pub mod Gathering
 pub mod RimTotals
 pub mod RimInflows
+pub mod TileTotals

@@ -23,8 +23,8 @@ use Rattle.flow.proofs.Through.{place_test, place_from_test}
 use Rattle.flow.proofs.OneTile.{whole_bounds}
 use Rattle.flow.proofs.RimNumbered.{IsSide, number_below, number_back}
 use Rattle.flow.proofs.RimFlows.{Crosses, cases_target, within_of, touching, back, target_on, target_from, target_within, to_below, links_size}
-use Rattle.flow.proofs.Reaching.{again_stops, early_move, sum_of_cells}
-use Rattle.flow.proofs.Gathering.{cell, drained, all_drained, drained_on, drained_off, drained_none, drained_le}
+use Rattle.flow.proofs.Reaching.{again_stops, early_move}
+use Rattle.flow.proofs.Gathering.{cell, drained, all_drained, drained_on, drained_off, drained_none, enters, entered, entered_le, inflow_sum}
 use Rattle.flow.proofs.RimTotals.{ending, drains_at, drains_from, weights_size, total_is, total_none}
 
 pub sent-none : (t : Cutting) (k : ℕ) (o : Option Place) → sent_to t k o 0 ≡ 0
@@ -60,14 +60,6 @@ module _ (d : Directed) (t : Cutting) (flows : List Flow) (s : AreFlowsOf d t fl
   pub entry_back : (p : Place) → Crosses d t flows s p → rim_place t (rim_number t (next d p)) ≡ next d p
   entry_back p c = number_back t s.cutting (next d p) (within_of d t flows s (next d p) (coded_along d s.ends p c.coded 1)) (entry_side p c)
 
-  -- whether the flow path of a cell enters another from another tile
-  abbrev enters : Place → Place → ℕ → Bool
-  enters p q k = is_place p (follow d q (k + 1)) && not (eqb (tile_of_place t (follow d q k)) (tile_of_place t p))
-
-  -- 1 where it does
-  abbrev pub entered : Place → Place → ℕ
-  entered p q = cond {A = ℕ} (is_some (code_at d q) && list_any (enters p q) (range_with_len 0 (moves d - 1))) 1 0
-
   follow-one : (q : Place) (k : ℕ) → follow d q (k + 1) ≡ next d (follow d q k)
   follow-one q k = let e : k + 1 ≡ suc k = omega arith in ap (follow d q) e
 
@@ -77,9 +69,9 @@ module _ (d : Directed) (t : Cutting) (flows : List Flow) (s : AreFlowsOf d t fl
     pub crosses : Crosses d t flows s (follow d q steps)
     pub leads : next d (follow d q steps) ≡ p
 
-  pub enters_from : (p q : Place) → IsCoded d q → list_any (enters p q) (range_with_len 0 (moves d - 1)) ≡ true → Enters p q
+  pub enters_from : (p q : Place) → IsCoded d q → list_any (enters d t p q) (range_with_len 0 (moves d - 1)) ≡ true → Enters p q
   enters_from p q is y =
-      let r = some_in_range (enters p q) (moves d - 1) y in
+      let r = some_in_range (enters d t p q) (moves d - 1) y in
       let w = and_parts _ _ r.2 in
       let leads : next d (follow d q r.0) ≡ p = sym (follow-one q r.0) ∙ sym (place_from_test p (follow d q (r.0 + 1)) w.0) in
       record {
@@ -92,9 +84,9 @@ module _ (d : Directed) (t : Cutting) (flows : List Flow) (s : AreFlowsOf d t fl
       }
 
   pub enters_at : (p q : Place) → IsCoded d q → (k : ℕ) → Crosses d t flows s (follow d q k) → next d (follow d q k) ≡ p →
-      list_any (enters p q) (range_with_len 0 (moves d - 1)) ≡ true
+      list_any (enters d t p q) (range_with_len 0 (moves d - 1)) ≡ true
   enters_at p q is k c leads =
-      any_in_range (enters p q) (moves d - 1) k
+      any_in_range (enters d t p q) (moves d - 1) k
       (early_move d (ending d t flows s) q is k (λ e. c.apart (ap (tile_of_place t) e)))
       (and_from _ _ (place_test p (follow d q (k + 1)) (sym leads ∙ sym (follow-one q k)))
       (not_from_false _ (ne_eqb _ _ (λ e. c.apart (ap (tile_of_place t) leads ∙ sym e)))))
@@ -141,13 +133,13 @@ module _ (d : Directed) (t : Cutting) (flows : List Flow) (s : AreFlowsOf d t fl
     ]
   ]
 
-  pieces_are : (p : Place) → rim_place t (rim_number t p) ≡ p → (c : ℕ) → sum_below (piece p c) (number_count t) ≡ entered p (cell d c)
+  pieces_are : (p : Place) → rim_place t (rim_number t p) ≡ p → (c : ℕ) → sum_below (piece p c) (number_count t) ≡ entered d t p (cell d c)
   pieces_are p on c = elim (cases_Bool (is_some (code_at d (cell d c)))) [
     | inr f ↦ sum_below-none (piece p c) (number_count t) (λ i h. ap (sent_to t (rim_number t p) (target_by t flows i)) (drained_none d (rim_place t i) (cell d c) f) ∙ sent-none t (rim_number t p) (target_by t flows i))
         ∙ sym (cond-false {A = ℕ} _ 1 0 (and_left _ _ f))
     | inl some ↦
         let is = coded_from_some d (cell d c) some in
-        elim (cases_Bool (list_any (enters p (cell d c)) (range_with_len 0 (moves d - 1)))) [
+        elim (cases_Bool (list_any (enters d t p (cell d c)) (range_with_len 0 (moves d - 1)))) [
           | inl y ↦
               let x = enters_from p (cell d c) is y in
               let from = follow d (cell d c) x.steps in
@@ -181,14 +173,11 @@ module _ (d : Directed) (t : Cutting) (flows : List Flow) (s : AreFlowsOf d t fl
         ]
   ]
 
-  pub inflow_sum : (p : Place) → inflow_of d t p ≡ sum_below (λ c. entered p (cell d c)) (d.rows * d.cols)
-  inflow_sum p = sum_of_cells (entered p) d.cols d.rows
-
   -- nothing enters a place that is not on the rim
   inflow_none : (p : Place) → rim_place t (rim_number t p) ≢ p → inflow_of d t p ≡ 0
-  inflow_none p off = inflow_sum p ∙ sum_below-none (λ c. entered p (cell d c)) (d.rows * d.cols) (λ c h. elim (cases_Bool (is_some (code_at d (cell d c)))) [
+  inflow_none p off = inflow_sum d t p ∙ sum_below-none (λ c. entered d t p (cell d c)) (d.rows * d.cols) (λ c h. elim (cases_Bool (is_some (code_at d (cell d c)))) [
     | inr f ↦ cond-false {A = ℕ} _ 1 0 (and_left _ _ f)
-    | inl some ↦ elim (cases_Bool (list_any (enters p (cell d c)) (range_with_len 0 (moves d - 1)))) [
+    | inl some ↦ elim (cases_Bool (list_any (enters d t p (cell d c)) (range_with_len 0 (moves d - 1)))) [
       | inr n ↦ cond-false {A = ℕ} _ 1 0 (and_right _ _ n)
       | inl y ↦ (let x = enters_from p (cell d c) (coded_from_some d (cell d c) some) y in
           absurd (off (ap (λ z. rim_place t (rim_number t z)) (sym x.leads) ∙ entry_back (follow d (cell d c) x.steps) x.crosses ∙ x.leads)))
@@ -206,18 +195,12 @@ module _ (d : Directed) (t : Cutting) (flows : List Flow) (s : AreFlowsOf d t fl
         ]
 
     -- all that enters at a place on the rim
-    entering_is : (p : Place) → rim_place t (rim_number t p) ≡ p → sum_below (entering t flows weights came (rim_number t p)) (number_count t) ≡ sum_below (λ c. entered p (cell d c)) (d.rows * d.cols)
+    entering_is : (p : Place) → rim_place t (rim_number t p) ≡ p → sum_below (entering t flows weights came (rim_number t p)) (number_count t) ≡ sum_below (λ c. entered d t p (cell d c)) (d.rows * d.cols)
     entering_is p on =
         sum_below-same (entering t flows weights came (rim_number t p)) (λ i. sum_below (λ c. piece p c i) (d.rows * d.cols)) (number_count t)
         (λ i h. sends (rim_number t p) i h ∙ sent-sum t (rim_number t p) (target_by t flows i) (λ c. drained d (rim_place t i) (cell d c)) (d.rows * d.cols))
         ∙ exchange (λ i c. piece p c i) (number_count t) (d.rows * d.cols)
-        ∙ sum_below-same (λ c. sum_below (piece p c) (number_count t)) (λ c. entered p (cell d c)) (d.rows * d.cols) (λ c h. pieces_are p on c)
-
-    entered_le : (p q : Place) → entered p q ≤ 1
-    entered_le p q = elim (cases_Bool (is_some (code_at d q) && list_any (enters p q) (range_with_len 0 (moves d - 1)))) [
-      | inl y ↦ omega (arith, cond-true {A = ℕ} _ 1 0 y)
-      | inr n ↦ omega (arith, cond-false {A = ℕ} _ 1 0 n)
-    ]
+        ∙ sum_below-same (λ c. sum_below (piece p c) (number_count t)) (λ c. entered d t p (cell d c)) (d.rows * d.cols) (λ c h. pieces_are p on c)
 
     pub entering_few : (k : ℕ) → sum_below (entering t flows weights came k) (number_count t) ≤ 16777216
     entering_few k =
@@ -226,7 +209,7 @@ module _ (d : Directed) (t : Cutting) (flows : List Flow) (s : AreFlowsOf d t fl
           | inl e ↦
               let most : d.rows * d.cols ≤ 4096 * 4096 = mul-le-mul (ending d t flows s).few_rows (ending d t flows s).few_cols in
               let same = ap (λ n. sum_below (entering t flows weights came n) (number_count t)) (sym e) in
-              omega (arith, same, entering_is (rim_place t k) (ap (rim_place t) e), sum_below-few (λ c. entered (rim_place t k) (cell d c)) (d.rows * d.cols) (λ c h. entered_le (rim_place t k) (cell d c)))
+              omega (arith, same, entering_is (rim_place t k) (ap (rim_place t) e), sum_below-few (λ c. entered d t (rim_place t k) (cell d c)) (d.rows * d.cols) (λ c h. entered_le d t (rim_place t k) (cell d c)))
           | inr ne ↦
               omega (arith, sum_below-none (entering t flows weights came k) (number_count t) (λ i h. elim (cases_target (target_by t flows i)) [
                 | inl none ↦ ap (λ (o : Option Place). sent_to t k o (get_or came i 0 + get_or weights i 0)) none
@@ -245,7 +228,7 @@ module _ (d : Directed) (t : Cutting) (flows : List Flow) (s : AreFlowsOf d t fl
         | inl y ↦ cond-true {A = ℕ} _ (get_or listed (rim_number t p) 0) 0 y
             ∙ are.each (rim_number t p) (number_below t s.cutting p w)
             ∙ entering_is p (place_from_test _ _ y)
-            ∙ sym (inflow_sum p)
+            ∙ sym (inflow_sum d t p)
       ]
 
       pub inflows_are : AreInflows d t (record { cutting = t; listed = listed })
