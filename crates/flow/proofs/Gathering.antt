@@ -78,6 +78,12 @@ drained_le d p q = elim (cases_Bool (is_some (code_at d q) && drains_through d p
   | inr n ↦ omega (arith, cond-false {A = ℕ} _ 1 0 n)
 ]
 
+pub gathered_le : (d : Directed) (t : Cutting) (p q : Place) → gathered d t p q ≤ 1
+gathered_le d t p q = elim (cases_Bool (is_some (code_at d q) && reaches_inside d t p q)) [
+  | inl y ↦ omega (arith, cond-true {A = ℕ} _ 1 0 y)
+  | inr n ↦ omega (arith, cond-false {A = ℕ} _ 1 0 n)
+]
+
 pub gathered_on : (d : Directed) (t : Cutting) (p q : Place) → IsCoded d q → reaches_inside d t p q ≡ true → gathered d t p q ≡ 1
 gathered_on d t p q is y = cond-true {A = ℕ} _ 1 0 (and_from _ _ (coded_some d q is) y)
 
@@ -138,3 +144,8 @@ module _ (d : Directed) (s : IsEnding d) where
   drained_few p =
       let most : d.rows * d.cols ≤ 4096 * 4096 = mul-le-mul s.few_rows s.few_cols in
       omega (arith, sum_below-few (λ j. drained d p (cell d j)) (d.rows * d.cols) (λ j h. drained_le d p (cell d j)))
+
+  pub gathered_few : (t : Cutting) (p : Place) → all_gathered d t p ≤ 16777216
+  gathered_few t p =
+      let most : d.rows * d.cols ≤ 4096 * 4096 = mul-le-mul s.few_rows s.few_cols in
+      omega (arith, sum_below-few (λ j. gathered d t p (cell d j)) (d.rows * d.cols) (λ j h. gathered_le d t p (cell d j)))

@@ -18,8 +18,6 @@ pub mod Piece
 pub mod OneTile
 pub mod Directed
 pub mod Testing
-pub mod Inflow
-pub mod Joined
 pub mod RimNumbered
 pub mod RimFlows
 pub mod Together
@@ -30,3 +28,6 @@ pub mod Gathering
 pub mod RimTotals
 pub mod RimInflows
 pub mod TileTotals
+pub mod RimAdded
+pub mod Counted
+pub mod Linked

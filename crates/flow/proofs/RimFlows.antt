@@ -15,10 +15,9 @@ use Rattle.drain.specs.Following.{Directed, code_at, next, follow, moves, last_o
 use Rattle.flow.specs.Counts.{is_place}
 use Rattle.flow.specs.Streams.{AreStreams, AreEnds, onward, node_after, end_of}
 use Rattle.flow.specs.TileFlow.{Flow, is_in_bounds, entry_in, exit_in, IsTileFlow, IsExitOf, IsExitCell}
-use Rattle.flow.specs.Joining.{code_in}
 use Rattle.flow.specs.Whole.{is_outlet_code}
 use Rattle.flow.specs.RimNumbers.{number_count, rim_number, rim_place}
-use Rattle.flow.specs.RimGraph.{AreFlowsOf, next_by, exit_by, target_by, way_out_in, way_out_by, number_or, rim_link, rim_links_by, rim_outlet, rim_outlets_by, outlet_by, AreOutlets}
+use Rattle.flow.specs.RimGraph.{code_in, AreFlowsOf, next_by, exit_by, target_by, way_out_in, way_out_by, number_or, rim_link, rim_links_by, rim_outlet, rim_outlets_by, outlet_by, AreOutlets}
 use Rattle.flow.proofs.Ranges.{every_in_range}
 use Rattle.flow.proofs.EarlyEnds.{IsStop, streams_from}
 use Rattle.flow.proofs.Ending.{node_after-first, node_after-inside}

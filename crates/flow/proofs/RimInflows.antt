@@ -211,14 +211,17 @@ module _ (d : Directed) (t : Cutting) (flows : List Flow) (s : AreFlowsOf d t fl
               let same = ap (λ n. sum_below (entering t flows weights came n) (number_count t)) (sym e) in
               omega (arith, same, entering_is (rim_place t k) (ap (rim_place t) e), sum_below-few (λ c. entered d t (rim_place t k) (cell d c)) (d.rows * d.cols) (λ c h. entered_le d t (rim_place t k) (cell d c)))
           | inr ne ↦
-              omega (arith, sum_below-none (entering t flows weights came k) (number_count t) (λ i h. elim (cases_target (target_by t flows i)) [
-                | inl none ↦ ap (λ (o : Option Place). sent_to t k o (get_or came i 0 + get_or weights i 0)) none
-                | inr q ↦
-                    let x = target_from d t flows s i q.0 q.1 in
-                    let back_at : rim_place t (rim_number t q.0) ≡ q.0 = ap (λ z. rim_place t (rim_number t z)) x.is ∙ entry_back (rim_place t i) x.crosses ∙ sym x.is in
-                    ap (λ (o : Option Place). sent_to t k o (get_or came i 0 + get_or weights i 0)) q.1
-                    ∙ cond-false {A = ℕ} _ (get_or came i 0 + get_or weights i 0) 0 (ne_eqb _ _ (λ e. ne (ap (λ n. rim_number t (rim_place t n)) (sym e) ∙ ap (rim_number t) back_at ∙ e)))
-              ]))
+              omega (
+                arith,
+                sum_below-none (entering t flows weights came k) (number_count t) (λ i h. elim (cases_target (target_by t flows i)) [
+                  | inl none ↦ ap (λ (o : Option Place). sent_to t k o (get_or came i 0 + get_or weights i 0)) none
+                  | inr q ↦
+                      let x = target_from d t flows s i q.0 q.1 in
+                      let back_at : rim_place t (rim_number t q.0) ≡ q.0 = ap (λ z. rim_place t (rim_number t z)) x.is ∙ entry_back (rim_place t i) x.crosses ∙ sym x.is in
+                      ap (λ (o : Option Place). sent_to t k o (get_or came i 0 + get_or weights i 0)) q.1
+                      ∙ cond-false {A = ℕ} _ (get_or came i 0 + get_or weights i 0) 0 (ne_eqb _ _ (λ e. ne (ap (λ n. rim_number t (rim_place t n)) (sym e) ∙ ap (rim_number t) back_at ∙ e)))
+                ]),
+              )
         ]
 
     module _ (listed : List ℕ) (are : AreEntering t flows weights came listed) where

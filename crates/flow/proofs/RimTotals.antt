@@ -25,7 +25,7 @@ use Rattle.flow.proofs.Through.{place_test, place_from_test}
 use Rattle.flow.proofs.OneTile.{whole_bounds}
 use Rattle.flow.proofs.RimFlows.{Crosses, cases_target, from_some, HasFlow, flow_of, within_of, back, target_on, target_from, exit_here, not_outlet, to_below, targets_on, follow_more, links_size, link_at, rim_streams}
 use Rattle.flow.proofs.Reaching.{IsEnding, reached_early}
-use Rattle.flow.proofs.Gathering.{cell, drained, all_drained, drained_on, drained_off, drained_none, gathered, all_gathered, gathered_on, gathered_off, gathered_none, through_is, drained_few}
+use Rattle.flow.proofs.Gathering.{cell, drained, all_drained, drained_on, drained_off, drained_none, gathered, all_gathered, gathered_on, gathered_off, gathered_none, through_is, drained_few, gathered_few}
 
 module _ (d : Directed) (t : Cutting) (flows : List Flow) (s : AreFlowsOf d t flows) where
   pub ending : IsEnding d
@@ -59,6 +59,27 @@ module _ (d : Directed) (t : Cutting) (flows : List Flow) (s : AreFlowsOf d t fl
         | inr apart ↦ inr (x.0, omega (arith, ne), x.3, apart)
       ]
     ]
+  ]
+
+  -- what leaves over an exit from its own tile
+  pub weight_targeted : (j : ℕ) (q : Place) → target_by t flows j ≡ Some q → rim_weight t flows j ≡ all_gathered d t (rim_place t j)
+  weight_targeted j q e =
+      let x = (target_from d t flows s j q e).crosses in
+      let w = within_of d t flows s (rim_place t j) x.coded in
+      let f = flow_of d t flows s (rim_place t j) w in
+      let entry = from_some (code_at d (rim_place t j)) _ _ x.coded.code x.coded.is (f.right.each (rim_place t j) (w, refl)) in
+      ap (weight_or (through_by t flows (rim_place t j))) e
+      ∙ ap (λ (o : Option Flow). unwrap_or (option_and_then (λ (z : Flow). through_in z (rim_place t j)) o) 0 + 1) f.is
+      ∙ ap (λ (o : Option ℕ). unwrap_or o 0 + 1) entry.0
+      ∙ sym (through_is d ending t (rim_place t j) x.coded)
+
+  pub weight_untargeted : (j : ℕ) → target_by t flows j ≡ None → rim_weight t flows j ≡ 0
+  weight_untargeted j e = ap (weight_or (through_by t flows (rim_place t j))) e
+
+  pub weight_few : (j : ℕ) → rim_weight t flows j ≤ 16777216
+  weight_few j = elim (cases_target (target_by t flows j)) [
+    | inl none ↦ omega (arith, weight_untargeted j none)
+    | inr q ↦ omega (arith, weight_targeted j q.0 q.1, gathered_few d ending t (rim_place t j))
   ]
 
   module _ (links : List ℕ) (made : links ≡ rim_links_by t flows) where
@@ -223,21 +244,6 @@ module _ (d : Directed) (t : Cutting) (flows : List Flow) (s : AreFlowsOf d t fl
                 ∙ sym (drained_off d (rim_place t i) (cell d c) n)
           ]
     ]
-
-    -- what leaves over an exit from its own tile
-    pub weight_targeted : (j : ℕ) (q : Place) → target_by t flows j ≡ Some q → rim_weight t flows j ≡ all_gathered d t (rim_place t j)
-    weight_targeted j q e =
-        let x = (target_from d t flows s j q e).crosses in
-        let w = within_of d t flows s (rim_place t j) x.coded in
-        let f = flow_of d t flows s (rim_place t j) w in
-        let entry = from_some (code_at d (rim_place t j)) _ _ x.coded.code x.coded.is (f.right.each (rim_place t j) (w, refl)) in
-        ap (weight_or (through_by t flows (rim_place t j))) e
-        ∙ ap (λ (o : Option Flow). unwrap_or (option_and_then (λ (z : Flow). through_in z (rim_place t j)) o) 0 + 1) f.is
-        ∙ ap (λ (o : Option ℕ). unwrap_or o 0 + 1) entry.0
-        ∙ sym (through_is d ending t (rim_place t j) x.coded)
-
-    pub weight_untargeted : (j : ℕ) → target_by t flows j ≡ None → rim_weight t flows j ≡ 0
-    weight_untargeted j e = ap (weight_or (through_by t flows (rim_place t j))) e
 
     own_sum : (j : ℕ) → rim_weight t flows j ≡ sum_below (own j) (d.rows * d.cols)
     own_sum j = elim (cases_target (target_by t flows j)) [

@@ -142,7 +142,7 @@ module _ (d : Directed) (e : IsEnding d) (t : Cutting) (tile : ℕ) (b : Bounds)
                 | inl way ↦ omega (
                   arith,
                   gathered_on d t (place_in b i) q is (any_in_range (λ k. is_place (place_in b i) (follow d q k) && stays d t q k) (moves d) r.0 r.1
-                  (and_from _ _ r.2 (stays_from_way d t tile b links s q r.0 (λ l le. way l (omega arith) le)))),
+                      (and_from _ _ r.2 (stays_from_way d t tile b links s q r.0 (λ l le. way l (omega arith) le)))),
                   drained_on d (place_in b i) q is y,
                   sum_below-none (part i q) (length links) (λ j l. elim (cases_part i j q l) [
                     | inl z ↦ z

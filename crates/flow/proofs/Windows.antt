@@ -89,3 +89,9 @@ sum_in_bounds f b cols rows r_in c_in above below west east =
     ∙ sum_window (row_sum f cols) b.top b.rows rows r_in (λ r h. sum_below-none _ cols (λ c k. above r c h)) (λ r h k. sum_below-none _ cols (λ c l. below r c h))
     ∙ sum_below-same _ _ b.rows (λ r h. sum_window (λ c. f (make_place (b.top + r) c)) b.left b.cols cols c_in (λ c k. west (b.top + r) c k) (λ c k l. east (b.top + r) c k))
     ∙ sym (sum_in_rows f b b.rows)
+
+-- a part of a sum
+pub sum_below-part : (f : ℕ → ℕ) (k n : ℕ) → k ≤ n → sum_below f k ≤ sum_below f n
+sum_below-part f k n le =
+    let whole : k + (n - k) ≡ n = omega arith in
+    omega (arith, sum_below-split f k (n - k), ap (sum_below f) whole)

@@ -1,5 +1,5 @@
 -- Water that enters tiles over their rims. Only the contracts of private functions speak of it.
-use Rattle.std.specs.Prelude.{◌≡◌, ℕ, ◌+◌, ◌<◌, ◌==◌, if◌then◌else◌, List, map, length, Option, None, Some, slice_get, slice_index, unwrap_or, option_and_then}
+use Rattle.std.specs.Prelude.{◌≡◌, ℕ, ◌+◌, ◌<◌, ◌==◌, ◌&&◌, if◌then◌else◌, List, map, length, Option, None, Some, slice_get, slice_index, unwrap_or, option_and_then}
 use Rattle.std.specs.List.{range_with_len}
 use Rattle.ascii_grid.specs.declared.place.Place.{Place}
 use Rattle.tiles.specs.Cutting.{Cutting, IsWithin, tile_of_place}
@@ -53,3 +53,7 @@ pub record AreInflows (d : Directed) (t : Cutting) (l : Inflows) : Type 0 where
   pub cutting : l.cutting ≡ t
   pub size : length l.listed ≡ number_count t
   pub each : (p : Place) → IsWithin t p → inflow_in l p ≡ inflow_of d t p
+
+-- what a number adds to what flows in at a place
+abbrev pub adds : Cutting → List ℕ → ℕ → Place → ℕ
+adds t listed k p = if is_place (rim_place t k) p && rim_number t p == k then slice_index listed k else 0

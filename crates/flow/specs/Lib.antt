@@ -7,10 +7,9 @@ pub mod Finding
 pub mod TileLinks
 pub mod Whole
 pub mod Tested
-pub mod Crossing
-pub mod Joining
 pub mod RimNumbers
 pub mod RimGraph
 pub mod TileMaps
 pub mod Numbering
 pub mod Inflows
+pub mod Counting

@@ -8,7 +8,6 @@ use Rattle.drain.specs.Following.{Directed, last_of}
 use Rattle.drain.specs.Drained.{AllFlowEnds}
 use Rattle.flow.specs.Counts.{is_place}
 use Rattle.flow.specs.TileFlow.{Flow, is_in_bounds, entry_in, exit_in, AreTileFlows, IsExitCell}
-use Rattle.flow.specs.Joining.{code_in}
 use Rattle.flow.specs.Whole.{is_outlet_code}
 use Rattle.flow.specs.RimNumbers.{number_count, rim_number, rim_place}
 
@@ -17,6 +16,10 @@ pub record AreFlowsOf (d : Directed) (t : Cutting) (flows : List Flow) : Type 0 
   pub cutting : IsCutting t
   pub ends : AllFlowEnds d
   pub of_tiles : AreTileFlows d t flows
+
+-- the code that the flow of its tile has at a place
+abbrev pub code_in : Cutting → List Flow → Place → Option ℕ
+code_in t flows p = option_and_then (λ f. entry_in f.bounds f.codes p) (slice_get flows (tile_of_place t p))
 
 -- what the flow of its tile has at a place: where its water goes next, and its exit
 abbrev pub next_by : Cutting → List Flow → Place → Place

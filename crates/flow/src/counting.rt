@@ -1,63 +1,196 @@
-// Accumulations of a map of directions.
-ghost use Rattle.std.specs.Prelude.{IfOk};
-ghost use Rattle.tiles.specs.Cutting.{Cuts};
+// Accumulations of a map of directions, tile by tile.
+ghost use Rattle.std.proofs.Props.{props};
+ghost use Rattle.std.specs.Prelude.{◌≡◌, ◌+◌, ◌*◌, ◌^◌, ◌<◌, ℕ, length, slice_index, IfOk};
+ghost use Rattle.tiles.specs.Cutting.{Cuts, IsInBounds, bounds_of, cell_count, tile_count};
 ghost use Rattle.tile_jobs.specs.Fault.{RefusesWorkers};
 ghost use Rattle.drain.specs.Drained.{directed_of};
-ghost use Rattle.flow.specs.Counts.{AreAccumulations};
+ghost use Rattle.flow.specs.Counts.{AreAccumulations, accumulation};
+ghost use Rattle.flow.specs.TileMaps.{IsTileMapOf, AreTileMapsOf};
 ghost use Rattle.flow.specs.Whole.{IsGridFlow, make_directed};
+ghost use Rattle.flow.specs.Counting.{IsCounting, AreRimWeights, counts_by};
+ghost use Rattle.flow.specs.Inflows.{inflow_in};
+ghost use Rattle.flow.specs.TileLinks.{AreTileCodes};
+ghost use Rattle.ascii_grid.specs.declared.place.Place.{Place as AtPlace};
 
-use crate::cells::{tile_links, tile_weights};
+use crate::cells::{tile_codes, tile_links, tile_weights};
+use crate::flowing::{codes_of, flow_tiles};
+use crate::inflows::Inflows;
 use crate::streams::upstream;
-use crate::tile::through_counts;
+use crate::tile::counted;
 use ascii_grid::NoMemory;
 use drain::{Code, Directions};
 use std::alloc::Global;
 use std::sync::Wait;
 use std::thread::Threads;
-use tile_jobs::{Gate, JobFault};
-use tiles::{Bounds, Tiling};
+use tile_jobs::{Gate, JobFault, Work, run_jobs};
+use tiles::Tiling;
 
-const MOST_WORKERS: u32 = 64;
+/// Counts what flows through the cells of each tile.
+#[derive(Drop)]
+struct CountTiles<'a> {
+    codes: &'a [Option<Code>],
+    tiling: &'a Tiling,
+    inflows: &'a Inflows,
+    ghost counting: { IsCounting tiling.now codes.now inflows.now } by { Prim.hlevel props },
+}
 
-/// How many other cells' flow paths hold each cell.
+impl<'a> Work for CountTiles<'a> {
+    type Out = Vec<Option<u32>>;
+
+    ghost use Rattle.tiles.specs.Cutting.{tile_count};
+    ghost use Rattle.flow.specs.Counts.{accumulation};
+    ghost use Rattle.flow.specs.TileMaps.{IsTileMapOf};
+    ghost use Rattle.flow.specs.Whole.{make_directed};
+
+    ghost most = { λ w. tile_count w.tiling.now };
+
+    ghost gives = { λ w job out. IsTileMapOf (make_directed w.tiling.now.cols w.tiling.now.rows w.codes.now) w.tiling.now job
+        (accumulation (make_directed w.tiling.now.cols w.tiling.now.rows w.codes.now)) out.items };
+
+    fn run(&self, alloc: Global, job: u32) -> Result<Vec<Option<u32>>, JobFault> {
+        let Ok(values) = tile_counts(alloc, self.codes, self.tiling, self.inflows, job) else {
+            return Err(JobFault::Memory);
+        };
+        Ok(values)
+    }
+}
+
+/// How many other cells' flow paths hold each cell. Each tile's flow is found in a job of its own,
+/// and its cells are counted in another.
 pub fn accumulation<R: Threads + Wait + Sync, G: Gate + Sync>(
-    _rt: &R,
+    rt: &R,
     alloc: Global,
     d: &Directions,
     tiling: &Tiling,
     workers: u32,
-    _gate: &G,
+    gate: &G,
 ) -> Result<Vec<Option<u32>>, JobFault>
     requires { Cuts tiling.now d.now.terrain }
     ensures values { IfOk result (λ v. AreAccumulations (directed_of d.now) v.items) }
     ensures workers { RefusesWorkers workers result }
 {
-    if workers == 0 || workers > MOST_WORKERS {
-        return Err(JobFault::BadWorkers);
-    }
-    match grid_accumulation(alloc, tiling.cols(), tiling.rows(), d.codes()) {
+    accumulation_along(rt, alloc, codes_of(d, tiling), tiling, workers, gate)
+}
+
+pub(crate) fn accumulation_along<R: Threads + Wait + Sync, G: Gate + Sync>(
+    rt: &R,
+    alloc: Global,
+    codes: &[Option<Code>],
+    tiling: &Tiling,
+    workers: u32,
+    gate: &G,
+) -> Result<Vec<Option<u32>>, JobFault>
+    requires flows { IsGridFlow tiling.now.cols tiling.now.rows codes.now }
+    ensures values { IfOk result (λ v. AreAccumulations (make_directed tiling.now.cols tiling.now.rows codes.now) v.items) }
+    ensures workers { RefusesWorkers workers result }
+{
+    let flows = flow_tiles(rt, alloc, codes, tiling, workers, gate)?;
+    let Ok(inflows) = Inflows::join(alloc, tiling, &flows) else {
+        return Err(JobFault::Memory);
+    };
+    drop(flows);
+    let tiles = count_tiles(rt, alloc, codes, tiling, &inflows, workers, gate)?;
+    drop(inflows);
+    match tiling.put_back(alloc, &tiles) {
         Ok(values) => Ok(values),
         Err(NoMemory) => Err(JobFault::Memory),
     }
 }
 
-pub(crate) fn grid_accumulation(
+fn count_tiles<R: Threads + Wait + Sync, G: Gate + Sync>(
+    rt: &R,
     alloc: Global,
-    cols: u32,
-    rows: u32,
     codes: &[Option<Code>],
-) -> Result<Vec<Option<u32>>, NoMemory>
-    requires { IsGridFlow cols rows codes.now }
-    ensures { IfOk result (λ v. AreAccumulations (make_directed cols rows codes.now) v.items) }
+    tiling: &Tiling,
+    inflows: &Inflows,
+    workers: u32,
+    gate: &G,
+) -> Result<Vec<Vec<Option<u32>>>, JobFault>
+    requires counting { IsCounting tiling.now codes.now inflows.now }
+    ensures tiles { IfOk result (λ v. AreTileMapsOf (make_directed tiling.now.cols tiling.now.rows codes.now) tiling.now
+        (accumulation (make_directed tiling.now.cols tiling.now.rows codes.now)) v.items) }
+    ensures workers { RefusesWorkers workers result }
 {
-    let bounds = Bounds {
-        top: 0,
-        left: 0,
-        rows,
-        cols,
+    let tiles = tiling.tiles();
+    let work = CountTiles {
+        codes,
+        tiling,
+        inflows,
     };
-    let links = tile_links(alloc, bounds, codes)?;
-    let weights = tile_weights(alloc, codes)?;
+    run_jobs(rt, alloc, &work, tiles, workers, gate)
+}
+
+// The accumulations of a tile's cells.
+fn tile_counts(
+    alloc: Global,
+    codes: &[Option<Code>],
+    tiling: &Tiling,
+    inflows: &Inflows,
+    tile: u32,
+) -> Result<Vec<Option<u32>>, NoMemory>
+    requires counting { IsCounting tiling.now codes.now inflows.now }
+    requires tile { tile < tile_count tiling.now }
+    ensures { IfOk result (λ v. IsTileMapOf (make_directed tiling.now.cols tiling.now.rows codes.now) tiling.now tile
+        (accumulation (make_directed tiling.now.cols tiling.now.rows codes.now)) v.items) }
+{
+    let cells = codes_in(alloc, codes, tiling, tile)?;
+    let links = tile_links(alloc, tiling.bounds(tile), &cells)?;
+    let weights = rim_weights(alloc, inflows, tile, &cells)?;
     let came = upstream(alloc, &links, &weights)?;
-    through_counts(alloc, codes, &came)
+    counts(alloc, &cells, &weights, &came)
+}
+
+fn codes_in(
+    alloc: Global,
+    codes: &[Option<Code>],
+    tiling: &Tiling,
+    tile: u32,
+) -> Result<Vec<Option<Code>>, NoMemory>
+    requires size { length codes.now ≡ tiling.now.cols * tiling.now.rows }
+    requires tile { tile < tile_count tiling.now }
+    ensures { IfOk result (λ v. AreTileCodes (make_directed tiling.now.cols tiling.now.rows codes.now) (bounds_of tiling.now tile) v.items) }
+{
+    tile_codes(alloc, &tiling.view(codes, tile))
+}
+
+// 1 for each data cell, and what flows in.
+fn rim_weights(
+    alloc: Global,
+    inflows: &Inflows,
+    tile: u32,
+    cells: &[Option<Code>],
+) -> Result<Vec<u32>, NoMemory>
+    requires tile { tile < tile_count inflows.now.cutting }
+    requires size { length cells.now ≡ cell_count inflows.now.cutting tile }
+    requires fits { (p : AtPlace) → IsInBounds (bounds_of inflows.now.cutting tile) p → inflow_in inflows.now p < 2 ^ 31 }
+    ensures { IfOk result (λ v. AreRimWeights inflows.now (bounds_of inflows.now.cutting tile) cells.now v.items) }
+{
+    let mut weights = tile_weights(alloc, cells)?;
+    inflows.add_to(tile, &mut weights);
+    Ok(weights)
+}
+
+// The total of each data cell, itself left out; that of a cell without data is 0.
+fn counts(
+    alloc: Global,
+    cells: &[Option<Code>],
+    weights: &[u32],
+    came: &[u32],
+) -> Result<Vec<Option<u32>>, NoMemory>
+    requires weights { length weights.now ≡ length cells.now }
+    requires came { length came.now ≡ length cells.now }
+    requires fits { (i : ℕ) → i < length cells.now → slice_index came.now i + slice_index weights.now i < 2 ^ 32 }
+    ensures { IfOk result (λ v. v.items ≡ counts_by cells.now weights.now came.now) }
+{
+    let Ok(mut values) = Vec::with_capacity(alloc, cells.len()) else {
+        return Err(NoMemory);
+    };
+    for index in 0..cells.len() {
+        let total = came[index] + weights[index];
+        let value = counted(cells[index], total.saturating_sub(1));
+        if values.push(value).is_err() {
+            return Err(NoMemory);
+        }
+    }
+    Ok(values)
 }

@@ -5,6 +5,7 @@ mod cells;
 pub mod counting;
 mod ends;
 mod flowing;
+pub mod inflows;
 pub mod links;
 pub mod numbering;
 pub mod outlets;

@@ -4,8 +4,7 @@ ghost use Rattle.tiles.specs.Cutting.{IsCutting, IsWithin, tile_count};
 ghost use Rattle.drain.specs.Following.{Directed};
 ghost use Rattle.flow.specs.Counts.{is_place};
 ghost use Rattle.flow.specs.RimNumbers.{number_count};
-ghost use Rattle.flow.specs.RimGraph.{AreFlowsOf, AreOutlets, target_by, number_or, way_out_by, rim_links_by, rim_outlet, rim_outlets_by, outlet_in, next_by, exit_by, stands_for};
-ghost use Rattle.flow.specs.Joining.{code_in};
+ghost use Rattle.flow.specs.RimGraph.{code_in, AreFlowsOf, AreOutlets, target_by, number_or, way_out_by, rim_links_by, rim_outlet, rim_outlets_by, outlet_in, next_by, exit_by, stands_for};
 
 use crate::cells::{contains, next_of};
 use crate::ends::ends;
@@ -79,7 +78,7 @@ impl<'a> Outlets<'a> {
 }
 
 #[inline(always)]
-fn is_place(place: Place, other: Place) -> bool
+pub(crate) fn is_place(place: Place, other: Place) -> bool
     ensures { result ≡ is_place place other }
 {
     place.row == other.row && place.col == other.col
@@ -87,7 +86,7 @@ fn is_place(place: Place, other: Place) -> bool
 
 // Whether a place is in the grid and has this number.
 #[inline(always)]
-fn stands_for(tiling: &Tiling, place: Place, number: u32) -> bool
+pub(crate) fn stands_for(tiling: &Tiling, place: Place, number: u32) -> bool
     ensures { result ≡ stands_for tiling.now place number }
 {
     place.row < tiling.rows() && place.col < tiling.cols() && rim_number(tiling, place) == number
@@ -132,7 +131,7 @@ fn way_out(tiling: &Tiling, flows: &[TileFlow], entry: Place) -> Option<Place>
 }
 
 // Where the water of a number's cell enters another tile; None for a number that stands for no such cell.
-fn target_of(tiling: &Tiling, flows: &[TileFlow], number: u32) -> Option<Place>
+pub(crate) fn target_of(tiling: &Tiling, flows: &[TileFlow], number: u32) -> Option<Place>
     requires count { length flows.now ≡ tile_count tiling.now }
     requires number { number < number_count tiling.now }
     ensures { result ≡ target_by tiling.now flows.now number }
@@ -164,7 +163,11 @@ fn link_of(tiling: &Tiling, flows: &[TileFlow], number: u32, target: Option<Plac
     }
 }
 
-fn rim_links(alloc: Global, tiling: &Tiling, flows: &[TileFlow]) -> Result<Vec<u32>, NoMemory>
+pub(crate) fn rim_links(
+    alloc: Global,
+    tiling: &Tiling,
+    flows: &[TileFlow],
+) -> Result<Vec<u32>, NoMemory>
     requires { (d : Directed) × AreFlowsOf d tiling.now flows.now }
     ensures { IfOk result (λ v. v.items ≡ rim_links_by tiling.now flows.now) }
 {

@@ -1,6 +1,6 @@
 // Numbers for the cells on the rims of all tiles.
 ghost use Rattle.std.specs.Prelude.{◌≡◌, ◌+◌, ◌*◌, ◌^◌, ◌<◌, ◌≤◌};
-ghost use Rattle.tiles.specs.Cutting.{IsInBounds, IsWithin, bounds_of};
+ghost use Rattle.tiles.specs.Cutting.{IsInBounds, IsWithin, bounds_of, tile_count};
 ghost use Rattle.flow.specs.TileLinks.{IsSmall};
 ghost use Rattle.flow.specs.RimNumbers.{stride, side_number, side_place, number_count, rim_number, rim_place};
 
@@ -13,6 +13,17 @@ pub fn number_count(tiling: &Tiling) -> u32
     ensures few { result ≤ 2 ^ 30 }
 {
     tiling.tiles() * stride(tiling.bounds(0))
+}
+
+/// The first number of a tile, and how many it has.
+pub fn numbers_of(tiling: &Tiling, tile: u32) -> (u32, u32)
+    requires { tile < tile_count tiling.now }
+    ensures first { result.0 ≡ tile * stride (bounds_of tiling.now 0) }
+    ensures count { result.1 ≡ stride (bounds_of tiling.now 0) }
+    ensures below { result.0 + result.1 ≤ number_count tiling.now }
+{
+    let count = stride(tiling.bounds(0));
+    (tile * count, count)
 }
 
 /// The number of a rim cell.

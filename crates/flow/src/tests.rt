@@ -4,7 +4,7 @@ ghost use Rattle.drain.specs.Drained.{AllFlowEnds};
 ghost use Rattle.flow.specs.TileFlow.{AreTileFlows};
 ghost use Rattle.flow.specs.Whole.{IsGridFlow, make_directed};
 
-use crate::counting::grid_accumulation;
+use crate::counting::accumulation_along;
 use crate::links::RimLinks;
 use crate::numbering::basins_along;
 use crate::tile::{TileFlow, tile_flow};
@@ -45,16 +45,42 @@ fn grid_codes_of(
     codes_of(alloc, numbers)
 }
 
-fn accumulation_of(
+fn accumulations_of<R: Threads + Wait + Sync>(
+    rt: &R,
     alloc: Global,
-    cols: u32,
-    rows: u32,
+    size: (u32, u32),
+    side: u32,
+    workers: u32,
     numbers: &[u8],
-) -> Result<Vec<Option<u32>>, NoMemory>
-    requires { IsTrue (flows cols rows numbers.now) }
+) -> Result<Vec<Option<u32>>, Fail>
+    requires flows { IsTrue (flows size.0 size.1 numbers.now) }
+    requires cols { (1 ≤ size.0) × (size.0 ≤ 4096) }
+    requires rows { (1 ≤ size.1) × (size.1 ≤ 4096) }
 {
-    let codes = codes_of(alloc, numbers)?;
-    grid_accumulation(alloc, cols, rows, &codes)
+    let codes = grid_codes_of(alloc, size, numbers)?;
+    let tiling = made_tiling(size, side)?;
+    Ok(accumulation_along(rt, alloc, &codes, &tiling, workers, &NoGate)?)
+}
+
+// Whether the accumulations are these for several tilings and numbers of workers.
+fn accumulations_are<R: Threads + Wait + Sync>(
+    rt: &R,
+    alloc: Global,
+    size: (u32, u32),
+    numbers: &[u8],
+    wanted: &[u32],
+) -> Result<bool, Fail>
+    requires flows { IsTrue (flows size.0 size.1 numbers.now) }
+    requires cols { (1 ≤ size.0) × (size.0 ≤ 4096) }
+    requires rows { (1 ≤ size.1) × (size.1 ≤ 4096) }
+{
+    for (side, workers) in CUTS {
+        let accumulations = accumulations_of(rt, alloc, size, side, workers, numbers)?;
+        if !is(&accumulations, wanted) {
+            return Ok(false);
+        }
+    }
+    Ok(true)
 }
 
 fn basins_of<R: Threads + Wait + Sync>(
@@ -86,17 +112,7 @@ fn basins_are<R: Threads + Wait + Sync>(
     requires cols { (1 ≤ size.0) × (size.0 ≤ 4096) }
     requires rows { (1 ≤ size.1) × (size.1 ≤ 4096) }
 {
-    for (side, workers) in [
-        (1, 1),
-        (1, 8),
-        (2, 1),
-        (2, 2),
-        (2, 8),
-        (3, 2),
-        (4, 1),
-        (4, 8),
-        (7, 2),
-    ] {
+    for (side, workers) in CUTS {
         let basins = basins_of(rt, alloc, size, side, workers, numbers)?;
         if !is(&basins, wanted) {
             return Ok(false);
@@ -196,6 +212,19 @@ fn is(values: &[Option<u32>], wanted: &[u32]) -> bool {
             .all(|(value, want)| *value == Some(*want))
 }
 
+// Sides of tiles and numbers of workers.
+const CUTS: [(u32, u32); 9] = [
+    (1, 1),
+    (1, 8),
+    (2, 1),
+    (2, 2),
+    (2, 8),
+    (3, 2),
+    (4, 1),
+    (4, 8),
+    (7, 2),
+];
+
 const VALLEY: [u8; 16] = [2, 4, 8, 0, 1, 2, 4, 8, 128, 1, 2, 4, 0, 128, 1, 0];
 
 // A flat that winds through ten tiles of side 2.
@@ -207,8 +236,15 @@ const WINDING: [u8; 49] = [
 #[test]
 fn bowl_of_nines(rt: HostRuntime) -> Result<(), Fail> {
     let codes = [0, 0, 0, 0, 1, 0, 0, 0, 0];
-    let accumulation = accumulation_of(rt.alloc(), 3, 3, &codes)?;
-    assert!(rt; is(&accumulation, &[0, 0, 0, 0, 0, 1, 0, 0, 0]));
+    assert!(rt;
+        accumulations_are(
+            &rt,
+            rt.alloc(),
+            (3, 3),
+            &codes,
+            &[0, 0, 0, 0, 0, 1, 0, 0, 0]
+        )?
+    );
     assert!(rt;
         basins_are(
             &rt,
@@ -223,13 +259,8 @@ fn bowl_of_nines(rt: HostRuntime) -> Result<(), Fail> {
 
 #[test]
 fn valley_across_tiles(rt: HostRuntime) -> Result<(), Fail> {
-    let accumulation = accumulation_of(rt.alloc(), 4, 4, &VALLEY)?;
-    assert!(rt;
-        is(
-            &accumulation,
-            &[0, 0, 0, 0, 0, 5, 0, 0, 0, 0, 10, 0, 0, 0, 0, 13]
-        )
-    );
+    let accumulations = [0, 0, 0, 0, 0, 5, 0, 0, 0, 0, 10, 0, 0, 0, 0, 13];
+    assert!(rt; accumulations_are(&rt, rt.alloc(), (4, 4), &VALLEY, &accumulations)?);
     let wanted = [3, 3, 3, 1, 3, 3, 3, 3, 3, 3, 3, 3, 2, 3, 3, 3];
     assert!(rt; basins_are(&rt, rt.alloc(), (4, 4), &VALLEY, &wanted)?);
     Ok(())
@@ -237,17 +268,28 @@ fn valley_across_tiles(rt: HostRuntime) -> Result<(), Fail> {
 
 #[test]
 fn flat_through_ten_tiles(rt: HostRuntime) -> Result<(), Fail> {
-    let accumulation = accumulation_of(rt.alloc(), 7, 7, &WINDING)?;
-    assert_eq!(rt; accumulation.get(41).copied(), Some(Some(48)));
+    let accumulations = [
+        0, 0, 0, 0, 0, 0, 0, 0, 3, 5, 7, 9, 3, 0, 0, 0, 0, 0, 0, 16, 0, 0, 3, 23, 21, 19, 1, 0, 0,
+        29, 0, 0, 0, 0, 0, 0, 3, 36, 39, 42, 45, 48, 0, 0, 0, 0, 0, 0, 0,
+    ];
+    assert!(rt; accumulations_are(&rt, rt.alloc(), (7, 7), &WINDING, &accumulations)?);
     assert!(rt; basins_are(&rt, rt.alloc(), (7, 7), &WINDING, &[1; 49])?);
+    Ok(())
+}
+
+#[test]
+fn river_that_comes_back(rt: HostRuntime) -> Result<(), Fail> {
+    let codes = [1, 1, 8, 16, 1, 1, 1, 0];
+    let accumulations = [0, 1, 3, 0, 0, 5, 6, 7];
+    assert!(rt; accumulations_are(&rt, rt.alloc(), (4, 2), &codes, &accumulations)?);
     Ok(())
 }
 
 #[test]
 fn slope(rt: HostRuntime) -> Result<(), Fail> {
     let codes = [1, 1, 1, 1, 1, 0, 128, 128, 64, 64, 64, 64];
-    let accumulation = accumulation_of(rt.alloc(), 6, 2, &codes)?;
-    assert!(rt; is(&accumulation, &[0, 2, 5, 7, 9, 11, 0, 0, 0, 0, 0, 0]));
+    let accumulations = [0, 2, 5, 7, 9, 11, 0, 0, 0, 0, 0, 0];
+    assert!(rt; accumulations_are(&rt, rt.alloc(), (6, 2), &codes, &accumulations)?);
     assert!(rt; basins_are(&rt, rt.alloc(), (6, 2), &codes, &[1; 12])?);
     Ok(())
 }
@@ -255,8 +297,7 @@ fn slope(rt: HostRuntime) -> Result<(), Fail> {
 #[test]
 fn greatest_drops(rt: HostRuntime) -> Result<(), Fail> {
     let codes = [1, 0, 16, 0, 16, 32];
-    let accumulation = accumulation_of(rt.alloc(), 3, 2, &codes)?;
-    assert!(rt; is(&accumulation, &[0, 3, 0, 1, 0, 0]));
+    assert!(rt; accumulations_are(&rt, rt.alloc(), (3, 2), &codes, &[0, 3, 0, 1, 0, 0])?);
     assert!(rt; basins_are(&rt, rt.alloc(), (3, 2), &codes, &[1, 1, 1, 2, 2, 1])?);
     Ok(())
 }
@@ -264,24 +305,22 @@ fn greatest_drops(rt: HostRuntime) -> Result<(), Fail> {
 #[test]
 fn level_ground(rt: HostRuntime) -> Result<(), Fail> {
     let codes = [0; 8];
-    let accumulation = accumulation_of(rt.alloc(), 4, 2, &codes)?;
-    assert!(rt; is(&accumulation, &[0; 8]));
+    assert!(rt; accumulations_are(&rt, rt.alloc(), (4, 2), &codes, &[0; 8])?);
     assert!(rt; basins_are(&rt, rt.alloc(), (4, 2), &codes, &[1, 2, 3, 4, 5, 6, 7, 8])?);
     Ok(())
 }
 
 #[test]
 fn one_cell(rt: HostRuntime) -> Result<(), Fail> {
-    let accumulation = accumulation_of(rt.alloc(), 1, 1, &[0])?;
-    assert!(rt; is(&accumulation, &[0]));
+    assert!(rt; accumulations_are(&rt, rt.alloc(), (1, 1), &[0], &[0])?);
     assert!(rt; basins_are(&rt, rt.alloc(), (1, 1), &[0], &[1])?);
     Ok(())
 }
 
 #[test]
 fn no_data(rt: HostRuntime) -> Result<(), Fail> {
-    let accumulation = accumulation_of(rt.alloc(), 2, 1, &[3, 3])?;
-    assert!(rt; accumulation.as_slice() == [None, None].as_slice());
+    let accumulations = accumulations_of(&rt, rt.alloc(), (2, 1), 1, 2, &[3, 3])?;
+    assert!(rt; accumulations.as_slice() == [None, None].as_slice());
     let basins = basins_of(&rt, rt.alloc(), (2, 1), 1, 2, &[3, 3])?;
     assert!(rt; basins.as_slice() == [None, None].as_slice());
     Ok(())

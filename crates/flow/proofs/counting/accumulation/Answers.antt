@@ -1,6 +1,9 @@
-use Rattle.flow.proofs.Directed.{grid_flow}
+use Rattle.std.proofs.Common.{subst}
+use Rattle.std.specs.Prelude.{IfOk}
+use Rattle.drain.specs.Following.{Directed}
+use Rattle.flow.specs.Counts.{AreAccumulations}
 use Rattle.flow.proofs.counting.accumulation.Goals as goal
 
-pub grid_accumulation-requires : goal.grid_accumulation-requires
-grid_accumulation-requires g c =
-    grid_flow c.args.d.now c.args.tiling.now _ _ _ c.cols.ensures.lawful c.codes.ensures.draining c.requires c.cols.ensures.value c.rows.ensures.value c.codes.ensures.value
+pub returns-clause-values : goal.returns-clause-values
+returns-clause-values g c =
+    subst (λ (d : Directed). IfOk c.accumulation_along.result (λ v. AreAccumulations d v.items)) c.codes_of.ensures.same c.accumulation_along.ensures.values

@@ -1,0 +1,28 @@
+-- Inflows and outlets joined.
+use Rattle.std.proofs.Common.{◌≡◌, ℕ, true, cond, inl, inr, List, Option, None, Some, sym, ap, ◌∙◌}
+use Rattle.std.proofs.lemmas.Bool.{cases_Bool, and_from, and_parts, lt-ltb, ltb-true, cond-true, cond-false}
+use Rattle.ascii_grid.specs.declared.place.Place.{Place}
+use Rattle.tiles.specs.Cutting.{Cutting, IsWithin, is_within}
+use Rattle.drain.specs.Following.{Directed}
+use Rattle.flow.specs.TileFlow.{Flow}
+use Rattle.flow.specs.RimGraph.{AreFlowsOf, Outlets, AreOutlets, outlet_by, outlet_in}
+use Rattle.flow.specs.Inflows.{Inflows, AreInflows, inflow_by}
+use Rattle.flow.specs.Links.{AreLinks}
+use Rattle.flow.proofs.Coded.{coded_from_some}
+use Rattle.flow.proofs.RimFlows.{within_of}
+
+pub links_are : (d : Directed) (t : Cutting) (flows : List Flow) → AreFlowsOf d t flows → (i : Inflows) (o : Outlets) → i.cutting ≡ t → o.cutting ≡ t → AreInflows d t i → AreOutlets d t o →
+    AreLinks d t (record { cutting = o.cutting; flows = o.flows; inflows = i.listed; outlets = o.listed })
+links_are d t flows s i o same here inflows outlets = record {
+  cutting = here;
+  inflows = λ p w. ap (λ (x : Cutting). inflow_by x i.listed p) (here ∙ sym same) ∙ inflows.each p w;
+  outlets = λ p x. (let w = within_of d t flows s p (coded_from_some d p x.0) in
+      let inside : is_within o.cutting p ≡ true = ap (λ (c : Cutting). is_within c p) here ∙ and_from _ _ (lt-ltb _ _ w.0) (lt-ltb _ _ w.1) in
+      cond-true {A = Option Place} _ (outlet_by o.cutting o.flows o.listed p) None inside ∙ outlets.outlets p x);
+  no_outlets = λ p out. elim (cases_Bool (is_within o.cutting p)) [
+    | inr f ↦ cond-false {A = Option Place} _ (outlet_by o.cutting o.flows o.listed p) None f
+    | inl y ↦ (let w = and_parts _ _ (sym (ap (λ (c : Cutting). is_within c p) here) ∙ y) in
+        let within : IsWithin t p = (ltb-true _ _ w.0, ltb-true _ _ w.1) in
+        cond-true {A = Option Place} _ (outlet_by o.cutting o.flows o.listed p) None y ∙ outlets.no_outlets p within out)
+  ];
+}

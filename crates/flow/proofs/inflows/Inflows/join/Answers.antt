@@ -1,0 +1,81 @@
+use Rattle.std.proofs.Common.{◌≡◌, ℕ, ◌+◌, ◌^◌, ◌<◌, List, length, get_or, subst, sym, ap, ◌∙◌, arith}
+use Rattle.flow.specs.Streams.{AreUpstream, sum_below}
+use Rattle.flow.specs.RimNumbers.{number_count}
+use Rattle.flow.specs.Inflows.{AreEntering, entering}
+use Rattle.flow.proofs.RimNumbered.{few_numbers}
+use Rattle.flow.proofs.RimFlows.{links_size, rim_streams}
+use Rattle.flow.proofs.RimTotals.{weights_size, total_few}
+use Rattle.flow.proofs.RimInflows.{entering_few, inflows_are}
+use Rattle.flow.proofs.inflows.Inflows.join.Goals as goal
+
+pub upstream-requires-clause-streams : goal.upstream-requires-clause-streams
+upstream-requires-clause-streams c =
+    rim_streams c.requires.0 c.args.tiling.now c.args.flows.now c.requires.1 c.deref.result.now (c.deref.ensures.value ∙ c.in_ok-links.ensures)
+
+pub upstream-requires-clause-few : goal.upstream-requires-clause-few
+upstream-requires-clause-few c =
+    omega (
+      arith,
+      links_size c.requires.0 c.args.tiling.now c.args.flows.now c.requires.1 c.deref.result.now (c.deref.ensures.value ∙ c.in_ok-links.ensures),
+      few_numbers c.args.tiling.now c.requires.1.cutting,
+    )
+
+pub upstream-requires-clause-same : goal.upstream-requires-clause-same
+upstream-requires-clause-same c =
+    let made = c.deref.ensures.value ∙ c.in_ok-links.ensures in
+    weights_size c.requires.0 c.args.tiling.now c.args.flows.now c.requires.1 c.deref.result.now made c.deref-2.result.now (c.deref-2.ensures.value ∙ c.in_ok-weights.ensures)
+    ∙ sym (links_size c.requires.0 c.args.tiling.now c.args.flows.now c.requires.1 c.deref.result.now made)
+
+pub upstream-requires-clause-fits : goal.upstream-requires-clause-fits
+upstream-requires-clause-fits c =
+    let made = c.deref.ensures.value ∙ c.in_ok-links.ensures in
+    λ i h. omega (
+      arith,
+      total_few c.requires.0 c.args.tiling.now c.args.flows.now c.requires.1 c.deref.result.now made c.deref-2.result.now (c.deref-2.ensures.value ∙ c.in_ok-weights.ensures) i
+          (omega (arith, h, links_size c.requires.0 c.args.tiling.now c.args.flows.now c.requires.1 c.deref.result.now made)),
+    )
+
+pub all_entering-requires-clause-weights : goal.all_entering-requires-clause-weights
+all_entering-requires-clause-weights c =
+    ap length c.deref-3.ensures.value
+    ∙ weights_size c.requires.0 c.args.tiling.now c.args.flows.now c.requires.1 c.deref.result.now (c.deref.ensures.value ∙ c.in_ok-links.ensures) c.in_ok-weights.weights.items c.in_ok-weights.ensures
+
+pub all_entering-requires-clause-came : goal.all_entering-requires-clause-came
+all_entering-requires-clause-came c =
+    ap length c.deref-4.ensures.value ∙ c.in_ok-came.ensures.size
+    ∙ links_size c.requires.0 c.args.tiling.now c.args.flows.now c.requires.1 c.deref.result.now (c.deref.ensures.value ∙ c.in_ok-links.ensures)
+
+pub all_entering-requires-clause-amounts : goal.all_entering-requires-clause-amounts
+all_entering-requires-clause-amounts c =
+    let made = c.deref.ensures.value ∙ c.in_ok-links.ensures in
+    let size = links_size c.requires.0 c.args.tiling.now c.args.flows.now c.requires.1 c.deref.result.now made in
+    λ i h. omega (
+      arith,
+      c.in_ok-came.ensures.each i (omega (arith, h, size)),
+      total_few c.requires.0 c.args.tiling.now c.args.flows.now c.requires.1 c.deref.result.now made c.deref-2.result.now (c.deref-2.ensures.value ∙ c.in_ok-weights.ensures) i h,
+      ap (λ (l : List ℕ). get_or l i 0) c.deref-4.ensures.value,
+      ap (λ (l : List ℕ). get_or l i 0) c.deref-3.ensures.value,
+      ap (λ (l : List ℕ). get_or l i 0) c.deref-2.ensures.value,
+    )
+
+pub all_entering-requires-clause-few : goal.all_entering-requires-clause-few
+all_entering-requires-clause-few c =
+    let made = c.deref.ensures.value ∙ c.in_ok-links.ensures in
+    let up : AreUpstream c.deref.result.now c.in_ok-weights.weights.items c.in_ok-came.came.items =
+    subst (λ (w : List ℕ). AreUpstream c.deref.result.now w c.in_ok-came.came.items) c.deref-2.ensures.value c.in_ok-came.ensures in
+    λ k. omega (
+      arith,
+      entering_few c.requires.0 c.args.tiling.now c.args.flows.now c.requires.1 c.deref.result.now c.in_ok-weights.weights.items c.in_ok-came.came.items made c.in_ok-weights.ensures up k,
+      ap (λ (w : List ℕ). sum_below (entering c.args.tiling.now c.args.flows.now w c.deref-4.result.now k) (number_count c.args.tiling.now)) c.deref-3.ensures.value,
+      ap (λ (w : List ℕ). sum_below (entering c.args.tiling.now c.args.flows.now c.in_ok-weights.weights.items w k) (number_count c.args.tiling.now)) c.deref-4.ensures.value,
+    )
+
+pub returns-clause-inflows : goal.returns-clause-inflows
+returns-clause-inflows c =
+    let made = c.deref.ensures.value ∙ c.in_ok-links.ensures in
+    let up : AreUpstream c.deref.result.now c.in_ok-weights.weights.items c.in_ok-came.came.items =
+    subst (λ (w : List ℕ). AreUpstream c.deref.result.now w c.in_ok-came.came.items) c.deref-2.ensures.value c.in_ok-came.ensures in
+    let are : AreEntering c.args.tiling.now c.args.flows.now c.in_ok-weights.weights.items c.in_ok-came.came.items c.in_ok-listed.listed.items =
+    subst (λ (w : List ℕ). AreEntering c.args.tiling.now c.args.flows.now w c.in_ok-came.came.items c.in_ok-listed.listed.items) c.deref-3.ensures.value
+    (subst (λ (w : List ℕ). AreEntering c.args.tiling.now c.args.flows.now c.deref-3.result.now w c.in_ok-listed.listed.items) c.deref-4.ensures.value c.in_ok-listed.ensures) in
+    λ d f. inflows_are d c.args.tiling.now c.args.flows.now f c.deref.result.now c.in_ok-weights.weights.items c.in_ok-came.came.items made c.in_ok-weights.ensures up c.in_ok-listed.listed.items are

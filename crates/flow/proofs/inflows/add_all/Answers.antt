@@ -1,0 +1,25 @@
+use Rattle.std.proofs.Common.{◌∙◌, arith}
+use Rattle.flow.proofs.RimAdded.{small_bounds, adds_fit, adds_more, adds_done}
+use Rattle.flow.proofs.inflows.add_all.Goals as goal
+
+pub add_one-requires-clause-small : goal.add_one-requires-clause-small
+add_one-requires-clause-small c = small_bounds c.args.tiling.now c.bounds-bounds.result c.bounds-bounds.ensures.lawful c.bounds-bounds.ensures.inside
+
+pub add_one-requires-clause-fits : goal.add_one-requires-clause-fits
+add_one-requires-clause-fits c =
+    adds_fit c.args.tiling.now c.bounds-bounds.ensures.lawful c.args.listed.now c.args.tile c.requires.tile c.args.weights.now
+    c.bounds-bounds.result c.bounds-bounds.ensures.value c.loop-side.weights c.numbers_of-first.result.0 c.loop-side.side c.numbers_of-first.ensures.first
+    (omega (arith, c.loop-side-test.true, c.numbers_of-first.ensures.count)) c.loop-side.invariant.each c.requires.fits
+
+pub loop-side-preserved : goal.loop-side-preserved
+loop-side-preserved c = record {
+  size = c.add_one.ensures.size ∙ c.loop-side.invariant.size;
+  each = adds_more c.args.tiling.now c.bounds-bounds.ensures.lawful c.args.listed.now c.args.tile c.requires.tile c.args.weights.now
+      c.bounds-bounds.result c.bounds-bounds.ensures.value c.loop-side.weights c.add_one.new.weights c.numbers_of-first.result.0 c.loop-side.side c.numbers_of-first.ensures.first
+      c.loop-side.invariant.each c.add_one.ensures.each;
+}
+
+pub returns-clause-each : goal.returns-clause-each
+returns-clause-each c =
+    adds_done c.args.tiling.now c.bounds-bounds.ensures.lawful c.args.listed.now c.args.tile c.requires.tile c.args.weights.now
+    c.loop-side.weights c.loop-side.side (omega (arith, c.loop-side-test.false, c.loop-side.auto.side-end, c.numbers_of-first.ensures.count)) c.loop-side.invariant.each

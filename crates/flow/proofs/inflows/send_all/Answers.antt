@@ -1,0 +1,48 @@
+use Rattle.std.proofs.Common.{◌≡◌, ◌+◌, ◌<◌, Option, IfSome, get_or, subst, sym, ap, ◌∙◌, arith}
+use Rattle.ascii_grid.specs.declared.place.Place.{Place}
+use Rattle.tiles.specs.Cutting.{IsWithin}
+use Rattle.flow.specs.Streams.{sum_below}
+use Rattle.flow.specs.RimNumbers.{number_count}
+use Rattle.flow.specs.Inflows.{sent_to, entering}
+use Rattle.flow.proofs.Sums.{sum_more}
+use Rattle.flow.proofs.Windows.{sum_below-part}
+use Rattle.flow.proofs.RimFlows.{targets_within}
+use Rattle.flow.proofs.inflows.send_all.Goals as goal
+
+pub send-requires-clause-within : goal.send-requires-clause-within
+send-requires-clause-within c =
+    subst (λ (o : Option Place). IfSome o (IsWithin c.args.tiling.now)) (sym c.target_of-target.ensures)
+    (targets_within c.requires.flows.0 c.args.tiling.now c.args.flows.now c.requires.flows.1 c.loop-number.number)
+
+pub send-requires-clause-fits : goal.send-requires-clause-fits
+send-requires-clause-fits c = λ k h.
+    let f = entering c.args.tiling.now c.args.flows.now c.args.weights.now c.args.came.now k in
+    omega (
+      arith,
+      c.loop-number.invariant.each k h,
+      ap (λ (o : Option Place). sent_to c.args.tiling.now k o (get_or c.args.came.now c.loop-number.number 0 + get_or c.args.weights.now c.loop-number.number 0)) c.target_of-target.ensures,
+      sum_more (entering c.args.tiling.now c.args.flows.now c.args.weights.now c.args.came.now k) c.loop-number.number,
+      sum_below-part (entering c.args.tiling.now c.args.flows.now c.args.weights.now c.args.came.now k) (c.loop-number.number + 1) (number_count c.args.tiling.now)
+          (omega (arith, c.loop-number-test.true, c.number_count-number-end.ensures.value)),
+      c.requires.few k,
+    )
+
+pub loop-number-preserved : goal.loop-number-preserved
+loop-number-preserved c = record {
+  size = c.send.ensures.size ∙ c.loop-number.invariant.size;
+  each = λ k h. omega (
+    arith,
+    c.send.ensures.each k h,
+    c.loop-number.invariant.each k h,
+    ap (λ (o : Option Place). sent_to c.args.tiling.now k o (get_or c.args.came.now c.loop-number.number 0 + get_or c.args.weights.now c.loop-number.number 0)) c.target_of-target.ensures,
+    sum_more (entering c.args.tiling.now c.args.flows.now c.args.weights.now c.args.came.now k) c.loop-number.number,
+  );
+}
+
+pub returns : goal.returns
+returns c =
+    let all : c.loop-number.number ≡ number_count c.args.tiling.now = omega (arith, c.loop-number-test.false, c.loop-number.auto.number-end, c.number_count-number-end.ensures.value) in
+    record {
+      size = c.loop-number.invariant.size;
+      each = λ k h. c.loop-number.invariant.each k h ∙ ap (sum_below (entering c.args.tiling.now c.args.flows.now c.args.weights.now c.args.came.now k)) all;
+    }

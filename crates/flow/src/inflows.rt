@@ -1,0 +1,223 @@
+// What flows into tiles over their rims.
+ghost use Rattle.std.specs.Prelude.{◌≡◌, ◌+◌, ◌*◌, ◌^◌, ◌<◌, ◌&&◌, ℕ, length, slice_index, IfOk, IfSome};
+ghost use Rattle.ascii_grid.specs.declared.place.Place.{Place as AtPlace};
+ghost use Rattle.tiles.specs.Cutting.{AreBounds, IsInBounds, IsWithin, bounds_of, cell_count, tile_count};
+ghost use Rattle.drain.specs.Following.{Directed};
+ghost use Rattle.flow.specs.Streams.{sum_below};
+ghost use Rattle.flow.specs.Sending.{AreNone};
+ghost use Rattle.flow.specs.TileFlow.{is_in_bounds};
+ghost use Rattle.flow.specs.TileLinks.{IsSmall, index_in};
+ghost use Rattle.flow.specs.RimNumbers.{number_count};
+ghost use Rattle.flow.specs.RimGraph.{AreFlowsOf, stands_for};
+ghost use Rattle.flow.specs.Inflows.{AreEntering, AreInflows, adds, entering, inflow_by, inflow_in, rim_weight, rim_weights_by, sent_to, through_by};
+
+use crate::cells::{contains, index_of};
+use crate::outlets::{is_place, rim_links, stands_for, target_of};
+use crate::rim::{number_count, numbers_of, rim_number, rim_place};
+use crate::streams::{upstream, zeros};
+use crate::tile::TileFlow;
+use ascii_grid::{NoMemory, Place};
+use std::alloc::Global;
+use std::marker::Model;
+use tiles::{Bounds, Tiling};
+
+/// How many cells' flow paths enter each cell from another tile.
+#[derive(Drop)]
+pub struct Inflows {
+    tiling: Tiling,
+    // of each number of a rim cell
+    listed: Vec<u32>,
+}
+
+impl Model for Inflows {
+    ghost use Rattle.std.specs.Prelude.{◌≡◌, length};
+    ghost use Rattle.flow.specs.RimNumbers.{number_count};
+    ghost use Rattle.flow.specs.Inflows.{Inflows};
+
+    ghost Value = { Inflows };
+
+    ghost view = { λ i. record { cutting = i.tiling; listed = i.listed.items } };
+
+    ghost invariant = { λ i. length i.listed.items ≡ number_count i.tiling };
+}
+
+impl Inflows {
+    /// Sends the water of each exit from tile to tile.
+    pub fn join(alloc: Global, tiling: &Tiling, flows: &[TileFlow]) -> Result<Inflows, NoMemory>
+        requires { (d : Directed) × AreFlowsOf d tiling.now flows.now }
+        ensures cutting { IfOk result (λ i. i.cutting ≡ tiling.now) }
+        ensures inflows { IfOk result (λ i. (d : Directed) → AreFlowsOf d tiling.now flows.now → AreInflows d tiling.now i) }
+    {
+        let links = rim_links(alloc, tiling, flows)?;
+        let weights = rim_weights(alloc, tiling, flows)?;
+        let came = upstream(alloc, &links, &weights)?;
+        let listed = all_entering(alloc, tiling, flows, &weights, &came)?;
+        Ok(Inflows {
+            tiling: *tiling,
+            listed,
+        })
+    }
+
+    /// How many cells' flow paths hold the place right after a cell of another tile.
+    pub fn inflow(&self, place: Place) -> u32
+        requires { IsWithin self.now.cutting place }
+        ensures { result ≡ inflow_in self.now place }
+    {
+        let number = rim_number(&self.tiling, place);
+        if is_place(rim_place(&self.tiling, number), place) {
+            self.listed[number as usize]
+        } else {
+            0
+        }
+    }
+
+    /// Adds to the weights of a tile's cells what flows in.
+    pub(crate) fn add_to(&self, tile: u32, weights: &mut [u32])
+        requires tile { tile < tile_count self.now.cutting }
+        requires size { length weights.old ≡ cell_count self.now.cutting tile }
+        requires fits { (p : AtPlace) → IsInBounds (bounds_of self.now.cutting tile) p →
+            slice_index weights.old (index_in (bounds_of self.now.cutting tile) p) + inflow_in self.now p < 2 ^ 32 }
+        ensures size { length weights.new ≡ length weights.old }
+        ensures each { (p : AtPlace) → IsInBounds (bounds_of self.now.cutting tile) p →
+            slice_index weights.new (index_in (bounds_of self.now.cutting tile) p)
+            ≡ slice_index weights.old (index_in (bounds_of self.now.cutting tile) p) + inflow_in self.now p }
+    {
+        add_all(&self.tiling, &self.listed, tile, weights);
+    }
+}
+
+// Adds what the numbers of a tile add to the weights of its cells.
+fn add_all(tiling: &Tiling, listed: &[u32], tile: u32, weights: &mut [u32])
+    requires tile { tile < tile_count tiling.now }
+    requires listed { length listed.now ≡ number_count tiling.now }
+    requires size { length weights.old ≡ cell_count tiling.now tile }
+    requires fits { (p : AtPlace) → IsInBounds (bounds_of tiling.now tile) p →
+        slice_index weights.old (index_in (bounds_of tiling.now tile) p) + inflow_by tiling.now listed.now p < 2 ^ 32 }
+    ensures size { length weights.new ≡ length weights.old }
+    ensures each { (p : AtPlace) → IsInBounds (bounds_of tiling.now tile) p →
+        slice_index weights.new (index_in (bounds_of tiling.now tile) p)
+        ≡ slice_index weights.old (index_in (bounds_of tiling.now tile) p) + inflow_by tiling.now listed.now p }
+{
+    let bounds = tiling.bounds(tile);
+    let (first, count) = numbers_of(tiling, tile);
+    for side in 0..count {
+        add_one(tiling, listed, bounds, first + side, weights);
+    }
+}
+
+// Adds what a number adds to the weight of its cell.
+fn add_one(tiling: &Tiling, listed: &[u32], bounds: Bounds, number: u32, weights: &mut [u32])
+    requires number { number < number_count tiling.now }
+    requires listed { length listed.now ≡ number_count tiling.now }
+    requires small { IsSmall bounds }
+    requires inside { AreBounds tiling.now bounds }
+    requires size { length weights.old ≡ bounds.rows * bounds.cols }
+    requires fits { (p : AtPlace) → IsInBounds bounds p →
+        slice_index weights.old (index_in bounds p) + adds tiling.now listed.now number p < 2 ^ 32 }
+    ensures size { length weights.new ≡ length weights.old }
+    ensures each { (p : AtPlace) → IsInBounds bounds p →
+        slice_index weights.new (index_in bounds p) ≡ slice_index weights.old (index_in bounds p) + adds tiling.now listed.now number p }
+{
+    let place = rim_place(tiling, number);
+    if stands_in(tiling, bounds, place, number) {
+        weights[index_of(bounds, place)] += listed[number as usize];
+    }
+}
+
+#[inline(always)]
+fn stands_in(tiling: &Tiling, bounds: Bounds, place: Place, number: u32) -> bool
+    requires { IsSmall bounds }
+    ensures { result ≡ (stands_for tiling.now place number && is_in_bounds bounds place) }
+{
+    stands_for(tiling, place, number) && contains(bounds, place)
+}
+
+// How many cells of its tile flow through the place, itself left out.
+#[inline(always)]
+fn through_at(tiling: &Tiling, flows: &[TileFlow], place: Place) -> Option<u32>
+    requires count { length flows.now ≡ tile_count tiling.now }
+    requires within { IsWithin tiling.now place }
+    ensures { result ≡ through_by tiling.now flows.now place }
+{
+    flows[tiling.tile_of(place) as usize].through(place)
+}
+
+// How many cells of its tile flow through an exit that leads into another tile; 0 for any other number.
+fn weight_of(tiling: &Tiling, flows: &[TileFlow], number: u32) -> u32
+    requires flows { (d : Directed) × AreFlowsOf d tiling.now flows.now }
+    requires number { number < number_count tiling.now }
+    ensures { result ≡ rim_weight tiling.now flows.now number }
+{
+    let Some(_) = target_of(tiling, flows, number) else {
+        return 0;
+    };
+    through_at(tiling, flows, rim_place(tiling, number)).unwrap_or(0) + 1
+}
+
+fn rim_weights(alloc: Global, tiling: &Tiling, flows: &[TileFlow]) -> Result<Vec<u32>, NoMemory>
+    requires { (d : Directed) × AreFlowsOf d tiling.now flows.now }
+    ensures { IfOk result (λ v. v.items ≡ rim_weights_by tiling.now flows.now) }
+{
+    let count = number_count(tiling);
+    let Ok(mut weights) = Vec::with_capacity(alloc, count as usize) else {
+        return Err(NoMemory);
+    };
+    for number in 0..count {
+        let weight = weight_of(tiling, flows, number);
+        if weights.push(weight).is_err() {
+            return Err(NoMemory);
+        }
+    }
+    Ok(weights)
+}
+
+// What enters at the place of each number.
+fn all_entering(
+    alloc: Global,
+    tiling: &Tiling,
+    flows: &[TileFlow],
+    weights: &[u32],
+    came: &[u32],
+) -> Result<Vec<u32>, NoMemory>
+    requires flows { (d : Directed) × AreFlowsOf d tiling.now flows.now }
+    requires weights { length weights.now ≡ number_count tiling.now }
+    requires came { length came.now ≡ number_count tiling.now }
+    requires amounts { (i : ℕ) → i < number_count tiling.now → slice_index came.now i + slice_index weights.now i < 2 ^ 32 }
+    requires few { (k : ℕ) → sum_below (entering tiling.now flows.now weights.now came.now k) (number_count tiling.now) < 2 ^ 32 }
+    ensures { IfOk result (λ v. AreEntering tiling.now flows.now weights.now came.now v.items) }
+{
+    let mut listed = zeros(alloc, number_count(tiling) as usize)?;
+    send_all(tiling, flows, weights, came, &mut listed);
+    Ok(listed)
+}
+
+fn send_all(tiling: &Tiling, flows: &[TileFlow], weights: &[u32], came: &[u32], listed: &mut [u32])
+    requires flows { (d : Directed) × AreFlowsOf d tiling.now flows.now }
+    requires weights { length weights.now ≡ number_count tiling.now }
+    requires came { length came.now ≡ number_count tiling.now }
+    requires amounts { (i : ℕ) → i < number_count tiling.now → slice_index came.now i + slice_index weights.now i < 2 ^ 32 }
+    requires few { (k : ℕ) → sum_below (entering tiling.now flows.now weights.now came.now k) (number_count tiling.now) < 2 ^ 32 }
+    requires none { AreNone (number_count tiling.now) listed.old }
+    ensures { AreEntering tiling.now flows.now weights.now came.now listed.new }
+{
+    for number in 0..number_count(tiling) {
+        let target = target_of(tiling, flows, number);
+        let amount = came[number as usize] + weights[number as usize];
+        send(tiling, target, amount, listed);
+    }
+}
+
+// Adds what enters at a place to what its number has.
+fn send(tiling: &Tiling, target: Option<Place>, amount: u32, listed: &mut [u32])
+    requires within { IfSome target (IsWithin tiling.now) }
+    requires size { length listed.old ≡ number_count tiling.now }
+    requires fits { (k : ℕ) → k < number_count tiling.now → slice_index listed.old k + sent_to tiling.now k target amount < 2 ^ 32 }
+    ensures size { length listed.new ≡ length listed.old }
+    ensures each { (k : ℕ) → k < number_count tiling.now →
+        slice_index listed.new k ≡ slice_index listed.old k + sent_to tiling.now k target amount }
+{
+    let Some(entry) = target else {
+        return;
+    };
+    listed[rim_number(tiling, entry) as usize] += amount;
+}
