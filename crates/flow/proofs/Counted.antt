@@ -6,13 +6,12 @@ use Rattle.std.proofs.lemmas.Bool.{cases_lt, cases_Bool, cond-true, cond-false}
 use Rattle.std.proofs.lemmas.List.{get_or-map, get_or_past}
 use Rattle.std.proofs.lemmas.List.FromFn.{get_or-map-range_with_len, length-map-range_with_len}
 use Rattle.ascii_grid.specs.declared.place.Place.{Place}
-use Rattle.tiles.specs.declared.bounds.Bounds.{Bounds}
-use Rattle.tiles.specs.Cutting.{Cutting, View, IsInBounds, AreBounds, tile_count, cell_count, bounds_of, tile_entry}
+use Rattle.tiles.specs.Cutting.{Cutting, IsInBounds, AreBounds, tile_count, bounds_of}
 use Rattle.tiles.proofs.Cut.{in_bounds}
 use Rattle.tiles.proofs.TileOrder.{index_in_below, index_in-place_in, place_in-index_in, tile_entry-in}
-use Rattle.drain.specs.Following.{Directed, code_at}
+use Rattle.drain.specs.Following.{code_at}
 use Rattle.flow.specs.Counts.{accumulation}
-use Rattle.flow.specs.Streams.{AreStreams, AreUpstream, sum_below, total}
+use Rattle.flow.specs.Streams.{AreStreams, AreUpstream, total}
 use Rattle.flow.specs.TileLinks.{AreTileCodes, place_in, index_in, weight_in, links_by, weights_by, where_data}
 use Rattle.flow.specs.TileMaps.{IsTileMapOf}
 use Rattle.flow.specs.Whole.{make_directed}

@@ -1,11 +1,9 @@
 -- Sums over two numbers, and shares of sums.
-use Rattle.std.proofs.Common.{◌≡◌, ◌≢◌, ℕ, zero, suc, ◌+◌, ◌<◌, ◌≤◌, ◌⊎◌, inl, inr, List, sym, ap, refl, ◌∙◌, arith}
-use Rattle.std.proofs.lemmas.Bool.{cases_eq, eq-eqb, ne_eqb, cond-true, cond-false}
-use Rattle.flow.specs.Streams.{onward, node_after, sum_below, share}
+use Rattle.std.proofs.Common.{◌≡◌, ◌≢◌, ℕ, zero, suc, ◌+◌, ◌<◌, inl, inr, List, sym, ap, refl, ◌∙◌, arith}
+use Rattle.flow.specs.Streams.{sum_below, share}
 use Rattle.flow.proofs.Sums.{sum_below-same, sum_below-add, sum_below-except}
 use Rattle.flow.proofs.Windows.{sum_below-none}
-use Rattle.flow.proofs.Ending.{node_after-first}
-use Rattle.flow.proofs.EarlyEnds.{share-some}
+use Rattle.flow.proofs.EarlyEnds.{cases_reach, share-some}
 
 -- sums over two numbers in either order
 pub exchange : (f : ℕ → ℕ → ℕ) (n m : ℕ) → sum_below (λ i. sum_below (f i) m) n ≡ sum_below (λ j. sum_below (λ i. f i j) n) m
@@ -15,20 +13,6 @@ exchange f (suc n) m = ap (λ k. k + sum_below (f n) m) (exchange f n m) ∙ sym
 -- a sum with one term above 0
 pub one_term : (f : ℕ → ℕ) (n i : ℕ) → i < n → ((j : ℕ) → j < n → j ≢ i → f j ≡ 0) → sum_below f n ≡ f i
 one_term f n i h none = omega (arith, sum_below-except f (λ _. 0) n i h none, sum_below-none (λ _. 0) n (λ j l. refl))
-
--- a node's path leads to another, or it has no share of it
-pub cases_reach : (links : List ℕ) (n from to : ℕ) → ((k : ℕ) × (k ≤ n) × (node_after links from k ≡ to)) ⊎ ((w : ℕ) → share links n from to w ≡ 0)
-cases_reach links zero from to = elim (cases_eq from to) [
-  | inl s ↦ inl (0, omega arith, s)
-  | inr ne ↦ inr (λ w. cond-false _ _ _ (ne_eqb _ _ ne))
-]
-cases_reach links (suc n) from to = elim (cases_eq from to) [
-  | inl s ↦ inl (0, omega arith, s)
-  | inr ne ↦ elim (cases_reach links n (onward links from) to) [
-    | inl r ↦ inl (suc r.0, omega (arith, r.1), sym (node_after-first links from r.0) ∙ r.2)
-    | inr z ↦ inr (λ w. cond-false _ _ _ (ne_eqb _ _ ne) ∙ z w)
-  ]
-]
 
 pub share-sum : (links : List ℕ) (k from to : ℕ) (f : ℕ → ℕ) (n : ℕ) → share links k from to (sum_below f n) ≡ sum_below (λ q. share links k from to (f q)) n
 share-sum links k from to f n = elim (cases_reach links k from to) [

@@ -92,15 +92,22 @@ share-some links (suc n) from to w (suc k) le e = elim (cases_eq from to) [
   | inr ne ↦ cond-false _ _ _ (ne_eqb _ _ ne) ∙ share-some links n (onward links from) to w k (omega arith) (node_after-first links from k ∙ e)
 ]
 
-pub share-cases : (links : List ℕ) (n from to w : ℕ) → ((k : ℕ) × (k ≤ n) × (node_after links from k ≡ to)) ⊎ (share links n from to w ≡ 0)
-share-cases links zero from to w = elim (cases_eq from to) [
+-- a node's path leads to another, or it has no share of it
+pub cases_reach : (links : List ℕ) (n from to : ℕ) → ((k : ℕ) × (k ≤ n) × (node_after links from k ≡ to)) ⊎ ((w : ℕ) → share links n from to w ≡ 0)
+cases_reach links zero from to = elim (cases_eq from to) [
   | inl s ↦ inl (0, omega arith, s)
-  | inr ne ↦ inr (cond-false _ _ _ (ne_eqb _ _ ne))
+  | inr ne ↦ inr (λ w. cond-false _ _ _ (ne_eqb _ _ ne))
 ]
-share-cases links (suc n) from to w = elim (cases_eq from to) [
+cases_reach links (suc n) from to = elim (cases_eq from to) [
   | inl s ↦ inl (0, omega arith, s)
-  | inr ne ↦ elim (share-cases links n (onward links from) to w) [
+  | inr ne ↦ elim (cases_reach links n (onward links from) to) [
     | inl r ↦ inl (suc r.0, omega (arith, r.1), sym (node_after-first links from r.0) ∙ r.2)
-    | inr z ↦ inr (cond-false _ _ _ (ne_eqb _ _ ne) ∙ z)
+    | inr z ↦ inr (λ w. cond-false _ _ _ (ne_eqb _ _ ne) ∙ z w)
   ]
+]
+
+pub share-cases : (links : List ℕ) (n from to w : ℕ) → ((k : ℕ) × (k ≤ n) × (node_after links from k ≡ to)) ⊎ (share links n from to w ≡ 0)
+share-cases links n from to w = elim (cases_reach links n from to) [
+  | inl r ↦ inl r
+  | inr z ↦ inr (z w)
 ]

@@ -1,11 +1,11 @@
 -- Inflows and outlets joined.
-use Rattle.std.proofs.Common.{◌≡◌, ℕ, true, cond, inl, inr, List, Option, None, Some, sym, ap, ◌∙◌}
+use Rattle.std.proofs.Common.{◌≡◌, true, inl, inr, List, Option, None, sym, ap, ◌∙◌}
 use Rattle.std.proofs.lemmas.Bool.{cases_Bool, and_from, and_parts, lt-ltb, ltb-true, cond-true, cond-false}
 use Rattle.ascii_grid.specs.declared.place.Place.{Place}
 use Rattle.tiles.specs.Cutting.{Cutting, IsWithin, is_within}
 use Rattle.drain.specs.Following.{Directed}
 use Rattle.flow.specs.TileFlow.{Flow}
-use Rattle.flow.specs.RimGraph.{AreFlowsOf, Outlets, AreOutlets, outlet_by, outlet_in}
+use Rattle.flow.specs.RimGraph.{AreFlowsOf, Outlets, AreOutlets, outlet_by}
 use Rattle.flow.specs.Inflows.{Inflows, AreInflows, inflow_by}
 use Rattle.flow.specs.Links.{AreLinks}
 use Rattle.flow.proofs.Coded.{coded_from_some}

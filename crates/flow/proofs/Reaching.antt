@@ -1,5 +1,5 @@
 -- Where each flow path ends, none comes back to a place, and each is as short as the grid has cells.
-use Rattle.std.proofs.Common.{◌≡◌, ◌≢◌, ℕ, zero, suc, ◌+◌, ◌-◌, ◌*◌, ◌<◌, ◌≤◌, inl, inr, List, map, length, sym, ap, subst, refl, ◌∙◌, arith, mul_comm}
+use Rattle.std.proofs.Common.{◌≡◌, ◌≢◌, ℕ, suc, ◌+◌, ◌-◌, ◌*◌, ◌<◌, ◌≤◌, inl, inr, List, map, length, sym, ap, subst, refl, ◌∙◌, arith, mul_comm}
 use Rattle.std.specs.List.{range_with_len, sum_by}
 use Rattle.std.proofs.Math.Nat.{mul-le-mul}
 use Rattle.std.proofs.lemmas.Bool.{cases_lt}
@@ -18,11 +18,11 @@ use Rattle.flow.specs.Streams.{AreStreams, node_after, sum_below}
 use Rattle.flow.specs.TileLinks.{place_in, index_in, link_in}
 use Rattle.flow.proofs.Sums.{sum_below-same}
 use Rattle.flow.proofs.Windows.{sum_by_places, sum_in_rows, row_sum}
-use Rattle.flow.proofs.EarlyEnds.{IsStop, within, early_end, stays_from}
+use Rattle.flow.proofs.EarlyEnds.{within, early_end, stays_from}
 use Rattle.flow.proofs.Coded.{IsCoded, coded_along, coded_inside, outlet_stays}
 use Rattle.flow.proofs.InTile.{IsPiece, in_step, tile_streams}
 use Rattle.flow.proofs.OneTile.{whole_bounds, one_tile, one_piece, whole_is}
-use Rattle.flow.proofs.RimFlows.{StopsAt, stops_sooner, follow_more}
+use Rattle.flow.proofs.RimFlows.{cycle_stops, follow_more}
 
 -- a map of directions within the limits, whose flow paths end
 pub record IsEnding (d : Directed) : Type 0 where
@@ -45,11 +45,6 @@ sum_of_cells f cols rows =
         let a : r ≡ 0 + r = omega arith in
         let b : c ≡ 0 + c = omega arith in
         ap (λ n. f (make_place n c)) a ∙ ap (λ n. f (make_place (0 + r) n)) b
-
--- a path that comes back to a place stays there
-pub cycle_stops : (d : Directed) (n : ℕ) (p : Place) (k : ℕ) → follow d p (suc k) ≡ p → StopsAt d p n → next d p ≡ p
-cycle_stops d zero p k way stop = stop
-cycle_stops d (suc n) p k way stop = cycle_stops d n p k way (stops_sooner d p p k n way stop)
 
 module _ (d : Directed) (s : IsEnding d) where
   pub again_stops : (c : Place) → IsCoded d c → (a b : ℕ) → a < b → follow d c a ≡ follow d c b → next d (follow d c a) ≡ follow d c a

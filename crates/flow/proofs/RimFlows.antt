@@ -75,6 +75,11 @@ stops_sooner d p e k n way stop =
     ap (λ (q : Place). follow d q n) (sym way) ∙ follow_more d p (suc k) n ∙ follow_stays d p (suc n) (suc k + n) (omega arith) stop in
     ap (next d) later ∙ stop ∙ sym later
 
+-- a path that comes back to a place stays there
+pub cycle_stops : (d : Directed) (n : ℕ) (p : Place) (k : ℕ) → follow d p (suc k) ≡ p → StopsAt d p n → next d p ≡ p
+cycle_stops d zero p k way stop = stop
+cycle_stops d (suc n) p k way stop = cycle_stops d n p k way (stops_sooner d p p k n way stop)
+
 module _ (d : Directed) (t : Cutting) (flows : List Flow) (s : AreFlowsOf d t flows) where
   pub within_of : (p : Place) → IsCoded d p → IsWithin t p
   within_of p is = let z = coded_inside d p is in (omega (arith, z.0, s.of_tiles.size.1), omega (arith, z.1, s.of_tiles.size.0))
@@ -327,8 +332,7 @@ module _ (d : Directed) (t : Cutting) (flows : List Flow) (s : AreFlowsOf d t fl
   to_below p c = number_below t s.cutting p (within_of p c.coded)
 
   no_cycle : (n : ℕ) (p e : Place) (k : ℕ) → follow d p (suc k) ≡ e → e ≡ p → Crosses p → StopsAt d p n → ⊥
-  no_cycle zero p e k way same c stop = c.apart (ap (tile_of_place t) stop)
-  no_cycle (suc n) p e k way same c stop = no_cycle n p e k way same c (subst (λ (q : Place). StopsAt d q n) same (stops_sooner d p e k n way stop))
+  no_cycle n p e k way same c stop = c.apart (ap (tile_of_place t) (cycle_stops d n p k (way ∙ same) stop))
 
   module _ (links : List ℕ) (made : links ≡ rim_links_by t flows) where
     pub links_size : length links ≡ number_count t

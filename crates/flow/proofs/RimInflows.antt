@@ -1,31 +1,29 @@
 -- What enters a tile at a place is the place's inflow.
-use Rattle.std.proofs.Common.{◌≡◌, ◌≢◌, ℕ, suc, ◌+◌, ◌-◌, ◌*◌, ◌<◌, ◌≤◌, ◌⊎◌, inl, inr, Bool, true, false, cond, not, ◌&&◌, eqb, List, length, get_or, Option, None, Some, is_some, sym, ap, subst, refl, ◌∙◌, arith}
+use Rattle.std.proofs.Common.{◌≡◌, ◌≢◌, ℕ, suc, ◌+◌, ◌-◌, ◌*◌, ◌<◌, ◌≤◌, ◌⊎◌, inl, inr, true, cond, eqb, List, get_or, Option, None, Some, is_some, sym, ap, subst, refl, ◌∙◌, arith}
 use Rattle.std.specs.List.{list_any, range_with_len}
 use Rattle.std.proofs.Math.Nat.{mul-le-mul}
-use Rattle.std.proofs.lemmas.Bool.{cases_eq, cases_order, cases_Bool, and_from, and_parts, and_left, and_right, eq-eqb, ne_eqb, eqb-true, cond-true, cond-false, not_from_false, not-true, false_from_ne_true, false≢true}
-use Rattle.std.proofs.lemmas.Option.{same_Some}
+use Rattle.std.proofs.lemmas.Bool.{cases_eq, cases_order, cases_Bool, and_from, and_parts, and_left, and_right, eq-eqb, ne_eqb, eqb-true, cond-true, cond-false, not_from_false, not-true, false≢true}
 use Rattle.ascii_grid.specs.declared.place.Place.{Place}
-use Rattle.tiles.specs.Cutting.{Cutting, IsWithin, IsInBounds, bounds_of, tile_of_place}
+use Rattle.tiles.specs.Cutting.{Cutting, IsWithin, bounds_of, tile_of_place}
 use Rattle.tiles.proofs.Cut.{in_bounds, in_tile, tile_of_place_below}
 use Rattle.drain.specs.Following.{Directed, code_at, next, follow, moves}
 use Rattle.flow.specs.Counts.{is_place, drains_through}
-use Rattle.flow.specs.Streams.{AreUpstream, sum_below, total}
+use Rattle.flow.specs.Streams.{AreUpstream, sum_below}
 use Rattle.flow.specs.TileFlow.{Flow, inflow_of}
 use Rattle.flow.specs.RimNumbers.{number_count, rim_number, rim_place}
 use Rattle.flow.specs.RimGraph.{AreFlowsOf, target_by, rim_links_by}
-use Rattle.flow.specs.Inflows.{rim_weights_by, sent_to, entering, AreEntering, Inflows, inflow_by, AreInflows}
+use Rattle.flow.specs.Inflows.{rim_weights_by, sent_to, entering, AreEntering, inflow_by, AreInflows}
 use Rattle.flow.proofs.Sums.{sum_below-same, sum_below-few}
 use Rattle.flow.proofs.Windows.{sum_below-none}
 use Rattle.flow.proofs.DoubleSums.{exchange, one_term}
 use Rattle.flow.proofs.Ranges.{some_in_range, any_in_range}
 use Rattle.flow.proofs.Coded.{IsCoded, coded_along, coded_from_some, follow_stays}
 use Rattle.flow.proofs.Through.{place_test, place_from_test}
-use Rattle.flow.proofs.OneTile.{whole_bounds}
 use Rattle.flow.proofs.RimNumbered.{IsSide, number_below, number_back}
-use Rattle.flow.proofs.RimFlows.{Crosses, cases_target, within_of, touching, back, target_on, target_from, target_within, to_below, links_size}
+use Rattle.flow.proofs.RimFlows.{Crosses, cases_target, within_of, touching, back, target_on, target_from, to_below, links_size}
 use Rattle.flow.proofs.Reaching.{again_stops, early_move}
 use Rattle.flow.proofs.Gathering.{cell, drained, all_drained, drained_on, drained_off, drained_none, enters, entered, entered_le, inflow_sum}
-use Rattle.flow.proofs.RimTotals.{ending, drains_at, drains_from, weights_size, total_is, total_none}
+use Rattle.flow.proofs.RimTotals.{ending, drains_at, drains_from, total_is}
 
 pub sent-none : (t : Cutting) (k : ℕ) (o : Option Place) → sent_to t k o 0 ≡ 0
 sent-none t k None = refl

@@ -3,27 +3,25 @@ use Rattle.std.proofs.Common.{◌≡◌, ◌≢◌, ℕ, zero, suc, ◌+◌, ◌
 use Rattle.std.specs.Option.{option_and_then}
 use Rattle.std.proofs.lemmas.Option.{none-some}
 use Rattle.std.proofs.lemmas.List.FromFn.{get_or-map-range_with_len, length-map-range_with_len}
-use Rattle.std.proofs.lemmas.Bool.{cases_eq, cases_lt, cases_Bool, and_from, and_parts, eqb-true, cond-true, cond-false, false_from_ne_true, false≢true}
+use Rattle.std.proofs.lemmas.Bool.{cases_eq, cases_lt, cases_Bool, and_from, and_parts, eqb-true, cond-false, false≢true}
 use Rattle.ascii_grid.specs.declared.place.Place.{Place}
 use Rattle.tiles.specs.Cutting.{Cutting, tile_of_place}
 use Rattle.drain.specs.Following.{Directed, code_at, next, follow, moves}
 use Rattle.flow.specs.Counts.{is_place, drains_through}
 use Rattle.flow.specs.Streams.{onward, node_after, sum_below, share, total}
 use Rattle.flow.specs.TileFlow.{Flow, stays, reaches_inside, IsExitOf, through_in}
-use Rattle.flow.specs.Whole.{is_outlet_code}
 use Rattle.flow.specs.RimNumbers.{number_count, rim_number, rim_place}
 use Rattle.flow.specs.RimGraph.{AreFlowsOf, target_by, way_out_by, number_or, rim_links_by}
 use Rattle.flow.specs.Inflows.{rim_weight, rim_weights_by, weight_or, through_by}
 use Rattle.flow.proofs.Sums.{sum_below-same}
 use Rattle.flow.proofs.Windows.{sum_below-none}
-use Rattle.flow.proofs.DoubleSums.{exchange, one_term, cases_reach, share-sum, share-none}
+use Rattle.flow.proofs.DoubleSums.{exchange, one_term, share-sum, share-none}
 use Rattle.flow.proofs.Ranges.{some_in_range, any_in_range, every_in_range}
-use Rattle.flow.proofs.EarlyEnds.{within, share-some}
+use Rattle.flow.proofs.EarlyEnds.{cases_reach, within, share-some}
 use Rattle.flow.proofs.Ending.{node_after-first, node_after-inside}
 use Rattle.flow.proofs.Coded.{IsCoded, coded_along, coded_from_some, outlet_stays, follow_stays}
 use Rattle.flow.proofs.Through.{place_test, place_from_test}
-use Rattle.flow.proofs.OneTile.{whole_bounds}
-use Rattle.flow.proofs.RimFlows.{Crosses, cases_target, from_some, HasFlow, flow_of, within_of, back, target_on, target_from, exit_here, not_outlet, to_below, targets_on, follow_more, links_size, link_at, rim_streams}
+use Rattle.flow.proofs.RimFlows.{Crosses, cases_target, from_some, flow_of, within_of, back, target_on, target_from, exit_here, not_outlet, to_below, targets_on, follow_more, links_size, link_at, rim_streams}
 use Rattle.flow.proofs.Reaching.{IsEnding, reached_early}
 use Rattle.flow.proofs.Gathering.{cell, drained, all_drained, drained_on, drained_off, drained_none, gathered, all_gathered, gathered_on, gathered_off, gathered_none, through_is, drained_few, gathered_few}
 

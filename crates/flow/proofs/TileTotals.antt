@@ -1,8 +1,8 @@
 -- What comes through a cell from its own tile and from what enters the tile is all that comes through it.
-use Rattle.std.proofs.Common.{◌≡◌, ◌≢◌, ℕ, zero, suc, ◌+◌, ◌-◌, ◌*◌, ◌<◌, ◌≤◌, ◌⊎◌, inl, inr, Bool, true, false, cond, not, ◌&&◌, eqb, List, map, length, get_or, None, is_some, sym, ap, subst, refl, ◌∙◌, arith}
+use Rattle.std.proofs.Common.{◌≡◌, ◌≢◌, ℕ, zero, suc, ◌+◌, ◌-◌, ◌*◌, ◌<◌, ◌≤◌, ◌⊎◌, inl, inr, false, ◌&&◌, eqb, List, map, length, get_or, None, is_some, sym, ap, subst, ◌∙◌, arith}
 use Rattle.std.specs.List.{list_any, range_with_len}
 use Rattle.std.proofs.lemmas.Option.{none-some}
-use Rattle.std.proofs.lemmas.Bool.{cases_eq, cases_lt, cases_order, cases_Bool, and_from, and_parts, eq-eqb, ne_eqb, eqb-true, cond-true, cond-false, not_from_false, not-true, false≢true}
+use Rattle.std.proofs.lemmas.Bool.{cases_eq, cases_lt, cases_order, cases_Bool, and_from, and_parts, eq-eqb, ne_eqb, eqb-true, cond-false, not_from_false, not-true, false≢true}
 use Rattle.std.proofs.lemmas.List.FromFn.{get_or-map-range_with_len, length-map-range_with_len}
 use Rattle.ascii_grid.specs.declared.place.Place.{Place}
 use Rattle.tiles.specs.declared.bounds.Bounds.{Bounds}
@@ -15,9 +15,9 @@ use Rattle.flow.specs.TileFlow.{stays, reaches_inside, inflow_of}
 use Rattle.flow.specs.TileLinks.{place_in, index_in, weight_in, AreTileWeights}
 use Rattle.flow.proofs.Sums.{sum_below-same, sum_below-add}
 use Rattle.flow.proofs.Windows.{sum_below-none}
-use Rattle.flow.proofs.DoubleSums.{exchange, one_term, cases_reach, share-sum, share-add, share-none}
+use Rattle.flow.proofs.DoubleSums.{exchange, one_term, share-sum, share-add, share-none}
 use Rattle.flow.proofs.Ranges.{some_in_range, any_in_range, every_in_range}
-use Rattle.flow.proofs.EarlyEnds.{within, share-some}
+use Rattle.flow.proofs.EarlyEnds.{cases_reach, within, share-some}
 use Rattle.flow.proofs.Coded.{IsCoded, cases_coded, coded_along, coded_some, coded_from_some, follow_stays}
 use Rattle.flow.proofs.InTile.{IsPiece, cases_bounds, in_place, in_step, tracks, tile_streams, coded_within}
 use Rattle.flow.proofs.Through.{place_test, place_from_test, stays_from_way, way_from_stays, total_is}

@@ -1,4 +1,4 @@
-use Rattle.std.proofs.Common.{ℕ, List, Option, Vec, Global, subst, sym, refl, ◌∙◌, rules}
+use Rattle.std.proofs.Common.{ℕ, List, Option, Vec, Global, subst, sym, refl, rules}
 use Rattle.tiles.specs.Cutting.{AreTileLists, IsPutBack}
 use Rattle.drain.specs.Following.{Directed}
 use Rattle.flow.specs.Counts.{accumulation}

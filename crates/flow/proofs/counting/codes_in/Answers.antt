@@ -1,4 +1,4 @@
-use Rattle.std.proofs.Common.{ℕ, List, Option, Vec, Global, subst}
+use Rattle.std.proofs.Common.{ℕ, Option, Vec, Global, subst}
 use Rattle.std.proofs.lemmas.Result.{IfOk-weaker}
 use Rattle.tiles.specs.Cutting.{View, bounds_of}
 use Rattle.flow.specs.TileFlow.{directed_by}

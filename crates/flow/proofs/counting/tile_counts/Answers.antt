@@ -1,4 +1,4 @@
-use Rattle.std.proofs.Common.{◌≡◌, ℕ, ◌+◌, ◌^◌, ◌<◌, ◌*◌, List, length, get_or, Option, Vec, Global, subst, sym, ap, ◌∙◌, arith}
+use Rattle.std.proofs.Common.{◌≡◌, ℕ, ◌*◌, List, length, get_or, Option, Vec, Global, subst, sym, ap, ◌∙◌, arith}
 use Rattle.std.proofs.lemmas.Result.{IfOk-weaker}
 use Rattle.tiles.specs.declared.bounds.Bounds.{Bounds}
 use Rattle.tiles.specs.Cutting.{Cutting, IsInBounds, AreBounds, cell_count, bounds_of}
@@ -7,7 +7,6 @@ use Rattle.flow.specs.Streams.{AreStreams, AreUpstream, total}
 use Rattle.flow.specs.TileLinks.{links_by}
 use Rattle.flow.specs.TileMaps.{IsTileMapOf}
 use Rattle.flow.specs.Whole.{make_directed}
-use Rattle.flow.specs.Inflows.{inflow_in}
 use Rattle.flow.specs.Counting.{AreRimWeights, counts_by}
 use Rattle.flow.proofs.Counted.{streams_of, few_of, same_sizes, inflow_few, totals_few, sums_few, tile_counted}
 use Rattle.flow.proofs.counting.tile_counts.Goals as goal

@@ -5,7 +5,6 @@ use Rattle.flow.specs.TileFlow.{is_in_bounds}
 use Rattle.flow.specs.TileLinks.{index_in}
 use Rattle.flow.specs.RimNumbers.{rim_place}
 use Rattle.flow.specs.RimGraph.{stands_for}
-use Rattle.flow.specs.Inflows.{adds}
 use Rattle.flow.proofs.InTile.{bounds_from_test}
 use Rattle.flow.proofs.RimAdded.{added, unadded, own_adds}
 use Rattle.flow.proofs.inflows.add_one.Goals as goal

@@ -1,4 +1,4 @@
-use Rattle.std.proofs.Common.{◌≡◌, ℕ, ◌+◌, ◌^◌, ◌<◌, List, length, get_or, subst, sym, ap, ◌∙◌, arith}
+use Rattle.std.proofs.Common.{ℕ, List, length, get_or, subst, sym, ap, ◌∙◌, arith}
 use Rattle.flow.specs.Streams.{AreUpstream, sum_below}
 use Rattle.flow.specs.RimNumbers.{number_count}
 use Rattle.flow.specs.Inflows.{AreEntering, entering}
