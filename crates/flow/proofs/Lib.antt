@@ -24,3 +24,4 @@ pub mod RimNumbered
 pub mod RimFlows
 pub mod Together
 pub mod Numbered
+pub mod Listed

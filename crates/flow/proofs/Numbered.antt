@@ -147,7 +147,3 @@ module _ (d : Directed) (t : Cutting) (flows : List Flow) (o : Outlets) (numbers
     count = s.are_flows.of_tiles.count;
     exits = λ tile f there i. subst (λ (b : Bounds). IfSome (get_or f.exits i None) (IsExitOfTile o numbers b)) (sym (bounds_are tile f there)) (exits_of_tile tile f there i);
   }
-
-pub some_weaker : {X : Type 0} (o : Option X) (P Q : X → Type 0) → ((x : X) → P x → Q x) → IfSome o P → IfSome o Q
-some_weaker None P Q f h = tt
-some_weaker (Some x) P Q f h = f x h

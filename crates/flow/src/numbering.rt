@@ -13,7 +13,7 @@ ghost use Rattle.flow.specs.RimGraph.{outlet_in};
 ghost use Rattle.flow.specs.TileMaps.{IsTileMapOf, AreTileMapsOf};
 ghost use Rattle.flow.specs.Numbering.{IsNumbering, AreReady, IsExitOfTile, number_at, label_by, labels_by, label_at, numbered_by};
 
-use crate::cells::index_of;
+use crate::cells::place_at;
 use crate::flowing::{codes_of, flow_tiles};
 use crate::outlets::Outlets;
 use crate::tile::{TileFlow, is_outlet};
@@ -23,7 +23,7 @@ use std::alloc::Global;
 use std::sync::Wait;
 use std::thread::Threads;
 use tile_jobs::{Gate, JobFault, Work, run_jobs};
-use tiles::{Bounds, Tiling};
+use tiles::Tiling;
 
 /// Numbers the cells of each tile.
 #[derive(Drop)]
@@ -150,9 +150,8 @@ fn tile_basins(
         IsTileMapOf d tiling.now tile (basin d) v.items) }
 {
     let flow = &flows[tile as usize];
-    let bounds = flow.bounds();
-    let labels = exit_labels(alloc, tiling, outlets, numbers, bounds, flow.exits())?;
-    numbered(alloc, bounds, flow.exits(), &labels)
+    let labels = exit_labels(alloc, tiling, outlets, numbers, flow)?;
+    numbered(alloc, flow, &labels)
 }
 
 // The number of the outlet of each exit, at its own index.
@@ -161,20 +160,17 @@ fn exit_labels(
     tiling: &Tiling,
     outlets: &Outlets<'_>,
     numbers: &[u32],
-    bounds: Bounds,
-    exits: &[Option<Place>],
+    flow: &TileFlow,
 ) -> Result<Vec<u32>, NoMemory>
-    requires small { IsSmall bounds }
     requires cutting { outlets.now.cutting ≡ tiling.now }
-    requires exits { (i : ℕ) → IfSome (slice_index_or exits.now i None) (IsExitOfTile outlets.now numbers.now bounds) }
-    ensures { IfOk result (λ v. v.items ≡ labels_by numbers.now outlets.now bounds exits.now) }
+    requires exits { (i : ℕ) → IfSome (slice_index_or flow.now.exits i None) (IsExitOfTile outlets.now numbers.now flow.now.bounds) }
+    ensures { IfOk result (λ v. v.items ≡ labels_by numbers.now outlets.now flow.now.bounds flow.now.exits) }
 {
-    let Ok(mut labels) = Vec::with_capacity(alloc, exits.len()) else {
+    let Ok(mut labels) = Vec::with_capacity(alloc, flow.cell_count()) else {
         return Err(NoMemory);
     };
-    for index in 0..exits.len() {
-        let exit = exits[index];
-        let label = label_of(tiling, outlets, numbers, bounds, index, exit);
+    for index in 0..flow.cell_count() {
+        let label = label_of(tiling, outlets, numbers, flow, index);
         if labels.push(label).is_err() {
             return Err(NoMemory);
         }
@@ -187,22 +183,21 @@ fn label_of(
     tiling: &Tiling,
     outlets: &Outlets<'_>,
     numbers: &[u32],
-    bounds: Bounds,
+    flow: &TileFlow,
     index: usize,
-    exit: Option<Place>,
 ) -> u32
-    requires small { IsSmall bounds }
     requires cutting { outlets.now.cutting ≡ tiling.now }
-    requires exit { IfSome exit (IsExitOfTile outlets.now numbers.now bounds) }
-    ensures { result ≡ label_by numbers.now outlets.now bounds index exit }
+    requires index { index < length flow.now.exits }
+    requires exit { IfSome (slice_index_or flow.now.exits index None) (IsExitOfTile outlets.now numbers.now flow.now.bounds) }
+    ensures { result ≡ label_by numbers.now outlets.now flow.now.bounds index (slice_index_or flow.now.exits index None) }
 {
-    let Some(exit) = exit else {
+    let Some(exit) = flow.exit_index(index) else {
         return 0;
     };
-    if index_of(bounds, exit) != index {
+    if exit as usize != index {
         return 0;
     }
-    number_of(tiling, outlets, numbers, exit)
+    number_of(tiling, outlets, numbers, place_at(flow.bounds(), exit))
 }
 
 // The number of the outlet of an exit.
@@ -221,22 +216,15 @@ fn number_of(tiling: &Tiling, outlets: &Outlets<'_>, numbers: &[u32], exit: Plac
 }
 
 // The label of each cell's exit.
-fn numbered(
-    alloc: Global,
-    bounds: Bounds,
-    exits: &[Option<Place>],
-    labels: &[u32],
-) -> Result<Vec<Option<u32>>, NoMemory>
-    requires small { IsSmall bounds }
-    requires size { length labels.now ≡ bounds.rows * bounds.cols }
-    requires exits { (i : ℕ) → IfSome (slice_index_or exits.now i None) (IsInBounds bounds) }
-    ensures { IfOk result (λ v. v.items ≡ numbered_by bounds labels.now exits.now) }
+fn numbered(alloc: Global, flow: &TileFlow, labels: &[u32]) -> Result<Vec<Option<u32>>, NoMemory>
+    requires { length labels.now ≡ length flow.now.exits }
+    ensures { IfOk result (λ v. v.items ≡ numbered_by flow.now.bounds labels.now flow.now.exits) }
 {
-    let Ok(mut values) = Vec::with_capacity(alloc, exits.len()) else {
+    let Ok(mut values) = Vec::with_capacity(alloc, labels.len()) else {
         return Err(NoMemory);
     };
-    for index in 0..exits.len() {
-        let value = label_at(bounds, labels, exits[index]);
+    for index in 0..labels.len() {
+        let value = label_at(flow, labels, index);
         if values.push(value).is_err() {
             return Err(NoMemory);
         }
@@ -245,14 +233,13 @@ fn numbered(
 }
 
 #[inline(always)]
-fn label_at(bounds: Bounds, labels: &[u32], exit: Option<Place>) -> Option<u32>
-    requires small { IsSmall bounds }
-    requires size { length labels.now ≡ bounds.rows * bounds.cols }
-    requires exit { IfSome exit (IsInBounds bounds) }
-    ensures { result ≡ label_at bounds labels.now exit }
+fn label_at(flow: &TileFlow, labels: &[u32], index: usize) -> Option<u32>
+    requires size { length labels.now ≡ length flow.now.exits }
+    requires index { index < length labels.now }
+    ensures { result ≡ label_at flow.now.bounds labels.now (slice_index_or flow.now.exits index None) }
 {
-    match exit {
-        Some(exit) => Some(labels[index_of(bounds, exit)]),
+    match flow.exit_index(index) {
+        Some(exit) => Some(labels[exit as usize]),
         None => None,
     }
 }
