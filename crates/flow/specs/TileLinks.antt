@@ -48,8 +48,12 @@ link_by b i code =
     let q = unwrap_or (option_and_then (λ c. place_toward c p) code) p in
     if is_in_bounds b q then index_in b q else i
 
+-- of the first cells, and of all
+abbrev pub first_links : Bounds → List (Option ℕ) → ℕ → List ℕ
+first_links b cells count = map (λ i. link_by b i (slice_index_or cells i None)) (range_with_len 0 count)
+
 abbrev pub links_by : Bounds → List (Option ℕ) → List ℕ
-links_by b cells = map (λ i. link_by b i (slice_index_or cells i None)) (range_with_len 0 (b.rows * b.cols))
+links_by b cells = first_links b cells (b.rows * b.cols)
 
 abbrev pub weights_by : List (Option ℕ) → List ℕ
 weights_by cells = map (λ code. if is_some code then 1 else 0) cells

@@ -1,11 +1,11 @@
 // The cells of a tile, numbered in its row order, and the cells to which their water goes on.
-ghost use Rattle.std.specs.Prelude.{◌≡◌, ◌+◌, ◌-◌, ◌*◌, ◌^◌, ◌<◌, ◌≤◌, ℕ, length, Some, IfOk, unwrap_or, option_and_then, if◌then◌else◌};
+ghost use Rattle.std.specs.Prelude.{◌≡◌, ◌+◌, ◌-◌, ◌*◌, ◌^◌, ◌<◌, ◌≤◌, ℕ, length, Some, IfOk, OnOk, unwrap_or, option_and_then, if◌then◌else◌};
 ghost use Rattle.ascii_grid.specs.Ways.{before, place_of, place_toward};
 ghost use Rattle.tiles.specs.Cutting.{AreBounds, IsInBounds, bounds_of};
 ghost use Rattle.drain.specs.Following.{code_at};
 ghost use Rattle.drain.specs.CodeNumber.{IsCode};
 ghost use Rattle.flow.specs.TileFlow.{directed_by, is_in_bounds};
-ghost use Rattle.flow.specs.TileLinks.{AreTileCodes, AreTileLinks, AreTileWeights, IsSmall, place_in, index_in, link_by, links_by, weights_by};
+ghost use Rattle.flow.specs.TileLinks.{AreTileCodes, AreTileLinks, AreTileWeights, IsSmall, place_in, index_in, link_by, first_links, links_by, weights_by};
 
 use ascii_grid::{NoMemory, Place};
 use drain::Code;
@@ -20,13 +20,12 @@ pub fn tile_codes(
     ensures { IfOk result (λ v. AreTileCodes (directed_by codes.now) (bounds_of codes.now.cutting codes.now.tile) v.items) }
 {
     let bounds = codes.bounds();
-    let count = bounds.rows * bounds.cols;
-    let Ok(mut cells) = Vec::with_capacity(alloc, count as usize) else {
+    let count = bounds.rows as usize * bounds.cols as usize;
+    let Ok(mut cells) = Vec::with_capacity(alloc, count) else {
         return Err(NoMemory);
     };
-    for index in 0..count {
-        let code = code_shown(codes, bounds, place_at(bounds, index));
-        if cells.push(code).is_err() {
+    for row in 0..bounds.rows {
+        if cells.extend_from_slice(codes.row(row)).is_err() {
             return Err(NoMemory);
         }
     }
@@ -46,13 +45,39 @@ pub fn tile_links(
     let Ok(mut links) = Vec::with_capacity(alloc, cells.len()) else {
         return Err(NoMemory);
     };
-    for index in 0..bounds.rows * bounds.cols {
-        let link = link_of(bounds, index, cells[index as usize]);
+    for row in 0..bounds.rows {
+        push_links(&mut links, bounds, row, cells)?;
+    }
+    Ok(links)
+}
+
+// Adds the links of a row of the tile.
+#[inline(always)]
+fn push_links(
+    links: &mut Vec<u32>,
+    bounds: Bounds,
+    row: u32,
+    cells: &[Option<Code>],
+) -> Result<(), NoMemory>
+    requires small { IsSmall bounds }
+    requires size { length cells.now ≡ bounds.rows * bounds.cols }
+    requires row { row < bounds.rows }
+    requires links { links.old.items ≡ first_links bounds cells.now (row * bounds.cols) }
+    ensures { OnOk result (links.new.items ≡ first_links bounds cells.now ((row + 1) * bounds.cols)) }
+{
+    let start = row * bounds.cols;
+    for col in 0..bounds.cols {
+        let place = Place {
+            row: bounds.top + row,
+            col: bounds.left + col,
+        };
+        let index = start + col;
+        let link = link_of(bounds, index, place, cells[index as usize]);
         if links.push(link).is_err() {
             return Err(NoMemory);
         }
     }
-    Ok(links)
+    Ok(())
 }
 
 /// 1 for each data cell, and 0 for each without data.
@@ -95,25 +120,12 @@ pub fn index_of(bounds: Bounds, place: Place) -> usize
 }
 
 #[inline(always)]
-fn code_shown(codes: &TileView<'_, Option<Code>>, bounds: Bounds, place: Place) -> Option<Code>
-    requires bounds { bounds ≡ bounds_of codes.now.cutting codes.now.tile }
-    requires inside { AreBounds codes.now.cutting bounds }
-    requires given { IsInBounds bounds place }
-    ensures { result ≡ code_at (directed_by codes.now) place }
-{
-    match codes.at(place) {
-        Some(code) => *code,
-        None => None,
-    }
-}
-
-#[inline(always)]
-fn link_of(bounds: Bounds, index: u32, code: Option<Code>) -> u32
+fn link_of(bounds: Bounds, index: u32, place: Place, code: Option<Code>) -> u32
     requires small { IsSmall bounds }
-    requires given { index < bounds.rows * bounds.cols }
+    requires inside { IsInBounds bounds place }
+    requires place { place ≡ place_in bounds index }
     ensures { result ≡ link_by bounds index code }
 {
-    let place = place_at(bounds, index);
     let next = next_of(code, place);
     if contains(bounds, next) {
         (next.row - bounds.top) * bounds.cols + (next.col - bounds.left)
