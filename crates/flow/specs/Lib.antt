@@ -13,3 +13,4 @@ pub mod RimNumbers
 pub mod RimGraph
 pub mod TileMaps
 pub mod Numbering
+pub mod CodeSteps

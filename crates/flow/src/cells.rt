@@ -1,10 +1,11 @@
 // The cells of a tile, numbered in its row order, and the cells to which their water goes on.
 ghost use Rattle.std.specs.Prelude.{◌≡◌, ◌+◌, ◌-◌, ◌*◌, ◌^◌, ◌<◌, ◌≤◌, ℕ, length, Some, IfOk, OnOk, unwrap_or, option_and_then, if◌then◌else◌};
-ghost use Rattle.ascii_grid.specs.Ways.{before, place_of, place_toward};
+ghost use Rattle.ascii_grid.specs.Ways.{place_of, place_toward};
 ghost use Rattle.tiles.specs.Cutting.{AreBounds, IsInBounds, bounds_of};
 ghost use Rattle.drain.specs.Following.{code_at};
 ghost use Rattle.drain.specs.CodeNumber.{IsCode};
 ghost use Rattle.flow.specs.TileFlow.{directed_by, is_in_bounds};
+ghost use Rattle.flow.specs.CodeSteps.{moved, leads_east, leads_south, leads_west, leads_north};
 ghost use Rattle.flow.specs.TileLinks.{AreTileCodes, AreTileLinks, AreTileWeights, IsSmall, place_in, index_in, link_by, first_links, links_by, weights_by};
 
 use ascii_grid::{NoMemory, Place};
@@ -166,25 +167,13 @@ fn toward(code: Code, place: Place) -> Option<Place>
     requires col { place.col < 2 ^ 32 - 1 }
     ensures { result ≡ place_toward code place }
 {
-    let Place { row, col } = place;
-    match code.number() {
-        1 => place_of(Some(row), Some(col + 1)),
-        2 => place_of(Some(row + 1), Some(col + 1)),
-        4 => place_of(Some(row + 1), Some(col)),
-        8 => place_of(Some(row + 1), before(col)),
-        16 => place_of(Some(row), before(col)),
-        32 => place_of(before(row), before(col)),
-        64 => place_of(before(row), Some(col)),
-        128 => place_of(before(row), Some(col + 1)),
-        _ => None,
+    let number = code.number();
+    if number == 0 {
+        return None;
     }
-}
-
-#[inline(always)]
-fn before(index: u32) -> Option<u32>
-    ensures { result ≡ before index }
-{
-    if index == 0 { None } else { Some(index - 1) }
+    let row = moved(place.row, leads_south(number), leads_north(number));
+    let col = moved(place.col, leads_east(number), leads_west(number));
+    place_of(row, col)
 }
 
 #[inline(always)]
@@ -195,4 +184,43 @@ fn place_of(row: Option<u32>, col: Option<u32>) -> Option<Place>
         (Some(row), Some(col)) => Some(Place { row, col }),
         _ => None,
     }
+}
+
+// By sums alone, since a branch on the code would seldom be foreseen.
+#[inline(always)]
+fn moved(index: u32, on: bool, back: bool) -> Option<u32>
+    requires { index < 2 ^ 32 - 1 }
+    ensures { result ≡ moved index on back }
+{
+    let sum = index + u32::from(on);
+    let less = u32::from(back);
+    if sum < less { None } else { Some(sum - less) }
+}
+
+#[inline(always)]
+fn leads_east(number: u8) -> bool
+    ensures { result ≡ leads_east number }
+{
+    number == 1 || number == 2 || number == 128
+}
+
+#[inline(always)]
+fn leads_south(number: u8) -> bool
+    ensures { result ≡ leads_south number }
+{
+    number == 2 || number == 4 || number == 8
+}
+
+#[inline(always)]
+fn leads_west(number: u8) -> bool
+    ensures { result ≡ leads_west number }
+{
+    number == 8 || number == 16 || number == 32
+}
+
+#[inline(always)]
+fn leads_north(number: u8) -> bool
+    ensures { result ≡ leads_north number }
+{
+    number == 32 || number == 64 || number == 128
 }
