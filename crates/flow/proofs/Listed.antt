@@ -37,29 +37,29 @@ pub where_data_below : (code : Option ℕ) (e n : ℕ) → e < n → IfSome (whe
 where_data_below None e n h = tt
 where_data_below (Some code) e n h = h
 
-module _ (numbers : List ℕ) (o : Outlets) (b : Bounds) where
-  pub label_none : (i : ℕ) (x : Option Place) → None ≡ option_map (index_in b) x → 0 ≡ label_by numbers o b i x
+module _ (codes : List (Option ℕ)) (o : Outlets) (b : Bounds) where
+  pub label_none : (i : ℕ) (x : Option Place) → None ≡ option_map (index_in b) x → 0 ≡ label_by codes o b i x
   label_none i None none = refl
   label_none i (Some e) none = absurd (none-some (index_in b e) none)
 
-  pub label_other : (i exit : ℕ) (x : Option Place) → Some exit ≡ option_map (index_in b) x → exit ≢ i → 0 ≡ label_by numbers o b i x
+  pub label_other : (i exit : ℕ) (x : Option Place) → Some exit ≡ option_map (index_in b) x → exit ≢ i → 0 ≡ label_by codes o b i x
   label_other i exit None some other = refl
   label_other i exit (Some e) some other =
-      sym (cond-false {A = ℕ} _ (number_at o.cutting.cols numbers (outlet_in o e)) 0 (ne_eqb (index_in b e) i (λ same. other (same_Some exit (index_in b e) some ∙ same))))
+      sym (cond-false {A = ℕ} _ (number_at o.cutting.cols codes (outlet_in o e)) 0 (ne_eqb (index_in b e) i (λ same. other (same_Some exit (index_in b e) some ∙ same))))
 
   -- the exit of which the index is given
-  pub exit_placed : (exit : ℕ) (x : Option Place) → Some exit ≡ option_map (index_in b) x → IfSome x (IsExitOfTile o numbers b) → IsExitOfTile o numbers b (place_in b exit)
+  pub exit_placed : (exit : ℕ) (x : Option Place) → Some exit ≡ option_map (index_in b) x → IfSome x (IsExitOfTile o codes b) → IsExitOfTile o codes b (place_in b exit)
   exit_placed exit None some is = absurd (none-some exit (sym some))
   exit_placed exit (Some e) some is =
-      subst (λ (p : Place). IsExitOfTile o numbers b p) (sym (place_in-index_in b e is.inside) ∙ ap (place_in b) (sym (same_Some exit (index_in b e) some))) is
+      subst (λ (p : Place). IsExitOfTile o codes b p) (sym (place_in-index_in b e is.inside) ∙ ap (place_in b) (sym (same_Some exit (index_in b e) some))) is
 
-  pub label_own : (i exit : ℕ) (x : Option Place) → Some exit ≡ option_map (index_in b) x → exit ≡ i → IfSome x (IsExitOfTile o numbers b) →
-      number_at o.cutting.cols numbers (outlet_in o (place_in b exit)) ≡ label_by numbers o b i x
+  pub label_own : (i exit : ℕ) (x : Option Place) → Some exit ≡ option_map (index_in b) x → exit ≡ i → IfSome x (IsExitOfTile o codes b) →
+      number_at o.cutting.cols codes (outlet_in o (place_in b exit)) ≡ label_by codes o b i x
   label_own i exit None some own is = absurd (none-some exit (sym some))
   label_own i exit (Some e) some own is =
       let at : exit ≡ index_in b e = same_Some exit (index_in b e) some in
-      ap (λ (p : Place). number_at o.cutting.cols numbers (outlet_in o p)) (ap (place_in b) at ∙ place_in-index_in b e is.inside)
-      ∙ sym (cond-true {A = ℕ} _ (number_at o.cutting.cols numbers (outlet_in o e)) 0 (eq-eqb (index_in b e) i (sym at ∙ own)))
+      ap (λ (p : Place). number_at o.cutting.cols codes (outlet_in o p)) (ap (place_in b) at ∙ place_in-index_in b e is.inside)
+      ∙ sym (cond-true {A = ℕ} _ (number_at o.cutting.cols codes (outlet_in o e)) 0 (eq-eqb (index_in b e) i (sym at ∙ own)))
 
 pub label_unlisted : (b : Bounds) (labels : List ℕ) (x : Option Place) → None ≡ option_map (index_in b) x → None ≡ label_at b labels x
 label_unlisted b labels None none = refl

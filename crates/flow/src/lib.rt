@@ -7,6 +7,7 @@ mod ends;
 mod flowing;
 pub mod links;
 pub mod numbering;
+mod outlet_numbers;
 pub mod outlets;
 mod rim;
 mod streams;

@@ -7,7 +7,7 @@ ghost use Rattle.drain.specs.Drained.{directed_of};
 ghost use Rattle.drain.specs.Following.{Directed};
 ghost use Rattle.flow.specs.Counts.{AreBasins, basin};
 ghost use Rattle.flow.specs.TileLinks.{IsSmall};
-ghost use Rattle.flow.specs.Whole.{IsGridFlow, make_directed, is_outlet_code, outlet_numbers_by};
+ghost use Rattle.flow.specs.Whole.{IsGridFlow, make_directed};
 ghost use Rattle.ascii_grid.specs.Neighbours.{index_of};
 ghost use Rattle.flow.specs.RimGraph.{outlet_in};
 ghost use Rattle.flow.specs.TileMaps.{IsTileMapOf, AreTileMapsOf};
@@ -15,8 +15,9 @@ ghost use Rattle.flow.specs.Numbering.{IsNumbering, AreReady, IsExitOfTile, numb
 
 use crate::cells::place_at;
 use crate::flowing::{codes_of, flow_tiles};
+use crate::outlet_numbers::OutletNumbers;
 use crate::outlets::Outlets;
-use crate::tile::{TileFlow, is_outlet};
+use crate::tile::TileFlow;
 use ascii_grid::{NoMemory, Place};
 use drain::{Code, Directions};
 use std::alloc::Global;
@@ -31,7 +32,7 @@ struct NumberTiles<'a> {
     tiling: &'a Tiling,
     flows: &'a [TileFlow],
     outlets: &'a Outlets<'a>,
-    numbers: &'a [u32],
+    numbers: &'a OutletNumbers<'a>,
     ghost ready: { AreReady tiling.now flows.now outlets.now numbers.now } by { Prim.hlevel props },
 }
 
@@ -97,7 +98,7 @@ pub(crate) fn basins_along<R: Threads + Wait + Sync, G: Gate + Sync>(
     let Ok(outlets) = Outlets::join(alloc, tiling, &flows) else {
         return Err(JobFault::Memory);
     };
-    let Ok(numbers) = outlet_numbers(alloc, codes) else {
+    let Ok(numbers) = OutletNumbers::of_codes(alloc, codes) else {
         return Err(JobFault::Memory);
     };
     let tiles = number_tiles(rt, alloc, tiling, &flows, &outlets, &numbers, workers, gate)?;
@@ -116,7 +117,7 @@ fn number_tiles<R: Threads + Wait + Sync, G: Gate + Sync>(
     tiling: &Tiling,
     flows: &[TileFlow],
     outlets: &Outlets<'_>,
-    numbers: &[u32],
+    numbers: &OutletNumbers<'_>,
     workers: u32,
     gate: &G,
 ) -> Result<Vec<Vec<Option<u32>>>, JobFault>
@@ -141,7 +142,7 @@ fn tile_basins(
     tiling: &Tiling,
     flows: &[TileFlow],
     outlets: &Outlets<'_>,
-    numbers: &[u32],
+    numbers: &OutletNumbers<'_>,
     tile: u32,
 ) -> Result<Vec<Option<u32>>, NoMemory>
     requires ready { AreReady tiling.now flows.now outlets.now numbers.now }
@@ -159,7 +160,7 @@ fn exit_labels(
     alloc: Global,
     tiling: &Tiling,
     outlets: &Outlets<'_>,
-    numbers: &[u32],
+    numbers: &OutletNumbers<'_>,
     flow: &TileFlow,
 ) -> Result<Vec<u32>, NoMemory>
     requires cutting { outlets.now.cutting ≡ tiling.now }
@@ -182,7 +183,7 @@ fn exit_labels(
 fn label_of(
     tiling: &Tiling,
     outlets: &Outlets<'_>,
-    numbers: &[u32],
+    numbers: &OutletNumbers<'_>,
     flow: &TileFlow,
     index: usize,
 ) -> u32
@@ -201,7 +202,12 @@ fn label_of(
 }
 
 // The number of the outlet of an exit.
-fn number_of(tiling: &Tiling, outlets: &Outlets<'_>, numbers: &[u32], exit: Place) -> u32
+fn number_of(
+    tiling: &Tiling,
+    outlets: &Outlets<'_>,
+    numbers: &OutletNumbers<'_>,
+    exit: Place,
+) -> u32
     requires cutting { outlets.now.cutting ≡ tiling.now }
     requires within { IsWithin outlets.now.cutting exit }
     requires numbered { IfSome (outlet_in outlets.now exit) (λ o. index_of outlets.now.cutting.cols o < length numbers.now) }
@@ -209,7 +215,7 @@ fn number_of(tiling: &Tiling, outlets: &Outlets<'_>, numbers: &[u32], exit: Plac
 {
     match outlets.outlet(exit) {
         Some(outlet) => {
-            numbers[outlet.row as usize * tiling.cols() as usize + outlet.col as usize]
+            numbers.number(outlet.row as usize * tiling.cols() as usize + outlet.col as usize)
         }
         None => 0,
     }
@@ -242,29 +248,4 @@ fn label_at(flow: &TileFlow, labels: &[u32], index: usize) -> Option<u32>
         Some(exit) => Some(labels[exit as usize]),
         None => None,
     }
-}
-
-// For each cell one more than the outlets that stand before it in row order.
-fn outlet_numbers(alloc: Global, codes: &[Option<Code>]) -> Result<Vec<u32>, NoMemory>
-    requires { length codes.now < 2 ^ 32 - 1 }
-    ensures { IfOk result (λ v. v.items ≡ outlet_numbers_by codes.now) }
-{
-    let Ok(mut numbers) = Vec::with_capacity(alloc, codes.len()) else {
-        return Err(NoMemory);
-    };
-    let mut number = 1;
-    for index in 0..codes.len() {
-        if numbers.push(number).is_err() {
-            return Err(NoMemory);
-        }
-        number += one_if_outlet(codes[index]);
-    }
-    Ok(numbers)
-}
-
-#[inline(always)]
-fn one_if_outlet(code: Option<Code>) -> u32
-    ensures { result ≡ if is_outlet_code code then 1 else 0 }
-{
-    u32::from(is_outlet(code))
 }
