@@ -25,3 +25,4 @@ pub mod RimFlows
 pub mod Together
 pub mod Numbered
 pub mod Listed
+pub mod CodeMasks

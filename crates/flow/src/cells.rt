@@ -186,7 +186,7 @@ fn place_of(row: Option<u32>, col: Option<u32>) -> Option<Place>
     }
 }
 
-// By sums alone, since a branch on the code would seldom be foreseen.
+// By sums and masks alone, since a branch on the code would seldom be foreseen.
 #[inline(always)]
 fn moved(index: u32, on: bool, back: bool) -> Option<u32>
     requires { index < 2 ^ 32 - 1 }
@@ -199,28 +199,32 @@ fn moved(index: u32, on: bool, back: bool) -> Option<u32>
 
 #[inline(always)]
 fn leads_east(number: u8) -> bool
+    requires { IsCode number }
     ensures { result ≡ leads_east number }
 {
-    number == 1 || number == 2 || number == 128
+    number & 0b1000_0011 != 0
 }
 
 #[inline(always)]
 fn leads_south(number: u8) -> bool
+    requires { IsCode number }
     ensures { result ≡ leads_south number }
 {
-    number == 2 || number == 4 || number == 8
+    number & 0b0000_1110 != 0
 }
 
 #[inline(always)]
 fn leads_west(number: u8) -> bool
+    requires { IsCode number }
     ensures { result ≡ leads_west number }
 {
-    number == 8 || number == 16 || number == 32
+    number & 0b0011_1000 != 0
 }
 
 #[inline(always)]
 fn leads_north(number: u8) -> bool
+    requires { IsCode number }
     ensures { result ≡ leads_north number }
 {
-    number == 32 || number == 64 || number == 128
+    number & 0b1110_0000 != 0
 }
