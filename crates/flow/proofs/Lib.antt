@@ -31,3 +31,5 @@ pub mod TileTotals
 pub mod RimAdded
 pub mod Counted
 pub mod Linked
+pub mod Listed
+pub mod CodeMasks

@@ -24,24 +24,21 @@ use Rattle.flow.proofs.InTile.{test_from_bounds}
 use Rattle.flow.proofs.Piece.{match_none, match_some}
 use Rattle.flow.proofs.RimFlows.{within_of, last_same, from_some, from_none, exit_in_tile, exit_of_exit}
 
-module _ (d : Directed) (t : Cutting) (flows : List Flow) (o : Outlets) (numbers : List ℕ) (s : IsNumbering d t flows o numbers) where
+module _ (d : Directed) (t : Cutting) (flows : List Flow) (o : Outlets) (codes : List (Option ℕ)) (s : IsNumbering d t flows o codes) where
   -- the number of an outlet
-  number_of_last : (p : Place) → IsCoded d p → number_at o.cutting.cols numbers (Some (last_of d p)) ≡ basin d p
-  number_of_last p is =
-      let w = coded_inside d (last_of d p) (coded_along d s.are_flows.ends p is (d.cols * d.rows)) in
-      let below : index_of d.cols (last_of d p) < length d.codes = omega (arith, index_below d.cols d.rows (last_of d p) w.0 w.1, s.size) in
+  number_of_last : (p : Place) → number_at o.cutting.cols codes (Some (last_of d p)) ≡ basin d p
+  number_of_last p =
       let cols : o.cutting.cols ≡ d.cols = ap (λ (c : Cutting). c.cols) s.same_cutting ∙ sym s.are_flows.of_tiles.size.0 in
-      ap (λ n. get_or numbers (index_of n (last_of d p)) 0) cols
-      ∙ ap (λ (l : List ℕ). get_or l (index_of d.cols (last_of d p)) 0) s.are_numbers
-      ∙ get_or-map-range_with_len (λ i. 1 + count_by is_outlet_code (take i d.codes)) 0 (length d.codes) (index_of d.cols (last_of d p)) (index_of d.cols (last_of d p)) 0 below (omega arith)
+      ap (λ n. 1 + count_by is_outlet_code (take (index_of n (last_of d p)) codes)) cols
+      ∙ ap (λ (l : List (Option ℕ)). 1 + count_by is_outlet_code (take (index_of d.cols (last_of d p)) l)) s.same_codes
 
-  numbered_last : (e : Place) → IsExitCell d t e → IsCoded d e → IfSome (outlet_in o e) (λ q. index_of o.cutting.cols q < length numbers)
+  numbered_last : (e : Place) → IsExitCell d t e → IsCoded d e → IfSome (outlet_in o e) (λ q. index_of o.cutting.cols q < length codes)
   numbered_last e cell is =
       let w = coded_inside d (last_of d e) (coded_along d s.are_flows.ends e is (d.cols * d.rows)) in
       let cols : index_of o.cutting.cols (last_of d e) ≡ index_of d.cols (last_of d e) = ap (λ n. index_of n (last_of d e)) (ap (λ (c : Cutting). c.cols) s.same_cutting ∙ sym s.are_flows.of_tiles.size.0) in
-      let count : length numbers ≡ length d.codes = ap length s.are_numbers ∙ length-map-range_with_len (λ i. 1 + count_by is_outlet_code (take i d.codes)) 0 (length d.codes) in
-      let below : index_of o.cutting.cols (last_of d e) < length numbers = omega (arith, index_below d.cols d.rows (last_of d e) w.0 w.1, s.size, cols, count) in
-      subst (λ (x : Option Place). IfSome x (λ q. index_of o.cutting.cols q < length numbers)) (sym (s.are_outlets.outlets e cell)) below
+      let count : length codes ≡ length d.codes = ap length s.same_codes in
+      let below : index_of o.cutting.cols (last_of d e) < length codes = omega (arith, index_below d.cols d.rows (last_of d e) w.0 w.1, s.size, cols, count) in
+      subst (λ (x : Option Place). IfSome x (λ q. index_of o.cutting.cols q < length codes)) (sym (s.are_outlets.outlets e cell)) below
 
   module _ (tile : ℕ) (f : Flow) (there : slice_get flows tile ≡ Some f) where
     right : IsTileFlow d t tile f
@@ -79,20 +76,20 @@ module _ (d : Directed) (t : Cutting) (flows : List Flow) (o : Outlets) (numbers
     exit_cell p h = (h.leads).4
 
     -- each entry is an exit of the tile
-    pub exits_of_tile : (i : ℕ) → IfSome (get_or f.exits i None) (IsExitOfTile o numbers (bounds_of t tile))
+    pub exits_of_tile : (i : ℕ) → IfSome (get_or f.exits i None) (IsExitOfTile o codes (bounds_of t tile))
     exits_of_tile i = elim (cases_lt i (length f.exits)) [
-      | inr far ↦ subst (λ (x : Option Place). IfSome x (IsExitOfTile o numbers (bounds_of t tile))) (sym (get_or_past f.exits i None far)) tt
+      | inr far ↦ subst (λ (x : Option Place). IfSome x (IsExitOfTile o codes (bounds_of t tile))) (sym (get_or_past f.exits i None far)) tt
       | inl below ↦
           let k : i < cell_count t tile = omega (arith, below, cell_size) in
           let p = place_in (bounds_of t tile) i in
           let inside = place_in_tile t tile i s.are_flows.cutting tile_below k in
           let at : get_or f.exits (index_in (bounds_of t tile) (place_in (bounds_of t tile) i)) None ≡ get_or f.exits i None = ap (λ n. get_or f.exits n None) (index_in-place_in (bounds_of t tile) i) in
-          subst (λ (x : Option Place). IfSome x (IsExitOfTile o numbers (bounds_of t tile))) at
+          subst (λ (x : Option Place). IfSome x (IsExitOfTile o codes (bounds_of t tile))) at
           (elim (cases_coded d (place_in (bounds_of t tile) i)) [
-            | inl none ↦ subst (λ (x : Option Place). IfSome x (IsExitOfTile o numbers (bounds_of t tile))) (sym (no_exit p inside none)) tt
+            | inl none ↦ subst (λ (x : Option Place). IfSome x (IsExitOfTile o codes (bounds_of t tile))) (sym (no_exit p inside none)) tt
             | inr is ↦
                 let h = has_exit (place_in (bounds_of t tile) i) inside is in
-                subst (λ (x : Option Place). IfSome x (IsExitOfTile o numbers (bounds_of t tile))) (sym h.listed) (record {
+                subst (λ (x : Option Place). IfSome x (IsExitOfTile o codes (bounds_of t tile))) (sym h.listed) (record {
                   inside = in_bounds t tile h.exit s.are_flows.cutting h.inside;
                   within = subst (λ (c : Cutting). IsWithin c h.exit) (sym s.same_cutting) h.inside.0;
                   numbered = numbered_last h.exit (exit_cell _ h) h.coded;
@@ -100,11 +97,11 @@ module _ (d : Directed) (t : Cutting) (flows : List Flow) (o : Outlets) (numbers
           ])
     ]
 
-    pub labels_size : length (labels_by numbers o (bounds_of t tile) f.exits) ≡ cell_count t tile
-    labels_size = length-map-range_with_len (λ i. label_by numbers o (bounds_of t tile) i (get_or f.exits i None)) 0 (length f.exits) ∙ cell_size
+    pub labels_size : length (labels_by codes o (bounds_of t tile) f.exits) ≡ cell_count t tile
+    labels_size = length-map-range_with_len (λ i. label_by codes o (bounds_of t tile) i (get_or f.exits i None)) 0 (length f.exits) ∙ cell_size
 
     -- the label of an exit
-    label_is : (p : Place) → IsCoded d p → (h : Has p) → get_or (labels_by numbers o (bounds_of t tile) f.exits) (index_in (bounds_of t tile) h.exit) 0 ≡ basin d p
+    label_is : (p : Place) → IsCoded d p → (h : Has p) → get_or (labels_by codes o (bounds_of t tile) f.exits) (index_in (bounds_of t tile) h.exit) 0 ≡ basin d p
     label_is p is h =
         let e = h.exit in
         let own = has_exit h.exit h.inside h.coded in
@@ -112,17 +109,17 @@ module _ (d : Directed) (t : Cutting) (flows : List Flow) (o : Outlets) (numbers
         let listed : get_or f.exits (index_in (bounds_of t tile) h.exit) None ≡ Some h.exit = own.listed ∙ ap Some same in
         let below : index_in (bounds_of t tile) h.exit < length f.exits =
         omega (arith, index_in_below (bounds_of t tile) h.exit (in_bounds t tile h.exit s.are_flows.cutting h.inside), cell_size) in
-        get_or-map-range_with_len (λ i. label_by numbers o (bounds_of t tile) i (get_or f.exits i None)) 0 (length f.exits) (index_in (bounds_of t tile) h.exit) (index_in (bounds_of t tile) h.exit) 0 below (omega arith)
-        ∙ ap (label_by numbers o (bounds_of t tile) (index_in (bounds_of t tile) h.exit)) listed
-        ∙ cond-true {A = ℕ} _ (number_at o.cutting.cols numbers (outlet_in o h.exit)) 0 (eq-eqb _ _ refl)
-        ∙ ap (number_at o.cutting.cols numbers) (s.are_outlets.outlets h.exit (exit_cell p h))
-        ∙ number_of_last h.exit h.coded
+        get_or-map-range_with_len (λ i. label_by codes o (bounds_of t tile) i (get_or f.exits i None)) 0 (length f.exits) (index_in (bounds_of t tile) h.exit) (index_in (bounds_of t tile) h.exit) 0 below (omega arith)
+        ∙ ap (label_by codes o (bounds_of t tile) (index_in (bounds_of t tile) h.exit)) listed
+        ∙ cond-true {A = ℕ} _ (number_at o.cutting.cols codes (outlet_in o h.exit)) 0 (eq-eqb _ _ refl)
+        ∙ ap (number_at o.cutting.cols codes) (s.are_outlets.outlets h.exit (exit_cell p h))
+        ∙ number_of_last h.exit
         ∙ ap (λ (q : Place). 1 + count_by is_outlet_code (take (index_of d.cols q) d.codes)) (last_same d t flows s.are_flows p h.exit (h.leads).0 is (h.leads).3)
 
     pub bounds_are : f.bounds ≡ bounds_of t tile
     bounds_are = right.bounds
 
-    pub tile_numbered : (labels : List ℕ) → labels ≡ labels_by numbers o (bounds_of t tile) f.exits →
+    pub tile_numbered : (labels : List ℕ) → labels ≡ labels_by codes o (bounds_of t tile) f.exits →
         IsTileMapOf d t tile (basin d) (numbered_by (bounds_of t tile) labels f.exits)
     tile_numbered labels made = record {
       size = length-map-range_with_len (λ i. label_at (bounds_of t tile) labels (get_or f.exits i None)) 0 (length f.exits) ∙ cell_size;
@@ -141,13 +138,9 @@ module _ (d : Directed) (t : Cutting) (flows : List Flow) (o : Outlets) (numbers
           ];
     }
 
-  pub ready : AreReady t flows o numbers
+  pub ready : AreReady t flows o codes
   ready = record {
     same_cutting = s.same_cutting;
     count = s.are_flows.of_tiles.count;
-    exits = λ tile f there i. subst (λ (b : Bounds). IfSome (get_or f.exits i None) (IsExitOfTile o numbers b)) (sym (bounds_are tile f there)) (exits_of_tile tile f there i);
+    exits = λ tile f there i. subst (λ (b : Bounds). IfSome (get_or f.exits i None) (IsExitOfTile o codes b)) (sym (bounds_are tile f there)) (exits_of_tile tile f there i);
   }
-
-pub some_weaker : {X : Type 0} (o : Option X) (P Q : X → Type 0) → ((x : X) → P x → Q x) → IfSome o P → IfSome o Q
-some_weaker None P Q f h = tt
-some_weaker (Some x) P Q f h = f x h

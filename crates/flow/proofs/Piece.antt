@@ -13,8 +13,8 @@ use Rattle.tiles.proofs.TileOrder.{index_in_below, place_in-index_in}
 use Rattle.drain.specs.Following.{Directed, code_at}
 use Rattle.drain.specs.Drained.{AllFlowEnds}
 use Rattle.flow.specs.Streams.{AreStreams, AreUpstream, AreEnds, share, total}
-use Rattle.flow.specs.TileFlow.{directed_by, entry_in, through_of, IsExitOf, Flow, IsFlow, IsTileFlow}
-use Rattle.flow.specs.TileLinks.{place_in, index_in, link_by, AreTileCodes, AreTileLinks, AreTileWeights, IsSmall, links_by, weights_by, where_data, through_by, exits_by}
+use Rattle.flow.specs.TileFlow.{directed_by, entry_in, through_of, IsExitOf, IsFlow, IsTileFlow}
+use Rattle.flow.specs.TileLinks.{place_in, index_in, link_by, AreTileCodes, AreTileLinks, AreTileWeights, IsSmall, links_by, weights_by, where_data, through_by, exits_by, flow_by, AreFlowLists}
 use Rattle.flow.proofs.Sums.{sum_below-few}
 use Rattle.flow.proofs.Ending.{end-inside}
 use Rattle.flow.proofs.EarlyEnds.{share-some, share-cases}
@@ -51,9 +51,6 @@ piece_from v b cells links ends is inside lawful codes made = record {
   places = places_from_value v.cutting v.tile b lawful.cutting lawful.tile is;
   made = subst (λ (l : List ℕ). AreTileLinks (directed_by v) b l) (sym made) (links_from (directed_by v) b cells codes);
 }
-
-abbrev pub make_flow : Bounds → List (Option ℕ) → List (Option ℕ) → List (Option Place) → Flow
-make_flow b cells through exits = record { bounds = b; codes = cells; through = through; exits = exits }
 
 -- the lists of a tile
 pub record AreLists (v : View (Option ℕ)) (b : Bounds) (cells : List (Option ℕ)) (links weights : List ℕ) : Type 0 where
@@ -164,7 +161,7 @@ module _ (v : View (Option ℕ)) (b : Bounds) (cells : List (Option ℕ)) (links
         (subst (λ n. IsExitOf (directed_by v) v.cutting (place_in b (index_in b p)) (place_in b n)) (sym (last.each (index_in b p) i)) e)
 
   module _ (came ends : List ℕ) (up : AreUpstream links weights came) (last : AreEnds links ends) where
-    pub flow_lawful : IsFlow (make_flow b cells (through_by cells came) (exits_by b cells ends))
+    pub flow_lawful : IsFlow (flow_by b cells came ends)
     flow_lawful =
         let small = small_from v b s.inside s.lawful in
         record {
@@ -176,7 +173,10 @@ module _ (v : View (Option ℕ)) (b : Bounds) (cells : List (Option ℕ)) (links
           exits_size = length-map-range_with_len (λ i. where_data (get_or cells i None) (place_in b (get_or ends i 0))) 0 (length cells) ∙ s.codes.size;
         }
 
-    pub flow_is : IsTileFlow (directed_by v) v.cutting v.tile (make_flow b cells (through_by cells came) (exits_by b cells ends))
+    pub lists_are : AreFlowLists b cells came ends
+    lists_are = record { lawful = flow_lawful; came_size = came_size came up; ends_size = ends_size ends last; inside = ends_inside ends last }
+
+    pub flow_is : IsTileFlow (directed_by v) v.cutting v.tile (flow_by b cells came ends)
     flow_is = record {
       bounds = s.bounds;
       lawful = flow_lawful;

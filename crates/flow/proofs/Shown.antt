@@ -1,26 +1,53 @@
--- What a view shows of a tile.
-use Rattle.std.proofs.Common.{◌≡◌, ℕ, true, Option, None, sym, subst, ◌∙◌, arith}
-use Rattle.std.proofs.lemmas.Bool.{and_from, le-leb, lt-ltb, cond-true}
-use Rattle.ascii_grid.specs.Neighbours.{index_of}
+-- The rows that a view shows of a tile, one after another.
+use Rattle.std.proofs.Common.{◌≡◌, ℕ, ◌+◌, ◌-◌, ◌*◌, ◌<◌, inl, inr, List, length, get_or, ◌++◌, Option, None, sym, ap, ◌∙◌, arith}
+use Rattle.std.proofs.Math.Nat.{suc-mul}
+use Rattle.std.proofs.lemmas.Bool.{cases_lt}
+use Rattle.std.proofs.lemmas.Nat.{div-mul-add, mod-mul-add}
+use Rattle.std.proofs.lemmas.List.{length-append, get_or_append_left, get_or-append_right}
 use Rattle.ascii_grid.specs.declared.place.Place.{Place}
-use Rattle.ascii_grid.proofs.Places.{entry-inside}
+use Rattle.ascii_grid.proofs.Places.{make_place, same_place, entry-inside}
 use Rattle.tiles.specs.declared.bounds.Bounds.{Bounds}
-use Rattle.tiles.specs.Cutting.{View, AreBounds, IsInBounds, bounds_of, is_shown, cell_shown}
+use Rattle.tiles.specs.Cutting.{View, AreBounds, bounds_of, row_shown}
 use Rattle.drain.specs.Following.{code_at}
+use Rattle.drain.proofs.TileRows.{row_has}
 use Rattle.flow.specs.TileFlow.{directed_by}
-use Rattle.flow.proofs.Pushing.{none_there}
+use Rattle.flow.specs.TileLinks.{place_in}
 
-shown : (v : View (Option ℕ)) (p : Place) → AreBounds v.cutting (bounds_of v.cutting v.tile) → IsInBounds (bounds_of v.cutting v.tile) p → is_shown v.cutting v.tile p ≡ true
-shown v p a i =
-    let r = a.rows_inside in let k = a.cols_inside in
-    let w = and_from _ _ (lt-ltb p.row v.cutting.rows (omega arith)) (lt-ltb p.col v.cutting.cols (omega arith)) in
-    and_from _ _ (and_from _ _ (and_from _ _ (and_from _ _ w (le-leb _ _ (omega arith))) (le-leb _ _ (omega arith))) (le-leb _ _ (omega arith))) (le-leb _ _ (omega arith))
+-- the place of an index, by its row and column
+pub place_in_row : (b : Bounds) (r k : ℕ) → k < b.cols → place_in b (r * b.cols + k) ≡ make_place (b.top + r) (b.left + k)
+place_in_row b r k h =
+    same_place (place_in b (r * b.cols + k)) (make_place (b.top + r) (b.left + k))
+    (ap (λ n. b.top + n) (div-mul-add r b.cols k h)) (ap (λ n. b.left + n) (mod-mul-add r b.cols k h))
 
-pub shown_none : (v : View (Option ℕ)) (b : Bounds) (p : Place) → b ≡ bounds_of v.cutting v.tile → AreBounds v.cutting b → IsInBounds b p →
-    None ≡ cell_shown v p → None ≡ code_at (directed_by v) p
-shown_none v b p e a i none =
-    let there = subst (λ (z : Bounds). AreBounds v.cutting z) e a in
-    let inside = subst (λ (z : Bounds). IsInBounds z p) e i in
-    let r = there.rows_inside in let k = there.cols_inside in
-    sym (entry-inside v.cutting.cols v.cutting.rows v.cells p (omega arith) (omega arith)
-    ∙ none_there v.cells (index_of v.cutting.cols p) (sym (none ∙ cond-true _ _ _ (shown v p there inside))))
+-- what the first rows of a tile have
+pub record AreFirstRows (v : View (Option ℕ)) (b : Bounds) (rows : ℕ) (cells : List (Option ℕ)) : Type 0 where
+  pub size : length cells ≡ rows * b.cols
+  pub each : (i : ℕ) → i < rows * b.cols → get_or cells i None ≡ code_at (directed_by v) (place_in b i)
+
+row_code : (v : View (Option ℕ)) (b : Bounds) (r k : ℕ) → b ≡ bounds_of v.cutting v.tile → AreBounds v.cutting b → r < b.rows → k < b.cols →
+    get_or (row_shown v r) k None ≡ code_at (directed_by v) (place_in b (r * b.cols + k))
+row_code v b r k e a below inside =
+    let x = a.rows_inside in let y = a.cols_inside in
+    let sum : (b.top + r) * v.cutting.cols + b.left + k ≡ (b.top + r) * v.cutting.cols + (b.left + k) = omega arith in
+    row_has v b r k e inside ∙ ap (λ n. get_or v.cells n None) sum
+    ∙ sym (entry-inside v.cutting.cols v.cutting.rows v.cells (make_place (b.top + r) (b.left + k)) (omega arith) (omega arith))
+    ∙ ap (λ (p : Place). code_at (directed_by v) p) (sym (place_in_row b r k inside))
+
+-- one more row
+pub row_added : (v : View (Option ℕ)) (b : Bounds) (r : ℕ) (cells row new : List (Option ℕ)) → b ≡ bounds_of v.cutting v.tile → AreBounds v.cutting b → r < b.rows →
+    row ≡ row_shown v r → length row ≡ b.cols → new ≡ cells ++ row → AreFirstRows v b r cells → AreFirstRows v b (r + 1) new
+row_added v b r cells row new e a below is size made so_far =
+    let more : (r + 1) * b.cols ≡ r * b.cols + b.cols = ap (λ n. n * b.cols) (omega arith) ∙ suc-mul r b.cols in
+    record {
+      size = ap length made ∙ length-append cells row ∙ omega (arith, so_far.size, size, more);
+      each = λ i h. elim (cases_lt i (r * b.cols)) [
+        | inl early ↦ ap (λ xs. get_or xs i None) made ∙ get_or_append_left cells row None i (omega (arith, so_far.size)) ∙ so_far.each i early
+        | inr late ↦
+            let inside : i - r * b.cols < b.cols = omega (arith, h, more, late) in
+            let at : r * b.cols + (i - r * b.cols) ≡ i = omega (arith, late) in
+            ap (λ xs. get_or xs i None) made ∙ get_or-append_right cells row (r * b.cols) i None so_far.size late
+            ∙ ap (λ xs. get_or xs (i - r * b.cols) None) is
+            ∙ row_code v b r (i - r * b.cols) e a below inside
+            ∙ ap (λ n. code_at (directed_by v) (place_in b n)) at
+      ];
+    }

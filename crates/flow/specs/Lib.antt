@@ -13,3 +13,4 @@ pub mod TileMaps
 pub mod Numbering
 pub mod Inflows
 pub mod Counting
+pub mod CodeSteps

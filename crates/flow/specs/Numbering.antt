@@ -1,5 +1,5 @@
 -- The numbers of outlets, put to the cells of a tile. Only the contracts of private functions speak of it.
-use Rattle.std.specs.Prelude.{◌≡◌, ℕ, ◌*◌, ◌<◌, ◌==◌, if◌then◌else◌, List, map, length, Option, None, Some, IfSome, slice_get, slice_index, slice_index_or}
+use Rattle.std.specs.Prelude.{◌≡◌, ℕ, ◌+◌, ◌-◌, ◌*◌, ◌^◌, ◌<◌, ◌≤◌, ◌==◌, if◌then◌else◌, List, map, length, take, count_by, Option, None, Some, IfSome, slice_get, slice_index, slice_index_or}
 use Rattle.std.specs.List.{range_with_len}
 use Rattle.ascii_grid.specs.Neighbours.{index_of}
 use Rattle.ascii_grid.specs.declared.place.Place.{Place}
@@ -8,41 +8,48 @@ use Rattle.tiles.specs.Cutting.{Cutting, IsInBounds, IsWithin, tile_count}
 use Rattle.drain.specs.Following.{Directed}
 use Rattle.flow.specs.TileFlow.{Flow}
 use Rattle.flow.specs.TileLinks.{index_in}
-use Rattle.flow.specs.Whole.{outlet_numbers_by}
+use Rattle.flow.specs.Whole.{is_outlet_code}
 use Rattle.flow.specs.RimGraph.{AreFlowsOf, Outlets, AreOutlets, outlet_in}
 
--- The flows, the outlets of exits and the numbers of outlets are those of a map of directions.
-pub record IsNumbering (d : Directed) (t : Cutting) (flows : List Flow) (outlets : Outlets) (numbers : List ℕ) : Type 0 where
+-- The outlets before each block of sixteen codes are counted.
+pub record AreBlockCounts (codes : List (Option ℕ)) (counts : List ℕ) : Type 0 where
+  pub few : length codes < 2 ^ 32 - 1
+  pub enough : length codes ≤ length counts * 16
+  pub each : (k : ℕ) → k < length counts → slice_index counts k ≡ count_by is_outlet_code (take (k * 16) codes)
+
+-- The flows, the outlets of exits and the codes are those of a map of directions.
+pub record IsNumbering (d : Directed) (t : Cutting) (flows : List Flow) (outlets : Outlets) (codes : List (Option ℕ)) : Type 0 where
   pub are_flows : AreFlowsOf d t flows
   pub are_outlets : AreOutlets d t outlets
   pub same_cutting : outlets.cutting ≡ t
-  pub are_numbers : numbers ≡ outlet_numbers_by d.codes
+  pub same_codes : codes ≡ d.codes
   pub size : length d.codes ≡ d.cols * d.rows
 
 -- an exit in the bounds, whose outlet has a number
-pub record IsExitOfTile (outlets : Outlets) (numbers : List ℕ) (b : Bounds) (e : Place) : Type 0 where
+pub record IsExitOfTile (outlets : Outlets) (codes : List (Option ℕ)) (b : Bounds) (e : Place) : Type 0 where
   pub inside : IsInBounds b e
   pub within : IsWithin outlets.cutting e
-  pub numbered : IfSome (outlet_in outlets e) (λ q. index_of outlets.cutting.cols q < length numbers)
+  pub numbered : IfSome (outlet_in outlets e) (λ q. index_of outlets.cutting.cols q < length codes)
 
 -- what the jobs may rely on
-pub record AreReady (t : Cutting) (flows : List Flow) (outlets : Outlets) (numbers : List ℕ) : Type 0 where
+pub record AreReady (t : Cutting) (flows : List Flow) (outlets : Outlets) (codes : List (Option ℕ)) : Type 0 where
   pub same_cutting : outlets.cutting ≡ t
   pub count : length flows ≡ tile_count t
   pub exits : (tile : ℕ) (f : Flow) → slice_get flows tile ≡ Some f → (i : ℕ) →
-      IfSome (slice_index_or f.exits i None) (IsExitOfTile outlets numbers f.bounds)
+      IfSome (slice_index_or f.exits i None) (IsExitOfTile outlets codes f.bounds)
 
-abbrev pub number_at : ℕ → List ℕ → Option Place → ℕ
-number_at cols numbers None = 0
-number_at cols numbers (Some outlet) = slice_index numbers (index_of cols outlet)
+-- one more than the outlets that stand before an outlet in row order
+abbrev pub number_at : ℕ → List (Option ℕ) → Option Place → ℕ
+number_at cols codes None = 0
+number_at cols codes (Some outlet) = 1 + count_by is_outlet_code (take (index_of cols outlet) codes)
 
 -- the number of the outlet of an exit, at the exit's own index
-abbrev pub label_by : List ℕ → Outlets → Bounds → ℕ → Option Place → ℕ
-label_by numbers outlets b i None = 0
-label_by numbers outlets b i (Some e) = if index_in b e == i then number_at outlets.cutting.cols numbers (outlet_in outlets e) else 0
+abbrev pub label_by : List (Option ℕ) → Outlets → Bounds → ℕ → Option Place → ℕ
+label_by codes outlets b i None = 0
+label_by codes outlets b i (Some e) = if index_in b e == i then number_at outlets.cutting.cols codes (outlet_in outlets e) else 0
 
-abbrev pub labels_by : List ℕ → Outlets → Bounds → List (Option Place) → List ℕ
-labels_by numbers outlets b exits = map (λ i. label_by numbers outlets b i (slice_index_or exits i None)) (range_with_len 0 (length exits))
+abbrev pub labels_by : List (Option ℕ) → Outlets → Bounds → List (Option Place) → List ℕ
+labels_by codes outlets b exits = map (λ i. label_by codes outlets b i (slice_index_or exits i None)) (range_with_len 0 (length exits))
 
 -- the label of a cell's exit
 abbrev pub label_at : Bounds → List ℕ → Option Place → Option ℕ

@@ -1,4 +1,4 @@
--- The directions of a tile as links between its cells, which are numbered in its row order. Only the contracts of private functions speak of it.
+-- The directions of a tile as links between its cells, which are numbered in its row order. Only the contracts of private functions and the view of a flow speak of it.
 use Rattle.std.specs.Prelude.{◌≡◌, ℕ, ◌+◌, ◌-◌, ◌*◌, ◌/◌, ◌%◌, ◌<◌, ◌≤◌, if◌then◌else◌, is_some, List, map, length, Option, None, Some, slice_index, slice_index_or, unwrap_or, option_and_then}
 use Rattle.std.specs.List.{range_with_len}
 use Rattle.ascii_grid.specs.Ways.{place_toward}
@@ -6,7 +6,7 @@ use Rattle.tiles.specs.Cutting.{longest_axis}
 use Rattle.ascii_grid.specs.declared.place.Place.{Place}
 use Rattle.tiles.specs.declared.bounds.Bounds.{Bounds}
 use Rattle.drain.specs.Following.{Directed, code_at, next}
-use Rattle.flow.specs.TileFlow.{is_in_bounds}
+use Rattle.flow.specs.TileFlow.{Flow, IsFlow, is_in_bounds}
 
 abbrev pub place_in : Bounds → ℕ → Place
 place_in b i = record { row = b.top + i / b.cols; col = b.left + i % b.cols }
@@ -48,8 +48,12 @@ link_by b i code =
     let q = unwrap_or (option_and_then (λ c. place_toward c p) code) p in
     if is_in_bounds b q then index_in b q else i
 
+-- of the first cells, and of all
+abbrev pub first_links : Bounds → List (Option ℕ) → ℕ → List ℕ
+first_links b cells count = map (λ i. link_by b i (slice_index_or cells i None)) (range_with_len 0 count)
+
 abbrev pub links_by : Bounds → List (Option ℕ) → List ℕ
-links_by b cells = map (λ i. link_by b i (slice_index_or cells i None)) (range_with_len 0 (b.rows * b.cols))
+links_by b cells = first_links b cells (b.rows * b.cols)
 
 abbrev pub weights_by : List (Option ℕ) → List ℕ
 weights_by cells = map (λ code. if is_some code then 1 else 0) cells
@@ -64,3 +68,14 @@ through_by cells came = map (λ i. where_data (slice_index_or cells i None) (sli
 
 abbrev pub exits_by : Bounds → List (Option ℕ) → List ℕ → List (Option Place)
 exits_by b cells ends = map (λ i. where_data (slice_index_or cells i None) (place_in b (slice_index ends i))) (range_with_len 0 (length cells))
+
+-- The flow of a tile, of the codes of its cells, what comes to each cell and where its links end.
+abbrev pub flow_by : Bounds → List (Option ℕ) → List ℕ → List ℕ → Flow
+flow_by b cells came ends = record { bounds = b; codes = cells; through = through_by cells came; exits = exits_by b cells ends }
+
+-- what holds of these lists
+pub record AreFlowLists (b : Bounds) (cells : List (Option ℕ)) (came ends : List ℕ) : Type 0 where
+  pub lawful : IsFlow (flow_by b cells came ends)
+  pub came_size : length came ≡ length cells
+  pub ends_size : length ends ≡ length cells
+  pub inside : (i : ℕ) → i < length cells → slice_index ends i < b.rows * b.cols

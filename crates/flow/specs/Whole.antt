@@ -1,7 +1,6 @@
 -- The grid as one tile. Only the contracts of private functions speak of it.
-use Rattle.std.specs.Prelude.{◌≡◌, ℕ, ◌+◌, ◌*◌, ◌≤◌, Bool, false, ◌==◌, List, length, take, count_by, map, Option}
+use Rattle.std.specs.Prelude.{◌≡◌, ℕ, ◌*◌, ◌≤◌, Bool, false, ◌==◌, List, length, Option}
 use Rattle.std.specs.Option.{option_map_or}
-use Rattle.std.specs.List.{range_with_len}
 use Rattle.tiles.specs.Cutting.{longest_axis}
 use Rattle.drain.specs.Following.{Directed}
 use Rattle.drain.specs.Drained.{AllFlowEnds}
@@ -20,7 +19,3 @@ pub record IsGridFlow (cols rows : ℕ) (codes : List (Option ℕ)) : Type 0 whe
 
 abbrev pub is_outlet_code : Option ℕ → Bool
 is_outlet_code code = option_map_or (λ c. c == 0) code false
-
--- the number of each outlet: one more than the outlets that stand before it in row order
-abbrev pub outlet_numbers_by : List (Option ℕ) → List ℕ
-outlet_numbers_by codes = map (λ i. 1 + count_by is_outlet_code (take i codes)) (range_with_len 0 (length codes))

@@ -1,11 +1,12 @@
 // The cells of a tile, numbered in its row order, and the cells to which their water goes on.
-ghost use Rattle.std.specs.Prelude.{◌≡◌, ◌+◌, ◌-◌, ◌*◌, ◌^◌, ◌<◌, ◌≤◌, ℕ, length, Some, IfOk, unwrap_or, option_and_then, if◌then◌else◌};
-ghost use Rattle.ascii_grid.specs.Ways.{before, place_of, place_toward};
+ghost use Rattle.std.specs.Prelude.{◌≡◌, ◌+◌, ◌-◌, ◌*◌, ◌^◌, ◌<◌, ◌≤◌, ℕ, length, Some, IfOk, OnOk, unwrap_or, option_and_then, if◌then◌else◌};
+ghost use Rattle.ascii_grid.specs.Ways.{place_of, place_toward};
 ghost use Rattle.tiles.specs.Cutting.{AreBounds, IsInBounds, bounds_of};
 ghost use Rattle.drain.specs.Following.{code_at};
 ghost use Rattle.drain.specs.CodeNumber.{IsCode};
 ghost use Rattle.flow.specs.TileFlow.{directed_by, is_in_bounds};
-ghost use Rattle.flow.specs.TileLinks.{AreTileCodes, AreTileLinks, AreTileWeights, IsSmall, place_in, index_in, link_by, links_by, weights_by};
+ghost use Rattle.flow.specs.CodeSteps.{moved, leads_east, leads_south, leads_west, leads_north};
+ghost use Rattle.flow.specs.TileLinks.{AreTileCodes, AreTileLinks, AreTileWeights, IsSmall, place_in, index_in, link_by, first_links, links_by, weights_by};
 
 use ascii_grid::{NoMemory, Place};
 use drain::Code;
@@ -20,13 +21,12 @@ pub fn tile_codes(
     ensures { IfOk result (λ v. AreTileCodes (directed_by codes.now) (bounds_of codes.now.cutting codes.now.tile) v.items) }
 {
     let bounds = codes.bounds();
-    let count = bounds.rows * bounds.cols;
-    let Ok(mut cells) = Vec::with_capacity(alloc, count as usize) else {
+    let count = bounds.rows as usize * bounds.cols as usize;
+    let Ok(mut cells) = Vec::with_capacity(alloc, count) else {
         return Err(NoMemory);
     };
-    for index in 0..count {
-        let code = code_shown(codes, bounds, place_at(bounds, index));
-        if cells.push(code).is_err() {
+    for row in 0..bounds.rows {
+        if cells.extend_from_slice(codes.row(row)).is_err() {
             return Err(NoMemory);
         }
     }
@@ -46,13 +46,39 @@ pub fn tile_links(
     let Ok(mut links) = Vec::with_capacity(alloc, cells.len()) else {
         return Err(NoMemory);
     };
-    for index in 0..bounds.rows * bounds.cols {
-        let link = link_of(bounds, index, cells[index as usize]);
+    for row in 0..bounds.rows {
+        push_links(&mut links, bounds, row, cells)?;
+    }
+    Ok(links)
+}
+
+// Adds the links of a row of the tile.
+#[inline(always)]
+fn push_links(
+    links: &mut Vec<u32>,
+    bounds: Bounds,
+    row: u32,
+    cells: &[Option<Code>],
+) -> Result<(), NoMemory>
+    requires small { IsSmall bounds }
+    requires size { length cells.now ≡ bounds.rows * bounds.cols }
+    requires row { row < bounds.rows }
+    requires links { links.old.items ≡ first_links bounds cells.now (row * bounds.cols) }
+    ensures { OnOk result (links.new.items ≡ first_links bounds cells.now ((row + 1) * bounds.cols)) }
+{
+    let start = row * bounds.cols;
+    for col in 0..bounds.cols {
+        let place = Place {
+            row: bounds.top + row,
+            col: bounds.left + col,
+        };
+        let index = start + col;
+        let link = link_of(bounds, index, place, cells[index as usize]);
         if links.push(link).is_err() {
             return Err(NoMemory);
         }
     }
-    Ok(links)
+    Ok(())
 }
 
 /// 1 for each data cell, and 0 for each without data.
@@ -95,25 +121,12 @@ pub fn index_of(bounds: Bounds, place: Place) -> usize
 }
 
 #[inline(always)]
-fn code_shown(codes: &TileView<'_, Option<Code>>, bounds: Bounds, place: Place) -> Option<Code>
-    requires bounds { bounds ≡ bounds_of codes.now.cutting codes.now.tile }
-    requires inside { AreBounds codes.now.cutting bounds }
-    requires given { IsInBounds bounds place }
-    ensures { result ≡ code_at (directed_by codes.now) place }
-{
-    match codes.at(place) {
-        Some(code) => *code,
-        None => None,
-    }
-}
-
-#[inline(always)]
-fn link_of(bounds: Bounds, index: u32, code: Option<Code>) -> u32
+fn link_of(bounds: Bounds, index: u32, place: Place, code: Option<Code>) -> u32
     requires small { IsSmall bounds }
-    requires given { index < bounds.rows * bounds.cols }
+    requires inside { IsInBounds bounds place }
+    requires place { place ≡ place_in bounds index }
     ensures { result ≡ link_by bounds index code }
 {
-    let place = place_at(bounds, index);
     let next = next_of(code, place);
     if contains(bounds, next) {
         (next.row - bounds.top) * bounds.cols + (next.col - bounds.left)
@@ -154,25 +167,13 @@ fn toward(code: Code, place: Place) -> Option<Place>
     requires col { place.col < 2 ^ 32 - 1 }
     ensures { result ≡ place_toward code place }
 {
-    let Place { row, col } = place;
-    match code.number() {
-        1 => place_of(Some(row), Some(col + 1)),
-        2 => place_of(Some(row + 1), Some(col + 1)),
-        4 => place_of(Some(row + 1), Some(col)),
-        8 => place_of(Some(row + 1), before(col)),
-        16 => place_of(Some(row), before(col)),
-        32 => place_of(before(row), before(col)),
-        64 => place_of(before(row), Some(col)),
-        128 => place_of(before(row), Some(col + 1)),
-        _ => None,
+    let number = code.number();
+    if number == 0 {
+        return None;
     }
-}
-
-#[inline(always)]
-fn before(index: u32) -> Option<u32>
-    ensures { result ≡ before index }
-{
-    if index == 0 { None } else { Some(index - 1) }
+    let row = moved(place.row, leads_south(number), leads_north(number));
+    let col = moved(place.col, leads_east(number), leads_west(number));
+    place_of(row, col)
 }
 
 #[inline(always)]
@@ -183,4 +184,47 @@ fn place_of(row: Option<u32>, col: Option<u32>) -> Option<Place>
         (Some(row), Some(col)) => Some(Place { row, col }),
         _ => None,
     }
+}
+
+// By sums and masks alone, since a branch on the code would seldom be foreseen.
+#[inline(always)]
+fn moved(index: u32, on: bool, back: bool) -> Option<u32>
+    requires { index < 2 ^ 32 - 1 }
+    ensures { result ≡ moved index on back }
+{
+    let sum = index + u32::from(on);
+    let less = u32::from(back);
+    if sum < less { None } else { Some(sum - less) }
+}
+
+#[inline(always)]
+fn leads_east(number: u8) -> bool
+    requires { IsCode number }
+    ensures { result ≡ leads_east number }
+{
+    number & 0b1000_0011 != 0
+}
+
+#[inline(always)]
+fn leads_south(number: u8) -> bool
+    requires { IsCode number }
+    ensures { result ≡ leads_south number }
+{
+    number & 0b0000_1110 != 0
+}
+
+#[inline(always)]
+fn leads_west(number: u8) -> bool
+    requires { IsCode number }
+    ensures { result ≡ leads_west number }
+{
+    number & 0b0011_1000 != 0
+}
+
+#[inline(always)]
+fn leads_north(number: u8) -> bool
+    requires { IsCode number }
+    ensures { result ≡ leads_north number }
+{
+    number & 0b1110_0000 != 0
 }

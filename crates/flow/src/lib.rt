@@ -8,6 +8,7 @@ mod flowing;
 pub mod inflows;
 pub mod links;
 pub mod numbering;
+mod outlet_numbers;
 pub mod outlets;
 mod rim;
 mod streams;

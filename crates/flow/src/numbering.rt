@@ -7,23 +7,24 @@ ghost use Rattle.drain.specs.Drained.{directed_of};
 ghost use Rattle.drain.specs.Following.{Directed};
 ghost use Rattle.flow.specs.Counts.{AreBasins, basin};
 ghost use Rattle.flow.specs.TileLinks.{IsSmall};
-ghost use Rattle.flow.specs.Whole.{IsGridFlow, make_directed, is_outlet_code, outlet_numbers_by};
+ghost use Rattle.flow.specs.Whole.{IsGridFlow, make_directed};
 ghost use Rattle.ascii_grid.specs.Neighbours.{index_of};
 ghost use Rattle.flow.specs.RimGraph.{outlet_in};
 ghost use Rattle.flow.specs.TileMaps.{IsTileMapOf, AreTileMapsOf};
 ghost use Rattle.flow.specs.Numbering.{IsNumbering, AreReady, IsExitOfTile, number_at, label_by, labels_by, label_at, numbered_by};
 
-use crate::cells::index_of;
+use crate::cells::place_at;
 use crate::flowing::{codes_of, flow_tiles};
+use crate::outlet_numbers::OutletNumbers;
 use crate::outlets::Outlets;
-use crate::tile::{TileFlow, is_outlet};
+use crate::tile::TileFlow;
 use ascii_grid::{NoMemory, Place};
 use drain::{Code, Directions};
 use std::alloc::Global;
 use std::sync::Wait;
 use std::thread::Threads;
 use tile_jobs::{Gate, JobFault, Work, run_jobs};
-use tiles::{Bounds, Tiling};
+use tiles::Tiling;
 
 /// Numbers the cells of each tile.
 #[derive(Drop)]
@@ -31,7 +32,7 @@ struct NumberTiles<'a> {
     tiling: &'a Tiling,
     flows: &'a [TileFlow],
     outlets: &'a Outlets<'a>,
-    numbers: &'a [u32],
+    numbers: &'a OutletNumbers<'a>,
     ghost ready: { AreReady tiling.now flows.now outlets.now numbers.now } by { Prim.hlevel props },
 }
 
@@ -97,7 +98,7 @@ pub(crate) fn basins_along<R: Threads + Wait + Sync, G: Gate + Sync>(
     let Ok(outlets) = Outlets::join(alloc, tiling, &flows) else {
         return Err(JobFault::Memory);
     };
-    let Ok(numbers) = outlet_numbers(alloc, codes) else {
+    let Ok(numbers) = OutletNumbers::of_codes(alloc, codes) else {
         return Err(JobFault::Memory);
     };
     let tiles = number_tiles(rt, alloc, tiling, &flows, &outlets, &numbers, workers, gate)?;
@@ -116,7 +117,7 @@ fn number_tiles<R: Threads + Wait + Sync, G: Gate + Sync>(
     tiling: &Tiling,
     flows: &[TileFlow],
     outlets: &Outlets<'_>,
-    numbers: &[u32],
+    numbers: &OutletNumbers<'_>,
     workers: u32,
     gate: &G,
 ) -> Result<Vec<Vec<Option<u32>>>, JobFault>
@@ -141,7 +142,7 @@ fn tile_basins(
     tiling: &Tiling,
     flows: &[TileFlow],
     outlets: &Outlets<'_>,
-    numbers: &[u32],
+    numbers: &OutletNumbers<'_>,
     tile: u32,
 ) -> Result<Vec<Option<u32>>, NoMemory>
     requires ready { AreReady tiling.now flows.now outlets.now numbers.now }
@@ -150,9 +151,8 @@ fn tile_basins(
         IsTileMapOf d tiling.now tile (basin d) v.items) }
 {
     let flow = &flows[tile as usize];
-    let bounds = flow.bounds();
-    let labels = exit_labels(alloc, tiling, outlets, numbers, bounds, flow.exits())?;
-    numbered(alloc, bounds, flow.exits(), &labels)
+    let labels = exit_labels(alloc, tiling, outlets, numbers, flow)?;
+    numbered(alloc, flow, &labels)
 }
 
 // The number of the outlet of each exit, at its own index.
@@ -160,21 +160,18 @@ fn exit_labels(
     alloc: Global,
     tiling: &Tiling,
     outlets: &Outlets<'_>,
-    numbers: &[u32],
-    bounds: Bounds,
-    exits: &[Option<Place>],
+    numbers: &OutletNumbers<'_>,
+    flow: &TileFlow,
 ) -> Result<Vec<u32>, NoMemory>
-    requires small { IsSmall bounds }
     requires cutting { outlets.now.cutting ≡ tiling.now }
-    requires exits { (i : ℕ) → IfSome (slice_index_or exits.now i None) (IsExitOfTile outlets.now numbers.now bounds) }
-    ensures { IfOk result (λ v. v.items ≡ labels_by numbers.now outlets.now bounds exits.now) }
+    requires exits { (i : ℕ) → IfSome (slice_index_or flow.now.exits i None) (IsExitOfTile outlets.now numbers.now flow.now.bounds) }
+    ensures { IfOk result (λ v. v.items ≡ labels_by numbers.now outlets.now flow.now.bounds flow.now.exits) }
 {
-    let Ok(mut labels) = Vec::with_capacity(alloc, exits.len()) else {
+    let Ok(mut labels) = Vec::with_capacity(alloc, flow.cell_count()) else {
         return Err(NoMemory);
     };
-    for index in 0..exits.len() {
-        let exit = exits[index];
-        let label = label_of(tiling, outlets, numbers, bounds, index, exit);
+    for index in 0..flow.cell_count() {
+        let label = label_of(tiling, outlets, numbers, flow, index);
         if labels.push(label).is_err() {
             return Err(NoMemory);
         }
@@ -186,27 +183,31 @@ fn exit_labels(
 fn label_of(
     tiling: &Tiling,
     outlets: &Outlets<'_>,
-    numbers: &[u32],
-    bounds: Bounds,
+    numbers: &OutletNumbers<'_>,
+    flow: &TileFlow,
     index: usize,
-    exit: Option<Place>,
 ) -> u32
-    requires small { IsSmall bounds }
     requires cutting { outlets.now.cutting ≡ tiling.now }
-    requires exit { IfSome exit (IsExitOfTile outlets.now numbers.now bounds) }
-    ensures { result ≡ label_by numbers.now outlets.now bounds index exit }
+    requires index { index < length flow.now.exits }
+    requires exit { IfSome (slice_index_or flow.now.exits index None) (IsExitOfTile outlets.now numbers.now flow.now.bounds) }
+    ensures { result ≡ label_by numbers.now outlets.now flow.now.bounds index (slice_index_or flow.now.exits index None) }
 {
-    let Some(exit) = exit else {
+    let Some(exit) = flow.exit_index(index) else {
         return 0;
     };
-    if index_of(bounds, exit) != index {
+    if exit as usize != index {
         return 0;
     }
-    number_of(tiling, outlets, numbers, exit)
+    number_of(tiling, outlets, numbers, place_at(flow.bounds(), exit))
 }
 
 // The number of the outlet of an exit.
-fn number_of(tiling: &Tiling, outlets: &Outlets<'_>, numbers: &[u32], exit: Place) -> u32
+fn number_of(
+    tiling: &Tiling,
+    outlets: &Outlets<'_>,
+    numbers: &OutletNumbers<'_>,
+    exit: Place,
+) -> u32
     requires cutting { outlets.now.cutting ≡ tiling.now }
     requires within { IsWithin outlets.now.cutting exit }
     requires numbered { IfSome (outlet_in outlets.now exit) (λ o. index_of outlets.now.cutting.cols o < length numbers.now) }
@@ -214,29 +215,22 @@ fn number_of(tiling: &Tiling, outlets: &Outlets<'_>, numbers: &[u32], exit: Plac
 {
     match outlets.outlet(exit) {
         Some(outlet) => {
-            numbers[outlet.row as usize * tiling.cols() as usize + outlet.col as usize]
+            numbers.number(outlet.row as usize * tiling.cols() as usize + outlet.col as usize)
         }
         None => 0,
     }
 }
 
 // The label of each cell's exit.
-fn numbered(
-    alloc: Global,
-    bounds: Bounds,
-    exits: &[Option<Place>],
-    labels: &[u32],
-) -> Result<Vec<Option<u32>>, NoMemory>
-    requires small { IsSmall bounds }
-    requires size { length labels.now ≡ bounds.rows * bounds.cols }
-    requires exits { (i : ℕ) → IfSome (slice_index_or exits.now i None) (IsInBounds bounds) }
-    ensures { IfOk result (λ v. v.items ≡ numbered_by bounds labels.now exits.now) }
+fn numbered(alloc: Global, flow: &TileFlow, labels: &[u32]) -> Result<Vec<Option<u32>>, NoMemory>
+    requires { length labels.now ≡ length flow.now.exits }
+    ensures { IfOk result (λ v. v.items ≡ numbered_by flow.now.bounds labels.now flow.now.exits) }
 {
-    let Ok(mut values) = Vec::with_capacity(alloc, exits.len()) else {
+    let Ok(mut values) = Vec::with_capacity(alloc, labels.len()) else {
         return Err(NoMemory);
     };
-    for index in 0..exits.len() {
-        let value = label_at(bounds, labels, exits[index]);
+    for index in 0..labels.len() {
+        let value = label_at(flow, labels, index);
         if values.push(value).is_err() {
             return Err(NoMemory);
         }
@@ -245,39 +239,13 @@ fn numbered(
 }
 
 #[inline(always)]
-fn label_at(bounds: Bounds, labels: &[u32], exit: Option<Place>) -> Option<u32>
-    requires small { IsSmall bounds }
-    requires size { length labels.now ≡ bounds.rows * bounds.cols }
-    requires exit { IfSome exit (IsInBounds bounds) }
-    ensures { result ≡ label_at bounds labels.now exit }
+fn label_at(flow: &TileFlow, labels: &[u32], index: usize) -> Option<u32>
+    requires size { length labels.now ≡ length flow.now.exits }
+    requires index { index < length labels.now }
+    ensures { result ≡ label_at flow.now.bounds labels.now (slice_index_or flow.now.exits index None) }
 {
-    match exit {
-        Some(exit) => Some(labels[index_of(bounds, exit)]),
+    match flow.exit_index(index) {
+        Some(exit) => Some(labels[exit as usize]),
         None => None,
     }
-}
-
-// For each cell one more than the outlets that stand before it in row order.
-fn outlet_numbers(alloc: Global, codes: &[Option<Code>]) -> Result<Vec<u32>, NoMemory>
-    requires { length codes.now < 2 ^ 32 - 1 }
-    ensures { IfOk result (λ v. v.items ≡ outlet_numbers_by codes.now) }
-{
-    let Ok(mut numbers) = Vec::with_capacity(alloc, codes.len()) else {
-        return Err(NoMemory);
-    };
-    let mut number = 1;
-    for index in 0..codes.len() {
-        if numbers.push(number).is_err() {
-            return Err(NoMemory);
-        }
-        number += one_if_outlet(codes[index]);
-    }
-    Ok(numbers)
-}
-
-#[inline(always)]
-fn one_if_outlet(code: Option<Code>) -> u32
-    ensures { result ≡ if is_outlet_code code then 1 else 0 }
-{
-    u32::from(is_outlet(code))
 }

@@ -1,8 +1,9 @@
 // Flow inside one tile.
-ghost use Rattle.std.specs.Prelude.{◌≡◌, ◌*◌, ◌<◌, ℕ, length, slice_index, IfOk, None, Some, if◌then◌else◌};
+ghost use Rattle.std.specs.Prelude.{◌≡◌, ◌<◌, length, slice_index_or, IfOk, IfSome, None, Some, if◌then◌else◌};
+ghost use Rattle.std.specs.Option.{option_map};
 ghost use Rattle.drain.specs.Drained.{AllFlowEnds};
 ghost use Rattle.flow.specs.TileFlow.{directed_by, IsFlow, IsTileFlow, entry_in, through_in, exit_in};
-ghost use Rattle.flow.specs.TileLinks.{IsSmall, where_data, through_by, exits_by};
+ghost use Rattle.flow.specs.TileLinks.{index_in, where_data, through_by};
 ghost use Rattle.flow.specs.Whole.{is_outlet_code};
 ghost use Rattle.flow.specs.RimGraph.{way_out_in};
 
@@ -20,28 +21,20 @@ use tiles::{Bounds, TileView};
 pub struct TileFlow {
     bounds: Bounds,
     codes: Vec<Option<Code>>,
-    through: Vec<Option<u32>>,
-    exits: Vec<Option<Place>>,
+    // What comes to each cell, and the index of its exit. A cell without data has neither.
+    came: Vec<u32>,
+    ends: Vec<u32>,
 }
 
 impl Model for TileFlow {
-    ghost use Rattle.flow.specs.TileFlow.{Flow, IsFlow};
+    ghost use Rattle.flow.specs.TileFlow.{Flow};
+    ghost use Rattle.flow.specs.TileLinks.{AreFlowLists, flow_by};
 
     ghost Value = { Flow };
 
-    ghost view = { λ f. record {
-      bounds = f.bounds;
-      codes = f.codes.items;
-      through = f.through.items;
-      exits = f.exits.items;
-    } };
+    ghost view = { λ f. flow_by f.bounds f.codes.items f.came.items f.ends.items };
 
-    ghost invariant = { λ f. IsFlow (record {
-      bounds = f.bounds;
-      codes = f.codes.items;
-      through = f.through.items;
-      exits = f.exits.items;
-    }) };
+    ghost invariant = { λ f. AreFlowLists f.bounds f.codes.items f.came.items f.ends.items };
 }
 
 impl TileFlow {
@@ -50,7 +43,7 @@ impl TileFlow {
         ensures { result ≡ through_in self.now place }
     {
         if contains(self.bounds, place) {
-            self.through[index_of(self.bounds, place)]
+            self.count_at(index_of(self.bounds, place))
         } else {
             None
         }
@@ -76,12 +69,40 @@ impl TileFlow {
         self.bounds
     }
 
-    // The exits of all cells of the tile, in its row order.
+    // How many cells the tile has.
     #[inline(always)]
-    pub(crate) fn exits(&self) -> &[Option<Place>]
-        ensures { result.now ≡ self.now.exits }
+    pub(crate) fn cell_count(&self) -> usize
+        ensures { result ≡ length self.now.exits }
     {
-        &self.exits
+        self.codes.len()
+    }
+
+    // The count of the cell with this index in the tile's row order.
+    #[inline(always)]
+    fn count_at(&self, index: usize) -> Option<u32>
+        requires { index < length self.now.through }
+        ensures { result ≡ slice_index_or self.now.through index None }
+    {
+        counted(self.codes[index], self.came[index])
+    }
+
+    // The exit of the cell with this index in the tile's row order.
+    #[inline(always)]
+    fn exit_at(&self, index: usize) -> Option<Place>
+        requires { index < length self.now.exits }
+        ensures { result ≡ slice_index_or self.now.exits index None }
+    {
+        placed(self.codes[index], place_at(self.bounds, self.ends[index]))
+    }
+
+    // The index of the exit of the cell with this index.
+    #[inline(always)]
+    pub(crate) fn exit_index(&self, index: usize) -> Option<u32>
+        requires { index < length self.now.exits }
+        ensures value { result ≡ option_map (index_in self.now.bounds) (slice_index_or self.now.exits index None) }
+        ensures below { IfSome result (λ exit. exit < length self.now.exits) }
+    {
+        counted(self.codes[index], self.ends[index])
     }
 
     // Where water that enters the tile at a place leaves it again; None where it ends in the tile.
@@ -99,7 +120,7 @@ impl TileFlow {
         ensures { result ≡ exit_in self.now place }
     {
         if contains(self.bounds, place) {
-            self.exits[index_of(self.bounds, place)]
+            self.exit_at(index_of(self.bounds, place))
         } else {
             None
         }
@@ -136,13 +157,11 @@ pub fn tile_flow(alloc: Global, codes: &TileView<'_, Option<Code>>) -> Result<Ti
     let weights = tile_weights(alloc, &cells)?;
     let came = upstream(alloc, &links, &weights)?;
     let ends = ends(alloc, &links)?;
-    let through = through_counts(alloc, &cells, &came)?;
-    let exits = exit_places(alloc, bounds, &cells, &ends)?;
     Ok(TileFlow {
         bounds,
         codes: cells,
-        through,
-        exits,
+        came,
+        ends,
     })
 }
 
@@ -176,30 +195,6 @@ pub(crate) fn counted(code: Option<Code>, count: u32) -> Option<u32>
         Some(_) => Some(count),
         None => None,
     }
-}
-
-// The exit of each data cell, of where its links end.
-fn exit_places(
-    alloc: Global,
-    bounds: Bounds,
-    cells: &[Option<Code>],
-    ends: &[u32],
-) -> Result<Vec<Option<Place>>, NoMemory>
-    requires small { IsSmall bounds }
-    requires size { length ends.now ≡ length cells.now }
-    requires inside { (i : ℕ) → i < length cells.now → slice_index ends.now i < bounds.rows * bounds.cols }
-    ensures { IfOk result (λ v. v.items ≡ exits_by bounds cells.now ends.now) }
-{
-    let Ok(mut exits) = Vec::with_capacity(alloc, cells.len()) else {
-        return Err(NoMemory);
-    };
-    for index in 0..cells.len() {
-        let exit = placed(cells[index], place_at(bounds, ends[index]));
-        if exits.push(exit).is_err() {
-            return Err(NoMemory);
-        }
-    }
-    Ok(exits)
 }
 
 #[inline(always)]

@@ -1,15 +1,18 @@
-use Rattle.std.proofs.Common.{◌≡◌, [], ◌∷◌, ◌++◌, None, ap, ◌∙◌, rules}
-use Rattle.drain.specs.Following.{code_at}
-use Rattle.flow.specs.TileFlow.{directed_by}
-use Rattle.flow.specs.TileLinks.{place_in}
-use Rattle.flow.proofs.Pushing.{pushed_each, pushed_size}
+use Rattle.std.proofs.Common.{◌≡◌, ◌++◌, subst, ap, refl, rules, arith}
+use Rattle.tiles.specs.declared.bounds.Bounds.{Bounds}
+use Rattle.tiles.specs.Cutting.{AreBounds, bounds_of}
+use Rattle.flow.proofs.Shown.{AreFirstRows, row_added}
 use Rattle.flow.proofs.cells.tile_codes.Goals as goal
 
-pub loop-index-preserved : goal.loop-index-preserved
-loop-index-preserved c =
-    let pushed : c.push.new.self.items ≡ c.loop-index.cells.items ++ c.code_shown-code.result ∷ [] = search rules in
-    record {
-      size = pushed_size _ _ _ _ pushed c.loop-index.invariant.size;
-      each = pushed_each (λ i. code_at (directed_by c.args.codes.now) (place_in c.bounds-bounds.result i)) None _ _ _ _ pushed c.loop-index.invariant.size c.loop-index.invariant.each
-          (c.code_shown-code.ensures ∙ ap (code_at (directed_by c.args.codes.now)) c.place_at.ensures.value);
-    }
+pub loop-row-preserved : goal.loop-row-preserved
+loop-row-preserved c =
+    let v = c.args.codes.now in
+    let made : c.extend_from_slice.new.self.items ≡ c.loop-row.cells.items ++ c.row.result.now = search rules in
+    let inside : AreBounds c.args.codes.now.cutting (bounds_of c.args.codes.now.cutting c.args.codes.now.tile) =
+    subst (λ (b : Bounds). AreBounds c.args.codes.now.cutting b) c.bounds-bounds.ensures.value c.bounds-bounds.ensures.inside in
+    let rows = ap (λ (b : Bounds). b.rows) c.bounds-bounds.ensures.value in
+    let so_far : AreFirstRows c.args.codes.now (bounds_of c.args.codes.now.cutting c.args.codes.now.tile) c.loop-row.row c.loop-row.cells.items =
+    record { size = c.loop-row.invariant.size; each = c.loop-row.invariant.each } in
+    let more = row_added v (bounds_of v.cutting v.tile) c.loop-row.row c.loop-row.cells.items c.row.result.now c.extend_from_slice.new.self.items refl inside
+    (omega (arith, c.loop-row-test.true, rows)) c.row.ensures.value c.row.ensures.size made so_far in
+    record { size = more.size; each = more.each }

@@ -1,7 +1,6 @@
-use Rattle.std.proofs.Common.{◌≡◌, get_or, map, None}
-use Rattle.std.specs.List.{range_with_len}
-use Rattle.flow.specs.TileLinks.{link_by}
+use Rattle.std.proofs.Common.{◌≡◌, ◌*◌}
+use Rattle.flow.specs.TileLinks.{first_links}
 use Rattle.flow.proofs.cells.tile_links.Given as goal
 
-abbrev pub invariant-loop-index : goal.invariant-loop-index
-invariant-loop-index l = l.links.items ≡ map (λ i. link_by l.bounds i (get_or l.cells i None)) (range_with_len 0 l.index)
+abbrev pub invariant-loop-row : goal.invariant-loop-row
+invariant-loop-row l = l.links.items ≡ first_links l.bounds l.cells (l.row * l.bounds.cols)

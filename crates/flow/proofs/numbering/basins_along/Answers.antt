@@ -1,4 +1,4 @@
-use Rattle.std.proofs.Common.{ℕ, List, Option, Vec, Global, subst, sym, refl, ◌∙◌}
+use Rattle.std.proofs.Common.{ℕ, List, Option, Vec, Global, subst, sym, refl}
 use Rattle.tiles.specs.Cutting.{AreTileLists, IsPutBack}
 use Rattle.drain.specs.Following.{Directed}
 use Rattle.flow.specs.Counts.{basin}
@@ -14,14 +14,14 @@ put_back-requires g c =
     let d : Directed = make_directed c.args.tiling.now.cols c.args.tiling.now.rows c.args.codes.now in
     let flows = subst (λ (x : List Flow). AreFlowsOf d c.args.tiling.now x) (sym c.deref-2.ensures.value) c.in_ok-flows.ensures.flows in
     let first = subst (λ (x : List Flow). AreFlowsOf d c.args.tiling.now x) (sym c.deref.ensures.value) c.in_ok-flows.ensures.flows in
-    let numbering : IsNumbering d c.args.tiling.now c.deref-2.result.now c.in-Ok.outlets c.deref-3.result.now = record {
+    let numbering : IsNumbering d c.args.tiling.now c.deref-2.result.now c.in-Ok.outlets c.in-Ok-of_codes.numbers = record {
       are_flows = flows;
       are_outlets = c.in-Ok.ensures.outlets d first;
       same_cutting = c.in-Ok.ensures.cutting;
-      are_numbers = c.deref-3.ensures.value ∙ c.in-Ok-outlet_numbers.ensures;
+      same_codes = c.in-Ok-of_codes.ensures;
       size = c.requires.flows.size;
     } in
-    subst (λ (x : List (Vec (Option ℕ) Global)). AreTileLists c.args.tiling.now x) (sym c.deref-4.ensures.value)
+    subst (λ (x : List (Vec (Option ℕ) Global)). AreTileLists c.args.tiling.now x) (sym c.deref-3.ensures.value)
     (map_lists d c.args.tiling.now (basin d) c.in_ok-tiles.tiles.items (c.in_ok-tiles.ensures.tiles d numbering))
 
 pub returns-in-Ok-put_back-clause-values : goal.returns-in-Ok-put_back-clause-values
@@ -29,12 +29,12 @@ returns-in-Ok-put_back-clause-values g c =
     let d : Directed = make_directed c.args.tiling.now.cols c.args.tiling.now.rows c.args.codes.now in
     let flows = subst (λ (x : List Flow). AreFlowsOf d c.args.tiling.now x) (sym c.deref-2.ensures.value) c.in_ok-flows.ensures.flows in
     let first = subst (λ (x : List Flow). AreFlowsOf d c.args.tiling.now x) (sym c.deref.ensures.value) c.in_ok-flows.ensures.flows in
-    let numbering : IsNumbering d c.args.tiling.now c.deref-2.result.now c.in-Ok.outlets c.deref-3.result.now = record {
+    let numbering : IsNumbering d c.args.tiling.now c.deref-2.result.now c.in-Ok.outlets c.in-Ok-of_codes.numbers = record {
       are_flows = flows;
       are_outlets = c.in-Ok.ensures.outlets d first;
       same_cutting = c.in-Ok.ensures.cutting;
-      are_numbers = c.deref-3.ensures.value ∙ c.in-Ok-outlet_numbers.ensures;
+      same_codes = c.in-Ok-of_codes.ensures;
       size = c.requires.flows.size;
     } in
-    let put = subst (λ (x : List (Vec (Option ℕ) Global)). IsPutBack c.args.tiling.now x c.in-Ok-put_back.values.items) c.deref-4.ensures.value c.in-Ok-put_back.ensures in
+    let put = subst (λ (x : List (Vec (Option ℕ) Global)). IsPutBack c.args.tiling.now x c.in-Ok-put_back.values.items) c.deref-3.ensures.value c.in-Ok-put_back.ensures in
     maps_put_back d c.args.tiling.now (basin d) c.in_ok-tiles.tiles.items c.in-Ok-put_back.values.items flows.cutting refl refl (c.in_ok-tiles.ensures.tiles d numbering) put

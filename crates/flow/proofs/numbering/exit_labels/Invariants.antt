@@ -4,4 +4,4 @@ use Rattle.flow.specs.Numbering.{label_by}
 use Rattle.flow.proofs.numbering.exit_labels.Given as goal
 
 abbrev pub invariant-loop-index : goal.invariant-loop-index
-invariant-loop-index l = l.labels.items ≡ map (λ i. label_by l.numbers l.outlets l.bounds i (get_or l.exits i None)) (range_with_len 0 l.index)
+invariant-loop-index l = l.labels.items ≡ map (λ i. label_by l.numbers l.outlets l.flow.bounds i (get_or l.flow.exits i None)) (range_with_len 0 l.index)
