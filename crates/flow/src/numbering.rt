@@ -1,12 +1,11 @@
 // The basins of a map of directions, tile by tile.
 ghost use Rattle.std.proofs.Props.{props};
-ghost use Rattle.std.specs.Prelude.{◌≡◌, ◌-◌, ◌*◌, ◌^◌, ◌<◌, ℕ, length, slice_index_or, None, IfOk, IfSome, if◌then◌else◌};
-ghost use Rattle.tiles.specs.Cutting.{Cuts, IsInBounds, IsWithin, tile_count, bounds_of};
+ghost use Rattle.std.specs.Prelude.{◌≡◌, ◌<◌, ℕ, length, slice_index_or, None, IfOk, IfSome};
+ghost use Rattle.tiles.specs.Cutting.{Cuts, IsWithin, tile_count};
 ghost use Rattle.tile_jobs.specs.Fault.{RefusesWorkers};
 ghost use Rattle.drain.specs.Drained.{directed_of};
 ghost use Rattle.drain.specs.Following.{Directed};
 ghost use Rattle.flow.specs.Counts.{AreBasins, basin};
-ghost use Rattle.flow.specs.TileLinks.{IsSmall};
 ghost use Rattle.flow.specs.Whole.{IsGridFlow, make_directed};
 ghost use Rattle.ascii_grid.specs.Neighbours.{index_of};
 ghost use Rattle.flow.specs.RimGraph.{outlet_in};
