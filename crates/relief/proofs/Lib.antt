@@ -3,3 +3,6 @@ mod Ran
 mod Viewing
 mod Commas
 mod Maps
+mod Given
+mod Commands
+mod Asked

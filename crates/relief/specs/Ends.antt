@@ -6,6 +6,8 @@ use Rattle.relief.specs.declared.fault.RunFault.{RunFault}
 use Rattle.relief.specs.FaultLine.{fault_line, fault_status}
 use Rattle.relief.specs.Wish.{Wish}
 use Rattle.relief.specs.Runs.{Runs}
+use Rattle.relief.specs.CommandLine.{AskForHelp, AreRefused}
+use Rattle.clap.specs.Words.{Text}
 
 -- A run's status: 0 where it is done, and the fault's where it is refused. Then the fault's line was written to the
 -- errors, as far as they took it.
@@ -20,8 +22,8 @@ pub record EndsRun {R W E : Type 0} (remaining : R → Option (List ℕ)) (conte
   pub runs : Runs remaining contents wish reader left writer grown result
   pub ends : EndsAs lines errors told result status
 
--- The words named no map, and nothing was read: the help that they ask for was shown, or they were refused, or there
--- was no memory to read them. The help alone goes to the writer.
-pub record EndsUnread {R W : Type 0} (reader left : Device R) (writer grown : Device W) (status : ℕ) : Type 0 where
+-- Nothing was read: the words ask for help, which alone goes to the writer, or they are refused, or there was no memory
+-- to read them.
+pub record EndsUnread {R W : Type 0} (words : List Text) (reader left : Device R) (writer grown : Device W) (status : ℕ) : Type 0 where
   pub unread : left ≡ reader
-  pub status_is : (status ≡ 0) ⊎ (((status ≡ 1) ⊎ (status ≡ 3)) × (grown ≡ writer))
+  pub status_is : ((status ≡ 0) × AskForHelp words) ⊎ ((grown ≡ writer) × (((status ≡ 1) × AreRefused words) ⊎ (status ≡ 3)))

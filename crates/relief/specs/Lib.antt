@@ -4,6 +4,8 @@ pub mod Faults
 pub mod MapText
 pub mod Refusals
 pub mod Runs
+pub mod CommandLine
+pub mod WordsFaults
 pub mod Ends
 pub mod MadeMap
 pub mod ObserverWord

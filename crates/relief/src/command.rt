@@ -1,17 +1,24 @@
 // The words of the command line.
-ghost use Rattle.std.specs.Prelude.{◌≡◌, ◌≤◌, ◌<◌, ◌-◌, ◌^◌, ◌⊎◌};
+ghost use Rattle.std.specs.Prelude.{◌≡◌, ◌≤◌, ◌<◌, ◌-◌, ◌^◌, ◌⊎◌, ℕ, List, map, codes, Some, IfOk, IfErr, IfSome, IfNone};
+ghost use Rattle.clap.specs.Words.{found_of, kind_of, rows_of};
+ghost use Rattle.sight.specs.declared.observer.Observer.{Observer};
+ghost use Rattle.relief.specs.CommandLine.{HasNumber, HasOptions, Names, WishFor, words_given};
 ghost use Rattle.relief.specs.Ends.{EndsRun, EndsUnread};
-ghost use Rattle.relief.specs.Wish.{Wish};
+ghost use Rattle.relief.specs.ObserverWord.{observer_of};
+ghost use Rattle.relief.specs.Wish.{AreLimits, Wish};
+ghost use Rattle.relief.specs.WordsFaults.{EndsShowing, IsFaultOf, IsFaultOr, IsWant};
+ghost use Rattle.relief.specs.declared.command.WordsFault.TheVariants.{Clap};
+ghost use Rattle.relief.specs.declared.map.Map.{Map};
 
-use crate::help::{ABOUT, COMMON, EXAMPLES, MAPS, MapHelp, VIEW, VIEW_WORDS};
 use crate::map::Map;
 use crate::observer_word::parse_observer;
 use crate::options::Options;
+use crate::program::program;
 use crate::running::run;
 use crate::telling::{tell, tell_bad_word};
 use ascii_grid::Counted;
 use clap::error::ErrorKind;
-use clap::{Arg, ArgAction, ArgMatches, Command, Error, value_parser};
+use clap::{ArgMatches, Error};
 use sight::Observer;
 use std::alloc::{AllocError, Global};
 use std::io::{Read, Write};
@@ -23,16 +30,6 @@ const DONE: u8 = 0;
 const WORDS_REFUSED: u8 = 1;
 
 const NO_MEMORY: u8 = 3;
-
-const DEFAULT_TILE: u32 = 256;
-
-const DEFAULT_WORKERS: u32 = 1;
-
-const DEFAULT_SCALE: u8 = 0;
-
-const DEFAULT_TARGET: u32 = 0;
-
-const DEFAULT_RADIUS: u32 = 8192;
 
 static NAME_ALONE: [&str; 1] = ["relief"];
 
@@ -48,128 +45,118 @@ enum WordsFault {
 }
 
 impl From<Error> for WordsFault {
+    ghost from_gives = { λ error fault. fault ≡ Clap error };
+
     fn from(error: Error) -> Self {
         WordsFault::Clap(error)
     }
 }
 
 impl From<AllocError> for WordsFault {
+    ghost from_gives = { λ _ fault. IsWant fault };
+
     fn from(error: AllocError) -> Self {
         WordsFault::Clap(Error::from(error))
     }
 }
 
-/// A subcommand with the options that each map has.
-fn map_command<'a>(alloc: Global, help: MapHelp) -> Result<Command<'a>, AllocError> {
-    let tile = Arg::new(alloc, "tile")
-        .long("tile")
-        .value_name("N")
-        .value_parser(value_parser!(u32).range(1..=4096))
-        .default_value("256")
-        .help("Side of the tiles in cells, 1 to 4096; the map is the same for each");
-    let workers = Arg::new(alloc, "workers")
-        .long("workers")
-        .value_name("N")
-        .value_parser(value_parser!(u32).range(1..=64))
-        .default_value("1")
-        .help("Number of threads, 1 to 64; the map is the same for each");
-    let scale = Arg::new(alloc, "scale")
-        .long("scale")
-        .value_name("D")
-        .value_parser(value_parser!(u8).range(0..=6))
-        .default_value("0")
-        .help("Decimals of the heights, 0 to 6: heights are whole numbers of 10^-D");
-    let command = Command::new(alloc, help.name)
-        .about(help.about)
-        .long_about(help.details)
-        .after_help(COMMON)
-        .arg(tile)?;
-    command.arg(workers)?.arg(scale)
+/// The number that the value of an option spells; None where it spells none of 32 bits.
+fn number_given(found: &ArgMatches<'_>, id: &str) -> Option<u32>
+    ensures some { IfSome result (HasNumber (rows_of (found_of found.now)) id.now) }
+    ensures none { IfNone result ((n : ℕ) → HasNumber (rows_of (found_of found.now)) id.now n → ⊥) }
+{
+    found.get_one::<u32>(id)
 }
 
-fn view_command<'a>(alloc: Global) -> Result<Command<'a>, AllocError> {
-    let target = Arg::new(alloc, "target")
-        .long("target")
-        .value_name("N")
-        .value_parser(value_parser!(u32))
-        .default_value("0")
-        .help("Height of the targets above the ground in units of 10^-D, 0 to 1000000");
-    let radius = Arg::new(alloc, "radius")
-        .long("radius")
-        .value_name("N")
-        .value_parser(value_parser!(u32))
-        .default_value("8192")
-        .help("How far is seen, in cells, 1 to 8192");
-    let observers = Arg::new(alloc, "observers")
-        .value_name("ROW,COL,EYE")
-        .required(true)
-        .action(ArgAction::Append)
-        .num_args(1..)
-        .help(VIEW_WORDS);
-    map_command(alloc, VIEW)?
-        .arg(target)?
-        .arg(radius)?
-        .arg(observers)
-}
-
-fn program<'a>(alloc: Global) -> Result<Command<'a>, AllocError> {
-    let mut program = Command::new(alloc, "relief")
-        .about(ABOUT)
-        .after_help(EXAMPLES)
-        .subcommand_required(true)
-        .disable_help_subcommand(true);
-    for help in MAPS {
-        program = program.subcommand(map_command(alloc, help)?)?;
-    }
-    program.subcommand(view_command(alloc)?)
-}
-
-fn observers_of(alloc: Global, found: &ArgMatches<'_>) -> Result<Vec<Observer>, WordsFault> {
+/// The observers that these words are.
+fn observers_of(alloc: Global, words: &[&str]) -> Result<Vec<Observer>, WordsFault>
+    ensures some { IfOk result (λ v. map observer_of (map (λ w. w.now) words.now) ≡ map Some v.items) }
+    ensures none { IfErr result (IsFaultOr ((observers : List Observer) →
+        map observer_of (map (λ w. w.now) words.now) ≡ map Some observers → ⊥)) }
+{
     let mut observers = Vec::new(alloc);
-    let Some(words) = found.get_strs("observers") else {
-        return Ok(observers);
-    };
-    let mut place = 0u32;
-    for word in words {
-        let Some(observer) = parse_observer(word) else {
-            return Err(WordsFault::BadObserver(place));
+    for place in 0..words.len() {
+        let Some(observer) = parse_observer(words[place]) else {
+            return Err(WordsFault::BadObserver(u32::try_from(place).unwrap_or(u32::MAX)));
         };
         observers.push(observer).map_err(AllocError::from)?;
-        place = place.saturating_add(1);
     }
     Ok(observers)
 }
 
-fn map_of(alloc: Global, name: &str, found: &ArgMatches<'_>) -> Result<Map, WordsFault> {
+/// The viewshed that is asked for.
+fn view_of(alloc: Global, found: &ArgMatches<'_>) -> Result<Map, WordsFault>
+    ensures some { IfOk result (Names (codes "view") (rows_of (found_of found.now))) }
+    ensures none { IfErr result (IsFaultOr ((map : Map) → Names (codes "view") (rows_of (found_of found.now)) map → ⊥)) }
+{
+    let Some(words) = found.get_strs("observers") else {
+        return Err(WordsFault::NoMap);
+    };
+    let observers = observers_of(alloc, words)?;
+    let Some(target) = number_given(found, "target") else {
+        return Err(WordsFault::NoMap);
+    };
+    let Some(radius) = number_given(found, "radius") else {
+        return Err(WordsFault::NoMap);
+    };
+    Ok(Map::View {
+        observers,
+        target,
+        radius,
+    })
+}
+
+/// The map of this name.
+fn map_of(alloc: Global, name: &str, found: &ArgMatches<'_>) -> Result<Map, WordsFault>
+    ensures some { IfOk result (Names name.now (rows_of (found_of found.now))) }
+    ensures none { IfErr result (IsFaultOr ((map : Map) → Names name.now (rows_of (found_of found.now)) map → ⊥)) }
+{
     match name {
         "fill" => Ok(Map::Fill),
         "flow" => Ok(Map::Flow),
         "accumulate" => Ok(Map::Accumulate),
         "basins" => Ok(Map::Basins),
-        "view" => Ok(Map::View {
-            observers: observers_of(alloc, found)?,
-            target: found.get_one::<u32>("target").unwrap_or(DEFAULT_TARGET),
-            radius: found.get_one::<u32>("radius").unwrap_or(DEFAULT_RADIUS),
-        }),
+        "view" => view_of(alloc, found),
         _ => Err(WordsFault::NoMap),
     }
 }
 
-fn options_asked<'a>(alloc: Global, words: &'a [&'a str]) -> Result<Options, WordsFault> {
+/// A map with the options given; None where one of them is not in its limits.
+fn with_options(map: Map, found: &ArgMatches<'_>) -> Option<Options>
+    ensures some { IfSome result (λ o. (o.map ≡ map) × HasOptions (rows_of (found_of found.now)) o.tile o.workers o.scale) }
+    ensures none { IfNone result ((tile workers scale : ℕ) → AreLimits tile workers scale →
+        HasOptions (rows_of (found_of found.now)) tile workers scale → ⊥) }
+{
+    let tile = number_given(found, "tile")?;
+    let workers = number_given(found, "workers")?;
+    let scale = number_given(found, "scale")?;
+    let Ok(scale) = u8::try_from(scale) else {
+        return None;
+    };
+    Options::new(map, tile, workers, scale)
+}
+
+fn options_asked<'a>(alloc: Global, words: &'a [&'a str]) -> Result<Options, WordsFault>
+    ensures wish { IfOk result (WishFor (map (λ w. w.now) words.entry.now)) }
+    ensures fault { IfErr result (IsFaultOf (map (λ w. w.now) words.entry.now)) }
+{
     let command = program(alloc)?;
     let matches = command.try_get_matches_from(words)?;
     let Some((name, found)) = matches.subcommand() else {
         return Err(WordsFault::NoMap);
     };
     let map = map_of(alloc, name, found)?;
-    let tile = found.get_one::<u32>("tile").unwrap_or(DEFAULT_TILE);
-    let workers = found.get_one::<u32>("workers").unwrap_or(DEFAULT_WORKERS);
-    let scale = found.get_one::<u8>("scale").unwrap_or(DEFAULT_SCALE);
-    Options::new(map, tile, workers, scale).ok_or(WordsFault::NoMap)
+    match with_options(map, found) {
+        Some(options) => Ok(options),
+        None => Err(WordsFault::NoMap),
+    }
 }
 
 /// The options that the words ask for; an empty list of words is taken for the name alone.
-fn parse(alloc: Global, words: &[&str]) -> Result<Options, WordsFault> {
+fn parse(alloc: Global, words: &[&str]) -> Result<Options, WordsFault>
+    ensures wish { IfOk result (WishFor (words_given (map (λ w. w.now) words.now))) }
+    ensures fault { IfErr result (IsFaultOf (words_given (map (λ w. w.now) words.now))) }
+{
     if words.is_empty() {
         options_asked(alloc, NAME_ALONE.as_slice())
     } else {
@@ -195,7 +182,7 @@ fn show_error<W: Write, E: Write>(
 ) -> u8
     requires writer { writer.old.failures < 2 ^ 64 - 1 }
     requires errors { errors.old.failures < 2 ^ 64 - 1 }
-    ensures { (result ≡ 0) ⊎ (((result ≡ 1) ⊎ (result ≡ 3)) × (writer.new ≡ writer.old)) }
+    ensures { EndsShowing (kind_of error.now) writer.old writer.new result }
 {
     if error.kind() == ErrorKind::OutOfMemory {
         return NO_MEMORY;
@@ -228,8 +215,9 @@ pub fn run_words<H: Threads + Wait + Sync, R: Read, W: Write, E: Write>(
     requires writer { writer.old.failures < 2 ^ 64 - 1 }
     requires errors { errors.old.failures < 2 ^ 64 - 1 }
     ensures small { result ≤ 4 }
-    ensures ends { EndsUnread reader.old reader.new writer.old writer.new result
-        ⊎ ((wish : Wish) × EndsRun R.remaining W.contents E.contents wish reader.old reader.new writer.old writer.new errors.old errors.new result) }
+    ensures ends { EndsUnread (words_given (map (λ w. w.now) words.now)) reader.old reader.new writer.old writer.new result
+        ⊎ ((wish : Wish) × WishFor (words_given (map (λ w. w.now) words.now)) wish
+        × EndsRun R.remaining W.contents E.contents wish reader.old reader.new writer.old writer.new errors.old errors.new result) }
 {
     match parse(alloc, words) {
         Ok(options) => run_options(rt, alloc, &options, reader, writer, errors),

@@ -3,7 +3,6 @@
 /// What is said of a map: in a line, and at length.
 #[derive(Clone, Copy)]
 pub(crate) struct MapHelp {
-    pub(crate) name: &'static str,
     pub(crate) about: &'static str,
     pub(crate) details: &'static str,
 }
@@ -12,37 +11,33 @@ pub(crate) const ABOUT: &str = "Maps drainage and visibility of a terrain grid.\
 Reads one grid of heights in the Esri ASCII raster form (GDAL's AAIGrid) from standard input, and writes one\n\
 map of it in the same form to standard output. Before the map is whole nothing is written.";
 
-pub(crate) const MAPS: [MapHelp; 4] = [
-    MapHelp {
-        name: "fill",
-        about: "Filled heights: of each cell the least height at which its water reaches the data's edge",
-        details: "Filled heights: of each cell the least height at which its water reaches the data's edge.\n\n\
+pub(crate) const FILL: MapHelp = MapHelp {
+    about: "Filled heights: of each cell the least height at which its water reaches the data's edge",
+    details: "Filled heights: of each cell the least height at which its water reaches the data's edge.\n\n\
 Out: heights in the units of the input, with D decimals; NODATA as in the input.",
-    },
-    MapHelp {
-        name: "flow",
-        about: "D8 directions on the filled heights: E 1, SE 2, S 4, SW 8, W 16, NW 32, N 64, NE 128, outlet 0",
-        details: "D8 directions on the filled heights: to the neighbour with the steepest drop over distance, on a flat by\n\
+};
+
+pub(crate) const FLOW: MapHelp = MapHelp {
+    about: "D8 directions on the filled heights: E 1, SE 2, S 4, SW 8, W 16, NW 32, N 64, NE 128, outlet 0",
+    details: "D8 directions on the filled heights: to the neighbour with the steepest drop over distance, on a flat by\n\
 the fewest steps to where it drains, among equals to the smallest code.\n\n\
 Out: E 1, SE 2, S 4, SW 8, W 16, NW 32, N 64, NE 128; an outlet, where water drains off the data, has 0;\n\
 NODATA is -9999.",
-    },
-    MapHelp {
-        name: "accumulate",
-        about: "How many other cells' water flows through each cell",
-        details: "How many other cells' water flows through each cell.\n\n\
+};
+
+pub(crate) const ACCUMULATE: MapHelp = MapHelp {
+    about: "How many other cells' water flows through each cell",
+    details: "How many other cells' water flows through each cell.\n\n\
 Out: whole numbers of cells from 0, the cell itself not counted; NODATA is -9999.",
-    },
-    MapHelp {
-        name: "basins",
-        about: "The number of the outlet to which each cell's water flows, from 1 in row order",
-        details: "The number of the outlet to which each cell's water flows.\n\n\
+};
+
+pub(crate) const BASINS: MapHelp = MapHelp {
+    about: "The number of the outlet to which each cell's water flows, from 1 in row order",
+    details: "The number of the outlet to which each cell's water flows.\n\n\
 Out: whole numbers from 1, outlets being numbered in row order from the north-west; NODATA is -9999.",
-    },
-];
+};
 
 pub(crate) const VIEW: MapHelp = MapHelp {
-    name: "view",
     about: "Viewshed: how many of the observers see each cell",
     details: "Viewshed: how many of the observers see each cell, on the heights as read. Lines of sight are straight and\n\
 exact; the earth is taken for flat.\n\n\

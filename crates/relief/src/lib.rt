@@ -9,6 +9,7 @@ mod making;
 pub mod map;
 pub mod observer_word;
 pub mod options;
+mod program;
 pub mod running;
 pub mod telling;
 

@@ -1,0 +1,55 @@
+use Rattle.std.proofs.Common.{rules, ◌≡◌, List, None, IfErr, map, ap, sym, subst, ◌∙◌}
+use Rattle.std.proofs.lemmas.Result.{IfErr-weaker}
+use Rattle.clap.specs.Words.{Text, found_of, rows_of, subcommand_of}
+use Rattle.clap.specs.Faults.{fault_of, is_simple_and_free}
+use Rattle.clap.specs.Kinds.{HasKind}
+use Rattle.relief.specs.CommandLine.{Names, program_app}
+use Rattle.relief.specs.WordsFaults.{IsFaultOf}
+use Rattle.relief.specs.declared.command.WordsFault.TheVariants.{Clap}
+use Rattle.relief.proofs.Asked.{fault_of_words, found_in, named_by, no_map, no_options, none_named, program_free}
+use Rattle.relief.proofs.command.options_asked.Goals as goal
+
+pub returns-in_err-matches-clause-fault : goal.returns-in_err-matches-clause-fault
+returns-in_err-matches-clause-fault c =
+    let words : List Text = map (λ w. w.now) c.args.words.now in
+    let same : IfErr c.from_residual-in_err-matches.result (λ y. y ≡ Clap c.in_err-matches.field-0.0) = search rules in
+    let kind : HasKind (fault_of program_app words) c.in_err-matches.field-0.0 =
+    subst (λ a. HasKind (fault_of a words) c.in_err-matches.field-0.0) c.in_ok-command.ensures
+    (c.in_err-matches.ensures.kinds (ap is_simple_and_free c.in_ok-command.ensures ∙ program_free)) in
+    IfErr-weaker c.from_residual-in_err-matches.result _ _ (λ y e. subst (IsFaultOf words) (sym e) kind) same
+
+pub returns-in_default-clause-fault : goal.returns-in_default-clause-fault
+returns-in_default-clause-fault c =
+    let words : List Text = map (λ w. w.now) c.args.words.now in
+    let found = found_in _ words c.in_ok-matches.matches c.in_ok-command.ensures c.in_ok-matches.ensures.matches in
+    let none : subcommand_of program_app words ≡ None = search rules in
+    none_named words none
+
+pub returns-in_err-map-clause-fault : goal.returns-in_err-map-clause-fault
+returns-in_err-map-clause-fault c =
+    let words : List Text = map (λ w. w.now) c.args.words.now in
+    let found = found_in _ words c.in_ok-matches.matches c.in_ok-command.ensures c.in_ok-matches.ensures.matches
+    ∙ named_by _ _ _ c.in-Some.ensures.name c.in-Some.ensures.rows in
+    let same : IfErr c.from_residual-in_err-map.result (λ y. y ≡ c.in_err-map.field-0.0) = search rules in
+    IfErr-weaker c.from_residual-in_err-map.result _ _ (λ y e. subst (IsFaultOf words) (sym e)
+    (fault_of_words words _ _ (no_map words _ _ found) c.in_err-map.ensures.none)) same
+
+pub returns-in-Some-with_options-clause-wish : goal.returns-in-Some-with_options-clause-wish
+returns-in-Some-with_options-clause-wish c =
+    let words : List Text = map (λ w. w.now) c.args.words.now in
+    let given = c.in-Some-with_options.ensures.some in
+    record {
+      name = c.in-Some.name.now;
+      rows = rows_of (found_of c.in-Some.found.now);
+      found = found_in _ words c.in_ok-matches.matches c.in_ok-command.ensures c.in_ok-matches.ensures.matches
+          ∙ named_by _ _ _ c.in-Some.ensures.name c.in-Some.ensures.rows;
+      map = subst (Names c.in-Some.name.now (rows_of (found_of c.in-Some.found.now))) (sym given.0) c.in_ok-map.ensures.some;
+      options = given.1;
+    }
+
+pub returns-clause-fault : goal.returns-clause-fault
+returns-clause-fault c =
+    let words : List Text = map (λ w. w.now) c.args.words.now in
+    let found = found_in _ words c.in_ok-matches.matches c.in_ok-command.ensures c.in_ok-matches.ensures.matches
+    ∙ named_by _ _ _ c.in-Some.ensures.name c.in-Some.ensures.rows in
+    no_options words _ _ found c.in-None.ensures.none
