@@ -17,3 +17,4 @@ mod Gathered
 mod GraphWays
 mod Raised
 mod Together
+pub mod InnerCells

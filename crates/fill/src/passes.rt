@@ -1,12 +1,13 @@
 // Where the labels of neighbouring cells meet.
-ghost use Rattle.std.specs.Prelude.{◌≡◌, ◌+◌, ◌<◌, ◌≤◌, ◌++◌, [], ℕ, Some, IfOk, OnOk, slice_index_or, length, IsTrue, ◌↔◌};
+ghost use Rattle.std.specs.Prelude.{◌≡◌, ◌+◌, ◌<◌, ◌≤◌, ◌++◌, [], ℕ, Some, MatchOption, IfOk, OnOk, slice_index_or, length, IsTrue, ◌↔◌};
 ghost use Rattle.std.specs.Bool.{OnTrue};
 ghost use Rattle.std.specs.List.{Contains};
 ghost use Rattle.ascii_grid.specs.declared.place.Place.{Place};
 ghost use Rattle.tiles.specs.Cutting.{IsCutting, IsWithin, IsInTile, bounds_of, tile_count};
-ghost use Rattle.fill.specs.Gathering.{Fit, Adds, AddsCovered, Covered, AreLowest, IsRepeat, joins_of, mark_among};
+ghost use Rattle.fill.specs.TileFlood.{LabelsInside};
+ghost use Rattle.fill.specs.Gathering.{Fit, Adds, AddsCovered, AddsAround, Covered, AreLowest, IsRepeat, joins_of, mark_among, mark_with};
 
-use crate::marks::{Mark, mark_at};
+use crate::marks::{Mark, mark_at, mark_of_entry};
 use crate::spills::Join;
 use crate::tile::TileFlood;
 use ascii_grid::{NoMemory, Place};
@@ -49,9 +50,8 @@ fn push_join(joins: &mut Vec<Join>, from: Mark, to: Option<Mark>) -> Result<(), 
     Ok(())
 }
 
-/// Adds the joins of a cell with those that touch it.
-#[inline]
-fn push_cell(
+/// Adds the joins of a cell with those that touch it, whichever tiles they are of.
+fn push_rim_cell(
     joins: &mut Vec<Join>,
     tiling: &Tiling,
     floods: &[TileFlood],
@@ -79,6 +79,99 @@ fn push_cell(
         }
     }
     Ok(())
+}
+
+/// Adds the join of two cells of a tile with these indices, where their labels differ.
+#[inline(always)]
+fn push_near(
+    joins: &mut Vec<Join>,
+    tiling: &Tiling,
+    flood: &TileFlood,
+    index: usize,
+    from: Mark,
+    near: usize,
+) -> Result<(), NoMemory>
+    requires labels { LabelsInside tiling.now flood.now }
+    requires index { index < length flood.now.labels }
+    requires near { near < length flood.now.labels }
+    requires from { mark_with tiling.now.cols flood.now index ≡ Some from }
+    ensures { OnOk result (AddsCovered joins.old.items (joins_of from (mark_with tiling.now.cols flood.now near)) joins.new.items) }
+{
+    if flood.has_same_label(index, near) {
+        return Ok(());
+    }
+    push_join(joins, from, mark_of_entry(tiling, flood, near))
+}
+
+/// Adds the joins of a cell with the eight around it, which are of the tile.
+fn push_around(
+    joins: &mut Vec<Join>,
+    tiling: &Tiling,
+    flood: &TileFlood,
+    index: usize,
+    from: Mark,
+    width: usize,
+) -> Result<(), NoMemory>
+    requires labels { LabelsInside tiling.now flood.now }
+    requires before { width + 1 ≤ index }
+    requires after { index + width + 1 < length flood.now.labels }
+    requires few { length flood.now.labels ≤ 16777216 }
+    requires from { mark_with tiling.now.cols flood.now index ≡ Some from }
+    ensures { OnOk result (AddsAround tiling.now.cols flood.now from index width joins.old.items joins.new.items) }
+{
+    let above = index - width;
+    let below = index + width;
+    push_near(joins, tiling, flood, index, from, above - 1)?;
+    push_near(joins, tiling, flood, index, from, above)?;
+    push_near(joins, tiling, flood, index, from, above + 1)?;
+    push_near(joins, tiling, flood, index, from, index - 1)?;
+    push_near(joins, tiling, flood, index, from, index + 1)?;
+    push_near(joins, tiling, flood, index, from, below - 1)?;
+    push_near(joins, tiling, flood, index, from, below)?;
+    push_near(joins, tiling, flood, index, from, below + 1)?;
+    Ok(())
+}
+
+/// Adds the joins of a cell that is not on the rim of its tile.
+fn push_inner_cell(
+    joins: &mut Vec<Join>,
+    tiling: &Tiling,
+    flood: &TileFlood,
+    index: usize,
+) -> Result<(), NoMemory>
+    requires labels { LabelsInside tiling.now flood.now }
+    requires before { flood.now.bounds.cols + 1 ≤ index }
+    requires after { index + flood.now.bounds.cols + 1 < length flood.now.labels }
+    ensures { OnOk result (MatchOption (mark_with tiling.now.cols flood.now index) (joins.new.items ≡ joins.old.items)
+        (λ from. AddsAround tiling.now.cols flood.now from index flood.now.bounds.cols joins.old.items joins.new.items)) }
+{
+    let Some(from) = mark_of_entry(tiling, flood, index) else {
+        return Ok(());
+    };
+    let width = flood.bounds().cols as usize;
+    push_around(joins, tiling, flood, index, from, width)
+}
+
+/// Adds the joins of a cell of a tile with those that touch it.
+#[inline]
+fn push_cell(
+    joins: &mut Vec<Join>,
+    tiling: &Tiling,
+    floods: &[TileFlood],
+    tile: u32,
+    place: Place,
+) -> Result<(), NoMemory>
+    requires fit { Fit tiling.now floods.now }
+    requires tile { tile < tile_count tiling.now }
+    requires place { IsInTile tiling.now tile place }
+    requires lawful { IsCutting tiling.now }
+    ensures { OnOk result (Adds tiling.now floods.now (λ p. p ≡ place) joins.old.items joins.new.items) }
+{
+    let flood = &floods[tile as usize];
+    match flood.inner_index(place) {
+        Some(index) => push_inner_cell(joins, tiling, flood, index),
+        None => push_rim_cell(joins, tiling, floods, tile, place),
+    }
 }
 
 /// Adds the joins of the cells of one row of a tile.
