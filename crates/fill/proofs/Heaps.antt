@@ -1,17 +1,18 @@
 -- What a heap of waiting nodes has after each pop and push.
-use Rattle.std.proofs.Common.{◌≡◌, ℕ, zero, suc, ◌+◌, ◌<◌, false, List, ◌∷◌, length, get_or, ℤ, ◌≤ℤ◌, Option, None, Some, is_some, is_err, Result, Ok, Err, OnOk, sym, ap, subst, refl, ◌∙◌, arith, ◌⊎◌, inl, inr}
+use Rattle.std.proofs.Common.{◌≡◌, ℕ, zero, suc, ◌+◌, ◌<◌, false, List, ◌∷◌, length, get_or, set, replicate, ℤ, ◌≤ℤ◌, Option, None, Some, is_some, is_err, Result, Ok, Err, OnOk, sym, ap, subst, refl, ◌∙◌, arith, ◌⊎◌, inl, inr}
 use Rattle.std.specs.List.{Contains, All}
 use Rattle.std.specs.List.Sorted.{IsPermutation}
 use Rattle.std.specs.BinaryHeap.{IsUpperBound}
 use Rattle.std.specs.Ordering.{is_lt}
 use Rattle.std.proofs.lemmas.Int.{ints, by_lt_z}
-use Rattle.std.proofs.lemmas.Bool.{cases_eq}
+use Rattle.std.proofs.lemmas.Bool.{cases_eq, cases_lt}
+use Rattle.std.proofs.lemmas.List.{get_or-set_same, get_or-set_other, get_or-replicate, length-replicate, get_or_past}
 use Rattle.std.proofs.lemmas.List.Elements.{All-contains, All-contains_itself, All-from_recursion}
 use Rattle.std.proofs.lemmas.List.Sorted.{Contains-permutation, IsPermutation-sym}
 use Rattle.std.proofs.lemmas.Option.{same_Some}
 use Rattle.fill.specs.declared.flooding.Waiting.{Waiting}
 use Rattle.fill.specs.Walk.{Sources}
-use Rattle.fill.specs.Flood.{entry_of, IsDone, TakesLowest, waiting_order, SourcesWait}
+use Rattle.fill.specs.Flood.{entry_of, IsDone, TakesLowest, waiting_order, SourcesWait, HasSourcesNoted}
 use Rattle.fill.proofs.FloodState.{OnlyDoneLeft}
 
 pub all_by_contains : {X : Type 0} (P : X → Type 0) (xs : List X) → ((x : X) → Contains xs x → P x) → All P xs
@@ -99,6 +100,31 @@ source_more source n h now new w s is node label height perm = record {
     | inl same ↦ (w, Contains-permutation _ _ w perm (cons_head w now), node ∙ sym same, height ∙ same_Some h k (sym is ∙ subst (λ (j : ℕ). source j ≡ Some k) same e))
     | inr other ↦ let x = s.every a k (omega arith) e in (x.0, Contains-permutation _ _ x.0 perm (cons_tail w now x.0 x.1), x.2, x.3)
   ];
+}
+
+-- the height of one more source is noted, or of a node that is none
+pub none_noted : (source : Sources) (nodes : ℕ) → HasSourcesNoted 0 source (replicate nodes None)
+none_noted source nodes = record {
+  each = λ a below. absurd (omega (arith, below));
+  rest = λ a _. elim (cases_lt a nodes) [ inl h ↦ get_or-replicate nodes a None None h | inr h ↦ get_or_past (replicate nodes None) a None (omega (arith, length-replicate {A = Option ℤ} nodes None)) ];
+}
+
+pub noted_past : (source : Sources) (n : ℕ) (levels : List (Option ℤ)) → HasSourcesNoted n source levels → source n ≡ None → HasSourcesNoted (n + 1) source levels
+noted_past source n levels s none = record {
+  each = λ a below. elim (cases_eq a n) [
+    | inl same ↦ subst (λ (k : ℕ). entry_of levels k ≡ source k) (sym same) (s.rest n (omega arith) ∙ sym none)
+    | inr other ↦ s.each a (omega arith)
+  ];
+  rest = λ a past. s.rest a (omega (arith, past));
+}
+
+pub noted_more : (source : Sources) (n : ℕ) (h : ℤ) (levels : List (Option ℤ)) → n < length levels → HasSourcesNoted n source levels → source n ≡ Some h → HasSourcesNoted (n + 1) source (set levels n (Some h))
+noted_more source n h levels inside s is = record {
+  each = λ a below. elim (cases_eq a n) [
+    | inl same ↦ subst (λ (k : ℕ). entry_of (set levels n (Some h)) k ≡ source k) (sym same) (get_or-set_same levels n (Some h) None inside ∙ sym is)
+    | inr other ↦ get_or-set_other levels n a (Some h) None other ∙ s.each a (omega arith)
+  ];
+  rest = λ a past. get_or-set_other levels n a (Some h) None (λ same. omega (arith, same, past)) ∙ s.rest a (omega (arith, past));
 }
 
 pub not_some : {X : Type 0} (o : Option X) → is_some o ≡ false → o ≡ None

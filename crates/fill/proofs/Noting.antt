@@ -1,9 +1,10 @@
 -- Ways followed one by one, and what is noted of the nodes that they lead to.
-use Rattle.std.proofs.Common.{◌≡◌, ℕ, ◌+◌, ◌<◌, List, [], ◌∷◌, ◌++◌, length, get_or, set, take, drop, ℤ, ◌≤ℤ◌, Option, None, Some, IsSome, sym, subst, refl, ◌∙◌, arith, ◌⊎◌, inl, inr, to_z, of_z, w32}
+use Rattle.std.proofs.Common.{◌≡◌, ℕ, ◌+◌, ◌<◌, List, [], ◌∷◌, ◌++◌, length, get_or, set, take, drop, ℤ, ◌<ℤ◌, ◌≤ℤ◌, Option, None, Some, IsSome, sym, subst, refl, ◌∙◌, arith, ◌⊎◌, inl, inr, to_z, of_z, w32}
 use Rattle.std.specs.Int.{int_max}
 use Rattle.std.specs.List.{Contains}
 use Rattle.std.specs.List.Sorted.{IsPermutation}
 use Rattle.std.proofs.lemmas.Int.{ints, to_z-of_z}
+use Rattle.std.proofs.lemmas.Int.{by_lt_z}
 use mir.Val.{SFits}
 use Rattle.std.proofs.lemmas.Bool.{cases_eq}
 use Rattle.std.proofs.lemmas.List.{length-set, get_or-set_same, get_or-set_other, take_more}
@@ -13,12 +14,16 @@ use Rattle.std.proofs.Math.Seq.{take-append_seam}
 use Rattle.std.proofs.lemmas.Option.{same_Some}
 use Rattle.fill.specs.declared.net.Spill.{Spill}
 use Rattle.fill.specs.declared.flooding.Waiting.{Waiting}
-use Rattle.fill.specs.Flood.{entry_of, SomeWaits, ComesBy, waiting_by, MakesWait, AreNoted, KeepsDone}
+use Rattle.fill.specs.Walk.{Sources}
+use Rattle.fill.specs.Flood.{AreOwn, entry_of, SomeWaits, ComesBy, waiting_by, MakesWait, AreNoted, KeepsDone}
 use Rattle.fill.proofs.Heaps.{all_by_contains, cons_head, cons_tail, cons_cases}
 use Rattle.fill.proofs.Steps.{none_done, le_trans}
 
 le_refl : (a b : ℤ) → a ≡ b → a ≤ℤ b
 le_refl a b e = omega (arith, ints)
+
+pub below_le : (a b : ℤ) → a <ℤ b → a ≤ℤ b
+below_le a b h = omega (arith, ints)
 
 one_held : {X : Type 0} (x y : X) → Contains (x ∷ []) y → y ≡ x
 one_held x y h = elim (cons_cases x [] y h) [
@@ -74,6 +79,29 @@ noted labels levels from way old new below s perm = record {
 } where
   crest : ℤ
   crest = int_max way.height from.height.0
+
+-- what is known of the sources stands: a crest below what was noted of a source is below its height
+pub own_by_way : (source : Sources) (labels : List (Option ℕ)) (levels : List (Option ℤ)) (from : Waiting) (way : Spill) (old new : List Waiting) → way.to < length labels → length levels ≡ length labels → entry_of labels way.to ≡ None → ((h : ℤ) × (entry_of levels way.to ≡ Some h) × (h ≤ℤ int_max way.height from.height.0) → ⊥) → IsPermutation (waiting_by from way ∷ old) new → AreOwn source labels levels old → AreOwn source labels (set levels way.to (Some (int_max way.height from.height.0))) new
+own_by_way source labels levels from way old new below size none lower perm s = record {
+  own = all_by_contains (λ y. source y.node ≡ Some y.height.0 → y.label ≡ y.node) new (λ y h.
+      elim (cons_cases (waiting_by from way) old y (Contains-permutation _ _ y (IsPermutation-sym _ _ perm) h)) [
+        | inl same ↦ subst (λ (y : Waiting). source y.node ≡ Some y.height.0 → y.label ≡ y.node) (sym same) (λ is. absurd (lower (s.low way.to crest below is none)))
+        | inr held ↦ All-contains (λ y. source y.node ≡ Some y.height.0 → y.label ≡ y.node) old y s.own held
+      ]);
+  low = λ a h inside is open_here.
+      let was = s.low a h inside is open_here in
+      elim (cases_eq a way.to) [
+        | inl same ↦
+            let there : entry_of levels way.to ≡ Some was.0 = subst (λ (n : ℕ). entry_of levels n ≡ Some was.0) same was.1 in
+            (crest, subst (λ (n : ℕ). entry_of (set levels way.to (Some crest)) n ≡ Some crest) (sym same) (get_or-set_same levels way.to (Some crest) None (omega (arith, below, size))), high was.0 h there was.2)
+        | inr n ↦ (was.0, get_or-set_other levels way.to a (Some crest) None n ∙ was.1, was.2)
+      ];
+} where
+  crest : ℤ
+  crest = int_max way.height from.height.0
+
+  high : (l h : ℤ) → entry_of levels way.to ≡ Some l → l ≤ℤ h → crest ≤ℤ h
+  high l h there low = by_lt_z crest l (λ less. le_trans crest l h (below_le crest l less) low) (λ up. absurd (lower (l, there, up)))
 
 -- a node that is not done is noted, and the others keep their levels
 pub keeps_done : (labels : List (Option ℕ)) (levels : List (Option ℤ)) (a : ℕ) (level : Option ℤ) → entry_of labels a ≡ None → KeepsDone labels levels (set levels a level)

@@ -1,5 +1,5 @@
 -- Nodes that wait while a net is flooded, and what the steps of a flood do to them.
-use Rattle.std.specs.Prelude.{◌≡◌, ℕ, ◌<◌, ◌⊎◌, ℤ, ◌≤ℤ◌, List, length, Option, None, Some, IsSome, slice_index_or}
+use Rattle.std.specs.Prelude.{◌≡◌, ℕ, ◌<◌, ◌≤◌, ◌⊎◌, ℤ, ◌≤ℤ◌, List, length, Option, None, Some, IsSome, slice_index_or}
 use Rattle.std.specs.Ordering.{int_cmp}
 use Rattle.std.specs.declared.cmp.Ordering.{Ordering}
 use Rattle.fill.specs.declared.flooding.Waiting.{Waiting}
@@ -39,9 +39,16 @@ pub record SourcesWait (nodes : ℕ) (source : Sources) (waiting : List Waiting)
   pub every : (a : ℕ) (h : ℤ) → a < nodes → source a ≡ Some h →
       (w : Waiting) × Contains waiting w × (w.node ≡ a) × (w.height.0 ≡ h)
 
--- A source whose level is its own height is its own label; any other node has that of its walk.
-abbrev pub IsLabelOf : Sources → Waiting → ℕ → Type 0
-IsLabelOf source w label = (source w.node ≡ Some w.height.0) × (label ≡ w.node) ⊎ (source w.node ≡ Some w.height.0 → ⊥) × (label ≡ w.label)
+-- The first sources have their heights noted as levels, and no other node any level.
+pub record HasSourcesNoted (count : ℕ) (source : Sources) (levels : List (Option ℤ)) : Type 0 where
+  pub each : (a : ℕ) → a < count → entry_of levels a ≡ source a
+  pub rest : (a : ℕ) → count ≤ a → entry_of levels a ≡ None
+
+-- An entry of a source at its own height has the source as its label, and a source that is not done has a
+-- level noted that is not above its height.
+pub record AreOwn (source : Sources) (labels : List (Option ℕ)) (levels : List (Option ℤ)) (waiting : List Waiting) : Type 0 where
+  pub own : All (λ w. source w.node ≡ Some w.height.0 → w.label ≡ w.node) waiting
+  pub low : (a : ℕ) (h : ℤ) → a < length labels → source a ≡ Some h → entry_of labels a ≡ None → (l : ℤ) × (entry_of levels a ≡ Some l) × (l ≤ℤ h)
 
 -- Some entry of the node is not above the height.
 abbrev pub SomeWaits : List Waiting → ℕ → ℤ → Type 0

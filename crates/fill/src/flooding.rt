@@ -1,9 +1,8 @@
 // Levels and labels by a heap of waiting nodes.
-ghost use Rattle.std.specs.Prelude.{◌≡◌, ◌<◌, ◌≤ℤ◌, ◌∷◌, [], ℕ, ℤ, IfOk, OnOk, IfSome, IfNone, length, All, replicate, None, Some};
-ghost use Rattle.std.specs.Bool.{OnTrue};
+ghost use Rattle.std.specs.Prelude.{◌≡◌, ◌↔◌, ◌<◌, ◌≤ℤ◌, ◌∷◌, [], ℕ, ℤ, IsTrue, IfOk, OnOk, IfSome, IfNone, length, All, replicate, None, Some};
 ghost use Rattle.std.specs.BinaryHeap.{IsHeap, heap_items};
-ghost use Rattle.fill.specs.Walk.{IsFlooded};
-ghost use Rattle.fill.specs.Flood.{waiting_order, IsDone, TakesLowest, SourcesWait, IsLabelOf, MakesWait, AreNoted, KeepsDone, Spreads};
+ghost use Rattle.fill.specs.Walk.{IsFlooded, Sources};
+ghost use Rattle.fill.specs.Flood.{waiting_order, IsDone, TakesLowest, SourcesWait, HasSourcesNoted, AreOwn, MakesWait, AreNoted, KeepsDone, Spreads};
 
 use crate::net::{Net, Spill};
 use ascii_grid::{Height, NoMemory};
@@ -49,7 +48,7 @@ fn next_open(heap: &mut BinaryHeap<Waiting>, labels: &[Option<u32>]) -> Option<W
 /// Whether a crest that was noted is not above this one.
 #[inline(always)]
 fn is_no_lower(crest: Height, noted: Option<Height>) -> bool
-    ensures { OnTrue result ((h : ℤ) × (noted ≡ Some h) × (h ≤ℤ crest)) }
+    ensures { IsTrue result ↔ (h : ℤ) × (noted ≡ Some h) × (h ≤ℤ crest) }
 {
     match noted {
         Some(height) => height <= crest,
@@ -72,6 +71,8 @@ fn push_way(
     ensures heap { OnOk result (IsHeap waiting_order (heap_items heap.new)) }
     ensures noted { OnOk result (AreNoted labels.now levels.new (heap_items heap.new)) }
     ensures kept { OnOk result (KeepsDone labels.now levels.old levels.new) }
+    ensures own { OnOk result ((source : Sources) → AreOwn source labels.now levels.old (heap_items heap.old) →
+        AreOwn source labels.now levels.new (heap_items heap.new)) }
     ensures waits { OnOk result (MakesWait labels.now from.now (way ∷ []) (heap_items heap.old) (heap_items heap.new)) }
 {
     let Reverse(level) = from.height;
@@ -109,6 +110,8 @@ fn push_ways(
     ensures heap { OnOk result (IsHeap waiting_order (heap_items heap.new)) }
     ensures noted { OnOk result (AreNoted labels.now levels.new (heap_items heap.new)) }
     ensures kept { OnOk result (KeepsDone labels.now levels.old levels.new) }
+    ensures own { OnOk result ((source : Sources) → AreOwn source labels.now levels.old (heap_items heap.old) →
+        AreOwn source labels.now levels.new (heap_items heap.new)) }
     ensures waits { OnOk result (MakesWait labels.now from.now ways.now (heap_items heap.old) (heap_items heap.new)) }
 {
     for way in ways {
@@ -117,11 +120,18 @@ fn push_ways(
     Ok(())
 }
 
-/// Makes the sources wait.
-fn waiting_sources<N: Net>(alloc: Global, net: &N) -> Result<BinaryHeap<Waiting>, NoMemory>
+/// Makes the sources wait, and notes their heights.
+fn waiting_sources<N: Net>(
+    alloc: Global,
+    net: &N,
+    levels: &mut [Option<Height>],
+) -> Result<BinaryHeap<Waiting>, NoMemory>
+    requires { levels.old ≡ replicate (N.node_count net.now) None }
     ensures heap { IfOk result (λ heap. IsHeap waiting_order (heap_items heap)) }
     ensures sources { IfOk result (λ heap.
         SourcesWait (N.node_count net.now) (N.source_height net.now) (heap_items heap)) }
+    ensures noted { IfOk result (λ _. HasSourcesNoted (N.node_count net.now) (N.source_height net.now) levels.new) }
+    ensures size { length levels.new ≡ length levels.old }
 {
     let mut heap = BinaryHeap::new(alloc);
     for node in 0..net.nodes() {
@@ -134,6 +144,7 @@ fn waiting_sources<N: Net>(alloc: Global, net: &N) -> Result<BinaryHeap<Waiting>
             if heap.push(waiting).is_err() {
                 return Err(NoMemory);
             }
+            levels[node as usize] = Some(height);
         }
     }
     Ok(heap)
@@ -172,24 +183,13 @@ fn spread<N: Net>(
     ensures heap { OnOk result (IsHeap waiting_order (heap_items heap.new)) }
     ensures noted { OnOk result (AreNoted labels.now levels.new (heap_items heap.new)) }
     ensures kept { OnOk result (KeepsDone labels.now levels.old levels.new) }
+    ensures own { OnOk result ((source : Sources) → AreOwn source labels.now levels.old (heap_items heap.old) →
+        AreOwn source labels.now levels.new (heap_items heap.new)) }
     ensures added { OnOk result (Spreads (N.joins net.now) labels.now from.now
         (heap_items heap.old) (heap_items heap.new)) }
 {
     let ways = net.neighbours(alloc, from.node)?;
     push_ways(heap, ways.as_slice(), from, labels, levels)
-}
-
-/// The label of a node that takes its level: a source at its own height is its own.
-#[inline]
-fn label_of<N: Net>(net: &N, waiting: &Waiting) -> u32
-    requires { waiting.now.node < N.node_count net.now }
-    ensures { IsLabelOf (N.source_height net.now) waiting.now result }
-{
-    let Reverse(height) = waiting.height;
-    match net.source(waiting.node) {
-        Some(own) if own == height => waiting.node,
-        _ => waiting.label,
-    }
 }
 
 /// The least crest from each node, and a source that has it.
@@ -201,12 +201,12 @@ pub fn flood<N: Net>(alloc: Global, net: &N) -> Result<Flooded, NoMemory>
     let count = net.nodes() as usize;
     let mut level = empty_list(alloc, count)?;
     let mut label = empty_list(alloc, count)?;
-    let mut heap = waiting_sources(alloc, net)?;
+    let mut heap = waiting_sources(alloc, net, &mut level)?;
     while let Some(waiting) = next_open(&mut heap, &label) {
         let node = waiting.node as usize;
         let Reverse(height) = waiting.height;
         level[node] = Some(height);
-        label[node] = Some(label_of(net, &waiting));
+        label[node] = Some(waiting.label);
         spread(alloc, net, &mut heap, &waiting, &label, &mut level)?;
     }
     Ok(Flooded { level, label })
