@@ -1,6 +1,7 @@
 mod FloodState
 mod Steps
 mod Heaps
+mod Waits
 mod Noting
 mod CellWays
 mod Borders

@@ -113,7 +113,7 @@ flooded joins source nodes levels labels waiting inside s noted all = record {
 empty : {X : Type 0} (nodes a : ℕ) → entry_of {X = X} (replicate nodes None) a ≡ None
 empty {X = X} nodes a = elim (cases_lt a nodes) [ inl h ↦ get_or-replicate nodes a None None h | inr h ↦ get_or_past (replicate nodes None) a None (omega (arith, length-replicate {A = Option X} nodes None)) ]
 
-le_of_same : (x y : ℤ) → x ≡ y → x ≤ℤ y
+pub le_of_same : (x y : ℤ) → x ≡ y → x ≤ℤ y
 le_of_same x y e = omega (arith, ints)
 
 -- before the first step
