@@ -14,22 +14,42 @@ use ascii_grid::{NoMemory, Place};
 use std::alloc::Global;
 use tiles::{Bounds, Tiling};
 
-/// Whether the last of the joins is of the same labels as this one and not higher.
+/// How many places [`Recent`] has.
+pub(crate) const RECENT: usize = 1024;
+
+/// Where joins were added, by a number that is made of their labels: a join that has been added as low
+/// is not added once more.
+pub(crate) type Recent = [usize; RECENT];
+
+/// The place of two labels.
 #[inline(always)]
-fn last_covers(joins: &[Join], join: Join) -> bool
-    ensures { OnTrue result (Covered joins.now join) }
+fn slot_of(from: u32, to: u32) -> usize
+    ensures { result < 1024 }
 {
-    let count = joins.len();
-    if count == 0 {
-        return false;
-    }
-    let last = joins[count - 1];
-    last.from == join.from && last.to == join.to && last.height <= join.height
+    from.wrapping_mul(31).wrapping_add(to) as usize % RECENT
 }
 
-/// Adds the join of two marks, where their labels differ and the last join does not cover it.
+/// Whether the join at this index is of the same labels as this one and not higher.
 #[inline(always)]
-fn push_join(joins: &mut Vec<Join>, from: Mark, to: Option<Mark>) -> Result<(), NoMemory>
+fn covers(joins: &[Join], at: usize, join: Join) -> bool
+    ensures { OnTrue result (Covered joins.now join) }
+{
+    if at >= joins.len() {
+        return false;
+    }
+    let other = joins[at];
+    other.from == join.from && other.to == join.to && other.height <= join.height
+}
+
+/// Adds the join of two marks, where their labels differ and the join that was added last for them does
+/// not cover it.
+#[inline(always)]
+fn push_join(
+    joins: &mut Vec<Join>,
+    recent: &mut Recent,
+    from: Mark,
+    to: Option<Mark>,
+) -> Result<(), NoMemory>
     ensures { OnOk result (AddsCovered joins.old.items (joins_of from to) joins.new.items) }
 {
     let Some(to) = to else { return Ok(()) };
@@ -41,9 +61,11 @@ fn push_join(joins: &mut Vec<Join>, from: Mark, to: Option<Mark>) -> Result<(), 
         to: to.node,
         height: from.level.max(to.level),
     };
-    if last_covers(joins, join) {
+    let slot = slot_of(join.from, join.to);
+    if covers(joins, recent[slot], join) {
         return Ok(());
     }
+    recent[slot] = joins.len();
     if joins.push(join).is_err() {
         return Err(NoMemory);
     }
@@ -53,6 +75,7 @@ fn push_join(joins: &mut Vec<Join>, from: Mark, to: Option<Mark>) -> Result<(), 
 /// Adds the joins of a cell with those that touch it, whichever tiles they are of.
 fn push_rim_cell(
     joins: &mut Vec<Join>,
+    recent: &mut Recent,
     tiling: &Tiling,
     floods: &[TileFlood],
     tile: u32,
@@ -75,7 +98,7 @@ fn push_rim_cell(
                 row: row - 1,
                 col: col - 1,
             };
-            push_join(joins, from, mark_at(tiling, floods, tile, near))?;
+            push_join(joins, recent, from, mark_at(tiling, floods, tile, near))?;
         }
     }
     Ok(())
@@ -85,6 +108,7 @@ fn push_rim_cell(
 #[inline(always)]
 fn push_near(
     joins: &mut Vec<Join>,
+    recent: &mut Recent,
     tiling: &Tiling,
     flood: &TileFlood,
     index: usize,
@@ -100,12 +124,13 @@ fn push_near(
     if flood.has_same_label(index, near) {
         return Ok(());
     }
-    push_join(joins, from, mark_of_entry(tiling, flood, near))
+    push_join(joins, recent, from, mark_of_entry(tiling, flood, near))
 }
 
 /// Adds the joins of a cell with the eight around it, which are of the tile.
 fn push_around(
     joins: &mut Vec<Join>,
+    recent: &mut Recent,
     tiling: &Tiling,
     flood: &TileFlood,
     index: usize,
@@ -121,20 +146,21 @@ fn push_around(
 {
     let above = index - width;
     let below = index + width;
-    push_near(joins, tiling, flood, index, from, above - 1)?;
-    push_near(joins, tiling, flood, index, from, above)?;
-    push_near(joins, tiling, flood, index, from, above + 1)?;
-    push_near(joins, tiling, flood, index, from, index - 1)?;
-    push_near(joins, tiling, flood, index, from, index + 1)?;
-    push_near(joins, tiling, flood, index, from, below - 1)?;
-    push_near(joins, tiling, flood, index, from, below)?;
-    push_near(joins, tiling, flood, index, from, below + 1)?;
+    push_near(joins, recent, tiling, flood, index, from, above - 1)?;
+    push_near(joins, recent, tiling, flood, index, from, above)?;
+    push_near(joins, recent, tiling, flood, index, from, above + 1)?;
+    push_near(joins, recent, tiling, flood, index, from, index - 1)?;
+    push_near(joins, recent, tiling, flood, index, from, index + 1)?;
+    push_near(joins, recent, tiling, flood, index, from, below - 1)?;
+    push_near(joins, recent, tiling, flood, index, from, below)?;
+    push_near(joins, recent, tiling, flood, index, from, below + 1)?;
     Ok(())
 }
 
 /// Adds the joins of a cell that is not on the rim of its tile.
 fn push_inner_cell(
     joins: &mut Vec<Join>,
+    recent: &mut Recent,
     tiling: &Tiling,
     flood: &TileFlood,
     index: usize,
@@ -149,13 +175,14 @@ fn push_inner_cell(
         return Ok(());
     };
     let width = flood.bounds().cols as usize;
-    push_around(joins, tiling, flood, index, from, width)
+    push_around(joins, recent, tiling, flood, index, from, width)
 }
 
 /// Adds the joins of a cell of a tile with those that touch it.
 #[inline]
 fn push_cell(
     joins: &mut Vec<Join>,
+    recent: &mut Recent,
     tiling: &Tiling,
     floods: &[TileFlood],
     tile: u32,
@@ -169,14 +196,15 @@ fn push_cell(
 {
     let flood = &floods[tile as usize];
     match flood.inner_index(place) {
-        Some(index) => push_inner_cell(joins, tiling, flood, index),
-        None => push_rim_cell(joins, tiling, floods, tile, place),
+        Some(index) => push_inner_cell(joins, recent, tiling, flood, index),
+        None => push_rim_cell(joins, recent, tiling, floods, tile, place),
     }
 }
 
 /// Adds the joins of the cells of one row of a tile.
 fn push_cells(
     joins: &mut Vec<Join>,
+    recent: &mut Recent,
     tiling: &Tiling,
     floods: &[TileFlood],
     tile: u32,
@@ -195,7 +223,7 @@ fn push_cells(
         if flood.has_one_label_around(Place { row, col }) {
             continue;
         }
-        push_cell(joins, tiling, floods, tile, Place { row, col })?;
+        push_cell(joins, recent, tiling, floods, tile, Place { row, col })?;
     }
     Ok(())
 }
@@ -206,6 +234,7 @@ pub(crate) fn tile_joins(
     tiling: &Tiling,
     floods: &[TileFlood],
     tile: u32,
+    recent: &mut Recent,
 ) -> Result<Vec<Join>, NoMemory>
     requires fit { Fit tiling.now floods.now }
     requires tile { tile < tile_count tiling.now }
@@ -214,7 +243,7 @@ pub(crate) fn tile_joins(
     let mut joins = Vec::new(alloc);
     let Bounds { top, rows, .. } = tiling.bounds(tile);
     for row in top..top + rows {
-        push_cells(&mut joins, tiling, floods, tile, row)?;
+        push_cells(&mut joins, recent, tiling, floods, tile, row)?;
     }
     Ok(joins)
 }
