@@ -28,7 +28,7 @@ joins_of_differ from to differ = elim (cases_Bool (from.node == to.node)) [
 pub no_join : (j : Join) → Contains [] j → ⊥
 no_join j h = omega (arith, h.1)
 
-joins_of_is : (from : Mark) (o : Option Mark) (j : Join) → Contains (joins_of from o) j → (to : Mark) × (o ≡ Some to) × (from.node ≢ to.node) × (record { from = from.node; to = to.node; height = int_max from.level to.level } ≡ j)
+pub joins_of_is : (from : Mark) (o : Option Mark) (j : Join) → Contains (joins_of from o) j → (to : Mark) × (o ≡ Some to) × (from.node ≢ to.node) × (record { from = from.node; to = to.node; height = int_max from.level to.level } ≡ j)
 joins_of_is from None j h = absurd (no_join j h)
 joins_of_is from (Some to) j h = elim (cases_eq from.node to.node) [
   | inl same ↦ absurd (no_join j (subst (λ (z : List Join). Contains z j) (cond-true _ _ _ (eq-eqb _ _ same)) h))

@@ -1,17 +1,14 @@
 -- What a heap of waiting nodes has after each pop and push.
-use Rattle.std.proofs.Common.{◌≡◌, ℕ, zero, suc, ◌+◌, ◌<◌, false, List, ◌∷◌, length, get_or, ℤ, ◌≤ℤ◌, Option, None, Some, is_some, is_err, Result, Ok, Err, OnOk, sym, ap, subst, refl, ◌∙◌, arith, ◌⊎◌, inl, inr}
+use Rattle.std.proofs.Common.{◌≡◌, ℕ, zero, suc, ◌+◌, ◌<◌, false, List, ◌∷◌, length, get_or, set, replicate, ℤ, ◌≤ℤ◌, Option, None, Some, is_some, is_err, Result, Ok, Err, OnOk, sym, ap, subst, refl, ◌∙◌, arith, ◌⊎◌, inl, inr}
 use Rattle.std.specs.List.{Contains, All}
-use Rattle.std.specs.List.Sorted.{IsPermutation}
-use Rattle.std.specs.BinaryHeap.{IsUpperBound}
-use Rattle.std.specs.Ordering.{is_lt}
-use Rattle.std.proofs.lemmas.Int.{ints, by_lt_z}
-use Rattle.std.proofs.lemmas.Bool.{cases_eq}
-use Rattle.std.proofs.lemmas.List.Elements.{All-contains, All-contains_itself, All-from_recursion}
-use Rattle.std.proofs.lemmas.List.Sorted.{Contains-permutation, IsPermutation-sym}
+use Rattle.std.proofs.lemmas.Int.{ints}
+use Rattle.std.proofs.lemmas.Bool.{cases_eq, cases_lt}
+use Rattle.std.proofs.lemmas.List.{get_or-set_same, get_or-set_other, get_or-replicate, length-replicate, get_or_past}
+use Rattle.std.proofs.lemmas.List.Elements.{All-contains, All-contains_itself}
 use Rattle.std.proofs.lemmas.Option.{same_Some}
 use Rattle.fill.specs.declared.flooding.Waiting.{Waiting}
 use Rattle.fill.specs.Walk.{Sources}
-use Rattle.fill.specs.Flood.{entry_of, IsDone, TakesLowest, waiting_order, SourcesWait}
+use Rattle.fill.specs.Flood.{entry_of, IsDone, TakesLowest, PutsIn, HasNone, SourcesWait, HasSourcesNoted}
 use Rattle.fill.proofs.FloodState.{OnlyDoneLeft}
 
 pub all_by_contains : {X : Type 0} (P : X → Type 0) (xs : List X) → ((x : X) → Contains xs x → P x) → All P xs
@@ -29,10 +26,6 @@ cons_cases x xs y h = go h.0 h.1 h.2 where
 pub cons_tail : {X : Type 0} (x : X) (xs : List X) (y : X) → Contains xs y → Contains (x ∷ xs) y
 cons_tail x xs y h = (suc h.0, omega (arith, h.1), h.2)
 
--- the order puts the least height first
-order_le : (x y : Waiting) → is_lt (waiting_order x y) ≡ false → x.height.0 ≤ℤ y.height.0
-order_le x y e = by_lt_z y.height.0 x.height.0 (λ less. absurd (grind arith)) (λ h. h)
-
 le_refl : (a b : ℤ) → a ≡ b → b ≤ℤ a
 le_refl a b e = omega (arith, ints)
 
@@ -42,40 +35,50 @@ nothing_left labels xs = record {
   kept = λ k d below. inr (All-contains_itself xs k d below);
 }
 
-pub one_left : (labels : List (Option ℕ)) (old now rest : List Waiting) (x : Waiting) → OnlyDoneLeft labels old now → IsPermutation now (x ∷ rest) → IsDone labels x → OnlyDoneLeft labels old rest
+pub one_left : (labels : List (Option ℕ)) (old now rest : List Waiting) (x : Waiting) → OnlyDoneLeft labels old now → PutsIn x rest now → IsDone labels x → OnlyDoneLeft labels old rest
 one_left labels old now rest x s perm done = record {
-  left = all_by_contains (Contains old) rest (λ y h. All-contains (Contains old) now y s.left (Contains-permutation _ _ y (IsPermutation-sym _ _ perm) (cons_tail x rest y h)));
+  left = all_by_contains (Contains old) rest (λ y h. All-contains (Contains old) now y s.left (perm.into y (cons_tail x rest y h)));
   kept = all_by_contains (λ y. IsDone labels y ⊎ Contains rest y) old (λ y h.
       elim (All-contains (λ z. IsDone labels z ⊎ Contains now z) old y s.kept h) [
         | inl d ↦ inl d
-        | inr held ↦ elim (cons_cases x rest y (Contains-permutation _ _ y perm held)) [
+        | inr held ↦ elim (cons_cases x rest y (perm.from y held)) [
           | inl same ↦ inl (subst (λ (z : Waiting). IsDone labels z) (sym same) done)
           | inr still ↦ inr still
         ]
       ]);
 }
 
-pub first_open : (labels : List (Option ℕ)) (old now rest : List Waiting) (x : Waiting) → OnlyDoneLeft labels old now → IsPermutation now (x ∷ rest) → IsUpperBound waiting_order x rest → entry_of labels x.node ≡ None → TakesLowest labels old x rest
+pub first_open : (labels : List (Option ℕ)) (old now rest : List Waiting) (x : Waiting) → OnlyDoneLeft labels old now → PutsIn x rest now → All (λ y. x.height.0 ≤ℤ y.height.0) rest → entry_of labels x.node ≡ None → TakesLowest labels old x rest
 first_open labels old now rest x s perm bound is_open =
-    let above : All (λ y. is_lt (waiting_order x y) ≡ false) rest = All-from_recursion (λ y. is_lt (waiting_order x y) ≡ false) rest bound in
     record {
       was_open = is_open;
-      was = All-contains (Contains old) now x s.left (Contains-permutation _ _ x (IsPermutation-sym _ _ perm) (cons_head x rest));
+      was = All-contains (Contains old) now x s.left (perm.into x (cons_head x rest));
       lowest = all_by_contains (λ y. IsDone labels y ⊎ (x.height.0 ≤ℤ y.height.0)) old (λ y h.
           elim (All-contains (λ z. IsDone labels z ⊎ Contains now z) old y s.kept h) [
             | inl d ↦ inl d
-            | inr held ↦ elim (cons_cases x rest y (Contains-permutation _ _ y perm held)) [
+            | inr held ↦ elim (cons_cases x rest y (perm.from y held)) [
               | inl same ↦ inr (le_refl y.height.0 x.height.0 (ap (λ (z : Waiting). z.height.0) same))
-              | inr still ↦ inr (order_le x y (All-contains (λ z. is_lt (waiting_order x z) ≡ false) rest y above still))
+              | inr still ↦ inr (All-contains (λ z. x.height.0 ≤ℤ z.height.0) rest y bound still)
             ]
           ]);
-      left = all_by_contains (Contains old) rest (λ y h. All-contains (Contains old) now y s.left (Contains-permutation _ _ y (IsPermutation-sym _ _ perm) (cons_tail x rest y h)));
+      left = all_by_contains (Contains old) rest (λ y h. All-contains (Contains old) now y s.left (perm.into y (cons_tail x rest y h)));
       kept = all_by_contains (λ y. IsDone labels y ⊎ (y ≡ x) ⊎ Contains rest y) old (λ y h.
           elim (All-contains (λ z. IsDone labels z ⊎ Contains now z) old y s.kept h) [
             | inl d ↦ inl d
-            | inr held ↦ inr (cons_cases x rest y (Contains-permutation _ _ y perm held))
+            | inr held ↦ inr (cons_cases x rest y (perm.from y held))
           ]);
     }
+
+-- what has left is done, and so is all where nothing is left
+pub all_done : (labels : List (Option ℕ)) (old now : List Waiting) → OnlyDoneLeft labels old now → HasNone now → All (IsDone labels) old
+all_done labels old now s none = all_by_contains (IsDone labels) old (λ y h.
+    elim (All-contains (λ z. IsDone labels z ⊎ Contains now z) old y s.kept h) [ inl d ↦ d | inr held ↦ absurd (none y held) ])
+
+pub no_sources : (source : Sources) (waiting : List Waiting) → HasNone waiting → SourcesWait 0 source waiting
+no_sources source waiting none = record {
+  only = all_by_contains (λ w. (w.node < 0) × (source w.node ≡ Some w.height.0) × (w.label ≡ w.node)) waiting (λ w h. absurd (none w h));
+  every = λ a h below e. absurd (omega (arith, below));
+}
 
 -- a node that is no source
 pub source_passed : (source : Sources) (n : ℕ) (waiting : List Waiting) → SourcesWait n source waiting → source n ≡ None → SourcesWait (n + 1) source waiting
@@ -88,17 +91,42 @@ source_passed source n waiting s none = record {
 }
 
 -- a source that waits
-pub source_more : (source : Sources) (n : ℕ) (h : ℤ) (now new : List Waiting) (w : Waiting) → SourcesWait n source now → source n ≡ Some h → w.node ≡ n → w.label ≡ n → w.height.0 ≡ h → IsPermutation (w ∷ now) new → SourcesWait (n + 1) source new
+pub source_more : (source : Sources) (n : ℕ) (h : ℤ) (now new : List Waiting) (w : Waiting) → SourcesWait n source now → source n ≡ Some h → w.node ≡ n → w.label ≡ n → w.height.0 ≡ h → PutsIn w now new → SourcesWait (n + 1) source new
 source_more source n h now new w s is node label height perm = record {
   only = all_by_contains (λ x. (x.node < n + 1) × (source x.node ≡ Some x.height.0) × (x.label ≡ x.node)) new (λ x held.
-      elim (cons_cases w now x (Contains-permutation _ _ x (IsPermutation-sym _ _ perm) held)) [
+      elim (cons_cases w now x (perm.from x held)) [
         | inl same ↦ subst (λ (x : Waiting). (x.node < n + 1) × (source x.node ≡ Some x.height.0) × (x.label ≡ x.node)) (sym same) (omega arith, ap source node ∙ is ∙ ap Some (sym height), label ∙ sym node)
         | inr was ↦ let o = All-contains (λ x. (x.node < n) × (source x.node ≡ Some x.height.0) × (x.label ≡ x.node)) now x s.only was in (omega (arith, o.0), o.1, o.2)
       ]);
   every = λ a k below e. elim (cases_eq a n) [
-    | inl same ↦ (w, Contains-permutation _ _ w perm (cons_head w now), node ∙ sym same, height ∙ same_Some h k (sym is ∙ subst (λ (j : ℕ). source j ≡ Some k) same e))
-    | inr other ↦ let x = s.every a k (omega arith) e in (x.0, Contains-permutation _ _ x.0 perm (cons_tail w now x.0 x.1), x.2, x.3)
+    | inl same ↦ (w, perm.into w (cons_head w now), node ∙ sym same, height ∙ same_Some h k (sym is ∙ subst (λ (j : ℕ). source j ≡ Some k) same e))
+    | inr other ↦ let x = s.every a k (omega arith) e in (x.0, perm.into x.0 (cons_tail w now x.0 x.1), x.2, x.3)
   ];
+}
+
+-- the height of one more source is noted, or of a node that is none
+pub none_noted : (source : Sources) (nodes : ℕ) → HasSourcesNoted 0 source (replicate nodes None)
+none_noted source nodes = record {
+  each = λ a below. absurd (omega (arith, below));
+  rest = λ a _. elim (cases_lt a nodes) [ inl h ↦ get_or-replicate nodes a None None h | inr h ↦ get_or_past (replicate nodes None) a None (omega (arith, length-replicate {A = Option ℤ} nodes None)) ];
+}
+
+pub noted_past : (source : Sources) (n : ℕ) (levels : List (Option ℤ)) → HasSourcesNoted n source levels → source n ≡ None → HasSourcesNoted (n + 1) source levels
+noted_past source n levels s none = record {
+  each = λ a below. elim (cases_eq a n) [
+    | inl same ↦ subst (λ (k : ℕ). entry_of levels k ≡ source k) (sym same) (s.rest n (omega arith) ∙ sym none)
+    | inr other ↦ s.each a (omega arith)
+  ];
+  rest = λ a past. s.rest a (omega (arith, past));
+}
+
+pub noted_more : (source : Sources) (n : ℕ) (h : ℤ) (levels : List (Option ℤ)) → n < length levels → HasSourcesNoted n source levels → source n ≡ Some h → HasSourcesNoted (n + 1) source (set levels n (Some h))
+noted_more source n h levels inside s is = record {
+  each = λ a below. elim (cases_eq a n) [
+    | inl same ↦ subst (λ (k : ℕ). entry_of (set levels n (Some h)) k ≡ source k) (sym same) (get_or-set_same levels n (Some h) None inside ∙ sym is)
+    | inr other ↦ get_or-set_other levels n a (Some h) None other ∙ s.each a (omega arith)
+  ];
+  rest = λ a past. get_or-set_other levels n a (Some h) None (λ same. omega (arith, same, past)) ∙ s.rest a (omega (arith, past));
 }
 
 pub not_some : {X : Type 0} (o : Option X) → is_some o ≡ false → o ≡ None

@@ -1,6 +1,7 @@
 mod FloodState
 mod Steps
 mod Heaps
+mod Waits
 mod Noting
 mod CellWays
 mod Borders
@@ -17,3 +18,4 @@ mod Gathered
 mod GraphWays
 mod Raised
 mod Together
+pub mod InnerCells

@@ -1,24 +1,30 @@
 -- Ways followed one by one, and what is noted of the nodes that they lead to.
-use Rattle.std.proofs.Common.{◌≡◌, ℕ, ◌+◌, ◌<◌, List, [], ◌∷◌, ◌++◌, length, get_or, set, take, drop, ℤ, ◌≤ℤ◌, Option, None, Some, IsSome, sym, subst, refl, ◌∙◌, arith, ◌⊎◌, inl, inr, to_z, of_z, w32}
+use Rattle.std.proofs.Common.{◌≡◌, ℕ, ◌+◌, ◌<◌, List, [], ◌∷◌, ◌++◌, length, get_or, set, take, drop, ℤ, ◌<ℤ◌, ◌≤ℤ◌, Option, None, Some, IsSome, sym, subst, refl, ◌∙◌, arith, ◌⊎◌, inl, inr, to_z, of_z, w32}
 use Rattle.std.specs.Int.{int_max}
 use Rattle.std.specs.List.{Contains}
-use Rattle.std.specs.List.Sorted.{IsPermutation}
-use Rattle.std.proofs.lemmas.Int.{ints, to_z-of_z}
+use Rattle.std.proofs.lemmas.Int.{ints, clamps, to_z-of_z}
+use Rattle.std.proofs.lemmas.Int.{by_lt_z}
 use mir.Val.{SFits}
 use Rattle.std.proofs.lemmas.Bool.{cases_eq}
 use Rattle.std.proofs.lemmas.List.{length-set, get_or-set_same, get_or-set_other, take_more}
 use Rattle.std.proofs.lemmas.List.Elements.{All-contains, All-contains_itself, Contains-append_left, Contains-append_right, Contains-append_cases}
-use Rattle.std.proofs.lemmas.List.Sorted.{Contains-permutation, IsPermutation-sym}
 use Rattle.std.proofs.Math.Seq.{take-append_seam}
 use Rattle.std.proofs.lemmas.Option.{same_Some}
 use Rattle.fill.specs.declared.net.Spill.{Spill}
 use Rattle.fill.specs.declared.flooding.Waiting.{Waiting}
-use Rattle.fill.specs.Flood.{entry_of, SomeWaits, ComesBy, waiting_by, MakesWait, AreNoted, KeepsDone}
+use Rattle.fill.specs.Walk.{Sources}
+use Rattle.fill.specs.Flood.{AreOwn, PutsIn, entry_of, SomeWaits, ComesBy, waiting_by, MakesWait, AreNoted, KeepsDone}
 use Rattle.fill.proofs.Heaps.{all_by_contains, cons_head, cons_tail, cons_cases}
 use Rattle.fill.proofs.Steps.{none_done, le_trans}
 
 le_refl : (a b : ℤ) → a ≡ b → a ≤ℤ b
 le_refl a b e = omega (arith, ints)
+
+pub below_le : (a b : ℤ) → a <ℤ b → a ≤ℤ b
+below_le a b h = omega (arith, ints)
+
+pub crest_above : (height level low : ℤ) → low ≤ℤ level → low ≤ℤ int_max height level
+crest_above height level low h = omega (arith, ints, clamps)
 
 one_held : {X : Type 0} (x y : X) → Contains (x ∷ []) y → y ≡ x
 one_held x y h = elim (cons_cases x [] y h) [
@@ -45,35 +51,58 @@ passed_low labels levels from way waiting h s noted low = passed labels from way
     (x.0, x.1, x.2, le_trans _ _ _ x.3 low))
 
 -- a way that is followed
-pub followed : (labels : List (Option ℕ)) (from : Waiting) (way : Spill) (old new : List Waiting) → IsPermutation (waiting_by from way ∷ old) new → MakesWait labels from (way ∷ []) old new
+pub followed : (labels : List (Option ℕ)) (from : Waiting) (way : Spill) (old new : List Waiting) → PutsIn (waiting_by from way) old new → MakesWait labels from (way ∷ []) old new
 followed labels from way old new perm = record {
-  kept = all_by_contains (Contains new) old (λ y h. Contains-permutation _ _ y perm (cons_tail (waiting_by from way) old y h));
+  kept = all_by_contains (Contains new) old (λ y h. perm.into y (cons_tail (waiting_by from way) old y h));
   made = all_by_contains (λ y. Contains old y ⊎ ComesBy from (way ∷ []) y) new (λ y h.
-      elim (cons_cases (waiting_by from way) old y (Contains-permutation _ _ y (IsPermutation-sym _ _ perm) h)) [
+      elim (cons_cases (waiting_by from way) old y (perm.from y h)) [
         | inl same ↦ inr (way, cons_head way [], same)
         | inr held ↦ inl held
       ]);
   reached = all_by_contains (λ y. entry_of labels y.to ≡ None → SomeWaits new y.to (int_max y.height from.height.0)) (way ∷ []) (λ y h. subst (λ (y : Spill). entry_of labels y.to ≡ None → SomeWaits new y.to (int_max y.height from.height.0)) (sym (one_held way y h)) (λ _. here));
 } where
   here : SomeWaits new way.to (int_max way.height from.height.0)
-  here = (waiting_by from way, Contains-permutation _ _ _ perm (cons_head (waiting_by from way) old), refl, le_refl _ _ refl)
+  here = (waiting_by from way, perm.into _ (cons_head (waiting_by from way) old), refl, le_refl _ _ refl)
 
 -- the crest by a way that is followed is noted
-pub noted : (labels : List (Option ℕ)) (levels : List (Option ℤ)) (from : Waiting) (way : Spill) (old new : List Waiting) → way.to < length labels → AreNoted labels levels old → IsPermutation (waiting_by from way ∷ old) new → AreNoted labels (set levels way.to (Some (int_max way.height from.height.0))) new
+pub noted : (labels : List (Option ℕ)) (levels : List (Option ℤ)) (from : Waiting) (way : Spill) (old new : List Waiting) → way.to < length labels → AreNoted labels levels old → PutsIn (waiting_by from way) old new → AreNoted labels (set levels way.to (Some (int_max way.height from.height.0))) new
 noted labels levels from way old new below s perm = record {
   size = length-set levels way.to (Some crest) ∙ s.size;
   waits = λ a h none found. elim (cases_eq a way.to) [
     | inl same ↦
         let found_there : entry_of (set levels way.to (Some crest)) way.to ≡ Some h = subst (λ (n : ℕ). entry_of (set levels way.to (Some crest)) n ≡ Some h) same found in
         let is : crest ≡ h = same_Some _ _ (sym (get_or-set_same levels way.to (Some crest) None (omega (arith, below, s.size))) ∙ found_there) in
-        (waiting_by from way, Contains-permutation _ _ _ perm (cons_head (waiting_by from way) old), sym same, le_refl crest h is)
+        (waiting_by from way, perm.into _ (cons_head (waiting_by from way) old), sym same, le_refl crest h is)
     | inr n ↦
         let x = s.waits a h none (sym (get_or-set_other levels way.to a (Some crest) None n) ∙ found) in
-        (x.0, Contains-permutation _ _ x.0 perm (cons_tail (waiting_by from way) old x.0 x.1), x.2, x.3)
+        (x.0, perm.into x.0 (cons_tail (waiting_by from way) old x.0 x.1), x.2, x.3)
   ];
 } where
   crest : ℤ
   crest = int_max way.height from.height.0
+
+-- what is known of the sources stands: a crest below what was noted of a source is below its height
+pub own_by_way : (source : Sources) (labels : List (Option ℕ)) (levels : List (Option ℤ)) (from : Waiting) (way : Spill) (old new : List Waiting) → way.to < length labels → length levels ≡ length labels → entry_of labels way.to ≡ None → ((h : ℤ) × (entry_of levels way.to ≡ Some h) × (h ≤ℤ int_max way.height from.height.0) → ⊥) → PutsIn (waiting_by from way) old new → AreOwn source labels levels old → AreOwn source labels (set levels way.to (Some (int_max way.height from.height.0))) new
+own_by_way source labels levels from way old new below size none lower perm s = record {
+  own = all_by_contains (λ y. source y.node ≡ Some y.height.0 → y.label ≡ y.node) new (λ y h.
+      elim (cons_cases (waiting_by from way) old y (perm.from y h)) [
+        | inl same ↦ subst (λ (y : Waiting). source y.node ≡ Some y.height.0 → y.label ≡ y.node) (sym same) (λ is. absurd (lower (s.low way.to crest below is none)))
+        | inr held ↦ All-contains (λ y. source y.node ≡ Some y.height.0 → y.label ≡ y.node) old y s.own held
+      ]);
+  low = λ a h inside is open_here.
+      let was = s.low a h inside is open_here in
+      elim (cases_eq a way.to) [
+        | inl same ↦
+            let there : entry_of levels way.to ≡ Some was.0 = subst (λ (n : ℕ). entry_of levels n ≡ Some was.0) same was.1 in
+            (crest, subst (λ (n : ℕ). entry_of (set levels way.to (Some crest)) n ≡ Some crest) (sym same) (get_or-set_same levels way.to (Some crest) None (omega (arith, below, size))), high was.0 h there was.2)
+        | inr n ↦ (was.0, get_or-set_other levels way.to a (Some crest) None n ∙ was.1, was.2)
+      ];
+} where
+  crest : ℤ
+  crest = int_max way.height from.height.0
+
+  high : (l h : ℤ) → entry_of levels way.to ≡ Some l → l ≤ℤ h → crest ≤ℤ h
+  high l h there low = by_lt_z crest l (λ less. le_trans crest l h (below_le crest l less) low) (λ up. absurd (lower (l, there, up)))
 
 -- a node that is not done is noted, and the others keep their levels
 pub keeps_done : (labels : List (Option ℕ)) (levels : List (Option ℤ)) (a : ℕ) (level : Option ℤ) → entry_of labels a ≡ None → KeepsDone labels levels (set levels a level)

@@ -11,7 +11,7 @@ use Rattle.std.proofs.lemmas.Bool.{cases_eq, cases_lt}
 use Rattle.fill.specs.declared.net.Spill.{Spill}
 use Rattle.fill.specs.declared.flooding.Waiting.{Waiting}
 use Rattle.fill.specs.Walk.{Joins, Sources, IsWalk, crest, IsLevel, HasNoWalk, IsFlooded, HasJust}
-use Rattle.fill.specs.Flood.{entry_of, IsDone, TakesLowest, waiting_by, SourcesWait, IsLabelOf, SomeWaits, ComesBy, MakesWait, AreNoted, KeepsDone}
+use Rattle.fill.specs.Flood.{entry_of, IsDone, TakesLowest, waiting_by, SourcesWait, HasSourcesNoted, AreOwn, SomeWaits, ComesBy, MakesWait, AreNoted, KeepsDone}
 use Rattle.fill.proofs.FloodState.{HasWalk, IsFlooding}
 use Rattle.fill.proofs.Heaps.{all_by_contains}
 
@@ -113,37 +113,38 @@ flooded joins source nodes levels labels waiting inside s noted all = record {
 empty : {X : Type 0} (nodes a : ℕ) → entry_of {X = X} (replicate nodes None) a ≡ None
 empty {X = X} nodes a = elim (cases_lt a nodes) [ inl h ↦ get_or-replicate nodes a None None h | inr h ↦ get_or_past (replicate nodes None) a None (omega (arith, length-replicate {A = Option X} nodes None)) ]
 
+pub le_of_same : (x y : ℤ) → x ≡ y → x ≤ℤ y
+le_of_same x y e = omega (arith, ints)
+
 -- before the first step
-pub begun : (joins : Joins) (source : Sources) (nodes : ℕ) (waiting : List Waiting) → SourcesWait nodes source waiting → IsFlooding joins source nodes (replicate nodes None) (replicate nodes None) waiting
-begun joins source nodes waiting s = record {
-  levels_size = length-replicate nodes None;
+pub begun : (joins : Joins) (source : Sources) (nodes : ℕ) (levels : List (Option ℤ)) (waiting : List Waiting) → SourcesWait nodes source waiting → length levels ≡ nodes → IsFlooding joins source nodes levels (replicate nodes None) waiting
+begun joins source nodes levels waiting s size = record {
+  levels_size = size;
   labels_size = length-replicate nodes None;
   settled = λ a b e. none_some (entry_of (replicate nodes None) a) b (empty nodes a) e;
   waits = λ k d lt. let o = s.only k d lt in (o.0, ([], ap is_some o.1, ap (λ (z : Option ℤ). unwrap_or z (pos 0)) o.1, sym o.2));
   sources = λ a h below e _. let w = s.every a h below e in (w.0, w.1, w.2, le_of_same w.0.height.0 h w.3);
-  frontier = λ a b l h below joined done e _. none_some (entry_of (replicate nodes None) b) l (empty nodes b) e;
-} where
-  le_of_same : (x y : ℤ) → x ≡ y → x ≤ℤ y
-  le_of_same x y e = omega (arith, ints)
-
--- nothing is noted at first
-pub none_noted : (nodes : ℕ) (waiting : List Waiting) → AreNoted (replicate nodes None) (replicate nodes None) waiting
-none_noted nodes waiting = record {
-  size = length-replicate nodes None ∙ sym (length-replicate nodes None);
-  waits = λ a h _ noted. none_some (entry_of {X = ℤ} (replicate nodes None) a) h (empty nodes a) noted;
+  frontier = λ a b l h below joined done e _. none_done (entry_of {X = ℕ} (replicate nodes None) b) (empty nodes b) done;
 }
 
-level_of_lowest : (joins : Joins) (source : Sources) (w : Waiting) (label : ℕ) → HasWalk joins source w → ((walk : List Spill) → IsWalk joins source w.node walk → w.height.0 ≤ℤ crest source w.node walk) → IsLabelOf source w label → IsLevel joins source w.node w.height.0 label
-level_of_lowest joins source w label walk least (inl own) = record {
-  reached = ([], ap is_some own.0, ap (λ (z : Option ℤ). unwrap_or z (pos 0)) own.0, sym own.1);
-  least = least;
-  own = λ _. own.1;
+-- the heights of the sources are noted at first
+pub sources_noted : (source : Sources) (nodes : ℕ) (levels : List (Option ℤ)) (waiting : List Waiting) → SourcesWait nodes source waiting → HasSourcesNoted nodes source levels → length levels ≡ nodes → AreNoted (replicate nodes None) levels waiting
+sources_noted source nodes levels waiting s noted size = record {
+  size = size ∙ sym (length-replicate {A = Option ℕ} nodes None);
+  waits = λ a h _ e. elim (cases_lt a nodes) [
+    | inl below ↦ let w = s.every a h below (sym (noted.each a below) ∙ e) in (w.0, w.1, w.2, le_of_same w.0.height.0 h w.3)
+    | inr past ↦ none_some (entry_of levels a) h (noted.rest a past) e
+  ];
 }
-level_of_lowest joins source w label walk least (inr other) = record {
-  reached = (walk.0, walk.1, walk.2, walk.3 ∙ sym other.1);
-  least = least;
-  own = λ e. absurd (other.0 e);
+
+pub sources_own : (source : Sources) (nodes : ℕ) (levels : List (Option ℤ)) (waiting : List Waiting) → SourcesWait nodes source waiting → HasSourcesNoted nodes source levels → AreOwn source (replicate nodes None) levels waiting
+sources_own source nodes levels waiting s noted = record {
+  own = λ k d lt _. (s.only k d lt).2;
+  low = λ a h below e _. (h, noted.each a (omega (arith, below, length-replicate {A = Option ℕ} nodes None)) ∙ e, le_of_same h h refl);
 }
+
+level_of_lowest : (joins : Joins) (source : Sources) (w : Waiting) → HasWalk joins source w → ((walk : List Spill) → IsWalk joins source w.node walk → w.height.0 ≤ℤ crest source w.node walk) → (source w.node ≡ Some w.height.0 → w.label ≡ w.node) → IsLevel joins source w.node w.height.0 w.label
+level_of_lowest joins source w walk least own = record { reached = walk; least = least; own = own }
 
 -- a node that waits and is not the one taken waits still
 still_waits : (labels : List (Option ℕ)) (old new : List Waiting) (w : Waiting) (a : ℕ) (h : ℤ) → TakesLowest labels old w new → a ≢ w.node → entry_of labels a ≡ None → SomeWaits old a h → SomeWaits new a h
@@ -161,26 +162,26 @@ other_open : (labels : List (Option ℕ)) (n label a : ℕ) → n < length label
 other_open labels n label a below none e = none_some (entry_of (set labels n (Some label)) n) label (subst (λ (k : ℕ). entry_of (set labels n (Some label)) k ≡ None) e none) (get_or-set_same labels n (Some label) None below)
 
 -- the lowest node takes its level, and its neighbours wait
-pub settle : (joins : Joins) (source : Sources) (nodes : ℕ) (levels after : List (Option ℤ)) (labels : List (Option ℕ)) (old new more : List Waiting) (w : Waiting) (ways : List Spill) (label : ℕ) → ((a b : ℕ) (h : ℤ) → joins a b h → b < nodes) → ((a b : ℕ) (h : ℤ) → joins a b h → joins b a h) → IsFlooding joins source nodes levels labels old → TakesLowest labels old w new → HasJust (joins w.node) ways → MakesWait (set labels w.node (Some label)) w ways new more → length after ≡ length levels → KeepsDone (set labels w.node (Some label)) (set levels w.node (Some w.height.0)) after → IsLabelOf source w label → IsFlooding joins source nodes after (set labels w.node (Some label)) more
-settle joins source nodes levels after labels old new more w ways label inside back s t just spread size keeps labelled =
+pub settle : (joins : Joins) (source : Sources) (nodes : ℕ) (levels after : List (Option ℤ)) (labels : List (Option ℕ)) (old new more : List Waiting) (w : Waiting) (ways : List Spill) → ((a b : ℕ) (h : ℤ) → joins a b h → b < nodes) → ((a b : ℕ) (h : ℤ) → joins a b h → joins b a h) → IsFlooding joins source nodes levels labels old → TakesLowest labels old w new → HasJust (joins w.node) ways → MakesWait (set labels w.node (Some w.label)) w ways new more → length after ≡ length levels → KeepsDone (set labels w.node (Some w.label)) (set levels w.node (Some w.height.0)) after → (source w.node ≡ Some w.height.0 → w.label ≡ w.node) → IsFlooding joins source nodes after (set labels w.node (Some w.label)) more
+settle joins source nodes levels after labels old new more w ways inside back s t just spread size keeps labelled =
     let here = All-contains (λ x. (x.node < nodes) × HasWalk joins source x) old w s.waits t.was in
     let least = lowest_is_least joins source nodes levels labels old new w inside s t in
     let inside_labels : w.node < length labels = omega (arith, here.0, s.labels_size) in
-    let label_here : entry_of (set labels w.node (Some label)) w.node ≡ Some label = get_or-set_same labels w.node (Some label) None inside_labels in
-    let label_there : (a : ℕ) → a ≢ w.node → entry_of (set labels w.node (Some label)) a ≡ entry_of labels a = λ a n. get_or-set_other labels w.node a (Some label) None n in
+    let label_here : entry_of (set labels w.node (Some w.label)) w.node ≡ Some w.label = get_or-set_same labels w.node (Some w.label) None inside_labels in
+    let label_there : (a : ℕ) → a ≢ w.node → entry_of (set labels w.node (Some w.label)) a ≡ entry_of labels a = λ a n. get_or-set_other labels w.node a (Some w.label) None n in
     let level_here : entry_of after w.node ≡ Some w.height.0 = keeps w.node (ap is_some label_here) ∙ get_or-set_same levels w.node (Some w.height.0) None (omega (arith, here.0, s.levels_size)) in
-    let level_there : (a : ℕ) → a ≢ w.node → IsSome (entry_of (set labels w.node (Some label)) a) → entry_of after a ≡ entry_of levels a = λ a n done. keeps a done ∙ get_or-set_other levels w.node a (Some w.height.0) None n in
+    let level_there : (a : ℕ) → a ≢ w.node → IsSome (entry_of (set labels w.node (Some w.label)) a) → entry_of after a ≡ entry_of levels a = λ a n done. keeps a done ∙ get_or-set_other levels w.node a (Some w.height.0) None n in
     let still : (a : ℕ) (h : ℤ) → a ≢ w.node → entry_of labels a ≡ None → SomeWaits old a h → SomeWaits more a h = λ a h n none x.
     let y = still_waits labels old new w a h t n none x in
     (y.0, All-contains (Contains more) new y.0 spread.kept y.1, y.2, y.3) in
     record {
       levels_size = size ∙ s.levels_size;
-      labels_size = length-set labels w.node (Some label) ∙ s.labels_size;
+      labels_size = length-set labels w.node (Some w.label) ∙ s.labels_size;
       settled = λ a b e. elim (cases_eq a w.node) [
         | inl same ↦
-            let is : label ≡ b = same_Some _ _ (sym label_here ∙ subst (λ (n : ℕ). entry_of (set labels w.node (Some label)) n ≡ Some b) same e) in
+            let is : w.label ≡ b = same_Some _ _ (sym label_here ∙ subst (λ (n : ℕ). entry_of (set labels w.node (Some w.label)) n ≡ Some b) same e) in
             subst (λ (n : ℕ). (l : ℤ) × (entry_of after n ≡ Some l) × IsLevel joins source n l b) (sym same)
-            (w.height.0, level_here, subst (λ (k : ℕ). IsLevel joins source w.node w.height.0 k) is (level_of_lowest joins source w label here.1 least labelled))
+            (w.height.0, level_here, subst (λ (k : ℕ). IsLevel joins source w.node w.height.0 k) is (level_of_lowest joins source w here.1 least labelled))
         | inr n ↦
             let was = s.settled a b (sym (label_there a n) ∙ e) in
             (was.0, level_there a n (ap is_some e) ∙ was.1, was.2)
@@ -196,17 +197,17 @@ settle joins source nodes levels after labels old new more w ways label inside b
                 subst (λ (y : Waiting). (y.node < nodes) × HasWalk joins source y) (sym made.2) (inside w.node way.to way.height joined, walk)
           ]);
       sources = λ a h below e none.
-          let n = other_open labels w.node label a inside_labels none in
+          let n = other_open labels w.node w.label a inside_labels none in
           let was = sym (label_there a n) ∙ none in
           still a h n was (s.sources a h below e was);
       frontier = λ a b l h below joined done e none.
-          let n = other_open labels w.node label a inside_labels none in
+          let n = other_open labels w.node w.label a inside_labels none in
           let was = sym (label_there a n) ∙ none in
           elim (cases_eq b w.node) [
             | inl same ↦
                 let back_here : joins w.node a h = subst (λ (k : ℕ). joins k a h) same (back a b h joined) in
                 let level_is : w.height.0 ≡ l = same_Some _ _ (sym level_here ∙ subst (λ (k : ℕ). entry_of after k ≡ Some l) same e) in
-                let x = All-contains (λ way. entry_of (set labels w.node (Some label)) way.to ≡ None → SomeWaits more way.to (int_max way.height w.height.0)) ways (record { to = a; height = h }) spread.reached (just.every a h back_here) none in
+                let x = All-contains (λ way. entry_of (set labels w.node (Some w.label)) way.to ≡ None → SomeWaits more way.to (int_max way.height w.height.0)) ways (record { to = a; height = h }) spread.reached (just.every a h back_here) none in
                 (x.0, x.1, x.2, le_trans _ _ _ x.3 (le_max h w.height.0 l level_is))
             | inr m ↦ still a (int_max h l) n was (s.frontier a b l h below joined (subst (λ (o : Option ℕ). IsSome o) (label_there b m) done) (sym (level_there b m done) ∙ e) was)
           ];
@@ -230,4 +231,15 @@ noted_still labels levels old new w level label below s t = record {
       let n = other_open labels w.node label a below none in
       let was = sym (get_or-set_other labels w.node a (Some label) None n) ∙ none in
       still_waits labels old new w a h t n was (s.waits a h was (sym (get_or-set_other levels w.node a (Some level) None n) ∙ noted));
+}
+
+-- and so does what is known of the sources
+pub own_still : (source : Sources) (labels : List (Option ℕ)) (levels : List (Option ℤ)) (old new : List Waiting) (w : Waiting) (level : ℤ) (label : ℕ) → w.node < length labels → AreOwn source labels levels old → TakesLowest labels old w new → AreOwn source (set labels w.node (Some label)) (set levels w.node (Some level)) new
+own_still source labels levels old new w level label below s t = record {
+  own = all_by_contains (λ x. source x.node ≡ Some x.height.0 → x.label ≡ x.node) new (λ x h.
+      All-contains (λ x. source x.node ≡ Some x.height.0 → x.label ≡ x.node) old x s.own (All-contains (Contains old) new x t.left h));
+  low = λ a h inside is none.
+      let n = other_open labels w.node label a below none in
+      let was = s.low a h (omega (arith, inside, length-set labels w.node (Some label))) is (sym (get_or-set_other labels w.node a (Some label) None n) ∙ none) in
+      (was.0, get_or-set_other levels w.node a (Some level) None n ∙ was.1, was.2);
 }

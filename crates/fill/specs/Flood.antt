@@ -1,8 +1,11 @@
 -- Nodes that wait while a net is flooded, and what the steps of a flood do to them.
-use Rattle.std.specs.Prelude.{◌≡◌, ℕ, ◌<◌, ◌⊎◌, ℤ, ◌≤ℤ◌, List, length, Option, None, Some, IsSome, slice_index_or}
+use Rattle.std.specs.Prelude.{◌≡◌, ℕ, ◌<◌, ◌≤◌, ◌⊎◌, ℤ, ◌≤ℤ◌, List, ◌∷◌, ◌++◌, length, ◌+◌, Option, None, Some, IsSome, slice_index_or}
 use Rattle.std.specs.Ordering.{int_cmp}
 use Rattle.std.specs.declared.cmp.Ordering.{Ordering}
 use Rattle.fill.specs.declared.flooding.Waiting.{Waiting}
+use Rattle.fill.specs.declared.flooding.Waits.{Waits}
+use Rattle.std.specs.BinaryHeap.{IsHeap, heap_items, heap_len}
+use Rattle.std.specs.Vec.{vec_len}
 use Rattle.std.specs.Int.{int_max}
 use Rattle.std.specs.List.{Contains, All}
 use Rattle.fill.specs.Walk.{Joins, Sources, HasJust}
@@ -11,6 +14,30 @@ use Rattle.fill.specs.declared.net.Spill.{Spill}
 -- The least height first.
 abbrev pub waiting_order : Waiting → Waiting → Ordering
 waiting_order x y = int_cmp y.height.0 x.height.0
+
+-- The entries of the nodes that wait.
+abbrev pub waiting_in : Waits → List Waiting
+waiting_in w = w.lowest.items ++ heap_items w.higher
+
+abbrev pub waiting_count : Waits → ℕ
+waiting_count w = vec_len w.lowest + heap_len w.higher
+
+-- Those apart from the heap are at the level, and none in the heap is below it.
+pub record AreOrdered (level : Option ℤ) (lowest higher : List Waiting) : Type 0 where
+  pub heap : IsHeap waiting_order higher
+  pub at_level : All (λ w. level ≡ Some w.height.0) lowest
+  pub above : (l : ℤ) → level ≡ Some l → All (λ w. l ≤ℤ w.height.0) higher
+
+abbrev pub InOrder : Waits → Type 0
+InOrder w = AreOrdered w.level w.lowest.items (heap_items w.higher)
+
+-- The new entries are the old ones and one more.
+pub record PutsIn (w : Waiting) (old new : List Waiting) : Type 0 where
+  pub into : (x : Waiting) → Contains (w ∷ old) x → Contains new x
+  pub from : (x : Waiting) → Contains new x → Contains (w ∷ old) x
+
+abbrev pub HasNone : List Waiting → Type 0
+HasNone waiting = (w : Waiting) → Contains waiting w → ⊥
 
 -- The entry of a node, None past the end.
 abbrev pub entry_of : {X : Type 0} → List (Option X) → ℕ → Option X
@@ -39,9 +66,16 @@ pub record SourcesWait (nodes : ℕ) (source : Sources) (waiting : List Waiting)
   pub every : (a : ℕ) (h : ℤ) → a < nodes → source a ≡ Some h →
       (w : Waiting) × Contains waiting w × (w.node ≡ a) × (w.height.0 ≡ h)
 
--- A source whose level is its own height is its own label; any other node has that of its walk.
-abbrev pub IsLabelOf : Sources → Waiting → ℕ → Type 0
-IsLabelOf source w label = (source w.node ≡ Some w.height.0) × (label ≡ w.node) ⊎ (source w.node ≡ Some w.height.0 → ⊥) × (label ≡ w.label)
+-- The first sources have their heights noted as levels, and no other node any level.
+pub record HasSourcesNoted (count : ℕ) (source : Sources) (levels : List (Option ℤ)) : Type 0 where
+  pub each : (a : ℕ) → a < count → entry_of levels a ≡ source a
+  pub rest : (a : ℕ) → count ≤ a → entry_of levels a ≡ None
+
+-- An entry of a source at its own height has the source as its label, and a source that is not done has a
+-- level noted that is not above its height.
+pub record AreOwn (source : Sources) (labels : List (Option ℕ)) (levels : List (Option ℤ)) (waiting : List Waiting) : Type 0 where
+  pub own : All (λ w. source w.node ≡ Some w.height.0 → w.label ≡ w.node) waiting
+  pub low : (a : ℕ) (h : ℤ) → a < length labels → source a ≡ Some h → entry_of labels a ≡ None → (l : ℤ) × (entry_of levels a ≡ Some l) × (l ≤ℤ h)
 
 -- Some entry of the node is not above the height.
 abbrev pub SomeWaits : List Waiting → ℕ → ℤ → Type 0

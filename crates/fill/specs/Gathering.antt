@@ -1,5 +1,5 @@
 -- How the joins of a spill graph are gathered from the floods of the tiles.
-use Rattle.std.specs.Prelude.{◌≡◌, ◌≢◌, ℕ, ◌-◌, ◌*◌, ◌/◌, ◌%◌, ◌<◌, ◌≤◌, ◌⊎◌, ◌==◌, if◌then◌else◌, ℤ, ◌≤ℤ◌, List, [], ◌∷◌, length, Option, None, Some, MatchOption, slice_get, slice_index_or}
+use Rattle.std.specs.Prelude.{◌≡◌, ◌≢◌, ℕ, ◌+◌, ◌-◌, ◌*◌, ◌/◌, ◌%◌, ◌<◌, ◌≤◌, ◌⊎◌, ◌==◌, if◌then◌else◌, ℤ, ◌≤ℤ◌, List, [], ◌∷◌, length, Option, None, Some, MatchOption, slice_get, slice_index_or}
 use Rattle.std.specs.Int.{int_max}
 use Rattle.std.specs.List.{Contains, All}
 use Rattle.ascii_grid.specs.Neighbours.{index_of, Touches}
@@ -26,6 +26,10 @@ mark_of cols None label = None
 
 abbrev pub mark_among : Cutting → List Flood → Place → Option Mark
 mark_among c floods p = mark_of c.cols (level_among c floods p) (label_among c floods p)
+
+-- What a flood says of the cell with this index in its tile's row order.
+abbrev pub mark_with : ℕ → Flood → ℕ → Option Mark
+mark_with cols f index = mark_of cols (slice_index_or f.levels index None) (slice_index_or f.labels index None)
 
 -- Cells that touch carry the two labels of the join, and its height is the greater of their levels.
 pub record Meets (c : Cutting) (floods : List Flood) (p q : Place) (j : Join) : Type 0 where
@@ -55,6 +59,28 @@ pub record AddsCovered (old added new : List Join) : Type 0 where
   pub kept : (j : Join) → Contains old j → Contains new j
   pub only : (j : Join) → Contains new j → Contains old j ⊎ Contains added j
   pub every : (j : Join) → Contains added j → Covered new j
+
+-- The join of a cell with the one at an index has been added, where there is one.
+abbrev pub AddsNear : ℕ → Flood → Mark → ℕ → List Join → List Join → Type 0
+AddsNear cols f from near old new = AddsCovered old (joins_of from (mark_with cols f near)) new
+
+-- The joins of a cell with the eight around it in rows of this width have been added.
+pub record AddsAround (cols : ℕ) (f : Flood) (from : Mark) (i width : ℕ) (old new : List Join) : Type 0 where
+  pub after_first : List Join
+  pub after_second : List Join
+  pub after_third : List Join
+  pub after_fourth : List Join
+  pub after_fifth : List Join
+  pub after_sixth : List Join
+  pub after_seventh : List Join
+  pub north_west : AddsNear cols f from (i - width - 1) old after_first
+  pub north : AddsNear cols f from (i - width) after_first after_second
+  pub north_east : AddsNear cols f from (i - width + 1) after_second after_third
+  pub west : AddsNear cols f from (i - 1) after_third after_fourth
+  pub east : AddsNear cols f from (i + 1) after_fourth after_fifth
+  pub south_west : AddsNear cols f from (i + width - 1) after_fifth after_sixth
+  pub south : AddsNear cols f from (i + width) after_sixth after_seventh
+  pub south_east : AddsNear cols f from (i + width + 1) after_seventh new
 
 -- The joins of these places have been added, but for those that others cover, and no others.
 pub record Adds (c : Cutting) (floods : List Flood) (places : Place → Type 0) (old new : List Join) : Type 0 where

@@ -1,5 +1,5 @@
 -- Levels and labels inside one tile.
-use Rattle.std.specs.Prelude.{◌≡◌, ℕ, ◌+◌, ◌-◌, ◌*◌, ◌≤◌, ◌⊎◌, ℤ, ◌≤ℤ◌, Bool, ◌&&◌, ◌==◌, nat_le, nat_lt, if◌then◌else◌, List, [], ◌∷◌, length, Option, None, Some, IsTrue, MatchOption, slice_index_or}
+use Rattle.std.specs.Prelude.{◌≡◌, ℕ, ◌+◌, ◌-◌, ◌*◌, ◌≤◌, ◌<◌, ◌⊎◌, ℤ, ◌≤ℤ◌, Bool, ◌&&◌, ◌==◌, nat_le, nat_lt, if◌then◌else◌, List, [], ◌∷◌, length, Option, None, Some, IsTrue, MatchOption, slice_index_or}
 use Rattle.ascii_grid.specs.Raster.{Terrain}
 use Rattle.ascii_grid.specs.Neighbours.{height_at, IsDataCell, IsNeighbour, IsEdge, Touches}
 use Rattle.ascii_grid.specs.Filled.{crest}
@@ -52,6 +52,10 @@ label_in f p = entry_in f.bounds f.labels p
 -- The place of a label's node, None at node 0, which lies on the border and is no label.
 abbrev pub label_of_node : Bounds → ℕ → Option Place
 label_of_node b node = if node == 0 then None else Some (place_of_node b.top b.left b.cols node)
+
+-- The place lies inside these bounds and not on their rim.
+abbrev pub IsInner : Bounds → Place → Type 0
+IsInner b p = (b.top < p.row) × (p.row + 1 < b.top + b.rows) × (b.left < p.col) × (p.col + 1 < b.left + b.cols)
 
 -- A place and those that touch it are of the tile, and have one label or none of them any.
 abbrev pub HasOneLabelAround : Flood → Place → Type 0

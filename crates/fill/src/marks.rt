@@ -1,9 +1,9 @@
 // What the floods of all tiles say of a cell.
-ghost use Rattle.std.specs.Prelude.{◌≡◌, ◌*◌, ◌<◌, ◌≤◌, ◌⊎◌, ℕ, ℤ, ◌↔◌, IsTrue, Some, None, slice_get, IfSome, IfNone};
+ghost use Rattle.std.specs.Prelude.{◌≡◌, ◌*◌, ◌<◌, ◌≤◌, ◌⊎◌, ℕ, ℤ, ◌↔◌, IsTrue, Some, None, slice_get, length, IfSome, IfNone};
 ghost use Rattle.tiles.specs.Cutting.{IsWithin, tile_count};
 ghost use Rattle.ascii_grid.specs.Neighbours.{index_of};
 ghost use Rattle.fill.specs.TileFlood.{LabelsInside, level_in, label_in};
-ghost use Rattle.fill.specs.Gathering.{Fit, mark_of, mark_among, HasGapAmong, IsSpillSource};
+ghost use Rattle.fill.specs.Gathering.{Fit, mark_of, mark_with, mark_among, HasGapAmong, IsSpillSource};
 
 use crate::tile::TileFlood;
 use ascii_grid::{Height, Place};
@@ -33,6 +33,21 @@ fn mark_in(tiling: &Tiling, flood: &TileFlood, place: Place) -> Option<Mark>
 {
     let level = flood.level(place)?;
     let label = flood.label(place)?;
+    Some(Mark {
+        level,
+        node: node_of(tiling, label),
+    })
+}
+
+/// What a flood says of the cell with this index in its tile's row order.
+#[inline(always)]
+pub(crate) fn mark_of_entry(tiling: &Tiling, flood: &TileFlood, index: usize) -> Option<Mark>
+    requires labels { LabelsInside tiling.now flood.now }
+    requires index { index < length flood.now.labels }
+    ensures { result ≡ mark_with tiling.now.cols flood.now index }
+{
+    let level = flood.levels()[index]?;
+    let label = flood.label_at(index)?;
     Some(Mark {
         level,
         node: node_of(tiling, label),

@@ -1,34 +1,55 @@
 // Where the labels of neighbouring cells meet.
-ghost use Rattle.std.specs.Prelude.{◌≡◌, ◌+◌, ◌<◌, ◌≤◌, ◌++◌, [], ℕ, Some, IfOk, OnOk, slice_index_or, length, IsTrue, ◌↔◌};
+ghost use Rattle.std.specs.Prelude.{◌≡◌, ◌+◌, ◌<◌, ◌≤◌, ◌++◌, [], ℕ, Some, MatchOption, IfOk, OnOk, slice_index_or, length, IsTrue, ◌↔◌};
 ghost use Rattle.std.specs.Bool.{OnTrue};
 ghost use Rattle.std.specs.List.{Contains};
 ghost use Rattle.ascii_grid.specs.declared.place.Place.{Place};
 ghost use Rattle.tiles.specs.Cutting.{IsCutting, IsWithin, IsInTile, bounds_of, tile_count};
-ghost use Rattle.fill.specs.Gathering.{Fit, Adds, AddsCovered, Covered, AreLowest, IsRepeat, joins_of, mark_among};
+ghost use Rattle.fill.specs.TileFlood.{LabelsInside};
+ghost use Rattle.fill.specs.Gathering.{Fit, Adds, AddsCovered, AddsAround, Covered, AreLowest, IsRepeat, joins_of, mark_among, mark_with};
 
-use crate::marks::{Mark, mark_at};
+use crate::marks::{Mark, mark_at, mark_of_entry};
 use crate::spills::Join;
 use crate::tile::TileFlood;
 use ascii_grid::{NoMemory, Place};
 use std::alloc::Global;
 use tiles::{Bounds, Tiling};
 
-/// Whether the last of the joins is of the same labels as this one and not higher.
+/// How many places [`Recent`] has.
+pub(crate) const RECENT: usize = 1024;
+
+/// Where joins were added, by a number that is made of their labels: a join that has been added as low
+/// is not added once more.
+pub(crate) type Recent = [usize; RECENT];
+
+/// The place of two labels.
 #[inline(always)]
-fn last_covers(joins: &[Join], join: Join) -> bool
-    ensures { OnTrue result (Covered joins.now join) }
+fn slot_of(from: u32, to: u32) -> usize
+    ensures { result < 1024 }
 {
-    let count = joins.len();
-    if count == 0 {
-        return false;
-    }
-    let last = joins[count - 1];
-    last.from == join.from && last.to == join.to && last.height <= join.height
+    from.wrapping_mul(31).wrapping_add(to) as usize % RECENT
 }
 
-/// Adds the join of two marks, where their labels differ and the last join does not cover it.
+/// Whether the join at this index is of the same labels as this one and not higher.
 #[inline(always)]
-fn push_join(joins: &mut Vec<Join>, from: Mark, to: Option<Mark>) -> Result<(), NoMemory>
+fn covers(joins: &[Join], at: usize, join: Join) -> bool
+    ensures { OnTrue result (Covered joins.now join) }
+{
+    if at >= joins.len() {
+        return false;
+    }
+    let other = joins[at];
+    other.from == join.from && other.to == join.to && other.height <= join.height
+}
+
+/// Adds the join of two marks, where their labels differ and the join that was added last for them does
+/// not cover it.
+#[inline(always)]
+fn push_join(
+    joins: &mut Vec<Join>,
+    recent: &mut Recent,
+    from: Mark,
+    to: Option<Mark>,
+) -> Result<(), NoMemory>
     ensures { OnOk result (AddsCovered joins.old.items (joins_of from to) joins.new.items) }
 {
     let Some(to) = to else { return Ok(()) };
@@ -40,19 +61,21 @@ fn push_join(joins: &mut Vec<Join>, from: Mark, to: Option<Mark>) -> Result<(), 
         to: to.node,
         height: from.level.max(to.level),
     };
-    if last_covers(joins, join) {
+    let slot = slot_of(join.from, join.to);
+    if covers(joins, recent[slot], join) {
         return Ok(());
     }
+    recent[slot] = joins.len();
     if joins.push(join).is_err() {
         return Err(NoMemory);
     }
     Ok(())
 }
 
-/// Adds the joins of a cell with those that touch it.
-#[inline]
-fn push_cell(
+/// Adds the joins of a cell with those that touch it, whichever tiles they are of.
+fn push_rim_cell(
     joins: &mut Vec<Join>,
+    recent: &mut Recent,
     tiling: &Tiling,
     floods: &[TileFlood],
     tile: u32,
@@ -75,15 +98,113 @@ fn push_cell(
                 row: row - 1,
                 col: col - 1,
             };
-            push_join(joins, from, mark_at(tiling, floods, tile, near))?;
+            push_join(joins, recent, from, mark_at(tiling, floods, tile, near))?;
         }
     }
     Ok(())
 }
 
+/// Adds the join of two cells of a tile with these indices, where their labels differ.
+#[inline(always)]
+fn push_near(
+    joins: &mut Vec<Join>,
+    recent: &mut Recent,
+    tiling: &Tiling,
+    flood: &TileFlood,
+    index: usize,
+    from: Mark,
+    near: usize,
+) -> Result<(), NoMemory>
+    requires labels { LabelsInside tiling.now flood.now }
+    requires index { index < length flood.now.labels }
+    requires near { near < length flood.now.labels }
+    requires from { mark_with tiling.now.cols flood.now index ≡ Some from }
+    ensures { OnOk result (AddsCovered joins.old.items (joins_of from (mark_with tiling.now.cols flood.now near)) joins.new.items) }
+{
+    if flood.has_same_label(index, near) {
+        return Ok(());
+    }
+    push_join(joins, recent, from, mark_of_entry(tiling, flood, near))
+}
+
+/// Adds the joins of a cell with the eight around it, which are of the tile.
+fn push_around(
+    joins: &mut Vec<Join>,
+    recent: &mut Recent,
+    tiling: &Tiling,
+    flood: &TileFlood,
+    index: usize,
+    from: Mark,
+    width: usize,
+) -> Result<(), NoMemory>
+    requires labels { LabelsInside tiling.now flood.now }
+    requires before { width + 1 ≤ index }
+    requires after { index + width + 1 < length flood.now.labels }
+    requires few { length flood.now.labels ≤ 16777216 }
+    requires from { mark_with tiling.now.cols flood.now index ≡ Some from }
+    ensures { OnOk result (AddsAround tiling.now.cols flood.now from index width joins.old.items joins.new.items) }
+{
+    let above = index - width;
+    let below = index + width;
+    push_near(joins, recent, tiling, flood, index, from, above - 1)?;
+    push_near(joins, recent, tiling, flood, index, from, above)?;
+    push_near(joins, recent, tiling, flood, index, from, above + 1)?;
+    push_near(joins, recent, tiling, flood, index, from, index - 1)?;
+    push_near(joins, recent, tiling, flood, index, from, index + 1)?;
+    push_near(joins, recent, tiling, flood, index, from, below - 1)?;
+    push_near(joins, recent, tiling, flood, index, from, below)?;
+    push_near(joins, recent, tiling, flood, index, from, below + 1)?;
+    Ok(())
+}
+
+/// Adds the joins of a cell that is not on the rim of its tile.
+fn push_inner_cell(
+    joins: &mut Vec<Join>,
+    recent: &mut Recent,
+    tiling: &Tiling,
+    flood: &TileFlood,
+    index: usize,
+) -> Result<(), NoMemory>
+    requires labels { LabelsInside tiling.now flood.now }
+    requires before { flood.now.bounds.cols + 1 ≤ index }
+    requires after { index + flood.now.bounds.cols + 1 < length flood.now.labels }
+    ensures { OnOk result (MatchOption (mark_with tiling.now.cols flood.now index) (joins.new.items ≡ joins.old.items)
+        (λ from. AddsAround tiling.now.cols flood.now from index flood.now.bounds.cols joins.old.items joins.new.items)) }
+{
+    let Some(from) = mark_of_entry(tiling, flood, index) else {
+        return Ok(());
+    };
+    let width = flood.bounds().cols as usize;
+    push_around(joins, recent, tiling, flood, index, from, width)
+}
+
+/// Adds the joins of a cell of a tile with those that touch it.
+#[inline]
+fn push_cell(
+    joins: &mut Vec<Join>,
+    recent: &mut Recent,
+    tiling: &Tiling,
+    floods: &[TileFlood],
+    tile: u32,
+    place: Place,
+) -> Result<(), NoMemory>
+    requires fit { Fit tiling.now floods.now }
+    requires tile { tile < tile_count tiling.now }
+    requires place { IsInTile tiling.now tile place }
+    requires lawful { IsCutting tiling.now }
+    ensures { OnOk result (Adds tiling.now floods.now (λ p. p ≡ place) joins.old.items joins.new.items) }
+{
+    let flood = &floods[tile as usize];
+    match flood.inner_index(place) {
+        Some(index) => push_inner_cell(joins, recent, tiling, flood, index),
+        None => push_rim_cell(joins, recent, tiling, floods, tile, place),
+    }
+}
+
 /// Adds the joins of the cells of one row of a tile.
 fn push_cells(
     joins: &mut Vec<Join>,
+    recent: &mut Recent,
     tiling: &Tiling,
     floods: &[TileFlood],
     tile: u32,
@@ -102,7 +223,7 @@ fn push_cells(
         if flood.has_one_label_around(Place { row, col }) {
             continue;
         }
-        push_cell(joins, tiling, floods, tile, Place { row, col })?;
+        push_cell(joins, recent, tiling, floods, tile, Place { row, col })?;
     }
     Ok(())
 }
@@ -113,6 +234,7 @@ pub(crate) fn tile_joins(
     tiling: &Tiling,
     floods: &[TileFlood],
     tile: u32,
+    recent: &mut Recent,
 ) -> Result<Vec<Join>, NoMemory>
     requires fit { Fit tiling.now floods.now }
     requires tile { tile < tile_count tiling.now }
@@ -121,7 +243,7 @@ pub(crate) fn tile_joins(
     let mut joins = Vec::new(alloc);
     let Bounds { top, rows, .. } = tiling.bounds(tile);
     for row in top..top + rows {
-        push_cells(&mut joins, tiling, floods, tile, row)?;
+        push_cells(&mut joins, recent, tiling, floods, tile, row)?;
     }
     Ok(joins)
 }

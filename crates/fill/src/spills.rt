@@ -8,7 +8,7 @@ ghost use Rattle.fill.specs.Gathering.{Fit, AreGathered, AreRising, AreSources, 
 use crate::flooding::{Flooded, flood};
 use crate::marks::source_at;
 use crate::net::{Net, Spill};
-use crate::passes::{lowest_joins, tile_joins};
+use crate::passes::{RECENT, Recent, lowest_joins, tile_joins};
 use crate::tile::TileFlood;
 use ascii_grid::{Height, NoMemory, Place};
 use smallvec::SmallVec;
@@ -128,8 +128,9 @@ fn gather_joins(alloc: Global, tiling: &Tiling, floods: &[TileFlood]) -> Result<
     ensures rising { IfOk result (λ v. AreRising v.items) }
 {
     let mut joins = Vec::new(alloc);
+    let mut recent: Recent = [0; RECENT];
     for tile in 0..tiling.tiles() {
-        let lowest = lowest_joins(alloc, tile_joins(alloc, tiling, floods, tile)?)?;
+        let lowest = lowest_joins(alloc, tile_joins(alloc, tiling, floods, tile, &mut recent)?)?;
         if joins.extend_from_slice(&lowest).is_err() {
             return Err(NoMemory);
         }

@@ -1,9 +1,9 @@
 // Flooding of one tile.
-ghost use Rattle.std.specs.Prelude.{◌≡◌, ◌≤◌, ◌+◌, map, unwrap_or, IfOk, OnOk, length, true, false, MatchOption, None, slice_index_or, ◌*◌, ◌-◌, ◌<◌};
+ghost use Rattle.std.specs.Prelude.{◌≡◌, ◌≤◌, ◌+◌, map, unwrap_or, IfOk, IfSome, OnOk, length, true, false, MatchOption, None, slice_index_or, ◌*◌, ◌-◌, ◌<◌};
 ghost use Rattle.std.specs.Bool.{OnTrue};
 ghost use Rattle.tiles.specs.Cutting.{terrain_of, bounds_of, IsInBounds};
 ghost use Rattle.fill.specs.Cells.{place_of_node};
-ghost use Rattle.fill.specs.TileFlood.{IsFlood, IsTileFlood, level_in, label_in, label_of_node, is_in_bounds, HasOneLabelAround, AreEqualAround};
+ghost use Rattle.fill.specs.TileFlood.{IsFlood, IsTileFlood, level_in, label_in, label_of_node, is_in_bounds, HasOneLabelAround, AreEqualAround, IsInner};
 
 use crate::cell_net::{CellNet, without_border};
 use crate::flooding::flood;
@@ -119,6 +119,37 @@ impl TileFlood {
         ensures { result ≡ slice_index_or self.now.labels index None }
     {
         label_of(self.bounds, self.labels[index])
+    }
+
+    /// Where a place of the tile that is not on its rim stands in its row order, None at any other.
+    #[inline(always)]
+    pub(crate) fn inner_index(&self, place: Place) -> Option<usize>
+        requires { IsInBounds self.now.bounds place }
+        ensures inner { IfSome result (λ _. IsInner self.now.bounds place) }
+        ensures around { IfSome result (λ index. (self.now.bounds.cols + 1 ≤ index) × (index + self.now.bounds.cols + 1 < length self.now.labels)) }
+        ensures index { IfSome result (λ index. index ≡ (place.row - self.now.bounds.top) * self.now.bounds.cols + (place.col - self.now.bounds.left)) }
+    {
+        let Bounds {
+            top,
+            left,
+            rows,
+            cols,
+        } = self.bounds;
+        let (row, col) = (place.row - top, place.col - left);
+        if row == 0 || col == 0 || row + 1 == rows || col + 1 == cols {
+            return None;
+        }
+        Some(row as usize * cols as usize + col as usize)
+    }
+
+    /// Whether two cells with these indices in the tile's row order have one label, or neither any.
+    #[inline(always)]
+    pub(crate) fn has_same_label(&self, first: usize, second: usize) -> bool
+        requires first { first < length self.now.labels }
+        requires second { second < length self.now.labels }
+        ensures { OnTrue result (slice_index_or self.now.labels first None ≡ slice_index_or self.now.labels second None) }
+    {
+        self.labels[first] == self.labels[second]
     }
 
     /// Whether a cell and the eight around it lie in the tile and have one label, or none of them any.

@@ -1,12 +1,14 @@
-use Rattle.std.proofs.Common.{take}
-use Rattle.std.specs.BinaryHeap.{IsHeap, heap_items}
-use Rattle.fill.specs.Flood.{waiting_order, MakesWait, AreNoted, KeepsDone}
+use Rattle.std.proofs.Common.{◌≡◌, take}
+use Rattle.fill.specs.Walk.{Sources}
+use Rattle.fill.specs.Flood.{InOrder, waiting_in, MakesWait, AreNoted, AreOwn, KeepsDone}
 use Rattle.fill.proofs.flooding.push_ways.Given as goal
 
 abbrev pub invariant-loop-way : goal.invariant-loop-way
 invariant-loop-way l = record {
-  heap : IsHeap waiting_order (heap_items l.heap);
-  noted : AreNoted l.labels l.levels (heap_items l.heap);
+  order : InOrder l.waits;
+  level : l.waits.level ≡ l.initial.waits.level;
+  noted : AreNoted l.labels l.levels (waiting_in l.waits);
   kept : KeepsDone l.labels l.initial.levels l.levels;
-  waits : MakesWait l.labels l.from (take l.way-index l.ways) (heap_items l.initial.heap) (heap_items l.heap);
+  own : (source : Sources) → AreOwn source l.labels l.initial.levels (waiting_in l.initial.waits) → AreOwn source l.labels l.levels (waiting_in l.waits);
+  waits : MakesWait l.labels l.from (take l.way-index l.ways) (waiting_in l.initial.waits) (waiting_in l.waits);
 }

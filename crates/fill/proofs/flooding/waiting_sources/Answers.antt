@@ -1,25 +1,46 @@
-use Rattle.std.proofs.Common.{rules, ◌≡◌, sym, ◌∙◌, refl, w32, is_err, false, Some, None}
+use Rattle.std.proofs.Common.{rules, ◌≡◌, ◌<◌, length, sym, ap, ◌∙◌, refl, w32, is_err, false, Some, None, arith}
 use mir.Val.{SFits}
 use Rattle.std.proofs.lemmas.Int.{to_z-of_z}
-use Rattle.fill.proofs.Heaps.{source_passed, source_more, on_ok}
+use Rattle.std.proofs.lemmas.List.{length-set, length-replicate}
+use Rattle.fill.proofs.Steps.{none_some}
+use Rattle.fill.proofs.Heaps.{no_sources, source_passed, source_more, none_noted, noted_past, noted_more}
 use Rattle.fill.proofs.flooding.waiting_sources.Goals as goal
-use Rattle.fill.proofs.flooding.waiting_sources.Goals.{in-Some+else-is_err, in_default}
+use Rattle.fill.proofs.flooding.waiting_sources.Goals.{in-Some+in_ok-put, in_default}
 
 pub loop-node-preserved : goal.loop-node-preserved
 loop-node-preserved g c = elim c.match-source.branch [
-  | in-Some+else-is_err w ↦
-      let fine : is_err w.push.result ≡ false = sym w.is_err.ensures.value ∙ w.if-is_err.false in
+  | in-Some+in_ok-put w ↦
       let fits : SFits w32 w.in-Some.height = search rules in
-      let pushed = rw (to_z-of_z w32 w.in-Some.height fits) at (on_ok w.push.result fine w.push.ensures.permutation) in
+      let pushed = rw (to_z-of_z w32 w.in-Some.height fits) at w.in_ok-put.ensures.puts in
       let source : g.N.Net.source_height c.args.net.now c.loop-node.node ≡ Some w.in-Some.height = sym c.source.ensures ∙ w.in-Some.is in
-      rw w.heap-is (record {
-        heap = on_ok w.push.result fine w.push.ensures.heap_order c.loop-node.invariant.heap;
+      let count : length c.loop-node.levels ≡ g.N.Net.node_count c.args.net.now = c.loop-node.invariant.size ∙ ap length c.requires ∙ length-replicate _ None in
+      let inside : c.loop-node.node < length c.loop-node.levels = omega (arith, count, c.nodes-node-end.ensures, c.loop-node-test.true) in
+      rw (w.waits-is, w.levels-is) (record {
+        order = w.in_ok-put.ensures.order;
+        level = w.put.ensures.level ∙ c.loop-node.invariant.level;
         sources = source_more _ c.loop-node.node w.in-Some.height _ _ _ c.loop-node.invariant.sources source refl refl refl pushed;
+        noted = rw (to_z-of_z w32 w.in-Some.height fits) (noted_more _ c.loop-node.node w.in-Some.height _ inside c.loop-node.invariant.noted source);
+        size = length-set c.loop-node.levels c.loop-node.node _ ∙ c.loop-node.invariant.size;
       })
   | in_default w ↦
       let source : g.N.Net.source_height c.args.net.now c.loop-node.node ≡ None = sym c.source.ensures ∙ w.in_default.is in
-      rw w.heap-is (record {
-        heap = c.loop-node.invariant.heap;
+      rw (w.waits-is, w.levels-is) (record {
+        order = c.loop-node.invariant.order;
+        level = c.loop-node.invariant.level;
         sources = source_passed _ _ _ c.loop-node.invariant.sources source;
+        noted = noted_past _ c.loop-node.node _ c.loop-node.invariant.noted source;
+        size = c.loop-node.invariant.size;
       })
 ]
+
+pub loop-node-init : goal.loop-node-init
+loop-node-init g c = record {
+  order = c.new-waits.ensures.order;
+  level = c.new-waits.ensures.level;
+  sources = no_sources _ _ c.new-waits.ensures.none;
+  noted = rw c.requires (none_noted _ _);
+  size = refl;
+}
+
+pub put-requires-clause-level : goal.put-requires-clause-level
+put-requires-clause-level g c = λ l e. none_some _ l c.loop-node.invariant.level e

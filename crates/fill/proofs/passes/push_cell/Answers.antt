@@ -1,26 +1,27 @@
-use Rattle.std.proofs.Common.{◌≡◌, ◌+◌, ◌-◌, ◌/◌, ◌%◌, arith, inl, inr, sym, subst, ◌∙◌, ℕ}
-use Rattle.fill.proofs.Adding.{added_more, added_none, all_added, HasAdded}
+use Rattle.std.proofs.Common.{length, refl, arith}
+use Rattle.std.proofs.lemmas.Option.{slice_get_read}
+use Rattle.std.proofs.lemmas.Result.{on_ok_weaker}
+use Rattle.tiles.proofs.Cut.{in_bounds}
+use Rattle.fill.proofs.InnerCells.{inner_cell_adds}
 use Rattle.fill.proofs.passes.push_cell.Goals as goal
-use Rattle.fill.proofs.passes.push_cell.Goals.{then-row-gt0+then-col-gt0+in_ok-push_join, else-row-gt0, else-row-gt0-via-then-row-gt0+else-col-gt0, else-row-gt0-via-else-row-gt0}
 
-pub loop-way-preserved : goal.loop-way-preserved
-loop-way-preserved c =
-    let t = c.args.tiling.now in
-    let p = c.args.place in
-    let way = c.loop-way.way in
-    elim c.if-row-gt0.branch [
-      | then-row-gt0+then-col-gt0+in_ok-push_join w ↦
-          rw w.joins-is (added_more t c.args.floods.now p (record { row = p.row + way / 3 - 1; col = p.col + way % 3 - 1 }) way c.in-Some.from _ _ _ _
-          (sym c.mark_at.ensures ∙ c.in-Some.is) (sym w.mark_at-then-col-gt0.ensures) (omega (arith, w.if-row-gt0.true)) (omega (arith, w.if-col-gt0.true)) c.loop-way-test.true c.loop-way.invariant w.in_ok-push_join.ensures)
-      | else-row-gt0 w ↦
-          rw w.joins-is (elim w.else-row-gt0.branch [
-            | else-row-gt0-via-then-row-gt0+else-col-gt0 v ↦ added_none t c.args.floods.now p way _ _ c.loop-way.invariant (inr (omega (arith, v.if-col-gt0.false)))
-            | else-row-gt0-via-else-row-gt0 v ↦ added_none t c.args.floods.now p way _ _ c.loop-way.invariant (inl (omega (arith, v.if-row-gt0.false)))
-          ])
-    ]
+pub inner_index-requires : goal.inner_index-requires
+inner_index-requires c =
+    let floods = c.args.floods.now in
+    let there = slice_get_read floods (length floods) c.args.tile c.index-floods-tile.result refl (omega (arith, c.requires.fit.count, c.requires.tile)) c.index-floods-tile.is in
+    rw (c.requires.fit.bounds c.args.tile c.index-floods-tile.result there) (in_bounds c.args.tiling.now c.args.tile c.args.place c.requires.lawful c.requires.place)
 
-pub returns : goal.returns
-returns c =
-    let all : c.loop-way.way ≡ 9 = omega (arith, c.loop-way.auto.way-end, c.loop-way-test.false) in
-    all_added c.args.tiling.now c.args.floods.now c.args.place _ _
-    (subst (λ (n : ℕ). HasAdded c.args.tiling.now c.args.floods.now c.args.place n c.args.joins.now.items c.loop-way.joins.items) all c.loop-way.invariant)
+pub push_inner_cell-requires-clause-labels : goal.push_inner_cell-requires-clause-labels
+push_inner_cell-requires-clause-labels c =
+    let floods = c.args.floods.now in
+    let there = slice_get_read floods (length floods) c.args.tile c.index-floods-tile.result refl (omega (arith, c.requires.fit.count, c.requires.tile)) c.index-floods-tile.is in
+    c.requires.fit.labels c.args.tile c.index-floods-tile.result there
+
+pub returns-in-Some : goal.returns-in-Some
+returns-in-Some c =
+    let floods = c.args.floods.now in
+    let f = c.index-floods-tile.result in
+    let there = slice_get_read floods (length floods) c.args.tile f refl (omega (arith, c.requires.fit.count, c.requires.tile)) c.index-floods-tile.is in
+    on_ok_weaker c.push_inner_cell.result
+    (inner_cell_adds c.args.tiling.now floods c.args.tile f c.args.place c.in-Some.index _ _ c.requires.lawful c.requires.tile there (c.requires.fit.bounds c.args.tile f there) c.in-Some.ensures.inner c.in-Some.ensures.index)
+    c.push_inner_cell.ensures

@@ -56,3 +56,10 @@ returns c =
     (λ p. IsInTile c.args.tiling.now c.args.tile p × (p.row ≡ c.args.row)) _ _
     (λ p at. let inside = (c.bounds-left.ensures.places p).0 at.0 in (at.0, at.1, omega (arith, inside.3, c.loop-col-test.false)))
     c.loop-col.invariant
+
+pub push_cell-requires-clause-place : goal.push_cell-requires-clause-place
+push_cell-requires-clause-place c =
+    let place : Place = record { row = c.args.row; col = c.loop-col.col } in
+    let top = ap (λ (b : Bounds). b.top) c.bounds-left.ensures.value in
+    let rows = ap (λ (b : Bounds). b.rows) c.bounds-left.ensures.value in
+    (c.bounds-left.ensures.places place).1 (omega (arith, top, c.requires.top), omega (arith, top, rows, c.requires.row), c.loop-col.auto.col, c.loop-col-test.true)

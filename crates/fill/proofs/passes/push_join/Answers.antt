@@ -6,10 +6,10 @@ use Rattle.fill.proofs.Lowest.{ok_items}
 use Rattle.fill.proofs.Noting.{kept_crest}
 use Rattle.fill.proofs.passes.push_join.Goals as goal
 
-pub returns-then-last_covers : goal.returns-then-last_covers
-returns-then-last_covers c =
+pub returns-then-covers : goal.returns-then-covers
+returns-then-covers c =
     let value = kept_crest c.args.from.level c.in-Some.to.level c.max.result (search rules) (search rules) (search rules) c.max.ensures.value in
-    let covered = rw (c.deref.ensures.value, value) at (OnTrue_at {P = Covered c.deref.result.now (record { from = c.args.from.node; to = c.in-Some.to.node; height = to_z w32 (of_z w32 c.max.result) })} c.if-last_covers.true c.last_covers.ensures) in
+    let covered = rw (c.deref.ensures.value, value) at (OnTrue_at {P = Covered c.deref.result.now (record { from = c.args.from.node; to = c.in-Some.to.node; height = to_z w32 (of_z w32 c.max.result) })} c.if-covers.true c.covers.ensures) in
     rw c.in-Some.is (adds_covered_join c.args.joins.now.items c.args.from c.in-Some.to covered)
 
 pub returns : goal.returns
