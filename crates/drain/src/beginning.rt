@@ -46,7 +46,7 @@ fn gap_or_lower(
 
 /// Whether a place lies in the first or last row or column.
 #[inline(always)]
-fn is_outermost(grid: &Grid, place: Place) -> bool
+pub(crate) fn is_outermost(grid: &Grid, place: Place) -> bool
     requires { IsInside grid.now.terrain place }
     ensures { IsTrue result ↔ IsOutermost grid.now.terrain place }
 {
