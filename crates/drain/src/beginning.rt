@@ -36,12 +36,13 @@ fn gap_or_lower(
         ((c : ℕ) × (col ≤ c) × (c < col + 3) × IsGapOrLower level (slice_index_or cells.now (row * cols + c) None))
         ((c : ℕ) → col ≤ c → c < col + 3 → IsGapOrLower level (slice_index_or cells.now (row * cols + c) None) → ⊥) }
 {
+    let mut found = false;
     for next in col..col + 3 {
         if is_gap_or_lower(level, cells[row * cols + next]) {
-            return true;
+            found = true;
         }
     }
-    false
+    found
 }
 
 /// Whether a place lies in the first or last row or column.
