@@ -26,7 +26,7 @@ use Rattle.drain.proofs.Quiet.{data_inside, if_some}
 use Rattle.drain.proofs.Ways.{way_to, zip_some, toward-code}
 use Rattle.drain.proofs.Weights.{length-weights, get_or-weights}
 
-height_fits : (t : Terrain) (q : Place) (h : ℤ) → IsTerrain t → height_at t q ≡ Some h → IsHeight h
+pub height_fits : (t : Terrain) (q : Place) (h : ℤ) → IsTerrain t → height_at t q ≡ Some h → IsHeight h
 height_fits t q h lawful e =
     let inside = inside_from_entry t.cols t.rows t.cells q h e in
     MatchOption-at_some _ _ h (sym (entry-inside t.cols t.rows t.cells q inside.0 inside.1) ∙ e)
@@ -121,7 +121,7 @@ cases_option None = inl refl
 cases_option (Some x) = inr (x, refl)
 
 -- a way with a weight leads down
-weight-drop : (way drop : ℕ) → 0 < weight way drop → 0 < drop
+pub weight-drop : (way drop : ℕ) → 0 < weight way drop → 0 < drop
 weight-drop way zero h = absurd (elim (cases_Bool (eqb (way % 2) 0)) [
   | inl e ↦ (let is : weight way 0 ≡ 2 * (0 * 0) = cond-true _ _ _ e in omega arith)
   | inr e ↦ (let is : weight way 0 ≡ 0 * 0 = cond-false _ _ _ e in omega arith)
@@ -132,7 +132,7 @@ weight-drop way (suc n) h = omega arith
 LeadsOn : Terrain → List (Option ℕ) → List (Option ℕ) → Place → ℕ → Type 0
 LeadsOn t steps codes p code = (q : Place) × (place_toward code p ≡ Some q) × IsDataCell t q × Falls (record { terrain = t; steps = steps; codes = codes }) p q
 
-some_way : (o : Option (ℤ × ℕ)) (level : ℤ) → 0 < drop_to level o → (w : ℤ × ℕ) × (o ≡ Some w) × (w.0 <ℤ level)
+pub some_way : (o : Option (ℤ × ℕ)) (level : ℤ) → 0 < drop_to level o → (w : ℤ × ℕ) × (o ≡ Some w) × (w.0 <ℤ level)
 some_way None level h = absurd (omega arith)
 some_way (Some w) level h = (w, refl, below-positive_part level w.0 h)
 

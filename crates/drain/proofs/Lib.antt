@@ -12,6 +12,7 @@ pub mod Block
 pub mod Ways
 pub mod AroundLemmas
 pub mod Laid
+pub mod AmidLemmas
 pub mod DrainedLemmas
 pub mod TileRows
 pub mod TileLists

@@ -1,14 +1,16 @@
 -- What the spots of a tile and the places around it show.
 use Rattle.std.proofs.Common.{◌≡◌, ◌≢◌, ℕ, zero, suc, ◌+◌, ◌-◌, ◌*◌, ◌<◌, ◌≤◌, true, false, inl, inr, List, [], ◌∷◌, ◌++◌, length, get_or, slice_get, Option, None, Some, sym, ap, subst, refl, ◌∙◌, arith}
-use Rattle.std.proofs.lemmas.Bool.{cases_Bool, cases_eq, cond-true, cond-false, and_from, and_left, le-leb}
-use Rattle.std.proofs.lemmas.List.{get_or_append_left, get_or_push, length_push}
+use Rattle.std.proofs.lemmas.Bool.{cases_Bool, cases_eq, cases_lt, cond-true, cond-false, and_from, and_left, le-leb}
+use Rattle.std.proofs.lemmas.List.{get_or_append_left, get_or-append_right, length-append, get_or_push, length_push}
+use Rattle.std.proofs.Math.Nat.{mul-le-mul_right}
 use Rattle.std.proofs.lemmas.Nat.{mul-add-lt}
-use Rattle.ascii_grid.proofs.Places.{make_place, same_place, index_injective}
+use Rattle.ascii_grid.proofs.Places.{make_place, same_place, index_injective, entry-inside}
 use Rattle.ascii_grid.specs.Neighbours.{entry_at, index_of}
 use Rattle.ascii_grid.specs.declared.place.Place.{Place}
 use Rattle.tiles.specs.declared.bounds.Bounds.{Bounds}
-use Rattle.tiles.specs.Cutting.{Cutting, View, bounds_of, is_within, is_shown, cell_shown}
+use Rattle.tiles.specs.Cutting.{Cutting, View, AreBounds, bounds_of, is_within, is_shown, cell_shown, row_shown}
 use Rattle.drain.specs.Window.{IsInner, inner_index, known, count_on, AreKnownBelow, spot_index, area_of, IsSpot, Shows, IsShown, AreShownBelow, AreShown}
+use Rattle.drain.proofs.TileRows.{row_has}
 
 -- what stands in an option, if it is one
 abbrev pub joined : {X : Type 0} → Option (Option X) → Option X
@@ -70,6 +72,52 @@ shown_push {X = X} cols rows entries b s shown x spot before here = record {
     | inr ne ↦ (let lower : spot_index b r < spot_index b s = omega arith in
         subst (λ (o : Option X). IsShown cols rows entries b r o) (sym (get_or_append_left shown (x ∷ []) None (spot_index b r) (omega (arith, before.size))))
         (before.each r inside lower))
+  ];
+}
+
+-- the row of a place in row order
+row_is : (width row : ℕ) (s : Place) → s.col < width → row * width ≤ index_of width s → index_of width s < row * width + width → s.row ≡ row
+row_is width row s inside low high = elim (cases_lt s.row row) [
+  | inl less ↦ (let up : (s.row + 1) * width ≤ row * width = mul-le-mul_right width (omega arith) in absurd (omega (arith, up)))
+  | inr more ↦ elim (cases_eq s.row row) [
+    | inl e ↦ e
+    | inr ne ↦ (let up : (row + 1) * width ≤ s.row * width = mul-le-mul_right width (omega arith) in absurd (omega (arith, up)))
+  ]
+]
+
+-- what a row of the tile has at a spot
+row_spot : {X : Type 0} (v : View (Option X)) (b : Bounds) (s : Place) → b ≡ bounds_of v.cutting v.tile → AreBounds v.cutting b → IsInner b s →
+    IsShown v.cutting.cols v.cutting.rows v.cells b s (get_or (row_shown v (s.row - 1)) (s.col - 1) None)
+row_spot v b s e fits inner = (
+  λ p shows.
+      let row : b.top + (s.row - 1) ≡ p.row = omega (arith, shows.0, inner.first_row) in
+      let up : (b.top + (s.row - 1)) * v.cutting.cols ≡ p.row * v.cutting.cols = ap (λ (n : ℕ). n * v.cutting.cols) row in
+      let at : (b.top + (s.row - 1)) * v.cutting.cols + b.left + (s.col - 1) ≡ index_of v.cutting.cols p = omega (arith, up, shows.1, inner.first_col) in
+      row_has v b (s.row - 1) (s.col - 1) e (omega (arith, inner.first_col, inner.last_col))
+      ∙ ap (λ (n : ℕ). get_or v.cells n None) at
+      ∙ sym (entry-inside v.cutting.cols v.cutting.rows v.cells p (omega (arith, shows.0, inner.last_row, fits.rows_inside)) (omega (arith, shows.1, inner.last_col, fits.cols_inside))),
+  λ off. absurd (elim off [ inl a ↦ omega (arith, a, inner.first_row) | inr a ↦ omega (arith, a, inner.first_col) ]),
+)
+
+-- the spots of a row of the tile more
+pub shown_row : {X : Type 0} (v : View (Option X)) (b : Bounds) (row : ℕ) (shown entries : List (Option X)) → b ≡ bounds_of v.cutting v.tile → AreBounds v.cutting b → 1 ≤ row → row ≤ b.rows →
+    entries ≡ row_shown v (row - 1) → length entries ≡ b.cols → AreShownBelow v.cutting.cols v.cutting.rows v.cells b (row * (b.cols + 2) + 1) shown →
+    AreShownBelow v.cutting.cols v.cutting.rows v.cells b (row * (b.cols + 2) + 1 + b.cols) (shown ++ entries)
+shown_row {X = X} v b row shown entries e fits low high are count before = record {
+  size = length-append shown entries ∙ ap (λ (n : ℕ). n + length entries) before.size ∙ ap (λ (n : ℕ). row * (b.cols + 2) + 1 + n) count;
+  each = λ s spot below. elim (cases_lt (spot_index b s) (row * (b.cols + 2) + 1)) [
+    | inl less ↦
+        subst (λ (o : Option X). IsShown v.cutting.cols v.cutting.rows v.cells b s o) (sym (get_or_append_left shown entries None (spot_index b s) (omega (arith, before.size, less))))
+        (before.each s spot less)
+    | inr past ↦
+        (let here : s.row ≡ row = row_is (b.cols + 2) row s spot.1 (omega (arith, past)) (omega (arith, below)) in
+        let up : s.row * (b.cols + 2) ≡ row * (b.cols + 2) = ap (λ (n : ℕ). n * (b.cols + 2)) here in
+        let inner : IsInner b s = record { first_row = omega (arith, here, low); last_row = omega (arith, here, high); first_col = omega (arith, up, past); last_col = omega (arith, up, below) } in
+        let at : spot_index b s - length shown ≡ s.col - 1 = omega (arith, up, before.size, inner.first_col) in
+        subst (λ (o : Option X). IsShown v.cutting.cols v.cutting.rows v.cells b s o)
+        (sym (get_or-append_right shown entries (length shown) (spot_index b s) None refl (omega (arith, before.size, past)) ∙ ap (λ (n : ℕ). get_or entries n None) at
+        ∙ ap (λ (xs : List (Option X)). get_or xs (s.col - 1) None) (are ∙ ap (λ (n : ℕ). row_shown v (n - 1)) (sym here))))
+        (row_spot v b s e fits inner))
   ];
 }
 

@@ -24,7 +24,7 @@ eight P a b c d e f g h (suc (suc (suc (suc (suc (suc (suc (suc n)))))))) l = ab
 pub toward-code : (p : Place) (way : ℕ) → way < 8 → place_toward (code_of (Some way)) p ≡ place_on way p
 toward-code p = eight (λ way. place_toward (code_of (Some way)) p ≡ place_on way p) refl refl refl refl refl refl refl refl
 
-before-is : (n m : ℕ) → n ≡ m + 1 → before n ≡ Some m
+pub before-is : (n m : ℕ) → n ≡ m + 1 → before n ≡ Some m
 before-is zero m e = absurd (omega arith)
 before-is (suc n) m e = let same : n ≡ m = omega arith in ap Some same
 

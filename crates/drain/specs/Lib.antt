@@ -11,4 +11,5 @@ pub mod TileLists
 pub mod Stages
 pub mod Beginning
 pub mod Fitting
+pub mod Amid
 pub mod Laws

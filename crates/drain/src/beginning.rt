@@ -36,17 +36,18 @@ fn gap_or_lower(
         ((c : ℕ) × (col ≤ c) × (c < col + 3) × IsGapOrLower level (slice_index_or cells.now (row * cols + c) None))
         ((c : ℕ) → col ≤ c → c < col + 3 → IsGapOrLower level (slice_index_or cells.now (row * cols + c) None) → ⊥) }
 {
+    let mut found = false;
     for next in col..col + 3 {
         if is_gap_or_lower(level, cells[row * cols + next]) {
-            return true;
+            found = true;
         }
     }
-    false
+    found
 }
 
 /// Whether a place lies in the first or last row or column.
 #[inline(always)]
-fn is_outermost(grid: &Grid, place: Place) -> bool
+pub(crate) fn is_outermost(grid: &Grid, place: Place) -> bool
     requires { IsInside grid.now.terrain place }
     ensures { IsTrue result ↔ IsOutermost grid.now.terrain place }
 {

@@ -1,6 +1,7 @@
 //! Directions of flow.
 #![tactic(auto)]
 
+mod amid;
 pub mod around;
 mod beginning;
 pub mod code;

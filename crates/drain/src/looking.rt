@@ -36,8 +36,8 @@ fn shown<T: Copy>(view: &TileView<'_, Option<T>>, bounds: Bounds, spot: Place) -
     }
 }
 
-/// Takes one row of spots.
-fn look_along<T: Copy + Drop>(
+/// Takes one row of spots, one by one.
+fn look_beside<T: Copy + Drop>(
     view: &TileView<'_, Option<T>>,
     bounds: Bounds,
     row: u32,
@@ -54,6 +54,56 @@ fn look_along<T: Copy + Drop>(
         list.push(shown(view, bounds, Place { row, col }))?;
     }
     Ok(())
+}
+
+/// Takes one row of spots that the tile lies in: its first, the tile's own row, and its last.
+fn look_across<T: Copy + Drop>(
+    view: &TileView<'_, Option<T>>,
+    bounds: Bounds,
+    row: u32,
+    list: &mut Vec<Option<T>>,
+) -> Result<(), AllocError>
+    requires bounds { bounds ≡ bounds_of view.now.cutting view.now.tile }
+    requires inside { AreBounds view.now.cutting bounds }
+    requires lawful { IsCutting view.now.cutting }
+    requires row { (1 ≤ row) × (row ≤ bounds.rows) }
+    requires list { AreShownBelow view.now.cutting.cols view.now.cutting.rows view.now.cells bounds (row * (bounds.cols + 2)) list.old.items }
+    ensures { OnOk result (AreShownBelow view.now.cutting.cols view.now.cutting.rows view.now.cells bounds ((row + 1) * (bounds.cols + 2)) list.new.items) }
+{
+    let first = shown(view, bounds, Place { row, col: 0 });
+    let last = shown(
+        view,
+        bounds,
+        Place {
+            row,
+            col: bounds.cols + 1,
+        },
+    );
+    list.push(first)?;
+    list.extend_from_slice(view.row(row - 1))?;
+    list.push(last)?;
+    Ok(())
+}
+
+/// Takes one row of spots.
+fn look_along<T: Copy + Drop>(
+    view: &TileView<'_, Option<T>>,
+    bounds: Bounds,
+    row: u32,
+    list: &mut Vec<Option<T>>,
+) -> Result<(), AllocError>
+    requires bounds { bounds ≡ bounds_of view.now.cutting view.now.tile }
+    requires inside { AreBounds view.now.cutting bounds }
+    requires lawful { IsCutting view.now.cutting }
+    requires row { row < bounds.rows + 2 }
+    requires list { AreShownBelow view.now.cutting.cols view.now.cutting.rows view.now.cells bounds (row * (bounds.cols + 2)) list.old.items }
+    ensures { OnOk result (AreShownBelow view.now.cutting.cols view.now.cutting.rows view.now.cells bounds ((row + 1) * (bounds.cols + 2)) list.new.items) }
+{
+    if row == 0 || row > bounds.rows {
+        look_beside(view, bounds, row, list)
+    } else {
+        look_across(view, bounds, row, list)
+    }
 }
 
 /// What a view has at each spot, in row order.

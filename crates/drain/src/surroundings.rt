@@ -9,7 +9,9 @@ ghost use Rattle.drain.specs.Directions.{IsCodeAt};
 ghost use Rattle.drain.specs.Fitting.{IsLaidAround};
 ghost use Rattle.drain.specs.TileLists.{IsPartOf, AreMadeBelow};
 
+use crate::amid::code_amid;
 use crate::around::Around;
+use crate::beginning::is_outermost;
 use crate::code::Code;
 use crate::steepness::direction;
 use ascii_grid::{Grid, Height, Place};
@@ -83,6 +85,19 @@ fn around(grid: &Grid, steps: &[Option<u32>], place: Place, level: Height, own: 
     }
 }
 
+/// The code of a data cell, of all that stands around it.
+#[inline(never)]
+fn code_within(grid: &Grid, steps: &[Option<u32>], place: Place, level: Height, own: u32) -> Code
+    requires lawful { IsTerrain grid.now.terrain }
+    requires steps { AreSteps grid.now.terrain steps.now }
+    requires inside { IsInside grid.now.terrain place }
+    requires level { height_at grid.now.terrain place ≡ Some level }
+    requires own { entry_at grid.now.terrain.cols grid.now.terrain.rows steps.now place ≡ Some own }
+    ensures { IsCodeAt grid.now.terrain steps.now place (Some result) }
+{
+    direction(&around(grid, steps, place, level, own))
+}
+
 /// The code of a cell, None where there is no data.
 #[inline(always)]
 fn code_at(grid: &Grid, steps: &[Option<u32>], place: Place) -> Option<Code>
@@ -92,10 +107,13 @@ fn code_at(grid: &Grid, steps: &[Option<u32>], place: Place) -> Option<Code>
     ensures { IsCodeAt grid.now.terrain steps.now place result }
 {
     let index = place.row as usize * grid.cols() as usize + place.col as usize;
-    match (grid.at(place), steps[index]) {
-        (Some(level), Some(own)) => Some(direction(&around(grid, steps, place, level, own))),
-        _ => None,
+    let (Some(level), Some(own)) = (grid.at(place), steps[index]) else {
+        return None;
+    };
+    if is_outermost(grid, place) {
+        return Some(code_within(grid, steps, place, level, own));
     }
+    Some(code_amid(grid, steps, place, level, own))
 }
 
 /// The codes of one row of a tile.

@@ -1,13 +1,20 @@
-use Rattle.std.proofs.Common.{sym, ◌∙◌, arith}
+use Rattle.std.proofs.Common.{sym, ◌∙◌, arith, rules, to_z-of_z}
+use mir.Val.{SFits}
+use mir.Syntax.{w32}
 use Rattle.drain.proofs.Weights.{drains_onward, direction_down}
 use Rattle.drain.proofs.steepness.direction.Goals as goal
 
 pub onward-requires : goal.onward-requires
 onward-requires c =
-    drains_onward c.args.around.now c.requires (omega (arith, c.steepest-fall.ensures.weight)) c.if-around.false
+    let fits : SFits w32 c.args.around.now.level = search rules in
+    let weight = rw (to_z-of_z fits) at c.steepest-fall.ensures.weight in
+    drains_onward c.args.around.now c.requires (omega (arith, weight c.args.around.now c.heights_around.ensures)) c.if-around.false
 
 pub returns-then-fall-gt0 : goal.returns-then-fall-gt0
 returns-then-fall-gt0 c =
+    let fits : SFits w32 c.args.around.now.level = search rules in
     let fall = c.steepest-fall.result in
-    let way = c.steepest-fall.ensures.way c.if-fall-gt0.true in
-    c.of_way.ensures ∙ sym (direction_down c.args.around.now fall.weight fall.way c.steepest-fall.ensures.weight c.if-fall-gt0.true way.1)
+    let weight = rw (to_z-of_z fits) at c.steepest-fall.ensures.weight in
+    let way = rw (to_z-of_z fits) at c.steepest-fall.ensures.way in
+    let first = way c.args.around.now c.heights_around.ensures c.if-fall-gt0.true in
+    c.of_way.ensures ∙ sym (direction_down c.args.around.now fall.weight fall.way (weight c.args.around.now c.heights_around.ensures) c.if-fall-gt0.true first.1)

@@ -2,7 +2,7 @@ use Rattle.std.proofs.Common.{◌≡◌, ◌+◌, ◌*◌, ℕ, List, Option, sy
 use Rattle.ascii_grid.proofs.Places.{make_place}
 use Rattle.drain.specs.Window.{AreShownBelow, spot_index}
 use Rattle.drain.proofs.Spots.{shown_push}
-use Rattle.drain.proofs.looking.look_along.Goals as goal
+use Rattle.drain.proofs.looking.look_beside.Goals as goal
 
 pub loop-col-preserved : goal.loop-col-preserved
 loop-col-preserved g c =

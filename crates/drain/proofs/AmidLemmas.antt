@@ -1,0 +1,262 @@
+-- What stands around a cell amid the grid, by places in row order.
+use Rattle.std.proofs.Common.{◌≡◌, ◌≢◌, ℕ, ◌+◌, ◌-◌, ◌*◌, ◌<◌, ◌≤◌, ◌<ℤ◌, ◌⊎◌, inl, inr, true, false, eqb, max, fold, List, [], ◌∷◌, length, get_or, Option, None, Some, is_some, unwrap_or, IfSome, ℤ, pos, sym, ap, subst, refl, ◌∙◌, arith}
+use Rattle.std.specs.Prelude.{option_map}
+use Rattle.std.specs.List.{list_any, position}
+use Rattle.std.specs.Option.{option_zip, option_and_then}
+use Rattle.std.proofs.lemmas.Bool.{cases_eq, cases_lt, eq-eqb, eqb-true, ne_eqb, le-ltb, cond-true, cond-false}
+use Rattle.std.proofs.lemmas.List.Elements.{All-get_or}
+use Rattle.std.proofs.lemmas.Option.{same_Some}
+use Rattle.ascii_grid.proofs.Places.{make_place, entry-inside, index_below}
+use Rattle.ascii_grid.specs.Raster.{Terrain, IsTerrain, IsHeight}
+use Rattle.ascii_grid.specs.Neighbours.{IsInside, height_at, entry_at, index_of, Touches, IsNeighbour}
+use Rattle.ascii_grid.specs.Filled.{height_of}
+use Rattle.ascii_grid.specs.Ways.{place_on, place_of, before, entry_on, code_of}
+use Rattle.ascii_grid.specs.declared.place.Place.{Place}
+use Rattle.drain.specs.Amid.{around_index, drop_by, HasHeights, StandAround}
+use Rattle.drain.specs.Beginning.{IsOutermost}
+use Rattle.drain.specs.Directions.{IsCodeAt}
+use Rattle.drain.specs.Fitting.{IsLaidAround}
+use Rattle.drain.specs.Steepness.{weights, drop_to, leads_on}
+use Rattle.drain.specs.Steps.{AreSteps}
+use Rattle.drain.specs.declared.around.Around.{Around}
+use Rattle.drain.proofs.AroundLemmas.{cases_option, some_way, steps_at, weight-drop}
+use Rattle.drain.proofs.Greatest.{fold-max_is}
+use Rattle.drain.proofs.Laid.{laid_fits, laid_code}
+use Rattle.drain.proofs.Ways.{eight, before-is, zip_some}
+use Rattle.drain.proofs.Weights.{length-weights, get_or-weights, drains_onward, direction_down}
+
+drop_is : (level : ℤ) (w : Option (ℤ × ℕ)) → drop_by level (option_map (λ (v : ℤ × ℕ). v.0) w) ≡ drop_to level w
+drop_is level None = refl
+drop_is level (Some w) = refl
+
+-- how far a way drops, by its height
+pub drop_on : (a : Around) (level : ℤ) (heights : List (Option ℤ)) (way drop : ℕ) → HasHeights a level heights → way < 8 → drop ≡ drop_by level (get_or heights way None) →
+    drop ≡ drop_to a.level (get_or a.ways way None)
+drop_on a level heights way drop has below is =
+    is ∙ ap (λ (o : Option ℤ). drop_by level o) (has.each way below) ∙ drop_is level (get_or a.ways way None) ∙ ap (λ (z : ℤ). drop_to z (get_or a.ways way None)) (sym has.own_level)
+
+-- The place on a way from another lies in the grid, and stands where the list of the places around says.
+pub record IsOnWay (t : Terrain) (p : Place) (way : ℕ) (q : Place) : Type 0 where
+  pub on : place_on way p ≡ Some q
+  pub inside : IsInside t q
+  pub index : index_of t.cols q ≡ get_or (around_index t.cols (index_of t.cols p)) way 0
+  pub touches : Touches p q
+  pub different : p ≢ q
+
+apart : (p : Place) (row col : ℕ) → (p.row ≢ row) ⊎ (p.col ≢ col) → p ≢ make_place row col
+apart p row col (inl ne) e = ne (ap (λ (q : Place). q.row) e)
+apart p row col (inr ne) e = ne (ap (λ (q : Place). q.col) e)
+
+module _ (t : Terrain) (p : Place) (r c : ℕ) (row : p.row ≡ r + 1) (col : p.col ≡ c + 1) (rows : r + 2 < t.rows) (cols : c + 2 < t.cols) where
+  found : (way y x : ℕ) → place_on way p ≡ Some (make_place y x) → (r ≤ y) × (y ≤ r + 2) → (c ≤ x) × (x ≤ c + 2) → (p.row ≢ y) ⊎ (p.col ≢ x)
+      → y * t.cols + x ≡ get_or (around_index t.cols (index_of t.cols p)) way 0 → (q : Place) × IsOnWay t p way q
+  found way y x on y_in x_in ne index = (
+    make_place y x,
+    record {
+      on = on;
+      inside = (omega (arith, y_in.1), omega (arith, x_in.1));
+      index = index;
+      touches = record { row_down = omega (arith, y_in.1); row_up = omega (arith, y_in.0); col_right = omega (arith, x_in.1); col_left = omega (arith, x_in.0) };
+      different = apart p y x ne;
+    },
+  )
+
+  north : before p.row ≡ Some r
+  north = before-is p.row r row
+
+  west : before p.col ≡ Some c
+  west = before-is p.col c col
+
+  at_is : index_of t.cols p ≡ r * t.cols + t.cols + c + 1
+  at_is = ap (λ (n : ℕ). n * t.cols + p.col) row ∙ omega (arith, col)
+
+  below_is : (p.row + 1) * t.cols ≡ r * t.cols + t.cols + t.cols
+  below_is = ap (λ (n : ℕ). (n + 1) * t.cols) row ∙ omega arith
+
+  amid_is : p.row * t.cols ≡ r * t.cols + t.cols
+  amid_is = ap (λ (n : ℕ). n * t.cols) row ∙ omega arith
+
+  on_ways : (way : ℕ) → way < 8 → (q : Place) × IsOnWay t p way q
+  on_ways = eight (λ way. (q : Place) × IsOnWay t p way q)
+      (found 0 p.row (p.col + 1) refl (omega arith, omega arith) (omega arith, omega arith) (inr (λ e. omega arith)) (omega (arith, at_is, amid_is)))
+      (found 1 (p.row + 1) (p.col + 1) refl (omega arith, omega arith) (omega arith, omega arith) (inl (λ e. omega arith)) (omega (arith, at_is, below_is)))
+      (found 2 (p.row + 1) p.col refl (omega arith, omega arith) (omega arith, omega arith) (inl (λ e. omega arith)) (omega (arith, at_is, below_is)))
+      (found 3 (p.row + 1) c (ap (λ (o : Option ℕ). place_of (Some (p.row + 1)) o) west) (omega arith, omega arith) (omega arith, omega arith) (inl (λ e. omega arith)) (omega (arith, at_is, below_is)))
+      (found 4 p.row c (ap (λ (o : Option ℕ). place_of (Some p.row) o) west) (omega arith, omega arith) (omega arith, omega arith) (inr (λ e. omega arith)) (omega (arith, at_is, amid_is)))
+      (found 5 r c (ap (λ (o : Option ℕ). place_of o (before p.col)) north ∙ ap (λ (o : Option ℕ). place_of (Some r) o) west) (omega arith, omega arith) (omega arith, omega arith) (inl (λ e. omega arith)) (omega (arith, at_is)))
+      (found 6 r p.col (ap (λ (o : Option ℕ). place_of o (Some p.col)) north) (omega arith, omega arith) (omega arith, omega arith) (inl (λ e. omega arith)) (omega (arith, at_is)))
+      (found 7 r (p.col + 1) (ap (λ (o : Option ℕ). place_of o (Some (p.col + 1))) north) (omega arith, omega arith) (omega arith, omega arith) (inl (λ e. omega arith)) (omega (arith, at_is)))
+
+-- a cell amid the grid
+amid_parts : (t : Terrain) (p : Place) → IsInside t p → (IsOutermost t p → ⊥) → (1 ≤ p.row) × (1 ≤ p.col) × (p.row + 1 < t.rows) × (p.col + 1 < t.cols)
+amid_parts t p inside amid = (
+  elim (cases_eq p.row 0) [ inl e ↦ absurd (amid (inl e)) | inr ne ↦ omega arith ],
+  elim (cases_eq p.col 0) [ inl e ↦ absurd (amid (inr (inl e))) | inr ne ↦ omega arith ],
+  elim (cases_eq p.row (t.rows - 1)) [ inl e ↦ absurd (amid (inr (inr (inl e)))) | inr ne ↦ omega (arith, inside.0) ],
+  elim (cases_eq p.col (t.cols - 1)) [ inl e ↦ absurd (amid (inr (inr (inr e)))) | inr ne ↦ omega (arith, inside.1) ],
+)
+
+pub on_way_amid : (t : Terrain) (p : Place) → IsInside t p → (IsOutermost t p → ⊥) → (way : ℕ) → way < 8 → (q : Place) × IsOnWay t p way q
+on_way_amid t p inside amid =
+    let part = amid_parts t p inside amid in
+    on_ways t p (p.row - 1) (p.col - 1) (omega (arith, part.0)) (omega (arith, part.1)) (omega (arith, part.0, part.2)) (omega (arith, part.1, part.3))
+
+pub at_there : (t : Terrain) (p : Place) (cols : ℕ) (at : List ℕ) → at ≡ around_index cols (index_of cols p) → cols ≡ t.cols → at ≡ around_index t.cols (index_of t.cols p)
+at_there t p cols at is cols_are = is ∙ ap (λ (n : ℕ). around_index n (index_of n p)) cols_are
+
+-- the places around a cell amid the grid stand in its lists
+around_below : (t : Terrain) (p : Place) → IsInside t p → (IsOutermost t p → ⊥) → (way : ℕ) → way < 8 → get_or (around_index t.cols (index_of t.cols p)) way 0 < t.cols * t.rows
+around_below t p inside amid way below =
+    let q = on_way_amid t p inside amid way below in
+    subst (λ (n : ℕ). n < t.cols * t.rows) q.1.index (index_below t.cols t.rows q.0 q.1.inside.0 q.1.inside.1)
+
+pub around_within : {X : Type 0} (t : Terrain) (p : Place) (xs : List X) (at : List ℕ) → length xs ≡ t.cols * t.rows → at ≡ around_index t.cols (index_of t.cols p) → IsInside t p → (IsOutermost t p → ⊥) →
+    (way : ℕ) → way < 8 → get_or at way 0 < length xs
+around_within t p xs at size is inside amid way below =
+    let within = around_below t p inside amid way below in
+    subst (λ (l : List ℕ). get_or l way 0 < length xs) (sym is) (subst (λ (n : ℕ). get_or (around_index t.cols (index_of t.cols p)) way 0 < n) (sym size) within)
+
+entry_amid : {X : Type 0} (t : Terrain) (p : Place) (xs : List (Option X)) → IsInside t p → (IsOutermost t p → ⊥) → (way : ℕ) → way < 8 →
+    entry_on t.cols t.rows xs way p ≡ get_or xs (get_or (around_index t.cols (index_of t.cols p)) way 0) None
+entry_amid t p xs inside amid way below =
+    let q = on_way_amid t p inside amid way below in
+    ap (λ (o : Option Place). option_and_then (λ r. entry_at t.cols t.rows xs r) o) q.1.on
+    ∙ entry-inside t.cols t.rows xs q.0 q.1.inside.0 q.1.inside.1
+    ∙ ap (λ (n : ℕ). get_or xs n None) q.1.index
+
+-- each height has its steps
+zip_heights : (t : Terrain) (steps : List (Option ℕ)) (q : Place) → AreSteps t steps →
+    option_map (λ (w : ℤ × ℕ). w.0) (option_zip (height_at t q) (entry_at t.cols t.rows steps q)) ≡ height_at t q
+zip_heights t steps q are = elim (cases_option (height_at t q)) [
+  | inl none ↦ ap (λ (o : Option ℤ). option_map (λ (w : ℤ × ℕ). w.0) (option_zip o (entry_at t.cols t.rows steps q))) none ∙ sym none
+  | inr some ↦
+      (let count = steps_at t steps q are (ap is_some some.1) in
+      ap (λ (o : Option ℤ). option_map (λ (w : ℤ × ℕ). w.0) (option_zip o (entry_at t.cols t.rows steps q))) some.1
+      ∙ ap (λ (o : Option ℕ). option_map (λ (w : ℤ × ℕ). w.0) (option_zip (Some some.0) o)) count.1
+      ∙ sym some.1)
+]
+
+-- what a way from a place shows
+abbrev pub shown_on : Terrain → List (Option ℕ) → Place → ℕ → Option (ℤ × ℕ)
+shown_on t steps p way = option_zip (entry_on t.cols t.rows t.cells way p) (entry_on t.cols t.rows steps way p)
+
+-- what stands around a cell of this level and these steps
+abbrev pub around_of : Terrain → List (Option ℕ) → Place → ℤ → ℕ → Around
+around_of t steps p level own = record {
+  level = level;
+  steps = own;
+  edge = eqb own 0;
+  ways = shown_on t steps p 0 ∷ shown_on t steps p 1 ∷ shown_on t steps p 2 ∷ shown_on t steps p 3 ∷ shown_on t steps p 4 ∷ shown_on t steps p 5 ∷ shown_on t steps p 6 ∷ shown_on t steps p 7 ∷ [];
+}
+
+module _ (t : Terrain) (steps : List (Option ℕ)) (p : Place) (level : ℤ) (own : ℕ) (lawful : IsTerrain t) (are : AreSteps t steps) (inside : IsInside t p) (amid : IsOutermost t p → ⊥)
+    (high : height_at t p ≡ Some level) (count : entry_at t.cols t.rows steps p ≡ Some own) where
+  pub laid : IsLaidAround t steps p (around_of t steps p level own)
+  laid = record {
+    level = high;
+    own_steps = count;
+    edge = (λ e. eqb-true _ _ e, λ e. eq-eqb _ _ e);
+    count = refl;
+    ways = eight (λ (way : ℕ). get_or (around_of t steps p level own).ways way None ≡ shown_on t steps p way) refl refl refl refl refl refl refl refl;
+  }
+
+  stand_there : StandAround (around_of t steps p level own) t.cells steps (around_index t.cols (index_of t.cols p)) level own
+  stand_there = record {
+    own_level = refl;
+    own_steps = refl;
+    count = refl;
+    each = λ way below. laid.ways way below
+        ∙ ap (λ (o : Option ℤ). option_zip o (entry_on t.cols t.rows steps way p)) (entry_amid t p t.cells inside amid way below)
+        ∙ ap (λ (o : Option ℕ). option_zip (get_or t.cells (get_or (around_index t.cols (index_of t.cols p)) way 0) None) o) (entry_amid t p steps inside amid way below);
+  }
+
+  pub stand : (cells : List (Option ℤ)) (at : List ℕ) → cells ≡ t.cells → at ≡ around_index t.cols (index_of t.cols p) → StandAround (around_of t steps p level own) cells steps at level own
+  stand cells at cells_are at_is =
+      subst (λ (l : List ℕ). StandAround (around_of t steps p level own) cells steps l level own) (sym at_is)
+      (subst (λ (xs : List (Option ℤ)). StandAround (around_of t steps p level own) xs steps (around_index t.cols (index_of t.cols p)) level own) (sym cells_are) stand_there)
+
+  pub has_heights : (heights : List (Option ℤ)) →
+      ((way : ℕ) → way < 8 → get_or heights way None ≡ get_or t.cells (get_or (around_index t.cols (index_of t.cols p)) way 0) None) → HasHeights (around_of t steps p level own) level heights
+  has_heights heights given = record {
+    own_level = refl;
+    count = refl;
+    each = λ way below.
+        let q = on_way_amid t p inside amid way below in
+        let on : shown_on t steps p way ≡ option_zip (height_at t q.0) (entry_at t.cols t.rows steps q.0) =
+        ap (λ (o : Option Place). option_zip (option_and_then (λ r. entry_at t.cols t.rows t.cells r) o) (option_and_then (λ r. entry_at t.cols t.rows steps r) o)) q.1.on in
+        given way below
+        ∙ sym (entry_amid t p t.cells inside amid way below)
+        ∙ ap (λ (o : Option Place). option_and_then (λ r. entry_at t.cols t.rows t.cells r) o) q.1.on
+        ∙ sym (zip_heights t steps q.0 are)
+        ∙ ap (λ (o : Option (ℤ × ℕ)). option_map (λ (w : ℤ × ℕ). w.0) o) (sym on ∙ sym (laid.ways way below));
+  }
+
+  -- a cell that has steps has no lower neighbour
+  no_drop : 0 < own → (way : ℕ) → way < 8 → drop_to level (get_or (around_of t steps p level own).ways way None) ≤ 0
+  no_drop some way below = elim (cases_lt 0 (drop_to level (get_or (around_of t steps p level own).ways way None))) [
+    | inl drops ↦
+        (let w = some_way (get_or (around_of t steps p level own).ways way None) level drops in
+        let at = zip_some (λ q. entry_at t.cols t.rows t.cells q) (λ q. entry_at t.cols t.rows steps q) (place_on way p) w.0.0 w.0.1 (sym (laid.ways way below) ∙ w.1) in
+        let q = on_way_amid t p inside amid way below in
+        let same : at.0 ≡ q.0 = same_Some _ _ (sym at.1 ∙ q.1.on) in
+        let next : IsNeighbour t p at.0 = record {
+          different = subst (λ (r : Place). p ≢ r) (sym same) q.1.different;
+          touches = subst (λ (r : Place). Touches p r) (sym same) q.1.touches;
+          from_data = ap is_some high;
+          to_data = ap is_some at.2;
+        } in
+        let here : height_of t p ≡ level = ap (λ (o : Option ℤ). unwrap_or o (pos 0)) high in
+        let there : height_of t at.0 ≡ w.0.0 = ap (λ (o : Option ℤ). unwrap_or o (pos 0)) at.2 in
+        let lower : height_of t at.0 <ℤ height_of t p = subst (λ z. z <ℤ height_of t p) (sym there) (subst (λ z. w.0.0 <ℤ z) (sym here) w.2) in
+        let own_steps = steps_at t steps p are (ap is_some high) in
+        let least : own_steps.0 ≤ length {A = Place} [] = own_steps.2.least [] (inl (at.0, next, lower)) in
+        let one : own_steps.0 ≡ own = same_Some _ _ (sym own_steps.1 ∙ count) in
+        absurd (omega (arith, least, one, some)))
+    | inr none ↦ none
+  ]
+
+  flat : 0 < own → fold max 0 (weights (around_of t steps p level own)) ≡ 0
+  flat some = fold-max_is (weights (around_of t steps p level own)) 0 0 (omega arith) (λ k within. elim (cases_lt 0 (get_or (weights (around_of t steps p level own)) k 0)) [
+    | inl weighs ↦
+        (let below : k < 8 = omega (arith, length-weights (around_of t steps p level own), within) in
+        let is = get_or-weights (around_of t steps p level own) k below in
+        let none = no_drop some k below in
+        let drops = weight-drop k (drop_to level (get_or (around_of t steps p level own).ways k None)) (omega (arith, is, weighs)) in
+        absurd (omega (arith, none, drops)))
+    | inr none ↦ none
+  ]) (inl refl)
+
+  off_edge : 0 < own → eqb own 0 ≡ false
+  off_edge some = ne_eqb own 0 (λ e. omega (arith, e, some))
+
+  pub leads : 0 < own → list_any (leads_on (around_of t steps p level own)) (around_of t steps p level own).ways ≡ true
+  leads some = drains_onward (around_of t steps p level own) (laid_fits t steps p (around_of t steps p level own) lawful are laid) (omega (arith, flat some)) (off_edge some)
+
+  pub code_onward : (way code : ℕ) → 0 < own → position (leads_on (around_of t steps p level own)) (around_of t steps p level own).ways ≡ Some way → code ≡ code_of (Some way) → IsCodeAt t steps p (Some code)
+  code_onward way code some first is =
+      laid_code t steps p (around_of t steps p level own) code are laid
+      (is ∙ sym (cond-false _ _ _ (le-ltb 0 (fold max 0 (weights (around_of t steps p level own))) (omega (arith, flat some))) ∙ cond-false _ _ _ (off_edge some) ∙ ap code_of first))
+
+  pub code_down : (greatest way code : ℕ) → greatest ≡ fold max 0 (weights (around_of t steps p level own)) → 0 < greatest →
+      position (λ w. eqb w greatest) (weights (around_of t steps p level own)) ≡ Some way → code ≡ code_of (Some way) → IsCodeAt t steps p (Some code)
+  code_down greatest way code greatest_is some first is =
+      laid_code t steps p (around_of t steps p level own) code are laid (is ∙ sym (direction_down (around_of t steps p level own) greatest way greatest_is some first))
+
+  pub code_outlet : (greatest code : ℕ) → own ≤ 0 → greatest ≡ fold max 0 (weights (around_of t steps p level own)) → greatest ≤ 0 → code ≡ 0 → IsCodeAt t steps p (Some code)
+  code_outlet greatest code none greatest_is low is =
+      laid_code t steps p (around_of t steps p level own) code are laid
+      (is ∙ sym (cond-false _ _ _ (le-ltb 0 (fold max 0 (weights (around_of t steps p level own))) (omega (arith, greatest_is, low))) ∙ cond-true _ _ _ (eq-eqb own 0 (omega (arith, none)))))
+
+-- the heights at the places around are the terrain's
+pub heights_there : (t : Terrain) (p : Place) (cells heights : List (Option ℤ)) (at : List ℕ) → cells ≡ t.cells → at ≡ around_index t.cols (index_of t.cols p) →
+    ((way : ℕ) → way < 8 → get_or heights way None ≡ get_or cells (get_or at way 0) None) →
+    (way : ℕ) → way < 8 → get_or heights way None ≡ get_or t.cells (get_or (around_index t.cols (index_of t.cols p)) way 0) None
+heights_there t p cells heights at cells_are at_is given way below =
+    given way below ∙ ap (λ (l : List ℕ). get_or cells (get_or l way 0) None) at_is ∙ ap (λ (xs : List (Option ℤ)). get_or xs (get_or (around_index t.cols (index_of t.cols p)) way 0) None) cells_are
+
+pub heights_fit : (t : Terrain) (p : Place) (heights : List (Option ℤ)) → IsTerrain t → IsInside t p → (IsOutermost t p → ⊥) →
+    ((way : ℕ) → way < 8 → get_or heights way None ≡ get_or t.cells (get_or (around_index t.cols (index_of t.cols p)) way 0) None) →
+    (way : ℕ) → way < 8 → IfSome (get_or heights way None) IsHeight
+heights_fit t p heights lawful inside amid are way below =
+    subst (λ (o : Option ℤ). IfSome o IsHeight) (sym (are way below))
+    (All-get_or (λ (c : Option ℤ). IfSome c IsHeight) t.cells (get_or (around_index t.cols (index_of t.cols p)) way 0) None (omega (arith, lawful.size, around_below t p inside amid way below)) lawful.heights)

@@ -1,0 +1,30 @@
+-- The code of a cell that has eight cells of the grid around it, by their places in row order.
+use Rattle.std.specs.Prelude.{◌≡◌, ℕ, ◌+◌, ◌-◌, ◌<◌, ℤ, ◌-ℤ◌, List, [], ◌∷◌, length, Option, None, Some, option_map, slice_index_or}
+use Rattle.std.specs.Option.{option_zip}
+use Rattle.drain.specs.Steepness.{positive_part}
+use Rattle.drain.specs.declared.around.Around.{Around}
+
+-- Where the cells around one stand, in the order of the codes.
+abbrev pub around_index : ℕ → ℕ → List ℕ
+around_index cols index =
+    (index + 1) ∷ (index + cols + 1) ∷ (index + cols) ∷ (index + cols - 1) ∷ (index - 1) ∷ (index - cols - 1) ∷ (index - cols) ∷ (index - cols + 1) ∷ []
+
+-- How far a height lies below this level; 0 where it doesn't, and where there is none.
+abbrev pub drop_by : ℤ → Option ℤ → ℕ
+drop_by level None = 0
+drop_by level (Some height) = positive_part (level -ℤ height)
+
+-- These are the level and the heights around, without the steps.
+pub record HasHeights (a : Around) (level : ℤ) (heights : List (Option ℤ)) : Type 0 where
+  pub own_level : a.level ≡ level
+  pub count : length a.ways ≡ 8
+  pub each : (way : ℕ) → way < 8 → slice_index_or heights way None ≡ option_map (λ w. w.0) (slice_index_or a.ways way None)
+
+-- The cells at these places stand around one of this level and these steps.
+pub record StandAround (a : Around) (cells : List (Option ℤ)) (steps : List (Option ℕ)) (at : List ℕ) (level : ℤ) (own : ℕ) : Type 0 where
+  pub own_level : a.level ≡ level
+  pub own_steps : a.steps ≡ own
+  pub count : length a.ways ≡ 8
+  pub each : (way : ℕ) → way < 8 →
+      slice_index_or a.ways way None
+      ≡ option_zip (slice_index_or cells (slice_index_or at way 0) None) (slice_index_or steps (slice_index_or at way 0) None)

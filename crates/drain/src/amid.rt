@@ -1,0 +1,119 @@
+// The code of a cell that has eight cells of the grid around it, by their places in row order.
+ghost use Rattle.std.specs.Prelude.{◌≡◌, ℕ, ◌+◌, ◌^◌, ◌<◌, IsTrue, Some, None, length, position, slice_index_or};
+ghost use Rattle.std.specs.List.{list_any};
+ghost use Rattle.std.specs.Option.{option_zip};
+ghost use Rattle.ascii_grid.specs.Raster.{IsTerrain};
+ghost use Rattle.ascii_grid.specs.Neighbours.{IsInside, height_at, entry_at};
+ghost use Rattle.drain.specs.Amid.{around_index, StandAround};
+ghost use Rattle.drain.specs.Beginning.{IsOutermost};
+ghost use Rattle.drain.specs.Directions.{IsCodeAt};
+ghost use Rattle.drain.specs.Steepness.{leads_on};
+ghost use Rattle.drain.specs.Steps.{AreSteps};
+ghost use Rattle.drain.specs.declared.around.Around.{Around};
+
+use crate::code::Code;
+use crate::steepness::steepest;
+use ascii_grid::{Grid, Height, Place};
+
+/// Where the eight cells around one stand, in the order of the codes.
+#[inline(always)]
+fn around_index(cols: usize, index: usize) -> [usize; 8]
+    requires before { cols < index }
+    requires after { index + cols + 1 < 2 ^ 64 }
+    ensures { result ≡ around_index cols index }
+{
+    [
+        index + 1,
+        index + cols + 1,
+        index + cols,
+        index + cols - 1,
+        index - 1,
+        index - cols - 1,
+        index - cols,
+        index - cols + 1,
+    ]
+}
+
+/// The heights at these places.
+#[inline(always)]
+fn heights_at(cells: &[Option<Height>], at: &[usize; 8]) -> [Option<Height>; 8]
+    requires { (way : ℕ) → way < 8 → slice_index_or at.now way 0 < length cells.now }
+    ensures { (way : ℕ) → way < 8 → slice_index_or result way None ≡ slice_index_or cells.now (slice_index_or at.now way 0) None }
+{
+    [
+        cells[at[0]],
+        cells[at[1]],
+        cells[at[2]],
+        cells[at[3]],
+        cells[at[4]],
+        cells[at[5]],
+        cells[at[6]],
+        cells[at[7]],
+    ]
+}
+
+/// Whether a cell has this level and one step fewer than these.
+#[inline(always)]
+fn leads_on(level: Height, own: u32, height: Option<Height>, steps: Option<u32>) -> bool
+    ensures { (a : Around) → a.level ≡ level → a.steps ≡ own → result ≡ leads_on a (option_zip height steps) }
+{
+    match (steps, height) {
+        (Some(count), Some(height)) => count < own && count + 1 == own && height == level,
+        _ => false,
+    }
+}
+
+/// The first way that leads on over the flat.
+#[inline(always)]
+fn onward(
+    cells: &[Option<Height>],
+    steps: &[Option<u32>],
+    at: &[usize; 8],
+    level: Height,
+    own: u32,
+) -> usize
+    requires cells { (way : ℕ) → way < 8 → slice_index_or at.now way 0 < length cells.now }
+    requires steps { (way : ℕ) → way < 8 → slice_index_or at.now way 0 < length steps.now }
+    requires some { (a : Around) × StandAround a cells.now steps.now at.now level own × IsTrue (list_any (leads_on a) a.ways) }
+    ensures below { result < 8 }
+    ensures first { (a : Around) → StandAround a cells.now steps.now at.now level own → position (leads_on a) a.ways ≡ Some result }
+{
+    for way in 0..8 {
+        let index = at[way];
+        if leads_on(level, own, cells[index], steps[index]) {
+            return way;
+        }
+    }
+    unreachable!()
+}
+
+/// The code of a data cell. One that has steps has no lower neighbour, and one without drains at once.
+#[inline(always)]
+pub(crate) fn code_amid(
+    grid: &Grid,
+    steps: &[Option<u32>],
+    place: Place,
+    level: Height,
+    own: u32,
+) -> Code
+    requires lawful { IsTerrain grid.now.terrain }
+    requires steps { AreSteps grid.now.terrain steps.now }
+    requires inside { IsInside grid.now.terrain place }
+    requires amid { IsOutermost grid.now.terrain place → ⊥ }
+    requires level { height_at grid.now.terrain place ≡ Some level }
+    requires own { entry_at grid.now.terrain.cols grid.now.terrain.rows steps.now place ≡ Some own }
+    ensures { IsCodeAt grid.now.terrain steps.now place (Some result) }
+{
+    let cells = grid.cells();
+    let cols = grid.cols() as usize;
+    let at = around_index(cols, place.row as usize * cols + place.col as usize);
+    if own > 0 {
+        return Code::of_way(onward(cells, steps, &at, level, own));
+    }
+    let fall = steepest(level, &heights_at(cells, &at));
+    if fall.weight > 0 {
+        Code::of_way(fall.way)
+    } else {
+        Code::outlet()
+    }
+}
