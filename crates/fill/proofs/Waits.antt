@@ -1,5 +1,5 @@
 -- What is put in and taken of the nodes that wait.
-use Rattle.std.proofs.Common.{◌≡◌, ℕ, ◌<◌, false, List, [], ◌∷◌, ◌++◌, length, ℤ, ◌≤ℤ◌, Option, None, Some, sym, ap, subst, refl, ◌∙◌, arith, inl, inr}
+use Rattle.std.proofs.Common.{◌≡◌, false, List, [], ◌∷◌, ◌++◌, length, ℤ, ◌≤ℤ◌, Option, None, Some, sym, subst, ◌∙◌, arith, inl, inr}
 use Rattle.std.specs.List.{Contains, All}
 use Rattle.std.specs.List.Sorted.{IsPermutation}
 use Rattle.std.specs.BinaryHeap.{IsHeap, IsUpperBound}

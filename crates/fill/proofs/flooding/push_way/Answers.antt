@@ -1,4 +1,4 @@
-use Rattle.std.proofs.Common.{rules, ◌≡◌, sym, ◌∙◌, is_some, false, true, Option, IsSome}
+use Rattle.std.proofs.Common.{rules, ◌≡◌, sym, ◌∙◌, is_some, true, Option, IsSome}
 use Rattle.fill.specs.Flood.{entry_of}
 use Rattle.fill.proofs.Heaps.{not_some}
 use Rattle.fill.proofs.Noting.{passed_low, passed_done, followed, noted, keeps_done, own_by_way, kept_crest, crest_above}
