@@ -2,7 +2,7 @@
 use Rattle.std.proofs.Common.{◌≡◌, ℕ, ◌+◌, ◌<◌, List, [], ◌∷◌, ◌++◌, length, get_or, set, take, drop, ℤ, ◌<ℤ◌, ◌≤ℤ◌, Option, None, Some, IsSome, sym, subst, refl, ◌∙◌, arith, ◌⊎◌, inl, inr, to_z, of_z, w32}
 use Rattle.std.specs.Int.{int_max}
 use Rattle.std.specs.List.{Contains}
-use Rattle.std.proofs.lemmas.Int.{ints, clamps, to_z-of_z}
+use Rattle.std.proofs.lemmas.Int.{ints, to_z-of_z}
 use Rattle.std.proofs.lemmas.Int.{by_lt_z}
 use mir.Val.{SFits}
 use Rattle.std.proofs.lemmas.Bool.{cases_eq}
@@ -22,9 +22,6 @@ le_refl a b e = omega (arith, ints)
 
 pub below_le : (a b : ℤ) → a <ℤ b → a ≤ℤ b
 below_le a b h = omega (arith, ints)
-
-pub crest_above : (height level low : ℤ) → low ≤ℤ level → low ≤ℤ int_max height level
-crest_above height level low h = omega (arith, ints, clamps)
 
 one_held : {X : Type 0} (x y : X) → Contains (x ∷ []) y → y ≡ x
 one_held x y h = elim (cons_cases x [] y h) [

@@ -1,13 +1,13 @@
 -- Nodes that wait while a net is flooded, and what the steps of a flood do to them.
-use Rattle.std.specs.Prelude.{◌≡◌, ℕ, ◌<◌, ◌≤◌, ◌⊎◌, ℤ, ◌≤ℤ◌, List, ◌∷◌, ◌++◌, length, ◌+◌, Option, None, Some, IsSome, slice_index_or}
+use Rattle.std.specs.Prelude.{◌≡◌, ℕ, ◌<◌, ◌≤◌, ◌⊎◌, ℤ, pos, ◌+ℤ◌, ◌≤ℤ◌, List, [], ◌∷◌, ◌++◌, map, length, Option, None, Some, IsSome, slice_index_or}
 use Rattle.std.specs.Ordering.{int_cmp}
 use Rattle.std.specs.declared.cmp.Ordering.{Ordering}
 use Rattle.fill.specs.declared.flooding.Waiting.{Waiting}
 use Rattle.fill.specs.declared.flooding.Waits.{Waits}
-use Rattle.std.specs.BinaryHeap.{IsHeap, heap_items, heap_len}
-use Rattle.std.specs.Vec.{vec_len}
+use Rattle.std.specs.declared.vec.Vec.{Vec}
+use Rattle.std.specs.BinaryHeap.{IsHeap, heap_items}
 use Rattle.std.specs.Int.{int_max}
-use Rattle.std.specs.List.{Contains, All}
+use Rattle.std.specs.List.{Contains, All, flat_map}
 use Rattle.fill.specs.Walk.{Joins, Sources, HasJust}
 use Rattle.fill.specs.declared.net.Spill.{Spill}
 
@@ -15,21 +15,33 @@ use Rattle.fill.specs.declared.net.Spill.{Spill}
 abbrev pub waiting_order : Waiting → Waiting → Ordering
 waiting_order x y = int_cmp y.height.0 x.height.0
 
--- The entries of the nodes that wait.
+-- The entries of each list.
+abbrev pub entries_of : {Z : Type 0} → List (Vec Waiting Z) → List (List Waiting)
+entries_of lists = map (λ l. l.items) lists
+
+-- The entries of the nodes that wait, in some lists and a heap.
+abbrev pub all_entries : List (List Waiting) → List Waiting → List Waiting
+all_entries lists others = flat_map (λ entries. entries) lists ++ others
+
 abbrev pub waiting_in : Waits → List Waiting
-waiting_in w = w.lowest.items ++ heap_items w.higher
+waiting_in w = all_entries (entries_of w.lists.items) (heap_items w.others)
 
 abbrev pub waiting_count : Waits → ℕ
-waiting_count w = vec_len w.lowest + heap_len w.higher
+waiting_count w = length (waiting_in w)
 
--- Those apart from the heap are at the level, and none in the heap is below it.
-pub record AreOrdered (level : Option ℤ) (lowest higher : List Waiting) : Type 0 where
-  pub heap : IsHeap waiting_order higher
-  pub at_level : All (λ w. level ≡ Some w.height.0) lowest
-  pub above : (l : ℤ) → level ≡ Some l → All (λ w. l ≤ℤ w.height.0) higher
+-- The entry of a list is at that list's level, and the list is one from the first on and before the end.
+pub record IsListed (base : ℤ) (first end k : ℕ) (w : Waiting) : Type 0 where
+  pub level : w.height.0 ≡ base +ℤ pos k
+  pub from : first ≤ k
+  pub below : k < end
+
+pub record AreOrdered (base : ℤ) (first end : ℕ) (lists : List (List Waiting)) (others : List Waiting) : Type 0 where
+  pub heap : IsHeap waiting_order others
+  pub end_inside : end ≤ length lists
+  pub listed : (k : ℕ) → All (IsListed base first end k) (slice_index_or lists k [])
 
 abbrev pub InOrder : Waits → Type 0
-InOrder w = AreOrdered w.level w.lowest.items (heap_items w.higher)
+InOrder w = AreOrdered w.base w.first w.end (entries_of w.lists.items) (heap_items w.others)
 
 -- The new entries are the old ones and one more.
 pub record PutsIn (w : Waiting) (old new : List Waiting) : Type 0 where

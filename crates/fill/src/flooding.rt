@@ -1,7 +1,8 @@
-// Levels and labels by a heap of waiting nodes.
-ghost use Rattle.std.specs.Prelude.{◌≡◌, ◌↔◌, ◌<◌, ◌≤ℤ◌, ◌∷◌, [], ℕ, ℤ, IsTrue, IfOk, OnOk, IfSome, IfNone, length, All, replicate, None, Some};
+// Levels and labels by a queue of waiting nodes.
+ghost use Rattle.std.specs.Prelude.{◌≡◌, ◌↔◌, ◌⊎◌, ◌<◌, ◌≤◌, pos, ◌+ℤ◌, ◌≤ℤ◌, ◌<ℤ◌, ◌∷◌, [], ℕ, ℤ, IsTrue, IfOk, OnOk, IfSome, IfNone, length, All, replicate, slice_index_or, None, Some};
+ghost use Rattle.std.specs.BinaryHeap.{heap_items, heap_len};
 ghost use Rattle.fill.specs.Walk.{IsFlooded, Sources};
-ghost use Rattle.fill.specs.Flood.{waiting_in, waiting_count, InOrder, PutsIn, HasNone, IsDone, TakesLowest, SourcesWait, HasSourcesNoted, AreOwn, MakesWait, AreNoted, KeepsDone, Spreads};
+ghost use Rattle.fill.specs.Flood.{entries_of, waiting_in, waiting_count, InOrder, PutsIn, HasNone, IsDone, TakesLowest, SourcesWait, HasSourcesNoted, AreOwn, MakesWait, AreNoted, KeepsDone, Spreads};
 
 use crate::net::{Net, Spill};
 use ascii_grid::{Height, NoMemory};
@@ -27,36 +28,144 @@ struct Waiting {
     label: u32,
 }
 
-/// Nodes that wait. Those at the level that was taken last stand apart from the heap: none is lower.
+/// Levels of the window at most. Those of a tile of 256 by 256 cells mostly span fewer, and no more empty lists than
+/// this are passed over where heights lie far apart.
+const MOST_LEVELS: usize = 512;
+
+/// Nodes for each level of the window at least, so that making the lists is little of a flood.
+const NODES_A_LEVEL: usize = 16;
+
+/// Nodes that wait. Those at a level of the window, which begins at `base`, stand in the list of that level, and all
+/// others in the heap.
 #[derive(Drop)]
 struct Waits {
-    level: Option<Height>,
-    lowest: Vec<Waiting>,
-    higher: BinaryHeap<Waiting>,
+    base: Height,
+    /// No list before this one has an entry.
+    first: usize,
+    /// No list from this one on has an entry.
+    end: usize,
+    lists: Vec<Vec<Waiting>>,
+    others: BinaryHeap<Waiting>,
 }
 
-/// Whether a height is this level.
-#[inline(always)]
-fn is_at(level: Option<Height>, height: Height) -> bool
-    ensures { IsTrue result ↔ level ≡ Some height }
+/// Empty lists.
+fn empty_lists(alloc: Global, count: usize) -> Result<Vec<Vec<Waiting>>, NoMemory>
+    ensures { IfOk result (λ v. entries_of v.items ≡ replicate count []) }
 {
-    match level {
-        Some(level) => level == height,
-        None => false,
+    let Ok(mut lists) = Vec::with_capacity(alloc, count) else {
+        return Err(NoMemory);
+    };
+    for _ in 0..count {
+        if lists.push(Vec::new(alloc)).is_err() {
+            return Err(NoMemory);
+        }
     }
+    Ok(lists)
+}
+
+/// The first list from `first` on, before `stop`, that has an entry, if there is one.
+#[inline(always)]
+fn first_filled(lists: &[Vec<Waiting>], first: usize, stop: usize) -> usize
+    requires { stop ≤ length lists.now }
+    ensures from { first ≤ result }
+    ensures empty { (k : ℕ) → first ≤ k → k < result → slice_index_or (entries_of lists.now) k [] ≡ [] }
+    ensures filled { result < stop → 0 < length (slice_index_or (entries_of lists.now) result []) }
+{
+    let mut index = first;
+    while index < stop && lists[index].is_empty() {
+        index += 1;
+    }
+    index
 }
 
 impl Waits {
-    fn new(alloc: Global) -> Self
-        ensures order { InOrder result }
-        ensures none { HasNone (waiting_in result) }
-        ensures level { result.level ≡ None }
+    /// For a net of so many nodes. The first that is taken begins the first window.
+    fn new(alloc: Global, nodes: usize) -> Result<Self, NoMemory>
+        ensures order { IfOk result (λ w. InOrder w) }
+        ensures none { IfOk result (λ w. HasNone (waiting_in w)) }
     {
-        Waits {
-            level: None,
-            lowest: Vec::new(alloc),
-            higher: BinaryHeap::new(alloc),
+        let lists = empty_lists(alloc, MOST_LEVELS.min(nodes / NODES_A_LEVEL))?;
+        Ok(Waits {
+            base: 0,
+            first: lists.len(),
+            end: 0,
+            lists,
+            others: BinaryHeap::new(alloc),
+        })
+    }
+
+    /// The list of a level, if it is one of those that may have entries.
+    #[inline(always)]
+    fn list_of(&self, height: Height) -> Option<usize>
+        ensures from { IfSome result (λ k. self.now.first ≤ k) }
+        ensures inside { IfSome result (λ k. k < length self.now.lists.items) }
+        ensures level { IfSome result (λ k. height ≡ self.now.base +ℤ pos k) }
+    {
+        let above = i64::from(height) - i64::from(self.base);
+        if above < 0 {
+            return None;
         }
+        let index = above as usize;
+        if self.first <= index && index < self.lists.len() {
+            Some(index)
+        } else {
+            None
+        }
+    }
+
+    /// How many lists are below a height, of those before the end.
+    #[inline(always)]
+    fn lists_below(&self, height: Height) -> usize
+        ensures end { result ≤ self.now.end }
+        ensures lower { (k : ℕ) → k < result → (self.now.base +ℤ pos k) ≤ℤ height }
+        ensures rest { (k : ℕ) → result ≤ k → k < self.now.end → height ≤ℤ (self.now.base +ℤ pos k) }
+    {
+        let above = i64::from(height) - i64::from(self.base);
+        if above < 0 {
+            0
+        } else {
+            self.end.min(above as usize)
+        }
+    }
+
+    /// How many lists are below all of the heap.
+    #[inline(always)]
+    fn lower_lists(&self) -> usize
+        requires { InOrder self.now }
+        ensures end { result ≤ self.now.end }
+        ensures lower { (k : ℕ) → k < result → All (λ x. (self.now.base +ℤ pos k) ≤ℤ x.height.0) (heap_items self.now.others) }
+        ensures rest { (k : ℕ) (d : Waiting) → result ≤ k → k < self.now.end →
+            (slice_index_or (heap_items self.now.others) 0 d).height.0 ≤ℤ (self.now.base +ℤ pos k) }
+        ensures none { heap_len self.now.others ≡ 0 → result ≡ self.now.end }
+    {
+        let Some(lowest) = self.others.peek() else {
+            return self.end;
+        };
+        let Reverse(height) = lowest.height;
+        self.lists_below(height)
+    }
+
+    /// Takes the lowest of the heap, where no list has a lower one. If no list has any, a new window begins.
+    #[inline]
+    fn take_other(&mut self) -> Option<Waiting>
+        requires order { InOrder self.old }
+        requires lowest { (k : ℕ) (d : Waiting) → self.old.first ≤ k → k < self.old.end →
+            (slice_index_or (heap_items self.old.others) 0 d).height.0 ≤ℤ (self.old.base +ℤ pos k) }
+        requires some { heap_len self.old.others ≡ 0 → self.old.end ≤ self.old.first }
+        ensures order { InOrder self.new }
+        ensures taken { IfSome result (λ w. PutsIn w (waiting_in self.new) (waiting_in self.old)) }
+        ensures lowest { IfSome result (λ w. All (λ x. w.height.0 ≤ℤ x.height.0) (waiting_in self.new)) }
+        ensures fewer { IfSome result (λ _. waiting_count self.new < waiting_count self.old) }
+        ensures none { IfNone result (HasNone (waiting_in self.old)) }
+    {
+        let waiting = self.others.pop()?;
+        if self.end <= self.first {
+            let Reverse(height) = waiting.height;
+            self.base = height;
+            self.first = 0;
+            self.end = 0;
+        }
+        Some(waiting)
     }
 
     /// Takes a lowest one.
@@ -66,38 +175,36 @@ impl Waits {
         ensures order { InOrder self.new }
         ensures taken { IfSome result (λ w. PutsIn w (waiting_in self.new) (waiting_in self.old)) }
         ensures lowest { IfSome result (λ w. All (λ x. w.height.0 ≤ℤ x.height.0) (waiting_in self.new)) }
-        ensures level { IfSome result (λ w. self.new.level ≡ Some w.height.0) }
         ensures fewer { IfSome result (λ _. waiting_count self.new < waiting_count self.old) }
         ensures none { IfNone result (HasNone (waiting_in self.old)) }
     {
-        if let Some(waiting) = self.lowest.pop() {
-            return Some(waiting);
+        let stop = self.lower_lists();
+        self.first = first_filled(&self.lists, self.first, stop);
+        if self.first < stop {
+            self.lists[self.first].pop()
+        } else {
+            self.take_other()
         }
-        let waiting = self.higher.pop()?;
-        let Reverse(height) = waiting.height;
-        self.level = Some(height);
-        Some(waiting)
     }
 
-    /// Puts in one that is not below the level.
+    /// Puts one in.
     #[inline(always)]
     fn put(&mut self, waiting: Waiting) -> Result<(), NoMemory>
-        requires order { InOrder self.old }
-        requires level { (l : ℤ) → self.old.level ≡ Some l → l ≤ℤ waiting.height.0 }
+        requires { InOrder self.old }
         ensures order { OnOk result (InOrder self.new) }
         ensures puts { OnOk result (PutsIn waiting (waiting_in self.old) (waiting_in self.new)) }
-        ensures level { self.new.level ≡ self.old.level }
     {
         let Reverse(height) = waiting.height;
-        if is_at(self.level, height) {
-            if self.lowest.push(waiting).is_err() {
+        let Some(index) = self.list_of(height) else {
+            if self.others.push(waiting).is_err() {
                 return Err(NoMemory);
             }
             return Ok(());
-        }
-        if self.higher.push(waiting).is_err() {
+        };
+        if self.lists[index].push(waiting).is_err() {
             return Err(NoMemory);
         }
+        self.end = self.end.max(index + 1);
         Ok(())
     }
 }
@@ -107,7 +214,6 @@ fn next_open(waits: &mut Waits, labels: &[Option<u32>]) -> Option<Waiting>
     requires order { InOrder waits.old }
     requires inside { All (λ w. w.node < length labels.now) (waiting_in waits.old) }
     ensures order { InOrder waits.new }
-    ensures level { IfSome result (λ w. waits.new.level ≡ Some w.height.0) }
     ensures some { IfSome result (λ w.
         TakesLowest labels.now (waiting_in waits.old) w (waiting_in waits.new)) }
     ensures none { IfNone result (All (IsDone labels.now) (waiting_in waits.old)) }
@@ -141,11 +247,9 @@ fn push_way(
     levels: &mut [Option<Height>],
 ) -> Result<(), NoMemory>
     requires order { InOrder waits.old }
-    requires level { (l : ℤ) → waits.old.level ≡ Some l → l ≤ℤ from.now.height.0 }
     requires inside { way.to < length labels.now }
     requires noted { AreNoted labels.now levels.old (waiting_in waits.old) }
     ensures order { OnOk result (InOrder waits.new) }
-    ensures level { OnOk result (waits.new.level ≡ waits.old.level) }
     ensures noted { OnOk result (AreNoted labels.now levels.new (waiting_in waits.new)) }
     ensures kept { OnOk result (KeepsDone labels.now levels.old levels.new) }
     ensures own { OnOk result ((source : Sources) → AreOwn source labels.now levels.old (waiting_in waits.old) →
@@ -180,7 +284,6 @@ fn push_ways(
     levels: &mut [Option<Height>],
 ) -> Result<(), NoMemory>
     requires order { InOrder waits.old }
-    requires level { (l : ℤ) → waits.old.level ≡ Some l → l ≤ℤ from.now.height.0 }
     requires inside { All (λ way. way.to < length labels.now) ways.now }
     requires noted { AreNoted labels.now levels.old (waiting_in waits.old) }
     ensures order { OnOk result (InOrder waits.new) }
@@ -209,7 +312,7 @@ fn waiting_sources<N: Net>(
     ensures noted { IfOk result (λ _. HasSourcesNoted (N.node_count net.now) (N.source_height net.now) levels.new) }
     ensures size { length levels.new ≡ length levels.old }
 {
-    let mut waits = Waits::new(alloc);
+    let mut waits = Waits::new(alloc, levels.len())?;
     for node in 0..net.nodes() {
         if let Some(height) = net.source(node) {
             let waiting = Waiting {
@@ -251,7 +354,6 @@ fn spread<N: Net>(
     levels: &mut [Option<Height>],
 ) -> Result<(), NoMemory>
     requires order { InOrder waits.old }
-    requires level { (l : ℤ) → waits.old.level ≡ Some l → l ≤ℤ from.now.height.0 }
     requires inside { from.now.node < N.node_count net.now }
     requires size { length labels.now ≡ N.node_count net.now }
     requires noted { AreNoted labels.now levels.old (waiting_in waits.old) }

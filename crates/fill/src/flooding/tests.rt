@@ -1,7 +1,9 @@
-// Nodes 0 to 3: 0 and 1 are joined at 5, 1 and 2 at 3, 0 and 2 at 7, and 3 stands alone.
-ghost use Rattle.std.specs.Prelude.{◌≡◌, ◌∷◌, []};
+// The queue, and floods of nodes 0 to 3: 0 and 1 are joined at 5, 1 and 2 at 3, 0 and 2 at 7, and 3 stands alone.
+ghost use Rattle.std.specs.Prelude.{◌≡◌, ◌∷◌, [], OnOk};
+ghost use Rattle.fill.specs.Flood.{InOrder};
 
 use super::*;
+use ascii_grid::{HIGHEST, LOWEST};
 use smallvec::SmallVec;
 use std::test::Fail;
 
@@ -101,5 +103,70 @@ fn refused_memory_is_told(rt: HostRuntime) {
             flooded.label.as_slice(),
             [Some(2), Some(2), Some(2), None].as_slice()
         );
+    }
+}
+
+fn put_each(waits: &mut Waits, heights: &[Height]) -> Result<(), NoMemory>
+    requires { InOrder waits.old }
+    ensures { OnOk result (InOrder waits.new) }
+{
+    for &height in heights {
+        waits.put(Waiting {
+            height: Reverse(height),
+            node: 0,
+            label: 0,
+        })?;
+    }
+    Ok(())
+}
+
+/// The heights of those that are taken next.
+fn taken(alloc: Global, waits: &mut Waits, count: usize) -> Result<Vec<Height>, Fail>
+    requires { InOrder waits.old }
+    ensures { InOrder waits.new }
+{
+    let mut heights = Vec::new(alloc);
+    for _ in 0..count {
+        if let Some(waiting) = waits.take() {
+            let Reverse(height) = waiting.height;
+            heights.push(height)?;
+        }
+    }
+    Ok(heights)
+}
+
+/// From the lists of four levels and from the heap, also after what was put in lower than those taken.
+#[test]
+fn lowest_first(rt: HostRuntime) -> Result<(), Fail> {
+    let alloc = rt.alloc();
+    let mut waits = Waits::new(alloc, 64)?;
+    put_each(&mut waits, &[5, 3, 9, HIGHEST, 3, LOWEST, -1])?;
+    assert_eq!(rt;
+        taken(alloc, &mut waits, 2)?.as_slice(),
+        [LOWEST, -1].as_slice()
+    );
+    put_each(&mut waits, &[0, 2, -1, -3, 3, 1])?;
+    assert_eq!(rt;
+        taken(alloc, &mut waits, 4)?.as_slice(),
+        [-3, -1, 0, 1].as_slice()
+    );
+    put_each(&mut waits, &[0, 2, 4])?;
+    let rest = [0, 2, 2, 3, 3, 3, 4, 5, 9, HIGHEST];
+    assert_eq!(rt; taken(alloc, &mut waits, 12)?.as_slice(), rest.as_slice());
+    Ok(())
+}
+
+/// With `--fail-alloc` the lists, an entry of one or an entry of the heap are refused, and that is told.
+#[test]
+fn refused_growth_is_told(rt: HostRuntime) {
+    let Ok(mut waits) = Waits::new(rt.alloc(), 64) else {
+        return;
+    };
+    if put_each(&mut waits, &[1]).is_err() || waits.take().is_none() {
+        return;
+    }
+    if put_each(&mut waits, &[2, 1]).is_ok() {
+        let lowest = waits.take().map(|waiting| waiting.height);
+        assert_eq!(rt; lowest, Some(Reverse(1)));
     }
 }

@@ -1,6 +1,7 @@
 // Filled heights of small grids.
 use super::*;
 use ascii_grid::{HIGHEST, read_text};
+use std::process::Abort;
 use std::test::Fail;
 
 fn filled(rt: &HostRuntime, size: &str, cells: &str) -> Result<Vec<Option<Height>>, Fail> {
@@ -82,23 +83,40 @@ impl Numbers {
     }
 }
 
-/// One cell in some thirty is a gap, and the others stand at 0 to 3.
-fn cell_word(number: u32) -> &'static str {
-    match number % 31 {
-        0..=7 => " 0",
-        8..=15 => " 1",
-        16..=23 => " 2",
-        24..=29 => " 3",
-        _ => " -9999",
+const NEAR: [&str; 8] = [" 0", " 0", " 1", " 1", " 2", " 2", " 3", " 3"];
+
+/// Farther apart than the lists of so few cells, which have four levels.
+const FAR: [&str; 8] = [
+    " -1000000000",
+    " -70",
+    " -1",
+    " 0",
+    " 2",
+    " 4",
+    " 60",
+    " 1000000000",
+];
+
+/// One cell in some thirty is a gap, and the others stand at one of the heights.
+fn cell_word(number: u32, heights: &[&'static str; 8]) -> &'static str {
+    if number % 31 == 30 {
+        return " -9999";
     }
+    heights[(number % 8) as usize]
 }
 
-fn grid_text(alloc: Global, numbers: &mut Numbers, cols: u8, rows: u8) -> Result<String, Fail> {
+fn grid_text(
+    alloc: Global,
+    numbers: &mut Numbers,
+    heights: &[&'static str; 8],
+    cols: u8,
+    rows: u8,
+) -> Result<String, Fail> {
     let mut text = format!(in alloc;
         "ncols {cols} nrows {rows} xllcorner 0 yllcorner 0 cellsize 1"
     )?;
     for _ in 0..u32::from(cols) * u32::from(rows) {
-        text.push_str(cell_word(numbers.next()))?;
+        text.push_str(cell_word(numbers.next(), heights))?;
     }
     Ok(text)
 }
@@ -167,17 +185,17 @@ fn lowered(
     Ok(levels)
 }
 
-#[test]
-fn as_by_lowering(rt: HostRuntime) -> Result<(), Fail> {
+/// Compares grids of these heights with their lowering, and counts those with a pit.
+fn compare<R: Abort>(rt: &R, alloc: Global, heights: &[&'static str; 8]) -> Result<u32, Fail> {
     let mut numbers = Numbers { state: 1 };
     let mut raised = 0u32;
     for rows in 1..=6u8 {
         for cols in 1..=6u8 {
             for _ in 0..16 {
-                let text = grid_text(rt.alloc(), &mut numbers, cols, rows)?;
-                let grid = read_text(rt.alloc(), 0, text.as_bytes())?;
-                let wanted = lowered(rt.alloc(), grid.cells(), cols, rows)?;
-                let levels = filled_heights(rt.alloc(), &grid)?;
+                let text = grid_text(alloc, &mut numbers, heights, cols, rows)?;
+                let grid = read_text(alloc, 0, text.as_bytes())?;
+                let wanted = lowered(alloc, grid.cells(), cols, rows)?;
+                let levels = filled_heights(alloc, &grid)?;
                 assert_eq!(rt; levels.as_slice(), wanted.as_slice(), "{text}");
                 if levels.as_slice() != grid.cells() {
                     raised = raised.saturating_add(1);
@@ -185,6 +203,19 @@ fn as_by_lowering(rt: HostRuntime) -> Result<(), Fail> {
             }
         }
     }
+    Ok(raised)
+}
+
+#[test]
+fn as_by_lowering(rt: HostRuntime) -> Result<(), Fail> {
+    let raised = compare(&rt, rt.alloc(), &NEAR)?;
+    assert!(rt; raised > 20, "{raised} grids with a pit");
+    Ok(())
+}
+
+#[test]
+fn levels_far_apart_as_by_lowering(rt: HostRuntime) -> Result<(), Fail> {
+    let raised = compare(&rt, rt.alloc(), &FAR)?;
     assert!(rt; raised > 20, "{raised} grids with a pit");
     Ok(())
 }

@@ -1,13 +1,12 @@
 use Rattle.std.proofs.Common.{rules, w32, to_z, of_z, ◌≡◌, ◌<◌, length, sym, ap, ◌∙◌, Some, None, arith}
 use mir.Val.{SFits}
-use Rattle.std.proofs.lemmas.Option.{same_Some}
 use Rattle.fill.specs.Flood.{waiting_in}
 use Rattle.std.proofs.lemmas.Int.{to_z-of_z}
 use Rattle.std.proofs.lemmas.List.{length-set, length-replicate}
 use Rattle.std.proofs.lemmas.List.Elements.{All-contains}
 use Rattle.fill.proofs.FloodState.{HasWalk}
 use Rattle.fill.proofs.Noting.{written_back}
-use Rattle.fill.proofs.Steps.{settle, flooded, noted_still, own_still, sources_noted, sources_own, begun, le_of_same}
+use Rattle.fill.proofs.Steps.{settle, flooded, noted_still, own_still, sources_noted, sources_own, begun}
 use Rattle.fill.proofs.flooding.flood.Goals as goal
 
 pub returns : goal.returns
@@ -55,6 +54,3 @@ loop-waiting-preserved g c =
       noted = rw back at noted;
       own = rw back at (own (own_still _ _ _ _ _ c.in-Some.waiting c.in-Some.waiting.height.0 c.in-Some.waiting.label inside c.loop-waiting.invariant.own takes));
     }
-
-pub spread-requires-clause-level : goal.spread-requires-clause-level
-spread-requires-clause-level g c = λ l e. le_of_same l c.in-Some.waiting.height.0 (same_Some _ _ (sym e ∙ c.in-Some.ensures.level))

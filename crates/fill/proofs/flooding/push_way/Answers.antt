@@ -1,7 +1,7 @@
 use Rattle.std.proofs.Common.{rules, ◌≡◌, sym, ◌∙◌, is_some, true, Option, IsSome}
 use Rattle.fill.specs.Flood.{entry_of}
 use Rattle.fill.proofs.Heaps.{not_some}
-use Rattle.fill.proofs.Noting.{passed_low, passed_done, followed, noted, keeps_done, own_by_way, kept_crest, crest_above}
+use Rattle.fill.proofs.Noting.{passed_low, passed_done, followed, noted, keeps_done, own_by_way, kept_crest}
 use Rattle.fill.proofs.Steps.{le_same}
 use Rattle.fill.proofs.flooding.push_way.Goals as goal
 
@@ -42,8 +42,3 @@ returns-clause-own c = λ source s.
     let pushed = c.in_ok-put.ensures.puts in
     let none = not_some (entry_of c.args.labels.now c.args.way.to) (sym c.is_some.ensures ∙ c.if-is_some.false) in
     rw (sym value) at (own_by_way source c.args.labels.now _ c.args.from.now c.args.way _ _ c.requires.inside c.requires.noted.size none (λ noted. let yes = c.is_no_lower.ensures.1 (noted.0, noted.1, le_same _ _ _ noted.2 (sym value)) in absurd (cc (yes, c.if-is_no_lower.false))) (rw value at pushed) s)
-
-pub put-requires-clause-level : goal.put-requires-clause-level
-put-requires-clause-level c = λ l e.
-    let value = kept_crest c.args.way.height c.args.from.now.height.0 c.max-crest.result (search rules) (search rules) (search rules) c.max-crest.ensures.value in
-    le_same _ _ _ (crest_above c.args.way.height c.args.from.now.height.0 l (c.requires.level l e)) (sym value)

@@ -1,4 +1,4 @@
-use Rattle.std.proofs.Common.{◌≡◌, take}
+use Rattle.std.proofs.Common.{take}
 use Rattle.fill.specs.Walk.{Sources}
 use Rattle.fill.specs.Flood.{InOrder, waiting_in, MakesWait, AreNoted, AreOwn, KeepsDone}
 use Rattle.fill.proofs.flooding.push_ways.Given as goal
@@ -6,7 +6,6 @@ use Rattle.fill.proofs.flooding.push_ways.Given as goal
 abbrev pub invariant-loop-way : goal.invariant-loop-way
 invariant-loop-way l = record {
   order : InOrder l.waits;
-  level : l.waits.level ≡ l.initial.waits.level;
   noted : AreNoted l.labels l.levels (waiting_in l.waits);
   kept : KeepsDone l.labels l.initial.levels l.levels;
   own : (source : Sources) → AreOwn source l.labels l.initial.levels (waiting_in l.initial.waits) → AreOwn source l.labels l.levels (waiting_in l.waits);

@@ -2,7 +2,6 @@ use Rattle.std.proofs.Common.{rules, ◌≡◌, ◌<◌, length, sym, ap, ◌∙
 use mir.Val.{SFits}
 use Rattle.std.proofs.lemmas.Int.{to_z-of_z}
 use Rattle.std.proofs.lemmas.List.{length-set, length-replicate}
-use Rattle.fill.proofs.Steps.{none_some}
 use Rattle.fill.proofs.Heaps.{no_sources, source_passed, source_more, none_noted, noted_past, noted_more}
 use Rattle.fill.proofs.flooding.waiting_sources.Goals as goal
 use Rattle.fill.proofs.flooding.waiting_sources.Goals.{in-Some+in_ok-put, in_default}
@@ -17,7 +16,6 @@ loop-node-preserved g c = elim c.match-source.branch [
       let inside : c.loop-node.node < length c.loop-node.levels = omega (arith, count, c.nodes-node-end.ensures, c.loop-node-test.true) in
       rw (w.waits-is, w.levels-is) (record {
         order = w.in_ok-put.ensures.order;
-        level = w.put.ensures.level ∙ c.loop-node.invariant.level;
         sources = source_more _ c.loop-node.node w.in-Some.height _ _ _ c.loop-node.invariant.sources source refl refl refl pushed;
         noted = rw (to_z-of_z w32 w.in-Some.height fits) (noted_more _ c.loop-node.node w.in-Some.height _ inside c.loop-node.invariant.noted source);
         size = length-set c.loop-node.levels c.loop-node.node _ ∙ c.loop-node.invariant.size;
@@ -26,7 +24,6 @@ loop-node-preserved g c = elim c.match-source.branch [
       let source : g.N.Net.source_height c.args.net.now c.loop-node.node ≡ None = sym c.source.ensures ∙ w.in_default.is in
       rw (w.waits-is, w.levels-is) (record {
         order = c.loop-node.invariant.order;
-        level = c.loop-node.invariant.level;
         sources = source_passed _ _ _ c.loop-node.invariant.sources source;
         noted = noted_past _ c.loop-node.node _ c.loop-node.invariant.noted source;
         size = c.loop-node.invariant.size;
@@ -35,12 +32,8 @@ loop-node-preserved g c = elim c.match-source.branch [
 
 pub loop-node-init : goal.loop-node-init
 loop-node-init g c = record {
-  order = c.new-waits.ensures.order;
-  level = c.new-waits.ensures.level;
-  sources = no_sources _ _ c.new-waits.ensures.none;
+  order = c.in_ok-waits.ensures.order;
+  sources = no_sources _ _ c.in_ok-waits.ensures.none;
   noted = rw c.requires (none_noted _ _);
   size = refl;
 }
-
-pub put-requires-clause-level : goal.put-requires-clause-level
-put-requires-clause-level g c = λ l e. none_some _ l c.loop-node.invariant.level e
