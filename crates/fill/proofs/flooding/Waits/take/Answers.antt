@@ -1,5 +1,5 @@
-use Rattle.std.proofs.Common.{◌≡◌, ◌<◌, ◌≤ℤ◌, ◌∙◌, List, length, heap_items, sym, subst, arith}
-use Rattle.std.specs.Option.{IfSome}
+use Rattle.std.proofs.Common.{◌≡◌, ◌<◌, ◌≤ℤ◌, ◌∙◌, [], ◌++◌, List, length, get_or, heap_items, sym, subst, arith}
+use Rattle.std.specs.Option.{IfSome, option_to_list}
 use Rattle.std.specs.List.{All}
 use Rattle.std.proofs.lemmas.List.{length-map}
 use Rattle.fill.specs.declared.flooding.Waiting.{Waiting}
@@ -10,43 +10,45 @@ use Rattle.fill.proofs.flooding.Waits.take.Goals as goal
 pub take_other-requires-clause-order : goal.take_other-requires-clause-order
 take_other-requires-clause-order c = passed_ordered _ _ _ _ _ _ c.requires (rw (c.deref.ensures.value) at c.first_filled-self.ensures.empty)
 
-pub returns-then-self-stop-clause-order : goal.returns-then-self-stop-clause-order
-returns-then-self-stop-clause-order c =
+-- the first list with entries is one of the lists, and pop took its last
+popped : (c : goal.After-self-then-self-stop-1) → let lists = entries_of c.args.self.now.lists.items in let first = c.first_filled-self.result in (first < length lists) × (get_or lists first [] ≡ c.pop.new.self.items ++ option_to_list c.pop.result)
+popped c =
     let lists = c.args.self.now.lists.items in
     let first = c.first_filled-self.result in
     let count : length (entries_of lists) ≡ length lists = length-map lists (λ l. l.items) in
     let inside : first < length (entries_of lists) = omega (arith, c.if-self-stop.true, c.lower_lists-stop.ensures.end, c.requires.end_inside) in
-    let is = entries_at lists first c.index_mut.result.now (omega (arith, inside, count)) c.index_mut.ensures.value ∙ c.pop.ensures.items in
-    let passed = passed_ordered _ _ first _ _ _ c.requires (rw (c.deref.ensures.value) at c.first_filled-self.ensures.empty) in
-    subst (λ (z : List (List Waiting)). AreOrdered c.args.self.now.base first c.args.self.now.end z (heap_items c.args.self.now.others)) (sym (entries_set lists first c.pop.new.self)) (pop_ordered _ _ _ first c.pop.result (entries_of lists) c.pop.new.self.items _ inside is passed)
+    (inside, entries_at lists first c.index_mut.result.now (omega (arith, inside, count)) c.index_mut.ensures.value ∙ c.pop.ensures.items)
+
+passed : (c : goal.After-self-then-self-stop-1) → AreOrdered c.args.self.now.base c.first_filled-self.result c.args.self.now.end (entries_of c.args.self.now.lists.items) (heap_items c.args.self.now.others)
+passed c = passed_ordered _ _ c.first_filled-self.result _ _ _ c.requires (rw (c.deref.ensures.value) at c.first_filled-self.ensures.empty)
+
+pub returns-then-self-stop-clause-order : goal.returns-then-self-stop-clause-order
+returns-then-self-stop-clause-order c =
+    let lists = c.args.self.now.lists.items in
+    let first = c.first_filled-self.result in
+    let is = popped c in
+    subst (λ (z : List (List Waiting)). AreOrdered c.args.self.now.base first c.args.self.now.end z (heap_items c.args.self.now.others)) (sym (entries_set lists first c.pop.new.self)) (pop_ordered _ _ _ first c.pop.result (entries_of lists) c.pop.new.self.items _ is.0 is.1 (passed c))
 
 pub returns-then-self-stop-clause-taken : goal.returns-then-self-stop-clause-taken
 returns-then-self-stop-clause-taken c =
     let lists = c.args.self.now.lists.items in
     let others = heap_items c.args.self.now.others in
     let first = c.first_filled-self.result in
-    let count : length (entries_of lists) ≡ length lists = length-map lists (λ l. l.items) in
-    let inside : first < length (entries_of lists) = omega (arith, c.if-self-stop.true, c.lower_lists-stop.ensures.end, c.requires.end_inside) in
-    let is = entries_at lists first c.index_mut.result.now (omega (arith, inside, count)) c.index_mut.ensures.value ∙ c.pop.ensures.items in
-    subst (λ (z : List (List Waiting)). IfSome c.pop.result (λ w. PutsIn w (all_entries z others) (all_entries (entries_of lists) others))) (sym (entries_set lists first c.pop.new.self)) (pop_taken first c.pop.result (entries_of lists) c.pop.new.self.items others inside is)
+    let is = popped c in
+    subst (λ (z : List (List Waiting)). IfSome c.pop.result (λ w. PutsIn w (all_entries z others) (all_entries (entries_of lists) others))) (sym (entries_set lists first c.pop.new.self)) (pop_taken first c.pop.result (entries_of lists) c.pop.new.self.items others is.0 is.1)
 
 pub returns-then-self-stop-clause-lowest : goal.returns-then-self-stop-clause-lowest
 returns-then-self-stop-clause-lowest c =
     let lists = c.args.self.now.lists.items in
     let others = heap_items c.args.self.now.others in
     let first = c.first_filled-self.result in
-    let count : length (entries_of lists) ≡ length lists = length-map lists (λ l. l.items) in
-    let inside : first < length (entries_of lists) = omega (arith, c.if-self-stop.true, c.lower_lists-stop.ensures.end, c.requires.end_inside) in
-    let is = entries_at lists first c.index_mut.result.now (omega (arith, inside, count)) c.index_mut.ensures.value ∙ c.pop.ensures.items in
-    let passed = passed_ordered _ _ first _ _ _ c.requires (rw (c.deref.ensures.value) at c.first_filled-self.ensures.empty) in
-    subst (λ (z : List (List Waiting)). IfSome c.pop.result (λ w. All (λ x. w.height.0 ≤ℤ x.height.0) (all_entries z others))) (sym (entries_set lists first c.pop.new.self)) (pop_lowest _ first _ c.pop.result (entries_of lists) c.pop.new.self.items others inside is passed (c.lower_lists-stop.ensures.lower first c.if-self-stop.true))
+    let is = popped c in
+    subst (λ (z : List (List Waiting)). IfSome c.pop.result (λ w. All (λ x. w.height.0 ≤ℤ x.height.0) (all_entries z others))) (sym (entries_set lists first c.pop.new.self)) (pop_lowest _ first _ c.pop.result (entries_of lists) c.pop.new.self.items others is.0 is.1 (passed c) (c.lower_lists-stop.ensures.lower first c.if-self-stop.true))
 
 pub returns-then-self-stop-clause-fewer : goal.returns-then-self-stop-clause-fewer
 returns-then-self-stop-clause-fewer c =
     let lists = c.args.self.now.lists.items in
     let others = heap_items c.args.self.now.others in
     let first = c.first_filled-self.result in
-    let count : length (entries_of lists) ≡ length lists = length-map lists (λ l. l.items) in
-    let inside : first < length (entries_of lists) = omega (arith, c.if-self-stop.true, c.lower_lists-stop.ensures.end, c.requires.end_inside) in
-    let is = entries_at lists first c.index_mut.result.now (omega (arith, inside, count)) c.index_mut.ensures.value ∙ c.pop.ensures.items in
-    subst (λ (z : List (List Waiting)). IfSome c.pop.result (λ _. length (all_entries z others) < length (all_entries (entries_of lists) others))) (sym (entries_set lists first c.pop.new.self)) (pop_fewer first c.pop.result (entries_of lists) c.pop.new.self.items others inside is)
+    let is = popped c in
+    subst (λ (z : List (List Waiting)). IfSome c.pop.result (λ _. length (all_entries z others) < length (all_entries (entries_of lists) others))) (sym (entries_set lists first c.pop.new.self)) (pop_fewer first c.pop.result (entries_of lists) c.pop.new.self.items others is.0 is.1)
