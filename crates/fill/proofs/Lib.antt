@@ -14,6 +14,7 @@ mod Rims
 mod CellMarks
 mod Adding
 mod Lowest
+mod SourceCells
 mod Gathered
 mod GraphWays
 mod Raised

@@ -9,6 +9,7 @@ pub mod marks;
 pub mod net;
 pub mod passes;
 pub mod raising;
+pub mod sources;
 pub mod spills;
 pub mod tile;
 pub mod whole;

@@ -6,11 +6,11 @@ ghost use Rattle.fill.specs.Spills.{AreFloods, IsGraphOf, AreLevelsOf};
 ghost use Rattle.fill.specs.Gathering.{Fit, AreGathered, AreRising, AreSources, way_of};
 
 use crate::flooding::{Flooded, flood};
-use crate::marks::source_at;
 use crate::net::{Net, Spill};
 use crate::passes::{RECENT, Recent, lowest_joins, tile_joins};
+use crate::sources::gather_sources;
 use crate::tile::TileFlood;
-use ascii_grid::{Height, NoMemory, Place};
+use ascii_grid::{Height, NoMemory};
 use smallvec::SmallVec;
 use std::alloc::Global;
 use std::marker::Model;
@@ -136,68 +136,6 @@ fn gather_joins(alloc: Global, tiling: &Tiling, floods: &[TileFlood]) -> Result<
         }
     }
     lowest_joins(alloc, joins)
-}
-
-/// The tile of a place: this one, where it holds the place.
-#[inline(always)]
-fn tile_at(tiling: &Tiling, floods: &[TileFlood], tile: u32, place: Place) -> u32
-    requires fit { Fit tiling.now floods.now }
-    requires tile { tile < tile_count tiling.now }
-    requires place { IsWithin tiling.now place }
-    ensures { result < tile_count tiling.now }
-{
-    if floods[tile as usize].holds(place) {
-        tile
-    } else {
-        tiling.tile_of(place)
-    }
-}
-
-/// Adds the heights of the sources of a row.
-fn push_sources(
-    sources: &mut Vec<Option<Height>>,
-    tiling: &Tiling,
-    floods: &[TileFlood],
-    row: u32,
-) -> Result<(), NoMemory>
-    requires fit { Fit tiling.now floods.now }
-    requires row { row < tiling.now.rows }
-    requires before { AreSources tiling.now floods.now (row * tiling.now.cols) sources.old.items }
-    ensures { OnOk result (AreSources tiling.now floods.now ((row + 1) * tiling.now.cols) sources.new.items) }
-{
-    let cols = tiling.cols();
-    let mut tile = tiling.tile_of(Place { row, col: 0 });
-    for col in 0..cols {
-        let place = Place { row, col };
-        tile = tile_at(tiling, floods, tile, place);
-        if sources
-            .push(source_at(tiling, floods, tile, place))
-            .is_err()
-        {
-            return Err(NoMemory);
-        }
-    }
-    Ok(())
-}
-
-/// The heights of the sources, in row order of the grid.
-fn gather_sources(
-    alloc: Global,
-    tiling: &Tiling,
-    floods: &[TileFlood],
-) -> Result<Vec<Option<Height>>, NoMemory>
-    requires { Fit tiling.now floods.now }
-    ensures { IfOk result (λ v. AreSources tiling.now floods.now (tiling.now.cols * tiling.now.rows) v.items) }
-{
-    let rows = tiling.rows();
-    let count = tiling.cols() * rows;
-    let Ok(mut sources) = Vec::with_capacity(alloc, count as usize) else {
-        return Err(NoMemory);
-    };
-    for row in 0..rows {
-        push_sources(&mut sources, tiling, floods, row)?;
-    }
-    Ok(sources)
 }
 
 impl SpillGraph {
