@@ -1,13 +1,12 @@
 -- The gathered joins and sources are those of the spill graph.
-use Rattle.std.proofs.Common.{◌≡◌, ◌≢◌, ℕ, ◌+◌, ◌-◌, ◌*◌, ◌/◌, ◌%◌, ◌<◌, ◌≤◌, inl, inr, ℤ, ◌≤ℤ◌, List, [], ◌∷◌, ◌++◌, length, get_or, Option, None, Some, is_some, IfSome, ◌∙◌, sym, ap, subst, refl, arith}
+use Rattle.std.proofs.Common.{◌≡◌, ◌≢◌, ℕ, ◌+◌, ◌-◌, ◌*◌, ◌/◌, ◌%◌, ◌<◌, ◌≤◌, inl, inr, ℤ, ◌≤ℤ◌, List, [], ◌++◌, length, get_or, Option, None, Some, is_some, ◌∙◌, sym, ap, subst, refl, arith}
 use Rattle.std.specs.Int.{int_max}
 use Rattle.std.specs.List.{Contains}
 use Rattle.std.proofs.lemmas.Int.{ints, clamps}
 use Rattle.std.proofs.lemmas.Bool.{cases_eq, cases_lt, cases_order}
 use Rattle.std.proofs.lemmas.Nat.{div-mul-add, mod-mul-add, div-add-mod', mul-le}
 use Rattle.std.proofs.lemmas.Option.{same_Some, slice_get_within}
-use Rattle.std.specs.Prelude.{IfNone}
-use Rattle.std.proofs.lemmas.List.{get_or_default, get_or_past, get_or_append_left, get_or_push, length_push}
+use Rattle.std.proofs.lemmas.List.{get_or_default, get_or_past}
 use Rattle.std.proofs.lemmas.List.Elements.{Contains-append_left, Contains-append_right, Contains-append_cases, All-contains}
 use Rattle.ascii_grid.specs.Raster.{Terrain}
 use Rattle.ascii_grid.specs.Neighbours.{height_at, index_of, IsDataCell, IsEdge, HasGapAround}
@@ -42,19 +41,23 @@ gathered_none c floods = record {
   every = λ p q j at m. absurd (omega (arith, at.1));
 }
 
+-- the lowest joins of a tile
+pub tile_gathered : (c : Cutting) (floods : List Flood) (tile : ℕ) (met lowest : List Join) → Adds c floods (IsInTile c tile) [] met → AreLowest met lowest → AreGathered c floods (IsInTile c tile) lowest
+tile_gathered c floods tile met lowest adds low = record {
+  only = λ j made. elim (adds.only j (low.only j made)) [ inl none ↦ absurd (no_join j none) | inr meets ↦ meets ];
+  every = λ p q j at m.
+      let was = adds.every p q j at m in
+      let made = low.every was.0 was.1 in
+      (made.0, made.1, made.2 ∙ was.2, made.3 ∙ was.3, le_of _ _ _ made.4 was.4);
+}
+
 -- one more tile
-pub gathered_more : (c : Cutting) (floods : List Flood) (tile : ℕ) (joins met lowest new : List Join) → AreGathered c floods (λ p. IsWithin c p × (tile_of_place c p < tile)) joins → Adds c floods (IsInTile c tile) [] met → AreLowest met lowest → new ≡ joins ++ lowest → AreGathered c floods (λ p. IsWithin c p × (tile_of_place c p < tile + 1)) new
-gathered_more c floods tile joins met lowest new s adds low is = subst (AreGathered c floods (λ p. IsWithin c p × (tile_of_place c p < tile + 1))) (sym is) (record {
-  only = λ j h. elim (Contains-append_cases joins lowest j h) [
-    | inl was ↦ s.only j was
-    | inr made ↦ elim (adds.only j (low.only j made)) [ inl none ↦ absurd (no_join j none) | inr meets ↦ meets ]
-  ];
+pub gathered_more : (c : Cutting) (floods : List Flood) (tile : ℕ) (joins lowest new : List Join) → AreGathered c floods (λ p. IsWithin c p × (tile_of_place c p < tile)) joins → AreGathered c floods (IsInTile c tile) lowest → new ≡ joins ++ lowest → AreGathered c floods (λ p. IsWithin c p × (tile_of_place c p < tile + 1)) new
+gathered_more c floods tile joins lowest new s low is = subst (AreGathered c floods (λ p. IsWithin c p × (tile_of_place c p < tile + 1))) (sym is) (record {
+  only = λ j h. elim (Contains-append_cases joins lowest j h) [ inl was ↦ s.only j was | inr made ↦ low.only j made ];
   every = λ p q j at m. elim (cases_eq (tile_of_place c p) tile) [
     | inr other ↦ let was = s.every p q j (at.0, omega (arith, at.1, other)) m in (was.0, Contains-append_left joins lowest was.0 was.1, was.2, was.3, was.4)
-    | inl same ↦
-        let was = adds.every p q j (at.0, same) m in
-        let made = low.every was.0 was.1 in
-        (made.0, Contains-append_right joins lowest made.0 made.1, made.2 ∙ was.2, made.3 ∙ was.3, le_of _ _ _ made.4 was.4)
+    | inl same ↦ let made = low.every p q j (at.0, same) m in (made.0, Contains-append_right joins lowest made.0 made.1, made.2, made.3, made.4)
   ];
 })
 

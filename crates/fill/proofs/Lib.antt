@@ -16,6 +16,7 @@ mod Adding
 mod Lowest
 mod SourceCells
 mod Gathered
+mod PartList
 mod GraphWays
 mod Raised
 mod Together

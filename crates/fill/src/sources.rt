@@ -1,11 +1,14 @@
 // The sources of the spill graph.
-ghost use Rattle.std.specs.Prelude.{◌≡◌, ◌+◌, ◌*◌, ◌<◌, ◌≤◌, ℕ, [], length, IfOk, OnOk};
+ghost use Rattle.std.specs.Prelude.{◌≡◌, ◌+◌, ◌*◌, ◌<◌, ◌≤◌, ℕ, List, [], length, IfOk, OnOk};
 ghost use Rattle.std.specs.List.{All};
 ghost use Rattle.tiles.specs.Cutting.{IsInTile, bounds_of, tile_count};
+ghost use Rattle.fill.specs.TileFlood.{Flood};
 ghost use Rattle.fill.specs.Gathering.{Fit, AddsSources, AreSources, PutsSources};
+ghost use Rattle.fill.specs.Parts.{AreParts};
 
 use crate::flooding::empty_list;
 use crate::marks::{node_of, source_at};
+use crate::parts::Part;
 use crate::tile::TileFlood;
 use ascii_grid::{Height, NoMemory, Place};
 use std::alloc::Global;
@@ -83,16 +86,15 @@ fn put_sources(heights: &mut [Option<Height>], sources: &[Source])
 pub(crate) fn gather_sources(
     alloc: Global,
     tiling: &Tiling,
-    floods: &[TileFlood],
+    parts: &[Part],
 ) -> Result<Vec<Option<Height>>, NoMemory>
-    requires { Fit tiling.now floods.now }
-    ensures { IfOk result (λ v. AreSources tiling.now floods.now v.items) }
+    requires { (floods : List Flood) × AreParts tiling.now floods parts.now }
+    ensures { IfOk result (λ v. (floods : List Flood) → AreParts tiling.now floods parts.now → AreSources tiling.now floods v.items) }
 {
     let nodes = tiling.cols() * tiling.rows();
     let mut heights = empty_list(alloc, nodes as usize)?;
-    for tile in 0..tiling.tiles() {
-        let sources = tile_sources(alloc, tiling, floods, tile)?;
-        put_sources(&mut heights, &sources);
+    for part in parts {
+        put_sources(&mut heights, &part.sources);
     }
     Ok(heights)
 }

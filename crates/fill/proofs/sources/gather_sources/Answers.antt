@@ -1,29 +1,33 @@
-use Rattle.std.proofs.Common.{◌≡◌, ◌*◌, ◌<◌, ℕ, length, ap, sym, subst, ◌∙◌, arith}
+use Rattle.std.proofs.Common.{◌≡◌, ◌*◌, ◌<◌, ℕ, length, ap, subst, ◌∙◌, arith}
 use Rattle.tiles.specs.Cutting.{IsWithin, IsInTile, tile_of_place, tile_count}
 use Rattle.fill.proofs.Noting.{written_back}
+use Rattle.fill.proofs.PartList.{part_at}
 use Rattle.fill.proofs.SourceCells.{HaveSources, no_sources_yet, nodes_inside, sources_more, all_sources}
 use Rattle.fill.proofs.sources.gather_sources.Goals as goal
 
-pub loop-tile-init : goal.loop-tile-init
-loop-tile-init c =
+pub loop-part-init : goal.loop-part-init
+loop-part-init c = λ floods are.
     let t = c.args.tiling.now in
-    no_sources_yet t c.args.floods.now _ c.in_ok-heights.heights.items c.in_ok-heights.ensures
+    no_sources_yet t floods _ c.in_ok-heights.heights.items c.in_ok-heights.ensures
     (ap (λ (n : ℕ). n * c.rows.result) c.cols.ensures.value ∙ ap (λ (n : ℕ). t.cols * n) c.rows.ensures.value)
 
 pub put_sources-requires : goal.put_sources-requires
 put_sources-requires c =
     let t = c.args.tiling.now in
-    rw c.deref.ensures.value (nodes_inside t c.args.floods.now (IsInTile t c.loop-tile.tile) c.in_ok-sources.sources.items _ c.in_ok-sources.ensures (ap length c.deref_mut.ensures.value ∙ c.loop-tile.invariant.size))
+    let part = part_at t c.requires.0 c.args.parts.now c.loop-part.part-index c.part-item.result c.requires.1 c.loop-part-test.true c.part-item.is in
+    let size = (c.loop-part.invariant c.requires.0 c.requires.1).size in
+    rw c.deref.ensures.value (nodes_inside t c.requires.0 (IsInTile t c.loop-part.part-index) c.part-item.result.sources.items _ part.sources (ap length c.deref_mut.ensures.value ∙ size))
 
-pub loop-tile-preserved : goal.loop-tile-preserved
-loop-tile-preserved c =
-    let written = written_back c.loop-tile.heights.len c.put_sources.new.heights c.loop-tile.heights.items (c.put_sources.ensures.size ∙ c.deref_mut.ensures.len) in
-    rw written (sources_more c.args.tiling.now c.args.floods.now c.loop-tile.tile c.in_ok-sources.sources.items c.loop-tile.heights.items _
-    c.loop-tile.invariant c.in_ok-sources.ensures (rw (c.deref.ensures.value, c.deref_mut.ensures.value) at c.put_sources.ensures))
+pub loop-part-preserved : goal.loop-part-preserved
+loop-part-preserved c = λ floods are.
+    let written = written_back c.loop-part.heights.len c.put_sources.new.heights c.loop-part.heights.items (c.put_sources.ensures.size ∙ c.deref_mut.ensures.len) in
+    let part = part_at c.args.tiling.now floods c.args.parts.now c.loop-part.part-index c.part-item.result are c.loop-part-test.true c.part-item.is in
+    rw written (sources_more c.args.tiling.now floods c.loop-part.part-index c.part-item.result.sources.items c.loop-part.heights.items _
+    (c.loop-part.invariant floods are) part.sources (rw (c.deref.ensures.value, c.deref_mut.ensures.value) at c.put_sources.ensures))
 
 pub returns : goal.returns
-returns c =
+returns c = λ floods are.
     let t = c.args.tiling.now in
-    let all : c.loop-tile.tile ≡ tile_count t = omega (arith, c.loop-tile.auto.tile-end, c.loop-tile-test.false, c.tiles-tile-end.ensures.value) in
-    all_sources t c.args.floods.now c.loop-tile.heights.items c.tiles-tile-end.ensures.lawful
-    (subst (λ (n : ℕ). HaveSources t c.args.floods.now (λ p. IsWithin t p × (tile_of_place t p < n)) c.loop-tile.heights.items) all c.loop-tile.invariant)
+    let all : c.loop-part.part-index ≡ tile_count t = omega (arith, c.loop-part.auto.part-index-end, c.loop-part-test.false, are.count) in
+    all_sources t floods c.loop-part.heights.items c.cols.ensures.lawful
+    (subst (λ (n : ℕ). HaveSources t floods (λ p. IsWithin t p × (tile_of_place t p < n)) c.loop-part.heights.items) all (c.loop-part.invariant floods are))

@@ -1,4 +1,4 @@
-use Rattle.std.proofs.Common.{rules, w32, ◌≡◌, ◌+◌, ◌<◌, length, ap, sym, subst, ◌∙◌, refl, arith, ℤ, Option, IfSome}
+use Rattle.std.proofs.Common.{rules, w32, ◌≡◌, ◌<◌, length, ap, sym, subst, ◌∙◌, refl, arith, ℤ, Option, IfSome}
 use mir.Val.{SFits}
 use Rattle.std.proofs.lemmas.Int.{to_z-of_z}
 use Rattle.std.proofs.lemmas.Option.{slice_get_read}
