@@ -62,10 +62,11 @@ first_rows_at row cols (suc count) h r c below inside =
       minus : (a b : ℕ) → (a + b) - a ≡ b
       minus a b = omega arith
 
+pub all_none : (n k : ℕ) → get_or {A = Option ℤ} (replicate n None) k None ≡ None
+all_none n k = elim (cases_lt k n) [ inl low ↦ get_or-replicate n k None None low | inr high ↦ get_or_past (replicate n None) k None (omega (arith, length-replicate {A = Option ℤ} n None)) ]
+
 pub first_rows_only : (row : ℕ → List (Option ℤ)) (cols count : ℕ) → AreRows row cols count → (a : ℕ) (x : ℤ) → get_or (first_rows row (cols + 2) count) a None ≡ Some x → (r c : ℕ) × (r < count) × (c < cols) × (a ≡ (r + 1) * (cols + 2) + (c + 1))
-first_rows_only row cols zero h a x e = none_some _ x (all_none (cols + 2) a) e where
-  all_none : (n k : ℕ) → get_or {A = Option ℤ} (replicate n None) k None ≡ None
-  all_none n k = elim (cases_lt k n) [ inl low ↦ get_or-replicate n k None None low | inr high ↦ get_or_past (replicate n None) k None (omega (arith, length-replicate {A = Option ℤ} n None)) ]
+first_rows_only row cols zero h a x e = none_some _ x (all_none (cols + 2) a) e
 first_rows_only row cols (suc count) h a x e =
     let before = fewer row cols count h in
     let len = length-first_rows row cols count before in
@@ -77,9 +78,6 @@ first_rows_only row cols (suc count) h a x e =
           let found = row_only (row count) (a - length (first_rows row (cols + 2) count)) x (sym (get_or-append_right (first_rows row (cols + 2) count) (None ∷ row count ++ None ∷ []) (length (first_rows row (cols + 2) count)) a None refl high) ∙ e) in
           (count, found.0, omega arith, omega (arith, found.1, h count (omega arith)), omega (arith, len, high, found.2))
     ]
-
-all_none : (n k : ℕ) → get_or {A = Option ℤ} (replicate n None) k None ≡ None
-all_none n k = elim (cases_lt k n) [ inl low ↦ get_or-replicate n k None None low | inr high ↦ get_or_past (replicate n None) k None (omega (arith, length-replicate {A = Option ℤ} n None)) ]
 
 pub bordered_rows_only : (row : ℕ → List (Option ℤ)) (cols count : ℕ) → AreRows row cols count → (a : ℕ) (x : ℤ) → get_or (bordered_rows row (cols + 2) count) a None ≡ Some x → (r c : ℕ) × (r < count) × (c < cols) × (a ≡ (r + 1) * (cols + 2) + (c + 1))
 bordered_rows_only row cols count h a x e =

@@ -111,7 +111,7 @@ equal_near xs w r c s d one_row one_col e up down left right =
       at i j same = ap (λ n. get_or xs n 0) same
 
 -- labels by their nodes
-label_by_node : (b : Bounds) (nodes : List ℕ) (p : Place) → length nodes ≡ b.rows * b.cols → IsInBounds b p → entry_in b (map (label_of_node b) nodes) p ≡ label_of_node b (get_or nodes ((p.row - b.top) * b.cols + (p.col - b.left)) 0)
+pub label_by_node : (b : Bounds) (nodes : List ℕ) (p : Place) → length nodes ≡ b.rows * b.cols → IsInBounds b p → entry_in b (map (label_of_node b) nodes) p ≡ label_of_node b (get_or nodes ((p.row - b.top) * b.cols + (p.col - b.left)) 0)
 label_by_node b nodes p size i =
     entry_in-inside b (map (label_of_node b) nodes) p i
     ∙ get_or-map (label_of_node b) nodes ((p.row - b.top) * b.cols + (p.col - b.left)) 0 None (omega (arith, size, entry_index b p i))

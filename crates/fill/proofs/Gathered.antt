@@ -1,13 +1,12 @@
 -- The gathered joins and sources are those of the spill graph.
-use Rattle.std.proofs.Common.{◌≡◌, ◌≢◌, ℕ, ◌+◌, ◌-◌, ◌*◌, ◌/◌, ◌%◌, ◌<◌, ◌≤◌, inl, inr, ℤ, ◌≤ℤ◌, List, [], ◌∷◌, ◌++◌, length, get_or, Option, None, Some, is_some, IfSome, ◌∙◌, sym, ap, subst, refl, arith}
+use Rattle.std.proofs.Common.{◌≡◌, ◌≢◌, ℕ, ◌+◌, ◌-◌, ◌*◌, ◌/◌, ◌%◌, ◌<◌, ◌≤◌, inl, inr, ℤ, ◌≤ℤ◌, List, [], ◌++◌, length, get_or, Option, None, Some, is_some, ◌∙◌, sym, ap, subst, refl, arith}
 use Rattle.std.specs.Int.{int_max}
 use Rattle.std.specs.List.{Contains}
 use Rattle.std.proofs.lemmas.Int.{ints, clamps}
 use Rattle.std.proofs.lemmas.Bool.{cases_eq, cases_lt, cases_order}
 use Rattle.std.proofs.lemmas.Nat.{div-mul-add, mod-mul-add, div-add-mod', mul-le}
 use Rattle.std.proofs.lemmas.Option.{same_Some, slice_get_within}
-use Rattle.std.specs.Prelude.{IfNone}
-use Rattle.std.proofs.lemmas.List.{get_or_default, get_or_past, get_or_append_left, get_or_push, length_push}
+use Rattle.std.proofs.lemmas.List.{get_or_default, get_or_past}
 use Rattle.std.proofs.lemmas.List.Elements.{Contains-append_left, Contains-append_right, Contains-append_cases, All-contains}
 use Rattle.ascii_grid.specs.Raster.{Terrain}
 use Rattle.ascii_grid.specs.Neighbours.{height_at, index_of, IsDataCell, IsEdge, HasGapAround}
@@ -42,19 +41,23 @@ gathered_none c floods = record {
   every = λ p q j at m. absurd (omega (arith, at.1));
 }
 
+-- the lowest joins of a tile
+pub tile_gathered : (c : Cutting) (floods : List Flood) (tile : ℕ) (met lowest : List Join) → Adds c floods (IsInTile c tile) [] met → AreLowest met lowest → AreGathered c floods (IsInTile c tile) lowest
+tile_gathered c floods tile met lowest adds low = record {
+  only = λ j made. elim (adds.only j (low.only j made)) [ inl none ↦ absurd (no_join j none) | inr meets ↦ meets ];
+  every = λ p q j at m.
+      let was = adds.every p q j at m in
+      let made = low.every was.0 was.1 in
+      (made.0, made.1, made.2 ∙ was.2, made.3 ∙ was.3, le_of _ _ _ made.4 was.4);
+}
+
 -- one more tile
-pub gathered_more : (c : Cutting) (floods : List Flood) (tile : ℕ) (joins met lowest new : List Join) → AreGathered c floods (λ p. IsWithin c p × (tile_of_place c p < tile)) joins → Adds c floods (IsInTile c tile) [] met → AreLowest met lowest → new ≡ joins ++ lowest → AreGathered c floods (λ p. IsWithin c p × (tile_of_place c p < tile + 1)) new
-gathered_more c floods tile joins met lowest new s adds low is = subst (AreGathered c floods (λ p. IsWithin c p × (tile_of_place c p < tile + 1))) (sym is) (record {
-  only = λ j h. elim (Contains-append_cases joins lowest j h) [
-    | inl was ↦ s.only j was
-    | inr made ↦ elim (adds.only j (low.only j made)) [ inl none ↦ absurd (no_join j none) | inr meets ↦ meets ]
-  ];
+pub gathered_more : (c : Cutting) (floods : List Flood) (tile : ℕ) (joins lowest new : List Join) → AreGathered c floods (λ p. IsWithin c p × (tile_of_place c p < tile)) joins → AreGathered c floods (IsInTile c tile) lowest → new ≡ joins ++ lowest → AreGathered c floods (λ p. IsWithin c p × (tile_of_place c p < tile + 1)) new
+gathered_more c floods tile joins lowest new s low is = subst (AreGathered c floods (λ p. IsWithin c p × (tile_of_place c p < tile + 1))) (sym is) (record {
+  only = λ j h. elim (Contains-append_cases joins lowest j h) [ inl was ↦ s.only j was | inr made ↦ low.only j made ];
   every = λ p q j at m. elim (cases_eq (tile_of_place c p) tile) [
     | inr other ↦ let was = s.every p q j (at.0, omega (arith, at.1, other)) m in (was.0, Contains-append_left joins lowest was.0 was.1, was.2, was.3, was.4)
-    | inl same ↦
-        let was = adds.every p q j (at.0, same) m in
-        let made = low.every was.0 was.1 in
-        (made.0, Contains-append_right joins lowest made.0 made.1, made.2 ∙ was.2, made.3 ∙ was.3, le_of _ _ _ made.4 was.4)
+    | inl same ↦ let made = low.every p q j (at.0, same) m in (made.0, Contains-append_right joins lowest made.0 made.1, made.2, made.3, made.4)
   ];
 })
 
@@ -142,7 +145,7 @@ join_back c floods joins h fit s rise j there =
       same_join x y a b e = ap (λ n. record { from = n; to = x.to; height = x.height }) a ∙ ap (λ n. record { from = y.from; to = n; height = x.height }) b ∙ ap (λ n. record { from = y.from; to = y.to; height = n }) e
 
 -- what is gathered is a graph
-pub gathered_graph : (c : Cutting) (floods : List Flood) (nodes : ℕ) (joins : List Join) (sources : List (Option ℤ)) → IsCutting c → Fit c floods → AreGathered c floods (IsWithin c) joins → AreRising joins → AreSources c floods (c.cols * c.rows) sources → nodes ≡ c.cols * c.rows → IsGraph (record { nodes = nodes; joins = joins; sources = sources })
+pub gathered_graph : (c : Cutting) (floods : List Flood) (nodes : ℕ) (joins : List Join) (sources : List (Option ℤ)) → IsCutting c → Fit c floods → AreGathered c floods (IsWithin c) joins → AreRising joins → AreSources c floods sources → nodes ≡ c.cols * c.rows → IsGraph (record { nodes = nodes; joins = joins; sources = sources })
 gathered_graph c floods nodes joins sources h fit s rise are count = record {
   few = omega (arith, count, mul-le c.cols c.rows 4096 4096 h.few_cols h.few_rows);
   sources = are.size ∙ sym count;
@@ -258,7 +261,7 @@ gap_back t c floods p h are (inr (inr (q, touches, none))) = inr (inr (
 source_place : (c : Cutting) (p : Place) → IsWithin c p → record { row = index_of c.cols p / c.cols; col = index_of c.cols p % c.cols } ≡ p
 source_place c p within = same_place _ p (div-mul-add p.row c.cols p.col within.1) (mod-mul-add p.row c.cols p.col within.1)
 
-spill_sources : (t : Terrain) (c : Cutting) (floods : List Flood) (g : Graph) → IsCutting c → AreFloods t c floods → AreSources c floods (c.cols * c.rows) g.sources → AreSpillSources t c floods g
+spill_sources : (t : Terrain) (c : Cutting) (floods : List Flood) (g : Graph) → IsCutting c → AreFloods t c floods → AreSources c floods g.sources → AreSpillSources t c floods g
 spill_sources t c floods g h are s = record {
   each = λ p z carries edge height.
       let within = data_within t c p are.cuts edge.0 in
@@ -298,7 +301,7 @@ spill_sources t c floods g h are s = record {
 }
 
 -- the graph is that of the floods
-pub graph_of : (t : Terrain) (c : Cutting) (floods : List Flood) (nodes : ℕ) (joins : List Join) (sources : List (Option ℤ)) → IsCutting c → AreFloods t c floods → AreGathered c floods (IsWithin c) joins → AreRising joins → AreSources c floods (c.cols * c.rows) sources → nodes ≡ c.cols * c.rows → IsGraphOf t c floods (record { nodes = nodes; joins = joins; sources = sources })
+pub graph_of : (t : Terrain) (c : Cutting) (floods : List Flood) (nodes : ℕ) (joins : List Join) (sources : List (Option ℤ)) → IsCutting c → AreFloods t c floods → AreGathered c floods (IsWithin c) joins → AreRising joins → AreSources c floods sources → nodes ≡ c.cols * c.rows → IsGraphOf t c floods (record { nodes = nodes; joins = joins; sources = sources })
 graph_of t c floods nodes joins sources h are s rise srcs count =
     let fit = fit_of t c floods h are in
     let graph = gathered_graph c floods nodes joins sources h fit s rise srcs count in
@@ -319,25 +322,3 @@ graph_of t c floods nodes joins sources h are s rise srcs count =
           };
       sources = spill_sources t c floods (record { nodes = nodes; joins = joins; sources = sources }) h are srcs;
     }
-
--- one more entry
-pub sources_more : (c : Cutting) (floods : List Flood) (k : ℕ) (o : Option ℤ) (old new : List (Option ℤ)) → AreSources c floods k old → IsSourceEntry c floods (record { row = k / c.cols; col = k % c.cols }) o → new ≡ old ++ o ∷ [] → AreSources c floods (k + 1) new
-sources_more c floods k o old new s here is = subst (AreSources c floods (k + 1)) (sym is) (record {
-  size = length_push old o ∙ ap (λ n. n + 1) s.size;
-  each = λ i low. elim (cases_eq i k) [
-    | inr other ↦ subst (IsSourceEntry c floods (record { row = i / c.cols; col = i % c.cols })) (sym (get_or_append_left old (o ∷ []) None i (omega (arith, low, other, s.size)))) (s.each i (omega (arith, low, other)))
-    | inl same ↦ subst (λ n. IsSourceEntry c floods (record { row = n / c.cols; col = n % c.cols }) (get_or (old ++ o ∷ []) n None)) (sym same) (subst (IsSourceEntry c floods (record { row = k / c.cols; col = k % c.cols })) (sym (get_or_push old o None k s.size)) here)
-  ];
-})
-
-pub entry_from : (c : Cutting) (floods : List Flood) (p : Place) (o : Option ℤ) → IfSome o (λ h. IsSpillSource c floods p h) → IfNone o ((h : ℤ) → IsSpillSource c floods p h → ⊥) → IsSourceEntry c floods p o
-entry_from c floods p None a b = b
-entry_from c floods p (Some h) a b = a
-
--- one more entry of a row
-pub row_sources_more : (c : Cutting) (floods : List Flood) (row col : ℕ) (o : Option ℤ) (old new : List (Option ℤ)) → col < c.cols → AreSources c floods (row * c.cols + col) old → IsSourceEntry c floods (record { row = row; col = col }) o → new ≡ old ++ o ∷ [] → AreSources c floods (row * c.cols + (col + 1)) new
-row_sources_more c floods row col o old new below s here is =
-    let next : row * c.cols + col + 1 ≡ row * c.cols + (col + 1) = omega arith in
-    let place : record { row = row; col = col } ≡ record { row = (row * c.cols + col) / c.cols; col = (row * c.cols + col) % c.cols } =
-    same_place (record { row = row; col = col }) (record { row = (row * c.cols + col) / c.cols; col = (row * c.cols + col) % c.cols }) (sym (div-mul-add row c.cols col below)) (sym (mod-mul-add row c.cols col below)) in
-    subst (λ n. AreSources c floods n new) next (sources_more c floods (row * c.cols + col) o old new s (subst (λ (p : Place). IsSourceEntry c floods p o) place here) is)

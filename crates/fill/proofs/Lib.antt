@@ -14,7 +14,9 @@ mod Rims
 mod CellMarks
 mod Adding
 mod Lowest
+mod SourceCells
 mod Gathered
+mod PartList
 mod GraphWays
 mod Raised
 mod Together

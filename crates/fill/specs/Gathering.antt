@@ -1,14 +1,15 @@
 -- How the joins of a spill graph are gathered from the floods of the tiles.
-use Rattle.std.specs.Prelude.{◌≡◌, ◌≢◌, ℕ, ◌+◌, ◌-◌, ◌*◌, ◌/◌, ◌%◌, ◌<◌, ◌≤◌, ◌⊎◌, ◌==◌, if◌then◌else◌, ℤ, ◌≤ℤ◌, List, [], ◌∷◌, length, Option, None, Some, MatchOption, slice_get, slice_index_or}
+use Rattle.std.specs.Prelude.{◌≡◌, ◌≢◌, ℕ, ◌+◌, ◌-◌, ◌*◌, ◌/◌, ◌%◌, ◌<◌, ◌≤◌, ◌⊎◌, ◌==◌, if◌then◌else◌, ℤ, ◌≤ℤ◌, List, [], ◌∷◌, length, Option, None, Some, IsSome, MatchOption, slice_get, slice_index_or}
 use Rattle.std.specs.Int.{int_max}
 use Rattle.std.specs.List.{Contains, All}
 use Rattle.ascii_grid.specs.Neighbours.{index_of, Touches}
 use Rattle.ascii_grid.specs.declared.place.Place.{Place}
-use Rattle.tiles.specs.Cutting.{Cutting, tile_count, bounds_of}
+use Rattle.tiles.specs.Cutting.{Cutting, IsWithin, tile_count, bounds_of}
 use Rattle.fill.specs.TileFlood.{Flood, LabelsInside}
 use Rattle.fill.specs.Spills.{level_among, label_among, Graph}
 use Rattle.fill.specs.declared.spills.Join.{Join}
 use Rattle.fill.specs.declared.marks.Mark.{Mark}
+use Rattle.fill.specs.declared.sources.Source.{Source}
 use Rattle.fill.specs.declared.net.Spill.{Spill}
 
 -- The floods are of this cutting's tiles, and their labels lie in the grid.
@@ -131,10 +132,30 @@ pub record IsGraph (g : Graph) : Type 0 where
 abbrev pub IsRepeat : List Join → ℕ → Type 0
 IsRepeat joins i = (0 < i) × ((d : Join) → ((slice_index_or joins (i - 1) d).from ≡ (slice_index_or joins i d).from) × ((slice_index_or joins (i - 1) d).to ≡ (slice_index_or joins i d).to))
 
--- The entries of the first places in row order, each its place's height where that is a source.
-pub record AreSources (c : Cutting) (floods : List Flood) (count : ℕ) (sources : List (Option ℤ)) : Type 0 where
-  pub size : length sources ≡ count
-  pub each : (k : ℕ) → k < count → IsSourceEntry c floods (record { row = k / c.cols; col = k % c.cols }) (slice_index_or sources k None)
+-- The entries in row order, each its place's height where that is a source.
+pub record AreSources (c : Cutting) (floods : List Flood) (heights : List (Option ℤ)) : Type 0 where
+  pub size : length heights ≡ c.cols * c.rows
+  pub each : (k : ℕ) → k < c.cols * c.rows → IsSourceEntry c floods (record { row = k / c.cols; col = k % c.cols }) (slice_index_or heights k None)
+
+-- A place of the grid with this number is a source, at this height.
+pub record IsSourceNode (c : Cutting) (floods : List Flood) (s : Source) : Type 0 where
+  pub place : Place
+  pub within : IsWithin c place
+  pub node : index_of c.cols place ≡ s.node
+  pub source : IsSpillSource c floods place s.height
+
+-- The sources among these places have been added, and no others.
+pub record AddsSources (c : Cutting) (floods : List Flood) (places : Place → Type 0) (old new : List Source) : Type 0 where
+  pub kept : (s : Source) → Contains old s → Contains new s
+  pub only : (s : Source) → Contains new s → Contains old s ⊎ IsSourceNode c floods s
+  pub every : (p : Place) (h : ℤ) → places p → IsSpillSource c floods p h → Contains new (record { node = index_of c.cols p; height = h })
+
+-- The heights of the sources have been put at their nodes.
+pub record PutsSources (sources : List Source) (old new : List (Option ℤ)) : Type 0 where
+  pub size : length new ≡ length old
+  pub kept : (k : ℕ) → IsSome (slice_index_or old k None) → IsSome (slice_index_or new k None)
+  pub only : (k : ℕ) (h : ℤ) → slice_index_or new k None ≡ Some h → (slice_index_or old k None ≡ Some h) ⊎ Contains sources (record { node = k; height = h })
+  pub every : (s : Source) → Contains sources s → IsSome (slice_index_or new s.node None)
 
 -- The way from the first label of a join.
 abbrev pub way_of : Join → Spill

@@ -5,3 +5,4 @@ pub mod CellJoins
 pub mod TileFlood
 pub mod Spills
 pub mod Gathering
+pub mod Parts

@@ -1,13 +1,16 @@
 // The filled heights of a grid, by tiles and workers.
-ghost use Rattle.std.specs.Prelude.{◌≡◌, ◌*◌, ◌≤◌, length, ℕ, Some, slice_get, IfOk};
+ghost use Rattle.std.specs.Prelude.{◌≡◌, ◌*◌, ◌≤◌, length, ℕ, List, Some, slice_get, IfOk};
 ghost use Rattle.ascii_grid.specs.Filled.{IsFilledGrid};
 ghost use Rattle.tiles.specs.Cutting.{Cuts, IsCutting};
 ghost use Rattle.ascii_grid.specs.Raster.{Terrain};
 ghost use Rattle.fill.specs.Spills.{AreFloods, AreSpillLevels, AreFilledTiles};
 ghost use Rattle.tile_jobs.specs.Fault.{RefusesWorkers};
 ghost use Rattle.fill.specs.TileFlood.{Flood, LabelsInside};
+ghost use Rattle.fill.specs.Gathering.{Fit};
+ghost use Rattle.fill.specs.Parts.{AreParts};
 
 use crate::filled_grid::Filled;
+use crate::parts::{Part, tile_part};
 use crate::raising::raise;
 use crate::spills::SpillGraph;
 use crate::tile::{TileFlood, tile_flood};
@@ -42,6 +45,32 @@ impl<'a> Work for FloodTiles<'a> {
             return Err(JobFault::Memory);
         };
         Ok(flood)
+    }
+}
+
+/// Finds what each tile adds to the spill graph.
+#[derive(Drop)]
+struct PartTiles<'a> {
+    tiling: &'a Tiling,
+    floods: &'a [TileFlood],
+    ghost fit: { Fit tiling.now floods.now },
+}
+
+impl<'a> Work for PartTiles<'a> {
+    type Out = Part;
+
+    ghost use Rattle.tiles.specs.Cutting.{tile_count};
+    ghost use Rattle.fill.specs.Parts.{IsPart};
+
+    ghost most = { λ w. tile_count w.tiling.now };
+
+    ghost gives = { λ w job out. IsPart w.tiling.now w.floods.now job out };
+
+    fn run(&self, alloc: Global, job: u32) -> Result<Part, JobFault> {
+        let Ok(part) = tile_part(alloc, self.tiling, self.floods, job) else {
+            return Err(JobFault::Memory);
+        };
+        Ok(part)
     }
 }
 
@@ -99,17 +128,43 @@ fn flood_tiles<R: Threads + Wait + Sync, G: Gate + Sync>(
     )
 }
 
-/// The levels of the spill graph of these floods.
-fn spill_levels(
+/// What each tile adds to the spill graph.
+fn part_tiles<R: Threads + Wait + Sync, G: Gate + Sync>(
+    rt: &R,
     alloc: Global,
     tiling: &Tiling,
     floods: &[TileFlood],
-) -> Result<Vec<Option<Height>>, NoMemory>
+    workers: u32,
+    gate: &G,
+) -> Result<Vec<Part>, JobFault>
     requires { (t : Terrain) × AreFloods t tiling.now floods.now }
-    ensures levels { IfOk result (λ v. (t : Terrain) → AreFloods t tiling.now floods.now → AreSpillLevels t tiling.now floods.now v.items) }
+    ensures parts { IfOk result (λ v. AreParts tiling.now floods.now v.items) }
+    ensures workers { RefusesWorkers workers result }
+{
+    let tiles = tiling.tiles();
+    run_jobs(
+        rt,
+        alloc,
+        &PartTiles { tiling, floods },
+        tiles,
+        workers,
+        gate,
+    )
+}
+
+/// The levels of the spill graph of these parts.
+fn spill_levels(
+    alloc: Global,
+    tiling: &Tiling,
+    parts: Vec<Part>,
+) -> Result<Vec<Option<Height>>, NoMemory>
+    requires { (t : Terrain) × (floods : List Flood) × AreFloods t tiling.now floods × AreParts tiling.now floods parts.items }
+    ensures levels { IfOk result (λ v. (t : Terrain) (floods : List Flood) → AreFloods t tiling.now floods →
+        AreParts tiling.now floods parts.items → AreSpillLevels t tiling.now floods v.items) }
     ensures size { IfOk result (λ v. length v.items ≡ tiling.now.cols * tiling.now.rows) }
 {
-    let graph = SpillGraph::gather(alloc, tiling, floods)?;
+    let graph = SpillGraph::of_parts(alloc, tiling, &parts)?;
+    drop(parts);
     graph.levels(alloc)
 }
 
@@ -137,8 +192,8 @@ fn raise_tiles<R: Threads + Wait + Sync, G: Gate + Sync>(
     run_jobs(rt, alloc, &work, tiles, workers, gate)
 }
 
-/// The grid with each height replaced by its filled height. Each tile is flooded in a job of its own,
-/// and raised in another.
+/// The grid with each height replaced by its filled height. Each tile is flooded in a job of its own, adds
+/// to the spill graph in a second one, and is raised in a third.
 pub fn filled<R: Threads + Wait + Sync, G: Gate + Sync>(
     rt: &R,
     alloc: Global,
@@ -152,7 +207,8 @@ pub fn filled<R: Threads + Wait + Sync, G: Gate + Sync>(
     ensures workers { RefusesWorkers workers result }
 {
     let floods = flood_tiles(rt, alloc, grid, tiling, workers, gate)?;
-    let Ok(levels) = spill_levels(alloc, tiling, &floods) else {
+    let parts = part_tiles(rt, alloc, tiling, &floods, workers, gate)?;
+    let Ok(levels) = spill_levels(alloc, tiling, parts) else {
         return Err(JobFault::Memory);
     };
     let raised = raise_tiles(rt, alloc, tiling, &floods, &levels, workers, gate)?;

@@ -15,11 +15,11 @@ use std::alloc::Global;
 use tiles::{Bounds, Tiling};
 
 /// How many places [`Recent`] has.
-pub(crate) const RECENT: usize = 1024;
+const RECENT: usize = 1024;
 
 /// Where joins were added, by a number that is made of their labels: a join that has been added as low
 /// is not added once more.
-pub(crate) type Recent = [usize; RECENT];
+type Recent = [usize; RECENT];
 
 /// The place of two labels.
 #[inline(always)]
@@ -234,16 +234,16 @@ pub(crate) fn tile_joins(
     tiling: &Tiling,
     floods: &[TileFlood],
     tile: u32,
-    recent: &mut Recent,
 ) -> Result<Vec<Join>, NoMemory>
     requires fit { Fit tiling.now floods.now }
     requires tile { tile < tile_count tiling.now }
     ensures { IfOk result (λ v. Adds tiling.now floods.now (IsInTile tiling.now tile) [] v.items) }
 {
     let mut joins = Vec::new(alloc);
+    let mut recent: Recent = [0; RECENT];
     let Bounds { top, rows, .. } = tiling.bounds(tile);
     for row in top..top + rows {
-        push_cells(&mut joins, recent, tiling, floods, tile, row)?;
+        push_cells(&mut joins, &mut recent, tiling, floods, tile, row)?;
     }
     Ok(joins)
 }

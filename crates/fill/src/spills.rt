@@ -1,16 +1,19 @@
 // The graph of the labels of all tiles.
 ghost use Rattle.std.specs.Prelude.{◌≡◌, ◌+◌, ◌*◌, ◌<◌, ◌≤◌, ℕ, ℤ, List, length, map, take, drop, ◌-◌, IfOk, OnOk, slice_index_or};
 ghost use Rattle.ascii_grid.specs.Raster.{Terrain};
-ghost use Rattle.tiles.specs.Cutting.{IsWithin, IsCutting, tile_count};
+ghost use Rattle.tiles.specs.Cutting.{Cutting, IsWithin, IsCutting};
+ghost use Rattle.fill.specs.TileFlood.{Flood};
+ghost use Rattle.fill.specs.Parts.{AreParts};
 ghost use Rattle.fill.specs.Spills.{AreFloods, IsGraphOf, AreLevelsOf};
-ghost use Rattle.fill.specs.Gathering.{Fit, AreGathered, AreRising, AreSources, way_of};
+ghost use Rattle.fill.specs.Gathering.{AreGathered, AreRising, way_of};
 
 use crate::flooding::{Flooded, flood};
-use crate::marks::source_at;
 use crate::net::{Net, Spill};
-use crate::passes::{RECENT, Recent, lowest_joins, tile_joins};
+use crate::parts::{Part, tile_parts};
+use crate::passes::lowest_joins;
+use crate::sources::gather_sources;
 use crate::tile::TileFlood;
-use ascii_grid::{Height, NoMemory, Place};
+use ascii_grid::{Height, NoMemory};
 use smallvec::SmallVec;
 use std::alloc::Global;
 use std::marker::Model;
@@ -122,82 +125,17 @@ impl Net for SpillGraph {
 }
 
 /// The joins of the labels of all tiles, each as low as it gets.
-fn gather_joins(alloc: Global, tiling: &Tiling, floods: &[TileFlood]) -> Result<Vec<Join>, NoMemory>
-    requires { Fit tiling.now floods.now }
-    ensures gathered { IfOk result (λ v. AreGathered tiling.now floods.now (IsWithin tiling.now) v.items) }
+fn gather_joins(alloc: Global, parts: &[Part]) -> Result<Vec<Join>, NoMemory>
+    ensures gathered { IfOk result (λ v. (c : Cutting) (floods : List Flood) → IsCutting c → AreParts c floods parts.now → AreGathered c floods (IsWithin c) v.items) }
     ensures rising { IfOk result (λ v. AreRising v.items) }
 {
     let mut joins = Vec::new(alloc);
-    let mut recent: Recent = [0; RECENT];
-    for tile in 0..tiling.tiles() {
-        let lowest = lowest_joins(alloc, tile_joins(alloc, tiling, floods, tile, &mut recent)?)?;
-        if joins.extend_from_slice(&lowest).is_err() {
+    for part in parts {
+        if joins.extend_from_slice(&part.joins).is_err() {
             return Err(NoMemory);
         }
     }
     lowest_joins(alloc, joins)
-}
-
-/// The tile of a place: this one, where it holds the place.
-#[inline(always)]
-fn tile_at(tiling: &Tiling, floods: &[TileFlood], tile: u32, place: Place) -> u32
-    requires fit { Fit tiling.now floods.now }
-    requires tile { tile < tile_count tiling.now }
-    requires place { IsWithin tiling.now place }
-    ensures { result < tile_count tiling.now }
-{
-    if floods[tile as usize].holds(place) {
-        tile
-    } else {
-        tiling.tile_of(place)
-    }
-}
-
-/// Adds the heights of the sources of a row.
-fn push_sources(
-    sources: &mut Vec<Option<Height>>,
-    tiling: &Tiling,
-    floods: &[TileFlood],
-    row: u32,
-) -> Result<(), NoMemory>
-    requires fit { Fit tiling.now floods.now }
-    requires row { row < tiling.now.rows }
-    requires before { AreSources tiling.now floods.now (row * tiling.now.cols) sources.old.items }
-    ensures { OnOk result (AreSources tiling.now floods.now ((row + 1) * tiling.now.cols) sources.new.items) }
-{
-    let cols = tiling.cols();
-    let mut tile = tiling.tile_of(Place { row, col: 0 });
-    for col in 0..cols {
-        let place = Place { row, col };
-        tile = tile_at(tiling, floods, tile, place);
-        if sources
-            .push(source_at(tiling, floods, tile, place))
-            .is_err()
-        {
-            return Err(NoMemory);
-        }
-    }
-    Ok(())
-}
-
-/// The heights of the sources, in row order of the grid.
-fn gather_sources(
-    alloc: Global,
-    tiling: &Tiling,
-    floods: &[TileFlood],
-) -> Result<Vec<Option<Height>>, NoMemory>
-    requires { Fit tiling.now floods.now }
-    ensures { IfOk result (λ v. AreSources tiling.now floods.now (tiling.now.cols * tiling.now.rows) v.items) }
-{
-    let rows = tiling.rows();
-    let count = tiling.cols() * rows;
-    let Ok(mut sources) = Vec::with_capacity(alloc, count as usize) else {
-        return Err(NoMemory);
-    };
-    for row in 0..rows {
-        push_sources(&mut sources, tiling, floods, row)?;
-    }
-    Ok(sources)
 }
 
 impl SpillGraph {
@@ -210,9 +148,22 @@ impl SpillGraph {
         requires { (t : Terrain) × AreFloods t tiling.now floods.now }
         ensures { IfOk result (λ g. (t : Terrain) → AreFloods t tiling.now floods.now → IsGraphOf t tiling.now floods.now g) }
     {
+        let parts = tile_parts(alloc, tiling, floods)?;
+        SpillGraph::of_parts(alloc, tiling, &parts)
+    }
+
+    /// The graph of what each tile adds to it, in tile order.
+    pub(crate) fn of_parts(
+        alloc: Global,
+        tiling: &Tiling,
+        parts: &[Part],
+    ) -> Result<SpillGraph, NoMemory>
+        requires { (t : Terrain) × (floods : List Flood) × AreFloods t tiling.now floods × AreParts tiling.now floods parts.now }
+        ensures { IfOk result (λ g. (t : Terrain) (floods : List Flood) → AreFloods t tiling.now floods → AreParts tiling.now floods parts.now → IsGraphOf t tiling.now floods g) }
+    {
         let nodes = tiling.cols() * tiling.rows();
-        let joins = gather_joins(alloc, tiling, floods)?;
-        let sources = gather_sources(alloc, tiling, floods)?;
+        let joins = gather_joins(alloc, parts)?;
+        let sources = gather_sources(alloc, tiling, parts)?;
         Ok(SpillGraph {
             nodes,
             joins,

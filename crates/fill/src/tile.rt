@@ -1,5 +1,5 @@
 // Flooding of one tile.
-ghost use Rattle.std.specs.Prelude.{◌≡◌, ◌≤◌, ◌+◌, map, unwrap_or, IfOk, IfSome, OnOk, length, true, false, MatchOption, None, slice_index_or, ◌*◌, ◌-◌, ◌<◌};
+ghost use Rattle.std.specs.Prelude.{◌≡◌, ◌≢◌, ◌≤◌, ◌+◌, Some, map, unwrap_or, IfOk, IfSome, OnOk, length, true, false, MatchOption, None, slice_index_or, ◌*◌, ◌-◌, ◌<◌};
 ghost use Rattle.std.specs.Bool.{OnTrue};
 ghost use Rattle.tiles.specs.Cutting.{terrain_of, bounds_of, IsInBounds};
 ghost use Rattle.fill.specs.Cells.{place_of_node};
@@ -171,6 +171,27 @@ impl TileFlood {
         let width = cols as usize;
         let index = row as usize * width + col as usize;
         are_equal_around(&self.labels, index, width)
+    }
+
+    /// Whether a cell of the tile has another cell's label, or none. No cell of the first row or column
+    /// is told so: nodes on the border of the net have the places of such cells too.
+    #[inline(always)]
+    pub(crate) fn has_another_label(&self, place: Place) -> bool
+        requires { IsInBounds self.now.bounds place }
+        ensures { OnTrue result (label_in self.now place ≢ Some place) }
+    {
+        let Bounds {
+            top,
+            left,
+            cols,
+            ..
+        } = self.bounds;
+        let (row, col) = (place.row - top, place.col - left);
+        if row == 0 || col == 0 {
+            return false;
+        }
+        let index = row as usize * cols as usize + col as usize;
+        self.labels[index] != (row + 1) * (cols + 2) + (col + 1)
     }
 
     /// Whether a place is one of the tile's.

@@ -1,6 +1,8 @@
-use Rattle.std.proofs.Common.{◌≡◌, ◌*◌, length, Vec, Global, Option, ℤ, ◌∙◌}
+use Rattle.std.proofs.Common.{◌≡◌, ◌*◌, length, Vec, Global, Option, List, ℤ, ◌∙◌}
 use Rattle.std.proofs.lemmas.Result.{IfOk-weaker}
 use Rattle.ascii_grid.specs.Raster.{Terrain}
+use Rattle.fill.specs.TileFlood.{Flood}
+use Rattle.fill.specs.Parts.{AreParts}
 use Rattle.fill.specs.Spills.{AreFloods, AreSpillLevels, AreLevelsOf}
 use Rattle.fill.proofs.filling.spill_levels.Goals as goal
 
@@ -8,8 +10,8 @@ pub returns-clause-levels : goal.returns-clause-levels
 returns-clause-levels c =
     IfOk-weaker c.levels.result
     (λ (v : Vec (Option ℤ) Global). AreLevelsOf c.in_ok-graph.graph v.items)
-    (λ (v : Vec (Option ℤ) Global). (t : Terrain) → AreFloods t c.args.tiling.now c.args.floods.now → AreSpillLevels t c.args.tiling.now c.args.floods.now v.items)
-    (λ v l t are. (c.in_ok-graph.graph, c.in_ok-graph.ensures t are, l))
+    (λ (v : Vec (Option ℤ) Global). (t : Terrain) (floods : List Flood) → AreFloods t c.args.tiling.now floods → AreParts c.args.tiling.now floods c.args.parts.items → AreSpillLevels t c.args.tiling.now floods v.items)
+    (λ v l t floods are parts. (c.in_ok-graph.graph, c.in_ok-graph.ensures t floods are (rw c.deref.ensures.value parts), l))
     c.levels.ensures
 
 pub returns-clause-size : goal.returns-clause-size
@@ -17,5 +19,5 @@ returns-clause-size c =
     IfOk-weaker c.levels.result
     (λ (v : Vec (Option ℤ) Global). AreLevelsOf c.in_ok-graph.graph v.items)
     (λ (v : Vec (Option ℤ) Global). length v.items ≡ c.args.tiling.now.cols * c.args.tiling.now.rows)
-    (λ v l. l.1.levels_size ∙ (c.in_ok-graph.ensures c.requires.0 c.requires.1).count)
+    (λ v l. l.1.levels_size ∙ (c.in_ok-graph.ensures c.requires.0 c.requires.1 c.requires.2 (rw c.deref.ensures.value c.requires.3)).count)
     c.levels.ensures

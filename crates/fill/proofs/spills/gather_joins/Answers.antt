@@ -1,25 +1,31 @@
-use Rattle.std.proofs.Common.{◌≡◌, ℕ, Vec, Global, ◌<◌, arith, sym, subst, ◌∙◌}
+use Rattle.std.proofs.Common.{◌≡◌, ℕ, Vec, Global, List, ◌<◌, arith, sym, subst, ◌∙◌}
 use Rattle.std.proofs.lemmas.Result.{IfOk-weaker}
-use Rattle.tiles.specs.Cutting.{IsWithin, tile_of_place, tile_count}
+use Rattle.tiles.specs.Cutting.{Cutting, IsCutting, IsWithin, tile_of_place, tile_count}
+use Rattle.fill.specs.TileFlood.{Flood}
 use Rattle.fill.specs.declared.spills.Join.{Join}
 use Rattle.fill.specs.Gathering.{AreGathered, AreLowest}
-use Rattle.fill.proofs.Gathered.{gathered_more, gathered_lowest}
+use Rattle.fill.specs.Parts.{AreParts}
+use Rattle.fill.proofs.Gathered.{gathered_none, gathered_more, gathered_lowest}
 use Rattle.fill.proofs.Lowest.{ok_items}
+use Rattle.fill.proofs.PartList.{part_at}
 use Rattle.fill.proofs.spills.gather_joins.Goals as goal
 
-pub loop-tile-preserved : goal.loop-tile-preserved
-loop-tile-preserved c =
-    gathered_more c.args.tiling.now c.args.floods.now c.loop-tile.tile c.loop-tile.joins.items c.in_ok-tile_joins.field-0.items c.in_ok-lowest.lowest.items _
-    c.loop-tile.invariant c.in_ok-tile_joins.ensures c.in_ok-lowest.ensures
+pub loop-part-init : goal.loop-part-init
+loop-part-init c = λ k floods h are. rw c.new-joins.ensures.items (gathered_none k floods)
+
+pub loop-part-preserved : goal.loop-part-preserved
+loop-part-preserved c = λ k floods h are.
+    gathered_more k floods c.loop-part.part-index c.loop-part.joins.items c.part-item.result.joins.items _ (c.loop-part.invariant k floods h are)
+    (part_at k floods c.args.parts.now c.loop-part.part-index c.part-item.result are c.loop-part-test.true c.part-item.is).joins
     (rw c.deref.ensures.value at (ok_items c.extend_from_slice.result _ _ _ (sym c.is_err.ensures.value ∙ c.if-is_err.false) c.extend_from_slice.ensures.items))
 
 pub returns-clause-gathered : goal.returns-clause-gathered
 returns-clause-gathered c =
-    let t = c.args.tiling.now in
-    let all : c.loop-tile.tile ≡ tile_count t = omega (arith, c.loop-tile.auto.tile-end, c.loop-tile-test.false, c.tiles-tile-end.ensures.value) in
-    let gathered = subst (λ (n : ℕ). AreGathered t c.args.floods.now (λ p. IsWithin t p × (tile_of_place t p < n)) c.loop-tile.joins.items) all c.loop-tile.invariant in
-    IfOk-weaker c.lowest_joins-2.result
-    (λ (v : Vec Join Global). AreLowest c.loop-tile.joins.items v.items)
-    (λ (v : Vec Join Global). AreGathered t c.args.floods.now (IsWithin t) v.items)
-    (λ v low. gathered_lowest t c.args.floods.now c.loop-tile.joins.items v.items c.tiles-tile-end.ensures.lawful gathered low)
-    c.lowest_joins-2.ensures
+    IfOk-weaker c.lowest_joins.result
+    (λ (v : Vec Join Global). AreLowest c.loop-part.joins.items v.items)
+    (λ (v : Vec Join Global). (k : Cutting) (floods : List Flood) → IsCutting k → AreParts k floods c.args.parts.now → AreGathered k floods (IsWithin k) v.items)
+    (λ v low k floods h are.
+    let all : c.loop-part.part-index ≡ tile_count k = omega (arith, c.loop-part.auto.part-index-end, c.loop-part-test.false, are.count) in
+    let gathered = subst (λ (n : ℕ). AreGathered k floods (λ p. IsWithin k p × (tile_of_place k p < n)) c.loop-part.joins.items) all (c.loop-part.invariant k floods h are) in
+    gathered_lowest k floods c.loop-part.joins.items v.items h gathered low)
+    c.lowest_joins.ensures

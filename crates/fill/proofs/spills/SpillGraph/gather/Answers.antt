@@ -1,23 +1,22 @@
-use Rattle.std.proofs.Common.{◌*◌, ap, ◌∙◌, ℕ}
-use Rattle.fill.proofs.Gathered.{fit_of, gathered_graph, graph_of}
+use Rattle.std.proofs.Common.{List}
+use Rattle.std.proofs.lemmas.Result.{IfOk-weaker}
+use Rattle.ascii_grid.specs.Raster.{Terrain}
+use Rattle.fill.specs.TileFlood.{Flood}
+use Rattle.fill.specs.Parts.{AreParts}
+use Rattle.fill.specs.Spills.{Graph, AreFloods, IsGraphOf}
+use Rattle.fill.proofs.Gathered.{fit_of}
 use Rattle.fill.proofs.spills.SpillGraph.gather.Goals as goal
 
-pub gather_joins-requires : goal.gather_joins-requires
-gather_joins-requires c = fit_of c.requires.0 c.args.tiling.now c.args.floods.now c.cols.ensures.lawful c.requires.1
+pub tile_parts-requires : goal.tile_parts-requires
+tile_parts-requires c = fit_of c.requires.0 c.args.tiling.now c.args.floods.now c.requires.1.lawful c.requires.1
 
-pub gather_sources-requires : goal.gather_sources-requires
-gather_sources-requires c = fit_of c.requires.0 c.args.tiling.now c.args.floods.now c.cols.ensures.lawful c.requires.1
-
-pub invariant_of-result : goal.invariant_of-result
-invariant_of-result c =
-    let t = c.args.tiling.now in
-    gathered_graph t c.args.floods.now _ c.in_ok-joins.joins.items c.in_ok-sources.sources.items c.cols.ensures.lawful
-    (fit_of c.requires.0 t c.args.floods.now c.cols.ensures.lawful c.requires.1) c.in_ok-joins.ensures.gathered c.in_ok-joins.ensures.rising c.in_ok-sources.ensures
-    (ap (λ (n : ℕ). n * c.rows.result) c.cols.ensures.value ∙ ap (λ (n : ℕ). t.cols * n) c.rows.ensures.value)
+pub of_parts-requires : goal.of_parts-requires
+of_parts-requires c = (c.requires.0, c.args.floods.now, c.requires.1, rw c.deref.ensures.value c.in_ok-parts.ensures)
 
 pub returns : goal.returns
-returns c = λ t are.
-    let k = c.args.tiling.now in
-    graph_of t k c.args.floods.now _ c.in_ok-joins.joins.items c.in_ok-sources.sources.items c.cols.ensures.lawful are
-    c.in_ok-joins.ensures.gathered c.in_ok-joins.ensures.rising c.in_ok-sources.ensures
-    (ap (λ (n : ℕ). n * c.rows.result) c.cols.ensures.value ∙ ap (λ (n : ℕ). k.cols * n) c.rows.ensures.value)
+returns c =
+    IfOk-weaker c.of_parts.result
+    (λ (g : Graph). (t : Terrain) (floods : List Flood) → AreFloods t c.args.tiling.now floods → AreParts c.args.tiling.now floods c.deref.result.now → IsGraphOf t c.args.tiling.now floods g)
+    (λ (g : Graph). (t : Terrain) → AreFloods t c.args.tiling.now c.args.floods.now → IsGraphOf t c.args.tiling.now c.args.floods.now g)
+    (λ g is t are. is t c.args.floods.now are (rw c.deref.ensures.value c.in_ok-parts.ensures))
+    c.of_parts.ensures

@@ -1,0 +1,208 @@
+-- The sources of the spill graph, tile by tile.
+use Rattle.std.proofs.Common.{◌≡◌, ◌≢◌, ℕ, ◌+◌, ◌-◌, ◌*◌, ◌/◌, ◌%◌, ◌<◌, ◌≤◌, ◌⊎◌, inl, inr, ℤ, List, [], ◌∷◌, ◌++◌, length, get_or, set, map, replicate, Option, None, Some, IsSome, is_some, ◌==◌, ◌∙◌, sym, ap, subst, refl, arith}
+use Rattle.std.specs.Prelude.{slice_get}
+use Rattle.std.specs.List.{Contains, All}
+use Rattle.std.proofs.lemmas.Bool.{cases_eq, cases_lt, cases_Bool, cond-true, cond-false}
+use Rattle.std.proofs.lemmas.Nat.{div-add-mod', div_below, mod_below}
+use Rattle.std.proofs.lemmas.Option.{same_Some}
+use Rattle.std.proofs.lemmas.List.{get_or_default, get_or-set_same, get_or-set_other, length-set, length-replicate}
+use Rattle.std.proofs.lemmas.List.Elements.{Contains-append_left, Contains-push, Contains-push_cases, Contains-get_or}
+use Rattle.ascii_grid.specs.Neighbours.{index_of}
+use Rattle.ascii_grid.specs.declared.place.Place.{Place}
+use Rattle.ascii_grid.proofs.Places.{same_place, index_injective, index_below}
+use Rattle.tiles.specs.declared.bounds.Bounds.{Bounds}
+use Rattle.tiles.specs.Cutting.{Cutting, IsCutting, IsWithin, IsInTile, IsInBounds, tile_count, tile_of_place}
+use Rattle.tiles.proofs.Cut.{tile_of_place_below}
+use Rattle.fill.specs.TileFlood.{Flood, label_in, entry_in, label_of_node}
+use Rattle.fill.specs.Gathering.{Fit, IsSpillSource, IsSourceEntry, IsSourceNode, AddsSources, PutsSources, AreSources}
+use Rattle.fill.specs.declared.marks.Mark.{Mark}
+use Rattle.fill.specs.declared.sources.Source.{Source}
+use Rattle.fill.proofs.Steps.{seen, none_some}
+use Rattle.fill.proofs.Borders.{all_none}
+use Rattle.fill.proofs.CellMarks.{label_within, mark_parts, mark_from_tile, label_by_node}
+use Rattle.fill.proofs.Heaps.{all_by_contains}
+
+-- the node of a cell's own label, but in the first row and column
+own_node : (b : Bounds) (n : ℕ) (p : Place) → 1 ≤ p.row - b.top → 1 ≤ p.col - b.left → label_of_node b n ≡ Some p → n ≡ (p.row - b.top + 1) * (b.cols + 2) + (p.col - b.left + 1)
+own_node b n p row col e = elim (cases_Bool (n == 0)) [
+  | inl none ↦ none_some (label_of_node b n) p (cond-true _ _ _ none) e
+  | inr some ↦
+      let same = same_Some _ p (sym (cond-false _ _ _ some) ∙ e) in
+      let rows : b.top + n / (b.cols + 2) - 1 ≡ p.row = ap (λ (q : Place). q.row) same in
+      let cols : b.left + n % (b.cols + 2) - 1 ≡ p.col = ap (λ (q : Place). q.col) same in
+      let above : n / (b.cols + 2) ≡ p.row - b.top + 1 = omega (arith, rows, row) in
+      let beside : n % (b.cols + 2) ≡ p.col - b.left + 1 = omega (arith, cols, col) in
+      sym (div-add-mod' n (b.cols + 2)) ∙ ap (λ k. k * (b.cols + 2) + n % (b.cols + 2)) above ∙ ap (λ k. (p.row - b.top + 1) * (b.cols + 2) + k) beside
+]
+
+-- a cell with another node than its own has another label
+pub another_label : (f : Flood) (nodes : List ℕ) (p : Place) → f.labels ≡ map (label_of_node f.bounds) nodes → length nodes ≡ f.bounds.rows * f.bounds.cols → IsInBounds f.bounds p → 1 ≤ p.row - f.bounds.top → 1 ≤ p.col - f.bounds.left → (get_or nodes ((p.row - f.bounds.top) * f.bounds.cols + (p.col - f.bounds.left)) 0 ≢ (p.row - f.bounds.top + 1) * (f.bounds.cols + 2) + (p.col - f.bounds.left + 1)) → label_in f p ≢ Some p
+another_label f nodes p are size inside row col differ e =
+    differ (own_node f.bounds _ p row col (sym (label_by_node f.bounds nodes p size inside) ∙ ap (λ (z : List (Option Place)). entry_in f.bounds z p) (sym are) ∙ e))
+
+-- a cell with another label is no source
+pub not_own : (c : Cutting) (floods : List Flood) (tile : ℕ) (f : Flood) (p : Place) → Fit c floods → slice_get floods tile ≡ Some f → IsInTile c tile p → label_in f p ≢ Some p → (h : ℤ) → IsSpillSource c floods p h → ⊥
+not_own c floods tile f p fit there i other h source =
+    let parts = mark_parts c.cols _ _ _ (mark_from_tile c floods tile f p there i.1 ∙ source.mark) in
+    let within = label_within c f p parts.0 (fit.sizes tile f there) (fit.labels tile f there) parts.2 in
+    other (parts.2 ∙ ap Some (index_injective c.cols parts.0 p within.1 i.0.1 parts.3))
+
+-- a place has one height as a source
+one_height : (c : Cutting) (floods : List Flood) (p : Place) (h k : ℤ) → IsSpillSource c floods p h → IsSpillSource c floods p k → h ≡ k
+one_height c floods p h k a b = ap (λ (m : Mark). m.level) (same_Some (record { level = h; node = index_of c.cols p }) (record { level = k; node = index_of c.cols p }) (sym a.mark ∙ b.mark))
+
+-- sources that are added place by place
+pub no_source_adds : (c : Cutting) (floods : List Flood) (places : Place → Type 0) (old : List Source) → ((p : Place) (h : ℤ) → places p → IsSpillSource c floods p h → ⊥) → AddsSources c floods places old old
+no_source_adds c floods places old none = record {
+  kept = λ s held. held;
+  only = λ s held. inl held;
+  every = λ p h at source. absurd (none p h at source);
+}
+
+pub source_adds : (c : Cutting) (floods : List Flood) (p : Place) (node : ℕ) (h : ℤ) (old new : List Source) → IsWithin c p → node ≡ index_of c.cols p → IsSpillSource c floods p h → new ≡ old ++ record { node = node; height = h } ∷ [] → AddsSources c floods (λ q. q ≡ p) old new
+source_adds c floods p node h old new within same source is = subst (AddsSources c floods (λ q. q ≡ p) old) (sym is) (record {
+  kept = λ s held. Contains-append_left old (made ∷ []) s held;
+  only = λ s held. elim (Contains-push_cases old made s held) [
+    | inl was ↦ inl was
+    | inr now ↦ inr (subst (IsSourceNode c floods) now (record { place = p; within = within; node = sym same; source = source }))
+  ];
+  every = λ q k at other. subst (Contains (old ++ made ∷ [])) (there q k at other) (Contains-push old made);
+}) where
+  made : Source
+  made = record { node = node; height = h }
+
+  there : (q : Place) (k : ℤ) → q ≡ p → IsSpillSource c floods q k → made ≡ record { node = index_of c.cols q; height = k }
+  there q k at other =
+      let height = one_height c floods p h k source (subst (λ (z : Place). IsSpillSource c floods z k) at other) in
+      ap (λ (n : ℕ). record { node = n; height = h }) (same ∙ ap (index_of c.cols) (sym at)) ∙ ap (λ (z : ℤ). record { node = index_of c.cols q; height = z }) height
+
+pub sources_then : (c : Cutting) (floods : List Flood) (first later both : Place → Type 0) (old now new : List Source) → ((p : Place) → both p → first p ⊎ later p) → AddsSources c floods first old now → AddsSources c floods later now new → AddsSources c floods both old new
+sources_then c floods first later both old now new split a b = record {
+  kept = λ s held. b.kept s (a.kept s held);
+  only = λ s held. elim (b.only s held) [ inl was ↦ a.only s was | inr made ↦ inr made ];
+  every = λ p h at source. elim (split p at) [ inl early ↦ b.kept _ (a.every p h early source) | inr late ↦ b.every p h late source ];
+}
+
+pub sources_as : (c : Cutting) (floods : List Flood) (first both : Place → Type 0) (old new : List Source) → ((p : Place) → both p → first p) → AddsSources c floods first old new → AddsSources c floods both old new
+sources_as c floods first both old new split a = record { kept = a.kept; only = a.only; every = λ p h at source. a.every p h (split p at) source }
+
+-- one more cell of a row of a tile
+pub one_more : (c : Cutting) (floods : List Flood) (tile : ℕ) (p : Place) (old now new : List Source) → AddsSources c floods (λ q. IsInTile c tile q × (q.row ≡ p.row) × (q.col < p.col)) old now → AddsSources c floods (λ q. q ≡ p) now new → AddsSources c floods (λ q. IsInTile c tile q × (q.row ≡ p.row) × (q.col < p.col + 1)) old new
+one_more c floods tile p old now new before here =
+    sources_then c floods (λ q. IsInTile c tile q × (q.row ≡ p.row) × (q.col < p.col)) (λ q. q ≡ p) (λ q. IsInTile c tile q × (q.row ≡ p.row) × (q.col < p.col + 1)) old now new
+    (λ q at. elim (cases_lt q.col p.col) [
+      | inl early ↦ inl (at.0, at.1, early)
+      | inr late ↦ inr (same_place q p at.1 (omega (arith, at.2, late)))
+    ])
+    before here
+
+no_source : (s : Source) → Contains [] s → ⊥
+no_source s held = omega (arith, held.1)
+
+-- The heights of the first sources have been put at their nodes.
+pub record PutsFirst (sources : List Source) (count : ℕ) (old new : List (Option ℤ)) : Type 0 where
+  pub size : length new ≡ length old
+  pub kept : (k : ℕ) → IsSome (get_or old k None) → IsSome (get_or new k None)
+  pub only : (k : ℕ) (h : ℤ) → get_or new k None ≡ Some h → (get_or old k None ≡ Some h) ⊎ Contains sources (record { node = k; height = h })
+  pub every : (k : ℕ) (d : Source) → k < count → IsSome (get_or new (get_or sources k d).node None)
+
+pub none_put : (sources : List Source) (old : List (Option ℤ)) → PutsFirst sources 0 old old
+none_put sources old = record {
+  size = refl;
+  kept = λ k some. some;
+  only = λ k h e. inl e;
+  every = λ k d low. absurd (omega (arith, low));
+}
+
+pub put_more : (sources : List Source) (count : ℕ) (s d : Source) (old now : List (Option ℤ)) → count < length sources → s ≡ get_or sources count d → s.node < length now → PutsFirst sources count old now → PutsFirst sources (count + 1) old (set now s.node (Some s.height))
+put_more sources count s d old now below is inside before = record {
+  size = length-set now s.node (Some s.height) ∙ before.size;
+  kept = λ k some. still k (before.kept k some);
+  only = λ k h e. elim (cases_eq k s.node) [
+    | inl same ↦
+        let height = same_Some s.height h (sym (here k same) ∙ e) in
+        inr (subst (Contains sources) (sym is ∙ ap (λ n. record { node = n; height = s.height }) (sym same) ∙ ap (λ z. record { node = k; height = z }) height) (Contains-get_or sources count d below))
+    | inr other ↦ before.only k h (sym (get_or-set_other now s.node k (Some s.height) None other) ∙ e)
+  ];
+  every = λ k e low. elim (cases_eq k count) [
+    | inl same ↦
+        let node : (get_or sources k e).node ≡ s.node = ap (λ n. (get_or sources n e).node) same ∙ ap (λ (z : Source). z.node) (get_or_default sources count e d below) ∙ ap (λ (z : Source). z.node) (sym is) in
+        ap is_some (here (get_or sources k e).node node)
+    | inr other ↦ still (get_or sources k e).node (before.every k e (omega (arith, low, other)))
+  ];
+} where
+  here : (k : ℕ) → k ≡ s.node → get_or (set now s.node (Some s.height)) k None ≡ Some s.height
+  here k same = ap (λ n. get_or (set now s.node (Some s.height)) n None) same ∙ get_or-set_same now s.node (Some s.height) None inside
+
+  still : (k : ℕ) → IsSome (get_or now k None) → IsSome (get_or (set now s.node (Some s.height)) k None)
+  still k some = elim (cases_eq k s.node) [
+    | inl same ↦ ap is_some (here k same)
+    | inr other ↦ ap is_some (get_or-set_other now s.node k (Some s.height) None other) ∙ some
+  ]
+
+pub all_put : (sources : List Source) (old new : List (Option ℤ)) → PutsFirst sources (length sources) old new → PutsSources sources old new
+all_put sources old new p = record {
+  size = p.size;
+  kept = p.kept;
+  only = p.only;
+  every = λ s held. subst (λ (z : Source). IsSome (get_or new z.node None)) held.2 (p.every held.0 s held.1);
+}
+
+-- The entries are heights of sources, and the sources among the places have theirs.
+pub record HaveSources (c : Cutting) (floods : List Flood) (places : Place → Type 0) (heights : List (Option ℤ)) : Type 0 where
+  pub size : length heights ≡ c.cols * c.rows
+  pub only : (k : ℕ) (h : ℤ) → get_or heights k None ≡ Some h → IsSourceNode c floods (record { node = k; height = h })
+  pub every : (p : Place) (h : ℤ) → places p → IsSpillSource c floods p h → IsSome (get_or heights (index_of c.cols p) None)
+
+pub no_sources_yet : (c : Cutting) (floods : List Flood) (nodes : ℕ) (heights : List (Option ℤ)) → heights ≡ replicate nodes None → nodes ≡ c.cols * c.rows → HaveSources c floods (λ p. IsWithin c p × (tile_of_place c p < 0)) heights
+no_sources_yet c floods nodes heights is count = record {
+  size = ap length is ∙ length-replicate nodes None ∙ count;
+  only = λ k h e. none_some (get_or heights k None) h (empty k) e;
+  every = λ p h at source. absurd (omega (arith, at.1));
+} where
+  empty : (k : ℕ) → get_or heights k None ≡ None
+  empty k = ap (λ (z : List (Option ℤ)). get_or z k None) is ∙ all_none nodes k
+
+-- the nodes of a tile's sources are in the grid
+pub nodes_inside : (c : Cutting) (floods : List Flood) (places : Place → Type 0) (sources : List Source) (count : ℕ) → AddsSources c floods places [] sources → count ≡ c.cols * c.rows → All (λ (s : Source). s.node < count) sources
+nodes_inside c floods places sources count adds same = all_by_contains (λ (s : Source). s.node < count) sources (λ s held. elim (adds.only s held) [
+  | inl none ↦ absurd (no_source s none)
+  | inr is ↦ omega (arith, same, is.node, index_below c.cols c.rows is.place is.within.0 is.within.1)
+])
+
+-- one more tile
+pub sources_more : (c : Cutting) (floods : List Flood) (tile : ℕ) (sources : List Source) (old new : List (Option ℤ)) → HaveSources c floods (λ p. IsWithin c p × (tile_of_place c p < tile)) old → AddsSources c floods (IsInTile c tile) [] sources → PutsSources sources old new → HaveSources c floods (λ p. IsWithin c p × (tile_of_place c p < tile + 1)) new
+sources_more c floods tile sources old new s adds puts = record {
+  size = puts.size ∙ s.size;
+  only = λ k h e. elim (puts.only k h e) [
+    | inl was ↦ s.only k h was
+    | inr made ↦ elim (adds.only _ made) [ inl none ↦ absurd (no_source _ none) | inr is ↦ is ]
+  ];
+  every = λ p h at source. elim (cases_eq (tile_of_place c p) tile) [
+    | inl same ↦ puts.every _ (adds.every p h (at.0, same) source)
+    | inr other ↦ puts.kept (index_of c.cols p) (s.every p h (at.0, omega (arith, at.1, other)) source)
+  ];
+}
+
+-- the sources of all tiles
+pub all_sources : (c : Cutting) (floods : List Flood) (heights : List (Option ℤ)) → IsCutting c → HaveSources c floods (λ p. IsWithin c p × (tile_of_place c p < tile_count c)) heights → AreSources c floods heights
+all_sources c floods heights h s = record { size = s.size; each = entry } where
+  at : ℕ → Place
+  at k = record { row = k / c.cols; col = k % c.cols }
+
+  node : (k : ℕ) → index_of c.cols (at k) ≡ k
+  node k = div-add-mod' k c.cols
+
+  within : (k : ℕ) → k < c.cols * c.rows → IsWithin c (at k)
+  within k below = (div_below k c.cols c.rows h.some_col (omega (arith, below)), mod_below k c.cols h.some_col)
+
+  entry : (k : ℕ) → k < c.cols * c.rows → IsSourceEntry c floods (at k) (get_or heights k None)
+  entry k below = elim (seen (get_or heights k None)) [
+    | inl none ↦ subst (IsSourceEntry c floods (at k)) (sym none) (λ z source.
+        let some = s.every (at k) z (within k below, tile_of_place_below c (at k) h (within k below)) source in
+        absurd (cc (some, ap is_some (ap (λ n. get_or heights n None) (node k) ∙ none))))
+    | inr found ↦
+        let is = s.only k found.0 found.1 in
+        let place = index_injective c.cols is.place (at k) is.within.1 (within k below).1 (is.node ∙ sym (node k)) in
+        subst (IsSourceEntry c floods (at k)) (sym found.1) (subst (λ p. IsSpillSource c floods p found.0) place is.source)
+  ]

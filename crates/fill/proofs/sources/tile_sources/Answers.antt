@@ -1,0 +1,25 @@
+use Rattle.std.proofs.Common.{◌≡◌, ◌+◌, ◌<◌, arith, inl, inr}
+use Rattle.std.proofs.lemmas.Bool.{cases_lt}
+use Rattle.tiles.specs.Cutting.{IsInTile}
+use Rattle.fill.proofs.SourceCells.{sources_then, sources_as}
+use Rattle.fill.proofs.sources.tile_sources.Goals as goal
+
+pub loop-row-preserved : goal.loop-row-preserved
+loop-row-preserved c =
+    sources_then c.args.tiling.now c.args.floods.now
+    (λ p. IsInTile c.args.tiling.now c.args.tile p × (p.row < c.loop-row.row))
+    (λ p. IsInTile c.args.tiling.now c.args.tile p × (p.row ≡ c.loop-row.row))
+    (λ p. IsInTile c.args.tiling.now c.args.tile p × (p.row < c.loop-row.row + 1)) _ _ _
+    (λ p at. elim (cases_lt p.row c.loop-row.row) [
+      | inl early ↦ inl (at.0, early)
+      | inr late ↦ inr (at.0, omega (arith, at.1, late))
+    ])
+    c.loop-row.invariant c.in_ok-push_sources.ensures
+
+pub returns : goal.returns
+returns c =
+    sources_as c.args.tiling.now c.args.floods.now
+    (λ p. IsInTile c.args.tiling.now c.args.tile p × (p.row < c.loop-row.row))
+    (IsInTile c.args.tiling.now c.args.tile) _ _
+    (λ p at. let inside = (c.bounds-top.ensures.places p).0 at in (at, omega (arith, inside.1, c.loop-row-test.false)))
+    c.loop-row.invariant

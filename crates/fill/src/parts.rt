@@ -1,0 +1,56 @@
+// What each tile adds to the spill graph.
+ghost use Rattle.std.specs.Prelude.{◌≡◌, ◌<◌, ℕ, IfOk};
+ghost use Rattle.tiles.specs.Cutting.{tile_count};
+ghost use Rattle.fill.specs.Gathering.{Fit};
+ghost use Rattle.fill.specs.Parts.{IsPart, AreParts};
+
+use crate::passes::{lowest_joins, tile_joins};
+use crate::sources::{Source, tile_sources};
+use crate::spills::Join;
+use crate::tile::TileFlood;
+use ascii_grid::NoMemory;
+use std::alloc::Global;
+use tiles::Tiling;
+
+/// What a tile adds to the spill graph: the joins of its cells with those that touch them, each as low
+/// as it gets, and the sources among its cells.
+#[derive(Drop)]
+pub struct Part {
+    pub joins: Vec<Join>,
+    pub sources: Vec<Source>,
+}
+
+/// What a tile adds to the spill graph.
+pub(crate) fn tile_part(
+    alloc: Global,
+    tiling: &Tiling,
+    floods: &[TileFlood],
+    tile: u32,
+) -> Result<Part, NoMemory>
+    requires fit { Fit tiling.now floods.now }
+    requires tile { tile < tile_count tiling.now }
+    ensures { IfOk result (λ part. IsPart tiling.now floods.now tile part) }
+{
+    let joins = lowest_joins(alloc, tile_joins(alloc, tiling, floods, tile)?)?;
+    let sources = tile_sources(alloc, tiling, floods, tile)?;
+    Ok(Part { joins, sources })
+}
+
+/// What each tile adds to the spill graph, in tile order.
+pub(crate) fn tile_parts(
+    alloc: Global,
+    tiling: &Tiling,
+    floods: &[TileFlood],
+) -> Result<Vec<Part>, NoMemory>
+    requires { Fit tiling.now floods.now }
+    ensures { IfOk result (λ v. AreParts tiling.now floods.now v.items) }
+{
+    let mut parts = Vec::new(alloc);
+    for tile in 0..tiling.tiles() {
+        let part = tile_part(alloc, tiling, floods, tile)?;
+        if parts.push(part).is_err() {
+            return Err(NoMemory);
+        }
+    }
+    Ok(parts)
+}

@@ -1,0 +1,100 @@
+// The sources of the spill graph.
+ghost use Rattle.std.specs.Prelude.{◌≡◌, ◌+◌, ◌*◌, ◌<◌, ◌≤◌, ℕ, List, [], length, IfOk, OnOk};
+ghost use Rattle.std.specs.List.{All};
+ghost use Rattle.tiles.specs.Cutting.{IsInTile, bounds_of, tile_count};
+ghost use Rattle.fill.specs.TileFlood.{Flood};
+ghost use Rattle.fill.specs.Gathering.{Fit, AddsSources, AreSources, PutsSources};
+ghost use Rattle.fill.specs.Parts.{AreParts};
+
+use crate::flooding::empty_list;
+use crate::marks::{node_of, source_at};
+use crate::parts::Part;
+use crate::tile::TileFlood;
+use ascii_grid::{Height, NoMemory, Place};
+use std::alloc::Global;
+use tiles::{Bounds, Tiling};
+
+/// A label that is an edge cell: its number, and its height.
+#[derive(Clone, Copy, Debug, PartialEq, Eq)]
+pub struct Source {
+    pub node: u32,
+    pub height: Height,
+}
+
+/// Adds the sources among the cells of one row of a tile.
+fn push_sources(
+    sources: &mut Vec<Source>,
+    tiling: &Tiling,
+    floods: &[TileFlood],
+    tile: u32,
+    row: u32,
+) -> Result<(), NoMemory>
+    requires fit { Fit tiling.now floods.now }
+    requires tile { tile < tile_count tiling.now }
+    requires top { (bounds_of tiling.now tile).top ≤ row }
+    requires row { row < (bounds_of tiling.now tile).top + (bounds_of tiling.now tile).rows }
+    ensures { OnOk result (AddsSources tiling.now floods.now
+        (λ p. IsInTile tiling.now tile p × (p.row ≡ row)) sources.old.items sources.new.items) }
+{
+    let Bounds { left, cols, .. } = tiling.bounds(tile);
+    let flood = &floods[tile as usize];
+    for col in left..left + cols {
+        let place = Place { row, col };
+        if flood.has_another_label(place) {
+            continue;
+        }
+        if let Some(height) = source_at(tiling, floods, tile, place) {
+            let node = node_of(tiling, place);
+            if sources.push(Source { node, height }).is_err() {
+                return Err(NoMemory);
+            }
+        }
+    }
+    Ok(())
+}
+
+/// The sources among the cells of a tile.
+pub(crate) fn tile_sources(
+    alloc: Global,
+    tiling: &Tiling,
+    floods: &[TileFlood],
+    tile: u32,
+) -> Result<Vec<Source>, NoMemory>
+    requires fit { Fit tiling.now floods.now }
+    requires tile { tile < tile_count tiling.now }
+    ensures { IfOk result (λ v. AddsSources tiling.now floods.now (IsInTile tiling.now tile) [] v.items) }
+{
+    let mut sources = Vec::new(alloc);
+    let Bounds { top, rows, .. } = tiling.bounds(tile);
+    for row in top..top + rows {
+        push_sources(&mut sources, tiling, floods, tile, row)?;
+    }
+    Ok(sources)
+}
+
+/// Puts the heights of sources at their nodes.
+fn put_sources(heights: &mut [Option<Height>], sources: &[Source])
+    requires { All (λ s. s.node < length heights.old) sources.now }
+    ensures { PutsSources sources.now heights.old heights.new }
+{
+    for source in sources {
+        heights[source.node as usize] = Some(source.height);
+    }
+}
+
+/// The heights of the sources, in row order of the grid.
+pub(crate) fn gather_sources(
+    alloc: Global,
+    tiling: &Tiling,
+    parts: &[Part],
+) -> Result<Vec<Option<Height>>, NoMemory>
+    requires { (floods : List Flood) × AreParts tiling.now floods parts.now }
+    ensures { IfOk result (λ v. (floods : List Flood) → AreParts tiling.now floods parts.now → AreSources tiling.now floods v.items) }
+{
+    let nodes = tiling.cols() * tiling.rows();
+    let mut heights = empty_list(alloc, nodes as usize)?;
+    for part in parts {
+        put_sources(&mut heights, &part.sources);
+    }
+    Ok(heights)
+}
