@@ -173,8 +173,8 @@ module _ (v : View (Option ℕ)) (b : Bounds) (cells : List (Option ℕ)) (links
           exits_size = length-map-range_with_len (λ i. where_data (get_or cells i None) (place_in b (get_or ends i 0))) 0 (length cells) ∙ s.codes.size;
         }
 
-    pub lists_are : AreFlowLists b cells came ends
-    lists_are = record { lawful = flow_lawful; came_size = came_size came up; ends_size = ends_size ends last; inside = ends_inside ends last }
+    pub lists_are : AreFlowLists b cells links came ends
+    lists_are = record { linked = s.made; lawful = flow_lawful; came_size = came_size came up; ends_size = ends_size ends last; inside = ends_inside ends last }
 
     pub flow_is : IsTileFlow (directed_by v) v.cutting v.tile (flow_by b cells came ends)
     flow_is = record {

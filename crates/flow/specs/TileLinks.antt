@@ -74,7 +74,8 @@ abbrev pub flow_by : Bounds → List (Option ℕ) → List ℕ → List ℕ → 
 flow_by b cells came ends = record { bounds = b; codes = cells; through = through_by cells came; exits = exits_by b cells ends }
 
 -- what holds of these lists
-pub record AreFlowLists (b : Bounds) (cells : List (Option ℕ)) (came ends : List ℕ) : Type 0 where
+pub record AreFlowLists (b : Bounds) (cells : List (Option ℕ)) (links came ends : List ℕ) : Type 0 where
+  pub linked : links ≡ links_by b cells
   pub lawful : IsFlow (flow_by b cells came ends)
   pub came_size : length came ≡ length cells
   pub ends_size : length ends ≡ length cells

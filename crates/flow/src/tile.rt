@@ -3,7 +3,7 @@ ghost use Rattle.std.specs.Prelude.{◌≡◌, ◌<◌, length, slice_index_or, 
 ghost use Rattle.std.specs.Option.{option_map};
 ghost use Rattle.drain.specs.Drained.{AllFlowEnds};
 ghost use Rattle.flow.specs.TileFlow.{directed_by, IsFlow, IsTileFlow, entry_in, through_in, exit_in};
-ghost use Rattle.flow.specs.TileLinks.{index_in, where_data, through_by};
+ghost use Rattle.flow.specs.TileLinks.{index_in, where_data, through_by, links_by};
 ghost use Rattle.flow.specs.Whole.{is_outlet_code};
 ghost use Rattle.flow.specs.RimGraph.{way_out_in};
 
@@ -21,6 +21,8 @@ use tiles::{Bounds, TileView};
 pub struct TileFlow {
     bounds: Bounds,
     codes: Vec<Option<Code>>,
+    // The index of the cell to which the water of each goes on, its own where it stays or leaves the tile.
+    links: Vec<u32>,
     // What comes to each cell, and the index of its exit. A cell without data has neither.
     came: Vec<u32>,
     ends: Vec<u32>,
@@ -34,7 +36,7 @@ impl Model for TileFlow {
 
     ghost view = { λ f. flow_by f.bounds f.codes.items f.came.items f.ends.items };
 
-    ghost invariant = { λ f. AreFlowLists f.bounds f.codes.items f.came.items f.ends.items };
+    ghost invariant = { λ f. AreFlowLists f.bounds f.codes.items f.links.items f.came.items f.ends.items };
 }
 
 impl TileFlow {
@@ -67,6 +69,22 @@ impl TileFlow {
         ensures lawful { IsFlow self.now }
     {
         self.bounds
+    }
+
+    // The codes of the tile's cells in its row order.
+    #[inline(always)]
+    pub(crate) fn codes(&self) -> &[Option<Code>]
+        ensures { result.now ≡ self.now.codes }
+    {
+        &self.codes
+    }
+
+    // The links of the tile's cells.
+    #[inline(always)]
+    pub(crate) fn links(&self) -> &[u32]
+        ensures { result.now ≡ links_by self.now.bounds self.now.codes }
+    {
+        &self.links
     }
 
     // How many cells the tile has.
@@ -160,6 +178,7 @@ pub fn tile_flow(alloc: Global, codes: &TileView<'_, Option<Code>>) -> Result<Ti
     Ok(TileFlow {
         bounds,
         codes: cells,
+        links,
         came,
         ends,
     })
