@@ -10,11 +10,11 @@ use Rattle.ascii_grid.specs.declared.place.Place.{Place}
 use Rattle.tiles.specs.declared.bounds.Bounds.{Bounds}
 use Rattle.tiles.specs.Cutting.{Cutting, IsInBounds, AreBounds, tile_count, cell_count, bounds_of}
 use Rattle.tiles.proofs.Cut.{in_bounds, bounds_inside}
-use Rattle.tiles.proofs.TileOrder.{place_in_tile, index_in_below, index_in-place_in, place_in-index_in, tile_entry-in}
+use Rattle.tiles.proofs.TileOrder.{index_in_below, index_in-place_in, place_in-index_in, tile_entry-in}
 use Rattle.drain.specs.Following.{code_at}
 use Rattle.flow.specs.Counts.{accumulation}
 use Rattle.flow.specs.Streams.{AreStreams, AreUpstream, total}
-use Rattle.flow.specs.TileFlow.{Flow, IsTileFlow, entry_in}
+use Rattle.flow.specs.TileFlow.{Flow, IsTileExits}
 use Rattle.flow.specs.TileLinks.{AreTileCodes, place_in, index_in, weight_in, links_by, weights_by, where_data}
 use Rattle.flow.specs.TileMaps.{IsTileMapOf}
 use Rattle.flow.specs.Whole.{make_directed}
@@ -22,8 +22,8 @@ use Rattle.flow.specs.Inflows.{Inflows, inflow_in}
 use Rattle.flow.specs.Counting.{IsCounting, IsCountable, AreCountable, AreRimWeights, counts_by}
 use Rattle.flow.proofs.Sums.{sum_below-few}
 use Rattle.flow.proofs.Coded.{IsCoded, cases_coded}
-use Rattle.flow.proofs.InTile.{IsPiece, test_from_bounds, tile_streams, in_place}
-use Rattle.flow.proofs.Piece.{AreLists, piece, few, weights_from, match_none, match_some}
+use Rattle.flow.proofs.InTile.{IsPiece, tile_streams, in_place}
+use Rattle.flow.proofs.Piece.{codes_from, AreLists, piece, few, weights_from, match_none, match_some}
 use Rattle.flow.proofs.Reaching.{IsEnding}
 use Rattle.flow.proofs.Gathering.{cell, entered, entered_le, inflow_sum}
 use Rattle.flow.proofs.TileTotals.{AreWeights, few_come, accumulates}
@@ -45,7 +45,7 @@ module _ (t : Cutting) (codes : List (Option ℕ)) (flows : List Flow) (inflows 
   ending = record { ends = s.grid.ends; some_col = s.grid.some_col; some_row = s.grid.some_row; few_cols = s.grid.few_cols; few_rows = s.grid.few_rows }
 
   module _ (tile : ℕ) (f : Flow) (there : slice_get flows tile ≡ Some f) where
-    right : IsTileFlow (make_directed t.cols t.rows codes) t tile f
+    right : IsTileExits (make_directed t.cols t.rows codes) t tile f
     right = s.are_flows.of_tiles.each tile f there
 
     below : tile < tile_count t
@@ -55,16 +55,7 @@ module _ (t : Cutting) (codes : List (Option ℕ)) (flows : List Flow) (inflows 
     around = bounds_inside t tile s.are_flows.cutting below
 
     of_cells : AreTileCodes (make_directed t.cols t.rows codes) (bounds_of t tile) f.codes
-    of_cells = record {
-      size = right.lawful.codes_size ∙ ap (λ (b : Bounds). b.rows * b.cols) right.bounds;
-      each = λ i h.
-          let inside = place_in_tile t tile i s.are_flows.cutting below h in
-          let entry : entry_in f.bounds f.codes (place_in (bounds_of t tile) i) ≡ get_or f.codes i None =
-          ap (λ (b : Bounds). entry_in b f.codes (place_in (bounds_of t tile) i)) right.bounds
-          ∙ cond-true {A = Option ℕ} _ _ _ (test_from_bounds (bounds_of t tile) (place_in (bounds_of t tile) i) (in_bounds t tile (place_in (bounds_of t tile) i) s.are_flows.cutting inside))
-          ∙ ap (λ n. get_or f.codes n None) (index_in-place_in (bounds_of t tile) i) in
-          sym entry ∙ right.same_codes (place_in (bounds_of t tile) i) inside;
-    }
+    of_cells = codes_from (make_directed t.cols t.rows codes) t tile f s.are_flows.cutting below right
 
     within_tile : (p : Place) → IsInBounds (bounds_of t tile) p → (p.row < t.rows) × (p.col < t.cols)
     within_tile p h = (omega (arith, h, around.rows_inside), omega (arith, h, around.cols_inside))

@@ -11,7 +11,7 @@ use Rattle.flow.specs.RimGraph.{AreFlowsOf}
 use Rattle.flow.specs.Whole.{IsGridFlow, make_directed}
 use Rattle.flow.specs.Inflows.{Inflows, inflow_in, AreInflows}
 
--- The flows and the inflows are those of the map of directions with these codes.
+-- The exits of the flows and the inflows are those of the map of directions with these codes.
 pub record IsCounting (t : Cutting) (codes : List (Option ℕ)) (flows : List Flow) (inflows : Inflows) : Type 0 where
   pub grid : IsGridFlow t.cols t.rows codes
   pub are_flows : AreFlowsOf (make_directed t.cols t.rows codes) t flows
