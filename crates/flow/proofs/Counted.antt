@@ -1,26 +1,29 @@
 -- The accumulations of the cells of a tile, of the lists that are made for it.
-use Rattle.std.proofs.Common.{◌≡◌, ℕ, ◌+◌, ◌-◌, ◌*◌, ◌^◌, ◌<◌, ◌≤◌, inl, inr, List, length, get_or, cond, Option, None, Some, is_some, sym, ap, subst, refl, ◌∙◌, arith}
+use Rattle.std.proofs.Common.{◌≡◌, ℕ, ◌+◌, ◌-◌, ◌*◌, ◌^◌, ◌<◌, ◌≤◌, inl, inr, List, length, get_or, cond, Option, None, Some, is_some, slice_get, sym, ap, subst, refl, ◌∙◌, arith}
 use Rattle.std.proofs.Math.Nat.{mul-le-mul}
 use Rattle.std.proofs.Math.ListN.{length-map}
 use Rattle.std.proofs.lemmas.Bool.{cases_lt, cases_Bool, cond-true, cond-false}
 use Rattle.std.proofs.lemmas.List.{get_or-map, get_or_past}
+use Rattle.std.proofs.lemmas.Option.{slice_get_within}
 use Rattle.std.proofs.lemmas.List.FromFn.{get_or-map-range_with_len, length-map-range_with_len}
 use Rattle.ascii_grid.specs.declared.place.Place.{Place}
-use Rattle.tiles.specs.Cutting.{Cutting, IsInBounds, AreBounds, tile_count, bounds_of}
-use Rattle.tiles.proofs.Cut.{in_bounds}
+use Rattle.tiles.specs.declared.bounds.Bounds.{Bounds}
+use Rattle.tiles.specs.Cutting.{Cutting, IsInBounds, AreBounds, tile_count, cell_count, bounds_of}
+use Rattle.tiles.proofs.Cut.{in_bounds, bounds_inside}
 use Rattle.tiles.proofs.TileOrder.{index_in_below, index_in-place_in, place_in-index_in, tile_entry-in}
 use Rattle.drain.specs.Following.{code_at}
 use Rattle.flow.specs.Counts.{accumulation}
 use Rattle.flow.specs.Streams.{AreStreams, AreUpstream, total}
+use Rattle.flow.specs.TileFlow.{Flow, IsTileExits}
 use Rattle.flow.specs.TileLinks.{AreTileCodes, place_in, index_in, weight_in, links_by, weights_by, where_data}
 use Rattle.flow.specs.TileMaps.{IsTileMapOf}
 use Rattle.flow.specs.Whole.{make_directed}
 use Rattle.flow.specs.Inflows.{Inflows, inflow_in}
-use Rattle.flow.specs.Counting.{IsCounting, AreRimWeights, counts_by}
+use Rattle.flow.specs.Counting.{IsCounting, IsCountable, AreCountable, AreRimWeights, counts_by}
 use Rattle.flow.proofs.Sums.{sum_below-few}
 use Rattle.flow.proofs.Coded.{IsCoded, cases_coded}
 use Rattle.flow.proofs.InTile.{IsPiece, tile_streams, in_place}
-use Rattle.flow.proofs.Piece.{AreLists, piece, few, weights_from, match_none, match_some}
+use Rattle.flow.proofs.Piece.{codes_from, AreLists, piece, few, weights_from, match_none, match_some}
 use Rattle.flow.proofs.Reaching.{IsEnding}
 use Rattle.flow.proofs.Gathering.{cell, entered, entered_le, inflow_sum}
 use Rattle.flow.proofs.TileTotals.{AreWeights, few_come, accumulates}
@@ -37,40 +40,29 @@ weights_le cells i = elim (cases_lt i (length cells)) [
 pub weights_size : (cells : List (Option ℕ)) → length (weights_by cells) ≡ length cells
 weights_size cells = length-map cells (λ (code : Option ℕ). cond {A = ℕ} (is_some code) 1 0)
 
-module _ (t : Cutting) (codes : List (Option ℕ)) (inflows : Inflows) (s : IsCounting t codes inflows) (tile : ℕ) (below : tile < tile_count t) (around : AreBounds t (bounds_of t tile)) where
+module _ (t : Cutting) (codes : List (Option ℕ)) (flows : List Flow) (inflows : Inflows) (s : IsCounting t codes flows inflows) where
   ending : IsEnding (make_directed t.cols t.rows codes)
-  ending = record { ends = s.flows.ends; some_col = s.flows.some_col; some_row = s.flows.some_row; few_cols = s.flows.few_cols; few_rows = s.flows.few_rows }
+  ending = record { ends = s.grid.ends; some_col = s.grid.some_col; some_row = s.grid.some_row; few_cols = s.grid.few_cols; few_rows = s.grid.few_rows }
 
-  module _ (cells : List (Option ℕ)) (of_cells : AreTileCodes (make_directed t.cols t.rows codes) (bounds_of t tile) cells) (links : List ℕ) (made : links ≡ links_by (bounds_of t tile) cells) where
-    lists : AreLists (record { cutting = t; tile = tile; cells = codes }) (bounds_of t tile) cells links (weights_by cells)
-    lists = record {
-      ends = s.flows.ends;
-      bounds = refl;
-      inside = around;
-      lawful = record { cutting = s.cutting; tile = below; size = s.flows.size };
-      codes = of_cells;
-      made = made;
-      weighed = refl;
-    }
+  module _ (tile : ℕ) (f : Flow) (there : slice_get flows tile ≡ Some f) where
+    right : IsTileExits (make_directed t.cols t.rows codes) t tile f
+    right = s.are_flows.of_tiles.each tile f there
 
-    piece_of : IsPiece (make_directed t.cols t.rows codes) t tile (bounds_of t tile) links
-    piece_of = piece _ _ _ _ _ lists
+    below : tile < tile_count t
+    below = omega (arith, slice_get_within flows tile f there, s.are_flows.of_tiles.count)
 
-    pub streams_of : AreStreams links
-    streams_of = tile_streams (make_directed t.cols t.rows codes) t tile (bounds_of t tile) links piece_of
+    around : AreBounds t (bounds_of t tile)
+    around = bounds_inside t tile s.are_flows.cutting below
 
-    pub few_of : length links ≤ 2 ^ 24
-    few_of = few _ _ _ _ _ lists
-
-    pub same_sizes : length links ≡ length cells
-    same_sizes = piece_of.made.size ∙ sym of_cells.size
+    of_cells : AreTileCodes (make_directed t.cols t.rows codes) (bounds_of t tile) f.codes
+    of_cells = codes_from (make_directed t.cols t.rows codes) t tile f s.are_flows.cutting below right
 
     within_tile : (p : Place) → IsInBounds (bounds_of t tile) p → (p.row < t.rows) × (p.col < t.cols)
     within_tile p h = (omega (arith, h, around.rows_inside), omega (arith, h, around.cols_inside))
 
     pub inflow_few : (p : Place) → IsInBounds (bounds_of t tile) p → inflow_in inflows p ≤ 16777216
     inflow_few p h =
-        let most : t.rows * t.cols ≤ 4096 * 4096 = mul-le-mul s.flows.few_rows s.flows.few_cols in
+        let most : t.rows * t.cols ≤ 4096 * 4096 = mul-le-mul s.grid.few_rows s.grid.few_cols in
         omega (
           arith,
           s.are_inflows.each p (within_tile p h),
@@ -78,60 +70,112 @@ module _ (t : Cutting) (codes : List (Option ℕ)) (inflows : Inflows) (s : IsCo
           sum_below-few (λ c. entered (make_directed t.cols t.rows codes) t p (cell (make_directed t.cols t.rows codes) c)) (t.rows * t.cols) (λ c l. entered_le (make_directed t.cols t.rows codes) t p (cell (make_directed t.cols t.rows codes) c)),
         )
 
-    module _ (weights : List ℕ) (weighed : AreRimWeights inflows (bounds_of t tile) cells weights) where
-      weights_are : AreWeights (make_directed t.cols t.rows codes) ending t tile (bounds_of t tile) links piece_of weights
-      weights_are j h =
-          let p = place_in (bounds_of t tile) j in
-          let inside = in_place (make_directed t.cols t.rows codes) t tile (bounds_of t tile) links piece_of j h in
-          let index = index_in-place_in (bounds_of t tile) j in
-          let own : get_or (weights_by cells) j 0 ≡ weight_in (make_directed t.cols t.rows codes) (bounds_of t tile) j =
-          (weights_from (make_directed t.cols t.rows codes) (bounds_of t tile) cells of_cells).each j (omega (arith, h, piece_of.made.size)) in
-          omega (
+    module _ (links : List ℕ) (made : links ≡ links_by (bounds_of t tile) f.codes) where
+      lists : AreLists (record { cutting = t; tile = tile; cells = codes }) (bounds_of t tile) f.codes links (weights_by f.codes)
+      lists = record {
+        ends = s.grid.ends;
+        bounds = refl;
+        inside = around;
+        lawful = record { cutting = s.are_flows.cutting; tile = below; size = s.grid.size };
+        codes = of_cells;
+        made = made;
+        weighed = refl;
+      }
+
+      piece_of : IsPiece (make_directed t.cols t.rows codes) t tile (bounds_of t tile) links
+      piece_of = piece _ _ _ _ _ lists
+
+      pub streams_of : AreStreams links
+      streams_of = tile_streams (make_directed t.cols t.rows codes) t tile (bounds_of t tile) links piece_of
+
+      pub few_of : length links ≤ 2 ^ 24
+      few_of = few _ _ _ _ _ lists
+
+      pub same_sizes : length links ≡ length f.codes
+      same_sizes = piece_of.made.size ∙ sym of_cells.size
+
+      module _ (weights : List ℕ) (weighed : AreRimWeights inflows (bounds_of t tile) f.codes weights) where
+        weights_are : AreWeights (make_directed t.cols t.rows codes) ending t tile (bounds_of t tile) links piece_of weights
+        weights_are j h =
+            let p = place_in (bounds_of t tile) j in
+            let inside = in_place (make_directed t.cols t.rows codes) t tile (bounds_of t tile) links piece_of j h in
+            let index = index_in-place_in (bounds_of t tile) j in
+            let own : get_or (weights_by f.codes) j 0 ≡ weight_in (make_directed t.cols t.rows codes) (bounds_of t tile) j =
+            (weights_from (make_directed t.cols t.rows codes) (bounds_of t tile) f.codes of_cells).each j (omega (arith, h, piece_of.made.size)) in
+            omega (
+              arith,
+              weighed.each (place_in (bounds_of t tile) j) inside,
+              ap (λ n. get_or weights n 0) index,
+              ap (λ n. get_or (weights_by f.codes) n 0) index,
+              own,
+              s.are_inflows.each (place_in (bounds_of t tile) j) (within_tile (place_in (bounds_of t tile) j) inside),
+            )
+
+        pub totals_few : (i : ℕ) → i < length links → total links weights i ≤ 16777216
+        totals_few = few_come (make_directed t.cols t.rows codes) ending t tile (bounds_of t tile) links piece_of weights weights_are
+
+        module _ (came : List ℕ) (up : AreUpstream links weights came) where
+          pub sums_few : (i : ℕ) → i < length links → get_or came i 0 + get_or weights i 0 ≤ 16777216
+          sums_few i h = omega (arith, up.each i h, totals_few i h)
+
+          entry_is : (p : Place) → IsInBounds (bounds_of t tile) p →
+              get_or (counts_by f.codes weights came) (index_in (bounds_of t tile) p) None
+              ≡ where_data (code_at (make_directed t.cols t.rows codes) p) (get_or came (index_in (bounds_of t tile) p) 0 + get_or weights (index_in (bounds_of t tile) p) 0 - 1)
+          entry_is p h =
+              let i = index_in (bounds_of t tile) p in
+              let in_cells : index_in (bounds_of t tile) p < length f.codes = omega (arith, index_in_below (bounds_of t tile) p h, of_cells.size) in
+              let code : get_or f.codes (index_in (bounds_of t tile) p) None ≡ code_at (make_directed t.cols t.rows codes) p =
+              of_cells.each (index_in (bounds_of t tile) p) (index_in_below (bounds_of t tile) p h) ∙ ap (code_at (make_directed t.cols t.rows codes)) (place_in-index_in (bounds_of t tile) p h) in
+              get_or-map-range_with_len (λ i. where_data (get_or f.codes i None) (get_or came i 0 + get_or weights i 0 - 1)) 0 (length f.codes) (index_in (bounds_of t tile) p) (index_in (bounds_of t tile) p) None in_cells (omega arith)
+              ∙ ap (λ o. where_data o (get_or came (index_in (bounds_of t tile) p) 0 + get_or weights (index_in (bounds_of t tile) p) 0 - 1)) code
+
+          count_is : (p : Place) → IsInBounds (bounds_of t tile) p → IsCoded (make_directed t.cols t.rows codes) p →
+              get_or came (index_in (bounds_of t tile) p) 0 + get_or weights (index_in (bounds_of t tile) p) 0 - 1 ≡ accumulation (make_directed t.cols t.rows codes) p
+          count_is p h is =
+              let at = place_in-index_in (bounds_of t tile) p h in
+              let there : index_in (bounds_of t tile) p < length links = omega (arith, index_in_below (bounds_of t tile) p h, of_cells.size, same_sizes) in
+              let all = accumulates (make_directed t.cols t.rows codes) ending t tile (bounds_of t tile) links piece_of weights weights_are (index_in (bounds_of t tile) p) there
+              (subst (λ (q : Place). IsCoded (make_directed t.cols t.rows codes) q) (sym at) is) in
+              omega (arith, up.each (index_in (bounds_of t tile) p) there, all, ap (accumulation (make_directed t.cols t.rows codes)) at)
+
+          pub tile_counted : IsTileMapOf (make_directed t.cols t.rows codes) t tile (accumulation (make_directed t.cols t.rows codes)) (counts_by f.codes weights came)
+          tile_counted = record {
+            size = length-map-range_with_len (λ i. where_data (get_or f.codes i None) (get_or came i 0 + get_or weights i 0 - 1)) 0 (length f.codes) ∙ of_cells.size;
+            each = λ p i.
+                let h = in_bounds t tile p s.are_flows.cutting i in
+                let entry = tile_entry-in t tile (counts_by f.codes weights came) p i ∙ entry_is p h in
+                elim (cases_coded (make_directed t.cols t.rows codes) p) [
+                  | inl none ↦ match_none (code_at (make_directed t.cols t.rows codes) p) _ _ none
+                      (entry ∙ ap (λ o. where_data o (get_or came (index_in (bounds_of t tile) p) 0 + get_or weights (index_in (bounds_of t tile) p) 0 - 1)) none)
+                  | inr is ↦ match_some (code_at (make_directed t.cols t.rows codes) p) _ _ is.code is.is
+                      (entry ∙ ap (λ o. where_data o (get_or came (index_in (bounds_of t tile) p) 0 + get_or weights (index_in (bounds_of t tile) p) 0 - 1)) is.is ∙ ap Some (count_is p h is))
+                ];
+          }
+
+    countable : IsCountable inflows tile f
+    countable =
+        let links = links_by f.bounds f.codes in
+        let made : links_by f.bounds f.codes ≡ links_by (bounds_of t tile) f.codes = ap (λ (b : Bounds). links_by b f.codes) right.bounds in
+        record {
+          bounds = right.bounds ∙ ap (λ (x : Cutting). bounds_of x tile) (sym s.are_inflows.cutting);
+          size = of_cells.size ∙ ap (λ (x : Cutting). cell_count x tile) (sym s.are_inflows.cutting);
+          linked = same_sizes (links_by f.bounds f.codes) made;
+          few = omega (arith, few_of (links_by f.bounds f.codes) made, same_sizes (links_by f.bounds f.codes) made);
+          streams = streams_of (links_by f.bounds f.codes) made;
+          few_enter = λ p h. omega (arith, inflow_few p (subst (λ (x : Cutting). IsInBounds (bounds_of x tile) p) s.are_inflows.cutting h));
+          few_come = λ weights weighed i h. omega (
             arith,
-            weighed.each (place_in (bounds_of t tile) j) inside,
-            ap (λ n. get_or weights n 0) index,
-            ap (λ n. get_or (weights_by cells) n 0) index,
-            own,
-            s.are_inflows.each (place_in (bounds_of t tile) j) (within_tile (place_in (bounds_of t tile) j) inside),
-          )
-
-      pub totals_few : (i : ℕ) → i < length links → total links weights i ≤ 16777216
-      totals_few = few_come (make_directed t.cols t.rows codes) ending t tile (bounds_of t tile) links piece_of weights weights_are
-
-      module _ (came : List ℕ) (up : AreUpstream links weights came) where
-        pub sums_few : (i : ℕ) → i < length links → get_or came i 0 + get_or weights i 0 ≤ 16777216
-        sums_few i h = omega (arith, up.each i h, totals_few i h)
-
-        entry_is : (p : Place) → IsInBounds (bounds_of t tile) p →
-            get_or (counts_by cells weights came) (index_in (bounds_of t tile) p) None
-            ≡ where_data (code_at (make_directed t.cols t.rows codes) p) (get_or came (index_in (bounds_of t tile) p) 0 + get_or weights (index_in (bounds_of t tile) p) 0 - 1)
-        entry_is p h =
-            let i = index_in (bounds_of t tile) p in
-            let in_cells : index_in (bounds_of t tile) p < length cells = omega (arith, index_in_below (bounds_of t tile) p h, of_cells.size) in
-            let code : get_or cells (index_in (bounds_of t tile) p) None ≡ code_at (make_directed t.cols t.rows codes) p =
-            of_cells.each (index_in (bounds_of t tile) p) (index_in_below (bounds_of t tile) p h) ∙ ap (code_at (make_directed t.cols t.rows codes)) (place_in-index_in (bounds_of t tile) p h) in
-            get_or-map-range_with_len (λ i. where_data (get_or cells i None) (get_or came i 0 + get_or weights i 0 - 1)) 0 (length cells) (index_in (bounds_of t tile) p) (index_in (bounds_of t tile) p) None in_cells (omega arith)
-            ∙ ap (λ o. where_data o (get_or came (index_in (bounds_of t tile) p) 0 + get_or weights (index_in (bounds_of t tile) p) 0 - 1)) code
-
-        count_is : (p : Place) → IsInBounds (bounds_of t tile) p → IsCoded (make_directed t.cols t.rows codes) p →
-            get_or came (index_in (bounds_of t tile) p) 0 + get_or weights (index_in (bounds_of t tile) p) 0 - 1 ≡ accumulation (make_directed t.cols t.rows codes) p
-        count_is p h is =
-            let at = place_in-index_in (bounds_of t tile) p h in
-            let there : index_in (bounds_of t tile) p < length links = omega (arith, index_in_below (bounds_of t tile) p h, of_cells.size, same_sizes) in
-            let all = accumulates (make_directed t.cols t.rows codes) ending t tile (bounds_of t tile) links piece_of weights weights_are (index_in (bounds_of t tile) p) there
-            (subst (λ (q : Place). IsCoded (make_directed t.cols t.rows codes) q) (sym at) is) in
-            omega (arith, up.each (index_in (bounds_of t tile) p) there, all, ap (accumulation (make_directed t.cols t.rows codes)) at)
-
-        pub tile_counted : IsTileMapOf (make_directed t.cols t.rows codes) t tile (accumulation (make_directed t.cols t.rows codes)) (counts_by cells weights came)
-        tile_counted = record {
-          size = length-map-range_with_len (λ i. where_data (get_or cells i None) (get_or came i 0 + get_or weights i 0 - 1)) 0 (length cells) ∙ of_cells.size;
-          each = λ p i.
-              let h = in_bounds t tile p s.cutting i in
-              let entry = tile_entry-in t tile (counts_by cells weights came) p i ∙ entry_is p h in
-              elim (cases_coded (make_directed t.cols t.rows codes) p) [
-                | inl none ↦ match_none (code_at (make_directed t.cols t.rows codes) p) _ _ none
-                    (entry ∙ ap (λ o. where_data o (get_or came (index_in (bounds_of t tile) p) 0 + get_or weights (index_in (bounds_of t tile) p) 0 - 1)) none)
-                | inr is ↦ match_some (code_at (make_directed t.cols t.rows codes) p) _ _ is.code is.is
-                    (entry ∙ ap (λ o. where_data o (get_or came (index_in (bounds_of t tile) p) 0 + get_or weights (index_in (bounds_of t tile) p) 0 - 1)) is.is ∙ ap Some (count_is p h is))
-              ];
+            totals_few (links_by f.bounds f.codes) made weights (subst (λ (x : Cutting). AreRimWeights inflows (bounds_of x tile) f.codes weights) s.are_inflows.cutting weighed) i
+                (omega (arith, h, same_sizes (links_by f.bounds f.codes) made)),
+          );
         }
+
+    -- the same of what a job has
+    pub tile_summed : (weights : List ℕ) → AreRimWeights inflows (bounds_of inflows.cutting tile) f.codes weights → (came : List ℕ) → AreUpstream (links_by f.bounds f.codes) weights came →
+        IsTileMapOf (make_directed t.cols t.rows codes) t tile (accumulation (make_directed t.cols t.rows codes)) (counts_by f.codes weights came)
+    tile_summed weights weighed came up =
+        tile_counted (links_by f.bounds f.codes) (ap (λ (b : Bounds). links_by b f.codes) right.bounds) weights
+        (subst (λ (x : Cutting). AreRimWeights inflows (bounds_of x tile) f.codes weights) s.are_inflows.cutting weighed) came up
+
+  pub countable_all : AreCountable t flows inflows
+  countable_all = record { same_cutting = s.are_inflows.cutting; count = s.are_flows.of_tiles.count; each = countable }

@@ -2,14 +2,22 @@
 use Rattle.std.proofs.Common.{◌≡◌, true, inl, inr, List, Option, None, sym, ap, ◌∙◌}
 use Rattle.std.proofs.lemmas.Bool.{cases_Bool, and_from, and_parts, lt-ltb, ltb-true, cond-true, cond-false}
 use Rattle.ascii_grid.specs.declared.place.Place.{Place}
-use Rattle.tiles.specs.Cutting.{Cutting, IsWithin, is_within}
+use Rattle.tiles.specs.Cutting.{Cutting, IsCutting, IsWithin, is_within}
 use Rattle.drain.specs.Following.{Directed}
-use Rattle.flow.specs.TileFlow.{Flow}
+use Rattle.drain.specs.Drained.{AllFlowEnds}
+use Rattle.flow.specs.TileFlow.{Flow, AreTileFlows, AreTileCounts}
 use Rattle.flow.specs.RimGraph.{AreFlowsOf, Outlets, AreOutlets, outlet_by}
 use Rattle.flow.specs.Inflows.{Inflows, AreInflows, inflow_by}
 use Rattle.flow.specs.Links.{AreLinks}
 use Rattle.flow.proofs.Coded.{coded_from_some}
 use Rattle.flow.proofs.RimFlows.{within_of}
+
+pub flows_from : (d : Directed) (t : Cutting) (flows : List Flow) → IsCutting t → AllFlowEnds d → AreTileFlows d t flows → AreFlowsOf d t flows
+flows_from d t flows cutting ends are =
+    record { cutting = cutting; ends = ends; of_tiles = record { size = are.size; count = are.count; each = λ tile f there. (are.each tile f there).exits } }
+
+pub counts_from : (d : Directed) (t : Cutting) (flows : List Flow) → AreTileFlows d t flows → AreTileCounts d t flows
+counts_from d t flows are = record { each = λ tile f there. (are.each tile f there).counts }
 
 pub links_are : (d : Directed) (t : Cutting) (flows : List Flow) → AreFlowsOf d t flows → (i : Inflows) (o : Outlets) → i.cutting ≡ t → o.cutting ≡ t → AreInflows d t i → AreOutlets d t o →
     AreLinks d t (record { cutting = o.cutting; flows = o.flows; inflows = i.listed; outlets = o.listed })

@@ -1,8 +1,9 @@
 -- What the lists of a tile's flow have at an index, and the labels of its exits.
-use Rattle.std.proofs.Common.{◌≡◌, ◌≢◌, ℕ, ◌<◌, List, length, get_or, Option, None, Some, IfSome, sym, ap, subst, refl, ◌∙◌, arith}
+use Rattle.std.proofs.Common.{◌≡◌, ◌≢◌, ℕ, ◌<◌, ◌≤◌, List, length, get_or, Option, None, Some, IfSome, sym, ap, subst, refl, ◌∙◌, arith}
 use Rattle.std.specs.Option.{option_map}
 use Rattle.std.proofs.lemmas.Bool.{cond-true, cond-false, eq-eqb, ne_eqb}
 use Rattle.std.proofs.lemmas.Option.{none-some, same_Some}
+use Rattle.std.proofs.lemmas.List.{get_or_past}
 use Rattle.std.proofs.lemmas.List.FromFn.{get_or-map-range_with_len, length-map-range_with_len}
 use Rattle.ascii_grid.specs.declared.place.Place.{Place}
 use Rattle.tiles.specs.declared.bounds.Bounds.{Bounds}
@@ -11,11 +12,12 @@ use Rattle.flow.specs.TileLinks.{place_in, index_in, where_data, through_by, exi
 use Rattle.flow.specs.RimGraph.{Outlets, outlet_in}
 use Rattle.flow.specs.Numbering.{IsExitOfTile, number_at, label_by, label_at}
 
-pub through_size : (cells : List (Option ℕ)) (came : List ℕ) → length (through_by cells came) ≡ length cells
-through_size cells came = length-map-range_with_len (λ i. where_data (get_or cells i None) (get_or came i 0)) 0 (length cells)
+pub through_at : (cells : List (Option ℕ)) (came : List ℕ) (i : ℕ) → i < length came → get_or (through_by cells came) i None ≡ where_data (get_or cells i None) (get_or came i 0)
+through_at cells came i h = get_or-map-range_with_len (λ i. where_data (get_or cells i None) (get_or came i 0)) 0 (length came) i i None h (omega arith)
 
-pub through_at : (cells : List (Option ℕ)) (came : List ℕ) (i : ℕ) → i < length cells → get_or (through_by cells came) i None ≡ where_data (get_or cells i None) (get_or came i 0)
-through_at cells came i h = get_or-map-range_with_len (λ i. where_data (get_or cells i None) (get_or came i 0)) 0 (length cells) i i None h (omega arith)
+pub through_past : (cells : List (Option ℕ)) (came : List ℕ) (i : ℕ) → length came ≤ i → get_or (through_by cells came) i None ≡ None
+through_past cells came i past =
+    get_or_past (through_by cells came) i None (omega (arith, past, length-map-range_with_len (λ i. where_data (get_or cells i None) (get_or came i 0)) 0 (length came)))
 
 pub exits_size : (b : Bounds) (cells : List (Option ℕ)) (ends : List ℕ) → length (exits_by b cells ends) ≡ length cells
 exits_size b cells ends = length-map-range_with_len (λ i. where_data (get_or cells i None) (place_in b (get_or ends i 0))) 0 (length cells)

@@ -13,7 +13,7 @@ use Rattle.tiles.proofs.Cut.{in_bounds}
 use Rattle.tiles.proofs.TileOrder.{place_in_tile, index_in-place_in, index_in_below, tile_entry-in}
 use Rattle.drain.specs.Following.{Directed, code_at, last_of}
 use Rattle.flow.specs.Counts.{basin}
-use Rattle.flow.specs.TileFlow.{Flow, entry_in, exit_in, IsTileFlow, IsExitOf, IsExitCell}
+use Rattle.flow.specs.TileFlow.{Flow, entry_in, exit_in, IsTileExits, IsExitOf, IsExitCell}
 use Rattle.flow.specs.TileLinks.{place_in, index_in}
 use Rattle.flow.specs.Whole.{is_outlet_code}
 use Rattle.flow.specs.RimGraph.{Outlets, outlet_in}
@@ -41,7 +41,7 @@ module _ (d : Directed) (t : Cutting) (flows : List Flow) (o : Outlets) (codes :
       subst (λ (x : Option Place). IfSome x (λ q. index_of o.cutting.cols q < length codes)) (sym (s.are_outlets.outlets e cell)) below
 
   module _ (tile : ℕ) (f : Flow) (there : slice_get flows tile ≡ Some f) where
-    right : IsTileFlow d t tile f
+    right : IsTileExits d t tile f
     right = s.are_flows.of_tiles.each tile f there
 
     tile_below : tile < tile_count t
@@ -66,11 +66,11 @@ module _ (d : Directed) (t : Cutting) (flows : List Flow) (o : Outlets) (codes :
     has_exit : (p : Place) → IsInTile t tile p → IsCoded d p → Has p
     has_exit p i is =
         let m = from_some (code_at d p) _ _ is.code is.is (right.each p i) in
-        let x = exit_in_tile d t flows s.are_flows p m.1 is m.3 in
-        record { exit = m.1; listed = exit_entry p i ∙ m.2; leads = m.3; coded = x.0; inside = (within_of d t flows s.are_flows m.1 x.0, x.1 ∙ i.1) }
+        let x = exit_in_tile d t flows s.are_flows p m.0 is m.2 in
+        record { exit = m.0; listed = exit_entry p i ∙ m.1; leads = m.2; coded = x.0; inside = (within_of d t flows s.are_flows m.0 x.0, x.1 ∙ i.1) }
 
     no_exit : (p : Place) → IsInTile t tile p → code_at d p ≡ None → get_or f.exits (index_in (bounds_of t tile) p) None ≡ None
-    no_exit p i none = exit_entry p i ∙ (from_none (code_at d p) _ _ none (right.each p i)).1
+    no_exit p i none = exit_entry p i ∙ from_none (code_at d p) _ _ none (right.each p i)
 
     exit_cell : (p : Place) (h : Has p) → IsExitCell d t h.exit
     exit_cell p h = (h.leads).4

@@ -7,13 +7,13 @@ use Rattle.std.proofs.lemmas.List.{get_or-map}
 use Rattle.std.proofs.lemmas.List.FromFn.{get_or-map-range_with_len, length-map-range_with_len}
 use Rattle.ascii_grid.specs.declared.place.Place.{Place}
 use Rattle.tiles.specs.declared.bounds.Bounds.{Bounds}
-use Rattle.tiles.specs.Cutting.{View, IsView, AreBounds, IsInBounds, bounds_of}
-use Rattle.tiles.proofs.Cut.{places_from_value}
-use Rattle.tiles.proofs.TileOrder.{index_in_below, place_in-index_in}
+use Rattle.tiles.specs.Cutting.{Cutting, IsCutting, View, IsView, AreBounds, IsInBounds, bounds_of, tile_count}
+use Rattle.tiles.proofs.Cut.{places_from_value, in_bounds, bounds_inside}
+use Rattle.tiles.proofs.TileOrder.{place_in_tile, index_in-place_in, index_in_below, place_in-index_in}
 use Rattle.drain.specs.Following.{Directed, code_at}
 use Rattle.drain.specs.Drained.{AllFlowEnds}
 use Rattle.flow.specs.Streams.{AreStreams, AreUpstream, AreEnds, share, total}
-use Rattle.flow.specs.TileFlow.{directed_by, entry_in, through_of, IsExitOf, IsFlow, IsTileFlow}
+use Rattle.flow.specs.TileFlow.{Flow, directed_by, entry_in, through_in, through_of, IsExitOf, IsFlow, IsTileExits, IsTileCounts}
 use Rattle.flow.specs.TileLinks.{place_in, index_in, link_by, AreTileCodes, AreTileLinks, AreTileWeights, IsSmall, links_by, weights_by, where_data, through_by, exits_by, flow_by, AreFlowLists}
 use Rattle.flow.proofs.Sums.{sum_below-few}
 use Rattle.flow.proofs.Ending.{end-inside}
@@ -125,7 +125,7 @@ module _ (v : View (Option ℕ)) (b : Bounds) (cells : List (Option ℕ)) (links
     pub through_is : (p : Place) → IsInBounds b p → entry_in b (through_by cells came) p ≡ where_data (code_at (directed_by v) p) (get_or came (index_in b p) 0)
     through_is p h =
         entry_is (through_by cells came) p h
-        ∙ get_or-map-range_with_len (λ i. where_data (get_or cells i None) (get_or came i 0)) 0 (length cells) (index_in b p) (index_in b p) None (in_cells p h) (omega arith)
+        ∙ get_or-map-range_with_len (λ i. where_data (get_or cells i None) (get_or came i 0)) 0 (length came) (index_in b p) (index_in b p) None (omega (arith, in_cells p h, came_size)) (omega arith)
         ∙ ap (λ o. where_data o (get_or came (index_in b p) 0)) (code_is p h)
 
     pub count_of : (p : Place) → IsInBounds b p → IsCoded (directed_by v) p → get_or came (index_in b p) 0 ≡ through_of (directed_by v) v.cutting p
@@ -160,38 +160,86 @@ module _ (v : View (Option ℕ)) (b : Bounds) (cells : List (Option ℕ)) (links
         subst (λ (q : Place). IsExitOf (directed_by v) v.cutting q (place_in b (get_or ends (index_in b p) 0))) at
         (subst (λ n. IsExitOf (directed_by v) v.cutting (place_in b (index_in b p)) (place_in b n)) (sym (last.each (index_in b p) i)) e)
 
-  module _ (came ends : List ℕ) (up : AreUpstream links weights came) (last : AreEnds links ends) where
-    pub flow_lawful : IsFlow (flow_by b cells came ends)
-    flow_lawful =
+    pub flow_lawful : (came : List ℕ) → IsFlow (flow_by b cells came ends)
+    flow_lawful came =
         let small = small_from v b s.inside s.lawful in
         record {
           some_col = small.some_col;
           few_rows = small.few_rows;
           few_cols = small.few_cols;
           codes_size = s.codes.size;
-          through_size = length-map-range_with_len (λ i. where_data (get_or cells i None) (get_or came i 0)) 0 (length cells) ∙ s.codes.size;
           exits_size = length-map-range_with_len (λ i. where_data (get_or cells i None) (place_in b (get_or ends i 0))) 0 (length cells) ∙ s.codes.size;
         }
 
-    pub lists_are : AreFlowLists b cells came ends
-    lists_are = record { lawful = flow_lawful; came_size = came_size came up; ends_size = ends_size ends last; inside = ends_inside ends last }
+    pub lists_are : (came : List ℕ) → AreFlowLists b cells links came ends
+    lists_are came = record { lawful = flow_lawful came; linked = s.made; ends_size = ends_size; inside = ends_inside }
 
-    pub flow_is : IsTileFlow (directed_by v) v.cutting v.tile (flow_by b cells came ends)
-    flow_is = record {
+    pub exits_are : (came : List ℕ) → IsTileExits (directed_by v) v.cutting v.tile (flow_by b cells came ends)
+    exits_are came = record {
       bounds = s.bounds;
-      lawful = flow_lawful;
+      lawful = flow_lawful came;
       same_codes = λ p i. (let h = (piece.places p).0 i in entry_is cells p h ∙ code_is p h);
       each = λ p i. (let h = (piece.places p).0 i in
           elim (cases_coded (directed_by v) p) [
-            | inl none ↦ match_none (code_at (directed_by v) p) _ _ none (
-              through_is came up p h ∙ ap (λ o. where_data o (get_or came (index_in b p) 0)) none,
-              exit_entry ends last p h ∙ ap (λ o. where_data o (place_in b (get_or ends (index_in b p) 0))) none,
-            )
+            | inl none ↦ match_none (code_at (directed_by v) p) _ _ none (exit_entry p h ∙ ap (λ o. where_data o (place_in b (get_or ends (index_in b p) 0))) none)
             | inr is ↦ match_some (code_at (directed_by v) p) _ _ is.code is.is (
-              through_is came up p h ∙ ap (λ o. where_data o (get_or came (index_in b p) 0)) is.is ∙ ap Some (count_of came up p h is),
               place_in b (get_or ends (index_in b p) 0),
-              exit_entry ends last p h ∙ ap (λ o. where_data o (place_in b (get_or ends (index_in b p) 0))) is.is,
-              exit_of ends last p h is,
+              exit_entry p h ∙ ap (λ o. where_data o (place_in b (get_or ends (index_in b p) 0))) is.is,
+              exit_of p h is,
             )
           ]);
     }
+
+  pub counts_are : (came : List ℕ) → AreUpstream links weights came → (f : Flow) → f.bounds ≡ b → f.through ≡ through_by cells came → IsTileCounts (directed_by v) v.cutting v.tile f
+  counts_are came up f same through = record {
+    size = ap length through ∙ length-map-range_with_len (λ i. where_data (get_or cells i None) (get_or came i 0)) 0 (length came) ∙ came_size came up ∙ s.codes.size ∙ sym (ap (λ (z : Bounds). z.rows * z.cols) same);
+    each = λ p i. (let h = (piece.places p).0 i in
+        let entry : through_in f p ≡ entry_in b (through_by cells came) p = ap (λ (z : Bounds). entry_in z f.through p) same ∙ ap (λ (l : List (Option ℕ)). entry_in b l p) through in
+        elim (cases_coded (directed_by v) p) [
+          | inl none ↦ match_none (code_at (directed_by v) p) _ _ none (entry ∙ through_is came up p h ∙ ap (λ o. where_data o (get_or came (index_in b p) 0)) none)
+          | inr is ↦ match_some (code_at (directed_by v) p) _ _ is.code is.is
+              (entry ∙ through_is came up p h ∙ ap (λ o. where_data o (get_or came (index_in b p) 0)) is.is ∙ ap Some (count_of came up p h is))
+        ]);
+  }
+
+-- the codes of a tile's flow
+pub codes_from : (d : Directed) (t : Cutting) (tile : ℕ) (f : Flow) → IsCutting t → tile < tile_count t → IsTileExits d t tile f → AreTileCodes d (bounds_of t tile) f.codes
+codes_from d t tile f cutting below right = record {
+  size = right.lawful.codes_size ∙ ap (λ (b : Bounds). b.rows * b.cols) right.bounds;
+  each = λ i h.
+      let inside = place_in_tile t tile i cutting below h in
+      let entry : entry_in f.bounds f.codes (place_in (bounds_of t tile) i) ≡ get_or f.codes i None =
+      ap (λ (b : Bounds). entry_in b f.codes (place_in (bounds_of t tile) i)) right.bounds
+      ∙ cond-true {A = Option ℕ} _ _ _ (test_from_bounds (bounds_of t tile) (place_in (bounds_of t tile) i) (in_bounds t tile (place_in (bounds_of t tile) i) cutting inside))
+      ∙ ap (λ n. get_or f.codes n None) (index_in-place_in (bounds_of t tile) i) in
+      sym entry ∙ right.same_codes (place_in (bounds_of t tile) i) inside;
+}
+
+-- the lists of the flow of a tile
+pub lists_of : (v : View (Option ℕ)) (f : Flow) (links : List ℕ) → AllFlowEnds (directed_by v) → IsView v → IsTileExits (directed_by v) v.cutting v.tile f → links ≡ links_by f.bounds f.codes →
+    AreLists v f.bounds f.codes links (weights_by f.codes)
+lists_of v f links ends lawful right made = record {
+  ends = ends;
+  bounds = right.bounds;
+  inside = subst (λ (z : Bounds). AreBounds v.cutting z) (sym right.bounds) (bounds_inside v.cutting v.tile lawful.cutting lawful.tile);
+  lawful = lawful;
+  codes = subst (λ (z : Bounds). AreTileCodes (directed_by v) z f.codes) (sym right.bounds) (codes_from (directed_by v) v.cutting v.tile f lawful.cutting lawful.tile right);
+  made = made;
+  weighed = refl;
+}
+
+-- the exits of a flow are the same with other counts
+pub exits_kept : (d : Directed) (t : Cutting) (tile : ℕ) (f : Flow) (through : List (Option ℕ)) → IsTileExits d t tile f →
+    IsTileExits d t tile (record { bounds = f.bounds; codes = f.codes; through = through; exits = f.exits })
+exits_kept d t tile f through right = record {
+  bounds = right.bounds;
+  lawful = record {
+    some_col = right.lawful.some_col;
+    few_rows = right.lawful.few_rows;
+    few_cols = right.lawful.few_cols;
+    codes_size = right.lawful.codes_size;
+    exits_size = right.lawful.exits_size;
+  };
+  same_codes = right.same_codes;
+  each = right.each;
+}

@@ -14,7 +14,7 @@ use Rattle.tiles.proofs.Members.{Touches-from_ways}
 use Rattle.drain.specs.Following.{Directed, code_at, next, follow, moves, last_of, IsOutlet}
 use Rattle.flow.specs.Counts.{is_place}
 use Rattle.flow.specs.Streams.{AreStreams, AreEnds, onward, node_after, end_of}
-use Rattle.flow.specs.TileFlow.{Flow, is_in_bounds, entry_in, exit_in, IsTileFlow, IsExitOf, IsExitCell}
+use Rattle.flow.specs.TileFlow.{Flow, is_in_bounds, entry_in, exit_in, IsTileExits, IsExitOf, IsExitCell}
 use Rattle.flow.specs.Whole.{is_outlet_code}
 use Rattle.flow.specs.RimNumbers.{number_count, rim_number, rim_place}
 use Rattle.flow.specs.RimGraph.{code_in, AreFlowsOf, next_by, exit_by, target_by, way_out_in, way_out_by, number_or, rim_link, rim_links_by, rim_outlet, rim_outlets_by, outlet_by, AreOutlets}
@@ -98,7 +98,7 @@ module _ (d : Directed) (t : Cutting) (flows : List Flow) (s : AreFlowsOf d t fl
   pub record HasFlow (p : Place) : Type 0 where
     pub flow : Flow
     pub is : slice_get flows (tile_of_place t p) ≡ Some flow
-    pub right : IsTileFlow d t (tile_of_place t p) flow
+    pub right : IsTileExits d t (tile_of_place t p) flow
 
   pub flow_of : (p : Place) → IsWithin t p → HasFlow p
   flow_of p w = elim (slice_get_cases flows (tile_of_place t p)).1 [
@@ -248,15 +248,15 @@ module _ (d : Directed) (t : Cutting) (flows : List Flow) (s : AreFlowsOf d t fl
       let w = within_of q is in
       let f = flow_of q w in
       let m = from_some (code_at d q) _ _ is.code is.is (f.right.each q (w, refl)) in
-      let x = exit_in_tile q m.1 is m.3 in
-      let same : entry_in f.flow.bounds f.flow.codes m.1 ≡ code_at d m.1 = f.right.same_codes m.1 (within_of m.1 x.0, x.1) in (
-        m.1,
+      let x = exit_in_tile q m.0 is m.2 in
+      let same : entry_in f.flow.bounds f.flow.codes m.0 ≡ code_at d m.0 = f.right.same_codes m.0 (within_of m.0 x.0, x.1) in (
+        m.0,
         record {
-          exit = ap (λ (o : Option Flow). option_and_then (λ (z : Flow). exit_in z q) o) f.is ∙ m.2;
-          leads = m.3;
+          exit = ap (λ (o : Option Flow). option_and_then (λ (z : Flow). exit_in z q) o) f.is ∙ m.1;
+          leads = m.2;
           out = ap (λ (o : Option Flow). option_and_then (λ (z : Flow). way_out_in z q) o) f.is
-              ∙ ap (λ (o : Option Place). option_and_then (λ (e : Place). cond {A = Option Place} (is_outlet_code (entry_in f.flow.bounds f.flow.codes e)) None (Some e)) o) m.2
-              ∙ ap (λ (o : Option ℕ). cond {A = Option Place} (is_outlet_code o) None (Some m.1)) same;
+              ∙ ap (λ (o : Option Place). option_and_then (λ (e : Place). cond {A = Option Place} (is_outlet_code (entry_in f.flow.bounds f.flow.codes e)) None (Some e)) o) m.1
+              ∙ ap (λ (o : Option ℕ). cond {A = Option Place} (is_outlet_code o) None (Some m.0)) same;
         },
       )
 
@@ -285,7 +285,7 @@ module _ (d : Directed) (t : Cutting) (flows : List Flow) (s : AreFlowsOf d t fl
     | inl none ↦ (let f = flow_of q w in
         let m = from_none (code_at d q) _ _ none (f.right.each q (w, refl)) in
         absurd (none-some e (sym (ap (λ (o : Option Flow). option_and_then (λ (z : Flow). way_out_in z q) o) f.is
-        ∙ ap (λ (o : Option Place). option_and_then (λ (e : Place). cond {A = Option Place} (is_outlet_code (entry_in f.flow.bounds f.flow.codes e)) None (Some e)) o) m.1) ∙ x)))
+        ∙ ap (λ (o : Option Place). option_and_then (λ (e : Place). cond {A = Option Place} (is_outlet_code (entry_in f.flow.bounds f.flow.codes e)) None (Some e)) o) m) ∙ x)))
   ]
 
   -- what a number is linked to

@@ -9,7 +9,7 @@ use Rattle.tiles.proofs.Cut.{in_bounds, in_tile, tile_of_place_below}
 use Rattle.drain.specs.Following.{Directed, code_at, next, follow, moves}
 use Rattle.flow.specs.Counts.{is_place, drains_through}
 use Rattle.flow.specs.Streams.{AreUpstream, sum_below}
-use Rattle.flow.specs.TileFlow.{Flow, inflow_of}
+use Rattle.flow.specs.TileFlow.{Flow, AreTileCounts, inflow_of}
 use Rattle.flow.specs.RimNumbers.{number_count, rim_number, rim_place}
 use Rattle.flow.specs.RimGraph.{AreFlowsOf, target_by, rim_links_by}
 use Rattle.flow.specs.Inflows.{rim_weights_by, sent_to, entering, AreEntering, inflow_by, AreInflows}
@@ -39,7 +39,7 @@ sent-sum t k (Some q) f n = elim (cases_Bool (eqb (rim_number t q) k)) [
   | inr x ↦ cond-false {A = ℕ} _ (sum_below f n) 0 x ∙ sym (sum_below-none (λ c. cond {A = ℕ} (eqb (rim_number t q) k) (f c) 0) n (λ c h. cond-false {A = ℕ} _ (f c) 0 x))
 ]
 
-module _ (d : Directed) (t : Cutting) (flows : List Flow) (s : AreFlowsOf d t flows) where
+module _ (d : Directed) (t : Cutting) (flows : List Flow) (s : AreFlowsOf d t flows) (counts : AreTileCounts d t flows) where
   -- a place that water enters lies on the rim
   entry_side : (p : Place) → Crosses d t flows s p → IsSide (bounds_of t (tile_of_place t (next d p))) (next d p)
   entry_side p c a b e =
@@ -85,14 +85,14 @@ module _ (d : Directed) (t : Cutting) (flows : List Flow) (s : AreFlowsOf d t fl
       list_any (enters d t p q) (range_with_len 0 (moves d - 1)) ≡ true
   enters_at p q is k c leads =
       any_in_range (enters d t p q) (moves d - 1) k
-      (early_move d (ending d t flows s) q is k (λ e. c.apart (ap (tile_of_place t) e)))
+      (early_move d (ending d t flows s counts) q is k (λ e. c.apart (ap (tile_of_place t) e)))
       (and_from _ _ (place_test p (follow d q (k + 1)) (sym leads ∙ sym (follow-one q k)))
       (not_from_false _ (ne_eqb _ _ (λ e. c.apart (ap (tile_of_place t) leads ∙ sym e)))))
 
   -- it does so from one cell alone
   enters_later : (p q : Place) → IsCoded d q → (a b : ℕ) → a < b → next d (follow d q a) ≡ p → Crosses d t flows s (follow d q b) → next d (follow d q b) ≡ p → ⊥
   enters_later p q is a b lt first c second =
-      let stop = again_stops d (ending d t flows s) q is (suc a) (suc b) (omega arith) (first ∙ sym second) in
+      let stop = again_stops d (ending d t flows s counts) q is (suc a) (suc b) (omega arith) (first ∙ sym second) in
       let there : follow d q b ≡ follow d q (suc a) = follow_stays d q (suc a) b (omega arith) stop in
       c.apart (ap (tile_of_place t) (second ∙ sym first ∙ sym there))
 
@@ -147,7 +147,7 @@ module _ (d : Directed) (t : Cutting) (flows : List Flow) (s : AreFlowsOf d t fl
                 | inr l ↦ elim (cases_Bool (drains_through d (rim_place t i) (cell d c))) [
                   | inr n ↦ ap (sent_to t (rim_number t p) (target_by t flows i)) (drained_off d (rim_place t i) (cell d c) n) ∙ sent-none t (rim_number t p) (target_by t flows i)
                   | inl through ↦
-                      let m = drains_from d t flows s (cell d c) (rim_place t i) through in
+                      let m = drains_from d t flows s counts (cell d c) (rim_place t i) through in
                       let same = enters_once p (cell d c) is m.0 x.steps (subst (λ (z : Place). Crosses d t flows s z) (sym m.1) l.crosses) (ap (next d) m.1 ∙ l.leads) x.crosses x.leads in
                       absurd (ne (sym l.number ∙ ap (rim_number t) (sym m.1 ∙ same)))
                 ]
@@ -155,7 +155,7 @@ module _ (d : Directed) (t : Cutting) (flows : List Flow) (s : AreFlowsOf d t fl
               ∙ ap (λ (o : Option Place). sent_to t (rim_number t p) o (drained d (rim_place t (rim_number t (follow d (cell d c) x.steps))) (cell d c))) (target_on d t flows s (follow d (cell d c) x.steps) x.crosses)
               ∙ cond-true {A = ℕ} _ (drained d (rim_place t (rim_number t (follow d (cell d c) x.steps))) (cell d c)) 0 (eq-eqb _ _ (ap (rim_number t) x.leads))
               ∙ ap (λ z. drained d z (cell d c)) (back d t flows s (follow d (cell d c) x.steps) x.crosses)
-              ∙ drained_on d (follow d (cell d c) x.steps) (cell d c) is (drains_at d t flows s (cell d c) (follow d (cell d c) x.steps) is x.steps refl)
+              ∙ drained_on d (follow d (cell d c) x.steps) (cell d c) is (drains_at d t flows s counts (cell d c) (follow d (cell d c) x.steps) is x.steps refl)
               ∙ sym (cond-true {A = ℕ} _ 1 0 (and_from _ _ some y))
           | inr n ↦
               sum_below-none (piece p c) (number_count t) (λ i h. elim (cases_lead p on i) [
@@ -163,7 +163,7 @@ module _ (d : Directed) (t : Cutting) (flows : List Flow) (s : AreFlowsOf d t fl
                 | inr l ↦ elim (cases_Bool (drains_through d (rim_place t i) (cell d c))) [
                   | inr off ↦ ap (sent_to t (rim_number t p) (target_by t flows i)) (drained_off d (rim_place t i) (cell d c) off) ∙ sent-none t (rim_number t p) (target_by t flows i)
                   | inl through ↦
-                      let m = drains_from d t flows s (cell d c) (rim_place t i) through in
+                      let m = drains_from d t flows s counts (cell d c) (rim_place t i) through in
                       absurd (false≢true (sym n ∙ enters_at p (cell d c) is m.0 (subst (λ (z : Place). Crosses d t flows s z) (sym m.1) l.crosses) (ap (next d) m.1 ∙ l.leads)))
                 ]
               ])
@@ -189,7 +189,7 @@ module _ (d : Directed) (t : Cutting) (flows : List Flow) (s : AreFlowsOf d t fl
         let at = up.each i (omega (arith, h, links_size d t flows s links made)) in
         elim (cases_target (target_by t flows i)) [
           | inl none ↦ ap (λ (o : Option Place). sent_to t k o (get_or came i 0 + get_or weights i 0)) none ∙ sym (ap (λ (o : Option Place). sent_to t k o (all_drained d (rim_place t i))) none)
-          | inr q ↦ ap (sent_to t k (target_by t flows i)) (at ∙ total_is d t flows s links made weights weighed i q.0 h q.1)
+          | inr q ↦ ap (sent_to t k (target_by t flows i)) (at ∙ total_is d t flows s counts links made weights weighed i q.0 h q.1)
         ]
 
     -- all that enters at a place on the rim
@@ -205,7 +205,7 @@ module _ (d : Directed) (t : Cutting) (flows : List Flow) (s : AreFlowsOf d t fl
         let p = rim_place t k in
         elim (cases_eq (rim_number t (rim_place t k)) k) [
           | inl e ↦
-              let most : d.rows * d.cols ≤ 4096 * 4096 = mul-le-mul (ending d t flows s).few_rows (ending d t flows s).few_cols in
+              let most : d.rows * d.cols ≤ 4096 * 4096 = mul-le-mul (ending d t flows s counts).few_rows (ending d t flows s counts).few_cols in
               let same = ap (λ n. sum_below (entering t flows weights came n) (number_count t)) (sym e) in
               omega (arith, same, entering_is (rim_place t k) (ap (rim_place t) e), sum_below-few (λ c. entered d t (rim_place t k) (cell d c)) (d.rows * d.cols) (λ c h. entered_le d t (rim_place t k) (cell d c)))
           | inr ne ↦

@@ -9,7 +9,7 @@ use Rattle.tiles.specs.Cutting.{Cutting, tile_of_place}
 use Rattle.drain.specs.Following.{Directed, code_at, next, follow, moves}
 use Rattle.flow.specs.Counts.{is_place, drains_through}
 use Rattle.flow.specs.Streams.{onward, node_after, sum_below, share, total}
-use Rattle.flow.specs.TileFlow.{Flow, stays, reaches_inside, IsExitOf, through_in}
+use Rattle.flow.specs.TileFlow.{Flow, AreTileCounts, stays, reaches_inside, IsExitOf, through_in}
 use Rattle.flow.specs.RimNumbers.{number_count, rim_number, rim_place}
 use Rattle.flow.specs.RimGraph.{AreFlowsOf, target_by, way_out_by, number_or, rim_links_by}
 use Rattle.flow.specs.Inflows.{rim_weight, rim_weights_by, weight_or, through_by}
@@ -25,7 +25,7 @@ use Rattle.flow.proofs.RimFlows.{Crosses, cases_target, from_some, flow_of, with
 use Rattle.flow.proofs.Reaching.{IsEnding, reached_early}
 use Rattle.flow.proofs.Gathering.{cell, drained, all_drained, drained_on, drained_off, drained_none, gathered, all_gathered, gathered_on, gathered_off, gathered_none, through_is, drained_few, gathered_few}
 
-module _ (d : Directed) (t : Cutting) (flows : List Flow) (s : AreFlowsOf d t flows) where
+module _ (d : Directed) (t : Cutting) (flows : List Flow) (s : AreFlowsOf d t flows) (counts : AreTileCounts d t flows) where
   pub ending : IsEnding d
   ending = record {
     ends = s.ends;
@@ -65,10 +65,10 @@ module _ (d : Directed) (t : Cutting) (flows : List Flow) (s : AreFlowsOf d t fl
       let x = (target_from d t flows s j q e).crosses in
       let w = within_of d t flows s (rim_place t j) x.coded in
       let f = flow_of d t flows s (rim_place t j) w in
-      let entry = from_some (code_at d (rim_place t j)) _ _ x.coded.code x.coded.is (f.right.each (rim_place t j) (w, refl)) in
+      let entry = from_some (code_at d (rim_place t j)) _ _ x.coded.code x.coded.is ((counts.each (tile_of_place t (rim_place t j)) f.flow f.is).each (rim_place t j) (w, refl)) in
       ap (weight_or (through_by t flows (rim_place t j))) e
       ∙ ap (λ (o : Option Flow). unwrap_or (option_and_then (λ (z : Flow). through_in z (rim_place t j)) o) 0 + 1) f.is
-      ∙ ap (λ (o : Option ℕ). unwrap_or o 0 + 1) entry.0
+      ∙ ap (λ (o : Option ℕ). unwrap_or o 0 + 1) entry
       ∙ sym (through_is d ending t (rim_place t j) x.coded)
 
   pub weight_untargeted : (j : ℕ) → target_by t flows j ≡ None → rim_weight t flows j ≡ 0

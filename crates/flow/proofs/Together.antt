@@ -10,7 +10,7 @@ use Rattle.tiles.proofs.PutBack.{entry_at-put_back}
 use Rattle.drain.specs.Following.{Directed, code_at}
 use Rattle.drain.specs.Drained.{AllFlowEnds}
 use Rattle.flow.specs.Counts.{IsMapOf}
-use Rattle.flow.specs.TileFlow.{Flow, IsTileFlow, directed_by}
+use Rattle.flow.specs.TileFlow.{Flow, IsTileExits, IsTileCounts, AreTileCounts, IsTileFlow, directed_by}
 use Rattle.flow.specs.RimGraph.{AreFlowsOf}
 use Rattle.flow.specs.Whole.{make_directed}
 use Rattle.flow.specs.TileMaps.{IsTileMapOf, AreTileMapsOf}
@@ -23,21 +23,31 @@ both_ok (Err e) P Q R f a b = a
 pub directed_of_view : (t : Cutting) (job : ℕ) (v : View (Option ℕ)) (codes : List (Option ℕ)) → v ≡ record { cutting = t; tile = job; cells = codes } → directed_by v ≡ make_directed t.cols t.rows codes
 directed_of_view t job v codes e = ap (λ (x : View (Option ℕ)). directed_by x) e
 
+pub exits_of_view : (t : Cutting) (job : ℕ) (v : View (Option ℕ)) (codes : List (Option ℕ)) (f : Flow) → v ≡ record { cutting = t; tile = job; cells = codes } →
+    IsTileExits (directed_by v) v.cutting v.tile f → IsTileExits (make_directed t.cols t.rows codes) t job f
+exits_of_view t job v codes f e exits = subst (λ (x : View (Option ℕ)). IsTileExits (directed_by x) x.cutting x.tile f) e exits
+
 pub flow_of_view : (t : Cutting) (job : ℕ) (v : View (Option ℕ)) (codes : List (Option ℕ)) (f : Flow) → v ≡ record { cutting = t; tile = job; cells = codes } →
     IsTileFlow (directed_by v) v.cutting v.tile f → IsTileFlow (make_directed t.cols t.rows codes) t job f
 flow_of_view t job v codes f e flow = subst (λ (x : View (Option ℕ)). IsTileFlow (directed_by x) x.cutting x.tile f) e flow
 
 -- what the jobs gave
 pub flows_given : (d : Directed) (t : Cutting) (outs : List Flow) → IsCutting t → AllFlowEnds d → d.cols ≡ t.cols → d.rows ≡ t.rows → length outs ≡ tile_count t →
-    ((j : ℕ) (x : Flow) → j < tile_count t → IsTileFlow d t j (get_or outs j x)) → AreFlowsOf d t outs
+    ((j : ℕ) (x : Flow) → j < tile_count t → IsTileExits d t j (get_or outs j x)) → AreFlowsOf d t outs
 flows_given d t outs h ends c r count given = record {
   cutting = h;
   ends = ends;
   of_tiles = record {
     size = (c, r);
     count = count;
-    each = λ tile f e. subst (IsTileFlow d t tile) (get_or_from_slice_get outs tile f f e) (given tile f (omega (arith, count, slice_get_within outs tile f e)));
+    each = λ tile f e. subst (IsTileExits d t tile) (get_or_from_slice_get outs tile f f e) (given tile f (omega (arith, count, slice_get_within outs tile f e)));
   };
+}
+
+pub counts_given : (d : Directed) (t : Cutting) (outs : List Flow) → length outs ≡ tile_count t →
+    ((j : ℕ) (x : Flow) → j < tile_count t → IsTileCounts d t j (get_or outs j x)) → AreTileCounts d t outs
+counts_given d t outs count given = record {
+  each = λ tile f e. subst (IsTileCounts d t tile) (get_or_from_slice_get outs tile f f e) (given tile f (omega (arith, count, slice_get_within outs tile f e)));
 }
 
 pub maps_given : (d : Directed) (t : Cutting) (value : Place → ℕ) (outs : List (Vec (Option ℕ) Global)) → length outs ≡ tile_count t →

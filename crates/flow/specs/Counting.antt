@@ -1,17 +1,20 @@
 -- The accumulations of the cells of a tile. Only the contracts of private functions speak of it.
-use Rattle.std.specs.Prelude.{◌≡◌, ℕ, ◌+◌, ◌-◌, List, map, length, Option, None, slice_index, slice_index_or}
+use Rattle.std.specs.Prelude.{◌≡◌, ℕ, ◌+◌, ◌-◌, ◌^◌, ◌<◌, ◌≤◌, List, map, length, Option, None, Some, slice_get, slice_index, slice_index_or}
 use Rattle.std.specs.List.{range_with_len}
 use Rattle.ascii_grid.specs.declared.place.Place.{Place}
 use Rattle.tiles.specs.declared.bounds.Bounds.{Bounds}
-use Rattle.tiles.specs.Cutting.{Cutting, IsCutting, IsInBounds}
-use Rattle.flow.specs.TileLinks.{index_in, weights_by, where_data}
+use Rattle.tiles.specs.Cutting.{Cutting, IsInBounds, bounds_of, cell_count, tile_count}
+use Rattle.flow.specs.Streams.{AreStreams, total}
+use Rattle.flow.specs.TileFlow.{Flow}
+use Rattle.flow.specs.TileLinks.{index_in, links_by, weights_by, where_data}
+use Rattle.flow.specs.RimGraph.{AreFlowsOf}
 use Rattle.flow.specs.Whole.{IsGridFlow, make_directed}
 use Rattle.flow.specs.Inflows.{Inflows, inflow_in, AreInflows}
 
--- The inflows are those of the map of directions with these codes.
-pub record IsCounting (t : Cutting) (codes : List (Option ℕ)) (inflows : Inflows) : Type 0 where
-  pub cutting : IsCutting t
-  pub flows : IsGridFlow t.cols t.rows codes
+-- The exits of the flows and the inflows are those of the map of directions with these codes.
+pub record IsCounting (t : Cutting) (codes : List (Option ℕ)) (flows : List Flow) (inflows : Inflows) : Type 0 where
+  pub grid : IsGridFlow t.cols t.rows codes
+  pub are_flows : AreFlowsOf (make_directed t.cols t.rows codes) t flows
   pub are_inflows : AreInflows (make_directed t.cols t.rows codes) t inflows
 
 -- The weights of the cells of a tile: each data cell itself, and what flows in.
@@ -19,6 +22,23 @@ pub record AreRimWeights (inflows : Inflows) (b : Bounds) (cells : List (Option 
   pub size : length weights ≡ length cells
   pub each : (p : Place) → IsInBounds b p →
       slice_index weights (index_in b p) ≡ slice_index (weights_by cells) (index_in b p) + inflow_in inflows p
+
+-- what the job of a tile may rely on
+pub record IsCountable (inflows : Inflows) (tile : ℕ) (f : Flow) : Type 0 where
+  pub bounds : f.bounds ≡ bounds_of inflows.cutting tile
+  pub size : length f.codes ≡ cell_count inflows.cutting tile
+  pub linked : length (links_by f.bounds f.codes) ≡ length f.codes
+  pub few : length f.codes ≤ 2 ^ 24
+  pub streams : AreStreams (links_by f.bounds f.codes)
+  pub few_enter : (p : Place) → IsInBounds (bounds_of inflows.cutting tile) p → inflow_in inflows p < 2 ^ 31
+  pub few_come : (weights : List ℕ) → AreRimWeights inflows (bounds_of inflows.cutting tile) f.codes weights → (i : ℕ) → i < length f.codes →
+      total (links_by f.bounds f.codes) weights i < 2 ^ 32
+
+-- what the jobs may rely on
+pub record AreCountable (t : Cutting) (flows : List Flow) (inflows : Inflows) : Type 0 where
+  pub same_cutting : inflows.cutting ≡ t
+  pub count : length flows ≡ tile_count t
+  pub each : (tile : ℕ) (f : Flow) → slice_get flows tile ≡ Some f → IsCountable inflows tile f
 
 -- the total of each data cell, itself left out
 abbrev pub counts_by : List (Option ℕ) → List ℕ → List ℕ → List (Option ℕ)

@@ -7,15 +7,15 @@ use Rattle.tiles.specs.Cutting.{Cutting, IsCutting, IsWithin, is_within, bounds_
 use Rattle.drain.specs.Following.{Directed, last_of}
 use Rattle.drain.specs.Drained.{AllFlowEnds}
 use Rattle.flow.specs.Counts.{is_place}
-use Rattle.flow.specs.TileFlow.{Flow, is_in_bounds, entry_in, exit_in, AreTileFlows, IsExitCell}
+use Rattle.flow.specs.TileFlow.{Flow, is_in_bounds, entry_in, exit_in, AreTileExits, IsExitCell}
 use Rattle.flow.specs.Whole.{is_outlet_code}
 use Rattle.flow.specs.RimNumbers.{number_count, rim_number, rim_place}
 
--- The flows are those of the tiles of a map of directions whose flow paths end.
+-- The flows have the exits of the tiles of a map of directions whose flow paths end.
 pub record AreFlowsOf (d : Directed) (t : Cutting) (flows : List Flow) : Type 0 where
   pub cutting : IsCutting t
   pub ends : AllFlowEnds d
-  pub of_tiles : AreTileFlows d t flows
+  pub of_tiles : AreTileExits d t flows
 
 -- the code that the flow of its tile has at a place
 abbrev pub code_in : Cutting → List Flow → Place → Option ℕ

@@ -42,7 +42,7 @@ inflow_of d c p =
     (range_with_len 0 (moves d - 1)))
     (places d.cols d.rows)
 
--- The bounds of a tile and, in its row order, its codes, the counts and the exits.
+-- The bounds of a tile and, in its row order, its codes, the counts (none where exits alone are asked for) and the exits.
 pub record Flow : Type 0 where
   pub bounds : Bounds
   pub codes : List (Option ℕ)
@@ -69,20 +69,38 @@ pub record IsFlow (f : Flow) : Type 0 where
   pub few_rows : f.bounds.top + f.bounds.rows ≤ longest_axis
   pub few_cols : f.bounds.left + f.bounds.cols ≤ longest_axis
   pub codes_size : length f.codes ≡ f.bounds.rows * f.bounds.cols
-  pub through_size : length f.through ≡ f.bounds.rows * f.bounds.cols
   pub exits_size : length f.exits ≡ f.bounds.rows * f.bounds.cols
 
--- The flow is the tile's: each data cell of the tile has its count and its exit, and a cell without data neither.
-pub record IsTileFlow (d : Directed) (c : Cutting) (tile : ℕ) (f : Flow) : Type 0 where
+-- The flow has the codes and exits of the tile: each data cell of the tile has its exit, and a cell without data none.
+pub record IsTileExits (d : Directed) (c : Cutting) (tile : ℕ) (f : Flow) : Type 0 where
   pub bounds : f.bounds ≡ bounds_of c tile
   pub lawful : IsFlow f
   pub same_codes : (p : Place) → IsInTile c tile p → entry_in f.bounds f.codes p ≡ code_at d p
   pub each : (p : Place) → IsInTile c tile p →
-      MatchOption (code_at d p) ((through_in f p ≡ None) × (exit_in f p ≡ None))
-      (λ _. (through_in f p ≡ Some (through_of d c p)) × (e : Place) × (exit_in f p ≡ Some e) × IsExitOf d c p e)
+      MatchOption (code_at d p) (exit_in f p ≡ None) (λ _. (e : Place) × (exit_in f p ≡ Some e) × IsExitOf d c p e)
+
+-- The flow has the counts of the tile: each data cell of the tile has its count, and a cell without data none.
+pub record IsTileCounts (d : Directed) (c : Cutting) (tile : ℕ) (f : Flow) : Type 0 where
+  pub size : length f.through ≡ f.bounds.rows * f.bounds.cols
+  pub each : (p : Place) → IsInTile c tile p →
+      MatchOption (code_at d p) (through_in f p ≡ None) (λ _. through_in f p ≡ Some (through_of d c p))
+
+-- The flow is the tile's.
+pub record IsTileFlow (d : Directed) (c : Cutting) (tile : ℕ) (f : Flow) : Type 0 where
+  pub exits : IsTileExits d c tile f
+  pub counts : IsTileCounts d c tile f
 
 -- One flow for each tile, in tile order.
 pub record AreTileFlows (d : Directed) (c : Cutting) (flows : List Flow) : Type 0 where
   pub size : (d.cols ≡ c.cols) × (d.rows ≡ c.rows)
   pub count : length flows ≡ tile_count c
   pub each : (tile : ℕ) (f : Flow) → slice_get flows tile ≡ Some f → IsTileFlow d c tile f
+
+-- The exits and the counts alone of one flow for each tile.
+pub record AreTileExits (d : Directed) (c : Cutting) (flows : List Flow) : Type 0 where
+  pub size : (d.cols ≡ c.cols) × (d.rows ≡ c.rows)
+  pub count : length flows ≡ tile_count c
+  pub each : (tile : ℕ) (f : Flow) → slice_get flows tile ≡ Some f → IsTileExits d c tile f
+
+pub record AreTileCounts (d : Directed) (c : Cutting) (flows : List Flow) : Type 0 where
+  pub each : (tile : ℕ) (f : Flow) → slice_get flows tile ≡ Some f → IsTileCounts d c tile f

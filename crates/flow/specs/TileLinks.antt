@@ -64,7 +64,7 @@ where_data None x = None
 where_data (Some code) x = Some x
 
 abbrev pub through_by : List (Option ℕ) → List ℕ → List (Option ℕ)
-through_by cells came = map (λ i. where_data (slice_index_or cells i None) (slice_index came i)) (range_with_len 0 (length cells))
+through_by cells came = map (λ i. where_data (slice_index_or cells i None) (slice_index came i)) (range_with_len 0 (length came))
 
 abbrev pub exits_by : Bounds → List (Option ℕ) → List ℕ → List (Option Place)
 exits_by b cells ends = map (λ i. where_data (slice_index_or cells i None) (place_in b (slice_index ends i))) (range_with_len 0 (length cells))
@@ -74,8 +74,8 @@ abbrev pub flow_by : Bounds → List (Option ℕ) → List ℕ → List ℕ → 
 flow_by b cells came ends = record { bounds = b; codes = cells; through = through_by cells came; exits = exits_by b cells ends }
 
 -- what holds of these lists
-pub record AreFlowLists (b : Bounds) (cells : List (Option ℕ)) (came ends : List ℕ) : Type 0 where
+pub record AreFlowLists (b : Bounds) (cells : List (Option ℕ)) (links came ends : List ℕ) : Type 0 where
+  pub linked : links ≡ links_by b cells
   pub lawful : IsFlow (flow_by b cells came ends)
-  pub came_size : length came ≡ length cells
   pub ends_size : length ends ≡ length cells
   pub inside : (i : ℕ) → i < length cells → slice_index ends i < b.rows * b.cols

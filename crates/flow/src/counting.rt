@@ -1,22 +1,21 @@
 // Accumulations of a map of directions, tile by tile.
 ghost use Rattle.std.proofs.Props.{props};
-ghost use Rattle.std.specs.Prelude.{◌≡◌, ◌+◌, ◌*◌, ◌^◌, ◌<◌, ℕ, length, slice_index, IfOk};
+ghost use Rattle.std.specs.Prelude.{◌≡◌, ◌+◌, ◌^◌, ◌<◌, ℕ, List, Option, length, slice_index, IfOk};
 ghost use Rattle.tiles.specs.Cutting.{Cuts, IsInBounds, bounds_of, cell_count, tile_count};
 ghost use Rattle.tile_jobs.specs.Fault.{RefusesWorkers};
 ghost use Rattle.drain.specs.Drained.{directed_of};
 ghost use Rattle.flow.specs.Counts.{AreAccumulations, accumulation};
 ghost use Rattle.flow.specs.TileMaps.{IsTileMapOf, AreTileMapsOf};
 ghost use Rattle.flow.specs.Whole.{IsGridFlow, make_directed};
-ghost use Rattle.flow.specs.Counting.{IsCounting, AreRimWeights, counts_by};
+ghost use Rattle.flow.specs.Counting.{IsCounting, AreCountable, AreRimWeights, counts_by};
 ghost use Rattle.flow.specs.Inflows.{inflow_in};
-ghost use Rattle.flow.specs.TileLinks.{AreTileCodes};
 ghost use Rattle.ascii_grid.specs.declared.place.Place.{Place as AtPlace};
 
-use crate::cells::{tile_codes, tile_links, tile_weights};
+use crate::cells::tile_weights;
 use crate::flowing::{codes_of, flow_tiles};
 use crate::inflows::Inflows;
 use crate::streams::upstream;
-use crate::tile::counted;
+use crate::tile::{TileFlow, counted};
 use ascii_grid::NoMemory;
 use drain::{Code, Directions};
 use std::alloc::Global;
@@ -28,27 +27,30 @@ use tiles::Tiling;
 /// Counts what flows through the cells of each tile.
 #[derive(Drop)]
 struct CountTiles<'a> {
-    codes: &'a [Option<Code>],
     tiling: &'a Tiling,
+    flows: &'a [TileFlow],
     inflows: &'a Inflows,
-    ghost counting: { IsCounting tiling.now codes.now inflows.now } by { Prim.hlevel props },
+    ghost countable: { AreCountable tiling.now flows.now inflows.now } by { Prim.hlevel props },
 }
 
 impl<'a> Work for CountTiles<'a> {
     type Out = Vec<Option<u32>>;
 
+    ghost use Rattle.std.specs.Prelude.{ℕ, List, Option};
     ghost use Rattle.tiles.specs.Cutting.{tile_count};
+    ghost use Rattle.flow.specs.Counting.{IsCounting};
     ghost use Rattle.flow.specs.Counts.{accumulation};
     ghost use Rattle.flow.specs.TileMaps.{IsTileMapOf};
     ghost use Rattle.flow.specs.Whole.{make_directed};
 
     ghost most = { λ w. tile_count w.tiling.now };
 
-    ghost gives = { λ w job out. IsTileMapOf (make_directed w.tiling.now.cols w.tiling.now.rows w.codes.now) w.tiling.now job
-        (accumulation (make_directed w.tiling.now.cols w.tiling.now.rows w.codes.now)) out.items };
+    ghost gives = { λ w job out. (codes : List (Option ℕ)) → IsCounting w.tiling.now codes w.flows.now w.inflows.now →
+        IsTileMapOf (make_directed w.tiling.now.cols w.tiling.now.rows codes) w.tiling.now job
+        (accumulation (make_directed w.tiling.now.cols w.tiling.now.rows codes)) out.items };
 
     fn run(&self, alloc: Global, job: u32) -> Result<Vec<Option<u32>>, JobFault> {
-        let Ok(values) = tile_counts(alloc, self.codes, self.tiling, self.inflows, job) else {
+        let Ok(values) = tile_counts(alloc, self.tiling, self.flows, self.inflows, job) else {
             return Err(JobFault::Memory);
         };
         Ok(values)
@@ -88,9 +90,9 @@ pub(crate) fn accumulation_along<R: Threads + Wait + Sync, G: Gate + Sync>(
     let Ok(inflows) = Inflows::join(alloc, tiling, &flows) else {
         return Err(JobFault::Memory);
     };
-    drop(flows);
-    let tiles = count_tiles(rt, alloc, codes, tiling, &inflows, workers, gate)?;
+    let tiles = count_tiles(rt, alloc, tiling, &flows, &inflows, workers, gate)?;
     drop(inflows);
+    drop(flows);
     match tiling.put_back(alloc, &tiles) {
         Ok(values) => Ok(values),
         Err(NoMemory) => Err(JobFault::Memory),
@@ -100,21 +102,22 @@ pub(crate) fn accumulation_along<R: Threads + Wait + Sync, G: Gate + Sync>(
 fn count_tiles<R: Threads + Wait + Sync, G: Gate + Sync>(
     rt: &R,
     alloc: Global,
-    codes: &[Option<Code>],
     tiling: &Tiling,
+    flows: &[TileFlow],
     inflows: &Inflows,
     workers: u32,
     gate: &G,
 ) -> Result<Vec<Vec<Option<u32>>>, JobFault>
-    requires counting { IsCounting tiling.now codes.now inflows.now }
-    ensures tiles { IfOk result (λ v. AreTileMapsOf (make_directed tiling.now.cols tiling.now.rows codes.now) tiling.now
-        (accumulation (make_directed tiling.now.cols tiling.now.rows codes.now)) v.items) }
+    requires { (codes : List (Option ℕ)) × IsCounting tiling.now codes flows.now inflows.now }
+    ensures tiles { IfOk result (λ v. (codes : List (Option ℕ)) → IsCounting tiling.now codes flows.now inflows.now →
+        AreTileMapsOf (make_directed tiling.now.cols tiling.now.rows codes) tiling.now
+        (accumulation (make_directed tiling.now.cols tiling.now.rows codes)) v.items) }
     ensures workers { RefusesWorkers workers result }
 {
     let tiles = tiling.tiles();
     let work = CountTiles {
-        codes,
         tiling,
+        flows,
         inflows,
     };
     run_jobs(rt, alloc, &work, tiles, workers, gate)
@@ -123,34 +126,21 @@ fn count_tiles<R: Threads + Wait + Sync, G: Gate + Sync>(
 // The accumulations of a tile's cells.
 fn tile_counts(
     alloc: Global,
-    codes: &[Option<Code>],
     tiling: &Tiling,
+    flows: &[TileFlow],
     inflows: &Inflows,
     tile: u32,
 ) -> Result<Vec<Option<u32>>, NoMemory>
-    requires counting { IsCounting tiling.now codes.now inflows.now }
+    requires countable { AreCountable tiling.now flows.now inflows.now }
     requires tile { tile < tile_count tiling.now }
-    ensures { IfOk result (λ v. IsTileMapOf (make_directed tiling.now.cols tiling.now.rows codes.now) tiling.now tile
-        (accumulation (make_directed tiling.now.cols tiling.now.rows codes.now)) v.items) }
+    ensures { IfOk result (λ v. (codes : List (Option ℕ)) → IsCounting tiling.now codes flows.now inflows.now →
+        IsTileMapOf (make_directed tiling.now.cols tiling.now.rows codes) tiling.now tile
+        (accumulation (make_directed tiling.now.cols tiling.now.rows codes)) v.items) }
 {
-    let cells = codes_in(alloc, codes, tiling, tile)?;
-    let links = tile_links(alloc, tiling.bounds(tile), &cells)?;
-    let weights = rim_weights(alloc, inflows, tile, &cells)?;
-    let came = upstream(alloc, &links, &weights)?;
-    counts(alloc, &cells, &weights, &came)
-}
-
-fn codes_in(
-    alloc: Global,
-    codes: &[Option<Code>],
-    tiling: &Tiling,
-    tile: u32,
-) -> Result<Vec<Option<Code>>, NoMemory>
-    requires size { length codes.now ≡ tiling.now.cols * tiling.now.rows }
-    requires tile { tile < tile_count tiling.now }
-    ensures { IfOk result (λ v. AreTileCodes (make_directed tiling.now.cols tiling.now.rows codes.now) (bounds_of tiling.now tile) v.items) }
-{
-    tile_codes(alloc, &tiling.view(codes, tile))
+    let flow = &flows[tile as usize];
+    let weights = rim_weights(alloc, inflows, tile, flow.codes())?;
+    let came = upstream(alloc, flow.links(), &weights)?;
+    counts(alloc, flow.codes(), &weights, &came)
 }
 
 // 1 for each data cell, and what flows in.

@@ -3,10 +3,11 @@ ghost use Rattle.std.specs.Prelude.{◌≡◌, IfOk};
 ghost use Rattle.tiles.specs.Cutting.{Cuts};
 ghost use Rattle.tile_jobs.specs.Fault.{RefusesWorkers};
 ghost use Rattle.drain.specs.Drained.{directed_of};
+ghost use Rattle.flow.specs.TileFlow.{AreTileCounts};
 ghost use Rattle.flow.specs.RimGraph.{AreFlowsOf};
 ghost use Rattle.flow.specs.Whole.{IsGridFlow, make_directed};
 
-use crate::tile::{TileFlow, tile_flow};
+use crate::tile::{TileFlow, tile_exits, tile_flow};
 use drain::{Code, Directions};
 use std::alloc::Global;
 use std::sync::Wait;
@@ -42,6 +43,34 @@ impl<'a> Work for FlowTiles<'a> {
     }
 }
 
+/// Finds the exits of each tile.
+#[derive(Drop)]
+struct ExitTiles<'a> {
+    codes: &'a [Option<Code>],
+    tiling: &'a Tiling,
+    ghost flows: { IsGridFlow tiling.now.cols tiling.now.rows codes.now },
+}
+
+impl<'a> Work for ExitTiles<'a> {
+    type Out = TileFlow;
+
+    ghost use Rattle.tiles.specs.Cutting.{tile_count};
+    ghost use Rattle.flow.specs.TileFlow.{IsTileExits};
+    ghost use Rattle.flow.specs.Whole.{make_directed};
+
+    ghost most = { λ w. tile_count w.tiling.now };
+
+    ghost gives = { λ w job out. IsTileExits (make_directed w.tiling.now.cols w.tiling.now.rows w.codes.now) w.tiling.now job out };
+
+    fn run(&self, alloc: Global, job: u32) -> Result<TileFlow, JobFault> {
+        let view = self.tiling.view(self.codes, job);
+        let Ok(flow) = tile_exits(alloc, &view) else {
+            return Err(JobFault::Memory);
+        };
+        Ok(flow)
+    }
+}
+
 /// The codes of a map of directions.
 pub fn codes_of<'a>(directions: &'a Directions, tiling: &Tiling) -> &'a [Option<Code>]
     requires { Cuts tiling.now directions.now.terrain }
@@ -64,6 +93,7 @@ pub fn flow_tiles<R: Threads + Wait + Sync, G: Gate + Sync>(
 ) -> Result<Vec<TileFlow>, JobFault>
     requires { IsGridFlow tiling.now.cols tiling.now.rows codes.now }
     ensures flows { IfOk result (λ v. AreFlowsOf (make_directed tiling.now.cols tiling.now.rows codes.now) tiling.now v.items) }
+    ensures counts { IfOk result (λ v. AreTileCounts (make_directed tiling.now.cols tiling.now.rows codes.now) tiling.now v.items) }
     ensures workers { RefusesWorkers workers result }
 {
     let tiles = tiling.tiles();
@@ -71,6 +101,30 @@ pub fn flow_tiles<R: Threads + Wait + Sync, G: Gate + Sync>(
         rt,
         alloc,
         &FlowTiles { codes, tiling },
+        tiles,
+        workers,
+        gate,
+    )
+}
+
+/// The flows of all tiles without their counts, in tile order.
+pub fn exit_tiles<R: Threads + Wait + Sync, G: Gate + Sync>(
+    rt: &R,
+    alloc: Global,
+    codes: &[Option<Code>],
+    tiling: &Tiling,
+    workers: u32,
+    gate: &G,
+) -> Result<Vec<TileFlow>, JobFault>
+    requires { IsGridFlow tiling.now.cols tiling.now.rows codes.now }
+    ensures flows { IfOk result (λ v. AreFlowsOf (make_directed tiling.now.cols tiling.now.rows codes.now) tiling.now v.items) }
+    ensures workers { RefusesWorkers workers result }
+{
+    let tiles = tiling.tiles();
+    run_jobs(
+        rt,
+        alloc,
+        &ExitTiles { codes, tiling },
         tiles,
         workers,
         gate,

@@ -5,7 +5,7 @@ ghost use Rattle.tiles.specs.Cutting.{AreBounds, IsInBounds, IsWithin, bounds_of
 ghost use Rattle.drain.specs.Following.{Directed};
 ghost use Rattle.flow.specs.Streams.{sum_below};
 ghost use Rattle.flow.specs.Sending.{AreNone};
-ghost use Rattle.flow.specs.TileFlow.{is_in_bounds};
+ghost use Rattle.flow.specs.TileFlow.{AreTileCounts, is_in_bounds};
 ghost use Rattle.flow.specs.TileLinks.{IsSmall, index_in};
 ghost use Rattle.flow.specs.RimNumbers.{number_count};
 ghost use Rattle.flow.specs.RimGraph.{AreFlowsOf, stands_for};
@@ -44,9 +44,10 @@ impl Model for Inflows {
 impl Inflows {
     /// Sends the water of each exit from tile to tile.
     pub fn join(alloc: Global, tiling: &Tiling, flows: &[TileFlow]) -> Result<Inflows, NoMemory>
-        requires { (d : Directed) × AreFlowsOf d tiling.now flows.now }
+        requires { (d : Directed) × AreFlowsOf d tiling.now flows.now × AreTileCounts d tiling.now flows.now }
         ensures cutting { IfOk result (λ i. i.cutting ≡ tiling.now) }
-        ensures inflows { IfOk result (λ i. (d : Directed) → AreFlowsOf d tiling.now flows.now → AreInflows d tiling.now i) }
+        ensures inflows { IfOk result (λ i. (d : Directed) → AreFlowsOf d tiling.now flows.now →
+            AreTileCounts d tiling.now flows.now → AreInflows d tiling.now i) }
     {
         let links = rim_links(alloc, tiling, flows)?;
         let weights = rim_weights(alloc, tiling, flows)?;
@@ -144,7 +145,7 @@ fn through_at(tiling: &Tiling, flows: &[TileFlow], place: Place) -> Option<u32>
 
 // How many cells of its tile flow through an exit that leads into another tile; 0 for any other number.
 fn weight_of(tiling: &Tiling, flows: &[TileFlow], number: u32) -> u32
-    requires flows { (d : Directed) × AreFlowsOf d tiling.now flows.now }
+    requires flows { (d : Directed) × AreFlowsOf d tiling.now flows.now × AreTileCounts d tiling.now flows.now }
     requires number { number < number_count tiling.now }
     ensures { result ≡ rim_weight tiling.now flows.now number }
 {
@@ -155,7 +156,7 @@ fn weight_of(tiling: &Tiling, flows: &[TileFlow], number: u32) -> u32
 }
 
 fn rim_weights(alloc: Global, tiling: &Tiling, flows: &[TileFlow]) -> Result<Vec<u32>, NoMemory>
-    requires { (d : Directed) × AreFlowsOf d tiling.now flows.now }
+    requires { (d : Directed) × AreFlowsOf d tiling.now flows.now × AreTileCounts d tiling.now flows.now }
     ensures { IfOk result (λ v. v.items ≡ rim_weights_by tiling.now flows.now) }
 {
     let count = number_count(tiling);

@@ -13,7 +13,7 @@ ghost use Rattle.flow.specs.TileMaps.{IsTileMapOf, AreTileMapsOf};
 ghost use Rattle.flow.specs.Numbering.{IsNumbering, AreReady, IsExitOfTile, number_at, label_by, labels_by, label_at, numbered_by};
 
 use crate::cells::place_at;
-use crate::flowing::{codes_of, flow_tiles};
+use crate::flowing::{codes_of, exit_tiles};
 use crate::outlet_numbers::OutletNumbers;
 use crate::outlets::Outlets;
 use crate::tile::TileFlow;
@@ -64,8 +64,8 @@ impl<'a> Work for NumberTiles<'a> {
     }
 }
 
-/// The number of the outlet that ends each cell's flow path. Each tile's flow is found in a job of its own,
-/// and its cells are numbered in another.
+/// The number of the outlet that ends each cell's flow path. The exits of each tile are found in a job
+/// of their own, and its cells are numbered in another.
 pub fn basins<R: Threads + Wait + Sync, G: Gate + Sync>(
     rt: &R,
     alloc: Global,
@@ -93,7 +93,7 @@ pub(crate) fn basins_along<R: Threads + Wait + Sync, G: Gate + Sync>(
     ensures values { IfOk result (λ v. AreBasins (make_directed tiling.now.cols tiling.now.rows codes.now) v.items) }
     ensures workers { RefusesWorkers workers result }
 {
-    let flows = flow_tiles(rt, alloc, codes, tiling, workers, gate)?;
+    let flows = exit_tiles(rt, alloc, codes, tiling, workers, gate)?;
     let Ok(outlets) = Outlets::join(alloc, tiling, &flows) else {
         return Err(JobFault::Memory);
     };

@@ -2,8 +2,8 @@
 ghost use Rattle.std.specs.Prelude.{◌≡◌, ◌<◌, length, slice_index_or, IfOk, IfSome, None, Some, if◌then◌else◌};
 ghost use Rattle.std.specs.Option.{option_map};
 ghost use Rattle.drain.specs.Drained.{AllFlowEnds};
-ghost use Rattle.flow.specs.TileFlow.{directed_by, IsFlow, IsTileFlow, entry_in, through_in, exit_in};
-ghost use Rattle.flow.specs.TileLinks.{index_in, where_data, through_by};
+ghost use Rattle.flow.specs.TileFlow.{directed_by, IsFlow, IsTileExits, IsTileFlow, entry_in, through_in, exit_in};
+ghost use Rattle.flow.specs.TileLinks.{index_in, where_data, links_by};
 ghost use Rattle.flow.specs.Whole.{is_outlet_code};
 ghost use Rattle.flow.specs.RimGraph.{way_out_in};
 
@@ -21,8 +21,11 @@ use tiles::{Bounds, TileView};
 pub struct TileFlow {
     bounds: Bounds,
     codes: Vec<Option<Code>>,
-    // What comes to each cell, and the index of its exit. A cell without data has neither.
+    // The index of the cell to which the water of each goes on, its own where it stays or leaves the tile.
+    links: Vec<u32>,
+    // What comes to each cell; empty where exits alone are asked for.
     came: Vec<u32>,
+    // The index of each cell's exit. A cell without data has no exit, and nothing comes to it.
     ends: Vec<u32>,
 }
 
@@ -34,7 +37,7 @@ impl Model for TileFlow {
 
     ghost view = { λ f. flow_by f.bounds f.codes.items f.came.items f.ends.items };
 
-    ghost invariant = { λ f. AreFlowLists f.bounds f.codes.items f.came.items f.ends.items };
+    ghost invariant = { λ f. AreFlowLists f.bounds f.codes.items f.links.items f.came.items f.ends.items };
 }
 
 impl TileFlow {
@@ -69,6 +72,22 @@ impl TileFlow {
         self.bounds
     }
 
+    // The codes of the tile's cells in its row order.
+    #[inline(always)]
+    pub(crate) fn codes(&self) -> &[Option<Code>]
+        ensures { result.now ≡ self.now.codes }
+    {
+        &self.codes
+    }
+
+    // The links of the tile's cells.
+    #[inline(always)]
+    pub(crate) fn links(&self) -> &[u32]
+        ensures { result.now ≡ links_by self.now.bounds self.now.codes }
+    {
+        &self.links
+    }
+
     // How many cells the tile has.
     #[inline(always)]
     pub(crate) fn cell_count(&self) -> usize
@@ -80,10 +99,14 @@ impl TileFlow {
     // The count of the cell with this index in the tile's row order.
     #[inline(always)]
     fn count_at(&self, index: usize) -> Option<u32>
-        requires { index < length self.now.through }
+        requires { index < length self.now.codes }
         ensures { result ≡ slice_index_or self.now.through index None }
     {
-        counted(self.codes[index], self.came[index])
+        if index < self.came.len() {
+            counted(self.codes[index], self.came[index])
+        } else {
+            None
+        }
     }
 
     // The exit of the cell with this index in the tile's row order.
@@ -151,39 +174,33 @@ pub fn tile_flow(alloc: Global, codes: &TileView<'_, Option<Code>>) -> Result<Ti
     ensures { IfOk result (λ f.
         IsTileFlow (directed_by codes.now) codes.now.cutting codes.now.tile f) }
 {
+    prove!(codes.bounds().cols > 0);
+    let mut flow = tile_exits(alloc, codes)?;
+    let weights = tile_weights(alloc, &flow.codes)?;
+    flow.came = upstream(alloc, &flow.links, &weights)?;
+    Ok(flow)
+}
+
+/// Where water leaves a tile of a map of directions: its flow without the counts.
+pub(crate) fn tile_exits(
+    alloc: Global,
+    codes: &TileView<'_, Option<Code>>,
+) -> Result<TileFlow, NoMemory>
+    requires { AllFlowEnds (directed_by codes.now) }
+    ensures { IfOk result (λ f.
+        IsTileExits (directed_by codes.now) codes.now.cutting codes.now.tile f) }
+{
     let bounds = codes.bounds();
     let cells = tile_codes(alloc, codes)?;
     let links = tile_links(alloc, bounds, &cells)?;
-    let weights = tile_weights(alloc, &cells)?;
-    let came = upstream(alloc, &links, &weights)?;
     let ends = ends(alloc, &links)?;
     Ok(TileFlow {
         bounds,
         codes: cells,
-        came,
+        links,
+        came: Vec::new(alloc),
         ends,
     })
-}
-
-/// The count of each data cell.
-pub(crate) fn through_counts(
-    alloc: Global,
-    cells: &[Option<Code>],
-    came: &[u32],
-) -> Result<Vec<Option<u32>>, NoMemory>
-    requires { length came.now ≡ length cells.now }
-    ensures { IfOk result (λ v. v.items ≡ through_by cells.now came.now) }
-{
-    let Ok(mut through) = Vec::with_capacity(alloc, cells.len()) else {
-        return Err(NoMemory);
-    };
-    for index in 0..cells.len() {
-        let count = counted(cells[index], came[index]);
-        if through.push(count).is_err() {
-            return Err(NoMemory);
-        }
-    }
-    Ok(through)
 }
 
 /// A count where there is data.

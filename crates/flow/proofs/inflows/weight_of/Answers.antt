@@ -18,5 +18,5 @@ overflow_add-result c =
     let weight : rim_weight c.args.tiling.now c.args.flows.now c.args.number ≡ c.unwrap_or.result + 1 =
     ap (weight_or (through_by c.args.tiling.now c.args.flows.now (rim_place c.args.tiling.now c.args.number))) (sym c.in-Some.ensures)
     ∙ sym (ap (λ n. n + 1) (c.unwrap_or.ensures ∙ ap (λ (o : Option ℕ). unwrap_or o 0) (c.through_at.ensures ∙ ap (through_by c.args.tiling.now c.args.flows.now) c.rim_place.ensures))) in
-    let fits : c.unwrap_or.result + 1 < 2 ^ 32 = omega (arith, weight, weight_few c.requires.flows.0 c.args.tiling.now c.args.flows.now c.requires.flows.1 c.args.number) in
+    let fits : c.unwrap_or.result + 1 < 2 ^ 32 = omega (arith, weight, weight_few c.requires.flows.0 c.args.tiling.now c.args.flows.now c.requires.flows.1 c.requires.flows.2 c.args.number) in
     search rules

@@ -23,7 +23,7 @@ upstream-requires-clause-few c =
 pub upstream-requires-clause-same : goal.upstream-requires-clause-same
 upstream-requires-clause-same c =
     let made = c.deref.ensures.value ∙ c.in_ok-links.ensures in
-    weights_size c.requires.0 c.args.tiling.now c.args.flows.now c.requires.1 c.deref.result.now made c.deref-2.result.now (c.deref-2.ensures.value ∙ c.in_ok-weights.ensures)
+    weights_size c.requires.0 c.args.tiling.now c.args.flows.now c.requires.1 c.requires.2 c.deref.result.now made c.deref-2.result.now (c.deref-2.ensures.value ∙ c.in_ok-weights.ensures)
     ∙ sym (links_size c.requires.0 c.args.tiling.now c.args.flows.now c.requires.1 c.deref.result.now made)
 
 pub upstream-requires-clause-fits : goal.upstream-requires-clause-fits
@@ -31,14 +31,14 @@ upstream-requires-clause-fits c =
     let made = c.deref.ensures.value ∙ c.in_ok-links.ensures in
     λ i h. omega (
       arith,
-      total_few c.requires.0 c.args.tiling.now c.args.flows.now c.requires.1 c.deref.result.now made c.deref-2.result.now (c.deref-2.ensures.value ∙ c.in_ok-weights.ensures) i
+      total_few c.requires.0 c.args.tiling.now c.args.flows.now c.requires.1 c.requires.2 c.deref.result.now made c.deref-2.result.now (c.deref-2.ensures.value ∙ c.in_ok-weights.ensures) i
           (omega (arith, h, links_size c.requires.0 c.args.tiling.now c.args.flows.now c.requires.1 c.deref.result.now made)),
     )
 
 pub all_entering-requires-clause-weights : goal.all_entering-requires-clause-weights
 all_entering-requires-clause-weights c =
     ap length c.deref-3.ensures.value
-    ∙ weights_size c.requires.0 c.args.tiling.now c.args.flows.now c.requires.1 c.deref.result.now (c.deref.ensures.value ∙ c.in_ok-links.ensures) c.in_ok-weights.weights.items c.in_ok-weights.ensures
+    ∙ weights_size c.requires.0 c.args.tiling.now c.args.flows.now c.requires.1 c.requires.2 c.deref.result.now (c.deref.ensures.value ∙ c.in_ok-links.ensures) c.in_ok-weights.weights.items c.in_ok-weights.ensures
 
 pub all_entering-requires-clause-came : goal.all_entering-requires-clause-came
 all_entering-requires-clause-came c =
@@ -52,7 +52,7 @@ all_entering-requires-clause-amounts c =
     λ i h. omega (
       arith,
       c.in_ok-came.ensures.each i (omega (arith, h, size)),
-      total_few c.requires.0 c.args.tiling.now c.args.flows.now c.requires.1 c.deref.result.now made c.deref-2.result.now (c.deref-2.ensures.value ∙ c.in_ok-weights.ensures) i h,
+      total_few c.requires.0 c.args.tiling.now c.args.flows.now c.requires.1 c.requires.2 c.deref.result.now made c.deref-2.result.now (c.deref-2.ensures.value ∙ c.in_ok-weights.ensures) i h,
       ap (λ (l : List ℕ). get_or l i 0) c.deref-4.ensures.value,
       ap (λ (l : List ℕ). get_or l i 0) c.deref-3.ensures.value,
       ap (λ (l : List ℕ). get_or l i 0) c.deref-2.ensures.value,
@@ -65,7 +65,7 @@ all_entering-requires-clause-few c =
     subst (λ (w : List ℕ). AreUpstream c.deref.result.now w c.in_ok-came.came.items) c.deref-2.ensures.value c.in_ok-came.ensures in
     λ k. omega (
       arith,
-      entering_few c.requires.0 c.args.tiling.now c.args.flows.now c.requires.1 c.deref.result.now c.in_ok-weights.weights.items c.in_ok-came.came.items made c.in_ok-weights.ensures up k,
+      entering_few c.requires.0 c.args.tiling.now c.args.flows.now c.requires.1 c.requires.2 c.deref.result.now c.in_ok-weights.weights.items c.in_ok-came.came.items made c.in_ok-weights.ensures up k,
       ap (λ (w : List ℕ). sum_below (entering c.args.tiling.now c.args.flows.now w c.deref-4.result.now k) (number_count c.args.tiling.now)) c.deref-3.ensures.value,
       ap (λ (w : List ℕ). sum_below (entering c.args.tiling.now c.args.flows.now c.in_ok-weights.weights.items w k) (number_count c.args.tiling.now)) c.deref-4.ensures.value,
     )
@@ -78,4 +78,4 @@ returns-clause-inflows c =
     let are : AreEntering c.args.tiling.now c.args.flows.now c.in_ok-weights.weights.items c.in_ok-came.came.items c.in_ok-listed.listed.items =
     subst (λ (w : List ℕ). AreEntering c.args.tiling.now c.args.flows.now w c.in_ok-came.came.items c.in_ok-listed.listed.items) c.deref-3.ensures.value
     (subst (λ (w : List ℕ). AreEntering c.args.tiling.now c.args.flows.now c.deref-3.result.now w c.in_ok-listed.listed.items) c.deref-4.ensures.value c.in_ok-listed.ensures) in
-    λ d f. inflows_are d c.args.tiling.now c.args.flows.now f c.deref.result.now c.in_ok-weights.weights.items c.in_ok-came.came.items made c.in_ok-weights.ensures up c.in_ok-listed.listed.items are
+    λ d f counts. inflows_are d c.args.tiling.now c.args.flows.now f counts c.deref.result.now c.in_ok-weights.weights.items c.in_ok-came.came.items made c.in_ok-weights.ensures up c.in_ok-listed.listed.items are

@@ -1,7 +1,0 @@
-use Rattle.std.proofs.Common.{◌≡◌, get_or, map, None}
-use Rattle.std.specs.List.{range_with_len}
-use Rattle.flow.specs.TileLinks.{where_data}
-use Rattle.flow.proofs.tile.through_counts.Given as goal
-
-abbrev pub invariant-loop-index : goal.invariant-loop-index
-invariant-loop-index l = l.through.items ≡ map (λ i. where_data (get_or l.cells i None) (get_or l.came i 0)) (range_with_len 0 l.index)
