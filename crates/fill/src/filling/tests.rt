@@ -119,7 +119,8 @@ fn valley_through_two_tiles(rt: HostRuntime) -> Result<(), Fail> {
     assert_eq!(rt; floods[0].label(Place { row: 1, col: 1 }), Some(first));
     assert_eq!(rt; floods[1].label(Place { row: 1, col: 4 }), Some(second));
     assert_eq!(rt; floods[1].level(Place { row: 1, col: 2 }), None);
-    let levels = spill_levels(alloc, &tiling, &floods)?;
+    let graph = SpillGraph::gather(alloc, &tiling, &floods)?;
+    let levels = graph.levels(alloc)?;
     assert_eq!(rt; levels.len(), 18);
     assert_eq!(rt; (levels[8], levels[9], levels[7]), (Some(6), Some(6), None));
     let filled = filled(&rt, alloc, &grid, &tiling, 2, &NoGate)?;
