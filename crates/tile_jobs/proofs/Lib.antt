@@ -4,6 +4,7 @@ pub mod Totals
 pub mod Steps
 pub mod Seats
 pub mod Residues
+pub mod Rounds
 pub mod Closings
 pub mod Closes
 pub mod Workers

@@ -1,5 +1,5 @@
 -- Lists cut by remainders.
-use Rattle.std.proofs.Common.{◌≡◌, ◌≢◌, ℕ, zero, suc, ◌+◌, ◌%◌, ◌<◌, ◌≤◌, Bool, true, false, cond, ◌==◌, List, [], ◌∷◌, ◌++◌, length, drop, replicate, zero-add, add-one, sym, refl, ap, ◌∙◌, arith, eq-eqb}
+use Rattle.std.proofs.Common.{◌≡◌, ◌≢◌, ℕ, zero, suc, ◌+◌, ◌%◌, ◌<◌, ◌≤◌, Bool, true, false, cond, ◌==◌, List, [], ◌∷◌, ◌++◌, length, drop, replicate, zero-add, sym, refl, ap, ◌∙◌, arith, eq-eqb}
 use Rattle.std.proofs.lemmas.Bool.Decides.{nat_tests}
 use lib.ListN.{length-append, length-replicate}
 use Rattle.tile_jobs.specs.declared.deque.Entry.TheVariants.{Job, End}
@@ -163,23 +163,6 @@ feed_length jobs seats v = length-append (jobs_in (deal jobs seats v)) (replicat
 pub once_more : (n x : ℕ) → 0 < n → once n x ≡ x
 once_more zero x h = absurd (omega arith)
 once_more (suc n) x h = refl
-
-deal_yes_at : (b : Bool) (j seats v : ℕ) → (j % seats == v) ≡ b → j % seats ≡ v → length (deal (suc j) seats v) ≡ suc (length (deal j seats v))
-deal_yes_at true j seats v is rem = let l = length-append (deal j seats v) (j ∷ []) in rw is (omega arith)
-deal_yes_at false j seats v is rem = absurd (grind (arith, nat_tests))
-
-pub deal_yes : (j seats v : ℕ) → j % seats ≡ v → length (deal (j + 1) seats v) ≡ suc (length (deal j seats v))
-deal_yes j seats v rem = rw add-one (deal_yes_at (j % seats == v) j seats v refl rem)
-
-deal_no_at : (b : Bool) (j seats v : ℕ) → (j % seats == v) ≡ b → j % seats ≢ v → length (deal (suc j) seats v) ≡ length (deal j seats v)
-deal_no_at true j seats v is far = absurd (far (grind (arith, nat_tests)))
-deal_no_at false j seats v is far = rw is
-
-pub deal_no : (j seats v : ℕ) → j % seats ≢ v → length (deal (j + 1) seats v) ≡ length (deal j seats v)
-deal_no j seats v far = rw add-one (deal_no_at (j % seats == v) j seats v refl far)
-
-pub deal_more : (jobs seats v j : ℕ) → j < jobs → j % seats ≡ v → length (deal j seats v) < length (deal jobs seats v)
-deal_more jobs seats v j low rem = let on = deal_on jobs seats v j low rem in let e = ap length on.1 in let l = length-append (deal j seats v) (j ∷ on.0) in omega arith
 
 sum_past : (n v : ℕ) (f : ℕ → ℕ) → n ≤ v → sum_to n (λ i. cond (i == v) 0 (f i)) ≡ sum_to n f
 sum_past n v f high = sum_ext n (λ i. cond (i == v) 0 (f i)) f (λ i low. let t : (i == v) ≡ false = grind (arith, nat_tests) in rw t refl)

@@ -24,35 +24,29 @@ impl Model for Dealer {
     ghost invariant = { λ d. IsDealer (worker_view d.worker) × (worker_flavor d.worker ≡ 0) };
 }
 
-/// How many jobs below `jobs` are of deque `v`.
-fn count_jobs(jobs: u32, seats: u32, v: u32) -> usize
-    requires { 0 < seats }
+/// How many jobs below `jobs` are of deque `v`: one in each whole round over the seats, and one more in a
+/// last round that reaches `v`.
+fn count_jobs(jobs: u32, seats: u32, v: u32) -> u32
+    requires { v < seats }
     ensures count { result ≡ length (deal jobs seats v) }
     ensures few { result ≤ jobs }
 {
-    let mut count = 0;
-    for job in 0..jobs {
-        if job % seats == v {
-            count += 1;
-        }
-    }
-    count
+    let rounds = jobs / seats;
+    if v < jobs % seats { rounds + 1 } else { rounds }
 }
 
 /// Pushes the jobs of deque `v`, in rising order.
 fn push_jobs<D: Place>(worker: &mut Deque, jobs: u32, seats: u32, v: u32)
     requires place { (D.jobs ≡ jobs) × (D.seats ≡ seats) × (D.deque ≡ v) }
-    requires some { 0 < seats }
+    requires seat { v < seats }
     requires none_yet { (worker_index worker.old ≡ 0) × (worker_view worker.old ≡ dealing D.jobs D.seats D.deque 0) }
     requires room { length (deal jobs seats v) ≤ worker_capacity worker.old }
     ensures same { SameWorker worker.old worker.new }
     ensures index { worker_index worker.new ≡ length (deal jobs seats v) }
     ensures view { worker_view worker.new ≡ dealing D.jobs D.seats D.deque (worker_index worker.new) }
 {
-    for job in 0..jobs {
-        if job % seats == v {
-            push::<D>(worker, Entry::Job(job));
-        }
+    for round in 0..count_jobs(jobs, seats, v) {
+        push::<D>(worker, Entry::Job(v + round * seats));
     }
 }
 
@@ -75,11 +69,11 @@ impl Dealer {
     /// The deque of `v` with its jobs and marks.
     pub fn new<D: Place>(alloc: Global, jobs: u32, seats: u32, v: u32) -> Result<Dealer, AllocError>
         requires place { (D.jobs ≡ jobs) × (D.seats ≡ seats) × (D.deque ≡ v) }
-        requires some { 0 < seats }
+        requires seat { v < seats }
         ensures { IfOk result (λ d. (d.jobs ≡ jobs) × (d.seats ≡ seats) × (d.deque ≡ v) × (d.leaves ≡ seats)) }
     {
         let count = count_jobs(jobs, seats, v);
-        let mut worker = Deque::fifo_as(alloc, count + seats as usize)?;
+        let mut worker = Deque::fifo_as(alloc, count as usize + seats as usize)?;
         push_jobs::<D>(&mut worker, jobs, seats, v);
         push_marks::<D>(&mut worker, seats);
         Ok(Dealer { worker })

@@ -1,12 +1,16 @@
-use Rattle.std.proofs.Common.{arith}
-use Rattle.std.proofs.lemmas.Grind.{common_steps}
-use Rattle.tile_jobs.proofs.Residues.{deal_yes, deal_no}
+use Rattle.std.proofs.Common.{◌≡◌, ◌%◌, true, false, nat_lt, arith, sym}
+use Rattle.std.proofs.lemmas.Bool.Decides.{nat_tests}
+use Rattle.tile_jobs.proofs.Rounds.{deal_count}
 use Rattle.tile_jobs.proofs.dealer.count_jobs.Goals as goal
-use Rattle.tile_jobs.proofs.dealer.count_jobs.Goals.{then-job-seats, else-job-seats}
 
-pub loop-job-preserved : goal.loop-job-preserved
-loop-job-preserved c =
-    elim c.if-job-seats.branch [
-      | then-job-seats w ↦ let e = deal_yes c.loop-job.job c.args.seats c.args.v w.if-job-seats.true in grind (arith, common_steps)
-      | else-job-seats w ↦ let e = deal_no c.loop-job.job c.args.seats c.args.v (λ q. absurd (grind (arith, common_steps))) in grind (arith, common_steps)
-    ]
+pub returns-then-v-jobs-clause-count : goal.returns-then-v-jobs-clause-count
+returns-then-v-jobs-clause-count c =
+    let t : nat_lt c.args.v (c.args.jobs % c.args.seats) ≡ true = grind (arith, nat_tests) in
+    let n = rw t at (deal_count c.args.jobs c.args.seats c.args.v c.requires) in
+    sym n
+
+pub returns-else-v-jobs-clause-count : goal.returns-else-v-jobs-clause-count
+returns-else-v-jobs-clause-count c =
+    let t : nat_lt c.args.v (c.args.jobs % c.args.seats) ≡ false = grind (arith, nat_tests) in
+    let n = rw t at (deal_count c.args.jobs c.args.seats c.args.v c.requires) in
+    omega (arith, n)

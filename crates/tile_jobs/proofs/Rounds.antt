@@ -1,0 +1,63 @@
+-- What is dealt in whole rounds over the seats.
+use Rattle.std.proofs.Common.{◌≡◌, ℕ, zero, suc, ◌+◌, ◌*◌, ◌/◌, ◌%◌, ◌<◌, ◌≤◌, Bool, true, false, cond, nat_lt, ◌==◌, length, mul-le-mul_right, sym, refl, ap, ◌∙◌, arith}
+use Rattle.std.proofs.lemmas.Bool.Decides.{nat_tests}
+use Rattle.std.proofs.lemmas.Nat.{mod-mul-add}
+use Rattle.std.proofs.Math.Nat.{mod-add-div'}
+use Rattle.tile_jobs.proofs.Residues.{deal_length}
+use Rattle.tile_jobs.specs.Board.{deal}
+
+-- one job more where the part of a round has reached the deque
+reaches : (r v q : ℕ) → cond (r == v) 1 0 + (q + cond (nat_lt v r) 1 0) ≡ q + cond (nat_lt v (suc r)) 1 0
+reaches r v q = grind (arith, nat_tests)
+
+part_of_round : (q r seats v : ℕ) → r ≤ seats → length (deal (q * seats) seats v) ≡ q → length (deal (q * seats + r) seats v) ≡ q + cond (nat_lt v r) 1 0
+part_of_round q zero seats v few whole = let e : q * seats + 0 ≡ q * seats = omega arith in let t : nat_lt v 0 ≡ false = grind (arith, nat_tests) in rw (e, t) (whole ∙ omega arith)
+part_of_round q (suc r) seats v few whole =
+    let h = part_of_round q r seats v (omega arith) whole in
+    let m = mod-mul-add q seats r (omega arith) in
+    let e : q * seats + suc r ≡ suc (q * seats + r) = omega arith in
+    rw e (deal_length (q * seats + r) seats v ∙ rw (m, h) (reaches r v q))
+
+whole_rounds : (q seats v : ℕ) → v < seats → length (deal (q * seats) seats v) ≡ q
+whole_rounds zero seats v low = let e : 0 * seats ≡ 0 = omega arith in rw e refl
+whole_rounds (suc q) seats v low =
+    let h = part_of_round q seats seats v (omega arith) (whole_rounds q seats v low) in
+    let t : nat_lt v seats ≡ true = grind (arith, nat_tests) in
+    let e : suc q * seats ≡ q * seats + seats = omega arith in
+    rw e (h ∙ rw t (omega arith))
+
+-- how many jobs are dealt to a deque
+pub deal_count : (jobs seats v : ℕ) → v < seats → length (deal jobs seats v) ≡ jobs / seats + cond (nat_lt v (jobs % seats)) 1 0
+deal_count jobs seats v low =
+    let r : jobs % seats < seats = omega arith in
+    let e : (jobs / seats) * seats + jobs % seats ≡ jobs = let s = mod-add-div' jobs seats in omega (arith, s) in
+    ap (λ j. length (deal j seats v)) (sym e) ∙ part_of_round (jobs / seats) (jobs % seats) seats v (omega arith) (whole_rounds (jobs / seats) seats v low)
+
+-- the job of each round is the one before which as many were dealt
+pub deal_before_round : (seats v round : ℕ) → v < seats → length (deal (v + round * seats) seats v) ≡ round
+deal_before_round seats v round low =
+    let e : v + round * seats ≡ round * seats + v = omega arith in
+    let t : nat_lt v v ≡ false = grind (arith, nat_tests) in
+    rw e (part_of_round round v seats v (omega arith) (whole_rounds round seats v low) ∙ rw t (omega arith))
+
+below_at : (b : Bool) (jobs seats v round : ℕ) → nat_lt v (jobs % seats) ≡ b → v < seats → round < jobs / seats + cond b 1 0 → v + round * seats < jobs
+below_at true jobs seats v round is low few =
+    let s = mod-add-div' jobs seats in
+    let m : round * seats ≤ (jobs / seats) * seats = mul-le-mul_right seats (omega arith) in
+    let reached : v < jobs % seats = grind (arith, nat_tests) in
+    omega (arith, s, m, reached)
+below_at false jobs seats v round is low few =
+    let s = mod-add-div' jobs seats in
+    let m : suc round * seats ≤ (jobs / seats) * seats = mul-le-mul_right seats (omega arith) in
+    let e : suc round * seats ≡ round * seats + seats = omega arith in
+    omega (arith, s, m, e)
+
+-- the job of a round before the last is below `jobs`
+pub round_below : (jobs seats v count round : ℕ) → v < seats → count ≡ length (deal jobs seats v) → round < count → v + round * seats < jobs
+round_below jobs seats v count round low is few =
+    let n = is ∙ deal_count jobs seats v low in
+    below_at (nat_lt v (jobs % seats)) jobs seats v round refl low (rw n at few)
+
+-- the job of a round is of the deque
+pub round_remainder : (seats v round : ℕ) → v < seats → (v + round * seats) % seats ≡ v
+round_remainder seats v round low = let e : v + round * seats ≡ round * seats + v = omega arith in rw e (mod-mul-add round seats v low)
