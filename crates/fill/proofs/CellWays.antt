@@ -48,15 +48,13 @@ way_some cells height b other e = ap (λ (o : Option ℤ). elim o as (λ _. Opti
 pub way_none : (cells : List (Option ℤ)) (height : ℤ) (b : ℕ) → get_or cells b None ≡ None → way_to cells height b ≡ None
 way_none cells height b e = ap (λ (o : Option ℤ). elim o as (λ _. Option Spill) [ None ↦ None | Some x ↦ Some (record { to = b; height = int_max x height }) ]) e
 
-pub ways_some : (cells : List (Option ℤ)) (height : ℤ) (around : List ℕ) (i d : ℕ) (other : ℤ) (old new : List Spill) → i < length around → get_or cells (get_or around i d) None ≡ Some other → old ≡ filter_map (way_to cells height) (take i around) → new ≡ old ++ record { to = get_or around i d; height = int_max other height } ∷ [] → new ≡ filter_map (way_to cells height) (take (i + 1) around)
-ways_some cells height around i d other old new below is was now =
-    now ∙ ap (λ (z : List Spill). z ++ record { to = get_or around i d; height = int_max other height } ∷ []) was
-    ∙ sym (filter_map_more (way_to cells height) around i d below ∙ ap (λ o. filter_map (way_to cells height) (take i around) ++ cons_option o []) (way_some cells height (get_or around i d) other is))
+pub one_more : {Y : Type 0} (f : ℕ → Option Y) (xs : List ℕ) (i d : ℕ) (y : Y) (old new : List Y) → i < length xs → f (get_or xs i d) ≡ Some y → old ≡ filter_map f (take i xs) → new ≡ old ++ y ∷ [] → new ≡ filter_map f (take (i + 1) xs)
+one_more f xs i d y old new below is was now =
+    now ∙ ap (λ z. z ++ y ∷ []) was ∙ sym (filter_map_more f xs i d below ∙ ap (λ o. filter_map f (take i xs) ++ cons_option o []) is)
 
-pub ways_none : (cells : List (Option ℤ)) (height : ℤ) (around : List ℕ) (i d : ℕ) (old : List Spill) → i < length around → get_or cells (get_or around i d) None ≡ None → old ≡ filter_map (way_to cells height) (take i around) → old ≡ filter_map (way_to cells height) (take (i + 1) around)
-ways_none cells height around i d old below is was =
-    was ∙ sym (append-nil _)
-    ∙ sym (filter_map_more (way_to cells height) around i d below ∙ ap (λ o. filter_map (way_to cells height) (take i around) ++ cons_option o []) (way_none cells height (get_or around i d) is))
+pub none_more : {Y : Type 0} (f : ℕ → Option Y) (xs : List ℕ) (i d : ℕ) (old : List Y) → i < length xs → f (get_or xs i d) ≡ None → old ≡ filter_map f (take i xs) → old ≡ filter_map f (take (i + 1) xs)
+none_more f xs i d old below is was =
+    was ∙ sym (append-nil _) ∙ sym (filter_map_more f xs i d below ∙ ap (λ o. filter_map f (take i xs) ++ cons_option o []) is)
 
 pub none_by : {X : Type 0} (o : Option X) → ((x : X) → o ≡ Some x → ⊥) → o ≡ None
 none_by None h = refl
@@ -121,3 +119,17 @@ no_ways n a none = record {
   only = All-nil (λ way. IsCellJoin n a way.to way.height);
   every = λ b h j. let some = j.from_cell in absurd (cc);
 }
+
+-- eight numbers that all give something
+pub eight_given : {Y : Type 0} (f : ℕ → Option Y) (xs : List ℕ) (a b c d e g h i : Y) → length xs ≡ 8 → f (get_or xs 0 0) ≡ Some a → f (get_or xs 1 0) ≡ Some b → f (get_or xs 2 0) ≡ Some c → f (get_or xs 3 0) ≡ Some d → f (get_or xs 4 0) ≡ Some e → f (get_or xs 5 0) ≡ Some g → f (get_or xs 6 0) ≡ Some h → f (get_or xs 7 0) ≡ Some i → a ∷ b ∷ c ∷ d ∷ e ∷ g ∷ h ∷ i ∷ [] ≡ filter_map f xs
+eight_given f (o ∷ p ∷ q ∷ r ∷ s ∷ t ∷ u ∷ v ∷ []) a b c d e g h i eight first second third fourth fifth sixth seventh eighth =
+    rw (first, second, third, fourth, fifth, sixth, seventh, eighth) refl
+eight_given f (o ∷ p ∷ q ∷ r ∷ s ∷ t ∷ u ∷ v ∷ w ∷ rest) a b c d e g h i eight first second third fourth fifth sixth seventh eighth = absurd (omega arith)
+eight_given f (o ∷ p ∷ q ∷ r ∷ s ∷ t ∷ u ∷ []) a b c d e g h i eight first second third fourth fifth sixth seventh eighth = absurd (omega arith)
+eight_given f (o ∷ p ∷ q ∷ r ∷ s ∷ t ∷ []) a b c d e g h i eight first second third fourth fifth sixth seventh eighth = absurd (omega arith)
+eight_given f (o ∷ p ∷ q ∷ r ∷ s ∷ []) a b c d e g h i eight first second third fourth fifth sixth seventh eighth = absurd (omega arith)
+eight_given f (o ∷ p ∷ q ∷ r ∷ []) a b c d e g h i eight first second third fourth fifth sixth seventh eighth = absurd (omega arith)
+eight_given f (o ∷ p ∷ q ∷ []) a b c d e g h i eight first second third fourth fifth sixth seventh eighth = absurd (omega arith)
+eight_given f (o ∷ p ∷ []) a b c d e g h i eight first second third fourth fifth sixth seventh eighth = absurd (omega arith)
+eight_given f (o ∷ []) a b c d e g h i eight first second third fourth fifth sixth seventh eighth = absurd (omega arith)
+eight_given f [] a b c d e g h i eight first second third fourth fifth sixth seventh eighth = absurd (omega arith)

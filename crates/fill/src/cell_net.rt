@@ -1,5 +1,5 @@
 // A rectangle of cells as a net.
-ghost use Rattle.std.specs.Prelude.{◌≡◌, None, ◌+◌, ◌-◌, ◌*◌, ◌^◌, ◌<◌, ◌≤◌, ◌∷◌, ◌++◌, [], ℕ, ℤ, length, All, IfOk, OnOk, is_none, slice_index_or, replicate};
+ghost use Rattle.std.specs.Prelude.{◌≡◌, None, ◌+◌, ◌-◌, ◌*◌, ◌^◌, ◌<◌, ◌≤◌, ◌∷◌, ◌++◌, [], ℕ, ℤ, length, All, IfOk, IfSome, OnOk, is_none, slice_index_or, replicate};
 ghost use Rattle.std.specs.List.{list_any, filter_map};
 ghost use Rattle.fill.specs.Cells.{Cells, cells_around, way_to, whole, IsNetOf, IsCellJoin, source_of, bordered_rows, inner_rows, row_of, window_of};
 ghost use Rattle.tiles.specs.Cutting.{bounds_of, row_shown, terrain_of};
@@ -61,6 +61,57 @@ fn any_gap(cells: &[Option<Height>], around: &[u32; 8]) -> bool
     around.iter().any(|&node| cells[node as usize].is_none())
 }
 
+/// The way from a cell of this height to another one, where that has data.
+#[inline(always)]
+fn way_to(cells: &[Option<Height>], height: Height, to: u32) -> Option<Spill>
+    requires { to < length cells.now }
+    ensures { result ≡ way_to cells.now height to }
+{
+    let other = cells[to as usize]?;
+    Some(Spill {
+        to,
+        height: other.max(height),
+    })
+}
+
+/// The ways from a cell of this height to the eight around it, where all have data.
+#[inline(always)]
+fn all_ways(cells: &[Option<Height>], height: Height, around: [u32; 8]) -> Option<[Spill; 8]>
+    requires { All (λ b. b < length cells.now) around }
+    ensures { IfSome result (λ ways. ways ≡ filter_map (way_to cells.now height) around) }
+{
+    let [a, b, c, d, e, f, g, h] = around;
+    Some([
+        way_to(cells, height, a)?,
+        way_to(cells, height, b)?,
+        way_to(cells, height, c)?,
+        way_to(cells, height, d)?,
+        way_to(cells, height, e)?,
+        way_to(cells, height, f)?,
+        way_to(cells, height, g)?,
+        way_to(cells, height, h)?,
+    ])
+}
+
+/// The ways from a cell of this height to those of the cells around it that have data.
+fn some_ways(
+    alloc: Global,
+    cells: &[Option<Height>],
+    height: Height,
+    around: [u32; 8],
+) -> SmallVec<Spill, 8>
+    requires { All (λ b. b < length cells.now) around }
+    ensures { result.items ≡ filter_map (way_to cells.now height) around }
+{
+    let mut ways = SmallVec::new(alloc);
+    for to in around {
+        if let Some(way) = way_to(cells, height, to) {
+            ways.push_reserved(way);
+        }
+    }
+    ways
+}
+
 /// The ways from a cell of this height to those of the cells around it that have data.
 #[inline(always)]
 fn ways_to(
@@ -72,16 +123,10 @@ fn ways_to(
     requires { All (λ b. b < length cells.now) around }
     ensures { result.items ≡ filter_map (way_to cells.now height) around }
 {
-    let mut ways = SmallVec::new(alloc);
-    for to in around {
-        if let Some(other) = cells[to as usize] {
-            ways.push_reserved(Spill {
-                to,
-                height: other.max(height),
-            });
-        }
+    match all_ways(cells, height, around) {
+        Some(ways) => SmallVec::from_buf(alloc, ways),
+        None => some_ways(alloc, cells, height, around),
     }
-    ways
 }
 
 impl Net for CellNet {

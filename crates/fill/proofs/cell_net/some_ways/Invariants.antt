@@ -1,7 +1,7 @@
 use Rattle.std.proofs.Common.{◌≡◌, ◌≤◌, length, take}
 use Rattle.std.specs.List.{filter_map}
 use Rattle.fill.specs.Cells.{way_to}
-use Rattle.fill.proofs.cell_net.ways_to.Given as goal
+use Rattle.fill.proofs.cell_net.some_ways.Given as goal
 
 abbrev pub invariant-loop-to : goal.invariant-loop-to
 invariant-loop-to l = record {
