@@ -55,9 +55,9 @@ joins_of from (Some to) =
 abbrev pub Covered : List Join → Join → Type 0
 Covered joins j = (k : Join) × Contains joins k × (k.from ≡ j.from) × (k.to ≡ j.to) × (k.height ≤ℤ j.height)
 
--- The joins have been added, but for those that others cover.
+-- The joins have been added, but for those that others cover. Joins may have been lowered to added ones.
 pub record AddsCovered (old added new : List Join) : Type 0 where
-  pub kept : (j : Join) → Contains old j → Contains new j
+  pub kept : (j : Join) → Contains old j → Covered new j
   pub only : (j : Join) → Contains new j → Contains old j ⊎ Contains added j
   pub every : (j : Join) → Contains added j → Covered new j
 
@@ -83,9 +83,10 @@ pub record AddsAround (cols : ℕ) (f : Flood) (from : Mark) (i width : ℕ) (ol
   pub south : AddsNear cols f from (i + width) after_sixth after_seventh
   pub south_east : AddsNear cols f from (i + width + 1) after_seventh new
 
--- The joins of these places have been added, but for those that others cover, and no others.
+-- The joins of these places have been added, but for those that others cover, and no others. Joins may have
+-- been lowered to added ones.
 pub record Adds (c : Cutting) (floods : List Flood) (places : Place → Type 0) (old new : List Join) : Type 0 where
-  pub kept : (j : Join) → Contains old j → Contains new j
+  pub kept : (j : Join) → Contains old j → Covered new j
   pub only : (j : Join) → Contains new j → Contains old j ⊎ IsMeeting c floods j
   pub every : (p q : Place) (j : Join) → places p → Meets c floods p q j → Covered new j
 

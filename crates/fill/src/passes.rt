@@ -1,11 +1,11 @@
 // Where the labels of neighbouring cells meet.
-ghost use Rattle.std.specs.Prelude.{◌≡◌, ◌+◌, ◌<◌, ◌≤◌, ◌++◌, [], ℕ, Some, MatchOption, IfOk, OnOk, slice_index_or, length, IsTrue, ◌↔◌};
-ghost use Rattle.std.specs.Bool.{OnTrue};
+ghost use Rattle.std.specs.Prelude.{◌≡◌, ◌+◌, ◌<◌, ◌≤◌, ◌++◌, ◌∷◌, [], ℕ, Some, MatchOption, IfOk, OnOk, slice_index_or, length, IsTrue, ◌↔◌};
+ghost use Rattle.std.specs.Bool.{OnTrue, OnFalse};
 ghost use Rattle.std.specs.List.{Contains};
 ghost use Rattle.ascii_grid.specs.declared.place.Place.{Place};
 ghost use Rattle.tiles.specs.Cutting.{IsCutting, IsWithin, IsInTile, bounds_of, tile_count};
 ghost use Rattle.fill.specs.TileFlood.{LabelsInside};
-ghost use Rattle.fill.specs.Gathering.{Fit, Adds, AddsCovered, AddsAround, Covered, AreLowest, IsRepeat, joins_of, mark_among, mark_with};
+ghost use Rattle.fill.specs.Gathering.{Fit, Adds, AddsCovered, AddsAround, AreLowest, IsRepeat, joins_of, mark_among, mark_with};
 
 use crate::marks::{Mark, mark_at, mark_of_entry};
 use crate::spills::Join;
@@ -17,8 +17,8 @@ use tiles::{Bounds, Tiling};
 /// How many places [`Recent`] has.
 const RECENT: usize = 1024;
 
-/// Where joins were added, by a number that is made of their labels: a join that has been added as low
-/// is not added once more.
+/// Where joins were added, by a number that is made of their labels: a join of the same labels is not
+/// added once more.
 type Recent = [usize; RECENT];
 
 /// The place of two labels.
@@ -29,20 +29,27 @@ fn slot_of(from: u32, to: u32) -> usize
     from.wrapping_mul(31).wrapping_add(to) as usize % RECENT
 }
 
-/// Whether the join at this index is of the same labels as this one and not higher.
+/// Whether the join at this index is of the same labels as this one. Then it is made as low.
 #[inline(always)]
-fn covers(joins: &[Join], at: usize, join: Join) -> bool
-    ensures { OnTrue result (Covered joins.now join) }
+fn lowers(joins: &mut Vec<Join>, at: usize, join: Join) -> bool
+    ensures lowered { OnTrue result (AddsCovered joins.old.items (join ∷ []) joins.new.items) }
+    ensures other { OnFalse result (joins.new ≡ joins.old) }
 {
     if at >= joins.len() {
         return false;
     }
-    let other = joins[at];
-    other.from == join.from && other.to == join.to && other.height <= join.height
+    let met = joins[at];
+    if met.from != join.from || met.to != join.to {
+        return false;
+    }
+    if join.height < met.height {
+        joins[at] = join;
+    }
+    true
 }
 
-/// Adds the join of two marks, where their labels differ and the join that was added last for them does
-/// not cover it.
+/// Adds the join of two marks, where their labels differ. The join that was added last for them is made as
+/// low instead, where that is known.
 #[inline(always)]
 fn push_join(
     joins: &mut Vec<Join>,
@@ -62,7 +69,7 @@ fn push_join(
         height: from.level.max(to.level),
     };
     let slot = slot_of(join.from, join.to);
-    if covers(joins, recent[slot], join) {
+    if lowers(joins, recent[slot], join) {
         return Ok(());
     }
     recent[slot] = joins.len();
