@@ -14,19 +14,24 @@ use ascii_grid::{NoMemory, Place};
 use std::alloc::Global;
 use tiles::{Bounds, Tiling};
 
-/// How many places [`Recent`] has.
-const RECENT: usize = 1024;
+/// How many places [`Recent`] has: few, since they are cleared for each tile.
+const RECENT: usize = 256;
 
 /// Where joins were added, by a number that is made of their labels: a join of the same labels is not
 /// added once more.
-type Recent = [usize; RECENT];
+type Recent = [u32; RECENT];
 
-/// The place of two labels.
+/// The place of two labels. Labels along a side of a tile often differ by a multiple of a power of two, so all
+/// of their bits are mixed.
 #[inline(always)]
 fn slot_of(from: u32, to: u32) -> usize
-    ensures { result < 1024 }
+    ensures { result < 256 }
 {
-    from.wrapping_mul(31).wrapping_add(to) as usize % RECENT
+    let mixed = from
+        .wrapping_mul(31)
+        .wrapping_add(to)
+        .wrapping_mul(0x9E37_79B1);
+    (mixed >> 12) as usize % RECENT
 }
 
 /// Whether the join at this index is of the same labels as this one. Then it is made as low.
@@ -69,10 +74,10 @@ fn push_join(
         height: from.level.max(to.level),
     };
     let slot = slot_of(join.from, join.to);
-    if lowers(joins, recent[slot], join) {
+    if lowers(joins, recent[slot] as usize, join) {
         return Ok(());
     }
-    recent[slot] = joins.len();
+    recent[slot] = u32::try_from(joins.len()).unwrap_or(u32::MAX);
     if joins.push(join).is_err() {
         return Err(NoMemory);
     }
