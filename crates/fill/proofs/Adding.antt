@@ -1,5 +1,5 @@
 -- Joins that are added cell by cell.
-use Rattle.std.proofs.Common.{◌≡◌, ◌≢◌, ◌==◌, ℕ, ◌+◌, ◌-◌, ◌*◌, ◌/◌, ◌%◌, ◌<◌, ◌≤◌, ◌⊎◌, inl, inr, ℤ, ◌≤ℤ◌, List, [], ◌∷◌, ◌++◌, length, get_or, set, Option, None, Some, ◌∙◌, sym, ap, subst, refl, arith}
+use Rattle.std.proofs.Common.{◌≡◌, ◌≢◌, ◌==◌, ◌↔◌, ℕ, ◌+◌, ◌-◌, ◌*◌, ◌/◌, ◌%◌, ◌<◌, ◌≤◌, ◌⊎◌, inl, inr, ℤ, ◌≤ℤ◌, List, [], ◌∷◌, ◌++◌, length, get_or, set, Option, None, Some, ◌∙◌, sym, ap, subst, refl, arith}
 use Rattle.std.specs.Int.{int_max}
 use Rattle.std.proofs.lemmas.Int.{ints}
 use Rattle.std.specs.List.{Contains}
@@ -13,7 +13,7 @@ use Rattle.ascii_grid.specs.declared.place.Place.{Place}
 use Rattle.ascii_grid.proofs.Places.{same_place}
 use Rattle.tiles.specs.Cutting.{Cutting}
 use Rattle.fill.specs.TileFlood.{Flood}
-use Rattle.fill.specs.Gathering.{mark_among, Meets, IsMeeting, joins_of, Adds, AddsCovered, Covered}
+use Rattle.fill.specs.Gathering.{mark_among, Meets, IsMeetingAt, joins_of, Adds, AddsCovered, Covered}
 use Rattle.fill.specs.declared.spills.Join.{Join}
 use Rattle.fill.specs.declared.marks.Mark.{Mark}
 use Rattle.fill.proofs.Steps.{none_some, le_trans}
@@ -94,7 +94,7 @@ adds_differ old new from to differ s = subst (λ (z : List Join). AddsCovered ol
 -- the joins of a cell that have been added before a way
 pub record HasAdded (c : Cutting) (floods : List Flood) (p : Place) (way : ℕ) (old new : List Join) : Type 0 where
   pub kept : (j : Join) → Contains old j → Covered new j
-  pub only : (j : Join) → Contains new j → Contains old j ⊎ IsMeeting c floods j
+  pub only : (j : Join) → Contains new j → Contains old j ⊎ IsMeetingAt c floods (λ q. q ≡ p) j
   pub every : (q : Place) (j : Join) → (q.row + 1 - p.row) * 3 + (q.col + 1 - p.col) < way → Meets c floods p q j → Covered new j
 
 pub none_added : (c : Cutting) (floods : List Flood) (p : Place) (old : List Join) → HasAdded c floods p 0 old old
@@ -121,6 +121,7 @@ added_more c floods p near way from o old now new here there row col few s is = 
         inr (
           p,
           near,
+          refl,
           subst (λ (z : Join). Meets c floods p near z) m.3 (record {
             touches = touch;
             from_level = from.level;
@@ -199,12 +200,19 @@ adds_none c floods places old none = record {
 }
 
 -- one after another
-pub adds_then : (c : Cutting) (floods : List Flood) (first later both : Place → Type 0) (old now new : List Join) → ((p : Place) → both p → first p ⊎ later p) → Adds c floods first old now → Adds c floods later now new → Adds c floods both old new
+pub adds_then : (c : Cutting) (floods : List Flood) (first later both : Place → Type 0) (old now new : List Join) → ((p : Place) → both p ↔ (first p ⊎ later p)) → Adds c floods first old now → Adds c floods later now new → Adds c floods both old new
 adds_then c floods first later both old now new split a b = record {
   kept = λ j h. covered_still now new b.kept j (a.kept j h);
-  only = λ j h. elim (b.only j h) [ inl was ↦ a.only j was | inr meets ↦ inr meets ];
-  every = λ p q j at m. elim (split p at) [ inl early ↦ covered_still now new b.kept j (a.every p q j early m) | inr late ↦ b.every p q j late m ];
+  only = λ j h. elim (b.only j h) [
+    | inr late ↦ inr (late.0, late.1, (split late.0).1 (inr late.2), late.3)
+    | inl was ↦ elim (a.only j was) [ inl old ↦ inl old | inr early ↦ inr (early.0, early.1, (split early.0).1 (inl early.2), early.3) ]
+  ];
+  every = λ p q j at m. elim ((split p).0 at) [ inl early ↦ covered_still now new b.kept j (a.every p q j early m) | inr late ↦ b.every p q j late m ];
 }
 
-pub adds_as : (c : Cutting) (floods : List Flood) (first both : Place → Type 0) (old new : List Join) → ((p : Place) → both p → first p) → Adds c floods first old new → Adds c floods both old new
-adds_as c floods first both old new split a = record { kept = a.kept; only = a.only; every = λ p q j at m. a.every p q j (split p at) m }
+pub adds_as : (c : Cutting) (floods : List Flood) (first both : Place → Type 0) (old new : List Join) → ((p : Place) → both p ↔ first p) → Adds c floods first old new → Adds c floods both old new
+adds_as c floods first both old new same a = record {
+  kept = a.kept;
+  only = λ j h. elim (a.only j h) [ inl was ↦ inl was | inr made ↦ inr (made.0, made.1, (same made.0).1 made.2, made.3) ];
+  every = λ p q j at m. a.every p q j ((same p).0 at) m;
+}
