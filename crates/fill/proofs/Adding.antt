@@ -1,21 +1,22 @@
 -- Joins that are added cell by cell.
-use Rattle.std.proofs.Common.{◌≡◌, ◌≢◌, ◌==◌, ℕ, ◌+◌, ◌-◌, ◌*◌, ◌/◌, ◌%◌, ◌<◌, ◌≤◌, ◌⊎◌, inl, inr, ℤ, ◌≤ℤ◌, List, [], ◌∷◌, ◌++◌, Option, None, Some, ◌∙◌, sym, ap, subst, refl, arith}
+use Rattle.std.proofs.Common.{◌≡◌, ◌≢◌, ◌==◌, ◌↔◌, ℕ, ◌+◌, ◌-◌, ◌*◌, ◌/◌, ◌%◌, ◌<◌, ◌≤◌, ◌⊎◌, inl, inr, ℤ, ◌≤ℤ◌, List, [], ◌∷◌, ◌++◌, length, get_or, set, Option, None, Some, ◌∙◌, sym, ap, subst, refl, arith}
 use Rattle.std.specs.Int.{int_max}
 use Rattle.std.proofs.lemmas.Int.{ints}
 use Rattle.std.specs.List.{Contains}
 use Rattle.std.proofs.lemmas.Bool.{cases_eq, cond-true, cond-false, eq-eqb, eqb-true, cases_Bool}
 use Rattle.std.proofs.lemmas.Nat.{same_from_place, mod_below, div-add-mod'}
 use Rattle.std.proofs.lemmas.Option.{same_Some}
+use Rattle.std.proofs.lemmas.List.{length-set, get_or-set_same, get_or-set_other, get_or_default}
 use Rattle.std.proofs.lemmas.List.Elements.{Contains-append_left, Contains-append_right, Contains-append_cases}
 use Rattle.ascii_grid.specs.Neighbours.{Touches}
 use Rattle.ascii_grid.specs.declared.place.Place.{Place}
 use Rattle.ascii_grid.proofs.Places.{same_place}
 use Rattle.tiles.specs.Cutting.{Cutting}
 use Rattle.fill.specs.TileFlood.{Flood}
-use Rattle.fill.specs.Gathering.{mark_among, Meets, IsMeeting, joins_of, Adds, AddsCovered, Covered}
+use Rattle.fill.specs.Gathering.{mark_among, Meets, IsMeetingAt, joins_of, Adds, AddsCovered, Covered}
 use Rattle.fill.specs.declared.spills.Join.{Join}
 use Rattle.fill.specs.declared.marks.Mark.{Mark}
-use Rattle.fill.proofs.Steps.{none_some}
+use Rattle.fill.proofs.Steps.{none_some, le_trans}
 use Rattle.fill.proofs.Heaps.{cons_head, cons_cases}
 
 -- the join of two marks
@@ -38,39 +39,67 @@ joins_of_is from (Some to) j h = elim (cases_eq from.node to.node) [
   ]
 ]
 
--- what covers a join stays
-covered_still : (now new : List Join) → ((j : Join) → Contains now j → Contains new j) → (j : Join) → Covered now j → Covered new j
-covered_still now new kept j c = (c.0, kept c.0 c.1, c.2, c.3, c.4)
-
 le_refl : (a b : ℤ) → a ≡ b → a ≤ℤ b
 le_refl a b e = omega (arith, ints)
 
--- a join that is covered, and one that is added
-pub adds_covered_join : (old : List Join) (from to : Mark) → Covered old (record { from = from.node; to = to.node; height = int_max from.level to.level }) → AddsCovered old (joins_of from (Some to)) old
-adds_covered_join old from to covered = record {
-  kept = λ j h. h;
-  only = λ j h. inl h;
-  every = λ j h. subst (Covered old) (joins_of_is from (Some to) j h).3 (subst (λ (m : Mark). Covered old (record { from = from.node; to = m.node; height = int_max from.level m.level })) (same_Some to (joins_of_is from (Some to) j h).0 (joins_of_is from (Some to) j h).1) covered);
+-- a join covers itself
+pub covered_itself : (joins : List Join) (j : Join) → Contains joins j → Covered joins j
+covered_itself joins j h = (j, h, refl, refl, le_refl j.height j.height refl)
+
+-- what is covered stays so
+covered_still : (now new : List Join) → ((j : Join) → Contains now j → Covered new j) → (j : Join) → Covered now j → Covered new j
+covered_still now new kept j c = let d = kept c.0 c.1 in (d.0, d.1, d.2 ∙ c.2, d.3 ∙ c.3, le_trans _ _ _ d.4 c.4)
+
+one_held : (x y : Join) → Contains (x ∷ []) y → y ≡ x
+one_held x y h = elim (cons_cases x [] y h) [ inl same ↦ same | inr none ↦ absurd (no_join y none) ]
+
+-- a join that is added at the end
+pub adds_pushed : (old new : List Join) (j : Join) → new ≡ old ++ j ∷ [] → AddsCovered old (j ∷ []) new
+adds_pushed old new j is = subst (AddsCovered old (j ∷ [])) (sym is) (record {
+  kept = λ k h. covered_itself _ k (Contains-append_left old (j ∷ []) k h);
+  only = λ k h. Contains-append_cases old (j ∷ []) k h;
+  every = λ k h. covered_itself _ k (Contains-append_right old (j ∷ []) k h);
+})
+
+-- one that a join of the same labels covers
+pub adds_covered : (old : List Join) (at : ℕ) (met j : Join) → at < length old → met ≡ get_or old at met → met.from ≡ j.from → met.to ≡ j.to → met.height ≤ℤ j.height → AddsCovered old (j ∷ []) old
+adds_covered old at met j inside is from to low = record {
+  kept = λ k h. covered_itself old k h;
+  only = λ k h. inl h;
+  every = λ k h. subst (Covered old) (sym (one_held j k h)) (met, (at, inside, sym is), from, to, low);
 }
 
-pub adds_join : (old new : List Join) (from to : Mark) → from.node ≢ to.node → new ≡ old ++ record { from = from.node; to = to.node; height = int_max from.level to.level } ∷ [] → AddsCovered old (joins_of from (Some to)) new
-adds_join old new from to differ is = subst (λ (z : List Join). AddsCovered old (joins_of from (Some to)) z) (sym is) (subst (λ (z : List Join). AddsCovered old z (old ++ made ∷ [])) (sym (joins_of_differ from to differ)) (record {
-  kept = λ j h. Contains-append_left old (made ∷ []) j h;
-  only = λ j h. Contains-append_cases old (made ∷ []) j h;
-  every = λ j h. (j, Contains-append_right old (made ∷ []) j h, refl, refl, le_refl j.height j.height refl);
-})) where
-  made : Join
-  made = record { from = from.node; to = to.node; height = int_max from.level to.level }
+-- one that takes the place of a join of the same labels
+pub adds_lower : (old : List Join) (at : ℕ) (met j : Join) → at < length old → met ≡ get_or old at met → met.from ≡ j.from → met.to ≡ j.to → j.height ≤ℤ met.height → AddsCovered old (j ∷ []) (set old at j)
+adds_lower old at met j inside is from to low = record {
+  kept = λ k h. elim (cases_eq h.0 at) [
+    | inl same ↦
+        let k_is : met ≡ k = is ∙ get_or_default old at met k inside ∙ ap (λ n. get_or old n k) (sym same) ∙ h.2 in
+        subst (Covered (set old at j)) k_is (j, there, sym from, sym to, low)
+    | inr other ↦ covered_itself (set old at j) k (h.0, omega (arith, h.1, length-set old at j), get_or-set_other old at h.0 j k other ∙ h.2)
+  ];
+  only = λ k h. elim (cases_eq h.0 at) [
+    | inl same ↦ inr (subst (Contains (j ∷ [])) (sym (get_or-set_same old at j k inside) ∙ ap (λ n. get_or (set old at j) n k) (sym same) ∙ h.2) (cons_head j []))
+    | inr other ↦ inl (h.0, omega (arith, h.1, length-set old at j), sym (get_or-set_other old at h.0 j k other) ∙ h.2)
+  ];
+  every = λ k h. subst (Covered (set old at j)) (sym (one_held j k h)) (covered_itself (set old at j) j there);
+} where
+  there : Contains (set old at j) j
+  there = (at, omega (arith, inside, length-set old at j), get_or-set_same old at j j inside)
+
+-- the join of two marks that differ
+pub adds_differ : (old new : List Join) (from to : Mark) → from.node ≢ to.node → AddsCovered old (record { from = from.node; to = to.node; height = int_max from.level to.level } ∷ []) new → AddsCovered old (joins_of from (Some to)) new
+adds_differ old new from to differ s = subst (λ (z : List Join). AddsCovered old z new) (sym (joins_of_differ from to differ)) s
 
 -- the joins of a cell that have been added before a way
 pub record HasAdded (c : Cutting) (floods : List Flood) (p : Place) (way : ℕ) (old new : List Join) : Type 0 where
-  pub kept : (j : Join) → Contains old j → Contains new j
-  pub only : (j : Join) → Contains new j → Contains old j ⊎ IsMeeting c floods j
+  pub kept : (j : Join) → Contains old j → Covered new j
+  pub only : (j : Join) → Contains new j → Contains old j ⊎ IsMeetingAt c floods (λ q. q ≡ p) j
   pub every : (q : Place) (j : Join) → (q.row + 1 - p.row) * 3 + (q.col + 1 - p.col) < way → Meets c floods p q j → Covered new j
 
 pub none_added : (c : Cutting) (floods : List Flood) (p : Place) (old : List Join) → HasAdded c floods p 0 old old
 none_added c floods p old = record {
-  kept = λ j h. h;
+  kept = λ j h. covered_itself old j h;
   only = λ j h. inl h;
   every = λ q j low m. absurd (omega (arith, low));
 }
@@ -84,7 +113,7 @@ way_place p q way t e =
 -- the mark on the way was none, or its join was added
 pub added_more : (c : Cutting) (floods : List Flood) (p near : Place) (way : ℕ) (from : Mark) (o : Option Mark) (old now new : List Join) → mark_among c floods p ≡ Some from → mark_among c floods near ≡ o → near.row + 1 ≡ p.row + way / 3 → near.col + 1 ≡ p.col + way % 3 → way < 9 → HasAdded c floods p way old now → AddsCovered now (joins_of from o) new → HasAdded c floods p (way + 1) old new
 added_more c floods p near way from o old now new here there row col few s is = record {
-  kept = λ j h. is.kept j (s.kept j h);
+  kept = λ j h. covered_still now new is.kept j (s.kept j h);
   only = λ j h. elim (is.only j h) [
     | inl was ↦ s.only j was
     | inr made ↦
@@ -92,6 +121,7 @@ added_more c floods p near way from o old now new here there row col few s is = 
         inr (
           p,
           near,
+          refl,
           subst (λ (z : Join). Meets c floods p near z) m.3 (record {
             touches = touch;
             from_level = from.level;
@@ -156,7 +186,7 @@ all_added c floods p old new s = record {
 -- a cell with no mark has no joins
 pub no_mark_adds : (c : Cutting) (floods : List Flood) (p : Place) (old : List Join) → mark_among c floods p ≡ None → Adds c floods (λ q. q ≡ p) old old
 no_mark_adds c floods p old none = record {
-  kept = λ j h. h;
+  kept = λ j h. covered_itself old j h;
   only = λ j h. inl h;
   every = λ x q j same m. none_some _ (record { level = m.from_level; node = j.from }) (ap (mark_among c floods) same ∙ none) m.from_is;
 }
@@ -164,18 +194,25 @@ no_mark_adds c floods p old none = record {
 -- nothing has been added
 pub adds_none : (c : Cutting) (floods : List Flood) (places : Place → Type 0) (old : List Join) → ((p : Place) → places p → ⊥) → Adds c floods places old old
 adds_none c floods places old none = record {
-  kept = λ j h. h;
+  kept = λ j h. covered_itself old j h;
   only = λ j h. inl h;
   every = λ p q j at m. absurd (none p at);
 }
 
 -- one after another
-pub adds_then : (c : Cutting) (floods : List Flood) (first later both : Place → Type 0) (old now new : List Join) → ((p : Place) → both p → first p ⊎ later p) → Adds c floods first old now → Adds c floods later now new → Adds c floods both old new
+pub adds_then : (c : Cutting) (floods : List Flood) (first later both : Place → Type 0) (old now new : List Join) → ((p : Place) → both p ↔ (first p ⊎ later p)) → Adds c floods first old now → Adds c floods later now new → Adds c floods both old new
 adds_then c floods first later both old now new split a b = record {
-  kept = λ j h. b.kept j (a.kept j h);
-  only = λ j h. elim (b.only j h) [ inl was ↦ a.only j was | inr meets ↦ inr meets ];
-  every = λ p q j at m. elim (split p at) [ inl early ↦ covered_still now new b.kept j (a.every p q j early m) | inr late ↦ b.every p q j late m ];
+  kept = λ j h. covered_still now new b.kept j (a.kept j h);
+  only = λ j h. elim (b.only j h) [
+    | inr late ↦ inr (late.0, late.1, (split late.0).1 (inr late.2), late.3)
+    | inl was ↦ elim (a.only j was) [ inl old ↦ inl old | inr early ↦ inr (early.0, early.1, (split early.0).1 (inl early.2), early.3) ]
+  ];
+  every = λ p q j at m. elim ((split p).0 at) [ inl early ↦ covered_still now new b.kept j (a.every p q j early m) | inr late ↦ b.every p q j late m ];
 }
 
-pub adds_as : (c : Cutting) (floods : List Flood) (first both : Place → Type 0) (old new : List Join) → ((p : Place) → both p → first p) → Adds c floods first old new → Adds c floods both old new
-adds_as c floods first both old new split a = record { kept = a.kept; only = a.only; every = λ p q j at m. a.every p q j (split p at) m }
+pub adds_as : (c : Cutting) (floods : List Flood) (first both : Place → Type 0) (old new : List Join) → ((p : Place) → both p ↔ first p) → Adds c floods first old new → Adds c floods both old new
+adds_as c floods first both old new same a = record {
+  kept = a.kept;
+  only = λ j h. elim (a.only j h) [ inl was ↦ inl was | inr made ↦ inr (made.0, made.1, (same made.0).1 made.2, made.3) ];
+  every = λ p q j at m. a.every p q j ((same p).0 at) m;
+}

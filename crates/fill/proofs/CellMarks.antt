@@ -15,6 +15,7 @@ use Rattle.fill.specs.Gathering.{Fit, mark_of, mark_among, Meets, Adds}
 use Rattle.fill.specs.declared.spills.Join.{Join}
 use Rattle.fill.specs.declared.marks.Mark.{Mark}
 use Rattle.fill.proofs.Steps.{seen}
+use Rattle.fill.proofs.Adding.{covered_itself}
 use Rattle.fill.proofs.TileWindows.{in_bounds_parts, bounds_from_entry, entry_in-inside, entry_index}
 
 -- a label lies in the grid
@@ -128,7 +129,7 @@ one_label_around f nodes p are size row col last_row last_col e q t =
 -- a cell with one label around it adds no joins
 pub one_label_adds : (c : Cutting) (floods : List Flood) (tile : ℕ) (f : Flood) (p : Place) (old : List Join) → IsCutting c → tile < tile_count c → slice_get floods tile ≡ Some f → f.bounds ≡ bounds_of c tile → IsInTile c tile p → HasOneLabelAround f p → Adds c floods (λ q. q ≡ p) old old
 one_label_adds c floods tile f p old h below e bounds i around = record {
-  kept = λ j held. held;
+  kept = λ j held. covered_itself old j held;
   only = λ j held. inl held;
   every = λ x q j same m.
       let here = subst (λ (z : Place). Meets c floods z q j) same m in

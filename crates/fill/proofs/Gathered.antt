@@ -1,13 +1,13 @@
 -- The gathered joins and sources are those of the spill graph.
-use Rattle.std.proofs.Common.{◌≡◌, ◌≢◌, ℕ, ◌+◌, ◌-◌, ◌*◌, ◌/◌, ◌%◌, ◌<◌, ◌≤◌, inl, inr, ℤ, ◌≤ℤ◌, List, [], ◌++◌, length, get_or, Option, None, Some, is_some, ◌∙◌, sym, ap, subst, refl, arith}
+use Rattle.std.proofs.Common.{◌≡◌, ◌≢◌, ℕ, ◌+◌, ◌-◌, ◌*◌, ◌/◌, ◌%◌, ◌<◌, inl, inr, ℤ, ◌≤ℤ◌, List, [], length, get_or, Option, None, Some, is_some, ◌∙◌, sym, ap, subst, refl, arith}
 use Rattle.std.specs.Int.{int_max}
-use Rattle.std.specs.List.{Contains}
+use Rattle.std.specs.List.{Contains, flat_map}
 use Rattle.std.proofs.lemmas.Int.{ints, clamps}
-use Rattle.std.proofs.lemmas.Bool.{cases_eq, cases_lt, cases_order}
-use Rattle.std.proofs.lemmas.Nat.{div-mul-add, mod-mul-add, div-add-mod', mul-le}
+use Rattle.std.proofs.lemmas.Bool.{cases_lt, cases_order}
+use Rattle.std.proofs.lemmas.Nat.{div-mul-add, mod-mul-add, div-add-mod'}
 use Rattle.std.proofs.lemmas.Option.{same_Some, slice_get_within}
 use Rattle.std.proofs.lemmas.List.{get_or_default, get_or_past}
-use Rattle.std.proofs.lemmas.List.Elements.{Contains-append_left, Contains-append_right, Contains-append_cases, All-contains}
+use Rattle.std.proofs.lemmas.List.Elements.{All-contains}
 use Rattle.ascii_grid.specs.Raster.{Terrain}
 use Rattle.ascii_grid.specs.Neighbours.{height_at, index_of, IsDataCell, IsEdge, HasGapAround}
 use Rattle.ascii_grid.specs.declared.place.Place.{Place}
@@ -18,7 +18,9 @@ use Rattle.tiles.specs.declared.bounds.Bounds.{Bounds}
 use Rattle.tiles.proofs.TileOrder.{place_in, place_in_tile, index_in-place_in}
 use Rattle.fill.specs.TileFlood.{Flood, LabelsInside, IsTileFlood, label_in}
 use Rattle.fill.specs.Spills.{AreFloods, level_among, label_among, IsPass, Graph, source_in, AreSpillSources, IsGraphOf}
-use Rattle.fill.specs.Gathering.{Fit, mark_among, Meets, Adds, IsBefore, AreRising, AreLowest, AreGathered, HasGapAmong, IsSpillSource, IsSourceEntry, AreSources, IsGraph}
+use Rattle.fill.specs.Gathering.{Fit, mark_among, Meets, Adds, IsBefore, AreRising, AreLowest, AreGathered, HasGapAmong, IsSpillSource, IsSourceEntry, AreSources}
+use Rattle.fill.specs.Parts.{IsPart, AreParts, IsGraph, joins_by_part, graph_of_parts, tile_of_node}
+use Rattle.fill.specs.declared.parts.Part.{Part}
 use Rattle.fill.specs.declared.spills.Join.{Join}
 use Rattle.fill.specs.declared.marks.Mark.{Mark}
 use Rattle.fill.proofs.Steps.{seen, none_some, none_done, at_some, at_none}
@@ -27,19 +29,14 @@ use Rattle.fill.proofs.Windows.{data_is, no_data}
 use Rattle.fill.proofs.TileWindows.{data_within, entry_in-inside}
 use Rattle.fill.proofs.WindowLevels.{height_is}
 use Rattle.fill.proofs.Ways.{le_of, le_both}
-use Rattle.fill.proofs.Rims.{HasTileLevel, has_tile_level, level_has_data, label_has_data, edge_level, edge_label, flood_there, among_is}
+use Rattle.fill.proofs.Rims.{HasTileLevel, has_tile_level, level_has_data, label_has_data, label_in_tile, edge_level, edge_label, flood_there, among_is}
 use Rattle.fill.proofs.CellMarks.{label_within, mark_some, mark_parts, mark_outside}
 use Rattle.fill.proofs.Adding.{no_join}
+use Rattle.fill.proofs.Waits.{in_some_list, in_lists}
+use Rattle.fill.proofs.PartList.{part_there, part_with}
 
 max_turned : (a b : ℤ) → int_max b a ≡ int_max a b
 max_turned a b = omega (arith, ints, clamps)
-
--- nothing is gathered before the first tile
-pub gathered_none : (c : Cutting) (floods : List Flood) → AreGathered c floods (λ p. IsWithin c p × (tile_of_place c p < 0)) []
-gathered_none c floods = record {
-  only = λ j h. absurd (no_join j h);
-  every = λ p q j at m. absurd (omega (arith, at.1));
-}
 
 -- the lowest joins of a tile
 pub tile_gathered : (c : Cutting) (floods : List Flood) (tile : ℕ) (met lowest : List Join) → Adds c floods (IsInTile c tile) [] met → AreLowest met lowest → AreGathered c floods (IsInTile c tile) lowest
@@ -51,24 +48,19 @@ tile_gathered c floods tile met lowest adds low = record {
       (made.0, made.1, made.2 ∙ was.2, made.3 ∙ was.3, le_of _ _ _ made.4 was.4);
 }
 
--- one more tile
-pub gathered_more : (c : Cutting) (floods : List Flood) (tile : ℕ) (joins lowest new : List Join) → AreGathered c floods (λ p. IsWithin c p × (tile_of_place c p < tile)) joins → AreGathered c floods (IsInTile c tile) lowest → new ≡ joins ++ lowest → AreGathered c floods (λ p. IsWithin c p × (tile_of_place c p < tile + 1)) new
-gathered_more c floods tile joins lowest new s low is = subst (AreGathered c floods (λ p. IsWithin c p × (tile_of_place c p < tile + 1))) (sym is) (record {
-  only = λ j h. elim (Contains-append_cases joins lowest j h) [ inl was ↦ s.only j was | inr made ↦ low.only j made ];
-  every = λ p q j at m. elim (cases_eq (tile_of_place c p) tile) [
-    | inr other ↦ let was = s.every p q j (at.0, omega (arith, at.1, other)) m in (was.0, Contains-append_left joins lowest was.0 was.1, was.2, was.3, was.4)
-    | inl same ↦ let made = low.every p q j (at.0, same) m in (made.0, Contains-append_right joins lowest made.0 made.1, made.2, made.3, made.4)
-  ];
-})
-
--- the lowest of all
-pub gathered_lowest : (c : Cutting) (floods : List Flood) (joins lowest : List Join) → IsCutting c → AreGathered c floods (λ p. IsWithin c p × (tile_of_place c p < tile_count c)) joins → AreLowest joins lowest → AreGathered c floods (IsWithin c) lowest
-gathered_lowest c floods joins lowest h s low = record {
-  only = λ j k. s.only j (low.only j k);
+-- the joins of all parts
+pub parts_gathered : (c : Cutting) (floods : List Flood) (parts : List Part) → IsCutting c → AreParts c floods parts → AreGathered c floods (IsWithin c) (flat_map (λ joins. joins) (joins_by_part parts))
+parts_gathered c floods parts h are = record {
+  only = λ j there.
+      let at = in_some_list (joins_by_part parts) j there in
+      let x = part_with c floods parts at.0 j are at.1 in
+      let m = x.1.joins.only j (subst (λ (z : List Join). Contains z j) x.2 at.1) in
+      (m.0, m.1, m.2.0, m.3);
   every = λ p q j within m.
-      let was = s.every p q j (within, tile_of_place_below c p h within) m in
-      let now = low.every was.0 was.1 in
-      (now.0, now.1, now.2 ∙ was.2, now.3 ∙ was.3, le_of _ _ _ now.4 was.4);
+      let tile = tile_of_place c p in
+      let x = part_there c floods parts tile are (omega (arith, are.count, tile_of_place_below c p h within)) in
+      let made = x.1.joins.every p q j (within, refl) m in
+      (made.0, in_lists (joins_by_part parts) tile made.0 (subst (λ (z : List Join). Contains z made.0) (sym x.2) made.1), made.2, made.3, made.4);
 }
 
 -- joins that rise have each two labels once
@@ -123,44 +115,30 @@ meets_turned c floods p q j m = record {
   greater = max_turned m.from_level m.to_level ∙ m.greater;
 }
 
+-- Each two labels have one join at most.
+abbrev AreOnce : List Join → Type 0
+AreOnce joins = (j k : Join) → Contains joins j → Contains joins k → j.from ≡ k.from → j.to ≡ k.to → j ≡ k
+
 -- a gathered join is as low as each meeting of its labels
-low_as : (c : Cutting) (floods : List Flood) (joins : List Join) → IsCutting c → Fit c floods → AreGathered c floods (IsWithin c) joins → AreRising joins → (j k : Join) (p q : Place) → Contains joins j → Meets c floods p q k → j.from ≡ k.from → j.to ≡ k.to → j.height ≤ℤ k.height
-low_as c floods joins h fit s rise j k p q there m e f =
+low_as : (c : Cutting) (floods : List Flood) (joins : List Join) → IsCutting c → Fit c floods → AreGathered c floods (IsWithin c) joins → AreOnce joins → (j k : Join) (p q : Place) → Contains joins j → Meets c floods p q k → j.from ≡ k.from → j.to ≡ k.to → j.height ≤ℤ k.height
+low_as c floods joins h fit s once j k p q there m e f =
     let cover = s.every p q k (marked_within c floods p _ h fit m.from_is) m in
-    let same = one_join joins rise j cover.0 there cover.1 (e ∙ sym cover.2) (f ∙ sym cover.3) in
+    let same = once j cover.0 there cover.1 (e ∙ sym cover.2) (f ∙ sym cover.3) in
     subst (λ (z : Join). z.height ≤ℤ k.height) (sym same) cover.4
 
 -- a gathered join stands there both ways
-join_back : (c : Cutting) (floods : List Flood) (joins : List Join) → IsCutting c → Fit c floods → AreGathered c floods (IsWithin c) joins → AreRising joins → (j : Join) → Contains joins j → Contains joins (turned j)
-join_back c floods joins h fit s rise j there =
+join_back : (c : Cutting) (floods : List Flood) (joins : List Join) → IsCutting c → Fit c floods → AreGathered c floods (IsWithin c) joins → AreOnce joins → (j : Join) → Contains joins j → Contains joins (turned j)
+join_back c floods joins h fit s once j there =
     let meet = s.only j there in
-    let back = meets_turned c floods meet.0 meet.1 j meet.2 in
+    let back = meets_turned c floods meet.0 meet.1 j meet.3 in
     let cover = s.every meet.1 meet.0 (turned j) (marked_within c floods meet.1 _ h fit back.from_is) back in
     let other = s.only cover.0 cover.1 in
-    let again = meets_turned c floods other.0 other.1 cover.0 other.2 in
-    let low = low_as c floods joins h fit s rise j (turned cover.0) other.1 other.0 there again (sym cover.3) (sym cover.2) in
+    let again = meets_turned c floods other.0 other.1 cover.0 other.3 in
+    let low = low_as c floods joins h fit s once j (turned cover.0) other.1 other.0 there again (sym cover.3) (sym cover.2) in
     let height : cover.0.height ≡ j.height = le_both _ _ cover.4 low in
     subst (Contains joins) (same_join cover.0 (turned j) cover.2 cover.3 height) cover.1 where
       same_join : (x y : Join) → x.from ≡ y.from → x.to ≡ y.to → x.height ≡ y.height → x ≡ y
       same_join x y a b e = ap (λ n. record { from = n; to = x.to; height = x.height }) a ∙ ap (λ n. record { from = y.from; to = n; height = x.height }) b ∙ ap (λ n. record { from = y.from; to = y.to; height = n }) e
-
--- what is gathered is a graph
-pub gathered_graph : (c : Cutting) (floods : List Flood) (nodes : ℕ) (joins : List Join) (sources : List (Option ℤ)) → IsCutting c → Fit c floods → AreGathered c floods (IsWithin c) joins → AreRising joins → AreSources c floods sources → nodes ≡ c.cols * c.rows → IsGraph (record { nodes = nodes; joins = joins; sources = sources })
-gathered_graph c floods nodes joins sources h fit s rise are count = record {
-  few = omega (arith, count, mul-le c.cols c.rows 4096 4096 h.few_cols h.few_rows);
-  sources = are.size ∙ sym count;
-  ends = all_by_contains (λ (j : Join). (j.from < nodes) × (j.to < nodes)) joins (λ j there.
-      let meet = s.only j there in
-      (omega (arith, count, node_below c floods meet.0 _ h fit meet.2.from_is), omega (arith, count, node_below c floods meet.1 _ h fit meet.2.to_is)));
-  back = join_back c floods joins h fit s rise;
-  rising = λ m n d low below. elim (cases_eq m n) [
-    | inl same ↦ let e = ap (λ k. (get_or joins k d).from) same in omega (arith, e)
-    | inr other ↦ up (get_or joins m d) (get_or joins n d) (rise m n d (omega (arith, low, other)) below)
-  ];
-} where
-  up : (x y : Join) → IsBefore x y → x.from ≤ y.from
-  up x y (inl a) = omega arith
-  up x y (inr a) = omega (arith, a.0)
 
 -- floods of tiles fit
 fit_labels : (t : Terrain) (c : Cutting) (tile : ℕ) (f : Flood) → IsCutting c → tile < tile_count c → (c.cols ≡ t.cols) × (c.rows ≡ t.rows) → IsTileFlood t c tile f → LabelsInside c f
@@ -300,25 +278,68 @@ spill_sources t c floods g h are s = record {
   ];
 }
 
--- the graph is that of the floods
-pub graph_of : (t : Terrain) (c : Cutting) (floods : List Flood) (nodes : ℕ) (joins : List Join) (sources : List (Option ℤ)) → IsCutting c → AreFloods t c floods → AreGathered c floods (IsWithin c) joins → AreRising joins → AreSources c floods sources → nodes ≡ c.cols * c.rows → IsGraphOf t c floods (record { nodes = nodes; joins = joins; sources = sources })
-graph_of t c floods nodes joins sources h are s rise srcs count =
+-- a join is of the part of its first label's tile
+own_join : (t : Terrain) (c : Cutting) (floods : List Flood) (tile : ℕ) (x : Part) (j : Join) → IsCutting c → AreFloods t c floods → IsPart c floods tile x → Contains x.joins.items j → tile_of_node c j.from ≡ tile
+own_join t c floods tile x j h are part there =
+    let m = part.joins.only j there in
+    let mark = mark_parts c.cols (level_among c floods m.0) (label_among c floods m.0) _ m.3.from_is in
+    let l = has_tile_level t c floods h are m.0 (level_has_data t c floods h are m.0 m.3.from_level m.2.0 mark.1) in
+    let label : l.label ≡ mark.0 = same_Some l.label mark.0 (sym l.label_is ∙ mark.2) in
+    let within = data_within t c mark.0 are.cuts (subst (IsDataCell t) label (label_has_data t c m.0 l.label l.level l.right)) in
+    ap (tile_of_node c) (sym mark.3) ∙ ap (tile_of_place c) (source_place c mark.0 within ∙ sym label) ∙ label_in_tile t c m.0 l.label l.level l.right ∙ m.2.1
+
+own_joins : (t : Terrain) (c : Cutting) (floods : List Flood) (parts : List Part) → IsCutting c → AreFloods t c floods → AreParts c floods parts → (tile : ℕ) (j : Join) → Contains (get_or (joins_by_part parts) tile []) j → tile_of_node c j.from ≡ tile
+own_joins t c floods parts h are s tile j there =
+    let x = part_with c floods parts tile j s there in
+    own_join t c floods tile x.0 j h are x.1 (subst (λ (z : List Join). Contains z j) x.2 there)
+
+parts_once : (t : Terrain) (c : Cutting) (floods : List Flood) (parts : List Part) → IsCutting c → AreFloods t c floods → AreParts c floods parts → AreOnce (flat_map (λ joins. joins) (joins_by_part parts))
+parts_once t c floods parts h are s j k a b e f =
+    let lists = joins_by_part parts in
+    let x = in_some_list lists j a in
+    let y = in_some_list lists k b in
+    let same : y.0 ≡ x.0 = sym (own_joins t c floods parts h are s y.0 k y.1) ∙ ap (tile_of_node c) (sym e) ∙ own_joins t c floods parts h are s x.0 j x.1 in
+    let part = part_with c floods parts x.0 j s x.1 in
+    one_join (get_or lists x.0 []) (subst AreRising (sym part.2) part.1.rising) j k x.1 (subst (λ n. Contains (get_or lists n []) k) same y.1) e f
+
+-- what holds of the graph of the parts
+pub is_graph : (t : Terrain) (c : Cutting) (floods : List Flood) (parts : List Part) (sources : List (Option ℤ)) → IsCutting c → AreFloods t c floods → AreParts c floods parts → AreSources c floods sources → IsGraph c parts (graph_of_parts c parts sources)
+is_graph t c floods parts sources h are s srcs =
     let fit = fit_of t c floods h are in
-    let graph = gathered_graph c floods nodes joins sources h fit s rise srcs count in
+    let joins = flat_map (λ joins. joins) (joins_by_part parts) in
+    let gathered = parts_gathered c floods parts h s in
     record {
-      count = count;
+      count = s.count;
+      sources = srcs.size;
+      ends = all_by_contains (λ (j : Join). (j.from < c.cols * c.rows) × (j.to < c.cols * c.rows)) joins (λ j there.
+          let meet = gathered.only j there in
+          (node_below c floods meet.0 _ h fit meet.3.from_is, node_below c floods meet.1 _ h fit meet.3.to_is));
+      back = join_back c floods joins h fit gathered (parts_once t c floods parts h are s);
+      rising = λ tile below. let x = part_there c floods parts tile s below in subst AreRising (sym x.2) x.1.rising;
+      own = own_joins t c floods parts h are s;
+    }
+
+-- the graph is that of the floods
+pub is_graph_of : (t : Terrain) (c : Cutting) (floods : List Flood) (parts : List Part) (sources : List (Option ℤ)) → IsCutting c → AreFloods t c floods → AreParts c floods parts → AreSources c floods sources → IsGraphOf t c floods (graph_of_parts c parts sources)
+is_graph_of t c floods parts sources h are s srcs =
+    let fit = fit_of t c floods h are in
+    let graph = is_graph t c floods parts sources h are s srcs in
+    let joins = flat_map (λ joins. joins) (joins_by_part parts) in
+    let gathered = parts_gathered c floods parts h s in
+    record {
+      count = refl;
       joined = λ a b z differ pass.
           let m = pass_meets t c floods a b z differ pass in
-          let cover = s.every pass.from pass.to (record { from = a; to = b; height = z }) (marked_within c floods pass.from _ h fit m.from_is) m in
+          let cover = gathered.every pass.from pass.to (record { from = a; to = b; height = z }) (marked_within c floods pass.from _ h fit m.from_is) m in
           let there : Contains joins (record { from = a; to = b; height = cover.0.height }) = subst (Contains joins) (ap (λ n. record { from = n; to = cover.0.to; height = cover.0.height }) cover.2 ∙ ap (λ n. record { from = a; to = n; height = cover.0.height }) cover.3) cover.1 in
-          let ends = All-contains (λ (j : Join). (j.from < nodes) × (j.to < nodes)) joins (record { from = a; to = b; height = cover.0.height }) graph.ends there in
+          let ends = All-contains (λ (j : Join). (j.from < c.cols * c.rows) × (j.to < c.cols * c.rows)) joins (record { from = a; to = b; height = cover.0.height }) graph.ends there in
           (cover.0.height, record { from_node = ends.0; to_node = ends.1; there = there; back = graph.back _ there });
       joined_only = λ a b z join.
-          let meet = s.only (record { from = a; to = b; height = z }) join.there in
+          let meet = gathered.only (record { from = a; to = b; height = z }) join.there in
           record {
-            different = meet.2.different;
-            pass = meets_pass t c floods meet.0 meet.1 (record { from = a; to = b; height = z }) h are meet.2;
-            least = λ other pass. low_as c floods joins h fit s rise (record { from = a; to = b; height = z }) (record { from = a; to = b; height = other }) pass.from pass.to join.there (pass_meets t c floods a b other meet.2.different pass) refl refl;
+            different = meet.3.different;
+            pass = meets_pass t c floods meet.0 meet.1 (record { from = a; to = b; height = z }) h are meet.3;
+            least = λ other pass. low_as c floods joins h fit gathered (parts_once t c floods parts h are s) (record { from = a; to = b; height = z }) (record { from = a; to = b; height = other }) pass.from pass.to join.there (pass_meets t c floods a b other meet.3.different pass) refl refl;
           };
-      sources = spill_sources t c floods (record { nodes = nodes; joins = joins; sources = sources }) h are srcs;
+      sources = spill_sources t c floods (graph_of_parts c parts sources) h are srcs;
     }

@@ -1,29 +1,41 @@
 -- The ways of a node of a graph.
-use Rattle.std.proofs.Common.{◌≡◌, ℕ, ◌+◌, ◌-◌, ◌<◌, ◌≤◌, inl, inr, List, [], ◌∷◌, ◌++◌, length, get_or, map, take, drop, ◌∙◌, sym, ap, subst, arith, length-drop}
+use Rattle.std.proofs.Common.{◌≡◌, ℕ, ◌+◌, ◌-◌, ◌<◌, ◌≤◌, inl, inr, List, [], ◌∷◌, ◌++◌, length, get_or, map, take, drop, ℤ, Option, ◌∙◌, sym, ap, subst, refl, arith, length-drop}
 use Rattle.std.specs.List.{Contains}
-use Rattle.std.proofs.lemmas.Bool.{cases_lt}
+use Rattle.std.proofs.lemmas.Bool.{cases_eq, cases_lt}
 use Rattle.std.proofs.lemmas.List.{get_or-drop, get_or-take, get_or-map, map_more, length-map, length-take-le, get_or_default}
 use Rattle.std.proofs.lemmas.List.Elements.{All-contains, Contains-get_or}
 use Rattle.fill.specs.declared.net.Spill.{Spill}
 use Rattle.fill.specs.declared.spills.Join.{Join}
 use Rattle.fill.specs.Walk.{HasJust}
 use Rattle.fill.specs.Spills.{Graph, HasJoin}
-use Rattle.fill.specs.Gathering.{IsGraph, way_of}
+use Rattle.fill.specs.Gathering.{AreRising, IsBefore, way_of}
+use Rattle.fill.specs.Parts.{IsGraph, joins_by_part, graph_of_parts, tile_of_node}
+use Rattle.fill.specs.declared.parts.Part.{Part}
+use Rattle.tiles.specs.Cutting.{Cutting, tile_count}
+use Rattle.fill.proofs.Waits.{in_some_list, in_lists}
+use Rattle.fill.proofs.PartList.{joins_at}
 use Rattle.fill.proofs.Heaps.{all_by_contains}
 
+-- the first labels of joins that rise
+up : (joins : List Join) → AreRising joins → (m n : ℕ) (d : Join) → m ≤ n → n < length joins → (get_or joins m d).from ≤ (get_or joins n d).from
+up joins rise m n d low below = elim (cases_eq m n) [
+  | inl same ↦ let e = ap (λ k. (get_or joins k d).from) same in omega (arith, e)
+  | inr other ↦ first_up (get_or joins m d) (get_or joins n d) (rise m n d (omega (arith, low, other)) below)
+] where
+  first_up : (x y : Join) → IsBefore x y → x.from ≤ y.from
+  first_up x y (inl a) = omega arith
+  first_up x y (inr a) = omega (arith, a.0)
+
 -- the search halves what is left
-abbrev pub AreUp : List Join → Type 0
-AreUp joins = (m n : ℕ) (d : Join) → m ≤ n → n < length joins → (get_or joins m d).from ≤ (get_or joins n d).from
-
-pub below_more : (joins : List Join) (node middle : ℕ) (e : Join) → AreUp joins → middle < length joins → (get_or joins middle e).from < node → (k : ℕ) (d : Join) → k < middle + 1 → (get_or joins k d).from < node
-below_more joins node middle e up inside low k d below =
+pub below_more : (joins : List Join) (node middle : ℕ) (e : Join) → AreRising joins → middle < length joins → (get_or joins middle e).from < node → (k : ℕ) (d : Join) → k < middle + 1 → (get_or joins k d).from < node
+below_more joins node middle e rise inside low k d below =
     let same = ap (λ (j : Join). j.from) (get_or_default joins middle d e inside) in
-    omega (arith, up k middle d (omega (arith, below)) inside, same, low)
+    omega (arith, up joins rise k middle d (omega (arith, below)) inside, same, low)
 
-pub above_more : (joins : List Join) (node middle : ℕ) (e : Join) → AreUp joins → middle < length joins → node ≤ (get_or joins middle e).from → (k : ℕ) (d : Join) → middle ≤ k → k < length joins → node ≤ (get_or joins k d).from
-above_more joins node middle e up inside high k d above below =
+pub above_more : (joins : List Join) (node middle : ℕ) (e : Join) → AreRising joins → middle < length joins → node ≤ (get_or joins middle e).from → (k : ℕ) (d : Join) → middle ≤ k → k < length joins → node ≤ (get_or joins k d).from
+above_more joins node middle e rise inside high k d above below =
     let same = ap (λ (j : Join). j.from) (get_or_default joins middle d e inside) in
-    omega (arith, up middle k d above below, same, high)
+    omega (arith, up joins rise middle k d above below, same, high)
 
 -- one more way
 pub way_more : (joins : List Join) (start index : ℕ) (x : Join) (old new : List Spill) → start ≤ index → index < length joins → x ≡ get_or joins index x → old ≡ map way_of (take (index - start) (drop start joins)) → new ≡ old ++ way_of x ∷ [] → new ≡ map way_of (take (index + 1 - start) (drop start joins))
@@ -45,22 +57,44 @@ in_order joins node start end e inside low high = elim (cases_lt end start) [
   | inl less ↦ let a = low end e less in let b = high end e (omega arith) (omega (arith, less, inside)) in absurd (omega (arith, a, b))
 ]
 
+-- Of the joins of a graph these are the ones that begin at a node, and maybe others.
+pub record HasJoinsOf (g : Graph) (node : ℕ) (joins : List Join) : Type 0 where
+  pub only : (j : Join) → Contains joins j → Contains g.joins j
+  pub every : (j : Join) → Contains g.joins j → j.from ≡ node → Contains joins j
+
+-- the joins of the part of a node's tile are such
+pub part_joins : (c : Cutting) (parts : List Part) (sources : List (Option ℤ)) (node i : ℕ) (x : Part) → IsGraph c parts (graph_of_parts c parts sources) → i < tile_count c → i ≡ tile_of_node c node → x ≡ get_or parts i x → HasJoinsOf (graph_of_parts c parts sources) node x.joins.items
+part_joins c parts sources node i x is below tile at = record {
+  only = λ j h. in_lists (joins_by_part parts) i j (subst (λ (z : List Join). Contains z j) (sym list) h);
+  every = λ j h same.
+      let there = in_some_list (joins_by_part parts) j h in
+      let own : there.0 ≡ i = sym (is.own there.0 j there.1) ∙ ap (tile_of_node c) same ∙ sym tile in
+      subst (λ (z : List Join). Contains z j) (ap (λ n. get_or (joins_by_part parts) n []) own ∙ list) there.1;
+} where
+  list : get_or (joins_by_part parts) i [] ≡ x.joins.items
+  list = joins_at parts i x (omega (arith, below, is.count)) at
+
+pub part_rising : (c : Cutting) (parts : List Part) (g : Graph) (i : ℕ) (x : Part) → IsGraph c parts g → i < tile_count c → x ≡ get_or parts i x → AreRising x.joins.items
+part_rising c parts g i x is below at =
+    let low : i < length parts = omega (arith, below, is.count) in
+    subst AreRising (joins_at parts i x low at) (is.rising i low)
+
 -- the ways between are those of the node
-pub just_node : (g : Graph) (node start end : ℕ) → IsGraph g → start ≤ end → end ≤ length g.joins
-    → ((k : ℕ) (d : Join) → k < start → (get_or g.joins k d).from < node) → ((k : ℕ) (d : Join) → start ≤ k → k < length g.joins → node ≤ (get_or g.joins k d).from)
-    → ((k : ℕ) (d : Join) → k < end → (get_or g.joins k d).from < node + 1) → ((k : ℕ) (d : Join) → end ≤ k → k < length g.joins → node + 1 ≤ (get_or g.joins k d).from)
-    → HasJust (HasJoin g node) (map way_of (take (end - start) (drop start g.joins)))
-just_node g node start end is order inside before from upto after = record {
+pub just_node : (c : Cutting) (parts : List Part) (g : Graph) (joins : List Join) (node start end : ℕ) → IsGraph c parts g → HasJoinsOf g node joins → start ≤ end → end ≤ length joins
+    → ((k : ℕ) (d : Join) → k < start → (get_or joins k d).from < node) → ((k : ℕ) (d : Join) → start ≤ k → k < length joins → node ≤ (get_or joins k d).from)
+    → ((k : ℕ) (d : Join) → k < end → (get_or joins k d).from < node + 1) → ((k : ℕ) (d : Join) → end ≤ k → k < length joins → node + 1 ≤ (get_or joins k d).from)
+    → HasJust (HasJoin g node) (map way_of (take (end - start) (drop start joins)))
+just_node c parts g joins node start end is has order inside before from upto after = record {
   only = all_by_contains (λ way. HasJoin g node way.to way.height) ways (λ way h.
       let k = h.0 in
       let low : k < end - start = omega (arith, h.1, count) in
       let d : Join = record { from = node; to = way.to; height = way.height } in
-      let j : Join = get_or g.joins (start + k) d in
-      let there : Contains g.joins j = Contains-get_or g.joins (start + k) d (omega (arith, low, order, inside)) in
+      let j : Join = get_or joins (start + k) d in
+      let there : Contains g.joins j = has.only j (Contains-get_or joins (start + k) d (omega (arith, low, order, inside))) in
       let low_end = upto (start + k) d (omega (arith, low, order)) in
       let high_end = from (start + k) d (omega arith) (omega (arith, low, order, inside)) in
       let node_is : j.from ≡ node = omega (arith, low_end, high_end) in
-      let way_is : way_of j ≡ way = sym (get_or-map way_of part k d way (omega (arith, h.1, length-map part way_of)) ∙ ap way_of (get_or-take (end - start) (drop start g.joins) k d low ∙ get_or-drop start g.joins k d)) ∙ h.2 in
+      let way_is : way_of j ≡ way = sym (get_or-map way_of part k d way (omega (arith, h.1, length-map part way_of)) ∙ ap way_of (get_or-take (end - start) (drop start joins) k d low ∙ get_or-drop start joins k d)) ∙ h.2 in
       let join_is : j ≡ d = ap (λ n. record { from = n; to = j.to; height = j.height }) node_is ∙ ap (λ (s : Spill). record { from = node; to = s.to; height = s.height }) way_is in
       let ends = All-contains (λ (x : Join). (x.from < g.nodes) × (x.to < g.nodes)) g.joins j is.ends there in
       let both = subst (λ (x : Join). (x.from < g.nodes) × (x.to < g.nodes)) join_is ends in
@@ -68,25 +102,26 @@ just_node g node start end is order inside before from upto after = record {
       record { from_node = both.0; to_node = both.1; there = at; back = is.back d at });
   every = λ b z join.
       let d : Join = record { from = node; to = b; height = z } in
-      let k = join.there.0 in
-      let here : get_or g.joins k d ≡ d = join.there.2 in
-      let node_is : (get_or g.joins k d).from ≡ node = ap (λ (x : Join). x.from) here in
+      let held = has.every d join.there refl in
+      let k = held.0 in
+      let here : get_or joins k d ≡ d = held.2 in
+      let node_is : (get_or joins k d).from ≡ node = ap (λ (x : Join). x.from) here in
       let above : start ≤ k = elim (cases_lt k start) [ inr fine ↦ fine | inl less ↦ let a = before k d less in absurd (omega (arith, a, node_is)) ] in
-      let below : k < end = elim (cases_lt k end) [ inl fine ↦ fine | inr past ↦ let a = after k d past join.there.1 in absurd (omega (arith, a, node_is)) ] in (
+      let below : k < end = elim (cases_lt k end) [ inl fine ↦ fine | inr past ↦ let a = after k d past held.1 in absurd (omega (arith, a, node_is)) ] in (
         k - start,
         omega (arith, count, above, below),
         get_or-map way_of part (k - start) d (way_of d) (omega (arith, part_length, above, below))
-            ∙ ap way_of (get_or-take (end - start) (drop start g.joins) (k - start) d (omega (arith, above, below)) ∙ get_or-drop start g.joins (k - start) d ∙ ap (λ n. get_or g.joins n d) (forth start k above) ∙ here),
+            ∙ ap way_of (get_or-take (end - start) (drop start joins) (k - start) d (omega (arith, above, below)) ∙ get_or-drop start joins (k - start) d ∙ ap (λ n. get_or joins n d) (forth start k above) ∙ here),
       );
 } where
   part : List Join
-  part = take (end - start) (drop start g.joins)
+  part = take (end - start) (drop start joins)
 
   ways : List Spill
   ways = map way_of part
 
   part_length : length part ≡ end - start
-  part_length = length-take-le (end - start) (drop start g.joins) (omega (arith, length-drop start g.joins, inside, order))
+  part_length = length-take-le (end - start) (drop start joins) (omega (arith, length-drop start joins, inside, order))
 
   count : length ways ≡ end - start
   count = length-map part way_of ∙ part_length

@@ -14,7 +14,7 @@ use Rattle.fill.specs.declared.marks.Mark.{Mark}
 use Rattle.fill.proofs.Steps.{seen, at_some, at_none}
 use Rattle.fill.proofs.TileWindows.{entry_in-inside}
 use Rattle.fill.proofs.CellMarks.{mark_from_tile, mark_parts}
-use Rattle.fill.proofs.Adding.{joins_of_is, HasAdded, none_added, added_more, all_added, no_mark_adds}
+use Rattle.fill.proofs.Adding.{covered_itself, joins_of_is, HasAdded, none_added, added_more, all_added, no_mark_adds}
 
 -- an entry of a flood is the mark of its cell
 pub entry_mark : (c : Cutting) (floods : List Flood) (tile : ℕ) (f : Flood) (q : Place) (i : ℕ) → IsCutting c → tile < tile_count c → slice_get floods tile ≡ Some f → f.bounds ≡ bounds_of c tile → IsInBounds (bounds_of c tile) q → i ≡ (q.row - (bounds_of c tile).top) * (bounds_of c tile).cols + (q.col - (bounds_of c tile).left) → mark_among c floods q ≡ mark_with c.cols f i
@@ -29,7 +29,7 @@ entry_mark c floods tile f q i h below e bounds inside at =
 -- a cell with the same label gives no join
 pub same_label_adds : (cols : ℕ) (f : Flood) (i j : ℕ) (from : Mark) (now : List Join) → mark_with cols f i ≡ Some from → slice_index_or f.labels i None ≡ slice_index_or f.labels j None → AddsCovered now (joins_of from (mark_with cols f j)) now
 same_label_adds cols f i j from now is same = record {
-  kept = λ x h. h;
+  kept = λ x h. covered_itself now x h;
   only = λ x h. inl h;
   every = λ x h.
       let m = joins_of_is from (mark_with cols f j) x h in

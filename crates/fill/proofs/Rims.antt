@@ -90,6 +90,14 @@ label_data t c p (q ∷ rest) path = label_data t c q rest path.2
 pub label_has_data : (t : Terrain) (c : Cutting) (p label : Place) (level : ℤ) → IsTileLevel t c p level label → IsDataCell t label
 label_has_data t c p label level l = subst (IsDataCell t) l.reached.3 (label_data t c p l.reached.0 l.reached.1)
 
+-- and lies in the cell's tile
+last_in_tile : (t : Terrain) (c : Cutting) (p : Place) (rest : List Place) → IsTilePath t c p rest → tile_of_place c (last_of p rest) ≡ tile_of_place c p
+last_in_tile t c p [] path = refl
+last_in_tile t c p (q ∷ rest) path = last_in_tile t c q rest path.2 ∙ path.1
+
+pub label_in_tile : (t : Terrain) (c : Cutting) (p label : Place) (level : ℤ) → IsTileLevel t c p level label → tile_of_place c label ≡ tile_of_place c p
+label_in_tile t c p label level l = subst (λ (q : Place). tile_of_place c q ≡ tile_of_place c p) l.reached.3 (last_in_tile t c p l.reached.0 l.reached.1)
+
 -- a neighbour in another tile puts a cell on the rim
 on_rim_beside : (t : Terrain) (c : Cutting) (p q : Place) → IsCutting c → Cuts c t → IsNeighbour t p q → tile_of_place c q ≢ tile_of_place c p → is_on_rim c p ≡ true
 on_rim_beside t c p q h cuts n other =

@@ -37,14 +37,14 @@ pub entries_set : {Z : Type 0} (lists : List (Vec Waiting Z)) (k : ℕ) (v : Vec
 entries_set {Z} lists k v = map-set (λ (l : Vec Waiting Z). l.items) lists k v
 
 -- an entry is in one of the lists
-in_some_list : {X : Type 0} (lists : List (List X)) (x : X) → Contains (flat_map (λ l. l) lists) x → (k : ℕ) × Contains (get_or lists k []) x
+pub in_some_list : {X : Type 0} (lists : List (List X)) (x : X) → Contains (flat_map (λ l. l) lists) x → (k : ℕ) × Contains (get_or lists k []) x
 in_some_list [] x h = absurd (omega (arith, h.1))
 in_some_list (l ∷ lists) x h = elim (Contains-append_cases l (flat_map (λ l. l) lists) x h) [
   | inl here ↦ (0, here)
   | inr later ↦ let i = in_some_list lists x later in (suc i.0, i.1)
 ]
 
-in_lists : {X : Type 0} (lists : List (List X)) (k : ℕ) (x : X) → Contains (get_or lists k []) x → Contains (flat_map (λ l. l) lists) x
+pub in_lists : {X : Type 0} (lists : List (List X)) (k : ℕ) (x : X) → Contains (get_or lists k []) x → Contains (flat_map (λ l. l) lists) x
 in_lists [] k x h = absurd (omega (arith, h.1))
 in_lists (l ∷ lists) zero x h = Contains-append_left l (flat_map (λ l. l) lists) x h
 in_lists (l ∷ lists) (suc k) x h = Contains-append_right l (flat_map (λ l. l) lists) x (in_lists lists k x h)

@@ -1,12 +1,12 @@
 -- How the joins of a spill graph are gathered from the floods of the tiles.
-use Rattle.std.specs.Prelude.{◌≡◌, ◌≢◌, ℕ, ◌+◌, ◌-◌, ◌*◌, ◌/◌, ◌%◌, ◌<◌, ◌≤◌, ◌⊎◌, ◌==◌, if◌then◌else◌, ℤ, ◌≤ℤ◌, List, [], ◌∷◌, length, Option, None, Some, IsSome, MatchOption, slice_get, slice_index_or}
+use Rattle.std.specs.Prelude.{◌≡◌, ◌≢◌, ℕ, ◌+◌, ◌-◌, ◌*◌, ◌/◌, ◌%◌, ◌<◌, ◌⊎◌, ◌==◌, if◌then◌else◌, ℤ, ◌≤ℤ◌, List, [], ◌∷◌, length, Option, None, Some, IsSome, MatchOption, slice_get, slice_index_or}
 use Rattle.std.specs.Int.{int_max}
-use Rattle.std.specs.List.{Contains, All}
+use Rattle.std.specs.List.{Contains}
 use Rattle.ascii_grid.specs.Neighbours.{index_of, Touches}
 use Rattle.ascii_grid.specs.declared.place.Place.{Place}
 use Rattle.tiles.specs.Cutting.{Cutting, IsWithin, tile_count, bounds_of}
 use Rattle.fill.specs.TileFlood.{Flood, LabelsInside}
-use Rattle.fill.specs.Spills.{level_among, label_among, Graph}
+use Rattle.fill.specs.Spills.{level_among, label_among}
 use Rattle.fill.specs.declared.spills.Join.{Join}
 use Rattle.fill.specs.declared.marks.Mark.{Mark}
 use Rattle.fill.specs.declared.sources.Source.{Source}
@@ -42,8 +42,9 @@ pub record Meets (c : Cutting) (floods : List Flood) (p q : Place) (j : Join) : 
   pub different : j.from ≢ j.to
   pub greater : int_max from_level to_level ≡ j.height
 
-abbrev pub IsMeeting : Cutting → List Flood → Join → Type 0
-IsMeeting c floods j = (p q : Place) × Meets c floods p q j
+-- One of these places gives the join with a place that touches it.
+abbrev pub IsMeetingAt : Cutting → List Flood → (Place → Type 0) → Join → Type 0
+IsMeetingAt c floods places j = (p q : Place) × places p × Meets c floods p q j
 
 -- The joins that two marks give: one, where their labels differ.
 abbrev pub joins_of : Mark → Option Mark → List Join
@@ -55,9 +56,9 @@ joins_of from (Some to) =
 abbrev pub Covered : List Join → Join → Type 0
 Covered joins j = (k : Join) × Contains joins k × (k.from ≡ j.from) × (k.to ≡ j.to) × (k.height ≤ℤ j.height)
 
--- The joins have been added, but for those that others cover.
+-- The joins have been added, but for those that others cover. Joins may have been lowered to added ones.
 pub record AddsCovered (old added new : List Join) : Type 0 where
-  pub kept : (j : Join) → Contains old j → Contains new j
+  pub kept : (j : Join) → Contains old j → Covered new j
   pub only : (j : Join) → Contains new j → Contains old j ⊎ Contains added j
   pub every : (j : Join) → Contains added j → Covered new j
 
@@ -83,10 +84,11 @@ pub record AddsAround (cols : ℕ) (f : Flood) (from : Mark) (i width : ℕ) (ol
   pub south : AddsNear cols f from (i + width) after_sixth after_seventh
   pub south_east : AddsNear cols f from (i + width + 1) after_seventh new
 
--- The joins of these places have been added, but for those that others cover, and no others.
+-- The joins of these places have been added, but for those that others cover, and no others. Joins may have
+-- been lowered to added ones.
 pub record Adds (c : Cutting) (floods : List Flood) (places : Place → Type 0) (old new : List Join) : Type 0 where
-  pub kept : (j : Join) → Contains old j → Contains new j
-  pub only : (j : Join) → Contains new j → Contains old j ⊎ IsMeeting c floods j
+  pub kept : (j : Join) → Contains old j → Covered new j
+  pub only : (j : Join) → Contains new j → Contains old j ⊎ IsMeetingAt c floods places j
   pub every : (p q : Place) (j : Join) → places p → Meets c floods p q j → Covered new j
 
 -- The first join has labels before those of the second.
@@ -103,9 +105,9 @@ pub record AreLowest (joins lowest : List Join) : Type 0 where
   pub every : (j : Join) → Contains joins j → Covered lowest j
   pub rising : AreRising lowest
 
--- The joins of the places of the first tiles, each as low as those that were met.
+-- The joins of these places, each as low as those that were met.
 pub record AreGathered (c : Cutting) (floods : List Flood) (places : Place → Type 0) (joins : List Join) : Type 0 where
-  pub only : (j : Join) → Contains joins j → IsMeeting c floods j
+  pub only : (j : Join) → Contains joins j → IsMeetingAt c floods places j
   pub every : (p q : Place) (j : Join) → places p → Meets c floods p q j → Covered joins j
 
 -- A place outside or without data touches the place.
@@ -119,14 +121,6 @@ pub record IsSpillSource (c : Cutting) (floods : List Flood) (p : Place) (height
 
 abbrev pub IsSourceEntry : Cutting → List Flood → Place → Option ℤ → Type 0
 IsSourceEntry c floods p o = MatchOption o ((h : ℤ) → IsSpillSource c floods p h → ⊥) (λ h. IsSpillSource c floods p h)
-
--- What holds of every graph.
-pub record IsGraph (g : Graph) : Type 0 where
-  pub few : g.nodes ≤ 16777216
-  pub sources : length g.sources ≡ g.nodes
-  pub ends : All (λ j. (j.from < g.nodes) × (j.to < g.nodes)) g.joins
-  pub back : (j : Join) → Contains g.joins j → Contains g.joins (record { from = j.to; to = j.from; height = j.height })
-  pub rising : (m n : ℕ) (d : Join) → m ≤ n → n < length g.joins → (slice_index_or g.joins m d).from ≤ (slice_index_or g.joins n d).from
 
 -- The join before this one is of the same labels.
 abbrev pub IsRepeat : List Join → ℕ → Type 0

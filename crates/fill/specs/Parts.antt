@@ -1,16 +1,42 @@
 -- What the tiles add to the spill graph.
-use Rattle.std.specs.Prelude.{◌≡◌, ℕ, ◌<◌, List, [], length, slice_index_or}
-use Rattle.tiles.specs.Cutting.{Cutting, IsInTile, tile_count}
+use Rattle.std.specs.Prelude.{◌≡◌, ℕ, ◌*◌, ◌/◌, ◌%◌, ◌<◌, ℤ, List, [], map, length, Option, slice_index_or}
+use Rattle.std.specs.List.{Contains, All, flat_map}
+use Rattle.tiles.specs.Cutting.{Cutting, IsInTile, tile_count, tile_of_place}
 use Rattle.fill.specs.TileFlood.{Flood}
-use Rattle.fill.specs.Gathering.{AreGathered, AddsSources}
+use Rattle.fill.specs.Gathering.{AreGathered, AreRising, AddsSources}
+use Rattle.fill.specs.Spills.{Graph}
+use Rattle.fill.specs.declared.spills.Join.{Join}
 use Rattle.fill.specs.declared.parts.Part.{Part}
 
--- The joins and sources of the cells of a tile.
+-- The joins and sources of the cells of a tile. The joins rise by their labels.
 pub record IsPart (c : Cutting) (floods : List Flood) (tile : ℕ) (part : Part) : Type 0 where
   pub joins : AreGathered c floods (IsInTile c tile) part.joins.items
+  pub rising : AreRising part.joins.items
   pub sources : AddsSources c floods (IsInTile c tile) [] part.sources.items
 
 -- One part for each tile, in tile order.
 pub record AreParts (c : Cutting) (floods : List Flood) (parts : List Part) : Type 0 where
   pub count : length parts ≡ tile_count c
   pub each : (tile : ℕ) (d : Part) → tile < tile_count c → IsPart c floods tile (slice_index_or parts tile d)
+
+-- The joins of each part.
+abbrev pub joins_by_part : List Part → List (List Join)
+joins_by_part parts = map (λ part. part.joins.items) parts
+
+-- The graph of these parts. Its nodes are the places of the grid.
+abbrev pub graph_of_parts : Cutting → List Part → List (Option ℤ) → Graph
+graph_of_parts c parts sources = record { nodes = c.cols * c.rows; joins = flat_map (λ joins. joins) (joins_by_part parts); sources = sources }
+
+-- The tile of the place with this number.
+abbrev pub tile_of_node : Cutting → ℕ → ℕ
+tile_of_node c node = tile_of_place c (record { row = node / c.cols; col = node % c.cols })
+
+-- What holds of every graph: its joins stand there both ways, and those that begin at a node are of the part of
+-- the node's tile.
+pub record IsGraph (c : Cutting) (parts : List Part) (g : Graph) : Type 0 where
+  pub count : length parts ≡ tile_count c
+  pub sources : length g.sources ≡ g.nodes
+  pub ends : All (λ j. (j.from < g.nodes) × (j.to < g.nodes)) g.joins
+  pub back : (j : Join) → Contains g.joins j → Contains g.joins (record { from = j.to; to = j.from; height = j.height })
+  pub rising : (tile : ℕ) → tile < length parts → AreRising (slice_index_or (joins_by_part parts) tile [])
+  pub own : (tile : ℕ) (j : Join) → Contains (slice_index_or (joins_by_part parts) tile []) j → tile_of_node c j.from ≡ tile

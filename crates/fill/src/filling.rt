@@ -163,8 +163,7 @@ fn spill_levels(
         AreParts tiling.now floods parts.items → AreSpillLevels t tiling.now floods v.items) }
     ensures size { IfOk result (λ v. length v.items ≡ tiling.now.cols * tiling.now.rows) }
 {
-    let graph = SpillGraph::of_parts(alloc, tiling, &parts)?;
-    drop(parts);
+    let graph = SpillGraph::of_parts(alloc, tiling, parts)?;
     graph.levels(alloc)
 }
 

@@ -331,14 +331,9 @@ fn waiting_sources<N: Net>(
 pub(crate) fn empty_list<T: Copy>(alloc: Global, count: usize) -> Result<Vec<Option<T>>, NoMemory>
     ensures { IfOk result (λ v. v.items ≡ replicate count None) }
 {
-    let mut entries = match Vec::with_capacity(alloc, count) {
-        Ok(entries) => entries,
-        Err(_) => return Err(NoMemory),
-    };
-    for _ in 0..count {
-        if entries.push(None).is_err() {
-            return Err(NoMemory);
-        }
+    let mut entries = Vec::new(alloc);
+    if entries.resize(count, None).is_err() {
+        return Err(NoMemory);
     }
     Ok(entries)
 }

@@ -1,11 +1,11 @@
 // Where the labels of neighbouring cells meet.
-ghost use Rattle.std.specs.Prelude.{◌≡◌, ◌+◌, ◌<◌, ◌≤◌, ◌++◌, [], ℕ, Some, MatchOption, IfOk, OnOk, slice_index_or, length, IsTrue, ◌↔◌};
-ghost use Rattle.std.specs.Bool.{OnTrue};
+ghost use Rattle.std.specs.Prelude.{◌≡◌, ◌+◌, ◌<◌, ◌≤◌, ◌++◌, ◌∷◌, [], ℕ, Some, MatchOption, IfOk, OnOk, slice_index_or, length, IsTrue, ◌↔◌};
+ghost use Rattle.std.specs.Bool.{OnTrue, OnFalse};
 ghost use Rattle.std.specs.List.{Contains};
 ghost use Rattle.ascii_grid.specs.declared.place.Place.{Place};
 ghost use Rattle.tiles.specs.Cutting.{IsCutting, IsWithin, IsInTile, bounds_of, tile_count};
 ghost use Rattle.fill.specs.TileFlood.{LabelsInside};
-ghost use Rattle.fill.specs.Gathering.{Fit, Adds, AddsCovered, AddsAround, Covered, AreLowest, IsRepeat, joins_of, mark_among, mark_with};
+ghost use Rattle.fill.specs.Gathering.{Fit, Adds, AddsCovered, AddsAround, AreLowest, IsRepeat, joins_of, mark_among, mark_with};
 
 use crate::marks::{Mark, mark_at, mark_of_entry};
 use crate::spills::Join;
@@ -14,35 +14,47 @@ use ascii_grid::{NoMemory, Place};
 use std::alloc::Global;
 use tiles::{Bounds, Tiling};
 
-/// How many places [`Recent`] has.
-const RECENT: usize = 1024;
+/// How many places [`Recent`] has: few, since they are cleared for each tile.
+const RECENT: usize = 256;
 
-/// Where joins were added, by a number that is made of their labels: a join that has been added as low
-/// is not added once more.
-type Recent = [usize; RECENT];
+/// Where joins were added, by a number that is made of their labels: a join of the same labels is not
+/// added once more.
+type Recent = [u32; RECENT];
 
-/// The place of two labels.
+/// The place of two labels. Labels along a side of a tile often differ by a multiple of a power of two, so all
+/// of their bits are mixed.
 #[inline(always)]
 fn slot_of(from: u32, to: u32) -> usize
-    ensures { result < 1024 }
+    ensures { result < 256 }
 {
-    from.wrapping_mul(31).wrapping_add(to) as usize % RECENT
+    let mixed = from
+        .wrapping_mul(31)
+        .wrapping_add(to)
+        .wrapping_mul(0x9E37_79B1);
+    (mixed >> 12) as usize % RECENT
 }
 
-/// Whether the join at this index is of the same labels as this one and not higher.
+/// Whether the join at this index is of the same labels as this one. Then it is made as low.
 #[inline(always)]
-fn covers(joins: &[Join], at: usize, join: Join) -> bool
-    ensures { OnTrue result (Covered joins.now join) }
+fn lowers(joins: &mut Vec<Join>, at: usize, join: Join) -> bool
+    ensures lowered { OnTrue result (AddsCovered joins.old.items (join ∷ []) joins.new.items) }
+    ensures other { OnFalse result (joins.new ≡ joins.old) }
 {
     if at >= joins.len() {
         return false;
     }
-    let other = joins[at];
-    other.from == join.from && other.to == join.to && other.height <= join.height
+    let met = joins[at];
+    if met.from != join.from || met.to != join.to {
+        return false;
+    }
+    if join.height < met.height {
+        joins[at] = join;
+    }
+    true
 }
 
-/// Adds the join of two marks, where their labels differ and the join that was added last for them does
-/// not cover it.
+/// Adds the join of two marks, where their labels differ. The join that was added last for them is made as
+/// low instead, where that is known.
 #[inline(always)]
 fn push_join(
     joins: &mut Vec<Join>,
@@ -62,10 +74,10 @@ fn push_join(
         height: from.level.max(to.level),
     };
     let slot = slot_of(join.from, join.to);
-    if covers(joins, recent[slot], join) {
+    if lowers(joins, recent[slot] as usize, join) {
         return Ok(());
     }
-    recent[slot] = joins.len();
+    recent[slot] = u32::try_from(joins.len()).unwrap_or(u32::MAX);
     if joins.push(join).is_err() {
         return Err(NoMemory);
     }

@@ -5,15 +5,14 @@ ghost use Rattle.tiles.specs.Cutting.{Cutting, IsWithin, IsCutting};
 ghost use Rattle.fill.specs.TileFlood.{Flood};
 ghost use Rattle.fill.specs.Parts.{AreParts};
 ghost use Rattle.fill.specs.Spills.{AreFloods, IsGraphOf, AreLevelsOf};
-ghost use Rattle.fill.specs.Gathering.{AreGathered, AreRising, way_of};
+ghost use Rattle.fill.specs.Gathering.{AreRising, way_of};
 
 use crate::flooding::{Flooded, flood};
 use crate::net::{Net, Spill};
 use crate::parts::{Part, tile_parts};
-use crate::passes::lowest_joins;
 use crate::sources::gather_sources;
 use crate::tile::TileFlood;
-use ascii_grid::{Height, NoMemory};
+use ascii_grid::{Height, NoMemory, Place};
 use smallvec::SmallVec;
 use std::alloc::Global;
 use std::marker::Model;
@@ -32,9 +31,9 @@ pub struct Join {
 /// cells, and a label that is an edge cell is a source.
 #[derive(Drop)]
 pub struct SpillGraph {
-    nodes: u32,
-    // each join both ways, in the order of the labels
-    joins: Vec<Join>,
+    tiling: Tiling,
+    // the joins that begin at a label are of the part of its tile, and each stands there both ways
+    parts: Vec<Part>,
     sources: Vec<Option<Height>>,
 }
 
@@ -43,16 +42,17 @@ impl Model for SpillGraph {
 
     ghost Value = { Graph };
 
-    ghost use Rattle.fill.specs.Gathering.{IsGraph};
+    ghost use Rattle.tiles.specs.Cutting.{IsCutting};
+    ghost use Rattle.fill.specs.Parts.{IsGraph, graph_of_parts};
 
-    ghost view = { λ g. record { nodes = g.nodes; joins = g.joins.items; sources = g.sources.items } };
+    ghost view = { λ g. graph_of_parts g.tiling g.parts.items g.sources.items };
 
-    ghost invariant = { λ g. IsGraph (record { nodes = g.nodes; joins = g.joins.items; sources = g.sources.items }) };
+    ghost invariant = { λ g. IsCutting g.tiling × IsGraph g.tiling g.parts.items (graph_of_parts g.tiling g.parts.items g.sources.items) };
 }
 
 /// The first of the joins that begins at this node or a later one.
 fn first_from(joins: &[Join], node: u32) -> usize
-    requires { (m n : ℕ) (d : _) → m ≤ n → n < length joins.now → (slice_index_or joins.now m d).from ≤ (slice_index_or joins.now n d).from }
+    requires { AreRising joins.now }
     ensures few { result ≤ length joins.now }
     ensures below { (k : ℕ) (d : _) → k < result → (slice_index_or joins.now k d).from < node }
     ensures above { (k : ℕ) (d : _) → result ≤ k → k < length joins.now → node ≤ (slice_index_or joins.now k d).from }
@@ -109,33 +109,25 @@ impl Net for SpillGraph {
 
     #[inline]
     fn nodes(&self) -> u32 {
-        self.nodes
+        self.tiling.cols() * self.tiling.rows()
     }
 
     fn neighbours(&self, alloc: Global, node: u32) -> Result<SmallVec<Spill, 8>, NoMemory> {
-        let start = first_from(&self.joins, node);
-        let end = first_from(&self.joins, node + 1);
-        ways_between(alloc, &self.joins, start, end)
+        let cols = self.tiling.cols();
+        let place = Place {
+            row: node / cols,
+            col: node % cols,
+        };
+        let part = &self.parts[self.tiling.tile_of(place) as usize];
+        let start = first_from(&part.joins, node);
+        let end = first_from(&part.joins, node + 1);
+        ways_between(alloc, &part.joins, start, end)
     }
 
     #[inline]
     fn source(&self, node: u32) -> Option<Height> {
         self.sources[node as usize]
     }
-}
-
-/// The joins of the labels of all tiles, each as low as it gets.
-fn gather_joins(alloc: Global, parts: &[Part]) -> Result<Vec<Join>, NoMemory>
-    ensures gathered { IfOk result (λ v. (c : Cutting) (floods : List Flood) → IsCutting c → AreParts c floods parts.now → AreGathered c floods (IsWithin c) v.items) }
-    ensures rising { IfOk result (λ v. AreRising v.items) }
-{
-    let mut joins = Vec::new(alloc);
-    for part in parts {
-        if joins.extend_from_slice(&part.joins).is_err() {
-            return Err(NoMemory);
-        }
-    }
-    lowest_joins(alloc, joins)
 }
 
 impl SpillGraph {
@@ -149,24 +141,22 @@ impl SpillGraph {
         ensures { IfOk result (λ g. (t : Terrain) → AreFloods t tiling.now floods.now → IsGraphOf t tiling.now floods.now g) }
     {
         let parts = tile_parts(alloc, tiling, floods)?;
-        SpillGraph::of_parts(alloc, tiling, &parts)
+        SpillGraph::of_parts(alloc, tiling, parts)
     }
 
     /// The graph of what each tile adds to it, in tile order.
     pub(crate) fn of_parts(
         alloc: Global,
         tiling: &Tiling,
-        parts: &[Part],
+        parts: Vec<Part>,
     ) -> Result<SpillGraph, NoMemory>
-        requires { (t : Terrain) × (floods : List Flood) × AreFloods t tiling.now floods × AreParts tiling.now floods parts.now }
-        ensures { IfOk result (λ g. (t : Terrain) (floods : List Flood) → AreFloods t tiling.now floods → AreParts tiling.now floods parts.now → IsGraphOf t tiling.now floods g) }
+        requires { (t : Terrain) × (floods : List Flood) × AreFloods t tiling.now floods × AreParts tiling.now floods parts.items }
+        ensures { IfOk result (λ g. (t : Terrain) (floods : List Flood) → AreFloods t tiling.now floods → AreParts tiling.now floods parts.items → IsGraphOf t tiling.now floods g) }
     {
-        let nodes = tiling.cols() * tiling.rows();
-        let joins = gather_joins(alloc, parts)?;
-        let sources = gather_sources(alloc, tiling, parts)?;
+        let sources = gather_sources(alloc, tiling, &parts)?;
         Ok(SpillGraph {
-            nodes,
-            joins,
+            tiling: *tiling,
+            parts,
             sources,
         })
     }

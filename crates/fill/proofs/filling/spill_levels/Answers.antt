@@ -11,7 +11,7 @@ returns-clause-levels c =
     IfOk-weaker c.levels.result
     (λ (v : Vec (Option ℤ) Global). AreLevelsOf c.in_ok-graph.graph v.items)
     (λ (v : Vec (Option ℤ) Global). (t : Terrain) (floods : List Flood) → AreFloods t c.args.tiling.now floods → AreParts c.args.tiling.now floods c.args.parts.items → AreSpillLevels t c.args.tiling.now floods v.items)
-    (λ v l t floods are parts. (c.in_ok-graph.graph, c.in_ok-graph.ensures t floods are (rw c.deref.ensures.value parts), l))
+    (λ v l t floods are parts. (c.in_ok-graph.graph, c.in_ok-graph.ensures t floods are parts, l))
     c.levels.ensures
 
 pub returns-clause-size : goal.returns-clause-size
@@ -19,5 +19,5 @@ returns-clause-size c =
     IfOk-weaker c.levels.result
     (λ (v : Vec (Option ℤ) Global). AreLevelsOf c.in_ok-graph.graph v.items)
     (λ (v : Vec (Option ℤ) Global). length v.items ≡ c.args.tiling.now.cols * c.args.tiling.now.rows)
-    (λ v l. l.1.levels_size ∙ (c.in_ok-graph.ensures c.requires.0 c.requires.1 c.requires.2 (rw c.deref.ensures.value c.requires.3)).count)
+    (λ v l. l.1.levels_size ∙ (c.in_ok-graph.ensures c.requires.0 c.requires.1 c.requires.2 c.requires.3).count)
     c.levels.ensures

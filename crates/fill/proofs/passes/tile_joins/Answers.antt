@@ -10,10 +10,13 @@ loop-row-preserved c =
     (λ p. IsInTile c.args.tiling.now c.args.tile p × (p.row < c.loop-row.row))
     (λ p. IsInTile c.args.tiling.now c.args.tile p × (p.row ≡ c.loop-row.row))
     (λ p. IsInTile c.args.tiling.now c.args.tile p × (p.row < c.loop-row.row + 1)) _ _ _
-    (λ p at. elim (cases_lt p.row c.loop-row.row) [
-      | inl early ↦ inl (at.0, early)
-      | inr late ↦ inr (at.0, omega (arith, at.1, late))
-    ])
+    (λ p. (
+      λ at. elim (cases_lt p.row c.loop-row.row) [
+        | inl early ↦ inl (at.0, early)
+        | inr late ↦ inr (at.0, omega (arith, at.1, late))
+      ],
+      λ at. elim at [ inl early ↦ (early.0, omega (arith, early.1)) | inr late ↦ (late.0, omega (arith, late.1)) ],
+    ))
     c.loop-row.invariant c.in_ok-push_cells.ensures
 
 pub returns : goal.returns
@@ -21,5 +24,5 @@ returns c =
     adds_as c.args.tiling.now c.args.floods.now
     (λ p. IsInTile c.args.tiling.now c.args.tile p × (p.row < c.loop-row.row))
     (IsInTile c.args.tiling.now c.args.tile) _ _
-    (λ p at. let inside = (c.bounds-top.ensures.places p).0 at in (at, omega (arith, inside.1, c.loop-row-test.false)))
+    (λ p. (λ at. let inside = (c.bounds-top.ensures.places p).0 at in (at, omega (arith, inside.1, c.loop-row-test.false)), λ at. at.0))
     c.loop-row.invariant

@@ -1,21 +1,15 @@
-use Rattle.std.proofs.Common.{◌*◌, ap, ◌∙◌, ℕ}
-use Rattle.fill.proofs.Gathered.{fit_of, gathered_graph, graph_of}
+use Rattle.fill.specs.Parts.{AreParts}
+use Rattle.fill.proofs.Gathered.{is_graph, is_graph_of}
 use Rattle.fill.proofs.spills.SpillGraph.of_parts.Goals as goal
 
 pub gather_sources-requires : goal.gather_sources-requires
-gather_sources-requires c = (c.requires.1, c.requires.3)
+gather_sources-requires c = (c.requires.1, rw c.deref.ensures.value c.requires.3)
 
 pub invariant_of-result : goal.invariant_of-result
 invariant_of-result c =
-    let t = c.args.tiling.now in
-    let floods = c.requires.1 in
-    gathered_graph t floods _ c.in_ok-joins.joins.items c.in_ok-sources.sources.items c.cols.ensures.lawful
-    (fit_of c.requires.0 t floods c.cols.ensures.lawful c.requires.2) (c.in_ok-joins.ensures.gathered t floods c.cols.ensures.lawful c.requires.3) c.in_ok-joins.ensures.rising (c.in_ok-sources.ensures floods c.requires.3)
-    (ap (λ (n : ℕ). n * c.rows.result) c.cols.ensures.value ∙ ap (λ (n : ℕ). t.cols * n) c.rows.ensures.value)
+    let parts : AreParts c.args.tiling.now c.requires.1 c.deref.result.now = rw c.deref.ensures.value c.requires.3 in
+    (c.requires.2.lawful, is_graph c.requires.0 c.args.tiling.now c.requires.1 c.args.parts.items c.in_ok-sources.sources.items c.requires.2.lawful c.requires.2 c.requires.3 (c.in_ok-sources.ensures c.requires.1 parts))
 
 pub returns : goal.returns
 returns c = λ t floods are parts.
-    let k = c.args.tiling.now in
-    graph_of t k floods _ c.in_ok-joins.joins.items c.in_ok-sources.sources.items c.cols.ensures.lawful are
-    (c.in_ok-joins.ensures.gathered k floods c.cols.ensures.lawful parts) c.in_ok-joins.ensures.rising (c.in_ok-sources.ensures floods parts)
-    (ap (λ (n : ℕ). n * c.rows.result) c.cols.ensures.value ∙ ap (λ (n : ℕ). k.cols * n) c.rows.ensures.value)
+    is_graph_of t c.args.tiling.now floods c.args.parts.items c.in_ok-sources.sources.items are.lawful are parts (c.in_ok-sources.ensures floods (rw c.deref.ensures.value parts))
