@@ -9,7 +9,7 @@ use Rattle.std.proofs.lemmas.List.Folds.{list_any-append, list_any_at, Any-from_
 use Rattle.ascii_grid.specs.declared.place.Place.{Place}
 use Rattle.tiles.specs.declared.bounds.Bounds.{Bounds}
 use Rattle.tiles.specs.Cutting.{Cutting, IsWithin}
-use Rattle.fill.specs.Labels.{labels_by, IsTable, label_of_node, AreNodesBelow, AreMet, IsListedAt}
+use Rattle.fill.specs.Labels.{labels_by, IsTable, label_of_node, AreNodesBelow, IsListedAt}
 use Rattle.fill.specs.TileFlood.{Flood, IsFlood, LabelsInside}
 use Rattle.fill.proofs.Steps.{none_some, seen}
 
@@ -72,23 +72,6 @@ labels_more b first now next nodes i low is more =
     more ∙ ap (λ z. z ++ label_of_node b (get_or nodes i None) ∷ []) is
     ∙ append_assoc first (map (label_of_node b) (take i nodes)) (label_of_node b (get_or nodes i None) ∷ [])
     ∙ ap (λ z. first ++ z) (sym (map_more (label_of_node b) nodes i None low))
-
--- a table with no place yet
-pub none_met : (b : Bounds) (met : List ℕ) (places : List (Option Place)) → ((a : ℕ) → get_or met a 0 ≡ 0) → places ≡ None ∷ [] → AreMet b met places
-none_met b met places none is = record {
-  inside = λ a. omega (arith, none a, ap length is);
-  place = λ a some. absurd (omega (arith, none a, some));
-}
-
-pub no_cells : (places : List (Option Place)) → places ≡ None ∷ [] → IsTable places []
-no_cells places is = subst (λ (z : List (Option Place)). IsTable z []) (sym is) (record {
-  first = refl;
-  inside = λ k d low. absurd (omega (arith, low));
-  used = λ k p e. none_some _ p (empty k) e;
-}) where
-  empty : (k : ℕ) → get_or {A = Option Place} (None ∷ []) k None ≡ None
-  empty zero = refl
-  empty (suc k) = get_or_past {X = Option Place} (None ∷ []) (suc k) None (omega arith)
 
 -- nodes of a part of a list
 pub nodes_between : (nodes : List (Option ℕ)) (count from cols : ℕ) → AreNodesBelow count nodes → AreNodesBelow count (take cols (drop from nodes))

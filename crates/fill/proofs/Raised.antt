@@ -1,9 +1,8 @@
 -- A raised tile has its filled heights.
-use Rattle.std.proofs.Common.{◌≡◌, ℕ, ◌+◌, ◌-◌, ◌*◌, ◌<◌, inl, inr, ℤ, List, [], ◌∷◌, ◌++◌, length, get_or, map, Option, None, Some, is_some, ◌∙◌, sym, ap, subst, refl, arith}
+use Rattle.std.proofs.Common.{◌≡◌, ℕ, ◌+◌, ◌-◌, ◌*◌, ◌<◌, inl, inr, ℤ, List, length, get_or, map, Option, None, Some, is_some, ◌∙◌, sym, ap, subst, refl, arith}
 use Rattle.std.specs.Prelude.{slice_get, option_and_then}
 use Rattle.std.specs.Int.{int_max}
-use Rattle.std.proofs.lemmas.Bool.{cases_eq}
-use Rattle.std.proofs.lemmas.List.{get_or-map, get_or_append_left, get_or_push, length_push}
+use Rattle.std.proofs.lemmas.List.{get_or-map}
 use Rattle.ascii_grid.specs.Raster.{Terrain}
 use Rattle.ascii_grid.specs.Neighbours.{height_at, index_of}
 use Rattle.ascii_grid.specs.declared.place.Place.{Place}
@@ -22,18 +21,6 @@ use Rattle.fill.proofs.Rims.{has_tile_level, among_is, rims}
 pub record AreFirstGreater (levels : List (Option ℤ)) (labels : List ℕ) (spills : List (Option ℤ)) (count : ℕ) (raised : List (Option ℤ)) : Type 0 where
   pub size : length raised ≡ count
   pub each : (i : ℕ) → i < count → get_or raised i None ≡ greater_of (get_or levels i None) (get_or spills (get_or labels i 0) None)
-
-pub greater_more : (levels : List (Option ℤ)) (labels : List ℕ) (spills : List (Option ℤ)) (i : ℕ) (x : Option ℤ) (old new : List (Option ℤ)) → AreFirstGreater levels labels spills i old → x ≡ greater_of (get_or levels i None) (get_or spills (get_or labels i 0) None) → new ≡ old ++ x ∷ [] → AreFirstGreater levels labels spills (i + 1) new
-greater_more levels labels spills i x old new s here is = subst (AreFirstGreater levels labels spills (i + 1)) (sym is) (record {
-  size = length_push old x ∙ ap (λ n. n + 1) s.size;
-  each = λ k low. elim (cases_eq k i) [
-    | inr other ↦ get_or_append_left old (x ∷ []) None k (omega (arith, low, other, s.size)) ∙ s.each k (omega (arith, low, other))
-    | inl same ↦ ap (λ n. get_or (old ++ x ∷ []) n None) same ∙ get_or_push old x None i s.size ∙ here ∙ ap (λ n. greater_of (get_or levels n None) (get_or spills (get_or labels n 0) None)) (sym same)
-  ];
-})
-
-pub all_greater : (levels : List (Option ℤ)) (labels : List ℕ) (spills raised : List (Option ℤ)) (count : ℕ) → count ≡ length levels → AreFirstGreater levels labels spills count raised → AreGreater levels labels spills raised
-all_greater levels labels spills raised count all s = record { size = s.size ∙ all; each = λ i low. s.each i (omega (arith, low, all)) }
 
 -- by the levels of the labels of its table a tile is raised
 pub raised_by_table : (c : Cutting) (f : Flood) (places : List (Option Place)) (cells : List ℕ) (levels spills raised : List (Option ℤ)) → f.labels ≡ labels_by places cells → IsTable places cells → length cells ≡ length f.levels → spills ≡ map (spill_of c levels) places → AreGreater f.levels cells spills raised → IsRaised c f levels raised
