@@ -1,5 +1,5 @@
 -- What the floods say of a cell.
-use Rattle.std.proofs.Common.{◌≡◌, ℕ, ◌+◌, ◌-◌, ◌*◌, ◌<◌, ◌≤◌, ◌⊎◌, map, inl, inr, ℤ, true, List, length, get_or, Option, None, Some, ◌∙◌, sym, ap, subst, refl, arith}
+use Rattle.std.proofs.Common.{◌≡◌, ℕ, ◌+◌, ◌-◌, ◌*◌, ◌<◌, ◌≤◌, ◌⊎◌, inl, inr, ℤ, true, List, length, get_or, Option, None, Some, ◌∙◌, sym, ap, subst, refl, arith}
 use Rattle.std.specs.Prelude.{slice_get, option_and_then}
 use Rattle.std.proofs.lemmas.Bool.{cond-false, cases_Bool, cases_eq, cases_lt}
 use Rattle.std.proofs.lemmas.List.{get_or-map}
@@ -10,7 +10,8 @@ use Rattle.ascii_grid.specs.declared.place.Place.{Place}
 use Rattle.tiles.specs.declared.bounds.Bounds.{Bounds}
 use Rattle.tiles.specs.Cutting.{Cutting, IsCutting, IsWithin, IsInTile, IsInBounds, tile_count, tile_of_place, bounds_of}
 use Rattle.tiles.proofs.Cut.{in_tile}
-use Rattle.fill.specs.TileFlood.{Flood, LabelsInside, is_in_bounds, level_in, label_in, entry_in, label_of_node, AreEqualAround, HasOneLabelAround}
+use Rattle.fill.specs.TileFlood.{Flood, LabelsInside, is_in_bounds, level_in, label_in, entry_in, AreEqualAround, HasOneLabelAround}
+use Rattle.fill.specs.Labels.{labels_by}
 use Rattle.fill.specs.Gathering.{Fit, mark_of, mark_among, Meets, Adds}
 use Rattle.fill.specs.declared.spills.Join.{Join}
 use Rattle.fill.specs.declared.marks.Mark.{Mark}
@@ -111,20 +112,20 @@ equal_near xs w r c s d one_row one_col e up down left right =
       at : (i j : ℕ) → i ≡ j → get_or xs i 0 ≡ get_or xs j 0
       at i j same = ap (λ n. get_or xs n 0) same
 
--- labels by their nodes
-pub label_by_node : (b : Bounds) (nodes : List ℕ) (p : Place) → length nodes ≡ b.rows * b.cols → IsInBounds b p → entry_in b (map (label_of_node b) nodes) p ≡ label_of_node b (get_or nodes ((p.row - b.top) * b.cols + (p.col - b.left)) 0)
-label_by_node b nodes p size i =
-    entry_in-inside b (map (label_of_node b) nodes) p i
-    ∙ get_or-map (label_of_node b) nodes ((p.row - b.top) * b.cols + (p.col - b.left)) 0 None (omega (arith, size, entry_index b p i))
+-- labels by their entries
+pub label_by_entry : (b : Bounds) (places : List (Option Place)) (cells : List ℕ) (p : Place) → length cells ≡ b.rows * b.cols → IsInBounds b p → entry_in b (labels_by places cells) p ≡ get_or places (get_or cells ((p.row - b.top) * b.cols + (p.col - b.left)) 0) None
+label_by_entry b places cells p size i =
+    entry_in-inside b (labels_by places cells) p i
+    ∙ get_or-map (λ k. get_or places k None) cells ((p.row - b.top) * b.cols + (p.col - b.left)) 0 None (omega (arith, size, entry_index b p i))
 
--- where the nodes are equal around a cell that is not on the rim, so are the labels
-pub one_label_around : (f : Flood) (nodes : List ℕ) (p : Place) → f.labels ≡ map (label_of_node f.bounds) nodes → length nodes ≡ f.bounds.rows * f.bounds.cols → 1 ≤ p.row - f.bounds.top → 1 ≤ p.col - f.bounds.left → p.row - f.bounds.top + 1 < f.bounds.rows → p.col - f.bounds.left + 1 < f.bounds.cols → AreEqualAround nodes ((p.row - f.bounds.top) * f.bounds.cols + (p.col - f.bounds.left)) f.bounds.cols → HasOneLabelAround f p
-one_label_around f nodes p are size row col last_row last_col e q t =
+-- where the entries are equal around a cell that is not on the rim, so are the labels
+pub one_label_around : (f : Flood) (places : List (Option Place)) (cells : List ℕ) (p : Place) → f.labels ≡ labels_by places cells → length cells ≡ f.bounds.rows * f.bounds.cols → 1 ≤ p.row - f.bounds.top → 1 ≤ p.col - f.bounds.left → p.row - f.bounds.top + 1 < f.bounds.rows → p.col - f.bounds.left + 1 < f.bounds.cols → AreEqualAround cells ((p.row - f.bounds.top) * f.bounds.cols + (p.col - f.bounds.left)) f.bounds.cols → HasOneLabelAround f p
+one_label_around f places cells p are size row col last_row last_col e q t =
     let b = f.bounds in
     let here : IsInBounds b p = (omega (arith, row), omega (arith, row, last_row), omega (arith, col), omega (arith, col, last_col)) in
     let there : IsInBounds b q = (omega (arith, t.row_up, row), omega (arith, t.row_down, row, last_row), omega (arith, t.col_left, col), omega (arith, t.col_right, col, last_col)) in
-    let same = equal_near nodes b.cols (p.row - b.top) (p.col - b.left) (q.row - b.top) (q.col - b.left) row col e (omega (arith, t.row_up, row)) (omega (arith, t.row_down, row)) (omega (arith, t.col_left, col)) (omega (arith, t.col_right, col)) in
-    (there, ap (λ (z : List (Option Place)). entry_in b z q) are ∙ label_by_node b nodes q size there ∙ ap (label_of_node b) same ∙ sym (label_by_node b nodes p size here) ∙ ap (λ (z : List (Option Place)). entry_in b z p) (sym are))
+    let same = equal_near cells b.cols (p.row - b.top) (p.col - b.left) (q.row - b.top) (q.col - b.left) row col e (omega (arith, t.row_up, row)) (omega (arith, t.row_down, row)) (omega (arith, t.col_left, col)) (omega (arith, t.col_right, col)) in
+    (there, ap (λ (z : List (Option Place)). entry_in b z q) are ∙ label_by_entry b places cells q size there ∙ ap (λ k. get_or places k None) same ∙ sym (label_by_entry b places cells p size here) ∙ ap (λ (z : List (Option Place)). entry_in b z p) (sym are))
 
 -- a cell with one label around it adds no joins
 pub one_label_adds : (c : Cutting) (floods : List Flood) (tile : ℕ) (f : Flood) (p : Place) (old : List Join) → IsCutting c → tile < tile_count c → slice_get floods tile ≡ Some f → f.bounds ≡ bounds_of c tile → IsInTile c tile p → HasOneLabelAround f p → Adds c floods (λ q. q ≡ p) old old

@@ -9,6 +9,7 @@ mod Windows
 mod WindowLevels
 mod WholeGrid
 mod TileWindows
+mod LabelTables
 mod Ways
 mod Rims
 mod CellMarks

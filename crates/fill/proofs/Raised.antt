@@ -1,9 +1,8 @@
 -- A raised tile has its filled heights.
-use Rattle.std.proofs.Common.{◌≡◌, ℕ, ◌+◌, ◌-◌, ◌*◌, ◌<◌, inl, inr, ℤ, List, [], ◌∷◌, ◌++◌, length, get_or, Option, None, Some, is_some, ◌∙◌, sym, ap, subst, refl, arith}
+use Rattle.std.proofs.Common.{◌≡◌, ℕ, ◌+◌, ◌-◌, ◌*◌, ◌<◌, inl, inr, ℤ, List, length, get_or, map, Option, None, Some, is_some, ◌∙◌, sym, ap, subst, refl, arith}
 use Rattle.std.specs.Prelude.{slice_get, option_and_then}
 use Rattle.std.specs.Int.{int_max}
-use Rattle.std.proofs.lemmas.Bool.{cases_eq}
-use Rattle.std.proofs.lemmas.List.{get_or_append_left, get_or_push, length_push}
+use Rattle.std.proofs.lemmas.List.{get_or-map}
 use Rattle.ascii_grid.specs.Raster.{Terrain}
 use Rattle.ascii_grid.specs.Neighbours.{height_at, index_of}
 use Rattle.ascii_grid.specs.declared.place.Place.{Place}
@@ -12,30 +11,29 @@ use Rattle.tiles.specs.Cutting.{Cutting, IsCutting, IsInBounds, bounds_of, tile_
 use Rattle.tiles.proofs.Cut.{in_bounds}
 use Rattle.tiles.proofs.TileOrder.{tile_entry-in}
 use Rattle.fill.specs.TileFlood.{Flood, level_in, label_in}
-use Rattle.fill.specs.Spills.{AreFloods, AreSpillLevels, raised_by, IsRaised, IsFilledTile}
+use Rattle.fill.specs.Spills.{AreFloods, AreSpillLevels, spill_of, greater_of, raised_by, AreGreater, IsRaised, IsFilledTile}
+use Rattle.fill.specs.Labels.{labels_by, IsTable}
 use Rattle.fill.proofs.Steps.{seen, at_none, from_some, from_none}
 use Rattle.fill.proofs.TileWindows.{entry_in-inside, entry_index}
 use Rattle.fill.proofs.Rims.{has_tile_level, among_is, rims}
 
--- The first cells of a tile are raised.
-pub record AreRaised (c : Cutting) (f : Flood) (levels : List (Option ℤ)) (count : ℕ) (raised : List (Option ℤ)) : Type 0 where
+-- The first cells have the greater of their levels and their labels'.
+pub record AreFirstGreater (levels : List (Option ℤ)) (labels : List ℕ) (spills : List (Option ℤ)) (count : ℕ) (raised : List (Option ℤ)) : Type 0 where
   pub size : length raised ≡ count
-  pub each : (i : ℕ) → i < count → get_or raised i None ≡ raised_by c levels (get_or f.levels i None) (get_or f.labels i None)
+  pub each : (i : ℕ) → i < count → get_or raised i None ≡ greater_of (get_or levels i None) (get_or spills (get_or labels i 0) None)
 
-pub raised_none : (c : Cutting) (f : Flood) (levels : List (Option ℤ)) → AreRaised c f levels 0 []
-raised_none c f levels = record { size = refl; each = λ i h. absurd (omega (arith, h)) }
-
-pub raised_more : (c : Cutting) (f : Flood) (levels : List (Option ℤ)) (i : ℕ) (x : Option ℤ) (old new : List (Option ℤ)) → AreRaised c f levels i old → x ≡ raised_by c levels (get_or f.levels i None) (get_or f.labels i None) → new ≡ old ++ x ∷ [] → AreRaised c f levels (i + 1) new
-raised_more c f levels i x old new s here is = subst (AreRaised c f levels (i + 1)) (sym is) (record {
-  size = length_push old x ∙ ap (λ n. n + 1) s.size;
-  each = λ k low. elim (cases_eq k i) [
-    | inr other ↦ get_or_append_left old (x ∷ []) None k (omega (arith, low, other, s.size)) ∙ s.each k (omega (arith, low, other))
-    | inl same ↦ ap (λ n. get_or (old ++ x ∷ []) n None) same ∙ get_or_push old x None i s.size ∙ here ∙ ap (λ n. raised_by c levels (get_or f.levels n None) (get_or f.labels n None)) (sym same)
-  ];
-})
-
-pub raised_all : (c : Cutting) (f : Flood) (levels raised : List (Option ℤ)) (count : ℕ) → count ≡ length f.levels → AreRaised c f levels count raised → IsRaised c f levels raised
-raised_all c f levels raised count all s = record { size = s.size ∙ all; each = λ i low. s.each i (omega (arith, low, all)) }
+-- by the levels of the labels of its table a tile is raised
+pub raised_by_table : (c : Cutting) (f : Flood) (places : List (Option Place)) (cells : List ℕ) (levels spills raised : List (Option ℤ)) → f.labels ≡ labels_by places cells → IsTable places cells → length cells ≡ length f.levels → spills ≡ map (spill_of c levels) places → AreGreater f.levels cells spills raised → IsRaised c f levels raised
+raised_by_table c f places cells levels spills raised are table long is s = record {
+  size = s.size;
+  each = λ i low.
+      let inside : i < length cells = omega (arith, low, long) in
+      s.each i low ∙ ap (greater_of (get_or f.levels i None)) (
+      ap (λ (z : List (Option ℤ)). get_or z (get_or cells i 0) None) is
+      ∙ get_or-map (spill_of c levels) places (get_or cells i 0) None None (table.inside i 0 inside)
+      ∙ ap (spill_of c levels) (sym (get_or-map (λ k. get_or places k None) cells i 0 None inside) ∙ ap (λ (z : List (Option Place)). get_or z i None) (sym are))
+      );
+}
 
 -- what a cell is raised to
 raised_from : (c : Cutting) (levels : List (Option ℤ)) (o : Option ℤ) (l : Option Place) (level n : ℤ) (label : Place) → o ≡ Some level → l ≡ Some label → get_or levels (index_of c.cols label) None ≡ Some n → raised_by c levels o l ≡ Some (int_max level n)

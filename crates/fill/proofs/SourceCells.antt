@@ -1,51 +1,27 @@
 -- The sources of the spill graph, tile by tile.
-use Rattle.std.proofs.Common.{◌≡◌, ◌≢◌, ℕ, ◌+◌, ◌-◌, ◌*◌, ◌/◌, ◌%◌, ◌<◌, ◌≤◌, ◌⊎◌, inl, inr, ℤ, List, [], ◌∷◌, ◌++◌, length, get_or, set, map, replicate, Option, None, Some, IsSome, is_some, ◌==◌, ◌∙◌, sym, ap, subst, refl, arith}
+use Rattle.std.proofs.Common.{◌≡◌, ℕ, ◌+◌, ◌-◌, ◌*◌, ◌/◌, ◌%◌, ◌<◌, ◌≤◌, ◌⊎◌, inl, inr, ℤ, List, [], ◌∷◌, ◌++◌, length, get_or, set, replicate, Option, None, Some, IsSome, is_some, ◌∙◌, sym, ap, subst, refl, arith}
 use Rattle.std.specs.Prelude.{slice_get}
 use Rattle.std.specs.List.{Contains, All}
-use Rattle.std.proofs.lemmas.Bool.{cases_eq, cases_lt, cases_Bool, cond-true, cond-false}
+use Rattle.std.proofs.lemmas.Bool.{cases_eq, cases_lt}
 use Rattle.std.proofs.lemmas.Nat.{div-add-mod', div_below, mod_below}
 use Rattle.std.proofs.lemmas.Option.{same_Some}
-use Rattle.std.proofs.lemmas.List.{get_or_default, get_or-set_same, get_or-set_other, length-set, length-replicate}
+use Rattle.std.proofs.lemmas.List.{get_or_default, get_or-set_same, get_or-set_other, length-set, length-replicate, length-map, get_or_past}
 use Rattle.std.proofs.lemmas.List.Elements.{Contains-append_left, Contains-push, Contains-push_cases, Contains-get_or}
 use Rattle.ascii_grid.specs.Neighbours.{index_of}
 use Rattle.ascii_grid.specs.declared.place.Place.{Place}
-use Rattle.ascii_grid.proofs.Places.{same_place, index_injective, index_below}
-use Rattle.tiles.specs.declared.bounds.Bounds.{Bounds}
-use Rattle.tiles.specs.Cutting.{Cutting, IsCutting, IsWithin, IsInTile, IsInBounds, tile_count, tile_of_place}
+use Rattle.ascii_grid.proofs.Places.{index_injective, index_below}
+use Rattle.tiles.specs.Cutting.{Cutting, IsCutting, IsWithin, IsInTile, tile_count, tile_of_place}
 use Rattle.tiles.proofs.Cut.{tile_of_place_below}
-use Rattle.fill.specs.TileFlood.{Flood, label_in, entry_in, label_of_node}
+use Rattle.fill.specs.Labels.{labels_by}
+use Rattle.fill.specs.TileFlood.{Flood, label_in, entry_in}
 use Rattle.fill.specs.Gathering.{Fit, IsSpillSource, IsSourceEntry, IsSourceNode, AddsSources, PutsSources, AreSources}
 use Rattle.fill.specs.declared.marks.Mark.{Mark}
 use Rattle.fill.specs.declared.sources.Source.{Source}
 use Rattle.fill.proofs.Steps.{seen, none_some}
 use Rattle.fill.proofs.Borders.{all_none}
-use Rattle.fill.proofs.CellMarks.{label_within, mark_parts, mark_from_tile, label_by_node}
+use Rattle.fill.proofs.TileWindows.{bounds_from_entry}
+use Rattle.fill.proofs.CellMarks.{label_within, mark_parts, mark_from_tile, label_by_entry}
 use Rattle.fill.proofs.Heaps.{all_by_contains}
-
--- the node of a cell's own label, but in the first row and column
-own_node : (b : Bounds) (n : ℕ) (p : Place) → 1 ≤ p.row - b.top → 1 ≤ p.col - b.left → label_of_node b n ≡ Some p → n ≡ (p.row - b.top + 1) * (b.cols + 2) + (p.col - b.left + 1)
-own_node b n p row col e = elim (cases_Bool (n == 0)) [
-  | inl none ↦ none_some (label_of_node b n) p (cond-true _ _ _ none) e
-  | inr some ↦
-      let same = same_Some _ p (sym (cond-false _ _ _ some) ∙ e) in
-      let rows : b.top + n / (b.cols + 2) - 1 ≡ p.row = ap (λ (q : Place). q.row) same in
-      let cols : b.left + n % (b.cols + 2) - 1 ≡ p.col = ap (λ (q : Place). q.col) same in
-      let above : n / (b.cols + 2) ≡ p.row - b.top + 1 = omega (arith, rows, row) in
-      let beside : n % (b.cols + 2) ≡ p.col - b.left + 1 = omega (arith, cols, col) in
-      sym (div-add-mod' n (b.cols + 2)) ∙ ap (λ k. k * (b.cols + 2) + n % (b.cols + 2)) above ∙ ap (λ k. (p.row - b.top + 1) * (b.cols + 2) + k) beside
-]
-
--- a cell with another node than its own has another label
-pub another_label : (f : Flood) (nodes : List ℕ) (p : Place) → f.labels ≡ map (label_of_node f.bounds) nodes → length nodes ≡ f.bounds.rows * f.bounds.cols → IsInBounds f.bounds p → 1 ≤ p.row - f.bounds.top → 1 ≤ p.col - f.bounds.left → (get_or nodes ((p.row - f.bounds.top) * f.bounds.cols + (p.col - f.bounds.left)) 0 ≢ (p.row - f.bounds.top + 1) * (f.bounds.cols + 2) + (p.col - f.bounds.left + 1)) → label_in f p ≢ Some p
-another_label f nodes p are size inside row col differ e =
-    differ (own_node f.bounds _ p row col (sym (label_by_node f.bounds nodes p size inside) ∙ ap (λ (z : List (Option Place)). entry_in f.bounds z p) (sym are) ∙ e))
-
--- a cell with another label is no source
-pub not_own : (c : Cutting) (floods : List Flood) (tile : ℕ) (f : Flood) (p : Place) → Fit c floods → slice_get floods tile ≡ Some f → IsInTile c tile p → label_in f p ≢ Some p → (h : ℤ) → IsSpillSource c floods p h → ⊥
-not_own c floods tile f p fit there i other h source =
-    let parts = mark_parts c.cols _ _ _ (mark_from_tile c floods tile f p there i.1 ∙ source.mark) in
-    let within = label_within c f p parts.0 (fit.sizes tile f there) (fit.labels tile f there) parts.2 in
-    other (parts.2 ∙ ap Some (index_injective c.cols parts.0 p within.1 i.0.1 parts.3))
 
 -- a place has one height as a source
 one_height : (c : Cutting) (floods : List Flood) (p : Place) (h k : ℤ) → IsSpillSource c floods p h → IsSpillSource c floods p k → h ≡ k
@@ -76,25 +52,51 @@ source_adds c floods p node h old new within same source is = subst (AddsSources
       let height = one_height c floods p h k source (subst (λ (z : Place). IsSpillSource c floods z k) at other) in
       ap (λ (n : ℕ). record { node = n; height = h }) (same ∙ ap (index_of c.cols) (sym at)) ∙ ap (λ (z : ℤ). record { node = index_of c.cols q; height = z }) height
 
-pub sources_then : (c : Cutting) (floods : List Flood) (first later both : Place → Type 0) (old now new : List Source) → ((p : Place) → both p → first p ⊎ later p) → AddsSources c floods first old now → AddsSources c floods later now new → AddsSources c floods both old new
-sources_then c floods first later both old now new split a b = record {
-  kept = λ s held. b.kept s (a.kept s held);
-  only = λ s held. elim (b.only s held) [ inl was ↦ a.only s was | inr made ↦ inr made ];
-  every = λ p h at source. elim (split p at) [ inl early ↦ b.kept _ (a.every p h early source) | inr late ↦ b.every p h late source ];
+-- The place is one of the first of a table.
+abbrev pub IsListedBelow : List (Option Place) → ℕ → Place → Type 0
+IsListedBelow places count p = (k : ℕ) × (k < count) × (get_or places k None ≡ Some p)
+
+-- one more entry of a table
+pub none_more : (c : Cutting) (floods : List Flood) (places : List (Option Place)) (i : ℕ) (old new : List Source) → get_or places i None ≡ None → AddsSources c floods (IsListedBelow places i) old new → AddsSources c floods (IsListedBelow places (i + 1)) old new
+none_more c floods places i old new none a = record {
+  kept = a.kept;
+  only = a.only;
+  every = λ p h at source. elim (cases_eq at.0 i) [
+    | inl same ↦ none_some _ p (ap (λ k. get_or places k None) same ∙ none) at.2
+    | inr other ↦ a.every p h (at.0, omega (arith, at.1, other), at.2) source
+  ];
 }
 
-pub sources_as : (c : Cutting) (floods : List Flood) (first both : Place → Type 0) (old new : List Source) → ((p : Place) → both p → first p) → AddsSources c floods first old new → AddsSources c floods both old new
-sources_as c floods first both old new split a = record { kept = a.kept; only = a.only; every = λ p h at source. a.every p h (split p at) source }
+pub place_more : (c : Cutting) (floods : List Flood) (places : List (Option Place)) (i : ℕ) (place : Place) (old now new : List Source) → get_or places i None ≡ Some place → AddsSources c floods (IsListedBelow places i) old now → AddsSources c floods (λ p. p ≡ place) now new → AddsSources c floods (IsListedBelow places (i + 1)) old new
+place_more c floods places i place old now new some a b = record {
+  kept = λ s held. b.kept s (a.kept s held);
+  only = λ s held. elim (b.only s held) [ inl was ↦ a.only s was | inr made ↦ inr made ];
+  every = λ p h at source. elim (cases_eq at.0 i) [
+    | inl same ↦ b.every p h (same_Some p place (sym at.2 ∙ ap (λ k. get_or places k None) same ∙ some)) source
+    | inr other ↦ b.kept _ (a.every p h (at.0, omega (arith, at.1, other), at.2) source)
+  ];
+}
 
--- one more cell of a row of a tile
-pub one_more : (c : Cutting) (floods : List Flood) (tile : ℕ) (p : Place) (old now new : List Source) → AddsSources c floods (λ q. IsInTile c tile q × (q.row ≡ p.row) × (q.col < p.col)) old now → AddsSources c floods (λ q. q ≡ p) now new → AddsSources c floods (λ q. IsInTile c tile q × (q.row ≡ p.row) × (q.col < p.col + 1)) old new
-one_more c floods tile p old now new before here =
-    sources_then c floods (λ q. IsInTile c tile q × (q.row ≡ p.row) × (q.col < p.col)) (λ q. q ≡ p) (λ q. IsInTile c tile q × (q.row ≡ p.row) × (q.col < p.col + 1)) old now new
-    (λ q at. elim (cases_lt q.col p.col) [
-      | inl early ↦ inl (at.0, at.1, early)
-      | inr late ↦ inr (same_place q p at.1 (omega (arith, at.2, late)))
-    ])
-    before here
+-- each source of a tile is its own label, so it stands in the table of the tile's labels
+pub table_sources : (c : Cutting) (floods : List Flood) (tile : ℕ) (f : Flood) (places : List (Option Place)) (cells : List ℕ) (count : ℕ) (old new : List Source) → Fit c floods → slice_get floods tile ≡ Some f → f.labels ≡ labels_by places cells → length places ≤ count → AddsSources c floods (IsListedBelow places count) old new → AddsSources c floods (IsInTile c tile) old new
+table_sources c floods tile f places cells count old new fit there are all a = record {
+  kept = a.kept;
+  only = a.only;
+  every = λ p h at source. a.every p h (listed p h at source) source;
+} where
+  listed : (p : Place) (h : ℤ) → IsInTile c tile p → IsSpillSource c floods p h → IsListedBelow places count p
+  listed p h at source =
+      let parts = mark_parts c.cols _ _ _ (mark_from_tile c floods tile f p there at.1 ∙ source.mark) in
+      let within = label_within c f p parts.0 (fit.sizes tile f there) (fit.labels tile f there) parts.2 in
+      let own : label_in f p ≡ Some p = parts.2 ∙ ap Some (index_injective c.cols parts.0 p within.1 at.0.1 parts.3) in
+      let inside = bounds_from_entry f.bounds f.labels p p own in
+      let size : length cells ≡ f.bounds.rows * f.bounds.cols = sym (length-map cells (λ k. get_or places k None)) ∙ ap length (sym are) ∙ fit.sizes tile f there in
+      let entry = sym (label_by_entry f.bounds places cells p size inside) ∙ ap (λ (z : List (Option Place)). entry_in f.bounds z p) (sym are) ∙ own in
+      let k = get_or cells ((p.row - f.bounds.top) * f.bounds.cols + (p.col - f.bounds.left)) 0 in
+      elim (cases_lt k (length places)) [
+        | inl low ↦ (k, omega (arith, low, all), entry)
+        | inr past ↦ none_some (get_or places k None) p (get_or_past places k None past) entry
+      ]
 
 no_source : (s : Source) → Contains [] s → ⊥
 no_source s held = omega (arith, held.1)

@@ -1,8 +1,9 @@
 -- A tile is a window of its terrain: its paths are those of the window.
-use Rattle.std.proofs.Common.{◌≡◌, ℕ, ◌+◌, ◌-◌, ◌*◌, ◌<◌, inl, inr, ℤ, true, List, [], ◌∷◌, length, get_or, map, take, Option, None, Some, is_some, unwrap_or, ◌==◌, ◌∙◌, sym, ap, subst, refl, arith, length-drop, length-take-le}
-use Rattle.std.proofs.lemmas.Bool.{and_from, and_parts, or_cases, or_left, or_right, cond-true, cond-false, le-leb, lt-ltb, leb-true, ltb-true, eqb-true, eq-eqb, cases_Bool}
+use Rattle.std.proofs.Common.{◌≡◌, ℕ, ◌+◌, ◌-◌, ◌*◌, ◌<◌, inl, inr, ℤ, true, List, [], ◌∷◌, length, get_or, map, take, Option, None, Some, is_some, ◌∙◌, sym, ap, subst, refl, arith, length-drop, length-take-le}
+use Rattle.std.proofs.lemmas.Bool.{and_from, and_parts, or_cases, or_left, or_right, cond-true, cond-false, le-leb, lt-ltb, leb-true, ltb-true, eqb-true, eq-eqb, cases_Bool, cases_lt}
 use Rattle.std.proofs.lemmas.Nat.{mul-add-lt, div-mul-add, mod-mul-add}
-use Rattle.std.proofs.lemmas.List.{get_or-map, length-map}
+use Rattle.std.proofs.lemmas.List.{get_or-map, length-map, get_or_past}
+use Rattle.std.proofs.lemmas.Option.{same_Some}
 use Rattle.std.proofs.lemmas.Slice.{between_is}
 use Rattle.ascii_grid.specs.Raster.{Terrain}
 use Rattle.ascii_grid.specs.Neighbours.{height_at, IsDataCell}
@@ -12,10 +13,13 @@ use Rattle.tiles.specs.declared.bounds.Bounds.{Bounds}
 use Rattle.tiles.specs.Cutting.{Cutting, IsCutting, View, IsView, AreBounds, IsInBounds, IsInTile, IsWithin, tile_count, bounds_of, is_on_rim, is_first_or_last, row_shown, terrain_of}
 use Rattle.tiles.proofs.Cut.{in_bounds, in_tile, bounds_inside}
 use Rattle.tiles.proofs.Shown.{row_end, get_or-row_shown}
-use Rattle.fill.specs.Walk.{IsFlooded}
+use Rattle.fill.specs.Walk.{IsFlooded, IsWalk, end_of}
+use Rattle.fill.specs.declared.net.Spill.{Spill}
+use Rattle.fill.specs.CellJoins.{join_inside}
+use Rattle.fill.specs.Labels.{label_of_node, AreNodesBelow}
 use Rattle.fill.specs.Cells.{Cells, node_at, IsNetOf, IsCellJoin, source_of, bordered_rows, inner_rows, place_of_node, window_of}
-use Rattle.fill.specs.TileFlood.{IsTileSource, IsTilePath, IsTileLevel, Flood, label_of_node, is_in_bounds, entry_in, IsFlood, IsTileFlood}
-use Rattle.fill.proofs.Steps.{seen, none_some, from_some, from_none}
+use Rattle.fill.specs.TileFlood.{IsTileSource, IsTilePath, IsTileLevel, Flood, is_in_bounds, entry_in, IsFlood, IsTileFlood}
+use Rattle.fill.proofs.Steps.{seen, none_some, at_some, at_none, from_some, from_none}
 use Rattle.fill.proofs.Borders.{AreRows, ShowRows, net_of_rows}
 use Rattle.fill.proofs.Windows.{IsOnRim, IsWindowSource, IsWindowPath, data_is}
 use Rattle.fill.proofs.WindowLevels.{IsWindowLevel, window_level, window_none}
@@ -134,29 +138,18 @@ inner_entry b list p size i =
     entry_in-inside b (inner_rows list b.cols b.rows) p i
     ∙ inner_rows_at list b.cols b.rows (omega (arith, size)) (p.row - b.top) (p.col - b.left) (omega (arith, i)) (omega (arith, i))
 
-abbrev pub number_of : Option ℕ → ℕ
-number_of node = unwrap_or node 0
-
-mapped_entry : (b : Bounds) (xs : List (Option ℕ)) (p : Place) → length xs ≡ b.rows * b.cols → IsInBounds b p → entry_in b (map (label_of_node b) (map number_of xs)) p ≡ label_of_node b (number_of (entry_in b xs p))
+mapped_entry : (b : Bounds) (xs : List (Option ℕ)) (p : Place) → length xs ≡ b.rows * b.cols → IsInBounds b p → entry_in b (map (label_of_node b) xs) p ≡ label_of_node b (entry_in b xs p)
 mapped_entry b xs p size i =
-    entry_in-inside b (map (label_of_node b) (map number_of xs)) p i
-    ∙ get_or-map (label_of_node b) (map number_of xs) _ 0 None (omega (arith, size, length-map xs number_of, entry_index b p i))
-    ∙ ap (label_of_node b) (get_or-map number_of xs _ None 0 (omega (arith, size, entry_index b p i)))
-    ∙ ap (λ o. label_of_node b (number_of o)) (sym (entry_in-inside b xs p i))
-
--- no cell of the window is node 0
-label_back : (b : Bounds) (p : Place) → IsInBounds b p → label_of_node b (node_at (window_of b) p) ≡ Some p
-label_back b p i = elim (cases_Bool (node_at (window_of b) p == 0)) [
-  | inl zero_here ↦ let none = eqb-true _ _ zero_here in absurd (omega (arith, none))
-  | inr other ↦ cond-false _ _ _ other ∙ ap Some (place_back b p i)
-]
+    entry_in-inside b (map (label_of_node b) xs) p i
+    ∙ get_or-map (label_of_node b) xs _ None None (omega (arith, size, entry_index b p i))
+    ∙ ap (label_of_node b) (sym (entry_in-inside b xs p i))
 
 -- The lists of a flood of a tile, from those of its net.
 abbrev pub FloodLists : Bounds → List (Option ℤ) → List (Option ℕ) → Flood
 FloodLists b levels labels = record {
   bounds = b;
   levels = inner_rows levels b.cols b.rows;
-  labels = map (label_of_node b) (map number_of (inner_rows labels b.cols b.rows));
+  labels = map (label_of_node b) (inner_rows labels b.cols b.rows);
 }
 
 pub flood_lists_sound : (c : Cutting) (b : Bounds) (levels : List (Option ℤ)) (labels : List (Option ℕ)) → IsCutting c → AreBounds c b → length levels ≡ (b.rows + 2) * (b.cols + 2) → length labels ≡ (b.rows + 2) * (b.cols + 2) → IsFlood (FloodLists b levels labels)
@@ -164,7 +157,7 @@ flood_lists_sound c b levels labels h all a d = record {
   few_rows = omega (arith, all.rows_inside, h.few_rows);
   few_cols = omega (arith, all.cols_inside, h.few_cols);
   levels_size = length-inner_rows levels b.cols b.rows (omega (arith, a));
-  labels_size = length-map (map number_of (inner_rows labels b.cols b.rows)) (label_of_node b) ∙ length-map (inner_rows labels b.cols b.rows) number_of ∙ length-inner_rows labels b.cols b.rows (omega (arith, d));
+  labels_size = length-map (inner_rows labels b.cols b.rows) (label_of_node b) ∙ length-inner_rows labels b.cols b.rows (omega (arith, d));
 }
 
 pub tile_flooded : (t : Terrain) (c : Cutting) (tile : ℕ) (n : Cells) (levels : List (Option ℤ)) (labels : List (Option ℕ)) → IsCutting c → tile < tile_count c → (c.cols ≡ t.cols) × (c.rows ≡ t.rows) → IsNetOf t (window_of (bounds_of c tile)) n → IsFlooded (IsCellJoin n) (source_of n) (length n.cells) levels labels → IsTileFlood t c tile (FloodLists (bounds_of c tile) levels labels)
@@ -182,26 +175,44 @@ tile_flooded t c tile n levels labels h l cuts net flooded =
           let inside = in_bounds c tile p h i in
           let level = inner_entry b levels p size inside in
           let node = inner_entry b labels p labels_long inside in
-          let label = mapped_entry b (inner_rows labels b.cols b.rows) p (length-inner_rows labels b.cols b.rows (omega (arith, labels_long))) inside ∙ ap (λ o. label_of_node b (number_of o)) node in
+          let label = mapped_entry b (inner_rows labels b.cols b.rows) p (length-inner_rows labels b.cols b.rows (omega (arith, labels_long))) inside ∙ ap (label_of_node b) node in
           elim (seen (height_at t p)) [
             | inl none ↦
                 let both = window_none t w n levels labels net flooded p inside none (omega (arith, net.size, mul-add-lt (p.row - b.top + 1) (b.cols + 2) (p.col - b.left + 1) (b.rows + 2) (omega (arith, inside)) (omega (arith, inside)))) in
-                from_none (height_at t p) _ _ none (level ∙ both.0, label ∙ ap (λ o. label_of_node b (number_of o)) both.1)
+                from_none (height_at t p) _ _ none (level ∙ both.0, label ∙ ap (label_of_node b) both.1)
             | inr found ↦
                 let here = window_level t w n levels labels net flooded p inside (ap is_some found.1) in
                 from_some (height_at t p) _ _ found.0 found.1 (
                   here.level,
                   here.label,
                   level ∙ here.level_is,
-                  label ∙ ap (λ o. label_of_node b (number_of o)) here.label_is ∙ label_back b here.label here.inside,
+                  label ∙ ap (label_of_node b) here.label_is ∙ ap Some (place_back b here.label here.inside),
                   tile_level t c tile h l cuts p here.label here.level i here.right,
                 )
           ];
     }
 
-pub tile_flood_is : (t : Terrain) (c : Cutting) (tile : ℕ) (n : Cells) (b : Bounds) (levels levels_in : List (Option ℤ)) (labels nodes_in : List (Option ℕ)) (labels_in : List ℕ) → IsCutting c → tile < tile_count c → (c.cols ≡ t.cols) × (c.rows ≡ t.rows) → IsNetOf t (window_of (bounds_of c tile)) n → IsFlooded (IsCellJoin n) (source_of n) (length n.cells) levels labels → b ≡ bounds_of c tile → levels_in ≡ inner_rows levels b.cols b.rows → nodes_in ≡ inner_rows labels b.cols b.rows → labels_in ≡ map (λ node. unwrap_or node 0) nodes_in → IsTileFlood t c tile (record { bounds = b; levels = levels_in; labels = map (label_of_node b) labels_in }) × IsFlood (record { bounds = b; levels = levels_in; labels = map (label_of_node b) labels_in })
-tile_flood_is t c tile n b levels levels_in labels nodes_in labels_in h l cuts net flooded same x y z =
-    rw (z, y, x, same) (
+pub tile_flood_is : (t : Terrain) (c : Cutting) (tile : ℕ) (n : Cells) (b : Bounds) (levels levels_in : List (Option ℤ)) (labels : List (Option ℕ)) (labels_in : List (Option Place)) → IsCutting c → tile < tile_count c → (c.cols ≡ t.cols) × (c.rows ≡ t.rows) → IsNetOf t (window_of (bounds_of c tile)) n → IsFlooded (IsCellJoin n) (source_of n) (length n.cells) levels labels → b ≡ bounds_of c tile → levels_in ≡ inner_rows levels b.cols b.rows → labels_in ≡ map (label_of_node b) (inner_rows labels b.cols b.rows) → IsTileFlood t c tile (record { bounds = b; levels = levels_in; labels = labels_in }) × IsFlood (record { bounds = b; levels = levels_in; labels = labels_in })
+tile_flood_is t c tile n b levels levels_in labels labels_in h l cuts net flooded same x y =
+    rw (y, x, same) (
       tile_flooded t c tile n levels labels h l cuts net flooded,
       flood_lists_sound c (bounds_of c tile) levels labels h (bounds_inside c tile h l) (flooded.levels_size ∙ net.size) (flooded.labels_size ∙ net.size),
     )
+
+-- a label of a net's flood is a node of the net
+walk_end_below : (n : Cells) (a : ℕ) (walk : List Spill) → a < length n.cells → IsWalk (IsCellJoin n) (source_of n) a walk → end_of a walk < length n.cells
+walk_end_below n a [] low walk = low
+walk_end_below n a (step ∷ rest) low walk = walk_end_below n step.to rest (join_inside n a step.to step.height walk.0) walk.1
+
+pub labels_below : (n : Cells) (levels : List (Option ℤ)) (labels : List (Option ℕ)) → IsFlooded (IsCellJoin n) (source_of n) (length n.cells) levels labels → AreNodesBelow (length labels) labels
+labels_below n levels labels flooded k node e = elim (cases_lt k (length labels)) [
+  | inr past ↦ none_some _ node (get_or_past labels k None past) e
+  | inl low ↦ elim (seen (get_or levels k None)) [
+    | inl none ↦ none_some _ node (at_none (get_or levels k None) _ _ none (flooded.each k (omega (arith, low, flooded.labels_size)))).1 e
+    | inr found ↦
+        let here = at_some (get_or levels k None) _ _ found.0 found.1 (flooded.each k (omega (arith, low, flooded.labels_size))) in
+        let same : here.0 ≡ node = same_Some here.0 node (sym here.1 ∙ e) in
+        let reached = here.2.reached in
+        omega (arith, flooded.labels_size, same, reached.3, walk_end_below n k reached.0 (omega (arith, low, flooded.labels_size)) reached.1)
+  ]
+]

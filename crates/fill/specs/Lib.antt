@@ -6,3 +6,4 @@ pub mod TileFlood
 pub mod Spills
 pub mod Gathering
 pub mod Parts
+pub mod Labels

@@ -85,11 +85,25 @@ AreLevelsOf g levels = (labels : List (Option ℕ)) × IsFlooded (HasJoin g) (so
 abbrev pub AreSpillLevels : Terrain → Cutting → List Flood → List (Option ℤ) → Type 0
 AreSpillLevels t c floods levels = (g : Graph) × IsGraphOf t c floods g × AreLevelsOf g levels
 
+-- The level of a label in the graph.
+abbrev pub spill_of : Cutting → List (Option ℤ) → Option Place → Option ℤ
+spill_of c levels label = option_and_then (λ p. slice_index_or levels (index_of c.cols p) None) label
+
+-- The greater of two levels, None where one of them is missing.
+abbrev pub greater_of : Option ℤ → Option ℤ → Option ℤ
+greater_of (Some level) (Some spill) = Some (int_max level spill)
+greater_of (Some level) None = None
+greater_of None spill = None
+
 -- A data cell is raised to the greater of its level in its tile and its label's level.
 abbrev pub raised_by : Cutting → List (Option ℤ) → Option ℤ → Option Place → Option ℤ
-raised_by c levels (Some level) (Some label) = option_and_then (λ n. Some (int_max level n)) (slice_index_or levels (index_of c.cols label) None)
-raised_by c levels (Some level) None = None
-raised_by c levels None label = None
+raised_by c levels level label = greater_of level (spill_of c levels label)
+
+-- Each entry is the greater of a level and its label's, where labels are indexes into the list of their levels.
+pub record AreGreater (levels : List (Option ℤ)) (labels : List ℕ) (spills : List (Option ℤ)) (raised : List (Option ℤ)) : Type 0 where
+  pub size : length raised ≡ length levels
+  pub each : (i : ℕ) → i < length levels →
+      slice_index_or raised i None ≡ greater_of (slice_index_or levels i None) (slice_index_or spills (slice_index_or labels i 0) None)
 
 pub record IsRaised (c : Cutting) (f : Flood) (levels : List (Option ℤ)) (raised : List (Option ℤ)) : Type 0 where
   pub size : length raised ≡ length f.levels

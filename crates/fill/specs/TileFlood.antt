@@ -1,11 +1,10 @@
 -- Levels and labels inside one tile.
-use Rattle.std.specs.Prelude.{◌≡◌, ℕ, ◌+◌, ◌-◌, ◌*◌, ◌≤◌, ◌<◌, ◌⊎◌, ℤ, ◌≤ℤ◌, Bool, ◌&&◌, ◌==◌, nat_le, nat_lt, if◌then◌else◌, List, [], ◌∷◌, length, Option, None, Some, IsTrue, MatchOption, slice_index_or}
+use Rattle.std.specs.Prelude.{◌≡◌, ℕ, ◌+◌, ◌-◌, ◌*◌, ◌≤◌, ◌<◌, ◌⊎◌, ℤ, ◌≤ℤ◌, Bool, ◌&&◌, nat_le, nat_lt, if◌then◌else◌, List, [], ◌∷◌, length, Option, None, Some, IsTrue, MatchOption, slice_index_or}
 use Rattle.ascii_grid.specs.Raster.{Terrain}
 use Rattle.ascii_grid.specs.Neighbours.{height_at, IsDataCell, IsNeighbour, IsEdge, Touches}
 use Rattle.ascii_grid.specs.Filled.{crest}
 use Rattle.ascii_grid.specs.declared.place.Place.{Place}
 use Rattle.tiles.specs.declared.bounds.Bounds.{Bounds}
-use Rattle.fill.specs.Cells.{place_of_node}
 use Rattle.tiles.specs.Cutting.{Cutting, IsWithin, tile_of_place, bounds_of, is_on_rim, IsInBounds, IsInTile, cell_count}
 
 -- A data cell on the rim of its tile, or an edge cell.
@@ -48,10 +47,6 @@ level_in f p = entry_in f.bounds f.levels p
 
 abbrev pub label_in : Flood → Place → Option Place
 label_in f p = entry_in f.bounds f.labels p
-
--- The place of a label's node, None at node 0, which lies on the border and is no label.
-abbrev pub label_of_node : Bounds → ℕ → Option Place
-label_of_node b node = if node == 0 then None else Some (place_of_node b.top b.left b.cols node)
 
 -- The place lies inside these bounds and not on their rim.
 abbrev pub IsInner : Bounds → Place → Type 0

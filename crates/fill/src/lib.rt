@@ -5,6 +5,7 @@ pub mod cell_net;
 pub mod filled_grid;
 pub mod filling;
 pub mod flooding;
+mod labels;
 pub mod marks;
 pub mod net;
 pub mod parts;

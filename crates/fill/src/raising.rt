@@ -1,9 +1,10 @@
 // The filled heights of a tile.
-ghost use Rattle.std.specs.Prelude.{◌≡◌, ◌*◌, ◌<◌, ℕ, List, Some, length, slice_get, IfOk, IfSome};
+ghost use Rattle.std.specs.Prelude.{◌≡◌, ◌*◌, ◌<◌, ℕ, List, Some, length, map, slice_get, IfOk, IfSome};
+ghost use Rattle.std.specs.List.{All};
 ghost use Rattle.ascii_grid.specs.Raster.{Terrain};
 ghost use Rattle.tiles.specs.Cutting.{IsWithin};
 ghost use Rattle.fill.specs.TileFlood.{Flood, LabelsInside};
-ghost use Rattle.fill.specs.Spills.{AreFloods, AreSpillLevels, IsRaised, IsFilledTile, raised_by};
+ghost use Rattle.fill.specs.Spills.{AreFloods, AreSpillLevels, IsRaised, IsFilledTile, AreGreater, greater_of, spill_of};
 
 use crate::marks::node_of;
 use crate::tile::TileFlood;
@@ -11,22 +12,72 @@ use ascii_grid::{Height, NoMemory, Place};
 use std::alloc::Global;
 use tiles::Tiling;
 
-/// The greater of a cell's level and its label's.
+/// The level of a label in the graph, None where there is no label.
 #[inline(always)]
-fn raised_level(
-    tiling: &Tiling,
-    levels: &[Option<Height>],
-    level: Option<Height>,
-    label: Option<Place>,
-) -> Option<Height>
+fn spill(tiling: &Tiling, levels: &[Option<Height>], label: Option<Place>) -> Option<Height>
     requires size { length levels.now ≡ tiling.now.cols * tiling.now.rows }
     requires label { IfSome label (IsWithin tiling.now) }
-    ensures { result ≡ raised_by tiling.now levels.now level label }
+    ensures { result ≡ spill_of tiling.now levels.now label }
 {
-    let level = level?;
     let label = label?;
-    let spill = levels[node_of(tiling, label) as usize]?;
-    Some(level.max(spill))
+    levels[node_of(tiling, label) as usize]
+}
+
+/// The levels of labels in the graph.
+fn spills_of(
+    alloc: Global,
+    tiling: &Tiling,
+    labels: &[Option<Place>],
+    levels: &[Option<Height>],
+) -> Result<Vec<Option<Height>>, NoMemory>
+    requires size { length levels.now ≡ tiling.now.cols * tiling.now.rows }
+    requires labels { All (λ label. IfSome label (IsWithin tiling.now)) labels.now }
+    ensures { IfOk result (λ v. v.items ≡ map (spill_of tiling.now levels.now) labels.now) }
+{
+    let Ok(mut spills) = Vec::with_capacity(alloc, labels.len()) else {
+        return Err(NoMemory);
+    };
+    for label in labels {
+        if spills.push(spill(tiling, levels, *label)).is_err() {
+            return Err(NoMemory);
+        }
+    }
+    Ok(spills)
+}
+
+/// The greater of two levels, None where one of them is missing.
+#[inline(always)]
+fn greater(level: Option<Height>, spill: Option<Height>) -> Option<Height>
+    ensures { result ≡ greater_of level spill }
+{
+    match (level, spill) {
+        (Some(level), Some(spill)) => Some(level.max(spill)),
+        _ => None,
+    }
+}
+
+/// The greater of each cell's level and its label's, where a cell's entry in `labels` is the index of its label's
+/// level in `spills`.
+fn greater_levels(
+    alloc: Global,
+    levels: &[Option<Height>],
+    labels: &[u32],
+    spills: &[Option<Height>],
+) -> Result<Vec<Option<Height>>, NoMemory>
+    requires size { length labels.now ≡ length levels.now }
+    requires labels { All (λ k. k < length spills.now) labels.now }
+    ensures { IfOk result (λ v. AreGreater levels.now labels.now spills.now v.items) }
+{
+    let Ok(mut raised) = Vec::with_capacity(alloc, levels.len()) else {
+        return Err(NoMemory);
+    };
+    for index in 0..levels.len() {
+        let spill = spills[labels[index] as usize];
+        if raised.push(greater(levels[index], spill)).is_err() {
+            return Err(NoMemory);
+        }
+    }
+    Ok(raised)
 }
 
 /// The filled heights of a tile in its row order, of its flood and the levels of the graph in which it
@@ -46,15 +97,7 @@ pub fn raise(
         AreFloods t tiling.now floods → slice_get floods tile ≡ Some flood.now →
         AreSpillLevels t tiling.now floods levels.now → IsFilledTile t tiling.now tile v.items) }
 {
-    let heights = flood.levels();
-    let Ok(mut raised) = Vec::with_capacity(alloc, heights.len()) else {
-        return Err(NoMemory);
-    };
-    for index in 0..heights.len() {
-        let level = raised_level(tiling, levels, heights[index], flood.label_at(index));
-        if raised.push(level).is_err() {
-            return Err(NoMemory);
-        }
-    }
-    Ok(raised)
+    let labels = flood.labels();
+    let spills = spills_of(alloc, tiling, &labels.places, levels)?;
+    greater_levels(alloc, flood.levels(), &labels.cells, &spills)
 }

@@ -1,7 +1,7 @@
 // The sources of the spill graph.
 ghost use Rattle.std.specs.Prelude.{◌≡◌, ◌+◌, ◌*◌, ◌<◌, ◌≤◌, ℕ, List, [], length, IfOk, OnOk};
 ghost use Rattle.std.specs.List.{All};
-ghost use Rattle.tiles.specs.Cutting.{IsInTile, bounds_of, tile_count};
+ghost use Rattle.tiles.specs.Cutting.{IsInTile, IsWithin, tile_count};
 ghost use Rattle.fill.specs.TileFlood.{Flood};
 ghost use Rattle.fill.specs.Gathering.{Fit, AddsSources, AreSources, PutsSources};
 ghost use Rattle.fill.specs.Parts.{AreParts};
@@ -12,7 +12,7 @@ use crate::parts::Part;
 use crate::tile::TileFlood;
 use ascii_grid::{Height, NoMemory, Place};
 use std::alloc::Global;
-use tiles::{Bounds, Tiling};
+use tiles::Tiling;
 
 /// A label that is an edge cell: its number, and its height.
 #[derive(Clone, Copy, Debug, PartialEq, Eq)]
@@ -21,39 +21,30 @@ pub struct Source {
     pub height: Height,
 }
 
-/// Adds the sources among the cells of one row of a tile.
-fn push_sources(
+/// Adds a place of the grid, if it is a source.
+fn push_source(
     sources: &mut Vec<Source>,
     tiling: &Tiling,
     floods: &[TileFlood],
     tile: u32,
-    row: u32,
+    place: Place,
 ) -> Result<(), NoMemory>
     requires fit { Fit tiling.now floods.now }
     requires tile { tile < tile_count tiling.now }
-    requires top { (bounds_of tiling.now tile).top ≤ row }
-    requires row { row < (bounds_of tiling.now tile).top + (bounds_of tiling.now tile).rows }
-    ensures { OnOk result (AddsSources tiling.now floods.now
-        (λ p. IsInTile tiling.now tile p × (p.row ≡ row)) sources.old.items sources.new.items) }
+    requires place { IsWithin tiling.now place }
+    ensures { OnOk result (AddsSources tiling.now floods.now (λ p. p ≡ place) sources.old.items sources.new.items) }
 {
-    let Bounds { left, cols, .. } = tiling.bounds(tile);
-    let flood = &floods[tile as usize];
-    for col in left..left + cols {
-        let place = Place { row, col };
-        if flood.has_another_label(place) {
-            continue;
-        }
-        if let Some(height) = source_at(tiling, floods, tile, place) {
-            let node = node_of(tiling, place);
-            if sources.push(Source { node, height }).is_err() {
-                return Err(NoMemory);
-            }
-        }
+    let Some(height) = source_at(tiling, floods, tile, place) else {
+        return Ok(());
+    };
+    let node = node_of(tiling, place);
+    if sources.push(Source { node, height }).is_err() {
+        return Err(NoMemory);
     }
     Ok(())
 }
 
-/// The sources among the cells of a tile.
+/// The sources among the cells of a tile: each is the label of a cell, its own.
 pub(crate) fn tile_sources(
     alloc: Global,
     tiling: &Tiling,
@@ -65,9 +56,11 @@ pub(crate) fn tile_sources(
     ensures { IfOk result (λ v. AddsSources tiling.now floods.now (IsInTile tiling.now tile) [] v.items) }
 {
     let mut sources = Vec::new(alloc);
-    let Bounds { top, rows, .. } = tiling.bounds(tile);
-    for row in top..top + rows {
-        push_sources(&mut sources, tiling, floods, tile, row)?;
+    let labels = floods[tile as usize].labels();
+    for label in &labels.places {
+        if let Some(place) = *label {
+            push_source(&mut sources, tiling, floods, tile, place)?;
+        }
     }
     Ok(sources)
 }

@@ -1,12 +1,13 @@
 // Flooding of one tile.
-ghost use Rattle.std.specs.Prelude.{◌≡◌, ◌≢◌, ◌≤◌, ◌+◌, Some, map, unwrap_or, IfOk, IfSome, OnOk, length, true, false, MatchOption, None, slice_index_or, ◌*◌, ◌-◌, ◌<◌};
+ghost use Rattle.std.specs.Prelude.{◌≡◌, ◌≤◌, ◌+◌, IfOk, IfSome, length, true, false, MatchOption, None, slice_index_or, ◌*◌, ◌-◌, ◌<◌};
 ghost use Rattle.std.specs.Bool.{OnTrue};
 ghost use Rattle.tiles.specs.Cutting.{terrain_of, bounds_of, IsInBounds};
-ghost use Rattle.fill.specs.Cells.{place_of_node};
-ghost use Rattle.fill.specs.TileFlood.{IsFlood, IsTileFlood, level_in, label_in, label_of_node, is_in_bounds, HasOneLabelAround, AreEqualAround, IsInner};
+ghost use Rattle.fill.specs.Labels.{labels_by};
+ghost use Rattle.fill.specs.TileFlood.{IsFlood, IsTileFlood, level_in, label_in, is_in_bounds, HasOneLabelAround, AreEqualAround, IsInner};
 
 use crate::cell_net::{CellNet, without_border};
 use crate::flooding::flood;
+use crate::labels::{Labels, labels_of};
 use ascii_grid::{Height, NoMemory, Place};
 use std::alloc::Global;
 use std::marker::Model;
@@ -18,19 +19,18 @@ use tiles::{Bounds, TileView};
 pub struct TileFlood {
     bounds: Bounds,
     levels: Vec<Option<Height>>,
-    // The label's node in the net of the tile; 0, a node on the border, where there is none.
-    labels: Vec<u32>,
+    labels: Labels,
 }
 
 impl Model for TileFlood {
-    ghost use Rattle.std.specs.Prelude.{map};
-    ghost use Rattle.fill.specs.TileFlood.{Flood, IsFlood, label_of_node};
+    ghost use Rattle.fill.specs.Labels.{labels_by};
+    ghost use Rattle.fill.specs.TileFlood.{Flood, IsFlood};
 
     ghost Value = { Flood };
 
-    ghost view = { λ f. record { bounds = f.bounds; levels = f.levels.items; labels = map (label_of_node f.bounds) f.labels.items } };
+    ghost view = { λ f. record { bounds = f.bounds; levels = f.levels.items; labels = labels_by f.labels.places.items f.labels.cells.items } };
 
-    ghost invariant = { λ f. IsFlood (record { bounds = f.bounds; levels = f.levels.items; labels = map (label_of_node f.bounds) f.labels.items }) };
+    ghost invariant = { λ f. IsFlood (record { bounds = f.bounds; levels = f.levels.items; labels = labels_by f.labels.places.items f.labels.cells.items }) };
 }
 
 /// Whether a place lies in the bounds.
@@ -118,7 +118,7 @@ impl TileFlood {
         requires { index < length self.now.labels }
         ensures { result ≡ slice_index_or self.now.labels index None }
     {
-        label_of(self.bounds, self.labels[index])
+        self.labels.at(index)
     }
 
     /// Where a place of the tile that is not on its rim stands in its row order, None at any other.
@@ -149,7 +149,7 @@ impl TileFlood {
         requires second { second < length self.now.labels }
         ensures { OnTrue result (slice_index_or self.now.labels first None ≡ slice_index_or self.now.labels second None) }
     {
-        self.labels[first] == self.labels[second]
+        self.labels.cells[first] == self.labels.cells[second]
     }
 
     /// Whether a cell and the eight around it lie in the tile and have one label, or none of them any.
@@ -170,28 +170,7 @@ impl TileFlood {
         }
         let width = cols as usize;
         let index = row as usize * width + col as usize;
-        are_equal_around(&self.labels, index, width)
-    }
-
-    /// Whether a cell of the tile has another cell's label, or none. No cell of the first row or column
-    /// is told so: nodes on the border of the net have the places of such cells too.
-    #[inline(always)]
-    pub(crate) fn has_another_label(&self, place: Place) -> bool
-        requires { IsInBounds self.now.bounds place }
-        ensures { OnTrue result (label_in self.now place ≢ Some place) }
-    {
-        let Bounds {
-            top,
-            left,
-            cols,
-            ..
-        } = self.bounds;
-        let (row, col) = (place.row - top, place.col - left);
-        if row == 0 || col == 0 {
-            return false;
-        }
-        let index = row as usize * cols as usize + col as usize;
-        self.labels[index] != (row + 1) * (cols + 2) + (col + 1)
+        are_equal_around(&self.labels.cells, index, width)
     }
 
     /// Whether a place is one of the tile's.
@@ -200,6 +179,14 @@ impl TileFlood {
         ensures { result ≡ is_in_bounds self.now.bounds place }
     {
         is_in(self.bounds, place)
+    }
+
+    /// The labels in the tile's row order, by a table of them.
+    #[inline(always)]
+    pub(crate) fn labels(&self) -> &Labels
+        ensures { self.now.labels ≡ labels_by result.now.places.items result.now.cells.items }
+    {
+        &self.labels
     }
 
     /// The levels in the tile's row order.
@@ -212,47 +199,6 @@ impl TileFlood {
     }
 }
 
-/// The place of a node of the tile's net.
-#[inline(always)]
-fn place_of(bounds: Bounds, node: u32) -> Place
-    requires { (bounds.top ≤ 4096) × (bounds.left ≤ 4096) × (bounds.cols ≤ 4096) }
-    ensures { result ≡ place_of_node bounds.top bounds.left bounds.cols node }
-{
-    let stride = bounds.cols + 2;
-    Place {
-        row: (bounds.top + node / stride).saturating_sub(1),
-        col: (bounds.left + node % stride).saturating_sub(1),
-    }
-}
-
-/// The place of a label's node, None at node 0.
-#[inline(always)]
-fn label_of(bounds: Bounds, node: u32) -> Option<Place>
-    requires { (bounds.top ≤ 4096) × (bounds.left ≤ 4096) × (bounds.cols ≤ 4096) }
-    ensures { result ≡ label_of_node bounds node }
-{
-    if node == 0 {
-        None
-    } else {
-        Some(place_of(bounds, node))
-    }
-}
-
-/// The numbers of these nodes, 0 where there is none.
-fn numbers_of(alloc: Global, nodes: &[Option<u32>]) -> Result<Vec<u32>, NoMemory>
-    ensures { IfOk result (λ v. v.items ≡ map (λ node. unwrap_or node 0) nodes.now) }
-{
-    let Ok(mut numbers) = Vec::with_capacity(alloc, nodes.len()) else {
-        return Err(NoMemory);
-    };
-    for node in nodes {
-        if numbers.push(node.unwrap_or(0)).is_err() {
-            return Err(NoMemory);
-        }
-    }
-    Ok(numbers)
-}
-
 /// The least crest of each cell's paths in the tile, and a source that has it.
 pub fn tile_flood(alloc: Global, view: &TileView<'_, Option<Height>>) -> Result<TileFlood, NoMemory>
     ensures { IfOk result (λ f.
@@ -262,8 +208,7 @@ pub fn tile_flood(alloc: Global, view: &TileView<'_, Option<Height>>) -> Result<
     let net = CellNet::of_view(alloc, view)?;
     let flooded = flood(alloc, &net)?;
     let levels = without_border(alloc, &flooded.level, bounds.cols, bounds.rows)?;
-    let nodes = without_border(alloc, &flooded.label, bounds.cols, bounds.rows)?;
-    let labels = numbers_of(alloc, &nodes)?;
+    let labels = labels_of(alloc, bounds, &flooded.label)?;
     Ok(TileFlood {
         bounds,
         levels,

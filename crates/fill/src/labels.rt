@@ -1,0 +1,143 @@
+// The labels of a tile's cells, by a table of their places.
+ghost use Rattle.std.specs.Prelude.{◌≡◌, ◌+◌, ◌*◌, ◌^◌, ◌<◌, ◌≤◌, ◌∷◌, ◌++◌, [], None, map, length, slice_index_or, IfOk, IfSome, OnOk};
+ghost use Rattle.fill.specs.Cells.{inner_rows, place_of_node};
+ghost use Rattle.fill.specs.Labels.{IsTable, AreMet, AreNodesBelow, IsListedAt, label_of_node, labels_by};
+
+use ascii_grid::{NoMemory, Place};
+use std::alloc::Global;
+use tiles::Bounds;
+
+/// The labels of the cells of a tile, each once, and for each cell which of them is its own.
+#[derive(Drop)]
+pub(crate) struct Labels {
+    /// The first entry is None, for the cells without data. Each place is the label of some cell.
+    pub(crate) places: Vec<Option<Place>>,
+    /// The index of each cell's label in `places`, in the tile's row order.
+    pub(crate) cells: Vec<u32>,
+    ghost table: { IsTable places.items cells.items },
+}
+
+impl Labels {
+    /// The label of the cell with this index in the tile's row order.
+    #[inline(always)]
+    pub(crate) fn at(&self, index: usize) -> Option<Place>
+        requires { index < length self.now.cells.items }
+        ensures { result ≡ slice_index_or (labels_by self.now.places.items self.now.cells.items) index None }
+    {
+        self.places[self.cells[index] as usize]
+    }
+}
+
+/// The place of a node of the tile's net.
+#[inline(always)]
+fn place_of(bounds: Bounds, node: u32) -> Place
+    requires { (bounds.top ≤ 4096) × (bounds.left ≤ 4096) × (bounds.cols ≤ 4096) }
+    ensures { result ≡ place_of_node bounds.top bounds.left bounds.cols node }
+{
+    let stride = bounds.cols + 2;
+    Place {
+        row: (bounds.top + node / stride).saturating_sub(1),
+        col: (bounds.left + node % stride).saturating_sub(1),
+    }
+}
+
+/// Where the place of a node stands in the table; it is added when the node is met first. `met` has this
+/// index for each node that was met, and 0 for the others.
+#[inline(always)]
+fn index_of_label(
+    places: &mut Vec<Option<Place>>,
+    met: &mut [u32],
+    bounds: Bounds,
+    node: Option<u32>,
+) -> Result<u32, NoMemory>
+    requires bounds { (bounds.top ≤ 4096) × (bounds.left ≤ 4096) × (bounds.cols ≤ 4096) }
+    requires few { length places.old.items < 2 ^ 32 }
+    requires node { IfSome node (λ a. a < length met.old) }
+    requires first { slice_index_or places.old.items 0 None ≡ None }
+    requires met { AreMet bounds met.old places.old.items }
+    ensures index { IfOk result (λ index. IsListedAt index (label_of_node bounds node) places.old.items places.new.items) }
+    ensures met { OnOk result (AreMet bounds met.new places.new.items) }
+{
+    let Some(node) = node else {
+        return Ok(0);
+    };
+    let index = met[node as usize];
+    if index != 0 {
+        return Ok(index);
+    }
+    let index = places.len() as u32;
+    if places.push(Some(place_of(bounds, node))).is_err() {
+        return Err(NoMemory);
+    }
+    met[node as usize] = index;
+    Ok(index)
+}
+
+/// Adds the labels of a row of cells.
+fn push_labels(
+    cells: &mut Vec<u32>,
+    places: &mut Vec<Option<Place>>,
+    met: &mut [u32],
+    bounds: Bounds,
+    nodes: &[Option<u32>],
+) -> Result<(), NoMemory>
+    requires bounds { (bounds.top ≤ 4096) × (bounds.left ≤ 4096) × (bounds.cols ≤ 4096) }
+    requires few { length places.old.items + length nodes.now < 2 ^ 32 }
+    requires nodes { AreNodesBelow (length met.old) nodes.now }
+    requires table { IsTable places.old.items cells.old.items }
+    requires met { AreMet bounds met.old places.old.items }
+    ensures few { OnOk result (length places.new.items ≤ length places.old.items + length nodes.now) }
+    ensures table { OnOk result (IsTable places.new.items cells.new.items) }
+    ensures met { OnOk result (AreMet bounds met.new places.new.items) }
+    ensures labels { OnOk result (labels_by places.new.items cells.new.items
+        ≡ labels_by places.old.items cells.old.items ++ map (label_of_node bounds) nodes.now) }
+{
+    for node in nodes {
+        let index = index_of_label(places, met, bounds, *node)?;
+        if cells.push(index).is_err() {
+            return Err(NoMemory);
+        }
+    }
+    Ok(())
+}
+
+/// A table of labels with no place yet.
+fn empty_table(alloc: Global) -> Result<Vec<Option<Place>>, NoMemory>
+    ensures { IfOk result (λ v. v.items ≡ None ∷ []) }
+{
+    let mut places = Vec::new(alloc);
+    if places.push(None).is_err() {
+        return Err(NoMemory);
+    }
+    Ok(places)
+}
+
+/// The labels of a tile's cells, of those of the nodes of its net.
+pub(crate) fn labels_of(
+    alloc: Global,
+    bounds: Bounds,
+    nodes: &[Option<u32>],
+) -> Result<Labels, NoMemory>
+    requires few_rows { bounds.top + bounds.rows ≤ 4096 }
+    requires few_cols { bounds.left + bounds.cols ≤ 4096 }
+    requires size { length nodes.now ≡ (bounds.rows + 2) * (bounds.cols + 2) }
+    requires nodes { AreNodesBelow (length nodes.now) nodes.now }
+    ensures { IfOk result (λ labels. labels_by labels.places.items labels.cells.items
+        ≡ map (label_of_node bounds) (inner_rows nodes.now bounds.cols bounds.rows)) }
+{
+    let width = bounds.cols as usize;
+    let stride = width + 2;
+    let Ok(mut met) = vec![in alloc; 0u32; nodes.len()] else {
+        return Err(NoMemory);
+    };
+    let mut places = empty_table(alloc)?;
+    let Ok(mut cells) = Vec::with_capacity(alloc, bounds.rows as usize * width) else {
+        return Err(NoMemory);
+    };
+    for row in 0..bounds.rows {
+        let start = (row as usize + 1) * stride + 1;
+        let inner = &nodes[start..start + width];
+        push_labels(&mut cells, &mut places, &mut met, bounds, inner)?;
+    }
+    Ok(Labels { places, cells })
+}
