@@ -1,4 +1,4 @@
-use Rattle.std.proofs.Common.{rules, arith, ◌≡◌, ◌<◌, ap, ◌∙◌, sym, to_z, of_z, w32, length}
+use Rattle.std.proofs.Common.{rules, arith, ◌<◌, ap, ◌∙◌, sym, to_z, of_z, w32, length}
 use Rattle.std.proofs.lemmas.List.{length_push}
 use Rattle.fill.specs.Cells.{way_to}
 use Rattle.fill.proofs.CellWays.{one_more, none_more, none_by}
