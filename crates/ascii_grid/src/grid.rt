@@ -193,10 +193,19 @@ impl Grid {
         requires heights { All (λ c. IfSome c (λ h. Contains self.now.terrain.cells (Some h))) cells.now }
         ensures { IfOk result (λ g. g ≡ record self.now { terrain = record self.now.terrain { cells = cells.now } }) }
     {
-        let Ok(cells) = Vec::from_slice(alloc, cells) else {
-            return Err(NoMemory);
-        };
-        Ok(Grid::from_parts(self.header.copy(), self.scale, cells))
+        match Vec::from_slice(alloc, cells) {
+            Ok(cells) => Ok(self.with_own_cells(cells)),
+            Err(_) => Err(NoMemory),
+        }
+    }
+
+    /// The same as [`Grid::with_cells`], of a list that is handed over. It takes no memory.
+    pub fn with_own_cells(&self, cells: Vec<Option<Height>>) -> Grid
+        requires size { length cells.items ≡ self.now.terrain.cols * self.now.terrain.rows }
+        requires heights { All (λ c. IfSome c (λ h. Contains self.now.terrain.cells (Some h))) cells.items }
+        ensures { result ≡ record self.now { terrain = record self.now.terrain { cells = cells.items } } }
+    {
+        Grid::from_parts(self.header.copy(), self.scale, cells)
     }
 }
 

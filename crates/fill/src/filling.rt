@@ -233,7 +233,7 @@ fn put_back(
 {
     let cells = tiling.put_back(alloc, &raised)?;
     drop(raised);
-    let filled = grid.with_cells(alloc, &cells)?;
+    let filled = grid.with_own_cells(cells);
     Ok(Filled::from_grid(filled))
 }
 
