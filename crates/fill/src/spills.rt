@@ -69,7 +69,7 @@ fn first_from(joins: &[Join], node: u32) -> usize
     low
 }
 
-/// The end of the joins that begin at this node, of which the one at `start` is the first. They are few.
+/// The end of the joins that begin at this node, of which the one at `start` is the first.
 fn end_of(joins: &[Join], start: usize, node: u32) -> usize
     requires rising { AreRising joins.now }
     requires few { start ≤ length joins.now }
