@@ -1,5 +1,5 @@
 -- The ways of a node of a graph.
-use Rattle.std.proofs.Common.{◌≡◌, ℕ, ◌+◌, ◌-◌, ◌<◌, ◌≤◌, inl, inr, List, [], ◌∷◌, ◌++◌, length, get_or, map, take, drop, ℤ, Option, ◌∙◌, sym, ap, subst, refl, arith, length-drop}
+use Rattle.std.proofs.Common.{◌≡◌, ◌≢◌, ℕ, ◌+◌, ◌-◌, ◌<◌, ◌≤◌, inl, inr, List, [], ◌∷◌, ◌++◌, length, get_or, map, take, drop, ℤ, Option, ◌∙◌, sym, ap, subst, refl, arith, length-drop}
 use Rattle.std.specs.List.{Contains}
 use Rattle.std.proofs.lemmas.Bool.{cases_eq, cases_lt}
 use Rattle.std.proofs.lemmas.List.{get_or-drop, get_or-take, get_or-map, map_more, length-map, length-take-le, get_or_default}
@@ -37,6 +37,12 @@ above_more joins node middle e rise inside high k d above below =
     let same = ap (λ (j : Join). j.from) (get_or_default joins middle d e inside) in
     omega (arith, up joins rise middle k d above below, same, high)
 
+-- past a join of a later node all are of later nodes
+pub past_node : (joins : List Join) (node end : ℕ) (e : Join) → AreRising joins → end < length joins → node ≤ (get_or joins end e).from → (get_or joins end e).from ≢ node → (k : ℕ) (d : Join) → end ≤ k → k < length joins → node < (get_or joins k d).from
+past_node joins node end e rise inside low differ k d above below =
+    let far = above_more joins (node + 1) end e rise inside (omega (arith, low, differ)) k d above below in
+    omega (arith, far)
+
 -- one more way
 pub way_more : (joins : List Join) (start index : ℕ) (x : Join) (old new : List Spill) → start ≤ index → index < length joins → x ≡ get_or joins index x → old ≡ map way_of (take (index - start) (drop start joins)) → new ≡ old ++ way_of x ∷ [] → new ≡ map way_of (take (index + 1 - start) (drop start joins))
 way_more joins start index x old new above below at was is =
@@ -49,13 +55,6 @@ way_more joins start index x old new above below at was is =
     ∙ ap (λ n. map way_of (take n (drop start joins))) (sym count) where
       back : (a b : ℕ) → a ≤ b → b ≡ a + (b - a)
       back a b h = omega arith
-
--- the search for the next node ends no earlier
-pub in_order : (joins : List Join) (node start end : ℕ) (e : Join) → start ≤ length joins → ((k : ℕ) (d : Join) → k < start → (get_or joins k d).from < node) → ((k : ℕ) (d : Join) → end ≤ k → k < length joins → node + 1 ≤ (get_or joins k d).from) → start ≤ end
-in_order joins node start end e inside low high = elim (cases_lt end start) [
-  | inr fine ↦ fine
-  | inl less ↦ let a = low end e less in let b = high end e (omega arith) (omega (arith, less, inside)) in absurd (omega (arith, a, b))
-]
 
 -- Of the joins of a graph these are the ones that begin at a node, and maybe others.
 pub record HasJoinsOf (g : Graph) (node : ℕ) (joins : List Join) : Type 0 where
@@ -82,7 +81,7 @@ part_rising c parts g i x is below at =
 -- the ways between are those of the node
 pub just_node : (c : Cutting) (parts : List Part) (g : Graph) (joins : List Join) (node start end : ℕ) → IsGraph c parts g → HasJoinsOf g node joins → start ≤ end → end ≤ length joins
     → ((k : ℕ) (d : Join) → k < start → (get_or joins k d).from < node) → ((k : ℕ) (d : Join) → start ≤ k → k < length joins → node ≤ (get_or joins k d).from)
-    → ((k : ℕ) (d : Join) → k < end → (get_or joins k d).from < node + 1) → ((k : ℕ) (d : Join) → end ≤ k → k < length joins → node + 1 ≤ (get_or joins k d).from)
+    → ((k : ℕ) (d : Join) → k < end → (get_or joins k d).from ≤ node) → ((k : ℕ) (d : Join) → end ≤ k → k < length joins → node < (get_or joins k d).from)
     → HasJust (HasJoin g node) (map way_of (take (end - start) (drop start joins)))
 just_node c parts g joins node start end is has order inside before from upto after = record {
   only = all_by_contains (λ way. HasJoin g node way.to way.height) ways (λ way h.

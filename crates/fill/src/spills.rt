@@ -1,7 +1,6 @@
 // The graph of the labels of all tiles.
-ghost use Rattle.std.specs.Prelude.{◌≡◌, ◌+◌, ◌*◌, ◌<◌, ◌≤◌, ℕ, ℤ, List, length, map, take, drop, ◌-◌, IfOk, OnOk, slice_index_or};
+ghost use Rattle.std.specs.Prelude.{◌≡◌, ◌<◌, ◌≤◌, ℕ, List, length, map, take, drop, ◌-◌, IfOk, slice_index_or};
 ghost use Rattle.ascii_grid.specs.Raster.{Terrain};
-ghost use Rattle.tiles.specs.Cutting.{Cutting, IsWithin, IsCutting};
 ghost use Rattle.fill.specs.TileFlood.{Flood};
 ghost use Rattle.fill.specs.Parts.{AreParts};
 ghost use Rattle.fill.specs.Spills.{AreFloods, IsGraphOf, AreLevelsOf};
@@ -70,6 +69,24 @@ fn first_from(joins: &[Join], node: u32) -> usize
     low
 }
 
+/// The end of the joins that begin at this node, of which the one at `start` is the first.
+fn end_of(joins: &[Join], start: usize, node: u32) -> usize
+    requires rising { AreRising joins.now }
+    requires few { start ≤ length joins.now }
+    requires below { (k : ℕ) (d : _) → k < start → (slice_index_or joins.now k d).from < node }
+    requires above { (k : ℕ) (d : _) → start ≤ k → k < length joins.now → node ≤ (slice_index_or joins.now k d).from }
+    ensures from { start ≤ result }
+    ensures few { result ≤ length joins.now }
+    ensures below { (k : ℕ) (d : _) → k < result → (slice_index_or joins.now k d).from ≤ node }
+    ensures above { (k : ℕ) (d : _) → result ≤ k → k < length joins.now → node < (slice_index_or joins.now k d).from }
+{
+    let mut end = start;
+    while end < joins.len() && joins[end].from == node {
+        end += 1;
+    }
+    end
+}
+
 /// The ways of the joins from `start` up to `end`.
 fn ways_between(
     alloc: Global,
@@ -120,7 +137,7 @@ impl Net for SpillGraph {
         };
         let part = &self.parts[self.tiling.tile_of(place) as usize];
         let start = first_from(&part.joins, node);
-        let end = first_from(&part.joins, node + 1);
+        let end = end_of(&part.joins, start, node);
         ways_between(alloc, &part.joins, start, end)
     }
 

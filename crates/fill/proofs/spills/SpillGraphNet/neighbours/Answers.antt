@@ -1,4 +1,4 @@
-use Rattle.std.proofs.Common.{◌≡◌, ◌-◌, ◌/◌, ◌%◌, pos, take, drop, map, ap, ◌∙◌}
+use Rattle.std.proofs.Common.{◌≡◌, ◌-◌, ◌/◌, ◌%◌, take, drop, map, ap, ◌∙◌}
 use Rattle.std.proofs.lemmas.Result.{IfOk-weaker}
 use Rattle.smallvec.specs.SmallVec.{SmallVec}
 use Rattle.tiles.specs.Cutting.{tile_of_place}
@@ -6,39 +6,35 @@ use Rattle.fill.specs.Walk.{HasJust}
 use Rattle.fill.specs.Spills.{HasJoin}
 use Rattle.fill.specs.Gathering.{way_of}
 use Rattle.fill.specs.Parts.{graph_of_parts, tile_of_node}
-use Rattle.fill.specs.declared.spills.Join.{Join}
 use Rattle.fill.specs.declared.net.Spill.{Spill}
-use Rattle.fill.proofs.GraphWays.{in_order, just_node, part_joins, part_rising}
+use Rattle.fill.proofs.GraphWays.{just_node, part_joins, part_rising}
 use Rattle.fill.proofs.spills.SpillGraphNet.neighbours.Goals as goal
 
 pub first_from-start-requires : goal.first_from-start-requires
 first_from-start-requires c = rw c.deref.ensures.value (part_rising c.self.inside.tiling c.self.inside.parts.items _ c.tile_of.result c.index-part.result.now c.self.invariant.1 c.tile_of.ensures.below c.index-part.ensures)
 
-pub first_from-end-requires : goal.first_from-end-requires
-first_from-end-requires c = rw c.deref-2.ensures.value (part_rising c.self.inside.tiling c.self.inside.parts.items _ c.tile_of.result c.index-part.result.now c.self.invariant.1 c.tile_of.ensures.below c.index-part.ensures)
+pub end_of-end-requires-clause-rising : goal.end_of-end-requires-clause-rising
+end_of-end-requires-clause-rising c = rw c.deref-2.ensures.value (part_rising c.self.inside.tiling c.self.inside.parts.items _ c.tile_of.result c.index-part.result.now c.self.invariant.1 c.tile_of.ensures.below c.index-part.ensures)
 
-pub ways_between-requires : goal.ways_between-requires
-ways_between-requires c =
-    let none : Join = record { from = 0; to = 0; height = pos 0 } in
-    let joins = c.index-part.result.now.joins.items in
-    let start = rw c.deref.ensures.value at c.first_from-start.ensures in
-    let end = rw c.deref-2.ensures.value at c.first_from-end.ensures in
-    rw c.deref-3.ensures.value (in_order joins c.args.node c.first_from-start.result c.first_from-end.result none start.few start.below end.above, end.few)
+pub end_of-end-requires-clause-below : goal.end_of-end-requires-clause-below
+end_of-end-requires-clause-below c = rw (c.deref-2.ensures.value, ← c.deref.ensures.value) c.first_from-start.ensures.below
+
+pub end_of-end-requires-clause-above : goal.end_of-end-requires-clause-above
+end_of-end-requires-clause-above c = rw (c.deref-2.ensures.value, ← c.deref.ensures.value) c.first_from-start.ensures.above
 
 pub returns : goal.returns
 returns c =
-    let none : Join = record { from = 0; to = 0; height = pos 0 } in
     let t = c.self.inside.tiling in
     let parts = c.self.inside.parts.items in
     let sources = c.self.inside.sources.items in
     let joins = c.index-part.result.now.joins.items in
     let start = rw c.deref.ensures.value at c.first_from-start.ensures in
-    let end = rw c.deref-2.ensures.value at c.first_from-end.ensures in
+    let end = rw c.deref-2.ensures.value at c.end_of-end.ensures in
     let tile : c.tile_of.result ≡ tile_of_node t c.args.node = c.tile_of.ensures.number ∙ ap (λ n. tile_of_place t (record { row = c.args.node / n; col = c.args.node % n })) c.cols-cols.ensures.value in
     let has = part_joins t parts sources c.args.node c.tile_of.result c.index-part.result.now c.self.invariant.1 c.tile_of.ensures.below tile c.index-part.ensures in
-    let just = just_node t parts (graph_of_parts t parts sources) joins c.args.node c.first_from-start.result c.first_from-end.result c.self.invariant.1 has (in_order joins c.args.node c.first_from-start.result c.first_from-end.result none start.few start.below end.above) end.few start.below start.above end.below end.above in
+    let just = just_node t parts (graph_of_parts t parts sources) joins c.args.node c.first_from-start.result c.end_of-end.result c.self.invariant.1 has end.from end.few start.below start.above end.below end.above in
     IfOk-weaker c.ways_between.result
-    (λ (v : SmallVec Spill). v.items ≡ map way_of (take (c.first_from-end.result - c.first_from-start.result) (drop c.first_from-start.result joins)))
+    (λ (v : SmallVec Spill). v.items ≡ map way_of (take (c.end_of-end.result - c.first_from-start.result) (drop c.first_from-start.result joins)))
     (λ (v : SmallVec Spill). HasJust (HasJoin c.args.self.now c.args.node) v.items)
     (λ v is. rw (is, ← c.self.view_is) just)
     (rw c.deref-3.ensures.value at c.ways_between.ensures)
