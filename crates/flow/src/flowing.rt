@@ -1,6 +1,6 @@
 // The flow of each tile, in a job of its own.
-ghost use Rattle.std.specs.Prelude.{◌≡◌, IfOk};
-ghost use Rattle.tiles.specs.Cutting.{Cuts};
+ghost use Rattle.std.specs.Prelude.{◌≡◌, IfOk, IfErr};
+ghost use Rattle.tiles.specs.Cutting.{Cuts, IsCutting, AreTileLists, IsPutBack};
 ghost use Rattle.tile_jobs.specs.Fault.{RefusesWorkers};
 ghost use Rattle.drain.specs.Drained.{directed_of};
 ghost use Rattle.flow.specs.TileFlow.{AreTileCounts};
@@ -94,6 +94,7 @@ pub fn flow_tiles<R: Threads + Wait + Sync, G: Gate + Sync>(
     requires { IsGridFlow tiling.now.cols tiling.now.rows codes.now }
     ensures flows { IfOk result (λ v. AreFlowsOf (make_directed tiling.now.cols tiling.now.rows codes.now) tiling.now v.items) }
     ensures counts { IfOk result (λ v. AreTileCounts (make_directed tiling.now.cols tiling.now.rows codes.now) tiling.now v.items) }
+    ensures lawful { IsCutting tiling.now }
     ensures workers { RefusesWorkers workers result }
 {
     let tiles = tiling.tiles();
@@ -118,6 +119,7 @@ pub fn exit_tiles<R: Threads + Wait + Sync, G: Gate + Sync>(
 ) -> Result<Vec<TileFlow>, JobFault>
     requires { IsGridFlow tiling.now.cols tiling.now.rows codes.now }
     ensures flows { IfOk result (λ v. AreFlowsOf (make_directed tiling.now.cols tiling.now.rows codes.now) tiling.now v.items) }
+    ensures lawful { IsCutting tiling.now }
     ensures workers { RefusesWorkers workers result }
 {
     let tiles = tiling.tiles();
@@ -129,4 +131,20 @@ pub fn exit_tiles<R: Threads + Wait + Sync, G: Gate + Sync>(
         workers,
         gate,
     )
+}
+
+/// The list of the whole grid, of the lists of its tiles.
+pub fn put_back(
+    alloc: Global,
+    tiling: &Tiling,
+    tiles: &[Vec<Option<u32>>],
+) -> Result<Vec<Option<u32>>, JobFault>
+    requires { AreTileLists tiling.now tiles.now }
+    ensures whole { IfOk result (λ v. IsPutBack tiling.now tiles.now v.items) }
+    ensures fault { IfErr result (λ e. e ≡ JobFault.Memory) }
+{
+    let Ok(whole) = tiling.put_back(alloc, tiles) else {
+        return Err(JobFault::Memory);
+    };
+    Ok(whole)
 }
