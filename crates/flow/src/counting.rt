@@ -12,7 +12,7 @@ ghost use Rattle.flow.specs.Inflows.{inflow_in};
 ghost use Rattle.ascii_grid.specs.declared.place.Place.{Place as AtPlace};
 
 use crate::cells::tile_weights;
-use crate::flowing::{codes_of, flow_tiles, put_back};
+use crate::flowing::{flow_tiles, put_back};
 use crate::inflows::Inflows;
 use crate::streams::upstream;
 use crate::tile::{TileFlow, counted};
@@ -71,7 +71,7 @@ pub fn accumulation<R: Threads + Wait + Sync, G: Gate + Sync>(
     ensures values { IfOk result (λ v. AreAccumulations (directed_of d.now) v.items) }
     ensures workers { RefusesWorkers workers result }
 {
-    accumulation_along(rt, alloc, codes_of(d, tiling), tiling, workers, gate)
+    accumulation_along(rt, alloc, d.codes(), tiling, workers, gate)
 }
 
 pub(crate) fn accumulation_along<R: Threads + Wait + Sync, G: Gate + Sync>(

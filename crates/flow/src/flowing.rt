@@ -1,14 +1,13 @@
 // The flow of each tile, in a job of its own.
 ghost use Rattle.std.specs.Prelude.{◌≡◌, IfOk, IfErr};
-ghost use Rattle.tiles.specs.Cutting.{Cuts, IsCutting, AreTileLists, IsPutBack};
+ghost use Rattle.tiles.specs.Cutting.{IsCutting, AreTileLists, IsPutBack};
 ghost use Rattle.tile_jobs.specs.Fault.{RefusesWorkers};
-ghost use Rattle.drain.specs.Drained.{directed_of};
 ghost use Rattle.flow.specs.TileFlow.{AreTileCounts};
 ghost use Rattle.flow.specs.RimGraph.{AreFlowsOf};
 ghost use Rattle.flow.specs.Whole.{IsGridFlow, make_directed};
 
 use crate::tile::{TileFlow, tile_exits, tile_flow};
-use drain::{Code, Directions};
+use drain::Code;
 use std::alloc::Global;
 use std::sync::Wait;
 use std::thread::Threads;
@@ -69,17 +68,6 @@ impl<'a> Work for ExitTiles<'a> {
         };
         Ok(flow)
     }
-}
-
-/// The codes of a map of directions.
-pub fn codes_of<'a>(directions: &'a Directions, tiling: &Tiling) -> &'a [Option<Code>]
-    requires { Cuts tiling.now directions.now.terrain }
-    ensures flows { IsGridFlow tiling.now.cols tiling.now.rows result.now }
-    ensures same { make_directed tiling.now.cols tiling.now.rows result.now ≡ directed_of directions.now }
-{
-    let codes = directions.codes();
-    prove!(tiling.cols() > 0);
-    codes
 }
 
 /// The flows of all tiles, in tile order.

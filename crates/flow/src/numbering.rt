@@ -13,7 +13,7 @@ ghost use Rattle.flow.specs.TileMaps.{IsTileMapOf, AreTileMapsOf};
 ghost use Rattle.flow.specs.Numbering.{IsNumbering, AreReady, IsExitOfTile, number_at, label_by, labels_by, label_at, numbered_by};
 
 use crate::cells::place_at;
-use crate::flowing::{codes_of, exit_tiles, put_back};
+use crate::flowing::{exit_tiles, put_back};
 use crate::outlet_numbers::OutletNumbers;
 use crate::outlets::Outlets;
 use crate::tile::TileFlow;
@@ -79,7 +79,7 @@ pub fn basins<R: Threads + Wait + Sync, G: Gate + Sync>(
     ensures values { IfOk result (λ v. AreBasins (directed_of d.now) v.items) }
     ensures workers { RefusesWorkers workers result }
 {
-    basins_along(rt, alloc, codes_of(d, tiling), tiling, workers, gate)
+    basins_along(rt, alloc, d.codes(), tiling, workers, gate)
 }
 
 pub(crate) fn basins_along<R: Threads + Wait + Sync, G: Gate + Sync>(
