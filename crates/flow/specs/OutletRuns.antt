@@ -1,5 +1,6 @@
 -- The outlets of a list of codes, counted run by run. Only the contracts of private functions speak of it.
-use Rattle.std.specs.Prelude.{◌≡◌, ℕ, ◌+◌, ◌-◌, ◌*◌, ◌^◌, ◌<◌, ◌≤◌, min, List, length, take, count_by, Option, Some, slice_get, slice_index, slice_range}
+use Rattle.std.specs.Prelude.{◌≡◌, ℕ, ◌+◌, ◌-◌, ◌*◌, ◌^◌, ◌<◌, ◌≤◌, min, max, List, length, take, count_by, Option, Some, slice_get, slice_index, slice_range}
+use Rattle.std.specs.Int.{div_ceil}
 use Rattle.std.specs.List.{sum_by}
 use Rattle.flow.specs.Whole.{is_outlet_code}
 use Rattle.flow.specs.declared.outlet_runs.RunCounts.{RunCounts}
@@ -14,6 +15,10 @@ pub record AreCodeRuns (r : CodeRuns) : Type 0 where
   pub few : length r.codes < 2 ^ 32 - 1
   pub some : 0 < r.run_length
   pub short : r.run_length ≤ 2 ^ 32
+
+-- How many codes a run has where so many runs share the blocks evenly: one block at least.
+abbrev pub run_share : ℕ → ℕ → ℕ
+run_share codes runs = max 1 (div_ceil (div_ceil codes 16) runs) * 16
 
 -- Where a run starts: at the end of the codes, if it is past them.
 abbrev pub run_start : CodeRuns → ℕ → ℕ

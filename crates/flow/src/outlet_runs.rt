@@ -1,7 +1,7 @@
 // The outlets of a list of codes, counted run by run.
 ghost use Rattle.std.specs.Prelude.{◌≡◌, ◌-◌, ◌*◌, ◌^◌, ◌<◌, ◌≤◌, length, take, count_by, IfOk, if◌then◌else◌};
 ghost use Rattle.flow.specs.Whole.{is_outlet_code};
-ghost use Rattle.flow.specs.OutletRuns.{AreCodeRuns, IsRunCounted, run_start, run_codes};
+ghost use Rattle.flow.specs.OutletRuns.{AreCodeRuns, IsRunCounted, run_share, run_start, run_codes};
 
 use crate::tile::is_outlet;
 use ascii_grid::NoMemory;
@@ -32,11 +32,12 @@ impl<'a> Model for Runs<'a> {
 }
 
 impl<'a> Runs<'a> {
-    /// Cuts a list into this many runs, each of whole blocks.
+    /// Cuts a list into this many runs, which share its blocks evenly.
     pub fn cut(codes: &'a [Option<Code>], count: u32) -> Runs<'a>
         requires few { length codes.now < 2 ^ 32 - 1 }
         requires some { 1 ≤ count }
         ensures codes { result.codes ≡ codes.now }
+        ensures share { result.run_length ≡ run_share (length codes.now) count }
         ensures enough { length codes.now ≤ count * result.run_length }
         ensures lawful { AreCodeRuns result }
     {
