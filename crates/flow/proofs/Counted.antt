@@ -42,7 +42,7 @@ weights_size cells = length-map cells (λ (code : Option ℕ). cond {A = ℕ} (i
 
 module _ (t : Cutting) (codes : List (Option ℕ)) (flows : List Flow) (inflows : Inflows) (s : IsCounting t codes flows inflows) where
   ending : IsEnding (make_directed t.cols t.rows codes)
-  ending = record { ends = s.grid.ends; some_col = s.grid.some_col; some_row = s.grid.some_row; few_cols = s.grid.few_cols; few_rows = s.grid.few_rows }
+  ending = record { ends = s.grid.ends; some_col = s.are_flows.cutting.some_col; some_row = s.are_flows.cutting.some_row; few_cols = s.are_flows.cutting.few_cols; few_rows = s.are_flows.cutting.few_rows }
 
   module _ (tile : ℕ) (f : Flow) (there : slice_get flows tile ≡ Some f) where
     right : IsTileExits (make_directed t.cols t.rows codes) t tile f
@@ -62,7 +62,7 @@ module _ (t : Cutting) (codes : List (Option ℕ)) (flows : List Flow) (inflows 
 
     pub inflow_few : (p : Place) → IsInBounds (bounds_of t tile) p → inflow_in inflows p ≤ 16777216
     inflow_few p h =
-        let most : t.rows * t.cols ≤ 4096 * 4096 = mul-le-mul s.grid.few_rows s.grid.few_cols in
+        let most : t.rows * t.cols ≤ 4096 * 4096 = mul-le-mul s.are_flows.cutting.few_rows s.are_flows.cutting.few_cols in
         omega (
           arith,
           s.are_inflows.each p (within_tile p h),

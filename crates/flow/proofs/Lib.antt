@@ -21,6 +21,7 @@ pub mod Testing
 pub mod RimNumbered
 pub mod RimFlows
 pub mod Together
+pub mod RunsCounted
 pub mod Numbered
 pub mod DoubleSums
 pub mod Reaching

@@ -2,7 +2,7 @@
 use Rattle.std.proofs.Common.{◌≡◌, ℕ, true, inl, inr, List, Option, None, Some, ap, ◌∙◌}
 use Rattle.std.proofs.Math.ListN.{length-map}
 use Rattle.std.specs.List.{list_all, range_with_len}
-use Rattle.std.proofs.lemmas.Bool.{and_parts, or_cases, leb-true, eqb-true}
+use Rattle.std.proofs.lemmas.Bool.{and_parts, or_cases, eqb-true}
 use Rattle.drain.specs.Following.{Directed, code_at, last_of}
 use Rattle.drain.specs.Drained.{AllFlowEnds}
 use Rattle.flow.specs.Whole.{make_directed, is_outlet_code, IsGridFlow}
@@ -30,16 +30,5 @@ ends_from_test d t p code e =
 
 pub grid_from_test : (cols rows : ℕ) (numbers : List ℕ) → flows cols rows numbers ≡ true → IsGridFlow cols rows (codes_by numbers)
 grid_from_test cols rows numbers t =
-    let a = and_parts _ _ t in
-    let b = and_parts _ _ a.0 in
-    let c = and_parts _ _ b.0 in
-    let d = and_parts _ _ c.0 in
-    let e = and_parts _ _ d.0 in
-    record {
-      some_col = leb-true _ _ e.0;
-      some_row = leb-true _ _ e.1;
-      few_cols = leb-true _ _ d.1;
-      few_rows = leb-true _ _ c.1;
-      size = length-map numbers code_of_number ∙ eqb-true _ _ b.1;
-      ends = ends_from_test (make_directed cols rows (codes_by numbers)) a.1;
-    }
+    let both = and_parts _ _ t in
+    record { size = length-map numbers code_of_number ∙ eqb-true _ _ both.0; ends = ends_from_test (make_directed cols rows (codes_by numbers)) both.1 }

@@ -10,6 +10,7 @@ pub mod Tested
 pub mod RimNumbers
 pub mod RimGraph
 pub mod TileMaps
+pub mod OutletRuns
 pub mod Numbering
 pub mod Inflows
 pub mod Counting

@@ -1,5 +1,5 @@
 -- The numbers of outlets, put to the cells of a tile. Only the contracts of private functions speak of it.
-use Rattle.std.specs.Prelude.{◌≡◌, ℕ, ◌+◌, ◌-◌, ◌*◌, ◌^◌, ◌<◌, ◌≤◌, ◌==◌, if◌then◌else◌, List, map, length, take, count_by, Option, None, Some, IfSome, slice_get, slice_index, slice_index_or}
+use Rattle.std.specs.Prelude.{◌≡◌, ℕ, ◌+◌, ◌*◌, ◌<◌, ◌==◌, if◌then◌else◌, List, map, length, take, count_by, Option, None, Some, IfSome, slice_get, slice_index, slice_index_or}
 use Rattle.std.specs.List.{range_with_len}
 use Rattle.ascii_grid.specs.Neighbours.{index_of}
 use Rattle.ascii_grid.specs.declared.place.Place.{Place}
@@ -10,12 +10,6 @@ use Rattle.flow.specs.TileFlow.{Flow}
 use Rattle.flow.specs.TileLinks.{index_in}
 use Rattle.flow.specs.Whole.{is_outlet_code}
 use Rattle.flow.specs.RimGraph.{AreFlowsOf, Outlets, AreOutlets, outlet_in}
-
--- The outlets before each block of sixteen codes are counted.
-pub record AreBlockCounts (codes : List (Option ℕ)) (counts : List ℕ) : Type 0 where
-  pub few : length codes < 2 ^ 32 - 1
-  pub enough : length codes ≤ length counts * 16
-  pub each : (k : ℕ) → k < length counts → slice_index counts k ≡ count_by is_outlet_code (take (k * 16) codes)
 
 -- The flows, the outlets of exits and the codes are those of a map of directions.
 pub record IsNumbering (d : Directed) (t : Cutting) (flows : List Flow) (outlets : Outlets) (codes : List (Option ℕ)) : Type 0 where

@@ -1,5 +1,5 @@
 -- Maps of directions that are written out. Only tests speak of them.
-use Rattle.std.specs.Prelude.{ℕ, ◌*◌, Bool, true, false, ◌||◌, ◌&&◌, ◌==◌, nat_le, List, map, length, Option, None, Some, if◌then◌else◌}
+use Rattle.std.specs.Prelude.{ℕ, ◌*◌, Bool, true, false, ◌||◌, ◌&&◌, ◌==◌, List, map, length, Option, None, Some, if◌then◌else◌}
 use Rattle.std.specs.List.{list_any, list_all, range_with_len}
 use Rattle.ascii_grid.specs.Ways.{way_codes}
 use Rattle.ascii_grid.specs.declared.place.Place.{Place}
@@ -24,8 +24,8 @@ is_none_code (Some code) = false
 abbrev pub ends_at : Directed → ℕ → ℕ → Bool
 ends_at d row col = is_none_code (code_at d (make_place row col)) || is_outlet_code (code_at d (last_of d (make_place row col)))
 
--- the grid is within the limits, and each flow path in it ends
+-- there is a code for each cell of the grid, and each flow path in it ends
 abbrev pub flows : ℕ → ℕ → List ℕ → Bool
 flows cols rows numbers =
-    nat_le 1 cols && nat_le 1 rows && nat_le cols 4096 && nat_le rows 4096 && length numbers == cols * rows
+    length numbers == cols * rows
     && list_all (λ row. list_all (λ col. ends_at (make_directed cols rows (codes_by numbers)) row col) (range_with_len 0 cols)) (range_with_len 0 rows)

@@ -1,19 +1,14 @@
 -- The grid as one tile. Only the contracts of private functions speak of it.
-use Rattle.std.specs.Prelude.{◌≡◌, ℕ, ◌*◌, ◌≤◌, Bool, false, ◌==◌, List, length, Option}
+use Rattle.std.specs.Prelude.{◌≡◌, ℕ, ◌*◌, Bool, false, ◌==◌, List, length, Option}
 use Rattle.std.specs.Option.{option_map_or}
-use Rattle.tiles.specs.Cutting.{longest_axis}
 use Rattle.drain.specs.Following.{Directed}
 use Rattle.drain.specs.Drained.{AllFlowEnds}
 
 abbrev pub make_directed : ℕ → ℕ → List (Option ℕ) → Directed
 make_directed cols rows codes = record { cols = cols; rows = rows; codes = codes }
 
--- what holds of the codes of a grid of this size
+-- codes of a grid of this size, in which each flow path ends
 pub record IsGridFlow (cols rows : ℕ) (codes : List (Option ℕ)) : Type 0 where
-  pub some_col : 1 ≤ cols
-  pub some_row : 1 ≤ rows
-  pub few_cols : cols ≤ longest_axis
-  pub few_rows : rows ≤ longest_axis
   pub size : length codes ≡ cols * rows
   pub ends : AllFlowEnds (make_directed cols rows codes)
 

@@ -1,7 +1,7 @@
 // Accumulations of a map of directions, tile by tile.
 ghost use Rattle.std.proofs.Props.{props};
 ghost use Rattle.std.specs.Prelude.{◌≡◌, ◌+◌, ◌^◌, ◌<◌, ℕ, List, Option, length, slice_index, IfOk};
-ghost use Rattle.tiles.specs.Cutting.{Cuts, IsInBounds, bounds_of, cell_count, tile_count};
+ghost use Rattle.tiles.specs.Cutting.{Cuts, IsCutting, IsInBounds, bounds_of, cell_count, tile_count};
 ghost use Rattle.tile_jobs.specs.Fault.{RefusesWorkers};
 ghost use Rattle.drain.specs.Drained.{directed_of};
 ghost use Rattle.flow.specs.Counts.{AreAccumulations, accumulation};
@@ -12,7 +12,7 @@ ghost use Rattle.flow.specs.Inflows.{inflow_in};
 ghost use Rattle.ascii_grid.specs.declared.place.Place.{Place as AtPlace};
 
 use crate::cells::tile_weights;
-use crate::flowing::{codes_of, flow_tiles};
+use crate::flowing::{flow_tiles, put_back};
 use crate::inflows::Inflows;
 use crate::streams::upstream;
 use crate::tile::{TileFlow, counted};
@@ -71,7 +71,7 @@ pub fn accumulation<R: Threads + Wait + Sync, G: Gate + Sync>(
     ensures values { IfOk result (λ v. AreAccumulations (directed_of d.now) v.items) }
     ensures workers { RefusesWorkers workers result }
 {
-    accumulation_along(rt, alloc, codes_of(d, tiling), tiling, workers, gate)
+    accumulation_along(rt, alloc, d.codes(), tiling, workers, gate)
 }
 
 pub(crate) fn accumulation_along<R: Threads + Wait + Sync, G: Gate + Sync>(
@@ -86,17 +86,30 @@ pub(crate) fn accumulation_along<R: Threads + Wait + Sync, G: Gate + Sync>(
     ensures values { IfOk result (λ v. AreAccumulations (make_directed tiling.now.cols tiling.now.rows codes.now) v.items) }
     ensures workers { RefusesWorkers workers result }
 {
+    let tiles = accumulation_tiles(rt, alloc, codes, tiling, workers, gate)?;
+    put_back(alloc, tiling, &tiles)
+}
+
+// The accumulations of each tile, in tile order.
+fn accumulation_tiles<R: Threads + Wait + Sync, G: Gate + Sync>(
+    rt: &R,
+    alloc: Global,
+    codes: &[Option<Code>],
+    tiling: &Tiling,
+    workers: u32,
+    gate: &G,
+) -> Result<Vec<Vec<Option<u32>>>, JobFault>
+    requires flows { IsGridFlow tiling.now.cols tiling.now.rows codes.now }
+    ensures lawful { IsCutting tiling.now }
+    ensures tiles { IfOk result (λ v. AreTileMapsOf (make_directed tiling.now.cols tiling.now.rows codes.now) tiling.now
+        (accumulation (make_directed tiling.now.cols tiling.now.rows codes.now)) v.items) }
+    ensures workers { RefusesWorkers workers result }
+{
     let flows = flow_tiles(rt, alloc, codes, tiling, workers, gate)?;
     let Ok(inflows) = Inflows::join(alloc, tiling, &flows) else {
         return Err(JobFault::Memory);
     };
-    let tiles = count_tiles(rt, alloc, tiling, &flows, &inflows, workers, gate)?;
-    drop(inflows);
-    drop(flows);
-    match tiling.put_back(alloc, &tiles) {
-        Ok(values) => Ok(values),
-        Err(NoMemory) => Err(JobFault::Memory),
-    }
+    count_tiles(rt, alloc, tiling, &flows, &inflows, workers, gate)
 }
 
 fn count_tiles<R: Threads + Wait + Sync, G: Gate + Sync>(

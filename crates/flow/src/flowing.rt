@@ -1,14 +1,13 @@
 // The flow of each tile, in a job of its own.
-ghost use Rattle.std.specs.Prelude.{◌≡◌, IfOk};
-ghost use Rattle.tiles.specs.Cutting.{Cuts};
+ghost use Rattle.std.specs.Prelude.{◌≡◌, IfOk, IfErr};
+ghost use Rattle.tiles.specs.Cutting.{IsCutting, AreTileLists, IsPutBack};
 ghost use Rattle.tile_jobs.specs.Fault.{RefusesWorkers};
-ghost use Rattle.drain.specs.Drained.{directed_of};
 ghost use Rattle.flow.specs.TileFlow.{AreTileCounts};
 ghost use Rattle.flow.specs.RimGraph.{AreFlowsOf};
 ghost use Rattle.flow.specs.Whole.{IsGridFlow, make_directed};
 
 use crate::tile::{TileFlow, tile_exits, tile_flow};
-use drain::{Code, Directions};
+use drain::Code;
 use std::alloc::Global;
 use std::sync::Wait;
 use std::thread::Threads;
@@ -71,17 +70,6 @@ impl<'a> Work for ExitTiles<'a> {
     }
 }
 
-/// The codes of a map of directions.
-pub fn codes_of<'a>(directions: &'a Directions, tiling: &Tiling) -> &'a [Option<Code>]
-    requires { Cuts tiling.now directions.now.terrain }
-    ensures flows { IsGridFlow tiling.now.cols tiling.now.rows result.now }
-    ensures same { make_directed tiling.now.cols tiling.now.rows result.now ≡ directed_of directions.now }
-{
-    let codes = directions.codes();
-    prove!(tiling.cols() > 0);
-    codes
-}
-
 /// The flows of all tiles, in tile order.
 pub fn flow_tiles<R: Threads + Wait + Sync, G: Gate + Sync>(
     rt: &R,
@@ -94,6 +82,7 @@ pub fn flow_tiles<R: Threads + Wait + Sync, G: Gate + Sync>(
     requires { IsGridFlow tiling.now.cols tiling.now.rows codes.now }
     ensures flows { IfOk result (λ v. AreFlowsOf (make_directed tiling.now.cols tiling.now.rows codes.now) tiling.now v.items) }
     ensures counts { IfOk result (λ v. AreTileCounts (make_directed tiling.now.cols tiling.now.rows codes.now) tiling.now v.items) }
+    ensures lawful { IsCutting tiling.now }
     ensures workers { RefusesWorkers workers result }
 {
     let tiles = tiling.tiles();
@@ -118,6 +107,7 @@ pub fn exit_tiles<R: Threads + Wait + Sync, G: Gate + Sync>(
 ) -> Result<Vec<TileFlow>, JobFault>
     requires { IsGridFlow tiling.now.cols tiling.now.rows codes.now }
     ensures flows { IfOk result (λ v. AreFlowsOf (make_directed tiling.now.cols tiling.now.rows codes.now) tiling.now v.items) }
+    ensures lawful { IsCutting tiling.now }
     ensures workers { RefusesWorkers workers result }
 {
     let tiles = tiling.tiles();
@@ -129,4 +119,20 @@ pub fn exit_tiles<R: Threads + Wait + Sync, G: Gate + Sync>(
         workers,
         gate,
     )
+}
+
+/// The list of the whole grid, of the lists of its tiles.
+pub fn put_back(
+    alloc: Global,
+    tiling: &Tiling,
+    tiles: &[Vec<Option<u32>>],
+) -> Result<Vec<Option<u32>>, JobFault>
+    requires { AreTileLists tiling.now tiles.now }
+    ensures whole { IfOk result (λ v. IsPutBack tiling.now tiles.now v.items) }
+    ensures fault { IfErr result (λ e. e ≡ JobFault.Memory) }
+{
+    let Ok(whole) = tiling.put_back(alloc, tiles) else {
+        return Err(JobFault::Memory);
+    };
+    Ok(whole)
 }

@@ -9,6 +9,7 @@ pub mod inflows;
 pub mod links;
 pub mod numbering;
 mod outlet_numbers;
+mod outlet_runs;
 pub mod outlets;
 mod rim;
 mod streams;

@@ -1,7 +1,7 @@
 // The basins of a map of directions, tile by tile.
 ghost use Rattle.std.proofs.Props.{props};
 ghost use Rattle.std.specs.Prelude.{◌≡◌, ◌<◌, ℕ, length, slice_index_or, None, IfOk, IfSome};
-ghost use Rattle.tiles.specs.Cutting.{Cuts, IsWithin, tile_count};
+ghost use Rattle.tiles.specs.Cutting.{Cuts, IsCutting, IsWithin, tile_count};
 ghost use Rattle.tile_jobs.specs.Fault.{RefusesWorkers};
 ghost use Rattle.drain.specs.Drained.{directed_of};
 ghost use Rattle.drain.specs.Following.{Directed};
@@ -13,7 +13,7 @@ ghost use Rattle.flow.specs.TileMaps.{IsTileMapOf, AreTileMapsOf};
 ghost use Rattle.flow.specs.Numbering.{IsNumbering, AreReady, IsExitOfTile, number_at, label_by, labels_by, label_at, numbered_by};
 
 use crate::cells::place_at;
-use crate::flowing::{codes_of, exit_tiles};
+use crate::flowing::{exit_tiles, put_back};
 use crate::outlet_numbers::OutletNumbers;
 use crate::outlets::Outlets;
 use crate::tile::TileFlow;
@@ -65,7 +65,8 @@ impl<'a> Work for NumberTiles<'a> {
 }
 
 /// The number of the outlet that ends each cell's flow path. The exits of each tile are found in a job
-/// of their own, and its cells are numbered in another.
+/// of their own, the outlets are counted in as many jobs, each a run of the codes, and the cells of each
+/// tile are numbered in another.
 pub fn basins<R: Threads + Wait + Sync, G: Gate + Sync>(
     rt: &R,
     alloc: Global,
@@ -78,7 +79,7 @@ pub fn basins<R: Threads + Wait + Sync, G: Gate + Sync>(
     ensures values { IfOk result (λ v. AreBasins (directed_of d.now) v.items) }
     ensures workers { RefusesWorkers workers result }
 {
-    basins_along(rt, alloc, codes_of(d, tiling), tiling, workers, gate)
+    basins_along(rt, alloc, d.codes(), tiling, workers, gate)
 }
 
 pub(crate) fn basins_along<R: Threads + Wait + Sync, G: Gate + Sync>(
@@ -93,21 +94,32 @@ pub(crate) fn basins_along<R: Threads + Wait + Sync, G: Gate + Sync>(
     ensures values { IfOk result (λ v. AreBasins (make_directed tiling.now.cols tiling.now.rows codes.now) v.items) }
     ensures workers { RefusesWorkers workers result }
 {
+    let tiles = basin_tiles(rt, alloc, codes, tiling, workers, gate)?;
+    put_back(alloc, tiling, &tiles)
+}
+
+// The basins of each tile, in tile order.
+fn basin_tiles<R: Threads + Wait + Sync, G: Gate + Sync>(
+    rt: &R,
+    alloc: Global,
+    codes: &[Option<Code>],
+    tiling: &Tiling,
+    workers: u32,
+    gate: &G,
+) -> Result<Vec<Vec<Option<u32>>>, JobFault>
+    requires flows { IsGridFlow tiling.now.cols tiling.now.rows codes.now }
+    ensures lawful { IsCutting tiling.now }
+    ensures tiles { IfOk result (λ v. AreTileMapsOf (make_directed tiling.now.cols tiling.now.rows codes.now) tiling.now
+        (basin (make_directed tiling.now.cols tiling.now.rows codes.now)) v.items) }
+    ensures workers { RefusesWorkers workers result }
+{
     let flows = exit_tiles(rt, alloc, codes, tiling, workers, gate)?;
     let Ok(outlets) = Outlets::join(alloc, tiling, &flows) else {
         return Err(JobFault::Memory);
     };
-    let Ok(numbers) = OutletNumbers::of_codes(alloc, codes) else {
-        return Err(JobFault::Memory);
-    };
-    let tiles = number_tiles(rt, alloc, tiling, &flows, &outlets, &numbers, workers, gate)?;
-    drop(outlets);
-    drop(flows);
-    drop(numbers);
-    match tiling.put_back(alloc, &tiles) {
-        Ok(values) => Ok(values),
-        Err(NoMemory) => Err(JobFault::Memory),
-    }
+    let runs = tiling.tiles();
+    let numbers = OutletNumbers::of_codes(rt, alloc, codes, runs, workers, gate)?;
+    number_tiles(rt, alloc, tiling, &flows, &outlets, &numbers, workers, gate)
 }
 
 fn number_tiles<R: Threads + Wait + Sync, G: Gate + Sync>(

@@ -1,44 +1,64 @@
 // The numbers of outlets in the row order of the grid.
-ghost use Rattle.std.specs.Prelude.{◌≡◌, ◌+◌, ◌-◌, ◌^◌, ◌<◌, ◌≤◌, length, take, count_by, IfOk, if◌then◌else◌};
+ghost use Rattle.std.specs.Prelude.{◌≡◌, ℕ, ◌+◌, ◌-◌, ◌^◌, ◌<◌, ◌≤◌, length, take, count_by, slice_index, IfOk};
+ghost use Rattle.std.specs.List.{sum_by};
+ghost use Rattle.tile_jobs.specs.Fault.{RefusesWorkers};
 ghost use Rattle.flow.specs.Whole.{is_outlet_code};
-ghost use Rattle.flow.specs.Numbering.{AreBlockCounts};
+ghost use Rattle.flow.specs.OutletRuns.{AreSumsBefore};
 
-use crate::tile::is_outlet;
+use crate::outlet_runs::{CountRuns, RunCounts, Runs};
 use ascii_grid::NoMemory;
 use drain::Code;
 use std::alloc::Global;
 use std::marker::Model;
-
-// How many codes have one count: a number for each code would take 4 bytes a cell of the grid.
-const BLOCK: usize = 16;
+use std::sync::Wait;
+use std::thread::Threads;
+use tile_jobs::{Gate, JobFault, run_jobs};
 
 /// Counts of the outlets in a list of codes.
 #[derive(Drop)]
 pub struct OutletNumbers<'a> {
-    codes: &'a [Option<Code>],
-    // how many outlets stand before each block
-    counts: Vec<u32>,
+    runs: Runs<'a>,
+    counts: Vec<RunCounts>,
+    // how many outlets stand before each run
+    before: Vec<u32>,
 }
 
 impl<'a> Model for OutletNumbers<'a> {
     ghost use Rattle.std.specs.Prelude.{ℕ, List, Option};
-    ghost use Rattle.flow.specs.Numbering.{AreBlockCounts};
+    ghost use Rattle.flow.specs.OutletRuns.{AreRunsCounted};
 
     ghost Value = { List (Option ℕ) };
 
-    ghost view = { λ n. n.codes.now };
+    ghost view = { λ n. n.runs.codes };
 
-    ghost invariant = { λ n. AreBlockCounts n.codes.now n.counts.items };
+    ghost invariant = { λ n. AreRunsCounted n.runs n.counts.items n.before.items };
 }
 
 impl<'a> OutletNumbers<'a> {
-    /// Counts the outlets of a list of codes.
-    pub fn of_codes(alloc: Global, codes: &'a [Option<Code>]) -> Result<OutletNumbers<'a>, NoMemory>
-        requires { length codes.now < 2 ^ 32 - 1 }
-        ensures { IfOk result (λ n. n ≡ codes.now) }
+    /// Counts the outlets of a list of codes, each of its runs in a job of its own.
+    pub fn of_codes<R: Threads + Wait + Sync, G: Gate + Sync>(
+        rt: &R,
+        alloc: Global,
+        codes: &'a [Option<Code>],
+        runs: u32,
+        workers: u32,
+        gate: &G,
+    ) -> Result<OutletNumbers<'a>, JobFault>
+        requires few { length codes.now < 2 ^ 32 - 1 }
+        requires runs { (1 ≤ runs) × (runs ≤ 65536) }
+        ensures codes { IfOk result (λ n. n ≡ codes.now) }
+        ensures workers { RefusesWorkers workers result }
     {
-        let counts = block_counts(alloc, codes)?;
-        Ok(OutletNumbers { codes, counts })
+        let cut = Runs::cut(codes, runs);
+        let counts = run_jobs(rt, alloc, &CountRuns { runs: &cut }, runs, workers, gate)?;
+        let Ok(before) = sums_before(alloc, &counts) else {
+            return Err(JobFault::Memory);
+        };
+        Ok(OutletNumbers {
+            runs: cut,
+            counts,
+            before,
+        })
     }
 
     /// One more than the outlets that stand before an index.
@@ -46,48 +66,27 @@ impl<'a> OutletNumbers<'a> {
         requires { index < length self.now }
         ensures { result ≡ 1 + count_by is_outlet_code (take index self.now) }
     {
-        let block = index / BLOCK;
-        1 + count_on(self.codes, block * BLOCK, index, self.counts[block])
+        let run = index / self.runs.length();
+        let inside = index - run * self.runs.length();
+        let counted = self.counts[run].count_before(self.runs.codes(run as u32), inside);
+        1 + self.before[run] + counted
     }
 }
 
-fn block_counts(alloc: Global, codes: &[Option<Code>]) -> Result<Vec<u32>, NoMemory>
-    requires { length codes.now < 2 ^ 32 - 1 }
-    ensures { IfOk result (λ v. AreBlockCounts codes.now v.items) }
+// How many outlets stand before each run.
+fn sums_before(alloc: Global, runs: &[RunCounts]) -> Result<Vec<u32>, NoMemory>
+    requires { sum_by (λ r. r.total) runs.now < 2 ^ 32 }
+    ensures { IfOk result (λ v. AreSumsBefore runs.now v.items) }
 {
-    let Ok(mut counts) = Vec::with_capacity(alloc, codes.len() / BLOCK + 1) else {
+    let Ok(mut before) = Vec::with_capacity(alloc, runs.len()) else {
         return Err(NoMemory);
     };
-    let mut count = 0;
-    for index in 0..codes.len() {
-        if index % BLOCK == 0 && counts.push(count).is_err() {
+    let mut sum = 0;
+    for run in runs {
+        if before.push(sum).is_err() {
             return Err(NoMemory);
         }
-        count += one_if_outlet(codes[index]);
+        sum += run.total;
     }
-    Ok(counts)
-}
-
-// The outlets before the second index, of those before the first.
-#[inline(always)]
-fn count_on(codes: &[Option<Code>], from: usize, to: usize, before: u32) -> u32
-    requires few { length codes.now < 2 ^ 32 - 1 }
-    requires order { from ≤ to }
-    requires inside { to < length codes.now }
-    requires before { before ≡ count_by is_outlet_code (take from codes.now) }
-    ensures value { result ≡ count_by is_outlet_code (take to codes.now) }
-    ensures few { result < 2 ^ 32 - 1 }
-{
-    let mut count = before;
-    for index in from..to {
-        count += one_if_outlet(codes[index]);
-    }
-    count
-}
-
-#[inline(always)]
-fn one_if_outlet(code: Option<Code>) -> u32
-    ensures { result ≡ if is_outlet_code code then 1 else 0 }
-{
-    u32::from(is_outlet(code))
+    Ok(before)
 }

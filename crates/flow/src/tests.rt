@@ -12,9 +12,10 @@ use ascii_grid::{NoMemory, Place};
 use drain::Code;
 use std::alloc::Global;
 use std::sync::Wait;
+use std::sync::atomic::{AtomicU64, Ordering};
 use std::test::Fail;
 use std::thread::Threads;
-use tile_jobs::NoGate;
+use tile_jobs::{Gate, NoGate};
 use tiles::Tiling;
 
 fn code_of(number: u8) -> Option<Code>
@@ -307,6 +308,67 @@ fn level_ground(rt: HostRuntime) -> Result<(), Fail> {
     let codes = [0; 8];
     assert!(rt; accumulations_are(&rt, rt.alloc(), (4, 2), &codes, &[0; 8])?);
     assert!(rt; basins_are(&rt, rt.alloc(), (4, 2), &codes, &[1, 2, 3, 4, 5, 6, 7, 8])?);
+    Ok(())
+}
+
+// A river to the end of the first row, a row of outlets, and a row in pairs, the second of which is an outlet.
+const ROWS: [u8; 60] = [
+    1, 1, 1, 1, 1, 1, 1, 1, 1, 1, 1, 1, 1, 1, 1, 1, 1, 1, 1, 0, 0, 0, 0, 0, 0, 0, 0, 0, 0, 0, 0, 0,
+    0, 0, 0, 0, 0, 0, 0, 0, 1, 0, 1, 0, 1, 0, 1, 0, 1, 0, 1, 0, 1, 0, 1, 0, 1, 0, 1, 0,
+];
+
+const ROWS_BASINS: [u32; 60] = [
+    1, 1, 1, 1, 1, 1, 1, 1, 1, 1, 1, 1, 1, 1, 1, 1, 1, 1, 1, 1, 2, 3, 4, 5, 6, 7, 8, 9, 10, 11, 12,
+    13, 14, 15, 16, 17, 18, 19, 20, 21, 22, 22, 23, 23, 24, 24, 25, 25, 26, 26, 27, 27, 28, 28, 29,
+    29, 30, 30, 31, 31,
+];
+
+#[test]
+fn outlets_of_several_runs(rt: HostRuntime) -> Result<(), Fail> {
+    assert!(rt; basins_are(&rt, rt.alloc(), (20, 3), &ROWS, &ROWS_BASINS)?);
+    Ok(())
+}
+
+/// Counts how many jobs are begun, and how many of them are the third of their stage.
+#[derive(Drop)]
+struct Begun {
+    all: AtomicU64,
+    third: AtomicU64,
+}
+
+impl Gate for Begun {
+    fn enter(&self, job: u32) {
+        self.all.fetch_add(1, Ordering::SeqCst);
+        if job == 2 {
+            self.third.fetch_add(1, Ordering::SeqCst);
+        }
+    }
+}
+
+// Whether the basins of the rows are right in three tiles, and the gate that saw their jobs.
+fn rows_seen<R: Threads + Wait + Sync>(
+    rt: &R,
+    alloc: Global,
+    workers: u32,
+) -> Result<(bool, Begun), Fail> {
+    let gate = Begun {
+        all: AtomicU64::new(0),
+        third: AtomicU64::new(0),
+    };
+    let codes = grid_codes_of(alloc, (20, 3), &ROWS)?;
+    let tiling = made_tiling((20, 3), 7)?;
+    let basins = basins_along(rt, alloc, &codes, &tiling, workers, &gate)?;
+    Ok((is(&basins, &ROWS_BASINS), gate))
+}
+
+#[test]
+fn three_stages_of_three_jobs(rt: HostRuntime) -> Result<(), Fail> {
+    for workers in [1, 2, 8] {
+        let (right, gate) = rows_seen(&rt, rt.alloc(), workers)?;
+        assert!(rt; right);
+        assert_eq!(rt; gate.all.load(Ordering::SeqCst), 9);
+        assert_eq!(rt; gate.third.load(Ordering::SeqCst), 3);
+    }
     Ok(())
 }
 

@@ -1,40 +1,24 @@
 use Rattle.std.proofs.Common.{ℕ, List, Option, Vec, Global, subst, sym, refl}
+use Rattle.std.proofs.lemmas.Result.{IfOk-weaker}
 use Rattle.tiles.specs.Cutting.{AreTileLists, IsPutBack}
 use Rattle.drain.specs.Following.{Directed}
-use Rattle.flow.specs.Counts.{basin}
-use Rattle.flow.specs.TileFlow.{Flow}
+use Rattle.flow.specs.Counts.{basin, AreBasins}
 use Rattle.flow.specs.Whole.{make_directed}
-use Rattle.flow.specs.RimGraph.{AreFlowsOf}
-use Rattle.flow.specs.Numbering.{IsNumbering}
 use Rattle.flow.proofs.Together.{map_lists, maps_put_back}
 use Rattle.flow.proofs.numbering.basins_along.Goals as goal
 
 pub put_back-requires : goal.put_back-requires
 put_back-requires g c =
     let d : Directed = make_directed c.args.tiling.now.cols c.args.tiling.now.rows c.args.codes.now in
-    let flows = subst (λ (x : List Flow). AreFlowsOf d c.args.tiling.now x) (sym c.deref-2.ensures.value) c.in_ok-flows.ensures.flows in
-    let first = subst (λ (x : List Flow). AreFlowsOf d c.args.tiling.now x) (sym c.deref.ensures.value) c.in_ok-flows.ensures.flows in
-    let numbering : IsNumbering d c.args.tiling.now c.deref-2.result.now c.in-Ok.outlets c.in-Ok-of_codes.numbers = record {
-      are_flows = flows;
-      are_outlets = c.in-Ok.ensures.outlets d first;
-      same_cutting = c.in-Ok.ensures.cutting;
-      same_codes = c.in-Ok-of_codes.ensures;
-      size = c.requires.flows.size;
-    } in
-    subst (λ (x : List (Vec (Option ℕ) Global)). AreTileLists c.args.tiling.now x) (sym c.deref-3.ensures.value)
-    (map_lists d c.args.tiling.now (basin d) c.in_ok-tiles.tiles.items (c.in_ok-tiles.ensures.tiles d numbering))
+    subst (λ (x : List (Vec (Option ℕ) Global)). AreTileLists c.args.tiling.now x) (sym c.deref.ensures.value)
+    (map_lists d c.args.tiling.now (basin d) c.in_ok-tiles.tiles.items c.in_ok-tiles.ensures.tiles)
 
-pub returns-in-Ok-put_back-clause-values : goal.returns-in-Ok-put_back-clause-values
-returns-in-Ok-put_back-clause-values g c =
+pub returns-clause-values : goal.returns-clause-values
+returns-clause-values g c =
+    let t = c.args.tiling.now in
     let d : Directed = make_directed c.args.tiling.now.cols c.args.tiling.now.rows c.args.codes.now in
-    let flows = subst (λ (x : List Flow). AreFlowsOf d c.args.tiling.now x) (sym c.deref-2.ensures.value) c.in_ok-flows.ensures.flows in
-    let first = subst (λ (x : List Flow). AreFlowsOf d c.args.tiling.now x) (sym c.deref.ensures.value) c.in_ok-flows.ensures.flows in
-    let numbering : IsNumbering d c.args.tiling.now c.deref-2.result.now c.in-Ok.outlets c.in-Ok-of_codes.numbers = record {
-      are_flows = flows;
-      are_outlets = c.in-Ok.ensures.outlets d first;
-      same_cutting = c.in-Ok.ensures.cutting;
-      same_codes = c.in-Ok-of_codes.ensures;
-      size = c.requires.flows.size;
-    } in
-    let put = subst (λ (x : List (Vec (Option ℕ) Global)). IsPutBack c.args.tiling.now x c.in-Ok-put_back.values.items) c.deref-3.ensures.value c.in-Ok-put_back.ensures in
-    maps_put_back d c.args.tiling.now (basin d) c.in_ok-tiles.tiles.items c.in-Ok-put_back.values.items flows.cutting refl refl (c.in_ok-tiles.ensures.tiles d numbering) put
+    IfOk-weaker c.put_back.result (λ (v : Vec (Option ℕ) Global). IsPutBack t c.deref.result.now v.items) (λ (v : Vec (Option ℕ) Global). AreBasins d v.items)
+    (λ v whole.
+    let put = subst (λ (x : List (Vec (Option ℕ) Global)). IsPutBack t x v.items) c.deref.ensures.value whole in
+    maps_put_back d t (basin d) c.in_ok-tiles.tiles.items v.items c.in_ok-tiles.ensures.lawful refl refl c.in_ok-tiles.ensures.tiles put)
+    c.put_back.ensures.whole

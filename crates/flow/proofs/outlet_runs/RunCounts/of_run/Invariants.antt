@@ -1,0 +1,10 @@
+use Rattle.std.proofs.Common.{◌≡◌, ℕ, ◌*◌, ◌<◌, min, length, get_or, take, count_by}
+use Rattle.flow.specs.Whole.{is_outlet_code}
+use Rattle.flow.proofs.outlet_runs.RunCounts.of_run.Given as goal
+
+abbrev pub invariant-loop-block : goal.invariant-loop-block
+invariant-loop-block l = record {
+  size : length l.before.items ≡ l.block;
+  each : (k : ℕ) → k < length l.before.items → get_or l.before.items k 0 ≡ count_by is_outlet_code (take (k * 16) l.run);
+  total : l.total ≡ count_by is_outlet_code (take (min (l.block * 16) (length l.run)) l.run);
+}

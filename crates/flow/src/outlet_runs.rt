@@ -1,0 +1,167 @@
+// The outlets of a list of codes, counted run by run.
+ghost use Rattle.std.specs.Prelude.{◌≡◌, ◌-◌, ◌*◌, ◌^◌, ◌<◌, ◌≤◌, length, take, count_by, IfOk, if◌then◌else◌};
+ghost use Rattle.flow.specs.Whole.{is_outlet_code};
+ghost use Rattle.flow.specs.OutletRuns.{AreCodeRuns, IsRunCounted, run_share, run_start, run_codes};
+
+use crate::tile::is_outlet;
+use ascii_grid::NoMemory;
+use drain::Code;
+use std::alloc::Global;
+use std::marker::Model;
+use tile_jobs::{JobFault, Work};
+
+// How many codes have one count: a number for each code would take 4 bytes a cell of the grid.
+const BLOCK: usize = 16;
+
+/// A list of codes, cut into runs of one length. The last codes may fill less than a run, and behind them
+/// each run is empty.
+#[derive(Drop)]
+pub struct Runs<'a> {
+    codes: &'a [Option<Code>],
+    length: usize,
+}
+
+impl<'a> Model for Runs<'a> {
+    ghost use Rattle.flow.specs.OutletRuns.{CodeRuns, AreCodeRuns};
+
+    ghost Value = { CodeRuns };
+
+    ghost view = { λ r. record { codes = r.codes.now; run_length = r.length } };
+
+    ghost invariant = { λ r. AreCodeRuns (record { codes = r.codes.now; run_length = r.length }) };
+}
+
+impl<'a> Runs<'a> {
+    /// Cuts a list into this many runs, which share its blocks evenly.
+    pub fn cut(codes: &'a [Option<Code>], count: u32) -> Runs<'a>
+        requires few { length codes.now < 2 ^ 32 - 1 }
+        requires some { 1 ≤ count }
+        ensures codes { result.codes ≡ codes.now }
+        ensures share { result.run_length ≡ run_share (length codes.now) count }
+        ensures enough { length codes.now ≤ count * result.run_length }
+        ensures lawful { AreCodeRuns result }
+    {
+        let blocks = codes.len().div_ceil(BLOCK).div_ceil(count as usize).max(1);
+        Runs {
+            codes,
+            length: blocks * BLOCK,
+        }
+    }
+
+    /// How many codes a whole run has.
+    #[inline(always)]
+    pub fn length(&self) -> usize
+        ensures value { result ≡ self.now.run_length }
+        ensures lawful { AreCodeRuns self.now }
+    {
+        self.length
+    }
+
+    /// The codes of a run.
+    pub fn codes(&self, run: u32) -> &'a [Option<Code>]
+        ensures value { result.now ≡ run_codes self.now run }
+        ensures few { length result.now < 2 ^ 32 - 1 }
+    {
+        let start = self.start(run);
+        let end = (start + self.length).min(self.codes.len());
+        &self.codes[start..end]
+    }
+
+    #[inline(always)]
+    fn start(&self, run: u32) -> usize
+        ensures value { result ≡ run_start self.now run }
+        ensures lawful { AreCodeRuns self.now }
+    {
+        (run as usize * self.length).min(self.codes.len())
+    }
+}
+
+/// The outlets of one run of codes, counted.
+#[derive(Drop)]
+pub struct RunCounts {
+    /// How many outlets of the run stand before each of its blocks.
+    pub before: Vec<u32>,
+    /// How many outlets the run has.
+    pub total: u32,
+}
+
+impl RunCounts {
+    /// Counts the outlets of a run.
+    fn of_run(alloc: Global, run: &[Option<Code>]) -> Result<RunCounts, NoMemory>
+        requires { length run.now < 2 ^ 32 - 1 }
+        ensures { IfOk result (IsRunCounted run.now) }
+    {
+        let blocks = run.len().div_ceil(BLOCK);
+        let Ok(mut before) = Vec::with_capacity(alloc, blocks) else {
+            return Err(NoMemory);
+        };
+        let mut total = 0;
+        for block in 0..blocks {
+            if before.push(total).is_err() {
+                return Err(NoMemory);
+            }
+            let from = block * BLOCK;
+            total = count_on(run, from, run.len().min(from + BLOCK), total);
+        }
+        Ok(RunCounts { before, total })
+    }
+
+    /// The outlets of the run that stand before one of its indices.
+    pub fn count_before(&self, run: &[Option<Code>], index: usize) -> u32
+        requires few { length run.now < 2 ^ 32 - 1 }
+        requires counted { IsRunCounted run.now self.now }
+        requires index { index < length run.now }
+        ensures { result ≡ count_by is_outlet_code (take index run.now) }
+    {
+        let block = index / BLOCK;
+        count_on(run, block * BLOCK, index, self.before[block])
+    }
+}
+
+/// Counts the outlets of each run.
+#[derive(Drop)]
+pub struct CountRuns<'a> {
+    /// The runs.
+    pub runs: &'a Runs<'a>,
+}
+
+impl<'a> Work for CountRuns<'a> {
+    type Out = RunCounts;
+
+    ghost use Rattle.flow.specs.OutletRuns.{IsRunCounted, run_codes};
+
+    ghost most = { λ w. 65536 };
+
+    ghost gives = { λ w job out. IsRunCounted (run_codes w.runs.now job) out };
+
+    fn run(&self, alloc: Global, job: u32) -> Result<RunCounts, JobFault> {
+        let Ok(counts) = RunCounts::of_run(alloc, self.runs.codes(job)) else {
+            return Err(JobFault::Memory);
+        };
+        Ok(counts)
+    }
+}
+
+// The outlets before the second index, of those before the first.
+#[inline(always)]
+fn count_on(codes: &[Option<Code>], from: usize, to: usize, before: u32) -> u32
+    requires few { length codes.now < 2 ^ 32 - 1 }
+    requires order { from ≤ to }
+    requires inside { to ≤ length codes.now }
+    requires before { before ≡ count_by is_outlet_code (take from codes.now) }
+    ensures value { result ≡ count_by is_outlet_code (take to codes.now) }
+    ensures few { result < 2 ^ 32 - 1 }
+{
+    let mut count = before;
+    for index in from..to {
+        count += one_if_outlet(codes[index]);
+    }
+    count
+}
+
+#[inline(always)]
+fn one_if_outlet(code: Option<Code>) -> u32
+    ensures { result ≡ if is_outlet_code code then 1 else 0 }
+{
+    u32::from(is_outlet(code))
+}
