@@ -1,5 +1,5 @@
 // What the floods of all tiles say of a cell.
-ghost use Rattle.std.specs.Prelude.{◌≡◌, ◌*◌, ◌<◌, ◌≤◌, ◌⊎◌, ℕ, ℤ, ◌↔◌, IsTrue, Some, None, slice_get, length, IfSome, IfNone};
+ghost use Rattle.std.specs.Prelude.{◌≡◌, ◌*◌, ◌<◌, ℤ, ◌↔◌, IsTrue, Some, None, length, IfSome, IfNone};
 ghost use Rattle.tiles.specs.Cutting.{IsWithin, tile_count};
 ghost use Rattle.ascii_grid.specs.Neighbours.{index_of};
 ghost use Rattle.fill.specs.TileFlood.{LabelsInside, level_in, label_in};

@@ -1,5 +1,5 @@
 // The sources of the spill graph.
-ghost use Rattle.std.specs.Prelude.{◌≡◌, ◌+◌, ◌*◌, ◌<◌, ◌≤◌, ℕ, List, [], length, IfOk, OnOk};
+ghost use Rattle.std.specs.Prelude.{◌≡◌, ◌*◌, ◌<◌, List, [], length, IfOk, OnOk};
 ghost use Rattle.std.specs.List.{All};
 ghost use Rattle.tiles.specs.Cutting.{IsInTile, IsWithin, tile_count};
 ghost use Rattle.fill.specs.TileFlood.{Flood};

@@ -1,7 +1,7 @@
 // Flooding of one tile.
 ghost use Rattle.std.specs.Prelude.{◌≡◌, ◌≤◌, ◌+◌, IfOk, IfSome, length, true, false, MatchOption, None, slice_index_or, ◌*◌, ◌-◌, ◌<◌};
 ghost use Rattle.std.specs.Bool.{OnTrue};
-ghost use Rattle.tiles.specs.Cutting.{terrain_of, bounds_of, IsInBounds};
+ghost use Rattle.tiles.specs.Cutting.{terrain_of, IsInBounds};
 ghost use Rattle.fill.specs.Labels.{labels_by};
 ghost use Rattle.fill.specs.TileFlood.{IsFlood, IsTileFlood, level_in, label_in, is_in_bounds, HasOneLabelAround, AreEqualAround, IsInner};
 
