@@ -10,7 +10,7 @@ use Rattle.ascii_grid.specs.declared.place.Place.{Place}
 use Rattle.tiles.specs.declared.bounds.Bounds.{Bounds}
 use Rattle.tiles.specs.Cutting.{Cutting, IsCutting, IsWithin, IsInTile, IsInBounds, tile_count, tile_of_place, bounds_of}
 use Rattle.tiles.proofs.Cut.{in_tile}
-use Rattle.fill.specs.TileFlood.{Flood, LabelsInside, is_in_bounds, level_in, label_in, entry_in, AreEqualAround, HasOneLabelAround}
+use Rattle.fill.specs.TileFlood.{Flood, LabelsInside, is_in_bounds, level_in, label_in, entry_in, AreEqualAround, HasOneLabelAround, IsInner}
 use Rattle.fill.specs.Labels.{labels_by}
 use Rattle.fill.specs.Gathering.{Fit, mark_of, mark_among, Meets, Adds}
 use Rattle.fill.specs.declared.spills.Join.{Join}
@@ -119,12 +119,14 @@ label_by_entry b places cells p size i =
     ∙ get_or-map (λ k. get_or places k None) cells ((p.row - b.top) * b.cols + (p.col - b.left)) 0 None (omega (arith, size, entry_index b p i))
 
 -- where the entries are equal around a cell that is not on the rim, so are the labels
-pub one_label_around : (f : Flood) (places : List (Option Place)) (cells : List ℕ) (p : Place) → f.labels ≡ labels_by places cells → length cells ≡ f.bounds.rows * f.bounds.cols → 1 ≤ p.row - f.bounds.top → 1 ≤ p.col - f.bounds.left → p.row - f.bounds.top + 1 < f.bounds.rows → p.col - f.bounds.left + 1 < f.bounds.cols → AreEqualAround cells ((p.row - f.bounds.top) * f.bounds.cols + (p.col - f.bounds.left)) f.bounds.cols → HasOneLabelAround f p
-one_label_around f places cells p are size row col last_row last_col e q t =
+pub one_label_around : (f : Flood) (places : List (Option Place)) (cells : List ℕ) (p : Place) (i : ℕ) → f.labels ≡ labels_by places cells → length cells ≡ f.bounds.rows * f.bounds.cols → IsInner f.bounds p → i ≡ (p.row - f.bounds.top) * f.bounds.cols + (p.col - f.bounds.left) → AreEqualAround cells i f.bounds.cols → HasOneLabelAround f p
+one_label_around f places cells p i are size inner at e q t =
     let b = f.bounds in
-    let here : IsInBounds b p = (omega (arith, row), omega (arith, row, last_row), omega (arith, col), omega (arith, col, last_col)) in
-    let there : IsInBounds b q = (omega (arith, t.row_up, row), omega (arith, t.row_down, row, last_row), omega (arith, t.col_left, col), omega (arith, t.col_right, col, last_col)) in
-    let same = equal_near cells b.cols (p.row - b.top) (p.col - b.left) (q.row - b.top) (q.col - b.left) row col e (omega (arith, t.row_up, row)) (omega (arith, t.row_down, row)) (omega (arith, t.col_left, col)) (omega (arith, t.col_right, col)) in
+    let row : 1 ≤ p.row - b.top = omega (arith, inner) in
+    let col : 1 ≤ p.col - b.left = omega (arith, inner) in
+    let here : IsInBounds b p = (omega (arith, inner), omega (arith, inner), omega (arith, inner), omega (arith, inner)) in
+    let there : IsInBounds b q = (omega (arith, t.row_up, inner), omega (arith, t.row_down, inner), omega (arith, t.col_left, inner), omega (arith, t.col_right, inner)) in
+    let same = equal_near cells b.cols (p.row - b.top) (p.col - b.left) (q.row - b.top) (q.col - b.left) row col (subst (λ n. AreEqualAround cells n b.cols) at e) (omega (arith, t.row_up, row)) (omega (arith, t.row_down, row)) (omega (arith, t.col_left, col)) (omega (arith, t.col_right, col)) in
     (there, ap (λ (z : List (Option Place)). entry_in b z q) are ∙ label_by_entry b places cells q size there ∙ ap (λ k. get_or places k None) same ∙ sym (label_by_entry b places cells p size here) ∙ ap (λ (z : List (Option Place)). entry_in b z p) (sym are))
 
 -- a cell with one label around it adds no joins

@@ -158,19 +158,10 @@ impl TileFlood {
         requires { IsInBounds self.now.bounds place }
         ensures { OnTrue result (HasOneLabelAround self.now place) }
     {
-        let Bounds {
-            top,
-            left,
-            rows,
-            cols,
-        } = self.bounds;
-        let (row, col) = (place.row - top, place.col - left);
-        if row == 0 || col == 0 || row + 1 == rows || col + 1 == cols {
+        let Some(index) = self.inner_index(place) else {
             return false;
-        }
-        let width = cols as usize;
-        let index = row as usize * width + col as usize;
-        are_equal_around(&self.labels.cells, index, width)
+        };
+        are_equal_around(&self.labels.cells, index, self.bounds.cols as usize)
     }
 
     /// Whether a place is one of the tile's.
