@@ -278,7 +278,9 @@ pub(crate) fn lowest_joins(alloc: Global, mut joins: Vec<Join>) -> Result<Vec<Jo
     ensures { IfOk result (λ v. AreLowest joins.items v.items) }
 {
     joins.sort_unstable();
-    let mut lowest = Vec::new(alloc);
+    let Ok(mut lowest) = Vec::with_capacity(alloc, joins.len()) else {
+        return Err(NoMemory);
+    };
     for index in 0..joins.len() {
         if is_repeat(&joins, index) {
             continue;
