@@ -3,7 +3,7 @@ use Rattle.std.proofs.Common.{◌≡◌, ℕ, zero, suc, ◌+◌, ◌-◌, ◌*�
 use Rattle.std.specs.List.{sum_by}
 use Rattle.std.proofs.Math.Nat.{div-mul-le_self, lt-div-mul-add, div-lt_iff_lt-mul}
 use Rattle.std.proofs.Math.Seq.{take-add, take-length}
-use Rattle.std.proofs.lemmas.List.{take-take, length-take}
+use Rattle.std.proofs.lemmas.List.{get_or_default, take-take, length-take}
 use Rattle.std.proofs.lemmas.List.Sums.{sum_by-append, sum_by_more, count_by-le-length}
 use Rattle.std.proofs.lemmas.Option.{get_or_from_slice_get, slice_get_cases, slice_get_within}
 use Rattle.tile_jobs.specs.Answers.{AllGiven}
@@ -83,7 +83,7 @@ module _ (r : CodeRuns) (counts : List RunCounts) (before : List ℕ) (are : Are
   run_below k at = omega (arith, at, (div-lt_iff_lt-mul {x = i} {y = length counts} are.some).1 (omega (arith, h, s.enough)))
 
   -- those before a place are those before its run, and those of the run
-  pub counted_at : (k start : ℕ) → k ≡ i / r.run_length → start ≡ k * r.run_length →
+  counted_at : (k start : ℕ) → k ≡ i / r.run_length → start ≡ k * r.run_length →
       get_or before k 0 + count_by is_outlet_code (take (i - start) (run_codes r k)) ≡ count_by is_outlet_code (take i r.codes)
   counted_at k start at from =
       let some : 0 < r.run_length = are.some in
@@ -101,5 +101,12 @@ module _ (r : CodeRuns) (counts : List RunCounts) (before : List ℕ) (are : Are
         s.sums.each k (omega (arith, run_below k at, s.sums.size)),
       )
 
-  pub count_few : count_by is_outlet_code (take i r.codes) < 2 ^ 32 - 1
-  count_few = omega (arith, count_by-le-length is_outlet_code (take i r.codes), length-take i r.codes, are.few)
+  -- the same of what was read, with a bound
+  pub counted_here : {l m x y : ℕ} {run : List (Option ℕ)} → l ≡ r.run_length → m ≡ r.run_length → run ≡ run_codes r (i / l) →
+      x ≡ get_or before (i / l) x → y ≡ count_by is_outlet_code (take (i - i / l * m) run) → (x + y ≡ count_by is_outlet_code (take i r.codes)) × (x + y < 2 ^ 32 - 1)
+  counted_here {l} {m} {x} {y} {run} whole again codes listed inside =
+      let at : i / l ≡ i / r.run_length = ap (λ n. i / n) whole in
+      let first : x ≡ get_or before (i / l) 0 = listed ∙ get_or_default before (i / l) x 0 (omega (arith, run_below (i / l) at, s.sums.size)) in
+      let rest : y ≡ count_by is_outlet_code (take (i - i / l * m) (run_codes r (i / l))) = inside ∙ ap (λ (c : List (Option ℕ)). count_by is_outlet_code (take (i - i / l * m) c)) codes in
+      let sum : x + y ≡ count_by is_outlet_code (take i r.codes) = omega (arith, first, rest, counted_at (i / l) (i / l * m) at (ap (λ n. i / l * n) again)) in
+      (sum, omega (arith, sum, count_by-le-length is_outlet_code (take i r.codes), length-take i r.codes, are.few))
