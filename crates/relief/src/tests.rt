@@ -229,7 +229,11 @@ fn tiles_meet(rt: HostRuntime) -> Result<(), Fail> {
     for (map, least_stages, rows) in [
         (Map::Fill, 3, "9 9 9 9\n9 3 9 9\n9 9 3 9\n9 9 9 3\n"),
         (Map::Flow, 8, "2 4 8 0\n1 2 4 8\n128 1 2 4\n0 128 1 0\n"),
-        (Map::Accumulate, 10, "0 0 0 0\n0 5 0 0\n0 0 10 0\n0 0 0 13\n"),
+        (
+            Map::Accumulate,
+            10,
+            "0 0 0 0\n0 5 0 0\n0 0 10 0\n0 0 0 13\n",
+        ),
         (Map::Basins, 11, "3 3 3 1\n3 3 3 3\n3 3 3 3\n2 3 3 3\n"),
         (view, 1, "2 2 2 0\n2 2 0 1\n2 0 1 1\n0 1 1 1\n"),
     ] {
