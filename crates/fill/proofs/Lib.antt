@@ -22,3 +22,4 @@ mod GraphWays
 mod Raised
 mod Together
 pub mod InnerCells
+mod OneCell

@@ -1,11 +1,11 @@
 -- The sources of the spill graph, tile by tile.
 use Rattle.std.proofs.Common.{◌≡◌, ℕ, ◌+◌, ◌-◌, ◌*◌, ◌/◌, ◌%◌, ◌<◌, ◌≤◌, ◌⊎◌, inl, inr, ℤ, List, [], ◌∷◌, ◌++◌, length, get_or, set, replicate, Option, None, Some, IsSome, is_some, ◌∙◌, sym, ap, subst, refl, arith}
-use Rattle.std.specs.Prelude.{slice_get}
+use Rattle.std.specs.Prelude.{slice_get, IfSome}
 use Rattle.std.specs.List.{Contains, All}
 use Rattle.std.proofs.lemmas.Bool.{cases_eq, cases_lt}
 use Rattle.std.proofs.lemmas.Nat.{div-add-mod', div_below, mod_below}
 use Rattle.std.proofs.lemmas.Option.{same_Some}
-use Rattle.std.proofs.lemmas.List.{get_or_default, get_or-set_same, get_or-set_other, length-set, length-replicate, length-map, get_or_past}
+use Rattle.std.proofs.lemmas.List.{get_or_default, get_or-set_same, get_or-set_other, length-set, length-replicate, length-map, get_or-map, get_or_past}
 use Rattle.std.proofs.lemmas.List.Elements.{Contains-append_left, Contains-push, Contains-push_cases, Contains-get_or}
 use Rattle.ascii_grid.specs.Neighbours.{index_of}
 use Rattle.ascii_grid.specs.declared.place.Place.{Place}
@@ -13,14 +13,15 @@ use Rattle.ascii_grid.proofs.Places.{index_injective, index_below}
 use Rattle.tiles.specs.Cutting.{Cutting, IsCutting, IsWithin, IsInTile, tile_count, tile_of_place}
 use Rattle.tiles.proofs.Cut.{tile_of_place_below}
 use Rattle.fill.specs.Labels.{labels_by}
-use Rattle.fill.specs.TileFlood.{Flood, label_in, entry_in}
+use Rattle.fill.specs.TileCells.{HasOneCell}
+use Rattle.fill.specs.TileFlood.{Flood, label_in, LabelsInside}
 use Rattle.fill.specs.Gathering.{Fit, IsSpillSource, IsSourceEntry, IsSourceNode, AddsSources, PutsSources, AreSources}
 use Rattle.fill.specs.declared.marks.Mark.{Mark}
 use Rattle.fill.specs.declared.sources.Source.{Source}
 use Rattle.fill.proofs.Steps.{seen, none_some}
 use Rattle.fill.proofs.Borders.{all_none}
-use Rattle.fill.proofs.TileWindows.{bounds_from_entry}
-use Rattle.fill.proofs.CellMarks.{label_within, mark_parts, mark_from_tile, label_by_entry}
+use Rattle.fill.proofs.TileWindows.{bounds_from_entry, entry_in-inside}
+use Rattle.fill.proofs.CellMarks.{label_within, mark_parts, mark_from_tile}
 use Rattle.fill.proofs.Heaps.{all_by_contains}
 
 -- a place has one height as a source
@@ -77,26 +78,56 @@ place_more c floods places i place old now new some a b = record {
   ];
 }
 
--- each source of a tile is its own label, so it stands in the table of the tile's labels
-pub table_sources : (c : Cutting) (floods : List Flood) (tile : ℕ) (f : Flood) (places : List (Option Place)) (cells : List ℕ) (count : ℕ) (old new : List Source) → Fit c floods → slice_get floods tile ≡ Some f → f.labels ≡ labels_by places cells → length places ≤ count → AddsSources c floods (IsListedBelow places count) old new → AddsSources c floods (IsInTile c tile) old new
-table_sources c floods tile f places cells count old new fit there are all a = record {
+pub all_listed : (c : Cutting) (floods : List Flood) (places : List (Option Place)) (count : ℕ) (old new : List Source) → length places ≤ count → AddsSources c floods (IsListedBelow places count) old new → AddsSources c floods (λ p. Contains places (Some p)) old new
+all_listed c floods places count old new all a = record {
   kept = a.kept;
   only = a.only;
-  every = λ p h at source. a.every p h (listed p h at source) source;
-} where
-  listed : (p : Place) (h : ℤ) → IsInTile c tile p → IsSpillSource c floods p h → IsListedBelow places count p
-  listed p h at source =
+  every = λ p h held source. a.every p h (held.0, omega (arith, held.1, all), get_or_default places held.0 None (Some p) held.1 ∙ held.2) source;
+}
+
+-- each source of a tile is its own label, so it stands among the tile's labels
+pub tile_listed : (c : Cutting) (floods : List Flood) (tile : ℕ) (f : Flood) (places : List (Option Place)) (old new : List Source) → Fit c floods → slice_get floods tile ≡ Some f → ((i : ℕ) (p : Place) → get_or f.labels i None ≡ Some p → Contains places (Some p)) → AddsSources c floods (λ p. Contains places (Some p)) old new → AddsSources c floods (IsInTile c tile) old new
+tile_listed c floods tile f places old new fit there listed a = record {
+  kept = a.kept;
+  only = a.only;
+  every = λ p h at source.
       let parts = mark_parts c.cols _ _ _ (mark_from_tile c floods tile f p there at.1 ∙ source.mark) in
       let within = label_within c f p parts.0 (fit.sizes tile f there) (fit.labels tile f there) parts.2 in
       let own : label_in f p ≡ Some p = parts.2 ∙ ap Some (index_injective c.cols parts.0 p within.1 at.0.1 parts.3) in
       let inside = bounds_from_entry f.bounds f.labels p p own in
-      let size : length cells ≡ f.bounds.rows * f.bounds.cols = sym (length-map cells (λ k. get_or places k None)) ∙ ap length (sym are) ∙ fit.sizes tile f there in
-      let entry = sym (label_by_entry f.bounds places cells p size inside) ∙ ap (λ (z : List (Option Place)). entry_in f.bounds z p) (sym are) ∙ own in
-      let k = get_or cells ((p.row - f.bounds.top) * f.bounds.cols + (p.col - f.bounds.left)) 0 in
-      elim (cases_lt k (length places)) [
-        | inl low ↦ (k, omega (arith, low, all), entry)
-        | inr past ↦ none_some (get_or places k None) p (get_or_past places k None past) entry
-      ]
+      a.every p h (listed _ p (sym (entry_in-inside f.bounds f.labels p inside) ∙ own)) source;
+}
+
+-- the labels of a table are its places
+pub table_lists : (f : Flood) (places : List (Option Place)) (cells : List ℕ) → f.labels ≡ labels_by places cells → (i : ℕ) (p : Place) → get_or f.labels i None ≡ Some p → Contains places (Some p)
+table_lists f places cells are i p e =
+    let there : get_or (labels_by places cells) i None ≡ Some p = ap (λ (z : List (Option Place)). get_or z i None) (sym are) ∙ e in
+    elim (cases_lt i (length cells)) [
+      | inr past ↦ none_some _ p (get_or_past (labels_by places cells) i None (omega (arith, past, length-map cells (λ k. get_or places k None)))) there
+      | inl low ↦
+          let k = get_or cells i 0 in
+          let entry : get_or places k None ≡ Some p = sym (get_or-map (λ n. get_or places n None) cells i 0 None low) ∙ there in
+          elim (cases_lt k (length places)) [
+            | inr past ↦ none_some _ p (get_or_past places k None past) entry
+            | inl inside ↦ (k, inside, get_or_default places k (Some p) None inside ∙ entry)
+          ]
+    ]
+
+-- the only cell's label
+pub cell_lists : (f : Flood) (label : Option Place) → HasOneCell f → label ≡ get_or f.labels 0 None → (i : ℕ) (p : Place) → get_or f.labels i None ≡ Some p → Contains (label ∷ []) (Some p)
+cell_lists f label one is i p e = elim (cases_lt i 1) [
+  | inl low ↦ (0, omega arith, is ∙ ap (λ k. get_or f.labels k None) (omega (arith, low)) ∙ e)
+  | inr past ↦ none_some _ p (get_or_past f.labels i None (omega (arith, past, ap length one.2))) e
+]
+
+within_if : (c : Cutting) (o : Option Place) → ((p : Place) → o ≡ Some p → IsWithin c p) → IfSome o (IsWithin c)
+within_if c None some = tt
+within_if c (Some p) some = some p refl
+
+pub cell_within : (c : Cutting) (f : Flood) (label : Option Place) → LabelsInside c f → label ≡ get_or f.labels 0 None → All (λ (o : Option Place). IfSome o (IsWithin c)) (label ∷ [])
+cell_within c f label inside is k d low =
+    let at : 0 ≡ k = omega (arith, low) in
+    subst (λ n. IfSome (get_or (label ∷ []) n d) (IsWithin c)) at (within_if c label (λ p e. inside 0 p (sym is ∙ e)))
 
 no_source : (s : Source) → Contains [] s → ⊥
 no_source s held = omega (arith, held.1)

@@ -46,7 +46,7 @@ pub(crate) fn mark_of_entry(tiling: &Tiling, flood: &TileFlood, index: usize) ->
     requires index { index < length flood.now.labels }
     ensures { result ≡ mark_with tiling.now.cols flood.now index }
 {
-    let level = flood.levels()[index]?;
+    let level = flood.level_at(index)?;
     let label = flood.label_at(index)?;
     Some(Mark {
         level,

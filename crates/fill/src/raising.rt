@@ -5,9 +5,10 @@ ghost use Rattle.ascii_grid.specs.Raster.{Terrain};
 ghost use Rattle.tiles.specs.Cutting.{IsWithin};
 ghost use Rattle.fill.specs.TileFlood.{Flood, LabelsInside};
 ghost use Rattle.fill.specs.Spills.{AreFloods, AreSpillLevels, IsRaised, IsFilledTile, AreGreater, greater_of, spill_of};
+ghost use Rattle.fill.specs.TileCells.{HasOneCell};
 
 use crate::marks::node_of;
-use crate::tile::TileFlood;
+use crate::tile::{Lists, TileFlood};
 use ascii_grid::{Height, NoMemory, Place};
 use std::alloc::Global;
 use tiles::Tiling;
@@ -80,6 +81,44 @@ fn greater_levels(
     Ok(raised)
 }
 
+/// The filled heights of a tile of several cells.
+fn raise_lists(
+    alloc: Global,
+    tiling: &Tiling,
+    lists: &Lists,
+    levels: &[Option<Height>],
+) -> Result<Vec<Option<Height>>, NoMemory>
+    requires size { length levels.now ≡ tiling.now.cols * tiling.now.rows }
+    requires same { length lists.now.labels.cells.items ≡ length lists.now.levels.items }
+    requires labels { All (λ label. IfSome label (IsWithin tiling.now)) lists.now.labels.places.items }
+    ensures { IfOk result (λ v. AreGreater lists.now.levels.items lists.now.labels.cells.items
+        (map (spill_of tiling.now levels.now) lists.now.labels.places.items) v.items) }
+{
+    let labels = &lists.labels;
+    let spills = spills_of(alloc, tiling, &labels.places, levels)?;
+    greater_levels(alloc, &lists.levels, &labels.cells, &spills)
+}
+
+/// The filled height of a tile of one cell.
+fn raise_cell(
+    alloc: Global,
+    tiling: &Tiling,
+    flood: &TileFlood,
+    levels: &[Option<Height>],
+) -> Result<Vec<Option<Height>>, NoMemory>
+    requires size { length levels.now ≡ tiling.now.cols * tiling.now.rows }
+    requires labels { LabelsInside tiling.now flood.now }
+    requires one { HasOneCell flood.now }
+    ensures { IfOk result (λ v. IsRaised tiling.now flood.now levels.now v.items) }
+{
+    let spill = spill(tiling, levels, flood.label_at(0));
+    let raised = greater(flood.level_at(0), spill);
+    match Vec::from_slice(alloc, &[raised]) {
+        Ok(list) => Ok(list),
+        Err(_) => Err(NoMemory),
+    }
+}
+
 /// The filled heights of a tile in its row order, of its flood and the levels of the graph in which it
 /// was gathered.
 pub fn raise(
@@ -97,7 +136,8 @@ pub fn raise(
         AreFloods t tiling.now floods → slice_get floods tile ≡ Some flood.now →
         AreSpillLevels t tiling.now floods levels.now → IsFilledTile t tiling.now tile v.items) }
 {
-    let labels = flood.labels();
-    let spills = spills_of(alloc, tiling, &labels.places, levels)?;
-    greater_levels(alloc, flood.levels(), &labels.cells, &spills)
+    match flood.lists() {
+        Some(lists) => raise_lists(alloc, tiling, lists, levels),
+        None => raise_cell(alloc, tiling, flood, levels),
+    }
 }

@@ -1,6 +1,6 @@
 // The sources of the spill graph.
-ghost use Rattle.std.specs.Prelude.{◌≡◌, ◌*◌, ◌<◌, List, [], length, IfOk, OnOk};
-ghost use Rattle.std.specs.List.{All};
+ghost use Rattle.std.specs.Prelude.{◌≡◌, ◌*◌, ◌<◌, List, [], Some, length, IfOk, IfSome, OnOk};
+ghost use Rattle.std.specs.List.{All, Contains};
 ghost use Rattle.tiles.specs.Cutting.{IsInTile, IsWithin, tile_count};
 ghost use Rattle.fill.specs.TileFlood.{Flood};
 ghost use Rattle.fill.specs.Gathering.{Fit, AddsSources, AreSources, PutsSources};
@@ -44,6 +44,27 @@ fn push_source(
     Ok(())
 }
 
+/// Adds those of these places of the grid that are sources.
+fn push_sources(
+    sources: &mut Vec<Source>,
+    tiling: &Tiling,
+    floods: &[TileFlood],
+    tile: u32,
+    places: &[Option<Place>],
+) -> Result<(), NoMemory>
+    requires fit { Fit tiling.now floods.now }
+    requires tile { tile < tile_count tiling.now }
+    requires places { All (λ place. IfSome place (IsWithin tiling.now)) places.now }
+    ensures { OnOk result (AddsSources tiling.now floods.now (λ p. Contains places.now (Some p)) sources.old.items sources.new.items) }
+{
+    for place in places {
+        if let Some(place) = *place {
+            push_source(sources, tiling, floods, tile, place)?;
+        }
+    }
+    Ok(())
+}
+
 /// The sources among the cells of a tile: each is the label of a cell, its own.
 pub(crate) fn tile_sources(
     alloc: Global,
@@ -56,11 +77,10 @@ pub(crate) fn tile_sources(
     ensures { IfOk result (λ v. AddsSources tiling.now floods.now (IsInTile tiling.now tile) [] v.items) }
 {
     let mut sources = Vec::new(alloc);
-    let labels = floods[tile as usize].labels();
-    for label in &labels.places {
-        if let Some(place) = *label {
-            push_source(&mut sources, tiling, floods, tile, place)?;
-        }
+    let flood = &floods[tile as usize];
+    match flood.lists() {
+        Some(lists) => push_sources(&mut sources, tiling, floods, tile, &lists.labels.places)?,
+        None => push_sources(&mut sources, tiling, floods, tile, &[flood.label_at(0)])?,
     }
     Ok(sources)
 }

@@ -2,7 +2,7 @@
 ghost use Rattle.std.specs.Prelude.{◌≡◌, ◌≤◌, ◌+◌, IfOk, IfSome, length, true, false, MatchOption, None, slice_index_or, ◌*◌, ◌-◌, ◌<◌};
 ghost use Rattle.std.specs.Bool.{OnTrue};
 ghost use Rattle.tiles.specs.Cutting.{terrain_of, IsInBounds};
-ghost use Rattle.fill.specs.Labels.{labels_by};
+ghost use Rattle.fill.specs.TileCells.{own_label, HasOneCell, HasLists, HasCell};
 ghost use Rattle.fill.specs.TileFlood.{IsFlood, IsTileFlood, level_in, label_in, is_in_bounds, HasOneLabelAround, AreEqualAround, IsInner};
 
 use crate::cell_net::{CellNet, without_border};
@@ -13,24 +13,52 @@ use std::alloc::Global;
 use std::marker::Model;
 use tiles::{Bounds, TileView};
 
+/// The levels and labels of a tile's cells, in its row order.
+#[derive(Drop)]
+pub(crate) struct Lists {
+    pub(crate) levels: Vec<Option<Height>>,
+    pub(crate) labels: Labels,
+}
+
+/// What is known of a tile's cells. A tile of one cell takes no lists, since the cell is its own label: there may be
+/// 65,536 of them.
+#[derive(Drop)]
+enum TileCells {
+    One(Option<Height>),
+    Many(Box<Lists>),
+}
+
 /// The level of each cell of a tile, and the source that it drains to: the least crest of the paths that
 /// stay in the tile and end on its rim or at an edge cell.
 #[derive(Drop)]
 pub struct TileFlood {
     bounds: Bounds,
-    levels: Vec<Option<Height>>,
-    labels: Labels,
+    cells: TileCells,
 }
 
 impl Model for TileFlood {
-    ghost use Rattle.fill.specs.Labels.{labels_by};
     ghost use Rattle.fill.specs.TileFlood.{Flood, IsFlood};
+    ghost use Rattle.fill.specs.TileCells.{levels_of, labels_of};
 
     ghost Value = { Flood };
 
-    ghost view = { λ f. record { bounds = f.bounds; levels = f.levels.items; labels = labels_by f.labels.places.items f.labels.cells.items } };
+    ghost view = { λ f. record { bounds = f.bounds; levels = levels_of f.cells; labels = labels_of f.bounds f.cells } };
 
-    ghost invariant = { λ f. IsFlood (record { bounds = f.bounds; levels = f.levels.items; labels = labels_by f.labels.places.items f.labels.cells.items }) };
+    ghost invariant = { λ f. IsFlood (record { bounds = f.bounds; levels = levels_of f.cells; labels = labels_of f.bounds f.cells }) };
+}
+
+/// The label of a tile's only cell, None where it has no data.
+#[inline(always)]
+fn own_label(bounds: Bounds, level: Option<Height>) -> Option<Place>
+    ensures { result ≡ own_label bounds level }
+{
+    match level {
+        Some(_) => Some(Place {
+            row: bounds.top,
+            col: bounds.left,
+        }),
+        None => None,
+    }
 }
 
 /// Whether a place lies in the bounds.
@@ -100,7 +128,7 @@ impl TileFlood {
         ensures { result ≡ level_in self.now place }
     {
         let index = index_in(self.bounds, place)?;
-        self.levels[index]
+        self.level_at(index)
     }
 
     /// The label at a place, None outside the tile and where there is no data.
@@ -112,13 +140,40 @@ impl TileFlood {
         self.label_at(index)
     }
 
+    /// The level of the cell with this index in the tile's row order.
+    #[inline(always)]
+    pub(crate) fn level_at(&self, index: usize) -> Option<Height>
+        requires { index < length self.now.labels }
+        ensures { result ≡ slice_index_or self.now.levels index None }
+    {
+        match &self.cells {
+            TileCells::One(level) => *level,
+            TileCells::Many(lists) => lists.levels[index],
+        }
+    }
+
     /// The label of the cell with this index in the tile's row order.
     #[inline(always)]
     pub(crate) fn label_at(&self, index: usize) -> Option<Place>
         requires { index < length self.now.labels }
         ensures { result ≡ slice_index_or self.now.labels index None }
     {
-        self.labels.at(index)
+        match &self.cells {
+            TileCells::One(level) => own_label(self.bounds, *level),
+            TileCells::Many(lists) => lists.labels.at(index),
+        }
+    }
+
+    /// The lists of a tile of several cells.
+    #[inline(always)]
+    pub(crate) fn lists(&self) -> Option<&Lists>
+        ensures lists { MatchOption result (HasOneCell self.now) (λ lists. HasLists self.now lists.now) }
+        ensures lawful { IsFlood self.now }
+    {
+        match &self.cells {
+            TileCells::One(_) => None,
+            TileCells::Many(lists) => Some(lists),
+        }
     }
 
     /// Where a place of the tile that is not on its rim stands in its row order, None at any other.
@@ -149,7 +204,10 @@ impl TileFlood {
         requires second { second < length self.now.labels }
         ensures { OnTrue result (slice_index_or self.now.labels first None ≡ slice_index_or self.now.labels second None) }
     {
-        self.labels.cells[first] == self.labels.cells[second]
+        match &self.cells {
+            TileCells::One(_) => true,
+            TileCells::Many(lists) => lists.labels.cells[first] == lists.labels.cells[second],
+        }
     }
 
     /// Whether a cell and the eight around it lie in the tile and have one label, or none of them any.
@@ -158,10 +216,13 @@ impl TileFlood {
         requires { IsInBounds self.now.bounds place }
         ensures { OnTrue result (HasOneLabelAround self.now place) }
     {
+        let TileCells::Many(lists) = &self.cells else {
+            return false;
+        };
         let Some(index) = self.inner_index(place) else {
             return false;
         };
-        are_equal_around(&self.labels.cells, index, self.bounds.cols as usize)
+        are_equal_around(&lists.labels.cells, index, self.bounds.cols as usize)
     }
 
     /// Whether a place is one of the tile's.
@@ -171,22 +232,16 @@ impl TileFlood {
     {
         is_in(self.bounds, place)
     }
+}
 
-    /// The labels in the tile's row order, by a table of them.
-    #[inline(always)]
-    pub(crate) fn labels(&self) -> &Labels
-        ensures { self.now.labels ≡ labels_by result.now.places.items result.now.cells.items }
-    {
-        &self.labels
-    }
-
-    /// The levels in the tile's row order.
-    #[inline(always)]
-    pub(crate) fn levels(&self) -> &[Option<Height>]
-        ensures value { result.now ≡ self.now.levels }
-        ensures lawful { IsFlood self.now }
-    {
-        &self.levels
+/// The flood of a tile of one cell, which lies on its rim.
+fn cell_flood(view: &TileView<'_, Option<Height>>) -> TileFlood
+    requires { HasCell view.now }
+    ensures { IsTileFlood (terrain_of view.now) view.now.cutting view.now.tile result }
+{
+    TileFlood {
+        bounds: view.bounds(),
+        cells: TileCells::One(view.row(0)[0]),
     }
 }
 
@@ -196,13 +251,18 @@ pub fn tile_flood(alloc: Global, view: &TileView<'_, Option<Height>>) -> Result<
         IsTileFlood (terrain_of view.now) view.now.cutting view.now.tile f) }
 {
     let bounds = view.bounds();
+    if bounds.rows == 1 && bounds.cols == 1 {
+        return Ok(cell_flood(view));
+    }
     let net = CellNet::of_view(alloc, view)?;
     let flooded = flood(alloc, &net)?;
     let levels = without_border(alloc, &flooded.level, bounds.cols, bounds.rows)?;
     let labels = labels_of(alloc, bounds, &flooded.label)?;
+    let Ok(lists) = Box::new(alloc, Lists { levels, labels }) else {
+        return Err(NoMemory);
+    };
     Ok(TileFlood {
         bounds,
-        levels,
-        labels,
+        cells: TileCells::Many(lists),
     })
 }

@@ -11,16 +11,18 @@ labels_of-requires-clause-size c = rw (c.deref-2.ensures.value, c.bounds-bounds.
 
 pub invariant_of-result : goal.invariant_of-result
 invariant_of-result c =
+    let made = c.in-Ok.ensures.ok in
     let lawful = c.bounds-bounds.ensures.lawful in
-    (tile_flood_is (terrain_of c.args.view.now) c.args.view.now.cutting c.args.view.now.tile c.in_ok-net.net c.bounds-bounds.result
+    rw made ((tile_flood_is (terrain_of c.args.view.now) c.args.view.now.cutting c.args.view.now.tile c.in_ok-net.net c.bounds-bounds.result
     c.in_ok-flooded.flooded.level.items c.in_ok-levels.levels.items c.in_ok-flooded.flooded.label.items _
     lawful.cutting lawful.tile (refl, refl) c.in_ok-net.ensures c.in_ok-flooded.ensures c.bounds-bounds.ensures.value
-    (rw c.deref.ensures.value at c.in_ok-levels.ensures) (rw c.deref-2.ensures.value at c.in_ok-labels.ensures)).1
+    (rw c.deref.ensures.value at c.in_ok-levels.ensures) (rw c.deref-2.ensures.value at c.in_ok-labels.ensures)).1)
 
 pub returns : goal.returns
 returns c =
+    let made = c.in-Ok.ensures.ok in
     let lawful = c.bounds-bounds.ensures.lawful in
-    (tile_flood_is (terrain_of c.args.view.now) c.args.view.now.cutting c.args.view.now.tile c.in_ok-net.net c.bounds-bounds.result
+    rw made ((tile_flood_is (terrain_of c.args.view.now) c.args.view.now.cutting c.args.view.now.tile c.in_ok-net.net c.bounds-bounds.result
     c.in_ok-flooded.flooded.level.items c.in_ok-levels.levels.items c.in_ok-flooded.flooded.label.items _
     lawful.cutting lawful.tile (refl, refl) c.in_ok-net.ensures c.in_ok-flooded.ensures c.bounds-bounds.ensures.value
-    (rw c.deref.ensures.value at c.in_ok-levels.ensures) (rw c.deref-2.ensures.value at c.in_ok-labels.ensures)).0
+    (rw c.deref.ensures.value at c.in_ok-levels.ensures) (rw c.deref-2.ensures.value at c.in_ok-labels.ensures)).0)

@@ -1,0 +1,5 @@
+use Rattle.fill.proofs.OneCell.{view_flooded}
+use Rattle.fill.proofs.tile.cell_flood.Goals as goal
+
+pub returns : goal.returns
+returns c = view_flooded c.args.view.now c.bounds.result _ c.bounds.ensures.lawful c.bounds.ensures.value c.requires c.row.ensures.value
