@@ -6,7 +6,7 @@ use Rattle.ascii_grid.specs.Filled.{crest}
 use Rattle.ascii_grid.specs.declared.place.Place.{Place}
 use Rattle.ascii_grid.proofs.Places.{same_place, entry-inside}
 use Rattle.tiles.specs.declared.bounds.Bounds.{Bounds}
-use Rattle.tiles.specs.Cutting.{Cutting, View, IsView, IsCutting, AreBounds, IsInBounds, IsInTile, tile_count, bounds_of, row_shown, terrain_of}
+use Rattle.tiles.specs.Cutting.{Cutting, View, IsView, IsCutting, IsInBounds, IsInTile, tile_count, bounds_of, row_shown, terrain_of}
 use Rattle.tiles.proofs.Cut.{in_bounds, bounds_inside}
 use Rattle.tiles.proofs.Shown.{get_or-row_shown}
 use Rattle.fill.specs.TileCells.{own_label, HasCell}
