@@ -1,21 +1,28 @@
 -- A raised tile has its filled heights.
-use Rattle.std.proofs.Common.{◌≡◌, ℕ, ◌+◌, ◌-◌, ◌*◌, ◌<◌, inl, inr, ℤ, List, length, get_or, map, Option, None, Some, is_some, ◌∙◌, sym, ap, subst, refl, arith}
+use Rattle.std.proofs.Common.{◌≡◌, ℕ, ◌+◌, ◌-◌, ◌*◌, ◌<◌, ◌≤◌, ◌⊎◌, inl, inr, ℤ, ◌≤ℤ◌, List, length, get_or, map, Option, None, Some, is_some, ◌∙◌, sym, ap, subst, refl, arith}
 use Rattle.std.specs.Prelude.{slice_get, option_and_then}
 use Rattle.std.specs.Int.{int_max}
+use Rattle.std.proofs.Math.Nat.{zero-div, zero-mod, zero-mul}
+use Rattle.std.proofs.lemmas.Int.{ints, clamps}
 use Rattle.std.proofs.lemmas.List.{get_or-map}
 use Rattle.ascii_grid.specs.Raster.{Terrain}
 use Rattle.ascii_grid.specs.Neighbours.{height_at, index_of}
+use Rattle.ascii_grid.specs.Filled.{crest, IsFilledHeight, IsFilled}
 use Rattle.ascii_grid.specs.declared.place.Place.{Place}
+use Rattle.ascii_grid.proofs.Places.{entry-inside, inside_from_entry, make_place}
 use Rattle.tiles.specs.declared.bounds.Bounds.{Bounds}
-use Rattle.tiles.specs.Cutting.{Cutting, IsCutting, IsInBounds, bounds_of, tile_entry, tile_of_place}
-use Rattle.tiles.proofs.Cut.{in_bounds}
+use Rattle.tiles.specs.Cutting.{Cutting, IsCutting, IsInBounds, across, bounds_of, tile_count, tile_entry, tile_of_place}
+use Rattle.tiles.proofs.Cut.{in_bounds, in_tile, tile_of_place_below}
 use Rattle.tiles.proofs.TileOrder.{tile_entry-in}
-use Rattle.fill.specs.TileFlood.{Flood, level_in, label_in}
-use Rattle.fill.specs.Spills.{AreFloods, AreSpillLevels, spill_of, greater_of, raised_by, AreGreater, IsRaised, IsFilledTile}
+use Rattle.fill.specs.Cells.{window_of}
+use Rattle.fill.specs.TileFlood.{Flood, IsTileSource, level_in, label_in}
+use Rattle.fill.specs.Spills.{AreFloods, level_among, AreSpillLevels, spill_of, greater_of, raised_by, AreGreater, IsRaised, RaisesToFilled, HasRimsAlone, IsFilledTile}
 use Rattle.fill.specs.Labels.{labels_by, IsTable}
-use Rattle.fill.proofs.Steps.{seen, at_none, from_some, from_none}
-use Rattle.fill.proofs.TileWindows.{entry_in-inside, entry_index}
-use Rattle.fill.proofs.Rims.{has_tile_level, among_is, rims}
+use Rattle.fill.proofs.Steps.{seen, at_some, at_none, from_some, from_none}
+use Rattle.fill.proofs.TileWindows.{entry_in-inside, entry_index, data_within, rim_of_tile, rim_of_window}
+use Rattle.fill.proofs.Windows.{cases_rim, data_is}
+use Rattle.fill.proofs.WindowLevels.{crest_high, height_is}
+use Rattle.fill.proofs.Rims.{has_tile_level, among_is, edge_level, rims}
 
 -- The first cells have the greater of their levels and their labels'.
 pub record AreFirstGreater (levels : List (Option ℤ)) (labels : List ℕ) (spills : List (Option ℤ)) (count : ℕ) (raised : List (Option ℤ)) : Type 0 where
@@ -42,8 +49,8 @@ raised_from c levels o l level n label a b e = rw (a, b) (ap (option_and_then (�
 raised_from_none : (c : Cutting) (levels : List (Option ℤ)) (o : Option ℤ) (l : Option Place) → o ≡ None → raised_by c levels o l ≡ None
 raised_from_none c levels o l a = rw a refl
 
-pub filled_tile : (t : Terrain) (c : Cutting) (floods : List Flood) (tile : ℕ) (f : Flood) (levels raised : List (Option ℤ)) → IsCutting c → AreFloods t c floods → slice_get floods tile ≡ Some f → AreSpillLevels t c floods levels → IsRaised c f levels raised → IsFilledTile t c tile raised
-filled_tile t c floods tile f levels raised h are there spill is =
+pub filled_tile : (t : Terrain) (c : Cutting) (floods : List Flood) (tile : ℕ) (f : Flood) (levels raised : List (Option ℤ)) → IsCutting c → AreFloods t c floods → slice_get floods tile ≡ Some f → RaisesToFilled t c floods levels → IsRaised c f levels raised → IsFilledTile t c tile raised
+filled_tile t c floods tile f levels raised h are there raises is =
     let flood = are.each tile f there in
     record {
       size = is.size ∙ flood.levels_size;
@@ -57,15 +64,82 @@ filled_tile t c floods tile f levels raised h are there spill is =
           let level : level_in f p ≡ get_or f.levels k None = entry_in-inside f.bounds f.levels p held ∙ ap (λ (x : Bounds). get_or f.levels ((p.row - x.top) * x.cols + (p.col - x.left)) None) flood.bounds in
           let label : label_in f p ≡ get_or f.labels k None = entry_in-inside f.bounds f.labels p held ∙ ap (λ (x : Bounds). get_or f.labels ((p.row - x.top) * x.cols + (p.col - x.left)) None) flood.bounds in
           let at : slice_get floods (tile_of_place c p) ≡ Some f = ap (slice_get floods) i.1 ∙ there in
+          let own_level = among_is (λ g. level_in g p) floods (tile_of_place c p) f at ∙ level in
+          let own_label = among_is (λ g. label_in g p) floods (tile_of_place c p) f at ∙ label in
           elim (seen (height_at t p)) [
             | inl none ↦ from_none (height_at t p) _ _ none
                 (entry ∙ raised_from_none c levels _ _ (sym level ∙ (at_none (height_at t p) _ _ none (flood.each p i)).0))
             | inr found ↦
-                let l = has_tile_level t c floods h are p (ap is_some found.1) in
-                let filled = rims t c floods spill.0 levels spill.2.0 h are spill.1 spill.2.1 p l (ap is_some found.1) in
-                let own_level = sym level ∙ sym (among_is (λ g. level_in g p) floods (tile_of_place c p) f at) ∙ l.level_is in
-                let own_label = sym label ∙ sym (among_is (λ g. label_in g p) floods (tile_of_place c p) f at) ∙ l.label_is in
+                let filled = raises p (ap is_some found.1) in
                 from_some (height_at t p) _ _ found.0 found.1
-                (int_max l.level filled.0, entry ∙ raised_from c levels _ _ l.level filled.0 l.label own_level own_label filled.1, filled.2)
+                (filled.0, entry ∙ sym (ap (λ z. raised_by c levels z (get_or f.labels k None)) own_level) ∙ sym (ap (raised_by c levels (level_among c floods p)) own_label) ∙ filled.1, filled.2)
           ];
     }
+
+-- the levels of the spill graph raise each cell to its filled height
+pub spill_raises : (t : Terrain) (c : Cutting) (floods : List Flood) (levels : List (Option ℤ)) → AreFloods t c floods → AreSpillLevels t c floods levels → RaisesToFilled t c floods levels
+spill_raises t c floods levels are spill p some =
+    let l = has_tile_level t c floods are.lawful are p some in
+    let filled = rims t c floods spill.0 levels spill.2.0 are.lawful are spill.1 spill.2.1 p l some in
+    (int_max l.level filled.0, raised_from c levels _ _ l.level filled.0 l.label l.level_is l.label_is filled.1, filled.2)
+
+-- where each cell lies on the rim of its tile, it is its own label, and the filled heights of the grid raise it to its own
+pub own_raises : (t : Terrain) (c : Cutting) (floods : List Flood) (levels : List (Option ℤ)) → AreFloods t c floods → HasRimsAlone c → IsFilled t levels → RaisesToFilled t c floods levels
+own_raises t c floods levels are alone filled p some =
+    let l = has_tile_level t c floods are.lawful are p some in
+    let height = data_is (height_at t p) some in
+    let source : IsTileSource t c p = inl (some, alone p (data_within t c p are.cuts some)) in
+    let level = edge_level t c p l.label l.level l.right source in
+    let label : l.label ≡ p = l.right.own source (height.1 ∙ ap Some (sym (level ∙ height_is t p height.0 height.1))) in
+    let inside = inside_from_entry t.cols t.rows t.cells p height.0 height.1 in
+    let here = at_some (height_at t p) _ _ height.0 height.1 (filled.each p inside) in
+    let entry : get_or levels (index_of c.cols l.label) None ≡ Some here.0 =
+    ap (λ (q : Place). get_or levels (index_of c.cols q) None) label
+    ∙ ap (λ n. get_or levels (index_of n p) None) are.cuts.0
+    ∙ sym (entry-inside t.cols t.rows levels p inside.0 inside.1)
+    ∙ here.1 in
+    let low : l.level ≤ℤ here.0 = subst (λ z. l.level ≤ℤ z) here.2.reached.2 (subst (λ z. z ≤ℤ crest t p here.2.reached.0) (sym level) (crest_high t p here.2.reached.0)) in
+    (int_max l.level here.0, raised_from c levels _ _ l.level here.0 l.label l.level_is l.label_is entry, subst (IsFilledHeight t p) (sym (max_is l.level here.0 low)) here.2)
+  where
+    max_is : (a b : ℤ) → a ≤ℤ b → int_max a b ≡ b
+    max_is a b h = omega (arith, ints, clamps)
+
+-- the first tile begins at the first row and column
+first_at : (c : Cutting) → ((bounds_of c 0).top ≡ 0) × ((bounds_of c 0).left ≡ 0)
+first_at c = (ap (λ n. n * c.side) (zero-div (across c)) ∙ zero-mul c.side, ap (λ n. n * c.side) (zero-mod (across c)) ∙ zero-mul c.side)
+
+-- no tile has more rows or columns than the first one
+rows_least : (c : Cutting) (tile : ℕ) → (bounds_of c tile).rows ≤ (bounds_of c 0).rows
+rows_least c tile = omega (arith, (first_at c).0)
+
+cols_least : (c : Cutting) (tile : ℕ) → (bounds_of c tile).cols ≤ (bounds_of c 0).cols
+cols_least c tile = omega (arith, (first_at c).1)
+
+-- where the first tile has no inner cell, no tile has one
+pub rims_alone : (c : Cutting) → IsCutting c → ((bounds_of c 0).rows ≤ 2) ⊎ ((bounds_of c 0).cols ≤ 2) → HasRimsAlone c
+rims_alone c h few p within =
+    let tile = tile_of_place c p in
+    elim (cases_rim (window_of (bounds_of c tile)) p (in_bounds c tile p h (within, refl))) [
+      | inl rim ↦ rim_of_tile c tile p (within, refl) rim
+      | inr inner ↦ elim few [
+        | inl rows ↦ absurd (omega (arith, rows, inner, rows_least c tile))
+        | inr cols ↦ absurd (omega (arith, cols, inner, cols_least c tile))
+      ]
+    ]
+
+pub some_tile : (c : Cutting) → IsCutting c → 0 < tile_count c
+some_tile c h = omega (arith, tile_of_place_below c (make_place 0 0) h (h.some_row, h.some_col))
+
+-- a first tile of three rows and columns has an inner cell
+pub not_alone : (c : Cutting) → IsCutting c → 2 < (bounds_of c 0).rows → 2 < (bounds_of c 0).cols → HasRimsAlone c → ⊥
+not_alone c h rows cols alone =
+    let amid = make_place 1 1 in
+    let first = first_at c in
+    let inside : IsInBounds (bounds_of c 0) amid = (omega (arith, first.0), omega (arith, first.0, rows), omega (arith, first.1), omega (arith, first.1, cols)) in
+    let in_first = in_tile c 0 amid h (some_tile c h) inside in
+    elim (rim_of_window c 0 amid in_first (alone amid in_first.0)) [
+      | inl e ↦ absurd (omega (arith, e, first.0))
+      | inr (inl e) ↦ absurd (omega (arith, e, rows, first.0))
+      | inr (inr (inl e)) ↦ absurd (omega (arith, e, first.1))
+      | inr (inr (inr e)) ↦ absurd (omega (arith, e, cols, first.1))
+    ]

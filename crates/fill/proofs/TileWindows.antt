@@ -79,7 +79,7 @@ rim_of_tile c tile p i rim = subst (λ n. is_first_or_last (bounds_of c n) p ≡
   at (inr (inr (inl e))) = or_left _ _ (or_right _ _ (eq-eqb _ _ e))
   at (inr (inr (inr e))) = or_right _ _ (eq-eqb _ _ e)
 
-rim_of_window : (c : Cutting) (tile : ℕ) (p : Place) → IsInTile c tile p → is_on_rim c p ≡ true → IsOnRim (window_of (bounds_of c tile)) p
+pub rim_of_window : (c : Cutting) (tile : ℕ) (p : Place) → IsInTile c tile p → is_on_rim c p ≡ true → IsOnRim (window_of (bounds_of c tile)) p
 rim_of_window c tile p i e = at (subst (λ n. is_first_or_last (bounds_of c n) p ≡ true) i.1 e) where
   at : is_first_or_last (bounds_of c tile) p ≡ true → IsOnRim (window_of (bounds_of c tile)) p
   at e = elim (or_cases _ _ e) [

@@ -1,13 +1,13 @@
 -- The spill graph: how the labels of all tiles are joined, and the levels that it gives them.
-use Rattle.std.specs.Prelude.{◌≡◌, ◌≢◌, ℕ, ◌*◌, ◌<◌, ℤ, ◌≤ℤ◌, List, length, Option, None, Some, MatchOption, Vec, slice_get, slice_index_or, option_and_then}
+use Rattle.std.specs.Prelude.{◌≡◌, ◌≢◌, ℕ, ◌*◌, ◌<◌, true, ℤ, ◌≤ℤ◌, List, length, Option, None, Some, MatchOption, Vec, slice_get, slice_index_or, option_and_then}
 use Rattle.std.specs.declared.alloc.Global.{Global}
 use Rattle.std.specs.Int.{int_max}
 use Rattle.std.specs.List.{Contains}
 use Rattle.ascii_grid.specs.Raster.{Raster, Terrain}
-use Rattle.ascii_grid.specs.Neighbours.{height_at, index_of, IsNeighbour, IsEdge}
+use Rattle.ascii_grid.specs.Neighbours.{height_at, index_of, IsDataCell, IsNeighbour, IsEdge}
 use Rattle.ascii_grid.specs.Filled.{IsFilled, IsFilledHeight}
 use Rattle.ascii_grid.specs.declared.place.Place.{Place}
-use Rattle.tiles.specs.Cutting.{Cutting, IsCutting, Cuts, tile_count, tile_of_place, IsInTile, tile_entry, cell_count}
+use Rattle.tiles.specs.Cutting.{Cutting, IsCutting, IsWithin, Cuts, tile_count, tile_of_place, is_on_rim, IsInTile, tile_entry, cell_count}
 use Rattle.fill.specs.TileFlood.{Flood, IsTileFlood, level_in, label_in}
 use Rattle.fill.specs.Walk.{IsFlooded}
 use Rattle.fill.specs.declared.spills.Join.{Join}
@@ -109,6 +109,15 @@ pub record IsRaised (c : Cutting) (f : Flood) (levels : List (Option ℤ)) (rais
   pub size : length raised ≡ length f.levels
   pub each : (i : ℕ) → i < length f.levels →
       slice_index_or raised i None ≡ raised_by c levels (slice_index_or f.levels i None) (slice_index_or f.labels i None)
+
+-- Each cell lies on the rim of its tile. So each is its own label, and the spill graph is the net of the grid's cells.
+abbrev pub HasRimsAlone : Cutting → Type 0
+HasRimsAlone c = (p : Place) → IsWithin c p → is_on_rim c p ≡ true
+
+-- Raised by these levels of the labels, each data cell has its filled height.
+abbrev pub RaisesToFilled : Terrain → Cutting → List Flood → List (Option ℤ) → Type 0
+RaisesToFilled t c floods levels = (p : Place) → IsDataCell t p → (height : ℤ)
+    × (raised_by c levels (level_among c floods p) (label_among c floods p) ≡ Some height) × IsFilledHeight t p height
 
 -- The list has the filled heights of a tile's cells, in its row order.
 pub record IsFilledTile (t : Terrain) (c : Cutting) (tile : ℕ) (levels : List (Option ℤ)) : Type 0 where

@@ -1,9 +1,9 @@
 // The filled heights of a grid, by tiles and workers.
-ghost use Rattle.std.specs.Prelude.{◌≡◌, ◌*◌, ◌≤◌, length, ℕ, List, Some, slice_get, IfOk};
+ghost use Rattle.std.specs.Prelude.{◌≡◌, ◌*◌, ◌<◌, ◌≤◌, length, ℕ, List, Some, slice_get, IfOk, IsTrue, ◌↔◌};
 ghost use Rattle.ascii_grid.specs.Filled.{IsFilledGrid};
 ghost use Rattle.tiles.specs.Cutting.{Cuts, IsCutting};
 ghost use Rattle.ascii_grid.specs.Raster.{Terrain};
-ghost use Rattle.fill.specs.Spills.{AreFloods, AreSpillLevels, AreFilledTiles};
+ghost use Rattle.fill.specs.Spills.{AreFloods, RaisesToFilled, HasRimsAlone, AreFilledTiles};
 ghost use Rattle.tile_jobs.specs.Fault.{RefusesWorkers};
 ghost use Rattle.fill.specs.TileFlood.{Flood, LabelsInside};
 ghost use Rattle.fill.specs.Gathering.{Fit};
@@ -14,12 +14,13 @@ use crate::parts::{Part, tile_part};
 use crate::raising::raise;
 use crate::spills::SpillGraph;
 use crate::tile::{TileFlood, tile_flood};
+use crate::whole::filled_heights;
 use ascii_grid::{Grid, Height, NoMemory};
 use std::alloc::Global;
 use std::sync::Wait;
 use std::thread::Threads;
 use tile_jobs::{Gate, JobFault, Work, run_jobs};
-use tiles::Tiling;
+use tiles::{Bounds, Tiling};
 
 /// Floods each tile.
 #[derive(Drop)]
@@ -89,12 +90,12 @@ impl<'a> Work for RaiseTiles<'a> {
 
     ghost use Rattle.std.specs.Prelude.{length};
     ghost use Rattle.ascii_grid.specs.Raster.{Terrain};
-    ghost use Rattle.fill.specs.Spills.{AreFloods, AreSpillLevels, IsFilledTile};
+    ghost use Rattle.fill.specs.Spills.{AreFloods, RaisesToFilled, IsFilledTile};
 
     ghost most = { λ w. length w.floods.now };
 
     ghost gives = { λ w job out. (t : Terrain) → AreFloods t w.tiling.now w.floods.now →
-        AreSpillLevels t w.tiling.now w.floods.now w.levels.now → IsFilledTile t w.tiling.now job out.items };
+        RaisesToFilled t w.tiling.now w.floods.now w.levels.now → IsFilledTile t w.tiling.now job out.items };
 
     fn run(&self, alloc: Global, job: u32) -> Result<Vec<Option<Height>>, JobFault> {
         let flood = &self.floods[job as usize];
@@ -160,11 +161,50 @@ fn spill_levels(
 ) -> Result<Vec<Option<Height>>, NoMemory>
     requires { (t : Terrain) × (floods : List Flood) × AreFloods t tiling.now floods × AreParts tiling.now floods parts.items }
     ensures levels { IfOk result (λ v. (t : Terrain) (floods : List Flood) → AreFloods t tiling.now floods →
-        AreParts tiling.now floods parts.items → AreSpillLevels t tiling.now floods v.items) }
+        AreParts tiling.now floods parts.items → RaisesToFilled t tiling.now floods v.items) }
     ensures size { IfOk result (λ v. length v.items ≡ tiling.now.cols * tiling.now.rows) }
 {
     let graph = SpillGraph::of_parts(alloc, tiling, parts)?;
     graph.levels(alloc)
+}
+
+/// Whether each cell lies on the rim of its tile. The first tile is as large as any.
+fn has_rims_alone(tiling: &Tiling) -> bool
+    requires { IsCutting tiling.now }
+    ensures { IsTrue result ↔ HasRimsAlone tiling.now }
+{
+    let Bounds { rows, cols, .. } = tiling.bounds(0);
+    rows <= 2 || cols <= 2
+}
+
+/// The level of each label in the spill graph. Where each cell is a label, the graph is the net of the grid's cells, and
+/// no joins are listed.
+fn label_levels<R: Threads + Wait + Sync, G: Gate + Sync>(
+    rt: &R,
+    alloc: Global,
+    grid: &Grid,
+    tiling: &Tiling,
+    floods: &[TileFlood],
+    workers: u32,
+    gate: &G,
+) -> Result<Vec<Option<Height>>, JobFault>
+    requires cuts { Cuts tiling.now grid.now.terrain }
+    requires floods { AreFloods grid.now.terrain tiling.now floods.now }
+    requires workers { (0 < workers) × (workers ≤ 64) }
+    ensures levels { IfOk result (λ v. RaisesToFilled grid.now.terrain tiling.now floods.now v.items) }
+    ensures size { IfOk result (λ v. length v.items ≡ tiling.now.cols * tiling.now.rows) }
+    ensures workers { RefusesWorkers workers result }
+{
+    let levels = if has_rims_alone(tiling) {
+        filled_heights(alloc, grid)
+    } else {
+        let parts = part_tiles(rt, alloc, tiling, floods, workers, gate)?;
+        spill_levels(alloc, tiling, parts)
+    };
+    match levels {
+        Ok(levels) => Ok(levels),
+        Err(NoMemory) => Err(JobFault::Memory),
+    }
 }
 
 fn raise_tiles<R: Threads + Wait + Sync, G: Gate + Sync>(
@@ -179,7 +219,7 @@ fn raise_tiles<R: Threads + Wait + Sync, G: Gate + Sync>(
     requires floods { (t : Terrain) × AreFloods t tiling.now floods.now }
     requires size { length levels.now ≡ tiling.now.cols * tiling.now.rows }
     ensures raised { IfOk result (λ v. (t : Terrain) → AreFloods t tiling.now floods.now →
-        AreSpillLevels t tiling.now floods.now levels.now → AreFilledTiles t tiling.now v.items) }
+        RaisesToFilled t tiling.now floods.now levels.now → AreFilledTiles t tiling.now v.items) }
     ensures workers { RefusesWorkers workers result }
 {
     let tiles = tiling.tiles();
@@ -206,10 +246,7 @@ pub fn filled<R: Threads + Wait + Sync, G: Gate + Sync>(
     ensures workers { RefusesWorkers workers result }
 {
     let floods = flood_tiles(rt, alloc, grid, tiling, workers, gate)?;
-    let parts = part_tiles(rt, alloc, tiling, &floods, workers, gate)?;
-    let Ok(levels) = spill_levels(alloc, tiling, parts) else {
-        return Err(JobFault::Memory);
-    };
+    let levels = label_levels(rt, alloc, grid, tiling, &floods, workers, gate)?;
     let raised = raise_tiles(rt, alloc, tiling, &floods, &levels, workers, gate)?;
     drop(floods);
     drop(levels);

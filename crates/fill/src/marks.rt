@@ -26,19 +26,6 @@ pub(crate) fn node_of(tiling: &Tiling, place: Place) -> u32
     place.row * tiling.cols() + place.col
 }
 
-#[inline]
-fn mark_in(tiling: &Tiling, flood: &TileFlood, place: Place) -> Option<Mark>
-    requires { LabelsInside tiling.now flood.now }
-    ensures { result ≡ mark_of tiling.now.cols (level_in flood.now place) (label_in flood.now place) }
-{
-    let level = flood.level(place)?;
-    let label = flood.label(place)?;
-    Some(Mark {
-        level,
-        node: node_of(tiling, label),
-    })
-}
-
 /// What a flood says of the cell with this index in its tile's row order.
 #[inline(always)]
 pub(crate) fn mark_of_entry(tiling: &Tiling, flood: &TileFlood, index: usize) -> Option<Mark>
@@ -52,6 +39,15 @@ pub(crate) fn mark_of_entry(tiling: &Tiling, flood: &TileFlood, index: usize) ->
         level,
         node: node_of(tiling, label),
     })
+}
+
+#[inline]
+fn mark_in(tiling: &Tiling, flood: &TileFlood, place: Place) -> Option<Mark>
+    requires { LabelsInside tiling.now flood.now }
+    ensures { result ≡ mark_of tiling.now.cols (level_in flood.now place) (label_in flood.now place) }
+{
+    let index = flood.index_of(place)?;
+    mark_of_entry(tiling, flood, index)
 }
 
 /// What the flood of its own tile says of a cell in or next to this tile, None outside the grid and

@@ -127,7 +127,7 @@ impl TileFlood {
     pub fn level(&self, place: Place) -> Option<Height>
         ensures { result ≡ level_in self.now place }
     {
-        let index = index_in(self.bounds, place)?;
+        let index = self.index_of(place)?;
         self.level_at(index)
     }
 
@@ -136,8 +136,17 @@ impl TileFlood {
     pub fn label(&self, place: Place) -> Option<Place>
         ensures { result ≡ label_in self.now place }
     {
-        let index = index_in(self.bounds, place)?;
+        let index = self.index_of(place)?;
         self.label_at(index)
+    }
+
+    /// Where a place stands in the tile's row order, None outside the tile.
+    #[inline(always)]
+    pub(crate) fn index_of(&self, place: Place) -> Option<usize>
+        ensures { MatchOption result (is_in_bounds self.now.bounds place ≡ false) (λ index. (is_in_bounds self.now.bounds place ≡ true)
+            × (index ≡ (place.row - self.now.bounds.top) * self.now.bounds.cols + (place.col - self.now.bounds.left)) × (index < length self.now.labels)) }
+    {
+        index_in(self.bounds, place)
     }
 
     /// The level of the cell with this index in the tile's row order.

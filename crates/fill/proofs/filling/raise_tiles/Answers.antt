@@ -1,6 +1,6 @@
 use Rattle.std.proofs.Common.{◌≡◌, Vec, Global, Option, ℤ, vec_len, arith}
 use Rattle.ascii_grid.specs.Raster.{Terrain}
-use Rattle.fill.specs.Spills.{AreFloods, AreSpillLevels, AreFilledTiles, IsFilledTile}
+use Rattle.fill.specs.Spills.{AreFloods, RaisesToFilled, AreFilledTiles, IsFilledTile}
 use Rattle.tile_jobs.specs.Answers.{AllGiven}
 use Rattle.fill.proofs.Gathered.{fit_of}
 use Rattle.fill.proofs.Together.{tiles_given, both_ok}
@@ -18,7 +18,7 @@ returns-clause-raised g c =
     let jobs = c.tiles-tiles.ensures.value in
     both_ok c.run_jobs.result
     (λ (v : Vec (Vec (Option ℤ) Global) Global). vec_len v ≡ c.tiles-tiles.result)
-    (λ (v : Vec (Vec (Option ℤ) Global) Global). AllGiven (λ j (out : Vec (Option ℤ) Global). (t : Terrain) → AreFloods t k c.args.floods.now → AreSpillLevels t k c.args.floods.now c.args.levels.now → IsFilledTile t k j out.items) c.tiles-tiles.result v.items)
-    (λ (v : Vec (Vec (Option ℤ) Global) Global). (t : Terrain) → AreFloods t k c.args.floods.now → AreSpillLevels t k c.args.floods.now c.args.levels.now → AreFilledTiles t k v.items)
+    (λ (v : Vec (Vec (Option ℤ) Global) Global). AllGiven (λ j (out : Vec (Option ℤ) Global). (t : Terrain) → AreFloods t k c.args.floods.now → RaisesToFilled t k c.args.floods.now c.args.levels.now → IsFilledTile t k j out.items) c.tiles-tiles.result v.items)
+    (λ (v : Vec (Vec (Option ℤ) Global) Global). (t : Terrain) → AreFloods t k c.args.floods.now → RaisesToFilled t k c.args.floods.now c.args.levels.now → AreFilledTiles t k v.items)
     (λ v len given t are spill. tiles_given t k v.items (omega (arith, v.ok.0, len, jobs)) (λ j d below. given j d (omega (arith, below, jobs)) t are spill))
     c.run_jobs.ensures.len c.run_jobs.ensures.given

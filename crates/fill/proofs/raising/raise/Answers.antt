@@ -7,7 +7,7 @@ use Rattle.tiles.specs.Cutting.{Cutting}
 use Rattle.fill.specs.TileFlood.{Flood}
 use Rattle.fill.specs.Spills.{AreFloods, AreSpillLevels, AreGreater, IsRaised, IsFilledTile, spill_of}
 use Rattle.fill.proofs.LabelTables.{all_within, cells_size}
-use Rattle.fill.proofs.Raised.{raised_by_table, filled_tile}
+use Rattle.fill.proofs.Raised.{raised_by_table, filled_tile, spill_raises}
 use Rattle.fill.proofs.raising.raise.Goals as goal
 
 pub raise_lists-requires-clause-labels : goal.raise_lists-requires-clause-labels
@@ -38,7 +38,7 @@ filled tiling flood levels result is =
     IfOk-weaker result
     (λ (v : Vec (Option ℤ) Global). IsRaised tiling flood levels v.items)
     (λ (v : Vec (Option ℤ) Global). (t : Terrain) (floods : List Flood) (tile : ℕ) → AreFloods t tiling floods → slice_get floods tile ≡ Some flood → AreSpillLevels t tiling floods levels → IsFilledTile t tiling tile v.items)
-    (λ v s t floods tile are there spill. filled_tile t tiling floods tile flood levels v.items are.lawful are there spill s)
+    (λ v s t floods tile are there spill. filled_tile t tiling floods tile flood levels v.items are.lawful are there (spill_raises t tiling floods levels are spill) s)
     is
 
 pub returns-in-Some-clause-raised : goal.returns-in-Some-clause-raised
