@@ -4,6 +4,7 @@ ghost use Rattle.tiles.specs.Cutting.{Cuts};
 
 use super::*;
 use ascii_grid::{Place, read_text};
+use std::process::Abort;
 use std::test::Fail;
 use tile_jobs::NoGate;
 
@@ -140,20 +141,41 @@ fn valley_through_two_tiles(rt: HostRuntime) -> Result<(), Fail> {
     Ok(())
 }
 
+/// The filled heights of a valley, by tiles of this side, or a told refusal.
+fn filled_or_refused<R: Threads + Wait + Sync + Abort>(
+    rt: &R,
+    alloc: Global,
+    side: u32,
+) -> Result<Option<JobFault>, Fail> {
+    let grid = grid(
+        alloc,
+        "ncols 6 nrows 3",
+        "9 9 9 9 9 9 9 1 5 4 1 6 9 9 9 9 9 9",
+    )?;
+    let tiling = tiling_of(&grid, side)?;
+    let wanted = [9, 9, 9, 9, 9, 9, 9, 6, 6, 6, 6, 6, 9, 9, 9, 9, 9, 9];
+    match filled(rt, alloc, &grid, &tiling, 1, &NoGate) {
+        Ok(filled) => {
+            assert_eq!(rt; filled.grid().cells(), wanted.map(Some).as_slice());
+            Ok(None)
+        }
+        Err(fault) => Ok(Some(fault)),
+    }
+}
+
 /// The label of the two low cells of the first tile meets ten others, more than a node's list of ways
 /// holds in place. With ample memory the levels, and with `--fail-alloc` those or a told refusal.
 #[test]
 fn refused_memory_is_told(rt: HostRuntime) -> Result<(), Fail> {
-    let grid = grid(
-        rt.alloc(),
-        "ncols 6 nrows 3",
-        "9 9 9 9 9 9 9 1 5 4 1 6 9 9 9 9 9 9",
-    )?;
-    let tiling = tiling_of(&grid, 3)?;
-    let wanted = [9, 9, 9, 9, 9, 9, 9, 6, 6, 6, 6, 6, 9, 9, 9, 9, 9, 9];
-    match filled(&rt, rt.alloc(), &grid, &tiling, 1, &NoGate) {
-        Ok(filled) => assert_eq!(rt; filled.grid().cells(), wanted.map(Some).as_slice()),
-        Err(fault) => assert_eq!(rt; fault, JobFault::Memory),
-    }
+    let fault = filled_or_refused(&rt, rt.alloc(), 3)?;
+    assert!(rt; fault.is_none() || fault == Some(JobFault::Memory));
+    Ok(())
+}
+
+/// The same with tiles of one cell, where no joins are listed.
+#[test]
+fn refused_memory_of_single_cells_is_told(rt: HostRuntime) -> Result<(), Fail> {
+    let fault = filled_or_refused(&rt, rt.alloc(), 1)?;
+    assert!(rt; fault.is_none() || fault == Some(JobFault::Memory));
     Ok(())
 }
