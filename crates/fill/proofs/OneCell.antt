@@ -9,7 +9,7 @@ use Rattle.tiles.specs.declared.bounds.Bounds.{Bounds}
 use Rattle.tiles.specs.Cutting.{Cutting, View, IsView, IsCutting, IsInBounds, IsInTile, tile_count, bounds_of, row_shown, terrain_of}
 use Rattle.tiles.proofs.Cut.{in_bounds, bounds_inside}
 use Rattle.tiles.proofs.Shown.{get_or-row_shown}
-use Rattle.fill.specs.TileCells.{own_label, HasCell}
+use Rattle.fill.specs.TileCells.{own_label, ShowsOneCell}
 use Rattle.fill.specs.TileFlood.{Flood, IsTileLevel, IsTileFlood, level_in, label_in}
 use Rattle.fill.proofs.Steps.{seen, from_some, from_none}
 use Rattle.fill.proofs.TileWindows.{entry_in-inside, rim_of_tile}
@@ -65,7 +65,7 @@ cell_flooded t c tile level h l one_row one_col is = record {
       let row : p.row - b.top ≡ 0 = omega (arith, inside, one_row) in
       ap (λ n. n * b.cols + (p.col - b.left)) row ∙ omega (arith, inside, one_col)
 
-pub view_flooded : (v : View (Option ℤ)) (b : Bounds) (row : List (Option ℤ)) → IsView v → b ≡ bounds_of v.cutting v.tile → HasCell v → row ≡ row_shown v 0 → IsTileFlood (terrain_of v) v.cutting v.tile (CellFlood b (get_or row 0 None))
+pub view_flooded : (v : View (Option ℤ)) (b : Bounds) (row : List (Option ℤ)) → IsView v → b ≡ bounds_of v.cutting v.tile → ShowsOneCell v → row ≡ row_shown v 0 → IsTileFlood (terrain_of v) v.cutting v.tile (CellFlood b (get_or row 0 None))
 view_flooded v b row is same cell shown =
     let all = bounds_inside v.cutting v.tile is.cutting is.tile in
     let w = bounds_of v.cutting v.tile in

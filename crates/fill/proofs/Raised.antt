@@ -16,7 +16,7 @@ use Rattle.tiles.proofs.Cut.{in_bounds, in_tile, tile_of_place_below}
 use Rattle.tiles.proofs.TileOrder.{tile_entry-in}
 use Rattle.fill.specs.Cells.{window_of}
 use Rattle.fill.specs.TileFlood.{Flood, IsTileSource, level_in, label_in}
-use Rattle.fill.specs.Spills.{AreFloods, level_among, AreSpillLevels, spill_of, greater_of, raised_by, AreGreater, IsRaised, RaisesToFilled, HasRimsAlone, IsFilledTile}
+use Rattle.fill.specs.Spills.{AreFloods, level_among, AreSpillLevels, spill_of, greater_of, raised_by, AreGreater, IsRaised, RaisesToFilled, HasNoInnerCell, IsFilledTile}
 use Rattle.fill.specs.Labels.{labels_by, IsTable}
 use Rattle.fill.proofs.Steps.{seen, at_some, at_none, from_some, from_none}
 use Rattle.fill.proofs.TileWindows.{entry_in-inside, entry_index, data_within, rim_of_tile, rim_of_window}
@@ -84,7 +84,7 @@ spill_raises t c floods levels are spill p some =
     (int_max l.level filled.0, raised_from c levels _ _ l.level filled.0 l.label l.level_is l.label_is filled.1, filled.2)
 
 -- where each cell lies on the rim of its tile, it is its own label, and the filled heights of the grid raise it to its own
-pub own_raises : (t : Terrain) (c : Cutting) (floods : List Flood) (levels : List (Option ℤ)) → AreFloods t c floods → HasRimsAlone c → IsFilled t levels → RaisesToFilled t c floods levels
+pub own_raises : (t : Terrain) (c : Cutting) (floods : List Flood) (levels : List (Option ℤ)) → AreFloods t c floods → HasNoInnerCell c → IsFilled t levels → RaisesToFilled t c floods levels
 own_raises t c floods levels are alone filled p some =
     let l = has_tile_level t c floods are.lawful are p some in
     let height = data_is (height_at t p) some in
@@ -116,8 +116,8 @@ cols_least : (c : Cutting) (tile : ℕ) → (bounds_of c tile).cols ≤ (bounds_
 cols_least c tile = omega (arith, (first_at c).1)
 
 -- where the first tile has no inner cell, no tile has one
-pub rims_alone : (c : Cutting) → IsCutting c → ((bounds_of c 0).rows ≤ 2) ⊎ ((bounds_of c 0).cols ≤ 2) → HasRimsAlone c
-rims_alone c h few p within =
+pub no_inner : (c : Cutting) → IsCutting c → ((bounds_of c 0).rows ≤ 2) ⊎ ((bounds_of c 0).cols ≤ 2) → HasNoInnerCell c
+no_inner c h few p within =
     let tile = tile_of_place c p in
     elim (cases_rim (window_of (bounds_of c tile)) p (in_bounds c tile p h (within, refl))) [
       | inl rim ↦ rim_of_tile c tile p (within, refl) rim
@@ -131,8 +131,8 @@ pub some_tile : (c : Cutting) → IsCutting c → 0 < tile_count c
 some_tile c h = omega (arith, tile_of_place_below c (make_place 0 0) h (h.some_row, h.some_col))
 
 -- a first tile of three rows and columns has an inner cell
-pub not_alone : (c : Cutting) → IsCutting c → 2 < (bounds_of c 0).rows → 2 < (bounds_of c 0).cols → HasRimsAlone c → ⊥
-not_alone c h rows cols alone =
+pub some_inner : (c : Cutting) → IsCutting c → 2 < (bounds_of c 0).rows → 2 < (bounds_of c 0).cols → HasNoInnerCell c → ⊥
+some_inner c h rows cols alone =
     let amid = make_place 1 1 in
     let first = first_at c in
     let inside : IsInBounds (bounds_of c 0) amid = (omega (arith, first.0), omega (arith, first.0, rows), omega (arith, first.1), omega (arith, first.1, cols)) in

@@ -110,9 +110,9 @@ pub record IsRaised (c : Cutting) (f : Flood) (levels : List (Option ℤ)) (rais
   pub each : (i : ℕ) → i < length f.levels →
       slice_index_or raised i None ≡ raised_by c levels (slice_index_or f.levels i None) (slice_index_or f.labels i None)
 
--- Each cell lies on the rim of its tile. So each is its own label, and the spill graph is the net of the grid's cells.
-abbrev pub HasRimsAlone : Cutting → Type 0
-HasRimsAlone c = (p : Place) → IsWithin c p → is_on_rim c p ≡ true
+-- Each cell lies on the rim of its tile, so that each is its own label.
+abbrev pub HasNoInnerCell : Cutting → Type 0
+HasNoInnerCell c = (p : Place) → IsWithin c p → is_on_rim c p ≡ true
 
 -- Raised by these levels of the labels, each data cell has its filled height.
 abbrev pub RaisesToFilled : Terrain → Cutting → List Flood → List (Option ℤ) → Type 0

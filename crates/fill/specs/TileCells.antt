@@ -31,5 +31,5 @@ abbrev pub HasLists : Flood → Lists → Type 0
 HasLists f lists = (f.levels ≡ lists.levels.items) × (f.labels ≡ labels_by lists.labels.places.items lists.labels.cells.items)
 
 -- The view is of a tile of one cell.
-abbrev pub HasCell : View (Option ℤ) → Type 0
-HasCell v = ((bounds_of v.cutting v.tile).rows ≡ 1) × ((bounds_of v.cutting v.tile).cols ≡ 1)
+abbrev pub ShowsOneCell : View (Option ℤ) → Type 0
+ShowsOneCell v = ((bounds_of v.cutting v.tile).rows ≡ 1) × ((bounds_of v.cutting v.tile).cols ≡ 1)

@@ -3,7 +3,7 @@ ghost use Rattle.std.specs.Prelude.{◌≡◌, ◌*◌, ◌<◌, ◌≤◌, leng
 ghost use Rattle.ascii_grid.specs.Filled.{IsFilledGrid};
 ghost use Rattle.tiles.specs.Cutting.{Cuts, IsCutting};
 ghost use Rattle.ascii_grid.specs.Raster.{Terrain};
-ghost use Rattle.fill.specs.Spills.{AreFloods, RaisesToFilled, HasRimsAlone, AreFilledTiles};
+ghost use Rattle.fill.specs.Spills.{AreFloods, RaisesToFilled, HasNoInnerCell, AreFilledTiles};
 ghost use Rattle.tile_jobs.specs.Fault.{RefusesWorkers};
 ghost use Rattle.fill.specs.TileFlood.{Flood, LabelsInside};
 ghost use Rattle.fill.specs.Gathering.{Fit};
@@ -169,16 +169,16 @@ fn spill_levels(
 }
 
 /// Whether each cell lies on the rim of its tile. The first tile is as large as any.
-fn has_rims_alone(tiling: &Tiling) -> bool
+fn has_no_inner_cell(tiling: &Tiling) -> bool
     requires { IsCutting tiling.now }
-    ensures { IsTrue result ↔ HasRimsAlone tiling.now }
+    ensures { IsTrue result ↔ HasNoInnerCell tiling.now }
 {
     let Bounds { rows, cols, .. } = tiling.bounds(0);
     rows <= 2 || cols <= 2
 }
 
-/// The level of each label in the spill graph. Where each cell is a label, the graph is the net of the grid's cells, and
-/// no joins are listed.
+/// The level of each label in the spill graph. Where each cell is its own label, the graph is the net of the grid's
+/// cells, and no joins are listed.
 fn label_levels<R: Threads + Wait + Sync, G: Gate + Sync>(
     rt: &R,
     alloc: Global,
@@ -195,7 +195,7 @@ fn label_levels<R: Threads + Wait + Sync, G: Gate + Sync>(
     ensures size { IfOk result (λ v. length v.items ≡ tiling.now.cols * tiling.now.rows) }
     ensures workers { RefusesWorkers workers result }
 {
-    let levels = if has_rims_alone(tiling) {
+    let levels = if has_no_inner_cell(tiling) {
         filled_heights(alloc, grid)
     } else {
         let parts = part_tiles(rt, alloc, tiling, floods, workers, gate)?;

@@ -2,7 +2,7 @@
 ghost use Rattle.std.specs.Prelude.{◌≡◌, ◌≤◌, ◌+◌, IfOk, IfSome, length, true, false, MatchOption, None, slice_index_or, ◌*◌, ◌-◌, ◌<◌};
 ghost use Rattle.std.specs.Bool.{OnTrue};
 ghost use Rattle.tiles.specs.Cutting.{terrain_of, IsInBounds};
-ghost use Rattle.fill.specs.TileCells.{own_label, HasOneCell, HasLists, HasCell};
+ghost use Rattle.fill.specs.TileCells.{own_label, HasOneCell, HasLists, ShowsOneCell};
 ghost use Rattle.fill.specs.TileFlood.{IsFlood, IsTileFlood, level_in, label_in, is_in_bounds, HasOneLabelAround, AreEqualAround, IsInner};
 
 use crate::cell_net::{CellNet, without_border};
@@ -245,7 +245,7 @@ impl TileFlood {
 
 /// The flood of a tile of one cell, which lies on its rim.
 fn cell_flood(view: &TileView<'_, Option<Height>>) -> TileFlood
-    requires { HasCell view.now }
+    requires { ShowsOneCell view.now }
     ensures { IsTileFlood (terrain_of view.now) view.now.cutting view.now.tile result }
 {
     TileFlood {

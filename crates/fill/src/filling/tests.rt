@@ -141,12 +141,13 @@ fn valley_through_two_tiles(rt: HostRuntime) -> Result<(), Fail> {
     Ok(())
 }
 
-/// The filled heights of a valley, by tiles of this side, or a told refusal.
+/// The filled heights of a valley, by tiles of this side. With ample memory they come, and with
+/// `--fail-alloc` they or a told refusal.
 fn filled_or_refused<R: Threads + Wait + Sync + Abort>(
     rt: &R,
     alloc: Global,
     side: u32,
-) -> Result<Option<JobFault>, Fail> {
+) -> Result<(), Fail> {
     let grid = grid(
         alloc,
         "ncols 6 nrows 3",
@@ -155,27 +156,21 @@ fn filled_or_refused<R: Threads + Wait + Sync + Abort>(
     let tiling = tiling_of(&grid, side)?;
     let wanted = [9, 9, 9, 9, 9, 9, 9, 6, 6, 6, 6, 6, 9, 9, 9, 9, 9, 9];
     match filled(rt, alloc, &grid, &tiling, 1, &NoGate) {
-        Ok(filled) => {
-            assert_eq!(rt; filled.grid().cells(), wanted.map(Some).as_slice());
-            Ok(None)
-        }
-        Err(fault) => Ok(Some(fault)),
+        Ok(filled) => assert_eq!(rt; filled.grid().cells(), wanted.map(Some).as_slice()),
+        Err(fault) => assert_eq!(rt; fault, JobFault::Memory),
     }
+    Ok(())
 }
 
-/// The label of the two low cells of the first tile meets ten others, more than a node's list of ways
-/// holds in place. With ample memory the levels, and with `--fail-alloc` those or a told refusal.
+// The label of the two low cells of the first tile meets ten others, more than a node's list of ways
+// holds in place.
 #[test]
 fn refused_memory_is_told(rt: HostRuntime) -> Result<(), Fail> {
-    let fault = filled_or_refused(&rt, rt.alloc(), 3)?;
-    assert!(rt; fault.is_none() || fault == Some(JobFault::Memory));
-    Ok(())
+    filled_or_refused(&rt, rt.alloc(), 3)
 }
 
-/// The same with tiles of one cell, where no joins are listed.
+// Each cell is its own label: no joins are listed.
 #[test]
 fn refused_memory_of_single_cells_is_told(rt: HostRuntime) -> Result<(), Fail> {
-    let fault = filled_or_refused(&rt, rt.alloc(), 1)?;
-    assert!(rt; fault.is_none() || fault == Some(JobFault::Memory));
-    Ok(())
+    filled_or_refused(&rt, rt.alloc(), 1)
 }
