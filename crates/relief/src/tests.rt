@@ -27,6 +27,10 @@ const FILLED: &[u8] =
 const PIT: &[u8] =
     b"ncols 4\nnrows 4\nxllcorner 0\nyllcorner 0\ncellsize 1\n9 9 9 9\n9 1 9 9\n9 9 2 9\n9 9 9 3\n";
 
+/// Two hollows in two tiles of side 3, which spill over the low place in the second.
+const VALLEY: &[u8] =
+    b"ncols 6\nnrows 3\nxllcorner 0\nyllcorner 0\ncellsize 1\n9 9 9 9 9 9\n9 1 5 4 1 6\n9 9 9 9 9 9\n";
+
 const PIT_HEADER: &str =
     "ncols         4\nnrows         4\nxllcorner     0\nyllcorner     0\ncellsize      1\nNODATA_value  -9999\n";
 
@@ -189,19 +193,21 @@ fn a_reader_without_end(rt: HostRuntime) -> Result<(), Fail> {
     Ok(())
 }
 
-/// A map of the pit in tiles of side 2 by two workers, and the gate at which they met.
+/// A map in tiles of this side by two workers, and the gate at which they met.
 fn met<H: Threads + Wait + Sync>(
     rt: &H,
     alloc: Global,
+    text: &[u8],
     map: Map,
+    side: u32,
 ) -> Result<(Vec<u8>, Meeting), Fail> {
-    let options = Options::new(map, 2, 2, 0).ok_or("options")?;
+    let options = Options::new(map, side, 2, 0).ok_or("options")?;
     let gate = Meeting {
         entered: [AtomicU64::new(0), AtomicU64::new(0)],
         missed: AtomicU64::new(0),
     };
     let mut out = Vec::new(alloc);
-    let mut reader = Counted::new(PIT);
+    let mut reader = Counted::new(text);
     let mut writer = Counted::new(&mut out);
     let result = run_gated(rt, alloc, &options, &mut reader, &mut writer, &gate);
     drop(writer);
@@ -227,17 +233,13 @@ fn tiles_meet(rt: HostRuntime) -> Result<(), Fail> {
         radius: 2,
     };
     for (map, least_stages, rows) in [
-        (Map::Fill, 3, "9 9 9 9\n9 3 9 9\n9 9 3 9\n9 9 9 3\n"),
-        (Map::Flow, 8, "2 4 8 0\n1 2 4 8\n128 1 2 4\n0 128 1 0\n"),
-        (
-            Map::Accumulate,
-            10,
-            "0 0 0 0\n0 5 0 0\n0 0 10 0\n0 0 0 13\n",
-        ),
-        (Map::Basins, 11, "3 3 3 1\n3 3 3 3\n3 3 3 3\n2 3 3 3\n"),
+        (Map::Fill, 2, "9 9 9 9\n9 3 9 9\n9 9 3 9\n9 9 9 3\n"),
+        (Map::Flow, 7, "2 4 8 0\n1 2 4 8\n128 1 2 4\n0 128 1 0\n"),
+        (Map::Accumulate, 9, "0 0 0 0\n0 5 0 0\n0 0 10 0\n0 0 0 13\n"),
+        (Map::Basins, 10, "3 3 3 1\n3 3 3 3\n3 3 3 3\n2 3 3 3\n"),
         (view, 1, "2 2 2 0\n2 2 0 1\n2 0 1 1\n0 1 1 1\n"),
     ] {
-        let (out, gate) = met(&rt, rt.alloc(), map)?;
+        let (out, gate) = met(&rt, rt.alloc(), PIT, map, 2)?;
         let wanted = format!(in rt.alloc(); "{PIT_HEADER}{rows}")?;
         assert_eq!(rt; out.as_slice(), wanted.as_bytes());
         let [first, second] = gate.entered;
@@ -246,6 +248,18 @@ fn tiles_meet(rt: HostRuntime) -> Result<(), Fail> {
         assert_eq!(rt; second.load(Ordering::SeqCst), stages, "{rows}");
         assert_eq!(rt; gate.missed.load(Ordering::SeqCst), 0, "{rows}");
     }
+    Ok(())
+}
+
+// Tiles with inner cells have one stage more: what each adds to the spill graph.
+#[test]
+fn tiles_with_inner_cells_meet(rt: HostRuntime) -> Result<(), Fail> {
+    let (out, gate) = met(&rt, rt.alloc(), VALLEY, Map::Fill, 3)?;
+    assert!(rt; out.ends_with(b"-9999\n9 9 9 9 9 9\n9 6 6 6 6 6\n9 9 9 9 9 9\n"));
+    let [first, second] = gate.entered;
+    assert_eq!(rt; first.load(Ordering::SeqCst), 3);
+    assert_eq!(rt; second.load(Ordering::SeqCst), 3);
+    assert_eq!(rt; gate.missed.load(Ordering::SeqCst), 0);
     Ok(())
 }
 
