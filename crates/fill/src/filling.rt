@@ -232,7 +232,7 @@ fn raise_tiles<R: Threads + Wait + Sync, G: Gate + Sync>(
 }
 
 /// The grid with each height replaced by its filled height. Each tile is flooded in a job of its own, adds
-/// to the spill graph in a second one, and is raised in a third.
+/// to the spill graph in a second one, where tiles have inner cells, and is raised in a last one.
 pub fn filled<R: Threads + Wait + Sync, G: Gate + Sync>(
     rt: &R,
     alloc: Global,
