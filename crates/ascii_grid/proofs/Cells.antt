@@ -41,14 +41,6 @@ cell_by_value d nodata w z e =
           rw (cell, value, other) refl
     ]
 
--- the cell of a word without one
-pub cell_without_value : (d : ℕ) (nodata w : Word) → scaled_value d w ≡ None → cond (is_cell d nodata w) (Some (cell_of d nodata w)) None ≡ cond (bytes_eq w nodata) (Some None) None
-cell_without_value d nodata w e =
-    elim (cases_Bool (bytes_eq w nodata)) [
-      | inl same ↦ rw (same) refl
-      | inr other ↦ rw (other, e) refl
-    ]
-
 -- a height stands for itself
 pub cell_of_height : (d : ℕ) (nodata w : Word) (z : ℤ) → scaled_value d w ≡ Some z → same_value (Some z) (scaled_value d nodata) ≡ false → is_height z ≡ true → Some (Some z) ≡ cond (is_cell d nodata w) (Some (cell_of d nodata w)) None
 cell_of_height d nodata w z e other high = sym (cell_by_value d nodata w z e ∙ rw (other, high) refl)

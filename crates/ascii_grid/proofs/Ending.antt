@@ -72,12 +72,6 @@ ended_fault p text f h some long k =
           subst (λ ws. IsWordFault p.judge.scale ws f) (ap (λ w. h.ended ++ w ∷ []) same ∙ sym (words-last p text h some)) k
     ]
 
-pub ended_none : (p : Progress) (text : List ℕ) (h : HasWords p text) → p.word ≡ [] → HasJudged p.judge (words text)
-ended_none p text h e =
-    let size = ap length (sym h.front ∙ e) in
-    let none : h.last ≡ [] = nil_from_length h.last (omega (arith, length-take 65 h.last)) in
-    subst (HasJudged p.judge) (sym (words-parted text h.ended h.last h.parted ∙ ap (λ w. h.ended ++ filter is_word (w ∷ [])) none ∙ append-nil h.ended)) h.judged
-
 -- ---- one more byte
 
 pub words_after_byte : (p p' : Progress) (text : List ℕ) (b : ℕ) → HasWords p text → is_separator b ≡ false → p'.judge ≡ p.judge → p'.word ≡ take 65 (p.word ++ b ∷ []) → HasWords p' (text ++ b ∷ [])
@@ -164,9 +158,6 @@ pub take-add : (a b : ℕ) (xs : List ℕ) → take (a + b) xs ≡ take a xs ++ 
 take-add zero b xs = ap (λ n. take n xs) (let e : 0 + b ≡ b = omega arith in e)
 take-add (suc a) b [] = ap (λ n. take n []) (let e : suc a + b ≡ suc (a + b) = omega arith in e) ∙ sym (take_all b (drop (suc a) []) (omega arith))
 take-add (suc a) b (x ∷ xs) = ap (λ n. take n (x ∷ xs)) (let e : suc a + b ≡ suc (a + b) = omega arith in e) ∙ ap (λ z. x ∷ z) (take-add a b xs)
-
-pub nothing_taken : (p : Progress) (text rest : List ℕ) → HasWords p text → HasWords p (text ++ take 0 rest)
-nothing_taken p text rest h = subst (HasWords p) (sym (append-nil text)) h
 
 same_front : (text bytes rest : List ℕ) (at n : ℕ) → rest ≡ drop at bytes → (text ++ take at bytes) ++ take n rest ≡ text ++ take (at + n) bytes
 same_front text bytes rest at n e =

@@ -3,22 +3,24 @@ use Rattle.std.proofs.Common.{◌≡◌, ℕ, ◌+◌, ◌-◌, ◌<◌, ◌≤�
 use Rattle.std.specs.Prelude.{MatchOption, IfOk, IfErr}
 use Rattle.std.specs.Option.{option_or}
 use Rattle.std.proofs.lemmas.Bool.{cases_lt, le-leb, lt-leb}
+use Rattle.std.proofs.lemmas.Option.{MatchOption-at_none, MatchOption-at_some}
 use Rattle.std.proofs.lemmas.Result.{MatchResult-weaker}
 use Rattle.std.proofs.lemmas.List.{append-nil, append_assoc, length-append, length-take, length-drop, take_all, take_at, take-append-le, take-append-drop}
 use Rattle.std.proofs.Math.Seq.{take-append-add}
 use Rattle.ascii_grid.specs.Words.{Word, words, ended_words}
 use Rattle.ascii_grid.specs.Raster.{Raster}
-use Rattle.ascii_grid.specs.Header.{height_words, nodata_for}
-use Rattle.ascii_grid.specs.GridText.{most_bytes, words_fault, heights_fault, end_fault, fault_so_far, text_fault, judged_words, cells_wanted, grid_of, AsksForCells, IsGridText, IsRefusal, IsRefusalSoFar}
-use Rattle.ascii_grid.specs.Reading.{flat, HasJudged, HasWords, IsWordFault, IsEndFault, Reading, IsReading, HasTaken}
+use Rattle.ascii_grid.specs.GridText.{most_bytes, words_fault, end_fault, fault_so_far, text_fault, judged_words, grid_of, AsksForCells, AsksAtHeight, IsGridText, IsRefusal, IsRefusalSoFar}
+use Rattle.ascii_grid.specs.Reader.{Reader, IsReading, HasTaken}
+use Rattle.ascii_grid.specs.Reading.{flat, HasJudged, HasWords, IsWordFault, IsEndFault}
 use Rattle.ascii_grid.specs.declared.fault.GridFault.{GridFault}
-use Rattle.ascii_grid.specs.declared.fault.GridFault.TheVariants.{UnknownKey, RepeatedKey, MissingKey, BadSize, BadPlace, BadNodata, BadHeight, TooFew, TooMany, NoValue, TooLong, Memory}
+use Rattle.ascii_grid.specs.declared.fault.GridFault.TheVariants.{TooLong}
 use Rattle.ascii_grid.specs.declared.judge.Judge.{Judge}
 use Rattle.ascii_grid.specs.declared.judge.Stage.{Stage}
 use Rattle.ascii_grid.specs.declared.judge.Stage.TheVariants.{AtKey, AtValue, AtHeights}
 use Rattle.ascii_grid.specs.declared.progress.Progress.{Progress}
 use Rattle.ascii_grid.proofs.Judging.{words_fault-flat, words_fault-key, words_fault-heights}
-use Rattle.ascii_grid.proofs.JudgedWords.{at_key, at_value, at_heights, first_none}
+use Rattle.ascii_grid.proofs.JudgedWords.{at_key, at_value, at_heights}
+use Rattle.ascii_grid.proofs.Told.{told_further}
 use Rattle.ascii_grid.proofs.Stays.{ended-more, words-more, words_fault-more, asks-more}
 
 -- ---- texts of few and of many bytes
@@ -35,7 +37,7 @@ few_fault d text h = rw (le-leb (length text) most_bytes h) refl
 few_so_far : (d : ℕ) (text : List ℕ) → length text ≤ most_bytes → fault_so_far d text ≡ words_fault d (ended_words text)
 few_so_far d text h = rw (le-leb (length text) most_bytes h) refl
 
-many_so_far : (d : ℕ) (text : List ℕ) → most_bytes < length text → fault_so_far d text ≡ option_or (words_fault d (ended_words (take most_bytes text))) (Some TooLong)
+pub many_so_far : (d : ℕ) (text : List ℕ) → most_bytes < length text → fault_so_far d text ≡ option_or (words_fault d (ended_words (take most_bytes text))) (Some TooLong)
 many_so_far d text h = rw (lt-leb (length text) most_bytes h) refl
 
 many_fault : (d : ℕ) (text : List ℕ) → most_bytes < length text → text_fault d text ≡ fault_so_far d text
@@ -53,18 +55,32 @@ front_of front more =
           )
     ]
 
--- the words judged of a longer text begin with those that ended
+-- the words that ended in time are the first of a longer text's
+in_time-more : (front more : List ℕ) → (others : List Word) × (ended_words (take most_bytes (front ++ more)) ≡ ended_words (take most_bytes front) ++ others)
+in_time-more front more =
+    let cut = front_of front more in
+    let next = ended-more (take most_bytes front) cut.0 in
+    (next.0, ap ended_words cut.1 ∙ next.1)
+
+-- and of those that are judged of it
 judged-more : (front more : List ℕ) → (others : List Word) × (judged_words (front ++ more) ≡ ended_words (take most_bytes front) ++ others)
 judged-more front more =
     elim (cases_lt most_bytes (length (front ++ more))) [
       | inl far ↦
-          let cut = front_of front more in
-          let next = ended-more (take most_bytes front) cut.0 in
-          (next.0, many_words (front ++ more) far ∙ ap ended_words cut.1 ∙ next.1)
+          let next = in_time-more front more in
+          (next.0, many_words (front ++ more) far ∙ next.1)
       | inr near ↦
           let short : length front ≤ most_bytes = omega (arith, length-append front more) in
           let next = words-more front more in
           (next.0, few_words (front ++ more) near ∙ next.1 ∙ ap (λ z. ended_words z ++ next.0) (sym (take_all most_bytes front short)))
+    ]
+
+-- a fault of the words that ended in time has shown
+in_time_shown : (d : ℕ) (text : List ℕ) (f : GridFault) → words_fault d (ended_words (take most_bytes text)) ≡ Some f → fault_so_far d text ≡ Some f
+in_time_shown d text f h =
+    elim (cases_lt most_bytes (length text)) [
+      | inl far ↦ many_so_far d text far ∙ ap (λ o. option_or o (Some TooLong)) h
+      | inr near ↦ few_so_far d text near ∙ ap (λ z. words_fault d (ended_words z)) (sym (take_all most_bytes text near)) ∙ h
     ]
 
 -- a fault of the words judged is the text's
@@ -75,53 +91,58 @@ word_told d text f h =
       | inr near ↦ few_fault d text near ∙ ap (λ o. option_or o (end_fault (words text))) (ap (words_fault d) (sym (few_words text near)) ∙ h)
     ]
 
-pub fault_stays : (d : ℕ) (front more : List ℕ) (f : GridFault) → fault_so_far d front ≡ Some f → text_fault d (front ++ more) ≡ Some f
-fault_stays d front more f h =
+-- a fault that has shown is one of the words in time, or the text is too long
+shown_in_time : (d : ℕ) (text : List ℕ) (f : GridFault) → length text ≤ most_bytes → fault_so_far d text ≡ Some f → words_fault d (ended_words (take most_bytes text)) ≡ Some f
+shown_in_time d text f near h =
+    ap (λ z. words_fault d (ended_words z)) (take_all most_bytes text near) ∙ sym (few_so_far d text near) ∙ h
+
+-- a fault that has shown goes on to show
+so_far_stays : (d : ℕ) (front more : List ℕ) (f : GridFault) → fault_so_far d front ≡ Some f → fault_so_far d (front ++ more) ≡ Some f
+so_far_stays d front more f h =
     elim (cases_lt most_bytes (length front)) [
       | inl far ↦
           let longer : most_bytes < length (front ++ more) = omega (arith, length-append front more) in
-          let same : take most_bytes (front ++ more) ≡ take most_bytes front = take-append-le most_bytes front more (omega arith) in
-          many_fault d (front ++ more) longer ∙ many_so_far d (front ++ more) longer
-          ∙ ap (λ z. option_or (words_fault d (ended_words z)) (Some TooLong)) same
+          many_so_far d (front ++ more) longer
+          ∙ ap (λ z. option_or (words_fault d (ended_words z)) (Some TooLong)) (take-append-le most_bytes front more (omega arith))
           ∙ sym (many_so_far d front far) ∙ h
       | inr near ↦
+          let next = in_time-more front more in
+          in_time_shown d (front ++ more) f (ap (words_fault d) next.1 ∙ words_fault-more d (ended_words (take most_bytes front)) next.0 f (shown_in_time d front f near h))
+    ]
+
+pub fault_stays : (d : ℕ) (front more : List ℕ) (f : GridFault) → fault_so_far d front ≡ Some f → text_fault d (front ++ more) ≡ Some f
+fault_stays d front more f h =
+    elim (cases_lt most_bytes (length (front ++ more))) [
+      | inl far ↦ many_fault d (front ++ more) far ∙ so_far_stays d front more f h
+      | inr near ↦
+          let short : length front ≤ most_bytes = omega (arith, length-append front more) in
           let next = judged-more front more in
-          let told : words_fault d (ended_words (take most_bytes front)) ≡ Some f = ap (λ z. words_fault d (ended_words z)) (take_all most_bytes front near) ∙ sym (few_so_far d front near) ∙ h in
-          word_told d (front ++ more) f (ap (words_fault d) next.1 ∙ words_fault-more d (ended_words (take most_bytes front)) next.0 f told)
+          word_told d (front ++ more) f (ap (words_fault d) next.1 ∙ words_fault-more d (ended_words (take most_bytes front)) next.0 f (shown_in_time d front f short h))
     ]
 
 -- a refusal of a front is one of the text
 pub stays : (d : ℕ) (front more : List ℕ) (f : GridFault) → IsRefusalSoFar d front f → IsRefusal d (front ++ more) f
-stays d front more UnknownKey h = fault_stays d front more UnknownKey h
-stays d front more (RepeatedKey slot) h = fault_stays d front more (RepeatedKey slot) h
-stays d front more (MissingKey slot) h = fault_stays d front more (MissingKey slot) h
-stays d front more (BadSize slot) h = fault_stays d front more (BadSize slot) h
-stays d front more (BadPlace slot) h = fault_stays d front more (BadPlace slot) h
-stays d front more BadNodata h = fault_stays d front more BadNodata h
-stays d front more (BadHeight place) h = fault_stays d front more (BadHeight place) h
-stays d front more (TooFew n) h = fault_stays d front more (TooFew n) h
-stays d front more TooMany h = fault_stays d front more TooMany h
-stays d front more (NoValue slot) h = fault_stays d front more (NoValue slot) h
-stays d front more TooLong h = fault_stays d front more TooLong h
-stays d front more Memory h =
+stays d front more f h =
     let next = judged-more front more in
-    subst AsksForCells (sym next.1) (asks-more (ended_words (take most_bytes front)) next.0 h.1 h.0)
+    told_further _ _ (fault_so_far d front) (text_fault d (front ++ more)) f
+    (λ asks. subst AsksForCells (sym next.1) (asks-more (ended_words (take most_bytes front)) next.0 asks).0)
+    (fault_stays d front more) h
+
+-- and of the text so far
+pub refusal_stays : (d : ℕ) (front more : List ℕ) (f : GridFault) → IsRefusalSoFar d front f → IsRefusalSoFar d (front ++ more) f
+refusal_stays d front more f h =
+    let next = in_time-more front more in
+    told_further _ _ (fault_so_far d front) (fault_so_far d (front ++ more)) f
+    (λ asks. subst AsksAtHeight (sym next.1) (asks-more (ended_words (take most_bytes front)) next.0 asks))
+    (so_far_stays d front more) h
 
 -- ---- a fault within a piece
 
-pub refused : (d : ℕ) (front : List ℕ) (f : GridFault) → length front ≤ most_bytes → IsWordFault d (ended_words front) f → IsRefusalSoFar d front f
-refused d front UnknownKey n h = few_so_far d front n ∙ h
-refused d front (RepeatedKey slot) n h = few_so_far d front n ∙ h
-refused d front (MissingKey slot) n h = few_so_far d front n ∙ h
-refused d front (BadSize slot) n h = few_so_far d front n ∙ h
-refused d front (BadPlace slot) n h = few_so_far d front n ∙ h
-refused d front BadNodata n h = few_so_far d front n ∙ h
-refused d front (BadHeight place) n h = few_so_far d front n ∙ h
-refused d front (TooFew k) n h = few_so_far d front n ∙ h
-refused d front TooMany n h = few_so_far d front n ∙ h
-refused d front (NoValue slot) n h = few_so_far d front n ∙ h
-refused d front TooLong n h = few_so_far d front n ∙ h
-refused d front Memory n h = subst (λ z. AsksForCells (ended_words z) × (0 < length (height_words (ended_words z)))) (sym (take_all most_bytes front n)) h
+refused : (d : ℕ) (front : List ℕ) (f : GridFault) → length front ≤ most_bytes → IsWordFault d (ended_words front) f → IsRefusalSoFar d front f
+refused d front f short h =
+    told_further _ _ (words_fault d (ended_words front)) (fault_so_far d front) f
+    (λ asks. subst (λ z. AsksAtHeight (ended_words z)) (sym (take_all most_bytes front short)) asks)
+    (λ g e. few_so_far d front short ∙ e) h
 
 -- words that were judged have no fault
 pub judged_none : (j : Judge) (ws : List Word) → HasJudged j ws → words_fault j.scale ws ≡ None
@@ -136,15 +157,12 @@ judged_none j ws h = by_stage j.stage refl
         ap (words_fault j.scale) there.1 ∙ words_fault-key j.scale h.pairs there.0 h.header.keys h.header.faultless there.2.letter ∙ there.2.faultless
     by_stage AtHeights e =
         let there = at_heights j ws h e in
-        let first = first_none h.pairs j.scale j.nodata j.wanted h.rest there.1.whole there.1.faultless in
-        let none : heights_fault j.scale (nodata_for (flat h.pairs)) (cells_wanted (flat h.pairs)) 0 h.rest ≡ None = ap (λ z. heights_fault j.scale z (cells_wanted (flat h.pairs)) 0 h.rest) (sym there.1.nodata) ∙ ap (λ n. heights_fault j.scale j.nodata n 0 h.rest) (sym there.1.wanted) ∙ there.1.faultless in
         ap (words_fault j.scale) h.words
         ∙ words_fault-heights j.scale h.pairs h.rest h.header.keys h.header.faultless there.0
-        ∙ ap (λ o. option_or o (heights_fault j.scale (nodata_for (flat h.pairs)) (cells_wanted (flat h.pairs)) 0 h.rest)) first
-        ∙ none
+        ∙ there.1.faultless
 
 -- a byte too many
-pub too_long : (p : Progress) (text more : List ℕ) → HasWords p text → length text ≡ most_bytes → 0 < length more → fault_so_far p.judge.scale (text ++ more) ≡ Some TooLong
+too_long : (p : Progress) (text more : List ℕ) → HasWords p text → length text ≡ most_bytes → 0 < length more → fault_so_far p.judge.scale (text ++ more) ≡ Some TooLong
 too_long p text more h full some =
     let longer : most_bytes < length (text ++ more) = omega (arith, length-append text more) in
     let none : words_fault p.judge.scale (ended_words (take most_bytes (text ++ more))) ≡ None = ap (λ z. words_fault p.judge.scale (ended_words z)) (take_at text more most_bytes full) ∙ ap (words_fault p.judge.scale) h.parted.ended ∙ judged_none p.judge h.ended h.judged in
@@ -153,35 +171,16 @@ too_long p text more h full some =
 -- ---- the end
 
 pub end_refused : (d : ℕ) (text : List ℕ) (f : GridFault) → length text ≤ most_bytes → IsWordFault d (words text) f → IsRefusal d text f
-end_refused d text UnknownKey n h = word_told d text UnknownKey (ap (words_fault d) (few_words text n) ∙ h)
-end_refused d text (RepeatedKey slot) n h = word_told d text (RepeatedKey slot) (ap (words_fault d) (few_words text n) ∙ h)
-end_refused d text (MissingKey slot) n h = word_told d text (MissingKey slot) (ap (words_fault d) (few_words text n) ∙ h)
-end_refused d text (BadSize slot) n h = word_told d text (BadSize slot) (ap (words_fault d) (few_words text n) ∙ h)
-end_refused d text (BadPlace slot) n h = word_told d text (BadPlace slot) (ap (words_fault d) (few_words text n) ∙ h)
-end_refused d text BadNodata n h = word_told d text BadNodata (ap (words_fault d) (few_words text n) ∙ h)
-end_refused d text (BadHeight place) n h = word_told d text (BadHeight place) (ap (words_fault d) (few_words text n) ∙ h)
-end_refused d text (TooFew k) n h = word_told d text (TooFew k) (ap (words_fault d) (few_words text n) ∙ h)
-end_refused d text TooMany n h = word_told d text TooMany (ap (words_fault d) (few_words text n) ∙ h)
-end_refused d text (NoValue slot) n h = word_told d text (NoValue slot) (ap (words_fault d) (few_words text n) ∙ h)
-end_refused d text TooLong n h = word_told d text TooLong (ap (words_fault d) (few_words text n) ∙ h)
-end_refused d text Memory n h = subst AsksForCells (sym (few_words text n)) h.0
-
-told_at_end : (d : ℕ) (text : List ℕ) (f : GridFault) → length text ≤ most_bytes → words_fault d (words text) ≡ None → end_fault (words text) ≡ Some f → text_fault d text ≡ Some f
-told_at_end d text f n none h = few_fault d text n ∙ ap (λ o. option_or o (end_fault (words text))) none ∙ h
+end_refused d text f short h =
+    told_further _ _ (words_fault d (words text)) (text_fault d text) f
+    (λ asks. subst AsksForCells (sym (few_words text short)) asks.0)
+    (λ g e. word_told d text g (ap (words_fault d) (few_words text short) ∙ e)) h
 
 pub end_told : (d : ℕ) (text : List ℕ) (f : GridFault) → length text ≤ most_bytes → words_fault d (words text) ≡ None → IsEndFault (words text) f → IsRefusal d text f
-end_told d text UnknownKey n none h = told_at_end d text UnknownKey n none h
-end_told d text (RepeatedKey slot) n none h = told_at_end d text (RepeatedKey slot) n none h
-end_told d text (MissingKey slot) n none h = told_at_end d text (MissingKey slot) n none h
-end_told d text (BadSize slot) n none h = told_at_end d text (BadSize slot) n none h
-end_told d text (BadPlace slot) n none h = told_at_end d text (BadPlace slot) n none h
-end_told d text BadNodata n none h = told_at_end d text BadNodata n none h
-end_told d text (BadHeight place) n none h = told_at_end d text (BadHeight place) n none h
-end_told d text (TooFew k) n none h = told_at_end d text (TooFew k) n none h
-end_told d text TooMany n none h = told_at_end d text TooMany n none h
-end_told d text (NoValue slot) n none h = told_at_end d text (NoValue slot) n none h
-end_told d text TooLong n none h = told_at_end d text TooLong n none h
-end_told d text Memory n none h = subst AsksForCells (sym (few_words text n)) h
+end_told d text f short none h =
+    told_further _ _ (end_fault (words text)) (text_fault d text) f
+    (λ asks. subst AsksForCells (sym (few_words text short)) asks)
+    (λ g e. few_fault d text short ∙ ap (λ o. option_or o (end_fault (words text))) none ∙ e) h
 
 pub spelled : (d : ℕ) (text : List ℕ) (g : Raster) → length text ≤ most_bytes → words_fault d (words text) ≡ None → end_fault (words text) ≡ None → g ≡ grid_of d (words text) → IsGridText d text g
 spelled d text g n none end same = record {
@@ -191,42 +190,37 @@ spelled d text g n none end same = record {
 
 -- ---- what a reader has taken
 
-pub reading : (r : Reading) (text : List ℕ) → r.fault ≡ None → HasTaken r text → IsReading r text
-reading r text e h = subst (λ o. MatchOption o (IsReading r text) (λ f. (front : List ℕ) × (more : List ℕ) × (text ≡ front ++ more) × IsRefusalSoFar r.scale front f)) e h
+pub reading : (r : Reader) (text : List ℕ) → r.fault ≡ None → HasTaken r text → IsReading r text
+reading r text e h = MatchOption-at_none (IsReading r text) (IsRefusalSoFar r.scale text) e h
 
-pub answered : (r : Reading) (text : List ℕ) (f : GridFault) → r.fault ≡ Some f → HasTaken r text → (front : List ℕ) × (more : List ℕ) × (text ≡ front ++ more) × IsRefusalSoFar r.scale front f
-answered r text f e h = subst (λ o. MatchOption o (IsReading r text) (λ g. (front : List ℕ) × (more : List ℕ) × (text ≡ front ++ more) × IsRefusalSoFar r.scale front g)) e h
-
-pub answered_refusal : (r : Reading) (text : List ℕ) (f : GridFault) → r.fault ≡ Some f → HasTaken r text → IsRefusal r.scale text f
-answered_refusal r text f e h =
-    let k = answered r text f e h in
-    subst (λ t. IsRefusal r.scale t f) (sym k.2) (stays r.scale k.0 k.1 f k.3)
+pub answered : (r : Reader) (text : List ℕ) (f : GridFault) → r.fault ≡ Some f → HasTaken r text → IsRefusalSoFar r.scale text f
+answered r text f e h = MatchOption-at_some (IsReading r text) (IsRefusalSoFar r.scale text) f e h
 
 -- after a fault, more of the text changes nothing
-pub answered_more : (r : Reading) (text more : List ℕ) (f : GridFault) → r.fault ≡ Some f → HasTaken r text → HasTaken r (text ++ more)
+pub answered_more : (r : Reader) (text more : List ℕ) (f : GridFault) → r.fault ≡ Some f → HasTaken r text → HasTaken r (text ++ more)
 answered_more r text more f e h =
-    let k = answered r text f e h in
-    subst (λ o. MatchOption o (IsReading r (text ++ more)) (λ g. (front : List ℕ) × (rest : List ℕ) × (text ++ more ≡ front ++ rest) × IsRefusalSoFar r.scale front g)) (sym e)
-    (k.0, k.1 ++ more, ap (λ t. t ++ more) k.2 ∙ append_assoc k.0 k.1 more, k.3)
+    subst (λ o. MatchOption o (IsReading r (text ++ more)) (IsRefusalSoFar r.scale (text ++ more))) (sym e)
+    (refusal_stays r.scale text more f (answered r text f e h))
+
+pub whole_refusal : (d : ℕ) (text : List ℕ) (f : GridFault) → IsRefusalSoFar d text f → IsRefusal d text f
+whole_refusal d text f h = subst (λ t. IsRefusal d t f) (append-nil text) (stays d text [] f h)
 
 -- ---- a piece
 
 -- a fault within the piece
-pub fed_fault : (r : Reading) (text piece : List ℕ) (within : ℕ) (f : GridFault) → within ≡ min (length piece) (most_bytes - r.count) → r.fault ≡ None → HasTaken r text → ((t : List ℕ) → HasWords r.words t → (n : ℕ) × (n ≤ length (take within piece)) × IsWordFault r.words.judge.scale (ended_words (t ++ take n (take within piece))) f) → (front : List ℕ) × (more : List ℕ) × (text ++ piece ≡ front ++ more) × IsRefusalSoFar r.words.judge.scale front f
+pub fed_fault : (r : Reader) (text piece : List ℕ) (within : ℕ) (f : GridFault) → within ≡ min (length piece) (most_bytes - r.count) → r.fault ≡ None → HasTaken r text → ((t : List ℕ) → HasWords r.words t → (n : ℕ) × (n ≤ length (take within piece)) × IsWordFault r.words.judge.scale (ended_words (t ++ take n (take within piece))) f) → IsRefusalSoFar r.words.judge.scale (text ++ piece) f
 fed_fault r text piece within f cut none h fault =
     let k = reading r text none h in
     let part = take within piece in
     let at = fault text k.words_of in
     let size : length (text ++ take at.0 part) ≤ most_bytes = omega (arith, cut, k.size, k.short, at.1, length-append text (take at.0 part), length-take at.0 part, length-take within piece) in
-    let whole : piece ≡ take at.0 part ++ (drop at.0 part ++ drop within piece) = sym (take-append-drop within piece) ∙ ap (λ z. z ++ drop within piece) (sym (take-append-drop at.0 part)) ∙ append_assoc (take at.0 part) (drop at.0 part) (drop within piece) in (
-      text ++ take at.0 part,
-      drop at.0 part ++ drop within piece,
-      ap (λ z. text ++ z) whole ∙ sym (append_assoc text (take at.0 part) (drop at.0 part ++ drop within piece)),
-      refused r.words.judge.scale (text ++ take at.0 part) f size at.2,
-    )
+    let whole : piece ≡ take at.0 part ++ (drop at.0 part ++ drop within piece) = sym (take-append-drop within piece) ∙ ap (λ z. z ++ drop within piece) (sym (take-append-drop at.0 part)) ∙ append_assoc (take at.0 part) (drop at.0 part) (drop within piece) in
+    let more = ap (λ z. text ++ z) whole ∙ sym (append_assoc text (take at.0 part) (drop at.0 part ++ drop within piece)) in
+    subst (λ t. IsRefusalSoFar r.words.judge.scale t f) (sym more)
+    (refusal_stays r.words.judge.scale (text ++ take at.0 part) (drop at.0 part ++ drop within piece) f (refused r.words.judge.scale (text ++ take at.0 part) f size at.2))
 
 -- a piece past the most bytes
-pub fed_long : (r : Reading) (p : Progress) (text piece : List ℕ) (within : ℕ) → within ≡ min (length piece) (most_bytes - r.count) → r.fault ≡ None → HasTaken r text → within < length piece → ((t : List ℕ) → HasWords r.words t → HasWords p (t ++ take within piece)) → (front : List ℕ) × (more : List ℕ) × (text ++ piece ≡ front ++ more) × (fault_so_far p.judge.scale front ≡ Some TooLong)
+pub fed_long : (r : Reader) (p : Progress) (text piece : List ℕ) (within : ℕ) → within ≡ min (length piece) (most_bytes - r.count) → r.fault ≡ None → HasTaken r text → within < length piece → ((t : List ℕ) → HasWords r.words t → HasWords p (t ++ take within piece)) → fault_so_far p.judge.scale (text ++ piece) ≡ Some TooLong
 fed_long r p text piece within cut none h over next =
     let k = reading r text none h in
     let part = take within piece in
@@ -234,20 +228,27 @@ fed_long r p text piece within cut none h over next =
     let whole : text ++ piece ≡ (text ++ part) ++ rest = ap (λ z. text ++ z) (sym (take-append-drop within piece)) ∙ sym (append_assoc text part rest) in
     let full : length (text ++ part) ≡ most_bytes = omega (arith, cut, over, k.size, k.short, length-append text part, length-take within piece) in
     let some : 0 < length rest = omega (arith, cut, over, length-drop within piece) in
-    ((text ++ part) ++ rest, [], whole ∙ sym (append-nil ((text ++ part) ++ rest)), too_long p (text ++ part) rest (next text k.words_of) full some)
+    ap (fault_so_far p.judge.scale) whole ∙ too_long p (text ++ part) rest (next text k.words_of) full some
 
 -- a piece that has no fault
-pub fed_whole : (r r' : Reading) (text piece : List ℕ) (within : ℕ) → within ≡ min (length piece) (most_bytes - r.count) → r.fault ≡ None → HasTaken r text → length piece ≤ within → ((t : List ℕ) → HasWords r.words t → HasWords r'.words (t ++ take within piece)) → r'.words.judge.scale ≡ r'.scale → r'.count ≡ r.count + within → r'.fault ≡ None → HasTaken r' (text ++ piece)
-fed_whole r r' text piece within cut none h all next scale count none' =
+pub fed_whole : (r r' : Reader) (text piece : List ℕ) (within : ℕ) → within ≡ min (length piece) (most_bytes - r.count) → r.fault ≡ None → HasTaken r text → length piece ≤ within → ((t : List ℕ) → HasWords r.words t → HasWords r'.words (t ++ take within piece)) → r'.words.judge.scale ≡ r'.scale → r'.count ≡ r.count + within → IsReading r' (text ++ piece)
+fed_whole r r' text piece within cut none h all next scale count =
     let k = reading r text none h in
     let size : length (text ++ piece) ≡ length text + length piece = length-append text piece in
-    let fed : IsReading r' (text ++ piece) = record {
+    record {
       words_of = subst (λ z. HasWords r'.words (text ++ z)) (take_all within piece all) (next text k.words_of);
       same_scale = scale;
       size = omega (arith, cut, size, count, k.size, all);
       short = omega (arith, cut, size, k.size, k.short, all);
-    } in
-    subst (λ o. MatchOption o (IsReading r' (text ++ piece)) (λ g. (front : List ℕ) × (rest : List ℕ) × (text ++ piece ≡ front ++ rest) × IsRefusalSoFar r'.scale front g)) (sym none') fed
+    }
+
+-- what a reader keeps has no fault so far
+pub faultless : (r : Reader) (text : List ℕ) → IsReading r text → fault_so_far r.scale text ≡ None
+faultless r text h =
+    few_so_far r.scale text h.short
+    ∙ ap (words_fault r.scale) h.words_of.parted.ended
+    ∙ ap (λ d. words_fault d h.words_of.ended) (sym h.same_scale)
+    ∙ judged_none r.words.judge h.words_of.ended h.words_of.judged
 
 -- ---- the answer at the end
 

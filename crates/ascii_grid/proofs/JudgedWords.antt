@@ -1,5 +1,5 @@
 -- What a judge has kept after one more word, and the fault of a word that has one.
-use Rattle.std.proofs.Common.{◌≡◌, ℕ, ◌+◌, ◌<◌, ◌≤◌, Bool, true, false, ◌||◌, cond, List, [], ◌∷◌, ◌++◌, length, Option, None, Some, arith, refl, ap, sym, ◌∙◌, subst, inl, inr}
+use Rattle.std.proofs.Common.{◌≡◌, ℕ, ◌+◌, ◌<◌, ◌≤◌, Bool, true, false, ◌||◌, cond, List, [], ◌∷◌, ◌++◌, length, take, Option, None, Some, arith, refl, ap, sym, ◌∙◌, subst, inl, inr}
 use Rattle.std.specs.Prelude.{MatchOption}
 use Rattle.std.specs.Option.{option_or, option_map_or}
 use Rattle.std.specs.List.{list_any}
@@ -7,7 +7,7 @@ use Rattle.std.proofs.lemmas.Bool.{cases_Bool, lt-ltb, le-ltb}
 use Rattle.std.proofs.lemmas.List.{append-nil, append_assoc, map_push, length-map}
 use Rattle.ascii_grid.specs.Words.{Word}
 use Rattle.ascii_grid.specs.Header.{fills, slot_of, is_long, is_value, bad_value, begins_with_letter, header_words, height_words, key_left, nodata_for, header_fault, key_fault, value_fault, missing_fault}
-use Rattle.ascii_grid.specs.GridText.{AsksForCells, is_cell, cell_of, cells_wanted, words_fault, whole_header_fault, heights_fault, height_fault}
+use Rattle.ascii_grid.specs.GridText.{AsksForCells, is_cell, cell_of, cells_wanted, words_fault, heights_fault, height_fault, AsksAtHeight}
 use Rattle.ascii_grid.specs.Slots.{is_given, with_value}
 use Rattle.ascii_grid.specs.Reading.{flat, is_centre, slots_of, keys_before, IsHeaderOf, AwaitsValue, HasBegun, AreHeights, IsAt, HasJudged}
 use Rattle.ascii_grid.specs.declared.fault.Key.{Key}
@@ -122,7 +122,7 @@ fault-value j d ws v slot centre h e short bad =
 -- ---- heights
 
 -- the list of cells is asked for once the header is whole
-pub asks : (h : Header) (ps : Pairs) (hs : List Word) → IsHeaderOf h ps → HasBegun hs → missing_fault (flat ps) ≡ None → whole_header_fault (flat ps) hs ≡ None → AsksForCells (flat ps ++ hs)
+pub asks : (h : Header) (ps : Pairs) (hs : List Word) → IsHeaderOf h ps → HasBegun hs → missing_fault (flat ps) ≡ None → list_any is_long (take 1 hs) ≡ false → AsksForCells (flat ps ++ hs)
 asks h ps hs k begun whole first =
     let header : header_words (flat ps ++ hs) ≡ flat ps = header_words-flat ps hs k.keys ∙ ap (λ z. flat ps ++ z) (header_words-begun hs begun) ∙ append-nil (flat ps) in
     let heights : height_words (flat ps ++ hs) ≡ hs = height_words-flat ps hs k.keys ∙ height_words-begun hs begun in
@@ -131,25 +131,25 @@ asks h ps hs k begun whole first =
       faultless = ap (header_fault []) header ∙ k.faultless;
       paired = ap key_left header ∙ paired;
       given = ap missing_fault header ∙ whole;
-      first = ap (λ z. whole_header_fault z (height_words (flat ps ++ hs))) header ∙ ap (whole_header_fault (flat ps)) heights ∙ first;
+      first = ap (λ z. list_any is_long (take 1 z)) heights ∙ first;
     }
 
 pub some_height : (ps : Pairs) (hs : List Word) (h : Header) → IsHeaderOf h ps → HasBegun hs → 0 < length (height_words (flat ps ++ hs))
 some_height ps [] h k begun = absurd begun
 some_height ps (x ∷ hs) h k begun = rw (height_words-flat ps (x ∷ hs) k.keys, height_words-begun (x ∷ hs) begun) (omega arith)
 
--- where the words so far have no fault, the first of them isn't long
-pub first_none : (ps : Pairs) (d : ℕ) (nodata : Word) (wanted : ℕ) (hs : List Word) → missing_fault (flat ps) ≡ None → heights_fault d nodata wanted 0 hs ≡ None → whole_header_fault (flat ps) hs ≡ None
-first_none ps d nodata wanted [] whole none = refl
-first_none ps d nodata wanted (x ∷ hs) whole none =
+-- where the heights so far have no fault, the first of them isn't long
+first_none : (d : ℕ) (header hs : List Word) → heights_fault d header 0 hs ≡ None → list_any is_long (take 1 hs) ≡ false
+first_none d header [] none = refl
+first_none d header (x ∷ hs) none =
     elim (cases_Bool (is_long x)) [
-      | inl long ↦ let clash : heights_fault d nodata wanted 0 (x ∷ hs) ≡ Some TooLong = rw long refl in absurd (cc)
-      | inr short ↦ rw short whole
+      | inl long ↦ let clash : heights_fault d header 0 (x ∷ hs) ≡ Some TooLong = rw long refl in absurd (cc)
+      | inr short ↦ rw short refl
     ]
 
-first_short : (ps : Pairs) (d : ℕ) (nodata : Word) (wanted : ℕ) (hs : List Word) (w : Word) → length w ≤ 64 → missing_fault (flat ps) ≡ None → heights_fault d nodata wanted 0 hs ≡ None → whole_header_fault (flat ps) (hs ++ w ∷ []) ≡ None
-first_short ps d nodata wanted [] w short whole none = rw (is_short w short) whole
-first_short ps d nodata wanted (x ∷ hs) w short whole none = first_none ps d nodata wanted (x ∷ hs) whole none
+first_short : (d : ℕ) (header hs : List Word) (w : Word) → length w ≤ 64 → heights_fault d header 0 hs ≡ None → list_any is_long (take 1 (hs ++ w ∷ [])) ≡ false
+first_short d header [] w short none = rw (is_short w short) refl
+first_short d header (x ∷ hs) w short none = first_none d header (x ∷ hs) none
 
 -- the words after a header, one more height among them
 pub judged-height : (j j' : Judge) (ws : List Word) (ps : Pairs) (hs : List Word) (w : Word) → IsHeaderOf j.header ps → ws ≡ flat ps ++ hs → HasBegun (hs ++ w ∷ []) → AreHeights j' ps (hs ++ w ∷ []) → j'.header ≡ j.header → j'.stage ≡ AtHeights → HasJudged j' (ws ++ w ∷ [])
@@ -162,29 +162,20 @@ judged-height j j' ws ps hs w k e begun heights same stage = record {
 }
 
 -- the fault of one more height
-pub fault-height_after : (j : Judge) (ws : List Word) (ps : Pairs) (hs : List Word) (w : Word) (f : GridFault) (h : Header) → IsHeaderOf h ps → ws ≡ flat ps ++ hs → HasBegun (hs ++ w ∷ []) → AreHeights j ps hs → whole_header_fault (flat ps) (hs ++ w ∷ []) ≡ None → height_fault j.scale j.nodata j.wanted (length hs) w ≡ Some f → words_fault j.scale (ws ++ w ∷ []) ≡ Some f
-fault-height_after j ws ps hs w f h k e begun heights first fault =
-    let more : heights_fault j.scale j.nodata j.wanted 0 (hs ++ w ∷ []) ≡ Some f = heights_fault-push j.scale j.nodata j.wanted 0 hs w ∙ ap (λ o. option_or o (height_fault j.scale j.nodata j.wanted (0 + length hs) w)) heights.faultless ∙ ap (λ n. height_fault j.scale j.nodata j.wanted n w) (omega arith) ∙ fault in
-    let same : heights_fault j.scale (nodata_for (flat ps)) (cells_wanted (flat ps)) 0 (hs ++ w ∷ []) ≡ Some f = ap (λ z. heights_fault j.scale z (cells_wanted (flat ps)) 0 (hs ++ w ∷ [])) (sym heights.nodata) ∙ ap (λ n. heights_fault j.scale j.nodata n 0 (hs ++ w ∷ [])) (sym heights.wanted) ∙ more in
+pub fault-height : (j : Judge) (ws : List Word) (ps : Pairs) (hs : List Word) (w : Word) (f : GridFault) (h : Header) → IsHeaderOf h ps → ws ≡ flat ps ++ hs → HasBegun (hs ++ w ∷ []) → AreHeights j ps hs → height_fault j.scale (flat ps) (length hs) w ≡ Some f → words_fault j.scale (ws ++ w ∷ []) ≡ Some f
+fault-height j ws ps hs w f h k e begun heights fault =
     ap (words_fault j.scale) (ap (λ z. z ++ w ∷ []) e ∙ append_assoc (flat ps) hs (w ∷ []))
     ∙ words_fault-heights j.scale ps (hs ++ w ∷ []) k.keys k.faultless begun
-    ∙ ap (λ o. option_or o (heights_fault j.scale (nodata_for (flat ps)) (cells_wanted (flat ps)) 0 (hs ++ w ∷ []))) first
-    ∙ same
-
-pub fault-height : (j : Judge) (ws : List Word) (ps : Pairs) (hs : List Word) (w : Word) (f : GridFault) (h : Header) → IsHeaderOf h ps → ws ≡ flat ps ++ hs → HasBegun (hs ++ w ∷ []) → AreHeights j ps hs → length w ≤ 64 → height_fault j.scale j.nodata j.wanted (length hs) w ≡ Some f → words_fault j.scale (ws ++ w ∷ []) ≡ Some f
-fault-height j ws ps hs w f h k e begun heights short fault =
-    fault-height_after j ws ps hs w f h k e begun heights (first_short ps j.scale j.nodata j.wanted hs w short heights.whole heights.faultless) fault
-
--- after a first height
-pub first_begun : (ps : Pairs) (d : ℕ) (nodata : Word) (wanted : ℕ) (hs : List Word) (w : Word) → HasBegun hs → missing_fault (flat ps) ≡ None → heights_fault d nodata wanted 0 hs ≡ None → whole_header_fault (flat ps) (hs ++ w ∷ []) ≡ None
-first_begun ps d nodata wanted [] w begun whole none = absurd begun
-first_begun ps d nodata wanted (x ∷ hs) w begun whole none = first_none ps d nodata wanted (x ∷ hs) whole none
+    ∙ heights_fault-push j.scale (flat ps) 0 hs w
+    ∙ ap (λ o. option_or o (height_fault j.scale (flat ps) (0 + length hs) w)) heights.faultless
+    ∙ ap (λ n. height_fault j.scale (flat ps) n w) (omega arith)
+    ∙ fault
 
 -- no memory at a height
-pub memory-height : (j : Judge) (ws : List Word) (ps : Pairs) (hs : List Word) (w : Word) (h : Header) → IsHeaderOf h ps → ws ≡ flat ps ++ hs → HasBegun (hs ++ w ∷ []) → missing_fault (flat ps) ≡ None → heights_fault j.scale j.nodata j.wanted 0 hs ≡ None → length w ≤ 64 → AsksForCells (ws ++ w ∷ []) × (0 < length (height_words (ws ++ w ∷ [])))
+pub memory-height : (j : Judge) (ws : List Word) (ps : Pairs) (hs : List Word) (w : Word) (h : Header) → IsHeaderOf h ps → ws ≡ flat ps ++ hs → HasBegun (hs ++ w ∷ []) → missing_fault (flat ps) ≡ None → heights_fault j.scale (flat ps) 0 hs ≡ None → length w ≤ 64 → AsksAtHeight (ws ++ w ∷ [])
 memory-height j ws ps hs w h k e begun whole none short =
     let words : ws ++ w ∷ [] ≡ flat ps ++ (hs ++ w ∷ []) = ap (λ z. z ++ w ∷ []) e ∙ append_assoc (flat ps) hs (w ∷ []) in
-    rw words (asks h ps (hs ++ w ∷ []) k begun whole (first_short ps j.scale j.nodata j.wanted hs w short whole none), some_height ps (hs ++ w ∷ []) h k begun)
+    rw words (asks h ps (hs ++ w ∷ []) k begun whole (first_short j.scale (flat ps) hs w short none), some_height ps (hs ++ w ∷ []) h k begun)
 
 -- the first height, after a header that isn't whole
 pub fault-first : (d : ℕ) (ws : List Word) (ps : Pairs) (w : Word) (f : GridFault) (h : Header) → IsHeaderOf h ps → ws ≡ flat ps → begins_with_letter w ≡ false → length w ≤ 64 → missing_fault (flat ps) ≡ Some f → words_fault d (ws ++ w ∷ []) ≡ Some f
@@ -195,14 +186,14 @@ fault-first d ws ps w f h k e begun short missing =
 
 -- ---- the heights that a judge keeps
 
-pub height_fault-more : (d : ℕ) (nodata : Word) (wanted place : ℕ) (w : Word) → length w ≤ 64 → wanted ≤ place → height_fault d nodata wanted place w ≡ Some TooMany
-height_fault-more d nodata wanted place w short over = rw (is_short w short, le-ltb place wanted over) refl
+pub height_fault-more : (d : ℕ) (header : List Word) (place : ℕ) (w : Word) → length w ≤ 64 → missing_fault header ≡ None → cells_wanted header ≤ place → height_fault d header place w ≡ Some TooMany
+height_fault-more d header place w short whole over = rw (is_short w short, whole, le-ltb place (cells_wanted header) over) refl
 
-pub height_fault-bad : (d : ℕ) (nodata : Word) (wanted place : ℕ) (w : Word) → length w ≤ 64 → place < wanted → is_cell d nodata w ≡ false → height_fault d nodata wanted place w ≡ Some (BadHeight place)
-height_fault-bad d nodata wanted place w short room bad = rw (is_short w short, lt-ltb place wanted room, bad) refl
+pub height_fault-bad : (d : ℕ) (header : List Word) (place : ℕ) (w : Word) → length w ≤ 64 → missing_fault header ≡ None → place < cells_wanted header → is_cell d (nodata_for header) w ≡ false → height_fault d header place w ≡ Some (BadHeight place)
+height_fault-bad d header place w short whole room bad = rw (is_short w short, whole, lt-ltb place (cells_wanted header) room, bad) refl
 
-pub height_fault-none : (d : ℕ) (nodata : Word) (wanted place : ℕ) (w : Word) → length w ≤ 64 → place < wanted → is_cell d nodata w ≡ true → height_fault d nodata wanted place w ≡ None
-height_fault-none d nodata wanted place w short room ok = rw (is_short w short, lt-ltb place wanted room, ok) refl
+pub height_fault-none : (d : ℕ) (header : List Word) (place : ℕ) (w : Word) → length w ≤ 64 → missing_fault header ≡ None → place < cells_wanted header → is_cell d (nodata_for header) w ≡ true → height_fault d header place w ≡ None
+height_fault-none d header place w short whole room ok = rw (is_short w short, whole, lt-ltb place (cells_wanted header) room, ok) refl
 
 -- how many heights there are
 pub place_of : (j : Judge) (ps : Pairs) (hs : List Word) → AreHeights j ps hs → length j.cells.items ≡ length hs
@@ -215,7 +206,7 @@ AreHeights-push j j' ps hs w h short room ok wanted nodata value scale cells = r
   wanted = wanted ∙ h.wanted;
   nodata = nodata ∙ h.nodata;
   value = value ∙ h.value ∙ rw (scale, nodata) refl;
-  faultless = rw (scale, nodata, wanted) (heights_fault-push j.scale j.nodata j.wanted 0 hs w ∙ rw (h.faultless) (height_fault-none j.scale j.nodata j.wanted (0 + length hs) w short (omega (arith, place_of j ps hs h)) ok));
+  faultless = rw scale (heights_fault-push j.scale (flat ps) 0 hs w ∙ ap (λ o. option_or o (height_fault j.scale (flat ps) (0 + length hs) w)) h.faultless ∙ height_fault-none j.scale (flat ps) (0 + length hs) w short h.whole (omega (arith, place_of j ps hs h, h.wanted, room)) (ap (λ n. is_cell j.scale n w) (sym h.nodata) ∙ ok));
   cells = cells ∙ rw (scale, nodata) (ap (λ z. z ++ cell_of j.scale j.nodata w ∷ []) h.cells ∙ sym (map_push (cell_of j.scale j.nodata) hs w));
 }
 

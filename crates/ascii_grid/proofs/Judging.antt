@@ -8,8 +8,8 @@ use Rattle.std.proofs.lemmas.List.{append-nil}
 use Rattle.std.proofs.lemmas.List.Folds.{find-append}
 use Rattle.ascii_grid.specs.Words.{Word}
 use Rattle.ascii_grid.specs.Decimal.{number_of}
-use Rattle.ascii_grid.specs.Header.{fills, slot_of, slot_number, begins_with_letter, header_words, height_words, pairs, key_left, pair_for, nodata_for, header_fault, key_fault, value_fault, missing_fault}
-use Rattle.ascii_grid.specs.GridText.{cells_wanted, words_fault, whole_header_fault, heights_fault, height_fault}
+use Rattle.ascii_grid.specs.Header.{fills, slot_of, slot_number, begins_with_letter, header_words, height_words, pairs, key_left, nodata_for, header_fault, key_fault, value_fault, missing_fault}
+use Rattle.ascii_grid.specs.GridText.{cells_wanted, words_fault, heights_fault, height_fault}
 use Rattle.ascii_grid.specs.Slots.{is_given, anchor_at, with_value, missing_of, wanted_of}
 use Rattle.ascii_grid.specs.Reading.{flat, given, is_centre, slots_of, keys_before, HasBegun}
 use Rattle.ascii_grid.specs.declared.fault.Key.{Key}
@@ -90,9 +90,6 @@ list_any-keys_before t (p ∷ ps) before = list_any-keys_before t ps (p.0 ∷ be
 
 -- ---- the slots of pairs
 
-pub given-pair_for : (slot : Key) (ps : Pairs) → pair_for slot (flat ps) ≡ given slot ps
-given-pair_for slot ps = ap (find (λ (p : Word × Word). fills slot p.0)) (pairs-flat ps)
-
 pub is_given-slots_of : (slot : Key) (ps : Pairs) → is_given (slots_of ps) slot ≡ is_some (given slot ps)
 is_given-slots_of Ncols ps = is_some-option_map _ _
 is_given-slots_of Nrows ps = is_some-option_map _ _
@@ -169,7 +166,7 @@ with_value-slots_of slot ps k v h free =
 
 -- ---- the first fault of the words after pairs
 
-pub words_fault-flat : (d : ℕ) (ps : Pairs) (rest header heights : List Word) → are_keys ps ≡ true → header_fault [] (flat ps) ≡ None → header_words rest ≡ header → height_words rest ≡ heights → words_fault d (flat ps ++ rest) ≡ option_or (header_fault (keys_before ps []) header) (option_or (whole_header_fault (flat ps ++ header) heights) (heights_fault d (nodata_for (flat ps ++ header)) (cells_wanted (flat ps ++ header)) 0 heights))
+pub words_fault-flat : (d : ℕ) (ps : Pairs) (rest header heights : List Word) → are_keys ps ≡ true → header_fault [] (flat ps) ≡ None → header_words rest ≡ header → height_words rest ≡ heights → words_fault d (flat ps ++ rest) ≡ option_or (header_fault (keys_before ps []) header) (heights_fault d (flat ps ++ header) 0 heights)
 words_fault-flat d ps rest header heights keys none h k =
     let front : header_words (flat ps ++ rest) ≡ flat ps ++ header = header_words-flat ps rest keys ∙ ap (λ z. flat ps ++ z) h in
     let back : height_words (flat ps ++ rest) ≡ heights = height_words-flat ps rest keys ∙ k in
@@ -203,15 +200,15 @@ HasBegun-push [] w h = absurd h
 HasBegun-push (x ∷ hs) w h = h
 
 -- heights
-pub words_fault-heights : (d : ℕ) (ps : Pairs) (hs : List Word) → are_keys ps ≡ true → header_fault [] (flat ps) ≡ None → HasBegun hs → words_fault d (flat ps ++ hs) ≡ option_or (whole_header_fault (flat ps) hs) (heights_fault d (nodata_for (flat ps)) (cells_wanted (flat ps)) 0 hs)
+pub words_fault-heights : (d : ℕ) (ps : Pairs) (hs : List Word) → are_keys ps ≡ true → header_fault [] (flat ps) ≡ None → HasBegun hs → words_fault d (flat ps ++ hs) ≡ heights_fault d (flat ps) 0 hs
 words_fault-heights d ps hs keys none h =
     words_fault-flat d ps hs [] hs keys none (header_words-begun hs h) (height_words-begun hs h)
-    ∙ ap (λ z. option_or (whole_header_fault z hs) (heights_fault d (nodata_for z) (cells_wanted z) 0 hs)) (append-nil (flat ps))
+    ∙ ap (λ z. heights_fault d z 0 hs) (append-nil (flat ps))
 
-pub heights_fault-push : (d : ℕ) (nodata : Word) (wanted place : ℕ) (hs : List Word) (w : Word) → heights_fault d nodata wanted place (hs ++ w ∷ []) ≡ option_or (heights_fault d nodata wanted place hs) (height_fault d nodata wanted (place + length hs) w)
-heights_fault-push d nodata wanted place [] w =
-    option_or-none (height_fault d nodata wanted place w) ∙ ap (λ n. height_fault d nodata wanted n w) (omega arith)
-heights_fault-push d nodata wanted place (x ∷ hs) w =
-    ap (option_or (height_fault d nodata wanted place x)) (heights_fault-push d nodata wanted (place + 1) hs w)
-    ∙ sym (option_or-assoc (height_fault d nodata wanted place x) (heights_fault d nodata wanted (place + 1) hs) (height_fault d nodata wanted (place + 1 + length hs) w))
-    ∙ ap (λ n. option_or (option_or (height_fault d nodata wanted place x) (heights_fault d nodata wanted (place + 1) hs)) (height_fault d nodata wanted n w)) (omega arith)
+pub heights_fault-push : (d : ℕ) (header : List Word) (place : ℕ) (hs : List Word) (w : Word) → heights_fault d header place (hs ++ w ∷ []) ≡ option_or (heights_fault d header place hs) (height_fault d header (place + length hs) w)
+heights_fault-push d header place [] w =
+    option_or-none (height_fault d header place w) ∙ ap (λ n. height_fault d header n w) (omega arith)
+heights_fault-push d header place (x ∷ hs) w =
+    ap (option_or (height_fault d header place x)) (heights_fault-push d header (place + 1) hs w)
+    ∙ sym (option_or-assoc (height_fault d header place x) (heights_fault d header (place + 1) hs) (height_fault d header (place + 1 + length hs) w))
+    ∙ ap (λ n. option_or (option_or (height_fault d header place x) (heights_fault d header (place + 1) hs)) (height_fault d header n w)) (omega arith)

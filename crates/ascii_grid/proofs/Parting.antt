@@ -56,9 +56,6 @@ slice_split-push_no p (x ∷ xs) b h =
           ∙ sym (ap (onto_last b) (slice_split-cons_no p x xs apart ∙ ap (onto_first x) some.2) ∙ onto_last-onto_first b x some.0 some.1)
     ]
 
-onto_first-append : (x : ℕ) (part : Word) (parts more : List Word) → onto_first x ((part ∷ parts) ++ more) ≡ onto_first x (part ∷ parts) ++ more
-onto_first-append x part parts more = refl
-
 slice_split-push_yes : (p : ℕ → Bool) (xs : List ℕ) (b : ℕ) → p b ≡ true → slice_split p (xs ++ b ∷ []) ≡ slice_split p xs ++ [] ∷ []
 slice_split-push_yes p [] b h = slice_split-cons_yes p b [] h
 slice_split-push_yes p (x ∷ xs) b h =

@@ -1,8 +1,7 @@
 -- What a list in row order has at a place.
-use Rattle.std.proofs.Common.{◌≡◌, ◌≢◌, ℕ, ◌*◌, ◌/◌, ◌%◌, ◌<◌, ◌≤◌, List, length, get_or, set, Option, None, Some, sym, ap, ◌∙◌, arith, ◌⊎◌, inl, inr}
+use Rattle.std.proofs.Common.{◌≡◌, ◌≢◌, ℕ, ◌*◌, ◌/◌, ◌%◌, ◌<◌, ◌≤◌, List, get_or, Option, None, Some, sym, ap, ◌∙◌, ◌⊎◌, inl, inr}
 use Rattle.std.proofs.lemmas.Bool.{cases_eq, cond-true, cond-false, lt-ltb, and_from, le-ltb, and_left, and_right, cases_lt}
 use Rattle.std.proofs.lemmas.Nat.{mul-add-lt, div-mul-add, mod-mul-add}
-use Rattle.std.proofs.lemmas.List.{get_or-set_same, get_or-set_other}
 use Rattle.ascii_grid.specs.Raster.{Terrain}
 use Rattle.ascii_grid.specs.Neighbours.{entry_at, index_of, Touches, IsDataCell}
 use Rattle.ascii_grid.specs.declared.place.Place.{Place}
@@ -50,25 +49,6 @@ index_injective cols p q a b e =
 
 pub index_below : (cols rows : ℕ) (p : Place) → p.row < rows → p.col < cols → index_of cols p < cols * rows
 index_below cols rows p a b = mul-add-lt p.row cols p.col rows a b
-
--- a written entry
-pub entry-set_same : {X : Type 0} (cols rows : ℕ) (xs : List (Option X)) (p : Place) (y : Option X) → length xs ≡ cols * rows → p.row < rows → p.col < cols → entry_at cols rows (set xs (index_of cols p) y) p ≡ y
-entry-set_same cols rows xs p y n a b =
-    entry-inside cols rows (set xs (index_of cols p) y) p a b
-    ∙ get_or-set_same xs (index_of cols p) y None (omega (arith, n, index_below cols rows p a b))
-
--- the other entries stay
-pub entry-set_other : {X : Type 0} (cols rows : ℕ) (xs : List (Option X)) (p q : Place) (y : Option X) → p.col < cols → q ≢ p → entry_at cols rows (set xs (index_of cols p) y) q ≡ entry_at cols rows xs q
-entry-set_other cols rows xs p q y b ne =
-    elim (cases_lt q.row rows) [
-      | inl r ↦ elim (cases_lt q.col cols) [
-        | inl c ↦ entry-inside cols rows (set xs (index_of cols p) y) q r c
-            ∙ get_or-set_other xs (index_of cols p) (index_of cols q) y None (λ e. ne (index_injective cols q p c b e))
-            ∙ sym (entry-inside cols rows xs q r c)
-        | inr n ↦ entry-beside cols rows (set xs (index_of cols p) y) q n ∙ sym (entry-beside cols rows xs q n)
-      ]
-      | inr n ↦ entry-below cols rows (set xs (index_of cols p) y) q n ∙ sym (entry-below cols rows xs q n)
-    ]
 
 -- the place comes before this row and column, in row order
 abbrev pub IsBefore : Place → ℕ → ℕ → Type 0

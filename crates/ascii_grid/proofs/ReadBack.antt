@@ -12,11 +12,11 @@ use Rattle.ascii_grid.specs.Words.{Word, words}
 use Rattle.ascii_grid.specs.Decimal.{number_of, are_digits, is_decimal, is_above_zero}
 use Rattle.ascii_grid.specs.Raster.{Anchor, Raster, IsLawful}
 use Rattle.ascii_grid.specs.Header.{header_words, height_words, header_fault, missing_fault, no_value_fault, nodata_for, size_for, anchor_for, word_for, is_long, is_size}
-use Rattle.ascii_grid.specs.GridText.{IsGridText, most_bytes, words_fault, end_fault, whole_header_fault, heights_fault, cells_wanted, grid_of, cell_of, fault_so_far}
+use Rattle.ascii_grid.specs.GridText.{IsGridText, most_bytes, words_fault, end_fault, heights_fault, cells_wanted, grid_of, cell_of, fault_so_far}
 use Rattle.ascii_grid.specs.Text.{line_text, anchor_text, header_text, rows_text, cell_text, height_text, heights_text}
 use Rattle.ascii_grid.specs.declared.fault.Key.TheVariants.{Ncols, Nrows, Xll, Yll, Cellsize}
 use Rattle.ascii_grid.specs.declared.fault.GridFault.{GridFault}
-use Rattle.ascii_grid.specs.declared.fault.GridFault.TheVariants.{TooFew, TooLong}
+use Rattle.ascii_grid.specs.declared.fault.GridFault.TheVariants.{TooFew}
 use Rattle.ascii_grid.proofs.ReadBackWords.{IsClean, words-word, words-rows}
 use Rattle.ascii_grid.proofs.ReadBackDecimals.{decimal_clean, digits_clean}
 use Rattle.ascii_grid.proofs.ReadBackNumbers.{decimal_value, decimal_are_digits, decimal_word, decimal_digits}
@@ -127,18 +127,11 @@ cells_are_heights d nodata (c ∷ cells) reads =
     only_heights (cell_text (height_text d) nodata c) (map (cell_text (height_text d) nodata) cells)
     (All-head (λ x. ReadsAs d nodata x (cell_text (height_text d) nodata x)) c cells reads).begins
 
-header_whole : (d : ℕ) (nodata : Word) (header : List Word) (cells : List (Option ℤ)) → missing_fault header ≡ None → All (λ c. ReadsAs d nodata c (cell_text (height_text d) nodata c)) cells → whole_header_fault header (map (cell_text (height_text d) nodata) cells) ≡ None
-header_whole d nodata header [] whole reads = refl
-header_whole d nodata header (c ∷ cells) whole reads =
-    cond-false (is_long (cell_text (height_text d) nodata c)) (Some TooLong) (missing_fault header) (All-head (λ x. ReadsAs d nodata x (cell_text (height_text d) nodata x)) c cells reads).short
-    ∙ whole
-
 -- the faults of a header and heights
 abbrev fault_with : ℕ → List Word → List Word → Option GridFault
 fault_with d header heights =
     option_or (header_fault [] header)
-    (option_or (whole_header_fault header heights)
-    (heights_fault d (nodata_for header) (cells_wanted header) 0 heights))
+    (heights_fault d header 0 heights)
 
 abbrev end_with : List Word → List Word → Option GridFault
 end_with header heights =
@@ -198,10 +191,7 @@ no_words_fault : (g : Raster) → IsLawful g → words_fault g.scale (words (hei
 no_words_fault g h =
     text_with (fault_with g.scale) g h
     ∙ or_none (header_fault [] (header_of g [])) _ (no_header_fault g.xll.centre g.yll.centre (decimal g.terrain.cols) (decimal g.terrain.rows) g.xll.word g.yll.word g.cellsize g.nodata (values_ok g h))
-    (or_none (whole_header_fault (header_of g []) (words_of_cells g)) _ (header_whole g.scale g.nodata (header_of g []) g.terrain.cells (gives_of g).whole (all_read g h))
-    (ap (λ w. heights_fault g.scale w (cells_wanted (header_of g [])) 0 (words_of_cells g)) (gives_of g).nodata
-    ∙ ap (λ n. heights_fault g.scale g.nodata n 0 (words_of_cells g)) (wanted_again g h)
-    ∙ no_heights_fault g.scale g.nodata (g.terrain.cols * g.terrain.rows) 0 g.terrain.cells (zero-add (length g.terrain.cells) ∙ h.terrain.size) (all_read g h)))
+    (no_heights_fault g.scale (header_of g []) g.nodata 0 g.terrain.cells (gives_of g).whole (gives_of g).nodata (zero-add (length g.terrain.cells) ∙ h.terrain.size ∙ sym (wanted_again g h)) (all_read g h))
 
 enough : (g : Raster) → IsLawful g → ltb (length (words_of_cells g)) (cells_wanted (header_of g [])) ≡ false
 enough g h =

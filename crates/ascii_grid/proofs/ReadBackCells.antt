@@ -1,21 +1,21 @@
 -- A written cell, read again.
-use Rattle.std.proofs.Common.{◌≡◌, ◌≢◌, ℕ, ◌+◌, ◌^◌, ◌≤◌, true, false, ltb, cond, List, [], ◌∷◌, length, map, Option, None, Some, ℤ, pos, negsuc, sym, ap, refl, ◌∙◌, arith}
+use Rattle.std.proofs.Common.{◌≡◌, ◌≢◌, ℕ, ◌+◌, ◌^◌, ◌≤◌, true, false, List, [], ◌∷◌, length, map, Option, None, Some, ℤ, pos, negsuc, sym, ap, refl, ◌∙◌, arith}
 use Rattle.std.specs.Prelude.{unsigned_abs, IfSome, int_le}
 use Rattle.std.specs.List.{All}
 use Rattle.std.specs.Option.{option_map_or, option_or}
 use Rattle.std.specs.Str.{bytes_eq}
 use Rattle.std.specs.Ordering.{int_eq}
-use Rattle.std.proofs.lemmas.Bool.{cond-true, cond-false, and_from, or_left, or_right, or_from, false_from_ne_true, lt-ltb, le-ltb}
+use Rattle.std.proofs.lemmas.Bool.{cond-true, cond-false, and_from, or_left, or_right, or_from, false_from_ne_true, ltb-false, le-ltb}
 use Rattle.std.proofs.lemmas.Bool.Decides.{Decides-int_eq}
 use Rattle.std.proofs.lemmas.Slice.Eq.{bytes_eq-Decides}
 use Rattle.std.proofs.lemmas.List.Elements.{All-head, All-tail}
 use Rattle.ascii_grid.specs.Words.{Word}
 use Rattle.ascii_grid.specs.Decimal.{scaled_value}
 use Rattle.ascii_grid.specs.Raster.{lowest, highest, IsHeight, is_height, IsHeaderWord}
-use Rattle.ascii_grid.specs.Header.{begins_with_letter, is_long}
-use Rattle.ascii_grid.specs.GridText.{same_value, is_nodata, cell_of, is_cell, height_fault, heights_fault}
+use Rattle.ascii_grid.specs.Header.{begins_with_letter, is_long, nodata_for, missing_fault}
+use Rattle.ascii_grid.specs.GridText.{same_value, is_nodata, cell_of, is_cell, cells_wanted, heights_fault}
 use Rattle.ascii_grid.specs.Text.{height_text, cell_text}
-use Rattle.ascii_grid.specs.declared.fault.GridFault.TheVariants.{BadHeight, TooMany, TooLong}
+use Rattle.ascii_grid.proofs.JudgedWords.{height_fault-none}
 use Rattle.ascii_grid.proofs.ReadBackWords.{IsClean}
 use Rattle.ascii_grid.proofs.ReadBackDecimals.{decimal_clean, decimal_begins}
 use Rattle.ascii_grid.proofs.ReadBackHeights.{height_value, height_decimal, length-height_text}
@@ -86,19 +86,15 @@ reads_cell d nodata None few h lawful = reads_nodata d nodata h
 reads_cell d nodata (Some z) few h lawful = reads_height d nodata z few lawful.height lawful.apart
 
 -- the words of the cells, from some place on
-pub no_heights_fault : (d : ℕ) (nodata : Word) (wanted place : ℕ) (cells : List (Option ℤ)) → place + length cells ≡ wanted → All (λ c. ReadsAs d nodata c (cell_text (height_text d) nodata c)) cells → heights_fault d nodata wanted place (map (cell_text (height_text d) nodata) cells) ≡ None
-no_heights_fault d nodata wanted place [] size reads = refl
-no_heights_fault d nodata wanted place (c ∷ cells) size reads =
+pub no_heights_fault : (d : ℕ) (header : List Word) (nodata : Word) (place : ℕ) (cells : List (Option ℤ)) → missing_fault header ≡ None → nodata_for header ≡ nodata → place + length cells ≡ cells_wanted header → All (λ c. ReadsAs d nodata c (cell_text (height_text d) nodata c)) cells → heights_fault d header place (map (cell_text (height_text d) nodata) cells) ≡ None
+no_heights_fault d header nodata place [] whole same size reads = refl
+no_heights_fault d header nodata place (c ∷ cells) whole same size reads =
     let w = cell_text (height_text d) nodata c in
     let here = All-head (λ c. ReadsAs d nodata c (cell_text (height_text d) nodata c)) c cells reads in
     let rest = All-tail (λ c. ReadsAs d nodata c (cell_text (height_text d) nodata c)) c cells reads in
-    let within : ltb place wanted ≡ true = lt-ltb place wanted (omega (arith, size)) in
-    let none : height_fault d nodata wanted place w ≡ None =
-    cond-false (is_long w) (Some TooLong) (cond (ltb place wanted) (cond (is_cell d nodata w) None (Some (BadHeight place))) (Some TooMany)) here.short
-    ∙ cond-true (ltb place wanted) (cond (is_cell d nodata w) None (Some (BadHeight place))) (Some TooMany) within
-    ∙ cond-true (is_cell d nodata w) None (Some (BadHeight place)) here.is in
-    ap (λ o. option_or o (heights_fault d nodata wanted (place + 1) (map (cell_text (height_text d) nodata) cells))) none
-    ∙ no_heights_fault d nodata wanted (place + 1) cells (omega (arith, size)) rest
+    let none = height_fault-none d header place w (ltb-false 64 (length w) here.short) whole (omega (arith, size)) (ap (λ n. is_cell d n w) same ∙ here.is) in
+    ap (λ o. option_or o (heights_fault d header (place + 1) (map (cell_text (height_text d) nodata) cells))) none
+    ∙ no_heights_fault d header nodata (place + 1) cells whole same (omega (arith, size)) rest
 
 pub cells_again : (d : ℕ) (nodata : Word) (cells : List (Option ℤ)) → All (λ c. ReadsAs d nodata c (cell_text (height_text d) nodata c)) cells → map (cell_of d nodata) (map (cell_text (height_text d) nodata) cells) ≡ cells
 cells_again d nodata [] reads = refl

@@ -36,9 +36,6 @@ pub words-word : (w rest : List ℕ) (b : ℕ) → IsClean w → is_separator b 
 words-word w rest b h s =
     ap (λ z. filter is_word z) (split-plain w rest b h.plain s) ∙ cond-true _ _ _ h.some
 
-pub words-separator : (b : ℕ) (rest : List ℕ) → is_separator b ≡ true → words (b ∷ rest) ≡ words rest
-words-separator b rest s = ap (λ z. filter is_word z) (cond-true (is_separator b) _ _ s)
-
 -- a line of words
 pub words-row : {X : Type 0} (f : X → List ℕ) (cells : List X) (rest : List ℕ) → 0 < length cells → All (λ c. IsClean (f c)) cells → words ((join_with_byte 32 (map f cells) ++ 10 ∷ []) ++ rest) ≡ map f cells ++ words rest
 words-row f [] rest h clean = absurd (omega arith)

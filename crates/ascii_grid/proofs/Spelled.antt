@@ -15,14 +15,14 @@ use Rattle.ascii_grid.specs.Reading.{flat, given, is_centre, slots_of, IsHeaderO
 use Rattle.ascii_grid.specs.declared.fault.Key.{Key}
 use Rattle.ascii_grid.specs.declared.fault.Key.TheVariants.{Ncols, Nrows, Xll, Yll, Cellsize, Nodata}
 use Rattle.ascii_grid.specs.declared.fault.GridFault.{GridFault}
-use Rattle.ascii_grid.specs.declared.fault.GridFault.TheVariants.{UnknownKey, RepeatedKey, MissingKey, BadSize, BadPlace, BadNodata, BadHeight, TooFew, TooMany, NoValue, TooLong, Memory}
+use Rattle.ascii_grid.specs.declared.fault.GridFault.TheVariants.{TooFew, NoValue, Memory}
 use Rattle.ascii_grid.specs.declared.grid.Anchor.{Anchor}
 use Rattle.ascii_grid.specs.declared.header.Header.{Header}
 use Rattle.ascii_grid.specs.declared.judge.Judge.{Judge}
 use Rattle.ascii_grid.specs.declared.judge.Stage.TheVariants.{AtKey, AtValue, AtHeights}
 use Rattle.ascii_grid.proofs.Judging.{Pairs, pairs-flat, header_words-flat, height_words-flat, key_left-flat, header_words-begun, height_words-begun, is_given-slots_of, missing_of-slots_of, wanted_of-slots_of, number-of_pair}
 use Rattle.ascii_grid.proofs.JudgedWords.{at_key, at_value, at_heights, place_of}
-use Rattle.ascii_grid.proofs.Told.{is_memory, told_missing}
+use Rattle.ascii_grid.proofs.Told.{is_memory, told, told_missing}
 use Rattle.ascii_grid.proofs.Whole.{cells_ok, size_between, valid, value_of, IsWhole-from_missing}
 
 -- ---- header and heights of the words
@@ -44,20 +44,6 @@ paired ps = ap key_left (sym (append-nil (flat ps))) ∙ key_left-flat ps []
 
 -- ---- the fault at the end
 
-end_told : (o : Option GridFault) (f : GridFault) (ws : List Word) → o ≡ Some f → is_memory o ≡ false → end_fault ws ≡ Some f → IsEndFault ws f
-end_told o UnknownKey ws e m h = h
-end_told o (RepeatedKey slot) ws e m h = h
-end_told o (MissingKey slot) ws e m h = h
-end_told o (BadSize slot) ws e m h = h
-end_told o (BadPlace slot) ws e m h = h
-end_told o BadNodata ws e m h = h
-end_told o (BadHeight place) ws e m h = h
-end_told o (TooFew n) ws e m h = h
-end_told o TooMany ws e m h = h
-end_told o (NoValue slot) ws e m h = h
-end_told o TooLong ws e m h = h
-end_told o Memory ws e m h = let k : is_memory o ≡ true = ap is_memory e in absurd (cc)
-
 -- after a key without its value
 pub end-value : (j : Judge) (ws : List Word) (slot : Key) (centre : Bool) → HasJudged j ws → j.stage ≡ AtValue slot centre → end_fault ws ≡ Some (NoValue slot)
 end-value j ws slot centre h e =
@@ -76,7 +62,8 @@ missing_at_end d h ps f k e = rw (header_whole h ps k, paired ps, e) refl
 pub end-missing : (j : Judge) (ws : List Word) (f : GridFault) (h : HasJudged j ws) → j.stage ≡ AtKey → missing_fault (flat h.pairs) ≡ Some f → IsEndFault ws f
 end-missing j ws f h e missing =
     let same = at_key j ws h e in
-    end_told (missing_fault (flat h.pairs)) f ws missing (told_missing (flat h.pairs)) (ap end_fault same ∙ missing_at_end 0 j.header h.pairs f h.header missing)
+    let there = ap end_fault same ∙ missing_at_end 0 j.header h.pairs f h.header missing in
+    told (AsksForCells ws) (end_fault ws) f (ap is_memory (there ∙ sym missing) ∙ told_missing (flat h.pairs)) there
 
 pub end-memory : (j : Judge) (ws : List Word) (f : GridFault) (h : HasJudged j ws) → j.stage ≡ AtKey → f ≡ Memory → missing_fault (flat h.pairs) ≡ None → IsEndFault ws f
 end-memory j ws f h e m whole =
@@ -155,8 +142,8 @@ nodata_ok ps none = rw (pairs-flat ps) (go (given Nodata ps) refl)
     go None e = (lit≤ tt, refl)
     go (Some p) e = let ok = valid [] ps Nodata p none e in (ok.1, ok.0)
 
-pub lawful_slots : (ps : Pairs) (d : ℕ) (hs : List Word) (wanted : ℕ) → header_fault [] (flat ps) ≡ None → missing_fault (flat ps) ≡ None → d ≤ 6 → heights_fault d (nodata_for (flat ps)) wanted 0 hs ≡ None → wanted ≤ length hs → wanted ≡ cells_wanted (flat ps) → IsLawful (raster_of (slots_of ps) d (nodata_for (flat ps)) (map (cell_of d (nodata_for (flat ps))) hs))
-lawful_slots ps d hs wanted none missing scale faultless enough same =
+pub lawful_slots : (ps : Pairs) (d : ℕ) (hs : List Word) → header_fault [] (flat ps) ≡ None → missing_fault (flat ps) ≡ None → d ≤ 6 → heights_fault d (flat ps) 0 hs ≡ None → cells_wanted (flat ps) ≤ length hs → IsLawful (raster_of (slots_of ps) d (nodata_for (flat ps)) (map (cell_of d (nodata_for (flat ps))) hs))
+lawful_slots ps d hs none missing scale faultless enough =
     let w = whole_slots ps missing in
     let cols = value_of ps Ncols none (sym (is_given-slots_of Ncols ps) ∙ w.cols) in
     let rows = value_of ps Nrows none (sym (is_given-slots_of Nrows ps) ∙ w.rows) in
@@ -164,8 +151,8 @@ lawful_slots ps d hs wanted none missing scale faultless enough same =
     let yll = value_of ps Yll none (sym (is_given-slots_of Yll ps) ∙ w.yll) in
     let cellsize = value_of ps Cellsize none (sym (is_given-slots_of Cellsize ps) ∙ w.cellsize) in
     let above = and_parts (is_decimal cellsize.0.1) (is_above_zero cellsize.0.1) cellsize.2 in
-    let cells = cells_ok d (nodata_for (flat ps)) wanted 0 hs (omega arith) faultless in
-    let size : length (map (cell_of d (nodata_for (flat ps))) hs) ≡ wanted_of (slots_of ps) = length-map hs (cell_of d (nodata_for (flat ps))) ∙ (let n : length hs ≡ wanted = omega (arith, cells.0) in n) ∙ same ∙ sym (wanted_of-slots_of ps) in
+    let cells = cells_ok d (flat ps) 0 hs (omega arith) faultless in
+    let size : length (map (cell_of d (nodata_for (flat ps))) hs) ≡ wanted_of (slots_of ps) = length-map hs (cell_of d (nodata_for (flat ps))) ∙ (let n : length hs ≡ cells_wanted (flat ps) = omega (arith, cells.0) in n) ∙ sym (wanted_of-slots_of ps) in
     record {
       terrain = record {
         some_col = rw cols.1 (size_between cols.0.1 cols.2).0;
@@ -200,8 +187,7 @@ pub lawful-grid : (j : Judge) (ws : List Word) → HasJudged j ws → j.stage �
 lawful-grid j ws h e scale enough =
     let there = at_heights j ws h e in
     let place = place_of j h.pairs h.rest there.1 in
-    let faultless = ap (λ n. heights_fault j.scale n j.wanted 0 h.rest) (sym there.1.nodata) ∙ there.1.faultless in
-    subst IsLawful (sym (raster-same j h.pairs h.rest h.header there.1)) (lawful_slots h.pairs j.scale h.rest j.wanted h.header.faultless there.1.whole scale faultless (omega (arith, place)) there.1.wanted)
+    subst IsLawful (sym (raster-same j h.pairs h.rest h.header there.1)) (lawful_slots h.pairs j.scale h.rest h.header.faultless there.1.whole scale there.1.faultless (omega (arith, place, there.1.wanted)))
 
 pub spelled-grid : (j : Judge) (ws : List Word) → HasJudged j ws → j.stage ≡ AtHeights → raster_of j.header j.scale j.nodata j.cells.items ≡ grid_of j.scale ws
 spelled-grid j ws h e =

@@ -1,12 +1,13 @@
 -- The fault of a text stays when the text goes on.
-use Rattle.std.proofs.Common.{◌≡◌, ℕ, ◌+◌, ◌<◌, true, false, List, [], ◌∷◌, ◌++◌, length, Option, None, Some, arith, refl, ap, sym, ◌∙◌, subst, inl, inr}
+use Rattle.std.proofs.Common.{◌≡◌, ℕ, ◌+◌, ◌<◌, true, false, List, [], ◌∷◌, ◌++◌, length, take, Option, None, Some, arith, refl, ap, sym, ◌∙◌, subst, inl, inr}
 use Rattle.std.specs.Prelude.{filter}
 use Rattle.std.specs.Option.{option_or}
+use Rattle.std.specs.List.{list_any}
 use Rattle.std.proofs.lemmas.Bool.{cases_Bool}
-use Rattle.std.proofs.lemmas.List.{append-nil, append_assoc}
+use Rattle.std.proofs.lemmas.List.{append-nil, append_assoc, length-append}
 use Rattle.ascii_grid.specs.Words.{Word, is_word, is_separator, words, ended_words}
-use Rattle.ascii_grid.specs.Header.{begins_with_letter, header_words, height_words, nodata_for, header_fault, key_fault, value_fault, key_left, missing_fault}
-use Rattle.ascii_grid.specs.GridText.{cells_wanted, words_fault, whole_header_fault, heights_fault, height_fault, AsksForCells}
+use Rattle.ascii_grid.specs.Header.{begins_with_letter, is_long, header_words, height_words, header_fault, key_fault, value_fault, key_left, missing_fault}
+use Rattle.ascii_grid.specs.GridText.{words_fault, heights_fault, height_fault, AsksAtHeight}
 use Rattle.ascii_grid.specs.Reading.{IsParted}
 use Rattle.ascii_grid.specs.declared.fault.GridFault.{GridFault}
 use Rattle.ascii_grid.proofs.Parting.{words-parted, IsParted-none, IsParted-byte, IsParted-separator}
@@ -54,25 +55,15 @@ or_more : {X : Type 0} (o p q : Option X) (f : X) → option_or o p ≡ Some f �
 or_more None p q f h k = k h
 or_more (Some x) p q f h k = h
 
-heights_more : (d : ℕ) (nodata : Word) (wanted place : ℕ) (hs more : List Word) (f : GridFault) → heights_fault d nodata wanted place hs ≡ Some f → heights_fault d nodata wanted place (hs ++ more) ≡ Some f
-heights_more d nodata wanted place [] more f h = cc
-heights_more d nodata wanted place (w ∷ hs) more f h =
-    or_more (height_fault d nodata wanted place w) (heights_fault d nodata wanted (place + 1) hs) (heights_fault d nodata wanted (place + 1) (hs ++ more)) f h
-    (heights_more d nodata wanted (place + 1) hs more f)
-
--- what is told of the heights after a header
-abbrev after_header : ℕ → List Word → List Word → Option GridFault
-after_header d header hs = option_or (whole_header_fault header hs) (heights_fault d (nodata_for header) (cells_wanted header) 0 hs)
-
-after_header-more : (d : ℕ) (header : List Word) (hs more : List Word) (f : GridFault) → after_header d header hs ≡ Some f → after_header d header (hs ++ more) ≡ Some f
-after_header-more d header [] more f h = cc
-after_header-more d header (w ∷ hs) more f h =
-    or_more (whole_header_fault header (w ∷ hs)) (heights_fault d (nodata_for header) (cells_wanted header) 0 (w ∷ hs)) (heights_fault d (nodata_for header) (cells_wanted header) 0 ((w ∷ hs) ++ more)) f h
-    (heights_more d (nodata_for header) (cells_wanted header) 0 (w ∷ hs) more f)
+heights_more : (d : ℕ) (header : List Word) (place : ℕ) (hs more : List Word) (f : GridFault) → heights_fault d header place hs ≡ Some f → heights_fault d header place (hs ++ more) ≡ Some f
+heights_more d header place [] more f h = cc
+heights_more d header place (w ∷ hs) more f h =
+    or_more (height_fault d header place w) (heights_fault d header (place + 1) hs) (heights_fault d header (place + 1) (hs ++ more)) f h
+    (heights_more d header (place + 1) hs more f)
 
 -- what is told of words after a header's front
 abbrev after_front : ℕ → List Word → List Word → List Word → Option GridFault
-after_front d before front ws = option_or (header_fault before (header_words ws)) (after_header d (front ++ header_words ws) (height_words ws))
+after_front d before front ws = option_or (header_fault before (header_words ws)) (heights_fault d (front ++ header_words ws) 0 (height_words ws))
 
 or-assoc : {X : Type 0} (o p q r : Option X) → option_or (option_or o (option_or p q)) r ≡ option_or o (option_or p (option_or q r))
 or-assoc None None q r = refl
@@ -83,13 +74,13 @@ after_front-pair : (d : ℕ) (before front : List Word) (k v : Word) (rest : Lis
 after_front-pair d before front k v rest letter =
     let header : header_words (k ∷ v ∷ rest) ≡ k ∷ v ∷ header_words rest = rw letter refl in
     let heights : height_words (k ∷ v ∷ rest) ≡ height_words rest = rw letter refl in
-    ap (λ z. option_or (header_fault before z) (after_header d (front ++ z) (height_words (k ∷ v ∷ rest)))) header
-    ∙ ap (λ z. option_or (header_fault before (k ∷ v ∷ header_words rest)) (after_header d (front ++ (k ∷ v ∷ header_words rest)) z)) heights
-    ∙ ap (λ z. option_or (header_fault before (k ∷ v ∷ header_words rest)) (after_header d z (height_words rest))) (sym (append_assoc front (k ∷ v ∷ []) (header_words rest)))
-    ∙ or-assoc (key_fault before k) (value_fault k v) (header_fault (k ∷ before) (header_words rest)) (after_header d ((front ++ k ∷ v ∷ []) ++ header_words rest) (height_words rest))
+    ap (λ z. option_or (header_fault before z) (heights_fault d (front ++ z) 0 (height_words (k ∷ v ∷ rest)))) header
+    ∙ ap (λ z. option_or (header_fault before (k ∷ v ∷ header_words rest)) (heights_fault d (front ++ (k ∷ v ∷ header_words rest)) 0 z)) heights
+    ∙ ap (λ z. option_or (header_fault before (k ∷ v ∷ header_words rest)) (heights_fault d z 0 (height_words rest))) (sym (append_assoc front (k ∷ v ∷ []) (header_words rest)))
+    ∙ or-assoc (key_fault before k) (value_fault k v) (header_fault (k ∷ before) (header_words rest)) (heights_fault d ((front ++ k ∷ v ∷ []) ++ header_words rest) 0 (height_words rest))
 
 -- a word that is no key ends the header
-after_front-height : (d : ℕ) (before front : List Word) (k : Word) (rest : List Word) → begins_with_letter k ≡ false → after_front d before front (k ∷ rest) ≡ after_header d (front ++ []) (k ∷ rest)
+after_front-height : (d : ℕ) (before front : List Word) (k : Word) (rest : List Word) → begins_with_letter k ≡ false → after_front d before front (k ∷ rest) ≡ heights_fault d (front ++ []) 0 (k ∷ rest)
 after_front-height d before front k [] letter = rw letter refl
 after_front-height d before front k (v ∷ rest) letter = rw letter refl
 
@@ -104,7 +95,7 @@ after_front-more d before front (k ∷ []) (v ∷ more) f h =
           ∙ or_more (key_fault before k) None (option_or (value_fault k v) (after_front d (k ∷ before) (front ++ k ∷ v ∷ []) more)) f (sym first ∙ h) (λ e. absurd (cc))
       | inr height ↦
           after_front-height d before front k (v ∷ more) height
-          ∙ after_header-more d (front ++ []) (k ∷ []) (v ∷ more) f (sym (after_front-height d before front k [] height) ∙ h)
+          ∙ heights_more d (front ++ []) 0 (k ∷ []) (v ∷ more) f (sym (after_front-height d before front k [] height) ∙ h)
     ]
 after_front-more d before front (k ∷ v ∷ rest) more f h =
     elim (cases_Bool (begins_with_letter k)) [
@@ -116,7 +107,7 @@ after_front-more d before front (k ∷ v ∷ rest) more f h =
           (after_front-more d (k ∷ before) (front ++ k ∷ v ∷ []) rest more f))
       | inr height ↦
           after_front-height d before front k (v ∷ rest ++ more) height
-          ∙ after_header-more d (front ++ []) (k ∷ v ∷ rest) more f (sym (after_front-height d before front k (v ∷ rest) height) ∙ h)
+          ∙ heights_more d (front ++ []) 0 (k ∷ v ∷ rest) more f (sym (after_front-height d before front k (v ∷ rest) height) ∙ h)
     ]
 
 pub words_fault-more : (d : ℕ) (ws more : List Word) (f : GridFault) → words_fault d ws ≡ Some f → words_fault d (ws ++ more) ≡ Some f
@@ -144,16 +135,18 @@ same_header (k ∷ v ∷ rest) more h =
       | inr height ↦ (rw height refl, rw height refl)
     ]
 
-same_first : (header hs more : List Word) → 0 < length hs → whole_header_fault header (hs ++ more) ≡ whole_header_fault header hs
-same_first header [] more h = absurd (omega arith)
-same_first header (w ∷ hs) more h = refl
+same_first : (hs more : List Word) → 0 < length hs → take 1 (hs ++ more) ≡ take 1 hs
+same_first [] more h = absurd (omega arith)
+same_first (w ∷ hs) more h = refl
 
-pub asks-more : (ws more : List Word) → 0 < length (height_words ws) → AsksForCells ws → AsksForCells (ws ++ more)
-asks-more ws more some h =
-    let same = same_header ws more some in
-    record {
-      faultless = ap (header_fault []) same.0 ∙ h.faultless;
-      paired = ap key_left same.0 ∙ h.paired;
-      given = ap missing_fault same.0 ∙ h.given;
-      first = ap (λ z. whole_header_fault z (height_words (ws ++ more))) same.0 ∙ ap (whole_header_fault (header_words ws)) same.1 ∙ same_first (header_words ws) (height_words ws) more some ∙ h.first;
-    }
+pub asks-more : (ws more : List Word) → AsksAtHeight ws → AsksAtHeight (ws ++ more)
+asks-more ws more h =
+    let same = same_header ws more h.1 in (
+      record {
+        faultless = ap (header_fault []) same.0 ∙ h.0.faultless;
+        paired = ap key_left same.0 ∙ h.0.paired;
+        given = ap missing_fault same.0 ∙ h.0.given;
+        first = ap (λ z. list_any is_long (take 1 z)) same.1 ∙ ap (list_any is_long) (same_first (height_words ws) more h.1) ∙ h.0.first;
+      },
+      omega (arith, h.1, ap length same.1, length-append (height_words ws) more),
+    )

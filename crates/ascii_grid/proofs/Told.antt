@@ -8,7 +8,7 @@ use Rattle.std.proofs.lemmas.Bool.{cases_Bool, lt-ltb}
 use Rattle.std.proofs.lemmas.List.{append-nil, append_assoc}
 use Rattle.ascii_grid.specs.Words.{Word}
 use Rattle.ascii_grid.specs.Header.{fills, slot_of, is_long, is_value, bad_value, begins_with_letter, header_words, height_words, nodata_for, header_fault, key_fault, value_fault, missing_fault}
-use Rattle.ascii_grid.specs.GridText.{AsksForCells, is_cell, cells_wanted, words_fault, whole_header_fault, heights_fault, height_fault}
+use Rattle.ascii_grid.specs.GridText.{AsksAtHeight, IsTold, is_cell, cells_wanted, words_fault, heights_fault, height_fault}
 use Rattle.ascii_grid.specs.Reading.{flat, IsHeaderOf, HasBegun, AreHeights, HasJudged, IsWordFault}
 use Rattle.ascii_grid.specs.declared.fault.Key.{Key}
 use Rattle.ascii_grid.specs.declared.fault.Key.TheVariants.{Ncols, Nrows, Xll, Yll, Cellsize, Nodata}
@@ -19,7 +19,7 @@ use Rattle.ascii_grid.specs.declared.judge.Stage.{Stage}
 use Rattle.ascii_grid.specs.declared.judge.Stage.TheVariants.{AtKey, AtValue, AtHeights}
 use Rattle.ascii_grid.specs.declared.judge.Judge.{Judge}
 use Rattle.ascii_grid.proofs.Judging.{Pairs, words_fault-key, words_fault-value, words_fault-heights, HasBegun-push}
-use Rattle.ascii_grid.proofs.JudgedWords.{at_key, at_value, at_heights, fault-height_after, first_begun, judged-height, fault-height, memory-height, fault-first}
+use Rattle.ascii_grid.proofs.JudgedWords.{at_key, at_value, at_heights, judged-height, fault-height, memory-height, fault-first}
 
 -- want of memory
 abbrev pub is_memory : Option GridFault → Bool
@@ -71,45 +71,60 @@ told_missing_slot (Some slot) = refl
 pub told_missing : (header : List Word) → is_memory (missing_fault header) ≡ false
 told_missing header = told_missing_slot _
 
-told_whole : (header hs : List Word) → is_memory (whole_header_fault header hs) ≡ false
-told_whole header [] = refl
-told_whole header (w ∷ rest) = told_cond (is_long w) (Some TooLong) (missing_fault header) refl (told_missing header)
-
-told_height : (d : ℕ) (nodata : Word) (wanted place : ℕ) (w : Word) → is_memory (height_fault d nodata wanted place w) ≡ false
-told_height d nodata wanted place w =
+told_height : (d : ℕ) (header : List Word) (place : ℕ) (w : Word) → is_memory (height_fault d header place w) ≡ false
+told_height d header place w =
     told_cond (is_long w) (Some TooLong) _ refl
-    (told_cond (nat_lt place wanted) _ (Some TooMany) (told_cond (is_cell d nodata w) None (Some (BadHeight place)) refl refl) refl)
+    (told_or (missing_fault header) _ (told_missing header)
+    (told_cond (nat_lt place (cells_wanted header)) _ (Some TooMany) (told_cond (is_cell d (nodata_for header) w) None (Some (BadHeight place)) refl refl) refl))
 
-told_heights : (d : ℕ) (nodata : Word) (wanted place : ℕ) (hs : List Word) → is_memory (heights_fault d nodata wanted place hs) ≡ false
-told_heights d nodata wanted place [] = refl
-told_heights d nodata wanted place (w ∷ hs) =
-    told_or (height_fault d nodata wanted place w) (heights_fault d nodata wanted (place + 1) hs) (told_height d nodata wanted place w) (told_heights d nodata wanted (place + 1) hs)
+told_heights : (d : ℕ) (header : List Word) (place : ℕ) (hs : List Word) → is_memory (heights_fault d header place hs) ≡ false
+told_heights d header place [] = refl
+told_heights d header place (w ∷ hs) =
+    told_or (height_fault d header place w) (heights_fault d header (place + 1) hs) (told_height d header place w) (told_heights d header (place + 1) hs)
 
 pub told_words : (d : ℕ) (ws : List Word) → is_memory (words_fault d ws) ≡ false
 told_words d ws =
     told_or (header_fault [] (header_words ws)) _ (told_header [] (header_words ws))
-    (told_or (whole_header_fault (header_words ws) (height_words ws)) _ (told_whole (header_words ws) (height_words ws))
-    (told_heights d (nodata_for (header_words ws)) (cells_wanted (header_words ws)) 0 (height_words ws)))
+    (told_heights d (header_words ws) 0 (height_words ws))
+
+-- ---- the fault that is told
 
 never_memory : (o : Option GridFault) → is_memory o ≡ false → o ≡ Some Memory → ⊥
 never_memory o h e = let k : is_memory o ≡ true = ap is_memory e in cc
 
--- a fault of words as the fault that is answered
-pub word_fault : (d : ℕ) (ws : List Word) (f : GridFault) → words_fault d ws ≡ Some f → IsWordFault d ws f
-word_fault d ws UnknownKey h = h
-word_fault d ws (RepeatedKey slot) h = h
-word_fault d ws (MissingKey slot) h = h
-word_fault d ws (BadSize slot) h = h
-word_fault d ws (BadPlace slot) h = h
-word_fault d ws BadNodata h = h
-word_fault d ws (BadHeight place) h = h
-word_fault d ws (TooFew n) h = h
-word_fault d ws TooMany h = h
-word_fault d ws (NoValue slot) h = h
-word_fault d ws TooLong h = h
-word_fault d ws Memory h = absurd (never_memory (words_fault d ws) (told_words d ws) h)
+pub told : (may_lack : Type 0) (o : Option GridFault) (f : GridFault) → is_memory o ≡ false → o ≡ Some f → IsTold may_lack o f
+told may_lack o UnknownKey m h = h
+told may_lack o (RepeatedKey slot) m h = h
+told may_lack o (MissingKey slot) m h = h
+told may_lack o (BadSize slot) m h = h
+told may_lack o (BadPlace slot) m h = h
+told may_lack o BadNodata m h = h
+told may_lack o (BadHeight place) m h = h
+told may_lack o (TooFew n) m h = h
+told may_lack o TooMany m h = h
+told may_lack o (NoValue slot) m h = h
+told may_lack o TooLong m h = h
+told may_lack o Memory m h = absurd (never_memory o m h)
 
-pub memory_fault : (d : ℕ) (ws : List Word) (f : GridFault) → f ≡ Memory → AsksForCells ws × (0 < length (height_words ws)) → IsWordFault d ws f
+-- what is told here is told there
+pub told_further : (may_lack may_lack' : Type 0) (o o' : Option GridFault) (f : GridFault) → (may_lack → may_lack') → ((g : GridFault) → o ≡ Some g → o' ≡ Some g) → IsTold may_lack o f → IsTold may_lack' o' f
+told_further may_lack may_lack' o o' UnknownKey lacks more h = more UnknownKey h
+told_further may_lack may_lack' o o' (RepeatedKey slot) lacks more h = more (RepeatedKey slot) h
+told_further may_lack may_lack' o o' (MissingKey slot) lacks more h = more (MissingKey slot) h
+told_further may_lack may_lack' o o' (BadSize slot) lacks more h = more (BadSize slot) h
+told_further may_lack may_lack' o o' (BadPlace slot) lacks more h = more (BadPlace slot) h
+told_further may_lack may_lack' o o' BadNodata lacks more h = more BadNodata h
+told_further may_lack may_lack' o o' (BadHeight place) lacks more h = more (BadHeight place) h
+told_further may_lack may_lack' o o' (TooFew n) lacks more h = more (TooFew n) h
+told_further may_lack may_lack' o o' TooMany lacks more h = more TooMany h
+told_further may_lack may_lack' o o' (NoValue slot) lacks more h = more (NoValue slot) h
+told_further may_lack may_lack' o o' TooLong lacks more h = more TooLong h
+told_further may_lack may_lack' o o' Memory lacks more h = lacks h
+
+pub word_fault : (d : ℕ) (ws : List Word) (f : GridFault) → words_fault d ws ≡ Some f → IsWordFault d ws f
+word_fault d ws f h = told (AsksAtHeight ws) (words_fault d ws) f (told_words d ws) h
+
+pub memory_fault : (d : ℕ) (ws : List Word) (f : GridFault) → f ≡ Memory → AsksAtHeight ws → IsWordFault d ws f
 memory_fault d ws f e h = rw e h
 
 -- a word of more than 64 bytes
@@ -139,16 +154,15 @@ long_fault j ws w h far = by_stage j.stage refl
         ∙ rw long refl
     by_stage AtHeights e =
         let there = at_heights j ws h e in
-        fault-height_after j ws h.pairs h.rest w TooLong j.header h.header h.words (HasBegun-push h.rest w there.0) there.1
-        (first_begun h.pairs j.scale j.nodata j.wanted h.rest w there.0 there.1.whole there.1.faultless) (rw long refl)
+        fault-height j ws h.pairs h.rest w TooLong j.header h.header h.words (HasBegun-push h.rest w there.0) there.1 (rw long refl)
 
 -- a height, the first or a further one
-pub height_word : {T : Type 0} (j j' : Judge) (ws : List Word) (ps : Pairs) (hs : List Word) (w : Word) (r : Result T GridFault) → IsHeaderOf j.header ps → ws ≡ flat ps ++ hs → HasBegun (hs ++ w ∷ []) → AreHeights j ps hs → length w ≤ 64 → j'.header ≡ j.header → j'.stage ≡ AtHeights → MatchResult r (λ _. AreHeights j' ps (hs ++ w ∷ [])) (λ f. (f ≡ Memory) ⊎ (height_fault j.scale j.nodata j.wanted (length hs) w ≡ Some f)) → MatchResult r (λ _. HasJudged j' (ws ++ w ∷ [])) (IsWordFault j.scale (ws ++ w ∷ []))
+pub height_word : {T : Type 0} (j j' : Judge) (ws : List Word) (ps : Pairs) (hs : List Word) (w : Word) (r : Result T GridFault) → IsHeaderOf j.header ps → ws ≡ flat ps ++ hs → HasBegun (hs ++ w ∷ []) → AreHeights j ps hs → length w ≤ 64 → j'.header ≡ j.header → j'.stage ≡ AtHeights → MatchResult r (λ _. AreHeights j' ps (hs ++ w ∷ [])) (λ f. (f ≡ Memory) ⊎ (height_fault j.scale (flat ps) (length hs) w ≡ Some f)) → MatchResult r (λ _. HasJudged j' (ws ++ w ∷ [])) (IsWordFault j.scale (ws ++ w ∷ []))
 height_word j j' ws ps hs w r k e begun heights short same stage m =
     MatchResult-weaker r m (λ _ more. judged-height j j' ws ps hs w k e begun more same stage)
     (λ f why. elim why [
       | inl lack ↦ memory_fault j.scale (ws ++ w ∷ []) f lack (memory-height j ws ps hs w j.header k e begun heights.whole heights.faultless short)
-      | inr fault ↦ word_fault j.scale (ws ++ w ∷ []) f (fault-height j ws ps hs w f j.header k e begun heights short fault)
+      | inr fault ↦ word_fault j.scale (ws ++ w ∷ []) f (fault-height j ws ps hs w f j.header k e begun heights fault)
     ])
 
 -- no first height: the header isn't whole, or there is no memory
@@ -169,11 +183,11 @@ plain_ok j j' ws w h e header stage more =
     let there = at_heights j ws h e in
     judged-height j j' ws h.pairs h.rest w h.header h.words (HasBegun-push h.rest w there.0) more header (stage ∙ e)
 
-pub plain_refused : (j : Judge) (ws : List Word) (w : Word) (f : GridFault) (h : HasJudged j ws) → j.stage ≡ AtHeights → length w ≤ 64 → (f ≡ Memory) ⊎ (height_fault j.scale j.nodata j.wanted (length h.rest) w ≡ Some f) → IsWordFault j.scale (ws ++ w ∷ []) f
+pub plain_refused : (j : Judge) (ws : List Word) (w : Word) (f : GridFault) (h : HasJudged j ws) → j.stage ≡ AtHeights → length w ≤ 64 → (f ≡ Memory) ⊎ (height_fault j.scale (flat h.pairs) (length h.rest) w ≡ Some f) → IsWordFault j.scale (ws ++ w ∷ []) f
 plain_refused j ws w f h e short why =
     let there = at_heights j ws h e in
     let begun = HasBegun-push h.rest w there.0 in
     elim why [
       | inl lack ↦ memory_fault j.scale (ws ++ w ∷ []) f lack (memory-height j ws h.pairs h.rest w j.header h.header h.words begun there.1.whole there.1.faultless short)
-      | inr fault ↦ word_fault j.scale (ws ++ w ∷ []) f (fault-height j ws h.pairs h.rest w f j.header h.header h.words begun there.1 short fault)
+      | inr fault ↦ word_fault j.scale (ws ++ w ∷ []) f (fault-height j ws h.pairs h.rest w f j.header h.header h.words begun there.1 fault)
     ]

@@ -5,15 +5,15 @@ use Rattle.std.specs.Option.{option_or, option_map_or}
 use Rattle.std.specs.Str.{bytes_eq}
 use Rattle.std.specs.Ordering.{int_eq}
 use Rattle.std.proofs.lemmas.Bool.Decides.{Decides-int_eq}
-use Rattle.std.proofs.lemmas.Bool.{cases_Bool, and_parts, or_parts, ltb-true, ltb-false, leb-true, eqb-true}
+use Rattle.std.proofs.lemmas.Bool.{cases_Bool, cond-true, cond-false, and_parts, or_parts, ltb-true, ltb-false, leb-true, eqb-true}
 use Rattle.std.proofs.lemmas.Option.{same_Some}
 use Rattle.std.proofs.lemmas.Int.{ints}
 use Rattle.std.proofs.lemmas.List.Elements.{All-cons}
 use Rattle.ascii_grid.specs.Words.{Word}
 use Rattle.ascii_grid.specs.Decimal.{number_of, scaled_value}
 use Rattle.ascii_grid.specs.Raster.{lowest, highest, IsHeight, is_height}
-use Rattle.ascii_grid.specs.Header.{fills, slot_of, slot_number, is_long, is_size, is_value, bad_value, header_fault, key_fault, value_fault}
-use Rattle.ascii_grid.specs.GridText.{same_value, is_nodata, is_cell, cell_of, heights_fault, height_fault}
+use Rattle.ascii_grid.specs.Header.{fills, slot_of, slot_number, is_long, is_size, is_value, bad_value, nodata_for, header_fault, key_fault, value_fault, missing_fault}
+use Rattle.ascii_grid.specs.GridText.{same_value, is_nodata, is_cell, cell_of, cells_wanted, heights_fault, height_fault}
 use Rattle.ascii_grid.specs.Slots.{missing_of, IsWhole}
 use Rattle.ascii_grid.specs.Reading.{flat, given}
 use Rattle.ascii_grid.specs.declared.fault.Key.{Key}
@@ -138,17 +138,19 @@ cell_ok d nodata w h =
     ]
 
 -- a height without a fault
-height_ok : (d : ℕ) (nodata : Word) (wanted place : ℕ) (w : Word) → height_fault d nodata wanted place w ≡ None → (place < wanted) × (is_cell d nodata w ≡ true)
-height_ok d nodata wanted place w h =
+height_ok : (d : ℕ) (header : List Word) (place : ℕ) (w : Word) → height_fault d header place w ≡ None → (place < cells_wanted header) × (is_cell d (nodata_for header) w ≡ true)
+height_ok d header place w h =
     elim (cases_Bool (is_long w)) [
-      | inl long ↦ let clash : height_fault d nodata wanted place w ≡ Some TooLong = rw long refl in absurd (cc)
+      | inl long ↦ let clash : height_fault d header place w ≡ Some TooLong = rw long refl in absurd (cc)
       | inr short ↦
-          elim (cases_Bool (nat_lt place wanted)) [
-            | inr over ↦ let clash : height_fault d nodata wanted place w ≡ Some TooMany = rw (short, over) refl in absurd (cc)
+          let rest = (or_none (missing_fault header) (cond (nat_lt place (cells_wanted header)) (cond (is_cell d (nodata_for header) w) None (Some (BadHeight place))) (Some TooMany)) (sym (cond-false (is_long w) (Some TooLong) _ short) ∙ h)).1 in
+          elim (cases_Bool (nat_lt place (cells_wanted header))) [
+            | inr over ↦ let clash = sym (cond-false (nat_lt place (cells_wanted header)) (cond (is_cell d (nodata_for header) w) None (Some (BadHeight place))) (Some TooMany) over) ∙ rest in absurd (cc)
             | inl room ↦
-                elim (cases_Bool (is_cell d nodata w)) [
-                  | inl ok ↦ (ltb-true place wanted room, ok)
-                  | inr bad ↦ let clash : height_fault d nodata wanted place w ≡ Some (BadHeight place) = rw (short, room, bad) refl in absurd (cc)
+                let here = sym (cond-true (nat_lt place (cells_wanted header)) (cond (is_cell d (nodata_for header) w) None (Some (BadHeight place))) (Some TooMany) room) ∙ rest in
+                elim (cases_Bool (is_cell d (nodata_for header) w)) [
+                  | inl ok ↦ (ltb-true place (cells_wanted header) room, ok)
+                  | inr bad ↦ let clash = sym (cond-false (is_cell d (nodata_for header) w) None (Some (BadHeight place)) bad) ∙ here in absurd (cc)
                 ]
           ]
     ]
@@ -159,11 +161,12 @@ AreLawful d nodata cells = All (λ c. IfSome c IsHeight) cells × All (λ c. IfS
 none_lawful : (d : ℕ) (nodata : Word) → AreLawful d nodata []
 none_lawful d nodata = (λ k x h. absurd (omega arith), λ k x h. absurd (omega arith))
 
-pub cells_ok : (d : ℕ) (nodata : Word) (wanted place : ℕ) (hs : List Word) → place ≤ wanted → heights_fault d nodata wanted place hs ≡ None → (place + length hs ≤ wanted) × AreLawful d nodata (map (cell_of d nodata) hs)
-cells_ok d nodata wanted place [] h none = (omega arith, none_lawful d nodata)
-cells_ok d nodata wanted place (w ∷ hs) h none =
-    let parts = or_none (height_fault d nodata wanted place w) (heights_fault d nodata wanted (place + 1) hs) none in
-    let first = height_ok d nodata wanted place w parts.0 in
+pub cells_ok : (d : ℕ) (header : List Word) (place : ℕ) (hs : List Word) → place ≤ cells_wanted header → heights_fault d header place hs ≡ None → (place + length hs ≤ cells_wanted header) × AreLawful d (nodata_for header) (map (cell_of d (nodata_for header)) hs)
+cells_ok d header place [] h none = (omega arith, none_lawful d (nodata_for header))
+cells_ok d header place (w ∷ hs) h none =
+    let parts = or_none (height_fault d header place w) (heights_fault d header (place + 1) hs) none in
+    let nodata = nodata_for header in
+    let first = height_ok d header place w parts.0 in
     let cell = cell_ok d nodata w first.1 in
-    let rest = cells_ok d nodata wanted (place + 1) hs (omega (arith, first.0)) parts.1 in
+    let rest = cells_ok d header (place + 1) hs (omega (arith, first.0)) parts.1 in
     (omega (arith, rest.0), (All-cons (λ c. IfSome c IsHeight) (cell_of d nodata w) (map (cell_of d nodata) hs) cell.0 rest.1.0, All-cons (λ c. IfSome c (λ z. scaled_value d nodata ≢ Some z)) (cell_of d nodata w) (map (cell_of d nodata) hs) cell.1 rest.1.1))

@@ -6,6 +6,7 @@ pub mod Header
 pub mod Laws
 pub mod Neighbours
 pub mod Raster
+pub mod Reader
 pub mod Reading
 pub mod Slots
 pub mod Text

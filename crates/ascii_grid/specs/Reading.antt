@@ -1,16 +1,14 @@
--- What a reader keeps of the text that it was fed. None of this is part of what a text means: a new reader has it of no
--- text, a piece keeps it, and at the end it turns into the definitions of GridText.
-use Rattle.std.specs.Prelude.{◌≡◌, ℕ, ◌<◌, ◌≤◌, Bool, true, false, ◌||◌, List, [], ◌∷◌, ◌++◌, map, filter, find, length, take, codes, Option, None, Some, option_map, MatchOption}
+-- What a reader keeps of the text that it was fed, for the reader's own steps. Source: this project.
+use Rattle.std.specs.Prelude.{◌≡◌, ℕ, Bool, true, false, ◌||◌, List, [], ◌∷◌, ◌++◌, map, filter, find, take, codes, Option, None, Some, option_map}
 use Rattle.std.specs.List.{slice_split, list_all}
 use Rattle.ascii_grid.specs.Words.{Word, is_word, is_separator, ended_words}
 use Rattle.ascii_grid.specs.Decimal.{number_of, scaled_value}
-use Rattle.ascii_grid.specs.Header.{fills, slot_of, is_key, begins_with_letter, height_words, header_fault, key_fault, missing_fault, nodata_for}
-use Rattle.ascii_grid.specs.GridText.{AsksForCells, cell_of, cells_wanted, words_fault, heights_fault, end_fault, IsRefusalSoFar, most_bytes}
+use Rattle.ascii_grid.specs.Header.{fills, slot_of, is_key, begins_with_letter, header_fault, key_fault, missing_fault, nodata_for}
+use Rattle.ascii_grid.specs.GridText.{AsksForCells, AsksAtHeight, IsTold, cell_of, cells_wanted, words_fault, heights_fault, end_fault}
 use Rattle.ascii_grid.specs.Slots.{anchor_at, is_given}
 use Rattle.ascii_grid.specs.declared.fault.Key.{Key}
 use Rattle.ascii_grid.specs.declared.fault.Key.TheVariants.{Ncols, Nrows, Xll, Yll, Cellsize, Nodata}
 use Rattle.ascii_grid.specs.declared.fault.GridFault.{GridFault}
-use Rattle.ascii_grid.specs.declared.fault.GridFault.TheVariants.{Memory}
 use Rattle.ascii_grid.specs.declared.header.Header.{Header}
 use Rattle.ascii_grid.specs.declared.judge.Stage.{Stage}
 use Rattle.ascii_grid.specs.declared.judge.Stage.TheVariants.{AtKey, AtValue, AtHeights}
@@ -70,7 +68,7 @@ pub record AreHeights (j : Judge) (ps : List (Word × Word)) (hs : List Word) : 
   pub wanted : j.wanted ≡ cells_wanted (flat ps)
   pub nodata : j.nodata ≡ nodata_for (flat ps)
   pub value : j.nodata_value ≡ scaled_value j.scale j.nodata
-  pub faultless : heights_fault j.scale j.nodata j.wanted 0 hs ≡ None
+  pub faultless : heights_fault j.scale (flat ps) 0 hs ≡ None
   pub cells : j.cells.items ≡ map (cell_of j.scale j.nodata) hs
 
 -- The words after the pairs of the header.
@@ -89,13 +87,11 @@ pub record HasJudged (j : Judge) (ws : List Word) : Type 0 where
 
 -- The first fault of words, or want of memory at the first height.
 abbrev pub IsWordFault : ℕ → List Word → GridFault → Type 0
-IsWordFault d ws Memory = AsksForCells ws × (0 < length (height_words ws))
-IsWordFault d ws fault = words_fault d ws ≡ Some fault
+IsWordFault d ws f = IsTold (AsksAtHeight ws) (words_fault d ws) f
 
 -- What the end of the text tells, or want of memory before a first height.
 abbrev pub IsEndFault : List Word → GridFault → Type 0
-IsEndFault ws Memory = AsksForCells ws
-IsEndFault ws fault = end_fault ws ≡ Some fault
+IsEndFault ws f = IsTold (AsksForCells ws) (end_fault ws) f
 
 -- The words that a separator has ended, and what follows the last separator.
 pub record IsParted (text : List ℕ) (ws : List Word) (w : Word) : Type 0 where
@@ -111,23 +107,3 @@ pub record HasWords (p : Progress) (text : List ℕ) : Type 0 where
   pub parted : IsParted text ended last
   pub judged : HasJudged p.judge ended
   pub front : p.word ≡ take 65 last
-
--- What a reader keeps: its words, how many bytes it has taken, and the fault that it has answered.
-pub record Reading : Type 0 where
-  pub scale : ℕ
-  pub words : Progress
-  pub count : ℕ
-  pub fault : Option GridFault
-
--- No fault has come, and this is kept of the text.
-pub record IsReading (r : Reading) (text : List ℕ) : Type 0 where
-  pub words_of : HasWords r.words text
-  pub same_scale : r.words.judge.scale ≡ r.scale
-  pub size : r.count ≡ length text
-  pub short : length text ≤ most_bytes
-
--- The reader was fed this text, or has answered a fault of a front of it.
-abbrev pub HasTaken : Reading → List ℕ → Type 0
-HasTaken r text =
-    MatchOption r.fault (IsReading r text)
-    (λ f. (front : List ℕ) × (more : List ℕ) × (text ≡ front ++ more) × IsRefusalSoFar r.scale front f)

@@ -208,6 +208,3 @@ impl Grid {
         Grid::from_parts(self.header.copy(), self.scale, cells)
     }
 }
-
-#[cfg(test)]
-mod tests;

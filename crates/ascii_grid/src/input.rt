@@ -1,7 +1,7 @@
 // A grid from a reader, piece by piece.
 ghost use Rattle.std.specs.Prelude.{◌≡◌, ◌≢◌, ◌≤◌, ◌+◌, ◌-◌, ◌^◌, ◌<◌, ℕ, List, length, Some, None, Err, IfOk};
 ghost use Rattle.std.specs.Io.KnownBytes.{Consumes};
-ghost use Rattle.ascii_grid.specs.Reading.{HasTaken};
+ghost use Rattle.ascii_grid.specs.Reader.{HasTaken};
 ghost use Rattle.ascii_grid.specs.GridText.{IsGridText, IsRefusal, fault_so_far, most_bytes};
 
 use crate::counted::Counted;
@@ -54,8 +54,8 @@ pub fn read_grid<R: Read>(
         if count == 0 {
             return finished(grid_reader);
         }
-        if grid_reader.feed(&piece[..count]).is_err() {
-            return finished(grid_reader);
+        if let Err(fault) = grid_reader.feed(&piece[..count]) {
+            return Err(InputFault::Grid(fault));
         }
         taken += count;
     }

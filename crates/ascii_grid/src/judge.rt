@@ -158,7 +158,7 @@ impl Judge {
         ensures word { (ps : List (Word × Word)) (hs : List Word) → AreHeights self.old ps hs →
             MatchResult result (λ _. AreHeights self.new ps (hs ++ word.now ∷ []))
             (λ f. (f ≡ GridFault.Memory)
-            ⊎ (height_fault self.old.scale self.old.nodata self.old.wanted (length hs) word.now ≡ Some f)) }
+            ⊎ (height_fault self.old.scale (flat ps) (length hs) word.now ≡ Some f)) }
     {
         let cell = cell(self.scale, self.nodata.as_bytes(), self.nodata_value, word);
         self.add_cell(cell)
@@ -172,7 +172,7 @@ impl Judge {
             length word ≤ 64 → scaled_value self.old.scale word ≡ Some value →
             MatchResult result (λ _. AreHeights self.new ps (hs ++ word ∷ []))
             (λ f. (f ≡ GridFault.Memory)
-            ⊎ (height_fault self.old.scale self.old.nodata self.old.wanted (length hs) word ≡ Some f)) }
+            ⊎ (height_fault self.old.scale (flat ps) (length hs) word ≡ Some f)) }
     {
         let cell = value_cell(value, self.nodata_value);
         self.add_cell(cell)
@@ -188,7 +188,7 @@ impl Judge {
             then Some (cell_of self.old.scale self.old.nodata word) else None) →
             MatchResult result (λ _. AreHeights self.new ps (hs ++ word ∷ []))
             (λ f. (f ≡ GridFault.Memory)
-            ⊎ (height_fault self.old.scale self.old.nodata self.old.wanted (length hs) word ≡ Some f)) }
+            ⊎ (height_fault self.old.scale (flat ps) (length hs) word ≡ Some f)) }
     {
         let place = self.cells.len();
         if place >= self.wanted as usize {

@@ -1,7 +1,8 @@
 // A text that comes in pieces.
 ghost use Rattle.std.specs.Prelude.{◌≡◌, ◌≤◌, ◌++◌, [], ℕ, List, None, Some, Err, IfOk, IfErr, OnOk};
-ghost use Rattle.ascii_grid.specs.GridText.{IsGridText, IsRefusal};
-ghost use Rattle.ascii_grid.specs.Reading.{HasTaken};
+ghost use Rattle.std.specs.Result.{result_err};
+ghost use Rattle.ascii_grid.specs.GridText.{IsGridText, IsRefusal, IsRefusalSoFar, fault_so_far};
+ghost use Rattle.ascii_grid.specs.Reader.{HasTaken};
 
 use crate::fault::GridFault;
 use crate::grid::Grid;
@@ -12,7 +13,7 @@ use std::marker::Model;
 /// The most bytes that a text may have: 2^28.
 pub const MOST_TEXT_BYTES: usize = 268_435_456;
 
-/// What a reader has taken so far.
+/// A reader of a text that comes in pieces, which it does not keep.
 #[derive(Drop)]
 pub struct GridReader {
     words: Progress,
@@ -22,22 +23,22 @@ pub struct GridReader {
 
 impl Model for GridReader {
     ghost use Rattle.std.specs.Prelude.{ℕ, List, ◌≤◌};
-    ghost use Rattle.ascii_grid.specs.Reading.{Reading, HasTaken};
+    ghost use Rattle.ascii_grid.specs.Reader.{Reader, HasTaken};
 
-    ghost Value = { Reading };
+    ghost Value = { Reader };
 
     ghost view = { λ r. record {
       scale = r.words.judge.scale;
+      fault = r.fault;
       words = r.words;
       count = r.taken;
-      fault = r.fault;
     } };
 
     ghost invariant = { λ r. (r.words.judge.scale ≤ 6) × ((text : List ℕ) × HasTaken (record {
       scale = r.words.judge.scale;
+      fault = r.fault;
       words = r.words;
       count = r.taken;
-      fault = r.fault;
     }) text) };
 }
 
@@ -56,12 +57,16 @@ impl GridReader {
         }
     }
 
-    /// Takes the next piece of the text. After a fault it answers that fault again.
+    /// Takes the next piece of the text. The fault of a word is answered once a separator has ended that word, and again for
+    /// each later piece.
     pub fn feed(&mut self, piece: &[u8]) -> Result<(), GridFault>
         ensures scale { self.new.scale ≡ self.old.scale }
         ensures taken { (text : List ℕ) → HasTaken self.old text → HasTaken self.new (text ++ piece.now) }
-        ensures ok { OnOk result (self.new.fault ≡ None) }
-        ensures err { IfErr result (λ f. self.new.fault ≡ Some f) }
+        ensures ok { (text : List ℕ) → HasTaken self.old text →
+            OnOk result (fault_so_far self.old.scale (text ++ piece.now) ≡ None) }
+        ensures err { (text : List ℕ) → HasTaken self.old text →
+            IfErr result (λ f. IsRefusalSoFar self.old.scale (text ++ piece.now) f) }
+        ensures fault { self.new.fault ≡ result_err result }
         ensures again { (f : GridFault) → self.old.fault ≡ Some f → result ≡ Err f }
     {
         if let Some(fault) = self.fault {
@@ -100,6 +105,3 @@ impl GridReader {
         words.judge.finish()
     }
 }
-
-#[cfg(test)]
-mod tests;

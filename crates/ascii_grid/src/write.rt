@@ -274,6 +274,3 @@ pub fn write_counts<W: Write>(
 {
     write_cells(grid, values, COUNTS_NODATA, out)
 }
-
-#[cfg(test)]
-mod tests;

@@ -1,15 +1,13 @@
 -- What stands around a cell amid the grid, by places in row order.
-use Rattle.std.proofs.Common.{◌≡◌, ◌≢◌, ℕ, ◌+◌, ◌-◌, ◌*◌, ◌<◌, ◌≤◌, ◌<ℤ◌, ◌⊎◌, inl, inr, true, false, eqb, max, fold, List, [], ◌∷◌, length, get_or, Option, None, Some, is_some, unwrap_or, IfSome, ℤ, pos, sym, ap, subst, refl, ◌∙◌, arith}
+use Rattle.std.proofs.Common.{◌≡◌, ◌≢◌, ℕ, ◌+◌, ◌-◌, ◌*◌, ◌<◌, ◌≤◌, ◌⊎◌, inl, inr, true, false, eqb, max, fold, List, length, get_or, Option, None, Some, is_some, IfSome, ℤ, sym, ap, subst, refl, ◌∙◌, arith}
 use Rattle.std.specs.Prelude.{option_map}
 use Rattle.std.specs.List.{list_any, position}
 use Rattle.std.specs.Option.{option_zip, option_and_then}
-use Rattle.std.proofs.lemmas.Bool.{cases_eq, cases_lt, eq-eqb, eqb-true, ne_eqb, le-ltb, cond-true, cond-false}
+use Rattle.std.proofs.lemmas.Bool.{cases_eq}
 use Rattle.std.proofs.lemmas.List.Elements.{All-get_or}
-use Rattle.std.proofs.lemmas.Option.{same_Some}
 use Rattle.ascii_grid.proofs.Places.{make_place, entry-inside, index_below}
 use Rattle.ascii_grid.specs.Raster.{Terrain, IsTerrain, IsHeight}
-use Rattle.ascii_grid.specs.Neighbours.{IsInside, height_at, entry_at, index_of, Touches, IsNeighbour}
-use Rattle.ascii_grid.specs.Filled.{height_of}
+use Rattle.ascii_grid.specs.Neighbours.{IsInside, height_at, entry_at, index_of, Touches}
 use Rattle.ascii_grid.specs.Ways.{place_on, place_of, before, entry_on, code_of}
 use Rattle.ascii_grid.specs.declared.place.Place.{Place}
 use Rattle.drain.specs.Amid.{around_index, drop_by, HasHeights, StandAround}
@@ -17,13 +15,11 @@ use Rattle.drain.specs.Beginning.{IsOutermost}
 use Rattle.drain.specs.Directions.{IsCodeAt}
 use Rattle.drain.specs.Fitting.{IsLaidAround}
 use Rattle.drain.specs.Steepness.{weights, drop_to, leads_on}
-use Rattle.drain.specs.Steps.{AreSteps}
+use Rattle.drain.specs.Steps.{DrainsAtOnce, AreSteps}
 use Rattle.drain.specs.declared.around.Around.{Around}
-use Rattle.drain.proofs.AroundLemmas.{cases_option, some_way, steps_at, weight-drop}
-use Rattle.drain.proofs.Greatest.{fold-max_is}
-use Rattle.drain.proofs.Laid.{laid_fits, laid_code}
-use Rattle.drain.proofs.Ways.{eight, before-is, zip_some}
-use Rattle.drain.proofs.Weights.{length-weights, get_or-weights, drains_onward, direction_down}
+use Rattle.drain.proofs.AroundLemmas.{cases_option, shown_on, around_with, laid_with, steps_at}
+use Rattle.drain.proofs.Laid.{with_steps, without_steps, leads as leads_by_steps, is_down, is_outlet, is_onward, code_is}
+use Rattle.drain.proofs.Ways.{eight, before-is}
 
 drop_is : (level : ℤ) (w : Option (ℤ × ℕ)) → drop_by level (option_map (λ (v : ℤ × ℕ). v.0) w) ≡ drop_to level w
 drop_is level None = refl
@@ -136,29 +132,14 @@ zip_heights t steps q are = elim (cases_option (height_at t q)) [
       ∙ sym some.1)
 ]
 
--- what a way from a place shows
-abbrev pub shown_on : Terrain → List (Option ℕ) → Place → ℕ → Option (ℤ × ℕ)
-shown_on t steps p way = option_zip (entry_on t.cols t.rows t.cells way p) (entry_on t.cols t.rows steps way p)
-
--- what stands around a cell of this level and these steps
+-- what stands around a cell of this level and these steps, as far as its direction takes it
 abbrev pub around_of : Terrain → List (Option ℕ) → Place → ℤ → ℕ → Around
-around_of t steps p level own = record {
-  level = level;
-  steps = own;
-  edge = eqb own 0;
-  ways = shown_on t steps p 0 ∷ shown_on t steps p 1 ∷ shown_on t steps p 2 ∷ shown_on t steps p 3 ∷ shown_on t steps p 4 ∷ shown_on t steps p 5 ∷ shown_on t steps p 6 ∷ shown_on t steps p 7 ∷ [];
-}
+around_of t steps p level own = around_with t steps p level own false
 
 module _ (t : Terrain) (steps : List (Option ℕ)) (p : Place) (level : ℤ) (own : ℕ) (lawful : IsTerrain t) (are : AreSteps t steps) (inside : IsInside t p) (amid : IsOutermost t p → ⊥)
     (high : height_at t p ≡ Some level) (count : entry_at t.cols t.rows steps p ≡ Some own) where
-  pub laid : IsLaidAround t steps p (around_of t steps p level own)
-  laid = record {
-    level = high;
-    own_steps = count;
-    edge = (λ e. eqb-true _ _ e, λ e. eq-eqb _ _ e);
-    count = refl;
-    ways = eight (λ (way : ℕ). get_or (around_of t steps p level own).ways way None ≡ shown_on t steps p way) refl refl refl refl refl refl refl refl;
-  }
+  laid : IsLaidAround t steps p (around_of t steps p level own)
+  laid = laid_with t steps p level own false high count
 
   stand_there : StandAround (around_of t steps p level own) t.cells steps (around_index t.cols (index_of t.cols p)) level own
   stand_there = record {
@@ -191,61 +172,25 @@ module _ (t : Terrain) (steps : List (Option ℕ)) (p : Place) (level : ℤ) (ow
         ∙ ap (λ (o : Option (ℤ × ℕ)). option_map (λ (w : ℤ × ℕ). w.0) o) (sym on ∙ sym (laid.ways way below));
   }
 
-  -- a cell that has steps has no lower neighbour
-  no_drop : 0 < own → (way : ℕ) → way < 8 → drop_to level (get_or (around_of t steps p level own).ways way None) ≤ 0
-  no_drop some way below = elim (cases_lt 0 (drop_to level (get_or (around_of t steps p level own).ways way None))) [
-    | inl drops ↦
-        (let w = some_way (get_or (around_of t steps p level own).ways way None) level drops in
-        let at = zip_some (λ q. entry_at t.cols t.rows t.cells q) (λ q. entry_at t.cols t.rows steps q) (place_on way p) w.0.0 w.0.1 (sym (laid.ways way below) ∙ w.1) in
-        let q = on_way_amid t p inside amid way below in
-        let same : at.0 ≡ q.0 = same_Some _ _ (sym at.1 ∙ q.1.on) in
-        let next : IsNeighbour t p at.0 = record {
-          different = subst (λ (r : Place). p ≢ r) (sym same) q.1.different;
-          touches = subst (λ (r : Place). Touches p r) (sym same) q.1.touches;
-          from_data = ap is_some high;
-          to_data = ap is_some at.2;
-        } in
-        let here : height_of t p ≡ level = ap (λ (o : Option ℤ). unwrap_or o (pos 0)) high in
-        let there : height_of t at.0 ≡ w.0.0 = ap (λ (o : Option ℤ). unwrap_or o (pos 0)) at.2 in
-        let lower : height_of t at.0 <ℤ height_of t p = subst (λ z. z <ℤ height_of t p) (sym there) (subst (λ z. w.0.0 <ℤ z) (sym here) w.2) in
-        let own_steps = steps_at t steps p are (ap is_some high) in
-        let least : own_steps.0 ≤ length {A = Place} [] = own_steps.2.least [] (inl (at.0, next, lower)) in
-        let one : own_steps.0 ≡ own = same_Some _ _ (sym own_steps.1 ∙ count) in
-        absurd (omega (arith, least, one, some)))
-    | inr none ↦ none
-  ]
-
-  flat : 0 < own → fold max 0 (weights (around_of t steps p level own)) ≡ 0
-  flat some = fold-max_is (weights (around_of t steps p level own)) 0 0 (omega arith) (λ k within. elim (cases_lt 0 (get_or (weights (around_of t steps p level own)) k 0)) [
-    | inl weighs ↦
-        (let below : k < 8 = omega (arith, length-weights (around_of t steps p level own), within) in
-        let is = get_or-weights (around_of t steps p level own) k below in
-        let none = no_drop some k below in
-        let drops = weight-drop k (drop_to level (get_or (around_of t steps p level own).ways k None)) (omega (arith, is, weighs)) in
-        absurd (omega (arith, none, drops)))
-    | inr none ↦ none
-  ]) (inl refl)
-
-  off_edge : 0 < own → eqb own 0 ≡ false
-  off_edge some = ne_eqb own 0 (λ e. omega (arith, e, some))
+  stays : 0 < own → DrainsAtOnce t p → ⊥
+  stays some = with_steps t steps p (around_of t steps p level own) are laid some
 
   pub leads : 0 < own → list_any (leads_on (around_of t steps p level own)) (around_of t steps p level own).ways ≡ true
-  leads some = drains_onward (around_of t steps p level own) (laid_fits t steps p (around_of t steps p level own) lawful are laid) (omega (arith, flat some)) (off_edge some)
+  leads some = leads_by_steps t steps p (around_of t steps p level own) are laid (stays some)
 
-  pub code_onward : (way code : ℕ) → 0 < own → position (leads_on (around_of t steps p level own)) (around_of t steps p level own).ways ≡ Some way → code ≡ code_of (Some way) → IsCodeAt t steps p (Some code)
+  pub code_onward : (way code : ℕ) → 0 < own → position (leads_on (around_of t steps p level own)) (around_of t steps p level own).ways ≡ Some way → code ≡ code_of (Some way) → IsCodeAt t p (Some code)
   code_onward way code some first is =
-      laid_code t steps p (around_of t steps p level own) code are laid
-      (is ∙ sym (cond-false _ _ _ (le-ltb 0 (fold max 0 (weights (around_of t steps p level own))) (omega (arith, flat some))) ∙ cond-false _ _ _ (off_edge some) ∙ ap code_of first))
+      code_is t p level code high (is_onward t steps p (around_of t steps p level own) are laid way code (stays some) first is)
 
   pub code_down : (greatest way code : ℕ) → greatest ≡ fold max 0 (weights (around_of t steps p level own)) → 0 < greatest →
-      position (λ w. eqb w greatest) (weights (around_of t steps p level own)) ≡ Some way → code ≡ code_of (Some way) → IsCodeAt t steps p (Some code)
+      position (λ w. eqb w greatest) (weights (around_of t steps p level own)) ≡ Some way → code ≡ code_of (Some way) → IsCodeAt t p (Some code)
   code_down greatest way code greatest_is some first is =
-      laid_code t steps p (around_of t steps p level own) code are laid (is ∙ sym (direction_down (around_of t steps p level own) greatest way greatest_is some first))
+      code_is t p level code high (is_down t steps p (around_of t steps p level own) are laid greatest way code greatest_is some first is)
 
-  pub code_outlet : (greatest code : ℕ) → own ≤ 0 → greatest ≡ fold max 0 (weights (around_of t steps p level own)) → greatest ≤ 0 → code ≡ 0 → IsCodeAt t steps p (Some code)
+  pub code_outlet : (greatest code : ℕ) → own ≤ 0 → greatest ≡ fold max 0 (weights (around_of t steps p level own)) → greatest ≤ 0 → code ≡ 0 → IsCodeAt t p (Some code)
   code_outlet greatest code none greatest_is low is =
-      laid_code t steps p (around_of t steps p level own) code are laid
-      (is ∙ sym (cond-false _ _ _ (le-ltb 0 (fold max 0 (weights (around_of t steps p level own))) (omega (arith, greatest_is, low))) ∙ cond-true _ _ _ (eq-eqb own 0 (omega (arith, none)))))
+      code_is t p level code high
+      (is_outlet t steps p (around_of t steps p level own) are laid code (omega (arith, greatest_is, low)) (without_steps t steps p (around_of t steps p level own) are laid (omega (arith, none))) is)
 
 -- the heights at the places around are the terrain's
 pub heights_there : (t : Terrain) (p : Place) (cells heights : List (Option ℤ)) (at : List ℕ) → cells ≡ t.cells → at ≡ around_index t.cols (index_of t.cols p) →

@@ -4,7 +4,7 @@ use Rattle.std.proofs.lemmas.Int.{ints}
 use Rattle.std.proofs.lemmas.Bool.{cases_eq, false≢true}
 use Rattle.ascii_grid.proofs.Places.{make_place, entry-inside, entry-below, entry-beside, inside_from_entry}
 use Rattle.ascii_grid.specs.Raster.{Terrain}
-use Rattle.ascii_grid.specs.Neighbours.{IsInside, height_at, entry_at, Touches}
+use Rattle.ascii_grid.specs.Neighbours.{IsInside, height_at, entry_at, Touches, IsEdge, HasGapAround}
 use Rattle.ascii_grid.specs.Filled.{height_of}
 use Rattle.ascii_grid.specs.declared.place.Place.{Place}
 use Rattle.drain.specs.Steps.{DrainsAtOnce}
@@ -28,7 +28,7 @@ touched_inside t p q inside amid touch =
 drains_from : (t : Terrain) (p q : Place) (level : ℤ) (o : Option ℤ) → height_at t p ≡ Some level → Touches p q → height_at t q ≡ o → IsGapOrLower level o → DrainsAtOnce t p
 drains_from t p q level None is touch there gap = inr (ap is_some is, inr (inr (q, touch, ap is_some there)))
 drains_from t p q level (Some h) is touch there lower =
-    inl (q, record { different = differ; touches = touch; from_data = ap is_some is; to_data = ap is_some there }, below)
+    inl (q, (record { different = differ; touches = touch; from_data = ap is_some is; to_data = ap is_some there }, below))
   where
     below : height_of t q <ℤ height_of t p
     below = subst (λ z. z <ℤ height_of t p) (sym (height_of_is t q h there)) (subst (λ z. h <ℤ z) (sym (height_of_is t p level is)) lower)
@@ -76,7 +76,7 @@ block_keeps t p level inside amid is north here south = refuted
     gap_at (Some h) e = absurd (false≢true (sym e))
 
     refuted : DrainsAtOnce t p → ⊥
-    refuted (inl (q, next, less)) = none q next.touches (lower_at q (height_at t q) refl next.to_data less)
+    refuted (inl (q, (next, less))) = none q next.touches (lower_at q (height_at t q) refl next.to_data less)
     refuted (inr (data_here, inl e)) = amid (inl e)
     refuted (inr (data_here, inr (inl e))) = amid (inr (inl e))
     refuted (inr (data_here, inr (inr (q, touch, gap)))) = none q touch (gap_at (height_at t q) gap)
@@ -108,30 +108,27 @@ three_fit t p cols row cells size e f inside amid down =
     let same : row * cols ≡ row * t.cols = ap (λ (n : ℕ). row * n) f in
     omega (arith, inside.1)
 
--- an outermost data cell drains at once
-pub outermost_drains : (t : Terrain) (p : Place) (level : ℤ) → IsInside t p → height_at t p ≡ Some level → IsOutermost t p → DrainsAtOnce t p
-outermost_drains t p level inside is (inl e) = inr (ap is_some is, inl e)
-outermost_drains t p level inside is (inr (inl e)) = inr (ap is_some is, inr (inl e))
-outermost_drains t p level inside is (inr (inr (inl e))) =
-    let beyond : t.rows ≤ p.row + 1 = omega arith in
-    inr (
-      ap is_some is,
-      inr (inr (
-        make_place (p.row + 1) p.col,
-        record { row_down = omega arith; row_up = omega arith; col_right = omega arith; col_left = omega arith },
-        ap is_some (entry-below t.cols t.rows t.cells (make_place (p.row + 1) p.col) beyond),
-      )),
-    )
-outermost_drains t p level inside is (inr (inr (inr e))) =
-    let beyond : t.cols ≤ p.col + 1 = omega arith in
-    inr (
-      ap is_some is,
-      inr (inr (
-        make_place p.row (p.col + 1),
-        record { row_down = omega arith; row_up = omega arith; col_right = omega arith; col_left = omega arith },
-        ap is_some (entry-beside t.cols t.rows t.cells (make_place p.row (p.col + 1)) beyond),
-      )),
-    )
+-- an outermost data cell is an edge cell
+pub outermost_edge : (t : Terrain) (p : Place) (level : ℤ) → IsInside t p → height_at t p ≡ Some level → IsOutermost t p → IsEdge t p
+outermost_edge t p level inside is outer = (ap is_some is, gap t p outer)
+  where
+    gap : (t : Terrain) (p : Place) → IsOutermost t p → HasGapAround t p
+    gap t p (inl e) = inl e
+    gap t p (inr (inl e)) = inr (inl e)
+    gap t p (inr (inr (inl e))) =
+        let beyond : t.rows ≤ p.row + 1 = omega arith in
+        inr (inr (
+          make_place (p.row + 1) p.col,
+          record { row_down = omega arith; row_up = omega arith; col_right = omega arith; col_left = omega arith },
+          ap is_some (entry-below t.cols t.rows t.cells (make_place (p.row + 1) p.col) beyond),
+        ))
+    gap t p (inr (inr (inr e))) =
+        let beyond : t.cols ≤ p.col + 1 = omega arith in
+        inr (inr (
+          make_place p.row (p.col + 1),
+          record { row_down = omega arith; row_up = omega arith; col_right = omega arith; col_left = omega arith },
+          ap is_some (entry-beside t.cols t.rows t.cells (make_place p.row (p.col + 1)) beyond),
+        ))
 
 -- the counts that the rounds begin with are on the way to the steps
 pub begun_counting : (t : Terrain) (counts : List (Option ℕ)) → length counts ≡ t.cols * t.rows → ((p : Place) → IsInside t p → IsBegun t p (entry_at t.cols t.rows counts p)) → AreCounting t counts

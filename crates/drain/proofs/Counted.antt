@@ -38,7 +38,7 @@ walk_on t [] p path low = ([], inr path)
 walk_on t (q ∷ rest) p path low =
     let after : crest t q rest ≤ℤ height_of t p = le_then _ _ _ (not_above_max (height_of t p) (crest t q rest)).1 low in
     by_lt_z {P = (walk : List Place) × IsFlatWalk t p walk} (height_of t q) (height_of t p)
-    (λ lower. ([], inl (q, path.0, lower)))
+    (λ lower. ([], inl (q, (path.0, lower))))
     (λ level.
     let same : height_of t q ≡ height_of t p = same_int _ _ (le_then _ _ _ (own_on_path t q rest) after) level in
     let walk = walk_on t rest q path.1 (le_then _ _ _ after level) in

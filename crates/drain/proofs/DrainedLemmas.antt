@@ -7,20 +7,15 @@ use Rattle.ascii_grid.specs.Raster.{Terrain, Raster, IsTerrain}
 use Rattle.ascii_grid.specs.Neighbours.{height_at, entry_at}
 use Rattle.ascii_grid.specs.declared.place.Place.{Place}
 use Rattle.drain.specs.Steps.{AreSteps}
-use Rattle.drain.specs.Directions.{AreCodes, AreDirections}
+use Rattle.drain.specs.Directions.{IsDirection, AreDirections}
 use Rattle.drain.specs.Drained.{IsDraining}
 use Rattle.tiles.specs.Cutting.{Cutting, Cuts, tile_of_place}
 use Rattle.ascii_grid.specs.Filled.{IsFilled}
 use Rattle.drain.specs.Rounds.{AreSettled}
 use Rattle.drain.proofs.Quiet.{still_is_steps, in_own_tile, data_inside}
 use Rattle.drain.proofs.Tiles.{tile_below}
-use Rattle.drain.proofs.AroundLemmas.{direction_leads, cases_option}
-
-pub are_directions : (t : Terrain) (steps codes : List (Option ℕ)) → AreSteps t steps → AreCodes t steps codes → AreDirections t codes
-are_directions t steps codes are all = record {
-  size = all.size;
-  by_steps = (steps, are, all.each);
-}
+use Rattle.drain.proofs.AroundLemmas.{cases_option}
+use Rattle.drain.proofs.Pointing.{direction_leads}
 
 outside_same : {X Y : Type 0} (cols rows : ℕ) (xs : List (Option X)) (ys : List (Option Y)) (p : Place) → (rows ≤ p.row) ⊎ (cols ≤ p.col) → is_some (entry_at cols rows xs p) ≡ is_some (entry_at cols rows ys p)
 outside_same cols rows xs ys p (inl a) = ap is_some (entry-below cols rows xs p a) ∙ sym (ap is_some (entry-below cols rows ys p a))
@@ -34,7 +29,7 @@ everywhere cols rows xs ys same p = elim (cases_lt p.row rows) [
   | inr past ↦ outside_same cols rows xs ys p (inl past)
 ]
 
-pub are_draining : (t : Terrain) (steps codes : List (Option ℕ)) → AreSteps t steps → AreCodes t steps codes → IsDraining (record { terrain = t; steps = steps; codes = codes })
+pub are_draining : (t : Terrain) (steps codes : List (Option ℕ)) → AreSteps t steps → AreDirections t codes → IsDraining (record { terrain = t; steps = steps; codes = codes })
 are_draining t steps codes are all = record {
   codes_size = all.size;
   steps_size = are.size;
@@ -53,7 +48,7 @@ are_draining t steps codes are all = record {
         | inr h ↦
             (let at = MatchOption-at_some _ _ h.0 h.1 (all.each p inside) in
             let same : code ≡ at.0 = same_Some _ _ (sym e ∙ at.1) in
-            direction_leads t steps codes p at.2.0 code at.2.1 (same ∙ at.2.2) some)
+            direction_leads t steps codes p code are (subst (λ n. IsDirection t p n) (sym same) at.2) some)
       ];
 }
 
@@ -79,7 +74,3 @@ same_terrain t cols rows cells a b c =
 -- a grid with its own cells has its own terrain
 pub own_terrain : (g own : Raster) (cells : List (Option ℤ)) → cells ≡ g.terrain.cells → own ≡ record g { terrain = record g.terrain { cells = cells } } → own.terrain ≡ g.terrain
 own_terrain g own cells e is = ap (λ (x : Raster). x.terrain) is ∙ sym (same_terrain g.terrain g.terrain.cols g.terrain.rows cells refl refl e)
-
-pub codes_of : (g f : Raster) (seen steps codes : List (Option ℕ)) → g ≡ f → seen ≡ steps → AreCodes g.terrain seen codes → AreCodes f.terrain steps codes
-codes_of g f seen steps codes e is all =
-    subst (λ (xs : List (Option ℕ)). AreCodes f.terrain xs codes) is (subst (λ (x : Raster). AreCodes x.terrain seen codes) e all)

@@ -18,7 +18,7 @@ cell_on p [] (suc i) = p
 cell_on p (q ∷ rest) (suc i) = cell_on q rest i
 
 pub data_on_walk : (t : Terrain) (p : Place) (rest : List Place) → IsFlatWalk t p rest → IsDataCell t p
-data_on_walk t p [] (inl lower) = lower.1.from_data
+data_on_walk t p [] (inl lower) = lower.1.0.from_data
 data_on_walk t p [] (inr edge) = edge.0
 data_on_walk t p (q ∷ rest) w = w.0.from_data
 

@@ -1,8 +1,8 @@
 -- The greatest of a list of numbers, and where it first stands.
-use Rattle.std.proofs.Common.{◌≡◌, ℕ, zero, suc, ◌+◌, ◌<◌, ◌≤◌, max, Bool, true, false, eqb, List, [], ◌∷◌, length, get_or, fold, Some, ◌⊎◌, inl, inr, sym, ap, refl, ◌∙◌, arith}
-use Rattle.std.proofs.lemmas.Bool.{cases_eq, eq-eqb, ne_eqb, lt-ltb, cond-true, or_from}
+use Rattle.std.proofs.Common.{◌≡◌, ℕ, zero, suc, ◌+◌, ◌<◌, ◌≤◌, max, Bool, true, false, eqb, List, [], ◌∷◌, length, get_or, fold, Some, ◌⊎◌, inl, inr, sym, ap, subst, refl, ◌∙◌, arith}
+use Rattle.std.proofs.lemmas.Bool.{cases_eq, cases_lt, false≢true, eq-eqb, ne_eqb, lt-ltb, cond-true, or_from}
 use Rattle.std.specs.List.{position, position_or_len, list_any}
-use Rattle.std.proofs.lemmas.List.Sums.{position_or_len_is}
+use Rattle.std.proofs.lemmas.List.Sums.{position_or_len_is, fails_before_first}
 
 pub fold-max_is : (xs : List ℕ) (a m : ℕ) → a ≤ m → ((k : ℕ) → k < length xs → get_or xs k 0 ≤ m)
     → ((a ≡ m) ⊎ ((k : ℕ) × (k < length xs) × (get_or xs k 0 ≡ m))) → fold max a xs ≡ m
@@ -82,3 +82,20 @@ le-fold_max (x ∷ xs) a (suc k) =
 pub none_passes : {X : Type 0} (p : X → Bool) (xs : List X) (d : X) → ((k : ℕ) → k < length xs → p (get_or xs k d) ≡ false) → list_any p xs ≡ false
 none_passes p [] d h = refl
 none_passes p (x ∷ xs) d h = or_from _ _ (h 0 (omega arith)) (none_passes p xs d (λ k lt. h (suc k) (omega arith)))
+
+-- an element that passes has a first place
+pub first_passes : {X : Type 0} (p : X → Bool) (xs : List X) (d : X) → list_any p xs ≡ true → (i : ℕ) × (position p xs ≡ Some i)
+first_passes p xs d some = elim (cases_lt (position_or_len p xs) (length xs)) [
+  | inl within ↦ (position_or_len p xs, cond-true _ _ _ (lt-ltb _ _ within))
+  | inr past ↦ absurd (false≢true (sym (none_passes p xs d (λ k h. fails_before_first p xs k d (omega arith))) ∙ some))
+]
+
+pub greatest_of : (xs : List ℕ) (seen : ℕ) → (greatest : ℕ) × (place : ℕ) × IsFirstGreatest xs seen greatest place
+greatest_of xs zero = (0, 0, none_seen xs 0)
+greatest_of xs (suc n) =
+    let g = greatest_of xs n in
+    let next : n + 1 ≡ suc n = omega arith in
+    elim (cases_lt g.0 (get_or xs n 0)) [
+      | inl more ↦ (get_or xs n 0, n, subst (λ k. IsFirstGreatest xs k (get_or xs n 0) n) next (takes_greater xs n g.0 g.1 (get_or xs n 0) g.2 refl more))
+      | inr less ↦ (g.0, g.1, subst (λ k. IsFirstGreatest xs k g.0 g.1) next (keeps_greatest xs n g.0 g.1 (get_or xs n 0) g.2 refl less))
+    ]

@@ -11,6 +11,7 @@ pub mod TileRound
 pub mod Block
 pub mod Ways
 pub mod AroundLemmas
+pub mod Pointing
 pub mod Laid
 pub mod AmidLemmas
 pub mod DrainedLemmas
@@ -22,6 +23,7 @@ pub mod Entered
 pub mod Ends
 pub mod Few
 pub mod Unique
+pub mod EachDirection
 pub mod Nearby
 pub mod Counted
 pub mod Greatest

@@ -7,7 +7,7 @@ use Rattle.ascii_grid.specs.Raster.{Terrain}
 use Rattle.ascii_grid.specs.Neighbours.{height_at, IsDataCell, Touches, IsNeighbour, HasGapAround, IsEdge}
 use Rattle.ascii_grid.specs.Filled.{height_of}
 use Rattle.ascii_grid.specs.declared.place.Place.{Place}
-use Rattle.drain.specs.Steps.{DrainsAtOnce, IsFlatWalk}
+use Rattle.drain.specs.Steps.{HasLower, DrainsAtOnce, IsFlatWalk}
 
 -- holds, or does not
 abbrev pub Decided : Type 0 → Type 0
@@ -119,11 +119,14 @@ gap t p =
 pub edge_cell : (t : Terrain) (p : Place) → Decided (IsEdge t p)
 edge_cell t p = both _ _ (truth (is_some (height_at t p))) (gap t p)
 
-pub drains_at_once : (t : Terrain) (p : Place) → Decided (DrainsAtOnce t p)
-drains_at_once t p =
-    either _ _
+pub has_lower : (t : Terrain) (p : Place) → Decided (HasLower t p)
+has_lower t p =
+    as_well ((q : Place) × IsNeighbour t p q × (height_of t q <ℤ height_of t p)) (HasLower t p)
+    (λ h. (h.0, (h.1, h.2))) (λ h. (h.0, h.1.0, h.1.1))
     (beside t (λ q. height_of t q <ℤ height_of t p) (λ q. lower (height_of t q) (height_of t p)) p)
-    (edge_cell t p)
+
+pub drains_at_once : (t : Terrain) (p : Place) → Decided (DrainsAtOnce t p)
+drains_at_once t p = either _ _ (has_lower t p) (edge_cell t p)
 
 -- a walk of so many moves
 abbrev pub WalksIn : Terrain → Place → ℕ → Type 0

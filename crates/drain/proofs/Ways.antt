@@ -1,7 +1,7 @@
 -- The eight ways from a place, and what stands on them.
-use Rattle.std.proofs.Common.{◌≡◌, ◌≢◌, ℕ, zero, suc, ◌+◌, ◌<◌, inl, inr, Option, None, Some, sym, ap, refl, ◌∙◌, arith}
-use Rattle.std.proofs.lemmas.Bool.{cases_eq}
-use Rattle.std.proofs.lemmas.Option.{none-some, some_pair_parts}
+use Rattle.std.proofs.Common.{◌≡◌, ◌≢◌, ℕ, zero, suc, ◌+◌, ◌%◌, ◌<◌, ◌||◌, eqb, false, inl, inr, Option, None, Some, sym, ap, refl, ◌∙◌, arith}
+use Rattle.std.proofs.lemmas.Bool.{cases_eq, eq-eqb, ne_eqb, or_left, or_right, or_from}
+use Rattle.std.proofs.lemmas.Option.{none-some, same_Some, some_pair_parts}
 use Rattle.std.specs.Option.{option_zip, option_and_then}
 use Rattle.ascii_grid.proofs.Places.{make_place, same_place}
 use Rattle.ascii_grid.specs.Neighbours.{Touches}
@@ -65,6 +65,30 @@ way_to p q t differ = elim (cases_eq q.row (p.row + 1)) [
         ])
   ]
 ]
+
+place_parts : (row col : Option ℕ) (q : Place) → place_of row col ≡ Some q → (row ≡ Some q.row) × (col ≡ Some q.col)
+place_parts None col q e = absurd (none-some q e)
+place_parts (Some r) None q e = absurd (none-some q e)
+place_parts (Some r) (Some c) q e = let same = same_Some (make_place r c) q e in (ap (λ (z : Place). Some z.row) same, ap (λ (z : Place). Some z.col) same)
+
+before-back : (n m : ℕ) → before n ≡ Some m → n ≡ m + 1
+before-back zero m e = absurd (none-some m e)
+before-back (suc n) m e = let same = same_Some n m e in omega (arith, same)
+
+-- even ways lead along a row or column, and odd ones across a diagonal
+pub along : (p q : Place) (way : ℕ) → way < 8 → place_on way p ≡ Some q → (eqb p.row q.row || eqb p.col q.col) ≡ eqb (way % 2) 0
+along p q = eight (λ way. place_on way p ≡ Some q → (eqb p.row q.row || eqb p.col q.col) ≡ eqb (way % 2) 0)
+    (λ e. let at = place_parts (Some p.row) (Some (p.col + 1)) q e in or_left _ _ (eq-eqb _ _ (same_Some _ _ at.0)))
+    (λ e. let at = place_parts (Some (p.row + 1)) (Some (p.col + 1)) q e in let row = same_Some _ _ at.0 in let col = same_Some _ _ at.1 in across (λ same. omega (arith, row, same)) (λ same. omega (arith, col, same)))
+    (λ e. let at = place_parts (Some (p.row + 1)) (Some p.col) q e in or_right _ _ (eq-eqb _ _ (same_Some _ _ at.1)))
+    (λ e. let at = place_parts (Some (p.row + 1)) (before p.col) q e in let row = same_Some _ _ at.0 in let col = before-back _ _ at.1 in across (λ same. omega (arith, row, same)) (λ same. omega (arith, col, same)))
+    (λ e. let at = place_parts (Some p.row) (before p.col) q e in or_left _ _ (eq-eqb _ _ (same_Some _ _ at.0)))
+    (λ e. let at = place_parts (before p.row) (before p.col) q e in let row = before-back _ _ at.0 in let col = before-back _ _ at.1 in across (λ same. omega (arith, row, same)) (λ same. omega (arith, col, same)))
+    (λ e. let at = place_parts (before p.row) (Some p.col) q e in or_right _ _ (eq-eqb _ _ (same_Some _ _ at.1)))
+    (λ e. let at = place_parts (before p.row) (Some (p.col + 1)) q e in let row = before-back _ _ at.0 in let col = same_Some _ _ at.1 in across (λ same. omega (arith, row, same)) (λ same. omega (arith, col, same)))
+  where
+    across : (p.row ≢ q.row) → (p.col ≢ q.col) → (eqb p.row q.row || eqb p.col q.col) ≡ false
+    across row col = or_from _ _ (ne_eqb _ _ row) (ne_eqb _ _ col)
 
 -- two things on one way stand at one place
 pub zip_some : {X Y : Type 0} (f : Place → Option X) (g : Place → Option Y) (o : Option Place) (x : X) (y : Y) → option_zip (option_and_then f o) (option_and_then g o) ≡ Some (x, y) →

@@ -1,40 +1,46 @@
 -- The direction of each cell. The heights of the terrain are its filled heights.
 -- Source: the D8 method of Jenson and Domingue (1988), with this project's ties and outlets.
-use Rattle.std.specs.Prelude.{◌≡◌, ℕ, ◌*◌, ◌<◌, ◌↔◌, List, length, Option, None, Some, MatchOption, IsTrue, slice_index_or}
-use Rattle.std.specs.Option.{option_zip}
+use Rattle.std.specs.Prelude.{◌≡◌, ℕ, ◌+◌, ◌*◌, ◌≤◌, ◌||◌, ◌==◌, if◌then◌else◌, List, length, Option, None, Some, MatchOption}
+use Rattle.std.specs.Int.{int_gap}
 use Rattle.ascii_grid.specs.Raster.{Terrain}
-use Rattle.ascii_grid.specs.Neighbours.{IsInside, height_at, entry_at, IsEdge}
-use Rattle.ascii_grid.specs.Ways.{entry_on}
+use Rattle.ascii_grid.specs.Neighbours.{IsInside, height_at, entry_at, IsNeighbour, IsEdge}
+use Rattle.ascii_grid.specs.Filled.{height_of}
+use Rattle.ascii_grid.specs.Ways.{place_toward}
 use Rattle.ascii_grid.specs.declared.place.Place.{Place}
-use Rattle.drain.specs.Steepness.{direction_of}
-use Rattle.drain.specs.Steps.{AreSteps}
-use Rattle.drain.specs.declared.around.Around.{Around}
+use Rattle.drain.specs.Steps.{IsLower, HasLower, DrainsAtOnce, IsSteps}
 
--- What stands around a data cell: its height and steps, whether it is an edge cell, and the heights and steps of its neighbours.
-pub record IsAround (t : Terrain) (steps : List (Option ℕ)) (p : Place) (a : Around) : Type 0 where
-  pub level : height_at t p ≡ Some a.level
-  pub own_steps : entry_at t.cols t.rows steps p ≡ Some a.steps
-  pub edge : IsTrue a.edge ↔ IsEdge t p
-  pub count : length a.ways ≡ 8
-  pub ways : (way : ℕ) → way < 8 →
-      slice_index_or a.ways way None
-      ≡ option_zip (entry_on t.cols t.rows t.cells way p) (entry_on t.cols t.rows steps way p)
+-- The weight of the drop to a lower neighbour: the square of drop over distance, twice. That is twice the square of
+-- the drop along a row or column, and the square across a diagonal.
+abbrev pub weight_of : Terrain → Place → Place → ℕ
+weight_of t p q =
+    let drop = int_gap (height_of t q) (height_of t p) in
+    if p.row == q.row || p.col == q.col then 2 * (drop * drop) else drop * drop
 
--- The direction of a data cell.
-abbrev pub IsDirection : Terrain → List (Option ℕ) → Place → ℕ → Type 0
-IsDirection t steps p code = (a : Around) × IsAround t steps p a × (code ≡ direction_of a)
+-- A lower neighbour than which none is heavier.
+abbrev pub IsSteepest : Terrain → Place → Place → Type 0
+IsSteepest t p q = IsLower t p q × ((other : Place) → IsLower t p other → weight_of t p other ≤ weight_of t p q)
+
+-- A neighbour of equal height with one step fewer.
+abbrev pub IsOnward : Terrain → Place → Place → Type 0
+IsOnward t p q = IsNeighbour t p q × (height_at t q ≡ height_at t p) × (n : ℕ) × IsSteps t q n × IsSteps t p (n + 1)
+
+-- The code points from p to such a place, and no smaller code does.
+pub record PointsToFirst (IsSuch : Place → Type 0) (p : Place) (code : ℕ) : Type 0 where
+  pub one : (q : Place) × (place_toward code p ≡ Some q) × IsSuch q
+  pub first : (other : ℕ) (q : Place) → place_toward other p ≡ Some q → IsSuch q → code ≤ other
+
+-- The direction of a data cell: to the first of its steepest neighbours where one is lower; else 0 at an edge cell,
+-- which is an outlet; else to the first neighbour of equal height with one step fewer.
+pub record IsDirection (t : Terrain) (p : Place) (code : ℕ) : Type 0 where
+  pub steepest : HasLower t p → PointsToFirst (IsSteepest t p) p code
+  pub outlet : (HasLower t p → ⊥) → IsEdge t p → code ≡ 0
+  pub onward : (DrainsAtOnce t p → ⊥) → PointsToFirst (IsOnward t p) p code
 
 -- The code is the direction of a data cell, and there is none where there is no data.
-abbrev pub IsCodeAt : Terrain → List (Option ℕ) → Place → Option ℕ → Type 0
-IsCodeAt t steps p code = MatchOption (height_at t p) (code ≡ None) (λ _. (n : ℕ) × (code ≡ Some n) × IsDirection t steps p n)
+abbrev pub IsCodeAt : Terrain → Place → Option ℕ → Type 0
+IsCodeAt t p code = MatchOption (height_at t p) (code ≡ None) (λ _. (n : ℕ) × (code ≡ Some n) × IsDirection t p n)
 
 -- The list has the direction of each data cell in row order, and None where there is no data.
 pub record AreDirections (t : Terrain) (codes : List (Option ℕ)) : Type 0 where
   pub size : length codes ≡ t.cols * t.rows
-  pub by_steps : (steps : List (Option ℕ)) × AreSteps t steps
-      × ((p : Place) → IsInside t p → IsCodeAt t steps p (entry_at t.cols t.rows codes p))
-
--- The same, with these steps.
-pub record AreCodes (t : Terrain) (steps codes : List (Option ℕ)) : Type 0 where
-  pub size : length codes ≡ t.cols * t.rows
-  pub each : (p : Place) → IsInside t p → IsCodeAt t steps p (entry_at t.cols t.rows codes p)
+  pub each : (p : Place) → IsInside t p → IsCodeAt t p (entry_at t.cols t.rows codes p)

@@ -7,7 +7,10 @@ use Rattle.ascii_grid.specs.declared.place.Place.{Place}
 use Rattle.tiles.specs.Cutting.{Cutting, IsCutting, Cuts}
 use Rattle.drain.specs.Steps.{IsSteps, AreSteps}
 use Rattle.drain.specs.Rounds.{HasZeros, IsQuiet}
-use Rattle.drain.specs.Directions.{AreDirections}
+use Rattle.drain.specs.Directions.{IsDirection, AreDirections}
+use Rattle.drain.specs.Steepness.{direction_of}
+use Rattle.drain.specs.Fitting.{IsAround}
+use Rattle.drain.specs.declared.around.Around.{Around}
 use Rattle.drain.specs.Drained.{Drained, IsDraining, directed_of, AllFlowEnds}
 
 -- Where a terrain's filled heights are its own, each data cell has exactly one number of steps.
@@ -26,6 +29,15 @@ abbrev pub QuietIsCounted : Type 0
 QuietIsCounted = (t : Terrain) (c : Cutting) (steps : List (Option ℕ)) (lists : ℕ → List (Option ℕ)) →
     IsTerrain t → IsFilled t t.cells → Cuts c t → IsCutting c → length steps ≡ t.cols * t.rows →
     HasZeros t steps → IsQuiet t c steps lists → AreSteps t steps
+
+-- Where a terrain's filled heights are its own, each data cell has exactly one direction.
+abbrev pub EachHasDirection : Type 0
+EachHasDirection = (t : Terrain) (p : Place) → IsTerrain t → IsFilled t t.cells → IsDataCell t p →
+    (code : ℕ) × IsDirection t p code × ((other : ℕ) → IsDirection t p other → other ≡ code)
+
+-- Of what stands around a cell, `direction` answers its direction.
+abbrev pub DirectionIsOfCell : Type 0
+DirectionIsOfCell = (t : Terrain) (steps : List (Option ℕ)) (p : Place) (a : Around) → AreSteps t steps → IsAround t steps p a → IsDirection t p (direction_of a)
 
 -- There is one map of directions.
 abbrev pub DirectionsAreOne : Type 0

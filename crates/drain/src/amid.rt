@@ -102,7 +102,7 @@ pub(crate) fn code_amid(
     requires amid { IsOutermost grid.now.terrain place → ⊥ }
     requires level { height_at grid.now.terrain place ≡ Some level }
     requires own { entry_at grid.now.terrain.cols grid.now.terrain.rows steps.now place ≡ Some own }
-    ensures { IsCodeAt grid.now.terrain steps.now place (Some result) }
+    ensures { IsCodeAt grid.now.terrain place (Some result) }
 {
     let cells = grid.cells();
     let cols = grid.cols() as usize;

@@ -1,6 +1,5 @@
 // The code of a direction.
 ghost use Rattle.std.specs.Prelude.{◌≡◌, ◌<◌, Some};
-ghost use Rattle.std.specs.Option.{SomeIff};
 ghost use Rattle.ascii_grid.specs.Ways.{code_of};
 ghost use Rattle.drain.specs.CodeNumber.{IsCode};
 
@@ -29,16 +28,6 @@ impl Model for Code {
 const WAY_CODES: [u8; 8] = [1, 2, 4, 8, 16, 32, 64, 128];
 
 impl Code {
-    /// The code of this number, None where there is none.
-    pub fn from_number(number: u8) -> Option<Code>
-        ensures { SomeIff result (IsCode number) number }
-    {
-        match number {
-            0 | 1 | 2 | 4 | 8 | 16 | 32 | 64 | 128 => Some(Code { number }),
-            _ => None,
-        }
-    }
-
     /// The code of an outlet.
     #[inline(always)]
     pub fn outlet() -> Code

@@ -21,6 +21,3 @@ pub use code::Code;
 pub use direction_map::Directions;
 pub use draining::{directions, flat_steps};
 pub use steepness::direction;
-
-#[cfg(test)]
-mod tests;

@@ -3,7 +3,7 @@ ghost use Rattle.std.specs.Prelude.{◌≡◌, ◌≢◌, ◌<◌, ◌≤◌, Er
 ghost use Rattle.ascii_grid.specs.Raster.{IsTerrain};
 ghost use Rattle.tiles.specs.Cutting.{IsCutting, Cuts, AreTileLists, IsPutBack};
 ghost use Rattle.drain.specs.Beginning.{IsBegun};
-ghost use Rattle.drain.specs.Directions.{IsCodeAt, AreCodes};
+ghost use Rattle.drain.specs.Directions.{IsCodeAt, AreDirections};
 ghost use Rattle.drain.specs.Rounds.{AreCounting};
 ghost use Rattle.drain.specs.Steps.{AreSteps};
 ghost use Rattle.drain.specs.TileLists.{AreMadeTiles};
@@ -81,7 +81,7 @@ impl<'a> Work for CodeTiles<'a> {
 
     ghost most = { λ w. tile_count w.cutting };
 
-    ghost gives = { λ w tile out. IsMadeTile w.cutting tile (IsCodeAt w.terrain w.steps) out.items };
+    ghost gives = { λ w tile out. IsMadeTile w.cutting tile (IsCodeAt w.terrain) out.items };
 
     fn run(&self, alloc: Global, job: u32) -> Result<Vec<Option<Code>>, JobFault> {
         let bounds = self.tiling.bounds(job);
@@ -163,7 +163,7 @@ fn tile_codes<R: Threads + Wait + Sync, G: Gate + Sync>(
     requires lawful { IsTerrain grid.now.terrain }
     requires steps { AreSteps grid.now.terrain steps.now }
     ensures lawful { IsCutting tiling.now }
-    ensures made { IfOk result (λ lists. AreMadeTiles tiling.now (IsCodeAt grid.now.terrain steps.now) lists.items) }
+    ensures made { IfOk result (λ lists. AreMadeTiles tiling.now (IsCodeAt grid.now.terrain) lists.items) }
     ensures fault { IfErr result (λ e. e ≢ JobFault.BadWorkers) }
     ensures no_thread { result ≡ Err JobFault.NoThread → 1 < workers }
 {
@@ -190,7 +190,7 @@ pub(crate) fn codes<R: Threads + Wait + Sync, G: Gate + Sync>(
     requires workers { (1 ≤ workers) × (workers ≤ 64) }
     requires lawful { IsTerrain grid.now.terrain }
     requires steps { AreSteps grid.now.terrain steps.now }
-    ensures codes { IfOk result (λ codes. AreCodes grid.now.terrain steps.now codes.items) }
+    ensures codes { IfOk result (λ codes. AreDirections grid.now.terrain codes.items) }
     ensures fault { IfErr result (λ e. e ≢ JobFault.BadWorkers) }
     ensures no_thread { result ≡ Err JobFault.NoThread → 1 < workers }
 {

@@ -6,7 +6,8 @@ ghost use Rattle.ascii_grid.specs.Neighbours.{IsInside, height_at, entry_at};
 ghost use Rattle.ascii_grid.specs.Ways.{place_of, before};
 ghost use Rattle.drain.specs.Steps.{AreSteps};
 ghost use Rattle.drain.specs.Directions.{IsCodeAt};
-ghost use Rattle.drain.specs.Fitting.{IsLaidAround};
+ghost use Rattle.drain.specs.Beginning.{IsOutermost};
+ghost use Rattle.drain.specs.Fitting.{IsAround};
 ghost use Rattle.drain.specs.TileLists.{IsPartOf, AreMadeBelow};
 
 use crate::amid::code_amid;
@@ -52,15 +53,16 @@ fn entry(
     }
 }
 
-/// What stands around a data cell. One without a lower neighbour is an edge cell exactly where it has no steps.
+/// What stands around a data cell of the first or last row or column, which is an edge cell.
 #[inline(always)]
 fn around(grid: &Grid, steps: &[Option<u32>], place: Place, level: Height, own: u32) -> Around
     requires size { length steps.now ≡ grid.now.terrain.cols * grid.now.terrain.rows }
     requires lawful { IsTerrain grid.now.terrain }
     requires inside { IsInside grid.now.terrain place }
+    requires outermost { IsOutermost grid.now.terrain place }
     requires level { height_at grid.now.terrain place ≡ Some level }
     requires own { entry_at grid.now.terrain.cols grid.now.terrain.rows steps.now place ≡ Some own }
-    ensures { IsLaidAround grid.now.terrain steps.now place result }
+    ensures { IsAround grid.now.terrain steps.now place result }
 {
     let row = Some(place.row);
     let col = Some(place.col);
@@ -71,7 +73,7 @@ fn around(grid: &Grid, steps: &[Option<u32>], place: Place, level: Height, own: 
     Around {
         level,
         steps: own,
-        edge: own == 0,
+        edge: true,
         ways: [
             entry(grid, steps, row, east),
             entry(grid, steps, south, east),
@@ -85,15 +87,16 @@ fn around(grid: &Grid, steps: &[Option<u32>], place: Place, level: Height, own: 
     }
 }
 
-/// The code of a data cell, of all that stands around it.
+/// The code of a data cell of the first or last row or column.
 #[inline(never)]
-fn code_within(grid: &Grid, steps: &[Option<u32>], place: Place, level: Height, own: u32) -> Code
+fn code_outermost(grid: &Grid, steps: &[Option<u32>], place: Place, level: Height, own: u32) -> Code
     requires lawful { IsTerrain grid.now.terrain }
     requires steps { AreSteps grid.now.terrain steps.now }
     requires inside { IsInside grid.now.terrain place }
+    requires outermost { IsOutermost grid.now.terrain place }
     requires level { height_at grid.now.terrain place ≡ Some level }
     requires own { entry_at grid.now.terrain.cols grid.now.terrain.rows steps.now place ≡ Some own }
-    ensures { IsCodeAt grid.now.terrain steps.now place (Some result) }
+    ensures { IsCodeAt grid.now.terrain place (Some result) }
 {
     direction(&around(grid, steps, place, level, own))
 }
@@ -104,14 +107,14 @@ fn code_at(grid: &Grid, steps: &[Option<u32>], place: Place) -> Option<Code>
     requires lawful { IsTerrain grid.now.terrain }
     requires steps { AreSteps grid.now.terrain steps.now }
     requires inside { IsInside grid.now.terrain place }
-    ensures { IsCodeAt grid.now.terrain steps.now place result }
+    ensures { IsCodeAt grid.now.terrain place result }
 {
     let index = place.row as usize * grid.cols() as usize + place.col as usize;
     let (Some(level), Some(own)) = (grid.at(place), steps[index]) else {
         return None;
     };
     if is_outermost(grid, place) {
-        return Some(code_within(grid, steps, place, level, own));
+        return Some(code_outermost(grid, steps, place, level, own));
     }
     Some(code_amid(grid, steps, place, level, own))
 }
@@ -128,8 +131,8 @@ fn codes_along(
     requires steps { AreSteps grid.now.terrain steps.now }
     requires inside { IsPartOf grid.now.terrain bounds }
     requires row { row < bounds.rows }
-    requires codes { AreMadeBelow bounds (IsCodeAt grid.now.terrain steps.now) (row * bounds.cols) codes.old.items }
-    ensures { OnOk result (AreMadeBelow bounds (IsCodeAt grid.now.terrain steps.now) ((row + 1) * bounds.cols) codes.new.items) }
+    requires codes { AreMadeBelow bounds (IsCodeAt grid.now.terrain) (row * bounds.cols) codes.old.items }
+    ensures { OnOk result (AreMadeBelow bounds (IsCodeAt grid.now.terrain) ((row + 1) * bounds.cols) codes.new.items) }
 {
     for col in 0..bounds.cols {
         let place = Place {
@@ -151,7 +154,7 @@ pub(crate) fn codes_of_tile(
     requires lawful { IsTerrain grid.now.terrain }
     requires steps { AreSteps grid.now.terrain steps.now }
     requires inside { IsPartOf grid.now.terrain bounds }
-    ensures { IfOk result (λ codes. AreMadeBelow bounds (IsCodeAt grid.now.terrain steps.now) (bounds.rows * bounds.cols) codes.items) }
+    ensures { IfOk result (λ codes. AreMadeBelow bounds (IsCodeAt grid.now.terrain) (bounds.rows * bounds.cols) codes.items) }
 {
     let mut codes = Vec::with_capacity(alloc, bounds.rows as usize * bounds.cols as usize)?;
     for row in 0..bounds.rows {

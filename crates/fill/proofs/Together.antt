@@ -8,14 +8,14 @@ use Rattle.std.proofs.lemmas.List.Elements.{All-from_get_or, Contains-get_or}
 use Rattle.std.proofs.lemmas.Nat.{div-add-mod', mod_below, div_below}
 use Rattle.ascii_grid.specs.Raster.{Raster, Terrain}
 use Rattle.ascii_grid.specs.Neighbours.{height_at, entry_at, index_of, IsInside, IsDataCell, IsEdge}
-use Rattle.ascii_grid.specs.Filled.{IsPath, crest, height_of, IsFilledHeight, IsFilled, IsFilledGrid}
+use Rattle.ascii_grid.specs.Filled.{IsPath, crest, height_of, IsFilledHeight, IsFilled, IsFilledGrid, IsOwnFilled}
 use Rattle.ascii_grid.specs.declared.place.Place.{Place}
 use Rattle.ascii_grid.proofs.Places.{entry-inside, inside_from_entry}
 use Rattle.tiles.specs.Cutting.{Cutting, IsCutting, Cuts, View, terrain_of, tile_count, tile_of_place, IsPutBack, AreTileLists, tile_entry}
 use Rattle.tiles.proofs.Cut.{tile_of_place_below}
 use Rattle.tiles.proofs.PutBack.{entry_at-put_back}
 use Rattle.fill.specs.TileFlood.{Flood, IsTileFlood}
-use Rattle.fill.specs.Spills.{AreFloods, IsFilledTile, AreFilledTiles, IsOwnFilled}
+use Rattle.fill.specs.Spills.{AreFloods, IsFilledTile, AreFilledTiles}
 use Rattle.fill.specs.CellJoins.{some_inside}
 use Rattle.std.proofs.lemmas.Bool.{cases_Bool, cond-true, cond-false}
 use Rattle.std.specs.Prelude.{int_lt, Result, Ok, Err, IfOk}

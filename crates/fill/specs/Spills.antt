@@ -3,9 +3,9 @@ use Rattle.std.specs.Prelude.{◌≡◌, ◌≢◌, ℕ, ◌*◌, ◌<◌, true,
 use Rattle.std.specs.declared.alloc.Global.{Global}
 use Rattle.std.specs.Int.{int_max}
 use Rattle.std.specs.List.{Contains}
-use Rattle.ascii_grid.specs.Raster.{Raster, Terrain}
+use Rattle.ascii_grid.specs.Raster.{Terrain}
 use Rattle.ascii_grid.specs.Neighbours.{height_at, index_of, IsDataCell, IsNeighbour, IsEdge}
-use Rattle.ascii_grid.specs.Filled.{IsFilled, IsFilledHeight}
+use Rattle.ascii_grid.specs.Filled.{IsFilledHeight}
 use Rattle.ascii_grid.specs.declared.place.Place.{Place}
 use Rattle.tiles.specs.Cutting.{Cutting, IsCutting, IsWithin, Cuts, tile_count, tile_of_place, is_on_rim, IsInTile, tile_entry, cell_count}
 use Rattle.fill.specs.TileFlood.{Flood, IsTileFlood, level_in, label_in}
@@ -125,10 +125,6 @@ pub record IsFilledTile (t : Terrain) (c : Cutting) (tile : ℕ) (levels : List 
   pub each : (p : Place) → IsInTile c tile p →
       MatchOption (height_at t p) (tile_entry c tile levels p ≡ None)
       (λ _. (level : ℤ) × (tile_entry c tile levels p ≡ Some level) × IsFilledHeight t p level)
-
--- The filled heights of the grid are its own.
-abbrev pub IsOwnFilled : Raster → Type 0
-IsOwnFilled f = IsFilled f.terrain f.terrain.cells
 
 -- The lists of all tiles, each with its filled heights.
 pub record AreFilledTiles (t : Terrain) (c : Cutting) (lists : List (Vec (Option ℤ) Global)) : Type 0 where

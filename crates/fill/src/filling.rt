@@ -9,13 +9,12 @@ ghost use Rattle.fill.specs.TileFlood.{Flood, LabelsInside};
 ghost use Rattle.fill.specs.Gathering.{Fit};
 ghost use Rattle.fill.specs.Parts.{AreParts};
 
-use crate::filled_grid::Filled;
 use crate::parts::{Part, tile_part};
 use crate::raising::raise;
 use crate::spills::SpillGraph;
 use crate::tile::{TileFlood, tile_flood};
 use crate::whole::filled_heights;
-use ascii_grid::{Grid, Height, NoMemory};
+use ascii_grid::{Filled, Grid, Height, NoMemory};
 use std::alloc::Global;
 use std::sync::Wait;
 use std::thread::Threads;
@@ -273,6 +272,3 @@ fn put_back(
     let filled = grid.with_own_cells(cells);
     Ok(Filled::from_grid(filled))
 }
-
-#[cfg(test)]
-mod tests;

@@ -383,6 +383,3 @@ pub fn flood<N: Net>(alloc: Global, net: &N) -> Result<Flooded, NoMemory>
     }
     Ok(Flooded { level, label })
 }
-
-#[cfg(test)]
-mod tests;

@@ -1,23 +1,22 @@
 //! Filled heights: floods over nets of joined nodes.
 #![tactic(auto)]
 
-pub mod cell_net;
-pub mod filled_grid;
-pub mod filling;
-pub mod flooding;
+mod cell_net;
+mod filling;
+mod flooding;
 mod labels;
-pub mod marks;
-pub mod net;
-pub mod parts;
-pub mod passes;
-pub mod raising;
-pub mod sources;
-pub mod spills;
-pub mod tile;
-pub mod whole;
+mod marks;
+mod net;
+mod parts;
+mod passes;
+mod raising;
+mod sources;
+mod spills;
+mod tile;
+mod whole;
 
+pub use ascii_grid::Filled;
 pub use cell_net::CellNet;
-pub use filled_grid::Filled;
 pub use filling::filled;
 pub use flooding::{Flooded, flood};
 pub use net::{Net, Spill};

@@ -15,6 +15,3 @@ pub fn filled_heights(alloc: Global, grid: &Grid) -> Result<Vec<Option<Height>>,
     let flooded = flood(alloc, &net)?;
     without_border(alloc, &flooded.level, grid.cols(), grid.rows())
 }
-
-#[cfg(test)]
-mod tests;

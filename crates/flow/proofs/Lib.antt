@@ -17,7 +17,6 @@ pub mod Shown
 pub mod Piece
 pub mod OneTile
 pub mod Directed
-pub mod Testing
 pub mod RimNumbered
 pub mod RimFlows
 pub mod Together

@@ -4,7 +4,7 @@ use Rattle.clap.specs.Words.{App, Rule, Shape, app_of, with_rule, with_subcomman
 use Rattle.clap.specs.Built.{AddsArg, AddsSubcommand}
 use Rattle.clap.specs.declared.builder.arg.Arg.{Arg}
 use Rattle.clap.specs.declared.builder.command.Command.{Command}
-use Rattle.relief.specs.CommandLine.{IsArg, IsLeaf}
+use Rattle.relief.specs.Commands.{IsArg, IsLeaf}
 
 pub leaf_with : (old new : Command) (a : Arg) (s : Shape) (r : Rule) → IsLeaf s old → IsArg r a → AddsArg old a new → IsLeaf (record s { rules = s.rules ++ r ∷ [] }) new
 leaf_with old new a s r leaf is adds = (adds.shape is.1 ∙ ap₂ with_rule leaf.0 is.0, adds.globals ∙ ap₂ (λ x y. x || y) leaf.1 is.1)

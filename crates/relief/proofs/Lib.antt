@@ -6,3 +6,4 @@ mod Maps
 mod Given
 mod Commands
 mod Asked
+mod Wishes

@@ -14,6 +14,7 @@ use Rattle.flow.specs.Counts.{IsMapOf, accumulation, basin}
 use Rattle.sight.proofs.Uniqueness.{viewsheds_are_one}
 use Rattle.relief.specs.declared.map.Map.{Map}
 use Rattle.relief.specs.declared.map.Map.TheVariants.{Fill, Flow, Accumulate, Basins, View}
+use Rattle.relief.specs.Laws.{AreSame}
 use Rattle.relief.specs.MapText.{IsDrainage, IsMapText, IsMapOfText}
 
 cases_option : {X : Type 0} (o : Option X) → (o ≡ None) ⊎ ((x : X) × (o ≡ Some x))
@@ -76,7 +77,19 @@ one_map_of_grid g Basins text other a b =
 one_map_of_grid g (View observers target radius) text other a b =
     a.2 ∙ ap (λ vs. counts_text g vs) (viewsheds_are_one g.terrain observers.items target radius a.0 b.0 a.1 b.1) ∙ sym b.2
 
-pub one_map : (scale : ℕ) (m : Map) (input text other : List ℕ) → IsMapOfText scale m input text → IsMapOfText scale m input other → text ≡ other
-one_map scale m input text other a b =
+-- the map that is asked for may as well be asked for with other memory
+same_text : (g : Raster) (m n : Map) (text : List ℕ) → AreSame m n → IsMapText g n text → IsMapText g m text
+same_text g Fill n text same h = subst (λ (k : Map). IsMapText g k text) (sym same) h
+same_text g Flow n text same h = subst (λ (k : Map). IsMapText g k text) (sym same) h
+same_text g Accumulate n text same h = subst (λ (k : Map). IsMapText g k text) (sym same) h
+same_text g Basins n text same h = subst (λ (k : Map). IsMapText g k text) (sym same) h
+same_text g (View observers target radius) Fill text same h = subst (λ (k : Map). IsMapText g k text) (sym same) h
+same_text g (View observers target radius) Flow text same h = subst (λ (k : Map). IsMapText g k text) (sym same) h
+same_text g (View observers target radius) Accumulate text same h = subst (λ (k : Map). IsMapText g k text) (sym same) h
+same_text g (View observers target radius) Basins text same h = subst (λ (k : Map). IsMapText g k text) (sym same) h
+same_text g (View observers target radius) (View others height reach) text same h = (h.0, rw (same.0, same.1, same.2) h.1, h.2)
+
+pub one_map : (scale : ℕ) (m n : Map) (input text other : List ℕ) → AreSame m n → IsMapOfText scale m input text → IsMapOfText scale n input other → text ≡ other
+one_map scale m n input text other same_map a b =
     let same : a.0 ≡ b.0 = a.1.grid ∙ sym b.1.grid in
-    one_map_of_grid b.0 m text other (subst (λ (g : Raster). IsMapText g m text) same a.2) b.2
+    one_map_of_grid b.0 m text other (subst (λ (g : Raster). IsMapText g m text) same a.2) (same_text b.0 m n other same_map b.2)

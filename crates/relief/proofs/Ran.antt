@@ -17,7 +17,7 @@ use Rattle.relief.specs.MadeMap.{made_text}
 use Rattle.relief.specs.MapText.{IsMapText}
 use Rattle.relief.specs.Refusals.{wish_fault, IsWorkRefusal}
 use Rattle.relief.specs.Runs.{Runs}
-use Rattle.relief.proofs.Refused.{run_fault_of_grid, text_refused, work_refused, work_is_no_device}
+use Rattle.relief.proofs.Refused.{work_refused, work_is_no_device}
 
 Keeps-same : (a : Option (List ℕ)) → Keeps a a
 Keeps-same None = tt
@@ -40,12 +40,11 @@ pub reading_refused : {R W : Type 0} (remaining : R → Option (List ℕ)) (cont
 reading_refused remaining contents w reader left writer (input.Grid f) fault read sound took =
     let same : left.failures ≡ reader.failures = sound (λ e. cc) in record {
       written = λ text told. tt;
-      refused = λ text told. text_refused w text f (fault text f told refl);
+      refused = λ text told. fault text f told refl;
       unwritten = λ other. (Keeps-same _, refl);
       part = λ text told e. absurd (cc);
-      read = λ e. absurd (cc);
-      failed = λ more. absurd (omega arith);
-      write = λ e. absurd (cc);
+      read = (λ e. absurd (cc), λ more. absurd (omega arith));
+      write = (λ e. absurd (cc), λ more. absurd (omega arith));
       sound = tt;
       taken = (took.bytes, took.consumed, took.few, λ e. absurd (cc));
     }
@@ -55,9 +54,8 @@ reading_refused remaining contents w reader left writer input.Read fault read so
       refused = λ text told. tt;
       unwritten = λ other. (Keeps-same _, refl);
       part = λ text told e. absurd (cc);
-      read = λ e. omega arith;
-      failed = λ less. refl;
-      write = λ e. absurd (cc);
+      read = (λ e. omega arith, λ less. refl);
+      write = (λ e. absurd (cc), λ more. absurd (omega arith));
       sound = tt;
       taken = (took.bytes, took.consumed, took.few, λ e. took.clean refl);
     }
@@ -74,9 +72,8 @@ making_refused remaining contents w reader left writer g f is same took refusal 
       refused = λ text told. work_refused w text g f (is text told) refusal;
       unwritten = λ no_write. (Keeps-same _, refl);
       part = λ text told e. absurd (other.1 (let same_fault : f ≡ Write = cc in same_fault));
-      read = λ e. absurd (other.0 (let same_fault : f ≡ Read = cc in same_fault));
-      failed = λ more. absurd (omega arith);
-      write = λ e. absurd (other.1 (let same_fault : f ≡ Write = cc in same_fault));
+      read = (λ e. absurd (other.0 (let same_fault : f ≡ Read = cc in same_fault)), λ more. absurd (omega arith));
+      write = (λ e. absurd (other.1 (let same_fault : f ≡ Write = cc in same_fault)), λ more. absurd (omega arith));
       sound = tt;
       taken = (took.bytes, took.consumed, took.few, λ e. absurd (other.0 (let same_fault : f ≡ Read = cc in same_fault)));
     }
@@ -91,12 +88,11 @@ pub writing_failed : {R W : Type 0} (remaining : R → Option (List ℕ)) (conte
 writing_failed remaining contents w reader left writer grown g m e is same took ready made writes =
     let more : grown.failures ≡ writer.failures + 1 = writes.count.err in record {
       written = λ text told. tt;
-      refused = λ text told. run_fault_of_grid w text g (is text told) ∙ ready;
+      refused = λ text told. (g, is text told, ready);
       unwritten = λ other. absurd (other refl);
       part = λ text told failed. (made_text g m, (g, is text told, made), writes.part);
-      read = λ failed. absurd (cc);
-      failed = λ less. absurd (omega arith);
-      write = λ failed. omega arith;
+      read = (λ failed. absurd (cc), λ less. absurd (omega arith));
+      write = (λ failed. omega arith, λ less. refl);
       sound = tt;
       taken = (took.bytes, took.consumed, took.few, λ failed. absurd (cc));
     }
@@ -113,9 +109,8 @@ ran remaining contents w reader left writer grown g m is same took made writes =
   refused = λ text told. tt;
   unwritten = tt;
   part = λ text told e. absurd (cc);
-  read = λ e. absurd (cc);
-  failed = tt;
-  write = λ e. absurd (cc);
+  read = (λ e. absurd (cc), λ more. absurd (omega (arith, same)));
+  write = (λ e. absurd (cc), λ more. absurd (omega (arith, writes.count.ok)));
   sound = (same, writes.count.ok);
   taken = (took.bytes, took.consumed, took.few, λ e. absurd (cc));
 }

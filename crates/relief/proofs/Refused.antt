@@ -1,44 +1,16 @@
--- Refusals of the parts of a run as refusals of the run.
-use Rattle.std.proofs.Common.{◌≡◌, ℕ, Bool, true, false, cond, List, Option, None, Some, sym, ap, subst, ◌∙◌}
+-- Refusals of the work as refusals of the run.
+use Rattle.std.proofs.Common.{◌≡◌, ℕ, Bool, true, false, cond, List, Option, None, Some, subst}
 use Rattle.std.specs.Prelude.{⊤, nat_lt}
-use Rattle.std.specs.Option.{option_or, option_map}
+use Rattle.std.specs.Option.{option_map}
 use Rattle.ascii_grid.specs.Raster.{Raster}
-use Rattle.ascii_grid.specs.Words.{words}
-use Rattle.ascii_grid.specs.GridText.{IsGridText, IsRefusal, text_fault, grid_of}
-use Rattle.ascii_grid.specs.declared.fault.GridFault.{GridFault}
-use Rattle.ascii_grid.specs.declared.fault.GridFault.TheVariants as grid
+use Rattle.ascii_grid.specs.GridText.{IsGridText}
 use Rattle.tiles.specs.declared.tiling.TilingFault.TheVariants.{TooManyTiles}
 use Rattle.tiles.specs.Cutting.{most_tiles}
-use Rattle.tile_jobs.specs.declared.JobFault.TheVariants as jobs
 use Rattle.sight.specs.declared.fault.SightFault.{SightFault}
 use Rattle.relief.specs.declared.fault.RunFault.{RunFault}
 use Rattle.relief.specs.declared.fault.RunFault.TheVariants.{Grid, Tiling, Jobs, Sight, Read, Write}
 use Rattle.relief.specs.Wish.{Wish}
-use Rattle.relief.specs.Refusals.{tiles_of, map_fault, wish_fault, run_fault, IsWorkRefusal, IsRunRefusal}
-
--- a text's fault is the run's
-pub run_fault_of_text : (w : Wish) (text : List ℕ) (f : GridFault) → text_fault w.scale text ≡ Some f → run_fault w text ≡ Some (Grid f)
-run_fault_of_text w text f e = ap (λ o. option_or (option_map Grid o) (wish_fault w (grid_of w.scale (words text)))) e
-
--- of a text that is a grid the run's fault is what forbids to map the grid
-pub run_fault_of_grid : (w : Wish) (text : List ℕ) (g : Raster) → IsGridText w.scale text g → run_fault w text ≡ wish_fault w g
-run_fault_of_grid w text g is =
-    ap (λ o. option_or (option_map Grid o) (wish_fault w (grid_of w.scale (words text)))) is.faultless
-    ∙ ap (λ r. wish_fault w r) (sym is.grid)
-
-pub text_refused : (w : Wish) (text : List ℕ) (f : GridFault) → IsRefusal w.scale text f → IsRunRefusal w text (Grid f)
-text_refused w text grid.UnknownKey h = run_fault_of_text w text _ h
-text_refused w text (grid.RepeatedKey slot) h = run_fault_of_text w text _ h
-text_refused w text (grid.MissingKey slot) h = run_fault_of_text w text _ h
-text_refused w text (grid.BadSize slot) h = run_fault_of_text w text _ h
-text_refused w text (grid.BadPlace slot) h = run_fault_of_text w text _ h
-text_refused w text grid.BadNodata h = run_fault_of_text w text _ h
-text_refused w text (grid.BadHeight place) h = run_fault_of_text w text _ h
-text_refused w text (grid.TooFew count) h = run_fault_of_text w text _ h
-text_refused w text grid.TooMany h = run_fault_of_text w text _ h
-text_refused w text (grid.NoValue slot) h = run_fault_of_text w text _ h
-text_refused w text grid.TooLong h = run_fault_of_text w text _ h
-text_refused w text grid.Memory h = h
+use Rattle.relief.specs.Refusals.{tiles_of, map_fault, wish_fault, IsWorkRefusal, IsRunRefusal}
 
 -- a wish is forbidden by too many tiles or by its observers
 abbrev pub Forbids : RunFault → Type 0
@@ -56,12 +28,11 @@ wish_forbids w g f e = go (nat_lt most_tiles (tiles_of g w.tile)) e where
   go true h = let same : Tiling TooManyTiles ≡ f = cc in subst Forbids same tt
   go false h = sights (map_fault g w.map) h
 
+-- a refusal of the work at a text's grid is one at the text
 pub work_refused : (w : Wish) (text : List ℕ) (g : Raster) (f : RunFault) → IsGridText w.scale text g → IsWorkRefusal w g f → IsRunRefusal w text f
-work_refused w text g (Jobs jobs.Memory) is h = run_fault_of_grid w text g is ∙ h
-work_refused w text g (Jobs jobs.NoThread) is h = (run_fault_of_grid w text g is ∙ h.0, h.1)
-work_refused w text g (Jobs jobs.BadWorkers) is h = absurd (wish_forbids w g _ h)
-work_refused w text g (Tiling fault) is h = run_fault_of_grid w text g is ∙ h
-work_refused w text g (Sight fault) is h = run_fault_of_grid w text g is ∙ h
+work_refused w text g (Jobs fault) is h = (g, is, h)
+work_refused w text g (Tiling fault) is h = (g, is, h)
+work_refused w text g (Sight fault) is h = (g, is, h)
 work_refused w text g (Grid fault) is h = absurd (wish_forbids w g _ h)
 work_refused w text g Read is h = tt
 work_refused w text g Write is h = absurd (wish_forbids w g _ h)

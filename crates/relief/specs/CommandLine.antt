@@ -1,15 +1,12 @@
 -- The words of the command line, as `clap` reads them.
-use Rattle.std.specs.Prelude.{◌≡◌, ◌⊎◌, ℕ, ◌<◌, ◌^◌, pos, true, false, List, [], ◌∷◌, map, Some, codes}
+use Rattle.std.specs.Prelude.{◌≡◌, ◌⊎◌, ℕ, ◌<◌, ◌^◌, pos, true, false, List, [], ◌∷◌, map, Some, codes, Any, is_none}
+use Rattle.std.specs.List.{position}
 use Rattle.std.specs.Str.Parse.{IsNumeral, digits_value, without_leading_plus}
 use Rattle.clap.specs.Lexer.{usize_max}
-use Rattle.clap.specs.Words.{App, Row, Rule, Shape, Text, all_of, app_of, new_rule, one_of, rule_of, subcommand_of}
+use Rattle.clap.specs.Words.{App, Row, Rule, Shape, Text, all_of, new_rule, one_of, subcommand_of}
 use Rattle.clap.specs.Simple.{new_shape}
 use Rattle.clap.specs.Faults.{fault_of}
-use Rattle.clap.specs.declared.builder.command.Command.TheViews.{out-Command}
-use Rattle.clap.specs.Kinds.{IsAmong}
 use Rattle.clap.specs.declared.builder.action.ArgAction.TheVariants.{Append}
-use Rattle.clap.specs.declared.builder.arg.Arg.{Arg}
-use Rattle.clap.specs.declared.builder.command.Command.{Command}
 use Rattle.clap.specs.declared.builder.value_parser.ValueParser.{ValueParser}
 use Rattle.clap.specs.declared.builder.value_parser.ValueParser.TheVariants.{Signed}
 use Rattle.clap.specs.declared.error.kind.ErrorKind.{ErrorKind}
@@ -68,37 +65,27 @@ view_shape = record (new_shape (codes "view")) {
   rules = tile_rule ∷ workers_rule ∷ scale_rule ∷ target_rule ∷ radius_rule ∷ observers_rule ∷ [];
 }
 
--- The program, which wants a subcommand, without those that it has.
-abbrev pub bare_app : App
-bare_app = record {
-  top = record (new_shape (codes "relief")) { disable_help_subcommand = true; subcommand_required = true };
-  subs = [];
-}
-
+-- The program, which wants one of its subcommands.
 abbrev pub program_app : App
 program_app = record {
-  top = record bare_app.top { is_leaf = false };
+  top = record (new_shape (codes "relief")) { disable_help_subcommand = true; subcommand_required = true; is_leaf = false };
   subs = map_shape (codes "fill") ∷ map_shape (codes "flow") ∷ map_shape (codes "accumulate")
       ∷ map_shape (codes "basins") ∷ view_shape ∷ [];
 }
 
--- An argument of its command alone, with this rule.
-abbrev pub IsArg : Rule → Arg → Type 0
-IsArg rule a = (rule_of a ≡ rule) × (a.global ≡ false)
-
--- A command without subcommands, with arguments of its own alone.
-abbrev pub IsLeaf : Shape → Command → Type 0
-IsLeaf shape c = (app_of c ≡ record { top = shape; subs = [] }) × ((out-Command c).has_globals ≡ false)
-
 -- ---- what words say
 
--- `clap` shows its help, or a version, at these words.
-abbrev pub AskForHelp : List Text → Type 0
-AskForHelp words = IsAmong DisplayHelp (fault_of program_app words) ⊎ IsAmong DisplayVersion (fault_of program_app words)
+-- What `clap` answers such words with is help, or a version.
+abbrev pub IsHelp : ErrorKind → Type 0
+IsHelp kind = (kind ≡ DisplayHelp) ⊎ (kind ≡ DisplayVersion)
 
--- `clap` finds one of its faults in these words.
-abbrev pub AreFaulty : List Text → Type 0
-AreFaulty words = (kind : ErrorKind) × IsAmong kind (fault_of program_app words)
+abbrev pub AskForHelp : List Text → Type 0
+AskForHelp words = Any IsHelp (fault_of program_app words)
+
+-- `clap` accepts the words: they are the subcommand of this name, with these values.
+pub record AreCommand (words : List Text) (name : Text) (rows : List Row) : Type 0 where
+  pub accepted : fault_of program_app words ≡ []
+  pub found : subcommand_of program_app words ≡ Some (name, rows)
 
 -- The option's value spells this number of 32 bits.
 pub record HasNumber (rows : List Row) (id : Text) (n : ℕ) : Type 0 where
@@ -126,20 +113,27 @@ abbrev pub HasOptions : List Row → ℕ → ℕ → ℕ → Type 0
 HasOptions rows tile workers scale =
     HasNumber rows (codes "tile") tile × HasNumber rows (codes "workers") workers × HasNumber rows (codes "scale") scale
 
--- The words wish for this map, by their subcommand and its options.
+-- The words wish for this map, by their subcommand and its options, which are in their limits.
 pub record WishFor (words : List Text) (wish : Wish) : Type 0 where
   pub name : Text
   pub rows : List Row
-  pub found : subcommand_of program_app words ≡ Some (name, rows)
+  pub command : AreCommand words name rows
   pub map : Names name rows wish.map
   pub options : HasOptions rows wish.tile wish.workers wish.scale
+  pub limits : IsWish wish
 
--- The words wish for no map within the limits.
-abbrev pub WishForNone : List Text → Type 0
-WishForNone words = (wish : Wish) → IsWish wish → WishFor words wish → ⊥
-
+-- `clap` refuses the words, or accepts them where they wish for no map.
 abbrev pub AreRefused : List Text → Type 0
-AreRefused words = AreFaulty words ⊎ WishForNone words
+AreRefused words = Any (λ kind. ¬ IsHelp kind) (fault_of program_app words)
+    ⊎ ((fault_of program_app words ≡ []) × ((wish : Wish) → ¬ WishFor words wish))
+
+-- The first of the words after `view` that is no observer stands at this place from 0.
+pub record HasBadObserver (words : List Text) (place : ℕ) : Type 0 where
+  pub rows : List Row
+  pub command : AreCommand words (codes "view") rows
+  pub observers : List Text
+  pub given : all_of (codes "observers") rows ≡ Some observers
+  pub first : position (λ word. is_none (observer_of word)) observers ≡ Some place
 
 -- The words that the program was started with; where there are none, its name alone.
 abbrev pub words_given : List Text → List Text

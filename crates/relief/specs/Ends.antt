@@ -1,20 +1,23 @@
 -- How the program ends, on any schedule of its workers.
-use Rattle.std.specs.Prelude.{◌≡◌, ◌⊎◌, ℕ, List, Option, Result, ⊤, MatchResult}
+use Rattle.std.specs.Prelude.{◌≡◌, ◌⊎◌, ℕ, List, [], ◌++◌, Option, Result, ⊤, MatchResult, codes, decimal}
 use Rattle.ascii_grid.specs.Device.{Device, Writes}
 use Rattle.ascii_grid.specs.declared.counted.WriteFailed.{WriteFailed}
+use Rattle.clap.specs.Words.{Text}
 use Rattle.relief.specs.declared.fault.RunFault.{RunFault}
 use Rattle.relief.specs.FaultLine.{fault_line, fault_status}
 use Rattle.relief.specs.Wish.{Wish}
 use Rattle.relief.specs.Runs.{Runs}
-use Rattle.relief.specs.CommandLine.{AskForHelp, AreRefused}
-use Rattle.clap.specs.Words.{Text}
+use Rattle.relief.specs.CommandLine.{AskForHelp, AreRefused, HasBadObserver}
 
--- A run's status: 0 where it is done, and the fault's where it is refused. Then the fault's line was written to the
--- errors, as far as they took it.
+-- The text was written, or a front part of it where the device has failed once more.
+abbrev pub Tells : {D : Type 0} → (D → Option (List ℕ)) → Device D → Device D → List ℕ → Type 0
+Tells contents old new text = (written : Result ⊤ WriteFailed) × Writes contents old new text written
+
+-- A run that is done tells nothing and ends with 0; a fault is told in its line and ends with its status.
 abbrev pub EndsAs : {E : Type 0} → (E → Option (List ℕ)) → Device E → Device E → Result ⊤ RunFault → ℕ → Type 0
-EndsAs contents errors told result status = MatchResult result
+EndsAs lines errors told result status = MatchResult result
     (λ _. (status ≡ 0) × (told ≡ errors))
-    (λ f. (status ≡ fault_status f) × ((written : Result ⊤ WriteFailed) × Writes contents errors told (fault_line f) written))
+    (λ f. (status ≡ fault_status f) × Tells lines errors told (fault_line f))
 
 -- The map wished for was run.
 pub record EndsRun {R W E : Type 0} (remaining : R → Option (List ℕ)) (contents : W → Option (List ℕ)) (lines : E → Option (List ℕ)) (wish : Wish) (reader left : Device R) (writer grown : Device W) (errors told : Device E) (status : ℕ) : Type 0 where
@@ -22,8 +25,21 @@ pub record EndsRun {R W E : Type 0} (remaining : R → Option (List ℕ)) (conte
   pub runs : Runs remaining contents wish reader left writer grown result
   pub ends : EndsAs lines errors told result status
 
--- Nothing was read: the words ask for help, which alone goes to the writer, or they are refused, or there was no memory
--- to read them.
-pub record EndsUnread {R W : Type 0} (words : List Text) (reader left : Device R) (writer grown : Device W) (status : ℕ) : Type 0 where
+-- A text that ends a line.
+abbrev pub EndsLine : List ℕ → Type 0
+EndsLine text = (front : List ℕ) × (text ≡ front ++ codes "\n")
+
+-- What is told of refused words: of a bad observer word its place, and of others what `clap` has to say.
+pub record IsRefusalText (words : List Text) (text : List ℕ) : Type 0 where
+  pub refused : AreRefused words
+  pub line : EndsLine text
+  pub bad_observer : (place : ℕ) → HasBadObserver words place →
+      text ≡ codes "relief: bad observer word " ++ decimal place ++ codes "\n"
+
+-- Nothing was read: the words ask for help, which goes to the writer, or they are refused, which goes to the errors, or
+-- there was no memory to read them.
+pub record EndsUnread {R W E : Type 0} (contents : W → Option (List ℕ)) (lines : E → Option (List ℕ)) (words : List Text) (reader left : Device R) (writer grown : Device W) (errors told : Device E) (status : ℕ) : Type 0 where
   pub unread : left ≡ reader
-  pub status_is : ((status ≡ 0) × AskForHelp words) ⊎ ((grown ≡ writer) × (((status ≡ 1) × AreRefused words) ⊎ (status ≡ 3)))
+  pub reason : (AskForHelp words × (status ≡ 0) × ((text : List ℕ) × EndsLine text × Tells contents writer grown text) × (told ≡ errors))
+      ⊎ (((text : List ℕ) × IsRefusalText words text × Tells lines errors told text) × (status ≡ 1) × (grown ≡ writer))
+      ⊎ ((status ≡ 3) × (grown ≡ writer) × (told ≡ errors))

@@ -5,6 +5,7 @@ pub mod MapText
 pub mod Refusals
 pub mod Runs
 pub mod CommandLine
+pub mod Commands
 pub mod WordsFaults
 pub mod Ends
 pub mod MadeMap

@@ -1,18 +1,15 @@
 -- Which refusals a run may answer, and in which order: the text's fault, too many tiles, the observers'
 -- fault, the work's want of memory or of a thread, a failed write.
 use Rattle.std.specs.Prelude.{◌≡◌, ℕ, ◌<◌, nat_lt, ⊤, if◌then◌else◌, List, Option, None, Some, option_map}
-use Rattle.std.specs.Option.{option_or}
-use Rattle.ascii_grid.specs.Words.{words}
 use Rattle.ascii_grid.specs.Raster.{Raster}
-use Rattle.ascii_grid.specs.GridText.{text_fault, grid_of, judged_words, AsksForCells}
-use Rattle.ascii_grid.specs.declared.fault.GridFault.TheVariants as grid
+use Rattle.ascii_grid.specs.GridText.{IsGridText, IsRefusal}
 use Rattle.tiles.specs.Cutting.{tile_count, most_tiles}
 use Rattle.tiles.specs.declared.tiling.TilingFault.TheVariants.{TooManyTiles}
 use Rattle.tile_jobs.specs.declared.JobFault.TheVariants as jobs
 use Rattle.sight.specs.declared.fault.SightFault.{SightFault}
 use Rattle.sight.specs.Refusals.{observers_fault}
 use Rattle.relief.specs.declared.map.Map.{Map}
-use Rattle.relief.specs.declared.map.Map.TheVariants.{Fill, Flow, Accumulate, Basins, View}
+use Rattle.relief.specs.declared.map.Map.TheVariants.{View}
 use Rattle.relief.specs.declared.fault.RunFault.{RunFault}
 use Rattle.relief.specs.declared.fault.RunFault.TheVariants.{Grid, Tiling, Jobs, Sight, Read, Write}
 use Rattle.relief.specs.Wish.{Wish}
@@ -23,20 +20,13 @@ tiles_of g side = tile_count (record { cols = g.terrain.cols; rows = g.terrain.r
 
 -- The observers' fault; the other maps have no observers.
 abbrev pub map_fault : Raster → Map → Option SightFault
-map_fault g Fill = None
-map_fault g Flow = None
-map_fault g Accumulate = None
-map_fault g Basins = None
 map_fault g (View observers target radius) = observers_fault g.terrain observers.items target radius
+map_fault g map = None
 
 -- What forbids to map a grid, None where only the work is left.
 abbrev pub wish_fault : Wish → Raster → Option RunFault
 wish_fault w g =
     if nat_lt most_tiles (tiles_of g w.tile) then Some (Tiling TooManyTiles) else option_map Sight (map_fault g w.map)
-
--- What forbids to map the grid that a text spells: the text's fault, or what forbids to map its grid.
-abbrev pub run_fault : Wish → List ℕ → Option RunFault
-run_fault w text = option_or (option_map Grid (text_fault w.scale text)) (wish_fault w (grid_of w.scale (words text)))
 
 -- The refusal comes rightly for this grid: want of memory or of a thread where only the work is left.
 abbrev pub IsWorkRefusal : Wish → Raster → RunFault → Type 0
@@ -44,11 +34,9 @@ IsWorkRefusal w g (Jobs jobs.Memory) = wish_fault w g ≡ None
 IsWorkRefusal w g (Jobs jobs.NoThread) = (wish_fault w g ≡ None) × (1 < w.workers)
 IsWorkRefusal w g fault = wish_fault w g ≡ Some fault
 
--- The refusal comes rightly for this text. A failed read says nothing of the text.
+-- The refusal comes rightly for this text, which is a grid unless it is refused itself. A failed read says nothing of it.
 abbrev pub IsRunRefusal : Wish → List ℕ → RunFault → Type 0
-IsRunRefusal w text (Grid grid.Memory) = AsksForCells (judged_words text)
-IsRunRefusal w text (Jobs jobs.Memory) = run_fault w text ≡ None
-IsRunRefusal w text (Jobs jobs.NoThread) = (run_fault w text ≡ None) × (1 < w.workers)
+IsRunRefusal w text (Grid fault) = IsRefusal w.scale text fault
 IsRunRefusal w text Read = ⊤
-IsRunRefusal w text Write = run_fault w text ≡ None
-IsRunRefusal w text fault = run_fault w text ≡ Some fault
+IsRunRefusal w text Write = (g : Raster) × IsGridText w.scale text g × (wish_fault w g ≡ None)
+IsRunRefusal w text fault = (g : Raster) × IsGridText w.scale text g × IsWorkRefusal w g fault

@@ -1,5 +1,5 @@
 -- What a run leaves, on any schedule of its workers.
-use Rattle.std.specs.Prelude.{◌≡◌, ◌≢◌, ℕ, ◌+◌, ◌<◌, ◌≤◌, List, length, Option, None, Some, Result, Err, OnOk, IfErr}
+use Rattle.std.specs.Prelude.{◌≡◌, ◌≢◌, ◌↔◌, ℕ, ◌+◌, ◌<◌, ◌≤◌, List, length, Option, None, Some, Result, Err, OnOk, IfErr}
 use Rattle.std.specs.Io.KnownBytes.{Keeps, Appends, Consumes}
 use Rattle.ascii_grid.specs.Device.{Device, AppendsPart}
 use Rattle.ascii_grid.specs.GridText.{most_bytes, fault_so_far}
@@ -22,10 +22,9 @@ pub record Runs {R W T : Type 0} (remaining : R → Option (List ℕ)) (contents
   -- A failed write leaves a front part of the map.
   pub part : (text : List ℕ) → remaining reader.device ≡ Some text → result ≡ Err Write →
       (map : List ℕ) × IsMapOfText w.scale w.map text map × AppendsPart (contents writer.device) (contents grown.device) map
-  -- Read and Write come only where that device failed, and Ok only where neither did.
-  pub read : result ≡ Err Read → reader.failures < left.failures
-  pub failed : IfErr result (λ f. reader.failures < left.failures → f ≡ Read)
-  pub write : result ≡ Err Write → writer.failures < grown.failures
+  -- Read and Write come exactly where that device failed, and Ok only where neither did.
+  pub read : (result ≡ Err Read) ↔ (reader.failures < left.failures)
+  pub write : (result ≡ Err Write) ↔ (writer.failures < grown.failures)
   pub sound : OnOk result ((left.failures ≡ reader.failures) × (grown.failures ≡ writer.failures))
   -- No more bytes are taken than tell that the text is too long; Read comes where no word ended before has a fault.
   pub taken : (taken : List ℕ) × Consumes (remaining reader.device) (remaining left.device) taken

@@ -1,30 +1,52 @@
 -- Why words name no map. Only the contracts of private functions speak of it.
-use Rattle.std.specs.Prelude.{◌≡◌, ◌≢◌, ◌⊎◌, ℕ, List}
+use Rattle.std.specs.Prelude.{◌≡◌, ◌≢◌, ◌⊎◌, ℕ, List, [], Option, Some, is_none, codes}
+use Rattle.std.specs.List.{position}
 use Rattle.ascii_grid.specs.Device.{Device}
-use Rattle.clap.specs.Words.{Text, kind_of}
+use Rattle.clap.specs.Words.{Row, Text, all_of, kind_of}
 use Rattle.clap.specs.Faults.{fault_of}
 use Rattle.clap.specs.Kinds.{HasKind}
 use Rattle.clap.specs.declared.error.kind.ErrorKind.{ErrorKind}
-use Rattle.clap.specs.declared.error.kind.ErrorKind.TheVariants.{DisplayHelp, DisplayVersion, OutOfMemory}
-use Rattle.relief.specs.CommandLine.{WishForNone, program_app}
+use Rattle.clap.specs.declared.error.kind.ErrorKind.TheVariants.{OutOfMemory}
+use Rattle.relief.specs.declared.map.Map.{Map}
+use Rattle.relief.specs.ObserverWord.{observer_of}
+use Rattle.relief.specs.Wish.{Wish}
+use Rattle.relief.specs.CommandLine.{HasBadObserver, IsHelp, Names, WishFor, program_app}
+use Rattle.relief.specs.Ends.{EndsLine, Tells}
 use Rattle.relief.specs.declared.command.WordsFault.{WordsFault}
-use Rattle.relief.specs.declared.command.WordsFault.TheVariants.{Clap}
+use Rattle.relief.specs.declared.command.WordsFault.TheVariants.{Clap, BadObserver, NoMap}
 
--- There was no memory, or `clap` has nothing to say and P holds.
-abbrev pub IsFaultOr : Type 0 → WordsFault → Type 0
-IsFaultOr P (Clap e) = kind_of e ≡ OutOfMemory
-IsFaultOr P fault = P
+-- There was no memory, or a bad observer word stands at a place of which this holds, or there is no map, and that holds.
+abbrev pub IsFaultBy : (ℕ → Type 0) → Type 0 → WordsFault → Type 0
+IsFaultBy AtPlace Missing (Clap e) = kind_of e ≡ OutOfMemory
+IsFaultBy AtPlace Missing (BadObserver place) = AtPlace place
+IsFaultBy AtPlace Missing NoMap = Missing
 
 abbrev pub IsWant : WordsFault → Type 0
-IsWant fault = IsFaultOr ⊥ fault
+IsWant fault = IsFaultBy (λ _. ⊥) ⊥ fault
+
+-- The first of these words that is no observer stands at this place.
+abbrev pub IsBadAmong : List Text → ℕ → Type 0
+IsBadAmong words place = position (λ word. is_none (observer_of word)) words ≡ Some place
+
+-- The same of the words after the subcommand of this name.
+abbrev pub IsBadAfter : Text → List Row → ℕ → Type 0
+IsBadAfter name rows place =
+    (name ≡ codes "view") × ((words : List Text) × (all_of (codes "observers") rows ≡ Some words) × IsBadAmong words place)
+
+-- The subcommand is no map with these values, though each word after `view` is an observer.
+abbrev pub IsNoMap : Text → List Row → Type 0
+IsNoMap name rows = ((map : Map) → ¬ Names name rows map) × ((place : ℕ) → ¬ IsBadAfter name rows place)
 
 -- The fault is that of the words.
 abbrev pub IsFaultOf : List Text → WordsFault → Type 0
 IsFaultOf words (Clap e) = HasKind (fault_of program_app words) e
-IsFaultOf words fault = WishForNone words
+IsFaultOf words (BadObserver place) = HasBadObserver words place
+IsFaultOf words NoMap =
+    (fault_of program_app words ≡ []) × ((wish : Wish) → ¬ WishFor words wish) × ((place : ℕ) → ¬ HasBadObserver words place)
 
--- What an error of this kind leaves of the writer, and its status.
-abbrev pub EndsShowing : {W : Type 0} → ErrorKind → Device W → Device W → ℕ → Type 0
-EndsShowing kind writer grown status =
-    ((status ≡ 0) × ((kind ≡ DisplayHelp) ⊎ (kind ≡ DisplayVersion)))
-    ⊎ ((grown ≡ writer) × (((status ≡ 1) × (kind ≢ OutOfMemory)) ⊎ (status ≡ 3)))
+-- What an error of this kind leaves of the devices, and its status.
+abbrev pub EndsShowing : {W E : Type 0} → (W → Option (List ℕ)) → (E → Option (List ℕ)) → ErrorKind → Device W → Device W → Device E → Device E → ℕ → Type 0
+EndsShowing contents lines kind writer grown errors told status =
+    (IsHelp kind × (status ≡ 0) × ((text : List ℕ) × EndsLine text × Tells contents writer grown text) × (told ≡ errors))
+    ⊎ ((¬ IsHelp kind × (kind ≢ OutOfMemory)) × ((text : List ℕ) × EndsLine text × Tells lines errors told text) × (status ≡ 1) × (grown ≡ writer))
+    ⊎ ((status ≡ 3) × (grown ≡ writer) × (told ≡ errors))

@@ -1,22 +1,23 @@
 // The words of the command line.
 ghost use Rattle.std.specs.Prelude.{◌≡◌, ◌≤◌, ◌<◌, ◌-◌, ◌^◌, ◌⊎◌, ℕ, List, map, codes, Some, IfOk, IfErr, IfSome, IfNone};
+ghost use Rattle.ascii_grid.specs.Device.{Writes};
 ghost use Rattle.clap.specs.Words.{found_of, kind_of, rows_of};
-ghost use Rattle.sight.specs.declared.observer.Observer.{Observer};
 ghost use Rattle.relief.specs.CommandLine.{HasNumber, HasOptions, Names, WishFor, words_given};
-ghost use Rattle.relief.specs.Ends.{EndsRun, EndsUnread};
+ghost use Rattle.relief.specs.Ends.{EndsLine, EndsRun, EndsUnread, Tells};
+ghost use Rattle.relief.specs.FaultLine.{fault_line, fault_status};
 ghost use Rattle.relief.specs.ObserverWord.{observer_of};
-ghost use Rattle.relief.specs.Wish.{AreLimits, Wish};
-ghost use Rattle.relief.specs.WordsFaults.{EndsShowing, IsFaultOf, IsFaultOr, IsWant};
+ghost use Rattle.relief.specs.Wish.{AreLimits, IsWish, Wish};
+ghost use Rattle.relief.specs.WordsFaults.{EndsShowing, IsBadAfter, IsBadAmong, IsFaultBy, IsFaultOf, IsNoMap, IsWant};
 ghost use Rattle.relief.specs.declared.command.WordsFault.TheVariants.{Clap};
-ghost use Rattle.relief.specs.declared.map.Map.{Map};
 
+use crate::fault::RunFault;
 use crate::map::Map;
 use crate::observer_word::parse_observer;
 use crate::options::Options;
 use crate::program::program;
 use crate::running::run;
 use crate::telling::{tell, tell_bad_word};
-use ascii_grid::Counted;
+use ascii_grid::{Counted, WriteFailed};
 use clap::error::ErrorKind;
 use clap::{ArgMatches, Error};
 use sight::Observer;
@@ -39,7 +40,7 @@ enum WordsFault {
     /// `clap` refuses them, or was asked for its help.
     Clap(Error),
     /// The observer word at this place from 0 is none.
-    BadObserver(u32),
+    BadObserver(usize),
     /// They name no map, which `clap` refuses before.
     NoMap,
 }
@@ -71,13 +72,12 @@ fn number_given(found: &ArgMatches<'_>, id: &str) -> Option<u32>
 /// The observers that these words are.
 fn observers_of(alloc: Global, words: &[&str]) -> Result<Vec<Observer>, WordsFault>
     ensures some { IfOk result (λ v. map observer_of (map (λ w. w.now) words.now) ≡ map Some v.items) }
-    ensures none { IfErr result (IsFaultOr ((observers : List Observer) →
-        map observer_of (map (λ w. w.now) words.now) ≡ map Some observers → ⊥)) }
+    ensures none { IfErr result (IsFaultBy (IsBadAmong (map (λ w. w.now) words.now)) ⊥) }
 {
     let mut observers = Vec::new(alloc);
     for place in 0..words.len() {
         let Some(observer) = parse_observer(words[place]) else {
-            return Err(WordsFault::BadObserver(u32::try_from(place).unwrap_or(u32::MAX)));
+            return Err(WordsFault::BadObserver(place));
         };
         observers.push(observer).map_err(AllocError::from)?;
     }
@@ -87,7 +87,8 @@ fn observers_of(alloc: Global, words: &[&str]) -> Result<Vec<Observer>, WordsFau
 /// The viewshed that is asked for.
 fn view_of(alloc: Global, found: &ArgMatches<'_>) -> Result<Map, WordsFault>
     ensures some { IfOk result (Names (codes "view") (rows_of (found_of found.now))) }
-    ensures none { IfErr result (IsFaultOr ((map : Map) → Names (codes "view") (rows_of (found_of found.now)) map → ⊥)) }
+    ensures none { IfErr result (IsFaultBy (IsBadAfter (codes "view") (rows_of (found_of found.now)))
+        (IsNoMap (codes "view") (rows_of (found_of found.now)))) }
 {
     let Some(words) = found.get_strs("observers") else {
         return Err(WordsFault::NoMap);
@@ -109,7 +110,8 @@ fn view_of(alloc: Global, found: &ArgMatches<'_>) -> Result<Map, WordsFault>
 /// The map of this name.
 fn map_of(alloc: Global, name: &str, found: &ArgMatches<'_>) -> Result<Map, WordsFault>
     ensures some { IfOk result (Names name.now (rows_of (found_of found.now))) }
-    ensures none { IfErr result (IsFaultOr ((map : Map) → Names name.now (rows_of (found_of found.now)) map → ⊥)) }
+    ensures none { IfErr result (IsFaultBy (IsBadAfter name.now (rows_of (found_of found.now)))
+        (IsNoMap name.now (rows_of (found_of found.now)))) }
 {
     match name {
         "fill" => Ok(Map::Fill),
@@ -124,6 +126,7 @@ fn map_of(alloc: Global, name: &str, found: &ArgMatches<'_>) -> Result<Map, Word
 /// A map with the options given; None where one of them is not in its limits.
 fn with_options(map: Map, found: &ArgMatches<'_>) -> Option<Options>
     ensures some { IfSome result (λ o. (o.map ≡ map) × HasOptions (rows_of (found_of found.now)) o.tile o.workers o.scale) }
+    ensures limits { IfSome result IsWish }
     ensures none { IfNone result ((tile workers scale : ℕ) → AreLimits tile workers scale →
         HasOptions (rows_of (found_of found.now)) tile workers scale → ⊥) }
 {
@@ -164,13 +167,24 @@ fn parse(alloc: Global, words: &[&str]) -> Result<Options, WordsFault>
     }
 }
 
-/// Writes a text. That this fails changes nothing.
-fn show<W: Write>(text: &str, out: &mut Counted<W>)
+/// Writes a text, with one line end after it.
+fn write_line<W: Write>(text: &str, out: &mut Counted<W>) -> Result<(), WriteFailed>
     requires { out.old.failures < 2 ^ 64 - 1 }
+    ensures { (line : List ℕ) × EndsLine line × Writes W.contents out.old out.new line result }
 {
-    if out.write_all(text.as_bytes()).is_ok() {
-        let _ = out.flush();
-    }
+    out.write_all(text.trim_end().as_bytes())?;
+    out.write_all(b"\n")?;
+    out.flush()
+}
+
+/// Shows a text, and answers a status, whatever becomes of the text.
+fn show<W: Write>(text: &str, out: &mut Counted<W>, status: u8) -> u8
+    requires { out.old.failures < 2 ^ 64 - 1 }
+    ensures status { result ≡ status }
+    ensures line { (line : List ℕ) × EndsLine line × Tells W.contents out.old out.new line }
+{
+    let _ = write_line(text, out);
+    status
 }
 
 /// Shows what `clap` says of the words: its help on the writer, and refusals on the errors.
@@ -182,7 +196,7 @@ fn show_error<W: Write, E: Write>(
 ) -> u8
     requires writer { writer.old.failures < 2 ^ 64 - 1 }
     requires errors { errors.old.failures < 2 ^ 64 - 1 }
-    ensures { EndsShowing (kind_of error.now) writer.old writer.new result }
+    ensures { EndsShowing W.contents E.contents (kind_of error.now) writer.old writer.new errors.old errors.new result }
 {
     if error.kind() == ErrorKind::OutOfMemory {
         return NO_MEMORY;
@@ -191,18 +205,18 @@ fn show_error<W: Write, E: Write>(
         return NO_MEMORY;
     };
     if error.use_stderr() {
-        show(text.as_str(), errors);
-        WORDS_REFUSED
+        show(text.as_str(), errors, WORDS_REFUSED)
     } else {
-        show(text.as_str(), writer);
-        DONE
+        show(text.as_str(), writer, DONE)
     }
 }
 
 /// Runs the program on its words, its name first, and answers the status with which it ends: 0 done,
 /// 1 words refused, 2 the text, the tiles or an observer refused, 3 no memory or no thread, 4 a device
-/// failed. An empty list of words is taken for the name alone. Fault lines, the line of a bad observer
-/// word and what `clap` says of refused words go to `errors`, its help to `writer`.
+/// failed. An empty list of words is taken for the name alone. Help goes to `writer`. What is refused is
+/// told on `errors`: a fault in its line, the first bad observer word by its place, and of other words
+/// what `clap` says. Where no fault or refusal is told `errors` stays as it is. That a device does not take
+/// what is told changes no status.
 pub fn run_words<H: Threads + Wait + Sync, R: Read, W: Write, E: Write>(
     rt: &H,
     alloc: Global,
@@ -215,7 +229,7 @@ pub fn run_words<H: Threads + Wait + Sync, R: Read, W: Write, E: Write>(
     requires writer { writer.old.failures < 2 ^ 64 - 1 }
     requires errors { errors.old.failures < 2 ^ 64 - 1 }
     ensures small { result ≤ 4 }
-    ensures ends { EndsUnread (words_given (map (λ w. w.now) words.now)) reader.old reader.new writer.old writer.new result
+    ensures ends { EndsUnread W.contents E.contents (words_given (map (λ w. w.now) words.now)) reader.old reader.new writer.old writer.new errors.old errors.new result
         ⊎ ((wish : Wish) × WishFor (words_given (map (λ w. w.now) words.now)) wish
         × EndsRun R.remaining W.contents E.contents wish reader.old reader.new writer.old writer.new errors.old errors.new result) }
 {
@@ -226,7 +240,7 @@ pub fn run_words<H: Threads + Wait + Sync, R: Read, W: Write, E: Write>(
             let _ = tell_bad_word(place, errors);
             WORDS_REFUSED
         }
-        Err(WordsFault::NoMap) => WORDS_REFUSED,
+        Err(WordsFault::NoMap) => show("relief: the words name no map", errors, WORDS_REFUSED),
     }
 }
 
@@ -246,9 +260,16 @@ fn run_options<H: Threads + Wait + Sync, R: Read, W: Write, E: Write>(
 {
     match run(rt, alloc, options, reader, writer) {
         Ok(()) => DONE,
-        Err(fault) => {
-            let _ = tell(&fault, errors);
-            fault.status()
-        }
+        Err(fault) => end_with(&fault, errors),
     }
+}
+
+/// Tells a fault, and answers its status.
+fn end_with<E: Write>(fault: &RunFault, errors: &mut Counted<E>) -> u8
+    requires { errors.old.failures < 2 ^ 64 - 1 }
+    ensures status { result ≡ fault_status fault.now }
+    ensures line { Tells E.contents errors.old errors.new (fault_line fault.now) }
+{
+    let _ = tell(fault, errors);
+    fault.status()
 }

@@ -20,6 +20,3 @@ pub use observer_word::parse_observer;
 pub use options::Options;
 pub use running::{run, run_gated};
 pub use telling::tell;
-
-#[cfg(test)]
-mod tests;

@@ -1,7 +1,8 @@
 // The subcommands and options of the program.
 ghost use Rattle.std.specs.Prelude.{◌≡◌, IfOk};
 ghost use Rattle.clap.specs.Words.{app_of};
-ghost use Rattle.relief.specs.CommandLine.{IsArg, IsLeaf, bare_app, map_shape, number_rule, observers_rule, program_app, radius_rule, scale_rule, target_rule, tile_rule, view_shape, workers_rule};
+ghost use Rattle.relief.specs.CommandLine.{map_shape, number_rule, observers_rule, program_app, radius_rule, scale_rule, target_rule, tile_rule, view_shape, workers_rule};
+ghost use Rattle.relief.specs.Commands.{IsArg, IsLeaf, bare_app};
 
 use crate::help::{
     ABOUT, ACCUMULATE, BASINS, COMMON, EXAMPLES, FILL, FLOW, MapHelp, VIEW, VIEW_WORDS,

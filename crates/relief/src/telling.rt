@@ -9,7 +9,7 @@ use ascii_grid::{Counted, Page, WriteFailed};
 use itoa::Buffer;
 use std::io::Write;
 
-fn push_number(number: u32, line: &mut Page)
+fn push_number(number: u64, line: &mut Page)
     requires { length line.old ≤ 1000 }
     ensures text { line.new ≡ line.old ++ decimal number }
     ensures short { length line.new ≤ length line.old + 40 }
@@ -31,7 +31,7 @@ fn push_detail(detail: Option<Detail>, line: &mut Page)
         }
         Some(Detail::Count(count)) => {
             line.push_byte(b' ');
-            push_number(count, line);
+            push_number(u64::from(count), line);
         }
         None => {}
     }
@@ -45,7 +45,7 @@ pub fn tell<W: Write>(fault: &RunFault, out: &mut Counted<W>) -> Result<(), Writ
 {
     let mut line = Page::new();
     line.push(b"relief: ");
-    push_number(u32::from(fault.number()), &mut line);
+    push_number(u64::from(fault.number()), &mut line);
     line.push_byte(b' ');
     line.push(fault.name());
     push_detail(fault.detail(), &mut line);
@@ -54,13 +54,13 @@ pub fn tell<W: Write>(fault: &RunFault, out: &mut Counted<W>) -> Result<(), Writ
 }
 
 /// Writes the line of an observer word that is none, by its place from 0.
-pub(crate) fn tell_bad_word<W: Write>(place: u32, out: &mut Counted<W>) -> Result<(), WriteFailed>
+pub(crate) fn tell_bad_word<W: Write>(place: usize, out: &mut Counted<W>) -> Result<(), WriteFailed>
     requires { out.old.failures < 2 ^ 64 - 1 }
     ensures { Writes W.contents out.old out.new (codes "relief: bad observer word " ++ decimal place ++ codes "\n") result }
 {
     let mut line = Page::new();
     line.push(b"relief: bad observer word ");
-    push_number(place, &mut line);
+    push_number(place as u64, &mut line);
     line.push_byte(b'\n');
     line.write_to(out)
 }

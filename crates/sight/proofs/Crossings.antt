@@ -7,9 +7,10 @@ use Rattle.ascii_grid.specs.Raster.{Terrain}
 use Rattle.ascii_grid.specs.Neighbours.{IsInside, height_at}
 use Rattle.ascii_grid.specs.declared.place.Place.{Place}
 use Rattle.ascii_grid.proofs.Places.{entry-inside}
-use Rattle.sight.specs.Sight.{sight, blocks, column_crossing, row_crossing, column_blocks, row_blocks}
+use Rattle.sight.specs.Sight.{onward, sight, blocks, column_crossing, row_crossing, column_blocks, row_blocks}
 use Rattle.sight.specs.Walk.{whole_at, part_at, index_at, is_above, step_blocks, walk_blocks, columns_of, rows_of, over_columns, over_rows, IsOver}
 use Rattle.sight.proofs.Steps.{whole_le, whole_lt}
+use Rattle.sight.proofs.Toward.{onward_is}
 use Rattle.sight.proofs.Ranges.{any_same}
 
 -- a cell of weight 0 takes no part
@@ -29,29 +30,32 @@ column_step : (t : Terrain) (p q : Place) (e f : ℤ) (k : ℕ) → IsInside t p
 column_step t p q e f k inside_p inside_q low high =
     let n = abs_diff p.col q.col in
     let row = whole_at (rows_of t p q) n k in
-    let col = whole_at (columns_of p q) n k in
+    let col = onward p.col q.col k in
+    let col_is : col ≡ whole_at (columns_of p q) n k = onward_is p.col q.col n k refl (omega arith) (omega arith) in
     let m = part_at (rows_of t p q) n k in
     let i = index_at (columns_of p q) (rows_of t p q) n k in
     let row_in : row < t.rows = omega (arith, whole_le (rows_of t p q) n k (omega arith) (omega arith)) in
-    let col_in : col < t.cols = omega (arith, whole_le (columns_of p q) n k (omega arith) (omega arith)) in
-    let near = height_is t row col i row_in col_in (omega arith) in
+    let col_in : col < t.cols = omega (arith, col_is, whole_le (columns_of p q) n k (omega arith) (omega arith)) in
+    let near = height_is t row col i row_in col_in (omega (arith, col_is)) in
     let far : 0 < m → height_at t (record { row = row + 1; col = col }) ≡ get_or t.cells (i + t.cols) None =
-    λ some. height_is t (row + 1) col (i + t.cols) (omega (arith, whole_lt (rows_of t p q) n k (omega arith) (omega arith) some)) col_in (omega arith) in
+    λ some. height_is t (row + 1) col (i + t.cols) (omega (arith, whole_lt (rows_of t p q) n k (omega arith) (omega arith) some)) col_in (omega (arith, col_is)) in
     above_same _ _ _ _ (n - m) m (sight e f n k) near far
 
 row_step : (t : Terrain) (p q : Place) (e f : ℤ) (k : ℕ) → IsInside t p → IsInside t q → 1 ≤ k → k < 1 + (abs_diff p.row q.row - 1)
     → let n = abs_diff p.row q.row in blocks t (row_crossing p q n k) (sight e f n k) ≡ step_blocks t.cells (rows_of t p q) (columns_of p q) e f n k
 row_step t p q e f k inside_p inside_q low high =
     let n = abs_diff p.row q.row in
-    let row = whole_at (rows_of t p q) n k in
+    let row = onward p.row q.row k in
+    let row_is : row ≡ whole_at (rows_of t p q) n k = onward_is p.row q.row n k refl (omega arith) (omega arith) in
     let col = whole_at (columns_of p q) n k in
     let m = part_at (columns_of p q) n k in
     let i = index_at (rows_of t p q) (columns_of p q) n k in
-    let row_in : row < t.rows = omega (arith, whole_le (rows_of t p q) n k (omega arith) (omega arith)) in
+    let i_is : i ≡ row * t.cols + col = omega (arith, ap (λ x. x * t.cols) row_is) in
+    let row_in : row < t.rows = omega (arith, row_is, whole_le (rows_of t p q) n k (omega arith) (omega arith)) in
     let col_in : col < t.cols = omega (arith, whole_le (columns_of p q) n k (omega arith) (omega arith)) in
-    let near = height_is t row col i row_in col_in (omega arith) in
+    let near = height_is t row col i row_in col_in i_is in
     let far : 0 < m → height_at t (record { row = row; col = col + 1 }) ≡ get_or t.cells (i + 1) None =
-    λ some. height_is t row (col + 1) (i + 1) row_in (omega (arith, whole_lt (columns_of p q) n k (omega arith) (omega arith) some)) (omega arith) in
+    λ some. height_is t row (col + 1) (i + 1) row_in (omega (arith, whole_lt (columns_of p q) n k (omega arith) (omega arith) some)) (omega (arith, i_is)) in
     above_same _ _ _ _ (n - m) m (sight e f n k) near far
 
 pub column_blocks-walk : (t : Terrain) (p q : Place) (e f : ℤ) → IsInside t p → IsInside t q → column_blocks t p q e f ≡ walk_blocks t.cells (over_columns t p q e f)

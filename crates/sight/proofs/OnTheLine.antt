@@ -3,8 +3,7 @@ use Rattle.std.proofs.Common.{arith, sym, ap, ◌∙◌, ◌≡◌, ◌+◌, ◌
 use borrow.Author.Differences.{up, down}
 use Rattle.std.proofs.lemmas.Int.{ints}
 use Rattle.std.proofs.lemmas.Nat.{mod_below, div-add-mod'}
-use Rattle.sight.specs.Sight.{toward}
-use Rattle.sight.specs.Laws.{CrossingsAreOnTheLine}
+use Rattle.sight.specs.Sight.{toward, CrossingsAreOnTheLine}
 
 apart : (b a : ℕ) → up (pos b -ℤ pos a) + a ≡ down (pos b -ℤ pos a) + b
 apart b a = omega (arith, ints)

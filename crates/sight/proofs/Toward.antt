@@ -2,9 +2,9 @@
 use Rattle.std.proofs.Common.{arith, sym, ap, ◌∙◌, ◌≡◌, ◌+◌, ◌-◌, ◌*◌, ◌/◌, ◌%◌, ◌<◌, ◌≤◌, ℕ, max, inl, inr}
 use Rattle.std.specs.Int.{abs_diff}
 use Rattle.std.proofs.Math.Nat.{sub-zero, zero-mod}
-use Rattle.std.proofs.lemmas.Bool.{cases_lt}
+use Rattle.std.proofs.lemmas.Bool.{cases_lt, lt-ltb, le-ltb}
 use Rattle.std.proofs.lemmas.Nat.{div-mul-add, mod-mul-add, div-add-mod', mul-le, mod_below}
-use Rattle.sight.specs.Sight.{toward}
+use Rattle.sight.specs.Sight.{toward, onward}
 
 -- what a quotient and a remainder are, where the number is told with something added to both sides
 pub quotient_is : (t x n m back : ℕ) → t + back * n ≡ x * n + m → m < n → (t / n + back ≡ x) × (t % n ≡ m)
@@ -85,6 +85,13 @@ lead_up_is a b n k e some h = rw (lead_up a b n k e h) (div-mul-add (a + k) n 0 
 
 pub lead_down_is : (a b n k : ℕ) → a ≡ b + n → 0 < n → k ≤ n → toward a b n k / n ≡ b + (n - k)
 lead_down_is a b n k e some h = rw (lead_down a b n k e h) (div-mul-add (b + (n - k)) n 0 some)
+
+pub onward_is : (a b n k : ℕ) → n ≡ abs_diff a b → 0 < n → k ≤ n → onward a b k ≡ toward a b n k / n
+onward_is a b n k e some h =
+    elim (cases_lt a b) [
+      | inl low ↦ rw (lt-ltb a b low) (sym (lead_up_is a b n k (omega arith) some h))
+      | inr high ↦ let there = lead_down_is a b n k (omega arith) some h in rw (le-ltb a b high) (omega (arith, there))
+    ]
 
 pub lead_part : (a b n ahead behind part : ℕ) → n ≡ abs_diff a b → b + behind * n ≡ a + ahead * n + part → part < n → part ≡ 0
 lead_part a b n ahead behind part e gains below =

@@ -1,6 +1,6 @@
 -- What an observer sees. Source: the textbook line of sight, tested where it crosses the lines that join
 -- neighbouring cell centres, over heights as read.
-use Rattle.std.specs.Prelude.{◌≡◌, ℕ, ◌+◌, ◌-◌, ◌*◌, ◌/◌, ◌%◌, Bool, false, not, ◌&&◌, ◌==◌, nat_le, if◌then◌else◌, ℤ, pos, ◌+ℤ◌, ◌*ℤ◌, int_lt, List, length, count_by, Option, None, Some, is_some, option_map, option_and_then, MatchOption}
+use Rattle.std.specs.Prelude.{◌≡◌, ℕ, ◌+◌, ◌-◌, ◌*◌, ◌/◌, ◌%◌, Bool, false, not, ◌&&◌, ◌==◌, ◌<◌, ◌≤◌, nat_lt, nat_le, if◌then◌else◌, ℤ, pos, ◌+ℤ◌, ◌-ℤ◌, ◌*ℤ◌, int_lt, List, length, count_by, Option, None, Some, is_some, option_map, option_and_then, MatchOption}
 use Rattle.std.specs.Int.{abs_diff}
 use Rattle.std.specs.List.{list_any, range_with_len}
 use Rattle.std.specs.Option.{option_map_or}
@@ -21,9 +21,23 @@ highest_eye = 1000000
 abbrev pub longest_radius : ℕ
 longest_radius = 8192
 
--- n times the point that lies k of n steps from a toward b.
+-- n times the point that lies k of n steps from a toward b. Its quotient by n is a whole cell, its remainder the
+-- n-ths of a cell past it.
 abbrev pub toward : ℕ → ℕ → ℕ → ℕ → ℕ
 toward a b n k = a * (n - k) + b * k
+
+-- In signed numbers: with the q cells from a to that whole cell and the m n-ths past it, (b - a) * k = q * n + m,
+-- and m is from 0 to below n.
+abbrev pub CrossingsAreOnTheLine : Type 0
+CrossingsAreOnTheLine =
+    (a b n k : ℕ) → 0 < n → k ≤ n
+    → let q = pos (toward a b n k / n) -ℤ pos a in
+    let m = toward a b n k % n in
+    (m < n) × ((pos b -ℤ pos a) *ℤ pos k ≡ (q *ℤ pos n) +ℤ pos m)
+
+-- k cells from a toward b.
+abbrev pub onward : ℕ → ℕ → ℕ → ℕ
+onward a b k = if nat_lt a b then a + k else a - k
 
 -- The two cells between which a line of sight passes, and how much each weighs.
 pub record Crossing : Type 0 where
@@ -35,9 +49,9 @@ pub record Crossing : Type 0 where
 -- The crossing of the k-th column of n: in that column, the line passes m n-ths of a row past the near cell.
 abbrev pub column_crossing : Place → Place → ℕ → ℕ → Crossing
 column_crossing p q n k =
+    let col = onward p.col q.col k in
     let row = toward p.row q.row n k / n in
     let m = toward p.row q.row n k % n in
-    let col = toward p.col q.col n k / n in
     record {
       near = record { row = row; col = col };
       near_weight = n - m;
@@ -48,9 +62,9 @@ column_crossing p q n k =
 -- The crossing of the k-th row of n: the same with rows and columns exchanged.
 abbrev pub row_crossing : Place → Place → ℕ → ℕ → Crossing
 row_crossing p q n k =
+    let row = onward p.row q.row k in
     let col = toward p.col q.col n k / n in
     let m = toward p.col q.col n k % n in
-    let row = toward p.row q.row n k / n in
     record {
       near = record { row = row; col = col };
       near_weight = n - m;

@@ -1,5 +1,6 @@
 // Facts of the definitions alone.
-ghost use Rattle.sight.specs.Laws.{CrossingsAreOnTheLine, ViewshedsAreOne};
+ghost use Rattle.sight.specs.Laws.{ViewshedsAreOne};
+ghost use Rattle.sight.specs.Sight.{CrossingsAreOnTheLine};
 
 /// However a grid is cut and whoever does the work, there is one viewshed.
 pub fn viewsheds_are_one()

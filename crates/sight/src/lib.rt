@@ -11,8 +11,6 @@ pub mod laws;
 pub mod line;
 pub mod observer;
 mod passing;
-#[cfg(test)]
-mod tests;
 mod tile;
 mod tops;
 pub mod viewing;

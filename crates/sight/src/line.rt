@@ -131,7 +131,7 @@ pub fn sees(
 /// As `sees`, by passing over the blocks of cells that the line of sight is above. The blocks'
 /// greatest heights are `tops`.
 #[inline(always)]
-pub fn sees_past_blocks(
+pub(crate) fn sees_past_blocks(
     grid: &Grid,
     tops: &[Option<Height>],
     observer: &Observer,

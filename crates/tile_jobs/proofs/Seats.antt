@@ -1,5 +1,5 @@
 -- What a take leaves of a seat.
-use Rattle.std.proofs.Common.{◌≡◌, ◌≢◌, ℕ, zero, suc, ◌-◌, ◌%◌, ◌<◌, ◌≤◌, ◌⊎◌, inl, inr, ⊎_elim, Bool, true, false, cond, ◌==◌, nat_lt, List, [], ◌∷◌, ◌++◌, length, get_or, set, take, drop, sym, refl, ap, ◌∙◌, arith}
+use Rattle.std.proofs.Common.{◌≡◌, ◌≢◌, ℕ, zero, suc, ◌-◌, ◌%◌, ◌<◌, ◌≤◌, ◌⊎◌, inl, inr, ⊎_elim, Bool, true, false, cond, ◌==◌, nat_lt, List, [], ◌∷◌, ◌++◌, length, get_or, set, take, drop, sym, refl, ap, ◌∙◌, arith, true≢false}
 use Rattle.std.proofs.lemmas.Bool.Decides.{nat_tests}
 use lib.ListN.{length-append}
 use Rattle.tile_jobs.specs.Board.{deal}
@@ -12,8 +12,12 @@ same_trans a b c x y = (y.0 ∙ x.0, y.1 ∙ x.1, y.2 ∙ x.2, y.3 ∙ x.3)
 kept_took : (a b c : EndState) (j : ℕ) → Kept a b → TookJob b j c → TookJob a j c
 kept_took a b c j x y = (same_trans a b c x.0 y.0, y.1 ∙ ap (λ l. l ++ j ∷ []) x.1, rw (← x.0.1) y.2, rw (← x.0.2, ← x.0.3) y.3, rw (← x.0.1, ← x.0.2, ← x.0.3) y.4, λ m. y.5 (x.2 m))
 
+unmarked_before : (p q : Bool) → (p ≡ true → q ≡ true) → q ≡ false → p ≡ false
+unmarked_before true q stays e = absurd (true≢false (sym (stays refl) ∙ e))
+unmarked_before false q stays e = refl
+
 kept_trans : (a b c : EndState) → Kept a b → Kept b c → Kept a c
-kept_trans a b c x y = (same_trans a b c x.0 y.0, y.1 ∙ x.1, λ m. y.2 (x.2 m))
+kept_trans a b c x y = (same_trans a b c x.0 y.0, y.1 ∙ x.1, (λ m. y.2 (x.2 m)), λ m. let before = x.3 (unmarked_before b.marked c.marked y.2 m) in let after = y.3 m in omega arith)
 
 pub kept_all : (es fs gs : List EndState) → AllKept es fs → AllKept fs gs → length fs ≡ length es → AllKept es gs
 kept_all es fs gs x y len i d low = kept_trans (get_or es i d) (get_or fs i d) (get_or gs i d) (x i d low) (y i d (omega arith))

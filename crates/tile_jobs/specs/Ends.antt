@@ -1,5 +1,5 @@
 -- A seat, and the ends by which it takes from the deques of its board. Source: this project's own.
-use Rattle.std.specs.Prelude.{◌≡◌, ◌≢◌, ℕ, zero, suc, ◌%◌, ◌<◌, ◌≤◌, Bool, true, false, cond, nat_lt, ◌==◌, List, [], ◌∷◌, ◌++◌, length, get_or, drop}
+use Rattle.std.specs.Prelude.{◌≡◌, ◌≢◌, ℕ, zero, suc, ◌%◌, ◌<◌, ◌≤◌, ◌⊎◌, Bool, true, false, cond, nat_lt, ◌==◌, List, [], ◌∷◌, ◌++◌, length, get_or, drop}
 use Rattle.std.specs.declared.alloc.Global.{Global}
 use Rattle.atomic_blocks.specs.Lent.{RowsId}
 use Rattle.tile_jobs.specs.declared.deque.Log.{Log}
@@ -9,7 +9,8 @@ use Rattle.tile_jobs.specs.Rule.{joined, share}
 abbrev pub DequeId : Type 0
 DequeId = RowsId × Global
 
--- one seat's end of one deque: which deque, the jobs that the seat took there, and whether it has the deque's mark
+-- one seat's end of one deque: which deque, the jobs that the seat took there, whether it has the deque's mark,
+-- and how many entries it has seen gone from the deque, none before its first steal
 pub record EndState : Type 0 where
   pub id : DequeId
   pub jobs : ℕ
@@ -17,9 +18,10 @@ pub record EndState : Type 0 where
   pub deque : ℕ
   pub took : List ℕ
   pub marked : Bool
+  pub seen : ℕ
 
-abbrev pub end_of : DequeId → Bool → Log → EndState
-end_of id marked u = record { id = id; jobs = u.jobs; seats = u.seats; deque = u.deque; took = u.took; marked = marked }
+abbrev pub end_of : DequeId → Bool → ℕ → Log → EndState
+end_of id marked seen u = record { id = id; jobs = u.jobs; seats = u.seats; deque = u.deque; took = u.took; marked = marked; seen = seen }
 
 -- what a seat's view is between two calls
 abbrev pub IsSeated : Bool → Log → Type 0
@@ -34,13 +36,17 @@ IsOther marked u = IsSeated marked u × (u.ready ≡ true)
 abbrev pub SameEnd : EndState → EndState → Type 0
 SameEnd e f = (f.id ≡ e.id) × (f.jobs ≡ e.jobs) × (f.seats ≡ e.seats) × (f.deque ≡ e.deque)
 
--- no job was taken, and a mark that was taken stays
+-- no job was taken, a mark that was taken stays, and with no mark what was seen gone grows or stays
 abbrev pub Kept : EndState → EndState → Type 0
-Kept e f = SameEnd e f × (f.took ≡ e.took) × (e.marked ≡ true → f.marked ≡ true)
+Kept e f = SameEnd e f × (f.took ≡ e.took) × (e.marked ≡ true → f.marked ≡ true) × (f.marked ≡ false → e.seen ≤ f.seen)
 
 -- a job of this end's deque was taken
 abbrev pub TookJob : EndState → ℕ → EndState → Type 0
 TookJob e j f = SameEnd e f × (f.took ≡ e.took ++ j ∷ []) × (j < e.jobs) × (j % e.seats ≡ e.deque) × (length f.took ≤ length (deal e.jobs e.seats e.deque)) × (e.marked ≡ true → f.marked ≡ true)
+
+-- nothing was taken through this end, and more entries are seen gone from its deque than before: another taker was met
+abbrev pub MetTaker : EndState → EndState → Type 0
+MetTaker e f = (f ≡ record e { seen = f.seen }) × (e.seen < f.seen)
 
 abbrev pub AllKept : List EndState → List EndState → Type 0
 AllKept es fs = (i : ℕ) (d : EndState) → i < length es → Kept (get_or es i d) (get_or fs i d)
@@ -48,6 +54,20 @@ AllKept es fs = (i : ℕ) (d : EndState) → i < length es → Kept (get_or es i
 -- a job of one of the ends was taken
 abbrev pub TookAmong : List EndState → ℕ → List EndState → Type 0
 TookAmong es j fs = (k : ℕ) × (k < length es) × ((d : EndState) → TookJob (get_or es k d) j (get_or fs k d)) × ((i : ℕ) (d : EndState) → i ≢ k → i < length es → Kept (get_or es i d) (get_or fs i d))
+
+-- no job was taken, and at one of the ends from `from` to `to` another taker was met
+pub record MetAmong (from to : ℕ) (es fs : List EndState) : Type 0 where
+  pub kept : AllKept es fs
+  pub met : (k : ℕ) × (from ≤ k) × (k < to) × ((d : EndState) → MetTaker (get_or es k d) (get_or fs k d))
+
+-- no job was taken, and the ends from `from` to `to` have their marks
+pub record MarksAmong (from to : ℕ) (es fs : List EndState) : Type 0 where
+  pub kept : AllKept es fs
+  pub marks : (k : ℕ) (d : EndState) → from ≤ k → k < to → (get_or fs k d).marked ≡ true
+
+-- the ends before `from`, and those from `to` on, are as they were
+abbrev pub SameElsewhere : ℕ → ℕ → List EndState → List EndState → Type 0
+SameElsewhere from to es fs = (k : ℕ) (d : EndState) → (k < from) ⊎ (to ≤ k) → get_or fs k d ≡ get_or es k d
 
 -- the numbers of a list whose remainder by `seats` is v
 abbrev pub of : ℕ → ℕ → List ℕ → List ℕ
@@ -111,7 +131,7 @@ IsDealer u = (u.owns ≡ true) × (u.pushed ≡ length (feed u.jobs u.seats u.de
 
 -- an end through which nothing was taken yet
 abbrev pub fresh : DealerState → EndState
-fresh d = record { id = d.id; jobs = d.jobs; seats = d.seats; deque = d.deque; took = []; marked = false }
+fresh d = record { id = d.id; jobs = d.jobs; seats = d.seats; deque = d.deque; took = []; marked = false; seen = 0 }
 
 -- the list without its n-th element
 abbrev pub without : {A : Type 0} → ℕ → List A → List A

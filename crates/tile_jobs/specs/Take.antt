@@ -1,9 +1,30 @@
 -- What a try to take a job tells, case by case.
-use Rattle.std.specs.Prelude.{ℕ}
+use Rattle.std.specs.Prelude.{◌≡◌, ℕ, ◌%◌, ◌<◌, ◌⊎◌, true, [], ◌∷◌, ◌++◌, length, get_or}
 use Rattle.tile_jobs.specs.declared.seat.Take.{Take}
 use Rattle.tile_jobs.specs.declared.seat.Take.TheVariants.{Job, Again, Empty}
+use Rattle.tile_jobs.specs.Ends.{EndState, AllKept, MetTaker, SeatState, HasAllMarks}
 
 abbrev pub MatchTake : Take → (ℕ → Type 0) → Type 0 → Type 0 → Type 0
 MatchTake (Job j) job again empty = job j
 MatchTake Again job again empty = again
 MatchTake Empty job again empty = empty
+
+-- a job goes to the end of the seat's list: of its own deque, or else its own deque has none left
+pub record TakesJob (s : SeatState) (j : ℕ) (t : SeatState) : Type 0 where
+  pub below : j < s.own.jobs
+  pub taken : t.taken ≡ s.taken ++ j ∷ []
+  pub own_first : (j % s.own.seats ≡ s.number) ⊎ (t.own.marked ≡ true)
+
+-- no job was taken, and another taker was met
+pub record MeetsTaker (s t : SeatState) : Type 0 where
+  pub taken : t.taken ≡ s.taken
+  pub own_first : t.own.marked ≡ true
+  pub several : 1 < s.own.seats
+  pub kept : AllKept s.others t.others
+  -- some other deque was seen to lose an entry to another seat
+  pub met : (k : ℕ) × (k < length s.others) × ((d : EndState) → MetTaker (get_or s.others k d) (get_or t.others k d))
+
+-- no job was taken, and the seat has every mark
+pub record FindsNone (s t : SeatState) : Type 0 where
+  pub taken : t.taken ≡ s.taken
+  pub marks : HasAllMarks t

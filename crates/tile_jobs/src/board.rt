@@ -12,9 +12,6 @@ use crate::room::put;
 use crate::seat::Seat;
 use std::alloc::Global;
 
-#[cfg(test)]
-mod tests;
-
 /// The most seats of a board.
 const MOST_SEATS: u32 = 64;
 

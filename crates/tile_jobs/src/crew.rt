@@ -1,5 +1,5 @@
 //! The workers of a board, on the caller's thread or on threads of their own.
-ghost use Rattle.std.specs.Prelude.{◌≡◌, ◌≢◌, IfOk, IfErr};
+ghost use Rattle.std.specs.Prelude.{◌≡◌, ◌≢◌, ◌≤◌, vec_len, IfOk, IfErr, OnOk};
 ghost use Rattle.tile_jobs.specs.Workers.{AreNew, AreOutcomes};
 
 use crate::JobFault;
@@ -13,7 +13,8 @@ use std::sync::Wait;
 use std::thread;
 use std::thread::{Scope, Threads};
 
-/// Moves each seat into a thread of its own, and joins them.
+/// Moves each seat into a thread of its own, and joins them. A thread after the first `starts` is
+/// not tried, and counts as one that could not be started.
 pub fn work_apart<'s, E, R: Threads + Wait + Sync, W: Work + Sync, G: Gate + Sync>(
     rt: &'s R,
     alloc: Global,
@@ -21,15 +22,20 @@ pub fn work_apart<'s, E, R: Threads + Wait + Sync, W: Work + Sync, G: Gate + Syn
     work: &'s W,
     gate: &'s G,
     seats: Vec<Seat>,
+    starts: u32,
 ) -> Result<Vec<Result<Shift<W::Out>, JobFault>>, JobFault>
 where
     W::Out: Send + Drop + 's,
     requires { AreNew (W.most work.now) seats.items }
     ensures outcomes { IfOk result (λ v. AreOutcomes (W.gives work.now) seats.items v.items) }
+    ensures started { OnOk result (vec_len seats ≤ starts) }
     ensures fault { IfErr result (λ e. e ≢ JobFault.BadWorkers) }
 {
     let mut children = Vec::with_capacity(alloc, seats.len())?;
     for seat in seats {
+        if children.len() >= starts as usize {
+            return Err(JobFault::NoThread);
+        }
         let duty = Duty {
             work,
             seat: Snapshot::of(&seat),

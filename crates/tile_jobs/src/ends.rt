@@ -1,7 +1,7 @@
 //! A seat's ends of the deques.
-ghost use Rattle.std.specs.Prelude.{◌≡◌, ℕ, ◌<◌, ◌≤◌, true, false, vec_len, slice_index_or, MatchOption};
-ghost use Rattle.crossbeam_deque.specs.Handles.{view as pass_view, IsPassOf, worker_deque, stealer_deque, worker_view, worker_flavor, stealer_flavor};
-ghost use Rattle.tile_jobs.specs.Ends.{EndState, end_of, IsOwn, IsOther, TookJob, Kept, AllKept, TookAmong};
+ghost use Rattle.std.specs.Prelude.{◌≡◌, ◌≤◌, true, false, cond, vec_len, MatchOption};
+ghost use Rattle.crossbeam_deque.specs.Handles.{taken, view as pass_view, IsPassOf, worker_deque, stealer_deque, worker_view, worker_flavor, stealer_flavor};
+ghost use Rattle.tile_jobs.specs.Ends.{EndState, end_of, IsOwn, IsOther, TookJob, Kept, MetTaker, TookAmong, MetAmong, MarksAmong, SameElsewhere};
 ghost use Rattle.tile_jobs.specs.Stolen.{MatchStolen};
 ghost use Rattle.tile_jobs.specs.Got.{MatchGot};
 
@@ -19,7 +19,7 @@ pub struct Own {
 impl Model for Own {
     ghost Value = { EndState };
 
-    ghost view = { λ o. end_of (worker_deque o.worker) o.marked (worker_view o.worker) };
+    ghost view = { λ o. end_of (worker_deque o.worker) o.marked 0 (worker_view o.worker) };
 
     ghost invariant = { λ o. IsOwn o.marked (worker_view o.worker) × (worker_flavor o.worker ≡ 0) };
 }
@@ -29,13 +29,15 @@ impl Model for Own {
 pub struct Other {
     thief: Thief,
     pass: Pass<Entry, Log>,
+    // a steal was tried
+    tried: bool,
     marked: bool,
 }
 
 impl Model for Other {
     ghost Value = { EndState };
 
-    ghost view = { λ o. end_of (stealer_deque o.thief) o.marked (pass_view o.pass) };
+    ghost view = { λ o. end_of (stealer_deque o.thief) o.marked (cond o.tried (taken o.pass) 0) (pass_view o.pass) };
 
     ghost invariant = { λ o. IsOther o.marked (pass_view o.pass) × IsPassOf (stealer_deque o.thief) o.pass × (stealer_flavor o.thief ≡ 0) };
 }
@@ -53,7 +55,7 @@ pub enum Got {
 impl Own {
     pub fn new(worker: Deque) -> Own
         requires { IsOwn false (worker_view worker) × (worker_flavor worker ≡ 0) }
-        ensures { result ≡ end_of (worker_deque worker) false (worker_view worker) }
+        ensures { result ≡ end_of (worker_deque worker) false 0 (worker_view worker) }
     {
         Own {
             worker,
@@ -63,7 +65,7 @@ impl Own {
 
     pub fn into_parts(self) -> (Deque, bool)
         ensures own { IsOwn result.1 (worker_view result.0) × (worker_flavor result.0 ≡ 0) }
-        ensures parts { self ≡ end_of (worker_deque result.0) result.1 (worker_view result.0) }
+        ensures parts { self ≡ end_of (worker_deque result.0) result.1 0 (worker_view result.0) }
     {
         let Own { worker, marked } = self;
         (worker, marked)
@@ -89,22 +91,24 @@ impl Own {
 impl Other {
     pub fn new(thief: Thief, pass: Pass<Entry, Log>) -> Other
         requires { IsOther false (pass_view pass) × IsPassOf (stealer_deque thief) pass × (stealer_flavor thief ≡ 0) }
-        ensures { result ≡ end_of (stealer_deque thief) false (pass_view pass) }
+        ensures { result ≡ end_of (stealer_deque thief) false 0 (pass_view pass) }
     {
         Other {
             thief,
             pass,
+            tried: false,
             marked: false,
         }
     }
 
     pub fn into_pass(self) -> Pass<Entry, Log>
         ensures other { IsOther self.marked (pass_view result) × IsPassOf self.id result }
-        ensures parts { self ≡ end_of self.id self.marked (pass_view result) }
+        ensures parts { self ≡ end_of self.id self.marked self.seen (pass_view result) }
     {
         let Other {
             thief,
             pass,
+            tried: _,
             marked: _,
         } = self;
         drop(thief);
@@ -113,11 +117,12 @@ impl Other {
 
     /// Tries one steal, unless it has the mark.
     pub fn take(&mut self) -> Got
-        ensures { MatchGot result (Kept self.old self.new × (self.new.marked ≡ true)) (self.new ≡ self.old) (λ j. TookJob self.old j self.new) }
+        ensures { MatchGot result (Kept self.old self.new × (self.new.marked ≡ true)) (MetTaker self.old self.new) (λ j. TookJob self.old j self.new) }
     {
         if self.marked {
             return Got::Mark;
         }
+        self.tried = true;
         match steal(&self.thief, &mut self.pass) {
             Some(Entry::Job(job)) => Got::Job(job),
             Some(Entry::End) => {
@@ -143,7 +148,8 @@ pub enum Stolen {
 pub fn steal_among(others: &mut Vec<Other>, from: usize, to: usize) -> Stolen
     requires { (from ≤ to) × (to ≤ vec_len others.old) }
     ensures len { vec_len others.new ≡ vec_len others.old }
-    ensures ends { MatchStolen result (λ j. TookAmong others.old.items j others.new.items) (AllKept others.old.items others.new.items × (from < to)) (AllKept others.old.items others.new.items × ((k : ℕ) (d : EndState) → from ≤ k → k < to → (slice_index_or others.new.items k d).marked ≡ true)) }
+    ensures ends { MatchStolen result (λ j. TookAmong others.old.items j others.new.items) (MetAmong from to others.old.items others.new.items) (MarksAmong from to others.old.items others.new.items) }
+    ensures elsewhere { SameElsewhere from to others.old.items others.new.items }
 {
     let mut met = false;
     for k in from..to {
@@ -160,7 +166,7 @@ pub fn steal_among(others: &mut Vec<Other>, from: usize, to: usize) -> Stolen
 pub fn steal_round(others: &mut Vec<Other>, first: usize) -> Stolen
     requires { first ≤ vec_len others.old }
     ensures len { vec_len others.new ≡ vec_len others.old }
-    ensures ends { MatchStolen result (λ j. TookAmong others.old.items j others.new.items) (AllKept others.old.items others.new.items × (0 < vec_len others.old)) (AllKept others.old.items others.new.items × ((k : ℕ) (d : EndState) → k < vec_len others.old → (slice_index_or others.new.items k d).marked ≡ true)) }
+    ensures ends { MatchStolen result (λ j. TookAmong others.old.items j others.new.items) (MetAmong 0 (vec_len others.old) others.old.items others.new.items) (MarksAmong 0 (vec_len others.old) others.old.items others.new.items) }
 {
     let count = others.len();
     match steal_among(others, first, count) {

@@ -2,7 +2,8 @@
 //! the jobs' numbers.
 //!
 //! What a job does and answers is told by [`Work`], and how many there are by a number: the jobs
-//! are 0, 1, 2 and so on. [`run_jobs`] runs each of them once, whichever worker it falls to.
+//! are 0, 1, 2 and so on. [`run_jobs`] hands back an answer to each of them, whichever worker it
+//! falls to.
 //!
 //! Below it stands a [`Board`]: jobs dealt to the deques of its seats. Each [`Seat`] takes the jobs of
 //! its own deque and then steals those of the others, with no lock and no waiting.
@@ -25,7 +26,7 @@ mod worker;
 
 pub use board::{Board, Closed};
 pub use gate::{Gate, NoGate};
-pub use running::run_jobs;
+pub use running::{run_jobs, run_jobs_capped};
 pub use seat::{Seat, Take};
 use std::alloc::AllocError;
 pub use work::Work;

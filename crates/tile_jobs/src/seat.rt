@@ -1,7 +1,7 @@
 //! Seats, each of which takes jobs from every deque of its board.
-ghost use Rattle.std.specs.Prelude.{◌≡◌, ◌+◌, ◌%◌, ◌⊎◌, ⊤, ◌<◌, ◌≤◌, true, ◌∷◌, [], ◌++◌, vec_capacity, IfOk};
-ghost use Rattle.tile_jobs.specs.Ends.{SeatState, seat_of, IsSeat, SameSeat, MarksStay, HasAllMarks};
-ghost use Rattle.tile_jobs.specs.Take.{MatchTake};
+ghost use Rattle.std.specs.Prelude.{◌≡◌, ◌≤◌, [], vec_capacity, IfOk};
+ghost use Rattle.tile_jobs.specs.Ends.{SeatState, seat_of, IsSeat, SameSeat, MarksStay};
+ghost use Rattle.tile_jobs.specs.Take.{MatchTake, TakesJob, MeetsTaker, FindsNone};
 
 use crate::ends::{Other, Own, Stolen, steal_round};
 use crate::room::put;
@@ -13,7 +13,7 @@ use std::marker::Model;
 pub enum Take {
     /// This job is the caller's, and no other's.
     Job(u32),
-    /// Another taker was met. A later try may get a job.
+    /// A steal met another taker, and no job was got. A later try may get one.
     Again,
     /// No deque holds a job, and none will.
     Empty,
@@ -83,12 +83,12 @@ impl Seat {
     /// other deque that may have one, beginning with the next seat's and going round.
     ///
     /// It takes no memory and waits for nobody. `Empty` comes once this seat has seen the end of
-    /// every deque, and `Again` where a steal met another taker and no job was got.
+    /// every deque, and `Again` only where a steal of this call met another taker: some other deque
+    /// was seen to lose an entry to another seat.
     pub fn try_take(&mut self) -> Take
         ensures same { SameSeat self.old self.new }
         ensures stay { MarksStay self.old self.new }
-        ensures own_first { MatchTake result (λ j. (j % self.old.own.seats ≡ self.old.number) ⊎ (self.new.own.marked ≡ true)) ⊤ ⊤ }
-        ensures took { MatchTake result (λ j. (j < self.old.own.jobs) × (self.new.taken ≡ self.old.taken ++ j ∷ [])) ((self.new.taken ≡ self.old.taken) × (self.new.own.marked ≡ true) × (1 < self.old.own.seats)) ((self.new.taken ≡ self.old.taken) × HasAllMarks self.new) }
+        ensures took { MatchTake result (λ j. TakesJob self.old j self.new) (MeetsTaker self.old self.new) (FindsNone self.old self.new) }
     {
         if let Some(job) = self.own.take() {
             put(&mut self.taken, job);

@@ -12,6 +12,3 @@ pub use bounds::Bounds;
 pub use rim::Rim;
 pub use tiling::{Tiling, TilingFault};
 pub use view::TileView;
-
-#[cfg(test)]
-mod tests;

@@ -2,14 +2,13 @@ use Rattle.std.proofs.Common.{subst, ◌∙◌, []}
 use Rattle.std.specs.Prelude.{IfErr, IfOk}
 use Rattle.std.proofs.lemmas.Result.{err_from_is_err_and}
 use Rattle.ascii_grid.specs.GridText.{IsGridText, IsRefusal}
-use Rattle.ascii_grid.proofs.Feeding.{answered_refusal}
+use Rattle.ascii_grid.proofs.Feeding.{whole_refusal}
 use Rattle.ascii_grid.proofs.read.read_text.Goals as goal
 
 pub returns-in_err-feed-clause-fault : goal.returns-in_err-feed-clause-fault
 returns-in_err-feed-clause-fault c =
     let p = err_from_is_err_and c.from_residual.result c.from_residual.ensures.1 in
-    let scale = c.in_err-feed.ensures.scale ∙ c.new-reader.ensures.scale in
-    rw (p.1, p.2) (subst (λ d. IsRefusal d c.args.bytes.now c.in_err-feed.field-0.0) scale (answered_refusal c.feed.new.self c.args.bytes.now c.in_err-feed.field-0.0 c.in_err-feed.ensures.err (c.in_err-feed.ensures.taken [] c.new-reader.ensures.taken)))
+    rw (p.1, p.2) (subst (λ d. IsRefusal d c.args.bytes.now c.in_err-feed.field-0.0) c.new-reader.ensures.scale (whole_refusal _ c.args.bytes.now c.in_err-feed.field-0.0 (c.in_err-feed.ensures.err [] c.new-reader.ensures.taken)))
 
 pub returns-clause-grid : goal.returns-clause-grid
 returns-clause-grid c =

@@ -2,7 +2,7 @@ use Rattle.std.proofs.Common.{◌∙◌, sym, ap, subst}
 use Rattle.ascii_grid.specs.Raster.{Raster, Terrain}
 use Rattle.drain.specs.Directions.{AreDirections}
 use Rattle.drain.specs.Drained.{Drained, IsDraining, AllFlowEnds, directed_of}
-use Rattle.drain.proofs.DrainedLemmas.{are_directions, are_draining, codes_of, own_terrain}
+use Rattle.drain.proofs.DrainedLemmas.{are_draining, own_terrain}
 use Rattle.drain.proofs.Ends.{falling_ends}
 use Rattle.drain.proofs.draining.directions.Goals as goal
 
@@ -11,24 +11,22 @@ new-requires g c =
     let t = c.args.filled.now.terrain in
     let steps = c.in_ok-steps.steps.items in
     let codes = c.in_ok-codes.codes.items in
-    let all = codes_of c.grid-grid.result.now c.args.filled.now c.deref.result.now steps codes c.grid-grid.ensures.value c.deref.ensures.value c.in_ok-codes.ensures.codes in
+    let all = subst (λ (x : Raster). AreDirections x.terrain codes) c.grid-grid.ensures.value c.in_ok-codes.ensures.codes in
     let same = own_terrain c.grid-grid.result.now c.in-Ok.own c.cells-cells.result.now c.cells-cells.ensures.value c.in-Ok.ensures ∙ ap (λ (x : Raster). x.terrain) c.grid-grid.ensures.value in
     subst (λ (x : Terrain). IsDraining (record { terrain = x; steps = steps; codes = codes })) (sym same) (are_draining t steps codes c.in_ok-steps.ensures.steps all)
 
 pub returns-clause-codes : goal.returns-clause-codes
 returns-clause-codes g c =
     let t = c.args.filled.now.terrain in
-    let steps = c.in_ok-steps.steps.items in
-    let codes = c.in_ok-codes.codes.items in
-    let all = codes_of c.grid-grid.result.now c.args.filled.now c.deref.result.now steps codes c.grid-grid.ensures.value c.deref.ensures.value c.in_ok-codes.ensures.codes in
-    subst (λ (d : Drained). AreDirections t d.codes) (sym c.new.ensures) (are_directions t steps codes c.in_ok-steps.ensures.steps all)
+    subst (λ (d : Drained). AreDirections t d.codes) (sym c.new.ensures)
+    (subst (λ (x : Raster). AreDirections x.terrain c.in_ok-codes.codes.items) c.grid-grid.ensures.value c.in_ok-codes.ensures.codes)
 
 pub returns-clause-ends : goal.returns-clause-ends
 returns-clause-ends g c =
     let t = c.args.filled.now.terrain in
     let steps = c.in_ok-steps.steps.items in
     let codes = c.in_ok-codes.codes.items in
-    let all = codes_of c.grid-grid.result.now c.args.filled.now c.deref.result.now steps codes c.grid-grid.ensures.value c.deref.ensures.value c.in_ok-codes.ensures.codes in
+    let all = subst (λ (x : Raster). AreDirections x.terrain codes) c.grid-grid.ensures.value c.in_ok-codes.ensures.codes in
     let same = own_terrain c.grid-grid.result.now c.in-Ok.own c.cells-cells.result.now c.cells-cells.ensures.value c.in-Ok.ensures ∙ ap (λ (x : Raster). x.terrain) c.grid-grid.ensures.value in
     let d : Drained = record { terrain = c.in-Ok.own.terrain; steps = steps; codes = codes } in
     let draining = subst (λ (x : Terrain). IsDraining (record { terrain = x; steps = steps; codes = codes })) (sym same) (are_draining t steps codes c.in_ok-steps.ensures.steps all) in

@@ -12,7 +12,7 @@ returns-clause-made g c =
     let jobs = c.tiles-tiles.ensures.value in
     both_ok c.run_jobs.result
     (λ (v : Vec (Vec (Option ℕ) Global) Global). vec_len v ≡ c.tiles-tiles.result)
-    (λ (v : Vec (Vec (Option ℕ) Global) Global). AllGiven (λ j (out : Vec (Option ℕ) Global). IsMadeTile k j (IsCodeAt t c.args.steps.now) out.items) c.tiles-tiles.result v.items)
-    (λ (v : Vec (Vec (Option ℕ) Global) Global). AreMadeTiles k (IsCodeAt t c.args.steps.now) v.items)
-    (λ v len given. tiles_made k (IsCodeAt t c.args.steps.now) v.items (omega (arith, v.ok.0, len, jobs)) (λ j d below. given j d (omega (arith, below, jobs))))
+    (λ (v : Vec (Vec (Option ℕ) Global) Global). AllGiven (λ j (out : Vec (Option ℕ) Global). IsMadeTile k j (IsCodeAt t) out.items) c.tiles-tiles.result v.items)
+    (λ (v : Vec (Vec (Option ℕ) Global) Global). AreMadeTiles k (IsCodeAt t) v.items)
+    (λ v len given. tiles_made k (IsCodeAt t) v.items (omega (arith, v.ok.0, len, jobs)) (λ j d below. given j d (omega (arith, below, jobs))))
     c.run_jobs.ensures.len c.run_jobs.ensures.given

@@ -1,9 +1,9 @@
 use Rattle.std.proofs.Common.{◌≡◌, ℕ, None, Some, ◌∷◌, [], get_or, refl, sym, ap, ◌∙◌, rules, to_z-of_z}
-use Rattle.std.proofs.lemmas.Bool.{eq-eqb, eqb-true}
 use mir.Val.{SFits}
 use mir.Syntax.{w32}
 use Rattle.std.specs.Option.{option_zip}
 use Rattle.ascii_grid.specs.Ways.{entry_on}
+use Rattle.drain.proofs.Block.{outermost_edge}
 use Rattle.drain.proofs.Ways.{eight}
 use Rattle.drain.proofs.surroundings.around.Goals as goal
 
@@ -14,12 +14,14 @@ returns c =
     let p = c.args.place in
     let fits : SFits w32 c.args.level = search rules in
     record {
-      level = c.requires.level ∙ ap Some (sym (to_z-of_z fits));
-      own_steps = c.requires.own;
-      edge = (λ e. eqb-true _ _ e, λ e. eq-eqb _ _ e);
-      count = refl;
-      ways = eight (λ (way : ℕ). get_or (c.entry.result ∷ c.entry-2.result ∷ c.entry-3.result ∷ c.entry-4.result ∷ c.entry-5.result ∷ c.entry-6.result ∷ c.entry-7.result ∷ c.entry-8.result ∷ []) way None
-          ≡ option_zip (entry_on t.cols t.rows t.cells way p) (entry_on t.cols t.rows steps way p))
-          c.entry.ensures c.entry-2.ensures c.entry-3.ensures (rw c.before-west.ensures at c.entry-4.ensures) (rw c.before-west.ensures at c.entry-5.ensures)
-          (rw (c.before-west.ensures, c.before-north.ensures) at c.entry-6.ensures) (rw c.before-north.ensures at c.entry-7.ensures) (rw c.before-north.ensures at c.entry-8.ensures);
+      laid = record {
+        level = c.requires.level ∙ ap Some (sym (to_z-of_z fits));
+        own_steps = c.requires.own;
+        count = refl;
+        ways = eight (λ (way : ℕ). get_or (c.entry.result ∷ c.entry-2.result ∷ c.entry-3.result ∷ c.entry-4.result ∷ c.entry-5.result ∷ c.entry-6.result ∷ c.entry-7.result ∷ c.entry-8.result ∷ []) way None
+            ≡ option_zip (entry_on t.cols t.rows t.cells way p) (entry_on t.cols t.rows steps way p))
+            c.entry.ensures c.entry-2.ensures c.entry-3.ensures (rw c.before-west.ensures at c.entry-4.ensures) (rw c.before-west.ensures at c.entry-5.ensures)
+            (rw (c.before-west.ensures, c.before-north.ensures) at c.entry-6.ensures) (rw c.before-north.ensures at c.entry-7.ensures) (rw c.before-north.ensures at c.entry-8.ensures);
+      };
+      edge = (λ _. outermost_edge t p c.args.level c.requires.inside c.requires.level c.requires.outermost, λ _. refl);
     }

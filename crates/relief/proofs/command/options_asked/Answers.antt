@@ -6,7 +6,7 @@ use Rattle.clap.specs.Kinds.{HasKind}
 use Rattle.relief.specs.CommandLine.{Names, program_app}
 use Rattle.relief.specs.WordsFaults.{IsFaultOf}
 use Rattle.relief.specs.declared.command.WordsFault.TheVariants.{Clap}
-use Rattle.relief.proofs.Asked.{fault_of_words, found_in, named_by, no_map, no_options, none_named, program_free}
+use Rattle.relief.proofs.Asked.{accepted, found_in, map_refused, named_by, none_named, options_refused, program_free}
 use Rattle.relief.proofs.command.options_asked.Goals as goal
 
 pub returns-in_err-matches-clause-fault : goal.returns-in_err-matches-clause-fault
@@ -23,7 +23,7 @@ returns-in_default-clause-fault c =
     let words : List Text = map (λ w. w.now) c.args.words.now in
     let found = found_in _ words c.in_ok-matches.matches c.in_ok-command.ensures c.in_ok-matches.ensures.matches in
     let none : subcommand_of program_app words ≡ None = search rules in
-    none_named words none
+    none_named words (accepted _ words c.in_ok-command.ensures c.in_ok-matches.ensures.kinds) none
 
 pub returns-in_err-map-clause-fault : goal.returns-in_err-map-clause-fault
 returns-in_err-map-clause-fault c =
@@ -32,7 +32,7 @@ returns-in_err-map-clause-fault c =
     ∙ named_by _ _ _ c.in-Some.ensures.name c.in-Some.ensures.rows in
     let same : IfErr c.from_residual-in_err-map.result (λ y. y ≡ c.in_err-map.field-0.0) = search rules in
     IfErr-weaker c.from_residual-in_err-map.result _ _ (λ y e. subst (IsFaultOf words) (sym e)
-    (fault_of_words words _ _ (no_map words _ _ found) c.in_err-map.ensures.none)) same
+    (map_refused words (accepted _ words c.in_ok-command.ensures c.in_ok-matches.ensures.kinds) _ _ found _ c.in_err-map.ensures.none)) same
 
 pub returns-in-Some-with_options-clause-wish : goal.returns-in-Some-with_options-clause-wish
 returns-in-Some-with_options-clause-wish c =
@@ -41,10 +41,14 @@ returns-in-Some-with_options-clause-wish c =
     record {
       name = c.in-Some.name.now;
       rows = rows_of (found_of c.in-Some.found.now);
-      found = found_in _ words c.in_ok-matches.matches c.in_ok-command.ensures c.in_ok-matches.ensures.matches
-          ∙ named_by _ _ _ c.in-Some.ensures.name c.in-Some.ensures.rows;
+      command = record {
+        accepted = accepted _ words c.in_ok-command.ensures c.in_ok-matches.ensures.kinds;
+        found = found_in _ words c.in_ok-matches.matches c.in_ok-command.ensures c.in_ok-matches.ensures.matches
+            ∙ named_by _ _ _ c.in-Some.ensures.name c.in-Some.ensures.rows;
+      };
       map = subst (Names c.in-Some.name.now (rows_of (found_of c.in-Some.found.now))) (sym given.0) c.in_ok-map.ensures.some;
       options = given.1;
+      limits = c.in-Some-with_options.ensures.limits;
     }
 
 pub returns-clause-fault : goal.returns-clause-fault
@@ -52,4 +56,4 @@ returns-clause-fault c =
     let words : List Text = map (λ w. w.now) c.args.words.now in
     let found = found_in _ words c.in_ok-matches.matches c.in_ok-command.ensures c.in_ok-matches.ensures.matches
     ∙ named_by _ _ _ c.in-Some.ensures.name c.in-Some.ensures.rows in
-    no_options words _ _ found c.in-None.ensures.none
+    options_refused words (accepted _ words c.in_ok-command.ensures c.in_ok-matches.ensures.kinds) _ _ found _ c.in_ok-map.ensures.some c.in-None.ensures.none

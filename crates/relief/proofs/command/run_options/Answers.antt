@@ -13,5 +13,5 @@ pub returns-in-Err-clause-ends : goal.returns-in-Err-clause-ends
 returns-in-Err-clause-ends g c = record {
   result = c.run.result;
   runs = c.run.ensures;
-  ends = subst (λ r. EndsAs g.E.Write.contents c.args.errors.now c.tell.new.out r c.status.result) (sym c.in-Err.is) (c.status.ensures, (c.tell.result, c.tell.ensures));
+  ends = subst (λ r. EndsAs g.E.Write.contents c.args.errors.now c.end_with.new.errors r c.end_with.result) (sym c.in-Err.is) (c.end_with.ensures.status, c.end_with.ensures.line);
 }

@@ -1,12 +1,24 @@
-use Rattle.std.proofs.Common.{List, inl, map, subst}
+use Rattle.std.proofs.Common.{List, inl, map, subst, refl}
 use Rattle.clap.specs.Words.{Text}
 use Rattle.relief.specs.CommandLine.{words_given}
 use Rattle.relief.specs.WordsFaults.{IsFaultOf}
-use Rattle.relief.proofs.Asked.{shown}
+use Rattle.relief.proofs.Asked.{bad_word_told, no_map_told, shown}
 use Rattle.relief.proofs.command.run_words.Goals as goal
 
 pub returns-in-Err-Clap-clause-ends : goal.returns-in-Err-Clap-clause-ends
 returns-in-Err-Clap-clause-ends g c =
     let words : List Text = words_given (map (λ w. w.now) c.args.words.now) in
-    inl (shown words c.args.reader.now c.args.writer.now _ _ c.in-Err-Clap.error c.show_error.ensures
+    inl (shown g.W.Write.contents g.E.Write.contents words c.args.reader.now c.args.writer.now _ c.args.errors.now _ _ c.in-Err-Clap.error c.show_error.ensures
     (subst (IsFaultOf words) c.in-Err-Clap.field-0-is c.in-Err-Clap.ensures.fault))
+
+pub returns-in-Err-BadObserver-clause-ends : goal.returns-in-Err-BadObserver-clause-ends
+returns-in-Err-BadObserver-clause-ends g c =
+    let words : List Text = words_given (map (λ w. w.now) c.args.words.now) in
+    inl (bad_word_told g.W.Write.contents g.E.Write.contents words c.args.reader.now c.args.writer.now _ c.args.errors.now _ _ c.in-Err-BadObserver.place
+    (subst (IsFaultOf words) c.in-Err-BadObserver.field-0-is c.in-Err-BadObserver.ensures.fault) (c.tell_bad_word.result, c.tell_bad_word.ensures) refl refl)
+
+pub returns-in-Err-NoMap-clause-ends : goal.returns-in-Err-NoMap-clause-ends
+returns-in-Err-NoMap-clause-ends g c =
+    let words : List Text = words_given (map (λ w. w.now) c.args.words.now) in
+    inl (no_map_told g.W.Write.contents g.E.Write.contents words c.args.reader.now c.args.writer.now _ c.args.errors.now _ _
+    (subst (IsFaultOf words) c.in-Err-NoMap.field-0-is c.in-Err-NoMap.ensures.fault) c.show.ensures.line refl c.show.ensures.status)

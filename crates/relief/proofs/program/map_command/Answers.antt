@@ -1,7 +1,7 @@
 use Rattle.std.proofs.Common.{rules}
 use Rattle.std.proofs.lemmas.Result.{IfOk-weaker}
 use Rattle.clap.specs.Simple.{new_shape}
-use Rattle.relief.specs.CommandLine.{IsLeaf}
+use Rattle.relief.specs.Commands.{IsLeaf}
 use Rattle.relief.proofs.Commands.{leaf_with}
 use Rattle.relief.proofs.program.map_command.Goals as goal
 

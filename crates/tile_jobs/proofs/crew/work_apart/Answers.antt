@@ -25,5 +25,6 @@ loop-seat-preserved g c =
     record {
       rest = rw len (cut_drop all n seat rest held);
       count = omega (arith, inv.count, ap length step, len);
+      started = omega (arith, len);
       each = λ s h d low. rw items (get_snoc (λ j x. (d : SeatState) → (x.promise.work.now ≡ c.args.work.now) × (x.promise.seat.value ≡ get_or all j d)) was child (λ j x l e. inv.each j x e (omega (arith, size))) (λ e. (same_work, rw size (same_seat ∙ get_drop all n seat e rest held))) s h (omega (arith, size, len)) d);
     }

@@ -19,9 +19,9 @@ loop-preserved-in-Continue-branch-2 g c =
     let a : Answer _ = record { job = job; out = c.in_ok-out-in-Job.out } in
     let took = c.in-Job.ensures.took in
     let items : c.push.new.self.items ≡ was ++ a ∷ [] = grind (arith, common_steps) in
-    let low : job < s.own.jobs = took.0 in
+    let low : job < s.own.jobs = took.below in
     let same : s.own.jobs ≡ s0.own.jobs = inv.same.1.1 in
-    let taken : t.taken ≡ s.taken ++ job ∷ [] = took.1 in
+    let taken : t.taken ≡ s.taken ++ job ∷ [] = took.taken in
     record {
       same = seat_trans s0 s t inv.same c.in-Job.ensures.same;
       right = rw items (answer_more (g.W.Work.gives c.args.work.now) s0.own.jobs was a inv.right (omega arith) c.in_ok-out-in-Job.ensures.given);
@@ -35,7 +35,7 @@ loop-preserved g c =
     let s : SeatState = c.loop.seat in
     let t : SeatState = c.try_take.new.self in
     let inv = c.loop.invariant in
-    let taken : t.taken ≡ s.taken = c.in-Again.ensures.took.0 in
+    let taken : t.taken ≡ s.taken = c.in-Again.ensures.took.taken in
     record {
       same = seat_trans s0 s t inv.same c.in-Again.ensures.same;
       right = inv.right;
@@ -53,11 +53,11 @@ returns g c =
       | in-Some+in-Empty w ↦
           let t : SeatState = w.try_take.new.self in
           let took = w.in-Empty.ensures.took in
-          let taken : t.taken ≡ s.taken = took.0 in
+          let taken : t.taken ≡ s.taken = took.taken in
           rw w.seat-is (
             record {
               same = seat_trans s0 s t inv.same w.in-Empty.ensures.same;
-              empty = took.1;
+              empty = took.marks;
               right = inv.right;
               whole = λ j n. inv.whole j (rw taken at n);
             },

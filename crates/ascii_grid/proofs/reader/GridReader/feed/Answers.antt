@@ -1,22 +1,33 @@
-use Rattle.std.proofs.Common.{arith, ◌++◌, refl, sym, subst}
-use Rattle.ascii_grid.specs.Reading.{HasTaken}
-use Rattle.ascii_grid.proofs.Feeding.{answered_more, fed_fault, fed_long, fed_whole}
+use Rattle.std.proofs.Common.{arith, ◌≡◌, ◌+◌, ◌++◌, None, Some, refl, ap, sym, ◌∙◌, subst}
+use Rattle.ascii_grid.specs.GridText.{IsRefusalSoFar, fault_so_far}
+use Rattle.ascii_grid.specs.Reader.{HasTaken}
+use Rattle.ascii_grid.specs.declared.fault.GridFault.TheVariants.{TooLong}
+use Rattle.ascii_grid.proofs.Feeding.{answered, answered_more, refusal_stays, fed_fault, fed_long, fed_whole, faultless}
 use Rattle.ascii_grid.proofs.reader.GridReader.feed.Goals as goal
 
 pub returns-in-Some-clause-taken : goal.returns-in-Some-clause-taken
 returns-in-Some-clause-taken c = λ text h.
     subst (λ r. HasTaken r (text ++ c.args.piece.now)) c.self.view_is (answered_more _ text c.args.piece.now c.in-Some.fault c.in-Some.is (subst (λ r. HasTaken r text) (sym c.self.view_is) h))
 
+pub returns-in-Some-clause-err : goal.returns-in-Some-clause-err
+returns-in-Some-clause-err c = λ text h.
+    let told = answered _ text c.in-Some.fault c.in-Some.is (subst (λ r. HasTaken r text) (sym c.self.view_is) h) in
+    subst (λ r. IsRefusalSoFar r.scale (text ++ c.args.piece.now) c.in-Some.fault) c.self.view_is (refusal_stays _ text c.args.piece.now c.in-Some.fault told)
+
 pub invariant_of-self : goal.invariant_of-self
 invariant_of-self c =
     let taken = c.self.invariant.1 in
     let fed = fed_fault _ taken.0 c.args.piece.now c.min-within.result c.in-Err.fault c.min-within.ensures c.in_default.is taken.1 c.in-Err.ensures.words in
-    (omega (arith, c.in-Err.ensures.scale, c.self.invariant.0), (taken.0 ++ c.args.piece.now, (fed.0, fed.1, fed.2, rw c.in-Err.ensures.scale fed.3)))
+    (omega (arith, c.in-Err.ensures.scale, c.self.invariant.0), (taken.0 ++ c.args.piece.now, rw c.in-Err.ensures.scale fed))
 
 pub returns-in-Err-clause-taken : goal.returns-in-Err-clause-taken
 returns-in-Err-clause-taken c = λ text h.
-    let fed = fed_fault _ text c.args.piece.now c.min-within.result c.in-Err.fault c.min-within.ensures c.in_default.is (subst (λ r. HasTaken r text) (sym c.self.view_is) h) c.in-Err.ensures.words in
-    (fed.0, fed.1, fed.2, rw c.in-Err.ensures.scale fed.3)
+    rw c.in-Err.ensures.scale (fed_fault _ text c.args.piece.now c.min-within.result c.in-Err.fault c.min-within.ensures c.in_default.is (subst (λ r. HasTaken r text) (sym c.self.view_is) h) c.in-Err.ensures.words)
+
+pub returns-in-Err-clause-err : goal.returns-in-Err-clause-err
+returns-in-Err-clause-err c = λ text h.
+    let told = fed_fault _ text c.args.piece.now c.min-within.result c.in-Err.fault c.min-within.ensures c.in_default.is (subst (λ r. HasTaken r text) (sym c.self.view_is) h) c.in-Err.ensures.words in
+    subst (λ r. IsRefusalSoFar r.scale (text ++ c.args.piece.now) c.in-Err.fault) c.self.view_is told
 
 pub invariant_of-self-then-within-piece : goal.invariant_of-self-then-within-piece
 invariant_of-self-then-within-piece c =
@@ -30,8 +41,18 @@ returns-then-within-piece-clause-taken c = λ text h.
 pub invariant_of-self-else-within-piece : goal.invariant_of-self-else-within-piece
 invariant_of-self-else-within-piece c =
     let taken = c.self.invariant.1 in
-    (omega (arith, c.in_default-take_all.ensures.scale, c.self.invariant.0), (taken.0 ++ c.args.piece.now, fed_whole _ _ taken.0 c.args.piece.now c.min-within.result c.min-within.ensures c.in_default.is taken.1 (omega arith) c.in_default-take_all.ensures.words refl (omega arith) c.in_default.is))
+    (omega (arith, c.in_default-take_all.ensures.scale, c.self.invariant.0), (taken.0 ++ c.args.piece.now, rw c.in_default.is (fed_whole _ _ taken.0 c.args.piece.now c.min-within.result c.min-within.ensures c.in_default.is taken.1 (omega arith) c.in_default-take_all.ensures.words refl (omega arith))))
+
+pub returns-then-within-piece-clause-err : goal.returns-then-within-piece-clause-err
+returns-then-within-piece-clause-err c = λ text h.
+    let told = fed_long _ c.take_all.new.self text c.args.piece.now c.min-within.result c.min-within.ensures c.in_default.is (subst (λ r. HasTaken r text) (sym c.self.view_is) h) (omega arith) c.in_default-take_all.ensures.words in
+    subst (λ d. fault_so_far d (text ++ c.args.piece.now) ≡ Some TooLong) (c.in_default-take_all.ensures.scale ∙ ap (λ r. r.scale) c.self.view_is) told
 
 pub returns-clause-taken : goal.returns-clause-taken
 returns-clause-taken c = λ text h.
-    fed_whole _ _ text c.args.piece.now c.min-within.result c.min-within.ensures c.in_default.is (subst (λ r. HasTaken r text) (sym c.self.view_is) h) (omega arith) c.in_default-take_all.ensures.words refl (omega arith) c.in_default.is
+    rw c.in_default.is (fed_whole _ _ text c.args.piece.now c.min-within.result c.min-within.ensures c.in_default.is (subst (λ r. HasTaken r text) (sym c.self.view_is) h) (omega arith) c.in_default-take_all.ensures.words refl (omega arith))
+
+pub returns-clause-ok : goal.returns-clause-ok
+returns-clause-ok c = λ text h.
+    let fed = fed_whole _ (record { scale = c.take_all.new.self.judge.scale; fault = None; words = c.take_all.new.self; count = c.self.inside.taken + c.min-within.result }) text c.args.piece.now c.min-within.result c.min-within.ensures c.in_default.is (subst (λ r. HasTaken r text) (sym c.self.view_is) h) (omega arith) c.in_default-take_all.ensures.words refl refl in
+    subst (λ d. fault_so_far d (text ++ c.args.piece.now) ≡ None) (c.in_default-take_all.ensures.scale ∙ ap (λ r. r.scale) c.self.view_is) (faultless _ (text ++ c.args.piece.now) fed)

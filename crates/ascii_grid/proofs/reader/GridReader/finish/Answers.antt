@@ -3,13 +3,13 @@ use Rattle.std.specs.Prelude.{IfErr, IfOk}
 use Rattle.std.proofs.lemmas.Result.{err_from_is_err_and}
 use Rattle.ascii_grid.specs.Words.{words}
 use Rattle.ascii_grid.specs.GridText.{IsGridText, IsRefusal}
-use Rattle.ascii_grid.specs.Reading.{HasTaken}
-use Rattle.ascii_grid.proofs.Feeding.{answered_refusal, reading, end_refused, judged_none, finished, ok_part, err_part}
+use Rattle.ascii_grid.specs.Reader.{HasTaken}
+use Rattle.ascii_grid.proofs.Feeding.{answered, whole_refusal, reading, end_refused, judged_none, finished, ok_part, err_part}
 use Rattle.ascii_grid.proofs.reader.GridReader.finish.Goals as goal
 
 pub returns-in-Some-clause-fault : goal.returns-in-Some-clause-fault
 returns-in-Some-clause-fault c = λ text h.
-    subst (λ r. IsRefusal r.scale text c.in-Some.fault) c.self.view_is (answered_refusal _ text c.in-Some.fault c.in-Some.is (subst (λ r. HasTaken r text) (sym c.self.view_is) h))
+    subst (λ r. IsRefusal r.scale text c.in-Some.fault) c.self.view_is (whole_refusal _ text c.in-Some.fault (answered _ text c.in-Some.fault c.in-Some.is (subst (λ r. HasTaken r text) (sym c.self.view_is) h)))
 
 pub returns-in_err-end_word-clause-fault : goal.returns-in_err-end_word-clause-fault
 returns-in_err-end_word-clause-fault c = λ text h.

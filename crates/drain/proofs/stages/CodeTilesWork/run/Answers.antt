@@ -13,5 +13,5 @@ codes_of_tile-requires-clause-inside c =
 pub returns-clause-given : goal.returns-clause-given
 returns-clause-given c =
     let i = c.self.inside in
-    subst (λ (w : SteppedTerrain). IsMadeTile w.cutting c.args.job (IsCodeAt w.terrain w.steps) c.in_ok-codes.codes.items) c.self.view_is
-    (made_tile i.tiling.now c.args.job c.bounds-bounds.result (IsCodeAt i.grid.now.terrain i.steps.now) c.in_ok-codes.codes.items c.bounds-bounds.ensures.lawful c.bounds-bounds.ensures.value c.in_ok-codes.ensures)
+    subst (λ (w : SteppedTerrain). IsMadeTile w.cutting c.args.job (IsCodeAt w.terrain) c.in_ok-codes.codes.items) c.self.view_is
+    (made_tile i.tiling.now c.args.job c.bounds-bounds.result (IsCodeAt i.grid.now.terrain) c.in_ok-codes.codes.items c.bounds-bounds.ensures.lawful c.bounds-bounds.ensures.value c.in_ok-codes.ensures)

@@ -1,0 +1,370 @@
+//! Texts read whole, in pieces and from a reader that is interrupted.
+ghost use Rattle.std.specs.Prelude.{◌≤◌, ◌<◌};
+
+use crate::texts::{LENIENT, LENIENT_CELLS, grid_of};
+use ascii_grid::{
+    Counted, Grid, GridFault, GridReader, Height, InputFault, Key, read_grid, read_text,
+};
+use std::alloc::Global;
+use std::io;
+use std::io::Read;
+use std::process::Abort;
+
+// Two columns and one row, with the lower left corner at 0 0.
+const HEADER: &[u8] = b"ncols 2 nrows 1 xllcorner 0 yllcorner 0 cellsize 1";
+
+fn read_in_pieces(alloc: Global, scale: u8, text: &[u8], piece: usize) -> Result<Grid, GridFault>
+    requires scale { scale ≤ 6 }
+    requires piece { 0 < piece }
+{
+    let mut reader = GridReader::new(alloc, scale);
+    for part in text.chunks(piece) {
+        reader.feed(part)?;
+    }
+    reader.finish()
+}
+
+// Reads the text whole and cut in pieces: it spells these cells.
+fn spells(rt: &impl Abort, alloc: Global, scale: u8, text: &[u8], cells: &[Option<Height>])
+    requires { scale ≤ 6 }
+{
+    grid_of(rt, alloc, scale, text, cells);
+    for piece in [1, 2, 3, 7] {
+        let grid = read_in_pieces(alloc, scale, text, piece).expect(rt, "its pieces are a grid");
+        assert_eq!(rt; grid.cells(), cells, "in pieces of {piece}");
+    }
+}
+
+// Reads the text whole and cut in pieces: it is refused with this fault.
+fn refuses(rt: &impl Abort, alloc: Global, text: &[u8], fault: GridFault) {
+    assert_eq!(rt; read_text(alloc, 0, text).err(), Some(fault));
+    for piece in [1, 2, 3, 7] {
+        let answer = read_in_pieces(alloc, 0, text, piece);
+        assert_eq!(rt; answer.err(), Some(fault), "in pieces of {piece}");
+    }
+}
+
+fn after_header(rt: &impl Abort, alloc: Global, rest: &[u8]) -> Vec<u8> {
+    let mut text = Vec::from_slice(alloc, HEADER).expect(rt, "memory");
+    text.extend_from_slice(rest).expect(rt, "memory");
+    text
+}
+
+fn spells_after_header(rt: &impl Abort, alloc: Global, rest: &[u8], cells: &[Option<Height>]) {
+    spells(rt, alloc, 0, &after_header(rt, alloc, rest), cells);
+}
+
+fn refuses_after_header(rt: &impl Abort, alloc: Global, rest: &[u8], fault: GridFault) {
+    refuses(rt, alloc, &after_header(rt, alloc, rest), fault);
+}
+
+#[test]
+fn lenient_text(rt: HostRuntime) {
+    spells(&rt, rt.alloc(), 2, LENIENT, &LENIENT_CELLS);
+    let grid = grid_of(&rt, rt.alloc(), 2, LENIENT, &LENIENT_CELLS);
+    assert_eq!(rt; (grid.cols(), grid.rows(), grid.scale()), (2, 2, 2));
+}
+
+#[test]
+fn heights(rt: HostRuntime) {
+    spells_after_header(&rt, rt.alloc(), b" 3 4", &[Some(3), Some(4)]);
+    spells_after_header(
+        &rt,
+        rt.alloc(),
+        b" 3 -1000000000",
+        &[Some(3), Some(-1_000_000_000)],
+    );
+    spells_after_header(&rt, rt.alloc(), b" +3. 4.000", &[Some(3), Some(4)]);
+    spells_after_header(&rt, rt.alloc(), b" .0 -0.", &[Some(0), Some(0)]);
+    spells_after_header(
+        &rt,
+        rt.alloc(),
+        b" 0000000012\t-0000000003\n",
+        &[Some(12), Some(-3)],
+    );
+    spells_after_header(
+        &rt,
+        rt.alloc(),
+        b" 999999999 -999999999\n",
+        &[Some(999_999_999), Some(-999_999_999)],
+    );
+    let zeros =
+        b"ncols 0000000000000000000000000000000000000000000000000000000000000002 nrows 1 xllcorner 0 yllcorner 0 cellsize 1 3 4";
+    spells(&rt, rt.alloc(), 0, zeros, &[Some(3), Some(4)]);
+}
+
+#[test]
+fn cells_without_data(rt: HostRuntime) {
+    spells_after_header(&rt, rt.alloc(), b" 3 -9999.0", &[Some(3), None]);
+    spells_after_header(&rt, rt.alloc(), b" NODATA_value 0 3 -0", &[Some(3), None]);
+    spells_after_header(
+        &rt,
+        rt.alloc(),
+        b" NODATA_value -9999.5 3 -9999.5",
+        &[Some(3), None],
+    );
+    // The greatest scaled value, and words that have none.
+    spells_after_header(
+        &rt,
+        rt.alloc(),
+        b" NODATA_value 1000000000000000000 3 1000000000000000000.0",
+        &[Some(3), None],
+    );
+    spells_after_header(
+        &rt,
+        rt.alloc(),
+        b" NODATA_value 1e99 3 1e99",
+        &[Some(3), None],
+    );
+    refuses_after_header(
+        &rt,
+        rt.alloc(),
+        b" NODATA_value 1e99 3 1E99",
+        GridFault::BadHeight(1),
+    );
+    // A NODATA word has no value where it has an exponent, and equals its own bytes alone.
+    spells_after_header(
+        &rt,
+        rt.alloc(),
+        b" NODATA_value -9.999e3 -9.999e3 -9999",
+        &[None, Some(-9999)],
+    );
+}
+
+#[test]
+fn bad_heights(rt: HostRuntime) {
+    refuses_after_header(&rt, rt.alloc(), b" 1e3 4", GridFault::BadHeight(0));
+    refuses_after_header(&rt, rt.alloc(), b" 3 1.5", GridFault::BadHeight(1));
+    refuses_after_header(&rt, rt.alloc(), b" 3 1000000001", GridFault::BadHeight(1));
+    refuses_after_header(&rt, rt.alloc(), b" 1234567890 4", GridFault::BadHeight(0));
+    refuses_after_header(&rt, rt.alloc(), b" 3 -1234567890 ", GridFault::BadHeight(1));
+    // 2^64 + 3 doesn't wrap, nor do 64 digits.
+    refuses_after_header(
+        &rt,
+        rt.alloc(),
+        b" 3 18446744073709551619",
+        GridFault::BadHeight(1),
+    );
+    refuses_after_header(
+        &rt,
+        rt.alloc(),
+        b" 3 9999999999999999999999999999999999999999999999999999999999999999",
+        GridFault::BadHeight(1),
+    );
+    refuses_after_header(&rt, rt.alloc(), b" . 4", GridFault::BadHeight(0));
+    // Bytes that are neither digits nor separators.
+    refuses_after_header(&rt, rt.alloc(), b" 3 4\x0b", GridFault::BadHeight(1));
+    refuses_after_header(&rt, rt.alloc(), b" 3\x0b4", GridFault::BadHeight(0));
+    refuses_after_header(&rt, rt.alloc(), b" 3 \xff", GridFault::BadHeight(1));
+}
+
+#[test]
+fn how_many_heights(rt: HostRuntime) {
+    refuses_after_header(&rt, rt.alloc(), b" 3", GridFault::TooFew(1));
+    refuses_after_header(&rt, rt.alloc(), b"", GridFault::TooFew(0));
+    refuses_after_header(&rt, rt.alloc(), b" 3 4 5", GridFault::TooMany);
+}
+
+#[test]
+fn bad_keys(rt: HostRuntime) {
+    refuses(&rt, rt.alloc(), b"", GridFault::MissingKey(Key::Ncols));
+    refuses(
+        &rt,
+        rt.alloc(),
+        b"ncols 2 NCOLS 2 nrows 1",
+        GridFault::RepeatedKey(Key::Ncols),
+    );
+    refuses(
+        &rt,
+        rt.alloc(),
+        b"xllcorner 0 xllcenter 0",
+        GridFault::RepeatedKey(Key::Xll),
+    );
+    refuses(
+        &rt,
+        rt.alloc(),
+        b"ncols 2 nrows 1 xllcorner 0 yllcorner 0 3 4",
+        GridFault::MissingKey(Key::Cellsize),
+    );
+    refuses(&rt, rt.alloc(), b"bogus 2 ncols 0", GridFault::UnknownKey);
+    refuses(&rt, rt.alloc(), b"dx 1", GridFault::UnknownKey);
+    refuses(
+        &rt,
+        rt.alloc(),
+        b"ncols 2 nrows",
+        GridFault::NoValue(Key::Nrows),
+    );
+    // A byte order mark is no letter.
+    refuses(
+        &rt,
+        rt.alloc(),
+        b"\xef\xbb\xbfncols 2",
+        GridFault::MissingKey(Key::Ncols),
+    );
+    // Nor is a letter of two bytes.
+    refuses(
+        &rt,
+        rt.alloc(),
+        b"ncols 2 \xc3\xa9 1",
+        GridFault::MissingKey(Key::Nrows),
+    );
+    refuses(&rt, rt.alloc(), b"ncols\x002", GridFault::UnknownKey);
+    refuses(&rt, rt.alloc(), b"ncols\x0c2", GridFault::UnknownKey);
+}
+
+#[test]
+fn bad_values(rt: HostRuntime) {
+    refuses(
+        &rt,
+        rt.alloc(),
+        b"ncols 4097",
+        GridFault::BadSize(Key::Ncols),
+    );
+    refuses(
+        &rt,
+        rt.alloc(),
+        b"ncols 0 nrows 1 bogus 2",
+        GridFault::BadSize(Key::Ncols),
+    );
+    refuses(
+        &rt,
+        rt.alloc(),
+        b"ncols ncols",
+        GridFault::BadSize(Key::Ncols),
+    );
+    refuses(
+        &rt,
+        rt.alloc(),
+        b"nrows 18446744073709551617",
+        GridFault::BadSize(Key::Nrows),
+    );
+    refuses(
+        &rt,
+        rt.alloc(),
+        b"cellsize -1",
+        GridFault::BadPlace(Key::Cellsize),
+    );
+    refuses(
+        &rt,
+        rt.alloc(),
+        b"cellsize 0.0e5",
+        GridFault::BadPlace(Key::Cellsize),
+    );
+    refuses(
+        &rt,
+        rt.alloc(),
+        b"xllcorner 1,5",
+        GridFault::BadPlace(Key::Xll),
+    );
+    refuses(
+        &rt,
+        rt.alloc(),
+        b"yllcenter 1e",
+        GridFault::BadPlace(Key::Yll),
+    );
+    refuses_after_header(
+        &rt,
+        rt.alloc(),
+        b" NODATA_value none 3 4",
+        GridFault::BadNodata,
+    );
+    let tiny = b"ncols 1 nrows 1 xllcorner 0 yllcorner 0 cellsize 0.0001E-99 5";
+    spells(&rt, rt.alloc(), 0, tiny, &[Some(5)]);
+}
+
+#[test]
+fn long_words(rt: HostRuntime) {
+    let digits = b"ncols 11111111111111111111111111111111111111111111111111111111111111111";
+    refuses(&rt, rt.alloc(), digits, GridFault::TooLong);
+    // It goes before any other fault of its word, also past the last height and before a missing key.
+    let long = b" 00000000000000000000000000000000000000000000000000000000000000000";
+    refuses(&rt, rt.alloc(), long, GridFault::TooLong);
+    let mut surplus = after_header(&rt, rt.alloc(), b" 3 4");
+    surplus.extend_from_slice(long).expect(&rt, "memory");
+    refuses(&rt, rt.alloc(), &surplus, GridFault::TooLong);
+}
+
+#[test]
+fn fault_stays(rt: HostRuntime) {
+    let mut reader = GridReader::new(rt.alloc(), 0);
+    assert_eq!(rt; reader.feed(b"ncols 0"), Ok(()));
+    assert_eq!(rt; reader.feed(b"\n"), Err(GridFault::BadSize(Key::Ncols)));
+    assert_eq!(rt; reader.feed(HEADER), Err(GridFault::BadSize(Key::Ncols)));
+    assert_eq!(rt; reader.finish().err(), Some(GridFault::BadSize(Key::Ncols)));
+}
+
+/// So many of the first bytes of the header and two heights, and the fault of each such text.
+#[test]
+fn each_front_part(rt: HostRuntime) {
+    let text = after_header(&rt, rt.alloc(), b" 3 4");
+    for (from, to, fault) in [
+        (0, 0, GridFault::MissingKey(Key::Ncols)),
+        (1, 4, GridFault::UnknownKey),
+        (5, 6, GridFault::NoValue(Key::Ncols)),
+        (7, 8, GridFault::MissingKey(Key::Nrows)),
+        (9, 12, GridFault::UnknownKey),
+        (13, 14, GridFault::NoValue(Key::Nrows)),
+        (15, 16, GridFault::MissingKey(Key::Xll)),
+        (17, 24, GridFault::UnknownKey),
+        (25, 26, GridFault::NoValue(Key::Xll)),
+        (27, 28, GridFault::MissingKey(Key::Yll)),
+        (29, 36, GridFault::UnknownKey),
+        (37, 38, GridFault::NoValue(Key::Yll)),
+        (39, 40, GridFault::MissingKey(Key::Cellsize)),
+        (41, 47, GridFault::UnknownKey),
+        (48, 49, GridFault::NoValue(Key::Cellsize)),
+        (50, 51, GridFault::TooFew(0)),
+        (52, 53, GridFault::TooFew(1)),
+    ] {
+        for kept in from..=to {
+            let front = text.get(..kept).expect(&rt, "a front part");
+            refuses(&rt, rt.alloc(), front, fault);
+        }
+    }
+    assert_eq!(rt; text.len(), 54);
+    spells(&rt, rt.alloc(), 0, &text, &[Some(3), Some(4)]);
+}
+
+/// A reader that gives twenty bytes a call. It is interrupted at one call, and would go on.
+#[derive(Drop)]
+struct Interrupted<'a> {
+    left: &'a [u8],
+    calls_before: u32,
+}
+
+impl Read for Interrupted<'_> {
+    fn read(&mut self, buffer: &mut [u8]) -> io::Result<usize> {
+        let before = self.calls_before;
+        self.calls_before = before.wrapping_sub(1);
+        if before == 0 {
+            return Err(io::Error::from(io::ErrorKind::Interrupted));
+        }
+        let most = buffer.len().min(20);
+        self.left.read(&mut buffer[..most])
+    }
+}
+
+#[test]
+fn interrupted_read(rt: HostRuntime) {
+    let text = after_header(&rt, rt.alloc(), b" 3 4");
+    // Three calls give bytes, and the fourth says that there are no more.
+    for calls_before in 0..5 {
+        let mut reader = Counted::new(Interrupted {
+            left: &text,
+            calls_before,
+        });
+        let answer = read_grid(rt.alloc(), 0, &mut reader);
+        if calls_before < 4 {
+            assert_eq!(rt;
+                answer.err(),
+                Some(InputFault::Read),
+                "{calls_before} calls before"
+            );
+            assert_eq!(rt; reader.failures(), 1);
+        } else {
+            let grid = answer.expect(&rt, "the text is a grid");
+            assert_eq!(rt; grid.cells(), [Some(3), Some(4)].as_slice());
+            assert_eq!(rt; reader.failures(), 0);
+        }
+    }
+}

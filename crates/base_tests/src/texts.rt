@@ -1,0 +1,29 @@
+//! Texts of grids that several tests read.
+ghost use Rattle.std.specs.Prelude.{◌≡◌, ◌≤◌};
+
+use ascii_grid::{Grid, Height, read_text};
+use std::alloc::Global;
+use std::process::Abort;
+
+/// A text of the lenient form, of two by two cells at scale 2: 12.50, -0.50, none and 7.00.
+pub const LENIENT: &[u8] =
+    b"ncols         2\r\nnrows         2\r\nxllcenter     100.5\r\nyllcorner     -2E1\r\ncellsize      30.0\r\nNODATA_value  -3.40282346638528860e+38\r\n 12.50 -0.5\r\n -3.40282346638528860e+38 7\r\n";
+
+/// The cells of [`LENIENT`].
+pub const LENIENT_CELLS: [Option<Height>; 4] = [Some(1250), Some(-50), None, Some(700)];
+
+/// The grid of a text, which spells these cells.
+pub fn grid_of(
+    rt: &impl Abort,
+    alloc: Global,
+    scale: u8,
+    text: &[u8],
+    cells: &[Option<Height>],
+) -> Grid
+    requires { scale ≤ 6 }
+    ensures { result.terrain.cells ≡ cells.now }
+{
+    let grid = read_text(alloc, scale, text).expect(rt, "the text is a grid");
+    assert!(rt; grid.cells() == cells, "other cells");
+    grid
+}

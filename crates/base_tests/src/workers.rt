@@ -1,0 +1,364 @@
+//! Jobs run by workers, and what their gates are told.
+ghost use Rattle.std.specs.Prelude.{◌≤◌};
+
+use std::alloc::{AllocError, Global};
+use std::sync::atomic::{AtomicU64, Ordering};
+use std::test::Fail;
+use std::thread;
+use tile_jobs::{Gate, JobFault, NoGate, Work, run_jobs, run_jobs_capped};
+
+/// Looks enough for any other worker to come.
+const MOST_LOOKS: u32 = 10_000_000;
+
+/// The square of each number below `most`.
+#[derive(Drop)]
+struct Squares {
+    most: u32,
+    ghost small: { most ≤ 60000 },
+}
+
+impl Work for Squares {
+    type Out = u32;
+
+    ghost use Rattle.std.specs.Prelude.{◌≡◌, ◌*◌};
+
+    ghost most = { λ w. w.most };
+
+    ghost gives = { λ w job out. out ≡ job * job };
+
+    fn run(&self, _alloc: Global, job: u32) -> Result<u32, JobFault> {
+        Ok(job * job)
+    }
+}
+
+/// Work that has no memory for one job.
+#[derive(Drop)]
+struct Hungry {
+    most: u32,
+    job: u32,
+}
+
+impl Work for Hungry {
+    type Out = u32;
+
+    ghost use Rattle.std.specs.Prelude.{◌≡◌};
+
+    ghost most = { λ w. w.most };
+
+    ghost gives = { λ w job out. out ≡ job };
+
+    fn run(&self, _alloc: Global, job: u32) -> Result<u32, JobFault> {
+        if job == self.job {
+            return Err(JobFault::Memory);
+        }
+        Ok(job)
+    }
+}
+
+/// Lets a job in once the jobs that it waits for have entered, and remembers the order.
+#[derive(Drop)]
+struct Turns {
+    // bit k of entry j: job j waits for job k
+    waits: [u8; 4],
+    // how often a held job looks for those that it waits for
+    looks: u32,
+    // the place of each job's entry, from 1
+    entries: [AtomicU64; 4],
+    count: AtomicU64,
+    // how many jobs were let in with no more looks left
+    missed: AtomicU64,
+}
+
+impl Turns {
+    fn new(waits: [u8; 4]) -> Turns {
+        Turns {
+            waits,
+            looks: MOST_LOOKS,
+            entries: [
+                AtomicU64::new(0),
+                AtomicU64::new(0),
+                AtomicU64::new(0),
+                AtomicU64::new(0),
+            ],
+            count: AtomicU64::new(0),
+            missed: AtomicU64::new(0),
+        }
+    }
+
+    fn have_entered(&self, jobs: u8) -> bool {
+        for k in 0..4usize {
+            if (jobs >> k) & 1 == 1 && self.entries[k].load(Ordering::SeqCst) == 0 {
+                return false;
+            }
+        }
+        true
+    }
+
+    /// The place of the job's entry from 1, or 0 where it did not enter.
+    fn place_of(&self, job: usize) -> u64 {
+        self.entries
+            .get(job)
+            .map_or(0, |entry| entry.load(Ordering::SeqCst))
+    }
+
+    fn missed(&self) -> u64 {
+        self.missed.load(Ordering::SeqCst)
+    }
+}
+
+impl Gate for Turns {
+    fn enter(&self, job: u32) {
+        let place = self.count.fetch_add(1, Ordering::SeqCst);
+        if let Some(entry) = self.entries.get(job as usize) {
+            entry.store(place.wrapping_add(1), Ordering::SeqCst);
+        }
+        let waits = self.waits.get(job as usize).copied().unwrap_or(0);
+        for _ in 0..self.looks {
+            if self.have_entered(waits) {
+                return;
+            }
+            thread::yield_now();
+        }
+        self.missed.fetch_add(1, Ordering::SeqCst);
+    }
+}
+
+#[test]
+fn answers_come_in_job_order(rt: HostRuntime) -> Result<(), Fail> {
+    let work = Squares { most: 10 };
+    for workers in [1, 2, 3, 10, 64] {
+        let squares = run_jobs(&rt, rt.alloc(), &work, 10, workers, &NoGate)?;
+        assert_eq!(rt;
+            squares.as_slice(),
+            [0, 1, 4, 9, 16, 25, 36, 49, 64, 81].as_slice(),
+            "{workers} workers"
+        );
+    }
+    Ok(())
+}
+
+#[test]
+fn fewer_jobs_than_may_be_run(rt: HostRuntime) -> Result<(), Fail> {
+    let work = Squares { most: 10 };
+    for workers in [1, 4] {
+        let none = run_jobs(&rt, rt.alloc(), &work, 0, workers, &NoGate)?;
+        assert_eq!(rt; none.len(), 0);
+        let two = run_jobs(&rt, rt.alloc(), &work, 2, workers, &NoGate)?;
+        assert_eq!(rt; two.as_slice(), [0, 1].as_slice());
+    }
+    Ok(())
+}
+
+#[test]
+fn most_jobs(rt: HostRuntime) -> Result<(), Fail> {
+    let work = Squares { most: 60000 };
+    let squares = run_jobs(&rt, rt.alloc(), &work, 60000, 4, &NoGate)?;
+    assert_eq!(rt; squares.len(), 60000);
+    assert_eq!(rt; squares.get(59999).copied(), Some(3_599_880_001));
+    Ok(())
+}
+
+#[test]
+fn bad_workers(rt: HostRuntime) {
+    let work = Squares { most: 10 };
+    for workers in [0, 65] {
+        let refused = run_jobs(&rt, rt.alloc(), &work, 10, workers, &NoGate);
+        assert!(rt;
+            matches!(refused, Err(JobFault::BadWorkers)),
+            "{workers} workers"
+        );
+    }
+}
+
+#[test]
+fn fault_of_a_job_is_told(rt: HostRuntime) {
+    for (most, job) in [(5, 4), (8, 3)] {
+        let work = Hungry { most, job };
+        for workers in [1, 2, 8] {
+            let refused = run_jobs(&rt, rt.alloc(), &work, most, workers, &NoGate);
+            assert!(rt;
+                matches!(refused, Err(JobFault::Memory)),
+                "{workers} workers"
+            );
+        }
+    }
+}
+
+#[test]
+fn one_worker_takes_jobs_in_turn(rt: HostRuntime) -> Result<(), Fail> {
+    let turns = Turns::new([0; 4]);
+    run_jobs(&rt, rt.alloc(), &Squares { most: 4 }, 4, 1, &turns)?;
+    for job in 0..4usize {
+        assert_eq!(rt; turns.place_of(job), job as u64 + 1);
+    }
+    Ok(())
+}
+
+#[test]
+fn two_jobs_meet(rt: HostRuntime) -> Result<(), Fail> {
+    let turns = Turns::new([0b10, 0b01, 0, 0]);
+    run_jobs(&rt, rt.alloc(), &Squares { most: 2 }, 2, 2, &turns)?;
+    assert_eq!(rt; turns.missed(), 0);
+    Ok(())
+}
+
+/// With ample memory the answers, and with `--fail-alloc` those or a told refusal.
+#[test]
+fn refused_memory_is_told(rt: HostRuntime) {
+    let work = Squares { most: 5 };
+    for workers in [1, 3] {
+        match run_jobs(&rt, rt.alloc(), &work, 5, workers, &NoGate) {
+            Ok(squares) => assert_eq!(rt; squares.as_slice(), [0, 1, 4, 9, 16].as_slice()),
+            Err(JobFault::Memory) => {}
+            Err(fault) => assert_eq!(rt; (fault, workers), (JobFault::NoThread, 3)),
+        }
+    }
+}
+
+/// With lists that were dealt beforehand one of the three held jobs waits in vain.
+#[test]
+fn idle_worker_steals(rt: HostRuntime) -> Result<(), Fail> {
+    for waits in [[0b110, 0, 0, 0], [0, 0b101, 0, 0], [0, 0, 0b011, 0]] {
+        let turns = Turns::new(waits);
+        run_jobs(&rt, rt.alloc(), &Squares { most: 3 }, 3, 2, &turns)?;
+        assert_eq!(rt; turns.missed(), 0, "{waits:?}");
+    }
+    Ok(())
+}
+
+/// Jobs 0 and 2 are the first worker's own, 1 and 3 the second's.
+#[test]
+fn own_jobs_first(rt: HostRuntime) -> Result<(), Fail> {
+    let turns = Turns::new([0b1000, 0, 0, 0]);
+    run_jobs(&rt, rt.alloc(), &Squares { most: 4 }, 4, 2, &turns)?;
+    assert_eq!(rt; turns.missed(), 0);
+    assert!(rt; turns.place_of(3) < turns.place_of(2));
+    let turns = Turns::new([0, 0b100, 0, 0]);
+    run_jobs(&rt, rt.alloc(), &Squares { most: 4 }, 4, 2, &turns)?;
+    assert_eq!(rt; turns.missed(), 0);
+    assert!(rt; turns.place_of(2) < turns.place_of(3));
+    Ok(())
+}
+
+/// What a job and its gate have seen.
+#[derive(Drop)]
+struct Visit {
+    entered: AtomicU64,
+    let_in: AtomicU64,
+    ran: AtomicU64,
+}
+
+/// Jobs that count how often they enter and run, and the gate that they pass.
+#[derive(Drop)]
+struct Visits {
+    visits: Vec<Visit>,
+    // how many jobs entered after they had run, or ran before they were let in
+    early: AtomicU64,
+}
+
+impl Visits {
+    fn new(alloc: Global, jobs: u32) -> Result<Visits, AllocError> {
+        let mut visits = Vec::new(alloc);
+        for _ in 0..jobs {
+            visits.push(Visit {
+                entered: AtomicU64::new(0),
+                let_in: AtomicU64::new(0),
+                ran: AtomicU64::new(0),
+            })?;
+        }
+        Ok(Visits {
+            visits,
+            early: AtomicU64::new(0),
+        })
+    }
+}
+
+impl Gate for Visits {
+    fn enter(&self, job: u32) {
+        let Some(visit) = self.visits.get(job as usize) else {
+            return;
+        };
+        visit.entered.fetch_add(1, Ordering::SeqCst);
+        for _ in 0..3 {
+            thread::yield_now();
+        }
+        if visit.ran.load(Ordering::SeqCst) != 0 {
+            self.early.fetch_add(1, Ordering::SeqCst);
+        }
+        visit.let_in.fetch_add(1, Ordering::SeqCst);
+    }
+}
+
+impl Work for Visits {
+    type Out = u32;
+
+    ghost use Rattle.std.specs.Prelude.{◌≡◌};
+
+    ghost most = { λ w. 65536 };
+
+    ghost gives = { λ w job out. out ≡ job };
+
+    fn run(&self, _alloc: Global, job: u32) -> Result<u32, JobFault> {
+        if let Some(visit) = self.visits.get(job as usize) {
+            if visit.let_in.load(Ordering::SeqCst) == 0 {
+                self.early.fetch_add(1, Ordering::SeqCst);
+            }
+            visit.ran.fetch_add(1, Ordering::SeqCst);
+        }
+        Ok(job)
+    }
+}
+
+#[test]
+fn each_job_enters_once_and_then_runs_once(rt: HostRuntime) -> Result<(), Fail> {
+    for workers in [1, 2, 3, 8] {
+        let visits = Visits::new(rt.alloc(), 100)?;
+        run_jobs(&rt, rt.alloc(), &visits, 100, workers, &visits)?;
+        for (job, visit) in visits.visits.iter().enumerate() {
+            let times = (
+                visit.entered.load(Ordering::SeqCst),
+                visit.ran.load(Ordering::SeqCst),
+            );
+            assert_eq!(rt; times, (1, 1), "job {job}, {workers} workers");
+        }
+        assert_eq!(rt; visits.early.load(Ordering::SeqCst), 0, "{workers} workers");
+    }
+    Ok(())
+}
+
+/// Of four workers not all start, so there is no answer; one worker needs no thread.
+#[test]
+fn threads_that_cannot_be_started(rt: HostRuntime) -> Result<(), Fail> {
+    for starts in 0..4u32 {
+        let visits = Visits::new(rt.alloc(), 5)?;
+        let refused = run_jobs_capped(&rt, rt.alloc(), &visits, 5, 4, &visits, starts);
+        assert!(rt;
+            matches!(refused, Err(JobFault::NoThread)),
+            "{starts} starts"
+        );
+        for (job, visit) in visits.visits.iter().enumerate() {
+            assert!(rt;
+                visit.ran.load(Ordering::SeqCst) <= 1,
+                "job {job}, {starts} starts"
+            );
+        }
+    }
+    let visits = Visits::new(rt.alloc(), 5)?;
+    let answers = run_jobs_capped(&rt, rt.alloc(), &visits, 5, 1, &visits, 0)?;
+    assert_eq!(rt; answers.as_slice(), [0, 1, 2, 3, 4].as_slice());
+    Ok(())
+}
+
+/// A held job holds its worker: where as many are held as there are workers, no other job enters.
+#[test]
+fn held_workers_take_no_job(rt: HostRuntime) -> Result<(), Fail> {
+    for (workers, waits) in [(1, [0b10, 0, 0, 0]), (2, [0b100, 0b100, 0, 0])] {
+        let turns = Turns {
+            looks: 1000,
+            ..Turns::new(waits)
+        };
+        run_jobs(&rt, rt.alloc(), &Squares { most: 3 }, 3, workers, &turns)?;
+        assert_ne!(rt; turns.missed(), 0, "{workers} workers");
+    }
+    Ok(())
+}

@@ -1,0 +1,224 @@
+//! Grids and maps as they are written.
+ghost use Rattle.std.specs.Prelude.{◌≡◌, ◌*◌};
+
+use crate::texts::{LENIENT, LENIENT_CELLS, grid_of};
+use ascii_grid::{Counted, Grid, WriteFailed, write_counts, write_heights};
+use std::alloc::Global;
+use std::io;
+use std::io::Write;
+use std::process::Abort;
+use std::test::Fail;
+
+/// More bytes than a test writes.
+const ALL: usize = 20_000;
+
+/// A writer that takes some bytes a call, and has room for so many in all. It may be interrupted at one
+/// call, and would go on.
+#[derive(Drop)]
+struct Taker {
+    taken: Vec<u8>,
+    each: usize,
+    room: usize,
+    flushed: usize,
+    calls: usize,
+    interrupted_at: Option<usize>,
+}
+
+impl Taker {
+    fn new(alloc: Global, each: usize, room: usize) -> Self {
+        Taker {
+            taken: Vec::new(alloc),
+            each,
+            room,
+            flushed: 0,
+            calls: 0,
+            interrupted_at: None,
+        }
+    }
+
+    fn begin_call(&mut self) -> io::Result<()> {
+        let call = self.calls;
+        self.calls = call.wrapping_add(1);
+        if self.interrupted_at == Some(call) {
+            return Err(io::Error::from(io::ErrorKind::Interrupted));
+        }
+        Ok(())
+    }
+}
+
+impl Write for Taker {
+    fn write(&mut self, bytes: &[u8]) -> io::Result<usize> {
+        self.begin_call()?;
+        let count = bytes.len().min(self.each).min(self.room);
+        if count == 0 && !bytes.is_empty() {
+            return Err(io::Error::from(io::ErrorKind::Other));
+        }
+        self.taken.write(&bytes[..count])?;
+        self.room -= count;
+        Ok(count)
+    }
+
+    fn flush(&mut self) -> io::Result<()> {
+        self.begin_call()?;
+        self.flushed = self.taken.len();
+        Ok(())
+    }
+}
+
+const LENIENT_WRITTEN: &[u8] =
+    b"ncols         2\nnrows         2\nxllcenter     100.5\nyllcorner     -2E1\ncellsize      30.0\nNODATA_value  -3.40282346638528860e+38\n12.50 -0.50\n-3.40282346638528860e+38 7.00\n";
+
+const LENIENT_FLOW: &[u8] =
+    b"ncols         2\nnrows         2\nxllcenter     100.5\nyllcorner     -2E1\ncellsize      30.0\nNODATA_value  -9999\n1 0\n-9999 64\n";
+
+const HALVES: &[u8] =
+    b"ncols         2\nnrows         2\nxllcorner     0\nyllcenter     0\ncellsize      1\nNODATA_value  -9999\n0.5 -0.5\n0.0 7.0\n";
+
+const EXTREMES: &[u8] =
+    b"ncols         4\nnrows         1\nxllcorner     0\nyllcenter     0\ncellsize      1\nNODATA_value  -9999\n-1000.000000 1000.000000 -0.000001 0.000010\n";
+
+const WHOLE: &[u8] =
+    b"ncols         1\nnrows         4\nxllcorner     0\nyllcenter     0\ncellsize      1\nNODATA_value  -9999\n-1000000000\n1000000000\n0\n-1\n";
+
+/// Writes the grid's heights, and has the writer back.
+fn written(rt: &impl Abort, grid: &Grid, mut taker: Taker, failures: u64) -> Taker {
+    let mut out = Counted::new(&mut taker);
+    let result = write_heights(grid, &mut out);
+    assert_eq!(rt; out.failures(), failures);
+    assert_eq!(rt;
+        result,
+        if failures == 0 {
+            Ok(())
+        } else {
+            Err(WriteFailed)
+        }
+    );
+    taker
+}
+
+fn lenient_grid(rt: &impl Abort, alloc: Global) -> Grid
+    ensures { result.terrain.cols * result.terrain.rows ≡ 4 }
+{
+    let grid = grid_of(rt, alloc, 2, LENIENT, &LENIENT_CELLS);
+    assert!(rt; grid.cols() == 2);
+    assert!(rt; grid.rows() == 2);
+    grid
+}
+
+/// Thirty rows of a hundred cells without data.
+fn empty_cells(rt: &impl Abort, alloc: Global) -> Result<Grid, Fail> {
+    let size = "ncols 100 nrows 30 xllcorner 0 yllcenter 0 cellsize 1";
+    let cells = vec![in alloc; None; 3000]?;
+    let mut text = format!(in alloc; "{size}")?;
+    for _ in 0..3000 {
+        text.push_str(" -9999")?;
+    }
+    Ok(grid_of(rt, alloc, 0, text.as_bytes(), &cells))
+}
+
+#[test]
+fn lenient_text(rt: HostRuntime) {
+    let grid = lenient_grid(&rt, rt.alloc());
+    for each in [1, 7, ALL] {
+        let taker = written(&rt, &grid, Taker::new(rt.alloc(), each, ALL), 0);
+        assert_eq!(rt;
+            taker.taken.as_slice(),
+            LENIENT_WRITTEN,
+            "{each} bytes a call"
+        );
+        assert_eq!(rt; taker.flushed, LENIENT_WRITTEN.len());
+    }
+}
+
+#[test]
+fn lenient_flow(rt: HostRuntime) {
+    let grid = lenient_grid(&rt, rt.alloc());
+    let mut taker = Taker::new(rt.alloc(), ALL, ALL);
+    let mut out = Counted::new(&mut taker);
+    let codes = [Some(1), Some(0), None, Some(64)];
+    assert_eq!(rt; write_counts(&grid, &codes, &mut out), Ok(()));
+    assert_eq!(rt; out.failures(), 0);
+    assert_eq!(rt; taker.taken.as_slice(), LENIENT_FLOW);
+}
+
+#[test]
+fn decimals_of_each_scale(rt: HostRuntime) {
+    let alloc = rt.alloc();
+    let halves = grid_of(
+        &rt,
+        alloc,
+        1,
+        b"ncols 2 nrows 2 xllcorner 0 yllcenter 0 cellsize 1 .5 -.5 0 7",
+        &[Some(5), Some(-5), Some(0), Some(70)],
+    );
+    let extremes = grid_of(
+        &rt,
+        alloc,
+        6,
+        b"ncols 4 nrows 1 xllcorner 0 yllcenter 0 cellsize 1 -1000 1000 -.000001 .00001",
+        &[
+            Some(-1_000_000_000),
+            Some(1_000_000_000),
+            Some(-1),
+            Some(10),
+        ],
+    );
+    let whole = grid_of(
+        &rt,
+        alloc,
+        0,
+        b"ncols 1 nrows 4 xllcorner 0 yllcenter 0 cellsize 1 -1000000000 1000000000 0 -1",
+        &[Some(-1_000_000_000), Some(1_000_000_000), Some(0), Some(-1)],
+    );
+    for (grid, text) in [(&halves, HALVES), (&extremes, EXTREMES), (&whole, WHOLE)] {
+        let taker = written(&rt, grid, Taker::new(alloc, ALL, ALL), 0);
+        assert_eq!(rt; taker.taken.as_slice(), text);
+    }
+}
+
+#[test]
+fn ten_bytes_and_a_failure(rt: HostRuntime) {
+    let grid = lenient_grid(&rt, rt.alloc());
+    for each in [1, 4, ALL] {
+        let taker = written(&rt, &grid, Taker::new(rt.alloc(), each, 10), 1);
+        assert_eq!(rt; taker.taken.as_slice(), b"ncols     ".as_slice());
+        assert_eq!(rt; taker.flushed, 0);
+    }
+}
+
+#[test]
+fn more_than_a_page(rt: HostRuntime) -> Result<(), Fail> {
+    let grid = empty_cells(&rt, rt.alloc())?;
+    let taker = written(&rt, &grid, Taker::new(rt.alloc(), ALL, ALL), 0);
+    assert_eq!(rt; taker.taken.len(), 103 + 30 * 600);
+    for (at, byte) in taker.taken.iter().skip(103).enumerate() {
+        let end = if at % 600 == 599 { b'\n' } else { b' ' };
+        let want = if at % 6 == 5 { end } else { b"-9999"[at % 6] };
+        assert_eq!(rt; *byte, want, "at {at}");
+    }
+    Ok(())
+}
+
+#[test]
+fn failure_past_the_first_page(rt: HostRuntime) -> Result<(), Fail> {
+    let grid = empty_cells(&rt, rt.alloc())?;
+    let whole = written(&rt, &grid, Taker::new(rt.alloc(), ALL, ALL), 0);
+    let part = written(&rt, &grid, Taker::new(rt.alloc(), 1000, 5000), 1);
+    assert_eq!(rt; part.taken.len(), 5000);
+    assert!(rt; whole.taken.starts_with(&part.taken));
+    Ok(())
+}
+
+/// The last call flushes.
+#[test]
+fn interrupted_write(rt: HostRuntime) {
+    let grid = lenient_grid(&rt, rt.alloc());
+    let writes = LENIENT_WRITTEN.len().div_ceil(50);
+    for call in 0..writes + 2 {
+        let mut taker = Taker::new(rt.alloc(), 50, ALL);
+        taker.interrupted_at = Some(call);
+        let taker = written(&rt, &grid, taker, u64::from(call <= writes));
+        assert_eq!(rt; taker.taken.len(), LENIENT_WRITTEN.len().min(50 * call));
+        assert!(rt; LENIENT_WRITTEN.starts_with(&taker.taken));
+    }
+}

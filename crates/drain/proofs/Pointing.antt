@@ -1,0 +1,86 @@
+-- Where codes point, and that a cell has one direction, along which the pair of height and steps falls.
+use Rattle.std.proofs.Common.{◌≡◌, ◌≢◌, ℕ, ◌+◌, ◌^◌, ◌<◌, ◌≤◌, inl, inr, List, Option, None, Some, eqb, sym, ap, refl, ◌∙◌, arith}
+use Rattle.std.proofs.Math.Nat.{pow-le-pow_right}
+use Rattle.std.proofs.lemmas.Bool.{eqb-true}
+use Rattle.std.proofs.lemmas.List.{get_or_default}
+use Rattle.std.proofs.lemmas.List.Quantifiers.{position-Some}
+use Rattle.std.proofs.lemmas.Option.{none-some, same_Some}
+use Rattle.std.specs.Option.{option_and_then}
+use Rattle.ascii_grid.specs.Raster.{Terrain}
+use Rattle.ascii_grid.specs.Neighbours.{IsDataCell, IsNeighbour, IsEdge}
+use Rattle.ascii_grid.specs.Ways.{way_codes, ways_from, way_of, code_of, place_on, place_toward}
+use Rattle.ascii_grid.specs.declared.place.Place.{Place}
+use Rattle.tiles.proofs.Members.{Touches-from_ways}
+use Rattle.drain.specs.Steps.{HasLower, DrainsAtOnce, AreSteps}
+use Rattle.drain.specs.Directions.{IsSteepest, IsOnward, PointsToFirst, IsDirection}
+use Rattle.drain.specs.Drained.{Falls}
+use Rattle.drain.proofs.Local.{one_number_of_steps}
+use Rattle.drain.proofs.Nearby.{has_lower, edge_cell}
+use Rattle.drain.proofs.AroundLemmas.{cases_option, steps_at}
+use Rattle.drain.proofs.Ways.{eight}
+
+-- what a code points to lies on the way whose code it is
+pub way_toward : (p q : Place) (code : ℕ) → place_toward code p ≡ Some q → (way : ℕ) × (way < 8) × (code ≡ code_of (Some way)) × (place_on way p ≡ Some q)
+way_toward p q code e = elim (cases_option (way_of code)) [
+  | inl none ↦ absurd (none-some q (sym (ap (λ (o : Option ℕ). option_and_then (λ way. place_on way p) o) none) ∙ e))
+  | inr way ↦
+      (let found = position-Some (λ c. eqb c code) way_codes way.0 0 way.1 in
+      (way.0, found.0, sym (eqb-true _ _ found.1), sym (ap (λ (o : Option ℕ). option_and_then (λ way. place_on way p) o) way.1) ∙ e))
+]
+
+code_power : (way : ℕ) → way < 8 → code_of (Some way) ≡ 2 ^ way
+code_power = eight (λ way. code_of (Some way) ≡ 2 ^ way) refl refl refl refl refl refl refl refl
+
+-- a later way has a greater code
+pub codes_rise : (way other : ℕ) → way ≤ other → other < 8 → code_of (Some way) ≤ code_of (Some other)
+codes_rise way other le below =
+    let powers : 2 ^ way ≤ 2 ^ other = pow-le-pow_right (omega arith) le in
+    omega (arith, powers, code_power way (omega arith), code_power other below)
+
+pub next_on_way : (t : Terrain) (p q : Place) (way : ℕ) → way < 8 → place_on way p ≡ Some q → IsDataCell t p → IsDataCell t q → IsNeighbour t p q
+next_on_way t p q way below e from to =
+    let beside = Touches-from_ways p q (way, below, get_or_default (ways_from p) way (Some q) None below ∙ e) in
+    record { different = beside.1; touches = beside.0; from_data = from; to_data = to }
+
+one_first : (IsSuch : Place → Type 0) (p : Place) (m n : ℕ) → PointsToFirst IsSuch p m → PointsToFirst IsSuch p n → m ≡ n
+one_first IsSuch p m n a b =
+    omega (arith, a.first n b.one.0 b.one.1 b.one.2, b.first m a.one.0 a.one.1 a.one.2)
+
+off_both : (t : Terrain) (p : Place) → (HasLower t p → ⊥) → (IsEdge t p → ⊥) → DrainsAtOnce t p → ⊥
+off_both t p high off (inl lower) = high lower
+off_both t p high off (inr edge) = off edge
+
+pub one_direction : (t : Terrain) (p : Place) (m n : ℕ) → IsDirection t p m → IsDirection t p n → m ≡ n
+one_direction t p m n a b = elim (has_lower t p) [
+  | inl lower ↦ one_first (IsSteepest t p) p m n (a.steepest lower) (b.steepest lower)
+  | inr high ↦ elim (edge_cell t p) [
+    | inl edge ↦ a.outlet high edge ∙ sym (b.outlet high edge)
+    | inr off ↦ one_first (IsOnward t p) p m n (a.onward (off_both t p high off)) (b.onward (off_both t p high off))
+  ]
+]
+
+-- a code but 0 leads to a data cell, and the pair of height and steps falls along it
+pub direction_leads : (t : Terrain) (steps codes : List (Option ℕ)) (p : Place) (code : ℕ) → AreSteps t steps → IsDirection t p code → code ≢ 0 →
+    (q : Place) × (place_toward code p ≡ Some q) × IsDataCell t q × Falls (record { terrain = t; steps = steps; codes = codes }) p q
+direction_leads t steps codes p code are d some = elim (has_lower t p) [
+  | inl lower ↦ (let to = (d.steepest lower).one in (to.0, to.1, to.2.0.0.to_data, inl to.2.0.1))
+  | inr high ↦ elim (edge_cell t p) [
+    | inl edge ↦ absurd (some (d.outlet high edge))
+    | inr off ↦
+        (let to = (d.onward (off_both t p high off)).one in
+        let next = to.2.0 in
+        let here = steps_at t steps p are next.from_data in
+        let there = steps_at t steps to.0 are next.to_data in (
+          to.0,
+          to.1,
+          next.to_data,
+          inr (
+            to.2.1,
+            λ m n own other.
+                let own_is : m ≡ to.2.2 + 1 = same_Some _ _ (sym own ∙ here.1) ∙ one_number_of_steps t p here.0 (to.2.2 + 1) here.2 to.2.4 in
+                let other_is : n ≡ to.2.2 = same_Some _ _ (sym other ∙ there.1) ∙ one_number_of_steps t to.0 there.0 to.2.2 there.2 to.2.3 in
+                omega arith,
+          ),
+        ))
+  ]
+]

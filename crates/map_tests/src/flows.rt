@@ -1,0 +1,80 @@
+// Flow inside tiles, and over their rims.
+ghost use Rattle.std.specs.Prelude.{◌≡◌, IfOk};
+ghost use Rattle.drain.specs.Drained.{AllFlowEnds, directed_of};
+ghost use Rattle.flow.specs.TileFlow.{AreTileFlows};
+ghost use Rattle.tiles.specs.Cutting.{Cuts};
+
+use crate::ground::{cut, land};
+use ascii_grid::{NoMemory, Place};
+use drain::{Directions, directions};
+use fill::filled;
+use flow::{RimLinks, TileFlow, tile_flow};
+use std::alloc::Global;
+use std::process::Abort;
+use tile_jobs::NoGate;
+use tiles::Tiling;
+
+/// The flow of each tile, in tile order.
+fn flows_of(alloc: Global, tiling: &Tiling, ways: &Directions) -> Result<Vec<TileFlow>, NoMemory>
+    requires cuts { Cuts tiling.now ways.now.terrain }
+    requires ends { AllFlowEnds (directed_of ways.now) }
+    ensures { IfOk result (λ v. AreTileFlows (directed_of ways.now) tiling.now v.items) }
+{
+    let mut flows = Vec::new(alloc);
+    for tile in 0..tiling.tiles() {
+        let flow = tile_flow(alloc, &tiling.view(ways.codes(), tile))?;
+        if flows.push(flow).is_err() {
+            return Err(NoMemory);
+        }
+    }
+    Ok(flows)
+}
+
+/// The links over the rims of these flows.
+fn links_of<'a>(
+    alloc: Global,
+    tiling: &Tiling,
+    ways: &Directions,
+    flows: &'a [TileFlow],
+) -> Result<RimLinks<'a>, NoMemory>
+    requires ends { AllFlowEnds (directed_of ways.now) }
+    requires flows { AreTileFlows (directed_of ways.now) tiling.now flows.now }
+    ensures { IfOk result (λ l. l.cutting ≡ tiling.now) }
+{
+    RimLinks::join(alloc, tiling, flows)
+}
+
+fn expect_tile_flows(rt: &impl Abort, flows: &[TileFlow]) {
+    assert_eq!(rt; flows.len(), 3);
+    let exit = Place { row: 0, col: 1 };
+    assert_eq!(rt; flows[0].exit(Place { row: 1, col: 0 }), Some(exit));
+    assert_eq!(rt; flows[0].through(exit), Some(2));
+    assert_eq!(rt; flows[0].through(Place { row: 0, col: 2 }), None);
+    assert_eq!(rt; flows[1].through(Place { row: 0, col: 3 }), Some(3));
+    assert_eq!(rt; flows[1].exit(exit), None);
+}
+
+/// What comes in over the rim at a column of the first row, and where the water of that cell ends.
+fn link_at(rt: &impl Abort, tiling: &Tiling, links: &RimLinks<'_>, col: u32) -> (u32, Option<Place>)
+    requires { links.now.cutting ≡ tiling.now }
+{
+    let place = Place { row: 0, col };
+    assert!(rt; place.row < tiling.rows());
+    assert!(rt; place.col < tiling.cols());
+    (links.inflow(place), links.outlet(place))
+}
+
+#[test]
+fn slope_in_tiles_and_joined(rt: HostRuntime) {
+    let alloc = rt.alloc();
+    let slope = land(&rt, alloc, 6, 2, "6 5 4 3 2 1\n7 7 7 7 7 7");
+    let tiling = cut(&rt, &slope, 2);
+    let level = filled(&rt, alloc, &slope, &tiling, 1, &NoGate).expect(&rt, "levels");
+    let ways = directions(&rt, alloc, &level, &tiling, 1, &NoGate).expect(&rt, "ways");
+    let flows = flows_of(alloc, &tiling, &ways).expect(&rt, "flows");
+    expect_tile_flows(&rt, &flows);
+    let links = links_of(alloc, &tiling, &ways, &flows).expect(&rt, "links");
+    assert_eq!(rt; link_at(&rt, &tiling, &links, 2), (4, None));
+    let outlet = Place { row: 0, col: 5 };
+    assert_eq!(rt; link_at(&rt, &tiling, &links, 1), (0, Some(outlet)));
+}

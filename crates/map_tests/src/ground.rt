@@ -1,0 +1,23 @@
+// Small grids, and how they are cut.
+ghost use Rattle.tiles.specs.Cutting.{Cuts};
+
+use ascii_grid::{Grid, read_text};
+use std::alloc::Global;
+use std::process::Abort;
+use tiles::Tiling;
+
+/// A grid of whole heights, -9999 where there is no data.
+pub(crate) fn land(rt: &impl Abort, alloc: Global, cols: u32, rows: u32, heights: &str) -> Grid {
+    let text = format!(in alloc;
+        "ncols {cols}\nnrows {rows}\nxllcorner 0\nyllcorner 0\ncellsize 1\n{heights}\n"
+    );
+    let text = text.expect(rt, "a text");
+    read_text(alloc, 0, text.as_bytes()).expect(rt, "a grid")
+}
+
+/// The grid in tiles of this side.
+pub(crate) fn cut(rt: &impl Abort, grid: &Grid, side: u32) -> Tiling
+    ensures { Cuts result grid.now.terrain }
+{
+    Tiling::new(grid.cols(), grid.rows(), side).expect(rt, "a tiling")
+}

@@ -1,0 +1,159 @@
+// Filled heights of grids that look random, beside another way to find them.
+use ascii_grid::{HIGHEST, Height, read_text};
+use fill::filled_heights;
+use std::alloc::Global;
+use std::process::Abort;
+use std::test::Fail;
+
+/// Numbers that look random and are the same at every run.
+#[derive(Drop)]
+struct Numbers {
+    state: u32,
+}
+
+impl Numbers {
+    fn next(&mut self) -> u32 {
+        self.state = self
+            .state
+            .wrapping_mul(1_664_525)
+            .wrapping_add(1_013_904_223);
+        self.state >> 16
+    }
+}
+
+const NEAR: [&str; 8] = [" 0", " 0", " 1", " 1", " 2", " 2", " 3", " 3"];
+
+/// Farther apart than the lists of so few cells, which have four levels.
+const FAR: [&str; 8] = [
+    " -1000000000",
+    " -70",
+    " -1",
+    " 0",
+    " 2",
+    " 4",
+    " 60",
+    " 1000000000",
+];
+
+/// One cell in some thirty is a gap, and the others stand at one of the heights.
+fn cell_word(number: u32, heights: &[&'static str; 8]) -> &'static str {
+    if number % 31 == 30 {
+        return " -9999";
+    }
+    heights[(number % 8) as usize]
+}
+
+fn grid_text(
+    alloc: Global,
+    numbers: &mut Numbers,
+    heights: &[&'static str; 8],
+    cols: u8,
+    rows: u8,
+) -> Result<String, Fail> {
+    let mut text = format!(in alloc;
+        "ncols {cols} nrows {rows} xllcorner 0 yllcorner 0 cellsize 1"
+    )?;
+    for _ in 0..u32::from(cols) * u32::from(rows) {
+        text.push_str(cell_word(numbers.next(), heights))?;
+    }
+    Ok(text)
+}
+
+/// Where a row and a column stand in row order. They count from 1, with 0 and one more as the border.
+fn index_of(cols: u8, row: u8, col: u8) -> Option<usize> {
+    if row == 0 || col == 0 || col > cols {
+        return None;
+    }
+    Some((row - 1) as usize * cols as usize + (col - 1) as usize)
+}
+
+fn level_at(levels: &[Option<Height>], cols: u8, row: u8, col: u8) -> Option<Height> {
+    let index = index_of(cols, row, col)?;
+    *levels.get(index)?
+}
+
+/// The lowest of the nine levels at a cell and around it, `None` at an edge cell and at a gap.
+fn lowest_of_nine(levels: &[Option<Height>], cols: u8, row: u8, col: u8) -> Option<Height> {
+    let mut lowest = HIGHEST;
+    for near_row in row.saturating_sub(1)..=row.saturating_add(1) {
+        for near_col in col.saturating_sub(1)..=col.saturating_add(1) {
+            lowest = lowest.min(level_at(levels, cols, near_row, near_col)?);
+        }
+    }
+    Some(lowest)
+}
+
+/// Lowers each level that is no edge cell's to the greater of its height and the lowest near it.
+fn sweep(heights: &[Option<Height>], levels: &mut [Option<Height>], cols: u8, rows: u8) {
+    for row in 1..=rows {
+        for col in 1..=cols {
+            let Some(lowest) = lowest_of_nine(levels, cols, row, col) else {
+                continue;
+            };
+            let Some(index) = index_of(cols, row, col) else {
+                continue;
+            };
+            let height = level_at(heights, cols, row, col);
+            if let Some(level) = levels.get_mut(index) {
+                *level = height.map(|height| height.max(lowest));
+            }
+        }
+    }
+}
+
+/// Filled heights by lowering: the levels begin at the heights of edge cells and at the greatest height
+/// elsewhere, and sink in as many sweeps as there are cells.
+fn lowered(
+    alloc: Global,
+    heights: &[Option<Height>],
+    cols: u8,
+    rows: u8,
+) -> Result<Vec<Option<Height>>, Fail> {
+    let mut levels = Vec::new(alloc);
+    for row in 1..=rows {
+        for col in 1..=cols {
+            let inner = lowest_of_nine(heights, cols, row, col).is_some();
+            let height = level_at(heights, cols, row, col);
+            levels.push(if inner { Some(HIGHEST) } else { height })?;
+        }
+    }
+    for _ in 0..heights.len() {
+        sweep(heights, &mut levels, cols, rows);
+    }
+    Ok(levels)
+}
+
+/// Compares grids of these heights with their lowering, and counts those with a pit.
+fn compare<R: Abort>(rt: &R, alloc: Global, heights: &[&'static str; 8]) -> Result<u32, Fail> {
+    let mut numbers = Numbers { state: 1 };
+    let mut raised = 0u32;
+    for rows in 1..=6u8 {
+        for cols in 1..=6u8 {
+            for _ in 0..16 {
+                let text = grid_text(alloc, &mut numbers, heights, cols, rows)?;
+                let grid = read_text(alloc, 0, text.as_bytes())?;
+                let wanted = lowered(alloc, grid.cells(), cols, rows)?;
+                let levels = filled_heights(alloc, &grid)?;
+                assert_eq!(rt; levels.as_slice(), wanted.as_slice(), "{text}");
+                if levels.as_slice() != grid.cells() {
+                    raised = raised.saturating_add(1);
+                }
+            }
+        }
+    }
+    Ok(raised)
+}
+
+#[test]
+fn as_by_lowering(rt: HostRuntime) -> Result<(), Fail> {
+    let raised = compare(&rt, rt.alloc(), &NEAR)?;
+    assert!(rt; raised > 20, "{raised} grids with a pit");
+    Ok(())
+}
+
+#[test]
+fn levels_far_apart_as_by_lowering(rt: HostRuntime) -> Result<(), Fail> {
+    let raised = compare(&rt, rt.alloc(), &FAR)?;
+    assert!(rt; raised > 20, "{raised} grids with a pit");
+    Ok(())
+}

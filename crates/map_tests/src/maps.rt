@@ -1,0 +1,109 @@
+// The maps of the ways of water, by their rows.
+use crate::ground::{cut, land};
+use ascii_grid::{Grid, NoMemory};
+use drain::{Code, directions};
+use fill::{filled, filled_heights};
+use flow::{accumulation, basins};
+use std::alloc::Global;
+use std::process::Abort;
+use std::sync::Wait;
+use std::thread::Threads;
+use tile_jobs::NoGate;
+
+/// Sides of tiles and numbers of workers.
+const CUTS: [(u32, u32); 9] = [
+    (1, 1),
+    (1, 8),
+    (2, 1),
+    (2, 2),
+    (2, 8),
+    (3, 2),
+    (4, 1),
+    (4, 8),
+    (7, 2),
+];
+
+/// A terrain and its maps, row by row, -9999 where there is no data.
+#[derive(Drop)]
+pub(crate) struct Maps {
+    pub(crate) cols: u32,
+    pub(crate) rows: u32,
+    pub(crate) heights: &'static str,
+    pub(crate) filled: &'static str,
+    pub(crate) codes: &'static str,
+    pub(crate) accumulation: &'static str,
+    pub(crate) basins: &'static str,
+}
+
+/// Whether the values are those of a grid.
+fn agree(values: &[Option<u32>], wanted: &Grid) -> bool {
+    let cells = wanted.cells();
+    values.len() == cells.len()
+        && values.iter().zip(cells.iter()).all(|(value, cell)| value.map(i64::from)
+            == cell.map(i64::from))
+}
+
+fn numbers(alloc: Global, codes: &[Option<Code>]) -> Result<Vec<Option<u32>>, NoMemory> {
+    let mut numbers = Vec::new(alloc);
+    for code in codes {
+        let number = code.map(|code| u32::from(code.number()));
+        if numbers.push(number).is_err() {
+            return Err(NoMemory);
+        }
+    }
+    Ok(numbers)
+}
+
+impl Maps {
+    /// These are the maps, however the terrain is cut and whoever does the work.
+    pub(crate) fn expect<R: Abort + Threads + Wait + Sync>(&self, rt: &R, alloc: Global) {
+        let land = land(rt, alloc, self.cols, self.rows, self.heights);
+        let wanted = self.grid(rt, alloc, self.filled);
+        let levels = filled_heights(alloc, &land).expect(rt, "filled heights");
+        assert!(rt; levels.as_slice() == wanted.cells(), "filled at once");
+        for (side, workers) in CUTS {
+            self.expect_cut(rt, alloc, &land, side, workers);
+        }
+    }
+
+    fn grid(&self, rt: &impl Abort, alloc: Global, numbers: &str) -> Grid {
+        land(rt, alloc, self.cols, self.rows, numbers)
+    }
+
+    fn expect_cut<R: Abort + Threads + Wait + Sync>(
+        &self,
+        rt: &R,
+        alloc: Global,
+        land: &Grid,
+        side: u32,
+        workers: u32,
+    ) {
+        let tiling = cut(rt, land, side);
+        let level = filled(rt, alloc, land, &tiling, workers, &NoGate).expect(rt, "levels");
+        let cells = level.grid().cells();
+        let heights = self.grid(rt, alloc, self.filled);
+        assert!(rt;
+            cells == heights.cells(),
+            "filled, side {side}, {workers} workers"
+        );
+        let ways = directions(rt, alloc, &level, &tiling, workers, &NoGate).expect(rt, "ways");
+        let codes = numbers(alloc, ways.codes()).expect(rt, "codes");
+        let wanted = self.grid(rt, alloc, self.codes);
+        assert!(rt;
+            agree(&codes, &wanted),
+            "codes, side {side}, {workers} workers"
+        );
+        let counts = accumulation(rt, alloc, &ways, &tiling, workers, &NoGate).expect(rt, "counts");
+        let wanted = self.grid(rt, alloc, self.accumulation);
+        assert!(rt;
+            agree(&counts, &wanted),
+            "counts, side {side}, {workers} workers"
+        );
+        let numbers = basins(rt, alloc, &ways, &tiling, workers, &NoGate).expect(rt, "basins");
+        let wanted = self.grid(rt, alloc, self.basins);
+        assert!(rt;
+            agree(&numbers, &wanted),
+            "basins, side {side}, {workers} workers"
+        );
+    }
+}

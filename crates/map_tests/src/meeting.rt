@@ -1,0 +1,200 @@
+// Two tiles in work at once, at each stage of each map.
+use crate::ground::{cut, land};
+use ascii_grid::Counted;
+use drain::directions;
+use fill::filled;
+use flow::{accumulation, basins};
+use relief::{Map, Options, run_gated};
+use sight::{Observer, viewshed};
+use std::alloc::Global;
+use std::process::Abort;
+use std::sync::Wait;
+use std::sync::atomic::{AtomicU64, Ordering};
+use std::thread;
+use std::thread::Threads;
+use tile_jobs::{Gate, NoGate};
+
+/// How often a held job looks for the other.
+const MOST_LOOKS: u32 = 10_000_000;
+
+/// At each stage, holds each of the first two jobs until the other has entered too.
+#[derive(Drop)]
+struct Meeting {
+    // how often each of the two has entered: once at each stage
+    entered: [AtomicU64; 2],
+    all: AtomicU64,
+    looks: u32,
+    missed: AtomicU64,
+}
+
+impl Gate for Meeting {
+    fn enter(&self, job: u32) {
+        self.all.fetch_add(1, Ordering::SeqCst);
+        if job > 1 {
+            return;
+        }
+        let own = job as usize;
+        let before = self.entered[own].fetch_add(1, Ordering::SeqCst);
+        for _ in 0..self.looks {
+            if self.entered[1 - own].load(Ordering::SeqCst) > before {
+                return;
+            }
+            thread::yield_now();
+        }
+        self.missed.fetch_add(1, Ordering::SeqCst);
+    }
+}
+
+impl Meeting {
+    fn new() -> Meeting {
+        Meeting {
+            entered: [AtomicU64::new(0), AtomicU64::new(0)],
+            all: AtomicU64::new(0),
+            looks: MOST_LOOKS,
+            missed: AtomicU64::new(0),
+        }
+    }
+
+    /// At so many stages each tile entered once, and the first two were in work at once.
+    fn expect(&self, rt: &impl Abort, stages: u64, tiles: u64, map: &str) {
+        let first = self.entered[0].load(Ordering::SeqCst);
+        let second = self.entered[1].load(Ordering::SeqCst);
+        assert_eq!(rt; (first, second), (stages, stages), "{map}");
+        assert_eq!(rt;
+            self.all.load(Ordering::SeqCst),
+            stages.wrapping_mul(tiles),
+            "{map}"
+        );
+        assert_eq!(rt; self.missed.load(Ordering::SeqCst), 0, "{map}");
+    }
+}
+
+/// A pit along the diagonal, which spills at the height of the last cell. Its steps reach the first of four
+/// tiles in the second round, and the third changes nothing.
+const PIT: &str = "9 9 9 9\n9 1 9 9\n9 9 2 9\n9 9 9 3";
+
+/// Two hollows in two tiles of side 3, which spill over the low place in the second.
+const VALLEY: &str = "9 9 9 9 9 9\n9 1 5 4 1 6\n9 9 9 9 9 9";
+
+const CORNER: Observer = Observer {
+    row: 0,
+    col: 0,
+    eye: 0,
+};
+
+#[test]
+fn tiles_meet_at_each_stage(rt: HostRuntime) {
+    let alloc = rt.alloc();
+    let pit = land(&rt, alloc, 4, 4, PIT);
+    let tiling = cut(&rt, &pit, 2);
+    let gate = Meeting::new();
+    let level = filled(&rt, alloc, &pit, &tiling, 2, &gate).expect(&rt, "levels");
+    gate.expect(&rt, 2, 4, "filled");
+    let gate = Meeting::new();
+    let ways = directions(&rt, alloc, &level, &tiling, 2, &gate).expect(&rt, "ways");
+    gate.expect(&rt, 5, 4, "directions");
+    let gate = Meeting::new();
+    assert!(rt; accumulation(&rt, alloc, &ways, &tiling, 2, &gate).is_ok());
+    gate.expect(&rt, 2, 4, "accumulation");
+    let gate = Meeting::new();
+    assert!(rt; basins(&rt, alloc, &ways, &tiling, 2, &gate).is_ok());
+    gate.expect(&rt, 3, 4, "basins");
+    let gate = Meeting::new();
+    let seen = viewshed(&rt, alloc, &pit, &[CORNER], 0, 9, &tiling, 2, &gate);
+    assert!(rt; seen.is_ok());
+    gate.expect(&rt, 1, 4, "viewshed");
+}
+
+// Tiles with inner cells have one stage more: what each adds to the spill graph.
+#[test]
+fn tiles_with_inner_cells_meet(rt: HostRuntime) {
+    let alloc = rt.alloc();
+    let valley = land(&rt, alloc, 6, 3, VALLEY);
+    let tiling = cut(&rt, &valley, 3);
+    let gate = Meeting::new();
+    let level = filled(&rt, alloc, &valley, &tiling, 2, &gate).expect(&rt, "levels");
+    gate.expect(&rt, 3, 2, "filled");
+    let gate = Meeting::new();
+    assert!(rt; directions(&rt, alloc, &level, &tiling, 2, &gate).is_ok());
+    gate.expect(&rt, 5, 2, "directions");
+}
+
+// Each of three tiles has one job at each of three stages, also where one worker does them in turn.
+#[test]
+fn three_stages_of_three_jobs(rt: HostRuntime) {
+    let alloc = rt.alloc();
+    let level = land(&rt, alloc, 5, 2, "5 5 5 5 5\n5 5 5 5 5");
+    let tiling = cut(&rt, &level, 2);
+    let level = filled(&rt, alloc, &level, &tiling, 1, &NoGate).expect(&rt, "levels");
+    let ways = directions(&rt, alloc, &level, &tiling, 1, &NoGate).expect(&rt, "ways");
+    for workers in [2, 8] {
+        let gate = Meeting::new();
+        assert!(rt; basins(&rt, alloc, &ways, &tiling, workers, &gate).is_ok());
+        gate.expect(&rt, 3, 3, "basins");
+    }
+    let gate = Meeting {
+        looks: 0,
+        ..Meeting::new()
+    };
+    assert!(rt; basins(&rt, alloc, &ways, &tiling, 1, &gate).is_ok());
+    assert_eq!(rt; gate.all.load(Ordering::SeqCst), 9);
+}
+
+/// What a run in tiles of side 2 by two workers writes below the header.
+fn met_rows<R: Abort + Threads + Wait + Sync>(
+    rt: &R,
+    alloc: Global,
+    map: Map,
+    stages: u64,
+    name: &str,
+) -> Vec<u8> {
+    let options = Options::new(map, 2, 2, 0).expect(rt, "options");
+    let text = format!(in alloc; "ncols 4\nnrows 4\nxllcorner 0\nyllcorner 0\ncellsize 1\n{PIT}\n");
+    let text = text.expect(rt, "a text");
+    let gate = Meeting::new();
+    let mut out = Vec::new(alloc);
+    let mut reader = Counted::new(text.as_bytes());
+    let mut writer = Counted::new(&mut out);
+    let result = run_gated(rt, alloc, &options, &mut reader, &mut writer, &gate);
+    drop(writer);
+    assert_eq!(rt; result, Ok(()), "{name}");
+    gate.expect(rt, stages, 4, name);
+    out
+}
+
+// The stages of a run are those of all its calls.
+#[test]
+fn tiles_meet(rt: HostRuntime) {
+    let mut observers = Vec::new(rt.alloc());
+    for at in [0, 0, 3] {
+        let observer = Observer {
+            row: at,
+            col: at,
+            eye: 1_000_000,
+        };
+        observers.push(observer).expect(&rt, "an observer");
+    }
+    let view = Map::View {
+        observers,
+        target: 0,
+        radius: 2,
+    };
+    for (map, stages, rows) in [
+        (Map::Fill, 2, "\n9 9 9 9\n9 3 9 9\n9 9 3 9\n9 9 9 3\n"),
+        (Map::Flow, 7, "\n2 4 8 0\n1 2 4 8\n128 1 2 4\n0 128 1 0\n"),
+        (
+            Map::Accumulate,
+            9,
+            "\n0 0 0 0\n0 5 0 0\n0 0 10 0\n0 0 0 13\n",
+        ),
+        (Map::Basins, 10, "\n3 3 3 1\n3 3 3 3\n3 3 3 3\n2 3 3 3\n"),
+        (view, 1, "\n2 2 2 0\n2 2 0 1\n2 0 1 1\n0 1 1 1\n"),
+    ] {
+        let out = met_rows(&rt, rt.alloc(), map, stages, rows);
+        let wanted = format!(in rt.alloc();
+            "ncols         4\nnrows         4\nxllcorner     0\nyllcorner     0\ncellsize      1\nNODATA_value  -9999{rows}"
+        );
+        let wanted = wanted.expect(&rt, "a text");
+        assert_eq!(rt; out.as_slice(), wanted.as_bytes());
+    }
+}

@@ -1,0 +1,179 @@
+// The words of the command line, and the lines and numbers of faults.
+use ascii_grid::{Counted, GridFault, Key};
+use relief::{Map, Options, RunFault, parse_observer, run_words, tell};
+use sight::{Observer, SightFault};
+use std::alloc::Global;
+use std::sync::Wait;
+use std::test::Fail;
+use std::thread::Threads;
+use tile_jobs::JobFault;
+use tiles::TilingFault;
+
+const BOWL: &[u8] =
+    b"ncols 3\nnrows 3\nxllcorner 0\nyllcorner 0\ncellsize 1\n9 9 9\n9 1 9\n9 9 9\n";
+
+/// What words came to over a grid.
+#[derive(Drop)]
+struct Told {
+    status: u8,
+    out: Vec<u8>,
+    errors: Vec<u8>,
+}
+
+fn told_by<R: Threads + Wait + Sync>(rt: &R, alloc: Global, words: &[&str]) -> Told {
+    let mut out = Vec::new(alloc);
+    let mut errors = Vec::new(alloc);
+    let mut reader = Counted::new(BOWL);
+    let mut writer = Counted::new(&mut out);
+    let mut lines = Counted::new(&mut errors);
+    let status = run_words(rt, alloc, words, &mut reader, &mut writer, &mut lines);
+    drop(lines);
+    drop(writer);
+    Told {
+        status,
+        out,
+        errors,
+    }
+}
+
+#[test]
+fn words_and_statuses(rt: HostRuntime) {
+    for (words, status, errors) in [
+        (["relief", "fill", "--tile=1"].as_slice(), 0, b"".as_slice()),
+        (
+            ["relief", "view", "3,0,0"].as_slice(),
+            2,
+            b"relief: 41 Outside 0\n".as_slice(),
+        ),
+        (
+            ["relief", "view", "0,0,0", "0,0"].as_slice(),
+            1,
+            b"relief: bad observer word 1\n".as_slice(),
+        ),
+        (["relief", "--help"].as_slice(), 0, b"".as_slice()),
+    ] {
+        let told = told_by(&rt, rt.alloc(), words);
+        assert_eq!(rt; told.status, status, "{words:?}");
+        assert_eq!(rt; told.errors.as_slice(), errors, "{words:?}");
+    }
+}
+
+/// Whether these words are refused, and that is told.
+fn are_refused<R: Threads + Wait + Sync>(rt: &R, alloc: Global, words: &[&str]) -> bool {
+    let told = told_by(rt, alloc, words);
+    told.status == 1 && !told.errors.is_empty()
+}
+
+#[test]
+fn no_words_and_refused_words(rt: HostRuntime) {
+    let alloc = rt.alloc();
+    assert!(rt; are_refused(&rt, alloc, &[]));
+    assert!(rt; are_refused(&rt, alloc, &["relief"]));
+    assert!(rt; are_refused(&rt, alloc, &["relief", "fill", "--tile", "0"]));
+    assert!(rt; are_refused(&rt, alloc, &["relief", "fill", "--workers", "65"]));
+    assert!(rt; are_refused(&rt, alloc, &["relief", "help"]));
+}
+
+/// The help of a map says what goes in and comes out, and names its defaults, limits and statuses.
+#[test]
+fn help_of_each_map(rt: HostRuntime) -> Result<(), Fail> {
+    for name in ["fill", "flow", "accumulate", "basins", "view"] {
+        let told = told_by(&rt, rt.alloc(), ["relief", name, "--help"].as_slice());
+        assert_eq!(rt; told.status, 0, "{name}");
+        assert!(rt; told.errors.is_empty(), "{name}");
+        let help = String::from_utf8_lossy(rt.alloc(), told.out.as_slice())?;
+        for part in [
+            "\nIn: ",
+            "\nOut: ",
+            "[default: 256]",
+            "\nLimits: ",
+            "\nExit status:",
+        ] {
+            assert!(rt; help.contains(part), "{name}: {part}");
+        }
+    }
+    Ok(())
+}
+
+#[test]
+fn observer_words(rt: HostRuntime) {
+    let observer = Observer {
+        row: 4_294_967_295,
+        col: 2,
+        eye: 0,
+    };
+    assert_eq!(rt; parse_observer("4294967295,02,0000000000"), Some(observer));
+    for word in [
+        "",
+        ",,",
+        "1,2",
+        "1,2,3,4",
+        "+1,2,3",
+        "1,2,3 ",
+        "4294967296,2,3",
+        "00000000001,2,3",
+    ] {
+        assert_eq!(rt; parse_observer(word), None, "{word:?}");
+    }
+}
+
+#[test]
+fn fault_lines(rt: HostRuntime) -> Result<(), Fail> {
+    for (fault, line) in [
+        (
+            RunFault::Grid(GridFault::UnknownKey),
+            b"relief: 1 UnknownKey\n".as_slice(),
+        ),
+        (
+            RunFault::Grid(GridFault::RepeatedKey(Key::Xll)),
+            b"relief: 2 RepeatedKey xll\n".as_slice(),
+        ),
+        (
+            RunFault::Grid(GridFault::BadHeight(16_777_215)),
+            b"relief: 7 BadHeight 16777215\n".as_slice(),
+        ),
+        (
+            RunFault::Tiling(TilingFault::TooManyTiles),
+            b"relief: 22 TooManyTiles\n".as_slice(),
+        ),
+        (
+            RunFault::Jobs(JobFault::NoThread),
+            b"relief: 32 NoThread\n".as_slice(),
+        ),
+        (
+            RunFault::Sight(SightFault::BadEye(None)),
+            b"relief: 44 BadEye\n".as_slice(),
+        ),
+        (
+            RunFault::Sight(SightFault::BadEye(Some(7))),
+            b"relief: 44 BadEye 7\n".as_slice(),
+        ),
+        (RunFault::Read, b"relief: 51 Read\n".as_slice()),
+    ] {
+        let mut out = Vec::new(rt.alloc());
+        let mut writer = Counted::new(&mut out);
+        assert!(rt; tell(&fault, &mut writer).is_ok());
+        drop(writer);
+        assert_eq!(rt; out.as_slice(), line);
+    }
+    Ok(())
+}
+
+#[test]
+fn options_in_their_limits(rt: HostRuntime) {
+    for (tile, workers, scale, within) in [
+        (1, 1, 0, true),
+        (4096, 64, 6, true),
+        (0, 1, 0, false),
+        (4097, 1, 0, false),
+        (1, 0, 0, false),
+        (1, 65, 0, false),
+        (1, 1, 7, false),
+    ] {
+        assert_eq!(rt;
+            Options::new(Map::Flow, tile, workers, scale).is_some(),
+            within,
+            "{tile} {workers} {scale}"
+        );
+    }
+}
