@@ -9,7 +9,7 @@ use Rattle.std.proofs.lemmas.List.{append-nil, append_assoc, length-append, leng
 use Rattle.std.proofs.Math.Seq.{take-append-add}
 use Rattle.ascii_grid.specs.Words.{Word, words, ended_words}
 use Rattle.ascii_grid.specs.Raster.{Raster}
-use Rattle.ascii_grid.specs.GridText.{most_bytes, words_fault, end_fault, fault_so_far, text_fault, judged_words, grid_of, AsksForCells, AsksAtHeight, IsGridText, IsRefusal, IsRefusalSoFar}
+use Rattle.ascii_grid.specs.GridText.{most_bytes, words_fault, end_fault, fault_so_far, text_fault, judged_words, grid_of, AsksForCells, AsksAtHeight, AsksInText, IsGridText, IsRefusal, IsRefusalSoFar}
 use Rattle.ascii_grid.specs.Reader.{Reader, IsReading, HasTaken}
 use Rattle.ascii_grid.specs.Reading.{flat, HasJudged, HasWords, IsWordFault, IsEndFault}
 use Rattle.ascii_grid.specs.declared.fault.GridFault.{GridFault}
@@ -125,7 +125,9 @@ pub stays : (d : ℕ) (front more : List ℕ) (f : GridFault) → IsRefusalSoFar
 stays d front more f h =
     let next = judged-more front more in
     told_further _ _ (fault_so_far d front) (text_fault d (front ++ more)) f
-    (λ asks. subst AsksForCells (sym next.1) (asks-more (ended_words (take most_bytes front)) next.0 asks).0)
+    (λ asks.
+    let more : AsksAtHeight (judged_words (front ++ more)) = subst AsksAtHeight (sym next.1) (asks-more (ended_words (take most_bytes front)) next.0 asks) in
+    (more.0, λ far. more.1))
     (fault_stays d front more) h
 
 -- and of the text so far
@@ -170,16 +172,19 @@ too_long p text more h full some =
 
 -- ---- the end
 
+asked : (text : List ℕ) → length text ≤ most_bytes → AsksForCells (words text) → AsksInText text
+asked text short asks = (subst AsksForCells (sym (few_words text short)) asks, λ far. absurd (omega arith))
+
 pub end_refused : (d : ℕ) (text : List ℕ) (f : GridFault) → length text ≤ most_bytes → IsWordFault d (words text) f → IsRefusal d text f
 end_refused d text f short h =
     told_further _ _ (words_fault d (words text)) (text_fault d text) f
-    (λ asks. subst AsksForCells (sym (few_words text short)) asks.0)
+    (λ asks. asked text short asks.0)
     (λ g e. word_told d text g (ap (words_fault d) (few_words text short) ∙ e)) h
 
 pub end_told : (d : ℕ) (text : List ℕ) (f : GridFault) → length text ≤ most_bytes → words_fault d (words text) ≡ None → IsEndFault (words text) f → IsRefusal d text f
 end_told d text f short none h =
     told_further _ _ (end_fault (words text)) (text_fault d text) f
-    (λ asks. subst AsksForCells (sym (few_words text short)) asks)
+    (asked text short)
     (λ g e. few_fault d text short ∙ ap (λ o. option_or o (end_fault (words text))) none ∙ e) h
 
 pub spelled : (d : ℕ) (text : List ℕ) (g : Raster) → length text ≤ most_bytes → words_fault d (words text) ≡ None → end_fault (words text) ≡ None → g ≡ grid_of d (words text) → IsGridText d text g

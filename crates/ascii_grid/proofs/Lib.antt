@@ -1,6 +1,5 @@
 pub mod Places
 pub mod Reading
-pub mod Uniqueness
 pub mod Writing
 pub mod Scaled
 pub mod Judging
@@ -19,10 +18,6 @@ pub mod Cells
 pub mod Gathering
 pub mod Decimals
 pub mod RowText
-pub mod Heights
-pub mod FilledTwice
-pub mod Reach
-pub mod FilledExists
 pub mod TextLength
 pub mod ReadBack
 pub mod ReadBackWords

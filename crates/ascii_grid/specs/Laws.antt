@@ -2,8 +2,7 @@
 use Rattle.std.specs.Prelude.{◌≡◌, ℕ, ◌≤◌, ◌++◌, ℤ, List, length, Option, Some, Contains}
 use Rattle.ascii_grid.specs.Raster.{Raster, Terrain, IsLawful}
 use Rattle.ascii_grid.specs.Neighbours.{IsDataCell}
-use Rattle.ascii_grid.specs.Filled.{IsFilled, IsFilledHeight}
-use Rattle.ascii_grid.specs.GridText.{IsGridText, text_fault, fault_so_far, most_bytes, judged_words, AsksForCells, IsRefusalSoFar}
+use Rattle.ascii_grid.specs.GridText.{IsGridText, text_fault, fault_so_far, most_bytes, IsRefusal, IsRefusalSoFar}
 use Rattle.ascii_grid.specs.Text.{heights_text}
 use Rattle.ascii_grid.specs.declared.place.Place.{Place}
 use Rattle.ascii_grid.specs.declared.fault.GridFault.{GridFault}
@@ -30,20 +29,4 @@ FaultsStay = (d : ℕ) (text more : List ℕ) (f : GridFault) → fault_so_far d
 
 -- A want of memory that has shown stays one: the cells are asked for at that height, however the text goes on.
 abbrev pub WantsStay : Type 0
-WantsStay = (d : ℕ) (text more : List ℕ) → IsRefusalSoFar d text Memory → AsksForCells (judged_words (text ++ more))
-
--- Each data cell has a filled height, and no cell has two.
-abbrev pub EachHasFilledHeight : Type 0
-EachHasFilledHeight = (t : Terrain) (p : Place) → IsDataCell t p → (level : ℤ) × IsFilledHeight t p level
-
-abbrev pub FilledHeightsAreOne : Type 0
-FilledHeightsAreOne = (t : Terrain) (p : Place) (l m : ℤ) → IsFilledHeight t p l → IsFilledHeight t p m → l ≡ m
-
--- A filled height is a height of the terrain.
-abbrev pub FilledHeightsStand : Type 0
-FilledHeightsStand = (t : Terrain) (p : Place) (level : ℤ) → IsFilledHeight t p level → Contains t.cells (Some level)
-
--- The filled heights of filled heights are their own.
-abbrev pub FilledTwiceIsFilled : Type 0
-FilledTwiceIsFilled = (t : Terrain) (levels : List (Option ℤ)) → IsFilled t levels →
-    IsFilled (record t { cells = levels }) levels
+WantsStay = (d : ℕ) (text more : List ℕ) → IsRefusalSoFar d text Memory → IsRefusal d (text ++ more) Memory

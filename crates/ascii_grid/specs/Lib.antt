@@ -1,6 +1,5 @@
 pub mod Decimal
 pub mod Device
-pub mod Filled
 pub mod GridText
 pub mod Header
 pub mod Laws

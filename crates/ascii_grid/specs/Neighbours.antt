@@ -1,5 +1,5 @@
 -- Which cells are next to each other, and which drain off the data.
-use Rattle.std.specs.Prelude.{◌≡◌, ◌≢◌, ℕ, ◌+◌, ◌*◌, ◌<◌, ◌≤◌, ℤ, List, Option, None, IsSome, IsNone, ◌&&◌, nat_lt, if◌then◌else◌, slice_index_or, ◌⊎◌}
+use Rattle.std.specs.Prelude.{◌≡◌, ◌≢◌, ℕ, ◌+◌, ◌*◌, ◌<◌, ◌≤◌, ℤ, pos, List, Option, None, IsSome, IsNone, ◌&&◌, nat_lt, if◌then◌else◌, slice_index_or, unwrap_or, ◌⊎◌}
 use Rattle.ascii_grid.specs.Raster.{Terrain}
 use Rattle.ascii_grid.specs.declared.place.Place.{Place}
 
@@ -21,6 +21,10 @@ entry_at cols rows entries p =
 -- The height at a place, None outside the grid and where there is no data.
 abbrev pub height_at : Terrain → Place → Option ℤ
 height_at t p = entry_at t.cols t.rows t.cells p
+
+-- The height of a data cell.
+abbrev pub height_of : Terrain → Place → ℤ
+height_of t p = unwrap_or (height_at t p) (pos 0)
 
 -- The place is in the grid and has a height.
 abbrev pub IsDataCell : Terrain → Place → Type 0

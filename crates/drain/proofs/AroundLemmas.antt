@@ -9,8 +9,7 @@ use Rattle.std.specs.Option.{option_zip}
 use Rattle.std.proofs.lemmas.Bool.Decides.{Decides-int_eq}
 use Rattle.ascii_grid.proofs.Places.{inside_from_entry, entry-inside, index_below}
 use Rattle.ascii_grid.specs.Raster.{Terrain, IsTerrain, IsHeight}
-use Rattle.ascii_grid.specs.Neighbours.{height_at, entry_at, index_of, IsDataCell}
-use Rattle.ascii_grid.specs.Filled.{height_of}
+use Rattle.ascii_grid.specs.Neighbours.{height_at, entry_at, index_of, IsDataCell, height_of}
 use Rattle.ascii_grid.specs.Ways.{place_on, entry_on}
 use Rattle.ascii_grid.specs.declared.place.Place.{Place}
 use Rattle.drain.specs.Steps.{IsSteps, AreSteps}

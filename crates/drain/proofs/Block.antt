@@ -4,8 +4,7 @@ use Rattle.std.proofs.lemmas.Int.{ints}
 use Rattle.std.proofs.lemmas.Bool.{cases_eq, false≢true}
 use Rattle.ascii_grid.proofs.Places.{make_place, entry-inside, entry-below, entry-beside, inside_from_entry}
 use Rattle.ascii_grid.specs.Raster.{Terrain}
-use Rattle.ascii_grid.specs.Neighbours.{IsInside, height_at, entry_at, Touches, IsEdge, HasGapAround}
-use Rattle.ascii_grid.specs.Filled.{height_of}
+use Rattle.ascii_grid.specs.Neighbours.{IsInside, height_at, entry_at, Touches, IsEdge, HasGapAround, height_of}
 use Rattle.ascii_grid.specs.declared.place.Place.{Place}
 use Rattle.drain.specs.Steps.{DrainsAtOnce}
 use Rattle.std.specs.Bool.{MatchBool}

@@ -6,8 +6,8 @@ use Rattle.std.proofs.lemmas.Bool.{cases_eq, cases_lt}
 use Rattle.std.proofs.lemmas.Option.{MatchOption-at_some}
 use Rattle.ascii_grid.proofs.Places.{inside_from_entry}
 use Rattle.ascii_grid.specs.Raster.{Terrain}
-use Rattle.ascii_grid.specs.Neighbours.{height_at, IsDataCell}
-use Rattle.ascii_grid.specs.Filled.{height_of, IsPath, crest, IsFilled, IsFilledHeight}
+use Rattle.ascii_grid.specs.Neighbours.{height_at, IsDataCell, height_of}
+use Rattle.drainage.specs.Filled.{IsPath, crest, IsFilled, IsFilledHeight}
 use Rattle.ascii_grid.specs.declared.place.Place.{Place}
 use Rattle.drain.specs.Steps.{IsFlatWalk, IsSteps}
 use Rattle.drain.proofs.Nearby.{WalksIn, walks_in}

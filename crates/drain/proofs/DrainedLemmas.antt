@@ -8,9 +8,9 @@ use Rattle.ascii_grid.specs.Neighbours.{height_at, entry_at}
 use Rattle.ascii_grid.specs.declared.place.Place.{Place}
 use Rattle.drain.specs.Steps.{AreSteps}
 use Rattle.drain.specs.Directions.{IsDirection, AreDirections}
-use Rattle.drain.specs.Drained.{IsDraining}
+use Rattle.drainage.specs.Drained.{IsDraining}
 use Rattle.tiles.specs.Cutting.{Cutting, Cuts, tile_of_place}
-use Rattle.ascii_grid.specs.Filled.{IsFilled}
+use Rattle.drainage.specs.Filled.{IsFilled}
 use Rattle.drain.specs.Rounds.{AreSettled}
 use Rattle.drain.proofs.Quiet.{still_is_steps, in_own_tile, data_inside}
 use Rattle.drain.proofs.Tiles.{tile_below}

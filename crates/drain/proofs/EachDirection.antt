@@ -7,8 +7,8 @@ use Rattle.std.proofs.lemmas.List.FromFn.{length-range_with_len, get_or-map-rang
 use Rattle.std.specs.List.{range_with_len}
 use Rattle.ascii_grid.proofs.Places.{same_place, entry-inside, index_below}
 use Rattle.ascii_grid.specs.Raster.{Terrain}
-use Rattle.ascii_grid.specs.Neighbours.{height_at, index_of, IsDataCell, IsEdge}
-use Rattle.ascii_grid.specs.Filled.{height_of, IsFilled}
+use Rattle.ascii_grid.specs.Neighbours.{height_at, index_of, IsDataCell, IsEdge, height_of}
+use Rattle.drainage.specs.Filled.{IsFilled}
 use Rattle.ascii_grid.specs.declared.place.Place.{Place}
 use Rattle.drain.specs.Steps.{IsSteps, AreSteps}
 use Rattle.drain.specs.Steepness.{direction_of}

@@ -10,8 +10,7 @@ use Rattle.std.specs.Int.{int_gap}
 use Rattle.std.specs.List.{list_any, position}
 use Rattle.std.specs.Option.{option_zip, option_and_then}
 use Rattle.ascii_grid.specs.Raster.{Terrain, IsTerrain, IsHeight}
-use Rattle.ascii_grid.specs.Neighbours.{height_at, entry_at, IsDataCell, IsNeighbour}
-use Rattle.ascii_grid.specs.Filled.{height_of}
+use Rattle.ascii_grid.specs.Neighbours.{height_at, entry_at, IsDataCell, IsNeighbour, height_of}
 use Rattle.ascii_grid.specs.Ways.{place_on, code_of}
 use Rattle.ascii_grid.specs.declared.place.Place.{Place}
 use Rattle.drain.specs.Steps.{IsLower, HasLower, DrainsAtOnce, IsFlatWalk, IsSteps, AreSteps}

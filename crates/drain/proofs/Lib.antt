@@ -1,6 +1,5 @@
 mod Rows
 pub mod Local
-pub mod Pigeonhole
 pub mod Tiles
 pub mod Quiet
 pub mod Spreading
@@ -15,12 +14,10 @@ pub mod Pointing
 pub mod Laid
 pub mod AmidLemmas
 pub mod DrainedLemmas
-pub mod TileRows
 pub mod TileLists
 pub mod RoundLemmas
 pub mod Touching
 pub mod Entered
-pub mod Ends
 pub mod Few
 pub mod Unique
 pub mod EachDirection

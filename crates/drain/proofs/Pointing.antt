@@ -13,7 +13,7 @@ use Rattle.ascii_grid.specs.declared.place.Place.{Place}
 use Rattle.tiles.proofs.Members.{Touches-from_ways}
 use Rattle.drain.specs.Steps.{HasLower, DrainsAtOnce, AreSteps}
 use Rattle.drain.specs.Directions.{IsSteepest, IsOnward, PointsToFirst, IsDirection}
-use Rattle.drain.specs.Drained.{Falls}
+use Rattle.drainage.specs.Drained.{Falls}
 use Rattle.drain.proofs.Local.{one_number_of_steps}
 use Rattle.drain.proofs.Nearby.{has_lower, edge_cell}
 use Rattle.drain.proofs.AroundLemmas.{cases_option, steps_at}

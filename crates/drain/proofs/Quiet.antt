@@ -4,8 +4,8 @@ use Rattle.std.proofs.lemmas.Bool.{false≢true}
 use Rattle.std.proofs.lemmas.Option.{MatchOption-at_some}
 use Rattle.ascii_grid.proofs.Places.{inside_from_entry}
 use Rattle.ascii_grid.specs.Raster.{Terrain, IsTerrain}
-use Rattle.ascii_grid.specs.Neighbours.{height_at, entry_at, IsDataCell, IsNeighbour}
-use Rattle.ascii_grid.specs.Filled.{height_of, IsFilled}
+use Rattle.ascii_grid.specs.Neighbours.{height_at, entry_at, IsDataCell, IsNeighbour, height_of}
+use Rattle.drainage.specs.Filled.{IsFilled}
 use Rattle.ascii_grid.specs.declared.place.Place.{Place}
 use Rattle.tiles.specs.Cutting.{Cutting, Cuts, IsCutting, tile_of_place, IsInTile}
 use Rattle.drain.specs.Steps.{IsFlatWalk, IsSteps, AreSteps}

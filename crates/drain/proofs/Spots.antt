@@ -10,7 +10,7 @@ use Rattle.ascii_grid.specs.declared.place.Place.{Place}
 use Rattle.tiles.specs.declared.bounds.Bounds.{Bounds}
 use Rattle.tiles.specs.Cutting.{Cutting, View, AreBounds, bounds_of, is_within, is_shown, cell_shown, row_shown}
 use Rattle.drain.specs.Window.{IsInner, inner_index, known, count_on, AreKnownBelow, spot_index, area_of, IsSpot, Shows, IsShown, AreShownBelow, AreShown}
-use Rattle.drain.proofs.TileRows.{row_has}
+use Rattle.tiles.proofs.TileRows.{row_has}
 
 -- what stands in an option, if it is one
 abbrev pub joined : {X : Type 0} → Option (Option X) → Option X

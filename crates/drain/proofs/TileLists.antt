@@ -14,7 +14,7 @@ use Rattle.tiles.specs.Cutting.{Cutting, IsCutting, Cuts, AreBounds, IsInBounds,
 use Rattle.tiles.proofs.Cut.{in_bounds, tile_of_place_below}
 use Rattle.tiles.proofs.PutBack.{entry_at-put_back}
 use Rattle.drain.specs.TileLists.{IsPartOf, index_within, AreMadeBelow, IsMadeTile, AreMadeTiles}
-use Rattle.drain.proofs.TileRows.{tile_entry_is}
+use Rattle.tiles.proofs.TileRows.{tile_entry_is}
 
 -- two places that stand at one place of the bounds' row order are one
 within_injective : (b : Bounds) (p q : Place) → IsInBounds b p → IsInBounds b q → index_within b p ≡ index_within b q → p ≡ q

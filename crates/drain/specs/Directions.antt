@@ -3,8 +3,7 @@
 use Rattle.std.specs.Prelude.{◌≡◌, ℕ, ◌+◌, ◌*◌, ◌≤◌, ◌||◌, ◌==◌, if◌then◌else◌, List, length, Option, None, Some, MatchOption}
 use Rattle.std.specs.Int.{int_gap}
 use Rattle.ascii_grid.specs.Raster.{Terrain}
-use Rattle.ascii_grid.specs.Neighbours.{IsInside, height_at, entry_at, IsNeighbour, IsEdge}
-use Rattle.ascii_grid.specs.Filled.{height_of}
+use Rattle.ascii_grid.specs.Neighbours.{IsInside, height_at, entry_at, IsNeighbour, IsEdge, height_of}
 use Rattle.ascii_grid.specs.Ways.{place_toward}
 use Rattle.ascii_grid.specs.declared.place.Place.{Place}
 use Rattle.drain.specs.Steps.{IsLower, HasLower, DrainsAtOnce, IsSteps}

@@ -2,7 +2,7 @@
 use Rattle.std.specs.Prelude.{◌≡◌, ℕ, ◌*◌, ◌^◌, ◌<◌, List, length, Option}
 use Rattle.ascii_grid.specs.Raster.{Terrain, IsTerrain}
 use Rattle.ascii_grid.specs.Neighbours.{IsDataCell}
-use Rattle.ascii_grid.specs.Filled.{IsFilled}
+use Rattle.drainage.specs.Filled.{IsFilled}
 use Rattle.ascii_grid.specs.declared.place.Place.{Place}
 use Rattle.tiles.specs.Cutting.{Cutting, IsCutting, Cuts}
 use Rattle.drain.specs.Steps.{IsSteps, AreSteps}
@@ -11,7 +11,6 @@ use Rattle.drain.specs.Directions.{IsDirection, AreDirections}
 use Rattle.drain.specs.Steepness.{direction_of}
 use Rattle.drain.specs.Fitting.{IsAround}
 use Rattle.drain.specs.declared.around.Around.{Around}
-use Rattle.drain.specs.Drained.{Drained, IsDraining, directed_of, AllFlowEnds}
 
 -- Where a terrain's filled heights are its own, each data cell has exactly one number of steps.
 abbrev pub EachHasSteps : Type 0
@@ -42,7 +41,3 @@ DirectionIsOfCell = (t : Terrain) (steps : List (Option ℕ)) (p : Place) (a : A
 -- There is one map of directions.
 abbrev pub DirectionsAreOne : Type 0
 DirectionsAreOne = (t : Terrain) (codes others : List (Option ℕ)) → AreDirections t codes → AreDirections t others → codes ≡ others
-
--- Where the pair of filled height and steps falls along each code, every flow path ends.
-abbrev pub FallingEnds : Type 0
-FallingEnds = (d : Drained) → IsTerrain d.terrain → IsDraining d → AllFlowEnds (directed_of d)

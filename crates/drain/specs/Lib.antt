@@ -1,9 +1,6 @@
-pub mod CodeNumber
 pub mod Steepness
 pub mod Steps
 pub mod Directions
-pub mod Following
-pub mod Drained
 pub mod Rounds
 pub mod Entering
 pub mod Window

@@ -9,9 +9,6 @@ use Rattle.tiles.specs.declared.bounds.Bounds.{Bounds}
 abbrev pub no_count : ℕ
 no_count = 2 ^ 24
 
-abbrev pub width_of : Bounds → ℕ
-width_of b = b.cols + 2
-
 abbrev pub area_of : Bounds → ℕ
 area_of b = (b.cols + 2) * (b.rows + 2)
 

@@ -11,9 +11,9 @@ ghost use Rattle.drain.specs.Steepness.{leads_on};
 ghost use Rattle.drain.specs.Steps.{AreSteps};
 ghost use Rattle.drain.specs.declared.around.Around.{Around};
 
-use crate::code::Code;
 use crate::steepness::steepest;
 use ascii_grid::{Grid, Height, Place};
+use drainage::Code;
 
 /// Where the eight cells around one stand, in the order of the codes.
 #[inline(always)]

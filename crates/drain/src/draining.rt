@@ -5,13 +5,13 @@ ghost use Rattle.tile_jobs.specs.Fault.{RefusesWorkers};
 ghost use Rattle.drain.specs.Rounds.{AreWalked, HasZeros, IsRound};
 ghost use Rattle.drain.specs.Steps.{AreSteps};
 ghost use Rattle.drain.specs.Directions.{AreDirections};
-ghost use Rattle.drain.specs.Drained.{AllFlowEnds, directed_of};
+ghost use Rattle.drainage.specs.Drained.{AllFlowEnds, directed_of};
 
-use crate::direction_map::Directions;
 use crate::rounds::settle;
 use crate::stages::{begin, codes};
 use crate::{looking, window};
-use ascii_grid::{Filled, Height, NoMemory};
+use ascii_grid::{Height, NoMemory};
+use drainage::{Directions, Filled};
 use std::alloc::{AllocError, Global};
 use std::sync::Wait;
 use std::thread::Threads;

@@ -1,15 +1,9 @@
 // Facts of the definitions alone.
-ghost use Rattle.drain.specs.Laws.{DirectionIsOfCell, DirectionsAreOne, EachHasDirection, EachHasSteps, FallingEnds, QuietIsCounted, StepsAreFew, StepsAreOne};
+ghost use Rattle.drain.specs.Laws.{DirectionIsOfCell, DirectionsAreOne, EachHasDirection, EachHasSteps, QuietIsCounted, StepsAreFew, StepsAreOne};
 
 /// A cell has at most one number of steps.
 pub fn steps_are_one()
     ensures { StepsAreOne }
-{}
-
-/// Where the pair of filled height and steps falls along each code, every flow path ends at an
-/// outlet, and has no more cells than the grid.
-pub fn falling_ends()
-    ensures { FallingEnds }
 {}
 
 /// Where a terrain's filled heights are its own, each data cell has a number of steps.

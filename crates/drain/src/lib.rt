@@ -4,8 +4,6 @@
 mod amid;
 pub mod around;
 mod beginning;
-pub mod code;
-pub mod direction_map;
 pub mod draining;
 mod entering;
 pub mod laws;
@@ -17,7 +15,6 @@ mod surroundings;
 mod window;
 
 pub use around::Around;
-pub use code::Code;
-pub use direction_map::Directions;
+pub use drainage::{Code, Directions};
 pub use draining::{directions, flat_steps};
 pub use steepness::direction;

@@ -9,9 +9,9 @@ ghost use Rattle.drain.specs.Steps.{AreSteps};
 ghost use Rattle.drain.specs.TileLists.{AreMadeTiles};
 
 use crate::beginning::begin_tile;
-use crate::code::Code;
 use crate::surroundings::codes_of_tile;
 use ascii_grid::Grid;
+use drainage::Code;
 use std::alloc::Global;
 use std::marker::Model;
 use std::sync::Wait;

@@ -8,8 +8,8 @@ ghost use Rattle.drain.specs.Fitting.{IsFitting};
 ghost use Rattle.drain.specs.declared.around.Around.{Around};
 
 use crate::around::Around;
-use crate::code::Code;
 use ascii_grid::Height;
+use drainage::Code;
 
 /// The steepest way down: its weight, 0 where no way leads down, and which way it is.
 #[derive(Clone, Copy)]

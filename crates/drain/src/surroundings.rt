@@ -13,9 +13,9 @@ ghost use Rattle.drain.specs.TileLists.{IsPartOf, AreMadeBelow};
 use crate::amid::code_amid;
 use crate::around::Around;
 use crate::beginning::is_outermost;
-use crate::code::Code;
 use crate::steepness::direction;
 use ascii_grid::{Grid, Height, Place};
+use drainage::Code;
 use std::alloc::{AllocError, Global};
 use tiles::Bounds;
 

@@ -2,7 +2,7 @@
 use Rattle.std.proofs.Common.{◌≡◌, ℕ, ◌+◌, ◌-◌, ◌*◌, ◌<◌, inl, inr, ℤ, ◌≤ℤ◌, List, [], ◌∷◌, get_or, Option, None, Some, is_some, ◌∙◌, sym, ap, subst, refl, arith}
 use Rattle.ascii_grid.specs.Raster.{Terrain}
 use Rattle.ascii_grid.specs.Neighbours.{height_at}
-use Rattle.ascii_grid.specs.Filled.{crest}
+use Rattle.drainage.specs.Filled.{crest}
 use Rattle.ascii_grid.specs.declared.place.Place.{Place}
 use Rattle.ascii_grid.proofs.Places.{same_place, entry-inside}
 use Rattle.tiles.specs.declared.bounds.Bounds.{Bounds}

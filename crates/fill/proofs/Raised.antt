@@ -7,7 +7,7 @@ use Rattle.std.proofs.lemmas.Int.{ints, clamps}
 use Rattle.std.proofs.lemmas.List.{get_or-map}
 use Rattle.ascii_grid.specs.Raster.{Terrain}
 use Rattle.ascii_grid.specs.Neighbours.{height_at, index_of}
-use Rattle.ascii_grid.specs.Filled.{crest, IsFilledHeight, IsFilled}
+use Rattle.drainage.specs.Filled.{crest, IsFilledHeight, IsFilled}
 use Rattle.ascii_grid.specs.declared.place.Place.{Place}
 use Rattle.ascii_grid.proofs.Places.{entry-inside, inside_from_entry, make_place}
 use Rattle.tiles.specs.declared.bounds.Bounds.{Bounds}

@@ -5,8 +5,8 @@ use Rattle.std.specs.Int.{int_max}
 use Rattle.std.proofs.lemmas.Bool.{cases_eq}
 use Rattle.std.proofs.lemmas.Option.{same_Some, slice_get_cases}
 use Rattle.ascii_grid.specs.Raster.{Terrain}
-use Rattle.ascii_grid.specs.Neighbours.{height_at, index_of, IsDataCell, IsNeighbour, IsEdge}
-use Rattle.ascii_grid.specs.Filled.{IsPath, crest, height_of, IsFilledHeight}
+use Rattle.ascii_grid.specs.Neighbours.{height_at, index_of, IsDataCell, IsNeighbour, IsEdge, height_of}
+use Rattle.drainage.specs.Filled.{IsPath, crest, IsFilledHeight}
 use Rattle.ascii_grid.specs.declared.place.Place.{Place}
 use Rattle.ascii_grid.proofs.Places.{index_injective, index_below}
 use Rattle.tiles.specs.Cutting.{Cutting, IsCutting, IsWithin, IsInTile, tile_of_place, bounds_of, is_on_rim, Cuts}

@@ -7,8 +7,8 @@ use Rattle.std.proofs.lemmas.Option.{get_or_from_slice_get, slice_get_within, sl
 use Rattle.std.proofs.lemmas.List.Elements.{All-from_get_or, Contains-get_or}
 use Rattle.std.proofs.lemmas.Nat.{div-add-mod', mod_below, div_below}
 use Rattle.ascii_grid.specs.Raster.{Raster, Terrain}
-use Rattle.ascii_grid.specs.Neighbours.{height_at, entry_at, index_of, IsInside, IsDataCell, IsEdge}
-use Rattle.ascii_grid.specs.Filled.{IsPath, crest, height_of, IsFilledHeight, IsFilled, IsFilledGrid, IsOwnFilled}
+use Rattle.ascii_grid.specs.Neighbours.{height_at, entry_at, index_of, IsInside, IsDataCell, IsEdge, height_of}
+use Rattle.drainage.specs.Filled.{IsPath, crest, IsFilledHeight, IsFilled, IsFilledGrid, IsOwnFilled}
 use Rattle.ascii_grid.specs.declared.place.Place.{Place}
 use Rattle.ascii_grid.proofs.Places.{entry-inside, inside_from_entry}
 use Rattle.tiles.specs.Cutting.{Cutting, IsCutting, Cuts, View, terrain_of, tile_count, tile_of_place, IsPutBack, AreTileLists, tile_entry}

@@ -3,8 +3,8 @@ use Rattle.std.proofs.Common.{◌≡◌, ℤ, ◌≤ℤ◌, List, [], ◌∷◌,
 use Rattle.std.specs.Int.{int_max}
 use Rattle.std.proofs.lemmas.Int.{ints, clamps}
 use Rattle.ascii_grid.specs.Raster.{Terrain}
-use Rattle.ascii_grid.specs.Neighbours.{IsDataCell, IsNeighbour, IsEdge}
-use Rattle.ascii_grid.specs.Filled.{IsPath, crest, height_of}
+use Rattle.ascii_grid.specs.Neighbours.{IsDataCell, IsNeighbour, IsEdge, height_of}
+use Rattle.drainage.specs.Filled.{IsPath, crest}
 use Rattle.ascii_grid.specs.declared.place.Place.{Place}
 
 abbrev pub IsWay : Terrain → ℤ → Place → List Place → Place → Type 0

@@ -7,7 +7,7 @@ use Rattle.std.proofs.lemmas.Slice.{between_is}
 use Rattle.std.specs.Prelude.{slice_range}
 use Rattle.ascii_grid.specs.Raster.{Terrain}
 use Rattle.ascii_grid.specs.Neighbours.{height_at, entry_at, IsDataCell, IsEdge, HasGapAround}
-use Rattle.ascii_grid.specs.Filled.{IsPath, IsFilledHeight, IsFilled}
+use Rattle.drainage.specs.Filled.{IsPath, IsFilledHeight, IsFilled}
 use Rattle.ascii_grid.specs.declared.place.Place.{Place}
 use Rattle.ascii_grid.proofs.Places.{entry-inside, entry-below, entry-beside, inside_from_entry, make_place}
 use Rattle.fill.specs.Walk.{IsFlooded}

@@ -3,8 +3,8 @@ use Rattle.std.proofs.Common.{◌≡◌, ◌≢◌, ℕ, zero, suc, ◌+◌, ◌
 use Rattle.std.specs.Int.{int_max}
 use Rattle.std.proofs.lemmas.Int.{ints, clamps}
 use Rattle.ascii_grid.specs.Raster.{Terrain}
-use Rattle.ascii_grid.specs.Neighbours.{height_at, IsDataCell, Touches, IsNeighbour}
-use Rattle.ascii_grid.specs.Filled.{crest, height_of}
+use Rattle.ascii_grid.specs.Neighbours.{height_at, IsDataCell, Touches, IsNeighbour, height_of}
+use Rattle.drainage.specs.Filled.{crest}
 use Rattle.ascii_grid.specs.declared.place.Place.{Place}
 use Rattle.fill.specs.declared.net.Spill.{Spill}
 use Rattle.fill.specs.Walk.{IsWalk, crest as walk_crest, end_of, IsFlooded}

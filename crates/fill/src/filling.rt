@@ -1,6 +1,6 @@
 // The filled heights of a grid, by tiles and workers.
 ghost use Rattle.std.specs.Prelude.{◌≡◌, ◌*◌, ◌<◌, ◌≤◌, length, ℕ, List, Some, slice_get, IfOk, IsTrue, ◌↔◌};
-ghost use Rattle.ascii_grid.specs.Filled.{IsFilledGrid};
+ghost use Rattle.drainage.specs.Filled.{IsFilledGrid};
 ghost use Rattle.tiles.specs.Cutting.{Cuts, IsCutting};
 ghost use Rattle.ascii_grid.specs.Raster.{Terrain};
 ghost use Rattle.fill.specs.Spills.{AreFloods, RaisesToFilled, HasNoInnerCell, AreFilledTiles};
@@ -14,7 +14,8 @@ use crate::raising::raise;
 use crate::spills::SpillGraph;
 use crate::tile::{TileFlood, tile_flood};
 use crate::whole::filled_heights;
-use ascii_grid::{Filled, Grid, Height, NoMemory};
+use ascii_grid::{Grid, Height, NoMemory};
+use drainage::Filled;
 use std::alloc::Global;
 use std::sync::Wait;
 use std::thread::Threads;

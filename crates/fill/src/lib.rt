@@ -15,8 +15,8 @@ mod spills;
 mod tile;
 mod whole;
 
-pub use ascii_grid::Filled;
 pub use cell_net::CellNet;
+pub use drainage::Filled;
 pub use filling::filled;
 pub use flooding::{Flooded, flood};
 pub use net::{Net, Spill};

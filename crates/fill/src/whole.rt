@@ -1,6 +1,6 @@
 // The filled heights of a grid by one flood.
 ghost use Rattle.std.specs.Prelude.{IfOk};
-ghost use Rattle.ascii_grid.specs.Filled.{IsFilled};
+ghost use Rattle.drainage.specs.Filled.{IsFilled};
 
 use crate::cell_net::{CellNet, without_border};
 use crate::flooding::flood;

@@ -3,7 +3,7 @@ use Rattle.std.proofs.Common.{◌≡◌, ℕ, inl, inr, subst, sym, refl, arith,
 use Rattle.std.proofs.lemmas.Bool.{cases_eq}
 use Rattle.std.proofs.lemmas.Bool.Decides.{nat_tests}
 use Rattle.std.specs.Int.Bits.{bit_and}
-use Rattle.drain.specs.CodeNumber.{IsCode}
+use Rattle.drainage.specs.CodeNumber.{IsCode}
 use Rattle.flow.specs.CodeSteps.{leads_east, leads_south, leads_west, leads_north}
 
 cases_code : (P : ℕ → Type 0) → P 0 → P 1 → P 2 → P 4 → P 8 → P 16 → P 32 → P 64 → P 128 → (n : ℕ) → IsCode n → P n

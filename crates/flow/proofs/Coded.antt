@@ -6,8 +6,8 @@ use Rattle.std.proofs.lemmas.Option.{none-some}
 use Rattle.ascii_grid.specs.Ways.{place_toward}
 use Rattle.ascii_grid.specs.declared.place.Place.{Place}
 use Rattle.ascii_grid.proofs.Places.{inside_from_entry}
-use Rattle.drain.specs.Following.{Directed, code_at, next, follow, moves, last_of, IsOutlet}
-use Rattle.drain.specs.Drained.{AllFlowEnds}
+use Rattle.drainage.specs.Following.{Directed, code_at, next, follow, moves, last_of, IsOutlet}
+use Rattle.drainage.specs.Drained.{AllFlowEnds}
 
 pub record IsCoded (d : Directed) (p : Place) : Type 0 where
   pub code : ℕ

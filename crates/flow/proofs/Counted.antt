@@ -11,18 +11,18 @@ use Rattle.tiles.specs.declared.bounds.Bounds.{Bounds}
 use Rattle.tiles.specs.Cutting.{Cutting, IsInBounds, AreBounds, tile_count, cell_count, bounds_of}
 use Rattle.tiles.proofs.Cut.{in_bounds, bounds_inside}
 use Rattle.tiles.proofs.TileOrder.{index_in_below, index_in-place_in, place_in-index_in, tile_entry-in}
-use Rattle.drain.specs.Following.{code_at}
+use Rattle.drainage.specs.Following.{code_at}
 use Rattle.flow.specs.Counts.{accumulation}
 use Rattle.flow.specs.Streams.{AreStreams, AreUpstream, total}
 use Rattle.flow.specs.TileFlow.{Flow, IsTileExits}
-use Rattle.flow.specs.TileLinks.{AreTileCodes, place_in, index_in, weight_in, links_by, weights_by, where_data}
+use Rattle.flow.specs.TileLinks.{AreTileCodes, place_in, index_in, links_by, weights_by, where_data}
 use Rattle.flow.specs.TileMaps.{IsTileMapOf}
 use Rattle.flow.specs.Whole.{make_directed}
 use Rattle.flow.specs.Inflows.{Inflows, inflow_in}
 use Rattle.flow.specs.Counting.{IsCounting, IsCountable, AreCountable, AreRimWeights, counts_by}
 use Rattle.flow.proofs.Sums.{sum_below-few}
 use Rattle.flow.proofs.Coded.{IsCoded, cases_coded}
-use Rattle.flow.proofs.InTile.{IsPiece, tile_streams, in_place}
+use Rattle.flow.proofs.InTile.{weight_in, IsPiece, tile_streams, in_place}
 use Rattle.flow.proofs.Piece.{codes_from, AreLists, piece, few, weights_from, match_none, match_some}
 use Rattle.flow.proofs.Reaching.{IsEnding}
 use Rattle.flow.proofs.Gathering.{cell, entered, entered_le, inflow_sum}

@@ -1,9 +1,9 @@
 -- The codes of a map of directions, and the size of its tiling.
 use Rattle.std.proofs.Common.{◌≡◌, ℕ, ◌*◌, List, length, Option, subst, sym, ap, ◌∙◌}
 use Rattle.tiles.specs.Cutting.{Cutting, Cuts}
-use Rattle.drain.specs.Following.{Directed}
-use Rattle.drain.specs.Drained.{Drained, IsDraining, AllFlowEnds, directed_of}
-use Rattle.drain.proofs.Ends.{falling_ends}
+use Rattle.drainage.specs.Following.{Directed}
+use Rattle.drainage.specs.Drained.{Drained, IsDraining, AllFlowEnds, directed_of}
+use Rattle.drainage.proofs.Ends.{falling_ends}
 use Rattle.flow.specs.Whole.{make_directed, IsGridFlow}
 
 pub directed_same : (d : Drained) (t : Cutting) (codes : List (Option ℕ)) → Cuts t d.terrain → codes ≡ d.codes → make_directed t.cols t.rows codes ≡ directed_of d

@@ -1,7 +1,7 @@
 -- A path that ends does so within as many moves as there are nodes.
 use Rattle.std.proofs.Common.{◌≡◌, ◌≢◌, ℕ, zero, suc, ◌+◌, ◌-◌, ◌<◌, ◌≤◌, ◌⊎◌, inl, inr, List, length, sym, ap, subst, refl, ◌∙◌, arith}
 use Rattle.std.proofs.lemmas.Bool.{cases_eq, cases_lt, eq-eqb, ne_eqb, cond-true, cond-false}
-use Rattle.drain.proofs.Pigeonhole.{pigeonhole}
+use Rattle.drainage.proofs.Pigeonhole.{pigeonhole}
 use Rattle.flow.specs.Streams.{AreStreams, onward, node_after, share}
 use Rattle.flow.proofs.Ending.{node_after-first}
 

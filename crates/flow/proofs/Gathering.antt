@@ -7,7 +7,7 @@ use Rattle.std.specs.List.{sum_by, list_any, range_with_len}
 use Rattle.ascii_grid.specs.declared.place.Place.{Place}
 use Rattle.tiles.specs.Cutting.{Cutting, tile_of_place}
 use Rattle.tiles.proofs.TileOrder.{index_in-place_in}
-use Rattle.drain.specs.Following.{Directed, code_at, follow, moves}
+use Rattle.drainage.specs.Following.{Directed, code_at, follow, moves}
 use Rattle.flow.specs.Counts.{is_place, drains_through, accumulation}
 use Rattle.flow.specs.Streams.{sum_below}
 use Rattle.flow.specs.TileFlow.{stays, reaches_inside, through_of, inflow_of}

@@ -1,17 +1,34 @@
 -- Paths along the links of a tile are the parts of flow paths that stay in it.
 use Rattle.std.proofs.Common.{◌≡◌, ◌↔◌, ℕ, zero, suc, ◌<◌, ◌≤◌, ◌⊎◌, inl, inr, true, List, length, sym, ap, subst, refl, ◌∙◌, arith}
+use Rattle.std.specs.Prelude.{◌*◌, if◌then◌else◌, is_some, slice_index}
 use Rattle.std.proofs.lemmas.Bool.{cases_eq, cases_Bool, and_from, and_parts, lt-ltb, le-leb, ltb-true, leb-true, cond-true, cond-false, false_from_ne_true}
 use Rattle.ascii_grid.specs.declared.place.Place.{Place}
 use Rattle.tiles.specs.declared.bounds.Bounds.{Bounds}
 use Rattle.tiles.specs.Cutting.{Cutting, IsCutting, IsWithin, IsInTile, IsInBounds, AreBounds}
 use Rattle.tiles.proofs.TileOrder.{place_in_bounds, index_in_below, index_in-place_in, place_in-index_in}
-use Rattle.drain.specs.Following.{Directed, next, follow, moves, last_of}
-use Rattle.drain.specs.Drained.{AllFlowEnds}
+use Rattle.drainage.specs.Following.{Directed, code_at, next, follow, moves, last_of}
+use Rattle.drainage.specs.Drained.{AllFlowEnds}
 use Rattle.flow.specs.Streams.{AreStreams, onward, node_after}
 use Rattle.flow.specs.TileFlow.{is_in_bounds}
-use Rattle.flow.specs.TileLinks.{place_in, index_in, link_in, AreTileLinks}
+use Rattle.flow.specs.TileLinks.{place_in, index_in}
 use Rattle.flow.proofs.EarlyEnds.{IsStop, streams_from}
 use Rattle.flow.proofs.Coded.{IsCoded, cases_coded, none_stays, outlet_stays, coded_inside}
+
+-- The cell to which the water of a cell goes on, or the cell itself where it stays or leaves the tile.
+abbrev pub link_in : Directed → Bounds → ℕ → ℕ
+link_in d b i = if is_in_bounds b (next d (place_in b i)) then index_in b (next d (place_in b i)) else i
+
+-- 1 for a data cell, and 0 for one without data.
+abbrev pub weight_in : Directed → Bounds → ℕ → ℕ
+weight_in d b i = if is_some (code_at d (place_in b i)) then 1 else 0
+
+pub record AreTileLinks (d : Directed) (b : Bounds) (links : List ℕ) : Type 0 where
+  pub size : length links ≡ b.rows * b.cols
+  pub each : (i : ℕ) → i < b.rows * b.cols → slice_index links i ≡ link_in d b i
+
+pub record AreTileWeights (d : Directed) (b : Bounds) (weights : List ℕ) : Type 0 where
+  pub size : length weights ≡ b.rows * b.cols
+  pub each : (i : ℕ) → i < b.rows * b.cols → slice_index weights i ≡ weight_in d b i
 
 pub bounds_from_test : (b : Bounds) (p : Place) → is_in_bounds b p ≡ true → IsInBounds b p
 bounds_from_test b p h =

@@ -3,8 +3,8 @@ use Rattle.std.proofs.Common.{◌≡◌, true, inl, inr, List, Option, None, sym
 use Rattle.std.proofs.lemmas.Bool.{cases_Bool, and_from, and_parts, lt-ltb, ltb-true, cond-true, cond-false}
 use Rattle.ascii_grid.specs.declared.place.Place.{Place}
 use Rattle.tiles.specs.Cutting.{Cutting, IsCutting, IsWithin, is_within}
-use Rattle.drain.specs.Following.{Directed}
-use Rattle.drain.specs.Drained.{AllFlowEnds}
+use Rattle.drainage.specs.Following.{Directed}
+use Rattle.drainage.specs.Drained.{AllFlowEnds}
 use Rattle.flow.specs.TileFlow.{Flow, AreTileFlows, AreTileCounts}
 use Rattle.flow.specs.RimGraph.{AreFlowsOf, Outlets, AreOutlets, outlet_by}
 use Rattle.flow.specs.Inflows.{Inflows, AreInflows, inflow_by}

@@ -11,7 +11,7 @@ use Rattle.tiles.specs.declared.bounds.Bounds.{Bounds}
 use Rattle.tiles.specs.Cutting.{Cutting, IsWithin, IsInTile, bounds_of, tile_count, cell_count, tile_entry}
 use Rattle.tiles.proofs.Cut.{in_bounds}
 use Rattle.tiles.proofs.TileOrder.{place_in_tile, index_in-place_in, index_in_below, tile_entry-in}
-use Rattle.drain.specs.Following.{Directed, code_at, last_of}
+use Rattle.drainage.specs.Following.{Directed, code_at, last_of}
 use Rattle.flow.specs.Counts.{basin}
 use Rattle.flow.specs.TileFlow.{Flow, entry_in, exit_in, IsTileExits, IsExitOf, IsExitCell}
 use Rattle.flow.specs.TileLinks.{place_in, index_in}

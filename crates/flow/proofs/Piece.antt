@@ -10,16 +10,16 @@ use Rattle.tiles.specs.declared.bounds.Bounds.{Bounds}
 use Rattle.tiles.specs.Cutting.{Cutting, IsCutting, View, IsView, AreBounds, IsInBounds, bounds_of, tile_count}
 use Rattle.tiles.proofs.Cut.{places_from_value, in_bounds, bounds_inside}
 use Rattle.tiles.proofs.TileOrder.{place_in_tile, index_in-place_in, index_in_below, place_in-index_in}
-use Rattle.drain.specs.Following.{Directed, code_at}
-use Rattle.drain.specs.Drained.{AllFlowEnds}
+use Rattle.drainage.specs.Following.{Directed, code_at}
+use Rattle.drainage.specs.Drained.{AllFlowEnds}
 use Rattle.flow.specs.Streams.{AreStreams, AreUpstream, AreEnds, share, total}
 use Rattle.flow.specs.TileFlow.{Flow, directed_by, entry_in, through_in, through_of, IsExitOf, IsFlow, IsTileExits, IsTileCounts}
-use Rattle.flow.specs.TileLinks.{place_in, index_in, link_by, AreTileCodes, AreTileLinks, AreTileWeights, IsSmall, links_by, weights_by, where_data, through_by, exits_by, flow_by, AreFlowLists}
+use Rattle.flow.specs.TileLinks.{place_in, index_in, link_by, AreTileCodes, IsSmall, links_by, weights_by, where_data, through_by, exits_by, flow_by, AreFlowLists}
 use Rattle.flow.proofs.Sums.{sum_below-few}
 use Rattle.flow.proofs.Ending.{end-inside}
 use Rattle.flow.proofs.EarlyEnds.{share-some, share-cases}
 use Rattle.flow.proofs.Coded.{IsCoded, cases_coded, coded_some}
-use Rattle.flow.proofs.InTile.{IsPiece, test_from_bounds, tile_streams}
+use Rattle.flow.proofs.InTile.{AreTileLinks, AreTileWeights, IsPiece, test_from_bounds, tile_streams}
 use Rattle.flow.proofs.Through.{total_is, exit_is}
 
 pub small_from : {X : Type 0} (v : View X) (b : Bounds) → AreBounds v.cutting b → IsView v → IsSmall b

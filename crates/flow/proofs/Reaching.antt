@@ -12,15 +12,15 @@ use Rattle.tiles.specs.Cutting.{IsCutting, AreBounds, IsInBounds, tile_count, ac
 use Rattle.tiles.proofs.Cut.{places_from_value}
 use Rattle.tiles.proofs.Quotients.{pieces_some}
 use Rattle.tiles.proofs.TileOrder.{place_in-index_in, index_in_below}
-use Rattle.drain.specs.Following.{Directed, next, follow, moves, last_of}
-use Rattle.drain.specs.Drained.{AllFlowEnds}
+use Rattle.drainage.specs.Following.{Directed, next, follow, moves, last_of}
+use Rattle.drainage.specs.Drained.{AllFlowEnds}
 use Rattle.flow.specs.Streams.{AreStreams, node_after, sum_below}
-use Rattle.flow.specs.TileLinks.{place_in, index_in, link_in}
+use Rattle.flow.specs.TileLinks.{place_in, index_in}
 use Rattle.flow.proofs.Sums.{sum_below-same}
 use Rattle.flow.proofs.Windows.{sum_by_places, sum_in_rows, row_sum}
 use Rattle.flow.proofs.EarlyEnds.{within, early_end, stays_from}
 use Rattle.flow.proofs.Coded.{IsCoded, coded_along, coded_inside, outlet_stays}
-use Rattle.flow.proofs.InTile.{IsPiece, in_step, tile_streams}
+use Rattle.flow.proofs.InTile.{link_in, IsPiece, in_step, tile_streams}
 use Rattle.flow.proofs.OneTile.{whole_bounds, one_tile, one_piece, whole_is}
 use Rattle.flow.proofs.RimFlows.{cycle_stops, follow_more}
 

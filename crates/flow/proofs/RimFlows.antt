@@ -11,7 +11,7 @@ use Rattle.ascii_grid.specs.declared.place.Place.{Place}
 use Rattle.tiles.specs.Cutting.{Cutting, IsWithin, IsInBounds, is_within, bounds_of, tile_of_place}
 use Rattle.tiles.proofs.Cut.{in_bounds, in_tile, tile_of_place_below}
 use Rattle.tiles.proofs.Members.{Touches-from_ways}
-use Rattle.drain.specs.Following.{Directed, code_at, next, follow, moves, last_of, IsOutlet}
+use Rattle.drainage.specs.Following.{Directed, code_at, next, follow, moves, last_of, IsOutlet}
 use Rattle.flow.specs.Counts.{is_place}
 use Rattle.flow.specs.Streams.{AreStreams, AreEnds, onward, node_after, end_of}
 use Rattle.flow.specs.TileFlow.{Flow, is_in_bounds, entry_in, exit_in, IsTileExits, IsExitOf, IsExitCell}

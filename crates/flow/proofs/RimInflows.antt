@@ -6,7 +6,7 @@ use Rattle.std.proofs.lemmas.Bool.{cases_eq, cases_order, cases_Bool, and_from, 
 use Rattle.ascii_grid.specs.declared.place.Place.{Place}
 use Rattle.tiles.specs.Cutting.{Cutting, IsWithin, bounds_of, tile_of_place}
 use Rattle.tiles.proofs.Cut.{in_bounds, in_tile, tile_of_place_below}
-use Rattle.drain.specs.Following.{Directed, code_at, next, follow, moves}
+use Rattle.drainage.specs.Following.{Directed, code_at, next, follow, moves}
 use Rattle.flow.specs.Counts.{is_place, drains_through}
 use Rattle.flow.specs.Streams.{AreUpstream, sum_below}
 use Rattle.flow.specs.TileFlow.{Flow, AreTileCounts, inflow_of}

@@ -8,8 +8,8 @@ use Rattle.ascii_grid.specs.declared.place.Place.{Place}
 use Rattle.ascii_grid.proofs.Places.{make_place, same_place, entry-inside}
 use Rattle.tiles.specs.declared.bounds.Bounds.{Bounds}
 use Rattle.tiles.specs.Cutting.{View, AreBounds, bounds_of, row_shown}
-use Rattle.drain.specs.Following.{code_at}
-use Rattle.drain.proofs.TileRows.{row_has}
+use Rattle.drainage.specs.Following.{code_at}
+use Rattle.tiles.proofs.TileRows.{row_has}
 use Rattle.flow.specs.TileFlow.{directed_by}
 use Rattle.flow.specs.TileLinks.{place_in}
 

@@ -7,17 +7,17 @@ use Rattle.ascii_grid.proofs.Places.{make_place, same_place}
 use Rattle.tiles.specs.declared.bounds.Bounds.{Bounds}
 use Rattle.tiles.specs.Cutting.{Cutting, IsInBounds, tile_of_place}
 use Rattle.tiles.proofs.TileOrder.{index_in-place_in}
-use Rattle.drain.specs.Following.{Directed, code_at, next, follow, moves}
+use Rattle.drainage.specs.Following.{Directed, code_at, next, follow, moves}
 use Rattle.flow.specs.Counts.{is_place}
 use Rattle.flow.specs.Streams.{onward, node_after, end_of, sum_below, share, total}
 use Rattle.flow.specs.TileFlow.{stays, reaches_inside, through_of, IsExitOf}
-use Rattle.flow.specs.TileLinks.{place_in, index_in, weight_in, AreTileWeights}
+use Rattle.flow.specs.TileLinks.{place_in, index_in}
 use Rattle.flow.proofs.Sums.{sum_below-except}
 use Rattle.flow.proofs.Ranges.{some_in_range, any_in_range, every_in_range, all_in_range}
 use Rattle.flow.proofs.EarlyEnds.{within, early_end, stays_from, share-some, share-cases}
 use Rattle.flow.proofs.Coded.{IsCoded, coded_along, coded_some, coded_from_some, outlet_from_stays}
 use Rattle.flow.proofs.Windows.{sum_in_bounds}
-use Rattle.flow.proofs.InTile.{IsPiece, cases_bounds, tracks, in_step, in_place, link_place, node_inside, tile_streams, coded_within}
+use Rattle.flow.proofs.InTile.{weight_in, AreTileWeights, IsPiece, cases_bounds, tracks, in_step, in_place, link_place, node_inside, tile_streams, coded_within}
 
 pub place_test : (p q : Place) → p ≡ q → is_place p q ≡ true
 place_test p q e = and_from _ _ (eq-eqb _ _ (ap (λ (r : Place). r.row) e)) (eq-eqb _ _ (ap (λ (r : Place). r.col) e))

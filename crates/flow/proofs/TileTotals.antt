@@ -8,18 +8,18 @@ use Rattle.ascii_grid.specs.declared.place.Place.{Place}
 use Rattle.tiles.specs.declared.bounds.Bounds.{Bounds}
 use Rattle.tiles.specs.Cutting.{Cutting, IsInBounds, tile_of_place}
 use Rattle.tiles.proofs.TileOrder.{index_in_below, index_in-place_in, place_in-index_in}
-use Rattle.drain.specs.Following.{Directed, code_at, follow, moves}
+use Rattle.drainage.specs.Following.{Directed, code_at, follow, moves}
 use Rattle.flow.specs.Counts.{is_place, drains_through, accumulation}
 use Rattle.flow.specs.Streams.{node_after, sum_below, share, total}
 use Rattle.flow.specs.TileFlow.{stays, reaches_inside, inflow_of}
-use Rattle.flow.specs.TileLinks.{place_in, index_in, weight_in, AreTileWeights}
+use Rattle.flow.specs.TileLinks.{place_in, index_in}
 use Rattle.flow.proofs.Sums.{sum_below-same, sum_below-add}
 use Rattle.flow.proofs.Windows.{sum_below-none}
 use Rattle.flow.proofs.DoubleSums.{exchange, one_term, share-sum, share-add, share-none}
 use Rattle.flow.proofs.Ranges.{some_in_range, any_in_range, every_in_range}
 use Rattle.flow.proofs.EarlyEnds.{cases_reach, within, share-some}
 use Rattle.flow.proofs.Coded.{IsCoded, cases_coded, coded_along, coded_some, coded_from_some, follow_stays}
-use Rattle.flow.proofs.InTile.{IsPiece, cases_bounds, in_place, in_step, tracks, tile_streams, coded_within}
+use Rattle.flow.proofs.InTile.{weight_in, AreTileWeights, IsPiece, cases_bounds, in_place, in_step, tracks, tile_streams, coded_within}
 use Rattle.flow.proofs.Through.{place_test, place_from_test, stays_from_way, way_from_stays, total_is}
 use Rattle.flow.proofs.RimFlows.{follow_more}
 use Rattle.flow.proofs.Reaching.{IsEnding, again_stops, reached_early}

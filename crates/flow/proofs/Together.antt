@@ -7,8 +7,8 @@ use Rattle.ascii_grid.specs.declared.place.Place.{Place}
 use Rattle.tiles.specs.Cutting.{Cutting, IsCutting, View, IsPutBack, AreTileLists, tile_count, tile_of_place, tile_entry}
 use Rattle.tiles.proofs.Cut.{tile_of_place_below}
 use Rattle.tiles.proofs.PutBack.{entry_at-put_back}
-use Rattle.drain.specs.Following.{Directed, code_at}
-use Rattle.drain.specs.Drained.{AllFlowEnds}
+use Rattle.drainage.specs.Following.{Directed, code_at}
+use Rattle.drainage.specs.Drained.{AllFlowEnds}
 use Rattle.flow.specs.Counts.{IsMapOf}
 use Rattle.flow.specs.TileFlow.{Flow, IsTileExits, IsTileCounts, AreTileCounts, IsTileFlow, directed_by}
 use Rattle.flow.specs.RimGraph.{AreFlowsOf}

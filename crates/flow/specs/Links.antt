@@ -2,7 +2,7 @@
 use Rattle.std.specs.Prelude.{◌≡◌, ℕ, if◌then◌else◌, List, Option, None, Some}
 use Rattle.ascii_grid.specs.declared.place.Place.{Place}
 use Rattle.tiles.specs.Cutting.{Cutting, IsWithin, is_within}
-use Rattle.drain.specs.Following.{Directed, last_of}
+use Rattle.drainage.specs.Following.{Directed, last_of}
 use Rattle.flow.specs.TileFlow.{Flow, inflow_of, IsExitCell}
 use Rattle.flow.specs.RimGraph.{outlet_by}
 use Rattle.flow.specs.Inflows.{inflow_by}

@@ -5,7 +5,7 @@ use Rattle.ascii_grid.specs.Neighbours.{index_of}
 use Rattle.ascii_grid.specs.declared.place.Place.{Place}
 use Rattle.tiles.specs.declared.bounds.Bounds.{Bounds}
 use Rattle.tiles.specs.Cutting.{Cutting, IsInBounds, IsWithin, tile_count}
-use Rattle.drain.specs.Following.{Directed}
+use Rattle.drainage.specs.Following.{Directed}
 use Rattle.flow.specs.TileFlow.{Flow}
 use Rattle.flow.specs.TileLinks.{index_in}
 use Rattle.flow.specs.Whole.{is_outlet_code}

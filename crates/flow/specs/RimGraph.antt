@@ -4,8 +4,8 @@ use Rattle.std.specs.List.{range_with_len}
 use Rattle.ascii_grid.specs.Ways.{place_toward}
 use Rattle.ascii_grid.specs.declared.place.Place.{Place}
 use Rattle.tiles.specs.Cutting.{Cutting, IsCutting, IsWithin, is_within, bounds_of, tile_of_place}
-use Rattle.drain.specs.Following.{Directed, last_of}
-use Rattle.drain.specs.Drained.{AllFlowEnds}
+use Rattle.drainage.specs.Following.{Directed, last_of}
+use Rattle.drainage.specs.Drained.{AllFlowEnds}
 use Rattle.flow.specs.Counts.{is_place}
 use Rattle.flow.specs.TileFlow.{Flow, is_in_bounds, entry_in, exit_in, AreTileExits, IsExitCell}
 use Rattle.flow.specs.Whole.{is_outlet_code}
@@ -38,9 +38,6 @@ target_by t flows i =
     let p = rim_place t i in
     if stands_for t p i && not (is_in_bounds (bounds_of t (tile_of_place t p)) (next_by t flows p))
     then Some (next_by t flows p) else None
-
-abbrev pub targets_by : Cutting → List Flow → List (Option Place)
-targets_by t flows = map (target_by t flows) (range_with_len 0 (number_count t))
 
 -- where water that enters a tile at a place leaves it again; None where it ends in the tile
 abbrev pub way_out_in : Flow → Place → Option Place

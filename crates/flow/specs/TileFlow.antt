@@ -5,7 +5,7 @@ use Rattle.ascii_grid.specs.Ways.{places}
 use Rattle.ascii_grid.specs.declared.place.Place.{Place}
 use Rattle.tiles.specs.declared.bounds.Bounds.{Bounds}
 use Rattle.tiles.specs.Cutting.{Cutting, View, longest_axis, tile_of_place, tile_count, IsInTile, bounds_of}
-use Rattle.drain.specs.Following.{Directed, code_at, next, follow, moves, IsOutlet}
+use Rattle.drainage.specs.Following.{Directed, code_at, next, follow, moves, IsOutlet}
 use Rattle.flow.specs.Counts.{is_place}
 
 -- The map of directions of which a view shows a tile.

@@ -5,7 +5,7 @@ use Rattle.ascii_grid.specs.Ways.{place_toward}
 use Rattle.tiles.specs.Cutting.{longest_axis}
 use Rattle.ascii_grid.specs.declared.place.Place.{Place}
 use Rattle.tiles.specs.declared.bounds.Bounds.{Bounds}
-use Rattle.drain.specs.Following.{Directed, code_at, next}
+use Rattle.drainage.specs.Following.{Directed, code_at}
 use Rattle.flow.specs.TileFlow.{Flow, IsFlow, is_in_bounds}
 
 abbrev pub place_in : Bounds → ℕ → Place
@@ -13,22 +13,6 @@ place_in b i = record { row = b.top + i / b.cols; col = b.left + i % b.cols }
 
 abbrev pub index_in : Bounds → Place → ℕ
 index_in b p = (p.row - b.top) * b.cols + (p.col - b.left)
-
--- The cell to which the water of a cell goes on, or the cell itself where it stays or leaves the tile.
-abbrev pub link_in : Directed → Bounds → ℕ → ℕ
-link_in d b i = if is_in_bounds b (next d (place_in b i)) then index_in b (next d (place_in b i)) else i
-
--- 1 for a data cell, and 0 for one without data.
-abbrev pub weight_in : Directed → Bounds → ℕ → ℕ
-weight_in d b i = if is_some (code_at d (place_in b i)) then 1 else 0
-
-pub record AreTileLinks (d : Directed) (b : Bounds) (links : List ℕ) : Type 0 where
-  pub size : length links ≡ b.rows * b.cols
-  pub each : (i : ℕ) → i < b.rows * b.cols → slice_index links i ≡ link_in d b i
-
-pub record AreTileWeights (d : Directed) (b : Bounds) (weights : List ℕ) : Type 0 where
-  pub size : length weights ≡ b.rows * b.cols
-  pub each : (i : ℕ) → i < b.rows * b.cols → slice_index weights i ≡ weight_in d b i
 
 -- What holds of the bounds of a tile: they have a cell, and lie in a grid within the limits.
 pub record IsSmall (b : Bounds) : Type 0 where

@@ -3,7 +3,7 @@ use Rattle.std.specs.Prelude.{◌≡◌, ℕ, List, length, Option, None, Some, 
 use Rattle.std.specs.declared.alloc.Global.{Global}
 use Rattle.ascii_grid.specs.declared.place.Place.{Place}
 use Rattle.tiles.specs.Cutting.{Cutting, IsInTile, tile_count, cell_count, tile_entry}
-use Rattle.drain.specs.Following.{Directed, code_at}
+use Rattle.drainage.specs.Following.{Directed, code_at}
 
 -- The list has this value of each data cell of the tile in its row order, and None where there is no data.
 pub record IsTileMapOf (d : Directed) (t : Cutting) (tile : ℕ) (value : Place → ℕ) (values : List (Option ℕ)) : Type 0 where

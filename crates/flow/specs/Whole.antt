@@ -1,8 +1,8 @@
 -- The grid as one tile. Only the contracts of private functions speak of it.
 use Rattle.std.specs.Prelude.{◌≡◌, ℕ, ◌*◌, Bool, false, ◌==◌, List, length, Option}
 use Rattle.std.specs.Option.{option_map_or}
-use Rattle.drain.specs.Following.{Directed}
-use Rattle.drain.specs.Drained.{AllFlowEnds}
+use Rattle.drainage.specs.Following.{Directed}
+use Rattle.drainage.specs.Drained.{AllFlowEnds}
 
 abbrev pub make_directed : ℕ → ℕ → List (Option ℕ) → Directed
 make_directed cols rows codes = record { cols = cols; rows = rows; codes = codes }

@@ -7,7 +7,7 @@ ghost use Rattle.flow.specs.RimGraph.{AreFlowsOf};
 ghost use Rattle.flow.specs.Whole.{IsGridFlow, make_directed};
 
 use crate::tile::{TileFlow, tile_exits, tile_flow};
-use drain::Code;
+use drainage::Code;
 use std::alloc::Global;
 use std::sync::Wait;
 use std::thread::Threads;

@@ -2,7 +2,7 @@
 ghost use Rattle.std.specs.Prelude.{◌≡◌, ◌+◌, ◌*◌, ◌^◌, ◌<◌, ◌&&◌, ℕ, length, slice_index, IfOk, IfSome};
 ghost use Rattle.ascii_grid.specs.declared.place.Place.{Place as AtPlace};
 ghost use Rattle.tiles.specs.Cutting.{AreBounds, IsInBounds, IsWithin, bounds_of, cell_count, tile_count};
-ghost use Rattle.drain.specs.Following.{Directed};
+ghost use Rattle.drainage.specs.Following.{Directed};
 ghost use Rattle.flow.specs.Streams.{sum_below};
 ghost use Rattle.flow.specs.Sending.{AreNone};
 ghost use Rattle.flow.specs.TileFlow.{AreTileCounts, is_in_bounds};

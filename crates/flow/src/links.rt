@@ -1,8 +1,8 @@
 // Flow over the rims of all tiles.
 ghost use Rattle.std.specs.Prelude.{◌≡◌, IfOk};
 ghost use Rattle.tiles.specs.Cutting.{IsWithin};
-ghost use Rattle.drain.specs.Drained.{AllFlowEnds};
-ghost use Rattle.drain.specs.Following.{Directed};
+ghost use Rattle.drainage.specs.Drained.{AllFlowEnds};
+ghost use Rattle.drainage.specs.Following.{Directed};
 ghost use Rattle.flow.specs.TileFlow.{AreTileFlows};
 ghost use Rattle.flow.specs.Links.{AreLinks, inflow_in, outlet_in};
 

@@ -3,8 +3,8 @@ ghost use Rattle.std.proofs.Props.{props};
 ghost use Rattle.std.specs.Prelude.{◌≡◌, ◌<◌, ℕ, length, slice_index_or, None, IfOk, IfSome};
 ghost use Rattle.tiles.specs.Cutting.{Cuts, IsCutting, IsWithin, tile_count};
 ghost use Rattle.tile_jobs.specs.Fault.{RefusesWorkers};
-ghost use Rattle.drain.specs.Drained.{directed_of};
-ghost use Rattle.drain.specs.Following.{Directed};
+ghost use Rattle.drainage.specs.Drained.{directed_of};
+ghost use Rattle.drainage.specs.Following.{Directed};
 ghost use Rattle.flow.specs.Counts.{AreBasins, basin};
 ghost use Rattle.flow.specs.Whole.{IsGridFlow, make_directed};
 ghost use Rattle.ascii_grid.specs.Neighbours.{index_of};
@@ -18,7 +18,7 @@ use crate::outlet_numbers::OutletNumbers;
 use crate::outlets::Outlets;
 use crate::tile::TileFlow;
 use ascii_grid::{NoMemory, Place};
-use drain::{Code, Directions};
+use drainage::{Code, Directions};
 use std::alloc::Global;
 use std::sync::Wait;
 use std::thread::Threads;
@@ -39,7 +39,7 @@ impl<'a> Work for NumberTiles<'a> {
     type Out = Vec<Option<u32>>;
 
     ghost use Rattle.tiles.specs.Cutting.{tile_count};
-    ghost use Rattle.drain.specs.Following.{Directed};
+    ghost use Rattle.drainage.specs.Following.{Directed};
     ghost use Rattle.flow.specs.Counts.{basin};
     ghost use Rattle.flow.specs.Numbering.{IsNumbering};
     ghost use Rattle.flow.specs.TileMaps.{IsTileMapOf};

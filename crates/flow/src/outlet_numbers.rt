@@ -7,7 +7,7 @@ ghost use Rattle.flow.specs.OutletRuns.{AreSumsBefore};
 
 use crate::outlet_runs::{CountRuns, RunCounts, Runs};
 use ascii_grid::NoMemory;
-use drain::Code;
+use drainage::Code;
 use std::alloc::Global;
 use std::marker::Model;
 use std::sync::Wait;

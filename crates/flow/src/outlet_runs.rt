@@ -5,7 +5,7 @@ ghost use Rattle.flow.specs.OutletRuns.{AreCodeRuns, IsRunCounted, run_share, ru
 
 use crate::tile::is_outlet;
 use ascii_grid::NoMemory;
-use drain::Code;
+use drainage::Code;
 use std::alloc::Global;
 use std::marker::Model;
 use tile_jobs::{JobFault, Work};

@@ -1,7 +1,7 @@
 // Where the water of the exits of all tiles ends.
 ghost use Rattle.std.specs.Prelude.{◌≡◌, ◌<◌, ◌≤◌, ℕ, length, slice_index, IfOk, IfSome, option_and_then};
 ghost use Rattle.tiles.specs.Cutting.{IsCutting, IsWithin, tile_count};
-ghost use Rattle.drain.specs.Following.{Directed};
+ghost use Rattle.drainage.specs.Following.{Directed};
 ghost use Rattle.flow.specs.Counts.{is_place};
 ghost use Rattle.flow.specs.RimNumbers.{number_count};
 ghost use Rattle.flow.specs.RimGraph.{code_in, AreFlowsOf, AreOutlets, target_by, number_or, way_out_by, rim_links_by, rim_outlet, rim_outlets_by, outlet_in, next_by, exit_by, stands_for};
@@ -11,7 +11,7 @@ use crate::ends::ends;
 use crate::rim::{number_count, rim_number, rim_place};
 use crate::tile::{TileFlow, is_outlet};
 use ascii_grid::{NoMemory, Place};
-use drain::Code;
+use drainage::Code;
 use std::alloc::Global;
 use std::marker::Model;
 use tiles::Tiling;

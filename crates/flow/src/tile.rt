@@ -1,7 +1,7 @@
 // Flow inside one tile.
 ghost use Rattle.std.specs.Prelude.{◌≡◌, ◌<◌, length, slice_index_or, IfOk, IfSome, None, Some, if◌then◌else◌};
 ghost use Rattle.std.specs.Option.{option_map};
-ghost use Rattle.drain.specs.Drained.{AllFlowEnds};
+ghost use Rattle.drainage.specs.Drained.{AllFlowEnds};
 ghost use Rattle.flow.specs.TileFlow.{directed_by, IsFlow, IsTileExits, IsTileFlow, entry_in, through_in, exit_in};
 ghost use Rattle.flow.specs.TileLinks.{index_in, where_data, links_by};
 ghost use Rattle.flow.specs.Whole.{is_outlet_code};
@@ -11,7 +11,7 @@ use crate::cells::{contains, index_of, place_at, tile_codes, tile_links, tile_we
 use crate::ends::ends;
 use crate::streams::upstream;
 use ascii_grid::{NoMemory, Place};
-use drain::Code;
+use drainage::Code;
 use std::alloc::Global;
 use std::marker::Model;
 use tiles::{Bounds, TileView};

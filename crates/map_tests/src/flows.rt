@@ -1,6 +1,6 @@
 // Flow inside tiles, and over their rims.
 ghost use Rattle.std.specs.Prelude.{◌≡◌, IfOk};
-ghost use Rattle.drain.specs.Drained.{AllFlowEnds, directed_of};
+ghost use Rattle.drainage.specs.Drained.{AllFlowEnds, directed_of};
 ghost use Rattle.flow.specs.TileFlow.{AreTileFlows};
 ghost use Rattle.tiles.specs.Cutting.{Cuts};
 

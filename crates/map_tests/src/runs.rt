@@ -1,9 +1,15 @@
 // Whole runs, from bytes to bytes.
 use ascii_grid::{Counted, GridFault, Key};
 use relief::{Map, Options, RunFault, run};
+use std::alloc::Global;
 use std::io;
 use std::io::{Read, Write};
+use std::process::Abort;
+use std::sync::Wait;
 use std::test::Fail;
+use std::thread::Threads;
+
+const ALL: usize = 1000;
 
 const BOWL: &[u8] =
     b"ncols 3\nnrows 3\nxllcorner 0\nyllcorner 0\ncellsize 1\n9 9 9\n9 1 9\n9 9 9\n";
@@ -45,17 +51,32 @@ impl Read for Endless {
     }
 }
 
-/// A writer that takes so many bytes in all and then fails.
+/// A writer that takes so many bytes a call, and so many in all; it fails then, or takes none.
 #[derive(Drop)]
 struct Short {
     taken: Vec<u8>,
+    each: usize,
     room: usize,
+    stuck: bool,
+    flushes: bool,
+}
+
+impl Short {
+    fn new(alloc: Global, each: usize, room: usize) -> Short {
+        Short {
+            taken: Vec::new(alloc),
+            each,
+            room,
+            stuck: false,
+            flushes: true,
+        }
+    }
 }
 
 impl Write for Short {
     fn write(&mut self, buf: &[u8]) -> io::Result<usize> {
-        let count = self.room.min(buf.len());
-        if count == 0 && !buf.is_empty() {
+        let count = self.each.min(self.room).min(buf.len());
+        if count == 0 && !buf.is_empty() && !self.stuck {
             return Err(io::Error::from(io::ErrorKind::Other));
         }
         self.taken.write(&buf[..count])?;
@@ -64,8 +85,37 @@ impl Write for Short {
     }
 
     fn flush(&mut self) -> io::Result<()> {
-        Ok(())
+        if self.flushes {
+            Ok(())
+        } else {
+            Err(io::Error::from(io::ErrorKind::Other))
+        }
     }
+}
+
+/// Runs `fill` on the bowl into a writer, which then has this much of the map and fails as often.
+fn expect_written(
+    rt: &(impl Abort + Threads + Wait + Sync),
+    alloc: Global,
+    mut short: Short,
+    length: usize,
+    failures: u64,
+) -> Result<(), Fail> {
+    let options = Options::new(Map::Fill, 256, 1, 0).ok_or("options")?;
+    let mut reader = Counted::new(BOWL);
+    let mut writer = Counted::new(&mut short);
+    let result = run(rt, alloc, &options, &mut reader, &mut writer);
+    assert_eq!(rt; writer.failures(), failures, "{length} bytes");
+    drop(writer);
+    let wanted = if failures == 0 {
+        Ok(())
+    } else {
+        Err(RunFault::Write)
+    };
+    assert_eq!(rt; result, wanted, "{length} bytes");
+    assert_eq!(rt; short.taken.len(), length);
+    assert!(rt; FILLED.starts_with(&short.taken), "{length} bytes");
+    Ok(())
 }
 
 #[test]
@@ -84,21 +134,94 @@ fn bowl_of_nines(rt: HostRuntime) -> Result<(), Fail> {
 }
 
 #[test]
-fn ten_bytes_and_then_a_failure(rt: HostRuntime) -> Result<(), Fail> {
-    let options = Options::new(Map::Fill, 256, 1, 0).ok_or("options")?;
-    let mut short = Short {
-        taken: Vec::new(rt.alloc()),
-        room: 10,
-    };
-    let mut reader = Counted::new(BOWL);
-    let mut writer = Counted::new(&mut short);
-    let result = run(&rt, rt.alloc(), &options, &mut reader, &mut writer);
-    assert_eq!(rt; result, Err(RunFault::Write));
-    assert_eq!(rt; writer.failures(), 1);
-    drop(writer);
-    assert_eq!(rt; short.taken.as_slice(), b"ncols     ".as_slice());
+fn a_writer_that_fails(rt: HostRuntime) -> Result<(), Fail> {
+    let alloc = rt.alloc();
+    for room in 0..FILLED.len() {
+        expect_written(&rt, alloc, Short::new(alloc, ALL, room), room, 1)?;
+    }
+    expect_written(
+        &rt,
+        alloc,
+        Short::new(alloc, ALL, FILLED.len()),
+        FILLED.len(),
+        0,
+    )?;
     assert_eq!(rt; RunFault::Write.number(), 52);
     assert_eq!(rt; RunFault::Write.status(), 4);
+    Ok(())
+}
+
+#[test]
+fn a_writer_of_single_bytes(rt: HostRuntime) -> Result<(), Fail> {
+    let alloc = rt.alloc();
+    expect_written(&rt, alloc, Short::new(alloc, 1, ALL), FILLED.len(), 0)?;
+    let mut stuck = Short::new(alloc, 1, 2);
+    stuck.stuck = true;
+    expect_written(&rt, alloc, stuck, 2, 1)
+}
+
+#[test]
+fn a_flush_that_fails(rt: HostRuntime) -> Result<(), Fail> {
+    let alloc = rt.alloc();
+    let mut short = Short::new(alloc, ALL, ALL);
+    short.flushes = false;
+    expect_written(&rt, alloc, short, FILLED.len(), 1)
+}
+
+/// A reader of seven bytes a call that fails at this one.
+#[derive(Drop)]
+struct Sevens<'a> {
+    bytes: &'a [u8],
+    calls: u32,
+    kind: io::ErrorKind,
+}
+
+impl Read for Sevens<'_> {
+    fn read(&mut self, buf: &mut [u8]) -> io::Result<usize> {
+        if self.calls == 0 {
+            self.calls = u32::MAX;
+            return Err(io::Error::from(self.kind));
+        }
+        self.calls -= 1;
+        let count = buf.len().min(7);
+        self.bytes.read(&mut buf[..count])
+    }
+}
+
+/// How a run on the bowl ends whose reader fails once, after so many calls.
+fn run_of_sevens(
+    rt: &(impl Abort + Threads + Wait + Sync),
+    alloc: Global,
+    calls: u32,
+    kind: io::ErrorKind,
+) -> Result<Result<(), RunFault>, Fail> {
+    let options = Options::new(Map::Fill, 256, 1, 0).ok_or("options")?;
+    let mut out = Vec::new(alloc);
+    let mut reader = Counted::new(Sevens {
+        bytes: BOWL,
+        calls,
+        kind,
+    });
+    let mut writer = Counted::new(&mut out);
+    let result = run(rt, alloc, &options, &mut reader, &mut writer);
+    drop(writer);
+    let length = if result.is_ok() { FILLED.len() } else { 0 };
+    assert_eq!(rt; out.len(), length, "after {calls} calls");
+    Ok(result)
+}
+
+// The bowl has 69 bytes: ten reads, and one that finds the end.
+#[test]
+fn a_reader_that_fails_once(rt: HostRuntime) -> Result<(), Fail> {
+    let alloc = rt.alloc();
+    for calls in 0..11 {
+        let result = run_of_sevens(&rt, alloc, calls, io::ErrorKind::Other)?;
+        assert_eq!(rt; result, Err(RunFault::Read), "after {calls} calls");
+    }
+    let result = run_of_sevens(&rt, alloc, 11, io::ErrorKind::Other)?;
+    assert_eq!(rt; result, Ok(()));
+    let result = run_of_sevens(&rt, alloc, 1, io::ErrorKind::Interrupted)?;
+    assert_eq!(rt; result, Err(RunFault::Read));
     Ok(())
 }
 

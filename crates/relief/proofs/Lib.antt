@@ -1,9 +1,5 @@
 mod Refused
 mod Ran
 mod Viewing
-mod Commas
 mod Maps
-mod Given
-mod Commands
-mod Asked
-mod Wishes
+mod Unread

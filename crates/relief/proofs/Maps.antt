@@ -3,18 +3,18 @@ use Rattle.std.proofs.Common.{◌≡◌, ℕ, ◌⊎◌, List, Option, None, Som
 use Rattle.std.proofs.lemmas.Option.{MatchOption-at_none, MatchOption-at_some}
 use Rattle.ascii_grid.specs.Raster.{Raster, Terrain}
 use Rattle.ascii_grid.specs.Neighbours.{height_at}
-use Rattle.ascii_grid.specs.Filled.{IsFilled, IsFilledGrid}
+use Rattle.drainage.specs.Filled.{IsFilled, IsFilledGrid}
 use Rattle.ascii_grid.specs.Text.{heights_text, counts_text}
 use Rattle.ascii_grid.specs.declared.place.Place.{Place}
-use Rattle.ascii_grid.proofs.Uniqueness.{one_filled_height}
-use Rattle.drain.specs.Following.{Directed, code_at}
+use Rattle.drainage.proofs.Uniqueness.{one_filled_height}
+use Rattle.drainage.specs.Following.{Directed, code_at}
 use Rattle.drain.specs.Directions.{AreDirections}
 use Rattle.drain.proofs.Unique.{same_entries, one_list_of_directions}
 use Rattle.flow.specs.Counts.{IsMapOf, accumulation, basin}
 use Rattle.sight.proofs.Uniqueness.{viewsheds_are_one}
-use Rattle.relief.specs.declared.map.Map.{Map}
-use Rattle.relief.specs.declared.map.Map.TheVariants.{Fill, Flow, Accumulate, Basins, View}
-use Rattle.relief.specs.Laws.{AreSame}
+use Rattle.request.specs.declared.map.Map.{Map}
+use Rattle.request.specs.declared.map.Map.TheVariants.{Fill, Flow, Accumulate, Basins, View}
+use Rattle.request.specs.Laws.{AreSame}
 use Rattle.relief.specs.MapText.{IsDrainage, IsMapText, IsMapOfText}
 
 cases_option : {X : Type 0} (o : Option X) → (o ≡ None) ⊎ ((x : X) × (o ≡ Some x))

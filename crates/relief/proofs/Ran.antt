@@ -11,7 +11,7 @@ use Rattle.ascii_grid.specs.declared.input.InputFault.TheVariants as input
 use Rattle.relief.specs.declared.fault.RunFault.{RunFault}
 use Rattle.relief.specs.declared.fault.RunFault.TheVariants.{Read, Write}
 use Rattle.relief.specs.declared.making.MadeMap.{MadeMap}
-use Rattle.relief.specs.Wish.{Wish}
+use Rattle.request.specs.Wish.{Wish}
 use Rattle.relief.specs.Faults.{of_input}
 use Rattle.relief.specs.MadeMap.{made_text}
 use Rattle.relief.specs.MapText.{IsMapText}

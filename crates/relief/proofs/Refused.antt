@@ -9,7 +9,7 @@ use Rattle.tiles.specs.Cutting.{most_tiles}
 use Rattle.sight.specs.declared.fault.SightFault.{SightFault}
 use Rattle.relief.specs.declared.fault.RunFault.{RunFault}
 use Rattle.relief.specs.declared.fault.RunFault.TheVariants.{Grid, Tiling, Jobs, Sight, Read, Write}
-use Rattle.relief.specs.Wish.{Wish}
+use Rattle.request.specs.Wish.{Wish}
 use Rattle.relief.specs.Refusals.{tiles_of, map_fault, wish_fault, IsWorkRefusal, IsRunRefusal}
 
 -- a wish is forbidden by too many tiles or by its observers

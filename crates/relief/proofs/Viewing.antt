@@ -14,11 +14,11 @@ use Rattle.sight.specs.declared.fault.SightFault.TheVariants as sight
 use Rattle.sight.specs.Sight.{place_of, most_observers, longest_radius}
 use Rattle.sight.specs.Refusals.{RefusesSight, is_high, is_outside, place_fault_of, place_fault, observers_fault}
 use Rattle.sight.specs.declared.observer.Observer.{Observer}
-use Rattle.relief.specs.declared.map.Map.{Map}
-use Rattle.relief.specs.declared.map.Map.TheVariants.{Fill, Flow, Accumulate, Basins, View}
+use Rattle.request.specs.declared.map.Map.{Map}
+use Rattle.request.specs.declared.map.Map.TheVariants.{Fill, Flow, Accumulate, Basins, View}
 use Rattle.relief.specs.declared.fault.RunFault.TheVariants.{Sight}
 use Rattle.relief.specs.Faults.{of_sight}
-use Rattle.relief.specs.Wish.{Wish}
+use Rattle.request.specs.Wish.{Wish}
 use Rattle.relief.specs.Refusals.{tiles_of, map_fault, wish_fault, IsWorkRefusal}
 
 -- with few tiles only the observers can forbid

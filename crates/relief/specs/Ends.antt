@@ -1,13 +1,15 @@
 -- How the program ends, on any schedule of its workers.
-use Rattle.std.specs.Prelude.{◌≡◌, ◌⊎◌, ℕ, List, [], ◌++◌, Option, Result, ⊤, MatchResult, codes, decimal}
+use Rattle.std.specs.Prelude.{◌≡◌, ◌≢◌, ◌⊎◌, ℕ, List, [], ◌++◌, Option, Result, ⊤, MatchResult, codes, decimal}
 use Rattle.ascii_grid.specs.Device.{Device, Writes}
 use Rattle.ascii_grid.specs.declared.counted.WriteFailed.{WriteFailed}
 use Rattle.clap.specs.Words.{Text}
+use Rattle.clap.specs.declared.error.kind.ErrorKind.{ErrorKind}
+use Rattle.clap.specs.declared.error.kind.ErrorKind.TheVariants.{OutOfMemory}
 use Rattle.relief.specs.declared.fault.RunFault.{RunFault}
 use Rattle.relief.specs.FaultLine.{fault_line, fault_status}
-use Rattle.relief.specs.Wish.{Wish}
+use Rattle.request.specs.Wish.{Wish}
 use Rattle.relief.specs.Runs.{Runs}
-use Rattle.relief.specs.CommandLine.{AskForHelp, AreRefused, HasBadObserver}
+use Rattle.request.specs.CommandLine.{AskForHelp, AreRefused, HasBadObserver, IsHelp}
 
 -- The text was written, or a front part of it where the device has failed once more.
 abbrev pub Tells : {D : Type 0} → (D → Option (List ℕ)) → Device D → Device D → List ℕ → Type 0
@@ -43,3 +45,10 @@ pub record EndsUnread {R W E : Type 0} (contents : W → Option (List ℕ)) (lin
   pub reason : (AskForHelp words × (status ≡ 0) × ((text : List ℕ) × EndsLine text × Tells contents writer grown text) × (told ≡ errors))
       ⊎ (((text : List ℕ) × IsRefusalText words text × Tells lines errors told text) × (status ≡ 1) × (grown ≡ writer))
       ⊎ ((status ≡ 3) × (grown ≡ writer) × (told ≡ errors))
+
+-- What an error of `clap` of this kind leaves of the devices, and its status. Only a private function's contract speaks of it.
+abbrev pub EndsShowing : {W E : Type 0} → (W → Option (List ℕ)) → (E → Option (List ℕ)) → ErrorKind → Device W → Device W → Device E → Device E → ℕ → Type 0
+EndsShowing contents lines kind writer grown errors told status =
+    (IsHelp kind × (status ≡ 0) × ((text : List ℕ) × EndsLine text × Tells contents writer grown text) × (told ≡ errors))
+    ⊎ ((¬ IsHelp kind × (kind ≢ OutOfMemory)) × ((text : List ℕ) × EndsLine text × Tells lines errors told text) × (status ≡ 1) × (grown ≡ writer))
+    ⊎ ((status ≡ 3) × (grown ≡ writer) × (told ≡ errors))

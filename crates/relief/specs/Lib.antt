@@ -1,13 +1,8 @@
-pub mod Wish
 pub mod FaultLine
 pub mod Faults
 pub mod MapText
 pub mod Refusals
 pub mod Runs
-pub mod CommandLine
-pub mod Commands
-pub mod WordsFaults
 pub mod Ends
 pub mod MadeMap
-pub mod ObserverWord
 pub mod Laws

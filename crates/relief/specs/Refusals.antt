@@ -8,11 +8,11 @@ use Rattle.tiles.specs.declared.tiling.TilingFault.TheVariants.{TooManyTiles}
 use Rattle.tile_jobs.specs.declared.JobFault.TheVariants as jobs
 use Rattle.sight.specs.declared.fault.SightFault.{SightFault}
 use Rattle.sight.specs.Refusals.{observers_fault}
-use Rattle.relief.specs.declared.map.Map.{Map}
-use Rattle.relief.specs.declared.map.Map.TheVariants.{View}
+use Rattle.request.specs.declared.map.Map.{Map}
+use Rattle.request.specs.declared.map.Map.TheVariants.{View}
 use Rattle.relief.specs.declared.fault.RunFault.{RunFault}
 use Rattle.relief.specs.declared.fault.RunFault.TheVariants.{Grid, Tiling, Jobs, Sight, Read, Write}
-use Rattle.relief.specs.Wish.{Wish}
+use Rattle.request.specs.Wish.{Wish}
 
 -- How many tiles of this side a grid has.
 abbrev pub tiles_of : Raster → ℕ → ℕ

@@ -5,7 +5,7 @@ use Rattle.ascii_grid.specs.Device.{Device, AppendsPart}
 use Rattle.ascii_grid.specs.GridText.{most_bytes, fault_so_far}
 use Rattle.relief.specs.declared.fault.RunFault.{RunFault}
 use Rattle.relief.specs.declared.fault.RunFault.TheVariants.{Read, Write}
-use Rattle.relief.specs.Wish.{Wish}
+use Rattle.request.specs.Wish.{Wish}
 use Rattle.relief.specs.MapText.{IsMapOfText}
 use Rattle.relief.specs.Refusals.{IsRunRefusal}
 

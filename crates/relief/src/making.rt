@@ -3,18 +3,18 @@ ghost use Rattle.std.specs.Prelude.{◌≡◌, ◌<◌, ◌≤◌, ◌*◌, leng
 ghost use Rattle.tiles.specs.Cutting.{Cuts, longest_side, most_tiles};
 ghost use Rattle.tile_jobs.specs.Fault.{RefusesWorkers};
 ghost use Rattle.ascii_grid.specs.Text.{counts_text};
-ghost use Rattle.drain.specs.Drained.{directed_of};
+ghost use Rattle.drainage.specs.Drained.{directed_of};
 ghost use Rattle.relief.specs.MadeMap.{made_text, FitsGrid};
 ghost use Rattle.relief.specs.MapText.{IsMapText, IsDrainage};
 ghost use Rattle.relief.specs.Refusals.{IsWorkRefusal, wish_fault, tiles_of};
 
 use crate::fault::RunFault;
-use crate::map::Map;
-use crate::options::Options;
-use ascii_grid::{Filled, Grid};
-use drain::{Code, Directions, directions};
+use ascii_grid::Grid;
+use drain::directions;
+use drainage::{Code, Directions, Filled};
 use fill::filled;
 use flow::{accumulation, basins};
+use request::{Map, Options};
 use sight::viewshed;
 use std::alloc::Global;
 use std::sync::Wait;

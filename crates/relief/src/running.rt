@@ -6,8 +6,8 @@ ghost use Rattle.relief.specs.Runs.{Runs};
 
 use crate::fault::RunFault;
 use crate::making::{MadeMap, make_map};
-use crate::options::Options;
 use ascii_grid::{Counted, Grid, WriteFailed, read_grid, write_counts, write_heights};
+use request::Options;
 use std::alloc::Global;
 use std::io::{Read, Write};
 use std::sync::Wait;

@@ -5,8 +5,7 @@ use Rattle.std.specs.Int.{abs_diff}
 use Rattle.std.specs.List.{list_any, range_with_len}
 use Rattle.std.specs.Option.{option_map_or}
 use Rattle.ascii_grid.specs.Raster.{Terrain}
-use Rattle.ascii_grid.specs.Neighbours.{IsInside, height_at, entry_at}
-use Rattle.ascii_grid.specs.Filled.{height_of}
+use Rattle.ascii_grid.specs.Neighbours.{IsInside, height_at, entry_at, height_of}
 use Rattle.ascii_grid.specs.declared.place.Place.{Place}
 use Rattle.sight.specs.declared.observer.Observer.{Observer}
 

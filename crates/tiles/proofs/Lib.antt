@@ -7,3 +7,4 @@ pub mod PutBack
 pub mod Outer
 pub mod TileOrder
 pub mod Members
+pub mod TileRows

@@ -1,9 +1,9 @@
 use Rattle.std.proofs.Common.{◌∙◌, sym, ap, subst}
 use Rattle.ascii_grid.specs.Raster.{Raster, Terrain}
 use Rattle.drain.specs.Directions.{AreDirections}
-use Rattle.drain.specs.Drained.{Drained, IsDraining, AllFlowEnds, directed_of}
+use Rattle.drainage.specs.Drained.{Drained, IsDraining, AllFlowEnds, directed_of}
 use Rattle.drain.proofs.DrainedLemmas.{are_draining, own_terrain}
-use Rattle.drain.proofs.Ends.{falling_ends}
+use Rattle.drainage.proofs.Ends.{falling_ends}
 use Rattle.drain.proofs.draining.directions.Goals as goal
 
 pub new-requires : goal.new-requires

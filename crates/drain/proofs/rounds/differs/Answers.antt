@@ -3,7 +3,7 @@ use Rattle.std.proofs.lemmas.Bool.{cases_eq}
 use Rattle.tiles.specs.declared.bounds.Bounds.{Bounds}
 use Rattle.tiles.specs.Cutting.{IsInBounds}
 use Rattle.tiles.proofs.Cut.{in_bounds}
-use Rattle.drain.proofs.TileRows.{row_same, row_other}
+use Rattle.tiles.proofs.TileRows.{row_same, row_other}
 use Rattle.drain.proofs.rounds.differs.Goals as goal
 
 pub loop-row-init : goal.loop-row-init

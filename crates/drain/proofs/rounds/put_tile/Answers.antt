@@ -1,5 +1,5 @@
 use Rattle.std.proofs.Common.{◌≡◌, ◌∙◌, ◌+◌, ◌*◌, ℕ, ap, subst, refl, arith}
-use Rattle.drain.proofs.TileRows.{IsWrittenBelow, row_written, none_written, row_in_grid, row_in_list, tile_written}
+use Rattle.tiles.proofs.TileRows.{IsWrittenBelow, row_written, none_written, row_in_grid, row_in_list, tile_written}
 use Rattle.drain.proofs.rounds.put_tile.Goals as goal
 
 pub put_row-requires-clause-steps : goal.put_row-requires-clause-steps

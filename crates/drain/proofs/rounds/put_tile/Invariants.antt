@@ -1,5 +1,5 @@
 use Rattle.std.proofs.Common.{◌+◌}
-use Rattle.drain.proofs.TileRows.{IsWrittenBelow}
+use Rattle.tiles.proofs.TileRows.{IsWrittenBelow}
 use Rattle.drain.proofs.rounds.put_tile.Given as goal
 
 abbrev pub invariant-loop-row : goal.invariant-loop-row

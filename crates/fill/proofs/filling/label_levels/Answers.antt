@@ -1,7 +1,7 @@
 use Rattle.std.proofs.Common.{Vec, Global, Option, ℤ, sym, subst, ◌∙◌}
 use Rattle.std.specs.Prelude.{List, Result, IfOk}
 use Rattle.ascii_grid.specs.Raster.{Terrain}
-use Rattle.ascii_grid.specs.Filled.{IsFilled}
+use Rattle.drainage.specs.Filled.{IsFilled}
 use Rattle.ascii_grid.specs.declared.grid.NoMemory.{NoMemory}
 use Rattle.fill.specs.TileFlood.{Flood}
 use Rattle.fill.specs.Parts.{AreParts}

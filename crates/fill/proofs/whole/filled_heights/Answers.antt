@@ -1,6 +1,6 @@
 use Rattle.std.proofs.Common.{◌≡◌, ℤ, Option, Vec, Global}
 use Rattle.std.proofs.lemmas.Result.{IfOk-weaker}
-use Rattle.ascii_grid.specs.Filled.{IsFilled}
+use Rattle.drainage.specs.Filled.{IsFilled}
 use Rattle.fill.specs.Cells.{inner_rows}
 use Rattle.fill.proofs.WholeGrid.{whole_filled}
 use Rattle.fill.proofs.whole.filled_heights.Goals as goal

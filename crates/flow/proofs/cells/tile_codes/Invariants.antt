@@ -1,6 +1,6 @@
 use Rattle.std.proofs.Common.{◌≡◌, ℕ, ◌*◌, ◌<◌, length, get_or, None}
 use Rattle.tiles.specs.Cutting.{bounds_of}
-use Rattle.drain.specs.Following.{code_at}
+use Rattle.drainage.specs.Following.{code_at}
 use Rattle.flow.specs.TileFlow.{directed_by}
 use Rattle.flow.specs.TileLinks.{place_in}
 use Rattle.flow.proofs.cells.tile_codes.Given as goal

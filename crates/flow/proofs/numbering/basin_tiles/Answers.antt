@@ -1,6 +1,6 @@
 use Rattle.std.proofs.Common.{List, Option, ℕ, Vec, Global, subst, sym}
 use Rattle.std.proofs.lemmas.Result.{IfOk-weaker}
-use Rattle.drain.specs.Following.{Directed}
+use Rattle.drainage.specs.Following.{Directed}
 use Rattle.flow.specs.Counts.{basin}
 use Rattle.flow.specs.TileFlow.{Flow}
 use Rattle.flow.specs.TileMaps.{AreTileMapsOf}

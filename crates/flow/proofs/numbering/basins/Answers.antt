@@ -1,6 +1,6 @@
 use Rattle.std.proofs.Common.{subst}
 use Rattle.std.specs.Prelude.{IfOk}
-use Rattle.drain.specs.Following.{Directed}
+use Rattle.drainage.specs.Following.{Directed}
 use Rattle.flow.specs.Counts.{AreBasins}
 use Rattle.flow.proofs.Directed.{grid_flow, directed_same}
 use Rattle.flow.proofs.numbering.basins.Goals as goal

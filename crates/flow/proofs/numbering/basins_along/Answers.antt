@@ -1,7 +1,7 @@
 use Rattle.std.proofs.Common.{ℕ, List, Option, Vec, Global, subst, sym, refl}
 use Rattle.std.proofs.lemmas.Result.{IfOk-weaker}
 use Rattle.tiles.specs.Cutting.{AreTileLists, IsPutBack}
-use Rattle.drain.specs.Following.{Directed}
+use Rattle.drainage.specs.Following.{Directed}
 use Rattle.flow.specs.Counts.{basin, AreBasins}
 use Rattle.flow.specs.Whole.{make_directed}
 use Rattle.flow.proofs.Together.{map_lists, maps_put_back}

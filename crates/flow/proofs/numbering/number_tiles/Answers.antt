@@ -1,6 +1,6 @@
 use Rattle.std.proofs.Common.{◌≡◌, Vec, Global, Option, ℕ, vec_len, arith}
 use Rattle.tile_jobs.specs.Answers.{AllGiven}
-use Rattle.drain.specs.Following.{Directed}
+use Rattle.drainage.specs.Following.{Directed}
 use Rattle.flow.specs.Counts.{basin}
 use Rattle.flow.specs.Numbering.{IsNumbering}
 use Rattle.flow.specs.TileMaps.{IsTileMapOf, AreTileMapsOf}

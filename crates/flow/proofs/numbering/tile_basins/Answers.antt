@@ -4,7 +4,7 @@ use Rattle.std.proofs.lemmas.Result.{IfOk-weaker}
 use Rattle.std.proofs.lemmas.List.FromFn.{length-map-range_with_len}
 use Rattle.tiles.specs.declared.bounds.Bounds.{Bounds}
 use Rattle.tiles.specs.Cutting.{bounds_of}
-use Rattle.drain.specs.Following.{Directed}
+use Rattle.drainage.specs.Following.{Directed}
 use Rattle.flow.specs.Counts.{basin}
 use Rattle.flow.specs.TileFlow.{Flow}
 use Rattle.flow.specs.TileMaps.{IsTileMapOf}

@@ -1,7 +1,7 @@
 use Rattle.std.proofs.Common.{◌≡◌, ℕ, List, Option, [], ◌∷◌, ◌++◌, subst, sym, ap, ◌∙◌, rules}
 use Rattle.tiles.specs.Cutting.{Cutting, View, Cuts}
-use Rattle.drain.specs.Following.{Directed}
-use Rattle.drain.specs.Drained.{Drained, AllFlowEnds, directed_of}
+use Rattle.drainage.specs.Following.{Directed}
+use Rattle.drainage.specs.Drained.{Drained, AllFlowEnds, directed_of}
 use Rattle.flow.specs.TileFlow.{Flow, IsTileFlow, directed_by}
 use Rattle.flow.specs.Whole.{make_directed}
 use Rattle.flow.proofs.Pushing.{pushed_size}

@@ -1,5 +1,5 @@
 use Rattle.std.proofs.Common.{◌≡◌, ℕ, length, Some, slice_get}
-use Rattle.drain.specs.Drained.{directed_of}
+use Rattle.drainage.specs.Drained.{directed_of}
 use Rattle.flow.specs.TileFlow.{Flow, IsTileFlow}
 use Rattle.map_tests.proofs.flows.flows_of.Given as goal
 

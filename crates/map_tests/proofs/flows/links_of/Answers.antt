@@ -1,4 +1,4 @@
-use Rattle.drain.specs.Drained.{directed_of}
+use Rattle.drainage.specs.Drained.{directed_of}
 use Rattle.map_tests.proofs.flows.links_of.Goals as goal
 
 pub join-requires : goal.join-requires

@@ -1,8 +1,8 @@
 use Rattle.std.proofs.Common.{List, inl, map, subst, refl}
 use Rattle.clap.specs.Words.{Text}
-use Rattle.relief.specs.CommandLine.{words_given}
-use Rattle.relief.specs.WordsFaults.{IsFaultOf}
-use Rattle.relief.proofs.Asked.{bad_word_told, no_map_told, shown}
+use Rattle.request.specs.CommandLine.{words_given}
+use Rattle.request.specs.WordsFaults.{IsFaultOf}
+use Rattle.relief.proofs.Unread.{bad_word_told, no_map_told, shown}
 use Rattle.relief.proofs.command.run_words.Goals as goal
 
 pub returns-in-Err-Clap-clause-ends : goal.returns-in-Err-Clap-clause-ends

@@ -1,7 +1,7 @@
 use Rattle.std.proofs.Common.{rules, ◌≡◌, ◌⊎◌, ◌≢◌, refl, inl, inr}
 use Rattle.clap.specs.Words.{kind_of}
 use Rattle.clap.specs.declared.error.kind.ErrorKind.TheVariants.{DisplayHelp, DisplayVersion, OutOfMemory}
-use Rattle.relief.specs.CommandLine.{IsHelp}
+use Rattle.request.specs.CommandLine.{IsHelp}
 use Rattle.relief.proofs.command.show_error.Goals as goal
 
 pub returns-then-use_stderr : goal.returns-then-use_stderr

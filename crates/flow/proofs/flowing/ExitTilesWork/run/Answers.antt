@@ -1,6 +1,6 @@
 use Rattle.std.proofs.Common.{sym, subst}
-use Rattle.drain.specs.Following.{Directed}
-use Rattle.drain.specs.Drained.{AllFlowEnds}
+use Rattle.drainage.specs.Following.{Directed}
+use Rattle.drainage.specs.Drained.{AllFlowEnds}
 use Rattle.flow.proofs.Together.{directed_of_view, exits_of_view}
 use Rattle.flow.proofs.flowing.ExitTilesWork.run.Goals as goal
 

@@ -1,5 +1,0 @@
-use Rattle.ascii_grid.proofs.FilledTwice.{filled_twice}
-use Rattle.ascii_grid.proofs.laws.filled_twice_is_filled.Goals as goal
-
-pub returns : goal.returns
-returns c = filled_twice

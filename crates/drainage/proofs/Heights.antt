@@ -1,0 +1,71 @@
+-- Crests and filled heights among the heights of a terrain.
+use Rattle.std.proofs.Common.{◌≡◌, ℕ, List, [], ◌∷◌, length, get_or, Option, None, Some, ℤ, pos, ◌≤ℤ◌, sym, subst, refl, ◌∙◌, arith, ◌⊎◌, inl, inr}
+use Rattle.std.specs.Prelude.{unwrap_or, Contains, IsSome, int_lt}
+use Rattle.std.specs.Int.{int_max}
+use Rattle.std.proofs.lemmas.Bool.{cases_lt, cases_Bool, cond-true, cond-false}
+use Rattle.std.proofs.lemmas.Int.{ints, clamps}
+use Rattle.std.proofs.lemmas.List.{get_or_past, get_or_default}
+use Rattle.ascii_grid.specs.Raster.{Terrain}
+use Rattle.ascii_grid.specs.Neighbours.{height_at, IsDataCell, index_of, height_of}
+use Rattle.drainage.specs.Filled.{IsPath, crest, IsFilledHeight}
+use Rattle.ascii_grid.specs.declared.place.Place.{Place}
+use Rattle.ascii_grid.proofs.Places.{entry-inside, inside_from_entry}
+
+-- the greater of two is one of them, and below neither
+pub max_left : (x y : ℤ) → x ≤ℤ int_max x y
+max_left x y = omega (arith, ints, clamps)
+
+pub max_right : (x y : ℤ) → y ≤ℤ int_max x y
+max_right x y = omega (arith, ints, clamps)
+
+pub max_least : (x y z : ℤ) → x ≤ℤ z → y ≤ℤ z → int_max x y ≤ℤ z
+max_least x y z a b = omega (arith, ints, clamps, a, b)
+
+max_cases : (x y : ℤ) → (int_max x y ≡ x) ⊎ (int_max x y ≡ y)
+max_cases x y = elim (cases_Bool (int_lt y x)) [
+  | inl t ↦ inl (cond-true (int_lt y x) x y t)
+  | inr f ↦ inr (cond-false (int_lt y x) x y f)
+]
+
+-- what a list has at a place stands in it
+contains_at : (xs : List (Option ℤ)) (i : ℕ) (h : ℤ) → get_or xs i None ≡ Some h → Contains xs (Some h)
+contains_at xs i h e = elim (cases_lt i (length xs)) [
+  | inl k ↦ (i, k, get_or_default xs i (Some h) None k ∙ e)
+  | inr n ↦ let past = get_or_past xs i None n in absurd (cc)
+]
+
+height_stands : (t : Terrain) (p : Place) (h : ℤ) → height_at t p ≡ Some h → Contains t.cells (Some h)
+height_stands t p h e =
+    let inside = inside_from_entry t.cols t.rows t.cells p h e in
+    contains_at t.cells (index_of t.cols p) h (sym (entry-inside t.cols t.rows t.cells p inside.0 inside.1) ∙ e)
+
+-- a data cell has its height
+pub known : (o : Option ℤ) → IsSome o → o ≡ Some (unwrap_or o (pos 0))
+known None h = absurd (cc)
+known (Some x) h = refl
+
+data_stands : (t : Terrain) (p : Place) → IsDataCell t p → Contains t.cells (Some (height_of t p))
+data_stands t p h = height_stands t p (height_of t p) (known (height_at t p) h)
+
+-- the crest of a path is a height
+pub crest_stands : (t : Terrain) (p : Place) (rest : List Place) → IsPath t p rest → Contains t.cells (Some (crest t p rest))
+crest_stands t p [] path = data_stands t p path.0
+crest_stands t p (q ∷ rest) path = elim (max_cases (height_of t p) (crest t q rest)) [
+  | inl e ↦ subst (λ h. Contains t.cells (Some h)) (sym e) (data_stands t p path.0.from_data)
+  | inr e ↦ subst (λ h. Contains t.cells (Some h)) (sym e) (crest_stands t q rest path.1)
+]
+
+pub filled_height_stands : (t : Terrain) (p : Place) (level : ℤ) → IsFilledHeight t p level → Contains t.cells (Some level)
+filled_height_stands t p level h = subst (λ l. Contains t.cells (Some l)) h.reached.2 (crest_stands t p h.reached.0 h.reached.1)
+
+-- a path begins at a data cell
+pub first_is_data : (t : Terrain) (p : Place) (rest : List Place) → IsPath t p rest → IsDataCell t p
+first_is_data t p [] path = path.0
+first_is_data t p (q ∷ rest) path = path.0.from_data
+
+pub height_below_crest : (t : Terrain) (p : Place) (rest : List Place) → height_of t p ≤ℤ crest t p rest
+height_below_crest t p [] = omega (arith, ints)
+height_below_crest t p (q ∷ rest) = max_left (height_of t p) (crest t q rest)
+
+pub trans : (x y z : ℤ) → x ≤ℤ y → y ≤ℤ z → x ≤ℤ z
+trans x y z a b = omega (arith, ints, a, b)

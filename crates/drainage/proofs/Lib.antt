@@ -1,0 +1,9 @@
+-- filled heights: one, those of the terrain, filled once and for all, and there at each cell
+pub mod Uniqueness
+pub mod Heights
+pub mod FilledTwice
+pub mod Reach
+pub mod FilledExists
+-- flow paths end
+pub mod Pigeonhole
+pub mod Ends

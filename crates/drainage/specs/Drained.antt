@@ -1,0 +1,37 @@
+-- A map of directions, and why each flow path ends.
+use Rattle.std.specs.Prelude.{◌≡◌, ◌≢◌, ℕ, ◌*◌, ◌<◌, ◌⊎◌, ◌<ℤ◌, List, length, Option, Some, is_some}
+use Rattle.ascii_grid.specs.Raster.{Terrain}
+use Rattle.ascii_grid.specs.Neighbours.{height_at, entry_at, IsDataCell, height_of}
+use Rattle.ascii_grid.specs.Ways.{place_toward}
+use Rattle.ascii_grid.specs.declared.place.Place.{Place}
+use Rattle.drainage.specs.Following.{Directed, code_at, FlowEnds}
+
+-- Filled heights, steps and codes, in row order.
+pub record Drained : Type 0 where
+  pub terrain : Terrain
+  pub steps : List (Option ℕ)
+  pub codes : List (Option ℕ)
+
+abbrev pub directed_of : Drained → Directed
+directed_of d = record { cols = d.terrain.cols; rows = d.terrain.rows; codes = d.codes }
+
+-- The pair of filled height and steps falls from p to q: the height falls, or it stays and the steps fall.
+abbrev pub Falls : Drained → Place → Place → Type 0
+Falls d p q =
+    (height_of d.terrain q <ℤ height_of d.terrain p)
+    ⊎ ((height_at d.terrain q ≡ height_at d.terrain p)
+    × ((m n : ℕ) → entry_at d.terrain.cols d.terrain.rows d.steps p ≡ Some m
+    → entry_at d.terrain.cols d.terrain.rows d.steps q ≡ Some n → n < m))
+
+-- Each code but 0 leads to a data cell, and the pair falls along it.
+pub record IsDraining (d : Drained) : Type 0 where
+  pub codes_size : length d.codes ≡ d.terrain.cols * d.terrain.rows
+  pub steps_size : length d.steps ≡ d.terrain.cols * d.terrain.rows
+  pub same_data : (p : Place) → is_some (code_at (directed_of d) p) ≡ is_some (height_at d.terrain p)
+  pub same_steps : (p : Place) → is_some (entry_at d.terrain.cols d.terrain.rows d.steps p) ≡ is_some (height_at d.terrain p)
+  pub leads : (p : Place) (code : ℕ) → code_at (directed_of d) p ≡ Some code → code ≢ 0 →
+      (q : Place) × (place_toward code p ≡ Some q) × IsDataCell d.terrain q × Falls d p q
+
+-- Every flow path ends at an outlet.
+abbrev pub AllFlowEnds : Directed → Type 0
+AllFlowEnds d = (p : Place) (code : ℕ) → code_at d p ≡ Some code → FlowEnds d p

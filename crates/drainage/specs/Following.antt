@@ -1,0 +1,39 @@
+-- Where water goes from a cell, move by move. A map of directions is a list of codes in row order.
+-- Source: Jenson and Domingue (1988).
+use Rattle.std.specs.Prelude.{◌≡◌, ℕ, zero, suc, ◌*◌, List, Option, Some, unwrap_or, option_and_then}
+use Rattle.ascii_grid.specs.Neighbours.{entry_at}
+use Rattle.ascii_grid.specs.Ways.{place_toward}
+use Rattle.ascii_grid.specs.declared.place.Place.{Place}
+
+-- Codes in rows and columns; None where there is no data.
+pub record Directed : Type 0 where
+  pub cols : ℕ
+  pub rows : ℕ
+  pub codes : List (Option ℕ)
+
+abbrev pub code_at : Directed → Place → Option ℕ
+code_at d p = entry_at d.cols d.rows d.codes p
+
+-- The cell to which the direction of a cell points; an outlet's water stays.
+abbrev pub next : Directed → Place → Place
+next d p = unwrap_or (option_and_then (λ code. place_toward code p) (code_at d p)) p
+
+-- The cell after so many moves.
+abbrev pub follow : Directed → Place → ℕ → Place
+follow d p zero = p
+follow d p (suc k) = next d (follow d p k)
+
+-- No flow path is longer than the grid has cells.
+abbrev pub moves : Directed → ℕ
+moves d = d.cols * d.rows
+
+-- The cell at which the flow path of p ends.
+abbrev pub last_of : Directed → Place → Place
+last_of d p = follow d p (moves d)
+
+abbrev pub IsOutlet : Directed → Place → Type 0
+IsOutlet d p = code_at d p ≡ Some 0
+
+-- The flow path of p ends at an outlet.
+abbrev pub FlowEnds : Directed → Place → Type 0
+FlowEnds d p = IsOutlet d (last_of d p)

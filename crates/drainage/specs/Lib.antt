@@ -1,0 +1,5 @@
+pub mod Filled
+pub mod CodeNumber
+pub mod Following
+pub mod Drained
+pub mod Laws

@@ -1,0 +1,57 @@
+// The code of a direction.
+ghost use Rattle.std.specs.Prelude.{◌≡◌, ◌<◌, Some};
+ghost use Rattle.ascii_grid.specs.Ways.{code_of};
+ghost use Rattle.drainage.specs.CodeNumber.{IsCode};
+
+use std::marker::Model;
+
+/// One of the nine codes: 0 for an outlet, and E 1, SE 2, S 4, SW 8, W 16, NW 32, N 64, NE 128.
+#[derive(Clone, Copy, Debug, PartialEq, Eq)]
+pub struct Code {
+    number: u8,
+}
+
+impl Model for Code {
+    ghost use Rattle.std.specs.Prelude.{ℕ};
+    ghost use Rattle.drainage.specs.CodeNumber.{IsCode};
+
+    ghost Value = { ℕ };
+
+    ghost view = { λ c. c.number };
+
+    ghost invariant = { λ c. IsCode c.number };
+
+    ghost inverse = { λ n. record { number = n } };
+}
+
+/// The codes of the eight ways, in their order.
+const WAY_CODES: [u8; 8] = [1, 2, 4, 8, 16, 32, 64, 128];
+
+impl Code {
+    /// The code of an outlet.
+    #[inline(always)]
+    pub fn outlet() -> Code
+        ensures { result ≡ 0 }
+    {
+        Code { number: 0 }
+    }
+
+    /// The code of a way, counted from 0 in the order of the codes.
+    #[inline(always)]
+    pub fn of_way(way: usize) -> Code
+        requires { way < 8 }
+        ensures { result ≡ code_of (Some way) }
+    {
+        Code {
+            number: WAY_CODES[way],
+        }
+    }
+
+    #[inline(always)]
+    pub fn number(&self) -> u8
+        ensures value { result ≡ self.now }
+        ensures lawful { IsCode self.now }
+    {
+        self.number
+    }
+}

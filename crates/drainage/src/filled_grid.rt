@@ -1,0 +1,41 @@
+// A grid that needs no filling.
+ghost use Rattle.std.specs.Prelude.{◌≡◌};
+ghost use Rattle.drainage.specs.Filled.{IsOwnFilled};
+
+use ascii_grid::Grid;
+use std::marker::Model;
+
+/// A grid whose filled heights are its own.
+#[derive(Drop)]
+pub struct Filled {
+    grid: Grid,
+}
+
+impl Model for Filled {
+    ghost use Rattle.ascii_grid.specs.Raster.{Raster};
+    ghost use Rattle.drainage.specs.Filled.{IsOwnFilled};
+
+    ghost Value = { Raster };
+
+    ghost view = { λ f. f.grid };
+
+    ghost invariant = { λ f. IsOwnFilled f.grid };
+}
+
+impl Filled {
+    /// Takes over a grid in which each cell stands at its filled height.
+    pub fn from_grid(grid: Grid) -> Self
+        requires { IsOwnFilled grid }
+        ensures { result ≡ grid }
+    {
+        Filled { grid }
+    }
+
+    /// The grid.
+    pub fn grid(&self) -> &Grid
+        ensures value { result.now ≡ self.now }
+        ensures own { IsOwnFilled self.now }
+    {
+        &self.grid
+    }
+}

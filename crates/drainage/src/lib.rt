@@ -1,0 +1,11 @@
+//! What the stages of draining hand on: filled heights and directions of flow.
+#![tactic(auto)]
+
+mod code;
+mod direction_map;
+mod filled_grid;
+pub mod laws;
+
+pub use code::Code;
+pub use direction_map::Directions;
+pub use filled_grid::Filled;

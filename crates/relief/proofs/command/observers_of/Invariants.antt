@@ -1,6 +1,0 @@
-use Rattle.std.proofs.Common.{◌≡◌, Some, map, take}
-use Rattle.relief.specs.ObserverWord.{observer_of}
-use Rattle.relief.proofs.command.observers_of.Given as goal
-
-abbrev pub invariant-loop-place : goal.invariant-loop-place
-invariant-loop-place l = map observer_of (map (λ w. w.now) (take l.place l.words)) ≡ map Some l.observers.items

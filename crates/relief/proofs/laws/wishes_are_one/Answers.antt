@@ -1,5 +1,0 @@
-use Rattle.relief.proofs.Wishes.{one_wish}
-use Rattle.relief.proofs.laws.wishes_are_one.Goals as goal
-
-pub returns : goal.returns
-returns c = one_wish

@@ -1,0 +1,92 @@
+-- What words ask for, by the subcommand that `clap` finds in them.
+use Rattle.std.proofs.Common.{◌≡◌, ℕ, List, [], ◌∷◌, length, map, eqb, Option, Some, None, true, false, sym, ap, ap₂, subst, refl, inl, ◌∙◌, Bor, Box}
+use Rattle.std.specs.Prelude.{is_none, option_map}
+use Rattle.std.specs.Box.{box_value}
+use Rattle.std.specs.List.{position}
+use Rattle.std.proofs.lemmas.Option.{none-some, same_Some}
+use Rattle.clap.specs.Words.{App, Row, Text, is_simple, subcommand_of, subcommand_rows, subcommand_rows_of}
+use Rattle.clap.specs.Simple.{HasMatchesOf}
+use Rattle.clap.specs.Faults.{fault_of, is_simple_and_free}
+use Rattle.clap.specs.declared.parser.matches.ArgMatches.{ArgMatches}
+use Rattle.clap.specs.declared.parser.matches.ArgMatches.TheViews.{out-SubCommand}
+use Rattle.clap.specs.declared.parser.matches.SubCommand.{SubCommand}
+use Rattle.clap.proofs.OnLiterals.{clap_on_literals}
+use Rattle.request.specs.CommandLine.{HasBadObserver, HasOptions, Names, WishFor, program_app, words_given}
+use Rattle.request.specs.ObserverWord.{observer_of}
+use Rattle.request.specs.Wish.{AreLimits, Wish}
+use Rattle.request.specs.WordsFaults.{IsBadAfter, IsFaultBy, IsFaultOf, IsNoMap}
+use Rattle.request.specs.declared.words.WordsFault.{WordsFault}
+use Rattle.request.specs.declared.words.WordsFault.TheVariants.{Clap, BadObserver, NoMap}
+use Rattle.request.specs.declared.map.Map.{Map}
+use Rattle.request.proofs.Given.{map_without_bad}
+
+program_simple : is_simple program_app ≡ true
+unfolding clap_on_literals
+program_simple = refl
+
+pub program_free : is_simple_and_free program_app ≡ true
+unfolding clap_on_literals
+program_free = refl
+
+-- the subcommand that the matches have is that of the words
+pub found_in : (app : App) (words : List Text) (m : ArgMatches) → app ≡ program_app → HasMatchesOf app words m → subcommand_of program_app words ≡ subcommand_rows_of m
+found_in app words m is has = ap (λ a. subcommand_of a words) (sym is) ∙ sym (has (ap is_simple is ∙ program_simple)).1
+
+-- the words of matches have no fault
+pub accepted : (app : App) (words : List Text) → app ≡ program_app → (is_simple_and_free app ≡ true → fault_of app words ≡ []) → fault_of program_app words ≡ []
+accepted app words is none = ap (λ a. fault_of a words) (sym is) ∙ none (ap is_simple_and_free is ∙ program_free)
+
+pub named_by : {Z : Type 0} (x : Option (Box SubCommand Z)) (n : Text) (rs : List Row) →
+    Some n ≡ option_map (λ b. (out-SubCommand (box_value b)).name.now) x → Some rs ≡ option_map (λ (p : Text × List Row). p.1) (subcommand_rows x) →
+    subcommand_rows x ≡ Some (n, rs)
+named_by None n rs name rows = absurd (none-some n (sym name))
+named_by (Some b) n rs name rows = ap₂ (λ (k : Text) (r : List Row). Some (k, r)) (sym (same_Some _ _ name)) (sym (same_Some _ _ rows))
+
+module _ (words : List Text) (accepted : fault_of program_app words ≡ []) where
+  pub none_named : subcommand_of program_app words ≡ None → IsFaultOf words NoMap
+  none_named none = (
+    accepted,
+    λ wish w. none-some _ (sym none ∙ w.command.found),
+    λ place bad. none-some _ (sym none ∙ bad.command.found),
+  )
+
+  module _ (n : Text) (rs : List Row) (found : subcommand_of program_app words ≡ Some (n, rs)) where
+    same_found : (p : Text × List Row) → subcommand_of program_app words ≡ Some p → p ≡ (n, rs)
+    same_found p is = same_Some p (n, rs) (sym is ∙ found)
+
+    map_of_wish : (wish : Wish) → WishFor words wish → Names n rs wish.map
+    map_of_wish wish w = subst (λ (p : Text × List Row). Names p.0 p.1 wish.map) (same_found _ w.command.found) w.map
+
+    bad_after : (place : ℕ) → HasBadObserver words place → IsBadAfter n rs place
+    bad_after place bad = subst (λ (p : Text × List Row). IsBadAfter p.0 p.1 place) (same_found _ bad.command.found) (refl, (bad.observers, bad.given, bad.first))
+
+    pub map_refused : (f : WordsFault) → IsFaultBy (IsBadAfter n rs) (IsNoMap n rs) f → IsFaultOf words f
+    map_refused (Clap e) h = inl h
+    map_refused (BadObserver place) h = record {
+      rows = rs;
+      command = record { accepted = accepted; found = found ∙ ap (λ name. Some (name, rs)) h.0 };
+      observers = h.1.0;
+      given = h.1.1;
+      first = h.1.2;
+    }
+    map_refused NoMap h = (accepted, λ wish w. h.0 wish.map (map_of_wish wish w), λ place bad. h.1 place (bad_after place bad))
+
+    pub options_refused : (map : Map) → Names n rs map → ((tile workers scale : ℕ) → AreLimits tile workers scale → HasOptions rs tile workers scale → ⊥) → IsFaultOf words NoMap
+    options_refused map named never = (
+      accepted,
+      λ wish w. never wish.tile wish.workers wish.scale w.limits (subst (λ (p : Text × List Row). HasOptions p.1 wish.tile wish.workers wish.scale) (same_found _ w.command.found) w.options),
+      λ place bad. map_without_bad n rs map place named (bad_after place bad),
+    )
+
+    pub bad_wishes_none : (place : ℕ) → HasBadObserver words place → (wish : Wish) → ¬ WishFor words wish
+    bad_wishes_none place bad wish w = map_without_bad n rs wish.map place (map_of_wish wish w) (bad_after place bad)
+
+    pub one_bad : (place other : ℕ) → HasBadObserver words place → HasBadObserver words other → place ≡ other
+    one_bad place other bad b =
+        let p = bad_after place bad in
+        let q = bad_after other b in
+        same_Some _ _ (sym p.1.2 ∙ ap (λ ws. position (λ word. is_none (observer_of word)) ws) (same_Some _ _ (sym p.1.1 ∙ q.1.1)) ∙ q.1.2)
+
+pub words_given_some : (words : List (Bor Text)) → eqb (length words) 0 ≡ false → words_given (map (λ w. w.now) words) ≡ map (λ w. w.now) words
+words_given_some [] some = absurd (cc)
+words_given_some (w ∷ words) some = refl

@@ -1,0 +1,5 @@
+mod Commas
+mod Commands
+mod Given
+pub mod Asked
+mod Wishes

@@ -1,0 +1,198 @@
+-- Words have one wish, and what a few words ask for.
+use Rattle.std.proofs.Common.{◌≡◌, ◌⊎◌, ◌<◌, ◌^◌, ℕ, List, [], ◌∷◌, length, map, drop, get_or, slice_index, codes, arith, rules, Option, Some, None, sym, ap, ap₂, subst, refl, inl, inr, ◌∙◌}
+use Rattle.std.specs.Prelude.{Any, Vec}
+use Rattle.std.specs.Option.{option_map_or}
+use Rattle.std.specs.Str.Parse.{IsNumeral, digits_value, without_leading_plus}
+use Rattle.std.proofs.lemmas.Option.{same_Some}
+use Rattle.clap.specs.Words.{Row, Text, all_of, one_of, subcommand_of}
+use Rattle.clap.specs.Faults.{fault_of}
+use Rattle.clap.specs.Kinds.{Kinds}
+use Rattle.clap.specs.declared.error.kind.ErrorKind.{ErrorKind}
+use Rattle.clap.specs.declared.error.kind.ErrorKind.TheVariants as kind
+use Rattle.clap.proofs.OnLiterals.{clap_on_literals}
+use Rattle.sight.specs.declared.observer.Observer.{Observer}
+use Rattle.request.specs.CommandLine.{AreCommand, AreRefused, AskForHelp, HasNumber, HasObservers, HasOptions, IsHelp, Names, WishFor, program_app}
+use Rattle.request.specs.Laws.{AreSame, FillAlone, HelpOfView, NoSideOfZero, ViewWithRadius}
+use Rattle.request.specs.ObserverWord.{observer_of}
+use Rattle.request.specs.Wish.{Wish}
+use Rattle.request.specs.declared.map.Map.{Map}
+use Rattle.request.specs.declared.map.Map.TheVariants.{Fill, Flow, Accumulate, Basins, View}
+use Rattle.request.proofs.Given.{same_number}
+
+-- the third letter of a map's name tells the map
+abbrev letter : Map → ℕ
+letter Fill = 108
+letter Flow = 111
+letter Accumulate = 99
+letter Basins = 115
+letter (View observers target radius) = 101
+
+name_letter : (name : Text) (rows : List Row) (m : Map) → Names name rows m → slice_index name 2 ≡ letter m
+name_letter name rows Fill n = ap (λ (t : Text). slice_index t 2) n
+name_letter name rows Flow n = ap (λ (t : Text). slice_index t 2) n
+name_letter name rows Accumulate n = ap (λ (t : Text). slice_index t 2) n
+name_letter name rows Basins n = ap (λ (t : Text). slice_index t 2) n
+name_letter name rows (View observers target radius) n = ap (λ (t : Text). slice_index t 2) n.0
+
+same_somes : (xs ys : List Observer) → map Some xs ≡ map Some ys → xs ≡ ys
+same_somes [] [] e = refl
+same_somes [] (y ∷ ys) e = absurd (cc)
+same_somes (x ∷ xs) [] e = absurd (cc)
+same_somes (x ∷ xs) (y ∷ ys) e = ap₂ (λ (o : Observer) (os : List Observer). o ∷ os) (same_Some x y (ap (λ (zs : List (Option Observer)). get_or zs 0 None) e)) (same_somes xs ys (ap (drop 1) e))
+
+same_observers : (rows : List Row) (xs ys : List Observer) → HasObservers rows xs → HasObservers rows ys → xs ≡ ys
+same_observers rows xs ys a b = same_somes xs ys (sym a.2 ∙ ap (λ words. map observer_of words) (same_Some _ _ (sym a.1 ∙ b.1)) ∙ b.2)
+
+one_letter : (name : Text) (rows : List Row) (m n : Map) → Names name rows m → Names name rows n → letter m ≡ letter n → AreSame m n
+one_letter name rows Fill Fill a b e = refl
+one_letter name rows Fill Flow a b e = absurd (omega arith)
+one_letter name rows Fill Accumulate a b e = absurd (omega arith)
+one_letter name rows Fill Basins a b e = absurd (omega arith)
+one_letter name rows Fill (View observers target radius) a b e = absurd (omega arith)
+one_letter name rows Flow Fill a b e = absurd (omega arith)
+one_letter name rows Flow Flow a b e = refl
+one_letter name rows Flow Accumulate a b e = absurd (omega arith)
+one_letter name rows Flow Basins a b e = absurd (omega arith)
+one_letter name rows Flow (View observers target radius) a b e = absurd (omega arith)
+one_letter name rows Accumulate Fill a b e = absurd (omega arith)
+one_letter name rows Accumulate Flow a b e = absurd (omega arith)
+one_letter name rows Accumulate Accumulate a b e = refl
+one_letter name rows Accumulate Basins a b e = absurd (omega arith)
+one_letter name rows Accumulate (View observers target radius) a b e = absurd (omega arith)
+one_letter name rows Basins Fill a b e = absurd (omega arith)
+one_letter name rows Basins Flow a b e = absurd (omega arith)
+one_letter name rows Basins Accumulate a b e = absurd (omega arith)
+one_letter name rows Basins Basins a b e = refl
+one_letter name rows Basins (View observers target radius) a b e = absurd (omega arith)
+one_letter name rows (View observers target radius) Fill a b e = absurd (omega arith)
+one_letter name rows (View observers target radius) Flow a b e = absurd (omega arith)
+one_letter name rows (View observers target radius) Accumulate a b e = absurd (omega arith)
+one_letter name rows (View observers target radius) Basins a b e = absurd (omega arith)
+one_letter name rows (View observers target radius) (View others height reach) a b e =
+    (same_observers rows observers.items others.items a.1 b.1, same_number rows (codes "target") target height a.2 b.2, same_number rows (codes "radius") radius reach a.3 b.3)
+
+pub one_wish : (words : List Text) (wish other : Wish) → WishFor words wish → WishFor words other →
+    AreSame wish.map other.map × (wish.tile ≡ other.tile) × (wish.workers ≡ other.workers) × (wish.scale ≡ other.scale)
+one_wish words wish other a b =
+    let command = same_Some _ _ (sym b.command.found ∙ a.command.found) in
+    let map = subst (λ (p : Text × List Row). Names p.0 p.1 other.map) command b.map in
+    let options = subst (λ (p : Text × List Row). HasOptions p.1 other.tile other.workers other.scale) command b.options in (
+      one_letter a.name a.rows wish.map other.map a.map map (sym (name_letter a.name a.rows wish.map a.map) ∙ name_letter a.name a.rows other.map map),
+      same_number a.rows (codes "tile") _ _ a.options.0 options.0,
+      same_number a.rows (codes "workers") _ _ a.options.1 options.1,
+      same_number a.rows (codes "scale") _ _ a.options.2 options.2,
+    )
+
+none_any : (P : ErrorKind → Type 0) (ks : Kinds) → ks ≡ [] → Any P ks → ⊥
+none_any P ks none any = let some = subst (Any P) none any in absurd (omega (arith, some.2))
+
+pub wish_accepted : (words : List Text) (wish : Wish) → WishFor words wish → ¬ AskForHelp words × ¬ AreRefused words
+wish_accepted words wish w = (
+  none_any IsHelp _ w.command.accepted,
+  λ refused. elim refused [ inl fault ↦ none_any (λ kind. ¬ IsHelp kind) _ w.command.accepted fault | inr none ↦ none.1 wish w ],
+)
+
+-- ---- a few words
+
+abbrev rows_in : List Text → List Row
+rows_in words = option_map_or (λ p. p.1) (subcommand_of program_app words) []
+
+spelled : (rows : List Row) (id text : Text) (n : ℕ) → one_of id rows ≡ Some text → IsNumeral 10 (without_leading_plus text) → digits_value 10 (without_leading_plus text) ≡ n → n < 2 ^ 32 → HasNumber rows id n
+spelled rows id text n given numeral value small = record { text = text; given = given; numeral = numeral; spelled = value; small = small }
+
+abbrev fill_words : List Text
+fill_words = codes "relief" ∷ codes "fill" ∷ []
+
+fill_accepted : fault_of program_app fill_words ≡ []
+unfolding clap_on_literals
+fill_accepted = refl
+
+fill_found : subcommand_of program_app fill_words ≡ Some (codes "fill", rows_in fill_words)
+unfolding clap_on_literals
+fill_found = refl
+
+fill_tile : one_of (codes "tile") (rows_in fill_words) ≡ Some (codes "256")
+unfolding clap_on_literals
+fill_tile = refl
+
+numeral_256 : IsNumeral 10 (without_leading_plus (codes "256"))
+numeral_256 = search rules
+
+value_256 : digits_value 10 (without_leading_plus (codes "256")) ≡ 256
+value_256 = refl
+
+fill_workers : one_of (codes "workers") (rows_in fill_words) ≡ Some (codes "1")
+unfolding clap_on_literals
+fill_workers = refl
+
+fill_scale : one_of (codes "scale") (rows_in fill_words) ≡ Some (codes "0")
+unfolding clap_on_literals
+fill_scale = refl
+
+pub fill_alone : FillAlone
+fill_alone = record {
+  name = codes "fill";
+  rows = rows_in fill_words;
+  command = record { accepted = fill_accepted; found = fill_found };
+  map = refl;
+  options = (
+    spelled _ (codes "tile") (codes "256") 256 fill_tile (search rules) refl (omega arith),
+    spelled _ (codes "workers") (codes "1") 1 fill_workers (search rules) refl (omega arith),
+    spelled _ (codes "scale") (codes "0") 0 fill_scale (search rules) refl (omega arith),
+  );
+  limits = search rules;
+}
+
+abbrev view_words : List Text
+view_words = codes "relief" ∷ codes "view" ∷ codes "--radius" ∷ codes "5" ∷ codes "1,2,3" ∷ []
+
+view_accepted : fault_of program_app view_words ≡ []
+unfolding clap_on_literals
+view_accepted = refl
+
+view_found : subcommand_of program_app view_words ≡ Some (codes "view", rows_in view_words)
+unfolding clap_on_literals
+view_found = refl
+
+view_values : (one_of (codes "tile") (rows_in view_words) ≡ Some (codes "256")) × (one_of (codes "workers") (rows_in view_words) ≡ Some (codes "1"))
+    × (one_of (codes "scale") (rows_in view_words) ≡ Some (codes "0")) × (one_of (codes "target") (rows_in view_words) ≡ Some (codes "0"))
+    × (one_of (codes "radius") (rows_in view_words) ≡ Some (codes "5")) × (all_of (codes "observers") (rows_in view_words) ≡ Some (codes "1,2,3" ∷ []))
+unfolding clap_on_literals
+view_values = (refl, refl, refl, refl, refl, refl)
+
+view_observer : observer_of (codes "1,2,3") ≡ Some (record { row = 1; col = 2; eye = 3 })
+view_observer = refl
+
+pub view_with_radius : ViewWithRadius
+view_with_radius observers one = record {
+  name = codes "view";
+  rows = rows_in view_words;
+  command = record { accepted = view_accepted; found = view_found };
+  map = (
+    refl,
+    (codes "1,2,3" ∷ [], view_values.5, ap (λ o. o ∷ []) view_observer ∙ ap (λ (os : List Observer). map Some os) (sym one)),
+    spelled _ (codes "target") (codes "0") 0 view_values.3 (search rules) refl (omega arith),
+    spelled _ (codes "radius") (codes "5") 5 view_values.4 (search rules) refl (omega arith),
+  );
+  options = (
+    spelled _ (codes "tile") (codes "256") 256 view_values.0 (search rules) refl (omega arith),
+    spelled _ (codes "workers") (codes "1") 1 view_values.1 (search rules) refl (omega arith),
+    spelled _ (codes "scale") (codes "0") 0 view_values.2 (search rules) refl (omega arith),
+  );
+  limits = search rules;
+}
+
+tile_fault : fault_of program_app (codes "relief" ∷ codes "fill" ∷ codes "--tile" ∷ codes "0" ∷ []) ≡ kind.ValueValidation ∷ []
+unfolding clap_on_literals
+tile_fault = refl
+
+pub no_side_of_zero : NoSideOfZero
+no_side_of_zero =
+    inl (subst (Any (λ k. ¬ IsHelp k)) (sym tile_fault) (0, kind.ValueValidation, omega arith, refl, λ help. elim help [ inl same ↦ cc | inr same ↦ cc ]))
+
+help_fault : fault_of program_app (codes "relief" ∷ codes "view" ∷ codes "--help" ∷ []) ≡ kind.DisplayHelp ∷ []
+unfolding clap_on_literals
+help_fault = refl
+
+pub help_of_view : HelpOfView
+help_of_view = subst (Any IsHelp) (sym help_fault) (0, kind.DisplayHelp, omega arith, refl, inl refl)

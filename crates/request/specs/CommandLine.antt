@@ -1,0 +1,141 @@
+-- The words of the command line, as `clap` reads them.
+use Rattle.std.specs.Prelude.{◌≡◌, ◌⊎◌, ℕ, ◌<◌, ◌^◌, pos, true, false, List, [], ◌∷◌, map, Some, codes, Any, is_none}
+use Rattle.std.specs.List.{position}
+use Rattle.std.specs.Str.Parse.{IsNumeral, digits_value, without_leading_plus}
+use Rattle.clap.specs.Lexer.{usize_max}
+use Rattle.clap.specs.Words.{App, Row, Rule, Shape, Text, all_of, new_rule, one_of, subcommand_of}
+use Rattle.clap.specs.Simple.{new_shape}
+use Rattle.clap.specs.Faults.{fault_of}
+use Rattle.clap.specs.declared.builder.action.ArgAction.TheVariants.{Append}
+use Rattle.clap.specs.declared.builder.value_parser.ValueParser.{ValueParser}
+use Rattle.clap.specs.declared.builder.value_parser.ValueParser.TheVariants.{Signed}
+use Rattle.clap.specs.declared.error.kind.ErrorKind.{ErrorKind}
+use Rattle.clap.specs.declared.error.kind.ErrorKind.TheVariants.{DisplayHelp, DisplayVersion}
+use Rattle.sight.specs.declared.observer.Observer.{Observer}
+use Rattle.request.specs.declared.map.Map.{Map}
+use Rattle.request.specs.declared.map.Map.TheVariants.{Fill, Flow, Accumulate, Basins, View}
+use Rattle.request.specs.ObserverWord.{observer_of}
+use Rattle.request.specs.Wish.{Wish, IsWish}
+
+-- ---- what the program takes
+
+-- Whole numbers from low to high.
+abbrev pub from_to : ℕ → ℕ → ValueParser
+from_to low high = Signed (pos low) (pos high)
+
+-- An option with one value of these, or the default where it isn't given.
+abbrev pub number_rule : Text → ValueParser → Text → Rule
+number_rule name numbers default = record (new_rule name) {
+  long = Some name;
+  value_names = 1;
+  defaults = default ∷ [];
+  parser = Some numbers;
+}
+
+abbrev pub tile_rule : Rule
+tile_rule = number_rule (codes "tile") (from_to 1 4096) (codes "256")
+
+abbrev pub workers_rule : Rule
+workers_rule = number_rule (codes "workers") (from_to 1 64) (codes "1")
+
+abbrev pub scale_rule : Rule
+scale_rule = number_rule (codes "scale") (from_to 0 6) (codes "0")
+
+abbrev pub target_rule : Rule
+target_rule = number_rule (codes "target") (from_to 0 4294967295) (codes "0")
+
+abbrev pub radius_rule : Rule
+radius_rule = number_rule (codes "radius") (from_to 0 4294967295) (codes "8192")
+
+-- One word or more.
+abbrev pub observers_rule : Rule
+observers_rule = record (new_rule (codes "observers")) {
+  action = Some Append;
+  range = Some (record { start_inclusive = 1; end_inclusive = usize_max });
+  value_names = 1;
+  required = true;
+}
+
+-- A map's name and its options.
+abbrev pub map_shape : Text → Shape
+map_shape name = record (new_shape name) { rules = tile_rule ∷ workers_rule ∷ scale_rule ∷ [] }
+
+abbrev pub view_shape : Shape
+view_shape = record (new_shape (codes "view")) {
+  rules = tile_rule ∷ workers_rule ∷ scale_rule ∷ target_rule ∷ radius_rule ∷ observers_rule ∷ [];
+}
+
+-- The program, which wants one of its subcommands.
+abbrev pub program_app : App
+program_app = record {
+  top = record (new_shape (codes "relief")) { disable_help_subcommand = true; subcommand_required = true; is_leaf = false };
+  subs = map_shape (codes "fill") ∷ map_shape (codes "flow") ∷ map_shape (codes "accumulate")
+      ∷ map_shape (codes "basins") ∷ view_shape ∷ [];
+}
+
+-- ---- what words say
+
+-- What `clap` answers such words with is help, or a version.
+abbrev pub IsHelp : ErrorKind → Type 0
+IsHelp kind = (kind ≡ DisplayHelp) ⊎ (kind ≡ DisplayVersion)
+
+abbrev pub AskForHelp : List Text → Type 0
+AskForHelp words = Any IsHelp (fault_of program_app words)
+
+-- `clap` accepts the words: they are the subcommand of this name, with these values.
+pub record AreCommand (words : List Text) (name : Text) (rows : List Row) : Type 0 where
+  pub accepted : fault_of program_app words ≡ []
+  pub found : subcommand_of program_app words ≡ Some (name, rows)
+
+-- The option's value spells this number of 32 bits.
+pub record HasNumber (rows : List Row) (id : Text) (n : ℕ) : Type 0 where
+  pub text : Text
+  pub given : one_of id rows ≡ Some text
+  pub numeral : IsNumeral 10 (without_leading_plus text)
+  pub spelled : digits_value 10 (without_leading_plus text) ≡ n
+  pub small : n < 2 ^ 32
+
+-- The words after `view` are these observers.
+abbrev pub HasObservers : List Row → List Observer → Type 0
+HasObservers rows observers = (words : List Text) × (all_of (codes "observers") rows ≡ Some words) × (map observer_of words ≡ map Some observers)
+
+-- The subcommand of this name, with these values, is this map.
+abbrev pub Names : Text → List Row → Map → Type 0
+Names name rows Fill = name ≡ codes "fill"
+Names name rows Flow = name ≡ codes "flow"
+Names name rows Accumulate = name ≡ codes "accumulate"
+Names name rows Basins = name ≡ codes "basins"
+Names name rows (View observers target radius) = (name ≡ codes "view") × HasObservers rows observers.items
+    × HasNumber rows (codes "target") target × HasNumber rows (codes "radius") radius
+
+-- The options that each map has.
+abbrev pub HasOptions : List Row → ℕ → ℕ → ℕ → Type 0
+HasOptions rows tile workers scale =
+    HasNumber rows (codes "tile") tile × HasNumber rows (codes "workers") workers × HasNumber rows (codes "scale") scale
+
+-- The words wish for this map, by their subcommand and its options, which are in their limits.
+pub record WishFor (words : List Text) (wish : Wish) : Type 0 where
+  pub name : Text
+  pub rows : List Row
+  pub command : AreCommand words name rows
+  pub map : Names name rows wish.map
+  pub options : HasOptions rows wish.tile wish.workers wish.scale
+  pub limits : IsWish wish
+
+-- `clap` refuses the words, or accepts them where they wish for no map.
+abbrev pub AreRefused : List Text → Type 0
+AreRefused words = Any (λ kind. ¬ IsHelp kind) (fault_of program_app words)
+    ⊎ ((fault_of program_app words ≡ []) × ((wish : Wish) → ¬ WishFor words wish))
+
+-- The first of the words after `view` that is no observer stands at this place from 0.
+pub record HasBadObserver (words : List Text) (place : ℕ) : Type 0 where
+  pub rows : List Row
+  pub command : AreCommand words (codes "view") rows
+  pub observers : List Text
+  pub given : all_of (codes "observers") rows ≡ Some observers
+  pub first : position (λ word. is_none (observer_of word)) observers ≡ Some place
+
+-- The words that the program was started with; where there are none, its name alone.
+abbrev pub words_given : List Text → List Text
+words_given [] = codes "relief" ∷ []
+words_given (word ∷ words) = word ∷ words

@@ -1,0 +1,6 @@
+pub mod Wish
+pub mod ObserverWord
+pub mod CommandLine
+pub mod Commands
+pub mod WordsFaults
+pub mod Laws

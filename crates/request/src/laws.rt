@@ -1,0 +1,32 @@
+// Facts of the definitions alone.
+ghost use Rattle.request.specs.Laws.{FillAlone, HelpOfView, NoSideOfZero, ViewWithRadius, WishesAreAccepted, WishesAreOne};
+
+/// Words have at most one wish.
+pub fn wishes_are_one()
+    ensures { WishesAreOne }
+{}
+
+/// Words that have a wish neither ask for help nor are refused.
+pub fn wishes_are_accepted()
+    ensures { WishesAreAccepted }
+{}
+
+/// `relief fill` wishes for tiles of side 256, one worker and scale 0.
+pub fn fill_alone()
+    ensures { FillAlone }
+{}
+
+/// `relief view --radius 5 1,2,3` wishes for what the observer at row 1 and column 2 sees from height 3.
+pub fn view_with_radius()
+    ensures { ViewWithRadius }
+{}
+
+/// `relief fill --tile 0` is refused.
+pub fn no_side_of_zero()
+    ensures { NoSideOfZero }
+{}
+
+/// `relief view --help` asks for help.
+pub fn help_of_view()
+    ensures { HelpOfView }
+{}

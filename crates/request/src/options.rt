@@ -1,0 +1,77 @@
+// What the caller asks for.
+ghost use Rattle.std.specs.Prelude.{◌≡◌, IfSome, IfNone};
+ghost use Rattle.request.specs.Wish.{AreLimits};
+
+use crate::map::Map;
+use std::marker::Model;
+
+/// A map, a tile's side in cells, a number of workers and a scale, each in its limits.
+#[derive(Drop)]
+pub struct Options {
+    map: Map,
+    tile: u32,
+    workers: u32,
+    scale: u8,
+}
+
+impl Model for Options {
+    ghost use Rattle.request.specs.Wish.{Wish, IsWish};
+
+    ghost Value = { Wish };
+
+    ghost view = { λ o. record { map = o.map; tile = o.tile; workers = o.workers; scale = o.scale } };
+
+    ghost invariant = { λ o. IsWish (record { map = o.map; tile = o.tile; workers = o.workers; scale = o.scale }) };
+}
+
+impl Options {
+    /// None exactly where the tile's side (1 to 4,096), the workers (1 to 64) or the scale (0 to 6) is
+    /// outside its limits.
+    pub fn new(map: Map, tile: u32, workers: u32, scale: u8) -> Option<Self>
+        ensures some { IfSome result (λ o. o ≡ record { map = map; tile = tile; workers = workers; scale = scale }) }
+        ensures limits { IfSome result (λ _. AreLimits tile workers scale) }
+        ensures none { IfNone result (AreLimits tile workers scale → ⊥) }
+    {
+        if (1..=4096).contains(&tile) && (1..=64).contains(&workers) && scale <= 6 {
+            Some(Options {
+                map,
+                tile,
+                workers,
+                scale,
+            })
+        } else {
+            None
+        }
+    }
+
+    /// The map that is asked for.
+    pub fn map(&self) -> &Map
+        ensures { result.now ≡ self.now.map }
+    {
+        &self.map
+    }
+
+    /// The side of the tiles, in cells.
+    pub fn tile(&self) -> u32
+        ensures value { result ≡ self.now.tile }
+        ensures limits { AreLimits self.now.tile self.now.workers self.now.scale }
+    {
+        self.tile
+    }
+
+    /// The number of workers.
+    pub fn workers(&self) -> u32
+        ensures value { result ≡ self.now.workers }
+        ensures limits { AreLimits self.now.tile self.now.workers self.now.scale }
+    {
+        self.workers
+    }
+
+    /// The scale at which heights are read.
+    pub fn scale(&self) -> u8
+        ensures value { result ≡ self.now.scale }
+        ensures limits { AreLimits self.now.tile self.now.workers self.now.scale }
+    {
+        self.scale
+    }
+}

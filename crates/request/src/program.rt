@@ -1,0 +1,125 @@
+// The subcommands and options of the program.
+ghost use Rattle.std.specs.Prelude.{◌≡◌, IfOk};
+ghost use Rattle.clap.specs.Words.{app_of};
+ghost use Rattle.request.specs.CommandLine.{map_shape, number_rule, observers_rule, program_app, radius_rule, scale_rule, target_rule, tile_rule, view_shape, workers_rule};
+ghost use Rattle.request.specs.Commands.{IsArg, IsLeaf, bare_app};
+
+use crate::help::{
+    ABOUT, ACCUMULATE, BASINS, COMMON, EXAMPLES, FILL, FLOW, MapHelp, VIEW, VIEW_WORDS,
+};
+use clap::builder::ValueParser;
+use clap::{Arg, ArgAction, Command, value_parser};
+use std::alloc::{AllocError, Global};
+
+/// An option that takes a number.
+fn number_option<'a>(
+    alloc: Global,
+    name: &'a str,
+    numbers: ValueParser<'a>,
+    default: &'a str,
+    help: &'a str,
+) -> Arg<'a>
+    ensures { IsArg (number_rule name.entry.now numbers.entry default.entry.now) result }
+{
+    Arg::new(alloc, name)
+        .long(name)
+        .value_name("N")
+        .value_parser(numbers)
+        .default_value(default)
+        .help(help)
+}
+
+fn tile_option<'a>(alloc: Global) -> Arg<'a>
+    ensures { IsArg tile_rule result }
+{
+    let help = "Side of the tiles in cells, 1 to 4096; the map is the same for each";
+    let sides = value_parser!(u32).range(1..=4096);
+    number_option(alloc, "tile", sides, "256", help)
+}
+
+fn workers_option<'a>(alloc: Global) -> Arg<'a>
+    ensures { IsArg workers_rule result }
+{
+    let help = "Number of threads, 1 to 64; the map is the same for each";
+    let counts = value_parser!(u32).range(1..=64);
+    number_option(alloc, "workers", counts, "1", help)
+}
+
+fn scale_option<'a>(alloc: Global) -> Arg<'a>
+    ensures { IsArg scale_rule result }
+{
+    let help = "Decimals of the heights, 0 to 6: heights are whole numbers of 10^-D";
+    let scales = value_parser!(u8).range(0..=6);
+    number_option(alloc, "scale", scales, "0", help)
+}
+
+fn target_option<'a>(alloc: Global) -> Arg<'a>
+    ensures { IsArg target_rule result }
+{
+    let help = "Height of the targets above the ground in units of 10^-D, 0 to 1000000";
+    number_option(alloc, "target", value_parser!(u32), "0", help)
+}
+
+fn radius_option<'a>(alloc: Global) -> Arg<'a>
+    ensures { IsArg radius_rule result }
+{
+    let help = "How far is seen, in cells, 1 to 8192";
+    number_option(alloc, "radius", value_parser!(u32), "8192", help)
+}
+
+/// The words after `view`.
+fn observer_words<'a>(alloc: Global) -> Arg<'a>
+    ensures { IsArg observers_rule result }
+{
+    Arg::new(alloc, "observers")
+        .value_name("ROW,COL,EYE")
+        .required(true)
+        .action(ArgAction::Append)
+        .num_args(1..)
+        .help(VIEW_WORDS)
+}
+
+/// A subcommand with the options that each map has.
+fn map_command<'a>(alloc: Global, name: &'a str, help: MapHelp) -> Result<Command<'a>, AllocError>
+    ensures { IfOk result (IsLeaf (map_shape name.entry.now)) }
+{
+    Command::new(alloc, name)
+        .about(help.about)
+        .long_about(help.details)
+        .after_help(COMMON)
+        .arg(tile_option(alloc))?
+        .arg(workers_option(alloc))?
+        .arg(scale_option(alloc))
+}
+
+fn view_command<'a>(alloc: Global) -> Result<Command<'a>, AllocError>
+    ensures { IfOk result (IsLeaf view_shape) }
+{
+    map_command(alloc, "view", VIEW)?
+        .arg(target_option(alloc))?
+        .arg(radius_option(alloc))?
+        .arg(observer_words(alloc))
+}
+
+/// The program without its subcommands.
+fn bare_program<'a>(alloc: Global) -> Command<'a>
+    ensures { app_of result ≡ bare_app }
+{
+    Command::new(alloc, "relief")
+        .about(ABOUT)
+        .after_help(EXAMPLES)
+        .subcommand_required(true)
+        .disable_help_subcommand(true)
+}
+
+/// The program with a subcommand for each map.
+pub(crate) fn program<'a>(alloc: Global) -> Result<Command<'a>, AllocError>
+    ensures { IfOk result (λ c. app_of c ≡ program_app) }
+{
+    bare_program(alloc)
+        .subcommand(map_command(alloc, "fill", FILL)?)?
+        .subcommand(map_command(alloc, "flow", FLOW)?)?
+        .subcommand(map_command(alloc, "accumulate", ACCUMULATE)?)?
+        .subcommand(map_command(alloc, "basins", BASINS)?)?
+        .subcommand(view_command(alloc)?)
+}

@@ -1,0 +1,151 @@
+// The words of the command line.
+ghost use Rattle.std.specs.Prelude.{◌≡◌, ℕ, map, codes, Some, IfOk, IfErr, IfSome, IfNone};
+ghost use Rattle.clap.specs.Words.{found_of, rows_of};
+ghost use Rattle.request.specs.CommandLine.{HasNumber, HasOptions, Names, WishFor, words_given};
+ghost use Rattle.request.specs.ObserverWord.{observer_of};
+ghost use Rattle.request.specs.Wish.{AreLimits, IsWish};
+ghost use Rattle.request.specs.WordsFaults.{IsBadAfter, IsBadAmong, IsFaultBy, IsFaultOf, IsNoMap, IsWant};
+ghost use Rattle.request.specs.declared.words.WordsFault.TheVariants.{Clap};
+
+use crate::map::Map;
+use crate::observer_word::parse_observer;
+use crate::options::Options;
+use crate::program::program;
+use clap::{ArgMatches, Error};
+use sight::Observer;
+use std::alloc::{AllocError, Global};
+
+static NAME_ALONE: [&str; 1] = ["relief"];
+
+/// Why the words name no map.
+#[derive(Drop)]
+pub enum WordsFault {
+    /// `clap` refuses them, or was asked for its help.
+    Clap(Error),
+    /// The observer word at this place from 0 is none.
+    BadObserver(usize),
+    /// They name no map, which `clap` refuses before.
+    NoMap,
+}
+
+impl From<Error> for WordsFault {
+    ghost from_gives = { λ error fault. fault ≡ Clap error };
+
+    fn from(error: Error) -> Self {
+        WordsFault::Clap(error)
+    }
+}
+
+impl From<AllocError> for WordsFault {
+    ghost from_gives = { λ _ fault. IsWant fault };
+
+    fn from(error: AllocError) -> Self {
+        WordsFault::Clap(Error::from(error))
+    }
+}
+
+/// The number that the value of an option spells; None where it spells none of 32 bits.
+fn number_given(found: &ArgMatches<'_>, id: &str) -> Option<u32>
+    ensures some { IfSome result (HasNumber (rows_of (found_of found.now)) id.now) }
+    ensures none { IfNone result ((n : ℕ) → HasNumber (rows_of (found_of found.now)) id.now n → ⊥) }
+{
+    found.get_one::<u32>(id)
+}
+
+/// The observers that these words are.
+fn observers_of(alloc: Global, words: &[&str]) -> Result<Vec<Observer>, WordsFault>
+    ensures some { IfOk result (λ v. map observer_of (map (λ w. w.now) words.now) ≡ map Some v.items) }
+    ensures none { IfErr result (IsFaultBy (IsBadAmong (map (λ w. w.now) words.now)) ⊥) }
+{
+    let mut observers = Vec::new(alloc);
+    for place in 0..words.len() {
+        let Some(observer) = parse_observer(words[place]) else {
+            return Err(WordsFault::BadObserver(place));
+        };
+        observers.push(observer).map_err(AllocError::from)?;
+    }
+    Ok(observers)
+}
+
+/// The viewshed that is asked for.
+fn view_of(alloc: Global, found: &ArgMatches<'_>) -> Result<Map, WordsFault>
+    ensures some { IfOk result (Names (codes "view") (rows_of (found_of found.now))) }
+    ensures none { IfErr result (IsFaultBy (IsBadAfter (codes "view") (rows_of (found_of found.now)))
+        (IsNoMap (codes "view") (rows_of (found_of found.now)))) }
+{
+    let Some(words) = found.get_strs("observers") else {
+        return Err(WordsFault::NoMap);
+    };
+    let observers = observers_of(alloc, words)?;
+    let Some(target) = number_given(found, "target") else {
+        return Err(WordsFault::NoMap);
+    };
+    let Some(radius) = number_given(found, "radius") else {
+        return Err(WordsFault::NoMap);
+    };
+    Ok(Map::View {
+        observers,
+        target,
+        radius,
+    })
+}
+
+/// The map of this name.
+fn map_of(alloc: Global, name: &str, found: &ArgMatches<'_>) -> Result<Map, WordsFault>
+    ensures some { IfOk result (Names name.now (rows_of (found_of found.now))) }
+    ensures none { IfErr result (IsFaultBy (IsBadAfter name.now (rows_of (found_of found.now)))
+        (IsNoMap name.now (rows_of (found_of found.now)))) }
+{
+    match name {
+        "fill" => Ok(Map::Fill),
+        "flow" => Ok(Map::Flow),
+        "accumulate" => Ok(Map::Accumulate),
+        "basins" => Ok(Map::Basins),
+        "view" => view_of(alloc, found),
+        _ => Err(WordsFault::NoMap),
+    }
+}
+
+/// A map with the options given; None where one of them is not in its limits.
+fn with_options(map: Map, found: &ArgMatches<'_>) -> Option<Options>
+    ensures some { IfSome result (λ o. (o.map ≡ map) × HasOptions (rows_of (found_of found.now)) o.tile o.workers o.scale) }
+    ensures limits { IfSome result IsWish }
+    ensures none { IfNone result ((tile workers scale : ℕ) → AreLimits tile workers scale →
+        HasOptions (rows_of (found_of found.now)) tile workers scale → ⊥) }
+{
+    let tile = number_given(found, "tile")?;
+    let workers = number_given(found, "workers")?;
+    let scale = number_given(found, "scale")?;
+    let Ok(scale) = u8::try_from(scale) else {
+        return None;
+    };
+    Options::new(map, tile, workers, scale)
+}
+
+fn options_asked<'a>(alloc: Global, words: &'a [&'a str]) -> Result<Options, WordsFault>
+    ensures wish { IfOk result (WishFor (map (λ w. w.now) words.entry.now)) }
+    ensures fault { IfErr result (IsFaultOf (map (λ w. w.now) words.entry.now)) }
+{
+    let command = program(alloc)?;
+    let matches = command.try_get_matches_from(words)?;
+    let Some((name, found)) = matches.subcommand() else {
+        return Err(WordsFault::NoMap);
+    };
+    let map = map_of(alloc, name, found)?;
+    match with_options(map, found) {
+        Some(options) => Ok(options),
+        None => Err(WordsFault::NoMap),
+    }
+}
+
+/// The options that a program's words ask for, its name first; an empty list of words is taken for the name alone.
+pub fn parse(alloc: Global, words: &[&str]) -> Result<Options, WordsFault>
+    ensures wish { IfOk result (WishFor (words_given (map (λ w. w.now) words.now))) }
+    ensures fault { IfErr result (IsFaultOf (words_given (map (λ w. w.now) words.now))) }
+{
+    if words.is_empty() {
+        options_asked(alloc, NAME_ALONE.as_slice())
+    } else {
+        options_asked(alloc, words)
+    }
+}
