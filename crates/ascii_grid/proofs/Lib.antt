@@ -1,29 +1,35 @@
+-- places of a grid, and cells one after another
 pub mod Places
-pub mod Reading
-pub mod Writing
+mod Rows
+-- words of a text, and what they are worth
+pub mod Parting
 pub mod Scaled
+pub mod PlainNumbers
+pub mod Cells
+-- one more word: the header, the heights, the first fault
 pub mod Judging
 pub mod JudgedWords
 pub mod Told
-pub mod Parting
+pub mod Stays
+-- a text by pieces, to its end
+pub mod Reading
 pub mod Ending
 pub mod Whole
 pub mod Spelled
-pub mod Stays
 pub mod Feeding
 pub mod Taking
-mod Rows
-pub mod PlainNumbers
-pub mod Cells
+pub mod TextLaws
+-- the written text, and its length
+pub mod Writing
 pub mod Gathering
 pub mod Decimals
 pub mod RowText
 pub mod TextLength
-pub mod ReadBack
+-- the written text, read again
 pub mod ReadBackWords
 pub mod ReadBackDecimals
 pub mod ReadBackNumbers
 pub mod ReadBackHeights
 pub mod ReadBackCells
 pub mod ReadBackHeader
-pub mod TextLaws
+pub mod ReadBack

@@ -1,27 +1,33 @@
+-- worked rows
 mod Rows
+-- steps: one number for each cell, reached where nothing changes
 pub mod Local
 pub mod Tiles
 pub mod Quiet
+pub mod Few
+pub mod Nearby
+pub mod Counted
+-- a round over a tile
 pub mod Spreading
 pub mod Noted
 pub mod Least
 pub mod Spots
 pub mod TileRound
-pub mod Block
-pub mod Ways
-pub mod AroundLemmas
-pub mod Pointing
-pub mod Laid
-pub mod AmidLemmas
-pub mod DrainedLemmas
+-- rounds over all tiles
 pub mod TileLists
 pub mod RoundLemmas
 pub mod Touching
 pub mod Entered
-pub mod Few
-pub mod Unique
-pub mod EachDirection
-pub mod Nearby
-pub mod Counted
+-- the direction of a cell
+pub mod Block
+pub mod Ways
+pub mod AroundLemmas
 pub mod Greatest
 pub mod Weights
+pub mod Pointing
+pub mod Laid
+pub mod AmidLemmas
+pub mod EachDirection
+pub mod Unique
+-- the map of directions
+pub mod DrainedLemmas

@@ -1,25 +1,30 @@
+-- the flood of a net
 mod FloodState
 mod Steps
 mod Heaps
 mod Waits
 mod Noting
+-- a window of cells as a net
 mod CellWays
 mod Borders
 mod Windows
 mod WindowLevels
 mod WholeGrid
 mod TileWindows
+-- the flood of a tile
 mod LabelTables
-mod Ways
-mod Rims
+mod OneCell
+pub mod InnerCells
 mod CellMarks
+-- the spill graph
+mod Ways
 mod Adding
 mod Lowest
 mod SourceCells
 mod Gathered
 mod PartList
 mod GraphWays
+-- raising, and the tiles together
+mod Rims
 mod Raised
 mod Together
-pub mod InnerCells
-mod OneCell

@@ -1,5 +1,12 @@
+-- worked rows
 mod Rows
+-- sums and ranges
 pub mod Sums
+pub mod DoubleSums
+pub mod Windows
+pub mod Ranges
+pub mod Pushing
+-- sending downstream along links
 pub mod Arriving
 pub mod Waiting
 pub mod Moving
@@ -7,29 +14,30 @@ pub mod Settled
 pub mod Stepping
 pub mod Ending
 pub mod EarlyEnds
-pub mod Windows
-pub mod Ranges
+-- flow paths
 pub mod Coded
+pub mod Directed
+pub mod Reaching
+pub mod Gathering
+-- a tile
 pub mod InTile
 pub mod Through
-pub mod Pushing
 pub mod Shown
 pub mod Piece
 pub mod OneTile
-pub mod Directed
-pub mod RimNumbered
-pub mod RimFlows
-pub mod Together
-pub mod RunsCounted
-pub mod Numbered
-pub mod DoubleSums
-pub mod Reaching
-pub mod Gathering
-pub mod RimTotals
-pub mod RimInflows
-pub mod TileTotals
-pub mod RimAdded
-pub mod Counted
-pub mod Linked
 pub mod Listed
 pub mod CodeMasks
+-- from tile to tile over the rims
+pub mod RimNumbered
+pub mod RimFlows
+pub mod RimTotals
+pub mod RimInflows
+pub mod RimAdded
+pub mod Linked
+-- what comes through each cell
+pub mod TileTotals
+pub mod Counted
+pub mod Together
+-- the numbers of outlets
+pub mod RunsCounted
+pub mod Numbered

@@ -1,1 +1,2 @@
 pub mod Pushing
+mod LevelGround

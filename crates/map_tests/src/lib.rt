@@ -6,6 +6,8 @@ mod draining;
 #[cfg(test)]
 mod filling;
 #[cfg(test)]
+mod flats;
+#[cfg(test)]
 mod floods;
 #[cfg(test)]
 mod flows;

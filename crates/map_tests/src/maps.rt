@@ -36,7 +36,7 @@ pub(crate) struct Maps {
 }
 
 /// Whether the values are those of a grid.
-fn agree(values: &[Option<u32>], wanted: &Grid) -> bool {
+pub(crate) fn agree(values: &[Option<u32>], wanted: &Grid) -> bool {
     let cells = wanted.cells();
     values.len() == cells.len()
         && values.iter().zip(cells.iter()).all(|(value, cell)| value.map(i64::from)

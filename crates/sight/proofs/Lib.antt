@@ -1,17 +1,23 @@
+-- worked rows
 mod Rows
+-- a line of sight, step by step
 pub mod Ground
 pub mod Toward
+pub mod OnTheLine
 pub mod Levels
 pub mod Steps
 pub mod Ranges
+-- its crossings, from either end
 pub mod Crossings
 pub mod Back
 pub mod Seen
-pub mod LowBlocks
+-- blocks of cells below the line
 pub mod BlockTops
+pub mod LowBlocks
+-- observers and refusals
 pub mod Faultless
+pub mod Refused
+-- the viewshed
 pub mod TileValues
 pub mod Whole
-pub mod Refused
 pub mod Uniqueness
-pub mod OnTheLine

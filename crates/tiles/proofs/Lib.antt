@@ -1,10 +1,13 @@
+-- cutting
 pub mod Quotients
 pub mod Cut
-pub mod RimSteps
-pub mod Shown
-pub mod SliceGet
-pub mod PutBack
-pub mod Outer
 pub mod TileOrder
+-- rims and neighbours in other tiles
+pub mod RimSteps
+pub mod Outer
 pub mod Members
+-- views and putting back
+pub mod SliceGet
+pub mod Shown
 pub mod TileRows
+pub mod PutBack

@@ -1,0 +1,5 @@
+use Rattle.map_tests.proofs.LevelGround.{AreBegunBelow}
+use Rattle.map_tests.proofs.flats.begun.Given as goal
+
+abbrev pub invariant-loop-index : goal.invariant-loop-index
+invariant-loop-index l = AreBegunBelow l.grid.terrain l.index l.counts.items
