@@ -15,7 +15,7 @@ use tile_jobs::NoGate;
 use tiles::Tiling;
 
 /// The flow of each tile, in tile order.
-fn flows_of(alloc: Global, tiling: &Tiling, ways: &Directions) -> Result<Vec<TileFlow>, NoMemory>
+pub(crate) fn flows_of(alloc: Global, tiling: &Tiling, ways: &Directions) -> Result<Vec<TileFlow>, NoMemory>
     requires cuts { Cuts tiling.now ways.now.terrain }
     requires ends { AllFlowEnds (directed_of ways.now) }
     ensures { IfOk result (λ v. AreTileFlows (directed_of ways.now) tiling.now v.items) }
@@ -31,7 +31,7 @@ fn flows_of(alloc: Global, tiling: &Tiling, ways: &Directions) -> Result<Vec<Til
 }
 
 /// The links over the rims of these flows.
-fn links_of<'a>(
+pub(crate) fn links_of<'a>(
     alloc: Global,
     tiling: &Tiling,
     ways: &Directions,
@@ -54,11 +54,15 @@ fn expect_tile_flows(rt: &impl Abort, flows: &[TileFlow]) {
     assert_eq!(rt; flows[1].exit(exit), None);
 }
 
-/// What comes in over the rim at a column of the first row, and where the water of that cell ends.
-fn link_at(rt: &impl Abort, tiling: &Tiling, links: &RimLinks<'_>, col: u32) -> (u32, Option<Place>)
+/// What comes in over the rim at a place, and where the water of an exit ends.
+pub(crate) fn link_at(
+    rt: &impl Abort,
+    tiling: &Tiling,
+    links: &RimLinks<'_>,
+    place: Place,
+) -> (u32, Option<Place>)
     requires { links.now.cutting ≡ tiling.now }
 {
-    let place = Place { row: 0, col };
     assert!(rt; place.row < tiling.rows());
     assert!(rt; place.col < tiling.cols());
     (links.inflow(place), links.outlet(place))
@@ -74,7 +78,9 @@ fn slope_in_tiles_and_joined(rt: HostRuntime) {
     let flows = flows_of(alloc, &tiling, &ways).expect(&rt, "flows");
     expect_tile_flows(&rt, &flows);
     let links = links_of(alloc, &tiling, &ways, &flows).expect(&rt, "links");
-    assert_eq!(rt; link_at(&rt, &tiling, &links, 2), (4, None));
+    let beyond = Place { row: 0, col: 2 };
+    assert_eq!(rt; link_at(&rt, &tiling, &links, beyond), (4, None));
+    let exit = Place { row: 0, col: 1 };
     let outlet = Place { row: 0, col: 5 };
-    assert_eq!(rt; link_at(&rt, &tiling, &links, 1), (0, Some(outlet)));
+    assert_eq!(rt; link_at(&rt, &tiling, &links, exit), (0, Some(outlet)));
 }
