@@ -21,7 +21,7 @@ mod Ways
 mod Adding
 mod Lowest
 mod SourceCells
-mod Gathered
+pub mod Gathered
 mod PartList
 mod GraphWays
 -- raising, and the tiles together

@@ -1,8 +1,8 @@
 // Flow inside tiles, and over their rims.
-ghost use Rattle.std.specs.Prelude.{◌≡◌, IfOk};
+ghost use Rattle.std.specs.Prelude.{◌≡◌, ◌<◌, IfOk};
 ghost use Rattle.drainage.specs.Drained.{AllFlowEnds, directed_of};
-ghost use Rattle.flow.specs.TileFlow.{AreTileFlows};
-ghost use Rattle.tiles.specs.Cutting.{Cuts};
+ghost use Rattle.flow.specs.TileFlow.{IsTileFlow, AreTileFlows};
+ghost use Rattle.tiles.specs.Cutting.{Cuts, tile_count};
 
 use crate::ground::{cut, land};
 use ascii_grid::{NoMemory, Place};
@@ -14,6 +14,21 @@ use std::process::Abort;
 use tile_jobs::NoGate;
 use tiles::Tiling;
 
+/// The flow of a tile.
+pub(crate) fn flow_of(
+    alloc: Global,
+    tiling: &Tiling,
+    ways: &Directions,
+    tile: u32,
+) -> Result<TileFlow, NoMemory>
+    requires cuts { Cuts tiling.now ways.now.terrain }
+    requires ends { AllFlowEnds (directed_of ways.now) }
+    requires tile { tile < tile_count tiling.now }
+    ensures { IfOk result (λ f. IsTileFlow (directed_of ways.now) tiling.now tile f) }
+{
+    tile_flow(alloc, &tiling.view(ways.codes(), tile))
+}
+
 /// The flow of each tile, in tile order.
 pub(crate) fn flows_of(alloc: Global, tiling: &Tiling, ways: &Directions) -> Result<Vec<TileFlow>, NoMemory>
     requires cuts { Cuts tiling.now ways.now.terrain }
@@ -22,7 +37,7 @@ pub(crate) fn flows_of(alloc: Global, tiling: &Tiling, ways: &Directions) -> Res
 {
     let mut flows = Vec::new(alloc);
     for tile in 0..tiling.tiles() {
-        let flow = tile_flow(alloc, &tiling.view(ways.codes(), tile))?;
+        let flow = flow_of(alloc, tiling, ways, tile)?;
         if flows.push(flow).is_err() {
             return Err(NoMemory);
         }

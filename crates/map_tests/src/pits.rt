@@ -1,12 +1,13 @@
 // Calls that take memory, on a small grid of pits. One that is refused is made once more, with memory.
+ghost use Rattle.std.specs.Prelude.{◌≡◌, ◌<◌, ◌*◌, length};
+ghost use Rattle.fill.specs.Spills.{AreFloods};
 
 use crate::filling::floods_of;
-use crate::flows::{flows_of, link_at, links_of};
+use crate::flows::{flow_of, flows_of, link_at, links_of};
 use crate::ground::{cut, land};
-use ascii_grid::{Grid, Height, Place};
+use ascii_grid::{Grid, Height, NoMemory, Place};
 use drain::directions;
-use fill::{CellNet, SpillGraph, filled, flood, raise, tile_flood};
-use flow::tile_flow;
+use fill::{CellNet, SpillGraph, TileFlood, filled, flood, raise, tile_flood};
 use std::alloc::Global;
 use std::process::Abort;
 use tile_jobs::NoGate;
@@ -67,6 +68,21 @@ fn flood_of_the_grid(rt: HostRuntime) {
     assert_eq!(rt; flooded.label.get(14), Some(&Some(28)));
 }
 
+/// The filled heights of the first tile.
+fn raise_first(
+    alloc: Global,
+    grid: &Grid,
+    tiling: &Tiling,
+    floods: &[TileFlood],
+    levels: &[Option<Height>],
+) -> Result<Vec<Option<Height>>, NoMemory>
+    requires some { 0 < length floods.now }
+    requires floods { AreFloods grid.now.terrain tiling.now floods.now }
+    requires size { length levels.now ≡ tiling.now.cols * tiling.now.rows }
+{
+    raise(alloc, tiling, &floods[0], levels)
+}
+
 #[test]
 fn floods_of_tiles_and_their_graph(rt: HostRuntime) {
     let alloc = rt.alloc();
@@ -82,7 +98,7 @@ fn floods_of_tiles_and_their_graph(rt: HostRuntime) {
     let spills = [H, H, H, H, H, C, H, H, H, H, C, H, H, H, H, C];
     assert_eq!(rt; levels.as_slice(), spills.as_slice());
     assert!(rt; levels.len() == tiling.cols() as usize * tiling.rows() as usize);
-    let raised = again!(&rt, raise(alloc, &tiling, &floods[0], &levels));
+    let raised = again!(&rt, raise_first(alloc, &pits, &tiling, &floods, &levels));
     assert_eq!(rt; raised.as_slice(), [H, H, H, C].as_slice());
 }
 
@@ -95,7 +111,7 @@ fn flows_of_tiles_and_their_links(rt: HostRuntime) {
     let ways = directions(&rt, alloc, &level, &tiling, 1, &NoGate).expect(&rt, "directions");
     let flows = flows_of(alloc, &tiling, &ways).expect(&rt, "flows");
     assert_eq!(rt; (flows.len(), tiling.tiles()), (4, 4));
-    let first = again!(&rt, tile_flow(alloc, &tiling.view(ways.codes(), 0)));
+    let first = again!(&rt, flow_of(alloc, &tiling, &ways, 0));
     let pit = Place { row: 1, col: 1 };
     assert_eq!(rt; (first.exit(pit), first.through(pit)), (Some(pit), Some(3)));
     let is_refused = links_of(alloc, &tiling, &ways, &flows).is_err();
