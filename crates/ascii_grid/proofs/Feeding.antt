@@ -31,7 +31,7 @@ few_words text h = rw (le-leb (length text) most_bytes h) refl
 many_words : (text : List ℕ) → most_bytes < length text → judged_words text ≡ ended_words (take most_bytes text)
 many_words text h = rw (lt-leb (length text) most_bytes h) refl
 
-few_fault : (d : ℕ) (text : List ℕ) → length text ≤ most_bytes → text_fault d text ≡ option_or (words_fault d (words text)) (end_fault (words text))
+pub few_fault : (d : ℕ) (text : List ℕ) → length text ≤ most_bytes → text_fault d text ≡ option_or (words_fault d (words text)) (end_fault (words text))
 few_fault d text h = rw (le-leb (length text) most_bytes h) refl
 
 few_so_far : (d : ℕ) (text : List ℕ) → length text ≤ most_bytes → fault_so_far d text ≡ words_fault d (ended_words text)
@@ -40,7 +40,7 @@ few_so_far d text h = rw (le-leb (length text) most_bytes h) refl
 pub many_so_far : (d : ℕ) (text : List ℕ) → most_bytes < length text → fault_so_far d text ≡ option_or (words_fault d (ended_words (take most_bytes text))) (Some TooLong)
 many_so_far d text h = rw (lt-leb (length text) most_bytes h) refl
 
-many_fault : (d : ℕ) (text : List ℕ) → most_bytes < length text → text_fault d text ≡ fault_so_far d text
+pub many_fault : (d : ℕ) (text : List ℕ) → most_bytes < length text → text_fault d text ≡ fault_so_far d text
 many_fault d text h = rw (lt-leb (length text) most_bytes h) refl
 
 -- the front that counts of a longer text
@@ -260,11 +260,3 @@ faultless r text h =
 pub finished : (d : ℕ) (text : List ℕ) (r : Result Raster GridFault) → length text ≤ most_bytes → words_fault d (words text) ≡ None → MatchResult r (λ g. (end_fault (words text) ≡ None) × (g ≡ grid_of d (words text))) (IsEndFault (words text)) → MatchResult r (IsGridText d text) (IsRefusal d text)
 finished d text r short none m =
     MatchResult-weaker r m (λ g k. spelled d text g short none k.0 k.1) (λ f k. end_told d text f short none k)
-
-pub ok_part : {T E : Type 0} (r : Result T E) (P : T → Type 0) (Q : E → Type 0) → MatchResult r P Q → IfOk r P
-ok_part (Ok x) P Q m = m
-ok_part (Err e) P Q m = tt
-
-pub err_part : {T E : Type 0} (r : Result T E) (P : T → Type 0) (Q : E → Type 0) → MatchResult r P Q → IfErr r Q
-err_part (Ok x) P Q m = tt
-err_part (Err e) P Q m = m

@@ -3,6 +3,7 @@ use Rattle.std.proofs.Common.{◌≡◌, ℕ, ◌+◌, ◌<◌, ◌≤◌, Bool,
 use Rattle.std.specs.Prelude.{MatchOption}
 use Rattle.std.specs.Option.{option_or, option_map_or}
 use Rattle.std.specs.List.{list_any}
+use Rattle.std.proofs.Math.Bool.{or-false}
 use Rattle.std.proofs.lemmas.Bool.{cases_Bool, lt-ltb, le-ltb}
 use Rattle.std.proofs.lemmas.List.{append-nil, append_assoc, map_push, length-map}
 use Rattle.ascii_grid.specs.Words.{Word}
@@ -40,12 +41,11 @@ at_heights j ws h e = at j ws h AtHeights e
 
 -- ---- a key
 
-is_short : (w : Word) → length w ≤ 64 → is_long w ≡ false
-is_short w h = le-ltb 64 (length w) h
+pub same_header : (h h' : Header) (ps : Pairs) → h' ≡ h → IsHeaderOf h ps → IsHeaderOf h' ps
+same_header h h' ps e k = record { keys = k.keys; faultless = k.faultless; slots = e ∙ k.slots }
 
-or-false : (b : Bool) → (b || false) ≡ b
-or-false true = refl
-or-false false = refl
+pub is_short : (w : Word) → length w ≤ 64 → is_long w ≡ false
+is_short w h = le-ltb 64 (length w) h
 
 repeats : (slot : Key) (ps : Pairs) → list_any (fills slot) (keys_before ps []) ≡ is_given (slots_of ps) slot
 repeats slot ps = list_any-keys_before (fills slot) ps [] ∙ or-false _ ∙ sym (is_given-slots_of slot ps)
@@ -72,7 +72,7 @@ judged-key j j' ws w slot h e short letter s free same stage =
       pairs = h.pairs;
       rest = w ∷ [];
       words = ap (λ z. z ++ w ∷ []) (at_key j ws h e);
-      header = record { keys = h.header.keys; faultless = h.header.faultless; slots = same ∙ h.header.slots };
+      header = same_header j.header j'.header h.pairs same h.header;
       at = stand j' h.pairs (w ∷ []) (AtValue slot (is_centre w)) stage (w, refl, awaits);
     }
 
@@ -121,15 +121,23 @@ fault-value j d ws v slot centre h e short bad =
 
 -- ---- heights
 
+pub header_before : (h : Header) (ps : Pairs) (hs : List Word) → IsHeaderOf h ps → HasBegun hs → header_words (flat ps ++ hs) ≡ flat ps
+header_before h ps hs k begun = header_words-flat ps hs k.keys ∙ ap (λ z. flat ps ++ z) (header_words-begun hs begun) ∙ append-nil (flat ps)
+
+pub heights_after : (h : Header) (ps : Pairs) (hs : List Word) → IsHeaderOf h ps → HasBegun hs → height_words (flat ps ++ hs) ≡ hs
+heights_after h ps hs k begun = height_words-flat ps hs k.keys ∙ height_words-begun hs begun
+
+pub paired : (ps : Pairs) → key_left (flat ps) ≡ None
+paired ps = ap key_left (sym (append-nil (flat ps))) ∙ key_left-flat ps []
+
 -- the list of cells is asked for once the header is whole
 pub asks : (h : Header) (ps : Pairs) (hs : List Word) → IsHeaderOf h ps → HasBegun hs → missing_fault (flat ps) ≡ None → list_any is_long (take 1 hs) ≡ false → AsksForCells (flat ps ++ hs)
 asks h ps hs k begun whole first =
-    let header : header_words (flat ps ++ hs) ≡ flat ps = header_words-flat ps hs k.keys ∙ ap (λ z. flat ps ++ z) (header_words-begun hs begun) ∙ append-nil (flat ps) in
-    let heights : height_words (flat ps ++ hs) ≡ hs = height_words-flat ps hs k.keys ∙ height_words-begun hs begun in
-    let paired : key_left (flat ps) ≡ None = ap key_left (sym (append-nil (flat ps))) ∙ key_left-flat ps [] in
+    let header = header_before h ps hs k begun in
+    let heights = heights_after h ps hs k begun in
     record {
       faultless = ap (header_fault []) header ∙ k.faultless;
-      paired = ap key_left header ∙ paired;
+      paired = ap key_left header ∙ paired ps;
       given = ap missing_fault header ∙ whole;
       first = ap (λ z. list_any is_long (take 1 z)) heights ∙ first;
     }
@@ -157,7 +165,7 @@ judged-height j j' ws ps hs w k e begun heights same stage = record {
   pairs = ps;
   rest = hs ++ w ∷ [];
   words = ap (λ z. z ++ w ∷ []) e ∙ append_assoc (flat ps) hs (w ∷ []);
-  header = record { keys = k.keys; faultless = k.faultless; slots = same ∙ k.slots };
+  header = same_header j.header j'.header ps same k;
   at = stand j' ps (hs ++ w ∷ []) AtHeights stage (begun, heights);
 }
 
@@ -209,7 +217,3 @@ AreHeights-push j j' ps hs w h short room ok wanted nodata value scale cells = r
   faultless = rw scale (heights_fault-push j.scale (flat ps) 0 hs w ∙ ap (λ o. option_or o (height_fault j.scale (flat ps) (0 + length hs) w)) h.faultless ∙ height_fault-none j.scale (flat ps) (0 + length hs) w short h.whole (omega (arith, place_of j ps hs h, h.wanted, room)) (ap (λ n. is_cell j.scale n w) (sym h.nodata) ∙ ok));
   cells = cells ∙ rw (scale, nodata) (ap (λ z. z ++ cell_of j.scale j.nodata w ∷ []) h.cells ∙ sym (map_push (cell_of j.scale j.nodata) hs w));
 }
-
-pub cond_none : {X : Type 0} (b : Bool) (x : X) → ◌≡◌ {A = Option X} None (cond b (Some x) None) → b ≡ false
-cond_none true x e = cc
-cond_none false x e = refl

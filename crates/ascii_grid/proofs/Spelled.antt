@@ -21,7 +21,7 @@ use Rattle.ascii_grid.specs.declared.header.Header.{Header}
 use Rattle.ascii_grid.specs.declared.judge.Judge.{Judge}
 use Rattle.ascii_grid.specs.declared.judge.Stage.TheVariants.{AtKey, AtValue, AtHeights}
 use Rattle.ascii_grid.proofs.Judging.{Pairs, pairs-flat, header_words-flat, height_words-flat, key_left-flat, header_words-begun, height_words-begun, is_given-slots_of, missing_of-slots_of, wanted_of-slots_of, number-of_pair}
-use Rattle.ascii_grid.proofs.JudgedWords.{at_key, at_value, at_heights, place_of}
+use Rattle.ascii_grid.proofs.JudgedWords.{at_key, at_value, at_heights, place_of, header_before, heights_after, paired}
 use Rattle.ascii_grid.proofs.Told.{is_memory, told, told_missing}
 use Rattle.ascii_grid.proofs.Whole.{cells_ok, size_between, valid, value_of, IsWhole-from_missing}
 
@@ -32,15 +32,6 @@ header_whole h ps k = ap header_words (sym (append-nil (flat ps))) ∙ header_wo
 
 heights_none : (h : Header) (ps : Pairs) → IsHeaderOf h ps → height_words (flat ps) ≡ []
 heights_none h ps k = ap height_words (sym (append-nil (flat ps))) ∙ height_words-flat ps [] k.keys
-
-pub header_before : (h : Header) (ps : Pairs) (hs : List Word) → IsHeaderOf h ps → HasBegun hs → header_words (flat ps ++ hs) ≡ flat ps
-header_before h ps hs k begun = header_words-flat ps hs k.keys ∙ ap (λ z. flat ps ++ z) (header_words-begun hs begun) ∙ append-nil (flat ps)
-
-pub heights_after : (h : Header) (ps : Pairs) (hs : List Word) → IsHeaderOf h ps → HasBegun hs → height_words (flat ps ++ hs) ≡ hs
-heights_after h ps hs k begun = height_words-flat ps hs k.keys ∙ height_words-begun hs begun
-
-paired : (ps : Pairs) → key_left (flat ps) ≡ None
-paired ps = ap key_left (sym (append-nil (flat ps))) ∙ key_left-flat ps []
 
 -- ---- the fault at the end
 

@@ -1,10 +1,10 @@
 use Rattle.std.proofs.Common.{sym, ap, subst, ◌∙◌}
 use Rattle.std.specs.Prelude.{IfErr, IfOk}
-use Rattle.std.proofs.lemmas.Result.{err_from_is_err_and}
+use Rattle.std.proofs.lemmas.Result.{MatchResult-weaker, err_from_is_err_and}
 use Rattle.ascii_grid.specs.Words.{words}
 use Rattle.ascii_grid.specs.GridText.{IsGridText, IsRefusal}
 use Rattle.ascii_grid.specs.Reader.{HasTaken}
-use Rattle.ascii_grid.proofs.Feeding.{answered, whole_refusal, reading, end_refused, judged_none, finished, ok_part, err_part}
+use Rattle.ascii_grid.proofs.Feeding.{answered, whole_refusal, reading, end_refused, judged_none, finished}
 use Rattle.ascii_grid.proofs.reader.GridReader.finish.Goals as goal
 
 pub returns-in-Some-clause-fault : goal.returns-in-Some-clause-fault
@@ -22,11 +22,11 @@ returns-clause-fault c = λ text h.
     let k = reading _ text c.in_default.is (subst (λ r. HasTaken r text) (sym c.self.view_is) h) in
     let judged = (c.in_ok-end_word.ensures.words text k.words_of).1 in
     let m = finished c.end_word.new.self.judge.scale text c.finish.result k.short (judged_none c.end_word.new.self.judge (words text) judged) (c.finish.ensures (words text) judged) in
-    subst (λ d. IfErr c.finish.result (λ f. IsRefusal d text f)) (c.in_ok-end_word.ensures.scale ∙ ap (λ r. r.scale) c.self.view_is) (err_part c.finish.result _ _ m)
+    subst (λ d. IfErr c.finish.result (λ f. IsRefusal d text f)) (c.in_ok-end_word.ensures.scale ∙ ap (λ r. r.scale) c.self.view_is) (MatchResult-weaker c.finish.result m (λ _ _. tt) (λ _ k. k))
 
 pub returns-clause-grid : goal.returns-clause-grid
 returns-clause-grid c = λ text h.
     let k = reading _ text c.in_default.is (subst (λ r. HasTaken r text) (sym c.self.view_is) h) in
     let judged = (c.in_ok-end_word.ensures.words text k.words_of).1 in
     let m = finished c.end_word.new.self.judge.scale text c.finish.result k.short (judged_none c.end_word.new.self.judge (words text) judged) (c.finish.ensures (words text) judged) in
-    subst (λ d. IfOk c.finish.result (λ g. IsGridText d text g)) (c.in_ok-end_word.ensures.scale ∙ ap (λ r. r.scale) c.self.view_is) (ok_part c.finish.result _ _ m)
+    subst (λ d. IfOk c.finish.result (λ g. IsGridText d text g)) (c.in_ok-end_word.ensures.scale ∙ ap (λ r. r.scale) c.self.view_is) (MatchResult-weaker c.finish.result m (λ _ k. k) (λ _ _. tt))
