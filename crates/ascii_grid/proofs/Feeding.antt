@@ -1,6 +1,6 @@
 -- What a piece and the end of the text make of a reader.
-use Rattle.std.proofs.Common.{◌≡◌, ℕ, ◌+◌, ◌-◌, ◌<◌, ◌≤◌, List, [], ◌++◌, length, take, drop, min, None, Some, arith, refl, ap, sym, ◌∙◌, subst, inl, inr, Result, Ok, Err, MatchResult}
-use Rattle.std.specs.Prelude.{MatchOption, IfOk, IfErr}
+use Rattle.std.proofs.Common.{◌≡◌, ℕ, ◌+◌, ◌-◌, ◌<◌, ◌≤◌, List, [], ◌++◌, length, take, drop, min, None, Some, arith, refl, ap, sym, ◌∙◌, subst, inl, inr, Result, MatchResult}
+use Rattle.std.specs.Prelude.{MatchOption}
 use Rattle.std.specs.Option.{option_or}
 use Rattle.std.proofs.lemmas.Bool.{cases_lt, le-leb, lt-leb}
 use Rattle.std.proofs.lemmas.Option.{MatchOption-at_none, MatchOption-at_some}

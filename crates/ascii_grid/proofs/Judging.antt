@@ -10,11 +10,10 @@ use Rattle.ascii_grid.specs.Words.{Word}
 use Rattle.ascii_grid.specs.Decimal.{number_of}
 use Rattle.ascii_grid.specs.Header.{fills, slot_of, slot_number, begins_with_letter, header_words, height_words, pairs, key_left, nodata_for, header_fault, key_fault, value_fault, missing_fault}
 use Rattle.ascii_grid.specs.GridText.{cells_wanted, words_fault, heights_fault, height_fault}
-use Rattle.ascii_grid.specs.Slots.{is_given, anchor_at, with_value, missing_of, wanted_of}
+use Rattle.ascii_grid.specs.Slots.{is_given, with_value, missing_of, wanted_of}
 use Rattle.ascii_grid.specs.Reading.{flat, given, is_centre, slots_of, keys_before, HasBegun}
 use Rattle.ascii_grid.specs.declared.fault.Key.{Key}
 use Rattle.ascii_grid.specs.declared.fault.Key.TheVariants.{Ncols, Nrows, Xll, Yll, Cellsize, Nodata}
-use Rattle.ascii_grid.specs.declared.header.Header.{Header}
 
 abbrev pub Pairs : Type 0
 Pairs = List (Word × Word)

@@ -11,7 +11,7 @@ use Rattle.ascii_grid.specs.Raster.{IsHeaderWord, IsLawful}
 use Rattle.ascii_grid.specs.Header.{header_words, height_words, key_left, nodata_for, missing_fault, header_fault}
 use Rattle.ascii_grid.specs.GridText.{AsksForCells, cell_of, cells_wanted, heights_fault, end_fault, grid_of}
 use Rattle.ascii_grid.specs.Slots.{anchor_at, wanted_of, IsWhole, raster_of}
-use Rattle.ascii_grid.specs.Reading.{flat, given, is_centre, slots_of, IsHeaderOf, HasBegun, AreHeights, HasJudged, IsEndFault}
+use Rattle.ascii_grid.specs.Reading.{flat, given, is_centre, slots_of, IsHeaderOf, AreHeights, HasJudged, IsEndFault}
 use Rattle.ascii_grid.specs.declared.fault.Key.{Key}
 use Rattle.ascii_grid.specs.declared.fault.Key.TheVariants.{Ncols, Nrows, Xll, Yll, Cellsize, Nodata}
 use Rattle.ascii_grid.specs.declared.fault.GridFault.{GridFault}
@@ -20,7 +20,7 @@ use Rattle.ascii_grid.specs.declared.grid.Anchor.{Anchor}
 use Rattle.ascii_grid.specs.declared.header.Header.{Header}
 use Rattle.ascii_grid.specs.declared.judge.Judge.{Judge}
 use Rattle.ascii_grid.specs.declared.judge.Stage.TheVariants.{AtKey, AtValue, AtHeights}
-use Rattle.ascii_grid.proofs.Judging.{Pairs, pairs-flat, header_words-flat, height_words-flat, key_left-flat, header_words-begun, height_words-begun, is_given-slots_of, missing_of-slots_of, wanted_of-slots_of, number-of_pair}
+use Rattle.ascii_grid.proofs.Judging.{Pairs, pairs-flat, header_words-flat, height_words-flat, key_left-flat, is_given-slots_of, missing_of-slots_of, wanted_of-slots_of, number-of_pair}
 use Rattle.ascii_grid.proofs.JudgedWords.{at_key, at_value, at_heights, place_of, header_before, heights_after, paired}
 use Rattle.ascii_grid.proofs.Told.{is_memory, told, told_missing}
 use Rattle.ascii_grid.proofs.Whole.{cells_ok, size_between, valid, value_of, IsWhole-from_missing}

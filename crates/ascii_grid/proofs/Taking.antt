@@ -1,6 +1,5 @@
 -- A grid that is read piece by piece.
 use Rattle.std.proofs.Common.{◌≡◌, ℕ, ◌≤◌, List, [], ◌++◌, length, take, Option, None, Some, sym, ap, ◌∙◌, inl, inr}
-use Rattle.std.specs.Option.{option_or}
 use Rattle.std.specs.Io.KnownBytes.{Consumes, IsAtEnd}
 use Rattle.std.proofs.lemmas.Bool.{cases_lt}
 use Rattle.std.proofs.lemmas.List.{append-nil}
@@ -9,7 +8,6 @@ use Rattle.ascii_grid.specs.Words.{ended_words}
 use Rattle.ascii_grid.specs.Device.{Device}
 use Rattle.ascii_grid.specs.GridText.{fault_so_far, words_fault, most_bytes}
 use Rattle.ascii_grid.specs.Reader.{Reader, HasTaken}
-use Rattle.ascii_grid.specs.declared.fault.GridFault.{GridFault}
 use Rattle.ascii_grid.specs.declared.fault.GridFault.TheVariants.{TooLong}
 use Rattle.ascii_grid.proofs.Judging.{or_none}
 use Rattle.ascii_grid.proofs.Feeding.{many_so_far}

@@ -11,10 +11,9 @@ use Rattle.ascii_grid.specs.Header.{fills, slot_of, is_long, is_value, bad_value
 use Rattle.ascii_grid.specs.GridText.{AsksAtHeight, IsTold, is_cell, cells_wanted, words_fault, heights_fault, height_fault}
 use Rattle.ascii_grid.specs.Reading.{flat, IsHeaderOf, HasBegun, AreHeights, HasJudged, IsWordFault}
 use Rattle.ascii_grid.specs.declared.fault.Key.{Key}
-use Rattle.ascii_grid.specs.declared.fault.Key.TheVariants.{Ncols, Nrows, Xll, Yll, Cellsize, Nodata}
+use Rattle.ascii_grid.specs.declared.fault.Key.TheVariants.{Ncols}
 use Rattle.ascii_grid.specs.declared.fault.GridFault.{GridFault}
-use Rattle.ascii_grid.specs.declared.fault.GridFault.TheVariants.{UnknownKey, RepeatedKey, MissingKey, BadSize, BadPlace, BadNodata, BadHeight, TooFew, TooMany, NoValue, TooLong, Memory}
-use Rattle.ascii_grid.specs.declared.header.Header.{Header}
+use Rattle.ascii_grid.specs.declared.fault.GridFault.TheVariants.{UnknownKey, RepeatedKey, MissingKey, BadHeight, TooMany, TooLong, Memory}
 use Rattle.ascii_grid.specs.declared.judge.Stage.{Stage}
 use Rattle.ascii_grid.specs.declared.judge.Stage.TheVariants.{AtKey, AtValue, AtHeights}
 use Rattle.ascii_grid.specs.declared.judge.Judge.{Judge}
