@@ -20,7 +20,8 @@ use Rattle.ascii_grid.specs.declared.fault.GridFault.TheVariants.{TooFew}
 use Rattle.ascii_grid.proofs.ReadBackWords.{IsClean, words-word, words-rows}
 use Rattle.ascii_grid.proofs.ReadBackDecimals.{decimal_clean, digits_clean}
 use Rattle.ascii_grid.proofs.ReadBackNumbers.{decimal_value, decimal_are_digits, decimal_word, decimal_digits}
-use Rattle.ascii_grid.proofs.ReadBackCells.{ReadsAs, reads_cell, not_long, no_heights_fault, cells_again}
+use Rattle.ascii_grid.proofs.JudgedWords.{is_short}
+use Rattle.ascii_grid.proofs.ReadBackCells.{ReadsAs, reads_cell, no_heights_fault, cells_again}
 use Rattle.ascii_grid.proofs.ReadBackHeader.{xll_key, yll_key, header_and, AreValues, or_none, only_heights, header_is, heights_are, no_header_fault, Gives, header_gives}
 
 -- a line of the header, and the rest
@@ -78,7 +79,7 @@ size_ok n low high =
     (le-leb (number_of (decimal n)) 4096 (omega (arith, value)))
 
 size_short : (n : ℕ) → n ≤ 4096 → is_long (decimal n) ≡ false
-size_short n high = not_long (decimal n) (let l = length-decimal-le 4 n (omega arith) (omega arith) (omega arith) in omega (arith, l))
+size_short n high = is_short (decimal n) (let l = length-decimal-le 4 n (omega arith) (omega arith) (omega arith) in omega (arith, l))
 
 values_ok : (g : Raster) → IsLawful g → AreValues (decimal g.terrain.cols) (decimal g.terrain.rows) g.xll.word g.yll.word g.cellsize g.nodata
 values_ok g h = record {
@@ -90,10 +91,10 @@ values_ok g h = record {
   nodata = h.nodata.1;
   short_cols = size_short g.terrain.cols h.terrain.few_cols;
   short_rows = size_short g.terrain.rows h.terrain.few_rows;
-  short_xll = not_long g.xll.word h.xll.0;
-  short_yll = not_long g.yll.word h.yll.0;
-  short_cellsize = not_long g.cellsize h.cellsize.0;
-  short_nodata = not_long g.nodata h.nodata.0;
+  short_xll = is_short g.xll.word h.xll.0;
+  short_yll = is_short g.yll.word h.yll.0;
+  short_cellsize = is_short g.cellsize h.cellsize.0;
+  short_nodata = is_short g.nodata h.nodata.0;
 }
 
 size_clean : (n : ℕ) → n ≤ 4096 → IsClean (decimal n)
