@@ -7,14 +7,15 @@ use Rattle.std.proofs.lemmas.Bool.{cond-true, cond-false, and_from, and_parts, o
 use Rattle.std.proofs.lemmas.List.{append-nil, length-append, take_at, drop_all}
 use Rattle.std.proofs.lemmas.List.Folds.{list_any-append}
 use Rattle.std.proofs.Math.Nat.{div-le_self}
-use Rattle.ascii_grid.specs.Words.{Word, is_word}
+use Rattle.std.proofs.lemmas.Fmt.{decimal_nonempty}
+use Rattle.ascii_grid.specs.Words.{Word}
 use Rattle.ascii_grid.specs.Decimal.{without_sign, is_negative, is_point, is_exponent_mark, mantissa, whole_part, fraction, has_exponent, are_digits, is_decimal, number_of, scaled_size, has_scaled_value, scaled_value}
 use Rattle.ascii_grid.specs.Text.{last_digits, decimals_text, height_text}
 use Rattle.ascii_grid.proofs.Scaled.{are_digits-append, before_first-none}
 use Rattle.ascii_grid.proofs.PlainNumbers.{any-digits, no_exponent, no_point, after_first-none, bare_digits}
 use Rattle.ascii_grid.proofs.ReadBackDecimals.{before_first-at, after_first-at}
 use Rattle.ascii_grid.proofs.Decimals.{few_whole_digits}
-use Rattle.ascii_grid.proofs.ReadBackNumbers.{decimal_digits, decimal_word, last_digits_digits, length-last_digits, scaled_digits}
+use Rattle.ascii_grid.proofs.ReadBackNumbers.{decimal_digits, last_digits_digits, length-last_digits, scaled_digits}
 
 -- the text of a height without its sign
 abbrev pub body : ℕ → ℕ → List ℕ
@@ -63,10 +64,7 @@ length-body d n h =
 
 -- it begins with a digit
 whole_some : (d n : ℕ) → n < 2 ^ 64 → 0 < length (decimal (n / 10 ^ d))
-whole_some d n h = some_from_word (decimal (n / 10 ^ d)) (decimal_word (n / 10 ^ d) (whole_small d n h)) where
-  some_from_word : (w : Word) → is_word w ≡ true → 0 < length w
-  some_from_word [] e = cc
-  some_from_word (b ∷ bs) e = omega arith
+whole_some d n h = decimal_nonempty (n / 10 ^ d) (whole_small d n h)
 
 body_unsigned : (d n : ℕ) → n < 2 ^ 64 → (without_sign (body d n) ≡ body d n) × (is_negative (body d n) ≡ false)
 body_unsigned d n h = bare_digits (decimal (n / 10 ^ d)) (decimals_text d n) (whole_some d n h) (decimal_digits (n / 10 ^ d) (whole_small d n h))
