@@ -202,10 +202,9 @@ pub answered : (r : Reader) (text : List ℕ) (f : GridFault) → r.fault ≡ So
 answered r text f e h = MatchOption-at_some (IsReading r text) (IsRefusalSoFar r.scale text) f e h
 
 -- after a fault, more of the text changes nothing
-pub answered_more : (r : Reader) (text more : List ℕ) (f : GridFault) → r.fault ≡ Some f → HasTaken r text → HasTaken r (text ++ more)
+pub answered_more : (r : Reader) (text more : List ℕ) (f : GridFault) → r.fault ≡ Some f → IsRefusalSoFar r.scale text f → HasTaken r (text ++ more)
 answered_more r text more f e h =
-    subst (λ o. MatchOption o (IsReading r (text ++ more)) (IsRefusalSoFar r.scale (text ++ more))) (sym e)
-    (refusal_stays r.scale text more f (answered r text f e h))
+    subst (λ o. MatchOption o (IsReading r (text ++ more)) (IsRefusalSoFar r.scale (text ++ more))) (sym e) (refusal_stays r.scale text more f h)
 
 pub whole_refusal : (d : ℕ) (text : List ℕ) (f : GridFault) → IsRefusalSoFar d text f → IsRefusal d text f
 whole_refusal d text f h = subst (λ t. IsRefusal d t f) (append-nil text) (stays d text [] f h)
