@@ -1,12 +1,13 @@
 // The words of a text, judged one after another.
-ghost use Rattle.std.specs.Prelude.{◌↔◌, IsTrue, if◌then◌else◌, ◌≡◌, ◌≤◌, ◌<◌, ◌⊎◌, ◌++◌, [], ◌∷◌, List, length, true, false, Option, Some, None, Err, IfOk, IfErr, MatchResult};
+ghost use Rattle.std.specs.Prelude.{◌↔◌, IsTrue, ◌≡◌, ◌≤◌, ◌<◌, ◌⊎◌, ◌++◌, [], ◌∷◌, List, length, true, false, Option, Some, None, Err, IfOk, IfErr, MatchResult};
 ghost use Rattle.ascii_grid.specs.Words.{Word};
 ghost use Rattle.ascii_grid.specs.Decimal.{scaled_value};
 ghost use Rattle.ascii_grid.specs.Header.{begins_with_letter, missing_fault};
-ghost use Rattle.ascii_grid.specs.GridText.{is_cell, cell_of, height_fault, end_fault, grid_of};
+ghost use Rattle.ascii_grid.specs.GridText.{height_fault, end_fault, grid_of};
+ghost use Rattle.ascii_grid.specs.Meaning.{meaning_of};
 ghost use Rattle.ascii_grid.specs.Reading.{flat, IsHeaderOf, AreHeights, HasJudged, IsWordFault, IsEndFault};
 
-use crate::cell::{cell, value_cell};
+use crate::cell::{Meaning, cell, value_cell};
 use crate::decimal::scaled_value;
 use crate::fault::{GridFault, Key};
 use crate::grid::Grid;
@@ -160,8 +161,8 @@ impl Judge {
             (λ f. (f ≡ GridFault.Memory)
             ⊎ (height_fault self.old.scale (flat ps) (length hs) word.now ≡ Some f)) }
     {
-        let cell = cell(self.scale, self.nodata.as_bytes(), self.nodata_value, word);
-        self.add_cell(cell)
+        let meaning = cell(self.scale, self.nodata.as_bytes(), self.nodata_value, word);
+        self.add_cell(meaning)
     }
 
     /// Judges a height by its scaled value.
@@ -174,18 +175,16 @@ impl Judge {
             (λ f. (f ≡ GridFault.Memory)
             ⊎ (height_fault self.old.scale (flat ps) (length hs) word ≡ Some f)) }
     {
-        let cell = value_cell(value, self.nodata_value);
-        self.add_cell(cell)
+        let meaning = value_cell(value, self.nodata_value);
+        self.add_cell(meaning)
     }
 
     // Adds the cell of the next height, where it has one.
     #[inline(always)]
-    fn add_cell(&mut self, cell: Option<Option<Height>>) -> Result<(), GridFault>
+    fn add_cell(&mut self, meaning: Meaning) -> Result<(), GridFault>
         ensures kept { self.new ≡ record self.old { cells = self.new.cells } }
         ensures word { (ps : List (Word × Word)) (hs : List Word) (word : Word) → AreHeights self.old ps hs →
-            length word ≤ 64 →
-            cell ≡ (if is_cell self.old.scale self.old.nodata word
-            then Some (cell_of self.old.scale self.old.nodata word) else None) →
+            length word ≤ 64 → meaning ≡ meaning_of self.old.scale self.old.nodata word →
             MatchResult result (λ _. AreHeights self.new ps (hs ++ word ∷ []))
             (λ f. (f ≡ GridFault.Memory)
             ⊎ (height_fault self.old.scale (flat ps) (length hs) word ≡ Some f)) }
@@ -194,7 +193,7 @@ impl Judge {
         if place >= self.wanted as usize {
             return Err(GridFault::TooMany);
         }
-        let Some(cell) = cell else {
+        let Meaning::Cell(cell) = meaning else {
             return Err(GridFault::BadHeight(place as u32));
         };
         if self.cells.push(cell).is_err() {
