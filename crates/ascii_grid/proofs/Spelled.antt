@@ -10,14 +10,15 @@ use Rattle.ascii_grid.specs.Decimal.{number_of, is_decimal, is_above_zero}
 use Rattle.ascii_grid.specs.Raster.{IsHeaderWord, IsLawful}
 use Rattle.ascii_grid.specs.Header.{header_words, height_words, key_left, nodata_for, missing_fault, header_fault}
 use Rattle.ascii_grid.specs.GridText.{AsksForCells, cell_of, cells_wanted, heights_fault, end_fault, grid_of}
-use Rattle.ascii_grid.specs.Slots.{anchor_at, wanted_of, IsWhole, raster_of}
-use Rattle.ascii_grid.specs.Reading.{flat, given, is_centre, slots_of, IsHeaderOf, AreHeights, HasJudged, IsEndFault}
+use Rattle.ascii_grid.specs.Slots.{anchor_at, is_centre, key_of, wanted_of, IsWhole, raster_of}
+use Rattle.ascii_grid.specs.Reading.{flat, given, slots_of, IsHeaderOf, AreHeights, HasJudged, IsEndFault}
 use Rattle.ascii_grid.specs.declared.fault.Key.{Key}
 use Rattle.ascii_grid.specs.declared.fault.Key.TheVariants.{Ncols, Nrows, Xll, Yll, Cellsize, Nodata}
 use Rattle.ascii_grid.specs.declared.fault.GridFault.{GridFault}
 use Rattle.ascii_grid.specs.declared.fault.GridFault.TheVariants.{TooFew, NoValue, Memory}
 use Rattle.ascii_grid.specs.declared.grid.Anchor.{Anchor}
 use Rattle.ascii_grid.specs.declared.header.Header.{Header}
+use Rattle.ascii_grid.specs.declared.key.Slot.{Slot}
 use Rattle.ascii_grid.specs.declared.judge.Judge.{Judge}
 use Rattle.ascii_grid.specs.declared.judge.Stage.TheVariants.{AtKey, AtValue, AtHeights}
 use Rattle.ascii_grid.proofs.Judging.{Pairs, pairs-flat, header_words-flat, height_words-flat, key_left-flat, is_given-slots_of, missing_of-slots_of, wanted_of-slots_of, number-of_pair}
@@ -36,15 +37,15 @@ heights_none h ps k = ap height_words (sym (append-nil (flat ps))) ∙ height_wo
 -- ---- the fault at the end
 
 -- after a key without its value
-pub end-value : (j : Judge) (ws : List Word) (slot : Key) (centre : Bool) → HasJudged j ws → j.stage ≡ AtValue slot centre → end_fault ws ≡ Some (NoValue slot)
-end-value j ws slot centre h e =
-    let there = at_value j ws h slot centre e in
+pub end-value : (j : Judge) (ws : List Word) (slot : Slot) → HasJudged j ws → j.stage ≡ AtValue slot → end_fault ws ≡ Some (NoValue (key_of slot))
+end-value j ws slot h e =
+    let there = at_value j ws h slot e in
     let k = there.0 in
     let letter = there.2.letter in
     let one : header_words (k ∷ []) ≡ k ∷ [] = rw letter refl in
     let header : header_words ws ≡ flat h.pairs ++ k ∷ [] = ap header_words there.1 ∙ header_words-flat h.pairs (k ∷ []) h.header.keys ∙ ap (λ z. flat h.pairs ++ z) one in
     let left : key_left (flat h.pairs ++ k ∷ []) ≡ Some k = key_left-flat h.pairs (k ∷ []) in
-    rw (header, left, there.2.slot_is) refl
+    rw (header, left, there.2.key_is) refl
 
 -- in the header, where no required slot is missing: no height
 missing_at_end : (d : ℕ) (h : Header) (ps : Pairs) (f : GridFault) → IsHeaderOf h ps → missing_fault (flat ps) ≡ Some f → end_fault (flat ps) ≡ Some f

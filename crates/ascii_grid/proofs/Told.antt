@@ -121,8 +121,8 @@ long_fault j ws w h far = by_stage j.stage refl
               ∙ words_fault-heights j.scale h.pairs (w ∷ []) h.header.keys h.header.faultless begun
               ∙ rw long refl
         ]
-    by_stage (AtValue slot centre) e =
-        let there = at_value j ws h slot centre e in
+    by_stage (AtValue slot) e =
+        let there = at_value j ws h slot e in
         ap (λ z. words_fault j.scale (z ++ w ∷ [])) there.1
         ∙ ap (words_fault j.scale) (append_assoc (flat h.pairs) (there.0 ∷ []) (w ∷ []))
         ∙ words_fault-value j.scale h.pairs there.0 w h.header.keys h.header.faultless there.2.letter there.2.faultless

@@ -9,10 +9,10 @@ ghost use Rattle.ascii_grid.specs.Reading.{flat, IsHeaderOf, AreHeights, HasJudg
 
 use crate::cell::{Meaning, cell, value_cell};
 use crate::decimal::scaled_value;
-use crate::fault::{GridFault, Key};
+use crate::fault::GridFault;
 use crate::grid::Grid;
 use crate::header::Header;
-use crate::key::{begins_with_letter, names_centre};
+use crate::key::{Slot, begins_with_letter};
 use crate::place::Height;
 use crate::word::Word;
 use std::alloc::Global;
@@ -22,8 +22,8 @@ use std::alloc::Global;
 pub(crate) enum Stage {
     /// A key, or the first height.
     AtKey,
-    /// The value of this slot. The key names a centre, or not.
-    AtValue(Key, bool),
+    /// The value of this slot.
+    AtValue(Slot),
     /// A height.
     AtHeights,
 }
@@ -71,7 +71,7 @@ impl Judge {
         }
         match self.stage {
             Stage::AtHeights => self.judge_height(word),
-            Stage::AtValue(slot, centre) => self.judge_value(slot, centre, word),
+            Stage::AtValue(slot) => self.judge_value(slot, word),
             Stage::AtKey => {
                 if begins_with_letter(word) {
                     return self.judge_key(word);
@@ -90,7 +90,7 @@ impl Judge {
             (λ g. (end_fault ws ≡ None) × (g ≡ grid_of self.scale ws)) (IsEndFault ws) }
     {
         match self.stage {
-            Stage::AtValue(slot, _) => Err(GridFault::NoValue(slot)),
+            Stage::AtValue(slot) => Err(GridFault::NoValue(slot.key())),
             Stage::AtKey => {
                 self.begin_heights()?;
                 Err(GridFault::TooFew(0))
@@ -115,19 +115,19 @@ impl Judge {
             (IsWordFault self.old.scale (ws ++ word.now ∷ [])) }
     {
         let slot = self.header.slot_for(word)?;
-        self.stage = Stage::AtValue(slot, names_centre(word));
+        self.stage = Stage::AtValue(slot);
         Ok(())
     }
 
-    fn judge_value(&mut self, slot: Key, centre: bool, word: &[u8]) -> Result<(), GridFault>
+    fn judge_value(&mut self, slot: Slot, word: &[u8]) -> Result<(), GridFault>
         requires short { length word.now ≤ 64 }
-        requires stage { self.old.stage ≡ Stage.AtValue slot centre }
+        requires stage { self.old.stage ≡ Stage.AtValue slot }
         ensures scale { self.new.scale ≡ self.old.scale }
         ensures word { (ws : List Word) → HasJudged self.old ws → MatchResult result
             (λ _. HasJudged self.new (ws ++ word.now ∷ []))
             (IsWordFault self.old.scale (ws ++ word.now ∷ [])) }
     {
-        self.header.put(slot, centre, word)?;
+        self.header.put(slot, word)?;
         self.stage = Stage::AtKey;
         Ok(())
     }
