@@ -1,14 +1,15 @@
-use Rattle.std.proofs.Common.{rules, arith, refl, sym, ap, ◌≡◌, ◌≢◌, ℕ, ◌+◌, ◌%◌, ◌<◌, ◌≤◌, suc, [], ◌∷◌, List, length, drop, get_or, ◌∙◌, vec_len, vec_capacity, add-one, subst}
+use Rattle.std.proofs.Common.{rules, arith, refl, sym, ap, ◌≡◌, ◌≢◌, ℕ, ◌+◌, ◌%◌, ◌<◌, ◌≤◌, suc, [], ◌∷◌, List, length, drop, get_or, ◌∙◌, vec_len, vec_capacity, add-one, subst, inl, inr}
+use Rattle.std.proofs.lemmas.Bool.{cases_eq}
 use Rattle.std.proofs.lemmas.Grind.{common_steps}
 use Rattle.std.specs.Vec.Iter.{into_iter_items}
 use Rattle.tile_jobs.specs.Board.{deal, times, sum_to}
 use Rattle.tile_jobs.specs.Ends.{EndState, SeatState, HasAllMarks, seat_of}
 use Rattle.tile_jobs.specs.Closed.{in_seats}
 use Rattle.tile_jobs.proofs.Closes.{IsLeft}
-use Rattle.tile_jobs.proofs.Entries.{cut_drop}
+use Rattle.tile_jobs.proofs.Entries.{get_drop, cut_drop}
 use Rattle.tile_jobs.proofs.Residues.{deals_length}
-use Rattle.tile_jobs.proofs.Seats.{get_drop, some_element}
-use Rattle.tile_jobs.proofs.Closes.{head, own_names, own_takes, head_low, head_id, head_took, some_drop, get_of_drop, next_row, left_more, sum_mono, times_of, same_or, all_left}
+use Rattle.tile_jobs.proofs.Seats.{some_element}
+use Rattle.tile_jobs.proofs.Closes.{head, own_names, own_takes, head_low, head_id, head_took, some_drop, get_of_drop, next_row, left_more, sum_mono, times_of, all_left}
 use Rattle.tile_jobs.proofs.board.Board.close.Goals as goal
 
 pub close_one-requires-clause-own : goal.close_one-requires-clause-own
@@ -117,9 +118,10 @@ loop-own-preserved c =
           let rows : vec_len c.loop-own.rows ≡ length c.loop-own.rows.items = search rules in
           let x = some_element c.loop-own.rows.items (omega (arith, inv.size, c.requires.board.1)) in
           let empty : (s : ℕ) (d : SeatState) → s < S → HasAllMarks (get_or ss s d) → p ≡ [] = λ s d l m.
-          same_or s v (p ≡ [])
-          (λ (q : s ≡ v). o.left.3 (ap (λ (q : EndState). q.marked) (own_is d) ∙ ap (λ k. (get_or ss k d).own.marked) (sym q) ∙ m.0))
-          (λ (far : s ≢ v). o.left.4 s x own (omega (arith, inv.size)) far (rw (inv.rows s x d l, get_of_drop) (m.1 (head s v) own (head_low J S ss D each s v d l low far)))) in
+          elim (cases_eq s v) [
+            | inl q ↦ o.left.3 (ap (λ (q : EndState). q.marked) (own_is d) ∙ ap (λ k. (get_or ss k d).own.marked) (sym q) ∙ m.0)
+            | inr far ↦ o.left.4 s x own (omega (arith, inv.size)) far (rw (inv.rows s x d l, get_of_drop) (m.1 (head s v) own (head_low J S ss D each s v d l low far)))
+          ] in
           let once : (y : ℕ) (d : SeatState) → y % S ≡ v → in_seats y S ss d + times y p ≡ times y (deal J S v) = λ y d rem.
           let f : ℕ → ℕ = λ s. times y (get_or ss s d).taken in
           let told = o.left.5 y f
