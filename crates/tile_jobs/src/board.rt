@@ -3,6 +3,7 @@ ghost use Rattle.std.specs.Prelude.{◌≡◌, ◌≢◌, ℕ, ◌+◌, ◌<◌,
 ghost use Rattle.tile_jobs.specs.Board.{deal as deal_list, times, sum_to};
 ghost use Rattle.tile_jobs.specs.Closed.{IsClosed};
 ghost use Rattle.tile_jobs.specs.Ends.{EndState, SeatState, IsBoard, IsDeal, IsSeat, IsNew};
+ghost use Rattle.tile_jobs.specs.Rows.{EachHead, HaveHeads, WithoutHeads, IsLeftOf};
 
 use crate::JobFault;
 use crate::closing::Closing;
@@ -18,13 +19,15 @@ const MOST_SEATS: u32 = 64;
 /// Takes back every end of deque `v`.
 fn gather(own: Own, rows: &mut Vec<Vec<Other>>, v: usize) -> Closing
     requires own { v < vec_len rows.old }
-    requires ids { (s : ℕ) (d : _) (e : EndState) → s < vec_len rows.old → s ≢ v → (0 < length (slice_index_or rows.old.items s d).items) × ((slice_index_or (slice_index_or rows.old.items s d).items 0 e).id ≡ own.id) }
+    requires ids { HaveHeads (vec_len rows.old) v rows.old.items own.id }
     ensures len { vec_len rows.new ≡ vec_len rows.old }
-    ensures rows { (s : ℕ) (d : _) → s < vec_len rows.old → (slice_index_or rows.new.items s d).items ≡ cond (s == v) (slice_index_or rows.old.items s d).items (drop 1 (slice_index_or rows.old.items s d).items) }
-    ensures names { (result.jobs ≡ own.jobs) × (result.seats ≡ own.seats) × (result.deque ≡ own.deque) × (result.took ≡ own.took) × (result.back ≡ vec_len rows.old) }
-    ensures times { (y : ℕ) (f : ℕ → ℕ) → ((s : ℕ) (d : _) (e : EndState) → s < vec_len rows.old → s ≢ v → times y (slice_index_or (slice_index_or rows.old.items s d).items 0 e).took ≡ f s) → times y result.gathered ≡ sum_to (vec_len rows.old) (λ i. cond (i == v) 0 (f i)) }
+    ensures rows { WithoutHeads (vec_len rows.old) v rows.old.items rows.new.items }
+    ensures names { (result.jobs ≡ own.jobs) × (result.seats ≡ own.seats) × (result.deque ≡ own.deque) × (result.took ≡ own.took)
+        × (result.back ≡ vec_len rows.old) }
+    ensures times { (y : ℕ) (f : ℕ → ℕ) → EachHead (vec_len rows.old) v rows.old.items (λ s e. times y e.took ≡ f s) →
+        times y result.gathered ≡ sum_to (vec_len rows.old) (λ i. cond (i == v) 0 (f i)) }
     ensures own_mark { own.marked ≡ true → 0 < result.marks }
-    ensures marks { (s : ℕ) (d : _) (e : EndState) → s < vec_len rows.old → s ≢ v → (slice_index_or (slice_index_or rows.old.items s d).items 0 e).marked ≡ true → 0 < result.marks }
+    ensures marks { EachHead (vec_len rows.old) v rows.old.items (λ s e. e.marked ≡ true → 0 < result.marks) }
     ensures flag { result.marked ≡ true → 0 < result.marks }
 {
     let mut closing = Closing::new(own);
@@ -40,12 +43,13 @@ fn gather(own: Own, rows: &mut Vec<Vec<Other>>, v: usize) -> Closing
 /// Takes back every end of deque `v`, and then what is left in it.
 fn close_one(own: Own, rows: &mut Vec<Vec<Other>>, v: usize, left: &mut Vec<u32>)
     requires own { (v < vec_len rows.old) × (own.seats ≡ vec_len rows.old) }
-    requires ids { (s : ℕ) (d : _) (e : EndState) → s < vec_len rows.old → s ≢ v → (0 < length (slice_index_or rows.old.items s d).items) × ((slice_index_or (slice_index_or rows.old.items s d).items 0 e).id ≡ own.id) }
+    requires ids { HaveHeads (vec_len rows.old) v rows.old.items own.id }
     requires room { vec_len left.old + length (deal_list own.jobs own.seats own.deque) ≤ vec_capacity left.old }
     ensures len { vec_len rows.new ≡ vec_len rows.old }
-    ensures rows { (s : ℕ) (d : _) → s < vec_len rows.old → (slice_index_or rows.new.items s d).items ≡ cond (s == v) (slice_index_or rows.old.items s d).items (drop 1 (slice_index_or rows.old.items s d).items) }
+    ensures rows { WithoutHeads (vec_len rows.old) v rows.old.items rows.new.items }
     ensures room { vec_capacity left.old ≤ vec_capacity left.new }
-    ensures left { (p : List ℕ) × (left.new.items ≡ left.old.items ++ p) × ((k : ℕ) × (p ≡ drop k (deal_list own.jobs own.seats own.deque))) × (own.marked ≡ true → p ≡ []) × ((s : ℕ) (d : _) (e : EndState) → s < vec_len rows.old → s ≢ v → (slice_index_or (slice_index_or rows.old.items s d).items 0 e).marked ≡ true → p ≡ []) × ((y : ℕ) (f : ℕ → ℕ) → ((s : ℕ) (d : _) (e : EndState) → s < vec_len rows.old → s ≢ v → times y (slice_index_or (slice_index_or rows.old.items s d).items 0 e).took ≡ f s) → times y own.took ≡ f v → sum_to (vec_len rows.old) f + times y p ≡ times y (deal_list own.jobs own.seats own.deque)) }
+    ensures left { (more : List ℕ) × (left.new.items ≡ left.old.items ++ more)
+        × IsLeftOf own (vec_len rows.old) v rows.old.items more }
 {
     let closing = gather(own, rows, v);
     closing.drain(left);
