@@ -5,16 +5,13 @@ ghost use Rattle.tile_jobs.specs.Closed.{IsClosed};
 ghost use Rattle.tile_jobs.specs.Ends.{EndState, SeatState, IsBoard, IsDeal, IsSeat, IsNew};
 ghost use Rattle.tile_jobs.specs.Rows.{EachHead, HaveHeads, WithoutHeads, IsLeftOf};
 
-use crate::JobFault;
 use crate::closing::Closing;
 use crate::dealing::{deal_all, seat_all};
 use crate::ends::{Other, Own};
 use crate::room::put;
 use crate::seat::Seat;
+use crate::{JobFault, MOST_JOBS, MOST_WORKERS};
 use std::alloc::Global;
-
-/// The most seats of a board.
-const MOST_SEATS: u32 = 64;
 
 /// Takes back every end of deque `v`.
 fn gather(own: Own, rows: &mut Vec<Vec<Other>>, v: usize) -> Closing
@@ -94,19 +91,19 @@ pub struct Closed {
 pub struct Board;
 
 impl Board {
-    /// Deals the jobs below `jobs` to `seats` seats, 1 to 64: job `j` to the deque of seat
+    /// Deals the jobs below `jobs` to `seats` seats, 1 to `MOST_WORKERS`: job `j` to the deque of seat
     /// `j % seats`, in rising order. The seats come in the order of their numbers.
     ///
     /// Of two reasons to refuse, `BadWorkers` goes before `Memory`.
     pub fn deal(alloc: Global, jobs: u32, seats: u32) -> Result<Vec<Seat>, JobFault>
-        requires { jobs ≤ 65536 }
-        ensures some { OnOk result ((0 < seats) × (seats ≤ 64)) }
+        requires { jobs ≤ MOST_JOBS }
+        ensures some { OnOk result ((0 < seats) × (seats ≤ MOST_WORKERS)) }
         ensures deal { IfOk result (λ v. IsDeal jobs seats v.items) }
         ensures new { IfOk result (λ v. (s : ℕ) (d : SeatState) → s < seats → IsNew (slice_index_or v.items s d)) }
-        ensures bad { (result ≡ Err JobFault.BadWorkers) ↔ ((seats ≡ 0) ⊎ (64 < seats)) }
+        ensures bad { (result ≡ Err JobFault.BadWorkers) ↔ ((seats ≡ 0) ⊎ (MOST_WORKERS < seats)) }
         ensures faults { IfErr result (λ e. (e ≡ JobFault.BadWorkers) ⊎ (e ≡ JobFault.Memory)) }
     {
-        if seats == 0 || seats > MOST_SEATS {
+        if seats == 0 || seats > MOST_WORKERS {
             return Err(JobFault::BadWorkers);
         }
         let ends = deal_all(alloc, jobs, seats)?;
