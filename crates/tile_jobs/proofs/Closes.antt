@@ -99,16 +99,6 @@ pub record IsLeft (jobs seats : ℕ) (ss : List SeatState) (n : ℕ) (left : Lis
   pub empty : (s : ℕ) (d : SeatState) → s < seats → HasAllMarks (get_or ss s d) → left ≡ []
   pub again : (s : ℕ) (d : SeatState) → s < n → (get_or ss s d).own.marked ≡ true → (y : ℕ) → y % seats ≡ s → times y left ≡ 0
 
-pub left_none : (jobs seats : ℕ) (ss : List SeatState) → 0 < seats → IsLeft jobs seats ss 0 []
-left_none jobs seats ss some = record {
-  parts = ([], refl, refl, λ v low. absurd (omega arith));
-  low = omega arith;
-  once = λ y d low. absurd (omega arith);
-  later = λ y high. refl;
-  empty = λ s d low marks. refl;
-  again = λ s d low. absurd (omega arith);
-}
-
 pub left_more : (jobs seats : ℕ) (ss : List SeatState) (v : ℕ) (left p : List ℕ) → v < seats → IsLeft jobs seats ss v left
     → (k : ℕ) → p ≡ drop k (deal jobs seats v)
     → ((s : ℕ) (d : SeatState) → s < seats → HasAllMarks (get_or ss s d) → p ≡ [])

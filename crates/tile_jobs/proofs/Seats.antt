@@ -14,23 +14,6 @@ same_trans a b c x y = (y.0 ∙ x.0, y.1 ∙ x.1, y.2 ∙ x.2, y.3 ∙ x.3)
 kept_took : (a b c : EndState) (j : ℕ) → Kept a b → TookJob b j c → TookJob a j c
 kept_took a b c j x y = (same_trans a b c x.0 y.0, y.1 ∙ ap (λ l. l ++ j ∷ []) x.1, rw (← x.0.1) y.2, rw (← x.0.2, ← x.0.3) y.3, rw (← x.0.1, ← x.0.2, ← x.0.3) y.4, λ m. y.5 (x.2 m))
 
-unmarked_before : (p q : Bool) → (p ≡ true → q ≡ true) → q ≡ false → p ≡ false
-unmarked_before p q stays e = false_from_ne_true p (λ t. true≢false (sym (stays t) ∙ e))
-
-kept_trans : (a b c : EndState) → Kept a b → Kept b c → Kept a c
-kept_trans a b c x y = (same_trans a b c x.0 y.0, y.1 ∙ x.1, (λ m. y.2 (x.2 m)), λ m. let before = x.3 (unmarked_before b.marked c.marked y.2 m) in let after = y.3 m in omega arith)
-
-pub kept_all : (es fs gs : List EndState) → AllKept es fs → AllKept fs gs → length fs ≡ length es → AllKept es gs
-kept_all es fs gs x y len i d low = kept_trans (get_or es i d) (get_or fs i d) (get_or gs i d) (x i d low) (y i d (omega arith))
-
-pub kept_among : (es fs gs : List EndState) (j : ℕ) → AllKept es fs → TookAmong fs j gs → length fs ≡ length es → TookAmong es j gs
-kept_among es fs gs j x y len = (
-  y.0,
-  omega (arith, y.1),
-  (λ d. kept_took (get_or es y.0 d) (get_or fs y.0 d) (get_or gs y.0 d) j (x y.0 d (omega (arith, y.1))) (y.2 d)),
-  (λ i d far low. kept_trans (get_or es i d) (get_or fs i d) (get_or gs i d) (x i d low) (y.3 i d far (omega arith))),
-)
-
 pub took_among : (es fs : List EndState) (k j : ℕ) (e : EndState) → AllKept es fs → length fs ≡ length es → k < length es → ((d : EndState) → TookJob (get_or fs k d) j e) → TookAmong es j (set fs k e)
 took_among es fs k j e kept len low took = (
   k,
@@ -59,15 +42,6 @@ kept_own s o h k = record {
   count = h.count ∙ sym k.0.2;
   own_is = rw (k.0.1, k.0.2, k.0.3, k.1) (refl, refl, h.own_is.2, h.own_is.3, h.own_is.4);
   others_are = rw (k.0.1, k.0.2) h.others_are;
-}
-
-pub kept_others : (s : SeatState) (fs : List EndState) → IsSeat s → AllKept s.others fs → length fs ≡ length s.others → IsSeat (record s { others = fs })
-kept_others s fs h k len = record {
-  below = h.below;
-  count = ap suc len ∙ h.count;
-  own_is = h.own_is;
-  others_are = λ i d low. let was = h.others_are i d (omega arith) in let now = k i d (omega arith) in
-      (now.0.1 ∙ was.0, now.0.2 ∙ was.1, now.0.3 ∙ was.2, now.1 ∙ was.3, rw now.1 was.4);
 }
 
 bounded_own : (s : SeatState) → IsSeat s → length (of s.number s.own.seats s.taken) ≤ length (deal s.own.jobs s.own.seats s.number)
@@ -147,12 +121,6 @@ others_room s j fs h t =
     let less' : length (of (skip s.number t.0) s.own.seats s.taken) < length (deal s.own.jobs s.own.seats (skip s.number t.0)) = rw (was.3, was.0, was.1, was.2) at less in
     let low : skip s.number t.0 < s.own.seats = skip_below s.number t.0 s.own.seats (let c = h.count in let k = t.1 in omega arith) h.below in
     room_left s.own.seats s.own.jobs s.taken (skip s.number t.0) low (bounded s h) less'
-
-pub took_same : (es : List EndState) (j : ℕ) (fs : List EndState) → TookAmong es j fs → (i : ℕ) (d : EndState) → i < length es → SameEnd (get_or es i d) (get_or fs i d)
-took_same es j fs t i d low = elim (cases_eq i t.0) [ inl e ↦ rw e (t.2 d).0 | inr far ↦ (t.3 i d far low).0 ]
-
-pub kept_then_took : (es fs : List EndState) (j : ℕ) (gs : List EndState) → AllKept es fs → length fs ≡ length es → TookAmong fs j gs → (i : ℕ) (d : EndState) → i < length es → SameEnd (get_or es i d) (get_or gs i d)
-kept_then_took es fs j gs k len t i d low = same_trans (get_or es i d) (get_or fs i d) (get_or gs i d) (k i d low).0 (took_same fs j gs t i d (omega arith))
 
 pub without_last : {A : Type 0} (xs : List A) (n : ℕ) (x : A) → n ≡ length xs → without n (xs ++ x ∷ []) ≡ without n xs
 without_last [] zero x e = refl
