@@ -1,5 +1,5 @@
 -- The cell of a word, by its scaled value.
-use Rattle.std.proofs.Common.{◌≡◌, ℕ, true, false, cond, None, Some, ℤ, pos, negsuc, ◌<◌, ◌^◌, arith, refl, ap, sym, ◌∙◌, inl, inr}
+use Rattle.std.proofs.Common.{◌≡◌, ℕ, Bool, Option, true, false, cond, None, Some, ℤ, pos, negsuc, ◌<◌, ◌^◌, arith, refl, ap, sym, ◌∙◌, inl, inr}
 use Rattle.std.specs.Prelude.{int_le, unsigned_abs}
 use Rattle.std.proofs.lemmas.Int.{fits_signed_from_abs}
 use mir.Val.{SFits}
@@ -13,6 +13,8 @@ use Rattle.ascii_grid.specs.Raster.{is_height}
 use Rattle.ascii_grid.specs.Words.{Word}
 use Rattle.ascii_grid.specs.Decimal.{scaled_value}
 use Rattle.ascii_grid.specs.GridText.{same_value, is_nodata, is_cell, cell_of}
+use Rattle.ascii_grid.specs.Meaning.{meaning_of}
+use Rattle.ascii_grid.specs.declared.cell.Meaning.TheVariants.{Cell, Nothing}
 
 -- a word with a scaled value is NODATA by that value alone
 nodata_by_value : (d : ℕ) (nodata w : Word) (z : ℤ) → scaled_value d w ≡ Some z → is_nodata d nodata w ≡ same_value (Some z) (scaled_value d nodata)
@@ -28,9 +30,9 @@ nodata_by_value d nodata w z e =
       | inr other ↦ rw (other, e) refl
     ]
 
--- the cell of a word with a scaled value
-pub cell_by_value : (d : ℕ) (nodata w : Word) (z : ℤ) → scaled_value d w ≡ Some z → cond (is_cell d nodata w) (Some (cell_of d nodata w)) None ≡ cond (same_value (Some z) (scaled_value d nodata)) (Some None) (cond (is_height z) (Some (Some z)) None)
-cell_by_value d nodata w z e =
+-- what a word with a scaled value stands for
+pub meaning_by_value : (d : ℕ) (nodata w : Word) (z : ℤ) → scaled_value d w ≡ Some z → meaning_of d nodata w ≡ cond (same_value (Some z) (scaled_value d nodata)) (Cell None) (cond (is_height z) (Cell (Some z)) Nothing)
+meaning_by_value d nodata w z e =
     let by = nodata_by_value d nodata w z e in
     elim (cases_Bool (same_value (Some z) (scaled_value d nodata))) [
       | inl same ↦ let is : is_nodata d nodata w ≡ true = by ∙ same in rw (is, same) refl
@@ -42,8 +44,17 @@ cell_by_value d nodata w z e =
     ]
 
 -- a height stands for itself
-pub cell_of_height : (d : ℕ) (nodata w : Word) (z : ℤ) → scaled_value d w ≡ Some z → same_value (Some z) (scaled_value d nodata) ≡ false → is_height z ≡ true → Some (Some z) ≡ cond (is_cell d nodata w) (Some (cell_of d nodata w)) None
-cell_of_height d nodata w z e other high = sym (cell_by_value d nodata w z e ∙ rw (other, high) refl)
+pub meaning_of_height : (d : ℕ) (nodata w : Word) (z : ℤ) → scaled_value d w ≡ Some z → same_value (Some z) (scaled_value d nodata) ≡ false → is_height z ≡ true → Cell (Some z) ≡ meaning_of d nodata w
+meaning_of_height d nodata w z e other high = sym (meaning_by_value d nodata w z e ∙ rw (other, high) refl)
+
+-- a meaning tells whether the word is a cell's
+pub meaning_cell : (b : Bool) (c cell : Option ℤ) → cond b (Cell c) Nothing ≡ Cell cell → (b ≡ true) × (c ≡ cell)
+meaning_cell true c cell e = (refl, cc)
+meaning_cell false c cell e = cc
+
+pub meaning_nothing : (b : Bool) (c : Option ℤ) → cond b (Cell c) Nothing ≡ Nothing → b ≡ false
+meaning_nothing true c e = cc
+meaning_nothing false c e = refl
 
 pub height_between : (z : ℤ) → int_le (negsuc 999999999) z ≡ true → int_le z (pos 1000000000) ≡ true → is_height z ≡ true
 height_between z low high = rw (low, high) refl

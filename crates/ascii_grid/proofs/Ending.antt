@@ -1,18 +1,25 @@
 -- The word in progress, and what its end makes of it.
-use Rattle.std.proofs.Common.{◌≡◌, ℕ, ◌+◌, ◌<◌, ◌≤◌, true, false, List, [], ◌∷◌, ◌++◌, length, take, drop, suc, zero, set, get_or, Some, arith, refl, ap, sym, ◌∙◌, subst, inl, inr}
+use Rattle.std.proofs.Common.{◌≡◌, ℕ, ◌+◌, ◌<◌, ◌≤◌, true, false, List, [], ◌∷◌, ◌++◌, length, take, drop, get_or, Some, ℤ, Result, MatchResult, ◌⊎◌, arith, refl, ap, sym, ◌∙◌, subst, inl, inr, set}
 use Rattle.std.specs.Prelude.{filter}
 use Rattle.std.specs.List.{list_any}
+use Rattle.std.proofs.lemmas.Result.{MatchResult-weaker}
 use Rattle.std.proofs.lemmas.Bool.{cases_lt, or_parts}
 use Rattle.std.proofs.lemmas.List.{append-nil, length-append, length-take, length-drop, take_all, take_at, take_more_set, take_more, append_assoc, take-append-le, nil_from_length}
+use Rattle.std.proofs.Math.Seq.{take-add}
 use Rattle.ascii_grid.specs.Words.{Word, is_word, is_separator, words, ended_words}
-use Rattle.ascii_grid.specs.GridText.{words_fault}
-use Rattle.ascii_grid.specs.Reading.{IsParted, HasWords, HasJudged, IsWordFault}
+use Rattle.ascii_grid.specs.Decimal.{scaled_value}
+use Rattle.ascii_grid.specs.GridText.{words_fault, height_fault}
+use Rattle.ascii_grid.specs.Reading.{flat, IsParted, HasWords, HasJudged, AreHeights, IsWordFault}
+use Rattle.ascii_grid.specs.Plain.{IsPlain}
 use Rattle.ascii_grid.specs.declared.fault.GridFault.{GridFault}
-use Rattle.ascii_grid.specs.declared.fault.GridFault.TheVariants.{TooLong}
+use Rattle.ascii_grid.specs.declared.fault.GridFault.TheVariants.{TooLong, Memory}
 use Rattle.ascii_grid.specs.declared.judge.Judge.{Judge}
+use Rattle.ascii_grid.specs.declared.judge.Stage.TheVariants.{AtHeights}
 use Rattle.ascii_grid.specs.declared.progress.Progress.{Progress}
 use Rattle.ascii_grid.proofs.Parting.{words-parted, IsParted-byte, IsParted-separator, ended_words-separator}
-use Rattle.ascii_grid.proofs.Told.{word_fault, long_fault}
+use Rattle.ascii_grid.proofs.Judging.{Pairs, HasBegun-push}
+use Rattle.ascii_grid.proofs.JudgedWords.{at_heights}
+use Rattle.ascii_grid.proofs.Told.{word_fault, long_fault, height_word}
 
 -- ---- the bytes kept
 
@@ -95,11 +102,16 @@ words_after_separator p p' text b h e k = record {
 pub fault_after_separator : (d : ℕ) (text : List ℕ) (b : ℕ) (f : GridFault) → is_separator b ≡ true → IsWordFault d (words text) f → IsWordFault d (ended_words (text ++ b ∷ [])) f
 fault_after_separator d text b f e k = subst (λ ws. IsWordFault d ws f) (sym (ended_words-separator text b e)) k
 
+-- the bytes of a piece up to this place, and one more
+more_bytes : (text bytes : List ℕ) (i b : ℕ) → i < length bytes → b ≡ get_or bytes i 0 → (text ++ take i bytes) ++ b ∷ [] ≡ text ++ take (i + 1) bytes
+more_bytes text bytes i b inside at =
+    append_assoc text (take i bytes) (b ∷ []) ∙ ap (λ x. text ++ (take i bytes ++ x ∷ [])) at
+    ∙ ap (λ z. text ++ z) (sym (take_more bytes i 0 inside))
+
 -- a fault at the byte at this place of a piece
 pub fault_at : (d d' : ℕ) (text bytes : List ℕ) (i b : ℕ) (f : GridFault) → d' ≡ d → i < length bytes → b ≡ get_or bytes i 0 → IsWordFault d' (ended_words ((text ++ take i bytes) ++ b ∷ [])) f → (n : ℕ) × (n ≤ length bytes) × IsWordFault d (ended_words (text ++ take n bytes)) f
 fault_at d d' text bytes i b f same inside at k =
-    let more : (text ++ take i bytes) ++ b ∷ [] ≡ text ++ take (i + 1) bytes = append_assoc text (take i bytes) (b ∷ []) ∙ ap (λ x. text ++ (take i bytes ++ x ∷ [])) at ∙ ap (λ z. text ++ z) (sym (take_more bytes i 0 inside)) in
-    (i + 1, omega arith, subst (λ e. IsWordFault e (ended_words (text ++ take (i + 1) bytes)) f) same (subst (λ z. IsWordFault d' (ended_words z) f) more k))
+    (i + 1, omega arith, subst (λ e. IsWordFault e (ended_words (text ++ take (i + 1) bytes)) f) same (subst (λ z. IsWordFault d' (ended_words z) f) (more_bytes text bytes i b inside at) k))
 
 -- ---- a word whole in a piece
 
@@ -117,47 +129,32 @@ none_last p text h e =
     let size = ap length (sym h.front ∙ e) in
     nil_from_length h.last (omega (arith, length-take 65 h.last))
 
--- a word between separators
-pub whole_word : (p : Progress) (text w : List ℕ) (h : HasWords p text) → p.word ≡ [] → list_any is_separator w ≡ false → IsParted (text ++ w) h.ended w
-whole_word p text w h e none =
+-- a word whole in a piece, with the separator behind it
+parted_plain : (p : Progress) (text bytes : List ℕ) (len b : ℕ) (h : HasWords p text) → p.word ≡ [] → list_any is_separator (take len bytes) ≡ false → 0 < len → len < length bytes → b ≡ get_or bytes len 0 → is_separator b ≡ true → IsParted (text ++ take (len + 1) bytes) (h.ended ++ take len bytes ∷ []) []
+parted_plain p text bytes len b h e none some inside at ends =
+    let w = take len bytes in
+    let more : 0 < length w = omega (arith, length-take len bytes) in
     let begun = subst (λ z. IsParted text h.ended z) (none_last p text h e) h.parted in
-    IsParted-bytes text h.ended [] w begun none
+    let whole = IsParted-bytes text h.ended [] w begun none in
+    let all : words (text ++ w) ≡ h.ended ++ w ∷ [] = words-parted (text ++ w) h.ended w whole ∙ ap (λ z. h.ended ++ z) (filter-word w more) in
+    let bytes_are : (text ++ w) ++ b ∷ [] ≡ text ++ take (len + 1) bytes = more_bytes text bytes len b inside at in
+    subst (λ t. IsParted t (h.ended ++ w ∷ []) []) bytes_are (subst (λ ws. IsParted ((text ++ w) ++ b ∷ []) ws []) all (IsParted-separator (text ++ w) h.ended w b whole ends))
 
-pub words_of_whole : (p : Progress) (text w : List ℕ) (h : HasWords p text) → p.word ≡ [] → list_any is_separator w ≡ false → 0 < length w → words (text ++ w) ≡ h.ended ++ w ∷ []
-words_of_whole p text w h e none some =
-    words-parted (text ++ w) h.ended w (whole_word p text w h e none) ∙ ap (λ z. h.ended ++ z) (filter-word w some)
-
--- the bytes of a word and the separator behind it
-front_more : (bytes : List ℕ) (len b : ℕ) → len < length bytes → b ≡ get_or bytes len 0 → take (len + 1) bytes ≡ take len bytes ++ b ∷ []
-front_more bytes len b inside at = take_more bytes len 0 inside ∙ ap (λ x. take len bytes ++ x ∷ []) (sym at)
-
-pub taken_plain : (p p' : Progress) (text bytes : List ℕ) (len b : ℕ) (h : HasWords p text) → p.word ≡ [] → p'.word ≡ [] → list_any is_separator (take len bytes) ≡ false → 0 < len → len < length bytes → b ≡ get_or bytes len 0 → is_separator b ≡ true → HasJudged p'.judge (h.ended ++ take len bytes ∷ []) → HasWords p' (text ++ take (len + 1) bytes)
-taken_plain p p' text bytes len b h e e' none some inside at ends judged =
+-- a plain height, whole in a piece, with the separator behind it
+pub plain_word : {T : Type 0} (p : Progress) (j : Judge) (text bytes : List ℕ) (len b : ℕ) (value : ℤ) (r : Result T GridFault) → HasWords p text → p.word ≡ [] → p.judge.stage ≡ AtHeights → IsPlain p.judge.scale bytes len value → len < length bytes → b ≡ get_or bytes len 0 → is_separator b ≡ true → j.header ≡ p.judge.header → j.stage ≡ p.judge.stage
+    → ((ps : Pairs) (hs : List Word) (w : Word) → AreHeights p.judge ps hs → length w ≤ 64 → scaled_value p.judge.scale w ≡ Some value → MatchResult r (λ _. AreHeights j ps (hs ++ w ∷ [])) (λ f. (f ≡ Memory) ⊎ (height_fault p.judge.scale (flat ps) (length hs) w ≡ Some f)))
+    → MatchResult r (λ _. HasWords (record p { judge = j }) (text ++ take (len + 1) bytes)) (λ f. (n : ℕ) × (n ≤ length bytes) × IsWordFault p.judge.scale (ended_words (text ++ take n bytes)) f)
+plain_word p j text bytes len b value r h none stage plain inside at ends header same judged =
     let w = take len bytes in
-    let more : 0 < length w = omega (arith, length-take len bytes) in
-    let all = words_of_whole p text w h e none more in
-    let whole : (text ++ w) ++ b ∷ [] ≡ text ++ take (len + 1) bytes = append_assoc text w (b ∷ []) ∙ ap (λ z. text ++ z) (sym (front_more bytes len b inside at)) in
-    record {
-      ended = words (text ++ w);
-      last = [];
-      parted = subst (λ t. IsParted t (words (text ++ w)) []) whole (IsParted-separator (text ++ w) h.ended w b (whole_word p text w h e none) ends);
-      judged = subst (HasJudged p'.judge) (sym all) judged;
-      front = e';
-    }
-
-pub refused_plain : (d : ℕ) (p : Progress) (text bytes : List ℕ) (len b : ℕ) (f : GridFault) (h : HasWords p text) → p.word ≡ [] → list_any is_separator (take len bytes) ≡ false → 0 < len → len < length bytes → b ≡ get_or bytes len 0 → is_separator b ≡ true → IsWordFault d (h.ended ++ take len bytes ∷ []) f → (n : ℕ) × (n ≤ length bytes) × IsWordFault d (ended_words (text ++ take n bytes)) f
-refused_plain d p text bytes len b f h e none some inside at ends fault =
-    let w = take len bytes in
-    let more : 0 < length w = omega (arith, length-take len bytes) in
-    let all = words_of_whole p text w h e none more in
-    let whole : (text ++ w) ++ b ∷ [] ≡ text ++ take (len + 1) bytes = append_assoc text w (b ∷ []) ∙ ap (λ z. text ++ z) (sym (front_more bytes len b inside at)) in
-    (len + 1, omega arith, subst (λ t. IsWordFault d (ended_words t) f) whole (fault_after_separator d (text ++ w) b f ends (subst (λ ws. IsWordFault d ws f) (sym all) fault)))
-
--- one front after another
-pub take-add : (a b : ℕ) (xs : List ℕ) → take (a + b) xs ≡ take a xs ++ take b (drop a xs)
-take-add zero b xs = ap (λ n. take n xs) (let e : 0 + b ≡ b = omega arith in e)
-take-add (suc a) b [] = ap (λ n. take n []) (let e : suc a + b ≡ suc (a + b) = omega arith in e) ∙ sym (take_all b (drop (suc a) []) (omega arith))
-take-add (suc a) b (x ∷ xs) = ap (λ n. take n (x ∷ xs)) (let e : suc a + b ≡ suc (a + b) = omega arith in e) ∙ ap (λ z. x ∷ z) (take-add a b xs)
+    let short : length w ≤ 64 = omega (arith, plain.short, length-take len bytes) in
+    let there = at_heights p.judge h.ended h.judged stage in
+    let parted = parted_plain p text bytes len b h none plain.whole plain.some inside at ends in
+    let ps = h.judged.pairs in
+    let hs = h.judged.rest in
+    MatchResult-weaker r
+    (height_word p.judge j h.ended ps hs w r h.judged.header h.judged.words (HasBegun-push hs w there.0) there.1 short header (same ∙ stage) (judged ps hs w there.1 short plain.scaled))
+    (λ _ more. record { ended = h.ended ++ w ∷ []; last = []; parted = parted; judged = more; front = none })
+    (λ f fault. (len + 1, omega arith, subst (λ ws. IsWordFault p.judge.scale ws f) (sym parted.ended) fault))
 
 same_front : (text bytes rest : List ℕ) (at n : ℕ) → rest ≡ drop at bytes → (text ++ take at bytes) ++ take n rest ≡ text ++ take (at + n) bytes
 same_front text bytes rest at n e =

@@ -1,6 +1,6 @@
 -- What a piece and the end of the text make of a reader.
-use Rattle.std.proofs.Common.{◌≡◌, ℕ, ◌+◌, ◌-◌, ◌<◌, ◌≤◌, List, [], ◌++◌, length, take, drop, min, None, Some, arith, refl, ap, sym, ◌∙◌, subst, inl, inr, Result, Ok, Err, MatchResult}
-use Rattle.std.specs.Prelude.{MatchOption, IfOk, IfErr}
+use Rattle.std.proofs.Common.{◌≡◌, ℕ, ◌+◌, ◌-◌, ◌<◌, ◌≤◌, List, [], ◌++◌, length, take, drop, min, None, Some, arith, refl, ap, sym, ◌∙◌, subst, inl, inr, Result, MatchResult}
+use Rattle.std.specs.Prelude.{MatchOption}
 use Rattle.std.specs.Option.{option_or}
 use Rattle.std.proofs.lemmas.Bool.{cases_lt, le-leb, lt-leb}
 use Rattle.std.proofs.lemmas.Option.{MatchOption-at_none, MatchOption-at_some}
@@ -31,7 +31,7 @@ few_words text h = rw (le-leb (length text) most_bytes h) refl
 many_words : (text : List ℕ) → most_bytes < length text → judged_words text ≡ ended_words (take most_bytes text)
 many_words text h = rw (lt-leb (length text) most_bytes h) refl
 
-few_fault : (d : ℕ) (text : List ℕ) → length text ≤ most_bytes → text_fault d text ≡ option_or (words_fault d (words text)) (end_fault (words text))
+pub few_fault : (d : ℕ) (text : List ℕ) → length text ≤ most_bytes → text_fault d text ≡ option_or (words_fault d (words text)) (end_fault (words text))
 few_fault d text h = rw (le-leb (length text) most_bytes h) refl
 
 few_so_far : (d : ℕ) (text : List ℕ) → length text ≤ most_bytes → fault_so_far d text ≡ words_fault d (ended_words text)
@@ -40,7 +40,7 @@ few_so_far d text h = rw (le-leb (length text) most_bytes h) refl
 pub many_so_far : (d : ℕ) (text : List ℕ) → most_bytes < length text → fault_so_far d text ≡ option_or (words_fault d (ended_words (take most_bytes text))) (Some TooLong)
 many_so_far d text h = rw (lt-leb (length text) most_bytes h) refl
 
-many_fault : (d : ℕ) (text : List ℕ) → most_bytes < length text → text_fault d text ≡ fault_so_far d text
+pub many_fault : (d : ℕ) (text : List ℕ) → most_bytes < length text → text_fault d text ≡ fault_so_far d text
 many_fault d text h = rw (lt-leb (length text) most_bytes h) refl
 
 -- the front that counts of a longer text
@@ -154,8 +154,8 @@ judged_none j ws h = by_stage j.stage refl
     by_stage AtKey e =
         ap (words_fault j.scale) (at_key j ws h e ∙ sym (append-nil (flat h.pairs)))
         ∙ words_fault-flat j.scale h.pairs [] [] [] h.header.keys h.header.faultless refl refl
-    by_stage (AtValue slot centre) e =
-        let there = at_value j ws h slot centre e in
+    by_stage (AtValue slot) e =
+        let there = at_value j ws h slot e in
         ap (words_fault j.scale) there.1 ∙ words_fault-key j.scale h.pairs there.0 h.header.keys h.header.faultless there.2.letter ∙ there.2.faultless
     by_stage AtHeights e =
         let there = at_heights j ws h e in
@@ -202,10 +202,9 @@ pub answered : (r : Reader) (text : List ℕ) (f : GridFault) → r.fault ≡ So
 answered r text f e h = MatchOption-at_some (IsReading r text) (IsRefusalSoFar r.scale text) f e h
 
 -- after a fault, more of the text changes nothing
-pub answered_more : (r : Reader) (text more : List ℕ) (f : GridFault) → r.fault ≡ Some f → HasTaken r text → HasTaken r (text ++ more)
+pub answered_more : (r : Reader) (text more : List ℕ) (f : GridFault) → r.fault ≡ Some f → IsRefusalSoFar r.scale text f → HasTaken r (text ++ more)
 answered_more r text more f e h =
-    subst (λ o. MatchOption o (IsReading r (text ++ more)) (IsRefusalSoFar r.scale (text ++ more))) (sym e)
-    (refusal_stays r.scale text more f (answered r text f e h))
+    subst (λ o. MatchOption o (IsReading r (text ++ more)) (IsRefusalSoFar r.scale (text ++ more))) (sym e) (refusal_stays r.scale text more f h)
 
 pub whole_refusal : (d : ℕ) (text : List ℕ) (f : GridFault) → IsRefusalSoFar d text f → IsRefusal d text f
 whole_refusal d text f h = subst (λ t. IsRefusal d t f) (append-nil text) (stays d text [] f h)
@@ -260,11 +259,3 @@ faultless r text h =
 pub finished : (d : ℕ) (text : List ℕ) (r : Result Raster GridFault) → length text ≤ most_bytes → words_fault d (words text) ≡ None → MatchResult r (λ g. (end_fault (words text) ≡ None) × (g ≡ grid_of d (words text))) (IsEndFault (words text)) → MatchResult r (IsGridText d text) (IsRefusal d text)
 finished d text r short none m =
     MatchResult-weaker r m (λ g k. spelled d text g short none k.0 k.1) (λ f k. end_told d text f short none k)
-
-pub ok_part : {T E : Type 0} (r : Result T E) (P : T → Type 0) (Q : E → Type 0) → MatchResult r P Q → IfOk r P
-ok_part (Ok x) P Q m = m
-ok_part (Err e) P Q m = tt
-
-pub err_part : {T E : Type 0} (r : Result T E) (P : T → Type 0) (Q : E → Type 0) → MatchResult r P Q → IfErr r Q
-err_part (Ok x) P Q m = tt
-err_part (Err e) P Q m = m

@@ -38,29 +38,6 @@ gather_failed contents a b p q r whole x y e same h = record {
   part = subst (λ z. AppendsPart (contents a.device) (contents b.device) z) (append_assoc p x y ∙ ap (λ z. p ++ z) (sym same)) (AppendsPart-front _ _ (p ++ x) y h.part);
 }
 
--- bytes that go into the page
-pub gather_pushed : {W : Type 0} (contents : W → Option (List ℕ)) (a : Device W) (p q x : List ℕ) (t : Unit {0}) → q ≡ p ++ x → Gathers {E = WriteFailed} contents a p a q x (Ok t)
-gather_pushed contents a p q x t same = record {
-  count = record { ok = refl; err = tt };
-  all = ([], Appends-none _, same);
-  part = tt;
-}
-
--- the page goes to the device
-pub gather_handed : {W : Type 0} (contents : W → Option (List ℕ)) (a b : Device W) (p : List ℕ) (t s : Unit {0}) → Writes {E = WriteFailed} contents a b p (Ok t) → Gathers {E = WriteFailed} contents a p b [] [] (Ok s)
-gather_handed contents a b p t s h = record {
-  count = record { ok = h.count.ok; err = tt };
-  all = (p, h.all, refl);
-  part = tt;
-}
-
-pub gather_not_handed : {W : Type 0} (contents : W → Option (List ℕ)) (a b : Device W) (p q : List ℕ) (e : WriteFailed) → Writes {T = Unit {0}} {E = WriteFailed} contents a b p (Err e) → Gathers {T = Unit {0}} {E = WriteFailed} contents a p b q [] (Err e)
-gather_not_handed contents a b p q e h = record {
-  count = h.count;
-  all = tt;
-  part = subst (λ z. AppendsPart (contents a.device) (contents b.device) z) (sym (append-nil p)) h.part;
-}
-
 -- a text that begins with an empty page, and its last page
 pub written_out : {W : Type 0} (contents : W → Option (List ℕ)) (a b c : Device W) (q x : List ℕ) (t : Unit {0}) (e : Result (Unit {0}) WriteFailed) → Gathers {E = WriteFailed} contents a [] b q x (Ok t) → Writes contents b c q e → Writes contents a c x e
 written_out contents a b c q x t (Ok s) h k = record {

@@ -10,11 +10,10 @@ use Rattle.ascii_grid.specs.Words.{Word}
 use Rattle.ascii_grid.specs.Decimal.{number_of}
 use Rattle.ascii_grid.specs.Header.{fills, slot_of, slot_number, begins_with_letter, header_words, height_words, pairs, key_left, nodata_for, header_fault, key_fault, value_fault, missing_fault}
 use Rattle.ascii_grid.specs.GridText.{cells_wanted, words_fault, heights_fault, height_fault}
-use Rattle.ascii_grid.specs.Slots.{is_given, anchor_at, with_value, missing_of, wanted_of}
-use Rattle.ascii_grid.specs.Reading.{flat, given, is_centre, slots_of, keys_before, HasBegun}
+use Rattle.ascii_grid.specs.Slots.{is_given, is_centre, slot_named, with_value, missing_of, wanted_of}
+use Rattle.ascii_grid.specs.Reading.{flat, given, slots_of, keys_before, HasBegun}
 use Rattle.ascii_grid.specs.declared.fault.Key.{Key}
 use Rattle.ascii_grid.specs.declared.fault.Key.TheVariants.{Ncols, Nrows, Xll, Yll, Cellsize, Nodata}
-use Rattle.ascii_grid.specs.declared.header.Header.{Header}
 
 abbrev pub Pairs : Type 0
 Pairs = List (Word × Word)
@@ -39,6 +38,19 @@ is_some-option_map f (Some x) = refl
 pub none_from_is_some : {X : Type 0} (o : Option X) → is_some o ≡ false → o ≡ None
 none_from_is_some None h = refl
 none_from_is_some (Some x) h = cc
+
+-- where no fault is chosen
+pub or_none : {X : Type 0} (o p : Option X) → option_or o p ≡ None → (o ≡ None) × (p ≡ None)
+or_none None p h = (refl, h)
+or_none (Some x) p h = cc
+
+pub then_none : {X : Type 0} (b : Bool) (x : X) (o : Option X) → cond b (Some x) o ≡ None → (b ≡ false) × (o ≡ None)
+then_none true x o h = cc
+then_none false x o h = (refl, h)
+
+pub else_none : {X : Type 0} (b : Bool) (o : Option X) (x : X) → cond b o (Some x) ≡ None → (b ≡ true) × (o ≡ None)
+else_none true o x h = (refl, h)
+else_none false o x h = cc
 
 -- ---- pairs and what follows them
 
@@ -92,11 +104,7 @@ list_any-keys_before t (p ∷ ps) before = list_any-keys_before t ps (p.0 ∷ be
 
 pub is_given-slots_of : (slot : Key) (ps : Pairs) → is_given (slots_of ps) slot ≡ is_some (given slot ps)
 is_given-slots_of Ncols ps = is_some-option_map _ _
-is_given-slots_of Nrows ps = is_some-option_map _ _
-is_given-slots_of Xll ps = is_some-option_map _ _
-is_given-slots_of Yll ps = is_some-option_map _ _
-is_given-slots_of Cellsize ps = is_some-option_map _ _
-is_given-slots_of Nodata ps = is_some-option_map _ _
+is_given-slots_of slot ps = is_some-option_map _ _
 
 pub missing_of-slots_of : (ps : Pairs) → missing_of (slots_of ps) ≡ missing_fault (flat ps)
 missing_of-slots_of ps =
@@ -113,56 +121,35 @@ pub wanted_of-slots_of : (ps : Pairs) → wanted_of (slots_of ps) ≡ cells_want
 wanted_of-slots_of ps = rw (pairs-flat ps, number-of_pair (given Ncols ps), number-of_pair (given Nrows ps)) refl
 
 -- a pair for another slot, or the first for this one
-pub given-push : (s slot : Key) (ps : Pairs) (k v : Word) → slot_of k ≡ Some slot → given s (ps ++ (k, v) ∷ []) ≡ option_or (given s ps) (cond (slot_number slot == slot_number s) (Some (k, v)) None)
+given-push : (s slot : Key) (ps : Pairs) (k v : Word) → slot_of k ≡ Some slot → given s (ps ++ (k, v) ∷ []) ≡ option_or (given s ps) (cond (slot_number slot == slot_number s) (Some (k, v)) None)
 given-push s slot ps k v h =
     find-append (λ (p : Word × Word). fills s p.0) ps ((k, v) ∷ [])
     ∙ ap (λ (o : Option Key). option_or (given s ps) (cond (option_map_or (λ t. slot_number t == slot_number s) o false) (Some (k, v)) None)) h
 
--- the slots from the pairs of each
-abbrev slots_from : (a b c d e f : Option (Word × Word)) → Header
-slots_from a b c d e f = record {
-  cols = option_map (λ (p : Word × Word). number_of p.1) a;
-  rows = option_map (λ (p : Word × Word). number_of p.1) b;
-  xll = option_map (λ (p : Word × Word). anchor_at (is_centre p.0) p.1) c;
-  yll = option_map (λ (p : Word × Word). anchor_at (is_centre p.0) p.1) d;
-  cellsize = option_map (λ (p : Word × Word). p.1) e;
-  nodata = option_map (λ (p : Word × Word). p.1) f;
-}
+-- the slots of pairs that are the same but for this slot
+abbrev FilledAt : Key → Word × Word → Pairs → Pairs → Type 0
+FilledAt slot p ps qs = (given slot qs ≡ Some p) × ((s : Key) → (slot_number slot == slot_number s) ≡ false → given s qs ≡ given s ps)
 
-same_slots : (a b c d e f a' b' c' d' e' f' : Option (Word × Word)) → a ≡ a' → b ≡ b' → c ≡ c' → d ≡ d' → e ≡ e' → f ≡ f' → slots_from a b c d e f ≡ slots_from a' b' c' d' e' f'
-same_slots a b c d e f a' b' c' d' e' f' p q r s t u = rw (p, q, r, s, t, u) refl
+with_value-at : (slot : Key) (p : Word × Word) (ps qs : Pairs) → FilledAt slot p ps qs → with_value (slots_of ps) (slot_named slot (is_centre p.0)) p.1 ≡ slots_of qs
+with_value-at Ncols p ps qs h = rw (h.0, h.1 Nrows refl, h.1 Xll refl, h.1 Yll refl, h.1 Cellsize refl, h.1 Nodata refl) refl
+with_value-at Nrows p ps qs h = rw (h.0, h.1 Ncols refl, h.1 Xll refl, h.1 Yll refl, h.1 Cellsize refl, h.1 Nodata refl) refl
+with_value-at Xll p ps qs h = rw (h.0, h.1 Ncols refl, h.1 Nrows refl, h.1 Yll refl, h.1 Cellsize refl, h.1 Nodata refl) refl
+with_value-at Yll p ps qs h = rw (h.0, h.1 Ncols refl, h.1 Nrows refl, h.1 Xll refl, h.1 Cellsize refl, h.1 Nodata refl) refl
+with_value-at Cellsize p ps qs h = rw (h.0, h.1 Ncols refl, h.1 Nrows refl, h.1 Xll refl, h.1 Yll refl, h.1 Nodata refl) refl
+with_value-at Nodata p ps qs h = rw (h.0, h.1 Ncols refl, h.1 Nrows refl, h.1 Xll refl, h.1 Yll refl, h.1 Cellsize refl) refl
 
--- the pair of a slot after one more pair
-abbrev pair_after : Pairs → Word → Word → Key → Key → Option (Word × Word)
-pair_after ps k v slot s = option_or (given s ps) (cond (slot_number slot == slot_number s) (Some (k, v)) None)
-
-abbrev PairsAfter : Pairs → Word → Word → Key → Type 0
-PairsAfter ps k v slot = (s : Key) → given s (ps ++ (k, v) ∷ []) ≡ pair_after ps k v slot s
-
-filled : (s : Key) (ps : Pairs) (k v : Word) → given s (ps ++ (k, v) ∷ []) ≡ option_or (given s ps) (Some (k, v)) → given s ps ≡ None → Some (k, v) ≡ given s (ps ++ (k, v) ∷ [])
-filled s ps k v more none = sym (more ∙ ap (λ o. option_or o (Some (k, v))) none)
-
-stays : (s : Key) (ps : Pairs) (k v : Word) → given s (ps ++ (k, v) ∷ []) ≡ option_or (given s ps) None → given s ps ≡ given s (ps ++ (k, v) ∷ [])
-stays s ps k v more = sym (more ∙ option_or-none (given s ps))
-
-with_value-by_slot : (slot : Key) (ps : Pairs) (k v : Word) → PairsAfter ps k v slot → given slot ps ≡ None → with_value (slots_of ps) slot (is_centre k) v ≡ slots_of (ps ++ (k, v) ∷ [])
-with_value-by_slot Ncols ps k v more none =
-    same_slots (Some (k, v)) (given Nrows ps) (given Xll ps) (given Yll ps) (given Cellsize ps) (given Nodata ps) (given Ncols (ps ++ (k, v) ∷ [])) (given Nrows (ps ++ (k, v) ∷ [])) (given Xll (ps ++ (k, v) ∷ [])) (given Yll (ps ++ (k, v) ∷ [])) (given Cellsize (ps ++ (k, v) ∷ [])) (given Nodata (ps ++ (k, v) ∷ [])) (filled Ncols ps k v (more Ncols) none) (stays Nrows ps k v (more Nrows)) (stays Xll ps k v (more Xll)) (stays Yll ps k v (more Yll)) (stays Cellsize ps k v (more Cellsize)) (stays Nodata ps k v (more Nodata))
-with_value-by_slot Nrows ps k v more none =
-    same_slots (given Ncols ps) (Some (k, v)) (given Xll ps) (given Yll ps) (given Cellsize ps) (given Nodata ps) (given Ncols (ps ++ (k, v) ∷ [])) (given Nrows (ps ++ (k, v) ∷ [])) (given Xll (ps ++ (k, v) ∷ [])) (given Yll (ps ++ (k, v) ∷ [])) (given Cellsize (ps ++ (k, v) ∷ [])) (given Nodata (ps ++ (k, v) ∷ [])) (stays Ncols ps k v (more Ncols)) (filled Nrows ps k v (more Nrows) none) (stays Xll ps k v (more Xll)) (stays Yll ps k v (more Yll)) (stays Cellsize ps k v (more Cellsize)) (stays Nodata ps k v (more Nodata))
-with_value-by_slot Xll ps k v more none =
-    same_slots (given Ncols ps) (given Nrows ps) (Some (k, v)) (given Yll ps) (given Cellsize ps) (given Nodata ps) (given Ncols (ps ++ (k, v) ∷ [])) (given Nrows (ps ++ (k, v) ∷ [])) (given Xll (ps ++ (k, v) ∷ [])) (given Yll (ps ++ (k, v) ∷ [])) (given Cellsize (ps ++ (k, v) ∷ [])) (given Nodata (ps ++ (k, v) ∷ [])) (stays Ncols ps k v (more Ncols)) (stays Nrows ps k v (more Nrows)) (filled Xll ps k v (more Xll) none) (stays Yll ps k v (more Yll)) (stays Cellsize ps k v (more Cellsize)) (stays Nodata ps k v (more Nodata))
-with_value-by_slot Yll ps k v more none =
-    same_slots (given Ncols ps) (given Nrows ps) (given Xll ps) (Some (k, v)) (given Cellsize ps) (given Nodata ps) (given Ncols (ps ++ (k, v) ∷ [])) (given Nrows (ps ++ (k, v) ∷ [])) (given Xll (ps ++ (k, v) ∷ [])) (given Yll (ps ++ (k, v) ∷ [])) (given Cellsize (ps ++ (k, v) ∷ [])) (given Nodata (ps ++ (k, v) ∷ [])) (stays Ncols ps k v (more Ncols)) (stays Nrows ps k v (more Nrows)) (stays Xll ps k v (more Xll)) (filled Yll ps k v (more Yll) none) (stays Cellsize ps k v (more Cellsize)) (stays Nodata ps k v (more Nodata))
-with_value-by_slot Cellsize ps k v more none =
-    same_slots (given Ncols ps) (given Nrows ps) (given Xll ps) (given Yll ps) (Some (k, v)) (given Nodata ps) (given Ncols (ps ++ (k, v) ∷ [])) (given Nrows (ps ++ (k, v) ∷ [])) (given Xll (ps ++ (k, v) ∷ [])) (given Yll (ps ++ (k, v) ∷ [])) (given Cellsize (ps ++ (k, v) ∷ [])) (given Nodata (ps ++ (k, v) ∷ [])) (stays Ncols ps k v (more Ncols)) (stays Nrows ps k v (more Nrows)) (stays Xll ps k v (more Xll)) (stays Yll ps k v (more Yll)) (filled Cellsize ps k v (more Cellsize) none) (stays Nodata ps k v (more Nodata))
-with_value-by_slot Nodata ps k v more none =
-    same_slots (given Ncols ps) (given Nrows ps) (given Xll ps) (given Yll ps) (given Cellsize ps) (Some (k, v)) (given Ncols (ps ++ (k, v) ∷ [])) (given Nrows (ps ++ (k, v) ∷ [])) (given Xll (ps ++ (k, v) ∷ [])) (given Yll (ps ++ (k, v) ∷ [])) (given Cellsize (ps ++ (k, v) ∷ [])) (given Nodata (ps ++ (k, v) ∷ [])) (stays Ncols ps k v (more Ncols)) (stays Nrows ps k v (more Nrows)) (stays Xll ps k v (more Xll)) (stays Yll ps k v (more Yll)) (stays Cellsize ps k v (more Cellsize)) (filled Nodata ps k v (more Nodata) none)
+same_number : (slot : Key) → (slot_number slot == slot_number slot) ≡ true
+same_number Ncols = refl
+same_number slot = refl
 
 -- one more pair fills its slot
-pub with_value-slots_of : (slot : Key) (ps : Pairs) (k v : Word) → slot_of k ≡ Some slot → is_given (slots_of ps) slot ≡ false → with_value (slots_of ps) slot (is_centre k) v ≡ slots_of (ps ++ (k, v) ∷ [])
+pub with_value-slots_of : (slot : Key) (ps : Pairs) (k v : Word) → slot_of k ≡ Some slot → is_given (slots_of ps) slot ≡ false → with_value (slots_of ps) (slot_named slot (is_centre k)) v ≡ slots_of (ps ++ (k, v) ∷ [])
 with_value-slots_of slot ps k v h free =
-    with_value-by_slot slot ps k v (λ s. given-push s slot ps k v h) (none_from_is_some (given slot ps) (sym (is_given-slots_of slot ps) ∙ free))
+    let none = none_from_is_some (given slot ps) (sym (is_given-slots_of slot ps) ∙ free) in
+    with_value-at slot (k, v) ps (ps ++ (k, v) ∷ []) (
+      given-push slot slot ps k v h ∙ rw (none, same_number slot) refl,
+      λ s other. given-push s slot ps k v h ∙ rw other (option_or-none (given s ps)),
+    )
 
 -- ---- the first fault of the words after pairs
 

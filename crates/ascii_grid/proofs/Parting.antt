@@ -4,6 +4,7 @@ use Rattle.std.specs.Prelude.{filter}
 use Rattle.std.specs.List.{slice_split, onto_first, before_last, suffix_len, prefix_len}
 use Rattle.std.proofs.lemmas.Bool.{cases_Bool}
 use Rattle.std.proofs.lemmas.List.{reverse-append, length-append, take_at, take-append-le}
+use Rattle.std.proofs.lemmas.List.Elements.{filter-append}
 use Rattle.std.proofs.lemmas.List.Splits.{slice_split-cons_yes, slice_split-cons_no}
 use Rattle.ascii_grid.specs.Words.{Word, is_word, is_separator, words, ended_words}
 use Rattle.ascii_grid.specs.Reading.{IsParted}
@@ -90,18 +91,10 @@ before_last-no p xs b h =
 
 -- ---- one more byte
 
-pub filter-append : (xs ys : List Word) → filter is_word (xs ++ ys) ≡ filter is_word xs ++ filter is_word ys
-filter-append [] ys = refl
-filter-append (x ∷ xs) ys =
-    elim (cases_Bool (is_word x)) [
-      | inl here ↦ rw here (ap (λ z. x ∷ z) (filter-append xs ys))
-      | inr apart ↦ rw apart (filter-append xs ys)
-    ]
-
 -- all words of a text: those that ended, and the last
 pub words-parted : (text : List ℕ) (ws : List Word) (w : Word) → IsParted text ws w → words text ≡ ws ++ filter is_word (w ∷ [])
 words-parted text ws w h =
-    ap (filter is_word) h.split ∙ filter-append h.parts (w ∷ []) ∙ ap (λ z. z ++ filter is_word (w ∷ [])) h.kept
+    ap (filter is_word) h.split ∙ filter-append is_word h.parts (w ∷ []) ∙ ap (λ z. z ++ filter is_word (w ∷ [])) h.kept
 
 pub IsParted-none : IsParted [] [] []
 IsParted-none = record { parts = []; split = refl; kept = refl; ended = refl }

@@ -8,29 +8,29 @@ use Rattle.std.proofs.Math.Nat.{pow-suc}
 use Rattle.ascii_grid.specs.Words.{is_separator}
 use Rattle.ascii_grid.specs.Decimal.{without_sign, is_negative, is_point, is_exponent_mark, has_exponent, are_digits, number_of, scaled_value}
 use Rattle.ascii_grid.specs.Plain.{IsPlain}
-use Rattle.ascii_grid.proofs.Scaled.{before_first-none, number_of-padded, scaled_value-digits}
+use Rattle.ascii_grid.proofs.Scaled.{are_digits-append, before_first-none, number_of-padded, scaled_value-digits}
 
 -- a test that no digit passes
-abbrev PassesNoDigit : (ℕ → Bool) → Type 0
+abbrev pub PassesNoDigit : (ℕ → Bool) → Type 0
 PassesNoDigit p = (b : ℕ) → 48 ≤ b → b ≤ 57 → p b ≡ false
 
-digit_bounds : (b : ℕ) → is_ascii_digit b ≡ true → (48 ≤ b) × (b ≤ 57)
+pub digit_bounds : (b : ℕ) → is_ascii_digit b ≡ true → (48 ≤ b) × (b ≤ 57)
 digit_bounds b h = let k = and_parts (nat_le 48 b) (nat_le b 57) h in (leb-true 48 b k.0, leb-true b 57 k.1)
 
-any-digits : (p : ℕ → Bool) (xs : List ℕ) → PassesNoDigit p → list_all is_ascii_digit xs ≡ true → list_any p xs ≡ false
+pub any-digits : (p : ℕ → Bool) (xs : List ℕ) → PassesNoDigit p → list_all is_ascii_digit xs ≡ true → list_any p xs ≡ false
 any-digits p [] none h = refl
 any-digits p (x ∷ xs) none h =
     let k = and_parts (is_ascii_digit x) (list_all is_ascii_digit xs) h in
     let b = digit_bounds x k.0 in
     or_from (p x) (list_any p xs) (none x b.0 b.1) (any-digits p xs none k.1)
 
-no_exponent : PassesNoDigit is_exponent_mark
+pub no_exponent : PassesNoDigit is_exponent_mark
 no_exponent b low high = rw (ne_eqb b 101 (λ e. omega arith), ne_eqb b 69 (λ e. omega arith)) refl
 
-no_point : PassesNoDigit is_point
+pub no_point : PassesNoDigit is_point
 no_point b low high = ne_eqb b 46 (λ e. omega arith)
 
-no_separator : PassesNoDigit is_separator
+pub no_separator : PassesNoDigit is_separator
 no_separator b low high = rw (ne_eqb b 32 (λ e. omega arith), ne_eqb b 9 (λ e. omega arith), ne_eqb b 10 (λ e. omega arith), ne_eqb b 13 (λ e. omega arith)) refl
 
 fold-zeros : (n k : ℕ) → fold (λ n b. 10 * n + (b - 48)) n (replicate k 48) ≡ n * 10 ^ k
@@ -38,14 +38,10 @@ fold-zeros n zero = omega arith
 fold-zeros n (suc k) = fold-zeros (10 * n + 0) k ∙ rw (pow-suc 10 k) (omega arith)
 
 -- where no element passes, nothing stands after the first
-after_first-none : (p : ℕ → Bool) (xs : List ℕ) → list_any p xs ≡ false → after_first p xs ≡ []
+pub after_first-none : (p : ℕ → Bool) (xs : List ℕ) → list_any p xs ≡ false → after_first p xs ≡ []
 after_first-none p xs h =
     let all = ap length (before_first-none p xs h) in
     drop_all (position_or_len p xs + 1) xs (omega (arith, all, length-take (position_or_len p xs) xs))
-
-digits_some : (xs : List ℕ) → 0 < length xs → list_all is_ascii_digit xs ≡ true → are_digits (xs ++ []) ≡ true
-digits_some [] h k = absurd (omega arith)
-digits_some (x ∷ xs) h k = ap are_digits (append-nil (x ∷ xs)) ∙ k
 
 drop-none : (d : ℕ) → drop {A = ℕ} d [] ≡ []
 drop-none d = drop_all d [] (omega arith)
@@ -64,12 +60,13 @@ scaled_value-plain d w xs bare plain some digits small =
     let no_marks = any-digits is_point xs no_point digits in
     let before : xs ≡ before_first is_point (without_sign w) = sym (ap (before_first is_point) bare ∙ before_first-none is_point xs no_marks) in
     let after : [] ≡ after_first is_point (without_sign w) = sym (ap (after_first is_point) bare ∙ after_first-none is_point xs no_marks) in
-    scaled_value-digits d w xs [] plain before after (digits_some xs some digits)
+    scaled_value-digits d w xs [] plain before after (are_digits-append xs [] some ∙ rw digits refl)
     ∙ rw (drop-none d, scaled_digits d xs, le-leb (number_of xs * 10 ^ d) (10 ^ 18) small) refl
 
-bare_digits : (xs : List ℕ) → 0 < length xs → list_all is_ascii_digit xs ≡ true → (without_sign xs ≡ xs) × (is_negative xs ≡ false)
-bare_digits [] h k = absurd (omega arith)
-bare_digits (x ∷ xs) h k =
+-- a text that begins with a digit has no sign
+pub bare_digits : (xs rest : List ℕ) → 0 < length xs → list_all is_ascii_digit xs ≡ true → (without_sign (xs ++ rest) ≡ xs ++ rest) × (is_negative (xs ++ rest) ≡ false)
+bare_digits [] rest h k = absurd (omega arith)
+bare_digits (x ∷ xs) rest h k =
     let b = digit_bounds x (and_parts (is_ascii_digit x) (list_all is_ascii_digit xs) k).0 in
     (rw (ne_eqb x 43 (λ e. omega arith), ne_eqb x 45 (λ e. omega arith)) refl, ne_eqb x 45 (λ e. omega arith))
 
@@ -78,7 +75,7 @@ pub IsPlain-positive : (d : ℕ) (bytes : List ℕ) (len : ℕ) → 0 < len → 
 IsPlain-positive d bytes len some short within digits small =
     let xs = take len bytes in
     let more : 0 < length xs = omega (arith, length-take len bytes) in
-    let bare = bare_digits xs more digits in
+    let bare = rw append-nil at (bare_digits xs [] more digits) in
     record {
       some = some;
       short = omega arith;

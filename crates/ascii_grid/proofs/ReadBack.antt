@@ -10,7 +10,7 @@ use Rattle.std.proofs.Math.Nat.{mul_comm, le_of_eq}
 use Rattle.std.proofs.lemmas.Fmt.{length-decimal-le}
 use Rattle.ascii_grid.specs.Words.{Word, words}
 use Rattle.ascii_grid.specs.Decimal.{number_of, are_digits, is_decimal, is_above_zero}
-use Rattle.ascii_grid.specs.Raster.{Anchor, Raster, IsLawful}
+use Rattle.ascii_grid.specs.Raster.{Anchor, Raster, raster, IsLawful}
 use Rattle.ascii_grid.specs.Header.{header_words, height_words, header_fault, missing_fault, no_value_fault, nodata_for, size_for, anchor_for, word_for, is_long, is_size}
 use Rattle.ascii_grid.specs.GridText.{IsGridText, most_bytes, words_fault, end_fault, heights_fault, cells_wanted, grid_of, cell_of, fault_so_far}
 use Rattle.ascii_grid.specs.Text.{line_text, anchor_text, header_text, rows_text, cell_text, height_text, heights_text}
@@ -20,7 +20,8 @@ use Rattle.ascii_grid.specs.declared.fault.GridFault.TheVariants.{TooFew}
 use Rattle.ascii_grid.proofs.ReadBackWords.{IsClean, words-word, words-rows}
 use Rattle.ascii_grid.proofs.ReadBackDecimals.{decimal_clean, digits_clean}
 use Rattle.ascii_grid.proofs.ReadBackNumbers.{decimal_value, decimal_are_digits, decimal_word, decimal_digits}
-use Rattle.ascii_grid.proofs.ReadBackCells.{ReadsAs, reads_cell, not_long, no_heights_fault, cells_again}
+use Rattle.ascii_grid.proofs.JudgedWords.{is_short}
+use Rattle.ascii_grid.proofs.ReadBackCells.{ReadsAs, reads_cell, no_heights_fault, cells_again}
 use Rattle.ascii_grid.proofs.ReadBackHeader.{xll_key, yll_key, header_and, AreValues, or_none, only_heights, header_is, heights_are, no_header_fault, Gives, header_gives}
 
 -- a line of the header, and the rest
@@ -52,7 +53,11 @@ record HasCleanValues (g : Raster) : Type 0 where
 regroup_lines : (a b c d e f rest : List ℕ) → (((((a ++ b) ++ c) ++ d) ++ e) ++ f) ++ rest ≡ a ++ (b ++ (c ++ (d ++ (e ++ (f ++ rest)))))
 regroup_lines a b c d e f rest = simp append_assoc
 
-words-header : (g : Raster) (rest : List ℕ) → HasCleanValues g → words (header_text g g.nodata ++ rest) ≡ header_and g.xll.centre g.yll.centre (decimal g.terrain.cols) (decimal g.terrain.rows) g.xll.word g.yll.word g.cellsize g.nodata (words rest)
+-- the words of a grid's header, and then others
+abbrev header_of : Raster → List Word → List Word
+header_of g rest = header_and g.xll.centre g.yll.centre g rest
+
+words-header : (g : Raster) (rest : List ℕ) → HasCleanValues g → words (header_text g g.nodata ++ rest) ≡ header_of g (words rest)
 words-header g rest clean =
     let l1 = line_text (codes "ncols         ") (decimal g.terrain.cols) in
     let l2 = line_text (codes "nrows         ") (decimal g.terrain.rows) in
@@ -78,9 +83,9 @@ size_ok n low high =
     (le-leb (number_of (decimal n)) 4096 (omega (arith, value)))
 
 size_short : (n : ℕ) → n ≤ 4096 → is_long (decimal n) ≡ false
-size_short n high = not_long (decimal n) (let l = length-decimal-le 4 n (omega arith) (omega arith) (omega arith) in omega (arith, l))
+size_short n high = is_short (decimal n) (let l = length-decimal-le 4 n (omega arith) (omega arith) (omega arith) in omega (arith, l))
 
-values_ok : (g : Raster) → IsLawful g → AreValues (decimal g.terrain.cols) (decimal g.terrain.rows) g.xll.word g.yll.word g.cellsize g.nodata
+values_ok : (g : Raster) → IsLawful g → AreValues g
 values_ok g h = record {
   cols = size_ok g.terrain.cols h.terrain.some_col h.terrain.few_cols;
   rows = size_ok g.terrain.rows h.terrain.some_row h.terrain.few_rows;
@@ -90,10 +95,10 @@ values_ok g h = record {
   nodata = h.nodata.1;
   short_cols = size_short g.terrain.cols h.terrain.few_cols;
   short_rows = size_short g.terrain.rows h.terrain.few_rows;
-  short_xll = not_long g.xll.word h.xll.0;
-  short_yll = not_long g.yll.word h.yll.0;
-  short_cellsize = not_long g.cellsize h.cellsize.0;
-  short_nodata = not_long g.nodata h.nodata.0;
+  short_xll = is_short g.xll.word h.xll.0;
+  short_yll = is_short g.yll.word h.yll.0;
+  short_cellsize = is_short g.cellsize h.cellsize.0;
+  short_nodata = is_short g.nodata h.nodata.0;
 }
 
 size_clean : (n : ℕ) → n ≤ 4096 → IsClean (decimal n)
@@ -113,10 +118,10 @@ all_read : (g : Raster) → IsLawful g → All (λ c. ReadsAs g.scale g.nodata c
 all_read g h = λ k d within. reads_cell g.scale g.nodata (get_or g.terrain.cells k d) h.scale h.nodata (record { height = h.terrain.heights k d within; apart = h.apart k d within })
 
 -- the words of a grid's text
-words_are : (g : Raster) → IsLawful g → words (heights_text g) ≡ header_and g.xll.centre g.yll.centre (decimal g.terrain.cols) (decimal g.terrain.rows) g.xll.word g.yll.word g.cellsize g.nodata (map (cell_text (height_text g.scale) g.nodata) g.terrain.cells)
+words_are : (g : Raster) → IsLawful g → words (heights_text g) ≡ header_of g (map (cell_text (height_text g.scale) g.nodata) g.terrain.cells)
 words_are g h =
     words-header g (rows_text (height_text g.scale) g.nodata g.terrain.cols g.terrain.rows g.terrain.cells) (clean_values g h)
-    ∙ ap (λ (ws : List Word). header_and g.xll.centre g.yll.centre (decimal g.terrain.cols) (decimal g.terrain.rows) g.xll.word g.yll.word g.cellsize g.nodata ws)
+    ∙ ap (λ (ws : List Word). header_of g ws)
     (words-rows (height_text g.scale) g.nodata g.terrain.cols g.terrain.rows g.terrain.cells (omega (arith, h.terrain.some_col)) (h.terrain.size ∙ mul_comm g.terrain.cols g.terrain.rows)
     (λ k d within. (all_read g h k d within).clean))
 
@@ -140,18 +145,11 @@ end_with header heights =
     (cond (ltb (length heights) (cells_wanted header)) (Some (TooFew (length heights))) None))
 
 abbrev grid_with : ℕ → List Word → List Word → Raster
-grid_with d header heights = record {
-  terrain = record {
-    cols = size_for Ncols header;
-    rows = size_for Nrows header;
-    cells = map (cell_of d (nodata_for header)) heights;
-  };
-  xll = anchor_for Xll header;
-  yll = anchor_for Yll header;
-  cellsize = word_for Cellsize header;
-  nodata = nodata_for header;
-  scale = d;
-}
+grid_with d header heights =
+    let xll = anchor_for Xll header in
+    let yll = anchor_for Yll header in
+    raster (size_for Ncols header) (size_for Nrows header) xll.centre xll.word yll.centre yll.word
+    (word_for Cellsize header) (nodata_for header) d (map (cell_of d (nodata_for header)) heights)
 
 -- what a text's header and heights make, its words being known
 with_words : {Y : Type 0} (f : List Word → List Word → Y) (ws whole header heights : List Word) → ws ≡ whole → header_words whole ≡ header → height_words whole ≡ heights → f (header_words ws) (height_words ws) ≡ f header heights
@@ -160,10 +158,7 @@ with_words f ws whole header heights a b c =
     ∙ ap (λ (z : List Word). f z (height_words whole)) b
     ∙ ap (λ (z : List Word). f header z) c
 
--- the header, its words and the cells' words of a grid's text
-abbrev header_of : Raster → List Word → List Word
-header_of g rest = header_and g.xll.centre g.yll.centre (decimal g.terrain.cols) (decimal g.terrain.rows) g.xll.word g.yll.word g.cellsize g.nodata rest
-
+-- the cells' words of a grid's text
 abbrev words_of_cells : Raster → List Word
 words_of_cells g = map (cell_text (height_text g.scale) g.nodata) g.terrain.cells
 
@@ -172,11 +167,11 @@ text_with f g h =
     let cells = cells_are_heights g.scale g.nodata g.terrain.cells (all_read g h) in
     with_words f (words (heights_text g)) (header_of g (words_of_cells g)) (header_of g []) (words_of_cells g)
     (words_are g h)
-    (header_is g.xll.centre g.yll.centre (decimal g.terrain.cols) (decimal g.terrain.rows) g.xll.word g.yll.word g.cellsize g.nodata (words_of_cells g) cells.0)
-    (heights_are g.xll.centre g.yll.centre (decimal g.terrain.cols) (decimal g.terrain.rows) g.xll.word g.yll.word g.cellsize g.nodata (words_of_cells g) cells.1)
+    (header_is g.xll.centre g.yll.centre g (words_of_cells g) cells.0)
+    (heights_are g.xll.centre g.yll.centre g (words_of_cells g) cells.1)
 
-gives_of : (g : Raster) → Gives g.xll.centre g.yll.centre (decimal g.terrain.cols) (decimal g.terrain.rows) g.xll.word g.yll.word g.cellsize g.nodata (header_of g [])
-gives_of g = header_gives g.xll.centre g.yll.centre (decimal g.terrain.cols) (decimal g.terrain.rows) g.xll.word g.yll.word g.cellsize g.nodata
+gives_of : (g : Raster) → Gives g.xll.centre g.yll.centre g (header_of g [])
+gives_of g = header_gives g.xll.centre g.yll.centre g
 
 cols_again : (g : Raster) → IsLawful g → size_for Ncols (header_of g []) ≡ g.terrain.cols
 cols_again g h = (gives_of g).cols ∙ decimal_value g.terrain.cols (omega (arith, h.terrain.few_cols))
@@ -190,7 +185,7 @@ wanted_again g h = ap (λ n. n * size_for Nrows (header_of g [])) (cols_again g 
 no_words_fault : (g : Raster) → IsLawful g → words_fault g.scale (words (heights_text g)) ≡ None
 no_words_fault g h =
     text_with (fault_with g.scale) g h
-    ∙ or_none (header_fault [] (header_of g [])) _ (no_header_fault g.xll.centre g.yll.centre (decimal g.terrain.cols) (decimal g.terrain.rows) g.xll.word g.yll.word g.cellsize g.nodata (values_ok g h))
+    ∙ or_none (header_fault [] (header_of g [])) _ (no_header_fault g.xll.centre g.yll.centre g (values_ok g h))
     (no_heights_fault g.scale (header_of g []) g.nodata 0 g.terrain.cells (gives_of g).whole (gives_of g).nodata (zero-add (length g.terrain.cells) ∙ h.terrain.size ∙ sym (wanted_again g h)) (all_read g h))
 
 enough : (g : Raster) → IsLawful g → ltb (length (words_of_cells g)) (cells_wanted (header_of g [])) ≡ false
@@ -207,30 +202,15 @@ no_end_fault g h =
     (or_none (missing_fault (header_of g [])) _ (gives_of g).whole
     (cond-false (ltb (length (words_of_cells g)) (cells_wanted (header_of g []))) (Some (TooFew (length (words_of_cells g)))) None (enough g h)))
 
-abbrev raster : ℕ → ℕ → List (Option ℤ) → Anchor → Anchor → Word → Word → ℕ → Raster
-raster cols rows cells xll yll cellsize nodata d = record {
-  terrain = record { cols = cols; rows = rows; cells = cells };
-  xll = xll;
-  yll = yll;
-  cellsize = cellsize;
-  nodata = nodata;
-  scale = d;
-}
+same_raster : (cols rows scale : ℕ) (xll yll : Anchor) (cellsize nodata : Word) (cells : List (Option ℤ)) (g : Raster) → cols ≡ g.terrain.cols → rows ≡ g.terrain.rows → cells ≡ g.terrain.cells → xll ≡ g.xll → yll ≡ g.yll → cellsize ≡ g.cellsize → nodata ≡ g.nodata → scale ≡ g.scale → raster cols rows xll.centre xll.word yll.centre yll.word cellsize nodata scale cells ≡ g
+same_raster cols rows scale xll yll cellsize nodata cells g a b c d e f h i = rw (a, b, c, d, e, f, h, i) refl
 
 grid_again : (g : Raster) → IsLawful g → grid_of g.scale (words (heights_text g)) ≡ g
 grid_again g h =
-    let header = header_of g [] in
     let gives = gives_of g in
-    let cells : map (cell_of g.scale (nodata_for (header_of g []))) (words_of_cells g) ≡ g.terrain.cells =
-    ap (λ w. map (cell_of g.scale w) (words_of_cells g)) (gives_of g).nodata ∙ cells_again g.scale g.nodata g.terrain.cells (all_read g h) in
+    let cells = ap (λ w. map (cell_of g.scale w) (words_of_cells g)) gives.nodata ∙ cells_again g.scale g.nodata g.terrain.cells (all_read g h) in
     text_with (grid_with g.scale) g h
-    ∙ ap (λ n. raster n (size_for Nrows header) (map (cell_of g.scale (nodata_for header)) (words_of_cells g)) (anchor_for Xll header) (anchor_for Yll header) (word_for Cellsize header) (nodata_for header) g.scale) (cols_again g h)
-    ∙ ap (λ n. raster g.terrain.cols n (map (cell_of g.scale (nodata_for header)) (words_of_cells g)) (anchor_for Xll header) (anchor_for Yll header) (word_for Cellsize header) (nodata_for header) g.scale) (rows_again g h)
-    ∙ ap (λ (z : List (Option ℤ)). raster g.terrain.cols g.terrain.rows z (anchor_for Xll header) (anchor_for Yll header) (word_for Cellsize header) (nodata_for header) g.scale) cells
-    ∙ ap (λ (z : Anchor). raster g.terrain.cols g.terrain.rows g.terrain.cells z (anchor_for Yll header) (word_for Cellsize header) (nodata_for header) g.scale) gives.xll
-    ∙ ap (λ (z : Anchor). raster g.terrain.cols g.terrain.rows g.terrain.cells g.xll z (word_for Cellsize header) (nodata_for header) g.scale) gives.yll
-    ∙ ap (λ (z : Word). raster g.terrain.cols g.terrain.rows g.terrain.cells g.xll g.yll z (nodata_for header) g.scale) gives.cellsize
-    ∙ ap (λ (z : Word). raster g.terrain.cols g.terrain.rows g.terrain.cells g.xll g.yll g.cellsize z g.scale) gives.nodata
+    ∙ same_raster _ _ _ _ _ _ _ _ g (cols_again g h) (rows_again g h) cells gives.xll gives.yll gives.cellsize gives.nodata refl
 
 pub read_back : (g : Raster) → IsLawful g → length (heights_text g) ≤ most_bytes → IsGridText g.scale (heights_text g) g
 read_back g h short = record {

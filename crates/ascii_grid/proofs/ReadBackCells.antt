@@ -15,7 +15,7 @@ use Rattle.ascii_grid.specs.Raster.{lowest, highest, IsHeight, is_height, IsHead
 use Rattle.ascii_grid.specs.Header.{begins_with_letter, is_long, nodata_for, missing_fault}
 use Rattle.ascii_grid.specs.GridText.{same_value, is_nodata, cell_of, is_cell, cells_wanted, heights_fault}
 use Rattle.ascii_grid.specs.Text.{height_text, cell_text}
-use Rattle.ascii_grid.proofs.JudgedWords.{height_fault-none}
+use Rattle.ascii_grid.proofs.JudgedWords.{is_short, height_fault-none}
 use Rattle.ascii_grid.proofs.ReadBackWords.{IsClean}
 use Rattle.ascii_grid.proofs.ReadBackDecimals.{decimal_clean, decimal_begins}
 use Rattle.ascii_grid.proofs.ReadBackHeights.{height_value, height_decimal, length-height_text}
@@ -47,9 +47,6 @@ other_value : (h : ℤ) (o : Option ℤ) → o ≢ Some h → same_value (Some h
 other_value h None n = refl
 other_value h (Some x) n = false_from_ne_true (int_eq h x) (λ t. n (ap Some (sym ((Decides-int_eq h x).0 t))))
 
-pub not_long : (w : Word) → length w ≤ 64 → is_long w ≡ false
-not_long w h = le-ltb 64 (length w) h
-
 -- the NODATA word
 reads_nodata : (d : ℕ) (nodata : Word) → IsHeaderWord nodata → ReadsAs d nodata None nodata
 reads_nodata d nodata h =
@@ -57,7 +54,7 @@ reads_nodata d nodata h =
     record {
       clean = decimal_clean nodata h.1;
       begins = decimal_begins nodata h.1;
-      short = not_long nodata h.0;
+      short = is_short nodata h.0;
       is = or_left (is_nodata d nodata nodata) (option_map_or is_height (scaled_value d nodata) false) own;
       value = cond-true (is_nodata d nodata nodata) None (scaled_value d nodata) own;
     }
@@ -76,7 +73,7 @@ reads_height d nodata z few h apart =
     record {
       clean = decimal_clean (height_text d z) decimal_text;
       begins = decimal_begins (height_text d z) decimal_text;
-      short = not_long (height_text d z) (let l = length-height_text d z few size in omega (arith, l));
+      short = is_short (height_text d z) (let l = length-height_text d z few size in omega (arith, l));
       is = or_right (is_nodata d nodata (height_text d z)) (option_map_or is_height (scaled_value d (height_text d z)) false) (ap (λ o. option_map_or is_height o false) value ∙ height_test z h);
       value = cond-false (is_nodata d nodata (height_text d z)) None (scaled_value d (height_text d z)) not_nodata ∙ value;
     }

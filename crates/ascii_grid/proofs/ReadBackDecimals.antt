@@ -7,6 +7,7 @@ use Rattle.std.proofs.lemmas.List.Folds.{list_all-append}
 use Rattle.ascii_grid.specs.Words.{is_separator, is_word}
 use Rattle.ascii_grid.specs.Decimal.{without_sign, is_point, is_exponent_mark, mantissa, whole_part, fraction, has_exponent, are_digits, is_decimal}
 use Rattle.ascii_grid.specs.Header.{begins_with_letter}
+use Rattle.ascii_grid.proofs.PlainNumbers.{digit_bounds, no_separator, after_first-none}
 use Rattle.ascii_grid.proofs.ReadBackWords.{is_plain, IsClean}
 
 -- `+` or `-`
@@ -35,31 +36,18 @@ after_first-step p b bs h =
     ap (λ n. drop (n + 1) (b ∷ bs)) (cond-true (not (p b)) (1 + prefix_len (λ x. not (p x)) bs) 0 (not_from_false (p b) h))
     ∙ ap (λ n. drop n (b ∷ bs)) e
 
--- where no byte passes
-pub before_first-none : (p : ℕ → Bool) (xs : List ℕ) → list_all (λ b. not (p b)) xs ≡ true → before_first p xs ≡ xs
-before_first-none p [] h = refl
-before_first-none p (b ∷ bs) h =
-    let parts = and_parts (not (p b)) (list_all (λ b. not (p b)) bs) h in
-    before_first-step p b bs (not-true (p b) parts.0) ∙ ap (λ z. b ∷ z) (before_first-none p bs parts.1)
-
-pub after_first-none : (p : ℕ → Bool) (xs : List ℕ) → list_all (λ b. not (p b)) xs ≡ true → after_first p xs ≡ []
-after_first-none p [] h = refl
-after_first-none p (b ∷ bs) h =
-    let parts = and_parts (not (p b)) (list_all (λ b. not (p b)) bs) h in
-    after_first-step p b bs (not-true (p b) parts.0) ∙ after_first-none p bs parts.1
-
 -- at the first byte that passes
-pub before_first-at : (p : ℕ → Bool) (xs ys : List ℕ) (y : ℕ) → list_all (λ b. not (p b)) xs ≡ true → p y ≡ true → before_first p (xs ++ y ∷ ys) ≡ xs
+pub before_first-at : (p : ℕ → Bool) (xs ys : List ℕ) (y : ℕ) → list_any p xs ≡ false → p y ≡ true → before_first p (xs ++ y ∷ ys) ≡ xs
 before_first-at p [] ys y h k = before_first-stop p y ys k
 before_first-at p (b ∷ bs) ys y h k =
-    let parts = and_parts (not (p b)) (list_all (λ b. not (p b)) bs) h in
-    before_first-step p b (bs ++ y ∷ ys) (not-true (p b) parts.0) ∙ ap (λ z. b ∷ z) (before_first-at p bs ys y parts.1 k)
+    let parts = or_parts (p b) (list_any p bs) h in
+    before_first-step p b (bs ++ y ∷ ys) parts.0 ∙ ap (λ z. b ∷ z) (before_first-at p bs ys y parts.1 k)
 
-pub after_first-at : (p : ℕ → Bool) (xs ys : List ℕ) (y : ℕ) → list_all (λ b. not (p b)) xs ≡ true → p y ≡ true → after_first p (xs ++ y ∷ ys) ≡ ys
+pub after_first-at : (p : ℕ → Bool) (xs ys : List ℕ) (y : ℕ) → list_any p xs ≡ false → p y ≡ true → after_first p (xs ++ y ∷ ys) ≡ ys
 after_first-at p [] ys y h k = after_first-stop p y ys k
 after_first-at p (b ∷ bs) ys y h k =
-    let parts = and_parts (not (p b)) (list_all (λ b. not (p b)) bs) h in
-    after_first-step p b (bs ++ y ∷ ys) (not-true (p b) parts.0) ∙ after_first-at p bs ys y parts.1 k
+    let parts = or_parts (p b) (list_any p bs) h in
+    after_first-step p b (bs ++ y ∷ ys) parts.0 ∙ after_first-at p bs ys y parts.1 k
 
 -- a wider test
 pub list_all-weaker : (p q : ℕ → Bool) → ((b : ℕ) → p b ≡ true → q b ≡ true) → (xs : List ℕ) → list_all p xs ≡ true → list_all q xs ≡ true
@@ -80,12 +68,6 @@ list_all-around p q w (b ∷ bs) h k =
           (list_all-around p q w bs parts.1 (ap (list_all q) (sym (after_first-step p b bs f)) ∙ k))
     ]
 
-pub list_all-none : (p q : ℕ → Bool) (xs : List ℕ) → list_any p xs ≡ false → list_all (λ b. not (p b)) xs ≡ true
-list_all-none p q [] h = refl
-list_all-none p q (b ∷ bs) h =
-    let parts = or_parts (p b) (list_any p bs) h in
-    and_from (not (p b)) (list_all (λ b. not (p b)) bs) (not_from_false (p b) parts.0) (list_all-none p q bs parts.1)
-
 -- digits
 pub digit_is_decimal : (b : ℕ) → is_ascii_digit b ≡ true → is_decimal_byte b ≡ true
 digit_is_decimal b h = or_left (is_ascii_digit b) (is_sign b || (is_point b || is_exponent_mark b)) h
@@ -99,23 +81,8 @@ point_is_decimal b h = or_right (is_ascii_digit b) (is_sign b || (is_point b || 
 pub exponent_is_decimal : (b : ℕ) → is_exponent_mark b ≡ true → is_decimal_byte b ≡ true
 exponent_is_decimal b h = or_right (is_ascii_digit b) (is_sign b || (is_point b || is_exponent_mark b)) (or_right (is_sign b) (is_point b || is_exponent_mark b) (or_right (is_point b) (is_exponent_mark b) h))
 
--- a digit is from 48 to 57
-digit_range : (b : ℕ) → is_ascii_digit b ≡ true → (48 ≤ b) × (b ≤ 57)
-digit_range b h = let parts = and_parts (leb 48 b) (leb b 57) h in (leb-true 48 b parts.0, leb-true b 57 parts.1)
-
-pub digit_not_separator : (b : ℕ) → is_ascii_digit b ≡ true → is_separator b ≡ false
-digit_not_separator b h =
-    let r = digit_range b h in
-    or_from (b == 32 || b == 9 || b == 10) (b == 13) (or_from (b == 32 || b == 9) (b == 10) (or_from (b == 32) (b == 9) (ne_eqb b 32 (λ e. omega arith)) (ne_eqb b 9 (λ e. omega arith))) (ne_eqb b 10 (λ e. omega arith))) (ne_eqb b 13 (λ e. omega arith))
-
-pub digit_not_sign : (b : ℕ) → is_ascii_digit b ≡ true → is_sign b ≡ false
-digit_not_sign b h = let r = digit_range b h in or_from (b == 43) (b == 45) (ne_eqb b 43 (λ e. omega arith)) (ne_eqb b 45 (λ e. omega arith))
-
-pub digit_not_point : (b : ℕ) → is_ascii_digit b ≡ true → is_point b ≡ false
-digit_not_point b h = let r = digit_range b h in ne_eqb b 46 (λ e. omega arith)
-
-pub digit_not_exponent : (b : ℕ) → is_ascii_digit b ≡ true → is_exponent_mark b ≡ false
-digit_not_exponent b h = let r = digit_range b h in or_from (b == 101) (b == 69) (ne_eqb b 101 (λ e. omega arith)) (ne_eqb b 69 (λ e. omega arith))
+digit_not_separator : (b : ℕ) → is_ascii_digit b ≡ true → is_separator b ≡ false
+digit_not_separator b h = let r = digit_bounds b h in no_separator b r.0 r.1
 
 -- one of two bytes, as a case
 one_of : (P : ℕ → Type 0) (b m n : ℕ) → (b == m || b == n) ≡ true → P m → P n → P b
@@ -167,7 +134,7 @@ digits_all bs h = (and_parts (is_word bs) (list_all is_ascii_digit bs) h).1
 -- the bytes after the exponent's mark
 exponent_bytes : (w : List ℕ) → (not (has_exponent w) || are_digits (without_sign (after_first is_exponent_mark w))) ≡ true → list_all is_decimal_byte (after_first is_exponent_mark w) ≡ true
 exponent_bytes w h = elim (or_cases (not (has_exponent w)) (are_digits (without_sign (after_first is_exponent_mark w))) h) [
-  | inl n ↦ ap (list_all is_decimal_byte) (after_first-none is_exponent_mark w (list_all-none is_exponent_mark is_exponent_mark w (not-true (has_exponent w) n)))
+  | inl n ↦ ap (list_all is_decimal_byte) (after_first-none is_exponent_mark w (not-true (has_exponent w) n))
   | inr d ↦ signed_bytes (after_first is_exponent_mark w) (list_all-weaker is_ascii_digit is_decimal_byte digit_is_decimal (without_sign (after_first is_exponent_mark w)) (digits_all (without_sign (after_first is_exponent_mark w)) d))
 ]
 
@@ -211,7 +178,7 @@ letter_is_mark : (b : ℕ) → is_ascii_alphabetic b ≡ true → is_decimal_byt
 letter_is_mark b h k =
     let low = letter_range b h in
     elim (or_cases (is_ascii_digit b) (is_sign b || (is_point b || is_exponent_mark b)) k) [
-      | inl d ↦ let r = digit_range b d in absurd (omega arith)
+      | inl d ↦ let r = digit_bounds b d in absurd (omega arith)
       | inr l ↦ elim (or_cases (is_sign b) (is_point b || is_exponent_mark b) l) [
         | inl s ↦ absurd (one_of (λ c. 65 ≤ c → ⊥) b 43 45 s (λ e. omega arith) (λ e. omega arith) low)
         | inr m ↦ elim (or_cases (is_point b) (is_exponent_mark b) m) [

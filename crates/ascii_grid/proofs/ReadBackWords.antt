@@ -1,7 +1,7 @@
 -- The words of a written text.
 use Rattle.std.proofs.Common.{◌≡◌, ℕ, zero, suc, ◌*◌, ◌<◌, Bool, true, false, not, ◌&&◌, List, [], ◌∷◌, ◌++◌, length, take, drop, map, Option, sym, ap, refl, ◌∙◌, arith}
 use Rattle.std.specs.List.{All, list_all, filter, slice_split, onto_first, join_with_byte}
-use Rattle.std.proofs.lemmas.Bool.{cond-true, cond-false}
+use Rattle.std.proofs.lemmas.Bool.{cond-true, cond-false, and_parts, not-true}
 use Rattle.std.proofs.lemmas.List.{append_assoc, map-append, take-append-drop, length-take-le, length-drop}
 use Rattle.std.proofs.lemmas.List.Elements.{All-head, All-tail, All-take, All-drop}
 use Rattle.ascii_grid.specs.Words.{is_separator, is_word, words}
@@ -16,19 +16,11 @@ pub record IsClean (w : List ℕ) : Type 0 where
   pub some : is_word w ≡ true
   pub plain : list_all is_plain w ≡ true
 
-not_true : (b : Bool) → not b ≡ true → b ≡ false
-not_true true h = absurd (cc)
-not_true false h = refl
-
-and_both : (a b : Bool) → (a && b) ≡ true → (a ≡ true) × (b ≡ true)
-and_both true b h = (refl, h)
-and_both false b h = absurd (cc)
-
 split-plain : (w rest : List ℕ) (b : ℕ) → list_all is_plain w ≡ true → is_separator b ≡ true → slice_split is_separator (w ++ b ∷ rest) ≡ w ∷ slice_split is_separator rest
 split-plain [] rest b h s = cond-true _ _ _ s
 split-plain (x ∷ w) rest b h s =
-    let parts = and_both (is_plain x) (list_all is_plain w) h in
-    cond-false _ _ _ (not_true (is_separator x) parts.0)
+    let parts = and_parts (is_plain x) (list_all is_plain w) h in
+    cond-false _ _ _ (not-true (is_separator x) parts.0)
     ∙ ap (λ z. onto_first x z) (split-plain w rest b parts.1 s)
 
 -- a word, a separator and the rest

@@ -10,15 +10,15 @@ join-append f b x [] [] = sym (append-nil (f x))
 join-append f b x [] (y ∷ ys) = ap (λ z. f x ++ (b ∷ z)) (join-append f b y [] ys)
 join-append f b x (w ∷ xs) ys = ap (λ z. f x ++ (b ∷ z)) (join-append f b w xs ys) ∙ sym (append_assoc (f x) (b ∷ join_with_byte b (map f (w ∷ xs))) (flat_map (λ y. b ∷ f y) ys))
 
--- the first of some words, one more, and what is left
-pub join_more : {X : Type 0} (f : X → List ℕ) (cells : List X) (d : X) (i : ℕ) → 0 < i → i < length cells → join_with_byte 32 (map f (take (i + 1) cells)) ≡ join_with_byte 32 (map f (take i cells)) ++ (32 ∷ f (get_or cells i d))
-join_more f [] d i h k = absurd (omega arith)
-join_more f (c ∷ cells) d zero h k = absurd (omega arith)
-join_more {X} f (c ∷ cells) d (suc i) h k =
-    let more : take (suc i + 1) (c ∷ cells) ≡ take (suc i) (c ∷ cells) ++ get_or (c ∷ cells) (suc i) d ∷ [] = take_more (c ∷ cells) (suc i) d k in
+-- the first of some words and one more, a word that was read
+pub join_read : {X : Type 0} (f : X → List ℕ) (cells : List X) (c : X) (i : ℕ) → 0 < i → i < length cells → c ≡ get_or cells i c → join_with_byte 32 (map f (take (i + 1) cells)) ≡ join_with_byte 32 (map f (take i cells)) ++ (32 ∷ f c)
+join_read f [] c i h k e = absurd (omega arith)
+join_read f (x ∷ cells) c zero h k e = absurd (omega arith)
+join_read {X} f (x ∷ cells) c (suc i) h k e =
+    let more : take (suc i + 1) (x ∷ cells) ≡ take (suc i) (x ∷ cells) ++ c ∷ [] = rw (take_more (x ∷ cells) (suc i) c k, ← e) refl in
     ap (λ (z : List X). join_with_byte 32 (map f z)) more
-    ∙ join-append f 32 c (take i cells) (get_or cells i d ∷ [])
-    ∙ ap (λ z. join_with_byte 32 (map f (take (suc i) (c ∷ cells))) ++ z) (append-nil (32 ∷ f (get_or cells i d)))
+    ∙ join-append f 32 x (take i cells) (c ∷ [])
+    ∙ ap (λ z. join_with_byte 32 (map f (take (suc i) (x ∷ cells))) ++ z) (append-nil (32 ∷ f c))
 
 pub join_split : {X : Type 0} (f : X → List ℕ) (cells : List X) (i : ℕ) → 0 < i → i < length cells → join_with_byte 32 (map f cells) ≡ join_with_byte 32 (map f (take i cells)) ++ flat_map (λ c. 32 ∷ f c) (drop i cells)
 join_split f [] i h k = absurd (omega arith)
@@ -27,17 +27,19 @@ join_split {X} f (c ∷ cells) (suc i) h k =
     ap (λ (z : List X). join_with_byte 32 (map f (c ∷ z))) (sym (take-append-drop i cells))
     ∙ join-append f 32 c (take i cells) (drop i cells)
 
--- what a row's text is: before a cell, at it and after it
-pub row_split : {X : Type 0} (v : X → List ℕ) (nodata : List ℕ) (cells : List (Option X)) (e : Option X) (i : ℕ) → 0 < i → i < length cells → row_text v nodata cells ≡ (join_with_byte 32 (map (cell_text v nodata) (take i cells)) ++ (32 ∷ cell_text v nodata (get_or cells i e))) ++ (flat_map (λ c. 32 ∷ cell_text v nodata c) (drop (i + 1) cells) ++ 10 ∷ [])
-row_split {X} v nodata cells e i h k =
-    ap (λ z. z ++ 10 ∷ []) (join_split (cell_text v nodata) cells i h k ∙ ap (λ (z : List (Option X)). join_with_byte 32 (map (cell_text v nodata) (take i cells)) ++ flat_map (λ c. 32 ∷ cell_text v nodata c) z) (drop_more cells i e k))
-    ∙ regroup (join_with_byte 32 (map (cell_text v nodata) (take i cells))) (32 ∷ cell_text v nodata (get_or cells i e)) (flat_map (λ c. 32 ∷ cell_text v nodata c) (drop (i + 1) cells)) (10 ∷ []) where
+-- what a row's text is: before a cell that was read, at it and after it
+pub row_at : {X : Type 0} (v : X → List ℕ) (nodata : List ℕ) (cells : List (Option X)) (c : Option X) (i : ℕ) → 0 < i → i < length cells → c ≡ get_or cells i c → row_text v nodata cells ≡ (join_with_byte 32 (map (cell_text v nodata) (take i cells)) ++ (32 ∷ cell_text v nodata c)) ++ (flat_map (λ c. 32 ∷ cell_text v nodata c) (drop (i + 1) cells) ++ 10 ∷ [])
+row_at {X} v nodata cells c i h k e =
+    let text = cell_text v nodata in
+    let rest : drop i cells ≡ c ∷ drop (i + 1) cells = drop_more cells i c k ∙ ap (λ (d : Option X). d ∷ drop (i + 1) cells) (sym e) in
+    ap (λ z. z ++ 10 ∷ []) (join_split text cells i h k ∙ ap (λ (z : List (Option X)). join_with_byte 32 (map text (take i cells)) ++ flat_map (λ c. 32 ∷ text c) z) rest)
+    ∙ regroup (join_with_byte 32 (map text (take i cells))) (32 ∷ text c) (flat_map (λ c. 32 ∷ text c) (drop (i + 1) cells)) (10 ∷ []) where
       regroup : (a b c d : List ℕ) → (a ++ (b ++ c)) ++ d ≡ (a ++ b) ++ (c ++ d)
       regroup a b c d = simp append_assoc
 
-pub row_first : {X : Type 0} (v : X → List ℕ) (nodata : List ℕ) (cells : List (Option X)) (d : Option X) → 0 < length cells → row_text v nodata cells ≡ cell_text v nodata (get_or cells 0 d) ++ (flat_map (λ c. 32 ∷ cell_text v nodata c) (drop 1 cells) ++ 10 ∷ [])
-row_first v nodata [] d h = absurd (omega arith)
-row_first v nodata (c ∷ cells) d h = ap (λ z. z ++ 10 ∷ []) (join-append (cell_text v nodata) 32 c [] cells) ∙ append_assoc (cell_text v nodata c) (flat_map (λ c. 32 ∷ cell_text v nodata c) cells) (10 ∷ [])
+pub row_begun : {X : Type 0} (v : X → List ℕ) (nodata : List ℕ) (cells : List (Option X)) (c : Option X) → 0 < length cells → c ≡ get_or cells 0 c → row_text v nodata cells ≡ cell_text v nodata c ++ (flat_map (λ c. 32 ∷ cell_text v nodata c) (drop 1 cells) ++ 10 ∷ [])
+row_begun v nodata [] c h e = absurd (omega arith)
+row_begun v nodata (x ∷ cells) c h e = rw e (ap (λ z. z ++ 10 ∷ []) (join-append (cell_text v nodata) 32 x [] cells) ∙ append_assoc (cell_text v nodata x) (flat_map (λ c. 32 ∷ cell_text v nodata c) cells) (10 ∷ []))
 
 -- some rows, and then the others
 pub rows_text-add : {X : Type 0} (v : X → List ℕ) (nodata : List ℕ) (cols m n : ℕ) (cells : List (Option X)) → rows_text v nodata cols (m + n) cells ≡ rows_text v nodata cols m cells ++ rows_text v nodata cols n (drop (m * cols) cells)
@@ -56,13 +58,3 @@ rows_split v nodata cols rows n cells h =
     ap (λ k. rows_text v nodata cols k cells) (let e : rows ≡ (n + 1) + (rows - (n + 1)) = omega arith in e)
     ∙ rows_text-add v nodata cols (n + 1) (rows - (n + 1)) cells
     ∙ ap (λ z. z ++ rows_text v nodata cols (rows - (n + 1)) (drop ((n + 1) * cols) cells)) (rows_more v nodata cols n cells)
-
--- the same, of a cell that was read
-pub join_read : {X : Type 0} (f : X → List ℕ) (cells : List X) (c : X) (i : ℕ) → 0 < i → i < length cells → c ≡ get_or cells i c → join_with_byte 32 (map f (take (i + 1) cells)) ≡ join_with_byte 32 (map f (take i cells)) ++ (32 ∷ f c)
-join_read f cells c i h k e = join_more f cells c i h k ∙ ap (λ d. join_with_byte 32 (map f (take i cells)) ++ (32 ∷ f d)) (sym e)
-
-pub row_at : {X : Type 0} (v : X → List ℕ) (nodata : List ℕ) (cells : List (Option X)) (c : Option X) (i : ℕ) → 0 < i → i < length cells → c ≡ get_or cells i c → row_text v nodata cells ≡ (join_with_byte 32 (map (cell_text v nodata) (take i cells)) ++ (32 ∷ cell_text v nodata c)) ++ (flat_map (λ c. 32 ∷ cell_text v nodata c) (drop (i + 1) cells) ++ 10 ∷ [])
-row_at {X} v nodata cells c i h k e = row_split v nodata cells c i h k ∙ ap (λ (d : Option X). (join_with_byte 32 (map (cell_text v nodata) (take i cells)) ++ (32 ∷ cell_text v nodata d)) ++ (flat_map (λ c. 32 ∷ cell_text v nodata c) (drop (i + 1) cells) ++ 10 ∷ [])) (sym e)
-
-pub row_begun : {X : Type 0} (v : X → List ℕ) (nodata : List ℕ) (cells : List (Option X)) (c : Option X) → 0 < length cells → c ≡ get_or cells 0 c → row_text v nodata cells ≡ cell_text v nodata c ++ (flat_map (λ c. 32 ∷ cell_text v nodata c) (drop 1 cells) ++ 10 ∷ [])
-row_begun {X} v nodata cells c h e = row_first v nodata cells c h ∙ ap (λ (d : Option X). cell_text v nodata d ++ (flat_map (λ c. 32 ∷ cell_text v nodata c) (drop 1 cells) ++ 10 ∷ [])) (sym e)

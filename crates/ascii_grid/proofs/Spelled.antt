@@ -10,18 +10,19 @@ use Rattle.ascii_grid.specs.Decimal.{number_of, is_decimal, is_above_zero}
 use Rattle.ascii_grid.specs.Raster.{IsHeaderWord, IsLawful}
 use Rattle.ascii_grid.specs.Header.{header_words, height_words, key_left, nodata_for, missing_fault, header_fault}
 use Rattle.ascii_grid.specs.GridText.{AsksForCells, cell_of, cells_wanted, heights_fault, end_fault, grid_of}
-use Rattle.ascii_grid.specs.Slots.{anchor_at, wanted_of, IsWhole, raster_of}
-use Rattle.ascii_grid.specs.Reading.{flat, given, is_centre, slots_of, IsHeaderOf, HasBegun, AreHeights, HasJudged, IsEndFault}
+use Rattle.ascii_grid.specs.Slots.{anchor_at, is_centre, key_of, wanted_of, IsWhole, raster_of}
+use Rattle.ascii_grid.specs.Reading.{flat, given, slots_of, IsHeaderOf, AreHeights, HasJudged, IsEndFault}
 use Rattle.ascii_grid.specs.declared.fault.Key.{Key}
 use Rattle.ascii_grid.specs.declared.fault.Key.TheVariants.{Ncols, Nrows, Xll, Yll, Cellsize, Nodata}
 use Rattle.ascii_grid.specs.declared.fault.GridFault.{GridFault}
 use Rattle.ascii_grid.specs.declared.fault.GridFault.TheVariants.{TooFew, NoValue, Memory}
 use Rattle.ascii_grid.specs.declared.grid.Anchor.{Anchor}
 use Rattle.ascii_grid.specs.declared.header.Header.{Header}
+use Rattle.ascii_grid.specs.declared.key.Slot.{Slot}
 use Rattle.ascii_grid.specs.declared.judge.Judge.{Judge}
 use Rattle.ascii_grid.specs.declared.judge.Stage.TheVariants.{AtKey, AtValue, AtHeights}
-use Rattle.ascii_grid.proofs.Judging.{Pairs, pairs-flat, header_words-flat, height_words-flat, key_left-flat, header_words-begun, height_words-begun, is_given-slots_of, missing_of-slots_of, wanted_of-slots_of, number-of_pair}
-use Rattle.ascii_grid.proofs.JudgedWords.{at_key, at_value, at_heights, place_of}
+use Rattle.ascii_grid.proofs.Judging.{Pairs, pairs-flat, header_words-flat, height_words-flat, key_left-flat, is_given-slots_of, missing_of-slots_of, wanted_of-slots_of, number-of_pair}
+use Rattle.ascii_grid.proofs.JudgedWords.{at_key, at_value, at_heights, place_of, header_before, heights_after, paired}
 use Rattle.ascii_grid.proofs.Told.{is_memory, told, told_missing}
 use Rattle.ascii_grid.proofs.Whole.{cells_ok, size_between, valid, value_of, IsWhole-from_missing}
 
@@ -33,27 +34,18 @@ header_whole h ps k = ap header_words (sym (append-nil (flat ps))) ∙ header_wo
 heights_none : (h : Header) (ps : Pairs) → IsHeaderOf h ps → height_words (flat ps) ≡ []
 heights_none h ps k = ap height_words (sym (append-nil (flat ps))) ∙ height_words-flat ps [] k.keys
 
-pub header_before : (h : Header) (ps : Pairs) (hs : List Word) → IsHeaderOf h ps → HasBegun hs → header_words (flat ps ++ hs) ≡ flat ps
-header_before h ps hs k begun = header_words-flat ps hs k.keys ∙ ap (λ z. flat ps ++ z) (header_words-begun hs begun) ∙ append-nil (flat ps)
-
-pub heights_after : (h : Header) (ps : Pairs) (hs : List Word) → IsHeaderOf h ps → HasBegun hs → height_words (flat ps ++ hs) ≡ hs
-heights_after h ps hs k begun = height_words-flat ps hs k.keys ∙ height_words-begun hs begun
-
-paired : (ps : Pairs) → key_left (flat ps) ≡ None
-paired ps = ap key_left (sym (append-nil (flat ps))) ∙ key_left-flat ps []
-
 -- ---- the fault at the end
 
 -- after a key without its value
-pub end-value : (j : Judge) (ws : List Word) (slot : Key) (centre : Bool) → HasJudged j ws → j.stage ≡ AtValue slot centre → end_fault ws ≡ Some (NoValue slot)
-end-value j ws slot centre h e =
-    let there = at_value j ws h slot centre e in
+pub end-value : (j : Judge) (ws : List Word) (slot : Slot) → HasJudged j ws → j.stage ≡ AtValue slot → end_fault ws ≡ Some (NoValue (key_of slot))
+end-value j ws slot h e =
+    let there = at_value j ws h slot e in
     let k = there.0 in
     let letter = there.2.letter in
     let one : header_words (k ∷ []) ≡ k ∷ [] = rw letter refl in
     let header : header_words ws ≡ flat h.pairs ++ k ∷ [] = ap header_words there.1 ∙ header_words-flat h.pairs (k ∷ []) h.header.keys ∙ ap (λ z. flat h.pairs ++ z) one in
     let left : key_left (flat h.pairs ++ k ∷ []) ≡ Some k = key_left-flat h.pairs (k ∷ []) in
-    rw (header, left, there.2.slot_is) refl
+    rw (header, left, there.2.key_is) refl
 
 -- in the header, where no required slot is missing: no height
 missing_at_end : (d : ℕ) (h : Header) (ps : Pairs) (f : GridFault) → IsHeaderOf h ps → missing_fault (flat ps) ≡ Some f → end_fault (flat ps) ≡ Some f

@@ -10,6 +10,7 @@ use Rattle.ascii_grid.specs.Header.{begins_with_letter, is_long, header_words, h
 use Rattle.ascii_grid.specs.GridText.{words_fault, heights_fault, height_fault, AsksAtHeight}
 use Rattle.ascii_grid.specs.Reading.{IsParted}
 use Rattle.ascii_grid.specs.declared.fault.GridFault.{GridFault}
+use Rattle.ascii_grid.proofs.Judging.{option_or-assoc}
 use Rattle.ascii_grid.proofs.Parting.{words-parted, IsParted-none, IsParted-byte, IsParted-separator}
 
 -- ---- the words of a longer text
@@ -65,11 +66,6 @@ heights_more d header place (w ∷ hs) more f h =
 abbrev after_front : ℕ → List Word → List Word → List Word → Option GridFault
 after_front d before front ws = option_or (header_fault before (header_words ws)) (heights_fault d (front ++ header_words ws) 0 (height_words ws))
 
-or-assoc : {X : Type 0} (o p q r : Option X) → option_or (option_or o (option_or p q)) r ≡ option_or o (option_or p (option_or q r))
-or-assoc None None q r = refl
-or-assoc None (Some x) q r = refl
-or-assoc (Some x) p q r = refl
-
 after_front-pair : (d : ℕ) (before front : List Word) (k v : Word) (rest : List Word) → begins_with_letter k ≡ true → after_front d before front (k ∷ v ∷ rest) ≡ option_or (key_fault before k) (option_or (value_fault k v) (after_front d (k ∷ before) (front ++ k ∷ v ∷ []) rest))
 after_front-pair d before front k v rest letter =
     let header : header_words (k ∷ v ∷ rest) ≡ k ∷ v ∷ header_words rest = rw letter refl in
@@ -77,7 +73,8 @@ after_front-pair d before front k v rest letter =
     ap (λ z. option_or (header_fault before z) (heights_fault d (front ++ z) 0 (height_words (k ∷ v ∷ rest)))) header
     ∙ ap (λ z. option_or (header_fault before (k ∷ v ∷ header_words rest)) (heights_fault d (front ++ (k ∷ v ∷ header_words rest)) 0 z)) heights
     ∙ ap (λ z. option_or (header_fault before (k ∷ v ∷ header_words rest)) (heights_fault d z 0 (height_words rest))) (sym (append_assoc front (k ∷ v ∷ []) (header_words rest)))
-    ∙ or-assoc (key_fault before k) (value_fault k v) (header_fault (k ∷ before) (header_words rest)) (heights_fault d ((front ++ k ∷ v ∷ []) ++ header_words rest) 0 (height_words rest))
+    ∙ option_or-assoc (key_fault before k) (option_or (value_fault k v) (header_fault (k ∷ before) (header_words rest))) _
+    ∙ ap (option_or (key_fault before k)) (option_or-assoc (value_fault k v) (header_fault (k ∷ before) (header_words rest)) _)
 
 -- a word that is no key ends the header
 after_front-height : (d : ℕ) (before front : List Word) (k : Word) (rest : List Word) → begins_with_letter k ≡ false → after_front d before front (k ∷ rest) ≡ heights_fault d (front ++ []) 0 (k ∷ rest)

@@ -1,6 +1,5 @@
 -- A grid that is read piece by piece.
 use Rattle.std.proofs.Common.{◌≡◌, ℕ, ◌≤◌, List, [], ◌++◌, length, take, Option, None, Some, sym, ap, ◌∙◌, inl, inr}
-use Rattle.std.specs.Option.{option_or}
 use Rattle.std.specs.Io.KnownBytes.{Consumes, IsAtEnd}
 use Rattle.std.proofs.lemmas.Bool.{cases_lt}
 use Rattle.std.proofs.lemmas.List.{append-nil}
@@ -9,8 +8,8 @@ use Rattle.ascii_grid.specs.Words.{ended_words}
 use Rattle.ascii_grid.specs.Device.{Device}
 use Rattle.ascii_grid.specs.GridText.{fault_so_far, words_fault, most_bytes}
 use Rattle.ascii_grid.specs.Reader.{Reader, HasTaken}
-use Rattle.ascii_grid.specs.declared.fault.GridFault.{GridFault}
 use Rattle.ascii_grid.specs.declared.fault.GridFault.TheVariants.{TooLong}
+use Rattle.ascii_grid.proofs.Judging.{or_none}
 use Rattle.ascii_grid.proofs.Feeding.{many_so_far}
 
 -- so much was taken of a reader's bytes and fed, with no fault so far
@@ -28,13 +27,9 @@ pub record IsTaking {R : Type 0} (remaining : R → Option (List ℕ)) (first no
 pub not_too_long : (d : ℕ) (text : List ℕ) → fault_so_far d text ≡ None → length text ≤ most_bytes
 not_too_long d text none =
     elim (cases_lt most_bytes (length text)) [
-      | inl far ↦ absurd (some_told (words_fault d (ended_words (take most_bytes text))) TooLong (sym (many_so_far d text far) ∙ none))
+      | inl far ↦ let long = (or_none (words_fault d (ended_words (take most_bytes text))) (Some TooLong) (sym (many_so_far d text far) ∙ none)).1 in absurd (cc)
       | inr near ↦ near
     ]
-  where
-    some_told : (o : Option GridFault) (f : GridFault) → option_or o (Some f) ≡ None → ⊥
-    some_told None f e = absurd (cc)
-    some_told (Some g) f e = absurd (cc)
 
 -- what was consumed is the front of the bytes that were known
 pub consumed_front : (a b : Option (List ℕ)) (text front : List ℕ) → a ≡ Some text → Consumes a b front → (rest : List ℕ) × (text ≡ front ++ rest)

@@ -11,10 +11,9 @@ use Rattle.ascii_grid.specs.Header.{fills, slot_of, is_long, is_value, bad_value
 use Rattle.ascii_grid.specs.GridText.{AsksAtHeight, IsTold, is_cell, cells_wanted, words_fault, heights_fault, height_fault}
 use Rattle.ascii_grid.specs.Reading.{flat, IsHeaderOf, HasBegun, AreHeights, HasJudged, IsWordFault}
 use Rattle.ascii_grid.specs.declared.fault.Key.{Key}
-use Rattle.ascii_grid.specs.declared.fault.Key.TheVariants.{Ncols, Nrows, Xll, Yll, Cellsize, Nodata}
+use Rattle.ascii_grid.specs.declared.fault.Key.TheVariants.{Ncols}
 use Rattle.ascii_grid.specs.declared.fault.GridFault.{GridFault}
-use Rattle.ascii_grid.specs.declared.fault.GridFault.TheVariants.{UnknownKey, RepeatedKey, MissingKey, BadSize, BadPlace, BadNodata, BadHeight, TooFew, TooMany, NoValue, TooLong, Memory}
-use Rattle.ascii_grid.specs.declared.header.Header.{Header}
+use Rattle.ascii_grid.specs.declared.fault.GridFault.TheVariants.{UnknownKey, RepeatedKey, MissingKey, BadHeight, TooMany, TooLong, Memory}
 use Rattle.ascii_grid.specs.declared.judge.Stage.{Stage}
 use Rattle.ascii_grid.specs.declared.judge.Stage.TheVariants.{AtKey, AtValue, AtHeights}
 use Rattle.ascii_grid.specs.declared.judge.Judge.{Judge}
@@ -33,11 +32,7 @@ told_or (Some f) p h k = h
 
 told_bad_value : (slot : Key) → is_memory (Some (bad_value slot)) ≡ false
 told_bad_value Ncols = refl
-told_bad_value Nrows = refl
-told_bad_value Xll = refl
-told_bad_value Yll = refl
-told_bad_value Cellsize = refl
-told_bad_value Nodata = refl
+told_bad_value slot = refl
 
 told_cond : (b : Bool) (o p : Option GridFault) → is_memory o ≡ false → is_memory p ≡ false → is_memory (cond b o p) ≡ false
 told_cond true o p h k = h
@@ -93,33 +88,13 @@ never_memory : (o : Option GridFault) → is_memory o ≡ false → o ≡ Some M
 never_memory o h e = let k : is_memory o ≡ true = ap is_memory e in cc
 
 pub told : (may_lack : Type 0) (o : Option GridFault) (f : GridFault) → is_memory o ≡ false → o ≡ Some f → IsTold may_lack o f
-told may_lack o UnknownKey m h = h
-told may_lack o (RepeatedKey slot) m h = h
-told may_lack o (MissingKey slot) m h = h
-told may_lack o (BadSize slot) m h = h
-told may_lack o (BadPlace slot) m h = h
-told may_lack o BadNodata m h = h
-told may_lack o (BadHeight place) m h = h
-told may_lack o (TooFew n) m h = h
-told may_lack o TooMany m h = h
-told may_lack o (NoValue slot) m h = h
-told may_lack o TooLong m h = h
 told may_lack o Memory m h = absurd (never_memory o m h)
+told may_lack o f m h = h
 
 -- what is told here is told there
 pub told_further : (may_lack may_lack' : Type 0) (o o' : Option GridFault) (f : GridFault) → (may_lack → may_lack') → ((g : GridFault) → o ≡ Some g → o' ≡ Some g) → IsTold may_lack o f → IsTold may_lack' o' f
-told_further may_lack may_lack' o o' UnknownKey lacks more h = more UnknownKey h
-told_further may_lack may_lack' o o' (RepeatedKey slot) lacks more h = more (RepeatedKey slot) h
-told_further may_lack may_lack' o o' (MissingKey slot) lacks more h = more (MissingKey slot) h
-told_further may_lack may_lack' o o' (BadSize slot) lacks more h = more (BadSize slot) h
-told_further may_lack may_lack' o o' (BadPlace slot) lacks more h = more (BadPlace slot) h
-told_further may_lack may_lack' o o' BadNodata lacks more h = more BadNodata h
-told_further may_lack may_lack' o o' (BadHeight place) lacks more h = more (BadHeight place) h
-told_further may_lack may_lack' o o' (TooFew n) lacks more h = more (TooFew n) h
-told_further may_lack may_lack' o o' TooMany lacks more h = more TooMany h
-told_further may_lack may_lack' o o' (NoValue slot) lacks more h = more (NoValue slot) h
-told_further may_lack may_lack' o o' TooLong lacks more h = more TooLong h
 told_further may_lack may_lack' o o' Memory lacks more h = lacks h
+told_further may_lack may_lack' o o' f lacks more h = more f h
 
 pub word_fault : (d : ℕ) (ws : List Word) (f : GridFault) → words_fault d ws ≡ Some f → IsWordFault d ws f
 word_fault d ws f h = told (AsksAtHeight ws) (words_fault d ws) f (told_words d ws) h
@@ -146,8 +121,8 @@ long_fault j ws w h far = by_stage j.stage refl
               ∙ words_fault-heights j.scale h.pairs (w ∷ []) h.header.keys h.header.faultless begun
               ∙ rw long refl
         ]
-    by_stage (AtValue slot centre) e =
-        let there = at_value j ws h slot centre e in
+    by_stage (AtValue slot) e =
+        let there = at_value j ws h slot e in
         ap (λ z. words_fault j.scale (z ++ w ∷ [])) there.1
         ∙ ap (words_fault j.scale) (append_assoc (flat h.pairs) (there.0 ∷ []) (w ∷ []))
         ∙ words_fault-value j.scale h.pairs there.0 w h.header.keys h.header.faultless there.2.letter there.2.faultless
@@ -172,22 +147,4 @@ no_first_height j ws w f h stage begun short why =
     elim why [
       | inl missing ↦ word_fault j.scale (ws ++ w ∷ []) f (fault-first j.scale ws h.pairs w f j.header h.header e begun short missing)
       | inr lack ↦ memory_fault j.scale (ws ++ w ∷ []) f lack.0 (memory-height j ws h.pairs [] w j.header h.header (e ∙ sym (append-nil (flat h.pairs))) begun lack.1 refl short)
-    ]
-
-pub same_header : (h h' : Header) (ps : Pairs) → h' ≡ h → IsHeaderOf h ps → IsHeaderOf h' ps
-same_header h h' ps e k = record { keys = k.keys; faultless = k.faultless; slots = e ∙ k.slots }
-
--- a height judged by its value
-pub plain_ok : (j j' : Judge) (ws : List Word) (w : Word) (h : HasJudged j ws) → j.stage ≡ AtHeights → j'.header ≡ j.header → j'.stage ≡ j.stage → AreHeights j' h.pairs (h.rest ++ w ∷ []) → HasJudged j' (ws ++ w ∷ [])
-plain_ok j j' ws w h e header stage more =
-    let there = at_heights j ws h e in
-    judged-height j j' ws h.pairs h.rest w h.header h.words (HasBegun-push h.rest w there.0) more header (stage ∙ e)
-
-pub plain_refused : (j : Judge) (ws : List Word) (w : Word) (f : GridFault) (h : HasJudged j ws) → j.stage ≡ AtHeights → length w ≤ 64 → (f ≡ Memory) ⊎ (height_fault j.scale (flat h.pairs) (length h.rest) w ≡ Some f) → IsWordFault j.scale (ws ++ w ∷ []) f
-plain_refused j ws w f h e short why =
-    let there = at_heights j ws h e in
-    let begun = HasBegun-push h.rest w there.0 in
-    elim why [
-      | inl lack ↦ memory_fault j.scale (ws ++ w ∷ []) f lack (memory-height j ws h.pairs h.rest w j.header h.header h.words begun there.1.whole there.1.faultless short)
-      | inr fault ↦ word_fault j.scale (ws ++ w ∷ []) f (fault-height j ws h.pairs h.rest w f j.header h.header h.words begun there.1 fault)
     ]

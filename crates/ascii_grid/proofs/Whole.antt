@@ -1,11 +1,11 @@
 -- The end of a text: what is told there, and the grid.
 use Rattle.std.proofs.Common.{◌≡◌, ◌≢◌, ℕ, ◌+◌, ◌<◌, ◌≤◌, Bool, true, false, not, cond, nat_lt, nat_le, ◌==◌, List, [], ◌∷◌, length, map, Option, None, Some, ℤ, arith, refl, ap, sym, ◌∙◌, subst, inl, inr}
 use Rattle.std.specs.Prelude.{is_some, All, IfSome, option_map, int_le, ◌≤ℤ◌}
-use Rattle.std.specs.Option.{option_or, option_map_or}
+use Rattle.std.specs.Option.{option_map_or}
 use Rattle.std.specs.Str.{bytes_eq}
 use Rattle.std.specs.Ordering.{int_eq}
 use Rattle.std.proofs.lemmas.Bool.Decides.{Decides-int_eq}
-use Rattle.std.proofs.lemmas.Bool.{cases_Bool, cond-true, cond-false, and_parts, or_parts, ltb-true, ltb-false, leb-true, eqb-true}
+use Rattle.std.proofs.lemmas.Bool.{cases_Bool, and_parts, or_parts, ltb-true, ltb-false, leb-true, eqb-true}
 use Rattle.std.proofs.lemmas.Option.{same_Some}
 use Rattle.std.proofs.lemmas.Int.{ints}
 use Rattle.std.proofs.lemmas.List.Elements.{All-cons}
@@ -20,13 +20,9 @@ use Rattle.ascii_grid.specs.declared.fault.Key.{Key}
 use Rattle.ascii_grid.specs.declared.fault.Key.TheVariants.{Ncols, Nrows, Xll, Yll, Cellsize, Nodata}
 use Rattle.ascii_grid.specs.declared.fault.GridFault.TheVariants.{MissingKey, BadHeight, TooMany, TooLong}
 use Rattle.ascii_grid.specs.declared.header.Header.{Header}
-use Rattle.ascii_grid.proofs.Judging.{Pairs}
+use Rattle.ascii_grid.proofs.Judging.{Pairs, or_none, then_none, else_none}
 
 -- ---- a header whose words have no fault
-
-or_none : {X : Type 0} (o p : Option X) → option_or o p ≡ None → (o ≡ None) × (p ≡ None)
-or_none None p h = (refl, h)
-or_none (Some x) p h = cc
 
 slot_at : ℕ → Key
 slot_at n = cond (n == 0) Ncols (cond (n == 1) Nrows (cond (n == 2) Xll (cond (n == 3) Yll (cond (n == 4) Cellsize Nodata))))
@@ -34,11 +30,7 @@ slot_at n = cond (n == 0) Ncols (cond (n == 1) Nrows (cond (n == 2) Xll (cond (n
 slot_at-number : (slot : Key) → slot_at (slot_number slot) ≡ slot
 unfolding slot_at
 slot_at-number Ncols = refl
-slot_at-number Nrows = refl
-slot_at-number Xll = refl
-slot_at-number Yll = refl
-slot_at-number Cellsize = refl
-slot_at-number Nodata = refl
+slot_at-number slot = refl
 
 fills-slot : (o : Option Key) (slot : Key) → option_map_or (λ s. slot_number s == slot_number slot) o false ≡ true → o ≡ Some slot
 fills-slot None slot h = cc
@@ -47,15 +39,9 @@ fills-slot (Some s) slot h =
 
 value_ok : (k v : Word) (slot : Key) → fills slot k ≡ true → value_fault k v ≡ None → (is_value slot v ≡ true) × (length v ≤ 64)
 value_ok k v slot h e =
-    let s = fills-slot (slot_of k) slot h in
-    elim (cases_Bool (is_long v)) [
-      | inl long ↦ let clash : value_fault k v ≡ Some TooLong = rw long refl in absurd (cc)
-      | inr short ↦
-          elim (cases_Bool (is_value slot v)) [
-            | inl ok ↦ (ok, ltb-false 64 (length v) short)
-            | inr bad ↦ let clash : value_fault k v ≡ Some (bad_value slot) = rw (short, s, bad) refl in absurd (cc)
-          ]
-    ]
+    let short = then_none (is_long v) TooLong _ e in
+    let ok = else_none (is_value slot v) None (bad_value slot) (rw (fills-slot (slot_of k) slot h) at short.1) in
+    (ok.0, ltb-false 64 (length v) short.0)
 
 -- the value given for a slot is one
 pub valid : (before : List Word) (ps : Pairs) (slot : Key) (p : Word × Word) → header_fault before (flat ps) ≡ None → given slot ps ≡ Some p → (is_value slot p.1 ≡ true) × (length p.1 ≤ 64)
@@ -140,20 +126,11 @@ cell_ok d nodata w h =
 -- a height without a fault
 height_ok : (d : ℕ) (header : List Word) (place : ℕ) (w : Word) → height_fault d header place w ≡ None → (place < cells_wanted header) × (is_cell d (nodata_for header) w ≡ true)
 height_ok d header place w h =
-    elim (cases_Bool (is_long w)) [
-      | inl long ↦ let clash : height_fault d header place w ≡ Some TooLong = rw long refl in absurd (cc)
-      | inr short ↦
-          let rest = (or_none (missing_fault header) (cond (nat_lt place (cells_wanted header)) (cond (is_cell d (nodata_for header) w) None (Some (BadHeight place))) (Some TooMany)) (sym (cond-false (is_long w) (Some TooLong) _ short) ∙ h)).1 in
-          elim (cases_Bool (nat_lt place (cells_wanted header))) [
-            | inr over ↦ let clash = sym (cond-false (nat_lt place (cells_wanted header)) (cond (is_cell d (nodata_for header) w) None (Some (BadHeight place))) (Some TooMany) over) ∙ rest in absurd (cc)
-            | inl room ↦
-                let here = sym (cond-true (nat_lt place (cells_wanted header)) (cond (is_cell d (nodata_for header) w) None (Some (BadHeight place))) (Some TooMany) room) ∙ rest in
-                elim (cases_Bool (is_cell d (nodata_for header) w)) [
-                  | inl ok ↦ (ltb-true place (cells_wanted header) room, ok)
-                  | inr bad ↦ let clash = sym (cond-false (is_cell d (nodata_for header) w) None (Some (BadHeight place)) bad) ∙ here in absurd (cc)
-                ]
-          ]
-    ]
+    let short = then_none (is_long w) TooLong _ h in
+    let whole = or_none (missing_fault header) _ short.1 in
+    let room = else_none (nat_lt place (cells_wanted header)) _ TooMany whole.1 in
+    let ok = else_none (is_cell d (nodata_for header) w) None (BadHeight place) room.1 in
+    (ltb-true place (cells_wanted header) room.0, ok.0)
 
 abbrev pub AreLawful : ℕ → Word → List (Option ℤ) → Type 0
 AreLawful d nodata cells = All (λ c. IfSome c IsHeight) cells × All (λ c. IfSome c (λ h. scaled_value d nodata ≢ Some h)) cells

@@ -3,6 +3,7 @@ pub mod Device
 pub mod GridText
 pub mod Header
 pub mod Laws
+pub mod Meaning
 pub mod Neighbours
 pub mod Raster
 pub mod Reader

@@ -1,7 +1,8 @@
 // The cell that a word among the heights stands for.
-ghost use Rattle.std.specs.Prelude.{◌≡◌, ℕ, List, if◌then◌else◌, Option, Some, None};
+ghost use Rattle.std.specs.Prelude.{◌≡◌, ℕ, List, Option, Some, None};
 ghost use Rattle.ascii_grid.specs.Decimal.{scaled_value};
-ghost use Rattle.ascii_grid.specs.GridText.{same_value, is_cell, cell_of};
+ghost use Rattle.ascii_grid.specs.GridText.{same_value};
+ghost use Rattle.ascii_grid.specs.Meaning.{meaning_of};
 
 use crate::decimal::scaled_value;
 use crate::place::{self, Height};
@@ -10,35 +11,39 @@ const LOWEST: i64 = place::LOWEST as i64;
 
 const HIGHEST: i64 = place::HIGHEST as i64;
 
-/// The cell that the word stands for, beside a NODATA word and its scaled value. None: it stands for none.
-pub(crate) fn cell(
-    scale: u8,
-    nodata: &[u8],
-    nodata_value: Option<i64>,
-    word: &[u8],
-) -> Option<Option<Height>>
-    ensures { nodata_value ≡ scaled_value scale nodata.now →
-        result ≡ (if is_cell scale nodata.now word.now then Some (cell_of scale nodata.now word.now) else None) }
+/// What a word among the heights stands for.
+#[derive(Clone, Copy)]
+pub(crate) enum Meaning {
+    /// A cell, with its height or without data.
+    Cell(Option<Height>),
+    /// No cell.
+    Nothing,
+}
+
+/// What the word stands for, beside a NODATA word and its scaled value.
+pub(crate) fn cell(scale: u8, nodata: &[u8], nodata_value: Option<i64>, word: &[u8]) -> Meaning
+    ensures { nodata_value ≡ scaled_value scale nodata.now → result ≡ meaning_of scale nodata.now word.now }
 {
     match scaled_value(scale, word) {
         Some(value) => value_cell(value, nodata_value),
-        None => (word == nodata).then_some(None),
+        None if word == nodata => Meaning::Cell(None),
+        None => Meaning::Nothing,
     }
 }
 
-/// The cell of a word that has a scaled value, beside the one of the NODATA word.
+/// What a word with this scaled value stands for, beside the one of the NODATA word.
 #[inline(always)]
-pub(crate) fn value_cell(value: i64, nodata_value: Option<i64>) -> Option<Option<Height>>
+pub(crate) fn value_cell(value: i64, nodata_value: Option<i64>) -> Meaning
     ensures { (d : ℕ) (nodata word : List ℕ) → scaled_value d word ≡ Some value → nodata_value ≡ scaled_value d nodata →
-        result ≡ (if is_cell d nodata word then Some (cell_of d nodata word) else None) }
+        result ≡ meaning_of d nodata word }
 {
     if is_same_value(Some(value), nodata_value) {
-        return Some(None);
+        return Meaning::Cell(None);
     }
     if LOWEST <= value && value <= HIGHEST {
-        Some(Some(value as Height))
+        Meaning::Cell(Some(value as Height))
     } else {
-        None
+        Meaning::Nothing
     }
 }
 

@@ -13,9 +13,9 @@ const OVER: u64 = 1_000_000_000_000_000_001;
 pub(crate) fn is_decimal(word: &[u8]) -> bool
     ensures { result ≡ is_decimal word.now }
 {
-    let (mantissa, _) = round_exponent(without_sign(word));
-    let (whole, fraction) = round_point(mantissa);
-    let (_, exponent) = round_exponent(word);
+    let (mantissa, _) = split_at_exponent(without_sign(word));
+    let (whole, fraction) = split_at_point(mantissa);
+    let (_, exponent) = split_at_exponent(word);
     are_digits_in_all(whole, fraction)
         && (!has_exponent(word) || are_digits(without_sign(exponent)))
 }
@@ -24,8 +24,8 @@ pub(crate) fn is_decimal(word: &[u8]) -> bool
 pub(crate) fn is_above_zero(word: &[u8]) -> bool
     ensures { result ≡ is_above_zero word.now }
 {
-    let (mantissa, _) = round_exponent(without_sign(word));
-    let (whole, fraction) = round_point(mantissa);
+    let (mantissa, _) = split_at_exponent(without_sign(word));
+    let (whole, fraction) = split_at_point(mantissa);
     !is_negative(word) && (has_other_than_zero(whole) || has_other_than_zero(fraction))
 }
 
@@ -62,7 +62,7 @@ pub(crate) fn scaled_value(scale: u8, word: &[u8]) -> Option<i64>
     if has_exponent(word) {
         return None;
     }
-    let (whole, fraction) = round_point(without_sign(word));
+    let (whole, fraction) = split_at_point(without_sign(word));
     if !are_digits_in_all(whole, fraction) {
         return None;
     }
@@ -179,7 +179,7 @@ fn has_exponent(word: &[u8]) -> bool
 }
 
 // What stands before and after the first mark of an exponent.
-fn round_exponent(word: &[u8]) -> (&[u8], &[u8])
+fn split_at_exponent(word: &[u8]) -> (&[u8], &[u8])
     ensures before { result.0.now ≡ before_first is_exponent_mark word.now }
     ensures after { result.1.now ≡ after_first is_exponent_mark word.now }
 {
@@ -196,7 +196,7 @@ fn exponent_at(word: &[u8]) -> Option<usize>
 }
 
 // What stands before and after the first point.
-fn round_point(word: &[u8]) -> (&[u8], &[u8])
+fn split_at_point(word: &[u8]) -> (&[u8], &[u8])
     ensures before { result.0.now ≡ before_first is_point word.now }
     ensures after { result.1.now ≡ after_first is_point word.now }
 {

@@ -2,13 +2,13 @@
 ghost use Rattle.std.specs.Prelude.{◌≡◌, ◌≤◌, ◌*◌, length, true, false, Option, Some, None, IfOk, IfErr, MatchOption, unwrap_or, codes, if◌then◌else◌};
 ghost use Rattle.ascii_grid.specs.Decimal.{is_decimal};
 ghost use Rattle.ascii_grid.specs.Header.{is_value, bad_value, slot_of};
-ghost use Rattle.ascii_grid.specs.Slots.{no_slots, is_given, with_value, missing_of, wanted_of, IsWhole, raster_of};
+ghost use Rattle.ascii_grid.specs.Slots.{no_slots, is_centre, is_given, key_of, slot_named, with_value, missing_of, wanted_of, IsWhole, raster_of};
 ghost use Rattle.ascii_grid.specs.Raster.{IsLawful};
 
 use crate::decimal::{is_above_zero, is_decimal, size};
 use crate::fault::{GridFault, Key};
 use crate::grid::{Anchor, Grid, GridHeader};
-use crate::key::slot_of;
+use crate::key::{Slot, slot_of};
 use crate::place::Height;
 use crate::word::Word;
 
@@ -38,24 +38,25 @@ impl Header {
     }
 
     /// The slot of a key word that isn't given yet.
-    pub(crate) fn slot_for(&self, word: &[u8]) -> Result<Key, GridFault>
-        ensures ok { IfOk result (λ slot. (slot_of word.now ≡ Some slot) × (is_given self.now slot ≡ false)) }
+    pub(crate) fn slot_for(&self, word: &[u8]) -> Result<Slot, GridFault>
+        ensures ok { IfOk result (λ slot. (slot_of word.now ≡ Some (key_of slot))
+            × (slot ≡ slot_named (key_of slot) (is_centre word.now)) × (is_given self.now (key_of slot) ≡ false)) }
         ensures err { IfErr result (λ f. MatchOption (slot_of word.now) (f ≡ GridFault.UnknownKey)
             (λ slot. (is_given self.now slot ≡ true) × (f ≡ GridFault.RepeatedKey slot))) }
     {
-        let Some(slot) = slot_of(word) else {
+        let Some(key) = slot_of(word) else {
             return Err(GridFault::UnknownKey);
         };
-        if self.is_given(slot) {
-            return Err(GridFault::RepeatedKey(slot));
+        if self.is_given(key) {
+            return Err(GridFault::RepeatedKey(key));
         }
-        Ok(slot)
+        Ok(Slot::named(key, word))
     }
 
-    fn is_given(&self, slot: Key) -> bool
-        ensures { result ≡ is_given self.now slot }
+    fn is_given(&self, key: Key) -> bool
+        ensures { result ≡ is_given self.now key }
     {
-        match slot {
+        match key {
             Key::Ncols => self.cols.is_some(),
             Key::Nrows => self.rows.is_some(),
             Key::Xll => self.xll.is_some(),
@@ -66,44 +67,44 @@ impl Header {
     }
 
     /// Fills a slot.
-    pub(crate) fn put(&mut self, slot: Key, centre: bool, word: &[u8]) -> Result<(), GridFault>
+    pub(crate) fn put(&mut self, slot: Slot, word: &[u8]) -> Result<(), GridFault>
         requires { length word.now ≤ 64 }
-        ensures ok { IfOk result (λ _. (is_value slot word.now ≡ true)
-            × (self.new ≡ with_value self.old slot centre word.now)) }
-        ensures err { IfErr result (λ f. (is_value slot word.now ≡ false) × (f ≡ bad_value slot)) }
+        ensures ok { IfOk result (λ _. (is_value (key_of slot) word.now ≡ true)
+            × (self.new ≡ with_value self.old slot word.now)) }
+        ensures err { IfErr result (λ f. (is_value (key_of slot) word.now ≡ false) × (f ≡ bad_value (key_of slot))) }
     {
         match slot {
-            Key::Ncols => {
+            Slot::Ncols => {
                 let Some(cols) = size(word) else {
                     return Err(GridFault::BadSize(Key::Ncols));
                 };
                 self.cols = Some(cols);
             }
-            Key::Nrows => {
+            Slot::Nrows => {
                 let Some(rows) = size(word) else {
                     return Err(GridFault::BadSize(Key::Nrows));
                 };
                 self.rows = Some(rows);
             }
-            Key::Xll => {
+            Slot::Xll { centre } => {
                 let Some(word) = decimal(word) else {
                     return Err(GridFault::BadPlace(Key::Xll));
                 };
                 self.xll = Some(Anchor { centre, word });
             }
-            Key::Yll => {
+            Slot::Yll { centre } => {
                 let Some(word) = decimal(word) else {
                     return Err(GridFault::BadPlace(Key::Yll));
                 };
                 self.yll = Some(Anchor { centre, word });
             }
-            Key::Cellsize => {
+            Slot::Cellsize => {
                 if !is_decimal(word) || !is_above_zero(word) {
                     return Err(GridFault::BadPlace(Key::Cellsize));
                 }
                 self.cellsize = Some(Word::from_bytes(word));
             }
-            Key::Nodata => {
+            Slot::Nodata => {
                 let Some(word) = decimal(word) else {
                     return Err(GridFault::BadNodata);
                 };

@@ -1,17 +1,18 @@
 // The words of a text, judged one after another.
-ghost use Rattle.std.specs.Prelude.{◌↔◌, IsTrue, if◌then◌else◌, ◌≡◌, ◌≤◌, ◌<◌, ◌⊎◌, ◌++◌, [], ◌∷◌, List, length, true, false, Option, Some, None, Err, IfOk, IfErr, MatchResult};
+ghost use Rattle.std.specs.Prelude.{◌↔◌, IsTrue, ◌≡◌, ◌≤◌, ◌<◌, ◌⊎◌, ◌++◌, [], ◌∷◌, List, length, true, false, Option, Some, None, Err, IfOk, IfErr, MatchResult};
 ghost use Rattle.ascii_grid.specs.Words.{Word};
 ghost use Rattle.ascii_grid.specs.Decimal.{scaled_value};
 ghost use Rattle.ascii_grid.specs.Header.{begins_with_letter, missing_fault};
-ghost use Rattle.ascii_grid.specs.GridText.{is_cell, cell_of, height_fault, end_fault, grid_of};
+ghost use Rattle.ascii_grid.specs.GridText.{height_fault, end_fault, grid_of};
+ghost use Rattle.ascii_grid.specs.Meaning.{meaning_of};
 ghost use Rattle.ascii_grid.specs.Reading.{flat, IsHeaderOf, AreHeights, HasJudged, IsWordFault, IsEndFault};
 
-use crate::cell::{cell, value_cell};
+use crate::cell::{Meaning, cell, value_cell};
 use crate::decimal::scaled_value;
-use crate::fault::{GridFault, Key};
+use crate::fault::GridFault;
 use crate::grid::Grid;
 use crate::header::Header;
-use crate::key::{begins_with_letter, names_centre};
+use crate::key::{Slot, begins_with_letter};
 use crate::place::Height;
 use crate::word::Word;
 use std::alloc::Global;
@@ -21,8 +22,8 @@ use std::alloc::Global;
 pub(crate) enum Stage {
     /// A key, or the first height.
     AtKey,
-    /// The value of this slot. The key names a centre, or not.
-    AtValue(Key, bool),
+    /// The value of this slot.
+    AtValue(Slot),
     /// A height.
     AtHeights,
 }
@@ -70,7 +71,7 @@ impl Judge {
         }
         match self.stage {
             Stage::AtHeights => self.judge_height(word),
-            Stage::AtValue(slot, centre) => self.judge_value(slot, centre, word),
+            Stage::AtValue(slot) => self.judge_value(slot, word),
             Stage::AtKey => {
                 if begins_with_letter(word) {
                     return self.judge_key(word);
@@ -89,7 +90,7 @@ impl Judge {
             (λ g. (end_fault ws ≡ None) × (g ≡ grid_of self.scale ws)) (IsEndFault ws) }
     {
         match self.stage {
-            Stage::AtValue(slot, _) => Err(GridFault::NoValue(slot)),
+            Stage::AtValue(slot) => Err(GridFault::NoValue(slot.key())),
             Stage::AtKey => {
                 self.begin_heights()?;
                 Err(GridFault::TooFew(0))
@@ -114,19 +115,19 @@ impl Judge {
             (IsWordFault self.old.scale (ws ++ word.now ∷ [])) }
     {
         let slot = self.header.slot_for(word)?;
-        self.stage = Stage::AtValue(slot, names_centre(word));
+        self.stage = Stage::AtValue(slot);
         Ok(())
     }
 
-    fn judge_value(&mut self, slot: Key, centre: bool, word: &[u8]) -> Result<(), GridFault>
+    fn judge_value(&mut self, slot: Slot, word: &[u8]) -> Result<(), GridFault>
         requires short { length word.now ≤ 64 }
-        requires stage { self.old.stage ≡ Stage.AtValue slot centre }
+        requires stage { self.old.stage ≡ Stage.AtValue slot }
         ensures scale { self.new.scale ≡ self.old.scale }
         ensures word { (ws : List Word) → HasJudged self.old ws → MatchResult result
             (λ _. HasJudged self.new (ws ++ word.now ∷ []))
             (IsWordFault self.old.scale (ws ++ word.now ∷ [])) }
     {
-        self.header.put(slot, centre, word)?;
+        self.header.put(slot, word)?;
         self.stage = Stage::AtKey;
         Ok(())
     }
@@ -160,8 +161,8 @@ impl Judge {
             (λ f. (f ≡ GridFault.Memory)
             ⊎ (height_fault self.old.scale (flat ps) (length hs) word.now ≡ Some f)) }
     {
-        let cell = cell(self.scale, self.nodata.as_bytes(), self.nodata_value, word);
-        self.add_cell(cell)
+        let meaning = cell(self.scale, self.nodata.as_bytes(), self.nodata_value, word);
+        self.add_cell(meaning)
     }
 
     /// Judges a height by its scaled value.
@@ -174,18 +175,16 @@ impl Judge {
             (λ f. (f ≡ GridFault.Memory)
             ⊎ (height_fault self.old.scale (flat ps) (length hs) word ≡ Some f)) }
     {
-        let cell = value_cell(value, self.nodata_value);
-        self.add_cell(cell)
+        let meaning = value_cell(value, self.nodata_value);
+        self.add_cell(meaning)
     }
 
     // Adds the cell of the next height, where it has one.
     #[inline(always)]
-    fn add_cell(&mut self, cell: Option<Option<Height>>) -> Result<(), GridFault>
+    fn add_cell(&mut self, meaning: Meaning) -> Result<(), GridFault>
         ensures kept { self.new ≡ record self.old { cells = self.new.cells } }
         ensures word { (ps : List (Word × Word)) (hs : List Word) (word : Word) → AreHeights self.old ps hs →
-            length word ≤ 64 →
-            cell ≡ (if is_cell self.old.scale self.old.nodata word
-            then Some (cell_of self.old.scale self.old.nodata word) else None) →
+            length word ≤ 64 → meaning ≡ meaning_of self.old.scale self.old.nodata word →
             MatchResult result (λ _. AreHeights self.new ps (hs ++ word ∷ []))
             (λ f. (f ≡ GridFault.Memory)
             ⊎ (height_fault self.old.scale (flat ps) (length hs) word ≡ Some f)) }
@@ -194,7 +193,7 @@ impl Judge {
         if place >= self.wanted as usize {
             return Err(GridFault::TooMany);
         }
-        let Some(cell) = cell else {
+        let Meaning::Cell(cell) = meaning else {
             return Err(GridFault::BadHeight(place as u32));
         };
         if self.cells.push(cell).is_err() {

@@ -1,7 +1,7 @@
 -- A test of some number of a range.
 use Rattle.std.proofs.Common.{arith, refl, sym, ap, ◌∙◌, ◌≡◌, ◌+◌, ◌-◌, ◌<◌, ◌≤◌, ℕ, zero, suc, Bool, true, false, [], ◌∷◌, ◌++◌, get_or, inl, inr}
 use Rattle.std.specs.List.{list_any, range_with_len}
-use Rattle.std.proofs.lemmas.Bool.{or_from, cases_lt}
+use Rattle.std.proofs.lemmas.Bool.{or_from, cases_lt, false_from_ne_true, true_from_ne_false}
 use Rattle.std.proofs.lemmas.List.Folds.{list_any-append, list_any_at}
 use Rattle.std.proofs.lemmas.List.FromFn.{length-range_with_len, get_or-range_with_len}
 
@@ -24,19 +24,11 @@ any_at p a n k h here =
     let at : p (get_or (range_with_len a n) k 0) ≡ true = ap p (get_or-range_with_len a n k 0 h) ∙ here in
     list_any_at p (range_with_len a n) k 0 (omega (arith, length-range_with_len a n)) at
 
-not_true : (b : Bool) → (b ≡ true → ⊥) → b ≡ false
-not_true true h = absurd (h refl)
-not_true false h = refl
-
-not_false : (b : Bool) → (b ≡ false → ⊥) → b ≡ true
-not_false true h = refl
-not_false false h = absurd (h refl)
-
 -- none passes, one by one
 pub none_at : (p : ℕ → Bool) (a n k : ℕ) → list_any p (range_with_len a n) ≡ false → a ≤ k → k < a + n → p k ≡ false
 none_at p a n k none low high =
     let at : a + (k - a) ≡ k = omega arith in
-    not_true (p k) (λ yes. absurd (let any = any_at p a n (k - a) (omega arith) (ap p at ∙ yes) in cc))
+    false_from_ne_true (p k) (λ yes. absurd (let any = any_at p a n (k - a) (omega arith) (ap p at ∙ yes) in cc))
 
 pub none_from : (p : ℕ → Bool) (a n : ℕ) → ((k : ℕ) → a ≤ k → k < a + n → p k ≡ false) → list_any p (range_with_len a n) ≡ false
 none_from p a zero none = refl
@@ -61,7 +53,7 @@ any_within p a m b n low high any = elim (list_any p (range_with_len a m)) as (�
 pub any_back : (p q : ℕ → Bool) (n : ℕ) → ((k : ℕ) → 1 ≤ k → k < n → p k ≡ q (n - k)) → list_any p (range_with_len 1 (n - 1)) ≡ list_any q (range_with_len 1 (n - 1))
 any_back p q n same = elim (list_any q (range_with_len 1 (n - 1))) as (λ v. list_any q (range_with_len 1 (n - 1)) ≡ v → list_any p (range_with_len 1 (n - 1)) ≡ v) [
   | false ↦ λ e. none_from p 1 (n - 1) (λ k low high. same k low (omega arith) ∙ none_at q 1 (n - 1) (n - k) e (omega arith) (omega arith))
-  | true ↦ λ e. not_false (list_any p (range_with_len 1 (n - 1))) (λ none. let never = none_from q 1 (n - 1) (λ k low high. let back : n - (n - k) ≡ k = omega arith in
+  | true ↦ λ e. true_from_ne_false (list_any p (range_with_len 1 (n - 1))) (λ none. let never = none_from q 1 (n - 1) (λ k low high. let back : n - (n - k) ≡ k = omega arith in
       ap q (sym back) ∙ sym (same (n - k) (omega arith) (omega arith)) ∙ none_at p 1 (n - 1) (n - k) none (omega arith) (omega arith)) in absurd (cc))
 ] refl
 

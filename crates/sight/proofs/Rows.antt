@@ -6,6 +6,7 @@ use Rattle.ascii_grid.specs.declared.place.Place.{Place}
 use Rattle.sight.specs.Sight.{viewshed_value, row_crossing, ground, sight, column_blocks}
 use Rattle.sight.specs.Refusals.{observers_fault}
 use Rattle.sight.specs.declared.observer.Observer.{Observer}
+use Rattle.sight.specs.declared.fault.SightFault.{SightFault}
 use Rattle.sight.specs.declared.fault.SightFault.TheVariants.{Outside, OnNodata, BadEye, BadRadius}
 
 abbrev pub land : ℕ → ℕ → List (Option ℤ) → Terrain
@@ -24,20 +25,22 @@ values_from_corner t = map (viewshed_value t corner 0 8192) (places t.cols t.row
 abbrev pub up : ℕ → Option ℤ
 up n = Some (pos n)
 
-as_high_as_the_line : values_from_corner (land 3 1 (up 0 ∷ up 5 ∷ up 10 ∷ [])) ≡ 1 ∷ 1 ∷ 1 ∷ []
-as_high_as_the_line = refl
+-- a terrain, and the values of its places
+abbrev pub ValueRow : Type 0
+ValueRow = Terrain × List ℕ
 
-above_the_line : values_from_corner (land 3 1 (up 0 ∷ up 6 ∷ up 10 ∷ [])) ≡ 1 ∷ 1 ∷ 0 ∷ []
-above_the_line = refl
+abbrev pub HaveValues : List ValueRow → Type 0
+HaveValues rows = map (λ (row : ValueRow). values_from_corner row.0) rows ≡ map (λ (row : ValueRow). row.1) rows
 
-no_data_tests_nothing : values_from_corner (land 3 2 (up 0 ∷ up 30000 ∷ up 0 ∷ up 0 ∷ None ∷ up 0 ∷ [])) ≡ 1 ∷ 1 ∷ 0 ∷ 1 ∷ 0 ∷ 1 ∷ []
-no_data_tests_nothing = refl
-
-line_below_the_ground : values_from_corner (land 3 2 (up 0 ∷ up 8 ∷ up 0 ∷ up 0 ∷ Some (negsuc 6) ∷ up 0 ∷ [])) ≡ 1 ∷ 1 ∷ 0 ∷ 1 ∷ 1 ∷ 0 ∷ []
-line_below_the_ground = refl
-
-line_at_the_ground : values_from_corner (land 3 2 (up 0 ∷ up 8 ∷ up 0 ∷ up 0 ∷ Some (negsuc 7) ∷ up 0 ∷ [])) ≡ 1 ∷ 1 ∷ 0 ∷ 1 ∷ 1 ∷ 1 ∷ []
-line_at_the_ground = refl
+-- as high as the line, above it; no data tests nothing; the line below the ground, and at it
+small_grids : HaveValues (
+    (land 3 1 (up 0 ∷ up 5 ∷ up 10 ∷ []), 1 ∷ 1 ∷ 1 ∷ [])
+    ∷ (land 3 1 (up 0 ∷ up 6 ∷ up 10 ∷ []), 1 ∷ 1 ∷ 0 ∷ [])
+    ∷ (land 3 2 (up 0 ∷ up 30000 ∷ up 0 ∷ up 0 ∷ None ∷ up 0 ∷ []), 1 ∷ 1 ∷ 0 ∷ 1 ∷ 0 ∷ 1 ∷ [])
+    ∷ (land 3 2 (up 0 ∷ up 8 ∷ up 0 ∷ up 0 ∷ Some (negsuc 6) ∷ up 0 ∷ []), 1 ∷ 1 ∷ 0 ∷ 1 ∷ 1 ∷ 0 ∷ [])
+    ∷ (land 3 2 (up 0 ∷ up 8 ∷ up 0 ∷ up 0 ∷ Some (negsuc 7) ∷ up 0 ∷ []), 1 ∷ 1 ∷ 0 ∷ 1 ∷ 1 ∷ 1 ∷ [])
+    ∷ [])
+small_grids = refl
 
 abbrev pub hidden : Terrain
 hidden = land 4 3 (up 0 ∷ Some (negsuc 8) ∷ up 0 ∷ up 0 ∷ up 0 ∷ up 4 ∷ up 1 ∷ up 0 ∷ up 0 ∷ up 0 ∷ Some (negsuc 8) ∷ up 0 ∷ [])
@@ -72,29 +75,21 @@ gap = land 3 2 (up 0 ∷ up 1 ∷ up 2 ∷ up 3 ∷ None ∷ up 5 ∷ [])
 abbrev pub observer_at : ℕ → ℕ → ℕ → Observer
 observer_at r c eye = record { row = r; col = c; eye = eye }
 
-outside : observers_fault gap (observer_at 2 0 0 ∷ []) 0 1 ≡ Some (Outside 0)
-outside = refl
+abbrev pub FaultRow : Type 0
+FaultRow = Option SightFault × Option SightFault
 
-beside : observers_fault gap (observer_at 0 0 0 ∷ observer_at 0 3 0 ∷ []) 0 1 ≡ Some (Outside 1)
-beside = refl
+abbrev pub HaveFaults : List FaultRow → Type 0
+HaveFaults rows = map (λ (row : FaultRow). row.0) rows ≡ map (λ (row : FaultRow). row.1) rows
 
-on_no_data : observers_fault gap (observer_at 1 1 0 ∷ observer_at 9 9 0 ∷ []) 0 1 ≡ Some (OnNodata 0)
-on_no_data = refl
-
-high_eye : observers_fault gap (observer_at 9 9 0 ∷ observer_at 0 0 1000001 ∷ []) 0 0 ≡ Some (BadEye (Some 1))
-high_eye = refl
-
-high_target : observers_fault gap (observer_at 9 9 1000001 ∷ []) 1000001 0 ≡ Some (BadEye None)
-high_target = refl
-
-short_radius : observers_fault gap (observer_at 9 9 0 ∷ []) 1000000 0 ≡ Some BadRadius
-short_radius = refl
-
-long_radius : observers_fault gap (observer_at 0 0 0 ∷ []) 0 8193 ≡ Some BadRadius
-long_radius = refl
-
-no_fault : observers_fault gap (observer_at 1 2 1000000 ∷ []) 1000000 8192 ≡ None
-no_fault = refl
-
-nobody : observers_fault gap [] 0 1 ≡ None
-nobody = refl
+observer_faults : HaveFaults (
+    (observers_fault gap (observer_at 2 0 0 ∷ []) 0 1, Some (Outside 0))
+    ∷ (observers_fault gap (observer_at 0 0 0 ∷ observer_at 0 3 0 ∷ []) 0 1, Some (Outside 1))
+    ∷ (observers_fault gap (observer_at 1 1 0 ∷ observer_at 9 9 0 ∷ []) 0 1, Some (OnNodata 0))
+    ∷ (observers_fault gap (observer_at 9 9 0 ∷ observer_at 0 0 1000001 ∷ []) 0 0, Some (BadEye (Some 1)))
+    ∷ (observers_fault gap (observer_at 9 9 1000001 ∷ []) 1000001 0, Some (BadEye None))
+    ∷ (observers_fault gap (observer_at 9 9 0 ∷ []) 1000000 0, Some BadRadius)
+    ∷ (observers_fault gap (observer_at 0 0 0 ∷ []) 0 8193, Some BadRadius)
+    ∷ (observers_fault gap (observer_at 1 2 1000000 ∷ []) 1000000 8192, None)
+    ∷ (observers_fault gap ([]) 0 1, None)
+    ∷ [])
+observer_faults = refl

@@ -10,16 +10,6 @@ use Rattle.sight.specs.declared.walk.Axis.{Axis}
 use Rattle.sight.specs.declared.walk.Pace.{Pace}
 use Rattle.sight.proofs.Toward.{toward_none, toward_le, step_stays, step_passes, lead_whole, lead_part}
 
--- at the beginning
-whole_none : (a : Axis) (n : ℕ) → 0 < n → whole_at a n 0 ≡ a.from
-whole_none a n some = ap (λ t. t / n) (toward_none a.from a.to n) ∙ div-mul-add a.from n 0 some
-
-pub part_none : (a : Axis) (n : ℕ) → 0 < n → part_at a n 0 ≡ 0
-part_none a n some = ap (λ t. t % n) (toward_none a.from a.to n) ∙ mod-mul-add a.from n 0 some
-
-pub index_none : (lead side : Axis) (n : ℕ) → 0 < n → index_at lead side n 0 ≡ lead.from * lead.stride + side.from * side.stride
-index_none lead side n some = rw (whole_none lead n some, whole_none side n some) refl
-
 -- the leading coordinate
 lead_step : (a : Axis) (n k ahead behind part : ℕ) → n ≡ abs_diff a.from a.to → 0 < n → k < n → Gains a n ahead behind part → whole_at a n (k + 1) + behind ≡ whole_at a n k + ahead
 lead_step a n k ahead behind part e some h gains =

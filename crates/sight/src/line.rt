@@ -13,14 +13,14 @@ use ascii_grid::{Grid, Height, Place};
 
 /// Whether the target is not farther than the radius.
 #[inline(always)]
-fn is_in_reach(from: Place, to: Place, radius: u32) -> bool
-    requires rows { (from.row < 4096) × (to.row < 4096) }
-    requires cols { (from.col < 4096) × (to.col < 4096) }
+fn is_in_reach(eye: Place, target: Place, radius: u32) -> bool
+    requires rows { (eye.row < 4096) × (target.row < 4096) }
+    requires cols { (eye.col < 4096) × (target.col < 4096) }
     requires radius { radius ≤ longest_radius }
-    ensures { result ≡ is_near from to radius }
+    ensures { result ≡ is_near eye target radius }
 {
-    let rows = from.row.abs_diff(to.row);
-    let cols = from.col.abs_diff(to.col);
+    let rows = eye.row.abs_diff(target.row);
+    let cols = eye.col.abs_diff(target.col);
     rows * rows + cols * cols <= radius * radius
 }
 
@@ -61,39 +61,39 @@ fn lines_of_sight(
         (λ lines. AreSightlines grid.now.terrain observer.now target target_height radius lines) }
 {
     let stride = grid.cols() as usize;
-    let from = Place {
+    let eye = Place {
         row: observer.row,
         col: observer.col,
     };
-    if !is_in_reach(from, target, radius) {
+    if !is_in_reach(eye, target, radius) {
         return None;
     }
-    let from_height = grid.at(from)?;
-    let to_height = grid.at(target)?;
-    let from_level = level(from_height, observer.eye);
-    let to_level = level(to_height, target_height);
+    let eye_ground = grid.at(eye)?;
+    let target_ground = grid.at(target)?;
+    let eye_level = level(eye_ground, observer.eye);
+    let target_level = level(target_ground, target_height);
     let rows = Axis {
         from: target.row,
-        to: from.row,
+        to: eye.row,
         stride,
     };
     let columns = Axis {
         from: target.col,
-        to: from.col,
+        to: eye.col,
         stride: 1,
     };
     Some(Sightlines {
         columns: Sightline {
             lead: columns,
             side: rows,
-            from_level: to_level,
-            to_level: from_level,
+            from_level: target_level,
+            to_level: eye_level,
         },
         rows: Sightline {
             lead: rows,
             side: columns,
-            from_level: to_level,
-            to_level: from_level,
+            from_level: target_level,
+            to_level: eye_level,
         },
     })
 }

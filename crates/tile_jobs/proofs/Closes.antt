@@ -1,30 +1,28 @@
 -- Closing a board, deque by deque.
-use Rattle.std.proofs.Common.{◌≡◌, ◌≢◌, ℕ, zero, suc, ◌+◌, ◌-◌, ◌%◌, ◌<◌, ◌≤◌, Bool, true, false, cond, ◌==◌, nat_lt, add-one, add-zero, add-suc, List, [], ◌∷◌, ◌++◌, length, get_or, drop, sym, refl, ap, ◌∙◌, arith, eq-eqb, below_more}
+use Rattle.std.proofs.Common.{◌≡◌, ◌≢◌, ℕ, zero, suc, ◌+◌, ◌-◌, ◌%◌, ◌<◌, ◌≤◌, Bool, true, false, cond, ◌==◌, nat_lt, add-one, add-zero, add-suc, List, [], ◌∷◌, ◌++◌, length, get_or, drop, sym, refl, ap, ◌∙◌, arith, inl, inr, below_more}
 use Rattle.std.proofs.lemmas.Bool.Decides.{nat_tests}
-use Rattle.std.proofs.lemmas.List.{append-nil}
+use Rattle.std.proofs.lemmas.Bool.{cases_eq, eq-eqb, ne_eqb}
+use Rattle.std.proofs.lemmas.List.{append-nil, length-drop, get_or-drop, get_or_default, drop-drop}
+use Rattle.std.proofs.lemmas.List.Folds.{concat-append}
 use lib.ListN.{length-append}
 use Rattle.tile_jobs.specs.Board.{deal, times, sum_to}
-use Rattle.tile_jobs.specs.Rule.{joined}
+use Rattle.std.specs.List.{concat}
 use Rattle.tile_jobs.specs.Ends.{EndState, SeatState, IsSeat, IsDeal, HasAllMarks, of, skip}
 use Rattle.tile_jobs.specs.Closed.{ArePartsOf, in_seats, IsClosed}
 use Rattle.tile_jobs.proofs.Entries.{times_append, deal_is}
-use Rattle.tile_jobs.proofs.Closings.{not_same}
-use Rattle.tile_jobs.proofs.Steps.{joined_append}
-
-not_here : (x y : ℕ) → x ≢ y → ◌≡◌ {A = ℕ} (cond (x == y) 1 0) 0
-not_here x y far = rw (not_same x y far)
-
-times_of_at : (b : Bool) (v seats y x : ℕ) (xs : List ℕ) → (x % seats == v) ≡ b → y % seats ≡ v → times y (of v seats xs) ≡ times y xs → times y (cond b (x ∷ of v seats xs) (of v seats xs)) ≡ times y (x ∷ xs)
-times_of_at true v seats y x xs is rem ih = omega arith
-times_of_at false v seats y x xs is rem ih =
-    let far : x ≢ y = λ e. (let r : x % seats ≡ v = ap (λ k. k % seats) e ∙ rem in absurd (grind (arith, nat_tests))) in
-    let none = not_here x y far in
-    omega arith
+use Rattle.tile_jobs.proofs.Seats.{get_snoc}
 
 -- what has the remainder v is in the part of v
 pub times_of : (v seats y : ℕ) (xs : List ℕ) → y % seats ≡ v → times y (of v seats xs) ≡ times y xs
 times_of v seats y [] rem = refl
-times_of v seats y (x ∷ xs) rem = times_of_at (x % seats == v) v seats y x xs refl rem (times_of v seats y xs rem)
+times_of v seats y (x ∷ xs) rem =
+    let rest = times_of v seats y xs rem in
+    elim (cases_eq (x % seats) v) [
+      | inl e ↦ rw (eq-eqb (x % seats) v e) (omega arith)
+      | inr far ↦
+          let none : ◌≡◌ {A = ℕ} (cond (x == y) 1 0) 0 = rw (ne_eqb x y (λ e. far (ap (λ k. k % seats) e ∙ rem))) refl in
+          rw (ne_eqb (x % seats) v far) (omega arith)
+    ]
 
 none_or : (n : ℕ) (P : Type 0) → (0 < n → P) → (P → ⊥) → n ≡ 0
 none_or zero P some nope = refl
@@ -36,59 +34,38 @@ deal_other jobs seats v y far = none_or (times y (deal jobs seats v)) (y % seats
 pub deal_past : (jobs seats v y : ℕ) → jobs ≤ y → times y (deal jobs seats v) ≡ 0
 deal_past jobs seats v y high = none_or (times y (deal jobs seats v)) (y < jobs) (λ n. (deal_is jobs seats v y n).0) (λ l. absurd (omega arith))
 
-lower : (a b : ℕ) → a < suc b → b ≢ a → a < b
-lower zero zero l far = absurd (far refl)
-lower zero (suc b) l far = omega arith
-lower (suc a) zero l far = absurd (omega arith)
-lower (suc a) (suc b) l far = let h = lower a b (omega arith) (λ e. far (ap suc e)) in omega arith
-
-deal_one_else : (c : Bool) (j seats y : ℕ) → (j == y) ≡ false → (j % seats == y % seats) ≡ c → times y (deal j seats (y % seats)) ≡ 1 → times y (deal (suc j) seats (y % seats)) ≡ 1
-deal_one_else true j seats y is t ih =
-    let split = times_append y (deal j seats (y % seats)) (j ∷ []) in
-    let none : ◌≡◌ {A = ℕ} (cond (j == y) 1 0) 0 = rw is refl in
-    rw t (omega arith)
-deal_one_else false j seats y is t ih = rw t ih
-
-deal_one_at : (b : Bool) (j seats y : ℕ) → (j == y) ≡ b → y < suc j → (y < j → times y (deal j seats (y % seats)) ≡ 1) → times y (deal (suc j) seats (y % seats)) ≡ 1
-deal_one_at true j seats y is low ih =
-    let e : j ≡ y = grind (arith, nat_tests) in
-    let t : (j % seats == y % seats) ≡ true = eq-eqb (j % seats) (y % seats) (ap (λ k. k % seats) e) in
-    let none = deal_past j seats (y % seats) y (omega arith) in
-    let split = times_append y (deal j seats (y % seats)) (j ∷ []) in
-    let one : ◌≡◌ {A = ℕ} (cond (j == y) 1 0) 1 = rw is refl in
-    rw t (omega arith)
-deal_one_at false j seats y is low ih =
-    let low' : y < j = (let k : j ≢ y = λ e. absurd (grind (arith, nat_tests)) in lower y j low k) in
-    deal_one_else (j % seats == y % seats) j seats y is refl (ih low')
+times_deal : (j seats v y : ℕ) → times y (deal (suc j) seats v) ≡ times y (deal j seats v) + cond (j % seats == v) (cond (j == y) 1 0) 0
+times_deal j seats v y =
+    let split = times_append y (deal j seats v) (j ∷ []) in
+    elim (j % seats == v) as (λ b. times y (cond b (deal j seats v ++ j ∷ []) (deal j seats v)) ≡ times y (deal j seats v) + cond b (cond (j == y) 1 0) 0) [
+      | true ↦ omega arith
+      | false ↦ omega arith
+    ]
 
 pub deal_one : (jobs seats y : ℕ) → y < jobs → times y (deal jobs seats (y % seats)) ≡ 1
 deal_one zero seats y low = absurd (omega arith)
-deal_one (suc j) seats y low = deal_one_at (j == y) j seats y refl low (λ l. deal_one j seats y l)
+deal_one (suc j) seats y low =
+    let split = times_deal j seats (y % seats) y in
+    elim (cases_eq j y) [
+      | inl e ↦
+          let none = deal_past j seats (y % seats) y (omega arith) in
+          split ∙ rw (eq-eqb (j % seats) (y % seats) (ap (λ k. k % seats) e), eq-eqb j y e, none) refl
+      | inr far ↦
+          let one = deal_one j seats y (omega arith) in
+          let none : ◌≡◌ {A = ℕ} (cond (j % seats == y % seats) 0 0) 0 = elim (j % seats == y % seats) as (λ b. ◌≡◌ {A = ℕ} (cond b 0 0) 0) [ true ↦ refl | false ↦ refl ] in
+          split ∙ rw (ne_eqb j y far, none, one) refl
+    ]
 
 pub times_drop : (y k : ℕ) (xs : List ℕ) → times y (drop k xs) ≤ times y xs
 times_drop y zero xs = omega arith
 times_drop y (suc k) [] = omega arith
 times_drop y (suc k) (x ∷ xs) = let h = times_drop y k xs in omega arith
 
-pub length_drop : {A : Type 0} (k : ℕ) (xs : List A) → length (drop k xs) ≤ length xs
-length_drop zero xs = omega arith
-length_drop (suc k) [] = omega arith
-length_drop (suc k) (x ∷ xs) = let h = length_drop k xs in omega arith
-
 pub get_of_drop : {A : Type 0} (xs : List A) (k : ℕ) (d : A) → get_or (drop k xs) 0 d ≡ get_or xs k d
-get_of_drop xs zero d = refl
-get_of_drop [] (suc k) d = refl
-get_of_drop (x ∷ xs) (suc k) d = get_of_drop xs k d
+get_of_drop xs k d = get_or-drop k xs 0 d ∙ ap (λ n. get_or xs n d) (add-zero k)
 
 pub some_drop : {A : Type 0} (xs : List A) (k : ℕ) → k < length xs → 0 < length (drop k xs)
-some_drop [] k low = absurd (omega arith)
-some_drop (x ∷ xs) zero low = omega arith
-some_drop (x ∷ xs) (suc k) low = some_drop xs k (omega arith)
-
-drop_more : {A : Type 0} (xs : List A) (k : ℕ) → drop 1 (drop k xs) ≡ drop (suc k) xs
-drop_more xs zero = refl
-drop_more [] (suc k) = refl
-drop_more (x ∷ xs) (suc k) = drop_more xs k
+some_drop xs k low = omega (arith, length-drop k xs)
 
 sum_grows : (n m : ℕ) (f : ℕ → ℕ) → sum_to n f ≤ sum_to (n + m) f
 sum_grows n zero f = rw add-zero (omega arith)
@@ -98,37 +75,20 @@ pub sum_mono : (n m : ℕ) (f : ℕ → ℕ) → n ≤ m → sum_to n f ≤ sum_
 sum_mono n m f l = let h = sum_grows n (m - n) f in let e : n + (m - n) ≡ m = omega arith in rw e at h
 
 -- seat s's next end is that of deque v
-place_at : (b : Bool) (s v : ℕ) → nat_lt s v ≡ b → s ≢ v → skip s (v - cond b 1 0) ≡ v
-place_at true s v is far =
-    let l : s < v = grind (arith, nat_tests) in
-    let t : nat_lt (v - 1) s ≡ false = grind (arith, nat_tests) in rw t (omega arith)
-place_at false s v is far =
-    let l : v ≤ s = grind (arith, nat_tests) in
-    let below : v < s = lower v s (omega arith) far in
-    let t : nat_lt (v - 0) s ≡ true = grind (arith, nat_tests) in rw t (omega arith)
-
 pub place_is : (s v : ℕ) → s ≢ v → skip s (v - cond (nat_lt s v) 1 0) ≡ v
-place_is s v far = place_at (nat_lt s v) s v refl far
-
-place_low_at : (b : Bool) (s v m : ℕ) → nat_lt s v ≡ b → s ≢ v → s < suc m → v < suc m → v - cond b 1 0 < m
-place_low_at true s v m is far low high = let l : s < v = grind (arith, nat_tests) in omega arith
-place_low_at false s v m is far low high = let l : v ≤ s = grind (arith, nat_tests) in let below : v < s = lower v s (omega arith) far in omega arith
+place_is s v far = grind (arith, nat_tests)
 
 pub place_low : (s v m : ℕ) → s ≢ v → s < suc m → v < suc m → v - cond (nat_lt s v) 1 0 < m
-place_low s v m far low high = place_low_at (nat_lt s v) s v m refl far low high
-
-next_row_at : {A : Type 0} (b c : Bool) (s v : ℕ) (xs : List A) → (s == v) ≡ b → nat_lt s v ≡ c → cond b (drop (v - cond c 1 0) xs) (drop 1 (drop (v - cond c 1 0) xs)) ≡ drop (v + 1 - cond (nat_lt s (v + 1)) 1 0) xs
-next_row_at true true s v xs p q = let e : s ≡ v = grind (arith, nat_tests) in let l : s < v = grind (arith, nat_tests) in absurd (omega arith)
-next_row_at true false s v xs p q = let e : s ≡ v = grind (arith, nat_tests) in let t : nat_lt s (v + 1) ≡ true = grind (arith, nat_tests) in let e' : v - 0 ≡ v + 1 - 1 = omega arith in rw t (ap (λ k. drop k xs) e')
-next_row_at false true s v xs p q = let l : s < v = grind (arith, nat_tests) in let t : nat_lt s (v + 1) ≡ true = grind (arith, nat_tests) in let e' : suc (v - 1) ≡ v + 1 - 1 = omega arith in rw t (drop_more xs (v - 1) ∙ ap (λ k. drop k xs) e')
-next_row_at false false s v xs p q =
-    let l : v ≤ s = grind (arith, nat_tests) in
-    let far : v ≢ s = λ e. absurd (grind (arith, nat_tests)) in
-    let below : v < s = lower v s (omega arith) (λ e. far (sym e)) in
-    let t : nat_lt s (v + 1) ≡ false = grind (arith, nat_tests) in let e' : suc (v - 0) ≡ v + 1 - 0 = omega arith in rw t (drop_more xs (v - 0) ∙ ap (λ k. drop k xs) e')
+place_low s v m far low high = grind (arith, nat_tests)
 
 pub next_row : {A : Type 0} (s v : ℕ) (xs : List A) → cond (s == v) (drop (v - cond (nat_lt s v) 1 0) xs) (drop 1 (drop (v - cond (nat_lt s v) 1 0) xs)) ≡ drop (v + 1 - cond (nat_lt s (v + 1)) 1 0) xs
-next_row s v xs = next_row_at (s == v) (nat_lt s v) s v xs refl refl
+next_row s v xs =
+    elim (cases_eq s v) [
+      | inl e ↦ let at : v - cond (nat_lt s v) 1 0 ≡ v + 1 - cond (nat_lt s (v + 1)) 1 0 = grind (arith, nat_tests) in rw (eq-eqb s v e) (ap (λ k. drop k xs) at)
+      | inr far ↦
+          let at : v - cond (nat_lt s v) 1 0 + 1 ≡ v + 1 - cond (nat_lt s (v + 1)) 1 0 = grind (arith, nat_tests) in
+          rw (ne_eqb s v far) (drop-drop 1 (v - cond (nat_lt s v) 1 0) xs ∙ ap (λ k. drop k xs) at)
+    ]
 
 -- what is left after the deques below n were closed
 pub record IsLeft (jobs seats : ℕ) (ss : List SeatState) (n : ℕ) (left : List ℕ) : Type 0 where
@@ -139,22 +99,6 @@ pub record IsLeft (jobs seats : ℕ) (ss : List SeatState) (n : ℕ) (left : Lis
   pub empty : (s : ℕ) (d : SeatState) → s < seats → HasAllMarks (get_or ss s d) → left ≡ []
   pub again : (s : ℕ) (d : SeatState) → s < n → (get_or ss s d).own.marked ≡ true → (y : ℕ) → y % seats ≡ s → times y left ≡ 0
 
-pub left_none : (jobs seats : ℕ) (ss : List SeatState) → 0 < seats → IsLeft jobs seats ss 0 []
-left_none jobs seats ss some = record {
-  parts = ([], refl, refl, λ v low. absurd (omega arith));
-  low = omega arith;
-  once = λ y d low. absurd (omega arith);
-  later = λ y high. refl;
-  empty = λ s d low marks. refl;
-  again = λ s d low. absurd (omega arith);
-}
-
-get_parts : (P : ℕ → List ℕ → Type 0) (xs : List (List ℕ)) (x : List ℕ) → ((v : ℕ) → v < length xs → P v (get_or xs v [])) → P (length xs) x → (v : ℕ) → v < suc (length xs) → P v (get_or (xs ++ x ∷ []) v [])
-get_parts P [] x all here zero low = here
-get_parts P [] x all here (suc v) low = absurd (omega arith)
-get_parts P (y ∷ ys) x all here zero low = all zero (omega arith)
-get_parts P (y ∷ ys) x all here (suc v) low = get_parts (λ n. P (suc n)) ys x (λ k l. all (suc k) (omega arith)) here v (omega arith)
-
 pub left_more : (jobs seats : ℕ) (ss : List SeatState) (v : ℕ) (left p : List ℕ) → v < seats → IsLeft jobs seats ss v left
     → (k : ℕ) → p ≡ drop k (deal jobs seats v)
     → ((s : ℕ) (d : SeatState) → s < seats → HasAllMarks (get_or ss s d) → p ≡ [])
@@ -162,7 +106,7 @@ pub left_more : (jobs seats : ℕ) (ss : List SeatState) (v : ℕ) (left p : Lis
     → ((y : ℕ) (d : SeatState) → y % seats ≡ v → in_seats y seats ss d + times y p ≡ times y (deal jobs seats v))
     → IsLeft jobs seats ss (v + 1) (left ++ p)
 left_more jobs seats ss v left p low h k part empty again once =
-    let few : length p ≤ length (deal jobs seats v) = rw part (length_drop k (deal jobs seats v)) in
+    let few : length p ≤ length (deal jobs seats v) = rw part (omega (arith, length-drop k (deal jobs seats v))) in
     let size = length-append left p in
     let old = h.low in
     let else_none : (y : ℕ) → y % seats ≢ v → times y p ≡ 0 = λ y far. (let a = deal_other jobs seats v y far in let b = times_drop y k (deal jobs seats v) in let c = ap (times y) part in omega arith) in
@@ -172,8 +116,8 @@ left_more jobs seats ss v left p low h k part empty again once =
       parts = (
         h.parts.0 ++ p ∷ [],
         (let l = length-append h.parts.0 (p ∷ []) in let m = h.parts.1 in omega arith),
-        ap (λ l. l ++ p) h.parts.2 ∙ ap (λ l. joined h.parts.0 ++ l) (sym (append-nil p)) ∙ sym (joined_append h.parts.0 (p ∷ [])),
-        (λ u l. get_parts (λ v x. (k : ℕ) × (x ≡ drop k (deal jobs seats v))) h.parts.0 p (λ u l. h.parts.3 u (let m = h.parts.1 in omega arith)) (k, rw h.parts.1 part) u (let m = h.parts.1 in omega arith)),
+        ap (λ l. l ++ p) h.parts.2 ∙ ap (λ l. concat h.parts.0 ++ l) (sym (append-nil p)) ∙ sym (concat-append h.parts.0 (p ∷ [])),
+        (λ u l. get_snoc (λ v x. (k : ℕ) × (x ≡ drop k (deal jobs seats v))) h.parts.0 p (λ u d l. rw (get_or_default h.parts.0 u d [] l) (h.parts.3 u (let m = h.parts.1 in omega arith))) (k, rw h.parts.1 part) u [] (let m = h.parts.1 in omega arith)),
       );
       low = rw add-one (omega arith);
       once = λ y d l. below_more Once v
@@ -186,12 +130,8 @@ left_more jobs seats ss v left p low h k part empty again once =
           (λ d m y e. let a = h.later y (omega arith) in let b = ap (times y) (again d m) in let c = times_append y left p in omega arith) s l d m y e;
     }
 
-below_next_at : (P : ℕ → Type 0) (n : ℕ) → ((j : ℕ) → j < n → P j) → P n → (j : ℕ) → (b : Bool) → (j == n) ≡ b → j < suc n → P j
-below_next_at P n below here j true is low = let e : j ≡ n = grind (arith, nat_tests) in rw e here
-below_next_at P n below here j false is low = let far : n ≢ j = λ e. absurd (grind (arith, nat_tests)) in below j (lower j n low far)
-
 pub below_next : (P : ℕ → Type 0) (n : ℕ) → ((j : ℕ) → j < n → P j) → P n → (j : ℕ) → j < suc n → P j
-below_next P n below here j low = below_next_at P n below here j (j == n) refl low
+below_next P n below here j low = elim (cases_eq j n) [ inl e ↦ rw e here | inr far ↦ below j (omega arith) ]
 
 -- the place of deque v's end among the others of seat s
 abbrev pub head : ℕ → ℕ → ℕ
@@ -222,13 +162,6 @@ module _ (jobs seats : ℕ) (ss : List SeatState) (deal_of_all : IsDeal jobs sea
       let n = deal_of_all.numbers s d ls in
       let t = (each s d ls).others_are (head s v) e (head_low s v d ls lv far) in
       t.3 ∙ rw (n.0, n.2, place_is s v far) refl
-
-same_or_at : (s v : ℕ) (P : Type 0) → (s ≡ v → P) → (s ≢ v → P) → (b : Bool) → (s == v) ≡ b → P
-same_or_at s v P yep nope true is = yep (grind (arith, nat_tests))
-same_or_at s v P yep nope false is = nope (λ e. absurd (grind (arith, nat_tests)))
-
-pub same_or : (s v : ℕ) (P : Type 0) → (s ≡ v → P) → (s ≢ v → P) → P
-same_or s v P yep nope = same_or_at s v P yep nope (s == v) refl
 
 -- where every deque was closed
 pub all_left : (jobs seats : ℕ) (ss : List SeatState) (left : List ℕ) → 0 < seats → IsLeft jobs seats ss seats left → IsClosed jobs seats ss left

@@ -1,6 +1,7 @@
 -- Closing a deque.
 use Rattle.std.proofs.Common.{◌≡◌, ◌≢◌, ℕ, zero, suc, ◌+◌, ◌<◌, ◌≤◌, Bool, true, false, true≢false, cond, ◌==◌, nat_lt, add-one, List, [], ◌∷◌, ◌++◌, length, take, drop, replicate, sym, refl, ap, ◌∙◌, arith}
-use Rattle.std.proofs.lemmas.List.{append-nil, append_assoc}
+use Rattle.std.proofs.lemmas.Bool.{ne_eqb}
+use Rattle.std.proofs.lemmas.List.{append-nil, append_assoc, drop_all}
 use Rattle.std.proofs.lemmas.Bool.Decides.{nat_tests}
 use lib.ListN.{length-append}
 use Rattle.tile_jobs.specs.declared.deque.Entry.TheVariants.{Job, End}
@@ -45,16 +46,10 @@ mark_shows false u is e = absurd (true≢false (sym e))
 pub part_more : (d p : List ℕ) (k t j : ℕ) → t ≡ k + length p → p ++ drop t d ≡ drop k d → j ∷ drop (suc t) d ≡ drop t d → (p ++ j ∷ []) ++ drop (suc t) d ≡ drop k d
 part_more d p k t j at e next = append_assoc p (j ∷ []) (drop (suc t) d) ∙ ap (λ l. p ++ l) next ∙ e
 
-drop_past : (d : List ℕ) (t : ℕ) → length d ≤ t → drop t d ≡ []
-drop_past [] zero l = refl
-drop_past [] (suc t) l = refl
-drop_past (x ∷ d) zero l = absurd (omega arith)
-drop_past (x ∷ d) (suc t) l = drop_past d t (omega arith)
-
 -- and end as the rest of the deal
 pub part_ends : (d p : List ℕ) (k t m : ℕ) → p ++ drop t d ≡ drop k d → (m ≡ 0 → length d ≤ t) → (0 < m → p ≡ []) → (i : ℕ) × (p ≡ drop i d)
-part_ends d p k t zero e past none = (k, sym (append-nil p) ∙ ap (λ l. p ++ l) (sym (drop_past d t (past refl))) ∙ e)
-part_ends d p k t (suc m) e past none = (length d, none (omega arith) ∙ sym (drop_past d (length d) (omega arith)))
+part_ends d p k t zero e past none = (k, sym (append-nil p) ∙ ap (λ l. p ++ l) (sym (drop_all t d (past refl))) ∙ e)
+part_ends d p k t (suc m) e past none = (length d, none (omega arith) ∙ sym (drop_all (length d) d (omega arith)))
 
 module _ (s0 s : ClosingState) (p : List ℕ) (now : s ≡ record s0 { took = s0.took ++ p; marks = s.marks; marked = s.marked }) where
   pub now_deal : deal_of s ≡ deal_of s0
@@ -90,30 +85,13 @@ module _ (s0 s : ClosingState) (p : List ℕ) (now : s ≡ record s0 { took = s0
 
 -- counting the ends that came back
 pub back_here : (v s b : ℕ) → s ≡ v → b + cond (nat_lt v s) 1 0 ≡ suc s → b + cond (nat_lt v (s + 1)) 1 0 ≡ suc (s + 1)
-back_here v s b e h = let t : nat_lt v s ≡ false = grind (arith, nat_tests) in let u : nat_lt v (s + 1) ≡ true = grind (arith, nat_tests) in let h' : b + cond false 1 0 ≡ suc s = rw t at h in rw u (omega arith)
-
-apart : (s v : ℕ) → s ≤ v → s ≢ v → s < v
-apart zero zero l far = absurd (far refl)
-apart zero (suc v) l far = omega arith
-apart (suc s) zero l far = absurd (omega arith)
-apart (suc s) (suc v) l far = let h = apart s v (omega arith) (λ e. far (ap suc e)) in omega arith
-
-not_same_at : (b : Bool) (s v : ℕ) → (s == v) ≡ b → s ≢ v → b ≡ false
-not_same_at true s v is far = absurd (far (grind (arith, nat_tests)))
-not_same_at false s v is far = refl
-
-pub not_same : (s v : ℕ) → s ≢ v → (s == v) ≡ false
-not_same s v far = let h = not_same_at (s == v) s v refl far in h
-
-back_else_at : (v s b : ℕ) → s ≢ v → (t : Bool) → nat_lt v s ≡ t → b + cond t 1 0 ≡ suc s → suc b + cond (nat_lt v (s + 1)) 1 0 ≡ suc (s + 1)
-back_else_at v s b far true is h = let u : nat_lt v (s + 1) ≡ true = grind (arith, nat_tests) in rw u (omega arith)
-back_else_at v s b far false is h = let near : s ≤ v = grind (arith, nat_tests) in let below : s < v = apart s v near far in let u : nat_lt v (s + 1) ≡ false = grind (arith, nat_tests) in rw u (omega arith)
+back_here v s b e h = grind (arith, nat_tests)
 
 pub back_else : (v s b : ℕ) → s ≢ v → b + cond (nat_lt v s) 1 0 ≡ suc s → suc b + cond (nat_lt v (s + 1)) 1 0 ≡ suc (s + 1)
-back_else v s b far h = back_else_at v s b far (nat_lt v s) refl h
+back_else v s b far h = grind (arith, nat_tests)
 
 pub sum_here : (s v : ℕ) (f : ℕ → ℕ) → s ≡ v → sum_to (s + 1) (λ i. cond (i == v) 0 (f i)) ≡ sum_to s (λ i. cond (i == v) 0 (f i))
 sum_here s v f e = let t : (s == v) ≡ true = grind (arith, nat_tests) in rw (add-one, t) (omega arith)
 
 pub sum_else : (s v : ℕ) (f : ℕ → ℕ) → s ≢ v → sum_to (s + 1) (λ i. cond (i == v) 0 (f i)) ≡ sum_to s (λ i. cond (i == v) 0 (f i)) + f s
-sum_else s v f far = let t : (s == v) ≡ false = not_same s v far in rw (add-one, t) refl
+sum_else s v f far = let t : (s == v) ≡ false = ne_eqb s v far in rw (add-one, t) refl

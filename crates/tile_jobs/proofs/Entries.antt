@@ -1,7 +1,8 @@
 -- The feed, its parts, and counts of lists.
-use Rattle.std.proofs.Common.{◌≡◌, ℕ, zero, suc, ◌+◌, ◌%◌, ◌<◌, ◌≤◌, Bool, true, false, cond, ◌==◌, List, [], ◌∷◌, ◌++◌, length, take, drop, replicate, sym, refl, ap, ◌∙◌, subst, arith, eq-eqb}
+use Rattle.std.proofs.Common.{◌≡◌, ℕ, zero, suc, ◌+◌, ◌%◌, ◌<◌, ◌≤◌, Bool, true, false, cond, ◌==◌, List, [], ◌∷◌, ◌++◌, length, take, drop, get_or, add-one, add-zero, replicate, sym, refl, ap, ◌∙◌, subst, arith, eq-eqb}
 use Rattle.std.proofs.lemmas.Bool.Decides.{nat_tests}
-use Rattle.std.proofs.lemmas.List.{append-nil}
+use Rattle.std.proofs.lemmas.Bool.{eqb-true}
+use Rattle.std.proofs.lemmas.List.{append-nil, length-drop, get_or-drop, take_more, drop-drop, take-append-drop}
 use Rattle.tile_jobs.specs.declared.deque.Entry.{Entry}
 use Rattle.tile_jobs.specs.declared.deque.Entry.TheVariants.{Job, End}
 use Rattle.tile_jobs.specs.Board.{deal, feed, jobs_in, jobs_of, ends_of, times}
@@ -9,39 +10,22 @@ use Rattle.tile_jobs.specs.Rule.{IsRising, AllAbove}
 
 module _ {A : Type 0} where
   -- the first of the rest stands at the cut
+  pub cut_below : (xs : List A) (t : ℕ) (x : A) (rest : List A) → x ∷ rest ≡ drop t xs → t < length xs
+  cut_below xs t x rest e = omega (arith, ap length e, length-drop t xs)
+
+  pub get_drop : (xs : List A) (t : ℕ) (x d : A) (rest : List A) → x ∷ rest ≡ drop t xs → x ≡ get_or xs t d
+  get_drop xs t x d rest e = ap (λ l. get_or l 0 d) e ∙ get_or-drop t xs 0 d ∙ ap (λ n. get_or xs n d) (add-zero t)
+
   pub cut_take : (xs : List A) (t : ℕ) (x : A) (rest : List A) → x ∷ rest ≡ drop t xs → take (suc t) xs ≡ take t xs ++ x ∷ []
-  cut_take [] zero x rest e = cc
-  cut_take [] (suc t) x rest e = cc
-  cut_take (y ∷ ys) zero x rest e = cc
-  cut_take (y ∷ ys) (suc t) x rest e = ap (λ l. y ∷ l) (cut_take ys t x rest e)
+  cut_take xs t x rest e =
+      ap (λ n. take n xs) (sym (add-one t)) ∙ take_more xs t x (cut_below xs t x rest e)
+      ∙ ap (λ y. take t xs ++ y ∷ []) (sym (get_drop xs t x x rest e))
 
   pub cut_drop : (xs : List A) (t : ℕ) (x : A) (rest : List A) → x ∷ rest ≡ drop t xs → rest ≡ drop (suc t) xs
-  cut_drop [] zero x rest e = cc
-  cut_drop [] (suc t) x rest e = cc
-  cut_drop (y ∷ ys) zero x rest e = cc
-  cut_drop (y ∷ ys) (suc t) x rest e = cut_drop ys t x rest e
-
-  pub cut_below : (xs : List A) (t : ℕ) (x : A) (rest : List A) → x ∷ rest ≡ drop t xs → t < length xs
-  cut_below [] zero x rest e = cc
-  cut_below [] (suc t) x rest e = cc
-  cut_below (y ∷ ys) zero x rest e = omega arith
-  cut_below (y ∷ ys) (suc t) x rest e = let h = cut_below ys t x rest e in omega arith
+  cut_drop xs t x rest e = ap (drop 1) e ∙ drop-drop 1 t xs ∙ ap (λ n. drop n xs) (add-one t)
 
   pub cut_past : (xs : List A) (t : ℕ) → [] ≡ drop t xs → length xs ≤ t
-  cut_past [] t e = omega arith
-  cut_past (y ∷ ys) zero e = cc
-  cut_past (y ∷ ys) (suc t) e = let h = cut_past ys t e in omega arith
-
-  pub take_past : (xs : List A) (t : ℕ) → length xs ≤ t → take t xs ≡ xs
-  take_past [] zero e = refl
-  take_past [] (suc t) e = refl
-  take_past (y ∷ ys) zero e = absurd (omega arith)
-  take_past (y ∷ ys) (suc t) e = ap (λ l. y ∷ l) (take_past ys t (omega arith))
-
-  pub take_drop : (xs : List A) (t : ℕ) → take t xs ++ drop t xs ≡ xs
-  take_drop xs zero = refl
-  take_drop [] (suc t) = refl
-  take_drop (y ∷ ys) (suc t) = ap (λ l. y ∷ l) (take_drop ys t)
+  cut_past xs t e = omega (arith, ap length e, length-drop t xs)
 
 pub times_append : (x : ℕ) (xs ys : List ℕ) → times x (xs ++ ys) ≡ times x xs + times x ys
 times_append x [] ys = omega arith
@@ -72,10 +56,6 @@ jobs_jobs (j ∷ d) = ap (λ l. j ∷ l) (jobs_jobs d)
 pub ends_jobs : (d : List ℕ) → ends_of (jobs_in d) ≡ 0
 ends_jobs [] = refl
 ends_jobs (j ∷ d) = ends_jobs d
-
-pub length_jobs : (d : List ℕ) → length (jobs_in d) ≡ length d
-length_jobs [] = refl
-length_jobs (j ∷ d) = ap suc (length_jobs d)
 
 -- behind the jobs there are only marks
 pub no_job : (n t j : ℕ) (rest : List Entry) → Job j ∷ rest ≡ drop t (replicate n End) → ⊥
@@ -142,9 +122,6 @@ deal_rising zero seats v = tt
 deal_rising (suc j) seats v =
     elim (j % seats == v) as (λ b. IsRising (cond b (deal j seats v ++ j ∷ []) (deal j seats v))) [ true ↦ rising_snoc j (deal j seats v) (deal_rising j seats v) (deal_below j seats v) | false ↦ deal_rising j seats v ]
 
-test_is : (x y : ℕ) → (x == y) ≡ true → x ≡ y
-test_is x y is = grind (arith, nat_tests)
-
 times_self : (x : ℕ) → ◌≡◌ {A = ℕ} (cond (x == x) 1 0) 1
 times_self x = ap (λ b. cond b 1 0) (eq-eqb x x refl)
 
@@ -173,7 +150,7 @@ member_at : (b : Bool) (j seats v y : ℕ) → (j % seats == v) ≡ b → (0 < t
 member_at false j seats v y is old n = let h = old n in (omega arith, h.1)
 member_at true j seats v y is old n =
     let split = times_append y (deal j seats v) (j ∷ []) in
-    member_here (j == y) j seats v y refl (test_is (j % seats) v is) old (omega arith)
+    member_here (j == y) j seats v y refl (eqb-true (j % seats) v is) old (omega arith)
 
 -- the deal of v is of numbers below `jobs` with the remainder v
 pub deal_is : (jobs seats v y : ℕ) → 0 < times y (deal jobs seats v) → (y < jobs) × (y % seats ≡ v)
@@ -200,14 +177,14 @@ feed_late jobs seats v t h = mark_late (deal jobs seats v) seats t h
 pub feed_below : (jobs seats v t j : ℕ) (rest : List Entry) → Job j ∷ rest ≡ drop t (feed jobs seats v) → AllBelow j (jobs_of (take t (feed jobs seats v)))
 feed_below jobs seats v t j rest e =
     let all = feed jobs seats v in
-    let parts : jobs_of (take t all) ++ (j ∷ jobs_of rest) ≡ deal jobs seats v = sym (jobs_append (take t all) (Job j ∷ rest)) ∙ ap (λ l. jobs_of (take t all ++ l)) e ∙ ap jobs_of (take_drop all t) ∙ feed_jobs jobs seats v in
+    let parts : jobs_of (take t all) ++ (j ∷ jobs_of rest) ≡ deal jobs seats v = sym (jobs_append (take t all) (Job j ∷ rest)) ∙ ap (λ l. jobs_of (take t all ++ l)) e ∙ ap jobs_of (take-append-drop t all) ∙ feed_jobs jobs seats v in
     rising_mid j (jobs_of (take t all)) (jobs_of rest) (subst IsRising (sym parts) (deal_rising jobs seats v))
 
 -- and it is one of the deal
 pub feed_is : (jobs seats v t j : ℕ) (rest : List Entry) → Job j ∷ rest ≡ drop t (feed jobs seats v) → (j < jobs) × (j % seats ≡ v)
 feed_is jobs seats v t j rest e =
     let all = feed jobs seats v in
-    let parts : jobs_of (take t all) ++ (j ∷ jobs_of rest) ≡ deal jobs seats v = sym (jobs_append (take t all) (Job j ∷ rest)) ∙ ap (λ l. jobs_of (take t all ++ l)) e ∙ ap jobs_of (take_drop all t) ∙ feed_jobs jobs seats v in
+    let parts : jobs_of (take t all) ++ (j ∷ jobs_of rest) ≡ deal jobs seats v = sym (jobs_append (take t all) (Job j ∷ rest)) ∙ ap (λ l. jobs_of (take t all ++ l)) e ∙ ap jobs_of (take-append-drop t all) ∙ feed_jobs jobs seats v in
     let counts = times_append j (jobs_of (take t all)) (j ∷ jobs_of rest) in
     let one = times_self j in
     deal_is jobs seats v j (subst (λ l. 0 < times j l) parts (omega arith))

@@ -1,11 +1,12 @@
 -- Lists cut by remainders.
-use Rattle.std.proofs.Common.{◌≡◌, ◌≢◌, ℕ, zero, suc, ◌+◌, ◌%◌, ◌<◌, ◌≤◌, Bool, true, false, cond, ◌==◌, List, [], ◌∷◌, ◌++◌, length, drop, replicate, zero-add, sym, refl, ap, ◌∙◌, arith, eq-eqb}
+use Rattle.std.proofs.Common.{◌≡◌, ◌≢◌, ℕ, zero, suc, ◌+◌, ◌%◌, ◌<◌, ◌≤◌, Bool, true, false, cond, ◌==◌, List, [], ◌∷◌, ◌++◌, length, drop, replicate, zero-add, sym, refl, ap, ◌∙◌, arith, inl, inr}
 use Rattle.std.proofs.lemmas.Bool.Decides.{nat_tests}
 use lib.ListN.{length-append, length-replicate}
 use Rattle.tile_jobs.specs.declared.deque.Entry.TheVariants.{Job, End}
 use Rattle.tile_jobs.specs.Rule.{once}
-use Rattle.tile_jobs.proofs.Entries.{length_jobs}
-use Rattle.std.proofs.lemmas.List.{append-nil, append_assoc}
+use Rattle.std.proofs.Math.Seq.{drop-append-add}
+use Rattle.std.proofs.lemmas.Bool.{cases_eq, eq-eqb, ne_eqb}
+use Rattle.std.proofs.lemmas.List.{append-nil, append_assoc, map-append, length-map}
 use Rattle.tile_jobs.specs.Board.{deal, feed, jobs_in, sum_to}
 use Rattle.tile_jobs.specs.Ends.{of}
 
@@ -33,29 +34,28 @@ pub sum_le : (n : ℕ) (f g : ℕ → ℕ) → ((v : ℕ) → v < n → f v ≤ 
 sum_le zero f g h = omega arith
 sum_le (suc n) f g h = let k = sum_le n f g (λ v l. h v (omega arith)) in let here = h n (omega arith) in omega arith
 
-sum_lt_at : (n : ℕ) (f g : ℕ → ℕ) (w : ℕ) → w < suc n → f w < g w → (w < n → sum_to n f < sum_to n g) → sum_to n f ≤ sum_to n g → f n ≤ g n → (b : Bool) → (w == n) ≡ b → sum_to (suc n) f < sum_to (suc n) g
-sum_lt_at n f g w low less ih k here true is = let e : w ≡ n = grind (arith, nat_tests) in let less' : f n < g n = rw e at less in omega arith
-sum_lt_at n f g w low less ih k here false is = let far : w < n = grind (arith, nat_tests) in let m = ih far in omega arith
-
 pub sum_lt : (n : ℕ) (f g : ℕ → ℕ) (w : ℕ) → w < n → ((v : ℕ) → v < n → f v ≤ g v) → f w < g w → sum_to n f < sum_to n g
 sum_lt zero f g w low h less = absurd (omega arith)
 sum_lt (suc n) f g w low h less =
     let k = sum_le n f g (λ v l. h v (omega arith)) in
     let here = h n (omega arith) in
-    sum_lt_at n f g w low less (λ far. sum_lt n f g w far (λ v l. h v (omega arith)) less) k here (w == n) refl
+    elim (cases_eq w n) [
+      | inl e ↦ let less' : f n < g n = rw e at less in omega arith
+      | inr far ↦ let m = sum_lt n f g w (omega arith) (λ v l. h v (omega arith)) less in omega arith
+    ]
 
 -- one of the remainders is that of r
 sum_none : (n r : ℕ) → n ≤ r → ◌≡◌ {A = ℕ} (sum_to n (λ v. cond (r == v) 1 0)) 0
 sum_none zero r l = refl
 sum_none (suc n) r l = let h = sum_none n r (omega arith) in let t : (r == n) ≡ false = grind (arith, nat_tests) in rw t (omega arith)
 
-sum_one_at : (n r : ℕ) → r < suc n → (r < n → ◌≡◌ {A = ℕ} (sum_to n (λ v. cond (r == v) 1 0)) 1) → (b : Bool) → (r == n) ≡ b → ◌≡◌ {A = ℕ} (sum_to (suc n) (λ v. cond (r == v) 1 0)) 1
-sum_one_at n r l ih true is = let e : r ≡ n = grind (arith, nat_tests) in let h = sum_none n r (omega arith) in rw is (omega arith)
-sum_one_at n r l ih false is = let far : r < n = grind (arith, nat_tests) in let h = ih far in rw is (omega arith)
-
 pub sum_one : (n r : ℕ) → r < n → ◌≡◌ {A = ℕ} (sum_to n (λ v. cond (r == v) 1 0)) 1
 sum_one zero r l = absurd (omega arith)
-sum_one (suc n) r l = sum_one_at n r l (λ far. sum_one n r far) (r == n) refl
+sum_one (suc n) r l =
+    elim (cases_eq r n) [
+      | inl e ↦ let none = sum_none n r (omega arith) in rw (eq-eqb r n e) (omega arith)
+      | inr far ↦ let one = sum_one n r (omega arith) in rw (ne_eqb r n far) (omega arith)
+    ]
 
 of_length : (v seats x : ℕ) (xs : List ℕ) → length (of v seats (x ∷ xs)) ≡ cond (x % seats == v) 1 0 + length (of v seats xs)
 of_length v seats x xs = elim (x % seats == v) as (λ b. length (cond b (x ∷ of v seats xs) (of v seats xs)) ≡ cond b 1 0 + length (of v seats xs)) [ true ↦ omega arith | false ↦ omega arith ]
@@ -102,36 +102,19 @@ deal_on_at : (b : Bool) (m seats v j : ℕ) → (m % seats == v) ≡ b → (rest
 deal_on_at true m seats v j is rest e = (rest ++ m ∷ [], rw is (ap (λ l. l ++ m ∷ []) e ∙ append_assoc (deal j seats v) (j ∷ rest) (m ∷ [])))
 deal_on_at false m seats v j is rest e = (rest, rw is e)
 
-deal_here_at : (j seats v : ℕ) → (j % seats == v) ≡ true → deal (suc j) seats v ≡ deal j seats v ++ j ∷ []
-deal_here_at j seats v is = rw is
-
-deal_on_where : (b : Bool) (m seats v j : ℕ) → (j == m) ≡ b → j < suc m → j % seats ≡ v → (j < m → (rest : List ℕ) × (deal m seats v ≡ deal j seats v ++ j ∷ rest)) → (rest : List ℕ) × (deal (suc m) seats v ≡ deal j seats v ++ j ∷ rest)
-deal_on_where true m seats v j is low rem ih =
-    let e : j ≡ m = grind (arith, nat_tests) in
-    let t : (j % seats == v) ≡ true = eq-eqb (j % seats) v rem in
-    ([], ap (λ k. deal (suc k) seats v) (sym e) ∙ deal_here_at j seats v t)
-deal_on_where false m seats v j is low rem ih =
-    let far : j < m = grind (arith, nat_tests) in
-    let was = ih far in
-    deal_on_at (m % seats == v) m seats v j refl was.0 was.1
-
 pub deal_on : (jobs seats v j : ℕ) → j < jobs → j % seats ≡ v → (rest : List ℕ) × (deal jobs seats v ≡ deal j seats v ++ j ∷ rest)
 deal_on zero seats v j low rem = absurd (omega arith)
-deal_on (suc m) seats v j low rem = deal_on_where (j == m) m seats v j refl low rem (λ far. deal_on m seats v j far rem)
-
-jobs_in_append : (xs ys : List ℕ) → jobs_in (xs ++ ys) ≡ jobs_in xs ++ jobs_in ys
-jobs_in_append [] ys = refl
-jobs_in_append (x ∷ xs) ys = ap (λ l. Job x ∷ l) (jobs_in_append xs ys)
-
-drop_part : {A : Type 0} (xs ys : List A) (k : ℕ) → drop (length xs + k) (xs ++ ys) ≡ drop k ys
-drop_part [] ys k = rw zero-add
-drop_part (x ∷ xs) ys k = let e : suc (length xs) + k ≡ suc (length xs + k) = omega arith in rw e (drop_part xs ys k)
+deal_on (suc m) seats v j low rem =
+    elim (cases_eq j m) [
+      | inl e ↦ ([], ap (λ k. deal (suc k) seats v) (sym e) ∙ rw (eq-eqb (j % seats) v rem) refl)
+      | inr far ↦ let was = deal_on m seats v j (omega arith) rem in deal_on_at (m % seats == v) m seats v j refl was.0 was.1
+    ]
 
 drop_here : {A : Type 0} (xs : List A) (y : A) (ys : List A) (n : ℕ) → n ≡ length xs → y ∷ drop (suc n) (xs ++ y ∷ ys) ≡ drop n (xs ++ y ∷ ys)
 drop_here xs y ys n e =
     let a : suc n ≡ length xs + 1 = omega arith in
     let b : n ≡ length xs + 0 = omega arith in
-    ap (λ k. y ∷ drop k (xs ++ y ∷ ys)) a ∙ ap (λ l. y ∷ l) (drop_part xs (y ∷ ys) 1) ∙ sym (drop_part xs (y ∷ ys) 0) ∙ ap (λ k. drop k (xs ++ y ∷ ys)) (sym b)
+    ap (λ k. y ∷ drop k (xs ++ y ∷ ys)) a ∙ ap (λ l. y ∷ l) (drop-append-add xs (y ∷ ys) 1) ∙ sym (drop-append-add xs (y ∷ ys) 0) ∙ ap (λ k. drop k (xs ++ y ∷ ys)) (sym b)
 
 -- the feed's next entry, among the jobs and then among the marks
 pub feed_next_job : (jobs seats v j n : ℕ) → j < jobs → j % seats ≡ v → n ≡ length (deal j seats v) → Job j ∷ drop (suc n) (feed jobs seats v) ≡ drop n (feed jobs seats v)
@@ -139,8 +122,8 @@ unfolding feed
 feed_next_job jobs seats v j n low rem e =
     let on = deal_on jobs seats v j low rem in
     let parts : jobs_in (deal jobs seats v) ++ replicate seats End ≡ jobs_in (deal j seats v) ++ (Job j ∷ (jobs_in on.0 ++ replicate seats End)) =
-    ap (λ l. jobs_in l ++ replicate seats End) on.1 ∙ ap (λ l. l ++ replicate seats End) (jobs_in_append (deal j seats v) (j ∷ on.0)) ∙ append_assoc (jobs_in (deal j seats v)) (jobs_in (j ∷ on.0)) (replicate seats End) in
-    rw parts (drop_here (jobs_in (deal j seats v)) (Job j) (jobs_in on.0 ++ replicate seats End) n (e ∙ sym (length_jobs (deal j seats v))))
+    ap (λ l. jobs_in l ++ replicate seats End) on.1 ∙ ap (λ l. l ++ replicate seats End) (map-append Job (deal j seats v) (j ∷ on.0)) ∙ append_assoc (jobs_in (deal j seats v)) (jobs_in (j ∷ on.0)) (replicate seats End) in
+    rw parts (drop_here (jobs_in (deal j seats v)) (Job j) (jobs_in on.0 ++ replicate seats End) n (e ∙ sym (length-map (deal j seats v) Job)))
 
 drop_ends : (n i : ℕ) → i < n → End ∷ drop (suc i) (replicate n End) ≡ drop i (replicate n End)
 drop_ends zero i low = absurd (omega arith)
@@ -151,14 +134,14 @@ pub feed_next_end : (jobs seats v i n : ℕ) → i < seats → n ≡ length (dea
 unfolding feed
 feed_next_end jobs seats v i n low e =
     let d = jobs_in (deal jobs seats v) in
-    let size = length_jobs (deal jobs seats v) in
+    let size = length-map (deal jobs seats v) Job in
     let a : suc n ≡ length d + suc i = omega arith in
     let b : n ≡ length d + i = omega arith in
-    ap (λ k. End ∷ drop k (d ++ replicate seats End)) a ∙ ap (λ l. End ∷ l) (drop_part d (replicate seats End) (suc i)) ∙ drop_ends seats i low ∙ sym (drop_part d (replicate seats End) i) ∙ ap (λ k. drop k (d ++ replicate seats End)) (sym b)
+    ap (λ k. End ∷ drop k (d ++ replicate seats End)) a ∙ ap (λ l. End ∷ l) (drop-append-add d (replicate seats End) (suc i)) ∙ drop_ends seats i low ∙ sym (drop-append-add d (replicate seats End) i) ∙ ap (λ k. drop k (d ++ replicate seats End)) (sym b)
 
 pub feed_length : (jobs seats v : ℕ) → length (feed jobs seats v) ≡ length (deal jobs seats v) + seats
 unfolding feed
-feed_length jobs seats v = length-append (jobs_in (deal jobs seats v)) (replicate seats End) ∙ rw (length_jobs (deal jobs seats v), length-replicate)
+feed_length jobs seats v = length-append (jobs_in (deal jobs seats v)) (replicate seats End) ∙ rw (length-map (deal jobs seats v) Job, length-replicate)
 
 pub once_more : (n x : ℕ) → 0 < n → once n x ≡ x
 once_more zero x h = absurd (omega arith)
@@ -167,10 +150,10 @@ once_more (suc n) x h = refl
 sum_past : (n v : ℕ) (f : ℕ → ℕ) → n ≤ v → sum_to n (λ i. cond (i == v) 0 (f i)) ≡ sum_to n f
 sum_past n v f high = sum_ext n (λ i. cond (i == v) 0 (f i)) f (λ i low. let t : (i == v) ≡ false = grind (arith, nat_tests) in rw t refl)
 
-sum_skip_at : (n v : ℕ) (f : ℕ → ℕ) → v < suc n → (v < n → sum_to n (λ i. cond (i == v) 0 (f i)) + f v ≡ sum_to n f) → (b : Bool) → (n == v) ≡ b → sum_to (suc n) (λ i. cond (i == v) 0 (f i)) + f v ≡ sum_to (suc n) f
-sum_skip_at n v f low ih true is = let e : n ≡ v = grind (arith, nat_tests) in let q = sum_past n v f (omega arith) in let r : f n ≡ f v = ap f e in rw is (omega arith)
-sum_skip_at n v f low ih false is = let far : v < n = grind (arith, nat_tests) in let h = ih far in rw is (omega arith)
-
 pub sum_skip : (n v : ℕ) (f : ℕ → ℕ) → v < n → sum_to n (λ i. cond (i == v) 0 (f i)) + f v ≡ sum_to n f
 sum_skip zero v f low = absurd (omega arith)
-sum_skip (suc n) v f low = sum_skip_at n v f low (λ far. sum_skip n v f far) (n == v) refl
+sum_skip (suc n) v f low =
+    elim (cases_eq n v) [
+      | inl e ↦ let past = sum_past n v f (omega arith) in let same : f n ≡ f v = ap f e in rw (eq-eqb n v e) (omega arith)
+      | inr far ↦ let rest = sum_skip n v f (omega arith) in rw (ne_eqb n v far) (omega arith)
+    ]

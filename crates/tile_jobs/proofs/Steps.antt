@@ -1,6 +1,8 @@
 -- Each step keeps the rule of a deque.
 use Rattle.std.proofs.Common.{◌≡◌, ◌≢◌, ℕ, zero, suc, ◌+◌, ◌-◌, ◌<◌, ◌≤◌, inl, inr, ⊎_elim, true, true≢false, List, [], ◌∷◌, ◌++◌, length, take, drop, set, sym, refl, ap, ◌∙◌, subst, arith}
-use Rattle.std.proofs.lemmas.List.{append_assoc}
+use Rattle.std.specs.List.{concat}
+use Rattle.std.proofs.lemmas.List.{append_assoc, take_all}
+use Rattle.std.proofs.lemmas.List.Folds.{concat-append}
 use mathlib.Core.Option.{some, some-ne-none}
 use lib.ListN.{get_elem?, length-append}
 use Rattle.crossbeam_deque.specs.Tasks.{Pushes, Takes, Finds, FindsFew, Forks, Merges, Learns}
@@ -9,9 +11,9 @@ use Rattle.tile_jobs.specs.declared.deque.Entry.{Entry}
 use Rattle.tile_jobs.specs.declared.deque.Entry.TheVariants.{Job, End}
 use Rattle.tile_jobs.specs.declared.deque.Log.{Log}
 use Rattle.tile_jobs.specs.Board.{deal, feed, jobs_of, ends_of, times}
-use Rattle.tile_jobs.specs.Rule.{total, joined, all_taken, taken, share, AllRising, blank, spent, once, dealing, IsOf, Lawful, CanTake, Took, lent, lending, taken_back, TookNext}
+use Rattle.tile_jobs.specs.Rule.{total, all_taken, taken, share, AllRising, blank, spent, once, dealing, IsOf, Lawful, CanTake, Took, lent, lending, taken_back, TookNext}
 use Rattle.tile_jobs.proofs.Totals.{total_set, total_at, total_snoc, total_plus, total_alone}
-use Rattle.tile_jobs.proofs.Entries.{AllBelow, cut_take, cut_drop, cut_below, cut_past, take_past, times_append, jobs_append, ends_append, rising_snoc, below_of, all_below, feed_ends, feed_early, feed_late, feed_below, feed_is}
+use Rattle.tile_jobs.proofs.Entries.{AllBelow, cut_take, cut_drop, cut_below, cut_past, times_append, jobs_append, ends_append, rising_snoc, below_of, all_below, feed_ends, feed_early, feed_late, feed_below, feed_is}
 
 -- what a pass that may take knows of the deque
 pub names : (items : List Entry) (views : List Log) (h : Lawful items views) (port : ℕ) (u : Log) → get_elem? views port ≡ some u → CanTake u → (u.jobs ≡ h.jobs) × (u.seats ≡ h.seats) × (u.deque ≡ h.v)
@@ -32,7 +34,7 @@ after x items views h port u w at can more same jobs ends is =
     let all = feed h.jobs h.seats h.v in
     let t = total taken views in
     let whole = settled (x ∷ items) views h port u at can in
-    let held : x ∷ items ≡ drop t all = h.held ∙ ap (drop t) (rw whole (take_past all (length all) (omega arith))) in
+    let held : x ∷ items ≡ drop t all = h.held ∙ ap (drop t) (rw whole (take_all (length all) all (omega arith))) in
     let low = cut_below all t x items held in
     let t' : total taken (set views port w) ≡ suc t = (let s = total_set taken views port u w at in omega arith) in
     let next : take (suc t) all ≡ take t all ++ x ∷ [] = cut_take all t x items held in
@@ -44,7 +46,7 @@ after x items views h port u w at can more same jobs ends is =
       owner = h.owner;
       room = h.room;
       within = omega arith;
-      held = rw (t', whole, take_past all (length all) (omega arith)) (cut_drop all t x items held);
+      held = rw (t', whole, take_all (length all) all (omega arith)) (cut_drop all t x items held);
       each = λ y. rw (t', next, jobs_append, times_append)
           (let s = total_set (λ (v : Log). times y (all_taken v)) views port u w at in let old = h.each y in let new = jobs y in omega arith);
       marks = rw (t', next, ends_append) (let s = total_set (λ (v : Log). v.marks) views port u w at in let old = h.marks in omega arith);
@@ -62,7 +64,7 @@ takes_job j items views h port u at can =
     let mine = h.views_are port u at in
     let n = names (Job j ∷ items) views h port u at can in
     let whole = settled (Job j ∷ items) views h port u at can in
-    let held : Job j ∷ items ≡ drop t all = h.held ∙ ap (drop t) (rw whole (take_past all (length all) (omega arith))) in
+    let held : Job j ∷ items ≡ drop t all = h.held ∙ ap (drop t) (rw whole (take_all (length all) all (omega arith))) in
     let w : Log = record u { took = u.took ++ j ∷ [] } in
     let some_leave : 0 < u.leaves = can.0 in
     let early = feed_early h.jobs h.seats h.v t j items held in
@@ -70,13 +72,13 @@ takes_job j items views h port u at can =
     let marks_of_all = total_at (λ (v : Log). v.marks) views port u at in
     let no_marks : u.marks ≡ 0 = (let a = h.marks in let b = early.1 in omega arith) in
     let below : AllBelow j u.took = all_below j u.took (λ y k. below_of j (jobs_of (take t all)) (feed_below h.jobs h.seats h.v t j items held) y
-    (let a = total_at (λ (v : Log). times y (all_taken v)) views port u at in let b = h.each y in let c = times_append y u.took (joined u.gathered) in omega arith)) in
+    (let a = total_at (λ (v : Log). times y (all_taken v)) views port u at in let b = h.each y in let c = times_append y u.took (concat u.gathered) in omega arith)) in
     let l1 = length-append u.took (j ∷ []) in
-    let l2 = length-append (u.took ++ j ∷ []) (joined u.gathered) in
-    let l3 = length-append u.took (joined u.gathered) in
+    let l2 = length-append (u.took ++ j ∷ []) (concat u.gathered) in
+    let l3 = length-append u.took (concat u.gathered) in
     let j_is = feed_is h.jobs h.seats h.v t j items held in (
       after (Job j) items views h port u w at can (omega arith) refl
-          (λ y. (let a = times_append y (u.took ++ j ∷ []) (joined u.gathered) in let b = times_append y u.took (j ∷ []) in let c = times_append y u.took (joined u.gathered) in omega arith))
+          (λ y. (let a = times_append y (u.took ++ j ∷ []) (concat u.gathered) in let b = times_append y u.took (j ∷ []) in let c = times_append y u.took (concat u.gathered) in omega arith))
           (omega arith)
           (record { named = mine.named; owns = mine.owns; ready = mine.ready; idle = λ z. absurd (omega arith); rising = (rising_snoc j u.took mine.rising.0 below, mine.rising.1) }),
       (refl, rw n.0 j_is.0, rw (n.1, n.2) j_is.1, rw (n.0, n.1, n.2) (omega arith), no_marks),
@@ -90,7 +92,7 @@ takes_mark items views h port u at can =
     let t = total taken views in
     let mine = h.views_are port u at in
     let whole = settled (End ∷ items) views h port u at can in
-    let held : End ∷ items ≡ drop t all = h.held ∙ ap (drop t) (rw whole (take_past all (length all) (omega arith))) in
+    let held : End ∷ items ≡ drop t all = h.held ∙ ap (drop t) (rw whole (take_all (length all) all (omega arith))) in
     let w : Log = record u { marks = suc u.marks; leaves = u.leaves - 1 } in
     let some_leave : 0 < u.leaves = can.0 in (
       after End items views h port u w at can (omega arith) (omega arith) (λ y. omega arith) (omega arith)
@@ -112,9 +114,9 @@ never_empty port u can views h at =
     let all = feed h.jobs h.seats h.v in
     let t = total taken views in
     let whole = settled [] views h port u at can in
-    let held : [] ≡ drop t all = h.held ∙ ap (drop t) (rw whole (take_past all (length all) (omega arith))) in
+    let held : [] ≡ drop t all = h.held ∙ ap (drop t) (rw whole (take_all (length all) all (omega arith))) in
     let past : length all ≤ t = cut_past all t held in
-    let marks : total (λ (v : Log). v.marks) views ≡ h.seats = h.marks ∙ ap ends_of (take_past all t past) ∙ feed_ends h.jobs h.seats h.v in
+    let marks : total (λ (v : Log). v.marks) views ≡ h.seats = h.marks ∙ ap ends_of (take_all t all past) ∙ feed_ends h.jobs h.seats h.v in
     let sums = total_plus (λ (v : Log). v.leaves) (λ (v : Log). v.marks) views in
     let mine = total_at (λ (v : Log). v.leaves) views port u at in
     let some_leave : 0 < u.leaves = can.0 in
@@ -159,12 +161,8 @@ forks port u owns all two items views h at =
           (λ (is : r ≡ v). subst (IsOf h.jobs h.seats h.v h.pushed h.owner j) is (right_is j)) (at_snoc vs r v j e);
     }
 
-pub joined_append : (xs ys : List (List ℕ)) → joined (xs ++ ys) ≡ joined xs ++ joined ys
-joined_append [] ys = refl
-joined_append (x ∷ xs) ys = ap (λ l. x ++ l) (joined_append xs ys) ∙ sym (append_assoc x (joined xs) (joined ys))
-
 back_all : (u w : Log) → all_taken (taken_back u w) ≡ all_taken u ++ all_taken w
-back_all u w = ap (λ l. u.took ++ l) (joined_append u.gathered (w.took ∷ w.gathered)) ∙ sym (append_assoc u.took (joined u.gathered) (all_taken w))
+back_all u w = ap (λ l. u.took ++ l) (concat-append u.gathered (w.took ∷ w.gathered)) ∙ sym (append_assoc u.took (concat u.gathered) (all_taken w))
 
 rising_append : (xs ys : List (List ℕ)) → AllRising xs → AllRising ys → AllRising (xs ++ ys)
 rising_append [] ys a b = b

@@ -23,10 +23,6 @@ pub total_plus : (f g : Log → ℕ) (views : List Log) → total (λ u. f u + g
 total_plus f g [] = refl
 total_plus f g (u ∷ us) = let h = total_plus f g us in omega arith
 
-pub total_le : (f g : Log → ℕ) (views : List Log) → ((u : Log) → f u ≤ g u) → total f views ≤ total g views
-total_le f g [] h = omega arith
-total_le f g (u ∷ us) h = let k = total_le f g us h in let here = h u in omega arith
-
 pub total_none : (f g : Log → ℕ) (views : List Log) → ((j : ℕ) (u : Log) → get_elem? views j ≡ some u → g u ≡ 0 → f u ≡ 0) → total g views ≡ 0 → total f views ≡ 0
 total_none f g [] h e = refl
 total_none f g (u ∷ us) h e = let here = h zero u refl (omega arith) in let rest = total_none f g us (λ j. h (suc j)) (omega arith) in omega arith

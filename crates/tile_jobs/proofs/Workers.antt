@@ -11,12 +11,10 @@ use Rattle.tile_jobs.specs.Workers.{IsOutcome}
 use Rattle.tile_jobs.specs.Board.{times, sum_to}
 use Rattle.tile_jobs.specs.Ends.{EndState, SameEnd, SeatState, SameSeat, HasAllMarks}
 use Rattle.tile_jobs.proofs.Entries.{times_append}
-
-end_trans : (a b c : EndState) → SameEnd a b → SameEnd b c → SameEnd a c
-end_trans a b c x y = (y.0 ∙ x.0, y.1 ∙ x.1, y.2 ∙ x.2, y.3 ∙ x.3)
+use Rattle.tile_jobs.proofs.Seats.{same_trans}
 
 pub seat_trans : (a b c : SeatState) → SameSeat a b → SameSeat b c → SameSeat a c
-seat_trans a b c x y = (y.0 ∙ x.0, end_trans a.own b.own c.own x.1 y.1, y.2 ∙ x.2, λ k d low. let l = x.2 in end_trans (get_or a.others k d) (get_or b.others k d) (get_or c.others k d) (x.3 k d low) (y.3 k d (omega arith)))
+seat_trans a b c x y = (y.0 ∙ x.0, same_trans a.own b.own c.own x.1 y.1, y.2 ∙ x.2, λ k d low. let l = x.2 in same_trans (get_or a.others k d) (get_or b.others k d) (get_or c.others k d) (x.3 k d low) (y.3 k d (omega arith)))
 
 module _ {O : Type 0} where
   whole_at : (b : Bool) (j job : ℕ) (taken : List ℕ) (list : List (Answer O)) (a : Answer O) → (job == j) ≡ b → a.job ≡ job → (0 < times j taken → IsAnswered list j) → 0 < times j taken + (cond b 1 0 + 0) → IsAnswered (list ++ a ∷ []) j

@@ -1,5 +1,5 @@
 -- What is dealt to the deques of a board, and counts over it. Source: this project's own.
-use Rattle.std.specs.Prelude.{ℕ, zero, suc, ◌+◌, ◌%◌, List, [], ◌∷◌, ◌++◌, replicate, cond, ◌==◌}
+use Rattle.std.specs.Prelude.{ℕ, zero, suc, ◌+◌, ◌%◌, List, [], ◌∷◌, ◌++◌, map, replicate, cond, ◌==◌}
 use Rattle.tile_jobs.specs.declared.deque.Entry.{Entry}
 use Rattle.tile_jobs.specs.declared.deque.Entry.TheVariants.{Job, End}
 
@@ -10,8 +10,7 @@ deal (suc j) seats v = cond (j % seats == v) (deal j seats v ++ j ∷ []) (deal 
 
 -- jobs as the entries of a deque
 abbrev pub jobs_in : List ℕ → List Entry
-jobs_in [] = []
-jobs_in (j ∷ js) = Job j ∷ jobs_in js
+jobs_in js = map Job js
 
 -- all that is pushed to deque v: its jobs, and then an end mark for each seat
 unfoldable pub feed : ℕ → ℕ → ℕ → List Entry

@@ -1,12 +1,12 @@
 -- What is found where the seats of a board come back.
 use Rattle.std.specs.Prelude.{◌≡◌, ℕ, ◌+◌, ◌%◌, ◌<◌, ◌≤◌, true, List, [], length, drop, get_or}
+use Rattle.std.specs.List.{concat}
 use Rattle.tile_jobs.specs.Board.{deal, times, sum_to}
-use Rattle.tile_jobs.specs.Rule.{joined}
 use Rattle.tile_jobs.specs.Ends.{SeatState, HasAllMarks}
 
 -- the jobs left in the deques below n, deque by deque: of each an end of its deal
 abbrev pub ArePartsOf : ℕ → ℕ → ℕ → List ℕ → Type 0
-ArePartsOf jobs seats n left = (parts : List (List ℕ)) × (length parts ≡ n) × (left ≡ joined parts) × ((v : ℕ) → v < n → (k : ℕ) × (get_or parts v [] ≡ drop k (deal jobs seats v)))
+ArePartsOf jobs seats n left = (parts : List (List ℕ)) × (length parts ≡ n) × (left ≡ concat parts) × ((v : ℕ) → v < n → (k : ℕ) × (get_or parts v [] ≡ drop k (deal jobs seats v)))
 
 -- how often y stands in the lists of all seats
 abbrev pub in_seats : ℕ → ℕ → List SeatState → SeatState → ℕ

@@ -1,10 +1,11 @@
 -- A seat, and the ends by which it takes from the deques of its board. Source: this project's own.
 use Rattle.std.specs.Prelude.{◌≡◌, ◌≢◌, ℕ, zero, suc, ◌%◌, ◌<◌, ◌≤◌, ◌⊎◌, Bool, true, false, cond, nat_lt, ◌==◌, List, [], ◌∷◌, ◌++◌, length, get_or, drop}
+use Rattle.std.specs.List.{concat}
 use Rattle.std.specs.declared.alloc.Global.{Global}
 use Rattle.atomic_blocks.specs.Lent.{RowsId}
 use Rattle.tile_jobs.specs.declared.deque.Log.{Log}
 use Rattle.tile_jobs.specs.Board.{deal, feed}
-use Rattle.tile_jobs.specs.Rule.{joined, share}
+use Rattle.tile_jobs.specs.Rule.{share}
 
 abbrev pub DequeId : Type 0
 DequeId = RowsId × Global
@@ -167,7 +168,7 @@ pub record ClosingState : Type 0 where
   pub marked : Bool
 
 abbrev pub closing_of : DequeId → Bool → Log → ClosingState
-closing_of id marked u = record { id = id; jobs = u.jobs; seats = u.seats; deque = u.deque; took = u.took; gathered = joined u.gathered; back = share u; marks = u.marks; marked = marked }
+closing_of id marked u = record { id = id; jobs = u.jobs; seats = u.seats; deque = u.deque; took = u.took; gathered = concat u.gathered; back = share u; marks = u.marks; marked = marked }
 
 abbrev pub IsClosing : Bool → Log → Type 0
 IsClosing marked u = (u.owns ≡ true) × (u.pushed ≡ length (feed u.jobs u.seats u.deque)) × (marked ≡ true → 0 < u.marks) × (marked ≡ false → 0 < u.leaves)

@@ -3,6 +3,7 @@ pub mod Fault
 pub mod Board
 pub mod Rule
 pub mod Ends
+pub mod Rows
 pub mod Got
 pub mod Stolen
 pub mod Take

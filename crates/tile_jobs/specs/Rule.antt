@@ -5,6 +5,7 @@
 -- (`lending`, `lent`), and where the board is closed the lists, marks and leaves come back (`taken_back`).
 -- Source: this project's own.
 use Rattle.std.specs.Prelude.{◌≡◌, ℕ, zero, suc, ◌+◌, ◌-◌, ◌%◌, ◌<◌, ◌≤◌, ◌⊎◌, true, false, List, [], ◌∷◌, ◌++◌, length, take, drop}
+use Rattle.std.specs.List.{concat}
 use mathlib.Core.Option.{some}
 use lib.ListN.{get_elem?}
 use Rattle.tile_jobs.specs.declared.deque.Entry.{Entry}
@@ -17,14 +18,9 @@ abbrev pub total : (Log → ℕ) → List Log → ℕ
 total f [] = 0
 total f (v ∷ vs) = f v + total f vs
 
--- the lists, one behind the other
-abbrev pub joined : List (List ℕ) → List ℕ
-joined [] = []
-joined (xs ∷ rest) = xs ++ joined rest
-
 -- the jobs that a view has taken, or has from views that came back
 abbrev pub all_taken : Log → List ℕ
-all_taken v = v.took ++ joined v.gathered
+all_taken v = v.took ++ concat v.gathered
 
 -- how many entries a view has taken
 abbrev pub taken : Log → ℕ

@@ -1,8 +1,8 @@
 -- What a try to take a job tells, case by case.
-use Rattle.std.specs.Prelude.{◌≡◌, ℕ, ◌%◌, ◌<◌, ◌⊎◌, true, [], ◌∷◌, ◌++◌, length, get_or}
+use Rattle.std.specs.Prelude.{◌≡◌, ℕ, ◌%◌, ◌<◌, ◌⊎◌, true, [], ◌∷◌, ◌++◌, length}
 use Rattle.tile_jobs.specs.declared.seat.Take.{Take}
 use Rattle.tile_jobs.specs.declared.seat.Take.TheVariants.{Job, Again, Empty}
-use Rattle.tile_jobs.specs.Ends.{EndState, AllKept, MetTaker, SeatState, HasAllMarks}
+use Rattle.tile_jobs.specs.Ends.{MetAmong, SeatState, HasAllMarks}
 
 abbrev pub MatchTake : Take → (ℕ → Type 0) → Type 0 → Type 0 → Type 0
 MatchTake (Job j) job again empty = job j
@@ -20,9 +20,8 @@ pub record MeetsTaker (s t : SeatState) : Type 0 where
   pub taken : t.taken ≡ s.taken
   pub own_first : t.own.marked ≡ true
   pub several : 1 < s.own.seats
-  pub kept : AllKept s.others t.others
   -- some other deque was seen to lose an entry to another seat
-  pub met : (k : ℕ) × (k < length s.others) × ((d : EndState) → MetTaker (get_or s.others k d) (get_or t.others k d))
+  pub others : MetAmong 0 (length s.others) s.others t.others
 
 -- no job was taken, and the seat has every mark
 pub record FindsNone (s t : SeatState) : Type 0 where

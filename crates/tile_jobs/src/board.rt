@@ -3,28 +3,28 @@ ghost use Rattle.std.specs.Prelude.{◌≡◌, ◌≢◌, ℕ, ◌+◌, ◌<◌,
 ghost use Rattle.tile_jobs.specs.Board.{deal as deal_list, times, sum_to};
 ghost use Rattle.tile_jobs.specs.Closed.{IsClosed};
 ghost use Rattle.tile_jobs.specs.Ends.{EndState, SeatState, IsBoard, IsDeal, IsSeat, IsNew};
+ghost use Rattle.tile_jobs.specs.Rows.{EachHead, HaveHeads, WithoutHeads, IsLeftOf};
 
-use crate::JobFault;
 use crate::closing::Closing;
 use crate::dealing::{deal_all, seat_all};
 use crate::ends::{Other, Own};
 use crate::room::put;
 use crate::seat::Seat;
+use crate::{JobFault, MOST_JOBS, MOST_WORKERS};
 use std::alloc::Global;
-
-/// The most seats of a board.
-const MOST_SEATS: u32 = 64;
 
 /// Takes back every end of deque `v`.
 fn gather(own: Own, rows: &mut Vec<Vec<Other>>, v: usize) -> Closing
     requires own { v < vec_len rows.old }
-    requires ids { (s : ℕ) (d : _) (e : EndState) → s < vec_len rows.old → s ≢ v → (0 < length (slice_index_or rows.old.items s d).items) × ((slice_index_or (slice_index_or rows.old.items s d).items 0 e).id ≡ own.id) }
+    requires ids { HaveHeads (vec_len rows.old) v rows.old.items own.id }
     ensures len { vec_len rows.new ≡ vec_len rows.old }
-    ensures rows { (s : ℕ) (d : _) → s < vec_len rows.old → (slice_index_or rows.new.items s d).items ≡ cond (s == v) (slice_index_or rows.old.items s d).items (drop 1 (slice_index_or rows.old.items s d).items) }
-    ensures names { (result.jobs ≡ own.jobs) × (result.seats ≡ own.seats) × (result.deque ≡ own.deque) × (result.took ≡ own.took) × (result.back ≡ vec_len rows.old) }
-    ensures times { (y : ℕ) (f : ℕ → ℕ) → ((s : ℕ) (d : _) (e : EndState) → s < vec_len rows.old → s ≢ v → times y (slice_index_or (slice_index_or rows.old.items s d).items 0 e).took ≡ f s) → times y result.gathered ≡ sum_to (vec_len rows.old) (λ i. cond (i == v) 0 (f i)) }
+    ensures rows { WithoutHeads (vec_len rows.old) v rows.old.items rows.new.items }
+    ensures names { (result.jobs ≡ own.jobs) × (result.seats ≡ own.seats) × (result.deque ≡ own.deque) × (result.took ≡ own.took)
+        × (result.back ≡ vec_len rows.old) }
+    ensures times { (y : ℕ) (f : ℕ → ℕ) → EachHead (vec_len rows.old) v rows.old.items (λ s e. times y e.took ≡ f s) →
+        times y result.gathered ≡ sum_to (vec_len rows.old) (λ i. cond (i == v) 0 (f i)) }
     ensures own_mark { own.marked ≡ true → 0 < result.marks }
-    ensures marks { (s : ℕ) (d : _) (e : EndState) → s < vec_len rows.old → s ≢ v → (slice_index_or (slice_index_or rows.old.items s d).items 0 e).marked ≡ true → 0 < result.marks }
+    ensures marks { EachHead (vec_len rows.old) v rows.old.items (λ s e. e.marked ≡ true → 0 < result.marks) }
     ensures flag { result.marked ≡ true → 0 < result.marks }
 {
     let mut closing = Closing::new(own);
@@ -40,12 +40,13 @@ fn gather(own: Own, rows: &mut Vec<Vec<Other>>, v: usize) -> Closing
 /// Takes back every end of deque `v`, and then what is left in it.
 fn close_one(own: Own, rows: &mut Vec<Vec<Other>>, v: usize, left: &mut Vec<u32>)
     requires own { (v < vec_len rows.old) × (own.seats ≡ vec_len rows.old) }
-    requires ids { (s : ℕ) (d : _) (e : EndState) → s < vec_len rows.old → s ≢ v → (0 < length (slice_index_or rows.old.items s d).items) × ((slice_index_or (slice_index_or rows.old.items s d).items 0 e).id ≡ own.id) }
+    requires ids { HaveHeads (vec_len rows.old) v rows.old.items own.id }
     requires room { vec_len left.old + length (deal_list own.jobs own.seats own.deque) ≤ vec_capacity left.old }
     ensures len { vec_len rows.new ≡ vec_len rows.old }
-    ensures rows { (s : ℕ) (d : _) → s < vec_len rows.old → (slice_index_or rows.new.items s d).items ≡ cond (s == v) (slice_index_or rows.old.items s d).items (drop 1 (slice_index_or rows.old.items s d).items) }
+    ensures rows { WithoutHeads (vec_len rows.old) v rows.old.items rows.new.items }
     ensures room { vec_capacity left.old ≤ vec_capacity left.new }
-    ensures left { (p : List ℕ) × (left.new.items ≡ left.old.items ++ p) × ((k : ℕ) × (p ≡ drop k (deal_list own.jobs own.seats own.deque))) × (own.marked ≡ true → p ≡ []) × ((s : ℕ) (d : _) (e : EndState) → s < vec_len rows.old → s ≢ v → (slice_index_or (slice_index_or rows.old.items s d).items 0 e).marked ≡ true → p ≡ []) × ((y : ℕ) (f : ℕ → ℕ) → ((s : ℕ) (d : _) (e : EndState) → s < vec_len rows.old → s ≢ v → times y (slice_index_or (slice_index_or rows.old.items s d).items 0 e).took ≡ f s) → times y own.took ≡ f v → sum_to (vec_len rows.old) f + times y p ≡ times y (deal_list own.jobs own.seats own.deque)) }
+    ensures left { (more : List ℕ) × (left.new.items ≡ left.old.items ++ more)
+        × IsLeftOf own (vec_len rows.old) v rows.old.items more }
 {
     let closing = gather(own, rows, v);
     closing.drain(left);
@@ -90,19 +91,19 @@ pub struct Closed {
 pub struct Board;
 
 impl Board {
-    /// Deals the jobs below `jobs` to `seats` seats, 1 to 64: job `j` to the deque of seat
+    /// Deals the jobs below `jobs` to `seats` seats, 1 to `MOST_WORKERS`: job `j` to the deque of seat
     /// `j % seats`, in rising order. The seats come in the order of their numbers.
     ///
     /// Of two reasons to refuse, `BadWorkers` goes before `Memory`.
     pub fn deal(alloc: Global, jobs: u32, seats: u32) -> Result<Vec<Seat>, JobFault>
-        requires { jobs ≤ 65536 }
-        ensures some { OnOk result ((0 < seats) × (seats ≤ 64)) }
+        requires { jobs ≤ MOST_JOBS }
+        ensures some { OnOk result ((0 < seats) × (seats ≤ MOST_WORKERS)) }
         ensures deal { IfOk result (λ v. IsDeal jobs seats v.items) }
         ensures new { IfOk result (λ v. (s : ℕ) (d : SeatState) → s < seats → IsNew (slice_index_or v.items s d)) }
-        ensures bad { (result ≡ Err JobFault.BadWorkers) ↔ ((seats ≡ 0) ⊎ (64 < seats)) }
+        ensures bad { (result ≡ Err JobFault.BadWorkers) ↔ ((seats ≡ 0) ⊎ (MOST_WORKERS < seats)) }
         ensures faults { IfErr result (λ e. (e ≡ JobFault.BadWorkers) ⊎ (e ≡ JobFault.Memory)) }
     {
-        if seats == 0 || seats > MOST_SEATS {
+        if seats == 0 || seats > MOST_WORKERS {
             return Err(JobFault::BadWorkers);
         }
         let ends = deal_all(alloc, jobs, seats)?;

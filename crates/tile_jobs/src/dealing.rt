@@ -2,6 +2,7 @@
 ghost use Rattle.std.specs.Prelude.{◌≡◌, ℕ, ◌++◌, ◌∷◌, [], ◌<◌, ◌≤◌, ◌==◌, cond, vec_len, slice_index_or, IfOk, OnOk};
 ghost use Rattle.tile_jobs.specs.Ends.{EndState, SeatState, seat_of, fresh, without, AllFresh};
 
+use crate::MOST_WORKERS;
 use crate::dealer::Dealer;
 use crate::ends::{Other, Own};
 use crate::seat::Seat;
@@ -47,7 +48,7 @@ pub struct Ends {
 
 /// Deals each deque, with an end for each seat.
 pub fn deal_all(alloc: Global, jobs: u32, seats: u32) -> Result<Ends, AllocError>
-    requires { (0 < seats) × (seats ≤ 64) }
+    requires { (0 < seats) × (seats ≤ MOST_WORKERS) }
     ensures count { IfOk result (λ e. (vec_len e.owns ≡ seats) × (vec_len e.rows ≡ seats)) }
     ensures owns { IfOk result (λ e. AllFresh jobs seats e.owns.items) }
     ensures rows { IfOk result (λ e. (s : ℕ) (d : _) → s < seats → (slice_index_or e.rows.items s d).items ≡ without s e.owns.items) }
@@ -64,7 +65,7 @@ pub fn deal_all(alloc: Global, jobs: u32, seats: u32) -> Result<Ends, AllocError
 
 /// Seats every own end with its row.
 pub fn seat_all(alloc: Global, jobs: u32, ends: Ends) -> Result<Vec<Seat>, AllocError>
-    requires count { (vec_len ends.owns ≤ 64) × (vec_len ends.rows ≡ vec_len ends.owns) }
+    requires count { (vec_len ends.owns ≤ MOST_WORKERS) × (vec_len ends.rows ≡ vec_len ends.owns) }
     requires owns { AllFresh jobs (vec_len ends.owns) ends.owns.items }
     requires rows { (s : ℕ) (d : _) → s < vec_len ends.owns → (slice_index_or ends.rows.items s d).items ≡ without s ends.owns.items }
     ensures len { IfOk result (λ v. vec_len v ≡ vec_len ends.owns) }

@@ -1,8 +1,8 @@
 //! A seat's ends of the deques.
-ghost use Rattle.std.specs.Prelude.{◌≡◌, ◌≤◌, true, false, cond, vec_len, MatchOption};
+ghost use Rattle.std.specs.Prelude.{◌≡◌, ◌≤◌, true, false, cond, length, vec_len, MatchOption};
 ghost use Rattle.crossbeam_deque.specs.Handles.{taken, view as pass_view, IsPassOf, worker_deque, stealer_deque, worker_view, worker_flavor, stealer_flavor};
-ghost use Rattle.tile_jobs.specs.Ends.{EndState, end_of, IsOwn, IsOther, TookJob, Kept, MetTaker, TookAmong, MetAmong, MarksAmong, SameElsewhere};
-ghost use Rattle.tile_jobs.specs.Stolen.{MatchStolen};
+ghost use Rattle.tile_jobs.specs.Ends.{EndState, end_of, IsOwn, IsOther, TookJob, Kept, MetTaker, SameElsewhere};
+ghost use Rattle.tile_jobs.specs.Stolen.{StealsAmong};
 ghost use Rattle.tile_jobs.specs.Got.{MatchGot};
 
 use crate::deque::{Deque, Entry, Log, Thief, pop, steal};
@@ -148,7 +148,7 @@ pub enum Stolen {
 pub fn steal_among(others: &mut Vec<Other>, from: usize, to: usize) -> Stolen
     requires { (from ≤ to) × (to ≤ vec_len others.old) }
     ensures len { vec_len others.new ≡ vec_len others.old }
-    ensures ends { MatchStolen result (λ j. TookAmong others.old.items j others.new.items) (MetAmong from to others.old.items others.new.items) (MarksAmong from to others.old.items others.new.items) }
+    ensures ends { StealsAmong from to others.old.items others.new.items result }
     ensures elsewhere { SameElsewhere from to others.old.items others.new.items }
 {
     let mut met = false;
@@ -166,7 +166,7 @@ pub fn steal_among(others: &mut Vec<Other>, from: usize, to: usize) -> Stolen
 pub fn steal_round(others: &mut Vec<Other>, first: usize) -> Stolen
     requires { first ≤ vec_len others.old }
     ensures len { vec_len others.new ≡ vec_len others.old }
-    ensures ends { MatchStolen result (λ j. TookAmong others.old.items j others.new.items) (MetAmong 0 (vec_len others.old) others.old.items others.new.items) (MarksAmong 0 (vec_len others.old) others.old.items others.new.items) }
+    ensures ends { StealsAmong 0 (length others.old.items) others.old.items others.new.items result }
 {
     let count = others.len();
     match steal_among(others, first, count) {

@@ -31,12 +31,18 @@ pub use seat::{Seat, Take};
 use std::alloc::AllocError;
 pub use work::Work;
 
+/// The most workers, and seats of a board.
+pub const MOST_WORKERS: u32 = 64;
+
+/// The most jobs of a board.
+pub const MOST_JOBS: u32 = 65_536;
+
 /// Why jobs were not run to their end.
 #[derive(Clone, Copy, PartialEq, Eq, Debug)]
 pub enum JobFault {
     /// Memory ran out, in a job or for the answers.
     Memory,
-    /// The number of workers or seats is 0 or above 64.
+    /// The number of workers or seats is 0 or above `MOST_WORKERS`.
     BadWorkers,
     /// A thread could not be started.
     NoThread,

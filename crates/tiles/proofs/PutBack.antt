@@ -1,5 +1,5 @@
 -- A list that is put back row by row, and each row tile by tile.
-use Rattle.std.proofs.Common.{◌≡◌, ℕ, ◌+◌, ◌-◌, ◌*◌, ◌/◌, ◌%◌, ◌<◌, ◌≤◌, min, List, [], ◌++◌, length, drop, Option, Some, None, sym, ap, subst, refl, ◌∙◌, arith, inl, inr, slice_get, slice_range, Vec}
+use Rattle.std.proofs.Common.{◌≡◌, ℕ, ◌+◌, ◌-◌, ◌*◌, ◌/◌, ◌%◌, ◌<◌, ◌≤◌, min, List, ◌++◌, length, drop, Option, Some, None, sym, ap, subst, refl, ◌∙◌, arith, inl, inr, slice_get, slice_range, Vec}
 use Rattle.std.specs.declared.alloc.Global.{Global}
 use Rattle.std.specs.Prelude.{option_and_then}
 use Rattle.std.proofs.lemmas.Bool.{cases_lt}
@@ -74,9 +74,6 @@ crossed_at t row column h r c =
 abbrev pub crossed : Cutting → ℕ → ℕ → ℕ
 crossed t row column = row * t.cols + min t.cols (column * t.side)
 
-pub crossed_none : (t : Cutting) (row : ℕ) → crossed t row 0 ≡ row * t.cols
-crossed_none t row = omega arith
-
 pub crossed_more : (t : Cutting) (row column : ℕ) → IsCutting t → column < across t → crossed t row (column + 1) ≡ row * t.cols + column * t.side + min t.side (t.cols - column * t.side)
 crossed_more t row column h c =
     let a = piece_begins t.cols t.side column h.some_side c in omega arith
@@ -124,10 +121,6 @@ pub crosses_more : {X : Type 0} (t : Cutting) (lists : List (Vec X Global)) (row
 crosses_more t lists row column first whole part next h r c e f k i =
     subst (λ xs. IsPutBackBelow t lists (crossed t row (column + 1)) xs) (sym f)
     (crosses t lists row column whole part h r c k (subst (λ n. IsRowOf t lists (n + column) row part) e i))
-
--- nothing yet
-pub IsPutBackBelow-none : {X : Type 0} (t : Cutting) (lists : List (Vec X Global)) (whole : List X) → whole ≡ [] → IsPutBackBelow t lists (0 * t.cols) whole
-IsPutBackBelow-none t lists whole e = record { size = ap length e ∙ omega arith; each = λ p w l. absurd (omega (arith, l)) }
 
 -- all of it
 pub IsPutBack-from_below : {X : Type 0} (t : Cutting) (lists : List (Vec X Global)) (whole : List X) → IsPutBackBelow t lists (t.rows * t.cols) whole → IsPutBack t lists whole

@@ -25,14 +25,6 @@ piece_counts n s k p h =
 pub piece_of : (n s x : ℕ) → 0 < s → x < n → x / s < div_ceil n s
 piece_of n s x p h = piece_counts n s (x / s) p (omega (arith, div-add-mod' x s))
 
--- no more pieces than numbers
-pub pieces_few : (n s : ℕ) → 0 < s → div_ceil n s ≤ n
-pieces_few n s p =
-    elim (cases_lt n (div_ceil n s)) [
-      | inl l ↦ let a = piece_begins n s n p l in let b = mul-le n 1 n s (omega arith) (omega arith) in absurd (omega (arith, a, b))
-      | inr g ↦ g
-    ]
-
 -- some piece, where there is a number
 pub pieces_some : (n s : ℕ) → 0 < s → 0 < n → 0 < div_ceil n s
 pieces_some n s p h = piece_counts n s 0 p (omega arith)

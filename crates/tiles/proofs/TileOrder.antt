@@ -1,14 +1,13 @@
 -- The row order of a tile: which place stands at an index, and at which index a place stands.
-use Rattle.std.proofs.Common.{◌≡◌, ℕ, ◌+◌, ◌-◌, ◌*◌, ◌/◌, ◌%◌, ◌<◌, ◌≤◌, List, get_or, Option, None, Some, ◌&&◌, ◌==◌, inl, inr, sym, ap, ◌∙◌, arith, mul_comm}
-use Rattle.std.proofs.lemmas.Bool.{cases_Bool, cond-true, cond-false, and_from, and_parts, lt-ltb, ltb-true, eqb-true}
-use Rattle.std.proofs.lemmas.Option.{none-some}
+use Rattle.std.proofs.Common.{◌≡◌, ℕ, ◌+◌, ◌-◌, ◌*◌, ◌/◌, ◌%◌, ◌<◌, ◌≤◌, List, get_or, Option, None, ap, ◌∙◌, arith, mul_comm}
+use Rattle.std.proofs.lemmas.Bool.{cond-true, and_from, lt-ltb}
 use Rattle.std.proofs.lemmas.Bool.Decides.{nat_tests}
 use Rattle.std.proofs.lemmas.Nat.{div-mul-add, mod-mul-add, div-add-mod', div_below, mod_below, mul-add-lt}
 use Rattle.ascii_grid.specs.declared.place.Place.{Place}
 use Rattle.ascii_grid.proofs.Places.{same_place}
 use Rattle.tiles.specs.declared.bounds.Bounds.{Bounds}
-use Rattle.tiles.specs.Cutting.{Cutting, IsCutting, IsInTile, IsInBounds, tile_count, cell_count, tile_of_place, bounds_of, index_in_tile, tile_entry, is_within}
-use Rattle.tiles.proofs.Cut.{bounds_inside, in_bounds, in_tile}
+use Rattle.tiles.specs.Cutting.{Cutting, IsCutting, IsInTile, IsInBounds, tile_count, cell_count, tile_of_place, bounds_of, index_in_tile, tile_entry}
+use Rattle.tiles.proofs.Cut.{bounds_inside, in_tile}
 
 -- the place at an index of the row order of bounds, and the index of a place
 abbrev pub place_in : Bounds → ℕ → Place
@@ -46,41 +45,9 @@ place_in_tile t tile i h l k =
 pub index_in_tile_is : (t : Cutting) (tile : ℕ) (p : Place) → tile_of_place t p ≡ tile → index_in_tile t p ≡ index_in (bounds_of t tile) p
 index_in_tile_is t tile p e = ap (λ n. index_in (bounds_of t n) p) e
 
-pub index_in_tile_below : (t : Cutting) (tile : ℕ) (p : Place) → IsCutting t → IsInTile t tile p → index_in_tile t p < cell_count t tile
-index_in_tile_below t tile p h i = omega (arith, index_in_tile_is t tile p i.1, index_in_below (bounds_of t tile) p (in_bounds t tile p h i))
-
-pub index_in_tile-place_in : (t : Cutting) (tile i : ℕ) → IsCutting t → tile < tile_count t → i < cell_count t tile → index_in_tile t (place_in (bounds_of t tile) i) ≡ i
-index_in_tile-place_in t tile i h l k =
-    index_in_tile_is t tile (place_in (bounds_of t tile) i) (place_in_tile t tile i h l k).1 ∙ index_in-place_in (bounds_of t tile) i
-
-pub place_in-index_in_tile : (t : Cutting) (tile : ℕ) (p : Place) → IsCutting t → IsInTile t tile p → place_in (bounds_of t tile) (index_in_tile t p) ≡ p
-place_in-index_in_tile t tile p h i =
-    ap (λ n. place_in (bounds_of t tile) n) (index_in_tile_is t tile p i.1) ∙ place_in-index_in (bounds_of t tile) p (in_bounds t tile p h i)
-
--- a tile's places are those at the indexes below its count: what holds of these holds of all
-pub each_in_tile : (t : Cutting) (tile : ℕ) (P : Place → Type 0) → IsCutting t → ((i : ℕ) → i < cell_count t tile → P (place_in (bounds_of t tile) i)) → (p : Place) → IsInTile t tile p → P p
-each_in_tile t tile P h each p i =
-    let k = each (index_in_tile t p) (index_in_tile_below t tile p h i) in rw (place_in-index_in_tile t tile p h i) at k
-
 -- what a list in a tile's row order has at one of the tile's places, and at any other
 pub tile_entry-in : {X : Type 0} (t : Cutting) (tile : ℕ) (entries : List (Option X)) (p : Place) → IsInTile t tile p → tile_entry t tile entries p ≡ get_or entries (index_in (bounds_of t tile) p) None
 tile_entry-in t tile entries p i =
     let within = and_from _ _ (lt-ltb _ _ i.0.0) (lt-ltb _ _ i.0.1) in
     let same = i.1 in
     cond-true _ _ _ (and_from _ _ within (grind (arith, nat_tests, same))) ∙ ap (λ n. get_or entries n None) (index_in_tile_is t tile p i.1)
-
-pub tile_entry-at : {X : Type 0} (t : Cutting) (tile : ℕ) (entries : List (Option X)) (i : ℕ) → IsCutting t → tile < tile_count t → i < cell_count t tile →
-    tile_entry t tile entries (place_in (bounds_of t tile) i) ≡ get_or entries i None
-tile_entry-at t tile entries i h l k =
-    tile_entry-in t tile entries (place_in (bounds_of t tile) i) (place_in_tile t tile i h l k)
-    ∙ ap (λ n. get_or entries n None) (index_in-place_in (bounds_of t tile) i)
-
--- an entry stands in the tile
-pub in_tile_from_entry : {X : Type 0} (t : Cutting) (tile : ℕ) (entries : List (Option X)) (p : Place) (x : X) → tile_entry t tile entries p ≡ Some x → IsInTile t tile p
-in_tile_from_entry t tile entries p x e =
-    elim (cases_Bool (is_within t p && tile_of_place t p == tile)) [
-      | inl y ↦
-          let a = and_parts _ _ y in
-          let w = and_parts _ _ a.0 in ((ltb-true _ _ w.0, ltb-true _ _ w.1), eqb-true _ _ a.1)
-      | inr n ↦ let none = cond-false _ (get_or entries (index_in_tile t p) None) None n in absurd (none-some x (sym none ∙ e))
-    ]

@@ -1,4 +1,4 @@
-use Rattle.std.proofs.Common.{rules, arith, ◌≡◌, ◌≤◌, ◌<◌, ◌++◌, ℕ, List, [], length, take, drop, None, Err, Result, sym, ap, subst, ◌∙◌}
+use Rattle.std.proofs.Common.{rules, arith, ◌≡◌, ◌≤◌, ◌<◌, ◌++◌, ℕ, List, [], length, take, drop, None, Some, Err, Result, sym, ap, subst, ◌∙◌}
 use Rattle.std.specs.Result.{IfOk}
 use Rattle.std.specs.Io.KnownBytes.{Consumes}
 use Rattle.std.proofs.lemmas.List.{append-nil, length-append, length-take-le, length-take, take-append-le}
@@ -23,64 +23,46 @@ grid_at d e text r same h = subst (λ (n : ℕ). IfOk r (λ g. IsGridText n text
 refusal_at : (d e : ℕ) (text : List ℕ) (f : GridFault) → d ≡ e → IsRefusal d text f → IsRefusal e text f
 refusal_at d e text f same h = subst (λ (n : ℕ). IsRefusal n text f) same h
 
-pub returns-then-count-eq0-clause-grid : goal.returns-then-count-eq0-clause-grid
-returns-then-count-eq0-clause-grid g c = λ text told.
+pub returns-then-count-eq0 : goal.returns-then-count-eq0
+returns-then-count-eq0 g c =
     let held = c.loop-count.invariant in
-    grid_at _ _ text c.finished.result held.scale_kept (c.finished.ensures.grid text (subst (λ (z : List ℕ). HasTaken c.loop-count.grid_reader z)
-    (let none : take c.in-Ok.count c.read.new.buffer ≡ [] = ap (λ n. take n c.read.new.buffer) c.if-count-eq0.true in
-    let bytes = c.in-Ok.ensures.bytes in
+    let none : take c.in-Ok.count c.read.new.buffer ≡ [] = ap (λ n. take n c.read.new.buffer) c.if-count-eq0.true in
     let full : length c.loop-count.piece ≡ 65536 = search rules in
     let cut = length-take c.min-room.result c.loop-count.piece in
     let room : 0 < length c.read.new.buffer = omega (arith, held.room, c.min-room.ensures, c.read.auto.buffer, full, cut) in
-    consumed_all _ _ _ text held.text told held.bytes (rw none at bytes.0) (bytes.1 c.if-count-eq0.true room)) held.fed))
+    let last = rw none at (c.in-Ok.ensures.bytes).0 in
+    let all : (text : List ℕ) → g.R.Read.remaining c.args.reader.now.device ≡ Some text → HasTaken c.loop-count.grid_reader text = λ text told.
+    subst (λ (z : List ℕ). HasTaken c.loop-count.grid_reader z) (consumed_all _ _ _ text held.text told held.bytes last (c.in-Ok.ensures.bytes.1 c.if-count-eq0.true room)) held.fed in
+    record {
+      grid = λ text told. grid_at _ _ text c.finished.result held.scale_kept (c.finished.ensures.grid text (all text told));
+      fault = λ text f told is. refusal_at _ _ text f held.scale_kept (c.finished.ensures.fault text f (all text told) is);
+      read = λ bad. absurd (c.finished.ensures.sound bad);
+      sound = search rules;
+      taken = (held.text, subst (λ (z : List ℕ). Consumes (g.R.Read.remaining c.args.reader.now.device) (g.R.Read.remaining c.read.new.self.device) z) (append-nil held.text) (Consumes-more _ _ _ _ _ held.bytes last), omega (arith, held.size, held.room), λ bad. absurd (c.finished.ensures.sound bad));
+    }
 
-pub returns-then-count-eq0-clause-fault : goal.returns-then-count-eq0-clause-fault
-returns-then-count-eq0-clause-fault g c = λ text f told is.
-    let held = c.loop-count.invariant in
-    refusal_at _ _ text f held.scale_kept (c.finished.ensures.fault text f (subst (λ (z : List ℕ). HasTaken c.loop-count.grid_reader z)
-    (let none : take c.in-Ok.count c.read.new.buffer ≡ [] = ap (λ n. take n c.read.new.buffer) c.if-count-eq0.true in
-    let bytes = c.in-Ok.ensures.bytes in
-    let full : length c.loop-count.piece ≡ 65536 = search rules in
-    let cut = length-take c.min-room.result c.loop-count.piece in
-    let room : 0 < length c.read.new.buffer = omega (arith, held.room, c.min-room.ensures, c.read.auto.buffer, full, cut) in
-    consumed_all _ _ _ text held.text told held.bytes (rw none at bytes.0) (bytes.1 c.if-count-eq0.true room)) held.fed) is)
-
-pub returns-then-count-eq0-clause-taken : goal.returns-then-count-eq0-clause-taken
-returns-then-count-eq0-clause-taken g c =
-    let held = c.loop-count.invariant in
-    let none : take c.in-Ok.count c.read.new.buffer ≡ [] = ap (λ n. take n c.read.new.buffer) c.if-count-eq0.true in (
-      held.text,
-      subst (λ (z : List ℕ). Consumes (g.R.Read.remaining c.args.reader.now.device) (g.R.Read.remaining c.read.new.self.device) z) (append-nil held.text)
-          (Consumes-more _ _ _ _ _ held.bytes (rw none at (c.in-Ok.ensures.bytes).0)),
-      omega (arith, held.size, held.room),
-      λ bad. absurd (c.finished.ensures.sound bad),
-    )
-
-pub returns-in-Err-clause-fault : goal.returns-in-Err-clause-fault
-returns-in-Err-clause-fault g c = λ text f told is.
-    let held = c.loop-count.invariant in
-    let front : List ℕ = take c.in-Ok.count c.read.new.buffer in
-    let within : c.in-Ok.count ≤ length c.read.new.buffer = search (rules, c.in-Ok.ensures.bound) in
-    let piece : take c.in-Ok.count (c.read.new.buffer ++ drop c.min-room.result c.loop-count.piece) ≡ front = take-append-le _ _ _ within in
-    let shown = subst (λ (z : List ℕ). IsRefusalSoFar c.loop-count.grid_reader.scale (held.text ++ z) c.in-Err.fault) piece (c.in-Err.ensures.err held.text held.fed) in
-    let more = consumed_front _ _ text (held.text ++ front) told (Consumes-more _ _ _ _ _ held.bytes (c.in-Ok.ensures.bytes).0) in
-    let whole = subst (λ (z : List ℕ). IsRefusal c.loop-count.grid_reader.scale z c.in-Err.fault) (sym more.1) (stays _ (held.text ++ front) more.0 c.in-Err.fault shown) in
-    refusal_at _ _ text f held.scale_kept (rw (same_grid_fault _ _ is) at whole)
-
-pub returns-in-Err-clause-taken : goal.returns-in-Err-clause-taken
-returns-in-Err-clause-taken g c =
+pub returns-in-Err : goal.returns-in-Err
+returns-in-Err g c =
     let held = c.loop-count.invariant in
     let front : List ℕ = take c.in-Ok.count c.read.new.buffer in
     let full : length c.loop-count.piece ≡ 65536 = search rules in
     let cut = length-take c.min-room.result c.loop-count.piece in
     let within : c.in-Ok.count ≤ length c.read.new.buffer = search (rules, c.in-Ok.ensures.bound) in
     let read = length-take-le c.in-Ok.count c.read.new.buffer within in
-    let sizes = length-append held.text front in (
-      held.text ++ front,
-      Consumes-more _ _ _ _ _ held.bytes (c.in-Ok.ensures.bytes).0,
-      omega (arith, sizes, read, held.size, held.room, within, c.min-room.ensures, c.read.auto.buffer, full, cut),
-      λ bad. absurd (cc),
-    )
+    let piece : take c.in-Ok.count (c.read.new.buffer ++ drop c.min-room.result c.loop-count.piece) ≡ front = take-append-le _ _ _ within in
+    let shown = subst (λ (z : List ℕ). IsRefusalSoFar c.loop-count.grid_reader.scale (held.text ++ z) c.in-Err.fault) piece (c.in-Err.ensures.err held.text held.fed) in
+    let bytes = Consumes-more _ _ _ _ _ held.bytes (c.in-Ok.ensures.bytes).0 in
+    let sizes = length-append held.text front in
+    record {
+      grid = search rules;
+      fault = λ text f told is.
+          let more = consumed_front _ _ text (held.text ++ front) told bytes in
+          let whole = subst (λ (z : List ℕ). IsRefusal c.loop-count.grid_reader.scale z c.in-Err.fault) (sym more.1) (stays _ (held.text ++ front) more.0 c.in-Err.fault shown) in
+          refusal_at _ _ text f held.scale_kept (rw (same_grid_fault _ _ is) at whole);
+      read = λ bad. absurd (cc);
+      sound = search rules;
+      taken = (held.text ++ front, bytes, omega (arith, sizes, read, held.size, held.room, within, c.min-room.ensures, c.read.auto.buffer, full, cut), λ bad. absurd (cc));
+    }
 
 pub loop-count-preserved : goal.loop-count-preserved
 loop-count-preserved g c =

@@ -12,18 +12,18 @@ returns c =
     let t = c.args.grid.now.terrain in
     let o = c.args.observer.now in
     let q = c.args.target in
-    let from = c.in_ok-from_height.from_height in
-    let to = c.in_ok-to_height.to_height in
-    let from_fits : FitsSigned w32 from = search rules in
-    let to_fits : FitsSigned w32 to = search rules in
-    let from_level : c.level-from_level.result ≡ from +ℤ pos o.eye = rw (to_z-of_z w32 from from_fits) at c.level-from_level.ensures.value in
-    let to_level : c.level-to_level.result ≡ to +ℤ pos c.args.target_height = rw (to_z-of_z w32 to to_fits) at c.level-to_level.ensures.value in
-    let from_back = to_z-of_z w64 c.level-from_level.result (search rules) in
-    let to_back = to_z-of_z w64 c.level-to_level.result (search rules) in
+    let eye = c.in_ok-eye_ground.eye_ground in
+    let ground = c.in_ok-target_ground.target_ground in
+    let eye_fits : FitsSigned w32 eye = search rules in
+    let ground_fits : FitsSigned w32 ground = search rules in
+    let eye_level : c.level-eye_level.result ≡ eye +ℤ pos o.eye = rw (to_z-of_z w32 eye eye_fits) at c.level-eye_level.ensures.value in
+    let target_level : c.level-target_level.result ≡ ground +ℤ pos c.args.target_height = rw (to_z-of_z w32 ground ground_fits) at c.level-target_level.ensures.value in
+    let eye_back = to_z-of_z w64 c.level-eye_level.result (search rules) in
+    let target_back = to_z-of_z w64 c.level-target_level.result (search rules) in
     let near : is_near (place_of o) q c.args.radius ≡ true = sym c.is_in_reach.ensures ∙ c.if-not-is_in_reach.false in
-    let from_is : height_at t (place_of o) ≡ Some from = sym c.at.ensures ∙ c.in_ok-from_height.was in
-    let to_is : height_at t q ≡ Some to = sym c.at-2.ensures ∙ c.in_ok-to_height.was in
-    let e_level : IsLevel (from +ℤ pos o.eye) = rw from_level at c.level-from_level.ensures.small in
-    let f_level : IsLevel (to +ℤ pos c.args.target_height) = rw to_level at c.level-to_level.ensures.small in
-    rw (c.cols-stride.ensures.value, from_back, to_back, from_level, to_level)
-    (lines_are t o q c.args.target_height c.args.radius from to c.cols-stride.ensures.lawful.terrain c.requires.observer c.requires.target from_is to_is near e_level f_level)
+    let eye_is : height_at t (place_of o) ≡ Some eye = sym c.at.ensures ∙ c.in_ok-eye_ground.was in
+    let ground_is : height_at t q ≡ Some ground = sym c.at-2.ensures ∙ c.in_ok-target_ground.was in
+    let e_level : IsLevel (eye +ℤ pos o.eye) = rw eye_level at c.level-eye_level.ensures.small in
+    let f_level : IsLevel (ground +ℤ pos c.args.target_height) = rw target_level at c.level-target_level.ensures.small in
+    rw (c.cols-stride.ensures.value, eye_back, target_back, eye_level, target_level)
+    (lines_are t o q c.args.target_height c.args.radius eye ground c.cols-stride.ensures.lawful.terrain c.requires.observer c.requires.target eye_is ground_is near e_level f_level)

@@ -3,8 +3,9 @@ use Rattle.std.proofs.lemmas.Grind.{common_steps}
 use Rattle.tile_jobs.specs.Board.{times, sum_to}
 use Rattle.tile_jobs.specs.Ends.{EndState, ClosingState, CameBack}
 use Rattle.tile_jobs.proofs.Entries.{times_append}
-use Rattle.tile_jobs.proofs.Closings.{back_here, back_else, sum_here, sum_else, not_same}
-use Rattle.tile_jobs.proofs.Seats.{get_same, get_set, get_else}
+use Rattle.tile_jobs.proofs.Closings.{back_here, back_else, sum_here, sum_else}
+use Rattle.std.proofs.lemmas.Bool.{ne_eqb}
+use Rattle.std.proofs.lemmas.List.{get_or_default, get_or-set_same, get_or-set_other}
 use Rattle.tile_jobs.proofs.board.gather.Goals as goal
 use Rattle.tile_jobs.proofs.board.gather.Goals.{then-s-v, else-s-v}
 
@@ -38,10 +39,10 @@ loop-s-preserved c =
           let other : EndState = w.remove-other.result in
           let n : ClosingState = w.absorb.new.self in
           let t : CameBack c.loop-s.closing other n = w.absorb.ensures in
-          let same : (d : _) → x.items ≡ (get_or was s d).items = λ d. ap (λ r. r.items) (w.index_mut.ensures.value ∙ get_same rows s x d (omega arith)) ∙ inv.kept s d (omega arith) (omega arith) in
+          let same : (d : _) → x.items ≡ (get_or was s d).items = λ d. ap (λ r. r.items) (w.index_mut.ensures.value ∙ get_or_default rows s x d (omega arith)) ∙ inv.kept s d (omega arith) (omega arith) in
           let other_is : (d : _) (e : EndState) → other ≡ get_or (get_or was s d).items 0 e = λ d e.
           let some = (c.requires.ids s d e (omega arith) far).0 in
-          w.remove-other.ensures.value ∙ ap (λ l. get_or l 0 other) (same d) ∙ get_same (get_or was s d).items 0 other e some in
+          w.remove-other.ensures.value ∙ ap (λ l. get_or l 0 other) (same d) ∙ get_or_default (get_or was s d).items 0 other e some in
           let D : ℕ → Type 0 = λ i. (d : _) → (get_or (set rows s row) i d).items ≡ cond (i == v) (get_or was i d).items (drop 1 (get_or was i d).items) in
           let M : ℕ → Type 0 = λ i. (d : _) (e : EndState) → i ≢ v → (get_or (get_or was i d).items 0 e).marked ≡ true → 0 < n.marks in
           let grew : c.loop-s.closing.marks ≤ n.marks = t.7 in
@@ -53,9 +54,9 @@ loop-s-preserved c =
             deque = t.3 ∙ inv.deque;
             took = t.4 ∙ inv.took;
             back = rw t.6 (back_else v s c.loop-s.closing.back far inv.back);
-            done = λ i d l. below_more D s (λ i l d. rw (get_else rows s i row d (λ e. absurd (omega arith))) (inv.done i d l))
-                (λ d. rw (get_set rows s row d (omega arith), not_same s v far) (ap (λ r. r) w.remove-other.ensures.items ∙ ap (drop 1) (same d))) i l d;
-            kept = λ i d l m. rw (get_else rows s i row d (λ e. absurd (omega arith))) (inv.kept i d (omega arith) (omega arith));
+            done = λ i d l. below_more D s (λ i l d. rw (get_or-set_other rows s i row d (λ e. absurd (omega arith))) (inv.done i d l))
+                (λ d. rw (get_or-set_same rows s row d (omega arith), ne_eqb s v far) (ap (λ r. r) w.remove-other.ensures.items ∙ ap (drop 1) (same d))) i l d;
+            kept = λ i d l m. rw (get_or-set_other rows s i row d (λ e. absurd (omega arith))) (inv.kept i d (omega arith) (omega arith));
             counts = λ y f each.
                 let a = inv.counts y f each in
                 let b = each s x other (omega arith) far in

@@ -2,8 +2,8 @@ use Rattle.std.proofs.Common.{rules, arith, sym, ap, ◌≡◌, ℕ, suc, ◌∷
 use Rattle.std.proofs.lemmas.Grind.{common_steps}
 use Rattle.std.specs.Vec.Iter.{into_iter_items}
 use Rattle.tile_jobs.specs.Ends.{EndState, SeatState, IsSeat}
-use Rattle.tile_jobs.proofs.Entries.{cut_drop}
-use Rattle.tile_jobs.proofs.Seats.{get_drop, get_snoc}
+use Rattle.tile_jobs.proofs.Entries.{get_drop, cut_drop}
+use Rattle.tile_jobs.proofs.Seats.{get_snoc}
 use Rattle.tile_jobs.proofs.Closes.{below_next}
 use Rattle.tile_jobs.proofs.board.open_all.Goals as goal
 

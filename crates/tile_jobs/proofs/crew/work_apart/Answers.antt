@@ -2,8 +2,8 @@ use Rattle.std.proofs.Common.{rules, arith, sym, ap, ◌≡◌, suc, [], ◌∷�
 use Rattle.std.proofs.lemmas.Grind.{common_steps}
 use Rattle.std.specs.Vec.Iter.{into_iter_items}
 use Rattle.tile_jobs.specs.Ends.{SeatState}
-use Rattle.tile_jobs.proofs.Entries.{cut_drop}
-use Rattle.tile_jobs.proofs.Seats.{get_drop, get_snoc}
+use Rattle.tile_jobs.proofs.Entries.{get_drop, cut_drop}
+use Rattle.tile_jobs.proofs.Seats.{get_snoc}
 use Rattle.tile_jobs.proofs.crew.work_apart.Goals as goal
 
 pub loop-seat-preserved : goal.loop-seat-preserved

@@ -2,8 +2,8 @@ use Rattle.std.proofs.Common.{arith, ap, sym, ◌≡◌, ℕ, ◌<◌, ◌∙◌
 use Rattle.std.proofs.lemmas.Grind.{common_steps}
 use Rattle.std.specs.Vec.Iter.{into_iter_items}
 use Rattle.tile_jobs.specs.Ends.{EndState, SeatState, seat_of, without}
-use Rattle.tile_jobs.proofs.Entries.{cut_below, cut_drop}
-use Rattle.tile_jobs.proofs.Seats.{fresh_seat, get_drop, get_tail, get_snoc}
+use Rattle.tile_jobs.proofs.Entries.{get_drop, cut_below, cut_drop}
+use Rattle.tile_jobs.proofs.Seats.{fresh_seat, get_tail, get_snoc}
 use Rattle.tile_jobs.proofs.dealing.seat_all.Goals as goal
 
 pub new-requires-clause-seat : goal.new-requires-clause-seat

@@ -1,10 +1,10 @@
-use Rattle.std.proofs.Common.{sym, ap, subst, ◌∙◌}
+use Rattle.std.proofs.Common.{ℕ, List, MatchResult, rules, sym, ap, subst, ◌∙◌}
 use Rattle.std.specs.Prelude.{IfErr, IfOk}
-use Rattle.std.proofs.lemmas.Result.{err_from_is_err_and}
+use Rattle.std.proofs.lemmas.Result.{MatchResult-weaker, err_from_is_err_and}
 use Rattle.ascii_grid.specs.Words.{words}
 use Rattle.ascii_grid.specs.GridText.{IsGridText, IsRefusal}
 use Rattle.ascii_grid.specs.Reader.{HasTaken}
-use Rattle.ascii_grid.proofs.Feeding.{answered, whole_refusal, reading, end_refused, judged_none, finished, ok_part, err_part}
+use Rattle.ascii_grid.proofs.Feeding.{answered, whole_refusal, reading, end_refused, judged_none, finished}
 use Rattle.ascii_grid.proofs.reader.GridReader.finish.Goals as goal
 
 pub returns-in-Some-clause-fault : goal.returns-in-Some-clause-fault
@@ -17,16 +17,16 @@ returns-in_err-end_word-clause-fault c = λ text h.
     let k = reading _ text c.in_default.is (subst (λ r. HasTaken r text) (sym c.self.view_is) h) in
     rw (p.1, p.2, ← c.self.view_is) (end_refused _ text _ k.short (c.in_err-end_word.ensures.words text k.words_of))
 
-pub returns-clause-fault : goal.returns-clause-fault
-returns-clause-fault c = λ text h.
+pub returns : goal.returns
+returns c =
+    let scale = c.in_ok-end_word.ensures.scale ∙ ap (λ r. r.scale) c.self.view_is in
+    let m : (text : List ℕ) → HasTaken c.args.self text → MatchResult c.finish.result (IsGridText c.args.self.scale text) (IsRefusal c.args.self.scale text) = λ text h.
     let k = reading _ text c.in_default.is (subst (λ r. HasTaken r text) (sym c.self.view_is) h) in
     let judged = (c.in_ok-end_word.ensures.words text k.words_of).1 in
-    let m = finished c.end_word.new.self.judge.scale text c.finish.result k.short (judged_none c.end_word.new.self.judge (words text) judged) (c.finish.ensures (words text) judged) in
-    subst (λ d. IfErr c.finish.result (λ f. IsRefusal d text f)) (c.in_ok-end_word.ensures.scale ∙ ap (λ r. r.scale) c.self.view_is) (err_part c.finish.result _ _ m)
-
-pub returns-clause-grid : goal.returns-clause-grid
-returns-clause-grid c = λ text h.
-    let k = reading _ text c.in_default.is (subst (λ r. HasTaken r text) (sym c.self.view_is) h) in
-    let judged = (c.in_ok-end_word.ensures.words text k.words_of).1 in
-    let m = finished c.end_word.new.self.judge.scale text c.finish.result k.short (judged_none c.end_word.new.self.judge (words text) judged) (c.finish.ensures (words text) judged) in
-    subst (λ d. IfOk c.finish.result (λ g. IsGridText d text g)) (c.in_ok-end_word.ensures.scale ∙ ap (λ r. r.scale) c.self.view_is) (ok_part c.finish.result _ _ m)
+    subst (λ d. MatchResult c.finish.result (IsGridText d text) (IsRefusal d text)) scale
+    (finished c.end_word.new.self.judge.scale text c.finish.result k.short (judged_none c.end_word.new.self.judge (words text) judged) (c.finish.ensures (words text) judged)) in
+    record {
+      grid = λ text h. MatchResult-weaker c.finish.result (m text h) (λ _ k. k) (λ _ _. tt);
+      fault = λ text h. MatchResult-weaker c.finish.result (m text h) (λ _ _. tt) (λ _ k. k);
+      again = search rules;
+    }

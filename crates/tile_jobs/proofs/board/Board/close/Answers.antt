@@ -1,36 +1,19 @@
-use Rattle.std.proofs.Common.{rules, arith, refl, sym, ap, ◌≡◌, ◌≢◌, ℕ, ◌+◌, ◌%◌, ◌<◌, ◌≤◌, suc, [], ◌∷◌, List, length, drop, get_or, ◌∙◌, vec_len, vec_capacity, add-one, subst}
+use Rattle.std.proofs.Common.{rules, arith, refl, sym, ap, ◌≡◌, ◌≢◌, ℕ, ◌+◌, ◌%◌, ◌<◌, ◌≤◌, suc, [], ◌∷◌, List, length, drop, get_or, ◌∙◌, vec_len, vec_capacity, add-one, subst, inl, inr}
+use Rattle.std.proofs.lemmas.Bool.{cases_eq}
 use Rattle.std.proofs.lemmas.Grind.{common_steps}
 use Rattle.std.specs.Vec.Iter.{into_iter_items}
 use Rattle.tile_jobs.specs.Board.{deal, times, sum_to}
 use Rattle.tile_jobs.specs.Ends.{EndState, SeatState, HasAllMarks, seat_of}
 use Rattle.tile_jobs.specs.Closed.{in_seats}
 use Rattle.tile_jobs.proofs.Closes.{IsLeft}
-use Rattle.tile_jobs.proofs.Entries.{cut_drop}
+use Rattle.tile_jobs.proofs.Entries.{get_drop, cut_drop}
 use Rattle.tile_jobs.proofs.Residues.{deals_length}
-use Rattle.tile_jobs.proofs.Seats.{get_drop, some_element}
-use Rattle.tile_jobs.proofs.Closes.{head, own_names, own_takes, head_low, head_id, head_took, some_drop, get_of_drop, next_row, left_more, sum_mono, times_of, same_or, all_left}
+use Rattle.tile_jobs.proofs.Seats.{some_element}
+use Rattle.tile_jobs.proofs.Closes.{head, own_names, own_takes, head_low, head_id, head_took, some_drop, get_of_drop, next_row, left_more, sum_mono, times_of, all_left}
 use Rattle.tile_jobs.proofs.board.Board.close.Goals as goal
 
-pub close_one-requires-clause-own : goal.close_one-requires-clause-own
-close_one-requires-clause-own c =
-    let ss = c.args.seats.items in
-    let S = vec_len c.args.seats in
-    let v = c.loop-own.v in
-    let inv = c.loop-own.invariant in
-    let all = c.open_all.new.owns.items in
-    let own : EndState = c.in-Some.own in
-    let rest : List EndState = into_iter_items c.next.new.self in
-    let init : into_iter_items c.into_iter-own-iterator.result ≡ all = grind (arith, common_steps) in
-    let step : into_iter_items c.loop-own.own-iterator ≡ own ∷ rest = grind (arith, common_steps) in
-    let held : own ∷ rest ≡ drop v all = sym step ∙ inv.rest ∙ ap (drop v) init in
-    let low : v < S = (let k = inv.count in let e = ap length step in omega arith) in
-    let own_is : (d : SeatState) → own ≡ (get_or ss v d).own = λ d. get_drop all v own own rest held ∙ c.open_all.ensures.owns v d own low in
-    let z : SeatState = seat_of 0 own [] [] in
-    let n = own_names c.requires.board.0 S ss c.requires.board.2 c.open_all.ensures.seats v z low in
-    (omega (arith, inv.size), ap (λ (e : EndState). e.seats) (own_is z) ∙ n.1 ∙ sym inv.size)
-
-pub close_one-requires-clause-ids : goal.close_one-requires-clause-ids
-close_one-requires-clause-ids c = λ s d e l far.
+pub close_one-requires : goal.close_one-requires
+close_one-requires c =
     let ss = c.args.seats.items in
     let S = vec_len c.args.seats in
     let v = c.loop-own.v in
@@ -47,44 +30,31 @@ close_one-requires-clause-ids c = λ s d e l far.
     let J = c.requires.board.0 in
     let D = c.requires.board.2 in
     let each = c.open_all.ensures.seats in
-    let ls : s < S = omega (arith, inv.size) in
-    let row = inv.rows s d z ls in (
-      rw row (some_drop (get_or ss s z).others (head s v) (head_low J S ss D each s v z ls low far)),
-      rw (row, get_of_drop) (head_id J S ss D each s v z e ls low far ∙ sym (ap (λ (q : EndState). q.id) (own_is z))),
-    )
-
-pub close_one-requires-clause-room : goal.close_one-requires-clause-room
-close_one-requires-clause-room c =
-    let ss = c.args.seats.items in
-    let S = vec_len c.args.seats in
-    let v = c.loop-own.v in
-    let inv = c.loop-own.invariant in
-    let all = c.open_all.new.owns.items in
-    let own : EndState = c.in-Some.own in
-    let rest : List EndState = into_iter_items c.next.new.self in
-    let init : into_iter_items c.into_iter-own-iterator.result ≡ all = grind (arith, common_steps) in
-    let step : into_iter_items c.loop-own.own-iterator ≡ own ∷ rest = grind (arith, common_steps) in
-    let held : own ∷ rest ≡ drop v all = sym step ∙ inv.rest ∙ ap (drop v) init in
-    let low : v < S = (let k = inv.count in let e = ap length step in omega arith) in
-    let own_is : (d : SeatState) → own ≡ (get_or ss v d).own = λ d. get_drop all v own own rest held ∙ c.open_all.ensures.owns v d own low in
-    let z : SeatState = seat_of 0 own [] [] in
-    let J = c.requires.board.0 in
-    let D = c.requires.board.2 in
-    let n = own_names J S ss D c.open_all.ensures.seats v z low in
-    let left = (inv.left J D).low in
-    let f : ℕ → ℕ = λ u. length (deal J S u) in
-    let sums = sum_mono (suc v) S f low in
-    let whole = deals_length S J c.requires.board.1 in
-    let first : c.index.result.now ≡ get_or ss 0 c.index.result.now = grind (arith, common_steps) in
-    let jobs : (get_or ss 0 c.index.result.now).own.jobs ≡ J = (D.numbers 0 c.index.result.now c.requires.board.1).1 in
-    let jobs' : c.index.result.now.own.jobs ≡ J = ap (λ (q : SeatState). q.own.jobs) first ∙ jobs in
-    let room : c.index.result.now.own.jobs ≤ c.room.result = c.room.ensures in
-    let cap : vec_capacity c.in-Ok.left ≡ c.room.result = c.in-Ok.ensures.exact in
-    let more = inv.room in
-    let size : vec_len c.loop-own.left ≡ length c.loop-own.left.items = search rules in
+    let n = own_names J S ss D each v z low in
     let e = own_is z in
-    let one : length (deal own.jobs own.seats own.deque) ≡ f v = rw (ap (λ (q : EndState). q.jobs) e ∙ n.0, ap (λ (q : EndState). q.seats) e ∙ n.1, ap (λ (q : EndState). q.deque) e ∙ n.2) refl in
-    omega arith
+    record {
+      own = (omega (arith, inv.size), ap (λ (e : EndState). e.seats) (own_is z) ∙ n.1 ∙ sym inv.size);
+      ids = λ s d e l far.
+          let ls : s < S = omega (arith, inv.size) in
+          let row = inv.rows s d z ls in (
+            rw row (some_drop (get_or ss s z).others (head s v) (head_low J S ss D each s v z ls low far)),
+            rw (row, get_of_drop) (head_id J S ss D each s v z e ls low far ∙ sym (ap (λ (q : EndState). q.id) (own_is z))),
+          );
+      room =
+          let left = (inv.left J D).low in
+          let f : ℕ → ℕ = λ u. length (deal J S u) in
+          let sums = sum_mono (suc v) S f low in
+          let whole = deals_length S J c.requires.board.1 in
+          let first : c.index.result.now ≡ get_or ss 0 c.index.result.now = grind (arith, common_steps) in
+          let jobs : (get_or ss 0 c.index.result.now).own.jobs ≡ J = (D.numbers 0 c.index.result.now c.requires.board.1).1 in
+          let jobs' : c.index.result.now.own.jobs ≡ J = ap (λ (q : SeatState). q.own.jobs) first ∙ jobs in
+          let room : c.index.result.now.own.jobs ≤ c.room.result = c.room.ensures in
+          let cap : vec_capacity c.in-Ok.left ≡ c.room.result = c.in-Ok.ensures.exact in
+          let more = inv.room in
+          let size : vec_len c.loop-own.left ≡ length c.loop-own.left.items = search rules in
+          let one : length (deal own.jobs own.seats own.deque) ≡ f v = rw (ap (λ (q : EndState). q.jobs) e ∙ n.0, ap (λ (q : EndState). q.seats) e ∙ n.1, ap (λ (q : EndState). q.deque) e ∙ n.2) refl in
+          omega arith;
+    }
 
 pub loop-own-preserved : goal.loop-own-preserved
 loop-own-preserved c =
@@ -117,18 +87,19 @@ loop-own-preserved c =
           let rows : vec_len c.loop-own.rows ≡ length c.loop-own.rows.items = search rules in
           let x = some_element c.loop-own.rows.items (omega (arith, inv.size, c.requires.board.1)) in
           let empty : (s : ℕ) (d : SeatState) → s < S → HasAllMarks (get_or ss s d) → p ≡ [] = λ s d l m.
-          same_or s v (p ≡ [])
-          (λ (q : s ≡ v). o.left.3 (ap (λ (q : EndState). q.marked) (own_is d) ∙ ap (λ k. (get_or ss k d).own.marked) (sym q) ∙ m.0))
-          (λ (far : s ≢ v). o.left.4 s x own (omega (arith, inv.size)) far (rw (inv.rows s x d l, get_of_drop) (m.1 (head s v) own (head_low J S ss D each s v d l low far)))) in
+          elim (cases_eq s v) [
+            | inl q ↦ o.left.2.own_mark (ap (λ (q : EndState). q.marked) (own_is d) ∙ ap (λ k. (get_or ss k d).own.marked) (sym q) ∙ m.0)
+            | inr far ↦ o.left.2.marks s x own (omega (arith, inv.size)) far (rw (inv.rows s x d l, get_of_drop) (m.1 (head s v) own (head_low J S ss D each s v d l low far)))
+          ] in
           let once : (y : ℕ) (d : SeatState) → y % S ≡ v → in_seats y S ss d + times y p ≡ times y (deal J S v) = λ y d rem.
           let f : ℕ → ℕ = λ s. times y (get_or ss s d).taken in
-          let told = o.left.5 y f
+          let told = o.left.2.once y f
           (λ s x e l far. let ls : s < S = omega (arith, inv.size) in rw (inv.rows s x d ls, get_of_drop) (ap (times y) (head_took J S ss D each s v d e ls low far) ∙ times_of v S y (get_or ss s d).taken rem))
           (ap (λ (q : EndState). times y q.took) (own_is d) ∙ ap (times y) (own_takes J S ss D each v d low) ∙ times_of v S y (get_or ss v d).taken rem) in
           let sizes = ap (λ n. sum_to n f) inv.size in
           let r = ap (times y) deal_is in
           omega arith in
-          rw o.left.1 (left_more J S ss v c.loop-own.left.items p low (inv.left J D) o.left.2.0 (o.left.2.1 ∙ ap (drop o.left.2.0) deal_is) empty (λ d m. o.left.3 (ap (λ (q : EndState). q.marked) (own_is d) ∙ m)) once);
+          rw o.left.1 (left_more J S ss v c.loop-own.left.items p low (inv.left J D) o.left.2.part.0 (o.left.2.part.1 ∙ ap (drop o.left.2.part.0) deal_is) empty (λ d m. o.left.2.own_mark (ap (λ (q : EndState). q.marked) (own_is d) ∙ m)) once);
     }
 
 pub returns-clause-closed : goal.returns-clause-closed

@@ -2,9 +2,10 @@ use Rattle.std.proofs.Common.{arith, refl, ap, ◌≡◌, ◌∷◌, ◌++◌, �
 use Rattle.std.proofs.lemmas.List.{append-nil}
 use Rattle.crossbeam_deque.specs.Handles.{worker_view, view}
 use Rattle.tile_jobs.specs.declared.deque.Log.{Log}
-use Rattle.tile_jobs.specs.Rule.{joined}
+use Rattle.std.specs.List.{concat}
 use Rattle.tile_jobs.specs.Ends.{EndState, IsOther}
-use Rattle.tile_jobs.proofs.Steps.{merges, joined_append}
+use Rattle.std.proofs.lemmas.List.Folds.{concat-append}
+use Rattle.tile_jobs.proofs.Steps.{merges}
 use Rattle.tile_jobs.proofs.Closings.{one_share, mark_shows}
 use Rattle.tile_jobs.proofs.closing.Closing.absorb.Goals as goal
 
@@ -18,7 +19,7 @@ returns c =
     let is : IsOther c.args.other.marked w = c.into_pass-pass.ensures.other.0 in
     let parts = c.into_pass-pass.ensures.parts in
     let took : c.args.other.took ≡ w.took = ap (λ (e : EndState). e.took) parts in
-    let lists : joined (u.gathered ++ w.took ∷ w.gathered) ≡ joined u.gathered ++ w.took = joined_append u.gathered (w.took ∷ w.gathered) ∙ ap (λ l. joined u.gathered ++ (w.took ++ joined l)) is.0.0 ∙ ap (λ l. joined u.gathered ++ l) (append-nil w.took) in
+    let lists : concat (u.gathered ++ w.took ∷ w.gathered) ≡ concat u.gathered ++ w.took = concat-append u.gathered (w.took ∷ w.gathered) ∙ ap (λ l. concat u.gathered ++ (w.took ++ concat l)) is.0.0 ∙ ap (λ l. concat u.gathered ++ l) (append-nil w.took) in
     let one = one_share c.args.other.marked w is.0 in
     rw (← c.self.view_is, c.absorb.ensures.rule, c.absorb.ensures.same.0.0, took)
     (refl, refl, refl, refl, refl, lists, omega arith, omega arith, (λ m. let s = mark_shows c.args.other.marked w is.0 m in omega arith), refl)
