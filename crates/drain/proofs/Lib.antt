@@ -2,7 +2,6 @@
 mod Rows
 -- steps: one number for each cell, reached where nothing changes
 pub mod Local
-pub mod Tiles
 pub mod Quiet
 pub mod Few
 pub mod Nearby

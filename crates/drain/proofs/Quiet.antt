@@ -12,7 +12,7 @@ use Rattle.drain.specs.Steps.{IsFlatWalk, IsSteps, AreSteps}
 use Rattle.drain.specs.Rounds.{IsWalked, AreWalked, HasZeros, IsQuiet}
 use Rattle.drain.proofs.Counted.{has_steps, height_is}
 use Rattle.drain.proofs.Few.{steps_are_few, data_on_walk}
-use Rattle.drain.proofs.Tiles.{tile_below}
+use Rattle.tiles.proofs.Cut.{tile_of_place_below}
 
 pub if_some : {X : Type 0} (o : Option X) (P : X → Type 0) → ((x : X) → o ≡ Some x → P x) → IfSome o P
 if_some None P h = tt
@@ -83,9 +83,9 @@ counts_are_steps t c steps lists cuts cutting zeros quiet lawful filled size =
     still_is_steps t steps zeros (record {
       walked = λ p. if_some (entry_at t.cols t.rows steps p) (IsWalked t p) (λ n e.
           let here = in_own_tile t c p cuts (inside_from_entry t.cols t.rows steps p n e) in
-          MatchOption-at_some _ _ n (quiet.same (tile_of_place c p) p here ∙ e) ((quiet.rounds (tile_of_place c p) (tile_below c p cutting here.0)).walked p here));
+          MatchOption-at_some _ _ n (quiet.same (tile_of_place c p) p here ∙ e) ((quiet.rounds (tile_of_place c p) (tile_of_place_below c p cutting here.0)).walked p here));
       near = λ p q m next level e less.
           let here = in_own_tile t c p cuts (data_inside t p next.from_data) in
-          let near = (quiet.rounds (tile_of_place c p) (tile_below c p cutting here.0)).near p q m here next level e less in
+          let near = (quiet.rounds (tile_of_place c p) (tile_of_place_below c p cutting here.0)).near p q m here next level e less in
           (near.0, sym (quiet.same (tile_of_place c p) p here) ∙ near.1, near.2);
     }) lawful filled size

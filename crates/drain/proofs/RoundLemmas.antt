@@ -10,7 +10,7 @@ use Rattle.drain.specs.Rounds.{IsWalked, AreWalked, IsRound, IsTileEven, IsUnent
 use Rattle.drain.proofs.Quiet.{if_some, data_inside}
 use Rattle.drain.proofs.Few.{data_on_walk}
 use Rattle.drain.proofs.Unique.{at_place}
-use Rattle.drain.proofs.Tiles.{tile_below}
+use Rattle.tiles.proofs.Cut.{tile_of_place_below}
 use Rattle.std.proofs.lemmas.Bool.{cases_eq, cases_lt, false≢true}
 use Rattle.std.proofs.lemmas.List.{get_or_past}
 use Rattle.std.proofs.lemmas.List.Sums.{sum_by-cons}
@@ -106,7 +106,7 @@ module _ (r : Rounding) (outs : List (Option (Vec (Option ℕ) Global))) (new : 
     (size : length new ≡ r.cutting.cols * r.cutting.rows)
     (put : (p : Place) → IsWithin r.cutting p → entry_at r.cutting.cols r.cutting.rows new p ≡ told r.cutting r.steps outs p) where
   answer_at : (p : Place) → IsWithin r.cutting p → IsTileAnswer (levels_of r) r.cutting (tile_of_place r.cutting p) r.steps (get_or outs (tile_of_place r.cutting p) None)
-  answer_at p within = answered.each (tile_of_place r.cutting p) (tile_below r.cutting p rounding.cutting within)
+  answer_at p within = answered.each (tile_of_place r.cutting p) (tile_of_place_below r.cutting p rounding.cutting within)
 
   kept_at : (p : Place) → IsWithin r.cutting p → (m : ℕ) → entry_at r.cutting.cols r.cutting.rows r.steps p ≡ Some m → (n : ℕ) × (entry_at r.cutting.cols r.cutting.rows new p ≡ Some n) × (n ≤ m)
   kept_at p within m e =
