@@ -1,17 +1,14 @@
 -- The three by three cells around a cell that is not in an outermost row or column.
-use Rattle.std.proofs.Common.{◌≡◌, ◌≢◌, ℕ, ◌+◌, ◌-◌, ◌*◌, ◌<◌, ◌≤◌, ◌<ℤ◌, inl, inr, List, [], length, get_or, Bool, true, false, Option, None, Some, is_some, unwrap_or, ℤ, pos, sym, ap, subst, refl, ◌∙◌, arith}
+use Rattle.std.proofs.Common.{◌≡◌, ◌≢◌, ℕ, ◌+◌, ◌-◌, ◌*◌, ◌<◌, ◌≤◌, ◌<ℤ◌, inl, inr, List, length, get_or, Bool, true, false, Option, None, Some, is_some, unwrap_or, ℤ, pos, sym, ap, subst, refl, ◌∙◌, arith}
 use Rattle.std.proofs.lemmas.Int.{ints}
 use Rattle.std.proofs.lemmas.Bool.{cases_eq, false≢true}
-use Rattle.ascii_grid.proofs.Places.{make_place, entry-inside, entry-below, entry-beside, inside_from_entry}
+use Rattle.ascii_grid.proofs.Places.{make_place, entry-inside, entry-below, entry-beside}
 use Rattle.ascii_grid.specs.Raster.{Terrain}
-use Rattle.ascii_grid.specs.Neighbours.{IsInside, height_at, entry_at, Touches, IsEdge, HasGapAround, height_of}
+use Rattle.ascii_grid.specs.Neighbours.{IsInside, height_at, Touches, IsEdge, HasGapAround, height_of}
 use Rattle.ascii_grid.specs.declared.place.Place.{Place}
 use Rattle.drain.specs.Steps.{DrainsAtOnce}
 use Rattle.std.specs.Bool.{MatchBool}
-use Rattle.drain.specs.Beginning.{IsGapOrLower, IsOutermost, IsBegun}
-use Rattle.drain.specs.Rounds.{IsWalked, AreCounting}
-use Rattle.drain.proofs.Quiet.{data_inside, if_some}
-use Rattle.drain.proofs.Few.{data_on_walk}
+use Rattle.drain.specs.Beginning.{IsGapOrLower, IsOutermost}
 use Rattle.std.proofs.lemmas.Nat.{row_fits}
 
 height_of_is : (t : Terrain) (p : Place) (h : ℤ) → height_at t p ≡ Some h → height_of t p ≡ h
@@ -128,16 +125,6 @@ outermost_edge t p level inside is outer = (ap is_some is, gap t p outer)
           record { row_down = omega arith; row_up = omega arith; col_right = omega arith; col_left = omega arith },
           ap is_some (entry-beside t.cols t.rows t.cells (make_place p.row (p.col + 1)) beyond),
         ))
-
--- the counts that the rounds begin with are on the way to the steps
-pub begun_counting : (t : Terrain) (counts : List (Option ℕ)) → length counts ≡ t.cols * t.rows → ((p : Place) → IsInside t p → IsBegun t p (entry_at t.cols t.rows counts p)) → AreCounting t counts
-begun_counting t counts size begun = record {
-  size = size;
-  zeros = λ p drains. (begun p (data_inside t p (data_on_walk t p [] drains))).zero drains;
-  walked = λ p. if_some (entry_at t.cols t.rows counts p) (IsWalked t p) (λ n e.
-      let at = (begun p (inside_from_entry t.cols t.rows counts p n e)).only n e in
-      (omega (arith, at.1), [], at.0, sym at.1));
-}
 
 pub MatchBool-weaker : {P Q R S : Type 0} (b : Bool) → MatchBool b P Q → (P → R) → (Q → S) → MatchBool b R S
 MatchBool-weaker true h f g = f h

@@ -3,17 +3,12 @@ use Rattle.std.proofs.Common.{◌≡◌, ℕ, ◌<◌, ◌≤◌, ◌⊎◌, inl
 use Rattle.std.proofs.lemmas.Bool.{cases_lt}
 use Rattle.std.proofs.lemmas.Option.{MatchOption-at_some, MatchOption-at_none, same_Some, none-some}
 use Rattle.ascii_grid.proofs.Places.{entry-below, entry-beside, inside_from_entry}
-use Rattle.ascii_grid.specs.Raster.{Terrain, Raster, IsTerrain}
+use Rattle.ascii_grid.specs.Raster.{Terrain, Raster}
 use Rattle.ascii_grid.specs.Neighbours.{IsInside, height_at, entry_at}
 use Rattle.ascii_grid.specs.declared.place.Place.{Place}
 use Rattle.drain.specs.Steps.{IsSteps, AreSteps}
 use Rattle.drain.specs.Directions.{IsDirection, AreDirections}
 use Rattle.drainage.specs.Drained.{IsDraining}
-use Rattle.tiles.specs.Cutting.{Cutting, Cuts, tile_of_place}
-use Rattle.drainage.specs.Filled.{IsFilled}
-use Rattle.drain.specs.Rounds.{AreSettled}
-use Rattle.drain.proofs.Quiet.{still_is_steps, in_own_tile, data_inside}
-use Rattle.tiles.proofs.Cut.{tile_of_place_below}
 use Rattle.drain.proofs.AroundLemmas.{cases_option}
 use Rattle.drain.proofs.Pointing.{direction_leads}
 
@@ -54,16 +49,6 @@ are_draining t steps codes are all = record {
             direction_leads t steps codes p code are (subst (λ n. IsDirection t p n) (sym same) at.2) some)
       ];
 }
-
--- where nothing is left to change, the counts are the steps
-pub settled_is_steps : (c : Cutting) (t : Terrain) (steps : List (Option ℕ)) → Cuts c t → IsTerrain t → IsFilled t t.cells → AreSettled c t steps → AreSteps t steps
-settled_is_steps c t steps cuts lawful filled settled =
-    still_is_steps t steps settled.counting.zeros (record {
-      walked = settled.counting.walked;
-      near = λ p q m next level e less.
-          let inside = in_own_tile t c p cuts (data_inside t p next.from_data) in
-          (settled.still (tile_of_place c p) (tile_of_place_below c p settled.cutting inside.0)).near p q m inside next level e less;
-    }) lawful filled settled.counting.size
 
 make_terrain : ℕ → ℕ → List (Option ℤ) → Terrain
 make_terrain cols rows cells = record { cols = cols; rows = rows; cells = cells }

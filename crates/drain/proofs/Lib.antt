@@ -6,6 +6,8 @@ pub mod Quiet
 pub mod Few
 pub mod Nearby
 pub mod Counted
+-- lists of the entries of a tile
+pub mod TileLists
 -- a round over a tile
 pub mod Spreading
 pub mod Noted
@@ -13,7 +15,6 @@ pub mod Least
 pub mod Spots
 pub mod TileRound
 -- rounds over all tiles
-pub mod TileLists
 pub mod RoundLemmas
 pub mod Touching
 pub mod Entered

@@ -1,10 +1,10 @@
 -- The eight ways from a place, and what stands on them.
-use Rattle.std.proofs.Common.{◌≡◌, ◌≢◌, ℕ, zero, suc, ◌+◌, ◌%◌, ◌<◌, ◌||◌, eqb, false, inl, inr, Option, None, Some, sym, ap, refl, ◌∙◌, arith}
-use Rattle.std.proofs.lemmas.Bool.{cases_eq, eq-eqb, ne_eqb, or_left, or_right, or_from}
+use Rattle.std.proofs.Common.{◌≡◌, ◌≢◌, ℕ, zero, suc, ◌+◌, ◌%◌, ◌<◌, ◌||◌, eqb, false, Option, None, Some, sym, ap, refl, ◌∙◌, arith}
+use Rattle.std.proofs.lemmas.Bool.{eq-eqb, ne_eqb, or_left, or_right, or_from}
 use Rattle.std.proofs.lemmas.List.{get_or_default}
 use Rattle.std.proofs.lemmas.Option.{none-some, same_Some, some_pair_parts}
 use Rattle.std.specs.Option.{option_zip, option_and_then}
-use Rattle.ascii_grid.proofs.Places.{make_place, same_place}
+use Rattle.ascii_grid.proofs.Places.{make_place}
 use Rattle.ascii_grid.specs.Neighbours.{Touches}
 use Rattle.ascii_grid.specs.Ways.{ways_from, place_on, place_of, place_toward, code_of, before}
 use Rattle.tiles.proofs.Members.{Contains-ways_from}

@@ -2,7 +2,8 @@
 ghost use Rattle.std.specs.Prelude.{◌≡◌, ℕ, ◌+◌, ◌-◌, ◌*◌, ◌^◌, ◌<◌, ◌≤◌, length, None, OnOk, IfOk, slice_index_or};
 ghost use Rattle.ascii_grid.specs.declared.place.Place.{Place};
 ghost use Rattle.tiles.specs.Cutting.{IsCutting, AreBounds, bounds_of, terrain_of};
-ghost use Rattle.drain.specs.Window.{area_of, spot_index, IsSpot, IsShown, AreShown, AreShownBelow, AreKnownBelow, AreLent, known};
+ghost use Rattle.drain.specs.Window.{area_of, spot_index, IsSpot, IsShown, AreShown, AreShownBelow, AreLent, known, IsHandedOut};
+ghost use Rattle.drain.specs.TileLists.{AreMadeBelow};
 
 use crate::window::Ground;
 use ascii_grid::{Height, Place};
@@ -171,12 +172,16 @@ fn hand_out_along(
     list: &mut Vec<Option<u32>>,
 ) -> Result<(), AllocError>
     requires size { length counts.now ≡ area_of ground.now.bounds }
-    requires row { (1 ≤ row) × (row ≤ ground.now.bounds.rows) }
-    requires list { AreKnownBelow ground.now.bounds counts.now ((row - 1) * ground.now.bounds.cols) list.old.items }
-    ensures { OnOk result (AreKnownBelow ground.now.bounds counts.now (row * ground.now.bounds.cols) list.new.items) }
+    requires row { row < ground.now.bounds.rows }
+    requires list { AreMadeBelow ground.now.bounds (IsHandedOut ground.now.bounds counts.now) (row * ground.now.bounds.cols) list.old.items }
+    ensures { OnOk result (AreMadeBelow ground.now.bounds (IsHandedOut ground.now.bounds counts.now) ((row + 1) * ground.now.bounds.cols) list.new.items) }
 {
-    for col in 1..ground.bounds.cols + 1 {
-        list.push(known(counts[ground.index(Place { row, col })]))?;
+    for col in 0..ground.bounds.cols {
+        let spot = Place {
+            row: row + 1,
+            col: col + 1,
+        };
+        list.push(known(counts[ground.index(spot)]))?;
     }
     Ok(())
 }
@@ -188,13 +193,11 @@ pub(crate) fn hand_out(
     counts: &[u32],
 ) -> Result<Vec<Option<u32>>, AllocError>
     requires { length counts.now ≡ area_of ground.now.bounds }
-    ensures { IfOk result (λ v. AreKnownBelow ground.now.bounds counts.now (ground.now.bounds.rows * ground.now.bounds.cols) v.items) }
+    ensures { IfOk result (λ v. AreMadeBelow ground.now.bounds (IsHandedOut ground.now.bounds counts.now) (ground.now.bounds.rows * ground.now.bounds.cols) v.items) }
 {
-    let mut list = Vec::with_capacity(
-        alloc,
-        ground.bounds.rows as usize * ground.bounds.cols as usize,
-    )?;
-    for row in 1..ground.bounds.rows + 1 {
+    let Bounds { rows, cols, .. } = ground.bounds;
+    let mut list = Vec::with_capacity(alloc, rows as usize * cols as usize)?;
+    for row in 0..rows {
         hand_out_along(ground, counts, row, &mut list)?;
     }
     Ok(list)
