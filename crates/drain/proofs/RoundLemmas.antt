@@ -62,41 +62,31 @@ told_still : (c : Cutting) (steps : List (Option ℕ)) (p : Place) (o : TileAnsw
 told_still c steps p Still e = refl
 told_still c steps p (Changed list) e = absurd (false≢true (sym e))
 
--- what is told is no more than it was
-told_less : (IsEnd : Place → Type 0) (t : Terrain) (p : Place) (old new : Option ℕ) → ((m : ℕ) → old ≡ Some m → (n : ℕ) × (new ≡ Some n) × (n ≤ m)) → IfSome new (IsWalked IsEnd t p) → unwrap_or new (2 ^ 24) ≤ unwrap_or old (2 ^ 24)
-told_less IsEnd t p (Some m) new kept walked = let n = kept m refl in let is : unwrap_or new (2 ^ 24) ≡ n.0 = ap (λ (o : Option ℕ). unwrap_or o (2 ^ 24)) n.1 in omega (arith, n.2)
-told_less IsEnd t p None None kept walked = omega arith
-told_less IsEnd t p None (Some n) kept walked = omega (arith, walked.0)
-
-told_fewer : (IsEnd : Place → Type 0) (t : Terrain) (p : Place) (old new : Option ℕ) → ((m : ℕ) → old ≡ Some m → (n : ℕ) × (new ≡ Some n) × (n ≤ m)) → IfSome new (IsWalked IsEnd t p) → new ≢ old → unwrap_or new (2 ^ 24) < unwrap_or old (2 ^ 24)
-told_fewer IsEnd t p (Some m) new kept walked other =
+-- what is left of a count is no more than it was, and less where it changed
+told_less : (IsEnd : Place → Type 0) (t : Terrain) (p : Place) (old new : Option ℕ) → ((m : ℕ) → old ≡ Some m → (n : ℕ) × (new ≡ Some n) × (n ≤ m)) → IfSome new (IsWalked IsEnd t p) →
+    (unwrap_or new (2 ^ 24) ≤ unwrap_or old (2 ^ 24)) × (new ≢ old → unwrap_or new (2 ^ 24) < unwrap_or old (2 ^ 24))
+told_less IsEnd t p (Some m) new kept walked =
     let n = kept m refl in
     let is : unwrap_or new (2 ^ 24) ≡ n.0 = ap (λ (o : Option ℕ). unwrap_or o (2 ^ 24)) n.1 in
-    let apart : n.0 ≢ m = λ e. other (n.1 ∙ ap Some e) in omega (arith, n.2)
-told_fewer IsEnd t p None None kept walked other = absurd (other refl)
-told_fewer IsEnd t p None (Some n) kept walked other = omega (arith, walked.0)
+    (omega (arith, n.2), λ other. let apart : n.0 ≢ m = λ e. other (n.1 ∙ ap Some e) in omega (arith, n.2))
+told_less IsEnd t p None None kept walked = (omega arith, λ other. absurd (other refl))
+told_less IsEnd t p None (Some n) kept walked = (omega (arith, walked.0), λ other. omega (arith, walked.0))
 
-sum_by_less : (f : Option ℕ → ℕ) (xs ys : List (Option ℕ)) → length xs ≡ length ys → ((k : ℕ) → k < length xs → f (get_or xs k None) ≤ f (get_or ys k None)) → sum_by f xs ≤ sum_by f ys
-sum_by_less f [] [] e h = omega arith
-sum_by_less f [] (y ∷ ys) e h = absurd (omega arith)
-sum_by_less f (x ∷ xs) [] e h = absurd (omega arith)
-sum_by_less f (x ∷ xs) (y ∷ ys) e h =
+-- a sum of terms that are no greater, and of which one may be less
+sums_less : (f : Option ℕ → ℕ) (xs ys : List (Option ℕ)) → length xs ≡ length ys → ((k : ℕ) → k < length xs → f (get_or xs k None) ≤ f (get_or ys k None)) →
+    (sum_by f xs ≤ sum_by f ys) × ((j : ℕ) → j < length xs → f (get_or xs j None) < f (get_or ys j None) → sum_by f xs < sum_by f ys)
+sums_less f [] [] e h = (omega arith, λ j l less. absurd (omega arith))
+sums_less f [] (y ∷ ys) e h = absurd (omega arith)
+sums_less f (x ∷ xs) [] e h = absurd (omega arith)
+sums_less f (x ∷ xs) (y ∷ ys) e h =
     let first : f x ≤ f y = h 0 (omega arith) in
-    let rest : sum_by f xs ≤ sum_by f ys = sum_by_less f xs ys (omega arith) (λ k l. h (suc k) (omega arith)) in
-    omega (arith, sum_by-cons f x xs, sum_by-cons f y ys)
-
-sum_by_fewer : (f : Option ℕ → ℕ) (xs ys : List (Option ℕ)) (j : ℕ) → length xs ≡ length ys → ((k : ℕ) → k < length xs → f (get_or xs k None) ≤ f (get_or ys k None)) → j < length xs →
-    f (get_or xs j None) < f (get_or ys j None) → sum_by f xs < sum_by f ys
-sum_by_fewer f [] ys j e h l strict = absurd (omega arith)
-sum_by_fewer f (x ∷ xs) [] j e h l strict = absurd (omega arith)
-sum_by_fewer f (x ∷ xs) (y ∷ ys) zero e h l strict =
-    let first : f x < f y = strict in
-    let rest : sum_by f xs ≤ sum_by f ys = sum_by_less f xs ys (omega arith) (λ k m. h (suc k) (omega arith)) in
-    omega (arith, sum_by-cons f x xs, sum_by-cons f y ys)
-sum_by_fewer f (x ∷ xs) (y ∷ ys) (suc j) e h l strict =
-    let first : f x ≤ f y = h 0 (omega arith) in
-    let rest : sum_by f xs < sum_by f ys = sum_by_fewer f xs ys j (omega arith) (λ k m. h (suc k) (omega arith)) (omega arith) strict in
-    omega (arith, sum_by-cons f x xs, sum_by-cons f y ys)
+    let rest = sums_less f xs ys (omega arith) (λ k l. h (suc k) (omega arith)) in
+    (omega (arith, sum_by-cons f x xs, sum_by-cons f y ys, rest.0), at first rest.0 rest.1)
+  where
+    at : f x ≤ f y → sum_by f xs ≤ sum_by f ys → ((j : ℕ) → j < length xs → f (get_or xs j None) < f (get_or ys j None) → sum_by f xs < sum_by f ys) →
+        (j : ℕ) → j < length (x ∷ xs) → f (get_or (x ∷ xs) j None) < f (get_or (y ∷ ys) j None) → sum_by f (x ∷ xs) < sum_by f (y ∷ ys)
+    at first le rest zero l less = let here : f x < f y = less in omega (arith, sum_by-cons f x xs, sum_by-cons f y ys, le)
+    at first le rest (suc j) l less = omega (arith, sum_by-cons f x xs, sum_by-cons f y ys, first, rest j (omega arith) less)
 
 -- where no tile changed, all are still
 pub all_still : (r : Rounding) (outs : List TileAnswer) → AreAnswered r outs → ((tile : ℕ) → tile < tile_count r.cutting → is_changed (get_or outs tile Still) ≡ false) → AreStill r
@@ -159,7 +149,7 @@ module _ (r : Rounding) (outs : List TileAnswer) (new : List (Option ℕ)) (roun
   less_at : (p : Place) → p.row < r.cutting.rows → p.col < r.cutting.cols → left_at new (index_of r.cutting.cols p) ≤ left_at r.steps (index_of r.cutting.cols p)
   unfolding IsCarried old_at new_at
   less_at p row col =
-      omega (arith, left_is new p (row, col), left_is r.steps p (row, col), told_less IsEnd (levels_of r) p (old_at p) (new_at p) (carried p (row, col)).0 (carried p (row, col)).1)
+      omega (arith, left_is new p (row, col), left_is r.steps p (row, col), (told_less IsEnd (levels_of r) p (old_at p) (new_at p) (carried p (row, col)).0 (carried p (row, col)).1).0)
 
   changed_place : (tile : ℕ) (o : TileAnswer) → get_or outs tile Still ≡ o → is_changed o ≡ true → IsTileAnswer (levels_of r) r.cutting tile r.steps o →
       (p : Place) × IsWithin r.cutting p × (new_at p ≢ old_at p)
@@ -181,10 +171,10 @@ module _ (r : Rounding) (outs : List TileAnswer) (new : List (Option ℕ)) (roun
       let changed = changed_place tile (get_or outs tile Still) refl is (answered.each tile below) in
       let p = changed.0 in
       let within = changed.1 in
-      let fewer = told_fewer IsEnd (levels_of r) p (old_at p) (new_at p) (carried p within).0 (carried p within).1 changed.2 in
-      sum_by_fewer (λ o. unwrap_or o (2 ^ 24)) new r.steps (index_of r.cutting.cols p) (size ∙ sym rounding.counting.size)
-      (λ k l. at_place (λ i. left_at new i ≤ left_at r.steps i) r.cutting.cols r.cutting.rows less_at k (omega (arith, size)))
-      (omega (arith, size, index_below r.cutting.cols r.cutting.rows p within.0 within.1))
+      let fewer = (told_less IsEnd (levels_of r) p (old_at p) (new_at p) (carried p within).0 (carried p within).1).1 changed.2 in
+      (sums_less (λ o. unwrap_or o (2 ^ 24)) new r.steps (size ∙ sym rounding.counting.size)
+      (λ k l. at_place (λ i. left_at new i ≤ left_at r.steps i) r.cutting.cols r.cutting.rows less_at k (omega (arith, size)))).1
+      (index_of r.cutting.cols p) (omega (arith, size, index_below r.cutting.cols r.cutting.rows p within.0 within.1))
       (omega (arith, fewer, left_is new p within, left_is r.steps p within))
 
   same_at : (p : Place) → IsWithin r.cutting p → is_changed (get_or outs (tile_of_place r.cutting p) Still) ≡ false → entry_at r.cutting.cols r.cutting.rows new p ≡ entry_at r.cutting.cols r.cutting.rows r.steps p

@@ -95,8 +95,13 @@ put_back_each {X} c Makes lists whole lawful made put p within =
     subst (λ (o : Option X). Makes p o) (sym (entry_at-put_back c lists whole tile list.0 p put inside list.1)) ((made.each tile list.0 list.1).each p inside)
 
 -- a tile's bounds lie in a terrain of the cutting's size
-pub part_of : (t : Terrain) (c : Cutting) (b : Bounds) → Cuts c t → AreBounds c b → IsPartOf t b
-part_of t c b cuts fits = record { rows = omega (arith, cuts.1, fits.rows_inside); cols = omega (arith, cuts.0, fits.cols_inside) }
+pub part_of : (t : Terrain) (c : Cutting) (b : Bounds) → IsCutting c → Cuts c t → AreBounds c b → IsPartOf t b
+part_of t c b lawful cuts fits = record {
+  few_rows = omega (arith, lawful.few_rows, cuts.1);
+  few_cols = omega (arith, lawful.few_cols, cuts.0);
+  rows = omega (arith, cuts.1, fits.rows_inside);
+  cols = omega (arith, cuts.0, fits.cols_inside);
+}
 
 -- the list that is put back, by places of the terrain
 pub put_back_inside : {X : Type 0} (t : Terrain) (c : Cutting) (Makes : Place → Option X → Type 0) (lists : List (Vec (Option X) Global)) (whole : List (Option X)) → IsCutting c → Cuts c t →

@@ -2,7 +2,6 @@ pub mod Steepness
 pub mod Steps
 pub mod Directions
 pub mod Rounds
-pub mod CountingView
 pub mod Entering
 pub mod Window
 pub mod TileLists

@@ -8,6 +8,7 @@ use Rattle.ascii_grid.specs.declared.place.Place.{Place}
 use Rattle.tiles.specs.declared.bounds.Bounds.{Bounds}
 use Rattle.tiles.specs.Cutting.{Cutting, IsCutting, IsWithin, bounds_of, tile_of_place, IsInTile, tile_count, tile_entry, cell_count}
 use Rattle.drain.specs.Steps.{IsLevelWalk}
+use Rattle.drain.specs.declared.rounds.Counting.{Counting}
 use Rattle.drain.specs.declared.tile_state.Due.{Due}
 use Rattle.drain.specs.declared.tile_state.Due.TheVariants.{Search, IfEntered, Nothing}
 use Rattle.drain.specs.declared.tile_state.TileAnswer.{TileAnswer}
@@ -89,6 +90,9 @@ pub record Rounding : Type 0 where
   pub levels : List (Option ℤ)
   pub steps : List (Option ℕ)
   pub due : List Due
+
+abbrev pub rounding_of : Counting → Rounding
+rounding_of c = record { cutting = c.tiling.now; levels = c.levels.now; steps = c.steps.items; due = c.due.items }
 
 abbrev pub levels_of : Rounding → Terrain
 levels_of r = record { cols = r.cutting.cols; rows = r.cutting.rows; cells = r.levels }

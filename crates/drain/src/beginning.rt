@@ -1,7 +1,6 @@
 // The counts that the rounds begin with: 0 at each cell that drains at once.
 ghost use Rattle.std.specs.Prelude.{◌≡◌, ℕ, ◌+◌, ◌*◌, ◌<◌, ◌≤◌, ◌↔◌, Some, None, length, vec_len, IsTrue, OnOk, IfOk, slice_index_or};
 ghost use Rattle.std.specs.Bool.{MatchBool};
-ghost use Rattle.ascii_grid.specs.Raster.{IsTerrain};
 ghost use Rattle.ascii_grid.specs.Neighbours.{IsInside, height_at};
 ghost use Rattle.drain.specs.Steps.{DrainsAtOnce};
 ghost use Rattle.drain.specs.Beginning.{IsGapOrLower, IsOutermost, IsBegun};
@@ -83,7 +82,6 @@ fn begin_along(
     row: u32,
     counts: &mut Vec<Option<u32>>,
 ) -> Result<(), AllocError>
-    requires lawful { IsTerrain grid.now.terrain }
     requires inside { IsPartOf grid.now.terrain bounds }
     requires row { row < bounds.rows }
     requires counts { AreMadeBelow bounds (IsBegun grid.now.terrain) (row * bounds.cols) counts.old.items }
@@ -105,7 +103,6 @@ pub(crate) fn begin_tile(
     grid: &Grid,
     bounds: Bounds,
 ) -> Result<Vec<Option<u32>>, AllocError>
-    requires lawful { IsTerrain grid.now.terrain }
     requires inside { IsPartOf grid.now.terrain bounds }
     ensures { IfOk result (λ counts. AreMadeBelow bounds (IsBegun grid.now.terrain) (bounds.rows * bounds.cols) counts.items) }
 {

@@ -86,27 +86,6 @@ fn look_across<T: Copy + Drop>(
     Ok(())
 }
 
-/// Takes one row of spots.
-fn look_along<T: Copy + Drop>(
-    view: &TileView<'_, Option<T>>,
-    bounds: Bounds,
-    row: u32,
-    list: &mut Vec<Option<T>>,
-) -> Result<(), AllocError>
-    requires bounds { bounds ≡ bounds_of view.now.cutting view.now.tile }
-    requires inside { AreBounds view.now.cutting bounds }
-    requires lawful { IsCutting view.now.cutting }
-    requires row { row < bounds.rows + 2 }
-    requires list { AreShownBelow view.now.cutting.cols view.now.cutting.rows view.now.cells bounds (row * (bounds.cols + 2)) list.old.items }
-    ensures { OnOk result (AreShownBelow view.now.cutting.cols view.now.cutting.rows view.now.cells bounds ((row + 1) * (bounds.cols + 2)) list.new.items) }
-{
-    if row == 0 || row > bounds.rows {
-        look_beside(view, bounds, row, list)
-    } else {
-        look_across(view, bounds, row, list)
-    }
-}
-
 /// What a view has at each spot, in row order.
 fn look<T: Copy + Drop>(
     alloc: Global,
@@ -120,9 +99,11 @@ fn look<T: Copy + Drop>(
         alloc,
         (bounds.rows as usize + 2) * (bounds.cols as usize + 2),
     )?;
-    for row in 0..bounds.rows + 2 {
-        look_along(view, bounds, row, &mut list)?;
+    look_beside(view, bounds, 0, &mut list)?;
+    for row in 1..bounds.rows + 1 {
+        look_across(view, bounds, row, &mut list)?;
     }
+    look_beside(view, bounds, bounds.rows + 1, &mut list)?;
     Ok(list)
 }
 

@@ -310,7 +310,7 @@ struct Counting<'a> {
 }
 
 impl<'a> Counting<'a> {
-    ghost use Rattle.drain.specs.CountingView.{rounding_of};
+    ghost use Rattle.drain.specs.Rounds.{rounding_of};
 
     /// One round over all tiles; whether it changed something.
     fn one_round<R: Threads + Wait + Sync, G: Gate + Sync>(

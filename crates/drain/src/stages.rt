@@ -22,16 +22,7 @@ use tiles::Tiling;
 struct BeginTiles<'a> {
     grid: &'a Grid,
     tiling: &'a Tiling,
-}
-
-impl<'a> Model for BeginTiles<'a> {
-    ghost use Rattle.drain.specs.Stages.{CutTerrain, IsCutTerrain};
-
-    ghost Value = { CutTerrain };
-
-    ghost view = { λ w. record { terrain = w.grid.now.terrain; cutting = w.tiling.now } };
-
-    ghost invariant = { λ w. IsCutTerrain (record { terrain = w.grid.now.terrain; cutting = w.tiling.now }) };
+    ghost cuts: { Cuts tiling.now grid.now.terrain },
 }
 
 impl<'a> Work for BeginTiles<'a> {
@@ -41,9 +32,9 @@ impl<'a> Work for BeginTiles<'a> {
 
     type Out = Vec<Option<u32>>;
 
-    ghost most = { λ w. tile_count w.cutting };
+    ghost most = { λ w. tile_count w.tiling.now };
 
-    ghost gives = { λ w tile out. IsMadeTile w.cutting tile (IsBegun w.terrain) out.items };
+    ghost gives = { λ w tile out. IsMadeTile w.tiling.now tile (IsBegun w.grid.now.terrain) out.items };
 
     fn run(&self, alloc: Global, job: u32) -> Result<Vec<Option<u32>>, JobFault> {
         let bounds = self.tiling.bounds(job);
@@ -115,7 +106,6 @@ pub(crate) fn begin<R: Threads + Wait + Sync, G: Gate + Sync>(
 ) -> Result<Vec<Option<u32>>, JobFault>
     requires cuts { Cuts tiling.now grid.now.terrain }
     requires workers { (1 ≤ workers) × (workers ≤ 64) }
-    requires lawful { IsTerrain grid.now.terrain }
     ensures begun { IfOk result (λ counts. AreBegun grid.now.terrain counts.items) }
     ensures fault { IfErr result (λ e. e ≢ JobFault.BadWorkers) }
     ensures no_thread { result ≡ Err JobFault.NoThread → 1 < workers }

@@ -13,9 +13,6 @@ use Rattle.drain.proofs.draining.counted.Goals as goal
 pub begin-requires-clause-cuts : goal.begin-requires-clause-cuts
 begin-requires-clause-cuts g c κs within = subst (λ (x : Raster). Cuts c.args.tiling.now x.terrain) (sym c.grid-grid.ensures.value) c.requires.cuts
 
-pub begin-requires-clause-lawful : goal.begin-requires-clause-lawful
-begin-requires-clause-lawful g c κs within = c.cells-cells.ensures.lawful.terrain
-
 pub settle-requires-clause-counting : goal.settle-requires-clause-counting
 settle-requires-clause-counting g c κs within =
     let v = c.args.tiling.now in

@@ -1,5 +1,5 @@
 use Rattle.std.proofs.Common.{◌≡◌}
-use Rattle.drain.specs.CountingView.{rounding_of}
+use Rattle.drain.specs.Rounds.{rounding_of}
 use Rattle.drain.specs.Entering.{lent_terrain}
 use Rattle.drain.specs.Rounds.{IsRounding, LendSame, left_to_count}
 use Rattle.drain.proofs.rounds.settle.Given as goal
