@@ -1,10 +1,9 @@
 -- What stands around a cell amid the grid, by places in row order.
-use Rattle.std.proofs.Common.{◌≡◌, ◌≢◌, ℕ, ◌+◌, ◌-◌, ◌*◌, ◌<◌, ◌≤◌, ◌⊎◌, inl, inr, true, false, eqb, max, fold, List, length, get_or, Option, None, Some, is_some, IfSome, ℤ, sym, ap, subst, refl, ◌∙◌, arith}
+use Rattle.std.proofs.Common.{◌≡◌, ◌≢◌, ℕ, ◌+◌, ◌-◌, ◌*◌, ◌<◌, ◌≤◌, ◌⊎◌, inl, inr, true, false, eqb, max, fold, List, get_or, Option, None, Some, is_some, IfSome, ℤ, sym, ap, subst, refl, ◌∙◌, arith}
 use Rattle.std.specs.Prelude.{option_map}
 use Rattle.std.specs.List.{list_any, position}
 use Rattle.std.specs.Option.{option_zip, option_and_then}
 use Rattle.std.proofs.lemmas.Bool.{cases_eq}
-use Rattle.std.proofs.lemmas.List.Elements.{All-get_or}
 use Rattle.ascii_grid.proofs.Places.{make_place, entry-inside, index_below}
 use Rattle.ascii_grid.specs.Raster.{Terrain, IsTerrain, IsHeight}
 use Rattle.ascii_grid.specs.Neighbours.{IsInside, height_at, entry_at, index_of, Touches}
@@ -17,8 +16,9 @@ use Rattle.drain.specs.Fitting.{IsLaidAround}
 use Rattle.drain.specs.Steepness.{weights, drop_to, leads_on}
 use Rattle.drain.specs.Steps.{DrainsAtOnce, AreSteps}
 use Rattle.drain.specs.declared.around.Around.{Around}
-use Rattle.drain.proofs.AroundLemmas.{cases_option, shown_on, around_with, laid_with, steps_at}
+use Rattle.drain.proofs.AroundLemmas.{cases_option, height_fits, shown_on, around_with, laid_with, steps_at}
 use Rattle.drain.proofs.Laid.{with_steps, without_steps, leads as leads_by_steps, is_down, is_outlet, is_onward, code_is}
+use Rattle.drain.proofs.Quiet.{if_some}
 use Rattle.drain.proofs.Ways.{eight, before-is}
 
 drop_is : (level : ℤ) (w : Option (ℤ × ℕ)) → drop_by level (option_map (λ (v : ℤ × ℕ). v.0) w) ≡ drop_to level w
@@ -97,20 +97,11 @@ on_way_amid t p inside amid =
     let part = amid_parts t p inside amid in
     on_ways t p (p.row - 1) (p.col - 1) (omega (arith, part.0)) (omega (arith, part.1)) (omega (arith, part.0, part.2)) (omega (arith, part.1, part.3))
 
-pub at_there : (t : Terrain) (p : Place) (cols : ℕ) (at : List ℕ) → at ≡ around_index cols (index_of cols p) → cols ≡ t.cols → at ≡ around_index t.cols (index_of t.cols p)
-at_there t p cols at is cols_are = is ∙ ap (λ (n : ℕ). around_index n (index_of n p)) cols_are
-
 -- the places around a cell amid the grid stand in its lists
-around_below : (t : Terrain) (p : Place) → IsInside t p → (IsOutermost t p → ⊥) → (way : ℕ) → way < 8 → get_or (around_index t.cols (index_of t.cols p)) way 0 < t.cols * t.rows
+pub around_below : (t : Terrain) (p : Place) → IsInside t p → (IsOutermost t p → ⊥) → (way : ℕ) → way < 8 → get_or (around_index t.cols (index_of t.cols p)) way 0 < t.cols * t.rows
 around_below t p inside amid way below =
     let q = on_way_amid t p inside amid way below in
     subst (λ (n : ℕ). n < t.cols * t.rows) q.1.index (index_below t.cols t.rows q.0 q.1.inside.0 q.1.inside.1)
-
-pub around_within : {X : Type 0} (t : Terrain) (p : Place) (xs : List X) (at : List ℕ) → length xs ≡ t.cols * t.rows → at ≡ around_index t.cols (index_of t.cols p) → IsInside t p → (IsOutermost t p → ⊥) →
-    (way : ℕ) → way < 8 → get_or at way 0 < length xs
-around_within t p xs at size is inside amid way below =
-    let within = around_below t p inside amid way below in
-    subst (λ (l : List ℕ). get_or l way 0 < length xs) (sym is) (subst (λ (n : ℕ). get_or (around_index t.cols (index_of t.cols p)) way 0 < n) (sym size) within)
 
 entry_amid : {X : Type 0} (t : Terrain) (p : Place) (xs : List (Option X)) → IsInside t p → (IsOutermost t p → ⊥) → (way : ℕ) → way < 8 →
     entry_on t.cols t.rows xs way p ≡ get_or xs (get_or (around_index t.cols (index_of t.cols p)) way 0) None
@@ -119,6 +110,17 @@ entry_amid t p xs inside amid way below =
     ap (λ (o : Option Place). option_and_then (λ r. entry_at t.cols t.rows xs r) o) q.1.on
     ∙ entry-inside t.cols t.rows xs q.0 q.1.inside.0 q.1.inside.1
     ∙ ap (λ (n : ℕ). get_or xs n None) q.1.index
+
+-- the cell that the places around name on a way
+pub cell_on_way : (t : Terrain) (p : Place) (cells : List (Option ℤ)) (at : List ℕ) → cells ≡ t.cells → at ≡ around_index t.cols (index_of t.cols p) → IsInside t p → (IsOutermost t p → ⊥) →
+    (way : ℕ) → way < 8 → (q : Place) × IsOnWay t p way q × (get_or cells (get_or at way 0) None ≡ height_at t q)
+cell_on_way t p cells at cells_are at_is inside amid way below =
+    let q = on_way_amid t p inside amid way below in (
+      q.0,
+      q.1,
+      ap (λ (l : List ℕ). get_or cells (get_or l way 0) None) at_is ∙ ap (λ (xs : List (Option ℤ)). get_or xs (get_or (around_index t.cols (index_of t.cols p)) way 0) None) cells_are
+          ∙ sym (entry_amid t p t.cells inside amid way below) ∙ ap (λ (o : Option Place). option_and_then (λ r. entry_at t.cols t.rows t.cells r) o) q.1.on,
+    )
 
 -- each height has its steps
 zip_heights : (t : Terrain) (steps : List (Option ℕ)) (q : Place) → AreSteps t steps →
@@ -156,20 +158,16 @@ module _ (t : Terrain) (steps : List (Option ℕ)) (p : Place) (level : ℤ) (ow
       subst (λ (l : List ℕ). StandAround (around_of t steps p level own) cells steps l level own) (sym at_is)
       (subst (λ (xs : List (Option ℤ)). StandAround (around_of t steps p level own) xs steps (around_index t.cols (index_of t.cols p)) level own) (sym cells_are) stand_there)
 
-  pub has_heights : (heights : List (Option ℤ)) →
-      ((way : ℕ) → way < 8 → get_or heights way None ≡ get_or t.cells (get_or (around_index t.cols (index_of t.cols p)) way 0) None) → HasHeights (around_of t steps p level own) level heights
-  has_heights heights given = record {
+  pub has_heights : (cells heights : List (Option ℤ)) (at : List ℕ) → cells ≡ t.cells → at ≡ around_index t.cols (index_of t.cols p) →
+      ((way : ℕ) → way < 8 → get_or heights way None ≡ get_or cells (get_or at way 0) None) → HasHeights (around_of t steps p level own) level heights
+  has_heights cells heights at cells_are at_is given = record {
     own_level = refl;
     count = refl;
     each = λ way below.
-        let q = on_way_amid t p inside amid way below in
+        let q = cell_on_way t p cells at cells_are at_is inside amid way below in
         let on : shown_on t steps p way ≡ option_zip (height_at t q.0) (entry_at t.cols t.rows steps q.0) =
         ap (λ (o : Option Place). option_zip (option_and_then (λ r. entry_at t.cols t.rows t.cells r) o) (option_and_then (λ r. entry_at t.cols t.rows steps r) o)) q.1.on in
-        given way below
-        ∙ sym (entry_amid t p t.cells inside amid way below)
-        ∙ ap (λ (o : Option Place). option_and_then (λ r. entry_at t.cols t.rows t.cells r) o) q.1.on
-        ∙ sym (zip_heights t steps q.0 are)
-        ∙ ap (λ (o : Option (ℤ × ℕ)). option_map (λ (w : ℤ × ℕ). w.0) o) (sym on ∙ sym (laid.ways way below));
+        given way below ∙ q.2 ∙ sym (zip_heights t steps q.0 are) ∙ ap (λ (o : Option (ℤ × ℕ)). option_map (λ (w : ℤ × ℕ). w.0) o) (sym on ∙ sym (laid.ways way below));
   }
 
   stays : 0 < own → DrainsAtOnce t p → ⊥
@@ -192,16 +190,9 @@ module _ (t : Terrain) (steps : List (Option ℕ)) (p : Place) (level : ℤ) (ow
       code_is t p level code high
       (is_outlet t steps p (around_of t steps p level own) are laid code (omega (arith, greatest_is, low)) (without_steps t steps p (around_of t steps p level own) are laid (omega (arith, none))) is)
 
--- the heights at the places around are the terrain's
-pub heights_there : (t : Terrain) (p : Place) (cells heights : List (Option ℤ)) (at : List ℕ) → cells ≡ t.cells → at ≡ around_index t.cols (index_of t.cols p) →
-    ((way : ℕ) → way < 8 → get_or heights way None ≡ get_or cells (get_or at way 0) None) →
-    (way : ℕ) → way < 8 → get_or heights way None ≡ get_or t.cells (get_or (around_index t.cols (index_of t.cols p)) way 0) None
-heights_there t p cells heights at cells_are at_is given way below =
-    given way below ∙ ap (λ (l : List ℕ). get_or cells (get_or l way 0) None) at_is ∙ ap (λ (xs : List (Option ℤ)). get_or xs (get_or (around_index t.cols (index_of t.cols p)) way 0) None) cells_are
-
-pub heights_fit : (t : Terrain) (p : Place) (heights : List (Option ℤ)) → IsTerrain t → IsInside t p → (IsOutermost t p → ⊥) →
-    ((way : ℕ) → way < 8 → get_or heights way None ≡ get_or t.cells (get_or (around_index t.cols (index_of t.cols p)) way 0) None) →
+pub heights_fit : (t : Terrain) (p : Place) (cells heights : List (Option ℤ)) (at : List ℕ) → IsTerrain t → IsInside t p → (IsOutermost t p → ⊥) → cells ≡ t.cells →
+    at ≡ around_index t.cols (index_of t.cols p) → ((way : ℕ) → way < 8 → get_or heights way None ≡ get_or cells (get_or at way 0) None) →
     (way : ℕ) → way < 8 → IfSome (get_or heights way None) IsHeight
-heights_fit t p heights lawful inside amid are way below =
-    subst (λ (o : Option ℤ). IfSome o IsHeight) (sym (are way below))
-    (All-get_or (λ (c : Option ℤ). IfSome c IsHeight) t.cells (get_or (around_index t.cols (index_of t.cols p)) way 0) None (omega (arith, lawful.size, around_below t p inside amid way below)) lawful.heights)
+heights_fit t p cells heights at lawful inside amid cells_are at_is given way below =
+    let q = cell_on_way t p cells at cells_are at_is inside amid way below in
+    subst (λ (o : Option ℤ). IfSome o IsHeight) (sym (given way below ∙ q.2)) (if_some (height_at t q.0) IsHeight (λ h e. height_fits t q.0 h lawful e))

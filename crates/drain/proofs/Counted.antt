@@ -1,7 +1,6 @@
 -- Each data cell of a filled terrain has steps, fewer than the terrain has cells.
-use Rattle.std.proofs.Common.{◌≡◌, ℕ, zero, suc, ◌+◌, ◌<◌, ◌≤ℤ◌, true, ◌⊎◌, inl, inr, List, [], ◌∷◌, length, Option, None, Some, is_some, unwrap_or, ℤ, pos, sym, ap, subst, refl, ◌∙◌, arith}
-use Rattle.std.specs.Int.{int_max}
-use Rattle.std.proofs.lemmas.Int.{by_lt_z, ints, clamps}
+use Rattle.std.proofs.Common.{◌≡◌, ℕ, zero, suc, ◌+◌, ◌<◌, ◌≤ℤ◌, ◌⊎◌, inl, inr, List, [], ◌∷◌, length, Option, Some, unwrap_or, ℤ, pos, sym, ap, subst, refl, ◌∙◌, arith}
+use Rattle.std.proofs.lemmas.Int.{by_lt_z, ints}
 use Rattle.std.proofs.lemmas.Bool.{cases_eq, cases_lt}
 use Rattle.std.proofs.lemmas.Option.{MatchOption-at_some}
 use Rattle.ascii_grid.proofs.Places.{inside_from_entry}
@@ -10,38 +9,23 @@ use Rattle.ascii_grid.specs.Neighbours.{height_at, IsDataCell, height_of}
 use Rattle.drainage.specs.Filled.{IsPath, crest, IsFilled, IsFilledHeight}
 use Rattle.ascii_grid.specs.declared.place.Place.{Place}
 use Rattle.drain.specs.Steps.{IsFlatWalk, IsSteps}
+use Rattle.drainage.proofs.Heights.{known, max_right, height_below_crest, trans}
+use Rattle.drainage.proofs.Uniqueness.{between}
 use Rattle.drain.proofs.Nearby.{WalksIn, walks_in}
 
 pub height_is : (t : Terrain) (p : Place) → IsDataCell t p → height_at t p ≡ Some (height_of t p)
-height_is t p is = some_of (height_at t p) is
-  where
-    some_of : (o : Option ℤ) → is_some o ≡ true → o ≡ Some (unwrap_or o (pos 0))
-    some_of (Some x) h = refl
-    some_of None h = cc
-
-not_above_max : (x y : ℤ) → (x ≤ℤ int_max x y) × (y ≤ℤ int_max x y)
-not_above_max x y = (omega (arith, ints, clamps), omega (arith, ints, clamps))
-
-le_then : (x y z : ℤ) → x ≤ℤ y → y ≤ℤ z → x ≤ℤ z
-le_then x y z a b = omega (arith, ints)
-
-same_int : (x y : ℤ) → x ≤ℤ y → y ≤ℤ x → x ≡ y
-same_int x y a b = grind (arith, a, b)
-
-own_on_path : (t : Terrain) (p : Place) (rest : List Place) → height_of t p ≤ℤ crest t p rest
-own_on_path t p [] = omega (arith, ints)
-own_on_path t p (q ∷ rest) = (not_above_max (height_of t p) (crest t q rest)).0
+height_is t p is = known (height_at t p) is
 
 -- a path that doesn't rise begins with a walk over the flat
 walk_on : (t : Terrain) (rest : List Place) (p : Place) → IsPath t p rest → crest t p rest ≤ℤ height_of t p → (walk : List Place) × IsFlatWalk t p walk
 walk_on t [] p path low = ([], inr path)
 walk_on t (q ∷ rest) p path low =
-    let after : crest t q rest ≤ℤ height_of t p = le_then _ _ _ (not_above_max (height_of t p) (crest t q rest)).1 low in
+    let after : crest t q rest ≤ℤ height_of t p = trans _ _ _ (max_right (height_of t p) (crest t q rest)) low in
     by_lt_z {P = (walk : List Place) × IsFlatWalk t p walk} (height_of t q) (height_of t p)
     (λ lower. ([], inl (q, (path.0, lower))))
     (λ level.
-    let same : height_of t q ≡ height_of t p = same_int _ _ (le_then _ _ _ (own_on_path t q rest) after) level in
-    let walk = walk_on t rest q path.1 (le_then _ _ _ after level) in
+    let same : height_of t q ≡ height_of t p = between _ _ (trans _ _ _ (height_below_crest t q rest) after) level in
+    let walk = walk_on t rest q path.1 (trans _ _ _ after level) in
     (q ∷ walk.0, (path.0, height_is t q path.0.to_data ∙ ap Some same ∙ sym (height_is t p path.0.from_data), walk.1)))
 
 own_filled : (t : Terrain) (p : Place) → IsFilled t t.cells → IsDataCell t p → IsFilledHeight t p (height_of t p)

@@ -1,19 +1,14 @@
 -- Codes and steps together make a map of directions along which the pair of height and steps falls.
-use Rattle.std.proofs.Common.{◌≡◌, ℕ, ◌<◌, ◌≤◌, ◌⊎◌, inl, inr, List, Option, is_some, ℤ, sym, ap, subst, refl, ◌∙◌}
+use Rattle.std.proofs.Common.{◌≡◌, ℕ, ◌<◌, ◌≤◌, ◌⊎◌, inl, inr, List, Option, None, Some, MatchOption, is_some, ℤ, sym, ap, subst, refl, ◌∙◌}
 use Rattle.std.proofs.lemmas.Bool.{cases_lt}
 use Rattle.std.proofs.lemmas.Option.{MatchOption-at_some, MatchOption-at_none, same_Some, none-some}
 use Rattle.ascii_grid.proofs.Places.{entry-below, entry-beside, inside_from_entry}
-use Rattle.ascii_grid.specs.Raster.{Terrain, Raster, IsTerrain}
-use Rattle.ascii_grid.specs.Neighbours.{height_at, entry_at}
+use Rattle.ascii_grid.specs.Raster.{Terrain, Raster}
+use Rattle.ascii_grid.specs.Neighbours.{IsInside, height_at, entry_at}
 use Rattle.ascii_grid.specs.declared.place.Place.{Place}
-use Rattle.drain.specs.Steps.{AreSteps}
+use Rattle.drain.specs.Steps.{IsSteps, AreSteps}
 use Rattle.drain.specs.Directions.{IsDirection, AreDirections}
 use Rattle.drainage.specs.Drained.{IsDraining}
-use Rattle.tiles.specs.Cutting.{Cutting, Cuts, tile_of_place}
-use Rattle.drainage.specs.Filled.{IsFilled}
-use Rattle.drain.specs.Rounds.{AreSettled}
-use Rattle.drain.proofs.Quiet.{still_is_steps, in_own_tile, data_inside}
-use Rattle.drain.proofs.Tiles.{tile_below}
 use Rattle.drain.proofs.AroundLemmas.{cases_option}
 use Rattle.drain.proofs.Pointing.{direction_leads}
 
@@ -29,18 +24,21 @@ everywhere cols rows xs ys same p = elim (cases_lt p.row rows) [
   | inr past ↦ outside_same cols rows xs ys p (inl past)
 ]
 
+-- a list that has numbers exactly where a terrain has data
+same_where : (t : Terrain) (Is : Place → ℕ → Type 0) (xs : List (Option ℕ)) →
+    ((p : Place) → IsInside t p → MatchOption (height_at t p) (entry_at t.cols t.rows xs p ≡ None) (λ _. (n : ℕ) × (entry_at t.cols t.rows xs p ≡ Some n) × Is p n)) →
+    (p : Place) → is_some (entry_at t.cols t.rows xs p) ≡ is_some (height_at t p)
+same_where t Is xs each = everywhere t.cols t.rows xs t.cells (λ p row col. elim (cases_option (height_at t p)) [
+  | inl none ↦ ap is_some (MatchOption-at_none _ _ none (each p (row, col))) ∙ sym (ap is_some none)
+  | inr some ↦ ap is_some (MatchOption-at_some _ _ some.0 some.1 (each p (row, col))).1 ∙ sym (ap is_some some.1)
+])
+
 pub are_draining : (t : Terrain) (steps codes : List (Option ℕ)) → AreSteps t steps → AreDirections t codes → IsDraining (record { terrain = t; steps = steps; codes = codes })
 are_draining t steps codes are all = record {
   codes_size = all.size;
   steps_size = are.size;
-  same_data = everywhere t.cols t.rows codes t.cells (λ p row col. elim (cases_option (height_at t p)) [
-    | inl none ↦ ap is_some (MatchOption-at_none _ _ none (all.each p (row, col))) ∙ sym (ap is_some none)
-    | inr some ↦ ap is_some (MatchOption-at_some _ _ some.0 some.1 (all.each p (row, col))).1 ∙ sym (ap is_some some.1)
-  ]);
-  same_steps = everywhere t.cols t.rows steps t.cells (λ p row col. elim (cases_option (height_at t p)) [
-    | inl none ↦ ap is_some (MatchOption-at_none _ _ none (are.each p (row, col))) ∙ sym (ap is_some none)
-    | inr some ↦ ap is_some (MatchOption-at_some _ _ some.0 some.1 (are.each p (row, col))).1 ∙ sym (ap is_some some.1)
-  ]);
+  same_data = same_where t (IsDirection t) codes all.each;
+  same_steps = same_where t (IsSteps t) steps are.each;
   leads = λ p code e some.
       let inside = inside_from_entry t.cols t.rows codes p code e in
       elim (cases_option (height_at t p)) [
@@ -51,16 +49,6 @@ are_draining t steps codes are all = record {
             direction_leads t steps codes p code are (subst (λ n. IsDirection t p n) (sym same) at.2) some)
       ];
 }
-
--- where nothing is left to change, the counts are the steps
-pub settled_is_steps : (c : Cutting) (t : Terrain) (steps : List (Option ℕ)) → Cuts c t → IsTerrain t → IsFilled t t.cells → AreSettled c t steps → AreSteps t steps
-settled_is_steps c t steps cuts lawful filled settled =
-    still_is_steps t steps settled.counting.zeros (record {
-      walked = settled.counting.walked;
-      near = λ p q m next level e less.
-          let inside = in_own_tile t c p cuts (data_inside t p next.from_data) in
-          (settled.still (tile_of_place c p) (tile_below c p settled.cutting inside.0)).near p q m inside next level e less;
-    }) lawful filled settled.counting.size
 
 make_terrain : ℕ → ℕ → List (Option ℤ) → Terrain
 make_terrain cols rows cells = record { cols = cols; rows = rows; cells = cells }

@@ -5,7 +5,7 @@ use Rattle.ascii_grid.proofs.Places.{inside_from_entry, index_below, index_injec
 use Rattle.ascii_grid.specs.Raster.{Terrain, IsTerrain}
 use Rattle.ascii_grid.specs.Neighbours.{index_of, IsDataCell, height_of}
 use Rattle.ascii_grid.specs.declared.place.Place.{Place}
-use Rattle.drain.specs.Steps.{IsFlatWalk, IsSteps}
+use Rattle.drain.specs.Steps.{DrainsAtOnce, IsLevelWalk, IsFlatWalk, IsSteps}
 use Rattle.drain.proofs.Local.{one_number_of_steps}
 use Rattle.drainage.proofs.Pigeonhole.{pigeonhole}
 use Rattle.drain.proofs.Counted.{height_is}
@@ -16,10 +16,17 @@ cell_on p rest zero = p
 cell_on p [] (suc i) = p
 cell_on p (q ∷ rest) (suc i) = cell_on q rest i
 
+-- a walk whose ends have data begins where there is data
+pub data_on_level_walk : (IsEnd : Place → Type 0) (t : Terrain) → ((p : Place) → IsEnd p → IsDataCell t p) → (p : Place) (rest : List Place) → IsLevelWalk IsEnd t p rest → IsDataCell t p
+data_on_level_walk IsEnd t end_data p [] w = end_data p w
+data_on_level_walk IsEnd t end_data p (q ∷ rest) w = w.0.from_data
+
+pub drains_data : (t : Terrain) (p : Place) → DrainsAtOnce t p → IsDataCell t p
+drains_data t p (inl lower) = lower.1.0.from_data
+drains_data t p (inr edge) = edge.0
+
 pub data_on_walk : (t : Terrain) (p : Place) (rest : List Place) → IsFlatWalk t p rest → IsDataCell t p
-data_on_walk t p [] (inl lower) = lower.1.0.from_data
-data_on_walk t p [] (inr edge) = edge.0
-data_on_walk t p (q ∷ rest) w = w.0.from_data
+data_on_walk t = data_on_level_walk (DrainsAtOnce t) t (drains_data t)
 
 -- what follows the first move of a shortest walk is a shortest walk
 rest_is_shortest : (t : Terrain) (p q : Place) (rest : List Place) → IsFlatWalk t p (q ∷ rest) → IsSteps t p (suc (length rest)) → IsSteps t q (length rest)

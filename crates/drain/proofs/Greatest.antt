@@ -1,23 +1,15 @@
 -- The greatest of a list of numbers, and where it first stands.
-use Rattle.std.proofs.Common.{◌≡◌, ℕ, zero, suc, ◌+◌, ◌<◌, ◌≤◌, max, Bool, true, false, eqb, List, [], ◌∷◌, length, get_or, fold, Some, ◌⊎◌, inl, inr, sym, ap, subst, refl, ◌∙◌, arith}
+use Rattle.std.proofs.Common.{◌≡◌, ℕ, zero, suc, ◌+◌, ◌<◌, ◌≤◌, max, Bool, true, false, eqb, List, [], ◌∷◌, length, get_or, fold, Some, inl, inr, sym, ap, subst, refl, ◌∙◌, arith}
 use Rattle.std.proofs.lemmas.Bool.{cases_eq, cases_lt, false≢true, eq-eqb, ne_eqb, lt-ltb, cond-true, or_from}
 use Rattle.std.specs.List.{position, position_or_len, list_any}
 use Rattle.std.proofs.lemmas.List.Sums.{position_or_len_is, fails_before_first}
 
-pub fold-max_is : (xs : List ℕ) (a m : ℕ) → a ≤ m → ((k : ℕ) → k < length xs → get_or xs k 0 ≤ m)
-    → ((a ≡ m) ⊎ ((k : ℕ) × (k < length xs) × (get_or xs k 0 ≡ m))) → fold max a xs ≡ m
-fold-max_is [] a m le all (inl e) = e
-fold-max_is [] a m le all (inr h) = absurd (omega (arith, h.1))
-fold-max_is (x ∷ xs) a m le all (inl e) =
+-- no greater than a bound of all
+fold-max_least : (xs : List ℕ) (a m : ℕ) → a ≤ m → ((k : ℕ) → k < length xs → get_or xs k 0 ≤ m) → fold max a xs ≤ m
+fold-max_least [] a m le all = le
+fold-max_least (x ∷ xs) a m le all =
     let x_le : x ≤ m = all 0 (omega arith) in
-    fold-max_is xs (max a x) m (omega arith) (λ k h. all (suc k) (omega arith)) (inl (omega arith))
-fold-max_is (x ∷ xs) a m le all (inr (k, h, e)) =
-    let x_le : x ≤ m = all 0 (omega arith) in
-    fold-max_is xs (max a x) m (omega arith) (λ k h. all (suc k) (omega arith)) (rest k h e)
-  where
-    rest : (k : ℕ) → k < length (x ∷ xs) → get_or (x ∷ xs) k 0 ≡ m → (max a x ≡ m) ⊎ ((j : ℕ) × (j < length xs) × (get_or xs j 0 ≡ m))
-    rest zero h e = let x_le : x ≤ m = all 0 (omega arith) in let is : x ≡ m = e in inl (omega arith)
-    rest (suc j) h e = inr (j, omega arith, e)
+    fold-max_least xs (max a x) m (omega arith) (λ k h. all (suc k) (omega arith))
 
 -- the first place that passes
 pub position_is : {X : Type 0} (p : X → Bool) (xs : List X) (i : ℕ) (d : X) → i < length xs → ((k : ℕ) → k < i → p (get_or xs k d) ≡ false) → p (get_or xs i d) ≡ true → position p xs ≡ Some i
@@ -56,17 +48,6 @@ keeps_greatest xs seen greatest place x f is less = record {
   before = f.before;
 }
 
-pub is_fold : (xs : List ℕ) (greatest place : ℕ) → IsFirstGreatest xs (length xs) greatest place → fold max 0 xs ≡ greatest
-is_fold xs greatest place f =
-    fold-max_is xs 0 greatest (omega arith) f.bound
-    (elim (cases_eq 0 greatest) [ inl e ↦ inl e | inr ne ↦ (let some : 0 < greatest = omega arith in inr (place, f.within some, f.at some)) ])
-
-pub is_position : (xs : List ℕ) (greatest place : ℕ) → IsFirstGreatest xs (length xs) greatest place → 0 < greatest → position (λ w. eqb w greatest) xs ≡ Some place
-is_position xs greatest place f some =
-    position_is (λ w. eqb w greatest) xs place 0 (f.within some)
-    (λ k h. ne_eqb _ _ (λ e. (let lt : get_or xs k 0 < greatest = f.before k some h in absurd (omega arith))))
-    (eq-eqb _ _ (f.at some))
-
 pub le-fold_max : (xs : List ℕ) (a k : ℕ) → (a ≤ fold max a xs) × (k < length xs → get_or xs k 0 ≤ fold max a xs)
 le-fold_max [] a k = (omega arith, λ h. absurd (omega arith))
 le-fold_max (x ∷ xs) a zero =
@@ -77,6 +58,20 @@ le-fold_max (x ∷ xs) a (suc k) =
     let rest = le-fold_max xs (max a x) k in
     let low : max a x ≤ fold max (max a x) xs = rest.0 in
     (omega arith, λ h. rest.1 (omega arith))
+
+pub is_fold : (xs : List ℕ) (greatest place : ℕ) → IsFirstGreatest xs (length xs) greatest place → fold max 0 xs ≡ greatest
+is_fold xs greatest place f =
+    let most : fold max 0 xs ≤ greatest = fold-max_least xs 0 greatest (omega arith) f.bound in
+    elim (cases_eq 0 greatest) [
+      | inl e ↦ omega arith
+      | inr ne ↦ (let some : 0 < greatest = omega arith in omega (arith, f.at some, (le-fold_max xs 0 place).1 (f.within some)))
+    ]
+
+pub is_position : (xs : List ℕ) (greatest place : ℕ) → IsFirstGreatest xs (length xs) greatest place → 0 < greatest → position (λ w. eqb w greatest) xs ≡ Some place
+is_position xs greatest place f some =
+    position_is (λ w. eqb w greatest) xs place 0 (f.within some)
+    (λ k h. ne_eqb _ _ (λ e. (let lt : get_or xs k 0 < greatest = f.before k some h in absurd (omega arith))))
+    (eq-eqb _ _ (f.at some))
 
 -- no element passes
 pub none_passes : {X : Type 0} (p : X → Bool) (xs : List X) (d : X) → ((k : ℕ) → k < length xs → p (get_or xs k d) ≡ false) → list_any p xs ≡ false

@@ -24,13 +24,9 @@ use Rattle.drain.proofs.Greatest.{le-fold_max, greatest_of, is_fold, is_position
 use Rattle.drain.proofs.Local.{one_number_of_steps}
 use Rattle.drain.proofs.Nearby.{drains_at_once}
 use Rattle.drain.proofs.Pointing.{way_toward, codes_rise, next_on_way}
-use Rattle.drain.proofs.Quiet.{if_some}
+use Rattle.drain.proofs.Quiet.{if_some, ended}
 use Rattle.drain.proofs.Ways.{along, way_to, toward-code}
 use Rattle.drain.proofs.Weights.{length-weights, get_or-weights, drop_from_weight, direction_down}
-
-drained : (t : Terrain) (p : Place) (rest : List Place) → IsFlatWalk t p rest → length rest ≡ 0 → DrainsAtOnce t p
-drained t p [] walk none = walk
-drained t p (q ∷ rest) walk none = absurd (omega (arith, none))
 
 module _ (t : Terrain) (steps : List (Option ℕ)) (p : Place) (a : Around) (are : AreSteps t steps) (laid : IsLaidAround t steps p a) where
   here : height_of t p ≡ a.level
@@ -44,7 +40,7 @@ module _ (t : Terrain) (steps : List (Option ℕ)) (p : Place) (a : Around) (are
 
   -- a cell without steps drains at once, and no other does
   pub without_steps : a.steps ≡ 0 → DrainsAtOnce t p
-  without_steps none = drained t p own.reached.0 own.reached.1 (own.reached.2 ∙ none)
+  without_steps none = ended (DrainsAtOnce t) t p own.reached.0 own.reached.1 (own.reached.2 ∙ none)
 
   pub with_steps : 0 < a.steps → DrainsAtOnce t p → ⊥
   with_steps some drains = let least : a.steps ≤ length {A = Place} [] = own.least [] drains in omega (arith, some)

@@ -2,11 +2,12 @@
 mod Rows
 -- steps: one number for each cell, reached where nothing changes
 pub mod Local
-pub mod Tiles
 pub mod Quiet
 pub mod Few
 pub mod Nearby
 pub mod Counted
+-- lists of the entries of a tile
+pub mod TileLists
 -- a round over a tile
 pub mod Spreading
 pub mod Noted
@@ -14,7 +15,6 @@ pub mod Least
 pub mod Spots
 pub mod TileRound
 -- rounds over all tiles
-pub mod TileLists
 pub mod RoundLemmas
 pub mod Touching
 pub mod Entered

@@ -2,9 +2,10 @@
 use Rattle.std.proofs.Common.{◌≡◌, ◌≢◌, ℕ, ◌+◌, ◌<◌, ◌≤◌, inl, inr, List, [], ◌∷◌, ◌++◌, length, get_or, set, Option, Some, ℤ, sym, ap, subst, refl, ◌∙◌, arith}
 use Rattle.std.specs.Prelude.{slice_get}
 use Rattle.std.proofs.lemmas.Bool.{cases_eq}
-use Rattle.std.proofs.lemmas.List.{get_or_append_left, get_or_push, length_push, get_or-set_same, get_or-set_other}
+use Rattle.std.proofs.lemmas.List.{length_push, get_or-set_same, get_or-set_other}
 use Rattle.std.proofs.lemmas.Nat.{mul-add-lt}
-use Rattle.std.proofs.lemmas.Option.{slice_get-get_or, slice_get_within, same_Some}
+use Rattle.std.proofs.lemmas.Option.{slice_get_within, same_Some}
+use Rattle.tiles.proofs.SliceGet.{slice_get-append_left, slice_get-append_right}
 use Rattle.ascii_grid.proofs.Places.{cases_place, index_injective}
 use Rattle.ascii_grid.specs.Neighbours.{Touches}
 use Rattle.ascii_grid.specs.declared.place.Place.{Place}
@@ -28,13 +29,6 @@ noted_then b old mid new xs ys zs f g = record {
   ];
 }
 
-push_keeps : (xs : List Place) (s : Place) (k : ℕ) → k < length xs → slice_get (xs ++ s ∷ []) k ≡ slice_get xs k
-push_keeps xs s k below =
-    slice_get-get_or (xs ++ s ∷ []) k s (omega (arith, length_push xs s)) ∙ ap Some (get_or_append_left xs (s ∷ []) s k below) ∙ sym (slice_get-get_or xs k s below)
-
-push_adds : (xs : List Place) (s : Place) → slice_get (xs ++ s ∷ []) (length xs) ≡ Some s
-push_adds xs s = slice_get-get_or (xs ++ s ∷ []) (length xs) s (omega (arith, length_push xs s)) ∙ ap Some (get_or_push xs s s (length xs) refl)
-
 -- a count that no other spot has is kept where one is set
 other_kept : (b : Bounds) (counts : List ℕ) (s r : Place) (i n : ℕ) → i ≡ spot_index b s → IsSpot b s → IsSpot b r → r ≢ s → count_on b (set counts i n) r ≡ count_on b counts r
 other_kept b counts s r i n e spot other ne =
@@ -45,9 +39,9 @@ other_kept b counts s r i n e spot other ne =
 pub noted_set : (b : Bounds) (counts : List ℕ) (s : Place) (i n : ℕ) (xs : List Place) → i ≡ spot_index b s → IsSpot b s → AreNoted b counts (set counts i n) xs (xs ++ s ∷ [])
 noted_set b counts s i n xs e spot = record {
   longer = omega (arith, length_push xs s);
-  kept = λ k below. push_keeps xs s k below;
+  kept = λ k below. slice_get-append_left xs (s ∷ []) k below;
   each = λ r inner. elim (cases_place r s) [
-    | inl one ↦ inr (length xs, omega arith, push_adds xs s ∙ ap Some (sym one))
+    | inl one ↦ inr (length xs, omega arith, slice_get-append_right xs (s ∷ []) (length xs) 0 (omega arith) ∙ ap Some (sym one))
     | inr ne ↦ inl (other_kept b counts s r i n e spot (spot_from_inner b r inner) ne)
   ];
 }

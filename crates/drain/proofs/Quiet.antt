@@ -1,5 +1,5 @@
 -- Where a round over all tiles changes nothing, the counts are the steps.
-use Rattle.std.proofs.Common.{◌≡◌, ℕ, ◌+◌, ◌-◌, ◌*◌, ◌^◌, ◌<◌, ◌≤◌, List, [], ◌∷◌, length, Option, None, Some, is_some, true, IfSome, MatchOption, ℤ, sym, ap, subst, refl, ◌∙◌, arith}
+use Rattle.std.proofs.Common.{◌≡◌, ℕ, ◌*◌, ◌^◌, ◌<◌, ◌≤◌, List, [], ◌∷◌, length, Option, None, Some, is_some, true, IfSome, MatchOption, ℤ, sym, ap, subst, refl, ◌∙◌, arith}
 use Rattle.std.proofs.lemmas.Bool.{false≢true}
 use Rattle.std.proofs.lemmas.Option.{MatchOption-at_some}
 use Rattle.ascii_grid.proofs.Places.{inside_from_entry}
@@ -7,12 +7,14 @@ use Rattle.ascii_grid.specs.Raster.{Terrain, IsTerrain}
 use Rattle.ascii_grid.specs.Neighbours.{height_at, entry_at, IsDataCell, IsNeighbour, height_of}
 use Rattle.drainage.specs.Filled.{IsFilled}
 use Rattle.ascii_grid.specs.declared.place.Place.{Place}
-use Rattle.tiles.specs.Cutting.{Cutting, Cuts, IsCutting, tile_of_place, IsInTile}
-use Rattle.drain.specs.Steps.{IsFlatWalk, IsSteps, AreSteps}
-use Rattle.drain.specs.Rounds.{IsWalked, AreWalked, HasZeros, IsQuiet}
+use Rattle.tiles.specs.Cutting.{Cutting, Cuts, IsCutting, tile_of_place, IsInTile, tile_entry}
+use Rattle.drain.specs.Beginning.{HasZeros, AreBegun}
+use Rattle.drain.specs.Laws.{IsQuiet}
+use Rattle.drain.specs.Steps.{DrainsAtOnce, IsLevelWalk, IsFlatWalk, IsSteps, AreSteps}
+use Rattle.drain.specs.Rounds.{IsLent, IsWalked, AreWalked, IsOneAbove, IsRound, AreCounting, AreSettled}
 use Rattle.drain.proofs.Counted.{has_steps, height_is}
-use Rattle.drain.proofs.Few.{steps_are_few, data_on_walk}
-use Rattle.drain.proofs.Tiles.{tile_below}
+use Rattle.drain.proofs.Few.{steps_are_few, drains_data, data_on_walk}
+use Rattle.tiles.proofs.Cut.{tile_of_place_below}
 
 pub if_some : {X : Type 0} (o : Option X) (P : X → Type 0) → ((x : X) → o ≡ Some x → P x) → IfSome o P
 if_some None P h = tt
@@ -25,24 +27,36 @@ pub match_from : {X : Type 0} {P : Type 0} {Q : X → Type 0} (o : Option X) →
 match_from None p q = p refl
 match_from (Some x) p q = q x refl
 
--- no round would change a count: each is of a walk, and at most one above its neighbours' on the flat
-pub record IsStill (t : Terrain) (steps : List (Option ℕ)) : Type 0 where
-  pub walked : AreWalked t steps
-  pub near : (p q : Place) (m : ℕ) → IsNeighbour t p q → height_at t q ≡ height_at t p →
-      entry_at t.cols t.rows steps q ≡ Some m → m < 2 ^ 24 - 1 → (n : ℕ) × (entry_at t.cols t.rows steps p ≡ Some n) × (n ≤ m + 1)
+-- a walk of no moves ends where it begins
+pub ended : (IsEnd : Place → Type 0) (t : Terrain) (p : Place) (rest : List Place) → IsLevelWalk IsEnd t p rest → length rest ≡ 0 → IsEnd p
+ended IsEnd t p [] walk none = walk
+ended IsEnd t p (q ∷ rest) walk none = absurd (omega (arith, none))
 
-module _ (t : Terrain) (steps : List (Option ℕ)) (zeros : HasZeros t steps) (still : IsStill t steps) where
+walk_to : (A B : Place → Type 0) (t : Terrain) → ((p : Place) → A p → B p) → (p : Place) (rest : List Place) → IsLevelWalk A t p rest → IsLevelWalk B t p rest
+walk_to A B t to p [] walk = to p walk
+walk_to A B t to p (q ∷ rest) walk = (walk.0, walk.1, walk_to A B t to q rest walk.2)
+
+-- walks to ends that are ends of another kind too
+pub walked_to : (A B : Place → Type 0) (t : Terrain) → ((p : Place) → A p → B p) → (p : Place) (n : ℕ) → IsWalked A t p n → IsWalked B t p n
+walked_to A B t to p n w = (w.0, w.1, walk_to A B t to p w.1 w.2, w.3)
+
+pub are_walked_to : (A B : Place → Type 0) (t : Terrain) (steps : List (Option ℕ)) → ((p : Place) → A p → B p) → AreWalked A t steps → AreWalked B t steps
+are_walked_to A B t steps to walked p = if_some (entry_at t.cols t.rows steps p) (IsWalked B t p) (λ n e. walked_to A B t to p n (MatchOption-at_some _ _ n e (walked p)))
+
+-- where each count is of a walk and at most one above its neighbours' on the flat, the counts are the steps
+module _ (t : Terrain) (steps : List (Option ℕ)) (zeros : HasZeros t steps) (all_walked : AreWalked (DrainsAtOnce t) t steps)
+    (near : (p q : Place) → IsNeighbour t p q → height_at t q ≡ height_at t p → IsOneAbove (entry_at t.cols t.rows steps p) (entry_at t.cols t.rows steps q)) where
   -- a walk bounds the count of its first cell
   counted : (rest : List Place) (p : Place) → IsFlatWalk t p rest → length rest < 2 ^ 24 → (n : ℕ) × (entry_at t.cols t.rows steps p ≡ Some n) × (n ≤ length rest)
   counted [] p w few = (0, zeros p w, omega arith)
   counted (q ∷ rest) p w few =
       let next = counted rest q w.2 (omega arith) in
-      let near = still.near p q next.0 w.0 w.1 next.1 (omega (arith, next.2)) in
-      (near.0, near.1, omega (arith, near.2, next.2))
+      let here = near p q w.0 w.1 next.0 next.1 (omega (arith, next.2)) in
+      (here.0, here.1, omega (arith, here.2, next.2))
 
   -- a count is of a real walk
-  walked : (p : Place) (n : ℕ) → entry_at t.cols t.rows steps p ≡ Some n → IsWalked t p n
-  walked p n e = MatchOption-at_some _ _ n e (still.walked p)
+  walked : (p : Place) (n : ℕ) → entry_at t.cols t.rows steps p ≡ Some n → IsWalked (DrainsAtOnce t) t p n
+  walked p n e = MatchOption-at_some _ _ n e (all_walked p)
 
   data_counts : IsTerrain t → IsFilled t t.cells → (p : Place) → IsDataCell t p → (n : ℕ) × (entry_at t.cols t.rows steps p ≡ Some n) × IsSteps t p n
   data_counts lawful filled p is =
@@ -77,15 +91,52 @@ in_own_tile t c p cuts inside = ((omega (arith, inside.0, cuts.1), omega (arith,
 pub data_inside : (t : Terrain) (p : Place) → IsDataCell t p → (p.row < t.rows) × (p.col < t.cols)
 data_inside t p is = inside_from_entry t.cols t.rows t.cells p (height_of t p) (height_is t p is)
 
+-- the cells that are lent 0 to begin with are those that drain at once
+pub begun_lent : (t : Terrain) (counts : List (Option ℕ)) → AreBegun t counts → (p : Place) → DrainsAtOnce t p → IsLent t counts p
+begun_lent t counts begun p drains = let is = drains_data t p drains in (is, (begun.each p (data_inside t p is)).zero drains)
+
+lent_drains : (t : Terrain) (counts : List (Option ℕ)) → AreBegun t counts → (p : Place) → IsLent t counts p → DrainsAtOnce t p
+lent_drains t counts begun p lent = ((begun.each p (data_inside t p lent.0)).only 0 lent.1).0
+
+-- each count to begin with is 0, of a walk of no moves
+pub begun_walked : (IsEnd : Place → Type 0) (t : Terrain) (counts : List (Option ℕ)) → AreBegun t counts → ((p : Place) → DrainsAtOnce t p → IsEnd p) → AreWalked IsEnd t counts
+begun_walked IsEnd t counts begun to p = if_some (entry_at t.cols t.rows counts p) (IsWalked IsEnd t p) (λ n e.
+    let at = (begun.each p (inside_from_entry t.cols t.rows counts p n e)).only n e in
+    (omega (arith, at.1), [], to p at.0, sym at.1))
+
+pub begun_counting : (t : Terrain) (counts : List (Option ℕ)) → AreBegun t counts → AreCounting t counts
+begun_counting t counts begun = record { size = begun.size; walked = begun_walked (IsLent t counts) t counts begun (begun_lent t counts begun) }
+
+-- a round that goes to ends goes to what those are besides
+pub round_to : (A B : Place → Type 0) (t : Terrain) (c : Cutting) (tile : ℕ) (old new : List (Option ℕ)) → ((p : Place) → A p → B p) → IsRound A t c tile old new → IsRound B t c tile old new
+round_to A B t c tile old new to round = record {
+  size = round.size;
+  walked = λ p i. if_some (tile_entry c tile new p) (IsWalked B t p) (λ n e. walked_to A B t to p n (MatchOption-at_some _ _ n e (round.walked p i)));
+  near = round.near;
+  within = round.within;
+  kept = round.kept;
+}
+
 pub counts_are_steps : (t : Terrain) (c : Cutting) (steps : List (Option ℕ)) (lists : ℕ → List (Option ℕ)) → Cuts c t → IsCutting c → HasZeros t steps → IsQuiet t c steps lists →
     IsTerrain t → IsFilled t t.cells → length steps ≡ t.cols * t.rows → AreSteps t steps
 counts_are_steps t c steps lists cuts cutting zeros quiet lawful filled size =
-    still_is_steps t steps zeros (record {
-      walked = λ p. if_some (entry_at t.cols t.rows steps p) (IsWalked t p) (λ n e.
-          let here = in_own_tile t c p cuts (inside_from_entry t.cols t.rows steps p n e) in
-          MatchOption-at_some _ _ n (quiet.same (tile_of_place c p) p here ∙ e) ((quiet.rounds (tile_of_place c p) (tile_below c p cutting here.0)).walked p here));
-      near = λ p q m next level e less.
-          let here = in_own_tile t c p cuts (data_inside t p next.from_data) in
-          let near = (quiet.rounds (tile_of_place c p) (tile_below c p cutting here.0)).near p q m here next level e less in
-          (near.0, sym (quiet.same (tile_of_place c p) p here) ∙ near.1, near.2);
-    }) lawful filled size
+    still_is_steps t steps zeros
+    (λ p. if_some (entry_at t.cols t.rows steps p) (IsWalked (DrainsAtOnce t) t p) (λ n e.
+    let here = in_own_tile t c p cuts (inside_from_entry t.cols t.rows steps p n e) in
+    MatchOption-at_some _ _ n (quiet.same (tile_of_place c p) p here ∙ e) ((quiet.rounds (tile_of_place c p) (tile_of_place_below c p cutting here.0)).walked p here)))
+    (λ p q next level m e less.
+    let here = in_own_tile t c p cuts (data_inside t p next.from_data) in
+    let near = (quiet.rounds (tile_of_place c p) (tile_of_place_below c p cutting here.0)).near p q here next level m e less in
+    (near.0, sym (quiet.same (tile_of_place c p) p here) ∙ near.1, near.2))
+    lawful filled size
+
+-- what is settled of counts that begin with 0 where a cell drains at once, and nowhere else
+pub settled_is_steps : (c : Cutting) (t : Terrain) (begun steps : List (Option ℕ)) → Cuts c t → IsTerrain t → IsFilled t t.cells → AreBegun t begun → AreSettled c t begun steps → AreSteps t steps
+settled_is_steps c t begun steps cuts lawful filled first settled =
+    still_is_steps t steps
+    (λ p drains. ((settled.same_lent p).0 (begun_lent t begun first p drains)).1)
+    (are_walked_to (IsLent t steps) (DrainsAtOnce t) t steps (λ p lent. lent_drains t begun first p ((settled.same_lent p).1 lent)) settled.counting.walked)
+    (λ p q next level.
+    let inside = in_own_tile t c p cuts (data_inside t p next.from_data) in
+    (settled.still (tile_of_place c p) (tile_of_place_below c p settled.cutting inside.0)).near p q inside next level)
+    lawful filled settled.counting.size

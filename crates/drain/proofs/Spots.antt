@@ -9,7 +9,9 @@ use Rattle.ascii_grid.specs.Neighbours.{entry_at, index_of}
 use Rattle.ascii_grid.specs.declared.place.Place.{Place}
 use Rattle.tiles.specs.declared.bounds.Bounds.{Bounds}
 use Rattle.tiles.specs.Cutting.{Cutting, View, AreBounds, bounds_of, is_within, is_shown, cell_shown, row_shown}
-use Rattle.drain.specs.Window.{IsInner, inner_index, known, count_on, AreKnownBelow, spot_index, area_of, IsSpot, Shows, IsShown, AreShownBelow, AreShown}
+use Rattle.drain.specs.Window.{IsInner, IsHandedOut, known, count_on, spot_index, area_of, IsSpot, Shows, IsShown, AreShownBelow, AreShown}
+use Rattle.drain.specs.TileLists.{AreMadeBelow}
+use Rattle.drain.proofs.TileLists.{made_next}
 use Rattle.tiles.proofs.TileRows.{row_has}
 
 -- what stands in an option, if it is one
@@ -133,24 +135,10 @@ shown_whole {X = X} cols rows entries b c end shown same whole f = (
   subst (λ (z : Bounds). AreShown {X = X} cols rows entries z shown) same (shown_all cols rows entries b end shown (omega (arith, whole)) f),
 )
 
--- two spots of the tile that stand at one place of its row order are one
-inner_injective : (b : Bounds) (s r : Place) → IsInner b s → IsInner b r → inner_index b s ≡ inner_index b r → s ≡ r
-inner_injective b s r i j e =
-    let one = index_injective b.cols (make_place (s.row - 1) (s.col - 1)) (make_place (r.row - 1) (r.col - 1)) (omega (arith, i.first_col, i.last_col)) (omega (arith, j.first_col, j.last_col)) e in
-    let row : s.row - 1 ≡ r.row - 1 = ap (λ (p : Place). p.row) one in
-    let col : s.col - 1 ≡ r.col - 1 = ap (λ (p : Place). p.col) one in
-    same_place s r (omega (arith, i.first_row, j.first_row)) (omega (arith, i.first_col, j.first_col))
-
 -- one count more
-pub known_push : (b : Bounds) (counts : List ℕ) (s : Place) (list : List (Option ℕ)) (x : Option ℕ) → IsInner b s →
-    AreKnownBelow b counts (inner_index b s) list → x ≡ known (count_on b counts s) → AreKnownBelow b counts (inner_index b s + 1) (list ++ x ∷ [])
-known_push b counts s list x inner before here = record {
-  size = length_push list x ∙ ap (λ n. n + 1) before.size;
-  each = λ r inside below. elim (cases_eq (inner_index b r) (inner_index b s)) [
-    | inl e ↦ (let one : s ≡ r = inner_injective b s r inner inside (sym e) in
-        subst (λ (q : Place). get_or (list ++ x ∷ []) (inner_index b q) None ≡ known (count_on b counts q)) one
-        (get_or_push list x None (inner_index b s) before.size ∙ here))
-    | inr ne ↦ (let lower : inner_index b r < inner_index b s = omega arith in
-        get_or_append_left list (x ∷ []) None (inner_index b r) (omega (arith, before.size)) ∙ before.each r inside lower)
-  ];
-}
+pub handed_next : (b : Bounds) (counts : List ℕ) (row col : ℕ) (list : List (Option ℕ)) (x : Option ℕ) → row < b.rows → col < b.cols →
+    AreMadeBelow b (IsHandedOut b counts) (row * b.cols + col) list → x ≡ known (count_on b counts (make_place (row + 1) (col + 1))) →
+    AreMadeBelow b (IsHandedOut b counts) (row * b.cols + (col + 1)) (list ++ x ∷ [])
+handed_next b counts row col list x below beside before is =
+    made_next b (IsHandedOut b counts) row col list x below beside before
+    (λ s shows. is ∙ ap (λ (r : Place). known (count_on b counts r)) (sym (same_place s (make_place (row + 1) (col + 1)) (omega (arith, shows.0)) (omega (arith, shows.1)))))

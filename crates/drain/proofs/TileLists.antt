@@ -1,6 +1,7 @@
 -- Lists of a tile's entries, one entry more at a time, and put back.
 use Rattle.std.proofs.Common.{◌≡◌, ℕ, ◌+◌, ◌-◌, ◌*◌, ◌<◌, inl, inr, List, ◌∷◌, ◌++◌, [], length, get_or, Option, None, Some, Vec, Global, sym, ap, subst, refl, ◌∙◌, arith}
-use Rattle.std.specs.Prelude.{slice_get, Result, Ok, Err, IfOk}
+use Rattle.std.specs.Prelude.{slice_get, vec_len, Result, Ok, Err, IfOk}
+use Rattle.tile_jobs.specs.Answers.{AllGiven}
 use Rattle.std.proofs.lemmas.Bool.{cases_eq}
 use Rattle.std.proofs.lemmas.List.{get_or_append_left, get_or_push, length_push}
 use Rattle.std.proofs.lemmas.Nat.{mul-add-lt}
@@ -67,12 +68,12 @@ made_tile {X} c tile b Makes list lawful e made = record {
 }
 
 -- the lists that the jobs gave
-pub tiles_made : {X : Type 0} (c : Cutting) (Makes : Place → Option X → Type 0) (lists : List (Vec (Option X) Global)) → length lists ≡ tile_count c →
-    ((tile : ℕ) (d : Vec (Option X) Global) → tile < tile_count c → IsMadeTile c tile Makes (get_or lists tile d).items) → AreMadeTiles c Makes lists
-tiles_made {X} c Makes lists count given = record {
-  count = count;
-  each = λ tile list e. subst (λ (v : Vec (Option X) Global). IsMadeTile c tile Makes v.items) (get_or_from_slice_get lists tile list list e)
-      (given tile list (omega (arith, count, slice_get_within lists tile list e)));
+pub tiles_made : {X : Type 0} (c : Cutting) (Makes : Place → Option X → Type 0) (n : ℕ) (lists : Vec (Vec (Option X) Global) Global) → vec_len lists ≡ n → n ≡ tile_count c →
+    AllGiven (λ tile (list : Vec (Option X) Global). IsMadeTile c tile Makes list.items) n lists.items → AreMadeTiles c Makes lists.items
+tiles_made {X} c Makes n lists count all given = record {
+  count = omega (arith, lists.ok.0, count, all);
+  each = λ tile list e. subst (λ (v : Vec (Option X) Global). IsMadeTile c tile Makes v.items) (get_or_from_slice_get lists.items tile list list e)
+      (given tile list (omega (arith, lists.ok.0, count, slice_get_within lists.items tile list e)));
 }
 
 pub lists_of_tiles : {X : Type 0} (c : Cutting) (Makes : Place → Option X → Type 0) (lists : List (Vec (Option X) Global)) → AreMadeTiles c Makes lists → AreTileLists c lists
@@ -94,8 +95,13 @@ put_back_each {X} c Makes lists whole lawful made put p within =
     subst (λ (o : Option X). Makes p o) (sym (entry_at-put_back c lists whole tile list.0 p put inside list.1)) ((made.each tile list.0 list.1).each p inside)
 
 -- a tile's bounds lie in a terrain of the cutting's size
-pub part_of : (t : Terrain) (c : Cutting) (b : Bounds) → Cuts c t → AreBounds c b → IsPartOf t b
-part_of t c b cuts fits = record { rows = omega (arith, cuts.1, fits.rows_inside); cols = omega (arith, cuts.0, fits.cols_inside) }
+pub part_of : (t : Terrain) (c : Cutting) (b : Bounds) → IsCutting c → Cuts c t → AreBounds c b → IsPartOf t b
+part_of t c b lawful cuts fits = record {
+  few_rows = omega (arith, lawful.few_rows, cuts.1);
+  few_cols = omega (arith, lawful.few_cols, cuts.0);
+  rows = omega (arith, cuts.1, fits.rows_inside);
+  cols = omega (arith, cuts.0, fits.cols_inside);
+}
 
 -- the list that is put back, by places of the terrain
 pub put_back_inside : {X : Type 0} (t : Terrain) (c : Cutting) (Makes : Place → Option X → Type 0) (lists : List (Vec (Option X) Global)) (whole : List (Option X)) → IsCutting c → Cuts c t →

@@ -1,6 +1,6 @@
 -- What the search over a tile and the places around it leaves is a round over the tile.
 use Rattle.std.proofs.Common.{◌≡◌, ◌≢◌, ℕ, ◌+◌, ◌-◌, ◌*◌, ◌^◌, ◌<◌, ◌≤◌, inl, inr, List, ◌∷◌, length, get_or, set, Option, None, Some, is_some, unwrap_or, IfSome, ℤ, sym, ap, subst, refl, ◌∙◌, arith}
-use Rattle.std.proofs.lemmas.Bool.{cases_eq, cases_lt, cond-true, cond-false, and_from, lt-ltb, le-ltb, eq-eqb}
+use Rattle.std.proofs.lemmas.Bool.{cases_eq, cases_lt, cond-true, cond-false, lt-ltb, le-ltb}
 use Rattle.std.proofs.lemmas.List.{get_or-map, get_or-set_same, get_or-set_other, get_or_past, length-map}
 use Rattle.std.proofs.lemmas.Nat.{mul-add-lt}
 use Rattle.std.proofs.lemmas.Option.{MatchOption-at_some, none-some, same_Some}
@@ -9,14 +9,16 @@ use Rattle.ascii_grid.specs.Raster.{Terrain}
 use Rattle.ascii_grid.specs.Neighbours.{height_at, entry_at, Touches, IsNeighbour, height_of}
 use Rattle.ascii_grid.specs.declared.place.Place.{Place}
 use Rattle.tiles.specs.declared.bounds.Bounds.{Bounds}
-use Rattle.tiles.specs.Cutting.{Cutting, IsCutting, IsInBounds, IsInTile, bounds_of, tile_entry, index_in_tile, View, terrain_of}
+use Rattle.tiles.specs.Cutting.{Cutting, IsCutting, IsInBounds, IsInTile, bounds_of, tile_entry, View, terrain_of}
 use Rattle.tiles.proofs.Cut.{in_bounds}
-use Rattle.drain.specs.Rounds.{IsWalked, AreWalked, IsRound}
-use Rattle.drain.specs.Window.{no_count, AreCounts, spot_index, area_of, IsSpot, IsInner, Shows, IsShown, AreShown, level_on, count_on, IsSpread, same, moved, IsSettled, known, known_counts, inner_index, AreKnownBelow, AreLent}
+use Rattle.drain.specs.Rounds.{IsLent, IsWalked, AreWalked, IsOneAbove, IsRound}
+use Rattle.drain.specs.TileLists.{AreMadeBelow, IsMadeTile}
+use Rattle.drain.proofs.TileLists.{made_tile}
+use Rattle.drain.specs.Window.{no_count, AreCounts, spot_index, area_of, IsSpot, IsInner, Shows, IsShown, AreShown, level_on, count_on, IsSpread, same, moved, IsSettled, known, known_counts, IsHandedOut, AreLent}
 use Rattle.drain.proofs.Spreading.{spread-not_above, spread-counts, spread-length, spot_from_inner}
 use Rattle.drain.proofs.Counted.{height_is}
 use Rattle.drain.proofs.Unique.{at_place}
-use Rattle.drain.proofs.Few.{data_on_walk}
+use Rattle.drain.proofs.Few.{data_on_level_walk}
 
 -- the place of a spot that has something
 pub place_shown : Bounds → Place → Place
@@ -39,9 +41,9 @@ is_on {X = X} cols rows entries b s o x shown is =
 shows_one : (b : Bounds) (s : Place) (p q : Place) → Shows b s p → Shows b s q → p ≡ q
 shows_one b s p q f g = same_place p q (omega (arith, f.0, g.0)) (omega (arith, f.1, g.1))
 
--- each count that is known is of a walk from the place that its spot shows
-IsSound : Terrain → Bounds → List ℕ → Type 0
-IsSound t b counts = (s : Place) → IsSpot b s → count_on b counts s < no_count → (p : Place) × Shows b s p × IsWalked t p (count_on b counts s)
+-- each count that is known is of a walk to a cell that is lent 0, from the place that its spot shows
+IsSound : Terrain → List (Option ℕ) → Bounds → List ℕ → Type 0
+IsSound t steps b counts = (s : Place) → IsSpot b s → count_on b counts s < no_count → (p : Place) × Shows b s p × IsWalked (IsLent t steps) t p (count_on b counts s)
 
 spot_below : (b : Bounds) (s : Place) → IsSpot b s → spot_index b s < area_of b
 spot_below b s spot = mul-add-lt s.row (b.cols + 2) s.col (b.rows + 2) spot.0 spot.1
@@ -53,7 +55,7 @@ some_of_known : (o : Option ℕ) (n : ℕ) → n ≡ unwrap_or o no_count → n 
 some_of_known None n e less = absurd (omega arith)
 some_of_known (Some m) n e less = ap Some (sym e)
 
-sound_begin : (t : Terrain) (b : Bounds) (steps shown : List (Option ℕ)) → length shown ≡ area_of b → AreShown t.cols t.rows steps b shown → AreWalked t steps → IsSound t b (known_counts shown)
+sound_begin : (t : Terrain) (b : Bounds) (steps shown : List (Option ℕ)) → length shown ≡ area_of b → AreShown t.cols t.rows steps b shown → AreWalked (IsLent t steps) t steps → IsSound t steps b (known_counts shown)
 unfolding IsSound
 sound_begin t b steps shown size on walked = λ s spot less.
     let n = count_on b (known_counts shown) s in
@@ -76,42 +78,42 @@ apart_places b s r p q f g ne e =
     ne (same_place s r (omega (arith, f.0, g.0, row)) (omega (arith, f.1, g.1, col)))
 
 -- a step from a walked cell to a neighbour on its level
-walked_on : (t : Terrain) (p q : Place) (m n : ℕ) → IsNeighbour t q p → height_at t p ≡ height_at t q → IsWalked t p m → n ≡ m + 1 → n < 2 ^ 24 → IsWalked t q n
-walked_on t p q m n next level walk is less = (less, p ∷ walk.1, (next, level, walk.2), omega (arith, walk.3, is))
+walked_on : (t : Terrain) (steps : List (Option ℕ)) (p q : Place) (m n : ℕ) → IsNeighbour t q p → height_at t p ≡ height_at t q → IsWalked (IsLent t steps) t p m → n ≡ m + 1 → n < 2 ^ 24 → IsWalked (IsLent t steps) t q n
+walked_on t steps p q m n next level walk is less = (less, p ∷ walk.1, (next, level, walk.2), omega (arith, walk.3, is))
 
-sound_moved : (t : Terrain) (b : Bounds) (levels : List (Option ℤ)) (some : List ℕ) (s r : Place) (n : ℕ) → AreShown t.cols t.rows t.cells b levels → IsSound t b some →
-    IsSpot b s → IsSpot b r → Touches s r → s ≢ r → level_on b levels s ≡ level_on b levels r → n ≡ count_on b some s + 1 → n < no_count → (q : Place) × Shows b r q × IsWalked t q n
+sound_moved : (t : Terrain) (steps : List (Option ℕ)) (b : Bounds) (levels : List (Option ℤ)) (some : List ℕ) (s r : Place) (n : ℕ) → AreShown t.cols t.rows t.cells b levels → IsSound t steps b some →
+    IsSpot b s → IsSpot b r → Touches s r → s ≢ r → level_on b levels s ≡ level_on b levels r → n ≡ count_on b some s + 1 → n < no_count → (q : Place) × Shows b r q × IsWalked (IsLent t steps) t q n
 unfolding IsSound
-sound_moved t b levels some s r n on sound spot other touch differ level is less =
+sound_moved t steps b levels some s r n on sound spot other touch differ level is less =
     let from = sound s spot (omega (arith, is)) in
-    let known_place = data_on_walk t from.0 from.2.1 from.2.2 in
+    let known_place = data_on_level_walk (IsLent t steps) t (λ z lent. lent.0) from.0 from.2.1 from.2.2 in
     let height = height_is t from.0 known_place in
     let here : level_on b levels s ≡ Some (height_of t from.0) = (on s spot).0 from.0 from.1 ∙ height in
     let to = is_on t.cols t.rows t.cells b r (level_on b levels r) (height_of t from.0) (on r other) (sym level ∙ here) in (
       to.0,
       to.1,
-      walked_on t from.0 to.0 (count_on b some s) n
+      walked_on t steps from.0 to.0 (count_on b some s) n
           (record { different = apart_places b s r from.0 to.0 from.1 to.1 differ; touches = touching_places b s r from.0 to.0 from.1 to.1 touch; from_data = ap is_some to.2; to_data = known_place })
           (height ∙ sym to.2) from.2 is less,
     )
 
-sound_set : (t : Terrain) (b : Bounds) (counts : List ℕ) (r : Place) (n : ℕ) → length counts ≡ area_of b → IsSpot b r → IsSound t b counts → ((q : Place) × Shows b r q × IsWalked t q n) → IsSound t b (set counts (spot_index b r) n)
+sound_set : (t : Terrain) (steps : List (Option ℕ)) (b : Bounds) (counts : List ℕ) (r : Place) (n : ℕ) → length counts ≡ area_of b → IsSpot b r → IsSound t steps b counts → ((q : Place) × Shows b r q × IsWalked (IsLent t steps) t q n) → IsSound t steps b (set counts (spot_index b r) n)
 unfolding IsSound
-sound_set t b counts r n size spot sound moved_to = λ s inside less. elim (cases_place s r) [
+sound_set t steps b counts r n size spot sound moved_to = λ s inside less. elim (cases_place s r) [
   | inl e ↦ (let at : count_on b (set counts (spot_index b r) n) r ≡ n = get_or-set_same counts (spot_index b r) n 0 (omega (arith, size, spot_below b r spot)) in
-      subst (λ (x : Place). (p : Place) × Shows b x p × IsWalked t p (count_on b (set counts (spot_index b r) n) x)) (sym e)
-      (moved_to.0, moved_to.1, subst (λ m. IsWalked t moved_to.0 m) (sym at) moved_to.2))
+      subst (λ (x : Place). (p : Place) × Shows b x p × IsWalked (IsLent t steps) t p (count_on b (set counts (spot_index b r) n) x)) (sym e)
+      (moved_to.0, moved_to.1, subst (λ m. IsWalked (IsLent t steps) t moved_to.0 m) (sym at) moved_to.2))
   | inr ne ↦ (let apart : spot_index b s ≢ spot_index b r = λ i. ne (index_injective (b.cols + 2) s r inside.1 spot.1 i) in
       let at : count_on b (set counts (spot_index b r) n) s ≡ count_on b counts s = get_or-set_other counts (spot_index b r) (spot_index b s) n 0 apart in
       let was = sound s inside (omega (arith, at)) in
-      (was.0, was.1, subst (λ m. IsWalked t was.0 m) (sym at) was.2))
+      (was.0, was.1, subst (λ m. IsWalked (IsLent t steps) t was.0 m) (sym at) was.2))
 ]
 
-sound_after : (t : Terrain) (b : Bounds) (levels : List (Option ℤ)) (old new : List ℕ) → AreShown t.cols t.rows t.cells b levels → length old ≡ area_of b → AreCounts old → IsSound t b old → IsSpread b levels old new → IsSound t b new
-sound_after t b levels old new on size small sound same = sound
-sound_after t b levels old new on size small sound (moved counts some s r n before earlier spot other touch differ level from less) =
-    sound_set t b counts r n (spread-length b levels old counts before ∙ size) other (sound_after t b levels old counts on size small sound before)
-    (sound_moved t b levels some s r n on (sound_after t b levels old some on size small sound earlier) spot other touch differ level from
+sound_after : (t : Terrain) (steps : List (Option ℕ)) (b : Bounds) (levels : List (Option ℤ)) (old new : List ℕ) → AreShown t.cols t.rows t.cells b levels → length old ≡ area_of b → AreCounts old → IsSound t steps b old → IsSpread b levels old new → IsSound t steps b new
+sound_after t steps b levels old new on size small sound same = sound
+sound_after t steps b levels old new on size small sound (moved counts some s r n before earlier spot other touch differ level from less) =
+    sound_set t steps b counts r n (spread-length b levels old counts before ∙ size) other (sound_after t steps b levels old counts on size small sound before)
+    (sound_moved t steps b levels some s r n on (sound_after t steps b levels old some on size small sound earlier) spot other touch differ level from
     (omega (arith, less, spread-counts b levels old counts small before (spot_index b r))))
 
 -- the spot that shows a place of the tile
@@ -158,19 +160,14 @@ known-if n P h = elim (cases_lt n no_count) [
   | inr more ↦ subst (λ (o : Option ℕ). IfSome o P) (sym (cond-false _ _ _ (le-ltb _ _ more))) tt
 ]
 
-inner_below : (b : Bounds) (s : Place) → IsInner b s → inner_index b s < b.rows * b.cols
-inner_below b s i =
-    let below : inner_index b s < b.cols * b.rows = mul-add-lt (s.row - 1) b.cols (s.col - 1) b.rows (omega (arith, i.first_row, i.last_row)) (omega (arith, i.first_col, i.last_col)) in
-    omega arith
-
-count_small : (t : Terrain) (b : Bounds) (s : Place) (steps : List (Option ℕ)) (o : Option ℕ) → IsShown t.cols t.rows steps b s o → AreWalked t steps → unwrap_or o no_count ≤ no_count
+count_small : (t : Terrain) (b : Bounds) (s : Place) (steps : List (Option ℕ)) (o : Option ℕ) → IsShown t.cols t.rows steps b s o → AreWalked (IsLent t steps) t steps → unwrap_or o no_count ≤ no_count
 count_small t b s steps None on walks = omega arith
 count_small t b s steps (Some n) on walks =
     let place = is_on t.cols t.rows steps b s (Some n) n on refl in
     let real = MatchOption-at_some _ _ n place.2 (walks place.0) in omega (arith, real.0)
 
 -- the counts that are seen are below the one for none
-pub counts_small : (t : Terrain) (b : Bounds) (steps shown : List (Option ℕ)) → length shown ≡ area_of b → AreShown t.cols t.rows steps b shown → AreWalked t steps → AreCounts (known_counts shown)
+pub counts_small : (t : Terrain) (b : Bounds) (steps shown : List (Option ℕ)) → length shown ≡ area_of b → AreShown t.cols t.rows steps b shown → AreWalked (IsLent t steps) t steps → AreCounts (known_counts shown)
 counts_small t b steps shown size seen walks k = elim (cases_lt k (area_of b)) [
   | inl less ↦ at_place (λ i. get_or (known_counts shown) i 0 ≤ no_count) (b.cols + 2) (b.rows + 2)
       (λ s row col. omega (arith, count-known b shown s size (row, col), count_small t b s steps (get_or shown (spot_index b s) None) (seen s (row, col)) walks)) k less
@@ -179,48 +176,39 @@ counts_small t b steps shown size seen walks k = elim (cases_lt k (area_of b)) [
 
 module _ (t : Terrain) (c : Cutting) (tile : ℕ) (b : Bounds) (steps shown : List (Option ℕ)) (levels : List (Option ℤ)) (new : List ℕ) (list : List (Option ℕ))
     (cutting : IsCutting c) (bounds : b ≡ bounds_of c tile) (on : AreShown t.cols t.rows t.cells b levels) (size : length shown ≡ area_of b)
-    (seen : AreShown t.cols t.rows steps b shown) (walks : AreWalked t steps) (settled : IsSettled b levels (known_counts shown) new)
-    (out : AreKnownBelow b new (b.rows * b.cols) list) where
+    (seen : AreShown t.cols t.rows steps b shown) (walks : AreWalked (IsLent t steps) t steps) (settled : IsSettled b levels (known_counts shown) new)
+    (out : AreMadeBelow b (IsHandedOut b new) (b.rows * b.cols) list) where
   in_bounds_of : (p : Place) → IsInTile c tile p → IsInBounds b p
   in_bounds_of p i = subst (λ (z : Bounds). IsInBounds z p) (sym bounds) (in_bounds c tile p cutting i)
 
   small : AreCounts (known_counts shown)
   small = counts_small t b steps shown size seen walks
 
-  tile_index : (p : Place) → IsInTile c tile p → index_in_tile c p ≡ inner_index b (spot_of b p)
-  unfolding spot_of
-  tile_index p i =
-      let row : p.row - b.top ≡ p.row + 1 - b.top - 1 = omega arith in
-      let col : p.col - b.left ≡ p.col + 1 - b.left - 1 = omega arith in
-      ap (λ (z : Bounds). (p.row - z.top) * z.cols + (p.col - z.left)) (ap (λ (k : ℕ). bounds_of c k) i.1 ∙ sym bounds)
-      ∙ ap (λ (k : ℕ). k * b.cols + (p.col - b.left)) row ∙ ap (λ (k : ℕ). (p.row + 1 - b.top - 1) * b.cols + k) col
+  handed : IsMadeTile c tile (IsHandedOut b new) list
+  handed = made_tile c tile b (IsHandedOut b new) list cutting bounds out
 
   -- what is handed out at a place of the tile
   entry_is : (p : Place) → IsInTile c tile p → tile_entry c tile list p ≡ known (count_on b new (spot_of b p))
-  entry_is p i =
-      let inner = spot_inner b p (in_bounds_of p i) in
-      cond-true _ _ _ (and_from _ _ (and_from _ _ (lt-ltb _ _ i.0.0) (lt-ltb _ _ i.0.1)) (eq-eqb _ _ i.1))
-      ∙ ap (λ (k : ℕ). get_or list k None) (tile_index p i) ∙ out.each (spot_of b p) inner.0 (inner_below b (spot_of b p) inner.0)
+  entry_is p i = handed.each p i (spot_of b p) (spot_inner b p (in_bounds_of p i)).1
 
   -- what was lent at a place that a spot shows
   lent_is : (s q : Place) (m : ℕ) → IsSpot b s → Shows b s q → entry_at t.cols t.rows steps q ≡ Some m → count_on b (known_counts shown) s ≡ m
   lent_is s q m spot f e =
       count-known b shown s size spot ∙ ap (λ (o : Option ℕ). unwrap_or o no_count) ((seen s spot).0 q f ∙ e)
 
-  walked_here : (p : Place) → IsInTile c tile p → IfSome (tile_entry c tile list p) (IsWalked t p)
+  walked_here : (p : Place) → IsInTile c tile p → IfSome (tile_entry c tile list p) (IsWalked (IsLent t steps) t p)
   unfolding IsSound
   walked_here p i =
       let inner = spot_inner b p (in_bounds_of p i) in
-      let sound = sound_after t b levels (known_counts shown) new on (length-map shown (λ (o : Option ℕ). unwrap_or o no_count) ∙ size) small (sound_begin t b steps shown size seen walks) settled.spread in
-      subst (λ (o : Option ℕ). IfSome o (IsWalked t p)) (sym (entry_is p i))
-      (known-if (count_on b new (spot_of b p)) (IsWalked t p) (λ less. place_one p inner.1 (sound (spot_of b p) (spot_from_inner b (spot_of b p) inner.0) less)))
+      let sound = sound_after t steps b levels (known_counts shown) new on (length-map shown (λ (o : Option ℕ). unwrap_or o no_count) ∙ size) small (sound_begin t b steps shown size seen walks) settled.spread in
+      subst (λ (o : Option ℕ). IfSome o (IsWalked (IsLent t steps) t p)) (sym (entry_is p i))
+      (known-if (count_on b new (spot_of b p)) (IsWalked (IsLent t steps) t p) (λ less. place_one p inner.1 (sound (spot_of b p) (spot_from_inner b (spot_of b p) inner.0) less)))
     where
-      place_one : (p : Place) → Shows b (spot_of b p) p → (q : Place) × Shows b (spot_of b p) q × IsWalked t q (count_on b new (spot_of b p)) → IsWalked t p (count_on b new (spot_of b p))
-      place_one p f h = subst (λ (x : Place). IsWalked t x (count_on b new (spot_of b p))) (shows_one b (spot_of b p) h.0 p h.1 f) h.2
+      place_one : (p : Place) → Shows b (spot_of b p) p → (q : Place) × Shows b (spot_of b p) q × IsWalked (IsLent t steps) t q (count_on b new (spot_of b p)) → IsWalked (IsLent t steps) t p (count_on b new (spot_of b p))
+      place_one p f h = subst (λ (x : Place). IsWalked (IsLent t steps) t x (count_on b new (spot_of b p))) (shows_one b (spot_of b p) h.0 p h.1 f) h.2
 
-  near_here : (p q : Place) (m : ℕ) → IsInTile c tile p → IsNeighbour t p q → height_at t q ≡ height_at t p →
-      entry_at t.cols t.rows steps q ≡ Some m → m < 2 ^ 24 - 1 → (n : ℕ) × (tile_entry c tile list p ≡ Some n) × (n ≤ m + 1)
-  near_here p q m i next level e less =
+  near_here : (p q : Place) → IsInTile c tile p → IsNeighbour t p q → height_at t q ≡ height_at t p → IsOneAbove (tile_entry c tile list p) (entry_at t.cols t.rows steps q)
+  near_here p q i next level m e less =
       let inner = spot_inner b p (in_bounds_of p i) in
       let s = spot_of b p in
       let r = spot_beside b p q s inner.0 inner.1 next.touches in
@@ -231,9 +219,8 @@ module _ (t : Terrain) (c : Cutting) (tile : ℕ) (b : Bounds) (steps shown : Li
       let few : count_on b new s < no_count = omega (arith, near, was) in
       (count_on b new s, entry_is p i ∙ known-some (count_on b new s) few, omega (arith, near, was))
 
-  within_here : (p q : Place) (m : ℕ) → IsInTile c tile p → IsInTile c tile q → IsNeighbour t p q → height_at t q ≡ height_at t p →
-      tile_entry c tile list q ≡ Some m → m < 2 ^ 24 - 1 → (n : ℕ) × (tile_entry c tile list p ≡ Some n) × (n ≤ m + 1)
-  within_here p q m i j next level e less =
+  within_here : (p q : Place) → IsInTile c tile p → IsInTile c tile q → IsNeighbour t p q → height_at t q ≡ height_at t p → IsOneAbove (tile_entry c tile list p) (tile_entry c tile list q)
+  within_here p q i j next level m e less =
       let to = spot_inner b p (in_bounds_of p i) in
       let from = spot_inner b q (in_bounds_of q j) in
       let touch = touching_spots b p q (spot_of b p) (spot_of b q) to.1 from.1 next.touches in
@@ -254,9 +241,9 @@ module _ (t : Terrain) (c : Cutting) (tile : ℕ) (b : Bounds) (steps shown : Li
       let few : count_on b new s < no_count = omega (arith, fewer, was, real.0) in
       (count_on b new s, entry_is p i ∙ known-some (count_on b new s) few, omega (arith, fewer, was))
 
-  pub is_round : IsRound t c tile steps list
+  pub is_round : IsRound (IsLent t steps) t c tile steps list
   is_round = record {
-    size = out.size ∙ ap (λ (z : Bounds). z.rows * z.cols) bounds;
+    size = handed.size;
     walked = walked_here;
     near = near_here;
     within = within_here;
@@ -271,7 +258,7 @@ lent_to v w b old cutting tile bounds lent =
     (subst (λ (k : ℕ). AreLent v.cutting.cols v.cutting.rows w.cells (bounds_of v.cutting k) old) tile
     (subst (λ (z : Cutting). AreLent z.cols z.rows w.cells (bounds_of z w.tile) old) cutting lent))
 
-pub lent_small : (t : Terrain) (b : Bounds) (steps : List (Option ℕ)) (old : List ℕ) → AreLent t.cols t.rows steps b old → AreWalked t steps → AreCounts old
+pub lent_small : (t : Terrain) (b : Bounds) (steps : List (Option ℕ)) (old : List ℕ) → AreLent t.cols t.rows steps b old → AreWalked (IsLent t steps) t steps → AreCounts old
 lent_small t b steps old lent walks = subst (λ (xs : List ℕ). AreCounts xs) (sym lent.value) (counts_small t b steps lent.shown lent.size lent.seen walks)
 
 pub lent_size : (t : Terrain) (b : Bounds) (steps : List (Option ℕ)) (old : List ℕ) → AreLent t.cols t.rows steps b old → length old ≡ area_of b
@@ -279,8 +266,8 @@ lent_size t b steps old lent = ap (λ (xs : List ℕ). length xs) lent.value ∙
 
 pub round_from : (v : View (Option ℤ)) (w : View (Option ℕ)) (b : Bounds) (levels : List (Option ℤ)) (old new : List ℕ) (list : List (Option ℕ)) →
     IsCutting v.cutting → b ≡ bounds_of v.cutting v.tile → AreShown v.cutting.cols v.cutting.rows v.cells b levels → AreLent v.cutting.cols v.cutting.rows w.cells b old →
-    AreWalked (terrain_of v) w.cells → IsSettled b levels old new → AreKnownBelow b new (b.rows * b.cols) list →
-    IsRound (terrain_of v) v.cutting v.tile w.cells list
+    AreWalked (IsLent (terrain_of v) w.cells) (terrain_of v) w.cells → IsSettled b levels old new → AreMadeBelow b (IsHandedOut b new) (b.rows * b.cols) list →
+    IsRound (IsLent (terrain_of v) w.cells) (terrain_of v) v.cutting v.tile w.cells list
 round_from v w b levels old new list cutting bounds on lent walks settled out =
     is_round (terrain_of v) v.cutting v.tile b w.cells lent.shown levels new list cutting bounds on lent.size lent.seen walks
     (subst (λ (xs : List ℕ). IsSettled b levels xs new) lent.value settled) out

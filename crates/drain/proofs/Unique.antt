@@ -1,5 +1,5 @@
--- There is one list of steps, and one of directions.
-use Rattle.std.proofs.Common.{◌≡◌, ℕ, ◌+◌, ◌*◌, ◌/◌, ◌%◌, ◌<◌, ◌≤◌, ◌⊎◌, inl, inr, List, length, get_or, Option, None, Some, sym, ap, subst, refl, ◌∙◌, arith}
+-- What holds at each place holds of the list; there is one list of directions.
+use Rattle.std.proofs.Common.{◌≡◌, ℕ, ◌+◌, ◌*◌, ◌/◌, ◌%◌, ◌<◌, ◌≤◌, inl, inr, List, length, get_or, Option, None, Some, sym, ap, subst, ◌∙◌, arith}
 use Rattle.std.proofs.lemmas.Bool.{cases_eq}
 use Rattle.std.proofs.lemmas.Option.{MatchOption-at_none, MatchOption-at_some}
 use Rattle.std.proofs.Math.Nat.{div-add-mod}
@@ -9,9 +9,8 @@ use Rattle.ascii_grid.proofs.Places.{make_place, entry-inside}
 use Rattle.ascii_grid.specs.Raster.{Terrain}
 use Rattle.ascii_grid.specs.Neighbours.{height_at, entry_at, index_of}
 use Rattle.ascii_grid.specs.declared.place.Place.{Place}
-use Rattle.drain.specs.Steps.{AreSteps}
 use Rattle.drain.specs.Directions.{AreDirections}
-use Rattle.drain.proofs.Local.{one_number_of_steps}
+use Rattle.drain.proofs.AroundLemmas.{cases_option}
 use Rattle.drain.proofs.Pointing.{one_direction}
 
 -- the place of an index in row order
@@ -41,21 +40,6 @@ pub same_entries : {X : Type 0} (cols rows : ℕ) (xs ys : List (Option X)) → 
 same_entries cols rows xs ys m n same =
     ext_get_or None xs ys (m ∙ sym n) (λ i h. at_place (λ k. get_or xs k None ≡ get_or ys k None) cols rows
     (λ p row col. sym (entry-inside cols rows xs p row col) ∙ same p row col ∙ entry-inside cols rows ys p row col) i (omega arith))
-
-cases_option : {X : Type 0} (o : Option X) → (o ≡ None) ⊎ ((x : X) × (o ≡ Some x))
-cases_option None = inl refl
-cases_option (Some x) = inr (x, refl)
-
-pub one_list_of_steps : (t : Terrain) (xs ys : List (Option ℕ)) → AreSteps t xs → AreSteps t ys → xs ≡ ys
-one_list_of_steps t xs ys a b =
-    same_entries t.cols t.rows xs ys a.size b.size (λ p row col.
-    elim (cases_option (height_at t p)) [
-      | inl none ↦ MatchOption-at_none _ _ none (a.each p (row, col)) ∙ sym (MatchOption-at_none _ _ none (b.each p (row, col)))
-      | inr some ↦
-          (let m = MatchOption-at_some _ _ some.0 some.1 (a.each p (row, col)) in
-          let n = MatchOption-at_some _ _ some.0 some.1 (b.each p (row, col)) in
-          m.1 ∙ ap Some (one_number_of_steps t p m.0 n.0 m.2 n.2) ∙ sym n.1)
-    ])
 
 pub one_list_of_directions : (t : Terrain) (xs ys : List (Option ℕ)) → AreDirections t xs → AreDirections t ys → xs ≡ ys
 one_list_of_directions t xs ys a b =

@@ -1,11 +1,13 @@
 -- The eight ways from a place, and what stands on them.
-use Rattle.std.proofs.Common.{◌≡◌, ◌≢◌, ℕ, zero, suc, ◌+◌, ◌%◌, ◌<◌, ◌||◌, eqb, false, inl, inr, Option, None, Some, sym, ap, refl, ◌∙◌, arith}
-use Rattle.std.proofs.lemmas.Bool.{cases_eq, eq-eqb, ne_eqb, or_left, or_right, or_from}
+use Rattle.std.proofs.Common.{◌≡◌, ◌≢◌, ℕ, zero, suc, ◌+◌, ◌%◌, ◌<◌, ◌||◌, eqb, false, Option, None, Some, sym, ap, refl, ◌∙◌, arith}
+use Rattle.std.proofs.lemmas.Bool.{eq-eqb, ne_eqb, or_left, or_right, or_from}
+use Rattle.std.proofs.lemmas.List.{get_or_default}
 use Rattle.std.proofs.lemmas.Option.{none-some, same_Some, some_pair_parts}
 use Rattle.std.specs.Option.{option_zip, option_and_then}
-use Rattle.ascii_grid.proofs.Places.{make_place, same_place}
+use Rattle.ascii_grid.proofs.Places.{make_place}
 use Rattle.ascii_grid.specs.Neighbours.{Touches}
-use Rattle.ascii_grid.specs.Ways.{place_on, place_of, place_toward, code_of, before}
+use Rattle.ascii_grid.specs.Ways.{ways_from, place_on, place_of, place_toward, code_of, before}
+use Rattle.tiles.proofs.Members.{Contains-ways_from}
 use Rattle.ascii_grid.specs.declared.place.Place.{Place}
 
 -- what holds of each of eight numbers
@@ -28,43 +30,9 @@ pub before-is : (n m : ℕ) → n ≡ m + 1 → before n ≡ Some m
 before-is zero m e = absurd (omega arith)
 before-is (suc n) m e = let same : n ≡ m = omega arith in ap Some same
 
-here : (q : Place) (row col : ℕ) → q.row ≡ row → q.col ≡ col → Some (make_place row col) ≡ Some q
-here q row col e f = ap Some (sym (same_place q (make_place row col) e f))
-
 -- each place that touches another lies on one of its ways
 pub way_to : (p q : Place) → Touches p q → p ≢ q → (way : ℕ) × (way < 8) × (place_on way p ≡ Some q)
-way_to p q t differ = elim (cases_eq q.row (p.row + 1)) [
-  | inl south ↦ elim (cases_eq q.col (p.col + 1)) [
-    | inl east ↦ (1, omega arith, here q (p.row + 1) (p.col + 1) south east)
-    | inr not_east ↦ elim (cases_eq q.col p.col) [
-      | inl amid ↦ (2, omega arith, here q (p.row + 1) p.col south amid)
-      | inr not_amid ↦ (3, omega arith, ap (λ (o : Option ℕ). place_of (Some (p.row + 1)) o) (before-is p.col q.col (omega (arith, t.col_left, t.col_right))) ∙ here q (p.row + 1) q.col south refl)
-    ]
-  ]
-  | inr not_south ↦ elim (cases_eq q.row p.row) [
-    | inl level ↦ elim (cases_eq q.col (p.col + 1)) [
-      | inl east ↦ (0, omega arith, here q p.row (p.col + 1) level east)
-      | inr not_east ↦ elim (cases_eq q.col p.col) [
-        | inl amid ↦ absurd (differ (same_place p q (sym level) (sym amid)))
-        | inr not_amid ↦ (4, omega arith, ap (λ (o : Option ℕ). place_of (Some p.row) o) (before-is p.col q.col (omega (arith, t.col_left, t.col_right))) ∙ here q p.row q.col level refl)
-      ]
-    ]
-    | inr not_level ↦
-        (let north : before p.row ≡ Some q.row = before-is p.row q.row (omega (arith, t.row_up, t.row_down)) in
-        elim (cases_eq q.col (p.col + 1)) [
-          | inl east ↦ (7, omega arith, ap (λ (o : Option ℕ). place_of o (Some (p.col + 1))) north ∙ here q q.row (p.col + 1) refl east)
-          | inr not_east ↦ elim (cases_eq q.col p.col) [
-            | inl amid ↦ (6, omega arith, ap (λ (o : Option ℕ). place_of o (Some p.col)) north ∙ here q q.row p.col refl amid)
-            | inr not_amid ↦ (
-              5,
-              omega arith,
-              ap (λ (o : Option ℕ). place_of o (before p.col)) north
-                  ∙ ap (λ (o : Option ℕ). place_of (Some q.row) o) (before-is p.col q.col (omega (arith, t.col_left, t.col_right))) ∙ here q q.row q.col refl refl,
-            )
-          ]
-        ])
-  ]
-]
+way_to p q t differ = let at = Contains-ways_from p q t differ in (at.0, at.1, get_or_default (ways_from p) at.0 None (Some q) at.1 ∙ at.2)
 
 place_parts : (row col : Option ℕ) (q : Place) → place_of row col ≡ Some q → (row ≡ Some q.row) × (col ≡ Some q.col)
 place_parts None col q e = absurd (none-some q e)

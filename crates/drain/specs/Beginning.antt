@@ -1,5 +1,6 @@
 -- The counts that the rounds begin with.
-use Rattle.std.specs.Prelude.{◌≡◌, ◌⊎◌, ℕ, ◌-◌, ℤ, ◌<ℤ◌, Option, None, Some}
+use Rattle.std.specs.Prelude.{◌≡◌, ◌⊎◌, ℕ, ◌-◌, ◌*◌, ℤ, ◌<ℤ◌, List, length, Option, None, Some}
+use Rattle.ascii_grid.specs.Neighbours.{IsInside, entry_at}
 use Rattle.ascii_grid.specs.Raster.{Terrain}
 use Rattle.ascii_grid.specs.declared.place.Place.{Place}
 use Rattle.drain.specs.Steps.{DrainsAtOnce}
@@ -13,6 +14,15 @@ IsGapOrLower level (Some height) = height <ℤ level
 pub record IsBegun (t : Terrain) (p : Place) (count : Option ℕ) : Type 0 where
   pub zero : DrainsAtOnce t p → count ≡ Some 0
   pub only : (n : ℕ) → count ≡ Some n → DrainsAtOnce t p × (n ≡ 0)
+
+-- The list has these counts in row order.
+pub record AreBegun (t : Terrain) (counts : List (Option ℕ)) : Type 0 where
+  pub size : length counts ≡ t.cols * t.rows
+  pub each : (p : Place) → IsInside t p → IsBegun t p (entry_at t.cols t.rows counts p)
+
+-- Each cell that drains at once has the count 0.
+abbrev pub HasZeros : Terrain → List (Option ℕ) → Type 0
+HasZeros t counts = (p : Place) → DrainsAtOnce t p → entry_at t.cols t.rows counts p ≡ Some 0
 
 -- The place lies in the first or last row or column.
 abbrev pub IsOutermost : Terrain → Place → Type 0

@@ -1,9 +1,10 @@
 -- Where no count of a cell would become less by a neighbour's.
-use Rattle.std.specs.Prelude.{◌≡◌, ℕ, ◌+◌, ◌-◌, ◌^◌, ◌<◌, ◌≤◌, ℤ, List, Option, Some}
+use Rattle.std.specs.Prelude.{◌≡◌, ℕ, ◌+◌, ◌<◌, ◌≤◌, ℤ, List, Option, Some}
 use Rattle.ascii_grid.specs.Raster.{Terrain}
 use Rattle.ascii_grid.specs.Neighbours.{height_at, entry_at, IsNeighbour}
 use Rattle.ascii_grid.specs.declared.place.Place.{Place}
 use Rattle.tiles.specs.Cutting.{Cutting}
+use Rattle.drain.specs.Rounds.{IsOneAbove}
 
 -- The terrain of a list of the size of a cutting's grid.
 abbrev pub lent_terrain : Cutting → List (Option ℤ) → Terrain
@@ -11,8 +12,8 @@ lent_terrain c levels = record { cols = c.cols; rows = c.rows; cells = levels }
 
 -- The count of a cell is at most one above those of its neighbours on the flat.
 pub record IsLeastAround (t : Terrain) (steps : List (Option ℕ)) (p : Place) : Type 0 where
-  pub each : (q : Place) (m : ℕ) → IsNeighbour t p q → height_at t q ≡ height_at t p →
-      entry_at t.cols t.rows steps q ≡ Some m → m < 2 ^ 24 - 1 → (n : ℕ) × (entry_at t.cols t.rows steps p ≡ Some n) × (n ≤ m + 1)
+  pub each : (q : Place) → IsNeighbour t p q → height_at t q ≡ height_at t p →
+      IsOneAbove (entry_at t.cols t.rows steps p) (entry_at t.cols t.rows steps q)
 
 -- A count is at most one above those of the cells on this level in a row, from one up to a column; rows and
 -- columns are counted from 1.

@@ -1,12 +1,13 @@
 -- What the definitions are to satisfy, as statements.
 use Rattle.std.specs.Prelude.{◌≡◌, ℕ, ◌*◌, ◌^◌, ◌<◌, List, length, Option}
 use Rattle.ascii_grid.specs.Raster.{Terrain, IsTerrain}
-use Rattle.ascii_grid.specs.Neighbours.{IsDataCell}
+use Rattle.ascii_grid.specs.Neighbours.{IsDataCell, entry_at}
 use Rattle.drainage.specs.Filled.{IsFilled}
 use Rattle.ascii_grid.specs.declared.place.Place.{Place}
-use Rattle.tiles.specs.Cutting.{Cutting, IsCutting, Cuts}
-use Rattle.drain.specs.Steps.{IsSteps, AreSteps}
-use Rattle.drain.specs.Rounds.{HasZeros, IsQuiet}
+use Rattle.tiles.specs.Cutting.{Cutting, IsCutting, Cuts, IsInTile, tile_count, tile_entry}
+use Rattle.drain.specs.Steps.{DrainsAtOnce, IsSteps, AreSteps}
+use Rattle.drain.specs.Beginning.{HasZeros}
+use Rattle.drain.specs.Rounds.{IsRound}
 use Rattle.drain.specs.Directions.{IsDirection, AreDirections}
 use Rattle.drain.specs.Steepness.{direction_of}
 use Rattle.drain.specs.Fitting.{IsAround}
@@ -22,6 +23,11 @@ StepsAreFew = (t : Terrain) (p : Place) (n : ℕ) → IsTerrain t → IsSteps t 
 
 abbrev pub StepsAreOne : Type 0
 StepsAreOne = (t : Terrain) (p : Place) (m n : ℕ) → IsSteps t p m → IsSteps t p n → m ≡ n
+
+-- A round over all tiles leaves each count as it was. There is one list for each tile.
+pub record IsQuiet (t : Terrain) (c : Cutting) (steps : List (Option ℕ)) (lists : ℕ → List (Option ℕ)) : Type 0 where
+  pub rounds : (tile : ℕ) → tile < tile_count c → IsRound (DrainsAtOnce t) t c tile steps (lists tile)
+  pub same : (tile : ℕ) (p : Place) → IsInTile c tile p → tile_entry c tile (lists tile) p ≡ entry_at t.cols t.rows steps p
 
 -- Where a round over all tiles changes nothing, the counts are the steps.
 abbrev pub QuietIsCounted : Type 0

@@ -1,18 +1,8 @@
--- What the jobs before and after the rounds work on.
+-- What the jobs after the rounds work on.
 use Rattle.std.specs.Prelude.{ℕ, List, Option}
 use Rattle.ascii_grid.specs.Raster.{Terrain, IsTerrain}
 use Rattle.tiles.specs.Cutting.{Cutting, IsCutting, Cuts}
 use Rattle.drain.specs.Steps.{AreSteps}
-
--- A terrain and how it is cut.
-pub record CutTerrain : Type 0 where
-  pub terrain : Terrain
-  pub cutting : Cutting
-
-pub record IsCutTerrain (t : CutTerrain) : Type 0 where
-  pub lawful : IsTerrain t.terrain
-  pub cutting : IsCutting t.cutting
-  pub cuts : Cuts t.cutting t.terrain
 
 -- A terrain with its steps, and how it is cut.
 pub record SteppedTerrain : Type 0 where

@@ -4,10 +4,12 @@ use Rattle.std.specs.declared.alloc.Global.{Global}
 use Rattle.ascii_grid.specs.Raster.{Terrain}
 use Rattle.ascii_grid.specs.declared.place.Place.{Place}
 use Rattle.tiles.specs.declared.bounds.Bounds.{Bounds}
-use Rattle.tiles.specs.Cutting.{Cutting, IsInBounds, IsInTile, cell_count, tile_count, tile_entry}
+use Rattle.tiles.specs.Cutting.{Cutting, longest_axis, IsInBounds, IsInTile, cell_count, tile_count, tile_entry}
 
--- The bounds lie in the terrain.
+-- The bounds lie in the terrain, which is within the limits.
 pub record IsPartOf (t : Terrain) (b : Bounds) : Type 0 where
+  pub few_rows : t.rows ≤ longest_axis
+  pub few_cols : t.cols ≤ longest_axis
   pub rows : b.top + b.rows ≤ t.rows
   pub cols : b.left + b.cols ≤ t.cols
 

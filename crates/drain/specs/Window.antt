@@ -1,6 +1,6 @@
 -- A tile with the places around it, one row and one column more on each side: what the search for steps
 -- works on. A spot of it is a place counted from the row and the column before the tile's first.
-use Rattle.std.specs.Prelude.{◌≡◌, ◌≢◌, ℕ, ◌+◌, ◌-◌, ◌*◌, ◌^◌, ◌<◌, ◌≤◌, ◌⊎◌, ℤ, List, map, length, Option, None, Some, nat_lt, if◌then◌else◌, slice_get, slice_index_or, slice_set, unwrap_or}
+use Rattle.std.specs.Prelude.{◌≡◌, ◌≢◌, ℕ, ◌+◌, ◌*◌, ◌^◌, ◌<◌, ◌≤◌, ◌⊎◌, ℤ, List, map, length, Option, None, Some, nat_lt, if◌then◌else◌, slice_get, slice_index_or, slice_set, unwrap_or}
 use Rattle.ascii_grid.specs.Neighbours.{entry_at, index_of, Touches}
 use Rattle.ascii_grid.specs.declared.place.Place.{Place}
 use Rattle.tiles.specs.declared.bounds.Bounds.{Bounds}
@@ -105,14 +105,9 @@ known_counts shown = map (λ o. unwrap_or o no_count) shown
 abbrev pub known : ℕ → Option ℕ
 known n = if nat_lt n no_count then Some n else None
 
--- Where a spot of the tile stands in the row order of the tile.
-abbrev pub inner_index : Bounds → Place → ℕ
-inner_index b s = (s.row - 1) * b.cols + (s.col - 1)
-
--- The list has the count of each of the tile's spots that stands before a place in the tile's row order, and nothing more.
-pub record AreKnownBelow (b : Bounds) (counts : List ℕ) (end : ℕ) (list : List (Option ℕ)) : Type 0 where
-  pub size : length list ≡ end
-  pub each : (s : Place) → IsInner b s → inner_index b s < end → slice_index_or list (inner_index b s) None ≡ known (count_on b counts s)
+-- What is handed out at a place: the count of the spot that shows it, where it is known.
+abbrev pub IsHandedOut : Bounds → List ℕ → Place → Option ℕ → Type 0
+IsHandedOut b counts p x = (s : Place) → Shows b s p → x ≡ known (count_on b counts s)
 
 -- Moves lead from the old counts to the new, each spot of the tile is near to the old counts around it, and no
 -- move is left inside the tile.

@@ -1,9 +1,9 @@
 // The code of a cell that has eight cells of the grid around it, by their places in row order.
-ghost use Rattle.std.specs.Prelude.{◌≡◌, ℕ, ◌+◌, ◌^◌, ◌<◌, IsTrue, Some, None, length, position, slice_index_or};
+ghost use Rattle.std.specs.Prelude.{◌≡◌, ℕ, ◌+◌, ◌*◌, ◌^◌, ◌<◌, IsTrue, Some, None, length, position, slice_index_or};
 ghost use Rattle.std.specs.List.{list_any};
 ghost use Rattle.std.specs.Option.{option_zip};
 ghost use Rattle.ascii_grid.specs.Raster.{IsTerrain};
-ghost use Rattle.ascii_grid.specs.Neighbours.{IsInside, height_at, entry_at};
+ghost use Rattle.ascii_grid.specs.Neighbours.{IsInside, height_at, entry_at, index_of};
 ghost use Rattle.drain.specs.Amid.{around_index, StandAround};
 ghost use Rattle.drain.specs.Beginning.{IsOutermost};
 ghost use Rattle.drain.specs.Directions.{IsCodeAt};
@@ -32,6 +32,18 @@ fn around_index(cols: usize, index: usize) -> [usize; 8]
         index - cols,
         index - cols + 1,
     ]
+}
+
+/// Where the eight cells around one that is not outermost stand in the grid's lists, in the order of the codes.
+#[inline(always)]
+pub(crate) fn cells_around(grid: &Grid, place: Place) -> [usize; 8]
+    requires inside { IsInside grid.now.terrain place }
+    requires amid { IsOutermost grid.now.terrain place → ⊥ }
+    ensures value { result ≡ around_index grid.now.terrain.cols (index_of grid.now.terrain.cols place) }
+    ensures below { (way : ℕ) → way < 8 → slice_index_or result way 0 < grid.now.terrain.cols * grid.now.terrain.rows }
+{
+    let cols = grid.cols() as usize;
+    around_index(cols, place.row as usize * cols + place.col as usize)
 }
 
 /// The heights at these places.
@@ -105,8 +117,7 @@ pub(crate) fn code_amid(
     ensures { IsCodeAt grid.now.terrain place (Some result) }
 {
     let cells = grid.cells();
-    let cols = grid.cols() as usize;
-    let at = around_index(cols, place.row as usize * cols + place.col as usize);
+    let at = cells_around(grid, place);
     if own > 0 {
         return Code::of_way(onward(cells, steps, &at, level, own));
     }

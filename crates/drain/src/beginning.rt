@@ -1,12 +1,12 @@
 // The counts that the rounds begin with: 0 at each cell that drains at once.
 ghost use Rattle.std.specs.Prelude.{◌≡◌, ℕ, ◌+◌, ◌*◌, ◌<◌, ◌≤◌, ◌↔◌, Some, None, length, vec_len, IsTrue, OnOk, IfOk, slice_index_or};
 ghost use Rattle.std.specs.Bool.{MatchBool};
-ghost use Rattle.ascii_grid.specs.Raster.{IsTerrain};
 ghost use Rattle.ascii_grid.specs.Neighbours.{IsInside, height_at};
 ghost use Rattle.drain.specs.Steps.{DrainsAtOnce};
 ghost use Rattle.drain.specs.Beginning.{IsGapOrLower, IsOutermost, IsBegun};
 ghost use Rattle.drain.specs.TileLists.{IsPartOf, AreMadeBelow};
 
+use crate::amid::cells_around;
 use ascii_grid::{Grid, Height, Place};
 use std::alloc::{AllocError, Global};
 use tiles::Bounds;
@@ -22,27 +22,21 @@ fn is_gap_or_lower(level: Height, cell: Option<Height>) -> bool
     }
 }
 
-/// Whether one of three cells in a row has no data or is lower than this level.
+/// Whether one of these eight cells has no data or is lower than this level.
 #[inline(always)]
-fn gap_or_lower(
-    cells: &[Option<Height>],
-    cols: usize,
-    row: usize,
-    col: usize,
-    level: Height,
-) -> bool
-    requires { row * cols + col + 3 ≤ length cells.now }
+fn any_gap_or_lower(cells: &[Option<Height>], at: &[usize; 8], level: Height) -> bool
+    requires { (way : ℕ) → way < 8 → slice_index_or at.now way 0 < length cells.now }
     ensures { MatchBool result
-        ((c : ℕ) × (col ≤ c) × (c < col + 3) × IsGapOrLower level (slice_index_or cells.now (row * cols + c) None))
-        ((c : ℕ) → col ≤ c → c < col + 3 → IsGapOrLower level (slice_index_or cells.now (row * cols + c) None) → ⊥) }
+        ((way : ℕ) × (way < 8) × IsGapOrLower level (slice_index_or cells.now (slice_index_or at.now way 0) None))
+        ((way : ℕ) → way < 8 → IsGapOrLower level (slice_index_or cells.now (slice_index_or at.now way 0) None) → ⊥) }
 {
-    let mut found = false;
-    for next in col..col + 3 {
-        if is_gap_or_lower(level, cells[row * cols + next]) {
-            found = true;
+    for way in 0..8 {
+        let index = at[way];
+        if is_gap_or_lower(level, cells[index]) {
+            return true;
         }
     }
-    found
+    false
 }
 
 /// Whether a place lies in the first or last row or column.
@@ -52,27 +46,6 @@ pub(crate) fn is_outermost(grid: &Grid, place: Place) -> bool
     ensures { IsTrue result ↔ IsOutermost grid.now.terrain place }
 {
     place.row == 0 || place.col == 0 || place.row == grid.rows() - 1 || place.col == grid.cols() - 1
-}
-
-/// Whether one of the eight cells around a data cell has no data or is lower.
-#[inline(always)]
-fn drains_inside(grid: &Grid, place: Place, level: Height) -> bool
-    requires inside { IsInside grid.now.terrain place }
-    requires amid { IsOutermost grid.now.terrain place → ⊥ }
-    requires level { height_at grid.now.terrain place ≡ Some level }
-    ensures { MatchBool result (DrainsAtOnce grid.now.terrain place) (DrainsAtOnce grid.now.terrain place → ⊥) }
-{
-    let cells = grid.cells();
-    let cols = grid.cols() as usize;
-    let row = place.row as usize;
-    let col = place.col as usize - 1;
-    if gap_or_lower(cells, cols, row - 1, col, level) {
-        return true;
-    }
-    if gap_or_lower(cells, cols, row, col, level) {
-        return true;
-    }
-    gap_or_lower(cells, cols, row + 1, col, level)
 }
 
 /// Whether a data cell has a lower neighbour or is an edge cell.
@@ -85,7 +58,9 @@ fn drains_at_once(grid: &Grid, place: Place, level: Height) -> bool
     if is_outermost(grid, place) {
         return true;
     }
-    drains_inside(grid, place, level)
+    let cells = grid.cells();
+    let at = cells_around(grid, place);
+    any_gap_or_lower(cells, &at, level)
 }
 
 /// The count of a cell: 0 where it drains at once, and none elsewhere.
@@ -107,7 +82,6 @@ fn begin_along(
     row: u32,
     counts: &mut Vec<Option<u32>>,
 ) -> Result<(), AllocError>
-    requires lawful { IsTerrain grid.now.terrain }
     requires inside { IsPartOf grid.now.terrain bounds }
     requires row { row < bounds.rows }
     requires counts { AreMadeBelow bounds (IsBegun grid.now.terrain) (row * bounds.cols) counts.old.items }
@@ -129,7 +103,6 @@ pub(crate) fn begin_tile(
     grid: &Grid,
     bounds: Bounds,
 ) -> Result<Vec<Option<u32>>, AllocError>
-    requires lawful { IsTerrain grid.now.terrain }
     requires inside { IsPartOf grid.now.terrain bounds }
     ensures { IfOk result (λ counts. AreMadeBelow bounds (IsBegun grid.now.terrain) (bounds.rows * bounds.cols) counts.items) }
 {

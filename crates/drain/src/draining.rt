@@ -2,8 +2,9 @@
 ghost use Rattle.std.specs.Prelude.{◌≡◌, ◌≢◌, ◌<◌, ◌≤◌, Err, IfOk, IfErr};
 ghost use Rattle.tiles.specs.Cutting.{Cuts, terrain_of};
 ghost use Rattle.tile_jobs.specs.Fault.{RefusesWorkers};
-ghost use Rattle.drain.specs.Rounds.{AreWalked, HasZeros, IsRound};
-ghost use Rattle.drain.specs.Steps.{AreSteps};
+ghost use Rattle.drain.specs.Beginning.{HasZeros};
+ghost use Rattle.drain.specs.Rounds.{AreWalked, IsLent, IsRound};
+ghost use Rattle.drain.specs.Steps.{AreSteps, DrainsAtOnce};
 ghost use Rattle.drain.specs.Directions.{AreDirections};
 ghost use Rattle.drainage.specs.Drained.{AllFlowEnds, directed_of};
 
@@ -19,16 +20,16 @@ use tile_jobs::{Gate, JobFault};
 use tiles::{TileView, Tiling};
 
 /// One round over one tile, as far as it can go.
-fn round(
+pub(crate) fn round(
     alloc: Global,
     levels: &TileView<'_, Option<Height>>,
     steps: &TileView<'_, Option<u32>>,
 ) -> Result<Vec<Option<u32>>, AllocError>
     requires cutting { steps.now.cutting ≡ levels.now.cutting }
     requires tile { steps.now.tile ≡ levels.now.tile }
-    requires walked { AreWalked (terrain_of levels.now) steps.now.cells }
-    ensures { IfOk result (λ v.
-        IsRound (terrain_of levels.now) levels.now.cutting levels.now.tile steps.now.cells v.items) }
+    requires walked { AreWalked (IsLent (terrain_of levels.now) steps.now.cells) (terrain_of levels.now) steps.now.cells }
+    ensures { IfOk result (λ v. IsRound (IsLent (terrain_of levels.now) steps.now.cells) (terrain_of levels.now)
+        levels.now.cutting levels.now.tile steps.now.cells v.items) }
 {
     let ground = looking::ground(alloc, levels)?;
     let old = looking::counts(alloc, steps)?;
@@ -46,9 +47,9 @@ pub fn flat_steps(
     requires cutting { steps.now.cutting ≡ levels.now.cutting }
     requires tile { steps.now.tile ≡ levels.now.tile }
     requires zeros { HasZeros (terrain_of levels.now) steps.now.cells }
-    requires walked { AreWalked (terrain_of levels.now) steps.now.cells }
-    ensures { IfOk result (λ v.
-        IsRound (terrain_of levels.now) levels.now.cutting levels.now.tile steps.now.cells v.items) }
+    requires walked { AreWalked (DrainsAtOnce (terrain_of levels.now)) (terrain_of levels.now) steps.now.cells }
+    ensures { IfOk result (λ v. IsRound (DrainsAtOnce (terrain_of levels.now)) (terrain_of levels.now)
+        levels.now.cutting levels.now.tile steps.now.cells v.items) }
 {
     match round(alloc, levels, steps) {
         Ok(counts) => Ok(counts),

@@ -12,6 +12,7 @@ mod rounds;
 mod stages;
 pub mod steepness;
 mod surroundings;
+mod tile_state;
 mod window;
 
 pub use around::Around;

@@ -2,7 +2,8 @@
 ghost use Rattle.std.specs.Prelude.{◌≡◌, ℕ, ◌+◌, ◌-◌, ◌*◌, ◌^◌, ◌<◌, ◌≤◌, length, None, OnOk, IfOk, slice_index_or};
 ghost use Rattle.ascii_grid.specs.declared.place.Place.{Place};
 ghost use Rattle.tiles.specs.Cutting.{IsCutting, AreBounds, bounds_of, terrain_of};
-ghost use Rattle.drain.specs.Window.{area_of, spot_index, IsSpot, IsShown, AreShown, AreShownBelow, AreKnownBelow, AreLent, known};
+ghost use Rattle.drain.specs.Window.{area_of, spot_index, IsSpot, IsShown, AreShown, AreShownBelow, AreLent, known, IsHandedOut};
+ghost use Rattle.drain.specs.TileLists.{AreMadeBelow};
 
 use crate::window::Ground;
 use ascii_grid::{Height, Place};
@@ -85,27 +86,6 @@ fn look_across<T: Copy + Drop>(
     Ok(())
 }
 
-/// Takes one row of spots.
-fn look_along<T: Copy + Drop>(
-    view: &TileView<'_, Option<T>>,
-    bounds: Bounds,
-    row: u32,
-    list: &mut Vec<Option<T>>,
-) -> Result<(), AllocError>
-    requires bounds { bounds ≡ bounds_of view.now.cutting view.now.tile }
-    requires inside { AreBounds view.now.cutting bounds }
-    requires lawful { IsCutting view.now.cutting }
-    requires row { row < bounds.rows + 2 }
-    requires list { AreShownBelow view.now.cutting.cols view.now.cutting.rows view.now.cells bounds (row * (bounds.cols + 2)) list.old.items }
-    ensures { OnOk result (AreShownBelow view.now.cutting.cols view.now.cutting.rows view.now.cells bounds ((row + 1) * (bounds.cols + 2)) list.new.items) }
-{
-    if row == 0 || row > bounds.rows {
-        look_beside(view, bounds, row, list)
-    } else {
-        look_across(view, bounds, row, list)
-    }
-}
-
 /// What a view has at each spot, in row order.
 fn look<T: Copy + Drop>(
     alloc: Global,
@@ -119,9 +99,11 @@ fn look<T: Copy + Drop>(
         alloc,
         (bounds.rows as usize + 2) * (bounds.cols as usize + 2),
     )?;
-    for row in 0..bounds.rows + 2 {
-        look_along(view, bounds, row, &mut list)?;
+    look_beside(view, bounds, 0, &mut list)?;
+    for row in 1..bounds.rows + 1 {
+        look_across(view, bounds, row, &mut list)?;
     }
+    look_beside(view, bounds, bounds.rows + 1, &mut list)?;
     Ok(list)
 }
 
@@ -171,12 +153,16 @@ fn hand_out_along(
     list: &mut Vec<Option<u32>>,
 ) -> Result<(), AllocError>
     requires size { length counts.now ≡ area_of ground.now.bounds }
-    requires row { (1 ≤ row) × (row ≤ ground.now.bounds.rows) }
-    requires list { AreKnownBelow ground.now.bounds counts.now ((row - 1) * ground.now.bounds.cols) list.old.items }
-    ensures { OnOk result (AreKnownBelow ground.now.bounds counts.now (row * ground.now.bounds.cols) list.new.items) }
+    requires row { row < ground.now.bounds.rows }
+    requires list { AreMadeBelow ground.now.bounds (IsHandedOut ground.now.bounds counts.now) (row * ground.now.bounds.cols) list.old.items }
+    ensures { OnOk result (AreMadeBelow ground.now.bounds (IsHandedOut ground.now.bounds counts.now) ((row + 1) * ground.now.bounds.cols) list.new.items) }
 {
-    for col in 1..ground.bounds.cols + 1 {
-        list.push(known(counts[ground.index(Place { row, col })]))?;
+    for col in 0..ground.bounds.cols {
+        let spot = Place {
+            row: row + 1,
+            col: col + 1,
+        };
+        list.push(known(counts[ground.index(spot)]))?;
     }
     Ok(())
 }
@@ -188,13 +174,11 @@ pub(crate) fn hand_out(
     counts: &[u32],
 ) -> Result<Vec<Option<u32>>, AllocError>
     requires { length counts.now ≡ area_of ground.now.bounds }
-    ensures { IfOk result (λ v. AreKnownBelow ground.now.bounds counts.now (ground.now.bounds.rows * ground.now.bounds.cols) v.items) }
+    ensures { IfOk result (λ v. AreMadeBelow ground.now.bounds (IsHandedOut ground.now.bounds counts.now) (ground.now.bounds.rows * ground.now.bounds.cols) v.items) }
 {
-    let mut list = Vec::with_capacity(
-        alloc,
-        ground.bounds.rows as usize * ground.bounds.cols as usize,
-    )?;
-    for row in 1..ground.bounds.rows + 1 {
+    let Bounds { rows, cols, .. } = ground.bounds;
+    let mut list = Vec::with_capacity(alloc, rows as usize * cols as usize)?;
+    for row in 0..rows {
         hand_out_along(ground, counts, row, &mut list)?;
     }
     Ok(list)

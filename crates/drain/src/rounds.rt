@@ -1,13 +1,17 @@
 // Rounds over all tiles until nothing changes.
-ghost use Rattle.std.specs.Prelude.{◌≡◌, ◌≢◌, ℕ, ◌+◌, ◌*◌, ◌<◌, ◌≤◌, ◌⊎◌, Err, None, true, false, IsSome, IfSome, length, vec_len, IfOk, IfErr, OnOk, slice_index_or};
+ghost use Rattle.std.specs.Prelude.{◌≡◌, ◌≢◌, ℕ, ◌+◌, ◌*◌, ◌<◌, ◌≤◌, ◌⊎◌, Err, None, true, false, length, vec_len, IfOk, IfErr, slice_index_or};
 ghost use Rattle.std.specs.Bool.{MatchBool, OnFalse};
 ghost use Rattle.ascii_grid.specs.declared.place.Place.{Place};
 ghost use Rattle.ascii_grid.specs.Neighbours.{entry_at};
 ghost use Rattle.tiles.specs.Cutting.{IsCutting, AreBounds, IsWithin, IsInTile, tile_count, tile_entry, cell_count, tile_of_place};
-ghost use Rattle.drain.specs.Rounds.{told, told_by, AreSized, IsBoundsOf, IsUntouched, AreAnswered, IsRounding, AreStill, AreCounting, AreSettled, left_to_count};
+ghost use Rattle.drain.specs.Entering.{lent_terrain};
+ghost use Rattle.drain.specs.Rounds.{told, told_by, is_changed, IsSized, AreSized, IsBoundsOf, IsUntouched, AreAnswered, IsRounding, IsNext, AreCounting, AreSettled};
+ghost use Rattle.drain.specs.declared.tile_state.Due.TheVariants.{Search, Nothing};
+ghost use Rattle.drain.specs.declared.tile_state.TileAnswer.TheVariants.{Still};
 
-use crate::draining::flat_steps;
-use crate::entering::is_entered;
+use crate::draining::round;
+use crate::entering::Lent;
+use crate::tile_state::{Due, TileAnswer};
 use ascii_grid::{Height, Place};
 use std::alloc::{AllocError, Global};
 use std::marker::Model;
@@ -16,15 +20,13 @@ use std::thread::Threads;
 use tile_jobs::{Gate, JobFault, Work, run_jobs};
 use tiles::{Bounds, TileView, Tiling};
 
-/// What the jobs of a round work on: filled heights, the counts so far, whether it is the first round, and
-/// which tiles may change.
+/// What the jobs of a round work on: filled heights, the counts so far, and what is left to do of each tile.
 #[derive(Drop)]
 struct Round<'a> {
     tiling: &'a Tiling,
     levels: &'a [Option<Height>],
     steps: &'a [Option<u32>],
-    first: bool,
-    active: &'a [bool],
+    due: &'a [Due],
 }
 
 impl<'a> Model for Round<'a> {
@@ -32,9 +34,9 @@ impl<'a> Model for Round<'a> {
 
     ghost Value = { Rounding };
 
-    ghost view = { λ r. record { cutting = r.tiling.now; levels = r.levels.now; steps = r.steps.now; first = r.first; active = r.active.now } };
+    ghost view = { λ r. record { cutting = r.tiling.now; levels = r.levels.now; steps = r.steps.now; due = r.due.now } };
 
-    ghost invariant = { λ r. IsRounding (record { cutting = r.tiling.now; levels = r.levels.now; steps = r.steps.now; first = r.first; active = r.active.now }) };
+    ghost invariant = { λ r. IsRounding (record { cutting = r.tiling.now; levels = r.levels.now; steps = r.steps.now; due = r.due.now }) };
 }
 
 /// Whether a row of a tile's list differs from what the view has there.
@@ -70,32 +72,50 @@ fn differs(steps: &TileView<'_, Option<u32>>, list: &[Option<u32>]) -> bool
     false
 }
 
+impl<'a> Round<'a> {
+    ghost use Rattle.drain.specs.Rounds.{IsTileStill, levels_of};
+
+    /// Whether a round may change something of a tile.
+    fn is_due(&self, tile: u32) -> bool
+        requires { tile < tile_count self.now.cutting }
+        ensures { OnFalse result (IsTileStill (levels_of self.now) self.now.cutting tile self.now.steps) }
+    {
+        match self.due[tile as usize] {
+            Due::Search => true,
+            Due::IfEntered => {
+                let lent = Lent {
+                    tiling: self.tiling,
+                    levels: self.levels,
+                    steps: self.steps,
+                };
+                lent.is_entered(tile)
+            }
+            Due::Nothing => false,
+        }
+    }
+}
+
 impl<'a> Work for Round<'a> {
     ghost use Rattle.tiles.specs.Cutting.{tile_count};
     ghost use Rattle.drain.specs.Rounds.{IsTileAnswer, levels_of};
 
-    type Out = Option<Vec<Option<u32>>>;
+    type Out = TileAnswer;
 
     ghost most = { λ r. tile_count r.cutting };
 
     ghost gives = { λ r tile out. IsTileAnswer (levels_of r) r.cutting tile r.steps out };
 
-    fn run(&self, alloc: Global, job: u32) -> Result<Option<Vec<Option<u32>>>, JobFault> {
-        if !self.active[job as usize] {
-            return Ok(None);
-        }
-        if !self.first && !is_entered(self.tiling, self.levels, self.steps, job) {
-            return Ok(None);
+    fn run(&self, alloc: Global, job: u32) -> Result<TileAnswer, JobFault> {
+        if !self.is_due(job) {
+            return Ok(TileAnswer::Still);
         }
         let levels = self.tiling.view(self.levels, job);
         let steps = self.tiling.view(self.steps, job);
-        let Ok(list) = flat_steps(alloc, &levels, &steps) else {
-            return Err(JobFault::Memory);
-        };
+        let list = round(alloc, &levels, &steps)?;
         if differs(&steps, &list) {
-            Ok(Some(list))
+            Ok(TileAnswer::Changed(list))
         } else {
-            Ok(None)
+            Ok(TileAnswer::Still)
         }
     }
 }
@@ -135,22 +155,22 @@ fn put_tile(tiling: &Tiling, steps: &mut [Option<u32>], tile: u32, list: &[Optio
 }
 
 /// Writes what a tile's job answered into the counts of the grid.
-fn put_answer(tiling: &Tiling, steps: &mut [Option<u32>], tile: u32, out: &Option<Vec<Option<u32>>>)
+fn put_answer(tiling: &Tiling, steps: &mut [Option<u32>], tile: u32, out: &TileAnswer)
     requires steps { length steps.old ≡ tiling.now.cols * tiling.now.rows }
     requires tile { tile < tile_count tiling.now }
-    requires sized { IfSome out.now (λ list. length list.items ≡ cell_count tiling.now tile) }
+    requires sized { IsSized tiling.now tile out.now }
     ensures told { (p : Place) → IsInTile tiling.now tile p →
         entry_at tiling.now.cols tiling.now.rows steps.new p ≡ told_by tiling.now steps.old p out.now }
     ensures kept { (p : Place) → IsWithin tiling.now p → tile_of_place tiling.now p ≢ tile →
         entry_at tiling.now.cols tiling.now.rows steps.new p ≡ entry_at tiling.now.cols tiling.now.rows steps.old p }
 {
-    if let Some(list) = out {
+    if let TileAnswer::Changed(list) = out {
         put_tile(tiling, steps, tile, list);
     }
 }
 
 /// Writes back what changed.
-fn put_all(tiling: &Tiling, steps: &mut [Option<u32>], outs: &[Option<Vec<Option<u32>>>])
+fn put_all(tiling: &Tiling, steps: &mut [Option<u32>], outs: &[TileAnswer])
     requires steps { length steps.old ≡ tiling.now.cols * tiling.now.rows }
     requires outs { length outs.now ≡ tile_count tiling.now }
     requires sized { AreSized tiling.now outs.now }
@@ -161,14 +181,25 @@ fn put_all(tiling: &Tiling, steps: &mut [Option<u32>], outs: &[Option<Vec<Option
     }
 }
 
+/// Whether a tile changed.
+#[inline(always)]
+fn is_changed(out: &TileAnswer) -> bool
+    ensures { result ≡ is_changed out.now }
+{
+    match out {
+        TileAnswer::Still => false,
+        TileAnswer::Changed(_) => true,
+    }
+}
+
 /// Whether a round changed something.
-fn any_changed(outs: &[Option<Vec<Option<u32>>>]) -> bool
+fn any_changed(outs: &[TileAnswer]) -> bool
     ensures { MatchBool result
-        ((tile : ℕ) × (tile < length outs.now) × IsSome (slice_index_or outs.now tile None))
-        ((tile : ℕ) → tile < length outs.now → slice_index_or outs.now tile None ≡ None) }
+        ((tile : ℕ) × (tile < length outs.now) × (is_changed (slice_index_or outs.now tile Still) ≡ true))
+        ((tile : ℕ) → tile < length outs.now → is_changed (slice_index_or outs.now tile Still) ≡ false) }
 {
     for out in outs {
-        if out.is_some() {
+        if is_changed(out) {
             return true;
         }
     }
@@ -177,10 +208,10 @@ fn any_changed(outs: &[Option<Vec<Option<u32>>>]) -> bool
 
 /// Whether the tile of a place changed. Rows and columns are counted from 1 here; 0 is off the grid.
 #[inline(always)]
-fn changed_near(tiling: &Tiling, outs: &[Option<Vec<Option<u32>>>], row: u32, col: u32) -> bool
+fn changed_near(tiling: &Tiling, outs: &[TileAnswer], row: u32, col: u32) -> bool
     requires { length outs.now ≡ tile_count tiling.now }
     ensures { OnFalse result ((p : Place) → IsWithin tiling.now p → p.row + 1 ≡ row → p.col + 1 ≡ col →
-        slice_index_or outs.now (tile_of_place tiling.now p) None ≡ None) }
+        is_changed (slice_index_or outs.now (tile_of_place tiling.now p) Still) ≡ false) }
 {
     if row == 0 || col == 0 || row > tiling.rows() || col > tiling.cols() {
         return false;
@@ -189,23 +220,18 @@ fn changed_near(tiling: &Tiling, outs: &[Option<Vec<Option<u32>>>], row: u32, co
         row: row - 1,
         col: col - 1,
     });
-    outs[tile as usize].is_some()
+    is_changed(&outs[tile as usize])
 }
 
 /// Whether a tile changed that has a cell in this row, in a tile's columns or beside them.
 #[inline(always)]
-fn changed_along(
-    tiling: &Tiling,
-    outs: &[Option<Vec<Option<u32>>>],
-    bounds: Bounds,
-    row: u32,
-) -> bool
+fn changed_along(tiling: &Tiling, outs: &[TileAnswer], bounds: Bounds, row: u32) -> bool
     requires outs { length outs.now ≡ tile_count tiling.now }
     requires bounds { IsBoundsOf tiling.now bounds }
     requires inside { AreBounds tiling.now bounds }
     requires lawful { IsCutting tiling.now }
     ensures { OnFalse result ((p : Place) → IsWithin tiling.now p → p.row + 1 ≡ row → bounds.left ≤ p.col + 1 → p.col ≤ bounds.left + bounds.cols →
-        slice_index_or outs.now (tile_of_place tiling.now p) None ≡ None) }
+        is_changed (slice_index_or outs.now (tile_of_place tiling.now p) Still) ≡ false) }
 {
     if changed_near(tiling, outs, row, bounds.left) {
         return true;
@@ -217,7 +243,7 @@ fn changed_along(
 }
 
 /// Whether a tile changed or one that it touches.
-fn is_touched(tiling: &Tiling, outs: &[Option<Vec<Option<u32>>>], tile: u32) -> bool
+fn is_touched(tiling: &Tiling, outs: &[TileAnswer], tile: u32) -> bool
     requires outs { length outs.now ≡ tile_count tiling.now }
     requires tile { tile < tile_count tiling.now }
     ensures { OnFalse result (IsUntouched tiling.now outs.now tile) }
@@ -232,21 +258,30 @@ fn is_touched(tiling: &Tiling, outs: &[Option<Vec<Option<u32>>>], tile: u32) -> 
     changed_along(tiling, outs, bounds, bounds.top + bounds.rows + 1)
 }
 
-/// Which tiles may change in the next round: those that changed, and those that they touch.
-pub(crate) fn next_active(
-    alloc: Global,
-    tiling: &Tiling,
-    outs: &[Option<Vec<Option<u32>>>],
-) -> Result<Vec<bool>, AllocError>
+/// What is left to do of a tile that changed or touches one that did, and of any other.
+fn due_of(tiling: &Tiling, outs: &[TileAnswer], tile: u32) -> Due
+    requires outs { length outs.now ≡ tile_count tiling.now }
+    requires tile { tile < tile_count tiling.now }
+    ensures { result ≡ Nothing → IsUntouched tiling.now outs.now tile }
+{
+    if is_touched(tiling, outs, tile) {
+        Due::IfEntered
+    } else {
+        Due::Nothing
+    }
+}
+
+/// What is left to do of each tile.
+fn next_due(alloc: Global, tiling: &Tiling, outs: &[TileAnswer]) -> Result<Vec<Due>, AllocError>
     requires { length outs.now ≡ tile_count tiling.now }
     ensures size { IfOk result (λ v. length v.items ≡ tile_count tiling.now) }
-    ensures untouched { IfOk result (λ v. (tile : ℕ) → tile < tile_count tiling.now → slice_index_or v.items tile true ≡ false → IsUntouched tiling.now outs.now tile) }
+    ensures untouched { IfOk result (λ v. (tile : ℕ) → tile < tile_count tiling.now → slice_index_or v.items tile Search ≡ Nothing → IsUntouched tiling.now outs.now tile) }
 {
-    let mut active = Vec::with_capacity(alloc, outs.len())?;
+    let mut due = Vec::with_capacity(alloc, outs.len())?;
     for tile in 0..tiling.tiles() {
-        active.push(is_touched(tiling, outs, tile))?;
+        due.push(due_of(tiling, outs, tile))?;
     }
-    Ok(active)
+    Ok(due)
 }
 
 /// What the jobs of a round answer, in tile order.
@@ -256,7 +291,7 @@ fn answers<R: Threads + Wait + Sync, G: Gate + Sync>(
     round: &Round<'_>,
     workers: u32,
     gate: &G,
-) -> Result<Vec<Option<Vec<Option<u32>>>>, JobFault>
+) -> Result<Vec<TileAnswer>, JobFault>
     requires { (1 ≤ workers) × (workers ≤ 64) }
     ensures answered { IfOk result (λ outs. AreAnswered round.now outs.items) }
     ensures fault { IfErr result (λ e. e ≢ JobFault.BadWorkers) }
@@ -265,42 +300,49 @@ fn answers<R: Threads + Wait + Sync, G: Gate + Sync>(
     run_jobs(rt, alloc, round, round.tiling.tiles(), workers, gate)
 }
 
-/// One round over all tiles; whether it changed something.
-fn one_round<R: Threads + Wait + Sync, G: Gate + Sync>(
-    rt: &R,
-    alloc: Global,
-    tiling: &Tiling,
-    levels: &[Option<Height>],
-    steps: &mut [Option<u32>],
-    first: bool,
-    active: &mut Vec<bool>,
-    workers: u32,
-    gate: &G,
-) -> Result<bool, JobFault>
-    requires workers { (1 ≤ workers) × (workers ≤ 64) }
-    requires rounding { IsRounding (record { cutting = tiling.now; levels = levels.now; steps = steps.old; first = first; active = active.old.items }) }
-    ensures rounding { OnOk result (IsRounding (record { cutting = tiling.now; levels = levels.now; steps = steps.new; first = false; active = active.new.items })) }
-    ensures more { IfOk result (λ more. MatchBool more (left_to_count steps.new < left_to_count steps.old)
-        (AreStill (record { cutting = tiling.now; levels = levels.now; steps = steps.new; first = false; active = active.new.items }))) }
-    ensures fault { IfErr result (λ e. e ≢ JobFault.BadWorkers) }
-    ensures no_thread { result ≡ Err JobFault.NoThread → 1 < workers }
-{
-    let outs = {
-        let round = Round {
-            tiling,
-            levels,
-            steps,
-            first,
-            active,
+/// The counts of a grid on their way, and what the next round has to do.
+#[derive(Drop)]
+struct Counting<'a> {
+    tiling: &'a Tiling,
+    levels: &'a [Option<Height>],
+    steps: Vec<Option<u32>>,
+    due: Vec<Due>,
+}
+
+impl<'a> Counting<'a> {
+    ghost use Rattle.drain.specs.Rounds.{rounding_of};
+
+    /// One round over all tiles; whether it changed something.
+    fn one_round<R: Threads + Wait + Sync, G: Gate + Sync>(
+        &mut self,
+        rt: &R,
+        alloc: Global,
+        workers: u32,
+        gate: &G,
+    ) -> Result<bool, JobFault>
+        requires workers { (1 ≤ workers) × (workers ≤ 64) }
+        requires rounding { IsRounding (rounding_of self.old) }
+        ensures next { IfOk result (λ more. IsNext (rounding_of self.old) (rounding_of self.new) more) }
+        ensures ground { (self.new.tiling ≡ self.old.tiling) × (self.new.levels ≡ self.old.levels) }
+        ensures fault { IfErr result (λ e. e ≢ JobFault.BadWorkers) }
+        ensures no_thread { result ≡ Err JobFault.NoThread → 1 < workers }
+    {
+        let outs = {
+            let round = Round {
+                tiling: self.tiling,
+                levels: self.levels,
+                steps: &self.steps,
+                due: &self.due,
+            };
+            answers(rt, alloc, &round, workers, gate)?
         };
-        answers(rt, alloc, &round, workers, gate)?
-    };
-    if !any_changed(&outs) {
-        return Ok(false);
+        if !any_changed(&outs) {
+            return Ok(false);
+        }
+        self.due = next_due(alloc, self.tiling, &outs)?;
+        put_all(self.tiling, &mut self.steps, &outs);
+        Ok(true)
     }
-    *active = next_active(alloc, tiling, &outs)?;
-    put_all(tiling, steps, &outs);
-    Ok(true)
 }
 
 /// Rounds over all tiles, each from the counts that the one before put back, until one changes nothing.
@@ -309,31 +351,24 @@ pub(crate) fn settle<R: Threads + Wait + Sync, G: Gate + Sync>(
     alloc: Global,
     tiling: &Tiling,
     levels: &[Option<Height>],
-    mut steps: Vec<Option<u32>>,
+    steps: Vec<Option<u32>>,
     workers: u32,
     gate: &G,
 ) -> Result<Vec<Option<u32>>, JobFault>
     requires workers { (1 ≤ workers) × (workers ≤ 64) }
     requires size { length levels.now ≡ tiling.now.cols * tiling.now.rows }
-    requires counting { AreCounting (record { cols = tiling.now.cols; rows = tiling.now.rows; cells = levels.now }) steps.items }
-    ensures settled { IfOk result (λ s. AreSettled tiling.now (record { cols = tiling.now.cols; rows = tiling.now.rows; cells = levels.now }) s.items) }
+    requires counting { AreCounting (lent_terrain tiling.now levels.now) steps.items }
+    ensures settled { IfOk result (λ s. AreSettled tiling.now (lent_terrain tiling.now levels.now) steps.items s.items) }
     ensures fault { IfErr result (λ e. e ≢ JobFault.BadWorkers) }
     ensures no_thread { result ≡ Err JobFault.NoThread → 1 < workers }
 {
-    let mut active = vec![in alloc; true; tiling.tiles() as usize]?;
-    let mut first = true;
-    while one_round(
-        rt,
-        alloc,
+    let due = vec![in alloc; Due::Search; tiling.tiles() as usize]?;
+    let mut counting = Counting {
         tiling,
         levels,
-        &mut steps,
-        first,
-        &mut active,
-        workers,
-        gate,
-    )? {
-        first = false;
-    }
-    Ok(steps)
+        steps,
+        due,
+    };
+    while counting.one_round(rt, alloc, workers, gate)? {}
+    Ok(counting.steps)
 }

@@ -1,12 +1,10 @@
 // The stages before and after the rounds: one job for each tile.
 ghost use Rattle.std.specs.Prelude.{◌≡◌, ◌≢◌, ◌<◌, ◌≤◌, Err, IfOk, IfErr};
 ghost use Rattle.ascii_grid.specs.Raster.{IsTerrain};
-ghost use Rattle.tiles.specs.Cutting.{IsCutting, Cuts, AreTileLists, IsPutBack};
-ghost use Rattle.drain.specs.Beginning.{IsBegun};
-ghost use Rattle.drain.specs.Directions.{IsCodeAt, AreDirections};
-ghost use Rattle.drain.specs.Rounds.{AreCounting};
+ghost use Rattle.tiles.specs.Cutting.{Cuts, AreTileLists, IsPutBack};
+ghost use Rattle.drain.specs.Beginning.{AreBegun};
+ghost use Rattle.drain.specs.Directions.{AreDirections};
 ghost use Rattle.drain.specs.Steps.{AreSteps};
-ghost use Rattle.drain.specs.TileLists.{AreMadeTiles};
 
 use crate::beginning::begin_tile;
 use crate::surroundings::codes_of_tile;
@@ -24,16 +22,7 @@ use tiles::Tiling;
 struct BeginTiles<'a> {
     grid: &'a Grid,
     tiling: &'a Tiling,
-}
-
-impl<'a> Model for BeginTiles<'a> {
-    ghost use Rattle.drain.specs.Stages.{CutTerrain, IsCutTerrain};
-
-    ghost Value = { CutTerrain };
-
-    ghost view = { λ w. record { terrain = w.grid.now.terrain; cutting = w.tiling.now } };
-
-    ghost invariant = { λ w. IsCutTerrain (record { terrain = w.grid.now.terrain; cutting = w.tiling.now }) };
+    ghost cuts: { Cuts tiling.now grid.now.terrain },
 }
 
 impl<'a> Work for BeginTiles<'a> {
@@ -43,9 +32,9 @@ impl<'a> Work for BeginTiles<'a> {
 
     type Out = Vec<Option<u32>>;
 
-    ghost most = { λ w. tile_count w.cutting };
+    ghost most = { λ w. tile_count w.tiling.now };
 
-    ghost gives = { λ w tile out. IsMadeTile w.cutting tile (IsBegun w.terrain) out.items };
+    ghost gives = { λ w tile out. IsMadeTile w.tiling.now tile (IsBegun w.grid.now.terrain) out.items };
 
     fn run(&self, alloc: Global, job: u32) -> Result<Vec<Option<u32>>, JobFault> {
         let bounds = self.tiling.bounds(job);
@@ -106,28 +95,6 @@ fn put_back<T: Copy + Drop>(
     }
 }
 
-/// The counts of each tile that the rounds begin with.
-fn begun_tiles<R: Threads + Wait + Sync, G: Gate + Sync>(
-    rt: &R,
-    alloc: Global,
-    grid: &Grid,
-    tiling: &Tiling,
-    workers: u32,
-    gate: &G,
-) -> Result<Vec<Vec<Option<u32>>>, JobFault>
-    requires cuts { Cuts tiling.now grid.now.terrain }
-    requires workers { (1 ≤ workers) × (workers ≤ 64) }
-    requires lawful { IsTerrain grid.now.terrain }
-    ensures lawful { IsCutting tiling.now }
-    ensures made { IfOk result (λ lists. AreMadeTiles tiling.now (IsBegun grid.now.terrain) lists.items) }
-    ensures fault { IfErr result (λ e. e ≢ JobFault.BadWorkers) }
-    ensures no_thread { result ≡ Err JobFault.NoThread → 1 < workers }
-{
-    let tiles = tiling.tiles();
-    let work = BeginTiles { grid, tiling };
-    run_jobs(rt, alloc, &work, tiles, workers, gate)
-}
-
 /// The counts that the rounds begin with.
 pub(crate) fn begin<R: Threads + Wait + Sync, G: Gate + Sync>(
     rt: &R,
@@ -139,41 +106,20 @@ pub(crate) fn begin<R: Threads + Wait + Sync, G: Gate + Sync>(
 ) -> Result<Vec<Option<u32>>, JobFault>
     requires cuts { Cuts tiling.now grid.now.terrain }
     requires workers { (1 ≤ workers) × (workers ≤ 64) }
-    requires lawful { IsTerrain grid.now.terrain }
-    ensures counting { IfOk result (λ counts. AreCounting grid.now.terrain counts.items) }
-    ensures fault { IfErr result (λ e. e ≢ JobFault.BadWorkers) }
-    ensures no_thread { result ≡ Err JobFault.NoThread → 1 < workers }
-{
-    let lists = begun_tiles(rt, alloc, grid, tiling, workers, gate)?;
-    put_back(alloc, tiling, &lists)
-}
-
-/// The codes of each tile.
-fn tile_codes<R: Threads + Wait + Sync, G: Gate + Sync>(
-    rt: &R,
-    alloc: Global,
-    grid: &Grid,
-    steps: &[Option<u32>],
-    tiling: &Tiling,
-    workers: u32,
-    gate: &G,
-) -> Result<Vec<Vec<Option<Code>>>, JobFault>
-    requires cuts { Cuts tiling.now grid.now.terrain }
-    requires workers { (1 ≤ workers) × (workers ≤ 64) }
-    requires lawful { IsTerrain grid.now.terrain }
-    requires steps { AreSteps grid.now.terrain steps.now }
-    ensures lawful { IsCutting tiling.now }
-    ensures made { IfOk result (λ lists. AreMadeTiles tiling.now (IsCodeAt grid.now.terrain) lists.items) }
+    ensures begun { IfOk result (λ counts. AreBegun grid.now.terrain counts.items) }
     ensures fault { IfErr result (λ e. e ≢ JobFault.BadWorkers) }
     ensures no_thread { result ≡ Err JobFault.NoThread → 1 < workers }
 {
     let tiles = tiling.tiles();
-    let work = CodeTiles {
-        grid,
-        steps,
-        tiling,
-    };
-    run_jobs(rt, alloc, &work, tiles, workers, gate)
+    let lists = run_jobs(
+        rt,
+        alloc,
+        &BeginTiles { grid, tiling },
+        tiles,
+        workers,
+        gate,
+    )?;
+    put_back(alloc, tiling, &lists)
 }
 
 /// The codes of all cells, in row order.
@@ -194,6 +140,12 @@ pub(crate) fn codes<R: Threads + Wait + Sync, G: Gate + Sync>(
     ensures fault { IfErr result (λ e. e ≢ JobFault.BadWorkers) }
     ensures no_thread { result ≡ Err JobFault.NoThread → 1 < workers }
 {
-    let lists = tile_codes(rt, alloc, grid, steps, tiling, workers, gate)?;
+    let tiles = tiling.tiles();
+    let work = CodeTiles {
+        grid,
+        steps,
+        tiling,
+    };
+    let lists = run_jobs(rt, alloc, &work, tiles, workers, gate)?;
     put_back(alloc, tiling, &lists)
 }

@@ -11,10 +11,8 @@ use Rattle.ascii_grid.proofs.Places.{make_place, same_place, index_below, entry-
 use Rattle.ascii_grid.specs.Raster.{Terrain, IsTerrain}
 use Rattle.ascii_grid.specs.Neighbours.{IsInside, IsDataCell, IsEdge, height_of, index_of}
 use Rattle.ascii_grid.specs.declared.place.Place.{Place}
-use Rattle.drain.specs.Beginning.{IsBegun}
-use Rattle.drain.specs.Rounds.{AreCounting}
+use Rattle.drain.specs.Beginning.{IsBegun, AreBegun}
 use Rattle.drain.specs.Steps.{IsLower}
-use Rattle.drain.proofs.Block.{begun_counting}
 use Rattle.drain.proofs.Counted.{height_is}
 use Rattle.drain.proofs.Quiet.{data_inside}
 
@@ -82,10 +80,11 @@ begun_next t level cols index counts edge flat same before is =
     (subst (λ (n : ℕ). IsBegun t (make_place (index / n) (index % n)) (then_some edge 0)) same (begun_at t level _ edge flat is))
 
 -- the counts of all cells
-pub all_begun : (t : Terrain) (cols rows : ℕ) (counts : List (Option ℕ)) → cols ≡ t.cols → rows ≡ t.rows → AreBegunBelow t (cols * rows) counts → AreCounting t counts
+pub all_begun : (t : Terrain) (cols rows : ℕ) (counts : List (Option ℕ)) → cols ≡ t.cols → rows ≡ t.rows → AreBegunBelow t (cols * rows) counts → AreBegun t counts
 all_begun t cols rows counts same_cols same_rows begun =
     let all : cols * rows ≡ t.cols * t.rows = ap (λ (n : ℕ). n * rows) same_cols ∙ ap (λ (n : ℕ). t.cols * n) same_rows in
-    begun_counting t counts (begun.size ∙ all)
-    (λ p inside.
-    subst (λ (o : Option ℕ). IsBegun t p o) (sym (entry-inside t.cols t.rows counts p inside.0 inside.1))
-    (begun.each p inside (omega (arith, all, index_below t.cols t.rows p inside.0 inside.1))))
+    record {
+      size = begun.size ∙ all;
+      each = λ p inside. subst (λ (o : Option ℕ). IsBegun t p o) (sym (entry-inside t.cols t.rows counts p inside.0 inside.1))
+          (begun.each p inside (omega (arith, all, index_below t.cols t.rows p inside.0 inside.1)));
+    }

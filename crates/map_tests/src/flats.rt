@@ -1,6 +1,6 @@
 // One round of counting steps over a tile of level ground, from the counts that the rounds begin with.
 ghost use Rattle.std.specs.Prelude.{◌≡◌, ◌↔◌, All, IfOk, IfSome, IsTrue};
-ghost use Rattle.drain.specs.Rounds.{AreCounting};
+ghost use Rattle.drain.specs.Beginning.{AreBegun};
 
 use crate::ground::{cut, land};
 use crate::maps::agree;
@@ -25,7 +25,7 @@ fn is_level(cells: &[Option<Height>]) -> bool
 /// lower neighbour.
 fn begun(alloc: Global, grid: &Grid) -> Result<Vec<Option<u32>>, AllocError>
     requires { All (λ c. IfSome c (λ h. h ≡ LEVEL)) grid.now.terrain.cells }
-    ensures { IfOk result (λ v. AreCounting grid.now.terrain v.items) }
+    ensures { IfOk result (λ v. AreBegun grid.now.terrain v.items) }
 {
     let cols = grid.cols();
     let mut counts = Vec::new(alloc);

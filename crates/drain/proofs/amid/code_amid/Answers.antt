@@ -1,19 +1,17 @@
-use Rattle.std.proofs.Common.{ℤ, length, sym, ap, subst, ◌∙◌, rules, to_z-of_z}
+use Rattle.std.proofs.Common.{ℤ, length, arith, sym, ap, subst, rules, to_z-of_z}
 use mir.Val.{SFits}
 use mir.Syntax.{w32}
 use Rattle.ascii_grid.specs.Raster.{IsHeight}
 use Rattle.drain.specs.Amid.{StandAround}
 use Rattle.drain.proofs.AroundLemmas.{height_fits}
-use Rattle.drain.proofs.AmidLemmas.{around_of, at_there, around_within, stand, has_heights, heights_there, heights_fit, leads, code_onward, code_down, code_outlet}
+use Rattle.drain.proofs.AmidLemmas.{around_of, stand, has_heights, heights_fit, leads, code_onward, code_down, code_outlet}
 use Rattle.drain.proofs.amid.code_amid.Goals as goal
 
 pub onward-requires-clause-cells : goal.onward-requires-clause-cells
-onward-requires-clause-cells c =
-    around_within c.args.grid.now.terrain c.args.place c.cells-cells.result.now c.around_index-at.result (ap length c.cells-cells.ensures.value ∙ c.requires.lawful.size) (at_there c.args.grid.now.terrain c.args.place c.cols-cols.result c.around_index-at.result c.around_index-at.ensures c.cols-cols.ensures.value) c.requires.inside c.requires.amid
+onward-requires-clause-cells c = λ way below. omega (arith, c.cells_around-at.ensures.below way below, ap length c.cells-cells.ensures.value, c.requires.lawful.size)
 
 pub onward-requires-clause-steps : goal.onward-requires-clause-steps
-onward-requires-clause-steps c =
-    around_within c.args.grid.now.terrain c.args.place c.args.steps.now c.around_index-at.result c.requires.steps.size (at_there c.args.grid.now.terrain c.args.place c.cols-cols.result c.around_index-at.result c.around_index-at.ensures c.cols-cols.ensures.value) c.requires.inside c.requires.amid
+onward-requires-clause-steps c = λ way below. omega (arith, c.cells_around-at.ensures.below way below, c.requires.steps.size)
 
 pub onward-requires-clause-some : goal.onward-requires-clause-some
 onward-requires-clause-some c =
@@ -21,8 +19,8 @@ onward-requires-clause-some c =
     let t = c.args.grid.now.terrain in
     let a = around_of t c.args.steps.now c.args.place c.args.level c.args.own in (
       a,
-      subst (λ (z : ℤ). StandAround a c.cells-cells.result.now c.args.steps.now c.around_index-at.result z c.args.own) (sym (to_z-of_z fits))
-          (stand t c.args.steps.now c.args.place c.args.level c.args.own c.requires.lawful c.requires.steps c.requires.inside c.requires.amid c.requires.level c.requires.own c.cells-cells.result.now c.around_index-at.result c.cells-cells.ensures.value (at_there c.args.grid.now.terrain c.args.place c.cols-cols.result c.around_index-at.result c.around_index-at.ensures c.cols-cols.ensures.value)),
+      subst (λ (z : ℤ). StandAround a c.cells-cells.result.now c.args.steps.now c.cells_around-at.result z c.args.own) (sym (to_z-of_z fits))
+          (stand t c.args.steps.now c.args.place c.args.level c.args.own c.requires.lawful c.requires.steps c.requires.inside c.requires.amid c.requires.level c.requires.own c.cells-cells.result.now c.cells_around-at.result c.cells-cells.ensures.value c.cells_around-at.ensures.value),
       leads t c.args.steps.now c.args.place c.args.level c.args.own c.requires.lawful c.requires.steps c.requires.inside c.requires.amid c.requires.level c.requires.own c.if-own-gt0.true,
     )
 
@@ -33,12 +31,11 @@ returns-then-own-gt0 c =
     let first = rw (to_z-of_z fits) at c.onward.ensures.first in
     code_onward t c.args.steps.now c.args.place c.args.level c.args.own c.requires.lawful c.requires.steps c.requires.inside c.requires.amid c.requires.level c.requires.own c.onward.result c.of_way.result c.if-own-gt0.true
     (first (around_of t c.args.steps.now c.args.place c.args.level c.args.own)
-    (stand t c.args.steps.now c.args.place c.args.level c.args.own c.requires.lawful c.requires.steps c.requires.inside c.requires.amid c.requires.level c.requires.own c.cells-cells.result.now c.around_index-at.result c.cells-cells.ensures.value (at_there c.args.grid.now.terrain c.args.place c.cols-cols.result c.around_index-at.result c.around_index-at.ensures c.cols-cols.ensures.value)))
+    (stand t c.args.steps.now c.args.place c.args.level c.args.own c.requires.lawful c.requires.steps c.requires.inside c.requires.amid c.requires.level c.requires.own c.cells-cells.result.now c.cells_around-at.result c.cells-cells.ensures.value c.cells_around-at.ensures.value))
     c.of_way.ensures
 
 pub heights_at-requires : goal.heights_at-requires
-heights_at-requires c =
-    around_within c.args.grid.now.terrain c.args.place c.cells-cells.result.now c.around_index-at.result (ap length c.cells-cells.ensures.value ∙ c.requires.lawful.size) (at_there c.args.grid.now.terrain c.args.place c.cols-cols.result c.around_index-at.result c.around_index-at.ensures c.cols-cols.ensures.value) c.requires.inside c.requires.amid
+heights_at-requires c = λ way below. omega (arith, c.cells_around-at.ensures.below way below, ap length c.cells-cells.ensures.value, c.requires.lawful.size)
 
 pub steepest-fall-requires-clause-level : goal.steepest-fall-requires-clause-level
 steepest-fall-requires-clause-level c =
@@ -47,8 +44,8 @@ steepest-fall-requires-clause-level c =
 
 pub steepest-fall-requires-clause-heights : goal.steepest-fall-requires-clause-heights
 steepest-fall-requires-clause-heights c =
-    heights_fit c.args.grid.now.terrain c.args.place c.heights_at.result c.requires.lawful c.requires.inside c.requires.amid
-    (heights_there c.args.grid.now.terrain c.args.place c.cells-cells.result.now c.heights_at.result c.around_index-at.result c.cells-cells.ensures.value (at_there c.args.grid.now.terrain c.args.place c.cols-cols.result c.around_index-at.result c.around_index-at.ensures c.cols-cols.ensures.value) c.heights_at.ensures)
+    heights_fit c.args.grid.now.terrain c.args.place c.cells-cells.result.now c.heights_at.result c.cells_around-at.result c.requires.lawful c.requires.inside c.requires.amid
+    c.cells-cells.ensures.value c.cells_around-at.ensures.value c.heights_at.ensures
 
 pub of_way-requires-then-fall-gt0 : goal.of_way-requires-then-fall-gt0
 of_way-requires-then-fall-gt0 c =
@@ -56,16 +53,16 @@ of_way-requires-then-fall-gt0 c =
     let t = c.args.grid.now.terrain in
     let way = rw (to_z-of_z fits) at c.steepest-fall.ensures.way in
     (way (around_of t c.args.steps.now c.args.place c.args.level c.args.own)
-    (has_heights t c.args.steps.now c.args.place c.args.level c.args.own c.requires.lawful c.requires.steps c.requires.inside c.requires.amid c.requires.level c.requires.own c.heights_at.result
-    (heights_there t c.args.place c.cells-cells.result.now c.heights_at.result c.around_index-at.result c.cells-cells.ensures.value (at_there c.args.grid.now.terrain c.args.place c.cols-cols.result c.around_index-at.result c.around_index-at.ensures c.cols-cols.ensures.value) c.heights_at.ensures)) c.if-fall-gt0.true).0
+    (has_heights t c.args.steps.now c.args.place c.args.level c.args.own c.requires.lawful c.requires.steps c.requires.inside c.requires.amid c.requires.level c.requires.own c.cells-cells.result.now c.heights_at.result
+    c.cells_around-at.result c.cells-cells.ensures.value c.cells_around-at.ensures.value c.heights_at.ensures) c.if-fall-gt0.true).0
 
 pub returns-then-fall-gt0 : goal.returns-then-fall-gt0
 returns-then-fall-gt0 c =
     let fits : SFits w32 c.args.level = search rules in
     let t = c.args.grid.now.terrain in
     let a = around_of t c.args.steps.now c.args.place c.args.level c.args.own in
-    let has = has_heights t c.args.steps.now c.args.place c.args.level c.args.own c.requires.lawful c.requires.steps c.requires.inside c.requires.amid c.requires.level c.requires.own c.heights_at.result
-    (heights_there t c.args.place c.cells-cells.result.now c.heights_at.result c.around_index-at.result c.cells-cells.ensures.value (at_there c.args.grid.now.terrain c.args.place c.cols-cols.result c.around_index-at.result c.around_index-at.ensures c.cols-cols.ensures.value) c.heights_at.ensures) in
+    let has = has_heights t c.args.steps.now c.args.place c.args.level c.args.own c.requires.lawful c.requires.steps c.requires.inside c.requires.amid c.requires.level c.requires.own c.cells-cells.result.now c.heights_at.result
+    c.cells_around-at.result c.cells-cells.ensures.value c.cells_around-at.ensures.value c.heights_at.ensures in
     let weight = rw (to_z-of_z fits) at c.steepest-fall.ensures.weight in
     let way = rw (to_z-of_z fits) at c.steepest-fall.ensures.way in
     code_down t c.args.steps.now c.args.place c.args.level c.args.own c.requires.lawful c.requires.steps c.requires.inside c.requires.amid c.requires.level c.requires.own
@@ -76,8 +73,8 @@ returns-else-fall-gt0 c =
     let fits : SFits w32 c.args.level = search rules in
     let t = c.args.grid.now.terrain in
     let a = around_of t c.args.steps.now c.args.place c.args.level c.args.own in
-    let has = has_heights t c.args.steps.now c.args.place c.args.level c.args.own c.requires.lawful c.requires.steps c.requires.inside c.requires.amid c.requires.level c.requires.own c.heights_at.result
-    (heights_there t c.args.place c.cells-cells.result.now c.heights_at.result c.around_index-at.result c.cells-cells.ensures.value (at_there c.args.grid.now.terrain c.args.place c.cols-cols.result c.around_index-at.result c.around_index-at.ensures c.cols-cols.ensures.value) c.heights_at.ensures) in
+    let has = has_heights t c.args.steps.now c.args.place c.args.level c.args.own c.requires.lawful c.requires.steps c.requires.inside c.requires.amid c.requires.level c.requires.own c.cells-cells.result.now c.heights_at.result
+    c.cells_around-at.result c.cells-cells.ensures.value c.cells_around-at.ensures.value c.heights_at.ensures in
     let weight = rw (to_z-of_z fits) at c.steepest-fall.ensures.weight in
     code_outlet t c.args.steps.now c.args.place c.args.level c.args.own c.requires.lawful c.requires.steps c.requires.inside c.requires.amid c.requires.level c.requires.own
     c.steepest-fall.result.weight c.outlet.result c.if-own-gt0.false (weight a has) c.if-fall-gt0.false c.outlet.ensures

@@ -1,7 +1,24 @@
-use Rattle.std.proofs.Common.{inr}
-use Rattle.drain.proofs.Block.{outermost_edge}
+use Rattle.std.proofs.Common.{◌∙◌, inr, length, sym, ap, arith, rules, to_z-of_z}
+use mir.Val.{SFits}
+use mir.Syntax.{w32}
+use Rattle.std.proofs.lemmas.Bool.{false≢true}
+use Rattle.drain.specs.Beginning.{IsOutermost}
+use Rattle.drain.proofs.Block.{outermost_edge, around_drains, around_keeps, MatchBool-weaker}
 use Rattle.drain.proofs.beginning.drains_at_once.Goals as goal
 
 pub returns-then-is_outermost : goal.returns-then-is_outermost
 returns-then-is_outermost c =
     inr (outermost_edge c.args.grid.now.terrain c.args.place c.args.level c.requires.inside c.requires.level (c.is_outermost.ensures.0 c.if-is_outermost.true))
+
+pub any_gap_or_lower-requires : goal.any_gap_or_lower-requires
+any_gap_or_lower-requires c = λ way below.
+    omega (arith, c.cells_around-at.ensures.below way below, ap length c.cells-cells.ensures.value, c.cells-cells.ensures.lawful.terrain.size)
+
+pub returns : goal.returns
+returns c =
+    let fits : SFits w32 c.args.level = search rules in
+    let t = c.args.grid.now.terrain in
+    let amid : IsOutermost t c.args.place → ⊥ = λ outer. false≢true (sym c.if-is_outermost.false ∙ c.is_outermost.ensures.1 outer) in
+    MatchBool-weaker c.any_gap_or_lower.result (rw (to_z-of_z fits) at c.any_gap_or_lower.ensures)
+    (around_drains t c.args.place c.args.level c.cells-cells.result.now c.cells_around-at.result c.cells-cells.ensures.value c.cells_around-at.ensures.value c.requires.inside amid c.requires.level)
+    (around_keeps t c.args.place c.args.level c.cells-cells.result.now c.cells_around-at.result c.cells-cells.ensures.value c.cells_around-at.ensures.value c.requires.inside amid c.requires.level)

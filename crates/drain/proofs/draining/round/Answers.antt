@@ -1,8 +1,9 @@
 use Rattle.std.proofs.Common.{◌∙◌, ◌*◌, List, Option, Vec, Global, ℕ, length, sym, ap, subst}
 use Rattle.std.proofs.lemmas.Result.{IfOk-weaker}
 use Rattle.tiles.specs.Cutting.{terrain_of}
-use Rattle.drain.specs.Rounds.{IsRound}
-use Rattle.drain.specs.Window.{AreCounts, IsSettled, AreKnownBelow}
+use Rattle.drain.specs.Rounds.{IsLent, IsRound}
+use Rattle.drain.specs.TileLists.{AreMadeBelow}
+use Rattle.drain.specs.Window.{AreCounts, IsSettled, IsHandedOut}
 use Rattle.drain.proofs.TileRound.{lent_to, lent_small, lent_size, round_from}
 use Rattle.drain.proofs.draining.round.Goals as goal
 
@@ -41,8 +42,8 @@ returns c =
     let new = c.in_ok-counts.counts.items in
     let lent = lent_to v w b old c.requires.cutting c.requires.tile c.in_ok-ground.ensures.bounds c.in_ok-old.ensures in
     let settled = subst (λ (xs : List ℕ). IsSettled b g.levels.items xs new) c.deref.ensures.value c.in_ok-counts.ensures.settled in
-    IfOk-weaker c.hand_out.result (λ (list : Vec (Option ℕ) Global). AreKnownBelow b c.deref-2.result.now (b.rows * b.cols) list.items)
-    (λ (list : Vec (Option ℕ) Global). IsRound (terrain_of v) v.cutting v.tile w.cells list.items)
+    IfOk-weaker c.hand_out.result (λ (list : Vec (Option ℕ) Global). AreMadeBelow b (IsHandedOut b c.deref-2.result.now) (b.rows * b.cols) list.items)
+    (λ (list : Vec (Option ℕ) Global). IsRound (IsLent (terrain_of v) w.cells) (terrain_of v) v.cutting v.tile w.cells list.items)
     (λ list out. round_from v w b g.levels.items old new list.items c.in_ok-ground.ensures.lawful c.in_ok-ground.ensures.bounds c.in_ok-ground.ensures.shown lent c.requires.walked settled
-    (subst (λ (xs : List ℕ). AreKnownBelow b xs (b.rows * b.cols) list.items) c.deref-2.ensures.value out))
+    (subst (λ (xs : List ℕ). AreMadeBelow b (IsHandedOut b xs) (b.rows * b.cols) list.items) c.deref-2.ensures.value out))
     c.hand_out.ensures

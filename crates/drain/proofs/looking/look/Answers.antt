@@ -1,22 +1,26 @@
-use Rattle.std.proofs.Common.{◌≡◌, ◌+◌, ◌*◌, ℕ, ap, arith}
+use Rattle.std.proofs.Common.{◌≡◌, ◌+◌, ◌*◌, ℕ, subst, arith}
 use Rattle.tiles.specs.Cutting.{bounds_of}
+use Rattle.drain.specs.Window.{AreShownBelow}
 use Rattle.drain.proofs.Spots.{shown_whole}
 use Rattle.drain.proofs.looking.look.Goals as goal
+
+pub look_beside-requires-2-clause-list : goal.look_beside-requires-2-clause-list
+look_beside-requires-2-clause-list g c =
+    let v = c.args.view.now in
+    let b = c.bounds-bounds.result in
+    let end : c.loop-row.row ≡ b.rows + 1 = omega arith in
+    subst (λ (n : ℕ). AreShownBelow {X = g.row.T.Denot} v.cutting.cols v.cutting.rows v.cells b (n * (b.cols + 2)) c.loop-row.list.items) end c.loop-row.invariant
 
 pub returns-clause-size : goal.returns-clause-size
 returns-clause-size g c =
     let v = c.args.view.now in
     let b = c.bounds-bounds.result in
-    let end : c.loop-row.row ≡ b.rows + 2 = omega arith in
-    let whole = shown_whole v.cutting.cols v.cutting.rows v.cells b (bounds_of v.cutting v.tile) (c.loop-row.row * (b.cols + 2)) c.loop-row.list.items
-    c.bounds-bounds.ensures.value (ap (λ (n : ℕ). n * (b.cols + 2)) end) c.loop-row.invariant in
-    whole.0
+    (shown_whole v.cutting.cols v.cutting.rows v.cells b (bounds_of v.cutting v.tile) ((b.rows + 1 + 1) * (b.cols + 2)) c.look_beside-2.new.list.items
+    c.bounds-bounds.ensures.value (omega arith) c.in_ok-look_beside-2.ensures).0
 
 pub returns-clause-shown : goal.returns-clause-shown
 returns-clause-shown g c =
     let v = c.args.view.now in
     let b = c.bounds-bounds.result in
-    let end : c.loop-row.row ≡ b.rows + 2 = omega arith in
-    let whole = shown_whole v.cutting.cols v.cutting.rows v.cells b (bounds_of v.cutting v.tile) (c.loop-row.row * (b.cols + 2)) c.loop-row.list.items
-    c.bounds-bounds.ensures.value (ap (λ (n : ℕ). n * (b.cols + 2)) end) c.loop-row.invariant in
-    whole.1
+    (shown_whole v.cutting.cols v.cutting.rows v.cells b (bounds_of v.cutting v.tile) ((b.rows + 1 + 1) * (b.cols + 2)) c.look_beside-2.new.list.items
+    c.bounds-bounds.ensures.value (omega arith) c.in_ok-look_beside-2.ensures).1

@@ -1,8 +1,16 @@
-use Rattle.drain.specs.Rounds.{IsRounding, left_to_count}
+use Rattle.std.proofs.Common.{◌≡◌}
+use Rattle.drain.specs.Rounds.{rounding_of}
+use Rattle.drain.specs.Entering.{lent_terrain}
+use Rattle.drain.specs.Rounds.{IsRounding, LendSame, left_to_count}
 use Rattle.drain.proofs.rounds.settle.Given as goal
 
-abbrev pub invariant-loop-active : goal.invariant-loop-active
-invariant-loop-active g l = IsRounding (record { cutting = l.tiling; levels = l.levels; steps = l.steps.items; first = l.first; active = l.active.items })
+abbrev pub invariant-loop-counting : goal.invariant-loop-counting
+invariant-loop-counting g l = record {
+  tiling : l.counting.tiling.now ≡ l.tiling;
+  levels : l.counting.levels.now ≡ l.levels;
+  rounding : IsRounding (rounding_of l.counting);
+  same_lent : LendSame (lent_terrain l.tiling l.levels) l.fn.steps.items l.counting.steps.items;
+}
 
-abbrev pub decreases-loop-active : goal.decreases-loop-active
-decreases-loop-active g l = left_to_count l.steps.items
+abbrev pub decreases-loop-counting : goal.decreases-loop-counting
+decreases-loop-counting g l = left_to_count l.counting.steps.items

@@ -1,25 +1,28 @@
 use Rattle.std.proofs.Common.{List, Vec, Global, Option, ℕ, sym, subst}
 use Rattle.std.proofs.lemmas.Result.{IfOk-weaker}
 use Rattle.tiles.specs.Cutting.{AreTileLists, IsPutBack}
-use Rattle.drain.specs.Beginning.{IsBegun}
-use Rattle.drain.specs.Rounds.{AreCounting}
-use Rattle.drain.proofs.Block.{begun_counting}
-use Rattle.drain.proofs.TileLists.{lists_of_tiles, put_back_inside, put_back_size}
+use Rattle.drain.specs.Beginning.{IsBegun, AreBegun}
+use Rattle.drain.proofs.TileLists.{tiles_made, lists_of_tiles, put_back_inside, put_back_size}
 use Rattle.drain.proofs.stages.begin.Goals as goal
 
 pub put_back-requires : goal.put_back-requires
 put_back-requires g c =
     let t = c.args.grid.now.terrain in
-    subst (λ (xs : List (Vec (Option ℕ) Global)). AreTileLists c.args.tiling.now xs) (sym c.deref.ensures.value)
-    (lists_of_tiles c.args.tiling.now (IsBegun t) c.in_ok-lists.lists.items c.in_ok-lists.ensures.made)
+    let k = c.args.tiling.now in
+    let made = tiles_made k (IsBegun t) c.tiles-tiles.result c.in_ok-lists.lists c.in_ok-lists.ensures.len c.tiles-tiles.ensures.value c.in_ok-lists.ensures.given in
+    subst (λ (xs : List (Vec (Option ℕ) Global)). AreTileLists k xs) (sym c.deref.ensures.value) (lists_of_tiles k (IsBegun t) c.in_ok-lists.lists.items made)
 
-pub returns-clause-counting : goal.returns-clause-counting
-returns-clause-counting g c =
+pub returns-clause-begun : goal.returns-clause-begun
+returns-clause-begun g c =
     let t = c.args.grid.now.terrain in
     let k = c.args.tiling.now in
     let lists = c.in_ok-lists.lists.items in
-    IfOk-weaker c.put_back.result (λ (whole : Vec (Option ℕ) Global). IsPutBack k c.deref.result.now whole.items) (λ (whole : Vec (Option ℕ) Global). AreCounting t whole.items)
+    let made = tiles_made k (IsBegun t) c.tiles-tiles.result c.in_ok-lists.lists c.in_ok-lists.ensures.len c.tiles-tiles.ensures.value c.in_ok-lists.ensures.given in
+    IfOk-weaker c.put_back.result (λ (whole : Vec (Option ℕ) Global). IsPutBack k c.deref.result.now whole.items) (λ (whole : Vec (Option ℕ) Global). AreBegun t whole.items)
     (λ whole seen.
     let put = subst (λ (xs : List (Vec (Option ℕ) Global)). IsPutBack k xs whole.items) c.deref.ensures.value seen in
-    begun_counting t whole.items (put_back_size t k lists whole.items c.requires.cuts put) (put_back_inside t k (IsBegun t) lists whole.items c.in_ok-lists.ensures.lawful c.requires.cuts c.in_ok-lists.ensures.made put))
+    record {
+      size = put_back_size t k lists whole.items c.requires.cuts put;
+      each = put_back_inside t k (IsBegun t) lists whole.items c.tiles-tiles.ensures.lawful c.requires.cuts made put;
+    })
     c.put_back.ensures.whole
