@@ -5,12 +5,18 @@ ghost use Rattle.ascii_grid.specs.Neighbours.{IsInside, height_at, IsEdge, HasGa
 
 use crate::place::{Height, Place};
 use crate::word::Word;
-use std::alloc::Global;
+use std::alloc::{AllocError, Global};
 use std::marker::Model;
 
-/// There was no memory for the list of cells.
+/// There was no memory for a list.
 #[derive(Clone, Copy, Debug, PartialEq, Eq)]
 pub struct NoMemory;
+
+impl From<AllocError> for NoMemory {
+    fn from(_error: AllocError) -> Self {
+        NoMemory
+    }
+}
 
 /// Where the lower left cell lies along one axis: a word for its corner or for its centre.
 #[derive(Drop)]

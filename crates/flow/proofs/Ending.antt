@@ -4,11 +4,11 @@ use Rattle.std.proofs.lemmas.Bool.{cases_eq}
 use Rattle.std.proofs.lemmas.List.{get_or-set_same, get_or-set_other}
 use Rattle.std.proofs.Math.ListN.{length-set}
 use Rattle.flow.specs.Streams.{AreStreams, AreEnds, onward, node_after, end_of}
+use Rattle.flow.proofs.EarlyEnds.{inside_along}
 use Rattle.flow.specs.Finding.{AreFound, IsKnown, unknown_mark}
 
 pub node_after-inside : (links : List ℕ) → AreStreams links → (i : ℕ) → i < length links → (k : ℕ) → node_after links i k < length links
-node_after-inside links s i h zero = h
-node_after-inside links s i h (suc k) = s.inside (node_after links i k) (node_after-inside links s i h k)
+node_after-inside links s = inside_along links s.inside
 
 pub node_after-first : (links : List ℕ) (i k : ℕ) → node_after links (onward links i) k ≡ node_after links i (suc k)
 node_after-first links i zero = refl

@@ -10,7 +10,7 @@ use Rattle.ascii_grid.proofs.Places.{make_place}
 use Rattle.tiles.specs.declared.bounds.Bounds.{Bounds}
 use Rattle.flow.specs.Streams.{sum_below}
 use Rattle.flow.specs.TileLinks.{place_in}
-use Rattle.flow.proofs.Sums.{sum_below-same}
+use Rattle.flow.proofs.Sums.{sum_below-same, sum_below-none}
 
 -- a sum over a range
 sum_by_row : {X : Type 0} (f : X → ℕ) (g : ℕ → X) (n : ℕ) → sum_by f (map g (range_with_len 0 n)) ≡ sum_below (λ i. f (g i)) n
@@ -49,10 +49,6 @@ sum_below-split f a (suc n) =
     let next : a + suc n ≡ suc (a + n) = omega arith in
     let rest : sum_below f (a + n) ≡ sum_below f a + sum_below (λ i. f (a + i)) n = sum_below-split f a n in
     ap (sum_below f) next ∙ omega arith
-
-pub sum_below-none : (f : ℕ → ℕ) (n : ℕ) → ((i : ℕ) → i < n → f i ≡ 0) → sum_below f n ≡ 0
-sum_below-none f zero none = refl
-sum_below-none f (suc n) none = omega (arith, sum_below-none f n (λ i h. none i (omega arith)), none n (omega arith))
 
 -- a sum whose terms are 0 outside a window
 pub sum_window : (f : ℕ → ℕ) (from n m : ℕ) → from + n ≤ m → ((i : ℕ) → i < from → f i ≡ 0) → ((i : ℕ) → from + n ≤ i → i < m → f i ≡ 0) →

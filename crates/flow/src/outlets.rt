@@ -10,9 +10,9 @@ use crate::cells::{contains, next_of};
 use crate::ends::ends;
 use crate::rim::{number_count, rim_number, rim_place};
 use crate::tile::{TileFlow, is_outlet};
-use ascii_grid::{NoMemory, Place};
+use ascii_grid::Place;
 use drainage::Code;
-use std::alloc::Global;
+use std::alloc::{AllocError, Global};
 use std::marker::Model;
 use tiles::Tiling;
 
@@ -44,7 +44,7 @@ impl<'a> Outlets<'a> {
         alloc: Global,
         tiling: &Tiling,
         flows: &'a [TileFlow],
-    ) -> Result<Outlets<'a>, NoMemory>
+    ) -> Result<Outlets<'a>, AllocError>
         requires { (d : Directed) × AreFlowsOf d tiling.now flows.now }
         ensures cutting { IfOk result (λ o. o.cutting ≡ tiling.now) }
         ensures outlets { IfOk result (λ o. (d : Directed) → AreFlowsOf d tiling.now flows.now → AreOutlets d tiling.now o) }
@@ -167,20 +167,16 @@ pub(crate) fn rim_links(
     alloc: Global,
     tiling: &Tiling,
     flows: &[TileFlow],
-) -> Result<Vec<u32>, NoMemory>
+) -> Result<Vec<u32>, AllocError>
     requires { (d : Directed) × AreFlowsOf d tiling.now flows.now }
     ensures { IfOk result (λ v. v.items ≡ rim_links_by tiling.now flows.now) }
 {
     let count = number_count(tiling);
-    let Ok(mut links) = Vec::with_capacity(alloc, count as usize) else {
-        return Err(NoMemory);
-    };
+    let mut links = Vec::with_capacity(alloc, count as usize)?;
     for number in 0..count {
         let target = target_of(tiling, flows, number);
         let link = link_of(tiling, flows, number, target);
-        if links.push(link).is_err() {
-            return Err(NoMemory);
-        }
+        links.push(link)?;
     }
     Ok(links)
 }
@@ -207,21 +203,17 @@ fn rim_outlets(
     tiling: &Tiling,
     flows: &[TileFlow],
     ends: &[u32],
-) -> Result<Vec<Option<Place>>, NoMemory>
+) -> Result<Vec<Option<Place>>, AllocError>
     requires flows { (d : Directed) × AreFlowsOf d tiling.now flows.now }
     requires size { length ends.now ≡ number_count tiling.now }
     requires inside { (i : ℕ) → i < number_count tiling.now → slice_index ends.now i < number_count tiling.now }
     ensures { IfOk result (λ v. v.items ≡ rim_outlets_by tiling.now flows.now ends.now) }
 {
     let count = number_count(tiling);
-    let Ok(mut outlets) = Vec::with_capacity(alloc, count as usize) else {
-        return Err(NoMemory);
-    };
+    let mut outlets = Vec::with_capacity(alloc, count as usize)?;
     for number in 0..count {
         let outlet = outlet_of(tiling, flows, ends, number);
-        if outlets.push(outlet).is_err() {
-            return Err(NoMemory);
-        }
+        outlets.push(outlet)?;
     }
     Ok(outlets)
 }

@@ -12,7 +12,7 @@ use crate::ends::ends;
 use crate::streams::upstream;
 use ascii_grid::{NoMemory, Place};
 use drainage::Code;
-use std::alloc::Global;
+use std::alloc::{AllocError, Global};
 use std::marker::Model;
 use tiles::{Bounds, TileView};
 
@@ -185,7 +185,7 @@ pub fn tile_flow(alloc: Global, codes: &TileView<'_, Option<Code>>) -> Result<Ti
 pub(crate) fn tile_exits(
     alloc: Global,
     codes: &TileView<'_, Option<Code>>,
-) -> Result<TileFlow, NoMemory>
+) -> Result<TileFlow, AllocError>
     requires { AllFlowEnds (directed_by codes.now) }
     ensures { IfOk result (λ f.
         IsTileExits (directed_by codes.now) codes.now.cutting codes.now.tile f) }
