@@ -88,9 +88,6 @@ module _ (v : View (Option ℕ)) (b : Bounds) (cells : List (Option ℕ)) (links
       let most : b.rows * b.cols ≤ 4096 * 4096 = mul-le-mul r k in
       omega (arith, piece.made.size)
 
-  pub same_size : length weights ≡ length links
-  same_size = weighs.size ∙ sym piece.made.size
-
   ending : IsEnding (directed_by v)
   ending = record {
     ends = s.ends;

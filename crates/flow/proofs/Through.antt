@@ -1,7 +1,7 @@
 -- The exit of a cell is where its tile's links end.
-use Rattle.std.proofs.Common.{◌≡◌, ℕ, ◌+◌, ◌<◌, ◌≤◌, inl, inr, true, eqb, List, length, sym, ap, subst, ◌∙◌, arith, mul_comm}
+use Rattle.std.proofs.Common.{◌≡◌, ℕ, ◌+◌, ◌<◌, ◌≤◌, inl, inr, true, List, length, sym, ap, subst, ◌∙◌, arith, mul_comm}
 use Rattle.std.proofs.Math.Nat.{mul-le-mul}
-use Rattle.std.proofs.lemmas.Bool.{eq-eqb, eqb-true}
+use Rattle.std.proofs.lemmas.Bool.{eq-eqb}
 use Rattle.ascii_grid.specs.declared.place.Place.{Place}
 use Rattle.tiles.specs.declared.bounds.Bounds.{Bounds}
 use Rattle.tiles.specs.Cutting.{Cutting, IsInBounds, tile_of_place}
@@ -9,7 +9,7 @@ use Rattle.drainage.specs.Following.{Directed, next, follow, moves}
 use Rattle.flow.specs.Streams.{onward, node_after, end_of}
 use Rattle.flow.specs.TileFlow.{stays, IsExitOf}
 use Rattle.flow.specs.TileLinks.{place_in}
-use Rattle.flow.proofs.Ranges.{every_in_range, all_in_range}
+use Rattle.flow.proofs.Ranges.{all_in_range}
 use Rattle.flow.proofs.EarlyEnds.{early_end, node_stays}
 use Rattle.flow.proofs.Coded.{IsCoded, coded_along, coded_some, outlet_from_stays}
 use Rattle.flow.proofs.InTile.{IsPiece, cases_bounds, tracks, link_place, node_inside, tile_streams, coded_within, in_place}
@@ -28,13 +28,6 @@ module _ (d : Directed) (c : Cutting) (tile : ℕ) (b : Bounds) (links : List �
   pub stays_from_way : (q : Place) (k : ℕ) → ((l : ℕ) → l ≤ k → IsInBounds b (follow d q l)) → stays d c q k ≡ true
   stays_from_way q k way = all_in_range _ (k + 1)
       (λ l h. eq-eqb _ _ (tile_is (follow d q l) (way l (omega arith)) ∙ sym (tile_is q (way 0 (omega arith)))))
-
-  pub way_from_stays : (q : Place) → IsCoded d q → IsInBounds b q → (k : ℕ) → stays d c q k ≡ true → (l : ℕ) → l ≤ k → IsInBounds b (follow d q l)
-  way_from_stays q is h k t l le =
-      (s.places (follow d q l)).0 (
-        coded_within d c tile b links s (follow d q l) (coded_along d s.ends q is l),
-        eqb-true _ _ (every_in_range (λ j. eqb (tile_of_place c (follow d q j)) (tile_of_place c q)) (k + 1) t l (omega arith)) ∙ tile_is q h,
-      )
 
   -- where the links of a data cell end is its exit
   pub exit_is : (i : ℕ) → i < length links → IsCoded d (place_in b i) → IsExitOf d c (place_in b i) (place_in b (end_of links i))

@@ -185,6 +185,7 @@ fn moved(index: u32, on: bool, back: bool) -> Option<u32>
 }
 
 #[inline(always)]
+#[tactic(auto, using(crate::proofs::CodeMasks::masks_east))]
 fn leads_east(number: u8) -> bool
     requires { IsCode number }
     ensures { result ≡ leads_east number }
@@ -193,6 +194,7 @@ fn leads_east(number: u8) -> bool
 }
 
 #[inline(always)]
+#[tactic(auto, using(crate::proofs::CodeMasks::masks_south))]
 fn leads_south(number: u8) -> bool
     requires { IsCode number }
     ensures { result ≡ leads_south number }
@@ -201,6 +203,7 @@ fn leads_south(number: u8) -> bool
 }
 
 #[inline(always)]
+#[tactic(auto, using(crate::proofs::CodeMasks::masks_west))]
 fn leads_west(number: u8) -> bool
     requires { IsCode number }
     ensures { result ≡ leads_west number }
@@ -209,6 +212,7 @@ fn leads_west(number: u8) -> bool
 }
 
 #[inline(always)]
+#[tactic(auto, using(crate::proofs::CodeMasks::masks_north))]
 fn leads_north(number: u8) -> bool
     requires { IsCode number }
     ensures { result ≡ leads_north number }

@@ -15,7 +15,7 @@ use crate::cells::tile_weights;
 use crate::flowing::{flow_tiles, put_back};
 use crate::inflows::Inflows;
 use crate::streams::upstream;
-use crate::tile::{TileFlow, counted};
+use crate::tile::{TileFlow, where_data};
 use drainage::{Code, Directions};
 use std::alloc::{AllocError, Global};
 use std::sync::Wait;
@@ -68,22 +68,7 @@ pub fn accumulation<R: Threads + Wait + Sync, G: Gate + Sync>(
     ensures values { IfOk result (λ v. AreAccumulations (directed_of d.now) v.items) }
     ensures workers { RefusesWorkers workers result }
 {
-    accumulation_along(rt, alloc, d.codes(), tiling, workers, gate)
-}
-
-pub(crate) fn accumulation_along<R: Threads + Wait + Sync, G: Gate + Sync>(
-    rt: &R,
-    alloc: Global,
-    codes: &[Option<Code>],
-    tiling: &Tiling,
-    workers: u32,
-    gate: &G,
-) -> Result<Vec<Option<u32>>, JobFault>
-    requires flows { IsGridFlow tiling.now.cols tiling.now.rows codes.now }
-    ensures values { IfOk result (λ v. AreAccumulations (make_directed tiling.now.cols tiling.now.rows codes.now) v.items) }
-    ensures workers { RefusesWorkers workers result }
-{
-    let tiles = accumulation_tiles(rt, alloc, codes, tiling, workers, gate)?;
+    let tiles = accumulation_tiles(rt, alloc, d.codes(), tiling, workers, gate)?;
     put_back(alloc, tiling, &tiles)
 }
 
@@ -165,6 +150,7 @@ fn rim_weights(
 }
 
 // The total of each data cell, itself left out; that of a cell without data is 0.
+#[tactic(auto, using(crate::proofs::Pushing::mapped_next))]
 fn counts(
     alloc: Global,
     cells: &[Option<Code>],
@@ -179,8 +165,7 @@ fn counts(
     let mut values = Vec::with_capacity(alloc, cells.len())?;
     for index in 0..cells.len() {
         let total = came[index] + weights[index];
-        let value = counted(cells[index], total.saturating_sub(1));
-        values.push(value)?;
+        values.push(where_data(cells[index], total.saturating_sub(1)))?;
     }
     Ok(values)
 }

@@ -155,6 +155,7 @@ fn weight_of(tiling: &Tiling, flows: &[TileFlow], number: u32) -> u32
     through_at(tiling, flows, rim_place(tiling, number)).unwrap_or(0) + 1
 }
 
+#[tactic(auto, using(crate::proofs::Pushing::mapped_next))]
 fn rim_weights(alloc: Global, tiling: &Tiling, flows: &[TileFlow]) -> Result<Vec<u32>, AllocError>
     requires { (d : Directed) × AreFlowsOf d tiling.now flows.now × AreTileCounts d tiling.now flows.now }
     ensures { IfOk result (λ v. v.items ≡ rim_weights_by tiling.now flows.now) }
@@ -162,8 +163,7 @@ fn rim_weights(alloc: Global, tiling: &Tiling, flows: &[TileFlow]) -> Result<Vec
     let count = number_count(tiling);
     let mut weights = Vec::with_capacity(alloc, count as usize)?;
     for number in 0..count {
-        let weight = weight_of(tiling, flows, number);
-        weights.push(weight)?;
+        weights.push(weight_of(tiling, flows, number))?;
     }
     Ok(weights)
 }

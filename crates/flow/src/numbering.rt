@@ -77,22 +77,7 @@ pub fn basins<R: Threads + Wait + Sync, G: Gate + Sync>(
     ensures values { IfOk result (λ v. AreBasins (directed_of d.now) v.items) }
     ensures workers { RefusesWorkers workers result }
 {
-    basins_along(rt, alloc, d.codes(), tiling, workers, gate)
-}
-
-pub(crate) fn basins_along<R: Threads + Wait + Sync, G: Gate + Sync>(
-    rt: &R,
-    alloc: Global,
-    codes: &[Option<Code>],
-    tiling: &Tiling,
-    workers: u32,
-    gate: &G,
-) -> Result<Vec<Option<u32>>, JobFault>
-    requires flows { IsGridFlow tiling.now.cols tiling.now.rows codes.now }
-    ensures values { IfOk result (λ v. AreBasins (make_directed tiling.now.cols tiling.now.rows codes.now) v.items) }
-    ensures workers { RefusesWorkers workers result }
-{
-    let tiles = basin_tiles(rt, alloc, codes, tiling, workers, gate)?;
+    let tiles = basin_tiles(rt, alloc, d.codes(), tiling, workers, gate)?;
     put_back(alloc, tiling, &tiles)
 }
 
@@ -163,6 +148,7 @@ fn tile_basins(
 }
 
 // The number of the outlet of each exit, at its own index.
+#[tactic(auto, using(crate::proofs::Pushing::mapped_next))]
 fn exit_labels(
     alloc: Global,
     tiling: &Tiling,
@@ -176,8 +162,7 @@ fn exit_labels(
 {
     let mut labels = Vec::with_capacity(alloc, flow.cell_count())?;
     for index in 0..flow.cell_count() {
-        let label = label_of(tiling, outlets, numbers, flow, index);
-        labels.push(label)?;
+        labels.push(label_of(tiling, outlets, numbers, flow, index))?;
     }
     Ok(labels)
 }
@@ -225,14 +210,14 @@ fn number_of(
 }
 
 // The label of each cell's exit.
+#[tactic(auto, using(crate::proofs::Pushing::mapped_next))]
 fn numbered(alloc: Global, flow: &TileFlow, labels: &[u32]) -> Result<Vec<Option<u32>>, AllocError>
     requires { length labels.now ≡ length flow.now.exits }
     ensures { IfOk result (λ v. v.items ≡ numbered_by flow.now.bounds labels.now flow.now.exits) }
 {
     let mut values = Vec::with_capacity(alloc, labels.len())?;
     for index in 0..labels.len() {
-        let value = label_at(flow, labels, index);
-        values.push(value)?;
+        values.push(label_at(flow, labels, index))?;
     }
     Ok(values)
 }

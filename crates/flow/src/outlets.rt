@@ -1,10 +1,10 @@
 // Where the water of the exits of all tiles ends.
-ghost use Rattle.std.specs.Prelude.{◌≡◌, ◌<◌, ◌≤◌, ℕ, length, slice_index, IfOk, IfSome, option_and_then};
+ghost use Rattle.std.specs.Prelude.{◌≡◌, ◌<◌, ◌≤◌, ℕ, length, slice_index, IfOk};
 ghost use Rattle.tiles.specs.Cutting.{IsCutting, IsWithin, tile_count};
 ghost use Rattle.drainage.specs.Following.{Directed};
 ghost use Rattle.flow.specs.Counts.{is_place};
 ghost use Rattle.flow.specs.RimNumbers.{number_count};
-ghost use Rattle.flow.specs.RimGraph.{code_in, AreFlowsOf, AreOutlets, target_by, number_or, way_out_by, rim_links_by, rim_outlet, rim_outlets_by, outlet_in, next_by, exit_by, stands_for};
+ghost use Rattle.flow.specs.RimGraph.{code_in, AreFlowsOf, AreOutlets, target_by, way_out_by, rim_link, rim_links_by, rim_outlet, rim_outlets_by, outlet_in, next_by, exit_by, stands_for};
 
 use crate::cells::{contains, next_of};
 use crate::ends::ends;
@@ -149,12 +149,12 @@ pub(crate) fn target_of(tiling: &Tiling, flows: &[TileFlow], number: u32) -> Opt
 }
 
 // The number to which a number is linked: that of the exit over which its water leaves the next tile.
-fn link_of(tiling: &Tiling, flows: &[TileFlow], number: u32, target: Option<Place>) -> u32
+fn link_of(tiling: &Tiling, flows: &[TileFlow], number: u32) -> u32
     requires flows { (d : Directed) × AreFlowsOf d tiling.now flows.now }
-    requires within { IfSome target (IsWithin tiling.now) }
-    ensures { result ≡ number_or tiling.now number (option_and_then (λ q. way_out_by tiling.now flows.now q) target) }
+    requires number { number < number_count tiling.now }
+    ensures { result ≡ rim_link tiling.now flows.now number }
 {
-    let Some(entry) = target else {
+    let Some(entry) = target_of(tiling, flows, number) else {
         return number;
     };
     match way_out(tiling, flows, entry) {
@@ -163,6 +163,7 @@ fn link_of(tiling: &Tiling, flows: &[TileFlow], number: u32, target: Option<Plac
     }
 }
 
+#[tactic(auto, using(crate::proofs::Pushing::mapped_next))]
 pub(crate) fn rim_links(
     alloc: Global,
     tiling: &Tiling,
@@ -174,9 +175,7 @@ pub(crate) fn rim_links(
     let count = number_count(tiling);
     let mut links = Vec::with_capacity(alloc, count as usize)?;
     for number in 0..count {
-        let target = target_of(tiling, flows, number);
-        let link = link_of(tiling, flows, number, target);
-        links.push(link)?;
+        links.push(link_of(tiling, flows, number))?;
     }
     Ok(links)
 }
@@ -198,6 +197,7 @@ fn outlet_of(tiling: &Tiling, flows: &[TileFlow], ends: &[u32], number: u32) -> 
     exit_of(tiling, flows, entry)
 }
 
+#[tactic(auto, using(crate::proofs::Pushing::mapped_next))]
 fn rim_outlets(
     alloc: Global,
     tiling: &Tiling,
@@ -212,8 +212,7 @@ fn rim_outlets(
     let count = number_count(tiling);
     let mut outlets = Vec::with_capacity(alloc, count as usize)?;
     for number in 0..count {
-        let outlet = outlet_of(tiling, flows, ends, number);
-        outlets.push(outlet)?;
+        outlets.push(outlet_of(tiling, flows, ends, number))?;
     }
     Ok(outlets)
 }
