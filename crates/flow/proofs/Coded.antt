@@ -1,13 +1,14 @@
 -- Where each flow path ends, it leads through data cells alone.
-use Rattle.std.proofs.Common.{◌≡◌, ℕ, zero, suc, ◌<◌, ◌≤◌, ◌⊎◌, inl, inr, true, Option, None, Some, is_some, unwrap_or, sym, ap, refl, ◌∙◌, arith}
+use Rattle.std.proofs.Common.{◌≡◌, ℕ, zero, suc, ◌+◌, ◌<◌, ◌≤◌, ◌⊎◌, inl, inr, true, Option, None, Some, is_some, unwrap_or, sym, ap, refl, ◌∙◌, arith}
 use Rattle.std.specs.Option.{option_and_then}
-use Rattle.std.proofs.lemmas.Bool.{cases_eq, cases_lt}
+use Rattle.std.proofs.lemmas.Bool.{cases_lt}
 use Rattle.std.proofs.lemmas.Option.{none-some}
 use Rattle.ascii_grid.specs.Ways.{place_toward}
 use Rattle.ascii_grid.specs.declared.place.Place.{Place}
 use Rattle.ascii_grid.proofs.Places.{inside_from_entry}
 use Rattle.drainage.specs.Following.{Directed, code_at, next, follow, moves, last_of, IsOutlet}
 use Rattle.drainage.specs.Drained.{AllFlowEnds}
+use Rattle.flow.proofs.EarlyEnds.{stays_from}
 
 pub record IsCoded (d : Directed) (p : Place) : Type 0 where
   pub code : ℕ
@@ -29,15 +30,31 @@ none_stays d p e = ap (λ (o : Option ℕ). unwrap_or (option_and_then (λ code.
 pub outlet_stays : (d : Directed) (p : Place) → IsOutlet d p → next d p ≡ p
 outlet_stays d p e = ap (λ (o : Option ℕ). unwrap_or (option_and_then (λ code. place_toward code p) o) p) e
 
-follow_at : (d : Directed) (p : Place) (a b : ℕ) → a ≡ b → follow d p a ≡ follow d p b
-follow_at d p a b e = ap (follow d p) e
-
 pub follow_stays : (d : Directed) (p : Place) (k m : ℕ) → k ≤ m → next d (follow d p k) ≡ follow d p k → follow d p m ≡ follow d p k
-follow_stays d p k zero le e = follow_at d p 0 k (omega arith)
-follow_stays d p k (suc m) le e = elim (cases_eq k (suc m)) [
-  | inl s ↦ sym (follow_at d p k (suc m) s)
-  | inr ne ↦ ap (next d) (follow_stays d p k m (omega arith) e) ∙ e
-]
+follow_stays d p = stays_from (follow d p) (λ a b e. ap (next d) e)
+
+-- moves in two parts
+pub follow_more : (d : Directed) (p : Place) (a b : ℕ) → follow d (follow d p a) b ≡ follow d p (a + b)
+follow_more d p a zero = let z : a ≡ a + 0 = omega arith in ap (follow d p) z
+follow_more d p a (suc b) = let z : suc (a + b) ≡ a + suc b = omega arith in ap (next d) (follow_more d p a b) ∙ ap (follow d p) z
+
+pub follow_first : (d : Directed) (p : Place) (k : ℕ) → follow d (next d p) k ≡ follow d p (suc k)
+follow_first d p k = let z : 1 + k ≡ suc k = omega arith in follow_more d p 1 k ∙ ap (follow d p) z
+
+-- no move goes on after so many
+abbrev pub StopsAt : Directed → Place → ℕ → Type 0
+StopsAt d p k = next d (follow d p k) ≡ follow d p k
+
+pub stops_sooner : (d : Directed) (p e : Place) (k n : ℕ) → follow d p (suc k) ≡ e → StopsAt d p (suc n) → StopsAt d e n
+stops_sooner d p e k n way stop =
+    let later : follow d e n ≡ follow d p (suc n) =
+    ap (λ (q : Place). follow d q n) (sym way) ∙ follow_more d p (suc k) n ∙ follow_stays d p (suc n) (suc k + n) (omega arith) stop in
+    ap (next d) later ∙ stop ∙ sym later
+
+-- a path that comes back to a place stays there
+pub cycle_stops : (d : Directed) (n : ℕ) (p : Place) (k : ℕ) → follow d p (suc k) ≡ p → StopsAt d p n → next d p ≡ p
+cycle_stops d zero p k way stop = stop
+cycle_stops d (suc n) p k way stop = cycle_stops d n p k way (stops_sooner d p p k n way stop)
 
 pub coded_along : (d : Directed) → AllFlowEnds d → (p : Place) → IsCoded d p → (k : ℕ) → IsCoded d (follow d p k)
 coded_along d ends p c k = elim (cases_coded d (follow d p k)) [

@@ -19,14 +19,15 @@ use Rattle.flow.specs.TileLinks.{AreTileCodes, place_in, index_in, links_by, wei
 use Rattle.flow.specs.TileMaps.{IsTileMapOf}
 use Rattle.flow.specs.Whole.{make_directed}
 use Rattle.flow.specs.Inflows.{Inflows, inflow_in}
-use Rattle.flow.specs.Counting.{IsCounting, IsCountable, AreCountable, AreRimWeights, counts_by}
-use Rattle.flow.proofs.Sums.{sum_below-few}
+use Rattle.flow.specs.Counting.{IsCounting, IsCountable, AreCountable, AreRimWeights, AreCounts, counts_by}
+use Rattle.flow.proofs.Sums.{bit_le, sum_below-few}
 use Rattle.flow.proofs.Coded.{IsCoded, cases_coded}
 use Rattle.flow.proofs.InTile.{weight_in, IsPiece, tile_streams, in_place}
 use Rattle.flow.proofs.Piece.{codes_from, AreLists, piece, few, weights_from, match_none, match_some}
 use Rattle.flow.proofs.Reaching.{IsEnding}
-use Rattle.flow.proofs.Gathering.{cell, entered, entered_le, inflow_sum}
-use Rattle.flow.proofs.TileTotals.{AreWeights, few_come, accumulates}
+use Rattle.flow.proofs.Gathering.{cell, all_drained, drained_few, entered, inflow_sum, accumulation_is}
+use Rattle.flow.proofs.TileTotals.{AreWeights, all_totals}
+use Rattle.flow.proofs.Totals.{total_is}
 
 pub weights_le : (cells : List (Option ℕ)) (i : ℕ) → get_or (weights_by cells) i 0 ≤ 1
 weights_le cells i = elim (cases_lt i (length cells)) [
@@ -67,7 +68,7 @@ module _ (t : Cutting) (codes : List (Option ℕ)) (flows : List Flow) (inflows 
           arith,
           s.are_inflows.each p (within_tile p h),
           inflow_sum (make_directed t.cols t.rows codes) t p,
-          sum_below-few (λ c. entered (make_directed t.cols t.rows codes) t p (cell (make_directed t.cols t.rows codes) c)) (t.rows * t.cols) (λ c l. entered_le (make_directed t.cols t.rows codes) t p (cell (make_directed t.cols t.rows codes) c)),
+          sum_below-few (λ c. entered (make_directed t.cols t.rows codes) t p (cell (make_directed t.cols t.rows codes) c)) (t.rows * t.cols) (λ c l. bit_le _),
         )
 
     module _ (links : List ℕ) (made : links ≡ links_by (bounds_of t tile) f.codes) where
@@ -111,13 +112,13 @@ module _ (t : Cutting) (codes : List (Option ℕ)) (flows : List Flow) (inflows 
               s.are_inflows.each (place_in (bounds_of t tile) j) (within_tile (place_in (bounds_of t tile) j) inside),
             )
 
+        total_drained : (i : ℕ) → i < length links → total links weights i ≡ all_drained (make_directed t.cols t.rows codes) (place_in (bounds_of t tile) i)
+        total_drained = total_is links weights _ streams_of (all_totals (make_directed t.cols t.rows codes) ending t tile (bounds_of t tile) links piece_of weights weights_are)
+
         pub totals_few : (i : ℕ) → i < length links → total links weights i ≤ 16777216
-        totals_few = few_come (make_directed t.cols t.rows codes) ending t tile (bounds_of t tile) links piece_of weights weights_are
+        totals_few i h = omega (arith, total_drained i h, drained_few (make_directed t.cols t.rows codes) ending (place_in (bounds_of t tile) i))
 
         module _ (came : List ℕ) (up : AreUpstream links weights came) where
-          pub sums_few : (i : ℕ) → i < length links → get_or came i 0 + get_or weights i 0 ≤ 16777216
-          sums_few i h = omega (arith, up.each i h, totals_few i h)
-
           entry_is : (p : Place) → IsInBounds (bounds_of t tile) p →
               get_or (counts_by f.codes weights came) (index_in (bounds_of t tile) p) None
               ≡ where_data (code_at (make_directed t.cols t.rows codes) p) (get_or came (index_in (bounds_of t tile) p) 0 + get_or weights (index_in (bounds_of t tile) p) 0 - 1)
@@ -134,9 +135,13 @@ module _ (t : Cutting) (codes : List (Option ℕ)) (flows : List Flow) (inflows 
           count_is p h is =
               let at = place_in-index_in (bounds_of t tile) p h in
               let there : index_in (bounds_of t tile) p < length links = omega (arith, index_in_below (bounds_of t tile) p h, of_cells.size, same_sizes) in
-              let all = accumulates (make_directed t.cols t.rows codes) ending t tile (bounds_of t tile) links piece_of weights weights_are (index_in (bounds_of t tile) p) there
-              (subst (λ (q : Place). IsCoded (make_directed t.cols t.rows codes) q) (sym at) is) in
-              omega (arith, up.each (index_in (bounds_of t tile) p) there, all, ap (accumulation (make_directed t.cols t.rows codes)) at)
+              omega (
+                arith,
+                up.each (index_in (bounds_of t tile) p) there,
+                total_drained (index_in (bounds_of t tile) p) there,
+                ap (all_drained (make_directed t.cols t.rows codes)) at,
+                accumulation_is (make_directed t.cols t.rows codes) ending p is,
+              )
 
           pub tile_counted : IsTileMapOf (make_directed t.cols t.rows codes) t tile (accumulation (make_directed t.cols t.rows codes)) (counts_by f.codes weights came)
           tile_counted = record {
@@ -171,11 +176,12 @@ module _ (t : Cutting) (codes : List (Option ℕ)) (flows : List Flow) (inflows 
         }
 
     -- the same of what a job has
-    pub tile_summed : (weights : List ℕ) → AreRimWeights inflows (bounds_of inflows.cutting tile) f.codes weights → (came : List ℕ) → AreUpstream (links_by f.bounds f.codes) weights came →
-        IsTileMapOf (make_directed t.cols t.rows codes) t tile (accumulation (make_directed t.cols t.rows codes)) (counts_by f.codes weights came)
-    tile_summed weights weighed came up =
-        tile_counted (links_by f.bounds f.codes) (ap (λ (b : Bounds). links_by b f.codes) right.bounds) weights
-        (subst (λ (x : Cutting). AreRimWeights inflows (bounds_of x tile) f.codes weights) s.are_inflows.cutting weighed) came up
+    pub tile_summed : (values : List (Option ℕ)) → AreCounts inflows tile f values →
+        IsTileMapOf (make_directed t.cols t.rows codes) t tile (accumulation (make_directed t.cols t.rows codes)) values
+    tile_summed values are =
+        subst (λ (l : List (Option ℕ)). IsTileMapOf (make_directed t.cols t.rows codes) t tile (accumulation (make_directed t.cols t.rows codes)) l) (sym are.made)
+        (tile_counted (links_by f.bounds f.codes) (ap (λ (b : Bounds). links_by b f.codes) right.bounds) are.weights
+        (subst (λ (x : Cutting). AreRimWeights inflows (bounds_of x tile) f.codes are.weights) s.are_inflows.cutting are.weighed) are.came are.up)
 
   pub countable_all : AreCountable t flows inflows
   countable_all = record { same_cutting = s.are_inflows.cutting; count = s.are_flows.of_tiles.count; each = countable }

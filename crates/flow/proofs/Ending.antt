@@ -1,21 +1,18 @@
 -- Where paths end.
-use Rattle.std.proofs.Common.{◌≡◌, ◌≢◌, ℕ, zero, suc, ◌+◌, ◌<◌, inl, inr, List, length, get_or, set, sym, ap, refl, ◌∙◌, arith, add-one}
+use Rattle.std.proofs.Common.{◌≡◌, ◌≢◌, ℕ, zero, suc, ◌<◌, inl, inr, List, length, get_or, set, sym, ap, refl, ◌∙◌, arith}
 use Rattle.std.proofs.lemmas.Bool.{cases_eq}
 use Rattle.std.proofs.lemmas.List.{get_or-set_same, get_or-set_other}
 use Rattle.std.proofs.Math.ListN.{length-set}
-use Rattle.flow.specs.Streams.{AreStreams, AreEnds, onward, node_after, end_of}
+use Rattle.flow.specs.Streams.{AreStreams, onward, node_after, end_of}
+use Rattle.flow.proofs.EarlyEnds.{inside_along}
 use Rattle.flow.specs.Finding.{AreFound, IsKnown, unknown_mark}
 
 pub node_after-inside : (links : List ℕ) → AreStreams links → (i : ℕ) → i < length links → (k : ℕ) → node_after links i k < length links
-node_after-inside links s i h zero = h
-node_after-inside links s i h (suc k) = s.inside (node_after links i k) (node_after-inside links s i h k)
+node_after-inside links s = inside_along links s.inside
 
 pub node_after-first : (links : List ℕ) (i k : ℕ) → node_after links (onward links i) k ≡ node_after links i (suc k)
 node_after-first links i zero = refl
 node_after-first links i (suc k) = ap (onward links) (node_after-first links i k)
-
-pub node_after-more : (links : List ℕ) (i k : ℕ) → node_after links i (k + 1) ≡ onward links (node_after links i k)
-node_after-more links i k = rw add-one refl
 
 pub node_after-stays : (links : List ℕ) (i : ℕ) → onward links i ≡ i → (k : ℕ) → node_after links i k ≡ i
 node_after-stays links i e zero = refl
@@ -49,6 +46,3 @@ known_still ends node end h ne i known = elim (cases_eq i node) [
   | inl s ↦ (λ e. known_same ends node end h ne (sym (ap (λ n. get_or (set ends node end) n 0) s) ∙ e))
   | inr other ↦ (λ e. known (sym (get_or-set_other ends node i end 0 other) ∙ e))
 ]
-
-pub ends_from : (links ends : List ℕ) → AreFound links ends → ((i : ℕ) → i < length links → IsKnown ends i) → AreEnds links ends
-ends_from links ends f known = record { size = f.size; each = λ i h. f.right i h (known i h) }

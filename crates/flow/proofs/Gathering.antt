@@ -1,7 +1,7 @@
 -- How many cells' water comes through a cell, the cell itself counted.
-use Rattle.std.proofs.Common.{◌≡◌, ◌≢◌, ℕ, ◌+◌, ◌-◌, ◌*◌, ◌<◌, ◌≤◌, Bool, true, false, not, ◌&&◌, cond, eqb, inl, inr, is_some, sym, ap, refl, ◌∙◌, arith}
+use Rattle.std.proofs.Common.{◌≡◌, ◌≢◌, ℕ, ◌+◌, ◌-◌, ◌*◌, ◌<◌, ◌≤◌, Bool, true, false, not, ◌&&◌, cond, is_some, sym, ap, refl, ◌∙◌, arith}
 use Rattle.std.proofs.Math.Nat.{mul-le-mul}
-use Rattle.std.proofs.lemmas.Bool.{cases_Bool, and_from, and_left, and_right, eq-eqb, cond-true, cond-false, false_from_ne_true, not_from_true, not_from_false}
+use Rattle.std.proofs.lemmas.Bool.{and_from, and_left, and_right, eq-eqb, cond-true, cond-false, false_from_ne_true, not_from_true, not_from_false}
 use Rattle.ascii_grid.specs.Ways.{places}
 use Rattle.std.specs.List.{sum_by, list_any, range_with_len}
 use Rattle.ascii_grid.specs.declared.place.Place.{Place}
@@ -12,12 +12,11 @@ use Rattle.flow.specs.Counts.{is_place, drains_through, accumulation}
 use Rattle.flow.specs.Streams.{sum_below}
 use Rattle.flow.specs.TileFlow.{stays, reaches_inside, through_of, inflow_of}
 use Rattle.flow.specs.TileLinks.{place_in, index_in}
-use Rattle.flow.proofs.Sums.{sum_below-except, sum_below-few}
+use Rattle.flow.proofs.Sums.{bit_le, sum_below-except, sum_below-few}
 use Rattle.flow.proofs.Ranges.{any_in_range, all_in_range}
 use Rattle.flow.proofs.Coded.{IsCoded, coded_some}
-use Rattle.flow.proofs.Through.{place_test, place_from_test}
-use Rattle.flow.proofs.OneTile.{whole_bounds}
-use Rattle.flow.proofs.Reaching.{IsEnding, sum_of_cells, cell_below, cell_back}
+use Rattle.flow.proofs.Waiting.{and_on}
+use Rattle.flow.proofs.Reaching.{IsEnding, whole_bounds, place_test, place_from_test, sum_of_cells, cell_below, cell_back, enters}
 
 -- a cell of the grid
 abbrev pub cell : Directed → ℕ → Place
@@ -37,65 +36,22 @@ gathered d t p q = cond {A = ℕ} (is_some (code_at d q) && reaches_inside d t p
 abbrev pub all_gathered : Directed → Cutting → Place → ℕ
 all_gathered d t p = sum_below (λ j. gathered d t p (cell d j)) (d.rows * d.cols)
 
--- whether the flow path of a cell enters another from another tile
-abbrev pub enters : Directed → Cutting → Place → Place → ℕ → Bool
-enters d t p q k = is_place p (follow d q (k + 1)) && not (eqb (tile_of_place t (follow d q k)) (tile_of_place t p))
-
--- 1 where it does
+-- 1 where it enters another from another tile
 abbrev pub entered : Directed → Cutting → Place → Place → ℕ
 entered d t p q = cond {A = ℕ} (is_some (code_at d q) && list_any (enters d t p q) (range_with_len 0 (moves d - 1))) 1 0
-
-pub entered_on : (d : Directed) (t : Cutting) (p q : Place) → IsCoded d q → list_any (enters d t p q) (range_with_len 0 (moves d - 1)) ≡ true → entered d t p q ≡ 1
-entered_on d t p q is y = cond-true {A = ℕ} _ 1 0 (and_from _ _ (coded_some d q is) y)
-
-pub entered_off : (d : Directed) (t : Cutting) (p q : Place) → list_any (enters d t p q) (range_with_len 0 (moves d - 1)) ≡ false → entered d t p q ≡ 0
-entered_off d t p q f = cond-false {A = ℕ} _ 1 0 (and_right _ _ f)
-
-pub entered_none : (d : Directed) (t : Cutting) (p q : Place) → is_some (code_at d q) ≡ false → entered d t p q ≡ 0
-entered_none d t p q f = cond-false {A = ℕ} _ 1 0 (and_left _ _ f)
-
-pub entered_le : (d : Directed) (t : Cutting) (p q : Place) → entered d t p q ≤ 1
-entered_le d t p q = elim (cases_Bool (is_some (code_at d q) && list_any (enters d t p q) (range_with_len 0 (moves d - 1)))) [
-  | inl y ↦ omega (arith, cond-true {A = ℕ} _ 1 0 y)
-  | inr n ↦ omega (arith, cond-false {A = ℕ} _ 1 0 n)
-]
 
 pub inflow_sum : (d : Directed) (t : Cutting) (p : Place) → inflow_of d t p ≡ sum_below (λ c. entered d t p (cell d c)) (d.rows * d.cols)
 inflow_sum d t p = sum_of_cells (entered d t p) d.cols d.rows
 
-pub drained_on : (d : Directed) (p q : Place) → IsCoded d q → drains_through d p q ≡ true → drained d p q ≡ 1
-drained_on d p q is t = cond-true {A = ℕ} _ 1 0 (and_from _ _ (coded_some d q is) t)
+-- what a data cell that passes a test counts for, and any other
+pub counted_on : (d : Directed) (q : Place) (b : Bool) → IsCoded d q → b ≡ true → cond {A = ℕ} (is_some (code_at d q) && b) 1 0 ≡ 1
+counted_on d q b is y = cond-true {A = ℕ} _ 1 0 (and_from _ _ (coded_some d q is) y)
 
-pub drained_off : (d : Directed) (p q : Place) → drains_through d p q ≡ false → drained d p q ≡ 0
-drained_off d p q f = cond-false {A = ℕ} _ 1 0 (and_right _ _ f)
+pub counted_off : (d : Directed) (q : Place) (b : Bool) → b ≡ false → cond {A = ℕ} (is_some (code_at d q) && b) 1 0 ≡ 0
+counted_off d q b f = cond-false {A = ℕ} _ 1 0 (and_right _ _ f)
 
-pub drained_none : (d : Directed) (p q : Place) → is_some (code_at d q) ≡ false → drained d p q ≡ 0
-drained_none d p q f = cond-false {A = ℕ} _ 1 0 (and_left _ _ f)
-
-pub drained_le : (d : Directed) (p q : Place) → drained d p q ≤ 1
-drained_le d p q = elim (cases_Bool (is_some (code_at d q) && drains_through d p q)) [
-  | inl y ↦ omega (arith, cond-true {A = ℕ} _ 1 0 y)
-  | inr n ↦ omega (arith, cond-false {A = ℕ} _ 1 0 n)
-]
-
-pub gathered_le : (d : Directed) (t : Cutting) (p q : Place) → gathered d t p q ≤ 1
-gathered_le d t p q = elim (cases_Bool (is_some (code_at d q) && reaches_inside d t p q)) [
-  | inl y ↦ omega (arith, cond-true {A = ℕ} _ 1 0 y)
-  | inr n ↦ omega (arith, cond-false {A = ℕ} _ 1 0 n)
-]
-
-pub gathered_on : (d : Directed) (t : Cutting) (p q : Place) → IsCoded d q → reaches_inside d t p q ≡ true → gathered d t p q ≡ 1
-gathered_on d t p q is y = cond-true {A = ℕ} _ 1 0 (and_from _ _ (coded_some d q is) y)
-
-pub gathered_off : (d : Directed) (t : Cutting) (p q : Place) → reaches_inside d t p q ≡ false → gathered d t p q ≡ 0
-gathered_off d t p q f = cond-false {A = ℕ} _ 1 0 (and_right _ _ f)
-
-pub gathered_none : (d : Directed) (t : Cutting) (p q : Place) → is_some (code_at d q) ≡ false → gathered d t p q ≡ 0
-gathered_none d t p q f = cond-false {A = ℕ} _ 1 0 (and_left _ _ f)
-
-kept : (a b : Bool) → b ≡ false → (a && not b) ≡ a
-kept true b f = not_from_false _ f
-kept false b f = refl
+pub counted_none : (d : Directed) (q : Place) (b : Bool) → is_some (code_at d q) ≡ false → cond {A = ℕ} (is_some (code_at d q) && b) 1 0 ≡ 0
+counted_none d q b f = cond-false {A = ℕ} _ 1 0 (and_left _ _ f)
 
 module _ (d : Directed) (s : IsEnding d) where
   pub some_moves : 0 < moves d
@@ -129,23 +85,23 @@ module _ (d : Directed) (s : IsEnding d) where
   pub accumulation_is : (p : Place) → IsCoded d p → all_drained d p ≡ accumulation d p + 1
   accumulation_is p is =
       one_more (drained d p) (λ q. cond {A = ℕ} (is_some (code_at d q) && not (is_place p q) && drains_through d p q) 1 0) p is
-      (λ q ne. ap (λ x. cond {A = ℕ} (x && drains_through d p q) 1 0) (sym (kept (is_some (code_at d q)) (is_place p q) (other_test p q ne))))
-      (drained_on d p p is (drains_itself p))
+      (λ q ne. ap (λ x. cond {A = ℕ} (x && drains_through d p q) 1 0) (sym (and_on (is_some (code_at d q)) (not (is_place p q)) (not_from_false _ (other_test p q ne)))))
+      (counted_on d p _ is (drains_itself p))
       (cond-false {A = ℕ} _ 1 0 (and_left _ _ (and_right _ _ (not_from_true _ (place_test p p refl)))))
 
   pub through_is : (t : Cutting) (p : Place) → IsCoded d p → all_gathered d t p ≡ through_of d t p + 1
   through_is t p is =
       one_more (gathered d t p) (λ q. cond {A = ℕ} (is_some (code_at d q) && not (is_place p q) && reaches_inside d t p q) 1 0) p is
-      (λ q ne. ap (λ x. cond {A = ℕ} (x && reaches_inside d t p q) 1 0) (sym (kept (is_some (code_at d q)) (is_place p q) (other_test p q ne))))
-      (gathered_on d t p p is (reaches_itself t p))
+      (λ q ne. ap (λ x. cond {A = ℕ} (x && reaches_inside d t p q) 1 0) (sym (and_on (is_some (code_at d q)) (not (is_place p q)) (not_from_false _ (other_test p q ne)))))
+      (counted_on d p _ is (reaches_itself t p))
       (cond-false {A = ℕ} _ 1 0 (and_left _ _ (and_right _ _ (not_from_true _ (place_test p p refl)))))
 
   pub drained_few : (p : Place) → all_drained d p ≤ 16777216
   drained_few p =
       let most : d.rows * d.cols ≤ 4096 * 4096 = mul-le-mul s.few_rows s.few_cols in
-      omega (arith, sum_below-few (λ j. drained d p (cell d j)) (d.rows * d.cols) (λ j h. drained_le d p (cell d j)))
+      omega (arith, sum_below-few (λ j. drained d p (cell d j)) (d.rows * d.cols) (λ j h. bit_le _))
 
   pub gathered_few : (t : Cutting) (p : Place) → all_gathered d t p ≤ 16777216
   gathered_few t p =
       let most : d.rows * d.cols ≤ 4096 * 4096 = mul-le-mul s.few_rows s.few_cols in
-      omega (arith, sum_below-few (λ j. gathered d t p (cell d j)) (d.rows * d.cols) (λ j h. gathered_le d t p (cell d j)))
+      omega (arith, sum_below-few (λ j. gathered d t p (cell d j)) (d.rows * d.cols) (λ j h. bit_le _))

@@ -11,7 +11,7 @@ use Rattle.drainage.specs.Drained.{AllFlowEnds}
 use Rattle.flow.specs.Streams.{AreStreams, onward, node_after}
 use Rattle.flow.specs.TileFlow.{is_in_bounds}
 use Rattle.flow.specs.TileLinks.{place_in, index_in}
-use Rattle.flow.proofs.EarlyEnds.{IsStop, streams_from}
+use Rattle.flow.proofs.EarlyEnds.{IsStop, inside_along, streams_from}
 use Rattle.flow.proofs.Coded.{IsCoded, cases_coded, none_stays, outlet_stays, coded_inside}
 
 -- The cell to which the water of a cell goes on, or the cell itself where it stays or leaves the tile.
@@ -74,8 +74,7 @@ module _ (d : Directed) (c : Cutting) (tile : ℕ) (b : Bounds) (links : List �
   ]
 
   pub node_inside : (i : ℕ) → i < length links → (k : ℕ) → node_after links i k < length links
-  node_inside i h zero = h
-  node_inside i h (suc k) = links_inside (node_after links i k) (node_inside i h k)
+  node_inside = inside_along links links_inside
 
   pub self_link : (i : ℕ) → i < length links → next d (place_in b i) ≡ place_in b i → onward links i ≡ i
   self_link i h e =

@@ -6,14 +6,15 @@ pub mod DoubleSums
 pub mod Windows
 pub mod Ranges
 pub mod Pushing
--- sending downstream along links
-pub mod Arriving
+-- along links
+pub mod EarlyEnds
+pub mod Ending
+pub mod Totals
+-- sending downstream along them
 pub mod Waiting
 pub mod Moving
 pub mod Settled
 pub mod Stepping
-pub mod Ending
-pub mod EarlyEnds
 -- flow paths
 pub mod Coded
 pub mod Directed
@@ -24,7 +25,6 @@ pub mod InTile
 pub mod Through
 pub mod Shown
 pub mod Piece
-pub mod OneTile
 pub mod Listed
 pub mod CodeMasks
 -- from tile to tile over the rims

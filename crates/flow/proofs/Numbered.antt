@@ -97,9 +97,6 @@ module _ (d : Directed) (t : Cutting) (flows : List Flow) (o : Outlets) (codes :
           ])
     ]
 
-    pub labels_size : length (labels_by codes o (bounds_of t tile) f.exits) ≡ cell_count t tile
-    labels_size = length-map-range_with_len (λ i. label_by codes o (bounds_of t tile) i (get_or f.exits i None)) 0 (length f.exits) ∙ cell_size
-
     -- the label of an exit
     label_is : (p : Place) → IsCoded d p → (h : Has p) → get_or (labels_by codes o (bounds_of t tile) f.exits) (index_in (bounds_of t tile) h.exit) 0 ≡ basin d p
     label_is p is h =

@@ -1,7 +1,7 @@
 -- The flow of a tile, of the lists that are made for it.
-use Rattle.std.proofs.Common.{◌≡◌, ℕ, ◌*◌, ◌^◌, ◌<◌, ◌≤◌, inl, inr, true, List, length, get_or, Option, None, Some, is_some, MatchOption, cond, sym, ap, subst, refl, ◌∙◌, arith}
+use Rattle.std.proofs.Common.{◌≡◌, ℕ, ◌*◌, ◌^◌, ◌<◌, ◌≤◌, inl, inr, List, length, get_or, Option, None, Some, is_some, MatchOption, cond, sym, ap, subst, refl, ◌∙◌, arith}
 use Rattle.std.proofs.Math.Nat.{mul-le-mul}
-use Rattle.std.proofs.lemmas.Bool.{cond-true, cond-false, cases_Bool}
+use Rattle.std.proofs.lemmas.Bool.{cond-true}
 use Rattle.std.proofs.Math.ListN.{length-map}
 use Rattle.std.proofs.lemmas.List.{get_or-map}
 use Rattle.std.proofs.lemmas.List.FromFn.{get_or-map-range_with_len, length-map-range_with_len}
@@ -12,15 +12,17 @@ use Rattle.tiles.proofs.Cut.{places_from_value, in_bounds, bounds_inside}
 use Rattle.tiles.proofs.TileOrder.{place_in_tile, index_in-place_in, index_in_below, place_in-index_in}
 use Rattle.drainage.specs.Following.{Directed, code_at}
 use Rattle.drainage.specs.Drained.{AllFlowEnds}
-use Rattle.flow.specs.Streams.{AreStreams, AreUpstream, AreEnds, share, total}
+use Rattle.flow.specs.Streams.{AreStreams, AreUpstream, AreEnds, total}
 use Rattle.flow.specs.TileFlow.{Flow, directed_by, entry_in, through_in, through_of, IsExitOf, IsFlow, IsTileExits, IsTileCounts}
 use Rattle.flow.specs.TileLinks.{place_in, index_in, link_by, AreTileCodes, IsSmall, links_by, weights_by, where_data, through_by, exits_by, flow_by, AreFlowLists}
-use Rattle.flow.proofs.Sums.{sum_below-few}
+use Rattle.flow.proofs.Totals.{total_is}
 use Rattle.flow.proofs.Ending.{end-inside}
-use Rattle.flow.proofs.EarlyEnds.{share-some, share-cases}
+use Rattle.flow.proofs.Reaching.{IsEnding}
+use Rattle.flow.proofs.Gathering.{all_gathered, gathered_few, through_is as gathered_through}
 use Rattle.flow.proofs.Coded.{IsCoded, cases_coded, coded_some}
 use Rattle.flow.proofs.InTile.{AreTileLinks, AreTileWeights, IsPiece, test_from_bounds, tile_streams}
-use Rattle.flow.proofs.Through.{total_is, exit_is}
+use Rattle.flow.proofs.Through.{exit_is}
+use Rattle.flow.proofs.TileTotals.{own_totals}
 
 pub small_from : {X : Type 0} (v : View X) (b : Bounds) → AreBounds v.cutting b → IsView v → IsSmall b
 small_from v b a w =
@@ -86,25 +88,20 @@ module _ (v : View (Option ℕ)) (b : Bounds) (cells : List (Option ℕ)) (links
       let most : b.rows * b.cols ≤ 4096 * 4096 = mul-le-mul r k in
       omega (arith, piece.made.size)
 
-  pub same_size : length weights ≡ length links
-  same_size = weighs.size ∙ sym piece.made.size
+  ending : IsEnding (directed_by v)
+  ending = record {
+    ends = s.ends;
+    some_col = s.lawful.cutting.some_col;
+    some_row = s.lawful.cutting.some_row;
+    few_cols = s.lawful.cutting.few_cols;
+    few_rows = s.lawful.cutting.few_rows;
+  }
 
-  weight_le : (i : ℕ) → i < length links → get_or weights i 0 ≤ 1
-  weight_le i h = elim (cases_Bool (is_some (code_at (directed_by v) (place_in b i)))) [
-    | inl t ↦ omega (arith, weighs.each i (omega (arith, h, piece.made.size)), cond-true {A = ℕ} _ 1 0 t)
-    | inr f ↦ omega (arith, weighs.each i (omega (arith, h, piece.made.size)), cond-false {A = ℕ} _ 1 0 f)
-  ]
+  total_gathered : (i : ℕ) → i < length links → total links weights i ≡ all_gathered (directed_by v) v.cutting (place_in b i)
+  total_gathered = total_is links weights _ streams (own_totals (directed_by v) ending v.cutting v.tile b links piece weights weighs)
 
   pub fits : (i : ℕ) → i < length links → total links weights i < 2 ^ 32
-  fits i h = omega (
-    arith,
-    few,
-    sum_below-few (λ j. share links (length links) j i (get_or weights j 0)) (length links)
-        (λ j l. elim (share-cases links (length links) j i (get_or weights j 0)) [
-          | inl r ↦ omega (arith, share-some links (length links) j i (get_or weights j 0) r.0 r.1 r.2, weight_le j l)
-          | inr z ↦ omega arith
-        ]),
-  )
+  fits i h = omega (arith, total_gathered i h, gathered_few (directed_by v) ending v.cutting (place_in b i))
 
   pub sizes : length links ≡ length cells
   sizes = piece.made.size ∙ sym s.codes.size
@@ -132,10 +129,15 @@ module _ (v : View (Option ℕ)) (b : Bounds) (cells : List (Option ℕ)) (links
     count_of p h is =
         let at = place_in-index_in b p h in
         let i : index_in b p < length links = omega (arith, in_cells p h, sizes) in
-        let some = coded_some (directed_by v) p is in
-        let there : is_some (code_at (directed_by v) (place_in b (index_in b p))) ≡ true = ap (λ (q : Place). is_some (code_at (directed_by v) q)) at ∙ some in
-        let one : get_or weights (index_in b p) 0 ≡ 1 = weighs.each (index_in b p) (index_in_below b p h) ∙ cond-true {A = ℕ} _ 1 0 there in
-        omega (arith, one, up.each (index_in b p) i, total_is (directed_by v) v.cutting v.tile b links piece weights weighs (index_in b p) i there)
+        let there = subst (λ (q : Place). IsCoded (directed_by v) q) (sym at) is in
+        omega (
+          arith,
+          weighs.each (index_in b p) (index_in_below b p h),
+          cond-true {A = ℕ} _ 1 0 (coded_some (directed_by v) (place_in b (index_in b p)) there),
+          up.each (index_in b p) i,
+          total_gathered (index_in b p) i,
+          gathered_through (directed_by v) ending v.cutting (place_in b (index_in b p)) there,
+        )
         ∙ ap (through_of (directed_by v) v.cutting) at
 
   module _ (ends : List ℕ) (last : AreEnds links ends) where

@@ -1,28 +1,38 @@
 -- Where each flow path ends, none comes back to a place, and each is as short as the grid has cells.
-use Rattle.std.proofs.Common.{◌≡◌, ◌≢◌, ℕ, suc, ◌+◌, ◌-◌, ◌*◌, ◌<◌, ◌≤◌, inl, inr, List, map, length, sym, ap, subst, refl, ◌∙◌, arith, mul_comm}
-use Rattle.std.specs.List.{range_with_len, sum_by}
-use Rattle.std.proofs.Math.Nat.{mul-le-mul}
-use Rattle.std.proofs.lemmas.Bool.{cases_lt}
-use Rattle.std.proofs.lemmas.List.FromFn.{get_or-map-range_with_len, length-map-range_with_len}
+use Rattle.std.proofs.Common.{◌≡◌, ◌≢◌, ℕ, zero, suc, ◌+◌, ◌-◌, ◌*◌, ◌<◌, ◌≤◌, ◌⊎◌, Bool, true, ◌&&◌, not, eqb, inl, inr, sym, ap, subst, ◌∙◌, arith}
+use Rattle.std.specs.List.{list_any, range_with_len, sum_by}
+use Rattle.std.proofs.lemmas.Bool.{cases_eq, cases_lt, cases_order, and_from, and_parts, eq-eqb, ne_eqb, eqb-true, not-true, not_from_false, false≢true}
+use Rattle.ascii_grid.specs.Neighbours.{index_of}
 use Rattle.ascii_grid.specs.Ways.{places}
 use Rattle.ascii_grid.specs.declared.place.Place.{Place}
-use Rattle.ascii_grid.proofs.Places.{make_place}
+use Rattle.ascii_grid.proofs.Places.{make_place, same_place, index_below, index_injective}
 use Rattle.tiles.specs.declared.bounds.Bounds.{Bounds}
-use Rattle.tiles.specs.Cutting.{IsCutting, AreBounds, IsInBounds, tile_count, across, down}
-use Rattle.tiles.proofs.Cut.{places_from_value}
-use Rattle.tiles.proofs.Quotients.{pieces_some}
+use Rattle.tiles.specs.Cutting.{Cutting, IsInBounds, tile_of_place}
 use Rattle.tiles.proofs.TileOrder.{place_in-index_in, index_in_below}
 use Rattle.drainage.specs.Following.{Directed, next, follow, moves, last_of}
 use Rattle.drainage.specs.Drained.{AllFlowEnds}
-use Rattle.flow.specs.Streams.{AreStreams, node_after, sum_below}
+use Rattle.flow.specs.Counts.{is_place, drains_through}
+use Rattle.flow.specs.Streams.{sum_below}
+use Rattle.flow.specs.TileFlow.{stays}
 use Rattle.flow.specs.TileLinks.{place_in, index_in}
 use Rattle.flow.proofs.Sums.{sum_below-same}
 use Rattle.flow.proofs.Windows.{sum_by_places, sum_in_rows, row_sum}
-use Rattle.flow.proofs.EarlyEnds.{within, early_end, stays_from}
-use Rattle.flow.proofs.Coded.{IsCoded, coded_along, coded_inside, outlet_stays}
-use Rattle.flow.proofs.InTile.{link_in, IsPiece, in_step, tile_streams}
-use Rattle.flow.proofs.OneTile.{whole_bounds, one_tile, one_piece, whole_is}
-use Rattle.flow.proofs.RimFlows.{cycle_stops, follow_more}
+use Rattle.flow.proofs.Ranges.{some_in_range, any_in_range, every_in_range, all_in_range}
+use Rattle.flow.proofs.EarlyEnds.{early_stop}
+use Rattle.flow.proofs.Coded.{IsCoded, coded_along, coded_inside, outlet_stays, follow_stays, follow_more, StopsAt, cycle_stops}
+
+pub place_test : (p q : Place) → p ≡ q → is_place p q ≡ true
+place_test p q e = and_from _ _ (eq-eqb _ _ (ap (λ (r : Place). r.row) e)) (eq-eqb _ _ (ap (λ (r : Place). r.col) e))
+
+pub place_from_test : (p q : Place) → is_place p q ≡ true → p ≡ q
+place_from_test p q h = let w = and_parts _ _ h in same_place p q (eqb-true _ _ w.0) (eqb-true _ _ w.1)
+
+-- the first moves stay in a tile
+pub still_at : (d : Directed) (t : Cutting) (q : Place) (k : ℕ) → stays d t q k ≡ true → (l : ℕ) → l ≤ k → tile_of_place t (follow d q l) ≡ tile_of_place t q
+still_at d t q k still l le = eqb-true _ _ (every_in_range (λ j. eqb (tile_of_place t (follow d q j)) (tile_of_place t q)) (k + 1) still l (omega arith))
+
+pub still_from : (d : Directed) (t : Cutting) (q : Place) (k : ℕ) → ((l : ℕ) → l ≤ k → tile_of_place t (follow d q l) ≡ tile_of_place t q) → stays d t q k ≡ true
+still_from d t q k same = all_in_range (λ j. eqb (tile_of_place t (follow d q j)) (tile_of_place t q)) (k + 1) (λ l lt. eq-eqb _ _ (same l (omega arith)))
 
 -- a map of directions within the limits, whose flow paths end
 pub record IsEnding (d : Directed) : Type 0 where
@@ -31,6 +41,9 @@ pub record IsEnding (d : Directed) : Type 0 where
   pub some_row : 1 ≤ d.rows
   pub few_cols : d.cols ≤ 4096
   pub few_rows : d.rows ≤ 4096
+
+abbrev pub whole_bounds : ℕ → ℕ → Bounds
+whole_bounds cols rows = record { top = 0; left = 0; rows = rows; cols = cols }
 
 -- a sum over the places of a grid
 pub sum_of_cells : (f : Place → ℕ) (cols rows : ℕ) → sum_by f (places cols rows) ≡ sum_below (λ i. f (place_in (whole_bounds cols rows) i)) (rows * cols)
@@ -47,61 +60,13 @@ sum_of_cells f cols rows =
         ap (λ n. f (make_place n c)) a ∙ ap (λ n. f (make_place (0 + r) n)) b
 
 module _ (d : Directed) (s : IsEnding d) where
-  pub again_stops : (c : Place) → IsCoded d c → (a b : ℕ) → a < b → follow d c a ≡ follow d c b → next d (follow d c a) ≡ follow d c a
+  pub again_stops : (c : Place) → IsCoded d c → (a b : ℕ) → a < b → follow d c a ≡ follow d c b → StopsAt d c a
   again_stops c is a b lt same =
       let coded = coded_along d s.ends c is a in
       let far : a + suc (b - a - 1) ≡ b = omega arith in
       cycle_stops d (moves d) (follow d c a) (b - a - 1)
       (follow_more d c a (suc (b - a - 1)) ∙ ap (follow d c) far ∙ sym same)
       (outlet_stays d (last_of d (follow d c a)) (s.ends (follow d c a) coded.code coded.is))
-
-  abbrev grid : Bounds
-  grid = whole_bounds d.cols d.rows
-
-  abbrev links : List ℕ
-  links = map (link_in d (whole_bounds d.cols d.rows)) (range_with_len 0 (d.rows * d.cols))
-
-  cut : IsCutting (one_tile d.cols d.rows)
-  cut =
-      let most : tile_count (one_tile d.cols d.rows) ≤ 1 * 1 = mul-le-mul (one_piece d.cols s.few_cols) (one_piece d.rows s.few_rows) in
-      record { some_col = s.some_col; some_row = s.some_row; few_cols = s.few_cols; few_rows = s.few_rows; some_side = omega arith; short_side = omega arith; few_tiles = omega arith }
-
-  around : AreBounds (one_tile d.cols d.rows) (whole_bounds d.cols d.rows)
-  around = record {
-    some_row = s.some_row;
-    some_col = s.some_col;
-    short_rows = s.few_rows;
-    short_cols = s.few_cols;
-    rows_inside = omega arith;
-    cols_inside = omega arith;
-  }
-
-  first : 0 < tile_count (one_tile d.cols d.rows)
-  first =
-      let c : 1 ≤ across (one_tile d.cols d.rows) = pieces_some d.cols 4096 (omega arith) s.some_col in
-      let r : 1 ≤ down (one_tile d.cols d.rows) = pieces_some d.rows 4096 (omega arith) s.some_row in
-      let some : 1 * 1 ≤ tile_count (one_tile d.cols d.rows) = mul-le-mul c r in
-      omega arith
-
-  grid_piece : IsPiece d (one_tile d.cols d.rows) 0 (whole_bounds d.cols d.rows) links
-  grid_piece = record {
-    cutting = cut;
-    cols = refl;
-    rows = refl;
-    ends = s.ends;
-    inside = around;
-    places = places_from_value (one_tile d.cols d.rows) 0 (whole_bounds d.cols d.rows) cut first (whole_is d.cols d.rows s.few_cols s.few_rows);
-    made = record {
-      size = length-map-range_with_len (link_in d (whole_bounds d.cols d.rows)) 0 (d.rows * d.cols);
-      each = λ i h. get_or-map-range_with_len (link_in d (whole_bounds d.cols d.rows)) 0 (d.rows * d.cols) i i 0 h (omega arith);
-    };
-  }
-
-  streams : AreStreams links
-  streams = tile_streams d (one_tile d.cols d.rows) 0 (whole_bounds d.cols d.rows) links grid_piece
-
-  count : length links ≡ moves d
-  count = grid_piece.made.size ∙ mul_comm d.rows d.cols
 
   pub in_grid : (p : Place) → IsCoded d p → IsInBounds (whole_bounds d.cols d.rows) p
   in_grid p is = let i = coded_inside d p is in (omega arith, omega (arith, i.0), omega arith, omega (arith, i.1))
@@ -113,29 +78,111 @@ module _ (d : Directed) (s : IsEnding d) where
   pub cell_back : (p : Place) → IsCoded d p → place_in (whole_bounds d.cols d.rows) (index_in (whole_bounds d.cols d.rows) p) ≡ p
   cell_back p is = place_in-index_in (whole_bounds d.cols d.rows) p (in_grid p is)
 
-  node_below : (p : Place) → IsCoded d p → index_in (whole_bounds d.cols d.rows) p < length links
-  node_below p is = omega (arith, cell_below p is, grid_piece.made.size)
+  path_stop : (c : Place) → IsCoded d c → (k : ℕ) × (k < moves d) × StopsAt d c k
+  path_stop c is =
+      let inside : (k : ℕ) → ((follow d c k).row < d.rows) × ((follow d c k).col < d.cols) = λ k. coded_inside d (follow d c k) (coded_along d s.ends c is k) in
+      let same : (a b : ℕ) → index_of d.cols (follow d c a) ≡ index_of d.cols (follow d c b) → follow d c a ≡ follow d c b =
+      λ a b. index_injective d.cols (follow d c a) (follow d c b) (inside a).1 (inside b).1 in
+      let r = early_stop (λ k. index_of d.cols (follow d c k)) (λ a b e. ap (λ (p : Place). index_of d.cols (next d p)) (same a b e)) (moves d)
+      (λ k. index_below d.cols d.rows (follow d c k) (inside k).0 (inside k).1) (moves d)
+      (ap (index_of d.cols) (outlet_stays d (last_of d c) (s.ends c is.code is.is))) in
+      (r.0, r.1, same (suc r.0) r.0 r.2)
 
-  -- the path along the links of the grid is the flow path
-  along : (c : Place) → IsCoded d c → (k : ℕ) → place_in (whole_bounds d.cols d.rows) (node_after links (index_in (whole_bounds d.cols d.rows) c) k) ≡ follow d c k
-  along c is k =
-      let at = cell_back c is in
-      in_step d (one_tile d.cols d.rows) 0 (whole_bounds d.cols d.rows) links grid_piece (index_in (whole_bounds d.cols d.rows) c) (node_below c is) k
-      (λ l le. in_grid _ (coded_along d s.ends _ (subst (λ (q : Place). IsCoded d q) (sym at) is) l))
-      ∙ ap (λ (q : Place). follow d q k) at
+  pub reached_early : (c p : Place) → IsCoded d c → (k : ℕ) → follow d c k ≡ p → (m : ℕ) × (m < moves d) × (m ≤ k) × (follow d c m ≡ p)
+  reached_early c p is k way = elim (cases_lt k (moves d)) [
+    | inl l ↦ (k, l, omega arith, way)
+    | inr far ↦ (let r = path_stop c is in (r.0, r.1, omega (arith, far, r.1), sym (follow_stays d c r.0 k (omega (arith, far, r.1)) r.2) ∙ way))
+  ]
 
-  pub reached_early : (c p : Place) → IsCoded d c → (k : ℕ) → follow d c k ≡ p → (m : ℕ) × (m < moves d) × (follow d c m ≡ p)
-  reached_early c p is k way =
-      let m = within links streams (index_in (whole_bounds d.cols d.rows) c) (node_below c is) k in
-      (m.0, omega (arith, m.1, count), sym (along c is m.0) ∙ ap (place_in (whole_bounds d.cols d.rows)) m.3 ∙ along c is k ∙ way)
-
-  pub early_move : (c : Place) → IsCoded d c → (k : ℕ) → next d (follow d c k) ≢ follow d c k → k < moves d - 1
+  early_move : (c : Place) → IsCoded d c → (k : ℕ) → next d (follow d c k) ≢ follow d c k → k < moves d - 1
   early_move c is k goes =
-      let j = index_in (whole_bounds d.cols d.rows) c in
-      let r = early_end links streams.inside (index_in (whole_bounds d.cols d.rows) c) (node_below c is) (length links) (streams.ends (index_in (whole_bounds d.cols d.rows) c) (node_below c is)) in
+      let r = path_stop c is in
       elim (cases_lt k r.0) [
-        | inl l ↦ omega (arith, r.1, count)
-        | inr far ↦ absurd (goes (sym (along c is (suc k))
-            ∙ ap (place_in (whole_bounds d.cols d.rows)) (stays_from links (index_in (whole_bounds d.cols d.rows) c) r.0 (suc k) (omega arith) r.2 ∙ sym (stays_from links (index_in (whole_bounds d.cols d.rows) c) r.0 k far r.2))
-            ∙ along c is k))
+        | inl l ↦ omega (arith, r.1)
+        | inr far ↦ absurd (goes (follow_stays d c r.0 (suc k) (omega arith) r.2 ∙ sym (follow_stays d c r.0 k far r.2)))
       ]
+
+  pub drains_at : (c p : Place) → IsCoded d c → (k : ℕ) → follow d c k ≡ p → drains_through d p c ≡ true
+  drains_at c p is k way =
+      let m = reached_early c p is k way in
+      any_in_range (λ k. is_place p (follow d c k)) (moves d) m.0 m.1 (place_test p (follow d c m.0) (sym m.3))
+
+  pub drains_from : (c p : Place) → drains_through d p c ≡ true → (k : ℕ) × (follow d c k ≡ p)
+  drains_from c p y = let r = some_in_range (λ k. is_place p (follow d c k)) (moves d) y in (r.0, sym (place_from_test p (follow d c r.0) r.2))
+
+  -- the last part of a path lies in a region, and comes from outside
+  pub record Comes (In : Place → Type 0) (q : Place) (k : ℕ) : Type 0 where
+    pub from : ℕ
+    pub before : from < k
+    pub outside : In (follow d q from) → ⊥
+    pub inside : (l : ℕ) → from < l → l ≤ k → In (follow d q l)
+
+  module _ (In : Place → Type 0) where
+    pub cases_comes : ((p : Place) → In p ⊎ (In p → ⊥)) → (q : Place) (k : ℕ) → In (follow d q k) → ((l : ℕ) → l ≤ k → In (follow d q l)) ⊎ Comes In q k
+    cases_comes cases q zero here = inl (λ l le. (let z : 0 ≡ l = omega arith in subst (λ (n : ℕ). In (follow d q n)) z here))
+    cases_comes cases q (suc k) here = elim (cases (follow d q k)) [
+      | inr out ↦ inr (record {
+        from = k;
+        before = omega arith;
+        outside = out;
+        inside = λ l lt le. (let z : suc k ≡ l = omega arith in subst (λ (n : ℕ). In (follow d q n)) z here);
+      })
+      | inl y ↦ elim (cases_comes cases q k y) [
+        | inl way ↦ inl (λ l le. last l le (λ less. way l less))
+        | inr c ↦ inr (record { from = c.from; before = omega (arith, c.before); outside = c.outside; inside = λ l lt le. last l le (λ less. c.inside l lt less) })
+      ]
+    ]
+      where
+        last : (l : ℕ) → l ≤ suc k → (l ≤ k → In (follow d q l)) → In (follow d q l)
+        last l le way = elim (cases_eq l (suc k)) [
+          | inl e ↦ subst (λ (n : ℕ). In (follow d q n)) (sym e) here
+          | inr ne ↦ way (omega arith)
+        ]
+
+    module _ (q : Place) (is : IsCoded d q) where
+      -- a path that has left the region doesn't come back to a place in it
+      no_return : (f k a m : ℕ) → ((l : ℕ) → f ≤ l → l ≤ k → In (follow d q l)) → f ≤ k → f ≤ a → (In (follow d q a) → ⊥) → a < m → follow d q k ≡ follow d q m → ⊥
+      no_return f k a m way some from out lt same = elim (cases_lt k a) [
+        | inr near ↦ out (way a from near)
+        | inl far ↦ out (subst In (sym (follow_stays d q k a (omega arith) (again_stops q is k m (omega arith) same))) (way k some (omega arith)))
+      ]
+
+      pub comes_never : (k m : ℕ) → follow d q k ≡ follow d q m → ((l : ℕ) → l ≤ k → In (follow d q l)) → Comes In q m → ⊥
+      comes_never k m same way c = no_return 0 k c.from m (λ l _ le. way l le) (omega arith) (omega arith) c.outside c.before same
+
+      pub comes_once : (k m : ℕ) → follow d q k ≡ follow d q m → (a : Comes In q k) (b : Comes In q m) → a.from ≡ b.from
+      comes_once k m same a b = elim (cases_order a.from b.from) [
+        | inl e ↦ e
+        | inr r ↦ elim r [
+          | inl l ↦ absurd (no_return (suc a.from) k b.from m a.inside (omega (arith, a.before)) l b.outside b.before same)
+          | inr l ↦ absurd (no_return (suc b.from) m a.from k b.inside (omega (arith, b.before)) l a.outside a.before (sym same))
+        ]
+      ]
+
+  -- a path that comes to a place by one move
+  abbrev pub one_move : (q p : Place) (a : ℕ) → follow d q (suc a) ≡ p → follow d q a ≢ p → Comes (λ z. z ≡ p) q (suc a)
+  one_move q p a leads apart = record {
+    from = a;
+    before = omega arith;
+    outside = apart;
+    inside = λ l lt le. (let z : l ≡ suc a = omega arith in ap (follow d q) z ∙ leads);
+  }
+
+-- whether a move of a path leads to a place from another tile
+abbrev pub enters : Directed → Cutting → Place → Place → ℕ → Bool
+enters d t p q k = is_place p (follow d q (k + 1)) && not (eqb (tile_of_place t (follow d q k)) (tile_of_place t p))
+
+module _ (d : Directed) (s : IsEnding d) (t : Cutting) (p q : Place) where
+  one_on : (k : ℕ) → follow d q (k + 1) ≡ follow d q (suc k)
+  one_on k = let e : k + 1 ≡ suc k = omega arith in ap (follow d q) e
+
+  pub enters_from : list_any (enters d t p q) (range_with_len 0 (moves d - 1)) ≡ true → (k : ℕ) × (follow d q (suc k) ≡ p) × (tile_of_place t (follow d q k) ≢ tile_of_place t p)
+  enters_from y =
+      let r = some_in_range (enters d t p q) (moves d - 1) y in
+      let w = and_parts _ _ r.2 in
+      (r.0, sym (one_on r.0) ∙ sym (place_from_test p (follow d q (r.0 + 1)) w.0), λ e. false≢true (sym (not-true _ w.1) ∙ eq-eqb _ _ e))
+
+  pub enters_at : IsCoded d q → (k : ℕ) → follow d q (suc k) ≡ p → tile_of_place t (follow d q k) ≢ tile_of_place t p → list_any (enters d t p q) (range_with_len 0 (moves d - 1)) ≡ true
+  enters_at is k leads apart =
+      any_in_range (enters d t p q) (moves d - 1) k (early_move d s q is k (λ e. apart (ap (tile_of_place t) (sym e ∙ leads))))
+      (and_from _ _ (place_test p (follow d q (k + 1)) (sym leads ∙ sym (one_on k))) (not_from_false _ (ne_eqb _ _ apart)))

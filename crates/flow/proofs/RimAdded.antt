@@ -18,7 +18,7 @@ use Rattle.flow.proofs.Sums.{sum_more}
 use Rattle.flow.proofs.Windows.{sum_below-part}
 use Rattle.flow.proofs.DoubleSums.{one_term}
 use Rattle.flow.proofs.InTile.{bounds_from_test, test_from_bounds}
-use Rattle.flow.proofs.Through.{place_test, place_from_test}
+use Rattle.flow.proofs.Reaching.{place_test, place_from_test}
 use Rattle.flow.proofs.RimNumbered.{side_below, no_wider, no_higher}
 
 adds_off : (t : Cutting) (listed : List ℕ) (k : ℕ) (p : Place) → (is_place (rim_place t k) p && eqb (rim_number t p) k) ≡ false → adds t listed k p ≡ 0

@@ -14,16 +14,16 @@ use Rattle.tiles.proofs.Members.{Touches-from_ways}
 use Rattle.drainage.specs.Following.{Directed, code_at, next, follow, moves, last_of, IsOutlet}
 use Rattle.flow.specs.Counts.{is_place}
 use Rattle.flow.specs.Streams.{AreStreams, AreEnds, onward, node_after, end_of}
-use Rattle.flow.specs.TileFlow.{Flow, is_in_bounds, entry_in, exit_in, IsTileExits, IsExitOf, IsExitCell}
+use Rattle.flow.specs.TileFlow.{Flow, is_in_bounds, stays, entry_in, exit_in, IsTileExits, IsExitOf, IsExitCell}
 use Rattle.flow.specs.Whole.{is_outlet_code}
 use Rattle.flow.specs.RimNumbers.{number_count, rim_number, rim_place}
 use Rattle.flow.specs.RimGraph.{code_in, AreFlowsOf, next_by, exit_by, target_by, way_out_in, way_out_by, number_or, rim_link, rim_links_by, rim_outlet, rim_outlets_by, outlet_by, AreOutlets}
 use Rattle.flow.proofs.Ranges.{every_in_range}
 use Rattle.flow.proofs.EarlyEnds.{IsStop, streams_from}
 use Rattle.flow.proofs.Ending.{node_after-first, node_after-inside}
-use Rattle.flow.proofs.Coded.{IsCoded, cases_option, cases_coded, coded_along, coded_inside, coded_from_some, none_stays, outlet_stays, follow_stays}
+use Rattle.flow.proofs.Coded.{IsCoded, cases_option, cases_coded, coded_along, coded_inside, coded_from_some, none_stays, outlet_stays, follow_stays, follow_more, follow_first, StopsAt, stops_sooner, cycle_stops}
 use Rattle.flow.proofs.InTile.{bounds_from_test, test_from_bounds}
-use Rattle.flow.proofs.Through.{place_test, place_from_test}
+use Rattle.flow.proofs.Reaching.{place_test, place_from_test}
 use Rattle.flow.proofs.RimNumbered.{IsSide, number_below, number_back}
 
 pub cases_target : (o : Option Place) → (o ≡ None) ⊎ ((q : Place) × (o ≡ Some q))
@@ -59,26 +59,6 @@ outlet_listed t flows listed p f y = cond-false {A = Option Place} _ (Some p) (c
 pub outlet_unlisted : (t : Cutting) (flows : List Flow) (listed : List (Option Place)) (p : Place) → is_outlet_code (code_in t flows p) ≡ false → is_place (rim_place t (rim_number t p)) p ≡ false →
     outlet_by t flows listed p ≡ None
 outlet_unlisted t flows listed p f n = cond-false {A = Option Place} _ (Some p) (cond {A = Option Place} (is_place (rim_place t (rim_number t p)) p) (get_or listed (rim_number t p) None) None) f ∙ cond-false {A = Option Place} _ _ _ n
-
--- moves in two parts
-pub follow_more : (d : Directed) (p : Place) (a b : ℕ) → follow d (follow d p a) b ≡ follow d p (a + b)
-follow_more d p a zero = let z : a ≡ a + 0 = omega arith in ap (follow d p) z
-follow_more d p a (suc b) = let z : suc (a + b) ≡ a + suc b = omega arith in ap (next d) (follow_more d p a b) ∙ ap (follow d p) z
-
--- no move goes on after so many
-abbrev pub StopsAt : Directed → Place → ℕ → Type 0
-StopsAt d p k = next d (follow d p k) ≡ follow d p k
-
-pub stops_sooner : (d : Directed) (p e : Place) (k n : ℕ) → follow d p (suc k) ≡ e → StopsAt d p (suc n) → StopsAt d e n
-stops_sooner d p e k n way stop =
-    let later : follow d e n ≡ follow d p (suc n) =
-    ap (λ (q : Place). follow d q n) (sym way) ∙ follow_more d p (suc k) n ∙ follow_stays d p (suc n) (suc k + n) (omega arith) stop in
-    ap (next d) later ∙ stop ∙ sym later
-
--- a path that comes back to a place stays there
-pub cycle_stops : (d : Directed) (n : ℕ) (p : Place) (k : ℕ) → follow d p (suc k) ≡ p → StopsAt d p n → next d p ≡ p
-cycle_stops d zero p k way stop = stop
-cycle_stops d (suc n) p k way stop = cycle_stops d n p k way (stops_sooner d p p k n way stop)
 
 module _ (d : Directed) (t : Cutting) (flows : List Flow) (s : AreFlowsOf d t flows) where
   pub within_of : (p : Place) → IsCoded d p → IsWithin t p
@@ -209,6 +189,7 @@ module _ (d : Directed) (t : Cutting) (flows : List Flow) (s : AreFlowsOf d t fl
   pub record LeavesAt (q e : Place) : Type 0 where
     pub out : way_out_by t flows q ≡ Some e
     pub steps : ℕ
+    pub still : stays d t q steps ≡ true
     pub way : follow d q steps ≡ e
     pub crosses : Crosses e
 
@@ -272,7 +253,7 @@ module _ (d : Directed) (t : Cutting) (flows : List Flow) (s : AreFlowsOf d t fl
         elim l.4.1 [
           | inl out ↦ inr (record { out = x.1.out ∙ cond-true {A = Option Place} _ _ _ (ap is_outlet_code out); exit = x.1.exit; steps = l.0; way = l.3; outlet = out })
           | inr apart ↦ (let c : Crosses x.0 = record { coded = coded; apart = apart } in
-              inl (record { out = x.1.out ∙ cond-false {A = Option Place} _ _ _ (not_outlet x.0 c); steps = l.0; way = l.3; crosses = c }))
+              inl (record { out = x.1.out ∙ cond-false {A = Option Place} _ _ _ (not_outlet x.0 c); steps = l.0; still = l.2; way = l.3; crosses = c }))
         ],
       )
 
@@ -293,6 +274,7 @@ module _ (d : Directed) (t : Cutting) (flows : List Flow) (s : AreFlowsOf d t fl
     pub to : Place
     pub crosses : Crosses to
     pub steps : ℕ
+    pub still : stays d t (next d (rim_place t i)) steps ≡ true
     pub way : follow d (rim_place t i) (suc steps) ≡ to
     pub link : rim_link t flows i ≡ rim_number t to
 
@@ -311,10 +293,9 @@ module _ (d : Directed) (t : Cutting) (flows : List Flow) (s : AreFlowsOf d t fl
   targets_on i q e =
       let x = target_from i q e in
       let y = way_cases q (target_within i q e).0 in
-      let first : (k : ℕ) → follow d (rim_place t i) (suc k) ≡ follow d q k =
-      λ k. (let z : 1 + k ≡ suc k = omega arith in sym (ap (λ (r : Place). follow d r k) x.is ∙ follow_more d (rim_place t i) 1 k ∙ ap (follow d (rim_place t i)) z)) in
+      let first : (k : ℕ) → follow d (rim_place t i) (suc k) ≡ follow d q k = λ k. sym (ap (λ (r : Place). follow d r k) x.is ∙ follow_first d (rim_place t i) k) in
       elim y.1 [
-        | inl l ↦ inl (record { to = y.0; crosses = l.crosses; steps = l.steps; way = first l.steps ∙ l.way; link = ap (link_by i) e ∙ ap (number_or t i) l.out })
+        | inl l ↦ inl (record { to = y.0; crosses = l.crosses; steps = l.steps; still = subst (λ (z : Place). stays d t z l.steps ≡ true) x.is l.still; way = first l.steps ∙ l.way; link = ap (link_by i) e ∙ ap (number_or t i) l.out })
         | inr l ↦ inr (record {
           to = y.0;
           steps = l.steps;
@@ -325,7 +306,7 @@ module _ (d : Directed) (t : Cutting) (flows : List Flow) (s : AreFlowsOf d t fl
         })
       ]
 
-  untargeted : (i : ℕ) → target_by t flows i ≡ None → rim_link t flows i ≡ i
+  pub untargeted : (i : ℕ) → target_by t flows i ≡ None → rim_link t flows i ≡ i
   untargeted i e = ap (link_by i) e
 
   pub to_below : (p : Place) → Crosses p → rim_number t p < number_count t

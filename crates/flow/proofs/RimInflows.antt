@@ -1,8 +1,8 @@
 -- What enters a tile at a place is the place's inflow.
-use Rattle.std.proofs.Common.{◌≡◌, ◌≢◌, ℕ, suc, ◌+◌, ◌-◌, ◌*◌, ◌<◌, ◌≤◌, ◌⊎◌, inl, inr, true, cond, eqb, List, get_or, Option, None, Some, is_some, sym, ap, subst, refl, ◌∙◌, arith}
+use Rattle.std.proofs.Common.{◌≡◌, ◌≢◌, ℕ, suc, ◌+◌, ◌-◌, ◌*◌, ◌<◌, ◌≤◌, ◌⊎◌, inl, inr, true, eqb, List, get_or, Option, None, Some, is_some, sym, ap, subst, refl, ◌∙◌, arith}
 use Rattle.std.specs.List.{list_any, range_with_len}
 use Rattle.std.proofs.Math.Nat.{mul-le-mul}
-use Rattle.std.proofs.lemmas.Bool.{cases_eq, cases_order, cases_Bool, and_from, and_parts, and_left, and_right, eq-eqb, ne_eqb, eqb-true, cond-true, cond-false, not_from_false, not-true, false≢true}
+use Rattle.std.proofs.lemmas.Bool.{cases_eq, cases_Bool, and_from, and_left, and_right, eq-eqb, ne_eqb, eqb-true, cond-true, cond-false, false≢true}
 use Rattle.ascii_grid.specs.declared.place.Place.{Place}
 use Rattle.tiles.specs.Cutting.{Cutting, IsWithin, bounds_of, tile_of_place}
 use Rattle.tiles.proofs.Cut.{in_bounds, in_tile, tile_of_place_below}
@@ -13,31 +13,22 @@ use Rattle.flow.specs.TileFlow.{Flow, AreTileCounts, inflow_of}
 use Rattle.flow.specs.RimNumbers.{number_count, rim_number, rim_place}
 use Rattle.flow.specs.RimGraph.{AreFlowsOf, target_by, rim_links_by}
 use Rattle.flow.specs.Inflows.{rim_weights_by, sent_to, entering, AreEntering, inflow_by, AreInflows}
-use Rattle.flow.proofs.Sums.{sum_below-same, sum_below-few}
-use Rattle.flow.proofs.Windows.{sum_below-none}
-use Rattle.flow.proofs.DoubleSums.{exchange, one_term}
-use Rattle.flow.proofs.Ranges.{some_in_range, any_in_range}
-use Rattle.flow.proofs.Coded.{IsCoded, coded_along, coded_from_some, follow_stays}
-use Rattle.flow.proofs.Through.{place_test, place_from_test}
+use Rattle.flow.proofs.Sums.{bit_le, sum_below-same, sum_below-none, sum_below-few}
+use Rattle.flow.proofs.DoubleSums.{exchange, one_term, cond-sum}
+use Rattle.flow.proofs.Coded.{IsCoded, coded_along, coded_from_some}
 use Rattle.flow.proofs.RimNumbered.{IsSide, number_below, number_back}
 use Rattle.flow.proofs.RimFlows.{Crosses, cases_target, within_of, touching, back, target_on, target_from, to_below, links_size}
-use Rattle.flow.proofs.Reaching.{again_stops, early_move}
-use Rattle.flow.proofs.Gathering.{cell, drained, all_drained, drained_on, drained_off, drained_none, enters, entered, entered_le, inflow_sum}
-use Rattle.flow.proofs.RimTotals.{ending, drains_at, drains_from, total_is}
+use Rattle.flow.proofs.Reaching.{place_test, place_from_test, drains_at, drains_from, comes_once, one_move, enters, enters_from, enters_at}
+use Rattle.flow.proofs.Gathering.{cell, drained, all_drained, entered, inflow_sum, counted_on, counted_off, counted_none}
+use Rattle.flow.proofs.RimTotals.{ending, total_drained}
 
 pub sent-none : (t : Cutting) (k : ℕ) (o : Option Place) → sent_to t k o 0 ≡ 0
 sent-none t k None = refl
-sent-none t k (Some q) = elim (cases_Bool (eqb (rim_number t q) k)) [
-  | inl y ↦ cond-true {A = ℕ} _ 0 0 y
-  | inr n ↦ cond-false {A = ℕ} _ 0 0 n
-]
+sent-none t k (Some q) = cond-sum (eqb (rim_number t q) k) (λ c. 0) 0
 
 pub sent-sum : (t : Cutting) (k : ℕ) (o : Option Place) (f : ℕ → ℕ) (n : ℕ) → sent_to t k o (sum_below f n) ≡ sum_below (λ c. sent_to t k o (f c)) n
 sent-sum t k None f n = sym (sum_below-none (λ c. 0) n (λ c h. refl))
-sent-sum t k (Some q) f n = elim (cases_Bool (eqb (rim_number t q) k)) [
-  | inl y ↦ cond-true {A = ℕ} _ (sum_below f n) 0 y ∙ sum_below-same f (λ c. cond {A = ℕ} (eqb (rim_number t q) k) (f c) 0) n (λ c h. sym (cond-true {A = ℕ} _ (f c) 0 y))
-  | inr x ↦ cond-false {A = ℕ} _ (sum_below f n) 0 x ∙ sym (sum_below-none (λ c. cond {A = ℕ} (eqb (rim_number t q) k) (f c) 0) n (λ c h. cond-false {A = ℕ} _ (f c) 0 x))
-]
+sent-sum t k (Some q) f n = cond-sum (eqb (rim_number t q) k) f n
 
 module _ (d : Directed) (t : Cutting) (flows : List Flow) (s : AreFlowsOf d t flows) (counts : AreTileCounts d t flows) where
   -- a place that water enters lies on the rim
@@ -58,53 +49,24 @@ module _ (d : Directed) (t : Cutting) (flows : List Flow) (s : AreFlowsOf d t fl
   pub entry_back : (p : Place) → Crosses d t flows s p → rim_place t (rim_number t (next d p)) ≡ next d p
   entry_back p c = number_back t s.cutting (next d p) (within_of d t flows s (next d p) (coded_along d s.ends p c.coded 1)) (entry_side p c)
 
-  follow-one : (q : Place) (k : ℕ) → follow d q (k + 1) ≡ next d (follow d q k)
-  follow-one q k = let e : k + 1 ≡ suc k = omega arith in ap (follow d q) e
-
   -- a cell of a path from which water enters another
-  pub record Enters (p q : Place) : Type 0 where
+  record Enters (p q : Place) : Type 0 where
     pub steps : ℕ
     pub crosses : Crosses d t flows s (follow d q steps)
     pub leads : next d (follow d q steps) ≡ p
 
-  pub enters_from : (p q : Place) → IsCoded d q → list_any (enters d t p q) (range_with_len 0 (moves d - 1)) ≡ true → Enters p q
-  enters_from p q is y =
-      let r = some_in_range (enters d t p q) (moves d - 1) y in
-      let w = and_parts _ _ r.2 in
-      let leads : next d (follow d q r.0) ≡ p = sym (follow-one q r.0) ∙ sym (place_from_test p (follow d q (r.0 + 1)) w.0) in
-      record {
-        steps = r.0;
-        leads = leads;
-        crosses = record {
-          coded = coded_along d s.ends q is r.0;
-          apart = λ e. false≢true (sym (not-true _ w.1) ∙ eq-eqb _ _ (sym e ∙ ap (tile_of_place t) leads));
-        };
-      }
-
-  pub enters_at : (p q : Place) → IsCoded d q → (k : ℕ) → Crosses d t flows s (follow d q k) → next d (follow d q k) ≡ p →
-      list_any (enters d t p q) (range_with_len 0 (moves d - 1)) ≡ true
-  enters_at p q is k c leads =
-      any_in_range (enters d t p q) (moves d - 1) k
-      (early_move d (ending d t flows s counts) q is k (λ e. c.apart (ap (tile_of_place t) e)))
-      (and_from _ _ (place_test p (follow d q (k + 1)) (sym leads ∙ sym (follow-one q k)))
-      (not_from_false _ (ne_eqb _ _ (λ e. c.apart (ap (tile_of_place t) leads ∙ sym e)))))
+  enters_crossing : (p q : Place) → IsCoded d q → list_any (enters d t p q) (range_with_len 0 (moves d - 1)) ≡ true → Enters p q
+  enters_crossing p q is y =
+      let x = enters_from d (ending d t flows s counts) t p q y in
+      record { steps = x.0; leads = x.1; crosses = record { coded = coded_along d s.ends q is x.0; apart = λ e. x.2 (sym e ∙ ap (tile_of_place t) x.1) } }
 
   -- it does so from one cell alone
-  enters_later : (p q : Place) → IsCoded d q → (a b : ℕ) → a < b → next d (follow d q a) ≡ p → Crosses d t flows s (follow d q b) → next d (follow d q b) ≡ p → ⊥
-  enters_later p q is a b lt first c second =
-      let stop = again_stops d (ending d t flows s counts) q is (suc a) (suc b) (omega arith) (first ∙ sym second) in
-      let there : follow d q b ≡ follow d q (suc a) = follow_stays d q (suc a) b (omega arith) stop in
-      c.apart (ap (tile_of_place t) (second ∙ sym first ∙ sym there))
-
-  pub enters_once : (p q : Place) → IsCoded d q → (a b : ℕ) → Crosses d t flows s (follow d q a) → next d (follow d q a) ≡ p → Crosses d t flows s (follow d q b) → next d (follow d q b) ≡ p →
+  enters_once : (p q : Place) → IsCoded d q → (a b : ℕ) → Crosses d t flows s (follow d q a) → next d (follow d q a) ≡ p → Crosses d t flows s (follow d q b) → next d (follow d q b) ≡ p →
       follow d q a ≡ follow d q b
-  enters_once p q is a b c first x second = elim (cases_order a b) [
-    | inl e ↦ ap (follow d q) e
-    | inr r ↦ elim r [
-      | inl l ↦ absurd (enters_later p q is a b l first x second)
-      | inr l ↦ absurd (enters_later p q is b a l second c first)
-    ]
-  ]
+  enters_once p q is a b c first x second =
+      let e = ending d t flows s counts in
+      ap (follow d q) (comes_once d e (λ z. z ≡ p) q is (suc a) (suc b) (first ∙ sym second)
+      (one_move d e q p a first (λ z. c.apart (ap (tile_of_place t) (first ∙ sym z)))) (one_move d e q p b second (λ z. x.apart (ap (tile_of_place t) (second ∙ sym z)))))
 
   -- an exit's part of the water of a cell that enters a place
   abbrev piece : Place → ℕ → ℕ → ℕ
@@ -133,21 +95,21 @@ module _ (d : Directed) (t : Cutting) (flows : List Flow) (s : AreFlowsOf d t fl
 
   pieces_are : (p : Place) → rim_place t (rim_number t p) ≡ p → (c : ℕ) → sum_below (piece p c) (number_count t) ≡ entered d t p (cell d c)
   pieces_are p on c = elim (cases_Bool (is_some (code_at d (cell d c)))) [
-    | inr f ↦ sum_below-none (piece p c) (number_count t) (λ i h. ap (sent_to t (rim_number t p) (target_by t flows i)) (drained_none d (rim_place t i) (cell d c) f) ∙ sent-none t (rim_number t p) (target_by t flows i))
+    | inr f ↦ sum_below-none (piece p c) (number_count t) (λ i h. ap (sent_to t (rim_number t p) (target_by t flows i)) (counted_none d (cell d c) _ f) ∙ sent-none t (rim_number t p) (target_by t flows i))
         ∙ sym (cond-false {A = ℕ} _ 1 0 (and_left _ _ f))
     | inl some ↦
         let is = coded_from_some d (cell d c) some in
         elim (cases_Bool (list_any (enters d t p (cell d c)) (range_with_len 0 (moves d - 1)))) [
           | inl y ↦
-              let x = enters_from p (cell d c) is y in
+              let x = enters_crossing p (cell d c) is y in
               let from = follow d (cell d c) x.steps in
               one_term (piece p c) (number_count t) (rim_number t (follow d (cell d c) x.steps)) (to_below d t flows s (follow d (cell d c) x.steps) x.crosses)
               (λ i h ne. elim (cases_lead p on i) [
                 | inl z ↦ z (drained d (rim_place t i) (cell d c))
                 | inr l ↦ elim (cases_Bool (drains_through d (rim_place t i) (cell d c))) [
-                  | inr n ↦ ap (sent_to t (rim_number t p) (target_by t flows i)) (drained_off d (rim_place t i) (cell d c) n) ∙ sent-none t (rim_number t p) (target_by t flows i)
+                  | inr n ↦ ap (sent_to t (rim_number t p) (target_by t flows i)) (counted_off d (cell d c) _ n) ∙ sent-none t (rim_number t p) (target_by t flows i)
                   | inl through ↦
-                      let m = drains_from d t flows s counts (cell d c) (rim_place t i) through in
+                      let m = drains_from d (ending d t flows s counts) (cell d c) (rim_place t i) through in
                       let same = enters_once p (cell d c) is m.0 x.steps (subst (λ (z : Place). Crosses d t flows s z) (sym m.1) l.crosses) (ap (next d) m.1 ∙ l.leads) x.crosses x.leads in
                       absurd (ne (sym l.number ∙ ap (rim_number t) (sym m.1 ∙ same)))
                 ]
@@ -155,16 +117,17 @@ module _ (d : Directed) (t : Cutting) (flows : List Flow) (s : AreFlowsOf d t fl
               ∙ ap (λ (o : Option Place). sent_to t (rim_number t p) o (drained d (rim_place t (rim_number t (follow d (cell d c) x.steps))) (cell d c))) (target_on d t flows s (follow d (cell d c) x.steps) x.crosses)
               ∙ cond-true {A = ℕ} _ (drained d (rim_place t (rim_number t (follow d (cell d c) x.steps))) (cell d c)) 0 (eq-eqb _ _ (ap (rim_number t) x.leads))
               ∙ ap (λ z. drained d z (cell d c)) (back d t flows s (follow d (cell d c) x.steps) x.crosses)
-              ∙ drained_on d (follow d (cell d c) x.steps) (cell d c) is (drains_at d t flows s counts (cell d c) (follow d (cell d c) x.steps) is x.steps refl)
+              ∙ counted_on d (cell d c) _ is (drains_at d (ending d t flows s counts) (cell d c) (follow d (cell d c) x.steps) is x.steps refl)
               ∙ sym (cond-true {A = ℕ} _ 1 0 (and_from _ _ some y))
           | inr n ↦
               sum_below-none (piece p c) (number_count t) (λ i h. elim (cases_lead p on i) [
                 | inl z ↦ z (drained d (rim_place t i) (cell d c))
                 | inr l ↦ elim (cases_Bool (drains_through d (rim_place t i) (cell d c))) [
-                  | inr off ↦ ap (sent_to t (rim_number t p) (target_by t flows i)) (drained_off d (rim_place t i) (cell d c) off) ∙ sent-none t (rim_number t p) (target_by t flows i)
+                  | inr off ↦ ap (sent_to t (rim_number t p) (target_by t flows i)) (counted_off d (cell d c) _ off) ∙ sent-none t (rim_number t p) (target_by t flows i)
                   | inl through ↦
-                      let m = drains_from d t flows s counts (cell d c) (rim_place t i) through in
-                      absurd (false≢true (sym n ∙ enters_at p (cell d c) is m.0 (subst (λ (z : Place). Crosses d t flows s z) (sym m.1) l.crosses) (ap (next d) m.1 ∙ l.leads)))
+                      let m = drains_from d (ending d t flows s counts) (cell d c) (rim_place t i) through in
+                      absurd (false≢true (sym n ∙ enters_at d (ending d t flows s counts) t p (cell d c) is m.0 (ap (next d) m.1 ∙ l.leads)
+                      (λ z. l.crosses.apart (ap (tile_of_place t) l.leads ∙ sym z ∙ ap (tile_of_place t) m.1))))
                 ]
               ])
               ∙ sym (cond-false {A = ℕ} _ 1 0 (and_right _ _ n))
@@ -177,7 +140,7 @@ module _ (d : Directed) (t : Cutting) (flows : List Flow) (s : AreFlowsOf d t fl
     | inr f ↦ cond-false {A = ℕ} _ 1 0 (and_left _ _ f)
     | inl some ↦ elim (cases_Bool (list_any (enters d t p (cell d c)) (range_with_len 0 (moves d - 1)))) [
       | inr n ↦ cond-false {A = ℕ} _ 1 0 (and_right _ _ n)
-      | inl y ↦ (let x = enters_from p (cell d c) (coded_from_some d (cell d c) some) y in
+      | inl y ↦ (let x = enters_crossing p (cell d c) (coded_from_some d (cell d c) some) y in
           absurd (off (ap (λ z. rim_place t (rim_number t z)) (sym x.leads) ∙ entry_back (follow d (cell d c) x.steps) x.crosses ∙ x.leads)))
     ]
   ])
@@ -189,7 +152,7 @@ module _ (d : Directed) (t : Cutting) (flows : List Flow) (s : AreFlowsOf d t fl
         let at = up.each i (omega (arith, h, links_size d t flows s links made)) in
         elim (cases_target (target_by t flows i)) [
           | inl none ↦ ap (λ (o : Option Place). sent_to t k o (get_or came i 0 + get_or weights i 0)) none ∙ sym (ap (λ (o : Option Place). sent_to t k o (all_drained d (rim_place t i))) none)
-          | inr q ↦ ap (sent_to t k (target_by t flows i)) (at ∙ total_is d t flows s counts links made weights weighed i q.0 h q.1)
+          | inr q ↦ ap (sent_to t k (target_by t flows i)) (at ∙ total_drained d t flows s counts links made weights weighed i q.0 h q.1)
         ]
 
     -- all that enters at a place on the rim
@@ -207,7 +170,7 @@ module _ (d : Directed) (t : Cutting) (flows : List Flow) (s : AreFlowsOf d t fl
           | inl e ↦
               let most : d.rows * d.cols ≤ 4096 * 4096 = mul-le-mul (ending d t flows s counts).few_rows (ending d t flows s counts).few_cols in
               let same = ap (λ n. sum_below (entering t flows weights came n) (number_count t)) (sym e) in
-              omega (arith, same, entering_is (rim_place t k) (ap (rim_place t) e), sum_below-few (λ c. entered d t (rim_place t k) (cell d c)) (d.rows * d.cols) (λ c h. entered_le d t (rim_place t k) (cell d c)))
+              omega (arith, same, entering_is (rim_place t k) (ap (rim_place t) e), sum_below-few (λ c. entered d t (rim_place t k) (cell d c)) (d.rows * d.cols) (λ c h. bit_le _))
           | inr ne ↦
               omega (
                 arith,

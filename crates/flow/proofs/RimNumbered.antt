@@ -1,8 +1,8 @@
 -- A cell of a rim and its number.
-use Rattle.std.proofs.Common.{◌≡◌, ◌≢◌, ℕ, ◌+◌, ◌-◌, ◌*◌, ◌/◌, ◌%◌, ◌^◌, ◌<◌, ◌≤◌, inl, inr, ap, ◌∙◌, arith, mul_comm, zero-mul, mul-zero}
+use Rattle.std.proofs.Common.{◌≡◌, ◌≢◌, ℕ, ◌+◌, ◌-◌, ◌*◌, ◌/◌, ◌%◌, ◌^◌, ◌<◌, ◌≤◌, inl, inr, ap, ◌∙◌, arith, mul_comm, zero-mul}
 use Rattle.std.proofs.Math.Nat.{zero-div, zero-mod, mul-le-mul}
 use Rattle.std.proofs.lemmas.Bool.{cases_eq, eq-eqb, ne_eqb, lt-ltb, le-ltb, cond-true, cond-false}
-use Rattle.std.proofs.lemmas.Nat.{div-mul-add, mod-mul-add, mul-add-lt, div_below}
+use Rattle.std.proofs.lemmas.Nat.{div-mul-add, mod-mul-add, mul-add-lt}
 use Rattle.ascii_grid.specs.declared.place.Place.{Place}
 use Rattle.ascii_grid.proofs.Places.{make_place, same_place}
 use Rattle.tiles.specs.declared.bounds.Bounds.{Bounds}
@@ -109,18 +109,8 @@ module _ (t : Cutting) (h : IsCutting t) where
       let most : tile_count t * stride (bounds_of t 0) ≤ 65536 * 16384 = mul-le-mul h.few_tiles side in
       omega arith
 
-module _ (t : Cutting) where
-  pub some_tile : (i : ℕ) → i < number_count t → 0 < tile_count t
-  some_tile i k = elim (cases_eq (tile_count t) 0) [
-    | inl e ↦ absurd (omega (arith, k, ap (λ n. n * stride (bounds_of t 0)) e, zero-mul (stride (bounds_of t 0))))
-    | inr ne ↦ omega arith
-  ]
-
-  pub tile_of_number : (i : ℕ) → i < number_count t → i / stride (bounds_of t 0) < tile_count t
-  tile_of_number i k = div_below i (stride (bounds_of t 0)) (tile_count t) (some_stride i k) k
-    where
-      some_stride : (i : ℕ) → i < number_count t → 1 ≤ stride (bounds_of t 0)
-      some_stride i k = elim (cases_eq (stride (bounds_of t 0)) 0) [
-        | inl e ↦ absurd (omega (arith, k, ap (λ n. tile_count t * n) e, mul-zero (tile_count t)))
-        | inr ne ↦ omega arith
-      ]
+pub some_tile : (t : Cutting) (i : ℕ) → i < number_count t → 0 < tile_count t
+some_tile t i k = elim (cases_eq (tile_count t) 0) [
+  | inl e ↦ absurd (omega (arith, k, ap (λ n. n * stride (bounds_of t 0)) e, zero-mul (stride (bounds_of t 0))))
+  | inr ne ↦ omega arith
+]

@@ -1,29 +1,26 @@
--- The water that leaves over an exit, added up along the exits, is all that comes through it.
-use Rattle.std.proofs.Common.{◌≡◌, ◌≢◌, ℕ, zero, suc, ◌+◌, ◌-◌, ◌*◌, ◌<◌, ◌≤◌, ◌⊎◌, inl, inr, true, false, cond, ◌&&◌, eqb, List, length, get_or, Option, None, Some, is_some, sym, ap, subst, refl, ◌∙◌, arith, unwrap_or}
+-- All that comes through an exit is its total along the links of the exits.
+use Rattle.std.proofs.Common.{◌≡◌, ◌≢◌, ℕ, suc, ◌+◌, ◌-◌, ◌*◌, ◌<◌, ◌≤◌, ◌⊎◌, inl, inr, Bool, true, false, cond, ◌&&◌, eqb, List, length, get_or, Option, None, Some, is_some, sym, ap, subst, refl, ◌∙◌, arith, unwrap_or}
 use Rattle.std.specs.Option.{option_and_then}
 use Rattle.std.proofs.lemmas.Option.{none-some}
 use Rattle.std.proofs.lemmas.List.FromFn.{get_or-map-range_with_len, length-map-range_with_len}
-use Rattle.std.proofs.lemmas.Bool.{cases_eq, cases_lt, cases_Bool, and_from, and_parts, eqb-true, cond-false, false≢true}
+use Rattle.std.proofs.lemmas.Bool.{cases_eq, cases_lt, cases_Bool, and_from, and_parts, eqb-true, cond-true, cond-false, false_from_ne_true, false≢true}
 use Rattle.ascii_grid.specs.declared.place.Place.{Place}
 use Rattle.tiles.specs.Cutting.{Cutting, tile_of_place}
 use Rattle.drainage.specs.Following.{Directed, code_at, next, follow, moves}
 use Rattle.flow.specs.Counts.{is_place, drains_through}
-use Rattle.flow.specs.Streams.{onward, node_after, sum_below, share, total}
+use Rattle.flow.specs.Streams.{onward, leads_to, upstream_sum, sum_below, total}
 use Rattle.flow.specs.TileFlow.{Flow, AreTileCounts, stays, reaches_inside, IsExitOf, through_in}
 use Rattle.flow.specs.RimNumbers.{number_count, rim_number, rim_place}
 use Rattle.flow.specs.RimGraph.{AreFlowsOf, target_by, way_out_by, number_or, rim_links_by}
 use Rattle.flow.specs.Inflows.{rim_weight, rim_weights_by, weight_or, through_by}
-use Rattle.flow.proofs.Sums.{sum_below-same}
-use Rattle.flow.proofs.Windows.{sum_below-none}
-use Rattle.flow.proofs.DoubleSums.{exchange, one_term, share-sum, share-none}
+use Rattle.flow.proofs.Sums.{sum_below-same, sum_below-add, sum_below-none}
+use Rattle.flow.proofs.DoubleSums.{exchange, one_term, cond-sum}
 use Rattle.flow.proofs.Ranges.{some_in_range, any_in_range, every_in_range}
-use Rattle.flow.proofs.EarlyEnds.{cases_reach, within, share-some}
-use Rattle.flow.proofs.Ending.{node_after-first, node_after-inside}
-use Rattle.flow.proofs.Coded.{IsCoded, coded_along, coded_from_some, outlet_stays, follow_stays}
-use Rattle.flow.proofs.Through.{place_test, place_from_test}
-use Rattle.flow.proofs.RimFlows.{Crosses, cases_target, from_some, flow_of, within_of, back, target_on, target_from, exit_here, not_outlet, to_below, targets_on, follow_more, links_size, link_at, rim_streams}
-use Rattle.flow.proofs.Reaching.{IsEnding, reached_early}
-use Rattle.flow.proofs.Gathering.{cell, drained, all_drained, drained_on, drained_off, drained_none, gathered, all_gathered, gathered_on, gathered_off, gathered_none, through_is, drained_few, gathered_few}
+use Rattle.flow.proofs.Totals.{AreTotals, total_is, leads_parts, leads_from}
+use Rattle.flow.proofs.Coded.{IsCoded, coded_along, coded_from_some, outlet_stays, follow_stays, follow_more, follow_first}
+use Rattle.flow.proofs.RimFlows.{Crosses, Goes, cases_target, from_some, flow_of, within_of, back, target_on, target_from, exit_here, not_outlet, to_below, targets_on, untargeted, links_size, link_at, rim_streams}
+use Rattle.flow.proofs.Reaching.{IsEnding, place_test, place_from_test, still_at, still_from, reached_early, drains_at, drains_from, Comes, cases_comes, comes_never, comes_once}
+use Rattle.flow.proofs.Gathering.{cell, drained, all_drained, drained_few, gathered, all_gathered, gathered_few, through_is, counted_on, counted_off, counted_none}
 
 module _ (d : Directed) (t : Cutting) (flows : List Flow) (s : AreFlowsOf d t flows) (counts : AreTileCounts d t flows) where
   pub ending : IsEnding d
@@ -34,14 +31,6 @@ module _ (d : Directed) (t : Cutting) (flows : List Flow) (s : AreFlowsOf d t fl
     few_cols = omega (arith, s.cutting.few_cols, s.of_tiles.size.0);
     few_rows = omega (arith, s.cutting.few_rows, s.of_tiles.size.1);
   }
-
-  pub drains_at : (c p : Place) → IsCoded d c → (k : ℕ) → follow d c k ≡ p → drains_through d p c ≡ true
-  drains_at c p is k way =
-      let m = reached_early d ending c p is k way in
-      any_in_range (λ k. is_place p (follow d c k)) (moves d) m.0 m.1 (place_test p (follow d c m.0) (sym m.2))
-
-  pub drains_from : (c p : Place) → drains_through d p c ≡ true → (k : ℕ) × (follow d c k ≡ p)
-  drains_from c p y = let r = some_in_range (λ k. is_place p (follow d c k)) (moves d) y in (r.0, sym (place_from_test p (follow d c r.0) r.2))
 
   -- a place of a path from which water goes on into another tile is the exit, or comes after it
   crossing_at : (q e c : Place) → IsExitOf d t q e → (m : ℕ) → follow d q m ≡ c → Crosses d t flows s c →
@@ -90,196 +79,199 @@ module _ (d : Directed) (t : Cutting) (flows : List Flow) (s : AreFlowsOf d t fl
         ∙ ap (λ (o : Option Place). number_or t (rim_number t e) (option_and_then (λ q. way_out_by t flows q) o)) (target_on d t flows s e c)
         ∙ ap (number_or t (rim_number t e)) (x.1.out ∙ cond-false {A = Option Place} _ None (Some x.0) (not_outlet d t flows s x.0 to))
 
-    -- each exit of a flow path comes after the first along the links
-    reach_rim : (n m : ℕ) → m ≤ n → (q c : Place) (is : IsCoded d q) → follow d q m ≡ c → Crosses d t flows s c →
-        Crosses d t flows s (exit_here d t flows s q is).0 × (k : ℕ) × (node_after links (rim_number t (exit_here d t flows s q is).0) k ≡ rim_number t c)
-    reach_rim zero m le q c is way cr =
-        let x = exit_here d t flows s q is in
-        elim (crossing_at q x.0 c x.1.leads m way cr) [
-          | inl same ↦ (subst (λ (p : Place). Crosses d t flows s p) same cr, 0, ap (rim_number t) (sym same))
-          | inr far ↦ absurd (omega (arith, far.1))
+    -- One cell's water comes to an exit from the exit's own tile, or over an exit that is linked to it.
+    module _ (i : ℕ) (q : Place) (target : target_by t flows i ≡ Some q) (c : Place) (is : IsCoded d c) where
+      abbrev In : Place → Type 0
+      In p = tile_of_place t p ≡ tile_of_place t (rim_place t i)
+
+      abbrev term : ℕ → ℕ
+      term j = cond {A = ℕ} (leads_to links j i) (cond {A = ℕ} (is_some (target_by t flows j)) (drained d (rim_place t j) c) 0) 0
+
+      term_off : (j : ℕ) → j < number_count t →
+          ((k : ℕ) → follow d c k ≡ rim_place t i → (x : Comes d ending In c k) → follow d c x.from ≡ rim_place t j → rim_number t (rim_place t j) ≡ j → ⊥) → term j ≡ 0
+      term_off j h none = elim (cases_Bool (leads_to links j i)) [
+        | inr n ↦ cond-false {A = ℕ} _ _ 0 n
+        | inl y ↦ cond-true {A = ℕ} _ _ 0 y ∙ elim (cases_target (target_by t flows j)) [
+          | inl no_target ↦ ap (λ (o : Option Place). cond {A = ℕ} (is_some o) (drained d (rim_place t j) c) 0) no_target
+          | inr r ↦
+              ap (λ (o : Option Place). cond {A = ℕ} (is_some o) (drained d (rim_place t j) c) 0) r.1
+              ∙ counted_off d c _ (false_from_ne_true _ (λ z. (let m = drains_from d ending c (rim_place t j) z in
+              let l = leads_parts links j i y in
+              elim (targets_on d t flows s j r.0 r.1) [
+                | inr stop ↦ l.1 (sym (link_at d t flows s links made j h ∙ stop.link) ∙ l.0)
+                | inl g ↦ comes_over j m.0 m.1 g (sym (back d t flows s g.to g.crosses) ∙ ap (rim_place t) (sym (link_at d t flows s links made j h ∙ g.link) ∙ l.0))
+                    (target_from d t flows s j r.0 r.1).crosses.apart (λ k at x from. none k at x from (target_from d t flows s j r.0 r.1).number)
+              ])))
         ]
-    reach_rim (suc n) m le q c is way cr =
-        let x = exit_here d t flows s q is in
-        elim (crossing_at q x.0 c x.1.leads m way cr) [
-          | inl same ↦ (subst (λ (p : Place). Crosses d t flows s p) same cr, 0, ap (rim_number t) (sym same))
-          | inr far ↦
-              let here : Crosses d t flows s x.0 = record { coded = subst (λ (p : Place). IsCoded d p) far.2 (coded_along d s.ends q is far.0); apart = far.3 } in
-              let coded = coded_along d s.ends x.0 here.coded 1 in
-              let steps : suc far.0 + (m - far.0 - 1) ≡ m = omega (arith, far.1) in
-              let rest : follow d (next d x.0) (m - far.0 - 1) ≡ c =
-              ap (λ (p : Place). follow d (next d p) (m - far.0 - 1)) (sym far.2) ∙ follow_more d q (suc far.0) (m - far.0 - 1) ∙ ap (follow d q) steps ∙ way in
-              let r = reach_rim n (m - far.0 - 1) (omega (arith, far.1)) (next d x.0) c coded rest cr in (
-                here,
-                suc r.1,
-                sym (node_after-first links (rim_number t x.0) r.1) ∙ ap (λ j. node_after links j r.1) (link_on x.0 here coded r.0) ∙ r.2,
-              )
-        ]
-
-    -- where the links lead, the flow path does
-    record Leads (i j : ℕ) : Type 0 where
-      pub entry : Place
-      pub target : target_by t flows j ≡ Some entry
-      pub steps : ℕ
-      pub way : follow d (rim_place t i) steps ≡ rim_place t j
-
-    below : (i : ℕ) → i < number_count t → (k : ℕ) → node_after links i k < number_count t
-    below i h k = omega (arith, node_after-inside links (rim_streams d t flows s links made) i (omega (arith, h, links_size d t flows s links made)) k, links_size d t flows s links made)
-
-    leads : (i : ℕ) → i < number_count t → (q : Place) → target_by t flows i ≡ Some q → (k : ℕ) → Leads i (node_after links i k)
-    leads i h q e zero = record { entry = q; target = e; steps = 0; way = refl }
-    leads i h q e (suc k) =
-        let o = leads i h q e k in
-        let j = node_after links i k in
-        let at = link_at d t flows s links made (node_after links i k) (below i h k) in
-        elim (targets_on d t flows s (node_after links i k) o.entry o.target) [
-          | inr stop ↦ subst (λ (n : ℕ). Leads i n) (sym (at ∙ stop.link)) o
-          | inl g ↦ subst (λ (n : ℕ). Leads i n) (sym (at ∙ g.link)) (record {
-            entry = next d g.to;
-            target = target_on d t flows s g.to g.crosses;
-            steps = o.steps + suc g.steps;
-            way = sym (follow_more d (rim_place t i) o.steps (suc g.steps)) ∙ ap (λ (p : Place). follow d p (suc g.steps)) o.way ∙ g.way ∙ sym (back d t flows s g.to g.crosses);
-          })
-        ]
-
-    -- a cell's part of what leaves over an exit
-    abbrev own : ℕ → ℕ → ℕ
-    own j c = cond {A = ℕ} (is_some (target_by t flows j)) (gathered d t (rim_place t j) (cell d c)) 0
-
-    own_untargeted : (j c : ℕ) → target_by t flows j ≡ None → own j c ≡ 0
-    own_untargeted j c e = ap (λ (o : Option Place). cond {A = ℕ} (is_some o) (gathered d t (rim_place t j) (cell d c)) 0) e
-
-    own_targeted : (j c : ℕ) (q : Place) → target_by t flows j ≡ Some q → own j c ≡ gathered d t (rim_place t j) (cell d c)
-    own_targeted j c q e = ap (λ (o : Option Place). cond {A = ℕ} (is_some o) (gathered d t (rim_place t j) (cell d c)) 0) e
-
-    own_uncoded : (j c : ℕ) → is_some (code_at d (cell d c)) ≡ false → own j c ≡ 0
-    own_uncoded j c f = elim (cases_target (target_by t flows j)) [
-      | inl none ↦ own_untargeted j c none
-      | inr q ↦ own_targeted j c q.0 q.1 ∙ gathered_none d t (rim_place t j) (cell d c) f
-    ]
-
-    -- the exit of a cell that has a part
-    record Owns (j : ℕ) (q e : Place) : Type 0 where
-      pub entry : Place
-      pub target : target_by t flows j ≡ Some entry
-      pub same : rim_place t j ≡ e
-      pub steps : ℕ
-      pub way : follow d q steps ≡ rim_place t j
-
-    cases_own : (j c : ℕ) (is : IsCoded d (cell d c)) → (own j c ≡ 0) ⊎ Owns j (cell d c) (exit_here d t flows s (cell d c) is).0
-    cases_own j c is = elim (cases_target (target_by t flows j)) [
-      | inl none ↦ inl (own_untargeted j c none)
-      | inr q ↦ elim (cases_Bool (reaches_inside d t (rim_place t j) (cell d c))) [
-        | inr f ↦ inl (own_targeted j c q.0 q.1 ∙ gathered_off d t (rim_place t j) (cell d c) f)
-        | inl y ↦
-            let x = exit_here d t flows s (cell d c) is in
-            let r = some_in_range (λ k. is_place (rim_place t j) (follow d (cell d c) k) && stays d t (cell d c) k) (moves d) y in
-            let w = and_parts _ _ r.2 in
-            let at : follow d (cell d c) r.0 ≡ rim_place t j = sym (place_from_test (rim_place t j) (follow d (cell d c) r.0) w.0) in
-            inr (record {
-              entry = q.0;
-              target = q.1;
-              steps = r.0;
-              way = at;
-              same = elim (crossing_at (cell d c) x.0 (rim_place t j) x.1.leads r.0 at (target_from d t flows s j q.0 q.1).crosses) [
-                | inl same ↦ same
-                | inr far ↦ (let inside : (l : ℕ) → l < r.0 + 1 → tile_of_place t (follow d (cell d c) l) ≡ tile_of_place t (cell d c) =
-                    λ l h. eqb-true _ _ (every_in_range (λ l. eqb (tile_of_place t (follow d (cell d c) l)) (tile_of_place t (cell d c))) (r.0 + 1) w.1 l h) in
-                    absurd (far.3 (ap (λ p. tile_of_place t (next d p)) (sym far.2) ∙ inside (suc far.0) (omega (arith, far.1)) ∙ sym (inside far.0 (omega (arith, far.1))) ∙ ap (tile_of_place t) far.2)))
-              ];
-            })
       ]
-    ]
+        where
+          comes_over : (j m : ℕ) → follow d c m ≡ rim_place t j → (g : Goes d t flows s j) → g.to ≡ rim_place t i → tile_of_place t (next d (rim_place t j)) ≢ tile_of_place t (rim_place t j) →
+              ((k : ℕ) → follow d c k ≡ rim_place t i → (x : Comes d ending In c k) → follow d c x.from ≡ rim_place t j → ⊥) → ⊥
+          comes_over j m at g same apart none =
+              let on : (l : ℕ) → follow d c (m + suc l) ≡ follow d (next d (rim_place t j)) l =
+              λ l. sym (follow_more d c m (suc l)) ∙ ap (λ (p : Place). follow d p (suc l)) at ∙ sym (follow_first d (rim_place t j) l) in
+              let last : follow d (next d (rim_place t j)) g.steps ≡ rim_place t i = follow_first d (rim_place t j) g.steps ∙ g.way ∙ same in
+              let still : (l : ℕ) → l ≤ g.steps → In (follow d (next d (rim_place t j)) l) =
+              λ l le. still_at d t (next d (rim_place t j)) g.steps g.still l le ∙ sym (still_at d t (next d (rim_place t j)) g.steps g.still g.steps (omega arith)) ∙ ap (tile_of_place t) last in
+              none (m + suc g.steps) (on g.steps ∙ last) (record {
+                from = m;
+                before = omega arith;
+                outside = λ z. apart (still 0 (omega arith) ∙ sym z ∙ ap (tile_of_place t) at);
+                inside = λ l lt le. (let z : m + suc (l - suc m) ≡ l = omega arith in
+                    subst (λ (n : ℕ). In (follow d c n)) z (ap (tile_of_place t) (on (l - suc m)) ∙ still (l - suc m) (omega arith)));
+              }) at
 
-    -- it has one at its own exit
-    own_exit : (c : ℕ) (is : IsCoded d (cell d c)) → Crosses d t flows s (exit_here d t flows s (cell d c) is).0 → own (rim_number t (exit_here d t flows s (cell d c) is).0) c ≡ 1
-    own_exit c is cr =
-        let x = exit_here d t flows s (cell d c) is in
-        let l = x.1.leads in
-        own_targeted (rim_number t x.0) c (next d x.0) (target_on d t flows s x.0 cr)
-        ∙ ap (λ p. gathered d t p (cell d c)) (back d t flows s x.0 cr)
-        ∙ gathered_on d t x.0 (cell d c) is
-        (any_in_range (λ k. is_place x.0 (follow d (cell d c) k) && stays d t (cell d c) k) (moves d) l.0 l.1
-        (and_from _ _ (place_test x.0 (follow d (cell d c) l.0) (sym l.3)) l.2))
+      reached : reaches_inside d t (rim_place t i) c ≡ true → (k : ℕ) × (follow d c k ≡ rim_place t i) × ((l : ℕ) → l ≤ k → In (follow d c l))
+      reached y =
+          let r = some_in_range (λ k. is_place (rim_place t i) (follow d c k) && stays d t c k) (moves d) y in
+          let w = and_parts _ _ r.2 in
+          let at : follow d c r.0 ≡ rim_place t i = sym (place_from_test (rim_place t i) (follow d c r.0) w.0) in
+          (r.0, at, λ l le. still_at d t c r.0 w.1 l le ∙ sym (still_at d t c r.0 w.1 r.0 (omega arith)) ∙ ap (tile_of_place t) at)
 
-    -- a cell's part of what comes through an exit from another
-    abbrev part : ℕ → ℕ → ℕ → ℕ
-    part i c j = share links (length links) j i (own j c)
+      parts : drained d (rim_place t i) c ≡ gathered d t (rim_place t i) c + sum_below term (length links)
+      parts = elim (cases_Bool (drains_through d (rim_place t i) c)) [
+        | inr n ↦ omega (
+          arith,
+          counted_off d c _ n,
+          counted_off d c (reaches_inside d t (rim_place t i) c) (false_from_ne_true _ (λ y. (let r = reached y in false≢true (sym n ∙ drains_at d ending c (rim_place t i) is r.0 r.1)))),
+          sum_below-none term (length links) (λ j l. term_off j (omega (arith, l, links_size d t flows s links made)) (λ k way _ _ _. false≢true (sym n ∙ drains_at d ending c (rim_place t i) is k way))),
+        )
+        | inl y ↦ (let m = drains_from d ending c (rim_place t i) y in
+            elim (cases_comes d ending In (λ p. cases_eq (tile_of_place t p) (tile_of_place t (rim_place t i))) c m.0 (ap (tile_of_place t) m.1)) [
+              | inl way ↦
+                  let r = reached_early d ending c (rim_place t i) is m.0 m.1 in
+                  omega (
+                    arith,
+                    counted_on d c _ is y,
+                    counted_on d c (reaches_inside d t (rim_place t i) c) is (any_in_range (λ k. is_place (rim_place t i) (follow d c k) && stays d t c k) (moves d) r.0 r.1
+                        (and_from _ _ (place_test (rim_place t i) (follow d c r.0) (sym r.3)) (still_from d t c r.0 (λ l le. way l (omega (arith, le, r.2)) ∙ sym (way 0 (omega arith)))))),
+                    sum_below-none term (length links) (λ j l. term_off j (omega (arith, l, links_size d t flows s links made)) (λ k at x _ _. comes_never d ending In c is m.0 k (m.1 ∙ sym at) way x)),
+                  )
+              | inr x ↦ comes_on y m.0 m.1 x
+            ])
+      ]
+        where
+          -- the exit over which it comes is linked to this one
+          linked : (k : ℕ) → follow d c k ≡ rim_place t i → (x : Comes d ending In c k) → (cr : Crosses d t flows s (follow d c x.from)) → onward links (rim_number t (follow d c x.from)) ≡ i
+          linked k at x cr =
+              let coded = coded_along d s.ends c is (suc x.from) in
+              let e = exit_here d t flows s (next d (follow d c x.from)) coded in
+              let here = target_from d t flows s i q target in
+              let on : (l : ℕ) → follow d (next d (follow d c x.from)) l ≡ follow d c (suc x.from + l) = λ l. follow_more d c (suc x.from) l in
+              let all : suc x.from + (k - suc x.from) ≡ k = omega (arith, x.before) in
+              let same : rim_place t i ≡ e.0 = elim (crossing_at (next d (follow d c x.from)) e.0 (rim_place t i) e.1.leads (k - suc x.from) (on (k - suc x.from) ∙ ap (follow d c) all ∙ at) here.crosses) [
+                | inl y ↦ y
+                | inr far ↦ absurd (far.3 (ap (λ p. tile_of_place t (next d p)) (sym far.2) ∙ ap (tile_of_place t) (on (suc far.0)) ∙ x.inside (suc x.from + suc far.0) (omega arith) (omega (arith, far.1))
+                    ∙ sym (ap (tile_of_place t) (sym far.2 ∙ on far.0) ∙ x.inside (suc x.from + far.0) (omega arith) (omega (arith, far.1)))))
+              ] in
+              link_on (follow d c x.from) cr coded (subst (λ (p : Place). Crosses d t flows s p) same here.crosses) ∙ ap (rim_number t) (sym same) ∙ here.number
 
-    parts_are : (i c : ℕ) (q : Place) → i < number_count t → target_by t flows i ≡ Some q → sum_below (part i c) (number_count t) ≡ drained d (rim_place t i) (cell d c)
-    parts_are i c q h e = elim (cases_Bool (is_some (code_at d (cell d c)))) [
-      | inr f ↦ sum_below-none (part i c) (number_count t) (λ j l. ap (share links (length links) j i) (own_uncoded j c f) ∙ share-none links (length links) j i)
-          ∙ sym (drained_none d (rim_place t i) (cell d c) f)
-      | inl some ↦
-          let is = coded_from_some d (cell d c) some in
-          let x = exit_here d t flows s (cell d c) is in
-          let target = target_from d t flows s i q e in
-          elim (cases_Bool (drains_through d (rim_place t i) (cell d c))) [
-            | inl y ↦
-                let m = drains_from (cell d c) (rim_place t i) y in
-                let r = reach_rim m.0 m.0 (omega arith) (cell d c) (rim_place t i) is m.1 target.crosses in
-                let first = rim_number t x.0 in
-                let there = to_below d t flows s x.0 r.0 in
-                let k = within links (rim_streams d t flows s links made) (rim_number t x.0) (omega (arith, there, links_size d t flows s links made)) r.1 in
-                one_term (part i c) (number_count t) (rim_number t x.0) there
-                (λ j l ne. elim (cases_own j c is) [
-                  | inl z ↦ ap (share links (length links) j i) z ∙ share-none links (length links) j i
-                  | inr o ↦ absurd (ne (sym (target_from d t flows s j o.entry o.target).number ∙ ap (rim_number t) o.same))
-                ])
-                ∙ ap (share links (length links) (rim_number t x.0) i) (own_exit c is r.0)
-                ∙ share-some links (length links) (rim_number t x.0) i 1 k.0 (omega (arith, k.1)) (k.3 ∙ r.2 ∙ target.number)
-                ∙ sym (drained_on d (rim_place t i) (cell d c) is y)
-            | inr n ↦
-                sum_below-none (part i c) (number_count t) (λ j l. elim (cases_own j c is) [
-                  | inl z ↦ ap (share links (length links) j i) z ∙ share-none links (length links) j i
-                  | inr o ↦ elim (cases_reach links (length links) j i) [
-                    | inr z ↦ z (own j c)
-                    | inl k ↦ (let far = leads j l o.entry o.target k.0 in
-                        absurd (false≢true (sym n ∙ drains_at (cell d c) (rim_place t i) is (o.steps + far.steps)
-                        (sym (follow_more d (cell d c) o.steps far.steps) ∙ ap (λ (p : Place). follow d p far.steps) o.way ∙ far.way ∙ ap (rim_place t) k.2))))
-                  ]
-                ])
-                ∙ sym (drained_off d (rim_place t i) (cell d c) n)
+          comes_on : drains_through d (rim_place t i) c ≡ true → (k : ℕ) → follow d c k ≡ rim_place t i → (x : Comes d ending In c k) →
+              drained d (rim_place t i) c ≡ gathered d t (rim_place t i) c + sum_below term (length links)
+          comes_on y k at x =
+              let p = follow d c x.from in
+              let entry : In (next d (follow d c x.from)) = x.inside (suc x.from) (omega arith) (omega (arith, x.before)) in
+              let cr : Crosses d t flows s (follow d c x.from) = record { coded = coded_along d s.ends c is x.from; apart = λ z. x.outside (sym z ∙ entry) } in
+              let place : rim_place t (rim_number t (follow d c x.from)) ≡ follow d c x.from = back d t flows s (follow d c x.from) cr in
+              let leads : leads_to links (rim_number t (follow d c x.from)) i ≡ true = leads_from links _ i (linked k at x cr) (λ z. x.outside (ap (tile_of_place t) (sym place ∙ ap (rim_place t) z))) in
+              omega (
+                arith,
+                counted_on d c _ is y,
+                counted_off d c (reaches_inside d t (rim_place t i) c) (false_from_ne_true _ (λ z. (let r = reached z in comes_never d ending In c is r.0 k (r.1 ∙ sym at) r.2 x))),
+                one_term term (length links) (rim_number t (follow d c x.from)) (omega (arith, to_below d t flows s (follow d c x.from) cr, links_size d t flows s links made))
+                    (λ j l ne. term_off j (omega (arith, l, links_size d t flows s links made)) (λ m there z at_j number.
+                    ne (sym number ∙ ap (rim_number t) (sym at_j ∙ ap (follow d c) (comes_once d ending In c is m k (there ∙ sym at) z x))))),
+                cond-true {A = ℕ} _ (cond {A = ℕ} (is_some (target_by t flows (rim_number t (follow d c x.from)))) (drained d (rim_place t (rim_number t (follow d c x.from))) c) 0) 0 leads,
+                ap (λ (o : Option Place). cond {A = ℕ} (is_some o) (drained d (rim_place t (rim_number t (follow d c x.from))) c) 0) (target_on d t flows s (follow d c x.from) cr),
+                counted_on d c (drains_through d (rim_place t (rim_number t (follow d c x.from))) c) is (drains_at d ending c _ is x.from (sym place)),
+              )
+
+    -- all that comes through the exit of a number
+    abbrev rim_total : ℕ → ℕ
+    rim_total i = cond {A = ℕ} (is_some (target_by t flows i)) (all_drained d (rim_place t i)) 0
+
+    total_targeted : (i : ℕ) (q : Place) → target_by t flows i ≡ Some q → rim_total i ≡ all_drained d (rim_place t i)
+    total_targeted i q e = ap (λ (o : Option Place). cond {A = ℕ} (is_some o) (all_drained d (rim_place t i)) 0) e
+
+    total_untargeted : (i : ℕ) → target_by t flows i ≡ None → rim_total i ≡ 0
+    total_untargeted i e = ap (λ (o : Option Place). cond {A = ℕ} (is_some o) (all_drained d (rim_place t i)) 0) e
+
+    -- nothing leads to another number
+    none_leads : (i j : ℕ) → target_by t flows i ≡ None → j < number_count t → leads_to links j i ≡ false
+    none_leads i j none h =
+        let at = link_at d t flows s links made j h in
+        false_from_ne_true _ (λ y. (let l = leads_parts links j i y in
+        elim (cases_target (target_by t flows j)) [
+          | inl no_target ↦ l.1 (sym (at ∙ untargeted d t flows s j no_target) ∙ l.0)
+          | inr r ↦ elim (targets_on d t flows s j r.0 r.1) [
+            | inr stop ↦ l.1 (sym (at ∙ stop.link) ∙ l.0)
+            | inl g ↦ none-some (next d g.to) (sym none ∙ ap (target_by t flows) (sym l.0 ∙ at ∙ g.link) ∙ target_on d t flows s g.to g.crosses)
           ]
-    ]
+        ]))
 
-    own_sum : (j : ℕ) → rim_weight t flows j ≡ sum_below (own j) (d.rows * d.cols)
-    own_sum j = elim (cases_target (target_by t flows j)) [
-      | inl none ↦ weight_untargeted j none ∙ sym (sum_below-none (own j) (d.rows * d.cols) (λ c h. own_untargeted j c none))
-      | inr q ↦ weight_targeted j q.0 q.1 ∙ sum_below-same (λ c. gathered d t (rim_place t j) (cell d c)) (own j) (d.rows * d.cols) (λ c h. sym (own_targeted j c q.0 q.1))
-    ]
+    -- a cell's water that comes over an exit that is linked to another
+    abbrev over : ℕ → ℕ → ℕ → ℕ
+    over i c j = cond {A = ℕ} (leads_to links j i) (cond {A = ℕ} (is_some (target_by t flows j)) (drained d (rim_place t j) (cell d c)) 0) 0
+
+    -- the same of the water of all cells
+    tallied : (i : ℕ) (q : Place) → target_by t flows i ≡ Some q → all_drained d (rim_place t i) ≡ all_gathered d t (rim_place t i) + upstream_sum links rim_total i
+    tallied i q e = omega (
+      arith,
+      sum_below-same (λ c. drained d (rim_place t i) (cell d c)) (λ c. gathered d t (rim_place t i) (cell d c) + sum_below (over i c) (length links)) (d.rows * d.cols) (λ c _. of_cell c),
+      sum_below-add (λ c. gathered d t (rim_place t i) (cell d c)) (λ c. sum_below (over i c) (length links)) (d.rows * d.cols),
+      exchange (over i) (d.rows * d.cols) (length links),
+      sum_below-same (λ j. sum_below (λ c. over i c j) (d.rows * d.cols)) (λ j. cond {A = ℕ} (leads_to links j i) (rim_total j) 0) (length links) (λ j _.
+          sym (ap (λ n. cond {A = ℕ} (leads_to links j i) n 0) (cond-sum (is_some (target_by t flows j)) (λ c. drained d (rim_place t j) (cell d c)) (d.rows * d.cols))
+          ∙ cond-sum (leads_to links j i) (λ c. cond {A = ℕ} (is_some (target_by t flows j)) (drained d (rim_place t j) (cell d c)) 0) (d.rows * d.cols))),
+    )
+      where
+        cond_none : (x y : Bool) (n : ℕ) → n ≡ 0 → cond {A = ℕ} x (cond {A = ℕ} y n 0) 0 ≡ 0
+        cond_none true true n z = z
+        cond_none true false n z = refl
+        cond_none false y n z = refl
+
+        of_cell : (c : ℕ) → drained d (rim_place t i) (cell d c) ≡ gathered d t (rim_place t i) (cell d c) + sum_below (over i c) (length links)
+        of_cell c = elim (cases_Bool (is_some (code_at d (cell d c)))) [
+          | inl y ↦ parts i q e (cell d c) (coded_from_some d (cell d c) y)
+          | inr n ↦ omega (
+            arith,
+            counted_none d (cell d c) (drains_through d (rim_place t i) (cell d c)) n,
+            counted_none d (cell d c) (reaches_inside d t (rim_place t i) (cell d c)) n,
+            sum_below-none (over i c) (length links) (λ j _. cond_none (leads_to links j i) (is_some (target_by t flows j)) _ (counted_none d (cell d c) (drains_through d (rim_place t j) (cell d c)) n)),
+          )
+        ]
 
     module _ (weights : List ℕ) (weighed : weights ≡ rim_weights_by t flows) where
       pub weights_size : length weights ≡ number_count t
       weights_size = ap length weighed ∙ length-map-range_with_len (rim_weight t flows) 0 (number_count t)
 
-      pub weight_at : (i : ℕ) → i < number_count t → get_or weights i 0 ≡ rim_weight t flows i
+      weight_at : (i : ℕ) → i < number_count t → get_or weights i 0 ≡ rim_weight t flows i
       weight_at i h = ap (λ (l : List ℕ). get_or l i 0) weighed ∙ get_or-map-range_with_len (rim_weight t flows) 0 (number_count t) i i 0 h (omega arith)
 
-      -- the total of an exit is all that comes through it
-      pub total_is : (i : ℕ) (q : Place) → i < number_count t → target_by t flows i ≡ Some q → total links weights i ≡ all_drained d (rim_place t i)
-      total_is i q h e =
-          ap (sum_below (λ j. share links (length links) j i (get_or weights j 0))) (links_size d t flows s links made)
-          ∙ sum_below-same (λ j. share links (length links) j i (get_or weights j 0)) (λ j. sum_below (λ c. part i c j) (d.rows * d.cols)) (number_count t)
-          (λ j l. ap (share links (length links) j i) (weight_at j l ∙ own_sum j) ∙ share-sum links (length links) j i (own j) (d.rows * d.cols))
-          ∙ exchange (λ j c. part i c j) (number_count t) (d.rows * d.cols)
-          ∙ sum_below-same (λ c. sum_below (part i c) (number_count t)) (λ c. drained d (rim_place t i) (cell d c)) (d.rows * d.cols) (λ c k. parts_are i c q h e)
-
-      -- nothing comes to any other number
-      pub total_none : (i : ℕ) → i < number_count t → target_by t flows i ≡ None → total links weights i ≡ 0
-      total_none i h e =
-          sum_below-none (λ j. share links (length links) j i (get_or weights j 0)) (length links) (λ j l.
-          (let at : j < number_count t = omega (arith, l, links_size d t flows s links made) in
-          elim (cases_reach links (length links) j i) [
-            | inr z ↦ z (get_or weights j 0)
-            | inl k ↦ elim (cases_target (target_by t flows j)) [
-              | inl none ↦ ap (share links (length links) j i) (weight_at j at ∙ weight_untargeted j none) ∙ share-none links (length links) j i
-              | inr q ↦ (let far = leads j at q.0 q.1 k.0 in absurd (none-some far.entry (sym e ∙ ap (target_by t flows) (sym k.2) ∙ far.target)))
-            ]
-          ]))
+      rim_totals : AreTotals links weights rim_total
+      rim_totals = record {
+        each = λ i l. (let h : i < number_count t = omega (arith, l, links_size d t flows s links made) in
+            elim (cases_target (target_by t flows i)) [
+              | inl none ↦ omega (
+                arith,
+                total_untargeted i none,
+                weight_at i h,
+                weight_untargeted i none,
+                sum_below-none (λ j. cond {A = ℕ} (leads_to links j i) (rim_total j) 0) (length links)
+                    (λ j m. cond-false {A = ℕ} _ (rim_total j) 0 (none_leads i j none (omega (arith, m, links_size d t flows s links made)))),
+              )
+              | inr q ↦ omega (arith, total_targeted i q.0 q.1, weight_at i h, weight_targeted i q.0 q.1, tallied i q.0 q.1)
+            ]);
+      }
 
       pub total_few : (i : ℕ) → i < number_count t → total links weights i ≤ 16777216
-      total_few i h = elim (cases_target (target_by t flows i)) [
-        | inl none ↦ omega (arith, total_none i h none)
-        | inr q ↦ omega (arith, total_is i q.0 h q.1, drained_few d ending (rim_place t i))
-      ]
+      total_few i h =
+          let is = total_is links weights rim_total (rim_streams d t flows s links made) rim_totals i (omega (arith, h, links_size d t flows s links made)) in
+          elim (cases_target (target_by t flows i)) [
+            | inl none ↦ omega (arith, is, total_untargeted i none)
+            | inr q ↦ omega (arith, is, total_targeted i q.0 q.1, drained_few d ending (rim_place t i))
+          ]
+
+      pub total_drained : (i : ℕ) (q : Place) → i < number_count t → target_by t flows i ≡ Some q → total links weights i ≡ all_drained d (rim_place t i)
+      total_drained i q h e =
+          total_is links weights rim_total (rim_streams d t flows s links made) rim_totals i (omega (arith, h, links_size d t flows s links made)) ∙ total_targeted i q e

@@ -1,5 +1,5 @@
 -- Sums of what a function has at each number below another.
-use Rattle.std.proofs.Common.{◌≡◌, ◌≢◌, ℕ, zero, suc, ◌+◌, ◌<◌, ◌≤◌, inl, inr, sym, ap, refl, arith, add-one}
+use Rattle.std.proofs.Common.{◌≡◌, ◌≢◌, ℕ, zero, suc, ◌+◌, ◌<◌, ◌≤◌, Bool, true, false, cond, inl, inr, sym, ap, refl, arith, add-one}
 use Rattle.std.proofs.lemmas.Bool.{cases_eq, cases_lt}
 use Rattle.flow.specs.Streams.{sum_below}
 
@@ -16,6 +16,15 @@ pub sum_below-le : (f g : ℕ → ℕ) (n : ℕ) → ((i : ℕ) → i < n → f 
 sum_below-le f g zero le = omega arith
 sum_below-le f g (suc n) le =
     omega (arith, sum_below-le f g n (λ i h. le i (omega arith)), le n (omega arith))
+
+-- a test counts for at most 1
+pub bit_le : (b : Bool) → cond {A = ℕ} b 1 0 ≤ 1
+bit_le true = omega arith
+bit_le false = omega arith
+
+pub sum_below-none : (f : ℕ → ℕ) (n : ℕ) → ((i : ℕ) → i < n → f i ≡ 0) → sum_below f n ≡ 0
+sum_below-none f zero none = refl
+sum_below-none f (suc n) none = omega (arith, sum_below-none f n (λ i h. none i (omega arith)), none n (omega arith))
 
 -- terms of at most 1
 pub sum_below-few : (f : ℕ → ℕ) (n : ℕ) → ((i : ℕ) → i < n → f i ≤ 1) → sum_below f n ≤ n

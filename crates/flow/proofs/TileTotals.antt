@@ -1,283 +1,237 @@
--- What comes through a cell from its own tile and from what enters the tile is all that comes through it.
-use Rattle.std.proofs.Common.{◌≡◌, ◌≢◌, ℕ, zero, suc, ◌+◌, ◌-◌, ◌*◌, ◌<◌, ◌≤◌, ◌⊎◌, inl, inr, false, ◌&&◌, eqb, List, map, length, get_or, None, is_some, sym, ap, subst, ◌∙◌, arith}
-use Rattle.std.specs.List.{list_any, range_with_len}
-use Rattle.std.proofs.lemmas.Option.{none-some}
-use Rattle.std.proofs.lemmas.Bool.{cases_eq, cases_lt, cases_order, cases_Bool, and_from, and_parts, eq-eqb, ne_eqb, eqb-true, cond-false, not_from_false, not-true, false≢true}
-use Rattle.std.proofs.lemmas.List.FromFn.{get_or-map-range_with_len, length-map-range_with_len}
+-- What comes through the cells of a tile, along its links.
+use Rattle.std.proofs.Common.{◌≡◌, ◌≢◌, ℕ, suc, ◌+◌, ◌*◌, ◌<◌, ◌≤◌, Bool, true, false, ◌&&◌, cond, inl, inr, List, length, get_or, is_some, sym, ap, subst, refl, ◌∙◌, arith}
+use Rattle.std.proofs.lemmas.Bool.{cases_eq, cases_Bool, and_from, and_parts, cond-true, cond-false, false_from_ne_true, false≢true}
 use Rattle.ascii_grid.specs.declared.place.Place.{Place}
+use Rattle.ascii_grid.proofs.Places.{cases_place}
 use Rattle.tiles.specs.declared.bounds.Bounds.{Bounds}
 use Rattle.tiles.specs.Cutting.{Cutting, IsInBounds, tile_of_place}
 use Rattle.tiles.proofs.TileOrder.{index_in_below, index_in-place_in, place_in-index_in}
-use Rattle.drainage.specs.Following.{Directed, code_at, follow, moves}
-use Rattle.flow.specs.Counts.{is_place, drains_through, accumulation}
-use Rattle.flow.specs.Streams.{node_after, sum_below, share, total}
+use Rattle.drainage.specs.Following.{Directed, code_at, next, follow, moves}
+use Rattle.flow.specs.Counts.{is_place, drains_through}
+use Rattle.flow.specs.Streams.{onward, leads_to, upstream_sum, sum_below}
 use Rattle.flow.specs.TileFlow.{stays, reaches_inside, inflow_of}
 use Rattle.flow.specs.TileLinks.{place_in, index_in}
-use Rattle.flow.proofs.Sums.{sum_below-same, sum_below-add}
-use Rattle.flow.proofs.Windows.{sum_below-none}
-use Rattle.flow.proofs.DoubleSums.{exchange, one_term, share-sum, share-add, share-none}
-use Rattle.flow.proofs.Ranges.{some_in_range, any_in_range, every_in_range}
-use Rattle.flow.proofs.EarlyEnds.{cases_reach, within, share-some}
-use Rattle.flow.proofs.Coded.{IsCoded, cases_coded, coded_along, coded_some, coded_from_some, follow_stays}
-use Rattle.flow.proofs.InTile.{weight_in, AreTileWeights, IsPiece, cases_bounds, in_place, in_step, tracks, tile_streams, coded_within}
-use Rattle.flow.proofs.Through.{place_test, place_from_test, stays_from_way, way_from_stays, total_is}
-use Rattle.flow.proofs.RimFlows.{follow_more}
-use Rattle.flow.proofs.Reaching.{IsEnding, again_stops, reached_early}
-use Rattle.flow.proofs.Gathering.{cell, drained, all_drained, drained_on, drained_off, drained_none, drained_few, gathered, all_gathered, gathered_on, gathered_off, gathered_none, enters, entered, entered_on, entered_off, entered_none, inflow_sum, accumulation_is, through_is}
+use Rattle.flow.proofs.Sums.{sum_below-same, sum_below-add, sum_below-none}
+use Rattle.flow.proofs.DoubleSums.{exchange, one_term, cond-sum}
+use Rattle.flow.proofs.Ranges.{some_in_range, any_in_range}
+use Rattle.flow.proofs.Totals.{AreTotals, leads_parts, leads_from}
+use Rattle.flow.proofs.Waiting.{and_on}
+use Rattle.flow.proofs.Coded.{IsCoded, coded_from_some, coded_along}
+use Rattle.flow.proofs.InTile.{weight_in, AreTileWeights, IsPiece, cases_bounds, in_place, link_is, link-in, link-out, link_place, coded_within}
+use Rattle.flow.proofs.Through.{tile_is}
+use Rattle.flow.proofs.Reaching.{IsEnding, whole_bounds, place_test, place_from_test, still_at, still_from, reached_early, drains_at, drains_from, Comes, cases_comes, comes_never, comes_once, one_move, enters_from, enters_at}
+use Rattle.flow.proofs.Gathering.{cell, all_drained, all_gathered, entered, inflow_sum, counted_on, counted_off, counted_none}
 
 module _ (d : Directed) (e : IsEnding d) (t : Cutting) (tile : ℕ) (b : Bounds) (links : List ℕ) (s : IsPiece d t tile b links) where
-  tile_at : (p : Place) → IsInBounds b p → tile_of_place t p ≡ tile
-  tile_at p h = ((s.places p).1 h).1
+  -- water goes on by one move
+  leads_place : (j i : ℕ) → j < length links → leads_to links j i ≡ true → (next d (place_in b j) ≡ place_in b i) × (place_in b j ≢ place_in b i)
+  leads_place j i h on =
+      let l = leads_parts links j i on in (
+        elim (cases_bounds b (next d (place_in b j))) [
+          | inl y ↦ sym (link_place d t tile b links s j h y) ∙ ap (place_in b) l.0
+          | inr out ↦ absurd (l.1 (sym (link_is d t tile b links s j h ∙ link-out d b j out) ∙ l.0))
+        ],
+        λ z. l.1 (sym (index_in-place_in b j) ∙ ap (index_in b) z ∙ index_in-place_in b i),
+      )
 
-  in_tile : (p : Place) → IsCoded d p → tile_of_place t p ≡ tile → IsInBounds b p
-  in_tile p is same = (s.places p).0 (coded_within d t tile b links s p is, same)
+  -- a cell itself
+  abbrev own : Place → Place → ℕ
+  own p q = cond {A = ℕ} (is_some (code_at d q) && is_place p q) 1 0
 
-  -- the last part of a path comes from another tile
-  record Comes (q : Place) (k : ℕ) : Type 0 where
-    pub from : ℕ
-    pub before : from < k
-    pub outside : tile_of_place t (follow d q from) ≢ tile
-    pub inside : (l : ℕ) → from < l → l ≤ k → IsInBounds b (follow d q l)
+  -- One cell's water: how far its path counts is told by T, and whether it comes to a place as far as that by R. What it
+  -- adds that comes from another tile is over.
+  module _ (q : Place) (is : IsCoded d q) (i : ℕ) (h : i < length links) (R : Place → Bool) (T : ℕ → Type 0) (start : T 0)
+      (from : (p : Place) → R p ≡ true → (k : ℕ) × (follow d q k ≡ p) × T k) (at : (p : Place) (k : ℕ) → follow d q k ≡ p → T k → R p ≡ true)
+      (less : (k m : ℕ) → m ≤ k → T k → T m) (more : (k : ℕ) → T k → IsInBounds b (follow d q k) → IsInBounds b (follow d q (suc k)) → T (suc k))
+      (over : ℕ) (off : ((a : ℕ) → follow d q (suc a) ≡ place_in b i → T (suc a) → (IsInBounds b (follow d q a) → ⊥) → ⊥) → over ≡ 0)
+      (on : (a : ℕ) → follow d q (suc a) ≡ place_in b i → T (suc a) → (IsInBounds b (follow d q a) → ⊥) → over ≡ 1) where
+    abbrev term : ℕ → ℕ
+    term j = cond {A = ℕ} (leads_to links j i) (cond {A = ℕ} (is_some (code_at d q) && R (place_in b j)) 1 0) 0
 
-  way_on : (q : Place) (f k : ℕ) → ((l : ℕ) → f ≤ l → l ≤ k → IsInBounds b (follow d q l)) → IsInBounds b (follow d q (suc k)) → (l : ℕ) → f ≤ l → l ≤ suc k → IsInBounds b (follow d q l)
-  way_on q f k way more l lt le = elim (cases_eq l (suc k)) [
-    | inl z ↦ subst (λ (n : ℕ). IsInBounds b (follow d q n)) (sym z) more
-    | inr ne ↦ way l lt (omega arith)
-  ]
-
-  cases_comes : (q : Place) → IsCoded d q → (k : ℕ) → IsInBounds b (follow d q k) → ((l : ℕ) → 0 ≤ l → l ≤ k → IsInBounds b (follow d q l)) ⊎ Comes q k
-  cases_comes q is zero here = inl (λ l lt le. (let z : 0 ≡ l = omega arith in subst (λ (n : ℕ). IsInBounds b (follow d q n)) z here))
-  cases_comes q is (suc k) here = elim (cases_bounds b (follow d q k)) [
-    | inl y ↦ elim (cases_comes q is k y) [
-      | inl way ↦ inl (way_on q 0 k way here)
-      | inr c ↦ inr (record { from = c.from; before = omega (arith, c.before); outside = c.outside; inside = λ l lt le. way_on q (suc c.from) k (λ m a z. c.inside m (omega arith) z) here l (omega arith) le })
+    term_off : (j : ℕ) → j < length links → ((a : ℕ) → follow d q (suc a) ≡ place_in b i → follow d q a ≢ place_in b i → T (suc a) → follow d q a ≡ place_in b j → ⊥) → term j ≡ 0
+    term_off j l none = elim (cases_Bool (leads_to links j i)) [
+      | inr n ↦ cond-false {A = ℕ} _ _ 0 n
+      | inl y ↦ cond-true {A = ℕ} _ _ 0 y ∙ counted_off d q (R (place_in b j)) (false_from_ne_true _ (λ r.
+          (let m = from (place_in b j) r in
+          let x = leads_place j i l y in
+          let goes : follow d q (suc m.0) ≡ place_in b i = ap (next d) m.1 ∙ x.0 in
+          none m.0 goes (λ z. x.1 (sym m.1 ∙ z))
+          (more m.0 m.2 (subst (λ (p : Place). IsInBounds b p) (sym m.1) (in_place d t tile b links s j l)) (subst (λ (p : Place). IsInBounds b p) (sym goes) (in_place d t tile b links s i h))) m.1)))
     ]
-    | inr out ↦ inr (record {
-      from = k;
-      before = omega arith;
-      outside = λ same. out (in_tile (follow d q k) (coded_along d s.ends q is k) same);
-      inside = λ l lt le. (let z : suc k ≡ l = omega arith in subst (λ (n : ℕ). IsInBounds b (follow d q n)) z here);
-    })
-  ]
 
-  -- a path that has left the tile doesn't come back to a place in it
-  no_return : (q : Place) → IsCoded d q → (f k a m : ℕ) → ((l : ℕ) → f ≤ l → l ≤ k → IsInBounds b (follow d q l)) → f ≤ k → f ≤ a → tile_of_place t (follow d q a) ≢ tile → a < m →
-      follow d q k ≡ follow d q m → ⊥
-  no_return q is f k a m way some from out lt same = elim (cases_lt k a) [
-    | inr near ↦ out (tile_at (follow d q a) (way a from near))
-    | inl far ↦ (let stop = again_stops d e q is k m (omega arith) same in
-        let there : follow d q a ≡ follow d q k = follow_stays d q k a (omega arith) stop in
-        out (ap (tile_of_place t) there ∙ tile_at (follow d q k) (way k some (omega arith))))
-  ]
-
-  -- a path that enters a node's place comes to another node's
-  record Arrives (q p : Place) (j : ℕ) : Type 0 where
-    pub steps : ℕ
-    pub leads : follow d q (suc steps) ≡ place_in b j
-    pub outside : tile_of_place t (follow d q steps) ≢ tile
-    pub more : ℕ
-    pub here : follow d q (suc steps + more) ≡ p
-    pub inside : (l : ℕ) → suc steps ≤ l → l ≤ suc steps + more → IsInBounds b (follow d q l)
-
-  abbrev part : ℕ → Place → ℕ → ℕ
-  part i q j = share links (length links) j i (entered d t (place_in b j) q)
-
-  follow-one : (q : Place) (k : ℕ) → follow d q (k + 1) ≡ follow d q (suc k)
-  follow-one q k = let z : k + 1 ≡ suc k = omega arith in ap (follow d q) z
-
-  cases_part : (i j : ℕ) (q : Place) → j < length links → (part i q j ≡ 0) ⊎ Arrives q (place_in b i) j
-  cases_part i j q h = elim (cases_reach links (length links) j i) [
-    | inr z ↦ inl (z (entered d t (place_in b j) q))
-    | inl r ↦ elim (cases_Bool (list_any (enters d t (place_in b j) q) (range_with_len 0 (moves d - 1)))) [
-      | inr f ↦ inl (ap (share links (length links) j i) (entered_off d t (place_in b j) q f) ∙ share-none links (length links) j i)
-      | inl y ↦
-          let x = some_in_range (enters d t (place_in b j) q) (moves d - 1) y in
-          let w = and_parts _ _ x.2 in
-          let way = tracks d t tile b links s j h r.0 in
-          let leads : follow d q (suc x.0) ≡ place_in b j = sym (follow-one q x.0) ∙ sym (place_from_test (place_in b j) (follow d q (x.0 + 1)) w.0) in
-          let on : (m : ℕ) → follow d q (suc x.0 + m) ≡ follow d (place_in b j) m = λ m. sym (follow_more d q (suc x.0) m) ∙ ap (λ (p : Place). follow d p m) leads in
-          inr (record {
-            steps = x.0;
-            leads = leads;
-            outside = λ same. false≢true (sym (not-true _ w.1) ∙ eq-eqb _ _ (same ∙ sym (tile_at (place_in b j) (in_place d t tile b links s j h))));
-            more = way.met;
-            here = on way.met ∙ sym way.here ∙ ap (place_in b) r.2;
-            inside = λ l lt le. (let z : suc x.0 + (l - suc x.0) ≡ l = omega arith in
-                subst (λ (p : Place). IsInBounds b p) (sym (on (l - suc x.0)) ∙ ap (follow d q) z) (way.way (l - suc x.0) (omega arith)));
-          })
-    ]
-  ]
-
-  -- a cell's water comes through another from inside the tile, or over its rim
-  ways_are : (i : ℕ) (q : Place) → i < length links → gathered d t (place_in b i) q + sum_below (part i q) (length links) ≡ drained d (place_in b i) q
-  ways_are i q h = elim (cases_Bool (is_some (code_at d q))) [
-    | inr f ↦ omega (
-      arith,
-      gathered_none d t (place_in b i) q f,
-      drained_none d (place_in b i) q f,
-      sum_below-none (part i q) (length links) (λ j l. ap (share links (length links) j i) (entered_none d t (place_in b j) q f) ∙ share-none links (length links) j i),
-    )
-    | inl some ↦
-        let is = coded_from_some d q some in
-        let here = in_place d t tile b links s i h in
-        elim (cases_Bool (drains_through d (place_in b i) q)) [
-          | inr n ↦ omega (
-            arith,
-            gathered_off d t (place_in b i) q (elim (cases_Bool (reaches_inside d t (place_in b i) q)) [
-              | inr f ↦ f
-              | inl y ↦ (let r = some_in_range (λ k. is_place (place_in b i) (follow d q k) && stays d t q k) (moves d) y in
-                  absurd (false≢true (sym n ∙ any_in_range (λ k. is_place (place_in b i) (follow d q k)) (moves d) r.0 r.1 (and_parts _ _ r.2).0)))
-            ]),
-            drained_off d (place_in b i) q n,
-            sum_below-none (part i q) (length links) (λ j l. elim (cases_part i j q l) [
-              | inl z ↦ z
-              | inr a ↦ (let m = reached_early d e q (place_in b i) is (suc a.steps + a.more) a.here in
-                  absurd (false≢true (sym n ∙ any_in_range (λ k. is_place (place_in b i) (follow d q k)) (moves d) m.0 m.1 (place_test (place_in b i) (follow d q m.0) (sym m.2)))))
-            ]),
-          )
-          | inl y ↦
-              let r = some_in_range (λ k. is_place (place_in b i) (follow d q k)) (moves d) y in
-              let at : follow d q r.0 ≡ place_in b i = sym (place_from_test (place_in b i) (follow d q r.0) r.2) in
-              elim (cases_comes q is r.0 (subst (λ (p : Place). IsInBounds b p) (sym at) here)) [
-                | inl way ↦ omega (
+    pub parts : cond {A = ℕ} (is_some (code_at d q) && R (place_in b i)) 1 0 ≡ own (place_in b i) q + over + sum_below term (length links)
+    parts = elim (cases_Bool (R (place_in b i))) [
+      | inr n ↦ omega (
+        arith,
+        counted_off d q (R (place_in b i)) n,
+        counted_off d q (is_place (place_in b i) q) (false_from_ne_true _ (λ y. false≢true (sym n ∙ at (place_in b i) 0 (sym (place_from_test (place_in b i) q y)) start))),
+        off (λ a goes far _. false≢true (sym n ∙ at (place_in b i) (suc a) goes far)),
+        sum_below-none term (length links) (λ j l. term_off j l (λ a goes _ far _. false≢true (sym n ∙ at (place_in b i) (suc a) goes far))),
+      )
+      | inl y ↦ (let r = from (place_in b i) y in
+          elim (cases_comes d e (λ z. z ≡ place_in b i) (λ z. cases_place z (place_in b i)) q r.0 r.1) [
+            | inl way ↦ (let here : (a : ℕ) → follow d q (suc a) ≡ place_in b i → follow d q a ≢ place_in b i → ⊥ =
+                λ a goes apart. comes_never d e (λ z. z ≡ place_in b i) q is r.0 (suc a) (r.1 ∙ sym goes) way (one_move d e q (place_in b i) a goes apart) in
+                omega (
                   arith,
-                  gathered_on d t (place_in b i) q is (any_in_range (λ k. is_place (place_in b i) (follow d q k) && stays d t q k) (moves d) r.0 r.1
-                      (and_from _ _ r.2 (stays_from_way d t tile b links s q r.0 (λ l le. way l (omega arith) le)))),
-                  drained_on d (place_in b i) q is y,
-                  sum_below-none (part i q) (length links) (λ j l. elim (cases_part i j q l) [
-                    | inl z ↦ z
-                    | inr a ↦ absurd (no_return q is 0 r.0 a.steps (suc a.steps + a.more) way (omega arith) (omega arith) a.outside (omega arith) (at ∙ sym a.here))
-                  ]),
-                )
-                | inr c ↦ omega (
-                  arith,
-                  gathered_off d t (place_in b i) q (not_inside i q r.0 h is at c),
-                  drained_on d (place_in b i) q is y,
-                  one_part i q r.0 h is r.1 at c,
-                )
-              ]
-        ]
-  ]
-    where
-      not_inside : (i : ℕ) (q : Place) (k : ℕ) → i < length links → IsCoded d q → follow d q k ≡ place_in b i → Comes q k → reaches_inside d t (place_in b i) q ≡ false
-      not_inside i q k h is at c = elim (cases_Bool (reaches_inside d t (place_in b i) q)) [
-        | inr f ↦ f
-        | inl y ↦
-            let r = some_in_range (λ k. is_place (place_in b i) (follow d q k) && stays d t q k) (moves d) y in
-            let w = and_parts _ _ r.2 in
-            let there : follow d q r.0 ≡ place_in b i = sym (place_from_test (place_in b i) (follow d q r.0) w.0) in
-            let own : tile_of_place t q ≡ tile =
-            sym (eqb-true _ _ (every_in_range (λ j. eqb (tile_of_place t (follow d q j)) (tile_of_place t q)) (r.0 + 1) w.1 r.0 (omega arith)))
-            ∙ ap (tile_of_place t) there ∙ tile_at (place_in b i) (in_place d t tile b links s i h) in
-            let way = way_from_stays d t tile b links s q is (in_tile q is own) r.0 w.1 in
-            absurd (no_return q is 0 r.0 c.from k (λ l lt le. way l le) (omega arith) (omega arith) c.outside c.before (there ∙ sym at))
-      ]
-
-      one_part : (i : ℕ) (q : Place) (k : ℕ) → i < length links → IsCoded d q → k < moves d → follow d q k ≡ place_in b i → Comes q k → sum_below (part i q) (length links) ≡ 1
-      one_part i q k h is few at c =
-          let x = follow d q (suc c.from) in
-          let inside = c.inside (suc c.from) (omega arith) (omega (arith, c.before)) in
-          let j = index_in b (follow d q (suc c.from)) in
-          let below : index_in b (follow d q (suc c.from)) < length links = omega (arith, index_in_below b (follow d q (suc c.from)) inside, s.made.size) in
-          let back = place_in-index_in b (follow d q (suc c.from)) inside in
-          let rest : suc c.from + (k - suc c.from) ≡ k = omega (arith, c.before) in
-          let on : (m : ℕ) → follow d (place_in b (index_in b (follow d q (suc c.from)))) m ≡ follow d q (suc c.from + m) =
-          λ m. ap (λ (p : Place). follow d p m) back ∙ follow_more d q (suc c.from) m in
-          let step = in_step d t tile b links s (index_in b (follow d q (suc c.from))) below (k - suc c.from)
-          (λ l le. subst (λ (p : Place). IsInBounds b p) (sym (on l)) (c.inside (suc c.from + l) (omega arith) (omega (arith, c.before)))) in
-          let node : node_after links (index_in b (follow d q (suc c.from))) (k - suc c.from) ≡ i =
-          sym (index_in-place_in b (node_after links (index_in b (follow d q (suc c.from))) (k - suc c.from)))
-          ∙ ap (index_in b) (step ∙ on (k - suc c.from) ∙ ap (follow d q) rest ∙ at) ∙ index_in-place_in b i in
-          let m = within links (tile_streams d t tile b links s) (index_in b (follow d q (suc c.from))) below (k - suc c.from) in
-          one_term (part i q) (length links) (index_in b (follow d q (suc c.from))) below
-          (λ n l ne. elim (cases_part i n q l) [
-            | inl z ↦ z
-            | inr a ↦ elim (cases_order a.steps c.from) [
-              | inl same ↦ absurd (ne (sym (index_in-place_in b n) ∙ ap (index_in b) (sym a.leads ∙ ap (λ v. follow d q (suc v)) same)))
-              | inr far ↦ elim far [
-                | inl lt ↦ absurd (no_return q is (suc a.steps) (suc a.steps + a.more) c.from k a.inside (omega arith) (omega arith) c.outside c.before (a.here ∙ sym at))
-                | inr lt ↦ absurd (no_return q is (suc c.from) k a.steps (suc a.steps + a.more) (λ v lo le. c.inside v (omega arith) le) (omega (arith, c.before)) (omega arith) a.outside (omega arith) (at ∙ sym a.here))
-              ]
-            ]
+                  counted_on d q (R (place_in b i)) is y,
+                  counted_on d q (is_place (place_in b i) q) is (place_test (place_in b i) q (sym (way 0 (omega arith)))),
+                  off (λ a goes far out. here a goes (λ z. out (subst (λ (p : Place). IsInBounds b p) (sym z) (in_place d t tile b links s i h)))),
+                  sum_below-none term (length links) (λ j l. term_off j l (λ a goes apart _ _. here a goes apart)),
+                ))
+            | inr c ↦ arrives y r.0 r.1 r.2 c
           ])
-          ∙ ap (share links (length links) (index_in b (follow d q (suc c.from))) i)
-          (entered_on d t (place_in b (index_in b (follow d q (suc c.from)))) q is
-          (any_in_range (enters d t (place_in b (index_in b (follow d q (suc c.from)))) q) (moves d - 1) c.from (omega (arith, c.before))
-          (and_from _ _
-          (place_test (place_in b (index_in b (follow d q (suc c.from)))) (follow d q (c.from + 1)) (back ∙ sym (follow-one q c.from)))
-          (not_from_false _ (ne_eqb _ _ (λ same. c.outside (same ∙ ap (tile_of_place t) back ∙ tile_at (follow d q (suc c.from)) inside)))))))
-          ∙ share-some links (length links) (index_in b (follow d q (suc c.from))) i 1 m.0 (omega (arith, m.1)) (m.3 ∙ node)
+    ]
+      where
+        arrives : R (place_in b i) ≡ true → (k : ℕ) → follow d q k ≡ place_in b i → T k → Comes d e (λ z. z ≡ place_in b i) q k →
+            cond {A = ℕ} (is_some (code_at d q) && R (place_in b i)) 1 0 ≡ own (place_in b i) q + over + sum_below term (length links)
+        arrives y k way far c =
+            let goes : follow d q (suc c.from) ≡ place_in b i = c.inside (suc c.from) (omega arith) (omega (arith, c.before)) in
+            let there : T (suc c.from) = less k (suc c.from) (omega (arith, c.before)) far in
+            let same : (a : ℕ) → follow d q (suc a) ≡ place_in b i → follow d q a ≢ place_in b i → a ≡ c.from =
+            λ a moves apart. comes_once d e (λ z. z ≡ place_in b i) q is (suc a) k (moves ∙ sym way) (one_move d e q (place_in b i) a moves apart) c in
+            let not_own : is_place (place_in b i) q ≡ false =
+            false_from_ne_true _ (λ z. comes_never d e (λ z. z ≡ place_in b i) q is 0 k (sym (place_from_test (place_in b i) q z) ∙ sym way)
+            (λ l le. (let w : l ≡ 0 = omega arith in ap (follow d q) w ∙ sym (place_from_test (place_in b i) q z))) c) in
+            elim (cases_bounds b (follow d q c.from)) [
+              | inr out ↦ omega (
+                arith,
+                counted_on d q (R (place_in b i)) is y,
+                counted_off d q _ not_own,
+                on c.from goes there out,
+                sum_below-none term (length links) (λ j l. term_off j l (λ a moves apart _ at_j.
+                    out (subst (λ (p : Place). IsInBounds b p) (sym at_j ∙ ap (follow d q) (same a moves apart)) (in_place d t tile b links s j l)))),
+              )
+              | inl within ↦
+                  let j = index_in b (follow d q c.from) in
+                  let below : index_in b (follow d q c.from) < length links = omega (arith, index_in_below b (follow d q c.from) within, s.made.size) in
+                  let back : place_in b (index_in b (follow d q c.from)) ≡ follow d q c.from = place_in-index_in b (follow d q c.from) within in
+                  let to : next d (place_in b (index_in b (follow d q c.from))) ≡ place_in b i = ap (next d) back ∙ goes in
+                  let link : onward links (index_in b (follow d q c.from)) ≡ i =
+                  link_is d t tile b links s (index_in b (follow d q c.from)) below
+                  ∙ link-in d b (index_in b (follow d q c.from)) (subst (λ (p : Place). IsInBounds b p) (sym to) (in_place d t tile b links s i h))
+                  ∙ ap (index_in b) to ∙ index_in-place_in b i in
+                  let leads : leads_to links (index_in b (follow d q c.from)) i ≡ true = leads_from links _ i link (λ z. c.outside (sym back ∙ ap (place_in b) z)) in
+                  omega (
+                    arith,
+                    counted_on d q (R (place_in b i)) is y,
+                    counted_off d q _ not_own,
+                    off (λ a moves _ out. out (subst (λ n. IsInBounds b (follow d q n)) (sym (same a moves (λ z. out (subst (λ (p : Place). IsInBounds b p) (sym z) (in_place d t tile b links s i h))))) within)),
+                    one_term term (length links) (index_in b (follow d q c.from)) below
+                        (λ n l ne. term_off n l (λ a moves apart _ at_n. ne (sym (index_in-place_in b n) ∙ ap (index_in b) (sym at_n ∙ ap (follow d q) (same a moves apart))))),
+                    cond-true {A = ℕ} _ (cond {A = ℕ} (is_some (code_at d q) && R (place_in b (index_in b (follow d q c.from)))) 1 0) 0 leads,
+                    counted_on d q (R (place_in b (index_in b (follow d q c.from)))) is (at _ c.from (sym back) (less k c.from (omega (arith, c.before)) far)),
+                  )
+            ]
+
+  -- the same of the water of all cells
+  tallied : (R : Place → Place → Bool) (over : Place → Place → ℕ) (i : ℕ) → i < length links →
+      ((q : Place) → IsCoded d q → cond {A = ℕ} (is_some (code_at d q) && R (place_in b i) q) 1 0
+      ≡ own (place_in b i) q + over (place_in b i) q + sum_below (λ j. cond {A = ℕ} (leads_to links j i) (cond {A = ℕ} (is_some (code_at d q) && R (place_in b j) q) 1 0) 0) (length links)) →
+      ((q : Place) → is_some (code_at d q) ≡ false → over (place_in b i) q ≡ 0) →
+      sum_below (λ c. cond {A = ℕ} (is_some (code_at d (cell d c)) && R (place_in b i) (cell d c)) 1 0) (d.rows * d.cols)
+      ≡ weight_in d b i + sum_below (λ c. over (place_in b i) (cell d c)) (d.rows * d.cols)
+      + upstream_sum links (λ j. sum_below (λ c. cond {A = ℕ} (is_some (code_at d (cell d c)) && R (place_in b j) (cell d c)) 1 0) (d.rows * d.cols)) i
+  tallied R over i h each none =
+      let part : ℕ → ℕ → ℕ = λ j c. cond {A = ℕ} (is_some (code_at d (cell d c)) && R (place_in b j) (cell d c)) 1 0 in
+      omega (
+        arith,
+        sum_below-same (λ c. cond {A = ℕ} (is_some (code_at d (cell d c)) && R (place_in b i) (cell d c)) 1 0)
+            (λ c. own (place_in b i) (cell d c) + over (place_in b i) (cell d c)
+            + sum_below (λ j. cond {A = ℕ} (leads_to links j i) (cond {A = ℕ} (is_some (code_at d (cell d c)) && R (place_in b j) (cell d c)) 1 0) 0) (length links)) (d.rows * d.cols)
+            (λ c _. of_cell (cell d c)),
+        sum_below-add (λ c. own (place_in b i) (cell d c) + over (place_in b i) (cell d c))
+            (λ c. sum_below (λ j. cond {A = ℕ} (leads_to links j i) (cond {A = ℕ} (is_some (code_at d (cell d c)) && R (place_in b j) (cell d c)) 1 0) 0) (length links)) (d.rows * d.cols),
+        sum_below-add (λ c. own (place_in b i) (cell d c)) (λ c. over (place_in b i) (cell d c)) (d.rows * d.cols),
+        own_sum,
+        exchange (λ c j. cond {A = ℕ} (leads_to links j i) (cond {A = ℕ} (is_some (code_at d (cell d c)) && R (place_in b j) (cell d c)) 1 0) 0) (d.rows * d.cols) (length links),
+        sum_below-same (λ j. sum_below (λ c. cond {A = ℕ} (leads_to links j i) (cond {A = ℕ} (is_some (code_at d (cell d c)) && R (place_in b j) (cell d c)) 1 0) 0) (d.rows * d.cols))
+            (λ j. cond {A = ℕ} (leads_to links j i) (sum_below (λ c. cond {A = ℕ} (is_some (code_at d (cell d c)) && R (place_in b j) (cell d c)) 1 0) (d.rows * d.cols)) 0) (length links)
+            (λ j _. sym (cond-sum (leads_to links j i) (λ c. cond {A = ℕ} (is_some (code_at d (cell d c)) && R (place_in b j) (cell d c)) 1 0) (d.rows * d.cols))),
+      )
+    where
+      of_cell : (q : Place) → cond {A = ℕ} (is_some (code_at d q) && R (place_in b i) q) 1 0
+          ≡ own (place_in b i) q + over (place_in b i) q + sum_below (λ j. cond {A = ℕ} (leads_to links j i) (cond {A = ℕ} (is_some (code_at d q) && R (place_in b j) q) 1 0) 0) (length links)
+      of_cell q = elim (cases_Bool (is_some (code_at d q))) [
+        | inl y ↦ each q (coded_from_some d q y)
+        | inr n ↦ omega (
+          arith,
+          counted_none d q (R (place_in b i) q) n,
+          counted_none d q (is_place (place_in b i) q) n,
+          none q n,
+          sum_below-none (λ j. cond {A = ℕ} (leads_to links j i) (cond {A = ℕ} (is_some (code_at d q) && R (place_in b j) q) 1 0) 0) (length links)
+              (λ j l. ap (λ x. cond {A = ℕ} (leads_to links j i) x 0) (counted_none d q (R (place_in b j) q) n) ∙ cond_same (leads_to links j i)),
+        )
+      ]
+        where
+          cond_same : (x : Bool) → cond {A = ℕ} x 0 0 ≡ 0
+          cond_same true = refl
+          cond_same false = refl
+
+      own_sum : sum_below (λ c. own (place_in b i) (cell d c)) (d.rows * d.cols) ≡ weight_in d b i
+      own_sum =
+          let p = place_in b i in
+          let grid = whole_bounds d.cols d.rows in
+          let inside : IsInBounds (whole_bounds d.cols d.rows) (place_in b i) =
+          (let x = in_place d t tile b links s i h in (omega arith, omega (arith, x, s.inside.rows_inside, s.rows), omega arith, omega (arith, x, s.inside.cols_inside, s.cols))) in
+          one_term (λ c. own (place_in b i) (cell d c)) (d.rows * d.cols) (index_in (whole_bounds d.cols d.rows) (place_in b i)) (index_in_below (whole_bounds d.cols d.rows) (place_in b i) inside)
+          (λ j l ne. counted_off d (cell d j) _ (false_from_ne_true _ (λ y.
+          ne (sym (index_in-place_in (whole_bounds d.cols d.rows) j) ∙ ap (index_in (whole_bounds d.cols d.rows)) (sym (place_from_test (place_in b i) (cell d j) y))))))
+          ∙ ap (own (place_in b i)) (place_in-index_in (whole_bounds d.cols d.rows) (place_in b i) inside)
+          ∙ ap (λ x. cond {A = ℕ} x 1 0) (and_on (is_some (code_at d (place_in b i))) _ (place_test (place_in b i) (place_in b i) refl))
 
   -- the weights of a tile's cells: themselves, and what flows in
   abbrev pub AreWeights : List ℕ → Type 0
   AreWeights weights = (j : ℕ) → j < length links → get_or weights j 0 ≡ weight_in d b j + inflow_of d t (place_in b j)
 
-  own_weights : List ℕ
-  own_weights = map (weight_in d b) (range_with_len 0 (b.rows * b.cols))
-
-  own_made : AreTileWeights d b (map (weight_in d b) (range_with_len 0 (b.rows * b.cols)))
-  own_made = record {
-    size = length-map-range_with_len (weight_in d b) 0 (b.rows * b.cols);
-    each = λ i h. get_or-map-range_with_len (weight_in d b) 0 (b.rows * b.cols) i i 0 h (omega arith);
+  -- all that comes through the cells, where what flows in is added
+  pub all_totals : (weights : List ℕ) → AreWeights weights → AreTotals links weights (λ i. all_drained d (place_in b i))
+  all_totals weights weighed = record {
+    each = λ i h. omega (
+      arith,
+      weighed i h,
+      inflow_sum d t (place_in b i),
+      tallied (drains_through d) (entered d t) i h (λ q is. parts q is i h (λ p. drains_through d p q) (λ k. Unit {0}) tt
+          (λ p y. (let m = drains_from d e q p y in (m.0, m.1, tt))) (λ p k way _. drains_at d e q p is k way) (λ k m le _. tt) (λ k _ x y. tt)
+          (entered d t (place_in b i) q)
+          (λ none. counted_off d q _ (false_from_ne_true _ (λ y.
+          (let x = enters_from d e t (place_in b i) q y in
+          none x.0 x.1 tt (λ z. x.2 (tile_is d t tile b links s _ z ∙ sym (tile_is d t tile b links s _ (in_place d t tile b links s i h))))))))
+          (λ a goes _ out. counted_on d q _ is (enters_at d e t (place_in b i) q is a goes
+          (λ same. out ((s.places (follow d q a)).0 (coded_within d t tile b links s (follow d q a) (coded_along d s.ends q is a), same ∙ tile_is d t tile b links s _ (in_place d t tile b links s i h)))))))
+          (λ q n. counted_none d q _ n),
+    );
   }
 
-  inflow_part : (i j : ℕ) → share links (length links) j i (inflow_of d t (place_in b j)) ≡ sum_below (λ c. part i (cell d c) j) (d.rows * d.cols)
-  inflow_part i j =
-      ap (share links (length links) j i) (inflow_sum d t (place_in b j)) ∙ share-sum links (length links) j i (λ c. entered d t (place_in b j) (cell d c)) (d.rows * d.cols)
+  -- what comes through them from inside the tile
+  pub own_totals : (weights : List ℕ) → AreTileWeights d b weights → AreTotals links weights (λ i. all_gathered d t (place_in b i))
+  own_totals weights weighed = record {
+    each = λ i h. omega (
+      arith,
+      weighed.each i (omega (arith, h, s.made.size)),
+      sum_below-none (λ c. 0) (d.rows * d.cols) (λ c _. refl),
+      tallied (reaches_inside d t) (λ p q. 0) i h (λ q is. parts q is i h (λ p. reaches_inside d t p q) (λ k. stays d t q k ≡ true) (begins q)
+          (λ p y. (let r = some_in_range (λ k. is_place p (follow d q k) && stays d t q k) (moves d) y in
+          let w = and_parts _ _ r.2 in (r.0, sym (place_from_test p (follow d q r.0) w.0), w.1)))
+          (λ p k way still. (let m = reached_early d e q p is k way in
+          any_in_range (λ k. is_place p (follow d q k) && stays d t q k) (moves d) m.0 m.1 (and_from _ _ (place_test p (follow d q m.0) (sym m.3)) (sooner q k m.0 m.2 still))))
+          (sooner q) (later q) 0 (λ _. refl)
+          (λ a goes still out. absurd (out ((s.places (follow d q a)).0 (
+            coded_within d t tile b links s (follow d q a) (coded_along d s.ends q is a),
+            still_at d t q (suc a) still a (omega arith) ∙ sym (still_at d t q (suc a) still (suc a) (omega arith)) ∙ ap (tile_of_place t) goes ∙ tile_is d t tile b links s _ (in_place d t tile b links s i h),
+          )))))
+          (λ q n. refl),
+    );
+  }
+    where
+      begins : (q : Place) → stays d t q 0 ≡ true
+      begins q = still_from d t q 0 (λ l le. (let z : l ≡ 0 = omega arith in ap (λ n. tile_of_place t (follow d q n)) z))
 
-  module _ (weights : List ℕ) (weighed : AreWeights weights) where
-    -- the total of a data cell is all that comes through it
-    pub all_comes : (i : ℕ) → i < length links → (is : IsCoded d (place_in b i)) → total links weights i ≡ all_drained d (place_in b i)
-    all_comes i h is =
-        let some = coded_some d (place_in b i) is in
-        let own : sum_below (λ j. share links (length links) j i (weight_in d b j)) (length links) ≡ all_gathered d t (place_in b i) =
-        sum_below-same (λ j. share links (length links) j i (weight_in d b j)) (λ j. share links (length links) j i (get_or (map (weight_in d b) (range_with_len 0 (b.rows * b.cols))) j 0)) (length links)
-        (λ j l. ap (share links (length links) j i) (sym (own_made.each j (omega (arith, l, s.made.size)))))
-        ∙ total_is d t tile b links s (map (weight_in d b) (range_with_len 0 (b.rows * b.cols))) own_made i h some
-        ∙ sym (through_is d e t (place_in b i) is) in
-        let over : sum_below (λ j. share links (length links) j i (inflow_of d t (place_in b j))) (length links) ≡ sum_below (λ c. sum_below (part i (cell d c)) (length links)) (d.rows * d.cols) =
-        sum_below-same (λ j. share links (length links) j i (inflow_of d t (place_in b j))) (λ j. sum_below (λ c. part i (cell d c) j) (d.rows * d.cols)) (length links) (λ j l. inflow_part i j)
-        ∙ exchange (λ j c. part i (cell d c) j) (length links) (d.rows * d.cols) in
-        sum_below-same (λ j. share links (length links) j i (get_or weights j 0))
-        (λ j. share links (length links) j i (weight_in d b j) + share links (length links) j i (inflow_of d t (place_in b j))) (length links)
-        (λ j l. ap (share links (length links) j i) (weighed j l) ∙ share-add links (length links) j i (weight_in d b j) (inflow_of d t (place_in b j)))
-        ∙ sum_below-add (λ j. share links (length links) j i (weight_in d b j)) (λ j. share links (length links) j i (inflow_of d t (place_in b j))) (length links)
-        ∙ ap (λ n. n + sum_below (λ j. share links (length links) j i (inflow_of d t (place_in b j))) (length links)) own
-        ∙ ap (λ n. all_gathered d t (place_in b i) + n) over
-        ∙ sym (sum_below-add (λ c. gathered d t (place_in b i) (cell d c)) (λ c. sum_below (part i (cell d c)) (length links)) (d.rows * d.cols))
-        ∙ sum_below-same (λ c. gathered d t (place_in b i) (cell d c) + sum_below (part i (cell d c)) (length links)) (λ c. drained d (place_in b i) (cell d c)) (d.rows * d.cols) (λ c l. ways_are i (cell d c) h)
+      sooner : (q : Place) (k m : ℕ) → m ≤ k → stays d t q k ≡ true → stays d t q m ≡ true
+      sooner q k m le still = still_from d t q m (λ l less. still_at d t q k still l (omega arith))
 
-    -- nothing comes to a cell without data
-    none_comes : (i : ℕ) → i < length links → code_at d (place_in b i) ≡ None → total links weights i ≡ 0
-    none_comes i h none =
-        sum_below-none (λ j. share links (length links) j i (get_or weights j 0)) (length links) (λ j l. elim (cases_reach links (length links) j i) [
-          | inr z ↦ z (get_or weights j 0)
-          | inl r ↦ elim (cases_coded d (place_in b j)) [
-            | inr is ↦
-                let way = tracks d t tile b links s j l r.0 in
-                let there = coded_along d s.ends (place_in b j) is way.met in
-                absurd (none-some there.code (sym none ∙ ap (λ n. code_at d (place_in b n)) (sym r.2) ∙ ap (code_at d) way.here ∙ there.is))
-            | inl out ↦ ap (share links (length links) j i) (weighed j l ∙ omega (arith, cond-false {A = ℕ} _ 1 0 (ap is_some out), nothing_enters (place_in b j) out)) ∙ share-none links (length links) j i
-          ]
-        ])
-      where
-        nothing_enters : (p : Place) → code_at d p ≡ None → inflow_of d t p ≡ 0
-        nothing_enters p out = inflow_sum d t p ∙ sum_below-none (λ c. entered d t p (cell d c)) (d.rows * d.cols) (λ c h. elim (cases_Bool (is_some (code_at d (cell d c)))) [
-          | inr f ↦ entered_none d t p (cell d c) f
-          | inl some ↦ elim (cases_Bool (list_any (enters d t p (cell d c)) (range_with_len 0 (moves d - 1)))) [
-            | inr n ↦ entered_off d t p (cell d c) n
-            | inl y ↦
-                let x = some_in_range (enters d t p (cell d c)) (moves d - 1) y in
-                let there = coded_along d s.ends (cell d c) (coded_from_some d (cell d c) some) (x.0 + 1) in
-                absurd (none-some there.code (sym out ∙ ap (code_at d) (place_from_test p (follow d (cell d c) (x.0 + 1)) (and_parts _ _ x.2).0) ∙ there.is))
-          ]
-        ])
-
-    pub few_come : (i : ℕ) → i < length links → total links weights i ≤ 16777216
-    few_come i h = elim (cases_coded d (place_in b i)) [
-      | inl none ↦ omega (arith, none_comes i h none)
-      | inr is ↦ omega (arith, all_comes i h is, drained_few d e (place_in b i))
-    ]
-
-    pub accumulates : (i : ℕ) → i < length links → (is : IsCoded d (place_in b i)) → total links weights i ≡ accumulation d (place_in b i) + 1
-    accumulates i h is = all_comes i h is ∙ accumulation_is d e (place_in b i) is
+      later : (q : Place) (k : ℕ) → stays d t q k ≡ true → IsInBounds b (follow d q k) → IsInBounds b (follow d q (suc k)) → stays d t q (suc k) ≡ true
+      later q k still here next_here = still_from d t q (suc k) (λ l le. elim (cases_eq l (suc k)) [
+        | inl z ↦ ap (λ n. tile_of_place t (follow d q n)) z ∙ tile_is d t tile b links s _ next_here ∙ sym (tile_is d t tile b links s _ here) ∙ still_at d t q k still k (omega arith)
+        | inr ne ↦ still_at d t q k still l (omega arith)
+      ])

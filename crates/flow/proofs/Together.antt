@@ -4,16 +4,17 @@ use Rattle.std.specs.Prelude.{Result, Ok, Err, IfOk}
 use Rattle.std.proofs.lemmas.Option.{get_or_from_slice_get, slice_get_within, slice_get_cases}
 use Rattle.ascii_grid.specs.Neighbours.{entry_at}
 use Rattle.ascii_grid.specs.declared.place.Place.{Place}
-use Rattle.tiles.specs.Cutting.{Cutting, IsCutting, View, IsPutBack, AreTileLists, tile_count, tile_of_place, tile_entry}
+use Rattle.tiles.specs.Cutting.{Cutting, IsCutting, View, IsPutBack, AreTileLists, Cuts, tile_count, tile_of_place, tile_entry}
 use Rattle.tiles.proofs.Cut.{tile_of_place_below}
 use Rattle.tiles.proofs.PutBack.{entry_at-put_back}
 use Rattle.drainage.specs.Following.{Directed, code_at}
-use Rattle.drainage.specs.Drained.{AllFlowEnds}
+use Rattle.drainage.specs.Drained.{Drained, AllFlowEnds, directed_of}
 use Rattle.flow.specs.Counts.{IsMapOf}
 use Rattle.flow.specs.TileFlow.{Flow, IsTileExits, IsTileCounts, AreTileCounts, IsTileFlow, directed_by}
 use Rattle.flow.specs.RimGraph.{AreFlowsOf}
 use Rattle.flow.specs.Whole.{make_directed}
 use Rattle.flow.specs.TileMaps.{IsTileMapOf, AreTileMapsOf}
+use Rattle.flow.proofs.Directed.{directed_same}
 
 pub both_ok : {T E : Type 0} (r : Result T E) (P Q R : T → Type 0) → ((x : T) → P x → Q x → R x) → IfOk r P → IfOk r Q → IfOk r R
 both_ok (Ok x) P Q R f a b = f x a b
@@ -57,9 +58,6 @@ maps_given d t value outs count given = record {
   each = λ tile list e. subst (λ (v : Vec (Option ℕ) Global). IsTileMapOf d t tile value v.items) (get_or_from_slice_get outs tile list list e) (given tile list (omega (arith, count, slice_get_within outs tile list e)));
 }
 
-pub map_lists : (d : Directed) (t : Cutting) (value : Place → ℕ) (lists : List (Vec (Option ℕ) Global)) → AreTileMapsOf d t value lists → AreTileLists t lists
-map_lists d t value lists are = record { count = are.count; each = λ tile list e. (are.each tile list e).size }
-
 -- what is put back is the map
 pub maps_put_back : (d : Directed) (t : Cutting) (value : Place → ℕ) (lists : List (Vec (Option ℕ) Global)) (whole : List (Option ℕ)) → IsCutting t → d.cols ≡ t.cols → d.rows ≡ t.rows →
     AreTileMapsOf d t value lists → IsPutBack t lists whole → IsMapOf d value whole
@@ -76,3 +74,13 @@ maps_put_back d t value lists whole h c r are put = record {
             subst (λ (x : Option ℕ). MatchOption (code_at d p) (x ≡ None) (λ _. x ≡ Some (value p))) (sym entry) ((are.each (tile_of_place t p) list.0 list.2).each p (within, refl))
       ];
 }
+
+module _ (d : Drained) (t : Cutting) (codes : List (Option ℕ)) (cuts : Cuts t d.terrain) (same : codes ≡ d.codes) (value : Directed → Place → ℕ)
+    (lists given : List (Vec (Option ℕ) Global)) (e : given ≡ lists) (are : AreTileMapsOf (make_directed t.cols t.rows codes) t (value (make_directed t.cols t.rows codes)) lists) where
+  pub maps_lists : AreTileLists t given
+  maps_lists = subst (λ (x : List (Vec (Option ℕ) Global)). AreTileLists t x) (sym e) (record { count = are.count; each = λ tile list z. (are.each tile list z).size })
+
+  pub maps_whole : (whole : List (Option ℕ)) → IsCutting t → IsPutBack t given whole → IsMapOf (directed_of d) (value (directed_of d)) whole
+  maps_whole whole h put = subst (λ (x : Directed). IsMapOf x (value x) whole) (directed_same d t codes cuts same)
+      (maps_put_back (make_directed t.cols t.rows codes) t (value (make_directed t.cols t.rows codes)) lists whole h refl refl are
+      (subst (λ (x : List (Vec (Option ℕ) Global)). IsPutBack t x whole) e put))

@@ -1,53 +1,32 @@
--- For whom a node waits.
-use Rattle.std.proofs.Common.{◌≡◌, ◌≢◌, ℕ, ◌<◌, ◌≤◌, true, false, not, ◌&&◌, cond, eqb, inl, inr, List, get_or, ap, arith}
-use Rattle.std.proofs.lemmas.Bool.{cases_eq, cases_Bool, eq-eqb, ne_eqb, cond-true, cond-false, and_from, and_left, and_right, not_from_true, not_from_false}
-use Rattle.flow.specs.Streams.{onward}
-use Rattle.flow.specs.Sending.{donor, sent_mark, has_sent, waiting}
+-- For whom a node waits, and what has been sent to it.
+use Rattle.std.proofs.Common.{◌≡◌, ◌≢◌, ℕ, ◌+◌, ◌<◌, Bool, true, false, not, ◌&&◌, cond, eqb, inl, inr, List, length, get_or, set, sym, ap, refl, ◌∙◌, arith}
+use Rattle.std.proofs.lemmas.Bool.{cases_eq, cases_Bool, eq-eqb, ne_eqb, eqb-true, cond-true, cond-false, and_left, and_right, and_parts, not-true, not_from_true, not_from_false}
+use Rattle.std.proofs.lemmas.List.{get_or-set_same, get_or-set_other}
+use Rattle.flow.specs.Streams.{onward, leads_to}
+use Rattle.flow.specs.Sending.{donor, sent_mark, has_sent, waiting, sent_on}
+use Rattle.flow.proofs.Totals.{leads_from}
 
-pub waiting-one : (links waits : List ℕ) (i j : ℕ) → onward links j ≡ i → j ≢ i → has_sent waits j ≡ false → waiting links waits i j ≡ 1
-waiting-one links waits i j e ne f =
-    cond-true _ _ _ (and_from _ _ (and_from _ _ (eq-eqb _ _ e) (not_from_false _ (ne_eqb _ _ ne))) (not_from_false _ f))
+pub and_on : (a b : Bool) → b ≡ true → (a && b) ≡ a
+and_on true b t = t
+and_on false b t = refl
 
-pub waiting-apart : (links waits : List ℕ) (i j : ℕ) → onward links j ≢ i → waiting links waits i j ≡ 0
-waiting-apart links waits i j ne = cond-false _ _ _ (and_left _ _ (and_left _ _ (ne_eqb _ _ ne)))
-
-pub waiting-self : (links waits : List ℕ) (i j : ℕ) → j ≡ i → waiting links waits i j ≡ 0
-waiting-self links waits i j e = cond-false _ _ _ (and_left _ _ (and_right _ _ (not_from_true _ (eq-eqb _ _ e))))
+pub waiting-open : (links waits : List ℕ) (i j : ℕ) → has_sent waits j ≡ false → waiting links waits i j ≡ donor links i j
+waiting-open links waits i j f = ap (λ x. cond {A = ℕ} x 1 0) (and_on (leads_to links j i) (not (has_sent waits j)) (not_from_false _ f))
 
 pub waiting-sent : (links waits : List ℕ) (i j : ℕ) → has_sent waits j ≡ true → waiting links waits i j ≡ 0
 waiting-sent links waits i j t = cond-false _ _ _ (and_right _ _ (not_from_true _ t))
 
-pub waiting-le : (links waits : List ℕ) (i j : ℕ) → waiting links waits i j ≤ 1
-waiting-le links waits i j = elim (cases_eq (onward links j) i) [
-  | inl e ↦ elim (cases_eq j i) [
-    | inl s ↦ omega (arith, waiting-self links waits i j s)
-    | inr ne ↦ elim (cases_Bool (has_sent waits j)) [
-      | inl t ↦ omega (arith, waiting-sent links waits i j t)
-      | inr f ↦ omega (arith, waiting-one links waits i j e ne f)
-    ]
-  ]
-  | inr ne ↦ omega (arith, waiting-apart links waits i j ne)
-]
+pub sent_on-open : (links weights waits came : List ℕ) (i j : ℕ) → has_sent waits j ≡ false → sent_on links weights waits came i j ≡ 0
+sent_on-open links weights waits came i j f = cond-false _ _ _ (and_right _ _ f)
 
-pub waiting-same : (links waits new : List ℕ) (i j : ℕ) → has_sent new j ≡ has_sent waits j → waiting links new i j ≡ waiting links waits i j
-waiting-same links waits new i j e = ap (λ b. cond (eqb (onward links j) i && not (eqb j i) && not b) 1 0) e
+pub sent_on-all : (links weights waits came : List ℕ) (i j : ℕ) → has_sent waits j ≡ true →
+    sent_on links weights waits came i j ≡ cond {A = ℕ} (leads_to links j i) (get_or came j 0 + get_or weights j 0) 0
+sent_on-all links weights waits came i j t = ap (λ x. cond {A = ℕ} x (get_or came j 0 + get_or weights j 0) 0) (and_on (leads_to links j i) (has_sent waits j) t)
 
--- whom a node waits for
-pub record IsAwaited (links counts : List ℕ) (i j : ℕ) : Type 0 where
-  pub leads : onward links j ≡ i
-  pub apart : j ≢ i
-  pub waits : has_sent counts j ≡ false
-
-pub awaited_from : (links waits : List ℕ) (i j : ℕ) → 0 < waiting links waits i j → IsAwaited links waits i j
-awaited_from links waits i j h = elim (cases_eq (onward links j) i) [
-  | inl e ↦ elim (cases_eq j i) [
-    | inl s ↦ absurd (omega (arith, waiting-self links waits i j s))
-    | inr ne ↦ elim (cases_Bool (has_sent waits j)) [
-      | inl t ↦ absurd (omega (arith, waiting-sent links waits i j t))
-      | inr f ↦ record { leads = e; apart = ne; waits = f }
-    ]
-  ]
-  | inr ne ↦ absurd (omega (arith, waiting-apart links waits i j ne))
+pub awaited_from : (links waits : List ℕ) (i j : ℕ) → 0 < waiting links waits i j → (leads_to links j i ≡ true) × (has_sent waits j ≡ false)
+awaited_from links waits i j h = elim (cases_Bool (leads_to links j i && not (has_sent waits j))) [
+  | inl y ↦ (let w = and_parts _ _ y in (w.0, not-true _ w.1))
+  | inr n ↦ absurd (omega (arith, cond-false {A = ℕ} _ 1 0 n))
 ]
 
 pub sent_from_mark : (waits : List ℕ) (i : ℕ) → get_or waits i 0 ≡ sent_mark → has_sent waits i ≡ true
@@ -56,20 +35,22 @@ sent_from_mark waits i e = eq-eqb _ _ e
 pub open_from_count : (waits : List ℕ) (i : ℕ) → get_or waits i 0 < sent_mark → has_sent waits i ≡ false
 open_from_count waits i l = ne_eqb _ _ (λ e. omega (arith, e))
 
-pub donor-one : (links : List ℕ) (i j : ℕ) → onward links j ≡ i → j ≢ i → donor links i j ≡ 1
-donor-one links i j e ne = cond-true _ _ _ (and_from _ _ (eq-eqb _ _ e) (not_from_false _ (ne_eqb _ _ ne)))
+-- the one node to which the water of a node goes on
+pub leads_test : (links : List ℕ) (node i : ℕ) → onward links node ≢ node → leads_to links node i ≡ eqb (onward links node) i
+leads_test links node i ne = elim (cases_Bool (eqb (onward links node) i)) [
+  | inl y ↦ leads_from links node i (eqb-true _ _ y) (λ e. ne (eqb-true _ _ y ∙ sym e)) ∙ sym y
+  | inr n ↦ and_left _ _ n ∙ sym n
+]
 
-pub donor-self : (links : List ℕ) (i j : ℕ) → j ≡ i → donor links i j ≡ 0
-donor-self links i j e = cond-false _ _ _ (and_right _ _ (not_from_true _ (eq-eqb _ _ e)))
-
-pub donor-apart : (links : List ℕ) (i j : ℕ) → onward links j ≢ i → donor links i j ≡ 0
-donor-apart links i j ne = cond-false _ _ _ (and_left _ _ (ne_eqb _ _ ne))
-
-pub donor-le : (links : List ℕ) (i j : ℕ) → donor links i j ≤ 1
-donor-le links i j = elim (cases_eq (onward links j) i) [
-  | inl e ↦ elim (cases_eq j i) [
-    | inl s ↦ omega (arith, donor-self links i j s)
-    | inr ne ↦ omega (arith, donor-one links i j e ne)
-  ]
-  | inr ne ↦ omega (arith, donor-apart links i j ne)
+-- a list after an entry was raised
+pub added_at : (xs : List ℕ) (k v i : ℕ) → k < length xs → get_or (set xs k (get_or xs k 0 + v)) i 0 ≡ get_or xs i 0 + cond {A = ℕ} (eqb k i) v 0
+added_at xs k v i h = elim (cases_eq k i) [
+  | inl e ↦ omega (
+    arith,
+    ap (λ n. get_or (set xs k (get_or xs k 0 + v)) n 0) e,
+    get_or-set_same xs k (get_or xs k 0 + v) 0 h,
+    ap (λ n. get_or xs n 0) e,
+    cond-true {A = ℕ} _ v 0 (eq-eqb k i e),
+  )
+  | inr ne ↦ omega (arith, get_or-set_other xs k i (get_or xs k 0 + v) 0 (λ e. ne (sym e)), cond-false {A = ℕ} _ v 0 (ne_eqb k i ne))
 ]

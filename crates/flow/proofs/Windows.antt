@@ -1,7 +1,7 @@
 -- Counts over the places of a grid as sums over rows and columns, and over the indexes of bounds.
-use Rattle.std.proofs.Common.{◌≡◌, ℕ, zero, suc, ◌+◌, ◌-◌, ◌*◌, ◌%◌, ◌<◌, ◌≤◌, List, [], ◌∷◌, map, sym, ap, refl, ◌∙◌, arith, add-one, add-zero, zero-mul}
-use Rattle.std.proofs.lemmas.List.Sums.{sum_by-append, sum_by-cons, sum_by_push}
-use Rattle.std.proofs.lemmas.List.FromFn.{map-range_with_len_more}
+use Rattle.std.proofs.Common.{◌≡◌, ℕ, zero, suc, ◌+◌, ◌-◌, ◌*◌, ◌%◌, ◌≤◌, List, [], ◌∷◌, map, sym, ap, refl, ◌∙◌, arith, add-one, add-zero, zero-mul}
+use Rattle.std.proofs.lemmas.List.Sums.{sum_by-append, sum_by-cons}
+use Rattle.std.proofs.lemmas.List.FromFn.{sum_by-map-range_with_len_more}
 use Rattle.std.proofs.lemmas.Nat.{div-mul-add, mod-mul-add}
 use Rattle.std.specs.List.{range_with_len, flat_map, sum_by}
 use Rattle.ascii_grid.specs.Ways.{places}
@@ -17,8 +17,7 @@ sum_by_row : {X : Type 0} (f : X → ℕ) (g : ℕ → X) (n : ℕ) → sum_by f
 sum_by_row f g zero = refl
 sum_by_row f g (suc n) =
     ap (λ (k : ℕ). sum_by f (map g (range_with_len 0 k))) (sym (add-one n))
-    ∙ ap (λ xs. sum_by f xs) (map-range_with_len_more g 0 n n (omega arith))
-    ∙ sum_by_push f (map g (range_with_len 0 n)) (g n)
+    ∙ sum_by-map-range_with_len_more f g 0 n n (omega arith)
     ∙ ap (λ k. k + f (g n)) (sum_by_row f g n)
 
 -- a sum over lists that are joined
@@ -50,21 +49,6 @@ sum_below-split f a (suc n) =
     let rest : sum_below f (a + n) ≡ sum_below f a + sum_below (λ i. f (a + i)) n = sum_below-split f a n in
     ap (sum_below f) next ∙ omega arith
 
-pub sum_below-none : (f : ℕ → ℕ) (n : ℕ) → ((i : ℕ) → i < n → f i ≡ 0) → sum_below f n ≡ 0
-sum_below-none f zero none = refl
-sum_below-none f (suc n) none = omega (arith, sum_below-none f n (λ i h. none i (omega arith)), none n (omega arith))
-
--- a sum whose terms are 0 outside a window
-pub sum_window : (f : ℕ → ℕ) (from n m : ℕ) → from + n ≤ m → ((i : ℕ) → i < from → f i ≡ 0) → ((i : ℕ) → from + n ≤ i → i < m → f i ≡ 0) →
-    sum_below f m ≡ sum_below (λ i. f (from + i)) n
-sum_window f from n m le low high =
-    let total : m ≡ from + n + (m - (from + n)) = omega arith in
-    let first : sum_below f (from + n) ≡ sum_below f from + sum_below (λ i. f (from + i)) n = sum_below-split f from n in
-    let both : sum_below f (from + n + (m - (from + n))) ≡ sum_below f (from + n) + sum_below (λ i. f (from + n + i)) (m - (from + n)) = sum_below-split f (from + n) (m - (from + n)) in
-    let none : sum_below f from ≡ 0 = sum_below-none f from low in
-    let rest : sum_below (λ i. f (from + n + i)) (m - (from + n)) ≡ 0 = sum_below-none (λ i. f (from + n + i)) (m - (from + n)) (λ i h. high (from + n + i) (omega arith) (omega arith)) in
-    ap (sum_below f) total ∙ omega arith
-
 -- a sum over the indexes of bounds, row by row
 pub sum_in_rows : (f : Place → ℕ) (b : Bounds) (rows : ℕ) →
     sum_below (λ i. f (place_in b i)) (rows * b.cols) ≡ sum_below (λ r. sum_below (λ c. f (make_place (b.top + r) (b.left + c))) b.cols) rows
@@ -78,17 +62,6 @@ sum_in_rows f b (suc rows) =
     ∙ ap (λ q. f (make_place (b.top + rows) (b.left + q))) (mod-mul-add rows b.cols c h)) in
     let rest : sum_below (λ i. f (place_in b i)) (rows * b.cols) ≡ sum_below (λ r. sum_below (λ c. f (make_place (b.top + r) (b.left + c))) b.cols) rows = sum_in_rows f b rows in
     ap (sum_below (λ i. f (place_in b i))) size ∙ omega arith
-
--- a sum over the places of a grid whose terms are 0 outside bounds
-pub sum_in_bounds : (f : Place → ℕ) (b : Bounds) (cols rows : ℕ) → b.top + b.rows ≤ rows → b.left + b.cols ≤ cols →
-    ((r c : ℕ) → r < b.top → f (make_place r c) ≡ 0) → ((r c : ℕ) → b.top + b.rows ≤ r → f (make_place r c) ≡ 0) →
-    ((r c : ℕ) → c < b.left → f (make_place r c) ≡ 0) → ((r c : ℕ) → b.left + b.cols ≤ c → f (make_place r c) ≡ 0) →
-    sum_by f (places cols rows) ≡ sum_below (λ i. f (place_in b i)) (b.rows * b.cols)
-sum_in_bounds f b cols rows r_in c_in above below west east =
-    sum_by_places f cols rows
-    ∙ sum_window (row_sum f cols) b.top b.rows rows r_in (λ r h. sum_below-none _ cols (λ c k. above r c h)) (λ r h k. sum_below-none _ cols (λ c l. below r c h))
-    ∙ sum_below-same _ _ b.rows (λ r h. sum_window (λ c. f (make_place (b.top + r) c)) b.left b.cols cols c_in (λ c k. west (b.top + r) c k) (λ c k l. east (b.top + r) c k))
-    ∙ sym (sum_in_rows f b b.rows)
 
 -- a part of a sum
 pub sum_below-part : (f : ℕ → ℕ) (k n : ℕ) → k ≤ n → sum_below f k ≤ sum_below f n

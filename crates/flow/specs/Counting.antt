@@ -4,7 +4,7 @@ use Rattle.std.specs.List.{range_with_len}
 use Rattle.ascii_grid.specs.declared.place.Place.{Place}
 use Rattle.tiles.specs.declared.bounds.Bounds.{Bounds}
 use Rattle.tiles.specs.Cutting.{Cutting, IsInBounds, bounds_of, cell_count, tile_count}
-use Rattle.flow.specs.Streams.{AreStreams, total}
+use Rattle.flow.specs.Streams.{AreStreams, AreUpstream, total}
 use Rattle.flow.specs.TileFlow.{Flow}
 use Rattle.flow.specs.TileLinks.{index_in, links_by, weights_by, where_data}
 use Rattle.flow.specs.RimGraph.{AreFlowsOf}
@@ -31,8 +31,8 @@ pub record IsCountable (inflows : Inflows) (tile : ℕ) (f : Flow) : Type 0 wher
   pub few : length f.codes ≤ 2 ^ 24
   pub streams : AreStreams (links_by f.bounds f.codes)
   pub few_enter : (p : Place) → IsInBounds (bounds_of inflows.cutting tile) p → inflow_in inflows p < 2 ^ 31
-  pub few_come : (weights : List ℕ) → AreRimWeights inflows (bounds_of inflows.cutting tile) f.codes weights → (i : ℕ) → i < length f.codes →
-      total (links_by f.bounds f.codes) weights i < 2 ^ 32
+  pub few_come : (weights : List ℕ) → AreRimWeights inflows (bounds_of inflows.cutting tile) f.codes weights →
+      (i : ℕ) → i < length f.codes → total (links_by f.bounds f.codes) weights i < 2 ^ 32
 
 -- what the jobs may rely on
 pub record AreCountable (t : Cutting) (flows : List Flow) (inflows : Inflows) : Type 0 where
@@ -44,3 +44,11 @@ pub record AreCountable (t : Cutting) (flows : List Flow) (inflows : Inflows) : 
 abbrev pub counts_by : List (Option ℕ) → List ℕ → List ℕ → List (Option ℕ)
 counts_by cells weights came =
     map (λ i. where_data (slice_index_or cells i None) (slice_index came i + slice_index weights i - 1)) (range_with_len 0 (length cells))
+
+-- the counts of a tile's cells, of their weights and what comes to them
+pub record AreCounts (inflows : Inflows) (tile : ℕ) (f : Flow) (values : List (Option ℕ)) : Type 0 where
+  pub weights : List ℕ
+  pub came : List ℕ
+  pub weighed : AreRimWeights inflows (bounds_of inflows.cutting tile) f.codes weights
+  pub up : AreUpstream (links_by f.bounds f.codes) weights came
+  pub made : values ≡ counts_by f.codes weights came

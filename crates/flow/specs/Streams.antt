@@ -1,6 +1,6 @@
 -- Nodes that are numbered from 0, each linked to the node to which its water goes on. An end is linked to itself.
 -- Source: a forest, given by the parent of each node.
-use Rattle.std.specs.Prelude.{◌≡◌, ℕ, zero, suc, ◌+◌, ◌<◌, ◌==◌, if◌then◌else◌, List, length, slice_index}
+use Rattle.std.specs.Prelude.{◌≡◌, ℕ, zero, suc, ◌+◌, ◌<◌, Bool, not, ◌&&◌, ◌==◌, if◌then◌else◌, List, length, slice_index}
 
 -- the node to which a node is linked
 abbrev pub onward : List ℕ → ℕ → ℕ
@@ -25,14 +25,22 @@ abbrev pub sum_below : (ℕ → ℕ) → ℕ → ℕ
 sum_below f zero = 0
 sum_below f (suc n) = sum_below f n + f n
 
--- a node's weight where the first k moves from it lead to a node, and 0 where they don't
-abbrev pub share : List ℕ → ℕ → ℕ → ℕ → ℕ → ℕ
-share links zero from to weight = if from == to then weight else 0
-share links (suc k) from to weight = if from == to then weight else share links k (onward links from) to weight
+-- whether a node's water goes on to another
+abbrev pub leads_to : List ℕ → ℕ → ℕ → Bool
+leads_to links j i = onward links j == i && not (j == i)
+
+-- what the nodes have together whose water goes on to a node
+abbrev pub upstream_sum : List ℕ → (ℕ → ℕ) → ℕ → ℕ
+upstream_sum links f i = sum_below (λ j. if leads_to links j i then f j else 0) (length links)
+
+-- a node's weight and those of the nodes from which fewer than so many moves lead to it
+abbrev pub total_within : List ℕ → List ℕ → ℕ → ℕ → ℕ
+total_within links weights zero i = 0
+total_within links weights (suc k) i = slice_index weights i + upstream_sum links (total_within links weights k) i
 
 -- the weights of the nodes whose paths hold a node, its own included
 abbrev pub total : List ℕ → List ℕ → ℕ → ℕ
-total links weights to = sum_below (λ from. share links (length links) from to (slice_index weights from)) (length links)
+total links weights i = total_within links weights (length links) i
 
 -- What comes to each node from others: with its own weight, its total.
 pub record AreUpstream (links weights came : List ℕ) : Type 0 where

@@ -7,27 +7,23 @@ ghost use Rattle.flow.specs.TileFlow.{directed_by, is_in_bounds};
 ghost use Rattle.flow.specs.CodeSteps.{moved, leads_east, leads_south, leads_west, leads_north};
 ghost use Rattle.flow.specs.TileLinks.{AreTileCodes, IsSmall, place_in, index_in, link_by, first_links, links_by, weights_by};
 
-use ascii_grid::{NoMemory, Place};
+use ascii_grid::Place;
 use drainage::Code;
-use std::alloc::Global;
+use std::alloc::{AllocError, Global};
 use tiles::{Bounds, TileView};
 
 /// The codes of a tile in its row order.
 pub fn tile_codes(
     alloc: Global,
     codes: &TileView<'_, Option<Code>>,
-) -> Result<Vec<Option<Code>>, NoMemory>
+) -> Result<Vec<Option<Code>>, AllocError>
     ensures { IfOk result (λ v. AreTileCodes (directed_by codes.now) (bounds_of codes.now.cutting codes.now.tile) v.items) }
 {
     let bounds = codes.bounds();
     let count = bounds.rows as usize * bounds.cols as usize;
-    let Ok(mut cells) = Vec::with_capacity(alloc, count) else {
-        return Err(NoMemory);
-    };
+    let mut cells = Vec::with_capacity(alloc, count)?;
     for row in 0..bounds.rows {
-        if cells.extend_from_slice(codes.row(row)).is_err() {
-            return Err(NoMemory);
-        }
+        cells.extend_from_slice(codes.row(row))?;
     }
     Ok(cells)
 }
@@ -37,14 +33,12 @@ pub fn tile_links(
     alloc: Global,
     bounds: Bounds,
     cells: &[Option<Code>],
-) -> Result<Vec<u32>, NoMemory>
+) -> Result<Vec<u32>, AllocError>
     requires small { IsSmall bounds }
     requires size { length cells.now ≡ bounds.rows * bounds.cols }
     ensures { IfOk result (λ v. v.items ≡ links_by bounds cells.now) }
 {
-    let Ok(mut links) = Vec::with_capacity(alloc, cells.len()) else {
-        return Err(NoMemory);
-    };
+    let mut links = Vec::with_capacity(alloc, cells.len())?;
     for row in 0..bounds.rows {
         push_links(&mut links, bounds, row, cells)?;
     }
@@ -58,7 +52,7 @@ fn push_links(
     bounds: Bounds,
     row: u32,
     cells: &[Option<Code>],
-) -> Result<(), NoMemory>
+) -> Result<(), AllocError>
     requires small { IsSmall bounds }
     requires size { length cells.now ≡ bounds.rows * bounds.cols }
     requires row { row < bounds.rows }
@@ -73,25 +67,19 @@ fn push_links(
         };
         let index = start + col;
         let link = link_of(bounds, index, place, cells[index as usize]);
-        if links.push(link).is_err() {
-            return Err(NoMemory);
-        }
+        links.push(link)?;
     }
     Ok(())
 }
 
 /// 1 for each data cell, and 0 for each without data.
-pub fn tile_weights(alloc: Global, cells: &[Option<Code>]) -> Result<Vec<u32>, NoMemory>
+pub fn tile_weights(alloc: Global, cells: &[Option<Code>]) -> Result<Vec<u32>, AllocError>
     ensures { IfOk result (λ v. v.items ≡ weights_by cells.now) }
 {
-    let Ok(weights) = cells
+    cells
         .iter()
         .map(|code| u32::from(code.is_some()))
         .collect(alloc)
-    else {
-        return Err(NoMemory);
-    };
-    Ok(weights)
 }
 
 /// The place of an index.
@@ -197,6 +185,7 @@ fn moved(index: u32, on: bool, back: bool) -> Option<u32>
 }
 
 #[inline(always)]
+#[tactic(auto, using(crate::proofs::CodeMasks::masks_east))]
 fn leads_east(number: u8) -> bool
     requires { IsCode number }
     ensures { result ≡ leads_east number }
@@ -205,6 +194,7 @@ fn leads_east(number: u8) -> bool
 }
 
 #[inline(always)]
+#[tactic(auto, using(crate::proofs::CodeMasks::masks_south))]
 fn leads_south(number: u8) -> bool
     requires { IsCode number }
     ensures { result ≡ leads_south number }
@@ -213,6 +203,7 @@ fn leads_south(number: u8) -> bool
 }
 
 #[inline(always)]
+#[tactic(auto, using(crate::proofs::CodeMasks::masks_west))]
 fn leads_west(number: u8) -> bool
     requires { IsCode number }
     ensures { result ≡ leads_west number }
@@ -221,6 +212,7 @@ fn leads_west(number: u8) -> bool
 }
 
 #[inline(always)]
+#[tactic(auto, using(crate::proofs::CodeMasks::masks_north))]
 fn leads_north(number: u8) -> bool
     requires { IsCode number }
     ensures { result ≡ leads_north number }

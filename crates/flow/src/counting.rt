@@ -5,9 +5,9 @@ ghost use Rattle.tiles.specs.Cutting.{Cuts, IsCutting, IsInBounds, bounds_of, ce
 ghost use Rattle.tile_jobs.specs.Fault.{RefusesWorkers};
 ghost use Rattle.drainage.specs.Drained.{directed_of};
 ghost use Rattle.flow.specs.Counts.{AreAccumulations, accumulation};
-ghost use Rattle.flow.specs.TileMaps.{IsTileMapOf, AreTileMapsOf};
+ghost use Rattle.flow.specs.TileMaps.{AreTileMapsOf};
 ghost use Rattle.flow.specs.Whole.{IsGridFlow, make_directed};
-ghost use Rattle.flow.specs.Counting.{IsCounting, AreCountable, AreRimWeights, counts_by};
+ghost use Rattle.flow.specs.Counting.{IsCounting, IsCountable, AreCountable, AreRimWeights, AreCounts, counts_by};
 ghost use Rattle.flow.specs.Inflows.{inflow_in};
 ghost use Rattle.ascii_grid.specs.declared.place.Place.{Place as AtPlace};
 
@@ -15,10 +15,9 @@ use crate::cells::tile_weights;
 use crate::flowing::{flow_tiles, put_back};
 use crate::inflows::Inflows;
 use crate::streams::upstream;
-use crate::tile::{TileFlow, counted};
-use ascii_grid::NoMemory;
+use crate::tile::{TileFlow, where_data};
 use drainage::{Code, Directions};
-use std::alloc::Global;
+use std::alloc::{AllocError, Global};
 use std::sync::Wait;
 use std::thread::Threads;
 use tile_jobs::{Gate, JobFault, Work, run_jobs};
@@ -50,9 +49,7 @@ impl<'a> Work for CountTiles<'a> {
         (accumulation (make_directed w.tiling.now.cols w.tiling.now.rows codes)) out.items };
 
     fn run(&self, alloc: Global, job: u32) -> Result<Vec<Option<u32>>, JobFault> {
-        let Ok(values) = tile_counts(alloc, self.tiling, self.flows, self.inflows, job) else {
-            return Err(JobFault::Memory);
-        };
+        let values = tile_counts(alloc, self.inflows, job, &self.flows[job as usize])?;
         Ok(values)
     }
 }
@@ -71,22 +68,7 @@ pub fn accumulation<R: Threads + Wait + Sync, G: Gate + Sync>(
     ensures values { IfOk result (λ v. AreAccumulations (directed_of d.now) v.items) }
     ensures workers { RefusesWorkers workers result }
 {
-    accumulation_along(rt, alloc, d.codes(), tiling, workers, gate)
-}
-
-pub(crate) fn accumulation_along<R: Threads + Wait + Sync, G: Gate + Sync>(
-    rt: &R,
-    alloc: Global,
-    codes: &[Option<Code>],
-    tiling: &Tiling,
-    workers: u32,
-    gate: &G,
-) -> Result<Vec<Option<u32>>, JobFault>
-    requires flows { IsGridFlow tiling.now.cols tiling.now.rows codes.now }
-    ensures values { IfOk result (λ v. AreAccumulations (make_directed tiling.now.cols tiling.now.rows codes.now) v.items) }
-    ensures workers { RefusesWorkers workers result }
-{
-    let tiles = accumulation_tiles(rt, alloc, codes, tiling, workers, gate)?;
+    let tiles = accumulation_tiles(rt, alloc, d.codes(), tiling, workers, gate)?;
     put_back(alloc, tiling, &tiles)
 }
 
@@ -106,9 +88,7 @@ fn accumulation_tiles<R: Threads + Wait + Sync, G: Gate + Sync>(
     ensures workers { RefusesWorkers workers result }
 {
     let flows = flow_tiles(rt, alloc, codes, tiling, workers, gate)?;
-    let Ok(inflows) = Inflows::join(alloc, tiling, &flows) else {
-        return Err(JobFault::Memory);
-    };
+    let inflows = Inflows::join(alloc, tiling, &flows)?;
     count_tiles(rt, alloc, tiling, &flows, &inflows, workers, gate)
 }
 
@@ -139,18 +119,14 @@ fn count_tiles<R: Threads + Wait + Sync, G: Gate + Sync>(
 // The accumulations of a tile's cells.
 fn tile_counts(
     alloc: Global,
-    tiling: &Tiling,
-    flows: &[TileFlow],
     inflows: &Inflows,
     tile: u32,
-) -> Result<Vec<Option<u32>>, NoMemory>
-    requires countable { AreCountable tiling.now flows.now inflows.now }
-    requires tile { tile < tile_count tiling.now }
-    ensures { IfOk result (λ v. (codes : List (Option ℕ)) → IsCounting tiling.now codes flows.now inflows.now →
-        IsTileMapOf (make_directed tiling.now.cols tiling.now.rows codes) tiling.now tile
-        (accumulation (make_directed tiling.now.cols tiling.now.rows codes)) v.items) }
+    flow: &TileFlow,
+) -> Result<Vec<Option<u32>>, AllocError>
+    requires countable { IsCountable inflows.now tile flow.now }
+    requires tile { tile < tile_count inflows.now.cutting }
+    ensures { IfOk result (λ v. AreCounts inflows.now tile flow.now v.items) }
 {
-    let flow = &flows[tile as usize];
     let weights = rim_weights(alloc, inflows, tile, flow.codes())?;
     let came = upstream(alloc, flow.links(), &weights)?;
     counts(alloc, flow.codes(), &weights, &came)
@@ -162,7 +138,7 @@ fn rim_weights(
     inflows: &Inflows,
     tile: u32,
     cells: &[Option<Code>],
-) -> Result<Vec<u32>, NoMemory>
+) -> Result<Vec<u32>, AllocError>
     requires tile { tile < tile_count inflows.now.cutting }
     requires size { length cells.now ≡ cell_count inflows.now.cutting tile }
     requires fits { (p : AtPlace) → IsInBounds (bounds_of inflows.now.cutting tile) p → inflow_in inflows.now p < 2 ^ 31 }
@@ -174,26 +150,22 @@ fn rim_weights(
 }
 
 // The total of each data cell, itself left out; that of a cell without data is 0.
+#[tactic(auto, using(crate::proofs::Pushing::mapped_next))]
 fn counts(
     alloc: Global,
     cells: &[Option<Code>],
     weights: &[u32],
     came: &[u32],
-) -> Result<Vec<Option<u32>>, NoMemory>
+) -> Result<Vec<Option<u32>>, AllocError>
     requires weights { length weights.now ≡ length cells.now }
     requires came { length came.now ≡ length cells.now }
     requires fits { (i : ℕ) → i < length cells.now → slice_index came.now i + slice_index weights.now i < 2 ^ 32 }
     ensures { IfOk result (λ v. v.items ≡ counts_by cells.now weights.now came.now) }
 {
-    let Ok(mut values) = Vec::with_capacity(alloc, cells.len()) else {
-        return Err(NoMemory);
-    };
+    let mut values = Vec::with_capacity(alloc, cells.len())?;
     for index in 0..cells.len() {
         let total = came[index] + weights[index];
-        let value = counted(cells[index], total.saturating_sub(1));
-        if values.push(value).is_err() {
-            return Err(NoMemory);
-        }
+        values.push(where_data(cells[index], total.saturating_sub(1)))?;
     }
     Ok(values)
 }

@@ -3,14 +3,13 @@ ghost use Rattle.std.specs.Prelude.{◌≡◌, ◌+◌, ◌^◌, ◌<◌, ◌≤
 ghost use Rattle.flow.specs.Streams.{AreStreams, AreEnds, end_of};
 ghost use Rattle.flow.specs.Finding.{AreFound, IsKnown};
 
-use ascii_grid::NoMemory;
-use std::alloc::Global;
+use std::alloc::{AllocError, Global};
 
 // The entry of a node whose end is not found yet.
 const UNKNOWN: u32 = u32::MAX;
 
 /// Where the path of each node ends.
-pub fn ends(alloc: Global, links: &[u32]) -> Result<Vec<u32>, NoMemory>
+pub fn ends(alloc: Global, links: &[u32]) -> Result<Vec<u32>, AllocError>
     requires streams { AreStreams links.now }
     requires few { length links.now ≤ 2 ^ 30 }
     ensures { IfOk result (λ v. AreEnds links.now v.items) }
@@ -21,13 +20,10 @@ pub fn ends(alloc: Global, links: &[u32]) -> Result<Vec<u32>, NoMemory>
     Ok(ends)
 }
 
-fn unknown(alloc: Global, links: &[u32]) -> Result<Vec<u32>, NoMemory>
+fn unknown(alloc: Global, links: &[u32]) -> Result<Vec<u32>, AllocError>
     ensures { IfOk result (λ v. AreFound links.now v.items) }
 {
-    let Ok(list) = vec![in alloc; UNKNOWN; links.len()] else {
-        return Err(NoMemory);
-    };
-    Ok(list)
+    vec![in alloc; UNKNOWN; links.len()]
 }
 
 // Marks the nodes that are ends.

@@ -63,9 +63,7 @@ impl<'a> Work for ExitTiles<'a> {
 
     fn run(&self, alloc: Global, job: u32) -> Result<TileFlow, JobFault> {
         let view = self.tiling.view(self.codes, job);
-        let Ok(flow) = tile_exits(alloc, &view) else {
-            return Err(JobFault::Memory);
-        };
+        let flow = tile_exits(alloc, &view)?;
         Ok(flow)
     }
 }

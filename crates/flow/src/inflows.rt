@@ -16,8 +16,8 @@ use crate::outlets::{is_place, rim_links, stands_for, target_of};
 use crate::rim::{number_count, numbers_of, rim_number, rim_place};
 use crate::streams::{upstream, zeros};
 use crate::tile::TileFlow;
-use ascii_grid::{NoMemory, Place};
-use std::alloc::Global;
+use ascii_grid::Place;
+use std::alloc::{AllocError, Global};
 use std::marker::Model;
 use tiles::{Bounds, Tiling};
 
@@ -43,7 +43,7 @@ impl Model for Inflows {
 
 impl Inflows {
     /// Sends the water of each exit from tile to tile.
-    pub fn join(alloc: Global, tiling: &Tiling, flows: &[TileFlow]) -> Result<Inflows, NoMemory>
+    pub fn join(alloc: Global, tiling: &Tiling, flows: &[TileFlow]) -> Result<Inflows, AllocError>
         requires { (d : Directed) × AreFlowsOf d tiling.now flows.now × AreTileCounts d tiling.now flows.now }
         ensures cutting { IfOk result (λ i. i.cutting ≡ tiling.now) }
         ensures inflows { IfOk result (λ i. (d : Directed) → AreFlowsOf d tiling.now flows.now →
@@ -155,19 +155,15 @@ fn weight_of(tiling: &Tiling, flows: &[TileFlow], number: u32) -> u32
     through_at(tiling, flows, rim_place(tiling, number)).unwrap_or(0) + 1
 }
 
-fn rim_weights(alloc: Global, tiling: &Tiling, flows: &[TileFlow]) -> Result<Vec<u32>, NoMemory>
+#[tactic(auto, using(crate::proofs::Pushing::mapped_next))]
+fn rim_weights(alloc: Global, tiling: &Tiling, flows: &[TileFlow]) -> Result<Vec<u32>, AllocError>
     requires { (d : Directed) × AreFlowsOf d tiling.now flows.now × AreTileCounts d tiling.now flows.now }
     ensures { IfOk result (λ v. v.items ≡ rim_weights_by tiling.now flows.now) }
 {
     let count = number_count(tiling);
-    let Ok(mut weights) = Vec::with_capacity(alloc, count as usize) else {
-        return Err(NoMemory);
-    };
+    let mut weights = Vec::with_capacity(alloc, count as usize)?;
     for number in 0..count {
-        let weight = weight_of(tiling, flows, number);
-        if weights.push(weight).is_err() {
-            return Err(NoMemory);
-        }
+        weights.push(weight_of(tiling, flows, number))?;
     }
     Ok(weights)
 }
@@ -179,7 +175,7 @@ fn all_entering(
     flows: &[TileFlow],
     weights: &[u32],
     came: &[u32],
-) -> Result<Vec<u32>, NoMemory>
+) -> Result<Vec<u32>, AllocError>
     requires flows { (d : Directed) × AreFlowsOf d tiling.now flows.now }
     requires weights { length weights.now ≡ number_count tiling.now }
     requires came { length came.now ≡ number_count tiling.now }

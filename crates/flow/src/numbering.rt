@@ -17,9 +17,9 @@ use crate::flowing::{exit_tiles, put_back};
 use crate::outlet_numbers::OutletNumbers;
 use crate::outlets::Outlets;
 use crate::tile::TileFlow;
-use ascii_grid::{NoMemory, Place};
+use ascii_grid::Place;
 use drainage::{Code, Directions};
-use std::alloc::Global;
+use std::alloc::{AllocError, Global};
 use std::sync::Wait;
 use std::thread::Threads;
 use tile_jobs::{Gate, JobFault, Work, run_jobs};
@@ -50,16 +50,14 @@ impl<'a> Work for NumberTiles<'a> {
         IsTileMapOf d w.tiling.now job (basin d) out.items };
 
     fn run(&self, alloc: Global, job: u32) -> Result<Vec<Option<u32>>, JobFault> {
-        let Ok(values) = tile_basins(
+        let values = tile_basins(
             alloc,
             self.tiling,
             self.flows,
             self.outlets,
             self.numbers,
             job,
-        ) else {
-            return Err(JobFault::Memory);
-        };
+        )?;
         Ok(values)
     }
 }
@@ -79,22 +77,7 @@ pub fn basins<R: Threads + Wait + Sync, G: Gate + Sync>(
     ensures values { IfOk result (λ v. AreBasins (directed_of d.now) v.items) }
     ensures workers { RefusesWorkers workers result }
 {
-    basins_along(rt, alloc, d.codes(), tiling, workers, gate)
-}
-
-pub(crate) fn basins_along<R: Threads + Wait + Sync, G: Gate + Sync>(
-    rt: &R,
-    alloc: Global,
-    codes: &[Option<Code>],
-    tiling: &Tiling,
-    workers: u32,
-    gate: &G,
-) -> Result<Vec<Option<u32>>, JobFault>
-    requires flows { IsGridFlow tiling.now.cols tiling.now.rows codes.now }
-    ensures values { IfOk result (λ v. AreBasins (make_directed tiling.now.cols tiling.now.rows codes.now) v.items) }
-    ensures workers { RefusesWorkers workers result }
-{
-    let tiles = basin_tiles(rt, alloc, codes, tiling, workers, gate)?;
+    let tiles = basin_tiles(rt, alloc, d.codes(), tiling, workers, gate)?;
     put_back(alloc, tiling, &tiles)
 }
 
@@ -114,9 +97,7 @@ fn basin_tiles<R: Threads + Wait + Sync, G: Gate + Sync>(
     ensures workers { RefusesWorkers workers result }
 {
     let flows = exit_tiles(rt, alloc, codes, tiling, workers, gate)?;
-    let Ok(outlets) = Outlets::join(alloc, tiling, &flows) else {
-        return Err(JobFault::Memory);
-    };
+    let outlets = Outlets::join(alloc, tiling, &flows)?;
     let runs = tiling.tiles();
     let numbers = OutletNumbers::of_codes(rt, alloc, codes, runs, workers, gate)?;
     number_tiles(rt, alloc, tiling, &flows, &outlets, &numbers, workers, gate)
@@ -155,7 +136,7 @@ fn tile_basins(
     outlets: &Outlets<'_>,
     numbers: &OutletNumbers<'_>,
     tile: u32,
-) -> Result<Vec<Option<u32>>, NoMemory>
+) -> Result<Vec<Option<u32>>, AllocError>
     requires ready { AreReady tiling.now flows.now outlets.now numbers.now }
     requires tile { tile < tile_count tiling.now }
     ensures { IfOk result (λ v. (d : Directed) → IsNumbering d tiling.now flows.now outlets.now numbers.now →
@@ -167,25 +148,21 @@ fn tile_basins(
 }
 
 // The number of the outlet of each exit, at its own index.
+#[tactic(auto, using(crate::proofs::Pushing::mapped_next))]
 fn exit_labels(
     alloc: Global,
     tiling: &Tiling,
     outlets: &Outlets<'_>,
     numbers: &OutletNumbers<'_>,
     flow: &TileFlow,
-) -> Result<Vec<u32>, NoMemory>
+) -> Result<Vec<u32>, AllocError>
     requires cutting { outlets.now.cutting ≡ tiling.now }
     requires exits { (i : ℕ) → IfSome (slice_index_or flow.now.exits i None) (IsExitOfTile outlets.now numbers.now flow.now.bounds) }
     ensures { IfOk result (λ v. v.items ≡ labels_by numbers.now outlets.now flow.now.bounds flow.now.exits) }
 {
-    let Ok(mut labels) = Vec::with_capacity(alloc, flow.cell_count()) else {
-        return Err(NoMemory);
-    };
+    let mut labels = Vec::with_capacity(alloc, flow.cell_count())?;
     for index in 0..flow.cell_count() {
-        let label = label_of(tiling, outlets, numbers, flow, index);
-        if labels.push(label).is_err() {
-            return Err(NoMemory);
-        }
+        labels.push(label_of(tiling, outlets, numbers, flow, index))?;
     }
     Ok(labels)
 }
@@ -233,18 +210,14 @@ fn number_of(
 }
 
 // The label of each cell's exit.
-fn numbered(alloc: Global, flow: &TileFlow, labels: &[u32]) -> Result<Vec<Option<u32>>, NoMemory>
+#[tactic(auto, using(crate::proofs::Pushing::mapped_next))]
+fn numbered(alloc: Global, flow: &TileFlow, labels: &[u32]) -> Result<Vec<Option<u32>>, AllocError>
     requires { length labels.now ≡ length flow.now.exits }
     ensures { IfOk result (λ v. v.items ≡ numbered_by flow.now.bounds labels.now flow.now.exits) }
 {
-    let Ok(mut values) = Vec::with_capacity(alloc, labels.len()) else {
-        return Err(NoMemory);
-    };
+    let mut values = Vec::with_capacity(alloc, labels.len())?;
     for index in 0..labels.len() {
-        let value = label_at(flow, labels, index);
-        if values.push(value).is_err() {
-            return Err(NoMemory);
-        }
+        values.push(label_at(flow, labels, index))?;
     }
     Ok(values)
 }

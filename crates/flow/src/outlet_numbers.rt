@@ -6,9 +6,8 @@ ghost use Rattle.flow.specs.Whole.{is_outlet_code};
 ghost use Rattle.flow.specs.OutletRuns.{AreSumsBefore};
 
 use crate::outlet_runs::{CountRuns, RunCounts, Runs};
-use ascii_grid::NoMemory;
 use drainage::Code;
-use std::alloc::Global;
+use std::alloc::{AllocError, Global};
 use std::marker::Model;
 use std::sync::Wait;
 use std::thread::Threads;
@@ -51,9 +50,7 @@ impl<'a> OutletNumbers<'a> {
     {
         let cut = Runs::cut(codes, runs);
         let counts = run_jobs(rt, alloc, &CountRuns { runs: &cut }, runs, workers, gate)?;
-        let Ok(before) = sums_before(alloc, &counts) else {
-            return Err(JobFault::Memory);
-        };
+        let before = sums_before(alloc, &counts)?;
         Ok(OutletNumbers {
             runs: cut,
             counts,
@@ -74,18 +71,14 @@ impl<'a> OutletNumbers<'a> {
 }
 
 // How many outlets stand before each run.
-fn sums_before(alloc: Global, runs: &[RunCounts]) -> Result<Vec<u32>, NoMemory>
+fn sums_before(alloc: Global, runs: &[RunCounts]) -> Result<Vec<u32>, AllocError>
     requires { sum_by (λ r. r.total) runs.now < 2 ^ 32 }
     ensures { IfOk result (λ v. AreSumsBefore runs.now v.items) }
 {
-    let Ok(mut before) = Vec::with_capacity(alloc, runs.len()) else {
-        return Err(NoMemory);
-    };
+    let mut before = Vec::with_capacity(alloc, runs.len())?;
     let mut sum = 0;
     for run in runs {
-        if before.push(sum).is_err() {
-            return Err(NoMemory);
-        }
+        before.push(sum)?;
         sum += run.total;
     }
     Ok(before)

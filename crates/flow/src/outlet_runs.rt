@@ -4,9 +4,8 @@ ghost use Rattle.flow.specs.Whole.{is_outlet_code};
 ghost use Rattle.flow.specs.OutletRuns.{AreCodeRuns, IsRunCounted, run_share, run_start, run_codes};
 
 use crate::tile::is_outlet;
-use ascii_grid::NoMemory;
 use drainage::Code;
-use std::alloc::Global;
+use std::alloc::{AllocError, Global};
 use std::marker::Model;
 use tile_jobs::{JobFault, Work};
 
@@ -87,19 +86,15 @@ pub struct RunCounts {
 
 impl RunCounts {
     /// Counts the outlets of a run.
-    fn of_run(alloc: Global, run: &[Option<Code>]) -> Result<RunCounts, NoMemory>
+    fn of_run(alloc: Global, run: &[Option<Code>]) -> Result<RunCounts, AllocError>
         requires { length run.now < 2 ^ 32 - 1 }
         ensures { IfOk result (IsRunCounted run.now) }
     {
         let blocks = run.len().div_ceil(BLOCK);
-        let Ok(mut before) = Vec::with_capacity(alloc, blocks) else {
-            return Err(NoMemory);
-        };
+        let mut before = Vec::with_capacity(alloc, blocks)?;
         let mut total = 0;
         for block in 0..blocks {
-            if before.push(total).is_err() {
-                return Err(NoMemory);
-            }
+            before.push(total)?;
             let from = block * BLOCK;
             total = count_on(run, from, run.len().min(from + BLOCK), total);
         }
@@ -135,9 +130,7 @@ impl<'a> Work for CountRuns<'a> {
     ghost gives = { λ w job out. IsRunCounted (run_codes w.runs.now job) out };
 
     fn run(&self, alloc: Global, job: u32) -> Result<RunCounts, JobFault> {
-        let Ok(counts) = RunCounts::of_run(alloc, self.runs.codes(job)) else {
-            return Err(JobFault::Memory);
-        };
+        let counts = RunCounts::of_run(alloc, self.runs.codes(job))?;
         Ok(counts)
     }
 }

@@ -1,18 +1,18 @@
 // Where the water of the exits of all tiles ends.
-ghost use Rattle.std.specs.Prelude.{◌≡◌, ◌<◌, ◌≤◌, ℕ, length, slice_index, IfOk, IfSome, option_and_then};
+ghost use Rattle.std.specs.Prelude.{◌≡◌, ◌<◌, ◌≤◌, ℕ, length, slice_index, IfOk};
 ghost use Rattle.tiles.specs.Cutting.{IsCutting, IsWithin, tile_count};
 ghost use Rattle.drainage.specs.Following.{Directed};
 ghost use Rattle.flow.specs.Counts.{is_place};
 ghost use Rattle.flow.specs.RimNumbers.{number_count};
-ghost use Rattle.flow.specs.RimGraph.{code_in, AreFlowsOf, AreOutlets, target_by, number_or, way_out_by, rim_links_by, rim_outlet, rim_outlets_by, outlet_in, next_by, exit_by, stands_for};
+ghost use Rattle.flow.specs.RimGraph.{code_in, AreFlowsOf, AreOutlets, target_by, way_out_by, rim_link, rim_links_by, rim_outlet, rim_outlets_by, outlet_in, next_by, exit_by, stands_for};
 
 use crate::cells::{contains, next_of};
 use crate::ends::ends;
 use crate::rim::{number_count, rim_number, rim_place};
 use crate::tile::{TileFlow, is_outlet};
-use ascii_grid::{NoMemory, Place};
+use ascii_grid::Place;
 use drainage::Code;
-use std::alloc::Global;
+use std::alloc::{AllocError, Global};
 use std::marker::Model;
 use tiles::Tiling;
 
@@ -44,7 +44,7 @@ impl<'a> Outlets<'a> {
         alloc: Global,
         tiling: &Tiling,
         flows: &'a [TileFlow],
-    ) -> Result<Outlets<'a>, NoMemory>
+    ) -> Result<Outlets<'a>, AllocError>
         requires { (d : Directed) × AreFlowsOf d tiling.now flows.now }
         ensures cutting { IfOk result (λ o. o.cutting ≡ tiling.now) }
         ensures outlets { IfOk result (λ o. (d : Directed) → AreFlowsOf d tiling.now flows.now → AreOutlets d tiling.now o) }
@@ -149,12 +149,12 @@ pub(crate) fn target_of(tiling: &Tiling, flows: &[TileFlow], number: u32) -> Opt
 }
 
 // The number to which a number is linked: that of the exit over which its water leaves the next tile.
-fn link_of(tiling: &Tiling, flows: &[TileFlow], number: u32, target: Option<Place>) -> u32
+fn link_of(tiling: &Tiling, flows: &[TileFlow], number: u32) -> u32
     requires flows { (d : Directed) × AreFlowsOf d tiling.now flows.now }
-    requires within { IfSome target (IsWithin tiling.now) }
-    ensures { result ≡ number_or tiling.now number (option_and_then (λ q. way_out_by tiling.now flows.now q) target) }
+    requires number { number < number_count tiling.now }
+    ensures { result ≡ rim_link tiling.now flows.now number }
 {
-    let Some(entry) = target else {
+    let Some(entry) = target_of(tiling, flows, number) else {
         return number;
     };
     match way_out(tiling, flows, entry) {
@@ -163,24 +163,19 @@ fn link_of(tiling: &Tiling, flows: &[TileFlow], number: u32, target: Option<Plac
     }
 }
 
+#[tactic(auto, using(crate::proofs::Pushing::mapped_next))]
 pub(crate) fn rim_links(
     alloc: Global,
     tiling: &Tiling,
     flows: &[TileFlow],
-) -> Result<Vec<u32>, NoMemory>
+) -> Result<Vec<u32>, AllocError>
     requires { (d : Directed) × AreFlowsOf d tiling.now flows.now }
     ensures { IfOk result (λ v. v.items ≡ rim_links_by tiling.now flows.now) }
 {
     let count = number_count(tiling);
-    let Ok(mut links) = Vec::with_capacity(alloc, count as usize) else {
-        return Err(NoMemory);
-    };
+    let mut links = Vec::with_capacity(alloc, count as usize)?;
     for number in 0..count {
-        let target = target_of(tiling, flows, number);
-        let link = link_of(tiling, flows, number, target);
-        if links.push(link).is_err() {
-            return Err(NoMemory);
-        }
+        links.push(link_of(tiling, flows, number))?;
     }
     Ok(links)
 }
@@ -202,26 +197,22 @@ fn outlet_of(tiling: &Tiling, flows: &[TileFlow], ends: &[u32], number: u32) -> 
     exit_of(tiling, flows, entry)
 }
 
+#[tactic(auto, using(crate::proofs::Pushing::mapped_next))]
 fn rim_outlets(
     alloc: Global,
     tiling: &Tiling,
     flows: &[TileFlow],
     ends: &[u32],
-) -> Result<Vec<Option<Place>>, NoMemory>
+) -> Result<Vec<Option<Place>>, AllocError>
     requires flows { (d : Directed) × AreFlowsOf d tiling.now flows.now }
     requires size { length ends.now ≡ number_count tiling.now }
     requires inside { (i : ℕ) → i < number_count tiling.now → slice_index ends.now i < number_count tiling.now }
     ensures { IfOk result (λ v. v.items ≡ rim_outlets_by tiling.now flows.now ends.now) }
 {
     let count = number_count(tiling);
-    let Ok(mut outlets) = Vec::with_capacity(alloc, count as usize) else {
-        return Err(NoMemory);
-    };
+    let mut outlets = Vec::with_capacity(alloc, count as usize)?;
     for number in 0..count {
-        let outlet = outlet_of(tiling, flows, ends, number);
-        if outlets.push(outlet).is_err() {
-            return Err(NoMemory);
-        }
+        outlets.push(outlet_of(tiling, flows, ends, number))?;
     }
     Ok(outlets)
 }

@@ -1,22 +1,18 @@
 // Weights that are sent along links, and where the links end.
 ghost use Rattle.std.specs.Prelude.{◌≡◌, ◌≢◌, ◌+◌, ◌^◌, ◌<◌, ◌≤◌, ℕ, length, slice_index, IfOk};
-ghost use Rattle.flow.specs.Streams.{AreStreams, AreUpstream, end_of, total};
+ghost use Rattle.flow.specs.Streams.{AreStreams, AreUpstream, total};
 ghost use Rattle.flow.specs.Sending.{IsSending, AreDonorCounts, AreNone};
 
-use ascii_grid::NoMemory;
-use std::alloc::Global;
+use std::alloc::{AllocError, Global};
 
 // The count of a node that has sent.
 const SENT: u32 = u32::MAX;
 
 /// So many zeros.
-pub fn zeros(alloc: Global, len: usize) -> Result<Vec<u32>, NoMemory>
+pub fn zeros(alloc: Global, len: usize) -> Result<Vec<u32>, AllocError>
     ensures { IfOk result (λ v. AreNone len v.items) }
 {
-    let Ok(list) = vec![in alloc; 0; len] else {
-        return Err(NoMemory);
-    };
-    Ok(list)
+    vec![in alloc; 0; len]
 }
 
 // Counts how many nodes are linked to each node, itself left out.
@@ -35,7 +31,7 @@ fn count_donors(links: &[u32], counts: &mut [u32])
 }
 
 /// What comes to each node from the nodes upstream of it, of these weights.
-pub fn upstream(alloc: Global, links: &[u32], weights: &[u32]) -> Result<Vec<u32>, NoMemory>
+pub fn upstream(alloc: Global, links: &[u32], weights: &[u32]) -> Result<Vec<u32>, AllocError>
     requires streams { AreStreams links.now }
     requires few { length links.now ≤ 2 ^ 30 }
     requires same { length weights.now ≡ length links.now }

@@ -1,5 +1,5 @@
 // Flow inside one tile.
-ghost use Rattle.std.specs.Prelude.{◌≡◌, ◌<◌, length, slice_index_or, IfOk, IfSome, None, Some, if◌then◌else◌};
+ghost use Rattle.std.specs.Prelude.{◌≡◌, ◌<◌, length, slice_index_or, IfOk, IfSome, None};
 ghost use Rattle.std.specs.Option.{option_map};
 ghost use Rattle.drainage.specs.Drained.{AllFlowEnds};
 ghost use Rattle.flow.specs.TileFlow.{directed_by, IsFlow, IsTileExits, IsTileFlow, entry_in, through_in, exit_in};
@@ -12,7 +12,7 @@ use crate::ends::ends;
 use crate::streams::upstream;
 use ascii_grid::{NoMemory, Place};
 use drainage::Code;
-use std::alloc::Global;
+use std::alloc::{AllocError, Global};
 use std::marker::Model;
 use tiles::{Bounds, TileView};
 
@@ -103,7 +103,7 @@ impl TileFlow {
         ensures { result ≡ slice_index_or self.now.through index None }
     {
         if index < self.came.len() {
-            counted(self.codes[index], self.came[index])
+            where_data(self.codes[index], self.came[index])
         } else {
             None
         }
@@ -115,7 +115,7 @@ impl TileFlow {
         requires { index < length self.now.exits }
         ensures { result ≡ slice_index_or self.now.exits index None }
     {
-        placed(self.codes[index], place_at(self.bounds, self.ends[index]))
+        where_data(self.codes[index], place_at(self.bounds, self.ends[index]))
     }
 
     // The index of the exit of the cell with this index.
@@ -125,16 +125,18 @@ impl TileFlow {
         ensures value { result ≡ option_map (index_in self.now.bounds) (slice_index_or self.now.exits index None) }
         ensures below { IfSome result (λ exit. exit < length self.now.exits) }
     {
-        counted(self.codes[index], self.ends[index])
+        where_data(self.codes[index], self.ends[index])
     }
 
     // Where water that enters the tile at a place leaves it again; None where it ends in the tile.
     pub(crate) fn way_out(&self, entry: Place) -> Option<Place>
         ensures { result ≡ way_out_in self.now entry }
     {
-        match self.exit(entry) {
-            Some(exit) => unless(is_outlet(self.code(exit)), exit),
-            None => None,
+        let exit = self.exit(entry)?;
+        if is_outlet(self.code(exit)) {
+            None
+        } else {
+            Some(exit)
         }
     }
 
@@ -148,13 +150,6 @@ impl TileFlow {
             None
         }
     }
-}
-
-#[inline(always)]
-fn unless(not: bool, place: Place) -> Option<Place>
-    ensures { result ≡ if not then None else Some place }
-{
-    if not { None } else { Some(place) }
 }
 
 /// Whether a code is an outlet's.
@@ -185,7 +180,7 @@ pub fn tile_flow(alloc: Global, codes: &TileView<'_, Option<Code>>) -> Result<Ti
 pub(crate) fn tile_exits(
     alloc: Global,
     codes: &TileView<'_, Option<Code>>,
-) -> Result<TileFlow, NoMemory>
+) -> Result<TileFlow, AllocError>
     requires { AllFlowEnds (directed_by codes.now) }
     ensures { IfOk result (λ f.
         IsTileExits (directed_by codes.now) codes.now.cutting codes.now.tile f) }
@@ -203,23 +198,13 @@ pub(crate) fn tile_exits(
     })
 }
 
-/// A count where there is data.
+/// A value where there is data.
 #[inline(always)]
-pub(crate) fn counted(code: Option<Code>, count: u32) -> Option<u32>
-    ensures { result ≡ where_data code count }
+pub(crate) fn where_data<X: Drop>(code: Option<Code>, value: X) -> Option<X>
+    ensures { result ≡ where_data code value }
 {
     match code {
-        Some(_) => Some(count),
-        None => None,
-    }
-}
-
-#[inline(always)]
-fn placed(code: Option<Code>, place: Place) -> Option<Place>
-    ensures { result ≡ where_data code place }
-{
-    match code {
-        Some(_) => Some(place),
+        Some(_) => Some(value),
         None => None,
     }
 }

@@ -14,15 +14,15 @@ returns-clause-tiles g c =
     let t = c.args.tiling.now in
     let d : Directed = make_directed c.args.tiling.now.cols c.args.tiling.now.rows c.args.codes.now in
     let first = subst (λ (x : List Flow). AreFlowsOf d t x) (sym c.deref.ensures.value) c.in_ok-flows.ensures.flows in
-    let numbering : IsNumbering d c.args.tiling.now c.deref-2.result.now c.in-Ok.outlets c.in_ok-numbers.numbers = record {
+    let numbering : IsNumbering d c.args.tiling.now c.deref-2.result.now c.in_ok-outlets.outlets c.in_ok-numbers.numbers = record {
       are_flows = subst (λ (x : List Flow). AreFlowsOf d t x) (sym c.deref-2.ensures.value) c.in_ok-flows.ensures.flows;
-      are_outlets = c.in-Ok.ensures.outlets d first;
-      same_cutting = c.in-Ok.ensures.cutting;
+      are_outlets = c.in_ok-outlets.ensures.outlets d first;
+      same_cutting = c.in_ok-outlets.ensures.cutting;
       same_codes = c.in_ok-numbers.ensures.codes;
       size = c.requires.flows.size;
     } in
     IfOk-weaker c.number_tiles.result
-    (λ (v : Vec (Vec (Option ℕ) Global) Global). (e : Directed) → IsNumbering e t c.deref-2.result.now c.in-Ok.outlets c.in_ok-numbers.numbers → AreTileMapsOf e t (basin e) v.items)
+    (λ (v : Vec (Vec (Option ℕ) Global) Global). (e : Directed) → IsNumbering e t c.deref-2.result.now c.in_ok-outlets.outlets c.in_ok-numbers.numbers → AreTileMapsOf e t (basin e) v.items)
     (λ (v : Vec (Vec (Option ℕ) Global) Global). AreTileMapsOf d t (basin d) v.items)
     (λ v maps. maps d numbering)
     c.number_tiles.ensures.tiles

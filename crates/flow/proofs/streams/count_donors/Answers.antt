@@ -1,7 +1,10 @@
-use Rattle.std.proofs.Common.{◌≡◌, ℕ, ◌+◌, ◌^◌, ◌<◌, List, length, get_or, ap, ◌∙◌, arith, rules}
-use Rattle.flow.specs.Streams.{sum_below}
+use Rattle.std.proofs.Common.{ℕ, ◌+◌, ◌^◌, ◌<◌, List, get_or, cond, ap, arith, rules}
 use Rattle.flow.specs.Sending.{donor}
-use Rattle.flow.proofs.Settled.{counted_more, counted_still, counted_few}
+use Rattle.std.proofs.lemmas.Bool.{cond-false}
+use Rattle.flow.specs.Streams.{leads_to}
+use Rattle.flow.proofs.Sums.{bit_le, sum_below-few, sum_more}
+use Rattle.flow.proofs.Totals.{leads_end}
+use Rattle.flow.proofs.Waiting.{leads_test, added_at}
 use Rattle.flow.proofs.streams.count_donors.Goals as goal
 use Rattle.flow.proofs.streams.count_donors.Goals.{then-next-node, else-next-node}
 
@@ -11,22 +14,31 @@ overflow_add-counts c =
     omega (
       arith,
       c.loop-node.invariant.each (get_or c.args.links.now c.loop-node.node 0) (c.requires.streams.inside c.loop-node.node c.loop-node-test.true),
-      counted_few c.args.links.now (get_or c.args.links.now c.loop-node.node 0) c.loop-node.node,
+      sum_below-few (donor c.args.links.now (get_or c.args.links.now c.loop-node.node 0)) c.loop-node.node
+          (λ j l. bit_le (leads_to c.args.links.now j (get_or c.args.links.now c.loop-node.node 0))),
       c.requires.few,
     ) in
     search rules
-
-counts_are : (links counts new : List ℕ) (node : ℕ) → new ≡ counts → ((i : ℕ) → i < length links → get_or counts i 0 ≡ sum_below (donor links i) (node + 1)) →
-    (i : ℕ) → i < length links → get_or new i 0 ≡ sum_below (donor links i) (node + 1)
-counts_are links counts new node e h i l = ap (λ xs. get_or xs i 0) e ∙ h i l
 
 pub loop-node-preserved : goal.loop-node-preserved
 loop-node-preserved c = record {
   size = omega (arith, c.if-next-node.auto.counts, c.loop-node.invariant.size);
   each = elim c.if-next-node.branch [
-    | then-next-node w ↦ counts_are _ _ _ _ w.counts-is
-        (counted_more _ _ _ c.requires.streams c.loop-node.invariant.size c.loop-node-test.true w.if-next-node.true c.loop-node.invariant.each)
-    | else-next-node w ↦ counts_are _ _ _ _ w.counts-is
-        (counted_still _ _ _ w.if-next-node.false c.loop-node.invariant.each)
+    | then-next-node w ↦ λ i l. omega (
+      arith,
+      ap (λ (xs : List ℕ). get_or xs i 0) w.counts-is,
+      added_at c.loop-node.counts (get_or c.args.links.now c.loop-node.node 0) 1 i
+          (omega (arith, c.requires.streams.inside c.loop-node.node c.loop-node-test.true, c.loop-node.invariant.size)),
+      ap (λ b. cond {A = ℕ} b 1 0) (leads_test c.args.links.now c.loop-node.node i w.if-next-node.true),
+      c.loop-node.invariant.each i l,
+      sum_more (donor c.args.links.now i) c.loop-node.node,
+    )
+    | else-next-node w ↦ λ i l. omega (
+      arith,
+      ap (λ (xs : List ℕ). get_or xs i 0) w.counts-is,
+      cond-false {A = ℕ} _ 1 0 (leads_end c.args.links.now c.loop-node.node i w.if-next-node.false),
+      c.loop-node.invariant.each i l,
+      sum_more (donor c.args.links.now i) c.loop-node.node,
+    )
   ];
 }

@@ -14,7 +14,7 @@ bounds-came-next-in-downstream c = omega (arith, c.requires.streams.inside c.dow
 pub overflow_add-came : goal.overflow_add-came
 overflow_add-came c =
     let fits : get_or c.downstream.came c.downstream.node 0 + get_or c.args.weights.now c.downstream.node 0 < 2 ^ 32 =
-    omega (arith, came_le _ _ _ _ c.downstream.invariant.sending c.downstream.node c.downstream.invariant.inside, c.requires.fits c.downstream.node c.downstream.invariant.inside) in
+    omega (arith, came_le _ _ _ _ c.requires.streams c.downstream.invariant.sending c.downstream.node c.downstream.invariant.inside, c.requires.fits c.downstream.node c.downstream.invariant.inside) in
     search rules
 
 pub overflow_add-came-in-downstream : goal.overflow_add-came-in-downstream

@@ -10,4 +10,4 @@ tile_exits-requires c =
 
 pub returns-clause-given : goal.returns-clause-given
 returns-clause-given c =
-    exits_of_view c.args.self.now.tiling.now c.args.job c.view-view.result c.args.self.now.codes.now c.in-Ok.flow c.view-view.ensures c.in-Ok.ensures
+    exits_of_view c.args.self.now.tiling.now c.args.job c.view-view.result c.args.self.now.codes.now c.in_ok-flow.flow c.view-view.ensures c.in_ok-flow.ensures

@@ -21,5 +21,5 @@ invariant_of-result g c =
     record {
       enough = omega (arith, c.cut-cut.ensures.enough, ap length c.cut-cut.ensures.codes, ap (λ n. n * length_of) jobs);
       counted = runs_given c.cut-cut.result counts.items (λ k x below. c.in_ok-counts.ensures.given k x (omega (arith, below, jobs)));
-      sums = subst (λ (l : List RunCounts). AreSumsBefore l c.in-Ok.before.items) c.deref.ensures.value c.in-Ok.ensures;
+      sums = subst (λ (l : List RunCounts). AreSumsBefore l c.in_ok-before.before.items) c.deref.ensures.value c.in_ok-before.ensures;
     }

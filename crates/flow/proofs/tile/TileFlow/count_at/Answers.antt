@@ -15,8 +15,8 @@ returns-then-index-len c =
     let there : c.args.index < length c.self.inside.came.items = omega (arith, c.if-index-len.true, c.len.ensures, c.self.inside.came.ok.0) in
     let code = c.index.ensures ∙ get_or_default cells i c.index.result.now None below in
     let count = c.index-then-index-len.ensures ∙ get_or_default came i c.index-then-index-len.result.now 0 there in
-    subst (λ (f : Flow). c.counted.result ≡ get_or f.through c.args.index None) c.self.view_is
-    (c.counted.ensures ∙ ap (λ n. where_data c.index.result.now n) count ∙ ap (λ o. where_data o (get_or c.self.inside.came.items c.args.index 0)) code ∙ sym (through_at cells came i there))
+    subst (λ (f : Flow). c.where_data.result ≡ get_or f.through c.args.index None) c.self.view_is
+    (c.where_data.ensures ∙ ap (λ n. where_data c.index.result.now n) count ∙ ap (λ o. where_data o (get_or c.self.inside.came.items c.args.index 0)) code ∙ sym (through_at cells came i there))
 
 pub returns-else-index-len : goal.returns-else-index-len
 returns-else-index-len c =

@@ -16,6 +16,6 @@ returns c =
     let below : c.args.index < length c.self.inside.codes.items = omega (arith, c.requires, seen, exits_size b cells ends) in
     let code = c.index.ensures ∙ get_or_default cells i c.index.result.now None below in
     let end = c.index-2.ensures ∙ get_or_default ends i c.index-2.result.now 0 (omega (arith, below, c.self.invariant.ends_size)) in
-    subst (λ (f : Flow). c.placed.result ≡ get_or f.exits c.args.index None) c.self.view_is
-    (c.placed.ensures ∙ ap (λ (p : Place). where_data c.index.result.now p) (c.place_at.ensures.value ∙ ap (place_in c.self.inside.bounds) end)
+    subst (λ (f : Flow). c.where_data.result ≡ get_or f.exits c.args.index None) c.self.view_is
+    (c.where_data.ensures ∙ ap (λ (p : Place). where_data c.index.result.now p) (c.place_at.ensures.value ∙ ap (place_in c.self.inside.bounds) end)
     ∙ ap (λ o. where_data o (place_in c.self.inside.bounds (get_or c.self.inside.ends.items c.args.index 0))) code ∙ sym (exit_at b cells ends i below))

@@ -16,5 +16,5 @@ returns-clause-value c =
     let below : c.args.index < length c.self.inside.codes.items = omega (arith, c.requires, seen, exits_size b cells ends) in
     let code = c.index.ensures ∙ get_or_default cells i c.index.result.now None below in
     let end = c.index-2.ensures ∙ get_or_default ends i c.index-2.result.now 0 (omega (arith, below, c.self.invariant.ends_size)) in
-    subst (λ (f : Flow). c.counted.result ≡ option_map (index_in f.bounds) (get_or f.exits c.args.index None)) c.self.view_is
-    (c.counted.ensures ∙ ap (λ n. where_data c.index.result.now n) end ∙ ap (λ o. where_data o (get_or c.self.inside.ends.items c.args.index 0)) code ∙ exit_index_is b cells ends i below)
+    subst (λ (f : Flow). c.where_data.result ≡ option_map (index_in f.bounds) (get_or f.exits c.args.index None)) c.self.view_is
+    (c.where_data.ensures ∙ ap (λ n. where_data c.index.result.now n) end ∙ ap (λ o. where_data o (get_or c.self.inside.ends.items c.args.index 0)) code ∙ exit_index_is b cells ends i below)

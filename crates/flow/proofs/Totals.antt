@@ -1,0 +1,84 @@
+-- What holds along links, and totals.
+use Rattle.std.proofs.Common.{◌≡◌, ◌≢◌, ℕ, zero, suc, ◌+◌, ◌<◌, ◌≤◌, true, false, not, eqb, cond, inl, inr, List, length, get_or, sym, ap, subst, refl, ◌∙◌, arith}
+use Rattle.std.proofs.lemmas.Bool.{cases_eq, cases_Bool, cond-true, cond-false, and_from, and_parts, and_right, eq-eqb, ne_eqb, eqb-true, not-true, not_from_true, not_from_false, false_from_ne_true, false≢true}
+use Rattle.flow.specs.Streams.{AreStreams, total_within, total, onward, node_after, leads_to, upstream_sum}
+use Rattle.flow.proofs.Sums.{sum_below-le}
+use Rattle.flow.proofs.EarlyEnds.{IsStop, early_end}
+
+pub leads_parts : (links : List ℕ) (j i : ℕ) → leads_to links j i ≡ true → (onward links j ≡ i) × (j ≢ i)
+leads_parts links j i y = let w = and_parts _ _ y in (eqb-true _ _ w.0, λ e. false≢true (sym (not-true _ w.1) ∙ eq-eqb _ _ e))
+
+pub leads_from : (links : List ℕ) (j i : ℕ) → onward links j ≡ i → j ≢ i → leads_to links j i ≡ true
+leads_from links j i e ne = and_from _ _ (eq-eqb _ _ e) (not_from_false _ (ne_eqb _ _ ne))
+
+-- an end's water goes on to no other node, and none leads to itself
+pub leads_end : (links : List ℕ) (node i : ℕ) → onward links node ≡ node → leads_to links node i ≡ false
+leads_end links node i e = false_from_ne_true _ (λ y. (let w = leads_parts links node i y in w.1 (sym e ∙ w.0)))
+
+pub leads_self : (links : List ℕ) (i : ℕ) → leads_to links i i ≡ false
+leads_self links i = and_right _ (not (eqb i i)) (not_from_true _ (eq-eqb i i refl))
+
+module _ (links : List ℕ) (streams : AreStreams links) (P : ℕ → ℕ → Type 0) (step : (k i : ℕ) → i < length links → ((j : ℕ) → j < length links → leads_to links j i ≡ true → P k j) → P (suc k) i) where
+  -- a path of so many moves that leads to a node
+  record Chain (k i : ℕ) : Type 0 where
+    pub from : ℕ
+    pub inside : from < length links
+    pub leads : node_after links from k ≡ i
+    pub goes : (m : ℕ) → m < k → IsStop links from m → ⊥
+
+  chain_on : (k j i : ℕ) → leads_to links j i ≡ true → Chain k j → Chain (suc k) i
+  chain_on k j i on c =
+      let l = leads_parts links j i on in
+      let there : onward links (node_after links c.from k) ≡ i = ap (onward links) c.leads ∙ l.0 in
+      record {
+        from = c.from;
+        inside = c.inside;
+        leads = there;
+        goes = λ m lt stop. elim (cases_eq m k) [
+          | inl e ↦ l.1 (sym c.leads ∙ sym (subst (λ (n : ℕ). IsStop links c.from n) e stop) ∙ there)
+          | inr ne ↦ c.goes m (omega arith) stop
+        ];
+      }
+
+  by_chains : (k i : ℕ) → i < length links → (Chain k i → ⊥) → P k i
+  by_chains zero i h none = absurd (none (record { from = i; inside = h; leads = refl; goes = λ m lt _. omega arith }))
+  by_chains (suc k) i h none = step k i h (λ j l on. by_chains k j l (λ c. none (chain_on k j i on c)))
+
+  -- what holds of a node after one move more than of all whose water goes on to it holds of each after as many as there are
+  pub each_downstream : (i : ℕ) → i < length links → P (length links) i
+  each_downstream i h = by_chains (length links) i h (λ c. (let r = early_end links streams.inside c.from c.inside (length links) (streams.ends c.from c.inside) in c.goes r.0 r.1 r.2))
+
+pub sums_le : (links : List ℕ) (i : ℕ) (f g : ℕ → ℕ) → ((j : ℕ) → j < length links → leads_to links j i ≡ true → f j ≤ g j) → upstream_sum links f i ≤ upstream_sum links g i
+sums_le links i f g le =
+    sum_below-le (λ j. cond {A = ℕ} (leads_to links j i) (f j) 0) (λ j. cond {A = ℕ} (leads_to links j i) (g j) 0) (length links)
+    (λ j l. elim (cases_Bool (leads_to links j i)) [
+      | inl on ↦ omega (arith, cond-true {A = ℕ} _ (f j) 0 on, cond-true {A = ℕ} _ (g j) 0 on, le j l on)
+      | inr off ↦ omega (arith, cond-false {A = ℕ} _ (f j) 0 off, cond-false {A = ℕ} _ (g j) 0 off)
+    ])
+
+-- what is no more than its weight and what comes to it is no more than what has at least that
+pub totals_le : (links : List ℕ) → AreStreams links → (w f g : ℕ → ℕ) → ((i : ℕ) → i < length links → f i ≤ w i + upstream_sum links f i) →
+    ((i : ℕ) → i < length links → w i + upstream_sum links g i ≤ g i) → (i : ℕ) → i < length links → f i ≤ g i
+totals_le links streams w f g low high = each_downstream links streams (λ _ i. f i ≤ g i)
+    (λ _ i h before. omega (arith, low i h, high i h, sums_le links i f g before))
+
+-- each is its weight and what those have whose water goes on to it
+pub record AreTotals (links weights : List ℕ) (f : ℕ → ℕ) : Type 0 where
+  pub each : (i : ℕ) → i < length links → f i ≡ get_or weights i 0 + upstream_sum links f i
+
+pub totals_are : (links weights : List ℕ) → AreStreams links → AreTotals links weights (total links weights)
+totals_are links weights streams = record {
+  each = each_downstream links streams (λ k i. total_within links weights k i ≡ total_within links weights (suc k) i)
+      (λ k i h before. omega (
+        arith,
+        sums_le links i (total_within links weights k) (total_within links weights (suc k)) (λ j l on. omega (arith, before j l on)),
+        sums_le links i (total_within links weights (suc k)) (total_within links weights k) (λ j l on. omega (arith, before j l on)),
+      ));
+}
+
+pub total_is : (links weights : List ℕ) (f : ℕ → ℕ) → AreStreams links → AreTotals links weights f → (i : ℕ) → i < length links → total links weights i ≡ f i
+total_is links weights f streams are i h = omega (
+  arith,
+  totals_le links streams (λ j. get_or weights j 0) f (total links weights) (λ j l. omega (arith, are.each j l)) (λ j l. omega (arith, (totals_are links weights streams).each j l)) i h,
+  totals_le links streams (λ j. get_or weights j 0) (total links weights) f (λ j l. omega (arith, (totals_are links weights streams).each j l)) (λ j l. omega (arith, are.each j l)) i h,
+)
