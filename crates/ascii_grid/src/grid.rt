@@ -5,12 +5,18 @@ ghost use Rattle.ascii_grid.specs.Neighbours.{IsInside, height_at, IsEdge, HasGa
 
 use crate::place::{Height, Place};
 use crate::word::Word;
-use std::alloc::Global;
+use std::alloc::{AllocError, Global};
 use std::marker::Model;
 
-/// There was no memory for the list of cells.
+/// There was no memory for a list.
 #[derive(Clone, Copy, Debug, PartialEq, Eq)]
 pub struct NoMemory;
+
+impl From<AllocError> for NoMemory {
+    fn from(_error: AllocError) -> Self {
+        NoMemory
+    }
+}
 
 /// Where the lower left cell lies along one axis: a word for its corner or for its centre.
 #[derive(Drop)]
@@ -193,10 +199,7 @@ impl Grid {
         requires heights { All (λ c. IfSome c (λ h. Contains self.now.terrain.cells (Some h))) cells.now }
         ensures { IfOk result (λ g. g ≡ record self.now { terrain = record self.now.terrain { cells = cells.now } }) }
     {
-        match Vec::from_slice(alloc, cells) {
-            Ok(cells) => Ok(self.with_own_cells(cells)),
-            Err(_) => Err(NoMemory),
-        }
+        Ok(self.with_own_cells(Vec::from_slice(alloc, cells)?))
     }
 
     /// The same as [`Grid::with_cells`], of a list that is handed over. It takes no memory.

@@ -6,7 +6,9 @@ use Rattle.std.proofs.lemmas.List.{length-replicate, length-drop, length-take-le
 use Rattle.std.proofs.lemmas.Nat.{mul-add-lt, mul-le}
 use Rattle.ascii_grid.specs.Raster.{Terrain}
 use Rattle.ascii_grid.specs.Neighbours.{height_at}
-use Rattle.fill.specs.Cells.{Cells, Window, node_at, IsNetOf, IsBordered, first_rows, bordered_rows, row_of, whole}
+use Rattle.ascii_grid.specs.declared.place.Place.{Place}
+use Rattle.tiles.specs.declared.bounds.Bounds.{Bounds}
+use Rattle.fill.specs.Cells.{Cells, node_at, IsNetOf, IsBordered, first_rows, bordered_rows, row_of, whole}
 use Rattle.ascii_grid.proofs.Places.{same_place, entry-inside}
 use Rattle.fill.proofs.Steps.{seen, none_some, none_done}
 
@@ -100,10 +102,10 @@ length-bordered_rows row cols count h =
     omega (arith, len, joined, last)
 
 -- the rows are those of the window
-abbrev pub ShowRows : Terrain → Window → (ℕ → List (Option ℤ)) → Type 0
+abbrev pub ShowRows : Terrain → Bounds → (ℕ → List (Option ℤ)) → Type 0
 ShowRows t w row = (r c : ℕ) → r < w.rows → c < w.cols → get_or (row r) c None ≡ height_at t (record { row = w.top + r; col = w.left + c })
 
-pub net_of_rows : (t : Terrain) (w : Window) (row : ℕ → List (Option ℤ)) → AreRows row w.cols w.rows → ShowRows t w row → IsNetOf t w (record { stride = w.cols + 2; cells = bordered_rows row (w.cols + 2) w.rows })
+pub net_of_rows : (t : Terrain) (w : Bounds) (row : ℕ → List (Option ℤ)) → AreRows row w.cols w.rows → ShowRows t w row → IsNetOf t w (record { stride = w.cols + 2; cells = bordered_rows row (w.cols + 2) w.rows })
 net_of_rows t w row are show = record {
   stride = refl;
   inside = λ p h.
@@ -126,8 +128,12 @@ net_of_rows t w row are show = record {
   minus : (a b : ℕ) → (a + b) - a ≡ b
   minus a b = omega arith
 
+-- a cell of the window is above the first row of its net
+pub above_row : (w : Bounds) (p : Place) → w.cols + 2 < node_at w p
+above_row w p = omega (arith, mul-le 1 (w.cols + 2) (p.row - w.top + 1) (w.cols + 2) (omega arith) (omega arith))
+
 -- such a list is bordered
-pub bordered : (t : Terrain) (w : Window) (n : Cells) → w.rows ≤ 4096 → w.cols ≤ 4096 → IsNetOf t w n → IsBordered n
+pub bordered : (t : Terrain) (w : Bounds) (n : Cells) → w.rows ≤ 4096 → w.cols ≤ 4096 → IsNetOf t w n → IsBordered n
 bordered t w n few_rows few_cols net = record {
   narrow = omega (arith, net.stride, few_cols);
   few = omega (arith, net.size, mul-le (w.rows + 2) (w.cols + 2) 4098 4098 (omega arith) (omega arith));
@@ -135,12 +141,10 @@ bordered t w n few_rows few_cols net = record {
       let p = net.only a some in
       let stride = net.stride in
       let size = net.size in
-      let low : w.cols + 2 < node_at w p.0 = above_row (p.0.row - w.top) (p.0.col - w.left) (w.cols + 2) in
+      let low : w.cols + 2 < node_at w p.0 = above_row w p.0 in
       let room : (p.0.row - w.top + 2) * (w.cols + 2) + (p.0.col - w.left + 1 + 1) < (w.cols + 2) * (w.rows + 2) = mul-add-lt (p.0.row - w.top + 2) (w.cols + 2) (p.0.col - w.left + 1 + 1) (w.rows + 2) (omega (arith, p.1.0, p.1.1)) (omega (arith, p.1.2, p.1.3)) in
       (omega (arith, stride, low, p.2), omega (arith, stride, size, room, p.2));
-} where
-  above_row : (r c s : ℕ) → s < (r + 1) * s + (c + 1)
-  above_row r c s = omega (arith, mul-le 1 s (r + 1) s (omega arith) (omega arith))
+}
 
 -- the rows of a list in row order
 row_cell : (cols : ℕ) (xs : List (Option ℤ)) (r c : ℕ) → c < cols → get_or (row_of cols xs r) c None ≡ get_or xs (r * cols + c) None

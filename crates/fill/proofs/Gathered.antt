@@ -25,11 +25,11 @@ use Rattle.fill.specs.declared.spills.Join.{Join}
 use Rattle.fill.specs.declared.marks.Mark.{Mark}
 use Rattle.fill.proofs.Steps.{seen, none_some, none_done, at_some, at_none}
 use Rattle.fill.proofs.Heaps.{all_by_contains}
-use Rattle.fill.proofs.Windows.{data_is, no_data}
+use Rattle.fill.proofs.Windows.{data_is, no_data, height_is}
 use Rattle.fill.proofs.TileWindows.{data_within, entry_in-inside}
-use Rattle.fill.proofs.WindowLevels.{height_is}
-use Rattle.fill.proofs.Ways.{le_of, le_both}
-use Rattle.fill.proofs.Rims.{HasTileLevel, has_tile_level, level_has_data, label_has_data, label_in_tile, edge_level, edge_label, flood_there, among_is}
+use Rattle.drainage.proofs.Heights.{trans}
+use Rattle.drainage.proofs.Uniqueness.{between}
+use Rattle.fill.proofs.Rims.{HasTileLevel, has_tile_level, level_has_data, label_has_data, label_in_tile, edge_level, edge_label, list_there, among_is}
 use Rattle.fill.proofs.CellMarks.{label_within, mark_some, mark_parts, mark_outside}
 use Rattle.fill.proofs.Adding.{no_join}
 use Rattle.fill.proofs.Waits.{in_some_list, in_lists}
@@ -45,7 +45,7 @@ tile_gathered c floods tile met lowest adds low = record {
   every = λ p q j at m.
       let was = adds.every p q j at m in
       let made = low.every was.0 was.1 in
-      (made.0, made.1, made.2 ∙ was.2, made.3 ∙ was.3, le_of _ _ _ made.4 was.4);
+      (made.0, made.1, made.2 ∙ was.2, made.3 ∙ was.3, trans _ _ _ made.4 was.4);
 }
 
 -- the joins of all parts
@@ -96,7 +96,7 @@ node_below : (c : Cutting) (floods : List Flood) (p : Place) (m : Mark) → IsCu
 node_below c floods p m h fit e =
     let parts = mark_parts c.cols (level_among c floods p) (label_among c floods p) m e in
     let tile = tile_of_place c p in
-    let f = flood_there floods tile (omega (arith, fit.count, tile_of_place_below c p h (marked_within c floods p m h fit e))) in
+    let f = list_there floods tile (omega (arith, fit.count, tile_of_place_below c p h (marked_within c floods p m h fit e))) in
     let label : label_in f.0 p ≡ Some parts.0 = sym (among_is (λ f. label_in f p) floods tile f.0 f.1) ∙ parts.2 in
     let within = label_within c f.0 p parts.0 (fit.sizes tile f.0 f.1) (fit.labels tile f.0 f.1) label in
     omega (arith, index_below c.cols c.rows parts.0 within.0 within.1, parts.3)
@@ -135,7 +135,7 @@ join_back c floods joins h fit s once j there =
     let other = s.only cover.0 cover.1 in
     let again = meets_turned c floods other.0 other.1 cover.0 other.3 in
     let low = low_as c floods joins h fit s once j (turned cover.0) other.1 other.0 there again (sym cover.3) (sym cover.2) in
-    let height : cover.0.height ≡ j.height = le_both _ _ cover.4 low in
+    let height : cover.0.height ≡ j.height = between _ _ cover.4 low in
     subst (Contains joins) (same_join cover.0 (turned j) cover.2 cover.3 height) cover.1 where
       same_join : (x y : Join) → x.from ≡ y.from → x.to ≡ y.to → x.height ≡ y.height → x ≡ y
       same_join x y a b e = ap (λ n. record { from = n; to = x.to; height = x.height }) a ∙ ap (λ n. record { from = y.from; to = n; height = x.height }) b ∙ ap (λ n. record { from = y.from; to = y.to; height = n }) e

@@ -8,7 +8,6 @@ mod Noting
 mod CellWays
 mod Borders
 mod Windows
-mod WindowLevels
 mod WholeGrid
 mod TileWindows
 -- the flood of a tile
@@ -17,7 +16,6 @@ mod OneCell
 pub mod InnerCells
 mod CellMarks
 -- the spill graph
-mod Ways
 mod Adding
 mod Lowest
 mod SourceCells

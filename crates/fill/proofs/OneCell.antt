@@ -13,7 +13,8 @@ use Rattle.fill.specs.TileCells.{own_label, ShowsOneCell}
 use Rattle.fill.specs.TileFlood.{Flood, IsTileLevel, IsTileFlood, level_in, label_in}
 use Rattle.fill.proofs.Steps.{seen, from_some, from_none}
 use Rattle.fill.proofs.TileWindows.{entry_in-inside, rim_of_tile}
-use Rattle.fill.proofs.WindowLevels.{crest_high, height_is}
+use Rattle.drainage.proofs.Heights.{height_below_crest}
+use Rattle.fill.proofs.Windows.{height_is}
 
 -- The flood of a tile whose only cell has this height.
 abbrev pub CellFlood : Bounds → Option ℤ → Flood
@@ -23,7 +24,7 @@ CellFlood b level = record { bounds = b; levels = level ∷ []; labels = own_lab
 own_level : (t : Terrain) (c : Cutting) (tile : ℕ) (p : Place) (h : ℤ) → IsInTile c tile p → p.row ≡ (bounds_of c tile).top → height_at t p ≡ Some h → IsTileLevel t c p h p
 own_level t c tile p h i first e = record {
   reached = ([], inl (ap is_some e, rim_of_tile c tile p i (inl first)), height_is t p h e, refl);
-  least = λ rest path. subst (λ z. z ≤ℤ crest t p rest) (height_is t p h e) (crest_high t p rest);
+  least = λ rest path. subst (λ z. z ≤ℤ crest t p rest) (height_is t p h e) (height_below_crest t p rest);
   own = λ source height. refl;
 }
 

@@ -10,18 +10,17 @@ use Rattle.ascii_grid.specs.Neighbours.{height_at, index_of}
 use Rattle.drainage.specs.Filled.{crest, IsFilledHeight, IsFilled}
 use Rattle.ascii_grid.specs.declared.place.Place.{Place}
 use Rattle.ascii_grid.proofs.Places.{entry-inside, inside_from_entry, make_place}
+use Rattle.drainage.proofs.Heights.{height_below_crest}
 use Rattle.tiles.specs.declared.bounds.Bounds.{Bounds}
 use Rattle.tiles.specs.Cutting.{Cutting, IsCutting, IsInBounds, across, bounds_of, tile_count, tile_entry, tile_of_place}
 use Rattle.tiles.proofs.Cut.{in_bounds, in_tile, tile_of_place_below}
 use Rattle.tiles.proofs.TileOrder.{tile_entry-in}
-use Rattle.fill.specs.Cells.{window_of}
 use Rattle.fill.specs.TileFlood.{Flood, IsTileSource, level_in, label_in}
 use Rattle.fill.specs.Spills.{AreFloods, level_among, AreSpillLevels, spill_of, greater_of, raised_by, AreGreater, IsRaised, RaisesToFilled, HasNoInnerCell, IsFilledTile}
 use Rattle.fill.specs.Labels.{labels_by, IsTable}
 use Rattle.fill.proofs.Steps.{seen, at_some, at_none, from_some, from_none}
 use Rattle.fill.proofs.TileWindows.{entry_in-inside, entry_index, data_within, rim_of_tile, rim_of_window}
-use Rattle.fill.proofs.Windows.{cases_rim, data_is}
-use Rattle.fill.proofs.WindowLevels.{crest_high, height_is}
+use Rattle.fill.proofs.Windows.{cases_rim, data_is, height_is}
 use Rattle.fill.proofs.Rims.{has_tile_level, among_is, edge_level, rims}
 
 -- The first cells have the greater of their levels and their labels'.
@@ -98,7 +97,7 @@ own_raises t c floods levels are alone filled p some =
     ∙ ap (λ n. get_or levels (index_of n p) None) are.cuts.0
     ∙ sym (entry-inside t.cols t.rows levels p inside.0 inside.1)
     ∙ here.1 in
-    let low : l.level ≤ℤ here.0 = subst (λ z. l.level ≤ℤ z) here.2.reached.2 (subst (λ z. z ≤ℤ crest t p here.2.reached.0) (sym level) (crest_high t p here.2.reached.0)) in
+    let low : l.level ≤ℤ here.0 = subst (λ z. l.level ≤ℤ z) here.2.reached.2 (subst (λ z. z ≤ℤ crest t p here.2.reached.0) (sym level) (height_below_crest t p here.2.reached.0)) in
     (int_max l.level here.0, raised_from c levels _ _ l.level here.0 l.label l.level_is l.label_is entry, subst (IsFilledHeight t p) (sym (max_is l.level here.0 low)) here.2)
   where
     max_is : (a b : ℤ) → a ≤ℤ b → int_max a b ≡ b
@@ -119,7 +118,7 @@ cols_least c tile = omega (arith, (first_at c).1)
 pub no_inner : (c : Cutting) → IsCutting c → ((bounds_of c 0).rows ≤ 2) ⊎ ((bounds_of c 0).cols ≤ 2) → HasNoInnerCell c
 no_inner c h few p within =
     let tile = tile_of_place c p in
-    elim (cases_rim (window_of (bounds_of c tile)) p (in_bounds c tile p h (within, refl))) [
+    elim (cases_rim (bounds_of c tile) p (in_bounds c tile p h (within, refl))) [
       | inl rim ↦ rim_of_tile c tile p (within, refl) rim
       | inr inner ↦ elim few [
         | inl rows ↦ absurd (omega (arith, rows, inner, rows_least c tile))

@@ -8,7 +8,8 @@ use Rattle.std.proofs.lemmas.Slice.{between_is}
 use Rattle.ascii_grid.specs.Raster.{Terrain}
 use Rattle.ascii_grid.specs.Neighbours.{height_at, IsDataCell}
 use Rattle.ascii_grid.specs.declared.place.Place.{Place}
-use Rattle.ascii_grid.proofs.Places.{same_place, entry-inside, inside_from_entry}
+use Rattle.ascii_grid.proofs.Places.{same_place, entry-inside}
+use Rattle.drainage.proofs.Reach.{data_inside}
 use Rattle.tiles.specs.declared.bounds.Bounds.{Bounds}
 use Rattle.tiles.specs.Cutting.{Cutting, IsCutting, View, IsView, AreBounds, IsInBounds, IsInTile, IsWithin, tile_count, bounds_of, is_on_rim, is_first_or_last, row_shown, terrain_of}
 use Rattle.tiles.proofs.Cut.{in_bounds, in_tile, bounds_inside}
@@ -17,12 +18,11 @@ use Rattle.fill.specs.Walk.{IsFlooded, IsWalk, end_of}
 use Rattle.fill.specs.declared.net.Spill.{Spill}
 use Rattle.fill.specs.CellJoins.{join_inside}
 use Rattle.fill.specs.Labels.{label_of_node, AreNodesBelow}
-use Rattle.fill.specs.Cells.{Cells, node_at, IsNetOf, IsCellJoin, source_of, bordered_rows, inner_rows, place_of_node, window_of}
+use Rattle.fill.specs.Cells.{Cells, node_at, IsNetOf, IsCellJoin, source_of, bordered_rows, inner_rows, place_of_node}
 use Rattle.fill.specs.TileFlood.{IsTileSource, IsTilePath, IsTileLevel, Flood, is_in_bounds, entry_in, IsFlood, IsTileFlood}
 use Rattle.fill.proofs.Steps.{seen, none_some, at_some, at_none, from_some, from_none}
 use Rattle.fill.proofs.Borders.{AreRows, ShowRows, net_of_rows}
-use Rattle.fill.proofs.Windows.{IsOnRim, IsWindowSource, IsWindowPath, data_is}
-use Rattle.fill.proofs.WindowLevels.{IsWindowLevel, window_level, window_none}
+use Rattle.fill.proofs.Windows.{IsOnRim, IsWindowSource, IsWindowPath, IsWindowLevel, window_level, window_none}
 use Rattle.fill.proofs.WholeGrid.{inner_rows_at, length-inner_rows}
 
 -- places in bounds, and what lists in their row order have there
@@ -57,31 +57,31 @@ row_shown_length v is r below =
     ap length (between_is v.cells from (from + b.cols)) ∙ length-drop from (take (from + b.cols) v.cells)
     ∙ ap (λ n. n - from) (length-take-le (from + b.cols) v.cells (omega (arith, end, is.size))) ∙ omega arith
 
-row_shown_cells : (v : View (Option ℤ)) → IsView v → ShowRows (terrain_of v) (window_of (bounds_of v.cutting v.tile)) (row_shown v)
+row_shown_cells : (v : View (Option ℤ)) → IsView v → ShowRows (terrain_of v) (bounds_of v.cutting v.tile) (row_shown v)
 row_shown_cells v is r c below inside =
     let b = bounds_of v.cutting v.tile in
     let all = bounds_inside v.cutting v.tile is.cutting is.tile in
     get_or-row_shown v r c None inside
     ∙ sym (entry-inside v.cutting.cols v.cutting.rows v.cells (record { row = b.top + r; col = b.left + c }) (omega (arith, below, all.rows_inside)) (omega (arith, inside, all.cols_inside)))
 
-pub net_of_view : (v : View (Option ℤ)) (b : Bounds) (items : List (Option ℤ)) → IsView v → b ≡ bounds_of v.cutting v.tile → items ≡ bordered_rows (row_shown v) ((bounds_of v.cutting v.tile).cols + 2) (bounds_of v.cutting v.tile).rows → IsNetOf (terrain_of v) (window_of (bounds_of v.cutting v.tile)) (record { stride = b.cols + 2; cells = items })
-net_of_view v b items is same are = rw (same, are) (net_of_rows (terrain_of v) (window_of (bounds_of v.cutting v.tile)) (row_shown v) (row_shown_length v is) (row_shown_cells v is))
+pub net_of_view : (v : View (Option ℤ)) (b : Bounds) (items : List (Option ℤ)) → IsView v → b ≡ bounds_of v.cutting v.tile → items ≡ bordered_rows (row_shown v) ((bounds_of v.cutting v.tile).cols + 2) (bounds_of v.cutting v.tile).rows → IsNetOf (terrain_of v) (bounds_of v.cutting v.tile) (record { stride = b.cols + 2; cells = items })
+net_of_view v b items is same are = rw (same, are) (net_of_rows (terrain_of v) (bounds_of v.cutting v.tile) (row_shown v) (row_shown_length v is) (row_shown_cells v is))
 
 -- sources and paths of a tile
-pub rim_of_tile : (c : Cutting) (tile : ℕ) (p : Place) → IsInTile c tile p → IsOnRim (window_of (bounds_of c tile)) p → is_on_rim c p ≡ true
+pub rim_of_tile : (c : Cutting) (tile : ℕ) (p : Place) → IsInTile c tile p → IsOnRim (bounds_of c tile) p → is_on_rim c p ≡ true
 rim_of_tile c tile p i rim = subst (λ n. is_first_or_last (bounds_of c n) p ≡ true) (sym i.1) (at rim) where
   b : Bounds
   b = bounds_of c tile
 
-  at : IsOnRim (window_of b) p → is_first_or_last b p ≡ true
+  at : IsOnRim b p → is_first_or_last b p ≡ true
   at (inl e) = or_left _ _ (or_left _ _ (or_left _ _ (eq-eqb _ _ e)))
   at (inr (inl e)) = or_left _ _ (or_left _ _ (or_right _ _ (eq-eqb _ _ e)))
   at (inr (inr (inl e))) = or_left _ _ (or_right _ _ (eq-eqb _ _ e))
   at (inr (inr (inr e))) = or_right _ _ (eq-eqb _ _ e)
 
-pub rim_of_window : (c : Cutting) (tile : ℕ) (p : Place) → IsInTile c tile p → is_on_rim c p ≡ true → IsOnRim (window_of (bounds_of c tile)) p
+pub rim_of_window : (c : Cutting) (tile : ℕ) (p : Place) → IsInTile c tile p → is_on_rim c p ≡ true → IsOnRim (bounds_of c tile) p
 rim_of_window c tile p i e = at (subst (λ n. is_first_or_last (bounds_of c n) p ≡ true) i.1 e) where
-  at : is_first_or_last (bounds_of c tile) p ≡ true → IsOnRim (window_of (bounds_of c tile)) p
+  at : is_first_or_last (bounds_of c tile) p ≡ true → IsOnRim (bounds_of c tile) p
   at e = elim (or_cases _ _ e) [
     | inr last ↦ inr (inr (inr (eqb-true _ _ last)))
     | inl three ↦ elim (or_cases _ _ three) [
@@ -93,31 +93,31 @@ rim_of_window c tile p i e = at (subst (λ n. is_first_or_last (bounds_of c n) p
     ]
   ]
 
-tile_source : (t : Terrain) (c : Cutting) (tile : ℕ) (p : Place) → IsInTile c tile p → IsWindowSource t (window_of (bounds_of c tile)) p → IsTileSource t c p
+tile_source : (t : Terrain) (c : Cutting) (tile : ℕ) (p : Place) → IsInTile c tile p → IsWindowSource t (bounds_of c tile) p → IsTileSource t c p
 tile_source t c tile p i source = elim source.1 [ inl rim ↦ inl (source.0, rim_of_tile c tile p i rim) | inr gap ↦ inr (source.0, gap) ]
 
-window_source : (t : Terrain) (c : Cutting) (tile : ℕ) (p : Place) → IsInTile c tile p → IsTileSource t c p → IsWindowSource t (window_of (bounds_of c tile)) p
+window_source : (t : Terrain) (c : Cutting) (tile : ℕ) (p : Place) → IsInTile c tile p → IsTileSource t c p → IsWindowSource t (bounds_of c tile) p
 window_source t c tile p i (inl rim) = (rim.0, inl (rim_of_window c tile p i rim.1))
 window_source t c tile p i (inr edge) = (edge.0, inr edge.1)
 
 pub data_within : (t : Terrain) (c : Cutting) (p : Place) → (c.cols ≡ t.cols) × (c.rows ≡ t.rows) → IsDataCell t p → IsWithin c p
 data_within t c p cuts some =
-    let inside = inside_from_entry t.cols t.rows t.cells p (data_is (height_at t p) some).0 (data_is (height_at t p) some).1 in
+    let inside = data_inside t p some in
     (omega (arith, inside, cuts), omega (arith, inside, cuts))
 
-tile_path : (t : Terrain) (c : Cutting) (tile : ℕ) → IsCutting c → tile < tile_count c → (p : Place) (rest : List Place) → IsInTile c tile p → IsWindowPath t (window_of (bounds_of c tile)) p rest → IsTilePath t c p rest
+pub tile_path : (t : Terrain) (c : Cutting) (tile : ℕ) → IsCutting c → tile < tile_count c → (p : Place) (rest : List Place) → IsInTile c tile p → IsWindowPath t (bounds_of c tile) p rest → IsTilePath t c p rest
 tile_path t c tile h l p [] i path = tile_source t c tile p i path
 tile_path t c tile h l p (q ∷ rest) i path =
     let j = in_tile c tile q h l path.1 in
     (path.0, j.1 ∙ sym i.1, tile_path t c tile h l q rest j path.2)
 
-window_path : (t : Terrain) (c : Cutting) (tile : ℕ) → IsCutting c → (c.cols ≡ t.cols) × (c.rows ≡ t.rows) → (p : Place) (rest : List Place) → IsInTile c tile p → IsTilePath t c p rest → IsWindowPath t (window_of (bounds_of c tile)) p rest
+window_path : (t : Terrain) (c : Cutting) (tile : ℕ) → IsCutting c → (c.cols ≡ t.cols) × (c.rows ≡ t.rows) → (p : Place) (rest : List Place) → IsInTile c tile p → IsTilePath t c p rest → IsWindowPath t (bounds_of c tile) p rest
 window_path t c tile h cuts p [] i path = window_source t c tile p i path
 window_path t c tile h cuts p (q ∷ rest) i path =
     let j : IsInTile c tile q = (data_within t c q cuts path.0.to_data, path.1 ∙ i.1) in
     (path.0, in_bounds c tile q h j, window_path t c tile h cuts q rest j path.2)
 
-tile_level : (t : Terrain) (c : Cutting) (tile : ℕ) → IsCutting c → tile < tile_count c → (c.cols ≡ t.cols) × (c.rows ≡ t.rows) → (p label : Place) (level : ℤ) → IsInTile c tile p → IsWindowLevel t (window_of (bounds_of c tile)) p level label → IsTileLevel t c p level label
+tile_level : (t : Terrain) (c : Cutting) (tile : ℕ) → IsCutting c → tile < tile_count c → (c.cols ≡ t.cols) × (c.rows ≡ t.rows) → (p label : Place) (level : ℤ) → IsInTile c tile p → IsWindowLevel t (bounds_of c tile) p level label → IsTileLevel t c p level label
 tile_level t c tile h l cuts p label level i w = record {
   reached = (w.reached.0, tile_path t c tile h l p w.reached.0 i w.reached.1, w.reached.2, w.reached.3);
   least = λ rest path. w.least rest (window_path t c tile h cuts p rest i path);
@@ -125,7 +125,7 @@ tile_level t c tile h l cuts p label level i w = record {
 }
 
 -- a node's place
-place_back : (b : Bounds) (p : Place) → IsInBounds b p → place_of_node b.top b.left b.cols (node_at (window_of b) p) ≡ p
+place_back : (b : Bounds) (p : Place) → IsInBounds b p → place_of_node b.top b.left b.cols (node_at b p) ≡ p
 place_back b p i =
     let col : p.col - b.left + 1 < b.cols + 2 = omega (arith, i) in
     same_place _ p
@@ -133,7 +133,7 @@ place_back b p i =
     (ap (λ n. b.left + n - 1) (mod-mul-add (p.row - b.top + 1) (b.cols + 2) (p.col - b.left + 1) col) ∙ omega (arith, i))
 
 -- what the lists of a tile have at a place, in those of its net
-inner_entry : {X : Type 0} (b : Bounds) (list : List (Option X)) (p : Place) → length list ≡ (b.rows + 2) * (b.cols + 2) → IsInBounds b p → entry_in b (inner_rows list b.cols b.rows) p ≡ get_or list (node_at (window_of b) p) None
+inner_entry : {X : Type 0} (b : Bounds) (list : List (Option X)) (p : Place) → length list ≡ (b.rows + 2) * (b.cols + 2) → IsInBounds b p → entry_in b (inner_rows list b.cols b.rows) p ≡ get_or list (node_at b p) None
 inner_entry b list p size i =
     entry_in-inside b (inner_rows list b.cols b.rows) p i
     ∙ inner_rows_at list b.cols b.rows (omega (arith, size)) (p.row - b.top) (p.col - b.left) (omega (arith, i)) (omega (arith, i))
@@ -160,10 +160,9 @@ flood_lists_sound c b levels labels h all a d = record {
   labels_size = length-map (inner_rows labels b.cols b.rows) (label_of_node b) ∙ length-inner_rows labels b.cols b.rows (omega (arith, d));
 }
 
-pub tile_flooded : (t : Terrain) (c : Cutting) (tile : ℕ) (n : Cells) (levels : List (Option ℤ)) (labels : List (Option ℕ)) → IsCutting c → tile < tile_count c → (c.cols ≡ t.cols) × (c.rows ≡ t.rows) → IsNetOf t (window_of (bounds_of c tile)) n → IsFlooded (IsCellJoin n) (source_of n) (length n.cells) levels labels → IsTileFlood t c tile (FloodLists (bounds_of c tile) levels labels)
+pub tile_flooded : (t : Terrain) (c : Cutting) (tile : ℕ) (n : Cells) (levels : List (Option ℤ)) (labels : List (Option ℕ)) → IsCutting c → tile < tile_count c → (c.cols ≡ t.cols) × (c.rows ≡ t.rows) → IsNetOf t (bounds_of c tile) n → IsFlooded (IsCellJoin n) (source_of n) (length n.cells) levels labels → IsTileFlood t c tile (FloodLists (bounds_of c tile) levels labels)
 tile_flooded t c tile n levels labels h l cuts net flooded =
     let b = bounds_of c tile in
-    let w = window_of b in
     let size : length levels ≡ (b.rows + 2) * (b.cols + 2) = flooded.levels_size ∙ net.size in
     let labels_long : length labels ≡ (b.rows + 2) * (b.cols + 2) = flooded.labels_size ∙ net.size in
     let sound = flood_lists_sound c b levels labels h (bounds_inside c tile h l) size labels_long in
@@ -178,10 +177,10 @@ tile_flooded t c tile n levels labels h l cuts net flooded =
           let label = mapped_entry b (inner_rows labels b.cols b.rows) p (length-inner_rows labels b.cols b.rows (omega (arith, labels_long))) inside ∙ ap (label_of_node b) node in
           elim (seen (height_at t p)) [
             | inl none ↦
-                let both = window_none t w n levels labels net flooded p inside none (omega (arith, net.size, mul-add-lt (p.row - b.top + 1) (b.cols + 2) (p.col - b.left + 1) (b.rows + 2) (omega (arith, inside)) (omega (arith, inside)))) in
+                let both = window_none t b n levels labels net flooded p inside none (omega (arith, net.size, mul-add-lt (p.row - b.top + 1) (b.cols + 2) (p.col - b.left + 1) (b.rows + 2) (omega (arith, inside)) (omega (arith, inside)))) in
                 from_none (height_at t p) _ _ none (level ∙ both.0, label ∙ ap (label_of_node b) both.1)
             | inr found ↦
-                let here = window_level t w n levels labels net flooded p inside (ap is_some found.1) in
+                let here = window_level t b n levels labels net flooded p inside (ap is_some found.1) in
                 from_some (height_at t p) _ _ found.0 found.1 (
                   here.level,
                   here.label,
@@ -192,7 +191,7 @@ tile_flooded t c tile n levels labels h l cuts net flooded =
           ];
     }
 
-pub tile_flood_is : (t : Terrain) (c : Cutting) (tile : ℕ) (n : Cells) (b : Bounds) (levels levels_in : List (Option ℤ)) (labels : List (Option ℕ)) (labels_in : List (Option Place)) → IsCutting c → tile < tile_count c → (c.cols ≡ t.cols) × (c.rows ≡ t.rows) → IsNetOf t (window_of (bounds_of c tile)) n → IsFlooded (IsCellJoin n) (source_of n) (length n.cells) levels labels → b ≡ bounds_of c tile → levels_in ≡ inner_rows levels b.cols b.rows → labels_in ≡ map (label_of_node b) (inner_rows labels b.cols b.rows) → IsTileFlood t c tile (record { bounds = b; levels = levels_in; labels = labels_in }) × IsFlood (record { bounds = b; levels = levels_in; labels = labels_in })
+pub tile_flood_is : (t : Terrain) (c : Cutting) (tile : ℕ) (n : Cells) (b : Bounds) (levels levels_in : List (Option ℤ)) (labels : List (Option ℕ)) (labels_in : List (Option Place)) → IsCutting c → tile < tile_count c → (c.cols ≡ t.cols) × (c.rows ≡ t.rows) → IsNetOf t (bounds_of c tile) n → IsFlooded (IsCellJoin n) (source_of n) (length n.cells) levels labels → b ≡ bounds_of c tile → levels_in ≡ inner_rows levels b.cols b.rows → labels_in ≡ map (label_of_node b) (inner_rows labels b.cols b.rows) → IsTileFlood t c tile (record { bounds = b; levels = levels_in; labels = labels_in }) × IsFlood (record { bounds = b; levels = levels_in; labels = labels_in })
 tile_flood_is t c tile n b levels levels_in labels labels_in h l cuts net flooded same x y =
     rw (y, x, same) (
       tile_flooded t c tile n levels labels h l cuts net flooded,

@@ -1,28 +1,25 @@
 -- The tiles together give the filled grid.
-use Rattle.std.proofs.Common.{◌≡◌, ℕ, zero, suc, ◌*◌, ◌/◌, ◌%◌, ◌<◌, ◌⊎◌, inl, inr, ℤ, ◌≤ℤ◌, List, [], ◌∷◌, length, get_or, Option, None, Some, IsNone, is_some, IfSome, Vec, Global, ◌∙◌, sym, ap, subst, refl, arith, mul_comm}
+use Rattle.std.proofs.Common.{◌≡◌, ℕ, zero, suc, ◌*◌, ◌/◌, ◌%◌, ◌<◌, ◌⊎◌, inl, inr, ℤ, List, length, get_or, Option, None, Some, IfSome, Vec, Global, ◌∙◌, sym, ap, subst, refl, arith, mul_comm}
 use Rattle.std.specs.Prelude.{slice_get}
-use Rattle.std.specs.Int.{int_max}
 use Rattle.std.specs.List.{Contains, All}
-use Rattle.std.proofs.lemmas.Option.{get_or_from_slice_get, slice_get_within, slice_get_cases, same_Some}
-use Rattle.std.proofs.lemmas.List.Elements.{All-from_get_or, Contains-get_or}
+use Rattle.std.proofs.lemmas.Option.{get_or_from_slice_get, slice_get_within, same_Some}
+use Rattle.std.proofs.lemmas.List.Elements.{All-from_get_or}
 use Rattle.std.proofs.lemmas.Nat.{div-add-mod', mod_below, div_below}
 use Rattle.ascii_grid.specs.Raster.{Raster, Terrain}
-use Rattle.ascii_grid.specs.Neighbours.{height_at, entry_at, index_of, IsInside, IsDataCell, IsEdge, height_of}
-use Rattle.drainage.specs.Filled.{IsPath, crest, IsFilledHeight, IsFilled, IsFilledGrid, IsOwnFilled}
+use Rattle.ascii_grid.specs.Neighbours.{height_at, entry_at, IsInside}
+use Rattle.drainage.specs.Filled.{IsFilled, IsFilledGrid, IsOwnFilled}
 use Rattle.ascii_grid.specs.declared.place.Place.{Place}
-use Rattle.ascii_grid.proofs.Places.{entry-inside, inside_from_entry}
+use Rattle.ascii_grid.proofs.Places.{entry-inside}
 use Rattle.tiles.specs.Cutting.{Cutting, IsCutting, Cuts, View, terrain_of, tile_count, tile_of_place, IsPutBack, AreTileLists, tile_entry}
 use Rattle.tiles.proofs.Cut.{tile_of_place_below}
 use Rattle.tiles.proofs.PutBack.{entry_at-put_back}
 use Rattle.fill.specs.TileFlood.{Flood, IsTileFlood}
 use Rattle.fill.specs.Spills.{AreFloods, IsFilledTile, AreFilledTiles}
-use Rattle.fill.specs.CellJoins.{some_inside}
-use Rattle.std.proofs.lemmas.Bool.{cases_Bool, cond-true, cond-false}
-use Rattle.std.specs.Prelude.{int_lt, Result, Ok, Err, IfOk}
-use Rattle.fill.proofs.Steps.{seen, none_some, none_done, at_some, at_none, from_some, from_none}
-use Rattle.fill.proofs.Windows.{data_is, no_data}
-use Rattle.fill.proofs.WindowLevels.{height_is, crest_high}
-use Rattle.fill.proofs.Ways.{le_of, le_both, le_same, le_max_right, max_le}
+use Rattle.drainage.proofs.Heights.{filled_height_stands}
+use Rattle.drainage.proofs.FilledTwice.{filled_twice}
+use Rattle.std.specs.Prelude.{Result, Ok, Err, IfOk}
+use Rattle.fill.proofs.Steps.{seen, none_some, at_some, at_none, from_some, from_none}
+use Rattle.fill.proofs.Rims.{list_there}
 
 -- the flood of a view is that of its terrain
 same_terrain : (t : Terrain) (c : Cutting) → Cuts c t → record { cols = c.cols; rows = c.rows; cells = t.cells } ≡ t
@@ -51,12 +48,6 @@ tiles_given t c outs count given = record {
 pub tile_lists : (t : Terrain) (c : Cutting) (lists : List (Vec (Option ℤ) Global)) → AreFilledTiles t c lists → AreTileLists c lists
 tile_lists t c lists are = record { count = are.count; each = λ tile list e. (are.each tile list e).size }
 
-list_there : {X : Type 0} (xs : List X) (i : ℕ) → i < length xs → (x : X) × (slice_get xs i ≡ Some x)
-list_there xs i below = elim (slice_get_cases xs i).1 [
-  | inl found ↦ (found.0, found.2)
-  | inr past ↦ absurd (omega (arith, past.0))
-]
-
 -- what is put back has the filled heights
 pub filled_put_back : (t : Terrain) (c : Cutting) (lists : List (Vec (Option ℤ) Global)) (whole : List (Option ℤ)) → IsCutting c → Cuts c t → AreFilledTiles t c lists → IsPutBack c lists whole → IsFilled t whole
 filled_put_back t c lists whole h cuts are put = record {
@@ -76,27 +67,7 @@ filled_put_back t c lists whole h cuts are put = record {
       ];
 }
 
--- the crest of a path is a height of the terrain
-stands : (t : Terrain) (p : Place) (h : ℤ) → height_at t p ≡ Some h → Contains t.cells (Some h)
-stands t p h e =
-    let inside = inside_from_entry t.cols t.rows t.cells p h e in
-    let here : get_or t.cells (index_of t.cols p) None ≡ Some h = sym (entry-inside t.cols t.rows t.cells p inside.0 inside.1) ∙ e in
-    subst (Contains t.cells) here (Contains-get_or t.cells (index_of t.cols p) None (below here)) where
-      below : get_or t.cells (index_of t.cols p) None ≡ Some h → index_of t.cols p < length t.cells
-      below here = some_inside t.cells (index_of t.cols p) h here
-
-max_cases : (a b : ℤ) → (int_max a b ≡ a) ⊎ (int_max a b ≡ b)
-max_cases a b = elim (cases_Bool (int_lt b a)) [ inl yes_less ↦ inl (cond-true _ _ _ yes_less) | inr not_less ↦ inr (cond-false _ _ _ not_less) ]
-
-crest_stands : (t : Terrain) (p : Place) (rest : List Place) → IsPath t p rest → Contains t.cells (Some (crest t p rest))
-crest_stands t p [] path = let h = data_is (height_at t p) path.0 in subst (λ z. Contains t.cells (Some z)) (sym (height_is t p h.0 h.1)) (stands t p h.0 h.1)
-crest_stands t p (q ∷ rest) path =
-    let h = data_is (height_at t p) path.0.from_data in
-    elim (max_cases (height_of t p) (crest t q rest)) [
-      | inl own ↦ subst (λ z. Contains t.cells (Some z)) (sym (own ∙ height_is t p h.0 h.1)) (stands t p h.0 h.1)
-      | inr later ↦ subst (λ z. Contains t.cells (Some z)) (sym later) (crest_stands t q rest path.1)
-    ]
-
+-- each filled height is a height of the terrain
 pub filled_stand : (t : Terrain) (levels : List (Option ℤ)) → IsFilled t levels → All (λ c. IfSome c (λ h. Contains t.cells (Some h))) levels
 filled_stand t levels filled = All-from_get_or (λ c. IfSome c (λ h. Contains t.cells (Some h))) levels None (λ i below. each i below (seen (get_or levels i None))) where
   positive : (a b k : ℕ) → k < a * b → 0 < a
@@ -116,78 +87,11 @@ filled_stand t levels filled = All-from_get_or (λ c. IfSome c (λ h. Contains t
         | inr height ↦
             let level = at_some (height_at t p) _ _ height.0 height.1 (filled.each p inside) in
             let same = same_Some level.0 found.0 (sym level.1 ∙ entry) in
-            subst (λ z. Contains t.cells (Some z)) (level.2.reached.2 ∙ same) (crest_stands t p level.2.reached.0 level.2.reached.1)
+            subst (λ z. Contains t.cells (Some z)) same (filled_height_stands t p level.0 level.2)
       ])
 
--- the filled heights of filled heights are their own
-abbrev pub filled_terrain : Terrain → List (Option ℤ) → Terrain
-filled_terrain t levels = record { cols = t.cols; rows = t.rows; cells = levels }
-
-has_filled : (t : Terrain) (levels : List (Option ℤ)) → IsFilled t levels → (p : Place) → IsDataCell t p → (level : ℤ) × (height_at (filled_terrain t levels) p ≡ Some level) × IsFilledHeight t p level
-has_filled t levels filled p some =
-    let h = data_is (height_at t p) some in
-    let inside = inside_from_entry t.cols t.rows t.cells p h.0 h.1 in
-    let here = at_some (height_at t p) _ _ h.0 h.1 (filled.each p inside) in
-    (here.0, here.1, here.2)
-
-data_back : (t : Terrain) (levels : List (Option ℤ)) → IsFilled t levels → (p : Place) → IsDataCell (filled_terrain t levels) p → IsDataCell t p
-data_back t levels filled p some =
-    let l = data_is (height_at (filled_terrain t levels) p) some in
-    let inside = inside_from_entry t.cols t.rows levels p l.0 l.1 in
-    elim (seen (height_at t p)) [
-      | inr found ↦ ap is_some found.1
-      | inl none ↦ none_some (height_at (filled_terrain t levels) p) l.0 (at_none (height_at t p) _ _ none (filled.each p inside)) l.1
-    ]
-
-none_filled : (t : Terrain) (levels : List (Option ℤ)) → IsFilled t levels → (p : Place) → IsNone (height_at t p) → IsNone (height_at (filled_terrain t levels) p)
-none_filled t levels filled p none = elim (seen (height_at (filled_terrain t levels) p)) [
-  | inl fine ↦ ap is_some fine
-  | inr found ↦ none_done (height_at t p) (no_data _ none) (data_back t levels filled p (ap is_some found.1))
-]
-
-filled_edge : (t : Terrain) (levels : List (Option ℤ)) → IsFilled t levels → (p : Place) → IsEdge t p → IsEdge (filled_terrain t levels) p
-filled_edge t levels filled p edge = (
-  ap is_some (has_filled t levels filled p edge.0).1,
-  elim edge.1 [
-    | inl north ↦ inl north
-    | inr other ↦ elim other [ inl west ↦ inr (inl west) | inr gap ↦ inr (inr (gap.0, gap.1, none_filled t levels filled gap.0 gap.2)) ]
-  ],
-)
-
-filled_path : (t : Terrain) (levels : List (Option ℤ)) → IsFilled t levels → (p : Place) (rest : List Place) → IsPath t p rest → IsPath (filled_terrain t levels) p rest × (crest (filled_terrain t levels) p rest ≤ℤ crest t p rest)
-filled_path t levels filled p [] path =
-    let l = has_filled t levels filled p path.0 in
-    (filled_edge t levels filled p path, le_of _ _ _ (le_same _ _ (height_is (filled_terrain t levels) p l.0 l.1)) (l.2.least [] path))
-filled_path t levels filled p (q ∷ rest) path =
-    let l = has_filled t levels filled p path.0.from_data in
-    let k = has_filled t levels filled q path.0.to_data in
-    let further = filled_path t levels filled q rest path.1 in (
-      (record { different = path.0.different; touches = path.0.touches; from_data = ap is_some l.1; to_data = ap is_some k.1 }, further.0),
-      max_le _ _ _ (le_of _ _ _ (le_same _ _ (height_is (filled_terrain t levels) p l.0 l.1)) (l.2.least (q ∷ rest) path)) (le_of _ _ _ further.1 (le_max_right (height_of t p) (crest t q rest))),
-    )
-
-pub own_filled : (t : Terrain) (levels : List (Option ℤ)) → IsFilled t levels → IsFilled (filled_terrain t levels) levels
-own_filled t levels filled = record {
-  size = filled.size;
-  each = λ p inside. elim (seen (height_at (filled_terrain t levels) p)) [
-    | inl none ↦ from_none (height_at (filled_terrain t levels) p) _ _ none none
-    | inr found ↦
-        let l = has_filled t levels filled p (data_back t levels filled p (ap is_some found.1)) in
-        let path = filled_path t levels filled p l.2.reached.0 l.2.reached.1 in
-        let height : height_of (filled_terrain t levels) p ≡ l.0 = height_is (filled_terrain t levels) p l.0 l.1 in
-        from_some (height_at (filled_terrain t levels) p) _ _ found.0 found.1 (
-          l.0,
-          l.1,
-          record {
-            reached = (l.2.reached.0, path.0, le_both _ _ (le_of _ _ _ path.1 (le_same _ _ l.2.reached.2)) (subst (λ z. z ≤ℤ crest (filled_terrain t levels) p l.2.reached.0) height (crest_high (filled_terrain t levels) p l.2.reached.0)));
-            least = λ rest is_path. subst (λ z. z ≤ℤ crest (filled_terrain t levels) p rest) height (crest_high (filled_terrain t levels) p rest);
-          },
-        )
-  ];
-}
-
 pub filled_grid : (g f : Raster) (cells : List (Option ℤ)) → f ≡ record g { terrain = record g.terrain { cells = cells } } → IsFilled g.terrain cells → IsOwnFilled f × IsFilledGrid g f
-filled_grid g f cells is filled = subst (λ (x : Raster). IsOwnFilled x × IsFilledGrid g x) (sym is) (own_filled g.terrain cells filled, record { filled = filled; rest = refl })
+filled_grid g f cells is filled = subst (λ (x : Raster). IsOwnFilled x × IsFilledGrid g x) (sym is) (filled_twice g.terrain cells filled, record { filled = filled; rest = refl })
 
 pub both_ok : {T E : Type 0} (r : Result T E) (P Q R : T → Type 0) → ((x : T) → P x → Q x → R x) → IfOk r P → IfOk r Q → IfOk r R
 both_ok (Ok x) P Q R f a b = f x a b

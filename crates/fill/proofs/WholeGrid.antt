@@ -9,12 +9,13 @@ use Rattle.ascii_grid.specs.Raster.{Terrain}
 use Rattle.ascii_grid.specs.Neighbours.{height_at, entry_at, IsDataCell, IsEdge, HasGapAround}
 use Rattle.drainage.specs.Filled.{IsPath, IsFilledHeight, IsFilled}
 use Rattle.ascii_grid.specs.declared.place.Place.{Place}
-use Rattle.ascii_grid.proofs.Places.{entry-inside, entry-below, entry-beside, inside_from_entry, make_place}
+use Rattle.ascii_grid.proofs.Places.{entry-inside, entry-below, entry-beside, make_place}
+use Rattle.drainage.proofs.Reach.{data_inside}
+use Rattle.tiles.specs.Cutting.{IsInBounds}
 use Rattle.fill.specs.Walk.{IsFlooded}
-use Rattle.fill.specs.Cells.{Cells, IsInWindow, node_at, IsNetOf, IsCellJoin, source_of, whole, inner_rows}
+use Rattle.fill.specs.Cells.{Cells, node_at, IsNetOf, IsCellJoin, source_of, whole, inner_rows}
 use Rattle.fill.proofs.Steps.{seen, from_some, from_none}
-use Rattle.fill.proofs.Windows.{IsOnRim, IsWindowSource, IsWindowPath, data_is}
-use Rattle.fill.proofs.WindowLevels.{IsWindowLevel, window_level, window_none}
+use Rattle.fill.proofs.Windows.{IsOnRim, IsWindowSource, IsWindowPath, IsWindowLevel, window_level, window_none}
 
 -- the entries inside the border
 pub length-inner_rows : {X : Type 0} (list : List X) (cols count : ℕ) → (count + 1) * (cols + 2) ≤ length list → length (inner_rows list cols count) ≡ count * cols
@@ -52,7 +53,7 @@ inner_rows_at list cols (suc count) h r c below inside =
       move k c s = omega arith
 
 -- the rim of the whole terrain is its edge
-rim_is_edge : (t : Terrain) (p : Place) → IsInWindow (whole t) p → IsWindowSource t (whole t) p → IsEdge t p
+rim_is_edge : (t : Terrain) (p : Place) → IsInBounds (whole t) p → IsWindowSource t (whole t) p → IsEdge t p
 rim_is_edge t p inside source = (source.0, elim source.1 [ inl rim ↦ at rim | inr gap ↦ gap ]) where
   at : IsOnRim (whole t) p → HasGapAround t p
   at (inl e) = inl e
@@ -68,21 +69,19 @@ rim_is_edge t p inside source = (source.0, elim source.1 [ inl rim ↦ at rim | 
     ap is_some (entry-beside t.cols t.rows t.cells (make_place p.row (p.col + 1)) (omega (arith, e))),
   ))
 
-pub data_inside : (t : Terrain) (p : Place) → IsDataCell t p → IsInWindow (whole t) p
-data_inside t p some =
-    let inside = inside_from_entry t.cols t.rows t.cells p (data_is (height_at t p) some).0 (data_is (height_at t p) some).1 in
-    (omega arith, omega (arith, inside), omega arith, omega (arith, inside))
+data_in_window : (t : Terrain) (p : Place) → IsDataCell t p → IsInBounds (whole t) p
+data_in_window t p some = let inside = data_inside t p some in (omega arith, omega (arith, inside), omega arith, omega (arith, inside))
 
 -- a path of the terrain is a path in the window that is the whole of it
 whole_path : (t : Terrain) (p : Place) (rest : List Place) → IsPath t p rest → IsWindowPath t (whole t) p rest
 whole_path t p [] path = (path.0, inr path.1)
-whole_path t p (q ∷ rest) path = (path.0, data_inside t q path.0.to_data, whole_path t q rest path.1)
+whole_path t p (q ∷ rest) path = (path.0, data_in_window t q path.0.to_data, whole_path t q rest path.1)
 
-pub back_path : (t : Terrain) (p : Place) (rest : List Place) → IsInWindow (whole t) p → IsWindowPath t (whole t) p rest → IsPath t p rest
+back_path : (t : Terrain) (p : Place) (rest : List Place) → IsInBounds (whole t) p → IsWindowPath t (whole t) p rest → IsPath t p rest
 back_path t p [] inside path = rim_is_edge t p inside path
 back_path t p (q ∷ rest) inside path = (path.0, back_path t q rest path.1 path.2)
 
-whole_level : (t : Terrain) (p label : Place) (level : ℤ) → IsInWindow (whole t) p → IsWindowLevel t (whole t) p level label → IsFilledHeight t p level
+whole_level : (t : Terrain) (p label : Place) (level : ℤ) → IsInBounds (whole t) p → IsWindowLevel t (whole t) p level label → IsFilledHeight t p level
 whole_level t p label level inside l = record {
   reached = (l.reached.0, back_path t p l.reached.0 inside l.reached.1, l.reached.2);
   least = λ rest path. l.least rest (whole_path t p rest path);
@@ -96,7 +95,7 @@ whole_filled t n levels labels net flooded =
     record {
       size = length-inner_rows levels t.cols t.rows long ∙ omega arith;
       each = λ p inside.
-          let in_window : IsInWindow (whole t) p = (omega arith, omega (arith, inside), omega arith, omega (arith, inside)) in
+          let in_window : IsInBounds (whole t) p = (omega arith, omega (arith, inside), omega arith, omega (arith, inside)) in
           let entry : entry_at t.cols t.rows (inner_rows levels t.cols t.rows) p ≡ get_or levels (node_at (whole t) p) None =
           entry-inside t.cols t.rows (inner_rows levels t.cols t.rows) p inside.0 inside.1
           ∙ inner_rows_at levels t.cols t.rows long p.row p.col inside.0 inside.1

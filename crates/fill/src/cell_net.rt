@@ -1,7 +1,7 @@
 // A rectangle of cells as a net.
 ghost use Rattle.std.specs.Prelude.{◌≡◌, None, ◌+◌, ◌-◌, ◌*◌, ◌^◌, ◌<◌, ◌≤◌, ◌∷◌, ◌++◌, [], ℕ, ℤ, length, All, IfOk, IfSome, OnOk, is_none, slice_index_or, replicate};
 ghost use Rattle.std.specs.List.{list_any, filter_map};
-ghost use Rattle.fill.specs.Cells.{Cells, cells_around, way_to, whole, IsNetOf, IsCellJoin, source_of, bordered_rows, inner_rows, row_of, window_of};
+ghost use Rattle.fill.specs.Cells.{Cells, cells_around, way_to, whole, IsNetOf, IsCellJoin, source_of, bordered_rows, inner_rows, row_of};
 ghost use Rattle.tiles.specs.Cutting.{bounds_of, row_shown, terrain_of};
 
 use crate::flooding::empty_list;
@@ -260,7 +260,7 @@ impl CellNet {
 
     /// A tile as a net of its own.
     pub fn of_view(alloc: Global, view: &TileView<'_, Option<Height>>) -> Result<CellNet, NoMemory>
-        ensures { IfOk result (IsNetOf (terrain_of view.now) (window_of (bounds_of view.now.cutting view.now.tile))) }
+        ensures { IfOk result (IsNetOf (terrain_of view.now) (bounds_of view.now.cutting view.now.tile)) }
     {
         let cells = bordered_tile(alloc, view)?;
         Ok(CellNet {
