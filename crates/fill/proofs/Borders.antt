@@ -2,7 +2,7 @@
 use Rattle.std.proofs.Common.{◌≡◌, ℕ, zero, suc, ◌+◌, ◌-◌, ◌*◌, ◌<◌, ◌≤◌, inl, inr, ℤ, List, [], ◌∷◌, ◌++◌, length, get_or, take, replicate, Option, None, Some, ◌∙◌, sym, ap, refl, arith, length-append}
 use Rattle.std.proofs.lemmas.Bool.{cases_lt, cases_eq}
 use Rattle.std.proofs.lemmas.Slice.{between_is}
-use Rattle.std.proofs.lemmas.List.{length-replicate, length-drop, length-take-le, get_or-drop, get_or-take, get_or-replicate, get_or_append_left, get_or-append_right, get_or_past}
+use Rattle.std.proofs.lemmas.List.{length-replicate, length-drop, length-take-le, get_or-drop, get_or-take, get_or_append_left, get_or-append_right}
 use Rattle.std.proofs.lemmas.Nat.{mul-add-lt, mul-le}
 use Rattle.ascii_grid.specs.Raster.{Terrain}
 use Rattle.ascii_grid.specs.Neighbours.{height_at}
@@ -11,6 +11,7 @@ use Rattle.tiles.specs.declared.bounds.Bounds.{Bounds}
 use Rattle.fill.specs.Cells.{Cells, node_at, IsNetOf, IsBordered, first_rows, bordered_rows, row_of, whole}
 use Rattle.ascii_grid.proofs.Places.{same_place, entry-inside}
 use Rattle.fill.proofs.Steps.{seen, none_some, none_done}
+use Rattle.fill.proofs.Heaps.{replicated}
 
 -- each row has this many cells
 abbrev pub AreRows : (ℕ → List (Option ℤ)) → ℕ → ℕ → Type 0
@@ -64,11 +65,8 @@ first_rows_at row cols (suc count) h r c below inside =
       minus : (a b : ℕ) → (a + b) - a ≡ b
       minus a b = omega arith
 
-pub all_none : (n k : ℕ) → get_or {A = Option ℤ} (replicate n None) k None ≡ None
-all_none n k = elim (cases_lt k n) [ inl low ↦ get_or-replicate n k None None low | inr high ↦ get_or_past (replicate n None) k None (omega (arith, length-replicate {A = Option ℤ} n None)) ]
-
 pub first_rows_only : (row : ℕ → List (Option ℤ)) (cols count : ℕ) → AreRows row cols count → (a : ℕ) (x : ℤ) → get_or (first_rows row (cols + 2) count) a None ≡ Some x → (r c : ℕ) × (r < count) × (c < cols) × (a ≡ (r + 1) * (cols + 2) + (c + 1))
-first_rows_only row cols zero h a x e = none_some _ x (all_none (cols + 2) a) e
+first_rows_only row cols zero h a x e = none_some _ x (replicated None (cols + 2) a) e
 first_rows_only row cols (suc count) h a x e =
     let before = fewer row cols count h in
     let len = length-first_rows row cols count before in
@@ -85,7 +83,7 @@ pub bordered_rows_only : (row : ℕ → List (Option ℤ)) (cols count : ℕ) �
 bordered_rows_only row cols count h a x e =
     elim (cases_lt a (length (first_rows row (cols + 2) count))) [
       | inl low ↦ first_rows_only row cols count h a x (sym (get_or_append_left (first_rows row (cols + 2) count) (replicate (cols + 2) None) None a low) ∙ e)
-      | inr high ↦ none_some _ x (get_or-append_right (first_rows row (cols + 2) count) (replicate (cols + 2) None) (length (first_rows row (cols + 2) count)) a None refl high ∙ all_none (cols + 2) (a - length (first_rows row (cols + 2) count))) e
+      | inr high ↦ none_some _ x (get_or-append_right (first_rows row (cols + 2) count) (replicate (cols + 2) None) (length (first_rows row (cols + 2) count)) a None refl high ∙ replicated None (cols + 2) (a - length (first_rows row (cols + 2) count))) e
     ]
 
 pub bordered_rows_at : (row : ℕ → List (Option ℤ)) (cols count : ℕ) → AreRows row cols count → (r c : ℕ) → r < count → c < cols → get_or (bordered_rows row (cols + 2) count) ((r + 1) * (cols + 2) + (c + 1)) None ≡ get_or (row r) c None

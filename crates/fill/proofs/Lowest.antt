@@ -1,5 +1,5 @@
 -- The lowest joins of each two labels.
-use Rattle.std.proofs.Common.{◌≡◌, ℕ, zero, suc, ◌+◌, ◌-◌, ◌<◌, ◌≤◌, ◌⊎◌, inl, inr, ℤ, ◌≤ℤ◌, false, List, [], ◌∷◌, ◌++◌, length, get_or, Result, Ok, Err, is_ok, is_err, cond, ◌∙◌, sym, ap, subst, refl, arith}
+use Rattle.std.proofs.Common.{◌≡◌, ℕ, zero, suc, ◌+◌, ◌-◌, ◌<◌, ◌≤◌, ◌⊎◌, inl, inr, ℤ, ◌≤ℤ◌, false, List, [], ◌∷◌, ◌++◌, length, get_or, ◌∙◌, sym, ap, subst, refl, arith}
 use Rattle.std.specs.Ordering.{nat_cmp, int_cmp, ordering_then, is_lt}
 use Rattle.std.specs.declared.cmp.Ordering.{Ordering}
 use Rattle.std.specs.List.{Contains}
@@ -153,8 +153,3 @@ all_kept given joins lowest perm s = record {
   every = λ j h. let there = Contains-permutation given joins j perm h in subst (Covered lowest) there.2 (s.every there.0 j there.1);
   rising = s.rising;
 }
-
--- what a push that went well leaves
-pub ok_items : {T E X : Type 0} (r : Result T E) (a b n : X) → is_err r ≡ false → n ≡ cond (is_ok r) a b → n ≡ a
-ok_items (Ok x) a b n e h = h
-ok_items (Err x) a b n e h = absurd (cc)

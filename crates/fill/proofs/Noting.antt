@@ -14,7 +14,7 @@ use Rattle.fill.specs.declared.net.Spill.{Spill}
 use Rattle.fill.specs.declared.flooding.Waiting.{Waiting}
 use Rattle.fill.specs.Walk.{Sources}
 use Rattle.fill.specs.Flood.{AreOwn, PutsIn, entry_of, SomeWaits, ComesBy, waiting_by, MakesWait, AreNoted, KeepsDone}
-use Rattle.fill.proofs.Heaps.{all_by_contains, cons_head, cons_tail, cons_cases}
+use Rattle.fill.proofs.Heaps.{all_by_contains, cons_head, cons_tail, cons_cases, held_in, held_cases}
 use Rattle.fill.proofs.Steps.{none_done, le_trans}
 
 le_refl : (a b : ℤ) → a ≡ b → a ≤ℤ b
@@ -50,16 +50,16 @@ passed_low labels levels from way waiting h s noted low = passed labels from way
 -- a way that is followed
 pub followed : (labels : List (Option ℕ)) (from : Waiting) (way : Spill) (old new : List Waiting) → PutsIn (waiting_by from way) old new → MakesWait labels from (way ∷ []) old new
 followed labels from way old new perm = record {
-  kept = all_by_contains (Contains new) old (λ y h. perm.into y (cons_tail (waiting_by from way) old y h));
+  kept = all_by_contains (Contains new) old (λ y h. held_in perm y (cons_tail (waiting_by from way) old y h));
   made = all_by_contains (λ y. Contains old y ⊎ ComesBy from (way ∷ []) y) new (λ y h.
-      elim (cons_cases (waiting_by from way) old y (perm.from y h)) [
+      elim (held_cases perm y h) [
         | inl same ↦ inr (way, cons_head way [], same)
         | inr held ↦ inl held
       ]);
   reached = all_by_contains (λ y. entry_of labels y.to ≡ None → SomeWaits new y.to (int_max y.height from.height.0)) (way ∷ []) (λ y h. subst (λ (y : Spill). entry_of labels y.to ≡ None → SomeWaits new y.to (int_max y.height from.height.0)) (sym (one_held way y h)) (λ _. here));
 } where
   here : SomeWaits new way.to (int_max way.height from.height.0)
-  here = (waiting_by from way, perm.into _ (cons_head (waiting_by from way) old), refl, le_refl _ _ refl)
+  here = (waiting_by from way, held_in perm _ (cons_head (waiting_by from way) old), refl, le_refl _ _ refl)
 
 -- the crest by a way that is followed is noted
 pub noted : (labels : List (Option ℕ)) (levels : List (Option ℤ)) (from : Waiting) (way : Spill) (old new : List Waiting) → way.to < length labels → AreNoted labels levels old → PutsIn (waiting_by from way) old new → AreNoted labels (set levels way.to (Some (int_max way.height from.height.0))) new
@@ -69,10 +69,10 @@ noted labels levels from way old new below s perm = record {
     | inl same ↦
         let found_there : entry_of (set levels way.to (Some crest)) way.to ≡ Some h = subst (λ (n : ℕ). entry_of (set levels way.to (Some crest)) n ≡ Some h) same found in
         let is : crest ≡ h = same_Some _ _ (sym (get_or-set_same levels way.to (Some crest) None (omega (arith, below, s.size))) ∙ found_there) in
-        (waiting_by from way, perm.into _ (cons_head (waiting_by from way) old), sym same, le_refl crest h is)
+        (waiting_by from way, held_in perm _ (cons_head (waiting_by from way) old), sym same, le_refl crest h is)
     | inr n ↦
         let x = s.waits a h none (sym (get_or-set_other levels way.to a (Some crest) None n) ∙ found) in
-        (x.0, perm.into x.0 (cons_tail (waiting_by from way) old x.0 x.1), x.2, x.3)
+        (x.0, held_in perm x.0 (cons_tail (waiting_by from way) old x.0 x.1), x.2, x.3)
   ];
 } where
   crest : ℤ
@@ -82,7 +82,7 @@ noted labels levels from way old new below s perm = record {
 pub own_by_way : (source : Sources) (labels : List (Option ℕ)) (levels : List (Option ℤ)) (from : Waiting) (way : Spill) (old new : List Waiting) → way.to < length labels → length levels ≡ length labels → entry_of labels way.to ≡ None → ((h : ℤ) × (entry_of levels way.to ≡ Some h) × (h ≤ℤ int_max way.height from.height.0) → ⊥) → PutsIn (waiting_by from way) old new → AreOwn source labels levels old → AreOwn source labels (set levels way.to (Some (int_max way.height from.height.0))) new
 own_by_way source labels levels from way old new below size none lower perm s = record {
   own = all_by_contains (λ y. source y.node ≡ Some y.height.0 → y.label ≡ y.node) new (λ y h.
-      elim (cons_cases (waiting_by from way) old y (perm.from y h)) [
+      elim (held_cases perm y h) [
         | inl same ↦ subst (λ (y : Waiting). source y.node ≡ Some y.height.0 → y.label ≡ y.node) (sym same) (λ is. absurd (lower (s.low way.to crest below is none)))
         | inr held ↦ All-contains (λ y. source y.node ≡ Some y.height.0 → y.label ≡ y.node) old y s.own held
       ]);

@@ -19,10 +19,9 @@ use Rattle.fill.specs.Gathering.{Fit, IsSpillSource, IsSourceEntry, IsSourceNode
 use Rattle.fill.specs.declared.marks.Mark.{Mark}
 use Rattle.fill.specs.declared.sources.Source.{Source}
 use Rattle.fill.proofs.Steps.{seen, none_some}
-use Rattle.fill.proofs.Borders.{all_none}
 use Rattle.fill.proofs.TileWindows.{bounds_from_entry, entry_in-inside}
 use Rattle.fill.proofs.CellMarks.{label_within, mark_parts, mark_from_tile}
-use Rattle.fill.proofs.Heaps.{all_by_contains}
+use Rattle.fill.proofs.Heaps.{all_by_contains, replicated}
 
 -- a place has one height as a source
 one_height : (c : Cutting) (floods : List Flood) (p : Place) (h k : ℤ) → IsSpillSource c floods p h → IsSpillSource c floods p k → h ≡ k
@@ -194,7 +193,7 @@ no_sources_yet c floods nodes heights is count = record {
   every = λ p h at source. absurd (omega (arith, at.1));
 } where
   empty : (k : ℕ) → get_or heights k None ≡ None
-  empty k = ap (λ (z : List (Option ℤ)). get_or z k None) is ∙ all_none nodes k
+  empty k = ap (λ (z : List (Option ℤ)). get_or z k None) is ∙ replicated None nodes k
 
 -- the nodes of a tile's sources are in the grid
 pub nodes_inside : (c : Cutting) (floods : List Flood) (places : Place → Type 0) (sources : List Source) (count : ℕ) → AddsSources c floods places [] sources → count ≡ c.cols * c.rows → All (λ (s : Source). s.node < count) sources

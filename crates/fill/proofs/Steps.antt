@@ -1,10 +1,9 @@
 -- A flood, step by step.
-use Rattle.std.proofs.Common.{◌≡◌, ◌≢◌, ℕ, ◌<◌, List, [], ◌∷◌, length, set, replicate, ℤ, pos, ◌≤ℤ◌, Option, None, Some, is_some, is_none, cond, IsSome, MatchOption, unwrap_or, sym, ap, subst, refl, ◌∙◌, arith, ◌⊎◌, inl, inr}
+use Rattle.std.proofs.Common.{◌≡◌, ◌≢◌, ℕ, ◌<◌, List, [], ◌∷◌, length, set, replicate, ℤ, pos, ◌≤ℤ◌, Option, None, Some, is_some, IsSome, MatchOption, unwrap_or, sym, ap, subst, refl, ◌∙◌, arith, ◌⊎◌, inl, inr}
 use Rattle.std.specs.Int.{int_max}
-use Rattle.std.specs.List.{Contains, All, count_by}
-use Rattle.std.proofs.lemmas.List.Sums.{sum_by-set}
+use Rattle.std.specs.List.{Contains, All}
 use Rattle.std.proofs.lemmas.Int.{ints, clamps}
-use Rattle.std.proofs.lemmas.List.{length-set, get_or-set_same, get_or-set_other, get_or-replicate, length-replicate, get_or_past}
+use Rattle.std.proofs.lemmas.List.{length-set, get_or-set_same, get_or-set_other, length-replicate}
 use Rattle.std.proofs.lemmas.List.Elements.{All-contains}
 use Rattle.std.proofs.lemmas.Option.{same_Some}
 use Rattle.std.proofs.lemmas.Bool.{cases_eq, cases_lt}
@@ -13,7 +12,7 @@ use Rattle.fill.specs.declared.flooding.Waiting.{Waiting}
 use Rattle.fill.specs.Walk.{Joins, Sources, IsWalk, crest, IsLevel, HasNoWalk, IsFlooded, HasJust}
 use Rattle.fill.specs.Flood.{entry_of, IsDone, TakesLowest, waiting_by, SourcesWait, HasSourcesNoted, AreOwn, SomeWaits, ComesBy, MakesWait, AreNoted, KeepsDone}
 use Rattle.fill.proofs.FloodState.{HasWalk, IsFlooding}
-use Rattle.fill.proofs.Heaps.{all_by_contains}
+use Rattle.fill.proofs.Heaps.{all_by_contains, replicated}
 
 -- what an entry is, as a case to split on
 pub seen : {X : Type 0} (o : Option X) → (o ≡ None) ⊎ ((x : X) × (o ≡ Some x))
@@ -110,9 +109,6 @@ flooded joins source nodes levels labels waiting inside s noted all = record {
   ];
 }
 
-empty : {X : Type 0} (nodes a : ℕ) → entry_of {X = X} (replicate nodes None) a ≡ None
-empty {X = X} nodes a = elim (cases_lt a nodes) [ inl h ↦ get_or-replicate nodes a None None h | inr h ↦ get_or_past (replicate nodes None) a None (omega (arith, length-replicate {A = Option X} nodes None)) ]
-
 pub le_of_same : (x y : ℤ) → x ≡ y → x ≤ℤ y
 le_of_same x y e = omega (arith, ints)
 
@@ -121,10 +117,10 @@ pub begun : (joins : Joins) (source : Sources) (nodes : ℕ) (levels : List (Opt
 begun joins source nodes levels waiting s size = record {
   levels_size = size;
   labels_size = length-replicate nodes None;
-  settled = λ a b e. none_some (entry_of (replicate nodes None) a) b (empty nodes a) e;
+  settled = λ a b e. none_some (entry_of (replicate nodes None) a) b (replicated None nodes a) e;
   waits = λ k d lt. let o = s.only k d lt in (o.0, ([], ap is_some o.1, ap (λ (z : Option ℤ). unwrap_or z (pos 0)) o.1, sym o.2));
   sources = λ a h below e _. let w = s.every a h below e in (w.0, w.1, w.2, le_of_same w.0.height.0 h w.3);
-  frontier = λ a b l h below joined done e _. none_done (entry_of {X = ℕ} (replicate nodes None) b) (empty nodes b) done;
+  frontier = λ a b l h below joined done e _. none_done (entry_of {X = ℕ} (replicate nodes None) b) (replicated None nodes b) done;
 }
 
 -- the heights of the sources are noted at first
@@ -214,14 +210,6 @@ settle joins source nodes levels after labels old new more w ways inside back s 
     } where
       le_max : (h x l : ℤ) → x ≡ l → int_max h x ≤ℤ int_max h l
       le_max h x l e = omega (arith, ints, clamps)
-
--- one node fewer is not done
-pub fewer_open : (labels : List (Option ℕ)) (a label : ℕ) → a < length labels → entry_of labels a ≡ None → count_by is_none (set labels a (Some label)) < count_by is_none labels
-fewer_open labels a label below none =
-    let f : Option ℕ → ℕ = λ o. cond (is_none o) 1 0 in
-    let step = sum_by-set f labels a (Some label) None below in
-    let was = ap f none in
-    omega (arith, step, was)
 
 -- what was noted stands once the lowest has its level and label
 pub noted_still : (labels : List (Option ℕ)) (levels : List (Option ℤ)) (old new : List Waiting) (w : Waiting) (level : ℤ) (label : ℕ) → w.node < length labels → AreNoted labels levels old → TakesLowest labels old w new → AreNoted (set labels w.node (Some label)) (set levels w.node (Some level)) new

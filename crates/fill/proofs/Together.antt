@@ -1,6 +1,5 @@
 -- The tiles together give the filled grid.
 use Rattle.std.proofs.Common.{◌≡◌, ℕ, zero, suc, ◌*◌, ◌/◌, ◌%◌, ◌<◌, ◌⊎◌, inl, inr, ℤ, List, length, get_or, Option, None, Some, IfSome, Vec, Global, ◌∙◌, sym, ap, subst, refl, arith, mul_comm}
-use Rattle.std.specs.Prelude.{slice_get}
 use Rattle.std.specs.List.{Contains, All}
 use Rattle.std.proofs.lemmas.Option.{get_or_from_slice_get, slice_get_within, same_Some}
 use Rattle.std.proofs.lemmas.List.Elements.{All-from_get_or}
@@ -10,14 +9,13 @@ use Rattle.ascii_grid.specs.Neighbours.{height_at, entry_at, IsInside}
 use Rattle.drainage.specs.Filled.{IsFilled, IsFilledGrid, IsOwnFilled}
 use Rattle.ascii_grid.specs.declared.place.Place.{Place}
 use Rattle.ascii_grid.proofs.Places.{entry-inside}
-use Rattle.tiles.specs.Cutting.{Cutting, IsCutting, Cuts, View, terrain_of, tile_count, tile_of_place, IsPutBack, AreTileLists, tile_entry}
+use Rattle.tiles.specs.Cutting.{Cutting, IsCutting, Cuts, View, terrain_of, tile_count, tile_of_place, IsPutBack, tile_entry}
 use Rattle.tiles.proofs.Cut.{tile_of_place_below}
 use Rattle.tiles.proofs.PutBack.{entry_at-put_back}
 use Rattle.fill.specs.TileFlood.{Flood, IsTileFlood}
 use Rattle.fill.specs.Spills.{AreFloods, IsFilledTile, AreFilledTiles}
 use Rattle.drainage.proofs.Heights.{filled_height_stands}
 use Rattle.drainage.proofs.FilledTwice.{filled_twice}
-use Rattle.std.specs.Prelude.{Result, Ok, Err, IfOk}
 use Rattle.fill.proofs.Steps.{seen, none_some, at_some, at_none, from_some, from_none}
 use Rattle.fill.proofs.Rims.{list_there}
 
@@ -44,9 +42,6 @@ tiles_given t c outs count given = record {
   count = count;
   each = λ tile list e. subst (λ (v : Vec (Option ℤ) Global). IsFilledTile t c tile v.items) (get_or_from_slice_get outs tile list list e) (given tile list (omega (arith, count, slice_get_within outs tile list e)));
 }
-
-pub tile_lists : (t : Terrain) (c : Cutting) (lists : List (Vec (Option ℤ) Global)) → AreFilledTiles t c lists → AreTileLists c lists
-tile_lists t c lists are = record { count = are.count; each = λ tile list e. (are.each tile list e).size }
 
 -- what is put back has the filled heights
 pub filled_put_back : (t : Terrain) (c : Cutting) (lists : List (Vec (Option ℤ) Global)) (whole : List (Option ℤ)) → IsCutting c → Cuts c t → AreFilledTiles t c lists → IsPutBack c lists whole → IsFilled t whole
@@ -92,7 +87,3 @@ filled_stand t levels filled = All-from_get_or (λ c. IfSome c (λ h. Contains t
 
 pub filled_grid : (g f : Raster) (cells : List (Option ℤ)) → f ≡ record g { terrain = record g.terrain { cells = cells } } → IsFilled g.terrain cells → IsOwnFilled f × IsFilledGrid g f
 filled_grid g f cells is filled = subst (λ (x : Raster). IsOwnFilled x × IsFilledGrid g x) (sym is) (filled_twice g.terrain cells filled, record { filled = filled; rest = refl })
-
-pub both_ok : {T E : Type 0} (r : Result T E) (P Q R : T → Type 0) → ((x : T) → P x → Q x → R x) → IfOk r P → IfOk r Q → IfOk r R
-both_ok (Ok x) P Q R f a b = f x a b
-both_ok (Err e) P Q R f a b = a
