@@ -61,14 +61,6 @@ adds_pushed old new j is = subst (AddsCovered old (j ∷ [])) (sym is) (record {
   every = λ k h. covered_itself _ k (Contains-append_right old (j ∷ []) k h);
 })
 
--- one that a join of the same labels covers
-pub adds_covered : (old : List Join) (at : ℕ) (met j : Join) → at < length old → met ≡ get_or old at met → met.from ≡ j.from → met.to ≡ j.to → met.height ≤ℤ j.height → AddsCovered old (j ∷ []) old
-adds_covered old at met j inside is from to low = record {
-  kept = λ k h. covered_itself old k h;
-  only = λ k h. inl h;
-  every = λ k h. subst (Covered old) (sym (one_held j k h)) (met, (at, inside, sym is), from, to, low);
-}
-
 -- one that takes the place of a join of the same labels
 pub adds_lower : (old : List Join) (at : ℕ) (met j : Join) → at < length old → met ≡ get_or old at met → met.from ≡ j.from → met.to ≡ j.to → j.height ≤ℤ met.height → AddsCovered old (j ∷ []) (set old at j)
 adds_lower old at met j inside is from to low = record {
@@ -189,14 +181,6 @@ no_mark_adds c floods p old none = record {
   kept = λ j h. covered_itself old j h;
   only = λ j h. inl h;
   every = λ x q j same m. none_some _ (record { level = m.from_level; node = j.from }) (ap (mark_among c floods) same ∙ none) m.from_is;
-}
-
--- nothing has been added
-pub adds_none : (c : Cutting) (floods : List Flood) (places : Place → Type 0) (old : List Join) → ((p : Place) → places p → ⊥) → Adds c floods places old old
-adds_none c floods places old none = record {
-  kept = λ j h. covered_itself old j h;
-  only = λ j h. inl h;
-  every = λ p q j at m. absurd (none p at);
 }
 
 -- one after another

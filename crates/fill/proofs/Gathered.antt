@@ -5,7 +5,7 @@ use Rattle.std.specs.List.{Contains, flat_map}
 use Rattle.std.proofs.lemmas.Int.{ints, clamps}
 use Rattle.std.proofs.lemmas.Bool.{cases_lt, cases_order}
 use Rattle.std.proofs.lemmas.Nat.{div-mul-add, mod-mul-add, div-add-mod'}
-use Rattle.std.proofs.lemmas.Option.{same_Some, slice_get_within}
+use Rattle.std.proofs.lemmas.Option.{MatchOption-at_some, MatchOption-at_none, same_Some, slice_get_within}
 use Rattle.std.proofs.lemmas.List.{get_or_default, get_or_past}
 use Rattle.std.proofs.lemmas.List.Elements.{All-contains}
 use Rattle.ascii_grid.specs.Raster.{Terrain}
@@ -23,7 +23,7 @@ use Rattle.fill.specs.Parts.{IsPart, AreParts, IsGraph, joins_by_part, graph_of_
 use Rattle.fill.specs.declared.parts.Part.{Part}
 use Rattle.fill.specs.declared.spills.Join.{Join}
 use Rattle.fill.specs.declared.marks.Mark.{Mark}
-use Rattle.fill.proofs.Steps.{seen, none_some, none_done, at_some, at_none}
+use Rattle.fill.proofs.Steps.{seen, none_some, none_done}
 use Rattle.fill.proofs.Heaps.{all_by_contains}
 use Rattle.fill.proofs.Windows.{data_is, no_data, height_is}
 use Rattle.fill.proofs.TileWindows.{data_within, entry_in-inside}
@@ -33,7 +33,7 @@ use Rattle.fill.proofs.Rims.{HasTileLevel, has_tile_level, level_has_data, label
 use Rattle.fill.proofs.CellMarks.{label_within, mark_some, mark_parts, mark_outside}
 use Rattle.fill.proofs.Adding.{no_join}
 use Rattle.fill.proofs.Waits.{in_some_list, in_lists}
-use Rattle.fill.proofs.PartList.{part_there, part_with}
+use Rattle.fill.proofs.GraphParts.{part_there, part_with}
 
 max_turned : (a b : ℤ) → int_max b a ≡ int_max a b
 max_turned a b = omega (arith, ints, clamps)
@@ -152,9 +152,9 @@ fit_labels t c tile f h below cuts flood k label e = elim (cases_lt k (length f.
       ∙ ap (λ (b : Bounds). get_or f.labels ((p.row - b.top) * b.cols + (p.col - b.left)) None) flood.bounds
       ∙ ap (λ n. get_or f.labels n None) (index_in-place_in (bounds_of c tile) k) ∙ e in
       elim (seen (height_at t p)) [
-        | inl none ↦ none_some (label_in f p) label (at_none (height_at t p) _ _ none (flood.each p i)).1 at
+        | inl none ↦ none_some (label_in f p) label (MatchOption-at_none _ _ none (flood.each p i)).1 at
         | inr height ↦
-            let here = at_some (height_at t p) _ _ height.0 height.1 (flood.each p i) in
+            let here = MatchOption-at_some _ _ height.0 height.1 (flood.each p i) in
             let same = same_Some here.1 label (sym here.3 ∙ at) in
             data_within t c label cuts (subst (IsDataCell t) same (label_has_data t c p here.1 here.0 here.4))
       ]
@@ -252,9 +252,9 @@ spill_sources t c floods g h are s = record {
       } in
       let entry = subst (λ q. IsSourceEntry c floods q (source_in g (index_of c.cols p))) (source_place c p within) (s.each (index_of c.cols p) (index_below c.cols c.rows p within.0 within.1)) in
       elim (seen (source_in g (index_of c.cols p))) [
-        | inl none ↦ absurd (at_none (source_in g (index_of c.cols p)) _ _ none entry z here)
+        | inl none ↦ absurd (MatchOption-at_none _ _ none entry z here)
         | inr found ↦
-            let other = at_some (source_in g (index_of c.cols p)) _ _ found.0 found.1 entry in
+            let other = MatchOption-at_some _ _ found.0 found.1 entry in
             let same = same_Some (record { level = found.0; node = index_of c.cols p }) (record { level = z; node = index_of c.cols p }) (sym other.mark ∙ here.mark) in
             found.1 ∙ ap Some (ap (λ (m : Mark). m.level) same)
       ];
@@ -264,7 +264,7 @@ spill_sources t c floods g h are s = record {
         let low : a < c.cols * c.rows = omega (arith, below, s.size) in
         let p : Place = record { row = a / c.cols; col = a % c.cols } in
         let node : index_of c.cols p ≡ a = div-add-mod' a c.cols in
-        let here = at_some (source_in g a) _ _ z e (s.each a low) in
+        let here = MatchOption-at_some _ _ z e (s.each a low) in
         let fit = fit_of t c floods h are in
         let within = marked_within c floods p _ h fit here.mark in
         let parts = mark_parts c.cols (level_among c floods p) (label_among c floods p) _ here.mark in

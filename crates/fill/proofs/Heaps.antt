@@ -1,16 +1,37 @@
--- What a heap of waiting nodes has after each pop and push.
-use Rattle.std.proofs.Common.{◌≡◌, ℕ, zero, suc, ◌+◌, ◌<◌, false, List, ◌∷◌, length, get_or, set, replicate, ℤ, ◌≤ℤ◌, Option, None, Some, is_some, sym, ap, subst, refl, ◌∙◌, arith, ◌⊎◌, inl, inr}
+-- The state of a flood, and what a heap of waiting nodes has after each pop and push.
+use Rattle.std.proofs.Common.{◌≡◌, ℕ, ◌<◌, ◌⊎◌, ℤ, List, length, Option, None, Some, IsSome, zero, suc, ◌+◌, false, ◌∷◌, get_or, set, replicate, ◌≤ℤ◌, is_some, sym, ap, subst, refl, ◌∙◌, arith, inl, inr}
+use Rattle.std.specs.Int.{int_max}
 use Rattle.std.specs.List.{Contains, All}
+use Rattle.fill.specs.Walk.{Joins, Sources, IsWalk, crest, end_of, IsLevel}
+use Rattle.fill.specs.Flood.{entry_of, IsDone, SomeWaits, TakesLowest, PutsIn, HasNone, SourcesWait, HasSourcesNoted}
+use Rattle.fill.specs.declared.net.Spill.{Spill}
+use Rattle.fill.specs.declared.flooding.Waiting.{Waiting}
 use Rattle.std.proofs.lemmas.Int.{ints}
 use Rattle.std.proofs.lemmas.Bool.{cases_eq}
 use Rattle.std.proofs.lemmas.List.{get_or-set_same, get_or-set_other}
 use Rattle.std.proofs.lemmas.List.Elements.{All-contains, All-contains_itself}
 use Rattle.std.proofs.lemmas.List.Sorted.{Contains-permutation, IsPermutation-sym}
 use Rattle.std.proofs.lemmas.Option.{same_Some}
-use Rattle.fill.specs.declared.flooding.Waiting.{Waiting}
-use Rattle.fill.specs.Walk.{Sources}
-use Rattle.fill.specs.Flood.{entry_of, IsDone, TakesLowest, PutsIn, HasNone, SourcesWait, HasSourcesNoted}
-use Rattle.fill.proofs.FloodState.{OnlyDoneLeft}
+
+-- A walk from the node has this crest and ends at the label.
+abbrev pub HasWalk : Joins → Sources → Waiting → Type 0
+HasWalk joins source w =
+    (walk : List Spill) × IsWalk joins source w.node walk × (crest source w.node walk ≡ w.height.0) × (end_of w.node walk ≡ w.label)
+
+-- The state of a flood: nodes that are done have their level and label; of the others each source waits,
+-- and so does each neighbour of a node that is done.
+pub record IsFlooding (joins : Joins) (source : Sources) (nodes : ℕ) (levels : List (Option ℤ)) (labels : List (Option ℕ)) (waiting : List Waiting) : Type 0 where
+  pub levels_size : length levels ≡ nodes
+  pub labels_size : length labels ≡ nodes
+  pub settled : (a b : ℕ) → entry_of labels a ≡ Some b → (l : ℤ) × (entry_of levels a ≡ Some l) × IsLevel joins source a l b
+  pub waits : All (λ w. (w.node < nodes) × HasWalk joins source w) waiting
+  pub sources : (a : ℕ) (h : ℤ) → a < nodes → source a ≡ Some h → entry_of labels a ≡ None → SomeWaits waiting a h
+  pub frontier : (a b : ℕ) (l h : ℤ) → a < nodes → joins a b h → IsSome (entry_of labels b) → entry_of levels b ≡ Some l → entry_of labels a ≡ None → SomeWaits waiting a (int_max h l)
+
+-- What has left the heap so far is done.
+pub record OnlyDoneLeft (labels : List (Option ℕ)) (old new : List Waiting) : Type 0 where
+  pub left : All (Contains old) new
+  pub kept : All (λ x. IsDone labels x ⊎ Contains new x) old
 
 pub all_by_contains : {X : Type 0} (P : X → Type 0) (xs : List X) → ((x : X) → Contains xs x → P x) → All P xs
 all_by_contains P xs h k d below = h (get_or xs k d) (All-contains_itself xs k d below)

@@ -3,7 +3,7 @@ use Rattle.std.proofs.Common.{◌≡◌, ℕ, ◌<◌, inl, inr, ℤ, pos, ◌�
 use Rattle.std.specs.Prelude.{slice_get, option_and_then}
 use Rattle.std.specs.Int.{int_max}
 use Rattle.std.proofs.lemmas.Bool.{cases_eq}
-use Rattle.std.proofs.lemmas.Option.{same_Some, slice_get_cases}
+use Rattle.std.proofs.lemmas.Option.{MatchOption-at_some, MatchOption-at_none, same_Some, slice_get_cases}
 use Rattle.ascii_grid.specs.Raster.{Terrain}
 use Rattle.ascii_grid.specs.Neighbours.{height_at, index_of, IsDataCell, IsNeighbour, IsEdge, height_of}
 use Rattle.ascii_grid.specs.declared.place.Place.{Place}
@@ -19,7 +19,7 @@ use Rattle.fill.specs.declared.net.Spill.{Spill}
 use Rattle.fill.specs.Walk.{IsWalk, crest as walk_crest, IsFlooded}
 use Rattle.fill.specs.TileFlood.{IsTileSource, IsTilePath, IsTileLevel, Flood, level_in, label_in, last_of}
 use Rattle.fill.specs.Spills.{AreFloods, level_among, label_among, Carries, IsPass, Graph, HasJoin, source_in, IsGraphOf}
-use Rattle.fill.proofs.Steps.{seen, none_some, at_some, at_none, le_of_same}
+use Rattle.fill.proofs.Steps.{seen, none_some, le_of_same}
 use Rattle.fill.proofs.Windows.{data_is, height_is, path_in_window}
 use Rattle.fill.proofs.TileWindows.{data_within, tile_path}
 
@@ -46,7 +46,7 @@ has_tile_level t c floods h are p some =
     let tile = tile_of_place c p in
     let f = list_there floods tile (omega (arith, are.count, tile_of_place_below c p h within)) in
     let height = data_is (height_at t p) some in
-    let here = at_some (height_at t p) _ _ height.0 height.1 ((are.each tile f.0 f.1).each p (within, refl)) in
+    let here = MatchOption-at_some _ _ height.0 height.1 ((are.each tile f.0 f.1).each p (within, refl)) in
     record {
       level = here.0;
       label = here.1;
@@ -62,7 +62,7 @@ level_has_data t c floods h are p l within e = elim (seen (height_at t p)) [
   | inl none ↦
       let tile = tile_of_place c p in
       let f = list_there floods tile (omega (arith, are.count, tile_of_place_below c p h within)) in
-      let here = at_none (height_at t p) _ _ none ((are.each tile f.0 f.1).each p (within, refl)) in
+      let here = MatchOption-at_none _ _ none ((are.each tile f.0 f.1).each p (within, refl)) in
       none_some _ l (among_is (λ f. level_in f p) floods tile f.0 f.1 ∙ here.0) e
 ]
 
@@ -218,9 +218,9 @@ rims t c floods g levels labels h are graph flooded p l some =
     let any = (filled_height t p some).1.reached in
     let any_walk = path_walk t c floods g h are graph p l any.0 any.1 in
     elim (seen (get_or levels a None)) [
-      | inl none ↦ absurd ((at_none (get_or levels a None) _ _ none (flooded.each a below)).0 any_walk.0 any_walk.1)
+      | inl none ↦ absurd ((MatchOption-at_none _ _ none (flooded.each a below)).0 any_walk.0 any_walk.1)
       | inr found ↦
-          let level = (at_some (get_or levels a None) _ _ found.0 found.1 (flooded.each a below)).2 in
+          let level = (MatchOption-at_some _ _ found.0 found.1 (flooded.each a below)).2 in
           let total : ℤ = int_max l.level found.0 in
           let way = subst (λ m. HasLowPath t m l.label) level.reached.2 (walk_path t c floods g h are graph level.reached.0 l.label label_within level.reached.1) in
           let path = low_from_label t c p l.label l.level total l.right (max_left l.level found.0) (low_below t found.0 total l.label (max_right l.level found.0) way) in

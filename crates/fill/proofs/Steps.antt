@@ -11,8 +11,7 @@ use Rattle.fill.specs.declared.net.Spill.{Spill}
 use Rattle.fill.specs.declared.flooding.Waiting.{Waiting}
 use Rattle.fill.specs.Walk.{Joins, Sources, IsWalk, crest, IsLevel, HasNoWalk, IsFlooded, HasJust}
 use Rattle.fill.specs.Flood.{entry_of, IsDone, TakesLowest, waiting_by, SourcesWait, HasSourcesNoted, AreOwn, SomeWaits, ComesBy, MakesWait, AreNoted, KeepsDone}
-use Rattle.fill.proofs.FloodState.{HasWalk, IsFlooding}
-use Rattle.fill.proofs.Heaps.{all_by_contains, replicated}
+use Rattle.fill.proofs.Heaps.{HasWalk, IsFlooding, all_by_contains, replicated}
 
 -- what an entry is, as a case to split on
 pub seen : {X : Type 0} (o : Option X) → (o ≡ None) ⊎ ((x : X) × (o ≡ Some x))
@@ -26,17 +25,9 @@ pub none_done : {X P : Type 0} (o : Option X) → o ≡ None → IsSome o → P
 none_done None e h = absurd (cc)
 none_done (Some x) e h = absurd (cc)
 
-pub at_some : {X : Type 0} (o : Option X) (P : Type 0) (Q : X → Type 0) (x : X) → o ≡ Some x → MatchOption o P Q → Q x
-at_some {X = X} o P Q x e h = subst (λ (z : Option X). MatchOption z P Q) e h
-
-pub at_none : {X : Type 0} (o : Option X) (P : Type 0) (Q : X → Type 0) → o ≡ None → MatchOption o P Q → P
-at_none {X = X} o P Q e h = subst (λ (z : Option X). MatchOption z P Q) e h
-
-pub from_some : {X : Type 0} (o : Option X) (P : Type 0) (Q : X → Type 0) (x : X) → o ≡ Some x → Q x → MatchOption o P Q
-from_some {X = X} o P Q x e h = subst (λ (z : Option X). MatchOption z P Q) (sym e) h
-
-pub from_none : {X : Type 0} (o : Option X) (P : Type 0) (Q : X → Type 0) → o ≡ None → P → MatchOption o P Q
-from_none {X = X} o P Q e h = subst (λ (z : Option X). MatchOption z P Q) (sym e) h
+pub match_of : {X : Type 0} (o : Option X) (P : Type 0) (Q : X → Type 0) → (o ≡ None → P) → ((x : X) → o ≡ Some x → Q x) → MatchOption o P Q
+match_of None P Q none some = none refl
+match_of (Some x) P Q none some = some x refl
 
 grows : (h l k c : ℤ) → k ≤ℤ int_max h l → l ≤ℤ c → k ≤ℤ int_max h c
 grows h l k c e f = omega (arith, ints, clamps)
@@ -102,10 +93,10 @@ flooded joins source nodes levels labels waiting inside s noted all = record {
   levels_size = s.levels_size;
   labels_size = s.labels_size;
   each = λ a below. elim (seen (entry_of labels a)) [
-    | inl none ↦ from_none (entry_of levels a) _ _ (none_left labels levels waiting a noted all none) (no_walk joins source nodes levels labels waiting inside s all a below none, none)
+    | inl none ↦ rw (none_left labels levels waiting a noted all none) (no_walk joins source nodes levels labels waiting inside s all a below none, none)
     | inr some ↦
         let level = s.settled a some.0 some.1 in
-        from_some (entry_of levels a) _ _ level.0 level.1 (some.0, some.1, level.2)
+        rw level.1 (some.0, some.1, level.2)
   ];
 }
 

@@ -1,4 +1,5 @@
 -- Windows of a terrain: the numbers of their cells in a net, their paths, and what a flood of the net gives.
+use Rattle.std.proofs.lemmas.Option.{MatchOption-at_some, MatchOption-at_none}
 use Rattle.std.proofs.Common.{◌≡◌, ◌≢◌, ℕ, zero, suc, ◌+◌, ◌-◌, ◌*◌, ◌<◌, ◌≤◌, ◌⊎◌, inl, inr, ℤ, pos, ◌≤ℤ◌, Bool, true, List, [], ◌∷◌, length, get_or, Option, None, Some, IsSome, IsNone, is_some, is_none, unwrap_or, ◌∙◌, sym, ap, subst, refl, arith}
 use Rattle.std.specs.Int.{int_max}
 use Rattle.std.specs.Int.Signed.{≤ℤ_refl}
@@ -21,7 +22,7 @@ use Rattle.fill.specs.Walk.{IsWalk, crest as walk_crest, end_of, IsFlooded}
 use Rattle.fill.specs.Cells.{Cells, cell_of, node_at, IsNetOf, IsAfter, IsBeside, IsCellJoin, cells_around, has_gap_around, source_of}
 use Rattle.fill.specs.CellJoins.{some_inside}
 use Rattle.fill.specs.TileFlood.{last_of}
-use Rattle.fill.proofs.Steps.{seen, none_some, none_done, at_some, at_none}
+use Rattle.fill.proofs.Steps.{seen, none_some, none_done}
 use Rattle.fill.proofs.Heaps.{cons_head, cons_tail, cons_cases}
 use Rattle.fill.proofs.CellWays.{all_beside, beside_around}
 use Rattle.fill.proofs.Borders.{above_row}
@@ -349,9 +350,9 @@ window_level t w n levels labels net flooded p inside some =
           let edge = (filled_height t p some).1.reached in
           let path = path_in_window t w p edge.0 inside edge.1 in
           let walk = walk_of t w n net p path.0 inside path.1 in
-          absurd ((at_none (get_or levels a None) _ _ none (flooded.each a below)).0 walk.0 walk.1)
+          absurd ((MatchOption-at_none _ _ none (flooded.each a below)).0 walk.0 walk.1)
       | inr found ↦
-          let here = at_some (get_or levels a None) _ _ found.0 found.1 (flooded.each a below) in
+          let here = MatchOption-at_some _ _ found.0 found.1 (flooded.each a below) in
           let is_level = here.2 in
           let path = path_of t w n net is_level.reached.0 p inside is_level.reached.1 in
           let label = last_of p path.0 in
@@ -375,9 +376,9 @@ window_level t w n levels labels net flooded p inside some =
 pub window_none : (t : Terrain) (w : Bounds) (n : Cells) (levels : List (Option ℤ)) (labels : List (Option ℕ)) → IsNetOf t w n → IsFlooded (IsCellJoin n) (source_of n) (length n.cells) levels labels → (p : Place) → IsInBounds w p → height_at t p ≡ None → node_at w p < length n.cells → (get_or levels (node_at w p) None ≡ None) × (get_or labels (node_at w p) None ≡ None)
 window_none t w n levels labels net flooded p inside none below =
     elim (seen (get_or levels (node_at w p) None)) [
-      | inl no_level ↦ (no_level, (at_none (get_or levels (node_at w p) None) _ _ no_level (flooded.each (node_at w p) below)).1)
+      | inl no_level ↦ (no_level, (MatchOption-at_none _ _ no_level (flooded.each (node_at w p) below)).1)
       | inr found ↦
-          let here = at_some (get_or levels (node_at w p) None) _ _ found.0 found.1 (flooded.each (node_at w p) below) in
+          let here = MatchOption-at_some _ _ found.0 found.1 (flooded.each (node_at w p) below) in
           let path = path_of t w n net here.2.reached.0 p inside here.2.reached.1 in
           none_done (height_at t p) none (path_data t w p path.0 path.1)
     ]

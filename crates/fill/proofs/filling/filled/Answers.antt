@@ -1,7 +1,7 @@
 use Rattle.std.proofs.Common.{arith}
 use Rattle.fill.specs.Spills.{AreFloods}
 use Rattle.fill.proofs.Gathered.{fit_of}
-use Rattle.fill.proofs.Together.{floods_given, tiles_given}
+use Rattle.fill.proofs.Raised.{floods_given, tiles_given}
 use Rattle.fill.proofs.filling.filled.Goals as goal
 
 pub invariant_of-work : goal.invariant_of-work

@@ -1,4 +1,4 @@
-use Rattle.fill.proofs.Together.{filled_put_back, filled_stand, filled_grid}
+use Rattle.fill.proofs.Raised.{filled_put_back, filled_stand, filled_grid}
 use Rattle.fill.proofs.filling.put_back.Goals as goal
 
 pub with_own_cells-filled-requires-clause-heights : goal.with_own_cells-filled-requires-clause-heights

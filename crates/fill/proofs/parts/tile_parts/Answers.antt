@@ -1,6 +1,6 @@
 use Rattle.std.proofs.Common.{◌≡◌, arith}
 use Rattle.tiles.specs.Cutting.{tile_count}
-use Rattle.fill.proofs.PartList.{parts_more, all_parts}
+use Rattle.fill.proofs.GraphParts.{parts_more, all_parts}
 use Rattle.fill.proofs.parts.tile_parts.Goals as goal
 
 pub loop-tile-preserved : goal.loop-tile-preserved

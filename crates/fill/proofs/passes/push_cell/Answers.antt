@@ -2,7 +2,7 @@ use Rattle.std.proofs.Common.{length, refl, arith}
 use Rattle.std.proofs.lemmas.Option.{slice_get_read}
 use Rattle.std.proofs.lemmas.Result.{on_ok_weaker}
 use Rattle.tiles.proofs.Cut.{in_bounds}
-use Rattle.fill.proofs.InnerCells.{inner_cell_adds}
+use Rattle.fill.proofs.CellMarks.{inner_cell_adds}
 use Rattle.fill.proofs.passes.push_cell.Goals as goal
 
 pub inner_index-requires : goal.inner_index-requires

@@ -3,7 +3,7 @@ use mir.Val.{SFits}
 use Rattle.std.proofs.lemmas.Int.{to_z-of_z}
 use Rattle.std.proofs.lemmas.List.{get_or_default}
 use Rattle.fill.specs.declared.spills.Join.{Join}
-use Rattle.fill.proofs.GraphWays.{way_more}
+use Rattle.fill.proofs.GraphParts.{way_more}
 use Rattle.fill.proofs.spills.ways_between.Goals as goal
 
 pub loop-index-preserved : goal.loop-index-preserved

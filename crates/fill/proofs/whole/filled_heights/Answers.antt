@@ -1,4 +1,4 @@
-use Rattle.fill.proofs.WholeGrid.{whole_filled}
+use Rattle.fill.proofs.TileWindows.{whole_filled}
 use Rattle.fill.proofs.whole.filled_heights.Goals as goal
 
 pub returns : goal.returns

@@ -1,7 +1,7 @@
 use Rattle.std.proofs.Common.{◌≡◌, ◌/◌, ◌%◌, ap, ◌∙◌}
 use Rattle.tiles.specs.Cutting.{tile_of_place}
 use Rattle.fill.specs.Parts.{graph_of_parts, tile_of_node}
-use Rattle.fill.proofs.GraphWays.{just_node, part_joins, part_rising}
+use Rattle.fill.proofs.GraphParts.{just_node, part_joins, part_rising}
 use Rattle.fill.proofs.spills.SpillGraphNet.neighbours.Goals as goal
 
 pub first_from-start-requires : goal.first_from-start-requires
