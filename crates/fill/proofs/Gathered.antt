@@ -1,8 +1,6 @@
 -- The gathered joins and sources are those of the spill graph.
 use Rattle.std.proofs.Common.{◌≡◌, ◌≢◌, ℕ, ◌+◌, ◌-◌, ◌*◌, ◌/◌, ◌%◌, ◌<◌, inl, inr, ℤ, ◌≤ℤ◌, List, [], length, get_or, Option, None, Some, is_some, ◌∙◌, sym, ap, subst, refl, arith}
-use Rattle.std.specs.Int.{int_max}
 use Rattle.std.specs.List.{Contains, flat_map}
-use Rattle.std.proofs.lemmas.Int.{ints, clamps}
 use Rattle.std.proofs.lemmas.Bool.{cases_lt, cases_order}
 use Rattle.std.proofs.lemmas.Nat.{div-mul-add, mod-mul-add, div-add-mod'}
 use Rattle.std.proofs.lemmas.Option.{MatchOption-at_some, MatchOption-at_none, same_Some, slice_get_within}
@@ -24,8 +22,9 @@ use Rattle.fill.specs.declared.parts.Part.{Part}
 use Rattle.fill.specs.declared.spills.Join.{Join}
 use Rattle.fill.specs.declared.marks.Mark.{Mark}
 use Rattle.fill.proofs.Steps.{seen, none_some, none_done}
-use Rattle.fill.proofs.Heaps.{all_by_contains}
-use Rattle.fill.proofs.Windows.{data_is, no_data, height_is}
+use Rattle.fill.specs.CellJoins.{max_comm}
+use Rattle.fill.proofs.Heaps.{all_by_contains, not_some}
+use Rattle.fill.proofs.Windows.{data_is, height_is}
 use Rattle.fill.proofs.TileWindows.{data_within, entry_in-inside}
 use Rattle.drainage.proofs.Heights.{trans}
 use Rattle.drainage.proofs.Uniqueness.{between}
@@ -34,9 +33,6 @@ use Rattle.fill.proofs.CellMarks.{label_within, mark_some, mark_parts, mark_outs
 use Rattle.fill.proofs.Adding.{no_join}
 use Rattle.fill.proofs.Waits.{in_some_list, in_lists}
 use Rattle.fill.proofs.GraphParts.{part_there, part_with}
-
-max_turned : (a b : ℤ) → int_max b a ≡ int_max a b
-max_turned a b = omega (arith, ints, clamps)
 
 -- the lowest joins of a tile
 pub tile_gathered : (c : Cutting) (floods : List Flood) (tile : ℕ) (met lowest : List Join) → Adds c floods (IsInTile c tile) [] met → AreLowest met lowest → AreGathered c floods (IsInTile c tile) lowest
@@ -112,7 +108,7 @@ meets_turned c floods p q j m = record {
   from_is = m.to_is;
   to_is = m.from_is;
   different = λ e. m.different (sym e);
-  greater = max_turned m.from_level m.to_level ∙ m.greater;
+  greater = max_comm m.to_level m.from_level ∙ m.greater;
 }
 
 -- Each two labels have one join at most.
@@ -219,7 +215,7 @@ gap_of t c floods p h are (inr (inr (q, touches, none))) = inr (inr (
     | inr found ↦
         let within = marked_within c floods q found.0 h (fit_of t c floods h are) found.1 in
         let parts = mark_parts c.cols (level_among c floods q) (label_among c floods q) found.0 found.1 in
-        none_done (height_at t q) (no_data _ none) (level_has_data t c floods h are q found.0.level within parts.1)
+        none_done (height_at t q) (not_some _ none) (level_has_data t c floods h are q found.0.level within parts.1)
   ],
 ))
 

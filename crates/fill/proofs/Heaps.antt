@@ -1,5 +1,5 @@
 -- The state of a flood, and what a heap of waiting nodes has after each pop and push.
-use Rattle.std.proofs.Common.{◌≡◌, ℕ, ◌<◌, ◌⊎◌, ℤ, List, length, Option, None, Some, IsSome, zero, suc, ◌+◌, false, ◌∷◌, get_or, set, replicate, ◌≤ℤ◌, is_some, sym, ap, subst, refl, ◌∙◌, arith, inl, inr}
+use Rattle.std.proofs.Common.{[], ◌≡◌, ℕ, ◌<◌, ◌⊎◌, ℤ, List, length, Option, None, Some, IsSome, zero, suc, ◌+◌, false, ◌∷◌, get_or, set, replicate, ◌≤ℤ◌, is_some, sym, ap, subst, refl, ◌∙◌, arith, inl, inr}
 use Rattle.std.specs.Int.{int_max}
 use Rattle.std.specs.List.{Contains, All}
 use Rattle.fill.specs.Walk.{Joins, Sources, IsWalk, crest, end_of, IsLevel}
@@ -45,6 +45,9 @@ cons_cases x xs y h = go h.0 h.1 h.2 where
   go zero below e = inl (sym e)
   go (suc k) below e = inr (k, omega arith, e)
 
+pub one_held : {X : Type 0} (x y : X) → Contains (x ∷ []) y → y ≡ x
+one_held x y h = elim (cons_cases x [] y h) [ inl same ↦ same | inr none ↦ absurd (omega (arith, none.1)) ]
+
 pub cons_tail : {X : Type 0} (x : X) (xs : List X) (y : X) → Contains xs y → Contains (x ∷ xs) y
 cons_tail x xs y h = (suc h.0, omega (arith, h.1), h.2)
 
@@ -59,9 +62,6 @@ held_in {x} {old} {new} perm y h = Contains-permutation (x ∷ old) new y perm h
 
 pub held_cases : {x : Waiting} {old new : List Waiting} → PutsIn x old new → (y : Waiting) → Contains new y → (y ≡ x) ⊎ Contains old y
 held_cases {x} {old} {new} perm y h = cons_cases x old y (Contains-permutation new (x ∷ old) y (IsPermutation-sym _ _ perm) h)
-
-le_refl : (a b : ℤ) → a ≡ b → b ≤ℤ a
-le_refl a b e = omega (arith, ints)
 
 pub nothing_left : (labels : List (Option ℕ)) (xs : List Waiting) → OnlyDoneLeft labels xs xs
 nothing_left labels xs = record {
@@ -91,7 +91,7 @@ first_open labels old now rest x s perm bound is_open =
           elim (All-contains (λ z. IsDone labels z ⊎ Contains now z) old y s.kept h) [
             | inl d ↦ inl d
             | inr held ↦ elim (held_cases perm y held) [
-              | inl same ↦ inr (le_refl y.height.0 x.height.0 (ap (λ (z : Waiting). z.height.0) same))
+              | inl same ↦ inr (omega (arith, ints, ap (λ (z : Waiting). z.height.0) same))
               | inr still ↦ inr (All-contains (λ z. x.height.0 ≤ℤ z.height.0) rest y bound still)
             ]
           ]);

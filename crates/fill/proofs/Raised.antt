@@ -74,8 +74,8 @@ filled_tile t c floods tile f levels raised h are there raises is =
           match_of (height_at t p) _ _
           (λ none. entry ∙ raised_from_none c levels _ _ (sym level ∙ (MatchOption-at_none _ _ none (flood.each p i)).0))
           (λ h some.
-              let filled = raises p (ap is_some some) in
-              (filled.0, entry ∙ sym (ap (λ z. raised_by c levels z (get_or f.labels k None)) own_level) ∙ sym (ap (raised_by c levels (level_among c floods p)) own_label) ∙ filled.1, filled.2));
+          let filled = raises p (ap is_some some) in
+          (filled.0, entry ∙ sym (ap (λ z. raised_by c levels z (get_or f.labels k None)) own_level) ∙ sym (ap (raised_by c levels (level_among c floods p)) own_label) ∙ filled.1, filled.2));
     }
 
 -- the levels of the spill graph raise each cell to its filled height

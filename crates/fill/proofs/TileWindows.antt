@@ -114,8 +114,8 @@ whole_filled t n levels labels net flooded =
           match_of (height_at t p) _ _
           (λ none. entry ∙ (window_none t (whole t) n levels labels net flooded p in_window none (omega (arith, net.size, mul-add-lt (p.row + 1) (t.cols + 2) (p.col + 1) (t.rows + 2) (omega (arith, inside)) (omega (arith, inside)), sym (shift p.row p.col (t.cols + 2))))).0)
           (λ z some.
-              let l = window_level t (whole t) n levels labels net flooded p in_window (ap is_some some) in
-              (l.level, entry ∙ l.level_is, whole_level t p l.label l.level in_window l.right));
+          let l = window_level t (whole t) n levels labels net flooded p in_window (ap is_some some) in
+          (l.level, entry ∙ l.level_is, whole_level t p l.label l.level in_window l.right));
     } where
       shift : (r c s : ℕ) → (r + 1) * s + (c + 1) ≡ (r - 0 + 1) * s + (c - 0 + 1)
       shift r c s = ap (λ n. (n + 1) * s + (c + 1)) (minus r) ∙ ap (λ n. (r - 0 + 1) * s + (n + 1)) (minus c) where
@@ -274,12 +274,12 @@ tile_flooded t c tile n levels labels h l cuts net flooded =
           let label = mapped_entry b (inner_rows labels b.cols b.rows) p (length-inner_rows labels b.cols b.rows (omega (arith, labels_long))) inside ∙ ap (label_of_node b) node in
           match_of (height_at t p) _ _
           (λ none.
-              let both = window_none t b n levels labels net flooded p inside none (omega (arith, net.size, mul-add-lt (p.row - b.top + 1) (b.cols + 2) (p.col - b.left + 1) (b.rows + 2) (omega (arith, inside)) (omega (arith, inside)))) in
-              (level ∙ both.0, label ∙ ap (label_of_node b) both.1))
+          let both = window_none t b n levels labels net flooded p inside none (omega (arith, net.size, mul-add-lt (p.row - b.top + 1) (b.cols + 2) (p.col - b.left + 1) (b.rows + 2) (omega (arith, inside)) (omega (arith, inside)))) in
+          (level ∙ both.0, label ∙ ap (label_of_node b) both.1))
           (λ z some.
-              let here = window_level t b n levels labels net flooded p inside (ap is_some some) in
-              let label_is = label ∙ ap (label_of_node b) here.label_is ∙ ap Some (place_back b here.label here.inside) in
-              (here.level, here.label, level ∙ here.level_is, label_is, tile_level t c tile h l cuts p here.label here.level i here.right));
+          let here = window_level t b n levels labels net flooded p inside (ap is_some some) in
+          let label_is = label ∙ ap (label_of_node b) here.label_is ∙ ap Some (place_back b here.label here.inside) in
+          (here.level, here.label, level ∙ here.level_is, label_is, tile_level t c tile h l cuts p here.label here.level i here.right));
     }
 
 pub tile_flood_is : (t : Terrain) (c : Cutting) (tile : ℕ) (n : Cells) (b : Bounds) (levels levels_in : List (Option ℤ)) (labels : List (Option ℕ)) (labels_in : List (Option Place)) → IsCutting c → tile < tile_count c → (c.cols ≡ t.cols) × (c.rows ≡ t.rows) → IsNetOf t (bounds_of c tile) n → IsFlooded (IsCellJoin n) (source_of n) (length n.cells) levels labels → b ≡ bounds_of c tile → levels_in ≡ inner_rows levels b.cols b.rows → labels_in ≡ map (label_of_node b) (inner_rows labels b.cols b.rows) → IsTileFlood t c tile (record { bounds = b; levels = levels_in; labels = labels_in }) × IsFlood (record { bounds = b; levels = levels_in; labels = labels_in })
@@ -334,8 +334,8 @@ cell_flooded t c tile level h l one_row one_col is = record {
       match_of (height_at t p) _ _
       (λ none. let gap : level ≡ None = sym height ∙ none in (level_is ∙ gap, label_is ∙ ap (own_label b) gap))
       (λ z found.
-          let some : level ≡ Some z = sym height ∙ found in
-          (z, p, level_is ∙ some, label_is ∙ ap (own_label b) some ∙ ap Some (sym here), own_level t c tile p z i (ap (λ (q : Place). q.row) here) found));
+      let some : level ≡ Some z = sym height ∙ found in
+      (z, p, level_is ∙ some, label_is ∙ ap (own_label b) some ∙ ap Some (sym here), own_level t c tile p z i (ap (λ (q : Place). q.row) here) found));
 } where
   b : Bounds
   b = bounds_of c tile

@@ -128,10 +128,10 @@ pop_taken k (Some w) lists l others inside is =
 pub is_lowest : (base level : ℤ) (first end : ℕ) (lists : List (List Waiting)) (others : List Waiting) → ((k : ℕ) → All (IsListed base first end k) (get_or lists k [])) → ((k : ℕ) → first ≤ k → k < end → level ≤ℤ (base +ℤ pos k)) → All (λ x. level ≤ℤ x.height.0) others → All (λ x. level ≤ℤ x.height.0) (all_entries lists others)
 is_lowest base level first end lists others listed low rest =
     All-append (λ x. level ≤ℤ x.height.0) (flat_map (λ l. l) lists) others (all_by_contains (λ x. level ≤ℤ x.height.0) (flat_map (λ l. l) lists) (λ x h.
-        let at = in_some_list lists x h in
-        let is = All-contains (IsListed base first end at.0) _ x (listed at.0) at.1 in
-        let under = low at.0 is.from is.below in
-        omega (arith, ints, under, is.level))) rest
+    let at = in_some_list lists x h in
+    let is = All-contains (IsListed base first end at.0) _ x (listed at.0) at.1 in
+    let under = low at.0 is.from is.below in
+    omega (arith, ints, under, is.level))) rest
 
 pub pop_lowest : (base : ℤ) (first end : ℕ) (r : Option Waiting) (lists : List (List Waiting)) (l others : List Waiting) → first < length lists → get_or lists first [] ≡ l ++ option_to_list r → AreOrdered base first end lists others → All (λ x. (base +ℤ pos first) ≤ℤ x.height.0) others → IfSome r (λ w. All (λ x. w.height.0 ≤ℤ x.height.0) (all_entries (set lists first l) others))
 pop_lowest base first end None lists l others inside is s lower = tt

@@ -1,6 +1,6 @@
 -- Windows of a terrain: the numbers of their cells in a net, their paths, and what a flood of the net gives.
 use Rattle.std.proofs.lemmas.Option.{MatchOption-at_some, MatchOption-at_none}
-use Rattle.std.proofs.Common.{◌≡◌, ◌≢◌, ℕ, zero, suc, ◌+◌, ◌-◌, ◌*◌, ◌<◌, ◌≤◌, ◌⊎◌, inl, inr, ℤ, pos, ◌≤ℤ◌, Bool, true, List, [], ◌∷◌, length, get_or, Option, None, Some, IsSome, IsNone, is_some, is_none, unwrap_or, ◌∙◌, sym, ap, subst, refl, arith}
+use Rattle.std.proofs.Common.{◌≡◌, ◌≢◌, ℕ, zero, suc, ◌+◌, ◌-◌, ◌*◌, ◌<◌, ◌≤◌, ◌⊎◌, inl, inr, ℤ, pos, ◌≤ℤ◌, Bool, true, List, [], ◌∷◌, length, get_or, Option, None, Some, IsSome, is_some, is_none, unwrap_or, ◌∙◌, sym, ap, subst, refl, arith}
 use Rattle.std.specs.Int.{int_max}
 use Rattle.std.specs.Int.Signed.{≤ℤ_refl}
 use Rattle.std.specs.List.{Contains, list_any}
@@ -23,7 +23,7 @@ use Rattle.fill.specs.Cells.{Cells, cell_of, node_at, IsNetOf, IsAfter, IsBeside
 use Rattle.fill.specs.CellJoins.{some_inside}
 use Rattle.fill.specs.TileFlood.{last_of}
 use Rattle.fill.proofs.Steps.{seen, none_some, none_done}
-use Rattle.fill.proofs.Heaps.{cons_head, cons_tail, cons_cases}
+use Rattle.fill.proofs.Heaps.{cons_head, cons_tail, cons_cases, not_some}
 use Rattle.fill.proofs.CellWays.{all_beside, beside_around}
 use Rattle.fill.proofs.Borders.{above_row}
 
@@ -138,10 +138,6 @@ none_is : {X : Type 0} (o : Option X) → is_none o ≡ true → o ≡ None
 none_is None e = refl
 none_is (Some x) e = absurd (cc)
 
-pub no_data : {X : Type 0} (o : Option X) → IsNone o → o ≡ None
-no_data None e = refl
-no_data (Some x) e = absurd (cc)
-
 pub data_is : {X : Type 0} (o : Option X) → IsSome o → (x : X) × (o ≡ Some x)
 data_is None e = absurd (cc)
 data_is (Some x) e = (x, refl)
@@ -224,7 +220,7 @@ source_gap t w n net p a source = elim source.1 [
     | inl north ↦ rim_gap t w n net p a (inl (omega (arith, a)))
     | inr other ↦ elim other [
       | inl west ↦ rim_gap t w n net p a (inr (inr (inl (omega (arith, a)))))
-      | inr some_gap ↦ at some_gap.0 some_gap.1 (no_data _ some_gap.2)
+      | inr some_gap ↦ at some_gap.0 some_gap.1 (not_some _ some_gap.2)
     ]
   ]
 ] where

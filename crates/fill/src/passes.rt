@@ -201,8 +201,8 @@ fn push_inner_cell(
     push_around(table, tiling, flood, index, from, width)
 }
 
-/// Adds the joins of a cell of a tile with those that touch it.
-#[inline]
+/// Adds the joins of a cell of a tile with those that touch it. Most cells have one label around them, and none.
+#[inline(always)]
 fn push_cell(
     table: &mut JoinTable,
     tiling: &Tiling,
@@ -217,6 +217,9 @@ fn push_cell(
     ensures { OnOk result (Adds tiling.now floods.now (λ p. p ≡ place) table.old.joins.items table.new.joins.items) }
 {
     let flood = &floods[tile as usize];
+    if flood.has_one_label_around(place) {
+        return Ok(());
+    }
     match flood.inner_index(place) {
         Some(index) => push_inner_cell(table, tiling, flood, index),
         None => push_rim_cell(table, tiling, floods, tile, place),
@@ -239,11 +242,7 @@ fn push_cells(
         (λ p. IsInTile tiling.now tile p × (p.row ≡ row)) table.old.joins.items table.new.joins.items) }
 {
     let Bounds { left, cols, .. } = tiling.bounds(tile);
-    let flood = &floods[tile as usize];
     for col in left..left + cols {
-        if flood.has_one_label_around(Place { row, col }) {
-            continue;
-        }
         push_cell(table, tiling, floods, tile, Place { row, col })?;
     }
     Ok(())
