@@ -1,7 +1,8 @@
 -- Joins that are added cell by cell.
 use Rattle.std.proofs.Common.{◌≡◌, ◌≢◌, ◌==◌, ◌↔◌, ℕ, ◌+◌, ◌-◌, ◌*◌, ◌/◌, ◌%◌, ◌<◌, ◌≤◌, ◌⊎◌, inl, inr, ℤ, ◌≤ℤ◌, List, [], ◌∷◌, ◌++◌, length, get_or, set, Option, None, Some, ◌∙◌, sym, ap, subst, refl, arith}
 use Rattle.std.specs.Int.{int_max}
-use Rattle.std.proofs.lemmas.Int.{ints}
+use Rattle.std.specs.Int.Signed.{≤ℤ_refl}
+use Rattle.drainage.proofs.Heights.{trans}
 use Rattle.std.specs.List.{Contains}
 use Rattle.std.proofs.lemmas.Bool.{cases_eq, cond-true, cond-false, eq-eqb, eqb-true, cases_Bool}
 use Rattle.std.proofs.lemmas.Nat.{same_from_place, mod_below, div-add-mod'}
@@ -16,8 +17,8 @@ use Rattle.fill.specs.TileFlood.{Flood}
 use Rattle.fill.specs.Gathering.{mark_among, Meets, IsMeetingAt, joins_of, Adds, AddsCovered, Covered}
 use Rattle.fill.specs.declared.spills.Join.{Join}
 use Rattle.fill.specs.declared.marks.Mark.{Mark}
-use Rattle.fill.proofs.Steps.{none_some, le_trans}
-use Rattle.fill.proofs.Heaps.{cons_head, cons_cases}
+use Rattle.fill.proofs.Steps.{none_some}
+use Rattle.fill.proofs.Heaps.{cons_head, cons_cases, one_held}
 
 -- the join of two marks
 joins_of_differ : (from to : Mark) → from.node ≢ to.node → joins_of from (Some to) ≡ record { from = from.node; to = to.node; height = int_max from.level to.level } ∷ []
@@ -39,19 +40,13 @@ joins_of_is from (Some to) j h = elim (cases_eq from.node to.node) [
   ]
 ]
 
-le_refl : (a b : ℤ) → a ≡ b → a ≤ℤ b
-le_refl a b e = omega (arith, ints)
-
 -- a join covers itself
 pub covered_itself : (joins : List Join) (j : Join) → Contains joins j → Covered joins j
-covered_itself joins j h = (j, h, refl, refl, le_refl j.height j.height refl)
+covered_itself joins j h = (j, h, refl, refl, ≤ℤ_refl j.height)
 
 -- what is covered stays so
 covered_still : (now new : List Join) → ((j : Join) → Contains now j → Covered new j) → (j : Join) → Covered now j → Covered new j
-covered_still now new kept j c = let d = kept c.0 c.1 in (d.0, d.1, d.2 ∙ c.2, d.3 ∙ c.3, le_trans _ _ _ d.4 c.4)
-
-one_held : (x y : Join) → Contains (x ∷ []) y → y ≡ x
-one_held x y h = elim (cons_cases x [] y h) [ inl same ↦ same | inr none ↦ absurd (no_join y none) ]
+covered_still now new kept j c = let d = kept c.0 c.1 in (d.0, d.1, d.2 ∙ c.2, d.3 ∙ c.3, trans _ _ _ d.4 c.4)
 
 -- a join that is added at the end
 pub adds_pushed : (old new : List Join) (j : Join) → new ≡ old ++ j ∷ [] → AddsCovered old (j ∷ []) new
@@ -60,14 +55,6 @@ adds_pushed old new j is = subst (AddsCovered old (j ∷ [])) (sym is) (record {
   only = λ k h. Contains-append_cases old (j ∷ []) k h;
   every = λ k h. covered_itself _ k (Contains-append_right old (j ∷ []) k h);
 })
-
--- one that a join of the same labels covers
-pub adds_covered : (old : List Join) (at : ℕ) (met j : Join) → at < length old → met ≡ get_or old at met → met.from ≡ j.from → met.to ≡ j.to → met.height ≤ℤ j.height → AddsCovered old (j ∷ []) old
-adds_covered old at met j inside is from to low = record {
-  kept = λ k h. covered_itself old k h;
-  only = λ k h. inl h;
-  every = λ k h. subst (Covered old) (sym (one_held j k h)) (met, (at, inside, sym is), from, to, low);
-}
 
 -- one that takes the place of a join of the same labels
 pub adds_lower : (old : List Join) (at : ℕ) (met j : Join) → at < length old → met ≡ get_or old at met → met.from ≡ j.from → met.to ≡ j.to → j.height ≤ℤ met.height → AddsCovered old (j ∷ []) (set old at j)
@@ -189,14 +176,6 @@ no_mark_adds c floods p old none = record {
   kept = λ j h. covered_itself old j h;
   only = λ j h. inl h;
   every = λ x q j same m. none_some _ (record { level = m.from_level; node = j.from }) (ap (mark_among c floods) same ∙ none) m.from_is;
-}
-
--- nothing has been added
-pub adds_none : (c : Cutting) (floods : List Flood) (places : Place → Type 0) (old : List Join) → ((p : Place) → places p → ⊥) → Adds c floods places old old
-adds_none c floods places old none = record {
-  kept = λ j h. covered_itself old j h;
-  only = λ j h. inl h;
-  every = λ p q j at m. absurd (none p at);
 }
 
 -- one after another

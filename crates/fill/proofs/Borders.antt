@@ -2,13 +2,16 @@
 use Rattle.std.proofs.Common.{◌≡◌, ℕ, zero, suc, ◌+◌, ◌-◌, ◌*◌, ◌<◌, ◌≤◌, inl, inr, ℤ, List, [], ◌∷◌, ◌++◌, length, get_or, take, replicate, Option, None, Some, ◌∙◌, sym, ap, refl, arith, length-append}
 use Rattle.std.proofs.lemmas.Bool.{cases_lt, cases_eq}
 use Rattle.std.proofs.lemmas.Slice.{between_is}
-use Rattle.std.proofs.lemmas.List.{length-replicate, length-drop, length-take-le, get_or-drop, get_or-take, get_or-replicate, get_or_append_left, get_or-append_right, get_or_past}
+use Rattle.std.proofs.lemmas.List.{length-replicate, length-drop, length-take-le, get_or-drop, get_or-take, get_or_append_left, get_or-append_right}
 use Rattle.std.proofs.lemmas.Nat.{mul-add-lt, mul-le}
 use Rattle.ascii_grid.specs.Raster.{Terrain}
 use Rattle.ascii_grid.specs.Neighbours.{height_at}
-use Rattle.fill.specs.Cells.{Cells, Window, node_at, IsNetOf, IsBordered, first_rows, bordered_rows, row_of, whole}
+use Rattle.ascii_grid.specs.declared.place.Place.{Place}
+use Rattle.tiles.specs.declared.bounds.Bounds.{Bounds}
+use Rattle.fill.specs.Cells.{Cells, node_at, IsNetOf, IsBordered, first_rows, bordered_rows, row_of, whole}
 use Rattle.ascii_grid.proofs.Places.{same_place, entry-inside}
 use Rattle.fill.proofs.Steps.{seen, none_some, none_done}
+use Rattle.fill.proofs.Heaps.{replicated}
 
 -- each row has this many cells
 abbrev pub AreRows : (ℕ → List (Option ℤ)) → ℕ → ℕ → Type 0
@@ -62,11 +65,8 @@ first_rows_at row cols (suc count) h r c below inside =
       minus : (a b : ℕ) → (a + b) - a ≡ b
       minus a b = omega arith
 
-pub all_none : (n k : ℕ) → get_or {A = Option ℤ} (replicate n None) k None ≡ None
-all_none n k = elim (cases_lt k n) [ inl low ↦ get_or-replicate n k None None low | inr high ↦ get_or_past (replicate n None) k None (omega (arith, length-replicate {A = Option ℤ} n None)) ]
-
 pub first_rows_only : (row : ℕ → List (Option ℤ)) (cols count : ℕ) → AreRows row cols count → (a : ℕ) (x : ℤ) → get_or (first_rows row (cols + 2) count) a None ≡ Some x → (r c : ℕ) × (r < count) × (c < cols) × (a ≡ (r + 1) * (cols + 2) + (c + 1))
-first_rows_only row cols zero h a x e = none_some _ x (all_none (cols + 2) a) e
+first_rows_only row cols zero h a x e = none_some _ x (replicated None (cols + 2) a) e
 first_rows_only row cols (suc count) h a x e =
     let before = fewer row cols count h in
     let len = length-first_rows row cols count before in
@@ -83,7 +83,7 @@ pub bordered_rows_only : (row : ℕ → List (Option ℤ)) (cols count : ℕ) �
 bordered_rows_only row cols count h a x e =
     elim (cases_lt a (length (first_rows row (cols + 2) count))) [
       | inl low ↦ first_rows_only row cols count h a x (sym (get_or_append_left (first_rows row (cols + 2) count) (replicate (cols + 2) None) None a low) ∙ e)
-      | inr high ↦ none_some _ x (get_or-append_right (first_rows row (cols + 2) count) (replicate (cols + 2) None) (length (first_rows row (cols + 2) count)) a None refl high ∙ all_none (cols + 2) (a - length (first_rows row (cols + 2) count))) e
+      | inr high ↦ none_some _ x (get_or-append_right (first_rows row (cols + 2) count) (replicate (cols + 2) None) (length (first_rows row (cols + 2) count)) a None refl high ∙ replicated None (cols + 2) (a - length (first_rows row (cols + 2) count))) e
     ]
 
 pub bordered_rows_at : (row : ℕ → List (Option ℤ)) (cols count : ℕ) → AreRows row cols count → (r c : ℕ) → r < count → c < cols → get_or (bordered_rows row (cols + 2) count) ((r + 1) * (cols + 2) + (c + 1)) None ≡ get_or (row r) c None
@@ -100,10 +100,10 @@ length-bordered_rows row cols count h =
     omega (arith, len, joined, last)
 
 -- the rows are those of the window
-abbrev pub ShowRows : Terrain → Window → (ℕ → List (Option ℤ)) → Type 0
+abbrev pub ShowRows : Terrain → Bounds → (ℕ → List (Option ℤ)) → Type 0
 ShowRows t w row = (r c : ℕ) → r < w.rows → c < w.cols → get_or (row r) c None ≡ height_at t (record { row = w.top + r; col = w.left + c })
 
-pub net_of_rows : (t : Terrain) (w : Window) (row : ℕ → List (Option ℤ)) → AreRows row w.cols w.rows → ShowRows t w row → IsNetOf t w (record { stride = w.cols + 2; cells = bordered_rows row (w.cols + 2) w.rows })
+pub net_of_rows : (t : Terrain) (w : Bounds) (row : ℕ → List (Option ℤ)) → AreRows row w.cols w.rows → ShowRows t w row → IsNetOf t w (record { stride = w.cols + 2; cells = bordered_rows row (w.cols + 2) w.rows })
 net_of_rows t w row are show = record {
   stride = refl;
   inside = λ p h.
@@ -126,8 +126,12 @@ net_of_rows t w row are show = record {
   minus : (a b : ℕ) → (a + b) - a ≡ b
   minus a b = omega arith
 
+-- a cell of the window is above the first row of its net
+pub above_row : (w : Bounds) (p : Place) → w.cols + 2 < node_at w p
+above_row w p = omega (arith, mul-le 1 (w.cols + 2) (p.row - w.top + 1) (w.cols + 2) (omega arith) (omega arith))
+
 -- such a list is bordered
-pub bordered : (t : Terrain) (w : Window) (n : Cells) → w.rows ≤ 4096 → w.cols ≤ 4096 → IsNetOf t w n → IsBordered n
+pub bordered : (t : Terrain) (w : Bounds) (n : Cells) → w.rows ≤ 4096 → w.cols ≤ 4096 → IsNetOf t w n → IsBordered n
 bordered t w n few_rows few_cols net = record {
   narrow = omega (arith, net.stride, few_cols);
   few = omega (arith, net.size, mul-le (w.rows + 2) (w.cols + 2) 4098 4098 (omega arith) (omega arith));
@@ -135,12 +139,10 @@ bordered t w n few_rows few_cols net = record {
       let p = net.only a some in
       let stride = net.stride in
       let size = net.size in
-      let low : w.cols + 2 < node_at w p.0 = above_row (p.0.row - w.top) (p.0.col - w.left) (w.cols + 2) in
+      let low : w.cols + 2 < node_at w p.0 = above_row w p.0 in
       let room : (p.0.row - w.top + 2) * (w.cols + 2) + (p.0.col - w.left + 1 + 1) < (w.cols + 2) * (w.rows + 2) = mul-add-lt (p.0.row - w.top + 2) (w.cols + 2) (p.0.col - w.left + 1 + 1) (w.rows + 2) (omega (arith, p.1.0, p.1.1)) (omega (arith, p.1.2, p.1.3)) in
       (omega (arith, stride, low, p.2), omega (arith, stride, size, room, p.2));
-} where
-  above_row : (r c s : ℕ) → s < (r + 1) * s + (c + 1)
-  above_row r c s = omega (arith, mul-le 1 s (r + 1) s (omega arith) (omega arith))
+}
 
 -- the rows of a list in row order
 row_cell : (cols : ℕ) (xs : List (Option ℤ)) (r c : ℕ) → c < cols → get_or (row_of cols xs r) c None ≡ get_or xs (r * cols + c) None

@@ -1,11 +1,9 @@
 -- The gathered joins and sources are those of the spill graph.
 use Rattle.std.proofs.Common.{◌≡◌, ◌≢◌, ℕ, ◌+◌, ◌-◌, ◌*◌, ◌/◌, ◌%◌, ◌<◌, inl, inr, ℤ, ◌≤ℤ◌, List, [], length, get_or, Option, None, Some, is_some, ◌∙◌, sym, ap, subst, refl, arith}
-use Rattle.std.specs.Int.{int_max}
 use Rattle.std.specs.List.{Contains, flat_map}
-use Rattle.std.proofs.lemmas.Int.{ints, clamps}
 use Rattle.std.proofs.lemmas.Bool.{cases_lt, cases_order}
 use Rattle.std.proofs.lemmas.Nat.{div-mul-add, mod-mul-add, div-add-mod'}
-use Rattle.std.proofs.lemmas.Option.{same_Some, slice_get_within}
+use Rattle.std.proofs.lemmas.Option.{MatchOption-at_some, MatchOption-at_none, same_Some, slice_get_within}
 use Rattle.std.proofs.lemmas.List.{get_or_default, get_or_past}
 use Rattle.std.proofs.lemmas.List.Elements.{All-contains}
 use Rattle.ascii_grid.specs.Raster.{Terrain}
@@ -23,20 +21,18 @@ use Rattle.fill.specs.Parts.{IsPart, AreParts, IsGraph, joins_by_part, graph_of_
 use Rattle.fill.specs.declared.parts.Part.{Part}
 use Rattle.fill.specs.declared.spills.Join.{Join}
 use Rattle.fill.specs.declared.marks.Mark.{Mark}
-use Rattle.fill.proofs.Steps.{seen, none_some, none_done, at_some, at_none}
-use Rattle.fill.proofs.Heaps.{all_by_contains}
-use Rattle.fill.proofs.Windows.{data_is, no_data}
+use Rattle.fill.proofs.Steps.{seen, none_some, none_done}
+use Rattle.fill.specs.CellJoins.{max_comm}
+use Rattle.fill.proofs.Heaps.{all_by_contains, not_some}
+use Rattle.fill.proofs.Windows.{data_is, height_is}
 use Rattle.fill.proofs.TileWindows.{data_within, entry_in-inside}
-use Rattle.fill.proofs.WindowLevels.{height_is}
-use Rattle.fill.proofs.Ways.{le_of, le_both}
-use Rattle.fill.proofs.Rims.{HasTileLevel, has_tile_level, level_has_data, label_has_data, label_in_tile, edge_level, edge_label, flood_there, among_is}
+use Rattle.drainage.proofs.Heights.{trans}
+use Rattle.drainage.proofs.Uniqueness.{between}
+use Rattle.fill.proofs.Rims.{HasTileLevel, has_tile_level, level_has_data, label_has_data, label_in_tile, edge_level, edge_label, list_there, among_is}
 use Rattle.fill.proofs.CellMarks.{label_within, mark_some, mark_parts, mark_outside}
 use Rattle.fill.proofs.Adding.{no_join}
 use Rattle.fill.proofs.Waits.{in_some_list, in_lists}
-use Rattle.fill.proofs.PartList.{part_there, part_with}
-
-max_turned : (a b : ℤ) → int_max b a ≡ int_max a b
-max_turned a b = omega (arith, ints, clamps)
+use Rattle.fill.proofs.GraphParts.{part_there, part_with}
 
 -- the lowest joins of a tile
 pub tile_gathered : (c : Cutting) (floods : List Flood) (tile : ℕ) (met lowest : List Join) → Adds c floods (IsInTile c tile) [] met → AreLowest met lowest → AreGathered c floods (IsInTile c tile) lowest
@@ -45,7 +41,7 @@ tile_gathered c floods tile met lowest adds low = record {
   every = λ p q j at m.
       let was = adds.every p q j at m in
       let made = low.every was.0 was.1 in
-      (made.0, made.1, made.2 ∙ was.2, made.3 ∙ was.3, le_of _ _ _ made.4 was.4);
+      (made.0, made.1, made.2 ∙ was.2, made.3 ∙ was.3, trans _ _ _ made.4 was.4);
 }
 
 -- the joins of all parts
@@ -96,7 +92,7 @@ node_below : (c : Cutting) (floods : List Flood) (p : Place) (m : Mark) → IsCu
 node_below c floods p m h fit e =
     let parts = mark_parts c.cols (level_among c floods p) (label_among c floods p) m e in
     let tile = tile_of_place c p in
-    let f = flood_there floods tile (omega (arith, fit.count, tile_of_place_below c p h (marked_within c floods p m h fit e))) in
+    let f = list_there floods tile (omega (arith, fit.count, tile_of_place_below c p h (marked_within c floods p m h fit e))) in
     let label : label_in f.0 p ≡ Some parts.0 = sym (among_is (λ f. label_in f p) floods tile f.0 f.1) ∙ parts.2 in
     let within = label_within c f.0 p parts.0 (fit.sizes tile f.0 f.1) (fit.labels tile f.0 f.1) label in
     omega (arith, index_below c.cols c.rows parts.0 within.0 within.1, parts.3)
@@ -112,7 +108,7 @@ meets_turned c floods p q j m = record {
   from_is = m.to_is;
   to_is = m.from_is;
   different = λ e. m.different (sym e);
-  greater = max_turned m.from_level m.to_level ∙ m.greater;
+  greater = max_comm m.to_level m.from_level ∙ m.greater;
 }
 
 -- Each two labels have one join at most.
@@ -135,7 +131,7 @@ join_back c floods joins h fit s once j there =
     let other = s.only cover.0 cover.1 in
     let again = meets_turned c floods other.0 other.1 cover.0 other.3 in
     let low = low_as c floods joins h fit s once j (turned cover.0) other.1 other.0 there again (sym cover.3) (sym cover.2) in
-    let height : cover.0.height ≡ j.height = le_both _ _ cover.4 low in
+    let height : cover.0.height ≡ j.height = between _ _ cover.4 low in
     subst (Contains joins) (same_join cover.0 (turned j) cover.2 cover.3 height) cover.1 where
       same_join : (x y : Join) → x.from ≡ y.from → x.to ≡ y.to → x.height ≡ y.height → x ≡ y
       same_join x y a b e = ap (λ n. record { from = n; to = x.to; height = x.height }) a ∙ ap (λ n. record { from = y.from; to = n; height = x.height }) b ∙ ap (λ n. record { from = y.from; to = y.to; height = n }) e
@@ -152,9 +148,9 @@ fit_labels t c tile f h below cuts flood k label e = elim (cases_lt k (length f.
       ∙ ap (λ (b : Bounds). get_or f.labels ((p.row - b.top) * b.cols + (p.col - b.left)) None) flood.bounds
       ∙ ap (λ n. get_or f.labels n None) (index_in-place_in (bounds_of c tile) k) ∙ e in
       elim (seen (height_at t p)) [
-        | inl none ↦ none_some (label_in f p) label (at_none (height_at t p) _ _ none (flood.each p i)).1 at
+        | inl none ↦ none_some (label_in f p) label (MatchOption-at_none _ _ none (flood.each p i)).1 at
         | inr height ↦
-            let here = at_some (height_at t p) _ _ height.0 height.1 (flood.each p i) in
+            let here = MatchOption-at_some _ _ height.0 height.1 (flood.each p i) in
             let same = same_Some here.1 label (sym here.3 ∙ at) in
             data_within t c label cuts (subst (IsDataCell t) same (label_has_data t c p here.1 here.0 here.4))
       ]
@@ -219,7 +215,7 @@ gap_of t c floods p h are (inr (inr (q, touches, none))) = inr (inr (
     | inr found ↦
         let within = marked_within c floods q found.0 h (fit_of t c floods h are) found.1 in
         let parts = mark_parts c.cols (level_among c floods q) (label_among c floods q) found.0 found.1 in
-        none_done (height_at t q) (no_data _ none) (level_has_data t c floods h are q found.0.level within parts.1)
+        none_done (height_at t q) (not_some _ none) (level_has_data t c floods h are q found.0.level within parts.1)
   ],
 ))
 
@@ -252,9 +248,9 @@ spill_sources t c floods g h are s = record {
       } in
       let entry = subst (λ q. IsSourceEntry c floods q (source_in g (index_of c.cols p))) (source_place c p within) (s.each (index_of c.cols p) (index_below c.cols c.rows p within.0 within.1)) in
       elim (seen (source_in g (index_of c.cols p))) [
-        | inl none ↦ absurd (at_none (source_in g (index_of c.cols p)) _ _ none entry z here)
+        | inl none ↦ absurd (MatchOption-at_none _ _ none entry z here)
         | inr found ↦
-            let other = at_some (source_in g (index_of c.cols p)) _ _ found.0 found.1 entry in
+            let other = MatchOption-at_some _ _ found.0 found.1 entry in
             let same = same_Some (record { level = found.0; node = index_of c.cols p }) (record { level = z; node = index_of c.cols p }) (sym other.mark ∙ here.mark) in
             found.1 ∙ ap Some (ap (λ (m : Mark). m.level) same)
       ];
@@ -264,7 +260,7 @@ spill_sources t c floods g h are s = record {
         let low : a < c.cols * c.rows = omega (arith, below, s.size) in
         let p : Place = record { row = a / c.cols; col = a % c.cols } in
         let node : index_of c.cols p ≡ a = div-add-mod' a c.cols in
-        let here = at_some (source_in g a) _ _ z e (s.each a low) in
+        let here = MatchOption-at_some _ _ z e (s.each a low) in
         let fit = fit_of t c floods h are in
         let within = marked_within c floods p _ h fit here.mark in
         let parts = mark_parts c.cols (level_among c floods p) (label_among c floods p) _ here.mark in

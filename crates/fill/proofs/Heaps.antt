@@ -1,15 +1,37 @@
--- What a heap of waiting nodes has after each pop and push.
-use Rattle.std.proofs.Common.{◌≡◌, ℕ, zero, suc, ◌+◌, ◌<◌, false, List, ◌∷◌, length, get_or, set, replicate, ℤ, ◌≤ℤ◌, Option, None, Some, is_some, is_err, Result, Ok, Err, OnOk, sym, ap, subst, refl, ◌∙◌, arith, ◌⊎◌, inl, inr}
+-- The state of a flood, and what a heap of waiting nodes has after each pop and push.
+use Rattle.std.proofs.Common.{[], ◌≡◌, ℕ, ◌<◌, ◌⊎◌, ℤ, List, length, Option, None, Some, IsSome, zero, suc, ◌+◌, false, ◌∷◌, get_or, set, replicate, ◌≤ℤ◌, is_some, sym, ap, subst, refl, ◌∙◌, arith, inl, inr}
+use Rattle.std.specs.Int.{int_max}
 use Rattle.std.specs.List.{Contains, All}
-use Rattle.std.proofs.lemmas.Int.{ints}
-use Rattle.std.proofs.lemmas.Bool.{cases_eq, cases_lt}
-use Rattle.std.proofs.lemmas.List.{get_or-set_same, get_or-set_other, get_or-replicate, length-replicate, get_or_past}
-use Rattle.std.proofs.lemmas.List.Elements.{All-contains, All-contains_itself}
-use Rattle.std.proofs.lemmas.Option.{same_Some}
+use Rattle.fill.specs.Walk.{Joins, Sources, IsWalk, crest, end_of, IsLevel}
+use Rattle.fill.specs.Flood.{entry_of, IsDone, SomeWaits, TakesLowest, PutsIn, HasNone, SourcesWait, HasSourcesNoted}
+use Rattle.fill.specs.declared.net.Spill.{Spill}
 use Rattle.fill.specs.declared.flooding.Waiting.{Waiting}
-use Rattle.fill.specs.Walk.{Sources}
-use Rattle.fill.specs.Flood.{entry_of, IsDone, TakesLowest, PutsIn, HasNone, SourcesWait, HasSourcesNoted}
-use Rattle.fill.proofs.FloodState.{OnlyDoneLeft}
+use Rattle.std.proofs.lemmas.Int.{ints}
+use Rattle.std.proofs.lemmas.Bool.{cases_eq}
+use Rattle.std.proofs.lemmas.List.{get_or-set_same, get_or-set_other}
+use Rattle.std.proofs.lemmas.List.Elements.{All-contains, All-contains_itself}
+use Rattle.std.proofs.lemmas.List.Sorted.{Contains-permutation, IsPermutation-sym}
+use Rattle.std.proofs.lemmas.Option.{same_Some}
+
+-- A walk from the node has this crest and ends at the label.
+abbrev pub HasWalk : Joins → Sources → Waiting → Type 0
+HasWalk joins source w =
+    (walk : List Spill) × IsWalk joins source w.node walk × (crest source w.node walk ≡ w.height.0) × (end_of w.node walk ≡ w.label)
+
+-- The state of a flood: nodes that are done have their level and label; of the others each source waits,
+-- and so does each neighbour of a node that is done.
+pub record IsFlooding (joins : Joins) (source : Sources) (nodes : ℕ) (levels : List (Option ℤ)) (labels : List (Option ℕ)) (waiting : List Waiting) : Type 0 where
+  pub levels_size : length levels ≡ nodes
+  pub labels_size : length labels ≡ nodes
+  pub settled : (a b : ℕ) → entry_of labels a ≡ Some b → (l : ℤ) × (entry_of levels a ≡ Some l) × IsLevel joins source a l b
+  pub waits : All (λ w. (w.node < nodes) × HasWalk joins source w) waiting
+  pub sources : (a : ℕ) (h : ℤ) → a < nodes → source a ≡ Some h → entry_of labels a ≡ None → SomeWaits waiting a h
+  pub frontier : (a b : ℕ) (l h : ℤ) → a < nodes → joins a b h → IsSome (entry_of labels b) → entry_of levels b ≡ Some l → entry_of labels a ≡ None → SomeWaits waiting a (int_max h l)
+
+-- What has left the heap so far is done.
+pub record OnlyDoneLeft (labels : List (Option ℕ)) (old new : List Waiting) : Type 0 where
+  pub left : All (Contains old) new
+  pub kept : All (λ x. IsDone labels x ⊎ Contains new x) old
 
 pub all_by_contains : {X : Type 0} (P : X → Type 0) (xs : List X) → ((x : X) → Contains xs x → P x) → All P xs
 all_by_contains P xs h k d below = h (get_or xs k d) (All-contains_itself xs k d below)
@@ -23,11 +45,23 @@ cons_cases x xs y h = go h.0 h.1 h.2 where
   go zero below e = inl (sym e)
   go (suc k) below e = inr (k, omega arith, e)
 
+pub one_held : {X : Type 0} (x y : X) → Contains (x ∷ []) y → y ≡ x
+one_held x y h = elim (cons_cases x [] y h) [ inl same ↦ same | inr none ↦ absurd (omega (arith, none.1)) ]
+
 pub cons_tail : {X : Type 0} (x : X) (xs : List X) (y : X) → Contains xs y → Contains (x ∷ xs) y
 cons_tail x xs y h = (suc h.0, omega (arith, h.1), h.2)
 
-le_refl : (a b : ℤ) → a ≡ b → b ≤ℤ a
-le_refl a b e = omega (arith, ints)
+pub replicated : {X : Type 0} (x : X) (n k : ℕ) → get_or (replicate n x) k x ≡ x
+replicated x zero k = refl
+replicated x (suc n) zero = refl
+replicated x (suc n) (suc k) = replicated x n k
+
+-- what waits with one more that is put in
+pub held_in : {x : Waiting} {old new : List Waiting} → PutsIn x old new → (y : Waiting) → Contains (x ∷ old) y → Contains new y
+held_in {x} {old} {new} perm y h = Contains-permutation (x ∷ old) new y perm h
+
+pub held_cases : {x : Waiting} {old new : List Waiting} → PutsIn x old new → (y : Waiting) → Contains new y → (y ≡ x) ⊎ Contains old y
+held_cases {x} {old} {new} perm y h = cons_cases x old y (Contains-permutation new (x ∷ old) y (IsPermutation-sym _ _ perm) h)
 
 pub nothing_left : (labels : List (Option ℕ)) (xs : List Waiting) → OnlyDoneLeft labels xs xs
 nothing_left labels xs = record {
@@ -37,11 +71,11 @@ nothing_left labels xs = record {
 
 pub one_left : (labels : List (Option ℕ)) (old now rest : List Waiting) (x : Waiting) → OnlyDoneLeft labels old now → PutsIn x rest now → IsDone labels x → OnlyDoneLeft labels old rest
 one_left labels old now rest x s perm done = record {
-  left = all_by_contains (Contains old) rest (λ y h. All-contains (Contains old) now y s.left (perm.into y (cons_tail x rest y h)));
+  left = all_by_contains (Contains old) rest (λ y h. All-contains (Contains old) now y s.left (held_in perm y (cons_tail x rest y h)));
   kept = all_by_contains (λ y. IsDone labels y ⊎ Contains rest y) old (λ y h.
       elim (All-contains (λ z. IsDone labels z ⊎ Contains now z) old y s.kept h) [
         | inl d ↦ inl d
-        | inr held ↦ elim (cons_cases x rest y (perm.from y held)) [
+        | inr held ↦ elim (held_cases perm y held) [
           | inl same ↦ inl (subst (λ (z : Waiting). IsDone labels z) (sym same) done)
           | inr still ↦ inr still
         ]
@@ -52,20 +86,20 @@ pub first_open : (labels : List (Option ℕ)) (old now rest : List Waiting) (x :
 first_open labels old now rest x s perm bound is_open =
     record {
       was_open = is_open;
-      was = All-contains (Contains old) now x s.left (perm.into x (cons_head x rest));
+      was = All-contains (Contains old) now x s.left (held_in perm x (cons_head x rest));
       lowest = all_by_contains (λ y. IsDone labels y ⊎ (x.height.0 ≤ℤ y.height.0)) old (λ y h.
           elim (All-contains (λ z. IsDone labels z ⊎ Contains now z) old y s.kept h) [
             | inl d ↦ inl d
-            | inr held ↦ elim (cons_cases x rest y (perm.from y held)) [
-              | inl same ↦ inr (le_refl y.height.0 x.height.0 (ap (λ (z : Waiting). z.height.0) same))
+            | inr held ↦ elim (held_cases perm y held) [
+              | inl same ↦ inr (omega (arith, ints, ap (λ (z : Waiting). z.height.0) same))
               | inr still ↦ inr (All-contains (λ z. x.height.0 ≤ℤ z.height.0) rest y bound still)
             ]
           ]);
-      left = all_by_contains (Contains old) rest (λ y h. All-contains (Contains old) now y s.left (perm.into y (cons_tail x rest y h)));
+      left = all_by_contains (Contains old) rest (λ y h. All-contains (Contains old) now y s.left (held_in perm y (cons_tail x rest y h)));
       kept = all_by_contains (λ y. IsDone labels y ⊎ (y ≡ x) ⊎ Contains rest y) old (λ y h.
           elim (All-contains (λ z. IsDone labels z ⊎ Contains now z) old y s.kept h) [
             | inl d ↦ inl d
-            | inr held ↦ inr (cons_cases x rest y (perm.from y held))
+            | inr held ↦ inr (held_cases perm y held)
           ]);
     }
 
@@ -94,13 +128,13 @@ source_passed source n waiting s none = record {
 pub source_more : (source : Sources) (n : ℕ) (h : ℤ) (now new : List Waiting) (w : Waiting) → SourcesWait n source now → source n ≡ Some h → w.node ≡ n → w.label ≡ n → w.height.0 ≡ h → PutsIn w now new → SourcesWait (n + 1) source new
 source_more source n h now new w s is node label height perm = record {
   only = all_by_contains (λ x. (x.node < n + 1) × (source x.node ≡ Some x.height.0) × (x.label ≡ x.node)) new (λ x held.
-      elim (cons_cases w now x (perm.from x held)) [
+      elim (held_cases perm x held) [
         | inl same ↦ subst (λ (x : Waiting). (x.node < n + 1) × (source x.node ≡ Some x.height.0) × (x.label ≡ x.node)) (sym same) (omega arith, ap source node ∙ is ∙ ap Some (sym height), label ∙ sym node)
         | inr was ↦ let o = All-contains (λ x. (x.node < n) × (source x.node ≡ Some x.height.0) × (x.label ≡ x.node)) now x s.only was in (omega (arith, o.0), o.1, o.2)
       ]);
   every = λ a k below e. elim (cases_eq a n) [
-    | inl same ↦ (w, perm.into w (cons_head w now), node ∙ sym same, height ∙ same_Some h k (sym is ∙ subst (λ (j : ℕ). source j ≡ Some k) same e))
-    | inr other ↦ let x = s.every a k (omega arith) e in (x.0, perm.into x.0 (cons_tail w now x.0 x.1), x.2, x.3)
+    | inl same ↦ (w, held_in perm w (cons_head w now), node ∙ sym same, height ∙ same_Some h k (sym is ∙ subst (λ (j : ℕ). source j ≡ Some k) same e))
+    | inr other ↦ let x = s.every a k (omega arith) e in (x.0, held_in perm x.0 (cons_tail w now x.0 x.1), x.2, x.3)
   ];
 }
 
@@ -108,7 +142,7 @@ source_more source n h now new w s is node label height perm = record {
 pub none_noted : (source : Sources) (nodes : ℕ) → HasSourcesNoted 0 source (replicate nodes None)
 none_noted source nodes = record {
   each = λ a below. absurd (omega (arith, below));
-  rest = λ a _. elim (cases_lt a nodes) [ inl h ↦ get_or-replicate nodes a None None h | inr h ↦ get_or_past (replicate nodes None) a None (omega (arith, length-replicate {A = Option ℤ} nodes None)) ];
+  rest = λ a _. replicated None nodes a;
 }
 
 pub noted_past : (source : Sources) (n : ℕ) (levels : List (Option ℤ)) → HasSourcesNoted n source levels → source n ≡ None → HasSourcesNoted (n + 1) source levels
@@ -132,7 +166,3 @@ noted_more source n h levels inside s is = record {
 pub not_some : {X : Type 0} (o : Option X) → is_some o ≡ false → o ≡ None
 not_some None e = refl
 not_some (Some x) e = absurd (cc)
-
-pub on_ok : {T E P : Type 0} (r : Result T E) → is_err r ≡ false → OnOk r P → P
-on_ok (Ok x) e h = h
-on_ok (Err x) e h = absurd (cc)

@@ -1,5 +1,4 @@
 -- the flood of a net
-mod FloodState
 mod Steps
 mod Heaps
 mod Waits
@@ -8,23 +7,16 @@ mod Noting
 mod CellWays
 mod Borders
 mod Windows
-mod WindowLevels
-mod WholeGrid
-mod TileWindows
 -- the flood of a tile
 mod LabelTables
-mod OneCell
-pub mod InnerCells
+mod TileWindows
 mod CellMarks
 -- the spill graph
-mod Ways
 mod Adding
 mod Lowest
 mod SourceCells
 pub mod Gathered
-mod PartList
-mod GraphWays
+mod GraphParts
 -- raising, and the tiles together
 mod Rims
 mod Raised
-mod Together

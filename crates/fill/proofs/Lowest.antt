@@ -1,5 +1,5 @@
 -- The lowest joins of each two labels.
-use Rattle.std.proofs.Common.{◌≡◌, ℕ, zero, suc, ◌+◌, ◌-◌, ◌<◌, ◌≤◌, ◌⊎◌, inl, inr, ℤ, ◌≤ℤ◌, false, List, [], ◌∷◌, ◌++◌, length, get_or, Result, Ok, Err, is_ok, is_err, cond, ◌∙◌, sym, ap, subst, refl, arith}
+use Rattle.std.proofs.Common.{◌≡◌, ℕ, ◌+◌, ◌-◌, ◌<◌, ◌≤◌, ◌⊎◌, inl, inr, ◌≤ℤ◌, false, List, [], ◌∷◌, ◌++◌, length, get_or, ◌∙◌, sym, ap, subst, refl, arith}
 use Rattle.std.specs.Ordering.{nat_cmp, int_cmp, ordering_then, is_lt}
 use Rattle.std.specs.declared.cmp.Ordering.{Ordering}
 use Rattle.std.specs.List.{Contains}
@@ -8,7 +8,10 @@ use Rattle.std.proofs.lemmas.Int.{ints, by_lt_z}
 use Rattle.std.proofs.lemmas.Bool.{cases_eq, cases_lt, cases_order}
 use Rattle.std.proofs.lemmas.List.{get_or_append_left, get_or_push, length_push, get_or_default}
 use Rattle.std.proofs.lemmas.List.Elements.{Contains-append_left, Contains-push, Contains-push_cases, Contains-get_or}
-use Rattle.std.proofs.lemmas.List.Sorted.{Contains-permutation, IsPermutation-sym}
+use Rattle.std.proofs.lemmas.List.Sorted.{Contains-permutation, IsPermutation-sym, ranks_by, sorted_far}
+use Rattle.std.proofs.lemmas.Cmp.{nat_cmp_total, int_cmp_total, on_total, then_total}
+use Rattle.std.specs.Cmp.{IsTotalOrder}
+use Rattle.drainage.proofs.Heights.{trans}
 use Rattle.fill.specs.Gathering.{Covered, IsBefore, AreLowest, IsRepeat}
 use Rattle.fill.specs.declared.spills.Join.{Join}
 
@@ -31,18 +34,6 @@ not_above x y e = elim (cases_order x.from y.from) [
   )
 ]
 
-le_trans : (a b c : ℤ) → a ≤ℤ b → b ≤ℤ c → a ≤ℤ c
-le_trans a b c h k = omega (arith, ints)
-
-above_trans : (x y z : Join) → NotAbove x y → NotAbove y z → NotAbove x z
-above_trans x y z (inl a) (inl b) = inl (omega arith)
-above_trans x y z (inl a) (inr b) = inl (omega (arith, b.0))
-above_trans x y z (inr a) (inl b) = inl (omega (arith, a.0))
-above_trans x y z (inr (e, inl a)) (inr (f, inl b)) = inr (e ∙ f, inl (omega arith))
-above_trans x y z (inr (e, inl a)) (inr (f, inr b)) = inr (e ∙ f, inl (omega (arith, b.0)))
-above_trans x y z (inr (e, inr a)) (inr (f, inl b)) = inr (e ∙ f, inl (omega (arith, a.0)))
-above_trans x y z (inr (e, inr a)) (inr (f, inr b)) = inr (e ∙ f, inr (a.0 ∙ b.0, le_trans _ _ _ a.1 b.1))
-
 before_trans : (x y z : Join) → NotAbove x y → IsBefore y z → IsBefore x z
 before_trans x y z (inl a) (inl b) = inl (omega arith)
 before_trans x y z (inl a) (inr b) = inl (omega (arith, b.0))
@@ -56,41 +47,21 @@ before_from x y (inl a) differ = inl a
 before_from x y (inr (e, inl a)) differ = inr (e, a)
 before_from x y (inr (e, inr a)) differ = absurd (differ e a.0)
 
-above_itself : (x : Join) → NotAbove x x
-above_itself x = inr (refl, inr (refl, omega (arith, ints)))
-
 -- sorted joins
 abbrev pub AreOrdered : List Join → Type 0
 AreOrdered joins = (m n : ℕ) (d : Join) → m ≤ n → n < length joins → NotAbove (get_or joins m d) (get_or joins n d)
 
-ordered_far : (joins : List Join) → IsSorted join_order joins → (k m : ℕ) (d : Join) → m + k < length joins → NotAbove (get_or joins m d) (get_or joins (m + k) d)
-ordered_far joins sorted zero m d below = subst (λ n. NotAbove (get_or joins m d) (get_or joins n d)) (zero_more m) (above_itself (get_or joins m d)) where
-  zero_more : (n : ℕ) → n ≡ n + 0
-  zero_more n = omega arith
-ordered_far joins sorted (suc k) m d below =
-    let next = not_above (get_or joins m d) (get_or joins (m + 1) d) (sorted m d (omega arith) (omega (arith, below))) in
-    let far = ordered_far joins sorted k (m + 1) d (omega (arith, below)) in
-    above_trans (get_or joins m d) (get_or joins (m + 1) d) (get_or joins (m + suc k) d) next (subst (λ n. NotAbove (get_or joins (m + 1) d) (get_or joins n d)) (one_more m k) far) where
-      one_more : (a b : ℕ) → a + 1 + b ≡ a + suc b
-      one_more a b = omega arith
+join_order_total : IsTotalOrder join_order
+join_order_total = then_total (on_total (λ j. j.from) nat_cmp_total) (then_total (on_total (λ j. j.to) nat_cmp_total) (on_total (λ j. j.height) int_cmp_total))
 
 pub ordered : (joins : List Join) → IsSorted join_order joins → AreOrdered joins
-ordered joins sorted m n d low below = subst (λ k. NotAbove (get_or joins m d) (get_or joins k d)) (add_back m n low) (ordered_far joins sorted (n - m) m d (omega (arith, low, below))) where
-  add_back : (a b : ℕ) → a ≤ b → a + (b - a) ≡ b
-  add_back a b h = omega arith
+ordered joins sorted m n d low below = not_above _ _ (sorted_far (λ x y. is_lt (join_order x y)) (ranks_by join_order_total (λ j. j)) joins sorted m n d low below)
 
 -- of the first joins the lowest have been kept
 pub record HasKept (joins : List Join) (i : ℕ) (lowest : List Join) : Type 0 where
   pub only : (j : Join) → Contains lowest j → (k : ℕ) × (k < i) × (get_or joins k j ≡ j)
   pub every : (k : ℕ) (d : Join) → k < i → Covered lowest (get_or joins k d)
   pub rising : (m n : ℕ) (d : Join) → m < n → n < length lowest → IsBefore (get_or lowest m d) (get_or lowest n d)
-
-pub none_kept : (joins : List Join) → HasKept joins 0 []
-none_kept joins = record {
-  only = λ j h. absurd (omega (arith, h.1));
-  every = λ k d h. absurd (omega (arith, h));
-  rising = λ m n d h k. absurd (omega (arith, k));
-}
 
 -- one that repeats the labels before it is passed over
 pub kept_same : (joins : List Join) (i : ℕ) (lowest : List Join) → AreOrdered joins → i < length joins → HasKept joins i lowest → IsRepeat joins i → HasKept joins (i + 1) lowest
@@ -102,7 +73,7 @@ kept_same joins i lowest order below s repeat = record {
         let was = s.every (i - 1) d (omega (arith, repeat.0)) in
         let ends = repeat.1 d in
         let high = height_up (get_or joins (i - 1) d) (get_or joins i d) (order (i - 1) i d (omega arith) below) ends.0 ends.1 in
-        subst (λ n. Covered lowest (get_or joins n d)) (sym same) (was.0, was.1, was.2 ∙ ends.0, was.3 ∙ ends.1, le_trans _ _ _ was.4 high)
+        subst (λ n. Covered lowest (get_or joins n d)) (sym same) (was.0, was.1, was.2 ∙ ends.0, was.3 ∙ ends.1, trans _ _ _ was.4 high)
   ];
   rising = s.rising;
 } where
@@ -153,8 +124,3 @@ all_kept given joins lowest perm s = record {
   every = λ j h. let there = Contains-permutation given joins j perm h in subst (Covered lowest) there.2 (s.every there.0 j there.1);
   rising = s.rising;
 }
-
--- what a push that went well leaves
-pub ok_items : {T E X : Type 0} (r : Result T E) (a b n : X) → is_err r ≡ false → n ≡ cond (is_ok r) a b → n ≡ a
-ok_items (Ok x) a b n e h = h
-ok_items (Err x) a b n e h = absurd (cc)

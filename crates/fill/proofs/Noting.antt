@@ -1,6 +1,8 @@
 -- Ways followed one by one, and what is noted of the nodes that they lead to.
-use Rattle.std.proofs.Common.{◌≡◌, ℕ, ◌+◌, ◌<◌, List, [], ◌∷◌, ◌++◌, length, get_or, set, take, drop, ℤ, ◌<ℤ◌, ◌≤ℤ◌, Option, None, Some, IsSome, sym, subst, refl, ◌∙◌, arith, ◌⊎◌, inl, inr, to_z, of_z, w32}
+use Rattle.std.proofs.Common.{◌≡◌, ℕ, ◌+◌, ◌<◌, List, [], ◌∷◌, ◌++◌, length, get_or, set, take, drop, ℤ, ◌≤ℤ◌, Option, None, Some, IsSome, sym, subst, refl, ◌∙◌, arith, ◌⊎◌, inl, inr, to_z, of_z, w32}
 use Rattle.std.specs.Int.{int_max}
+use Rattle.std.specs.Int.Signed.{≤ℤ_refl}
+use Rattle.drainage.proofs.Heights.{trans}
 use Rattle.std.specs.List.{Contains}
 use Rattle.std.proofs.lemmas.Int.{ints, to_z-of_z}
 use Rattle.std.proofs.lemmas.Int.{by_lt_z}
@@ -14,20 +16,8 @@ use Rattle.fill.specs.declared.net.Spill.{Spill}
 use Rattle.fill.specs.declared.flooding.Waiting.{Waiting}
 use Rattle.fill.specs.Walk.{Sources}
 use Rattle.fill.specs.Flood.{AreOwn, PutsIn, entry_of, SomeWaits, ComesBy, waiting_by, MakesWait, AreNoted, KeepsDone}
-use Rattle.fill.proofs.Heaps.{all_by_contains, cons_head, cons_tail, cons_cases}
-use Rattle.fill.proofs.Steps.{none_done, le_trans}
-
-le_refl : (a b : ℤ) → a ≡ b → a ≤ℤ b
-le_refl a b e = omega (arith, ints)
-
-pub below_le : (a b : ℤ) → a <ℤ b → a ≤ℤ b
-below_le a b h = omega (arith, ints)
-
-one_held : {X : Type 0} (x y : X) → Contains (x ∷ []) y → y ≡ x
-one_held x y h = elim (cons_cases x [] y h) [
-  | inl same ↦ same
-  | inr none ↦ absurd (omega (arith, none.1))
-]
+use Rattle.fill.proofs.Heaps.{all_by_contains, cons_head, cons_tail, held_in, held_cases, one_held}
+use Rattle.fill.proofs.Steps.{none_done, le_of_same}
 
 -- a way that is not followed, since nothing is won by it
 pub passed : (labels : List (Option ℕ)) (from : Waiting) (way : Spill) (waiting : List Waiting) → (entry_of labels way.to ≡ None → SomeWaits waiting way.to (int_max way.height from.height.0)) → MakesWait labels from (way ∷ []) waiting waiting
@@ -45,21 +35,21 @@ passed_done labels from way waiting done = passed labels from way waiting (λ no
 pub passed_low : (labels : List (Option ℕ)) (levels : List (Option ℤ)) (from : Waiting) (way : Spill) (waiting : List Waiting) (h : ℤ) → AreNoted labels levels waiting → entry_of levels way.to ≡ Some h → h ≤ℤ int_max way.height from.height.0 → MakesWait labels from (way ∷ []) waiting waiting
 passed_low labels levels from way waiting h s noted low = passed labels from way waiting (λ none.
     let x = s.waits way.to h none noted in
-    (x.0, x.1, x.2, le_trans _ _ _ x.3 low))
+    (x.0, x.1, x.2, trans _ _ _ x.3 low))
 
 -- a way that is followed
 pub followed : (labels : List (Option ℕ)) (from : Waiting) (way : Spill) (old new : List Waiting) → PutsIn (waiting_by from way) old new → MakesWait labels from (way ∷ []) old new
 followed labels from way old new perm = record {
-  kept = all_by_contains (Contains new) old (λ y h. perm.into y (cons_tail (waiting_by from way) old y h));
+  kept = all_by_contains (Contains new) old (λ y h. held_in perm y (cons_tail (waiting_by from way) old y h));
   made = all_by_contains (λ y. Contains old y ⊎ ComesBy from (way ∷ []) y) new (λ y h.
-      elim (cons_cases (waiting_by from way) old y (perm.from y h)) [
+      elim (held_cases perm y h) [
         | inl same ↦ inr (way, cons_head way [], same)
         | inr held ↦ inl held
       ]);
   reached = all_by_contains (λ y. entry_of labels y.to ≡ None → SomeWaits new y.to (int_max y.height from.height.0)) (way ∷ []) (λ y h. subst (λ (y : Spill). entry_of labels y.to ≡ None → SomeWaits new y.to (int_max y.height from.height.0)) (sym (one_held way y h)) (λ _. here));
 } where
   here : SomeWaits new way.to (int_max way.height from.height.0)
-  here = (waiting_by from way, perm.into _ (cons_head (waiting_by from way) old), refl, le_refl _ _ refl)
+  here = (waiting_by from way, held_in perm _ (cons_head (waiting_by from way) old), refl, ≤ℤ_refl _)
 
 -- the crest by a way that is followed is noted
 pub noted : (labels : List (Option ℕ)) (levels : List (Option ℤ)) (from : Waiting) (way : Spill) (old new : List Waiting) → way.to < length labels → AreNoted labels levels old → PutsIn (waiting_by from way) old new → AreNoted labels (set levels way.to (Some (int_max way.height from.height.0))) new
@@ -69,10 +59,10 @@ noted labels levels from way old new below s perm = record {
     | inl same ↦
         let found_there : entry_of (set levels way.to (Some crest)) way.to ≡ Some h = subst (λ (n : ℕ). entry_of (set levels way.to (Some crest)) n ≡ Some h) same found in
         let is : crest ≡ h = same_Some _ _ (sym (get_or-set_same levels way.to (Some crest) None (omega (arith, below, s.size))) ∙ found_there) in
-        (waiting_by from way, perm.into _ (cons_head (waiting_by from way) old), sym same, le_refl crest h is)
+        (waiting_by from way, held_in perm _ (cons_head (waiting_by from way) old), sym same, le_of_same crest h is)
     | inr n ↦
         let x = s.waits a h none (sym (get_or-set_other levels way.to a (Some crest) None n) ∙ found) in
-        (x.0, perm.into x.0 (cons_tail (waiting_by from way) old x.0 x.1), x.2, x.3)
+        (x.0, held_in perm x.0 (cons_tail (waiting_by from way) old x.0 x.1), x.2, x.3)
   ];
 } where
   crest : ℤ
@@ -82,7 +72,7 @@ noted labels levels from way old new below s perm = record {
 pub own_by_way : (source : Sources) (labels : List (Option ℕ)) (levels : List (Option ℤ)) (from : Waiting) (way : Spill) (old new : List Waiting) → way.to < length labels → length levels ≡ length labels → entry_of labels way.to ≡ None → ((h : ℤ) × (entry_of levels way.to ≡ Some h) × (h ≤ℤ int_max way.height from.height.0) → ⊥) → PutsIn (waiting_by from way) old new → AreOwn source labels levels old → AreOwn source labels (set levels way.to (Some (int_max way.height from.height.0))) new
 own_by_way source labels levels from way old new below size none lower perm s = record {
   own = all_by_contains (λ y. source y.node ≡ Some y.height.0 → y.label ≡ y.node) new (λ y h.
-      elim (cons_cases (waiting_by from way) old y (perm.from y h)) [
+      elim (held_cases perm y h) [
         | inl same ↦ subst (λ (y : Waiting). source y.node ≡ Some y.height.0 → y.label ≡ y.node) (sym same) (λ is. absurd (lower (s.low way.to crest below is none)))
         | inr held ↦ All-contains (λ y. source y.node ≡ Some y.height.0 → y.label ≡ y.node) old y s.own held
       ]);
@@ -99,7 +89,7 @@ own_by_way source labels levels from way old new below size none lower perm s = 
   crest = int_max way.height from.height.0
 
   high : (l h : ℤ) → entry_of levels way.to ≡ Some l → l ≤ℤ h → crest ≤ℤ h
-  high l h there low = by_lt_z crest l (λ less. le_trans crest l h (below_le crest l less) low) (λ up. absurd (lower (l, there, up)))
+  high l h there low = by_lt_z crest l (λ less. omega (arith, ints, less, low)) (λ up. absurd (lower (l, there, up)))
 
 -- a node that is not done is noted, and the others keep their levels
 pub keeps_done : (labels : List (Option ℕ)) (levels : List (Option ℤ)) (a : ℕ) (level : Option ℤ) → entry_of labels a ≡ None → KeepsDone labels levels (set levels a level)

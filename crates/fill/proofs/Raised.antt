@@ -1,28 +1,33 @@
--- A raised tile has its filled heights.
-use Rattle.std.proofs.Common.{◌≡◌, ℕ, ◌+◌, ◌-◌, ◌*◌, ◌<◌, ◌≤◌, ◌⊎◌, inl, inr, ℤ, ◌≤ℤ◌, List, length, get_or, map, Option, None, Some, is_some, ◌∙◌, sym, ap, subst, refl, arith}
+-- A raised tile has its filled heights, and the tiles together give the filled grid.
+use Rattle.std.proofs.Common.{◌≡◌, ℕ, ◌+◌, ◌-◌, ◌*◌, ◌<◌, ◌≤◌, ◌⊎◌, inl, inr, ℤ, ◌≤ℤ◌, List, length, get_or, map, Option, None, Some, is_some, ◌∙◌, sym, ap, subst, refl, arith, zero, suc, ◌/◌, ◌%◌, IfSome, Vec, Global, mul_comm}
 use Rattle.std.specs.Prelude.{slice_get, option_and_then}
 use Rattle.std.specs.Int.{int_max}
 use Rattle.std.proofs.Math.Nat.{zero-div, zero-mod, zero-mul}
 use Rattle.std.proofs.lemmas.Int.{ints, clamps}
 use Rattle.std.proofs.lemmas.List.{get_or-map}
-use Rattle.ascii_grid.specs.Raster.{Terrain}
-use Rattle.ascii_grid.specs.Neighbours.{height_at, index_of}
-use Rattle.drainage.specs.Filled.{crest, IsFilledHeight, IsFilled}
+use Rattle.ascii_grid.specs.Raster.{Terrain, Raster}
+use Rattle.ascii_grid.specs.Neighbours.{height_at, index_of, entry_at, IsInside}
+use Rattle.drainage.specs.Filled.{crest, IsFilledHeight, IsFilled, IsFilledGrid, IsOwnFilled}
 use Rattle.ascii_grid.specs.declared.place.Place.{Place}
 use Rattle.ascii_grid.proofs.Places.{entry-inside, inside_from_entry, make_place}
+use Rattle.drainage.proofs.Heights.{height_below_crest, filled_height_stands}
 use Rattle.tiles.specs.declared.bounds.Bounds.{Bounds}
-use Rattle.tiles.specs.Cutting.{Cutting, IsCutting, IsInBounds, across, bounds_of, tile_count, tile_entry, tile_of_place}
+use Rattle.tiles.specs.Cutting.{Cutting, IsCutting, IsInBounds, across, bounds_of, tile_count, tile_entry, tile_of_place, Cuts, View, terrain_of, IsPutBack}
 use Rattle.tiles.proofs.Cut.{in_bounds, in_tile, tile_of_place_below}
 use Rattle.tiles.proofs.TileOrder.{tile_entry-in}
-use Rattle.fill.specs.Cells.{window_of}
-use Rattle.fill.specs.TileFlood.{Flood, IsTileSource, level_in, label_in}
-use Rattle.fill.specs.Spills.{AreFloods, level_among, AreSpillLevels, spill_of, greater_of, raised_by, AreGreater, IsRaised, RaisesToFilled, HasNoInnerCell, IsFilledTile}
+use Rattle.fill.specs.TileFlood.{Flood, IsTileSource, level_in, label_in, IsTileFlood}
+use Rattle.fill.specs.Spills.{AreFloods, level_among, AreSpillLevels, spill_of, greater_of, raised_by, AreGreater, IsRaised, RaisesToFilled, HasNoInnerCell, IsFilledTile, AreFilledTiles}
 use Rattle.fill.specs.Labels.{labels_by, IsTable}
-use Rattle.fill.proofs.Steps.{seen, at_some, at_none, from_some, from_none}
+use Rattle.fill.proofs.Steps.{seen, match_of, none_some}
 use Rattle.fill.proofs.TileWindows.{entry_in-inside, entry_index, data_within, rim_of_tile, rim_of_window}
-use Rattle.fill.proofs.Windows.{cases_rim, data_is}
-use Rattle.fill.proofs.WindowLevels.{crest_high, height_is}
-use Rattle.fill.proofs.Rims.{has_tile_level, among_is, edge_level, rims}
+use Rattle.fill.proofs.Windows.{cases_rim, data_is, height_is}
+use Rattle.fill.proofs.Rims.{has_tile_level, among_is, edge_level, rims, list_there}
+use Rattle.std.specs.List.{Contains, All}
+use Rattle.std.proofs.lemmas.Option.{MatchOption-at_some, MatchOption-at_none, get_or_from_slice_get, slice_get_within, same_Some}
+use Rattle.std.proofs.lemmas.List.Elements.{All-from_get_or}
+use Rattle.std.proofs.lemmas.Nat.{div-add-mod', mod_below, div_below}
+use Rattle.tiles.proofs.PutBack.{entry_at-put_back}
+use Rattle.drainage.proofs.FilledTwice.{filled_twice}
 
 -- The first cells have the greater of their levels and their labels'.
 pub record AreFirstGreater (levels : List (Option ℤ)) (labels : List ℕ) (spills : List (Option ℤ)) (count : ℕ) (raised : List (Option ℤ)) : Type 0 where
@@ -66,14 +71,11 @@ filled_tile t c floods tile f levels raised h are there raises is =
           let at : slice_get floods (tile_of_place c p) ≡ Some f = ap (slice_get floods) i.1 ∙ there in
           let own_level = among_is (λ g. level_in g p) floods (tile_of_place c p) f at ∙ level in
           let own_label = among_is (λ g. label_in g p) floods (tile_of_place c p) f at ∙ label in
-          elim (seen (height_at t p)) [
-            | inl none ↦ from_none (height_at t p) _ _ none
-                (entry ∙ raised_from_none c levels _ _ (sym level ∙ (at_none (height_at t p) _ _ none (flood.each p i)).0))
-            | inr found ↦
-                let filled = raises p (ap is_some found.1) in
-                from_some (height_at t p) _ _ found.0 found.1
-                (filled.0, entry ∙ sym (ap (λ z. raised_by c levels z (get_or f.labels k None)) own_level) ∙ sym (ap (raised_by c levels (level_among c floods p)) own_label) ∙ filled.1, filled.2)
-          ];
+          match_of (height_at t p) _ _
+          (λ none. entry ∙ raised_from_none c levels _ _ (sym level ∙ (MatchOption-at_none _ _ none (flood.each p i)).0))
+          (λ h some.
+          let filled = raises p (ap is_some some) in
+          (filled.0, entry ∙ sym (ap (λ z. raised_by c levels z (get_or f.labels k None)) own_level) ∙ sym (ap (raised_by c levels (level_among c floods p)) own_label) ∙ filled.1, filled.2));
     }
 
 -- the levels of the spill graph raise each cell to its filled height
@@ -92,13 +94,13 @@ own_raises t c floods levels are alone filled p some =
     let level = edge_level t c p l.label l.level l.right source in
     let label : l.label ≡ p = l.right.own source (height.1 ∙ ap Some (sym (level ∙ height_is t p height.0 height.1))) in
     let inside = inside_from_entry t.cols t.rows t.cells p height.0 height.1 in
-    let here = at_some (height_at t p) _ _ height.0 height.1 (filled.each p inside) in
+    let here = MatchOption-at_some _ _ height.0 height.1 (filled.each p inside) in
     let entry : get_or levels (index_of c.cols l.label) None ≡ Some here.0 =
     ap (λ (q : Place). get_or levels (index_of c.cols q) None) label
     ∙ ap (λ n. get_or levels (index_of n p) None) are.cuts.0
     ∙ sym (entry-inside t.cols t.rows levels p inside.0 inside.1)
     ∙ here.1 in
-    let low : l.level ≤ℤ here.0 = subst (λ z. l.level ≤ℤ z) here.2.reached.2 (subst (λ z. z ≤ℤ crest t p here.2.reached.0) (sym level) (crest_high t p here.2.reached.0)) in
+    let low : l.level ≤ℤ here.0 = subst (λ z. l.level ≤ℤ z) here.2.reached.2 (subst (λ z. z ≤ℤ crest t p here.2.reached.0) (sym level) (height_below_crest t p here.2.reached.0)) in
     (int_max l.level here.0, raised_from c levels _ _ l.level here.0 l.label l.level_is l.label_is entry, subst (IsFilledHeight t p) (sym (max_is l.level here.0 low)) here.2)
   where
     max_is : (a b : ℤ) → a ≤ℤ b → int_max a b ≡ b
@@ -119,7 +121,7 @@ cols_least c tile = omega (arith, (first_at c).1)
 pub no_inner : (c : Cutting) → IsCutting c → ((bounds_of c 0).rows ≤ 2) ⊎ ((bounds_of c 0).cols ≤ 2) → HasNoInnerCell c
 no_inner c h few p within =
     let tile = tile_of_place c p in
-    elim (cases_rim (window_of (bounds_of c tile)) p (in_bounds c tile p h (within, refl))) [
+    elim (cases_rim (bounds_of c tile) p (in_bounds c tile p h (within, refl))) [
       | inl rim ↦ rim_of_tile c tile p (within, refl) rim
       | inr inner ↦ elim few [
         | inl rows ↦ absurd (omega (arith, rows, inner, rows_least c tile))
@@ -143,3 +145,69 @@ some_inner c h rows cols alone =
       | inr (inr (inl e)) ↦ absurd (omega (arith, e, first.1))
       | inr (inr (inr e)) ↦ absurd (omega (arith, e, cols, first.1))
     ]
+
+-- the flood of a view is that of its terrain
+same_terrain : (t : Terrain) (c : Cutting) → Cuts c t → record { cols = c.cols; rows = c.rows; cells = t.cells } ≡ t
+same_terrain t c cuts = ap (λ n. record { cols = n; rows = c.rows; cells = t.cells }) cuts.0 ∙ ap (λ n. record { cols = t.cols; rows = n; cells = t.cells }) cuts.1
+
+pub flood_of_view : (t : Terrain) (c : Cutting) (job : ℕ) (v : View (Option ℤ)) (cells : List (Option ℤ)) (f : Flood) → Cuts c t → v ≡ record { cutting = c; tile = job; cells = cells } → cells ≡ t.cells → IsTileFlood (terrain_of v) v.cutting v.tile f → IsTileFlood t c job f
+flood_of_view t c job v cells f cuts view same flood =
+    let at : IsTileFlood (record { cols = c.cols; rows = c.rows; cells = cells }) c job f = subst (λ (x : View (Option ℤ)). IsTileFlood (terrain_of x) x.cutting x.tile f) view flood in
+    subst (λ (x : Terrain). IsTileFlood x c job f) (ap (λ z. record { cols = c.cols; rows = c.rows; cells = z }) same ∙ same_terrain t c cuts) at
+
+-- the floods that the jobs gave
+pub floods_given : (t : Terrain) (c : Cutting) (outs : List Flood) → IsCutting c → Cuts c t → length outs ≡ tile_count c → ((j : ℕ) (d : Flood) → j < tile_count c → IsTileFlood t c j (get_or outs j d)) → AreFloods t c outs
+floods_given t c outs h cuts count given = record {
+  lawful = h;
+  cuts = cuts;
+  count = count;
+  each = λ tile f e. subst (IsTileFlood t c tile) (get_or_from_slice_get outs tile f f e) (given tile f (omega (arith, count, slice_get_within outs tile f e)));
+}
+
+pub tiles_given : (t : Terrain) (c : Cutting) (outs : List (Vec (Option ℤ) Global)) → length outs ≡ tile_count c → ((j : ℕ) (d : Vec (Option ℤ) Global) → j < tile_count c → IsFilledTile t c j (get_or outs j d).items) → AreFilledTiles t c outs
+tiles_given t c outs count given = record {
+  count = count;
+  each = λ tile list e. subst (λ (v : Vec (Option ℤ) Global). IsFilledTile t c tile v.items) (get_or_from_slice_get outs tile list list e) (given tile list (omega (arith, count, slice_get_within outs tile list e)));
+}
+
+-- what is put back has the filled heights
+pub filled_put_back : (t : Terrain) (c : Cutting) (lists : List (Vec (Option ℤ) Global)) (whole : List (Option ℤ)) → IsCutting c → Cuts c t → AreFilledTiles t c lists → IsPutBack c lists whole → IsFilled t whole
+filled_put_back t c lists whole h cuts are put = record {
+  size = put.size ∙ ap (λ n. n * c.rows) cuts.0 ∙ ap (λ n. t.cols * n) cuts.1;
+  each = λ p inside.
+      let within : (p.row < c.rows) × (p.col < c.cols) = (omega (arith, inside, cuts), omega (arith, inside, cuts)) in
+      let tile = tile_of_place c p in
+      let list = list_there lists tile (omega (arith, are.count, tile_of_place_below c p h within)) in
+      let entry : entry_at t.cols t.rows whole p ≡ tile_entry c tile list.0.items p =
+      ap (λ n. entry_at n t.rows whole p) (sym cuts.0) ∙ ap (λ n. entry_at c.cols n whole p) (sym cuts.1) ∙ entry_at-put_back c lists whole tile list.0 p put (within, refl) list.1 in
+      let here = (are.each tile list.0 list.1).each p (within, refl) in
+      match_of (height_at t p) _ _
+      (λ none. entry ∙ MatchOption-at_none _ _ none here)
+      (λ h some. let level = MatchOption-at_some _ _ h some here in (level.0, entry ∙ level.1, level.2));
+}
+
+-- each filled height is a height of the terrain
+pub filled_stand : (t : Terrain) (levels : List (Option ℤ)) → IsFilled t levels → All (λ c. IfSome c (λ h. Contains t.cells (Some h))) levels
+filled_stand t levels filled = All-from_get_or (λ c. IfSome c (λ h. Contains t.cells (Some h))) levels None (λ i below. each i below (seen (get_or levels i None))) where
+  positive : (a b k : ℕ) → k < a * b → 0 < a
+  positive zero b k h = absurd (omega (arith, h))
+  positive (suc a) b k h = omega arith
+
+  each : (i : ℕ) → i < length levels → (get_or levels i None ≡ None) ⊎ ((h : ℤ) × (get_or levels i None ≡ Some h)) → IfSome (get_or levels i None) (λ h. Contains t.cells (Some h))
+  each i below (inl none) = subst (λ (c : Option ℤ). IfSome c (λ h. Contains t.cells (Some h))) (sym none) tt
+  each i below (inr found) =
+      let count : i < t.cols * t.rows = omega (arith, below, filled.size) in
+      let some_cols : 0 < t.cols = positive t.cols t.rows i count in
+      let p : Place = record { row = i / t.cols; col = i % t.cols } in
+      let inside : IsInside t p = (div_below i t.cols t.rows some_cols (omega (arith, count, mul_comm t.cols t.rows)), mod_below i t.cols some_cols) in
+      let entry : entry_at t.cols t.rows levels p ≡ Some found.0 = entry-inside t.cols t.rows levels p inside.0 inside.1 ∙ ap (λ n. get_or levels n None) (div-add-mod' i t.cols) ∙ found.1 in
+      subst (λ (c : Option ℤ). IfSome c (λ h. Contains t.cells (Some h))) (sym found.1) (elim (seen (height_at t p)) [
+        | inl none ↦ none_some (entry_at t.cols t.rows levels p) found.0 (MatchOption-at_none _ _ none (filled.each p inside)) entry
+        | inr height ↦
+            let level = MatchOption-at_some _ _ height.0 height.1 (filled.each p inside) in
+            let same = same_Some level.0 found.0 (sym level.1 ∙ entry) in
+            subst (λ z. Contains t.cells (Some z)) same (filled_height_stands t p level.0 level.2)
+      ])
+
+pub filled_grid : (g f : Raster) (cells : List (Option ℤ)) → f ≡ record g { terrain = record g.terrain { cells = cells } } → IsFilled g.terrain cells → IsOwnFilled f × IsFilledGrid g f
+filled_grid g f cells is filled = subst (λ (x : Raster). IsOwnFilled x × IsFilledGrid g x) (sym is) (filled_twice g.terrain cells filled, record { filled = filled; rest = refl })

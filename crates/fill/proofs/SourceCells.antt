@@ -1,12 +1,12 @@
 -- The sources of the spill graph, tile by tile.
-use Rattle.std.proofs.Common.{◌≡◌, ℕ, ◌+◌, ◌*◌, ◌/◌, ◌%◌, ◌<◌, ◌≤◌, ◌⊎◌, inl, inr, ℤ, List, [], ◌∷◌, ◌++◌, length, get_or, set, replicate, Option, None, Some, IsSome, is_some, ◌∙◌, sym, ap, subst, refl, arith}
+use Rattle.std.proofs.Common.{◌≡◌, ℕ, ◌+◌, ◌*◌, ◌/◌, ◌%◌, ◌<◌, ◌≤◌, ◌⊎◌, inl, inr, ℤ, List, [], ◌∷◌, ◌++◌, length, get_or, Option, None, Some, IsSome, is_some, ◌∙◌, sym, ap, subst, refl, arith}
 use Rattle.std.specs.Prelude.{slice_get, IfSome}
 use Rattle.std.specs.List.{Contains, All}
 use Rattle.std.proofs.lemmas.Bool.{cases_eq, cases_lt}
 use Rattle.std.proofs.lemmas.Nat.{div-add-mod', div_below, mod_below}
 use Rattle.std.proofs.lemmas.Option.{same_Some}
-use Rattle.std.proofs.lemmas.List.{get_or_default, get_or-set_same, get_or-set_other, length-set, length-replicate, length-map, get_or-map, get_or_past}
-use Rattle.std.proofs.lemmas.List.Elements.{Contains-append_left, Contains-push, Contains-push_cases, Contains-get_or}
+use Rattle.std.proofs.lemmas.List.{get_or_default, length-map, get_or-map, get_or_past}
+use Rattle.std.proofs.lemmas.List.Elements.{Contains-append_left, Contains-push, Contains-push_cases}
 use Rattle.ascii_grid.specs.Neighbours.{index_of}
 use Rattle.ascii_grid.specs.declared.place.Place.{Place}
 use Rattle.ascii_grid.proofs.Places.{index_injective, index_below}
@@ -19,7 +19,6 @@ use Rattle.fill.specs.Gathering.{Fit, IsSpillSource, IsSourceEntry, IsSourceNode
 use Rattle.fill.specs.declared.marks.Mark.{Mark}
 use Rattle.fill.specs.declared.sources.Source.{Source}
 use Rattle.fill.proofs.Steps.{seen, none_some}
-use Rattle.fill.proofs.Borders.{all_none}
 use Rattle.fill.proofs.TileWindows.{bounds_from_entry, entry_in-inside}
 use Rattle.fill.proofs.CellMarks.{label_within, mark_parts, mark_from_tile}
 use Rattle.fill.proofs.Heaps.{all_by_contains}
@@ -139,62 +138,11 @@ pub record PutsFirst (sources : List Source) (count : ℕ) (old new : List (Opti
   pub only : (k : ℕ) (h : ℤ) → get_or new k None ≡ Some h → (get_or old k None ≡ Some h) ⊎ Contains sources (record { node = k; height = h })
   pub every : (k : ℕ) (d : Source) → k < count → IsSome (get_or new (get_or sources k d).node None)
 
-pub none_put : (sources : List Source) (old : List (Option ℤ)) → PutsFirst sources 0 old old
-none_put sources old = record {
-  size = refl;
-  kept = λ k some. some;
-  only = λ k h e. inl e;
-  every = λ k d low. absurd (omega (arith, low));
-}
-
-pub put_more : (sources : List Source) (count : ℕ) (s d : Source) (old now : List (Option ℤ)) → count < length sources → s ≡ get_or sources count d → s.node < length now → PutsFirst sources count old now → PutsFirst sources (count + 1) old (set now s.node (Some s.height))
-put_more sources count s d old now below is inside before = record {
-  size = length-set now s.node (Some s.height) ∙ before.size;
-  kept = λ k some. still k (before.kept k some);
-  only = λ k h e. elim (cases_eq k s.node) [
-    | inl same ↦
-        let height = same_Some s.height h (sym (here k same) ∙ e) in
-        inr (subst (Contains sources) (sym is ∙ ap (λ n. record { node = n; height = s.height }) (sym same) ∙ ap (λ z. record { node = k; height = z }) height) (Contains-get_or sources count d below))
-    | inr other ↦ before.only k h (sym (get_or-set_other now s.node k (Some s.height) None other) ∙ e)
-  ];
-  every = λ k e low. elim (cases_eq k count) [
-    | inl same ↦
-        let node : (get_or sources k e).node ≡ s.node = ap (λ n. (get_or sources n e).node) same ∙ ap (λ (z : Source). z.node) (get_or_default sources count e d below) ∙ ap (λ (z : Source). z.node) (sym is) in
-        ap is_some (here (get_or sources k e).node node)
-    | inr other ↦ still (get_or sources k e).node (before.every k e (omega (arith, low, other)))
-  ];
-} where
-  here : (k : ℕ) → k ≡ s.node → get_or (set now s.node (Some s.height)) k None ≡ Some s.height
-  here k same = ap (λ n. get_or (set now s.node (Some s.height)) n None) same ∙ get_or-set_same now s.node (Some s.height) None inside
-
-  still : (k : ℕ) → IsSome (get_or now k None) → IsSome (get_or (set now s.node (Some s.height)) k None)
-  still k some = elim (cases_eq k s.node) [
-    | inl same ↦ ap is_some (here k same)
-    | inr other ↦ ap is_some (get_or-set_other now s.node k (Some s.height) None other) ∙ some
-  ]
-
-pub all_put : (sources : List Source) (old new : List (Option ℤ)) → PutsFirst sources (length sources) old new → PutsSources sources old new
-all_put sources old new p = record {
-  size = p.size;
-  kept = p.kept;
-  only = p.only;
-  every = λ s held. subst (λ (z : Source). IsSome (get_or new z.node None)) held.2 (p.every held.0 s held.1);
-}
-
 -- The entries are heights of sources, and the sources among the places have theirs.
 pub record HaveSources (c : Cutting) (floods : List Flood) (places : Place → Type 0) (heights : List (Option ℤ)) : Type 0 where
   pub size : length heights ≡ c.cols * c.rows
   pub only : (k : ℕ) (h : ℤ) → get_or heights k None ≡ Some h → IsSourceNode c floods (record { node = k; height = h })
   pub every : (p : Place) (h : ℤ) → places p → IsSpillSource c floods p h → IsSome (get_or heights (index_of c.cols p) None)
-
-pub no_sources_yet : (c : Cutting) (floods : List Flood) (nodes : ℕ) (heights : List (Option ℤ)) → heights ≡ replicate nodes None → nodes ≡ c.cols * c.rows → HaveSources c floods (λ p. IsWithin c p × (tile_of_place c p < 0)) heights
-no_sources_yet c floods nodes heights is count = record {
-  size = ap length is ∙ length-replicate nodes None ∙ count;
-  only = λ k h e. none_some (get_or heights k None) h (empty k) e;
-  every = λ p h at source. absurd (omega (arith, at.1));
-} where
-  empty : (k : ℕ) → get_or heights k None ≡ None
-  empty k = ap (λ (z : List (Option ℤ)). get_or z k None) is ∙ all_none nodes k
 
 -- the nodes of a tile's sources are in the grid
 pub nodes_inside : (c : Cutting) (floods : List Flood) (places : Place → Type 0) (sources : List Source) (count : ℕ) → AddsSources c floods places [] sources → count ≡ c.cols * c.rows → All (λ (s : Source). s.node < count) sources

@@ -1,19 +1,18 @@
 -- A flood, step by step.
-use Rattle.std.proofs.Common.{◌≡◌, ◌≢◌, ℕ, ◌<◌, List, [], ◌∷◌, length, set, replicate, ℤ, pos, ◌≤ℤ◌, Option, None, Some, is_some, is_none, cond, IsSome, MatchOption, unwrap_or, sym, ap, subst, refl, ◌∙◌, arith, ◌⊎◌, inl, inr}
+use Rattle.std.proofs.Common.{◌≡◌, ◌≢◌, ℕ, ◌<◌, List, [], ◌∷◌, length, set, replicate, ℤ, pos, ◌≤ℤ◌, Option, None, Some, is_some, IsSome, MatchOption, unwrap_or, sym, ap, subst, refl, ◌∙◌, arith, ◌⊎◌, inl, inr}
 use Rattle.std.specs.Int.{int_max}
-use Rattle.std.specs.List.{Contains, All, count_by}
-use Rattle.std.proofs.lemmas.List.Sums.{sum_by-set}
+use Rattle.std.specs.List.{Contains, All}
 use Rattle.std.proofs.lemmas.Int.{ints, clamps}
-use Rattle.std.proofs.lemmas.List.{length-set, get_or-set_same, get_or-set_other, get_or-replicate, length-replicate, get_or_past}
+use Rattle.std.proofs.lemmas.List.{length-set, get_or-set_same, get_or-set_other, length-replicate}
 use Rattle.std.proofs.lemmas.List.Elements.{All-contains}
 use Rattle.std.proofs.lemmas.Option.{same_Some}
 use Rattle.std.proofs.lemmas.Bool.{cases_eq, cases_lt}
+use Rattle.drainage.proofs.Heights.{max_right, trans}
 use Rattle.fill.specs.declared.net.Spill.{Spill}
 use Rattle.fill.specs.declared.flooding.Waiting.{Waiting}
 use Rattle.fill.specs.Walk.{Joins, Sources, IsWalk, crest, IsLevel, HasNoWalk, IsFlooded, HasJust}
 use Rattle.fill.specs.Flood.{entry_of, IsDone, TakesLowest, waiting_by, SourcesWait, HasSourcesNoted, AreOwn, SomeWaits, ComesBy, MakesWait, AreNoted, KeepsDone}
-use Rattle.fill.proofs.FloodState.{HasWalk, IsFlooding}
-use Rattle.fill.proofs.Heaps.{all_by_contains}
+use Rattle.fill.proofs.Heaps.{HasWalk, IsFlooding, all_by_contains, replicated}
 
 -- what an entry is, as a case to split on
 pub seen : {X : Type 0} (o : Option X) → (o ≡ None) ⊎ ((x : X) × (o ≡ Some x))
@@ -27,29 +26,15 @@ pub none_done : {X P : Type 0} (o : Option X) → o ≡ None → IsSome o → P
 none_done None e h = absurd (cc)
 none_done (Some x) e h = absurd (cc)
 
-pub at_some : {X : Type 0} (o : Option X) (P : Type 0) (Q : X → Type 0) (x : X) → o ≡ Some x → MatchOption o P Q → Q x
-at_some {X = X} o P Q x e h = subst (λ (z : Option X). MatchOption z P Q) e h
+pub match_of : {X : Type 0} (o : Option X) (P : Type 0) (Q : X → Type 0) → (o ≡ None → P) → ((x : X) → o ≡ Some x → Q x) → MatchOption o P Q
+match_of None P Q none some = none refl
+match_of (Some x) P Q none some = some x refl
 
-pub at_none : {X : Type 0} (o : Option X) (P : Type 0) (Q : X → Type 0) → o ≡ None → MatchOption o P Q → P
-at_none {X = X} o P Q e h = subst (λ (z : Option X). MatchOption z P Q) e h
+pub le_of_same : (x y : ℤ) → x ≡ y → x ≤ℤ y
+le_of_same x y e = omega (arith, ints)
 
-pub from_some : {X : Type 0} (o : Option X) (P : Type 0) (Q : X → Type 0) (x : X) → o ≡ Some x → Q x → MatchOption o P Q
-from_some {X = X} o P Q x e h = subst (λ (z : Option X). MatchOption z P Q) (sym e) h
-
-pub from_none : {X : Type 0} (o : Option X) (P : Type 0) (Q : X → Type 0) → o ≡ None → P → MatchOption o P Q
-from_none {X = X} o P Q e h = subst (λ (z : Option X). MatchOption z P Q) (sym e) h
-
-grows : (h l k c : ℤ) → k ≤ℤ int_max h l → l ≤ℤ c → k ≤ℤ int_max h c
-grows h l k c e f = omega (arith, ints, clamps)
-
-max_right : (h k c : ℤ) → k ≤ℤ c → k ≤ℤ int_max h c
-max_right h k c f = omega (arith, ints, clamps)
-
-pub le_same : (a b c : ℤ) → a ≤ℤ b → b ≡ c → a ≤ℤ c
-le_same a b c h e = omega (arith, ints)
-
-pub le_trans : (a b c : ℤ) → a ≤ℤ b → b ≤ℤ c → a ≤ℤ c
-le_trans a b c h e = omega (arith, ints)
+max_below : (h x y : ℤ) → x ≤ℤ y → int_max h x ≤ℤ int_max h y
+max_below h x y e = omega (arith, ints, clamps)
 
 -- on a walk from a node that is not done, some node that is not done waits at no more than the crest
 pub open_walk : (joins : Joins) (source : Sources) (nodes : ℕ) (levels : List (Option ℤ)) (labels : List (Option ℕ)) (waiting : List Waiting) → ((a b : ℕ) (h : ℤ) → joins a b h → b < nodes) → IsFlooding joins source nodes levels labels waiting → (walk : List Spill) (a : ℕ) → a < nodes → entry_of labels a ≡ None → IsWalk joins source a walk → (w : Waiting) × Contains waiting w × (entry_of labels w.node ≡ None) × (w.height.0 ≤ℤ crest source a walk)
@@ -58,18 +43,18 @@ open_walk joins source nodes levels labels waiting inside s [] a below none walk
       | inl none_here ↦ none_done (source a) none_here walk
       | inr found ↦
           let w = s.sources a found.0 below found.1 none in
-          (w.0, w.1, ap (λ n. entry_of labels n) w.2 ∙ none, le_same w.0.height.0 found.0 _ w.3 (sym (ap (λ o. unwrap_or o (pos 0)) found.1)))
+          (w.0, w.1, ap (λ n. entry_of labels n) w.2 ∙ none, trans _ _ _ w.3 (le_of_same _ _ (sym (ap (λ o. unwrap_or o (pos 0)) found.1))))
     ]
 open_walk joins source nodes levels labels waiting inside s (step ∷ rest) a below none walk =
     let next = inside a step.to step.height walk.0 in
     elim (seen (entry_of labels step.to)) [
       | inl open_next ↦
           let w = open_walk joins source nodes levels labels waiting inside s rest step.to next open_next walk.1 in
-          (w.0, w.1, w.2, max_right step.height w.0.height.0 (crest source step.to rest) w.3)
+          (w.0, w.1, w.2, trans _ _ _ w.3 (max_right step.height (crest source step.to rest)))
       | inr found ↦
           let level = s.settled step.to found.0 found.1 in
           let w = s.frontier a step.to level.0 step.height below walk.0 (ap is_some found.1) level.1 none in
-          (w.0, w.1, ap (λ n. entry_of labels n) w.2 ∙ none, grows step.height level.0 w.0.height.0 (crest source step.to rest) w.3 (level.2.least rest walk.1))
+          (w.0, w.1, ap (λ n. entry_of labels n) w.2 ∙ none, trans _ _ _ w.3 (max_below step.height level.0 (crest source step.to rest) (level.2.least rest walk.1)))
     ]
 
 -- the lowest node that waits has its level
@@ -79,7 +64,7 @@ lowest_is_least joins source nodes levels labels old new w inside s t walk is_wa
     let found = open_walk joins source nodes levels labels old inside s walk w.node here.0 t.was_open is_walk in
     elim (All-contains (λ x. IsDone labels x ⊎ (w.height.0 ≤ℤ x.height.0)) old found.0 t.lowest found.1) [
       | inl done ↦ none_done (entry_of labels found.0.node) found.2 done
-      | inr low ↦ le_trans w.height.0 found.0.height.0 _ low found.3
+      | inr low ↦ trans _ _ _ low found.3
     ]
 
 -- where all that wait are done, any other node has no walk
@@ -103,28 +88,22 @@ flooded joins source nodes levels labels waiting inside s noted all = record {
   levels_size = s.levels_size;
   labels_size = s.labels_size;
   each = λ a below. elim (seen (entry_of labels a)) [
-    | inl none ↦ from_none (entry_of levels a) _ _ (none_left labels levels waiting a noted all none) (no_walk joins source nodes levels labels waiting inside s all a below none, none)
+    | inl none ↦ rw (none_left labels levels waiting a noted all none) (no_walk joins source nodes levels labels waiting inside s all a below none, none)
     | inr some ↦
         let level = s.settled a some.0 some.1 in
-        from_some (entry_of levels a) _ _ level.0 level.1 (some.0, some.1, level.2)
+        rw level.1 (some.0, some.1, level.2)
   ];
 }
-
-empty : {X : Type 0} (nodes a : ℕ) → entry_of {X = X} (replicate nodes None) a ≡ None
-empty {X = X} nodes a = elim (cases_lt a nodes) [ inl h ↦ get_or-replicate nodes a None None h | inr h ↦ get_or_past (replicate nodes None) a None (omega (arith, length-replicate {A = Option X} nodes None)) ]
-
-pub le_of_same : (x y : ℤ) → x ≡ y → x ≤ℤ y
-le_of_same x y e = omega (arith, ints)
 
 -- before the first step
 pub begun : (joins : Joins) (source : Sources) (nodes : ℕ) (levels : List (Option ℤ)) (waiting : List Waiting) → SourcesWait nodes source waiting → length levels ≡ nodes → IsFlooding joins source nodes levels (replicate nodes None) waiting
 begun joins source nodes levels waiting s size = record {
   levels_size = size;
   labels_size = length-replicate nodes None;
-  settled = λ a b e. none_some (entry_of (replicate nodes None) a) b (empty nodes a) e;
+  settled = λ a b e. none_some (entry_of (replicate nodes None) a) b (replicated None nodes a) e;
   waits = λ k d lt. let o = s.only k d lt in (o.0, ([], ap is_some o.1, ap (λ (z : Option ℤ). unwrap_or z (pos 0)) o.1, sym o.2));
   sources = λ a h below e _. let w = s.every a h below e in (w.0, w.1, w.2, le_of_same w.0.height.0 h w.3);
-  frontier = λ a b l h below joined done e _. none_done (entry_of {X = ℕ} (replicate nodes None) b) (empty nodes b) done;
+  frontier = λ a b l h below joined done e _. none_done (entry_of {X = ℕ} (replicate nodes None) b) (replicated None nodes b) done;
 }
 
 -- the heights of the sources are noted at first
@@ -208,20 +187,10 @@ settle joins source nodes levels after labels old new more w ways inside back s 
                 let back_here : joins w.node a h = subst (λ (k : ℕ). joins k a h) same (back a b h joined) in
                 let level_is : w.height.0 ≡ l = same_Some _ _ (sym level_here ∙ subst (λ (k : ℕ). entry_of after k ≡ Some l) same e) in
                 let x = All-contains (λ way. entry_of (set labels w.node (Some w.label)) way.to ≡ None → SomeWaits more way.to (int_max way.height w.height.0)) ways (record { to = a; height = h }) spread.reached (just.every a h back_here) none in
-                (x.0, x.1, x.2, le_trans _ _ _ x.3 (le_max h w.height.0 l level_is))
+                (x.0, x.1, x.2, trans _ _ _ x.3 (max_below h w.height.0 l (le_of_same _ _ level_is)))
             | inr m ↦ still a (int_max h l) n was (s.frontier a b l h below joined (subst (λ (o : Option ℕ). IsSome o) (label_there b m) done) (sym (level_there b m done) ∙ e) was)
           ];
-    } where
-      le_max : (h x l : ℤ) → x ≡ l → int_max h x ≤ℤ int_max h l
-      le_max h x l e = omega (arith, ints, clamps)
-
--- one node fewer is not done
-pub fewer_open : (labels : List (Option ℕ)) (a label : ℕ) → a < length labels → entry_of labels a ≡ None → count_by is_none (set labels a (Some label)) < count_by is_none labels
-fewer_open labels a label below none =
-    let f : Option ℕ → ℕ = λ o. cond (is_none o) 1 0 in
-    let step = sum_by-set f labels a (Some label) None below in
-    let was = ap f none in
-    omega (arith, step, was)
+    }
 
 -- what was noted stands once the lowest has its level and label
 pub noted_still : (labels : List (Option ℕ)) (levels : List (Option ℤ)) (old new : List Waiting) (w : Waiting) (level : ℤ) (label : ℕ) → w.node < length labels → AreNoted labels levels old → TakesLowest labels old w new → AreNoted (set labels w.node (Some label)) (set levels w.node (Some level)) new

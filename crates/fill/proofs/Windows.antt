@@ -1,30 +1,44 @@
--- Cells of a window and their numbers in its net; walks of the net are paths in the window.
-use Rattle.std.proofs.Common.{◌≡◌, ◌≢◌, ℕ, zero, suc, ◌+◌, ◌-◌, ◌*◌, ◌<◌, ◌≤◌, ◌⊎◌, inl, inr, ℤ, Bool, true, List, [], ◌∷◌, Option, None, Some, IsSome, IsNone, is_some, is_none, ◌∙◌, sym, ap, subst, refl, arith}
+-- Windows of a terrain: the numbers of their cells in a net, their paths, and what a flood of the net gives.
+use Rattle.std.proofs.lemmas.Option.{MatchOption-at_some, MatchOption-at_none}
+use Rattle.std.proofs.Common.{◌≡◌, ◌≢◌, ℕ, zero, suc, ◌+◌, ◌-◌, ◌*◌, ◌<◌, ◌≤◌, ◌⊎◌, inl, inr, ℤ, pos, ◌≤ℤ◌, Bool, true, List, [], ◌∷◌, length, get_or, Option, None, Some, IsSome, is_some, is_none, unwrap_or, ◌∙◌, sym, ap, subst, refl, arith}
+use Rattle.std.specs.Int.{int_max}
+use Rattle.std.specs.Int.Signed.{≤ℤ_refl}
 use Rattle.std.specs.List.{Contains, list_any}
-use Rattle.std.proofs.lemmas.Bool.{cases_lt, cases_eq, cases_order, or_cases, or_left, or_right, cond-true, cond-false, cases_Bool}
-use Rattle.std.proofs.lemmas.Nat.{same_from_place, mul-le}
+use Rattle.std.proofs.lemmas.Int.{ints, clamps}
+use Rattle.std.proofs.lemmas.Bool.{cases_eq, cases_order, or_cases, or_left, or_right, cond-true, cond-false, cases_Bool}
+use Rattle.std.proofs.lemmas.Nat.{same_from_place}
 use Rattle.std.proofs.lemmas.List.Elements.{All-contains}
 use Rattle.ascii_grid.specs.Raster.{Terrain}
-use Rattle.ascii_grid.specs.Neighbours.{height_at, IsDataCell, Touches, IsNeighbour, HasGapAround}
+use Rattle.ascii_grid.specs.Neighbours.{height_at, IsDataCell, Touches, IsNeighbour, HasGapAround, height_of}
 use Rattle.ascii_grid.specs.declared.place.Place.{Place}
 use Rattle.ascii_grid.proofs.Places.{same_place}
-use Rattle.fill.specs.Cells.{Cells, Window, cell_of, IsInWindow, node_at, IsNetOf, IsAfter, IsBeside, cells_around, has_gap_around, source_of}
+use Rattle.drainage.specs.Filled.{IsPath, crest}
+use Rattle.drainage.proofs.Heights.{max_left, max_right, max_least, height_below_crest, trans}
+use Rattle.drainage.proofs.FilledExists.{filled_height}
+use Rattle.tiles.specs.declared.bounds.Bounds.{Bounds}
+use Rattle.tiles.specs.Cutting.{IsInBounds}
+use Rattle.fill.specs.declared.net.Spill.{Spill}
+use Rattle.fill.specs.Walk.{IsWalk, crest as walk_crest, end_of, IsFlooded}
+use Rattle.fill.specs.Cells.{Cells, cell_of, node_at, IsNetOf, IsAfter, IsBeside, IsCellJoin, cells_around, has_gap_around, source_of}
+use Rattle.fill.specs.CellJoins.{some_inside}
+use Rattle.fill.specs.TileFlood.{last_of}
 use Rattle.fill.proofs.Steps.{seen, none_some, none_done}
-use Rattle.fill.proofs.Heaps.{cons_head, cons_tail, cons_cases}
+use Rattle.fill.proofs.Heaps.{cons_head, cons_tail, cons_cases, not_some}
 use Rattle.fill.proofs.CellWays.{all_beside, beside_around}
+use Rattle.fill.proofs.Borders.{above_row}
 
 -- The place is in the first or last row or column of the window.
-abbrev pub IsOnRim : Window → Place → Type 0
+abbrev pub IsOnRim : Bounds → Place → Type 0
 IsOnRim w p = (p.row ≡ w.top) ⊎ (p.row + 1 ≡ w.top + w.rows) ⊎ (p.col ≡ w.left) ⊎ (p.col + 1 ≡ w.left + w.cols)
 
 -- A data cell on the rim of the window, or one with a gap around it.
-abbrev pub IsWindowSource : Terrain → Window → Place → Type 0
+abbrev pub IsWindowSource : Terrain → Bounds → Place → Type 0
 IsWindowSource t w p = IsDataCell t p × (IsOnRim w p ⊎ HasGapAround t p)
 
 -- A path that stays in the window and ends at a source of it.
-abbrev pub IsWindowPath : Terrain → Window → Place → List Place → Type 0
+abbrev pub IsWindowPath : Terrain → Bounds → Place → List Place → Type 0
 IsWindowPath t w p [] = IsWindowSource t w p
-IsWindowPath t w p (q ∷ rest) = IsNeighbour t p q × IsInWindow w q × IsWindowPath t w q rest
+IsWindowPath t w p (q ∷ rest) = IsNeighbour t p q × IsInBounds w q × IsWindowPath t w q rest
 
 -- numbers of cells in neighbouring rows and columns
 next_row : (s r c d : ℕ) → d ≤ c + 1 → c ≤ d + 1 → IsAfter s (r * s + c) ((r + 1) * s + d)
@@ -70,19 +84,19 @@ near_rows s (suc r) c b one low (inr (inr (inr (inl e)))) = (r, c, omega arith, 
 near_rows s (suc r) c b one low (inr (inr (inr (inr e)))) = (r, c - 1, omega arith, omega arith, omega arith, omega arith, omega arith)
 
 -- the row and column of a place of the window, counted from its border
-abbrev row_in : Window → Place → ℕ
+abbrev row_in : Bounds → Place → ℕ
 row_in w p = p.row - w.top + 1
 
-abbrev col_in : Window → Place → ℕ
+abbrev col_in : Bounds → Place → ℕ
 col_in w p = p.col - w.left + 1
 
-pub touch_beside : (w : Window) (p q : Place) → IsInWindow w p → IsInWindow w q → Touches p q → p ≢ q → IsBeside (w.cols + 2) (node_at w p) (node_at w q)
+pub touch_beside : (w : Bounds) (p q : Place) → IsInBounds w p → IsInBounds w q → Touches p q → p ≢ q → IsBeside (w.cols + 2) (node_at w p) (node_at w q)
 touch_beside w p q a b t differ =
     rows_beside (w.cols + 2) (row_in w p) (col_in w p) (row_in w q) (col_in w q)
     (omega (arith, t.row_down, a.0, b.0)) (omega (arith, t.row_up, a.0, b.0)) (omega (arith, t.col_right, a.2, b.2)) (omega (arith, t.col_left, a.2, b.2))
     (λ r c. differ (same_place p q (omega (arith, r, a.0, b.0)) (omega (arith, c, a.2, b.2))))
 
-near_touch : (w : Window) (p q : Place) → IsInWindow w p → IsInWindow w q → AreNear (row_in w p) (col_in w p) (row_in w q) (col_in w q) → Touches p q × (p ≢ q)
+near_touch : (w : Bounds) (p q : Place) → IsInBounds w p → IsInBounds w q → AreNear (row_in w p) (col_in w p) (row_in w q) (col_in w q) → Touches p q × (p ≢ q)
 near_touch w p q a b (inl h) = (
   record { row_down = omega (arith, a, b, h); row_up = omega (arith, a, b, h); col_right = omega (arith, a, b, h); col_left = omega (arith, a, b, h) },
   λ e. let c : p.col ≡ q.col = ap (λ (z : Place). z.col) e in absurd (omega (arith, a, b, h, c)),
@@ -95,12 +109,12 @@ near_touch w p q a b (inr h) = (
 turn : (p q : Place) → Touches p q × (p ≢ q) → Touches q p × (q ≢ p)
 turn p q h = (record { row_down = h.0.row_up; row_up = h.0.row_down; col_right = h.0.col_left; col_left = h.0.col_right }, λ e. h.1 (sym e))
 
-pub beside_touch : (w : Window) (p q : Place) → IsInWindow w p → IsInWindow w q → IsBeside (w.cols + 2) (node_at w p) (node_at w q) → Touches p q × (p ≢ q)
+pub beside_touch : (w : Bounds) (p q : Place) → IsInBounds w p → IsInBounds w q → IsBeside (w.cols + 2) (node_at w p) (node_at w q) → Touches p q × (p ≢ q)
 beside_touch w p q a b (inl h) = near_touch w p q a b (after_rows (w.cols + 2) (row_in w p) (col_in w p) (row_in w q) (col_in w q) (omega (arith, a)) (omega (arith, b)) h)
 beside_touch w p q a b (inr h) = turn q p (near_touch w q p b a (after_rows (w.cols + 2) (row_in w q) (col_in w q) (row_in w p) (col_in w p) (omega (arith, b)) (omega (arith, a)) h))
 
 -- a number has one place
-pub node_injective : (w : Window) (p q : Place) → IsInWindow w p → IsInWindow w q → node_at w p ≡ node_at w q → p ≡ q
+pub node_injective : (w : Bounds) (p q : Place) → IsInBounds w p → IsInBounds w q → node_at w p ≡ node_at w q → p ≡ q
 node_injective w p q a b e =
     let both = same_from_place (row_in w p) (col_in w p) (row_in w q) (col_in w q) (w.cols + 2) (omega (arith, a)) (omega (arith, b)) e in
     same_place p q (omega (arith, a, b, both.0)) (omega (arith, a, b, both.1))
@@ -124,16 +138,12 @@ none_is : {X : Type 0} (o : Option X) → is_none o ≡ true → o ≡ None
 none_is None e = refl
 none_is (Some x) e = absurd (cc)
 
-pub no_data : {X : Type 0} (o : Option X) → IsNone o → o ≡ None
-no_data None e = refl
-no_data (Some x) e = absurd (cc)
-
 pub data_is : {X : Type 0} (o : Option X) → IsSome o → (x : X) × (o ≡ Some x)
 data_is None e = absurd (cc)
 data_is (Some x) e = (x, refl)
 
 -- the rim, as a case to split on
-pub cases_rim : (w : Window) (p : Place) → IsInWindow w p → IsOnRim w p ⊎ ((w.top + 1 ≤ p.row) × (p.row + 2 ≤ w.top + w.rows) × (w.left + 1 ≤ p.col) × (p.col + 2 ≤ w.left + w.cols))
+pub cases_rim : (w : Bounds) (p : Place) → IsInBounds w p → IsOnRim w p ⊎ ((w.top + 1 ≤ p.row) × (p.row + 2 ≤ w.top + w.rows) × (w.left + 1 ≤ p.col) × (p.col + 2 ≤ w.left + w.cols))
 cases_rim w p a = elim (cases_eq p.row w.top) [
   | inl top ↦ inl (inl top)
   | inr below ↦ elim (cases_eq (p.row + 1) (w.top + w.rows)) [
@@ -148,18 +158,25 @@ cases_rim w p a = elim (cases_eq p.row w.top) [
   ]
 ]
 
+-- what touches a place of the window lies in it too, or the place is on its rim
+pub beyond : (w : Bounds) (p q : Place) → IsInBounds w p → Touches p q → IsOnRim w p ⊎ IsInBounds w q
+beyond w p q a t = elim (cases_rim w p a) [
+  | inl rim ↦ inl rim
+  | inr inner ↦ inr (omega (arith, inner, t.row_up), omega (arith, inner, t.row_down), omega (arith, inner, t.col_left), omega (arith, inner, t.col_right))
+]
+
 -- the place with this row and column
-abbrev place_in : Window → ℕ → ℕ → Place
+abbrev place_in : Bounds → ℕ → ℕ → Place
 place_in w r c = record { row = w.top + r - 1; col = w.left + c - 1 }
 
-node_of_place : (w : Window) (r c : ℕ) → 1 ≤ r → 1 ≤ c → node_at w (place_in w r c) ≡ r * (w.cols + 2) + c
+node_of_place : (w : Bounds) (r c : ℕ) → 1 ≤ r → 1 ≤ c → node_at w (place_in w r c) ≡ r * (w.cols + 2) + c
 node_of_place w r c a b =
     ap (λ n. n * (w.cols + 2) + (w.left + c - 1 - w.left + 1)) (back w.top r a) ∙ ap (λ n. r * (w.cols + 2) + n) (back w.left c b) where
       back : (x y : ℕ) → 1 ≤ y → x + y - 1 - x + 1 ≡ y
       back x y h = omega arith
 
 -- a number of the border has no data
-border_none : (t : Terrain) (w : Window) (n : Cells) → IsNetOf t w n → (r c : ℕ) → c < w.cols + 2 → ((1 ≤ r) → (r ≤ w.rows) → (1 ≤ c) → (c ≤ w.cols) → ⊥) → cell_of n (r * (w.cols + 2) + c) ≡ None
+border_none : (t : Terrain) (w : Bounds) (n : Cells) → IsNetOf t w n → (r c : ℕ) → c < w.cols + 2 → ((1 ≤ r) → (r ≤ w.rows) → (1 ≤ c) → (c ≤ w.cols) → ⊥) → cell_of n (r * (w.cols + 2) + c) ≡ None
 border_none t w n net r c narrow outside = elim (seen (cell_of n (r * (w.cols + 2) + c))) [
   | inl none ↦ none
   | inr found ↦
@@ -169,7 +186,7 @@ border_none t w n net r c narrow outside = elim (seen (cell_of n (r * (w.cols + 
 ]
 
 -- a gap beside a cell of the window makes it a source of the window
-pub gap_is_source : (t : Terrain) (w : Window) (n : Cells) → IsNetOf t w n → (p : Place) → IsInWindow w p → IsDataCell t p → (b : ℕ) → IsBeside (w.cols + 2) (node_at w p) b → cell_of n b ≡ None → IsWindowSource t w p
+pub gap_is_source : (t : Terrain) (w : Bounds) (n : Cells) → IsNetOf t w n → (p : Place) → IsInBounds w p → IsDataCell t p → (b : ℕ) → IsBeside (w.cols + 2) (node_at w p) b → cell_of n b ≡ None → IsWindowSource t w p
 gap_is_source t w n net p a some b beside none = (
   some,
   elim (cases_rim w p a) [
@@ -177,7 +194,7 @@ gap_is_source t w n net p a some b beside none = (
     | inr inner ↦
         let near = near_rows (w.cols + 2) (row_in w p) (col_in w p) b (omega arith) (omega arith) beside in
         let q = place_in w near.0 near.1 in
-        let in_window : IsInWindow w q = (omega (arith, near, inner, a), omega (arith, near, inner, a), omega (arith, near, inner, a), omega (arith, near, inner, a)) in
+        let in_window : IsInBounds w q = (omega (arith, near, inner, a), omega (arith, near, inner, a), omega (arith, near, inner, a), omega (arith, near, inner, a)) in
         let touches : Touches p q = record { row_down = omega (arith, near, inner, a); row_up = omega (arith, near, inner, a); col_right = omega (arith, near, inner, a); col_left = omega (arith, near, inner, a) } in
         let here : node_at w q ≡ b = node_of_place w near.0 near.1 (omega (arith, near, inner, a)) (omega (arith, near, inner, a)) ∙ sym near.6 in
         inr (inr (inr (q, touches, ap is_some (sym (net.inside q in_window) ∙ ap (cell_of n) here ∙ none))))
@@ -185,7 +202,7 @@ gap_is_source t w n net p a some b beside none = (
 )
 
 -- a source of the window has a gap beside it
-rim_gap : (t : Terrain) (w : Window) (n : Cells) → IsNetOf t w n → (p : Place) → IsInWindow w p → IsOnRim w p → (b : ℕ) × IsBeside (w.cols + 2) (node_at w p) b × (cell_of n b ≡ None)
+rim_gap : (t : Terrain) (w : Bounds) (n : Cells) → IsNetOf t w n → (p : Place) → IsInBounds w p → IsOnRim w p → (b : ℕ) × IsBeside (w.cols + 2) (node_at w p) b × (cell_of n b ≡ None)
 rim_gap t w n net p a (inl e) =
     let first : row_in w p ≡ 1 = omega (arith, e, a) in
     (0 * (w.cols + 2) + col_in w p, inr (inr (inr (inl (ap (λ r. r * (w.cols + 2) + col_in w p) first ∙ omega arith)))), border_none t w n net 0 (col_in w p) (omega (arith, a)) (λ one _ _ _. omega arith))
@@ -196,46 +213,25 @@ rim_gap t w n net p a (inr (inr (inl e))) =
 rim_gap t w n net p a (inr (inr (inr e))) =
     (row_in w p * (w.cols + 2) + (col_in w p + 1), inl (inl (omega arith)), border_none t w n net (row_in w p) (col_in w p + 1) (omega (arith, a)) (λ _ _ _ low. omega (arith, e, a)))
 
-pub source_gap : (t : Terrain) (w : Window) (n : Cells) → IsNetOf t w n → (p : Place) → IsInWindow w p → IsWindowSource t w p → (b : ℕ) × IsBeside (w.cols + 2) (node_at w p) b × (cell_of n b ≡ None)
+pub source_gap : (t : Terrain) (w : Bounds) (n : Cells) → IsNetOf t w n → (p : Place) → IsInBounds w p → IsWindowSource t w p → (b : ℕ) × IsBeside (w.cols + 2) (node_at w p) b × (cell_of n b ≡ None)
 source_gap t w n net p a source = elim source.1 [
   | inl rim ↦ rim_gap t w n net p a rim
   | inr gap ↦ elim gap [
     | inl north ↦ rim_gap t w n net p a (inl (omega (arith, a)))
     | inr other ↦ elim other [
       | inl west ↦ rim_gap t w n net p a (inr (inr (inl (omega (arith, a)))))
-      | inr some_gap ↦ at some_gap.0 some_gap.1 (no_data _ some_gap.2)
+      | inr some_gap ↦ at some_gap.0 some_gap.1 (not_some _ some_gap.2)
     ]
   ]
 ] where
-  outside : (q : Place) → Touches p q → ((p.row ≡ w.top) ⊎ (p.row + 1 ≡ w.top + w.rows) ⊎ (p.col ≡ w.left) ⊎ (p.col + 1 ≡ w.left + w.cols)) ⊎ IsInWindow w q
-  outside q touches = elim (cases_lt q.row w.top) [
-    | inl north ↦ inl (inl (omega (arith, a, touches.row_up)))
-    | inr no_north ↦ elim (cases_lt q.row (w.top + w.rows)) [
-      | inr south ↦ inl (inr (inl (omega (arith, a, touches.row_down))))
-      | inl no_south ↦ elim (cases_lt q.col w.left) [
-        | inl west ↦ inl (inr (inr (inl (omega (arith, a, touches.col_left)))))
-        | inr no_west ↦ elim (cases_lt q.col (w.left + w.cols)) [
-          | inr east ↦ inl (inr (inr (inr (omega (arith, a, touches.col_right)))))
-          | inl no_east ↦ inr (no_north, no_south, no_west, no_east)
-        ]
-      ]
-    ]
-  ]
-
   at : (q : Place) → Touches p q → height_at t q ≡ None → (b : ℕ) × IsBeside (w.cols + 2) (node_at w p) b × (cell_of n b ≡ None)
-  at q touches none = elim (outside q touches) [
+  at q touches none = elim (beyond w p q a touches) [
     | inl rim ↦ rim_gap t w n net p a rim
     | inr in_window ↦ (node_at w q, touch_beside w p q a in_window touches (λ e. none_done (height_at t q) none (subst (IsDataCell t) e source.0)), net.inside q in_window ∙ none)
   ]
 
--- a cell of the window is above the first row of its net
-above_row : (w : Window) (p : Place) → w.cols + 2 < node_at w p
-above_row w p = go (p.row - w.top) (p.col - w.left) (w.cols + 2) where
-  go : (r c s : ℕ) → s < (r + 1) * s + (c + 1)
-  go r c s = omega (arith, mul-le 1 s (r + 1) s (omega arith) (omega arith))
-
 -- sources of the net are sources of the window
-pub source_there : (t : Terrain) (w : Window) (n : Cells) → IsNetOf t w n → (p : Place) → IsInWindow w p → IsWindowSource t w p → source_of n (node_at w p) ≡ height_at t p
+pub source_there : (t : Terrain) (w : Bounds) (n : Cells) → IsNetOf t w n → (p : Place) → IsInBounds w p → IsWindowSource t w p → source_of n (node_at w p) ≡ height_at t p
 source_there t w n net p a source =
     let gap = source_gap t w n net p a source in
     let beside = subst (λ s. IsBeside s (node_at w p) gap.0) (sym net.stride) gap.1 in
@@ -243,7 +239,7 @@ source_there t w n net p a source =
     let found = any_from (λ b. is_none (cell_of n b)) (cells_around n.stride (node_at w p)) gap.0 (beside_around n.stride (node_at w p) gap.0 above beside) (ap is_none gap.2) in
     cond-true _ _ _ found ∙ net.inside p a
 
-pub source_back : (t : Terrain) (w : Window) (n : Cells) → IsNetOf t w n → (p : Place) → IsInWindow w p → (h : ℤ) → source_of n (node_at w p) ≡ Some h → IsWindowSource t w p × (height_at t p ≡ Some h)
+pub source_back : (t : Terrain) (w : Bounds) (n : Cells) → IsNetOf t w n → (p : Place) → IsInBounds w p → (h : ℤ) → source_of n (node_at w p) ≡ Some h → IsWindowSource t w p × (height_at t p ≡ Some h)
 source_back t w n net p a h e = elim (cases_Bool (has_gap_around n (node_at w p))) [
   | inl gap ↦
       let found = any_found (λ b. is_none (cell_of n b)) (cells_around n.stride (node_at w p)) gap in
@@ -253,3 +249,132 @@ source_back t w n net p a h e = elim (cases_Bool (has_gap_around n (node_at w p)
       (gap_is_source t w n net p a (ap is_some height) found.0 (subst (λ s. IsBeside s (node_at w p) found.0) net.stride beside) (none_is _ found.2), height)
   | inr no_gap ↦ none_some _ h (cond-false _ _ _ no_gap) e
 ]
+
+pub path_data : (t : Terrain) (w : Bounds) (p : Place) (rest : List Place) → IsWindowPath t w p rest → IsDataCell t p
+path_data t w p [] path = path.0
+path_data t w p (q ∷ rest) path = path.0.from_data
+
+pub path_end : (t : Terrain) (w : Bounds) (p : Place) (rest : List Place) → IsInBounds w p → IsWindowPath t w p rest → IsInBounds w (last_of p rest)
+path_end t w p [] inside path = inside
+path_end t w p (q ∷ rest) inside path = path_end t w q rest path.1 path.2
+
+pub height_is : (t : Terrain) (p : Place) (h : ℤ) → height_at t p ≡ Some h → height_of t p ≡ h
+height_is t p h e = ap (λ (o : Option ℤ). unwrap_or o (pos 0)) e
+
+joined_crest : (h k c : ℤ) → k ≤ℤ c → int_max (int_max k h) c ≡ int_max h c
+joined_crest h k c low = omega (arith, ints, clamps)
+
+-- a path in the window is a walk of its net
+pub walk_of : (t : Terrain) (w : Bounds) (n : Cells) → IsNetOf t w n → (p : Place) (rest : List Place) → IsInBounds w p → IsWindowPath t w p rest → (walk : List Spill) × IsWalk (IsCellJoin n) (source_of n) (node_at w p) walk × (walk_crest (source_of n) (node_at w p) walk ≡ crest t p rest) × (end_of (node_at w p) walk ≡ node_at w (last_of p rest))
+walk_of t w n net p [] inside path =
+    let there = source_there t w n net p inside path in
+    ([], ap is_some there ∙ path.0, ap (λ (o : Option ℤ). unwrap_or o (pos 0)) there, refl)
+walk_of t w n net p (q ∷ rest) inside path =
+    let further = walk_of t w n net q rest path.1 path.2 in
+    let from = data_is (height_at t p) path.0.from_data in
+    let to = data_is (height_at t q) path.0.to_data in
+    let high : to.0 ≤ℤ crest t q rest = subst (λ z. z ≤ℤ crest t q rest) (height_is t q to.0 to.1) (height_below_crest t q rest) in
+    let join : IsCellJoin n (node_at w p) (node_at w q) (int_max to.0 from.0) = record {
+      beside = subst (λ s. IsBeside s (node_at w p) (node_at w q)) (sym net.stride) (touch_beside w p q inside path.1 path.0.touches path.0.different);
+      from_height = from.0;
+      to_height = to.0;
+      from_cell = net.inside p inside ∙ from.1;
+      to_cell = net.inside q path.1 ∙ to.1;
+      greater = refl;
+    } in (
+      record { to = node_at w q; height = int_max to.0 from.0 } ∷ further.0,
+      (join, further.1),
+      ap (λ z. int_max (int_max to.0 from.0) z) further.2 ∙ joined_crest from.0 to.0 (crest t q rest) high ∙ ap (λ z. int_max z (crest t q rest)) (sym (height_is t p from.0 from.1)),
+      further.3,
+    )
+
+-- a walk of the net is a path in the window
+pub path_of : (t : Terrain) (w : Bounds) (n : Cells) → IsNetOf t w n → (walk : List Spill) (p : Place) → IsInBounds w p → IsWalk (IsCellJoin n) (source_of n) (node_at w p) walk → (rest : List Place) × IsWindowPath t w p rest × (crest t p rest ≡ walk_crest (source_of n) (node_at w p) walk) × (end_of (node_at w p) walk ≡ node_at w (last_of p rest))
+path_of t w n net [] p inside walk =
+    let h = data_is (source_of n (node_at w p)) walk in
+    let back = source_back t w n net p inside h.0 h.1 in
+    ([], back.0, height_is t p h.0 back.1 ∙ sym (ap (λ (o : Option ℤ). unwrap_or o (pos 0)) h.1), refl)
+path_of t w n net (step ∷ steps) p inside walk =
+    let join = walk.0 in
+    let q = net.only step.to (ap is_some join.to_cell) in
+    let further = path_of t w n net steps q.0 q.1 (subst (λ a. IsWalk (IsCellJoin n) (source_of n) a steps) (sym q.2) walk.1) in
+    let from : height_at t p ≡ Some join.from_height = sym (net.inside p inside) ∙ join.from_cell in
+    let to : height_at t q.0 ≡ Some join.to_height = sym (net.inside q.0 q.1) ∙ ap (cell_of n) q.2 ∙ join.to_cell in
+    let near = beside_touch w p q.0 inside q.1 (subst (λ s. IsBeside s (node_at w p) (node_at w q.0)) net.stride (subst (λ a. IsBeside n.stride (node_at w p) a) (sym q.2) join.beside)) in
+    let next : IsNeighbour t p q.0 = record { different = near.1; touches = near.0; from_data = ap is_some from; to_data = ap is_some to } in
+    let high : join.to_height ≤ℤ crest t q.0 further.0 = subst (λ z. z ≤ℤ crest t q.0 further.0) (height_is t q.0 join.to_height to) (height_below_crest t q.0 further.0) in (
+      q.0 ∷ further.0,
+      (next, q.1, further.1),
+      ap (λ z. int_max z (crest t q.0 further.0)) (height_is t p join.from_height from) ∙ sym (joined_crest join.from_height join.to_height (crest t q.0 further.0) high)
+          ∙ ap (λ z. int_max z (crest t q.0 further.0)) join.greater
+          ∙ ap (λ z. int_max step.height z) (further.2 ∙ ap (λ a. walk_crest (source_of n) a steps) q.2),
+      ap (λ a. end_of a steps) (sym q.2) ∙ further.3,
+    )
+
+-- a path to the edge goes through the window at no greater crest
+pub path_in_window : (t : Terrain) (w : Bounds) (p : Place) (rest : List Place) → IsInBounds w p → IsPath t p rest → (inner : List Place) × IsWindowPath t w p inner × (crest t p inner ≤ℤ crest t p rest)
+path_in_window t w p [] inside path = ([], (path.0, inr path.1), ≤ℤ_refl _)
+path_in_window t w p (q ∷ rest) inside path = elim (beyond w p q inside path.0.touches) [
+  | inl rim ↦ ([], (path.0.from_data, inl rim), max_left (height_of t p) (crest t q rest))
+  | inr there ↦
+      let further = path_in_window t w q rest there path.1 in
+      (q ∷ further.0, (path.0, there, further.1), max_least _ _ _ (max_left (height_of t p) (crest t q rest)) (trans _ _ _ further.2 (max_right (height_of t p) (crest t q rest))))
+]
+
+-- The level is the least crest of the paths in the window, and the label ends a path of that crest.
+-- A source whose level is its own height is its own label.
+pub record IsWindowLevel (t : Terrain) (w : Bounds) (p : Place) (level : ℤ) (label : Place) : Type 0 where
+  pub reached : (rest : List Place) × IsWindowPath t w p rest × (crest t p rest ≡ level) × (last_of p rest ≡ label)
+  pub least : (rest : List Place) → IsWindowPath t w p rest → level ≤ℤ crest t p rest
+  pub own : IsWindowSource t w p → height_at t p ≡ Some level → label ≡ p
+
+-- what a flood of the net of a window says of a cell with data
+pub record HasWindowLevel (t : Terrain) (w : Bounds) (levels : List (Option ℤ)) (labels : List (Option ℕ)) (p : Place) : Type 0 where
+  pub level : ℤ
+  pub label : Place
+  pub level_is : get_or levels (node_at w p) None ≡ Some level
+  pub label_is : get_or labels (node_at w p) None ≡ Some (node_at w label)
+  pub inside : IsInBounds w label
+  pub right : IsWindowLevel t w p level label
+
+pub window_level : (t : Terrain) (w : Bounds) (n : Cells) (levels : List (Option ℤ)) (labels : List (Option ℕ)) → IsNetOf t w n → IsFlooded (IsCellJoin n) (source_of n) (length n.cells) levels labels → (p : Place) → IsInBounds w p → IsDataCell t p → HasWindowLevel t w levels labels p
+window_level t w n levels labels net flooded p inside some =
+    let a = node_at w p in
+    let below = some_inside n.cells a (data_is (height_at t p) some).0 (net.inside p inside ∙ (data_is (height_at t p) some).1) in
+    elim (seen (get_or levels a None)) [
+      | inl none ↦
+          let edge = (filled_height t p some).1.reached in
+          let path = path_in_window t w p edge.0 inside edge.1 in
+          let walk = walk_of t w n net p path.0 inside path.1 in
+          absurd ((MatchOption-at_none _ _ none (flooded.each a below)).0 walk.0 walk.1)
+      | inr found ↦
+          let here = MatchOption-at_some _ _ found.0 found.1 (flooded.each a below) in
+          let is_level = here.2 in
+          let path = path_of t w n net is_level.reached.0 p inside is_level.reached.1 in
+          let label = last_of p path.0 in
+          let label_node : here.0 ≡ node_at w label = sym is_level.reached.3 ∙ path.3 in
+          let label_inside = path_end t w p path.0 inside path.1 in
+          record {
+            level = found.0;
+            label = label;
+            level_is = found.1;
+            label_is = here.1 ∙ ap Some label_node;
+            inside = label_inside;
+            right = record {
+              reached = (path.0, path.1, path.2 ∙ is_level.reached.2, refl);
+              least = λ rest is_path. let walk = walk_of t w n net p rest inside is_path in subst (λ z. found.0 ≤ℤ z) walk.2 (is_level.least walk.0 walk.1);
+              own = λ source height. node_injective w label p label_inside inside (sym label_node ∙ is_level.own (source_there t w n net p inside source ∙ height));
+            };
+          }
+    ]
+
+-- a cell without data has neither
+pub window_none : (t : Terrain) (w : Bounds) (n : Cells) (levels : List (Option ℤ)) (labels : List (Option ℕ)) → IsNetOf t w n → IsFlooded (IsCellJoin n) (source_of n) (length n.cells) levels labels → (p : Place) → IsInBounds w p → height_at t p ≡ None → node_at w p < length n.cells → (get_or levels (node_at w p) None ≡ None) × (get_or labels (node_at w p) None ≡ None)
+window_none t w n levels labels net flooded p inside none below =
+    elim (seen (get_or levels (node_at w p) None)) [
+      | inl no_level ↦ (no_level, (MatchOption-at_none _ _ no_level (flooded.each (node_at w p) below)).1)
+      | inr found ↦
+          let here = MatchOption-at_some _ _ found.0 found.1 (flooded.each (node_at w p) below) in
+          let path = path_of t w n net here.2.reached.0 p inside here.2.reached.1 in
+          none_done (height_at t p) none (path_data t w p path.0 path.1)
+    ]

@@ -6,17 +6,8 @@ use Rattle.ascii_grid.specs.Raster.{Terrain}
 use Rattle.ascii_grid.specs.Neighbours.{height_at}
 use Rattle.ascii_grid.specs.declared.place.Place.{Place}
 use Rattle.tiles.specs.declared.bounds.Bounds.{Bounds}
+use Rattle.tiles.specs.Cutting.{IsInBounds}
 use Rattle.fill.specs.declared.net.Spill.{Spill}
-
--- A rectangle of places.
-pub record Window : Type 0 where
-  pub top : ℕ
-  pub left : ℕ
-  pub rows : ℕ
-  pub cols : ℕ
-
-abbrev pub IsInWindow : Window → Place → Type 0
-IsInWindow w p = (w.top ≤ p.row) × (p.row < w.top + w.rows) × (w.left ≤ p.col) × (p.col < w.left + w.cols)
 
 -- The cells of a rectangle in row order, with a border of cells without data around them. A row has
 -- stride cells, its two border cells among them. A node's number is its cell's place in the list.
@@ -70,18 +61,18 @@ way_to cells height b = elim (slice_index_or cells b None) [
 ]
 
 -- Where the cell of a place of the window stands.
-abbrev pub node_at : Window → Place → ℕ
+abbrev pub node_at : Bounds → Place → ℕ
 node_at w p = (p.row - w.top + 1) * (w.cols + 2) + (p.col - w.left + 1)
 
 -- The net has the cells of this window of the terrain.
-pub record IsNetOf (t : Terrain) (w : Window) (n : Cells) : Type 0 where
+pub record IsNetOf (t : Terrain) (w : Bounds) (n : Cells) : Type 0 where
   pub stride : n.stride ≡ w.cols + 2
-  pub inside : (p : Place) → IsInWindow w p → cell_of n (node_at w p) ≡ height_at t p
-  pub only : (a : ℕ) → IsSome (cell_of n a) → (p : Place) × IsInWindow w p × (node_at w p ≡ a)
+  pub inside : (p : Place) → IsInBounds w p → cell_of n (node_at w p) ≡ height_at t p
+  pub only : (a : ℕ) → IsSome (cell_of n a) → (p : Place) × IsInBounds w p × (node_at w p ≡ a)
   pub size : length n.cells ≡ (w.rows + 2) * (w.cols + 2)
 
 -- The whole terrain.
-abbrev pub whole : Terrain → Window
+abbrev pub whole : Terrain → Bounds
 whole t = record { top = 0; left = 0; rows = t.rows; cols = t.cols }
 
 -- The first rows, each with a cell without data at either end, below a row of such cells.
@@ -105,7 +96,3 @@ inner_rows list cols (suc count) =
 -- The place of a node of a window with this first row and column, and this number of columns.
 abbrev pub place_of_node : ℕ → ℕ → ℕ → ℕ → Place
 place_of_node top left cols node = record { row = top + node / (cols + 2) - 1; col = left + node % (cols + 2) - 1 }
-
--- The window of these bounds.
-abbrev pub window_of : Bounds → Window
-window_of b = record { top = b.top; left = b.left; rows = b.rows; cols = b.cols }

@@ -7,6 +7,7 @@ use Rattle.fill.specs.declared.flooding.Waits.{Waits}
 use Rattle.std.specs.declared.vec.Vec.{Vec}
 use Rattle.std.specs.BinaryHeap.{IsHeap, heap_items}
 use Rattle.std.specs.Int.{int_max}
+use Rattle.std.specs.List.Sorted.{IsPermutation}
 use Rattle.std.specs.List.{Contains, All, flat_map}
 use Rattle.fill.specs.Walk.{Joins, Sources, HasJust}
 use Rattle.fill.specs.declared.net.Spill.{Spill}
@@ -43,10 +44,9 @@ pub record AreOrdered (base : ℤ) (first end : ℕ) (lists : List (List Waiting
 abbrev pub InOrder : Waits → Type 0
 InOrder w = AreOrdered w.base w.first w.end (entries_of w.lists.items) (heap_items w.others)
 
--- The new entries are the old ones and one more.
-pub record PutsIn (w : Waiting) (old new : List Waiting) : Type 0 where
-  pub into : (x : Waiting) → Contains (w ∷ old) x → Contains new x
-  pub from : (x : Waiting) → Contains new x → Contains (w ∷ old) x
+-- The new entries are the old ones and one more, in any order.
+abbrev pub PutsIn : Waiting → List Waiting → List Waiting → Type 0
+PutsIn w old new = IsPermutation (w ∷ old) new
 
 abbrev pub HasNone : List Waiting → Type 0
 HasNone waiting = (w : Waiting) → Contains waiting w → ⊥

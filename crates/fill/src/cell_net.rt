@@ -1,14 +1,14 @@
 // A rectangle of cells as a net.
 ghost use Rattle.std.specs.Prelude.{◌≡◌, None, ◌+◌, ◌-◌, ◌*◌, ◌^◌, ◌<◌, ◌≤◌, ◌∷◌, ◌++◌, [], ℕ, ℤ, length, All, IfOk, IfSome, OnOk, is_none, slice_index_or, replicate};
 ghost use Rattle.std.specs.List.{list_any, filter_map};
-ghost use Rattle.fill.specs.Cells.{Cells, cells_around, way_to, whole, IsNetOf, IsCellJoin, source_of, bordered_rows, inner_rows, row_of, window_of};
+ghost use Rattle.fill.specs.Cells.{Cells, cells_around, way_to, whole, IsNetOf, IsCellJoin, source_of, bordered_rows, inner_rows, row_of};
 ghost use Rattle.tiles.specs.Cutting.{bounds_of, row_shown, terrain_of};
 
 use crate::flooding::empty_list;
 use crate::net::{Net, Spill};
 use ascii_grid::{Grid, Height, NoMemory};
 use smallvec::SmallVec;
-use std::alloc::Global;
+use std::alloc::{AllocError, Global};
 use std::marker::Model;
 use tiles::{Bounds, TileView};
 
@@ -170,31 +170,23 @@ impl Net for CellNet {
 
 /// Adds cells without data.
 #[inline]
-fn push_empty(cells: &mut Vec<Option<Height>>, count: usize) -> Result<(), NoMemory>
+fn push_empty(cells: &mut Vec<Option<Height>>, count: usize) -> Result<(), AllocError>
     ensures { OnOk result (cells.new.items ≡ cells.old.items ++ replicate count None) }
 {
     for _ in 0..count {
-        if cells.push(None).is_err() {
-            return Err(NoMemory);
-        }
+        cells.push(None)?;
     }
     Ok(())
 }
 
 /// Adds a row, with a cell without data at either end.
 #[inline]
-fn push_row(cells: &mut Vec<Option<Height>>, row: &[Option<Height>]) -> Result<(), NoMemory>
+fn push_row(cells: &mut Vec<Option<Height>>, row: &[Option<Height>]) -> Result<(), AllocError>
     ensures { OnOk result (cells.new.items ≡ cells.old.items ++ (None ∷ row.now ++ None ∷ [])) }
 {
-    if cells.push(None).is_err() {
-        return Err(NoMemory);
-    }
-    if cells.extend_from_slice(row).is_err() {
-        return Err(NoMemory);
-    }
-    if cells.push(None).is_err() {
-        return Err(NoMemory);
-    }
+    cells.push(None)?;
+    cells.extend_from_slice(row)?;
+    cells.push(None)?;
     Ok(())
 }
 
@@ -204,7 +196,7 @@ fn bordered(
     cells: &[Option<Height>],
     cols: u32,
     rows: u32,
-) -> Result<Vec<Option<Height>>, NoMemory>
+) -> Result<Vec<Option<Height>>, AllocError>
     requires size { length cells.now ≡ cols * rows }
     requires few_cols { cols ≤ 4096 }
     requires few_rows { rows ≤ 4096 }
@@ -212,9 +204,7 @@ fn bordered(
 {
     let width = cols as usize;
     let stride = width + 2;
-    let Ok(mut list) = Vec::with_capacity(alloc, (rows as usize + 2) * stride) else {
-        return Err(NoMemory);
-    };
+    let mut list = Vec::with_capacity(alloc, (rows as usize + 2) * stride)?;
     push_empty(&mut list, stride)?;
     for row in 0..rows {
         let start = row as usize * width;
@@ -228,15 +218,13 @@ fn bordered(
 fn bordered_tile(
     alloc: Global,
     view: &TileView<'_, Option<Height>>,
-) -> Result<Vec<Option<Height>>, NoMemory>
+) -> Result<Vec<Option<Height>>, AllocError>
     ensures { let b = bounds_of view.now.cutting view.now.tile in
         IfOk result (λ v. v.items ≡ bordered_rows (row_shown view.now) (b.cols + 2) b.rows) }
 {
     let Bounds { rows, cols, .. } = view.bounds();
     let stride = cols as usize + 2;
-    let Ok(mut list) = Vec::with_capacity(alloc, (rows as usize + 2) * stride) else {
-        return Err(NoMemory);
-    };
+    let mut list = Vec::with_capacity(alloc, (rows as usize + 2) * stride)?;
     push_empty(&mut list, stride)?;
     for row in 0..rows {
         push_row(&mut list, view.row(row))?;
@@ -260,7 +248,7 @@ impl CellNet {
 
     /// A tile as a net of its own.
     pub fn of_view(alloc: Global, view: &TileView<'_, Option<Height>>) -> Result<CellNet, NoMemory>
-        ensures { IfOk result (IsNetOf (terrain_of view.now) (window_of (bounds_of view.now.cutting view.now.tile))) }
+        ensures { IfOk result (IsNetOf (terrain_of view.now) (bounds_of view.now.cutting view.now.tile)) }
     {
         let cells = bordered_tile(alloc, view)?;
         Ok(CellNet {
@@ -276,7 +264,7 @@ pub(crate) fn without_border<T: Copy>(
     list: &[Option<T>],
     cols: u32,
     rows: u32,
-) -> Result<Vec<Option<T>>, NoMemory>
+) -> Result<Vec<Option<T>>, AllocError>
     requires size { length list.now ≡ (rows + 2) * (cols + 2) }
     requires few_cols { cols ≤ 4096 }
     requires few_rows { rows ≤ 4096 }
@@ -284,17 +272,10 @@ pub(crate) fn without_border<T: Copy>(
 {
     let width = cols as usize;
     let stride = width + 2;
-    let Ok(mut inner) = Vec::with_capacity(alloc, rows as usize * width) else {
-        return Err(NoMemory);
-    };
+    let mut inner = Vec::with_capacity(alloc, rows as usize * width)?;
     for row in 0..rows {
         let start = (row as usize + 1) * stride + 1;
-        if inner
-            .extend_from_slice(&list[start..start + width])
-            .is_err()
-        {
-            return Err(NoMemory);
-        }
+        inner.extend_from_slice(&list[start..start + width])?;
     }
     Ok(inner)
 }

@@ -1,5 +1,5 @@
 // The filled heights of a grid, by tiles and workers.
-ghost use Rattle.std.specs.Prelude.{◌≡◌, ◌*◌, ◌<◌, ◌≤◌, length, ℕ, List, Some, slice_get, IfOk, IsTrue, ◌↔◌};
+ghost use Rattle.std.specs.Prelude.{◌≡◌, ◌*◌, ◌<◌, ◌≤◌, length, ℕ, List, Some, slice_get, IfOk, IfErr, IsTrue, ◌↔◌};
 ghost use Rattle.drainage.specs.Filled.{IsFilledGrid};
 ghost use Rattle.tiles.specs.Cutting.{Cuts, IsCutting};
 ghost use Rattle.ascii_grid.specs.Raster.{Terrain};
@@ -14,7 +14,7 @@ use crate::raising::raise;
 use crate::spills::SpillGraph;
 use crate::tile::{TileFlood, tile_flood};
 use crate::whole::filled_heights;
-use ascii_grid::{Grid, Height, NoMemory};
+use ascii_grid::{Grid, Height};
 use drainage::Filled;
 use std::alloc::Global;
 use std::sync::Wait;
@@ -68,9 +68,7 @@ impl<'a> Work for PartTiles<'a> {
     ghost gives = { λ w job out. IsPart w.tiling.now w.floods.now job out };
 
     fn run(&self, alloc: Global, job: u32) -> Result<Part, JobFault> {
-        let Ok(part) = tile_part(alloc, self.tiling, self.floods, job) else {
-            return Err(JobFault::Memory);
-        };
+        let part = tile_part(alloc, self.tiling, self.floods, job)?;
         Ok(part)
     }
 }
@@ -106,66 +104,23 @@ impl<'a> Work for RaiseTiles<'a> {
     }
 }
 
-fn flood_tiles<R: Threads + Wait + Sync, G: Gate + Sync>(
-    rt: &R,
-    alloc: Global,
-    grid: &Grid,
-    tiling: &Tiling,
-    workers: u32,
-    gate: &G,
-) -> Result<Vec<TileFlood>, JobFault>
-    requires { Cuts tiling.now grid.now.terrain }
-    ensures floods { IfOk result (λ v. AreFloods grid.now.terrain tiling.now v.items) }
-    ensures workers { RefusesWorkers workers result }
-{
-    let tiles = tiling.tiles();
-    run_jobs(
-        rt,
-        alloc,
-        &FloodTiles { grid, tiling },
-        tiles,
-        workers,
-        gate,
-    )
-}
-
-/// What each tile adds to the spill graph.
-fn part_tiles<R: Threads + Wait + Sync, G: Gate + Sync>(
-    rt: &R,
-    alloc: Global,
-    tiling: &Tiling,
-    floods: &[TileFlood],
-    workers: u32,
-    gate: &G,
-) -> Result<Vec<Part>, JobFault>
-    requires { (t : Terrain) × AreFloods t tiling.now floods.now }
-    ensures parts { IfOk result (λ v. AreParts tiling.now floods.now v.items) }
-    ensures workers { RefusesWorkers workers result }
-{
-    let tiles = tiling.tiles();
-    run_jobs(
-        rt,
-        alloc,
-        &PartTiles { tiling, floods },
-        tiles,
-        workers,
-        gate,
-    )
-}
-
 /// The levels of the spill graph of these parts.
 fn spill_levels(
     alloc: Global,
     tiling: &Tiling,
     parts: Vec<Part>,
-) -> Result<Vec<Option<Height>>, NoMemory>
+) -> Result<Vec<Option<Height>>, JobFault>
     requires { (t : Terrain) × (floods : List Flood) × AreFloods t tiling.now floods × AreParts tiling.now floods parts.items }
     ensures levels { IfOk result (λ v. (t : Terrain) (floods : List Flood) → AreFloods t tiling.now floods →
         AreParts tiling.now floods parts.items → RaisesToFilled t tiling.now floods v.items) }
     ensures size { IfOk result (λ v. length v.items ≡ tiling.now.cols * tiling.now.rows) }
+    ensures fault { IfErr result (λ e. e ≡ JobFault.Memory) }
 {
     let graph = SpillGraph::of_parts(alloc, tiling, parts)?;
-    graph.levels(alloc)
+    let Ok(levels) = graph.levels(alloc) else {
+        return Err(JobFault::Memory);
+    };
+    Ok(levels)
 }
 
 /// Whether each cell lies on the rim of its tile. The first tile is as large as any.
@@ -195,40 +150,16 @@ fn label_levels<R: Threads + Wait + Sync, G: Gate + Sync>(
     ensures size { IfOk result (λ v. length v.items ≡ tiling.now.cols * tiling.now.rows) }
     ensures workers { RefusesWorkers workers result }
 {
-    let levels = if has_no_inner_cell(tiling) {
-        filled_heights(alloc, grid)
-    } else {
-        let parts = part_tiles(rt, alloc, tiling, floods, workers, gate)?;
-        spill_levels(alloc, tiling, parts)
-    };
-    match levels {
-        Ok(levels) => Ok(levels),
-        Err(NoMemory) => Err(JobFault::Memory),
+    if has_no_inner_cell(tiling) {
+        let Ok(levels) = filled_heights(alloc, grid) else {
+            return Err(JobFault::Memory);
+        };
+        return Ok(levels);
     }
-}
-
-fn raise_tiles<R: Threads + Wait + Sync, G: Gate + Sync>(
-    rt: &R,
-    alloc: Global,
-    tiling: &Tiling,
-    floods: &[TileFlood],
-    levels: &[Option<Height>],
-    workers: u32,
-    gate: &G,
-) -> Result<Vec<Vec<Option<Height>>>, JobFault>
-    requires floods { (t : Terrain) × AreFloods t tiling.now floods.now }
-    requires size { length levels.now ≡ tiling.now.cols * tiling.now.rows }
-    ensures raised { IfOk result (λ v. (t : Terrain) → AreFloods t tiling.now floods.now →
-        RaisesToFilled t tiling.now floods.now levels.now → AreFilledTiles t tiling.now v.items) }
-    ensures workers { RefusesWorkers workers result }
-{
-    let tiles = tiling.tiles();
-    let work = RaiseTiles {
-        tiling,
-        floods,
-        levels,
-    };
-    run_jobs(rt, alloc, &work, tiles, workers, gate)
+    let work = PartTiles { tiling, floods };
+    let parts = run_jobs(rt, alloc, &work, tiling.tiles(), workers, gate)?;
+    let levels = spill_levels(alloc, tiling, parts)?;
+    Ok(levels)
 }
 
 /// The grid with each height replaced by its filled height. Each tile is flooded in a job of its own, adds
@@ -245,15 +176,26 @@ pub fn filled<R: Threads + Wait + Sync, G: Gate + Sync>(
     ensures filled { IfOk result (λ f. IsFilledGrid grid.now f) }
     ensures workers { RefusesWorkers workers result }
 {
-    let floods = flood_tiles(rt, alloc, grid, tiling, workers, gate)?;
+    let tiles = tiling.tiles();
+    let floods = run_jobs(
+        rt,
+        alloc,
+        &FloodTiles { grid, tiling },
+        tiles,
+        workers,
+        gate,
+    )?;
     let levels = label_levels(rt, alloc, grid, tiling, &floods, workers, gate)?;
-    let raised = raise_tiles(rt, alloc, tiling, &floods, &levels, workers, gate)?;
+    let work = RaiseTiles {
+        tiling,
+        floods: &floods,
+        levels: &levels,
+    };
+    let raised = run_jobs(rt, alloc, &work, tiles, workers, gate)?;
     drop(floods);
     drop(levels);
-    match put_back(alloc, grid, tiling, raised) {
-        Ok(filled) => Ok(filled),
-        Err(NoMemory) => Err(JobFault::Memory),
-    }
+    let filled = put_back(alloc, grid, tiling, raised)?;
+    Ok(filled)
 }
 
 /// The filled grid, of the filled heights of its tiles.
@@ -262,13 +204,16 @@ fn put_back(
     grid: &Grid,
     tiling: &Tiling,
     raised: Vec<Vec<Option<Height>>>,
-) -> Result<Filled, NoMemory>
+) -> Result<Filled, JobFault>
     requires cuts { Cuts tiling.now grid.now.terrain }
     requires lawful { IsCutting tiling.now }
     requires raised { AreFilledTiles grid.now.terrain tiling.now raised.items }
-    ensures { IfOk result (λ f. IsFilledGrid grid.now f) }
+    ensures filled { IfOk result (λ f. IsFilledGrid grid.now f) }
+    ensures fault { IfErr result (λ e. e ≡ JobFault.Memory) }
 {
-    let cells = tiling.put_back(alloc, &raised)?;
+    let Ok(cells) = tiling.put_back(alloc, &raised) else {
+        return Err(JobFault::Memory);
+    };
     drop(raised);
     let filled = grid.with_own_cells(cells);
     Ok(Filled::from_grid(filled))

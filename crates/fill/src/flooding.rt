@@ -2,11 +2,11 @@
 ghost use Rattle.std.specs.Prelude.{◌≡◌, ◌↔◌, ◌⊎◌, ◌<◌, ◌≤◌, pos, ◌+ℤ◌, ◌≤ℤ◌, ◌<ℤ◌, ◌∷◌, [], ℕ, ℤ, IsTrue, IfOk, OnOk, IfSome, IfNone, length, All, replicate, slice_index_or, None, Some};
 ghost use Rattle.std.specs.BinaryHeap.{heap_items, heap_len};
 ghost use Rattle.fill.specs.Walk.{IsFlooded, Sources};
-ghost use Rattle.fill.specs.Flood.{entries_of, waiting_in, waiting_count, InOrder, PutsIn, HasNone, IsDone, TakesLowest, SourcesWait, HasSourcesNoted, AreOwn, MakesWait, AreNoted, KeepsDone, Spreads};
+ghost use Rattle.fill.specs.Flood.{entries_of, waiting_in, InOrder, PutsIn, HasNone, IsDone, TakesLowest, SourcesWait, HasSourcesNoted, AreOwn, MakesWait, AreNoted, KeepsDone, Spreads};
 
 use crate::net::{Net, Spill};
 use ascii_grid::{Height, NoMemory};
-use std::alloc::Global;
+use std::alloc::{AllocError, Global};
 use std::cmp::Reverse;
 use std::collections::BinaryHeap;
 
@@ -49,16 +49,12 @@ struct Waits {
 }
 
 /// Empty lists.
-fn empty_lists(alloc: Global, count: usize) -> Result<Vec<Vec<Waiting>>, NoMemory>
+fn empty_lists(alloc: Global, count: usize) -> Result<Vec<Vec<Waiting>>, AllocError>
     ensures { IfOk result (λ v. entries_of v.items ≡ replicate count []) }
 {
-    let Ok(mut lists) = Vec::with_capacity(alloc, count) else {
-        return Err(NoMemory);
-    };
+    let mut lists = Vec::with_capacity(alloc, count)?;
     for _ in 0..count {
-        if lists.push(Vec::new(alloc)).is_err() {
-            return Err(NoMemory);
-        }
+        lists.push(Vec::new(alloc))?;
     }
     Ok(lists)
 }
@@ -80,7 +76,7 @@ fn first_filled(lists: &[Vec<Waiting>], first: usize, stop: usize) -> usize
 
 impl Waits {
     /// For a net of so many nodes. The first that is taken begins the first window.
-    fn new(alloc: Global, nodes: usize) -> Result<Self, NoMemory>
+    fn new(alloc: Global, nodes: usize) -> Result<Self, AllocError>
         ensures order { IfOk result (λ w. InOrder w) }
         ensures none { IfOk result (λ w. HasNone (waiting_in w)) }
     {
@@ -155,7 +151,6 @@ impl Waits {
         ensures order { InOrder self.new }
         ensures taken { IfSome result (λ w. PutsIn w (waiting_in self.new) (waiting_in self.old)) }
         ensures lowest { IfSome result (λ w. All (λ x. w.height.0 ≤ℤ x.height.0) (waiting_in self.new)) }
-        ensures fewer { IfSome result (λ _. waiting_count self.new < waiting_count self.old) }
         ensures none { IfNone result (HasNone (waiting_in self.old)) }
     {
         let waiting = self.others.pop()?;
@@ -175,7 +170,6 @@ impl Waits {
         ensures order { InOrder self.new }
         ensures taken { IfSome result (λ w. PutsIn w (waiting_in self.new) (waiting_in self.old)) }
         ensures lowest { IfSome result (λ w. All (λ x. w.height.0 ≤ℤ x.height.0) (waiting_in self.new)) }
-        ensures fewer { IfSome result (λ _. waiting_count self.new < waiting_count self.old) }
         ensures none { IfNone result (HasNone (waiting_in self.old)) }
     {
         let stop = self.lower_lists();
@@ -189,21 +183,17 @@ impl Waits {
 
     /// Puts one in.
     #[inline(always)]
-    fn put(&mut self, waiting: Waiting) -> Result<(), NoMemory>
+    fn put(&mut self, waiting: Waiting) -> Result<(), AllocError>
         requires { InOrder self.old }
         ensures order { OnOk result (InOrder self.new) }
         ensures puts { OnOk result (PutsIn waiting (waiting_in self.old) (waiting_in self.new)) }
     {
         let Reverse(height) = waiting.height;
         let Some(index) = self.list_of(height) else {
-            if self.others.push(waiting).is_err() {
-                return Err(NoMemory);
-            }
+            self.others.push(waiting)?;
             return Ok(());
         };
-        if self.lists[index].push(waiting).is_err() {
-            return Err(NoMemory);
-        }
+        self.lists[index].push(waiting)?;
         self.end = self.end.max(index + 1);
         Ok(())
     }
@@ -245,7 +235,7 @@ fn push_way(
     from: &Waiting,
     labels: &[Option<u32>],
     levels: &mut [Option<Height>],
-) -> Result<(), NoMemory>
+) -> Result<(), AllocError>
     requires order { InOrder waits.old }
     requires inside { way.to < length labels.now }
     requires noted { AreNoted labels.now levels.old (waiting_in waits.old) }
@@ -282,7 +272,7 @@ fn push_ways(
     from: &Waiting,
     labels: &[Option<u32>],
     levels: &mut [Option<Height>],
-) -> Result<(), NoMemory>
+) -> Result<(), AllocError>
     requires order { InOrder waits.old }
     requires inside { All (λ way. way.to < length labels.now) ways.now }
     requires noted { AreNoted labels.now levels.old (waiting_in waits.old) }
@@ -304,7 +294,7 @@ fn waiting_sources<N: Net>(
     alloc: Global,
     net: &N,
     levels: &mut [Option<Height>],
-) -> Result<Waits, NoMemory>
+) -> Result<Waits, AllocError>
     requires { levels.old ≡ replicate (N.node_count net.now) None }
     ensures order { IfOk result (λ waits. InOrder waits) }
     ensures sources { IfOk result (λ waits.
@@ -328,13 +318,11 @@ fn waiting_sources<N: Net>(
 }
 
 /// A list of this many entries, all None.
-pub(crate) fn empty_list<T: Copy>(alloc: Global, count: usize) -> Result<Vec<Option<T>>, NoMemory>
+pub(crate) fn empty_list<T: Copy>(alloc: Global, count: usize) -> Result<Vec<Option<T>>, AllocError>
     ensures { IfOk result (λ v. v.items ≡ replicate count None) }
 {
     let mut entries = Vec::new(alloc);
-    if entries.resize(count, None).is_err() {
-        return Err(NoMemory);
-    }
+    entries.resize(count, None)?;
     Ok(entries)
 }
 
@@ -361,7 +349,8 @@ fn spread<N: Net>(
         (waiting_in waits.old) (waiting_in waits.new)) }
 {
     let ways = net.neighbours(alloc, from.node)?;
-    push_ways(waits, ways.as_slice(), from, labels, levels)
+    push_ways(waits, ways.as_slice(), from, labels, levels)?;
+    Ok(())
 }
 
 /// The least crest from each node, and a source that has it.

@@ -3,8 +3,8 @@ ghost use Rattle.std.specs.Prelude.{◌≡◌, ◌+◌, ◌*◌, ◌^◌, ◌<�
 ghost use Rattle.fill.specs.Cells.{inner_rows, place_of_node};
 ghost use Rattle.fill.specs.Labels.{IsTable, AreMet, AreNodesBelow, IsListedAt, label_of_node, labels_by};
 
-use ascii_grid::{NoMemory, Place};
-use std::alloc::Global;
+use ascii_grid::Place;
+use std::alloc::{AllocError, Global};
 use tiles::Bounds;
 
 /// The labels of the cells of a tile, each once, and for each cell which of them is its own.
@@ -49,7 +49,7 @@ fn index_of_label(
     met: &mut [u32],
     bounds: Bounds,
     node: Option<u32>,
-) -> Result<u32, NoMemory>
+) -> Result<u32, AllocError>
     requires bounds { (bounds.top ≤ 4096) × (bounds.left ≤ 4096) × (bounds.cols ≤ 4096) }
     requires few { length places.old.items < 2 ^ 32 }
     requires node { IfSome node (λ a. a < length met.old) }
@@ -66,9 +66,7 @@ fn index_of_label(
         return Ok(index);
     }
     let index = places.len() as u32;
-    if places.push(Some(place_of(bounds, node))).is_err() {
-        return Err(NoMemory);
-    }
+    places.push(Some(place_of(bounds, node)))?;
     met[node as usize] = index;
     Ok(index)
 }
@@ -80,7 +78,7 @@ fn push_labels(
     met: &mut [u32],
     bounds: Bounds,
     nodes: &[Option<u32>],
-) -> Result<(), NoMemory>
+) -> Result<(), AllocError>
     requires bounds { (bounds.top ≤ 4096) × (bounds.left ≤ 4096) × (bounds.cols ≤ 4096) }
     requires few { length places.old.items + length nodes.now < 2 ^ 32 }
     requires nodes { AreNodesBelow (length met.old) nodes.now }
@@ -94,21 +92,17 @@ fn push_labels(
 {
     for node in nodes {
         let index = index_of_label(places, met, bounds, *node)?;
-        if cells.push(index).is_err() {
-            return Err(NoMemory);
-        }
+        cells.push(index)?;
     }
     Ok(())
 }
 
 /// A table of labels with no place yet.
-fn empty_table(alloc: Global) -> Result<Vec<Option<Place>>, NoMemory>
+fn empty_table(alloc: Global) -> Result<Vec<Option<Place>>, AllocError>
     ensures { IfOk result (λ v. v.items ≡ None ∷ []) }
 {
     let mut places = Vec::new(alloc);
-    if places.push(None).is_err() {
-        return Err(NoMemory);
-    }
+    places.push(None)?;
     Ok(places)
 }
 
@@ -117,7 +111,7 @@ pub(crate) fn labels_of(
     alloc: Global,
     bounds: Bounds,
     nodes: &[Option<u32>],
-) -> Result<Labels, NoMemory>
+) -> Result<Labels, AllocError>
     requires few_rows { bounds.top + bounds.rows ≤ 4096 }
     requires few_cols { bounds.left + bounds.cols ≤ 4096 }
     requires size { length nodes.now ≡ (bounds.rows + 2) * (bounds.cols + 2) }
@@ -127,13 +121,9 @@ pub(crate) fn labels_of(
 {
     let width = bounds.cols as usize;
     let stride = width + 2;
-    let Ok(mut met) = vec![in alloc; 0u32; nodes.len()] else {
-        return Err(NoMemory);
-    };
+    let mut met = vec![in alloc; 0u32; nodes.len()]?;
     let mut places = empty_table(alloc)?;
-    let Ok(mut cells) = Vec::with_capacity(alloc, bounds.rows as usize * width) else {
-        return Err(NoMemory);
-    };
+    let mut cells = Vec::with_capacity(alloc, bounds.rows as usize * width)?;
     for row in 0..bounds.rows {
         let start = (row as usize + 1) * stride + 1;
         let inner = &nodes[start..start + width];

@@ -8,8 +8,7 @@ use crate::passes::{lowest_joins, tile_joins};
 use crate::sources::{Source, tile_sources};
 use crate::spills::Join;
 use crate::tile::TileFlood;
-use ascii_grid::NoMemory;
-use std::alloc::Global;
+use std::alloc::{AllocError, Global};
 use tiles::Tiling;
 
 /// What a tile adds to the spill graph: the joins of its cells with those that touch them, each as low
@@ -26,7 +25,7 @@ pub(crate) fn tile_part(
     tiling: &Tiling,
     floods: &[TileFlood],
     tile: u32,
-) -> Result<Part, NoMemory>
+) -> Result<Part, AllocError>
     requires fit { Fit tiling.now floods.now }
     requires tile { tile < tile_count tiling.now }
     ensures { IfOk result (λ part. IsPart tiling.now floods.now tile part) }
@@ -41,16 +40,14 @@ pub(crate) fn tile_parts(
     alloc: Global,
     tiling: &Tiling,
     floods: &[TileFlood],
-) -> Result<Vec<Part>, NoMemory>
+) -> Result<Vec<Part>, AllocError>
     requires { Fit tiling.now floods.now }
     ensures { IfOk result (λ v. AreParts tiling.now floods.now v.items) }
 {
     let mut parts = Vec::new(alloc);
     for tile in 0..tiling.tiles() {
         let part = tile_part(alloc, tiling, floods, tile)?;
-        if parts.push(part).is_err() {
-            return Err(NoMemory);
-        }
+        parts.push(part)?;
     }
     Ok(parts)
 }

@@ -9,18 +9,22 @@ ghost use Rattle.fill.specs.Gathering.{Fit, Adds, AddsCovered, AddsAround, AreLo
 use crate::marks::{Mark, mark_at, mark_of_entry};
 use crate::spills::Join;
 use crate::tile::TileFlood;
-use ascii_grid::{NoMemory, Place};
-use std::alloc::Global;
+use ascii_grid::Place;
+use std::alloc::{AllocError, Global};
 use tiles::{Bounds, Tiling};
 
-/// How many places [`Recent`] has: few, since they are cleared for each tile.
-const RECENT: usize = 256;
+/// How many slots a [`JoinTable`] has: few, since they are cleared for each tile.
+const SLOTS: usize = 256;
 
-/// Where joins were added, by a number that is made of their labels: a join of the same labels is not
-/// added once more.
-type Recent = [u32; RECENT];
+/// Joins that are added, and where the last one of each slot stands: a join of the same labels is not added once more.
+#[derive(Drop)]
+struct JoinTable {
+    joins: Vec<Join>,
+    /// An index past all joins, where none of the slot was added.
+    last: [usize; SLOTS],
+}
 
-/// The place of two labels. Labels along a side of a tile often differ by a multiple of a power of two, so all
+/// The slot of two labels. Labels along a side of a tile often differ by a multiple of a power of two, so all
 /// of their bits are mixed.
 #[inline(always)]
 fn slot_of(from: u32, to: u32) -> usize
@@ -30,7 +34,7 @@ fn slot_of(from: u32, to: u32) -> usize
         .wrapping_mul(31)
         .wrapping_add(to)
         .wrapping_mul(0x9E37_79B1);
-    (mixed >> 12) as usize % RECENT
+    (mixed >> 12) as usize % SLOTS
 }
 
 /// Whether the join at this index is of the same labels as this one. Then it is made as low.
@@ -52,51 +56,62 @@ fn lowers(joins: &mut Vec<Join>, at: usize, join: Join) -> bool
     true
 }
 
-/// Adds the join of two marks, where their labels differ. The join that was added last for them is made as
-/// low instead, where that is known.
+impl JoinTable {
+    fn new(alloc: Global) -> Self
+        ensures { result.joins.items ≡ [] }
+    {
+        JoinTable {
+            joins: Vec::new(alloc),
+            last: [usize::MAX; SLOTS],
+        }
+    }
+
+    /// Adds a join. The last one of its slot is made as low instead, where it is of the same labels.
+    #[inline(always)]
+    fn add(&mut self, join: Join) -> Result<(), AllocError>
+        ensures { OnOk result (AddsCovered self.old.joins.items (join ∷ []) self.new.joins.items) }
+    {
+        let slot = slot_of(join.from, join.to);
+        let at = self.last[slot];
+        if lowers(&mut self.joins, at, join) {
+            return Ok(());
+        }
+        self.last[slot] = self.joins.len();
+        self.joins.push(join)?;
+        Ok(())
+    }
+}
+
+/// Adds the join of two marks, where their labels differ.
 #[inline(always)]
-fn push_join(
-    joins: &mut Vec<Join>,
-    recent: &mut Recent,
-    from: Mark,
-    to: Option<Mark>,
-) -> Result<(), NoMemory>
-    ensures { OnOk result (AddsCovered joins.old.items (joins_of from to) joins.new.items) }
+fn push_join(table: &mut JoinTable, from: Mark, to: Option<Mark>) -> Result<(), AllocError>
+    ensures { OnOk result (AddsCovered table.old.joins.items (joins_of from to) table.new.joins.items) }
 {
     let Some(to) = to else { return Ok(()) };
     if from.node == to.node {
         return Ok(());
     }
-    let join = Join {
+    table.add(Join {
         from: from.node,
         to: to.node,
         height: from.level.max(to.level),
-    };
-    let slot = slot_of(join.from, join.to);
-    if lowers(joins, recent[slot] as usize, join) {
-        return Ok(());
-    }
-    recent[slot] = u32::try_from(joins.len()).unwrap_or(u32::MAX);
-    if joins.push(join).is_err() {
-        return Err(NoMemory);
-    }
+    })?;
     Ok(())
 }
 
 /// Adds the joins of a cell with those that touch it, whichever tiles they are of.
 fn push_rim_cell(
-    joins: &mut Vec<Join>,
-    recent: &mut Recent,
+    table: &mut JoinTable,
     tiling: &Tiling,
     floods: &[TileFlood],
     tile: u32,
     place: Place,
-) -> Result<(), NoMemory>
+) -> Result<(), AllocError>
     requires fit { Fit tiling.now floods.now }
     requires tile { tile < tile_count tiling.now }
     requires place { IsWithin tiling.now place }
     requires lawful { IsCutting tiling.now }
-    ensures { OnOk result (Adds tiling.now floods.now (λ p. p ≡ place) joins.old.items joins.new.items) }
+    ensures { OnOk result (Adds tiling.now floods.now (λ p. p ≡ place) table.old.joins.items table.new.joins.items) }
 {
     let Some(from) = mark_at(tiling, floods, tile, place) else {
         return Ok(());
@@ -109,7 +124,7 @@ fn push_rim_cell(
                 row: row - 1,
                 col: col - 1,
             };
-            push_join(joins, recent, from, mark_at(tiling, floods, tile, near))?;
+            push_join(table, from, mark_at(tiling, floods, tile, near))?;
         }
     }
     Ok(())
@@ -118,123 +133,117 @@ fn push_rim_cell(
 /// Adds the join of two cells of a tile with these indices, where their labels differ.
 #[inline(always)]
 fn push_near(
-    joins: &mut Vec<Join>,
-    recent: &mut Recent,
+    table: &mut JoinTable,
     tiling: &Tiling,
     flood: &TileFlood,
     index: usize,
     from: Mark,
     near: usize,
-) -> Result<(), NoMemory>
+) -> Result<(), AllocError>
     requires labels { LabelsInside tiling.now flood.now }
     requires index { index < length flood.now.labels }
     requires near { near < length flood.now.labels }
     requires from { mark_with tiling.now.cols flood.now index ≡ Some from }
-    ensures { OnOk result (AddsCovered joins.old.items (joins_of from (mark_with tiling.now.cols flood.now near)) joins.new.items) }
+    ensures { OnOk result (AddsCovered table.old.joins.items (joins_of from (mark_with tiling.now.cols flood.now near)) table.new.joins.items) }
 {
     if flood.has_same_label(index, near) {
         return Ok(());
     }
-    push_join(joins, recent, from, mark_of_entry(tiling, flood, near))
+    push_join(table, from, mark_of_entry(tiling, flood, near))
 }
 
 /// Adds the joins of a cell with the eight around it, which are of the tile.
 fn push_around(
-    joins: &mut Vec<Join>,
-    recent: &mut Recent,
+    table: &mut JoinTable,
     tiling: &Tiling,
     flood: &TileFlood,
     index: usize,
     from: Mark,
     width: usize,
-) -> Result<(), NoMemory>
+) -> Result<(), AllocError>
     requires labels { LabelsInside tiling.now flood.now }
     requires before { width + 1 ≤ index }
     requires after { index + width + 1 < length flood.now.labels }
     requires few { length flood.now.labels ≤ 16777216 }
     requires from { mark_with tiling.now.cols flood.now index ≡ Some from }
-    ensures { OnOk result (AddsAround tiling.now.cols flood.now from index width joins.old.items joins.new.items) }
+    ensures { OnOk result (AddsAround tiling.now.cols flood.now from index width table.old.joins.items table.new.joins.items) }
 {
     let above = index - width;
     let below = index + width;
-    push_near(joins, recent, tiling, flood, index, from, above - 1)?;
-    push_near(joins, recent, tiling, flood, index, from, above)?;
-    push_near(joins, recent, tiling, flood, index, from, above + 1)?;
-    push_near(joins, recent, tiling, flood, index, from, index - 1)?;
-    push_near(joins, recent, tiling, flood, index, from, index + 1)?;
-    push_near(joins, recent, tiling, flood, index, from, below - 1)?;
-    push_near(joins, recent, tiling, flood, index, from, below)?;
-    push_near(joins, recent, tiling, flood, index, from, below + 1)?;
+    push_near(table, tiling, flood, index, from, above - 1)?;
+    push_near(table, tiling, flood, index, from, above)?;
+    push_near(table, tiling, flood, index, from, above + 1)?;
+    push_near(table, tiling, flood, index, from, index - 1)?;
+    push_near(table, tiling, flood, index, from, index + 1)?;
+    push_near(table, tiling, flood, index, from, below - 1)?;
+    push_near(table, tiling, flood, index, from, below)?;
+    push_near(table, tiling, flood, index, from, below + 1)?;
     Ok(())
 }
 
 /// Adds the joins of a cell that is not on the rim of its tile.
 fn push_inner_cell(
-    joins: &mut Vec<Join>,
-    recent: &mut Recent,
+    table: &mut JoinTable,
     tiling: &Tiling,
     flood: &TileFlood,
     index: usize,
-) -> Result<(), NoMemory>
+) -> Result<(), AllocError>
     requires labels { LabelsInside tiling.now flood.now }
     requires before { flood.now.bounds.cols + 1 ≤ index }
     requires after { index + flood.now.bounds.cols + 1 < length flood.now.labels }
-    ensures { OnOk result (MatchOption (mark_with tiling.now.cols flood.now index) (joins.new.items ≡ joins.old.items)
-        (λ from. AddsAround tiling.now.cols flood.now from index flood.now.bounds.cols joins.old.items joins.new.items)) }
+    ensures { OnOk result (MatchOption (mark_with tiling.now.cols flood.now index) (table.new.joins.items ≡ table.old.joins.items)
+        (λ from. AddsAround tiling.now.cols flood.now from index flood.now.bounds.cols table.old.joins.items table.new.joins.items)) }
 {
     let Some(from) = mark_of_entry(tiling, flood, index) else {
         return Ok(());
     };
     let width = flood.bounds().cols as usize;
-    push_around(joins, recent, tiling, flood, index, from, width)
+    push_around(table, tiling, flood, index, from, width)
 }
 
-/// Adds the joins of a cell of a tile with those that touch it.
-#[inline]
+/// Adds the joins of a cell of a tile with those that touch it. Most cells have one label around them, and none.
+#[inline(always)]
 fn push_cell(
-    joins: &mut Vec<Join>,
-    recent: &mut Recent,
+    table: &mut JoinTable,
     tiling: &Tiling,
     floods: &[TileFlood],
     tile: u32,
     place: Place,
-) -> Result<(), NoMemory>
+) -> Result<(), AllocError>
     requires fit { Fit tiling.now floods.now }
     requires tile { tile < tile_count tiling.now }
     requires place { IsInTile tiling.now tile place }
     requires lawful { IsCutting tiling.now }
-    ensures { OnOk result (Adds tiling.now floods.now (λ p. p ≡ place) joins.old.items joins.new.items) }
+    ensures { OnOk result (Adds tiling.now floods.now (λ p. p ≡ place) table.old.joins.items table.new.joins.items) }
 {
     let flood = &floods[tile as usize];
+    if flood.has_one_label_around(place) {
+        return Ok(());
+    }
     match flood.inner_index(place) {
-        Some(index) => push_inner_cell(joins, recent, tiling, flood, index),
-        None => push_rim_cell(joins, recent, tiling, floods, tile, place),
+        Some(index) => push_inner_cell(table, tiling, flood, index),
+        None => push_rim_cell(table, tiling, floods, tile, place),
     }
 }
 
 /// Adds the joins of the cells of one row of a tile.
 fn push_cells(
-    joins: &mut Vec<Join>,
-    recent: &mut Recent,
+    table: &mut JoinTable,
     tiling: &Tiling,
     floods: &[TileFlood],
     tile: u32,
     row: u32,
-) -> Result<(), NoMemory>
+) -> Result<(), AllocError>
     requires fit { Fit tiling.now floods.now }
     requires tile { tile < tile_count tiling.now }
     requires top { (bounds_of tiling.now tile).top ≤ row }
     requires row { row < (bounds_of tiling.now tile).top + (bounds_of tiling.now tile).rows }
     ensures { OnOk result (Adds tiling.now floods.now
-        (λ p. IsInTile tiling.now tile p × (p.row ≡ row)) joins.old.items joins.new.items) }
+        (λ p. IsInTile tiling.now tile p × (p.row ≡ row)) table.old.joins.items table.new.joins.items) }
 {
     let Bounds { left, cols, .. } = tiling.bounds(tile);
-    let flood = &floods[tile as usize];
     for col in left..left + cols {
-        if flood.has_one_label_around(Place { row, col }) {
-            continue;
-        }
-        push_cell(joins, recent, tiling, floods, tile, Place { row, col })?;
+        push_cell(table, tiling, floods, tile, Place { row, col })?;
     }
     Ok(())
 }
@@ -245,17 +254,17 @@ pub(crate) fn tile_joins(
     tiling: &Tiling,
     floods: &[TileFlood],
     tile: u32,
-) -> Result<Vec<Join>, NoMemory>
+) -> Result<Vec<Join>, AllocError>
     requires fit { Fit tiling.now floods.now }
     requires tile { tile < tile_count tiling.now }
     ensures { IfOk result (λ v. Adds tiling.now floods.now (IsInTile tiling.now tile) [] v.items) }
 {
-    let mut joins = Vec::new(alloc);
-    let mut recent: Recent = [0; RECENT];
+    let mut table = JoinTable::new(alloc);
     let Bounds { top, rows, .. } = tiling.bounds(tile);
     for row in top..top + rows {
-        push_cells(&mut joins, &mut recent, tiling, floods, tile, row)?;
+        push_cells(&mut table, tiling, floods, tile, row)?;
     }
+    let JoinTable { joins, .. } = table;
     Ok(joins)
 }
 
@@ -274,20 +283,16 @@ fn is_repeat(joins: &[Join], index: usize) -> bool
 }
 
 /// The lowest join of each two labels, in the order of the labels.
-pub(crate) fn lowest_joins(alloc: Global, mut joins: Vec<Join>) -> Result<Vec<Join>, NoMemory>
+pub(crate) fn lowest_joins(alloc: Global, mut joins: Vec<Join>) -> Result<Vec<Join>, AllocError>
     ensures { IfOk result (λ v. AreLowest joins.items v.items) }
 {
     joins.sort_unstable();
-    let Ok(mut lowest) = Vec::with_capacity(alloc, joins.len()) else {
-        return Err(NoMemory);
-    };
+    let mut lowest = Vec::with_capacity(alloc, joins.len())?;
     for index in 0..joins.len() {
         if is_repeat(&joins, index) {
             continue;
         }
-        if lowest.push(joins[index]).is_err() {
-            return Err(NoMemory);
-        }
+        lowest.push(joins[index])?;
     }
     Ok(lowest)
 }

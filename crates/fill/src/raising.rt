@@ -10,7 +10,7 @@ ghost use Rattle.fill.specs.TileCells.{HasOneCell};
 use crate::marks::node_of;
 use crate::tile::{Lists, TileFlood};
 use ascii_grid::{Height, NoMemory, Place};
-use std::alloc::Global;
+use std::alloc::{AllocError, Global};
 use tiles::Tiling;
 
 /// The level of a label in the graph, None where there is no label.
@@ -30,18 +30,14 @@ fn spills_of(
     tiling: &Tiling,
     labels: &[Option<Place>],
     levels: &[Option<Height>],
-) -> Result<Vec<Option<Height>>, NoMemory>
+) -> Result<Vec<Option<Height>>, AllocError>
     requires size { length levels.now ≡ tiling.now.cols * tiling.now.rows }
     requires labels { All (λ label. IfSome label (IsWithin tiling.now)) labels.now }
     ensures { IfOk result (λ v. v.items ≡ map (spill_of tiling.now levels.now) labels.now) }
 {
-    let Ok(mut spills) = Vec::with_capacity(alloc, labels.len()) else {
-        return Err(NoMemory);
-    };
+    let mut spills = Vec::with_capacity(alloc, labels.len())?;
     for label in labels {
-        if spills.push(spill(tiling, levels, *label)).is_err() {
-            return Err(NoMemory);
-        }
+        spills.push(spill(tiling, levels, *label))?;
     }
     Ok(spills)
 }
@@ -64,19 +60,15 @@ fn greater_levels(
     levels: &[Option<Height>],
     labels: &[u32],
     spills: &[Option<Height>],
-) -> Result<Vec<Option<Height>>, NoMemory>
+) -> Result<Vec<Option<Height>>, AllocError>
     requires size { length labels.now ≡ length levels.now }
     requires labels { All (λ k. k < length spills.now) labels.now }
     ensures { IfOk result (λ v. AreGreater levels.now labels.now spills.now v.items) }
 {
-    let Ok(mut raised) = Vec::with_capacity(alloc, levels.len()) else {
-        return Err(NoMemory);
-    };
+    let mut raised = Vec::with_capacity(alloc, levels.len())?;
     for index in 0..levels.len() {
         let spill = spills[labels[index] as usize];
-        if raised.push(greater(levels[index], spill)).is_err() {
-            return Err(NoMemory);
-        }
+        raised.push(greater(levels[index], spill))?;
     }
     Ok(raised)
 }
@@ -87,7 +79,7 @@ fn raise_lists(
     tiling: &Tiling,
     lists: &Lists,
     levels: &[Option<Height>],
-) -> Result<Vec<Option<Height>>, NoMemory>
+) -> Result<Vec<Option<Height>>, AllocError>
     requires size { length levels.now ≡ tiling.now.cols * tiling.now.rows }
     requires same { length lists.now.labels.cells.items ≡ length lists.now.levels.items }
     requires labels { All (λ label. IfSome label (IsWithin tiling.now)) lists.now.labels.places.items }
@@ -105,7 +97,7 @@ fn raise_cell(
     tiling: &Tiling,
     flood: &TileFlood,
     levels: &[Option<Height>],
-) -> Result<Vec<Option<Height>>, NoMemory>
+) -> Result<Vec<Option<Height>>, AllocError>
     requires size { length levels.now ≡ tiling.now.cols * tiling.now.rows }
     requires labels { LabelsInside tiling.now flood.now }
     requires one { HasOneCell flood.now }
@@ -113,10 +105,7 @@ fn raise_cell(
 {
     let spill = spill(tiling, levels, flood.label_at(0));
     let raised = greater(flood.level_at(0), spill);
-    match Vec::from_slice(alloc, &[raised]) {
-        Ok(list) => Ok(list),
-        Err(_) => Err(NoMemory),
-    }
+    Vec::from_slice(alloc, &[raised])
 }
 
 /// The filled heights of a tile in its row order, of its flood and the levels of the graph in which it
@@ -137,7 +126,7 @@ pub fn raise(
         AreSpillLevels t tiling.now floods levels.now → IsFilledTile t tiling.now tile v.items) }
 {
     match flood.lists() {
-        Some(lists) => raise_lists(alloc, tiling, lists, levels),
-        None => raise_cell(alloc, tiling, flood, levels),
+        Some(lists) => Ok(raise_lists(alloc, tiling, lists, levels)?),
+        None => Ok(raise_cell(alloc, tiling, flood, levels)?),
     }
 }

@@ -10,8 +10,8 @@ use crate::flooding::empty_list;
 use crate::marks::{node_of, source_at};
 use crate::parts::Part;
 use crate::tile::TileFlood;
-use ascii_grid::{Height, NoMemory, Place};
-use std::alloc::Global;
+use ascii_grid::{Height, Place};
+use std::alloc::{AllocError, Global};
 use tiles::Tiling;
 
 /// A label that is an edge cell: its number, and its height.
@@ -28,7 +28,7 @@ fn push_source(
     floods: &[TileFlood],
     tile: u32,
     place: Place,
-) -> Result<(), NoMemory>
+) -> Result<(), AllocError>
     requires fit { Fit tiling.now floods.now }
     requires tile { tile < tile_count tiling.now }
     requires place { IsWithin tiling.now place }
@@ -38,9 +38,7 @@ fn push_source(
         return Ok(());
     };
     let node = node_of(tiling, place);
-    if sources.push(Source { node, height }).is_err() {
-        return Err(NoMemory);
-    }
+    sources.push(Source { node, height })?;
     Ok(())
 }
 
@@ -51,7 +49,7 @@ fn push_sources(
     floods: &[TileFlood],
     tile: u32,
     places: &[Option<Place>],
-) -> Result<(), NoMemory>
+) -> Result<(), AllocError>
     requires fit { Fit tiling.now floods.now }
     requires tile { tile < tile_count tiling.now }
     requires places { All (λ place. IfSome place (IsWithin tiling.now)) places.now }
@@ -71,7 +69,7 @@ pub(crate) fn tile_sources(
     tiling: &Tiling,
     floods: &[TileFlood],
     tile: u32,
-) -> Result<Vec<Source>, NoMemory>
+) -> Result<Vec<Source>, AllocError>
     requires fit { Fit tiling.now floods.now }
     requires tile { tile < tile_count tiling.now }
     ensures { IfOk result (λ v. AddsSources tiling.now floods.now (IsInTile tiling.now tile) [] v.items) }
@@ -100,7 +98,7 @@ pub(crate) fn gather_sources(
     alloc: Global,
     tiling: &Tiling,
     parts: &[Part],
-) -> Result<Vec<Option<Height>>, NoMemory>
+) -> Result<Vec<Option<Height>>, AllocError>
     requires { (floods : List Flood) × AreParts tiling.now floods parts.now }
     ensures { IfOk result (λ v. (floods : List Flood) → AreParts tiling.now floods parts.now → AreSources tiling.now floods v.items) }
 {

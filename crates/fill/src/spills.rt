@@ -13,7 +13,7 @@ use crate::sources::gather_sources;
 use crate::tile::TileFlood;
 use ascii_grid::{Height, NoMemory, Place};
 use smallvec::SmallVec;
-use std::alloc::Global;
+use std::alloc::{AllocError, Global};
 use std::marker::Model;
 use tiles::Tiling;
 
@@ -93,7 +93,7 @@ fn ways_between(
     joins: &[Join],
     start: usize,
     end: usize,
-) -> Result<SmallVec<Spill, 8>, NoMemory>
+) -> Result<SmallVec<Spill, 8>, AllocError>
     requires { (start ≤ end) × (end ≤ length joins.now) }
     ensures { IfOk result (λ v. v.items ≡ map way_of (take (end - start) (drop start joins.now))) }
 {
@@ -104,9 +104,7 @@ fn ways_between(
             to: join.to,
             height: join.height,
         };
-        if ways.push(way).is_err() {
-            return Err(NoMemory);
-        }
+        ways.push(way)?;
     }
     Ok(ways)
 }
@@ -138,7 +136,7 @@ impl Net for SpillGraph {
         let part = &self.parts[self.tiling.tile_of(place) as usize];
         let start = first_from(&part.joins, node);
         let end = end_of(&part.joins, start, node);
-        ways_between(alloc, &part.joins, start, end)
+        Ok(ways_between(alloc, &part.joins, start, end)?)
     }
 
     #[inline]
@@ -158,7 +156,7 @@ impl SpillGraph {
         ensures { IfOk result (λ g. (t : Terrain) → AreFloods t tiling.now floods.now → IsGraphOf t tiling.now floods.now g) }
     {
         let parts = tile_parts(alloc, tiling, floods)?;
-        SpillGraph::of_parts(alloc, tiling, parts)
+        Ok(SpillGraph::of_parts(alloc, tiling, parts)?)
     }
 
     /// The graph of what each tile adds to it, in tile order.
@@ -166,7 +164,7 @@ impl SpillGraph {
         alloc: Global,
         tiling: &Tiling,
         parts: Vec<Part>,
-    ) -> Result<SpillGraph, NoMemory>
+    ) -> Result<SpillGraph, AllocError>
         requires { (t : Terrain) × (floods : List Flood) × AreFloods t tiling.now floods × AreParts tiling.now floods parts.items }
         ensures { IfOk result (λ g. (t : Terrain) (floods : List Flood) → AreFloods t tiling.now floods → AreParts tiling.now floods parts.items → IsGraphOf t tiling.now floods g) }
     {

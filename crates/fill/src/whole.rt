@@ -13,5 +13,5 @@ pub fn filled_heights(alloc: Global, grid: &Grid) -> Result<Vec<Option<Height>>,
 {
     let net = CellNet::of_grid(alloc, grid)?;
     let flooded = flood(alloc, &net)?;
-    without_border(alloc, &flooded.level, grid.cols(), grid.rows())
+    Ok(without_border(alloc, &flooded.level, grid.cols(), grid.rows())?)
 }

@@ -1,25 +1,17 @@
-use Rattle.std.proofs.Common.{Vec, Global, Option, ℤ, sym, subst, ◌∙◌}
-use Rattle.std.specs.Prelude.{List, Result, IfOk}
-use Rattle.ascii_grid.specs.Raster.{Terrain}
-use Rattle.drainage.specs.Filled.{IsFilled}
-use Rattle.ascii_grid.specs.declared.grid.NoMemory.{NoMemory}
-use Rattle.fill.specs.TileFlood.{Flood}
-use Rattle.fill.specs.Parts.{AreParts}
-use Rattle.fill.specs.Spills.{AreFloods, RaisesToFilled}
+use Rattle.std.proofs.Common.{arith}
+use Rattle.fill.proofs.Gathered.{fit_of}
 use Rattle.fill.proofs.Raised.{own_raises}
-use Rattle.fill.proofs.filling.label_levels.Goals.{then-has_no_inner_cell, else-has_no_inner_cell+in_ok-parts}
 use Rattle.fill.proofs.filling.label_levels.Goals as goal
 
-pub returns-in-Ok-clause-levels : goal.returns-in-Ok-clause-levels
-returns-in-Ok-clause-levels g c =
-    let t = c.args.grid.now.terrain in
-    let k = c.args.tiling.now in
-    let floods = c.args.floods.now in
-    elim c.if-has_no_inner_cell.branch [
-      | then-has_no_inner_cell w ↦
-          own_raises t k floods c.in-Ok.levels.items c.requires.floods (c.has_no_inner_cell.ensures.0 w.if-has_no_inner_cell.true)
-          (subst (λ (r : Result (Vec (Option ℤ) Global) NoMemory). IfOk r (λ v. IsFilled t v.items)) (sym w.levels-is ∙ c.in-Ok.is) w.filled_heights-levels.ensures)
-      | else-has_no_inner_cell+in_ok-parts w ↦
-          (subst (λ (r : Result (Vec (Option ℤ) Global) NoMemory). IfOk r (λ v. (s : Terrain) (fs : List Flood) → AreFloods s k fs → AreParts k fs w.in_ok-parts.parts.items → RaisesToFilled s k fs v.items)) (sym w.levels-is ∙ c.in-Ok.is) w.spill_levels-levels.ensures.levels)
-          t floods c.requires.floods w.in_ok-parts.ensures.parts
-    ]
+pub returns-then-has_no_inner_cell-clause-levels : goal.returns-then-has_no_inner_cell-clause-levels
+returns-then-has_no_inner_cell-clause-levels g c =
+    own_raises c.args.grid.now.terrain c.args.tiling.now c.args.floods.now c.in-Ok.levels.items c.requires.floods (c.has_no_inner_cell.ensures.0 c.if-has_no_inner_cell.true) c.in-Ok.ensures
+
+pub invariant_of-work : goal.invariant_of-work
+invariant_of-work g c = record { fit = fit_of c.args.grid.now.terrain c.args.tiling.now c.args.floods.now c.requires.floods.lawful c.requires.floods }
+
+pub returns-clause-levels : goal.returns-clause-levels
+returns-clause-levels g c = c.in_ok-levels.ensures.levels c.args.grid.now.terrain c.args.floods.now c.requires.floods (record {
+  count = omega (arith, c.in_ok-parts.parts.ok.0, c.in_ok-parts.ensures.len, c.tiles.ensures.value);
+  each = λ j d below. c.in_ok-parts.ensures.given j d (omega (arith, below, c.tiles.ensures.value));
+})

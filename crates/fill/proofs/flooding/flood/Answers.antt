@@ -4,7 +4,7 @@ use Rattle.fill.specs.Flood.{waiting_in}
 use Rattle.std.proofs.lemmas.Int.{to_z-of_z}
 use Rattle.std.proofs.lemmas.List.{length-set, length-replicate}
 use Rattle.std.proofs.lemmas.List.Elements.{All-contains}
-use Rattle.fill.proofs.FloodState.{HasWalk}
+use Rattle.fill.proofs.Heaps.{HasWalk}
 use Rattle.fill.proofs.Noting.{written_back}
 use Rattle.fill.proofs.Steps.{settle, flooded, noted_still, own_still, sources_noted, sources_own, begun}
 use Rattle.fill.proofs.flooding.flood.Goals as goal

@@ -1,8 +1,9 @@
-use Rattle.std.proofs.Common.{◌<◌, length, not, ap, ◌∙◌}
+use Rattle.std.proofs.Common.{arith, ◌<◌, length, not, ap, ◌∙◌}
 use Rattle.std.specs.List.{Contains}
 use Rattle.std.proofs.lemmas.List.Elements.{All-contains}
+use Rattle.std.proofs.lemmas.List.Sorted.{length_permutation}
 use Rattle.fill.specs.Flood.{entry_of, waiting_in}
-use Rattle.fill.proofs.Heaps.{cons_head, nothing_left, one_left, first_open, all_done, not_some}
+use Rattle.fill.proofs.Heaps.{cons_head, held_in, nothing_left, one_left, first_open, all_done, not_some}
 use Rattle.fill.proofs.flooding.next_open.Goals as goal
 
 pub loop-waiting-init : goal.loop-waiting-init
@@ -21,8 +22,11 @@ loop-waiting-preserved c = record {
 
 pub bounds-labels-waiting : goal.bounds-labels-waiting
 bounds-labels-waiting c =
-    let held = All-contains (Contains (waiting_in c.args.waits.now)) _ c.in-Some.waiting c.loop-waiting.invariant.done.left (c.in-Some.ensures.taken.into c.in-Some.waiting (cons_head c.in-Some.waiting _)) in
+    let held = All-contains (Contains (waiting_in c.args.waits.now)) _ c.in-Some.waiting c.loop-waiting.invariant.done.left (held_in c.in-Some.ensures.taken c.in-Some.waiting (cons_head c.in-Some.waiting _)) in
     All-contains (λ w. w.node < length c.args.labels.now) (waiting_in c.args.waits.now) c.in-Some.waiting c.requires.inside held
 
 pub returns-clause-none : goal.returns-clause-none
 returns-clause-none c = all_done c.args.labels.now (waiting_in c.args.waits.now) _ c.loop-waiting.invariant.done c.in_default.ensures.none
+
+pub loop-waiting-smaller : goal.loop-waiting-smaller
+loop-waiting-smaller c = omega (arith, length_permutation _ _ c.in-Some.ensures.taken)

@@ -1,5 +1,5 @@
 use Rattle.fill.specs.Flood.{InOrder, waiting_in, waiting_count}
-use Rattle.fill.proofs.FloodState.{OnlyDoneLeft}
+use Rattle.fill.proofs.Heaps.{OnlyDoneLeft}
 use Rattle.fill.proofs.flooding.next_open.Given as goal
 
 abbrev pub invariant-loop-waiting : goal.invariant-loop-waiting

@@ -2,14 +2,15 @@ use Rattle.std.proofs.Common.{rules, ◌≡◌, sym, ◌∙◌, is_some, true, O
 use Rattle.fill.specs.Flood.{entry_of}
 use Rattle.fill.proofs.Heaps.{not_some}
 use Rattle.fill.proofs.Noting.{passed_low, passed_done, followed, noted, keeps_done, own_by_way, kept_crest}
-use Rattle.fill.proofs.Steps.{le_same}
+use Rattle.fill.proofs.Steps.{le_of_same}
+use Rattle.drainage.proofs.Heights.{trans}
 use Rattle.fill.proofs.flooding.push_way.Goals as goal
 
 pub returns-then-is_no_lower-clause-waits : goal.returns-then-is_no_lower-clause-waits
 returns-then-is_no_lower-clause-waits c =
     let value = kept_crest c.args.way.height c.args.from.now.height.0 c.max-crest.result (search rules) (search rules) (search rules) c.max-crest.ensures.value in
     let known = c.is_no_lower.ensures.0 c.if-is_no_lower.true in
-    passed_low c.args.labels.now _ c.args.from.now c.args.way _ known.0 c.requires.noted known.1 (le_same _ _ _ known.2 value)
+    passed_low c.args.labels.now _ c.args.from.now c.args.way _ known.0 c.requires.noted known.1 (trans _ _ _ known.2 (le_of_same _ _ value))
 
 pub returns-then-is_some-clause-waits : goal.returns-then-is_some-clause-waits
 returns-then-is_some-clause-waits c = passed_done c.args.labels.now c.args.from.now c.args.way _ (has (entry_of c.args.labels.now c.args.way.to) (sym c.is_some.ensures ∙ c.if-is_some.true)) where
@@ -41,4 +42,4 @@ returns-clause-own c = λ source s.
     let value = kept_crest c.args.way.height c.args.from.now.height.0 c.max-crest.result (search rules) (search rules) (search rules) c.max-crest.ensures.value in
     let pushed = c.in_ok-put.ensures.puts in
     let none = not_some (entry_of c.args.labels.now c.args.way.to) (sym c.is_some.ensures ∙ c.if-is_some.false) in
-    rw (sym value) at (own_by_way source c.args.labels.now _ c.args.from.now c.args.way _ _ c.requires.inside c.requires.noted.size none (λ noted. let yes = c.is_no_lower.ensures.1 (noted.0, noted.1, le_same _ _ _ noted.2 (sym value)) in absurd (cc (yes, c.if-is_no_lower.false))) (rw value at pushed) s)
+    rw (sym value) at (own_by_way source c.args.labels.now _ c.args.from.now c.args.way _ _ c.requires.inside c.requires.noted.size none (λ noted. let yes = c.is_no_lower.ensures.1 (noted.0, noted.1, trans _ _ _ noted.2 (le_of_same _ _ (sym value))) in absurd (cc (yes, c.if-is_no_lower.false))) (rw value at pushed) s)

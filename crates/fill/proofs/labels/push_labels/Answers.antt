@@ -1,6 +1,5 @@
-use Rattle.std.proofs.Common.{◌<◌, length, sym, ◌∙◌, arith}
+use Rattle.std.proofs.Common.{◌<◌, length, arith}
 use Rattle.fill.proofs.LabelTables.{listed_length, cell_listed, cell_label, labels_more}
-use Rattle.fill.proofs.Lowest.{ok_items}
 use Rattle.fill.proofs.labels.push_labels.Goals as goal
 
 pub loop-node-preserved : goal.loop-node-preserved
@@ -8,10 +7,9 @@ loop-node-preserved c =
     let before = c.loop-node.invariant in
     let at = c.in_ok-index.ensures.index in
     let some : 0 < length c.loop-node.places.items = omega (arith, before.met.inside 0) in
-    let made = ok_items c.push.result _ _ _ (sym c.is_err.ensures.value ∙ c.if-is_err.false) c.push.ensures.items in
     record {
       few = omega (arith, before.few, listed_length _ _ _ _ at);
-      table = cell_listed _ _ _ _ _ _ some before.table at made;
+      table = cell_listed _ _ _ _ _ _ some before.table at c.in_ok-push.ensures.items;
       met = c.in_ok-index.ensures.met;
-      labels = labels_more c.args.bounds _ _ _ c.args.nodes.now c.loop-node.node-index c.loop-node-test.true before.labels (cell_label _ _ _ _ _ _ before.table at made);
+      labels = labels_more c.args.bounds _ _ _ c.args.nodes.now c.loop-node.node-index c.loop-node-test.true before.labels (cell_label _ _ _ _ _ _ before.table at c.in_ok-push.ensures.items);
     }

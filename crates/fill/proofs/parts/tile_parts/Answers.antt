@@ -1,13 +1,11 @@
-use Rattle.std.proofs.Common.{◌≡◌, sym, ◌∙◌, arith}
+use Rattle.std.proofs.Common.{◌≡◌, arith}
 use Rattle.tiles.specs.Cutting.{tile_count}
-use Rattle.fill.proofs.Lowest.{ok_items}
-use Rattle.fill.proofs.PartList.{parts_more, all_parts}
+use Rattle.fill.proofs.GraphParts.{parts_more, all_parts}
 use Rattle.fill.proofs.parts.tile_parts.Goals as goal
 
 pub loop-tile-preserved : goal.loop-tile-preserved
 loop-tile-preserved c =
-    parts_more c.args.tiling.now c.args.floods.now c.loop-tile.tile c.in_ok-part.part c.loop-tile.parts.items _ c.loop-tile.invariant c.in_ok-part.ensures
-    (ok_items c.push.result _ _ _ (sym c.is_err.ensures.value ∙ c.if-is_err.false) c.push.ensures.items)
+    parts_more c.args.tiling.now c.args.floods.now c.loop-tile.tile c.in_ok-part.part c.loop-tile.parts.items _ c.loop-tile.invariant c.in_ok-part.ensures c.in_ok-push.ensures.items
 
 pub returns : goal.returns
 returns c =

@@ -1,4 +1,4 @@
-use Rattle.fill.proofs.PartList.{AreFirstParts}
+use Rattle.fill.proofs.GraphParts.{AreFirstParts}
 use Rattle.fill.proofs.parts.tile_parts.Given as goal
 
 abbrev pub invariant-loop-tile : goal.invariant-loop-tile

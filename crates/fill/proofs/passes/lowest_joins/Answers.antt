@@ -1,6 +1,6 @@
-use Rattle.std.proofs.Common.{◌≡◌, ℕ, ◌<◌, length, arith, sym, subst, ◌∙◌}
+use Rattle.std.proofs.Common.{◌≡◌, ℕ, ◌<◌, length, arith, subst}
 use Rattle.fill.specs.Gathering.{IsRepeat}
-use Rattle.fill.proofs.Lowest.{kept_same, kept_more, all_kept, ordered, HasKept, ok_items}
+use Rattle.fill.proofs.Lowest.{kept_same, kept_more, all_kept, ordered, HasKept}
 use Rattle.fill.proofs.passes.lowest_joins.Goals as goal
 
 pub loop-index-preserved-then-is_repeat : goal.loop-index-preserved-then-is_repeat
@@ -14,7 +14,7 @@ loop-index-preserved c =
     let joins = c.sort_unstable.new.self.items in
     let below : c.loop-index.index < length joins = omega (arith, c.sort_unstable.new.self.ok.0, c.len-index-end.ensures, c.loop-index-test.true) in
     let fresh : IsRepeat joins c.loop-index.index → ⊥ = λ again. let yes = (rw c.deref.ensures.value at c.is_repeat.ensures).1 again in absurd (cc (yes, c.if-is_repeat.false)) in
-    rw (ok_items c.push.result _ _ _ (sym c.is_err.ensures.value ∙ c.if-is_err.false) c.push.ensures.items)
+    rw c.in_ok-push.ensures.items
     (kept_more joins c.loop-index.index c.index.result.now c.loop-index.lowest.items (ordered joins c.sort_unstable.ensures.sorted) below c.index.ensures c.loop-index.invariant fresh)
 
 pub returns : goal.returns

@@ -1,8 +1,6 @@
-use Rattle.std.proofs.Common.{◌≡◌, ◌↔◌, ◌⊎◌, ℕ, ◌+◌, ◌<◌, length, ap, sym, subst, refl, arith, inl, inr}
-use Rattle.std.proofs.lemmas.Option.{slice_get_read}
+use Rattle.std.proofs.Common.{◌≡◌, ◌↔◌, ◌⊎◌, ℕ, ◌+◌, ◌<◌, ap, sym, subst, refl, arith, inl, inr}
 use Rattle.tiles.specs.declared.bounds.Bounds.{Bounds}
-use Rattle.fill.proofs.CellMarks.{one_label_adds}
-use Rattle.std.proofs.lemmas.Bool.{cases_lt, OnTrue_at}
+use Rattle.std.proofs.lemmas.Bool.{cases_lt}
 use Rattle.ascii_grid.specs.declared.place.Place.{Place}
 use Rattle.ascii_grid.proofs.Places.{same_place}
 use Rattle.tiles.specs.Cutting.{Cutting, IsInTile}
@@ -21,31 +19,6 @@ row_so_far t tile row col inside p = (
     | inr same ↦ subst (λ (q : Place). IsInTile t tile q × (q.row ≡ row) × (q.col < col + 1)) (sym same) (inside, refl, omega arith)
   ],
 )
-
-pub has_one_label_around-requires : goal.has_one_label_around-requires
-has_one_label_around-requires c =
-    let floods = c.args.floods.now in
-    let there = slice_get_read floods (length floods) c.args.tile c.index-floods-tile.result refl (omega (arith, c.requires.fit.count, c.requires.tile)) c.index-floods-tile.is in
-    let left = ap (λ (b : Bounds). b.left) c.bounds-left.ensures.value in
-    let cols = ap (λ (b : Bounds). b.cols) c.bounds-left.ensures.value in
-    rw (c.requires.fit.bounds c.args.tile c.index-floods-tile.result there) (c.requires.top, c.requires.row, omega (arith, left, c.loop-col.auto.col), omega (arith, left, cols, c.loop-col-test.true))
-
-pub loop-col-preserved-then-has_one_label_around : goal.loop-col-preserved-then-has_one_label_around
-loop-col-preserved-then-has_one_label_around c =
-    let floods = c.args.floods.now in
-    let f = c.index-floods-tile.result in
-    let there = slice_get_read floods (length floods) c.args.tile f refl (omega (arith, c.requires.fit.count, c.requires.tile)) c.index-floods-tile.is in
-    let place : Place = record { row = c.args.row; col = c.loop-col.col } in
-    let top = ap (λ (b : Bounds). b.top) c.bounds-left.ensures.value in
-    let rows = ap (λ (b : Bounds). b.rows) c.bounds-left.ensures.value in
-    let inside = (c.bounds-left.ensures.places place).1 (omega (arith, top, c.requires.top), omega (arith, top, rows, c.requires.row), c.loop-col.auto.col, c.loop-col-test.true) in
-    adds_then c.args.tiling.now floods
-    (λ p. IsInTile c.args.tiling.now c.args.tile p × (p.row ≡ c.args.row) × (p.col < c.loop-col.col))
-    (λ p. p ≡ record { row = c.args.row; col = c.loop-col.col })
-    (λ p. IsInTile c.args.tiling.now c.args.tile p × (p.row ≡ c.args.row) × (p.col < c.loop-col.col + 1)) _ _ _
-    (row_so_far c.args.tiling.now c.args.tile c.args.row c.loop-col.col inside)
-    c.loop-col.invariant
-    (one_label_adds c.args.tiling.now floods c.args.tile f place _ c.bounds-left.ensures.lawful c.requires.tile there (c.requires.fit.bounds c.args.tile f there) inside (OnTrue_at c.if-has_one_label_around.true c.has_one_label_around.ensures))
 
 pub loop-col-preserved : goal.loop-col-preserved
 loop-col-preserved c =

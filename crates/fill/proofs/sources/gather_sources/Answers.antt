@@ -1,15 +1,9 @@
-use Rattle.std.proofs.Common.{◌≡◌, ◌*◌, ◌<◌, ℕ, length, ap, subst, ◌∙◌, arith}
+use Rattle.std.proofs.Common.{◌≡◌, ◌<◌, ℕ, length, ap, subst, ◌∙◌, arith}
 use Rattle.tiles.specs.Cutting.{IsWithin, IsInTile, tile_of_place, tile_count}
 use Rattle.fill.proofs.Noting.{written_back}
-use Rattle.fill.proofs.PartList.{part_at}
-use Rattle.fill.proofs.SourceCells.{HaveSources, no_sources_yet, nodes_inside, sources_more, all_sources}
+use Rattle.fill.proofs.GraphParts.{part_at}
+use Rattle.fill.proofs.SourceCells.{HaveSources, nodes_inside, sources_more, all_sources}
 use Rattle.fill.proofs.sources.gather_sources.Goals as goal
-
-pub loop-part-init : goal.loop-part-init
-loop-part-init c = λ floods are.
-    let t = c.args.tiling.now in
-    no_sources_yet t floods _ c.in_ok-heights.heights.items c.in_ok-heights.ensures
-    (ap (λ (n : ℕ). n * c.rows.result) c.cols.ensures.value ∙ ap (λ (n : ℕ). t.cols * n) c.rows.ensures.value)
 
 pub put_sources-requires : goal.put_sources-requires
 put_sources-requires c =

@@ -1,11 +1,10 @@
-use Rattle.std.proofs.Common.{rules, w32, ◌≡◌, sym, subst, ◌∙◌, ℤ, Option, IfSome}
+use Rattle.std.proofs.Common.{rules, w32, ◌≡◌, subst, ℤ, Option, IfSome}
 use Rattle.std.specs.Prelude.{IfNone}
 use mir.Val.{SFits}
 use Rattle.std.proofs.lemmas.Int.{to_z-of_z}
 use Rattle.ascii_grid.specs.declared.place.Place.{Place}
 use Rattle.fill.specs.Gathering.{IsSpillSource}
 use Rattle.fill.proofs.SourceCells.{no_source_adds, source_adds}
-use Rattle.fill.proofs.Lowest.{ok_items}
 use Rattle.fill.proofs.sources.push_source.Goals as goal
 
 pub returns-in_default : goal.returns-in_default
@@ -23,4 +22,4 @@ returns c =
     let fits : SFits w32 c.in-Some.height = search rules in
     source_adds t floods c.args.place c.node_of-node.result c.in-Some.height _ _ c.requires.place c.node_of-node.ensures.value
     (subst (λ (o : Option ℤ). IfSome o (IsSpillSource t floods c.args.place)) c.in-Some.is c.source_at.ensures.some)
-    (rw (to_z-of_z w32 c.in-Some.height fits) at (ok_items c.push.result _ _ _ (sym c.is_err.ensures.value ∙ c.if-is_err.false) c.push.ensures.items))
+    (rw (to_z-of_z w32 c.in-Some.height fits) at c.in_ok-push.ensures.items)

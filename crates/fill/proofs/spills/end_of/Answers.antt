@@ -1,5 +1,5 @@
 use Rattle.std.proofs.Common.{◌<◌, length, arith}
-use Rattle.fill.proofs.GraphWays.{past_node}
+use Rattle.fill.proofs.GraphParts.{past_node}
 use Rattle.fill.proofs.spills.end_of.Goals as goal
 
 pub returns-else-joins-end-clause-above : goal.returns-else-joins-end-clause-above

@@ -1,5 +1,5 @@
 use Rattle.std.proofs.Common.{◌+◌, ◌-◌, ◌/◌, ◌<◌, length, ℕ, arith}
-use Rattle.fill.proofs.GraphWays.{below_more, above_more}
+use Rattle.fill.proofs.GraphParts.{below_more, above_more}
 use Rattle.fill.proofs.spills.first_from.Goals as goal
 
 pub loop-low-preserved-then-joins-middle : goal.loop-low-preserved-then-joins-middle

@@ -1,10 +1,9 @@
-use Rattle.std.proofs.Common.{sym, ◌∙◌, pos, get_or, rules, w32, length, ◌<◌, arith}
+use Rattle.std.proofs.Common.{pos, get_or, rules, w32, length, ◌<◌, arith}
 use mir.Val.{SFits}
 use Rattle.std.proofs.lemmas.Int.{to_z-of_z}
 use Rattle.std.proofs.lemmas.List.{get_or_default}
 use Rattle.fill.specs.declared.spills.Join.{Join}
-use Rattle.fill.proofs.GraphWays.{way_more}
-use Rattle.fill.proofs.Heaps.{on_ok}
+use Rattle.fill.proofs.GraphParts.{way_more}
 use Rattle.fill.proofs.spills.ways_between.Goals as goal
 
 pub loop-index-preserved : goal.loop-index-preserved
@@ -14,5 +13,5 @@ loop-index-preserved c =
     let x : Join = get_or joins c.loop-index.index none in
     let below : c.loop-index.index < length joins = omega (arith, c.requires.1, c.loop-index-test.true) in
     let fits : SFits w32 x.height = search rules in
-    let pushed = rw (to_z-of_z w32 x.height fits) at (on_ok c.push.result (sym c.is_err.ensures.value ∙ c.if-is_err.false) c.push.ensures.ok) in
+    let pushed = rw (to_z-of_z w32 x.height fits) at c.in_ok-push.ensures.ok in
     way_more joins c.args.start c.loop-index.index x _ _ c.loop-index.auto.index below (get_or_default joins c.loop-index.index none x below) c.loop-index.invariant pushed

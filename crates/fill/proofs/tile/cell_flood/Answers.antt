@@ -1,4 +1,4 @@
-use Rattle.fill.proofs.OneCell.{view_flooded}
+use Rattle.fill.proofs.TileWindows.{view_flooded}
 use Rattle.fill.proofs.tile.cell_flood.Goals as goal
 
 pub returns : goal.returns

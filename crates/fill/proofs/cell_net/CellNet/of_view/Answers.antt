@@ -1,7 +1,6 @@
 use Rattle.std.proofs.Common.{arith}
 use Rattle.tiles.specs.Cutting.{bounds_of, terrain_of}
 use Rattle.tiles.proofs.Cut.{bounds_inside}
-use Rattle.fill.specs.Cells.{window_of}
 use Rattle.fill.proofs.Borders.{bordered}
 use Rattle.fill.proofs.TileWindows.{net_of_view}
 use Rattle.fill.proofs.cell_net.CellNet.of_view.Goals as goal
@@ -11,7 +10,7 @@ invariant_of-result c =
     let v = c.args.view.now in
     let lawful = c.bounds.ensures.lawful in
     let inside = bounds_inside v.cutting v.tile lawful.cutting lawful.tile in
-    bordered (terrain_of v) (window_of (bounds_of v.cutting v.tile)) _ (omega (arith, inside.rows_inside, lawful.cutting.few_rows)) (omega (arith, inside.cols_inside, lawful.cutting.few_cols))
+    bordered (terrain_of v) (bounds_of v.cutting v.tile) _ (omega (arith, inside.rows_inside, lawful.cutting.few_rows)) (omega (arith, inside.cols_inside, lawful.cutting.few_cols))
     (net_of_view v c.bounds.result c.in_ok-cells.cells.items lawful c.bounds.ensures.value c.in_ok-cells.ensures)
 
 pub returns : goal.returns

@@ -1,4 +1,4 @@
-use Rattle.fill.proofs.Together.{flood_of_view}
+use Rattle.fill.proofs.Raised.{flood_of_view}
 use Rattle.fill.proofs.filling.FloodTilesWork.run.Goals as goal
 
 pub returns-clause-given : goal.returns-clause-given

@@ -1,10 +1,8 @@
-use Rattle.std.proofs.Common.{◌≡◌, ◌<◌, ◌≤ℤ◌, ◌∙◌, [], ◌++◌, List, length, get_or, heap_items, sym, subst, arith}
-use Rattle.std.specs.Option.{IfSome, option_to_list}
-use Rattle.std.specs.List.{All}
+use Rattle.std.proofs.Common.{◌≡◌, ◌<◌, ◌∙◌, [], ◌++◌, length, get_or, heap_items, arith}
+use Rattle.std.specs.Option.{option_to_list}
 use Rattle.std.proofs.lemmas.List.{length-map}
-use Rattle.fill.specs.declared.flooding.Waiting.{Waiting}
-use Rattle.fill.specs.Flood.{entries_of, all_entries, AreOrdered, PutsIn}
-use Rattle.fill.proofs.Waits.{entries_at, entries_set, passed_ordered, pop_ordered, pop_taken, pop_lowest, pop_fewer}
+use Rattle.fill.specs.Flood.{entries_of, AreOrdered}
+use Rattle.fill.proofs.Waits.{entries_at, entries_set, passed_ordered, pop_ordered, pop_taken, pop_lowest}
 use Rattle.fill.proofs.flooding.Waits.take.Goals as goal
 
 pub take_other-requires-clause-order : goal.take_other-requires-clause-order
@@ -24,31 +22,16 @@ passed c = passed_ordered _ _ c.first_filled-self.result _ _ _ c.requires (rw (c
 
 pub returns-then-self-stop-clause-order : goal.returns-then-self-stop-clause-order
 returns-then-self-stop-clause-order c =
-    let lists = c.args.self.now.lists.items in
-    let first = c.first_filled-self.result in
     let is = popped c in
-    subst (λ (z : List (List Waiting)). AreOrdered c.args.self.now.base first c.args.self.now.end z (heap_items c.args.self.now.others)) (sym (entries_set lists first c.pop.new.self)) (pop_ordered _ _ _ first c.pop.result (entries_of lists) c.pop.new.self.items _ is.0 is.1 (passed c))
+    rw (entries_set c.args.self.now.lists.items c.first_filled-self.result c.pop.new.self) (pop_ordered _ _ _ _ c.pop.result _ c.pop.new.self.items _ is.0 is.1 (passed c))
 
 pub returns-then-self-stop-clause-taken : goal.returns-then-self-stop-clause-taken
 returns-then-self-stop-clause-taken c =
-    let lists = c.args.self.now.lists.items in
-    let others = heap_items c.args.self.now.others in
-    let first = c.first_filled-self.result in
     let is = popped c in
-    subst (λ (z : List (List Waiting)). IfSome c.pop.result (λ w. PutsIn w (all_entries z others) (all_entries (entries_of lists) others))) (sym (entries_set lists first c.pop.new.self)) (pop_taken first c.pop.result (entries_of lists) c.pop.new.self.items others is.0 is.1)
+    rw (entries_set c.args.self.now.lists.items c.first_filled-self.result c.pop.new.self) (pop_taken _ c.pop.result _ c.pop.new.self.items _ is.0 is.1)
 
 pub returns-then-self-stop-clause-lowest : goal.returns-then-self-stop-clause-lowest
 returns-then-self-stop-clause-lowest c =
-    let lists = c.args.self.now.lists.items in
-    let others = heap_items c.args.self.now.others in
-    let first = c.first_filled-self.result in
     let is = popped c in
-    subst (λ (z : List (List Waiting)). IfSome c.pop.result (λ w. All (λ x. w.height.0 ≤ℤ x.height.0) (all_entries z others))) (sym (entries_set lists first c.pop.new.self)) (pop_lowest _ first _ c.pop.result (entries_of lists) c.pop.new.self.items others is.0 is.1 (passed c) (c.lower_lists-stop.ensures.lower first c.if-self-stop.true))
-
-pub returns-then-self-stop-clause-fewer : goal.returns-then-self-stop-clause-fewer
-returns-then-self-stop-clause-fewer c =
-    let lists = c.args.self.now.lists.items in
-    let others = heap_items c.args.self.now.others in
-    let first = c.first_filled-self.result in
-    let is = popped c in
-    subst (λ (z : List (List Waiting)). IfSome c.pop.result (λ _. length (all_entries z others) < length (all_entries (entries_of lists) others))) (sym (entries_set lists first c.pop.new.self)) (pop_fewer first c.pop.result (entries_of lists) c.pop.new.self.items others is.0 is.1)
+    rw (entries_set c.args.self.now.lists.items c.first_filled-self.result c.pop.new.self)
+    (pop_lowest _ _ _ c.pop.result _ c.pop.new.self.items _ is.0 is.1 (passed c) (c.lower_lists-stop.ensures.lower c.first_filled-self.result c.if-self-stop.true))

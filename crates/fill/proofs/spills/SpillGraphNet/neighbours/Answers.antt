@@ -1,13 +1,7 @@
-use Rattle.std.proofs.Common.{◌≡◌, ◌-◌, ◌/◌, ◌%◌, take, drop, map, ap, ◌∙◌}
-use Rattle.std.proofs.lemmas.Result.{IfOk-weaker}
-use Rattle.smallvec.specs.SmallVec.{SmallVec}
+use Rattle.std.proofs.Common.{◌≡◌, ◌/◌, ◌%◌, ap, ◌∙◌}
 use Rattle.tiles.specs.Cutting.{tile_of_place}
-use Rattle.fill.specs.Walk.{HasJust}
-use Rattle.fill.specs.Spills.{HasJoin}
-use Rattle.fill.specs.Gathering.{way_of}
 use Rattle.fill.specs.Parts.{graph_of_parts, tile_of_node}
-use Rattle.fill.specs.declared.net.Spill.{Spill}
-use Rattle.fill.proofs.GraphWays.{just_node, part_joins, part_rising}
+use Rattle.fill.proofs.GraphParts.{just_node, part_joins, part_rising}
 use Rattle.fill.proofs.spills.SpillGraphNet.neighbours.Goals as goal
 
 pub first_from-start-requires : goal.first_from-start-requires
@@ -32,9 +26,5 @@ returns c =
     let end = rw c.deref-2.ensures.value at c.end_of-end.ensures in
     let tile : c.tile_of.result ≡ tile_of_node t c.args.node = c.tile_of.ensures.number ∙ ap (λ n. tile_of_place t (record { row = c.args.node / n; col = c.args.node % n })) c.cols-cols.ensures.value in
     let has = part_joins t parts sources c.args.node c.tile_of.result c.index-part.result.now c.self.invariant.1 c.tile_of.ensures.below tile c.index-part.ensures in
-    let just = just_node t parts (graph_of_parts t parts sources) joins c.args.node c.first_from-start.result c.end_of-end.result c.self.invariant.1 has end.from end.few start.below start.above end.below end.above in
-    IfOk-weaker c.ways_between.result
-    (λ (v : SmallVec Spill). v.items ≡ map way_of (take (c.end_of-end.result - c.first_from-start.result) (drop c.first_from-start.result joins)))
-    (λ (v : SmallVec Spill). HasJust (HasJoin c.args.self.now c.args.node) v.items)
-    (λ v is. rw (is, ← c.self.view_is) just)
-    (rw c.deref-3.ensures.value at c.ways_between.ensures)
+    rw (rw c.deref-3.ensures.value at c.in_ok-ways_between.ensures, ← c.self.view_is)
+    (just_node t parts (graph_of_parts t parts sources) joins c.args.node c.first_from-start.result c.end_of-end.result c.self.invariant.1 has end.from end.few start.below start.above end.below end.above)
