@@ -12,10 +12,7 @@ use Rattle.tiles.specs.Cutting.{Cutting, IsCutting, View, IsView, AreBounds, IsI
 use Rattle.tiles.proofs.Cut.{in_bounds, in_tile}
 use Rattle.tiles.proofs.TileOrder.{index_in, tile_entry-in}
 
--- where a place of the tile stands in the tile's list
-pub tile_place : (c : Cutting) (tile : ℕ) (b : Bounds) (p : Place) → b ≡ bounds_of c tile → IsInTile c tile p → index_in_tile c p ≡ (p.row - b.top) * b.cols + (p.col - b.left)
-tile_place c tile b p e i = ap (λ (z : Bounds). (p.row - z.top) * z.cols + (p.col - z.left)) (ap (λ (k : ℕ). bounds_of c k) i.1 ∙ sym e)
-
+-- what a list in the row order of the tile has at a place of it
 pub tile_entry_is : {X : Type 0} (c : Cutting) (tile : ℕ) (b : Bounds) (list : List (Option X)) (p : Place) → b ≡ bounds_of c tile → IsInTile c tile p →
     tile_entry c tile list p ≡ get_or list ((p.row - b.top) * b.cols + (p.col - b.left)) None
 tile_entry_is c tile b list p e i =
