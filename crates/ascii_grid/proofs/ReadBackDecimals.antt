@@ -7,8 +7,8 @@ use Rattle.std.proofs.lemmas.List.Folds.{list_all-append}
 use Rattle.ascii_grid.specs.Words.{is_separator, is_word}
 use Rattle.ascii_grid.specs.Decimal.{without_sign, is_point, is_exponent_mark, mantissa, whole_part, fraction, has_exponent, are_digits, is_decimal}
 use Rattle.ascii_grid.specs.Header.{begins_with_letter}
-use Rattle.ascii_grid.proofs.PlainNumbers.{digit_bounds, no_separator, after_first-none}
-use Rattle.ascii_grid.proofs.ReadBackWords.{is_plain, IsClean}
+use Rattle.ascii_grid.proofs.PlainNumbers.{digit_bounds, no_separator, any-digits, after_first-none}
+use Rattle.ascii_grid.proofs.ReadBackWords.{IsClean}
 
 -- `+` or `-`
 abbrev pub is_sign : ℕ → Bool
@@ -81,9 +81,6 @@ point_is_decimal b h = or_right (is_ascii_digit b) (is_sign b || (is_point b || 
 pub exponent_is_decimal : (b : ℕ) → is_exponent_mark b ≡ true → is_decimal_byte b ≡ true
 exponent_is_decimal b h = or_right (is_ascii_digit b) (is_sign b || (is_point b || is_exponent_mark b)) (or_right (is_sign b) (is_point b || is_exponent_mark b) (or_right (is_point b) (is_exponent_mark b) h))
 
-digit_not_separator : (b : ℕ) → is_ascii_digit b ≡ true → is_separator b ≡ false
-digit_not_separator b h = let r = digit_bounds b h in no_separator b r.0 r.1
-
 -- one of two bytes, as a case
 one_of : (P : ℕ → Type 0) (b m n : ℕ) → (b == m || b == n) ≡ true → P m → P n → P b
 one_of P b m n h x y = elim (or_cases (b == m) (b == n) h) [
@@ -94,23 +91,24 @@ one_of P b m n h x y = elim (or_cases (b == m) (b == n) h) [
 pub sign_not_exponent : (b : ℕ) → is_sign b ≡ true → is_exponent_mark b ≡ false
 sign_not_exponent b h = one_of (λ c. is_exponent_mark c ≡ false) b 43 45 h refl refl
 
-sign_plain : (b : ℕ) → is_sign b ≡ true → is_plain b ≡ true
-sign_plain b h = one_of (λ c. is_plain c ≡ true) b 43 45 h refl refl
-
-exponent_plain : (b : ℕ) → is_exponent_mark b ≡ true → is_plain b ≡ true
-exponent_plain b h = one_of (λ c. is_plain c ≡ true) b 101 69 h refl refl
-
-point_plain : (b : ℕ) → is_point b ≡ true → is_plain b ≡ true
-point_plain b h = subst (λ c. is_plain c ≡ true) (sym (eqb-true b 46 h)) refl
-
-pub decimal_byte_plain : (b : ℕ) → is_decimal_byte b ≡ true → is_plain b ≡ true
-decimal_byte_plain b h = elim (or_cases (is_ascii_digit b) (is_sign b || (is_point b || is_exponent_mark b)) h) [
-  | inl d ↦ not_from_false (is_separator b) (digit_not_separator b d)
+-- and none of them parts words
+byte_apart : (b : ℕ) → is_decimal_byte b ≡ true → is_separator b ≡ false
+byte_apart b h = elim (or_cases (is_ascii_digit b) (is_sign b || (is_point b || is_exponent_mark b)) h) [
+  | inl d ↦ let r = digit_bounds b d in no_separator b r.0 r.1
   | inr k ↦ elim (or_cases (is_sign b) (is_point b || is_exponent_mark b) k) [
-    | inl s ↦ sign_plain b s
-    | inr l ↦ elim (or_cases (is_point b) (is_exponent_mark b) l) [ inl p ↦ point_plain b p | inr e ↦ exponent_plain b e ]
+    | inl s ↦ one_of (λ c. is_separator c ≡ false) b 43 45 s refl refl
+    | inr l ↦ elim (or_cases (is_point b) (is_exponent_mark b) l) [
+      | inl p ↦ subst (λ c. is_separator c ≡ false) (sym (eqb-true b 46 p)) refl
+      | inr e ↦ one_of (λ c. is_separator c ≡ false) b 101 69 e refl refl
+    ]
   ]
 ]
+
+bytes_apart : (bs : List ℕ) → list_all is_decimal_byte bs ≡ true → list_any is_separator bs ≡ false
+bytes_apart [] h = refl
+bytes_apart (b ∷ bs) h =
+    let parts = and_parts (is_decimal_byte b) (list_all is_decimal_byte bs) h in
+    or_from (is_separator b) (list_any is_separator bs) (byte_apart b parts.0) (bytes_apart bs parts.1)
 
 -- a text whose rest without a sign has such bytes has them
 signed_bytes : (w : List ℕ) → list_all is_decimal_byte (without_sign w) ≡ true → list_all is_decimal_byte w ≡ true
@@ -158,14 +156,11 @@ pub decimal_clean : (w : List ℕ) → is_decimal w ≡ true → IsClean w
 decimal_clean [] h = absurd (false≢true h)
 decimal_clean (b ∷ bs) h = record {
   some = refl;
-  plain = list_all-weaker is_decimal_byte is_plain decimal_byte_plain (b ∷ bs) (decimal_bytes (b ∷ bs) h);
+  plain = bytes_apart (b ∷ bs) (decimal_bytes (b ∷ bs) h);
 }
 
 pub digits_clean : (bs : List ℕ) → is_word bs ≡ true → list_all is_ascii_digit bs ≡ true → IsClean bs
-digits_clean bs h k = record {
-  some = h;
-  plain = list_all-weaker is_ascii_digit is_plain (λ b d. not_from_false (is_separator b) (digit_not_separator b d)) bs k;
-}
+digits_clean bs h k = record { some = h; plain = any-digits is_separator bs no_separator k }
 
 -- a letter that isn't an exponent's mark is no byte of a decimal text
 letter_range : (b : ℕ) → is_ascii_alphabetic b ≡ true → 65 ≤ b

@@ -1,26 +1,22 @@
 -- The words of a written text.
 use Rattle.std.proofs.Common.{◌≡◌, ℕ, zero, suc, ◌*◌, ◌<◌, Bool, true, false, not, ◌&&◌, List, [], ◌∷◌, ◌++◌, length, take, drop, map, Option, sym, ap, refl, ◌∙◌, arith}
-use Rattle.std.specs.List.{All, list_all, filter, slice_split, onto_first, join_with_byte}
-use Rattle.std.proofs.lemmas.Bool.{cond-true, cond-false, and_parts, not-true}
+use Rattle.std.specs.List.{All, list_any, filter, slice_split, onto_first, join_with_byte}
+use Rattle.std.proofs.lemmas.Bool.{cond-true, cond-false, or_parts}
 use Rattle.std.proofs.lemmas.List.{append_assoc, map-append, take-append-drop, length-take-le, length-drop}
 use Rattle.std.proofs.lemmas.List.Elements.{All-head, All-tail, All-take, All-drop}
 use Rattle.ascii_grid.specs.Words.{is_separator, is_word, words}
 use Rattle.ascii_grid.specs.Text.{cell_text, rows_text}
 
--- no separator
-abbrev pub is_plain : ℕ → Bool
-is_plain b = not (is_separator b)
-
 -- one byte or more, and no separator among them
 pub record IsClean (w : List ℕ) : Type 0 where
   pub some : is_word w ≡ true
-  pub plain : list_all is_plain w ≡ true
+  pub plain : list_any is_separator w ≡ false
 
-split-plain : (w rest : List ℕ) (b : ℕ) → list_all is_plain w ≡ true → is_separator b ≡ true → slice_split is_separator (w ++ b ∷ rest) ≡ w ∷ slice_split is_separator rest
+split-plain : (w rest : List ℕ) (b : ℕ) → list_any is_separator w ≡ false → is_separator b ≡ true → slice_split is_separator (w ++ b ∷ rest) ≡ w ∷ slice_split is_separator rest
 split-plain [] rest b h s = cond-true _ _ _ s
 split-plain (x ∷ w) rest b h s =
-    let parts = and_parts (is_plain x) (list_all is_plain w) h in
-    cond-false _ _ _ (not-true (is_separator x) parts.0)
+    let parts = or_parts (is_separator x) (list_any is_separator w) h in
+    cond-false _ _ _ parts.0
     ∙ ap (λ z. onto_first x z) (split-plain w rest b parts.1 s)
 
 -- a word, a separator and the rest

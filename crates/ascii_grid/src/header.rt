@@ -44,9 +44,7 @@ impl Header {
         ensures err { IfErr result (λ f. MatchOption (slot_of word.now) (f ≡ GridFault.UnknownKey)
             (λ slot. (is_given self.now slot ≡ true) × (f ≡ GridFault.RepeatedKey slot))) }
     {
-        let Some(key) = slot_of(word) else {
-            return Err(GridFault::UnknownKey);
-        };
+        let key = slot_of(word).ok_or(GridFault::UnknownKey)?;
         if self.is_given(key) {
             return Err(GridFault::RepeatedKey(key));
         }
@@ -75,27 +73,17 @@ impl Header {
     {
         match slot {
             Slot::Ncols => {
-                let Some(cols) = size(word) else {
-                    return Err(GridFault::BadSize(Key::Ncols));
-                };
-                self.cols = Some(cols);
+                self.cols = Some(size(word).ok_or(GridFault::BadSize(Key::Ncols))?);
             }
             Slot::Nrows => {
-                let Some(rows) = size(word) else {
-                    return Err(GridFault::BadSize(Key::Nrows));
-                };
-                self.rows = Some(rows);
+                self.rows = Some(size(word).ok_or(GridFault::BadSize(Key::Nrows))?);
             }
             Slot::Xll { centre } => {
-                let Some(word) = decimal(word) else {
-                    return Err(GridFault::BadPlace(Key::Xll));
-                };
+                let word = decimal(word).ok_or(GridFault::BadPlace(Key::Xll))?;
                 self.xll = Some(Anchor { centre, word });
             }
             Slot::Yll { centre } => {
-                let Some(word) = decimal(word) else {
-                    return Err(GridFault::BadPlace(Key::Yll));
-                };
+                let word = decimal(word).ok_or(GridFault::BadPlace(Key::Yll))?;
                 self.yll = Some(Anchor { centre, word });
             }
             Slot::Cellsize => {
@@ -105,10 +93,7 @@ impl Header {
                 self.cellsize = Some(Word::from_bytes(word));
             }
             Slot::Nodata => {
-                let Some(word) = decimal(word) else {
-                    return Err(GridFault::BadNodata);
-                };
-                self.nodata = Some(word);
+                self.nodata = Some(decimal(word).ok_or(GridFault::BadNodata)?);
             }
         }
         Ok(())
@@ -154,12 +139,8 @@ impl Header {
         ensures ok { IfOk result (λ n. (missing_of self.now ≡ None) × (n ≡ wanted_of self.now)) }
         ensures err { IfErr result (λ f. missing_of self.now ≡ Some f) }
     {
-        let Some(cols) = self.cols else {
-            return Err(GridFault::MissingKey(Key::Ncols));
-        };
-        let Some(rows) = self.rows else {
-            return Err(GridFault::MissingKey(Key::Nrows));
-        };
+        let cols = self.cols.ok_or(GridFault::MissingKey(Key::Ncols))?;
+        let rows = self.rows.ok_or(GridFault::MissingKey(Key::Nrows))?;
         if self.xll.is_none() {
             return Err(GridFault::MissingKey(Key::Xll));
         }

@@ -22,11 +22,13 @@ pub fn grids_are_one()
 {}
 
 /// A grid's text is read again as that grid.
+#[tactic(auto, using(crate::proofs::ReadBack::read_back))]
 pub fn grids_read_back()
     ensures { GridsReadBack }
 {}
 
 /// A grid whose NODATA word has at most 14 bytes has a text that can be read again.
+#[tactic(auto, using(crate::proofs::TextLength::text_short))]
 pub fn grid_texts_fit()
     ensures { GridTextsFit }
 {}

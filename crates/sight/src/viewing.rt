@@ -14,11 +14,8 @@ use ascii_grid::Grid;
 use std::alloc::Global;
 use std::sync::Wait;
 use std::thread::Threads;
-use tile_jobs::{Gate, JobFault, run_jobs};
+use tile_jobs::{Gate, JobFault, MOST_WORKERS, run_jobs};
 use tiles::Tiling;
-
-// Of `run_jobs`.
-const MOST_WORKERS: u32 = 64;
 
 /// The values of all tiles, put back.
 fn viewed<R: Threads + Wait + Sync, G: Gate + Sync>(
@@ -68,9 +65,7 @@ pub fn viewshed<R: Threads + Wait + Sync, G: Gate + Sync>(
     if workers == 0 || workers > MOST_WORKERS {
         return Err(SightFault::Jobs(JobFault::BadWorkers));
     }
-    let Ok(tops) = block_tops(alloc, grid) else {
-        return Err(SightFault::Jobs(JobFault::Memory));
-    };
+    let tops = block_tops(alloc, grid).map_err(JobFault::from)?;
     let work = Viewing {
         grid,
         tops: &tops,

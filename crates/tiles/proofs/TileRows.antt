@@ -10,16 +10,13 @@ use Rattle.ascii_grid.specs.declared.place.Place.{Place}
 use Rattle.tiles.specs.declared.bounds.Bounds.{Bounds}
 use Rattle.tiles.specs.Cutting.{Cutting, IsCutting, View, IsView, AreBounds, IsInBounds, IsWithin, IsInTile, bounds_of, row_shown, tile_entry, index_in_tile, tile_of_place, tile_count, cell_count}
 use Rattle.tiles.proofs.Cut.{in_bounds, in_tile}
+use Rattle.tiles.proofs.TileOrder.{index_in, tile_entry-in}
 
--- where a place of the tile stands in the tile's list
-pub tile_place : (c : Cutting) (tile : ℕ) (b : Bounds) (p : Place) → b ≡ bounds_of c tile → IsInTile c tile p → index_in_tile c p ≡ (p.row - b.top) * b.cols + (p.col - b.left)
-tile_place c tile b p e i = ap (λ (z : Bounds). (p.row - z.top) * z.cols + (p.col - z.left)) (ap (λ (k : ℕ). bounds_of c k) i.1 ∙ sym e)
-
+-- what a list in the row order of the tile has at a place of it
 pub tile_entry_is : {X : Type 0} (c : Cutting) (tile : ℕ) (b : Bounds) (list : List (Option X)) (p : Place) → b ≡ bounds_of c tile → IsInTile c tile p →
     tile_entry c tile list p ≡ get_or list ((p.row - b.top) * b.cols + (p.col - b.left)) None
 tile_entry_is c tile b list p e i =
-    cond-true _ _ _ (and_from _ _ (and_from _ _ (lt-ltb _ _ i.0.0) (lt-ltb _ _ i.0.1)) (eq-eqb _ _ i.1))
-    ∙ ap (λ (k : ℕ). get_or list k None) (tile_place c tile b p e i)
+    tile_entry-in c tile list p i ∙ ap (λ (z : Bounds). get_or list (index_in z p) None) (sym e)
 
 -- what a row of a view has
 pub row_has : {X : Type 0} (v : View (Option X)) (b : Bounds) (i k : ℕ) → b ≡ bounds_of v.cutting v.tile → k < b.cols →
