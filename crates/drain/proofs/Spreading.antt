@@ -26,15 +26,18 @@ not_above-set xs i n le = record {
   ];
 }
 
-pub spread-not_above : (b : Bounds) (levels : List (Option ℤ)) (old new : List ℕ) → IsSpread b levels old new → IsNotAbove new old
-spread-not_above b levels old new same = not_above_itself old
-spread-not_above b levels old new (moved counts some s r n before earlier spot other touch differ level from less) =
-    not_above_then (set counts (spot_index b r) n) counts old (not_above-set counts (spot_index b r) n (omega arith)) (spread-not_above b levels old counts before)
+pub spread_not_above : (b : Bounds) (levels : List (Option ℤ)) (old new : List ℕ) → IsSpread b levels old new → IsNotAbove new old
+spread_not_above b levels old new same = not_above_itself old
+spread_not_above b levels old new (moved counts some s r n before earlier spot other touch differ level from less) =
+    not_above_then (set counts (spot_index b r) n) counts old (not_above-set counts (spot_index b r) n (omega arith)) (spread_not_above b levels old counts before)
 
 pub spread-length : (b : Bounds) (levels : List (Option ℤ)) (old new : List ℕ) → IsSpread b levels old new → length new ≡ length old
 spread-length b levels old new same = refl
 spread-length b levels old new (moved counts some s r n before earlier spot other touch differ level from less) =
     length-set counts (spot_index b r) n ∙ spread-length b levels old counts before
+
+pub spread_none : (b : Bounds) (levels : List (Option ℤ)) (counts : List ℕ) → IsSpread b levels counts counts
+spread_none b levels counts = same
 
 -- moves after moves
 pub spread_on : (b : Bounds) (levels : List (Option ℤ)) (old mid new : List ℕ) → IsSpread b levels old mid → IsSpread b levels mid new → IsSpread b levels old new
@@ -42,8 +45,8 @@ spread_on b levels old mid new first same = first
 spread_on b levels old mid new first (moved counts some s r n before earlier spot other touch differ level from less) =
     moved counts some s r n (spread_on b levels old mid counts first before) (spread_on b levels old mid some first earlier) spot other touch differ level from less
 
-pub spread-counts : (b : Bounds) (levels : List (Option ℤ)) (old new : List ℕ) → AreCounts old → IsSpread b levels old new → AreCounts new
-spread-counts b levels old new small spread = λ k. omega (arith, small k, (spread-not_above b levels old new spread).each k)
+pub spread_counts : (b : Bounds) (levels : List (Option ℤ)) (old new : List ℕ) → AreCounts old → IsSpread b levels old new → AreCounts new
+spread_counts b levels old new small spread = λ k. omega (arith, small k, (spread_not_above b levels old new spread).each k)
 
 -- one move from what a spot has
 pub one_move : (b : Bounds) (levels : List (Option ℤ)) (counts : List ℕ) (s r : Place) (i n : ℕ) → i ≡ spot_index b r → IsSpot b s → IsSpot b r → Touches s r
@@ -87,7 +90,7 @@ pulled b levels old counts s i n e spot before (inl is) less = absurd (omega ari
 pulled b levels old counts s i n e spot before (inr h) less =
     let at : get_or counts i 0 ≡ count_on b counts s = ap (λ k. get_or counts k 0) e in
     let differ : h.0 ≢ s = λ one. (let was : count_on b old h.0 ≡ count_on b old s = ap (λ (p : Place). count_on b old p) one in
-    omega (arith, at, was, h.4, (spread-not_above b levels old counts before).each (spot_index b s))) in
+    omega (arith, at, was, h.4, (spread_not_above b levels old counts before).each (spot_index b s))) in
     subst (λ j. IsSpread b levels old (set counts j n)) (sym e) (moved counts old h.0 s n before same h.1 spot h.2 differ h.3 h.4 (omega (arith, at)))
 
 pub spot_from_inner : (b : Bounds) (s : Place) → IsInner b s → IsSpot b s

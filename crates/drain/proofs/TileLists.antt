@@ -14,6 +14,8 @@ use Rattle.tiles.specs.declared.bounds.Bounds.{Bounds}
 use Rattle.tiles.specs.Cutting.{Cutting, IsCutting, Cuts, AreBounds, IsInBounds, IsInTile, IsWithin, AreTileLists, IsPutBack, bounds_of, tile_count, tile_of_place}
 use Rattle.tiles.proofs.Cut.{in_bounds, tile_of_place_below}
 use Rattle.tiles.proofs.PutBack.{entry_at-put_back}
+use Rattle.drain.specs.Beginning.{IsBegun}
+use Rattle.drain.specs.Directions.{IsCodeAt}
 use Rattle.drain.specs.TileLists.{IsPartOf, index_within, AreMadeBelow, IsMadeTile, AreMadeTiles}
 use Rattle.tiles.proofs.TileRows.{tile_entry_is}
 
@@ -51,6 +53,15 @@ made_next {X} b Makes row col list x below beside before here =
     let next : index_within b p + 1 ≡ row * b.cols + (col + 1) = omega (arith, at) in
     subst (λ (n : ℕ). AreMadeBelow b Makes n (list ++ x ∷ [])) next
     (made_push b Makes p list x (omega arith, omega arith, omega arith, omega arith) (subst (λ (n : ℕ). AreMadeBelow b Makes n list) (sym at) before) here)
+
+-- the same of the lists that the first stage and the last make
+pub begun_next : (t : Terrain) (b : Bounds) (row col : ℕ) (list : List (Option ℕ)) (x : Option ℕ) → row < b.rows → col < b.cols →
+    AreMadeBelow b (IsBegun t) (row * b.cols + col) list → IsBegun t (make_place (b.top + row) (b.left + col)) x → AreMadeBelow b (IsBegun t) (row * b.cols + (col + 1)) (list ++ x ∷ [])
+begun_next t b = made_next b (IsBegun t)
+
+pub coded_next : (t : Terrain) (b : Bounds) (row col : ℕ) (list : List (Option ℕ)) (x : Option ℕ) → row < b.rows → col < b.cols →
+    AreMadeBelow b (IsCodeAt t) (row * b.cols + col) list → IsCodeAt t (make_place (b.top + row) (b.left + col)) x → AreMadeBelow b (IsCodeAt t) (row * b.cols + (col + 1)) (list ++ x ∷ [])
+coded_next t b = made_next b (IsCodeAt t)
 
 within_below : (b : Bounds) (p : Place) → IsInBounds b p → index_within b p < b.rows * b.cols
 within_below b p i =

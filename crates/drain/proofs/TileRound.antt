@@ -15,7 +15,7 @@ use Rattle.drain.specs.Rounds.{IsLent, IsWalked, AreWalked, IsOneAbove, IsRound}
 use Rattle.drain.specs.TileLists.{AreMadeBelow, IsMadeTile}
 use Rattle.drain.proofs.TileLists.{made_tile}
 use Rattle.drain.specs.Window.{no_count, AreCounts, spot_index, area_of, IsSpot, IsInner, Shows, IsShown, AreShown, level_on, count_on, IsSpread, same, moved, IsSettled, known, known_counts, IsHandedOut, AreLent}
-use Rattle.drain.proofs.Spreading.{spread-not_above, spread-counts, spread-length, spot_from_inner}
+use Rattle.drain.proofs.Spreading.{spread_not_above, spread_counts, spread-length, spot_from_inner}
 use Rattle.drain.proofs.Counted.{height_is}
 use Rattle.drain.proofs.Unique.{at_place}
 use Rattle.drain.proofs.Few.{data_on_level_walk}
@@ -114,7 +114,7 @@ sound_after t steps b levels old new on size small sound same = sound
 sound_after t steps b levels old new on size small sound (moved counts some s r n before earlier spot other touch differ level from less) =
     sound_set t steps b counts r n (spread-length b levels old counts before ∙ size) other (sound_after t steps b levels old counts on size small sound before)
     (sound_moved t steps b levels some s r n on (sound_after t steps b levels old some on size small sound earlier) spot other touch differ level from
-    (omega (arith, less, spread-counts b levels old counts small before (spot_index b r))))
+    (omega (arith, less, spread_counts b levels old counts small before (spot_index b r))))
 
 -- the spot that shows a place of the tile
 spot_of : Bounds → Place → Place
@@ -237,7 +237,7 @@ module _ (t : Terrain) (c : Cutting) (tile : ℕ) (b : Bounds) (steps shown : Li
       let s = spot_of b p in
       let was = lent_is s p m (spot_from_inner b s inner.0) inner.1 e in
       let real = MatchOption-at_some _ _ m e (walks p) in
-      let fewer = (spread-not_above b levels (known_counts shown) new settled.spread).each (spot_index b s) in
+      let fewer = (spread_not_above b levels (known_counts shown) new settled.spread).each (spot_index b s) in
       let few : count_on b new s < no_count = omega (arith, fewer, was, real.0) in
       (count_on b new s, entry_is p i ∙ known-some (count_on b new s) few, omega (arith, fewer, was))
 

@@ -76,6 +76,7 @@ fn begin_at(grid: &Grid, place: Place) -> Option<u32>
 }
 
 /// Begins the counts of one row of a tile.
+#[tactic(auto, using(crate::proofs::TileLists::begun_next))]
 fn begin_along(
     grid: &Grid,
     bounds: Bounds,

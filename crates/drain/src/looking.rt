@@ -146,6 +146,7 @@ fn known(count: u32) -> Option<u32>
 }
 
 /// Hands out the counts of one row of the tile.
+#[tactic(auto, using(crate::proofs::Spots::handed_next))]
 fn hand_out_along(
     ground: &Ground,
     counts: &[u32],

@@ -113,6 +113,7 @@ fn leads_onward(around: &Around, way: usize) -> bool
 }
 
 /// The first way that leads on over the flat.
+#[tactic(auto, using(crate::proofs::Greatest::position_is))]
 fn onward(around: &Around) -> usize
     requires { IsTrue (list_any (leads_on around.now) around.now.ways) }
     ensures below { result < 8 }

@@ -89,6 +89,7 @@ fn around(grid: &Grid, steps: &[Option<u32>], place: Place, level: Height, own: 
 
 /// The code of a data cell of the first or last row or column.
 #[inline(never)]
+#[tactic(auto, using(crate::proofs::Laid::fitting))]
 fn code_outermost(grid: &Grid, steps: &[Option<u32>], place: Place, level: Height, own: u32) -> Code
     requires lawful { IsTerrain grid.now.terrain }
     requires steps { AreSteps grid.now.terrain steps.now }
@@ -120,6 +121,7 @@ fn code_at(grid: &Grid, steps: &[Option<u32>], place: Place) -> Option<Code>
 }
 
 /// The codes of one row of a tile.
+#[tactic(auto, using(crate::proofs::TileLists::coded_next))]
 fn codes_along(
     grid: &Grid,
     steps: &[Option<u32>],

@@ -75,6 +75,7 @@ fn lesser(ground: &Ground, counts: &[u32], spot: Place, level: Option<Height>, b
 
 /// The least by that of three spots in a row.
 #[inline(always)]
+#[tactic(auto, using(crate::proofs::Least::least_of_none))]
 fn least_of_three(
     ground: &Ground,
     counts: &[u32],
@@ -135,6 +136,7 @@ fn least_around(ground: &Ground, counts: &[u32], spot: Place, bound: u32) -> u32
 
 /// Gives a spot one step more than a spot that it touches, where that is less than it has.
 #[inline(always)]
+#[tactic(auto, using(crate::proofs::Spreading::spread_none, crate::proofs::Spreading::move_at, crate::proofs::Noted::reached_near, crate::proofs::Noted::reached_own))]
 fn reach(
     ground: &Ground,
     counts: &mut [u32],
@@ -168,6 +170,7 @@ fn reach(
 
 /// Spreads from a spot to three spots of one row.
 #[inline(always)]
+#[tactic(auto, using(crate::proofs::Spreading::spread_none, crate::proofs::Spreading::spread_on, crate::proofs::Spreading::spread_counts, crate::proofs::Noted::noted_none, crate::proofs::Noted::noted_then))]
 fn spread_along(
     ground: &Ground,
     counts: &mut [u32],
@@ -196,6 +199,7 @@ fn spread_along(
 }
 
 /// Spreads from a spot to the spots that it touches.
+#[tactic(auto, using(crate::proofs::Spreading::spread_none, crate::proofs::Spreading::spread_on, crate::proofs::Spreading::spread_counts, crate::proofs::Noted::noted_none, crate::proofs::Noted::noted_then))]
 fn spread(
     ground: &Ground,
     counts: &mut [u32],
@@ -222,6 +226,7 @@ fn spread(
 }
 
 /// Spreads from each spot that was reached, in their order, until none is left.
+#[tactic(auto, using(crate::proofs::Spreading::spread_none, crate::proofs::Spreading::spread_on, crate::proofs::Spreading::spread_counts, crate::proofs::Noted::even_end))]
 fn search(ground: &Ground, counts: &mut [u32], mut reached: Vec<Place>) -> Result<(), AllocError>
     requires size { length counts.old ≡ area_of ground.now.bounds }
     requires counts { AreCounts counts.old }
@@ -241,6 +246,7 @@ fn search(ground: &Ground, counts: &mut [u32], mut reached: Vec<Place>) -> Resul
 
 /// Gives a spot one more than the least old count around it, where that is less than it has.
 #[inline(always)]
+#[tactic(auto, using(crate::proofs::Spreading::pulled, crate::proofs::Spreading::spot_from_inner))]
 fn pull_at(
     ground: &Ground,
     old: &[u32],
@@ -320,6 +326,7 @@ fn pull(
 }
 
 /// Searches from all counts that are known, as far as it goes inside the tile.
+#[tactic(auto, using(crate::proofs::Spreading::spread_counts))]
 fn settle(alloc: Global, ground: &Ground, old: &[u32], counts: &mut [u32]) -> Result<(), AllocError>
     requires size { length old.now ≡ area_of ground.now.bounds }
     requires counts { AreCounts old.now }

@@ -4,9 +4,6 @@ use Rattle.drain.specs.Amid.{around_index}
 use Rattle.drain.proofs.AmidLemmas.{around_below}
 use Rattle.drain.proofs.amid.cells_around.Goals as goal
 
-pub returns-clause-value : goal.returns-clause-value
-returns-clause-value c = c.around_index.ensures ∙ ap (λ (n : ℕ). around_index n (index_of n c.args.place)) c.cols-cols.ensures.value
-
 pub returns-clause-below : goal.returns-clause-below
 returns-clause-below c = λ way below.
     let t = c.args.grid.now.terrain in

@@ -1,10 +1,7 @@
 use Rattle.std.proofs.Common.{sym, subst}
 use Rattle.drain.specs.Directions.{IsDirection}
-use Rattle.drain.proofs.Laid.{fitting, direction_is, code_is}
+use Rattle.drain.proofs.Laid.{direction_is, code_is}
 use Rattle.drain.proofs.surroundings.code_outermost.Goals as goal
-
-pub direction-requires : goal.direction-requires
-direction-requires c = fitting c.args.grid.now.terrain c.args.steps.now c.args.place c.around.result c.requires.lawful c.requires.steps c.around.ensures
 
 pub returns : goal.returns
 returns c =

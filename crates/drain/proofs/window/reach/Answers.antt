@@ -2,17 +2,10 @@ use Rattle.std.proofs.Common.{◌+◌, All, Vec, Global, List, get_or, set, sym,
 use Rattle.std.proofs.lemmas.Bool.{false≢true}
 use Rattle.std.proofs.lemmas.List.Elements.{All-push}
 use Rattle.ascii_grid.specs.declared.place.Place.{Place}
-use Rattle.drain.specs.Window.{IsInner, AreNoted, same}
-use Rattle.drain.proofs.Noted.{noted_set, noted_off, reached_near, reached_own}
-use Rattle.drain.proofs.Spreading.{move_at}
+use Rattle.drain.specs.Window.{IsInner, AreNoted}
+use Rattle.drain.proofs.Noted.{noted_set, noted_off}
 use Rattle.drain.proofs.window.reach.Goals as goal
 use Rattle.drain.proofs.window.reach.Goals.{then-is_inner+in_ok-push, else-is_inner}
-
-pub returns-after-is_inner-clause-spread : goal.returns-after-is_inner-clause-spread
-returns-after-is_inner-clause-spread c =
-    move_at c.args.ground.now.bounds c.args.ground.now.levels.items c.args.counts.now c.args.from c.args.to c.index.result c.index-index.result
-    c.index.ensures.value c.index-index.ensures.value c.requires.from c.requires.to.0 c.requires.to.1
-    (c.is_level.ensures.0 c.if-is_level.true) c.if-next-counts.true
 
 pub returns-after-is_inner-clause-inner : goal.returns-after-is_inner-clause-inner
 returns-after-is_inner-clause-inner c = elim c.if-is_inner.branch [
@@ -21,18 +14,6 @@ returns-after-is_inner-clause-inner c = elim c.if-is_inner.branch [
       (All-push (λ (s : Place). IsInner c.args.ground.now.bounds s) c.args.reached.now.items c.args.to c.requires.inner (c.is_inner.ensures.0 w.if-is_inner.true)))
   | else-is_inner w ↦ subst (λ (v : Vec Place Global). All (λ (s : Place). IsInner c.args.ground.now.bounds s) v.items) (sym w.reached-is) c.requires.inner
 ]
-
-pub returns-else-next-counts-clause-spread : goal.returns-else-next-counts-clause-spread
-returns-else-next-counts-clause-spread c = same
-
-pub returns-after-is_inner-clause-near : goal.returns-after-is_inner-clause-near
-returns-after-is_inner-clause-near c = λ level.
-    reached_near c.args.ground.now.bounds c.args.counts.now c.args.from c.args.to c.index.result c.index-index.result c.index.ensures.value c.index-index.ensures.value c.requires.to.0 c.requires.size
-
-pub returns-after-is_inner-clause-own : goal.returns-after-is_inner-clause-own
-returns-after-is_inner-clause-own c =
-    reached_own c.args.ground.now.bounds c.args.counts.now c.args.from c.args.to c.index.result c.index-index.result c.index.ensures.value c.index-index.ensures.value
-    c.requires.from c.requires.to.0 c.if-next-counts.true
 
 pub returns-after-is_inner-clause-noted : goal.returns-after-is_inner-clause-noted
 returns-after-is_inner-clause-noted c =

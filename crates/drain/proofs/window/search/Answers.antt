@@ -1,16 +1,8 @@
 use Rattle.std.proofs.Common.{◌≤◌, ◌<◌, length, vec_len, sum, refl, arith}
 use Rattle.std.proofs.lemmas.Option.{slice_get_read}
-use Rattle.drain.specs.Window.{same}
-use Rattle.drain.proofs.Spreading.{spread_on, spread-counts, spread-not_above, sum-spread}
-use Rattle.drain.proofs.Noted.{even_spread, even_end}
+use Rattle.drain.proofs.Spreading.{spread_on, spread_not_above, sum-spread}
+use Rattle.drain.proofs.Noted.{even_spread}
 use Rattle.drain.proofs.window.search.Goals as goal
-
-pub loop-done-init : goal.loop-done-init
-loop-done-init c = record { spread = same; even = c.requires.even; inner = c.requires.inner }
-
-pub spread-requires-clause-counts : goal.spread-requires-clause-counts
-spread-requires-clause-counts c =
-    spread-counts c.args.ground.now.bounds c.args.ground.now.levels.items c.args.counts.now c.loop-done.counts c.requires.counts c.loop-done.invariant.spread
 
 pub loop-done-smaller : goal.loop-done-smaller
 loop-done-smaller c =
@@ -26,11 +18,6 @@ loop-done-preserved c =
       spread = spread_on c.args.ground.now.bounds c.args.ground.now.levels.items c.args.counts.now c.loop-done.counts c.spread.new.counts c.loop-done.invariant.spread c.in_ok-spread.ensures.spread;
       even = even_spread b levels c.loop-done.counts c.spread.new.counts c.loop-done.reached.items c.spread.new.reached.items c.loop-done.done c.index-spot.result.now c.loop-done.invariant.even
           (slice_get_read c.loop-done.reached.items (length c.loop-done.reached.items) c.loop-done.done c.index-spot.result.now refl (omega (arith, c.len.ensures, c.loop-done-test.true, c.loop-done.reached.ok.0)) c.index-spot.ensures)
-          c.in_ok-spread.ensures.noted (spread-not_above b levels c.loop-done.counts c.spread.new.counts c.in_ok-spread.ensures.spread) c.in_ok-spread.ensures.own c.in_ok-spread.ensures.near;
+          c.in_ok-spread.ensures.noted (spread_not_above b levels c.loop-done.counts c.spread.new.counts c.in_ok-spread.ensures.spread) c.in_ok-spread.ensures.own c.in_ok-spread.ensures.near;
       inner = c.in_ok-spread.ensures.inner;
     }
-
-pub returns-clause-even : goal.returns-clause-even
-returns-clause-even c =
-    even_end c.args.ground.now.bounds c.args.ground.now.levels.items c.loop-done.counts c.loop-done.reached.items c.loop-done.done c.loop-done.invariant.even
-    (omega (arith, c.len.ensures, c.loop-done-test.false, c.loop-done.reached.ok.0))

@@ -1,12 +1,8 @@
 use Rattle.drain.specs.Window.{IsSpread, IsEven, IsSettled}
 use Rattle.drain.proofs.Noted.{even_begin}
 use Rattle.drain.proofs.TileLists.{both_ok}
-use Rattle.drain.proofs.Spreading.{spread-counts, spread-not_above, spread_on, near_after}
+use Rattle.drain.proofs.Spreading.{spread_not_above, spread_on, near_after}
 use Rattle.drain.proofs.window.settle.Goals as goal
-
-pub search-requires-clause-counts : goal.search-requires-clause-counts
-search-requires-clause-counts c =
-    spread-counts c.args.ground.now.bounds c.args.ground.now.levels.items c.args.old.now c.pull.new.counts c.requires.counts c.in_ok-reached.ensures.spread
 
 pub search-requires-clause-even : goal.search-requires-clause-even
 search-requires-clause-even c =
@@ -19,7 +15,7 @@ returns c =
     both_ok c.search.result (λ _. IsSpread b levels c.pull.new.counts c.search.new.counts) (λ _. IsEven b levels c.search.new.counts) (λ _. IsSettled b levels c.args.old.now c.search.new.counts)
     (λ done spread even. record {
       spread = spread_on b levels c.args.old.now c.pull.new.counts c.search.new.counts c.in_ok-reached.ensures.spread spread;
-      near = λ s inner. near_after b levels c.args.old.now c.pull.new.counts c.search.new.counts s (c.in_ok-reached.ensures.near s inner) (spread-not_above b levels c.pull.new.counts c.search.new.counts spread);
+      near = λ s inner. near_after b levels c.args.old.now c.pull.new.counts c.search.new.counts s (c.in_ok-reached.ensures.near s inner) (spread_not_above b levels c.pull.new.counts c.search.new.counts spread);
       even = even;
     })
     c.search.ensures.spread c.search.ensures.even

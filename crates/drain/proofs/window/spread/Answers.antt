@@ -1,23 +1,9 @@
-use Rattle.std.proofs.Common.{inl, inr, refl, ◌∙◌, arith}
+use Rattle.std.proofs.Common.{inl, inr, ◌∙◌, arith}
 use Rattle.std.proofs.lemmas.Bool.{cases_eq}
-use Rattle.drain.specs.Window.{spot_index, same}
-use Rattle.drain.proofs.Spreading.{spread_on, spread-counts, spread-not_above}
-use Rattle.drain.proofs.Noted.{noted_none, noted_then}
+use Rattle.drain.specs.Window.{spot_index}
+use Rattle.drain.proofs.Spreading.{spread_on, spread_not_above}
+use Rattle.drain.proofs.Noted.{noted_then}
 use Rattle.drain.proofs.window.spread.Goals as goal
-
-pub loop-row-init : goal.loop-row-init
-loop-row-init c = record {
-  spread = same;
-  inner = c.requires.inner;
-  near = λ r other touch below level. absurd (omega (arith, touch.row_up));
-  own = refl;
-  noted = noted_none c.args.ground.now.bounds c.args.counts.now c.args.reached.now.items;
-  left = omega arith;
-}
-
-pub spread_along-requires-clause-counts : goal.spread_along-requires-clause-counts
-spread_along-requires-clause-counts c =
-    spread-counts c.args.ground.now.bounds c.args.ground.now.levels.items c.args.counts.now c.loop-row.counts c.requires.counts c.loop-row.invariant.spread
 
 pub loop-row-preserved : goal.loop-row-preserved
 loop-row-preserved c = record {
@@ -30,7 +16,7 @@ loop-row-preserved c = record {
         | inr ne ↦ omega (
           arith,
           c.loop-row.invariant.near r other touch (omega arith) level,
-          (spread-not_above b c.args.ground.now.levels.items c.loop-row.counts c.spread_along.new.counts c.in_ok-spread_along.ensures.spread).each (spot_index b r),
+          (spread_not_above b c.args.ground.now.levels.items c.loop-row.counts c.spread_along.new.counts c.in_ok-spread_along.ensures.spread).each (spot_index b r),
         )
       ];
   own = c.in_ok-spread_along.ensures.own ∙ c.loop-row.invariant.own;

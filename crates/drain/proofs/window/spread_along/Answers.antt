@@ -1,25 +1,11 @@
-use Rattle.std.proofs.Common.{◌≡◌, inl, inr, refl, ap, ◌∙◌, arith}
+use Rattle.std.proofs.Common.{◌≡◌, inl, inr, ap, ◌∙◌, arith}
 use Rattle.std.proofs.lemmas.Bool.{cases_eq}
 use Rattle.ascii_grid.proofs.Places.{make_place, same_place}
 use Rattle.ascii_grid.specs.declared.place.Place.{Place}
-use Rattle.drain.specs.Window.{spot_index, level_on, count_on, same}
-use Rattle.drain.proofs.Spreading.{spread_on, spread-counts, spread-not_above}
-use Rattle.drain.proofs.Noted.{noted_none, noted_then}
+use Rattle.drain.specs.Window.{spot_index, level_on, count_on}
+use Rattle.drain.proofs.Spreading.{spread_on, spread_not_above}
+use Rattle.drain.proofs.Noted.{noted_then}
 use Rattle.drain.proofs.window.spread_along.Goals as goal
-
-pub loop-col-init : goal.loop-col-init
-loop-col-init c = record {
-  spread = same;
-  inner = c.requires.inner;
-  near = λ r other touch row below level. absurd (omega (arith, touch.col_left));
-  own = refl;
-  noted = noted_none c.args.ground.now.bounds c.args.counts.now c.args.reached.now.items;
-  left = omega arith;
-}
-
-pub reach-requires-clause-counts : goal.reach-requires-clause-counts
-reach-requires-clause-counts c =
-    spread-counts c.args.ground.now.bounds c.args.ground.now.levels.items c.args.counts.now c.loop-col.counts c.requires.counts c.loop-col.invariant.spread
 
 pub loop-col-preserved : goal.loop-col-preserved
 loop-col-preserved c = record {
@@ -35,7 +21,7 @@ loop-col-preserved c = record {
         | inr ne ↦ omega (
           arith,
           c.loop-col.invariant.near r other touch row (omega arith) level,
-          (spread-not_above b c.args.ground.now.levels.items c.loop-col.counts c.reach.new.counts c.in_ok-reach.ensures.spread).each (spot_index b r),
+          (spread_not_above b c.args.ground.now.levels.items c.loop-col.counts c.reach.new.counts c.in_ok-reach.ensures.spread).each (spot_index b r),
         )
       ];
   own = c.in_ok-reach.ensures.own ∙ c.loop-col.invariant.own;
