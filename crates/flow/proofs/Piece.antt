@@ -64,6 +64,18 @@ pub record AreLists (v : View (Option ℕ)) (b : Bounds) (cells : List (Option �
   pub made : links ≡ links_by b cells
   pub weighed : weights ≡ weights_by cells
 
+pub lists_made : (v : View (Option ℕ)) (b : Bounds) (cells given : List (Option ℕ)) (links : List ℕ) → AllFlowEnds (directed_by v) → b ≡ bounds_of v.cutting v.tile → AreBounds v.cutting b → IsView v →
+    AreTileCodes (directed_by v) (bounds_of v.cutting v.tile) cells → given ≡ cells → links ≡ links_by b given → AreLists v b cells links (weights_by cells)
+lists_made v b cells given links ends is inside lawful codes same made = record {
+  ends = ends;
+  bounds = is;
+  inside = inside;
+  lawful = lawful;
+  codes = subst (λ (z : Bounds). AreTileCodes (directed_by v) z cells) (sym is) codes;
+  made = made ∙ ap (links_by b) same;
+  weighed = refl;
+}
+
 pub match_none : {X : Type 0} (o : Option X) (P : Type 0) (Q : X → Type 0) → o ≡ None → P → MatchOption o P Q
 match_none {X} o P Q e p = subst (λ (z : Option X). MatchOption z P Q) (sym e) p
 
@@ -218,17 +230,12 @@ codes_from d t tile f cutting below right = record {
 }
 
 -- the lists of the flow of a tile
-pub lists_of : (v : View (Option ℕ)) (f : Flow) (links : List ℕ) → AllFlowEnds (directed_by v) → IsView v → IsTileExits (directed_by v) v.cutting v.tile f → links ≡ links_by f.bounds f.codes →
-    AreLists v f.bounds f.codes links (weights_by f.codes)
-lists_of v f links ends lawful right made = record {
-  ends = ends;
-  bounds = right.bounds;
-  inside = subst (λ (z : Bounds). AreBounds v.cutting z) (sym right.bounds) (bounds_inside v.cutting v.tile lawful.cutting lawful.tile);
-  lawful = lawful;
-  codes = subst (λ (z : Bounds). AreTileCodes (directed_by v) z f.codes) (sym right.bounds) (codes_from (directed_by v) v.cutting v.tile f lawful.cutting lawful.tile right);
-  made = made;
-  weighed = refl;
-}
+pub lists_seen : (v : View (Option ℕ)) (b : Bounds) (cells : List (Option ℕ)) (came ends links : List ℕ) (f : Flow) → flow_by b cells came ends ≡ f → IsTileExits (directed_by v) v.cutting v.tile f →
+    AllFlowEnds (directed_by v) → IsView v → links ≡ links_by b cells → AreLists v b cells links (weights_by cells)
+lists_seen v b cells came ends links f seen are flow_ends lawful made =
+    let right = subst (λ (z : Flow). IsTileExits (directed_by v) v.cutting v.tile z) (sym seen) are in
+    lists_made v b cells cells links flow_ends right.bounds (subst (λ (z : Bounds). AreBounds v.cutting z) (sym right.bounds) (bounds_inside v.cutting v.tile lawful.cutting lawful.tile)) lawful
+    (codes_from (directed_by v) v.cutting v.tile (flow_by b cells came ends) lawful.cutting lawful.tile right) refl made
 
 -- the exits of a flow are the same with other counts
 pub exits_kept : (d : Directed) (t : Cutting) (tile : ℕ) (f : Flow) (through : List (Option ℕ)) → IsTileExits d t tile f →

@@ -1,7 +1,6 @@
 -- What the numbers of a tile add to the weights of its cells.
-use Rattle.std.proofs.Common.{◌≡◌, ℕ, ◌+◌, ◌*◌, ◌^◌, ◌<◌, ◌≤◌, ◌&&◌, true, false, eqb, inl, inr, List, length, get_or, set, sym, ap, subst, ◌∙◌, arith, refl}
+use Rattle.std.proofs.Common.{◌≡◌, ℕ, ◌+◌, ◌*◌, ◌^◌, ◌<◌, ◌≤◌, ◌&&◌, true, false, cond, eqb, inl, inr, List, length, get_or, set, sym, ap, subst, ◌∙◌, arith, refl}
 use Rattle.std.proofs.lemmas.Bool.{cases_Bool, and_from, and_parts, and_left, and_right, eq-eqb, ne_eqb, eqb-true, lt-ltb, cond-true, cond-false, false_from_ne_true, false≢true}
-use Rattle.std.proofs.lemmas.List.{get_or-set_same, get_or-set_other}
 use Rattle.ascii_grid.specs.declared.place.Place.{Place}
 use Rattle.tiles.specs.declared.bounds.Bounds.{Bounds}
 use Rattle.tiles.specs.Cutting.{Cutting, IsCutting, IsWithin, is_within, IsInTile, IsInBounds, AreBounds, bounds_of, tile_count, tile_of_place}
@@ -19,6 +18,7 @@ use Rattle.flow.proofs.Windows.{sum_below-part}
 use Rattle.flow.proofs.DoubleSums.{one_term}
 use Rattle.flow.proofs.InTile.{bounds_from_test, test_from_bounds}
 use Rattle.flow.proofs.Reaching.{place_test, place_from_test}
+use Rattle.flow.proofs.Waiting.{added_at}
 use Rattle.flow.proofs.RimNumbered.{side_below, no_wider, no_higher}
 
 adds_off : (t : Cutting) (listed : List ℕ) (k : ℕ) (p : Place) → (is_place (rim_place t k) p && eqb (rim_number t p) k) ≡ false → adds t listed k p ≡ 0
@@ -28,9 +28,6 @@ adds_on : (t : Cutting) (listed : List ℕ) (k : ℕ) (p : Place) → (is_place 
 adds_on t listed k p y = cond-true {A = ℕ} _ (get_or listed k 0) 0 y
 
 module _ (t : Cutting) (listed : List ℕ) (b : Bounds) (k : ℕ) where
-  abbrev pub new_weights : List ℕ → List ℕ
-  new_weights old = set old (index_in b (rim_place t k)) (get_or old (index_in b (rim_place t k)) 0 + get_or listed k 0)
-
   -- a number adds to its own cell
   pub added : (old : List ℕ) → length old ≡ b.rows * b.cols → (stands_for t (rim_place t k) k && is_in_bounds b (rim_place t k)) ≡ true → (p : Place) → IsInBounds b p →
       get_or (set old (index_in b (rim_place t k)) (get_or old (index_in b (rim_place t k)) 0 + get_or listed k 0)) (index_in b p) 0 ≡ get_or old (index_in b p) 0 + adds t listed k p
@@ -38,22 +35,12 @@ module _ (t : Cutting) (listed : List ℕ) (b : Bounds) (k : ℕ) where
       let w = and_parts (stands_for t (rim_place t k) k) (is_in_bounds b (rim_place t k)) y in
       let inside = bounds_from_test b (rim_place t k) w.1 in
       let number : rim_number t (rim_place t k) ≡ k = eqb-true _ _ (and_parts (is_within t (rim_place t k)) (eqb (rim_number t (rim_place t k)) k) w.0).1 in
-      elim (cases_Bool (is_place (rim_place t k) p)) [
-        | inl same ↦
-            let e : rim_place t k ≡ p = place_from_test _ _ same in
-            let at : index_in b (rim_place t k) < length old = omega (arith, index_in_below b (rim_place t k) inside, size) in
-            let on = adds_on t listed k p (and_from _ _ same (eq-eqb _ _ (ap (rim_number t) (sym e) ∙ number))) in
-            ap (λ (q : Place). get_or (new_weights old) (index_in b q) 0) (sym e)
-            ∙ get_or-set_same old (index_in b (rim_place t k)) (get_or old (index_in b (rim_place t k)) 0 + get_or listed k 0) 0 at
-            ∙ ap (λ (q : Place). get_or old (index_in b q) 0 + get_or listed k 0) e
-            ∙ ap (λ n. get_or old (index_in b p) 0 + n) (sym on)
-        | inr f ↦
-            let off = adds_off t listed k p (and_left _ _ f) in
-            let still : get_or (new_weights old) (index_in b p) 0 ≡ get_or old (index_in b p) 0 =
-            get_or-set_other old (index_in b (rim_place t k)) (index_in b p) (get_or old (index_in b (rim_place t k)) 0 + get_or listed k 0) 0
-            (λ e. false≢true (sym f ∙ place_test _ _ (sym (place_in-index_in b (rim_place t k) inside) ∙ ap (place_in b) (sym e) ∙ place_in-index_in b p h))) in
-            omega (arith, off, still)
-      ]
+      let same : eqb (index_in b (rim_place t k)) (index_in b p) ≡ (is_place (rim_place t k) p && eqb (rim_number t p) k) = elim (cases_Bool (is_place (rim_place t k) p)) [
+        | inl here ↦ (let e = place_from_test _ _ here in eq-eqb _ _ (ap (index_in b) e) ∙ sym (and_from _ _ here (eq-eqb _ _ (ap (rim_number t) (sym e) ∙ number))))
+        | inr f ↦ ne_eqb _ _ (λ e. false≢true (sym f ∙ place_test _ _ (sym (place_in-index_in b (rim_place t k) inside) ∙ ap (place_in b) e ∙ place_in-index_in b p h))) ∙ sym (and_left _ _ f)
+      ] in
+      added_at old (index_in b (rim_place t k)) (get_or listed k 0) (index_in b p) (omega (arith, index_in_below b (rim_place t k) inside, size))
+      ∙ ap (λ x. get_or old (index_in b p) 0 + cond {A = ℕ} x (get_or listed k 0) 0) same
 
   -- a number that stands for no cell adds nothing
   pub unadded : AreBounds t b → (stands_for t (rim_place t k) k && is_in_bounds b (rim_place t k)) ≡ false → (p : Place) → IsInBounds b p → adds t listed k p ≡ 0

@@ -1,24 +1,28 @@
 -- The tiles together.
-use Rattle.std.proofs.Common.{◌≡◌, ℕ, ◌*◌, ◌<◌, inl, inr, List, length, get_or, Option, None, Some, MatchOption, Vec, Global, sym, ap, subst, refl, ◌∙◌, arith}
+use Rattle.std.proofs.Common.{◌≡◌, ℕ, ◌*◌, ◌<◌, inl, inr, List, length, Option, None, Some, MatchOption, Vec, Global, vec_len, slice_get, sym, ap, subst, refl, ◌∙◌, arith}
 use Rattle.std.specs.Prelude.{Result, Ok, Err, IfOk}
 use Rattle.std.proofs.lemmas.Option.{get_or_from_slice_get, slice_get_within, slice_get_cases}
 use Rattle.ascii_grid.specs.Neighbours.{entry_at}
 use Rattle.ascii_grid.specs.declared.place.Place.{Place}
-use Rattle.tiles.specs.Cutting.{Cutting, IsCutting, View, IsPutBack, AreTileLists, Cuts, tile_count, tile_of_place, tile_entry}
+use Rattle.tile_jobs.specs.Answers.{AllGiven}
+use Rattle.tiles.specs.Cutting.{Cutting, IsCutting, View, IsPutBack, AreTileLists, Cuts, tile_of_place, tile_entry}
 use Rattle.tiles.proofs.Cut.{tile_of_place_below}
 use Rattle.tiles.proofs.PutBack.{entry_at-put_back}
 use Rattle.drainage.specs.Following.{Directed, code_at}
-use Rattle.drainage.specs.Drained.{Drained, AllFlowEnds, directed_of}
+use Rattle.drainage.specs.Drained.{Drained, directed_of}
 use Rattle.flow.specs.Counts.{IsMapOf}
-use Rattle.flow.specs.TileFlow.{Flow, IsTileExits, IsTileCounts, AreTileCounts, IsTileFlow, directed_by}
-use Rattle.flow.specs.RimGraph.{AreFlowsOf}
+use Rattle.flow.specs.TileFlow.{Flow, IsTileExits, IsTileFlow, directed_by}
 use Rattle.flow.specs.Whole.{make_directed}
-use Rattle.flow.specs.TileMaps.{IsTileMapOf, AreTileMapsOf}
+use Rattle.flow.specs.TileMaps.{AreTileMapsOf}
 use Rattle.flow.proofs.Directed.{directed_same}
 
-pub both_ok : {T E : Type 0} (r : Result T E) (P Q R : T → Type 0) → ((x : T) → P x → Q x → R x) → IfOk r P → IfOk r Q → IfOk r R
-both_ok (Ok x) P Q R f a b = f x a b
-both_ok (Err e) P Q R f a b = a
+-- what the jobs gave, one answer for each
+pub jobs_gave : {X E : Type 0} (P : ℕ → X → Type 0) (r : Result (Vec X Global) E) (n m : ℕ) (Q : List X → Type 0) → n ≡ m →
+    ((outs : List X) → length outs ≡ m → ((k : ℕ) (x : X) → slice_get outs k ≡ Some x → P k x) → Q outs) →
+    IfOk r (λ v. vec_len v ≡ n) → IfOk r (λ v. AllGiven P n v.items) → IfOk r (λ v. Q v.items)
+jobs_gave P (Ok v) n m Q same made len given = made v.items (omega (arith, v.ok.0, len, same))
+    (λ k x there. subst (P k) (get_or_from_slice_get v.items k x x there) (given k x (omega (arith, v.ok.0, len, slice_get_within v.items k x there))))
+jobs_gave P (Err e) n m Q same made len given = len
 
 -- the map of directions of a view
 pub directed_of_view : (t : Cutting) (job : ℕ) (v : View (Option ℕ)) (codes : List (Option ℕ)) → v ≡ record { cutting = t; tile = job; cells = codes } → directed_by v ≡ make_directed t.cols t.rows codes
@@ -31,32 +35,6 @@ exits_of_view t job v codes f e exits = subst (λ (x : View (Option ℕ)). IsTil
 pub flow_of_view : (t : Cutting) (job : ℕ) (v : View (Option ℕ)) (codes : List (Option ℕ)) (f : Flow) → v ≡ record { cutting = t; tile = job; cells = codes } →
     IsTileFlow (directed_by v) v.cutting v.tile f → IsTileFlow (make_directed t.cols t.rows codes) t job f
 flow_of_view t job v codes f e flow = subst (λ (x : View (Option ℕ)). IsTileFlow (directed_by x) x.cutting x.tile f) e flow
-
--- what the jobs gave
-pub flows_given : (d : Directed) (t : Cutting) (outs : List Flow) → IsCutting t → AllFlowEnds d → d.cols ≡ t.cols → d.rows ≡ t.rows → length outs ≡ tile_count t →
-    ((j : ℕ) (x : Flow) → j < tile_count t → IsTileExits d t j (get_or outs j x)) → AreFlowsOf d t outs
-flows_given d t outs h ends c r count given = record {
-  cutting = h;
-  ends = ends;
-  of_tiles = record {
-    size = (c, r);
-    count = count;
-    each = λ tile f e. subst (IsTileExits d t tile) (get_or_from_slice_get outs tile f f e) (given tile f (omega (arith, count, slice_get_within outs tile f e)));
-  };
-}
-
-pub counts_given : (d : Directed) (t : Cutting) (outs : List Flow) → length outs ≡ tile_count t →
-    ((j : ℕ) (x : Flow) → j < tile_count t → IsTileCounts d t j (get_or outs j x)) → AreTileCounts d t outs
-counts_given d t outs count given = record {
-  each = λ tile f e. subst (IsTileCounts d t tile) (get_or_from_slice_get outs tile f f e) (given tile f (omega (arith, count, slice_get_within outs tile f e)));
-}
-
-pub maps_given : (d : Directed) (t : Cutting) (value : Place → ℕ) (outs : List (Vec (Option ℕ) Global)) → length outs ≡ tile_count t →
-    ((j : ℕ) (x : Vec (Option ℕ) Global) → j < tile_count t → IsTileMapOf d t j value (get_or outs j x).items) → AreTileMapsOf d t value outs
-maps_given d t value outs count given = record {
-  count = count;
-  each = λ tile list e. subst (λ (v : Vec (Option ℕ) Global). IsTileMapOf d t tile value v.items) (get_or_from_slice_get outs tile list list e) (given tile list (omega (arith, count, slice_get_within outs tile list e)));
-}
 
 -- what is put back is the map
 pub maps_put_back : (d : Directed) (t : Cutting) (value : Place → ℕ) (lists : List (Vec (Option ℕ) Global)) (whole : List (Option ℕ)) → IsCutting t → d.cols ≡ t.cols → d.rows ≡ t.rows →

@@ -1,31 +1,23 @@
-use Rattle.std.proofs.Common.{◌≡◌, Vec, Global, vec_len, refl, arith}
-use Rattle.tile_jobs.specs.Answers.{AllGiven}
-use Rattle.flow.specs.TileFlow.{Flow, AreTileCounts, IsTileFlow}
+use Rattle.std.proofs.Common.{refl}
+use Rattle.flow.specs.TileFlow.{IsTileFlow, AreTileCounts}
 use Rattle.flow.specs.RimGraph.{AreFlowsOf}
 use Rattle.flow.specs.Whole.{make_directed}
-use Rattle.flow.proofs.Together.{flows_given, counts_given, both_ok}
+use Rattle.flow.proofs.Together.{jobs_gave}
 use Rattle.flow.proofs.flowing.flow_tiles.Goals as goal
 
 pub returns-clause-flows : goal.returns-clause-flows
 returns-clause-flows g c =
     let t = c.args.tiling.now in
-    let d = make_directed c.args.tiling.now.cols c.args.tiling.now.rows c.args.codes.now in
-    let jobs = c.tiles-tiles.ensures.value in
-    both_ok c.run_jobs.result
-    (λ (v : Vec Flow Global). vec_len v ≡ c.tiles-tiles.result)
-    (λ (v : Vec Flow Global). AllGiven (λ j out. IsTileFlow d t j out) c.tiles-tiles.result v.items)
-    (λ (v : Vec Flow Global). AreFlowsOf d t v.items)
-    (λ v len given. flows_given d t v.items c.tiles-tiles.ensures.lawful c.requires.ends refl refl (omega (arith, v.ok.0, len, jobs)) (λ j x below. (given j x (omega (arith, below, jobs))).exits))
-    c.run_jobs.ensures.len c.run_jobs.ensures.given
+    let d = make_directed t.cols t.rows c.args.codes.now in
+    jobs_gave (IsTileFlow d t) c.run_jobs.result _ _ (AreFlowsOf d t) c.tiles-tiles.ensures.value (λ outs count each. record {
+      cutting = c.tiles-tiles.ensures.lawful;
+      ends = c.requires.ends;
+      of_tiles = record { size = (refl, refl); count = count; each = λ k x there. (each k x there).exits };
+    }) c.run_jobs.ensures.len c.run_jobs.ensures.given
 
 pub returns-clause-counts : goal.returns-clause-counts
 returns-clause-counts g c =
     let t = c.args.tiling.now in
-    let d = make_directed c.args.tiling.now.cols c.args.tiling.now.rows c.args.codes.now in
-    let jobs = c.tiles-tiles.ensures.value in
-    both_ok c.run_jobs.result
-    (λ (v : Vec Flow Global). vec_len v ≡ c.tiles-tiles.result)
-    (λ (v : Vec Flow Global). AllGiven (λ j out. IsTileFlow d t j out) c.tiles-tiles.result v.items)
-    (λ (v : Vec Flow Global). AreTileCounts d t v.items)
-    (λ v len given. counts_given d t v.items (omega (arith, v.ok.0, len, jobs)) (λ j x below. (given j x (omega (arith, below, jobs))).counts))
-    c.run_jobs.ensures.len c.run_jobs.ensures.given
+    let d = make_directed t.cols t.rows c.args.codes.now in
+    jobs_gave (IsTileFlow d t) c.run_jobs.result _ _ (AreTileCounts d t) c.tiles-tiles.ensures.value
+    (λ outs count each. record { each = λ k x there. (each k x there).counts }) c.run_jobs.ensures.len c.run_jobs.ensures.given

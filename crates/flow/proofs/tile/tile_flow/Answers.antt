@@ -2,37 +2,23 @@ use Rattle.std.proofs.Common.{◌≡◌, ℕ, ◌^◌, ◌<◌, List, length, su
 use Rattle.flow.specs.Streams.{AreStreams, AreUpstream, total}
 use Rattle.flow.specs.TileFlow.{Flow, IsTileExits, directed_by}
 use Rattle.flow.specs.TileLinks.{weights_by, through_by, flow_by}
-use Rattle.flow.proofs.Piece.{AreLists, streams, few, fits, lists_of, counts_are, exits_kept}
+use Rattle.flow.proofs.Piece.{lists_seen, streams, few, fits, counts_are, exits_kept}
 use Rattle.flow.proofs.tile.tile_flow.Goals as goal
 
 pub upstream-requires-clause-streams : goal.upstream-requires-clause-streams
 upstream-requires-clause-streams c =
-    let v = c.args.codes.now in
-    let x = c.flow.inside in
-    let f : Flow = flow_by x.bounds x.codes.items x.came.items x.ends.items in
-    let right : IsTileExits (directed_by c.args.codes.now) c.args.codes.now.cutting c.args.codes.now.tile (flow_by x.bounds x.codes.items x.came.items x.ends.items) =
-    subst (λ (z : Flow). IsTileExits (directed_by c.args.codes.now) c.args.codes.now.cutting c.args.codes.now.tile z) (sym c.flow.view_is) c.in_ok-flow.ensures in
-    let s : AreLists c.args.codes.now x.bounds x.codes.items x.links.items (weights_by x.codes.items) = lists_of v f x.links.items c.requires c.bounds.ensures.lawful right c.flow.invariant.linked in
+    let s = lists_seen _ _ _ _ _ _ _ c.flow.view_is c.in_ok-flow.ensures c.requires c.bounds.ensures.lawful c.flow.invariant.linked in
     subst (λ (l : List ℕ). AreStreams l) (sym c.deref-2.ensures.value) (streams _ _ _ _ _ s)
 
 pub upstream-requires-clause-few : goal.upstream-requires-clause-few
 upstream-requires-clause-few c =
-    let v = c.args.codes.now in
-    let x = c.flow.inside in
-    let f : Flow = flow_by x.bounds x.codes.items x.came.items x.ends.items in
-    let right : IsTileExits (directed_by c.args.codes.now) c.args.codes.now.cutting c.args.codes.now.tile (flow_by x.bounds x.codes.items x.came.items x.ends.items) =
-    subst (λ (z : Flow). IsTileExits (directed_by c.args.codes.now) c.args.codes.now.cutting c.args.codes.now.tile z) (sym c.flow.view_is) c.in_ok-flow.ensures in
-    let s : AreLists c.args.codes.now x.bounds x.codes.items x.links.items (weights_by x.codes.items) = lists_of v f x.links.items c.requires c.bounds.ensures.lawful right c.flow.invariant.linked in
+    let s = lists_seen _ _ _ _ _ _ _ c.flow.view_is c.in_ok-flow.ensures c.requires c.bounds.ensures.lawful c.flow.invariant.linked in
     omega (arith, few _ _ _ _ _ s, ap length c.deref-2.ensures.value)
 
 pub upstream-requires-clause-fits : goal.upstream-requires-clause-fits
 upstream-requires-clause-fits c =
-    let v = c.args.codes.now in
     let x = c.flow.inside in
-    let f : Flow = flow_by x.bounds x.codes.items x.came.items x.ends.items in
-    let right : IsTileExits (directed_by c.args.codes.now) c.args.codes.now.cutting c.args.codes.now.tile (flow_by x.bounds x.codes.items x.came.items x.ends.items) =
-    subst (λ (z : Flow). IsTileExits (directed_by c.args.codes.now) c.args.codes.now.cutting c.args.codes.now.tile z) (sym c.flow.view_is) c.in_ok-flow.ensures in
-    let s : AreLists c.args.codes.now x.bounds x.codes.items x.links.items (weights_by x.codes.items) = lists_of v f x.links.items c.requires c.bounds.ensures.lawful right c.flow.invariant.linked in
+    let s = lists_seen _ _ _ _ _ _ _ c.flow.view_is c.in_ok-flow.ensures c.requires c.bounds.ensures.lawful c.flow.invariant.linked in
     let weighed : c.in_ok-weights.weights.items ≡ weights_by x.codes.items = c.in_ok-weights.ensures ∙ ap weights_by c.deref.ensures.value in
     subst (λ (l : List ℕ). (i : ℕ) → i < length l → total l c.deref-3.result.now i < 2 ^ 32) (sym c.deref-2.ensures.value)
     (subst (λ (w : List ℕ). (i : ℕ) → i < length x.links.items → total x.links.items w i < 2 ^ 32) (sym (c.deref-3.ensures.value ∙ weighed)) (fits _ _ _ _ _ s))
@@ -41,16 +27,14 @@ pub returns : goal.returns
 returns c =
     let v = c.args.codes.now in
     let x = c.flow.inside in
-    let f : Flow = flow_by x.bounds x.codes.items x.came.items x.ends.items in
-    let right : IsTileExits (directed_by c.args.codes.now) c.args.codes.now.cutting c.args.codes.now.tile (flow_by x.bounds x.codes.items x.came.items x.ends.items) =
-    subst (λ (z : Flow). IsTileExits (directed_by c.args.codes.now) c.args.codes.now.cutting c.args.codes.now.tile z) (sym c.flow.view_is) c.in_ok-flow.ensures in
-    let s : AreLists c.args.codes.now x.bounds x.codes.items x.links.items (weights_by x.codes.items) = lists_of v f x.links.items c.requires c.bounds.ensures.lawful right c.flow.invariant.linked in
-    let weighed : c.in_ok-weights.weights.items ≡ weights_by x.codes.items = c.in_ok-weights.ensures ∙ ap weights_by c.deref.ensures.value in
     let came = c.in_ok-flow-inside.field-0.items in
+    let s = lists_seen _ _ _ _ _ _ _ c.flow.view_is c.in_ok-flow.ensures c.requires c.bounds.ensures.lawful c.flow.invariant.linked in
+    let weighed : c.in_ok-weights.weights.items ≡ weights_by x.codes.items = c.in_ok-weights.ensures ∙ ap weights_by c.deref.ensures.value in
     let up : AreUpstream x.links.items (weights_by x.codes.items) c.in_ok-flow-inside.field-0.items =
     subst (λ (l : List ℕ). AreUpstream l (weights_by x.codes.items) c.in_ok-flow-inside.field-0.items) c.deref-2.ensures.value
     (subst (λ (w : List ℕ). AreUpstream c.deref-2.result.now w c.in_ok-flow-inside.field-0.items) (c.deref-3.ensures.value ∙ weighed) c.in_ok-flow-inside.ensures) in
     record {
-      exits = exits_kept (directed_by v) v.cutting v.tile f (through_by x.codes.items came) right;
+      exits = exits_kept (directed_by v) v.cutting v.tile _ (through_by x.codes.items came)
+          (subst (λ (z : Flow). IsTileExits (directed_by v) v.cutting v.tile z) (sym c.flow.view_is) c.in_ok-flow.ensures);
       counts = counts_are _ _ _ _ _ s came up (flow_by x.bounds x.codes.items came x.ends.items) refl refl;
     }
