@@ -4,8 +4,7 @@ use Rattle.std.specs.Prelude.{slice_get, option_and_then, slice_index_or, MatchO
 use Rattle.std.proofs.lemmas.Bool.{cond-false, cases_Bool, cases_eq, cases_lt}
 use Rattle.std.proofs.lemmas.List.{get_or-map}
 use Rattle.std.proofs.lemmas.Option.{MatchOption-at_some, MatchOption-at_none, same_Some, slice_get_within}
-use Rattle.ascii_grid.specs.Neighbours.{index_of, Touches}
-use Rattle.ascii_grid.proofs.Places.{IsBefore}
+use Rattle.ascii_grid.specs.Neighbours.{index_of}
 use Rattle.ascii_grid.specs.declared.place.Place.{Place}
 use Rattle.tiles.specs.declared.bounds.Bounds.{Bounds}
 use Rattle.tiles.specs.Cutting.{Cutting, IsCutting, IsWithin, IsInTile, IsInBounds, tile_count, tile_of_place, bounds_of}
@@ -64,10 +63,6 @@ mark_outside c floods p h fit outside = elim (seen (slice_get floods (tile_of_pl
 -- a place that a flood holds is of its tile
 pub held : (c : Cutting) (floods : List Flood) (tile : ℕ) (f : Flood) (p : Place) → IsCutting c → Fit c floods → tile < tile_count c → slice_get floods tile ≡ Some f → is_in_bounds f.bounds p ≡ true → IsInTile c tile p
 held c floods tile f p h fit below e inside = in_tile c tile p h below (subst (λ b. IsInBounds b p) (fit.bounds tile f e) (in_bounds_parts f.bounds p inside))
-
--- The places that touch p and come before the row and the column have marks.
-abbrev pub HasNoGapBefore : Cutting → List Flood → Place → ℕ → ℕ → Type 0
-HasNoGapBefore c floods p row col = (q : Place) → Touches p q → IsBefore q row col → mark_among c floods q ≡ None → ⊥
 
 -- a row or column that differs by at most 1
 one_of_three : (a b : ℕ) → a ≤ b + 1 → b ≤ a + 1 → (b + 1 ≡ a) ⊎ (b ≡ a) ⊎ (b ≡ a + 1)
