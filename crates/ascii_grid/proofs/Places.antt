@@ -1,9 +1,9 @@
 -- What a list in row order has at a place.
-use Rattle.std.proofs.Common.{◌≡◌, ◌≢◌, ℕ, ◌*◌, ◌/◌, ◌%◌, ◌<◌, ◌≤◌, List, get_or, Option, None, Some, sym, ap, ◌∙◌, ◌⊎◌, inl, inr}
+use Rattle.std.proofs.Common.{◌≡◌, ◌≢◌, ℕ, ◌+◌, ◌*◌, ◌/◌, ◌%◌, ◌<◌, ◌≤◌, List, get_or, Option, None, Some, IsNone, is_some, sym, ap, ◌∙◌, ◌⊎◌, inl, inr, arith}
 use Rattle.std.proofs.lemmas.Bool.{cases_eq, cond-true, cond-false, lt-ltb, and_from, le-ltb, and_left, and_right, cases_lt}
 use Rattle.std.proofs.lemmas.Nat.{mul-add-lt, div-mul-add, mod-mul-add}
 use Rattle.ascii_grid.specs.Raster.{Terrain}
-use Rattle.ascii_grid.specs.Neighbours.{entry_at, index_of, Touches, IsDataCell}
+use Rattle.ascii_grid.specs.Neighbours.{entry_at, index_of, height_at, Touches, HasGapWhere}
 use Rattle.ascii_grid.specs.declared.place.Place.{Place}
 
 abbrev pub make_place : ℕ → ℕ → Place
@@ -54,6 +54,24 @@ index_below cols rows p a b = mul-add-lt p.row cols p.col rows a b
 abbrev pub IsBefore : Place → ℕ → ℕ → Type 0
 IsBefore q row col = (q.row < row) ⊎ ((q.row ≡ row) × (q.col < col))
 
--- the places that touch p and come before the row and the column have heights
-abbrev pub HasNoGapBefore : Terrain → Place → ℕ → ℕ → Type 0
-HasNoGapBefore t p row col = (q : Place) → Touches p q → IsBefore q row col → IsDataCell t q
+-- of the places that touch p none that comes before the row and the column is a gap
+abbrev pub HasNoGapBefore : (Place → Type 0) → Place → ℕ → ℕ → Type 0
+HasNoGapBefore is_gap p row col = (q : Place) → Touches p q → IsBefore q row col → is_gap q → ⊥
+
+-- in the first and the last row and column each place has a gap around, where what is outside is a gap
+pub gap_at_end : {G : Place → Type 0} (cols rows : ℕ) (p : Place) → ((q : Place) → (rows ≤ q.row) ⊎ (cols ≤ q.col) → G q) →
+    (p.row ≡ 0) ⊎ (p.row + 1 ≡ rows) ⊎ (p.col ≡ 0) ⊎ (p.col + 1 ≡ cols) → HasGapWhere G p
+gap_at_end cols rows p outside (inl e) = inl e
+gap_at_end cols rows p outside (inr (inl e)) = inr (inr (make_place (p.row + 1) p.col, record { row_down = omega arith; row_up = omega arith; col_right = omega arith; col_left = omega arith }, outside _ (inl (omega (arith, e)))))
+gap_at_end cols rows p outside (inr (inr (inl e))) = inr (inl e)
+gap_at_end cols rows p outside (inr (inr (inr e))) = inr (inr (make_place p.row (p.col + 1), record { row_down = omega arith; row_up = omega arith; col_right = omega arith; col_left = omega arith }, outside _ (inr (omega (arith, e)))))
+
+-- where gaps of one kind are gaps of another
+pub gap_where : {P Q : Place → Type 0} (p : Place) → ((q : Place) → Touches p q → P q → Q q) → HasGapWhere P p → HasGapWhere Q p
+gap_where p f (inl e) = inl e
+gap_where p f (inr (inl e)) = inr (inl e)
+gap_where p f (inr (inr (q, touches, gap))) = inr (inr (q, touches, f q touches gap))
+
+pub none_outside : (t : Terrain) (q : Place) → (t.rows ≤ q.row) ⊎ (t.cols ≤ q.col) → IsNone (height_at t q)
+none_outside t q (inl below) = ap is_some (entry-below t.cols t.rows t.cells q below)
+none_outside t q (inr beside) = ap is_some (entry-beside t.cols t.rows t.cells q beside)

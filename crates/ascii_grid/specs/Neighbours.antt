@@ -44,11 +44,14 @@ pub record IsNeighbour (t : Terrain) (p q : Place) : Type 0 where
   pub from_data : IsDataCell t p
   pub to_data : IsDataCell t q
 
--- At least one of the eight places around is outside the grid or has no data. A place of the first
--- row or column has one outside, to the north or the west; the others are places with numbers.
+-- At least one of the eight places around is a gap. A place of the first row or column has one outside,
+-- to the north or the west; the others are places with numbers.
+abbrev pub HasGapWhere : (Place → Type 0) → Place → Type 0
+HasGapWhere is_gap p = (p.row ≡ 0) ⊎ (p.col ≡ 0) ⊎ ((q : Place) × Touches p q × is_gap q)
+
+-- At least one of the eight places around is outside the grid or has no data.
 abbrev pub HasGapAround : Terrain → Place → Type 0
-HasGapAround t p =
-    (p.row ≡ 0) ⊎ (p.col ≡ 0) ⊎ ((q : Place) × Touches p q × IsNone (height_at t q))
+HasGapAround t p = HasGapWhere (λ q. IsNone (height_at t q)) p
 
 -- A data cell with a gap around it.
 abbrev pub IsEdge : Terrain → Place → Type 0

@@ -6,7 +6,7 @@ use Rattle.ascii_grid.specs.Raster.{Terrain}
 use Rattle.ascii_grid.specs.Neighbours.{height_at, entry_at, HasGapAround, height_of}
 use Rattle.drainage.specs.Filled.{IsPath, crest, IsFilledHeight, IsFilled}
 use Rattle.ascii_grid.specs.declared.place.Place.{Place}
-use Rattle.ascii_grid.proofs.Places.{entry-below, entry-beside, inside_from_entry}
+use Rattle.ascii_grid.proofs.Places.{entry-below, entry-beside, inside_from_entry, gap_where}
 use Rattle.drainage.proofs.Uniqueness.{between}
 use Rattle.drainage.proofs.Heights.{max_right, max_least, first_is_data, height_below_crest, trans}
 
@@ -55,10 +55,7 @@ data_level t levels h p (Some x) e d = level_at t levels h p x e
 
 -- paths stay paths
 gap_again : (t : Terrain) (levels : List (Option ℤ)) → IsFilled t levels → (p : Place) → HasGapAround t p → HasGapAround (refilled t levels) p
-gap_again t levels h p gap = elim gap [
-  | inl e ↦ inl e
-  | inr more ↦ elim more [ inl e ↦ inr (inl e) | inr g ↦ inr (inr (g.0, g.1, same_data t levels h g.0 ∙ g.2)) ]
-]
+gap_again t levels h p gap = gap_where p (λ q _ none. same_data t levels h q ∙ none) gap
 
 path_again : (t : Terrain) (levels : List (Option ℤ)) → IsFilled t levels → (p : Place) (rest : List Place) → IsPath t p rest → IsPath (refilled t levels) p rest
 path_again t levels h p [] path = (same_data t levels h p ∙ path.0, gap_again t levels h p path.1)

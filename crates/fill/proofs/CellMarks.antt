@@ -1,11 +1,10 @@
 -- What the floods say of cells, and the joins of cells amid a tile.
-use Rattle.std.proofs.Common.{◌≡◌, ℕ, ◌+◌, ◌-◌, ◌*◌, ◌<◌, ◌≤◌, ◌⊎◌, inl, inr, ℤ, true, List, length, get_or, Option, None, Some, ◌∙◌, sym, ap, subst, refl, arith, ◌/◌, ◌%◌}
+use Rattle.std.proofs.Common.{◌≡◌, ℕ, ◌+◌, ◌-◌, ◌*◌, ◌<◌, ◌≤◌, inl, inr, ℤ, true, List, length, get_or, Option, None, Some, ◌∙◌, sym, ap, subst, refl, arith, ◌/◌, ◌%◌}
 use Rattle.std.specs.Prelude.{slice_get, option_and_then, slice_index_or, MatchOption}
-use Rattle.std.proofs.lemmas.Bool.{cond-false, cases_Bool, cases_eq, cases_lt}
+use Rattle.std.proofs.lemmas.Bool.{cond-false, cases_Bool, cases_eq}
 use Rattle.std.proofs.lemmas.List.{get_or-map}
 use Rattle.std.proofs.lemmas.Option.{MatchOption-at_some, MatchOption-at_none, same_Some, slice_get_within}
-use Rattle.ascii_grid.specs.Neighbours.{index_of, Touches}
-use Rattle.ascii_grid.proofs.Places.{IsBefore}
+use Rattle.ascii_grid.specs.Neighbours.{index_of}
 use Rattle.ascii_grid.specs.declared.place.Place.{Place}
 use Rattle.tiles.specs.declared.bounds.Bounds.{Bounds}
 use Rattle.tiles.specs.Cutting.{Cutting, IsCutting, IsWithin, IsInTile, IsInBounds, tile_count, tile_of_place, bounds_of}
@@ -15,6 +14,11 @@ use Rattle.fill.specs.Labels.{labels_by}
 use Rattle.fill.specs.Gathering.{Fit, mark_of, mark_among, Meets, Adds, mark_with, joins_of, AddsAround, AddsCovered}
 use Rattle.fill.specs.declared.spills.Join.{Join}
 use Rattle.fill.specs.declared.marks.Mark.{Mark}
+use Rattle.std.proofs.lemmas.Nat.{mul-le}
+use Rattle.std.proofs.lemmas.List.Elements.{All-contains}
+use Rattle.fill.specs.Cells.{cells_around}
+use Rattle.fill.proofs.CellWays.{beside_around}
+use Rattle.fill.proofs.Windows.{rows_beside}
 use Rattle.fill.proofs.Steps.{seen}
 use Rattle.fill.proofs.Adding.{covered_itself, joins_of_is, HasAdded, none_added, added_more, all_added, no_mark_adds}
 use Rattle.fill.proofs.TileWindows.{in_bounds_parts, bounds_from_entry, entry_in-inside, entry_index}
@@ -65,48 +69,21 @@ mark_outside c floods p h fit outside = elim (seen (slice_get floods (tile_of_pl
 pub held : (c : Cutting) (floods : List Flood) (tile : ℕ) (f : Flood) (p : Place) → IsCutting c → Fit c floods → tile < tile_count c → slice_get floods tile ≡ Some f → is_in_bounds f.bounds p ≡ true → IsInTile c tile p
 held c floods tile f p h fit below e inside = in_tile c tile p h below (subst (λ b. IsInBounds b p) (fit.bounds tile f e) (in_bounds_parts f.bounds p inside))
 
--- The places that touch p and come before the row and the column have marks.
-abbrev pub HasNoGapBefore : Cutting → List Flood → Place → ℕ → ℕ → Type 0
-HasNoGapBefore c floods p row col = (q : Place) → Touches p q → IsBefore q row col → mark_among c floods q ≡ None → ⊥
-
--- a row or column that differs by at most 1
-one_of_three : (a b : ℕ) → a ≤ b + 1 → b ≤ a + 1 → (b + 1 ≡ a) ⊎ (b ≡ a) ⊎ (b ≡ a + 1)
-one_of_three a b low high = elim (cases_lt b a) [
-  | inl below ↦ inl (omega arith)
-  | inr past ↦ elim (cases_eq b a) [
-    | inl same ↦ inr (inl same)
-    | inr other ↦ inr (inr (omega (arith, other)))
-  ]
-]
-
 -- an entry that is equal to those around it, at each of their rows and columns
 equal_near : (xs : List ℕ) (w r c s d : ℕ) → 1 ≤ r → 1 ≤ c → AreEqualAround xs (r * w + c) w → r ≤ s + 1 → s ≤ r + 1 → c ≤ d + 1 → d ≤ c + 1 → get_or xs (s * w + d) 0 ≡ get_or xs (r * w + c) 0
-equal_near xs w r c s d one_row one_col e up down left right =
-    elim (one_of_three r s up down) [
-      | inl before ↦
-          let rows : s * w + w ≡ r * w = omega (arith, ap (λ n. n * w) before) in
-          elim (one_of_three c d left right) [
-            | inl west ↦ let i : s * w + d ≡ r * w + c - w - 1 = omega (arith, rows, west) in at _ _ i ∙ e.north_west
-            | inr (inl same) ↦ let i : s * w + d ≡ r * w + c - w = omega (arith, rows, same) in at _ _ i ∙ e.north
-            | inr (inr east) ↦ let i : s * w + d ≡ r * w + c - w + 1 = omega (arith, rows, east) in at _ _ i ∙ e.north_east
-          ]
-      | inr (inl level) ↦
-          let rows : s * w ≡ r * w = ap (λ n. n * w) level in
-          elim (one_of_three c d left right) [
-            | inl west ↦ let i : s * w + d ≡ r * w + c - 1 = omega (arith, rows, west) in at _ _ i ∙ e.west
-            | inr (inl same) ↦ let i : s * w + d ≡ r * w + c = omega (arith, rows, same) in at _ _ i
-            | inr (inr east) ↦ let i : s * w + d ≡ r * w + c + 1 = omega (arith, rows, east) in at _ _ i ∙ e.east
-          ]
-      | inr (inr after) ↦
-          let rows : s * w ≡ r * w + w = omega (arith, ap (λ n. n * w) after) in
-          elim (one_of_three c d left right) [
-            | inl west ↦ let i : s * w + d ≡ r * w + c + w - 1 = omega (arith, rows, west) in at _ _ i ∙ e.south_west
-            | inr (inl same) ↦ let i : s * w + d ≡ r * w + c + w = omega (arith, rows, same) in at _ _ i ∙ e.south
-            | inr (inr east) ↦ let i : s * w + d ≡ r * w + c + w + 1 = omega (arith, rows, east) in at _ _ i ∙ e.south_east
-          ]
-    ] where
-      at : (i j : ℕ) → i ≡ j → get_or xs i 0 ≡ get_or xs j 0
-      at i j same = ap (λ n. get_or xs n 0) same
+equal_near xs w r c s d one_row one_col e up down left right = elim (cases_eq r s) [
+  | inl row ↦ elim (cases_eq c d) [
+    | inl col ↦ ap (λ n. get_or xs n 0) (ap (λ n. n * w + d) (sym row) ∙ ap (λ n. r * w + n) (sym col))
+    | inr other ↦ beside (λ _. other)
+  ]
+  | inr other ↦ beside (λ row _. other row)
+] where
+  above : w < r * w + c
+  above = omega (arith, one_col, mul-le 1 w r w one_row (omega arith))
+
+  beside : (r ≡ s → c ≡ d → ⊥) → get_or xs (s * w + d) 0 ≡ get_or xs (r * w + c) 0
+  beside differ = All-contains (λ k. get_or xs k 0 ≡ get_or xs (r * w + c) 0) (cells_around w (r * w + c)) (s * w + d) e
+      (beside_around w (r * w + c) (s * w + d) above (rows_beside w r c s d down up right left differ))
 
 -- labels by their entries
 pub label_by_entry : (b : Bounds) (places : List (Option Place)) (cells : List ℕ) (p : Place) → length cells ≡ b.rows * b.cols → IsInBounds b p → entry_in b (labels_by places cells) p ≡ get_or places (get_or cells ((p.row - b.top) * b.cols + (p.col - b.left)) 0) None

@@ -3,6 +3,7 @@ use Rattle.std.proofs.Common.{◌≡◌, ℕ, ◌+◌, ◌-◌, ◌<◌, ◌⊎�
 use Rattle.std.specs.Int.{int_max}
 use Rattle.std.specs.List.{Contains, All, filter_map, cons_option}
 use Rattle.std.proofs.lemmas.Option.{same_Some}
+use Rattle.std.proofs.lemmas.Grind.{elements}
 use Rattle.std.proofs.lemmas.List.{take_more, append-nil}
 use Rattle.std.proofs.lemmas.List.Elements.{filter_map-append, All-cons, All-nil, All-contains}
 use Rattle.fill.specs.declared.net.Spill.{Spill}
@@ -121,15 +122,9 @@ no_ways n a none = record {
 }
 
 -- eight numbers that all give something
+read_eight : (xs : List ℕ) → length xs ≡ 8 → xs ≡ get_or xs 0 0 ∷ get_or xs 1 0 ∷ get_or xs 2 0 ∷ get_or xs 3 0 ∷ get_or xs 4 0 ∷ get_or xs 5 0 ∷ get_or xs 6 0 ∷ get_or xs 7 0 ∷ []
+read_eight xs eight = grind (arith, elements)
+
 pub eight_given : {Y : Type 0} (f : ℕ → Option Y) (xs : List ℕ) (a b c d e g h i : Y) → length xs ≡ 8 → f (get_or xs 0 0) ≡ Some a → f (get_or xs 1 0) ≡ Some b → f (get_or xs 2 0) ≡ Some c → f (get_or xs 3 0) ≡ Some d → f (get_or xs 4 0) ≡ Some e → f (get_or xs 5 0) ≡ Some g → f (get_or xs 6 0) ≡ Some h → f (get_or xs 7 0) ≡ Some i → a ∷ b ∷ c ∷ d ∷ e ∷ g ∷ h ∷ i ∷ [] ≡ filter_map f xs
-eight_given f (o ∷ p ∷ q ∷ r ∷ s ∷ t ∷ u ∷ v ∷ []) a b c d e g h i eight first second third fourth fifth sixth seventh eighth =
-    rw (first, second, third, fourth, fifth, sixth, seventh, eighth) refl
-eight_given f (o ∷ p ∷ q ∷ r ∷ s ∷ t ∷ u ∷ v ∷ w ∷ rest) a b c d e g h i eight first second third fourth fifth sixth seventh eighth = absurd (omega arith)
-eight_given f (o ∷ p ∷ q ∷ r ∷ s ∷ t ∷ u ∷ []) a b c d e g h i eight first second third fourth fifth sixth seventh eighth = absurd (omega arith)
-eight_given f (o ∷ p ∷ q ∷ r ∷ s ∷ t ∷ []) a b c d e g h i eight first second third fourth fifth sixth seventh eighth = absurd (omega arith)
-eight_given f (o ∷ p ∷ q ∷ r ∷ s ∷ []) a b c d e g h i eight first second third fourth fifth sixth seventh eighth = absurd (omega arith)
-eight_given f (o ∷ p ∷ q ∷ r ∷ []) a b c d e g h i eight first second third fourth fifth sixth seventh eighth = absurd (omega arith)
-eight_given f (o ∷ p ∷ q ∷ []) a b c d e g h i eight first second third fourth fifth sixth seventh eighth = absurd (omega arith)
-eight_given f (o ∷ p ∷ []) a b c d e g h i eight first second third fourth fifth sixth seventh eighth = absurd (omega arith)
-eight_given f (o ∷ []) a b c d e g h i eight first second third fourth fifth sixth seventh eighth = absurd (omega arith)
-eight_given f [] a b c d e g h i eight first second third fourth fifth sixth seventh eighth = absurd (omega arith)
+eight_given f xs a b c d e g h i eight first second third fourth fifth sixth seventh eighth =
+    rw (read_eight xs eight) (rw (first, second, third, fourth, fifth, sixth, seventh, eighth) refl)

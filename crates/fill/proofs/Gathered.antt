@@ -9,7 +9,7 @@ use Rattle.std.proofs.lemmas.List.Elements.{All-contains}
 use Rattle.ascii_grid.specs.Raster.{Terrain}
 use Rattle.ascii_grid.specs.Neighbours.{height_at, index_of, IsDataCell, IsEdge, HasGapAround}
 use Rattle.ascii_grid.specs.declared.place.Place.{Place}
-use Rattle.ascii_grid.proofs.Places.{same_place, index_below}
+use Rattle.ascii_grid.proofs.Places.{same_place, index_below, gap_where}
 use Rattle.tiles.specs.Cutting.{Cutting, IsCutting, IsWithin, IsInTile, IsInBounds, bounds_of, tile_count, tile_of_place}
 use Rattle.tiles.proofs.Cut.{tile_of_place_below, in_bounds}
 use Rattle.tiles.specs.declared.bounds.Bounds.{Bounds}
@@ -205,31 +205,19 @@ meets_pass t c floods p q j h are m =
 
 -- gaps among the marks are gaps in the data
 gap_of : (t : Terrain) (c : Cutting) (floods : List Flood) (p : Place) → IsCutting c → AreFloods t c floods → HasGapAround t p → HasGapAmong c floods p
-gap_of t c floods p h are (inl e) = inl e
-gap_of t c floods p h are (inr (inl e)) = inr (inl e)
-gap_of t c floods p h are (inr (inr (q, touches, none))) = inr (inr (
-  q,
-  touches,
-  elim (seen (mark_among c floods q)) [
-    | inl no_mark ↦ no_mark
-    | inr found ↦
-        let within = marked_within c floods q found.0 h (fit_of t c floods h are) found.1 in
-        let parts = mark_parts c.cols (level_among c floods q) (label_among c floods q) found.0 found.1 in
-        none_done (height_at t q) (not_some _ none) (level_has_data t c floods h are q found.0.level within parts.1)
-  ],
-))
+gap_of t c floods p h are gap = gap_where p (λ q _ none. elim (seen (mark_among c floods q)) [
+  | inl no_mark ↦ no_mark
+  | inr found ↦
+      let within = marked_within c floods q found.0 h (fit_of t c floods h are) found.1 in
+      let parts = mark_parts c.cols (level_among c floods q) (label_among c floods q) found.0 found.1 in
+      none_done (height_at t q) (not_some _ none) (level_has_data t c floods h are q found.0.level within parts.1)
+]) gap
 
 gap_back : (t : Terrain) (c : Cutting) (floods : List Flood) (p : Place) → IsCutting c → AreFloods t c floods → HasGapAmong c floods p → HasGapAround t p
-gap_back t c floods p h are (inl e) = inl e
-gap_back t c floods p h are (inr (inl e)) = inr (inl e)
-gap_back t c floods p h are (inr (inr (q, touches, none))) = inr (inr (
-  q,
-  touches,
-  elim (seen (height_at t q)) [
-    | inl no_height ↦ ap is_some no_height
-    | inr found ↦ none_some _ _ none (mark_is t c floods q (has_tile_level t c floods h are q (ap is_some found.1)) _ refl)
-  ],
-))
+gap_back t c floods p h are gap = gap_where p (λ q _ none. elim (seen (height_at t q)) [
+  | inl no_height ↦ ap is_some no_height
+  | inr found ↦ none_some _ _ none (mark_is t c floods q (has_tile_level t c floods h are q (ap is_some found.1)) _ refl)
+]) gap
 
 -- the sources are those of the graph
 source_place : (c : Cutting) (p : Place) → IsWithin c p → record { row = index_of c.cols p / c.cols; col = index_of c.cols p % c.cols } ≡ p

@@ -1,15 +1,15 @@
 -- Floods of the net of a window: of a whole grid, of a tile, and of a tile of one cell.
-use Rattle.std.proofs.Common.{◌≡◌, ℕ, zero, suc, ◌+◌, ◌-◌, ◌*◌, ◌<◌, ◌≤◌, inl, inr, ℤ, List, [], ◌∷◌, length, get_or, take, drop, Option, None, is_some, ◌∙◌, sym, ap, arith, length-append, length-drop, length-take-le, true, map, Some, subst, refl, ◌≤ℤ◌}
+use Rattle.std.proofs.Common.{◌⊎◌, ◌≡◌, ℕ, zero, suc, ◌+◌, ◌-◌, ◌*◌, ◌<◌, ◌≤◌, inl, inr, ℤ, List, [], ◌∷◌, length, get_or, take, drop, Option, None, is_some, ◌∙◌, sym, ap, arith, length-append, length-drop, length-take-le, true, map, Some, subst, refl, ◌≤ℤ◌}
 use Rattle.std.proofs.lemmas.Bool.{cases_eq, and_from, and_parts, or_cases, or_left, or_right, cond-true, cond-false, le-leb, lt-ltb, leb-true, ltb-true, eqb-true, eq-eqb, cases_Bool, cases_lt}
 use Rattle.std.proofs.lemmas.Nat.{mul-add-lt, div-mul-add, mod-mul-add}
 use Rattle.std.proofs.lemmas.List.{get_or_append_left, get_or-append_right, get_or-drop, get_or-take, get_or-map, length-map, get_or_past}
 use Rattle.std.proofs.lemmas.Slice.{between_is}
 use Rattle.std.specs.Prelude.{slice_range}
 use Rattle.ascii_grid.specs.Raster.{Terrain}
-use Rattle.ascii_grid.specs.Neighbours.{height_at, entry_at, IsDataCell, IsEdge, HasGapAround}
+use Rattle.ascii_grid.specs.Neighbours.{height_at, entry_at, IsDataCell, IsEdge}
 use Rattle.drainage.specs.Filled.{IsPath, IsFilledHeight, IsFilled, crest}
 use Rattle.ascii_grid.specs.declared.place.Place.{Place}
-use Rattle.ascii_grid.proofs.Places.{entry-inside, entry-below, entry-beside, make_place, same_place}
+use Rattle.ascii_grid.proofs.Places.{gap_at_end, none_outside, entry-inside, same_place}
 use Rattle.drainage.proofs.Reach.{data_inside}
 use Rattle.tiles.specs.Cutting.{IsInBounds, Cutting, IsCutting, View, IsView, AreBounds, IsInTile, IsWithin, tile_count, bounds_of, is_on_rim, is_first_or_last, row_shown, terrain_of}
 use Rattle.fill.specs.Walk.{IsFlooded, IsWalk, end_of}
@@ -65,20 +65,12 @@ inner_rows_at list cols (suc count) h r c below inside =
 
 -- the rim of the whole terrain is its edge
 rim_is_edge : (t : Terrain) (p : Place) → IsInBounds (whole t) p → IsWindowSource t (whole t) p → IsEdge t p
-rim_is_edge t p inside source = (source.0, elim source.1 [ inl rim ↦ at rim | inr gap ↦ gap ]) where
-  at : IsOnRim (whole t) p → HasGapAround t p
+rim_is_edge t p inside source = (source.0, elim source.1 [ inl rim ↦ gap_at_end t.cols t.rows p (none_outside t) (at rim) | inr gap ↦ gap ]) where
+  at : IsOnRim (whole t) p → (p.row ≡ 0) ⊎ (p.row + 1 ≡ t.rows) ⊎ (p.col ≡ 0) ⊎ (p.col + 1 ≡ t.cols)
   at (inl e) = inl e
-  at (inr (inl e)) = inr (inr (
-    make_place (p.row + 1) p.col,
-    record { row_down = omega arith; row_up = omega arith; col_right = omega arith; col_left = omega arith },
-    ap is_some (entry-below t.cols t.rows t.cells (make_place (p.row + 1) p.col) (omega (arith, e))),
-  ))
-  at (inr (inr (inl e))) = inr (inl e)
-  at (inr (inr (inr e))) = inr (inr (
-    make_place p.row (p.col + 1),
-    record { row_down = omega arith; row_up = omega arith; col_right = omega arith; col_left = omega arith },
-    ap is_some (entry-beside t.cols t.rows t.cells (make_place p.row (p.col + 1)) (omega (arith, e))),
-  ))
+  at (inr (inl e)) = inr (inl (omega arith))
+  at (inr (inr (inl e))) = inr (inr (inl e))
+  at (inr (inr (inr e))) = inr (inr (inr (omega arith)))
 
 data_in_window : (t : Terrain) (p : Place) → IsDataCell t p → IsInBounds (whole t) p
 data_in_window t p some = let inside = data_inside t p some in (omega arith, omega (arith, inside), omega arith, omega (arith, inside))

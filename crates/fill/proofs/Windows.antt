@@ -53,7 +53,7 @@ same_row s r c d up down differ = elim (cases_order c d) [
   | inr other ↦ elim other [ inl less ↦ inl (inl (omega arith)) | inr more ↦ inr (inl (omega arith)) ]
 ]
 
-rows_beside : (s r c q d : ℕ) → q ≤ r + 1 → r ≤ q + 1 → d ≤ c + 1 → c ≤ d + 1 → (r ≡ q → c ≡ d → ⊥) → IsBeside s (r * s + c) (q * s + d)
+pub rows_beside : (s r c q d : ℕ) → q ≤ r + 1 → r ≤ q + 1 → d ≤ c + 1 → c ≤ d + 1 → (r ≡ q → c ≡ d → ⊥) → IsBeside s (r * s + c) (q * s + d)
 rows_beside s r c q d up down right left differ = elim (cases_order r q) [
   | inl same ↦ subst (λ (n : ℕ). IsBeside s (r * s + c) (n * s + d)) same (same_row s r c d right left (differ same))
   | inr other ↦ elim other [

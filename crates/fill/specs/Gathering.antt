@@ -2,7 +2,7 @@
 use Rattle.std.specs.Prelude.{◌≡◌, ◌≢◌, ℕ, ◌+◌, ◌-◌, ◌*◌, ◌/◌, ◌%◌, ◌<◌, ◌⊎◌, ◌==◌, if◌then◌else◌, ℤ, ◌≤ℤ◌, List, [], ◌∷◌, length, Option, None, Some, IsSome, MatchOption, slice_get, slice_index_or}
 use Rattle.std.specs.Int.{int_max}
 use Rattle.std.specs.List.{Contains}
-use Rattle.ascii_grid.specs.Neighbours.{index_of, Touches}
+use Rattle.ascii_grid.specs.Neighbours.{index_of, Touches, HasGapWhere}
 use Rattle.ascii_grid.specs.declared.place.Place.{Place}
 use Rattle.tiles.specs.Cutting.{Cutting, IsWithin, tile_count, bounds_of}
 use Rattle.fill.specs.TileFlood.{Flood, LabelsInside}
@@ -112,7 +112,7 @@ pub record AreGathered (c : Cutting) (floods : List Flood) (places : Place → T
 
 -- A place outside or without data touches the place.
 abbrev pub HasGapAmong : Cutting → List Flood → Place → Type 0
-HasGapAmong c floods p = (p.row ≡ 0) ⊎ (p.col ≡ 0) ⊎ ((q : Place) × Touches p q × (mark_among c floods q ≡ None))
+HasGapAmong c floods p = HasGapWhere (λ q. mark_among c floods q ≡ None) p
 
 -- The place is its own label, with a gap around it.
 pub record IsSpillSource (c : Cutting) (floods : List Flood) (p : Place) (height : ℤ) : Type 0 where

@@ -1,10 +1,12 @@
 -- Levels and labels inside one tile.
 use Rattle.std.specs.Prelude.{◌≡◌, ℕ, ◌+◌, ◌-◌, ◌*◌, ◌≤◌, ◌<◌, ◌⊎◌, ℤ, ◌≤ℤ◌, Bool, ◌&&◌, nat_le, nat_lt, if◌then◌else◌, List, [], ◌∷◌, length, Option, None, Some, IsTrue, MatchOption, slice_index_or}
+use Rattle.std.specs.List.{All}
 use Rattle.ascii_grid.specs.Raster.{Terrain}
 use Rattle.ascii_grid.specs.Neighbours.{height_at, IsDataCell, IsNeighbour, IsEdge, Touches}
 use Rattle.drainage.specs.Filled.{crest}
 use Rattle.ascii_grid.specs.declared.place.Place.{Place}
 use Rattle.tiles.specs.declared.bounds.Bounds.{Bounds}
+use Rattle.fill.specs.Cells.{cells_around}
 use Rattle.tiles.specs.Cutting.{Cutting, IsWithin, tile_of_place, bounds_of, is_on_rim, IsInBounds, IsInTile, cell_count}
 
 -- A data cell on the rim of its tile, or an edge cell.
@@ -57,15 +59,8 @@ abbrev pub HasOneLabelAround : Flood → Place → Type 0
 HasOneLabelAround f p = (q : Place) → Touches p q → IsInBounds f.bounds q × (label_in f q ≡ label_in f p)
 
 -- The entry is equal to the eight around it in rows of this width.
-pub record AreEqualAround (xs : List ℕ) (i width : ℕ) : Type 0 where
-  pub west : slice_index_or xs (i - 1) 0 ≡ slice_index_or xs i 0
-  pub east : slice_index_or xs (i + 1) 0 ≡ slice_index_or xs i 0
-  pub north_west : slice_index_or xs (i - width - 1) 0 ≡ slice_index_or xs i 0
-  pub north : slice_index_or xs (i - width) 0 ≡ slice_index_or xs i 0
-  pub north_east : slice_index_or xs (i - width + 1) 0 ≡ slice_index_or xs i 0
-  pub south_west : slice_index_or xs (i + width - 1) 0 ≡ slice_index_or xs i 0
-  pub south : slice_index_or xs (i + width) 0 ≡ slice_index_or xs i 0
-  pub south_east : slice_index_or xs (i + width + 1) 0 ≡ slice_index_or xs i 0
+abbrev pub AreEqualAround : List ℕ → ℕ → ℕ → Type 0
+AreEqualAround xs i width = All (λ k. slice_index_or xs k 0 ≡ slice_index_or xs i 0) (cells_around width i)
 
 -- What holds of every flood of a tile.
 pub record IsFlood (f : Flood) : Type 0 where

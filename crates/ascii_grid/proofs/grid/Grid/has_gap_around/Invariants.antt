@@ -1,8 +1,10 @@
+use Rattle.std.specs.Prelude.{IsNone}
+use Rattle.ascii_grid.specs.Neighbours.{height_at}
 use Rattle.ascii_grid.proofs.Places.{HasNoGapBefore}
 use Rattle.ascii_grid.proofs.grid.Grid.has_gap_around.Given as goal
 
 abbrev pub invariant-loop-col : goal.invariant-loop-col
-invariant-loop-col l = HasNoGapBefore l.self.terrain l.place l.row l.col
+invariant-loop-col l = HasNoGapBefore (λ q. IsNone (height_at l.self.terrain q)) l.place l.row l.col
 
 abbrev pub invariant-loop-row : goal.invariant-loop-row
-invariant-loop-row l = HasNoGapBefore l.self.terrain l.place l.row 0
+invariant-loop-row l = HasNoGapBefore (λ q. IsNone (height_at l.self.terrain q)) l.place l.row 0
