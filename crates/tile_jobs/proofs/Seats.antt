@@ -44,9 +44,6 @@ kept_own s o h k = record {
   others_are = rw (k.0.1, k.0.2) h.others_are;
 }
 
-bounded_own : (s : SeatState) → IsSeat s → length (of s.number s.own.seats s.taken) ≤ length (deal s.own.jobs s.own.seats s.number)
-bounded_own s h = rw (← h.own_is.3) h.own_is.4
-
 bounded_other : (s : SeatState) → IsSeat s → (k : ℕ) → k < length s.others → length (of (skip s.number k) s.own.seats s.taken) ≤ length (deal s.own.jobs s.own.seats (skip s.number k))
 bounded_other s h k low = let was = h.others_are k s.own low in rw (← was.3) was.4
 
@@ -55,7 +52,7 @@ bounded s h v low =
     let below = h.below in
     let count = h.count in
     elim (cases_eq v s.number) [
-      | inl e ↦ rw e (bounded_own s h)
+      | inl e ↦ rw (e, ← h.own_is.3) h.own_is.4
       | inr far ↦ let at = skip_onto s.number v (length s.others) (omega arith) far (omega arith) in rw (← at.2) (bounded_other s h at.0 at.1)
     ]
 
