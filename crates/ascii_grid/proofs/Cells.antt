@@ -56,9 +56,6 @@ pub meaning_nothing : (b : Bool) (c : Option ℤ) → cond b (Cell c) Nothing �
 meaning_nothing true c e = cc
 meaning_nothing false c e = refl
 
-pub height_between : (z : ℤ) → int_le (negsuc 999999999) z ≡ true → int_le z (pos 1000000000) ≡ true → is_height z ≡ true
-height_between z low high = rw (low, high) refl
-
 height_abs : (z : ℤ) → int_le (negsuc 999999999) z ≡ true → int_le z (pos 1000000000) ≡ true → unsigned_abs z < 2 ^ 31
 height_abs (pos n) low high = let k = leb-true n 1000000000 high in omega (arith, k)
 height_abs (negsuc n) low high = let k = leb-true n 999999999 low in omega (arith, k)

@@ -14,9 +14,6 @@ div_pow n k = div-div-eq-div-mul n 10 (10 ^ k) ∙ ap (λ m. n / m) (sym (pow-su
 pub div_pow_last : (n k : ℕ) → n / 10 ^ k / 10 ≡ n / 10 ^ (k + 1)
 div_pow_last n k = div-div-eq-div-mul n (10 ^ k) 10 ∙ ap (λ m. n / m) (let e : 10 ^ k * 10 ≡ 10 ^ (k + 1) = rw (add-one, pow-succ') (omega arith) in e)
 
-pub div_pow_none : (n : ℕ) → n / 10 ^ 0 ≡ n
-div_pow_none n = div-one n
-
 -- the first of the last digits stands alone
 pub last_digits-front : (k n : ℕ) → last_digits (suc k) n ≡ (48 + n / 10 ^ k % 10) ∷ last_digits k n
 last_digits-front zero n = ap (λ m. (48 + m % 10) ∷ []) (sym (div-one n))
@@ -24,16 +21,13 @@ last_digits-front (suc k) n =
     ap (λ ds. ds ++ (48 + n % 10) ∷ []) (last_digits-front k (n / 10))
     ∙ ap (λ m. (48 + m % 10) ∷ last_digits (suc k) n) (div_pow n k)
 
-pub last_digits_more : (k n : ℕ) → last_digits (k + 1) n ≡ (48 + n / 10 ^ k % 10) ∷ last_digits k n
-last_digits_more k n = rw add-one (last_digits-front k n)
-
 -- one digit more in the buffer
 pub digit_before : (k n left at : ℕ) (buffer : List ℕ) → left ≡ n / 10 ^ k → at < length buffer → drop (at + 1) buffer ≡ last_digits k n → drop at (set buffer at (48 + left % 10)) ≡ last_digits (k + 1) n
 digit_before k n left at buffer e h d =
     drop-set_at buffer at at (48 + left % 10) refl h
     ∙ ap (λ ds. (48 + left % 10) ∷ ds) d
     ∙ ap (λ m. (48 + m % 10) ∷ last_digits k n) e
-    ∙ sym (last_digits_more k n)
+    ∙ sym (rw add-one (last_digits-front k n))
 
 -- a number of 32 bits has at most ten digits
 pub few_digits : (n : ℕ) → n < 2 ^ 32 → length (decimal n) ≤ 10

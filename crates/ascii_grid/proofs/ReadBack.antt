@@ -151,13 +151,6 @@ grid_with d header heights =
     raster (size_for Ncols header) (size_for Nrows header) xll.centre xll.word yll.centre yll.word
     (word_for Cellsize header) (nodata_for header) d (map (cell_of d (nodata_for header)) heights)
 
--- what a text's header and heights make, its words being known
-with_words : {Y : Type 0} (f : List Word → List Word → Y) (ws whole header heights : List Word) → ws ≡ whole → header_words whole ≡ header → height_words whole ≡ heights → f (header_words ws) (height_words ws) ≡ f header heights
-with_words f ws whole header heights a b c =
-    ap (λ (z : List Word). f (header_words z) (height_words z)) a
-    ∙ ap (λ (z : List Word). f z (height_words whole)) b
-    ∙ ap (λ (z : List Word). f header z) c
-
 -- the cells' words of a grid's text
 abbrev words_of_cells : Raster → List Word
 words_of_cells g = map (cell_text (height_text g.scale) g.nodata) g.terrain.cells
@@ -165,10 +158,8 @@ words_of_cells g = map (cell_text (height_text g.scale) g.nodata) g.terrain.cell
 text_with : {Y : Type 0} (f : List Word → List Word → Y) (g : Raster) → IsLawful g → f (header_words (words (heights_text g))) (height_words (words (heights_text g))) ≡ f (header_of g []) (words_of_cells g)
 text_with f g h =
     let cells = cells_are_heights g.scale g.nodata g.terrain.cells (all_read g h) in
-    with_words f (words (heights_text g)) (header_of g (words_of_cells g)) (header_of g []) (words_of_cells g)
-    (words_are g h)
-    (header_is g.xll.centre g.yll.centre g (words_of_cells g) cells.0)
-    (heights_are g.xll.centre g.yll.centre g (words_of_cells g) cells.1)
+    ap (λ (z : List Word). f (header_words z) (height_words z)) (words_are g h)
+    ∙ rw (header_is g.xll.centre g.yll.centre g (words_of_cells g) cells.0, heights_are g.xll.centre g.yll.centre g (words_of_cells g) cells.1) refl
 
 gives_of : (g : Raster) → Gives g.xll.centre g.yll.centre g (header_of g [])
 gives_of g = header_gives g.xll.centre g.yll.centre g

@@ -24,20 +24,17 @@ body d n = decimal (n / 10 ^ d) ++ decimals_text d n
 whole_small : (d n : ℕ) → n < 2 ^ 64 → n / 10 ^ d < 2 ^ 64
 whole_small d n h = omega (arith, h, div-le_self n (10 ^ d))
 
-no_mark : (bs : List ℕ) → list_all is_ascii_digit bs ≡ true → list_any is_exponent_mark bs ≡ false
-no_mark bs h = any-digits is_exponent_mark bs no_exponent h
-
 whole_no_point : (d n : ℕ) → n < 2 ^ 64 → list_any is_point (decimal (n / 10 ^ d)) ≡ false
 whole_no_point d n h = any-digits is_point (decimal (n / 10 ^ d)) no_point (decimal_digits (n / 10 ^ d) (whole_small d n h))
 
 decimals_no_mark : (d n : ℕ) → list_any is_exponent_mark (decimals_text d n) ≡ false
 decimals_no_mark zero n = refl
-decimals_no_mark (suc d) n = no_mark (last_digits (suc d) n) (last_digits_digits (suc d) n)
+decimals_no_mark (suc d) n = any-digits is_exponent_mark (last_digits (suc d) n) no_exponent (last_digits_digits (suc d) n)
 
 body_no_mark : (d n : ℕ) → n < 2 ^ 64 → list_any is_exponent_mark (body d n) ≡ false
 body_no_mark d n h =
     list_any-append is_exponent_mark (decimal (n / 10 ^ d)) (decimals_text d n)
-    ∙ or_from _ _ (no_mark (decimal (n / 10 ^ d)) (decimal_digits (n / 10 ^ d) (whole_small d n h))) (decimals_no_mark d n)
+    ∙ or_from _ _ (any-digits is_exponent_mark (decimal (n / 10 ^ d)) no_exponent (decimal_digits (n / 10 ^ d) (whole_small d n h))) (decimals_no_mark d n)
 
 body_whole : (d n : ℕ) → n < 2 ^ 64 → before_first is_point (body d n) ≡ decimal (n / 10 ^ d)
 body_whole zero n h =
@@ -63,11 +60,8 @@ length-body d n h =
     omega (arith, whole, length-decimals d n, length-append (decimal (n / 10 ^ d)) (decimals_text d n))
 
 -- it begins with a digit
-whole_some : (d n : ℕ) → n < 2 ^ 64 → 0 < length (decimal (n / 10 ^ d))
-whole_some d n h = decimal_nonempty (n / 10 ^ d) (whole_small d n h)
-
 body_unsigned : (d n : ℕ) → n < 2 ^ 64 → (without_sign (body d n) ≡ body d n) × (is_negative (body d n) ≡ false)
-body_unsigned d n h = bare_digits (decimal (n / 10 ^ d)) (decimals_text d n) (whole_some d n h) (decimal_digits (n / 10 ^ d) (whole_small d n h))
+body_unsigned d n h = bare_digits (decimal (n / 10 ^ d)) (decimals_text d n) (decimal_nonempty (n / 10 ^ d) (whole_small d n h)) (decimal_digits (n / 10 ^ d) (whole_small d n h))
 
 -- a word that is such a text but for its sign
 pub record IsWritten (d n : ℕ) (w : Word) : Type 0 where
@@ -89,7 +83,7 @@ written_decimal d n w h =
     and_from (are_digits (whole_part w ++ fraction w)) (not (has_exponent w) || are_digits (without_sign (after_first is_exponent_mark w)))
     (ap (λ z. are_digits (z ++ fraction w)) (whole_is d n w h)
     ∙ ap (λ z. are_digits (decimal (n / 10 ^ d) ++ z)) (fraction_is d n w h)
-    ∙ are_digits-append (decimal (n / 10 ^ d)) (last_digits d n) (whole_some d n h.small)
+    ∙ are_digits-append (decimal (n / 10 ^ d)) (last_digits d n) (decimal_nonempty (n / 10 ^ d) (whole_small d n h.small))
     ∙ rw (decimal_digits (n / 10 ^ d) (whole_small d n h.small), last_digits_digits d n) refl)
     (or_left (not (has_exponent w)) (are_digits (without_sign (after_first is_exponent_mark w))) (not_from_false (has_exponent w) h.plain))
 

@@ -3,6 +3,7 @@ use Rattle.std.proofs.Common.{◌≡◌, ℕ, zero, suc, ◌+◌, ◌-◌, ◌*�
 use Rattle.std.specs.Prelude.{decimal}
 use Rattle.std.specs.List.{list_all}
 use Rattle.std.specs.Char.{is_ascii_digit}
+use Rattle.std.proofs.Math.Nat.{div-one}
 use Rattle.std.proofs.lemmas.Bool.{and_from, le-leb}
 use Rattle.std.proofs.lemmas.List.{append_assoc, append-nil, length-append}
 use Rattle.std.proofs.lemmas.List.Folds.{list_all-append}
@@ -11,7 +12,7 @@ use Rattle.std.proofs.lemmas.Fmt.{decimal_by_steps}
 use Rattle.ascii_grid.specs.Words.{is_word}
 use Rattle.ascii_grid.specs.Decimal.{number_of, are_digits}
 use Rattle.ascii_grid.specs.Text.{last_digits}
-use Rattle.ascii_grid.proofs.Decimals.{div_pow, div_pow_none}
+use Rattle.ascii_grid.proofs.Decimals.{div_pow}
 
 -- one digit more
 pub number_of-push : (ds : List ℕ) (b : ℕ) → number_of (ds ++ b ∷ []) ≡ 10 * number_of ds + (b - 48)
@@ -68,7 +69,7 @@ length-last_digits (suc d) n =
 
 -- the whole part and the decimals, read as one number
 pub scaled_digits : (d n : ℕ) → n < 2 ^ 64 → number_of (decimal (n / 10 ^ d) ++ last_digits d n) ≡ n
-scaled_digits zero n h = ap number_of (append-nil (decimal (n / 10 ^ 0))) ∙ ap (λ m. number_of (decimal m)) (div_pow_none n) ∙ decimal_value n h
+scaled_digits zero n h = ap number_of (append-nil (decimal (n / 10 ^ 0))) ∙ ap (λ m. number_of (decimal m)) (div-one n) ∙ decimal_value n h
 scaled_digits (suc d) n h =
     let small : n / 10 < 2 ^ 64 = omega arith in
     ap number_of (sym (append_assoc (decimal (n / 10 ^ suc d)) (last_digits d (n / 10)) ((48 + n % 10) ∷ [])))

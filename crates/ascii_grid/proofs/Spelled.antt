@@ -1,5 +1,5 @@
 -- What the end of a text tells, and that the grid which its words spell is lawful.
-use Rattle.std.proofs.Common.{◌≡◌, ℕ, ◌*◌, ◌<◌, ◌≤◌, Bool, true, false, nat_lt, List, [], ◌∷◌, ◌++◌, length, map, Option, None, Some, arith, lit≤, refl, ap, sym, ◌∙◌, subst}
+use Rattle.std.proofs.Common.{◌≡◌, ℕ, ◌*◌, ◌<◌, ◌≤◌, Bool, true, false, cond, nat_lt, List, [], ◌∷◌, ◌++◌, length, map, Option, None, Some, arith, lit≤, refl, ap, sym, ◌∙◌, subst}
 use Rattle.std.specs.Prelude.{unwrap_or, option_map, codes}
 use Rattle.std.specs.Option.{option_map_or}
 use Rattle.std.proofs.lemmas.Bool.{and_parts, lt-ltb, le-ltb}
@@ -94,25 +94,14 @@ end-none j j' ws h e heights =
     let some : nat_lt 0 (cells_wanted (flat h.pairs)) ≡ true = lt-ltb 0 (cells_wanted (flat h.pairs)) (let k = some_wanted h.pairs h.header.faultless (whole_slots h.pairs heights.whole) in omega (arith, k)) in
     ap end_fault (at_key j ws h e) ∙ rw (header, paired h.pairs, heights.whole, none, some) refl
 
--- too few heights
-pub end-few : (j : Judge) (ws : List Word) (h : HasJudged j ws) → j.stage ≡ AtHeights → length j.cells.items < j.wanted → end_fault ws ≡ Some (TooFew (length j.cells.items))
-end-few j ws h e few =
+-- among the heights: whether too few came
+pub end-heights : (j : Judge) (ws : List Word) (h : HasJudged j ws) → j.stage ≡ AtHeights → end_fault ws ≡ cond (nat_lt (length j.cells.items) j.wanted) (Some (TooFew (length j.cells.items))) None
+end-heights j ws h e =
     let there = at_heights j ws h e in
     let header = header_before j.header h.pairs h.rest h.header there.0 in
     let heights = heights_after j.header h.pairs h.rest h.header there.0 in
     let place = place_of j h.pairs h.rest there.1 in
-    let less : nat_lt (length h.rest) (cells_wanted (flat h.pairs)) ≡ true = lt-ltb (length h.rest) (cells_wanted (flat h.pairs)) (omega (arith, there.1.wanted, place)) in
-    ap end_fault h.words ∙ rw (header, paired h.pairs, there.1.whole, heights, less, place) refl
-
--- enough heights
-pub end-enough : (j : Judge) (ws : List Word) (h : HasJudged j ws) → j.stage ≡ AtHeights → j.wanted ≤ length j.cells.items → end_fault ws ≡ None
-end-enough j ws h e enough =
-    let there = at_heights j ws h e in
-    let header = header_before j.header h.pairs h.rest h.header there.0 in
-    let heights = heights_after j.header h.pairs h.rest h.header there.0 in
-    let place = place_of j h.pairs h.rest there.1 in
-    let all : nat_lt (length h.rest) (cells_wanted (flat h.pairs)) ≡ false = le-ltb (length h.rest) (cells_wanted (flat h.pairs)) (omega (arith, there.1.wanted, place)) in
-    ap end_fault h.words ∙ rw (header, paired h.pairs, there.1.whole, heights, all) refl
+    ap end_fault h.words ∙ rw (header, paired h.pairs, there.1.whole, heights, place, there.1.wanted) refl
 
 centre_of : (o : Option (Word × Word)) → option_map_or (λ (a : Anchor). a.centre) (option_map (λ (p : Word × Word). anchor_at (is_centre p.0) p.1) o) false ≡ option_map_or (λ (p : Word × Word). is_centre p.0) o false
 centre_of None = refl

@@ -1,14 +1,14 @@
 -- What a walk's index and part are at the next step, and that the cells it weighs are in the list.
-use Rattle.std.proofs.Common.{arith, refl, ap, ◌∙◌, ◌≡◌, ◌+◌, ◌*◌, ◌^◌, ◌/◌, ◌%◌, ◌<◌, ◌≤◌, ℕ, ℤ, Option, List, length, max, inl, inr}
+use Rattle.std.proofs.Common.{arith, ap, ◌≡◌, ◌+◌, ◌*◌, ◌^◌, ◌/◌, ◌%◌, ◌<◌, ◌≤◌, ℕ, ℤ, Option, List, length, max, inl, inr}
 use Rattle.std.specs.Int.{abs_diff}
 use Rattle.std.proofs.lemmas.Bool.{cases_lt}
-use Rattle.std.proofs.lemmas.Nat.{mul-le, div-add-mod', div-mul-add, mod-mul-add}
+use Rattle.std.proofs.lemmas.Nat.{mul-le, div-add-mod'}
 use Rattle.sight.specs.Sight.{toward}
 use Rattle.sight.specs.Walk.{whole_at, part_at, index_at, IsOver}
 use Rattle.sight.specs.Pace.{IsPace, Gains}
 use Rattle.sight.specs.declared.walk.Axis.{Axis}
 use Rattle.sight.specs.declared.walk.Pace.{Pace}
-use Rattle.sight.proofs.Toward.{toward_none, toward_le, step_stays, step_passes, lead_whole, lead_part}
+use Rattle.sight.proofs.Toward.{toward_le, step_stays, step_passes, lead_whole, lead_part}
 
 -- the leading coordinate
 lead_step : (a : Axis) (n k ahead behind part : ℕ) → n ≡ abs_diff a.from a.to → 0 < n → k < n → Gains a n ahead behind part → whole_at a n (k + 1) + behind ≡ whole_at a n k + ahead

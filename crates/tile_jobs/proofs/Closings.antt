@@ -57,14 +57,9 @@ module _ (s0 s : ClosingState) (p : List ℕ) (now : s ≡ record s0 { took = s0
 
   pub now_more : (n : ClosingState) (j : ℕ) → n ≡ record s { took = s.took ++ j ∷ [] } → n ≡ record s0 { took = s0.took ++ (p ++ j ∷ []); marks = n.marks; marked = n.marked }
   now_more n j e =
-      let a = ap (λ (x : ClosingState). x.id) e ∙ ap (λ (x : ClosingState). x.id) now in
-      let b = ap (λ (x : ClosingState). x.jobs) e ∙ ap (λ (x : ClosingState). x.jobs) now in
-      let c = ap (λ (x : ClosingState). x.seats) e ∙ ap (λ (x : ClosingState). x.seats) now in
-      let d = ap (λ (x : ClosingState). x.deque) e ∙ ap (λ (x : ClosingState). x.deque) now in
-      let f = ap (λ (x : ClosingState). x.took) e ∙ ap (λ (x : ClosingState). x.took ++ j ∷ []) now ∙ append_assoc s0.took p (j ∷ []) in
-      let g = ap (λ (x : ClosingState). x.gathered) e ∙ ap (λ (x : ClosingState). x.gathered) now in
-      let h = ap (λ (x : ClosingState). x.back) e ∙ ap (λ (x : ClosingState). x.back) now in
-      λ i. record { id = a i; jobs = b i; seats = c i; deque = d i; took = f i; gathered = g i; back = h i; marks = n.marks; marked = n.marked }
+      let marks : n.marks ≡ s.marks = ap (λ (x : ClosingState). x.marks) e in
+      let marked : n.marked ≡ s.marked = ap (λ (x : ClosingState). x.marked) e in
+      e ∙ ap (λ (x : ClosingState). record x { took = x.took ++ j ∷ [] }) now ∙ rw (append_assoc s0.took p (j ∷ []), marks, marked) refl
 
   pub now_place : (n : ClosingState) (j : ℕ) → n ≡ record s { took = s.took ++ j ∷ [] } → place_of n ≡ suc (place_of s)
   now_place n j e =

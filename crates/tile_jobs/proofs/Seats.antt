@@ -1,7 +1,7 @@
 -- What a take leaves of a seat.
-use Rattle.std.proofs.Common.{◌≡◌, ◌≢◌, ℕ, zero, suc, ◌-◌, ◌%◌, ◌<◌, ◌≤◌, ◌⊎◌, inl, inr, ⊎_elim, Bool, true, false, cond, ◌==◌, nat_lt, List, [], ◌∷◌, ◌++◌, length, get_or, set, take, drop, sym, refl, ap, ◌∙◌, arith, true≢false}
+use Rattle.std.proofs.Common.{◌≡◌, ◌≢◌, ℕ, zero, suc, ◌-◌, ◌%◌, ◌<◌, ◌≤◌, inl, inr, cond, ◌==◌, List, [], ◌∷◌, ◌++◌, length, get_or, set, take, drop, sym, refl, ap, ◌∙◌, arith}
 use Rattle.std.proofs.lemmas.Bool.Decides.{nat_tests}
-use Rattle.std.proofs.lemmas.Bool.{cases_eq, cases_lt, eq-eqb, ne_eqb, lt-ltb, le-ltb, false_from_ne_true}
+use Rattle.std.proofs.lemmas.Bool.{cases_eq, cases_lt, eq-eqb, ne_eqb, lt-ltb, le-ltb}
 use Rattle.std.proofs.lemmas.List.{get_or-set_same, get_or-set_other}
 use lib.ListN.{length-append}
 use Rattle.tile_jobs.specs.Board.{deal}
@@ -44,9 +44,6 @@ kept_own s o h k = record {
   others_are = rw (k.0.1, k.0.2) h.others_are;
 }
 
-bounded_own : (s : SeatState) → IsSeat s → length (of s.number s.own.seats s.taken) ≤ length (deal s.own.jobs s.own.seats s.number)
-bounded_own s h = rw (← h.own_is.3) h.own_is.4
-
 bounded_other : (s : SeatState) → IsSeat s → (k : ℕ) → k < length s.others → length (of (skip s.number k) s.own.seats s.taken) ≤ length (deal s.own.jobs s.own.seats (skip s.number k))
 bounded_other s h k low = let was = h.others_are k s.own low in rw (← was.3) was.4
 
@@ -55,7 +52,7 @@ bounded s h v low =
     let below = h.below in
     let count = h.count in
     elim (cases_eq v s.number) [
-      | inl e ↦ rw e (bounded_own s h)
+      | inl e ↦ rw (e, ← h.own_is.3) h.own_is.4
       | inr far ↦ let at = skip_onto s.number v (length s.others) (omega arith) far (omega arith) in rw (← at.2) (bounded_other s h at.0 at.1)
     ]
 

@@ -9,7 +9,7 @@ use Rattle.tile_jobs.specs.declared.JobFault.{JobFault}
 use Rattle.tile_jobs.specs.declared.worker.Shift.{Shift}
 use Rattle.tile_jobs.specs.Workers.{IsOutcome}
 use Rattle.tile_jobs.specs.Board.{times, sum_to}
-use Rattle.tile_jobs.specs.Ends.{EndState, SameEnd, SeatState, SameSeat, HasAllMarks}
+use Rattle.tile_jobs.specs.Ends.{SeatState, SameSeat, HasAllMarks}
 use Rattle.tile_jobs.proofs.Entries.{times_append}
 use Rattle.tile_jobs.proofs.Seats.{same_trans}
 

@@ -50,12 +50,6 @@ row_is t lists tile row list part from h l a s top bottom e f =
     }
 
 -- the tile that a row crosses in one column of tiles
-pub crossed_row : (t : Cutting) (row column : ℕ) → column < across t → (row / t.side * across t + column) / across t ≡ row / t.side
-crossed_row t row column h = div-mul-add (row / t.side) (across t) column h
-
-pub crossed_col : (t : Cutting) (row column : ℕ) → column < across t → (row / t.side * across t + column) % across t ≡ column
-crossed_col t row column h = mod-mul-add (row / t.side) (across t) column h
-
 pub crossed_below : (t : Cutting) (row column : ℕ) → IsCutting t → row < t.rows → column < across t → row / t.side * across t + column < tile_count t
 crossed_below t row column h r c = mul-add-lt (row / t.side) (across t) column (down t) (piece_of t.rows t.side row h.some_side r) c
 
@@ -63,8 +57,8 @@ crossed_below t row column h r c = mul-add-lt (row / t.side) (across t) column (
 pub crossed_at : (t : Cutting) (row column : ℕ) → IsCutting t → row < t.rows → column < across t →
     let b = bounds_of t (row / t.side * across t + column) in (b.top ≤ row) × (row < b.top + b.rows) × (b.left ≡ column * t.side) × (b.cols ≡ min t.side (t.cols - column * t.side))
 crossed_at t row column h r c =
-    let e = crossed_row t row column c in
-    let f = crossed_col t row column c in
+    let e = div-mul-add (row / t.side) (across t) column c in
+    let f = mod-mul-add (row / t.side) (across t) column c in
     let a = piece_from t.side row h.some_side in
     let top : (row / t.side * across t + column) / across t * t.side ≡ row / t.side * t.side = ap (λ n. n * t.side) e in
     let left : (row / t.side * across t + column) % across t * t.side ≡ column * t.side = ap (λ n. n * t.side) f in

@@ -7,7 +7,6 @@ use Rattle.tile_jobs.proofs.Workers.{seat_trans, whole_more}
 use Rattle.tile_jobs.proofs.worker.work_seat.Goals as goal
 use Rattle.tile_jobs.proofs.worker.work_seat.Goals.{in-None, in-Some+in-Empty}
 
--- src/worker.rt:38:5
 pub loop-preserved-in-Continue-branch-2 : goal.loop-preserved-in-Continue-branch-2
 loop-preserved-in-Continue-branch-2 g c =
     let s0 : SeatState = c.args.seat in
@@ -28,7 +27,6 @@ loop-preserved-in-Continue-branch-2 g c =
       whole = λ j n. rw items (whole_more j job s.taken was a refl (inv.whole j) (rw taken at n));
     }
 
--- src/worker.rt:38:5
 pub loop-preserved : goal.loop-preserved
 loop-preserved g c =
     let s0 : SeatState = c.args.seat in
@@ -42,7 +40,6 @@ loop-preserved g c =
       whole = λ j n. inv.whole j (rw taken at n);
     }
 
--- src/worker.rt:24:1
 pub returns : goal.returns
 returns g c =
     let s0 : SeatState = c.args.seat in

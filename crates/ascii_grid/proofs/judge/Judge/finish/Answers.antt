@@ -1,7 +1,8 @@
 use Rattle.std.proofs.Common.{arith, ◌≡◌, length, ap, sym, ◌∙◌, Some, inl, inr}
+use Rattle.std.proofs.lemmas.Bool.{cond-true, cond-false, lt-ltb, le-ltb}
 use Rattle.std.proofs.lemmas.Result.{err_from_is_err_and}
 use Rattle.ascii_grid.specs.declared.fault.GridFault.TheVariants.{TooFew, NoValue}
-use Rattle.ascii_grid.proofs.Spelled.{whole-grid, lawful-grid, spelled-grid, end-value, end-missing, end-memory, end-none, end-few, end-enough}
+use Rattle.ascii_grid.proofs.Spelled.{whole-grid, lawful-grid, spelled-grid, end-value, end-missing, end-memory, end-none, end-heights}
 use Rattle.ascii_grid.proofs.judge.Judge.finish.Goals as goal
 
 pub into_grid-requires-clause-whole : goal.into_grid-requires-clause-whole
@@ -29,8 +30,8 @@ returns-in_ok-begin_heights-in-AtKey c = λ ws h.
 pub returns-then-place-self : goal.returns-then-place-self
 returns-then-place-self c = λ ws h.
     let at : c.len-place.result ≡ length c.args.self.cells.items = omega (arith, c.args.self.cells.ok.0) in
-    end-few c.args.self ws h c.in-AtHeights.is (omega (arith, at)) ∙ ap (λ n. Some (TooFew n)) (sym at)
+    end-heights c.args.self ws h c.in-AtHeights.is ∙ cond-true _ _ _ (lt-ltb (length c.args.self.cells.items) c.args.self.wanted (omega (arith, at))) ∙ ap (λ n. Some (TooFew n)) (sym at)
 
 pub returns-else-place-self : goal.returns-else-place-self
 returns-else-place-self c = λ ws h.
-    (end-enough c.args.self ws h c.in-AtHeights.is (omega (arith, c.args.self.cells.ok.0)), c.into_grid.ensures ∙ spelled-grid c.args.self ws h c.in-AtHeights.is)
+    (end-heights c.args.self ws h c.in-AtHeights.is ∙ cond-false _ _ _ (le-ltb (length c.args.self.cells.items) c.args.self.wanted (omega (arith, c.args.self.cells.ok.0))), c.into_grid.ensures ∙ spelled-grid c.args.self ws h c.in-AtHeights.is)

@@ -1,4 +1,4 @@
-use Rattle.std.proofs.Common.{rules, arith, refl, sym, ap, ◌≡◌, ◌≢◌, ℕ, ◌+◌, ◌%◌, ◌<◌, ◌≤◌, suc, [], ◌∷◌, List, length, drop, get_or, ◌∙◌, vec_len, vec_capacity, add-one, subst, inl, inr}
+use Rattle.std.proofs.Common.{rules, arith, refl, sym, ap, ◌≡◌, ℕ, ◌+◌, ◌%◌, ◌<◌, ◌≤◌, suc, [], ◌∷◌, List, length, drop, get_or, ◌∙◌, vec_len, vec_capacity, add-one, subst, inl, inr}
 use Rattle.std.proofs.lemmas.Bool.{cases_eq}
 use Rattle.std.proofs.lemmas.Grind.{common_steps}
 use Rattle.std.specs.Vec.Iter.{into_iter_items}
