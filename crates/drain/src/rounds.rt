@@ -133,6 +133,7 @@ fn put_row(steps: &mut [Option<u32>], at: usize, list: &[Option<u32>], from: usi
 }
 
 /// Writes a tile's list into the counts of the grid.
+#[tactic(auto, using(tiles::proofs::TileRows::row_in_grid, tiles::proofs::TileRows::row_in_list, tiles::proofs::TileRows::none_written, tiles::proofs::TileRows::tile_written))]
 fn put_tile(tiling: &Tiling, steps: &mut [Option<u32>], tile: u32, list: &[Option<u32>])
     requires steps { length steps.old ≡ tiling.now.cols * tiling.now.rows }
     requires tile { tile < tile_count tiling.now }
