@@ -55,6 +55,7 @@ fn row_differs(old: &[Option<u32>], new: &[Option<u32>], from: usize) -> bool
 }
 
 /// Whether a tile's list differs from what the view has.
+#[tactic(auto, using(tiles::proofs::Cut::in_bounds))]
 fn differs(steps: &TileView<'_, Option<u32>>, list: &[Option<u32>]) -> bool
     requires { length list.now ≡ cell_count steps.now.cutting steps.now.tile }
     ensures { MatchBool result

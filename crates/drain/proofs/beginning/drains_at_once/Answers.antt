@@ -1,14 +1,10 @@
-use Rattle.std.proofs.Common.{◌∙◌, length, sym, ap, arith, rules, to_z-of_z}
+use Rattle.std.proofs.Common.{◌∙◌, sym, rules, to_z-of_z}
 use mir.Val.{SFits}
 use mir.Syntax.{w32}
 use Rattle.std.proofs.lemmas.Bool.{false≢true}
 use Rattle.drain.specs.Beginning.{IsOutermost}
 use Rattle.drain.proofs.Block.{around_drains, around_keeps, MatchBool-weaker}
 use Rattle.drain.proofs.beginning.drains_at_once.Goals as goal
-
-pub any_gap_or_lower-requires : goal.any_gap_or_lower-requires
-any_gap_or_lower-requires c = λ way below.
-    omega (arith, c.cells_around-at.ensures.below way below, ap length c.cells-cells.ensures.value, c.cells-cells.ensures.lawful.terrain.size)
 
 pub returns : goal.returns
 returns c =

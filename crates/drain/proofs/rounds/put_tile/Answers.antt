@@ -1,13 +1,6 @@
 use Rattle.std.proofs.Common.{◌≡◌, ◌+◌, ◌*◌, ℕ, ap, subst, refl, arith}
-use Rattle.tiles.proofs.TileRows.{IsWrittenBelow, row_written, none_written}
+use Rattle.tiles.proofs.TileRows.{IsWrittenBelow, row_written}
 use Rattle.drain.proofs.rounds.put_tile.Goals as goal
-
-pub loop-row-init : goal.loop-row-init
-loop-row-init c =
-    let b = c.bounds-top.result in
-    let start : b.top ≡ b.top + 0 = omega arith in
-    subst (λ (n : ℕ). IsWrittenBelow c.args.tiling.now c.args.tile c.args.list.now c.args.steps.now c.args.steps.now n) start
-    (none_written c.args.tiling.now c.args.tile c.args.list.now c.args.steps.now b c.bounds-top.ensures.lawful c.bounds-top.ensures.value)
 
 pub loop-row-preserved : goal.loop-row-preserved
 loop-row-preserved c =
