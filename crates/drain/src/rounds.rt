@@ -260,7 +260,7 @@ fn is_touched(tiling: &Tiling, outs: &[TileAnswer], tile: u32) -> bool
     changed_along(tiling, outs, bounds, bounds.top + bounds.rows + 1)
 }
 
-/// What is left to do of a tile that changed or touches one that did, and of any other.
+/// What is left to do of a tile: nothing, if neither it nor one that it touches changed.
 fn due_of(tiling: &Tiling, outs: &[TileAnswer], tile: u32) -> Due
     requires outs { length outs.now ≡ tile_count tiling.now }
     requires tile { tile < tile_count tiling.now }
