@@ -3,7 +3,6 @@ use Rattle.std.proofs.Common.{◌≡◌, ◌≢◌, ℕ, ◌+◌, ◌<◌, ◌�
 use Rattle.std.specs.Prelude.{slice_get}
 use Rattle.std.proofs.lemmas.Bool.{cases_eq}
 use Rattle.std.proofs.lemmas.List.{length_push, get_or-set_same, get_or-set_other}
-use Rattle.std.proofs.lemmas.Nat.{mul-add-lt}
 use Rattle.std.proofs.lemmas.Option.{slice_get_within, same_Some}
 use Rattle.tiles.proofs.SliceGet.{slice_get-append_left, slice_get-append_right}
 use Rattle.ascii_grid.proofs.Places.{cases_place, index_injective}
@@ -11,7 +10,7 @@ use Rattle.ascii_grid.specs.Neighbours.{Touches}
 use Rattle.ascii_grid.specs.declared.place.Place.{Place}
 use Rattle.tiles.specs.declared.bounds.Bounds.{Bounds}
 use Rattle.drain.specs.Window.{spot_index, area_of, IsSpot, IsInner, level_on, count_on, IsNotAbove, IsNear, AreNoted, IsEvenBut, IsEven}
-use Rattle.drain.proofs.Spreading.{touches_back, spot_from_inner}
+use Rattle.drain.proofs.Spreading.{touches_back, spot_below, spot_from_inner}
 
 pub noted_none : (b : Bounds) (counts : List ℕ) (xs : List Place) → AreNoted b counts counts xs xs
 noted_none b counts xs = record { longer = omega arith; kept = λ k below. refl; each = λ s inner. inl refl }
@@ -58,9 +57,8 @@ noted_off b counts s i n xs e spot off = record {
 pub reached_near : (b : Bounds) (counts : List ℕ) (from to : Place) (i j : ℕ) → i ≡ spot_index b from → j ≡ spot_index b to → IsSpot b to → length counts ≡ area_of b →
     count_on b (set counts j (get_or counts i 0 + 1)) to ≤ count_on b counts from + 1
 reached_near b counts from to i j e f spot size =
-    let below : spot_index b to < area_of b = mul-add-lt to.row (b.cols + 2) to.col (b.rows + 2) spot.0 spot.1 in
     let at : get_or (set counts j (get_or counts i 0 + 1)) (spot_index b to) 0 ≡ get_or counts i 0 + 1 =
-    ap (λ (k : ℕ). get_or (set counts k (get_or counts i 0 + 1)) (spot_index b to) 0) f ∙ get_or-set_same counts (spot_index b to) (get_or counts i 0 + 1) 0 (omega (arith, size, below)) in
+    ap (λ (k : ℕ). get_or (set counts k (get_or counts i 0 + 1)) (spot_index b to) 0) f ∙ get_or-set_same counts (spot_index b to) (get_or counts i 0 + 1) 0 (omega (arith, size, spot_below b to spot)) in
     let from_is : get_or counts i 0 ≡ count_on b counts from = ap (λ (k : ℕ). get_or counts k 0) e in
     omega (arith, at, from_is)
 

@@ -3,7 +3,6 @@ use Rattle.std.proofs.Common.{◌≡◌, ◌≢◌, ℕ, zero, suc, ◌+◌, ◌
 use Rattle.std.proofs.lemmas.Bool.{cases_Bool, cases_eq, cases_lt, cond-true, cond-false, and_from, and_left, le-leb}
 use Rattle.std.proofs.lemmas.List.{get_or_append_left, get_or-append_right, length-append, get_or_push, length_push}
 use Rattle.std.proofs.Math.Nat.{mul-le-mul_right}
-use Rattle.std.proofs.lemmas.Nat.{mul-add-lt}
 use Rattle.ascii_grid.proofs.Places.{make_place, same_place, index_injective, entry-inside}
 use Rattle.ascii_grid.specs.Neighbours.{entry_at, index_of}
 use Rattle.ascii_grid.specs.declared.place.Place.{Place}
@@ -11,6 +10,7 @@ use Rattle.tiles.specs.declared.bounds.Bounds.{Bounds}
 use Rattle.tiles.specs.Cutting.{Cutting, View, AreBounds, bounds_of, is_within, is_shown, cell_shown, row_shown}
 use Rattle.drain.specs.Window.{IsInner, IsHandedOut, known, count_on, spot_index, area_of, IsSpot, Shows, IsShown, AreShownBelow, AreShown}
 use Rattle.drain.specs.TileLists.{AreMadeBelow}
+use Rattle.drain.proofs.Spreading.{spot_below}
 use Rattle.drain.proofs.TileLists.{made_next}
 use Rattle.tiles.proofs.TileRows.{row_has}
 
@@ -125,7 +125,7 @@ shown_row {X = X} v b row shown entries e fits low high are count before = recor
 
 pub shown_all : {X : Type 0} (cols rows : ℕ) (entries : List (Option X)) (b : Bounds) (end : ℕ) (shown : List (Option X)) → area_of b ≤ end →
     AreShownBelow cols rows entries b end shown → AreShown cols rows entries b shown
-shown_all cols rows entries b end shown whole f = λ s spot. f.each s spot (omega (arith, mul-add-lt s.row (b.cols + 2) s.col (b.rows + 2) spot.0 spot.1))
+shown_all cols rows entries b end shown whole f = λ s spot. f.each s spot (omega (arith, spot_below b s spot))
 
 -- all spots that a list shows, where the bounds go by another name
 pub shown_whole : {X : Type 0} (cols rows : ℕ) (entries : List (Option X)) (b c : Bounds) (end : ℕ) (shown : List (Option X)) → b ≡ c → end ≡ (b.rows + 2) * (b.cols + 2) →

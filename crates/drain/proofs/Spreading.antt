@@ -2,11 +2,15 @@
 use Rattle.std.proofs.Common.{◌≡◌, ◌≢◌, ℕ, ◌+◌, ◌<◌, ◌≤◌, ◌⊎◌, inl, inr, List, length, get_or, set, sum, ℤ, Option, sym, ap, subst, refl, ◌∙◌, arith}
 use Rattle.std.proofs.lemmas.Bool.{cases_eq, cases_lt}
 use Rattle.std.proofs.lemmas.List.{length-set, get_or-set_same, get_or-set_other, get_or_past}
+use Rattle.std.proofs.lemmas.Nat.{mul-add-lt}
 use Rattle.std.proofs.lemmas.List.Sums.{sum_by-set}
 use Rattle.ascii_grid.specs.Neighbours.{Touches}
 use Rattle.ascii_grid.specs.declared.place.Place.{Place}
 use Rattle.tiles.specs.declared.bounds.Bounds.{Bounds}
-use Rattle.drain.specs.Window.{AreCounts, spot_index, IsSpot, IsInner, level_on, count_on, IsSpread, IsNotAbove, IsNear, same, moved}
+use Rattle.drain.specs.Window.{AreCounts, area_of, spot_index, IsSpot, IsInner, level_on, count_on, IsSpread, IsNotAbove, IsNear, same, moved}
+
+pub spot_below : (b : Bounds) (s : Place) → IsSpot b s → spot_index b s < area_of b
+spot_below b s spot = mul-add-lt s.row (b.cols + 2) s.col (b.rows + 2) spot.0 spot.1
 
 pub not_above_itself : (xs : List ℕ) → IsNotAbove xs xs
 not_above_itself xs = record { each = λ k. omega arith }
@@ -69,10 +73,10 @@ sum-set xs i n less = elim (cases_lt i (length xs)) [
   | inr past ↦ absurd (omega (arith, get_or_past xs i 0 past))
 ]
 
-pub sum-spread : (b : Bounds) (levels : List (Option ℤ)) (old new : List ℕ) → IsSpread b levels old new → sum new ≤ sum old
-sum-spread b levels old new same = omega arith
-sum-spread b levels old new (moved counts some s r n before earlier spot other touch differ level from less) =
-    omega (arith, sum-set counts (spot_index b r) n less, sum-spread b levels old counts before)
+pub sum_spread : (b : Bounds) (levels : List (Option ℤ)) (old new : List ℕ) → IsSpread b levels old new → sum new ≤ sum old
+sum_spread b levels old new same = omega arith
+sum_spread b levels old new (moved counts some s r n before earlier spot other touch differ level from less) =
+    omega (arith, sum-set counts (spot_index b r) n less, sum_spread b levels old counts before)
 
 pub near_after : (b : Bounds) (levels : List (Option ℤ)) (old mid new : List ℕ) (s : Place) → IsNear b levels old mid s → IsNotAbove new mid → IsNear b levels old new s
 near_after b levels old mid new s near less = record {

@@ -2,7 +2,6 @@
 use Rattle.std.proofs.Common.{◌≡◌, ◌≢◌, ℕ, ◌+◌, ◌-◌, ◌*◌, ◌^◌, ◌<◌, ◌≤◌, inl, inr, List, ◌∷◌, length, get_or, set, Option, None, Some, is_some, unwrap_or, IfSome, ℤ, sym, ap, subst, refl, ◌∙◌, arith}
 use Rattle.std.proofs.lemmas.Bool.{cases_eq, cases_lt, cond-true, cond-false, lt-ltb, le-ltb}
 use Rattle.std.proofs.lemmas.List.{get_or-map, get_or-set_same, get_or-set_other, get_or_past, length-map}
-use Rattle.std.proofs.lemmas.Nat.{mul-add-lt}
 use Rattle.std.proofs.lemmas.Option.{MatchOption-at_some, none-some, same_Some}
 use Rattle.ascii_grid.proofs.Places.{make_place, same_place, index_injective, cases_place}
 use Rattle.ascii_grid.specs.Raster.{Terrain}
@@ -15,7 +14,7 @@ use Rattle.drain.specs.Rounds.{IsLent, IsWalked, AreWalked, IsOneAbove, IsRound}
 use Rattle.drain.specs.TileLists.{AreMadeBelow, IsMadeTile}
 use Rattle.drain.proofs.TileLists.{made_tile}
 use Rattle.drain.specs.Window.{no_count, AreCounts, spot_index, area_of, IsSpot, IsInner, Shows, IsShown, AreShown, level_on, count_on, IsSpread, same, moved, IsSettled, known, known_counts, IsHandedOut, AreLent}
-use Rattle.drain.proofs.Spreading.{spread_not_above, spread_counts, spread-length, spot_from_inner}
+use Rattle.drain.proofs.Spreading.{spot_below, spread_not_above, spread_counts, spread-length, spot_from_inner}
 use Rattle.drain.proofs.Counted.{height_is}
 use Rattle.drain.proofs.Unique.{at_place}
 use Rattle.drain.proofs.Few.{data_on_level_walk}
@@ -44,9 +43,6 @@ shows_one b s p q f g = same_place p q (omega (arith, f.0, g.0)) (omega (arith, 
 -- each count that is known is of a walk to a cell that is lent 0, from the place that its spot shows
 IsSound : Terrain → List (Option ℕ) → Bounds → List ℕ → Type 0
 IsSound t steps b counts = (s : Place) → IsSpot b s → count_on b counts s < no_count → (p : Place) × Shows b s p × IsWalked (IsLent t steps) t p (count_on b counts s)
-
-spot_below : (b : Bounds) (s : Place) → IsSpot b s → spot_index b s < area_of b
-spot_below b s spot = mul-add-lt s.row (b.cols + 2) s.col (b.rows + 2) spot.0 spot.1
 
 count-known : (b : Bounds) (shown : List (Option ℕ)) (s : Place) → length shown ≡ area_of b → IsSpot b s → count_on b (known_counts shown) s ≡ unwrap_or (get_or shown (spot_index b s) None) no_count
 count-known b shown s size spot = get_or-map (λ (o : Option ℕ). unwrap_or o no_count) shown (spot_index b s) None 0 (omega (arith, size, spot_below b s spot))

@@ -101,6 +101,7 @@ fn onward(
 
 /// The code of a data cell. One that has steps has no lower neighbour, and one without drains at once.
 #[inline(always)]
+#[tactic(auto, using(crate::proofs::AroundLemmas::height_fits, crate::proofs::AmidLemmas::heights_fit))]
 pub(crate) fn code_amid(
     grid: &Grid,
     steps: &[Option<u32>],

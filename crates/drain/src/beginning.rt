@@ -50,6 +50,7 @@ pub(crate) fn is_outermost(grid: &Grid, place: Place) -> bool
 
 /// Whether a data cell has a lower neighbour or is an edge cell.
 #[inline(always)]
+#[tactic(auto, using(crate::proofs::Block::outermost_edge))]
 fn drains_at_once(grid: &Grid, place: Place, level: Height) -> bool
     requires inside { IsInside grid.now.terrain place }
     requires level { height_at grid.now.terrain place ≡ Some level }

@@ -20,6 +20,7 @@ use tile_jobs::{Gate, JobFault};
 use tiles::{TileView, Tiling};
 
 /// One round over one tile, as far as it can go.
+#[tactic(auto, using(crate::proofs::TileRound::lent_to, crate::proofs::TileRound::lent_small, crate::proofs::TileRound::lent_size))]
 pub(crate) fn round(
     alloc: Global,
     levels: &TileView<'_, Option<Height>>,

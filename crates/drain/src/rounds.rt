@@ -55,6 +55,7 @@ fn row_differs(old: &[Option<u32>], new: &[Option<u32>], from: usize) -> bool
 }
 
 /// Whether a tile's list differs from what the view has.
+#[tactic(auto, using(tiles::proofs::Cut::in_bounds))]
 fn differs(steps: &TileView<'_, Option<u32>>, list: &[Option<u32>]) -> bool
     requires { length list.now ≡ cell_count steps.now.cutting steps.now.tile }
     ensures { MatchBool result
@@ -133,6 +134,7 @@ fn put_row(steps: &mut [Option<u32>], at: usize, list: &[Option<u32>], from: usi
 }
 
 /// Writes a tile's list into the counts of the grid.
+#[tactic(auto, using(tiles::proofs::TileRows::row_in_grid, tiles::proofs::TileRows::row_in_list, tiles::proofs::TileRows::none_written, tiles::proofs::TileRows::tile_written))]
 fn put_tile(tiling: &Tiling, steps: &mut [Option<u32>], tile: u32, list: &[Option<u32>])
     requires steps { length steps.old ≡ tiling.now.cols * tiling.now.rows }
     requires tile { tile < tile_count tiling.now }
@@ -258,7 +260,7 @@ fn is_touched(tiling: &Tiling, outs: &[TileAnswer], tile: u32) -> bool
     changed_along(tiling, outs, bounds, bounds.top + bounds.rows + 1)
 }
 
-/// What is left to do of a tile that changed or touches one that did, and of any other.
+/// What is left to do of a tile: nothing, if neither it nor one that it touches changed.
 fn due_of(tiling: &Tiling, outs: &[TileAnswer], tile: u32) -> Due
     requires outs { length outs.now ≡ tile_count tiling.now }
     requires tile { tile < tile_count tiling.now }

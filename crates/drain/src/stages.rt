@@ -36,6 +36,7 @@ impl<'a> Work for BeginTiles<'a> {
 
     ghost gives = { λ w tile out. IsMadeTile w.tiling.now tile (IsBegun w.grid.now.terrain) out.items };
 
+    #[tactic(auto, using(crate::proofs::TileLists::part_of))]
     fn run(&self, alloc: Global, job: u32) -> Result<Vec<Option<u32>>, JobFault> {
         let bounds = self.tiling.bounds(job);
         let counts = begin_tile(alloc, self.grid, bounds)?;
@@ -72,6 +73,7 @@ impl<'a> Work for CodeTiles<'a> {
 
     ghost gives = { λ w tile out. IsMadeTile w.cutting tile (IsCodeAt w.terrain) out.items };
 
+    #[tactic(auto, using(crate::proofs::TileLists::part_of))]
     fn run(&self, alloc: Global, job: u32) -> Result<Vec<Option<Code>>, JobFault> {
         let bounds = self.tiling.bounds(job);
         let codes = codes_of_tile(alloc, self.grid, self.steps, bounds)?;

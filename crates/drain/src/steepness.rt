@@ -128,6 +128,7 @@ fn onward(around: &Around) -> usize
 }
 
 /// Which way a cell drains, of what stands around it.
+#[tactic(auto, using(crate::proofs::Weights::drains_onward))]
 pub fn direction(around: &Around) -> Code
     requires { IsFitting around.now }
     ensures { result ≡ direction_of around.now }

@@ -20,6 +20,7 @@ pub(crate) struct Ground {
 impl Ground {
     /// Where a spot stands in row order.
     #[inline(always)]
+    #[tactic(auto, using(crate::proofs::Spreading::spot_below))]
     pub(crate) fn index(&self, spot: Place) -> usize
         requires { IsSpot self.now.bounds spot }
         ensures value { result ≡ spot_index self.now.bounds spot }
@@ -226,7 +227,7 @@ fn spread(
 }
 
 /// Spreads from each spot that was reached, in their order, until none is left.
-#[tactic(auto, using(crate::proofs::Spreading::spread_none, crate::proofs::Spreading::spread_on, crate::proofs::Spreading::spread_counts, crate::proofs::Noted::even_end))]
+#[tactic(auto, using(crate::proofs::Spreading::spread_none, crate::proofs::Spreading::spread_on, crate::proofs::Spreading::spread_counts, crate::proofs::Spreading::sum_spread, crate::proofs::Noted::even_end))]
 fn search(ground: &Ground, counts: &mut [u32], mut reached: Vec<Place>) -> Result<(), AllocError>
     requires size { length counts.old ≡ area_of ground.now.bounds }
     requires counts { AreCounts counts.old }
@@ -279,6 +280,7 @@ fn pull_at(
 }
 
 /// Does so for one row of the tile.
+#[tactic(auto, using(crate::proofs::Spreading::not_above_itself, crate::proofs::Noted::noted_none))]
 fn pull_along(
     ground: &Ground,
     old: &[u32],
@@ -304,6 +306,7 @@ fn pull_along(
 }
 
 /// Does so for each spot of the tile, and answers those that got less than they had.
+#[tactic(auto, using(crate::proofs::Spreading::spread_none, crate::proofs::Spreading::near_after, crate::proofs::Noted::noted_none, crate::proofs::Noted::noted_then))]
 fn pull(
     alloc: Global,
     ground: &Ground,

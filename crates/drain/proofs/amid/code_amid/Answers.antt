@@ -1,17 +1,9 @@
-use Rattle.std.proofs.Common.{ℤ, length, arith, sym, ap, subst, rules, to_z-of_z}
+use Rattle.std.proofs.Common.{ℤ, sym, subst, rules, to_z-of_z}
 use mir.Val.{SFits}
 use mir.Syntax.{w32}
-use Rattle.ascii_grid.specs.Raster.{IsHeight}
 use Rattle.drain.specs.Amid.{StandAround}
-use Rattle.drain.proofs.AroundLemmas.{height_fits}
-use Rattle.drain.proofs.AmidLemmas.{around_of, stand, has_heights, heights_fit, leads, code_onward, code_down, code_outlet}
+use Rattle.drain.proofs.AmidLemmas.{around_of, stand, has_heights, leads, code_onward, code_down, code_outlet}
 use Rattle.drain.proofs.amid.code_amid.Goals as goal
-
-pub onward-requires-clause-cells : goal.onward-requires-clause-cells
-onward-requires-clause-cells c = λ way below. omega (arith, c.cells_around-at.ensures.below way below, ap length c.cells-cells.ensures.value, c.requires.lawful.size)
-
-pub onward-requires-clause-steps : goal.onward-requires-clause-steps
-onward-requires-clause-steps c = λ way below. omega (arith, c.cells_around-at.ensures.below way below, c.requires.steps.size)
 
 pub onward-requires-clause-some : goal.onward-requires-clause-some
 onward-requires-clause-some c =
@@ -33,19 +25,6 @@ returns-then-own-gt0 c =
     (first (around_of t c.args.steps.now c.args.place c.args.level c.args.own)
     (stand t c.args.steps.now c.args.place c.args.level c.args.own c.requires.lawful c.requires.steps c.requires.inside c.requires.amid c.requires.level c.requires.own c.cells-cells.result.now c.cells_around-at.result c.cells-cells.ensures.value c.cells_around-at.ensures.value))
     c.of_way.ensures
-
-pub heights_at-requires : goal.heights_at-requires
-heights_at-requires c = λ way below. omega (arith, c.cells_around-at.ensures.below way below, ap length c.cells-cells.ensures.value, c.requires.lawful.size)
-
-pub steepest-fall-requires-clause-level : goal.steepest-fall-requires-clause-level
-steepest-fall-requires-clause-level c =
-    let fits : SFits w32 c.args.level = search rules in
-    subst (λ (z : ℤ). IsHeight z) (sym (to_z-of_z fits)) (height_fits c.args.grid.now.terrain c.args.place c.args.level c.requires.lawful c.requires.level)
-
-pub steepest-fall-requires-clause-heights : goal.steepest-fall-requires-clause-heights
-steepest-fall-requires-clause-heights c =
-    heights_fit c.args.grid.now.terrain c.args.place c.cells-cells.result.now c.heights_at.result c.cells_around-at.result c.requires.lawful c.requires.inside c.requires.amid
-    c.cells-cells.ensures.value c.cells_around-at.ensures.value c.heights_at.ensures
 
 pub of_way-requires-then-fall-gt0 : goal.of_way-requires-then-fall-gt0
 of_way-requires-then-fall-gt0 c =

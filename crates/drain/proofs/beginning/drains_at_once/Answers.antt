@@ -1,18 +1,10 @@
-use Rattle.std.proofs.Common.{◌∙◌, inr, length, sym, ap, arith, rules, to_z-of_z}
+use Rattle.std.proofs.Common.{◌∙◌, sym, rules, to_z-of_z}
 use mir.Val.{SFits}
 use mir.Syntax.{w32}
 use Rattle.std.proofs.lemmas.Bool.{false≢true}
 use Rattle.drain.specs.Beginning.{IsOutermost}
-use Rattle.drain.proofs.Block.{outermost_edge, around_drains, around_keeps, MatchBool-weaker}
+use Rattle.drain.proofs.Block.{around_drains, around_keeps, MatchBool-weaker}
 use Rattle.drain.proofs.beginning.drains_at_once.Goals as goal
-
-pub returns-then-is_outermost : goal.returns-then-is_outermost
-returns-then-is_outermost c =
-    inr (outermost_edge c.args.grid.now.terrain c.args.place c.args.level c.requires.inside c.requires.level (c.is_outermost.ensures.0 c.if-is_outermost.true))
-
-pub any_gap_or_lower-requires : goal.any_gap_or_lower-requires
-any_gap_or_lower-requires c = λ way below.
-    omega (arith, c.cells_around-at.ensures.below way below, ap length c.cells-cells.ensures.value, c.cells-cells.ensures.lawful.terrain.size)
 
 pub returns : goal.returns
 returns c =

@@ -10,9 +10,6 @@ use Rattle.drain.proofs.DrainedLemmas.{same_terrain}
 use Rattle.drain.proofs.Quiet.{settled_is_steps, begun_counting}
 use Rattle.drain.proofs.draining.counted.Goals as goal
 
-pub begin-requires-clause-cuts : goal.begin-requires-clause-cuts
-begin-requires-clause-cuts g c κs within = subst (λ (x : Raster). Cuts c.args.tiling.now x.terrain) (sym c.grid-grid.ensures.value) c.requires.cuts
-
 pub settle-requires-clause-counting : goal.settle-requires-clause-counting
 settle-requires-clause-counting g c κs within =
     let v = c.args.tiling.now in

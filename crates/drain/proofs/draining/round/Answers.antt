@@ -1,10 +1,10 @@
-use Rattle.std.proofs.Common.{◌∙◌, ◌*◌, List, Option, Vec, Global, ℕ, length, sym, ap, subst}
+use Rattle.std.proofs.Common.{◌*◌, List, Option, Vec, Global, ℕ, sym, subst}
 use Rattle.std.proofs.lemmas.Result.{IfOk-weaker}
 use Rattle.tiles.specs.Cutting.{terrain_of}
 use Rattle.drain.specs.Rounds.{IsLent, IsRound}
 use Rattle.drain.specs.TileLists.{AreMadeBelow}
 use Rattle.drain.specs.Window.{AreCounts, IsSettled, IsHandedOut}
-use Rattle.drain.proofs.TileRound.{lent_to, lent_small, lent_size, round_from}
+use Rattle.drain.proofs.TileRound.{lent_to, lent_small, round_from}
 use Rattle.drain.proofs.draining.round.Goals as goal
 
 pub settled-requires-clause-counts : goal.settled-requires-clause-counts
@@ -14,23 +14,6 @@ settled-requires-clause-counts c =
     let b = c.in_ok-ground.ground.bounds in
     let lent = lent_to v w b c.in_ok-old.old.items c.requires.cutting c.requires.tile c.in_ok-ground.ensures.bounds c.in_ok-old.ensures in
     subst (λ (xs : List ℕ). AreCounts xs) (sym c.deref.ensures.value) (lent_small (terrain_of v) b w.cells c.in_ok-old.old.items lent c.requires.walked)
-
-pub settled-requires-clause-size : goal.settled-requires-clause-size
-settled-requires-clause-size c =
-    let v = c.args.levels.now in
-    let w = c.args.steps.now in
-    let b = c.in_ok-ground.ground.bounds in
-    let lent = lent_to v w b c.in_ok-old.old.items c.requires.cutting c.requires.tile c.in_ok-ground.ensures.bounds c.in_ok-old.ensures in
-    ap (λ (xs : List ℕ). length xs) c.deref.ensures.value ∙ lent_size (terrain_of v) b w.cells c.in_ok-old.old.items lent
-
-pub hand_out-requires : goal.hand_out-requires
-hand_out-requires c =
-    let v = c.args.levels.now in
-    let w = c.args.steps.now in
-    let b = c.in_ok-ground.ground.bounds in
-    let lent = lent_to v w b c.in_ok-old.old.items c.requires.cutting c.requires.tile c.in_ok-ground.ensures.bounds c.in_ok-old.ensures in
-    ap (λ (xs : List ℕ). length xs) c.deref-2.ensures.value ∙ c.in_ok-counts.ensures.size
-    ∙ ap (λ (xs : List ℕ). length xs) c.deref.ensures.value ∙ lent_size (terrain_of v) b w.cells c.in_ok-old.old.items lent
 
 pub returns : goal.returns
 returns c =

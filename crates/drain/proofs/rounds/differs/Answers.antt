@@ -1,16 +1,8 @@
-use Rattle.std.proofs.Common.{◌+◌, ◌*◌, inl, inr, sym, ap, subst, refl, ◌∙◌, arith}
+use Rattle.std.proofs.Common.{◌+◌, ◌*◌, inl, inr, sym, ap, refl, ◌∙◌, arith}
 use Rattle.std.proofs.lemmas.Bool.{cases_eq}
 use Rattle.tiles.specs.declared.bounds.Bounds.{Bounds}
-use Rattle.tiles.specs.Cutting.{IsInBounds}
-use Rattle.tiles.proofs.Cut.{in_bounds}
 use Rattle.tiles.proofs.TileRows.{row_same, row_other}
 use Rattle.drain.proofs.rounds.differs.Goals as goal
-
-pub loop-row-init : goal.loop-row-init
-loop-row-init c = λ p inside below.
-    let v = c.args.steps.now in
-    let z = subst (λ (x : Bounds). IsInBounds x p) (sym c.bounds-bounds.ensures.value) (in_bounds v.cutting v.tile p c.bounds-bounds.ensures.lawful.cutting inside) in
-    absurd (omega (arith, z.0))
 
 pub loop-row-preserved : goal.loop-row-preserved
 loop-row-preserved c = λ p inside below.
@@ -27,9 +19,3 @@ returns-then-row_differs c =
     let h = c.if-row_differs.ensures in
     row_other c.args.steps.now b c.args.list.now c.row.result.now c.loop-row.row (c.loop-row.row * b.cols) h.0 c.bounds-bounds.ensures.lawful c.bounds-bounds.ensures.value
     c.row.ensures.value (c.row.ensures.size ∙ ap (λ (z : Bounds). z.cols) (sym c.bounds-bounds.ensures.value)) refl c.loop-row-test.true h.1 h.2
-
-pub returns : goal.returns
-returns c = λ p inside.
-    let v = c.args.steps.now in
-    let z = subst (λ (x : Bounds). IsInBounds x p) (sym c.bounds-bounds.ensures.value) (in_bounds v.cutting v.tile p c.bounds-bounds.ensures.lawful.cutting inside) in
-    c.loop-row.invariant p inside (omega (arith, z.1))

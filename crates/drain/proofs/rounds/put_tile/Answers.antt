@@ -1,22 +1,6 @@
-use Rattle.std.proofs.Common.{◌≡◌, ◌∙◌, ◌+◌, ◌*◌, ℕ, ap, subst, refl, arith}
-use Rattle.tiles.proofs.TileRows.{IsWrittenBelow, row_written, none_written, row_in_grid, row_in_list, tile_written}
+use Rattle.std.proofs.Common.{◌≡◌, ◌+◌, ◌*◌, ℕ, ap, subst, refl, arith}
+use Rattle.tiles.proofs.TileRows.{IsWrittenBelow, row_written}
 use Rattle.drain.proofs.rounds.put_tile.Goals as goal
-
-pub put_row-requires-clause-steps : goal.put_row-requires-clause-steps
-put_row-requires-clause-steps c =
-    row_in_grid c.args.tiling.now c.bounds-top.result c.loop-row.steps c.loop-row.row c.cols.result c.bounds-top.ensures.inside c.loop-row-test.true c.cols.ensures.value
-    (c.loop-row.auto.steps ∙ c.requires.steps)
-
-pub put_row-requires-clause-list : goal.put_row-requires-clause-list
-put_row-requires-clause-list c =
-    row_in_list c.args.tiling.now c.args.tile c.bounds-top.result c.args.list.now c.loop-row.row c.bounds-top.ensures.value c.requires.list c.loop-row-test.true
-
-pub loop-row-init : goal.loop-row-init
-loop-row-init c =
-    let b = c.bounds-top.result in
-    let start : b.top ≡ b.top + 0 = omega arith in
-    subst (λ (n : ℕ). IsWrittenBelow c.args.tiling.now c.args.tile c.args.list.now c.args.steps.now c.args.steps.now n) start
-    (none_written c.args.tiling.now c.args.tile c.args.list.now c.args.steps.now b c.bounds-top.ensures.lawful c.bounds-top.ensures.value)
 
 pub loop-row-preserved : goal.loop-row-preserved
 loop-row-preserved c =
@@ -29,8 +13,3 @@ loop-row-preserved c =
     ((b.top + c.loop-row.row) * c.cols.result + b.left) (c.loop-row.row * b.cols)
     c.bounds-top.ensures.lawful c.requires.tile c.bounds-top.ensures.value c.bounds-top.ensures.inside c.loop-row.invariant c.loop-row-test.true at refl
     c.put_row.ensures.written c.put_row.ensures.kept)
-
-pub returns-clause-written : goal.returns-clause-written
-returns-clause-written c =
-    tile_written c.args.tiling.now c.args.tile c.bounds-top.result c.args.list.now c.args.steps.now c.loop-row.steps (c.bounds-top.result.top + c.loop-row.row)
-    c.bounds-top.ensures.lawful c.bounds-top.ensures.value (omega arith) c.loop-row.invariant

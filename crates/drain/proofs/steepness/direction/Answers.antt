@@ -1,14 +1,8 @@
-use Rattle.std.proofs.Common.{sym, ◌∙◌, arith, rules, to_z-of_z}
+use Rattle.std.proofs.Common.{sym, ◌∙◌, rules, to_z-of_z}
 use mir.Val.{SFits}
 use mir.Syntax.{w32}
-use Rattle.drain.proofs.Weights.{drains_onward, direction_down}
+use Rattle.drain.proofs.Weights.{direction_down}
 use Rattle.drain.proofs.steepness.direction.Goals as goal
-
-pub onward-requires : goal.onward-requires
-onward-requires c =
-    let fits : SFits w32 c.args.around.now.level = search rules in
-    let weight = rw (to_z-of_z fits) at c.steepest-fall.ensures.weight in
-    drains_onward c.args.around.now c.requires (omega (arith, weight c.args.around.now c.heights_around.ensures)) c.if-around.false
 
 pub returns-then-fall-gt0 : goal.returns-then-fall-gt0
 returns-then-fall-gt0 c =

@@ -1,20 +1,8 @@
-use Rattle.std.proofs.Common.{inl, inr, List, [], All, ℕ, sym, subst, arith}
+use Rattle.std.proofs.Common.{inl, inr, [], arith}
 use Rattle.std.proofs.lemmas.Bool.{cases_eq}
-use Rattle.std.proofs.lemmas.List.Elements.{All-nil}
-use Rattle.ascii_grid.specs.declared.place.Place.{Place}
-use Rattle.drain.specs.Window.{IsInner, IsSpread, AreNoted, same}
 use Rattle.drain.proofs.Spreading.{near_after}
-use Rattle.drain.proofs.Noted.{noted_none, noted_then}
+use Rattle.drain.proofs.Noted.{noted_then}
 use Rattle.drain.proofs.window.pull.Goals as goal
-
-pub loop-row-init : goal.loop-row-init
-loop-row-init c = record {
-  spread = subst (λ (xs : List ℕ). IsSpread c.args.ground.now.bounds c.args.ground.now.levels.items c.args.old.now xs) (sym c.requires.same) same;
-  near = λ s inner below. absurd (omega (arith, inner.first_row));
-  noted = subst (λ (xs : List Place). AreNoted c.args.ground.now.bounds c.args.old.now c.args.counts.now [] xs) (sym c.new-reached.ensures.items)
-      (subst (λ (xs : List ℕ). AreNoted c.args.ground.now.bounds c.args.old.now xs [] []) (sym c.requires.same) (noted_none c.args.ground.now.bounds c.args.old.now []));
-  inner = subst (λ (xs : List Place). All (λ (s : Place). IsInner c.args.ground.now.bounds s) xs) (sym c.new-reached.ensures.items) (All-nil (λ (s : Place). IsInner c.args.ground.now.bounds s));
-}
 
 pub loop-row-preserved : goal.loop-row-preserved
 loop-row-preserved c =

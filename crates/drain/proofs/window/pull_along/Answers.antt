@@ -3,8 +3,8 @@ use Rattle.std.proofs.lemmas.Bool.{cases_eq}
 use Rattle.ascii_grid.proofs.Places.{make_place, same_place}
 use Rattle.ascii_grid.specs.declared.place.Place.{Place}
 use Rattle.drain.specs.Window.{IsNear}
-use Rattle.drain.proofs.Spreading.{near_after, not_above_itself, not_above_then}
-use Rattle.drain.proofs.Noted.{noted_none, noted_then}
+use Rattle.drain.proofs.Spreading.{near_after, not_above_then}
+use Rattle.drain.proofs.Noted.{noted_then}
 use Rattle.drain.proofs.window.pull_along.Goals as goal
 
 pub loop-col-preserved : goal.loop-col-preserved
@@ -22,12 +22,3 @@ loop-col-preserved c =
       noted = noted_then b c.args.counts.now c.loop-col.counts c.pull_at.new.counts c.args.reached.now.items c.loop-col.reached.items c.pull_at.new.reached.items c.loop-col.invariant.noted c.in_ok-pull_at.ensures.noted;
       inner = c.in_ok-pull_at.ensures.inner;
     }
-
-pub loop-col-init : goal.loop-col-init
-loop-col-init c = record {
-  spread = c.requires.spread;
-  kept = not_above_itself c.args.counts.now;
-  near = λ s inner row below. absurd (omega (arith, inner.first_col));
-  noted = noted_none c.args.ground.now.bounds c.args.counts.now c.args.reached.now.items;
-  inner = c.requires.inner;
-}

@@ -1,14 +1,8 @@
-use Rattle.std.proofs.Common.{◌≤◌, ◌<◌, length, vec_len, sum, refl, arith}
+use Rattle.std.proofs.Common.{length, refl, arith}
 use Rattle.std.proofs.lemmas.Option.{slice_get_read}
-use Rattle.drain.proofs.Spreading.{spread_on, spread_not_above, sum-spread}
+use Rattle.drain.proofs.Spreading.{spread_on, spread_not_above}
 use Rattle.drain.proofs.Noted.{even_spread}
 use Rattle.drain.proofs.window.search.Goals as goal
-
-pub loop-done-smaller : goal.loop-done-smaller
-loop-done-smaller c =
-    let more : c.loop-done.done < vec_len c.loop-done.reached = omega (arith, c.len.ensures, c.loop-done-test.true) in
-    let less : sum c.spread.new.counts ≤ sum c.loop-done.counts = sum-spread c.args.ground.now.bounds c.args.ground.now.levels.items c.loop-done.counts c.spread.new.counts c.in_ok-spread.ensures.spread in
-    omega (arith, c.in_ok-spread.ensures.left)
 
 pub loop-done-preserved : goal.loop-done-preserved
 loop-done-preserved c =

@@ -3,12 +3,6 @@ use Rattle.drain.specs.Entering.{lent_terrain}
 use Rattle.drain.proofs.Entered.{least_around}
 use Rattle.drain.proofs.entering.Lent.is_lessened.Goals as goal
 
-pub overflow_add-next-end : goal.overflow_add-next-end
-overflow_add-next-end c = let few = c.args.self.now.lawful.few_rows in omega (arith, c.requires.0)
-
-pub lessens_along-requires : goal.lessens_along-requires
-lessens_along-requires c = let few = c.args.self.now.lawful.few_cols in omega (arith, c.requires.1)
-
 pub returns : goal.returns
 returns c =
     let lent = c.args.self.now in

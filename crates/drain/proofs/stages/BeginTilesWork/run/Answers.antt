@@ -1,11 +1,6 @@
 use Rattle.drain.specs.Beginning.{IsBegun}
-use Rattle.drain.proofs.TileLists.{part_of, made_tile}
+use Rattle.drain.proofs.TileLists.{made_tile}
 use Rattle.drain.proofs.stages.BeginTilesWork.run.Goals as goal
-
-pub begin_tile-requires : goal.begin_tile-requires
-begin_tile-requires c =
-    let w = c.args.self.now in
-    record { inside = part_of w.grid.now.terrain w.tiling.now c.bounds-bounds.result c.bounds-bounds.ensures.lawful w.cuts c.bounds-bounds.ensures.inside }
 
 pub returns-clause-given : goal.returns-clause-given
 returns-clause-given c =

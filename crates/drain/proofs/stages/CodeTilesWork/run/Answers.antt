@@ -2,13 +2,8 @@ use Rattle.std.proofs.Common.{subst}
 use Rattle.drain.specs.Directions.{IsCodeAt}
 use Rattle.drain.specs.Stages.{SteppedTerrain}
 use Rattle.drain.specs.TileLists.{IsMadeTile}
-use Rattle.drain.proofs.TileLists.{part_of, made_tile}
+use Rattle.drain.proofs.TileLists.{made_tile}
 use Rattle.drain.proofs.stages.CodeTilesWork.run.Goals as goal
-
-pub codes_of_tile-requires-clause-inside : goal.codes_of_tile-requires-clause-inside
-codes_of_tile-requires-clause-inside c =
-    let i = c.self.inside in
-    part_of i.grid.now.terrain i.tiling.now c.bounds-bounds.result c.bounds-bounds.ensures.lawful c.self.invariant.cuts c.bounds-bounds.ensures.inside
 
 pub returns-clause-given : goal.returns-clause-given
 returns-clause-given c =
