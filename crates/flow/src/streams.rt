@@ -1,4 +1,4 @@
-// Weights that are sent along links, and where the links end.
+// Weights that are sent along links. A node that is linked to itself is an end.
 ghost use Rattle.std.specs.Prelude.{◌≡◌, ◌≢◌, ◌+◌, ◌^◌, ◌<◌, ◌≤◌, ℕ, length, slice_index, IfOk};
 ghost use Rattle.flow.specs.Streams.{AreStreams, AreUpstream, total};
 ghost use Rattle.flow.specs.Sending.{IsSending, AreDonorCounts, AreNone};
