@@ -15,7 +15,7 @@ mod CellMarks
 mod Adding
 mod Lowest
 mod SourceCells
-mod Gathered
+pub mod Gathered
 mod GraphParts
 -- raising, and the tiles together
 mod Rims

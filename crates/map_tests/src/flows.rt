@@ -1,8 +1,8 @@
 // Flow inside tiles, and over their rims.
-ghost use Rattle.std.specs.Prelude.{◌≡◌, IfOk};
+ghost use Rattle.std.specs.Prelude.{◌≡◌, ◌<◌, IfOk};
 ghost use Rattle.drainage.specs.Drained.{AllFlowEnds, directed_of};
-ghost use Rattle.flow.specs.TileFlow.{AreTileFlows};
-ghost use Rattle.tiles.specs.Cutting.{Cuts};
+ghost use Rattle.flow.specs.TileFlow.{IsTileFlow, AreTileFlows};
+ghost use Rattle.tiles.specs.Cutting.{Cuts, tile_count};
 
 use crate::ground::{cut, land};
 use ascii_grid::{NoMemory, Place};
@@ -14,15 +14,30 @@ use std::process::Abort;
 use tile_jobs::NoGate;
 use tiles::Tiling;
 
+/// The flow of a tile.
+pub(crate) fn flow_of(
+    alloc: Global,
+    tiling: &Tiling,
+    ways: &Directions,
+    tile: u32,
+) -> Result<TileFlow, NoMemory>
+    requires cuts { Cuts tiling.now ways.now.terrain }
+    requires ends { AllFlowEnds (directed_of ways.now) }
+    requires tile { tile < tile_count tiling.now }
+    ensures { IfOk result (λ f. IsTileFlow (directed_of ways.now) tiling.now tile f) }
+{
+    tile_flow(alloc, &tiling.view(ways.codes(), tile))
+}
+
 /// The flow of each tile, in tile order.
-fn flows_of(alloc: Global, tiling: &Tiling, ways: &Directions) -> Result<Vec<TileFlow>, NoMemory>
+pub(crate) fn flows_of(alloc: Global, tiling: &Tiling, ways: &Directions) -> Result<Vec<TileFlow>, NoMemory>
     requires cuts { Cuts tiling.now ways.now.terrain }
     requires ends { AllFlowEnds (directed_of ways.now) }
     ensures { IfOk result (λ v. AreTileFlows (directed_of ways.now) tiling.now v.items) }
 {
     let mut flows = Vec::new(alloc);
     for tile in 0..tiling.tiles() {
-        let flow = tile_flow(alloc, &tiling.view(ways.codes(), tile))?;
+        let flow = flow_of(alloc, tiling, ways, tile)?;
         if flows.push(flow).is_err() {
             return Err(NoMemory);
         }
@@ -31,7 +46,7 @@ fn flows_of(alloc: Global, tiling: &Tiling, ways: &Directions) -> Result<Vec<Til
 }
 
 /// The links over the rims of these flows.
-fn links_of<'a>(
+pub(crate) fn links_of<'a>(
     alloc: Global,
     tiling: &Tiling,
     ways: &Directions,
@@ -54,11 +69,15 @@ fn expect_tile_flows(rt: &impl Abort, flows: &[TileFlow]) {
     assert_eq!(rt; flows[1].exit(exit), None);
 }
 
-/// What comes in over the rim at a column of the first row, and where the water of that cell ends.
-fn link_at(rt: &impl Abort, tiling: &Tiling, links: &RimLinks<'_>, col: u32) -> (u32, Option<Place>)
+/// What comes in over the rim at a place, and where the water of an exit ends.
+pub(crate) fn link_at(
+    rt: &impl Abort,
+    tiling: &Tiling,
+    links: &RimLinks<'_>,
+    place: Place,
+) -> (u32, Option<Place>)
     requires { links.now.cutting ≡ tiling.now }
 {
-    let place = Place { row: 0, col };
     assert!(rt; place.row < tiling.rows());
     assert!(rt; place.col < tiling.cols());
     (links.inflow(place), links.outlet(place))
@@ -74,7 +93,9 @@ fn slope_in_tiles_and_joined(rt: HostRuntime) {
     let flows = flows_of(alloc, &tiling, &ways).expect(&rt, "flows");
     expect_tile_flows(&rt, &flows);
     let links = links_of(alloc, &tiling, &ways, &flows).expect(&rt, "links");
-    assert_eq!(rt; link_at(&rt, &tiling, &links, 2), (4, None));
+    let beyond = Place { row: 0, col: 2 };
+    assert_eq!(rt; link_at(&rt, &tiling, &links, beyond), (4, None));
+    let exit = Place { row: 0, col: 1 };
     let outlet = Place { row: 0, col: 5 };
-    assert_eq!(rt; link_at(&rt, &tiling, &links, 1), (0, Some(outlet)));
+    assert_eq!(rt; link_at(&rt, &tiling, &links, exit), (0, Some(outlet)));
 }

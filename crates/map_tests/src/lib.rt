@@ -20,6 +20,8 @@ mod maps;
 #[cfg(test)]
 mod meeting;
 #[cfg(test)]
+mod pits;
+#[cfg(test)]
 mod runs;
 #[cfg(test)]
 mod seeing;

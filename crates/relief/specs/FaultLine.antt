@@ -90,7 +90,8 @@ fault_line fault =
     ++ option_map_or (λ d. codes " " ++ d) t.detail [] ++ codes "\n"
 
 -- The status with which the program ends: 3 for want of memory or of a thread, 4 for a device, and else 2.
+abbrev pub status_of : ℕ → ℕ
+status_of number = if number == 12 || number == 32 then 3 else if number == 51 || number == 52 then 4 else 2
+
 abbrev pub fault_status : RunFault → ℕ
-fault_status fault =
-    let n = (telling fault).number in
-    if n == 12 || n == 32 then 3 else if n == 51 || n == 52 then 4 else 2
+fault_status fault = status_of (telling fault).number

@@ -1,11 +1,12 @@
 // Why a run was refused.
 ghost use Rattle.std.specs.Prelude.{◌≡◌, ◌≤◌, length, option_map};
-ghost use Rattle.relief.specs.FaultLine.{telling, grid_telling, tiling_telling, jobs_telling, sight_telling, fault_status, slot_text, detail_text};
+ghost use Rattle.relief.specs.FaultLine.{telling, grid_telling, tiling_telling, jobs_telling, sight_telling, fault_status, status_of, plain, detailed, slot_text, detail_text};
 ghost use Rattle.relief.specs.declared.fault.RunFault.TheVariants.{Tiling, Jobs, Write};
 ghost use Rattle.relief.specs.Faults.{of_input, of_sight};
 
 use ascii_grid::{GridFault, InputFault, Key, WriteFailed};
 use sight::SightFault;
+use std::marker::Model;
 use tile_jobs::JobFault;
 use tiles::TilingFault;
 
@@ -80,19 +81,31 @@ pub(crate) enum Detail {
     Count(u32),
 }
 
+/// What a fault's line tells of it.
+#[derive(Drop)]
+pub(crate) struct Notice {
+    pub(crate) number: u8,
+    pub(crate) name: &'static [u8],
+    pub(crate) detail: Option<Detail>,
+}
+
+impl Model for Notice {
+    ghost use Rattle.std.specs.Prelude.{◌≤◌, length, option_map};
+    ghost use Rattle.relief.specs.FaultLine.{Telling, detail_text};
+
+    ghost Value = { Telling };
+
+    ghost view = { λ n. record { number = n.number; name = n.name.now; detail = option_map detail_text n.detail } };
+
+    ghost invariant = { λ n. length n.name.now ≤ 40 };
+}
+
 impl RunFault {
     /// The fault's number, from 1 to 52.
     pub fn number(&self) -> u8
         ensures { result ≡ (telling self.now).number }
     {
-        match self {
-            RunFault::Grid(fault) => grid_number(fault),
-            RunFault::Tiling(fault) => tiling_number(fault),
-            RunFault::Jobs(fault) => jobs_number(fault),
-            RunFault::Sight(fault) => sight_number(fault),
-            RunFault::Read => 51,
-            RunFault::Write => 52,
-        }
+        self.notice().number
     }
 
     /// The status with which the program ends: 3 for want of memory or of a thread, 4 for a device, and
@@ -100,167 +113,105 @@ impl RunFault {
     pub fn status(&self) -> u8
         ensures { result ≡ fault_status self.now }
     {
-        match self.number() {
-            12 | 32 => 3,
-            51 | 52 => 4,
-            _ => 2,
-        }
+        status_of(self.number())
     }
 
-    /// The fault's name.
-    pub(crate) fn name(&self) -> &'static [u8]
-        ensures name { result.now ≡ (telling self.now).name }
-        ensures short { length result.now ≤ 40 }
+    /// What the fault's line tells.
+    pub(crate) fn notice(&self) -> Notice
+        ensures { result ≡ telling self.now }
     {
         match self {
-            RunFault::Grid(fault) => grid_name(fault),
-            RunFault::Tiling(fault) => tiling_name(fault),
-            RunFault::Jobs(fault) => jobs_name(fault),
-            RunFault::Sight(fault) => sight_name(fault),
-            RunFault::Read => b"Read",
-            RunFault::Write => b"Write",
-        }
-    }
-
-    /// The fault's detail, where it has one.
-    pub(crate) fn detail(&self) -> Option<Detail>
-        ensures { option_map detail_text result ≡ (telling self.now).detail }
-    {
-        match self {
-            RunFault::Grid(fault) => grid_detail(fault),
-            RunFault::Sight(fault) => sight_detail(fault),
-            RunFault::Tiling(_) | RunFault::Jobs(_) | RunFault::Read | RunFault::Write => None,
+            RunFault::Grid(fault) => grid_notice(fault),
+            RunFault::Tiling(fault) => tiling_notice(fault),
+            RunFault::Jobs(fault) => jobs_notice(fault),
+            RunFault::Sight(fault) => sight_notice(fault),
+            RunFault::Read => plain(51, b"Read"),
+            RunFault::Write => plain(52, b"Write"),
         }
     }
 }
 
-fn grid_number(fault: &GridFault) -> u8
-    ensures { result ≡ (grid_telling fault.now).number }
+fn status_of(number: u8) -> u8
+    ensures { result ≡ status_of number }
 {
-    match fault {
-        GridFault::UnknownKey => 1,
-        GridFault::RepeatedKey(_) => 2,
-        GridFault::MissingKey(_) => 3,
-        GridFault::BadSize(_) => 4,
-        GridFault::BadPlace(_) => 5,
-        GridFault::BadNodata => 6,
-        GridFault::BadHeight(_) => 7,
-        GridFault::TooFew(_) => 8,
-        GridFault::TooMany => 9,
-        GridFault::NoValue(_) => 10,
-        GridFault::TooLong => 11,
-        GridFault::Memory => 12,
+    match number {
+        12 | 32 => 3,
+        51 | 52 => 4,
+        _ => 2,
     }
 }
 
-fn tiling_number(fault: &TilingFault) -> u8
-    ensures { result ≡ (tiling_telling fault.now).number }
+fn plain(number: u8, name: &'static [u8]) -> Notice
+    requires { length name.now ≤ 40 }
+    ensures { result ≡ plain number name.now }
 {
-    match fault {
-        TilingFault::BadSide => 21,
-        TilingFault::TooManyTiles => 22,
+    Notice {
+        number,
+        name,
+        detail: None,
     }
 }
 
-fn jobs_number(fault: &JobFault) -> u8
-    ensures { result ≡ (jobs_telling fault.now).number }
+fn detailed(number: u8, name: &'static [u8], detail: Detail) -> Notice
+    requires { length name.now ≤ 40 }
+    ensures { result ≡ detailed number name.now (detail_text detail) }
 {
-    match fault {
-        JobFault::Memory => 12,
-        JobFault::BadWorkers => 31,
-        JobFault::NoThread => 32,
+    Notice {
+        number,
+        name,
+        detail: Some(detail),
     }
 }
 
-fn sight_number(fault: &SightFault) -> u8
-    ensures { result ≡ (sight_telling fault.now).number }
+fn grid_notice(fault: &GridFault) -> Notice
+    ensures { result ≡ grid_telling fault.now }
 {
     match fault {
-        SightFault::Outside(_) => 41,
-        SightFault::OnNodata(_) => 42,
-        SightFault::TooManyObservers => 43,
-        SightFault::BadEye(_) => 44,
-        SightFault::BadRadius => 45,
-        SightFault::Jobs(fault) => jobs_number(fault),
+        GridFault::UnknownKey => plain(1, b"UnknownKey"),
+        GridFault::RepeatedKey(key) => detailed(2, b"RepeatedKey", Detail::Slot(*key)),
+        GridFault::MissingKey(key) => detailed(3, b"MissingKey", Detail::Slot(*key)),
+        GridFault::BadSize(key) => detailed(4, b"BadSize", Detail::Slot(*key)),
+        GridFault::BadPlace(key) => detailed(5, b"BadPlace", Detail::Slot(*key)),
+        GridFault::BadNodata => plain(6, b"BadNodata"),
+        GridFault::BadHeight(cell) => detailed(7, b"BadHeight", Detail::Count(*cell)),
+        GridFault::TooFew(heights) => detailed(8, b"TooFew", Detail::Count(*heights)),
+        GridFault::TooMany => plain(9, b"TooMany"),
+        GridFault::NoValue(key) => detailed(10, b"NoValue", Detail::Slot(*key)),
+        GridFault::TooLong => plain(11, b"TooLong"),
+        GridFault::Memory => plain(12, b"Memory"),
     }
 }
 
-fn grid_name(fault: &GridFault) -> &'static [u8]
-    ensures name { result.now ≡ (grid_telling fault.now).name }
-    ensures short { length result.now ≤ 40 }
+fn tiling_notice(fault: &TilingFault) -> Notice
+    ensures { result ≡ tiling_telling fault.now }
 {
     match fault {
-        GridFault::UnknownKey => b"UnknownKey",
-        GridFault::RepeatedKey(_) => b"RepeatedKey",
-        GridFault::MissingKey(_) => b"MissingKey",
-        GridFault::BadSize(_) => b"BadSize",
-        GridFault::BadPlace(_) => b"BadPlace",
-        GridFault::BadNodata => b"BadNodata",
-        GridFault::BadHeight(_) => b"BadHeight",
-        GridFault::TooFew(_) => b"TooFew",
-        GridFault::TooMany => b"TooMany",
-        GridFault::NoValue(_) => b"NoValue",
-        GridFault::TooLong => b"TooLong",
-        GridFault::Memory => b"Memory",
+        TilingFault::BadSide => plain(21, b"BadSide"),
+        TilingFault::TooManyTiles => plain(22, b"TooManyTiles"),
     }
 }
 
-fn tiling_name(fault: &TilingFault) -> &'static [u8]
-    ensures name { result.now ≡ (tiling_telling fault.now).name }
-    ensures short { length result.now ≤ 40 }
+fn jobs_notice(fault: &JobFault) -> Notice
+    ensures { result ≡ jobs_telling fault.now }
 {
     match fault {
-        TilingFault::BadSide => b"BadSide",
-        TilingFault::TooManyTiles => b"TooManyTiles",
+        JobFault::Memory => plain(12, b"Memory"),
+        JobFault::BadWorkers => plain(31, b"BadWorkers"),
+        JobFault::NoThread => plain(32, b"NoThread"),
     }
 }
 
-fn jobs_name(fault: &JobFault) -> &'static [u8]
-    ensures name { result.now ≡ (jobs_telling fault.now).name }
-    ensures short { length result.now ≤ 40 }
+fn sight_notice(fault: &SightFault) -> Notice
+    ensures { result ≡ sight_telling fault.now }
 {
     match fault {
-        JobFault::Memory => b"Memory",
-        JobFault::BadWorkers => b"BadWorkers",
-        JobFault::NoThread => b"NoThread",
-    }
-}
-
-fn sight_name(fault: &SightFault) -> &'static [u8]
-    ensures name { result.now ≡ (sight_telling fault.now).name }
-    ensures short { length result.now ≤ 40 }
-{
-    match fault {
-        SightFault::Outside(_) => b"Outside",
-        SightFault::OnNodata(_) => b"OnNodata",
-        SightFault::TooManyObservers => b"TooManyObservers",
-        SightFault::BadEye(_) => b"BadEye",
-        SightFault::BadRadius => b"BadRadius",
-        SightFault::Jobs(fault) => jobs_name(fault),
-    }
-}
-
-fn sight_detail(fault: &SightFault) -> Option<Detail>
-    ensures { option_map detail_text result ≡ (sight_telling fault.now).detail }
-{
-    match fault {
-        SightFault::Outside(place) | SightFault::OnNodata(place) => Some(Detail::Count(*place)),
-        SightFault::BadEye(place) => place.map(Detail::Count),
-        _ => None,
-    }
-}
-
-fn grid_detail(fault: &GridFault) -> Option<Detail>
-    ensures { option_map detail_text result ≡ (grid_telling fault.now).detail }
-{
-    match fault {
-        GridFault::RepeatedKey(key)
-        | GridFault::MissingKey(key)
-        | GridFault::BadSize(key)
-        | GridFault::BadPlace(key)
-        | GridFault::NoValue(key) => Some(Detail::Slot(*key)),
-        GridFault::BadHeight(count) | GridFault::TooFew(count) => Some(Detail::Count(*count)),
-        _ => None,
+        SightFault::Outside(place) => detailed(41, b"Outside", Detail::Count(*place)),
+        SightFault::OnNodata(place) => detailed(42, b"OnNodata", Detail::Count(*place)),
+        SightFault::TooManyObservers => plain(43, b"TooManyObservers"),
+        SightFault::BadEye(None) => plain(44, b"BadEye"),
+        SightFault::BadEye(Some(place)) => detailed(44, b"BadEye", Detail::Count(*place)),
+        SightFault::BadRadius => plain(45, b"BadRadius"),
+        SightFault::Jobs(fault) => jobs_notice(fault),
     }
 }
 

@@ -16,7 +16,7 @@ use fill::filled;
 use flow::{accumulation, basins};
 use request::{Map, Options};
 use sight::viewshed;
-use std::alloc::Global;
+use std::alloc::{AllocError, Global};
 use std::sync::Wait;
 use std::thread::Threads;
 use tile_jobs::{Gate, JobFault};
@@ -30,18 +30,12 @@ pub(crate) enum MadeMap {
 }
 
 /// The numbers of direction codes.
-fn code_numbers(alloc: Global, codes: &[Option<Code>]) -> Result<Vec<Option<u32>>, JobFault>
-    ensures numbers { IfOk result (λ v. v.items ≡ codes.now) }
-    ensures fault { IfErr result (λ f. f ≡ JobFault.Memory) }
+fn code_numbers(alloc: Global, codes: &[Option<Code>]) -> Result<Vec<Option<u32>>, AllocError>
+    ensures { IfOk result (λ v. v.items ≡ codes.now) }
 {
-    let Ok(mut numbers) = Vec::with_capacity(alloc, codes.len()) else {
-        return Err(JobFault::Memory);
-    };
+    let mut numbers = Vec::with_capacity(alloc, codes.len())?;
     for code in codes {
-        let number = code.map(|code| u32::from(code.number()));
-        if numbers.push(number).is_err() {
-            return Err(JobFault::Memory);
-        }
+        numbers.push(code.map(|code| u32::from(code.number())))?;
     }
     Ok(numbers)
 }
@@ -79,43 +73,7 @@ fn flow_map<H: Threads + Wait + Sync, G: Gate + Sync>(
     ensures workers { RefusesWorkers workers result }
 {
     let directions = drained(rt, alloc, grid, tiling, workers, gate)?;
-    code_numbers(alloc, directions.codes())
-}
-
-/// The map of accumulations.
-fn accumulation_map<H: Threads + Wait + Sync, G: Gate + Sync>(
-    rt: &H,
-    alloc: Global,
-    grid: &Grid,
-    tiling: &Tiling,
-    workers: u32,
-    gate: &G,
-) -> Result<Vec<Option<u32>>, JobFault>
-    requires { Cuts tiling.now grid.now.terrain }
-    ensures map { IfOk result (λ v. IsMapText grid.now Map.Accumulate (counts_text grid.now v.items)) }
-    ensures size { IfOk result (λ v. length v.items ≡ grid.now.terrain.cols * grid.now.terrain.rows) }
-    ensures workers { RefusesWorkers workers result }
-{
-    let directions = drained(rt, alloc, grid, tiling, workers, gate)?;
-    accumulation(rt, alloc, &directions, tiling, workers, gate)
-}
-
-/// The map of basins.
-fn basin_map<H: Threads + Wait + Sync, G: Gate + Sync>(
-    rt: &H,
-    alloc: Global,
-    grid: &Grid,
-    tiling: &Tiling,
-    workers: u32,
-    gate: &G,
-) -> Result<Vec<Option<u32>>, JobFault>
-    requires { Cuts tiling.now grid.now.terrain }
-    ensures map { IfOk result (λ v. IsMapText grid.now Map.Basins (counts_text grid.now v.items)) }
-    ensures size { IfOk result (λ v. length v.items ≡ grid.now.terrain.cols * grid.now.terrain.rows) }
-    ensures workers { RefusesWorkers workers result }
-{
-    let directions = drained(rt, alloc, grid, tiling, workers, gate)?;
-    basins(rt, alloc, &directions, tiling, workers, gate)
+    Ok(code_numbers(alloc, directions.codes())?)
 }
 
 /// Cuts a grid into tiles of this side.
@@ -154,11 +112,13 @@ pub(crate) fn make_map<H: Threads + Wait + Sync, G: Gate + Sync>(
             Ok(MadeMap::Counts(codes))
         }
         Map::Accumulate => {
-            let counts = accumulation_map(rt, alloc, grid, &tiling, workers, gate)?;
+            let directions = drained(rt, alloc, grid, &tiling, workers, gate)?;
+            let counts = accumulation(rt, alloc, &directions, &tiling, workers, gate)?;
             Ok(MadeMap::Counts(counts))
         }
         Map::Basins => {
-            let numbers = basin_map(rt, alloc, grid, &tiling, workers, gate)?;
+            let directions = drained(rt, alloc, grid, &tiling, workers, gate)?;
+            let numbers = basins(rt, alloc, &directions, &tiling, workers, gate)?;
             Ok(MadeMap::Counts(numbers))
         }
         Map::View {

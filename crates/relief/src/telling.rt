@@ -4,7 +4,7 @@ ghost use Rattle.std.specs.Option.{option_map_or};
 ghost use Rattle.ascii_grid.specs.Device.{Writes};
 ghost use Rattle.relief.specs.FaultLine.{fault_line, detail_text};
 
-use crate::fault::{Detail, RunFault, slot_name};
+use crate::fault::{Detail, Notice, RunFault, slot_name};
 use ascii_grid::{Counted, Page, WriteFailed};
 use itoa::Buffer;
 use std::io::Write;
@@ -43,12 +43,17 @@ pub fn tell<W: Write>(fault: &RunFault, out: &mut Counted<W>) -> Result<(), Writ
     requires { out.old.failures < 2 ^ 64 - 1 }
     ensures { Writes W.contents out.old out.new (fault_line fault.now) result }
 {
+    let Notice {
+        number,
+        name,
+        detail,
+    } = fault.notice();
     let mut line = Page::new();
     line.push(b"relief: ");
-    push_number(u64::from(fault.number()), &mut line);
+    push_number(u64::from(number), &mut line);
     line.push_byte(b' ');
-    line.push(fault.name());
-    push_detail(fault.detail(), &mut line);
+    line.push(name);
+    push_detail(detail, &mut line);
     line.push_byte(b'\n');
     line.write_to(out)
 }
