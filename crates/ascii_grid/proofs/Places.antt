@@ -62,9 +62,17 @@ HasNoGapBefore is_gap p row col = (q : Place) → Touches p q → IsBefore q row
 pub gap_at_end : {G : Place → Type 0} (cols rows : ℕ) (p : Place) → ((q : Place) → (rows ≤ q.row) ⊎ (cols ≤ q.col) → G q) →
     (p.row ≡ 0) ⊎ (p.row + 1 ≡ rows) ⊎ (p.col ≡ 0) ⊎ (p.col + 1 ≡ cols) → HasGapWhere G p
 gap_at_end cols rows p outside (inl e) = inl e
-gap_at_end cols rows p outside (inr (inl e)) = inr (inr (make_place (p.row + 1) p.col, record { row_down = omega arith; row_up = omega arith; col_right = omega arith; col_left = omega arith }, outside _ (inl (omega (arith, e)))))
+gap_at_end cols rows p outside (inr (inl e)) = inr (inr (
+  make_place (p.row + 1) p.col,
+  record { row_down = omega arith; row_up = omega arith; col_right = omega arith; col_left = omega arith },
+  outside _ (inl (omega (arith, e))),
+))
 gap_at_end cols rows p outside (inr (inr (inl e))) = inr (inl e)
-gap_at_end cols rows p outside (inr (inr (inr e))) = inr (inr (make_place p.row (p.col + 1), record { row_down = omega arith; row_up = omega arith; col_right = omega arith; col_left = omega arith }, outside _ (inr (omega (arith, e)))))
+gap_at_end cols rows p outside (inr (inr (inr e))) = inr (inr (
+  make_place p.row (p.col + 1),
+  record { row_down = omega arith; row_up = omega arith; col_right = omega arith; col_left = omega arith },
+  outside _ (inr (omega (arith, e))),
+))
 
 -- where gaps of one kind are gaps of another
 pub gap_where : {P Q : Place → Type 0} (p : Place) → ((q : Place) → Touches p q → P q → Q q) → HasGapWhere P p → HasGapWhere Q p

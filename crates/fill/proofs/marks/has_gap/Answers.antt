@@ -10,7 +10,11 @@ pub returns-then-place-eq0 : goal.returns-then-place-eq0
 returns-then-place-eq0 c =
     let t = c.args.tiling.now in
     let floods = c.args.floods.now in
-    let outside : (q : Place) → (t.rows ≤ q.row) ⊎ (t.cols ≤ q.col) → mark_among t floods q ≡ None = λ q out. mark_outside t floods q c.rows-rows.ensures.lawful c.requires.fit (λ within. elim out [ inl below ↦ omega (arith, within, below) | inr beside ↦ omega (arith, within, beside) ]) in
+    let outside : (q : Place) → (t.rows ≤ q.row) ⊎ (t.cols ≤ q.col) → mark_among t floods q ≡ None = λ q out.
+    mark_outside t floods q c.rows-rows.ensures.lawful c.requires.fit (λ within. elim out [
+      | inl below ↦ omega (arith, within, below)
+      | inr beside ↦ omega (arith, within, beside)
+    ]) in
     let gap : HasGapAmong t floods c.args.place = gap_at_end t.cols t.rows c.args.place outside (elim c.then-place-eq0.branch [
       | then-place-eq0-via-then-place-eq0 w ↦ inl (omega arith)
       | then-place-eq0-via-else-place-eq0+then-place-eq0-2 w ↦ inr (inr (inl (omega arith)))
