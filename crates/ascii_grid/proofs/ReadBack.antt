@@ -182,9 +182,7 @@ no_words_fault g h =
 enough : (g : Raster) → IsLawful g → ltb (length (words_of_cells g)) (cells_wanted (header_of g [])) ≡ false
 enough g h =
     let n = length-map g.terrain.cells (cell_text (height_text g.scale) g.nodata) in
-    let m = wanted_again g h in
-    let size = h.terrain.size in
-    le-ltb (length (words_of_cells g)) (cells_wanted (header_of g [])) (le_of_eq (m ∙ sym size ∙ sym n))
+    le-ltb (length (words_of_cells g)) (cells_wanted (header_of g [])) (le_of_eq (wanted_again g h ∙ sym h.terrain.size ∙ sym n))
 
 no_end_fault : (g : Raster) → IsLawful g → end_fault (words (heights_text g)) ≡ None
 no_end_fault g h =

@@ -6,17 +6,13 @@ use Rattle.std.proofs.Math.Nat.{mod-add-div'}
 use Rattle.tile_jobs.proofs.Residues.{deal_length}
 use Rattle.tile_jobs.specs.Board.{deal}
 
--- one job more where the part of a round has reached the deque
-reaches : (r v q : ℕ) → cond (r == v) 1 0 + (q + cond (nat_lt v r) 1 0) ≡ q + cond (nat_lt v (suc r)) 1 0
-reaches r v q = grind (arith, nat_tests)
-
 part_of_round : (q r seats v : ℕ) → r ≤ seats → length (deal (q * seats) seats v) ≡ q → length (deal (q * seats + r) seats v) ≡ q + cond (nat_lt v r) 1 0
 part_of_round q zero seats v few whole = let e : q * seats + 0 ≡ q * seats = omega arith in let t : nat_lt v 0 ≡ false = grind (arith, nat_tests) in rw (e, t) (whole ∙ omega arith)
 part_of_round q (suc r) seats v few whole =
     let h = part_of_round q r seats v (omega arith) whole in
     let m = mod-mul-add q seats r (omega arith) in
     let e : q * seats + suc r ≡ suc (q * seats + r) = omega arith in
-    rw e (deal_length (q * seats + r) seats v ∙ rw (m, h) (reaches r v q))
+    rw e (deal_length (q * seats + r) seats v ∙ rw (m, h) (grind (arith, nat_tests)))
 
 whole_rounds : (q seats v : ℕ) → v < seats → length (deal (q * seats) seats v) ≡ q
 whole_rounds zero seats v low = let e : 0 * seats ≡ 0 = omega arith in rw e refl

@@ -1,5 +1,6 @@
 -- A worker's answers go with its seat's list.
-use Rattle.std.proofs.Common.{◌≡◌, ℕ, zero, suc, ◌+◌, ◌<◌, Result, Ok, Err, sym, subst, ◌==◌, cond, Bool, true, false, List, [], ◌∷◌, ◌++◌, get_or, refl, ◌∙◌, arith}
+use Rattle.std.proofs.Common.{◌≡◌, ℕ, zero, suc, ◌+◌, ◌<◌, Result, Ok, Err, sym, subst, ◌==◌, cond, Bool, true, false, List, [], ◌∷◌, ◌++◌, get_or, refl, ◌∙◌, arith, inl, inr}
+use Rattle.std.proofs.lemmas.Bool.{cases_lt}
 use Rattle.std.proofs.lemmas.Bool.Decides.{nat_tests}
 use Rattle.tile_jobs.specs.declared.slots.Answer.{Answer}
 use Rattle.tile_jobs.specs.Answers.{IsAnswered}
@@ -29,11 +30,11 @@ module _ {O : Type 0} where
   back_same gives s t (Ok shift) out e = (subst (SameSeat s) (sym e) out.0.same, subst HasAllMarks (sym e) out.0.empty)
   back_same gives s t (Err f) out e = absurd e
 
-part_at : (n : ℕ) (f : ℕ → ℕ) → (0 < sum_to n f → (s : ℕ) × (s < n) × (0 < f s)) → 0 < sum_to n f + f n → (k : ℕ) → f n ≡ k → (s : ℕ) × (s < suc n) × (0 < f s)
-part_at n f more h zero e = let rest = more (omega arith) in (rest.0, omega (arith, rest.1), rest.2)
-part_at n f more h (suc k) e = (n, omega arith, omega arith)
-
 -- where a sum isn't 0, one of its parts isn't
 pub some_part : (n : ℕ) (f : ℕ → ℕ) → 0 < sum_to n f → (s : ℕ) × (s < n) × (0 < f s)
 some_part zero f h = absurd (omega arith)
-some_part (suc n) f h = part_at n f (some_part n f) h (f n) refl
+some_part (suc n) f h =
+    elim (cases_lt 0 (f n)) [
+      | inl l ↦ (n, omega arith, l)
+      | inr none ↦ let rest = some_part n f (omega arith) in (rest.0, omega (arith, rest.1), rest.2)
+    ]

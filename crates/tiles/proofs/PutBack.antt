@@ -96,25 +96,21 @@ IsPutBackBelow-more t lists row left width n whole part fits e h size each = rec
 }
 
 -- one more tile of a row
-crosses : {X : Type 0} (t : Cutting) (lists : List (Vec X Global)) (row column : ℕ) (whole part : List X) → IsCutting t → row < t.rows → column < across t →
-    IsPutBackBelow t lists (crossed t row column) whole → IsRowOf t lists (row / t.side * across t + column) row part → IsPutBackBelow t lists (crossed t row (column + 1)) (whole ++ part)
-crosses t lists row column whole part h r c k i =
+pub crosses_more : {X : Type 0} (t : Cutting) (lists : List (Vec X Global)) (row column first : ℕ) (whole part next : List X) → IsCutting t → row < t.rows → column < across t →
+    first ≡ row / t.side * across t → next ≡ whole ++ part → IsPutBackBelow t lists (crossed t row column) whole → IsRowOf t lists (first + column) row part →
+    IsPutBackBelow t lists (crossed t row (column + 1)) next
+crosses_more t lists row column first whole part next h r c e f k is =
+    let i : IsRowOf t lists (row / t.side * across t + column) row part = subst (λ n. IsRowOf t lists (n + column) row part) e is in
     let at = crossed_at t row column h r c in
     let begins = piece_begins t.cols t.side column h.some_side c in
     let left = at.2 in
     let width = at.3 in
     let n : crossed t row column ≡ row * t.cols + column * t.side = omega (arith, begins) in
     let more : crossed t row column + min t.side (t.cols - column * t.side) ≡ crossed t row (column + 1) = omega (arith, n, crossed_more t row column h c) in
-    subst (λ m. IsPutBackBelow t lists m (whole ++ part)) more
-    (IsPutBackBelow-more t lists row (column * t.side) (min t.side (t.cols - column * t.side)) (crossed t row column) whole part (omega (arith, begins)) n k (i.size ∙ width)
-    (λ p w q a b. ap (λ m. slice_get part (p.col - m)) (sym left) ∙ i.each p w q (omega (arith, left, a)) (omega (arith, left, width, b))))
-
-pub crosses_more : {X : Type 0} (t : Cutting) (lists : List (Vec X Global)) (row column first : ℕ) (whole part next : List X) → IsCutting t → row < t.rows → column < across t →
-    first ≡ row / t.side * across t → next ≡ whole ++ part → IsPutBackBelow t lists (crossed t row column) whole → IsRowOf t lists (first + column) row part →
-    IsPutBackBelow t lists (crossed t row (column + 1)) next
-crosses_more t lists row column first whole part next h r c e f k i =
     subst (λ xs. IsPutBackBelow t lists (crossed t row (column + 1)) xs) (sym f)
-    (crosses t lists row column whole part h r c k (subst (λ n. IsRowOf t lists (n + column) row part) e i))
+    (subst (λ m. IsPutBackBelow t lists m (whole ++ part)) more
+    (IsPutBackBelow-more t lists row (column * t.side) (min t.side (t.cols - column * t.side)) (crossed t row column) whole part (omega (arith, begins)) n k (i.size ∙ width)
+    (λ p w q a b. ap (λ m. slice_get part (p.col - m)) (sym left) ∙ i.each p w q (omega (arith, left, a)) (omega (arith, left, width, b)))))
 
 -- all of it
 pub IsPutBack-from_below : {X : Type 0} (t : Cutting) (lists : List (Vec X Global)) (whole : List X) → IsPutBackBelow t lists (t.rows * t.cols) whole → IsPutBack t lists whole
