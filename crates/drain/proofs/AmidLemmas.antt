@@ -16,7 +16,8 @@ use Rattle.drain.specs.Fitting.{IsLaidAround}
 use Rattle.drain.specs.Steepness.{weights, drop_to, leads_on}
 use Rattle.drain.specs.Steps.{DrainsAtOnce, AreSteps}
 use Rattle.drain.specs.declared.around.Around.{Around}
-use Rattle.drain.proofs.AroundLemmas.{cases_option, height_fits, shown_on, around_with, laid_with, steps_at}
+use Rattle.drain.proofs.AroundLemmas.{height_fits, shown_on, around_with, laid_with, steps_at}
+use Rattle.drain.proofs.Nearby.{cases_option}
 use Rattle.drain.proofs.Laid.{with_steps, without_steps, leads as leads_by_steps, is_down, is_outlet, is_onward, code_is}
 use Rattle.drain.proofs.Quiet.{if_some}
 use Rattle.drain.proofs.Ways.{eight, before-is}

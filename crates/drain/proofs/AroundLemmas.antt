@@ -1,5 +1,5 @@
 -- Heights and steps of what stands on the ways from a cell.
-use Rattle.std.proofs.Common.{◌≡◌, ℕ, zero, suc, ◌+◌, ◌*◌, ◌<◌, ◌<ℤ◌, ◌-ℤ◌, ◌%◌, ◌⊎◌, inl, inr, Bool, true, eqb, List, [], ◌∷◌, get_or, Option, None, Some, IfSome, ℤ, pos, negsuc, sym, ap, refl, ◌∙◌, arith}
+use Rattle.std.proofs.Common.{◌≡◌, ℕ, zero, suc, ◌+◌, ◌*◌, ◌<◌, ◌<ℤ◌, ◌-ℤ◌, ◌%◌, inl, inr, Bool, true, eqb, List, [], ◌∷◌, get_or, Option, None, Some, IfSome, ℤ, pos, negsuc, sym, ap, refl, ◌∙◌, arith}
 use Rattle.std.proofs.lemmas.Int.{ints}
 use Rattle.std.proofs.lemmas.Bool.{cases_Bool, and_parts, eqb-true, cond-true, cond-false, false≢true}
 use Rattle.std.proofs.lemmas.List.Elements.{All-get_or}
@@ -57,10 +57,6 @@ below-positive_part x y h = let above : pos 0 <ℤ (x -ℤ y) = part (x -ℤ y) 
 
 pub steps_at : (t : Terrain) (steps : List (Option ℕ)) (q : Place) → AreSteps t steps → IsDataCell t q → (n : ℕ) × (entry_at t.cols t.rows steps q ≡ Some n) × IsSteps t q n
 steps_at t steps q are is = MatchOption-at_some _ _ (height_of t q) (height_is t q is) (are.each q (data_inside t q is))
-
-pub cases_option : {X : Type 0} (o : Option X) → (o ≡ None) ⊎ ((x : X) × (o ≡ Some x))
-cases_option None = inl refl
-cases_option (Some x) = inr (x, refl)
 
 -- a way with a weight leads down
 pub weight-drop : (way drop : ℕ) → 0 < weight way drop → 0 < drop

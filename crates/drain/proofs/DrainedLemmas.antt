@@ -9,8 +9,8 @@ use Rattle.ascii_grid.specs.declared.place.Place.{Place}
 use Rattle.drain.specs.Steps.{IsSteps, AreSteps}
 use Rattle.drain.specs.Directions.{IsDirection, AreDirections}
 use Rattle.drainage.specs.Drained.{IsDraining}
-use Rattle.drain.proofs.AroundLemmas.{cases_option}
 use Rattle.drain.proofs.Pointing.{direction_leads}
+use Rattle.drain.proofs.Nearby.{cases_option}
 
 outside_same : {X Y : Type 0} (cols rows : ℕ) (xs : List (Option X)) (ys : List (Option Y)) (p : Place) → (rows ≤ p.row) ⊎ (cols ≤ p.col) → is_some (entry_at cols rows xs p) ≡ is_some (entry_at cols rows ys p)
 outside_same cols rows xs ys p (inl a) = ap is_some (entry-below cols rows xs p a) ∙ sym (ap is_some (entry-below cols rows ys p a))

@@ -50,6 +50,10 @@ unfolding holds
 holding P (inl p) h = refl
 holding P (inr none) h = absurd (none h)
 
+pub cases_option : {X : Type 0} (o : Option X) → (o ≡ None) ⊎ ((x : X) × (o ≡ Some x))
+cases_option None = inl refl
+cases_option (Some x) = inr (x, refl)
+
 pub same_height : (x y : Option ℤ) → Decided (x ≡ y)
 same_height None None = inl refl
 same_height None (Some y) = inr (λ e. cc)

@@ -1,5 +1,5 @@
 -- Where a round over all tiles changes nothing, the counts are the steps.
-use Rattle.std.proofs.Common.{◌≡◌, ℕ, ◌*◌, ◌^◌, ◌<◌, ◌≤◌, List, [], ◌∷◌, length, Option, None, Some, is_some, true, IfSome, MatchOption, ℤ, sym, ap, subst, refl, ◌∙◌, arith}
+use Rattle.std.proofs.Common.{◌≡◌, inl, inr, ℕ, ◌*◌, ◌^◌, ◌<◌, ◌≤◌, List, [], ◌∷◌, length, Option, None, Some, is_some, IfSome, MatchOption, sym, ap, subst, refl, ◌∙◌, arith}
 use Rattle.std.proofs.lemmas.Bool.{false≢true}
 use Rattle.std.proofs.lemmas.Option.{MatchOption-at_some}
 use Rattle.ascii_grid.proofs.Places.{inside_from_entry}
@@ -13,15 +13,13 @@ use Rattle.drain.specs.Laws.{IsQuiet}
 use Rattle.drain.specs.Steps.{DrainsAtOnce, IsLevelWalk, IsFlatWalk, IsSteps, AreSteps}
 use Rattle.drain.specs.Rounds.{IsLent, IsWalked, AreWalked, IsOneAbove, IsRound, AreCounting, AreSettled}
 use Rattle.drain.proofs.Counted.{has_steps, height_is}
+use Rattle.drain.proofs.Nearby.{cases_option}
 use Rattle.drain.proofs.Few.{steps_are_few, drains_data, data_on_walk}
 use Rattle.tiles.proofs.Cut.{tile_of_place_below}
 
 pub if_some : {X : Type 0} (o : Option X) (P : X → Type 0) → ((x : X) → o ≡ Some x → P x) → IfSome o P
 if_some None P h = tt
 if_some (Some x) P h = h x refl
-
-no_data : (o : Option ℤ) → o ≡ None → is_some o ≡ true → ⊥
-no_data o none is = false≢true (ap is_some (sym none) ∙ is)
 
 pub match_from : {X : Type 0} {P : Type 0} {Q : X → Type 0} (o : Option X) → (o ≡ None → P) → ((x : X) → o ≡ Some x → Q x) → MatchOption o P Q
 match_from None p q = p refl
@@ -70,13 +68,10 @@ module _ (t : Terrain) (steps : List (Option ℕ)) (zeros : HasZeros t steps) (a
 
   -- where there is no data, there is no count
   uncounted : (p : Place) → height_at t p ≡ None → entry_at t.cols t.rows steps p ≡ None
-  uncounted p none = go (entry_at t.cols t.rows steps p) refl
-    where
-      go : (o : Option ℕ) → entry_at t.cols t.rows steps p ≡ o → entry_at t.cols t.rows steps p ≡ None
-      go None e = e
-      go (Some n) e =
-          let real = walked p n e in
-          absurd (no_data (height_at t p) none (data_on_walk t p real.1 real.2))
+  uncounted p none = elim (cases_option (entry_at t.cols t.rows steps p)) [
+    | inl e ↦ e
+    | inr n ↦ (let real = walked p n.0 n.1 in absurd (false≢true (ap is_some (sym none) ∙ data_on_walk t p real.1 real.2)))
+  ]
 
   pub still_is_steps : IsTerrain t → IsFilled t t.cells → length steps ≡ t.cols * t.rows → AreSteps t steps
   still_is_steps lawful filled size = record {

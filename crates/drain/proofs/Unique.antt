@@ -10,8 +10,8 @@ use Rattle.ascii_grid.specs.Raster.{Terrain}
 use Rattle.ascii_grid.specs.Neighbours.{height_at, entry_at, index_of}
 use Rattle.ascii_grid.specs.declared.place.Place.{Place}
 use Rattle.drain.specs.Directions.{AreDirections}
-use Rattle.drain.proofs.AroundLemmas.{cases_option}
 use Rattle.drain.proofs.Pointing.{one_direction}
+use Rattle.drain.proofs.Nearby.{cases_option}
 
 -- the place of an index in row order
 abbrev pub place_at : ℕ → ℕ → Place

@@ -15,12 +15,6 @@ new-requires g c =
     let same = own_terrain c.grid-grid.result.now c.in-Ok.own c.cells-cells.result.now c.cells-cells.ensures.value c.in-Ok.ensures ∙ ap (λ (x : Raster). x.terrain) c.grid-grid.ensures.value in
     subst (λ (x : Terrain). IsDraining (record { terrain = x; steps = steps; codes = codes })) (sym same) (are_draining t steps codes c.in_ok-steps.ensures.steps all)
 
-pub returns-clause-codes : goal.returns-clause-codes
-returns-clause-codes g c =
-    let t = c.args.filled.now.terrain in
-    subst (λ (d : Drained). AreDirections t d.codes) (sym c.new.ensures)
-    (subst (λ (x : Raster). AreDirections x.terrain c.in_ok-codes.codes.items) c.grid-grid.ensures.value c.in_ok-codes.ensures.codes)
-
 pub returns-clause-ends : goal.returns-clause-ends
 returns-clause-ends g c =
     let t = c.args.filled.now.terrain in
