@@ -19,7 +19,11 @@ const VALLEY: &str = "9 9 9 9 9 9\n9 1 5 4 1 6\n9 9 9 9 9 9";
 const FILLED: [i32; 18] = [9, 9, 9, 9, 9, 9, 9, 6, 6, 6, 6, 6, 9, 9, 9, 9, 9, 9];
 
 /// The flood of each tile, in tile order.
-pub(crate) fn floods_of(alloc: Global, grid: &Grid, tiling: &Tiling) -> Result<Vec<TileFlood>, NoMemory>
+pub(crate) fn floods_of(
+    alloc: Global,
+    grid: &Grid,
+    tiling: &Tiling,
+) -> Result<Vec<TileFlood>, NoMemory>
     requires { Cuts tiling.now grid.now.terrain }
     ensures { IfOk result (λ v. AreFloods grid.now.terrain tiling.now v.items) }
 {

@@ -30,7 +30,11 @@ pub(crate) fn flow_of(
 }
 
 /// The flow of each tile, in tile order.
-pub(crate) fn flows_of(alloc: Global, tiling: &Tiling, ways: &Directions) -> Result<Vec<TileFlow>, NoMemory>
+pub(crate) fn flows_of(
+    alloc: Global,
+    tiling: &Tiling,
+    ways: &Directions,
+) -> Result<Vec<TileFlow>, NoMemory>
     requires cuts { Cuts tiling.now ways.now.terrain }
     requires ends { AllFlowEnds (directed_of ways.now) }
     ensures { IfOk result (λ v. AreTileFlows (directed_of ways.now) tiling.now v.items) }

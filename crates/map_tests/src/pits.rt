@@ -15,7 +15,9 @@ use tiles::Tiling;
 
 /// No data, as around the cells of a net.
 const N: Option<Height> = None;
+
 const C: Option<Height> = Some(3);
+
 const H: Option<Height> = Some(9);
 
 /// What a call answers, or where it was refused memory what it answers the second time.
@@ -63,7 +65,11 @@ fn flood_of_the_grid(rt: HostRuntime) {
         [N, N, N, N, N, N],
     ];
     for (row, levels) in levels.iter().enumerate() {
-        assert_eq!(rt; flooded.level.get(6 * row..6 * row + 6), Some(levels.as_slice()), "row {row}");
+        assert_eq!(rt;
+            flooded.level.get(6 * row..6 * row + 6),
+            Some(levels.as_slice()),
+            "row {row}"
+        );
     }
     assert_eq!(rt; flooded.label.get(14), Some(&Some(28)));
 }
@@ -92,7 +98,10 @@ fn floods_of_tiles_and_their_graph(rt: HostRuntime) {
     assert_eq!(rt; (floods.len(), tiling.tiles()), (4, 4));
     let last = again!(&rt, tile_flood(alloc, &tiling.view(pits.cells(), 3)));
     let place = Place { row: 2, col: 2 };
-    assert_eq!(rt; (last.level(place), last.label(place)), (Some(2), Some(place)));
+    assert_eq!(rt;
+        (last.level(place), last.label(place)),
+        (Some(2), Some(place))
+    );
     let graph = again!(&rt, SpillGraph::gather(alloc, &tiling, &floods));
     let levels = again!(&rt, graph.levels(alloc));
     let spills = [H, H, H, H, H, C, H, H, H, H, C, H, H, H, H, C];

@@ -160,6 +160,7 @@ Contains-from_rim_places t tile p h l c =
 before_is : (n m : ℕ) → m + 1 ≡ n → before n ≡ Some m
 before_is zero m e = absurd (omega (arith, e))
 before_is (suc n) m e = ap (λ k. Some k) (omega (arith, e))
+
 place_is : (row col : Option ℕ) (q : Place) → row ≡ Some q.row → col ≡ Some q.col → place_of row col ≡ Some q
 place_is row col q e f = ap (λ r. place_of r col) e ∙ ap (λ c. place_of (Some q.row) c) f
 
