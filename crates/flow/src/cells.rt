@@ -13,7 +13,7 @@ use std::alloc::{AllocError, Global};
 use tiles::{Bounds, TileView};
 
 /// The codes of a tile in its row order.
-pub fn tile_codes(
+pub(crate) fn tile_codes(
     alloc: Global,
     codes: &TileView<'_, Option<Code>>,
 ) -> Result<Vec<Option<Code>>, AllocError>
@@ -29,7 +29,7 @@ pub fn tile_codes(
 }
 
 /// For each cell the one to which its water goes on, or itself where it stays or leaves the tile.
-pub fn tile_links(
+pub(crate) fn tile_links(
     alloc: Global,
     bounds: Bounds,
     cells: &[Option<Code>],
@@ -73,7 +73,7 @@ fn push_links(
 }
 
 /// 1 for each data cell, and 0 for each without data.
-pub fn tile_weights(alloc: Global, cells: &[Option<Code>]) -> Result<Vec<u32>, AllocError>
+pub(crate) fn tile_weights(alloc: Global, cells: &[Option<Code>]) -> Result<Vec<u32>, AllocError>
     ensures { IfOk result (λ v. v.items ≡ weights_by cells.now) }
 {
     cells
@@ -84,7 +84,7 @@ pub fn tile_weights(alloc: Global, cells: &[Option<Code>]) -> Result<Vec<u32>, A
 
 /// The place of an index.
 #[inline(always)]
-pub fn place_at(bounds: Bounds, index: u32) -> Place
+pub(crate) fn place_at(bounds: Bounds, index: u32) -> Place
     requires small { IsSmall bounds }
     requires given { index < bounds.rows * bounds.cols }
     ensures value { result ≡ place_in bounds index }
@@ -98,7 +98,7 @@ pub fn place_at(bounds: Bounds, index: u32) -> Place
 
 /// The index of a place.
 #[inline(always)]
-pub fn index_of(bounds: Bounds, place: Place) -> usize
+pub(crate) fn index_of(bounds: Bounds, place: Place) -> usize
     requires small { IsSmall bounds }
     requires given { IsInBounds bounds place }
     ensures value { result ≡ index_in bounds place }
@@ -124,7 +124,7 @@ fn link_of(bounds: Bounds, index: u32, place: Place, code: Option<Code>) -> u32
 
 /// Whether a place lies in the bounds.
 #[inline(always)]
-pub fn contains(bounds: Bounds, place: Place) -> bool
+pub(crate) fn contains(bounds: Bounds, place: Place) -> bool
     requires { IsSmall bounds }
     ensures { result ≡ is_in_bounds bounds place }
 {
@@ -136,7 +136,7 @@ pub fn contains(bounds: Bounds, place: Place) -> bool
 
 /// Where water goes on from a place with this code.
 #[inline(always)]
-pub fn next_of(code: Option<Code>, place: Place) -> Place
+pub(crate) fn next_of(code: Option<Code>, place: Place) -> Place
     requires row { place.row < 2 ^ 32 - 1 }
     requires col { place.col < 2 ^ 32 - 1 }
     ensures { result ≡ unwrap_or (option_and_then (λ c. place_toward c place) code) place }

@@ -9,7 +9,7 @@ use std::alloc::{AllocError, Global};
 const UNKNOWN: u32 = u32::MAX;
 
 /// Where the path of each node ends.
-pub fn ends(alloc: Global, links: &[u32]) -> Result<Vec<u32>, AllocError>
+pub(crate) fn ends(alloc: Global, links: &[u32]) -> Result<Vec<u32>, AllocError>
     requires streams { AreStreams links.now }
     requires few { length links.now ≤ 2 ^ 30 }
     ensures { IfOk result (λ v. AreEnds links.now v.items) }

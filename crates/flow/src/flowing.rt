@@ -69,7 +69,7 @@ impl<'a> Work for ExitTiles<'a> {
 }
 
 /// The flows of all tiles, in tile order.
-pub fn flow_tiles<R: Threads + Wait + Sync, G: Gate + Sync>(
+pub(crate) fn flow_tiles<R: Threads + Wait + Sync, G: Gate + Sync>(
     rt: &R,
     alloc: Global,
     codes: &[Option<Code>],
@@ -95,7 +95,7 @@ pub fn flow_tiles<R: Threads + Wait + Sync, G: Gate + Sync>(
 }
 
 /// The flows of all tiles without their counts, in tile order.
-pub fn exit_tiles<R: Threads + Wait + Sync, G: Gate + Sync>(
+pub(crate) fn exit_tiles<R: Threads + Wait + Sync, G: Gate + Sync>(
     rt: &R,
     alloc: Global,
     codes: &[Option<Code>],
@@ -120,7 +120,7 @@ pub fn exit_tiles<R: Threads + Wait + Sync, G: Gate + Sync>(
 }
 
 /// The list of the whole grid, of the lists of its tiles.
-pub fn put_back(
+pub(crate) fn put_back(
     alloc: Global,
     tiling: &Tiling,
     tiles: &[Vec<Option<u32>>],

@@ -43,7 +43,11 @@ impl Model for Inflows {
 
 impl Inflows {
     /// Sends the water of each exit from tile to tile.
-    pub fn join(alloc: Global, tiling: &Tiling, flows: &[TileFlow]) -> Result<Inflows, AllocError>
+    pub(crate) fn join(
+        alloc: Global,
+        tiling: &Tiling,
+        flows: &[TileFlow],
+    ) -> Result<Inflows, AllocError>
         requires { (d : Directed) × AreFlowsOf d tiling.now flows.now × AreTileCounts d tiling.now flows.now }
         ensures cutting { IfOk result (λ i. i.cutting ≡ tiling.now) }
         ensures inflows { IfOk result (λ i. (d : Directed) → AreFlowsOf d tiling.now flows.now →
@@ -60,7 +64,7 @@ impl Inflows {
     }
 
     /// How many cells' flow paths hold the place right after a cell of another tile.
-    pub fn inflow(&self, place: Place) -> u32
+    pub(crate) fn inflow(&self, place: Place) -> u32
         requires { IsWithin self.now.cutting place }
         ensures { result ≡ inflow_in self.now place }
     {

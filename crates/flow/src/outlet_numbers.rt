@@ -35,7 +35,7 @@ impl<'a> Model for OutletNumbers<'a> {
 
 impl<'a> OutletNumbers<'a> {
     /// Counts the outlets of a list of codes, each of its runs in a job of its own.
-    pub fn of_codes<R: Threads + Wait + Sync, G: Gate + Sync>(
+    pub(crate) fn of_codes<R: Threads + Wait + Sync, G: Gate + Sync>(
         rt: &R,
         alloc: Global,
         codes: &'a [Option<Code>],
@@ -59,7 +59,7 @@ impl<'a> OutletNumbers<'a> {
     }
 
     /// One more than the outlets that stand before an index.
-    pub fn number(&self, index: usize) -> u32
+    pub(crate) fn number(&self, index: usize) -> u32
         requires { index < length self.now }
         ensures { result ≡ 1 + count_by is_outlet_code (take index self.now) }
     {

@@ -32,7 +32,7 @@ impl<'a> Model for Runs<'a> {
 
 impl<'a> Runs<'a> {
     /// Cuts a list into this many runs, which share its blocks evenly.
-    pub fn cut(codes: &'a [Option<Code>], count: u32) -> Runs<'a>
+    pub(crate) fn cut(codes: &'a [Option<Code>], count: u32) -> Runs<'a>
         requires few { length codes.now < 2 ^ 32 - 1 }
         requires some { 1 ≤ count }
         ensures codes { result.codes ≡ codes.now }
@@ -49,7 +49,7 @@ impl<'a> Runs<'a> {
 
     /// How many codes a whole run has.
     #[inline(always)]
-    pub fn length(&self) -> usize
+    pub(crate) fn length(&self) -> usize
         ensures value { result ≡ self.now.run_length }
         ensures lawful { AreCodeRuns self.now }
     {
@@ -57,7 +57,7 @@ impl<'a> Runs<'a> {
     }
 
     /// The codes of a run.
-    pub fn codes(&self, run: u32) -> &'a [Option<Code>]
+    pub(crate) fn codes(&self, run: u32) -> &'a [Option<Code>]
         ensures value { result.now ≡ run_codes self.now run }
         ensures few { length result.now < 2 ^ 32 - 1 }
     {
@@ -102,7 +102,7 @@ impl RunCounts {
     }
 
     /// The outlets of the run that stand before one of its indices.
-    pub fn count_before(&self, run: &[Option<Code>], index: usize) -> u32
+    pub(crate) fn count_before(&self, run: &[Option<Code>], index: usize) -> u32
         requires few { length run.now < 2 ^ 32 - 1 }
         requires counted { IsRunCounted run.now self.now }
         requires index { index < length run.now }

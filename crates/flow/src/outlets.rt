@@ -40,7 +40,7 @@ impl<'a> Model for Outlets<'a> {
 
 impl<'a> Outlets<'a> {
     /// Follows the water of each exit from tile to tile.
-    pub fn join(
+    pub(crate) fn join(
         alloc: Global,
         tiling: &Tiling,
         flows: &'a [TileFlow],
@@ -61,7 +61,7 @@ impl<'a> Outlets<'a> {
     }
 
     /// Where the flow path of an exit ends; None for a place that is no exit.
-    pub fn outlet(&self, exit: Place) -> Option<Place>
+    pub(crate) fn outlet(&self, exit: Place) -> Option<Place>
         requires { IsWithin self.now.cutting exit }
         ensures { result ≡ outlet_in self.now exit }
     {

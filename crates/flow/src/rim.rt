@@ -8,7 +8,7 @@ use ascii_grid::Place;
 use tiles::{Bounds, Tiling};
 
 /// How many numbers there are: for each tile as many as two rows and two columns of the first have cells.
-pub fn number_count(tiling: &Tiling) -> u32
+pub(crate) fn number_count(tiling: &Tiling) -> u32
     ensures value { result ≡ number_count tiling.now }
     ensures few { result ≤ 2 ^ 30 }
 {
@@ -16,7 +16,7 @@ pub fn number_count(tiling: &Tiling) -> u32
 }
 
 /// The first number of a tile, and how many it has.
-pub fn numbers_of(tiling: &Tiling, tile: u32) -> (u32, u32)
+pub(crate) fn numbers_of(tiling: &Tiling, tile: u32) -> (u32, u32)
     requires { tile < tile_count tiling.now }
     ensures first { result.0 ≡ tile * stride (bounds_of tiling.now 0) }
     ensures count { result.1 ≡ stride (bounds_of tiling.now 0) }
@@ -27,7 +27,7 @@ pub fn numbers_of(tiling: &Tiling, tile: u32) -> (u32, u32)
 }
 
 /// The number of a rim cell.
-pub fn rim_number(tiling: &Tiling, place: Place) -> u32
+pub(crate) fn rim_number(tiling: &Tiling, place: Place) -> u32
     requires { IsWithin tiling.now place }
     ensures value { result ≡ rim_number tiling.now place }
     ensures below { result < number_count tiling.now }
@@ -38,7 +38,7 @@ pub fn rim_number(tiling: &Tiling, place: Place) -> u32
 }
 
 /// The cell of a number. Some numbers stand for no cell of a rim.
-pub fn rim_place(tiling: &Tiling, number: u32) -> Place
+pub(crate) fn rim_place(tiling: &Tiling, number: u32) -> Place
     requires { number < number_count tiling.now }
     ensures { result ≡ rim_place tiling.now number }
 {

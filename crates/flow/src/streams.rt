@@ -9,7 +9,7 @@ use std::alloc::{AllocError, Global};
 const SENT: u32 = u32::MAX;
 
 /// So many zeros.
-pub fn zeros(alloc: Global, len: usize) -> Result<Vec<u32>, AllocError>
+pub(crate) fn zeros(alloc: Global, len: usize) -> Result<Vec<u32>, AllocError>
     ensures { IfOk result (λ v. AreNone len v.items) }
 {
     vec![in alloc; 0; len]
@@ -31,7 +31,11 @@ fn count_donors(links: &[u32], counts: &mut [u32])
 }
 
 /// What comes to each node from the nodes upstream of it, of these weights.
-pub fn upstream(alloc: Global, links: &[u32], weights: &[u32]) -> Result<Vec<u32>, AllocError>
+pub(crate) fn upstream(
+    alloc: Global,
+    links: &[u32],
+    weights: &[u32],
+) -> Result<Vec<u32>, AllocError>
     requires streams { AreStreams links.now }
     requires few { length links.now ≤ 2 ^ 30 }
     requires same { length weights.now ≡ length links.now }

@@ -56,7 +56,7 @@ fn bad_place(grid: &Grid, observers: &[Observer]) -> Option<SightFault>
 }
 
 /// The first fault of observers, target height and radius over a grid.
-pub fn first_fault(
+pub(crate) fn first_fault(
     grid: &Grid,
     observers: &[Observer],
     target_height: u32,

@@ -102,7 +102,7 @@ fn is_above_blocks(
 /// As `is_blocked`, by passing over the steps at which the line is above the blocks of cells whose
 /// greatest heights are `tops`.
 #[inline(always)]
-pub fn is_blocked_past_blocks(
+pub(crate) fn is_blocked_past_blocks(
     cells: &[Option<Height>],
     tops: &[Option<Height>],
     strides: BlockStrides,

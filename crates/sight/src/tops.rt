@@ -9,7 +9,7 @@ use std::alloc::{AllocError, Global};
 
 /// How many blocks side by side hold so many cells.
 #[inline(always)]
-pub fn blocks_in(cells: u32) -> usize
+pub(crate) fn blocks_in(cells: u32) -> usize
     requires { cells ≤ 4096 }
     ensures { result ≡ blocks_in cells }
 {
@@ -49,7 +49,7 @@ fn raise_row(grid: &Grid, row: u32, tops: &mut [Option<Height>])
 }
 
 /// The greatest height of each block of the grid, in row order, and None where a block has no data.
-pub fn block_tops(alloc: Global, grid: &Grid) -> Result<Vec<Option<Height>>, AllocError>
+pub(crate) fn block_tops(alloc: Global, grid: &Grid) -> Result<Vec<Option<Height>>, AllocError>
     ensures { IfOk result (λ v. AreTops grid.now.terrain v.items) }
 {
     let blocks = blocks_in(grid.rows()) * blocks_in(grid.cols());

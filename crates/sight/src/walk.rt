@@ -37,7 +37,7 @@ pub struct Step {
 impl Sightline {
     /// From one end to the other.
     #[inline(always)]
-    pub fn steps(self) -> u32
+    pub(crate) fn steps(self) -> u32
         ensures { result ≡ steps_of self }
     {
         self.lead.from.abs_diff(self.lead.to)
@@ -45,7 +45,7 @@ impl Sightline {
 
     /// The cell of the leading coordinate at a step.
     #[inline(always)]
-    pub fn lead_at(self, step: u32) -> u32
+    pub(crate) fn lead_at(self, step: u32) -> u32
         requires line { IsSightline self }
         requires some { 0 < steps_of self }
         requires step { step ≤ steps_of self }
@@ -60,7 +60,7 @@ impl Sightline {
 
     /// Where the line is at a step.
     #[inline(always)]
-    pub fn at(self, step: u32) -> Step
+    pub(crate) fn at(self, step: u32) -> Step
         requires line { IsSightline self }
         requires some { 0 < steps_of self }
         requires step { step ≤ steps_of self }
@@ -133,7 +133,7 @@ impl Axis {
 
 /// At most 2^43 either way, so that two of them can be added.
 #[inline(always)]
-pub fn weighed(height: Height, weight: u32) -> i64
+pub(crate) fn weighed(height: Height, weight: u32) -> i64
     requires { weight ≤ 4096 }
     ensures value { result ≡ pos weight *ℤ height }
     ensures low { negsuc 8796093022207 ≤ℤ result }
@@ -184,7 +184,7 @@ pub struct Pace {
 impl Pace {
     /// Of a walk along a line.
     #[inline(always)]
-    pub fn new(line: Sightline) -> Self
+    pub(crate) fn new(line: Sightline) -> Self
         requires line { IsSightline line }
         requires some { 0 < steps_of line }
         ensures { IsPace line.lead line.side (steps_of line) result }
@@ -231,7 +231,7 @@ impl Pace {
 /// Whether the ground is above the line at a step from `first` on and before `end`, where the line
 /// is at `start` at the first.
 #[inline(always)]
-pub fn is_blocked_between(
+pub(crate) fn is_blocked_between(
     cells: &[Option<Height>],
     line: Sightline,
     pace: Pace,
@@ -270,7 +270,7 @@ pub fn is_blocked_between(
 
 /// Whether the ground is above the line at a step between its two ends.
 #[inline(always)]
-pub fn is_blocked(cells: &[Option<Height>], line: Sightline) -> bool
+pub(crate) fn is_blocked(cells: &[Option<Height>], line: Sightline) -> bool
     requires line { IsSightline line }
     requires over { IsOver cells.now line.lead line.side }
     ensures { result ≡ walk_blocks cells.now line }

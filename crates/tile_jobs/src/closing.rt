@@ -24,7 +24,7 @@ impl Model for Closing {
 }
 
 impl Closing {
-    pub fn new(own: Own) -> Closing
+    pub(crate) fn new(own: Own) -> Closing
         ensures { Begins own result }
     {
         let (worker, marked) = own.into_parts();
@@ -32,7 +32,7 @@ impl Closing {
     }
 
     /// Takes back the end of another seat.
-    pub fn absorb(&mut self, other: Other)
+    pub(crate) fn absorb(&mut self, other: Other)
         requires { self.old.id ≡ other.id }
         ensures { CameBack self.old other self.new }
     {
@@ -41,7 +41,7 @@ impl Closing {
     }
 
     /// The next job, or `None`, which takes the owner's mark.
-    pub fn next(&mut self) -> Option<u32>
+    pub(crate) fn next(&mut self) -> Option<u32>
         requires back { self.old.back ≡ self.old.seats }
         requires unmarked { self.old.marked ≡ false }
         ensures { MatchOption result (PoppedMark self.old self.new) (λ j. PoppedJob self.old j self.new) }
@@ -56,7 +56,7 @@ impl Closing {
     }
 
     /// Every job was taken once.
-    pub fn settle(self)
+    pub(crate) fn settle(self)
         requires back { self.back ≡ self.seats }
         requires marked { self.marked ≡ true }
         ensures { (y : ℕ) → times y (self.took ++ self.gathered) ≡ times y (deal_of self) }
@@ -69,7 +69,7 @@ impl Closing {
     }
 
     /// Takes what is left, up to the owner's mark.
-    pub fn drain(self, left: &mut Vec<u32>)
+    pub(crate) fn drain(self, left: &mut Vec<u32>)
         requires back { self.back ≡ self.seats }
         requires marked { self.marked ≡ true → 0 < self.marks }
         requires room { vec_len left.old + length (deal_of self) ≤ vec_capacity left.old + length self.took }

@@ -15,7 +15,7 @@ use std::thread::{Scope, Threads};
 
 /// Moves each seat into a thread of its own, and joins them. A thread after the first `starts` is
 /// not tried, and counts as one that could not be started.
-pub fn work_apart<'s, E, R: Threads + Wait + Sync, W: Work + Sync, G: Gate + Sync>(
+pub(crate) fn work_apart<'s, E, R: Threads + Wait + Sync, W: Work + Sync, G: Gate + Sync>(
     rt: &'s R,
     alloc: Global,
     scope: &Scope<'s, E>,
@@ -52,7 +52,7 @@ where
 }
 
 /// Works at each seat in turn, on the caller's thread.
-pub fn work_here<R: Wait, W: Work, G: Gate>(
+pub(crate) fn work_here<R: Wait, W: Work, G: Gate>(
     rt: &R,
     alloc: Global,
     work: &W,

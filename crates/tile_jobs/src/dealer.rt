@@ -67,7 +67,12 @@ fn push_marks<D: Place>(worker: &mut Deque, seats: u32)
 
 impl Dealer {
     /// The deque of `v` with its jobs and marks.
-    pub fn new<D: Place>(alloc: Global, jobs: u32, seats: u32, v: u32) -> Result<Dealer, AllocError>
+    pub(crate) fn new<D: Place>(
+        alloc: Global,
+        jobs: u32,
+        seats: u32,
+        v: u32,
+    ) -> Result<Dealer, AllocError>
         requires place { (D.jobs ≡ jobs) × (D.seats ≡ seats) × (D.deque ≡ v) }
         requires seat { v < seats }
         ensures { IfOk result (λ d. (d.jobs ≡ jobs) × (d.seats ≡ seats) × (d.deque ≡ v) × (d.leaves ≡ seats)) }
@@ -80,7 +85,7 @@ impl Dealer {
     }
 
     /// An end for another seat.
-    pub fn lend(&mut self) -> Result<Other, AllocError>
+    pub(crate) fn lend(&mut self) -> Result<Other, AllocError>
         requires { 1 < self.old.leaves }
         ensures { IfOk result (λ e. (e ≡ fresh self.old) × (self.new ≡ record self.old { leaves = self.old.leaves - 1 })) }
     {
@@ -90,7 +95,7 @@ impl Dealer {
     }
 
     /// The owner's end.
-    pub fn own(self) -> Own
+    pub(crate) fn own(self) -> Own
         requires { self.leaves ≡ 1 }
         ensures { result ≡ fresh self }
     {

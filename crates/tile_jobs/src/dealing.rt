@@ -47,7 +47,7 @@ pub struct Ends {
 }
 
 /// Deals each deque, with an end for each seat.
-pub fn deal_all(alloc: Global, jobs: u32, seats: u32) -> Result<Ends, AllocError>
+pub(crate) fn deal_all(alloc: Global, jobs: u32, seats: u32) -> Result<Ends, AllocError>
     requires { (0 < seats) × (seats ≤ MOST_WORKERS) }
     ensures count { IfOk result (λ e. (vec_len e.owns ≡ seats) × (vec_len e.rows ≡ seats)) }
     ensures owns { IfOk result (λ e. AllFresh jobs seats e.owns.items) }
@@ -64,7 +64,7 @@ pub fn deal_all(alloc: Global, jobs: u32, seats: u32) -> Result<Ends, AllocError
 }
 
 /// Seats every own end with its row.
-pub fn seat_all(alloc: Global, jobs: u32, ends: Ends) -> Result<Vec<Seat>, AllocError>
+pub(crate) fn seat_all(alloc: Global, jobs: u32, ends: Ends) -> Result<Vec<Seat>, AllocError>
     requires count { (vec_len ends.owns ≤ MOST_WORKERS) × (vec_len ends.rows ≡ vec_len ends.owns) }
     requires owns { AllFresh jobs (vec_len ends.owns) ends.owns.items }
     requires rows { (s : ℕ) (d : _) → s < vec_len ends.owns → (slice_index_or ends.rows.items s d).items ≡ without s ends.owns.items }

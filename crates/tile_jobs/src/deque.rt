@@ -131,7 +131,7 @@ impl Lesson<Entry, Log> for Whole {
 }
 
 /// A push, by the dealer on the owner's pass.
-pub fn push<D: Place>(worker: &mut Deque, entry: Entry)
+pub(crate) fn push<D: Place>(worker: &mut Deque, entry: Entry)
     requires view { worker_view worker.old ≡ dealing D.jobs D.seats D.deque (worker_index worker.old) }
     requires next { entry ∷ drop (suc (worker_index worker.old)) (feed D.jobs D.seats D.deque) ≡ drop (worker_index worker.old) (feed D.jobs D.seats D.deque) }
     requires room { worker_index worker.old < worker_capacity worker.old }
@@ -145,7 +145,7 @@ pub fn push<D: Place>(worker: &mut Deque, entry: Entry)
 }
 
 /// A pop, by the owner.
-pub fn pop(worker: &mut Deque) -> Entry
+pub(crate) fn pop(worker: &mut Deque) -> Entry
     requires can { CanTake (worker_view worker.old) }
     requires fifo { worker_flavor worker.old ≡ 0 }
     ensures same { SameWorker worker.old worker.new }
@@ -158,7 +158,7 @@ pub fn pop(worker: &mut Deque) -> Entry
 }
 
 /// A pop by an owner that has every pass back.
-pub fn pop_next(worker: &mut Deque) -> Entry
+pub(crate) fn pop_next(worker: &mut Deque) -> Entry
     requires can { CanTake (worker_view worker.old) }
     requires whole { ((worker_view worker.old).owns ≡ true) × (share (worker_view worker.old) ≡ (worker_view worker.old).seats) }
     requires fifo { worker_flavor worker.old ≡ 0 }
@@ -173,7 +173,7 @@ pub fn pop_next(worker: &mut Deque) -> Entry
 
 /// A steal, by another seat on its pass. `None` where another taker was met: since this pass last
 /// looked, the deque has been taken from.
-pub fn steal(thief: &Thief, pass: &mut Pass<Entry, Log>) -> Option<Entry>
+pub(crate) fn steal(thief: &Thief, pass: &mut Pass<Entry, Log>) -> Option<Entry>
     requires table { IsPassOf (stealer_deque thief.now) pass.old }
     requires can { CanTake (view pass.old) }
     requires fifo { stealer_flavor thief.now ≡ 0 }

@@ -53,7 +53,7 @@ pub enum Got {
 }
 
 impl Own {
-    pub fn new(worker: Deque) -> Own
+    pub(crate) fn new(worker: Deque) -> Own
         requires { IsOwn false (worker_view worker) × (worker_flavor worker ≡ 0) }
         ensures { result ≡ end_of (worker_deque worker) false 0 (worker_view worker) }
     {
@@ -63,7 +63,7 @@ impl Own {
         }
     }
 
-    pub fn into_parts(self) -> (Deque, bool)
+    pub(crate) fn into_parts(self) -> (Deque, bool)
         ensures own { IsOwn result.1 (worker_view result.0) × (worker_flavor result.0 ≡ 0) }
         ensures parts { self ≡ end_of (worker_deque result.0) result.1 0 (worker_view result.0) }
     {
@@ -72,7 +72,7 @@ impl Own {
     }
 
     /// Takes the first job, or `None` where it gets or has the mark.
-    pub fn take(&mut self) -> Option<u32>
+    pub(crate) fn take(&mut self) -> Option<u32>
         ensures { MatchOption result (Kept self.old self.new × (self.new.marked ≡ true)) (λ j. TookJob self.old j self.new) }
     {
         if self.marked {
@@ -89,7 +89,7 @@ impl Own {
 }
 
 impl Other {
-    pub fn new(thief: Thief, pass: Pass<Entry, Log>) -> Other
+    pub(crate) fn new(thief: Thief, pass: Pass<Entry, Log>) -> Other
         requires { IsOther false (pass_view pass) × IsPassOf (stealer_deque thief) pass × (stealer_flavor thief ≡ 0) }
         ensures { result ≡ end_of (stealer_deque thief) false 0 (pass_view pass) }
     {
@@ -101,7 +101,7 @@ impl Other {
         }
     }
 
-    pub fn into_pass(self) -> Pass<Entry, Log>
+    pub(crate) fn into_pass(self) -> Pass<Entry, Log>
         ensures other { IsOther self.marked (pass_view result) × IsPassOf self.id result }
         ensures parts { self ≡ end_of self.id self.marked self.seen (pass_view result) }
     {
@@ -116,7 +116,7 @@ impl Other {
     }
 
     /// Tries one steal, unless it has the mark.
-    pub fn take(&mut self) -> Got
+    pub(crate) fn take(&mut self) -> Got
         ensures { MatchGot result (Kept self.old self.new × (self.new.marked ≡ true)) (MetTaker self.old self.new) (λ j. TookJob self.old j self.new) }
     {
         if self.marked {
@@ -145,7 +145,7 @@ pub enum Stolen {
 }
 
 /// Tries the ends from `from` to `to`, until it gets a job.
-pub fn steal_among(others: &mut Vec<Other>, from: usize, to: usize) -> Stolen
+pub(crate) fn steal_among(others: &mut Vec<Other>, from: usize, to: usize) -> Stolen
     requires { (from ≤ to) × (to ≤ vec_len others.old) }
     ensures len { vec_len others.new ≡ vec_len others.old }
     ensures ends { StealsAmong from to others.old.items others.new.items result }
@@ -163,7 +163,7 @@ pub fn steal_among(others: &mut Vec<Other>, from: usize, to: usize) -> Stolen
 }
 
 /// Tries each end once, from place `first` on and then from the start, until it gets a job.
-pub fn steal_round(others: &mut Vec<Other>, first: usize) -> Stolen
+pub(crate) fn steal_round(others: &mut Vec<Other>, first: usize) -> Stolen
     requires { first ≤ vec_len others.old }
     ensures len { vec_len others.new ≡ vec_len others.old }
     ensures ends { StealsAmong 0 (length others.old.items) others.old.items others.new.items result }

@@ -22,7 +22,7 @@ pub struct Shift<T> {
 }
 
 /// Runs the jobs that the seat takes, until no deque holds one or a job fails.
-pub fn work_seat<R: Wait, W: Work, G: Gate>(
+pub(crate) fn work_seat<R: Wait, W: Work, G: Gate>(
     rt: &R,
     alloc: Global,
     work: &W,

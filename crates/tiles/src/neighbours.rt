@@ -25,7 +25,7 @@ fn place_of(row: Option<u32>, col: Option<u32>) -> Option<Place>
 // The place that lies one way, counted from 0: E, SE, S, SW, W, NW, N, NE. None north of the first row
 // and west of the first column.
 #[inline(always)]
-pub fn place_on(way: u32, place: Place) -> Option<Place>
+pub(crate) fn place_on(way: u32, place: Place) -> Option<Place>
     requires rows { place.row < 2 ^ 32 - 1 }
     requires cols { place.col < 2 ^ 32 - 1 }
     ensures { result ≡ place_on way place }

@@ -2,7 +2,7 @@
 ghost use Rattle.std.specs.Prelude.{◌≡◌, ◌+◌, ◌<◌, ◌≤◌, length, Some, slice_get, slice_range};
 
 #[inline(always)]
-pub fn part<T>(cells: &[T], from: usize, len: usize) -> &[T]
+pub(crate) fn part<T>(cells: &[T], from: usize, len: usize) -> &[T]
     requires { from + len ≤ length cells.now }
     ensures value { result.now ≡ slice_range cells.now from (from + len) }
     ensures size { length result.now ≡ len }
@@ -11,7 +11,7 @@ pub fn part<T>(cells: &[T], from: usize, len: usize) -> &[T]
 }
 
 #[inline(always)]
-pub fn element<T>(cells: &[T], index: usize) -> &T
+pub(crate) fn element<T>(cells: &[T], index: usize) -> &T
     requires { index < length cells.now }
     ensures { slice_get cells.now index ≡ Some result.now }
 {
