@@ -9,9 +9,9 @@ use Rattle.std.specs.Ordering.{int_eq}
 use Rattle.std.proofs.lemmas.Bool.{cases_Bool, leb-true}
 use Rattle.std.proofs.lemmas.Bool.Decides.{Decides-int_eq}
 use Rattle.std.proofs.lemmas.Slice.Eq.{bytes_eq-Decides}
-use Rattle.ascii_grid.specs.Raster.{is_height}
-use Rattle.ascii_grid.specs.Words.{Word}
-use Rattle.ascii_grid.specs.Decimal.{scaled_value}
+use Rattle.terrain.specs.Raster.{is_height}
+use Rattle.terrain.specs.Words.{Word}
+use Rattle.terrain.specs.Decimal.{scaled_value}
 use Rattle.ascii_grid.specs.GridText.{same_value, is_nodata, is_cell, cell_of}
 use Rattle.ascii_grid.specs.Meaning.{meaning_of}
 use Rattle.ascii_grid.specs.declared.cell.Meaning.TheVariants.{Cell, Nothing}

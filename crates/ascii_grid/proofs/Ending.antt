@@ -6,8 +6,8 @@ use Rattle.std.proofs.lemmas.Result.{MatchResult-weaker}
 use Rattle.std.proofs.lemmas.Bool.{cases_lt, or_parts}
 use Rattle.std.proofs.lemmas.List.{append-nil, length-append, length-take, length-drop, take_all, take_at, take_more_set, take_more, append_assoc, take-append-le, nil_from_length}
 use Rattle.std.proofs.Math.Seq.{take-add}
-use Rattle.ascii_grid.specs.Words.{Word, is_word, is_separator, words, ended_words}
-use Rattle.ascii_grid.specs.Decimal.{scaled_value}
+use Rattle.terrain.specs.Words.{Word, is_word, is_separator, words, ended_words}
+use Rattle.terrain.specs.Decimal.{scaled_value}
 use Rattle.ascii_grid.specs.GridText.{words_fault, height_fault}
 use Rattle.ascii_grid.specs.Reading.{flat, IsParted, HasWords, HasJudged, AreHeights, IsWordFault}
 use Rattle.ascii_grid.specs.Plain.{IsPlain}

@@ -7,8 +7,8 @@ use Rattle.std.proofs.lemmas.Option.{MatchOption-at_none, MatchOption-at_some}
 use Rattle.std.proofs.lemmas.Result.{MatchResult-weaker}
 use Rattle.std.proofs.lemmas.List.{append-nil, append_assoc, length-append, length-take, length-drop, take_all, take_at, take-append-le, take-append-drop}
 use Rattle.std.proofs.Math.Seq.{take-append-add}
-use Rattle.ascii_grid.specs.Words.{Word, words, ended_words}
-use Rattle.ascii_grid.specs.Raster.{Raster}
+use Rattle.terrain.specs.Words.{Word, words, ended_words}
+use Rattle.terrain.specs.Raster.{Raster}
 use Rattle.ascii_grid.specs.GridText.{most_bytes, words_fault, end_fault, fault_so_far, text_fault, judged_words, grid_of, AsksForCells, AsksAtHeight, AsksInText, IsGridText, IsRefusal, IsRefusalSoFar}
 use Rattle.ascii_grid.specs.Reader.{Reader, IsReading, HasTaken}
 use Rattle.ascii_grid.specs.Reading.{flat, HasJudged, HasWords, IsWordFault, IsEndFault}

@@ -6,8 +6,8 @@ use Rattle.std.specs.List.{list_any, list_all}
 use Rattle.std.proofs.lemmas.Bool.{and_parts}
 use Rattle.std.proofs.lemmas.List.{append-nil}
 use Rattle.std.proofs.lemmas.List.Folds.{find-append}
-use Rattle.ascii_grid.specs.Words.{Word}
-use Rattle.ascii_grid.specs.Decimal.{number_of}
+use Rattle.terrain.specs.Words.{Word}
+use Rattle.terrain.specs.Decimal.{number_of}
 use Rattle.ascii_grid.specs.Header.{fills, slot_of, slot_number, begins_with_letter, header_words, height_words, pairs, key_left, nodata_for, header_fault, key_fault, value_fault, missing_fault}
 use Rattle.ascii_grid.specs.GridText.{cells_wanted, words_fault, heights_fault, height_fault}
 use Rattle.ascii_grid.specs.Slots.{is_given, is_centre, slot_named, with_value, missing_of, wanted_of}

@@ -1,5 +1,4 @@
--- places of a grid, and cells one after another
-pub mod Places
+-- cells one after another
 mod Rows
 -- words of a text, and what they are worth
 pub mod Parting

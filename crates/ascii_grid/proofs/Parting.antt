@@ -6,7 +6,7 @@ use Rattle.std.proofs.lemmas.Bool.{cases_Bool}
 use Rattle.std.proofs.lemmas.List.{reverse-append, length-append, take_at, take-append-le}
 use Rattle.std.proofs.lemmas.List.Elements.{filter-append}
 use Rattle.std.proofs.lemmas.List.Splits.{slice_split-cons_yes, slice_split-cons_no}
-use Rattle.ascii_grid.specs.Words.{Word, is_word, is_separator, words, ended_words}
+use Rattle.terrain.specs.Words.{Word, is_word, is_separator, words, ended_words}
 use Rattle.ascii_grid.specs.Reading.{IsParted}
 
 -- the parts with one more byte in the last

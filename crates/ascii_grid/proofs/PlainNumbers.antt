@@ -5,8 +5,8 @@ use Rattle.std.specs.Char.{is_ascii_digit}
 use Rattle.std.proofs.lemmas.List.{append-nil, length-take, take_all, drop_all}
 use Rattle.std.proofs.lemmas.Bool.{and_parts, leb-true, le-leb, ne_eqb, eqb-true, or_from}
 use Rattle.std.proofs.Math.Nat.{pow-suc}
-use Rattle.ascii_grid.specs.Words.{is_separator}
-use Rattle.ascii_grid.specs.Decimal.{without_sign, is_negative, is_point, is_exponent_mark, has_exponent, are_digits, number_of, scaled_value}
+use Rattle.terrain.specs.Words.{is_separator}
+use Rattle.terrain.specs.Decimal.{without_sign, is_negative, is_point, is_exponent_mark, has_exponent, are_digits, number_of, scaled_value}
 use Rattle.ascii_grid.specs.Plain.{IsPlain}
 use Rattle.ascii_grid.proofs.Scaled.{are_digits-append, before_first-none, number_of-padded, scaled_value-digits}
 

@@ -8,9 +8,9 @@ use Rattle.std.proofs.lemmas.List.{append_assoc, length-map}
 use Rattle.std.proofs.lemmas.List.Elements.{All-head}
 use Rattle.std.proofs.Math.Nat.{mul_comm, le_of_eq}
 use Rattle.std.proofs.lemmas.Fmt.{length-decimal-le}
-use Rattle.ascii_grid.specs.Words.{Word, words}
-use Rattle.ascii_grid.specs.Decimal.{number_of, are_digits, is_decimal, is_above_zero}
-use Rattle.ascii_grid.specs.Raster.{Anchor, Raster, raster, IsLawful}
+use Rattle.terrain.specs.Words.{Word, words}
+use Rattle.terrain.specs.Decimal.{number_of, are_digits, is_decimal, is_above_zero}
+use Rattle.terrain.specs.Raster.{Anchor, Raster, raster, IsLawful}
 use Rattle.ascii_grid.specs.Header.{header_words, height_words, header_fault, missing_fault, no_value_fault, nodata_for, size_for, anchor_for, word_for, is_long, is_size}
 use Rattle.ascii_grid.specs.GridText.{IsGridText, most_bytes, words_fault, end_fault, heights_fault, cells_wanted, grid_of, cell_of, fault_so_far}
 use Rattle.ascii_grid.specs.Text.{line_text, anchor_text, header_text, rows_text, cell_text, height_text, heights_text}

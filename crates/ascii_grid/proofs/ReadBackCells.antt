@@ -9,9 +9,9 @@ use Rattle.std.proofs.lemmas.Bool.{cond-true, cond-false, and_from, or_left, or_
 use Rattle.std.proofs.lemmas.Bool.Decides.{Decides-int_eq}
 use Rattle.std.proofs.lemmas.Slice.Eq.{bytes_eq-Decides}
 use Rattle.std.proofs.lemmas.List.Elements.{All-head, All-tail}
-use Rattle.ascii_grid.specs.Words.{Word}
-use Rattle.ascii_grid.specs.Decimal.{scaled_value}
-use Rattle.ascii_grid.specs.Raster.{lowest, highest, IsHeight, is_height, IsHeaderWord}
+use Rattle.terrain.specs.Words.{Word}
+use Rattle.terrain.specs.Decimal.{scaled_value}
+use Rattle.terrain.specs.Raster.{lowest, highest, IsHeight, is_height, IsHeaderWord}
 use Rattle.ascii_grid.specs.Header.{begins_with_letter, is_long, nodata_for, missing_fault}
 use Rattle.ascii_grid.specs.GridText.{same_value, is_nodata, cell_of, is_cell, cells_wanted, heights_fault}
 use Rattle.ascii_grid.specs.Text.{height_text, cell_text}

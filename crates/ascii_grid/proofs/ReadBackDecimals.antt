@@ -4,8 +4,8 @@ use Rattle.std.specs.List.{list_all, list_any, before_first, after_first, prefix
 use Rattle.std.specs.Char.{is_ascii_digit, is_ascii_alphabetic}
 use Rattle.std.proofs.lemmas.Bool.{false≢true, cond-true, cond-false, cases_Bool, and_parts, and_from, or_left, or_right, or_cases, or_parts, or_from, not-true, not_from_false, not_from_true, eqb-true, ne_eqb, leb-true, false_from_ne_true}
 use Rattle.std.proofs.lemmas.List.Folds.{list_all-append}
-use Rattle.ascii_grid.specs.Words.{is_separator, is_word}
-use Rattle.ascii_grid.specs.Decimal.{without_sign, is_point, is_exponent_mark, mantissa, whole_part, fraction, has_exponent, are_digits, is_decimal}
+use Rattle.terrain.specs.Words.{is_separator, is_word}
+use Rattle.terrain.specs.Decimal.{without_sign, is_point, is_exponent_mark, mantissa, whole_part, fraction, has_exponent, are_digits, is_decimal}
 use Rattle.ascii_grid.specs.Header.{begins_with_letter}
 use Rattle.ascii_grid.proofs.PlainNumbers.{digit_bounds, no_separator, any-digits, after_first-none}
 use Rattle.ascii_grid.proofs.ReadBackWords.{IsClean}

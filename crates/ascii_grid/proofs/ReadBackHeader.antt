@@ -3,9 +3,9 @@ use Rattle.std.proofs.Common.{◌≡◌, Bool, true, false, ◌&&◌, cond, List
 use Rattle.std.specs.Prelude.{codes, decimal}
 use Rattle.std.specs.Option.{option_or}
 use Rattle.std.proofs.lemmas.Bool.{cond-true, cond-false}
-use Rattle.ascii_grid.specs.Words.{Word}
-use Rattle.ascii_grid.specs.Decimal.{number_of, is_decimal, is_above_zero}
-use Rattle.ascii_grid.specs.Raster.{Raster}
+use Rattle.terrain.specs.Words.{Word}
+use Rattle.terrain.specs.Decimal.{number_of, is_decimal, is_above_zero}
+use Rattle.terrain.specs.Raster.{Raster}
 use Rattle.ascii_grid.specs.Header.{begins_with_letter, header_words, height_words, size_for, anchor_for, word_for, nodata_for, is_long, is_size, is_value, bad_value, header_fault, missing_fault, no_value_fault}
 use Rattle.ascii_grid.specs.declared.fault.Key.{Key}
 use Rattle.ascii_grid.specs.declared.fault.Key.TheVariants.{Ncols, Nrows, Xll, Yll, Cellsize, Nodata}

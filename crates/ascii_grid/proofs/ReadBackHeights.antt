@@ -8,8 +8,8 @@ use Rattle.std.proofs.lemmas.List.{append-nil, length-append, take_at, drop_all}
 use Rattle.std.proofs.lemmas.List.Folds.{list_any-append}
 use Rattle.std.proofs.Math.Nat.{div-le_self}
 use Rattle.std.proofs.lemmas.Fmt.{decimal_nonempty}
-use Rattle.ascii_grid.specs.Words.{Word}
-use Rattle.ascii_grid.specs.Decimal.{without_sign, is_negative, is_point, is_exponent_mark, mantissa, whole_part, fraction, has_exponent, are_digits, is_decimal, number_of, scaled_size, has_scaled_value, scaled_value}
+use Rattle.terrain.specs.Words.{Word}
+use Rattle.terrain.specs.Decimal.{without_sign, is_negative, is_point, is_exponent_mark, mantissa, whole_part, fraction, has_exponent, are_digits, is_decimal, number_of, scaled_size, has_scaled_value, scaled_value}
 use Rattle.ascii_grid.specs.Text.{last_digits, decimals_text, height_text}
 use Rattle.ascii_grid.proofs.Scaled.{are_digits-append, before_first-none}
 use Rattle.ascii_grid.proofs.PlainNumbers.{any-digits, no_exponent, no_point, after_first-none, bare_digits}

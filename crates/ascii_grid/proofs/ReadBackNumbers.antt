@@ -9,8 +9,8 @@ use Rattle.std.proofs.lemmas.List.{append_assoc, append-nil, length-append}
 use Rattle.std.proofs.lemmas.List.Folds.{list_all-append}
 use Rattle.std.proofs.lemmas.List.Sums.{fold-append}
 use Rattle.std.proofs.lemmas.Fmt.{decimal_by_steps}
-use Rattle.ascii_grid.specs.Words.{is_word}
-use Rattle.ascii_grid.specs.Decimal.{number_of, are_digits}
+use Rattle.terrain.specs.Words.{is_word}
+use Rattle.terrain.specs.Decimal.{number_of, are_digits}
 use Rattle.ascii_grid.specs.Text.{last_digits}
 use Rattle.ascii_grid.proofs.Decimals.{div_pow}
 

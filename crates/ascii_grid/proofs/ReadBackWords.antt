@@ -4,7 +4,7 @@ use Rattle.std.specs.List.{All, list_any, filter, slice_split, onto_first, join_
 use Rattle.std.proofs.lemmas.Bool.{cond-true, cond-false, or_parts}
 use Rattle.std.proofs.lemmas.List.{append_assoc, map-append, take-append-drop, length-take-le, length-drop}
 use Rattle.std.proofs.lemmas.List.Elements.{All-head, All-tail, All-take, All-drop}
-use Rattle.ascii_grid.specs.Words.{is_separator, is_word, words}
+use Rattle.terrain.specs.Words.{is_separator, is_word, words}
 use Rattle.ascii_grid.specs.Text.{cell_text, rows_text}
 
 -- one byte or more, and no separator among them

@@ -9,8 +9,8 @@ use Rattle.std.proofs.lemmas.List.Folds.{list_all-append}
 use Rattle.std.proofs.lemmas.Bool.{cases_lt, cond_both, or_parts, lt-ltb, le-leb, lt-leb}
 use Rattle.std.proofs.lemmas.Option.{same_Some}
 use Rattle.std.specs.Bool.{then_some}
-use Rattle.ascii_grid.specs.Words.{Word}
-use Rattle.ascii_grid.specs.Decimal.{without_sign, is_negative, is_point, is_exponent_mark, mantissa, whole_part, fraction, has_exponent, are_digits, number_of, scaled_value}
+use Rattle.terrain.specs.Words.{Word}
+use Rattle.terrain.specs.Decimal.{without_sign, is_negative, is_point, is_exponent_mark, mantissa, whole_part, fraction, has_exponent, are_digits, number_of, scaled_value}
 
 -- digits in two parts, the first with one at least
 pub are_digits-append : (a b : List ℕ) → 0 < length a → are_digits (a ++ b) ≡ (list_all is_ascii_digit a && list_all is_ascii_digit b)

@@ -5,9 +5,9 @@ use Rattle.std.specs.Option.{option_map_or}
 use Rattle.std.proofs.lemmas.Bool.{and_parts, lt-ltb, le-ltb}
 use Rattle.std.proofs.Math.Nat.{one-le-mul}
 use Rattle.std.proofs.lemmas.List.{append-nil, length-map}
-use Rattle.ascii_grid.specs.Words.{Word}
-use Rattle.ascii_grid.specs.Decimal.{number_of, is_decimal, is_above_zero}
-use Rattle.ascii_grid.specs.Raster.{IsHeaderWord, IsLawful}
+use Rattle.terrain.specs.Words.{Word}
+use Rattle.terrain.specs.Decimal.{number_of, is_decimal, is_above_zero}
+use Rattle.terrain.specs.Raster.{IsHeaderWord, IsLawful}
 use Rattle.ascii_grid.specs.Header.{header_words, height_words, key_left, nodata_for, missing_fault, header_fault}
 use Rattle.ascii_grid.specs.GridText.{AsksForCells, cell_of, cells_wanted, heights_fault, end_fault, grid_of}
 use Rattle.ascii_grid.specs.Slots.{anchor_at, is_centre, key_of, wanted_of, IsWhole, raster_of}
@@ -16,7 +16,7 @@ use Rattle.ascii_grid.specs.declared.fault.Key.{Key}
 use Rattle.ascii_grid.specs.declared.fault.Key.TheVariants.{Ncols, Nrows, Xll, Yll, Cellsize, Nodata}
 use Rattle.ascii_grid.specs.declared.fault.GridFault.{GridFault}
 use Rattle.ascii_grid.specs.declared.fault.GridFault.TheVariants.{TooFew, NoValue, Memory}
-use Rattle.ascii_grid.specs.declared.grid.Anchor.{Anchor}
+use Rattle.terrain.specs.declared.grid.Anchor.{Anchor}
 use Rattle.ascii_grid.specs.declared.header.Header.{Header}
 use Rattle.ascii_grid.specs.declared.key.Slot.{Slot}
 use Rattle.ascii_grid.specs.declared.judge.Judge.{Judge}

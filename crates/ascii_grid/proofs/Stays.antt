@@ -5,7 +5,7 @@ use Rattle.std.specs.Option.{option_or}
 use Rattle.std.specs.List.{list_any}
 use Rattle.std.proofs.lemmas.Bool.{cases_Bool}
 use Rattle.std.proofs.lemmas.List.{append-nil, append_assoc, length-append}
-use Rattle.ascii_grid.specs.Words.{Word, is_word, is_separator, words, ended_words}
+use Rattle.terrain.specs.Words.{Word, is_word, is_separator, words, ended_words}
 use Rattle.ascii_grid.specs.Header.{begins_with_letter, is_long, header_words, height_words, header_fault, key_fault, value_fault, key_left, missing_fault}
 use Rattle.ascii_grid.specs.GridText.{words_fault, heights_fault, height_fault, AsksAtHeight}
 use Rattle.ascii_grid.specs.Reading.{IsParted}

@@ -4,7 +4,7 @@ use Rattle.std.specs.Io.KnownBytes.{Consumes, IsAtEnd}
 use Rattle.std.proofs.lemmas.Bool.{cases_lt}
 use Rattle.std.proofs.lemmas.List.{append-nil}
 use Rattle.std.proofs.lemmas.Option.{same_Some}
-use Rattle.ascii_grid.specs.Words.{ended_words}
+use Rattle.terrain.specs.Words.{ended_words}
 use Rattle.ascii_grid.specs.Device.{Device}
 use Rattle.ascii_grid.specs.GridText.{fault_so_far, words_fault, most_bytes}
 use Rattle.ascii_grid.specs.Reader.{Reader, HasTaken}

@@ -4,8 +4,8 @@ use Rattle.std.specs.Prelude.{option_map, option_and_then}
 use Rattle.std.specs.Option.{option_map_or}
 use Rattle.std.specs.List.{list_any}
 use Rattle.std.proofs.lemmas.Bool.{cases_lt, ltb-false}
-use Rattle.ascii_grid.specs.Words.{Word, words, ended_words}
-use Rattle.ascii_grid.specs.Raster.{Raster, IsLawful}
+use Rattle.terrain.specs.Words.{Word, words, ended_words}
+use Rattle.terrain.specs.Raster.{Raster, IsLawful}
 use Rattle.ascii_grid.specs.Header.{header_words, height_words, pairs, key_left, slot_of, fills, is_long, key_fault, value_fault, header_fault, missing_fault, no_value_fault}
 use Rattle.ascii_grid.specs.GridText.{IsGridText, most_bytes, cells_wanted, words_fault, end_fault, text_fault, grid_of}
 use Rattle.ascii_grid.specs.Reading.{flat}

@@ -6,7 +6,7 @@ use Rattle.std.proofs.Math.Nat.{mul_comm, mul-le-mul}
 use Rattle.std.proofs.lemmas.List.{length-append, length-take-le, length-drop}
 use Rattle.std.proofs.lemmas.List.Elements.{All-head, All-tail, All-take, All-drop}
 use Rattle.std.proofs.lemmas.Fmt.{length-decimal-le}
-use Rattle.ascii_grid.specs.Raster.{Anchor, Raster, IsHeight, IsLawful}
+use Rattle.terrain.specs.Raster.{Anchor, Raster, IsHeight, IsLawful}
 use Rattle.ascii_grid.specs.GridText.{most_bytes}
 use Rattle.ascii_grid.specs.Text.{decimals_text, height_text, cell_text, row_text, rows_text, line_text, anchor_text, header_text, heights_text}
 use Rattle.ascii_grid.proofs.ReadBackHeights.{body, text-pos, length-decimals}

@@ -6,7 +6,7 @@ use Rattle.std.specs.Option.{option_or, option_map_or, option_and_then}
 use Rattle.std.specs.List.{list_any}
 use Rattle.std.proofs.lemmas.Bool.{cases_Bool, lt-ltb}
 use Rattle.std.proofs.lemmas.List.{append-nil, append_assoc}
-use Rattle.ascii_grid.specs.Words.{Word}
+use Rattle.terrain.specs.Words.{Word}
 use Rattle.ascii_grid.specs.Header.{fills, slot_of, is_long, is_value, bad_value, begins_with_letter, header_words, height_words, nodata_for, header_fault, key_fault, value_fault, missing_fault}
 use Rattle.ascii_grid.specs.GridText.{AsksAtHeight, IsTold, is_cell, cells_wanted, words_fault, heights_fault, height_fault}
 use Rattle.ascii_grid.specs.Reading.{flat, IsHeaderOf, HasBegun, AreHeights, HasJudged, IsWordFault}

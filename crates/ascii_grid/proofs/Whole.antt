@@ -9,9 +9,9 @@ use Rattle.std.proofs.lemmas.Bool.{cases_Bool, and_parts, or_parts, ltb-true, lt
 use Rattle.std.proofs.lemmas.Option.{same_Some}
 use Rattle.std.proofs.lemmas.Int.{ints}
 use Rattle.std.proofs.lemmas.List.Elements.{All-cons}
-use Rattle.ascii_grid.specs.Words.{Word}
-use Rattle.ascii_grid.specs.Decimal.{number_of, scaled_value}
-use Rattle.ascii_grid.specs.Raster.{lowest, highest, IsHeight, is_height}
+use Rattle.terrain.specs.Words.{Word}
+use Rattle.terrain.specs.Decimal.{number_of, scaled_value}
+use Rattle.terrain.specs.Raster.{lowest, highest, IsHeight, is_height}
 use Rattle.ascii_grid.specs.Header.{fills, slot_of, slot_number, is_long, is_size, is_value, bad_value, nodata_for, header_fault, key_fault, value_fault, missing_fault}
 use Rattle.ascii_grid.specs.GridText.{same_value, is_nodata, is_cell, cell_of, cells_wanted, heights_fault, height_fault}
 use Rattle.ascii_grid.specs.Slots.{missing_of, IsWhole}

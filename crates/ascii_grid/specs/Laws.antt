@@ -1,6 +1,6 @@
 -- What the definitions satisfy. Source: this project.
 use Rattle.std.specs.Prelude.{◌≡◌, ℕ, ◌≤◌, ◌++◌, List, length, Some}
-use Rattle.ascii_grid.specs.Raster.{Raster, IsLawful}
+use Rattle.terrain.specs.Raster.{Raster, IsLawful}
 use Rattle.ascii_grid.specs.GridText.{IsGridText, text_fault, fault_so_far, most_bytes, IsRefusal, IsRefusalSoFar}
 use Rattle.ascii_grid.specs.Text.{heights_text}
 use Rattle.ascii_grid.specs.declared.fault.GridFault.{GridFault}

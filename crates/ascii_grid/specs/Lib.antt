@@ -1,17 +1,11 @@
-pub mod Decimal
 pub mod Device
 pub mod GridText
 pub mod Header
 pub mod Laws
 pub mod Meaning
-pub mod Neighbours
-pub mod Raster
 pub mod Reader
 pub mod Reading
 pub mod Slots
 pub mod Text
-pub mod Ways
-pub mod Words
 pub mod Plain
-pub mod Parts
 pub mod Gathers

@@ -1,6 +1,6 @@
 -- What a word among the heights stands for, for the reader's own steps.
 use Rattle.std.specs.Prelude.{ℕ, if◌then◌else◌}
-use Rattle.ascii_grid.specs.Words.{Word}
+use Rattle.terrain.specs.Words.{Word}
 use Rattle.ascii_grid.specs.GridText.{is_cell, cell_of}
 use Rattle.ascii_grid.specs.declared.cell.Meaning.{Meaning}
 use Rattle.ascii_grid.specs.declared.cell.Meaning.TheVariants.{Cell, Nothing}

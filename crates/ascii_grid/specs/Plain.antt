@@ -1,8 +1,8 @@
 -- A plain whole number at the front of a text, which a reader takes in one go.
 use Rattle.std.specs.Prelude.{◌≡◌, ℕ, ◌≤◌, ◌<◌, ℤ, List, length, take, false, Some}
 use Rattle.std.specs.List.{list_any}
-use Rattle.ascii_grid.specs.Words.{is_separator}
-use Rattle.ascii_grid.specs.Decimal.{scaled_value}
+use Rattle.terrain.specs.Words.{is_separator}
+use Rattle.terrain.specs.Decimal.{scaled_value}
 
 -- The first bytes are a short word with this scaled value, and none of them parts words.
 pub record IsPlain (d : ℕ) (bytes : List ℕ) (len : ℕ) (value : ℤ) : Type 0 where

@@ -1,8 +1,8 @@
 -- What a reader keeps of the text that it was fed, for the reader's own steps. Source: this project.
 use Rattle.std.specs.Prelude.{◌≡◌, ℕ, Bool, true, false, List, [], ◌∷◌, ◌++◌, map, filter, find, take, Option, None, Some, option_map}
 use Rattle.std.specs.List.{slice_split, list_all}
-use Rattle.ascii_grid.specs.Words.{Word, is_word, is_separator, ended_words}
-use Rattle.ascii_grid.specs.Decimal.{number_of, scaled_value}
+use Rattle.terrain.specs.Words.{Word, is_word, is_separator, ended_words}
+use Rattle.terrain.specs.Decimal.{number_of, scaled_value}
 use Rattle.ascii_grid.specs.Header.{fills, slot_of, begins_with_letter, header_fault, key_fault, missing_fault, nodata_for}
 use Rattle.ascii_grid.specs.GridText.{AsksForCells, AsksAtHeight, IsTold, cell_of, cells_wanted, words_fault, heights_fault, end_fault}
 use Rattle.ascii_grid.specs.Slots.{anchor_at, is_given, is_centre, key_of, slot_named}

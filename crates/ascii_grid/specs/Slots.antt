@@ -1,15 +1,15 @@
 -- The slots of a header as a reader fills them, pair by pair.
 use Rattle.std.specs.Prelude.{ℕ, ◌*◌, ℤ, IsSome, Bool, false, not, ◌||◌, codes, List, [], find, Option, None, Some, is_some, unwrap_or, option_map}
 use Rattle.std.specs.Option.{option_map_or}
-use Rattle.ascii_grid.specs.Words.{Word}
-use Rattle.ascii_grid.specs.Decimal.{number_of}
-use Rattle.ascii_grid.specs.Raster.{Raster, raster}
+use Rattle.terrain.specs.Words.{Word}
+use Rattle.terrain.specs.Decimal.{number_of}
+use Rattle.terrain.specs.Raster.{Raster, raster}
 use Rattle.ascii_grid.specs.Header.{is_key, required_slots}
 use Rattle.ascii_grid.specs.declared.fault.Key.{Key}
 use Rattle.ascii_grid.specs.declared.fault.Key.TheVariants.{Ncols, Nrows, Xll, Yll, Cellsize, Nodata}
 use Rattle.ascii_grid.specs.declared.fault.GridFault.{GridFault}
 use Rattle.ascii_grid.specs.declared.fault.GridFault.TheVariants.{MissingKey}
-use Rattle.ascii_grid.specs.declared.grid.Anchor.{Anchor}
+use Rattle.terrain.specs.declared.grid.Anchor.{Anchor}
 use Rattle.ascii_grid.specs.declared.header.Header.{Header}
 use Rattle.ascii_grid.specs.declared.key.Slot.{Slot}
 use Rattle.ascii_grid.specs.declared.key.Slot.TheVariants as slot

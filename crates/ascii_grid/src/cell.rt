@@ -1,11 +1,11 @@
 // The cell that a word among the heights stands for.
 ghost use Rattle.std.specs.Prelude.{◌≡◌, ℕ, List, Option, Some, None};
-ghost use Rattle.ascii_grid.specs.Decimal.{scaled_value};
+ghost use Rattle.terrain.specs.Decimal.{scaled_value};
 ghost use Rattle.ascii_grid.specs.GridText.{same_value};
 ghost use Rattle.ascii_grid.specs.Meaning.{meaning_of};
 
 use crate::decimal::scaled_value;
-use crate::place::{self, Height};
+use terrain::{Height, place};
 
 const LOWEST: i64 = place::LOWEST as i64;
 

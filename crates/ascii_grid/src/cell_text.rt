@@ -3,8 +3,8 @@ ghost use Rattle.std.specs.Prelude.{◌≡◌, ◌+◌, ◌-◌, ◌/◌, ◌^�
 ghost use Rattle.ascii_grid.specs.Text.{last_digits, decimals_text, height_text};
 
 use crate::page::Page;
-use crate::place::Height;
 use itoa::write_digits;
+use terrain::Height;
 
 /// Room for the longest text of a value, which is written from its end.
 const ROOM: usize = 24;

@@ -1,16 +1,14 @@
 // The slots of a header.
 ghost use Rattle.std.specs.Prelude.{◌≡◌, ◌≤◌, ◌*◌, length, true, false, Option, Some, None, IfOk, IfErr, MatchOption, unwrap_or, codes, if◌then◌else◌};
-ghost use Rattle.ascii_grid.specs.Decimal.{is_decimal};
+ghost use Rattle.terrain.specs.Decimal.{is_decimal};
 ghost use Rattle.ascii_grid.specs.Header.{is_value, bad_value, slot_of};
 ghost use Rattle.ascii_grid.specs.Slots.{no_slots, is_centre, is_given, key_of, slot_named, with_value, missing_of, wanted_of, IsWhole, raster_of};
-ghost use Rattle.ascii_grid.specs.Raster.{IsLawful};
+ghost use Rattle.terrain.specs.Raster.{IsLawful};
 
 use crate::decimal::{is_above_zero, is_decimal, size};
 use crate::fault::{GridFault, Key};
-use crate::grid::{Anchor, Grid, GridHeader};
 use crate::key::{Slot, slot_of};
-use crate::place::Height;
-use crate::word::Word;
+use terrain::{Anchor, Grid, GridHeader, Height, Word};
 
 /// What a header has given so far.
 #[derive(Drop)]

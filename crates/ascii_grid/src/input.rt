@@ -6,10 +6,10 @@ ghost use Rattle.ascii_grid.specs.GridText.{IsGridText, IsRefusal, fault_so_far,
 
 use crate::counted::Counted;
 use crate::fault::GridFault;
-use crate::grid::Grid;
 use crate::reader::{GridReader, MOST_TEXT_BYTES};
 use std::alloc::Global;
 use std::io::Read;
+use terrain::Grid;
 
 // One system call reads this much.
 const PIECE: usize = 65_536;

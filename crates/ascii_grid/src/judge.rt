@@ -1,7 +1,7 @@
 // The words of a text, judged one after another.
 ghost use Rattle.std.specs.Prelude.{◌↔◌, IsTrue, ◌≡◌, ◌≤◌, ◌<◌, ◌⊎◌, ◌++◌, [], ◌∷◌, List, length, true, false, Option, Some, None, Err, IfOk, IfErr, MatchResult};
-ghost use Rattle.ascii_grid.specs.Words.{Word};
-ghost use Rattle.ascii_grid.specs.Decimal.{scaled_value};
+ghost use Rattle.terrain.specs.Words.{Word};
+ghost use Rattle.terrain.specs.Decimal.{scaled_value};
 ghost use Rattle.ascii_grid.specs.Header.{begins_with_letter, missing_fault};
 ghost use Rattle.ascii_grid.specs.GridText.{height_fault, end_fault, grid_of};
 ghost use Rattle.ascii_grid.specs.Meaning.{meaning_of};
@@ -10,12 +10,10 @@ ghost use Rattle.ascii_grid.specs.Reading.{flat, IsHeaderOf, AreHeights, HasJudg
 use crate::cell::{Meaning, cell, value_cell};
 use crate::decimal::scaled_value;
 use crate::fault::GridFault;
-use crate::grid::Grid;
 use crate::header::Header;
 use crate::key::{Slot, begins_with_letter};
-use crate::place::Height;
-use crate::word::Word;
 use std::alloc::Global;
+use terrain::{Grid, Height, Word};
 
 /// What the next word is.
 #[derive(Clone, Copy)]

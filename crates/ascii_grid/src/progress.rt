@@ -1,6 +1,6 @@
 // The words of a text, parted byte by byte and judged where a separator ends them.
 ghost use Rattle.std.specs.Prelude.{◌≡◌, ℕ, ◌≤◌, ◌++◌, [], ◌∷◌, ◌<◌, List, length, take, IfOk, MatchResult};
-ghost use Rattle.ascii_grid.specs.Words.{is_separator, words, ended_words};
+ghost use Rattle.terrain.specs.Words.{is_separator, words, ended_words};
 ghost use Rattle.ascii_grid.specs.Reading.{HasJudged, HasWords, IsWordFault};
 
 use crate::decimal::plain_number;

@@ -3,9 +3,9 @@ ghost use Rattle.std.specs.Prelude.{◌≤◌, IfOk, IfErr};
 ghost use Rattle.ascii_grid.specs.GridText.{IsGridText, IsRefusal};
 
 use crate::fault::GridFault;
-use crate::grid::Grid;
 use crate::reader::GridReader;
 use std::alloc::Global;
+use terrain::Grid;
 
 /// The grid that the text spells, its heights in units of 10^-scale.
 pub fn read_text(alloc: Global, scale: u8, bytes: &[u8]) -> Result<Grid, GridFault>

@@ -5,10 +5,10 @@ ghost use Rattle.ascii_grid.specs.GridText.{IsGridText, IsRefusal, IsRefusalSoFa
 ghost use Rattle.ascii_grid.specs.Reader.{HasTaken};
 
 use crate::fault::GridFault;
-use crate::grid::Grid;
 use crate::progress::Progress;
 use std::alloc::Global;
 use std::marker::Model;
+use terrain::Grid;
 
 /// The most bytes that a text may have: 2^28.
 pub const MOST_TEXT_BYTES: usize = 268_435_456;

@@ -7,10 +7,10 @@ ghost use Rattle.ascii_grid.specs.Text.{cell_text, row_text, rows_text, line_tex
 
 use crate::cell_text::CellValue;
 use crate::counted::{Counted, WriteFailed};
-use crate::grid::{Anchor, Grid};
 use crate::page::Page;
 use itoa::Buffer;
 use std::io::Write;
+use terrain::{Anchor, Grid};
 
 /// More bytes than a step adds: a header line or a cell with the space before it.
 const STEP: usize = 80;

@@ -2,9 +2,9 @@
 ghost use Rattle.std.specs.Prelude.{◌≡◌, ◌∷◌, [], pos, negsuc, None, Some};
 
 use crate::texts::grid_of;
-use ascii_grid::{Grid, Place};
 use std::alloc::Global;
 use std::process::Abort;
+use terrain::{Grid, Place};
 
 /// Three by three cells: heights 5 around a 1 below 0, and no data at the south east.
 fn bowl(rt: &impl Abort, alloc: Global) -> Grid

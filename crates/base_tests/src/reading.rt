@@ -2,13 +2,12 @@
 ghost use Rattle.std.specs.Prelude.{◌≤◌, ◌<◌};
 
 use crate::texts::{LENIENT, LENIENT_CELLS, grid_of};
-use ascii_grid::{
-    Counted, Grid, GridFault, GridReader, Height, InputFault, Key, read_grid, read_text,
-};
+use ascii_grid::{Counted, GridFault, GridReader, InputFault, Key, read_grid, read_text};
 use std::alloc::Global;
 use std::io;
 use std::io::Read;
 use std::process::Abort;
+use terrain::{Grid, Height};
 
 // Two columns and one row, with the lower left corner at 0 0.
 const HEADER: &[u8] = b"ncols 2 nrows 1 xllcorner 0 yllcorner 0 cellsize 1";

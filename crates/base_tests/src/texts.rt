@@ -1,9 +1,10 @@
 //! Texts of grids that several tests read.
 ghost use Rattle.std.specs.Prelude.{◌≡◌, ◌≤◌};
 
-use ascii_grid::{Grid, Height, read_text};
+use ascii_grid::read_text;
 use std::alloc::Global;
 use std::process::Abort;
+use terrain::{Grid, Height};
 
 /// A text of the lenient form, of two by two cells at scale 2: 12.50, -0.50, none and 7.00.
 pub const LENIENT: &[u8] =

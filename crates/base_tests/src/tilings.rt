@@ -1,8 +1,8 @@
 //! Tilings, rims, views and what is put back.
 ghost use Rattle.std.specs.Prelude.{◌≡◌};
 
-use ascii_grid::Place;
 use std::test::Fail;
+use terrain::Place;
 use tiles::{Bounds, Tiling, TilingFault};
 
 const fn place(row: u32, col: u32) -> Place

@@ -2,12 +2,13 @@
 ghost use Rattle.std.specs.Prelude.{◌≡◌, ◌*◌};
 
 use crate::texts::{LENIENT, LENIENT_CELLS, grid_of};
-use ascii_grid::{Counted, Grid, WriteFailed, write_counts, write_heights};
+use ascii_grid::{Counted, WriteFailed, write_counts, write_heights};
 use std::alloc::Global;
 use std::io;
 use std::io::Write;
 use std::process::Abort;
 use std::test::Fail;
+use terrain::Grid;
 
 /// More bytes than a test writes.
 const ALL: usize = 20_000;

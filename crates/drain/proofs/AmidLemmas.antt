@@ -4,11 +4,11 @@ use Rattle.std.specs.Prelude.{option_map}
 use Rattle.std.specs.List.{list_any, position}
 use Rattle.std.specs.Option.{option_zip, option_and_then}
 use Rattle.std.proofs.lemmas.Bool.{cases_eq}
-use Rattle.ascii_grid.proofs.Places.{make_place, entry-inside, index_below}
-use Rattle.ascii_grid.specs.Raster.{Terrain, IsTerrain, IsHeight}
-use Rattle.ascii_grid.specs.Neighbours.{IsInside, height_at, entry_at, index_of, Touches}
-use Rattle.ascii_grid.specs.Ways.{place_on, place_of, before, entry_on, code_of}
-use Rattle.ascii_grid.specs.declared.place.Place.{Place}
+use Rattle.terrain.proofs.Places.{make_place, entry-inside, index_below}
+use Rattle.terrain.specs.Raster.{Terrain, IsTerrain, IsHeight}
+use Rattle.terrain.specs.Neighbours.{IsInside, height_at, entry_at, index_of, Touches}
+use Rattle.terrain.specs.Ways.{place_on, place_of, before, entry_on, code_of}
+use Rattle.terrain.specs.declared.place.Place.{Place}
 use Rattle.drain.specs.Amid.{around_index, drop_by, HasHeights, StandAround}
 use Rattle.drain.specs.Beginning.{IsOutermost}
 use Rattle.drain.specs.Directions.{IsCodeAt}

@@ -7,11 +7,11 @@ use Rattle.std.proofs.lemmas.Option.{MatchOption-at_some}
 use Rattle.std.specs.Int.{int_gap}
 use Rattle.std.specs.Option.{option_zip}
 use Rattle.std.proofs.lemmas.Bool.Decides.{Decides-int_eq}
-use Rattle.ascii_grid.proofs.Places.{inside_from_entry, entry-inside, index_below}
-use Rattle.ascii_grid.specs.Raster.{Terrain, IsTerrain, IsHeight}
-use Rattle.ascii_grid.specs.Neighbours.{height_at, entry_at, index_of, IsDataCell, height_of}
-use Rattle.ascii_grid.specs.Ways.{place_on, entry_on}
-use Rattle.ascii_grid.specs.declared.place.Place.{Place}
+use Rattle.terrain.proofs.Places.{inside_from_entry, entry-inside, index_below}
+use Rattle.terrain.specs.Raster.{Terrain, IsTerrain, IsHeight}
+use Rattle.terrain.specs.Neighbours.{height_at, entry_at, index_of, IsDataCell, height_of}
+use Rattle.terrain.specs.Ways.{place_on, entry_on}
+use Rattle.terrain.specs.declared.place.Place.{Place}
 use Rattle.drain.specs.Steps.{IsSteps, AreSteps}
 use Rattle.drain.specs.Steepness.{weight, positive_part, drop_to, leads_on}
 use Rattle.drain.specs.Fitting.{IsLaidAround}

@@ -4,10 +4,10 @@ use Rattle.std.specs.Bool.{MatchBool}
 use Rattle.std.proofs.lemmas.Int.{ints}
 use Rattle.std.proofs.lemmas.Bool.{false≢true}
 use Rattle.std.proofs.lemmas.Option.{same_Some}
-use Rattle.ascii_grid.proofs.Places.{make_place, entry-below, entry-beside}
-use Rattle.ascii_grid.specs.Raster.{Terrain}
-use Rattle.ascii_grid.specs.Neighbours.{IsInside, height_at, index_of, Touches, IsEdge, HasGapAround, height_of}
-use Rattle.ascii_grid.specs.declared.place.Place.{Place}
+use Rattle.terrain.proofs.Places.{make_place, entry-below, entry-beside}
+use Rattle.terrain.specs.Raster.{Terrain}
+use Rattle.terrain.specs.Neighbours.{IsInside, height_at, index_of, Touches, IsEdge, HasGapAround, height_of}
+use Rattle.terrain.specs.declared.place.Place.{Place}
 use Rattle.drain.specs.Amid.{around_index}
 use Rattle.drain.specs.Beginning.{IsGapOrLower, IsOutermost}
 use Rattle.drain.specs.Steps.{DrainsAtOnce}

@@ -2,10 +2,10 @@
 use Rattle.std.proofs.Common.{◌≡◌, ℕ, ◌<◌, ◌≤◌, ◌⊎◌, inl, inr, List, Option, None, Some, MatchOption, is_some, ℤ, sym, ap, subst, refl, ◌∙◌}
 use Rattle.std.proofs.lemmas.Bool.{cases_lt}
 use Rattle.std.proofs.lemmas.Option.{MatchOption-at_some, MatchOption-at_none, same_Some, none-some}
-use Rattle.ascii_grid.proofs.Places.{entry-below, entry-beside, inside_from_entry}
-use Rattle.ascii_grid.specs.Raster.{Terrain, Raster}
-use Rattle.ascii_grid.specs.Neighbours.{IsInside, height_at, entry_at}
-use Rattle.ascii_grid.specs.declared.place.Place.{Place}
+use Rattle.terrain.proofs.Places.{entry-below, entry-beside, inside_from_entry}
+use Rattle.terrain.specs.Raster.{Terrain, Raster}
+use Rattle.terrain.specs.Neighbours.{IsInside, height_at, entry_at}
+use Rattle.terrain.specs.declared.place.Place.{Place}
 use Rattle.drain.specs.Steps.{IsSteps, AreSteps}
 use Rattle.drain.specs.Directions.{IsDirection, AreDirections}
 use Rattle.drainage.specs.Drained.{IsDraining}

@@ -5,11 +5,11 @@ use Rattle.std.proofs.lemmas.Bool.{false≢true}
 use Rattle.std.proofs.lemmas.List.{length-map}
 use Rattle.std.proofs.lemmas.List.FromFn.{length-range_with_len, get_or-map-range_with_len}
 use Rattle.std.specs.List.{range_with_len}
-use Rattle.ascii_grid.proofs.Places.{same_place, entry-inside, index_below}
-use Rattle.ascii_grid.specs.Raster.{Terrain}
-use Rattle.ascii_grid.specs.Neighbours.{height_at, index_of, IsDataCell, IsEdge, height_of}
+use Rattle.terrain.proofs.Places.{same_place, entry-inside, index_below}
+use Rattle.terrain.specs.Raster.{Terrain}
+use Rattle.terrain.specs.Neighbours.{height_at, index_of, IsDataCell, IsEdge, height_of}
 use Rattle.drainage.specs.Filled.{IsFilled}
-use Rattle.ascii_grid.specs.declared.place.Place.{Place}
+use Rattle.terrain.specs.declared.place.Place.{Place}
 use Rattle.drain.specs.Steps.{IsSteps, AreSteps}
 use Rattle.drain.specs.Steepness.{direction_of}
 use Rattle.drain.specs.Directions.{IsDirection}

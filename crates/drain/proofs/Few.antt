@@ -1,10 +1,10 @@
 -- A shortest walk meets no cell twice, so its moves are fewer than the terrain's cells.
 use Rattle.std.proofs.Common.{◌≡◌, ◌≢◌, ℕ, zero, suc, ◌+◌, ◌-◌, ◌*◌, ◌^◌, ◌<◌, ◌≤◌, inl, inr, List, [], ◌∷◌, length, sym, subst, refl, arith}
 use Rattle.std.proofs.Math.Nat.{mul-le-mul_left, mul-le-mul_right}
-use Rattle.ascii_grid.proofs.Places.{inside_from_entry, index_below, index_injective}
-use Rattle.ascii_grid.specs.Raster.{Terrain, IsTerrain}
-use Rattle.ascii_grid.specs.Neighbours.{index_of, IsDataCell, height_of}
-use Rattle.ascii_grid.specs.declared.place.Place.{Place}
+use Rattle.terrain.proofs.Places.{inside_from_entry, index_below, index_injective}
+use Rattle.terrain.specs.Raster.{Terrain, IsTerrain}
+use Rattle.terrain.specs.Neighbours.{index_of, IsDataCell, height_of}
+use Rattle.terrain.specs.declared.place.Place.{Place}
 use Rattle.drain.specs.Steps.{DrainsAtOnce, IsLevelWalk, IsFlatWalk, IsSteps}
 use Rattle.drain.proofs.Local.{one_number_of_steps}
 use Rattle.drainage.proofs.Pigeonhole.{pigeonhole}

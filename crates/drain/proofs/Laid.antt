@@ -9,10 +9,10 @@ use Rattle.std.proofs.lemmas.Option.{none-some, same_Some}
 use Rattle.std.specs.Int.{int_gap}
 use Rattle.std.specs.List.{list_any, position}
 use Rattle.std.specs.Option.{option_zip, option_and_then}
-use Rattle.ascii_grid.specs.Raster.{Terrain, IsTerrain, IsHeight}
-use Rattle.ascii_grid.specs.Neighbours.{height_at, entry_at, IsDataCell, IsNeighbour, height_of}
-use Rattle.ascii_grid.specs.Ways.{place_on, code_of}
-use Rattle.ascii_grid.specs.declared.place.Place.{Place}
+use Rattle.terrain.specs.Raster.{Terrain, IsTerrain, IsHeight}
+use Rattle.terrain.specs.Neighbours.{height_at, entry_at, IsDataCell, IsNeighbour, height_of}
+use Rattle.terrain.specs.Ways.{place_on, code_of}
+use Rattle.terrain.specs.declared.place.Place.{Place}
 use Rattle.drain.specs.Steps.{IsLower, HasLower, DrainsAtOnce, IsFlatWalk, IsSteps, AreSteps}
 use Rattle.drain.specs.Steepness.{weight, positive_part, drop_to, weights, leads_on, direction_of}
 use Rattle.drain.specs.Fitting.{IsFitting, IsLaidAround, IsAround}

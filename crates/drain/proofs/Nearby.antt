@@ -6,9 +6,9 @@ use Rattle.std.proofs.lemmas.Int.{by_lt_z, ints}
 use Rattle.std.proofs.lemmas.Bool.{and_parts, and_from, false≢true}
 use Rattle.std.proofs.lemmas.Bool.Decides.{Decides-int_eq}
 use Rattle.std.proofs.lemmas.Option.{same_Some}
-use Rattle.ascii_grid.specs.Raster.{Terrain}
-use Rattle.ascii_grid.specs.Neighbours.{height_at, IsNeighbour, IsEdge, height_of}
-use Rattle.ascii_grid.specs.declared.place.Place.{Place}
+use Rattle.terrain.specs.Raster.{Terrain}
+use Rattle.terrain.specs.Neighbours.{height_at, IsNeighbour, IsEdge, height_of}
+use Rattle.terrain.specs.declared.place.Place.{Place}
 use Rattle.drainage.proofs.Reach.{field, is_next, is_edge_cell, any_found, any_touching, next_true, true_next, edge_true, true_edge}
 use Rattle.drain.specs.Steps.{HasLower, DrainsAtOnce, IsFlatWalk}
 

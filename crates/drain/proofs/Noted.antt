@@ -5,9 +5,9 @@ use Rattle.std.proofs.lemmas.Bool.{cases_eq}
 use Rattle.std.proofs.lemmas.List.{length_push, get_or-set_same, get_or-set_other}
 use Rattle.std.proofs.lemmas.Option.{slice_get_within, same_Some}
 use Rattle.tiles.proofs.SliceGet.{slice_get-append_left, slice_get-append_right}
-use Rattle.ascii_grid.proofs.Places.{cases_place, index_injective}
-use Rattle.ascii_grid.specs.Neighbours.{Touches}
-use Rattle.ascii_grid.specs.declared.place.Place.{Place}
+use Rattle.terrain.proofs.Places.{cases_place, index_injective}
+use Rattle.terrain.specs.Neighbours.{Touches}
+use Rattle.terrain.specs.declared.place.Place.{Place}
 use Rattle.tiles.specs.declared.bounds.Bounds.{Bounds}
 use Rattle.drain.specs.Window.{spot_index, area_of, IsSpot, IsInner, level_on, count_on, IsNotAbove, IsNear, AreNoted, IsEvenBut, IsEven}
 use Rattle.drain.proofs.Spreading.{touches_back, spot_below, spot_from_inner}

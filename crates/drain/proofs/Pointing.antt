@@ -6,10 +6,10 @@ use Rattle.std.proofs.lemmas.List.{get_or_default}
 use Rattle.std.proofs.lemmas.List.Quantifiers.{position-Some}
 use Rattle.std.proofs.lemmas.Option.{none-some, same_Some}
 use Rattle.std.specs.Option.{option_and_then}
-use Rattle.ascii_grid.specs.Raster.{Terrain}
-use Rattle.ascii_grid.specs.Neighbours.{IsDataCell, IsNeighbour, IsEdge}
-use Rattle.ascii_grid.specs.Ways.{way_codes, ways_from, way_of, code_of, place_on, place_toward}
-use Rattle.ascii_grid.specs.declared.place.Place.{Place}
+use Rattle.terrain.specs.Raster.{Terrain}
+use Rattle.terrain.specs.Neighbours.{IsDataCell, IsNeighbour, IsEdge}
+use Rattle.terrain.specs.Ways.{way_codes, ways_from, way_of, code_of, place_on, place_toward}
+use Rattle.terrain.specs.declared.place.Place.{Place}
 use Rattle.tiles.proofs.Members.{Touches-from_ways}
 use Rattle.drain.specs.Steps.{HasLower, DrainsAtOnce, AreSteps}
 use Rattle.drain.specs.Directions.{IsSteepest, IsOnward, PointsToFirst, IsDirection}

@@ -2,11 +2,11 @@
 use Rattle.std.proofs.Common.{◌≡◌, inl, inr, ℕ, ◌*◌, ◌^◌, ◌<◌, ◌≤◌, List, [], ◌∷◌, length, Option, None, Some, is_some, IfSome, MatchOption, sym, ap, subst, refl, ◌∙◌, arith}
 use Rattle.std.proofs.lemmas.Bool.{false≢true}
 use Rattle.std.proofs.lemmas.Option.{MatchOption-at_some}
-use Rattle.ascii_grid.proofs.Places.{inside_from_entry}
-use Rattle.ascii_grid.specs.Raster.{Terrain, IsTerrain}
-use Rattle.ascii_grid.specs.Neighbours.{height_at, entry_at, IsDataCell, IsNeighbour, height_of}
+use Rattle.terrain.proofs.Places.{inside_from_entry}
+use Rattle.terrain.specs.Raster.{Terrain, IsTerrain}
+use Rattle.terrain.specs.Neighbours.{height_at, entry_at, IsDataCell, IsNeighbour, height_of}
 use Rattle.drainage.specs.Filled.{IsFilled}
-use Rattle.ascii_grid.specs.declared.place.Place.{Place}
+use Rattle.terrain.specs.declared.place.Place.{Place}
 use Rattle.tiles.specs.Cutting.{Cutting, Cuts, IsCutting, tile_of_place, IsInTile, tile_entry}
 use Rattle.drain.specs.Beginning.{HasZeros, AreBegun}
 use Rattle.drain.specs.Laws.{IsQuiet}

@@ -4,10 +4,10 @@ use Rattle.std.proofs.lemmas.Option.{MatchOption-at_some}
 use Rattle.std.proofs.lemmas.Bool.{cases_eq, cases_lt, false≢true}
 use Rattle.std.proofs.lemmas.List.{get_or_past}
 use Rattle.std.proofs.lemmas.List.Sums.{sum_by-cons}
-use Rattle.ascii_grid.proofs.Places.{inside_from_entry, entry-inside, index_below}
-use Rattle.ascii_grid.specs.Raster.{Terrain}
-use Rattle.ascii_grid.specs.Neighbours.{entry_at, index_of}
-use Rattle.ascii_grid.specs.declared.place.Place.{Place}
+use Rattle.terrain.proofs.Places.{inside_from_entry, entry-inside, index_below}
+use Rattle.terrain.specs.Raster.{Terrain}
+use Rattle.terrain.specs.Neighbours.{entry_at, index_of}
+use Rattle.terrain.specs.declared.place.Place.{Place}
 use Rattle.tiles.specs.Cutting.{Cutting, View, IsWithin, IsInTile, tile_entry, tile_of_place, tile_count, terrain_of}
 use Rattle.tiles.proofs.Cut.{tile_of_place_below}
 use Rattle.drain.specs.Rounds.{IsLent, LendSame, IsWalked, IsRound, IsTileEven, IsUnentered, IsTileStill, IsDue, IsTileAnswer, is_changed, AreCounting, Rounding, levels_of, IsRounding, told, told_by, IsSized, AreSized, IsUntouched, AreAnswered, AreStill, IsNext, left_to_count}

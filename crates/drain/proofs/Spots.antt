@@ -3,9 +3,9 @@ use Rattle.std.proofs.Common.{◌≡◌, ◌≢◌, ℕ, zero, suc, ◌+◌, ◌
 use Rattle.std.proofs.lemmas.Bool.{cases_Bool, cases_eq, cases_lt, cond-true, cond-false, and_from, and_left, le-leb}
 use Rattle.std.proofs.lemmas.List.{get_or_append_left, get_or-append_right, length-append, get_or_push, length_push}
 use Rattle.std.proofs.Math.Nat.{mul-le-mul_right}
-use Rattle.ascii_grid.proofs.Places.{make_place, same_place, index_injective, entry-inside}
-use Rattle.ascii_grid.specs.Neighbours.{entry_at, index_of}
-use Rattle.ascii_grid.specs.declared.place.Place.{Place}
+use Rattle.terrain.proofs.Places.{make_place, same_place, index_injective, entry-inside}
+use Rattle.terrain.specs.Neighbours.{entry_at, index_of}
+use Rattle.terrain.specs.declared.place.Place.{Place}
 use Rattle.tiles.specs.declared.bounds.Bounds.{Bounds}
 use Rattle.tiles.specs.Cutting.{Cutting, View, AreBounds, bounds_of, is_within, is_shown, cell_shown, row_shown}
 use Rattle.drain.specs.Window.{IsInner, IsHandedOut, known, count_on, spot_index, area_of, IsSpot, Shows, IsShown, AreShownBelow, AreShown}

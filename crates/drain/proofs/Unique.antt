@@ -5,10 +5,10 @@ use Rattle.std.proofs.lemmas.Option.{MatchOption-at_none, MatchOption-at_some}
 use Rattle.std.proofs.Math.Nat.{div-add-mod}
 use Rattle.std.proofs.lemmas.List.{ext_get_or}
 use Rattle.std.proofs.lemmas.Nat.{div_below, mod_below}
-use Rattle.ascii_grid.proofs.Places.{make_place, entry-inside}
-use Rattle.ascii_grid.specs.Raster.{Terrain}
-use Rattle.ascii_grid.specs.Neighbours.{height_at, entry_at, index_of}
-use Rattle.ascii_grid.specs.declared.place.Place.{Place}
+use Rattle.terrain.proofs.Places.{make_place, entry-inside}
+use Rattle.terrain.specs.Raster.{Terrain}
+use Rattle.terrain.specs.Neighbours.{height_at, entry_at, index_of}
+use Rattle.terrain.specs.declared.place.Place.{Place}
 use Rattle.drain.specs.Directions.{AreDirections}
 use Rattle.drain.proofs.Pointing.{one_direction}
 use Rattle.drain.proofs.Nearby.{cases_option}

@@ -4,11 +4,11 @@ use Rattle.std.proofs.lemmas.Bool.{eq-eqb, ne_eqb, or_left, or_right, or_from}
 use Rattle.std.proofs.lemmas.List.{get_or_default}
 use Rattle.std.proofs.lemmas.Option.{none-some, same_Some, some_pair_parts}
 use Rattle.std.specs.Option.{option_zip, option_and_then}
-use Rattle.ascii_grid.proofs.Places.{make_place}
-use Rattle.ascii_grid.specs.Neighbours.{Touches}
-use Rattle.ascii_grid.specs.Ways.{ways_from, place_on, place_of, place_toward, code_of, before}
+use Rattle.terrain.proofs.Places.{make_place}
+use Rattle.terrain.specs.Neighbours.{Touches}
+use Rattle.terrain.specs.Ways.{ways_from, place_on, place_of, place_toward, code_of, before}
 use Rattle.tiles.proofs.Members.{Contains-ways_from}
-use Rattle.ascii_grid.specs.declared.place.Place.{Place}
+use Rattle.terrain.specs.declared.place.Place.{Place}
 
 -- what holds of each of eight numbers
 pub eight : (P : ℕ → Type 0) → P 0 → P 1 → P 2 → P 3 → P 4 → P 5 → P 6 → P 7 → (n : ℕ) → n < 8 → P n

@@ -6,7 +6,7 @@ use Rattle.std.proofs.lemmas.List.{get_or-map, length-map}
 use Rattle.std.proofs.lemmas.List.FromFn.{length-enumerate_from, get_or-enumerate_from}
 use Rattle.std.specs.List.{enumerate_from, list_any, position}
 use Rattle.drain.specs.Steepness.{weight, weights, drop_to, leads_on, direction_of}
-use Rattle.ascii_grid.specs.Ways.{code_of}
+use Rattle.terrain.specs.Ways.{code_of}
 use Rattle.drain.specs.declared.around.Around.{Around}
 use Rattle.drain.proofs.Greatest.{IsFirstGreatest, takes_greater, keeps_greatest, le-fold_max, none_passes}
 use Rattle.drain.specs.Fitting.{IsFitting}

@@ -1,8 +1,8 @@
 -- The counts that the rounds begin with.
 use Rattle.std.specs.Prelude.{◌≡◌, ◌⊎◌, ℕ, ◌-◌, ◌*◌, ℤ, ◌<ℤ◌, List, length, Option, None, Some}
-use Rattle.ascii_grid.specs.Neighbours.{IsInside, entry_at}
-use Rattle.ascii_grid.specs.Raster.{Terrain}
-use Rattle.ascii_grid.specs.declared.place.Place.{Place}
+use Rattle.terrain.specs.Neighbours.{IsInside, entry_at}
+use Rattle.terrain.specs.Raster.{Terrain}
+use Rattle.terrain.specs.declared.place.Place.{Place}
 use Rattle.drain.specs.Steps.{DrainsAtOnce}
 
 -- The cell has no data or is lower.

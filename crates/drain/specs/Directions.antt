@@ -2,10 +2,10 @@
 -- Source: the D8 method of Jenson and Domingue (1988), with this project's ties and outlets.
 use Rattle.std.specs.Prelude.{◌≡◌, ℕ, ◌+◌, ◌*◌, ◌≤◌, ◌||◌, ◌==◌, if◌then◌else◌, List, length, Option, None, Some, MatchOption}
 use Rattle.std.specs.Int.{int_gap}
-use Rattle.ascii_grid.specs.Raster.{Terrain}
-use Rattle.ascii_grid.specs.Neighbours.{IsInside, height_at, entry_at, IsNeighbour, IsEdge, height_of}
-use Rattle.ascii_grid.specs.Ways.{place_toward}
-use Rattle.ascii_grid.specs.declared.place.Place.{Place}
+use Rattle.terrain.specs.Raster.{Terrain}
+use Rattle.terrain.specs.Neighbours.{IsInside, height_at, entry_at, IsNeighbour, IsEdge, height_of}
+use Rattle.terrain.specs.Ways.{place_toward}
+use Rattle.terrain.specs.declared.place.Place.{Place}
 use Rattle.drain.specs.Steps.{IsLower, HasLower, DrainsAtOnce, IsSteps}
 
 -- The weight of the drop to a lower neighbour: the square of drop over distance, twice. That is twice the square of

@@ -1,9 +1,9 @@
 -- What the definitions are to satisfy, as statements.
 use Rattle.std.specs.Prelude.{◌≡◌, ℕ, ◌*◌, ◌^◌, ◌<◌, List, length, Option}
-use Rattle.ascii_grid.specs.Raster.{Terrain, IsTerrain}
-use Rattle.ascii_grid.specs.Neighbours.{IsDataCell, entry_at}
+use Rattle.terrain.specs.Raster.{Terrain, IsTerrain}
+use Rattle.terrain.specs.Neighbours.{IsDataCell, entry_at}
 use Rattle.drainage.specs.Filled.{IsFilled}
-use Rattle.ascii_grid.specs.declared.place.Place.{Place}
+use Rattle.terrain.specs.declared.place.Place.{Place}
 use Rattle.tiles.specs.Cutting.{Cutting, IsCutting, Cuts, IsInTile, tile_count, tile_entry}
 use Rattle.drain.specs.Steps.{DrainsAtOnce, IsSteps, AreSteps}
 use Rattle.drain.specs.Beginning.{HasZeros}

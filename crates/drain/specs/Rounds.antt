@@ -2,9 +2,9 @@
 -- closer to the least. Which cells those are is the lender's affair.
 use Rattle.std.specs.Prelude.{◌≡◌, ◌≢◌, ◌↔◌, ℕ, ◌+◌, ◌-◌, ◌*◌, ◌^◌, ◌<◌, ◌≤◌, Bool, true, false, ℤ, List, length, Option, Some, IfSome, slice_index_or, sum_by, unwrap_or}
 use Rattle.std.specs.Bool.{MatchBool}
-use Rattle.ascii_grid.specs.Raster.{Terrain}
-use Rattle.ascii_grid.specs.Neighbours.{height_at, entry_at, IsDataCell, Touches, IsNeighbour}
-use Rattle.ascii_grid.specs.declared.place.Place.{Place}
+use Rattle.terrain.specs.Raster.{Terrain}
+use Rattle.terrain.specs.Neighbours.{height_at, entry_at, IsDataCell, Touches, IsNeighbour}
+use Rattle.terrain.specs.declared.place.Place.{Place}
 use Rattle.tiles.specs.declared.bounds.Bounds.{Bounds}
 use Rattle.tiles.specs.Cutting.{Cutting, IsCutting, IsWithin, bounds_of, tile_of_place, IsInTile, tile_count, tile_entry, cell_count}
 use Rattle.drain.specs.Steps.{IsLevelWalk}

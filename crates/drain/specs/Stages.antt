@@ -1,6 +1,6 @@
 -- What the jobs after the rounds work on.
 use Rattle.std.specs.Prelude.{ℕ, List, Option}
-use Rattle.ascii_grid.specs.Raster.{Terrain, IsTerrain}
+use Rattle.terrain.specs.Raster.{Terrain, IsTerrain}
 use Rattle.tiles.specs.Cutting.{Cutting, IsCutting, Cuts}
 use Rattle.drain.specs.Steps.{AreSteps}
 

@@ -1,8 +1,8 @@
 -- Entries for the places of a tile, one after another in its row order.
 use Rattle.std.specs.Prelude.{◌≡◌, ℕ, ◌+◌, ◌-◌, ◌*◌, ◌<◌, ◌≤◌, List, length, Option, None, Some, Vec, slice_get, slice_index_or}
 use Rattle.std.specs.declared.alloc.Global.{Global}
-use Rattle.ascii_grid.specs.Raster.{Terrain}
-use Rattle.ascii_grid.specs.declared.place.Place.{Place}
+use Rattle.terrain.specs.Raster.{Terrain}
+use Rattle.terrain.specs.declared.place.Place.{Place}
 use Rattle.tiles.specs.declared.bounds.Bounds.{Bounds}
 use Rattle.tiles.specs.Cutting.{Cutting, longest_axis, IsInBounds, IsInTile, cell_count, tile_count, tile_entry}
 

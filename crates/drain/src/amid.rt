@@ -2,8 +2,8 @@
 ghost use Rattle.std.specs.Prelude.{◌≡◌, ℕ, ◌+◌, ◌*◌, ◌^◌, ◌<◌, IsTrue, Some, None, length, position, slice_index_or};
 ghost use Rattle.std.specs.List.{list_any};
 ghost use Rattle.std.specs.Option.{option_zip};
-ghost use Rattle.ascii_grid.specs.Raster.{IsTerrain};
-ghost use Rattle.ascii_grid.specs.Neighbours.{IsInside, height_at, entry_at, index_of};
+ghost use Rattle.terrain.specs.Raster.{IsTerrain};
+ghost use Rattle.terrain.specs.Neighbours.{IsInside, height_at, entry_at, index_of};
 ghost use Rattle.drain.specs.Amid.{around_index, StandAround};
 ghost use Rattle.drain.specs.Beginning.{IsOutermost};
 ghost use Rattle.drain.specs.Directions.{IsCodeAt};
@@ -12,8 +12,8 @@ ghost use Rattle.drain.specs.Steps.{AreSteps};
 ghost use Rattle.drain.specs.declared.around.Around.{Around};
 
 use crate::steepness::steepest;
-use ascii_grid::{Grid, Height, Place};
 use drainage::Code;
+use terrain::{Grid, Height, Place};
 
 /// Where the eight cells around one stand, in the order of the codes.
 #[inline(always)]

@@ -1,14 +1,14 @@
 // The counts that the rounds begin with: 0 at each cell that drains at once.
 ghost use Rattle.std.specs.Prelude.{◌≡◌, ℕ, ◌+◌, ◌*◌, ◌<◌, ◌≤◌, ◌↔◌, Some, None, length, vec_len, IsTrue, OnOk, IfOk, slice_index_or};
 ghost use Rattle.std.specs.Bool.{MatchBool};
-ghost use Rattle.ascii_grid.specs.Neighbours.{IsInside, height_at};
+ghost use Rattle.terrain.specs.Neighbours.{IsInside, height_at};
 ghost use Rattle.drain.specs.Steps.{DrainsAtOnce};
 ghost use Rattle.drain.specs.Beginning.{IsGapOrLower, IsOutermost, IsBegun};
 ghost use Rattle.drain.specs.TileLists.{IsPartOf, AreMadeBelow};
 
 use crate::amid::cells_around;
-use ascii_grid::{Grid, Height, Place};
 use std::alloc::{AllocError, Global};
+use terrain::{Grid, Height, Place};
 use tiles::Bounds;
 
 /// Whether a cell has no data or is lower than this level.

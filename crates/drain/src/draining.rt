@@ -11,11 +11,11 @@ ghost use Rattle.drainage.specs.Drained.{AllFlowEnds, directed_of};
 use crate::rounds::settle;
 use crate::stages::{begin, codes};
 use crate::{looking, window};
-use ascii_grid::{Height, NoMemory};
 use drainage::{Directions, Filled};
 use std::alloc::{AllocError, Global};
 use std::sync::Wait;
 use std::thread::Threads;
+use terrain::{Height, NoMemory};
 use tile_jobs::{Gate, JobFault};
 use tiles::{TileView, Tiling};
 

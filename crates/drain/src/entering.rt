@@ -1,13 +1,13 @@
 // Whether counts of other tiles reach into a tile.
 ghost use Rattle.std.specs.Prelude.{◌≡◌, ℕ, ◌+◌, ◌*◌, ◌^◌, ◌<◌, ◌≤◌, length, Some};
 ghost use Rattle.std.specs.Bool.{OnFalse};
-ghost use Rattle.ascii_grid.specs.Neighbours.{entry_at};
+ghost use Rattle.terrain.specs.Neighbours.{entry_at};
 ghost use Rattle.tiles.specs.Cutting.{IsCutting, IsWithin, tile_count};
 ghost use Rattle.drain.specs.Rounds.{IsUnentered};
 ghost use Rattle.drain.specs.Entering.{IsLeastAround, AreLeastFrom, lent_terrain};
 
 use crate::looking::NO_COUNT;
-use ascii_grid::{Height, Place};
+use terrain::{Height, Place};
 use tiles::Tiling;
 
 /// What a round is lent: the filled heights and the counts of a grid that is cut into tiles.

@@ -1,13 +1,13 @@
 // A tile and the places around it, taken out of the lists of the whole grid, and put back.
 ghost use Rattle.std.specs.Prelude.{◌≡◌, ℕ, ◌+◌, ◌-◌, ◌*◌, ◌^◌, ◌<◌, ◌≤◌, length, None, OnOk, IfOk, slice_index_or};
-ghost use Rattle.ascii_grid.specs.declared.place.Place.{Place};
+ghost use Rattle.terrain.specs.declared.place.Place.{Place};
 ghost use Rattle.tiles.specs.Cutting.{IsCutting, AreBounds, bounds_of, terrain_of};
 ghost use Rattle.drain.specs.Window.{area_of, spot_index, IsSpot, IsShown, AreShown, AreShownBelow, AreLent, known, IsHandedOut};
 ghost use Rattle.drain.specs.TileLists.{AreMadeBelow};
 
 use crate::window::Ground;
-use ascii_grid::{Height, Place};
 use std::alloc::{AllocError, Global};
+use terrain::{Height, Place};
 use tiles::{Bounds, TileView};
 
 /// Stands for a count that is not known: greater than every number of steps.

@@ -1,8 +1,8 @@
 // Rounds over all tiles until nothing changes.
 ghost use Rattle.std.specs.Prelude.{◌≡◌, ◌≢◌, ℕ, ◌+◌, ◌*◌, ◌<◌, ◌≤◌, ◌⊎◌, Err, None, true, false, length, vec_len, IfOk, IfErr, slice_index_or};
 ghost use Rattle.std.specs.Bool.{MatchBool, OnFalse};
-ghost use Rattle.ascii_grid.specs.declared.place.Place.{Place};
-ghost use Rattle.ascii_grid.specs.Neighbours.{entry_at};
+ghost use Rattle.terrain.specs.declared.place.Place.{Place};
+ghost use Rattle.terrain.specs.Neighbours.{entry_at};
 ghost use Rattle.tiles.specs.Cutting.{IsCutting, AreBounds, IsWithin, IsInTile, tile_count, tile_entry, cell_count, tile_of_place};
 ghost use Rattle.drain.specs.Entering.{lent_terrain};
 ghost use Rattle.drain.specs.Rounds.{told, told_by, is_changed, IsSized, AreSized, IsBoundsOf, IsUntouched, AreAnswered, IsRounding, IsNext, AreCounting, AreSettled};
@@ -12,11 +12,11 @@ ghost use Rattle.drain.specs.declared.tile_state.TileAnswer.TheVariants.{Still};
 use crate::draining::round;
 use crate::entering::Lent;
 use crate::tile_state::{Due, TileAnswer};
-use ascii_grid::{Height, Place};
 use std::alloc::{AllocError, Global};
 use std::marker::Model;
 use std::sync::Wait;
 use std::thread::Threads;
+use terrain::{Height, Place};
 use tile_jobs::{Gate, JobFault, Work, run_jobs};
 use tiles::{Bounds, TileView, Tiling};
 

@@ -1,6 +1,6 @@
 // The stages before and after the rounds: one job for each tile.
 ghost use Rattle.std.specs.Prelude.{◌≡◌, ◌≢◌, ◌<◌, ◌≤◌, Err, IfOk, IfErr};
-ghost use Rattle.ascii_grid.specs.Raster.{IsTerrain};
+ghost use Rattle.terrain.specs.Raster.{IsTerrain};
 ghost use Rattle.tiles.specs.Cutting.{Cuts, AreTileLists, IsPutBack};
 ghost use Rattle.drain.specs.Beginning.{AreBegun};
 ghost use Rattle.drain.specs.Directions.{AreDirections};
@@ -8,12 +8,12 @@ ghost use Rattle.drain.specs.Steps.{AreSteps};
 
 use crate::beginning::begin_tile;
 use crate::surroundings::codes_of_tile;
-use ascii_grid::Grid;
 use drainage::Code;
 use std::alloc::Global;
 use std::marker::Model;
 use std::sync::Wait;
 use std::thread::Threads;
+use terrain::Grid;
 use tile_jobs::{Gate, JobFault, Work, run_jobs};
 use tiles::Tiling;
 

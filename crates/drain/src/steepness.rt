@@ -1,15 +1,15 @@
 // The direction of one cell.
 ghost use Rattle.std.specs.Prelude.{◌≡◌, ◌<◌, ◌≤◌, ℕ, IfSome, IsTrue, Some, None, option_map, slice_index_or, fold, max, position, ◌==◌, nat_lt};
 ghost use Rattle.std.specs.List.{list_any};
-ghost use Rattle.ascii_grid.specs.Raster.{IsHeight};
+ghost use Rattle.terrain.specs.Raster.{IsHeight};
 ghost use Rattle.drain.specs.Steepness.{direction_of, weight, weights, leads_on};
 ghost use Rattle.drain.specs.Amid.{HasHeights, drop_by};
 ghost use Rattle.drain.specs.Fitting.{IsFitting};
 ghost use Rattle.drain.specs.declared.around.Around.{Around};
 
 use crate::around::Around;
-use ascii_grid::Height;
 use drainage::Code;
+use terrain::Height;
 
 /// The steepest way down: its weight, 0 where no way leads down, and which way it is.
 #[derive(Clone, Copy)]

@@ -1,9 +1,9 @@
 // What stands around each cell, and the codes of a tile.
 ghost use Rattle.std.specs.Prelude.{◌≡◌, ℕ, ◌+◌, ◌*◌, ◌<◌, ◌≤◌, Some, None, length, OnOk, IfOk, MatchOption, option_and_then};
 ghost use Rattle.std.specs.Option.{option_zip};
-ghost use Rattle.ascii_grid.specs.Raster.{IsTerrain};
-ghost use Rattle.ascii_grid.specs.Neighbours.{IsInside, height_at, entry_at};
-ghost use Rattle.ascii_grid.specs.Ways.{place_of, before};
+ghost use Rattle.terrain.specs.Raster.{IsTerrain};
+ghost use Rattle.terrain.specs.Neighbours.{IsInside, height_at, entry_at};
+ghost use Rattle.terrain.specs.Ways.{place_of, before};
 ghost use Rattle.drain.specs.Steps.{AreSteps};
 ghost use Rattle.drain.specs.Directions.{IsCodeAt};
 ghost use Rattle.drain.specs.Beginning.{IsOutermost};
@@ -14,9 +14,9 @@ use crate::amid::code_amid;
 use crate::around::Around;
 use crate::beginning::is_outermost;
 use crate::steepness::direction;
-use ascii_grid::{Grid, Height, Place};
 use drainage::Code;
 use std::alloc::{AllocError, Global};
+use terrain::{Grid, Height, Place};
 use tiles::Bounds;
 
 /// The row or column before this one, None before the first.

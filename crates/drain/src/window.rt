@@ -1,11 +1,11 @@
 // The search for steps over one tile and the places around it.
 ghost use Rattle.std.specs.Prelude.{◌≡◌, ◌≢◌, ℕ, ◌+◌, ◌*◌, ◌^◌, ◌<◌, ◌≤◌, ◌⊎◌, ◌↔◌, IsTrue, [], All, sum, length, None, OnOk, IfOk, vec_len, slice_index_or};
-ghost use Rattle.ascii_grid.specs.Neighbours.{Touches};
-ghost use Rattle.ascii_grid.specs.declared.place.Place.{Place};
+ghost use Rattle.terrain.specs.Neighbours.{Touches};
+ghost use Rattle.terrain.specs.declared.place.Place.{Place};
 ghost use Rattle.drain.specs.Window.{AreCounts, area_of, spot_index, IsSpot, IsInner, level_on, count_on, IsLeastAlong, IsSpread, IsNotAbove, IsNear, AreNoted, IsEvenBut, IsEven, IsSettled};
 
-use ascii_grid::{Height, Place};
 use std::alloc::{AllocError, Global};
+use terrain::{Height, Place};
 use tiles::Bounds;
 
 /// Filled heights of a tile and the places around it, in row order: a row and a column more on each side.

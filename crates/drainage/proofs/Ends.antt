@@ -3,10 +3,10 @@ use Rattle.std.proofs.Common.{◌≡◌, ◌≢◌, ℕ, zero, suc, ◌+◌, ◌
 use Rattle.std.proofs.lemmas.Int.{ints}
 use Rattle.std.proofs.lemmas.Bool.{cases_eq}
 use Rattle.std.specs.Option.{option_and_then}
-use Rattle.ascii_grid.proofs.Places.{inside_from_entry, index_below, index_injective}
-use Rattle.ascii_grid.specs.Neighbours.{entry_at, index_of, IsDataCell, height_of}
-use Rattle.ascii_grid.specs.Ways.{place_toward}
-use Rattle.ascii_grid.specs.declared.place.Place.{Place}
+use Rattle.terrain.proofs.Places.{inside_from_entry, index_below, index_injective}
+use Rattle.terrain.specs.Neighbours.{entry_at, index_of, IsDataCell, height_of}
+use Rattle.terrain.specs.Ways.{place_toward}
+use Rattle.terrain.specs.declared.place.Place.{Place}
 use Rattle.drainage.specs.Following.{code_at, follow, next, moves, IsOutlet, FlowEnds}
 use Rattle.drainage.specs.Drained.{Drained, directed_of, Falls, IsDraining}
 use Rattle.drainage.proofs.Pigeonhole.{pigeonhole}

@@ -4,11 +4,11 @@ use Rattle.std.specs.Prelude.{unsigned_abs}
 use Rattle.std.specs.List.{list_any}
 use Rattle.std.proofs.lemmas.Bool.{cases_Bool, cases_lt, and_from, or_from, not_from_false, both_ways}
 use Rattle.std.proofs.lemmas.Int.{ints}
-use Rattle.ascii_grid.specs.Raster.{Terrain}
-use Rattle.ascii_grid.specs.Neighbours.{IsDataCell, Touches, IsNeighbour, HasGapAround, height_of}
+use Rattle.terrain.specs.Raster.{Terrain}
+use Rattle.terrain.specs.Neighbours.{IsDataCell, Touches, IsNeighbour, HasGapAround, height_of}
 use Rattle.drainage.specs.Filled.{IsPath, crest, IsFilledHeight}
-use Rattle.ascii_grid.specs.declared.place.Place.{Place}
-use Rattle.ascii_grid.proofs.Places.{make_place}
+use Rattle.terrain.specs.declared.place.Place.{Place}
+use Rattle.terrain.proofs.Places.{make_place}
 use Rattle.drainage.proofs.Heights.{first_is_data, height_below_crest, trans}
 use Rattle.drainage.proofs.Reach.{field, any_place, data_inside, is_data, reaches, IsStable, HasLowPath, reaches_true, reaches_more, true_reaches}
 

@@ -2,11 +2,11 @@
 use Rattle.std.proofs.Common.{◌≡◌, List, [], ◌∷◌, Option, None, Some, is_some, ℤ, pos, ◌≤ℤ◌, sym, ap, subst, refl, ◌∙◌, inl, inr}
 use Rattle.std.specs.Prelude.{unwrap_or, IsSome, MatchOption}
 use Rattle.std.proofs.lemmas.Bool.{cases_lt}
-use Rattle.ascii_grid.specs.Raster.{Terrain}
-use Rattle.ascii_grid.specs.Neighbours.{height_at, entry_at, HasGapAround, height_of}
+use Rattle.terrain.specs.Raster.{Terrain}
+use Rattle.terrain.specs.Neighbours.{height_at, entry_at, HasGapAround, height_of}
 use Rattle.drainage.specs.Filled.{IsPath, crest, IsFilledHeight, IsFilled}
-use Rattle.ascii_grid.specs.declared.place.Place.{Place}
-use Rattle.ascii_grid.proofs.Places.{entry-below, entry-beside, inside_from_entry, gap_where}
+use Rattle.terrain.specs.declared.place.Place.{Place}
+use Rattle.terrain.proofs.Places.{entry-below, entry-beside, inside_from_entry, gap_where}
 use Rattle.drainage.proofs.Uniqueness.{between}
 use Rattle.drainage.proofs.Heights.{max_right, max_least, first_is_data, height_below_crest, trans}
 

@@ -5,11 +5,11 @@ use Rattle.std.specs.Int.{int_max}
 use Rattle.std.proofs.lemmas.Bool.{cases_lt, cases_Bool, cond-true, cond-false}
 use Rattle.std.proofs.lemmas.Int.{ints, clamps}
 use Rattle.std.proofs.lemmas.List.{get_or_past, get_or_default}
-use Rattle.ascii_grid.specs.Raster.{Terrain}
-use Rattle.ascii_grid.specs.Neighbours.{height_at, IsDataCell, index_of, height_of}
+use Rattle.terrain.specs.Raster.{Terrain}
+use Rattle.terrain.specs.Neighbours.{height_at, IsDataCell, index_of, height_of}
 use Rattle.drainage.specs.Filled.{IsPath, crest, IsFilledHeight}
-use Rattle.ascii_grid.specs.declared.place.Place.{Place}
-use Rattle.ascii_grid.proofs.Places.{entry-inside, inside_from_entry}
+use Rattle.terrain.specs.declared.place.Place.{Place}
+use Rattle.terrain.proofs.Places.{entry-inside, inside_from_entry}
 
 -- the greater of two is one of them, and below neither
 pub max_left : (x y : ℤ) → x ≤ℤ int_max x y

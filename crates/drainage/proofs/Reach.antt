@@ -4,11 +4,11 @@ use Rattle.std.specs.Prelude.{◌==◌, int_le}
 use Rattle.std.specs.List.{list_any}
 use Rattle.std.proofs.lemmas.Bool.{cases_eq, and_parts, and_from, or_left, or_right, or_cases, not-true, not_from_false, both_ways, eq-eqb, eqb-true, leb-true, le-leb, false_from_ne_true}
 use Rattle.std.proofs.lemmas.List.Folds.{list_any-append}
-use Rattle.ascii_grid.specs.Raster.{Terrain}
-use Rattle.ascii_grid.specs.Neighbours.{height_at, IsDataCell, Touches, IsNeighbour, HasGapAround, IsEdge, height_of}
+use Rattle.terrain.specs.Raster.{Terrain}
+use Rattle.terrain.specs.Neighbours.{height_at, IsDataCell, Touches, IsNeighbour, HasGapAround, IsEdge, height_of}
 use Rattle.drainage.specs.Filled.{IsPath, crest}
-use Rattle.ascii_grid.specs.declared.place.Place.{Place}
-use Rattle.ascii_grid.proofs.Places.{make_place, same_place, inside_from_entry}
+use Rattle.terrain.specs.declared.place.Place.{Place}
+use Rattle.terrain.proofs.Places.{make_place, same_place, inside_from_entry}
 use Rattle.drainage.proofs.Heights.{known, max_left, max_right, max_least, trans}
 
 -- the places of a field, and of its next row and column

@@ -1,8 +1,8 @@
 -- Least values are one.
 use Rattle.std.proofs.Common.{◌≡◌, ℤ, ◌≤ℤ◌, subst, arith}
-use Rattle.ascii_grid.specs.Raster.{Terrain}
+use Rattle.terrain.specs.Raster.{Terrain}
 use Rattle.drainage.specs.Filled.{IsFilledHeight}
-use Rattle.ascii_grid.specs.declared.place.Place.{Place}
+use Rattle.terrain.specs.declared.place.Place.{Place}
 
 pub between : (l m : ℤ) → l ≤ℤ m → m ≤ℤ l → l ≡ m
 between l m a b = grind (arith, a, b)

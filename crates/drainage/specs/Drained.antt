@@ -1,9 +1,9 @@
 -- A map of directions, and why each flow path ends.
 use Rattle.std.specs.Prelude.{◌≡◌, ◌≢◌, ℕ, ◌*◌, ◌<◌, ◌⊎◌, ◌<ℤ◌, List, length, Option, Some, is_some}
-use Rattle.ascii_grid.specs.Raster.{Terrain}
-use Rattle.ascii_grid.specs.Neighbours.{height_at, entry_at, IsDataCell, height_of}
-use Rattle.ascii_grid.specs.Ways.{place_toward}
-use Rattle.ascii_grid.specs.declared.place.Place.{Place}
+use Rattle.terrain.specs.Raster.{Terrain}
+use Rattle.terrain.specs.Neighbours.{height_at, entry_at, IsDataCell, height_of}
+use Rattle.terrain.specs.Ways.{place_toward}
+use Rattle.terrain.specs.declared.place.Place.{Place}
 use Rattle.drainage.specs.Following.{Directed, code_at, FlowEnds}
 
 -- Filled heights, steps and codes, in row order.

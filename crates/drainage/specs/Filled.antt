@@ -1,9 +1,9 @@
 -- Paths to the edge of the data, and the filled height, which is the least crest among them.
 use Rattle.std.specs.Prelude.{◌≡◌, ◌*◌, ℤ, ◌≤ℤ◌, List, [], ◌∷◌, length, Option, None, Some, MatchOption}
 use Rattle.std.specs.Int.{int_max}
-use Rattle.ascii_grid.specs.Raster.{Terrain, Raster}
-use Rattle.ascii_grid.specs.Neighbours.{IsInside, height_at, height_of, entry_at, IsNeighbour, IsEdge}
-use Rattle.ascii_grid.specs.declared.place.Place.{Place}
+use Rattle.terrain.specs.Raster.{Terrain, Raster}
+use Rattle.terrain.specs.Neighbours.{IsInside, height_at, height_of, entry_at, IsNeighbour, IsEdge}
+use Rattle.terrain.specs.declared.place.Place.{Place}
 
 -- A path is a first cell and the list of the cells after it: each is a neighbour of the next, and
 -- the last is an edge cell.

@@ -1,9 +1,9 @@
 -- Where water goes from a cell, move by move. A map of directions is a list of codes in row order.
 -- Source: Jenson and Domingue (1988).
 use Rattle.std.specs.Prelude.{◌≡◌, ℕ, zero, suc, ◌*◌, List, Option, Some, unwrap_or, option_and_then}
-use Rattle.ascii_grid.specs.Neighbours.{entry_at}
-use Rattle.ascii_grid.specs.Ways.{place_toward}
-use Rattle.ascii_grid.specs.declared.place.Place.{Place}
+use Rattle.terrain.specs.Neighbours.{entry_at}
+use Rattle.terrain.specs.Ways.{place_toward}
+use Rattle.terrain.specs.declared.place.Place.{Place}
 
 -- Codes in rows and columns; None where there is no data.
 pub record Directed : Type 0 where

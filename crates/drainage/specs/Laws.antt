@@ -1,8 +1,8 @@
 -- What the definitions satisfy. Source: this project.
 use Rattle.std.specs.Prelude.{◌≡◌, ℤ, List, Option, Some, Contains}
-use Rattle.ascii_grid.specs.Raster.{Terrain, IsTerrain}
-use Rattle.ascii_grid.specs.Neighbours.{IsDataCell}
-use Rattle.ascii_grid.specs.declared.place.Place.{Place}
+use Rattle.terrain.specs.Raster.{Terrain, IsTerrain}
+use Rattle.terrain.specs.Neighbours.{IsDataCell}
+use Rattle.terrain.specs.declared.place.Place.{Place}
 use Rattle.drainage.specs.Filled.{IsFilled, IsFilledHeight}
 use Rattle.drainage.specs.Drained.{Drained, IsDraining, directed_of, AllFlowEnds}
 

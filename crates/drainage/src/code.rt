@@ -1,6 +1,6 @@
 // The code of a direction.
 ghost use Rattle.std.specs.Prelude.{◌≡◌, ◌<◌, Some};
-ghost use Rattle.ascii_grid.specs.Ways.{code_of};
+ghost use Rattle.terrain.specs.Ways.{code_of};
 ghost use Rattle.drainage.specs.CodeNumber.{IsCode};
 
 use std::marker::Model;

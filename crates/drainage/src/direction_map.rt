@@ -1,12 +1,12 @@
 // A map of directions.
 ghost use Rattle.std.specs.Prelude.{◌≡◌};
-ghost use Rattle.ascii_grid.specs.Neighbours.{IsInside};
+ghost use Rattle.terrain.specs.Neighbours.{IsInside};
 ghost use Rattle.drainage.specs.Drained.{IsDraining, directed_of};
 ghost use Rattle.drainage.specs.Following.{code_at};
 
 use crate::code::Code;
-use ascii_grid::{Grid, Place};
 use std::marker::Model;
+use terrain::{Grid, Place};
 
 /// The direction of each cell, with filled heights and steps. Along each code but 0 the pair of filled height
 /// and steps falls.

@@ -2,8 +2,8 @@
 ghost use Rattle.std.specs.Prelude.{◌≡◌};
 ghost use Rattle.drainage.specs.Filled.{IsOwnFilled};
 
-use ascii_grid::Grid;
 use std::marker::Model;
+use terrain::Grid;
 
 /// A grid whose filled heights are its own.
 #[derive(Drop)]
@@ -12,7 +12,7 @@ pub struct Filled {
 }
 
 impl Model for Filled {
-    ghost use Rattle.ascii_grid.specs.Raster.{Raster};
+    ghost use Rattle.terrain.specs.Raster.{Raster};
     ghost use Rattle.drainage.specs.Filled.{IsOwnFilled};
 
     ghost Value = { Raster };

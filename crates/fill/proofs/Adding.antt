@@ -9,9 +9,9 @@ use Rattle.std.proofs.lemmas.Nat.{same_from_place, mod_below, div-add-mod'}
 use Rattle.std.proofs.lemmas.Option.{same_Some}
 use Rattle.std.proofs.lemmas.List.{length-set, get_or-set_same, get_or-set_other, get_or_default}
 use Rattle.std.proofs.lemmas.List.Elements.{Contains-append_left, Contains-append_right, Contains-append_cases}
-use Rattle.ascii_grid.specs.Neighbours.{Touches}
-use Rattle.ascii_grid.specs.declared.place.Place.{Place}
-use Rattle.ascii_grid.proofs.Places.{same_place}
+use Rattle.terrain.specs.Neighbours.{Touches}
+use Rattle.terrain.specs.declared.place.Place.{Place}
+use Rattle.terrain.proofs.Places.{same_place}
 use Rattle.tiles.specs.Cutting.{Cutting}
 use Rattle.fill.specs.TileFlood.{Flood}
 use Rattle.fill.specs.Gathering.{mark_among, Meets, IsMeetingAt, joins_of, Adds, AddsCovered, Covered}

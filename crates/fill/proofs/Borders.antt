@@ -4,12 +4,12 @@ use Rattle.std.proofs.lemmas.Bool.{cases_lt, cases_eq}
 use Rattle.std.proofs.lemmas.Slice.{between_is}
 use Rattle.std.proofs.lemmas.List.{length-replicate, length-drop, length-take-le, get_or-drop, get_or-take, get_or_append_left, get_or-append_right}
 use Rattle.std.proofs.lemmas.Nat.{mul-add-lt, mul-le}
-use Rattle.ascii_grid.specs.Raster.{Terrain}
-use Rattle.ascii_grid.specs.Neighbours.{height_at}
-use Rattle.ascii_grid.specs.declared.place.Place.{Place}
+use Rattle.terrain.specs.Raster.{Terrain}
+use Rattle.terrain.specs.Neighbours.{height_at}
+use Rattle.terrain.specs.declared.place.Place.{Place}
 use Rattle.tiles.specs.declared.bounds.Bounds.{Bounds}
 use Rattle.fill.specs.Cells.{Cells, node_at, IsNetOf, IsBordered, first_rows, bordered_rows, row_of, whole}
-use Rattle.ascii_grid.proofs.Places.{same_place, entry-inside}
+use Rattle.terrain.proofs.Places.{same_place, entry-inside}
 use Rattle.fill.proofs.Steps.{seen, none_some, none_done}
 use Rattle.fill.proofs.Heaps.{replicated}
 

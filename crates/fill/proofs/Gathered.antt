@@ -6,10 +6,10 @@ use Rattle.std.proofs.lemmas.Nat.{div-mul-add, mod-mul-add, div-add-mod'}
 use Rattle.std.proofs.lemmas.Option.{MatchOption-at_some, MatchOption-at_none, same_Some, slice_get_within}
 use Rattle.std.proofs.lemmas.List.{get_or_default, get_or_past}
 use Rattle.std.proofs.lemmas.List.Elements.{All-contains}
-use Rattle.ascii_grid.specs.Raster.{Terrain}
-use Rattle.ascii_grid.specs.Neighbours.{height_at, index_of, IsDataCell, IsEdge, HasGapAround}
-use Rattle.ascii_grid.specs.declared.place.Place.{Place}
-use Rattle.ascii_grid.proofs.Places.{same_place, index_below, gap_where}
+use Rattle.terrain.specs.Raster.{Terrain}
+use Rattle.terrain.specs.Neighbours.{height_at, index_of, IsDataCell, IsEdge, HasGapAround}
+use Rattle.terrain.specs.declared.place.Place.{Place}
+use Rattle.terrain.proofs.Places.{same_place, index_below, gap_where}
 use Rattle.tiles.specs.Cutting.{Cutting, IsCutting, IsWithin, IsInTile, IsInBounds, bounds_of, tile_count, tile_of_place}
 use Rattle.tiles.proofs.Cut.{tile_of_place_below, in_bounds}
 use Rattle.tiles.specs.declared.bounds.Bounds.{Bounds}

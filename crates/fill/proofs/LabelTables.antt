@@ -6,7 +6,7 @@ use Rattle.std.proofs.lemmas.Bool.{cases_eq, cases_lt, eq-eqb, eqb-true, or_left
 use Rattle.std.proofs.lemmas.List.{length-map, map-append, map_more, get_or_past, get_or_append_left, get_or_push, length_push, get_or-drop, get_or-take, get_or-map, get_or_default, length-take}
 use Rattle.std.proofs.lemmas.List.Elements.{All-push}
 use Rattle.std.proofs.lemmas.List.Folds.{list_any-append, list_any_at, Any-from_list_any}
-use Rattle.ascii_grid.specs.declared.place.Place.{Place}
+use Rattle.terrain.specs.declared.place.Place.{Place}
 use Rattle.tiles.specs.declared.bounds.Bounds.{Bounds}
 use Rattle.tiles.specs.Cutting.{Cutting, IsWithin}
 use Rattle.fill.specs.Labels.{labels_by, IsTable, label_of_node, AreNodesBelow, IsListedAt}

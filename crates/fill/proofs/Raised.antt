@@ -5,11 +5,11 @@ use Rattle.std.specs.Int.{int_max}
 use Rattle.std.proofs.Math.Nat.{zero-div, zero-mod, zero-mul}
 use Rattle.std.proofs.lemmas.Int.{ints, clamps}
 use Rattle.std.proofs.lemmas.List.{get_or-map}
-use Rattle.ascii_grid.specs.Raster.{Terrain, Raster}
-use Rattle.ascii_grid.specs.Neighbours.{height_at, index_of, entry_at, IsInside}
+use Rattle.terrain.specs.Raster.{Terrain, Raster}
+use Rattle.terrain.specs.Neighbours.{height_at, index_of, entry_at, IsInside}
 use Rattle.drainage.specs.Filled.{crest, IsFilledHeight, IsFilled, IsFilledGrid, IsOwnFilled}
-use Rattle.ascii_grid.specs.declared.place.Place.{Place}
-use Rattle.ascii_grid.proofs.Places.{entry-inside, inside_from_entry, make_place}
+use Rattle.terrain.specs.declared.place.Place.{Place}
+use Rattle.terrain.proofs.Places.{entry-inside, inside_from_entry, make_place}
 use Rattle.drainage.proofs.Heights.{height_below_crest, filled_height_stands}
 use Rattle.tiles.specs.declared.bounds.Bounds.{Bounds}
 use Rattle.tiles.specs.Cutting.{Cutting, IsCutting, IsInBounds, across, bounds_of, tile_count, tile_entry, tile_of_place, Cuts, View, terrain_of, IsPutBack}

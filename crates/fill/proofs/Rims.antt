@@ -4,10 +4,10 @@ use Rattle.std.specs.Prelude.{slice_get, option_and_then}
 use Rattle.std.specs.Int.{int_max}
 use Rattle.std.proofs.lemmas.Bool.{cases_eq}
 use Rattle.std.proofs.lemmas.Option.{MatchOption-at_some, MatchOption-at_none, same_Some, slice_get_cases}
-use Rattle.ascii_grid.specs.Raster.{Terrain}
-use Rattle.ascii_grid.specs.Neighbours.{height_at, index_of, IsDataCell, IsNeighbour, IsEdge, height_of}
-use Rattle.ascii_grid.specs.declared.place.Place.{Place}
-use Rattle.ascii_grid.proofs.Places.{index_injective, index_below}
+use Rattle.terrain.specs.Raster.{Terrain}
+use Rattle.terrain.specs.Neighbours.{height_at, index_of, IsDataCell, IsNeighbour, IsEdge, height_of}
+use Rattle.terrain.specs.declared.place.Place.{Place}
+use Rattle.terrain.proofs.Places.{index_injective, index_below}
 use Rattle.drainage.specs.Filled.{IsPath, crest, IsFilledHeight}
 use Rattle.drainage.proofs.Heights.{max_left, max_right, max_least, first_is_data, height_below_crest, trans}
 use Rattle.drainage.proofs.Uniqueness.{between}

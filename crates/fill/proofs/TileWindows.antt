@@ -5,11 +5,11 @@ use Rattle.std.proofs.lemmas.Nat.{mul-add-lt, div-mul-add, mod-mul-add}
 use Rattle.std.proofs.lemmas.List.{get_or_append_left, get_or-append_right, get_or-drop, get_or-take, get_or-map, length-map, get_or_past}
 use Rattle.std.proofs.lemmas.Slice.{between_is}
 use Rattle.std.specs.Prelude.{slice_range}
-use Rattle.ascii_grid.specs.Raster.{Terrain}
-use Rattle.ascii_grid.specs.Neighbours.{height_at, entry_at, IsDataCell, IsEdge}
+use Rattle.terrain.specs.Raster.{Terrain}
+use Rattle.terrain.specs.Neighbours.{height_at, entry_at, IsDataCell, IsEdge}
 use Rattle.drainage.specs.Filled.{IsPath, IsFilledHeight, IsFilled, crest}
-use Rattle.ascii_grid.specs.declared.place.Place.{Place}
-use Rattle.ascii_grid.proofs.Places.{gap_at_end, none_outside, entry-inside, same_place}
+use Rattle.terrain.specs.declared.place.Place.{Place}
+use Rattle.terrain.proofs.Places.{gap_at_end, none_outside, entry-inside, same_place}
 use Rattle.drainage.proofs.Reach.{data_inside}
 use Rattle.tiles.specs.Cutting.{IsInBounds, Cutting, IsCutting, View, IsView, AreBounds, IsInTile, IsWithin, tile_count, bounds_of, is_on_rim, is_first_or_last, row_shown, terrain_of}
 use Rattle.fill.specs.Walk.{IsFlooded, IsWalk, end_of}

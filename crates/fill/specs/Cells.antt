@@ -2,9 +2,9 @@
 use Rattle.std.specs.Prelude.{◌≡◌, ℕ, zero, suc, ◌+◌, ◌-◌, ◌*◌, ◌/◌, ◌%◌, ◌<◌, ◌≤◌, ◌⊎◌, ℤ, Bool, List, [], ◌∷◌, ◌++◌, length, replicate, Option, None, Some, IsSome, is_none, if◌then◌else◌, slice_index_or, slice_range}
 use Rattle.std.specs.List.{list_any}
 use Rattle.std.specs.Int.{int_max}
-use Rattle.ascii_grid.specs.Raster.{Terrain}
-use Rattle.ascii_grid.specs.Neighbours.{height_at}
-use Rattle.ascii_grid.specs.declared.place.Place.{Place}
+use Rattle.terrain.specs.Raster.{Terrain}
+use Rattle.terrain.specs.Neighbours.{height_at}
+use Rattle.terrain.specs.declared.place.Place.{Place}
 use Rattle.tiles.specs.declared.bounds.Bounds.{Bounds}
 use Rattle.tiles.specs.Cutting.{IsInBounds}
 use Rattle.fill.specs.declared.net.Spill.{Spill}

@@ -1,10 +1,10 @@
 -- Levels and labels inside one tile.
 use Rattle.std.specs.Prelude.{◌≡◌, ℕ, ◌+◌, ◌-◌, ◌*◌, ◌≤◌, ◌<◌, ◌⊎◌, ℤ, ◌≤ℤ◌, Bool, ◌&&◌, nat_le, nat_lt, if◌then◌else◌, List, [], ◌∷◌, length, Option, None, Some, IsTrue, MatchOption, slice_index_or}
 use Rattle.std.specs.List.{All}
-use Rattle.ascii_grid.specs.Raster.{Terrain}
-use Rattle.ascii_grid.specs.Neighbours.{height_at, IsDataCell, IsNeighbour, IsEdge, Touches}
+use Rattle.terrain.specs.Raster.{Terrain}
+use Rattle.terrain.specs.Neighbours.{height_at, IsDataCell, IsNeighbour, IsEdge, Touches}
 use Rattle.drainage.specs.Filled.{crest}
-use Rattle.ascii_grid.specs.declared.place.Place.{Place}
+use Rattle.terrain.specs.declared.place.Place.{Place}
 use Rattle.tiles.specs.declared.bounds.Bounds.{Bounds}
 use Rattle.fill.specs.Cells.{cells_around}
 use Rattle.tiles.specs.Cutting.{Cutting, IsWithin, tile_of_place, bounds_of, is_on_rim, IsInBounds, IsInTile, cell_count}

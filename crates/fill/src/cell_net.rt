@@ -6,10 +6,10 @@ ghost use Rattle.tiles.specs.Cutting.{bounds_of, row_shown, terrain_of};
 
 use crate::flooding::empty_list;
 use crate::net::{Net, Spill};
-use ascii_grid::{Grid, Height, NoMemory};
 use smallvec::SmallVec;
 use std::alloc::{AllocError, Global};
 use std::marker::Model;
+use terrain::{Grid, Height, NoMemory};
 use tiles::{Bounds, TileView};
 
 /// The cells of a rectangle with a border of cells without data around them, so that each cell of

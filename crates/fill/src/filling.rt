@@ -2,7 +2,7 @@
 ghost use Rattle.std.specs.Prelude.{◌≡◌, ◌*◌, ◌<◌, ◌≤◌, length, ℕ, List, Some, slice_get, IfOk, IfErr, IsTrue, ◌↔◌};
 ghost use Rattle.drainage.specs.Filled.{IsFilledGrid};
 ghost use Rattle.tiles.specs.Cutting.{Cuts, IsCutting};
-ghost use Rattle.ascii_grid.specs.Raster.{Terrain};
+ghost use Rattle.terrain.specs.Raster.{Terrain};
 ghost use Rattle.fill.specs.Spills.{AreFloods, RaisesToFilled, HasNoInnerCell, AreFilledTiles};
 ghost use Rattle.tile_jobs.specs.Fault.{RefusesWorkers};
 ghost use Rattle.fill.specs.TileFlood.{Flood, LabelsInside};
@@ -14,11 +14,11 @@ use crate::raising::raise;
 use crate::spills::SpillGraph;
 use crate::tile::{TileFlood, tile_flood};
 use crate::whole::filled_heights;
-use ascii_grid::{Grid, Height};
 use drainage::Filled;
 use std::alloc::Global;
 use std::sync::Wait;
 use std::thread::Threads;
+use terrain::{Grid, Height};
 use tile_jobs::{Gate, JobFault, Work, run_jobs};
 use tiles::{Bounds, Tiling};
 
@@ -87,7 +87,7 @@ impl<'a> Work for RaiseTiles<'a> {
     type Out = Vec<Option<Height>>;
 
     ghost use Rattle.std.specs.Prelude.{length};
-    ghost use Rattle.ascii_grid.specs.Raster.{Terrain};
+    ghost use Rattle.terrain.specs.Raster.{Terrain};
     ghost use Rattle.fill.specs.Spills.{AreFloods, RaisesToFilled, IsFilledTile};
 
     ghost most = { λ w. length w.floods.now };

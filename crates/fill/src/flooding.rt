@@ -5,10 +5,10 @@ ghost use Rattle.fill.specs.Walk.{IsFlooded, Sources};
 ghost use Rattle.fill.specs.Flood.{entries_of, waiting_in, InOrder, PutsIn, HasNone, IsDone, TakesLowest, SourcesWait, HasSourcesNoted, AreOwn, MakesWait, AreNoted, KeepsDone, Spreads};
 
 use crate::net::{Net, Spill};
-use ascii_grid::{Height, NoMemory};
 use std::alloc::{AllocError, Global};
 use std::cmp::Reverse;
 use std::collections::BinaryHeap;
+use terrain::{Height, NoMemory};
 
 /// The level of each node, and the source that it drains to.
 #[derive(Drop)]

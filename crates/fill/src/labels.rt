@@ -3,8 +3,8 @@ ghost use Rattle.std.specs.Prelude.{◌≡◌, ◌+◌, ◌*◌, ◌^◌, ◌<�
 ghost use Rattle.fill.specs.Cells.{inner_rows, place_of_node};
 ghost use Rattle.fill.specs.Labels.{IsTable, AreMet, AreNodesBelow, IsListedAt, label_of_node, labels_by};
 
-use ascii_grid::Place;
 use std::alloc::{AllocError, Global};
+use terrain::Place;
 use tiles::Bounds;
 
 /// The labels of the cells of a tile, each once, and for each cell which of them is its own.

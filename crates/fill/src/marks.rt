@@ -1,12 +1,12 @@
 // What the floods of all tiles say of a cell.
 ghost use Rattle.std.specs.Prelude.{◌≡◌, ◌*◌, ◌<◌, ℤ, ◌↔◌, IsTrue, Some, None, length, IfSome, IfNone};
 ghost use Rattle.tiles.specs.Cutting.{IsWithin, tile_count};
-ghost use Rattle.ascii_grid.specs.Neighbours.{index_of};
+ghost use Rattle.terrain.specs.Neighbours.{index_of};
 ghost use Rattle.fill.specs.TileFlood.{LabelsInside, level_in, label_in};
 ghost use Rattle.fill.specs.Gathering.{Fit, mark_of, mark_with, mark_among, HasGapAmong, IsSpillSource};
 
 use crate::tile::TileFlood;
-use ascii_grid::{Height, Place};
+use terrain::{Height, Place};
 use tiles::Tiling;
 
 /// A cell's level, and the number of its label: its place in row order of the whole grid.

@@ -3,9 +3,9 @@ ghost use Rattle.std.specs.Prelude.{◌≡◌, ◌↔◌, ◌<◌, ℕ, ℤ, Opt
 ghost use Rattle.std.specs.List.{Contains};
 ghost use Rattle.fill.specs.Walk.{HasJust};
 
-use ascii_grid::{Height, NoMemory};
 use smallvec::SmallVec;
 use std::alloc::Global;
+use terrain::{Height, NoMemory};
 
 /// A neighbour and the height at which it is reached.
 #[derive(Clone, Copy, Debug, Default, PartialEq, Eq)]

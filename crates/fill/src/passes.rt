@@ -1,7 +1,7 @@
 // Where the labels of neighbouring cells meet.
 ghost use Rattle.std.specs.Prelude.{◌≡◌, ◌+◌, ◌<◌, ◌≤◌, ◌∷◌, [], Some, MatchOption, IfOk, OnOk, length, IsTrue, ◌↔◌};
 ghost use Rattle.std.specs.Bool.{OnTrue, OnFalse};
-ghost use Rattle.ascii_grid.specs.declared.place.Place.{Place};
+ghost use Rattle.terrain.specs.declared.place.Place.{Place};
 ghost use Rattle.tiles.specs.Cutting.{IsCutting, IsWithin, IsInTile, bounds_of, tile_count};
 ghost use Rattle.fill.specs.TileFlood.{LabelsInside};
 ghost use Rattle.fill.specs.Gathering.{Fit, Adds, AddsCovered, AddsAround, AreLowest, IsRepeat, joins_of, mark_with};
@@ -9,8 +9,8 @@ ghost use Rattle.fill.specs.Gathering.{Fit, Adds, AddsCovered, AddsAround, AreLo
 use crate::marks::{Mark, mark_at, mark_of_entry};
 use crate::spills::Join;
 use crate::tile::TileFlood;
-use ascii_grid::Place;
 use std::alloc::{AllocError, Global};
+use terrain::Place;
 use tiles::{Bounds, Tiling};
 
 /// How many slots a [`JoinTable`] has: few, since they are cleared for each tile.

@@ -1,7 +1,7 @@
 // The filled heights of a tile.
 ghost use Rattle.std.specs.Prelude.{◌≡◌, ◌*◌, ◌<◌, ℕ, List, Some, length, map, slice_get, IfOk, IfSome};
 ghost use Rattle.std.specs.List.{All};
-ghost use Rattle.ascii_grid.specs.Raster.{Terrain};
+ghost use Rattle.terrain.specs.Raster.{Terrain};
 ghost use Rattle.tiles.specs.Cutting.{IsWithin};
 ghost use Rattle.fill.specs.TileFlood.{Flood, LabelsInside};
 ghost use Rattle.fill.specs.Spills.{AreFloods, AreSpillLevels, IsRaised, IsFilledTile, AreGreater, greater_of, spill_of};
@@ -9,8 +9,8 @@ ghost use Rattle.fill.specs.TileCells.{HasOneCell};
 
 use crate::marks::node_of;
 use crate::tile::{Lists, TileFlood};
-use ascii_grid::{Height, NoMemory, Place};
 use std::alloc::{AllocError, Global};
+use terrain::{Height, NoMemory, Place};
 use tiles::Tiling;
 
 /// The level of a label in the graph, None where there is no label.

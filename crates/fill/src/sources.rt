@@ -10,8 +10,8 @@ use crate::flooding::empty_list;
 use crate::marks::{node_of, source_at};
 use crate::parts::Part;
 use crate::tile::TileFlood;
-use ascii_grid::{Height, Place};
 use std::alloc::{AllocError, Global};
+use terrain::{Height, Place};
 use tiles::Tiling;
 
 /// A label that is an edge cell: its number, and its height.

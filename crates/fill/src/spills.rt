@@ -1,6 +1,6 @@
 // The graph of the labels of all tiles.
 ghost use Rattle.std.specs.Prelude.{◌≡◌, ◌<◌, ◌≤◌, ℕ, List, length, map, take, drop, ◌-◌, IfOk, slice_index_or};
-ghost use Rattle.ascii_grid.specs.Raster.{Terrain};
+ghost use Rattle.terrain.specs.Raster.{Terrain};
 ghost use Rattle.fill.specs.TileFlood.{Flood};
 ghost use Rattle.fill.specs.Parts.{AreParts};
 ghost use Rattle.fill.specs.Spills.{AreFloods, IsGraphOf, AreLevelsOf};
@@ -11,10 +11,10 @@ use crate::net::{Net, Spill};
 use crate::parts::{Part, tile_parts};
 use crate::sources::gather_sources;
 use crate::tile::TileFlood;
-use ascii_grid::{Height, NoMemory, Place};
 use smallvec::SmallVec;
 use std::alloc::{AllocError, Global};
 use std::marker::Model;
+use terrain::{Height, NoMemory, Place};
 use tiles::Tiling;
 
 /// Two labels that are joined, and the height at which water passes from one to the other.

@@ -8,9 +8,9 @@ ghost use Rattle.fill.specs.TileFlood.{IsFlood, IsTileFlood, level_in, label_in,
 use crate::cell_net::{CellNet, without_border};
 use crate::flooding::flood;
 use crate::labels::{Labels, labels_of};
-use ascii_grid::{Height, NoMemory, Place};
 use std::alloc::Global;
 use std::marker::Model;
+use terrain::{Height, NoMemory, Place};
 use tiles::{Bounds, TileView};
 
 /// The levels and labels of a tile's cells, in its row order.

@@ -4,8 +4,8 @@ ghost use Rattle.drainage.specs.Filled.{IsFilled};
 
 use crate::cell_net::{CellNet, without_border};
 use crate::flooding::flood;
-use ascii_grid::{Grid, Height, NoMemory};
 use std::alloc::Global;
+use terrain::{Grid, Height, NoMemory};
 
 /// The filled height of each cell of the grid, in row order.
 pub fn filled_heights(alloc: Global, grid: &Grid) -> Result<Vec<Option<Height>>, NoMemory>

@@ -3,7 +3,7 @@ use Rattle.std.proofs.Common.{◌≡◌, ℕ, List, [], ◌∷◌, true, inl, in
 use Rattle.std.proofs.lemmas.Bool.{or_cases, eqb-true}
 use Rattle.std.specs.List.{list_any}
 use Rattle.std.specs.Int.Bits.{bit_and}
-use Rattle.ascii_grid.specs.Ways.{way_codes}
+use Rattle.terrain.specs.Ways.{way_codes}
 use Rattle.drainage.specs.CodeNumber.{IsCode}
 use Rattle.flow.specs.CodeSteps.{leads_east, leads_south, leads_west, leads_north}
 

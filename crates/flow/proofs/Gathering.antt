@@ -2,9 +2,9 @@
 use Rattle.std.proofs.Common.{◌≡◌, ◌≢◌, ℕ, ◌+◌, ◌-◌, ◌*◌, ◌<◌, ◌≤◌, Bool, true, false, not, ◌&&◌, cond, is_some, sym, ap, refl, ◌∙◌, arith}
 use Rattle.std.proofs.Math.Nat.{mul-le-mul}
 use Rattle.std.proofs.lemmas.Bool.{and_from, and_left, and_right, eq-eqb, cond-true, cond-false, false_from_ne_true, not_from_true, not_from_false}
-use Rattle.ascii_grid.specs.Ways.{places}
+use Rattle.terrain.specs.Ways.{places}
 use Rattle.std.specs.List.{sum_by, list_any, range_with_len}
-use Rattle.ascii_grid.specs.declared.place.Place.{Place}
+use Rattle.terrain.specs.declared.place.Place.{Place}
 use Rattle.tiles.specs.Cutting.{Cutting, tile_of_place}
 use Rattle.tiles.proofs.TileOrder.{index_in-place_in}
 use Rattle.drainage.specs.Following.{Directed, code_at, follow, moves}

@@ -1,7 +1,7 @@
 -- Inflows and outlets joined.
 use Rattle.std.proofs.Common.{◌≡◌, true, inl, inr, List, Option, None, sym, ap, ◌∙◌}
 use Rattle.std.proofs.lemmas.Bool.{cases_Bool, and_from, and_parts, lt-ltb, ltb-true, cond-true, cond-false}
-use Rattle.ascii_grid.specs.declared.place.Place.{Place}
+use Rattle.terrain.specs.declared.place.Place.{Place}
 use Rattle.tiles.specs.Cutting.{Cutting, IsCutting, IsWithin, is_within}
 use Rattle.drainage.specs.Following.{Directed}
 use Rattle.drainage.specs.Drained.{AllFlowEnds}

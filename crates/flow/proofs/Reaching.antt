@@ -2,10 +2,10 @@
 use Rattle.std.proofs.Common.{◌≡◌, ◌≢◌, ℕ, zero, suc, ◌+◌, ◌-◌, ◌*◌, ◌<◌, ◌≤◌, ◌⊎◌, Bool, true, ◌&&◌, not, eqb, inl, inr, sym, ap, subst, ◌∙◌, arith}
 use Rattle.std.specs.List.{list_any, range_with_len, sum_by}
 use Rattle.std.proofs.lemmas.Bool.{cases_eq, cases_lt, cases_order, and_from, and_parts, eq-eqb, ne_eqb, eqb-true, not-true, not_from_false, false≢true}
-use Rattle.ascii_grid.specs.Neighbours.{index_of}
-use Rattle.ascii_grid.specs.Ways.{places}
-use Rattle.ascii_grid.specs.declared.place.Place.{Place}
-use Rattle.ascii_grid.proofs.Places.{make_place, same_place, index_below, index_injective}
+use Rattle.terrain.specs.Neighbours.{index_of}
+use Rattle.terrain.specs.Ways.{places}
+use Rattle.terrain.specs.declared.place.Place.{Place}
+use Rattle.terrain.proofs.Places.{make_place, same_place, index_below, index_injective}
 use Rattle.tiles.specs.declared.bounds.Bounds.{Bounds}
 use Rattle.tiles.specs.Cutting.{Cutting, IsInBounds, tile_of_place}
 use Rattle.tiles.proofs.TileOrder.{place_in-index_in, index_in_below}

@@ -1,7 +1,7 @@
 -- What the numbers of a tile add to the weights of its cells.
 use Rattle.std.proofs.Common.{◌≡◌, ℕ, ◌+◌, ◌*◌, ◌^◌, ◌<◌, ◌≤◌, ◌&&◌, true, false, cond, eqb, inl, inr, List, length, get_or, set, sym, ap, subst, ◌∙◌, arith, refl}
 use Rattle.std.proofs.lemmas.Bool.{cases_Bool, and_from, and_parts, and_left, and_right, eq-eqb, ne_eqb, eqb-true, lt-ltb, cond-true, cond-false, false_from_ne_true, false≢true}
-use Rattle.ascii_grid.specs.declared.place.Place.{Place}
+use Rattle.terrain.specs.declared.place.Place.{Place}
 use Rattle.tiles.specs.declared.bounds.Bounds.{Bounds}
 use Rattle.tiles.specs.Cutting.{Cutting, IsCutting, IsWithin, is_within, IsInTile, IsInBounds, AreBounds, bounds_of, tile_count, tile_of_place}
 use Rattle.tiles.proofs.Cut.{in_bounds, in_tile}

@@ -5,9 +5,9 @@ use Rattle.std.proofs.lemmas.Bool.{cases_eq, cases_lt, cases_Bool, and_from, and
 use Rattle.std.proofs.lemmas.List.{get_or_default, get_or_past}
 use Rattle.std.proofs.lemmas.List.FromFn.{get_or-map-range_with_len, length-map-range_with_len}
 use Rattle.std.proofs.lemmas.Option.{slice_get_cases, none-some, same_Some}
-use Rattle.ascii_grid.specs.Neighbours.{Touches}
-use Rattle.ascii_grid.specs.Ways.{place_toward, place_on, way_of, ways_from}
-use Rattle.ascii_grid.specs.declared.place.Place.{Place}
+use Rattle.terrain.specs.Neighbours.{Touches}
+use Rattle.terrain.specs.Ways.{place_toward, place_on, way_of, ways_from}
+use Rattle.terrain.specs.declared.place.Place.{Place}
 use Rattle.tiles.specs.Cutting.{Cutting, IsWithin, IsInBounds, is_within, bounds_of, tile_of_place}
 use Rattle.tiles.proofs.Cut.{in_bounds, in_tile, tile_of_place_below}
 use Rattle.tiles.proofs.Members.{Touches-from_ways}

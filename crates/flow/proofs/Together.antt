@@ -2,8 +2,8 @@
 use Rattle.std.proofs.Common.{◌≡◌, ℕ, ◌*◌, ◌<◌, inl, inr, List, length, Option, None, Some, MatchOption, Vec, Global, vec_len, slice_get, sym, ap, subst, refl, ◌∙◌, arith}
 use Rattle.std.specs.Prelude.{Result, Ok, Err, IfOk}
 use Rattle.std.proofs.lemmas.Option.{get_or_from_slice_get, slice_get_within, slice_get_cases}
-use Rattle.ascii_grid.specs.Neighbours.{entry_at}
-use Rattle.ascii_grid.specs.declared.place.Place.{Place}
+use Rattle.terrain.specs.Neighbours.{entry_at}
+use Rattle.terrain.specs.declared.place.Place.{Place}
 use Rattle.tile_jobs.specs.Answers.{AllGiven}
 use Rattle.tiles.specs.Cutting.{Cutting, IsCutting, View, IsPutBack, AreTileLists, Cuts, tile_of_place, tile_entry}
 use Rattle.tiles.proofs.Cut.{tile_of_place_below}

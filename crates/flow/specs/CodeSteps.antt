@@ -1,6 +1,6 @@
 -- The way of a code, by rows and by columns. Only the contracts of private functions speak of it.
 use Rattle.std.specs.Prelude.{ℕ, ◌+◌, Bool, ◌||◌, ◌==◌, if◌then◌else◌, Option, Some}
-use Rattle.ascii_grid.specs.Ways.{before}
+use Rattle.terrain.specs.Ways.{before}
 
 abbrev pub leads_east : ℕ → Bool
 leads_east code = code == 1 || code == 2 || code == 128

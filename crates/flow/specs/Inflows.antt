@@ -1,7 +1,7 @@
 -- Water that enters tiles over their rims. Only the contracts of private functions speak of it.
 use Rattle.std.specs.Prelude.{◌≡◌, ℕ, ◌+◌, ◌<◌, ◌==◌, ◌&&◌, if◌then◌else◌, List, map, length, Option, None, Some, slice_get, slice_index, unwrap_or, option_and_then}
 use Rattle.std.specs.List.{range_with_len}
-use Rattle.ascii_grid.specs.declared.place.Place.{Place}
+use Rattle.terrain.specs.declared.place.Place.{Place}
 use Rattle.tiles.specs.Cutting.{Cutting, IsWithin, tile_of_place}
 use Rattle.drainage.specs.Following.{Directed}
 use Rattle.flow.specs.Counts.{is_place}

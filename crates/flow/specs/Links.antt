@@ -1,6 +1,6 @@
 -- How the flows of all tiles are joined over their rims.
 use Rattle.std.specs.Prelude.{◌≡◌, ℕ, if◌then◌else◌, List, Option, None, Some}
-use Rattle.ascii_grid.specs.declared.place.Place.{Place}
+use Rattle.terrain.specs.declared.place.Place.{Place}
 use Rattle.tiles.specs.Cutting.{Cutting, IsWithin, is_within}
 use Rattle.drainage.specs.Following.{Directed, last_of}
 use Rattle.flow.specs.TileFlow.{Flow, inflow_of, IsExitCell}

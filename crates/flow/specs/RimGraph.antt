@@ -1,8 +1,8 @@
 -- The exits that lead into other tiles as nodes of a graph. Only the contracts of private functions speak of it.
 use Rattle.std.specs.Prelude.{◌≡◌, ℕ, Bool, not, ◌&&◌, ◌==◌, if◌then◌else◌, List, map, Option, None, Some, slice_get, slice_index, slice_index_or, unwrap_or, option_and_then}
 use Rattle.std.specs.List.{range_with_len}
-use Rattle.ascii_grid.specs.Ways.{place_toward}
-use Rattle.ascii_grid.specs.declared.place.Place.{Place}
+use Rattle.terrain.specs.Ways.{place_toward}
+use Rattle.terrain.specs.declared.place.Place.{Place}
 use Rattle.tiles.specs.Cutting.{Cutting, IsCutting, IsWithin, is_within, bounds_of, tile_of_place}
 use Rattle.drainage.specs.Following.{Directed, last_of}
 use Rattle.drainage.specs.Drained.{AllFlowEnds}

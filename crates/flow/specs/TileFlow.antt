@@ -1,8 +1,8 @@
 -- Flow inside one tile, and over its rim.
 use Rattle.std.specs.Prelude.{◌*◌, ◌≤◌, nat_le, nat_lt, if◌then◌else◌, slice_index_or, ◌≡◌, ◌≢◌, ℕ, ◌+◌, ◌-◌, ◌<◌, ◌⊎◌, Bool, not, ◌&&◌, ◌==◌, List, length, count_by, Option, None, Some, is_some, IsSome, MatchOption, slice_get, IsTrue}
 use Rattle.std.specs.List.{list_any, list_all, range_with_len}
-use Rattle.ascii_grid.specs.Ways.{places}
-use Rattle.ascii_grid.specs.declared.place.Place.{Place}
+use Rattle.terrain.specs.Ways.{places}
+use Rattle.terrain.specs.declared.place.Place.{Place}
 use Rattle.tiles.specs.declared.bounds.Bounds.{Bounds}
 use Rattle.tiles.specs.Cutting.{Cutting, View, longest_axis, tile_of_place, tile_count, IsInTile, bounds_of}
 use Rattle.drainage.specs.Following.{Directed, code_at, next, follow, moves, IsOutlet}

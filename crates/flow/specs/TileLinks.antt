@@ -1,9 +1,9 @@
 -- The directions of a tile as links between its cells, which are numbered in its row order. Only the contracts of private functions and the view of a flow speak of it.
 use Rattle.std.specs.Prelude.{◌≡◌, ℕ, ◌+◌, ◌-◌, ◌*◌, ◌/◌, ◌%◌, ◌<◌, ◌≤◌, if◌then◌else◌, is_some, List, map, length, Option, None, Some, slice_index, slice_index_or, unwrap_or, option_and_then}
 use Rattle.std.specs.List.{range_with_len}
-use Rattle.ascii_grid.specs.Ways.{place_toward}
+use Rattle.terrain.specs.Ways.{place_toward}
 use Rattle.tiles.specs.Cutting.{longest_axis}
-use Rattle.ascii_grid.specs.declared.place.Place.{Place}
+use Rattle.terrain.specs.declared.place.Place.{Place}
 use Rattle.tiles.specs.declared.bounds.Bounds.{Bounds}
 use Rattle.drainage.specs.Following.{Directed, code_at}
 use Rattle.flow.specs.TileFlow.{Flow, IsFlow, is_in_bounds}

@@ -1,7 +1,7 @@
 -- A map's values tile by tile.
 use Rattle.std.specs.Prelude.{◌≡◌, ℕ, List, length, Option, None, Some, MatchOption, Vec, slice_get}
 use Rattle.std.specs.declared.alloc.Global.{Global}
-use Rattle.ascii_grid.specs.declared.place.Place.{Place}
+use Rattle.terrain.specs.declared.place.Place.{Place}
 use Rattle.tiles.specs.Cutting.{Cutting, IsInTile, tile_count, cell_count, tile_entry}
 use Rattle.drainage.specs.Following.{Directed, code_at}
 

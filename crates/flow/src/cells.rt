@@ -1,15 +1,15 @@
 // The cells of a tile, numbered in its row order, and the cells to which their water goes on.
 ghost use Rattle.std.specs.Prelude.{◌≡◌, ◌+◌, ◌-◌, ◌*◌, ◌^◌, ◌<◌, length, Some, IfOk, OnOk, unwrap_or, option_and_then};
-ghost use Rattle.ascii_grid.specs.Ways.{place_of, place_toward};
+ghost use Rattle.terrain.specs.Ways.{place_of, place_toward};
 ghost use Rattle.tiles.specs.Cutting.{IsInBounds, bounds_of};
 ghost use Rattle.drainage.specs.CodeNumber.{IsCode};
 ghost use Rattle.flow.specs.TileFlow.{directed_by, is_in_bounds};
 ghost use Rattle.flow.specs.CodeSteps.{moved, leads_east, leads_south, leads_west, leads_north};
 ghost use Rattle.flow.specs.TileLinks.{AreTileCodes, IsSmall, place_in, index_in, link_by, first_links, links_by, weights_by};
 
-use ascii_grid::Place;
 use drainage::Code;
 use std::alloc::{AllocError, Global};
+use terrain::Place;
 use tiles::{Bounds, TileView};
 
 /// The codes of a tile in its row order.

@@ -9,7 +9,7 @@ ghost use Rattle.flow.specs.TileMaps.{AreTileMapsOf};
 ghost use Rattle.flow.specs.Whole.{IsGridFlow, make_directed};
 ghost use Rattle.flow.specs.Counting.{IsCounting, IsCountable, AreCountable, AreRimWeights, AreCounts, counts_by};
 ghost use Rattle.flow.specs.Inflows.{inflow_in};
-ghost use Rattle.ascii_grid.specs.declared.place.Place.{Place as AtPlace};
+ghost use Rattle.terrain.specs.declared.place.Place.{Place as AtPlace};
 
 use crate::cells::tile_weights;
 use crate::flowing::{flow_tiles, put_back};

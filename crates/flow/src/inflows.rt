@@ -1,6 +1,6 @@
 // What flows into tiles over their rims.
 ghost use Rattle.std.specs.Prelude.{◌≡◌, ◌+◌, ◌*◌, ◌^◌, ◌<◌, ◌&&◌, ℕ, length, slice_index, IfOk, IfSome};
-ghost use Rattle.ascii_grid.specs.declared.place.Place.{Place as AtPlace};
+ghost use Rattle.terrain.specs.declared.place.Place.{Place as AtPlace};
 ghost use Rattle.tiles.specs.Cutting.{AreBounds, IsInBounds, IsWithin, bounds_of, cell_count, tile_count};
 ghost use Rattle.drainage.specs.Following.{Directed};
 ghost use Rattle.flow.specs.Streams.{sum_below};
@@ -16,9 +16,9 @@ use crate::outlets::{is_place, rim_links, stands_for, target_of};
 use crate::rim::{number_count, numbers_of, rim_number, rim_place};
 use crate::streams::{upstream, zeros};
 use crate::tile::TileFlow;
-use ascii_grid::Place;
 use std::alloc::{AllocError, Global};
 use std::marker::Model;
+use terrain::Place;
 use tiles::{Bounds, Tiling};
 
 /// How many cells' flow paths enter each cell from another tile.

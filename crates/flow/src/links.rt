@@ -9,9 +9,9 @@ ghost use Rattle.flow.specs.Links.{AreLinks, inflow_in, outlet_in};
 use crate::inflows::Inflows;
 use crate::outlets::Outlets;
 use crate::tile::TileFlow;
-use ascii_grid::{NoMemory, Place};
 use std::alloc::Global;
 use std::marker::Model;
+use terrain::{NoMemory, Place};
 use tiles::Tiling;
 
 /// What flows in over the rims, and where the water of each exit ends.

@@ -10,10 +10,10 @@ use crate::cells::{contains, next_of};
 use crate::ends::ends;
 use crate::rim::{number_count, rim_number, rim_place};
 use crate::tile::{TileFlow, is_outlet};
-use ascii_grid::Place;
 use drainage::Code;
 use std::alloc::{AllocError, Global};
 use std::marker::Model;
+use terrain::Place;
 use tiles::Tiling;
 
 /// Where the water of each exit ends.

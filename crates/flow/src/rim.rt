@@ -4,7 +4,7 @@ ghost use Rattle.tiles.specs.Cutting.{IsInBounds, IsWithin, bounds_of, tile_coun
 ghost use Rattle.flow.specs.TileLinks.{IsSmall};
 ghost use Rattle.flow.specs.RimNumbers.{stride, side_number, side_place, number_count, rim_number, rim_place};
 
-use ascii_grid::Place;
+use terrain::Place;
 use tiles::{Bounds, Tiling};
 
 /// How many numbers there are: for each tile as many as two rows and two columns of the first have cells.

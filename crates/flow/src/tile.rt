@@ -10,10 +10,10 @@ ghost use Rattle.flow.specs.RimGraph.{way_out_in};
 use crate::cells::{contains, index_of, place_at, tile_codes, tile_links, tile_weights};
 use crate::ends::ends;
 use crate::streams::upstream;
-use ascii_grid::{NoMemory, Place};
 use drainage::Code;
 use std::alloc::{AllocError, Global};
 use std::marker::Model;
+use terrain::{NoMemory, Place};
 use tiles::{Bounds, TileView};
 
 /// What flows through each cell of a tile from inside it, and where its water leaves.

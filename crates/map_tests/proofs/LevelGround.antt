@@ -7,10 +7,10 @@ use Rattle.std.proofs.lemmas.List.Elements.{All-get_or}
 use Rattle.std.proofs.lemmas.Nat.{div-mul-add, mod-mul-add}
 use Rattle.std.proofs.lemmas.Option.{MatchOption-at_some, none-some, same_Some}
 use Rattle.std.specs.Bool.{then_some}
-use Rattle.ascii_grid.proofs.Places.{make_place, same_place, index_below, entry-inside}
-use Rattle.ascii_grid.specs.Raster.{Terrain, IsTerrain}
-use Rattle.ascii_grid.specs.Neighbours.{IsInside, IsDataCell, IsEdge, height_of, index_of}
-use Rattle.ascii_grid.specs.declared.place.Place.{Place}
+use Rattle.terrain.proofs.Places.{make_place, same_place, index_below, entry-inside}
+use Rattle.terrain.specs.Raster.{Terrain, IsTerrain}
+use Rattle.terrain.specs.Neighbours.{IsInside, IsDataCell, IsEdge, height_of, index_of}
+use Rattle.terrain.specs.declared.place.Place.{Place}
 use Rattle.drain.specs.Beginning.{IsBegun, AreBegun}
 use Rattle.drain.specs.Steps.{IsLower}
 use Rattle.drain.proofs.Counted.{height_is}

@@ -1,9 +1,9 @@
 // Directions of single cells by what stands around them, and refused numbers of workers.
 use crate::ground::{cut, land};
-use ascii_grid::Place;
 use drain::{Around, direction, directions};
 use fill::filled;
 use flow::{accumulation, basins};
+use terrain::Place;
 use tile_jobs::{JobFault, NoGate};
 
 #[test]

@@ -4,12 +4,12 @@ ghost use Rattle.fill.specs.Spills.{AreFloods};
 ghost use Rattle.tiles.specs.Cutting.{Cuts};
 
 use crate::ground::{cut, land};
-use ascii_grid::{Grid, Height, NoMemory, Place};
 use fill::{SpillGraph, TileFlood, filled, tile_flood};
 use std::alloc::{AllocError, Global};
 use std::process::Abort;
 use std::sync::Wait;
 use std::thread::Threads;
+use terrain::{Grid, Height, NoMemory, Place};
 use tile_jobs::{JobFault, NoGate};
 use tiles::Tiling;
 

@@ -4,10 +4,10 @@ ghost use Rattle.drain.specs.Beginning.{AreBegun};
 
 use crate::ground::{cut, land};
 use crate::maps::agree;
-use ascii_grid::{Grid, Height, Place};
 use drain::flat_steps;
 use std::alloc::{AllocError, Global};
 use std::process::Abort;
+use terrain::{Grid, Height, Place};
 
 /// The height of the level ground.
 const LEVEL: Height = 9;

@@ -1,11 +1,11 @@
 // Floods of nodes 0 to 3: 0 and 1 are joined at 5, 1 and 2 at 3, 0 and 2 at 7, and 3 stands alone.
 ghost use Rattle.std.specs.Prelude.{◌≡◌, ◌∷◌, []};
 
-use ascii_grid::{Height, NoMemory};
 use fill::{Net, Spill, flood};
 use smallvec::SmallVec;
 use std::alloc::Global;
 use std::test::Fail;
+use terrain::{Height, NoMemory};
 
 #[derive(Drop)]
 struct FourNodes {

@@ -5,12 +5,12 @@ ghost use Rattle.flow.specs.TileFlow.{IsTileFlow, AreTileFlows};
 ghost use Rattle.tiles.specs.Cutting.{Cuts, tile_count};
 
 use crate::ground::{cut, land};
-use ascii_grid::{NoMemory, Place};
 use drain::{Directions, directions};
 use fill::filled;
 use flow::{RimLinks, TileFlow, tile_flow};
 use std::alloc::Global;
 use std::process::Abort;
+use terrain::{NoMemory, Place};
 use tile_jobs::NoGate;
 use tiles::Tiling;
 

@@ -1,9 +1,10 @@
 // Small grids, and how they are cut.
 ghost use Rattle.tiles.specs.Cutting.{Cuts};
 
-use ascii_grid::{Grid, read_text};
+use ascii_grid::read_text;
 use std::alloc::Global;
 use std::process::Abort;
+use terrain::Grid;
 use tiles::Tiling;
 
 /// A grid of whole heights, -9999 where there is no data.

@@ -1,9 +1,10 @@
 // Filled heights of grids that look random, beside another way to find them.
-use ascii_grid::{HIGHEST, Height, read_text};
+use ascii_grid::read_text;
 use fill::filled_heights;
 use std::alloc::Global;
 use std::process::Abort;
 use std::test::Fail;
+use terrain::{HIGHEST, Height};
 
 /// Numbers that look random and are the same at every run.
 #[derive(Drop)]

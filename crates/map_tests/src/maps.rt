@@ -1,6 +1,5 @@
 // The maps of the ways of water, by their rows.
 use crate::ground::{cut, land};
-use ascii_grid::{Grid, NoMemory};
 use drain::{Code, directions};
 use fill::{filled, filled_heights};
 use flow::{accumulation, basins};
@@ -8,6 +7,7 @@ use std::alloc::Global;
 use std::process::Abort;
 use std::sync::Wait;
 use std::thread::Threads;
+use terrain::{Grid, NoMemory};
 use tile_jobs::NoGate;
 
 /// Sides of tiles and numbers of workers.

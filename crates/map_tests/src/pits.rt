@@ -5,11 +5,11 @@ ghost use Rattle.fill.specs.Spills.{AreFloods};
 use crate::filling::floods_of;
 use crate::flows::{flow_of, flows_of, link_at, links_of};
 use crate::ground::{cut, land};
-use ascii_grid::{Grid, Height, NoMemory, Place};
 use drain::directions;
 use fill::{CellNet, SpillGraph, TileFlood, filled, flood, raise, tile_flood};
 use std::alloc::Global;
 use std::process::Abort;
+use terrain::{Grid, Height, NoMemory, Place};
 use tile_jobs::NoGate;
 use tiles::Tiling;
 

@@ -2,12 +2,12 @@
 ghost use Rattle.std.specs.Prelude.{◌≡◌};
 
 use crate::ground::{cut, land};
-use ascii_grid::{Grid, Place};
 use sight::{Observer, SightFault, sees, viewshed};
 use std::alloc::{AllocError, Global};
 use std::process::Abort;
 use std::sync::Wait;
 use std::thread::Threads;
+use terrain::{Grid, Place};
 use tile_jobs::{JobFault, NoGate};
 
 const FARTHEST: u32 = 8_192;

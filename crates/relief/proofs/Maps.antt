@@ -1,11 +1,11 @@
 -- A text has one map.
 use Rattle.std.proofs.Common.{◌≡◌, ℕ, ◌⊎◌, List, Option, None, Some, ℤ, sym, ap, subst, refl, ◌∙◌, inl, inr}
 use Rattle.std.proofs.lemmas.Option.{MatchOption-at_none, MatchOption-at_some}
-use Rattle.ascii_grid.specs.Raster.{Raster, Terrain}
-use Rattle.ascii_grid.specs.Neighbours.{height_at}
+use Rattle.terrain.specs.Raster.{Raster, Terrain}
+use Rattle.terrain.specs.Neighbours.{height_at}
 use Rattle.drainage.specs.Filled.{IsFilled, IsFilledGrid}
 use Rattle.ascii_grid.specs.Text.{heights_text, counts_text}
-use Rattle.ascii_grid.specs.declared.place.Place.{Place}
+use Rattle.terrain.specs.declared.place.Place.{Place}
 use Rattle.drainage.proofs.Uniqueness.{one_filled_height}
 use Rattle.drainage.specs.Following.{Directed, code_at}
 use Rattle.drain.specs.Directions.{AreDirections}

@@ -1,7 +1,7 @@
 -- A run from what its parts left.
 use Rattle.std.proofs.Common.{◌≡◌, ℕ, ◌+◌, ◌≤◌, List, length, Option, None, Some, Ok, Err, refl, ◌∙◌, arith}
 use Rattle.std.specs.Io.KnownBytes.{Keeps, Consumes}
-use Rattle.ascii_grid.specs.Raster.{Raster}
+use Rattle.terrain.specs.Raster.{Raster}
 use Rattle.ascii_grid.specs.Device.{Device, Writes}
 use Rattle.ascii_grid.specs.GridText.{IsGridText, IsRefusal, fault_so_far, most_bytes}
 use Rattle.ascii_grid.specs.declared.fault.GridFault.{GridFault}

@@ -2,7 +2,7 @@
 use Rattle.std.proofs.Common.{◌≡◌, ℕ, Bool, true, false, cond, List, Option, None, Some, subst}
 use Rattle.std.specs.Prelude.{⊤, nat_lt}
 use Rattle.std.specs.Option.{option_map}
-use Rattle.ascii_grid.specs.Raster.{Raster}
+use Rattle.terrain.specs.Raster.{Raster}
 use Rattle.ascii_grid.specs.GridText.{IsGridText}
 use Rattle.tiles.specs.declared.tiling.TilingFault.TheVariants.{TooManyTiles}
 use Rattle.tiles.specs.Cutting.{most_tiles}

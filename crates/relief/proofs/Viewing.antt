@@ -4,8 +4,8 @@ use Rattle.std.specs.Prelude.{nat_lt, is_none}
 use Rattle.std.specs.Option.{option_map, option_or}
 use Rattle.std.specs.List.{position_from}
 use Rattle.std.proofs.lemmas.Bool.{le-ltb, cond-false}
-use Rattle.ascii_grid.specs.Raster.{Raster, Terrain}
-use Rattle.ascii_grid.specs.Neighbours.{height_at}
+use Rattle.terrain.specs.Raster.{Raster, Terrain}
+use Rattle.terrain.specs.Neighbours.{height_at}
 use Rattle.tiles.specs.Cutting.{most_tiles}
 use Rattle.tile_jobs.specs.declared.JobFault.{JobFault}
 use Rattle.tile_jobs.specs.declared.JobFault.TheVariants as jobs

@@ -1,6 +1,6 @@
 -- A map that waits to be written.
 use Rattle.std.specs.Prelude.{◌≡◌, ℕ, ◌*◌, ⊤, List, length}
-use Rattle.ascii_grid.specs.Raster.{Raster}
+use Rattle.terrain.specs.Raster.{Raster}
 use Rattle.ascii_grid.specs.Text.{heights_text, counts_text}
 use Rattle.relief.specs.declared.making.MadeMap.{MadeMap}
 use Rattle.relief.specs.declared.making.MadeMap.TheVariants.{Heights, Counts}

@@ -1,7 +1,7 @@
 -- Which refusals a run may answer, and in which order: the text's fault, too many tiles, the observers'
 -- fault, the work's want of memory or of a thread, a failed write.
 use Rattle.std.specs.Prelude.{◌≡◌, ℕ, ◌<◌, nat_lt, ⊤, if◌then◌else◌, List, Option, None, Some, option_map}
-use Rattle.ascii_grid.specs.Raster.{Raster}
+use Rattle.terrain.specs.Raster.{Raster}
 use Rattle.ascii_grid.specs.GridText.{IsGridText, IsRefusal}
 use Rattle.tiles.specs.Cutting.{tile_count, most_tiles}
 use Rattle.tiles.specs.declared.tiling.TilingFault.TheVariants.{TooManyTiles}

@@ -9,7 +9,6 @@ ghost use Rattle.relief.specs.MapText.{IsMapText, IsDrainage};
 ghost use Rattle.relief.specs.Refusals.{IsWorkRefusal, wish_fault, tiles_of};
 
 use crate::fault::RunFault;
-use ascii_grid::Grid;
 use drain::directions;
 use drainage::{Code, Directions, Filled};
 use fill::filled;
@@ -19,6 +18,7 @@ use sight::viewshed;
 use std::alloc::{AllocError, Global};
 use std::sync::Wait;
 use std::thread::Threads;
+use terrain::Grid;
 use tile_jobs::{Gate, JobFault};
 use tiles::{Tiling, TilingFault};
 

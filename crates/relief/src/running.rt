@@ -6,12 +6,13 @@ ghost use Rattle.relief.specs.Runs.{Runs};
 
 use crate::fault::RunFault;
 use crate::making::{MadeMap, make_map};
-use ascii_grid::{Counted, Grid, WriteFailed, read_grid, write_counts, write_heights};
+use ascii_grid::{Counted, WriteFailed, read_grid, write_counts, write_heights};
 use request::Options;
 use std::alloc::Global;
 use std::io::{Read, Write};
 use std::sync::Wait;
 use std::thread::Threads;
+use terrain::Grid;
 use tile_jobs::{Gate, NoGate};
 
 /// Reads a grid, and writes the map that is asked for: what is written is the map of the grid that the

@@ -1,7 +1,7 @@
 // An observer as a word of the command line.
 ghost use Rattle.std.specs.Prelude.{◌≡◌, ◌==◌, ◌∷◌, [], Some, None, IfSome, IfNone, if◌then◌else◌};
 ghost use Rattle.std.specs.List.{slice_split, position};
-ghost use Rattle.ascii_grid.specs.Decimal.{number_of};
+ghost use Rattle.terrain.specs.Decimal.{number_of};
 ghost use Rattle.request.specs.ObserverWord.{is_number, observer_of};
 
 use ascii_grid::whole_number;

@@ -1,9 +1,9 @@
 -- Where the blocks of a grid stand in their list, and what the list says along a line of sight.
 use Rattle.std.proofs.Common.{arith, subst, ◌∙◌, ◌≡◌, ◌+◌, ◌*◌, ◌/◌, ◌<◌, ℕ, ℤ, List, Option, None, Some, get_or, max}
 use Rattle.std.proofs.lemmas.Nat.{mul-add-lt}
-use Rattle.ascii_grid.specs.Raster.{Terrain}
-use Rattle.ascii_grid.specs.Neighbours.{IsInside}
-use Rattle.ascii_grid.specs.declared.place.Place.{Place}
+use Rattle.terrain.specs.Raster.{Terrain}
+use Rattle.terrain.specs.Neighbours.{IsInside}
+use Rattle.terrain.specs.declared.place.Place.{Place}
 use Rattle.sight.specs.Walk.{over_columns, over_rows}
 use Rattle.sight.specs.Blocks.{blocks_in, IsTopOf, AreTops, AreTopsAlong}
 use Rattle.sight.proofs.Crossings.{height_is}

@@ -2,8 +2,8 @@
 use Rattle.std.proofs.Common.{◌≡◌, ◌+◌, ◌||◌, ℕ, Bool, true, false, cond, ltb, is_none, List, [], ◌∷◌, length, Option, None, Some, option_map, Err}
 use Rattle.std.specs.Option.{option_or}
 use Rattle.std.specs.List.{position_from}
-use Rattle.ascii_grid.specs.Raster.{Terrain}
-use Rattle.ascii_grid.specs.Neighbours.{height_at}
+use Rattle.terrain.specs.Raster.{Terrain}
+use Rattle.terrain.specs.Neighbours.{height_at}
 use Rattle.tile_jobs.specs.declared.JobFault.{JobFault}
 use Rattle.tile_jobs.specs.declared.JobFault.TheVariants.{NoThread}
 use Rattle.sight.specs.Sight.{place_of}

@@ -1,8 +1,8 @@
 -- What the definitions say of small grids, by computation.
 use Rattle.std.proofs.Common.{◌≡◌, ℕ, List, [], ◌∷◌, map, Option, None, Some, ℤ, pos, negsuc, refl}
-use Rattle.ascii_grid.specs.Raster.{Terrain}
-use Rattle.ascii_grid.specs.Ways.{places}
-use Rattle.ascii_grid.specs.declared.place.Place.{Place}
+use Rattle.terrain.specs.Raster.{Terrain}
+use Rattle.terrain.specs.Ways.{places}
+use Rattle.terrain.specs.declared.place.Place.{Place}
 use Rattle.sight.specs.Sight.{viewshed_value, row_crossing, ground, sight, column_blocks}
 use Rattle.sight.specs.Refusals.{observers_fault}
 use Rattle.sight.specs.declared.observer.Observer.{Observer}

@@ -1,8 +1,8 @@
 -- What is seen, by the two lines from the target to the observer.
 use Rattle.std.proofs.Common.{arith, refl, ◌≡◌, ℤ, pos, ◌+ℤ◌, ℕ, true, not, ◌&&◌, Some}
-use Rattle.ascii_grid.specs.Raster.{Terrain, IsTerrain}
-use Rattle.ascii_grid.specs.Neighbours.{IsInside, height_at}
-use Rattle.ascii_grid.specs.declared.place.Place.{Place}
+use Rattle.terrain.specs.Raster.{Terrain, IsTerrain}
+use Rattle.terrain.specs.Neighbours.{IsInside, height_at}
+use Rattle.terrain.specs.declared.place.Place.{Place}
 use Rattle.sight.specs.Sight.{is_near, is_seen, place_of}
 use Rattle.sight.specs.Walk.{walk_blocks, over_columns, over_rows, IsLevel, IsSightline, AreSightlines}
 use Rattle.sight.specs.declared.observer.Observer.{Observer}

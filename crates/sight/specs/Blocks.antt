@@ -1,9 +1,9 @@
 -- Blocks of 16 by 16 cells and their greatest heights, over which a walk along a line of sight passes. No public
 -- clause cites it.
 use Rattle.std.specs.Prelude.{◌≡◌, ℕ, ◌+◌, ◌*◌, ◌/◌, ◌<◌, ◌≤◌, ℤ, pos, ◌*ℤ◌, ◌≤ℤ◌, List, length, Option, None, Some, MatchOption, slice_index_or, min, max}
-use Rattle.ascii_grid.specs.Raster.{Terrain}
-use Rattle.ascii_grid.specs.Neighbours.{height_at}
-use Rattle.ascii_grid.specs.declared.place.Place.{Place}
+use Rattle.terrain.specs.Raster.{Terrain}
+use Rattle.terrain.specs.Neighbours.{height_at}
+use Rattle.terrain.specs.declared.place.Place.{Place}
 use Rattle.sight.specs.Walk.{steps_of}
 use Rattle.sight.specs.declared.walk.Sightline.{Sightline}
 use Rattle.sight.specs.declared.walk.Step.{Step}

@@ -1,6 +1,6 @@
 -- Facts of the definitions alone.
 use Rattle.std.specs.Prelude.{◌≡◌, ℕ, List, Option}
-use Rattle.ascii_grid.specs.Raster.{Terrain}
+use Rattle.terrain.specs.Raster.{Terrain}
 use Rattle.sight.specs.Sight.{IsViewshed}
 use Rattle.sight.specs.declared.observer.Observer.{Observer}
 

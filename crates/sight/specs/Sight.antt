@@ -4,9 +4,9 @@ use Rattle.std.specs.Prelude.{◌≡◌, ℕ, ◌+◌, ◌-◌, ◌*◌, ◌/◌
 use Rattle.std.specs.Int.{abs_diff}
 use Rattle.std.specs.List.{list_any, range_with_len}
 use Rattle.std.specs.Option.{option_map_or}
-use Rattle.ascii_grid.specs.Raster.{Terrain}
-use Rattle.ascii_grid.specs.Neighbours.{IsInside, height_at, entry_at, height_of}
-use Rattle.ascii_grid.specs.declared.place.Place.{Place}
+use Rattle.terrain.specs.Raster.{Terrain}
+use Rattle.terrain.specs.Neighbours.{IsInside, height_at, entry_at, height_of}
+use Rattle.terrain.specs.declared.place.Place.{Place}
 use Rattle.sight.specs.declared.observer.Observer.{Observer}
 
 -- The limits: entries of a list of observers; an eye's and a target's height, in scaled units; a radius,

@@ -1,9 +1,9 @@
 -- What is told of one tile: the viewshed values of its places. No public clause cites it.
 use Rattle.std.specs.Prelude.{ℕ, map, List, Option, option_map, IsTrue, is_none}
 use Rattle.std.specs.List.{flat_map, range_with_len}
-use Rattle.ascii_grid.specs.Raster.{Terrain}
-use Rattle.ascii_grid.specs.Neighbours.{height_at}
-use Rattle.ascii_grid.specs.declared.place.Place.{Place}
+use Rattle.terrain.specs.Raster.{Terrain}
+use Rattle.terrain.specs.Neighbours.{height_at}
+use Rattle.terrain.specs.declared.place.Place.{Place}
 use Rattle.tiles.specs.declared.bounds.Bounds.{Bounds}
 use Rattle.sight.specs.Sight.{viewshed_value}
 use Rattle.sight.specs.Refusals.{observers_fault}

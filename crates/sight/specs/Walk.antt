@@ -5,15 +5,15 @@ use Rattle.std.specs.Prelude.{◌≡◌, ℕ, ◌+◌, ◌-◌, ◌*◌, ◌/◌
 use Rattle.std.specs.Int.{abs_diff}
 use Rattle.std.specs.List.{list_any, range_with_len}
 use Rattle.std.specs.Option.{option_map_or}
-use Rattle.ascii_grid.specs.Raster.{Terrain}
-use Rattle.ascii_grid.specs.declared.place.Place.{Place}
+use Rattle.terrain.specs.Raster.{Terrain}
+use Rattle.terrain.specs.declared.place.Place.{Place}
 use Rattle.sight.specs.Sight.{toward, sight, is_seen, place_of}
 use Rattle.sight.specs.declared.observer.Observer.{Observer}
 use Rattle.sight.specs.declared.line.Sightlines.{Sightlines}
 use Rattle.sight.specs.declared.walk.Axis.{Axis}
 use Rattle.sight.specs.declared.walk.Sightline.{Sightline}
 use Rattle.sight.specs.declared.walk.Step.{Step}
-use Rattle.ascii_grid.specs.Neighbours.{height_of}
+use Rattle.terrain.specs.Neighbours.{height_of}
 
 -- Where the line is along an axis at step k of n: the whole cell, and n-ths of a cell past it.
 abbrev pub whole_at : Axis → ℕ → ℕ → ℕ

@@ -6,7 +6,7 @@ ghost use Rattle.sight.specs.Refusals.{is_high, place_fault, place_fault_of, obs
 
 use crate::fault::SightFault;
 use crate::observer::Observer;
-use ascii_grid::{Grid, Place};
+use terrain::{Grid, Place};
 
 const MOST_OBSERVERS: usize = 1_024;
 

@@ -1,6 +1,6 @@
 // One line of sight.
 ghost use Rattle.std.specs.Prelude.{◌≡◌, ◌<◌, ◌≤◌, pos, ◌+ℤ◌, false, MatchOption};
-ghost use Rattle.ascii_grid.specs.Neighbours.{IsInside};
+ghost use Rattle.terrain.specs.Neighbours.{IsInside};
 ghost use Rattle.sight.specs.Sight.{highest_eye, longest_radius, is_near, is_seen, place_of};
 ghost use Rattle.sight.specs.Walk.{IsLevel, AreSightlines};
 ghost use Rattle.sight.specs.Blocks.{AreTops};
@@ -9,7 +9,7 @@ use crate::observer::Observer;
 use crate::passing::{BlockStrides, is_blocked_past_blocks};
 use crate::tops::blocks_in;
 use crate::walk::{Axis, Sightline, is_blocked};
-use ascii_grid::{Grid, Height, Place};
+use terrain::{Grid, Height, Place};
 
 /// Whether the target is not farther than the radius.
 #[inline(always)]

@@ -5,7 +5,7 @@ ghost use Rattle.sight.specs.Walk.{steps_of, whole_at, IsSightline, IsAt, IsOver
 ghost use Rattle.sight.specs.Blocks.{IsLow, AreTopsAlong, AreLowBetween};
 
 use crate::walk::{Pace, Sightline, Step, is_blocked_between, weighed};
-use ascii_grid::Height;
+use terrain::Height;
 
 /// The side of a block, in cells.
 pub const BLOCK_SIDE: u32 = 16;

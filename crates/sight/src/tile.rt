@@ -1,6 +1,6 @@
 // The viewshed of one tile.
 ghost use Rattle.std.specs.Prelude.{◌≡◌, ◌+◌, ◌-◌, ◌<◌, ◌≤◌, ◌++◌, map, count_by, OnOk, IfErr};
-ghost use Rattle.ascii_grid.specs.Neighbours.{IsInside};
+ghost use Rattle.terrain.specs.Neighbours.{IsInside};
 ghost use Rattle.tiles.specs.Cutting.{Cuts};
 ghost use Rattle.sight.specs.Sight.{is_seen};
 ghost use Rattle.std.proofs.Props.{props};
@@ -9,8 +9,8 @@ ghost use Rattle.sight.specs.Viewed.{value_at, row_places, IsFaultless};
 
 use crate::line::sees_past_blocks;
 use crate::observer::Observer;
-use ascii_grid::{Grid, Height, Place};
 use std::alloc::{AllocError, AllocFailed, Global};
+use terrain::{Grid, Height, Place};
 use tile_jobs::{JobFault, Work};
 use tiles::Tiling;
 

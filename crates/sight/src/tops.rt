@@ -1,11 +1,11 @@
 // The greatest height of each block of cells.
 ghost use Rattle.std.specs.Prelude.{◌≡◌, ℕ, ℤ, ◌*◌, ◌<◌, ◌≤◌, length, slice_index_or, None, Some, IfOk};
-ghost use Rattle.ascii_grid.specs.Neighbours.{height_at};
+ghost use Rattle.terrain.specs.Neighbours.{height_at};
 ghost use Rattle.sight.specs.Blocks.{blocks_in, block_of, IsTopOf, AreTops};
 
 use crate::passing::BLOCK_SIDE;
-use ascii_grid::{Grid, Height, Place};
 use std::alloc::{AllocError, Global};
+use terrain::{Grid, Height, Place};
 
 /// How many blocks side by side hold so many cells.
 #[inline(always)]

@@ -10,10 +10,10 @@ use crate::judging::first_fault;
 use crate::observer::Observer;
 use crate::tile::Viewing;
 use crate::tops::block_tops;
-use ascii_grid::Grid;
 use std::alloc::Global;
 use std::sync::Wait;
 use std::thread::Threads;
+use terrain::Grid;
 use tile_jobs::{Gate, JobFault, MOST_WORKERS, run_jobs};
 use tiles::Tiling;
 

@@ -4,7 +4,7 @@ ghost use Rattle.std.specs.Int.{abs_diff};
 ghost use Rattle.sight.specs.Walk.{is_above, steps_of, whole_at, IsSightline, IsAt, IsOver, step_range_blocks, walk_blocks};
 ghost use Rattle.sight.specs.Pace.{IsPace, Gains};
 
-use ascii_grid::Height;
+use terrain::Height;
 
 /// One coordinate of a line of sight: its two ends, and how far apart neighbours along it stand
 /// in the list of cells.

@@ -1,7 +1,7 @@
 -- Which tile a place lies in, and the bounds of a tile.
 use Rattle.std.proofs.Common.{◌≡◌, ◌↔◌, ℕ, ◌+◌, ◌-◌, ◌*◌, ◌/◌, ◌%◌, ◌<◌, min, sym, ap, subst, ◌∙◌, arith, mul_comm}
 use Rattle.std.proofs.lemmas.Nat.{div-mul-add, mod-mul-add, mul-add-lt, div_below, mod_below, div-add-mod'}
-use Rattle.ascii_grid.specs.declared.place.Place.{Place}
+use Rattle.terrain.specs.declared.place.Place.{Place}
 use Rattle.tiles.specs.declared.bounds.Bounds.{Bounds}
 use Rattle.tiles.specs.Cutting.{Cutting, IsCutting, IsWithin, IsInTile, IsInBounds, AreBounds, across, down, tile_count, tile_of_place, bounds_of}
 use Rattle.tiles.proofs.Quotients.{piece_begins, piece_of, pieces_some, piece_is, piece_from}

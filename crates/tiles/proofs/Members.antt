@@ -4,10 +4,10 @@ use Rattle.std.specs.List.{range_with_len, flat_map, filter_map}
 use Rattle.std.proofs.lemmas.Bool.{cases_Bool, cases_eq, cases_order, cond-true, cond-false, and_from, and_parts, lt-ltb, ltb-true, ne_eqb, eq-eqb}
 use Rattle.std.proofs.lemmas.List.Elements.{Contains-append_left, Contains-append_right, Contains-append_cases}
 use Rattle.std.proofs.lemmas.Option.{none-some, same_Some}
-use Rattle.ascii_grid.specs.Neighbours.{Touches}
-use Rattle.ascii_grid.specs.Ways.{before, place_of, ways_from, places_around}
-use Rattle.ascii_grid.specs.declared.place.Place.{Place}
-use Rattle.ascii_grid.proofs.Places.{make_place, same_place}
+use Rattle.terrain.specs.Neighbours.{Touches}
+use Rattle.terrain.specs.Ways.{before, place_of, ways_from, places_around}
+use Rattle.terrain.specs.declared.place.Place.{Place}
+use Rattle.terrain.proofs.Places.{make_place, same_place}
 use Rattle.tiles.specs.declared.bounds.Bounds.{Bounds}
 use Rattle.tiles.specs.Cutting.{Cutting, IsCutting, IsWithin, IsInTile, IsInBounds, tile_count, tile_of_place, bounds_of, is_in_other_tile, is_first_or_last, is_on_rim, places_in, rim_places, outer_places}
 use Rattle.tiles.proofs.Cut.{in_bounds, in_tile}

@@ -8,9 +8,9 @@ use Rattle.std.proofs.lemmas.List.{length-take, length-drop, length-append}
 use Rattle.std.proofs.lemmas.Nat.{div-mul-add, mod-mul-add, row_fits, mul-add-lt}
 use Rattle.std.proofs.lemmas.Option.{unwrap_or-slice_get}
 use Rattle.std.specs.Option.{unwrap_or}
-use Rattle.ascii_grid.specs.Neighbours.{index_of, entry_at}
-use Rattle.ascii_grid.proofs.Places.{entry-inside}
-use Rattle.ascii_grid.specs.declared.place.Place.{Place}
+use Rattle.terrain.specs.Neighbours.{index_of, entry_at}
+use Rattle.terrain.proofs.Places.{entry-inside}
+use Rattle.terrain.specs.declared.place.Place.{Place}
 use Rattle.tiles.specs.declared.bounds.Bounds.{Bounds}
 use Rattle.tiles.specs.Cutting.{Cutting, IsCutting, IsWithin, IsInBounds, AreTileLists, IsPutBack, across, down, tile_count, tile_of_place, bounds_of, listed_at, IsInTile, tile_entry}
 use Rattle.tiles.specs.PuttingBack.{IsPutBackBelow, IsRowOf}

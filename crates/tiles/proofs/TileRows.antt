@@ -4,9 +4,9 @@ use Rattle.std.proofs.lemmas.Bool.{cases_lt, cases_eq, cond-true, and_from, lt-l
 use Rattle.std.proofs.lemmas.List.{get_or-take, get_or-drop}
 use Rattle.std.proofs.Math.Nat.{mul-le-mul_right}
 use Rattle.std.proofs.lemmas.Nat.{row_fits}
-use Rattle.ascii_grid.proofs.Places.{make_place, entry-inside}
-use Rattle.ascii_grid.specs.Neighbours.{entry_at, index_of}
-use Rattle.ascii_grid.specs.declared.place.Place.{Place}
+use Rattle.terrain.proofs.Places.{make_place, entry-inside}
+use Rattle.terrain.specs.Neighbours.{entry_at, index_of}
+use Rattle.terrain.specs.declared.place.Place.{Place}
 use Rattle.tiles.specs.declared.bounds.Bounds.{Bounds}
 use Rattle.tiles.specs.Cutting.{Cutting, IsCutting, View, IsView, AreBounds, IsInBounds, IsWithin, IsInTile, bounds_of, row_shown, tile_entry, index_in_tile, tile_of_place, tile_count, cell_count}
 use Rattle.tiles.proofs.Cut.{in_bounds, in_tile}

@@ -5,10 +5,10 @@ use Rattle.std.specs.Prelude.{◌≡◌, ℕ, ℤ, slice_index_or, ◌+◌, ◌-
 use Rattle.std.specs.declared.alloc.Global.{Global}
 use Rattle.std.specs.Int.{div_ceil}
 use Rattle.std.specs.List.{range_with_len, flat_map}
-use Rattle.ascii_grid.specs.Neighbours.{index_of}
-use Rattle.ascii_grid.specs.Raster.{Terrain}
-use Rattle.ascii_grid.specs.Ways.{places_around}
-use Rattle.ascii_grid.specs.declared.place.Place.{Place}
+use Rattle.terrain.specs.Neighbours.{index_of}
+use Rattle.terrain.specs.Raster.{Terrain}
+use Rattle.terrain.specs.Ways.{places_around}
+use Rattle.terrain.specs.declared.place.Place.{Place}
 use Rattle.tiles.specs.declared.bounds.Bounds.{Bounds}
 
 -- The limits: cells of a grid in a row or a column, cells along the side of a tile, and tiles.

@@ -1,7 +1,7 @@
 -- What is left of a rim. Only the contracts of private functions speak of it.
 use Rattle.std.specs.Prelude.{◌≡◌, ◌+◌, ◌-◌, ◌<◌, ◌≤◌, IsTrue, List, ◌++◌, map, filter}
 use Rattle.std.specs.List.{range_with_len, flat_map}
-use Rattle.ascii_grid.specs.declared.place.Place.{Place}
+use Rattle.terrain.specs.declared.place.Place.{Place}
 use Rattle.tiles.specs.declared.bounds.Bounds.{Bounds}
 use Rattle.tiles.specs.Cutting.{is_first_or_last, longest_axis}
 

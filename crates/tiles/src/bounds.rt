@@ -1,7 +1,7 @@
 ghost use Rattle.std.specs.Prelude.{◌≡◌, ◌+◌, ◌≤◌};
 ghost use Rattle.tiles.specs.Cutting.{is_first_or_last, IsInBounds};
 
-use ascii_grid::Place;
+use terrain::Place;
 
 /// The first row and column of a tile, and its size.
 #[derive(Clone, Copy, Debug, PartialEq, Eq)]

@@ -1,8 +1,8 @@
 // The places around a place, in the order of the codes.
 ghost use Rattle.std.specs.Prelude.{◌≡◌, ◌+◌, ◌-◌, ◌^◌, ◌<◌};
-ghost use Rattle.ascii_grid.specs.Ways.{before, place_of, place_on};
+ghost use Rattle.terrain.specs.Ways.{before, place_of, place_on};
 
-use ascii_grid::Place;
+use terrain::Place;
 
 // The row or column before this one, None before the first.
 #[inline(always)]

@@ -4,8 +4,8 @@ ghost use Rattle.tiles.specs.Cutting.{longest_axis, places_in, is_first_or_last}
 ghost use Rattle.tiles.specs.RimLeft.{IsRimState, rim_from};
 
 use crate::bounds::Bounds;
-use ascii_grid::Place;
 use std::marker::Model;
+use terrain::Place;
 
 /// The rim of a tile, place by place in row order: its first and last row and column, each place once.
 /// It takes no memory.
@@ -18,7 +18,7 @@ pub struct Rim {
 
 impl Model for Rim {
     ghost use Rattle.std.specs.Prelude.{List};
-    ghost use Rattle.ascii_grid.specs.declared.place.Place.{Place};
+    ghost use Rattle.terrain.specs.declared.place.Place.{Place};
     ghost use Rattle.tiles.specs.RimLeft.{rim_from, IsRimState};
 
     ghost Value = { List Place };

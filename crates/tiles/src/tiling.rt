@@ -3,7 +3,7 @@ ghost use Rattle.std.specs.Prelude.{◌≡◌, ◌↔◌, ◌⊎◌, ◌+◌, �
 ghost use Rattle.std.specs.Option.{option_to_list};
 ghost use Rattle.smallvec.specs.SmallVec.{HasRoomFor, small_vec_len};
 ghost use Rattle.std.specs.Int.{div_ceil};
-ghost use Rattle.ascii_grid.specs.declared.place.Place.{Place};
+ghost use Rattle.terrain.specs.declared.place.Place.{Place};
 ghost use Rattle.tiles.specs.Cutting.{Cutting, IsCutting, IsWithin, IsInTile, longest_axis, longest_side, most_tiles, across, tile_count, tile_of_place, bounds_of, AreBounds, is_on_rim, IsInBounds, rim_places, outer_places, is_in_other_tile, AreTileLists, IsPutBack};
 ghost use Rattle.tiles.specs.PuttingBack.{IsPutBackBelow, IsRowOf};
 
@@ -12,10 +12,10 @@ use crate::neighbours::place_on;
 use crate::rim::Rim;
 use crate::slices::part;
 use crate::view::TileView;
-use ascii_grid::{NoMemory, Place};
 use smallvec::SmallVec;
 use std::alloc::{AllocError, Global};
 use std::marker::Model;
+use terrain::{NoMemory, Place};
 
 const LONGEST_SIDE: u32 = 4_096;
 

@@ -4,8 +4,8 @@ ghost use Rattle.tiles.specs.Cutting.{View, IsView, AreBounds, bounds_of, is_sho
 use crate::bounds::Bounds;
 use crate::slices::{element, part};
 use crate::tiling::Tiling;
-use ascii_grid::Place;
 use std::marker::Model;
+use terrain::Place;
 
 /// The cells of a tile and those of the grid next to them, lent.
 #[derive(Drop)]

@@ -4,7 +4,7 @@ use Rattle.std.proofs.lemmas.Int.{to_z-of_z}
 use mir.Val.{to_z, of_z}
 use mir.Syntax.{w32, w64}
 use Rattle.ascii_grid.specs.GridText.{same_value}
-use Rattle.ascii_grid.specs.Decimal.{scaled_value}
+use Rattle.terrain.specs.Decimal.{scaled_value}
 use Rattle.ascii_grid.specs.declared.cell.Meaning.TheVariants.{Cell}
 use Rattle.ascii_grid.proofs.Cells.{meaning_of_height, height_fits}
 use Rattle.ascii_grid.proofs.cell.value_cell.Goals as goal

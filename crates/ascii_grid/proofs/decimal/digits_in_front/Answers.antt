@@ -2,7 +2,7 @@ use Rattle.std.proofs.Common.{arith, ◌≤◌, ◌∙◌, ap, sym}
 use Rattle.std.specs.List.{list_all}
 use Rattle.std.specs.Char.{is_ascii_digit}
 use Rattle.std.proofs.lemmas.List.{take-take, length-take}
-use Rattle.ascii_grid.specs.Decimal.{number_of}
+use Rattle.terrain.specs.Decimal.{number_of}
 use Rattle.ascii_grid.proofs.decimal.digits_in_front.Goals as goal
 
 pub returns-clause-digits : goal.returns-clause-digits

@@ -1,7 +1,7 @@
 use Rattle.std.proofs.Common.{arith, ◌≡◌, ◌∙◌, ap, sym, take, drop, replicate, length, min, fold, ◌+◌, ◌*◌, ◌-◌, true, false, ◌==◌, refl}
 use Rattle.std.specs.List.{list_all}
 use Rattle.std.proofs.lemmas.List.{take_rest, drop_min, take_min}
-use Rattle.ascii_grid.specs.Decimal.{number_of}
+use Rattle.terrain.specs.Decimal.{number_of}
 use Rattle.ascii_grid.proofs.Scaled.{number_of-padded, size-kept}
 use Rattle.ascii_grid.proofs.decimal.scaled_size.Goals as goal
 

@@ -3,7 +3,7 @@ use Rattle.std.specs.Result.{IfOk}
 use Rattle.std.specs.Io.KnownBytes.{Consumes}
 use Rattle.std.proofs.lemmas.List.{append-nil, length-append, length-take-le, length-take, take-append-le}
 use Rattle.ascii_grid.specs.GridText.{IsGridText, IsRefusal, IsRefusalSoFar, fault_so_far}
-use Rattle.ascii_grid.specs.Raster.{Raster}
+use Rattle.terrain.specs.Raster.{Raster}
 use Rattle.ascii_grid.specs.Reader.{HasTaken}
 use Rattle.ascii_grid.specs.declared.fault.GridFault.{GridFault}
 use Rattle.ascii_grid.specs.declared.input.InputFault.{InputFault}

@@ -1,5 +1,5 @@
 use Rattle.std.proofs.Common.{◌∙◌, ◌*◌, ◌<◌, ℕ, List, get_or, sym, ap, subst}
-use Rattle.ascii_grid.specs.Neighbours.{index_of}
+use Rattle.terrain.specs.Neighbours.{index_of}
 use Rattle.drain.specs.Amid.{around_index}
 use Rattle.drain.proofs.AmidLemmas.{around_below}
 use Rattle.drain.proofs.amid.cells_around.Goals as goal

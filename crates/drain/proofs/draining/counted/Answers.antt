@@ -1,6 +1,6 @@
 use Rattle.std.proofs.Common.{◌∙◌, Option, Vec, Global, ℕ, sym, ap, subst}
 use Rattle.std.proofs.lemmas.Result.{IfOk-weaker}
-use Rattle.ascii_grid.specs.Raster.{Raster, Terrain, IsTerrain}
+use Rattle.terrain.specs.Raster.{Raster, Terrain, IsTerrain}
 use Rattle.tiles.specs.Cutting.{Cuts}
 use Rattle.drain.specs.Beginning.{AreBegun}
 use Rattle.drain.specs.Entering.{lent_terrain}

@@ -1,5 +1,5 @@
 use Rattle.std.proofs.Common.{◌∙◌, sym, ap, subst}
-use Rattle.ascii_grid.specs.Raster.{Raster, Terrain}
+use Rattle.terrain.specs.Raster.{Raster, Terrain}
 use Rattle.drain.specs.Directions.{AreDirections}
 use Rattle.drainage.specs.Drained.{Drained, IsDraining, AllFlowEnds, directed_of}
 use Rattle.drain.proofs.DrainedLemmas.{are_draining, own_terrain}

@@ -1,7 +1,7 @@
 use Rattle.std.proofs.Common.{◌+◌, ◌*◌, ◌<◌, None, get_or, sym, ap, ◌∙◌, arith}
 use Rattle.std.proofs.lemmas.List.{get_or_default}
-use Rattle.ascii_grid.proofs.Places.{entry-inside, index_below}
-use Rattle.ascii_grid.specs.Neighbours.{index_of}
+use Rattle.terrain.proofs.Places.{entry-inside, index_below}
+use Rattle.terrain.specs.Neighbours.{index_of}
 use Rattle.drain.proofs.entering.entry_at.Goals as goal
 
 pub returns : goal.returns

@@ -1,5 +1,5 @@
 use Rattle.std.proofs.Common.{◌≡◌, ◌+◌, ◌*◌, ℕ, List, Option, sym, subst, arith}
-use Rattle.ascii_grid.proofs.Places.{make_place}
+use Rattle.terrain.proofs.Places.{make_place}
 use Rattle.drain.specs.Window.{AreShownBelow, spot_index}
 use Rattle.drain.proofs.Spots.{shown_push}
 use Rattle.drain.proofs.looking.look_beside.Goals as goal

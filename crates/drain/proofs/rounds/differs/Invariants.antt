@@ -1,6 +1,6 @@
 use Rattle.std.proofs.Common.{◌≡◌, ◌+◌, ◌<◌}
-use Rattle.ascii_grid.specs.declared.place.Place.{Place}
-use Rattle.ascii_grid.specs.Neighbours.{entry_at}
+use Rattle.terrain.specs.declared.place.Place.{Place}
+use Rattle.terrain.specs.Neighbours.{entry_at}
 use Rattle.tiles.specs.Cutting.{IsInTile, tile_entry}
 use Rattle.drain.proofs.rounds.differs.Given as goal
 

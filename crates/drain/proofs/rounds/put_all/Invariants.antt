@@ -1,6 +1,6 @@
 use Rattle.std.proofs.Common.{◌≡◌, ◌<◌, ◌≤◌}
-use Rattle.ascii_grid.specs.Neighbours.{entry_at}
-use Rattle.ascii_grid.specs.declared.place.Place.{Place}
+use Rattle.terrain.specs.Neighbours.{entry_at}
+use Rattle.terrain.specs.declared.place.Place.{Place}
 use Rattle.tiles.specs.Cutting.{IsWithin, tile_of_place}
 use Rattle.drain.specs.Rounds.{told}
 use Rattle.drain.proofs.rounds.put_all.Given as goal

@@ -2,7 +2,7 @@ use Rattle.std.proofs.Common.{◌≡◌, ℕ, None, Some, ◌∷◌, [], get_or,
 use mir.Val.{SFits}
 use mir.Syntax.{w32}
 use Rattle.std.specs.Option.{option_zip}
-use Rattle.ascii_grid.specs.Ways.{entry_on}
+use Rattle.terrain.specs.Ways.{entry_on}
 use Rattle.drain.proofs.Block.{outermost_edge}
 use Rattle.drain.proofs.Ways.{eight}
 use Rattle.drain.proofs.surroundings.around.Goals as goal

@@ -1,5 +1,5 @@
 use Rattle.std.proofs.Common.{◌<◌, [], All}
-use Rattle.ascii_grid.specs.declared.place.Place.{Place}
+use Rattle.terrain.specs.declared.place.Place.{Place}
 use Rattle.drain.specs.Window.{IsInner, IsSpread, IsNear, AreNoted}
 use Rattle.drain.proofs.window.pull.Given as goal
 

@@ -1,7 +1,7 @@
 use Rattle.std.proofs.Common.{inl, inr, sym, subst, arith}
 use Rattle.std.proofs.lemmas.Bool.{cases_eq}
-use Rattle.ascii_grid.proofs.Places.{make_place, same_place}
-use Rattle.ascii_grid.specs.declared.place.Place.{Place}
+use Rattle.terrain.proofs.Places.{make_place, same_place}
+use Rattle.terrain.specs.declared.place.Place.{Place}
 use Rattle.drain.specs.Window.{IsNear}
 use Rattle.drain.proofs.Spreading.{near_after, not_above_then}
 use Rattle.drain.proofs.Noted.{noted_then}

@@ -1,5 +1,5 @@
 use Rattle.std.proofs.Common.{List, set, sym, subst}
-use Rattle.ascii_grid.specs.declared.place.Place.{Place}
+use Rattle.terrain.specs.declared.place.Place.{Place}
 use Rattle.drain.specs.Window.{AreNoted}
 use Rattle.drain.proofs.Noted.{noted_set}
 use Rattle.drain.proofs.Spreading.{spot_from_inner}

@@ -1,7 +1,7 @@
 use Rattle.std.proofs.Common.{◌+◌, All, Vec, Global, List, get_or, set, sym, subst, ◌∙◌}
 use Rattle.std.proofs.lemmas.Bool.{false≢true}
 use Rattle.std.proofs.lemmas.List.Elements.{All-push}
-use Rattle.ascii_grid.specs.declared.place.Place.{Place}
+use Rattle.terrain.specs.declared.place.Place.{Place}
 use Rattle.drain.specs.Window.{IsInner, AreNoted}
 use Rattle.drain.proofs.Noted.{noted_set, noted_off}
 use Rattle.drain.proofs.window.reach.Goals as goal

@@ -1,6 +1,6 @@
 use Rattle.std.proofs.Common.{◌≡◌, ◌+◌, ◌<◌, ◌≤◌, All, sum, vec_len}
-use Rattle.ascii_grid.specs.Neighbours.{Touches}
-use Rattle.ascii_grid.specs.declared.place.Place.{Place}
+use Rattle.terrain.specs.Neighbours.{Touches}
+use Rattle.terrain.specs.declared.place.Place.{Place}
 use Rattle.drain.specs.Window.{IsSpot, IsInner, IsSpread, level_on, count_on, AreNoted}
 use Rattle.drain.proofs.window.spread_along.Given as goal
 

@@ -1,6 +1,6 @@
 use Rattle.std.proofs.Common.{◌≡◌, ◌≤◌, ◌⊎◌, None, arith, inl, inr, refl}
-use Rattle.ascii_grid.specs.declared.place.Place.{Place}
-use Rattle.ascii_grid.proofs.Places.{gap_at_end}
+use Rattle.terrain.specs.declared.place.Place.{Place}
+use Rattle.terrain.proofs.Places.{gap_at_end}
 use Rattle.fill.specs.Gathering.{mark_among, HasGapAmong}
 use Rattle.fill.proofs.CellMarks.{mark_outside}
 use Rattle.fill.proofs.marks.has_gap.Goals as goal

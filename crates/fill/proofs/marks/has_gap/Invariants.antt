@@ -1,5 +1,5 @@
 use Rattle.std.proofs.Common.{◌≡◌, None}
-use Rattle.ascii_grid.proofs.Places.{HasNoGapBefore}
+use Rattle.terrain.proofs.Places.{HasNoGapBefore}
 use Rattle.fill.specs.Gathering.{mark_among}
 use Rattle.fill.proofs.marks.has_gap.Given as goal
 

@@ -1,8 +1,8 @@
 use Rattle.std.proofs.Common.{◌≡◌, ◌↔◌, ◌⊎◌, ℕ, ◌+◌, ◌<◌, ap, sym, subst, refl, arith, inl, inr}
 use Rattle.tiles.specs.declared.bounds.Bounds.{Bounds}
 use Rattle.std.proofs.lemmas.Bool.{cases_lt}
-use Rattle.ascii_grid.specs.declared.place.Place.{Place}
-use Rattle.ascii_grid.proofs.Places.{same_place}
+use Rattle.terrain.specs.declared.place.Place.{Place}
+use Rattle.terrain.proofs.Places.{same_place}
 use Rattle.tiles.specs.Cutting.{Cutting, IsInTile}
 use Rattle.fill.proofs.Adding.{adds_then, adds_as}
 use Rattle.fill.proofs.passes.push_cells.Goals as goal

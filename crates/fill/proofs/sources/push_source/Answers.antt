@@ -2,7 +2,7 @@ use Rattle.std.proofs.Common.{rules, w32, ◌≡◌, subst, ℤ, Option, IfSome}
 use Rattle.std.specs.Prelude.{IfNone}
 use mir.Val.{SFits}
 use Rattle.std.proofs.lemmas.Int.{to_z-of_z}
-use Rattle.ascii_grid.specs.declared.place.Place.{Place}
+use Rattle.terrain.specs.declared.place.Place.{Place}
 use Rattle.fill.specs.Gathering.{IsSpillSource}
 use Rattle.fill.proofs.SourceCells.{no_source_adds, source_adds}
 use Rattle.fill.proofs.sources.push_source.Goals as goal

@@ -1,5 +1,5 @@
 use Rattle.std.proofs.Common.{◌≡◌, ◌+◌, ◌*◌, length, get_or}
-use Rattle.ascii_grid.specs.declared.place.Place.{Place}
+use Rattle.terrain.specs.declared.place.Place.{Place}
 use Rattle.tiles.specs.Cutting.{IsInBounds, bounds_of}
 use Rattle.flow.specs.Streams.{sum_below}
 use Rattle.flow.specs.TileLinks.{index_in}

@@ -1,5 +1,5 @@
 use Rattle.std.proofs.Common.{◌+◌, Option, cond, eqb, get_or, sym, ap, ◌∙◌, arith}
-use Rattle.ascii_grid.specs.declared.place.Place.{Place}
+use Rattle.terrain.specs.declared.place.Place.{Place}
 use Rattle.flow.specs.Inflows.{sent_to}
 use Rattle.flow.proofs.Waiting.{added_at}
 use Rattle.flow.proofs.inflows.send.Goals as goal

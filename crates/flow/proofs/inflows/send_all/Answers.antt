@@ -1,5 +1,5 @@
 use Rattle.std.proofs.Common.{◌≡◌, ◌+◌, Option, IfSome, get_or, subst, sym, ap, ◌∙◌, arith}
-use Rattle.ascii_grid.specs.declared.place.Place.{Place}
+use Rattle.terrain.specs.declared.place.Place.{Place}
 use Rattle.tiles.specs.Cutting.{IsWithin}
 use Rattle.flow.specs.Streams.{sum_below}
 use Rattle.flow.specs.RimNumbers.{number_count}

@@ -1,5 +1,5 @@
 use Rattle.std.proofs.Common.{◌≡◌, ◌+◌, ◌^◌, ◌<◌, sym, ap, ◌∙◌, arith, rules, unwrap_or, Option, ℕ, subst}
-use Rattle.ascii_grid.specs.declared.place.Place.{Place}
+use Rattle.terrain.specs.declared.place.Place.{Place}
 use Rattle.tiles.specs.Cutting.{IsWithin}
 use Rattle.flow.specs.RimNumbers.{rim_place}
 use Rattle.flow.specs.Inflows.{rim_weight, weight_or, through_by}

@@ -1,5 +1,5 @@
 use Rattle.std.proofs.Common.{◌≡◌, get_or, None, subst, sym, ap, ◌∙◌}
-use Rattle.ascii_grid.specs.declared.place.Place.{Place}
+use Rattle.terrain.specs.declared.place.Place.{Place}
 use Rattle.tiles.specs.declared.bounds.Bounds.{Bounds}
 use Rattle.flow.specs.TileLinks.{place_in}
 use Rattle.flow.specs.RimGraph.{outlet_in}

@@ -1,6 +1,6 @@
 use Rattle.std.proofs.Common.{Option, sym, ap, ◌∙◌}
 use Rattle.std.specs.Option.{option_and_then}
-use Rattle.ascii_grid.specs.declared.place.Place.{Place}
+use Rattle.terrain.specs.declared.place.Place.{Place}
 use Rattle.flow.specs.RimGraph.{number_or, way_out_by}
 use Rattle.flow.proofs.RimFlows.{target_within, way_out_within}
 use Rattle.flow.proofs.outlets.link_of.Goals as goal

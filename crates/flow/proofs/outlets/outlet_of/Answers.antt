@@ -1,6 +1,6 @@
 use Rattle.std.proofs.Common.{Option, get_or, sym, ap, ◌∙◌}
 use Rattle.std.specs.Option.{option_and_then}
-use Rattle.ascii_grid.specs.declared.place.Place.{Place}
+use Rattle.terrain.specs.declared.place.Place.{Place}
 use Rattle.flow.specs.RimGraph.{target_by, exit_by}
 use Rattle.flow.proofs.RimFlows.{target_within}
 use Rattle.flow.proofs.outlets.outlet_of.Goals as goal

@@ -1,5 +1,5 @@
 use Rattle.std.proofs.Common.{◌≡◌, ℕ, ℤ, List, Option, [], ◌∷◌, ◌++◌, subst, ap, ◌∙◌, rules}
-use Rattle.ascii_grid.specs.Raster.{Terrain}
+use Rattle.terrain.specs.Raster.{Terrain}
 use Rattle.tiles.specs.Cutting.{Cutting, Cuts, View, terrain_of}
 use Rattle.fill.specs.TileFlood.{Flood, IsTileFlood}
 use Rattle.flow.proofs.Pushing.{pushed_size}

@@ -1,6 +1,6 @@
 use Rattle.std.proofs.Common.{◌≡◌, ℕ, ℤ, List, Option, subst, sym, ap, ◌∙◌}
 use Rattle.std.proofs.lemmas.Result.{IfOk-at_ok}
-use Rattle.ascii_grid.specs.Raster.{Terrain}
+use Rattle.terrain.specs.Raster.{Terrain}
 use Rattle.tiles.specs.Cutting.{Cutting, Cuts, View, terrain_of}
 use Rattle.drain.specs.Beginning.{AreBegun}
 use Rattle.drain.specs.Steps.{DrainsAtOnce}

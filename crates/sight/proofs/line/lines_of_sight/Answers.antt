@@ -1,7 +1,7 @@
 use Rattle.std.proofs.Common.{rules, sym, ◌∙◌, ◌≡◌, pos, ◌+ℤ◌, FitsSigned, Some, true}
 use Rattle.std.specs.Int.{w32, w64}
 use Rattle.std.proofs.lemmas.Int.{to_z-of_z}
-use Rattle.ascii_grid.specs.Neighbours.{height_at}
+use Rattle.terrain.specs.Neighbours.{height_at}
 use Rattle.sight.specs.Sight.{is_near, place_of}
 use Rattle.sight.specs.Walk.{IsLevel}
 use Rattle.sight.proofs.Seen.{lines_are}

@@ -4,7 +4,7 @@ use Rattle.sight.specs.Blocks.{blocks_in, AreTopsAlong}
 use Rattle.sight.specs.declared.walk.Sightline.{Sightline}
 use Rattle.sight.proofs.BlockTops.{along_columns, along_rows}
 use Rattle.sight.proofs.line.sees_past_blocks.Goals as goal
-use Rattle.ascii_grid.specs.Neighbours.{height_of}
+use Rattle.terrain.specs.Neighbours.{height_of}
 
 pub is_blocked_past_blocks-requires-clause-tops : goal.is_blocked_past_blocks-requires-clause-tops
 is_blocked_past_blocks-requires-clause-tops c =

@@ -1,6 +1,6 @@
 use Rattle.std.proofs.Common.{◌≡◌, ◌*◌, ◌<◌, ℤ, length, None, Some, slice_index_or}
-use Rattle.ascii_grid.specs.Neighbours.{height_at}
-use Rattle.ascii_grid.specs.declared.place.Place.{Place}
+use Rattle.terrain.specs.Neighbours.{height_at}
+use Rattle.terrain.specs.declared.place.Place.{Place}
 use Rattle.sight.specs.Blocks.{blocks_in, block_of, IsTopOf}
 use Rattle.sight.proofs.tops.block_tops.Given as goal
 

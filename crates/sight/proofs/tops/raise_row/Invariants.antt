@@ -1,5 +1,5 @@
 use Rattle.std.proofs.Common.{◌≡◌, ℕ, ◌<◌, ℤ, None, Some, slice_index_or}
-use Rattle.ascii_grid.specs.Neighbours.{height_at}
+use Rattle.terrain.specs.Neighbours.{height_at}
 use Rattle.sight.specs.Blocks.{block_of, IsTopOf}
 use Rattle.sight.proofs.tops.raise_row.Given as goal
 

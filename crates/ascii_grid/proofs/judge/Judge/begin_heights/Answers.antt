@@ -1,7 +1,7 @@
 use Rattle.std.proofs.Common.{ap, refl, sym, ◌∙◌, inl, inr, unwrap_or}
 use Rattle.std.specs.Prelude.{codes}
 use Rattle.std.proofs.lemmas.Result.{err_from_is_err_and}
-use Rattle.ascii_grid.specs.Decimal.{scaled_value}
+use Rattle.terrain.specs.Decimal.{scaled_value}
 use Rattle.ascii_grid.specs.Slots.{missing_of, wanted_of}
 use Rattle.ascii_grid.specs.declared.header.Header.{Header}
 use Rattle.ascii_grid.proofs.Judging.{missing_of-slots_of, wanted_of-slots_of, nodata-slots_of}

@@ -1,5 +1,5 @@
 use Rattle.std.proofs.Common.{ap, sym, ◌∙◌}
-use Rattle.ascii_grid.specs.Decimal.{scaled_value}
+use Rattle.terrain.specs.Decimal.{scaled_value}
 use Rattle.ascii_grid.specs.Meaning.{meaning_of}
 use Rattle.ascii_grid.proofs.judge.Judge.judge_height.Goals as goal
 

@@ -1,7 +1,7 @@
 use Rattle.std.proofs.Common.{ℕ, List, MatchResult, rules, sym, ap, subst, ◌∙◌}
 use Rattle.std.specs.Prelude.{IfErr, IfOk}
 use Rattle.std.proofs.lemmas.Result.{MatchResult-weaker, err_from_is_err_and}
-use Rattle.ascii_grid.specs.Words.{words}
+use Rattle.terrain.specs.Words.{words}
 use Rattle.ascii_grid.specs.GridText.{IsGridText, IsRefusal}
 use Rattle.ascii_grid.specs.Reader.{HasTaken}
 use Rattle.ascii_grid.proofs.Feeding.{answered, whole_refusal, reading, end_refused, judged_none, finished}

@@ -1,7 +1,7 @@
 use Rattle.std.proofs.Common.{inl, inr, subst, arith}
 use Rattle.std.specs.Prelude.{Contains}
-use Rattle.ascii_grid.proofs.Places.{cases_place}
-use Rattle.ascii_grid.specs.declared.place.Place.{Place}
+use Rattle.terrain.proofs.Places.{cases_place}
+use Rattle.terrain.specs.declared.place.Place.{Place}
 use Rattle.std.proofs.lemmas.Map.Made.{Contains-tail}
 use Rattle.tiles.proofs.Members.{Contains-from_rim_places}
 use Rattle.drain.specs.Entering.{IsLeastAround, lent_terrain}

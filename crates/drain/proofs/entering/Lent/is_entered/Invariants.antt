@@ -1,6 +1,6 @@
 use Rattle.std.proofs.Common.{◌⊎◌}
 use Rattle.std.specs.Prelude.{Contains}
-use Rattle.ascii_grid.specs.declared.place.Place.{Place}
+use Rattle.terrain.specs.declared.place.Place.{Place}
 use Rattle.tiles.specs.Cutting.{rim_places}
 use Rattle.drain.specs.Entering.{IsLeastAround, lent_terrain}
 use Rattle.drain.proofs.entering.Lent.is_entered.Given as goal

@@ -1,6 +1,6 @@
 use Rattle.std.proofs.Common.{◌≡◌, ℕ, ◌+◌, ◌<◌, ◌≤◌, Some}
-use Rattle.ascii_grid.specs.Neighbours.{entry_at}
-use Rattle.ascii_grid.specs.declared.place.Place.{Place}
+use Rattle.terrain.specs.Neighbours.{entry_at}
+use Rattle.terrain.specs.declared.place.Place.{Place}
 use Rattle.drain.proofs.entering.Lent.is_lessened.Given as goal
 
 abbrev pub invariant-loop-next : goal.invariant-loop-next

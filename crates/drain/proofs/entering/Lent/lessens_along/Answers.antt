@@ -1,7 +1,7 @@
 use Rattle.std.proofs.Common.{◌≡◌, ◌+◌, ◌-◌, inl, inr, sym, ap, ◌∙◌, arith, rules, to_z-of_z, w32, SFits}
 use Rattle.std.proofs.lemmas.Bool.{cases_eq}
-use Rattle.ascii_grid.proofs.Places.{make_place, same_place}
-use Rattle.ascii_grid.specs.Neighbours.{entry_at}
+use Rattle.terrain.proofs.Places.{make_place, same_place}
+use Rattle.terrain.specs.Neighbours.{entry_at}
 use Rattle.drain.proofs.entering.Lent.lessens_along.Goals as goal
 
 pub loop-col-preserved : goal.loop-col-preserved

@@ -1,5 +1,5 @@
 use Rattle.std.proofs.Common.{◌↔◌, ◌<◌, ◌*◌, ◌/◌, ◌%◌, arith, sym, subst}
-use Rattle.ascii_grid.specs.declared.place.Place.{Place}
+use Rattle.terrain.specs.declared.place.Place.{Place}
 use Rattle.tiles.specs.Cutting.{Cutting, tile_count, AreBounds, IsInTile, IsInBounds}
 use Rattle.tiles.proofs.Cut.{make_bounds, tile_top, tile_left, bounds_from, inside_from_value, places_from_value}
 use Rattle.tiles.proofs.tiling.Tiling.bounds.Goals as goal

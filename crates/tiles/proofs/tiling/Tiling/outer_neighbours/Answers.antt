@@ -1,8 +1,8 @@
 use Rattle.std.proofs.Common.{◌++◌, Option, filter, take, sym, ap, ◌∙◌, arith}
 use Rattle.std.specs.List.{filter_map}
 use Rattle.std.specs.Option.{option_to_list}
-use Rattle.ascii_grid.specs.declared.place.Place.{Place}
-use Rattle.ascii_grid.specs.Ways.{ways_from}
+use Rattle.terrain.specs.declared.place.Place.{Place}
+use Rattle.terrain.specs.Ways.{ways_from}
 use Rattle.tiles.specs.Cutting.{is_in_other_tile}
 use Rattle.tiles.proofs.Outer.{filter_ways_more}
 use Rattle.tiles.proofs.tiling.Tiling.outer_neighbours.Goals as goal

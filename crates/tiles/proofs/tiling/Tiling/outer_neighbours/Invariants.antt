@@ -1,6 +1,6 @@
 use Rattle.std.proofs.Common.{◌≡◌, ◌≤◌, ◌<◌, filter, length, take}
 use Rattle.std.specs.List.{filter_map}
-use Rattle.ascii_grid.specs.Ways.{ways_from}
+use Rattle.terrain.specs.Ways.{ways_from}
 use Rattle.tiles.specs.Cutting.{longest_axis, is_in_other_tile, tile_of_place}
 use Rattle.tiles.proofs.tiling.Tiling.outer_neighbours.Given as goal
 

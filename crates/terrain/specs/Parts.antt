@@ -1,7 +1,7 @@
 -- A grid's parts as contracts see them. Source: this project.
 use Rattle.std.specs.Prelude.{ℕ, ℤ, List, Option}
-use Rattle.ascii_grid.specs.Raster.{Raster}
-use Rattle.ascii_grid.specs.declared.grid.GridHeader.{GridHeader}
+use Rattle.terrain.specs.Raster.{Raster}
+use Rattle.terrain.specs.declared.grid.GridHeader.{GridHeader}
 
 -- The grid of a header, a scale and cells.
 abbrev pub raster_with : GridHeader → ℕ → List (Option ℤ) → Raster

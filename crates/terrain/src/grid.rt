@@ -1,7 +1,7 @@
 // A grid, seen as its size, its header words, its scale and its cells.
 ghost use Rattle.std.specs.Prelude.{◌≡◌, ◌↔◌, ◌+◌, ◌*◌, ◌<◌, ◌≤◌, ℕ, length, All, Any, Contains, IfSome, IfOk, IsTrue, Some};
-ghost use Rattle.ascii_grid.specs.Raster.{Raster, IsLawful};
-ghost use Rattle.ascii_grid.specs.Neighbours.{IsInside, height_at, IsEdge, HasGapAround};
+ghost use Rattle.terrain.specs.Raster.{Raster, IsLawful};
+ghost use Rattle.terrain.specs.Neighbours.{IsInside, height_at, IsEdge, HasGapAround};
 
 use crate::place::{Height, Place};
 use crate::word::Word;
@@ -38,13 +38,13 @@ impl Anchor {
 
 /// What the header of a grid text gives.
 #[derive(Drop)]
-pub(crate) struct GridHeader {
-    pub(crate) cols: u32,
-    pub(crate) rows: u32,
-    pub(crate) xll: Anchor,
-    pub(crate) yll: Anchor,
-    pub(crate) cellsize: Word,
-    pub(crate) nodata: Word,
+pub struct GridHeader {
+    pub cols: u32,
+    pub rows: u32,
+    pub xll: Anchor,
+    pub yll: Anchor,
+    pub cellsize: Word,
+    pub nodata: Word,
 }
 
 impl GridHeader {
@@ -71,8 +71,8 @@ pub struct Grid {
 }
 
 impl Model for Grid {
-    ghost use Rattle.ascii_grid.specs.Raster.{Raster, IsLawful};
-    ghost use Rattle.ascii_grid.specs.Parts.{raster_with};
+    ghost use Rattle.terrain.specs.Raster.{Raster, IsLawful};
+    ghost use Rattle.terrain.specs.Parts.{raster_with};
 
     ghost Value = { Raster };
 
@@ -82,10 +82,10 @@ impl Model for Grid {
 }
 
 impl Grid {
-    ghost use Rattle.ascii_grid.specs.Parts.{raster_with};
+    ghost use Rattle.terrain.specs.Parts.{raster_with};
 
     /// The grid of a header, a scale and the cells in row order.
-    pub(crate) fn from_parts(header: GridHeader, scale: u8, cells: Vec<Option<Height>>) -> Self
+    pub fn from_parts(header: GridHeader, scale: u8, cells: Vec<Option<Height>>) -> Self
         requires { IsLawful (raster_with header scale cells.items) }
         ensures { result ≡ raster_with header scale cells.items }
     {

@@ -1,7 +1,7 @@
 -- Which cells are next to each other, and which drain off the data.
 use Rattle.std.specs.Prelude.{◌≡◌, ◌≢◌, ℕ, ◌+◌, ◌*◌, ◌<◌, ◌≤◌, ℤ, pos, List, Option, None, IsSome, IsNone, ◌&&◌, nat_lt, if◌then◌else◌, slice_index_or, unwrap_or, ◌⊎◌}
-use Rattle.ascii_grid.specs.Raster.{Terrain}
-use Rattle.ascii_grid.specs.declared.place.Place.{Place}
+use Rattle.terrain.specs.Raster.{Terrain}
+use Rattle.terrain.specs.declared.place.Place.{Place}
 
 -- The place is one of the grid.
 abbrev pub IsInside : Terrain → Place → Type 0

@@ -1,0 +1,2 @@
+-- places of a grid
+pub mod Places

@@ -1,0 +1,6 @@
+pub mod Words
+pub mod Decimal
+pub mod Raster
+pub mod Neighbours
+pub mod Ways
+pub mod Parts
