@@ -1,19 +1,16 @@
 # `make` proves and builds the program and maps an example; `make test` passes all tests.
-PROGRAM := crates/relief_program/out/relief_program
-
 .PHONY: all relief test bench recipes picture pictures install uninstall
 
 all: relief
 	./relief fill < examples/valley.asc
 
 relief:
-	tools/prove
-	cp $(PROGRAM) relief
+	tools/build
 
 # `rt ci` proves all from nothing and leaves the program that it has built.
 test:
 	rt ci
-	cp $(PROGRAM) relief
+	cp crates/relief_program/out/relief_program relief
 	tests/run ./relief
 	tests/refusals ./relief crates/*/out/*_tests
 
