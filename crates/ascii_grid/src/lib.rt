@@ -24,4 +24,5 @@ pub use input::{InputFault, read_grid};
 pub use page::Page;
 pub use read::read_text;
 pub use reader::GridReader;
+pub use terrain::{Grid, HIGHEST, Height, LOWEST, NoMemory, Place};
 pub use write::{write_counts, write_heights};
