@@ -1,5 +1,5 @@
 # `make` proves and builds the program and maps an example; `make test` passes all tests.
-.PHONY: all relief test bench recipes picture pictures install uninstall
+.PHONY: all relief test bench recipes picture pictures install uninstall package
 
 all: relief
 	./relief fill < examples/valley.asc
@@ -28,13 +28,15 @@ recipes:
 	$(BUILT)
 	tools/recipes
 
-# Draws a map: make picture IN=filled.asc OUT=filled.png KIND=heights OVER=dem.asc
+# Draws a map: make picture IN=view.asc OUT=seen.png KIND=view OVER=dem.asc MARK="100,3 40,90" UNIT=m SIDE=1024
 OUT = $(basename $(IN)).png
 picture:
-	@test -n "$(IN)" || { echo "make picture IN=grid.asc [OUT=grid.png] [KIND=heights|flow|accumulate|basins|view] [OVER=terrain.asc]" >&2; exit 1; }
-	tools/picture "$(IN)" "$(OUT)" $(if $(KIND),--as $(KIND)) $(if $(OVER),--over "$(OVER)")
+	@test -n "$(IN)" || { echo "make picture IN=grid.asc [OUT=grid.png] [KIND=heights|flow|accumulate|basins|view]" \
+	  "[OVER=terrain.asc] [MARK=\"ROW,COL ..\"] [UNIT=m] [SIDE=1024]" >&2; exit 1; }
+	@tools/picture "$(IN)" "$(OUT)" $(if $(KIND),--as "$(KIND)") $(if $(OVER),--over "$(OVER)") \
+	  $(if $(MARK),--mark $(MARK)) $(if $(UNIT),--unit "$(UNIT)") $(if $(SIDE),--side "$(SIDE)")
 
-# The pictures in docs/, of the maps of examples/hills.asc.
+# The pictures in docs/, of the maps of examples/coast.asc.
 pictures:
 	$(BUILT)
 	tools/example_pictures
@@ -42,12 +44,22 @@ pictures:
 PREFIX ?= /usr/local
 BIN = $(DESTDIR)$(PREFIX)/bin
 MAN = $(DESTDIR)$(PREFIX)/share/man/man1
+DOC = $(DESTDIR)$(PREFIX)/share/doc/relief
+PAGES = recipes.md rules.md grid-text.md
 
 install:
 	$(BUILT)
-	install -d "$(BIN)" "$(MAN)"
+	install -d "$(BIN)" "$(MAN)" "$(DOC)/docs"
 	install -m 755 relief "$(BIN)/relief"
 	install -m 644 docs/relief.1 "$(MAN)/relief.1"
+	install -m 644 README.md CHANGELOG.md "$(DOC)"
+	install -m 644 $(PAGES:%=docs/%) "$(DOC)/docs"
 
 uninstall:
-	rm -f "$(BIN)/relief" "$(MAN)/relief.1"
+	rm -f "$(BIN)/relief" "$(MAN)/relief.1" "$(DOC)/README.md" "$(DOC)/CHANGELOG.md" $(PAGES:%="$(DOC)/docs/%")
+	rmdir "$(DOC)/docs" "$(DOC)" 2> /dev/null || true
+
+# A Debian package of the built program, below out/.
+package:
+	$(BUILT)
+	tools/package

@@ -1,6 +1,6 @@
 // The words of the command line, and the lines and numbers of faults.
 use ascii_grid::{Counted, GridFault, Key};
-use relief::{Map, Options, RunFault, parse_observer, run_words, tell};
+use relief::{Map, Options, RunFault, VERSION, parse_observer, run_words, tell};
 use sight::{Observer, SightFault};
 use std::alloc::Global;
 use std::sync::Wait;
@@ -83,8 +83,12 @@ fn help_of_each_map(rt: HostRuntime) -> Result<(), Fail> {
         assert!(rt; told.errors.is_empty(), "{name}");
         let help = String::from_utf8_lossy(rt.alloc(), told.out.as_slice())?;
         for part in [
+            "\nUsage: relief ",
+            " < dem.asc > map.asc\n",
+            "\nExample",
             "\nIn: ",
             "\nOut: ",
+            "\nUnits: ",
             "[default: 256]",
             "\nLimits: ",
             "\nExit status:",
@@ -92,6 +96,16 @@ fn help_of_each_map(rt: HostRuntime) -> Result<(), Fail> {
             assert!(rt; help.contains(part), "{name}: {part}");
         }
     }
+    Ok(())
+}
+
+#[test]
+fn version_alone(rt: HostRuntime) -> Result<(), Fail> {
+    let told = told_by(&rt, rt.alloc(), ["relief", "--version"].as_slice());
+    assert_eq!(rt; told.status, 0);
+    assert!(rt; told.errors.is_empty());
+    let line = format!(in rt.alloc(); "relief {VERSION}\n")?;
+    assert_eq!(rt; told.out.as_slice(), line.as_bytes());
     Ok(())
 }
 

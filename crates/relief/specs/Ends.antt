@@ -38,8 +38,8 @@ pub record IsRefusalText (words : List Text) (text : List ℕ) : Type 0 where
   pub bad_observer : (place : ℕ) → HasBadObserver words place →
       text ≡ codes "relief: bad observer word " ++ decimal place ++ codes "\n"
 
--- Nothing was read: the words ask for help, which goes to the writer, or they are refused, which goes to the errors, or
--- there was no memory to read them.
+-- Nothing was read: the words ask for help or the version, which goes to the writer, or they are refused, which goes to the
+-- errors, or there was no memory to read them.
 pub record EndsUnread {R W E : Type 0} (contents : W → Option (List ℕ)) (lines : E → Option (List ℕ)) (words : List Text) (reader left : Device R) (writer grown : Device W) (errors told : Device E) (status : ℕ) : Type 0 where
   pub unread : left ≡ reader
   pub reason : (AskForHelp words × (status ≡ 0) × ((text : List ℕ) × EndsLine text × Tells contents writer grown text) × (told ≡ errors))

@@ -45,7 +45,7 @@ fn show<W: Write>(text: &str, out: &mut Counted<W>, status: u8) -> u8
     status
 }
 
-/// Shows what `clap` says of the words: its help on the writer, and refusals on the errors.
+/// Shows what `clap` says of the words: help and the version on the writer, and refusals on the errors.
 fn show_error<W: Write, E: Write>(
     alloc: Global,
     error: &Error,
@@ -71,10 +71,10 @@ fn show_error<W: Write, E: Write>(
 
 /// Runs the program on its words, its name first, and answers the status with which it ends: 0 done,
 /// 1 words refused, 2 the text, the tiles or an observer refused, 3 no memory or no thread, 4 a device
-/// failed. An empty list of words is taken for the name alone. Help goes to `writer`. What is refused is
-/// told on `errors`: a fault in its line, the first bad observer word by its place, and of other words
-/// what `clap` says. Where no fault or refusal is told `errors` stays as it is. That a device does not take
-/// what is told changes no status.
+/// failed. An empty list of words is taken for the name alone. Help and the version go to `writer`. What is
+/// refused is told on `errors`: a fault in its line, the first bad observer word by its place, and of other
+/// words what `clap` says. Where no fault or refusal is told `errors` stays as it is. That a device does not
+/// take what is told changes no status.
 pub fn run_words<H: Threads + Wait + Sync, R: Read, W: Write, E: Write>(
     rt: &H,
     alloc: Global,

@@ -12,7 +12,7 @@ use Rattle.clap.specs.declared.error.kind.ErrorKind.TheVariants as kind
 use Rattle.clap.proofs.OnLiterals.{clap_on_literals}
 use Rattle.sight.specs.declared.observer.Observer.{Observer}
 use Rattle.request.specs.CommandLine.{AreCommand, AreRefused, AskForHelp, HasNumber, HasObservers, HasOptions, IsHelp, Names, WishFor, program_app}
-use Rattle.request.specs.Laws.{AreSame, FillAlone, HelpOfView, NoSideOfZero, ViewWithRadius}
+use Rattle.request.specs.Laws.{AreSame, FillAlone, HelpOfView, NoSideOfZero, VersionAlone, ViewWithRadius}
 use Rattle.request.specs.ObserverWord.{observer_of}
 use Rattle.request.specs.Wish.{Wish}
 use Rattle.request.specs.declared.map.Map.{Map}
@@ -196,3 +196,10 @@ help_fault = refl
 
 pub help_of_view : HelpOfView
 help_of_view = subst (Any IsHelp) (sym help_fault) (0, kind.DisplayHelp, omega arith, refl, inl refl)
+
+version_fault : fault_of program_app (codes "relief" ∷ codes "--version" ∷ []) ≡ kind.DisplayVersion ∷ []
+unfolding clap_on_literals
+version_fault = refl
+
+pub version_alone : VersionAlone
+version_alone = (version_fault, subst (Any IsHelp) (sym version_fault) (0, kind.DisplayVersion, omega arith, refl, inr refl))

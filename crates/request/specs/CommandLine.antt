@@ -65,10 +65,10 @@ view_shape = record (new_shape (codes "view")) {
   rules = tile_rule ∷ workers_rule ∷ scale_rule ∷ target_rule ∷ radius_rule ∷ observers_rule ∷ [];
 }
 
--- The program, which wants one of its subcommands.
+-- The program, which has a version and wants one of its subcommands.
 abbrev pub program_app : App
 program_app = record {
-  top = record (new_shape (codes "relief")) { disable_help_subcommand = true; subcommand_required = true; is_leaf = false };
+  top = record (new_shape (codes "relief")) { disable_help_subcommand = true; has_version = true; subcommand_required = true; is_leaf = false };
   subs = map_shape (codes "fill") ∷ map_shape (codes "flow") ∷ map_shape (codes "accumulate")
       ∷ map_shape (codes "basins") ∷ view_shape ∷ [];
 }

@@ -9,7 +9,7 @@ use Rattle.clap.specs.declared.builder.command.Command.TheViews.{out-Command}
 -- The program without those subcommands that it has.
 abbrev pub bare_app : App
 bare_app = record {
-  top = record (new_shape (codes "relief")) { disable_help_subcommand = true; subcommand_required = true };
+  top = record (new_shape (codes "relief")) { disable_help_subcommand = true; has_version = true; subcommand_required = true };
   subs = [];
 }
 

@@ -2,8 +2,10 @@
 use Rattle.std.specs.Prelude.{◌≡◌, List, [], ◌∷◌, Vec, codes}
 use Rattle.std.specs.declared.alloc.Global.{Global}
 use Rattle.clap.specs.Words.{Text}
+use Rattle.clap.specs.Faults.{fault_of}
+use Rattle.clap.specs.declared.error.kind.ErrorKind.TheVariants.{DisplayVersion}
 use Rattle.sight.specs.declared.observer.Observer.{Observer}
-use Rattle.request.specs.CommandLine.{AreRefused, AskForHelp, WishFor}
+use Rattle.request.specs.CommandLine.{AreRefused, AskForHelp, WishFor, program_app}
 use Rattle.request.specs.Wish.{Wish}
 use Rattle.request.specs.declared.map.Map.{Map}
 use Rattle.request.specs.declared.map.Map.TheVariants.{Fill, View}
@@ -40,3 +42,8 @@ NoSideOfZero = AreRefused (codes "relief" ∷ codes "fill" ∷ codes "--tile" �
 -- `relief view --help` asks for help.
 abbrev pub HelpOfView : Type 0
 HelpOfView = AskForHelp (codes "relief" ∷ codes "view" ∷ codes "--help" ∷ [])
+
+-- `relief --version` asks for the version, which is shown as help is.
+abbrev pub VersionAlone : Type 0
+VersionAlone = (fault_of program_app (codes "relief" ∷ codes "--version" ∷ []) ≡ DisplayVersion ∷ [])
+    × AskForHelp (codes "relief" ∷ codes "--version" ∷ [])

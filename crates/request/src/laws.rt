@@ -1,5 +1,5 @@
 // Facts of the definitions alone.
-ghost use Rattle.request.specs.Laws.{FillAlone, HelpOfView, NoSideOfZero, ViewWithRadius, WishesAreAccepted, WishesAreOne};
+ghost use Rattle.request.specs.Laws.{FillAlone, HelpOfView, NoSideOfZero, VersionAlone, ViewWithRadius, WishesAreAccepted, WishesAreOne};
 
 /// Words have at most one wish.
 pub fn wishes_are_one()
@@ -29,4 +29,9 @@ pub fn no_side_of_zero()
 /// `relief view --help` asks for help.
 pub fn help_of_view()
     ensures { HelpOfView }
+{}
+
+/// `relief --version` asks for the version, which is shown as help is.
+pub fn version_alone()
+    ensures { VersionAlone }
 {}

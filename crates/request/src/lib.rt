@@ -13,3 +13,6 @@ pub use map::Map;
 pub use observer_word::parse_observer;
 pub use options::Options;
 pub use words::{WordsFault, parse};
+
+/// The program's version, with which CHANGELOG.md begins.
+pub const VERSION: &str = "0.1.0";

@@ -4,17 +4,20 @@ ghost use Rattle.clap.specs.Words.{app_of};
 ghost use Rattle.request.specs.CommandLine.{map_shape, number_rule, observers_rule, program_app, radius_rule, scale_rule, target_rule, tile_rule, view_shape, workers_rule};
 ghost use Rattle.request.specs.Commands.{IsArg, IsLeaf, bare_app};
 
+use crate::VERSION;
 use crate::help::{
-    ABOUT, ACCUMULATE, BASINS, COMMON, EXAMPLES, FILL, FLOW, MapHelp, VIEW, VIEW_WORDS,
+    ABOUT, ACCUMULATE, BASINS, COMMON, EXAMPLES_AND_FAULTS, FILL, FLOW, MapHelp, USAGE, VIEW,
+    VIEW_WORDS,
 };
 use clap::builder::ValueParser;
 use clap::{Arg, ArgAction, Command, value_parser};
 use std::alloc::{AllocError, Global};
 
-/// An option that takes a number.
+/// An option that takes a number, which help calls `value`.
 fn number_option<'a>(
     alloc: Global,
     name: &'a str,
+    value: &'a str,
     numbers: ValueParser<'a>,
     default: &'a str,
     help: &'a str,
@@ -23,7 +26,7 @@ fn number_option<'a>(
 {
     Arg::new(alloc, name)
         .long(name)
-        .value_name("N")
+        .value_name(value)
         .value_parser(numbers)
         .default_value(default)
         .help(help)
@@ -34,7 +37,7 @@ fn tile_option<'a>(alloc: Global) -> Arg<'a>
 {
     let help = "Side of the tiles in cells, 1 to 4096; the map is the same for each";
     let sides = value_parser!(u32).range(1..=4096);
-    number_option(alloc, "tile", sides, "256", help)
+    number_option(alloc, "tile", "N", sides, "256", help)
 }
 
 fn workers_option<'a>(alloc: Global) -> Arg<'a>
@@ -42,29 +45,29 @@ fn workers_option<'a>(alloc: Global) -> Arg<'a>
 {
     let help = "Number of threads, 1 to 64; the map is the same for each";
     let counts = value_parser!(u32).range(1..=64);
-    number_option(alloc, "workers", counts, "1", help)
+    number_option(alloc, "workers", "N", counts, "1", help)
 }
 
 fn scale_option<'a>(alloc: Global) -> Arg<'a>
     ensures { IsArg scale_rule result }
 {
-    let help = "Decimals of the heights, 0 to 6: heights are whole numbers of 10^-D";
+    let help = "Decimals of the heights, 0 to 6: heights are whole numbers of units of 10^-D";
     let scales = value_parser!(u8).range(0..=6);
-    number_option(alloc, "scale", scales, "0", help)
+    number_option(alloc, "scale", "D", scales, "0", help)
 }
 
 fn target_option<'a>(alloc: Global) -> Arg<'a>
     ensures { IsArg target_rule result }
 {
     let help = "Height of the targets above the ground in units of 10^-D, 0 to 1000000";
-    number_option(alloc, "target", value_parser!(u32), "0", help)
+    number_option(alloc, "target", "N", value_parser!(u32), "0", help)
 }
 
 fn radius_option<'a>(alloc: Global) -> Arg<'a>
     ensures { IsArg radius_rule result }
 {
     let help = "How far is seen, in cells, 1 to 8192";
-    number_option(alloc, "radius", value_parser!(u32), "8192", help)
+    number_option(alloc, "radius", "N", value_parser!(u32), "8192", help)
 }
 
 /// The words after `view`.
@@ -86,6 +89,7 @@ fn map_command<'a>(alloc: Global, name: &'a str, help: MapHelp) -> Result<Comman
     Command::new(alloc, name)
         .about(help.about)
         .long_about(help.details)
+        .override_usage(help.usage)
         .after_help(COMMON)
         .arg(tile_option(alloc))?
         .arg(workers_option(alloc))?
@@ -107,7 +111,9 @@ fn bare_program<'a>(alloc: Global) -> Command<'a>
 {
     Command::new(alloc, "relief")
         .about(ABOUT)
-        .after_help(EXAMPLES)
+        .version(VERSION)
+        .override_usage(USAGE)
+        .after_help(EXAMPLES_AND_FAULTS)
         .subcommand_required(true)
         .disable_help_subcommand(true)
 }

@@ -20,7 +20,7 @@ static NAME_ALONE: [&str; 1] = ["relief"];
 /// Why the words name no map.
 #[derive(Drop)]
 pub enum WordsFault {
-    /// `clap` refuses them, or was asked for its help.
+    /// `clap` refuses them, or was asked for its help or the version.
     Clap(Error),
     /// The observer word at this place from 0 is none.
     BadObserver(usize),
