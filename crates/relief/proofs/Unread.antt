@@ -37,7 +37,7 @@ module _ {R W E : Type 0} (contents : W → Option (List ℕ)) (lines : E → Op
   shown e (inl help) (inl want) = absurd (help_is_no_want (kind_of e) help.0 want)
   shown e (inl help) (inr among) = record {
     unread = refl;
-    reason = inl (any_among IsHelp (kind_of e) _ help.0 among, help.1);
+    reason = inl (any_among IsHelp (kind_of e) _ help.0 among, help.1, help.2, help.3);
   }
   shown e (inr (inl refused)) (inl want) = absurd (refused.0.1 want)
   shown e (inr (inl refused)) (inr among) = record {

@@ -6,7 +6,6 @@ use Rattle.clap.specs.Words.{Text}
 use Rattle.clap.specs.declared.error.kind.ErrorKind.{ErrorKind}
 use Rattle.clap.specs.declared.error.kind.ErrorKind.TheVariants.{OutOfMemory}
 use Rattle.relief.specs.declared.fault.RunFault.{RunFault}
-use Rattle.relief.specs.declared.fault.RunFault.TheVariants.{Write}
 use Rattle.relief.specs.FaultLine.{fault_line, fault_status}
 use Rattle.request.specs.Wish.{Wish}
 use Rattle.relief.specs.Runs.{Runs}
@@ -32,14 +31,6 @@ pub record EndsRun {R W E : Type 0} (remaining : R → Option (List ℕ)) (conte
 abbrev pub EndsLine : List ℕ → Type 0
 EndsLine text = (front : List ℕ) × (text ≡ front ++ codes "\n")
 
--- A text was shown, and the status is 0; or the writer failed behind a front part of it, which is told and ends as a failed
--- map does.
-abbrev pub Shows : {W E : Type 0} → (W → Option (List ℕ)) → (E → Option (List ℕ)) → Device W → Device W → Device E → Device E → ℕ → Type 0
-Shows contents lines writer grown errors told status =
-    (text : List ℕ) × EndsLine text × ((written : Result ⊤ WriteFailed) × Writes contents writer grown text written × MatchResult written
-    (λ _. (status ≡ 0) × (told ≡ errors))
-    (λ _. (status ≡ fault_status Write) × Tells lines errors told (fault_line Write)))
-
 -- What is told of refused words: of a bad observer word its place, and of others what `clap` has to say.
 pub record IsRefusalText (words : List Text) (text : List ℕ) : Type 0 where
   pub refused : AreRefused words
@@ -51,13 +42,13 @@ pub record IsRefusalText (words : List Text) (text : List ℕ) : Type 0 where
 -- errors, or there was no memory to read them.
 pub record EndsUnread {R W E : Type 0} (contents : W → Option (List ℕ)) (lines : E → Option (List ℕ)) (words : List Text) (reader left : Device R) (writer grown : Device W) (errors told : Device E) (status : ℕ) : Type 0 where
   pub unread : left ≡ reader
-  pub reason : (AskForHelp words × Shows contents lines writer grown errors told status)
+  pub reason : (AskForHelp words × (status ≡ 0) × ((text : List ℕ) × EndsLine text × Tells contents writer grown text) × (told ≡ errors))
       ⊎ (((text : List ℕ) × IsRefusalText words text × Tells lines errors told text) × (status ≡ 1) × (grown ≡ writer))
       ⊎ ((status ≡ 3) × (grown ≡ writer) × (told ≡ errors))
 
 -- What an error of `clap` of this kind leaves of the devices, and its status. Only a private function's contract speaks of it.
 abbrev pub EndsShowing : {W E : Type 0} → (W → Option (List ℕ)) → (E → Option (List ℕ)) → ErrorKind → Device W → Device W → Device E → Device E → ℕ → Type 0
 EndsShowing contents lines kind writer grown errors told status =
-    (IsHelp kind × Shows contents lines writer grown errors told status)
+    (IsHelp kind × (status ≡ 0) × ((text : List ℕ) × EndsLine text × Tells contents writer grown text) × (told ≡ errors))
     ⊎ ((¬ IsHelp kind × (kind ≢ OutOfMemory)) × ((text : List ℕ) × EndsLine text × Tells lines errors told text) × (status ≡ 1) × (grown ≡ writer))
     ⊎ ((status ≡ 3) × (grown ≡ writer) × (told ≡ errors))

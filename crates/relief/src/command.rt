@@ -3,7 +3,7 @@ ghost use Rattle.std.specs.Prelude.{◌≡◌, ◌≤◌, ◌<◌, ◌-◌, ◌^
 ghost use Rattle.ascii_grid.specs.Device.{Writes};
 ghost use Rattle.clap.specs.Words.{kind_of};
 ghost use Rattle.request.specs.CommandLine.{WishFor, words_given};
-ghost use Rattle.relief.specs.Ends.{EndsLine, EndsRun, EndsShowing, EndsUnread, Shows, Tells};
+ghost use Rattle.relief.specs.Ends.{EndsLine, EndsRun, EndsShowing, EndsUnread, Tells};
 ghost use Rattle.relief.specs.FaultLine.{fault_line, fault_status};
 ghost use Rattle.request.specs.Wish.{Wish};
 
@@ -45,23 +45,6 @@ fn show<W: Write>(text: &str, out: &mut Counted<W>, status: u8) -> u8
     status
 }
 
-/// Shows help or the version, and answers the status: 0, or that of a failed writer, which is told.
-fn show_asked<W: Write, E: Write>(
-    text: &str,
-    writer: &mut Counted<W>,
-    errors: &mut Counted<E>,
-) -> u8
-    requires writer { writer.old.failures < 2 ^ 64 - 1 }
-    requires errors { errors.old.failures < 2 ^ 64 - 1 }
-    ensures small { result ≤ 4 }
-    ensures shows { Shows W.contents E.contents writer.old writer.new errors.old errors.new result }
-{
-    match write_line(text, writer) {
-        Ok(_) => DONE,
-        Err(_) => end_with(&RunFault::Write, errors),
-    }
-}
-
 /// Shows what `clap` says of the words: help and the version on the writer, and refusals on the errors.
 fn show_error<W: Write, E: Write>(
     alloc: Global,
@@ -71,8 +54,7 @@ fn show_error<W: Write, E: Write>(
 ) -> u8
     requires writer { writer.old.failures < 2 ^ 64 - 1 }
     requires errors { errors.old.failures < 2 ^ 64 - 1 }
-    ensures small { result ≤ 4 }
-    ensures shows { EndsShowing W.contents E.contents (kind_of error.now) writer.old writer.new errors.old errors.new result }
+    ensures { EndsShowing W.contents E.contents (kind_of error.now) writer.old writer.new errors.old errors.new result }
 {
     if error.kind() == ErrorKind::OutOfMemory {
         return NO_MEMORY;
@@ -83,7 +65,7 @@ fn show_error<W: Write, E: Write>(
     if error.use_stderr() {
         show(text.as_str(), errors, WORDS_REFUSED)
     } else {
-        show_asked(text.as_str(), writer, errors)
+        show(text.as_str(), writer, DONE)
     }
 }
 
@@ -91,8 +73,8 @@ fn show_error<W: Write, E: Write>(
 /// 1 words refused, 2 the text, the tiles or an observer refused, 3 no memory or no thread, 4 a device
 /// failed. An empty list of words is taken for the name alone. Help and the version go to `writer`. What is
 /// refused is told on `errors`: a fault in its line, the first bad observer word by its place, and of other
-/// words what `clap` says. Where no fault or refusal is told `errors` stays as it is. That `errors`
-/// does not take what is told changes no status.
+/// words what `clap` says. Where no fault or refusal is told `errors` stays as it is. That a device does not
+/// take what is told changes no status.
 pub fn run_words<H: Threads + Wait + Sync, R: Read, W: Write, E: Write>(
     rt: &H,
     alloc: Global,

@@ -8,7 +8,7 @@ use Rattle.relief.proofs.command.run_words.Goals as goal
 pub returns-in-Err-Clap-clause-ends : goal.returns-in-Err-Clap-clause-ends
 returns-in-Err-Clap-clause-ends g c =
     let words : List Text = words_given (map (λ w. w.now) c.args.words.now) in
-    inl (shown g.W.Write.contents g.E.Write.contents words c.args.reader.now c.args.writer.now _ c.args.errors.now _ _ c.in-Err-Clap.error c.show_error.ensures.shows
+    inl (shown g.W.Write.contents g.E.Write.contents words c.args.reader.now c.args.writer.now _ c.args.errors.now _ _ c.in-Err-Clap.error c.show_error.ensures
     (subst (IsFaultOf words) c.in-Err-Clap.field-0-is c.in-Err-Clap.ensures.fault))
 
 pub returns-in-Err-BadObserver-clause-ends : goal.returns-in-Err-BadObserver-clause-ends

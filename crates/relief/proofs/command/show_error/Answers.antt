@@ -4,8 +4,8 @@ use Rattle.clap.specs.declared.error.kind.ErrorKind.TheVariants.{DisplayHelp, Di
 use Rattle.request.specs.CommandLine.{IsHelp}
 use Rattle.relief.proofs.command.show_error.Goals as goal
 
-pub returns-then-use_stderr-clause-shows : goal.returns-then-use_stderr-clause-shows
-returns-then-use_stderr-clause-shows g c =
+pub returns-then-use_stderr : goal.returns-then-use_stderr
+returns-then-use_stderr g c =
     let kind = kind_of c.args.error.now in
     let other : (kind ≢ DisplayHelp) × (kind ≢ DisplayVersion) = search rules in
     let some : kind ≢ OutOfMemory = search rules in
@@ -16,7 +16,7 @@ returns-then-use_stderr-clause-shows g c =
       refl,
     ))
 
-pub returns-clause-shows : goal.returns-clause-shows
-returns-clause-shows g c =
+pub returns : goal.returns
+returns g c =
     let help : IsHelp (kind_of c.args.error.now) = search rules in
-    inl (help, c.show_asked.ensures.shows)
+    inl (help, c.show-else-use_stderr.ensures.status, c.show-else-use_stderr.ensures.line, refl)
