@@ -9,9 +9,9 @@ use Rattle.terrain.specs.declared.place.Place.{Place}
 use Rattle.tiles.specs.declared.bounds.Bounds.{Bounds}
 use Rattle.tiles.specs.Cutting.{Cutting, View, AreBounds, bounds_of, is_within, is_shown, cell_shown, row_shown}
 use Rattle.drain.specs.Window.{IsInner, IsHandedOut, known, count_on, spot_index, area_of, IsSpot, Shows, IsShown, AreShownBelow, AreShown}
-use Rattle.drain.specs.TileLists.{AreMadeBelow}
+use Rattle.tile_maps.specs.Maps.{AreMadeBelow}
 use Rattle.drain.proofs.Spreading.{spot_below}
-use Rattle.drain.proofs.TileLists.{made_next}
+use Rattle.tile_maps.proofs.TileLists.{made_next}
 use Rattle.tiles.proofs.TileRows.{row_has}
 
 -- what stands in an option, if it is one

@@ -11,8 +11,8 @@ use Rattle.tiles.specs.declared.bounds.Bounds.{Bounds}
 use Rattle.tiles.specs.Cutting.{Cutting, IsCutting, IsInBounds, IsInTile, bounds_of, tile_entry, View, terrain_of}
 use Rattle.tiles.proofs.Cut.{in_bounds}
 use Rattle.drain.specs.Rounds.{IsLent, IsWalked, AreWalked, IsOneAbove, IsRound}
-use Rattle.drain.specs.TileLists.{AreMadeBelow, IsMadeTile}
-use Rattle.drain.proofs.TileLists.{made_tile}
+use Rattle.tile_maps.specs.Maps.{AreMadeBelow, IsMadeTile}
+use Rattle.tile_maps.proofs.TileLists.{made_tile}
 use Rattle.drain.specs.Window.{no_count, AreCounts, spot_index, area_of, IsSpot, IsInner, Shows, IsShown, AreShown, level_on, count_on, IsSpread, same, moved, IsSettled, known, known_counts, IsHandedOut, AreLent}
 use Rattle.drain.proofs.Spreading.{spot_below, spread_not_above, spread_counts, spread-length, spot_from_inner}
 use Rattle.drain.proofs.Counted.{height_is}

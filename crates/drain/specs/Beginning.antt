@@ -1,8 +1,10 @@
 -- The counts that the rounds begin with.
-use Rattle.std.specs.Prelude.{◌≡◌, ◌⊎◌, ℕ, ◌-◌, ◌*◌, ℤ, ◌<ℤ◌, List, length, Option, None, Some}
+use Rattle.std.specs.Prelude.{◌≡◌, ◌⊎◌, ◌≤◌, ℕ, ◌+◌, ◌-◌, ◌*◌, ℤ, ◌<ℤ◌, List, length, Option, None, Some}
 use Rattle.terrain.specs.Neighbours.{IsInside, entry_at}
 use Rattle.terrain.specs.Raster.{Terrain}
 use Rattle.terrain.specs.declared.place.Place.{Place}
+use Rattle.tiles.specs.declared.bounds.Bounds.{Bounds}
+use Rattle.tiles.specs.Cutting.{longest_axis}
 use Rattle.drain.specs.Steps.{DrainsAtOnce}
 
 -- The cell has no data or is lower.
@@ -27,3 +29,10 @@ HasZeros t counts = (p : Place) → DrainsAtOnce t p → entry_at t.cols t.rows 
 -- The place lies in the first or last row or column.
 abbrev pub IsOutermost : Terrain → Place → Type 0
 IsOutermost t p = (p.row ≡ 0) ⊎ (p.col ≡ 0) ⊎ (p.row ≡ t.rows - 1) ⊎ (p.col ≡ t.cols - 1)
+
+-- The bounds lie in the terrain, which is within the limits.
+pub record IsPartOf (t : Terrain) (b : Bounds) : Type 0 where
+  pub few_rows : t.rows ≤ longest_axis
+  pub few_cols : t.cols ≤ longest_axis
+  pub rows : b.top + b.rows ≤ t.rows
+  pub cols : b.left + b.cols ≤ t.cols

@@ -4,7 +4,6 @@ pub mod Directions
 pub mod Rounds
 pub mod Entering
 pub mod Window
-pub mod TileLists
 pub mod Stages
 pub mod Beginning
 pub mod Fitting

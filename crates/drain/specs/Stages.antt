@@ -1,7 +1,7 @@
 -- What the jobs after the rounds work on.
 use Rattle.std.specs.Prelude.{ℕ, List, Option}
 use Rattle.terrain.specs.Raster.{Terrain, IsTerrain}
-use Rattle.tiles.specs.Cutting.{Cutting, IsCutting, Cuts}
+use Rattle.tiles.specs.Cutting.{Cutting, Cuts}
 use Rattle.drain.specs.Steps.{AreSteps}
 
 -- A terrain with its steps, and how it is cut.
@@ -13,5 +13,4 @@ pub record SteppedTerrain : Type 0 where
 pub record IsSteppedTerrain (t : SteppedTerrain) : Type 0 where
   pub lawful : IsTerrain t.terrain
   pub steps : AreSteps t.terrain t.steps
-  pub cutting : IsCutting t.cutting
   pub cuts : Cuts t.cutting t.terrain

@@ -3,8 +3,8 @@ ghost use Rattle.std.specs.Prelude.{◌≡◌, ℕ, ◌+◌, ◌*◌, ◌<◌, �
 ghost use Rattle.std.specs.Bool.{MatchBool};
 ghost use Rattle.terrain.specs.Neighbours.{IsInside, height_at};
 ghost use Rattle.drain.specs.Steps.{DrainsAtOnce};
-ghost use Rattle.drain.specs.Beginning.{IsGapOrLower, IsOutermost, IsBegun};
-ghost use Rattle.drain.specs.TileLists.{IsPartOf, AreMadeBelow};
+ghost use Rattle.drain.specs.Beginning.{IsGapOrLower, IsOutermost, IsBegun, IsPartOf};
+ghost use Rattle.tile_maps.specs.Maps.{AreMadeBelow};
 
 use crate::amid::cells_around;
 use std::alloc::{AllocError, Global};

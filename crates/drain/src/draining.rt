@@ -1,5 +1,5 @@
 // Steps and directions of a filled grid, by tiles and workers.
-ghost use Rattle.std.specs.Prelude.{◌≡◌, ◌≢◌, ◌<◌, ◌≤◌, Err, IfOk, IfErr};
+ghost use Rattle.std.specs.Prelude.{◌≡◌, IfOk};
 ghost use Rattle.tiles.specs.Cutting.{Cuts, terrain_of};
 ghost use Rattle.tile_jobs.specs.Fault.{RefusesWorkers};
 ghost use Rattle.drain.specs.Beginning.{HasZeros};
@@ -9,7 +9,7 @@ ghost use Rattle.drain.specs.Directions.{AreDirections};
 ghost use Rattle.drainage.specs.Drained.{AllFlowEnds, directed_of};
 
 use crate::rounds::settle;
-use crate::stages::{begin, codes};
+use crate::stages::{Beginning, Codes};
 use crate::{looking, window};
 use drainage::{Directions, Filled};
 use std::alloc::{AllocError, Global};
@@ -17,6 +17,7 @@ use std::sync::Wait;
 use std::thread::Threads;
 use terrain::{Height, NoMemory};
 use tile_jobs::{Gate, JobFault};
+use tile_maps::Crew;
 use tiles::{TileView, Tiling};
 
 /// One round over one tile, as far as it can go.
@@ -60,27 +61,22 @@ pub fn flat_steps(
 
 /// The steps of each cell of a filled grid.
 fn counted<R: Threads + Wait + Sync, G: Gate + Sync>(
-    rt: &R,
-    alloc: Global,
+    crew: &Crew<'_, R, G>,
     filled: &Filled,
     tiling: &Tiling,
-    workers: u32,
-    gate: &G,
 ) -> Result<Vec<Option<u32>>, JobFault>
-    requires cuts { Cuts tiling.now filled.now.terrain }
-    requires workers { (1 ≤ workers) × (workers ≤ 64) }
+    requires { Cuts tiling.now filled.now.terrain }
     ensures steps { IfOk result (λ s. AreSteps filled.now.terrain s.items) }
-    ensures fault { IfErr result (λ e. e ≢ JobFault.BadWorkers) }
-    ensures no_thread { result ≡ Err JobFault.NoThread → 1 < workers }
+    ensures workers { RefusesWorkers crew.now.workers result }
 {
     let grid = filled.grid();
     let cells = grid.cells();
-    let begun = begin(rt, alloc, grid, tiling, workers, gate)?;
-    settle(rt, alloc, tiling, cells, begun, workers, gate)
+    let begun = crew.made(Beginning { grid, tiling })?;
+    settle(crew, tiling, cells, begun)
 }
 
-/// The direction of each cell of a filled grid. The tiles' rounds are jobs of the workers; a bad number of
-/// workers is refused first. Nothing is handed out where memory or a thread is refused.
+/// The direction of each cell of a filled grid. The tiles' rounds are jobs of the workers. Nothing is handed out
+/// where memory or a thread is refused.
 pub fn directions<R: Threads + Wait + Sync, G: Gate + Sync>(
     rt: &R,
     alloc: Global,
@@ -96,13 +92,20 @@ pub fn directions<R: Threads + Wait + Sync, G: Gate + Sync>(
     ensures ends { IfOk result (λ d. AllFlowEnds (directed_of d)) }
     ensures workers { RefusesWorkers workers result }
 {
-    if workers == 0 || workers > 64 {
-        return Err(JobFault::BadWorkers);
-    }
+    let crew = Crew {
+        rt,
+        alloc,
+        workers,
+        gate,
+    };
     let grid = filled.grid();
     let cells = grid.cells();
-    let steps = counted(rt, alloc, filled, tiling, workers, gate)?;
-    let codes = codes(rt, alloc, grid, &steps, tiling, workers, gate)?;
+    let steps = counted(&crew, filled, tiling)?;
+    let codes = crew.made(Codes {
+        grid,
+        steps: &steps,
+        tiling,
+    })?;
     let Ok(own) = grid.with_cells(alloc, cells) else {
         return Err(JobFault::Memory);
     };

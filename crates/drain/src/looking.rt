@@ -3,7 +3,7 @@ ghost use Rattle.std.specs.Prelude.{◌≡◌, ℕ, ◌+◌, ◌-◌, ◌*◌, �
 ghost use Rattle.terrain.specs.declared.place.Place.{Place};
 ghost use Rattle.tiles.specs.Cutting.{IsCutting, AreBounds, bounds_of, terrain_of};
 ghost use Rattle.drain.specs.Window.{area_of, spot_index, IsSpot, IsShown, AreShown, AreShownBelow, AreLent, known, IsHandedOut};
-ghost use Rattle.drain.specs.TileLists.{AreMadeBelow};
+ghost use Rattle.tile_maps.specs.Maps.{AreMadeBelow};
 
 use crate::window::Ground;
 use std::alloc::{AllocError, Global};

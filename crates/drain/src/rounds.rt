@@ -3,6 +3,7 @@ ghost use Rattle.std.specs.Prelude.{◌≡◌, ◌≢◌, ℕ, ◌+◌, ◌*◌,
 ghost use Rattle.std.specs.Bool.{MatchBool, OnFalse};
 ghost use Rattle.terrain.specs.declared.place.Place.{Place};
 ghost use Rattle.terrain.specs.Neighbours.{entry_at};
+ghost use Rattle.tile_jobs.specs.Fault.{RefusesWorkers};
 ghost use Rattle.tiles.specs.Cutting.{IsCutting, AreBounds, IsWithin, IsInTile, tile_count, tile_entry, cell_count, tile_of_place};
 ghost use Rattle.drain.specs.Entering.{lent_terrain};
 ghost use Rattle.drain.specs.Rounds.{told, told_by, is_changed, IsSized, AreSized, IsBoundsOf, IsUntouched, AreAnswered, IsRounding, IsNext, AreCounting, AreSettled};
@@ -17,7 +18,8 @@ use std::marker::Model;
 use std::sync::Wait;
 use std::thread::Threads;
 use terrain::{Height, Place};
-use tile_jobs::{Gate, JobFault, Work, run_jobs};
+use tile_jobs::{Gate, JobFault, Work};
+use tile_maps::Crew;
 use tiles::{Bounds, TileView, Tiling};
 
 /// What the jobs of a round work on: filled heights, the counts so far, and what is left to do of each tile.
@@ -288,18 +290,13 @@ fn next_due(alloc: Global, tiling: &Tiling, outs: &[TileAnswer]) -> Result<Vec<D
 
 /// What the jobs of a round answer, in tile order.
 fn answers<R: Threads + Wait + Sync, G: Gate + Sync>(
-    rt: &R,
-    alloc: Global,
+    crew: &Crew<'_, R, G>,
     round: &Round<'_>,
-    workers: u32,
-    gate: &G,
 ) -> Result<Vec<TileAnswer>, JobFault>
-    requires { (1 ≤ workers) × (workers ≤ 64) }
     ensures answered { IfOk result (λ outs. AreAnswered round.now outs.items) }
-    ensures fault { IfErr result (λ e. e ≢ JobFault.BadWorkers) }
-    ensures no_thread { result ≡ Err JobFault.NoThread → 1 < workers }
+    ensures workers { RefusesWorkers crew.now.workers result }
 {
-    run_jobs(rt, alloc, round, round.tiling.tiles(), workers, gate)
+    crew.run(round, round.tiling.tiles())
 }
 
 /// The counts of a grid on their way, and what the next round has to do.
@@ -317,17 +314,12 @@ impl<'a> Counting<'a> {
     /// One round over all tiles; whether it changed something.
     fn one_round<R: Threads + Wait + Sync, G: Gate + Sync>(
         &mut self,
-        rt: &R,
-        alloc: Global,
-        workers: u32,
-        gate: &G,
+        crew: &Crew<'_, R, G>,
     ) -> Result<bool, JobFault>
-        requires workers { (1 ≤ workers) × (workers ≤ 64) }
-        requires rounding { IsRounding (rounding_of self.old) }
+        requires { IsRounding (rounding_of self.old) }
         ensures next { IfOk result (λ more. IsNext (rounding_of self.old) (rounding_of self.new) more) }
         ensures ground { (self.new.tiling ≡ self.old.tiling) × (self.new.levels ≡ self.old.levels) }
-        ensures fault { IfErr result (λ e. e ≢ JobFault.BadWorkers) }
-        ensures no_thread { result ≡ Err JobFault.NoThread → 1 < workers }
+        ensures workers { RefusesWorkers crew.now.workers result }
     {
         let outs = {
             let round = Round {
@@ -336,12 +328,12 @@ impl<'a> Counting<'a> {
                 steps: &self.steps,
                 due: &self.due,
             };
-            answers(rt, alloc, &round, workers, gate)?
+            answers(crew, &round)?
         };
         if !any_changed(&outs) {
             return Ok(false);
         }
-        self.due = next_due(alloc, self.tiling, &outs)?;
+        self.due = next_due(crew.alloc, self.tiling, &outs)?;
         put_all(self.tiling, &mut self.steps, &outs);
         Ok(true)
     }
@@ -349,28 +341,24 @@ impl<'a> Counting<'a> {
 
 /// Rounds over all tiles, each from the counts that the one before put back, until one changes nothing.
 pub(crate) fn settle<R: Threads + Wait + Sync, G: Gate + Sync>(
-    rt: &R,
-    alloc: Global,
+    crew: &Crew<'_, R, G>,
     tiling: &Tiling,
     levels: &[Option<Height>],
     steps: Vec<Option<u32>>,
-    workers: u32,
-    gate: &G,
 ) -> Result<Vec<Option<u32>>, JobFault>
-    requires workers { (1 ≤ workers) × (workers ≤ 64) }
     requires size { length levels.now ≡ tiling.now.cols * tiling.now.rows }
     requires counting { AreCounting (lent_terrain tiling.now levels.now) steps.items }
+    requires workers { (1 ≤ crew.now.workers) × (crew.now.workers ≤ 64) }
     ensures settled { IfOk result (λ s. AreSettled tiling.now (lent_terrain tiling.now levels.now) steps.items s.items) }
-    ensures fault { IfErr result (λ e. e ≢ JobFault.BadWorkers) }
-    ensures no_thread { result ≡ Err JobFault.NoThread → 1 < workers }
+    ensures workers { RefusesWorkers crew.now.workers result }
 {
-    let due = vec![in alloc; Due::Search; tiling.tiles() as usize]?;
+    let due = vec![in crew.alloc; Due::Search; tiling.tiles() as usize]?;
     let mut counting = Counting {
         tiling,
         levels,
         steps,
         due,
     };
-    while counting.one_round(rt, alloc, workers, gate)? {}
+    while counting.one_round(crew)? {}
     Ok(counting.steps)
 }

@@ -6,9 +6,9 @@ ghost use Rattle.terrain.specs.Neighbours.{IsInside, height_at, entry_at};
 ghost use Rattle.terrain.specs.Ways.{place_of, before};
 ghost use Rattle.drain.specs.Steps.{AreSteps};
 ghost use Rattle.drain.specs.Directions.{IsCodeAt};
-ghost use Rattle.drain.specs.Beginning.{IsOutermost};
+ghost use Rattle.drain.specs.Beginning.{IsOutermost, IsPartOf};
 ghost use Rattle.drain.specs.Fitting.{IsAround};
-ghost use Rattle.drain.specs.TileLists.{IsPartOf, AreMadeBelow};
+ghost use Rattle.tile_maps.specs.Maps.{AreMadeBelow};
 
 use crate::amid::code_amid;
 use crate::around::Around;

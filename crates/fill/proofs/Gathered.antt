@@ -162,6 +162,7 @@ fit_of t c floods h are = record {
   bounds = λ tile f e. (are.each tile f e).bounds;
   labels = λ tile f e. fit_labels t c tile f h (omega (arith, are.count, slice_get_within floods tile f e)) are.cuts (are.each tile f e);
   sizes = λ tile f e. (are.each tile f e).labels_size ∙ ap (λ (b : Bounds). b.rows * b.cols) (sym (are.each tile f e).bounds);
+  levels = λ tile f e. (are.each tile f e).levels_size ∙ ap (λ (b : Bounds). b.rows * b.cols) (sym (are.each tile f e).bounds);
 }
 
 -- marks and levels

@@ -1,5 +1,5 @@
 -- A raised tile has its filled heights, and the tiles together give the filled grid.
-use Rattle.std.proofs.Common.{◌≡◌, ℕ, ◌+◌, ◌-◌, ◌*◌, ◌<◌, ◌≤◌, ◌⊎◌, inl, inr, ℤ, ◌≤ℤ◌, List, length, get_or, map, Option, None, Some, is_some, ◌∙◌, sym, ap, subst, refl, arith, zero, suc, ◌/◌, ◌%◌, IfSome, Vec, Global, mul_comm}
+use Rattle.std.proofs.Common.{◌≡◌, ℕ, ◌+◌, ◌-◌, ◌*◌, ◌<◌, ◌≤◌, ◌⊎◌, inl, inr, ℤ, ◌≤ℤ◌, List, length, get_or, map, Option, None, Some, is_some, ◌∙◌, sym, ap, subst, refl, arith, zero, suc, ◌/◌, ◌%◌, IfSome, MatchOption, mul_comm}
 use Rattle.std.specs.Prelude.{slice_get, option_and_then}
 use Rattle.std.specs.Int.{int_max}
 use Rattle.std.proofs.Math.Nat.{zero-div, zero-mod, zero-mul}
@@ -12,12 +12,14 @@ use Rattle.terrain.specs.declared.place.Place.{Place}
 use Rattle.terrain.proofs.Places.{entry-inside, inside_from_entry, make_place}
 use Rattle.drainage.proofs.Heights.{height_below_crest, filled_height_stands}
 use Rattle.tiles.specs.declared.bounds.Bounds.{Bounds}
-use Rattle.tiles.specs.Cutting.{Cutting, IsCutting, IsInBounds, across, bounds_of, tile_count, tile_entry, tile_of_place, Cuts, View, terrain_of, IsPutBack}
+use Rattle.tiles.specs.Cutting.{Cutting, IsCutting, IsInBounds, IsWithin, across, bounds_of, cell_count, tile_count, tile_entry, tile_of_place, Cuts, View, terrain_of}
 use Rattle.tiles.proofs.Cut.{in_bounds, in_tile, tile_of_place_below}
 use Rattle.tiles.proofs.TileOrder.{tile_entry-in}
 use Rattle.fill.specs.TileFlood.{Flood, IsTileSource, level_in, label_in, IsTileFlood}
-use Rattle.fill.specs.Spills.{AreFloods, level_among, AreSpillLevels, spill_of, greater_of, raised_by, AreGreater, IsRaised, RaisesToFilled, HasNoInnerCell, IsFilledTile, AreFilledTiles}
+use Rattle.fill.specs.Spills.{AreFloods, level_among, AreSpillLevels, spill_of, greater_of, raised_by, AreGreater, IsRaised, raised_among, RaisesToFilled, HasNoInnerCell, IsFilledTile}
+use Rattle.fill.specs.Gathering.{Fit}
 use Rattle.fill.specs.Labels.{labels_by, IsTable}
+use Rattle.fill.proofs.Gathered.{fit_of}
 use Rattle.fill.proofs.Steps.{seen, match_of, none_some}
 use Rattle.fill.proofs.TileWindows.{entry_in-inside, entry_index, data_within, rim_of_tile, rim_of_window}
 use Rattle.fill.proofs.Windows.{cases_rim, data_is, height_is}
@@ -26,7 +28,8 @@ use Rattle.std.specs.List.{Contains, All}
 use Rattle.std.proofs.lemmas.Option.{MatchOption-at_some, MatchOption-at_none, get_or_from_slice_get, slice_get_within, same_Some}
 use Rattle.std.proofs.lemmas.List.Elements.{All-from_get_or}
 use Rattle.std.proofs.lemmas.Nat.{div-add-mod', mod_below, div_below}
-use Rattle.tiles.proofs.PutBack.{entry_at-put_back}
+use Rattle.tile_maps.specs.Maps.{IsMadeTile, IsMadeMap}
+use Rattle.tile_maps.proofs.Whole.{map_of_size}
 use Rattle.drainage.proofs.FilledTwice.{filled_twice}
 
 -- The first cells have the greater of their levels and their labels'.
@@ -54,28 +57,52 @@ raised_from c levels o l level n label a b e = rw (a, b) (ap (option_and_then (�
 raised_from_none : (c : Cutting) (levels : List (Option ℤ)) (o : Option ℤ) (l : Option Place) → o ≡ None → raised_by c levels o l ≡ None
 raised_from_none c levels o l a = rw a refl
 
-pub filled_tile : (t : Terrain) (c : Cutting) (floods : List Flood) (tile : ℕ) (f : Flood) (levels raised : List (Option ℤ)) → IsCutting c → AreFloods t c floods → slice_get floods tile ≡ Some f → RaisesToFilled t c floods levels → IsRaised c f levels raised → IsFilledTile t c tile raised
-filled_tile t c floods tile f levels raised h are there raises is =
-    let flood = are.each tile f there in
+-- a raised tile has what its cells are raised to
+pub raised_tile : (c : Cutting) (floods : List Flood) (tile : ℕ) (f : Flood) (levels raised : List (Option ℤ)) → IsCutting c → Fit c floods → slice_get floods tile ≡ Some f → IsRaised c f levels raised →
+    IsMadeTile c tile (λ p height. height ≡ raised_among c floods levels p) raised
+raised_tile c floods tile f levels raised h fit there is =
+    let bounds = fit.bounds tile f there in
+    let area : length f.levels ≡ cell_count c tile = fit.levels tile f there ∙ ap (λ (x : Bounds). x.rows * x.cols) bounds in
     record {
-      size = is.size ∙ flood.levels_size;
+      size = is.size ∙ area;
       each = λ p i.
           let b = bounds_of c tile in
           let inside = in_bounds c tile p h i in
           let k = (p.row - b.top) * b.cols + (p.col - b.left) in
-          let low : k < length f.levels = omega (arith, entry_index b p inside, flood.levels_size) in
-          let entry : tile_entry c tile raised p ≡ raised_by c levels (get_or f.levels k None) (get_or f.labels k None) = tile_entry-in c tile raised p i ∙ is.each k low in
-          let held : IsInBounds f.bounds p = subst (λ x. IsInBounds x p) (sym flood.bounds) inside in
-          let level : level_in f p ≡ get_or f.levels k None = entry_in-inside f.bounds f.levels p held ∙ ap (λ (x : Bounds). get_or f.levels ((p.row - x.top) * x.cols + (p.col - x.left)) None) flood.bounds in
-          let label : label_in f p ≡ get_or f.labels k None = entry_in-inside f.bounds f.labels p held ∙ ap (λ (x : Bounds). get_or f.labels ((p.row - x.top) * x.cols + (p.col - x.left)) None) flood.bounds in
+          let low : k < length f.levels = omega (arith, entry_index b p inside, area) in
+          let held : IsInBounds f.bounds p = subst (λ x. IsInBounds x p) (sym bounds) inside in
+          let level : level_in f p ≡ get_or f.levels k None = entry_in-inside f.bounds f.levels p held ∙ ap (λ (x : Bounds). get_or f.levels ((p.row - x.top) * x.cols + (p.col - x.left)) None) bounds in
+          let label : label_in f p ≡ get_or f.labels k None = entry_in-inside f.bounds f.labels p held ∙ ap (λ (x : Bounds). get_or f.labels ((p.row - x.top) * x.cols + (p.col - x.left)) None) bounds in
           let at : slice_get floods (tile_of_place c p) ≡ Some f = ap (slice_get floods) i.1 ∙ there in
           let own_level = among_is (λ g. level_in g p) floods (tile_of_place c p) f at ∙ level in
           let own_label = among_is (λ g. label_in g p) floods (tile_of_place c p) f at ∙ label in
-          match_of (height_at t p) _ _
-          (λ none. entry ∙ raised_from_none c levels _ _ (sym level ∙ (MatchOption-at_none _ _ none (flood.each p i)).0))
-          (λ h some.
-          let filled = raises p (ap is_some some) in
-          (filled.0, entry ∙ sym (ap (λ z. raised_by c levels z (get_or f.labels k None)) own_level) ∙ sym (ap (raised_by c levels (level_among c floods p)) own_label) ∙ filled.1, filled.2));
+          tile_entry-in c tile raised p i ∙ is.each k low
+          ∙ sym (ap (λ z. raised_by c levels z (get_or f.labels k None)) own_level) ∙ sym (ap (raised_by c levels (level_among c floods p)) own_label);
+    }
+
+-- what levels that raise to filled heights raise a place to
+filled_at : (t : Terrain) (c : Cutting) (floods : List Flood) (levels : List (Option ℤ)) → AreFloods t c floods → RaisesToFilled t c floods levels → (p : Place) → IsWithin c p →
+    (entry : Option ℤ) → entry ≡ raised_among c floods levels p → MatchOption (height_at t p) (entry ≡ None) (λ _. (level : ℤ) × (entry ≡ Some level) × IsFilledHeight t p level)
+filled_at t c floods levels are raises p within entry e =
+    let tile = tile_of_place c p in
+    let f = list_there floods tile (omega (arith, are.count, tile_of_place_below c p are.lawful within)) in
+    match_of (height_at t p) _ _
+    (λ none. e ∙ raised_from_none c levels _ _ (among_is (λ g. level_in g p) floods tile f.0 f.1 ∙ (MatchOption-at_none _ _ none ((are.each tile f.0 f.1).each p (within, refl))).0))
+    (λ h some. let filled = raises p (ap is_some some) in (filled.0, e ∙ filled.1, filled.2))
+
+pub filled_tile : (t : Terrain) (c : Cutting) (floods : List Flood) (tile : ℕ) (f : Flood) (levels raised : List (Option ℤ)) → IsCutting c → AreFloods t c floods → slice_get floods tile ≡ Some f → RaisesToFilled t c floods levels → IsRaised c f levels raised → IsFilledTile t c tile raised
+filled_tile t c floods tile f levels raised h are there raises is =
+    let made = raised_tile c floods tile f levels raised h (fit_of t c floods h are) there is in
+    record { size = made.size; each = λ p i. filled_at t c floods levels are raises p i.0 (tile_entry c tile raised p) (made.each p i) }
+
+-- the whole grid, raised by such levels
+pub filled_map : (t : Terrain) (c : Cutting) (floods : List Flood) (levels whole : List (Option ℤ)) → AreFloods t c floods → RaisesToFilled t c floods levels →
+    IsMadeMap c (λ p height. height ≡ raised_among c floods levels p) whole → IsFilled t whole
+filled_map t c floods levels whole are raises made =
+    let all = map_of_size c t.cols t.rows (λ p height. height ≡ raised_among c floods levels p) whole are.cuts.0 are.cuts.1 made in
+    record {
+      size = all.0;
+      each = λ p inside. filled_at t c floods levels are raises p (omega (arith, inside, are.cuts), omega (arith, inside, are.cuts)) (entry_at t.cols t.rows whole p) (all.1 p inside);
     }
 
 -- the levels of the spill graph raise each cell to its filled height
@@ -162,28 +189,6 @@ floods_given t c outs h cuts count given = record {
   cuts = cuts;
   count = count;
   each = λ tile f e. subst (IsTileFlood t c tile) (get_or_from_slice_get outs tile f f e) (given tile f (omega (arith, count, slice_get_within outs tile f e)));
-}
-
-pub tiles_given : (t : Terrain) (c : Cutting) (outs : List (Vec (Option ℤ) Global)) → length outs ≡ tile_count c → ((j : ℕ) (d : Vec (Option ℤ) Global) → j < tile_count c → IsFilledTile t c j (get_or outs j d).items) → AreFilledTiles t c outs
-tiles_given t c outs count given = record {
-  count = count;
-  each = λ tile list e. subst (λ (v : Vec (Option ℤ) Global). IsFilledTile t c tile v.items) (get_or_from_slice_get outs tile list list e) (given tile list (omega (arith, count, slice_get_within outs tile list e)));
-}
-
--- what is put back has the filled heights
-pub filled_put_back : (t : Terrain) (c : Cutting) (lists : List (Vec (Option ℤ) Global)) (whole : List (Option ℤ)) → IsCutting c → Cuts c t → AreFilledTiles t c lists → IsPutBack c lists whole → IsFilled t whole
-filled_put_back t c lists whole h cuts are put = record {
-  size = put.size ∙ ap (λ n. n * c.rows) cuts.0 ∙ ap (λ n. t.cols * n) cuts.1;
-  each = λ p inside.
-      let within : (p.row < c.rows) × (p.col < c.cols) = (omega (arith, inside, cuts), omega (arith, inside, cuts)) in
-      let tile = tile_of_place c p in
-      let list = list_there lists tile (omega (arith, are.count, tile_of_place_below c p h within)) in
-      let entry : entry_at t.cols t.rows whole p ≡ tile_entry c tile list.0.items p =
-      ap (λ n. entry_at n t.rows whole p) (sym cuts.0) ∙ ap (λ n. entry_at c.cols n whole p) (sym cuts.1) ∙ entry_at-put_back c lists whole tile list.0 p put (within, refl) list.1 in
-      let here = (are.each tile list.0 list.1).each p (within, refl) in
-      match_of (height_at t p) _ _
-      (λ none. entry ∙ MatchOption-at_none _ _ none here)
-      (λ h some. let level = MatchOption-at_some _ _ h some here in (level.0, entry ∙ level.1, level.2));
 }
 
 -- each filled height is a height of the terrain

@@ -18,6 +18,7 @@ pub record Fit (c : Cutting) (floods : List Flood) : Type 0 where
   pub bounds : (tile : ℕ) (f : Flood) → slice_get floods tile ≡ Some f → f.bounds ≡ bounds_of c tile
   pub labels : (tile : ℕ) (f : Flood) → slice_get floods tile ≡ Some f → LabelsInside c f
   pub sizes : (tile : ℕ) (f : Flood) → slice_get floods tile ≡ Some f → length f.labels ≡ f.bounds.rows * f.bounds.cols
+  pub levels : (tile : ℕ) (f : Flood) → slice_get floods tile ≡ Some f → length f.levels ≡ f.bounds.rows * f.bounds.cols
 
 -- A cell's level with its label's number.
 abbrev pub mark_of : ℕ → Option ℤ → Option Place → Option Mark

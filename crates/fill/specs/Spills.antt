@@ -114,10 +114,14 @@ pub record IsRaised (c : Cutting) (f : Flood) (levels : List (Option ℤ)) (rais
 abbrev pub HasNoInnerCell : Cutting → Type 0
 HasNoInnerCell c = (p : Place) → IsWithin c p → is_on_rim c p ≡ true
 
+-- What the flood of its tile and these levels of the labels raise a cell to.
+abbrev pub raised_among : Cutting → List Flood → List (Option ℤ) → Place → Option ℤ
+raised_among c floods levels p = raised_by c levels (level_among c floods p) (label_among c floods p)
+
 -- Raised by these levels of the labels, each data cell has its filled height.
 abbrev pub RaisesToFilled : Terrain → Cutting → List Flood → List (Option ℤ) → Type 0
 RaisesToFilled t c floods levels = (p : Place) → IsDataCell t p → (height : ℤ)
-    × (raised_by c levels (level_among c floods p) (label_among c floods p) ≡ Some height) × IsFilledHeight t p height
+    × (raised_among c floods levels p ≡ Some height) × IsFilledHeight t p height
 
 -- The list has the filled heights of a tile's cells, in its row order.
 pub record IsFilledTile (t : Terrain) (c : Cutting) (tile : ℕ) (levels : List (Option ℤ)) : Type 0 where
@@ -125,8 +129,3 @@ pub record IsFilledTile (t : Terrain) (c : Cutting) (tile : ℕ) (levels : List 
   pub each : (p : Place) → IsInTile c tile p →
       MatchOption (height_at t p) (tile_entry c tile levels p ≡ None)
       (λ _. (level : ℤ) × (tile_entry c tile levels p ≡ Some level) × IsFilledHeight t p level)
-
--- The lists of all tiles, each with its filled heights.
-pub record AreFilledTiles (t : Terrain) (c : Cutting) (lists : List (Vec (Option ℤ) Global)) : Type 0 where
-  pub count : length lists ≡ tile_count c
-  pub each : (tile : ℕ) (list : Vec (Option ℤ) Global) → slice_get lists tile ≡ Some list → IsFilledTile t c tile list.items

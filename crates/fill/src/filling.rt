@@ -1,11 +1,11 @@
 // The filled heights of a grid, by tiles and workers.
-ghost use Rattle.std.specs.Prelude.{◌≡◌, ◌*◌, ◌<◌, ◌≤◌, length, ℕ, List, Some, slice_get, IfOk, IfErr, IsTrue, ◌↔◌};
+ghost use Rattle.std.specs.Prelude.{◌≡◌, ◌*◌, ◌<◌, ◌≤◌, length, List, IfOk, IfErr, IsTrue, ◌↔◌};
 ghost use Rattle.drainage.specs.Filled.{IsFilledGrid};
 ghost use Rattle.tiles.specs.Cutting.{Cuts, IsCutting};
 ghost use Rattle.terrain.specs.Raster.{Terrain};
-ghost use Rattle.fill.specs.Spills.{AreFloods, RaisesToFilled, HasNoInnerCell, AreFilledTiles};
+ghost use Rattle.fill.specs.Spills.{AreFloods, RaisesToFilled, HasNoInnerCell};
 ghost use Rattle.tile_jobs.specs.Fault.{RefusesWorkers};
-ghost use Rattle.fill.specs.TileFlood.{Flood, LabelsInside};
+ghost use Rattle.fill.specs.TileFlood.{Flood};
 ghost use Rattle.fill.specs.Gathering.{Fit};
 ghost use Rattle.fill.specs.Parts.{AreParts};
 
@@ -18,8 +18,9 @@ use drainage::Filled;
 use std::alloc::Global;
 use std::sync::Wait;
 use std::thread::Threads;
-use terrain::{Grid, Height};
-use tile_jobs::{Gate, JobFault, Work, run_jobs};
+use terrain::{Grid, Height, NoMemory};
+use tile_jobs::{Gate, JobFault, Work};
+use tile_maps::{Crew, TileMap};
 use tiles::{Bounds, Tiling};
 
 /// Floods each tile.
@@ -73,34 +74,34 @@ impl<'a> Work for PartTiles<'a> {
     }
 }
 
-/// Raises each tile.
+/// The filled heights, of the floods of all tiles and the levels of their labels.
 #[derive(Drop)]
-struct RaiseTiles<'a> {
+struct Raised<'a> {
     tiling: &'a Tiling,
-    floods: &'a [TileFlood],
-    levels: &'a [Option<Height>],
-    ghost size: { length levels.now ≡ tiling.now.cols * tiling.now.rows },
-    ghost labels: { (i : ℕ) (f : Flood) → slice_get floods.now i ≡ Some f → LabelsInside tiling.now f },
+    floods: Vec<TileFlood>,
+    levels: Vec<Option<Height>>,
+    ghost size: { length levels.items ≡ tiling.now.cols * tiling.now.rows },
+    ghost fit: { Fit tiling.now floods.items },
+    ghost lawful: { IsCutting tiling.now },
 }
 
-impl<'a> Work for RaiseTiles<'a> {
-    type Out = Vec<Option<Height>>;
+impl<'a> TileMap for Raised<'a> {
+    ghost use Rattle.std.specs.Prelude.{◌≡◌};
+    ghost use Rattle.fill.specs.Spills.{raised_among};
 
-    ghost use Rattle.std.specs.Prelude.{length};
-    ghost use Rattle.terrain.specs.Raster.{Terrain};
-    ghost use Rattle.fill.specs.Spills.{AreFloods, RaisesToFilled, IsFilledTile};
+    type Cell = Height;
 
-    ghost most = { λ w. length w.floods.now };
+    ghost cutting = { λ m. m.tiling.now };
 
-    ghost gives = { λ w job out. (t : Terrain) → AreFloods t w.tiling.now w.floods.now →
-        RaisesToFilled t w.tiling.now w.floods.now w.levels.now → IsFilledTile t w.tiling.now job out.items };
+    ghost has = { λ m p height. height ≡ raised_among m.tiling.now m.floods.items m.levels.items p };
 
-    fn run(&self, alloc: Global, job: u32) -> Result<Vec<Option<Height>>, JobFault> {
-        let flood = &self.floods[job as usize];
-        let Ok(raised) = raise(alloc, self.tiling, flood, self.levels) else {
-            return Err(JobFault::Memory);
-        };
-        Ok(raised)
+    fn tiling(&self) -> Tiling {
+        *self.tiling
+    }
+
+    fn tile(&self, alloc: Global, tile: u32) -> Result<Vec<Option<Height>>, NoMemory> {
+        let flood = &self.floods[tile as usize];
+        raise(alloc, self.tiling, flood, &self.levels)
     }
 }
 
@@ -135,30 +136,26 @@ fn has_no_inner_cell(tiling: &Tiling) -> bool
 /// The level of each label in the spill graph. Where each cell is its own label, the graph is the net of the grid's
 /// cells, and no joins are listed.
 fn label_levels<R: Threads + Wait + Sync, G: Gate + Sync>(
-    rt: &R,
-    alloc: Global,
+    crew: &Crew<'_, R, G>,
     grid: &Grid,
     tiling: &Tiling,
     floods: &[TileFlood],
-    workers: u32,
-    gate: &G,
 ) -> Result<Vec<Option<Height>>, JobFault>
     requires cuts { Cuts tiling.now grid.now.terrain }
     requires floods { AreFloods grid.now.terrain tiling.now floods.now }
-    requires workers { (0 < workers) × (workers ≤ 64) }
+    requires workers { (0 < crew.now.workers) × (crew.now.workers ≤ 64) }
     ensures levels { IfOk result (λ v. RaisesToFilled grid.now.terrain tiling.now floods.now v.items) }
     ensures size { IfOk result (λ v. length v.items ≡ tiling.now.cols * tiling.now.rows) }
-    ensures workers { RefusesWorkers workers result }
+    ensures workers { RefusesWorkers crew.now.workers result }
 {
     if has_no_inner_cell(tiling) {
-        let Ok(levels) = filled_heights(alloc, grid) else {
+        let Ok(levels) = filled_heights(crew.alloc, grid) else {
             return Err(JobFault::Memory);
         };
         return Ok(levels);
     }
-    let work = PartTiles { tiling, floods };
-    let parts = run_jobs(rt, alloc, &work, tiling.tiles(), workers, gate)?;
-    let levels = spill_levels(alloc, tiling, parts)?;
+    let parts = crew.run(&PartTiles { tiling, floods }, tiling.tiles())?;
+    let levels = spill_levels(crew.alloc, tiling, parts)?;
     Ok(levels)
 }
 
@@ -176,45 +173,19 @@ pub fn filled<R: Threads + Wait + Sync, G: Gate + Sync>(
     ensures filled { IfOk result (λ f. IsFilledGrid grid.now f) }
     ensures workers { RefusesWorkers workers result }
 {
-    let tiles = tiling.tiles();
-    let floods = run_jobs(
+    let crew = Crew {
         rt,
         alloc,
-        &FloodTiles { grid, tiling },
-        tiles,
         workers,
         gate,
-    )?;
-    let levels = label_levels(rt, alloc, grid, tiling, &floods, workers, gate)?;
-    let work = RaiseTiles {
+    };
+    let floods = crew.run(&FloodTiles { grid, tiling }, tiling.tiles())?;
+    let levels = label_levels(&crew, grid, tiling, &floods)?;
+    let cells = crew.made(Raised {
         tiling,
-        floods: &floods,
-        levels: &levels,
-    };
-    let raised = run_jobs(rt, alloc, &work, tiles, workers, gate)?;
-    drop(floods);
-    drop(levels);
-    let filled = put_back(alloc, grid, tiling, raised)?;
-    Ok(filled)
-}
-
-/// The filled grid, of the filled heights of its tiles.
-fn put_back(
-    alloc: Global,
-    grid: &Grid,
-    tiling: &Tiling,
-    raised: Vec<Vec<Option<Height>>>,
-) -> Result<Filled, JobFault>
-    requires cuts { Cuts tiling.now grid.now.terrain }
-    requires lawful { IsCutting tiling.now }
-    requires raised { AreFilledTiles grid.now.terrain tiling.now raised.items }
-    ensures filled { IfOk result (λ f. IsFilledGrid grid.now f) }
-    ensures fault { IfErr result (λ e. e ≡ JobFault.Memory) }
-{
-    let Ok(cells) = tiling.put_back(alloc, &raised) else {
-        return Err(JobFault::Memory);
-    };
-    drop(raised);
+        floods,
+        levels,
+    })?;
     let filled = grid.with_own_cells(cells);
     Ok(Filled::from_grid(filled))
 }

@@ -18,6 +18,5 @@ pub mod LowBlocks
 pub mod Faultless
 pub mod Refused
 -- the viewshed
-pub mod TileValues
 pub mod Whole
 pub mod Uniqueness

@@ -1,18 +1,19 @@
 // The viewshed of one tile.
-ghost use Rattle.std.specs.Prelude.{◌≡◌, ◌+◌, ◌-◌, ◌<◌, ◌≤◌, ◌++◌, map, count_by, OnOk, IfErr};
+ghost use Rattle.std.specs.Prelude.{◌≡◌, ◌+◌, ◌-◌, ◌*◌, ◌<◌, ◌≤◌, count_by, OnOk};
 ghost use Rattle.terrain.specs.Neighbours.{IsInside};
-ghost use Rattle.tiles.specs.Cutting.{Cuts};
+ghost use Rattle.tiles.specs.Cutting.{AreBounds, Cuts, IsCutting};
+ghost use Rattle.tile_maps.specs.Maps.{AreMadeBelow};
 ghost use Rattle.sight.specs.Sight.{is_seen};
 ghost use Rattle.std.proofs.Props.{props};
 ghost use Rattle.sight.specs.Blocks.{AreTops};
-ghost use Rattle.sight.specs.Viewed.{value_at, row_places, IsFaultless};
+ghost use Rattle.sight.specs.Viewed.{value_at, HasValue, IsFaultless};
 
 use crate::line::sees_past_blocks;
 use crate::observer::Observer;
-use std::alloc::{AllocError, AllocFailed, Global};
-use terrain::{Grid, Height, Place};
-use tile_jobs::{JobFault, Work};
-use tiles::Tiling;
+use std::alloc::{AllocError, Global};
+use terrain::{Grid, Height, NoMemory, Place};
+use tile_maps::TileMap;
+use tiles::{Bounds, Tiling};
 
 /// What is looked at, from where, and how the grid is cut.
 #[derive(Drop)]
@@ -65,47 +66,48 @@ impl<'a> Viewing<'a> {
         Some(self.count_at(place))
     }
 
-    /// Appends the values of a part of a row.
+    /// Appends the values of a row of a tile.
     fn push_row(
         &self,
+        bounds: Bounds,
         row: u32,
-        left: u32,
-        right: u32,
         values: &mut Vec<Option<u32>>,
     ) -> Result<(), AllocError>
-        requires row { row < self.now.grid.now.terrain.rows }
-        requires cols { (left ≤ right) × (right ≤ self.now.grid.now.terrain.cols) }
-        ensures { OnOk result (values.new.items ≡ values.old.items
-            ++ map (value_at self.now.grid.now.terrain self.now.observers.now
-            self.now.target_height self.now.radius)
-            (row_places row left (right - left))) }
+        requires lawful { IsCutting self.now.tiling.now }
+        requires inside { AreBounds self.now.tiling.now bounds }
+        requires row { (bounds.top ≤ row) × (row < bounds.top + bounds.rows) }
+        requires values { AreMadeBelow bounds
+            (HasValue self.now.grid.now.terrain self.now.observers.now self.now.target_height self.now.radius)
+            ((row - bounds.top) * bounds.cols) values.old.items }
+        ensures { OnOk result (AreMadeBelow bounds
+            (HasValue self.now.grid.now.terrain self.now.observers.now self.now.target_height self.now.radius)
+            ((row + 1 - bounds.top) * bounds.cols) values.new.items) }
     {
-        for col in left..right {
+        for col in bounds.left..bounds.left + bounds.cols {
             values.push(self.value_at(Place { row, col }))?;
         }
         Ok(())
     }
 }
 
-impl<'a> Work for Viewing<'a> {
-    ghost use Rattle.std.specs.Prelude.{◌≡◌, map};
-    ghost use Rattle.tiles.specs.Cutting.{tile_count, bounds_of};
-    ghost use Rattle.sight.specs.Viewed.{value_at, places_in};
+impl<'a> TileMap for Viewing<'a> {
+    ghost use Rattle.sight.specs.Viewed.{HasValue};
 
-    type Out = Vec<Option<u32>>;
+    type Cell = u32;
 
-    ghost most = { λ w. tile_count w.tiling.now };
+    ghost cutting = { λ m. m.tiling.now };
 
-    ghost gives = { λ w job out. out.items ≡ map
-        (value_at w.grid.now.terrain w.observers.now w.target_height w.radius)
-        (places_in (bounds_of w.tiling.now job)) };
+    ghost has = { λ m. HasValue m.grid.now.terrain m.observers.now m.target_height m.radius };
 
-    fn run(&self, alloc: Global, job: u32) -> Result<Vec<Option<u32>>, JobFault> {
-        let bounds = self.tiling.bounds(job);
-        let right = bounds.left + bounds.cols;
+    fn tiling(&self) -> Tiling {
+        *self.tiling
+    }
+
+    fn tile(&self, alloc: Global, tile: u32) -> Result<Vec<Option<u32>>, NoMemory> {
+        let bounds = self.tiling.bounds(tile);
         let mut values = Vec::with_capacity(alloc, bounds.rows as usize * bounds.cols as usize)?;
         for row in bounds.top..bounds.top + bounds.rows {
-            self.push_row(row, bounds.left, right, &mut values)?;
+            self.push_row(bounds, row, &mut values)?;
         }
         Ok(values)
     }

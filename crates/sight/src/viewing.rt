@@ -1,7 +1,6 @@
 // A viewshed, by tiles and workers.
 ghost use Rattle.std.specs.Prelude.{◌≡◌, IfOk};
 ghost use Rattle.tiles.specs.Cutting.{Cuts};
-ghost use Rattle.tile_jobs.specs.Fault.{RefusesWorkers};
 ghost use Rattle.sight.specs.Sight.{IsViewshed};
 ghost use Rattle.sight.specs.Refusals.{RefusesSight, observers_fault};
 
@@ -14,27 +13,9 @@ use std::alloc::Global;
 use std::sync::Wait;
 use std::thread::Threads;
 use terrain::Grid;
-use tile_jobs::{Gate, JobFault, MOST_WORKERS, run_jobs};
+use tile_jobs::{Gate, JobFault, MOST_WORKERS};
+use tile_maps::Crew;
 use tiles::Tiling;
-
-/// The values of all tiles, put back.
-fn viewed<R: Threads + Wait + Sync, G: Gate + Sync>(
-    rt: &R,
-    alloc: Global,
-    work: &Viewing,
-    workers: u32,
-    gate: &G,
-) -> Result<Vec<Option<u32>>, JobFault>
-    ensures values { IfOk result (λ v. IsViewshed work.now.grid.now.terrain work.now.observers.now
-        work.now.target_height work.now.radius v.items) }
-    ensures refusals { RefusesWorkers workers result }
-{
-    let lists = run_jobs(rt, alloc, work, work.tiling.tiles(), workers, gate)?;
-    let Ok(values) = work.tiling.put_back(alloc, &lists) else {
-        return Err(JobFault::Memory);
-    };
-    Ok(values)
-}
 
 /// How many entries of the list of observers see each cell, in row order, and None where there is
 /// no data. Each tile is one job, and `workers` threads share them.
@@ -66,13 +47,19 @@ pub fn viewshed<R: Threads + Wait + Sync, G: Gate + Sync>(
         return Err(SightFault::Jobs(JobFault::BadWorkers));
     }
     let tops = block_tops(alloc, grid).map_err(JobFault::from)?;
-    let work = Viewing {
+    let crew = Crew {
+        rt,
+        alloc,
+        workers,
+        gate,
+    };
+    let values = crew.made(Viewing {
         grid,
         tops: &tops,
         observers,
         target_height,
         radius,
         tiling,
-    };
-    Ok(viewed(rt, alloc, &work, workers, gate)?)
+    })?;
+    Ok(values)
 }

@@ -1,6 +1,6 @@
 use Rattle.std.proofs.Common.{◌+◌, ◌*◌}
 use Rattle.drain.specs.Beginning.{IsBegun}
-use Rattle.drain.specs.TileLists.{AreMadeBelow}
+use Rattle.tile_maps.specs.Maps.{AreMadeBelow}
 use Rattle.drain.proofs.beginning.begin_along.Given as goal
 
 abbrev pub invariant-loop-col : goal.invariant-loop-col

@@ -2,7 +2,7 @@ use Rattle.std.proofs.Common.{◌*◌, List, Option, Vec, Global, ℕ, sym, subs
 use Rattle.std.proofs.lemmas.Result.{IfOk-weaker}
 use Rattle.tiles.specs.Cutting.{terrain_of}
 use Rattle.drain.specs.Rounds.{IsLent, IsRound}
-use Rattle.drain.specs.TileLists.{AreMadeBelow}
+use Rattle.tile_maps.specs.Maps.{AreMadeBelow}
 use Rattle.drain.specs.Window.{AreCounts, IsSettled, IsHandedOut}
 use Rattle.drain.proofs.TileRound.{lent_to, lent_small, round_from}
 use Rattle.drain.proofs.draining.round.Goals as goal

@@ -1,5 +1,5 @@
 use Rattle.std.proofs.Common.{◌+◌, ◌*◌}
-use Rattle.drain.specs.TileLists.{AreMadeBelow}
+use Rattle.tile_maps.specs.Maps.{AreMadeBelow}
 use Rattle.drain.specs.Window.{IsHandedOut}
 use Rattle.drain.proofs.looking.hand_out_along.Given as goal
 

@@ -1,6 +1,6 @@
 use Rattle.std.proofs.Common.{◌+◌, ◌*◌}
 use Rattle.drain.specs.Directions.{IsCodeAt}
-use Rattle.drain.specs.TileLists.{AreMadeBelow}
+use Rattle.tile_maps.specs.Maps.{AreMadeBelow}
 use Rattle.drain.proofs.surroundings.codes_along.Given as goal
 
 abbrev pub invariant-loop-col : goal.invariant-loop-col

@@ -1,25 +1,43 @@
 use Rattle.std.proofs.Common.{arith}
 use Rattle.fill.specs.Spills.{AreFloods}
 use Rattle.fill.proofs.Gathered.{fit_of}
-use Rattle.fill.proofs.Raised.{floods_given, tiles_given}
+use Rattle.fill.proofs.Raised.{floods_given, filled_map, filled_stand, filled_grid}
 use Rattle.fill.proofs.filling.filled.Goals as goal
 
-pub invariant_of-work : goal.invariant_of-work
-invariant_of-work g c =
-    let t = c.args.grid.now.terrain in
+pub invariant_of-made : goal.invariant_of-made
+invariant_of-made g c =
     let k = c.args.tiling.now in
-    let jobs = c.tiles-tiles.ensures.value in
+    let jobs = c.tiles.ensures.value in
     let v = c.in_ok-floods.floods in
-    let are : AreFloods t k v.items = floods_given t k v.items c.tiles-tiles.ensures.lawful c.requires (omega (arith, v.ok.0, c.in_ok-floods.ensures.len, jobs)) (λ j d below. c.in_ok-floods.ensures.given j d (omega (arith, below, jobs))) in
-    record { size = rw c.deref-3.ensures.value c.in_ok-levels.ensures.size; labels = rw c.deref-2.ensures.value (fit_of t k v.items are.lawful are).labels }
+    let are : AreFloods c.args.grid.now.terrain k v.items = floods_given _ k v.items c.tiles.ensures.lawful c.requires (omega (arith, v.ok.0, c.in_ok-floods.ensures.len, jobs)) (λ j d below. c.in_ok-floods.ensures.given j d (omega (arith, below, jobs))) in
+    record { size = c.in_ok-levels.ensures.size; fit = fit_of _ k v.items are.lawful are; lawful = are.lawful }
 
-pub put_back-requires-clause-raised : goal.put_back-requires-clause-raised
-put_back-requires-clause-raised g c =
+pub with_own_cells-filled-requires-clause-heights : goal.with_own_cells-filled-requires-clause-heights
+with_own_cells-filled-requires-clause-heights g c =
     let t = c.args.grid.now.terrain in
     let k = c.args.tiling.now in
-    let jobs = c.tiles-tiles.ensures.value in
+    let jobs = c.tiles.ensures.value in
     let v = c.in_ok-floods.floods in
-    let are : AreFloods t k v.items = floods_given t k v.items c.tiles-tiles.ensures.lawful c.requires (omega (arith, v.ok.0, c.in_ok-floods.ensures.len, jobs)) (λ j d below. c.in_ok-floods.ensures.given j d (omega (arith, below, jobs))) in
+    let are : AreFloods t k v.items = floods_given t k v.items c.tiles.ensures.lawful c.requires (omega (arith, v.ok.0, c.in_ok-floods.ensures.len, jobs)) (λ j d below. c.in_ok-floods.ensures.given j d (omega (arith, below, jobs))) in
     let raises = rw c.deref.ensures.value at c.in_ok-levels.ensures.levels in
-    let given = rw (c.deref-2.ensures.value, c.deref-3.ensures.value) at c.in_ok-raised.ensures.given in
-    tiles_given t k c.in_ok-raised.raised.items (omega (arith, c.in_ok-raised.raised.ok.0, c.in_ok-raised.ensures.len, jobs)) (λ j d below. given j d (omega (arith, below, jobs)) t are raises)
+    filled_stand t c.in_ok-cells.cells.items (filled_map t k v.items _ c.in_ok-cells.cells.items are raises c.in_ok-cells.ensures.made)
+
+pub from_grid-requires : goal.from_grid-requires
+from_grid-requires g c =
+    let t = c.args.grid.now.terrain in
+    let k = c.args.tiling.now in
+    let jobs = c.tiles.ensures.value in
+    let v = c.in_ok-floods.floods in
+    let are : AreFloods t k v.items = floods_given t k v.items c.tiles.ensures.lawful c.requires (omega (arith, v.ok.0, c.in_ok-floods.ensures.len, jobs)) (λ j d below. c.in_ok-floods.ensures.given j d (omega (arith, below, jobs))) in
+    let raises = rw c.deref.ensures.value at c.in_ok-levels.ensures.levels in
+    (filled_grid c.args.grid.now c.with_own_cells-filled.result c.in_ok-cells.cells.items c.with_own_cells-filled.ensures (filled_map t k v.items _ c.in_ok-cells.cells.items are raises c.in_ok-cells.ensures.made)).0
+
+pub returns-clause-filled : goal.returns-clause-filled
+returns-clause-filled g c =
+    let t = c.args.grid.now.terrain in
+    let k = c.args.tiling.now in
+    let jobs = c.tiles.ensures.value in
+    let v = c.in_ok-floods.floods in
+    let are : AreFloods t k v.items = floods_given t k v.items c.tiles.ensures.lawful c.requires (omega (arith, v.ok.0, c.in_ok-floods.ensures.len, jobs)) (λ j d below. c.in_ok-floods.ensures.given j d (omega (arith, below, jobs))) in
+    let raises = rw c.deref.ensures.value at c.in_ok-levels.ensures.levels in
+    rw c.from_grid.ensures (filled_grid c.args.grid.now c.with_own_cells-filled.result c.in_ok-cells.cells.items c.with_own_cells-filled.ensures (filled_map t k v.items _ c.in_ok-cells.cells.items are raises c.in_ok-cells.ensures.made)).1

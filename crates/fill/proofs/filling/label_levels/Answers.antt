@@ -7,8 +7,8 @@ pub returns-then-has_no_inner_cell-clause-levels : goal.returns-then-has_no_inne
 returns-then-has_no_inner_cell-clause-levels g c =
     own_raises c.args.grid.now.terrain c.args.tiling.now c.args.floods.now c.in-Ok.levels.items c.requires.floods (c.has_no_inner_cell.ensures.0 c.if-has_no_inner_cell.true) c.in-Ok.ensures
 
-pub invariant_of-work : goal.invariant_of-work
-invariant_of-work g c = record { fit = fit_of c.args.grid.now.terrain c.args.tiling.now c.args.floods.now c.requires.floods.lawful c.requires.floods }
+pub invariant_of-run : goal.invariant_of-run
+invariant_of-run g c = record { fit = fit_of c.args.grid.now.terrain c.args.tiling.now c.args.floods.now c.requires.floods.lawful c.requires.floods }
 
 pub returns-clause-levels : goal.returns-clause-levels
 returns-clause-levels g c = c.in_ok-levels.ensures.levels c.args.grid.now.terrain c.args.floods.now c.requires.floods (record {

@@ -1,6 +1,7 @@
 use Rattle.std.proofs.Common.{◌≡◌, Some}
 use Rattle.sight.specs.Refusals.{observers_fault}
 use Rattle.sight.proofs.Refused.{not_jobs, refuses}
+use Rattle.sight.proofs.Whole.{whole_viewed}
 use Rattle.sight.proofs.viewing.viewshed.Goals as goal
 
 pub returns-in-Some-clause-refusals : goal.returns-in-Some-clause-refusals
@@ -10,3 +11,7 @@ returns-in-Some-clause-refusals g c =
     let fault = observers_fault t os c.args.target_height c.args.radius in
     let told : fault ≡ Some c.in-Some.fault = rw c.first_fault.ensures at c.in-Some.is in
     refuses fault c.in-Some.fault c.args.workers (not_jobs t os c.args.target_height c.args.radius) told
+
+pub returns-clause-values : goal.returns-clause-values
+returns-clause-values g c =
+    whole_viewed c.args.tiling.now c.args.grid.now.terrain c.args.observers.now c.args.target_height c.args.radius c.in_ok-values.values.items c.requires.given c.in_ok-values.ensures.made

@@ -1,0 +1,62 @@
+-- Lists of a tile's entries, one entry more at a time.
+use Rattle.std.proofs.Common.{◌≡◌, ℕ, ◌+◌, ◌-◌, ◌*◌, ◌<◌, inl, inr, List, ◌∷◌, ◌++◌, [], length, get_or, Option, None, sym, ap, subst, ◌∙◌, arith}
+use Rattle.std.proofs.lemmas.Bool.{cases_eq}
+use Rattle.std.proofs.lemmas.List.{get_or_append_left, get_or_push, length_push}
+use Rattle.std.proofs.lemmas.Nat.{mul-add-lt}
+use Rattle.terrain.proofs.Places.{make_place, same_place, index_injective}
+use Rattle.terrain.specs.declared.place.Place.{Place}
+use Rattle.tiles.specs.declared.bounds.Bounds.{Bounds}
+use Rattle.tiles.specs.Cutting.{Cutting, IsCutting, IsInBounds, bounds_of}
+use Rattle.tiles.proofs.Cut.{in_bounds}
+use Rattle.tiles.proofs.TileRows.{tile_entry_is}
+use Rattle.tile_maps.specs.Maps.{index_within, AreMadeBelow, IsMadeTile}
+
+-- two places that stand at one place of the bounds' row order are one
+within_injective : (b : Bounds) (p q : Place) → IsInBounds b p → IsInBounds b q → index_within b p ≡ index_within b q → p ≡ q
+within_injective b p q i j e =
+    let one = index_injective b.cols (make_place (p.row - b.top) (p.col - b.left)) (make_place (q.row - b.top) (q.col - b.left)) (omega (arith, i.2, i.3)) (omega (arith, j.2, j.3)) e in
+    let row : p.row - b.top ≡ q.row - b.top = ap (λ (r : Place). r.row) one in
+    let col : p.col - b.left ≡ q.col - b.left = ap (λ (r : Place). r.col) one in
+    same_place p q (omega (arith, i.0, j.0)) (omega (arith, i.2, j.2))
+
+-- one entry more
+pub made_push : {X : Type 0} (b : Bounds) (Has : Place → Option X → Type 0) (p : Place) (list : List (Option X)) (x : Option X) → IsInBounds b p →
+    AreMadeBelow b Has (index_within b p) list → Has p x → AreMadeBelow b Has (index_within b p + 1) (list ++ x ∷ [])
+made_push {X} b Has p list x inside before here = record {
+  size = length_push list x ∙ ap (λ n. n + 1) before.size;
+  each = λ q within below. elim (cases_eq (index_within b q) (index_within b p)) [
+    | inl e ↦ (let one : p ≡ q = within_injective b p q inside within (sym e) in
+        subst (λ (r : Place). Has r (get_or (list ++ x ∷ []) (index_within b r) None)) one
+        (subst (λ (o : Option X). Has p o) (sym (get_or_push list x None (index_within b p) before.size)) here))
+    | inr ne ↦ (let lower : index_within b q < index_within b p = omega arith in
+        subst (λ (o : Option X). Has q o) (sym (get_or_append_left list (x ∷ []) None (index_within b q) (omega (arith, before.size))))
+        (before.each q within lower))
+  ];
+}
+
+-- the entry of the next place of a row
+pub made_next : {X : Type 0} (b : Bounds) (Has : Place → Option X → Type 0) (row col : ℕ) (list : List (Option X)) (x : Option X) → row < b.rows → col < b.cols →
+    AreMadeBelow b Has (row * b.cols + col) list → Has (make_place (b.top + row) (b.left + col)) x → AreMadeBelow b Has (row * b.cols + (col + 1)) (list ++ x ∷ [])
+made_next {X} b Has row col list x below beside before here =
+    let p = make_place (b.top + row) (b.left + col) in
+    let row_is : b.top + row - b.top ≡ row = omega arith in
+    let col_is : b.left + col - b.left ≡ col = omega arith in
+    let at : index_within b p ≡ row * b.cols + col = ap (λ (n : ℕ). n * b.cols + (b.left + col - b.left)) row_is ∙ ap (λ (n : ℕ). row * b.cols + n) col_is in
+    let next : index_within b p + 1 ≡ row * b.cols + (col + 1) = omega (arith, at) in
+    subst (λ (n : ℕ). AreMadeBelow b Has n (list ++ x ∷ [])) next
+    (made_push b Has p list x (omega arith, omega arith, omega arith, omega arith) (subst (λ (n : ℕ). AreMadeBelow b Has n list) (sym at) before) here)
+
+within_below : (b : Bounds) (p : Place) → IsInBounds b p → index_within b p < b.rows * b.cols
+within_below b p i =
+    let below : index_within b p < b.cols * b.rows = mul-add-lt (p.row - b.top) b.cols (p.col - b.left) b.rows (omega (arith, i.0, i.1)) (omega (arith, i.2, i.3)) in
+    omega arith
+
+-- a list of all places of a tile's bounds
+pub made_tile : {X : Type 0} (c : Cutting) (tile : ℕ) (b : Bounds) (Has : Place → Option X → Type 0) (list : List (Option X)) → IsCutting c → b ≡ bounds_of c tile →
+    AreMadeBelow b Has (b.rows * b.cols) list → IsMadeTile c tile Has list
+made_tile {X} c tile b Has list lawful e made = record {
+  size = made.size ∙ ap (λ (z : Bounds). z.rows * z.cols) e;
+  each = λ p inside.
+      let within = subst (λ (z : Bounds). IsInBounds z p) (sym e) (in_bounds c tile p lawful inside) in
+      subst (λ (o : Option X). Has p o) (sym (tile_entry_is c tile b list p e inside)) (made.each p within (within_below b p within));
+}
