@@ -185,3 +185,8 @@ module _ (t : Cutting) (codes : List (Option ℕ)) (flows : List Flow) (inflows 
 
   pub countable_all : AreCountable t flows inflows
   countable_all = record { same_cutting = s.are_inflows.cutting; count = s.are_flows.of_tiles.count; each = countable }
+
+-- as many counts as codes
+pub counts_size : (inflows : Inflows) (tile : ℕ) (f : Flow) (values : List (Option ℕ)) → AreCounts inflows tile f values → length values ≡ length f.codes
+counts_size inflows tile f values are =
+    ap length are.made ∙ length-map-range_with_len (λ i. where_data (get_or f.codes i None) (get_or are.came i 0 + get_or are.weights i 0 - 1)) 0 (length f.codes)

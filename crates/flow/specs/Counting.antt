@@ -4,6 +4,8 @@ use Rattle.std.specs.List.{range_with_len}
 use Rattle.terrain.specs.declared.place.Place.{Place}
 use Rattle.tiles.specs.declared.bounds.Bounds.{Bounds}
 use Rattle.tiles.specs.Cutting.{Cutting, IsInBounds, bounds_of, cell_count, tile_count}
+use Rattle.flow.specs.Counts.{accumulation}
+use Rattle.flow.specs.TileMaps.{IsValueAt}
 use Rattle.flow.specs.Streams.{AreStreams, AreUpstream, total}
 use Rattle.flow.specs.TileFlow.{Flow}
 use Rattle.flow.specs.TileLinks.{index_in, links_by, weights_by, where_data}
@@ -16,6 +18,11 @@ pub record IsCounting (t : Cutting) (codes : List (Option ℕ)) (flows : List Fl
   pub grid : IsGridFlow t.cols t.rows codes
   pub are_flows : AreFlowsOf (make_directed t.cols t.rows codes) t flows
   pub are_inflows : AreInflows (make_directed t.cols t.rows codes) t inflows
+
+-- The entry is the accumulation of its place, in each map of directions to which the flows and the inflows belong.
+abbrev pub IsCountAt : Cutting → List Flow → Inflows → Place → Option ℕ → Type 0
+IsCountAt t flows inflows p entry = (codes : List (Option ℕ)) → IsCounting t codes flows inflows →
+    IsValueAt (make_directed t.cols t.rows codes) (accumulation (make_directed t.cols t.rows codes)) p entry
 
 -- The weights of the cells of a tile: each data cell itself, and what flows in.
 pub record AreRimWeights (inflows : Inflows) (b : Bounds) (cells : List (Option ℕ)) (weights : List ℕ) : Type 0 where

@@ -1,18 +1,16 @@
 // Accumulations of a map of directions, tile by tile.
 ghost use Rattle.std.proofs.Props.{props};
-ghost use Rattle.std.specs.Prelude.{◌≡◌, ◌+◌, ◌^◌, ◌<◌, ℕ, List, Option, length, slice_index, IfOk};
-ghost use Rattle.tiles.specs.Cutting.{Cuts, IsCutting, IsInBounds, bounds_of, cell_count, tile_count};
+ghost use Rattle.std.specs.Prelude.{◌≡◌, ◌+◌, ◌^◌, ◌<◌, ℕ, length, slice_index, IfOk};
+ghost use Rattle.tiles.specs.Cutting.{Cuts, IsInBounds, bounds_of, cell_count, tile_count};
 ghost use Rattle.tile_jobs.specs.Fault.{RefusesWorkers};
 ghost use Rattle.drainage.specs.Drained.{directed_of};
-ghost use Rattle.flow.specs.Counts.{AreAccumulations, accumulation};
-ghost use Rattle.flow.specs.TileMaps.{AreTileMapsOf};
-ghost use Rattle.flow.specs.Whole.{IsGridFlow, make_directed};
-ghost use Rattle.flow.specs.Counting.{IsCounting, IsCountable, AreCountable, AreRimWeights, AreCounts, counts_by};
+ghost use Rattle.flow.specs.Counts.{AreAccumulations};
+ghost use Rattle.flow.specs.Counting.{IsCountable, AreCountable, AreRimWeights, AreCounts, counts_by};
 ghost use Rattle.flow.specs.Inflows.{inflow_in};
 ghost use Rattle.terrain.specs.declared.place.Place.{Place as AtPlace};
 
 use crate::cells::tile_weights;
-use crate::flowing::{flow_tiles, put_back};
+use crate::flowing::flow_tiles;
 use crate::inflows::Inflows;
 use crate::streams::upstream;
 use crate::tile::{TileFlow, where_data};
@@ -20,37 +18,37 @@ use drainage::{Code, Directions};
 use std::alloc::{AllocError, Global};
 use std::sync::Wait;
 use std::thread::Threads;
-use tile_jobs::{Gate, JobFault, Work, run_jobs};
+use terrain::NoMemory;
+use tile_jobs::{Gate, JobFault};
+use tile_maps::{Crew, TileMap};
 use tiles::Tiling;
 
-/// Counts what flows through the cells of each tile.
+/// The accumulations, of the flows of all tiles and what flows into them.
 #[derive(Drop)]
-struct CountTiles<'a> {
+struct Counting<'a> {
     tiling: &'a Tiling,
-    flows: &'a [TileFlow],
-    inflows: &'a Inflows,
-    ghost countable: { AreCountable tiling.now flows.now inflows.now } by { Prim.hlevel props },
+    flows: Vec<TileFlow>,
+    inflows: Inflows,
+    ghost countable: { AreCountable tiling.now flows.items inflows } by { Prim.hlevel props },
 }
 
-impl<'a> Work for CountTiles<'a> {
-    type Out = Vec<Option<u32>>;
+impl<'a> TileMap for Counting<'a> {
+    ghost use Rattle.flow.specs.Counting.{IsCountAt};
 
-    ghost use Rattle.std.specs.Prelude.{ℕ, List, Option};
-    ghost use Rattle.tiles.specs.Cutting.{tile_count};
-    ghost use Rattle.flow.specs.Counting.{IsCounting};
-    ghost use Rattle.flow.specs.Counts.{accumulation};
-    ghost use Rattle.flow.specs.TileMaps.{IsTileMapOf};
-    ghost use Rattle.flow.specs.Whole.{make_directed};
+    type Cell = u32;
 
-    ghost most = { λ w. tile_count w.tiling.now };
+    ghost cutting = { λ m. m.tiling.now };
 
-    ghost gives = { λ w job out. (codes : List (Option ℕ)) → IsCounting w.tiling.now codes w.flows.now w.inflows.now →
-        IsTileMapOf (make_directed w.tiling.now.cols w.tiling.now.rows codes) w.tiling.now job
-        (accumulation (make_directed w.tiling.now.cols w.tiling.now.rows codes)) out.items };
+    ghost has = { λ m. IsCountAt m.tiling.now m.flows.items m.inflows };
 
-    fn run(&self, alloc: Global, job: u32) -> Result<Vec<Option<u32>>, JobFault> {
-        let values = tile_counts(alloc, self.inflows, job, &self.flows[job as usize])?;
-        Ok(values)
+    fn tiling(&self) -> Tiling {
+        *self.tiling
+    }
+
+    fn tile(&self, alloc: Global, tile: u32) -> Result<Vec<Option<u32>>, NoMemory> {
+        let flow = &self.flows[tile as usize];
+        let counts = tile_counts(alloc, &self.inflows, tile, flow)?;
+        Ok(counts)
     }
 }
 
@@ -68,52 +66,19 @@ pub fn accumulation<R: Threads + Wait + Sync, G: Gate + Sync>(
     ensures values { IfOk result (λ v. AreAccumulations (directed_of d.now) v.items) }
     ensures workers { RefusesWorkers workers result }
 {
-    let tiles = accumulation_tiles(rt, alloc, d.codes(), tiling, workers, gate)?;
-    put_back(alloc, tiling, &tiles)
-}
-
-// The accumulations of each tile, in tile order.
-fn accumulation_tiles<R: Threads + Wait + Sync, G: Gate + Sync>(
-    rt: &R,
-    alloc: Global,
-    codes: &[Option<Code>],
-    tiling: &Tiling,
-    workers: u32,
-    gate: &G,
-) -> Result<Vec<Vec<Option<u32>>>, JobFault>
-    requires flows { IsGridFlow tiling.now.cols tiling.now.rows codes.now }
-    ensures lawful { IsCutting tiling.now }
-    ensures tiles { IfOk result (λ v. AreTileMapsOf (make_directed tiling.now.cols tiling.now.rows codes.now) tiling.now
-        (accumulation (make_directed tiling.now.cols tiling.now.rows codes.now)) v.items) }
-    ensures workers { RefusesWorkers workers result }
-{
-    let flows = flow_tiles(rt, alloc, codes, tiling, workers, gate)?;
+    let crew = Crew {
+        rt,
+        alloc,
+        workers,
+        gate,
+    };
+    let flows = flow_tiles(&crew, d.codes(), tiling)?;
     let inflows = Inflows::join(alloc, tiling, &flows)?;
-    count_tiles(rt, alloc, tiling, &flows, &inflows, workers, gate)
-}
-
-fn count_tiles<R: Threads + Wait + Sync, G: Gate + Sync>(
-    rt: &R,
-    alloc: Global,
-    tiling: &Tiling,
-    flows: &[TileFlow],
-    inflows: &Inflows,
-    workers: u32,
-    gate: &G,
-) -> Result<Vec<Vec<Option<u32>>>, JobFault>
-    requires { (codes : List (Option ℕ)) × IsCounting tiling.now codes flows.now inflows.now }
-    ensures tiles { IfOk result (λ v. (codes : List (Option ℕ)) → IsCounting tiling.now codes flows.now inflows.now →
-        AreTileMapsOf (make_directed tiling.now.cols tiling.now.rows codes) tiling.now
-        (accumulation (make_directed tiling.now.cols tiling.now.rows codes)) v.items) }
-    ensures workers { RefusesWorkers workers result }
-{
-    let tiles = tiling.tiles();
-    let work = CountTiles {
+    crew.made(Counting {
         tiling,
         flows,
         inflows,
-    };
-    run_jobs(rt, alloc, &work, tiles, workers, gate)
+    })
 }
 
 // The accumulations of a tile's cells.

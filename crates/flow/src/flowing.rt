@@ -1,6 +1,6 @@
 // The flow of each tile, in a job of its own.
-ghost use Rattle.std.specs.Prelude.{◌≡◌, IfOk, IfErr};
-ghost use Rattle.tiles.specs.Cutting.{IsCutting, AreTileLists, IsPutBack};
+ghost use Rattle.std.specs.Prelude.{IfOk};
+ghost use Rattle.tiles.specs.Cutting.{IsCutting};
 ghost use Rattle.tile_jobs.specs.Fault.{RefusesWorkers};
 ghost use Rattle.flow.specs.TileFlow.{AreTileCounts};
 ghost use Rattle.flow.specs.RimGraph.{AreFlowsOf};
@@ -11,7 +11,8 @@ use drainage::Code;
 use std::alloc::Global;
 use std::sync::Wait;
 use std::thread::Threads;
-use tile_jobs::{Gate, JobFault, Work, run_jobs};
+use tile_jobs::{Gate, JobFault, Work};
+use tile_maps::Crew;
 use tiles::Tiling;
 
 /// Finds the flow of each tile.
@@ -70,67 +71,28 @@ impl<'a> Work for ExitTiles<'a> {
 
 /// The flows of all tiles, in tile order.
 pub(crate) fn flow_tiles<R: Threads + Wait + Sync, G: Gate + Sync>(
-    rt: &R,
-    alloc: Global,
+    crew: &Crew<'_, R, G>,
     codes: &[Option<Code>],
     tiling: &Tiling,
-    workers: u32,
-    gate: &G,
 ) -> Result<Vec<TileFlow>, JobFault>
-    requires { IsGridFlow tiling.now.cols tiling.now.rows codes.now }
+    requires grid { IsGridFlow tiling.now.cols tiling.now.rows codes.now }
     ensures flows { IfOk result (λ v. AreFlowsOf (make_directed tiling.now.cols tiling.now.rows codes.now) tiling.now v.items) }
     ensures counts { IfOk result (λ v. AreTileCounts (make_directed tiling.now.cols tiling.now.rows codes.now) tiling.now v.items) }
-    ensures lawful { IsCutting tiling.now }
-    ensures workers { RefusesWorkers workers result }
+    ensures workers { RefusesWorkers crew.now.workers result }
 {
-    let tiles = tiling.tiles();
-    run_jobs(
-        rt,
-        alloc,
-        &FlowTiles { codes, tiling },
-        tiles,
-        workers,
-        gate,
-    )
+    crew.run(&FlowTiles { codes, tiling }, tiling.tiles())
 }
 
 /// The flows of all tiles without their counts, in tile order.
 pub(crate) fn exit_tiles<R: Threads + Wait + Sync, G: Gate + Sync>(
-    rt: &R,
-    alloc: Global,
+    crew: &Crew<'_, R, G>,
     codes: &[Option<Code>],
     tiling: &Tiling,
-    workers: u32,
-    gate: &G,
 ) -> Result<Vec<TileFlow>, JobFault>
-    requires { IsGridFlow tiling.now.cols tiling.now.rows codes.now }
+    requires grid { IsGridFlow tiling.now.cols tiling.now.rows codes.now }
     ensures flows { IfOk result (λ v. AreFlowsOf (make_directed tiling.now.cols tiling.now.rows codes.now) tiling.now v.items) }
     ensures lawful { IsCutting tiling.now }
-    ensures workers { RefusesWorkers workers result }
+    ensures workers { RefusesWorkers crew.now.workers result }
 {
-    let tiles = tiling.tiles();
-    run_jobs(
-        rt,
-        alloc,
-        &ExitTiles { codes, tiling },
-        tiles,
-        workers,
-        gate,
-    )
-}
-
-/// The list of the whole grid, of the lists of its tiles.
-pub(crate) fn put_back(
-    alloc: Global,
-    tiling: &Tiling,
-    tiles: &[Vec<Option<u32>>],
-) -> Result<Vec<Option<u32>>, JobFault>
-    requires { AreTileLists tiling.now tiles.now }
-    ensures whole { IfOk result (λ v. IsPutBack tiling.now tiles.now v.items) }
-    ensures fault { IfErr result (λ e. e ≡ JobFault.Memory) }
-{
-    let Ok(whole) = tiling.put_back(alloc, tiles) else {
-        return Err(JobFault::Memory);
-    };
-    Ok(whole)
+    crew.run(&ExitTiles { codes, tiling }, tiling.tiles())
 }

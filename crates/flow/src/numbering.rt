@@ -1,7 +1,9 @@
 // The basins of a map of directions, tile by tile.
 ghost use Rattle.std.proofs.Props.{props};
-ghost use Rattle.std.specs.Prelude.{◌≡◌, ◌<◌, ℕ, length, slice_index_or, None, IfOk, IfSome};
+ghost use Rattle.std.specs.declared.alloc.Global.{Global};
+ghost use Rattle.std.specs.Prelude.{◌≡◌, ◌<◌, ℕ, Option, Vec, length, slice_index_or, vec_len, None, IfOk, IfSome};
 ghost use Rattle.tiles.specs.Cutting.{Cuts, IsCutting, IsWithin, tile_count};
+ghost use Rattle.tile_jobs.specs.Answers.{AllGiven};
 ghost use Rattle.tile_jobs.specs.Fault.{RefusesWorkers};
 ghost use Rattle.drainage.specs.Drained.{directed_of};
 ghost use Rattle.drainage.specs.Following.{Directed};
@@ -9,11 +11,11 @@ ghost use Rattle.flow.specs.Counts.{AreBasins, basin};
 ghost use Rattle.flow.specs.Whole.{IsGridFlow, make_directed};
 ghost use Rattle.terrain.specs.Neighbours.{index_of};
 ghost use Rattle.flow.specs.RimGraph.{outlet_in};
-ghost use Rattle.flow.specs.TileMaps.{IsTileMapOf, AreTileMapsOf};
+ghost use Rattle.flow.specs.TileMaps.{IsTileMapOf};
 ghost use Rattle.flow.specs.Numbering.{IsNumbering, AreReady, IsExitOfTile, number_at, label_by, labels_by, label_at, numbered_by};
 
 use crate::cells::place_at;
-use crate::flowing::{exit_tiles, put_back};
+use crate::flowing::exit_tiles;
 use crate::outlet_numbers::OutletNumbers;
 use crate::outlets::Outlets;
 use crate::tile::TileFlow;
@@ -22,7 +24,8 @@ use std::alloc::{AllocError, Global};
 use std::sync::Wait;
 use std::thread::Threads;
 use terrain::Place;
-use tile_jobs::{Gate, JobFault, Work, run_jobs};
+use tile_jobs::{Gate, JobFault, Work};
+use tile_maps::Crew;
 use tiles::Tiling;
 
 /// Numbers the cells of each tile.
@@ -77,55 +80,44 @@ pub fn basins<R: Threads + Wait + Sync, G: Gate + Sync>(
     ensures values { IfOk result (λ v. AreBasins (directed_of d.now) v.items) }
     ensures workers { RefusesWorkers workers result }
 {
-    let tiles = basin_tiles(rt, alloc, d.codes(), tiling, workers, gate)?;
-    put_back(alloc, tiling, &tiles)
+    let crew = Crew {
+        rt,
+        alloc,
+        workers,
+        gate,
+    };
+    let lists = basin_tiles(&crew, d.codes(), tiling)?;
+    match tiling.put_back(alloc, &lists) {
+        Ok(values) => Ok(values),
+        Err(_) => Err(JobFault::Memory),
+    }
 }
 
-// The basins of each tile, in tile order.
+// The basins of each tile, in tile order. What they are found of is let go.
 fn basin_tiles<R: Threads + Wait + Sync, G: Gate + Sync>(
-    rt: &R,
-    alloc: Global,
+    crew: &Crew<'_, R, G>,
     codes: &[Option<Code>],
     tiling: &Tiling,
-    workers: u32,
-    gate: &G,
 ) -> Result<Vec<Vec<Option<u32>>>, JobFault>
-    requires flows { IsGridFlow tiling.now.cols tiling.now.rows codes.now }
+    requires grid { IsGridFlow tiling.now.cols tiling.now.rows codes.now }
     ensures lawful { IsCutting tiling.now }
-    ensures tiles { IfOk result (λ v. AreTileMapsOf (make_directed tiling.now.cols tiling.now.rows codes.now) tiling.now
-        (basin (make_directed tiling.now.cols tiling.now.rows codes.now)) v.items) }
-    ensures workers { RefusesWorkers workers result }
+    ensures len { IfOk result (λ v. vec_len v ≡ tile_count tiling.now) }
+    ensures given { IfOk result (λ v. AllGiven (λ tile (list : Vec (Option ℕ) Global).
+        IsTileMapOf (make_directed tiling.now.cols tiling.now.rows codes.now) tiling.now tile
+        (basin (make_directed tiling.now.cols tiling.now.rows codes.now)) list.items) (tile_count tiling.now) v.items) }
+    ensures workers { RefusesWorkers crew.now.workers result }
 {
-    let flows = exit_tiles(rt, alloc, codes, tiling, workers, gate)?;
-    let outlets = Outlets::join(alloc, tiling, &flows)?;
-    let runs = tiling.tiles();
-    let numbers = OutletNumbers::of_codes(rt, alloc, codes, runs, workers, gate)?;
-    number_tiles(rt, alloc, tiling, &flows, &outlets, &numbers, workers, gate)
-}
-
-fn number_tiles<R: Threads + Wait + Sync, G: Gate + Sync>(
-    rt: &R,
-    alloc: Global,
-    tiling: &Tiling,
-    flows: &[TileFlow],
-    outlets: &Outlets<'_>,
-    numbers: &OutletNumbers<'_>,
-    workers: u32,
-    gate: &G,
-) -> Result<Vec<Vec<Option<u32>>>, JobFault>
-    requires { (d : Directed) × IsNumbering d tiling.now flows.now outlets.now numbers.now }
-    ensures tiles { IfOk result (λ v. (d : Directed) → IsNumbering d tiling.now flows.now outlets.now numbers.now →
-        AreTileMapsOf d tiling.now (basin d) v.items) }
-    ensures workers { RefusesWorkers workers result }
-{
+    let flows = exit_tiles(crew, codes, tiling)?;
+    let outlets = Outlets::join(crew.alloc, tiling, &flows)?;
     let tiles = tiling.tiles();
+    let numbers = OutletNumbers::of_codes(crew, codes, tiles)?;
     let work = NumberTiles {
         tiling,
-        flows,
-        outlets,
-        numbers,
+        flows: &flows,
+        outlets: &outlets,
+        numbers: &numbers,
     };
-    run_jobs(rt, alloc, &work, tiles, workers, gate)
+    crew.run(&work, tiles)
 }
 
 // The numbers of a tile's cells.

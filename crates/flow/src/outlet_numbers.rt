@@ -11,7 +11,8 @@ use std::alloc::{AllocError, Global};
 use std::marker::Model;
 use std::sync::Wait;
 use std::thread::Threads;
-use tile_jobs::{Gate, JobFault, run_jobs};
+use tile_jobs::{Gate, JobFault};
+use tile_maps::Crew;
 
 /// Counts of the outlets in a list of codes.
 #[derive(Drop)]
@@ -36,21 +37,18 @@ impl<'a> Model for OutletNumbers<'a> {
 impl<'a> OutletNumbers<'a> {
     /// Counts the outlets of a list of codes, each of its runs in a job of its own.
     pub(crate) fn of_codes<R: Threads + Wait + Sync, G: Gate + Sync>(
-        rt: &R,
-        alloc: Global,
+        crew: &Crew<'_, R, G>,
         codes: &'a [Option<Code>],
         runs: u32,
-        workers: u32,
-        gate: &G,
     ) -> Result<OutletNumbers<'a>, JobFault>
         requires few { length codes.now < 2 ^ 32 - 1 }
         requires runs { (1 ≤ runs) × (runs ≤ 65536) }
         ensures codes { IfOk result (λ n. n ≡ codes.now) }
-        ensures workers { RefusesWorkers workers result }
+        ensures workers { RefusesWorkers crew.now.workers result }
     {
         let cut = Runs::cut(codes, runs);
-        let counts = run_jobs(rt, alloc, &CountRuns { runs: &cut }, runs, workers, gate)?;
-        let before = sums_before(alloc, &counts)?;
+        let counts = crew.run(&CountRuns { runs: &cut }, runs)?;
+        let before = sums_before(crew.alloc, &counts)?;
         Ok(OutletNumbers {
             runs: cut,
             counts,

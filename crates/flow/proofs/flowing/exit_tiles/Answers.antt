@@ -9,6 +9,6 @@ pub returns-clause-flows : goal.returns-clause-flows
 returns-clause-flows g c =
     let t = c.args.tiling.now in
     let d = make_directed t.cols t.rows c.args.codes.now in
-    jobs_gave (IsTileExits d t) c.run_jobs.result _ _ (AreFlowsOf d t) c.tiles-tiles.ensures.value
-    (λ outs count each. record { cutting = c.tiles-tiles.ensures.lawful; ends = c.requires.ends; of_tiles = record { size = (refl, refl); count = count; each = each } })
-    c.run_jobs.ensures.len c.run_jobs.ensures.given
+    jobs_gave (IsTileExits d t) c.run.result _ _ (AreFlowsOf d t) c.tiles.ensures.value
+    (λ outs count each. record { cutting = c.tiles.ensures.lawful; ends = c.requires.grid.ends; of_tiles = record { size = (refl, refl); count = count; each = each } })
+    c.run.ensures.len c.run.ensures.given

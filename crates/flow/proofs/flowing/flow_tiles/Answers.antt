@@ -9,15 +9,15 @@ pub returns-clause-flows : goal.returns-clause-flows
 returns-clause-flows g c =
     let t = c.args.tiling.now in
     let d = make_directed t.cols t.rows c.args.codes.now in
-    jobs_gave (IsTileFlow d t) c.run_jobs.result _ _ (AreFlowsOf d t) c.tiles-tiles.ensures.value (λ outs count each. record {
-      cutting = c.tiles-tiles.ensures.lawful;
-      ends = c.requires.ends;
+    jobs_gave (IsTileFlow d t) c.run.result _ _ (AreFlowsOf d t) c.tiles.ensures.value (λ outs count each. record {
+      cutting = c.tiles.ensures.lawful;
+      ends = c.requires.grid.ends;
       of_tiles = record { size = (refl, refl); count = count; each = λ k x there. (each k x there).exits };
-    }) c.run_jobs.ensures.len c.run_jobs.ensures.given
+    }) c.run.ensures.len c.run.ensures.given
 
 pub returns-clause-counts : goal.returns-clause-counts
 returns-clause-counts g c =
     let t = c.args.tiling.now in
     let d = make_directed t.cols t.rows c.args.codes.now in
-    jobs_gave (IsTileFlow d t) c.run_jobs.result _ _ (AreTileCounts d t) c.tiles-tiles.ensures.value
-    (λ outs count each. record { each = λ k x there. (each k x there).counts }) c.run_jobs.ensures.len c.run_jobs.ensures.given
+    jobs_gave (IsTileFlow d t) c.run.result _ _ (AreTileCounts d t) c.tiles.ensures.value
+    (λ outs count each. record { each = λ k x there. (each k x there).counts }) c.run.ensures.len c.run.ensures.given

@@ -1,21 +1,27 @@
-use Rattle.std.proofs.Common.{ℕ, Option, Vec, Global}
-use Rattle.std.proofs.lemmas.Result.{IfOk-weaker}
-use Rattle.tiles.specs.Cutting.{IsPutBack}
-use Rattle.drainage.specs.Drained.{directed_of}
-use Rattle.flow.specs.Counts.{basin, AreBasins}
+use Rattle.std.proofs.Common.{ℕ, List, Option, Vec, Global, refl, sym, subst}
+use Rattle.tiles.specs.Cutting.{AreTileLists, IsPutBack, tile_count}
+use Rattle.tile_maps.proofs.Whole.{lists_of_tiles, made_whole}
+use Rattle.flow.specs.Counts.{basin}
+use Rattle.flow.specs.TileMaps.{IsValueAt}
+use Rattle.flow.specs.Whole.{make_directed}
 use Rattle.flow.proofs.Directed.{grid_flow}
-use Rattle.flow.proofs.Together.{maps_lists, maps_whole}
+use Rattle.flow.proofs.Together.{whole_map}
 use Rattle.flow.proofs.numbering.basins.Goals as goal
 
-pub basin_tiles-requires-clause-flows : goal.basin_tiles-requires-clause-flows
-basin_tiles-requires-clause-flows g c κs within = grid_flow c.args.d.now c.args.tiling.now c.codes.result.now c.codes.ensures.draining c.requires c.codes.ensures.value
+pub basin_tiles-requires-clause-grid : goal.basin_tiles-requires-clause-grid
+basin_tiles-requires-clause-grid g c κs within = grid_flow c.args.d.now c.args.tiling.now c.codes.result.now c.codes.ensures.draining c.requires c.codes.ensures.value
 
 pub put_back-requires : goal.put_back-requires
 put_back-requires g c =
-    maps_lists c.args.d.now c.args.tiling.now c.codes.result.now c.requires c.codes.ensures.value basin c.in_ok-tiles.tiles.items c.deref.result.now c.deref.ensures.value c.in_ok-tiles.ensures.tiles
+    let t = c.args.tiling.now in
+    let d = make_directed t.cols t.rows c.codes.result.now in
+    subst (λ (x : List (Vec (Option ℕ) Global)). AreTileLists t x) (sym c.deref.ensures.value)
+    (lists_of_tiles t (IsValueAt d (basin d)) (tile_count t) c.in_ok-lists.lists c.in_ok-lists.ensures.len refl c.in_ok-lists.ensures.given)
 
-pub returns-clause-values : goal.returns-clause-values
-returns-clause-values g c =
-    IfOk-weaker c.put_back.result (λ (v : Vec (Option ℕ) Global). IsPutBack c.args.tiling.now c.deref.result.now v.items) (λ (v : Vec (Option ℕ) Global). AreBasins (directed_of c.args.d.now) v.items)
-    (λ v put. maps_whole c.args.d.now c.args.tiling.now c.codes.result.now c.requires c.codes.ensures.value basin c.in_ok-tiles.tiles.items c.deref.result.now c.deref.ensures.value
-    c.in_ok-tiles.ensures.tiles v.items c.in_ok-tiles.ensures.lawful put) c.put_back.ensures.whole
+pub returns-in-Ok-clause-values : goal.returns-in-Ok-clause-values
+returns-in-Ok-clause-values g c =
+    let t = c.args.tiling.now in
+    let d = make_directed t.cols t.rows c.codes.result.now in
+    let made = made_whole t (IsValueAt d (basin d)) (tile_count t) c.in_ok-lists.lists c.in_ok-lists.ensures.len refl c.in_ok-lists.ensures.given c.in-Ok.values.items c.in_ok-lists.ensures.lawful
+    (subst (λ (x : List (Vec (Option ℕ) Global)). IsPutBack t x c.in-Ok.values.items) c.deref.ensures.value c.in-Ok.ensures) in
+    whole_map c.args.d.now t c.codes.result.now c.requires c.codes.ensures.value basin c.in-Ok.values.items made.size made.each
