@@ -1,2 +1,2 @@
 pub mod Pushing
-mod LevelGround
+mod BegunCounts

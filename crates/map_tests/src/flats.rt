@@ -1,45 +1,101 @@
-// One round of counting steps over a tile of level ground, from the counts that the rounds begin with.
-ghost use Rattle.std.specs.Prelude.{◌≡◌, ◌↔◌, All, IfOk, IfSome, IsTrue};
+// One round of counting steps over a tile, from the counts that the rounds begin with.
+ghost use Rattle.std.specs.Prelude.{◌≡◌, ◌*◌, ◌<◌, ◌↔◌, IfOk, IsTrue};
+ghost use Rattle.terrain.specs.Neighbours.{IsInside, Touches, index_of};
+ghost use Rattle.tiles.specs.Cutting.{Cuts, tile_count};
 ghost use Rattle.drain.specs.Beginning.{AreBegun};
+ghost use Rattle.drain.specs.Steps.{IsLower, HasLower, DrainsAtOnce};
 
-use crate::ground::{cut, land};
+use crate::ground::{PITS, cut, land};
 use crate::maps::agree;
+use crate::refused::again;
 use drain::flat_steps;
 use std::alloc::{AllocError, Global};
 use std::process::Abort;
-use terrain::{Grid, Height, Place};
+use terrain::{Grid, NoMemory, Place};
+use tiles::Tiling;
 
-/// The height of the level ground.
-const LEVEL: Height = 9;
-
-/// Whether all cells that have data have the height of the level ground.
-fn is_level(cells: &[Option<Height>]) -> bool
-    ensures { IsTrue result ↔ All (λ c. IfSome c (λ h. h ≡ LEVEL)) cells.now }
-{
-    cells
-        .iter()
-        .all(|cell| cell.is_none_or(|height| height == LEVEL))
-}
-
-/// The counts that the rounds begin with on level ground: 0 at each edge cell, since no cell has a
-/// lower neighbour.
-fn begun(alloc: Global, grid: &Grid) -> Result<Vec<Option<u32>>, AllocError>
-    requires { All (λ c. IfSome c (λ h. h ≡ LEVEL)) grid.now.terrain.cells }
-    ensures { IfOk result (λ v. AreBegun grid.now.terrain v.items) }
+/// The place that stands at an index in row order.
+fn place_at(grid: &Grid, index: u32) -> Place
+    requires { index < grid.now.terrain.cols * grid.now.terrain.rows }
+    ensures inside { IsInside grid.now.terrain result }
+    ensures index { index_of grid.now.terrain.cols result ≡ index }
 {
     let cols = grid.cols();
+    Place {
+        row: index / cols,
+        col: index % cols,
+    }
+}
+
+/// Whether the rows and the columns each differ by at most 1.
+fn touch(place: Place, other: Place) -> bool
+    ensures { IsTrue result ↔ Touches place other }
+{
+    place.row.abs_diff(other.row) <= 1 && place.col.abs_diff(other.col) <= 1
+}
+
+/// Whether the second cell is a lower neighbour of the first.
+fn is_lower(grid: &Grid, place: Place, other: Place) -> bool
+    requires place { IsInside grid.now.terrain place }
+    requires other { IsInside grid.now.terrain other }
+    ensures { IsTrue result ↔ IsLower grid.now.terrain place other }
+{
+    match (grid.at(place), grid.at(other)) {
+        (Some(level), Some(height)) => height < level && touch(place, other),
+        _ => false,
+    }
+}
+
+fn has_lower(grid: &Grid, place: Place) -> bool
+    requires { IsInside grid.now.terrain place }
+    ensures { IsTrue result ↔ HasLower grid.now.terrain place }
+{
+    for index in 0..grid.cols() * grid.rows() {
+        if is_lower(grid, place, place_at(grid, index)) {
+            return true;
+        }
+    }
+    false
+}
+
+/// Whether the cell is an edge cell or has a lower neighbour.
+fn drains_at_once(grid: &Grid, place: Place) -> bool
+    requires { IsInside grid.now.terrain place }
+    ensures { IsTrue result ↔ DrainsAtOnce grid.now.terrain place }
+{
+    grid.is_edge(place) || has_lower(grid, place)
+}
+
+/// The counts that the rounds begin with: 0 at each cell that drains at once, and none elsewhere.
+fn begun(alloc: Global, grid: &Grid) -> Result<Vec<Option<u32>>, AllocError>
+    ensures { IfOk result (λ v. AreBegun grid.now.terrain v.items) }
+{
     let mut counts = Vec::new(alloc);
-    for index in 0..cols * grid.rows() {
-        let place = Place {
-            row: index / cols,
-            col: index % cols,
-        };
-        counts.push(grid.is_edge(place).then_some(0))?;
+    for index in 0..grid.cols() * grid.rows() {
+        let place = place_at(grid, index);
+        counts.push(drains_at_once(grid, place).then_some(0))?;
     }
     Ok(counts)
 }
 
-/// The counts of a tile after the first round over level ground that is cut into tiles of this side.
+/// The counts of a tile after a round from these.
+fn round(
+    alloc: Global,
+    grid: &Grid,
+    tiling: &Tiling,
+    begun: &[Option<u32>],
+    tile: u32,
+) -> Result<Vec<Option<u32>>, NoMemory>
+    requires cuts { Cuts tiling.now grid.now.terrain }
+    requires begun { AreBegun grid.now.terrain begun.now }
+    requires tile { tile < tile_count tiling.now }
+{
+    let levels = tiling.view(grid.cells(), tile);
+    let steps = tiling.view(begun, tile);
+    flat_steps(alloc, &levels, &steps)
+}
+
+/// The counts of a tile after the first round over a grid that is cut into tiles of this side.
 fn first_round(
     rt: &impl Abort,
     alloc: Global,
@@ -47,13 +103,10 @@ fn first_round(
     side: u32,
     tile: u32,
 ) -> Vec<Option<u32>> {
-    assert!(rt; is_level(grid.cells()), "level ground");
     let tiling = cut(rt, grid, side);
     assert!(rt; tile < tiling.tiles(), "tile {tile} of side {side}");
     let begun = begun(alloc, grid).expect(rt, "the counts to begin with");
-    let levels = tiling.view(grid.cells(), tile);
-    let steps = tiling.view(&begun, tile);
-    flat_steps(alloc, &levels, &steps).expect(rt, "counts")
+    again!(rt, round(alloc, grid, &tiling, &begun, tile))
 }
 
 #[test]
@@ -77,4 +130,26 @@ fn hole_among_nines(rt: HostRuntime) {
     let counts = "0 0 0 0 0 0 0\n0 0 0 1 1 1 0\n0 -9999 0 1 2 1 0\n0 0 0 1 1 1 0\n0 0 0 0 0 0 0";
     let wanted = land(&rt, alloc, 7, 5, counts);
     assert!(rt; agree(&first_round(&rt, alloc, &grid, 7, 0), &wanted));
+}
+
+// Only the lowest cell is neither an edge cell nor has a lower neighbour.
+#[test]
+fn pits_as_read(rt: HostRuntime) {
+    let alloc = rt.alloc();
+    let pits = land(&rt, alloc, 4, 4, PITS);
+    let wanted = land(&rt, alloc, 4, 4, "0 0 0 0\n0 -9999 0 0\n0 0 0 0\n0 0 0 0");
+    assert!(rt; agree(&first_round(&rt, alloc, &pits, 4, 0), &wanted));
+}
+
+#[test]
+fn pits_filled(rt: HostRuntime) {
+    let alloc = rt.alloc();
+    let filled = land(&rt, alloc, 4, 4, "9 9 9 9\n9 3 9 9\n9 9 3 9\n9 9 9 3");
+    let wanted = land(&rt, alloc, 4, 4, "0 0 0 0\n0 2 0 0\n0 0 1 0\n0 0 0 0");
+    assert!(rt; agree(&first_round(&rt, alloc, &filled, 4, 0), &wanted));
+    // The first of four tiles has no count for the pit before the last tile has one for its own.
+    let first = land(&rt, alloc, 2, 2, "0 0\n0 -9999");
+    assert!(rt; agree(&first_round(&rt, alloc, &filled, 2, 0), &first));
+    let last = land(&rt, alloc, 2, 2, "1 0\n0 0");
+    assert!(rt; agree(&first_round(&rt, alloc, &filled, 2, 3), &last));
 }

@@ -7,6 +7,9 @@ use std::process::Abort;
 use terrain::Grid;
 use tiles::Tiling;
 
+/// A pit along the diagonal of 4 by 4 cells, which spills at the height of the last cell.
+pub(crate) const PITS: &str = "9 9 9 9\n9 1 9 9\n9 9 2 9\n9 9 9 3";
+
 /// A grid of whole heights, -9999 where there is no data.
 pub(crate) fn land(rt: &impl Abort, alloc: Global, cols: u32, rows: u32, heights: &str) -> Grid {
     let text = format!(in alloc;

@@ -22,6 +22,8 @@ mod meeting;
 #[cfg(test)]
 mod pits;
 #[cfg(test)]
+mod refused;
+#[cfg(test)]
 mod runs;
 #[cfg(test)]
 mod seeing;

@@ -1,5 +1,5 @@
 // Two tiles in work at once, at each stage of each map.
-use crate::ground::{cut, land};
+use crate::ground::{PITS, cut, land};
 use ascii_grid::Counted;
 use drain::directions;
 use fill::filled;
@@ -69,10 +69,6 @@ impl Meeting {
     }
 }
 
-/// A pit along the diagonal, which spills at the height of the last cell. Its steps reach the first of four
-/// tiles in the second round, and the third changes nothing.
-const PIT: &str = "9 9 9 9\n9 1 9 9\n9 9 2 9\n9 9 9 3";
-
 /// Two hollows in two tiles of side 3, which spill over the low place in the second.
 const VALLEY: &str = "9 9 9 9 9 9\n9 1 5 4 1 6\n9 9 9 9 9 9";
 
@@ -82,10 +78,11 @@ const CORNER: Observer = Observer {
     eye: 0,
 };
 
+// The steps of the pit reach the first of four tiles in the second round, and the third changes nothing.
 #[test]
 fn tiles_meet_at_each_stage(rt: HostRuntime) {
     let alloc = rt.alloc();
-    let pit = land(&rt, alloc, 4, 4, PIT);
+    let pit = land(&rt, alloc, 4, 4, PITS);
     let tiling = cut(&rt, &pit, 2);
     let gate = Meeting::new();
     let level = filled(&rt, alloc, &pit, &tiling, 2, &gate).expect(&rt, "levels");
@@ -149,7 +146,7 @@ fn met_rows<R: Abort + Threads + Wait + Sync>(
     name: &str,
 ) -> Vec<u8> {
     let options = Options::new(map, 2, 2, 0).expect(rt, "options");
-    let text = format!(in alloc; "ncols 4\nnrows 4\nxllcorner 0\nyllcorner 0\ncellsize 1\n{PIT}\n");
+    let text = format!(in alloc; "ncols 4\nnrows 4\nxllcorner 0\nyllcorner 0\ncellsize 1\n{PITS}\n");
     let text = text.expect(rt, "a text");
     let gate = Meeting::new();
     let mut out = Vec::new(alloc);

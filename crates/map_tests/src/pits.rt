@@ -4,7 +4,8 @@ ghost use Rattle.fill.specs.Spills.{AreFloods};
 
 use crate::filling::floods_of;
 use crate::flows::{flow_of, flows_of, link_at, links_of};
-use crate::ground::{cut, land};
+use crate::ground::{PITS, cut, land};
+use crate::refused::again;
 use drain::directions;
 use fill::{CellNet, SpillGraph, TileFlood, filled, flood, raise, tile_flood};
 use std::alloc::Global;
@@ -20,18 +21,8 @@ const C: Option<Height> = Some(3);
 
 const H: Option<Height> = Some(9);
 
-/// What a call answers, or where it was refused memory what it answers the second time.
-macro_rules! again {
-    ($rt:expr, $call:expr) => {
-        match $call {
-            Ok(answer) => answer,
-            Err(_) => $call.expect($rt, "once more"),
-        }
-    };
-}
-
 fn pits(rt: &impl Abort, alloc: Global) -> Grid {
-    land(rt, alloc, 4, 4, "9 9 9 9\n9 1 9 9\n9 9 2 9\n9 9 9 3")
+    land(rt, alloc, 4, 4, PITS)
 }
 
 #[test]

@@ -1,4 +1,4 @@
-use Rattle.map_tests.proofs.LevelGround.{AreBegunBelow}
+use Rattle.map_tests.proofs.BegunCounts.{AreBegunBelow}
 use Rattle.map_tests.proofs.flats.begun.Given as goal
 
 abbrev pub invariant-loop-index : goal.invariant-loop-index
