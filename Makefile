@@ -15,6 +15,7 @@ test:
 	rt ci
 	cp $(PROGRAM) relief
 	tests/run ./relief
+	tests/pictures
 	tests/refusals ./relief crates/*/out/*_tests
 
 # The rest takes the program that `make` has built.
