@@ -146,7 +146,9 @@ fn met_rows<R: Abort + Threads + Wait + Sync>(
     name: &str,
 ) -> Vec<u8> {
     let options = Options::new(map, 2, 2, 0).expect(rt, "options");
-    let text = format!(in alloc; "ncols 4\nnrows 4\nxllcorner 0\nyllcorner 0\ncellsize 1\n{PITS}\n");
+    let text = format!(in alloc;
+        "ncols 4\nnrows 4\nxllcorner 0\nyllcorner 0\ncellsize 1\n{PITS}\n"
+    );
     let text = text.expect(rt, "a text");
     let gate = Meeting::new();
     let mut out = Vec::new(alloc);
