@@ -1,10 +1,10 @@
 -- The word in progress, and what its end makes of it.
-use Rattle.std.proofs.Common.{◌≡◌, ℕ, ◌+◌, ◌<◌, ◌≤◌, true, false, List, [], ◌∷◌, ◌++◌, length, take, drop, get_or, Some, ℤ, Result, MatchResult, ◌⊎◌, arith, refl, ap, sym, ◌∙◌, subst, inl, inr, set}
+use Rattle.std.proofs.Common.{◌≡◌, ℕ, ◌+◌, ◌<◌, ◌≤◌, true, false, List, [], ◌∷◌, ◌++◌, length, take, drop, get_or, Some, ℤ, Result, MatchResult, ◌⊎◌, arith, refl, ap, sym, ◌∙◌, subst, inl, inr}
 use Rattle.std.specs.Prelude.{filter}
 use Rattle.std.specs.List.{list_any}
 use Rattle.std.proofs.lemmas.Result.{MatchResult-weaker}
 use Rattle.std.proofs.lemmas.Bool.{cases_lt, or_parts}
-use Rattle.std.proofs.lemmas.List.{append-nil, length-append, length-take, length-drop, take_all, take_at, take_more_set, take_more, append_assoc, take-append-le, nil_from_length}
+use Rattle.std.proofs.lemmas.List.{append-nil, length-append, length-take, length-drop, take_all, take_more, append_assoc, take-append-le, nil_from_length}
 use Rattle.std.proofs.Math.Seq.{take-add}
 use Rattle.terrain.specs.Words.{Word, is_word, is_separator, words, ended_words}
 use Rattle.terrain.specs.Decimal.{scaled_value}
@@ -19,30 +19,18 @@ use Rattle.ascii_grid.specs.declared.progress.Progress.{Progress}
 use Rattle.ascii_grid.proofs.Parting.{words-parted, IsParted-byte, IsParted-separator, ended_words-separator}
 use Rattle.ascii_grid.proofs.Judging.{Pairs, HasBegun-push}
 use Rattle.ascii_grid.proofs.JudgedWords.{at_heights}
-use Rattle.ascii_grid.proofs.Told.{word_fault, long_fault, height_word}
+use Rattle.ascii_grid.proofs.Told.{is_memory, word_fault, long_fault, height_word}
 
 -- ---- the bytes kept
 
-pub push-room : (bytes : List ℕ) (len b : ℕ) → length bytes ≡ 65 → len < 65 → take (len + 1) (set bytes len b) ≡ take 65 (take len bytes ++ b ∷ [])
-push-room bytes len b full room =
-    let inside : len < length bytes = omega arith in
-    let short : length (take len bytes ++ b ∷ []) ≤ 65 = omega (arith, length-append (take len bytes) (b ∷ []), length-take len bytes) in
-    take_more_set bytes len b inside ∙ sym (take_all 65 (take len bytes ++ b ∷ []) short)
+-- one byte more is kept where there is room
+pub kept_more : (w front : Word) (b : ℕ) → front ≡ take 65 w → length front + 1 ≤ 65 → front ++ b ∷ [] ≡ take 65 (w ++ b ∷ [])
+kept_more w front b e h =
+    let short : length w ≤ 64 = omega (arith, h, ap length e, length-take 65 w) in
+    ap (λ z. z ++ b ∷ []) (e ∙ take_all 65 w (omega arith)) ∙ sym (take_all 65 (w ++ b ∷ []) (omega (arith, length-append w (b ∷ []))))
 
-pub push-full : (bytes : List ℕ) (len b : ℕ) → length bytes ≡ 65 → len ≤ 65 → 65 ≤ len → take len bytes ≡ take 65 (take len bytes ++ b ∷ [])
-push-full bytes len b full within over =
-    let size : length (take len bytes) ≡ 65 = omega (arith, length-take len bytes) in
-    sym (take_at (take len bytes) (b ∷ []) 65 size)
-
--- a front kept is the front of the longer word
-pub take-push : (w : Word) (b : ℕ) → take 65 (take 65 w ++ b ∷ []) ≡ take 65 (w ++ b ∷ [])
-take-push w b =
-    elim (cases_lt (length w) 65) [
-      | inl short ↦ ap (λ z. take 65 (z ++ b ∷ [])) (take_all 65 w (omega arith))
-      | inr long ↦
-          let size : length (take 65 w) ≡ 65 = omega (arith, length-take 65 w) in
-          take_at (take 65 w) (b ∷ []) 65 size ∙ sym (take-append-le 65 w (b ∷ []) long)
-    ]
+pub kept_full : (w front : Word) (b : ℕ) → front ≡ take 65 w → 65 < length front + 1 → front ≡ take 65 (w ++ b ∷ [])
+kept_full w front b e h = e ∙ sym (take-append-le 65 w (b ∷ []) (omega (arith, h, ap length e, length-take 65 w)))
 
 -- ---- the end of a word
 
@@ -73,7 +61,7 @@ ended_fault p text f h some long k =
       | inl far ↦
           let more : 64 < length h.last = omega (arith, length-take 65 h.last) in
           let at : words_fault p.judge.scale (words text) ≡ Some TooLong = ap (words_fault p.judge.scale) (words-last p text h some) ∙ long_fault p.judge h.ended h.last h.judged more in
-          word_fault p.judge.scale (words text) f (at ∙ ap Some (sym (long far)))
+          word_fault p.judge.scale (words text) f (ap (λ g. is_memory (Some g)) (long far)) (at ∙ ap Some (sym (long far)))
       | inr near ↦
           let same : p.word ≡ h.last = h.front ∙ whole h.last (omega arith) in
           subst (λ ws. IsWordFault p.judge.scale ws f) (ap (λ w. h.ended ++ w ∷ []) same ∙ sym (words-last p text h some)) k
@@ -81,13 +69,13 @@ ended_fault p text f h some long k =
 
 -- ---- one more byte
 
-pub words_after_byte : (p p' : Progress) (text : List ℕ) (b : ℕ) → HasWords p text → is_separator b ≡ false → p'.judge ≡ p.judge → p'.word ≡ take 65 (p.word ++ b ∷ []) → HasWords p' (text ++ b ∷ [])
+pub words_after_byte : (p p' : Progress) (text : List ℕ) (b : ℕ) (h : HasWords p text) → is_separator b ≡ false → p'.judge ≡ p.judge → p'.word ≡ take 65 (h.last ++ b ∷ []) → HasWords p' (text ++ b ∷ [])
 words_after_byte p p' text b h e judge word = record {
   ended = h.ended;
   last = h.last ++ b ∷ [];
   parted = IsParted-byte text h.ended h.last b h.parted e;
   judged = subst (λ j. HasJudged j h.ended) (sym judge) h.judged;
-  front = word ∙ ap (λ w. take 65 (w ++ b ∷ [])) h.front ∙ take-push h.last b;
+  front = word;
 }
 
 pub words_after_separator : (p p' : Progress) (text : List ℕ) (b : ℕ) → HasWords p text → is_separator b ≡ true → (p'.word ≡ []) × HasJudged p'.judge (words text) → HasWords p' (text ++ b ∷ [])

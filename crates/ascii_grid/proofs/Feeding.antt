@@ -154,8 +154,8 @@ judged_none j ws h = by_stage j.stage refl
     by_stage AtKey e =
         ap (words_fault j.scale) (at_key j ws h e ∙ sym (append-nil (flat h.pairs)))
         ∙ words_fault-flat j.scale h.pairs [] [] [] h.header.keys h.header.faultless refl refl
-    by_stage (AtValue slot) e =
-        let there = at_value j ws h slot e in
+    by_stage (AtValue slot centre) e =
+        let there = at_value j ws h slot centre e in
         ap (words_fault j.scale) there.1 ∙ words_fault-key j.scale h.pairs there.0 h.header.keys h.header.faultless there.2.letter ∙ there.2.faultless
     by_stage AtHeights e =
         let there = at_heights j ws h e in

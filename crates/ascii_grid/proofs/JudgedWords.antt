@@ -9,13 +9,12 @@ use Rattle.std.proofs.lemmas.List.{append-nil, append_assoc, map_push, length-ma
 use Rattle.terrain.specs.Words.{Word}
 use Rattle.ascii_grid.specs.Header.{fills, slot_of, is_long, is_value, bad_value, begins_with_letter, header_words, height_words, key_left, nodata_for, header_fault, key_fault, value_fault, missing_fault}
 use Rattle.ascii_grid.specs.GridText.{AsksForCells, is_cell, cell_of, cells_wanted, words_fault, heights_fault, height_fault, AsksAtHeight}
-use Rattle.ascii_grid.specs.Slots.{is_given, is_centre, key_of, slot_named, with_value}
+use Rattle.ascii_grid.specs.Slots.{is_given, is_centre, with_value}
 use Rattle.ascii_grid.specs.Reading.{flat, slots_of, keys_before, IsHeaderOf, AwaitsValue, HasBegun, AreHeights, IsAt, HasJudged}
 use Rattle.ascii_grid.specs.declared.fault.Key.{Key}
 use Rattle.ascii_grid.specs.declared.fault.GridFault.{GridFault}
 use Rattle.ascii_grid.specs.declared.fault.GridFault.TheVariants.{UnknownKey, RepeatedKey, BadHeight, TooMany, TooLong}
 use Rattle.ascii_grid.specs.declared.header.Header.{Header}
-use Rattle.ascii_grid.specs.declared.key.Slot.{Slot}
 use Rattle.ascii_grid.specs.declared.judge.Stage.{Stage}
 use Rattle.ascii_grid.specs.declared.judge.Stage.TheVariants.{AtKey, AtValue, AtHeights}
 use Rattle.ascii_grid.specs.declared.judge.Judge.{Judge}
@@ -32,9 +31,9 @@ stand j ps rest s e t = subst (λ z. IsAt j ps rest z) (sym e) t
 pub at_key : (j : Judge) (ws : List Word) (h : HasJudged j ws) → j.stage ≡ AtKey → ws ≡ flat h.pairs
 at_key j ws h e = h.words ∙ ap (λ z. flat h.pairs ++ z) (at j ws h AtKey e) ∙ append-nil (flat h.pairs)
 
-pub at_value : (j : Judge) (ws : List Word) (h : HasJudged j ws) (slot : Slot) → j.stage ≡ AtValue slot → (k : Word) × (ws ≡ flat h.pairs ++ k ∷ []) × AwaitsValue h.pairs k slot
-at_value j ws h slot e =
-    let there = at j ws h (AtValue slot) e in
+pub at_value : (j : Judge) (ws : List Word) (h : HasJudged j ws) (slot : Key) (centre : Bool) → j.stage ≡ AtValue slot centre → (k : Word) × (ws ≡ flat h.pairs ++ k ∷ []) × AwaitsValue h.pairs k slot centre
+at_value j ws h slot centre e =
+    let there = at j ws h (AtValue slot centre) e in
     (there.0, h.words ∙ ap (λ z. flat h.pairs ++ z) there.1, there.2)
 
 pub at_heights : (j : Judge) (ws : List Word) (h : HasJudged j ws) → j.stage ≡ AtHeights → HasBegun h.rest × AreHeights j h.pairs h.rest
@@ -65,16 +64,16 @@ slot_fault : (ps : Pairs) (o : Option Key) (f : GridFault) → MatchOption o (f 
 slot_fault ps None f e = ap Some (sym e)
 slot_fault ps (Some slot) f e = ap (λ b. cond b (Some (RepeatedKey slot)) None) (repeats slot ps ∙ e.0) ∙ ap Some (sym e.1)
 
-pub judged-key : (j j' : Judge) (ws : List Word) (w : Word) (slot : Slot) → HasJudged j ws → j.stage ≡ AtKey → length w ≤ 64 → begins_with_letter w ≡ true → slot_of w ≡ Some (key_of slot) → slot ≡ slot_named (key_of slot) (is_centre w) → is_given j.header (key_of slot) ≡ false → j'.header ≡ j.header → j'.stage ≡ AtValue slot → HasJudged j' (ws ++ w ∷ [])
-judged-key j j' ws w slot h e short letter s named free same stage =
-    let none : is_given (slots_of h.pairs) (key_of slot) ≡ false = ap (λ x. is_given x (key_of slot)) (sym h.header.slots) ∙ free in
-    let awaits : AwaitsValue h.pairs w slot = record { letter = letter; faultless = key_fault-none h.pairs w (key_of slot) short s none; key_is = s; named = named; free = none } in
+pub judged-key : (j j' : Judge) (ws : List Word) (w : Word) (slot : Key) → HasJudged j ws → j.stage ≡ AtKey → length w ≤ 64 → begins_with_letter w ≡ true → slot_of w ≡ Some slot → is_given j.header slot ≡ false → j'.header ≡ j.header → j'.stage ≡ AtValue slot (is_centre w) → HasJudged j' (ws ++ w ∷ [])
+judged-key j j' ws w slot h e short letter s free same stage =
+    let none : is_given (slots_of h.pairs) slot ≡ false = ap (λ x. is_given x slot) (sym h.header.slots) ∙ free in
+    let awaits : AwaitsValue h.pairs w slot (is_centre w) = record { letter = letter; faultless = key_fault-none h.pairs w slot short s none; key_is = s; named = refl; free = none } in
     record {
       pairs = h.pairs;
       rest = w ∷ [];
       words = ap (λ z. z ++ w ∷ []) (at_key j ws h e);
       header = same_header j.header j'.header h.pairs same h.header;
-      at = stand j' h.pairs (w ∷ []) (AtValue slot) stage (w, refl, awaits);
+      at = stand j' h.pairs (w ∷ []) (AtValue slot (is_centre w)) stage (w, refl, awaits);
     }
 
 pub fault-key : (j : Judge) (d : ℕ) (ws : List Word) (w : Word) (f : GridFault) → HasJudged j ws → j.stage ≡ AtKey → length w ≤ 64 → begins_with_letter w ≡ true → MatchOption (slot_of w) (f ≡ UnknownKey) (λ slot. (is_given j.header slot ≡ true) × (f ≡ RepeatedKey slot)) → words_fault d (ws ++ w ∷ []) ≡ Some f
@@ -89,12 +88,12 @@ fault-key j d ws w f h e short letter m =
 value_fault-short : (k v : Word) (slot : Key) → length v ≤ 64 → slot_of k ≡ Some slot → value_fault k v ≡ cond (is_value slot v) None (Some (bad_value slot))
 value_fault-short k v slot h s = rw (is_short v h, s) refl
 
-pub judged-value : (j j' : Judge) (ws : List Word) (v : Word) (slot : Slot) → HasJudged j ws → j.stage ≡ AtValue slot → length v ≤ 64 → is_value (key_of slot) v ≡ true → j'.header ≡ with_value j.header slot v → j'.stage ≡ AtKey → HasJudged j' (ws ++ v ∷ [])
-judged-value j j' ws v slot h e short ok same stage =
-    let there = at_value j ws h slot e in
+pub judged-value : (j j' : Judge) (ws : List Word) (v : Word) (slot : Key) (centre : Bool) → HasJudged j ws → j.stage ≡ AtValue slot centre → length v ≤ 64 → is_value slot v ≡ true → j'.header ≡ with_value j.header slot centre v → j'.stage ≡ AtKey → HasJudged j' (ws ++ v ∷ [])
+judged-value j j' ws v slot centre h e short ok same stage =
+    let there = at_value j ws h slot centre e in
     let k = there.0 in
     let awaits = there.2 in
-    let fault : value_fault k v ≡ None = value_fault-short k v (key_of slot) short awaits.key_is ∙ ap (λ b. cond b None (Some (bad_value (key_of slot)))) ok in
+    let fault : value_fault k v ≡ None = value_fault-short k v slot short awaits.key_is ∙ ap (λ b. cond b None (Some (bad_value slot))) ok in
     let words : ws ++ v ∷ [] ≡ flat (h.pairs ++ (k, v) ∷ []) = ap (λ z. z ++ v ∷ []) there.1 ∙ append_assoc (flat h.pairs) (k ∷ []) (v ∷ []) ∙ sym (flat-push h.pairs k v) in
     let none : header_fault [] (flat h.pairs ++ k ∷ v ∷ []) ≡ None = header_fault-flat [] h.pairs (k ∷ v ∷ []) ∙ rw (h.header.faultless, awaits.faultless, fault) refl in
     record {
@@ -104,21 +103,21 @@ judged-value j j' ws v slot h e short ok same stage =
       header = record {
         keys = are_keys-push h.pairs k v h.header.keys awaits.letter;
         faultless = ap (header_fault []) (flat-push h.pairs k v) ∙ none;
-        slots = same ∙ ap (λ x. with_value x slot v) h.header.slots ∙ ap (λ s. with_value (slots_of h.pairs) s v) awaits.named ∙ with_value-slots_of (key_of slot) h.pairs k v awaits.key_is awaits.free;
+        slots = same ∙ ap (λ x. with_value x slot centre v) h.header.slots ∙ ap (λ b. with_value (slots_of h.pairs) slot b v) awaits.named ∙ with_value-slots_of slot h.pairs k v awaits.key_is awaits.free;
       };
       at = stand j' (h.pairs ++ (k, v) ∷ []) [] AtKey stage refl;
     }
 
-pub fault-value : (j : Judge) (d : ℕ) (ws : List Word) (v : Word) (slot : Slot) → HasJudged j ws → j.stage ≡ AtValue slot → length v ≤ 64 → is_value (key_of slot) v ≡ false → words_fault d (ws ++ v ∷ []) ≡ Some (bad_value (key_of slot))
-fault-value j d ws v slot h e short bad =
-    let there = at_value j ws h slot e in
+pub fault-value : (j : Judge) (d : ℕ) (ws : List Word) (v : Word) (slot : Key) (centre : Bool) → HasJudged j ws → j.stage ≡ AtValue slot centre → length v ≤ 64 → is_value slot v ≡ false → words_fault d (ws ++ v ∷ []) ≡ Some (bad_value slot)
+fault-value j d ws v slot centre h e short bad =
+    let there = at_value j ws h slot centre e in
     let k = there.0 in
     let awaits = there.2 in
     ap (λ z. words_fault d (z ++ v ∷ [])) there.1
     ∙ ap (words_fault d) (append_assoc (flat h.pairs) (k ∷ []) (v ∷ []))
     ∙ words_fault-value d h.pairs k v h.header.keys h.header.faultless awaits.letter awaits.faultless
-    ∙ value_fault-short k v (key_of slot) short awaits.key_is
-    ∙ ap (λ b. cond b None (Some (bad_value (key_of slot)))) bad
+    ∙ value_fault-short k v slot short awaits.key_is
+    ∙ ap (λ b. cond b None (Some (bad_value slot))) bad
 
 -- ---- heights
 

@@ -10,7 +10,7 @@ use Rattle.terrain.specs.Words.{Word}
 use Rattle.terrain.specs.Decimal.{number_of}
 use Rattle.ascii_grid.specs.Header.{fills, slot_of, slot_number, begins_with_letter, header_words, height_words, pairs, key_left, nodata_for, header_fault, key_fault, value_fault, missing_fault}
 use Rattle.ascii_grid.specs.GridText.{cells_wanted, words_fault, heights_fault, height_fault}
-use Rattle.ascii_grid.specs.Slots.{is_given, is_centre, slot_named, with_value, missing_of, wanted_of}
+use Rattle.ascii_grid.specs.Slots.{is_given, is_centre, with_value, missing_of, wanted_of}
 use Rattle.ascii_grid.specs.Reading.{flat, given, slots_of, keys_before, HasBegun}
 use Rattle.ascii_grid.specs.declared.fault.Key.{Key}
 use Rattle.ascii_grid.specs.declared.fault.Key.TheVariants.{Ncols, Nrows, Xll, Yll, Cellsize, Nodata}
@@ -130,7 +130,7 @@ given-push s slot ps k v h =
 abbrev FilledAt : Key → Word × Word → Pairs → Pairs → Type 0
 FilledAt slot p ps qs = (given slot qs ≡ Some p) × ((s : Key) → (slot_number slot == slot_number s) ≡ false → given s qs ≡ given s ps)
 
-with_value-at : (slot : Key) (p : Word × Word) (ps qs : Pairs) → FilledAt slot p ps qs → with_value (slots_of ps) (slot_named slot (is_centre p.0)) p.1 ≡ slots_of qs
+with_value-at : (slot : Key) (p : Word × Word) (ps qs : Pairs) → FilledAt slot p ps qs → with_value (slots_of ps) slot (is_centre p.0) p.1 ≡ slots_of qs
 with_value-at Ncols p ps qs h = rw (h.0, h.1 Nrows refl, h.1 Xll refl, h.1 Yll refl, h.1 Cellsize refl, h.1 Nodata refl) refl
 with_value-at Nrows p ps qs h = rw (h.0, h.1 Ncols refl, h.1 Xll refl, h.1 Yll refl, h.1 Cellsize refl, h.1 Nodata refl) refl
 with_value-at Xll p ps qs h = rw (h.0, h.1 Ncols refl, h.1 Nrows refl, h.1 Yll refl, h.1 Cellsize refl, h.1 Nodata refl) refl
@@ -143,7 +143,7 @@ same_number Ncols = refl
 same_number slot = refl
 
 -- one more pair fills its slot
-pub with_value-slots_of : (slot : Key) (ps : Pairs) (k v : Word) → slot_of k ≡ Some slot → is_given (slots_of ps) slot ≡ false → with_value (slots_of ps) (slot_named slot (is_centre k)) v ≡ slots_of (ps ++ (k, v) ∷ [])
+pub with_value-slots_of : (slot : Key) (ps : Pairs) (k v : Word) → slot_of k ≡ Some slot → is_given (slots_of ps) slot ≡ false → with_value (slots_of ps) slot (is_centre k) v ≡ slots_of (ps ++ (k, v) ∷ [])
 with_value-slots_of slot ps k v h free =
     let none = none_from_is_some (given slot ps) (sym (is_given-slots_of slot ps) ∙ free) in
     with_value-at slot (k, v) ps (ps ++ (k, v) ∷ []) (

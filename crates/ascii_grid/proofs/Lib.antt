@@ -11,7 +11,6 @@ pub mod JudgedWords
 pub mod Told
 pub mod Stays
 -- a text by pieces, to its end
-pub mod Reading
 pub mod Ending
 pub mod Whole
 pub mod Spelled
@@ -20,7 +19,6 @@ pub mod Taking
 pub mod TextLaws
 -- the written text, and its length
 pub mod Writing
-pub mod Gathering
 pub mod Decimals
 pub mod RowText
 pub mod TextLength
@@ -30,5 +28,4 @@ pub mod ReadBackDecimals
 pub mod ReadBackNumbers
 pub mod ReadBackHeights
 pub mod ReadBackCells
-pub mod ReadBackHeader
 pub mod ReadBack

@@ -6,9 +6,9 @@ use Rattle.std.proofs.lemmas.List.{append-nil, length-take, take_all, drop_all}
 use Rattle.std.proofs.lemmas.Bool.{and_parts, leb-true, le-leb, ne_eqb, eqb-true, or_from}
 use Rattle.std.proofs.Math.Nat.{pow-suc}
 use Rattle.terrain.specs.Words.{is_separator}
-use Rattle.terrain.specs.Decimal.{without_sign, is_negative, is_point, is_exponent_mark, has_exponent, are_digits, number_of, scaled_value}
+use Rattle.terrain.specs.Decimal.{without_sign, is_negative, is_point, is_exponent_mark, has_exponent, number_of, scaled_value}
 use Rattle.ascii_grid.specs.Plain.{IsPlain}
-use Rattle.ascii_grid.proofs.Scaled.{are_digits-append, before_first-none, number_of-padded, scaled_value-digits}
+use Rattle.ascii_grid.proofs.Scaled.{are_digits_joined, before_first-none, number_of-padded, scaled_value-digits}
 
 -- a test that no digit passes
 abbrev pub PassesNoDigit : (ℕ → Bool) → Type 0
@@ -60,8 +60,8 @@ scaled_value-plain d w xs bare plain some digits small =
     let no_marks = any-digits is_point xs no_point digits in
     let before : xs ≡ before_first is_point (without_sign w) = sym (ap (before_first is_point) bare ∙ before_first-none is_point xs no_marks) in
     let after : [] ≡ after_first is_point (without_sign w) = sym (ap (after_first is_point) bare ∙ after_first-none is_point xs no_marks) in
-    scaled_value-digits d w xs [] plain before after (are_digits-append xs [] some ∙ rw digits refl)
-    ∙ rw (drop-none d, scaled_digits d xs, le-leb (number_of xs * 10 ^ d) (10 ^ 18) small) refl
+    scaled_value-digits d w xs [] (Some (number_of xs * 10 ^ d)) plain before after (are_digits_joined xs [] some ∙ rw digits refl)
+    (rw (drop-none d, scaled_digits d xs, le-leb (number_of xs * 10 ^ d) (10 ^ 18) small) refl)
 
 -- a text that begins with a digit has no sign
 pub bare_digits : (xs rest : List ℕ) → 0 < length xs → list_all is_ascii_digit xs ≡ true → (without_sign (xs ++ rest) ≡ xs ++ rest) × (is_negative (xs ++ rest) ≡ false)

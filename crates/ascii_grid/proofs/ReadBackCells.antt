@@ -5,7 +5,7 @@ use Rattle.std.specs.List.{All}
 use Rattle.std.specs.Option.{option_map_or, option_or}
 use Rattle.std.specs.Str.{bytes_eq}
 use Rattle.std.specs.Ordering.{int_eq}
-use Rattle.std.proofs.lemmas.Bool.{cond-true, cond-false, and_from, or_left, or_right, or_from, false_from_ne_true, ltb-false, le-ltb}
+use Rattle.std.proofs.lemmas.Bool.{cond-true, cond-false, and_from, or_left, or_right, or_from, false_from_ne_true, ltb-false}
 use Rattle.std.proofs.lemmas.Bool.Decides.{Decides-int_eq}
 use Rattle.std.proofs.lemmas.Slice.Eq.{bytes_eq-Decides}
 use Rattle.std.proofs.lemmas.List.Elements.{All-head, All-tail}
@@ -18,7 +18,7 @@ use Rattle.ascii_grid.specs.Text.{height_text, cell_text}
 use Rattle.ascii_grid.proofs.JudgedWords.{is_short, height_fault-none}
 use Rattle.ascii_grid.proofs.ReadBackWords.{IsClean}
 use Rattle.ascii_grid.proofs.ReadBackDecimals.{decimal_clean, decimal_begins}
-use Rattle.ascii_grid.proofs.ReadBackHeights.{height_value, height_decimal, length-height_text}
+use Rattle.ascii_grid.proofs.ReadBackHeights.{height_value, decimal_from_value, height_short}
 
 -- a cell that a lawful grid can have
 pub record IsLawfulCell (d : ℕ) (nodata : Word) (c : Option ℤ) : Type 0 where
@@ -69,11 +69,11 @@ reads_height d nodata z few h apart =
     let other : same_value (scaled_value d (height_text d z)) (scaled_value d nodata) ≡ false =
     ap (λ o. same_value o (scaled_value d nodata)) value ∙ other_value z (scaled_value d nodata) apart in
     let not_nodata : is_nodata d nodata (height_text d z) ≡ false = or_from (bytes_eq (height_text d z) nodata) (same_value (scaled_value d (height_text d z)) (scaled_value d nodata)) bytes other in
-    let decimal_text = height_decimal d z size in
+    let decimal_text = decimal_from_value d (height_text d z) z value in
     record {
       clean = decimal_clean (height_text d z) decimal_text;
       begins = decimal_begins (height_text d z) decimal_text;
-      short = is_short (height_text d z) (let l = length-height_text d z few size in omega (arith, l));
+      short = is_short (height_text d z) (let l = height_short d z few size in omega (arith, l));
       is = or_right (is_nodata d nodata (height_text d z)) (option_map_or is_height (scaled_value d (height_text d z)) false) (ap (λ o. option_map_or is_height o false) value ∙ height_test z h);
       value = cond-false (is_nodata d nodata (height_text d z)) None (scaled_value d (height_text d z)) not_nodata ∙ value;
     }

@@ -1,45 +1,35 @@
 -- A line of cells, cell by cell, and the lines of a grid, line by line.
 use Rattle.std.proofs.Common.{◌≡◌, ℕ, zero, suc, ◌+◌, ◌-◌, ◌*◌, ◌<◌, List, [], ◌∷◌, ◌++◌, length, take, drop, map, get_or, Option, sym, ap, refl, ◌∙◌, arith, zero-add, zero-mul}
 use Rattle.std.specs.List.{join_with_byte, flat_map}
-use Rattle.std.proofs.lemmas.List.{append_assoc, append-nil, take-append-drop, take_more, drop_more, drop-drop}
+use Rattle.std.proofs.lemmas.List.{append_assoc, append-nil, take_more, drop_more, drop_all, drop-drop}
+use Rattle.std.proofs.lemmas.Grind.{flat_map-append}
 use Rattle.ascii_grid.specs.Text.{cell_text, row_text, rows_text}
 
--- what is joined to more than nothing
-pub join-append : {X : Type 0} (f : X → List ℕ) (b : ℕ) (x : X) (xs ys : List X) → join_with_byte b (map f (x ∷ xs ++ ys)) ≡ join_with_byte b (map f (x ∷ xs)) ++ flat_map (λ y. b ∷ f y) ys
-join-append f b x [] [] = sym (append-nil (f x))
-join-append f b x [] (y ∷ ys) = ap (λ z. f x ++ (b ∷ z)) (join-append f b y [] ys)
-join-append f b x (w ∷ xs) ys = ap (λ z. f x ++ (b ∷ z)) (join-append f b w xs ys) ∙ sym (append_assoc (f x) (b ∷ join_with_byte b (map f (w ∷ xs))) (flat_map (λ y. b ∷ f y) ys))
+-- cells with a space behind each
+abbrev pub spaced : {X : Type 0} → (X → List ℕ) → List ℕ → List (Option X) → List ℕ
+spaced v nodata cells = flat_map (λ c. cell_text v nodata c ++ 32 ∷ []) cells
 
--- the first of some words and one more, a word that was read
-pub join_read : {X : Type 0} (f : X → List ℕ) (cells : List X) (c : X) (i : ℕ) → 0 < i → i < length cells → c ≡ get_or cells i c → join_with_byte 32 (map f (take (i + 1) cells)) ≡ join_with_byte 32 (map f (take i cells)) ++ (32 ∷ f c)
-join_read f [] c i h k e = absurd (omega arith)
-join_read f (x ∷ cells) c zero h k e = absurd (omega arith)
-join_read {X} f (x ∷ cells) c (suc i) h k e =
-    let more : take (suc i + 1) (x ∷ cells) ≡ take (suc i) (x ∷ cells) ++ c ∷ [] = rw (take_more (x ∷ cells) (suc i) c k, ← e) refl in
-    ap (λ (z : List X). join_with_byte 32 (map f z)) more
-    ∙ join-append f 32 x (take i cells) (c ∷ [])
-    ∙ ap (λ z. join_with_byte 32 (map f (take (suc i) (x ∷ cells))) ++ z) (append-nil (32 ∷ f c))
+-- a line from some cell on
+pub row_split : {X : Type 0} (v : X → List ℕ) (nodata : List ℕ) (cells : List (Option X)) (i : ℕ) → i < length cells → row_text v nodata cells ≡ spaced v nodata (take i cells) ++ row_text v nodata (drop i cells)
+row_split v nodata [] i h = absurd (omega arith)
+row_split v nodata (c ∷ cells) zero h = refl
+row_split v nodata (c ∷ []) (suc i) h = absurd (omega arith)
+row_split v nodata (c ∷ d ∷ cells) (suc i) h =
+    regroup (cell_text v nodata c) (join_with_byte 32 (map (cell_text v nodata) (d ∷ cells))) (10 ∷ [])
+    ∙ ap (λ z. (cell_text v nodata c ++ 32 ∷ []) ++ z) (row_split v nodata (d ∷ cells) i (omega arith))
+    ∙ sym (append_assoc (cell_text v nodata c ++ 32 ∷ []) (spaced v nodata (take i (d ∷ cells))) (row_text v nodata (drop i (d ∷ cells)))) where
+      regroup : (a b c : List ℕ) → (a ++ 32 ∷ b) ++ c ≡ (a ++ 32 ∷ []) ++ (b ++ c)
+      regroup a b c = simp append_assoc
 
-pub join_split : {X : Type 0} (f : X → List ℕ) (cells : List X) (i : ℕ) → 0 < i → i < length cells → join_with_byte 32 (map f cells) ≡ join_with_byte 32 (map f (take i cells)) ++ flat_map (λ c. 32 ∷ f c) (drop i cells)
-join_split f [] i h k = absurd (omega arith)
-join_split f (c ∷ cells) zero h k = absurd (omega arith)
-join_split {X} f (c ∷ cells) (suc i) h k =
-    ap (λ (z : List X). join_with_byte 32 (map f (c ∷ z))) (sym (take-append-drop i cells))
-    ∙ join-append f 32 c (take i cells) (drop i cells)
+-- one cell more
+pub spaced_more : {X : Type 0} (v : X → List ℕ) (nodata : List ℕ) (cells : List (Option X)) (c : Option X) (i : ℕ) → i < length cells → c ≡ get_or cells i c → spaced v nodata (take (i + 1) cells) ≡ spaced v nodata (take i cells) ++ (cell_text v nodata c ++ 32 ∷ [])
+spaced_more v nodata cells c i h e = rw (take_more cells i c h, ← e, flat_map-append, append-nil) refl
 
--- what a row's text is: before a cell that was read, at it and after it
-pub row_at : {X : Type 0} (v : X → List ℕ) (nodata : List ℕ) (cells : List (Option X)) (c : Option X) (i : ℕ) → 0 < i → i < length cells → c ≡ get_or cells i c → row_text v nodata cells ≡ (join_with_byte 32 (map (cell_text v nodata) (take i cells)) ++ (32 ∷ cell_text v nodata c)) ++ (flat_map (λ c. 32 ∷ cell_text v nodata c) (drop (i + 1) cells) ++ 10 ∷ [])
-row_at {X} v nodata cells c i h k e =
-    let text = cell_text v nodata in
-    let rest : drop i cells ≡ c ∷ drop (i + 1) cells = drop_more cells i c k ∙ ap (λ (d : Option X). d ∷ drop (i + 1) cells) (sym e) in
-    ap (λ z. z ++ 10 ∷ []) (join_split text cells i h k ∙ ap (λ (z : List (Option X)). join_with_byte 32 (map text (take i cells)) ++ flat_map (λ c. 32 ∷ text c) z) rest)
-    ∙ regroup (join_with_byte 32 (map text (take i cells))) (32 ∷ text c) (flat_map (λ c. 32 ∷ text c) (drop (i + 1) cells)) (10 ∷ []) where
-      regroup : (a b c d : List ℕ) → (a ++ (b ++ c)) ++ d ≡ (a ++ b) ++ (c ++ d)
-      regroup a b c d = simp append_assoc
-
-pub row_begun : {X : Type 0} (v : X → List ℕ) (nodata : List ℕ) (cells : List (Option X)) (c : Option X) → 0 < length cells → c ≡ get_or cells 0 c → row_text v nodata cells ≡ cell_text v nodata c ++ (flat_map (λ c. 32 ∷ cell_text v nodata c) (drop 1 cells) ++ 10 ∷ [])
-row_begun v nodata [] c h e = absurd (omega arith)
-row_begun v nodata (x ∷ cells) c h e = rw e (ap (λ z. z ++ 10 ∷ []) (join-append (cell_text v nodata) 32 x [] cells) ∙ append_assoc (cell_text v nodata x) (flat_map (λ c. 32 ∷ cell_text v nodata c) cells) (10 ∷ []))
+-- the last one
+pub row_last : {X : Type 0} (v : X → List ℕ) (nodata : List ℕ) (cells : List (Option X)) (c : Option X) (i : ℕ) → i + 1 ≡ length cells → c ≡ get_or cells i c → row_text v nodata cells ≡ spaced v nodata (take i cells) ++ (cell_text v nodata c ++ 10 ∷ [])
+row_last {X} v nodata cells c i h e =
+    let last : drop i cells ≡ c ∷ [] = drop_more cells i c (omega (arith, h)) ∙ rw (← e, drop_all (i + 1) cells (omega (arith, h))) refl in
+    row_split v nodata cells i (omega (arith, h)) ∙ ap (λ (z : List (Option X)). spaced v nodata (take i cells) ++ row_text v nodata z) last
 
 -- some rows, and then the others
 pub rows_text-add : {X : Type 0} (v : X → List ℕ) (nodata : List ℕ) (cols m n : ℕ) (cells : List (Option X)) → rows_text v nodata cols (m + n) cells ≡ rows_text v nodata cols m cells ++ rows_text v nodata cols n (drop (m * cols) cells)

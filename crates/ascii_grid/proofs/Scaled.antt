@@ -7,15 +7,15 @@ use Rattle.std.proofs.Math.Seq.{take-append-add}
 use Rattle.std.proofs.lemmas.List.Sums.{fold-append}
 use Rattle.std.proofs.lemmas.List.Folds.{list_all-append}
 use Rattle.std.proofs.lemmas.Bool.{cases_lt, cond_both, or_parts, lt-ltb, le-leb, lt-leb}
-use Rattle.std.proofs.lemmas.Option.{same_Some}
+use Rattle.std.specs.Option.{option_map}
 use Rattle.std.specs.Bool.{then_some}
 use Rattle.terrain.specs.Words.{Word}
 use Rattle.terrain.specs.Decimal.{without_sign, is_negative, is_point, is_exponent_mark, mantissa, whole_part, fraction, has_exponent, are_digits, number_of, scaled_value}
 
 -- digits in two parts, the first with one at least
-pub are_digits-append : (a b : List ℕ) → 0 < length a → are_digits (a ++ b) ≡ (list_all is_ascii_digit a && list_all is_ascii_digit b)
-are_digits-append [] b h = absurd (omega arith)
-are_digits-append (x ∷ xs) b h = list_all-append is_ascii_digit (x ∷ xs) b
+pub are_digits_joined : (a b : List ℕ) → 0 < length a → are_digits (a ++ b) ≡ (list_all is_ascii_digit a && list_all is_ascii_digit b)
+are_digits_joined [] b h = absurd (omega arith)
+are_digits_joined (x ∷ xs) b h = list_all-append is_ascii_digit (x ∷ xs) b
 
 -- the first digits of a fraction, with zeros behind it
 pub take-padded : (d : ℕ) (xs : List ℕ) → take d (xs ++ replicate d 48) ≡ take d xs ++ replicate (d - min d (length xs)) 48
@@ -68,28 +68,16 @@ scaled_value-not_digits d w a b h p q e =
     let digits : are_digits (whole_part w ++ fraction w) ≡ false = rw (m, ← p, ← q) e in
     rw digits refl
 
--- the scaled value of digits
-pub scaled_value-digits : (d : ℕ) (w a b : Word) → has_exponent w ≡ false → a ≡ before_first is_point (without_sign w) → b ≡ after_first is_point (without_sign w) → are_digits (a ++ b) ≡ true → scaled_value d w ≡ cond (list_all (λ x. x == 48) (drop d b) && nat_le (number_of (a ++ take d (b ++ replicate d 48))) (10 ^ 18)) (Some (cond (is_negative w) (neg_ℤ (pos (number_of (a ++ take d (b ++ replicate d 48))))) (pos (number_of (a ++ take d (b ++ replicate d 48)))))) None
-scaled_value-digits d w a b h p q e =
+option_map-cond : (t : Bool) (n : ℕ) (g : ℕ → ℤ) → cond t (Some (g n)) None ≡ option_map g (cond t (Some n) None)
+option_map-cond true n g = refl
+option_map-cond false n g = refl
+
+-- the scaled value of digits, by their size
+pub scaled_value-digits : (d : ℕ) (w a b : Word) (size : Option ℕ) → has_exponent w ≡ false → a ≡ before_first is_point (without_sign w) → b ≡ after_first is_point (without_sign w) → are_digits (a ++ b) ≡ true → size ≡ cond (list_all (λ x. x == 48) (drop d b) && nat_le (number_of (a ++ take d (b ++ replicate d 48))) (10 ^ 18)) (Some (number_of (a ++ take d (b ++ replicate d 48)))) None → scaled_value d w ≡ option_map (λ n. cond (is_negative w) (neg_ℤ (pos n)) (pos n)) size
+scaled_value-digits d w a b size h p q e k =
     let m = mantissa-plain w h in
     let digits : are_digits (whole_part w ++ fraction w) ≡ true = rw (m, ← p, ← q) e in
-    rw (digits, h, m, ← p, ← q) refl
-
-size-some : (t : Bool) (n size : ℕ) (g : ℕ → ℤ) → Some size ≡ cond t (Some n) None → cond t (Some (g n)) None ≡ Some (g size)
-size-some true n size g e = ap (λ k. Some (g k)) (sym (same_Some size n e))
-size-some false n size g e = cc
-
-size-none : (t : Bool) (n : ℕ) (g : ℕ → ℤ) → ◌≡◌ {A = Option ℕ} None (cond t (Some n) None) → ◌≡◌ {A = Option ℤ} (cond t (Some (g n)) None) None
-size-none true n g e = cc
-size-none false n g e = refl
-
-pub scaled_value-some : (d : ℕ) (w a b : Word) (size : ℕ) → has_exponent w ≡ false → a ≡ before_first is_point (without_sign w) → b ≡ after_first is_point (without_sign w) → are_digits (a ++ b) ≡ true → Some size ≡ cond (list_all (λ x. x == 48) (drop d b) && nat_le (number_of (a ++ take d (b ++ replicate d 48))) (10 ^ 18)) (Some (number_of (a ++ take d (b ++ replicate d 48)))) None → scaled_value d w ≡ Some (cond (is_negative w) (neg_ℤ (pos size)) (pos size))
-scaled_value-some d w a b size h p q e k =
-    scaled_value-digits d w a b h p q e ∙ size-some _ _ size (λ n. cond (is_negative w) (neg_ℤ (pos n)) (pos n)) k
-
-pub scaled_value-none : (d : ℕ) (w a b : Word) → has_exponent w ≡ false → a ≡ before_first is_point (without_sign w) → b ≡ after_first is_point (without_sign w) → are_digits (a ++ b) ≡ true → ◌≡◌ {A = Option ℕ} None (cond (list_all (λ x. x == 48) (drop d b) && nat_le (number_of (a ++ take d (b ++ replicate d 48))) (10 ^ 18)) (Some (number_of (a ++ take d (b ++ replicate d 48)))) None) → scaled_value d w ≡ None
-scaled_value-none d w a b h p q e k =
-    scaled_value-digits d w a b h p q e ∙ size-none _ _ (λ n. cond (is_negative w) (neg_ℤ (pos n)) (pos n)) k
+    rw (k, digits, h, m, ← p, ← q) (option_map-cond _ _ (λ n. cond (is_negative w) (neg_ℤ (pos n)) (pos n)))
 
 -- the size found, where only zeros stand behind the digits that count
 pub size-kept : (x : Bool) (n size : ℕ) → x ≡ true → size ≡ min n 1000000000000000001 → then_some (nat_lt size 1000000000000000001) size ≡ cond (x && nat_le n (10 ^ 18)) (Some n) None

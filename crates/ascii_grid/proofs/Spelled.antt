@@ -1,8 +1,8 @@
 -- What the end of a text tells, and that the grid which its words spell is lawful.
-use Rattle.std.proofs.Common.{◌≡◌, ℕ, ◌*◌, ◌<◌, ◌≤◌, Bool, true, false, cond, nat_lt, List, [], ◌∷◌, ◌++◌, length, map, Option, None, Some, arith, lit≤, refl, ap, sym, ◌∙◌, subst}
+use Rattle.std.proofs.Common.{◌≡◌, ℕ, ◌*◌, ◌≤◌, true, false, cond, nat_lt, Bool, List, [], ◌∷◌, ◌++◌, length, map, Option, None, Some, arith, lit≤, refl, ap, sym, ◌∙◌, subst}
 use Rattle.std.specs.Prelude.{unwrap_or, option_map, codes}
 use Rattle.std.specs.Option.{option_map_or}
-use Rattle.std.proofs.lemmas.Bool.{and_parts, lt-ltb, le-ltb}
+use Rattle.std.proofs.lemmas.Bool.{and_parts, lt-ltb}
 use Rattle.std.proofs.Math.Nat.{one-le-mul}
 use Rattle.std.proofs.lemmas.List.{append-nil, length-map}
 use Rattle.terrain.specs.Words.{Word}
@@ -10,7 +10,7 @@ use Rattle.terrain.specs.Decimal.{number_of, is_decimal, is_above_zero}
 use Rattle.terrain.specs.Raster.{IsHeaderWord, IsLawful}
 use Rattle.ascii_grid.specs.Header.{header_words, height_words, key_left, nodata_for, missing_fault, header_fault}
 use Rattle.ascii_grid.specs.GridText.{AsksForCells, cell_of, cells_wanted, heights_fault, end_fault, grid_of}
-use Rattle.ascii_grid.specs.Slots.{anchor_at, is_centre, key_of, wanted_of, IsWhole, raster_of}
+use Rattle.ascii_grid.specs.Slots.{anchor_at, is_centre, wanted_of, IsWhole, raster_of}
 use Rattle.ascii_grid.specs.Reading.{flat, given, slots_of, IsHeaderOf, AreHeights, HasJudged, IsEndFault}
 use Rattle.ascii_grid.specs.declared.fault.Key.{Key}
 use Rattle.ascii_grid.specs.declared.fault.Key.TheVariants.{Ncols, Nrows, Xll, Yll, Cellsize, Nodata}
@@ -18,7 +18,6 @@ use Rattle.ascii_grid.specs.declared.fault.GridFault.{GridFault}
 use Rattle.ascii_grid.specs.declared.fault.GridFault.TheVariants.{TooFew, NoValue, Memory}
 use Rattle.terrain.specs.declared.grid.Anchor.{Anchor}
 use Rattle.ascii_grid.specs.declared.header.Header.{Header}
-use Rattle.ascii_grid.specs.declared.key.Slot.{Slot}
 use Rattle.ascii_grid.specs.declared.judge.Judge.{Judge}
 use Rattle.ascii_grid.specs.declared.judge.Stage.TheVariants.{AtKey, AtValue, AtHeights}
 use Rattle.ascii_grid.proofs.Judging.{Pairs, pairs-flat, header_words-flat, height_words-flat, key_left-flat, is_given-slots_of, missing_of-slots_of, wanted_of-slots_of, number-of_pair}
@@ -37,9 +36,9 @@ heights_none h ps k = ap height_words (sym (append-nil (flat ps))) ∙ height_wo
 -- ---- the fault at the end
 
 -- after a key without its value
-pub end-value : (j : Judge) (ws : List Word) (slot : Slot) → HasJudged j ws → j.stage ≡ AtValue slot → end_fault ws ≡ Some (NoValue (key_of slot))
-end-value j ws slot h e =
-    let there = at_value j ws h slot e in
+pub end-value : (j : Judge) (ws : List Word) (slot : Key) (centre : Bool) → HasJudged j ws → j.stage ≡ AtValue slot centre → end_fault ws ≡ Some (NoValue slot)
+end-value j ws slot centre h e =
+    let there = at_value j ws h slot centre e in
     let k = there.0 in
     let letter = there.2.letter in
     let one : header_words (k ∷ []) ≡ k ∷ [] = rw letter refl in
@@ -142,6 +141,7 @@ lawful_slots ps d hs none missing scale faultless enough =
         few_rows = rw rows.1 (size_between rows.0.1 rows.2).1;
         size = size;
         heights = cells.1.0;
+        sinks = λ k d below. absurd (omega (arith, below));
       };
       scale = scale;
       xll = rw xll.1 (xll.3, xll.2);

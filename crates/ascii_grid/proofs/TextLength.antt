@@ -1,6 +1,6 @@
 -- How long a written grid is.
-use Rattle.std.proofs.Common.{◌≡◌, ℕ, zero, suc, ◌+◌, ◌*◌, ◌/◌, ◌^◌, ◌<◌, ◌≤◌, Bool, true, false, List, [], ◌∷◌, ◌++◌, length, take, drop, map, get_or, Option, None, Some, ℤ, pos, negsuc, ap, refl, ◌∙◌, arith}
-use Rattle.std.specs.Prelude.{codes, decimal, unsigned_abs, IfSome}
+use Rattle.std.proofs.Common.{◌≡◌, ℕ, zero, suc, ◌+◌, ◌*◌, ◌<◌, ◌≤◌, Bool, true, false, List, [], ◌∷◌, ◌++◌, length, take, drop, map, get_or, Option, None, Some, ℤ, refl, ◌∙◌, arith}
+use Rattle.std.specs.Prelude.{codes, decimal, IfSome}
 use Rattle.std.specs.List.{All, join_with_byte}
 use Rattle.std.proofs.Math.Nat.{mul_comm, mul-le-mul}
 use Rattle.std.proofs.lemmas.List.{length-append, length-take-le, length-drop}
@@ -8,29 +8,9 @@ use Rattle.std.proofs.lemmas.List.Elements.{All-head, All-tail, All-take, All-dr
 use Rattle.std.proofs.lemmas.Fmt.{length-decimal-le}
 use Rattle.terrain.specs.Raster.{Anchor, Raster, IsHeight, IsLawful}
 use Rattle.ascii_grid.specs.GridText.{most_bytes}
-use Rattle.ascii_grid.specs.Text.{decimals_text, height_text, cell_text, row_text, rows_text, line_text, anchor_text, header_text, heights_text}
-use Rattle.ascii_grid.proofs.ReadBackHeights.{body, text-pos, length-decimals}
+use Rattle.ascii_grid.specs.Text.{height_text, cell_text, row_text, rows_text, line_text, anchor_text, header_text, heights_text}
+use Rattle.ascii_grid.proofs.ReadBackHeights.{height_short}
 use Rattle.ascii_grid.proofs.ReadBackCells.{size_of_height}
-
--- the whole part of a height has at most ten digits, less one for each decimal
-whole_digits : (d n : ℕ) → d ≤ 6 → n ≤ 10 ^ 9 → length (decimal (n / 10 ^ d)) + d ≤ 10
-whole_digits zero n few h = let l = length-decimal-le 10 (n / 10 ^ 0) (omega arith) (omega arith) (omega arith) in omega (arith, l)
-whole_digits (suc zero) n few h = let l = length-decimal-le 9 (n / 10 ^ 1) (omega arith) (omega arith) (omega arith) in omega (arith, l)
-whole_digits (suc (suc zero)) n few h = let l = length-decimal-le 8 (n / 10 ^ 2) (omega arith) (omega arith) (omega arith) in omega (arith, l)
-whole_digits (suc (suc (suc zero))) n few h = let l = length-decimal-le 7 (n / 10 ^ 3) (omega arith) (omega arith) (omega arith) in omega (arith, l)
-whole_digits (suc (suc (suc (suc zero)))) n few h = let l = length-decimal-le 6 (n / 10 ^ 4) (omega arith) (omega arith) (omega arith) in omega (arith, l)
-whole_digits (suc (suc (suc (suc (suc zero))))) n few h = let l = length-decimal-le 5 (n / 10 ^ 5) (omega arith) (omega arith) (omega arith) in omega (arith, l)
-whole_digits (suc (suc (suc (suc (suc (suc zero)))))) n few h = let l = length-decimal-le 4 (n / 10 ^ 6) (omega arith) (omega arith) (omega arith) in omega (arith, l)
-whole_digits (suc (suc (suc (suc (suc (suc (suc d))))))) n few h = absurd (omega arith)
-
-body_short : (d n : ℕ) → d ≤ 6 → n ≤ 10 ^ 9 → length (body d n) ≤ 11
-body_short d n few h =
-    let whole = whole_digits d n few h in
-    omega (arith, whole, length-decimals d n, length-append (decimal (n / 10 ^ d)) (decimals_text d n))
-
-height_short : (d : ℕ) (z : ℤ) → d ≤ 6 → unsigned_abs z ≤ 10 ^ 9 → length (height_text d z) ≤ 12
-height_short d (pos n) few h = let size = body_short d n few h in let same = ap length (text-pos d n) in omega (arith, size, same)
-height_short d (negsuc n) few h = let size = body_short d (suc n) few h in omega (arith, size)
 
 -- words of at most 14 bytes, each with the byte after it
 line_short : {X : Type 0} (f : X → List ℕ) (cells : List X) → 0 < length cells → All (λ c. length (f c) ≤ 14) cells → length (join_with_byte 32 (map f cells)) + 1 ≤ 15 * length cells

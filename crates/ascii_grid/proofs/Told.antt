@@ -1,14 +1,13 @@
--- No fault of words is want of memory, and a word that is too long is told first.
-use Rattle.std.proofs.Common.{◌≡◌, ℕ, ◌+◌, ◌<◌, ◌≤◌, Bool, true, false, cond, nat_lt, List, [], ◌∷◌, ◌++◌, length, Option, None, Some, refl, ap, sym, ◌∙◌, ◌⊎◌, inl, inr, Result, MatchResult}
+-- No fault of a word is want of memory, and a word that is too long is told first.
+use Rattle.std.proofs.Common.{◌≡◌, ℕ, ◌<◌, ◌≤◌, Bool, true, false, cond, nat_lt, List, [], ◌∷◌, ◌++◌, length, Option, None, Some, refl, ap, sym, ◌∙◌, ◌⊎◌, inl, inr, Result, MatchResult}
 use Rattle.std.proofs.lemmas.Result.{MatchResult-weaker}
-use Rattle.std.specs.Prelude.{option_map}
-use Rattle.std.specs.Option.{option_or, option_map_or, option_and_then}
-use Rattle.std.specs.List.{list_any}
+use Rattle.std.specs.Prelude.{MatchOption, option_map}
+use Rattle.std.specs.Option.{option_or}
 use Rattle.std.proofs.lemmas.Bool.{cases_Bool, lt-ltb}
 use Rattle.std.proofs.lemmas.List.{append-nil, append_assoc}
 use Rattle.terrain.specs.Words.{Word}
-use Rattle.ascii_grid.specs.Header.{fills, slot_of, is_long, is_value, bad_value, begins_with_letter, header_words, height_words, nodata_for, header_fault, key_fault, value_fault, missing_fault}
-use Rattle.ascii_grid.specs.GridText.{AsksAtHeight, IsTold, is_cell, cells_wanted, words_fault, heights_fault, height_fault}
+use Rattle.ascii_grid.specs.Header.{is_long, bad_value, begins_with_letter, nodata_for, missing_fault}
+use Rattle.ascii_grid.specs.GridText.{AsksAtHeight, IsTold, is_cell, cells_wanted, words_fault, height_fault}
 use Rattle.ascii_grid.specs.Reading.{flat, IsHeaderOf, HasBegun, AreHeights, HasJudged, IsWordFault}
 use Rattle.ascii_grid.specs.declared.fault.Key.{Key}
 use Rattle.ascii_grid.specs.declared.fault.Key.TheVariants.{Ncols}
@@ -30,7 +29,7 @@ told_or : (o p : Option GridFault) → is_memory o ≡ false → is_memory p ≡
 told_or None p h k = k
 told_or (Some f) p h k = h
 
-told_bad_value : (slot : Key) → is_memory (Some (bad_value slot)) ≡ false
+pub told_bad_value : (slot : Key) → is_memory (Some (bad_value slot)) ≡ false
 told_bad_value Ncols = refl
 told_bad_value slot = refl
 
@@ -38,26 +37,10 @@ told_cond : (b : Bool) (o p : Option GridFault) → is_memory o ≡ false → is
 told_cond true o p h k = h
 told_cond false o p h k = k
 
-told_slot : (before : List Word) (o : Option Key) → is_memory (option_map_or (λ slot. cond (list_any (fills slot) before) (Some (RepeatedKey slot)) None) o (Some UnknownKey)) ≡ false
-told_slot before None = refl
-told_slot before (Some slot) = told_cond (list_any (fills slot) before) (Some (RepeatedKey slot)) None refl refl
-
-told_key : (before : List Word) (k : Word) → is_memory (key_fault before k) ≡ false
-told_key before k = told_cond (is_long k) (Some TooLong) _ refl (told_slot before (slot_of k))
-
-told_of_slot : (v : Word) (o : Option Key) → is_memory (option_and_then (λ slot. cond (is_value slot v) None (Some (bad_value slot))) o) ≡ false
-told_of_slot v None = refl
-told_of_slot v (Some slot) = told_cond (is_value slot v) None (Some (bad_value slot)) refl (told_bad_value slot)
-
-told_value : (k v : Word) → is_memory (value_fault k v) ≡ false
-told_value k v = told_cond (is_long v) (Some TooLong) _ refl (told_of_slot v (slot_of k))
-
-pub told_header : (before header : List Word) → is_memory (header_fault before header) ≡ false
-told_header before [] = refl
-told_header before (k ∷ []) = told_key before k
-told_header before (k ∷ v ∷ rest) =
-    told_or (key_fault before k) (option_or (value_fault k v) (header_fault (k ∷ before) rest)) (told_key before k)
-    (told_or (value_fault k v) (header_fault (k ∷ before) rest) (told_value k v) (told_header (k ∷ before) rest))
+-- the fault of a key word
+pub told_slot : (o : Option Key) (given : Key → Type 0) (f : GridFault) → MatchOption o (f ≡ UnknownKey) (λ slot. given slot × (f ≡ RepeatedKey slot)) → is_memory (Some f) ≡ false
+told_slot None given f e = ap (λ g. is_memory (Some g)) e
+told_slot (Some slot) given f e = ap (λ g. is_memory (Some g)) e.1
 
 told_missing_slot : (o : Option Key) → is_memory (option_map MissingKey o) ≡ false
 told_missing_slot None = refl
@@ -71,16 +54,6 @@ told_height d header place w =
     told_cond (is_long w) (Some TooLong) _ refl
     (told_or (missing_fault header) _ (told_missing header)
     (told_cond (nat_lt place (cells_wanted header)) _ (Some TooMany) (told_cond (is_cell d (nodata_for header) w) None (Some (BadHeight place)) refl refl) refl))
-
-told_heights : (d : ℕ) (header : List Word) (place : ℕ) (hs : List Word) → is_memory (heights_fault d header place hs) ≡ false
-told_heights d header place [] = refl
-told_heights d header place (w ∷ hs) =
-    told_or (height_fault d header place w) (heights_fault d header (place + 1) hs) (told_height d header place w) (told_heights d header (place + 1) hs)
-
-pub told_words : (d : ℕ) (ws : List Word) → is_memory (words_fault d ws) ≡ false
-told_words d ws =
-    told_or (header_fault [] (header_words ws)) _ (told_header [] (header_words ws))
-    (told_heights d (header_words ws) 0 (height_words ws))
 
 -- ---- the fault that is told
 
@@ -96,8 +69,8 @@ pub told_further : (may_lack may_lack' : Type 0) (o o' : Option GridFault) (f : 
 told_further may_lack may_lack' o o' Memory lacks more h = lacks h
 told_further may_lack may_lack' o o' f lacks more h = more f h
 
-pub word_fault : (d : ℕ) (ws : List Word) (f : GridFault) → words_fault d ws ≡ Some f → IsWordFault d ws f
-word_fault d ws f h = told (AsksAtHeight ws) (words_fault d ws) f (told_words d ws) h
+pub word_fault : (d : ℕ) (ws : List Word) (f : GridFault) → is_memory (Some f) ≡ false → words_fault d ws ≡ Some f → IsWordFault d ws f
+word_fault d ws f other h = told (AsksAtHeight ws) (words_fault d ws) f (ap is_memory h ∙ other) h
 
 pub memory_fault : (d : ℕ) (ws : List Word) (f : GridFault) → f ≡ Memory → AsksAtHeight ws → IsWordFault d ws f
 memory_fault d ws f e h = rw e h
@@ -121,8 +94,8 @@ long_fault j ws w h far = by_stage j.stage refl
               ∙ words_fault-heights j.scale h.pairs (w ∷ []) h.header.keys h.header.faultless begun
               ∙ rw long refl
         ]
-    by_stage (AtValue slot) e =
-        let there = at_value j ws h slot e in
+    by_stage (AtValue slot centre) e =
+        let there = at_value j ws h slot centre e in
         ap (λ z. words_fault j.scale (z ++ w ∷ [])) there.1
         ∙ ap (words_fault j.scale) (append_assoc (flat h.pairs) (there.0 ∷ []) (w ∷ []))
         ∙ words_fault-value j.scale h.pairs there.0 w h.header.keys h.header.faultless there.2.letter there.2.faultless
@@ -137,7 +110,7 @@ height_word j j' ws ps hs w r k e begun heights short same stage m =
     MatchResult-weaker r m (λ _ more. judged-height j j' ws ps hs w k e begun more same stage)
     (λ f why. elim why [
       | inl lack ↦ memory_fault j.scale (ws ++ w ∷ []) f lack (memory-height j ws ps hs w j.header k e begun heights.whole heights.faultless short)
-      | inr fault ↦ word_fault j.scale (ws ++ w ∷ []) f (fault-height j ws ps hs w f j.header k e begun heights fault)
+      | inr fault ↦ word_fault j.scale (ws ++ w ∷ []) f (ap is_memory (sym fault) ∙ told_height j.scale (flat ps) (length hs) w) (fault-height j ws ps hs w f j.header k e begun heights fault)
     ])
 
 -- no first height: the header isn't whole, or there is no memory
@@ -145,6 +118,6 @@ pub no_first_height : (j : Judge) (ws : List Word) (w : Word) (f : GridFault) (h
 no_first_height j ws w f h stage begun short why =
     let e = at_key j ws h stage in
     elim why [
-      | inl missing ↦ word_fault j.scale (ws ++ w ∷ []) f (fault-first j.scale ws h.pairs w f j.header h.header e begun short missing)
+      | inl missing ↦ word_fault j.scale (ws ++ w ∷ []) f (ap is_memory (sym missing) ∙ told_missing (flat h.pairs)) (fault-first j.scale ws h.pairs w f j.header h.header e begun short missing)
       | inr lack ↦ memory_fault j.scale (ws ++ w ∷ []) f lack.0 (memory-height j ws h.pairs [] w j.header h.header (e ∙ sym (append-nil (flat h.pairs))) begun lack.1 refl short)
     ]

@@ -1,6 +1,7 @@
 -- What the definitions satisfy. Source: this project.
-use Rattle.std.specs.Prelude.{◌≡◌, ℕ, ◌≤◌, ◌++◌, List, length, Some}
+use Rattle.std.specs.Prelude.{◌≡◌, ℕ, ◌≤◌, ◌++◌, List, [], length, Some}
 use Rattle.terrain.specs.Raster.{Raster, IsLawful}
+use Rattle.terrain.specs.Sinks.{raster_with_sinks}
 use Rattle.ascii_grid.specs.GridText.{IsGridText, text_fault, fault_so_far, most_bytes, IsRefusal, IsRefusalSoFar}
 use Rattle.ascii_grid.specs.Text.{heights_text}
 use Rattle.ascii_grid.specs.declared.fault.GridFault.{GridFault}
@@ -13,9 +14,10 @@ GridsAreLawful = (d : ℕ) (text : List ℕ) (g : Raster) → d ≤ 6 → IsGrid
 abbrev pub GridsAreOne : Type 0
 GridsAreOne = (d : ℕ) (text : List ℕ) (g h : Raster) → IsGridText d text g → IsGridText d text h → g ≡ h
 
--- A grid's text is read again as that grid.
+-- A grid's text is read again as that grid without its sinks.
 abbrev pub GridsReadBack : Type 0
-GridsReadBack = (g : Raster) → IsLawful g → length (heights_text g) ≤ most_bytes → IsGridText g.scale (heights_text g) g
+GridsReadBack = (g : Raster) → IsLawful g → length (heights_text g) ≤ most_bytes →
+    IsGridText g.scale (heights_text g) (raster_with_sinks g [])
 
 -- A grid whose NODATA word has at most 14 bytes has a text that isn't too long.
 abbrev pub GridTextsFit : Type 0

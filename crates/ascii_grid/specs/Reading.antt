@@ -5,12 +5,11 @@ use Rattle.terrain.specs.Words.{Word, is_word, is_separator, ended_words}
 use Rattle.terrain.specs.Decimal.{number_of, scaled_value}
 use Rattle.ascii_grid.specs.Header.{fills, slot_of, begins_with_letter, header_fault, key_fault, missing_fault, nodata_for}
 use Rattle.ascii_grid.specs.GridText.{AsksForCells, AsksAtHeight, IsTold, cell_of, cells_wanted, words_fault, heights_fault, end_fault}
-use Rattle.ascii_grid.specs.Slots.{anchor_at, is_given, is_centre, key_of, slot_named}
+use Rattle.ascii_grid.specs.Slots.{anchor_at, is_given, is_centre}
 use Rattle.ascii_grid.specs.declared.fault.Key.{Key}
 use Rattle.ascii_grid.specs.declared.fault.Key.TheVariants.{Ncols, Nrows, Xll, Yll, Cellsize, Nodata}
 use Rattle.ascii_grid.specs.declared.fault.GridFault.{GridFault}
 use Rattle.ascii_grid.specs.declared.header.Header.{Header}
-use Rattle.ascii_grid.specs.declared.key.Slot.{Slot}
 use Rattle.ascii_grid.specs.declared.judge.Stage.{Stage}
 use Rattle.ascii_grid.specs.declared.judge.Stage.TheVariants.{AtKey, AtValue, AtHeights}
 use Rattle.ascii_grid.specs.declared.judge.Judge.{Judge}
@@ -47,13 +46,13 @@ pub record IsHeaderOf (h : Header) (ps : List (Word × Word)) : Type 0 where
   pub faultless : header_fault [] (flat ps) ≡ None
   pub slots : h ≡ slots_of ps
 
--- A key word after these pairs, for this slot.
-pub record AwaitsValue (ps : List (Word × Word)) (k : Word) (slot : Slot) : Type 0 where
+-- A key word after these pairs, for this slot, with a centre or a corner.
+pub record AwaitsValue (ps : List (Word × Word)) (k : Word) (slot : Key) (centre : Bool) : Type 0 where
   pub letter : begins_with_letter k ≡ true
   pub faultless : key_fault (keys_before ps []) k ≡ None
-  pub key_is : slot_of k ≡ Some (key_of slot)
-  pub named : slot ≡ slot_named (key_of slot) (is_centre k)
-  pub free : is_given (slots_of ps) (key_of slot) ≡ false
+  pub key_is : slot_of k ≡ Some slot
+  pub named : centre ≡ is_centre k
+  pub free : is_given (slots_of ps) slot ≡ false
 
 -- The first height has come: no further word is a key.
 abbrev pub HasBegun : List Word → Type 0
@@ -72,7 +71,7 @@ pub record AreHeights (j : Judge) (ps : List (Word × Word)) (hs : List Word) : 
 -- The words after the pairs of the header.
 abbrev pub IsAt : Judge → List (Word × Word) → List Word → Stage → Type 0
 IsAt j ps rest AtKey = rest ≡ []
-IsAt j ps rest (AtValue slot) = (k : Word) × (rest ≡ k ∷ []) × AwaitsValue ps k slot
+IsAt j ps rest (AtValue slot centre) = (k : Word) × (rest ≡ k ∷ []) × AwaitsValue ps k slot centre
 IsAt j ps rest AtHeights = HasBegun rest × AreHeights j ps rest
 
 -- These words were judged, and have no fault.

@@ -11,8 +11,6 @@ use Rattle.ascii_grid.specs.declared.fault.GridFault.{GridFault}
 use Rattle.ascii_grid.specs.declared.fault.GridFault.TheVariants.{MissingKey}
 use Rattle.terrain.specs.declared.grid.Anchor.{Anchor}
 use Rattle.ascii_grid.specs.declared.header.Header.{Header}
-use Rattle.ascii_grid.specs.declared.key.Slot.{Slot}
-use Rattle.ascii_grid.specs.declared.key.Slot.TheVariants as slot
 
 abbrev pub no_slots : Header
 no_slots = record { cols = None; rows = None; xll = None; yll = None; cellsize = None; nodata = None }
@@ -31,31 +29,14 @@ anchor_at centre w = record { centre = centre; word = w }
 abbrev pub is_centre : Word → Bool
 is_centre k = is_key (codes "xllcenter") k || is_key (codes "yllcenter") k
 
--- The slot of a key, as a key word names it.
-abbrev pub slot_named : Key → Bool → Slot
-slot_named Ncols centre = slot.Ncols
-slot_named Nrows centre = slot.Nrows
-slot_named Xll centre = slot.Xll centre
-slot_named Yll centre = slot.Yll centre
-slot_named Cellsize centre = slot.Cellsize
-slot_named Nodata centre = slot.Nodata
-
-abbrev pub key_of : Slot → Key
-key_of slot.Ncols = Ncols
-key_of slot.Nrows = Nrows
-key_of (slot.Xll centre) = Xll
-key_of (slot.Yll centre) = Yll
-key_of slot.Cellsize = Cellsize
-key_of slot.Nodata = Nodata
-
--- The slots with one more value.
-abbrev pub with_value : Header → Slot → Word → Header
-with_value h slot.Ncols w = record h { cols = Some (number_of w) }
-with_value h slot.Nrows w = record h { rows = Some (number_of w) }
-with_value h (slot.Xll centre) w = record h { xll = Some (anchor_at centre w) }
-with_value h (slot.Yll centre) w = record h { yll = Some (anchor_at centre w) }
-with_value h slot.Cellsize w = record h { cellsize = Some w }
-with_value h slot.Nodata w = record h { nodata = Some w }
+-- The slots with one more value, a position's by a centre or a corner.
+abbrev pub with_value : Header → Key → Bool → Word → Header
+with_value h Ncols centre w = record h { cols = Some (number_of w) }
+with_value h Nrows centre w = record h { rows = Some (number_of w) }
+with_value h Xll centre w = record h { xll = Some (anchor_at centre w) }
+with_value h Yll centre w = record h { yll = Some (anchor_at centre w) }
+with_value h Cellsize centre w = record h { cellsize = Some w }
+with_value h Nodata centre w = record h { nodata = Some w }
 
 -- The first required slot that isn't given.
 abbrev pub missing_of : Header → Option GridFault

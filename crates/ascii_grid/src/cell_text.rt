@@ -66,7 +66,8 @@ pub(crate) trait CellValue: Copy {
     fn push_to(self, scale: u8, page: &mut Page)
         requires scale { scale ≤ 6 }
         requires room { length page.old + 24 ≤ 4096 }
-        ensures { page.new ≡ page.old ++ text scale self };
+        ensures text { page.new ≡ page.old ++ text scale self }
+        ensures short { length page.new ≤ length page.old + 24 };
 }
 
 impl CellValue for Height {
@@ -84,6 +85,7 @@ impl CellValue for u32 {
     ghost text = { λ _. decimal };
 
     #[inline(always)]
+    #[tactic(auto, using(crate::proofs::Decimals::few_digits))]
     fn push_to(self, _scale: u8, page: &mut Page) {
         let mut buffer = [0; ROOM];
         let start = write_digits(self as u64, &mut buffer, ROOM);

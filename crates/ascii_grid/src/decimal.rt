@@ -218,6 +218,7 @@ fn are_digits(bytes: &[u8]) -> bool
     !bytes.is_empty() && all_digits(bytes)
 }
 
+#[tactic(auto, using(crate::proofs::Scaled::are_digits_joined))]
 fn are_digits_in_all(whole: &[u8], fraction: &[u8]) -> bool
     ensures { result ≡ are_digits (whole.now ++ fraction.now) }
 {

@@ -2,12 +2,13 @@
 ghost use Rattle.std.specs.Prelude.{◌≡◌, ◌≤◌, ◌*◌, length, true, false, Option, Some, None, IfOk, IfErr, MatchOption, unwrap_or, codes, if◌then◌else◌};
 ghost use Rattle.terrain.specs.Decimal.{is_decimal};
 ghost use Rattle.ascii_grid.specs.Header.{is_value, bad_value, slot_of};
-ghost use Rattle.ascii_grid.specs.Slots.{no_slots, is_centre, is_given, key_of, slot_named, with_value, missing_of, wanted_of, IsWhole, raster_of};
+ghost use Rattle.ascii_grid.specs.Slots.{no_slots, is_given, with_value, missing_of, wanted_of, IsWhole, raster_of};
 ghost use Rattle.terrain.specs.Raster.{IsLawful};
 
 use crate::decimal::{is_above_zero, is_decimal, size};
 use crate::fault::{GridFault, Key};
-use crate::key::{Slot, slot_of};
+use crate::key::slot_of;
+use std::alloc::Global;
 use terrain::{Anchor, Grid, GridHeader, Height, Word};
 
 /// What a header has given so far.
@@ -36,9 +37,8 @@ impl Header {
     }
 
     /// The slot of a key word that isn't given yet.
-    pub(crate) fn slot_for(&self, word: &[u8]) -> Result<Slot, GridFault>
-        ensures ok { IfOk result (λ slot. (slot_of word.now ≡ Some (key_of slot))
-            × (slot ≡ slot_named (key_of slot) (is_centre word.now)) × (is_given self.now (key_of slot) ≡ false)) }
+    pub(crate) fn slot_for(&self, word: &[u8]) -> Result<Key, GridFault>
+        ensures ok { IfOk result (λ slot. (slot_of word.now ≡ Some slot) × (is_given self.now slot ≡ false)) }
         ensures err { IfErr result (λ f. MatchOption (slot_of word.now) (f ≡ GridFault.UnknownKey)
             (λ slot. (is_given self.now slot ≡ true) × (f ≡ GridFault.RepeatedKey slot))) }
     {
@@ -46,7 +46,7 @@ impl Header {
         if self.is_given(key) {
             return Err(GridFault::RepeatedKey(key));
         }
-        Ok(Slot::named(key, word))
+        Ok(key)
     }
 
     fn is_given(&self, key: Key) -> bool
@@ -62,35 +62,35 @@ impl Header {
         }
     }
 
-    /// Fills a slot.
-    pub(crate) fn put(&mut self, slot: Slot, word: &[u8]) -> Result<(), GridFault>
+    /// Fills a slot, that of a position by a centre or a corner.
+    pub(crate) fn put(&mut self, key: Key, centre: bool, word: &[u8]) -> Result<(), GridFault>
         requires { length word.now ≤ 64 }
-        ensures ok { IfOk result (λ _. (is_value (key_of slot) word.now ≡ true)
-            × (self.new ≡ with_value self.old slot word.now)) }
-        ensures err { IfErr result (λ f. (is_value (key_of slot) word.now ≡ false) × (f ≡ bad_value (key_of slot))) }
+        ensures ok { IfOk result (λ _. (is_value key word.now ≡ true)
+            × (self.new ≡ with_value self.old key centre word.now)) }
+        ensures err { IfErr result (λ f. (is_value key word.now ≡ false) × (f ≡ bad_value key)) }
     {
-        match slot {
-            Slot::Ncols => {
+        match key {
+            Key::Ncols => {
                 self.cols = Some(size(word).ok_or(GridFault::BadSize(Key::Ncols))?);
             }
-            Slot::Nrows => {
+            Key::Nrows => {
                 self.rows = Some(size(word).ok_or(GridFault::BadSize(Key::Nrows))?);
             }
-            Slot::Xll { centre } => {
+            Key::Xll => {
                 let word = decimal(word).ok_or(GridFault::BadPlace(Key::Xll))?;
                 self.xll = Some(Anchor { centre, word });
             }
-            Slot::Yll { centre } => {
+            Key::Yll => {
                 let word = decimal(word).ok_or(GridFault::BadPlace(Key::Yll))?;
                 self.yll = Some(Anchor { centre, word });
             }
-            Slot::Cellsize => {
+            Key::Cellsize => {
                 if !is_decimal(word) || !is_above_zero(word) {
                     return Err(GridFault::BadPlace(Key::Cellsize));
                 }
                 self.cellsize = Some(Word::from_bytes(word));
             }
-            Slot::Nodata => {
+            Key::Nodata => {
                 self.nodata = Some(decimal(word).ok_or(GridFault::BadNodata)?);
             }
         }
@@ -108,7 +108,13 @@ impl Header {
     }
 
     /// The grid with these slots and cells.
-    pub(crate) fn into_grid(self, scale: u8, nodata: Word, cells: Vec<Option<Height>>) -> Grid
+    pub(crate) fn into_grid(
+        self,
+        alloc: Global,
+        scale: u8,
+        nodata: Word,
+        cells: Vec<Option<Height>>,
+    ) -> Grid
         requires whole { IsWhole self }
         requires lawful { IsLawful (raster_of self scale nodata cells.items) }
         ensures { result ≡ raster_of self scale nodata cells.items }
@@ -129,7 +135,7 @@ impl Header {
             cellsize: cellsize.unwrap(),
             nodata,
         };
-        Grid::from_parts(header, scale, cells)
+        Grid::from_parts(alloc, header, scale, cells)
     }
 
     /// How many cells the header wants, where no required slot is missing.

@@ -9,9 +9,9 @@ ghost use Rattle.ascii_grid.specs.Reading.{flat, IsHeaderOf, AreHeights, HasJudg
 
 use crate::cell::{Meaning, cell, value_cell};
 use crate::decimal::scaled_value;
-use crate::fault::GridFault;
+use crate::fault::{GridFault, Key};
 use crate::header::Header;
-use crate::key::{Slot, begins_with_letter};
+use crate::key::{begins_with_letter, names_centre};
 use std::alloc::Global;
 use terrain::{Grid, Height, Word};
 
@@ -20,8 +20,8 @@ use terrain::{Grid, Height, Word};
 pub(crate) enum Stage {
     /// A key, or the first height.
     AtKey,
-    /// The value of this slot.
-    AtValue(Slot),
+    /// The value of this slot, whose key names a centre or not.
+    AtValue { key: Key, centre: bool },
     /// A height.
     AtHeights,
 }
@@ -69,7 +69,7 @@ impl Judge {
         }
         match self.stage {
             Stage::AtHeights => self.judge_height(word),
-            Stage::AtValue(slot) => self.judge_value(slot, word),
+            Stage::AtValue { key, centre } => self.judge_value(key, centre, word),
             Stage::AtKey => {
                 if begins_with_letter(word) {
                     return self.judge_key(word);
@@ -88,7 +88,7 @@ impl Judge {
             (λ g. (end_fault ws ≡ None) × (g ≡ grid_of self.scale ws)) (IsEndFault ws) }
     {
         match self.stage {
-            Stage::AtValue(slot) => Err(GridFault::NoValue(slot.key())),
+            Stage::AtValue { key, .. } => Err(GridFault::NoValue(key)),
             Stage::AtKey => {
                 self.begin_heights()?;
                 Err(GridFault::TooFew(0))
@@ -98,7 +98,10 @@ impl Judge {
                 if place < self.wanted as usize {
                     return Err(GridFault::TooFew(place as u32));
                 }
-                Ok(self.header.into_grid(self.scale, self.nodata, self.cells))
+                Ok(
+                    self.header
+                        .into_grid(self.alloc, self.scale, self.nodata, self.cells),
+                )
             }
         }
     }
@@ -112,20 +115,21 @@ impl Judge {
             (λ _. HasJudged self.new (ws ++ word.now ∷ []))
             (IsWordFault self.old.scale (ws ++ word.now ∷ [])) }
     {
-        let slot = self.header.slot_for(word)?;
-        self.stage = Stage::AtValue(slot);
+        let key = self.header.slot_for(word)?;
+        let centre = names_centre(word);
+        self.stage = Stage::AtValue { key, centre };
         Ok(())
     }
 
-    fn judge_value(&mut self, slot: Slot, word: &[u8]) -> Result<(), GridFault>
+    fn judge_value(&mut self, key: Key, centre: bool, word: &[u8]) -> Result<(), GridFault>
         requires short { length word.now ≤ 64 }
-        requires stage { self.old.stage ≡ Stage.AtValue slot }
+        requires stage { self.old.stage ≡ Stage.AtValue key centre }
         ensures scale { self.new.scale ≡ self.old.scale }
         ensures word { (ws : List Word) → HasJudged self.old ws → MatchResult result
             (λ _. HasJudged self.new (ws ++ word.now ∷ []))
             (IsWordFault self.old.scale (ws ++ word.now ∷ [])) }
     {
-        self.header.put(slot, word)?;
+        self.header.put(key, centre, word)?;
         self.stage = Stage::AtKey;
         Ok(())
     }

@@ -2,54 +2,9 @@
 ghost use Rattle.std.specs.Prelude.{◌≡◌, map};
 ghost use Rattle.std.specs.Char.{to_ascii_lowercase};
 ghost use Rattle.ascii_grid.specs.Header.{is_key, slot_of, begins_with_letter};
-ghost use Rattle.ascii_grid.specs.Slots.{is_centre, key_of, slot_named};
+ghost use Rattle.ascii_grid.specs.Slots.{is_centre};
 
 use crate::fault::Key;
-
-/// A slot as a key word names it: a position by the centre of the lower left cell, or by its corner.
-#[derive(Clone, Copy)]
-pub(crate) enum Slot {
-    Ncols,
-    Nrows,
-    Xll { centre: bool },
-    Yll { centre: bool },
-    Cellsize,
-    Nodata,
-}
-
-impl Slot {
-    /// The slot of this key, as its key word names it.
-    pub(crate) fn named(key: Key, word: &[u8]) -> Slot
-        ensures key { key_of result ≡ key }
-        ensures named { result ≡ slot_named key (is_centre word.now) }
-    {
-        match key {
-            Key::Ncols => Slot::Ncols,
-            Key::Nrows => Slot::Nrows,
-            Key::Xll => Slot::Xll {
-                centre: names_centre(word),
-            },
-            Key::Yll => Slot::Yll {
-                centre: names_centre(word),
-            },
-            Key::Cellsize => Slot::Cellsize,
-            Key::Nodata => Slot::Nodata,
-        }
-    }
-
-    pub(crate) fn key(self) -> Key
-        ensures { result ≡ key_of self }
-    {
-        match self {
-            Slot::Ncols => Key::Ncols,
-            Slot::Nrows => Key::Nrows,
-            Slot::Xll { .. } => Key::Xll,
-            Slot::Yll { .. } => Key::Yll,
-            Slot::Cellsize => Key::Cellsize,
-            Slot::Nodata => Key::Nodata,
-        }
-    }
-}
 
 /// The slot that a key word fills, whatever the case of its letters.
 pub(crate) fn slot_of(word: &[u8]) -> Option<Key>
@@ -76,8 +31,8 @@ pub(crate) fn slot_of(word: &[u8]) -> Option<Key>
     None
 }
 
-/// Whether a key word names the centre of the lower left cell.
-fn names_centre(word: &[u8]) -> bool
+/// Whether a key word names the centre of the lower left cell, and not its corner.
+pub(crate) fn names_centre(word: &[u8]) -> bool
     ensures { result ≡ is_centre word.now }
 {
     is_key(b"xllcenter", word) || is_key(b"yllcenter", word)

@@ -1,4 +1,4 @@
-// Bytes that wait for a device.
+// Bytes that are gathered on the stack, and those that wait for a device.
 ghost use Rattle.std.specs.Prelude.{◌≡◌, ◌↔◌, ◌+◌, ◌≤◌, ◌∷◌, ◌++◌, [], ℕ, List, length, take, IsTrue, ◌<◌, ◌-◌, ◌^◌};
 ghost use Rattle.ascii_grid.specs.Device.{Writes};
 
@@ -9,29 +9,31 @@ use std::marker::Model;
 /// How many bytes a page holds.
 pub const PAGE: usize = 4096;
 
-/// At most [`PAGE`] bytes on the stack that wait to be handed to a device together. Contracts see it as
-/// the list of the bytes.
+/// Bytes that wait to be handed to a device together.
+pub type Page = Buffer<PAGE>;
+
+/// At most `N` bytes on the stack. Contracts see them as a list.
 #[derive(Drop)]
-pub struct Page {
-    bytes: [u8; PAGE],
+pub struct Buffer<const N: usize> {
+    bytes: [u8; N],
     len: usize,
 }
 
-impl Model for Page {
+impl<const N: usize> Model for Buffer<N> {
     ghost Value = { List ℕ };
 
     ghost view = { λ p. take p.len p.bytes };
 
-    ghost invariant = { λ p. p.len ≤ 4096 };
+    ghost invariant = { λ p. p.len ≤ N };
 }
 
-impl Page {
-    /// An empty page.
+impl<const N: usize> Buffer<N> {
+    /// No bytes.
     pub fn new() -> Self
         ensures { result ≡ [] }
     {
-        Page {
-            bytes: [0; PAGE],
+        Buffer {
+            bytes: [0; N],
             len: 0,
         }
     }
@@ -39,33 +41,35 @@ impl Page {
     /// Whether so many bytes more can be gathered.
     #[inline(always)]
     pub(crate) fn has_room(&self, count: usize) -> bool
-        requires { count ≤ 4096 }
-        ensures { IsTrue result ↔ (length self.now + count ≤ 4096) }
+        requires { count ≤ N }
+        ensures { IsTrue result ↔ (length self.now + count ≤ N) }
     {
-        self.len <= PAGE - count
+        self.len <= N - count
     }
 
     /// Adds bytes, for which there is room.
     #[inline(always)]
     pub fn push(&mut self, bytes: &[u8])
-        requires { length self.old + length bytes.now ≤ 4096 }
+        requires { length self.old + length bytes.now ≤ N }
         ensures { self.new ≡ self.old ++ bytes.now }
     {
         let end = self.len + bytes.len();
-        self.bytes[self.len..end].copy_from_slice(bytes);
+        let room = &mut self.bytes[..];
+        room[self.len..end].copy_from_slice(bytes);
         self.len = end;
     }
 
     /// Adds a byte, for which there is room.
     #[inline(always)]
     pub fn push_byte(&mut self, byte: u8)
-        requires { length self.old + 1 ≤ 4096 }
+        requires { length self.old + 1 ≤ N }
         ensures { self.new ≡ self.old ++ byte ∷ [] }
     {
         self.bytes[self.len] = byte;
         self.len += 1;
     }
 
+    #[inline(always)]
     pub(crate) fn as_bytes(&self) -> &[u8]
         ensures { result.now ≡ self.now }
     {
@@ -81,6 +85,7 @@ impl Page {
         out.flush()
     }
 
+    #[inline(always)]
     pub(crate) fn clear(&mut self)
         ensures { self.new ≡ [] }
     {

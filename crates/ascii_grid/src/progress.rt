@@ -6,66 +6,15 @@ ghost use Rattle.ascii_grid.specs.Reading.{HasJudged, HasWords, IsWordFault};
 use crate::decimal::plain_number;
 use crate::fault::GridFault;
 use crate::judge::Judge;
+use crate::page::Buffer;
 use std::alloc::Global;
-use std::marker::Model;
-
-/// The front of a word in progress: one byte more than a word may have, to know that it is too long.
-#[derive(Drop)]
-pub(crate) struct WordInProgress {
-    bytes: [u8; 65],
-    len: usize,
-}
-
-impl Model for WordInProgress {
-    ghost use Rattle.std.specs.Prelude.{ℕ, ◌≤◌, List, take};
-
-    ghost Value = { List ℕ };
-
-    ghost view = { λ w. take w.len w.bytes };
-
-    ghost invariant = { λ w. w.len ≤ 65 };
-}
-
-impl WordInProgress {
-    fn new() -> Self
-        ensures { result ≡ [] }
-    {
-        WordInProgress {
-            bytes: [0; 65],
-            len: 0,
-        }
-    }
-
-    #[inline(always)]
-    fn push(&mut self, byte: u8)
-        ensures { self.new ≡ take 65 (self.old ++ byte ∷ []) }
-    {
-        if self.len < 65 {
-            self.bytes[self.len] = byte;
-            self.len += 1;
-        }
-    }
-
-    #[inline(always)]
-    fn clear(&mut self)
-        ensures { self.new ≡ [] }
-    {
-        self.len = 0;
-    }
-
-    #[inline(always)]
-    fn as_bytes(&self) -> &[u8]
-        ensures { result.now ≡ self.now }
-    {
-        &self.bytes[..self.len]
-    }
-}
 
 /// The words so far, judged, and the word in progress.
 #[derive(Drop)]
 pub(crate) struct Progress {
     pub(crate) judge: Judge,
-    word: WordInProgress,
+    // Its front: one byte more than a word may have, to know that it is too long.
+    word: Buffer<65>,
 }
 
 impl Progress {
@@ -75,7 +24,7 @@ impl Progress {
     {
         Progress {
             judge: Judge::new(alloc, scale),
-            word: WordInProgress::new(),
+            word: Buffer::new(),
         }
     }
 
@@ -149,7 +98,9 @@ impl Progress {
         if is_separator(byte) {
             return self.end_word();
         }
-        self.word.push(byte);
+        if self.word.has_room(1) {
+            self.word.push_byte(byte);
+        }
         Ok(())
     }
 

@@ -1,5 +1,6 @@
 // A grid as text.
 ghost use Rattle.std.specs.Prelude.{◌≡◌, ◌↔◌, ◌∷◌, ◌+◌, ◌++◌, ◌*◌, ◌/◌, ◌-◌, ◌^◌, ◌<◌, ◌≤◌, [], length, decimal, codes, OnOk};
+ghost use Rattle.terrain.specs.Sinks.{raster_with_sinks};
 ghost use Rattle.ascii_grid.specs.Device.{Writes};
 ghost use Rattle.ascii_grid.specs.Gathers.{Gathers};
 ghost use Rattle.ascii_grid.specs.GridText.{IsGridText, most_bytes};
@@ -12,8 +13,8 @@ use itoa::Buffer;
 use std::io::Write;
 use terrain::{Anchor, Grid};
 
-/// More bytes than a step adds: a header line or a cell with the space before it.
-const STEP: usize = 80;
+/// More bytes than a cell takes with the byte that ends it.
+const CELL_ROOM: usize = 80;
 
 /// The NODATA word of the maps of whole numbers.
 const COUNTS_NODATA: &[u8] = b"-9999";
@@ -29,14 +30,14 @@ fn hand_on<W: Write>(page: &mut Page, out: &mut Counted<W>) -> Result<(), WriteF
     Ok(())
 }
 
-/// Hands the page on where it has no room for a step.
+/// Hands the page on where it has no room for a cell.
 #[inline(always)]
 fn make_room<W: Write>(page: &mut Page, out: &mut Counted<W>) -> Result<(), WriteFailed>
     requires { out.old.failures < 2 ^ 64 - 1 }
     ensures room { OnOk result (length page.new + 80 ≤ 4096) }
     ensures text { Gathers W.contents out.old page.old out.new page.new [] result }
 {
-    if page.has_room(STEP) {
+    if page.has_room(CELL_ROOM) {
         return Ok(());
     }
     hand_on(page, out)
@@ -48,7 +49,8 @@ fn push_cell<T: CellValue>(cell: Option<T>, scale: u8, nodata: &[u8], page: &mut
     requires scale { scale ≤ 6 }
     requires short { length nodata.now ≤ 64 }
     requires room { length page.old + 64 ≤ 4096 }
-    ensures { page.new ≡ page.old ++ cell_text (T.text scale) nodata.now cell }
+    ensures text { page.new ≡ page.old ++ cell_text (T.text scale) nodata.now cell }
+    ensures short { length page.new ≤ length page.old + 64 }
 {
     match cell {
         Some(value) => value.push_to(scale, page),
@@ -56,10 +58,11 @@ fn push_cell<T: CellValue>(cell: Option<T>, scale: u8, nodata: &[u8], page: &mut
     }
 }
 
-/// Writes one cell.
+/// Writes one cell, and the byte that ends it.
 #[inline(always)]
 fn write_cell<T: CellValue, W: Write>(
     cell: Option<T>,
+    end: u8,
     scale: u8,
     nodata: &[u8],
     page: &mut Page,
@@ -69,42 +72,11 @@ fn write_cell<T: CellValue, W: Write>(
     requires scale { scale ≤ 6 }
     requires short { length nodata.now ≤ 64 }
     ensures { Gathers W.contents out.old page.old out.new page.new
-        (cell_text (T.text scale) nodata.now cell) result }
+        (cell_text (T.text scale) nodata.now cell ++ end ∷ []) result }
 {
     make_room(page, out)?;
     push_cell(cell, scale, nodata, page);
-    Ok(())
-}
-
-/// Writes a space and one cell.
-#[inline(always)]
-fn write_next_cell<T: CellValue, W: Write>(
-    cell: Option<T>,
-    scale: u8,
-    nodata: &[u8],
-    page: &mut Page,
-    out: &mut Counted<W>,
-) -> Result<(), WriteFailed>
-    requires few { out.old.failures < 2 ^ 64 - 1 }
-    requires scale { scale ≤ 6 }
-    requires short { length nodata.now ≤ 64 }
-    ensures { Gathers W.contents out.old page.old out.new page.new
-        (32 ∷ cell_text (T.text scale) nodata.now cell) result }
-{
-    make_room(page, out)?;
-    page.push_byte(b' ');
-    push_cell(cell, scale, nodata, page);
-    Ok(())
-}
-
-/// Ends a line.
-#[inline(always)]
-fn end_line<W: Write>(page: &mut Page, out: &mut Counted<W>) -> Result<(), WriteFailed>
-    requires { out.old.failures < 2 ^ 64 - 1 }
-    ensures { Gathers W.contents out.old page.old out.new page.new (codes "\n") result }
-{
-    make_room(page, out)?;
-    page.push_byte(b'\n');
+    page.push_byte(end);
     Ok(())
 }
 
@@ -123,11 +95,11 @@ fn write_row<T: CellValue, W: Write>(
     ensures { Gathers W.contents out.old page.old out.new page.new
         (row_text (T.text scale) nodata.now cells.now) result }
 {
-    write_cell(cells[0], scale, nodata, page, out)?;
-    for index in 1..cells.len() {
-        write_next_cell(cells[index], scale, nodata, page, out)?;
+    let last = cells.len() - 1;
+    for index in 0..last {
+        write_cell(cells[index], b' ', scale, nodata, page, out)?;
     }
-    end_line(page, out)
+    write_cell(cells[last], b'\n', scale, nodata, page, out)
 }
 
 /// Writes the lines of cells.
@@ -153,80 +125,56 @@ fn write_rows<T: CellValue, W: Write>(
     Ok(())
 }
 
-/// Writes one line of the header.
-fn write_line<W: Write>(
-    key: &[u8],
-    value: &[u8],
-    page: &mut Page,
-    out: &mut Counted<W>,
-) -> Result<(), WriteFailed>
-    requires few { out.old.failures < 2 ^ 64 - 1 }
+/// Adds a line of the header.
+fn push_line(key: &[u8], value: &[u8], page: &mut Page)
     requires key { length key.now ≤ 14 }
     requires value { length value.now ≤ 64 }
-    ensures { Gathers W.contents out.old page.old out.new page.new (line_text key.now value.now) result }
+    requires room { length page.old + 79 ≤ 4096 }
+    ensures text { page.new ≡ page.old ++ line_text key.now value.now }
+    ensures short { length page.new ≤ length page.old + 79 }
 {
-    make_room(page, out)?;
     page.push(key);
     page.push(value);
     page.push_byte(b'\n');
-    Ok(())
 }
 
-/// Writes one line of the header that has a number.
-fn write_number_line<W: Write>(
-    key: &[u8],
-    number: u32,
-    page: &mut Page,
-    out: &mut Counted<W>,
-) -> Result<(), WriteFailed>
-    requires few { out.old.failures < 2 ^ 64 - 1 }
+/// Adds a line of the header that has a number.
+fn push_number_line(key: &[u8], number: u32, page: &mut Page)
     requires key { length key.now ≤ 14 }
-    ensures { Gathers W.contents out.old page.old out.new page.new
-        (line_text key.now (decimal number)) result }
+    requires room { length page.old + 79 ≤ 4096 }
+    ensures text { page.new ≡ page.old ++ line_text key.now (decimal number) }
+    ensures short { length page.new ≤ length page.old + 79 }
 {
     let mut digits = Buffer::new();
-    write_line(key, digits.format(number).as_bytes(), page, out)
+    push_line(key, digits.format(number).as_bytes(), page);
 }
 
-/// Writes the line of a position, by its corner's key or its centre's.
-fn write_anchor<W: Write>(
-    corner: &[u8],
-    centre: &[u8],
-    anchor: &Anchor,
-    page: &mut Page,
-    out: &mut Counted<W>,
-) -> Result<(), WriteFailed>
-    requires few { out.old.failures < 2 ^ 64 - 1 }
+/// Adds the line of a position, by its corner's key or its centre's.
+fn push_anchor(corner: &[u8], centre: &[u8], anchor: &Anchor, page: &mut Page)
     requires corner { length corner.now ≤ 14 }
     requires centre { length centre.now ≤ 14 }
-    ensures { Gathers W.contents out.old page.old out.new page.new (anchor_text corner.now centre.now
-        (record { centre = anchor.now.centre; word = anchor.now.word })) result }
+    requires room { length page.old + 79 ≤ 4096 }
+    ensures text { page.new ≡ page.old ++ anchor_text corner.now centre.now
+        (record { centre = anchor.now.centre; word = anchor.now.word }) }
+    ensures short { length page.new ≤ length page.old + 79 }
 {
     let key = if anchor.centre { centre } else { corner };
-    write_line(key, anchor.word.as_bytes(), page, out)
+    push_line(key, anchor.word.as_bytes(), page);
 }
 
-/// Writes the header.
-fn write_header<W: Write>(
-    grid: &Grid,
-    nodata: &[u8],
-    page: &mut Page,
-    out: &mut Counted<W>,
-) -> Result<(), WriteFailed>
-    requires few { out.old.failures < 2 ^ 64 - 1 }
-    requires short { length nodata.now ≤ 64 }
-    ensures { Gathers W.contents out.old page.old out.new page.new
-        (header_text grid.now nodata.now) result }
+/// A page that begins with the header.
+fn header_page(grid: &Grid, nodata: &[u8]) -> Page
+    requires { length nodata.now ≤ 64 }
+    ensures { result ≡ header_text grid.now nodata.now }
 {
-    let (cols, rows) = (grid.cols(), grid.rows());
-    let (xll, yll) = (grid.xll(), grid.yll());
-    let cellsize = grid.cellsize().as_bytes();
-    write_number_line(b"ncols         ", cols, page, out)?;
-    write_number_line(b"nrows         ", rows, page, out)?;
-    write_anchor(b"xllcorner     ", b"xllcenter     ", xll, page, out)?;
-    write_anchor(b"yllcorner     ", b"yllcenter     ", yll, page, out)?;
-    write_line(b"cellsize      ", cellsize, page, out)?;
-    write_line(b"NODATA_value  ", nodata, page, out)
+    let mut page = Page::new();
+    push_number_line(b"ncols         ", grid.cols(), &mut page);
+    push_number_line(b"nrows         ", grid.rows(), &mut page);
+    push_anchor(b"xllcorner     ", b"xllcenter     ", grid.xll(), &mut page);
+    push_anchor(b"yllcorner     ", b"yllcenter     ", grid.yll(), &mut page);
+    push_line(b"cellsize      ", grid.cellsize().as_bytes(), &mut page);
+    push_line(b"NODATA_value  ", nodata, &mut page);
+    page
 }
 
 /// Writes the grid's header with this NODATA word, and these cells.
@@ -243,21 +191,20 @@ fn write_cells<T: CellValue, W: Write>(
         ++ rows_text (T.text grid.now.scale) nodata.now grid.now.terrain.cols grid.now.terrain.rows cells.now)
         result }
 {
-    let mut page = Page::new();
+    let mut page = header_page(grid, nodata);
     let cols = grid.cols() as usize;
     let scale = grid.scale();
-    write_header(grid, nodata, &mut page, out)?;
     write_rows(cells, cols, scale, nodata, &mut page, out)?;
     page.write_to(out)
 }
 
-/// Writes the grid and its heights. It takes no memory.
+/// Writes the grid and its heights; named sinks are not written. It takes no memory.
 pub fn write_heights<W: Write>(grid: &Grid, out: &mut Counted<W>) -> Result<(), WriteFailed>
     requires { out.old.failures < 2 ^ 64 - 1 }
     ensures text { Writes W.contents out.old out.new (heights_text grid.now) result }
-    // What is written is read again as the same grid.
+    // What is written is read again as the same grid without its sinks.
     ensures again { length (heights_text grid.now) ≤ most_bytes →
-        IsGridText grid.now.scale (heights_text grid.now) grid.now }
+        IsGridText grid.now.scale (heights_text grid.now) (raster_with_sinks grid.now []) }
 {
     write_cells(grid, grid.cells(), grid.nodata().as_bytes(), out)
 }

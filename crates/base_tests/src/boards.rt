@@ -2,7 +2,8 @@
 ghost use Rattle.std.specs.Prelude.{◌≡◌, ◌<◌, ◌≤◌, ◌⊎◌, vec_len, IfOk, IfErr};
 ghost use Rattle.tile_jobs.specs.Ends.{IsBoard, SameSeat};
 
-use std::alloc::Global;
+use std::alloc::{AllocError, Global};
+use std::process::Abort;
 use std::sync::Wait;
 use std::test::Fail;
 use std::thread;
@@ -29,15 +30,58 @@ fn take_at(seats: &mut Vec<Seat>, s: usize) -> Take
     seats[s].try_take()
 }
 
+/// One seat of a board.
+fn dealt_seat(alloc: Global, jobs: u32, seats: u32, s: usize) -> Result<Seat, Fail>
+    requires { jobs ≤ 65536 }
+{
+    let mut seats = dealt(alloc, jobs, seats)?;
+    if s >= seats.len() {
+        return Err(Fail::from("no seat"));
+    }
+    Ok(seats.swap_remove(s))
+}
+
+/// The next try of a seat gets this.
+fn gets(rt: &impl Abort, seat: &mut Seat, want: Take, s: usize) {
+    assert_eq!(rt; seat.try_take(), want, "seat {s}");
+}
+
+/// The next try of the seat at this place gets this.
+fn gets_at(rt: &impl Abort, seats: &mut Vec<Seat>, s: usize, want: Take)
+    requires at { s < vec_len seats.old }
+    requires board { IsBoard (vec_len seats.old) seats.old.items }
+    ensures len { vec_len seats.new ≡ vec_len seats.old }
+    ensures board { IsBoard (vec_len seats.new) seats.new.items }
+{
+    assert_eq!(rt; take_at(seats, s), want);
+}
+
+/// The board, closed.
+fn closed(alloc: Global, seats: Vec<Seat>) -> Result<Closed, Fail>
+    requires { IsBoard (vec_len seats) seats.items }
+{
+    let Ok(closed) = Board::close(alloc, seats) else {
+        return Err(Fail::from("no memory"));
+    };
+    Ok(closed)
+}
+
+/// What two seats took, and what is left.
+fn are_parts(rt: &impl Abort, closed: &Closed, first: &[u32], second: &[u32], left: &[u32]) {
+    assert_eq!(rt; closed.taken.len(), 2);
+    assert_eq!(rt; closed.taken[0].as_slice(), first);
+    assert_eq!(rt; closed.taken[1].as_slice(), second);
+    assert_eq!(rt; closed.left.as_slice(), left);
+}
+
 #[test]
 fn one_seat_takes_all(rt: HostRuntime) -> Result<(), Fail> {
-    let mut seats = Board::deal(rt.alloc(), 1000, 1)?;
-    let mut seat = seats.pop().ok_or("no seat")?;
+    let mut seat = dealt_seat(rt.alloc(), 1000, 1, 0)?;
     for job in 0..1000 {
-        assert_eq!(rt; seat.try_take(), Take::Job(job));
+        gets(&rt, &mut seat, Take::Job(job), 0);
     }
-    assert_eq!(rt; seat.try_take(), Take::Empty);
-    assert_eq!(rt; seat.try_take(), Take::Empty);
+    gets(&rt, &mut seat, Take::Empty, 0);
+    gets(&rt, &mut seat, Take::Empty, 0);
     Ok(())
 }
 
@@ -49,12 +93,11 @@ fn own_jobs_then_round_the_seats(rt: HostRuntime) -> Result<(), Fail> {
         (2, [2, 5, 0, 3, 6, 1, 4]),
     ];
     for (s, jobs) in turns {
-        let mut seats = Board::deal(rt.alloc(), 7, 3)?;
-        let mut seat = seats.swap_remove(s);
+        let mut seat = dealt_seat(rt.alloc(), 7, 3, s)?;
         for job in jobs {
-            assert_eq!(rt; seat.try_take(), Take::Job(job), "seat {s}");
+            gets(&rt, &mut seat, Take::Job(job), s);
         }
-        assert_eq!(rt; seat.try_take(), Take::Empty);
+        gets(&rt, &mut seat, Take::Empty, s);
     }
     Ok(())
 }
@@ -62,71 +105,74 @@ fn own_jobs_then_round_the_seats(rt: HostRuntime) -> Result<(), Fail> {
 #[test]
 fn five_jobs_for_two_seats(rt: HostRuntime) -> Result<(), Fail> {
     let mut seats = dealt(rt.alloc(), 5, 2)?;
-    assert_eq!(rt; take_at(&mut seats, 1), Take::Job(1));
-    assert_eq!(rt; take_at(&mut seats, 1), Take::Job(3));
-    assert_eq!(rt; take_at(&mut seats, 1), Take::Job(0));
-    assert_eq!(rt; take_at(&mut seats, 0), Take::Job(2));
-    assert_eq!(rt; take_at(&mut seats, 0), Take::Job(4));
-    assert_eq!(rt; take_at(&mut seats, 0), Take::Empty);
-    let Ok(closed) = Board::close(rt.alloc(), seats) else {
-        return Err(Fail::from("no memory"));
-    };
-    assert_eq!(rt; closed.taken.len(), 2);
-    assert_eq!(rt; closed.taken[0].as_slice(), [2, 4].as_slice());
-    assert_eq!(rt; closed.taken[1].as_slice(), [1, 3, 0].as_slice());
-    assert_eq!(rt; closed.left.len(), 0);
+    gets_at(&rt, &mut seats, 1, Take::Job(1));
+    gets_at(&rt, &mut seats, 1, Take::Job(3));
+    gets_at(&rt, &mut seats, 1, Take::Job(0));
+    gets_at(&rt, &mut seats, 0, Take::Job(2));
+    gets_at(&rt, &mut seats, 0, Take::Job(4));
+    gets_at(&rt, &mut seats, 0, Take::Empty);
+    are_parts(&rt, &closed(rt.alloc(), seats)?, &[2, 4], &[1, 3, 0], &[]);
     Ok(())
 }
 
 #[test]
 fn jobs_that_no_seat_took_are_left(rt: HostRuntime) -> Result<(), Fail> {
     let mut seats = dealt(rt.alloc(), 5, 2)?;
-    assert_eq!(rt; take_at(&mut seats, 1), Take::Job(1));
-    assert_eq!(rt; take_at(&mut seats, 1), Take::Job(3));
-    assert_eq!(rt; take_at(&mut seats, 1), Take::Job(0));
-    let Ok(closed) = Board::close(rt.alloc(), seats) else {
-        return Err(Fail::from("no memory"));
-    };
-    assert_eq!(rt; closed.taken.len(), 2);
-    assert_eq!(rt; closed.taken[0].len(), 0);
-    assert_eq!(rt; closed.taken[1].as_slice(), [1, 3, 0].as_slice());
-    assert_eq!(rt; closed.left.as_slice(), [2, 4].as_slice());
+    gets_at(&rt, &mut seats, 1, Take::Job(1));
+    gets_at(&rt, &mut seats, 1, Take::Job(3));
+    gets_at(&rt, &mut seats, 1, Take::Job(0));
+    are_parts(&rt, &closed(rt.alloc(), seats)?, &[], &[1, 3, 0], &[2, 4]);
     Ok(())
 }
 
 #[test]
 fn more_seats_than_jobs(rt: HostRuntime) -> Result<(), Fail> {
     let mut seats = dealt(rt.alloc(), 1, 64)?;
-    assert_eq!(rt; take_at(&mut seats, 63), Take::Job(0));
-    assert_eq!(rt; take_at(&mut seats, 63), Take::Empty);
-    assert_eq!(rt; take_at(&mut seats, 0), Take::Empty);
+    gets_at(&rt, &mut seats, 63, Take::Job(0));
+    gets_at(&rt, &mut seats, 63, Take::Empty);
+    gets_at(&rt, &mut seats, 0, Take::Empty);
     let mut none = dealt(rt.alloc(), 0, 1)?;
-    assert_eq!(rt; take_at(&mut none, 0), Take::Empty);
+    gets_at(&rt, &mut none, 0, Take::Empty);
     Ok(())
 }
 
 #[test]
 fn most_jobs(rt: HostRuntime) -> Result<(), Fail> {
-    let mut seats = Board::deal(rt.alloc(), 65536, 2)?;
-    let mut seat = seats.pop().ok_or("no seat")?;
+    let mut seat = dealt_seat(rt.alloc(), 65536, 2, 1)?;
     for job in 0..32768 {
-        assert_eq!(rt; seat.try_take(), Take::Job(2 * job + 1));
+        gets(&rt, &mut seat, Take::Job(2 * job + 1), 1);
     }
     for job in 0..32768 {
-        assert_eq!(rt; seat.try_take(), Take::Job(2 * job));
+        gets(&rt, &mut seat, Take::Job(2 * job), 1);
     }
-    assert_eq!(rt; seat.try_take(), Take::Empty);
+    gets(&rt, &mut seat, Take::Empty, 1);
     Ok(())
+}
+
+fn refuses_seats(rt: &impl Abort, alloc: Global, seats: u32) {
+    let refused = dealt(alloc, 5, seats);
+    assert!(rt;
+        matches!(refused, Err(JobFault::BadWorkers)),
+        "{seats} seats"
+    );
 }
 
 #[test]
 fn bad_seats(rt: HostRuntime) {
-    for seats in [0, 65] {
-        let refused = Board::deal(rt.alloc(), 5, seats);
-        assert!(rt;
-            matches!(refused, Err(JobFault::BadWorkers)),
-            "{seats} seats"
-        );
+    refuses_seats(&rt, rt.alloc(), 0);
+    refuses_seats(&rt, rt.alloc(), 65);
+}
+
+/// The board, closed at the first or the second try.
+fn closed_at_last(alloc: Global, seats: Vec<Seat>) -> Result<Closed, Fail>
+    requires { IsBoard (vec_len seats) seats.items }
+{
+    match Board::close(alloc, seats) {
+        Ok(closed) => Ok(closed),
+        Err(back) => match Board::close(alloc, back) {
+            Ok(closed) => Ok(closed),
+            Err(_) => Err(Fail::from("refused twice")),
+        },
     }
 }
 
@@ -141,18 +187,9 @@ fn refused_close_gives_seats_back(rt: HostRuntime) -> Result<(), Fail> {
             return Ok(());
         }
     };
-    assert_eq!(rt; take_at(&mut seats, 1), Take::Job(1));
-    let closed = match Board::close(rt.alloc(), seats) {
-        Ok(closed) => closed,
-        Err(back) => match Board::close(rt.alloc(), back) {
-            Ok(closed) => closed,
-            Err(_) => return Err(Fail::from("refused twice")),
-        },
-    };
-    assert_eq!(rt; closed.taken.len(), 2);
-    assert_eq!(rt; closed.taken[0].len(), 0);
-    assert_eq!(rt; closed.taken[1].as_slice(), [1].as_slice());
-    assert_eq!(rt; closed.left.as_slice(), [0, 2, 4, 3].as_slice());
+    gets_at(&rt, &mut seats, 1, Take::Job(1));
+    let closed = closed_at_last(rt.alloc(), seats)?;
+    are_parts(&rt, &closed, &[], &[1], &[0, 2, 4, 3]);
     Ok(())
 }
 
@@ -189,13 +226,11 @@ fn taken_apart<R: Threads + Wait + Sync>(
 }
 
 /// Whether the jobs of the seat's own deque come first, in rising order.
-fn own_come_first(list: &[u32], seat: u32, seats: u32) -> bool
-    requires { 0 < seats }
-{
+fn own_come_first(list: &[u32], seat: u32, seats: u32) -> bool {
     let mut stolen = false;
     let mut least = seat;
     for job in list {
-        if job % seats != seat {
+        if job.checked_rem(seats) != Some(seat) {
             stolen = true;
         } else if stolen || *job < least {
             return false;
@@ -206,27 +241,39 @@ fn own_come_first(list: &[u32], seat: u32, seats: u32) -> bool
     true
 }
 
+/// Each job stands once in the seats' lists, in which their own jobs come first.
+fn have_each_job_once(
+    rt: &impl Abort,
+    alloc: Global,
+    lists: &[Vec<u32>],
+    jobs: u32,
+    seats: u32,
+) -> Result<(), AllocError> {
+    let mut times = vec![in alloc; 0u32; jobs as usize]?;
+    let mut total = 0usize;
+    let mut seat = 0u32;
+    for list in lists {
+        assert!(rt; own_come_first(list, seat, seats), "seat {seat}: {list:?}");
+        for job in list {
+            if let Some(count) = times.get_mut(*job as usize) {
+                *count = count.saturating_add(1);
+            }
+        }
+        total = total.saturating_add(list.len());
+        seat = seat.saturating_add(1);
+    }
+    assert_eq!(rt; total, jobs as usize);
+    assert!(rt; times.iter().all(|count| *count == 1), "{jobs} jobs");
+    Ok(())
+}
+
 #[test]
 fn seats_apart_take_each_job_once(rt: HostRuntime) -> Result<(), Fail> {
     for (jobs, seats) in [(7u32, 3u32), (0, 2), (10000, 4)] {
         let closed = taken_apart(&rt, rt.alloc(), jobs, seats)?;
         assert_eq!(rt; closed.left.len(), 0, "{jobs} jobs");
         assert_eq!(rt; closed.taken.len(), seats as usize);
-        let mut times = vec![in rt.alloc(); 0u32; jobs as usize]?;
-        let mut total = 0usize;
-        let mut seat = 0u32;
-        for list in &closed.taken {
-            assert!(rt; own_come_first(list, seat, seats), "seat {seat}: {list:?}");
-            for job in list {
-                if let Some(count) = times.get_mut(*job as usize) {
-                    *count = count.saturating_add(1);
-                }
-            }
-            total = total.saturating_add(list.len());
-            seat = seat.saturating_add(1);
-        }
-        assert_eq!(rt; total, jobs as usize);
-        assert!(rt; times.iter().all(|count| *count == 1), "{jobs} jobs");
+        have_each_job_once(&rt, rt.alloc(), &closed.taken, jobs, seats)?;
     }
     Ok(())
 }

@@ -1,18 +1,30 @@
-//! The parts of a grid.
-ghost use Rattle.std.specs.Prelude.{◌≡◌, ◌∷◌, [], pos, negsuc, None, Some};
+//! The parts of a grid, and its sinks.
+ghost use Rattle.std.specs.Prelude.{◌≡◌, ◌*◌, ◌∷◌, [], pos, negsuc, None, Some, Contains};
 
-use crate::texts::grid_of;
+use crate::texts::{PIT, PIT_CELLS, grid_of};
 use std::alloc::Global;
 use std::process::Abort;
-use terrain::{Grid, Place};
+use std::test::Fail;
+use terrain::{Anchor, Grid, Place, SinkFault, Word};
+
+/// The place in the middle of three by three cells, and others in and beside them.
+const MIDDLE: Place = Place { row: 1, col: 1 };
+
+const NORTH_EAST: Place = Place { row: 0, col: 2 };
+
+const SOUTH_WEST: Place = Place { row: 2, col: 0 };
+
+const SOUTH_EAST: Place = Place { row: 2, col: 2 };
+
+const PAST_THE_ROWS: Place = Place { row: 3, col: 0 };
+
+const PAST_THE_COLUMNS: Place = Place { row: 0, col: 3 };
 
 /// Three by three cells: heights 5 around a 1 below 0, and no data at the south east.
 fn bowl(rt: &impl Abort, alloc: Global) -> Grid
-    ensures { result.terrain ≡ record {
-      cols = 3;
-      rows = 3;
-      cells = Some (pos 5) ∷ Some (pos 5) ∷ Some (pos 5) ∷ Some (pos 5) ∷ Some (negsuc 0) ∷ Some (pos 5) ∷ Some (pos 5) ∷ Some (pos 5) ∷ None ∷ [];
-    } }
+    ensures cols { result.terrain.cols ≡ 3 }
+    ensures rows { result.terrain.rows ≡ 3 }
+    ensures cells { result.terrain.cells ≡ Some (pos 5) ∷ Some (pos 5) ∷ Some (pos 5) ∷ Some (pos 5) ∷ Some (negsuc 0) ∷ Some (pos 5) ∷ Some (pos 5) ∷ Some (pos 5) ∷ None ∷ [] }
 {
     let text =
         b"ncols 3 nrows 3 xllcenter 100.5 yllcorner -2E1 cellsize 30.0 .5 .5 .5 .5 -.1 .5 .5 .5 -9999";
@@ -24,39 +36,162 @@ fn bowl(rt: &impl Abort, alloc: Global) -> Grid
     grid
 }
 
+/// The grid with these sinks.
+fn named(rt: &impl Abort, alloc: Global, grid: &Grid, sinks: &[Place]) -> Grid
+    ensures cols { result.terrain.cols ≡ grid.now.terrain.cols }
+    ensures rows { result.terrain.rows ≡ grid.now.terrain.rows }
+    ensures cells { result.terrain.cells ≡ grid.now.terrain.cells }
+{
+    grid.with_sinks(alloc, sinks).expect(rt, "sinks")
+}
+
+/// The cells of the bowl, filled.
+const FILLED: [Option<i32>; 9] = [
+    Some(5),
+    Some(5),
+    Some(5),
+    Some(5),
+    Some(5),
+    Some(5),
+    Some(5),
+    Some(5),
+    None,
+];
+
+/// The grid with [`FILLED`] as its cells.
+fn filled(rt: &impl Abort, alloc: Global, grid: &Grid) -> Grid
+    requires size { grid.now.terrain.cols * grid.now.terrain.rows ≡ 9 }
+    requires high { Contains grid.now.terrain.cells (Some (pos 5)) }
+{
+    grid.with_cells(alloc, &FILLED).expect(rt, "memory")
+}
+
+/// Whether a place of the grid is an end cell.
+fn is_edge(rt: &impl Abort, grid: &Grid, place: Place) -> bool {
+    assert!(rt; place.row < grid.rows());
+    assert!(rt; place.col < grid.cols());
+    grid.is_edge(place)
+}
+
+/// These are the grid's sinks.
+fn has_sinks(rt: &impl Abort, grid: &Grid, sinks: &[Place]) {
+    assert_eq!(rt; grid.sinks(), sinks);
+}
+
+/// The grid refuses these sinks with this fault.
+fn refuses(rt: &impl Abort, alloc: Global, grid: &Grid, sinks: &[Place], fault: SinkFault) {
+    assert_eq!(rt; grid.with_sinks(alloc, sinks).err(), Some(fault));
+}
+
+fn is_word(rt: &impl Abort, word: &Word, text: &[u8]) {
+    assert_eq!(rt; word.as_bytes(), text);
+}
+
+fn is_anchor(rt: &impl Abort, anchor: &Anchor, centre: bool, text: &[u8]) {
+    assert_eq!(rt; anchor.centre, centre);
+    is_word(rt, &anchor.word, text);
+}
+
 #[test]
 fn parts_of_a_grid(rt: HostRuntime) {
     let grid = bowl(&rt, rt.alloc());
     assert_eq!(rt; grid.scale(), 1);
-    assert!(rt; grid.xll().centre);
-    assert_eq!(rt; grid.xll().word.as_bytes(), b"100.5".as_slice());
-    assert!(rt; !grid.yll().centre);
-    assert_eq!(rt; grid.yll().word.as_bytes(), b"-2E1".as_slice());
-    assert_eq!(rt; grid.cellsize().as_bytes(), b"30.0".as_slice());
-    assert_eq!(rt; grid.nodata().as_bytes(), b"-9999".as_slice());
+    is_anchor(&rt, grid.xll(), true, b"100.5");
+    is_anchor(&rt, grid.yll(), false, b"-2E1");
+    is_word(&rt, grid.cellsize(), b"30.0");
+    is_word(&rt, grid.nodata(), b"-9999");
 }
 
 #[test]
 fn cells_by_place(rt: HostRuntime) {
     let grid = bowl(&rt, rt.alloc());
-    assert_eq!(rt; grid.at(Place { row: 0, col: 2 }), Some(5));
-    assert_eq!(rt; grid.at(Place { row: 1, col: 1 }), Some(-1));
-    assert_eq!(rt; grid.at(Place { row: 2, col: 2 }), None);
-    assert!(rt; grid.is_edge(Place { row: 0, col: 1 }));
-    assert!(rt; grid.is_edge(Place { row: 1, col: 1 }));
-    assert!(rt; !grid.is_edge(Place { row: 2, col: 2 }));
+    assert_eq!(rt; grid.at(NORTH_EAST), Some(5));
+    assert_eq!(rt; grid.at(MIDDLE), Some(-1));
+    assert_eq!(rt; grid.at(SOUTH_EAST), None);
+    assert!(rt; is_edge(&rt, &grid, Place { row: 0, col: 1 }));
+    assert!(rt; is_edge(&rt, &grid, MIDDLE));
+    assert!(rt; !is_edge(&rt, &grid, SOUTH_EAST));
 }
 
 #[test]
 fn other_cells(rt: HostRuntime) {
     let grid = bowl(&rt, rt.alloc());
-    let mut filled = [Some(5); 9];
-    filled[8] = None;
-    let other = grid.with_cells(rt.alloc(), &filled).expect(&rt, "memory");
-    assert_eq!(rt; other.cells(), filled.as_slice());
+    let other = filled(&rt, rt.alloc(), &grid);
+    assert_eq!(rt; other.cells(), FILLED.as_slice());
     assert_eq!(rt; other.cols(), 3);
     assert_eq!(rt; other.scale(), 1);
-    assert!(rt; other.xll().centre);
-    assert_eq!(rt; other.nodata().as_bytes(), b"-9999".as_slice());
-    assert_eq!(rt; grid.at(Place { row: 1, col: 1 }), Some(-1));
+    is_anchor(&rt, other.xll(), true, b"100.5");
+    is_word(&rt, other.nodata(), b"-9999");
+    assert_eq!(rt; grid.at(MIDDLE), Some(-1));
+}
+
+#[test]
+fn sink_in_a_pit(rt: HostRuntime) {
+    let pit = grid_of(&rt, rt.alloc(), 0, PIT, &PIT_CELLS);
+    has_sinks(&rt, &pit, &[]);
+    assert!(rt; !is_edge(&rt, &pit, MIDDLE));
+    let named = named(&rt, rt.alloc(), &pit, &[MIDDLE]);
+    has_sinks(&rt, &named, &[MIDDLE]);
+    assert!(rt; is_edge(&rt, &named, MIDDLE));
+    assert_eq!(rt; named.cells(), PIT_CELLS.as_slice());
+}
+
+#[test]
+fn sinks_count_once_and_are_replaced(rt: HostRuntime) {
+    let bowl = bowl(&rt, rt.alloc());
+    let repeated = [MIDDLE, SOUTH_WEST, MIDDLE, NORTH_EAST, SOUTH_WEST, MIDDLE];
+    let first = named(&rt, rt.alloc(), &bowl, &repeated);
+    has_sinks(&rt, &first, &[MIDDLE, SOUTH_WEST, NORTH_EAST]);
+    let second = named(&rt, rt.alloc(), &first, &[NORTH_EAST]);
+    has_sinks(&rt, &second, &[NORTH_EAST]);
+    let none = named(&rt, rt.alloc(), &second, &[]);
+    has_sinks(&rt, &none, &[]);
+}
+
+#[test]
+fn sinks_stay_with_other_cells(rt: HostRuntime) {
+    let grid = bowl(&rt, rt.alloc());
+    let sunk = named(&rt, rt.alloc(), &grid, &[NORTH_EAST, MIDDLE]);
+    let other = filled(&rt, rt.alloc(), &sunk);
+    has_sinks(&rt, &other, &[NORTH_EAST, MIDDLE]);
+    assert_eq!(rt; other.cells(), FILLED.as_slice());
+}
+
+#[test]
+fn bad_sinks(rt: HostRuntime) {
+    let alloc = rt.alloc();
+    let grid = bowl(&rt, alloc);
+    let outside = [MIDDLE, NORTH_EAST, PAST_THE_ROWS, SOUTH_EAST];
+    refuses(&rt, alloc, &grid, &outside, SinkFault::Outside(2));
+    let outside = [PAST_THE_COLUMNS, SOUTH_EAST];
+    refuses(&rt, alloc, &grid, &outside, SinkFault::Outside(0));
+    let on_nodata = [MIDDLE, SOUTH_EAST, PAST_THE_ROWS];
+    refuses(&rt, alloc, &grid, &on_nodata, SinkFault::OnNodata(1));
+}
+
+/// Repeats are counted, and too many go before one that lies outside.
+#[test]
+fn most_sinks(rt: HostRuntime) -> Result<(), Fail> {
+    let grid = bowl(&rt, rt.alloc());
+    let mut sinks = vec![in rt.alloc(); MIDDLE; 1024]?;
+    has_sinks(&rt, &named(&rt, rt.alloc(), &grid, &sinks), &[MIDDLE]);
+    sinks.push(PAST_THE_ROWS)?;
+    refuses(&rt, rt.alloc(), &grid, &sinks, SinkFault::TooManySinks);
+    Ok(())
+}
+
+/// With ample memory the first call names the sink. With `--fail-alloc` the second does.
+#[test]
+fn refused_sinks_are_named_once_more(rt: HostRuntime) {
+    let pit = grid_of(&rt, rt.alloc(), 0, PIT, &PIT_CELLS);
+    let named = match pit.with_sinks(rt.alloc(), &[MIDDLE]) {
+        Ok(named) => named,
+        Err(fault) => {
+            assert_eq!(rt; fault, SinkFault::Memory);
+            pit.with_sinks(rt.alloc(), &[MIDDLE])
+                .expect(&rt, "once more")
+        }
+    };
+    has_sinks(&rt, &named, &[MIDDLE]);
+    assert_eq!(rt; named.cells(), PIT_CELLS.as_slice());
 }

@@ -343,27 +343,33 @@ impl Read for Interrupted<'_> {
     }
 }
 
+/// Reads a text of two heights through a reader that is interrupted after so many calls. Three calls give bytes,
+/// and the fourth says that there are no more.
+fn read_till(rt: &impl Abort, alloc: Global, text: &[u8], calls_before: u32) {
+    let mut reader = Counted::new(Interrupted {
+        left: text,
+        calls_before,
+    });
+    let answer = read_grid(alloc, 0, &mut reader);
+    let failures = reader.failures();
+    if calls_before < 4 {
+        assert_eq!(rt;
+            answer.err(),
+            Some(InputFault::Read),
+            "{calls_before} calls before"
+        );
+        assert_eq!(rt; failures, 1);
+    } else {
+        let grid = answer.expect(rt, "the text is a grid");
+        assert_eq!(rt; grid.cells(), [Some(3), Some(4)].as_slice());
+        assert_eq!(rt; failures, 0);
+    }
+}
+
 #[test]
 fn interrupted_read(rt: HostRuntime) {
     let text = after_header(&rt, rt.alloc(), b" 3 4");
-    // Three calls give bytes, and the fourth says that there are no more.
     for calls_before in 0..5 {
-        let mut reader = Counted::new(Interrupted {
-            left: &text,
-            calls_before,
-        });
-        let answer = read_grid(rt.alloc(), 0, &mut reader);
-        if calls_before < 4 {
-            assert_eq!(rt;
-                answer.err(),
-                Some(InputFault::Read),
-                "{calls_before} calls before"
-            );
-            assert_eq!(rt; reader.failures(), 1);
-        } else {
-            let grid = answer.expect(&rt, "the text is a grid");
-            assert_eq!(rt; grid.cells(), [Some(3), Some(4)].as_slice());
-            assert_eq!(rt; reader.failures(), 0);
-        }
+        read_till(&rt, rt.alloc(), &text, calls_before);
     }
 }

@@ -13,6 +13,22 @@ pub const LENIENT: &[u8] =
 /// The cells of [`LENIENT`].
 pub const LENIENT_CELLS: [Option<Height>; 4] = [Some(1250), Some(-50), None, Some(700)];
 
+/// A text of three by three cells: 9 around a 1.
+pub const PIT: &[u8] = b"ncols 3 nrows 3 xllcorner 0 yllcorner 0 cellsize 1 9 9 9 9 1 9 9 9 9";
+
+/// The cells of [`PIT`].
+pub const PIT_CELLS: [Option<Height>; 9] = [
+    Some(9),
+    Some(9),
+    Some(9),
+    Some(9),
+    Some(1),
+    Some(9),
+    Some(9),
+    Some(9),
+    Some(9),
+];
+
 /// The grid of a text, which spells these cells.
 pub fn grid_of(
     rt: &impl Abort,

@@ -1,9 +1,12 @@
 //! Tilings, rims, views and what is put back.
-ghost use Rattle.std.specs.Prelude.{◌≡◌};
+ghost use Rattle.std.specs.Prelude.{◌≡◌, IfOk};
+ghost use Rattle.tiles.specs.Cutting.{IsWithin};
 
+use std::alloc::{AllocError, Global};
+use std::process::Abort;
 use std::test::Fail;
 use terrain::Place;
-use tiles::{Bounds, Tiling, TilingFault};
+use tiles::{Bounds, TileView, Tiling, TilingFault};
 
 const fn place(row: u32, col: u32) -> Place
     ensures { result ≡ record { row = row; col = col } }
@@ -11,45 +14,69 @@ const fn place(row: u32, col: u32) -> Place
     Place { row, col }
 }
 
+/// The grid of this size, cut into tiles of this side.
+fn cut(rt: &impl Abort, cols: u32, rows: u32, side: u32) -> Tiling
+    ensures { result ≡ record { cols = cols; rows = rows; side = side } }
+{
+    tiling(rt, cols, rows, side).expect(rt, "a tiling")
+}
+
+fn tiling(rt: &impl Abort, cols: u32, rows: u32, side: u32) -> Result<Tiling, TilingFault>
+    ensures { IfOk result (λ t. t ≡ record { cols = cols; rows = rows; side = side }) }
+{
+    assert!(rt; 1 <= cols);
+    assert!(rt; cols <= 4_096);
+    assert!(rt; 1 <= rows);
+    assert!(rt; rows <= 4_096);
+    Tiling::new(cols, rows, side)
+}
+
+/// A place of the grid.
+fn place_in(rt: &impl Abort, tiling: &Tiling, row: u32, col: u32) -> Place
+    ensures { IsWithin tiling.now result }
+{
+    assert!(rt; row < tiling.rows());
+    assert!(rt; col < tiling.cols());
+    place(row, col)
+}
+
+fn has_tiles(rt: &impl Abort, cols: u32, rows: u32, side: u32, tiles: u32) {
+    let tiling = cut(rt, cols, rows, side);
+    assert_eq!(rt; tiling.tiles(), tiles, "{cols} by {rows}, side {side}");
+    assert_eq!(rt; tiling.cols(), cols);
+    assert_eq!(rt; tiling.rows(), rows);
+}
+
 #[test]
 fn tile_counts(rt: HostRuntime) {
-    for (cols, rows, side, tiles) in [
-        (256, 256, 1, 65_536),
-        (4_096, 4_096, 16, 65_536),
-        (4_096, 4_096, 4_096, 1),
-        (5, 3, 2, 6),
-        (1, 1, 1, 1),
-    ] {
-        let tiling = Tiling::new(cols, rows, side).expect(&rt, "a tiling");
-        assert_eq!(rt; tiling.tiles(), tiles, "{cols} by {rows}, side {side}");
-        assert_eq!(rt; tiling.cols(), cols);
-        assert_eq!(rt; tiling.rows(), rows);
-    }
+    has_tiles(&rt, 256, 256, 1, 65_536);
+    has_tiles(&rt, 4_096, 4_096, 16, 65_536);
+    has_tiles(&rt, 4_096, 4_096, 4_096, 1);
+    has_tiles(&rt, 5, 3, 2, 6);
+    has_tiles(&rt, 1, 1, 1, 1);
+}
+
+fn refuses(rt: &impl Abort, cols: u32, rows: u32, side: u32, fault: TilingFault) {
+    let refused = tiling(rt, cols, rows, side).err();
+    assert_eq!(rt; refused, Some(fault), "{cols} by {rows}, side {side}");
 }
 
 #[test]
 fn refused_tilings(rt: HostRuntime) {
-    for (cols, rows, side, fault) in [
-        (257, 256, 1, TilingFault::TooManyTiles),
-        (4_096, 4_096, 15, TilingFault::TooManyTiles),
-        (5, 3, 0, TilingFault::BadSide),
-        (5, 3, 4_097, TilingFault::BadSide),
-        (4_096, 4_096, 0, TilingFault::BadSide),
-    ] {
-        let refused = Tiling::new(cols, rows, side).err();
-        assert_eq!(rt; refused, Some(fault), "{cols} by {rows}, side {side}");
-    }
+    refuses(&rt, 257, 256, 1, TilingFault::TooManyTiles);
+    refuses(&rt, 4_096, 4_096, 15, TilingFault::TooManyTiles);
+    refuses(&rt, 5, 3, 0, TilingFault::BadSide);
+    refuses(&rt, 5, 3, 4_097, TilingFault::BadSide);
+    refuses(&rt, 4_096, 4_096, 0, TilingFault::BadSide);
 }
 
 #[test]
 fn tiles_of_places(rt: HostRuntime) {
-    let tiling = Tiling::new(5, 3, 2).expect(&rt, "a tiling");
+    let tiling = cut(&rt, 5, 3, 2);
     let tiles = [[0, 0, 1, 1, 2], [0, 0, 1, 1, 2], [3, 3, 4, 4, 5]];
     for row in 0..3 {
         for col in 0..5 {
-            assert!(rt; row < tiling.rows());
-            assert!(rt; col < tiling.cols());
-            let tile = tiling.tile_of(place(row, col));
+            let tile = tiling.tile_of(place_in(&rt, &tiling, row, col));
             assert_eq!(rt;
                 tile,
                 tiles[row as usize][col as usize],
@@ -61,7 +88,7 @@ fn tiles_of_places(rt: HostRuntime) {
 
 #[test]
 fn smaller_tiles_at_the_ends(rt: HostRuntime) {
-    let tiling = Tiling::new(5, 3, 2).expect(&rt, "a tiling");
+    let tiling = cut(&rt, 5, 3, 2);
     for (tile, top, left, rows, cols) in [
         (0, 0, 0, 2, 2),
         (1, 0, 2, 2, 2),
@@ -83,14 +110,12 @@ fn smaller_tiles_at_the_ends(rt: HostRuntime) {
 
 #[test]
 fn rim_of_one_tile(rt: HostRuntime) {
-    let tiling = Tiling::new(4, 4, 4).expect(&rt, "a tiling");
+    let tiling = cut(&rt, 4, 4, 4);
     for row in 0..4 {
         for col in 0..4 {
-            assert!(rt; row < tiling.rows());
-            assert!(rt; col < tiling.cols());
             let inside = (row == 1 || row == 2) && (col == 1 || col == 2);
             assert_eq!(rt;
-                tiling.on_rim(place(row, col)),
+                tiling.on_rim(place_in(&rt, &tiling, row, col)),
                 !inside,
                 "row {row}, column {col}"
             );
@@ -98,9 +123,24 @@ fn rim_of_one_tile(rt: HostRuntime) {
     }
 }
 
+/// The places of the rim of a tile, as it is walked.
+fn rim_of(
+    rt: &impl Abort,
+    alloc: Global,
+    tiling: &Tiling,
+    tile: u32,
+) -> Result<Vec<(u32, u32)>, AllocError> {
+    assert!(rt; tile < tiling.tiles());
+    let mut walked = Vec::new(alloc);
+    for next in tiling.rim(tile) {
+        walked.push((next.row, next.col))?;
+    }
+    Ok(walked)
+}
+
 #[test]
 fn rims_in_row_order(rt: HostRuntime) -> Result<(), Fail> {
-    let tiling = Tiling::new(5, 4, 3).expect(&rt, "a tiling");
+    let tiling = cut(&rt, 5, 4, 3);
     let rims = [
         [
             (0, 0),
@@ -118,10 +158,7 @@ fn rims_in_row_order(rt: HostRuntime) -> Result<(), Fail> {
         [(3, 3), (3, 4)].as_slice(),
     ];
     for tile in 0..4 {
-        let mut walked = vec![in rt.alloc()]?;
-        for next in tiling.rim(tile) {
-            walked.push((next.row, next.col))?;
-        }
+        let walked = rim_of(&rt, rt.alloc(), &tiling, tile)?;
         assert_eq!(rt; walked.as_slice(), rims[tile as usize], "tile {tile}");
     }
     Ok(())
@@ -129,78 +166,92 @@ fn rims_in_row_order(rt: HostRuntime) -> Result<(), Fail> {
 
 #[test]
 fn rim_of_one_cell_ends(rt: HostRuntime) {
-    let tiling = Tiling::new(5, 3, 2).expect(&rt, "a tiling");
+    let tiling = cut(&rt, 5, 3, 2);
     let mut rim = tiling.rim(5);
     assert_eq!(rt; rim.next(), Some(place(2, 4)));
     assert_eq!(rt; rim.next(), None);
     assert_eq!(rt; rim.next(), None);
 }
 
-#[test]
-fn neighbours_in_other_tiles(rt: HostRuntime) -> Result<(), Fail> {
-    for (side, row, col, outer) in [
-        (2, 1, 1, [(1, 2), (2, 2), (2, 1), (2, 0), (0, 2)].as_slice()),
-        (2, 2, 4, [(2, 3), (1, 3), (1, 4)].as_slice()),
-        (2, 0, 0, [].as_slice()),
-        (
-            1,
-            1,
-            1,
-            [
-                (1, 2),
-                (2, 2),
-                (2, 1),
-                (2, 0),
-                (1, 0),
-                (0, 0),
-                (0, 1),
-                (0, 2),
-            ]
-            .as_slice(),
-        ),
-    ] {
-        let tiling = Tiling::new(5, 3, side).expect(&rt, "a tiling");
-        assert!(rt; row < tiling.rows());
-        assert!(rt; col < tiling.cols());
-        let mut found = vec![in rt.alloc()]?;
-        for next in tiling
-            .outer_neighbours(rt.alloc(), place(row, col))
-            .as_slice()
-        {
-            found.push((next.row, next.col))?;
-        }
-        assert_eq!(rt; found.as_slice(), outer, "row {row}, column {col}");
+/// These places lie beside one of five by three cells, in other tiles.
+fn has_outer(
+    rt: &impl Abort,
+    alloc: Global,
+    side: u32,
+    row: u32,
+    col: u32,
+    outer: &[(u32, u32)],
+) -> Result<(), AllocError> {
+    let tiling = cut(rt, 5, 3, side);
+    let place = place_in(rt, &tiling, row, col);
+    let mut found = Vec::new(alloc);
+    for next in tiling.outer_neighbours(alloc, place).as_slice() {
+        found.push((next.row, next.col))?;
     }
+    assert_eq!(rt; found.as_slice(), outer, "row {row}, column {col}");
     Ok(())
 }
 
 #[test]
+fn neighbours_in_other_tiles(rt: HostRuntime) -> Result<(), Fail> {
+    let alloc = rt.alloc();
+    has_outer(
+        &rt,
+        alloc,
+        2,
+        1,
+        1,
+        &[(1, 2), (2, 2), (2, 1), (2, 0), (0, 2)],
+    )?;
+    has_outer(&rt, alloc, 2, 2, 4, &[(2, 3), (1, 3), (1, 4)])?;
+    has_outer(&rt, alloc, 2, 0, 0, &[])?;
+    let around = [
+        (1, 2),
+        (2, 2),
+        (2, 1),
+        (2, 0),
+        (1, 0),
+        (0, 0),
+        (0, 1),
+        (0, 2),
+    ];
+    has_outer(&rt, alloc, 1, 1, 1, &around)?;
+    Ok(())
+}
+
+/// The view has this cell at a place.
+fn shows(rt: &impl Abort, view: &TileView<'_, u32>, row: u32, col: u32, cell: Option<u32>) {
+    let shown = view.at(place(row, col)).copied();
+    assert_eq!(rt; shown, cell, "row {row}, column {col}");
+}
+
+#[test]
 fn view_of_a_tile_and_around(rt: HostRuntime) {
-    let tiling = Tiling::new(5, 3, 2).expect(&rt, "a tiling");
+    let tiling = cut(&rt, 5, 3, 2);
     let cells: [u32; 15] = [0, 1, 2, 3, 4, 10, 11, 12, 13, 14, 20, 21, 22, 23, 24];
     let view = tiling.view(&cells, 3);
     assert_eq!(rt; view.bounds().rows, 1);
     assert_eq!(rt; view.row(0), [20, 21].as_slice());
     for (row, col, cell) in [
-        (1, 0, Some(&10)),
-        (1, 1, Some(&11)),
-        (1, 2, Some(&12)),
-        (2, 0, Some(&20)),
-        (2, 1, Some(&21)),
-        (2, 2, Some(&22)),
+        (1, 0, Some(10)),
+        (1, 1, Some(11)),
+        (1, 2, Some(12)),
+        (2, 0, Some(20)),
+        (2, 1, Some(21)),
+        (2, 2, Some(22)),
         (0, 0, None),
         (1, 3, None),
         (2, 3, None),
         (3, 0, None),
         (u32::MAX, u32::MAX, None),
     ] {
-        assert_eq!(rt; view.at(place(row, col)), cell, "row {row}, column {col}");
+        shows(&rt, &view, row, col, cell);
     }
 }
 
 #[test]
 fn six_lists_put_back(rt: HostRuntime) -> Result<(), Fail> {
-    let tiling = Tiling::new(5, 3, 2).expect(&rt, "a tiling");
+    let tiling = cut(&rt, 5, 3, 2);
     let alloc = rt.alloc();
     let lists = [
         Vec::from_slice(alloc, &[0, 1, 10, 11])?,

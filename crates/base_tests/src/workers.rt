@@ -2,9 +2,12 @@
 ghost use Rattle.std.specs.Prelude.{◌≤◌};
 
 use std::alloc::{AllocError, Global};
+use std::process::Abort;
+use std::sync::Wait;
 use std::sync::atomic::{AtomicU64, Ordering};
 use std::test::Fail;
 use std::thread;
+use std::thread::Threads;
 use tile_jobs::{Gate, JobFault, NoGate, Work, run_jobs, run_jobs_capped};
 
 /// Looks enough for any other worker to come.
@@ -123,11 +126,38 @@ impl Gate for Turns {
     }
 }
 
+/// The squares of the numbers below `jobs`, by work that has those below `most`.
+fn run_squares<R: Threads + Wait + Sync>(
+    rt: &R,
+    alloc: Global,
+    most: u32,
+    jobs: u32,
+    workers: u32,
+) -> Result<Vec<u32>, JobFault>
+    requires most { most ≤ 60000 }
+    requires jobs { jobs ≤ most }
+{
+    run_jobs(rt, alloc, &Squares { most }, jobs, workers, &NoGate)
+}
+
+/// Runs so many jobs, which enter by turns.
+fn run_by_turns<R: Threads + Wait + Sync>(
+    rt: &R,
+    alloc: Global,
+    jobs: u32,
+    workers: u32,
+    turns: &Turns,
+) -> Result<(), JobFault>
+    requires { jobs ≤ 60000 }
+{
+    run_jobs(rt, alloc, &Squares { most: jobs }, jobs, workers, turns)?;
+    Ok(())
+}
+
 #[test]
 fn answers_come_in_job_order(rt: HostRuntime) -> Result<(), Fail> {
-    let work = Squares { most: 10 };
     for workers in [1, 2, 3, 10, 64] {
-        let squares = run_jobs(&rt, rt.alloc(), &work, 10, workers, &NoGate)?;
+        let squares = run_squares(&rt, rt.alloc(), 10, 10, workers)?;
         assert_eq!(rt;
             squares.as_slice(),
             [0, 1, 4, 9, 16, 25, 36, 49, 64, 81].as_slice(),
@@ -139,11 +169,10 @@ fn answers_come_in_job_order(rt: HostRuntime) -> Result<(), Fail> {
 
 #[test]
 fn fewer_jobs_than_may_be_run(rt: HostRuntime) -> Result<(), Fail> {
-    let work = Squares { most: 10 };
     for workers in [1, 4] {
-        let none = run_jobs(&rt, rt.alloc(), &work, 0, workers, &NoGate)?;
+        let none = run_squares(&rt, rt.alloc(), 10, 0, workers)?;
         assert_eq!(rt; none.len(), 0);
-        let two = run_jobs(&rt, rt.alloc(), &work, 2, workers, &NoGate)?;
+        let two = run_squares(&rt, rt.alloc(), 10, 2, workers)?;
         assert_eq!(rt; two.as_slice(), [0, 1].as_slice());
     }
     Ok(())
@@ -151,8 +180,7 @@ fn fewer_jobs_than_may_be_run(rt: HostRuntime) -> Result<(), Fail> {
 
 #[test]
 fn most_jobs(rt: HostRuntime) -> Result<(), Fail> {
-    let work = Squares { most: 60000 };
-    let squares = run_jobs(&rt, rt.alloc(), &work, 60000, 4, &NoGate)?;
+    let squares = run_squares(&rt, rt.alloc(), 60000, 60000, 4)?;
     assert_eq!(rt; squares.len(), 60000);
     assert_eq!(rt; squares.get(59999).copied(), Some(3_599_880_001));
     Ok(())
@@ -160,9 +188,8 @@ fn most_jobs(rt: HostRuntime) -> Result<(), Fail> {
 
 #[test]
 fn bad_workers(rt: HostRuntime) {
-    let work = Squares { most: 10 };
     for workers in [0, 65] {
-        let refused = run_jobs(&rt, rt.alloc(), &work, 10, workers, &NoGate);
+        let refused = run_squares(&rt, rt.alloc(), 10, 10, workers);
         assert!(rt;
             matches!(refused, Err(JobFault::BadWorkers)),
             "{workers} workers"
@@ -170,12 +197,23 @@ fn bad_workers(rt: HostRuntime) {
     }
 }
 
+/// Runs so many jobs, of which one has no memory.
+fn run_hungry<R: Threads + Wait + Sync>(
+    rt: &R,
+    alloc: Global,
+    most: u8,
+    job: u32,
+    workers: u32,
+) -> Result<Vec<u32>, JobFault> {
+    let most = u32::from(most);
+    run_jobs(rt, alloc, &Hungry { most, job }, most, workers, &NoGate)
+}
+
 #[test]
 fn fault_of_a_job_is_told(rt: HostRuntime) {
     for (most, job) in [(5, 4), (8, 3)] {
-        let work = Hungry { most, job };
         for workers in [1, 2, 8] {
-            let refused = run_jobs(&rt, rt.alloc(), &work, most, workers, &NoGate);
+            let refused = run_hungry(&rt, rt.alloc(), most, job, workers);
             assert!(rt;
                 matches!(refused, Err(JobFault::Memory)),
                 "{workers} workers"
@@ -187,7 +225,7 @@ fn fault_of_a_job_is_told(rt: HostRuntime) {
 #[test]
 fn one_worker_takes_jobs_in_turn(rt: HostRuntime) -> Result<(), Fail> {
     let turns = Turns::new([0; 4]);
-    run_jobs(&rt, rt.alloc(), &Squares { most: 4 }, 4, 1, &turns)?;
+    run_by_turns(&rt, rt.alloc(), 4, 1, &turns)?;
     for job in 0..4usize {
         assert_eq!(rt; turns.place_of(job), job as u64 + 1);
     }
@@ -197,7 +235,7 @@ fn one_worker_takes_jobs_in_turn(rt: HostRuntime) -> Result<(), Fail> {
 #[test]
 fn two_jobs_meet(rt: HostRuntime) -> Result<(), Fail> {
     let turns = Turns::new([0b10, 0b01, 0, 0]);
-    run_jobs(&rt, rt.alloc(), &Squares { most: 2 }, 2, 2, &turns)?;
+    run_by_turns(&rt, rt.alloc(), 2, 2, &turns)?;
     assert_eq!(rt; turns.missed(), 0);
     Ok(())
 }
@@ -205,9 +243,8 @@ fn two_jobs_meet(rt: HostRuntime) -> Result<(), Fail> {
 /// With ample memory the answers, and with `--fail-alloc` those or a told refusal.
 #[test]
 fn refused_memory_is_told(rt: HostRuntime) {
-    let work = Squares { most: 5 };
     for workers in [1, 3] {
-        match run_jobs(&rt, rt.alloc(), &work, 5, workers, &NoGate) {
+        match run_squares(&rt, rt.alloc(), 5, 5, workers) {
             Ok(squares) => assert_eq!(rt; squares.as_slice(), [0, 1, 4, 9, 16].as_slice()),
             Err(JobFault::Memory) => {}
             Err(fault) => assert_eq!(rt; (fault, workers), (JobFault::NoThread, 3)),
@@ -220,7 +257,7 @@ fn refused_memory_is_told(rt: HostRuntime) {
 fn idle_worker_steals(rt: HostRuntime) -> Result<(), Fail> {
     for waits in [[0b110, 0, 0, 0], [0, 0b101, 0, 0], [0, 0, 0b011, 0]] {
         let turns = Turns::new(waits);
-        run_jobs(&rt, rt.alloc(), &Squares { most: 3 }, 3, 2, &turns)?;
+        run_by_turns(&rt, rt.alloc(), 3, 2, &turns)?;
         assert_eq!(rt; turns.missed(), 0, "{waits:?}");
     }
     Ok(())
@@ -230,11 +267,11 @@ fn idle_worker_steals(rt: HostRuntime) -> Result<(), Fail> {
 #[test]
 fn own_jobs_first(rt: HostRuntime) -> Result<(), Fail> {
     let turns = Turns::new([0b1000, 0, 0, 0]);
-    run_jobs(&rt, rt.alloc(), &Squares { most: 4 }, 4, 2, &turns)?;
+    run_by_turns(&rt, rt.alloc(), 4, 2, &turns)?;
     assert_eq!(rt; turns.missed(), 0);
     assert!(rt; turns.place_of(3) < turns.place_of(2));
     let turns = Turns::new([0, 0b100, 0, 0]);
-    run_jobs(&rt, rt.alloc(), &Squares { most: 4 }, 4, 2, &turns)?;
+    run_by_turns(&rt, rt.alloc(), 4, 2, &turns)?;
     assert_eq!(rt; turns.missed(), 0);
     assert!(rt; turns.place_of(2) < turns.place_of(3));
     Ok(())
@@ -309,20 +346,65 @@ impl Work for Visits {
     }
 }
 
+impl Visit {
+    /// How often the job entered, and how often it ran.
+    fn times(&self) -> (u64, u64) {
+        (
+            self.entered.load(Ordering::SeqCst),
+            self.ran.load(Ordering::SeqCst),
+        )
+    }
+}
+
+/// Runs five jobs with so many starts of threads.
+fn run_capped<R: Threads + Wait + Sync>(
+    rt: &R,
+    alloc: Global,
+    visits: &Visits,
+    workers: u32,
+    starts: u32,
+) -> Result<Vec<u32>, JobFault> {
+    run_jobs_capped(rt, alloc, visits, 5, workers, visits, starts)
+}
+
+/// Each job entered once, and ran once after it was let in.
+fn have_run_once(rt: &impl Abort, visits: &Visits, workers: u32) {
+    for (job, visit) in visits.visits.iter().enumerate() {
+        assert_eq!(rt; visit.times(), (1, 1), "job {job}, {workers} workers");
+    }
+    assert_eq!(rt; visits.early.load(Ordering::SeqCst), 0, "{workers} workers");
+}
+
 #[test]
 fn each_job_enters_once_and_then_runs_once(rt: HostRuntime) -> Result<(), Fail> {
     for workers in [1, 2, 3, 8] {
         let visits = Visits::new(rt.alloc(), 100)?;
         run_jobs(&rt, rt.alloc(), &visits, 100, workers, &visits)?;
-        for (job, visit) in visits.visits.iter().enumerate() {
-            let times = (
-                visit.entered.load(Ordering::SeqCst),
-                visit.ran.load(Ordering::SeqCst),
-            );
-            assert_eq!(rt; times, (1, 1), "job {job}, {workers} workers");
-        }
-        assert_eq!(rt; visits.early.load(Ordering::SeqCst), 0, "{workers} workers");
+        have_run_once(&rt, &visits, workers);
     }
+    Ok(())
+}
+
+/// No job ran twice.
+fn have_run_at_most_once(rt: &impl Abort, visits: &Visits, starts: u32) {
+    for (job, visit) in visits.visits.iter().enumerate() {
+        assert!(rt; visit.times().1 <= 1, "job {job}, {starts} starts");
+    }
+}
+
+/// With four workers and so many starts there is no answer.
+fn refuses_starts<R: Abort + Threads + Wait + Sync>(
+    rt: &R,
+    alloc: Global,
+    starts: u32,
+) -> Result<(), AllocError> {
+    let visits = Visits::new(alloc, 5)?;
+    let refused = run_capped(rt, alloc, &visits, 4, starts);
+    assert!(rt;
+        matches!(refused, Err(JobFault::NoThread)),
+        "{starts} starts"
+    );
+    have_run_at_most_once(rt, &visits, starts);
     Ok(())
 }
 
@@ -330,21 +412,10 @@ fn each_job_enters_once_and_then_runs_once(rt: HostRuntime) -> Result<(), Fail> 
 #[test]
 fn threads_that_cannot_be_started(rt: HostRuntime) -> Result<(), Fail> {
     for starts in 0..4u32 {
-        let visits = Visits::new(rt.alloc(), 5)?;
-        let refused = run_jobs_capped(&rt, rt.alloc(), &visits, 5, 4, &visits, starts);
-        assert!(rt;
-            matches!(refused, Err(JobFault::NoThread)),
-            "{starts} starts"
-        );
-        for (job, visit) in visits.visits.iter().enumerate() {
-            assert!(rt;
-                visit.ran.load(Ordering::SeqCst) <= 1,
-                "job {job}, {starts} starts"
-            );
-        }
+        refuses_starts(&rt, rt.alloc(), starts)?;
     }
     let visits = Visits::new(rt.alloc(), 5)?;
-    let answers = run_jobs_capped(&rt, rt.alloc(), &visits, 5, 1, &visits, 0)?;
+    let answers = run_capped(&rt, rt.alloc(), &visits, 1, 0)?;
     assert_eq!(rt; answers.as_slice(), [0, 1, 2, 3, 4].as_slice());
     Ok(())
 }
@@ -357,7 +428,7 @@ fn held_workers_take_no_job(rt: HostRuntime) -> Result<(), Fail> {
             looks: 1000,
             ..Turns::new(waits)
         };
-        run_jobs(&rt, rt.alloc(), &Squares { most: 3 }, 3, workers, &turns)?;
+        run_by_turns(&rt, rt.alloc(), 3, workers, &turns)?;
         assert_ne!(rt; turns.missed(), 0, "{workers} workers");
     }
     Ok(())

@@ -1,14 +1,14 @@
 //! Grids and maps as they are written.
-ghost use Rattle.std.specs.Prelude.{◌≡◌, ◌*◌};
+ghost use Rattle.std.specs.Prelude.{◌≡◌, ◌*◌, ◌≤◌};
 
-use crate::texts::{LENIENT, LENIENT_CELLS, grid_of};
+use crate::texts::{LENIENT, LENIENT_CELLS, PIT, PIT_CELLS, grid_of};
 use ascii_grid::{Counted, WriteFailed, write_counts, write_heights};
 use std::alloc::Global;
 use std::io;
 use std::io::Write;
 use std::process::Abort;
 use std::test::Fail;
-use terrain::Grid;
+use terrain::{Grid, Height, Place};
 
 /// More bytes than a test writes.
 const ALL: usize = 20_000;
@@ -78,6 +78,9 @@ const HALVES: &[u8] =
 const EXTREMES: &[u8] =
     b"ncols         4\nnrows         1\nxllcorner     0\nyllcenter     0\ncellsize      1\nNODATA_value  -9999\n-1000.000000 1000.000000 -0.000001 0.000010\n";
 
+const PIT_WRITTEN: &[u8] =
+    b"ncols         3\nnrows         3\nxllcorner     0\nyllcorner     0\ncellsize      1\nNODATA_value  -9999\n9 9 9\n9 1 9\n9 9 9\n";
+
 const WHOLE: &[u8] =
     b"ncols         1\nnrows         4\nxllcorner     0\nyllcenter     0\ncellsize      1\nNODATA_value  -9999\n-1000000000\n1000000000\n0\n-1\n";
 
@@ -95,6 +98,28 @@ fn written(rt: &impl Abort, grid: &Grid, mut taker: Taker, failures: u64) -> Tak
         }
     );
     taker
+}
+
+/// Writes the grid's heights, without a failure: these bytes are taken and flushed.
+fn writes(rt: &impl Abort, grid: &Grid, taker: Taker, text: &[u8]) {
+    let taker = written(rt, grid, taker, 0);
+    assert_eq!(rt; taker.taken.as_slice(), text, "{} bytes a call", taker.each);
+    assert_eq!(rt; taker.flushed, text.len());
+}
+
+/// Writes the cells of a text.
+fn writes_cells(
+    rt: &impl Abort,
+    alloc: Global,
+    scale: u8,
+    text: &[u8],
+    cells: &[Option<Height>],
+    written: &[u8],
+)
+    requires { scale ≤ 6 }
+{
+    let grid = grid_of(rt, alloc, scale, text, cells);
+    writes(rt, &grid, Taker::new(alloc, ALL, ALL), written);
 }
 
 fn lenient_grid(rt: &impl Abort, alloc: Global) -> Grid
@@ -121,13 +146,12 @@ fn empty_cells(rt: &impl Abort, alloc: Global) -> Result<Grid, Fail> {
 fn lenient_text(rt: HostRuntime) {
     let grid = lenient_grid(&rt, rt.alloc());
     for each in [1, 7, ALL] {
-        let taker = written(&rt, &grid, Taker::new(rt.alloc(), each, ALL), 0);
-        assert_eq!(rt;
-            taker.taken.as_slice(),
+        writes(
+            &rt,
+            &grid,
+            Taker::new(rt.alloc(), each, ALL),
             LENIENT_WRITTEN,
-            "{each} bytes a call"
         );
-        assert_eq!(rt; taker.flushed, LENIENT_WRITTEN.len());
     }
 }
 
@@ -144,17 +168,17 @@ fn lenient_flow(rt: HostRuntime) {
 
 #[test]
 fn decimals_of_each_scale(rt: HostRuntime) {
-    let alloc = rt.alloc();
-    let halves = grid_of(
+    writes_cells(
         &rt,
-        alloc,
+        rt.alloc(),
         1,
         b"ncols 2 nrows 2 xllcorner 0 yllcenter 0 cellsize 1 .5 -.5 0 7",
         &[Some(5), Some(-5), Some(0), Some(70)],
+        HALVES,
     );
-    let extremes = grid_of(
+    writes_cells(
         &rt,
-        alloc,
+        rt.alloc(),
         6,
         b"ncols 4 nrows 1 xllcorner 0 yllcenter 0 cellsize 1 -1000 1000 -.000001 .00001",
         &[
@@ -163,18 +187,26 @@ fn decimals_of_each_scale(rt: HostRuntime) {
             Some(-1),
             Some(10),
         ],
+        EXTREMES,
     );
-    let whole = grid_of(
+    writes_cells(
         &rt,
-        alloc,
+        rt.alloc(),
         0,
         b"ncols 1 nrows 4 xllcorner 0 yllcenter 0 cellsize 1 -1000000000 1000000000 0 -1",
         &[Some(-1_000_000_000), Some(1_000_000_000), Some(0), Some(-1)],
+        WHOLE,
     );
-    for (grid, text) in [(&halves, HALVES), (&extremes, EXTREMES), (&whole, WHOLE)] {
-        let taker = written(&rt, grid, Taker::new(alloc, ALL, ALL), 0);
-        assert_eq!(rt; taker.taken.as_slice(), text);
-    }
+}
+
+/// The text does not hold a grid's sinks.
+#[test]
+fn sinks_are_not_written(rt: HostRuntime) {
+    let pit = grid_of(&rt, rt.alloc(), 0, PIT, &PIT_CELLS);
+    let middle = Place { row: 1, col: 1 };
+    let named = pit.with_sinks(rt.alloc(), &[middle]).expect(&rt, "sinks");
+    writes(&rt, &pit, Taker::new(rt.alloc(), ALL, ALL), PIT_WRITTEN);
+    writes(&rt, &named, Taker::new(rt.alloc(), ALL, ALL), PIT_WRITTEN);
 }
 
 #[test]
@@ -187,27 +219,55 @@ fn ten_bytes_and_a_failure(rt: HostRuntime) {
     }
 }
 
+/// What a writer has taken of [`empty_cells`].
+fn taken_of_empty(
+    rt: &impl Abort,
+    alloc: Global,
+    each: usize,
+    room: usize,
+    failures: u64,
+) -> Result<Vec<u8>, Fail> {
+    let grid = empty_cells(rt, alloc)?;
+    Ok(written(rt, &grid, Taker::new(alloc, each, room), failures).taken)
+}
+
+/// The byte at a place of rows of a hundred cells without data.
+fn byte_of_empty(at: usize) -> u8 {
+    let end = if at % 600 == 599 { b'\n' } else { b' ' };
+    if at % 6 == 5 { end } else { b"-9999"[at % 6] }
+}
+
 #[test]
 fn more_than_a_page(rt: HostRuntime) -> Result<(), Fail> {
-    let grid = empty_cells(&rt, rt.alloc())?;
-    let taker = written(&rt, &grid, Taker::new(rt.alloc(), ALL, ALL), 0);
-    assert_eq!(rt; taker.taken.len(), 103 + 30 * 600);
-    for (at, byte) in taker.taken.iter().skip(103).enumerate() {
-        let end = if at % 600 == 599 { b'\n' } else { b' ' };
-        let want = if at % 6 == 5 { end } else { b"-9999"[at % 6] };
-        assert_eq!(rt; *byte, want, "at {at}");
+    let taken = taken_of_empty(&rt, rt.alloc(), ALL, ALL, 0)?;
+    assert_eq!(rt; taken.len(), 103 + 30 * 600);
+    for (at, byte) in taken.iter().skip(103).enumerate() {
+        assert_eq!(rt; *byte, byte_of_empty(at), "at {at}");
     }
     Ok(())
 }
 
 #[test]
 fn failure_past_the_first_page(rt: HostRuntime) -> Result<(), Fail> {
-    let grid = empty_cells(&rt, rt.alloc())?;
-    let whole = written(&rt, &grid, Taker::new(rt.alloc(), ALL, ALL), 0);
-    let part = written(&rt, &grid, Taker::new(rt.alloc(), 1000, 5000), 1);
-    assert_eq!(rt; part.taken.len(), 5000);
-    assert!(rt; whole.taken.starts_with(&part.taken));
+    let whole = taken_of_empty(&rt, rt.alloc(), ALL, ALL, 0)?;
+    let part = taken_of_empty(&rt, rt.alloc(), 1000, 5000, 1)?;
+    assert_eq!(rt; part.len(), 5000);
+    assert!(rt; whole.starts_with(&part));
     Ok(())
+}
+
+/// Writes fifty bytes a call, with an interruption at this call, past which the writer would go on. A part
+/// of the text is taken.
+fn written_till(rt: &impl Abort, alloc: Global, grid: &Grid, call: usize, failures: u64) {
+    let mut taker = Taker::new(alloc, 50, ALL);
+    taker.interrupted_at = Some(call);
+    let taker = written(rt, grid, taker, failures);
+    let taken = taker.taken.as_slice();
+    assert_eq!(rt;
+        taken.len(),
+        LENIENT_WRITTEN.len().min(call.saturating_mul(50))
+    );
+    assert!(rt; LENIENT_WRITTEN.starts_with(taken));
 }
 
 /// The last call flushes.
@@ -216,10 +276,6 @@ fn interrupted_write(rt: HostRuntime) {
     let grid = lenient_grid(&rt, rt.alloc());
     let writes = LENIENT_WRITTEN.len().div_ceil(50);
     for call in 0..writes + 2 {
-        let mut taker = Taker::new(rt.alloc(), 50, ALL);
-        taker.interrupted_at = Some(call);
-        let taker = written(&rt, &grid, taker, u64::from(call <= writes));
-        assert_eq!(rt; taker.taken.len(), LENIENT_WRITTEN.len().min(50 * call));
-        assert!(rt; LENIENT_WRITTEN.starts_with(&taker.taken));
+        written_till(&rt, rt.alloc(), &grid, call, u64::from(call <= writes));
     }
 }

@@ -1,4 +1,4 @@
--- Which cells drain at once, by the cells around them.
+-- Which cells drain, whichever sinks are named, by the cells around them.
 use Rattle.std.proofs.Common.{◌≡◌, ◌≢◌, ℕ, ◌+◌, ◌<◌, ◌≤◌, ◌<ℤ◌, inl, inr, List, get_or, Bool, true, false, Option, None, Some, is_some, unwrap_or, ℤ, pos, sym, ap, subst, refl, ◌∙◌, arith}
 use Rattle.std.specs.Bool.{MatchBool}
 use Rattle.std.proofs.lemmas.Int.{ints}
@@ -9,15 +9,14 @@ use Rattle.terrain.specs.Raster.{Terrain}
 use Rattle.terrain.specs.Neighbours.{IsInside, height_at, index_of, Touches, IsEdge, HasGapAround, height_of}
 use Rattle.terrain.specs.declared.place.Place.{Place}
 use Rattle.drain.specs.Amid.{around_index}
-use Rattle.drain.specs.Beginning.{IsGapOrLower, IsOutermost}
-use Rattle.drain.specs.Steps.{DrainsAtOnce}
+use Rattle.drain.specs.Beginning.{DrainsAnyway, IsGapOrLower, IsOutermost}
 use Rattle.drain.proofs.AmidLemmas.{cell_on_way}
 use Rattle.drain.proofs.Ways.{way_to}
 
 height_of_is : (t : Terrain) (p : Place) (h : ℤ) → height_at t p ≡ Some h → height_of t p ≡ h
 height_of_is t p h e = ap (λ (o : Option ℤ). unwrap_or o (pos 0)) e
 
-drains_from : (t : Terrain) (p q : Place) (level : ℤ) (o : Option ℤ) → height_at t p ≡ Some level → Touches p q → height_at t q ≡ o → IsGapOrLower level o → DrainsAtOnce t p
+drains_from : (t : Terrain) (p q : Place) (level : ℤ) (o : Option ℤ) → height_at t p ≡ Some level → Touches p q → height_at t q ≡ o → IsGapOrLower level o → DrainsAnyway t p
 drains_from t p q level None is touch there gap = inr (ap is_some is, inr (inr (q, touch, ap is_some there)))
 drains_from t p q level (Some h) is touch there lower =
     inl (q, (record { different = differ; touches = touch; from_data = ap is_some is; to_data = ap is_some there }, below))
@@ -31,7 +30,7 @@ drains_from t p q level (Some h) is touch there lower =
 module _ (t : Terrain) (p : Place) (level : ℤ) (cells : List (Option ℤ)) (at : List ℕ) (cells_are : cells ≡ t.cells) (at_is : at ≡ around_index t.cols (index_of t.cols p))
     (inside : IsInside t p) (amid : IsOutermost t p → ⊥) (is : height_at t p ≡ Some level) where
   -- one of the cells around has no data or is lower
-  pub around_drains : (way : ℕ) × (way < 8) × IsGapOrLower level (get_or cells (get_or at way 0) None) → DrainsAtOnce t p
+  pub around_drains : (way : ℕ) × (way < 8) × IsGapOrLower level (get_or cells (get_or at way 0) None) → DrainsAnyway t p
   around_drains (way, below, found) =
       let q = cell_on_way t p cells at cells_are at_is inside amid way below in
       drains_from t p q.0 level (get_or cells (get_or at way 0) None) is q.1.touches (sym q.2) found
@@ -53,7 +52,7 @@ module _ (t : Terrain) (p : Place) (level : ℤ) (cells : List (Option ℤ)) (at
         let one : r.0 ≡ q = same_Some r.0 q (sym r.1.on ∙ way.2) in
         none way.0 way.1 (subst (λ (o : Option ℤ). IsGapOrLower level o) (sym (r.2 ∙ ap (λ (s : Place). height_at t s) one)) bad)
 
-    pub around_keeps : DrainsAtOnce t p → ⊥
+    pub around_keeps : DrainsAnyway t p → ⊥
     around_keeps (inl (q, (next, less))) = kept q next.touches next.different (lower_at q (height_at t q) refl less)
     around_keeps (inr (has, inl e)) = amid (inl e)
     around_keeps (inr (has, inr (inl e))) = amid (inr (inl e))

@@ -1,10 +1,11 @@
 -- Codes and steps together make a map of directions along which the pair of height and steps falls.
-use Rattle.std.proofs.Common.{◌≡◌, ℕ, ◌<◌, ◌≤◌, ◌⊎◌, inl, inr, List, Option, None, Some, MatchOption, is_some, ℤ, sym, ap, subst, refl, ◌∙◌}
+use Rattle.std.proofs.Common.{◌≡◌, ℕ, ◌<◌, ◌≤◌, ◌⊎◌, inl, inr, List, [], Option, None, Some, MatchOption, is_some, ℤ, sym, ap, subst, ◌∙◌}
 use Rattle.std.proofs.lemmas.Bool.{cases_lt}
 use Rattle.std.proofs.lemmas.Option.{MatchOption-at_some, MatchOption-at_none, same_Some, none-some}
 use Rattle.terrain.proofs.Places.{entry-below, entry-beside, inside_from_entry}
 use Rattle.terrain.specs.Raster.{Terrain, Raster}
 use Rattle.terrain.specs.Neighbours.{IsInside, height_at, entry_at}
+use Rattle.terrain.specs.Sinks.{with_sinks}
 use Rattle.terrain.specs.declared.place.Place.{Place}
 use Rattle.drain.specs.Steps.{IsSteps, AreSteps}
 use Rattle.drain.specs.Directions.{IsDirection, AreDirections}
@@ -51,14 +52,14 @@ are_draining t steps codes are all = record {
 }
 
 make_terrain : ℕ → ℕ → List (Option ℤ) → Terrain
-make_terrain cols rows cells = record { cols = cols; rows = rows; cells = cells }
+make_terrain cols rows cells = record { cols = cols; rows = rows; cells = cells; sinks = [] }
 
--- a terrain by its parts
-pub same_terrain : (t : Terrain) (cols rows : ℕ) (cells : List (Option ℤ)) → cols ≡ t.cols → rows ≡ t.rows → cells ≡ t.cells → t ≡ record { cols = cols; rows = rows; cells = cells }
+-- a terrain without its sinks, by its parts
+pub same_terrain : (t : Terrain) (cols rows : ℕ) (cells : List (Option ℤ)) → cols ≡ t.cols → rows ≡ t.rows → cells ≡ t.cells → with_sinks t [] ≡ record { cols = cols; rows = rows; cells = cells; sinks = [] }
 unfolding make_terrain
 same_terrain t cols rows cells a b c =
     sym (ap (λ (n : ℕ). make_terrain n rows cells) a ∙ ap (λ (n : ℕ). make_terrain t.cols n cells) b ∙ ap (λ (xs : List (Option ℤ)). make_terrain t.cols t.rows xs) c)
 
 -- a grid with its own cells has its own terrain
 pub own_terrain : (g own : Raster) (cells : List (Option ℤ)) → cells ≡ g.terrain.cells → own ≡ record g { terrain = record g.terrain { cells = cells } } → own.terrain ≡ g.terrain
-own_terrain g own cells e is = ap (λ (x : Raster). x.terrain) is ∙ sym (same_terrain g.terrain g.terrain.cols g.terrain.rows cells refl refl e)
+own_terrain g own cells e is = ap (λ (x : Raster). x.terrain) is ∙ ap (λ (xs : List (Option ℤ)). record g.terrain { cells = xs }) e

@@ -7,7 +7,7 @@ use Rattle.std.proofs.lemmas.List.FromFn.{length-range_with_len, get_or-map-rang
 use Rattle.std.specs.List.{range_with_len}
 use Rattle.terrain.proofs.Places.{same_place, entry-inside, index_below}
 use Rattle.terrain.specs.Raster.{Terrain}
-use Rattle.terrain.specs.Neighbours.{height_at, index_of, IsDataCell, IsEdge, height_of}
+use Rattle.terrain.specs.Neighbours.{height_at, index_of, IsDataCell, IsEnd, height_of}
 use Rattle.drainage.specs.Filled.{IsFilled}
 use Rattle.terrain.specs.declared.place.Place.{Place}
 use Rattle.drain.specs.Steps.{IsSteps, AreSteps}
@@ -16,13 +16,13 @@ use Rattle.drain.specs.Directions.{IsDirection}
 use Rattle.drain.proofs.AroundLemmas.{around_with, laid_with, steps_at}
 use Rattle.drain.proofs.Counted.{has_steps, height_is}
 use Rattle.drain.proofs.Laid.{direction_is}
-use Rattle.drain.proofs.Nearby.{Decided, edge_cell}
+use Rattle.drain.proofs.Nearby.{Decided, end_cell}
 use Rattle.drain.proofs.Pointing.{one_direction}
 use Rattle.drain.proofs.Unique.{place_at}
 
-edge_bool : (t : Terrain) (p : Place) → Decided (IsEdge t p) → (b : Bool) × (IsTrue b ↔ IsEdge t p)
-edge_bool t p (inl edge) = (true, (λ _. edge, λ _. refl))
-edge_bool t p (inr none) = (false, (λ e. absurd (false≢true e), λ edge. absurd (none edge)))
+end_bool : (t : Terrain) (p : Place) → Decided (IsEnd t p) → (b : Bool) × (IsTrue b ↔ IsEnd t p)
+end_bool t p (inl end) = (true, (λ _. end, λ _. refl))
+end_bool t p (inr none) = (false, (λ e. absurd (false≢true e), λ end. absurd (none end)))
 
 steps_of : (t : Terrain) → IsFilled t t.cells → (p : Place) (o : Option ℤ) → height_at t p ≡ o → (s : Option ℕ) × MatchOption o (s ≡ None) (λ _. (n : ℕ) × (s ≡ Some n) × IsSteps t p n)
 steps_of t filled p None e = (None, refl)
@@ -52,9 +52,9 @@ module _ (t : Terrain) (filled : IsFilled t t.cells) where
   pub has_direction : (p : Place) → IsDataCell t p → (code : ℕ) × IsDirection t p code × ((other : ℕ) → IsDirection t p other → other ≡ code)
   has_direction p is =
       let n = steps_at t all_steps p are_steps is in
-      let edge = edge_bool t p (edge_cell t p) in
-      let code = direction_of (around_with t all_steps p (height_of t p) n.0 edge.0) in
+      let end = end_bool t p (end_cell t p) in
+      let code = direction_of (around_with t all_steps p (height_of t p) n.0 end.0) in
       let direction : IsDirection t p code =
-      direction_is t all_steps p (around_with t all_steps p (height_of t p) n.0 edge.0) are_steps
-      (record { laid = laid_with t all_steps p (height_of t p) n.0 edge.0 (height_is t p is) n.1; edge = edge.1 }) in
+      direction_is t all_steps p (around_with t all_steps p (height_of t p) n.0 end.0) are_steps
+      (record { laid = laid_with t all_steps p (height_of t p) n.0 end.0 (height_is t p is) n.1; edge = end.1 }) in
       (code, direction, λ other d. one_direction t p other code d direction)

@@ -23,7 +23,8 @@ data_on_level_walk IsEnd t end_data p (q ∷ rest) w = w.0.from_data
 
 pub drains_data : (t : Terrain) (p : Place) → DrainsAtOnce t p → IsDataCell t p
 drains_data t p (inl lower) = lower.1.0.from_data
-drains_data t p (inr edge) = edge.0
+drains_data t p (inr (inl edge)) = edge.0
+drains_data t p (inr (inr sink)) = sink.0
 
 pub data_on_walk : (t : Terrain) (p : Place) (rest : List Place) → IsFlatWalk t p rest → IsDataCell t p
 data_on_walk t = data_on_level_walk (DrainsAtOnce t) t (drains_data t)

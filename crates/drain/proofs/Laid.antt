@@ -159,7 +159,7 @@ module _ (t : Terrain) (steps : List (Option ℕ)) (p : Place) (a : Around) (are
               | inr after ↦ omega (arith, codes_rise way k.0 after k.1, k.2)
             ];
       } in
-      subst (λ n. IsDirection t p n) (sym e) (record { steepest = λ lower. absurd (stays (inl lower)); outlet = λ _ edge. absurd (stays (inr edge)); onward = λ _. first })
+      subst (λ n. IsDirection t p n) (sym e) (record { steepest = λ lower. absurd (stays (inl lower)); outlet = λ _ end. absurd (stays (inr end)); onward = λ _. first })
 
   leads_by : (rest : List Place) → IsFlatWalk t p rest → length rest ≡ a.steps → (DrainsAtOnce t p → ⊥) → list_any (leads_on a) a.ways ≡ true
   leads_by [] walk size stays = absurd (stays walk)
@@ -192,7 +192,7 @@ fitting t steps p a lawful are around =
         | inr past ↦ absurd (none-some w (sym (get_or_past a.ways way None (omega (arith, laid.count))) ∙ e))
       ]);
       drains = elim (drains_at_once t p) [
-        | inl now ↦ elim now [ inl lower ↦ inr (inl (drops t steps p a are laid lower)) | inr edge ↦ inl (around.edge.1 edge) ]
+        | inl now ↦ elim now [ inl lower ↦ inr (inl (drops t steps p a are laid lower)) | inr end ↦ inl (around.edge.1 end) ]
         | inr later ↦ inr (inr (leads t steps p a are laid later))
       ];
     }
@@ -209,11 +209,11 @@ direction_is t steps p a are around = elim (cases_lt 0 (fold max 0 (weights a)))
   | inr none ↦
       (let flat = cond-false _ _ _ (le-ltb 0 (fold max 0 (weights a)) none) in
       elim (cases_Bool a.edge) [
-        | inl edge ↦ is_outlet t steps p a are around.laid (direction_of a) none (inr (around.edge.0 edge)) (flat ∙ cond-true _ _ _ edge)
+        | inl end ↦ is_outlet t steps p a are around.laid (direction_of a) none (inr (around.edge.0 end)) (flat ∙ cond-true _ _ _ end)
         | inr off ↦
             (let stays : DrainsAtOnce t p → ⊥ = λ drains. elim drains [
               | inl lower ↦ no_lower t steps p a are around.laid none lower
-              | inr edge ↦ false≢true (sym off ∙ around.edge.1 edge)
+              | inr end ↦ false≢true (sym off ∙ around.edge.1 end)
             ] in
             let way = first_passes (leads_on a) a.ways None (leads t steps p a are around.laid stays) in
             is_onward t steps p a are around.laid way.0 (direction_of a) stays way.1 (flat ∙ cond-false _ _ _ off ∙ ap code_of way.1))

@@ -6,7 +6,8 @@ pub mod Quiet
 pub mod Few
 pub mod Nearby
 pub mod Counted
--- lists of the entries of a tile
+-- lists of the entries of a tile, and counts at sinks
+pub mod BegunSinks
 pub mod TileLists
 -- a round over a tile
 pub mod Spreading

@@ -7,9 +7,9 @@ use Rattle.std.proofs.lemmas.Bool.{and_parts, and_from, false≢true}
 use Rattle.std.proofs.lemmas.Bool.Decides.{Decides-int_eq}
 use Rattle.std.proofs.lemmas.Option.{same_Some}
 use Rattle.terrain.specs.Raster.{Terrain}
-use Rattle.terrain.specs.Neighbours.{height_at, IsNeighbour, IsEdge, height_of}
+use Rattle.terrain.specs.Neighbours.{height_at, IsNeighbour, IsEnd, height_of}
 use Rattle.terrain.specs.declared.place.Place.{Place}
-use Rattle.drainage.proofs.Reach.{field, is_next, is_edge_cell, any_found, any_touching, next_true, true_next, edge_true, true_edge}
+use Rattle.drainage.proofs.Reach.{field, is_next, is_end_cell, any_found, any_touching, next_true, true_next, end_true, true_end}
 use Rattle.drain.specs.Steps.{HasLower, DrainsAtOnce, IsFlatWalk}
 
 -- holds, or does not
@@ -74,8 +74,8 @@ beside t P decide p =
     (λ h. any_touching t (λ q. is_next t p q && holds (P q) (decide q)) p h.0 h.1.from_data h.1.touches
     (and_from _ _ (true_next t p h.0 h.1) (holding (P h.0) (decide h.0) h.2)))
 
-pub edge_cell : (t : Terrain) (p : Place) → Decided (IsEdge t p)
-edge_cell t p = by_test (IsEdge t p) (is_edge_cell t p) (edge_true t p) (true_edge t p)
+pub end_cell : (t : Terrain) (p : Place) → Decided (IsEnd t p)
+end_cell t p = by_test (IsEnd t p) (is_end_cell t p) (end_true t p) (true_end t p)
 
 pub has_lower : (t : Terrain) (p : Place) → Decided (HasLower t p)
 has_lower t p =
@@ -84,7 +84,7 @@ has_lower t p =
     (beside t (λ q. height_of t q <ℤ height_of t p) (λ q. lower (height_of t q) (height_of t p)) p)
 
 pub drains_at_once : (t : Terrain) (p : Place) → Decided (DrainsAtOnce t p)
-drains_at_once t p = either _ _ (has_lower t p) (edge_cell t p)
+drains_at_once t p = either _ _ (has_lower t p) (end_cell t p)
 
 -- a walk of so many moves
 abbrev pub WalksIn : Terrain → Place → ℕ → Type 0

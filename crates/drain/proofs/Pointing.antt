@@ -7,7 +7,7 @@ use Rattle.std.proofs.lemmas.List.Quantifiers.{position-Some}
 use Rattle.std.proofs.lemmas.Option.{none-some, same_Some}
 use Rattle.std.specs.Option.{option_and_then}
 use Rattle.terrain.specs.Raster.{Terrain}
-use Rattle.terrain.specs.Neighbours.{IsDataCell, IsNeighbour, IsEdge}
+use Rattle.terrain.specs.Neighbours.{IsDataCell, IsNeighbour, IsEnd}
 use Rattle.terrain.specs.Ways.{way_codes, ways_from, way_of, code_of, place_on, place_toward}
 use Rattle.terrain.specs.declared.place.Place.{Place}
 use Rattle.tiles.proofs.Members.{Touches-from_ways}
@@ -15,7 +15,7 @@ use Rattle.drain.specs.Steps.{HasLower, DrainsAtOnce, AreSteps}
 use Rattle.drain.specs.Directions.{IsSteepest, IsOnward, PointsToFirst, IsDirection}
 use Rattle.drainage.specs.Drained.{Falls}
 use Rattle.drain.proofs.Local.{one_number_of_steps}
-use Rattle.drain.proofs.Nearby.{cases_option, has_lower, edge_cell}
+use Rattle.drain.proofs.Nearby.{cases_option, has_lower, end_cell}
 use Rattle.drain.proofs.AroundLemmas.{steps_at}
 use Rattle.drain.proofs.Ways.{eight}
 
@@ -46,15 +46,15 @@ one_first : (IsSuch : Place → Type 0) (p : Place) (m n : ℕ) → PointsToFirs
 one_first IsSuch p m n a b =
     omega (arith, a.first n b.one.0 b.one.1 b.one.2, b.first m a.one.0 a.one.1 a.one.2)
 
-off_both : (t : Terrain) (p : Place) → (HasLower t p → ⊥) → (IsEdge t p → ⊥) → DrainsAtOnce t p → ⊥
+off_both : (t : Terrain) (p : Place) → (HasLower t p → ⊥) → (IsEnd t p → ⊥) → DrainsAtOnce t p → ⊥
 off_both t p high off (inl lower) = high lower
-off_both t p high off (inr edge) = off edge
+off_both t p high off (inr end) = off end
 
 pub one_direction : (t : Terrain) (p : Place) (m n : ℕ) → IsDirection t p m → IsDirection t p n → m ≡ n
 one_direction t p m n a b = elim (has_lower t p) [
   | inl lower ↦ one_first (IsSteepest t p) p m n (a.steepest lower) (b.steepest lower)
-  | inr high ↦ elim (edge_cell t p) [
-    | inl edge ↦ a.outlet high edge ∙ sym (b.outlet high edge)
+  | inr high ↦ elim (end_cell t p) [
+    | inl end ↦ a.outlet high end ∙ sym (b.outlet high end)
     | inr off ↦ one_first (IsOnward t p) p m n (a.onward (off_both t p high off)) (b.onward (off_both t p high off))
   ]
 ]
@@ -64,8 +64,8 @@ pub direction_leads : (t : Terrain) (steps codes : List (Option ℕ)) (p : Place
     (q : Place) × (place_toward code p ≡ Some q) × IsDataCell t q × Falls (record { terrain = t; steps = steps; codes = codes }) p q
 direction_leads t steps codes p code are d some = elim (has_lower t p) [
   | inl lower ↦ (let to = (d.steepest lower).one in (to.0, to.1, to.2.0.0.to_data, inl to.2.0.1))
-  | inr high ↦ elim (edge_cell t p) [
-    | inl edge ↦ absurd (some (d.outlet high edge))
+  | inr high ↦ elim (end_cell t p) [
+    | inl end ↦ absurd (some (d.outlet high end))
     | inr off ↦
         (let to = (d.onward (off_both t p high off)).one in
         let next = to.2.0 in

@@ -6,6 +6,7 @@ use Rattle.terrain.proofs.Places.{inside_from_entry}
 use Rattle.terrain.specs.Raster.{Terrain, IsTerrain}
 use Rattle.terrain.specs.Neighbours.{height_at, entry_at, IsDataCell, IsNeighbour, height_of}
 use Rattle.drainage.specs.Filled.{IsFilled}
+use Rattle.terrain.specs.Sinks.{with_sinks}
 use Rattle.terrain.specs.declared.place.Place.{Place}
 use Rattle.tiles.specs.Cutting.{Cutting, Cuts, IsCutting, tile_of_place, IsInTile, tile_entry}
 use Rattle.drain.specs.Beginning.{HasZeros, AreBegun}
@@ -30,16 +31,20 @@ pub ended : (IsEnd : Place → Type 0) (t : Terrain) (p : Place) (rest : List Pl
 ended IsEnd t p [] walk none = walk
 ended IsEnd t p (q ∷ rest) walk none = absurd (omega (arith, none))
 
-walk_to : (A B : Place → Type 0) (t : Terrain) → ((p : Place) → A p → B p) → (p : Place) (rest : List Place) → IsLevelWalk A t p rest → IsLevelWalk B t p rest
-walk_to A B t to p [] walk = to p walk
-walk_to A B t to p (q ∷ rest) walk = (walk.0, walk.1, walk_to A B t to q rest walk.2)
+-- neighbours are neighbours whichever sinks are named
+next_with : (t : Terrain) (sinks : List Place) (p q : Place) → IsNeighbour t p q → IsNeighbour (with_sinks t sinks) p q
+next_with t sinks p q next = record { different = next.different; touches = next.touches; from_data = next.from_data; to_data = next.to_data }
 
--- walks to ends that are ends of another kind too
-pub walked_to : (A B : Place → Type 0) (t : Terrain) → ((p : Place) → A p → B p) → (p : Place) (n : ℕ) → IsWalked A t p n → IsWalked B t p n
-walked_to A B t to p n w = (w.0, w.1, walk_to A B t to p w.1 w.2, w.3)
+walk_to : (A B : Place → Type 0) (t : Terrain) (sinks : List Place) → ((p : Place) → A p → B p) → (p : Place) (rest : List Place) → IsLevelWalk A t p rest → IsLevelWalk B (with_sinks t sinks) p rest
+walk_to A B t sinks to p [] walk = to p walk
+walk_to A B t sinks to p (q ∷ rest) walk = (next_with t sinks p q walk.0, walk.1, walk_to A B t sinks to q rest walk.2)
 
-pub are_walked_to : (A B : Place → Type 0) (t : Terrain) (steps : List (Option ℕ)) → ((p : Place) → A p → B p) → AreWalked A t steps → AreWalked B t steps
-are_walked_to A B t steps to walked p = if_some (entry_at t.cols t.rows steps p) (IsWalked B t p) (λ n e. walked_to A B t to p n (MatchOption-at_some _ _ n e (walked p)))
+-- walks to ends that are ends of another kind too, whichever sinks are named
+pub walked_to : (A B : Place → Type 0) (t : Terrain) (sinks : List Place) → ((p : Place) → A p → B p) → (p : Place) (n : ℕ) → IsWalked A t p n → IsWalked B (with_sinks t sinks) p n
+walked_to A B t sinks to p n w = (w.0, w.1, walk_to A B t sinks to p w.1 w.2, w.3)
+
+pub are_walked_to : (A B : Place → Type 0) (t : Terrain) (sinks : List Place) (steps : List (Option ℕ)) → ((p : Place) → A p → B p) → AreWalked A t steps → AreWalked B (with_sinks t sinks) steps
+are_walked_to A B t sinks steps to walked p = if_some (entry_at t.cols t.rows steps p) (IsWalked B (with_sinks t sinks) p) (λ n e. walked_to A B t sinks to p n (MatchOption-at_some _ _ n e (walked p)))
 
 -- where each count is of a walk and at most one above its neighbours' on the flat, the counts are the steps
 module _ (t : Terrain) (steps : List (Option ℕ)) (zeros : HasZeros t steps) (all_walked : AreWalked (DrainsAtOnce t) t steps)
@@ -99,16 +104,21 @@ begun_walked IsEnd t counts begun to p = if_some (entry_at t.cols t.rows counts 
     let at = (begun.each p (inside_from_entry t.cols t.rows counts p n e)).only n e in
     (omega (arith, at.1), [], to p at.0, sym at.1))
 
-pub begun_counting : (t : Terrain) (counts : List (Option ℕ)) → AreBegun t counts → AreCounting t counts
-begun_counting t counts begun = record { size = begun.size; walked = begun_walked (IsLent t counts) t counts begun (begun_lent t counts begun) }
+-- the rounds see no sinks
+pub begun_counting : (t : Terrain) (counts : List (Option ℕ)) → AreBegun t counts → AreCounting (with_sinks t []) counts
+begun_counting t counts begun = record {
+  size = begun.size;
+  walked = are_walked_to (IsLent t counts) (IsLent t counts) t [] counts (λ p lent. lent) (begun_walked (IsLent t counts) t counts begun (begun_lent t counts begun));
+}
 
--- a round that goes to ends goes to what those are besides
-pub round_to : (A B : Place → Type 0) (t : Terrain) (c : Cutting) (tile : ℕ) (old new : List (Option ℕ)) → ((p : Place) → A p → B p) → IsRound A t c tile old new → IsRound B t c tile old new
-round_to A B t c tile old new to round = record {
+-- a round that goes to ends goes to what those are besides, whichever sinks are named
+pub round_to : (A B : Place → Type 0) (t : Terrain) (sinks : List Place) (c : Cutting) (tile : ℕ) (old new : List (Option ℕ)) → ((p : Place) → A p → B p) →
+    IsRound A t c tile old new → IsRound B (with_sinks t sinks) c tile old new
+round_to A B t sinks c tile old new to round = record {
   size = round.size;
-  walked = λ p i. if_some (tile_entry c tile new p) (IsWalked B t p) (λ n e. walked_to A B t to p n (MatchOption-at_some _ _ n e (round.walked p i)));
-  near = round.near;
-  within = round.within;
+  walked = λ p i. if_some (tile_entry c tile new p) (IsWalked B (with_sinks t sinks) p) (λ n e. walked_to A B t sinks to p n (MatchOption-at_some _ _ n e (round.walked p i)));
+  near = λ p q here next. round.near p q here (next_with (with_sinks t sinks) t.sinks p q next);
+  within = λ p q here there next. round.within p q here there (next_with (with_sinks t sinks) t.sinks p q next);
   kept = round.kept;
 }
 
@@ -126,12 +136,12 @@ counts_are_steps t c steps lists cuts cutting zeros quiet lawful filled size =
     lawful filled size
 
 -- what is settled of counts that begin with 0 where a cell drains at once, and nowhere else
-pub settled_is_steps : (c : Cutting) (t : Terrain) (begun steps : List (Option ℕ)) → Cuts c t → IsTerrain t → IsFilled t t.cells → AreBegun t begun → AreSettled c t begun steps → AreSteps t steps
+pub settled_is_steps : (c : Cutting) (t : Terrain) (begun steps : List (Option ℕ)) → Cuts c t → IsTerrain t → IsFilled t t.cells → AreBegun t begun → AreSettled c (with_sinks t []) begun steps → AreSteps t steps
 settled_is_steps c t begun steps cuts lawful filled first settled =
     still_is_steps t steps
     (λ p drains. ((settled.same_lent p).0 (begun_lent t begun first p drains)).1)
-    (are_walked_to (IsLent t steps) (DrainsAtOnce t) t steps (λ p lent. lent_drains t begun first p ((settled.same_lent p).1 lent)) settled.counting.walked)
+    (are_walked_to (IsLent t steps) (DrainsAtOnce t) (with_sinks t []) t.sinks steps (λ p lent. lent_drains t begun first p ((settled.same_lent p).1 lent)) settled.counting.walked)
     (λ p q next level.
     let inside = in_own_tile t c p cuts (data_inside t p next.from_data) in
-    (settled.still (tile_of_place c p) (tile_of_place_below c p settled.cutting inside.0)).near p q inside next level)
+    (settled.still (tile_of_place c p) (tile_of_place_below c p settled.cutting inside.0)).near p q inside (next_with t [] p q next) level)
     lawful filled settled.counting.size

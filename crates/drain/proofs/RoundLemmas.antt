@@ -135,7 +135,7 @@ module _ (r : Rounding) (outs : List TileAnswer) (new : List (Option ℕ)) (roun
     size = size;
     walked = λ p. if_some (entry_at r.cutting.cols r.cutting.rows new p) (IsWalked (IsLent (levels_of r) new) (levels_of r) p) (λ n e.
         let within = inside_from_entry r.cutting.cols r.cutting.rows new p n e in
-        walked_to (IsLent (levels_of r) r.steps) (IsLent (levels_of r) new) (levels_of r) (λ q lent. (lent_same q).0 lent) p n (MatchOption-at_some _ _ n e (carried p within).1));
+        walked_to (IsLent (levels_of r) r.steps) (IsLent (levels_of r) new) (levels_of r) [] (λ q lent. (lent_same q).0 lent) p n (MatchOption-at_some _ _ n e (carried p within).1));
   }
 
   left_at : List (Option ℕ) → ℕ → ℕ

@@ -54,7 +54,7 @@ no_way_down a h =
     let none : drop_to a.level (get_or a.ways k None) ≡ 0 = drop_from_weight k _ own in
     le-ltb _ _ (omega arith))
 
--- a cell that fits its surroundings and has no way down is an edge cell or has a way that leads on
+-- a cell that fits its surroundings and has no way down is an end cell or has a way that leads on
 pub drains_onward : (a : Around) → IsFitting a → fold max 0 (weights a) ≤ 0 → a.edge ≡ false → list_any (leads_on a) a.ways ≡ true
 drains_onward a f low inside = go a low inside f.drains
   where

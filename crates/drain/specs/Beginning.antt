@@ -1,26 +1,36 @@
 -- The counts that the rounds begin with.
 use Rattle.std.specs.Prelude.{◌≡◌, ◌⊎◌, ◌≤◌, ℕ, ◌+◌, ◌-◌, ◌*◌, ℤ, ◌<ℤ◌, List, length, Option, None, Some}
-use Rattle.terrain.specs.Neighbours.{IsInside, entry_at}
+use Rattle.terrain.specs.Neighbours.{IsInside, entry_at, IsEdge, IsSink}
 use Rattle.terrain.specs.Raster.{Terrain}
 use Rattle.terrain.specs.declared.place.Place.{Place}
 use Rattle.tiles.specs.declared.bounds.Bounds.{Bounds}
 use Rattle.tiles.specs.Cutting.{longest_axis}
-use Rattle.drain.specs.Steps.{DrainsAtOnce}
+use Rattle.drain.specs.Steps.{HasLower, DrainsAtOnce}
 
 -- The cell has no data or is lower.
 abbrev pub IsGapOrLower : ℤ → Option ℤ → Type 0
 IsGapOrLower level None = Unit {0}
 IsGapOrLower level (Some height) = height <ℤ level
 
--- A cell that drains at once has the count 0, and no other has any.
-pub record IsBegun (t : Terrain) (p : Place) (count : Option ℕ) : Type 0 where
-  pub zero : DrainsAtOnce t p → count ≡ Some 0
-  pub only : (n : ℕ) → count ≡ Some n → DrainsAtOnce t p × (n ≡ 0)
+-- The cell drains at once, whichever sinks are named.
+abbrev pub DrainsAnyway : Terrain → Place → Type 0
+DrainsAnyway t p = HasLower t p ⊎ IsEdge t p
 
--- The list has these counts in row order.
+-- A cell that drains has the count 0, and no other has any.
+pub record IsBegun (Drains : Place → Type 0) (p : Place) (count : Option ℕ) : Type 0 where
+  pub zero : Drains p → count ≡ Some 0
+  pub only : (n : ℕ) → count ≡ Some n → Drains p × (n ≡ 0)
+
+-- The list has the count 0 at each cell that drains at once, and no other, in row order.
 pub record AreBegun (t : Terrain) (counts : List (Option ℕ)) : Type 0 where
   pub size : length counts ≡ t.cols * t.rows
-  pub each : (p : Place) → IsInside t p → IsBegun t p (entry_at t.cols t.rows counts p)
+  pub each : (p : Place) → IsInside t p → IsBegun (DrainsAtOnce t) p (entry_at t.cols t.rows counts p)
+
+-- The named sinks have the count 0, and the others what they had.
+pub record IsBegunAtSinks (t : Terrain) (old new : List (Option ℕ)) : Type 0 where
+  pub size : length new ≡ length old
+  pub zero : (p : Place) → IsSink t p → entry_at t.cols t.rows new p ≡ Some 0
+  pub kept : (p : Place) → IsSink t p ⊎ (entry_at t.cols t.rows new p ≡ entry_at t.cols t.rows old p)
 
 -- Each cell that drains at once has the count 0.
 abbrev pub HasZeros : Terrain → List (Option ℕ) → Type 0

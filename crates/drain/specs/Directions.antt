@@ -3,7 +3,7 @@
 use Rattle.std.specs.Prelude.{◌≡◌, ℕ, ◌+◌, ◌*◌, ◌≤◌, ◌||◌, ◌==◌, if◌then◌else◌, List, length, Option, None, Some, MatchOption}
 use Rattle.std.specs.Int.{int_gap}
 use Rattle.terrain.specs.Raster.{Terrain}
-use Rattle.terrain.specs.Neighbours.{IsInside, height_at, entry_at, IsNeighbour, IsEdge, height_of}
+use Rattle.terrain.specs.Neighbours.{IsInside, height_at, entry_at, IsNeighbour, IsEnd, height_of}
 use Rattle.terrain.specs.Ways.{place_toward}
 use Rattle.terrain.specs.declared.place.Place.{Place}
 use Rattle.drain.specs.Steps.{IsLower, HasLower, DrainsAtOnce, IsSteps}
@@ -28,11 +28,11 @@ pub record PointsToFirst (IsSuch : Place → Type 0) (p : Place) (code : ℕ) : 
   pub one : (q : Place) × (place_toward code p ≡ Some q) × IsSuch q
   pub first : (other : ℕ) (q : Place) → place_toward other p ≡ Some q → IsSuch q → code ≤ other
 
--- The direction of a data cell: to the first of its steepest neighbours where one is lower; else 0 at an edge cell,
+-- The direction of a data cell: to the first of its steepest neighbours where one is lower; else 0 at an end cell,
 -- which is an outlet; else to the first neighbour of equal height with one step fewer.
 pub record IsDirection (t : Terrain) (p : Place) (code : ℕ) : Type 0 where
   pub steepest : HasLower t p → PointsToFirst (IsSteepest t p) p code
-  pub outlet : (HasLower t p → ⊥) → IsEdge t p → code ≡ 0
+  pub outlet : (HasLower t p → ⊥) → IsEnd t p → code ≡ 0
   pub onward : (DrainsAtOnce t p → ⊥) → PointsToFirst (IsOnward t p) p code
 
 -- The code is the direction of a data cell, and there is none where there is no data.

@@ -1,14 +1,14 @@
 -- Where no count of a cell would become less by a neighbour's.
-use Rattle.std.specs.Prelude.{◌≡◌, ℕ, ◌+◌, ◌<◌, ◌≤◌, ℤ, List, Option, Some}
+use Rattle.std.specs.Prelude.{◌≡◌, ℕ, ◌+◌, ◌<◌, ◌≤◌, ℤ, List, [], Option, Some}
 use Rattle.terrain.specs.Raster.{Terrain}
 use Rattle.terrain.specs.Neighbours.{height_at, entry_at, IsNeighbour}
 use Rattle.terrain.specs.declared.place.Place.{Place}
 use Rattle.tiles.specs.Cutting.{Cutting}
 use Rattle.drain.specs.Rounds.{IsOneAbove}
 
--- The terrain of a list of the size of a cutting's grid.
+-- The terrain of a list of the size of a cutting's grid. It has no sinks.
 abbrev pub lent_terrain : Cutting → List (Option ℤ) → Terrain
-lent_terrain c levels = record { cols = c.cols; rows = c.rows; cells = levels }
+lent_terrain c levels = record { cols = c.cols; rows = c.rows; cells = levels; sinks = [] }
 
 -- The count of a cell is at most one above those of its neighbours on the flat.
 pub record IsLeastAround (t : Terrain) (steps : List (Option ℕ)) (p : Place) : Type 0 where

@@ -1,6 +1,6 @@
 -- Rounds of counting over level ground, tile by tile: each count is of a walk to a cell that is lent 0, and they come
 -- closer to the least. Which cells those are is the lender's affair.
-use Rattle.std.specs.Prelude.{◌≡◌, ◌≢◌, ◌↔◌, ℕ, ◌+◌, ◌-◌, ◌*◌, ◌^◌, ◌<◌, ◌≤◌, Bool, true, false, ℤ, List, length, Option, Some, IfSome, slice_index_or, sum_by, unwrap_or}
+use Rattle.std.specs.Prelude.{◌≡◌, ◌≢◌, ◌↔◌, ℕ, ◌+◌, ◌-◌, ◌*◌, ◌^◌, ◌<◌, ◌≤◌, Bool, true, false, ℤ, List, [], length, Option, Some, IfSome, slice_index_or, sum_by, unwrap_or}
 use Rattle.std.specs.Bool.{MatchBool}
 use Rattle.terrain.specs.Raster.{Terrain}
 use Rattle.terrain.specs.Neighbours.{height_at, entry_at, IsDataCell, Touches, IsNeighbour}
@@ -95,7 +95,7 @@ abbrev pub rounding_of : Counting → Rounding
 rounding_of c = record { cutting = c.tiling.now; levels = c.levels.now; steps = c.steps.items; due = c.due.items }
 
 abbrev pub levels_of : Rounding → Terrain
-levels_of r = record { cols = r.cutting.cols; rows = r.cutting.rows; cells = r.levels }
+levels_of r = record { cols = r.cutting.cols; rows = r.cutting.rows; cells = r.levels; sinks = [] }
 
 pub record IsRounding (r : Rounding) : Type 0 where
   pub cutting : IsCutting r.cutting

@@ -1,9 +1,8 @@
-// The counts that the rounds begin with: 0 at each cell that drains at once.
+// The counts that the rounds begin with: 0 at each cell that drains at once, named sinks last.
 ghost use Rattle.std.specs.Prelude.{◌≡◌, ℕ, ◌+◌, ◌*◌, ◌<◌, ◌≤◌, ◌↔◌, Some, None, length, vec_len, IsTrue, OnOk, IfOk, slice_index_or};
 ghost use Rattle.std.specs.Bool.{MatchBool};
 ghost use Rattle.terrain.specs.Neighbours.{IsInside, height_at};
-ghost use Rattle.drain.specs.Steps.{DrainsAtOnce};
-ghost use Rattle.drain.specs.Beginning.{IsGapOrLower, IsOutermost, IsBegun, IsPartOf};
+ghost use Rattle.drain.specs.Beginning.{DrainsAnyway, IsGapOrLower, IsOutermost, IsBegun, IsBegunAtSinks, IsPartOf};
 ghost use Rattle.tile_maps.specs.Maps.{AreMadeBelow};
 
 use crate::amid::cells_around;
@@ -48,13 +47,13 @@ pub(crate) fn is_outermost(grid: &Grid, place: Place) -> bool
     place.row == 0 || place.col == 0 || place.row == grid.rows() - 1 || place.col == grid.cols() - 1
 }
 
-/// Whether a data cell has a lower neighbour or is an edge cell.
+/// Whether a data cell has a lower neighbour or is an edge cell: it drains, whichever sinks are named.
 #[inline(always)]
 #[tactic(auto, using(crate::proofs::Block::outermost_edge))]
-fn drains_at_once(grid: &Grid, place: Place, level: Height) -> bool
+fn drains_anyway(grid: &Grid, place: Place, level: Height) -> bool
     requires inside { IsInside grid.now.terrain place }
     requires level { height_at grid.now.terrain place ≡ Some level }
-    ensures { MatchBool result (DrainsAtOnce grid.now.terrain place) (DrainsAtOnce grid.now.terrain place → ⊥) }
+    ensures { MatchBool result (DrainsAnyway grid.now.terrain place) (DrainsAnyway grid.now.terrain place → ⊥) }
 {
     if is_outermost(grid, place) {
         return true;
@@ -64,14 +63,14 @@ fn drains_at_once(grid: &Grid, place: Place, level: Height) -> bool
     any_gap_or_lower(cells, &at, level)
 }
 
-/// The count of a cell: 0 where it drains at once, and none elsewhere.
+/// The count of a cell: 0 where it drains, whichever sinks are named, and none elsewhere.
 #[inline(always)]
 fn begin_at(grid: &Grid, place: Place) -> Option<u32>
     requires { IsInside grid.now.terrain place }
-    ensures { IsBegun grid.now.terrain place result }
+    ensures { IsBegun (DrainsAnyway grid.now.terrain) place result }
 {
     match grid.at(place) {
-        Some(level) if drains_at_once(grid, place, level) => Some(0),
+        Some(level) if drains_anyway(grid, place, level) => Some(0),
         _ => None,
     }
 }
@@ -86,8 +85,8 @@ fn begin_along(
 ) -> Result<(), AllocError>
     requires inside { IsPartOf grid.now.terrain bounds }
     requires row { row < bounds.rows }
-    requires counts { AreMadeBelow bounds (IsBegun grid.now.terrain) (row * bounds.cols) counts.old.items }
-    ensures { OnOk result (AreMadeBelow bounds (IsBegun grid.now.terrain) ((row + 1) * bounds.cols) counts.new.items) }
+    requires counts { AreMadeBelow bounds (IsBegun (DrainsAnyway grid.now.terrain)) (row * bounds.cols) counts.old.items }
+    ensures { OnOk result (AreMadeBelow bounds (IsBegun (DrainsAnyway grid.now.terrain)) ((row + 1) * bounds.cols) counts.new.items) }
 {
     for col in 0..bounds.cols {
         let place = Place {
@@ -106,11 +105,25 @@ pub(crate) fn begin_tile(
     bounds: Bounds,
 ) -> Result<Vec<Option<u32>>, AllocError>
     requires inside { IsPartOf grid.now.terrain bounds }
-    ensures { IfOk result (λ counts. AreMadeBelow bounds (IsBegun grid.now.terrain) (bounds.rows * bounds.cols) counts.items) }
+    ensures { IfOk result (λ counts. AreMadeBelow bounds (IsBegun (DrainsAnyway grid.now.terrain)) (bounds.rows * bounds.cols) counts.items) }
 {
     let mut counts = Vec::with_capacity(alloc, bounds.rows as usize * bounds.cols as usize)?;
     for row in 0..bounds.rows {
         begin_along(grid, bounds, row, &mut counts)?;
     }
     Ok(counts)
+}
+
+/// Puts the count 0 at each named sink that has data.
+pub(crate) fn begin_at_sinks(grid: &Grid, counts: &mut [Option<u32>])
+    requires { length counts.old ≡ grid.now.terrain.cols * grid.now.terrain.rows }
+    ensures { IsBegunAtSinks grid.now.terrain counts.old counts.new }
+{
+    for sink in grid.sinks() {
+        if grid.at(*sink).is_none() {
+            continue;
+        }
+        let index = sink.row as usize * grid.cols() as usize + sink.col as usize;
+        counts[index] = Some(0);
+    }
 }

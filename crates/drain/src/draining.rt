@@ -1,13 +1,16 @@
 // Steps and directions of a filled grid, by tiles and workers.
-ghost use Rattle.std.specs.Prelude.{◌≡◌, IfOk};
+ghost use Rattle.std.specs.Prelude.{◌≡◌, [], IfOk};
+ghost use Rattle.terrain.specs.Raster.{Terrain};
+ghost use Rattle.terrain.specs.Sinks.{with_sinks};
 ghost use Rattle.tiles.specs.Cutting.{Cuts, terrain_of};
 ghost use Rattle.tile_jobs.specs.Fault.{RefusesWorkers};
-ghost use Rattle.drain.specs.Beginning.{HasZeros};
+ghost use Rattle.drain.specs.Beginning.{AreBegun, HasZeros};
 ghost use Rattle.drain.specs.Rounds.{AreWalked, IsLent, IsRound};
 ghost use Rattle.drain.specs.Steps.{AreSteps, DrainsAtOnce};
 ghost use Rattle.drain.specs.Directions.{AreDirections};
 ghost use Rattle.drainage.specs.Drained.{AllFlowEnds, directed_of};
 
+use crate::beginning::begin_at_sinks;
 use crate::rounds::settle;
 use crate::stages::{Beginning, Codes};
 use crate::{looking, window};
@@ -15,7 +18,7 @@ use drainage::{Directions, Filled};
 use std::alloc::{AllocError, Global};
 use std::sync::Wait;
 use std::thread::Threads;
-use terrain::{Height, NoMemory};
+use terrain::{Grid, Height, NoMemory};
 use tile_jobs::{Gate, JobFault};
 use tile_maps::Crew;
 use tiles::{TileView, Tiling};
@@ -40,23 +43,40 @@ pub(crate) fn round(
 }
 
 /// One round of counting steps over one tile, which it answers in its row order: a search from all counts that
-/// are lent, as far as it goes inside the tile. No count rises or is lost. For want of memory nothing is handed out.
+/// are lent, as far as it goes inside the tile. No count rises or is lost. Which sinks the terrain has is the lender's
+/// affair: it lends 0 there. For want of memory nothing is handed out.
 pub fn flat_steps(
     alloc: Global,
     levels: &TileView<'_, Option<Height>>,
     steps: &TileView<'_, Option<u32>>,
 ) -> Result<Vec<Option<u32>>, NoMemory>
+    ghost terrain: { Terrain }
+    requires shown { terrain_of levels.now ≡ with_sinks terrain [] }
     requires cutting { steps.now.cutting ≡ levels.now.cutting }
     requires tile { steps.now.tile ≡ levels.now.tile }
-    requires zeros { HasZeros (terrain_of levels.now) steps.now.cells }
-    requires walked { AreWalked (DrainsAtOnce (terrain_of levels.now)) (terrain_of levels.now) steps.now.cells }
-    ensures { IfOk result (λ v. IsRound (DrainsAtOnce (terrain_of levels.now)) (terrain_of levels.now)
-        levels.now.cutting levels.now.tile steps.now.cells v.items) }
+    requires zeros { HasZeros terrain steps.now.cells }
+    requires walked { AreWalked (DrainsAtOnce terrain) terrain steps.now.cells }
+    ensures { IfOk result (λ v. IsRound (DrainsAtOnce terrain) terrain levels.now.cutting levels.now.tile steps.now.cells v.items) }
 {
     match round(alloc, levels, steps) {
         Ok(counts) => Ok(counts),
         Err(_) => Err(NoMemory),
     }
+}
+
+/// The counts that the rounds begin with.
+fn begun<R: Threads + Wait + Sync, G: Gate + Sync>(
+    crew: &Crew<'_, R, G>,
+    grid: &Grid,
+    tiling: &Tiling,
+) -> Result<Vec<Option<u32>>, JobFault>
+    requires { Cuts tiling.now grid.now.terrain }
+    ensures begun { IfOk result (λ v. AreBegun grid.now.terrain v.items) }
+    ensures workers { RefusesWorkers crew.now.workers result }
+{
+    let mut counts = crew.made(Beginning { grid, tiling })?;
+    begin_at_sinks(grid, &mut counts);
+    Ok(counts)
 }
 
 /// The steps of each cell of a filled grid.
@@ -71,7 +91,7 @@ fn counted<R: Threads + Wait + Sync, G: Gate + Sync>(
 {
     let grid = filled.grid();
     let cells = grid.cells();
-    let begun = crew.made(Beginning { grid, tiling })?;
+    let begun = begun(crew, grid, tiling)?;
     settle(crew, tiling, cells, begun)
 }
 

@@ -10,7 +10,7 @@ use terrain::{Grid, NoMemory};
 use tile_maps::TileMap;
 use tiles::Tiling;
 
-/// The counts that the rounds begin with.
+/// The counts that the rounds begin with, where no sinks are named.
 #[derive(Drop)]
 pub(crate) struct Beginning<'a> {
     pub(crate) grid: &'a Grid,
@@ -19,13 +19,13 @@ pub(crate) struct Beginning<'a> {
 }
 
 impl<'a> TileMap for Beginning<'a> {
-    ghost use Rattle.drain.specs.Beginning.{IsBegun};
+    ghost use Rattle.drain.specs.Beginning.{DrainsAnyway, IsBegun};
 
     type Cell = u32;
 
     ghost cutting = { λ m. m.tiling.now };
 
-    ghost has = { λ m. IsBegun m.grid.now.terrain };
+    ghost has = { λ m. IsBegun (DrainsAnyway m.grid.now.terrain) };
 
     fn tiling(&self) -> Tiling {
         *self.tiling

@@ -94,7 +94,7 @@ decide_low t c p =
 
 -- to the west there is a path
 make_edge : (t : Terrain) (p : Place) → IsDataCell t p → HasGapAround t p → (rest : List Place) × IsPath t p rest
-make_edge t p h gap = ([], (h, gap))
+make_edge t p h gap = ([], inl (h, gap))
 
 west : (t : Terrain) (r c : ℕ) → IsDataCell t (make_place r c) → (rest : List Place) × IsPath t (make_place r c) rest
 west t r zero h = make_edge t (make_place r zero) h (inr (inl refl))

@@ -58,7 +58,8 @@ gap_again : (t : Terrain) (levels : List (Option ℤ)) → IsFilled t levels →
 gap_again t levels h p gap = gap_where p (λ q _ none. same_data t levels h q ∙ none) gap
 
 path_again : (t : Terrain) (levels : List (Option ℤ)) → IsFilled t levels → (p : Place) (rest : List Place) → IsPath t p rest → IsPath (refilled t levels) p rest
-path_again t levels h p [] path = (same_data t levels h p ∙ path.0, gap_again t levels h p path.1)
+path_again t levels h p [] (inl edge) = inl (same_data t levels h p ∙ edge.0, gap_again t levels h p edge.1)
+path_again t levels h p [] (inr sink) = inr (same_data t levels h p ∙ sink.0, sink.1)
 path_again t levels h p (q ∷ rest) path = (
   record {
     different = path.0.different;

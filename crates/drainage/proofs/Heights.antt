@@ -47,9 +47,15 @@ known (Some x) h = refl
 data_stands : (t : Terrain) (p : Place) → IsDataCell t p → Contains t.cells (Some (height_of t p))
 data_stands t p h = height_stands t p (height_of t p) (known (height_at t p) h)
 
+-- a path begins at a data cell
+pub first_is_data : (t : Terrain) (p : Place) (rest : List Place) → IsPath t p rest → IsDataCell t p
+first_is_data t p [] (inl edge) = edge.0
+first_is_data t p [] (inr sink) = sink.0
+first_is_data t p (q ∷ rest) path = path.0.from_data
+
 -- the crest of a path is a height
 pub crest_stands : (t : Terrain) (p : Place) (rest : List Place) → IsPath t p rest → Contains t.cells (Some (crest t p rest))
-crest_stands t p [] path = data_stands t p path.0
+crest_stands t p [] path = data_stands t p (first_is_data t p [] path)
 crest_stands t p (q ∷ rest) path = elim (max_cases (height_of t p) (crest t q rest)) [
   | inl e ↦ subst (λ h. Contains t.cells (Some h)) (sym e) (data_stands t p path.0.from_data)
   | inr e ↦ subst (λ h. Contains t.cells (Some h)) (sym e) (crest_stands t q rest path.1)
@@ -57,11 +63,6 @@ crest_stands t p (q ∷ rest) path = elim (max_cases (height_of t p) (crest t q 
 
 pub filled_height_stands : (t : Terrain) (p : Place) (level : ℤ) → IsFilledHeight t p level → Contains t.cells (Some level)
 filled_height_stands t p level h = subst (λ l. Contains t.cells (Some l)) h.reached.2 (crest_stands t p h.reached.0 h.reached.1)
-
--- a path begins at a data cell
-pub first_is_data : (t : Terrain) (p : Place) (rest : List Place) → IsPath t p rest → IsDataCell t p
-first_is_data t p [] path = path.0
-first_is_data t p (q ∷ rest) path = path.0.from_data
 
 pub height_below_crest : (t : Terrain) (p : Place) (rest : List Place) → height_of t p ≤ℤ crest t p rest
 height_below_crest t p [] = omega (arith, ints)

@@ -1,15 +1,17 @@
--- Which cells reach the edge of the data without passing a height: a test.
-use Rattle.std.proofs.Common.{◌≡◌, ℕ, zero, suc, ◌+◌, ◌<◌, Bool, true, not, ◌&&◌, ◌||◌, leb, List, [], ◌∷◌, ◌++◌, is_some, ℤ, ◌≤ℤ◌, ap, subst, ◌∙◌, arith, inl, inr}
+-- Which cells reach an end cell without passing a height: a test.
+use Rattle.std.proofs.Common.{◌≡◌, ℕ, zero, suc, ◌+◌, ◌<◌, Bool, true, not, ◌&&◌, ◌||◌, leb, List, [], ◌∷◌, ◌++◌, is_some, ℤ, ◌≤ℤ◌, subst, ◌∙◌, arith, inl, inr}
 use Rattle.std.specs.Prelude.{◌==◌, int_le}
 use Rattle.std.specs.List.{list_any}
 use Rattle.std.proofs.lemmas.Bool.{cases_eq, and_parts, and_from, or_left, or_right, or_cases, not-true, not_from_false, both_ways, eq-eqb, eqb-true, leb-true, le-leb, false_from_ne_true}
 use Rattle.std.proofs.lemmas.List.Folds.{list_any-append}
 use Rattle.terrain.specs.Raster.{Terrain}
-use Rattle.terrain.specs.Neighbours.{height_at, IsDataCell, Touches, IsNeighbour, HasGapAround, IsEdge, height_of}
+use Rattle.terrain.specs.Neighbours.{height_at, IsDataCell, Touches, IsNeighbour, HasGapAround, IsEnd, height_of}
+use Rattle.terrain.specs.Sinks.{is_place}
 use Rattle.drainage.specs.Filled.{IsPath, crest}
 use Rattle.terrain.specs.declared.place.Place.{Place}
-use Rattle.terrain.proofs.Places.{make_place, same_place, inside_from_entry}
-use Rattle.drainage.proofs.Heights.{known, max_left, max_right, max_least, trans}
+use Rattle.terrain.proofs.Places.{make_place, inside_from_entry}
+use Rattle.terrain.proofs.Listed.{place_is, is_place_from, listed_from_any, any_from_listed}
+use Rattle.drainage.proofs.Heights.{known, first_is_data, max_left, max_right, max_least, trans}
 
 -- the places of a field, and of its next row and column
 abbrev pub row_places : ℕ → ℕ → List Place
@@ -65,21 +67,21 @@ any_touching t P p q h touch k =
     let inside = data_inside t p h in
     any_place P (t.cols + 1) (t.rows + 1) q (omega (arith, touch.row_down, inside.0)) (omega (arith, touch.col_right, inside.1)) k
 
--- tests of neighbours and of edge cells
+-- tests of neighbours and of end cells
 abbrev pub is_data : Terrain → Place → Bool
 is_data t p = is_some (height_at t p)
 
 abbrev pub touches : Place → Place → Bool
 touches p q = (leb q.row (p.row + 1) && leb p.row (q.row + 1)) && (leb q.col (p.col + 1) && leb p.col (q.col + 1))
 
-abbrev pub is_same : Place → Place → Bool
-is_same p q = (p.row == q.row) && (p.col == q.col)
-
 abbrev pub is_next : Terrain → Place → Place → Bool
-is_next t p q = (not (is_same p q) && touches p q) && (is_data t p && is_data t q)
+is_next t p q = (not (is_place p q) && touches p q) && (is_data t p && is_data t q)
 
-abbrev pub is_edge_cell : Terrain → Place → Bool
-is_edge_cell t p = is_data t p && ((p.row == 0 || p.col == 0) || list_any (λ q. touches p q && not (is_data t q)) (field t))
+abbrev pub has_gap : Terrain → Place → Bool
+has_gap t p = (p.row == 0 || p.col == 0) || list_any (λ q. touches p q && not (is_data t q)) (field t)
+
+abbrev pub is_end_cell : Terrain → Place → Bool
+is_end_cell t p = is_data t p && (has_gap t p || list_any (is_place p) t.sinks)
 
 touches_true : (p q : Place) → touches p q ≡ true → Touches p q
 touches_true p q h =
@@ -99,22 +101,13 @@ true_touches p q h =
     (and_from (leb q.row (p.row + 1)) (leb p.row (q.row + 1)) (le-leb q.row (p.row + 1) h.row_down) (le-leb p.row (q.row + 1) h.row_up))
     (and_from (leb q.col (p.col + 1)) (leb p.col (q.col + 1)) (le-leb q.col (p.col + 1) h.col_right) (le-leb p.col (q.col + 1) h.col_left))
 
-same_true : (p q : Place) → is_same p q ≡ true → p ≡ q
-same_true p q h =
-    let a = and_parts (p.row == q.row) (p.col == q.col) h in
-    same_place p q (eqb-true p.row q.row a.0) (eqb-true p.col q.col a.1)
-
-true_same : (p q : Place) → p ≡ q → is_same p q ≡ true
-true_same p q e =
-    and_from (p.row == q.row) (p.col == q.col) (eq-eqb p.row q.row (ap (λ (r : Place). r.row) e)) (eq-eqb p.col q.col (ap (λ (r : Place). r.col) e))
-
 pub next_true : (t : Terrain) (p q : Place) → is_next t p q ≡ true → IsNeighbour t p q
 next_true t p q h =
-    let ab = and_parts (not (is_same p q) && touches p q) (is_data t p && is_data t q) h in
-    let a = and_parts (not (is_same p q)) (touches p q) ab.0 in
+    let ab = and_parts (not (is_place p q) && touches p q) (is_data t p && is_data t q) h in
+    let a = and_parts (not (is_place p q)) (touches p q) ab.0 in
     let b = and_parts (is_data t p) (is_data t q) ab.1 in
     record {
-      different = λ e. both_ways (is_same p q) (not-true (is_same p q) a.0) (true_same p q e);
+      different = λ e. both_ways (is_place p q) (not-true (is_place p q) a.0) (is_place_from p q e);
       touches = touches_true p q a.1;
       from_data = b.0;
       to_data = b.1;
@@ -122,47 +115,49 @@ next_true t p q h =
 
 pub true_next : (t : Terrain) (p q : Place) → IsNeighbour t p q → is_next t p q ≡ true
 true_next t p q h =
-    and_from (not (is_same p q) && touches p q) (is_data t p && is_data t q)
-    (and_from (not (is_same p q)) (touches p q) (not_from_false (is_same p q) (false_from_ne_true (is_same p q) (λ e. h.different (same_true p q e)))) (true_touches p q h.touches))
+    and_from (not (is_place p q) && touches p q) (is_data t p && is_data t q)
+    (and_from (not (is_place p q)) (touches p q) (not_from_false (is_place p q) (false_from_ne_true (is_place p q) (λ e. h.different (place_is p q e)))) (true_touches p q h.touches))
     (and_from (is_data t p) (is_data t q) h.from_data h.to_data)
 
-pub edge_true : (t : Terrain) (p : Place) → is_edge_cell t p ≡ true → IsEdge t p
-edge_true t p h =
-    let a = and_parts (is_data t p) ((p.row == 0 || p.col == 0) || list_any (λ q. touches p q && not (is_data t q)) (field t)) h in
-    (a.0, gap_true t p a.1) where
-      gap_true : (t : Terrain) (p : Place) → ((p.row == 0 || p.col == 0) || list_any (λ q. touches p q && not (is_data t q)) (field t)) ≡ true → HasGapAround t p
-      gap_true t p h = elim (or_cases (p.row == 0 || p.col == 0) (list_any (λ q. touches p q && not (is_data t q)) (field t)) h) [
-        | inl side ↦ elim (or_cases (p.row == 0) (p.col == 0) side) [
-          | inl a ↦ inl (eqb-true p.row 0 a)
-          | inr b ↦ inr (inl (eqb-true p.col 0 b))
-        ]
-        | inr any ↦
-            let found = any_found (λ q. touches p q && not (is_data t q)) (field t) any in
-            let parts = and_parts (touches p found.0) (not (is_data t found.0)) found.1 in
-            inr (inr (found.0, touches_true p found.0 parts.0, not-true (is_data t found.0) parts.1))
-      ]
+gap_true : (t : Terrain) (p : Place) → has_gap t p ≡ true → HasGapAround t p
+gap_true t p h = elim (or_cases (p.row == 0 || p.col == 0) (list_any (λ q. touches p q && not (is_data t q)) (field t)) h) [
+  | inl side ↦ elim (or_cases (p.row == 0) (p.col == 0) side) [
+    | inl a ↦ inl (eqb-true p.row 0 a)
+    | inr b ↦ inr (inl (eqb-true p.col 0 b))
+  ]
+  | inr any ↦
+      let found = any_found (λ q. touches p q && not (is_data t q)) (field t) any in
+      let parts = and_parts (touches p found.0) (not (is_data t found.0)) found.1 in
+      inr (inr (found.0, touches_true p found.0 parts.0, not-true (is_data t found.0) parts.1))
+]
 
-pub true_edge : (t : Terrain) (p : Place) → IsEdge t p → is_edge_cell t p ≡ true
-true_edge t p h =
-    and_from (is_data t p) ((p.row == 0 || p.col == 0) || list_any (λ q. touches p q && not (is_data t q)) (field t)) h.0
-    (elim h.1 [
-      | inl a ↦ or_left (p.row == 0 || p.col == 0) (list_any (λ q. touches p q && not (is_data t q)) (field t)) (or_left (p.row == 0) (p.col == 0) (eq-eqb p.row 0 a))
-      | inr more ↦ elim more [
-        | inl b ↦ or_left (p.row == 0 || p.col == 0) (list_any (λ q. touches p q && not (is_data t q)) (field t)) (or_right (p.row == 0) (p.col == 0) (eq-eqb p.col 0 b))
-        | inr g ↦ or_right (p.row == 0 || p.col == 0) (list_any (λ q. touches p q && not (is_data t q)) (field t))
-            (any_touching t (λ q. touches p q && not (is_data t q)) p g.0 h.0 g.1
-            (and_from (touches p g.0) (not (is_data t g.0)) (true_touches p g.0 g.1) (not_from_false (is_data t g.0) g.2)))
-      ]
-    ])
+true_gap : (t : Terrain) (p : Place) → IsDataCell t p → HasGapAround t p → has_gap t p ≡ true
+true_gap t p seen (inl a) = or_left (p.row == 0 || p.col == 0) _ (or_left (p.row == 0) (p.col == 0) (eq-eqb p.row 0 a))
+true_gap t p seen (inr (inl b)) = or_left (p.row == 0 || p.col == 0) _ (or_right (p.row == 0) (p.col == 0) (eq-eqb p.col 0 b))
+true_gap t p seen (inr (inr g)) = or_right (p.row == 0 || p.col == 0) _
+    (any_touching t (λ q. touches p q && not (is_data t q)) p g.0 seen g.1
+    (and_from (touches p g.0) (not (is_data t g.0)) (true_touches p g.0 g.1) (not_from_false (is_data t g.0) g.2)))
+
+pub end_true : (t : Terrain) (p : Place) → is_end_cell t p ≡ true → IsEnd t p
+end_true t p h =
+    let a = and_parts (is_data t p) (has_gap t p || list_any (is_place p) t.sinks) h in
+    elim (or_cases (has_gap t p) (list_any (is_place p) t.sinks) a.1) [
+      | inl gap ↦ inl (a.0, gap_true t p gap)
+      | inr named ↦ inr (a.0, listed_from_any p t.sinks named)
+    ]
+
+pub true_end : (t : Terrain) (p : Place) → IsEnd t p → is_end_cell t p ≡ true
+true_end t p (inl edge) = and_from (is_data t p) _ edge.0 (or_left (has_gap t p) _ (true_gap t p edge.0 edge.1))
+true_end t p (inr sink) = and_from (is_data t p) _ sink.0 (or_right (has_gap t p) _ (any_from_listed p t.sinks sink.1))
 
 -- the cell is a data cell that isn't above c
 abbrev pub is_low : Terrain → ℤ → Place → Bool
 is_low t c p = is_data t p && int_le (height_of t p) c
 
--- in so many steps at most the cell reaches an edge cell over cells that aren't above c
+-- in so many steps at most the cell reaches an end cell over cells that aren't above c
 abbrev pub reaches : Terrain → ℤ → ℕ → Place → Bool
-reaches t c zero p = is_low t c p && is_edge_cell t p
-reaches t c (suc k) p = is_low t c p && (is_edge_cell t p || list_any (λ q. is_next t p q && reaches t c k q) (field t))
+reaches t c zero p = is_low t c p && is_end_cell t p
+reaches t c (suc k) p = is_low t c p && (is_end_cell t p || list_any (λ q. is_next t p q && reaches t c k q) (field t))
 
 le_true : (x y : ℤ) → int_le x y ≡ true → x ≤ℤ y
 le_true x y h = grind (arith, h)
@@ -174,15 +169,15 @@ true_le x y h = grind (arith, h)
 abbrev pub HasLowPath : Terrain → ℤ → Place → Type 0
 HasLowPath t c p = (rest : List Place) × IsPath t p rest × (crest t p rest ≤ℤ c)
 
-low_edge : (t : Terrain) (c : ℤ) (p : Place) → is_low t c p ≡ true → is_edge_cell t p ≡ true → HasLowPath t c p
-low_edge t c p low e = ([], edge_true t p e, le_true (height_of t p) c (and_parts (is_data t p) (int_le (height_of t p) c) low).1)
+low_end : (t : Terrain) (c : ℤ) (p : Place) → is_low t c p ≡ true → is_end_cell t p ≡ true → HasLowPath t c p
+low_end t c p low e = ([], end_true t p e, le_true (height_of t p) c (and_parts (is_data t p) (int_le (height_of t p) c) low).1)
 
 pub reaches_true : (t : Terrain) (c : ℤ) (k : ℕ) (p : Place) → reaches t c k p ≡ true → HasLowPath t c p
-reaches_true t c zero p h = let a = and_parts (is_low t c p) (is_edge_cell t p) h in low_edge t c p a.0 a.1
+reaches_true t c zero p h = let a = and_parts (is_low t c p) (is_end_cell t p) h in low_end t c p a.0 a.1
 reaches_true t c (suc k) p h =
-    let a = and_parts (is_low t c p) (is_edge_cell t p || list_any (λ q. is_next t p q && reaches t c k q) (field t)) h in
-    elim (or_cases (is_edge_cell t p) (list_any (λ q. is_next t p q && reaches t c k q) (field t)) a.1) [
-      | inl e ↦ low_edge t c p a.0 e
+    let a = and_parts (is_low t c p) (is_end_cell t p || list_any (λ q. is_next t p q && reaches t c k q) (field t)) h in
+    elim (or_cases (is_end_cell t p) (list_any (λ q. is_next t p q && reaches t c k q) (field t)) a.1) [
+      | inl e ↦ low_end t c p a.0 e
       | inr any ↦
           let found = any_found (λ q. is_next t p q && reaches t c k q) (field t) any in
           let parts = and_parts (is_next t p found.0) (reaches t c k found.0) found.1 in
@@ -196,22 +191,22 @@ reaches_true t c (suc k) p h =
 -- a step more reaches no less
 pub reaches_more : (t : Terrain) (c : ℤ) (k : ℕ) (p : Place) → reaches t c k p ≡ true → reaches t c (suc k) p ≡ true
 reaches_more t c zero p h =
-    let a = and_parts (is_low t c p) (is_edge_cell t p) h in
-    and_from (is_low t c p) (is_edge_cell t p || list_any (λ q. is_next t p q && reaches t c zero q) (field t)) a.0 (or_left (is_edge_cell t p) (list_any (λ q. is_next t p q && reaches t c zero q) (field t)) a.1)
+    let a = and_parts (is_low t c p) (is_end_cell t p) h in
+    and_from (is_low t c p) (is_end_cell t p || list_any (λ q. is_next t p q && reaches t c zero q) (field t)) a.0 (or_left (is_end_cell t p) (list_any (λ q. is_next t p q && reaches t c zero q) (field t)) a.1)
 reaches_more t c (suc k) p h =
-    let a = and_parts (is_low t c p) (is_edge_cell t p || list_any (λ q. is_next t p q && reaches t c k q) (field t)) h in
-    and_from (is_low t c p) (is_edge_cell t p || list_any (λ q. is_next t p q && reaches t c (suc k) q) (field t)) a.0
-    (elim (or_cases (is_edge_cell t p) (list_any (λ q. is_next t p q && reaches t c k q) (field t)) a.1) [
-      | inl e ↦ or_left (is_edge_cell t p) (list_any (λ q. is_next t p q && reaches t c (suc k) q) (field t)) e
-      | inr any ↦ or_right (is_edge_cell t p) (list_any (λ q. is_next t p q && reaches t c (suc k) q) (field t))
+    let a = and_parts (is_low t c p) (is_end_cell t p || list_any (λ q. is_next t p q && reaches t c k q) (field t)) h in
+    and_from (is_low t c p) (is_end_cell t p || list_any (λ q. is_next t p q && reaches t c (suc k) q) (field t)) a.0
+    (elim (or_cases (is_end_cell t p) (list_any (λ q. is_next t p q && reaches t c k q) (field t)) a.1) [
+      | inl e ↦ or_left (is_end_cell t p) (list_any (λ q. is_next t p q && reaches t c (suc k) q) (field t)) e
+      | inr any ↦ or_right (is_end_cell t p) (list_any (λ q. is_next t p q && reaches t c (suc k) q) (field t))
           (any_weaker (λ q. is_next t p q && reaches t c k q) (λ q. is_next t p q && reaches t c (suc k) q)
           (λ q w. let b = and_parts (is_next t p q) (reaches t c k q) w in and_from (is_next t p q) (reaches t c (suc k) q) b.0 (reaches_more t c k q b.1))
           (field t) any)
     ])
 
-reaches_edge : (t : Terrain) (c : ℤ) (k : ℕ) (p : Place) → is_low t c p ≡ true → is_edge_cell t p ≡ true → reaches t c k p ≡ true
-reaches_edge t c zero p low e = and_from (is_low t c p) (is_edge_cell t p) low e
-reaches_edge t c (suc k) p low e = and_from (is_low t c p) (is_edge_cell t p || list_any (λ q. is_next t p q && reaches t c k q) (field t)) low (or_left (is_edge_cell t p) (list_any (λ q. is_next t p q && reaches t c k q) (field t)) e)
+reaches_end : (t : Terrain) (c : ℤ) (k : ℕ) (p : Place) → is_low t c p ≡ true → is_end_cell t p ≡ true → reaches t c k p ≡ true
+reaches_end t c zero p low e = and_from (is_low t c p) (is_end_cell t p) low e
+reaches_end t c (suc k) p low e = and_from (is_low t c p) (is_end_cell t p || list_any (λ q. is_next t p q && reaches t c k q) (field t)) low (or_left (is_end_cell t p) (list_any (λ q. is_next t p q && reaches t c k q) (field t)) e)
 
 -- no cell more is reached by a step more
 abbrev pub IsStable : Terrain → ℤ → ℕ → Type 0
@@ -219,15 +214,15 @@ IsStable t c k = (p : Place) → reaches t c (suc k) p ≡ true → reaches t c 
 
 pub true_reaches : (t : Terrain) (c : ℤ) (k : ℕ) → IsStable t c k → (p : Place) (rest : List Place) → IsPath t p rest → crest t p rest ≤ℤ c → reaches t c k p ≡ true
 true_reaches t c k stable p [] path low =
-    reaches_edge t c k p (and_from (is_data t p) (int_le (height_of t p) c) path.0 (true_le (height_of t p) c low)) (true_edge t p path)
+    reaches_end t c k p (and_from (is_data t p) (int_le (height_of t p) c) (first_is_data t p [] path) (true_le (height_of t p) c low)) (true_end t p path)
 true_reaches t c k stable p (q ∷ rest) path low =
     let next = path.0 in
     let here : height_of t p ≤ℤ c = trans (height_of t p) (crest t p (q ∷ rest)) c (max_left (height_of t p) (crest t q rest)) low in
     let there : crest t q rest ≤ℤ c = trans (crest t q rest) (crest t p (q ∷ rest)) c (max_right (height_of t p) (crest t q rest)) low in
     let more = true_reaches t c k stable q rest path.1 there in
     stable p
-    (and_from (is_low t c p) (is_edge_cell t p || list_any (λ r. is_next t p r && reaches t c k r) (field t))
+    (and_from (is_low t c p) (is_end_cell t p || list_any (λ r. is_next t p r && reaches t c k r) (field t))
     (and_from (is_data t p) (int_le (height_of t p) c) next.from_data (true_le (height_of t p) c here))
-    (or_right (is_edge_cell t p) (list_any (λ r. is_next t p r && reaches t c k r) (field t))
+    (or_right (is_end_cell t p) (list_any (λ r. is_next t p r && reaches t c k r) (field t))
     (any_touching t (λ r. is_next t p r && reaches t c k r) p q next.from_data next.touches
     (and_from (is_next t p q) (reaches t c k q) (true_next t p q next) more))))

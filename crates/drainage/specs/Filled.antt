@@ -1,14 +1,14 @@
--- Paths to the edge of the data, and the filled height, which is the least crest among them.
+-- Paths to an edge cell or a named sink, and the filled height, which is the least crest among them.
 use Rattle.std.specs.Prelude.{◌≡◌, ◌*◌, ℤ, ◌≤ℤ◌, List, [], ◌∷◌, length, Option, None, Some, MatchOption}
 use Rattle.std.specs.Int.{int_max}
 use Rattle.terrain.specs.Raster.{Terrain, Raster}
-use Rattle.terrain.specs.Neighbours.{IsInside, height_at, height_of, entry_at, IsNeighbour, IsEdge}
+use Rattle.terrain.specs.Neighbours.{IsInside, height_at, height_of, entry_at, IsNeighbour, IsEnd}
 use Rattle.terrain.specs.declared.place.Place.{Place}
 
 -- A path is a first cell and the list of the cells after it: each is a neighbour of the next, and
--- the last is an edge cell.
+-- the last is an end cell.
 abbrev pub IsPath : Terrain → Place → List Place → Type 0
-IsPath t p [] = IsEdge t p
+IsPath t p [] = IsEnd t p
 IsPath t p (q ∷ rest) = IsNeighbour t p q × IsPath t q rest
 
 -- The greatest height on a path.

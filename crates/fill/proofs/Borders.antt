@@ -1,5 +1,5 @@
 -- Where the cells of bordered rows stand.
-use Rattle.std.proofs.Common.{◌≡◌, ℕ, zero, suc, ◌+◌, ◌-◌, ◌*◌, ◌<◌, ◌≤◌, inl, inr, ℤ, List, [], ◌∷◌, ◌++◌, length, get_or, take, replicate, Option, None, Some, ◌∙◌, sym, ap, refl, arith, length-append}
+use Rattle.std.proofs.Common.{◌≡◌, ℕ, zero, suc, ◌+◌, ◌-◌, ◌*◌, ◌<◌, ◌≤◌, inl, inr, ℤ, Bool, List, [], ◌∷◌, ◌++◌, length, get_or, take, replicate, Option, None, Some, ◌∙◌, sym, ap, refl, arith, length-append}
 use Rattle.std.proofs.lemmas.Bool.{cases_lt, cases_eq}
 use Rattle.std.proofs.lemmas.Slice.{between_is}
 use Rattle.std.proofs.lemmas.List.{length-replicate, length-drop, length-take-le, get_or-drop, get_or-take, get_or_append_left, get_or-append_right}
@@ -8,7 +8,7 @@ use Rattle.terrain.specs.Raster.{Terrain}
 use Rattle.terrain.specs.Neighbours.{height_at}
 use Rattle.terrain.specs.declared.place.Place.{Place}
 use Rattle.tiles.specs.declared.bounds.Bounds.{Bounds}
-use Rattle.fill.specs.Cells.{Cells, node_at, IsNetOf, IsBordered, first_rows, bordered_rows, row_of, whole}
+use Rattle.fill.specs.Cells.{Cells, node_at, IsNetOf, HasSinks, IsBordered, first_rows, bordered_rows, row_of, whole}
 use Rattle.terrain.proofs.Places.{same_place, entry-inside}
 use Rattle.fill.proofs.Steps.{seen, none_some, none_done}
 use Rattle.fill.proofs.Heaps.{replicated}
@@ -103,8 +103,8 @@ length-bordered_rows row cols count h =
 abbrev pub ShowRows : Terrain → Bounds → (ℕ → List (Option ℤ)) → Type 0
 ShowRows t w row = (r c : ℕ) → r < w.rows → c < w.cols → get_or (row r) c None ≡ height_at t (record { row = w.top + r; col = w.left + c })
 
-pub net_of_rows : (t : Terrain) (w : Bounds) (row : ℕ → List (Option ℤ)) → AreRows row w.cols w.rows → ShowRows t w row → IsNetOf t w (record { stride = w.cols + 2; cells = bordered_rows row (w.cols + 2) w.rows })
-net_of_rows t w row are show = record {
+pub net_of_rows : (t : Terrain) (w : Bounds) (row : ℕ → List (Option ℤ)) → AreRows row w.cols w.rows → ShowRows t w row → (sinks : List Bool) → HasSinks w t.sinks sinks → IsNetOf t w (record { stride = w.cols + 2; cells = bordered_rows row (w.cols + 2) w.rows; sinks = sinks })
+net_of_rows t w row are show sinks has = record {
   stride = refl;
   inside = λ p h.
       let r : p.row - w.top < w.rows = omega (arith, h.0, h.1) in
@@ -122,6 +122,7 @@ net_of_rows t w row are show = record {
         )
   ];
   size = length-bordered_rows row w.cols w.rows are;
+  sinks = has;
 } where
   minus : (a b : ℕ) → (a + b) - a ≡ b
   minus a b = omega arith
@@ -157,10 +158,10 @@ row_length cols rows xs size r below =
     ap length (between_is xs (r * cols) (r * cols + cols)) ∙ length-drop (r * cols) (take (r * cols + cols) xs)
     ∙ ap (λ n. n - r * cols) (length-take-le (r * cols + cols) xs (omega (arith, room, size))) ∙ omega arith
 
-pub net_of_list : (t : Terrain) → length t.cells ≡ t.cols * t.rows → IsNetOf t (whole t) (record { stride = t.cols + 2; cells = bordered_rows (row_of t.cols t.cells) (t.cols + 2) t.rows })
-net_of_list t size = net_of_rows t (whole t) (row_of t.cols t.cells) (row_length t.cols t.rows t.cells size) (λ r c below inside.
+pub net_of_list : (t : Terrain) (sinks : List Bool) → length t.cells ≡ t.cols * t.rows → HasSinks (whole t) t.sinks sinks → IsNetOf t (whole t) (record { stride = t.cols + 2; cells = bordered_rows (row_of t.cols t.cells) (t.cols + 2) t.rows; sinks = sinks })
+net_of_list t sinks size has = net_of_rows t (whole t) (row_of t.cols t.cells) (row_length t.cols t.rows t.cells size) (λ r c below inside.
     row_cell t.cols t.cells r c inside ∙ sym (entry-inside t.cols t.rows t.cells (record { row = r; col = c }) below inside)
-    ∙ ap (height_at t) (same_place (record { row = r; col = c }) (record { row = 0 + r; col = 0 + c }) (omega arith) (omega arith)))
+    ∙ ap (height_at t) (same_place (record { row = r; col = c }) (record { row = 0 + r; col = 0 + c }) (omega arith) (omega arith))) sinks has
 
-pub net_of_grid : (t : Terrain) (cols rows : ℕ) (cells items : List (Option ℤ)) → length t.cells ≡ t.cols * t.rows → cols ≡ t.cols → rows ≡ t.rows → cells ≡ t.cells → items ≡ bordered_rows (row_of cols cells) (cols + 2) rows → IsNetOf t (whole t) (record { stride = cols + 2; cells = items })
-net_of_grid t cols rows cells items size c r e is = rw (is, c, r, e) (net_of_list t size)
+pub net_of_grid : (t : Terrain) (cols rows : ℕ) (cells items : List (Option ℤ)) (places : List Place) (sinks : List Bool) → length t.cells ≡ t.cols * t.rows → cols ≡ t.cols → rows ≡ t.rows → cells ≡ t.cells → places ≡ t.sinks → items ≡ bordered_rows (row_of cols cells) (cols + 2) rows → HasSinks (record { top = 0; left = 0; rows = rows; cols = cols }) places sinks → IsNetOf t (whole t) (record { stride = cols + 2; cells = items; sinks = sinks })
+net_of_grid t cols rows cells items places sinks size c r e s is has = let has = rw (c, r, s) at has in rw (is, c, r, e) (net_of_list t sinks size has)

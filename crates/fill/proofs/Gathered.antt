@@ -7,16 +7,16 @@ use Rattle.std.proofs.lemmas.Option.{MatchOption-at_some, MatchOption-at_none, s
 use Rattle.std.proofs.lemmas.List.{get_or_default, get_or_past}
 use Rattle.std.proofs.lemmas.List.Elements.{All-contains}
 use Rattle.terrain.specs.Raster.{Terrain}
-use Rattle.terrain.specs.Neighbours.{height_at, index_of, IsDataCell, IsEdge, HasGapAround}
+use Rattle.terrain.specs.Neighbours.{height_at, index_of, IsDataCell, IsEdge, IsEnd, HasGapAround}
 use Rattle.terrain.specs.declared.place.Place.{Place}
-use Rattle.terrain.proofs.Places.{same_place, index_below, gap_where}
+use Rattle.terrain.proofs.Places.{same_place, index_below, index_injective, gap_where}
 use Rattle.tiles.specs.Cutting.{Cutting, IsCutting, IsWithin, IsInTile, IsInBounds, bounds_of, tile_count, tile_of_place}
 use Rattle.tiles.proofs.Cut.{tile_of_place_below, in_bounds}
 use Rattle.tiles.specs.declared.bounds.Bounds.{Bounds}
 use Rattle.tiles.proofs.TileOrder.{place_in, place_in_tile, index_in-place_in}
 use Rattle.fill.specs.TileFlood.{Flood, LabelsInside, IsTileFlood, label_in}
-use Rattle.fill.specs.Spills.{AreFloods, level_among, label_among, IsPass, Graph, source_in, AreSpillSources, IsGraphOf}
-use Rattle.fill.specs.Gathering.{Fit, mark_among, Meets, Adds, IsBefore, AreRising, AreLowest, AreGathered, HasGapAmong, IsSpillSource, IsSourceEntry, AreSources}
+use Rattle.fill.specs.Spills.{AreFloods, level_among, label_among, Carries, IsPass, Graph, AreSpillSources, IsGraphOf}
+use Rattle.fill.specs.Gathering.{Fit, mark_among, Meets, Adds, IsBefore, AreRising, AreLowest, AreGathered, HasGapAmong, IsSpillSource, IsSourceEntry, AreSources, PutsSinks}
 use Rattle.fill.specs.Parts.{IsPart, AreParts, IsGraph, joins_by_part, graph_of_parts, tile_of_node}
 use Rattle.fill.specs.declared.parts.Part.{Part}
 use Rattle.fill.specs.declared.spills.Join.{Join}
@@ -26,9 +26,9 @@ use Rattle.fill.specs.CellJoins.{max_comm}
 use Rattle.fill.proofs.Heaps.{all_by_contains, not_some}
 use Rattle.fill.proofs.Windows.{data_is, height_is}
 use Rattle.fill.proofs.TileWindows.{data_within, entry_in-inside}
-use Rattle.drainage.proofs.Heights.{trans}
+use Rattle.drainage.proofs.Heights.{first_is_data, trans}
 use Rattle.drainage.proofs.Uniqueness.{between}
-use Rattle.fill.proofs.Rims.{HasTileLevel, has_tile_level, level_has_data, label_has_data, label_in_tile, edge_level, edge_label, list_there, among_is}
+use Rattle.fill.proofs.Rims.{HasTileLevel, has_tile_level, level_has_data, label_has_data, label_in_tile, source_level, end_label, list_there, among_is}
 use Rattle.fill.proofs.CellMarks.{label_within, mark_some, mark_parts, mark_outside}
 use Rattle.fill.proofs.Adding.{no_join}
 use Rattle.fill.proofs.Waits.{in_some_list, in_lists}
@@ -79,7 +79,7 @@ one_join joins rise j k a b e f = elim (cases_order a.0 b.0) [
   apart x y u v p q g h (inr a) = let s = ap (λ (z : Join). z.to) p in let t = ap (λ (z : Join). z.to) q in omega (arith, a.1, h, s, t)
 
 -- a meeting has its cells in the grid, and its labels too
-marked_within : (c : Cutting) (floods : List Flood) (p : Place) (m : Mark) → IsCutting c → Fit c floods → mark_among c floods p ≡ Some m → IsWithin c p
+pub marked_within : (c : Cutting) (floods : List Flood) (p : Place) (m : Mark) → IsCutting c → Fit c floods → mark_among c floods p ≡ Some m → IsWithin c p
 marked_within c floods p m h fit e = elim (cases_lt p.row c.rows) [
   | inr below ↦ none_some _ m (mark_outside c floods p h fit (λ w. omega (arith, w.0, below))) e
   | inl row ↦ elim (cases_lt p.col c.cols) [
@@ -224,42 +224,75 @@ gap_back t c floods p h are gap = gap_where p (λ q _ none. elim (seen (height_a
 source_place : (c : Cutting) (p : Place) → IsWithin c p → record { row = index_of c.cols p / c.cols; col = index_of c.cols p % c.cols } ≡ p
 source_place c p within = same_place _ p (div-mul-add p.row c.cols p.col within.1) (mod-mul-add p.row c.cols p.col within.1)
 
-spill_sources : (t : Terrain) (c : Cutting) (floods : List Flood) (g : Graph) → IsCutting c → AreFloods t c floods → AreSources c floods g.sources → AreSpillSources t c floods g
-spill_sources t c floods g h are s = record {
-  each = λ p z carries edge height.
-      let within = data_within t c p are.cuts edge.0 in
-      let l = has_tile_level t c floods h are p edge.0 in
-      let own = edge_label t c p l.label l.level l.right edge in
-      let level : l.level ≡ z = edge_level t c p l.label l.level l.right (inr edge) ∙ height_is t p z height in
-      let here : IsSpillSource c floods p z = record {
-        mark = mark_is t c floods p l (index_of c.cols p) (ap (index_of c.cols) (sym own)) ∙ ap (λ n. Some (record { level = n; node = index_of c.cols p })) level;
-        gap = gap_of t c floods p h are edge.1;
-      } in
-      let entry = subst (λ q. IsSourceEntry c floods q (source_in g (index_of c.cols p))) (source_place c p within) (s.each (index_of c.cols p) (index_below c.cols c.rows p within.0 within.1)) in
-      elim (seen (source_in g (index_of c.cols p))) [
-        | inl none ↦ absurd (MatchOption-at_none _ _ none entry z here)
-        | inr found ↦
-            let other = MatchOption-at_some _ _ found.0 found.1 entry in
-            let same = same_Some (record { level = found.0; node = index_of c.cols p }) (record { level = z; node = index_of c.cols p }) (sym other.mark ∙ here.mark) in
-            found.1 ∙ ap Some (ap (λ (m : Mark). m.level) same)
+-- the mark of an end cell
+end_mark : (t : Terrain) (c : Cutting) (floods : List Flood) (p : Place) (z : ℤ) → IsCutting c → AreFloods t c floods → IsEnd t p → height_at t p ≡ Some z → mark_among c floods p ≡ Some (record { level = z; node = index_of c.cols p })
+end_mark t c floods p z h are end height =
+    let l = has_tile_level t c floods h are p (ap is_some height) in
+    let own = end_label t c p l.label l.level l.right end in
+    let level : l.level ≡ z = source_level t c p l.label l.level l.right (inr end) ∙ height_is t p z height in
+    mark_is t c floods p l (index_of c.cols p) (ap (index_of c.cols) (sym own)) ∙ ap (λ n. Some (record { level = n; node = index_of c.cols p })) level
+
+-- An end cell that is a label has this number and this height.
+abbrev IsEndNode : Terrain → Cutting → List Flood → ℕ → ℤ → Type 0
+IsEndNode t c floods a h = (p : Place) × (index_of c.cols p ≡ a) × Carries c floods p a × IsEnd t p × (height_at t p ≡ Some h)
+
+end_node : (t : Terrain) (c : Cutting) (floods : List Flood) (p : Place) (m : Mark) (a : ℕ) → IsCutting c → AreFloods t c floods → IsEnd t p → mark_among c floods p ≡ Some m → index_of c.cols p ≡ a → IsEndNode t c floods a m.level
+end_node t c floods p m a h are end marked at =
+    let height = data_is (height_at t p) (first_is_data t p [] end) in
+    let mark = end_mark t c floods p height.0 h are end height.1 in
+    let parts = mark_parts c.cols (level_among c floods p) (label_among c floods p) _ mark in
+    let same = same_Some (record { level = height.0; node = index_of c.cols p }) m (sym mark ∙ marked) in
+    (p, at, (parts.0, parts.2, parts.3 ∙ at), end, height.1 ∙ ap (λ (n : Mark). Some n.level) same)
+
+-- the edge cells have their heights as sources
+edge_source : (t : Terrain) (c : Cutting) (floods : List Flood) (sources : List (Option ℤ)) (p : Place) (z : ℤ) → IsCutting c → AreFloods t c floods → AreSources c floods sources → IsEdge t p → height_at t p ≡ Some z → get_or sources (index_of c.cols p) None ≡ Some z
+edge_source t c floods sources p z h are s edge height =
+    let within = data_within t c p are.cuts edge.0 in
+    let here : IsSpillSource c floods p z = record { mark = end_mark t c floods p z h are (inl edge) height; gap = gap_of t c floods p h are edge.1 } in
+    let entry = subst (λ q. IsSourceEntry c floods q (get_or sources (index_of c.cols p) None)) (source_place c p within) (s.each (index_of c.cols p) (index_below c.cols c.rows p within.0 within.1)) in
+    elim (seen (get_or sources (index_of c.cols p) None)) [
+      | inl none ↦ absurd (MatchOption-at_none _ _ none entry z here)
+      | inr found ↦
+          let other = MatchOption-at_some _ _ found.0 found.1 entry in
+          let same = same_Some (record { level = found.0; node = index_of c.cols p }) (record { level = z; node = index_of c.cols p }) (sym other.mark ∙ here.mark) in
+          found.1 ∙ ap Some (ap (λ (m : Mark). m.level) same)
+    ]
+
+edge_only : (t : Terrain) (c : Cutting) (floods : List Flood) (sources : List (Option ℤ)) (a : ℕ) (z : ℤ) → IsCutting c → AreFloods t c floods → AreSources c floods sources → get_or sources a None ≡ Some z → IsEndNode t c floods a z
+edge_only t c floods sources a z h are s e = elim (cases_lt a (length sources)) [
+  | inr past ↦ none_some (get_or sources a None) z (get_or_past sources a None past) e
+  | inl below ↦
+      let p : Place = record { row = a / c.cols; col = a % c.cols } in
+      let here = MatchOption-at_some _ _ z e (s.each a (omega (arith, below, s.size))) in
+      let parts = mark_parts c.cols (level_among c floods p) (label_among c floods p) _ here.mark in
+      let has_data = level_has_data t c floods h are p z (marked_within c floods p _ h (fit_of t c floods h are) here.mark) parts.1 in
+      end_node t c floods p _ a h are (inl (has_data, gap_back t c floods p h are here.gap)) here.mark (div-add-mod' a c.cols)
+]
+
+-- with the levels of the sinks at their nodes, the sources are the end cells
+spill_sources : (t : Terrain) (c : Cutting) (floods : List Flood) (sinks : List Place) (sources : List (Option ℤ)) (g : Graph) → IsCutting c → AreFloods t c floods → t.sinks ≡ sinks → AreSources c floods sources → PutsSinks c floods sinks sources g.sources → AreSpillSources t c floods g
+spill_sources t c floods sinks sources g h are named s puts = record {
+  each = λ p z carries end height.
+      let mark = end_mark t c floods p z h are end height in
+      let level = (mark_parts c.cols (level_among c floods p) (label_among c floods p) _ mark).1 in
+      elim end [
+        | inr sink ↦ puts.every p (subst (λ places. Contains places p) named sink.1) (ap is_some mark) ∙ level
+        | inl edge ↦ elim (puts.only (index_of c.cols p)) [
+          | inl kept ↦ kept ∙ edge_source t c floods sources p z h are s edge height
+          | inr put ↦
+              let found = data_is (mark_among c floods put.place) put.has in
+              let same = index_injective c.cols put.place p (marked_within c floods put.place found.0 h (fit_of t c floods h are) found.1).1 (data_within t c p are.cuts edge.0).1 put.number in
+              put.is ∙ ap (level_among c floods) same ∙ level
+        ]
       ];
-  only = λ a z e. elim (cases_lt a (length g.sources)) [
-    | inr past ↦ none_some (source_in g a) z (get_or_past g.sources a None past) e
-    | inl below ↦
-        let low : a < c.cols * c.rows = omega (arith, below, s.size) in
-        let p : Place = record { row = a / c.cols; col = a % c.cols } in
-        let node : index_of c.cols p ≡ a = div-add-mod' a c.cols in
-        let here = MatchOption-at_some _ _ z e (s.each a low) in
-        let fit = fit_of t c floods h are in
-        let within = marked_within c floods p _ h fit here.mark in
-        let parts = mark_parts c.cols (level_among c floods p) (label_among c floods p) _ here.mark in
-        let has_data = level_has_data t c floods h are p z within parts.1 in
-        let edge : IsEdge t p = (has_data, gap_back t c floods p h are here.gap) in
-        let l = has_tile_level t c floods h are p has_data in
-        let level = same_Some l.level z (sym l.level_is ∙ parts.1) in
-        let height = data_is (height_at t p) has_data in
-        let same : height.0 ≡ z = sym (height_is t p height.0 height.1) ∙ sym (edge_level t c p l.label l.level l.right (inr edge)) ∙ level in
-        (p, node, (parts.0, parts.2, parts.3 ∙ node), edge, height.1 ∙ ap Some same)
+  only = λ a z e. elim (puts.only a) [
+    | inl kept ↦ edge_only t c floods sources a z h are s (sym kept ∙ e)
+    | inr put ↦
+        let found = data_is (mark_among c floods put.place) put.has in
+        let parts = mark_parts c.cols (level_among c floods put.place) (label_among c floods put.place) found.0 found.1 in
+        let has_data = level_has_data t c floods h are put.place found.0.level (marked_within c floods put.place found.0 h (fit_of t c floods h are) found.1) parts.1 in
+        let level = same_Some found.0.level z (sym parts.1 ∙ sym put.is ∙ e) in
+        subst (IsEndNode t c floods a) level (end_node t c floods put.place found.0 a h are (inr (has_data, subst (λ places. Contains places put.place) (sym named) put.named)) found.1 put.number)
   ];
 }
 
@@ -288,14 +321,14 @@ parts_once t c floods parts h are s j k a b e f =
     one_join (get_or lists x.0 []) (subst AreRising (sym part.2) part.1.rising) j k x.1 (subst (λ n. Contains (get_or lists n []) k) same y.1) e f
 
 -- what holds of the graph of the parts
-pub is_graph : (t : Terrain) (c : Cutting) (floods : List Flood) (parts : List Part) (sources : List (Option ℤ)) → IsCutting c → AreFloods t c floods → AreParts c floods parts → AreSources c floods sources → IsGraph c parts (graph_of_parts c parts sources)
-is_graph t c floods parts sources h are s srcs =
+pub is_graph : (t : Terrain) (c : Cutting) (floods : List Flood) (parts : List Part) (sources : List (Option ℤ)) → IsCutting c → AreFloods t c floods → AreParts c floods parts → length sources ≡ c.cols * c.rows → IsGraph c parts (graph_of_parts c parts sources)
+is_graph t c floods parts sources h are s size =
     let fit = fit_of t c floods h are in
     let joins = flat_map (λ joins. joins) (joins_by_part parts) in
     let gathered = parts_gathered c floods parts h s in
     record {
       count = s.count;
-      sources = srcs.size;
+      sources = size;
       ends = all_by_contains (λ (j : Join). (j.from < c.cols * c.rows) × (j.to < c.cols * c.rows)) joins (λ j there.
           let meet = gathered.only j there in
           (node_below c floods meet.0 _ h fit meet.3.from_is, node_below c floods meet.1 _ h fit meet.3.to_is));
@@ -305,10 +338,10 @@ is_graph t c floods parts sources h are s srcs =
     }
 
 -- the graph is that of the floods
-pub is_graph_of : (t : Terrain) (c : Cutting) (floods : List Flood) (parts : List Part) (sources : List (Option ℤ)) → IsCutting c → AreFloods t c floods → AreParts c floods parts → AreSources c floods sources → IsGraphOf t c floods (graph_of_parts c parts sources)
-is_graph_of t c floods parts sources h are s srcs =
+pub is_graph_of : (t : Terrain) (c : Cutting) (floods : List Flood) (parts : List Part) (sinks : List Place) (old sources : List (Option ℤ)) → IsCutting c → AreFloods t c floods → AreParts c floods parts → t.sinks ≡ sinks → AreSources c floods old → PutsSinks c floods sinks old sources → IsGraphOf t c floods (graph_of_parts c parts sources)
+is_graph_of t c floods parts sinks old sources h are s named srcs puts =
     let fit = fit_of t c floods h are in
-    let graph = is_graph t c floods parts sources h are s srcs in
+    let graph = is_graph t c floods parts sources h are s (puts.size ∙ srcs.size) in
     let joins = flat_map (λ joins. joins) (joins_by_part parts) in
     let gathered = parts_gathered c floods parts h s in
     record {
@@ -326,5 +359,5 @@ is_graph_of t c floods parts sources h are s srcs =
             pass = meets_pass t c floods meet.0 meet.1 (record { from = a; to = b; height = z }) h are meet.3;
             least = λ other pass. low_as c floods joins h fit gathered (parts_once t c floods parts h are s) (record { from = a; to = b; height = z }) (record { from = a; to = b; height = other }) pass.from pass.to join.there (pass_meets t c floods a b other meet.3.different pass) refl refl;
           };
-      sources = spill_sources t c floods (graph_of_parts c parts sources) h are srcs;
+      sources = spill_sources t c floods sinks old (graph_of_parts c parts sources) h are named srcs puts;
     }

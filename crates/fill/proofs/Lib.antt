@@ -7,6 +7,7 @@ mod Noting
 mod CellWays
 mod Borders
 mod Windows
+mod WindowSinks
 -- the flood of a tile
 mod LabelTables
 mod TileWindows
@@ -16,7 +17,8 @@ mod Adding
 mod Lowest
 mod SourceCells
 pub mod Gathered
+mod SinkCells
 mod GraphParts
 -- raising, and the tiles together
 mod Rims
-mod Raised
+pub mod Raised

@@ -6,6 +6,7 @@ use Rattle.std.proofs.Math.Nat.{zero-div, zero-mod, zero-mul}
 use Rattle.std.proofs.lemmas.Int.{ints, clamps}
 use Rattle.std.proofs.lemmas.List.{get_or-map}
 use Rattle.terrain.specs.Raster.{Terrain, Raster}
+use Rattle.terrain.specs.Sinks.{with_sinks}
 use Rattle.terrain.specs.Neighbours.{height_at, index_of, entry_at, IsInside}
 use Rattle.drainage.specs.Filled.{crest, IsFilledHeight, IsFilled, IsFilledGrid, IsOwnFilled}
 use Rattle.terrain.specs.declared.place.Place.{Place}
@@ -23,7 +24,7 @@ use Rattle.fill.proofs.Gathered.{fit_of}
 use Rattle.fill.proofs.Steps.{seen, match_of, none_some}
 use Rattle.fill.proofs.TileWindows.{entry_in-inside, entry_index, data_within, rim_of_tile, rim_of_window}
 use Rattle.fill.proofs.Windows.{cases_rim, data_is, height_is}
-use Rattle.fill.proofs.Rims.{has_tile_level, among_is, edge_level, rims, list_there}
+use Rattle.fill.proofs.Rims.{has_tile_level, among_is, source_level, rims, list_there}
 use Rattle.std.specs.List.{Contains, All}
 use Rattle.std.proofs.lemmas.Option.{MatchOption-at_some, MatchOption-at_none, get_or_from_slice_get, slice_get_within, same_Some}
 use Rattle.std.proofs.lemmas.List.Elements.{All-from_get_or}
@@ -118,7 +119,7 @@ own_raises t c floods levels are alone filled p some =
     let l = has_tile_level t c floods are.lawful are p some in
     let height = data_is (height_at t p) some in
     let source : IsTileSource t c p = inl (some, alone p (data_within t c p are.cuts some)) in
-    let level = edge_level t c p l.label l.level l.right source in
+    let level = source_level t c p l.label l.level l.right source in
     let label : l.label ≡ p = l.right.own source (height.1 ∙ ap Some (sym (level ∙ height_is t p height.0 height.1))) in
     let inside = inside_from_entry t.cols t.rows t.cells p height.0 height.1 in
     let here = MatchOption-at_some _ _ height.0 height.1 (filled.each p inside) in
@@ -174,13 +175,14 @@ some_inner c h rows cols alone =
     ]
 
 -- the flood of a view is that of its terrain
-same_terrain : (t : Terrain) (c : Cutting) → Cuts c t → record { cols = c.cols; rows = c.rows; cells = t.cells } ≡ t
-same_terrain t c cuts = ap (λ n. record { cols = n; rows = c.rows; cells = t.cells }) cuts.0 ∙ ap (λ n. record { cols = t.cols; rows = n; cells = t.cells }) cuts.1
-
-pub flood_of_view : (t : Terrain) (c : Cutting) (job : ℕ) (v : View (Option ℤ)) (cells : List (Option ℤ)) (f : Flood) → Cuts c t → v ≡ record { cutting = c; tile = job; cells = cells } → cells ≡ t.cells → IsTileFlood (terrain_of v) v.cutting v.tile f → IsTileFlood t c job f
-flood_of_view t c job v cells f cuts view same flood =
-    let at : IsTileFlood (record { cols = c.cols; rows = c.rows; cells = cells }) c job f = subst (λ (x : View (Option ℤ)). IsTileFlood (terrain_of x) x.cutting x.tile f) view flood in
-    subst (λ (x : Terrain). IsTileFlood x c job f) (ap (λ z. record { cols = c.cols; rows = c.rows; cells = z }) same ∙ same_terrain t c cuts) at
+pub flood_of_view : (t : Terrain) (c : Cutting) (job : ℕ) (v : View (Option ℤ)) (cells : List (Option ℤ)) (sinks : List Place) (f : Flood) → Cuts c t → v ≡ record { cutting = c; tile = job; cells = cells } → cells ≡ t.cells → sinks ≡ t.sinks → IsTileFlood (with_sinks (terrain_of v) sinks) v.cutting v.tile f → IsTileFlood t c job f
+flood_of_view t c job v cells sinks f cuts view same named flood =
+    subst (λ (x : Terrain). IsTileFlood x c job f)
+    (ap (λ n. record { cols = n; rows = c.rows; cells = cells; sinks = sinks }) cuts.0
+    ∙ ap (λ n. record { cols = t.cols; rows = n; cells = cells; sinks = sinks }) cuts.1
+    ∙ ap (λ z. record { cols = t.cols; rows = t.rows; cells = z; sinks = sinks }) same
+    ∙ ap (λ z. record { cols = t.cols; rows = t.rows; cells = t.cells; sinks = z }) named)
+    (subst (λ (x : View (Option ℤ)). IsTileFlood (with_sinks (terrain_of x) sinks) x.cutting x.tile f) view flood)
 
 -- the floods that the jobs gave
 pub floods_given : (t : Terrain) (c : Cutting) (outs : List Flood) → IsCutting c → Cuts c t → length outs ≡ tile_count c → ((j : ℕ) (d : Flood) → j < tile_count c → IsTileFlood t c j (get_or outs j d)) → AreFloods t c outs

@@ -5,7 +5,7 @@ use Rattle.std.specs.Int.{int_max}
 use Rattle.std.proofs.lemmas.Bool.{cases_eq}
 use Rattle.std.proofs.lemmas.Option.{MatchOption-at_some, MatchOption-at_none, same_Some, slice_get_cases}
 use Rattle.terrain.specs.Raster.{Terrain}
-use Rattle.terrain.specs.Neighbours.{height_at, index_of, IsDataCell, IsNeighbour, IsEdge, height_of}
+use Rattle.terrain.specs.Neighbours.{height_at, index_of, IsDataCell, IsNeighbour, IsEnd, height_of}
 use Rattle.terrain.specs.declared.place.Place.{Place}
 use Rattle.terrain.proofs.Places.{index_injective, index_below}
 use Rattle.drainage.specs.Filled.{IsPath, crest, IsFilledHeight}
@@ -108,7 +108,7 @@ level_high t c p label level l = subst (λ z. height_of t p ≤ℤ z) l.reached.
 
 -- the label is a data cell
 label_data : (t : Terrain) (c : Cutting) (p : Place) (rest : List Place) → IsTilePath t c p rest → IsDataCell t (last_of p rest)
-label_data t c p [] path = elim path [ inl rim ↦ rim.0 | inr edge ↦ edge.0 ]
+label_data t c p [] path = elim path [ inl rim ↦ rim.0 | inr end ↦ first_is_data t p [] end ]
 label_data t c p (q ∷ rest) path = label_data t c q rest path.2
 
 pub label_has_data : (t : Terrain) (c : Cutting) (p label : Place) (level : ℤ) → IsTileLevel t c p level label → IsDataCell t label
@@ -130,21 +130,21 @@ level_low t c floods h are p l rest path =
     let inner = path_in_window t (bounds_of c tile) p rest (in_bounds c tile p h (within, refl)) path in
     trans _ _ _ (l.right.least inner.0 (tile_path t c tile h (tile_of_place_below c p h within) p inner.0 (within, refl) inner.1)) inner.2
 
--- an edge cell has its own height as level, and is its own label
-pub edge_level : (t : Terrain) (c : Cutting) (p label : Place) (level : ℤ) → IsTileLevel t c p level label → IsTileSource t c p → level ≡ height_of t p
-edge_level t c p label level l source =
+-- an end cell has its own height as level, and is its own label
+pub source_level : (t : Terrain) (c : Cutting) (p label : Place) (level : ℤ) → IsTileLevel t c p level label → IsTileSource t c p → level ≡ height_of t p
+source_level t c p label level l source =
     between _ _ (l.least [] source) (level_high t c p label level l)
 
-pub edge_label : (t : Terrain) (c : Cutting) (p label : Place) (level : ℤ) → IsTileLevel t c p level label → IsEdge t p → label ≡ p
-edge_label t c p label level l edge =
-    let height = data_is (height_at t p) edge.0 in
-    l.own (inr edge) (height.1 ∙ ap Some (sym (height_is t p height.0 height.1) ∙ sym (edge_level t c p label level l (inr edge))))
+pub end_label : (t : Terrain) (c : Cutting) (p label : Place) (level : ℤ) → IsTileLevel t c p level label → IsEnd t p → label ≡ p
+end_label t c p label level l end =
+    let height = data_is (height_at t p) (first_is_data t p [] end) in
+    l.own (inr end) (height.1 ∙ ap Some (sym (height_is t p height.0 height.1) ∙ sym (source_level t c p label level l (inr end))))
 
 -- a path from a cell gives a walk from its label at no greater crest
 pub path_walk : (t : Terrain) (c : Cutting) (floods : List Flood) (g : Graph) → IsCutting c → AreFloods t c floods → IsGraphOf t c floods g → (p : Place) (l : HasTileLevel t c floods p) (rest : List Place) → IsPath t p rest → (walk : List Spill) × IsWalk (HasJoin g) (source_in g) (index_of c.cols l.label) walk × (walk_crest (source_in g) (index_of c.cols l.label) walk ≤ℤ crest t p rest)
 path_walk t c floods g h are graph p l [] path =
-    let same = edge_label t c p l.label l.level l.right path in
-    let height = data_is (height_at t p) path.0 in
+    let same = end_label t c p l.label l.level l.right path in
+    let height = data_is (height_at t p) (first_is_data t p [] path) in
     let carries : Carries c floods p (index_of c.cols p) = (p, l.label_is ∙ ap Some same, refl) in
     let source : source_in g (index_of c.cols l.label) ≡ Some height.0 = ap (λ z. source_in g (index_of c.cols z)) same ∙ graph.sources.each p height.0 carries path height.1 in
     ([], ap is_some source, le_of_same _ _ (ap (λ (o : Option ℤ). unwrap_or o (pos 0)) source ∙ sym (height_is t p height.0 height.1)))
@@ -186,9 +186,9 @@ pub walk_path : (t : Terrain) (c : Cutting) (floods : List Flood) (g : Graph) �
 walk_path t c floods g h are graph [] p within walk =
     let height = data_is (source_in g (index_of c.cols p)) walk in
     let source = graph.sources.only (index_of c.cols p) height.0 height.1 in
-    let same = index_injective c.cols source.0 p (data_within t c source.0 are.cuts source.3.0).1 within.1 source.1 in (
+    let same = index_injective c.cols source.0 p (data_within t c source.0 are.cuts (first_is_data t source.0 [] source.3)).1 within.1 source.1 in (
       [],
-      subst (IsEdge t) same source.3,
+      subst (IsEnd t) same source.3,
       le_of_same _ _ (subst (λ z. height_of t z ≡ height.0) same (height_is t source.0 height.0 source.4) ∙ sym (ap (λ (o : Option ℤ). unwrap_or o (pos 0)) height.1)),
     )
 walk_path t c floods g h are graph (step ∷ steps) p within walk =

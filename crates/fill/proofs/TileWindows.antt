@@ -1,21 +1,22 @@
 -- Floods of the net of a window: of a whole grid, of a tile, and of a tile of one cell.
-use Rattle.std.proofs.Common.{◌⊎◌, ◌≡◌, ℕ, zero, suc, ◌+◌, ◌-◌, ◌*◌, ◌<◌, ◌≤◌, inl, inr, ℤ, List, [], ◌∷◌, length, get_or, take, drop, Option, None, is_some, ◌∙◌, sym, ap, arith, length-append, length-drop, length-take-le, true, map, Some, subst, refl, ◌≤ℤ◌}
+use Rattle.std.proofs.Common.{◌⊎◌, ◌≡◌, ℕ, zero, suc, ◌+◌, ◌-◌, ◌*◌, ◌<◌, ◌≤◌, inl, inr, ℤ, Bool, List, [], ◌∷◌, length, get_or, take, drop, Option, None, is_some, ◌∙◌, sym, ap, arith, length-append, length-drop, length-take-le, true, map, Some, subst, refl, ◌≤ℤ◌}
 use Rattle.std.proofs.lemmas.Bool.{cases_eq, and_from, and_parts, or_cases, or_left, or_right, cond-true, cond-false, le-leb, lt-ltb, leb-true, ltb-true, eqb-true, eq-eqb, cases_Bool, cases_lt}
 use Rattle.std.proofs.lemmas.Nat.{mul-add-lt, div-mul-add, mod-mul-add}
 use Rattle.std.proofs.lemmas.List.{get_or_append_left, get_or-append_right, get_or-drop, get_or-take, get_or-map, length-map, get_or_past}
 use Rattle.std.proofs.lemmas.Slice.{between_is}
 use Rattle.std.specs.Prelude.{slice_range}
 use Rattle.terrain.specs.Raster.{Terrain}
-use Rattle.terrain.specs.Neighbours.{height_at, entry_at, IsDataCell, IsEdge}
+use Rattle.terrain.specs.Sinks.{with_sinks}
+use Rattle.terrain.specs.Neighbours.{height_at, entry_at, IsDataCell, IsEnd}
 use Rattle.drainage.specs.Filled.{IsPath, IsFilledHeight, IsFilled, crest}
 use Rattle.terrain.specs.declared.place.Place.{Place}
 use Rattle.terrain.proofs.Places.{gap_at_end, none_outside, entry-inside, same_place}
 use Rattle.drainage.proofs.Reach.{data_inside}
 use Rattle.tiles.specs.Cutting.{IsInBounds, Cutting, IsCutting, View, IsView, AreBounds, IsInTile, IsWithin, tile_count, bounds_of, is_on_rim, is_first_or_last, row_shown, terrain_of}
 use Rattle.fill.specs.Walk.{IsFlooded, IsWalk, end_of}
-use Rattle.fill.specs.Cells.{Cells, node_at, IsNetOf, IsCellJoin, source_of, whole, inner_rows, bordered_rows, place_of_node}
+use Rattle.fill.specs.Cells.{Cells, node_at, IsNetOf, HasSinks, IsCellJoin, source_of, whole, inner_rows, bordered_rows, place_of_node}
 use Rattle.fill.proofs.Steps.{seen, match_of, none_some}
-use Rattle.fill.proofs.Windows.{IsOnRim, IsWindowSource, IsWindowPath, IsWindowLevel, window_level, window_none, height_is}
+use Rattle.fill.proofs.Windows.{IsOnRim, IsWindowSource, IsWindowPath, IsWindowLevel, end_is_source, window_level, window_none, height_is}
 use Rattle.std.proofs.lemmas.Option.{MatchOption-at_some, MatchOption-at_none, same_Some}
 use Rattle.tiles.specs.declared.bounds.Bounds.{Bounds}
 use Rattle.tiles.proofs.Cut.{in_bounds, in_tile, bounds_inside}
@@ -64,8 +65,9 @@ inner_rows_at list cols (suc count) h r c below inside =
       move k c s = omega arith
 
 -- the rim of the whole terrain is its edge
-rim_is_edge : (t : Terrain) (p : Place) → IsInBounds (whole t) p → IsWindowSource t (whole t) p → IsEdge t p
-rim_is_edge t p inside source = (source.0, elim source.1 [ inl rim ↦ gap_at_end t.cols t.rows p (none_outside t) (at rim) | inr gap ↦ gap ]) where
+source_is_end : (t : Terrain) (p : Place) → IsInBounds (whole t) p → IsWindowSource t (whole t) p → IsEnd t p
+source_is_end t p inside (inr sink) = inr sink
+source_is_end t p inside (inl source) = inl (source.0, elim source.1 [ inl rim ↦ gap_at_end t.cols t.rows p (none_outside t) (at rim) | inr gap ↦ gap ]) where
   at : IsOnRim (whole t) p → (p.row ≡ 0) ⊎ (p.row + 1 ≡ t.rows) ⊎ (p.col ≡ 0) ⊎ (p.col + 1 ≡ t.cols)
   at (inl e) = inl e
   at (inr (inl e)) = inr (inl (omega arith))
@@ -77,11 +79,11 @@ data_in_window t p some = let inside = data_inside t p some in (omega arith, ome
 
 -- a path of the terrain is a path in the window that is the whole of it
 whole_path : (t : Terrain) (p : Place) (rest : List Place) → IsPath t p rest → IsWindowPath t (whole t) p rest
-whole_path t p [] path = (path.0, inr path.1)
+whole_path t p [] path = end_is_source t (whole t) p path
 whole_path t p (q ∷ rest) path = (path.0, data_in_window t q path.0.to_data, whole_path t q rest path.1)
 
 back_path : (t : Terrain) (p : Place) (rest : List Place) → IsInBounds (whole t) p → IsWindowPath t (whole t) p rest → IsPath t p rest
-back_path t p [] inside path = rim_is_edge t p inside path
+back_path t p [] inside path = source_is_end t p inside path
 back_path t p (q ∷ rest) inside path = (path.0, back_path t q rest path.1 path.2)
 
 whole_level : (t : Terrain) (p label : Place) (level : ℤ) → IsInBounds (whole t) p → IsWindowLevel t (whole t) p level label → IsFilledHeight t p level
@@ -153,8 +155,8 @@ row_shown_cells v is r c below inside =
     get_or-row_shown v r c None inside
     ∙ sym (entry-inside v.cutting.cols v.cutting.rows v.cells (record { row = b.top + r; col = b.left + c }) (omega (arith, below, all.rows_inside)) (omega (arith, inside, all.cols_inside)))
 
-pub net_of_view : (v : View (Option ℤ)) (b : Bounds) (items : List (Option ℤ)) → IsView v → b ≡ bounds_of v.cutting v.tile → items ≡ bordered_rows (row_shown v) ((bounds_of v.cutting v.tile).cols + 2) (bounds_of v.cutting v.tile).rows → IsNetOf (terrain_of v) (bounds_of v.cutting v.tile) (record { stride = b.cols + 2; cells = items })
-net_of_view v b items is same are = rw (same, are) (net_of_rows (terrain_of v) (bounds_of v.cutting v.tile) (row_shown v) (row_shown_length v is) (row_shown_cells v is))
+pub net_of_view : (v : View (Option ℤ)) (b : Bounds) (items : List (Option ℤ)) (places : List Place) (sinks : List Bool) → IsView v → b ≡ bounds_of v.cutting v.tile → items ≡ bordered_rows (row_shown v) ((bounds_of v.cutting v.tile).cols + 2) (bounds_of v.cutting v.tile).rows → HasSinks b places sinks → IsNetOf (with_sinks (terrain_of v) places) (bounds_of v.cutting v.tile) (record { stride = b.cols + 2; cells = items; sinks = sinks })
+net_of_view v b items places sinks is same are has = rw (same, are) (net_of_rows (with_sinks (terrain_of v) places) (bounds_of v.cutting v.tile) (row_shown v) (row_shown_length v is) (row_shown_cells v is) sinks (subst (λ w. HasSinks w places sinks) same has))
 
 -- sources and paths of a tile
 pub rim_of_tile : (c : Cutting) (tile : ℕ) (p : Place) → IsInTile c tile p → IsOnRim (bounds_of c tile) p → is_on_rim c p ≡ true
@@ -183,11 +185,12 @@ rim_of_window c tile p i e = at (subst (λ n. is_first_or_last (bounds_of c n) p
   ]
 
 tile_source : (t : Terrain) (c : Cutting) (tile : ℕ) (p : Place) → IsInTile c tile p → IsWindowSource t (bounds_of c tile) p → IsTileSource t c p
-tile_source t c tile p i source = elim source.1 [ inl rim ↦ inl (source.0, rim_of_tile c tile p i rim) | inr gap ↦ inr (source.0, gap) ]
+tile_source t c tile p i (inl source) = elim source.1 [ inl rim ↦ inl (source.0, rim_of_tile c tile p i rim) | inr gap ↦ inr (inl (source.0, gap)) ]
+tile_source t c tile p i (inr sink) = inr (inr sink)
 
 window_source : (t : Terrain) (c : Cutting) (tile : ℕ) (p : Place) → IsInTile c tile p → IsTileSource t c p → IsWindowSource t (bounds_of c tile) p
-window_source t c tile p i (inl rim) = (rim.0, inl (rim_of_window c tile p i rim.1))
-window_source t c tile p i (inr edge) = (edge.0, inr edge.1)
+window_source t c tile p i (inl rim) = inl (rim.0, inl (rim_of_window c tile p i rim.1))
+window_source t c tile p i (inr end) = end_is_source t (bounds_of c tile) p end
 
 pub data_within : (t : Terrain) (c : Cutting) (p : Place) → (c.cols ≡ t.cols) × (c.rows ≡ t.rows) → IsDataCell t p → IsWithin c p
 data_within t c p cuts some =
@@ -340,11 +343,11 @@ cell_flooded t c tile level h l one_row one_col is = record {
       let row : p.row - b.top ≡ 0 = omega (arith, inside, one_row) in
       ap (λ n. n * b.cols + (p.col - b.left)) row ∙ omega (arith, inside, one_col)
 
-pub view_flooded : (v : View (Option ℤ)) (b : Bounds) (row : List (Option ℤ)) → IsView v → b ≡ bounds_of v.cutting v.tile → ShowsOneCell v → row ≡ row_shown v 0 → IsTileFlood (terrain_of v) v.cutting v.tile (CellFlood b (get_or row 0 None))
-view_flooded v b row is same cell shown =
+pub view_flooded : (v : View (Option ℤ)) (b : Bounds) (row : List (Option ℤ)) (sinks : List Place) → IsView v → b ≡ bounds_of v.cutting v.tile → ShowsOneCell v → row ≡ row_shown v 0 → IsTileFlood (with_sinks (terrain_of v) sinks) v.cutting v.tile (CellFlood b (get_or row 0 None))
+view_flooded v b row sinks is same cell shown =
     let all = bounds_inside v.cutting v.tile is.cutting is.tile in
     let w = bounds_of v.cutting v.tile in
-    rw (same, shown) (cell_flooded (terrain_of v) v.cutting v.tile _ is.cutting is.tile cell.0 cell.1 (
+    rw (same, shown) (cell_flooded (with_sinks (terrain_of v) sinks) v.cutting v.tile _ is.cutting is.tile cell.0 cell.1 (
     entry-inside v.cutting.cols v.cutting.rows v.cells (record { row = w.top; col = w.left }) (omega (arith, all)) (omega (arith, all))
     ∙ ap (λ k. get_or v.cells k None) (omega arith)
     ∙ sym (get_or-row_shown v 0 0 None (omega (arith, cell.1)))

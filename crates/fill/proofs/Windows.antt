@@ -1,6 +1,6 @@
 -- Windows of a terrain: the numbers of their cells in a net, their paths, and what a flood of the net gives.
 use Rattle.std.proofs.lemmas.Option.{MatchOption-at_some, MatchOption-at_none}
-use Rattle.std.proofs.Common.{◌≡◌, ◌≢◌, ℕ, zero, suc, ◌+◌, ◌-◌, ◌*◌, ◌<◌, ◌≤◌, ◌⊎◌, inl, inr, ℤ, pos, ◌≤ℤ◌, Bool, true, List, [], ◌∷◌, length, get_or, Option, None, Some, IsSome, is_some, is_none, unwrap_or, ◌∙◌, sym, ap, subst, refl, arith}
+use Rattle.std.proofs.Common.{◌≡◌, ◌≢◌, ℕ, zero, suc, ◌+◌, ◌-◌, ◌*◌, ◌<◌, ◌≤◌, ◌⊎◌, inl, inr, ℤ, pos, ◌≤ℤ◌, Bool, true, ◌||◌, List, [], ◌∷◌, length, get_or, Option, None, Some, IsSome, is_some, is_none, unwrap_or, ◌∙◌, sym, ap, subst, refl, arith}
 use Rattle.std.specs.Int.{int_max}
 use Rattle.std.specs.Int.Signed.{≤ℤ_refl}
 use Rattle.std.specs.List.{Contains, list_any}
@@ -9,7 +9,7 @@ use Rattle.std.proofs.lemmas.Bool.{cases_eq, cases_order, or_cases, or_left, or_
 use Rattle.std.proofs.lemmas.Nat.{same_from_place}
 use Rattle.std.proofs.lemmas.List.Elements.{All-contains}
 use Rattle.terrain.specs.Raster.{Terrain}
-use Rattle.terrain.specs.Neighbours.{height_at, IsDataCell, Touches, IsNeighbour, HasGapAround, height_of}
+use Rattle.terrain.specs.Neighbours.{height_at, IsDataCell, Touches, IsNeighbour, HasGapAround, IsEnd, IsSink, height_of}
 use Rattle.terrain.specs.declared.place.Place.{Place}
 use Rattle.terrain.proofs.Places.{same_place}
 use Rattle.drainage.specs.Filled.{IsPath, crest}
@@ -19,7 +19,7 @@ use Rattle.tiles.specs.declared.bounds.Bounds.{Bounds}
 use Rattle.tiles.specs.Cutting.{IsInBounds}
 use Rattle.fill.specs.declared.net.Spill.{Spill}
 use Rattle.fill.specs.Walk.{IsWalk, crest as walk_crest, end_of, IsFlooded}
-use Rattle.fill.specs.Cells.{Cells, cell_of, node_at, IsNetOf, IsAfter, IsBeside, IsCellJoin, cells_around, has_gap_around, source_of}
+use Rattle.fill.specs.Cells.{Cells, cell_of, node_at, IsNetOf, IsAfter, IsBeside, IsCellJoin, cells_around, has_gap_around, is_sink, source_of}
 use Rattle.fill.specs.CellJoins.{some_inside}
 use Rattle.fill.specs.TileFlood.{last_of}
 use Rattle.fill.proofs.Steps.{seen, none_some, none_done}
@@ -32,8 +32,16 @@ abbrev pub IsOnRim : Bounds → Place → Type 0
 IsOnRim w p = (p.row ≡ w.top) ⊎ (p.row + 1 ≡ w.top + w.rows) ⊎ (p.col ≡ w.left) ⊎ (p.col + 1 ≡ w.left + w.cols)
 
 -- A data cell on the rim of the window, or one with a gap around it.
+abbrev pub IsGapSource : Terrain → Bounds → Place → Type 0
+IsGapSource t w p = IsDataCell t p × (IsOnRim w p ⊎ HasGapAround t p)
+
+-- Such a cell, or a sink.
 abbrev pub IsWindowSource : Terrain → Bounds → Place → Type 0
-IsWindowSource t w p = IsDataCell t p × (IsOnRim w p ⊎ HasGapAround t p)
+IsWindowSource t w p = IsGapSource t w p ⊎ IsSink t p
+
+pub end_is_source : (t : Terrain) (w : Bounds) (p : Place) → IsEnd t p → IsWindowSource t w p
+end_is_source t w p (inl edge) = inl (edge.0, inr edge.1)
+end_is_source t w p (inr sink) = inr sink
 
 -- A path that stays in the window and ends at a source of it.
 abbrev pub IsWindowPath : Terrain → Bounds → Place → List Place → Type 0
@@ -127,7 +135,7 @@ any_found p (x ∷ xs) e = elim (or_cases (p x) (list_any p xs) e) [
   | inr later ↦ let y = any_found p xs later in (y.0, cons_tail x xs y.0 y.1, y.2)
 ]
 
-any_from : {X : Type 0} (p : X → Bool) (xs : List X) (x : X) → Contains xs x → p x ≡ true → list_any p xs ≡ true
+pub any_from : {X : Type 0} (p : X → Bool) (xs : List X) (x : X) → Contains xs x → p x ≡ true → list_any p xs ≡ true
 any_from p [] x h e = absurd (omega (arith, h.1))
 any_from p (y ∷ ys) x h e = elim (cons_cases y ys x h) [
   | inl same ↦ or_left (p y) (list_any p ys) (ap p (sym same) ∙ e)
@@ -186,7 +194,7 @@ border_none t w n net r c narrow outside = elim (seen (cell_of n (r * (w.cols + 
 ]
 
 -- a gap beside a cell of the window makes it a source of the window
-pub gap_is_source : (t : Terrain) (w : Bounds) (n : Cells) → IsNetOf t w n → (p : Place) → IsInBounds w p → IsDataCell t p → (b : ℕ) → IsBeside (w.cols + 2) (node_at w p) b → cell_of n b ≡ None → IsWindowSource t w p
+pub gap_is_source : (t : Terrain) (w : Bounds) (n : Cells) → IsNetOf t w n → (p : Place) → IsInBounds w p → IsDataCell t p → (b : ℕ) → IsBeside (w.cols + 2) (node_at w p) b → cell_of n b ≡ None → IsGapSource t w p
 gap_is_source t w n net p a some b beside none = (
   some,
   elim (cases_rim w p a) [
@@ -201,7 +209,7 @@ gap_is_source t w n net p a some b beside none = (
   ],
 )
 
--- a source of the window has a gap beside it
+-- such a source of the window has a gap beside it
 rim_gap : (t : Terrain) (w : Bounds) (n : Cells) → IsNetOf t w n → (p : Place) → IsInBounds w p → IsOnRim w p → (b : ℕ) × IsBeside (w.cols + 2) (node_at w p) b × (cell_of n b ≡ None)
 rim_gap t w n net p a (inl e) =
     let first : row_in w p ≡ 1 = omega (arith, e, a) in
@@ -213,7 +221,7 @@ rim_gap t w n net p a (inr (inr (inl e))) =
 rim_gap t w n net p a (inr (inr (inr e))) =
     (row_in w p * (w.cols + 2) + (col_in w p + 1), inl (inl (omega arith)), border_none t w n net (row_in w p) (col_in w p + 1) (omega (arith, a)) (λ _ _ _ low. omega (arith, e, a)))
 
-pub source_gap : (t : Terrain) (w : Bounds) (n : Cells) → IsNetOf t w n → (p : Place) → IsInBounds w p → IsWindowSource t w p → (b : ℕ) × IsBeside (w.cols + 2) (node_at w p) b × (cell_of n b ≡ None)
+pub source_gap : (t : Terrain) (w : Bounds) (n : Cells) → IsNetOf t w n → (p : Place) → IsInBounds w p → IsGapSource t w p → (b : ℕ) × IsBeside (w.cols + 2) (node_at w p) b × (cell_of n b ≡ None)
 source_gap t w n net p a source = elim source.1 [
   | inl rim ↦ rim_gap t w n net p a rim
   | inr gap ↦ elim gap [
@@ -232,26 +240,32 @@ source_gap t w n net p a source = elim source.1 [
 
 -- sources of the net are sources of the window
 pub source_there : (t : Terrain) (w : Bounds) (n : Cells) → IsNetOf t w n → (p : Place) → IsInBounds w p → IsWindowSource t w p → source_of n (node_at w p) ≡ height_at t p
-source_there t w n net p a source =
+source_there t w n net p a (inr sink) = cond-true _ _ _ (or_right (has_gap_around n (node_at w p)) _ ((net.sinks p a).1 sink.1)) ∙ net.inside p a
+source_there t w n net p a (inl source) =
     let gap = source_gap t w n net p a source in
     let beside = subst (λ s. IsBeside s (node_at w p) gap.0) (sym net.stride) gap.1 in
     let above : n.stride < node_at w p = subst (λ s. s < node_at w p) (sym net.stride) (above_row w p) in
     let found = any_from (λ b. is_none (cell_of n b)) (cells_around n.stride (node_at w p)) gap.0 (beside_around n.stride (node_at w p) gap.0 above beside) (ap is_none gap.2) in
-    cond-true _ _ _ found ∙ net.inside p a
+    cond-true _ _ _ (or_left _ (is_sink n.sinks (node_at w p)) found) ∙ net.inside p a
 
 pub source_back : (t : Terrain) (w : Bounds) (n : Cells) → IsNetOf t w n → (p : Place) → IsInBounds w p → (h : ℤ) → source_of n (node_at w p) ≡ Some h → IsWindowSource t w p × (height_at t p ≡ Some h)
-source_back t w n net p a h e = elim (cases_Bool (has_gap_around n (node_at w p))) [
-  | inl gap ↦
-      let found = any_found (λ b. is_none (cell_of n b)) (cells_around n.stride (node_at w p)) gap in
-      let above : n.stride < node_at w p = subst (λ s. s < node_at w p) (sym net.stride) (above_row w p) in
-      let beside = All-contains (IsBeside n.stride (node_at w p)) (cells_around n.stride (node_at w p)) found.0 (all_beside n.stride (node_at w p) above) found.1 in
-      let height : height_at t p ≡ Some h = sym (net.inside p a) ∙ sym (cond-true _ _ _ gap) ∙ e in
-      (gap_is_source t w n net p a (ap is_some height) found.0 (subst (λ s. IsBeside s (node_at w p) found.0) net.stride beside) (none_is _ found.2), height)
-  | inr no_gap ↦ none_some _ h (cond-false _ _ _ no_gap) e
+source_back t w n net p a h e = elim (cases_Bool (has_gap_around n (node_at w p) || is_sink n.sinks (node_at w p))) [
+  | inl either ↦
+      let height : height_at t p ≡ Some h = sym (net.inside p a) ∙ sym (cond-true _ _ _ either) ∙ e in
+      elim (or_cases (has_gap_around n (node_at w p)) (is_sink n.sinks (node_at w p)) either) [
+        | inl gap ↦
+            let found = any_found (λ b. is_none (cell_of n b)) (cells_around n.stride (node_at w p)) gap in
+            let above : n.stride < node_at w p = subst (λ s. s < node_at w p) (sym net.stride) (above_row w p) in
+            let beside = All-contains (IsBeside n.stride (node_at w p)) (cells_around n.stride (node_at w p)) found.0 (all_beside n.stride (node_at w p) above) found.1 in
+            (inl (gap_is_source t w n net p a (ap is_some height) found.0 (subst (λ s. IsBeside s (node_at w p) found.0) net.stride beside) (none_is _ found.2)), height)
+        | inr sink ↦ (inr (ap is_some height, (net.sinks p a).0 sink), height)
+      ]
+  | inr neither ↦ none_some _ h (cond-false _ _ _ neither) e
 ]
 
 pub path_data : (t : Terrain) (w : Bounds) (p : Place) (rest : List Place) → IsWindowPath t w p rest → IsDataCell t p
-path_data t w p [] path = path.0
+path_data t w p [] (inl source) = source.0
+path_data t w p [] (inr sink) = sink.0
 path_data t w p (q ∷ rest) path = path.0.from_data
 
 pub path_end : (t : Terrain) (w : Bounds) (p : Place) (rest : List Place) → IsInBounds w p → IsWindowPath t w p rest → IsInBounds w (last_of p rest)
@@ -268,7 +282,7 @@ joined_crest h k c low = omega (arith, ints, clamps)
 pub walk_of : (t : Terrain) (w : Bounds) (n : Cells) → IsNetOf t w n → (p : Place) (rest : List Place) → IsInBounds w p → IsWindowPath t w p rest → (walk : List Spill) × IsWalk (IsCellJoin n) (source_of n) (node_at w p) walk × (walk_crest (source_of n) (node_at w p) walk ≡ crest t p rest) × (end_of (node_at w p) walk ≡ node_at w (last_of p rest))
 walk_of t w n net p [] inside path =
     let there = source_there t w n net p inside path in
-    ([], ap is_some there ∙ path.0, ap (λ (o : Option ℤ). unwrap_or o (pos 0)) there, refl)
+    ([], ap is_some there ∙ path_data t w p [] path, ap (λ (o : Option ℤ). unwrap_or o (pos 0)) there, refl)
 walk_of t w n net p (q ∷ rest) inside path =
     let further = walk_of t w n net q rest path.1 path.2 in
     let from = data_is (height_at t p) path.0.from_data in
@@ -311,11 +325,11 @@ path_of t w n net (step ∷ steps) p inside walk =
       ap (λ a. end_of a steps) (sym q.2) ∙ further.3,
     )
 
--- a path to the edge goes through the window at no greater crest
+-- a path to an end cell goes through the window at no greater crest
 pub path_in_window : (t : Terrain) (w : Bounds) (p : Place) (rest : List Place) → IsInBounds w p → IsPath t p rest → (inner : List Place) × IsWindowPath t w p inner × (crest t p inner ≤ℤ crest t p rest)
-path_in_window t w p [] inside path = ([], (path.0, inr path.1), ≤ℤ_refl _)
+path_in_window t w p [] inside path = ([], end_is_source t w p path, ≤ℤ_refl _)
 path_in_window t w p (q ∷ rest) inside path = elim (beyond w p q inside path.0.touches) [
-  | inl rim ↦ ([], (path.0.from_data, inl rim), max_left (height_of t p) (crest t q rest))
+  | inl rim ↦ ([], inl (path.0.from_data, inl rim), max_left (height_of t p) (crest t q rest))
   | inr there ↦
       let further = path_in_window t w q rest there path.1 in
       (q ∷ further.0, (path.0, there, further.1), max_least _ _ _ (max_left (height_of t p) (crest t q rest)) (trans _ _ _ further.2 (max_right (height_of t p) (crest t q rest))))

@@ -1,6 +1,6 @@
 -- A rectangle of cells as a net: its data cells are joined to those beside them.
-use Rattle.std.specs.Prelude.{◌≡◌, ℕ, zero, suc, ◌+◌, ◌-◌, ◌*◌, ◌/◌, ◌%◌, ◌<◌, ◌≤◌, ◌⊎◌, ℤ, Bool, List, [], ◌∷◌, ◌++◌, length, replicate, Option, None, Some, IsSome, is_none, if◌then◌else◌, slice_index_or, slice_range}
-use Rattle.std.specs.List.{list_any}
+use Rattle.std.specs.Prelude.{◌≡◌, ℕ, zero, suc, ◌+◌, ◌-◌, ◌*◌, ◌/◌, ◌%◌, ◌<◌, ◌≤◌, ◌⊎◌, ◌↔◌, ◌||◌, ℤ, Bool, true, false, List, [], ◌∷◌, ◌++◌, length, replicate, Option, None, Some, IsSome, is_none, if◌then◌else◌, slice_index_or, slice_range}
+use Rattle.std.specs.List.{list_any, Contains}
 use Rattle.std.specs.Int.{int_max}
 use Rattle.terrain.specs.Raster.{Terrain}
 use Rattle.terrain.specs.Neighbours.{height_at}
@@ -10,10 +10,12 @@ use Rattle.tiles.specs.Cutting.{IsInBounds}
 use Rattle.fill.specs.declared.net.Spill.{Spill}
 
 -- The cells of a rectangle in row order, with a border of cells without data around them. A row has
--- stride cells, its two border cells among them. A node's number is its cell's place in the list.
+-- stride cells, its two border cells among them. A node's number is its cell's place in the list. The sinks say
+-- of each node whether it is one, or are an empty list where none is.
 pub record Cells : Type 0 where
   pub stride : ℕ
   pub cells : List (Option ℤ)
+  pub sinks : List Bool
 
 abbrev pub cell_of : Cells → ℕ → Option ℤ
 cell_of n a = slice_index_or n.cells a None
@@ -43,9 +45,12 @@ cells_around stride a =
 abbrev pub has_gap_around : Cells → ℕ → Bool
 has_gap_around n a = list_any (λ b. is_none (cell_of n b)) (cells_around n.stride a)
 
--- A data cell with a gap around it is a source, at its height.
+abbrev pub is_sink : List Bool → ℕ → Bool
+is_sink sinks a = slice_index_or sinks a false
+
+-- A data cell that has a gap around it or is a sink is a source, at its height.
 abbrev pub source_of : Cells → ℕ → Option ℤ
-source_of n a = if has_gap_around n a then cell_of n a else None
+source_of n a = if has_gap_around n a || is_sink n.sinks a then cell_of n a else None
 
 -- What holds of every such list.
 pub record IsBordered (n : Cells) : Type 0 where
@@ -64,12 +69,17 @@ way_to cells height b = elim (slice_index_or cells b None) [
 abbrev pub node_at : Bounds → Place → ℕ
 node_at w p = (p.row - w.top + 1) * (w.cols + 2) + (p.col - w.left + 1)
 
--- The net has the cells of this window of the terrain.
+-- Of the nodes of the window those are sinks that are among these places.
+abbrev pub HasSinks : Bounds → List Place → List Bool → Type 0
+HasSinks w places sinks = (p : Place) → IsInBounds w p → (is_sink sinks (node_at w p) ≡ true) ↔ Contains places p
+
+-- The net has the cells and the sinks of this window of the terrain.
 pub record IsNetOf (t : Terrain) (w : Bounds) (n : Cells) : Type 0 where
   pub stride : n.stride ≡ w.cols + 2
   pub inside : (p : Place) → IsInBounds w p → cell_of n (node_at w p) ≡ height_at t p
   pub only : (a : ℕ) → IsSome (cell_of n a) → (p : Place) × IsInBounds w p × (node_at w p ≡ a)
   pub size : length n.cells ≡ (w.rows + 2) * (w.cols + 2)
+  pub sinks : HasSinks w t.sinks n.sinks
 
 -- The whole terrain.
 abbrev pub whole : Terrain → Bounds

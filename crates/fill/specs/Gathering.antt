@@ -152,6 +152,20 @@ pub record PutsSources (sources : List Source) (old new : List (Option ℤ)) : T
   pub only : (k : ℕ) (h : ℤ) → slice_index_or new k None ≡ Some h → (slice_index_or old k None ≡ Some h) ⊎ Contains sources (record { node = k; height = h })
   pub every : (s : Source) → Contains sources s → IsSome (slice_index_or new s.node None)
 
+-- A sink has this number, and this level in its tile.
+pub record IsSinkNode (c : Cutting) (floods : List Flood) (sinks : List Place) (node : ℕ) (level : Option ℤ) : Type 0 where
+  pub place : Place
+  pub named : Contains sinks place
+  pub number : index_of c.cols place ≡ node
+  pub has : IsSome (mark_among c floods place)
+  pub is : level ≡ level_among c floods place
+
+-- The levels of the sinks have been put at their nodes.
+pub record PutsSinks (c : Cutting) (floods : List Flood) (sinks : List Place) (old new : List (Option ℤ)) : Type 0 where
+  pub size : length new ≡ length old
+  pub only : (k : ℕ) → (slice_index_or new k None ≡ slice_index_or old k None) ⊎ IsSinkNode c floods sinks k (slice_index_or new k None)
+  pub every : (p : Place) → Contains sinks p → IsSome (mark_among c floods p) → slice_index_or new (index_of c.cols p) None ≡ level_among c floods p
+
 -- The way from the first label of a join.
 abbrev pub way_of : Join → Spill
 way_of j = record { to = j.to; height = j.height }

@@ -1,10 +1,9 @@
 -- The spill graph: how the labels of all tiles are joined, and the levels that it gives them.
-use Rattle.std.specs.Prelude.{◌≡◌, ◌≢◌, ℕ, ◌*◌, ◌<◌, true, ℤ, ◌≤ℤ◌, List, length, Option, None, Some, MatchOption, Vec, slice_get, slice_index_or, option_and_then}
-use Rattle.std.specs.declared.alloc.Global.{Global}
+use Rattle.std.specs.Prelude.{◌≡◌, ◌≢◌, ℕ, ◌*◌, ◌<◌, true, ℤ, ◌≤ℤ◌, List, length, Option, None, Some, MatchOption, slice_get, slice_index_or, option_and_then}
 use Rattle.std.specs.Int.{int_max}
 use Rattle.std.specs.List.{Contains}
 use Rattle.terrain.specs.Raster.{Terrain}
-use Rattle.terrain.specs.Neighbours.{height_at, index_of, IsDataCell, IsNeighbour, IsEdge}
+use Rattle.terrain.specs.Neighbours.{height_at, index_of, IsDataCell, IsNeighbour, IsEnd}
 use Rattle.drainage.specs.Filled.{IsFilledHeight}
 use Rattle.terrain.specs.declared.place.Place.{Place}
 use Rattle.tiles.specs.Cutting.{Cutting, IsCutting, IsWithin, Cuts, tile_count, tile_of_place, is_on_rim, IsInTile, tile_entry, cell_count}
@@ -64,11 +63,11 @@ pub record HasJoin (g : Graph) (a b : ℕ) (height : ℤ) : Type 0 where
 abbrev pub source_in : Graph → ℕ → Option ℤ
 source_in g a = slice_index_or g.sources a None
 
--- A label that is an edge cell is a source, at its height.
+-- A label that is an end cell is a source, at its height.
 pub record AreSpillSources (t : Terrain) (c : Cutting) (floods : List Flood) (g : Graph) : Type 0 where
-  pub each : (p : Place) (h : ℤ) → Carries c floods p (index_of c.cols p) → IsEdge t p → height_at t p ≡ Some h → source_in g (index_of c.cols p) ≡ Some h
+  pub each : (p : Place) (h : ℤ) → Carries c floods p (index_of c.cols p) → IsEnd t p → height_at t p ≡ Some h → source_in g (index_of c.cols p) ≡ Some h
   pub only : (a : ℕ) (h : ℤ) → source_in g a ≡ Some h →
-      (p : Place) × (index_of c.cols p ≡ a) × Carries c floods p a × IsEdge t p × (height_at t p ≡ Some h)
+      (p : Place) × (index_of c.cols p ≡ a) × Carries c floods p a × IsEnd t p × (height_at t p ≡ Some h)
 
 -- The graph of these floods: its nodes, joins and sources. A node's number is its label's place in row order.
 pub record IsGraphOf (t : Terrain) (c : Cutting) (floods : List Flood) (g : Graph) : Type 0 where

@@ -2,16 +2,16 @@
 use Rattle.std.specs.Prelude.{◌≡◌, ℕ, ◌+◌, ◌-◌, ◌*◌, ◌≤◌, ◌<◌, ◌⊎◌, ℤ, ◌≤ℤ◌, Bool, ◌&&◌, nat_le, nat_lt, if◌then◌else◌, List, [], ◌∷◌, length, Option, None, Some, IsTrue, MatchOption, slice_index_or}
 use Rattle.std.specs.List.{All}
 use Rattle.terrain.specs.Raster.{Terrain}
-use Rattle.terrain.specs.Neighbours.{height_at, IsDataCell, IsNeighbour, IsEdge, Touches}
+use Rattle.terrain.specs.Neighbours.{height_at, IsDataCell, IsNeighbour, IsEnd, Touches}
 use Rattle.drainage.specs.Filled.{crest}
 use Rattle.terrain.specs.declared.place.Place.{Place}
 use Rattle.tiles.specs.declared.bounds.Bounds.{Bounds}
 use Rattle.fill.specs.Cells.{cells_around}
 use Rattle.tiles.specs.Cutting.{Cutting, IsWithin, tile_of_place, bounds_of, is_on_rim, IsInBounds, IsInTile, cell_count}
 
--- A data cell on the rim of its tile, or an edge cell.
+-- A data cell on the rim of its tile, or an end cell.
 abbrev pub IsTileSource : Terrain → Cutting → Place → Type 0
-IsTileSource t c p = (IsDataCell t p × IsTrue (is_on_rim c p)) ⊎ IsEdge t p
+IsTileSource t c p = (IsDataCell t p × IsTrue (is_on_rim c p)) ⊎ IsEnd t p
 
 -- A path that stays in one tile and ends at a source of it.
 abbrev pub IsTilePath : Terrain → Cutting → Place → List Place → Type 0

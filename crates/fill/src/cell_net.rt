@@ -1,24 +1,27 @@
 // A rectangle of cells as a net.
 ghost use Rattle.std.specs.Prelude.{◌≡◌, None, ◌+◌, ◌-◌, ◌*◌, ◌^◌, ◌<◌, ◌≤◌, ◌∷◌, ◌++◌, [], ℕ, ℤ, length, All, IfOk, IfSome, OnOk, is_none, slice_index_or, replicate};
 ghost use Rattle.std.specs.List.{list_any, filter_map};
+ghost use Rattle.terrain.specs.Sinks.{with_sinks};
 ghost use Rattle.fill.specs.Cells.{Cells, cells_around, way_to, whole, IsNetOf, IsCellJoin, source_of, bordered_rows, inner_rows, row_of};
 ghost use Rattle.tiles.specs.Cutting.{bounds_of, row_shown, terrain_of};
 
 use crate::flooding::empty_list;
 use crate::net::{Net, Spill};
+use crate::sinks::{is_sink, window_sinks};
 use smallvec::SmallVec;
 use std::alloc::{AllocError, Global};
 use std::marker::Model;
-use terrain::{Grid, Height, NoMemory};
+use terrain::{Grid, Height, NoMemory, Place};
 use tiles::{Bounds, TileView};
 
 /// The cells of a rectangle with a border of cells without data around them, so that each cell of
 /// the rectangle has eight around it. Data cells beside each other are joined at the greater of
-/// their heights, and a data cell with a gap around it is a source.
+/// their heights, and a data cell that has a gap around it or is a sink is a source.
 #[derive(Drop)]
 pub struct CellNet {
     stride: u32,
     cells: Vec<Option<Height>>,
+    sinks: Vec<bool>,
 }
 
 impl Model for CellNet {
@@ -26,9 +29,9 @@ impl Model for CellNet {
 
     ghost Value = { Cells };
 
-    ghost view = { λ n. record { stride = n.stride; cells = n.cells.items } };
+    ghost view = { λ n. record { stride = n.stride; cells = n.cells.items; sinks = n.sinks.items } };
 
-    ghost invariant = { λ n. IsBordered (record { stride = n.stride; cells = n.cells.items }) };
+    ghost invariant = { λ n. IsBordered (record { stride = n.stride; cells = n.cells.items; sinks = n.sinks.items }) };
 }
 
 /// The eight cells around one that is not on the border.
@@ -160,7 +163,7 @@ impl Net for CellNet {
     #[inline]
     fn source(&self, node: u32) -> Option<Height> {
         let height = self.cells[node as usize]?;
-        if any_gap(&self.cells, &around(self.stride, node)) {
+        if any_gap(&self.cells, &around(self.stride, node)) || is_sink(&self.sinks, node) {
             Some(height)
         } else {
             None
@@ -238,22 +241,36 @@ impl CellNet {
     pub fn of_grid(alloc: Global, grid: &Grid) -> Result<CellNet, NoMemory>
         ensures { IfOk result (IsNetOf grid.now.terrain (whole grid.now.terrain)) }
     {
-        let cols = grid.cols();
-        let cells = bordered(alloc, grid.cells(), cols, grid.rows())?;
+        let bounds = Bounds {
+            top: 0,
+            left: 0,
+            rows: grid.rows(),
+            cols: grid.cols(),
+        };
+        let cells = bordered(alloc, grid.cells(), bounds.cols, bounds.rows)?;
+        let sinks = window_sinks(alloc, bounds, grid.sinks())?;
         Ok(CellNet {
-            stride: cols + 2,
+            stride: bounds.cols + 2,
             cells,
+            sinks,
         })
     }
 
-    /// A tile as a net of its own.
-    pub fn of_view(alloc: Global, view: &TileView<'_, Option<Height>>) -> Result<CellNet, NoMemory>
-        ensures { IfOk result (IsNetOf (terrain_of view.now) (bounds_of view.now.cutting view.now.tile)) }
+    /// A tile as a net of its own, with those of these sinks that lie in it.
+    pub fn of_view(
+        alloc: Global,
+        view: &TileView<'_, Option<Height>>,
+        sinks: &[Place],
+    ) -> Result<CellNet, NoMemory>
+        ensures { IfOk result (IsNetOf (with_sinks (terrain_of view.now) sinks.now) (bounds_of view.now.cutting view.now.tile)) }
     {
+        let bounds = view.bounds();
         let cells = bordered_tile(alloc, view)?;
+        let sinks = window_sinks(alloc, bounds, sinks)?;
         Ok(CellNet {
-            stride: view.bounds().cols + 2,
+            stride: bounds.cols + 2,
             cells,
+            sinks,
         })
     }
 }

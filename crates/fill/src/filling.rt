@@ -1,11 +1,9 @@
 // The filled heights of a grid, by tiles and workers.
-ghost use Rattle.std.specs.Prelude.{◌≡◌, ◌*◌, ◌<◌, ◌≤◌, length, List, IfOk, IfErr, IsTrue, ◌↔◌};
+ghost use Rattle.std.specs.Prelude.{◌≡◌, ◌*◌, ◌<◌, ◌≤◌, length, IfOk, IsTrue, ◌↔◌};
 ghost use Rattle.drainage.specs.Filled.{IsFilledGrid};
 ghost use Rattle.tiles.specs.Cutting.{Cuts, IsCutting};
-ghost use Rattle.terrain.specs.Raster.{Terrain};
 ghost use Rattle.fill.specs.Spills.{AreFloods, RaisesToFilled, HasNoInnerCell};
 ghost use Rattle.tile_jobs.specs.Fault.{RefusesWorkers};
-ghost use Rattle.fill.specs.TileFlood.{Flood};
 ghost use Rattle.fill.specs.Gathering.{Fit};
 ghost use Rattle.fill.specs.Parts.{AreParts};
 
@@ -43,7 +41,7 @@ impl<'a> Work for FloodTiles<'a> {
 
     fn run(&self, alloc: Global, job: u32) -> Result<TileFlood, JobFault> {
         let view = self.tiling.view(self.grid.cells(), job);
-        let Ok(flood) = tile_flood(alloc, &view) else {
+        let Ok(flood) = tile_flood(alloc, &view, self.grid.sinks()) else {
             return Err(JobFault::Memory);
         };
         Ok(flood)
@@ -108,19 +106,18 @@ impl<'a> TileMap for Raised<'a> {
 /// The levels of the spill graph of these parts.
 fn spill_levels(
     alloc: Global,
+    grid: &Grid,
     tiling: &Tiling,
+    floods: &[TileFlood],
     parts: Vec<Part>,
-) -> Result<Vec<Option<Height>>, JobFault>
-    requires { (t : Terrain) × (floods : List Flood) × AreFloods t tiling.now floods × AreParts tiling.now floods parts.items }
-    ensures levels { IfOk result (λ v. (t : Terrain) (floods : List Flood) → AreFloods t tiling.now floods →
-        AreParts tiling.now floods parts.items → RaisesToFilled t tiling.now floods v.items) }
+) -> Result<Vec<Option<Height>>, NoMemory>
+    requires floods { AreFloods grid.now.terrain tiling.now floods.now }
+    requires parts { AreParts tiling.now floods.now parts.items }
+    ensures levels { IfOk result (λ v. RaisesToFilled grid.now.terrain tiling.now floods.now v.items) }
     ensures size { IfOk result (λ v. length v.items ≡ tiling.now.cols * tiling.now.rows) }
-    ensures fault { IfErr result (λ e. e ≡ JobFault.Memory) }
 {
-    let graph = SpillGraph::of_parts(alloc, tiling, parts)?;
-    let Ok(levels) = graph.levels(alloc) else {
-        return Err(JobFault::Memory);
-    };
+    let graph = SpillGraph::of_parts(alloc, tiling, floods, parts, grid.sinks())?;
+    let levels = graph.levels(alloc)?;
     Ok(levels)
 }
 
@@ -155,7 +152,9 @@ fn label_levels<R: Threads + Wait + Sync, G: Gate + Sync>(
         return Ok(levels);
     }
     let parts = crew.run(&PartTiles { tiling, floods }, tiling.tiles())?;
-    let levels = spill_levels(crew.alloc, tiling, parts)?;
+    let Ok(levels) = spill_levels(crew.alloc, grid, tiling, floods, parts) else {
+        return Err(JobFault::Memory);
+    };
     Ok(levels)
 }
 
@@ -186,6 +185,8 @@ pub fn filled<R: Threads + Wait + Sync, G: Gate + Sync>(
         floods,
         levels,
     })?;
-    let filled = grid.with_own_cells(cells);
+    let Ok(filled) = grid.with_own_cells(alloc, cells) else {
+        return Err(JobFault::Memory);
+    };
     Ok(Filled::from_grid(filled))
 }

@@ -10,6 +10,7 @@ mod net;
 mod parts;
 mod passes;
 mod raising;
+mod sinks;
 mod sources;
 mod spills;
 mod tile;

@@ -97,7 +97,7 @@ fn has_gap(tiling: &Tiling, floods: &[TileFlood], tile: u32, place: Place) -> bo
     false
 }
 
-/// The height of a place that is a source of the spill graph: its own label, with a gap around it.
+/// The height of a label that is an edge cell: its own label, with a gap around it.
 pub(crate) fn source_at(
     tiling: &Tiling,
     floods: &[TileFlood],

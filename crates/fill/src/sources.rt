@@ -1,13 +1,13 @@
 // The sources of the spill graph.
 ghost use Rattle.std.specs.Prelude.{◌≡◌, ◌*◌, ◌<◌, List, [], Some, length, IfOk, IfSome, OnOk};
 ghost use Rattle.std.specs.List.{All, Contains};
-ghost use Rattle.tiles.specs.Cutting.{IsInTile, IsWithin, tile_count};
+ghost use Rattle.tiles.specs.Cutting.{IsCutting, IsInTile, IsWithin, tile_count};
 ghost use Rattle.fill.specs.TileFlood.{Flood};
-ghost use Rattle.fill.specs.Gathering.{Fit, AddsSources, AreSources, PutsSources};
+ghost use Rattle.fill.specs.Gathering.{Fit, AddsSources, AreSources, PutsSinks, PutsSources};
 ghost use Rattle.fill.specs.Parts.{AreParts};
 
 use crate::flooding::empty_list;
-use crate::marks::{node_of, source_at};
+use crate::marks::{mark_at, node_of, source_at};
 use crate::parts::Part;
 use crate::tile::TileFlood;
 use std::alloc::{AllocError, Global};
@@ -108,4 +108,24 @@ pub(crate) fn gather_sources(
         put_sources(&mut heights, &part.sources);
     }
     Ok(heights)
+}
+
+/// Puts the heights of sinks at their nodes. A place outside the grid or without data is no sink.
+pub(crate) fn put_sinks(
+    mut heights: Vec<Option<Height>>,
+    tiling: &Tiling,
+    floods: &[TileFlood],
+    sinks: &[Place],
+) -> Vec<Option<Height>>
+    requires lawful { IsCutting tiling.now }
+    requires fit { Fit tiling.now floods.now }
+    requires size { length heights.items ≡ tiling.now.cols * tiling.now.rows }
+    ensures { PutsSinks tiling.now floods.now sinks.now heights.items result.items }
+{
+    for sink in sinks {
+        if let Some(mark) = mark_at(tiling, floods, 0, *sink) {
+            heights[node_of(tiling, *sink) as usize] = Some(mark.level);
+        }
+    }
+    heights
 }

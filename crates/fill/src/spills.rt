@@ -1,7 +1,6 @@
 // The graph of the labels of all tiles.
-ghost use Rattle.std.specs.Prelude.{◌≡◌, ◌<◌, ◌≤◌, ℕ, List, length, map, take, drop, ◌-◌, IfOk, slice_index_or};
+ghost use Rattle.std.specs.Prelude.{◌≡◌, ◌<◌, ◌≤◌, ℕ, length, map, take, drop, ◌-◌, IfOk, slice_index_or};
 ghost use Rattle.terrain.specs.Raster.{Terrain};
-ghost use Rattle.fill.specs.TileFlood.{Flood};
 ghost use Rattle.fill.specs.Parts.{AreParts};
 ghost use Rattle.fill.specs.Spills.{AreFloods, IsGraphOf, AreLevelsOf};
 ghost use Rattle.fill.specs.Gathering.{AreRising, way_of};
@@ -9,7 +8,7 @@ ghost use Rattle.fill.specs.Gathering.{AreRising, way_of};
 use crate::flooding::{Flooded, flood};
 use crate::net::{Net, Spill};
 use crate::parts::{Part, tile_parts};
-use crate::sources::gather_sources;
+use crate::sources::{gather_sources, put_sinks};
 use crate::tile::TileFlood;
 use smallvec::SmallVec;
 use std::alloc::{AllocError, Global};
@@ -27,7 +26,7 @@ pub struct Join {
 
 /// The labels of all tiles as a net. A node's number is its label's place in row order of the grid. Two
 /// labels are joined where two neighbouring cells carry them, at the least of the greater levels of such
-/// cells, and a label that is an edge cell is a source.
+/// cells, and a label that is an end cell is a source.
 #[derive(Drop)]
 pub struct SpillGraph {
     tiling: Tiling,
@@ -146,29 +145,34 @@ impl Net for SpillGraph {
 }
 
 impl SpillGraph {
-    /// The graph of one flood for each tile, in tile order.
+    /// The graph of one flood for each tile, in tile order, and of these sinks.
     pub fn gather(
         alloc: Global,
         tiling: &Tiling,
         floods: &[TileFlood],
+        sinks: &[Place],
     ) -> Result<SpillGraph, NoMemory>
         requires { (t : Terrain) × AreFloods t tiling.now floods.now }
-        ensures { IfOk result (λ g. (t : Terrain) → AreFloods t tiling.now floods.now → IsGraphOf t tiling.now floods.now g) }
+        ensures { IfOk result (λ g. (t : Terrain) → t.sinks ≡ sinks.now → AreFloods t tiling.now floods.now → IsGraphOf t tiling.now floods.now g) }
     {
         let parts = tile_parts(alloc, tiling, floods)?;
-        Ok(SpillGraph::of_parts(alloc, tiling, parts)?)
+        Ok(SpillGraph::of_parts(alloc, tiling, floods, parts, sinks)?)
     }
 
     /// The graph of what each tile adds to it, in tile order.
     pub(crate) fn of_parts(
         alloc: Global,
         tiling: &Tiling,
+        floods: &[TileFlood],
         parts: Vec<Part>,
+        sinks: &[Place],
     ) -> Result<SpillGraph, AllocError>
-        requires { (t : Terrain) × (floods : List Flood) × AreFloods t tiling.now floods × AreParts tiling.now floods parts.items }
-        ensures { IfOk result (λ g. (t : Terrain) (floods : List Flood) → AreFloods t tiling.now floods → AreParts tiling.now floods parts.items → IsGraphOf t tiling.now floods g) }
+        requires floods { (t : Terrain) × AreFloods t tiling.now floods.now }
+        requires parts { AreParts tiling.now floods.now parts.items }
+        ensures { IfOk result (λ g. (t : Terrain) → t.sinks ≡ sinks.now → AreFloods t tiling.now floods.now → IsGraphOf t tiling.now floods.now g) }
     {
-        let sources = gather_sources(alloc, tiling, &parts)?;
+        let edges = gather_sources(alloc, tiling, &parts)?;
+        let sources = put_sinks(edges, tiling, floods, sinks);
         Ok(SpillGraph {
             tiling: *tiling,
             parts,
@@ -176,7 +180,7 @@ impl SpillGraph {
         })
     }
 
-    /// The least crest from each label to an edge cell, None at a place that is no label.
+    /// The least crest from each label to an end cell, None at a place that is no label.
     pub fn levels(&self, alloc: Global) -> Result<Vec<Option<Height>>, NoMemory>
         ensures { IfOk result (λ v. AreLevelsOf self.now v.items) }
     {

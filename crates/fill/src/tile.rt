@@ -1,6 +1,7 @@
 // Flooding of one tile.
-ghost use Rattle.std.specs.Prelude.{◌≡◌, ◌≤◌, ◌+◌, IfOk, IfSome, length, true, false, MatchOption, None, slice_index_or, ◌*◌, ◌-◌, ◌<◌};
+ghost use Rattle.std.specs.Prelude.{◌≡◌, ◌≤◌, ◌+◌, IfOk, IfSome, length, true, false, MatchOption, None, slice_index_or, ◌*◌, ◌-◌, ◌<◌, List};
 ghost use Rattle.std.specs.Bool.{OnTrue};
+ghost use Rattle.terrain.specs.Sinks.{with_sinks};
 ghost use Rattle.tiles.specs.Cutting.{terrain_of, IsInBounds};
 ghost use Rattle.fill.specs.TileCells.{own_label, HasOneCell, HasLists, ShowsOneCell};
 ghost use Rattle.fill.specs.TileFlood.{IsFlood, IsTileFlood, level_in, label_in, is_in_bounds, HasOneLabelAround, AreEqualAround, IsInner};
@@ -29,7 +30,7 @@ enum TileCells {
 }
 
 /// The level of each cell of a tile, and the source that it drains to: the least crest of the paths that
-/// stay in the tile and end on its rim or at an edge cell.
+/// stay in the tile and end on its rim or at an end cell.
 #[derive(Drop)]
 pub struct TileFlood {
     bounds: Bounds,
@@ -63,7 +64,7 @@ fn own_label(bounds: Bounds, level: Option<Height>) -> Option<Place>
 
 /// Whether a place lies in the bounds.
 #[inline(always)]
-fn is_in(bounds: Bounds, place: Place) -> bool
+pub(crate) fn is_in(bounds: Bounds, place: Place) -> bool
     requires { (bounds.top + bounds.rows ≤ 4096) × (bounds.left + bounds.cols ≤ 4096) }
     ensures { result ≡ is_in_bounds bounds place }
 {
@@ -246,7 +247,7 @@ impl TileFlood {
 /// The flood of a tile of one cell, which lies on its rim.
 fn cell_flood(view: &TileView<'_, Option<Height>>) -> TileFlood
     requires { ShowsOneCell view.now }
-    ensures { IsTileFlood (terrain_of view.now) view.now.cutting view.now.tile result }
+    ensures { (sinks : List Place) → IsTileFlood (with_sinks (terrain_of view.now) sinks) view.now.cutting view.now.tile result }
 {
     TileFlood {
         bounds: view.bounds(),
@@ -254,16 +255,21 @@ fn cell_flood(view: &TileView<'_, Option<Height>>) -> TileFlood
     }
 }
 
-/// The least crest of each cell's paths in the tile, and a source that has it.
-pub fn tile_flood(alloc: Global, view: &TileView<'_, Option<Height>>) -> Result<TileFlood, NoMemory>
+/// The least crest of each cell's paths in the tile, and a source that has it. Of these sinks those in the tile are
+/// sources.
+pub fn tile_flood(
+    alloc: Global,
+    view: &TileView<'_, Option<Height>>,
+    sinks: &[Place],
+) -> Result<TileFlood, NoMemory>
     ensures { IfOk result (λ f.
-        IsTileFlood (terrain_of view.now) view.now.cutting view.now.tile f) }
+        IsTileFlood (with_sinks (terrain_of view.now) sinks.now) view.now.cutting view.now.tile f) }
 {
     let bounds = view.bounds();
     if bounds.rows == 1 && bounds.cols == 1 {
         return Ok(cell_flood(view));
     }
-    let net = CellNet::of_view(alloc, view)?;
+    let net = CellNet::of_view(alloc, view, sinks)?;
     let flooded = flood(alloc, &net)?;
     let levels = without_border(alloc, &flooded.level, bounds.cols, bounds.rows)?;
     let labels = labels_of(alloc, bounds, &flooded.label)?;

@@ -14,7 +14,7 @@ pub record IsCoded (d : Directed) (p : Place) : Type 0 where
   pub code : ℕ
   pub is : code_at d p ≡ Some code
 
-pub cases_option : (o : Option ℕ) → (o ≡ None) ⊎ ((x : ℕ) × (o ≡ Some x))
+pub cases_option : {X : Type 0} (o : Option X) → (o ≡ None) ⊎ ((x : X) × (o ≡ Some x))
 cases_option None = inl refl
 cases_option (Some x) = inr (x, refl)
 
@@ -73,9 +73,6 @@ outlet_from_stays d ends p c e = sym (ap (code_at d) (follow_stays d p 0 (moves 
 
 pub coded_inside : (d : Directed) (p : Place) → IsCoded d p → (p.row < d.rows) × (p.col < d.cols)
 coded_inside d p c = inside_from_entry d.cols d.rows d.codes p c.code c.is
-
-pub coded_some : (d : Directed) (p : Place) → IsCoded d p → is_some (code_at d p) ≡ true
-coded_some d p c = ap is_some c.is
 
 pub coded_from_some : (d : Directed) (p : Place) → is_some (code_at d p) ≡ true → IsCoded d p
 coded_from_some d p h = elim (cases_coded d p) [

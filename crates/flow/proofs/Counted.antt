@@ -1,6 +1,5 @@
 -- The accumulations of the cells of a tile, of the lists that are made for it.
-use Rattle.std.proofs.Common.{◌≡◌, ℕ, ◌+◌, ◌-◌, ◌*◌, ◌^◌, ◌<◌, ◌≤◌, inl, inr, List, length, get_or, cond, Option, None, Some, is_some, slice_get, sym, ap, subst, refl, ◌∙◌, arith}
-use Rattle.std.proofs.Math.Nat.{mul-le-mul}
+use Rattle.std.proofs.Common.{◌≡◌, ℕ, ◌+◌, ◌-◌, ◌<◌, ◌≤◌, inl, inr, List, length, get_or, cond, Option, None, Some, is_some, slice_get, sym, ap, subst, refl, ◌∙◌, arith}
 use Rattle.std.proofs.Math.ListN.{length-map}
 use Rattle.std.proofs.lemmas.Bool.{cases_lt, cases_Bool, cond-true, cond-false}
 use Rattle.std.proofs.lemmas.List.{get_or-map, get_or_past}
@@ -11,21 +10,21 @@ use Rattle.tiles.specs.declared.bounds.Bounds.{Bounds}
 use Rattle.tiles.specs.Cutting.{Cutting, IsInBounds, AreBounds, tile_count, cell_count, bounds_of}
 use Rattle.tiles.proofs.Cut.{in_bounds, bounds_inside}
 use Rattle.tiles.proofs.TileOrder.{index_in_below, index_in-place_in, place_in-index_in, tile_entry-in}
-use Rattle.drainage.specs.Following.{code_at}
+use Rattle.drainage.specs.Following.{Directed, code_at}
 use Rattle.flow.specs.Counts.{accumulation}
 use Rattle.flow.specs.Streams.{AreStreams, AreUpstream, total}
-use Rattle.flow.specs.TileFlow.{Flow, IsTileExits}
+use Rattle.flow.specs.TileFlow.{Flow, IsTileExits, AreTileCounts}
 use Rattle.flow.specs.TileLinks.{AreTileCodes, place_in, index_in, links_by, weights_by, where_data}
 use Rattle.flow.specs.TileMaps.{IsTileMapOf}
-use Rattle.flow.specs.Whole.{make_directed}
-use Rattle.flow.specs.Inflows.{Inflows, inflow_in}
+use Rattle.flow.specs.Whole.{IsGridFlow, make_directed}
+use Rattle.flow.specs.Inflows.{Inflows, AreInflows, inflow_in}
+use Rattle.flow.specs.RimGraph.{AreFlowsOf}
 use Rattle.flow.specs.Counting.{IsCounting, IsCountable, AreCountable, AreRimWeights, AreCounts, counts_by}
-use Rattle.flow.proofs.Sums.{bit_le, sum_below-few}
-use Rattle.flow.proofs.Coded.{IsCoded, cases_coded}
+use Rattle.flow.proofs.Coded.{IsCoded}
 use Rattle.flow.proofs.InTile.{weight_in, IsPiece, tile_streams, in_place}
-use Rattle.flow.proofs.Piece.{codes_from, AreLists, piece, few, weights_from, match_none, match_some}
-use Rattle.flow.proofs.Reaching.{IsEnding}
-use Rattle.flow.proofs.Gathering.{cell, all_drained, drained_few, entered, inflow_sum, accumulation_is}
+use Rattle.flow.proofs.Piece.{codes_from, AreLists, piece, few, weights_from, match_data}
+use Rattle.flow.proofs.Reaching.{IsEnding, ending_of}
+use Rattle.flow.proofs.Gathering.{all_drained, drained_few, entered_few, inflow_sum, accumulation_is}
 use Rattle.flow.proofs.TileTotals.{AreWeights, all_totals}
 use Rattle.flow.proofs.Totals.{total_is}
 
@@ -41,9 +40,19 @@ weights_le cells i = elim (cases_lt i (length cells)) [
 pub weights_size : (cells : List (Option ℕ)) → length (weights_by cells) ≡ length cells
 weights_size cells = length-map cells (λ (code : Option ℕ). cond {A = ℕ} (is_some code) 1 0)
 
+-- the counting of a grid's directions, where these lists are the flows
+pub counting_of : (t : Cutting) (codes : List (Option ℕ)) (flows joined : List Flow) (inflows : Inflows) → IsGridFlow t.cols t.rows codes → AreFlowsOf (make_directed t.cols t.rows codes) t flows →
+    AreTileCounts (make_directed t.cols t.rows codes) t flows → joined ≡ flows → ((d : Directed) → AreFlowsOf d t joined → AreTileCounts d t joined → AreInflows d t inflows) → IsCounting t codes flows inflows
+counting_of t codes flows joined inflows grid are counts same entering = record {
+  grid = grid;
+  are_flows = are;
+  are_inflows = entering (make_directed t.cols t.rows codes) (subst (λ (x : List Flow). AreFlowsOf (make_directed t.cols t.rows codes) t x) (sym same) are)
+      (subst (λ (x : List Flow). AreTileCounts (make_directed t.cols t.rows codes) t x) (sym same) counts);
+}
+
 module _ (t : Cutting) (codes : List (Option ℕ)) (flows : List Flow) (inflows : Inflows) (s : IsCounting t codes flows inflows) where
   ending : IsEnding (make_directed t.cols t.rows codes)
-  ending = record { ends = s.grid.ends; some_col = s.are_flows.cutting.some_col; some_row = s.are_flows.cutting.some_row; few_cols = s.are_flows.cutting.few_cols; few_rows = s.are_flows.cutting.few_rows }
+  ending = ending_of (make_directed t.cols t.rows codes) t s.grid.ends s.are_flows.cutting (refl, refl)
 
   module _ (tile : ℕ) (f : Flow) (there : slice_get flows tile ≡ Some f) where
     right : IsTileExits (make_directed t.cols t.rows codes) t tile f
@@ -62,14 +71,12 @@ module _ (t : Cutting) (codes : List (Option ℕ)) (flows : List Flow) (inflows 
     within_tile p h = (omega (arith, h, around.rows_inside), omega (arith, h, around.cols_inside))
 
     pub inflow_few : (p : Place) → IsInBounds (bounds_of t tile) p → inflow_in inflows p ≤ 16777216
-    inflow_few p h =
-        let most : t.rows * t.cols ≤ 4096 * 4096 = mul-le-mul s.are_flows.cutting.few_rows s.are_flows.cutting.few_cols in
-        omega (
-          arith,
-          s.are_inflows.each p (within_tile p h),
-          inflow_sum (make_directed t.cols t.rows codes) t p,
-          sum_below-few (λ c. entered (make_directed t.cols t.rows codes) t p (cell (make_directed t.cols t.rows codes) c)) (t.rows * t.cols) (λ c l. bit_le _),
-        )
+    inflow_few p h = omega (
+      arith,
+      s.are_inflows.each p (within_tile p h),
+      inflow_sum (make_directed t.cols t.rows codes) t p,
+      entered_few (make_directed t.cols t.rows codes) ending t p,
+    )
 
     module _ (links : List ℕ) (made : links ≡ links_by (bounds_of t tile) f.codes) where
       lists : AreLists (record { cutting = t; tile = tile; cells = codes }) (bounds_of t tile) f.codes links (weights_by f.codes)
@@ -89,16 +96,12 @@ module _ (t : Cutting) (codes : List (Option ℕ)) (flows : List Flow) (inflows 
       pub streams_of : AreStreams links
       streams_of = tile_streams (make_directed t.cols t.rows codes) t tile (bounds_of t tile) links piece_of
 
-      pub few_of : length links ≤ 2 ^ 24
-      few_of = few _ _ _ _ _ lists
-
       pub same_sizes : length links ≡ length f.codes
       same_sizes = piece_of.made.size ∙ sym of_cells.size
 
       module _ (weights : List ℕ) (weighed : AreRimWeights inflows (bounds_of t tile) f.codes weights) where
         weights_are : AreWeights (make_directed t.cols t.rows codes) ending t tile (bounds_of t tile) links piece_of weights
         weights_are j h =
-            let p = place_in (bounds_of t tile) j in
             let inside = in_place (make_directed t.cols t.rows codes) t tile (bounds_of t tile) links piece_of j h in
             let index = index_in-place_in (bounds_of t tile) j in
             let own : get_or (weights_by f.codes) j 0 ≡ weight_in (make_directed t.cols t.rows codes) (bounds_of t tile) j =
@@ -114,9 +117,6 @@ module _ (t : Cutting) (codes : List (Option ℕ)) (flows : List Flow) (inflows 
 
         total_drained : (i : ℕ) → i < length links → total links weights i ≡ all_drained (make_directed t.cols t.rows codes) (place_in (bounds_of t tile) i)
         total_drained = total_is links weights _ streams_of (all_totals (make_directed t.cols t.rows codes) ending t tile (bounds_of t tile) links piece_of weights weights_are)
-
-        pub totals_few : (i : ℕ) → i < length links → total links weights i ≤ 16777216
-        totals_few i h = omega (arith, total_drained i h, drained_few (make_directed t.cols t.rows codes) ending (place_in (bounds_of t tile) i))
 
         module _ (came : List ℕ) (up : AreUpstream links weights came) where
           entry_is : (p : Place) → IsInBounds (bounds_of t tile) p →
@@ -148,30 +148,25 @@ module _ (t : Cutting) (codes : List (Option ℕ)) (flows : List Flow) (inflows 
             size = length-map-range_with_len (λ i. where_data (get_or f.codes i None) (get_or came i 0 + get_or weights i 0 - 1)) 0 (length f.codes) ∙ of_cells.size;
             each = λ p i.
                 let h = in_bounds t tile p s.are_flows.cutting i in
-                let entry = tile_entry-in t tile (counts_by f.codes weights came) p i ∙ entry_is p h in
-                elim (cases_coded (make_directed t.cols t.rows codes) p) [
-                  | inl none ↦ match_none (code_at (make_directed t.cols t.rows codes) p) _ _ none
-                      (entry ∙ ap (λ o. where_data o (get_or came (index_in (bounds_of t tile) p) 0 + get_or weights (index_in (bounds_of t tile) p) 0 - 1)) none)
-                  | inr is ↦ match_some (code_at (make_directed t.cols t.rows codes) p) _ _ is.code is.is
-                      (entry ∙ ap (λ o. where_data o (get_or came (index_in (bounds_of t tile) p) 0 + get_or weights (index_in (bounds_of t tile) p) 0 - 1)) is.is ∙ ap Some (count_is p h is))
-                ];
+                match_data (code_at (make_directed t.cols t.rows codes) p) _ _ _ (tile_entry-in t tile (counts_by f.codes weights came) p i ∙ entry_is p h)
+                (λ code is. count_is p h (record { code = code; is = is }));
           }
 
     countable : IsCountable inflows tile f
     countable =
-        let links = links_by f.bounds f.codes in
         let made : links_by f.bounds f.codes ≡ links_by (bounds_of t tile) f.codes = ap (λ (b : Bounds). links_by b f.codes) right.bounds in
         record {
           bounds = right.bounds ∙ ap (λ (x : Cutting). bounds_of x tile) (sym s.are_inflows.cutting);
           size = of_cells.size ∙ ap (λ (x : Cutting). cell_count x tile) (sym s.are_inflows.cutting);
           linked = same_sizes (links_by f.bounds f.codes) made;
-          few = omega (arith, few_of (links_by f.bounds f.codes) made, same_sizes (links_by f.bounds f.codes) made);
+          few = omega (arith, few _ _ _ _ _ (lists (links_by f.bounds f.codes) made), same_sizes (links_by f.bounds f.codes) made);
           streams = streams_of (links_by f.bounds f.codes) made;
           few_enter = λ p h. omega (arith, inflow_few p (subst (λ (x : Cutting). IsInBounds (bounds_of x tile) p) s.are_inflows.cutting h));
           few_come = λ weights weighed i h. omega (
             arith,
-            totals_few (links_by f.bounds f.codes) made weights (subst (λ (x : Cutting). AreRimWeights inflows (bounds_of x tile) f.codes weights) s.are_inflows.cutting weighed) i
+            total_drained (links_by f.bounds f.codes) made weights (subst (λ (x : Cutting). AreRimWeights inflows (bounds_of x tile) f.codes weights) s.are_inflows.cutting weighed) i
                 (omega (arith, h, same_sizes (links_by f.bounds f.codes) made)),
+            drained_few (make_directed t.cols t.rows codes) ending (place_in (bounds_of t tile) i),
           );
         }
 

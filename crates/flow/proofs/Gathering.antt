@@ -1,5 +1,5 @@
 -- How many cells' water comes through a cell, the cell itself counted.
-use Rattle.std.proofs.Common.{◌≡◌, ◌≢◌, ℕ, ◌+◌, ◌-◌, ◌*◌, ◌<◌, ◌≤◌, Bool, true, false, not, ◌&&◌, cond, is_some, sym, ap, refl, ◌∙◌, arith}
+use Rattle.std.proofs.Common.{◌≡◌, ◌≢◌, ℕ, ◌+◌, ◌-◌, ◌*◌, ◌<◌, ◌≤◌, Bool, true, false, not, ◌&&◌, cond, Option, is_some, sym, ap, refl, ◌∙◌, arith}
 use Rattle.std.proofs.Math.Nat.{mul-le-mul}
 use Rattle.std.proofs.lemmas.Bool.{and_from, and_left, and_right, eq-eqb, cond-true, cond-false, false_from_ne_true, not_from_true, not_from_false}
 use Rattle.terrain.specs.Ways.{places}
@@ -14,7 +14,7 @@ use Rattle.flow.specs.TileFlow.{stays, reaches_inside, through_of, inflow_of}
 use Rattle.flow.specs.TileLinks.{place_in, index_in}
 use Rattle.flow.proofs.Sums.{bit_le, sum_below-except, sum_below-few}
 use Rattle.flow.proofs.Ranges.{any_in_range, all_in_range}
-use Rattle.flow.proofs.Coded.{IsCoded, coded_some}
+use Rattle.flow.proofs.Coded.{IsCoded}
 use Rattle.flow.proofs.Waiting.{and_on}
 use Rattle.flow.proofs.Reaching.{IsEnding, whole_bounds, place_test, place_from_test, sum_of_cells, cell_below, cell_back, enters}
 
@@ -45,7 +45,7 @@ inflow_sum d t p = sum_of_cells (entered d t p) d.cols d.rows
 
 -- what a data cell that passes a test counts for, and any other
 pub counted_on : (d : Directed) (q : Place) (b : Bool) → IsCoded d q → b ≡ true → cond {A = ℕ} (is_some (code_at d q) && b) 1 0 ≡ 1
-counted_on d q b is y = cond-true {A = ℕ} _ 1 0 (and_from _ _ (coded_some d q is) y)
+counted_on d q b is y = cond-true {A = ℕ} _ 1 0 (and_from _ _ (ap (λ (o : Option ℕ). is_some o) is.is) y)
 
 pub counted_off : (d : Directed) (q : Place) (b : Bool) → b ≡ false → cond {A = ℕ} (is_some (code_at d q) && b) 1 0 ≡ 0
 counted_off d q b f = cond-false {A = ℕ} _ 1 0 (and_right _ _ f)
@@ -64,7 +64,6 @@ module _ (d : Directed) (s : IsEnding d) where
   one_more : (f g : Place → ℕ) (p : Place) → IsCoded d p → ((q : Place) → q ≢ p → f q ≡ g q) → f p ≡ 1 → g p ≡ 0 →
       sum_below (λ j. f (cell d j)) (d.rows * d.cols) ≡ sum_by g (places d.cols d.rows) + 1
   one_more f g p is same one none =
-      let i = index_in (whole_bounds d.cols d.rows) p in
       let change = sum_below-except (λ j. f (cell d j)) (λ j. g (cell d j)) (d.rows * d.cols) (index_in (whole_bounds d.cols d.rows) p) (cell_below d s p is)
       (λ j h ne. same (cell d j) (other_cell p is j ne)) in
       let here : f (cell d (index_in (whole_bounds d.cols d.rows) p)) ≡ 1 = ap f (cell_back d s p is) ∙ one in
@@ -96,12 +95,17 @@ module _ (d : Directed) (s : IsEnding d) where
       (counted_on d p _ is (reaches_itself t p))
       (cond-false {A = ℕ} _ 1 0 (and_left _ _ (and_right _ _ (not_from_true _ (place_test p p refl)))))
 
-  pub drained_few : (p : Place) → all_drained d p ≤ 16777216
-  drained_few p =
+  -- a count of cells
+  pub counted_few : (test : Place → Bool) → sum_below (λ c. cond {A = ℕ} (test (cell d c)) 1 0) (d.rows * d.cols) ≤ 16777216
+  counted_few test =
       let most : d.rows * d.cols ≤ 4096 * 4096 = mul-le-mul s.few_rows s.few_cols in
-      omega (arith, sum_below-few (λ j. drained d p (cell d j)) (d.rows * d.cols) (λ j h. bit_le _))
+      omega (arith, sum_below-few (λ c. cond {A = ℕ} (test (cell d c)) 1 0) (d.rows * d.cols) (λ c h. bit_le _))
+
+  pub drained_few : (p : Place) → all_drained d p ≤ 16777216
+  drained_few p = counted_few (λ q. is_some (code_at d q) && drains_through d p q)
 
   pub gathered_few : (t : Cutting) (p : Place) → all_gathered d t p ≤ 16777216
-  gathered_few t p =
-      let most : d.rows * d.cols ≤ 4096 * 4096 = mul-le-mul s.few_rows s.few_cols in
-      omega (arith, sum_below-few (λ j. gathered d t p (cell d j)) (d.rows * d.cols) (λ j h. bit_le _))
+  gathered_few t p = counted_few (λ q. is_some (code_at d q) && reaches_inside d t p q)
+
+  pub entered_few : (t : Cutting) (p : Place) → sum_below (λ c. entered d t p (cell d c)) (d.rows * d.cols) ≤ 16777216
+  entered_few t p = counted_few (λ q. is_some (code_at d q) && list_any (enters d t p q) (range_with_len 0 (moves d - 1)))

@@ -1,11 +1,11 @@
 -- One node sends what came to it.
 use Rattle.std.proofs.Common.{◌≡◌, ◌≢◌, ℕ, ◌+◌, ◌^◌, ◌<◌, ◌≤◌, true, false, not, ◌&&◌, cond, eqb, inl, inr, List, length, get_or, sym, ap, ◌∙◌, arith}
-use Rattle.std.proofs.lemmas.Bool.{cases_eq, cases_Bool, cond-true, cond-false, false_from_ne_true, false≢true}
+use Rattle.std.proofs.lemmas.Bool.{cases_eq, cases_Bool, eq-eqb, cond-true, cond-false, false_from_ne_true, false≢true}
 use Rattle.flow.specs.Streams.{leads_to, sum_below}
 use Rattle.flow.specs.Sending.{IsSending, donor, sent_mark, has_sent, waiting, sent_on}
 use Rattle.flow.proofs.Sums.{bit_le, sum_below-few, term-le-sum_below, sum_below-except}
 use Rattle.flow.proofs.Totals.{leads_self}
-use Rattle.flow.proofs.Waiting.{waiting-open, waiting-sent, sent_on-open, sent_on-all, sent_from_mark, open_from_count}
+use Rattle.flow.proofs.Waiting.{waiting-open, waiting-sent, sent_on-open, sent_on-all, open_from_count}
 
 -- what changes where a node sends on to another, or ends
 pub record MovesOn (links weights waits came new_waits new_came : List ℕ) (node : ℕ) : Type 0 where
@@ -54,7 +54,7 @@ module _ (links weights waits came : List ℕ) (few : length links ≤ 2 ^ 30) (
 
   module _ (new_waits new_came : List ℕ) (m : MovesOn links weights waits came new_waits new_came node) where
     pub sent_now : has_sent new_waits node ≡ true
-    sent_now = sent_from_mark new_waits node m.marked
+    sent_now = eq-eqb _ _ m.marked
 
     pub other_sent : (j : ℕ) → j < length links → j ≢ node → has_sent new_waits j ≡ has_sent waits j
     other_sent j h ne = elim (cases_Bool (leads_to links node j)) [

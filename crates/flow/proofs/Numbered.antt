@@ -3,7 +3,7 @@ use Rattle.std.proofs.Common.{◌≡◌, ℕ, ◌+◌, ◌*◌, ◌<◌, inl, in
 use Rattle.std.proofs.lemmas.Bool.{cases_lt, cond-true, eq-eqb}
 use Rattle.std.proofs.lemmas.List.{get_or_past}
 use Rattle.std.proofs.lemmas.List.FromFn.{get_or-map-range_with_len, length-map-range_with_len}
-use Rattle.std.proofs.lemmas.Option.{slice_get_within}
+use Rattle.std.proofs.lemmas.Option.{slice_get_within, MatchOption-at_none, MatchOption-at_some}
 use Rattle.terrain.specs.Neighbours.{index_of}
 use Rattle.terrain.specs.declared.place.Place.{Place}
 use Rattle.terrain.proofs.Places.{index_below}
@@ -15,14 +15,26 @@ use Rattle.drainage.specs.Following.{Directed, code_at, last_of}
 use Rattle.flow.specs.Counts.{basin}
 use Rattle.flow.specs.TileFlow.{Flow, entry_in, exit_in, IsTileExits, IsExitOf, IsExitCell}
 use Rattle.flow.specs.TileLinks.{place_in, index_in}
-use Rattle.flow.specs.Whole.{is_outlet_code}
-use Rattle.flow.specs.RimGraph.{Outlets, outlet_in}
+use Rattle.flow.specs.Whole.{IsGridFlow, is_outlet_code, make_directed}
+use Rattle.flow.specs.RimGraph.{AreFlowsOf, AreOutlets, Outlets, outlet_in}
 use Rattle.flow.specs.TileMaps.{IsTileMapOf}
 use Rattle.flow.specs.Numbering.{IsNumbering, AreReady, IsExitOfTile, number_at, label_by, labels_by, label_at, numbered_by}
 use Rattle.flow.proofs.Coded.{IsCoded, cases_coded, coded_along, coded_inside}
 use Rattle.flow.proofs.InTile.{test_from_bounds}
 use Rattle.flow.proofs.Piece.{match_none, match_some}
-use Rattle.flow.proofs.RimFlows.{within_of, last_same, from_some, from_none, exit_in_tile, exit_of_exit}
+use Rattle.flow.proofs.RimFlows.{within_of, last_same, exit_in_tile, exit_of_exit}
+
+-- the numbering of a grid's directions, where these lists are the flows
+pub numbering_of : (t : Cutting) (codes : List (Option ℕ)) (flows joined lent : List Flow) (o : Outlets) (numbers : List (Option ℕ)) → IsGridFlow t.cols t.rows codes →
+    AreFlowsOf (make_directed t.cols t.rows codes) t flows → joined ≡ flows → lent ≡ flows → o.cutting ≡ t → ((d : Directed) → AreFlowsOf d t joined → AreOutlets d t o) → numbers ≡ codes →
+    IsNumbering (make_directed t.cols t.rows codes) t lent o numbers
+numbering_of t codes flows joined lent o numbers grid are same again cutting outlets counted = record {
+  are_flows = subst (λ (x : List Flow). AreFlowsOf (make_directed t.cols t.rows codes) t x) (sym again) are;
+  are_outlets = outlets (make_directed t.cols t.rows codes) (subst (λ (x : List Flow). AreFlowsOf (make_directed t.cols t.rows codes) t x) (sym same) are);
+  same_cutting = cutting;
+  same_codes = counted;
+  size = grid.size;
+}
 
 module _ (d : Directed) (t : Cutting) (flows : List Flow) (o : Outlets) (codes : List (Option ℕ)) (s : IsNumbering d t flows o codes) where
   -- the number of an outlet
@@ -65,12 +77,12 @@ module _ (d : Directed) (t : Cutting) (flows : List Flow) (o : Outlets) (codes :
 
     has_exit : (p : Place) → IsInTile t tile p → IsCoded d p → Has p
     has_exit p i is =
-        let m = from_some (code_at d p) _ _ is.code is.is (right.each p i) in
+        let m = MatchOption-at_some _ _ is.code is.is (right.each p i) in
         let x = exit_in_tile d t flows s.are_flows p m.0 is m.2 in
         record { exit = m.0; listed = exit_entry p i ∙ m.1; leads = m.2; coded = x.0; inside = (within_of d t flows s.are_flows m.0 x.0, x.1 ∙ i.1) }
 
     no_exit : (p : Place) → IsInTile t tile p → code_at d p ≡ None → get_or f.exits (index_in (bounds_of t tile) p) None ≡ None
-    no_exit p i none = exit_entry p i ∙ from_none (code_at d p) _ _ none (right.each p i)
+    no_exit p i none = exit_entry p i ∙ MatchOption-at_none _ _ none (right.each p i)
 
     exit_cell : (p : Place) (h : Has p) → IsExitCell d t h.exit
     exit_cell p h = (h.leads).4
@@ -100,7 +112,6 @@ module _ (d : Directed) (t : Cutting) (flows : List Flow) (o : Outlets) (codes :
     -- the label of an exit
     label_is : (p : Place) → IsCoded d p → (h : Has p) → get_or (labels_by codes o (bounds_of t tile) f.exits) (index_in (bounds_of t tile) h.exit) 0 ≡ basin d p
     label_is p is h =
-        let e = h.exit in
         let own = has_exit h.exit h.inside h.coded in
         let same : own.exit ≡ h.exit = exit_of_exit d t flows s.are_flows h.exit own.exit (exit_cell p h) own.leads in
         let listed : get_or f.exits (index_in (bounds_of t tile) h.exit) None ≡ Some h.exit = own.listed ∙ ap Some same in
@@ -121,7 +132,6 @@ module _ (d : Directed) (t : Cutting) (flows : List Flow) (o : Outlets) (codes :
     tile_numbered labels made = record {
       size = length-map-range_with_len (λ i. label_at (bounds_of t tile) labels (get_or f.exits i None)) 0 (length f.exits) ∙ cell_size;
       each = λ p i.
-          let b = bounds_of t tile in
           let below : index_in (bounds_of t tile) p < length f.exits = omega (arith, index_in_below (bounds_of t tile) p (in_bounds t tile p s.are_flows.cutting i), cell_size) in
           let entry : tile_entry t tile (numbered_by (bounds_of t tile) labels f.exits) p ≡ label_at (bounds_of t tile) labels (get_or f.exits (index_in (bounds_of t tile) p) None) =
           tile_entry-in t tile (numbered_by (bounds_of t tile) labels f.exits) p i

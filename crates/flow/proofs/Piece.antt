@@ -17,9 +17,9 @@ use Rattle.flow.specs.TileFlow.{Flow, directed_by, entry_in, through_in, through
 use Rattle.flow.specs.TileLinks.{place_in, index_in, link_by, AreTileCodes, IsSmall, links_by, weights_by, where_data, through_by, exits_by, flow_by, AreFlowLists}
 use Rattle.flow.proofs.Totals.{total_is}
 use Rattle.flow.proofs.Ending.{end-inside}
-use Rattle.flow.proofs.Reaching.{IsEnding}
+use Rattle.flow.proofs.Reaching.{IsEnding, ending_of}
 use Rattle.flow.proofs.Gathering.{all_gathered, gathered_few, through_is as gathered_through}
-use Rattle.flow.proofs.Coded.{IsCoded, cases_coded, coded_some}
+use Rattle.flow.proofs.Coded.{IsCoded, cases_coded}
 use Rattle.flow.proofs.InTile.{AreTileLinks, AreTileWeights, IsPiece, test_from_bounds, tile_streams}
 use Rattle.flow.proofs.Through.{exit_is}
 use Rattle.flow.proofs.TileTotals.{own_totals}
@@ -82,6 +82,11 @@ match_none {X} o P Q e p = subst (λ (z : Option X). MatchOption z P Q) (sym e) 
 pub match_some : {X : Type 0} (o : Option X) (P : Type 0) (Q : X → Type 0) (x : X) → o ≡ Some x → Q x → MatchOption o P Q
 match_some {X} o P Q x e q = subst (λ (z : Option X). MatchOption z P Q) (sym e) q
 
+-- an entry where there is data
+pub match_data : {X : Type 0} (o : Option ℕ) (x y : X) (entry : Option X) → entry ≡ where_data o x → ((code : ℕ) → o ≡ Some code → x ≡ y) → MatchOption o (entry ≡ None) (λ _. entry ≡ Some y)
+match_data None x y entry e same = e
+match_data (Some code) x y entry e same = e ∙ ap Some (same code refl)
+
 module _ (v : View (Option ℕ)) (b : Bounds) (cells : List (Option ℕ)) (links weights : List ℕ) (s : AreLists v b cells links weights) where
   pub piece : IsPiece (directed_by v) v.cutting v.tile b links
   piece = piece_from v b cells links s.ends s.bounds s.inside s.lawful s.codes s.made
@@ -101,13 +106,7 @@ module _ (v : View (Option ℕ)) (b : Bounds) (cells : List (Option ℕ)) (links
       omega (arith, piece.made.size)
 
   ending : IsEnding (directed_by v)
-  ending = record {
-    ends = s.ends;
-    some_col = s.lawful.cutting.some_col;
-    some_row = s.lawful.cutting.some_row;
-    few_cols = s.lawful.cutting.few_cols;
-    few_rows = s.lawful.cutting.few_rows;
-  }
+  ending = ending_of (directed_by v) v.cutting s.ends s.lawful.cutting (refl, refl)
 
   total_gathered : (i : ℕ) → i < length links → total links weights i ≡ all_gathered (directed_by v) v.cutting (place_in b i)
   total_gathered = total_is links weights _ streams (own_totals (directed_by v) ending v.cutting v.tile b links piece weights weighs)
@@ -145,7 +144,7 @@ module _ (v : View (Option ℕ)) (b : Bounds) (cells : List (Option ℕ)) (links
         omega (
           arith,
           weighs.each (index_in b p) (index_in_below b p h),
-          cond-true {A = ℕ} _ 1 0 (coded_some (directed_by v) (place_in b (index_in b p)) there),
+          cond-true {A = ℕ} _ 1 0 (ap (λ (o : Option ℕ). is_some o) there.is),
           up.each (index_in b p) i,
           total_gathered (index_in b p) i,
           gathered_through (directed_by v) ending v.cutting (place_in b (index_in b p)) there,
@@ -209,11 +208,7 @@ module _ (v : View (Option ℕ)) (b : Bounds) (cells : List (Option ℕ)) (links
     size = ap length through ∙ length-map-range_with_len (λ i. where_data (get_or cells i None) (get_or came i 0)) 0 (length came) ∙ came_size came up ∙ s.codes.size ∙ sym (ap (λ (z : Bounds). z.rows * z.cols) same);
     each = λ p i. (let h = (piece.places p).0 i in
         let entry : through_in f p ≡ entry_in b (through_by cells came) p = ap (λ (z : Bounds). entry_in z f.through p) same ∙ ap (λ (l : List (Option ℕ)). entry_in b l p) through in
-        elim (cases_coded (directed_by v) p) [
-          | inl none ↦ match_none (code_at (directed_by v) p) _ _ none (entry ∙ through_is came up p h ∙ ap (λ o. where_data o (get_or came (index_in b p) 0)) none)
-          | inr is ↦ match_some (code_at (directed_by v) p) _ _ is.code is.is
-              (entry ∙ through_is came up p h ∙ ap (λ o. where_data o (get_or came (index_in b p) 0)) is.is ∙ ap Some (count_of came up p h is))
-        ]);
+        match_data (code_at (directed_by v) p) _ _ _ (entry ∙ through_is came up p h) (λ code is. count_of came up p h (record { code = code; is = is })));
   }
 
 -- the codes of a tile's flow

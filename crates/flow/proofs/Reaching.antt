@@ -7,7 +7,7 @@ use Rattle.terrain.specs.Ways.{places}
 use Rattle.terrain.specs.declared.place.Place.{Place}
 use Rattle.terrain.proofs.Places.{make_place, same_place, index_below, index_injective}
 use Rattle.tiles.specs.declared.bounds.Bounds.{Bounds}
-use Rattle.tiles.specs.Cutting.{Cutting, IsInBounds, tile_of_place}
+use Rattle.tiles.specs.Cutting.{Cutting, IsCutting, IsInBounds, tile_of_place}
 use Rattle.tiles.proofs.TileOrder.{place_in-index_in, index_in_below}
 use Rattle.drainage.specs.Following.{Directed, next, follow, moves, last_of}
 use Rattle.drainage.specs.Drained.{AllFlowEnds}
@@ -41,6 +41,15 @@ pub record IsEnding (d : Directed) : Type 0 where
   pub some_row : 1 ≤ d.rows
   pub few_cols : d.cols ≤ 4096
   pub few_rows : d.rows ≤ 4096
+
+pub ending_of : (d : Directed) (t : Cutting) → AllFlowEnds d → IsCutting t → (d.cols ≡ t.cols) × (d.rows ≡ t.rows) → IsEnding d
+ending_of d t ends h size = record {
+  ends = ends;
+  some_col = omega (arith, h.some_col, size.0);
+  some_row = omega (arith, h.some_row, size.1);
+  few_cols = omega (arith, h.few_cols, size.0);
+  few_rows = omega (arith, h.few_rows, size.1);
+}
 
 abbrev pub whole_bounds : ℕ → ℕ → Bounds
 whole_bounds cols rows = record { top = 0; left = 0; rows = rows; cols = cols }

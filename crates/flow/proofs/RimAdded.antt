@@ -61,9 +61,7 @@ module _ (t : Cutting) (listed : List ℕ) (b : Bounds) (k : ℕ) where
 module _ (t : Cutting) (h : IsCutting t) (listed : List ℕ) where
   all_adds : (p : Place) → IsWithin t p → sum_below (λ k. adds t listed (tile_of_place t p * stride (bounds_of t 0) + k) p) (stride (bounds_of t 0)) ≡ inflow_by t listed p
   all_adds p w =
-      let tile = tile_of_place t p in
       let i = in_bounds t (tile_of_place t p) p h (w, refl) in
-      let side = side_number (bounds_of t 0) (bounds_of t (tile_of_place t p)) p in
       one_term (λ k. adds t listed (tile_of_place t p * stride (bounds_of t 0) + k) p) (stride (bounds_of t 0)) (side_number (bounds_of t 0) (bounds_of t (tile_of_place t p)) p)
       (side_below (bounds_of t 0) (bounds_of t (tile_of_place t p)) p (no_wider t h (tile_of_place t p)) (no_higher t h (tile_of_place t p)) i)
       (λ j l ne. adds_off t listed (tile_of_place t p * stride (bounds_of t 0) + j) p (and_right _ _ (ne_eqb (rim_number t p) (tile_of_place t p * stride (bounds_of t 0) + j) (λ e. ne (omega (arith, e))))))

@@ -1,10 +1,10 @@
 -- The exits that lead into other tiles, and where their water ends.
-use Rattle.std.proofs.Common.{◌≡◌, ◌≢◌, ℕ, zero, suc, ◌+◌, ◌<◌, ◌⊎◌, inl, inr, true, false, cond, eqb, not, ◌&&◌, List, length, get_or, Option, None, Some, MatchOption, IfSome, is_some, slice_get, unwrap_or, sym, ap, subst, refl, ◌∙◌, arith}
+use Rattle.std.proofs.Common.{◌≡◌, ◌≢◌, ℕ, zero, suc, ◌+◌, ◌<◌, ◌⊎◌, inl, inr, true, false, cond, eqb, not, ◌&&◌, List, length, get_or, Option, None, Some, IfSome, is_some, slice_get, unwrap_or, sym, ap, subst, refl, ◌∙◌, arith}
 use Rattle.std.specs.Option.{option_and_then}
 use Rattle.std.proofs.lemmas.Bool.{cases_eq, cases_lt, cases_Bool, and_from, and_parts, eq-eqb, eqb-true, lt-ltb, ltb-true, cond-true, cond-false, not_from_false, not-true, false_from_ne_true, false≢true}
 use Rattle.std.proofs.lemmas.List.{get_or_default, get_or_past}
 use Rattle.std.proofs.lemmas.List.FromFn.{get_or-map-range_with_len, length-map-range_with_len}
-use Rattle.std.proofs.lemmas.Option.{slice_get_cases, none-some, same_Some}
+use Rattle.std.proofs.lemmas.Option.{slice_get_cases, MatchOption-at_none, MatchOption-at_some, none-some, same_Some}
 use Rattle.terrain.specs.Neighbours.{Touches}
 use Rattle.terrain.specs.Ways.{place_toward, place_on, way_of, ways_from}
 use Rattle.terrain.specs.declared.place.Place.{Place}
@@ -25,16 +25,6 @@ use Rattle.flow.proofs.Coded.{IsCoded, cases_option, cases_coded, coded_along, c
 use Rattle.flow.proofs.InTile.{bounds_from_test, test_from_bounds}
 use Rattle.flow.proofs.Reaching.{place_test, place_from_test}
 use Rattle.flow.proofs.RimNumbered.{IsSide, number_below, number_back}
-
-pub cases_target : (o : Option Place) → (o ≡ None) ⊎ ((q : Place) × (o ≡ Some q))
-cases_target None = inl refl
-cases_target (Some q) = inr (q, refl)
-
-pub from_some : {X : Type 0} (o : Option X) (P : Type 0) (Q : X → Type 0) (x : X) → o ≡ Some x → MatchOption o P Q → Q x
-from_some {X} o P Q x e m = subst (λ (z : Option X). MatchOption z P Q) e m
-
-pub from_none : {X : Type 0} (o : Option X) (P : Type 0) (Q : X → Type 0) → o ≡ None → MatchOption o P Q → P
-from_none {X} o P Q e m = subst (λ (z : Option X). MatchOption z P Q) e m
 
 pub outlet_from_code : (o : Option ℕ) → is_outlet_code o ≡ true → o ≡ Some 0
 outlet_from_code None h = cc
@@ -102,7 +92,7 @@ module _ (d : Directed) (t : Cutting) (flows : List Flow) (s : AreFlowsOf d t fl
   pub touching : (p : Place) → Crosses p → Touches p (next d p)
   touching p c =
       let at : next d p ≡ unwrap_or (place_toward c.coded.code p) p = ap (λ (o : Option ℕ). unwrap_or (option_and_then (λ code. place_toward code p) o) p) c.coded.is in
-      elim (cases_target (place_toward c.coded.code p)) [
+      elim (cases_option (place_toward c.coded.code p)) [
         | inl none ↦ absurd (c.apart (ap (tile_of_place t) (at ∙ ap (λ (o : Option Place). unwrap_or o p) none)))
         | inr q ↦ subst (λ (z : Place). Touches p z) (sym (at ∙ ap (λ (o : Option Place). unwrap_or o p) q.1)) (toward_touches p q.0 c.coded.code q.1)
       ]
@@ -114,7 +104,6 @@ module _ (d : Directed) (t : Cutting) (flows : List Flow) (s : AreFlowsOf d t fl
       let i = in_bounds t (tile_of_place t p) p s.cutting (w, refl) in
       let below = tile_of_place_below t p s.cutting w in
       let touch = touching p c in
-      let bounds = bounds_of t (tile_of_place t p) in
       elim (cases_eq (p.col + 1) ((bounds_of t (tile_of_place t p)).left + (bounds_of t (tile_of_place t p)).cols)) [
         | inl y ↦ y
         | inr ne ↦ absurd (c.apart (in_tile t (tile_of_place t p) (next d p) s.cutting below
@@ -161,7 +150,6 @@ module _ (d : Directed) (t : Cutting) (flows : List Flow) (s : AreFlowsOf d t fl
 
   pub target_from : (i : ℕ) (q : Place) → target_by t flows i ≡ Some q → IsTarget i q
   target_from i q e =
-      let p = rim_place t i in
       elim (cases_Bool (is_within t (rim_place t i) && eqb (rim_number t (rim_place t i)) i && not (is_in_bounds (bounds_of t (tile_of_place t (rim_place t i))) (next_by t flows (rim_place t i))))) [
         | inr f ↦ absurd (none-some q (sym (cond-false {A = Option Place} _ _ _ f) ∙ e))
         | inl y ↦ (let a = and_parts _ _ y in let b = and_parts _ _ a.0 in let x = and_parts _ _ b.0 in
@@ -180,7 +168,7 @@ module _ (d : Directed) (t : Cutting) (flows : List Flow) (s : AreFlowsOf d t fl
       (is, within_of q is)
 
   pub targets_within : (i : ℕ) → IfSome (target_by t flows i) (IsWithin t)
-  targets_within i = elim (cases_target (target_by t flows i)) [
+  targets_within i = elim (cases_option (target_by t flows i)) [
     | inl none ↦ subst (λ (o : Option Place). IfSome o (IsWithin t)) (sym none) tt
     | inr q ↦ subst (λ (o : Option Place). IfSome o (IsWithin t)) (sym q.1) (target_within i q.0 q.1).1
   ]
@@ -228,7 +216,7 @@ module _ (d : Directed) (t : Cutting) (flows : List Flow) (s : AreFlowsOf d t fl
   exit_here q is =
       let w = within_of q is in
       let f = flow_of q w in
-      let m = from_some (code_at d q) _ _ is.code is.is (f.right.each q (w, refl)) in
+      let m = MatchOption-at_some _ _ is.code is.is (f.right.each q (w, refl)) in
       let x = exit_in_tile q m.0 is m.2 in
       let same : entry_in f.flow.bounds f.flow.codes m.0 ≡ code_at d m.0 = f.right.same_codes m.0 (within_of m.0 x.0, x.1) in (
         m.0,
@@ -264,7 +252,7 @@ module _ (d : Directed) (t : Cutting) (flows : List Flow) (s : AreFlowsOf d t fl
       | inr l ↦ absurd (none-some e (sym l.out ∙ x))
     ])
     | inl none ↦ (let f = flow_of q w in
-        let m = from_none (code_at d q) _ _ none (f.right.each q (w, refl)) in
+        let m = MatchOption-at_none _ _ none (f.right.each q (w, refl)) in
         absurd (none-some e (sym (ap (λ (o : Option Flow). option_and_then (λ (z : Flow). way_out_in z q) o) f.is
         ∙ ap (λ (o : Option Place). option_and_then (λ (e : Place). cond {A = Option Place} (is_outlet_code (entry_in f.flow.bounds f.flow.codes e)) None (Some e)) o) m) ∙ x)))
   ]
@@ -323,7 +311,7 @@ module _ (d : Directed) (t : Cutting) (flows : List Flow) (s : AreFlowsOf d t fl
     link_at i h = ap (λ (l : List ℕ). get_or l i 0) made ∙ get_or-map-range_with_len (rim_link t flows) 0 (number_count t) i i 0 h (omega arith)
 
     links_in : (i : ℕ) → i < number_count t → onward links i < number_count t
-    links_in i h = elim (cases_target (target_by t flows i)) [
+    links_in i h = elim (cases_option (target_by t flows i)) [
       | inl none ↦ omega (arith, link_at i h, untargeted i none)
       | inr q ↦ elim (targets_on i q.0 q.1) [
         | inl g ↦ omega (arith, link_at i h, g.link, to_below g.to g.crosses)
@@ -332,11 +320,11 @@ module _ (d : Directed) (t : Cutting) (flows : List Flow) (s : AreFlowsOf d t fl
     ]
 
     stop_within : (n i : ℕ) → i < number_count t → StopsAt d (rim_place t i) n → (m : ℕ) × IsStop links i m
-    stop_within zero i h stop = elim (cases_target (target_by t flows i)) [
+    stop_within zero i h stop = elim (cases_option (target_by t flows i)) [
       | inl none ↦ (0, link_at i h ∙ untargeted i none)
       | inr q ↦ absurd ((target_from i q.0 q.1).crosses.apart (ap (tile_of_place t) stop))
     ]
-    stop_within (suc n) i h stop = elim (cases_target (target_by t flows i)) [
+    stop_within (suc n) i h stop = elim (cases_option (target_by t flows i)) [
       | inl none ↦ (0, link_at i h ∙ untargeted i none)
       | inr q ↦ elim (targets_on i q.0 q.1) [
         | inr e ↦ (0, link_at i h ∙ e.link)
@@ -349,7 +337,7 @@ module _ (d : Directed) (t : Cutting) (flows : List Flow) (s : AreFlowsOf d t fl
     ]
 
     stop_of : (i : ℕ) → i < number_count t → (m : ℕ) × IsStop links i m
-    stop_of i h = elim (cases_target (target_by t flows i)) [
+    stop_of i h = elim (cases_option (target_by t flows i)) [
       | inl none ↦ (0, link_at i h ∙ untargeted i none)
       | inr q ↦ (let c = (target_from i q.0 q.1).crosses in stop_within (moves d) i h (stops_of (rim_place t i) c.coded))
     ]
@@ -385,7 +373,6 @@ module _ (d : Directed) (t : Cutting) (flows : List Flow) (s : AreFlowsOf d t fl
       pub outlet_of : (i : ℕ) → i < number_count t → (q : Place) → target_by t flows i ≡ Some q → rim_outlet t flows ends i ≡ Some (last_of d (rim_place t i))
       outlet_of i h q e =
           let here : i < length links = omega (arith, h, links_size) in
-          let z = end_of links i in
           let below : end_of links i < number_count t = omega (arith, node_after-inside links rim_streams i here (length links), links_size) in
           let o = on_way i h q e (length links) in
           let c = (target_from (end_of links i) o.entry o.target).crosses in
@@ -403,9 +390,6 @@ module _ (d : Directed) (t : Cutting) (flows : List Flow) (s : AreFlowsOf d t fl
         listed_at : (i : ℕ) → i < number_count t → get_or outlets i None ≡ rim_outlet t flows ends i
         listed_at i h = ap (λ (l : List (Option Place)). get_or l i None) listed ∙ get_or-map-range_with_len (rim_outlet t flows ends) 0 (number_count t) i i None h (omega arith)
 
-        abbrev at_number : Place → Option Place
-        at_number p = cond {A = Option Place} (is_place (rim_place t (rim_number t p)) p) (get_or outlets (rim_number t p) None) None
-
         exit_outlet : (p : Place) → IsExitCell d t p → outlet_by t flows outlets p ≡ Some (last_of d p)
         exit_outlet p x =
             let is = coded_from_some d p x.0 in
@@ -413,8 +397,7 @@ module _ (d : Directed) (t : Cutting) (flows : List Flow) (s : AreFlowsOf d t fl
             elim x.1 [
               | inl out ↦ cond-true {A = Option Place} _ _ _ (ap is_outlet_code (code_here p w ∙ out)) ∙ ap Some (sym (last_here p out))
               | inr apart ↦ (let c : Crosses p = record { coded = is; apart = apart } in
-                  cond-false {A = Option Place} _ (Some p) (at_number p) (ap is_outlet_code (code_here p w) ∙ not_outlet p c)
-                  ∙ cond-true {A = Option Place} _ _ _ (place_test _ _ (back p c))
+                  outlet_listed t flows outlets p (ap is_outlet_code (code_here p w) ∙ not_outlet p c) (place_test _ _ (back p c))
                   ∙ listed_at (rim_number t p) (to_below p c)
                   ∙ outlet_of (rim_number t p) (to_below p c) (next d p) (target_on p c)
                   ∙ ap (λ (q : Place). Some (last_of d q)) (back p c))
@@ -422,13 +405,13 @@ module _ (d : Directed) (t : Cutting) (flows : List Flow) (s : AreFlowsOf d t fl
 
         no_exit_outlet : (p : Place) → IsWithin t p → (IsExitCell d t p → ⊥) → outlet_by t flows outlets p ≡ None
         no_exit_outlet p w out =
-            cond-false {A = Option Place} _ (Some p) (at_number p) (false_from_ne_true _ (λ y.
-            (let o = outlet_from_code (code_at d p) (sym (ap is_outlet_code (code_here p w)) ∙ y) in out (ap (λ (c : Option ℕ). is_some c) o, inl o))))
-            ∙ elim (cases_Bool (is_place (rim_place t (rim_number t p)) p)) [
-              | inr f ↦ cond-false {A = Option Place} _ _ _ f
-              | inl y ↦ cond-true {A = Option Place} _ _ _ y
+            let off : is_outlet_code (code_in t flows p) ≡ false = false_from_ne_true _ (λ y.
+            (let o = outlet_from_code (code_at d p) (sym (ap is_outlet_code (code_here p w)) ∙ y) in out (ap (λ (c : Option ℕ). is_some c) o, inl o))) in
+            elim (cases_Bool (is_place (rim_place t (rim_number t p)) p)) [
+              | inr f ↦ outlet_unlisted t flows outlets p off f
+              | inl y ↦ outlet_listed t flows outlets p off y
                   ∙ listed_at (rim_number t p) (number_below t s.cutting p w)
-                  ∙ elim (cases_target (target_by t flows (rim_number t p))) [
+                  ∙ elim (cases_option (target_by t flows (rim_number t p))) [
                     | inl none ↦ ap (λ (x : Option Place). option_and_then (λ (z : Place). option_and_then (λ q. exit_by t flows q) (target_by t flows (get_or ends (rim_number t p) 0))) x) none
                     | inr q ↦ (let c = subst (λ (z : Place). Crosses z) (place_from_test _ _ y) (target_from (rim_number t p) q.0 q.1).crosses in
                         absurd (out (ap (λ (c : Option ℕ). is_some c) c.coded.is, inr c.apart)))

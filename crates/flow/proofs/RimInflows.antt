@@ -1,7 +1,6 @@
 -- What enters a tile at a place is the place's inflow.
 use Rattle.std.proofs.Common.{◌≡◌, ◌≢◌, ℕ, suc, ◌+◌, ◌-◌, ◌*◌, ◌<◌, ◌≤◌, ◌⊎◌, inl, inr, true, eqb, List, get_or, Option, None, Some, is_some, sym, ap, subst, refl, ◌∙◌, arith}
 use Rattle.std.specs.List.{list_any, range_with_len}
-use Rattle.std.proofs.Math.Nat.{mul-le-mul}
 use Rattle.std.proofs.lemmas.Bool.{cases_eq, cases_Bool, and_from, and_left, and_right, eq-eqb, ne_eqb, eqb-true, cond-true, cond-false, false≢true}
 use Rattle.terrain.specs.declared.place.Place.{Place}
 use Rattle.tiles.specs.Cutting.{Cutting, IsWithin, bounds_of, tile_of_place}
@@ -13,13 +12,13 @@ use Rattle.flow.specs.TileFlow.{Flow, AreTileCounts, inflow_of}
 use Rattle.flow.specs.RimNumbers.{number_count, rim_number, rim_place}
 use Rattle.flow.specs.RimGraph.{AreFlowsOf, target_by, rim_links_by}
 use Rattle.flow.specs.Inflows.{rim_weights_by, sent_to, entering, AreEntering, inflow_by, AreInflows}
-use Rattle.flow.proofs.Sums.{bit_le, sum_below-same, sum_below-none, sum_below-few}
+use Rattle.flow.proofs.Sums.{sum_below-same, sum_below-none}
 use Rattle.flow.proofs.DoubleSums.{exchange, one_term, cond-sum}
-use Rattle.flow.proofs.Coded.{IsCoded, coded_along, coded_from_some}
+use Rattle.flow.proofs.Coded.{IsCoded, cases_option, coded_along, coded_from_some}
 use Rattle.flow.proofs.RimNumbered.{IsSide, number_below, number_back}
-use Rattle.flow.proofs.RimFlows.{Crosses, cases_target, within_of, touching, back, target_on, target_from, to_below, links_size}
+use Rattle.flow.proofs.RimFlows.{Crosses, within_of, touching, back, target_on, target_from, to_below, links_size}
 use Rattle.flow.proofs.Reaching.{place_test, place_from_test, drains_at, drains_from, comes_once, one_move, enters, enters_from, enters_at}
-use Rattle.flow.proofs.Gathering.{cell, drained, all_drained, entered, inflow_sum, counted_on, counted_off, counted_none}
+use Rattle.flow.proofs.Gathering.{cell, drained, all_drained, entered, entered_few, inflow_sum, counted_on, counted_off, counted_none}
 use Rattle.flow.proofs.RimTotals.{ending, total_drained}
 
 pub sent-none : (t : Cutting) (k : ℕ) (o : Option Place) → sent_to t k o 0 ≡ 0
@@ -34,7 +33,6 @@ module _ (d : Directed) (t : Cutting) (flows : List Flow) (s : AreFlowsOf d t fl
   -- a place that water enters lies on the rim
   entry_side : (p : Place) → Crosses d t flows s p → IsSide (bounds_of t (tile_of_place t (next d p))) (next d p)
   entry_side p c a b e =
-      let q = next d p in
       let coded = coded_along d s.ends p c.coded 1 in
       let w = within_of d t flows s (next d p) coded in
       let i = in_bounds t (tile_of_place t (next d p)) (next d p) s.cutting (w, refl) in
@@ -79,7 +77,7 @@ module _ (d : Directed) (t : Cutting) (flows : List Flow) (s : AreFlowsOf d t fl
     pub leads : next d (rim_place t i) ≡ p
 
   cases_lead : (p : Place) → rim_place t (rim_number t p) ≡ p → (i : ℕ) → ((amount : ℕ) → sent_to t (rim_number t p) (target_by t flows i) amount ≡ 0) ⊎ LeadsTo p i
-  cases_lead p on i = elim (cases_target (target_by t flows i)) [
+  cases_lead p on i = elim (cases_option (target_by t flows i)) [
     | inl none ↦ inl (λ amount. ap (λ (o : Option Place). sent_to t (rim_number t p) o amount) none)
     | inr q ↦ elim (cases_Bool (eqb (rim_number t q.0) (rim_number t p))) [
       | inr f ↦ inl (λ amount. ap (λ (o : Option Place). sent_to t (rim_number t p) o amount) q.1 ∙ cond-false {A = ℕ} _ amount 0 f)
@@ -102,7 +100,6 @@ module _ (d : Directed) (t : Cutting) (flows : List Flow) (s : AreFlowsOf d t fl
         elim (cases_Bool (list_any (enters d t p (cell d c)) (range_with_len 0 (moves d - 1)))) [
           | inl y ↦
               let x = enters_crossing p (cell d c) is y in
-              let from = follow d (cell d c) x.steps in
               one_term (piece p c) (number_count t) (rim_number t (follow d (cell d c) x.steps)) (to_below d t flows s (follow d (cell d c) x.steps) x.crosses)
               (λ i h ne. elim (cases_lead p on i) [
                 | inl z ↦ z (drained d (rim_place t i) (cell d c))
@@ -150,7 +147,7 @@ module _ (d : Directed) (t : Cutting) (flows : List Flow) (s : AreFlowsOf d t fl
     sends : (k i : ℕ) → i < number_count t → entering t flows weights came k i ≡ sent_to t k (target_by t flows i) (all_drained d (rim_place t i))
     sends k i h =
         let at = up.each i (omega (arith, h, links_size d t flows s links made)) in
-        elim (cases_target (target_by t flows i)) [
+        elim (cases_option (target_by t flows i)) [
           | inl none ↦ ap (λ (o : Option Place). sent_to t k o (get_or came i 0 + get_or weights i 0)) none ∙ sym (ap (λ (o : Option Place). sent_to t k o (all_drained d (rim_place t i))) none)
           | inr q ↦ ap (sent_to t k (target_by t flows i)) (at ∙ total_drained d t flows s counts links made weights weighed i q.0 h q.1)
         ]
@@ -165,16 +162,14 @@ module _ (d : Directed) (t : Cutting) (flows : List Flow) (s : AreFlowsOf d t fl
 
     pub entering_few : (k : ℕ) → sum_below (entering t flows weights came k) (number_count t) ≤ 16777216
     entering_few k =
-        let p = rim_place t k in
         elim (cases_eq (rim_number t (rim_place t k)) k) [
           | inl e ↦
-              let most : d.rows * d.cols ≤ 4096 * 4096 = mul-le-mul (ending d t flows s counts).few_rows (ending d t flows s counts).few_cols in
               let same = ap (λ n. sum_below (entering t flows weights came n) (number_count t)) (sym e) in
-              omega (arith, same, entering_is (rim_place t k) (ap (rim_place t) e), sum_below-few (λ c. entered d t (rim_place t k) (cell d c)) (d.rows * d.cols) (λ c h. bit_le _))
+              omega (arith, same, entering_is (rim_place t k) (ap (rim_place t) e), entered_few d (ending d t flows s counts) t (rim_place t k))
           | inr ne ↦
               omega (
                 arith,
-                sum_below-none (entering t flows weights came k) (number_count t) (λ i h. elim (cases_target (target_by t flows i)) [
+                sum_below-none (entering t flows weights came k) (number_count t) (λ i h. elim (cases_option (target_by t flows i)) [
                   | inl none ↦ ap (λ (o : Option Place). sent_to t k o (get_or came i 0 + get_or weights i 0)) none
                   | inr q ↦
                       let x = target_from d t flows s i q.0 q.1 in

@@ -95,7 +95,6 @@ module _ (t : Cutting) (h : IsCutting t) where
   number_back p w side =
       let tile = tile_of_place t p in
       let i = in_bounds t (tile_of_place t p) p h (w, omega arith) in
-      let number = side_number (bounds_of t 0) (bounds_of t (tile_of_place t p)) p in
       let below = side_below (bounds_of t 0) (bounds_of t (tile_of_place t p)) p (no_wider tile) (no_higher tile) i in
       ap (λ k. side_place (bounds_of t 0) (bounds_of t k) (rim_number t p % stride (bounds_of t 0)))
       (div-mul-add (tile_of_place t p) (stride (bounds_of t 0)) (side_number (bounds_of t 0) (bounds_of t (tile_of_place t p)) p) below)

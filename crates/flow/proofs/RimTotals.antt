@@ -1,7 +1,7 @@
 -- All that comes through an exit is its total along the links of the exits.
 use Rattle.std.proofs.Common.{◌≡◌, ◌≢◌, ℕ, suc, ◌+◌, ◌-◌, ◌*◌, ◌<◌, ◌≤◌, ◌⊎◌, inl, inr, Bool, true, false, cond, ◌&&◌, eqb, List, length, get_or, Option, None, Some, is_some, sym, ap, subst, refl, ◌∙◌, arith, unwrap_or}
 use Rattle.std.specs.Option.{option_and_then}
-use Rattle.std.proofs.lemmas.Option.{none-some}
+use Rattle.std.proofs.lemmas.Option.{none-some, MatchOption-at_some}
 use Rattle.std.proofs.lemmas.List.FromFn.{get_or-map-range_with_len, length-map-range_with_len}
 use Rattle.std.proofs.lemmas.Bool.{cases_eq, cases_lt, cases_Bool, and_from, and_parts, eqb-true, cond-true, cond-false, false_from_ne_true, false≢true}
 use Rattle.terrain.specs.declared.place.Place.{Place}
@@ -17,20 +17,14 @@ use Rattle.flow.proofs.Sums.{sum_below-same, sum_below-add, sum_below-none}
 use Rattle.flow.proofs.DoubleSums.{exchange, one_term, cond-sum}
 use Rattle.flow.proofs.Ranges.{some_in_range, any_in_range, every_in_range}
 use Rattle.flow.proofs.Totals.{AreTotals, total_is, leads_parts, leads_from}
-use Rattle.flow.proofs.Coded.{IsCoded, coded_along, coded_from_some, outlet_stays, follow_stays, follow_more, follow_first}
-use Rattle.flow.proofs.RimFlows.{Crosses, Goes, cases_target, from_some, flow_of, within_of, back, target_on, target_from, exit_here, not_outlet, to_below, targets_on, untargeted, links_size, link_at, rim_streams}
-use Rattle.flow.proofs.Reaching.{IsEnding, place_test, place_from_test, still_at, still_from, reached_early, drains_at, drains_from, Comes, cases_comes, comes_never, comes_once}
+use Rattle.flow.proofs.Coded.{IsCoded, cases_option, coded_along, coded_from_some, outlet_stays, follow_stays, follow_more, follow_first}
+use Rattle.flow.proofs.RimFlows.{Crosses, Goes, flow_of, within_of, back, target_on, target_from, exit_here, not_outlet, to_below, targets_on, untargeted, links_size, link_at, rim_streams}
+use Rattle.flow.proofs.Reaching.{IsEnding, ending_of, place_test, place_from_test, still_at, still_from, reached_early, drains_at, drains_from, Comes, cases_comes, comes_never, comes_once}
 use Rattle.flow.proofs.Gathering.{cell, drained, all_drained, drained_few, gathered, all_gathered, gathered_few, through_is, counted_on, counted_off, counted_none}
 
 module _ (d : Directed) (t : Cutting) (flows : List Flow) (s : AreFlowsOf d t flows) (counts : AreTileCounts d t flows) where
   pub ending : IsEnding d
-  ending = record {
-    ends = s.ends;
-    some_col = omega (arith, s.cutting.some_col, s.of_tiles.size.0);
-    some_row = omega (arith, s.cutting.some_row, s.of_tiles.size.1);
-    few_cols = omega (arith, s.cutting.few_cols, s.of_tiles.size.0);
-    few_rows = omega (arith, s.cutting.few_rows, s.of_tiles.size.1);
-  }
+  ending = ending_of d t s.ends s.cutting s.of_tiles.size
 
   -- a place of a path from which water goes on into another tile is the exit, or comes after it
   crossing_at : (q e c : Place) → IsExitOf d t q e → (m : ℕ) → follow d q m ≡ c → Crosses d t flows s c →
@@ -54,7 +48,7 @@ module _ (d : Directed) (t : Cutting) (flows : List Flow) (s : AreFlowsOf d t fl
       let x = (target_from d t flows s j q e).crosses in
       let w = within_of d t flows s (rim_place t j) x.coded in
       let f = flow_of d t flows s (rim_place t j) w in
-      let entry = from_some (code_at d (rim_place t j)) _ _ x.coded.code x.coded.is ((counts.each (tile_of_place t (rim_place t j)) f.flow f.is).each (rim_place t j) (w, refl)) in
+      let entry = MatchOption-at_some _ _ x.coded.code x.coded.is ((counts.each (tile_of_place t (rim_place t j)) f.flow f.is).each (rim_place t j) (w, refl)) in
       ap (weight_or (through_by t flows (rim_place t j))) e
       ∙ ap (λ (o : Option Flow). unwrap_or (option_and_then (λ (z : Flow). through_in z (rim_place t j)) o) 0 + 1) f.is
       ∙ ap (λ (o : Option ℕ). unwrap_or o 0 + 1) entry
@@ -64,7 +58,7 @@ module _ (d : Directed) (t : Cutting) (flows : List Flow) (s : AreFlowsOf d t fl
   weight_untargeted j e = ap (weight_or (through_by t flows (rim_place t j))) e
 
   pub weight_few : (j : ℕ) → rim_weight t flows j ≤ 16777216
-  weight_few j = elim (cases_target (target_by t flows j)) [
+  weight_few j = elim (cases_option (target_by t flows j)) [
     | inl none ↦ omega (arith, weight_untargeted j none)
     | inr q ↦ omega (arith, weight_targeted j q.0 q.1, gathered_few d ending t (rim_place t j))
   ]
@@ -91,7 +85,7 @@ module _ (d : Directed) (t : Cutting) (flows : List Flow) (s : AreFlowsOf d t fl
           ((k : ℕ) → follow d c k ≡ rim_place t i → (x : Comes d ending In c k) → follow d c x.from ≡ rim_place t j → rim_number t (rim_place t j) ≡ j → ⊥) → term j ≡ 0
       term_off j h none = elim (cases_Bool (leads_to links j i)) [
         | inr n ↦ cond-false {A = ℕ} _ _ 0 n
-        | inl y ↦ cond-true {A = ℕ} _ _ 0 y ∙ elim (cases_target (target_by t flows j)) [
+        | inl y ↦ cond-true {A = ℕ} _ _ 0 y ∙ elim (cases_option (target_by t flows j)) [
           | inl no_target ↦ ap (λ (o : Option Place). cond {A = ℕ} (is_some o) (drained d (rim_place t j) c) 0) no_target
           | inr r ↦
               ap (λ (o : Option Place). cond {A = ℕ} (is_some o) (drained d (rim_place t j) c) 0) r.1
@@ -169,7 +163,6 @@ module _ (d : Directed) (t : Cutting) (flows : List Flow) (s : AreFlowsOf d t fl
           comes_on : drains_through d (rim_place t i) c ≡ true → (k : ℕ) → follow d c k ≡ rim_place t i → (x : Comes d ending In c k) →
               drained d (rim_place t i) c ≡ gathered d t (rim_place t i) c + sum_below term (length links)
           comes_on y k at x =
-              let p = follow d c x.from in
               let entry : In (next d (follow d c x.from)) = x.inside (suc x.from) (omega arith) (omega (arith, x.before)) in
               let cr : Crosses d t flows s (follow d c x.from) = record { coded = coded_along d s.ends c is x.from; apart = λ z. x.outside (sym z ∙ entry) } in
               let place : rim_place t (rim_number t (follow d c x.from)) ≡ follow d c x.from = back d t flows s (follow d c x.from) cr in
@@ -201,7 +194,7 @@ module _ (d : Directed) (t : Cutting) (flows : List Flow) (s : AreFlowsOf d t fl
     none_leads i j none h =
         let at = link_at d t flows s links made j h in
         false_from_ne_true _ (λ y. (let l = leads_parts links j i y in
-        elim (cases_target (target_by t flows j)) [
+        elim (cases_option (target_by t flows j)) [
           | inl no_target ↦ l.1 (sym (at ∙ untargeted d t flows s j no_target) ∙ l.0)
           | inr r ↦ elim (targets_on d t flows s j r.0 r.1) [
             | inr stop ↦ l.1 (sym (at ∙ stop.link) ∙ l.0)
@@ -251,7 +244,7 @@ module _ (d : Directed) (t : Cutting) (flows : List Flow) (s : AreFlowsOf d t fl
       rim_totals : AreTotals links weights rim_total
       rim_totals = record {
         each = λ i l. (let h : i < number_count t = omega (arith, l, links_size d t flows s links made) in
-            elim (cases_target (target_by t flows i)) [
+            elim (cases_option (target_by t flows i)) [
               | inl none ↦ omega (
                 arith,
                 total_untargeted i none,
@@ -267,7 +260,7 @@ module _ (d : Directed) (t : Cutting) (flows : List Flow) (s : AreFlowsOf d t fl
       pub total_few : (i : ℕ) → i < number_count t → total links weights i ≤ 16777216
       total_few i h =
           let is = total_is links weights rim_total (rim_streams d t flows s links made) rim_totals i (omega (arith, h, links_size d t flows s links made)) in
-          elim (cases_target (target_by t flows i)) [
+          elim (cases_option (target_by t flows i)) [
             | inl none ↦ omega (arith, is, total_untargeted i none)
             | inr q ↦ omega (arith, is, total_targeted i q.0 q.1, drained_few d ending (rim_place t i))
           ]

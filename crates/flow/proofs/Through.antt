@@ -1,5 +1,5 @@
 -- The exit of a cell is where its tile's links end.
-use Rattle.std.proofs.Common.{◌≡◌, ℕ, ◌+◌, ◌<◌, ◌≤◌, inl, inr, true, List, length, sym, ap, subst, ◌∙◌, arith, mul_comm}
+use Rattle.std.proofs.Common.{◌≡◌, ℕ, ◌+◌, ◌<◌, ◌≤◌, inl, inr, true, List, length, Option, is_some, sym, ap, subst, ◌∙◌, arith, mul_comm}
 use Rattle.std.proofs.Math.Nat.{mul-le-mul}
 use Rattle.std.proofs.lemmas.Bool.{eq-eqb}
 use Rattle.terrain.specs.declared.place.Place.{Place}
@@ -11,7 +11,7 @@ use Rattle.flow.specs.TileFlow.{stays, IsExitOf}
 use Rattle.flow.specs.TileLinks.{place_in}
 use Rattle.flow.proofs.Ranges.{all_in_range}
 use Rattle.flow.proofs.EarlyEnds.{early_end, node_stays}
-use Rattle.flow.proofs.Coded.{IsCoded, coded_along, coded_some, outlet_from_stays}
+use Rattle.flow.proofs.Coded.{IsCoded, coded_along, outlet_from_stays}
 use Rattle.flow.proofs.InTile.{IsPiece, cases_bounds, tracks, link_place, node_inside, tile_streams, coded_within, in_place}
 
 module _ (d : Directed) (c : Cutting) (tile : ℕ) (b : Bounds) (links : List ℕ) (s : IsPiece d c tile b links) where
@@ -44,7 +44,7 @@ module _ (d : Directed) (c : Cutting) (tile : ℕ) (b : Bounds) (links : List �
         stays_from_way (place_in b i) t.met t.way,
         at,
         (
-          coded_some d (place_in b (end_of links i)) coded,
+          ap (λ (o : Option ℕ). is_some o) coded.is,
           elim (cases_bounds b (next d (place_in b (end_of links i)))) [
             | inl y ↦ inl (outlet_from_stays d s.ends (place_in b (end_of links i)) coded
                 (sym (link_place d c tile b links s (end_of links i) inside y) ∙ ap (place_in b) stop))

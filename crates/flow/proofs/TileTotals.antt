@@ -103,7 +103,6 @@ module _ (d : Directed) (e : IsEnding d) (t : Cutting) (tile : ℕ) (b : Bounds)
                     out (subst (λ (p : Place). IsInBounds b p) (sym at_j ∙ ap (follow d q) (same a moves apart)) (in_place d t tile b links s j l)))),
               )
               | inl within ↦
-                  let j = index_in b (follow d q c.from) in
                   let below : index_in b (follow d q c.from) < length links = omega (arith, index_in_below b (follow d q c.from) within, s.made.size) in
                   let back : place_in b (index_in b (follow d q c.from)) ≡ follow d q c.from = place_in-index_in b (follow d q c.from) within in
                   let to : next d (place_in b (index_in b (follow d q c.from))) ≡ place_in b i = ap (next d) back ∙ goes in
@@ -133,7 +132,6 @@ module _ (d : Directed) (e : IsEnding d) (t : Cutting) (tile : ℕ) (b : Bounds)
       ≡ weight_in d b i + sum_below (λ c. over (place_in b i) (cell d c)) (d.rows * d.cols)
       + upstream_sum links (λ j. sum_below (λ c. cond {A = ℕ} (is_some (code_at d (cell d c)) && R (place_in b j) (cell d c)) 1 0) (d.rows * d.cols)) i
   tallied R over i h each none =
-      let part : ℕ → ℕ → ℕ = λ j c. cond {A = ℕ} (is_some (code_at d (cell d c)) && R (place_in b j) (cell d c)) 1 0 in
       omega (
         arith,
         sum_below-same (λ c. cond {A = ℕ} (is_some (code_at d (cell d c)) && R (place_in b i) (cell d c)) 1 0)
@@ -170,8 +168,6 @@ module _ (d : Directed) (e : IsEnding d) (t : Cutting) (tile : ℕ) (b : Bounds)
 
       own_sum : sum_below (λ c. own (place_in b i) (cell d c)) (d.rows * d.cols) ≡ weight_in d b i
       own_sum =
-          let p = place_in b i in
-          let grid = whole_bounds d.cols d.rows in
           let inside : IsInBounds (whole_bounds d.cols d.rows) (place_in b i) =
           (let x = in_place d t tile b links s i h in (omega arith, omega (arith, x, s.inside.rows_inside, s.rows), omega arith, omega (arith, x, s.inside.cols_inside, s.cols))) in
           one_term (λ c. own (place_in b i) (cell d c)) (d.rows * d.cols) (index_in (whole_bounds d.cols d.rows) (place_in b i)) (index_in_below (whole_bounds d.cols d.rows) (place_in b i) inside)

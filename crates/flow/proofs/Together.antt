@@ -1,15 +1,14 @@
 -- The tiles together.
-use Rattle.std.proofs.Common.{◌≡◌, ℕ, ◌*◌, ◌<◌, inl, inr, List, length, Option, None, Some, MatchOption, Vec, Global, vec_len, slice_get, sym, ap, subst, refl, ◌∙◌, arith}
+use Rattle.std.proofs.Common.{◌≡◌, ℕ, ◌*◌, List, length, Option, Some, Vec, Global, vec_len, slice_get, subst, arith}
 use Rattle.std.specs.Prelude.{Result, Ok, Err, IfOk}
-use Rattle.std.proofs.lemmas.Option.{get_or_from_slice_get, slice_get_within, slice_get_cases}
+use Rattle.std.proofs.lemmas.Option.{get_or_from_slice_get, slice_get_within}
 use Rattle.terrain.specs.Neighbours.{entry_at}
 use Rattle.terrain.specs.declared.place.Place.{Place}
 use Rattle.tile_jobs.specs.Answers.{AllGiven}
-use Rattle.tiles.specs.Cutting.{Cutting, View, IsWithin, Cuts}
-use Rattle.drainage.specs.Following.{Directed, code_at}
+use Rattle.tiles.specs.Cutting.{Cutting, IsWithin, Cuts}
+use Rattle.drainage.specs.Following.{Directed}
 use Rattle.drainage.specs.Drained.{Drained, directed_of}
 use Rattle.flow.specs.Counts.{IsMapOf}
-use Rattle.flow.specs.TileFlow.{Flow, IsTileExits, IsTileFlow, directed_by}
 use Rattle.flow.specs.Whole.{make_directed}
 use Rattle.flow.specs.TileMaps.{IsValueAt}
 use Rattle.flow.proofs.Directed.{directed_same}
@@ -21,18 +20,6 @@ pub jobs_gave : {X E : Type 0} (P : ℕ → X → Type 0) (r : Result (Vec X Glo
 jobs_gave P (Ok v) n m Q same made len given = made v.items (omega (arith, v.ok.0, len, same))
     (λ k x there. subst (P k) (get_or_from_slice_get v.items k x x there) (given k x (omega (arith, v.ok.0, len, slice_get_within v.items k x there))))
 jobs_gave P (Err e) n m Q same made len given = len
-
--- the map of directions of a view
-pub directed_of_view : (t : Cutting) (job : ℕ) (v : View (Option ℕ)) (codes : List (Option ℕ)) → v ≡ record { cutting = t; tile = job; cells = codes } → directed_by v ≡ make_directed t.cols t.rows codes
-directed_of_view t job v codes e = ap (λ (x : View (Option ℕ)). directed_by x) e
-
-pub exits_of_view : (t : Cutting) (job : ℕ) (v : View (Option ℕ)) (codes : List (Option ℕ)) (f : Flow) → v ≡ record { cutting = t; tile = job; cells = codes } →
-    IsTileExits (directed_by v) v.cutting v.tile f → IsTileExits (make_directed t.cols t.rows codes) t job f
-exits_of_view t job v codes f e exits = subst (λ (x : View (Option ℕ)). IsTileExits (directed_by x) x.cutting x.tile f) e exits
-
-pub flow_of_view : (t : Cutting) (job : ℕ) (v : View (Option ℕ)) (codes : List (Option ℕ)) (f : Flow) → v ≡ record { cutting = t; tile = job; cells = codes } →
-    IsTileFlow (directed_by v) v.cutting v.tile f → IsTileFlow (make_directed t.cols t.rows codes) t job f
-flow_of_view t job v codes f e flow = subst (λ (x : View (Option ℕ)). IsTileFlow (directed_by x) x.cutting x.tile f) e flow
 
 -- the map of a grid's directions, by the size of the cutting
 pub whole_map : (d : Drained) (t : Cutting) (codes : List (Option ℕ)) → Cuts t d.terrain → codes ≡ d.codes → (value : Directed → Place → ℕ) (whole : List (Option ℕ)) → length whole ≡ t.cols * t.rows →

@@ -29,9 +29,6 @@ awaited_from links waits i j h = elim (cases_Bool (leads_to links j i && not (ha
   | inr n ↦ absurd (omega (arith, cond-false {A = ℕ} _ 1 0 n))
 ]
 
-pub sent_from_mark : (waits : List ℕ) (i : ℕ) → get_or waits i 0 ≡ sent_mark → has_sent waits i ≡ true
-sent_from_mark waits i e = eq-eqb _ _ e
-
 pub open_from_count : (waits : List ℕ) (i : ℕ) → get_or waits i 0 < sent_mark → has_sent waits i ≡ false
 open_from_count waits i l = ne_eqb _ _ (λ e. omega (arith, e))
 

@@ -1,5 +1,5 @@
 -- The exits that lead into other tiles as nodes of a graph. Only the contracts of private functions speak of it.
-use Rattle.std.specs.Prelude.{◌≡◌, ℕ, Bool, not, ◌&&◌, ◌==◌, if◌then◌else◌, List, map, Option, None, Some, slice_get, slice_index, slice_index_or, unwrap_or, option_and_then}
+use Rattle.std.specs.Prelude.{◌≡◌, ℕ, Bool, true, not, ◌&&◌, ◌==◌, if◌then◌else◌, List, map, Option, None, Some, slice_get, slice_index, slice_index_or, unwrap_or, option_and_then}
 use Rattle.std.specs.List.{range_with_len}
 use Rattle.terrain.specs.Ways.{place_toward}
 use Rattle.terrain.specs.declared.place.Place.{Place}
@@ -7,9 +7,13 @@ use Rattle.tiles.specs.Cutting.{Cutting, IsCutting, IsWithin, is_within, bounds_
 use Rattle.drainage.specs.Following.{Directed, last_of}
 use Rattle.drainage.specs.Drained.{AllFlowEnds}
 use Rattle.flow.specs.Counts.{is_place}
-use Rattle.flow.specs.TileFlow.{Flow, is_in_bounds, entry_in, exit_in, AreTileExits, IsExitCell}
+use Rattle.flow.specs.TileFlow.{Flow, is_in_bounds, entry_in, exit_in, IsTileExits, IsTileCounts, AreTileExits, IsExitCell}
 use Rattle.flow.specs.Whole.{is_outlet_code}
 use Rattle.flow.specs.RimNumbers.{number_count, rim_number, rim_place}
+
+-- The flow that is found for a tile, with its counts where they are asked for.
+abbrev pub IsFound : Directed → Cutting → Bool → ℕ → Flow → Type 0
+IsFound d t counted tile f = IsTileExits d t tile f × (counted ≡ true → IsTileCounts d t tile f)
 
 -- The flows have the exits of the tiles of a map of directions whose flow paths end.
 pub record AreFlowsOf (d : Directed) (t : Cutting) (flows : List Flow) : Type 0 where

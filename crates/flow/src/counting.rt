@@ -92,9 +92,10 @@ fn tile_counts(
     requires tile { tile < tile_count inflows.now.cutting }
     ensures { IfOk result (λ v. AreCounts inflows.now tile flow.now v.items) }
 {
-    let weights = rim_weights(alloc, inflows, tile, flow.codes())?;
+    let codes = flow.codes();
+    let weights = rim_weights(alloc, inflows, tile, codes)?;
     let came = upstream(alloc, flow.links(), &weights)?;
-    counts(alloc, flow.codes(), &weights, &came)
+    counts(alloc, codes, &weights, &came)
 }
 
 // 1 for each data cell, and what flows in.

@@ -15,11 +15,12 @@ use tile_jobs::{Gate, JobFault, Work};
 use tile_maps::Crew;
 use tiles::Tiling;
 
-/// Finds the flow of each tile.
+/// Finds the flow of each tile, without its counts where exits alone are asked for.
 #[derive(Drop)]
 struct FlowTiles<'a> {
     codes: &'a [Option<Code>],
     tiling: &'a Tiling,
+    counted: bool,
     ghost flows: { IsGridFlow tiling.now.cols tiling.now.rows codes.now },
 }
 
@@ -27,44 +28,22 @@ impl<'a> Work for FlowTiles<'a> {
     type Out = TileFlow;
 
     ghost use Rattle.tiles.specs.Cutting.{tile_count};
-    ghost use Rattle.flow.specs.TileFlow.{IsTileFlow};
+    ghost use Rattle.flow.specs.RimGraph.{IsFound};
     ghost use Rattle.flow.specs.Whole.{make_directed};
 
     ghost most = { λ w. tile_count w.tiling.now };
 
-    ghost gives = { λ w job out. IsTileFlow (make_directed w.tiling.now.cols w.tiling.now.rows w.codes.now) w.tiling.now job out };
+    ghost gives = { λ w job out. IsFound (make_directed w.tiling.now.cols w.tiling.now.rows w.codes.now) w.tiling.now w.counted job out };
 
     fn run(&self, alloc: Global, job: u32) -> Result<TileFlow, JobFault> {
         let view = self.tiling.view(self.codes, job);
+        if !self.counted {
+            let flow = tile_exits(alloc, &view)?;
+            return Ok(flow);
+        }
         let Ok(flow) = tile_flow(alloc, &view) else {
             return Err(JobFault::Memory);
         };
-        Ok(flow)
-    }
-}
-
-/// Finds the exits of each tile.
-#[derive(Drop)]
-struct ExitTiles<'a> {
-    codes: &'a [Option<Code>],
-    tiling: &'a Tiling,
-    ghost flows: { IsGridFlow tiling.now.cols tiling.now.rows codes.now },
-}
-
-impl<'a> Work for ExitTiles<'a> {
-    type Out = TileFlow;
-
-    ghost use Rattle.tiles.specs.Cutting.{tile_count};
-    ghost use Rattle.flow.specs.TileFlow.{IsTileExits};
-    ghost use Rattle.flow.specs.Whole.{make_directed};
-
-    ghost most = { λ w. tile_count w.tiling.now };
-
-    ghost gives = { λ w job out. IsTileExits (make_directed w.tiling.now.cols w.tiling.now.rows w.codes.now) w.tiling.now job out };
-
-    fn run(&self, alloc: Global, job: u32) -> Result<TileFlow, JobFault> {
-        let view = self.tiling.view(self.codes, job);
-        let flow = tile_exits(alloc, &view)?;
         Ok(flow)
     }
 }
@@ -80,7 +59,12 @@ pub(crate) fn flow_tiles<R: Threads + Wait + Sync, G: Gate + Sync>(
     ensures counts { IfOk result (λ v. AreTileCounts (make_directed tiling.now.cols tiling.now.rows codes.now) tiling.now v.items) }
     ensures workers { RefusesWorkers crew.now.workers result }
 {
-    crew.run(&FlowTiles { codes, tiling }, tiling.tiles())
+    let work = FlowTiles {
+        codes,
+        tiling,
+        counted: true,
+    };
+    crew.run(&work, tiling.tiles())
 }
 
 /// The flows of all tiles without their counts, in tile order.
@@ -94,5 +78,10 @@ pub(crate) fn exit_tiles<R: Threads + Wait + Sync, G: Gate + Sync>(
     ensures lawful { IsCutting tiling.now }
     ensures workers { RefusesWorkers crew.now.workers result }
 {
-    crew.run(&ExitTiles { codes, tiling }, tiling.tiles())
+    let work = FlowTiles {
+        codes,
+        tiling,
+        counted: false,
+    };
+    crew.run(&work, tiling.tiles())
 }

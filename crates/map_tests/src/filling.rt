@@ -29,7 +29,7 @@ pub(crate) fn floods_of(
 {
     let mut floods = Vec::new(alloc);
     for tile in 0..tiling.tiles() {
-        let flood = tile_flood(alloc, &tiling.view(grid.cells(), tile))?;
+        let flood = tile_flood(alloc, &tiling.view(grid.cells(), tile), grid.sinks())?;
         if floods.push(flood).is_err() {
             return Err(NoMemory);
         }
@@ -78,7 +78,7 @@ fn valley_through_two_tiles(rt: HostRuntime) {
     let tiling = cut(&rt, &grid, 3);
     let floods = floods_of(alloc, &grid, &tiling).expect(&rt, "floods");
     expect_floods(&rt, alloc, &floods);
-    let graph = SpillGraph::gather(alloc, &tiling, &floods).expect(&rt, "a graph");
+    let graph = SpillGraph::gather(alloc, &tiling, &floods, &[]).expect(&rt, "a graph");
     let levels = graph.levels(alloc).expect(&rt, "levels");
     expect_levels(&rt, &levels);
     let level = filled(&rt, alloc, &grid, &tiling, 2, &NoGate).expect(&rt, "filled heights");

@@ -1,5 +1,6 @@
 // One round of counting steps over a tile, from the counts that the rounds begin with.
 ghost use Rattle.std.specs.Prelude.{◌≡◌, ◌*◌, ◌<◌, ◌↔◌, IfOk, IsTrue};
+ghost use Rattle.terrain.specs.Raster.{Terrain};
 ghost use Rattle.terrain.specs.Neighbours.{IsInside, Touches, index_of};
 ghost use Rattle.tiles.specs.Cutting.{Cuts, tile_count};
 ghost use Rattle.drain.specs.Beginning.{AreBegun};
@@ -58,7 +59,7 @@ fn has_lower(grid: &Grid, place: Place) -> bool
     false
 }
 
-/// Whether the cell is an edge cell or has a lower neighbour.
+/// Whether the cell is an end cell or has a lower neighbour.
 fn drains_at_once(grid: &Grid, place: Place) -> bool
     requires { IsInside grid.now.terrain place }
     ensures { IsTrue result ↔ DrainsAtOnce grid.now.terrain place }
@@ -86,8 +87,10 @@ fn round(
     begun: &[Option<u32>],
     tile: u32,
 ) -> Result<Vec<Option<u32>>, NoMemory>
-    requires cuts { Cuts tiling.now grid.now.terrain }
-    requires begun { AreBegun grid.now.terrain begun.now }
+    ghost terrain: { Terrain }
+    requires own { terrain ≡ grid.now.terrain }
+    requires cuts { Cuts tiling.now terrain }
+    requires begun { AreBegun terrain begun.now }
     requires tile { tile < tile_count tiling.now }
 {
     let levels = tiling.view(grid.cells(), tile);
@@ -120,6 +123,17 @@ fn rings_of_nines(rt: HostRuntime) {
     // The counts of the fifth row and column come in over the rim of the middle tile.
     let wanted = land(&rt, alloc, 2, 2, "2 1\n1 1");
     assert!(rt; agree(&first_round(&rt, alloc, &grid, 2, 4), &wanted));
+}
+
+#[test]
+fn sink_among_nines(rt: HostRuntime) {
+    let alloc = rt.alloc();
+    let nines = "9 9 9 9 9\n9 9 9 9 9\n9 9 9 9 9\n9 9 9 9 9\n9 9 9 9 9";
+    let grid = land(&rt, alloc, 5, 5, nines);
+    let grid = again!(&rt, grid.with_sinks(alloc, &[Place { row: 2, col: 2 }]));
+    let rings = "0 0 0 0 0\n0 1 1 1 0\n0 1 0 1 0\n0 1 1 1 0\n0 0 0 0 0";
+    let wanted = land(&rt, alloc, 5, 5, rings);
+    assert!(rt; agree(&first_round(&rt, alloc, &grid, 5, 0), &wanted));
 }
 
 #[test]

@@ -87,13 +87,13 @@ fn floods_of_tiles_and_their_graph(rt: HostRuntime) {
     let tiling = cut(&rt, &pits, 2);
     let floods = floods_of(alloc, &pits, &tiling).expect(&rt, "floods");
     assert_eq!(rt; (floods.len(), tiling.tiles()), (4, 4));
-    let last = again!(&rt, tile_flood(alloc, &tiling.view(pits.cells(), 3)));
+    let last = again!(&rt, tile_flood(alloc, &tiling.view(pits.cells(), 3), &[]));
     let place = Place { row: 2, col: 2 };
     assert_eq!(rt;
         (last.level(place), last.label(place)),
         (Some(2), Some(place))
     );
-    let graph = again!(&rt, SpillGraph::gather(alloc, &tiling, &floods));
+    let graph = again!(&rt, SpillGraph::gather(alloc, &tiling, &floods, &[]));
     let levels = again!(&rt, graph.levels(alloc));
     let spills = [H, H, H, H, H, C, H, H, H, H, C, H, H, H, H, C];
     assert_eq!(rt; levels.as_slice(), spills.as_slice());

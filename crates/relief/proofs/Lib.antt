@@ -1,4 +1,5 @@
 mod Refused
+mod Draining
 mod Ran
 mod Viewing
 mod Maps

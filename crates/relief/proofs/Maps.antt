@@ -3,6 +3,7 @@ use Rattle.std.proofs.Common.{◌≡◌, ℕ, ◌⊎◌, List, Option, None, Som
 use Rattle.std.proofs.lemmas.Option.{MatchOption-at_none, MatchOption-at_some}
 use Rattle.terrain.specs.Raster.{Raster, Terrain}
 use Rattle.terrain.specs.Neighbours.{height_at}
+use Rattle.terrain.specs.Sinks.{raster_with_sinks}
 use Rattle.drainage.specs.Filled.{IsFilled, IsFilledGrid}
 use Rattle.ascii_grid.specs.Text.{heights_text, counts_text}
 use Rattle.terrain.specs.declared.place.Place.{Place}
@@ -89,7 +90,7 @@ same_text g (View observers target radius) Accumulate text same h = subst (λ (k
 same_text g (View observers target radius) Basins text same h = subst (λ (k : Map). IsMapText g k text) (sym same) h
 same_text g (View observers target radius) (View others height reach) text same h = (h.0, rw (same.0, same.1, same.2) h.1, h.2)
 
-pub one_map : (scale : ℕ) (m n : Map) (input text other : List ℕ) → AreSame m n → IsMapOfText scale m input text → IsMapOfText scale n input other → text ≡ other
-one_map scale m n input text other same_map a b =
+pub one_map : (scale : ℕ) (m n : Map) (sinks : List Place) (input text other : List ℕ) → AreSame m n → IsMapOfText scale m sinks input text → IsMapOfText scale n sinks input other → text ≡ other
+one_map scale m n sinks input text other same_map a b =
     let same : a.0 ≡ b.0 = a.1.grid ∙ sym b.1.grid in
-    one_map_of_grid b.0 m text other (subst (λ (g : Raster). IsMapText g m text) same a.2) (same_text b.0 m n other same_map b.2)
+    one_map_of_grid (raster_with_sinks b.0 sinks) m text other (subst (λ (g : Raster). IsMapText (raster_with_sinks g sinks) m text) same a.2) (same_text (raster_with_sinks b.0 sinks) m n other same_map b.2)

@@ -1,5 +1,5 @@
 -- A run from what its parts left.
-use Rattle.std.proofs.Common.{◌≡◌, ℕ, ◌+◌, ◌≤◌, List, length, Option, None, Some, Ok, Err, refl, ◌∙◌, arith}
+use Rattle.std.proofs.Common.{◌≡◌, ℕ, ◌+◌, ◌≤◌, List, length, Option, None, Some, Ok, Err, refl, sym, ◌∙◌, arith}
 use Rattle.std.specs.Io.KnownBytes.{Keeps, Consumes}
 use Rattle.terrain.specs.Raster.{Raster}
 use Rattle.ascii_grid.specs.Device.{Device, Writes}
@@ -10,13 +10,13 @@ use Rattle.ascii_grid.specs.declared.input.InputFault.{InputFault}
 use Rattle.ascii_grid.specs.declared.input.InputFault.TheVariants as input
 use Rattle.relief.specs.declared.fault.RunFault.{RunFault}
 use Rattle.relief.specs.declared.fault.RunFault.TheVariants.{Read, Write}
-use Rattle.relief.specs.declared.making.MadeMap.{MadeMap}
 use Rattle.request.specs.Wish.{Wish}
 use Rattle.relief.specs.Faults.{of_input}
-use Rattle.relief.specs.MadeMap.{made_text}
+use Rattle.relief.specs.MadeMap.{drained_into}
 use Rattle.relief.specs.MapText.{IsMapText}
 use Rattle.relief.specs.Refusals.{wish_fault, IsWorkRefusal}
 use Rattle.relief.specs.Runs.{Runs}
+use Rattle.relief.proofs.Draining.{fault_without, map_of_text}
 use Rattle.relief.proofs.Refused.{work_refused, work_is_no_device}
 
 Keeps-same : (a : Option (List ℕ)) → Keeps a a
@@ -79,18 +79,18 @@ making_refused remaining contents w reader left writer g f is same took refusal 
     }
 
 -- a map was made, and its writing failed
-pub writing_failed : {R W : Type 0} (remaining : R → Option (List ℕ)) (contents : W → Option (List ℕ)) (w : Wish) (reader left : Device R) (writer grown : Device W) (g : Raster) (m : MadeMap) (e : WriteFailed)
+pub writing_failed : {R W : Type 0} (remaining : R → Option (List ℕ)) (contents : W → Option (List ℕ)) (w : Wish) (reader left : Device R) (writer grown : Device W) (g : Raster) (map : List ℕ) (e : WriteFailed)
     → ((text : List ℕ) → remaining reader.device ≡ Some text → IsGridText w.scale text g)
     → left.failures ≡ reader.failures → Took remaining w.scale reader left ⊥
-    → wish_fault w g ≡ None → IsMapText g w.map (made_text g m)
-    → Writes {T = Unit {0}} {E = WriteFailed} contents writer grown (made_text g m) (Err e)
+    → wish_fault w (drained_into w.sinks g) ≡ None → IsMapText (drained_into w.sinks g) w.map map
+    → Writes {T = Unit {0}} {E = WriteFailed} contents writer grown map (Err e)
     → Runs {T = Unit {0}} remaining contents w reader left writer grown (Err Write)
-writing_failed remaining contents w reader left writer grown g m e is same took ready made writes =
+writing_failed remaining contents w reader left writer grown g map e is same took ready made writes =
     let more : grown.failures ≡ writer.failures + 1 = writes.count.err in record {
       written = λ text told. tt;
-      refused = λ text told. (g, is text told, ready);
+      refused = λ text told. (g, is text told, sym (fault_without w g w.sinks) ∙ ready);
       unwritten = λ other. absurd (other refl);
-      part = λ text told failed. (made_text g m, (g, is text told, made), writes.part);
+      part = λ text told failed. (map, map_of_text w text map g (is text told) made, writes.part);
       read = (λ failed. absurd (cc), λ less. absurd (omega arith));
       write = (λ failed. omega arith, λ less. refl);
       sound = tt;
@@ -98,14 +98,14 @@ writing_failed remaining contents w reader left writer grown g m e is same took 
     }
 
 -- a map was made and written
-pub ran : {R W : Type 0} (remaining : R → Option (List ℕ)) (contents : W → Option (List ℕ)) (w : Wish) (reader left : Device R) (writer grown : Device W) (g : Raster) (m : MadeMap)
+pub ran : {R W : Type 0} (remaining : R → Option (List ℕ)) (contents : W → Option (List ℕ)) (w : Wish) (reader left : Device R) (writer grown : Device W) (g : Raster) (map : List ℕ)
     → ((text : List ℕ) → remaining reader.device ≡ Some text → IsGridText w.scale text g)
     → left.failures ≡ reader.failures → Took remaining w.scale reader left ⊥
-    → IsMapText g w.map (made_text g m)
-    → Writes {T = Unit {0}} {E = WriteFailed} contents writer grown (made_text g m) (Ok tt)
+    → IsMapText (drained_into w.sinks g) w.map map
+    → Writes {T = Unit {0}} {E = WriteFailed} contents writer grown map (Ok tt)
     → Runs {T = Unit {0}} remaining contents w reader left writer grown (Ok tt)
-ran remaining contents w reader left writer grown g m is same took made writes = record {
-  written = λ text told. (made_text g m, (g, is text told, made), writes.all);
+ran remaining contents w reader left writer grown g map is same took made writes = record {
+  written = λ text told. (map, map_of_text w text map g (is text told) made, writes.all);
   refused = λ text told. tt;
   unwritten = tt;
   part = λ text told e. absurd (cc);

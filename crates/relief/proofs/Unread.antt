@@ -1,7 +1,6 @@
 -- How the program ends where nothing was read.
 use Rattle.std.proofs.Common.{◌≡◌, ◌++◌, ℕ, suc, List, [], ◌∷◌, codes, arith, Option, sym, ap, subst, refl, inl, inr}
 use Rattle.std.specs.Prelude.{Any, decimal}
-use Rattle.std.proofs.lemmas.List.{append_assoc}
 use Rattle.clap.specs.Words.{Text, kind_of}
 use Rattle.clap.specs.Faults.{fault_of}
 use Rattle.clap.specs.Kinds.{HasKind, IsAmong, Kinds}
@@ -9,11 +8,11 @@ use Rattle.clap.specs.declared.error.Error.{Error}
 use Rattle.clap.specs.declared.error.kind.ErrorKind.{ErrorKind}
 use Rattle.clap.specs.declared.error.kind.ErrorKind.TheVariants.{OutOfMemory}
 use Rattle.ascii_grid.specs.Device.{Device}
-use Rattle.request.specs.CommandLine.{HasBadObserver, IsHelp, program_app}
-use Rattle.relief.specs.Ends.{EndsLine, EndsShowing, EndsUnread, Tells}
+use Rattle.request.specs.CommandLine.{HasBadObserver, HasBadSink, IsHelp, program_app}
+use Rattle.relief.specs.Ends.{EndsLine, EndsShowing, EndsUnread, IsRefusalText, Tells}
 use Rattle.request.specs.WordsFaults.{IsFaultOf}
 use Rattle.request.specs.declared.words.WordsFault.TheVariants.{NoMap}
-use Rattle.request.proofs.Asked.{bad_wishes_none, one_bad}
+use Rattle.request.proofs.Asked.{bad_alone, bad_sink_wishes_none, bad_wishes_none, one_bad, one_bad_sink}
 
 any_among : (P : ErrorKind → Type 0) (k : ErrorKind) (ks : Kinds) → P k → IsAmong k ks → Any P ks
 any_among P k [] p among = absurd among
@@ -33,6 +32,9 @@ module _ {R W E : Type 0} (contents : W → Option (List ℕ)) (lines : E → Op
   abbrev Unread : Type 0
   Unread = EndsUnread contents lines words reader reader writer grown errors told status
 
+  pub refused_told : (text : List ℕ) → IsRefusalText words text → Tells lines errors told text → grown ≡ writer → status ≡ 1 → Unread
+  refused_told text refusal told_text same refused = record { unread = refl; reason = inr (inl ((text, refusal, told_text), refused, same)) }
+
   pub shown : (e : Error) → EndsShowing contents lines (kind_of e) writer grown errors told status → HasKind (fault_of program_app words) e → Unread
   shown e (inl help) (inl want) = absurd (help_is_no_want (kind_of e) help.0 want)
   shown e (inl help) (inr among) = record {
@@ -40,56 +42,38 @@ module _ {R W E : Type 0} (contents : W → Option (List ℕ)) (lines : E → Op
     reason = inl (any_among IsHelp (kind_of e) _ help.0 among, help.1, help.2, help.3);
   }
   shown e (inr (inl refused)) (inl want) = absurd (refused.0.1 want)
-  shown e (inr (inl refused)) (inr among) = record {
-    unread = refl;
-    reason = inr (inl (
-      (
-        refused.1.0,
-        record {
-          refused = inl (any_among (λ kind. ¬ IsHelp kind) (kind_of e) _ refused.0.0 among);
-          line = refused.1.1;
-          bad_observer = λ place bad. absurd (none_among (kind_of e) _ bad.command.accepted among);
-        },
-        refused.1.2,
-      ),
-      refused.2,
-      refused.3,
-    ));
-  }
+  shown e (inr (inl refused)) (inr among) = refused_told refused.1.0 (record {
+    refused = inl (any_among (λ kind. ¬ IsHelp kind) (kind_of e) _ refused.0.0 among);
+    line = refused.1.1;
+    bad_observer = λ place bad. absurd (none_among (kind_of e) _ bad.command.accepted among);
+    bad_sink = λ place bad. absurd (none_among (kind_of e) _ bad.command.accepted among);
+  }) refused.1.2 refused.3 refused.2
   shown e (inr (inr want)) kind = record { unread = refl; reason = inr (inr want) }
 
-  pub bad_word_told : (place : ℕ) → HasBadObserver words place → Tells lines errors told (codes "relief: bad observer word " ++ decimal place ++ codes "\n") → grown ≡ writer → status ≡ 1 → Unread
-  bad_word_told place bad told_line same refused = record {
-    unread = refl;
-    reason = inr (inl (
-      (
-        _,
-        record {
-          refused = inr (bad.command.accepted, bad_wishes_none words bad.command.accepted _ _ bad.command.found place bad);
-          line = (codes "relief: bad observer word " ++ decimal place, sym (append_assoc (codes "relief: bad observer word ") (decimal place) (codes "\n")));
-          bad_observer = λ other b. ap (λ k. codes "relief: bad observer word " ++ decimal k ++ codes "\n") (one_bad words bad.command.accepted _ _ bad.command.found place other bad b);
-        },
-        told_line,
-      ),
-      refused,
-      same,
-    ));
+ends_line : (front : List ℕ) (place : ℕ) → EndsLine (front ++ decimal place ++ codes "\n")
+ends_line front place = (front ++ decimal place, refl)
+
+module _ (words : List Text) where
+  pub bad_observer_refused : (place : ℕ) → HasBadObserver words place → IsRefusalText words (codes "relief: bad observer word " ++ decimal place ++ codes "\n")
+  bad_observer_refused place bad = record {
+    refused = inr (bad.command.accepted, bad_wishes_none words bad.command.accepted _ _ bad.command.found place bad);
+    line = ends_line (codes "relief: bad observer word ") place;
+    bad_observer = λ other b. ap (λ k. codes "relief: bad observer word " ++ decimal k ++ codes "\n") (one_bad words bad.command.accepted _ _ bad.command.found place other bad b);
+    bad_sink = λ other b. absurd (bad_alone words bad.command.accepted _ _ bad.command.found place other bad b);
   }
 
-  pub no_map_told : IsFaultOf words NoMap → ((text : List ℕ) × EndsLine text × Tells lines errors told text) → grown ≡ writer → status ≡ 1 → Unread
-  no_map_told fault line same refused = record {
-    unread = refl;
-    reason = inr (inl (
-      (
-        line.0,
-        record {
-          refused = inr (fault.0, fault.1);
-          line = line.1;
-          bad_observer = λ place bad. absurd (fault.2 place bad);
-        },
-        line.2,
-      ),
-      refused,
-      same,
-    ));
+  pub bad_sink_refused : (place : ℕ) → HasBadSink words place → IsRefusalText words (codes "relief: bad sink word " ++ decimal place ++ codes "\n")
+  bad_sink_refused place bad = record {
+    refused = inr (bad.command.accepted, bad_sink_wishes_none words bad.command.accepted _ _ bad.command.found place bad);
+    line = ends_line (codes "relief: bad sink word ") place;
+    bad_observer = λ other b. absurd (bad_alone words bad.command.accepted _ _ bad.command.found other place b bad);
+    bad_sink = λ other b. ap (λ k. codes "relief: bad sink word " ++ decimal k ++ codes "\n") (one_bad_sink words bad.command.accepted _ _ bad.command.found place other bad b);
+  }
+
+  pub no_map_refused : (text : List ℕ) → IsFaultOf words NoMap → EndsLine text → IsRefusalText words text
+  no_map_refused text fault line = record {
+    refused = inr (fault.0, fault.1);
+    line = line;
+    bad_observer = λ place bad. absurd (fault.2 place bad);
+    bad_sink = λ place bad. absurd (fault.3 place bad);
   }

@@ -3,10 +3,8 @@ use Rattle.std.proofs.Common.{◌≡◌, ◌⊎◌, ℕ, ◌+◌, ◌≤◌, Boo
 use Rattle.std.specs.Prelude.{nat_lt, is_none}
 use Rattle.std.specs.Option.{option_map, option_or}
 use Rattle.std.specs.List.{position_from}
-use Rattle.std.proofs.lemmas.Bool.{le-ltb, cond-false}
 use Rattle.terrain.specs.Raster.{Raster, Terrain}
 use Rattle.terrain.specs.Neighbours.{height_at}
-use Rattle.tiles.specs.Cutting.{most_tiles}
 use Rattle.tile_jobs.specs.declared.JobFault.{JobFault}
 use Rattle.tile_jobs.specs.declared.JobFault.TheVariants as jobs
 use Rattle.sight.specs.declared.fault.SightFault.{SightFault}
@@ -19,11 +17,8 @@ use Rattle.request.specs.declared.map.Map.TheVariants.{Fill, Flow, Accumulate, B
 use Rattle.relief.specs.declared.fault.RunFault.TheVariants.{Sight}
 use Rattle.relief.specs.Faults.{of_sight}
 use Rattle.request.specs.Wish.{Wish}
-use Rattle.relief.specs.Refusals.{tiles_of, map_fault, wish_fault, IsWorkRefusal}
-
--- with few tiles only the observers can forbid
-pub wish_of_few : (w : Wish) (g : Raster) → tiles_of g w.tile ≤ most_tiles → wish_fault w g ≡ option_map Sight (map_fault g w.map)
-wish_of_few w g few = cond-false _ _ _ (le-ltb _ _ few)
+use Rattle.relief.specs.Refusals.{map_fault, wish_fault, IsWorkRefusal}
+use Rattle.relief.proofs.Draining.{first_of}
 
 -- an answer comes only where the observers have no fault
 pub no_fault : {T : Type 0} (fault : Option SightFault) (workers : ℕ) (x : T) → RefusesSight fault workers (Ok x) → fault ≡ None
@@ -40,10 +35,6 @@ outside_or_nodata t i o x e = go (is_outside t o) e where
   go : (b : Bool) → cond b (Some (sight.Outside i)) (cond (is_none (height_at t (place_of o))) (Some (sight.OnNodata i)) None) ≡ Some (sight.Jobs x) → ⊥
   go true h = cc
   go false h = nodata (is_none (height_at t (place_of o))) h
-
-first_of : (p q : Option SightFault) (f : SightFault) → (p ≡ Some f → ⊥) → (q ≡ Some f → ⊥) → option_or p q ≡ Some f → ⊥
-first_of None q f h k e = k e
-first_of (Some g) q f h k e = h e
 
 place_is_no_work : (t : Terrain) (i : ℕ) (os : List Observer) (x : JobFault) → place_fault t i os ≡ Some (sight.Jobs x) → ⊥
 place_is_no_work t i [] x e = cc

@@ -11,8 +11,10 @@ use Rattle.tile_jobs.specs.declared.JobFault.{JobFault}
 use Rattle.tile_jobs.specs.declared.JobFault.TheVariants as jobs
 use Rattle.sight.specs.declared.fault.SightFault.{SightFault}
 use Rattle.sight.specs.declared.fault.SightFault.TheVariants as sight
+use Rattle.terrain.specs.declared.sinks.SinkFault.{SinkFault}
+use Rattle.terrain.specs.declared.sinks.SinkFault.TheVariants as sinks
 use Rattle.relief.specs.declared.fault.RunFault.{RunFault}
-use Rattle.relief.specs.declared.fault.RunFault.TheVariants.{Grid, Tiling, Jobs, Sight, Read, Write}
+use Rattle.relief.specs.declared.fault.RunFault.TheVariants.{Grid, Tiling, Jobs, Sight, Sinks, Read, Write}
 use Rattle.relief.specs.declared.fault.Detail.{Detail}
 use Rattle.relief.specs.declared.fault.Detail.TheVariants.{Slot, Count}
 
@@ -74,11 +76,18 @@ sight_telling (sight.BadEye (Some i)) = detailed 44 (codes "BadEye") (decimal i)
 sight_telling sight.BadRadius = plain 45 (codes "BadRadius")
 sight_telling (sight.Jobs fault) = jobs_telling fault
 
+abbrev pub sinks_telling : SinkFault → Telling
+sinks_telling (sinks.Outside i) = detailed 46 (codes "SinkOutside") (decimal i)
+sinks_telling (sinks.OnNodata i) = detailed 47 (codes "SinkOnNodata") (decimal i)
+sinks_telling sinks.TooManySinks = plain 48 (codes "TooManySinks")
+sinks_telling sinks.Memory = jobs_telling jobs.Memory
+
 abbrev pub telling : RunFault → Telling
 telling (Grid fault) = grid_telling fault
 telling (Tiling fault) = tiling_telling fault
 telling (Jobs fault) = jobs_telling fault
 telling (Sight fault) = sight_telling fault
+telling (Sinks fault) = sinks_telling fault
 telling Read = plain 51 (codes "Read")
 telling Write = plain 52 (codes "Write")
 

@@ -3,8 +3,11 @@ use Rattle.ascii_grid.specs.declared.input.InputFault.{InputFault}
 use Rattle.ascii_grid.specs.declared.input.InputFault.TheVariants as input
 use Rattle.sight.specs.declared.fault.SightFault.{SightFault}
 use Rattle.sight.specs.declared.fault.SightFault.TheVariants as sight
+use Rattle.terrain.specs.declared.sinks.SinkFault.{SinkFault}
+use Rattle.terrain.specs.declared.sinks.SinkFault.TheVariants as sinks
+use Rattle.tile_jobs.specs.declared.JobFault.TheVariants as jobs
 use Rattle.relief.specs.declared.fault.RunFault.{RunFault}
-use Rattle.relief.specs.declared.fault.RunFault.TheVariants.{Grid, Jobs, Sight, Read}
+use Rattle.relief.specs.declared.fault.RunFault.TheVariants.{Grid, Jobs, Sight, Sinks, Read}
 
 abbrev pub of_input : InputFault → RunFault
 of_input (input.Grid fault) = Grid fault
@@ -14,3 +17,7 @@ of_input input.Read = Read
 abbrev pub of_sight : SightFault → RunFault
 of_sight (sight.Jobs fault) = Jobs fault
 of_sight fault = Sight fault
+
+abbrev pub of_sinks : SinkFault → RunFault
+of_sinks sinks.Memory = Jobs jobs.Memory
+of_sinks fault = Sinks fault

@@ -1,7 +1,9 @@
--- Which refusals a run may answer, and in which order: the text's fault, too many tiles, the observers'
+-- Which refusals a run may answer, and in which order: the text's fault, too many tiles, the sinks' or the observers'
 -- fault, the work's want of memory or of a thread, a failed write.
 use Rattle.std.specs.Prelude.{◌≡◌, ℕ, ◌<◌, nat_lt, ⊤, if◌then◌else◌, List, Option, None, Some, option_map}
+use Rattle.std.specs.Option.{option_or}
 use Rattle.terrain.specs.Raster.{Raster}
+use Rattle.terrain.specs.Sinks.{sinks_fault}
 use Rattle.ascii_grid.specs.GridText.{IsGridText, IsRefusal}
 use Rattle.tiles.specs.Cutting.{tile_count, most_tiles}
 use Rattle.tiles.specs.declared.tiling.TilingFault.TheVariants.{TooManyTiles}
@@ -11,7 +13,7 @@ use Rattle.sight.specs.Refusals.{observers_fault}
 use Rattle.request.specs.declared.map.Map.{Map}
 use Rattle.request.specs.declared.map.Map.TheVariants.{View}
 use Rattle.relief.specs.declared.fault.RunFault.{RunFault}
-use Rattle.relief.specs.declared.fault.RunFault.TheVariants.{Grid, Tiling, Jobs, Sight, Read, Write}
+use Rattle.relief.specs.declared.fault.RunFault.TheVariants.{Grid, Tiling, Jobs, Sight, Sinks, Read, Write}
 use Rattle.request.specs.Wish.{Wish}
 
 -- How many tiles of this side a grid has.
@@ -26,7 +28,8 @@ map_fault g map = None
 -- What forbids to map a grid, None where only the work is left.
 abbrev pub wish_fault : Wish → Raster → Option RunFault
 wish_fault w g =
-    if nat_lt most_tiles (tiles_of g w.tile) then Some (Tiling TooManyTiles) else option_map Sight (map_fault g w.map)
+    if nat_lt most_tiles (tiles_of g w.tile) then Some (Tiling TooManyTiles)
+    else option_or (option_map Sinks (sinks_fault g.terrain w.sinks)) (option_map Sight (map_fault g w.map))
 
 -- The refusal comes rightly for this grid: want of memory or of a thread where only the work is left.
 abbrev pub IsWorkRefusal : Wish → Raster → RunFault → Type 0

@@ -70,10 +70,10 @@ fn show_error<W: Write, E: Write>(
 }
 
 /// Runs the program on its words, its name first, and answers the status with which it ends: 0 done,
-/// 1 words refused, 2 the text, the tiles or an observer refused, 3 no memory or no thread, 4 a device
+/// 1 words refused, 2 the text, the tiles, a sink or an observer refused, 3 no memory or no thread, 4 a device
 /// failed. An empty list of words is taken for the name alone. Help and the version go to `writer`. What is
-/// refused is told on `errors`: a fault in its line, the first bad observer word by its place, and of other
-/// words what `clap` says. Where no fault or refusal is told `errors` stays as it is. That a device does not
+/// refused is told on `errors`: a fault in its line, the first bad observer or sink word by its place, and of
+/// other words what `clap` says. Where no fault or refusal is told `errors` stays as it is. That a device does not
 /// take what is told changes no status.
 pub fn run_words<H: Threads + Wait + Sync, R: Read, W: Write, E: Write>(
     rt: &H,
@@ -95,7 +95,11 @@ pub fn run_words<H: Threads + Wait + Sync, R: Read, W: Write, E: Write>(
         Ok(options) => run_options(rt, alloc, &options, reader, writer, errors),
         Err(WordsFault::Clap(error)) => show_error(alloc, &error, writer, errors),
         Err(WordsFault::BadObserver(place)) => {
-            let _ = tell_bad_word(place, errors);
+            let _ = tell_bad_word(b"relief: bad observer word ", place, errors);
+            WORDS_REFUSED
+        }
+        Err(WordsFault::BadSink(place)) => {
+            let _ = tell_bad_word(b"relief: bad sink word ", place, errors);
             WORDS_REFUSED
         }
         Err(WordsFault::NoMap) => show("relief: the words name no map", errors, WORDS_REFUSED),

@@ -1,12 +1,13 @@
 // Why a run was refused.
 ghost use Rattle.std.specs.Prelude.{◌≡◌, ◌≤◌, length, option_map};
-ghost use Rattle.relief.specs.FaultLine.{telling, grid_telling, tiling_telling, jobs_telling, sight_telling, fault_status, status_of, plain, detailed, slot_text, detail_text};
+ghost use Rattle.relief.specs.FaultLine.{telling, grid_telling, tiling_telling, jobs_telling, sight_telling, sinks_telling, fault_status, status_of, plain, detailed, slot_text, detail_text};
 ghost use Rattle.relief.specs.declared.fault.RunFault.TheVariants.{Tiling, Jobs, Write};
-ghost use Rattle.relief.specs.Faults.{of_input, of_sight};
+ghost use Rattle.relief.specs.Faults.{of_input, of_sight, of_sinks};
 
 use ascii_grid::{GridFault, InputFault, Key, WriteFailed};
 use sight::SightFault;
 use std::marker::Model;
+use terrain::SinkFault;
 use tile_jobs::JobFault;
 use tiles::TilingFault;
 
@@ -21,6 +22,8 @@ pub enum RunFault {
     Jobs(JobFault),
     /// An observer, the target height or the radius is at fault.
     Sight(SightFault),
+    /// A named sink is at fault.
+    Sinks(SinkFault),
     /// The reader failed.
     Read,
     /// The writer failed.
@@ -62,6 +65,17 @@ impl From<SightFault> for RunFault {
         match fault {
             SightFault::Jobs(fault) => RunFault::Jobs(fault),
             fault => RunFault::Sight(fault),
+        }
+    }
+}
+
+impl From<SinkFault> for RunFault {
+    ghost from_gives = { λ fault told. told ≡ of_sinks fault };
+
+    fn from(fault: SinkFault) -> Self {
+        match fault {
+            SinkFault::Memory => RunFault::Jobs(JobFault::Memory),
+            fault => RunFault::Sinks(fault),
         }
     }
 }
@@ -125,6 +139,7 @@ impl RunFault {
             RunFault::Tiling(fault) => tiling_notice(fault),
             RunFault::Jobs(fault) => jobs_notice(fault),
             RunFault::Sight(fault) => sight_notice(fault),
+            RunFault::Sinks(fault) => sinks_notice(fault),
             RunFault::Read => plain(51, b"Read"),
             RunFault::Write => plain(52, b"Write"),
         }
@@ -212,6 +227,17 @@ fn sight_notice(fault: &SightFault) -> Notice
         SightFault::BadEye(Some(place)) => detailed(44, b"BadEye", Detail::Count(*place)),
         SightFault::BadRadius => plain(45, b"BadRadius"),
         SightFault::Jobs(fault) => jobs_notice(fault),
+    }
+}
+
+fn sinks_notice(fault: &SinkFault) -> Notice
+    ensures { result ≡ sinks_telling fault.now }
+{
+    match fault {
+        SinkFault::Outside(place) => detailed(46, b"SinkOutside", Detail::Count(*place)),
+        SinkFault::OnNodata(place) => detailed(47, b"SinkOnNodata", Detail::Count(*place)),
+        SinkFault::TooManySinks => plain(48, b"TooManySinks"),
+        SinkFault::Memory => jobs_notice(&JobFault::Memory),
     }
 }
 

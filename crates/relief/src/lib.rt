@@ -10,6 +10,6 @@ pub mod telling;
 
 pub use command::run_words;
 pub use fault::RunFault;
-pub use request::{Map, Options, VERSION, parse_observer};
+pub use request::{Map, Options, VERSION, parse_observer, parse_sink};
 pub use running::{run, run_gated};
 pub use telling::tell;

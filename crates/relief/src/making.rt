@@ -1,12 +1,12 @@
 // A map of a grid.
-ghost use Rattle.std.specs.Prelude.{◌≡◌, ◌<◌, ◌≤◌, ◌*◌, length, None, IfOk, IfErr, OnOk};
+ghost use Rattle.std.specs.Prelude.{◌≡◌, ◌<◌, ◌≤◌, ◌*◌, length, None, IfOk, IfErr, OnOk, option_map};
 ghost use Rattle.tiles.specs.Cutting.{Cuts, longest_side, most_tiles};
 ghost use Rattle.tile_jobs.specs.Fault.{RefusesWorkers};
 ghost use Rattle.ascii_grid.specs.Text.{counts_text};
 ghost use Rattle.drainage.specs.Drained.{directed_of};
-ghost use Rattle.relief.specs.MadeMap.{made_text, FitsGrid};
+ghost use Rattle.relief.specs.MadeMap.{drained_into, made_text, FitsGrid};
 ghost use Rattle.relief.specs.MapText.{IsMapText, IsDrainage};
-ghost use Rattle.relief.specs.Refusals.{IsWorkRefusal, wish_fault, tiles_of};
+ghost use Rattle.relief.specs.Refusals.{IsWorkRefusal, map_fault, wish_fault, tiles_of};
 
 use crate::fault::RunFault;
 use drain::directions;
@@ -87,38 +87,60 @@ fn cut(grid: &Grid, side: u32) -> Result<Tiling, TilingFault>
     Tiling::new(grid.cols(), grid.rows(), side)
 }
 
-/// Cuts the grid, judges the observers, and makes the map that is asked for.
+/// Cuts a grid into tiles, and gives it the sinks asked for. Without sinks it is not copied.
+pub(crate) fn prepare(
+    alloc: Global,
+    options: &Options,
+    grid: Grid,
+) -> Result<(Grid, Tiling), RunFault>
+    ensures grid { IfOk result (λ p. p.0 ≡ drained_into options.now.sinks grid) }
+    ensures cuts { IfOk result (λ p. Cuts p.1 p.0.terrain) }
+    ensures sound { IfOk result (λ p. wish_fault options.now p.0 ≡ option_map RunFault.Sight (map_fault p.0 options.now.map)) }
+    ensures fault { IfErr result (λ f. IsWorkRefusal options.now grid f) }
+{
+    let tiling = cut(&grid, options.tile())?;
+    let sinks = options.sinks();
+    if sinks.is_empty() {
+        return Ok((grid, tiling));
+    }
+    let grid = grid.with_sinks(alloc, sinks)?;
+    Ok((grid, tiling))
+}
+
+/// Judges the observers, and makes the map that is asked for.
 pub(crate) fn make_map<H: Threads + Wait + Sync, G: Gate + Sync>(
     rt: &H,
     alloc: Global,
     options: &Options,
     grid: &Grid,
+    tiling: &Tiling,
     gate: &G,
 ) -> Result<MadeMap, RunFault>
+    requires cuts { Cuts tiling.now grid.now.terrain }
+    requires sound { wish_fault options.now grid.now ≡ option_map RunFault.Sight (map_fault grid.now options.now.map) }
     ensures map { IfOk result (λ m. IsMapText grid.now options.now.map (made_text grid.now m)) }
     ensures size { IfOk result (λ m. FitsGrid grid.now m) }
     ensures ready { OnOk result (wish_fault options.now grid.now ≡ None) }
     ensures fault { IfErr result (λ f. IsWorkRefusal options.now grid.now f) }
 {
-    let tiling = cut(grid, options.tile())?;
     let workers = options.workers();
     match options.map() {
         Map::Fill => {
-            let filled = filled(rt, alloc, grid, &tiling, workers, gate)?;
+            let filled = filled(rt, alloc, grid, tiling, workers, gate)?;
             Ok(MadeMap::Heights(filled))
         }
         Map::Flow => {
-            let codes = flow_map(rt, alloc, grid, &tiling, workers, gate)?;
+            let codes = flow_map(rt, alloc, grid, tiling, workers, gate)?;
             Ok(MadeMap::Counts(codes))
         }
         Map::Accumulate => {
-            let directions = drained(rt, alloc, grid, &tiling, workers, gate)?;
-            let counts = accumulation(rt, alloc, &directions, &tiling, workers, gate)?;
+            let directions = drained(rt, alloc, grid, tiling, workers, gate)?;
+            let counts = accumulation(rt, alloc, &directions, tiling, workers, gate)?;
             Ok(MadeMap::Counts(counts))
         }
         Map::Basins => {
-            let directions = drained(rt, alloc, grid, &tiling, workers, gate)?;
-            let numbers = basins(rt, alloc, &directions, &tiling, workers, gate)?;
+            let directions = drained(rt, alloc, grid, tiling, workers, gate)?;
+            let numbers = basins(rt, alloc, &directions, tiling, workers, gate)?;
             Ok(MadeMap::Counts(numbers))
         }
         Map::View {
@@ -127,7 +149,7 @@ pub(crate) fn make_map<H: Threads + Wait + Sync, G: Gate + Sync>(
             radius,
         } => {
             let counts = viewshed(
-                rt, alloc, grid, observers, *target, *radius, &tiling, workers, gate,
+                rt, alloc, grid, observers, *target, *radius, tiling, workers, gate,
             )?;
             Ok(MadeMap::Counts(counts))
         }

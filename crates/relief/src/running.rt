@@ -5,7 +5,7 @@ ghost use Rattle.relief.specs.MadeMap.{made_text, FitsGrid};
 ghost use Rattle.relief.specs.Runs.{Runs};
 
 use crate::fault::RunFault;
-use crate::making::{MadeMap, make_map};
+use crate::making::{MadeMap, make_map, prepare};
 use ascii_grid::{Counted, WriteFailed, read_grid, write_counts, write_heights};
 use request::Options;
 use std::alloc::Global;
@@ -16,11 +16,11 @@ use terrain::Grid;
 use tile_jobs::{Gate, NoGate};
 
 /// Reads a grid, and writes the map that is asked for: what is written is the map of the grid that the
-/// bytes read spell, for every tile size, number of workers and schedule. Nothing is written before the
+/// bytes read spell, with the sinks asked for, for every tile size, number of workers and schedule. Nothing is written before the
 /// map is whole, and from the first byte on only [`RunFault::Write`] can come and no memory is taken.
 ///
-/// Refusals in their order: a fault of the text, or a failed read; too many tiles; the observers' fault;
-/// want of memory or of a thread; a failed write.
+/// Refusals in their order: a fault of the text, or a failed read; too many tiles; the sinks' or the
+/// observers' fault; want of memory or of a thread; a failed write.
 pub fn run<H: Threads + Wait + Sync, R: Read, W: Write>(
     rt: &H,
     alloc: Global,
@@ -49,7 +49,8 @@ pub fn run_gated<H: Threads + Wait + Sync, R: Read, W: Write, G: Gate + Sync>(
     ensures { Runs R.remaining W.contents options.now reader.old reader.new writer.old writer.new result }
 {
     let grid = read_grid(alloc, options.scale(), reader)?;
-    let map = make_map(rt, alloc, options, &grid, gate)?;
+    let (grid, tiling) = prepare(alloc, options, grid)?;
+    let map = make_map(rt, alloc, options, &grid, &tiling, gate)?;
     write_map(&grid, &map, writer)?;
     Ok(())
 }

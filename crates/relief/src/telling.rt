@@ -58,13 +58,18 @@ pub fn tell<W: Write>(fault: &RunFault, out: &mut Counted<W>) -> Result<(), Writ
     line.write_to(out)
 }
 
-/// Writes the line of an observer word that is none, by its place from 0.
-pub(crate) fn tell_bad_word<W: Write>(place: usize, out: &mut Counted<W>) -> Result<(), WriteFailed>
-    requires { out.old.failures < 2 ^ 64 - 1 }
-    ensures { Writes W.contents out.old out.new (codes "relief: bad observer word " ++ decimal place ++ codes "\n") result }
+/// Writes the line of a bad word, by its place from 0.
+pub(crate) fn tell_bad_word<W: Write>(
+    front: &'static [u8],
+    place: usize,
+    out: &mut Counted<W>,
+) -> Result<(), WriteFailed>
+    requires short { length front.now ≤ 40 }
+    requires few { out.old.failures < 2 ^ 64 - 1 }
+    ensures { Writes W.contents out.old out.new (front.now ++ decimal place ++ codes "\n") result }
 {
     let mut line = Page::new();
-    line.push(b"relief: bad observer word ");
+    line.push(front);
     push_number(place as u64, &mut line);
     line.push_byte(b'\n');
     line.write_to(out)

@@ -1,8 +1,7 @@
 -- What words ask for, by the subcommand that `clap` finds in them.
 use Rattle.std.proofs.Common.{◌≡◌, ℕ, List, [], ◌∷◌, length, map, eqb, Option, Some, None, true, false, sym, ap, ap₂, subst, refl, inl, ◌∙◌, Bor, Box}
-use Rattle.std.specs.Prelude.{is_none, option_map}
+use Rattle.std.specs.Prelude.{option_map}
 use Rattle.std.specs.Box.{box_value}
-use Rattle.std.specs.List.{position}
 use Rattle.std.proofs.lemmas.Option.{none-some, same_Some}
 use Rattle.clap.specs.Words.{App, Row, Text, is_simple, subcommand_of, subcommand_rows, subcommand_rows_of}
 use Rattle.clap.specs.Simple.{HasMatchesOf}
@@ -11,14 +10,15 @@ use Rattle.clap.specs.declared.parser.matches.ArgMatches.{ArgMatches}
 use Rattle.clap.specs.declared.parser.matches.ArgMatches.TheViews.{out-SubCommand}
 use Rattle.clap.specs.declared.parser.matches.SubCommand.{SubCommand}
 use Rattle.clap.proofs.OnLiterals.{clap_on_literals}
-use Rattle.request.specs.CommandLine.{HasBadObserver, HasOptions, Names, WishFor, program_app, words_given}
-use Rattle.request.specs.ObserverWord.{observer_of}
-use Rattle.request.specs.Wish.{AreLimits, Wish}
+use Rattle.request.specs.CommandLine.{HasBadObserver, HasBadSink, HasOptions, IsFirstBad, Names, Spell, WishFor, program_app, sink_words, words_given}
+use Rattle.request.specs.PlaceWords.{sink_of}
+use Rattle.request.specs.Wish.{AreLimits, IsView, Wish}
 use Rattle.request.specs.WordsFaults.{IsBadAfter, IsFaultBy, IsFaultOf, IsNoMap}
 use Rattle.request.specs.declared.words.WordsFault.{WordsFault}
-use Rattle.request.specs.declared.words.WordsFault.TheVariants.{Clap, BadObserver, NoMap}
+use Rattle.request.specs.declared.words.WordsFault.TheVariants.{Clap, BadObserver, BadSink, NoMap}
 use Rattle.request.specs.declared.map.Map.{Map}
-use Rattle.request.proofs.Given.{map_without_bad}
+use Rattle.terrain.specs.declared.place.Place.{Place}
+use Rattle.request.proofs.Given.{map_without_bad, none_bad}
 
 program_simple : is_simple program_app ≡ true
 unfolding clap_on_literals
@@ -48,6 +48,7 @@ module _ (words : List Text) (accepted : fault_of program_app words ≡ []) wher
     accepted,
     λ wish w. none-some _ (sym none ∙ w.command.found),
     λ place bad. none-some _ (sym none ∙ bad.command.found),
+    λ place bad. none-some _ (sym none ∙ bad.command.found),
   )
 
   module _ (n : Text) (rs : List Row) (found : subcommand_of program_app words ≡ Some (n, rs)) where
@@ -58,34 +59,82 @@ module _ (words : List Text) (accepted : fault_of program_app words ≡ []) wher
     map_of_wish wish w = subst (λ (p : Text × List Row). Names p.0 p.1 wish.map) (same_found _ w.command.found) w.map
 
     bad_after : (place : ℕ) → HasBadObserver words place → IsBadAfter n rs place
-    bad_after place bad = subst (λ (p : Text × List Row). IsBadAfter p.0 p.1 place) (same_found _ bad.command.found) (refl, (bad.observers, bad.given, bad.first))
+    bad_after place bad = subst (λ (p : Text × List Row). IsBadAfter p.0 p.1 place) (same_found _ bad.command.found) (refl, bad.first)
 
-    pub map_refused : (f : WordsFault) → IsFaultBy (IsBadAfter n rs) (IsNoMap n rs) f → IsFaultOf words f
+    pub wished : (map : Map) (wish : Wish) → Names n rs map → wish.map ≡ map → Spell sink_of (sink_words n rs) wish.sinks → HasOptions rs wish.tile wish.workers wish.scale → AreLimits wish.tile wish.workers wish.scale
+        → (IsView wish.map → wish.sinks ≡ []) → WishFor words wish
+    wished map wish named same spelled options limits view = record {
+      name = n;
+      rows = rs;
+      command = record { accepted = accepted; found = found };
+      map = subst (Names n rs) (sym same) named;
+      sinks = spelled;
+      options = options;
+      limits = record { in_limits = limits; view = view };
+    }
+
+    named_of_bad : (place : ℕ) (bad : HasBadSink words place) → Names n rs bad.map
+    named_of_bad place bad = subst (λ (p : Text × List Row). Names p.0 p.1 bad.map) (same_found _ bad.command.found) bad.named
+
+    pub map_refused : (f : WordsFault) → IsFaultBy (IsBadAfter n rs) (λ _. ⊥) (IsNoMap n rs) f → IsFaultOf words f
     map_refused (Clap e) h = inl h
     map_refused (BadObserver place) h = record {
       rows = rs;
       command = record { accepted = accepted; found = found ∙ ap (λ name. Some (name, rs)) h.0 };
-      observers = h.1.0;
-      given = h.1.1;
-      first = h.1.2;
+      first = h.1;
     }
-    map_refused NoMap h = (accepted, λ wish w. h.0 wish.map (map_of_wish wish w), λ place bad. h.1 place (bad_after place bad))
-
-    pub options_refused : (map : Map) → Names n rs map → ((tile workers scale : ℕ) → AreLimits tile workers scale → HasOptions rs tile workers scale → ⊥) → IsFaultOf words NoMap
-    options_refused map named never = (
+    map_refused (BadSink place) h = absurd h
+    map_refused NoMap h = (
       accepted,
-      λ wish w. never wish.tile wish.workers wish.scale w.limits (subst (λ (p : Text × List Row). HasOptions p.1 wish.tile wish.workers wish.scale) (same_found _ w.command.found) w.options),
+      λ wish w. h.0 wish.map (map_of_wish wish w),
+      λ place bad. h.1 place (bad_after place bad),
+      λ place bad. h.0 bad.map (named_of_bad place bad),
+    )
+
+    words_of_bad : (place : ℕ) → HasBadSink words place → IsFirstBad sink_of (sink_words n rs) place
+    words_of_bad place bad = subst (λ (p : Text × List Row). IsFirstBad sink_of (sink_words p.0 p.1) place) (same_found _ bad.command.found) bad.first
+
+    pub sinks_refused : (map : Map) → Names n rs map → (f : WordsFault) → IsFaultBy (λ _. ⊥) (IsFirstBad sink_of (sink_words n rs)) ⊥ f → IsFaultOf words f
+    sinks_refused map named (Clap e) h = inl h
+    sinks_refused map named (BadObserver place) h = absurd h
+    sinks_refused map named (BadSink place) h = record {
+      name = n;
+      rows = rs;
+      command = record { accepted = accepted; found = found };
+      map = map;
+      named = named;
+      first = h;
+    }
+    sinks_refused map named NoMap h = absurd h
+
+    pub options_refused : (map : Map) (sinks : List Place) → Names n rs map → Spell sink_of (sink_words n rs) sinks
+        → ((tile workers scale : ℕ) → AreLimits tile workers scale → HasOptions rs tile workers scale → ⊥) → IsFaultOf words NoMap
+    options_refused map sinks named spelled never = (
+      accepted,
+      λ wish w. never wish.tile wish.workers wish.scale w.limits.in_limits (subst (λ (p : Text × List Row). HasOptions p.1 wish.tile wish.workers wish.scale) (same_found _ w.command.found) w.options),
       λ place bad. map_without_bad n rs map place named (bad_after place bad),
+      λ place bad. none_bad sink_of _ sinks place spelled (words_of_bad place bad),
     )
 
     pub bad_wishes_none : (place : ℕ) → HasBadObserver words place → (wish : Wish) → ¬ WishFor words wish
     bad_wishes_none place bad wish w = map_without_bad n rs wish.map place (map_of_wish wish w) (bad_after place bad)
 
+    pub bad_sink_wishes_none : (place : ℕ) → HasBadSink words place → (wish : Wish) → ¬ WishFor words wish
+    bad_sink_wishes_none place bad wish w =
+        none_bad sink_of _ wish.sinks place
+        (subst (λ (p : Text × List Row). Spell sink_of (sink_words p.0 p.1) wish.sinks) (same_found _ w.command.found) w.sinks)
+        (words_of_bad place bad)
+
+    pub one_bad_sink : (place other : ℕ) → HasBadSink words place → HasBadSink words other → place ≡ other
+    one_bad_sink place other bad b = same_Some _ _ (sym (words_of_bad place bad) ∙ words_of_bad other b)
+
+    -- a view has no bad sink word, and no other map has a bad observer word
+    pub bad_alone : (place other : ℕ) → HasBadObserver words place → HasBadSink words other → ⊥
+    bad_alone place other bad b = map_without_bad n rs b.map place (named_of_bad other b) (bad_after place bad)
+
     pub one_bad : (place other : ℕ) → HasBadObserver words place → HasBadObserver words other → place ≡ other
     one_bad place other bad b =
-        let p = bad_after place bad in
-        let q = bad_after other b in
-        same_Some _ _ (sym p.1.2 ∙ ap (λ ws. position (λ word. is_none (observer_of word)) ws) (same_Some _ _ (sym p.1.1 ∙ q.1.1)) ∙ q.1.2)
+        same_Some _ _ (sym (bad_after place bad).1 ∙ (bad_after other b).1)
 
 pub words_given_some : (words : List (Bor Text)) → eqb (length words) 0 ≡ false → words_given (map (λ w. w.now) words) ≡ map (λ w. w.now) words
 words_given_some [] some = absurd (cc)

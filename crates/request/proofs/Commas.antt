@@ -7,7 +7,7 @@ use Rattle.std.proofs.lemmas.Bool.Decides.{nat_tests}
 use Rattle.std.proofs.lemmas.Option.{same_Some}
 use Rattle.std.proofs.lemmas.List.Sums.{fails_before_first}
 use Rattle.std.proofs.lemmas.List.Splits.{slice_split_first, slice_split_none, length-slice_split}
-use Rattle.request.specs.ObserverWord.{observer_of, observer_of_parts}
+use Rattle.request.specs.PlaceWords.{observer_of, observer_of_parts, sink_of, sink_of_parts}
 
 abbrev pub is_comma : ℕ → Bool
 is_comma b = eqb b 44
@@ -37,3 +37,12 @@ pub too_many_parts : (word rest eye row col third fourth : List ℕ) → slice_s
 too_many_parts word rest eye row col third fourth a b c =
     sym (ap observer_of_parts (a ∙ ap (λ ps. row ∷ ps) (b ∙ ap (λ ps. col ∷ ps) c))
     ∙ four_parts row col third (slice_split is_comma fourth) (omega (arith, length-slice_split is_comma fourth)))
+
+three_parts : (row col : List ℕ) (parts : List (List ℕ)) → 0 < length parts → sink_of_parts (row ∷ col ∷ parts) ≡ None
+three_parts row col [] some = absurd (omega arith)
+three_parts row col (part ∷ parts) some = refl
+
+-- a word of three parts or more is no sink
+pub no_sink : (word col row second third : List ℕ) → slice_split is_comma word ≡ row ∷ slice_split is_comma col → slice_split is_comma col ≡ second ∷ slice_split is_comma third → None ≡ sink_of word
+no_sink word col row second third a b =
+    sym (ap sink_of_parts (a ∙ ap (λ ps. row ∷ ps) b) ∙ three_parts row second (slice_split is_comma third) (omega (arith, length-slice_split is_comma third)))

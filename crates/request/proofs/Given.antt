@@ -1,7 +1,7 @@
 -- What the options of the command line spell.
 use Rattle.std.proofs.Common.{◌≡◌, ◌<◌, ◌^◌, ℕ, zero, suc, Bool, false, List, [], ◌∷◌, length, map, take, drop, get_or, slice_index, slice_index_or, codes, arith, Bor, Option, Some, None, Result, IfSome, IfNone, sym, ap, refl, ◌∙◌, subst}
-use Rattle.std.specs.Prelude.{is_none}
-use Rattle.std.specs.List.{position, position_or_len}
+use Rattle.std.specs.Prelude.{is_none, option_map, unwrap_or}
+use Rattle.std.specs.List.{position_or_len}
 use Rattle.std.proofs.lemmas.Bool.{lt-ltb}
 use Rattle.std.proofs.lemmas.Option.{none-some, same_Some}
 use Rattle.std.proofs.lemmas.List.{get_or-take, length-map, length-take}
@@ -10,14 +10,17 @@ use Rattle.std.proofs.lemmas.List.Sums.{position_or_len_is}
 use Rattle.std.proofs.Math.ListN.{get_or-map}
 use Rattle.std.specs.Str.Parse.{ExplainsUnsignedError, HasUnsignedDigitsIfOk, IsNumeral, ParsesUnsigned, digits_value, without_leading_plus}
 use Rattle.std.specs.declared.num.ParseIntError.{ParseIntError}
-use Rattle.clap.specs.Words.{Row, Text, one_of}
+use Rattle.clap.specs.Words.{Row, Text, matched_of, one_of, raw_values, rows_of}
 use Rattle.clap.specs.Matches.{ReadsOne}
+use Rattle.clap.specs.declared.parser.matches.Found.{Found}
+use Rattle.clap.proofs.WalkLemmas.{raw_values-rows}
 use Rattle.sight.specs.declared.observer.Observer.{Observer}
-use Rattle.request.specs.CommandLine.{HasNumber, HasObservers, Names}
-use Rattle.request.specs.ObserverWord.{observer_of}
-use Rattle.request.specs.WordsFaults.{IsBadAfter, IsBadAmong, IsFaultBy}
+use Rattle.request.specs.CommandLine.{HasNumber, HasObservers, IsFirstBad, Names, Spell, sink_words, words_of}
+use Rattle.request.specs.PlaceWords.{observer_of, sink_of}
+use Rattle.request.specs.Wish.{IsView}
+use Rattle.request.specs.WordsFaults.{IsBadAfter, IsFaultBy}
 use Rattle.request.specs.declared.words.WordsFault.{WordsFault}
-use Rattle.request.specs.declared.words.WordsFault.TheVariants.{Clap, BadObserver, NoMap}
+use Rattle.request.specs.declared.words.WordsFault.TheVariants.{Clap, BadObserver, BadSink, NoMap}
 use Rattle.request.specs.declared.map.Map.{Map}
 use Rattle.request.specs.declared.map.Map.TheVariants.{Fill, Flow, Accumulate, Basins, View}
 
@@ -25,6 +28,12 @@ use Rattle.request.specs.declared.map.Map.TheVariants.{Fill, Flow, Accumulate, B
 pub same_number : (rows : List Row) (id : Text) (m n : ℕ) → HasNumber rows id m → HasNumber rows id n → m ≡ n
 same_number rows id m n a b =
     sym a.spelled ∙ ap (λ (t : Text). digits_value 10 (without_leading_plus t)) (same_Some _ _ (sym a.given ∙ b.given)) ∙ b.spelled
+
+-- the words that are had for an argument, or none, are those given for it
+pub given_words : (f : Found) (id : Text) (o : Option (Bor (List (Bor Text)))) (none words : Bor (List (Bor Text))) → words ≡ unwrap_or o none → none.now ≡ []
+    → option_map (λ s. map (λ w. w.now) s.now) o ≡ option_map raw_values (matched_of f id) → map (λ w. w.now) words.now ≡ words_of id (rows_of f)
+given_words f id None none words is empty same = ap (λ (ws : Bor (List (Bor Text))). map (λ w. w.now) ws.now) is ∙ ap (map (λ (w : Bor Text). w.now)) empty ∙ ap (λ ws. unwrap_or ws []) (same ∙ raw_values-rows f id)
+given_words f id (Some s) none words is empty same = ap (λ (ws : Bor (List (Bor Text))). map (λ w. w.now) ws.now) is ∙ ap (λ ws. unwrap_or ws []) (same ∙ raw_values-rows f id)
 
 -- what a number of 32 bits is read by
 abbrev Reads : Text → Result ℕ ParseIntError → Type 0
@@ -61,38 +70,37 @@ only_view rows never Accumulate e = let bad : ◌≡◌ {A = ℕ} 118 97 = ap (�
 only_view rows never Basins e = let bad : ◌≡◌ {A = ℕ} 118 98 = ap (λ (t : Text). slice_index t 0) e in absurd (omega arith)
 only_view rows never (View os t r) n = never os.items t r n.1 n.2 n.3
 
-abbrev is_bad : Text → Bool
-is_bad word = is_none (observer_of word)
+module _ {X : Type 0} (of : Text → Option X) where
+  -- where each word spells something, no one spells nothing
+  spelled : (words : List Text) (items : List X) (i : ℕ) (d : Text) → Spell of words items → i < length words → is_none (of (get_or words i d)) ≡ false
+  spelled [] items i d e lt = absurd (omega arith)
+  spelled (w ∷ words) [] i d e lt = absurd (cc)
+  spelled (w ∷ words) (x ∷ items) zero d e lt = ap (λ (xs : List (Option X)). is_none (get_or xs 0 None)) e
+  spelled (w ∷ words) (x ∷ items) (suc i) d e lt = spelled words items i d (ap (drop 1) e) (omega arith)
 
--- where all words are observers, each is one
-observed : (words : List Text) (os : List Observer) (i : ℕ) (d : Text) → map observer_of words ≡ map Some os → i < length words → is_none (observer_of (get_or words i d)) ≡ false
-observed [] os i d e lt = absurd (omega arith)
-observed (w ∷ words) [] i d e lt = absurd (cc)
-observed (w ∷ words) (o ∷ os) zero d e lt = ap (λ (xs : List (Option Observer)). is_none (get_or xs 0 None)) e
-observed (w ∷ words) (o ∷ os) (suc i) d e lt = observed words os i d (ap (drop 1) e) (omega arith)
+  pub none_bad : (words : List Text) (items : List X) (place : ℕ) → Spell of words items → ¬ IsFirstBad of words place
+  none_bad words items place all bad =
+      let at = position-Some (λ word. is_none (of word)) words place [] bad in
+      let not_here = spelled words items place [] all at.0 in
+      absurd (cc)
 
-none_bad : (words : List Text) (os : List Observer) (place : ℕ) → map observer_of words ≡ map Some os → ¬ IsBadAmong words place
-none_bad words os place all bad =
-    let at = position-Some (λ word. is_none (observer_of word)) words place [] bad in
-    let not_here = observed words os place [] all at.0 in
-    absurd (cc)
-
--- the word after so many observers is no observer
-pub bad_at : (words : List (Bor Text)) (os : List Observer) (k : ℕ) (d : Bor Text) → k < length words → map observer_of (map (λ w. w.now) (take k words)) ≡ map Some os → observer_of (slice_index_or words k d).now ≡ None → IsBadAmong (map (λ w. w.now) words) k
-bad_at words os k d lt before here =
-    let texts : List Text = map (λ w. w.now) words in
-    let size : length texts ≡ length words = length-map words _ in
-    let at : position_or_len is_bad texts ≡ k = position_or_len_is is_bad texts k d.now (omega (arith, size))
-    (λ i less.
-    let good = observed (map (λ w. w.now) (take k words)) os i d.now before (omega (arith, length-map (take k words) (λ (w : Bor Text). w.now), length-take k words)) in
-    rw (get_or-map (λ (w : Bor Text). w.now) words i d, ← get_or-take k words i d less, ← get_or-map (λ (w : Bor Text). w.now) (take k words) i d) good)
-    (λ inside. rw (get_or-map (λ (w : Bor Text). w.now) words k d) (ap is_none here)) in
-    rw (at, lt-ltb k (length texts) (omega (arith, size))) refl
+  -- the word after so many that spell something is the first that spells nothing
+  pub bad_at : (words : List (Bor Text)) (items : List X) (k : ℕ) (d : Bor Text) → k < length words → Spell of (map (λ w. w.now) (take k words)) items → of (slice_index_or words k d).now ≡ None → IsFirstBad of (map (λ w. w.now) words) k
+  bad_at words items k d lt before here =
+      let texts : List Text = map (λ w. w.now) words in
+      let is_bad : Text → Bool = λ word. is_none (of word) in
+      let size : length texts ≡ length words = length-map words _ in
+      let at : position_or_len is_bad texts ≡ k = position_or_len_is is_bad texts k d.now (omega (arith, size))
+      (λ i less.
+      let good = spelled (map (λ w. w.now) (take k words)) items i d.now before (omega (arith, length-map (take k words) (λ (w : Bor Text). w.now), length-take k words)) in
+      rw (get_or-map (λ (w : Bor Text). w.now) words i d, ← get_or-take k words i d less, ← get_or-map (λ (w : Bor Text). w.now) (take k words) i d) good)
+      (λ inside. rw (get_or-map (λ (w : Bor Text). w.now) words k d) (ap is_none here)) in
+      rw (at, lt-ltb k (length texts) (omega (arith, size))) refl
 
 -- the words of a viewshed are all observers
 pub no_bad : (name : Text) (rows : List Row) (os : List Observer) (place : ℕ) → HasObservers rows os → ¬ IsBadAfter name rows place
 no_bad name rows os place has bad =
-    none_bad has.0 os place has.2 (subst (λ words. IsBadAmong words place) (same_Some _ _ (sym bad.1.1 ∙ has.1)) bad.1.2)
+    none_bad observer_of _ os place has bad.1
 
 -- a map has no bad observer word
 pub map_without_bad : (name : Text) (rows : List Row) (m : Map) (place : ℕ) → Names name rows m → ¬ IsBadAfter name rows place
@@ -102,7 +110,16 @@ map_without_bad name rows Accumulate place n bad = let no : ◌≡◌ {A = ℕ} 
 map_without_bad name rows Basins place n bad = let no : ◌≡◌ {A = ℕ} 118 98 = ap (λ (t : Text). slice_index t 0) (sym bad.0 ∙ n) in absurd (omega arith)
 map_without_bad name rows (View os t r) place n bad = no_bad name rows os.items place n.1 bad
 
-pub fault_weaker : {P Q : ℕ → Type 0} {M N : Type 0} (f : WordsFault) → ((place : ℕ) → P place → Q place) → (M → N) → IsFaultBy P M f → IsFaultBy Q N f
+-- a viewshed takes no sinks
+pub view_without_sinks : (name : Text) (rows : List Row) (m : Map) → Names name rows m → IsView m → Spell sink_of (sink_words name rows) []
+view_without_sinks name rows Fill named view = absurd view
+view_without_sinks name rows Flow named view = absurd view
+view_without_sinks name rows Accumulate named view = absurd view
+view_without_sinks name rows Basins named view = absurd view
+view_without_sinks name rows (View os t r) named view = subst (λ (n : Text). Spell sink_of (sink_words n rows) []) (sym named.0) refl
+
+pub fault_weaker : {P Q : ℕ → Type 0} {M N : Type 0} (f : WordsFault) → ((place : ℕ) → P place → Q place) → (M → N) → IsFaultBy P (λ _. ⊥) M f → IsFaultBy Q (λ _. ⊥) N f
 fault_weaker (Clap e) bad missing h = h
 fault_weaker (BadObserver place) bad missing h = bad place h
+fault_weaker (BadSink place) bad missing h = h
 fault_weaker NoMap bad missing h = missing h

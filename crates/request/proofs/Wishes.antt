@@ -1,19 +1,19 @@
 -- Words have one wish, and what a few words ask for.
-use Rattle.std.proofs.Common.{◌≡◌, ◌⊎◌, ◌<◌, ◌^◌, ℕ, List, [], ◌∷◌, length, map, drop, get_or, slice_index, codes, arith, rules, Option, Some, None, sym, ap, ap₂, subst, refl, inl, inr, ◌∙◌}
-use Rattle.std.specs.Prelude.{Any, Vec}
+use Rattle.std.proofs.Common.{◌≡◌, ◌<◌, ◌^◌, ℕ, List, [], ◌∷◌, map, drop, get_or, slice_index, codes, arith, rules, Option, Some, None, sym, ap, ap₂, subst, refl, inl, inr, ◌∙◌}
+use Rattle.std.specs.Prelude.{Any}
 use Rattle.std.specs.Option.{option_map_or}
 use Rattle.std.specs.Str.Parse.{IsNumeral, digits_value, without_leading_plus}
 use Rattle.std.proofs.lemmas.Option.{same_Some}
-use Rattle.clap.specs.Words.{Row, Text, all_of, one_of, subcommand_of}
+use Rattle.clap.specs.Words.{Row, Text, one_of, subcommand_of}
 use Rattle.clap.specs.Faults.{fault_of}
 use Rattle.clap.specs.Kinds.{Kinds}
 use Rattle.clap.specs.declared.error.kind.ErrorKind.{ErrorKind}
 use Rattle.clap.specs.declared.error.kind.ErrorKind.TheVariants as kind
 use Rattle.clap.proofs.OnLiterals.{clap_on_literals}
 use Rattle.sight.specs.declared.observer.Observer.{Observer}
-use Rattle.request.specs.CommandLine.{AreCommand, AreRefused, AskForHelp, HasNumber, HasObservers, HasOptions, IsHelp, Names, WishFor, program_app}
-use Rattle.request.specs.Laws.{AreSame, FillAlone, HelpOfView, NoSideOfZero, VersionAlone, ViewWithRadius}
-use Rattle.request.specs.ObserverWord.{observer_of}
+use Rattle.request.specs.CommandLine.{AreRefused, AskForHelp, HasNumber, HasOptions, IsHelp, Names, Spell, WishFor, program_app, sink_words, words_of}
+use Rattle.request.specs.Laws.{AreSame, BasinsOfSinks, FillAlone, HelpOfView, NoSideOfZero, VersionAlone, ViewWithRadius}
+use Rattle.request.specs.PlaceWords.{observer_of, sink_of}
 use Rattle.request.specs.Wish.{Wish}
 use Rattle.request.specs.declared.map.Map.{Map}
 use Rattle.request.specs.declared.map.Map.TheVariants.{Fill, Flow, Accumulate, Basins, View}
@@ -34,14 +34,11 @@ name_letter name rows Accumulate n = ap (λ (t : Text). slice_index t 2) n
 name_letter name rows Basins n = ap (λ (t : Text). slice_index t 2) n
 name_letter name rows (View observers target radius) n = ap (λ (t : Text). slice_index t 2) n.0
 
-same_somes : (xs ys : List Observer) → map Some xs ≡ map Some ys → xs ≡ ys
+same_somes : {X : Type 0} (xs ys : List X) → map Some xs ≡ map Some ys → xs ≡ ys
 same_somes [] [] e = refl
 same_somes [] (y ∷ ys) e = absurd (cc)
 same_somes (x ∷ xs) [] e = absurd (cc)
-same_somes (x ∷ xs) (y ∷ ys) e = ap₂ (λ (o : Observer) (os : List Observer). o ∷ os) (same_Some x y (ap (λ (zs : List (Option Observer)). get_or zs 0 None) e)) (same_somes xs ys (ap (drop 1) e))
-
-same_observers : (rows : List Row) (xs ys : List Observer) → HasObservers rows xs → HasObservers rows ys → xs ≡ ys
-same_observers rows xs ys a b = same_somes xs ys (sym a.2 ∙ ap (λ words. map observer_of words) (same_Some _ _ (sym a.1 ∙ b.1)) ∙ b.2)
+same_somes {X} (x ∷ xs) (y ∷ ys) e = ap₂ (λ (z : X) (zs : List X). z ∷ zs) (same_Some x y (ap (λ (zs : List (Option X)). get_or zs 0 None) e)) (same_somes xs ys (ap (drop 1) e))
 
 one_letter : (name : Text) (rows : List Row) (m n : Map) → Names name rows m → Names name rows n → letter m ≡ letter n → AreSame m n
 one_letter name rows Fill Fill a b e = refl
@@ -69,10 +66,10 @@ one_letter name rows (View observers target radius) Flow a b e = absurd (omega a
 one_letter name rows (View observers target radius) Accumulate a b e = absurd (omega arith)
 one_letter name rows (View observers target radius) Basins a b e = absurd (omega arith)
 one_letter name rows (View observers target radius) (View others height reach) a b e =
-    (same_observers rows observers.items others.items a.1 b.1, same_number rows (codes "target") target height a.2 b.2, same_number rows (codes "radius") radius reach a.3 b.3)
+    (same_somes observers.items others.items (sym a.1 ∙ b.1), same_number rows (codes "target") target height a.2 b.2, same_number rows (codes "radius") radius reach a.3 b.3)
 
 pub one_wish : (words : List Text) (wish other : Wish) → WishFor words wish → WishFor words other →
-    AreSame wish.map other.map × (wish.tile ≡ other.tile) × (wish.workers ≡ other.workers) × (wish.scale ≡ other.scale)
+    AreSame wish.map other.map × (wish.tile ≡ other.tile) × (wish.workers ≡ other.workers) × (wish.scale ≡ other.scale) × (wish.sinks ≡ other.sinks)
 one_wish words wish other a b =
     let command = same_Some _ _ (sym b.command.found ∙ a.command.found) in
     let map = subst (λ (p : Text × List Row). Names p.0 p.1 other.map) command b.map in
@@ -81,6 +78,7 @@ one_wish words wish other a b =
       same_number a.rows (codes "tile") _ _ a.options.0 options.0,
       same_number a.rows (codes "workers") _ _ a.options.1 options.1,
       same_number a.rows (codes "scale") _ _ a.options.2 options.2,
+      same_somes wish.sinks other.sinks (sym a.sinks ∙ subst (λ (p : Text × List Row). Spell sink_of (sink_words p.0 p.1) other.sinks) command b.sinks),
     )
 
 none_any : (P : ErrorKind → Type 0) (ks : Kinds) → ks ≡ [] → Any P ks → ⊥
@@ -129,18 +127,57 @@ fill_scale : one_of (codes "scale") (rows_in fill_words) ≡ Some (codes "0")
 unfolding clap_on_literals
 fill_scale = refl
 
+fill_sinks : Spell sink_of (sink_words (codes "fill") (rows_in fill_words)) []
+unfolding clap_on_literals
+fill_sinks = refl
+
 pub fill_alone : FillAlone
 fill_alone = record {
   name = codes "fill";
   rows = rows_in fill_words;
   command = record { accepted = fill_accepted; found = fill_found };
   map = refl;
+  sinks = fill_sinks;
   options = (
     spelled _ (codes "tile") (codes "256") 256 fill_tile (search rules) refl (omega arith),
     spelled _ (codes "workers") (codes "1") 1 fill_workers (search rules) refl (omega arith),
     spelled _ (codes "scale") (codes "0") 0 fill_scale (search rules) refl (omega arith),
   );
-  limits = search rules;
+  limits = record { in_limits = search rules; view = λ v. absurd v };
+}
+
+abbrev basins_words : List Text
+basins_words = codes "relief" ∷ codes "basins" ∷ codes "1,2" ∷ codes "0,3" ∷ []
+
+basins_accepted : fault_of program_app basins_words ≡ []
+unfolding clap_on_literals
+basins_accepted = refl
+
+basins_found : subcommand_of program_app basins_words ≡ Some (codes "basins", rows_in basins_words)
+unfolding clap_on_literals
+basins_found = refl
+
+basins_values : (one_of (codes "tile") (rows_in basins_words) ≡ Some (codes "256")) × (one_of (codes "workers") (rows_in basins_words) ≡ Some (codes "1"))
+    × (one_of (codes "scale") (rows_in basins_words) ≡ Some (codes "0")) × (sink_words (codes "basins") (rows_in basins_words) ≡ codes "1,2" ∷ codes "0,3" ∷ [])
+unfolding clap_on_literals
+basins_values = (refl, refl, refl, refl)
+
+basins_sinks : map sink_of (codes "1,2" ∷ codes "0,3" ∷ []) ≡ map Some (record { row = 1; col = 2 } ∷ record { row = 0; col = 3 } ∷ [])
+basins_sinks = refl
+
+pub basins_of_sinks : BasinsOfSinks
+basins_of_sinks = record {
+  name = codes "basins";
+  rows = rows_in basins_words;
+  command = record { accepted = basins_accepted; found = basins_found };
+  map = refl;
+  sinks = ap (map sink_of) basins_values.3 ∙ basins_sinks;
+  options = (
+    spelled _ (codes "tile") (codes "256") 256 basins_values.0 (search rules) refl (omega arith),
+    spelled _ (codes "workers") (codes "1") 1 basins_values.1 (search rules) refl (omega arith),
+    spelled _ (codes "scale") (codes "0") 0 basins_values.2 (search rules) refl (omega arith),
+  );
+  limits = record { in_limits = search rules; view = λ v. absurd v };
 }
 
 abbrev view_words : List Text
@@ -156,7 +193,7 @@ view_found = refl
 
 view_values : (one_of (codes "tile") (rows_in view_words) ≡ Some (codes "256")) × (one_of (codes "workers") (rows_in view_words) ≡ Some (codes "1"))
     × (one_of (codes "scale") (rows_in view_words) ≡ Some (codes "0")) × (one_of (codes "target") (rows_in view_words) ≡ Some (codes "0"))
-    × (one_of (codes "radius") (rows_in view_words) ≡ Some (codes "5")) × (all_of (codes "observers") (rows_in view_words) ≡ Some (codes "1,2,3" ∷ []))
+    × (one_of (codes "radius") (rows_in view_words) ≡ Some (codes "5")) × (words_of (codes "observers") (rows_in view_words) ≡ codes "1,2,3" ∷ [])
 unfolding clap_on_literals
 view_values = (refl, refl, refl, refl, refl, refl)
 
@@ -170,16 +207,17 @@ view_with_radius observers one = record {
   command = record { accepted = view_accepted; found = view_found };
   map = (
     refl,
-    (codes "1,2,3" ∷ [], view_values.5, ap (λ o. o ∷ []) view_observer ∙ ap (λ (os : List Observer). map Some os) (sym one)),
+    ap (map observer_of) view_values.5 ∙ ap (λ o. o ∷ []) view_observer ∙ ap (λ (os : List Observer). map Some os) (sym one),
     spelled _ (codes "target") (codes "0") 0 view_values.3 (search rules) refl (omega arith),
     spelled _ (codes "radius") (codes "5") 5 view_values.4 (search rules) refl (omega arith),
   );
+  sinks = refl;
   options = (
     spelled _ (codes "tile") (codes "256") 256 view_values.0 (search rules) refl (omega arith),
     spelled _ (codes "workers") (codes "1") 1 view_values.1 (search rules) refl (omega arith),
     spelled _ (codes "scale") (codes "0") 0 view_values.2 (search rules) refl (omega arith),
   );
-  limits = search rules;
+  limits = record { in_limits = search rules; view = λ v. refl };
 }
 
 tile_fault : fault_of program_app (codes "relief" ∷ codes "fill" ∷ codes "--tile" ∷ codes "0" ∷ []) ≡ kind.ValueValidation ∷ []

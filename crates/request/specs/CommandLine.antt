@@ -1,6 +1,7 @@
 -- The words of the command line, as `clap` reads them.
-use Rattle.std.specs.Prelude.{◌≡◌, ◌⊎◌, ℕ, ◌<◌, ◌^◌, pos, true, false, List, [], ◌∷◌, map, Some, codes, Any, is_none}
+use Rattle.std.specs.Prelude.{◌≡◌, ◌⊎◌, ℕ, ◌<◌, ◌^◌, pos, true, false, List, [], ◌∷◌, map, Option, Some, codes, Any, is_none, unwrap_or, if◌then◌else◌}
 use Rattle.std.specs.List.{position}
+use Rattle.std.specs.Str.{bytes_eq}
 use Rattle.std.specs.Str.Parse.{IsNumeral, digits_value, without_leading_plus}
 use Rattle.clap.specs.Lexer.{usize_max}
 use Rattle.clap.specs.Words.{App, Row, Rule, Shape, Text, all_of, new_rule, one_of, subcommand_of}
@@ -14,7 +15,7 @@ use Rattle.clap.specs.declared.error.kind.ErrorKind.TheVariants.{DisplayHelp, Di
 use Rattle.sight.specs.declared.observer.Observer.{Observer}
 use Rattle.request.specs.declared.map.Map.{Map}
 use Rattle.request.specs.declared.map.Map.TheVariants.{Fill, Flow, Accumulate, Basins, View}
-use Rattle.request.specs.ObserverWord.{observer_of}
+use Rattle.request.specs.PlaceWords.{observer_of, sink_of}
 use Rattle.request.specs.Wish.{Wish, IsWish}
 
 -- ---- what the program takes
@@ -56,9 +57,21 @@ observers_rule = record (new_rule (codes "observers")) {
   required = true;
 }
 
--- A map's name and its options.
+-- Any number of words.
+abbrev pub sinks_rule : Rule
+sinks_rule = record (new_rule (codes "sinks")) {
+  action = Some Append;
+  range = Some (record { start_inclusive = 0; end_inclusive = usize_max });
+  value_names = 1;
+}
+
+-- A map's name and the options that each map has.
 abbrev pub map_shape : Text → Shape
 map_shape name = record (new_shape name) { rules = tile_rule ∷ workers_rule ∷ scale_rule ∷ [] }
+
+-- The maps of drainage take sinks.
+abbrev pub drainage_shape : Text → Shape
+drainage_shape name = record (new_shape name) { rules = tile_rule ∷ workers_rule ∷ scale_rule ∷ sinks_rule ∷ [] }
 
 abbrev pub view_shape : Shape
 view_shape = record (new_shape (codes "view")) {
@@ -69,8 +82,8 @@ view_shape = record (new_shape (codes "view")) {
 abbrev pub program_app : App
 program_app = record {
   top = record (new_shape (codes "relief")) { disable_help_subcommand = true; has_version = true; subcommand_required = true; is_leaf = false };
-  subs = map_shape (codes "fill") ∷ map_shape (codes "flow") ∷ map_shape (codes "accumulate")
-      ∷ map_shape (codes "basins") ∷ view_shape ∷ [];
+  subs = drainage_shape (codes "fill") ∷ drainage_shape (codes "flow") ∷ drainage_shape (codes "accumulate")
+      ∷ drainage_shape (codes "basins") ∷ view_shape ∷ [];
 }
 
 -- ---- what words say
@@ -95,9 +108,21 @@ pub record HasNumber (rows : List Row) (id : Text) (n : ℕ) : Type 0 where
   pub spelled : digits_value 10 (without_leading_plus text) ≡ n
   pub small : n < 2 ^ 32
 
+-- The words that are given for an argument.
+abbrev pub words_of : Text → List Row → List Text
+words_of id rows = unwrap_or (all_of id rows) []
+
+-- Each of the words spells what stands at its place.
+abbrev pub Spell : {X : Type 0} → (Text → Option X) → List Text → List X → Type 0
+Spell spelled words items = map spelled words ≡ map Some items
+
+-- The first of the words that spells nothing stands at this place from 0.
+abbrev pub IsFirstBad : {X : Type 0} → (Text → Option X) → List Text → ℕ → Type 0
+IsFirstBad spelled words place = position (λ word. is_none (spelled word)) words ≡ Some place
+
 -- The words after `view` are these observers.
 abbrev pub HasObservers : List Row → List Observer → Type 0
-HasObservers rows observers = (words : List Text) × (all_of (codes "observers") rows ≡ Some words) × (map observer_of words ≡ map Some observers)
+HasObservers rows observers = Spell observer_of (words_of (codes "observers") rows) observers
 
 -- The subcommand of this name, with these values, is this map.
 abbrev pub Names : Text → List Row → Map → Type 0
@@ -107,6 +132,10 @@ Names name rows Accumulate = name ≡ codes "accumulate"
 Names name rows Basins = name ≡ codes "basins"
 Names name rows (View observers target radius) = (name ≡ codes "view") × HasObservers rows observers.items
     × HasNumber rows (codes "target") target × HasNumber rows (codes "radius") radius
+
+-- The words after the options of a map of drainage; a viewshed takes no sinks.
+abbrev pub sink_words : Text → List Row → List Text
+sink_words name rows = if bytes_eq name (codes "view") then [] else words_of (codes "sinks") rows
 
 -- The options that each map has.
 abbrev pub HasOptions : List Row → ℕ → ℕ → ℕ → Type 0
@@ -119,6 +148,7 @@ pub record WishFor (words : List Text) (wish : Wish) : Type 0 where
   pub rows : List Row
   pub command : AreCommand words name rows
   pub map : Names name rows wish.map
+  pub sinks : Spell sink_of (sink_words name rows) wish.sinks
   pub options : HasOptions rows wish.tile wish.workers wish.scale
   pub limits : IsWish wish
 
@@ -131,9 +161,16 @@ AreRefused words = Any (λ kind. ¬ IsHelp kind) (fault_of program_app words)
 pub record HasBadObserver (words : List Text) (place : ℕ) : Type 0 where
   pub rows : List Row
   pub command : AreCommand words (codes "view") rows
-  pub observers : List Text
-  pub given : all_of (codes "observers") rows ≡ Some observers
-  pub first : position (λ word. is_none (observer_of word)) observers ≡ Some place
+  pub first : IsFirstBad observer_of (words_of (codes "observers") rows) place
+
+-- The same of the words after the options of a map of drainage, and of sinks.
+pub record HasBadSink (words : List Text) (place : ℕ) : Type 0 where
+  pub name : Text
+  pub rows : List Row
+  pub command : AreCommand words name rows
+  pub map : Map
+  pub named : Names name rows map
+  pub first : IsFirstBad sink_of (sink_words name rows) place
 
 -- The words that the program was started with; where there are none, its name alone.
 abbrev pub words_given : List Text → List Text

@@ -1,5 +1,5 @@
 pub mod Wish
-pub mod ObserverWord
+pub mod PlaceWords
 pub mod CommandLine
 pub mod Commands
 pub mod WordsFaults

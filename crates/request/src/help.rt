@@ -13,28 +13,28 @@ Reads one grid of heights in the Esri ASCII raster form (GDAL's AAIGrid) from st
 map of it in the same form to standard output. Before the map is whole nothing is written.";
 
 pub(crate) const USAGE: &str = "\
-relief fill|flow|accumulate|basins [OPTIONS] < dem.asc > map.asc
+relief fill|flow|accumulate|basins [OPTIONS] [ROW,COL...] < dem.asc > map.asc
        relief view [OPTIONS] ROW,COL,EYE... < dem.asc > map.asc";
 
 pub(crate) const FILL: MapHelp = MapHelp {
-    about: "Filled heights: of each cell the least height at which its water reaches the data's edge",
-    details: "Filled heights: of each cell the least height at which its water reaches the data's edge. NODATA is such an\n\
-edge: a void in the field drains what lies above it, so fill voids first.\n\n\
+    about: "Filled heights: of each cell the least height at which its water reaches the data's edge or a sink",
+    details: "Filled heights: of each cell the least height at which its water reaches the data's edge or a named sink.\n\
+NODATA is such an edge: a void in the field drains what lies above it, so fill voids first.\n\n\
 Out: heights in the units of the input, with D decimals (--scale D); NODATA as in the input.\n\n\
 Example, heights in metres with centimetres:\n  \
 relief fill --scale 2 < dem.asc > filled.asc",
-    usage: "relief fill [OPTIONS] < dem.asc > map.asc",
+    usage: "relief fill [OPTIONS] [ROW,COL...] < dem.asc > map.asc",
 };
 
 pub(crate) const FLOW: MapHelp = MapHelp {
     about: "D8 directions on the filled heights: E 1, SE 2, S 4, SW 8, W 16, NW 32, N 64, NE 128, outlet 0",
     details: "D8 directions on the filled heights: to the neighbour with the steepest drop over distance, on a flat by\n\
 the fewest steps to where it drains, among equals to the smallest code.\n\n\
-Out: E 1, SE 2, S 4, SW 8, W 16, NW 32, N 64, NE 128; an outlet, where water drains off the data, has 0;\n\
-NODATA is -9999.\n\n\
+Out: E 1, SE 2, S 4, SW 8, W 16, NW 32, N 64, NE 128; an outlet, where water drains off the data or into a\n\
+named sink, has 0; NODATA is -9999.\n\n\
 Example:\n  \
 relief flow < dem.asc > directions.asc",
-    usage: "relief flow [OPTIONS] < dem.asc > map.asc",
+    usage: "relief flow [OPTIONS] [ROW,COL...] < dem.asc > map.asc",
 };
 
 pub(crate) const ACCUMULATE: MapHelp = MapHelp {
@@ -43,16 +43,16 @@ pub(crate) const ACCUMULATE: MapHelp = MapHelp {
 Out: whole numbers of cells from 0, the cell itself not counted; NODATA is -9999.\n\n\
 Example, with four threads:\n  \
 relief accumulate --workers 4 < dem.asc > accumulation.asc",
-    usage: "relief accumulate [OPTIONS] < dem.asc > map.asc",
+    usage: "relief accumulate [OPTIONS] [ROW,COL...] < dem.asc > map.asc",
 };
 
 pub(crate) const BASINS: MapHelp = MapHelp {
     about: "The number of the outlet to which each cell's water flows, from 1 in row order",
     details: "The number of the outlet to which each cell's water flows: its catchment.\n\n\
 Out: whole numbers from 1, outlets being numbered in row order from the north-west; NODATA is -9999.\n\n\
-Example:\n  \
-relief basins < dem.asc > basins.asc",
-    usage: "relief basins [OPTIONS] < dem.asc > map.asc",
+Example, with a sink at row 120 and column 340:\n  \
+relief basins 120,340 < dem.asc > basins.asc",
+    usage: "relief basins [OPTIONS] [ROW,COL...] < dem.asc > map.asc",
 };
 
 pub(crate) const VIEW: MapHelp = MapHelp {
@@ -64,6 +64,10 @@ Example, heights in decimetres, from a mast of 20 m at row 120 and column 340 to
 relief view --scale 1 --radius 500 --target 15 120,340,200 < dem.asc > view.asc",
     usage: "relief view [OPTIONS] ROW,COL,EYE... < dem.asc > map.asc",
 };
+
+pub(crate) const SINK_WORDS: &str = "\
+Named sinks, up to 1024, each two whole numbers: the row from 0 at the north, the column from 0 at the west.
+Water ends in a sink that no neighbour lies below, and a pit with a sink at its bottom does not fill up";
 
 pub(crate) const VIEW_WORDS: &str = "\
 Observers, 1 to 1024, each three whole numbers: the row from 0 at the north, the column from 0 at the west,
@@ -81,7 +85,7 @@ tiles.\n\n\
 Exit status:\n  \
 0  the map was written, or help or the version was asked for\n  \
 1  words of the command line were refused\n  \
-2  the text, the tiles or an observer was refused\n  \
+2  the text, the tiles, a sink or an observer was refused\n  \
 3  no memory or no thread was to be had\n  \
 4  reading or writing failed\n\
 A fault is one line on standard error: relief: NUMBER NAME [DETAIL]\n\
@@ -91,6 +95,7 @@ pub(crate) const EXAMPLES_AND_FAULTS: &str = "\
 Examples:
   relief fill < dem.asc > filled.asc
   relief accumulate --scale 2 --workers 4 < dem.asc > accumulation.asc
+  relief basins 120,340 < dem.asc > basins.asc
   relief view --radius 500 --target 150 120,340,200 < dem.asc > viewshed.asc
 
 `relief fill --help` says what goes in and comes out, in which units and limits, and with which exit status.
@@ -121,7 +126,10 @@ A fault is one line on standard error, relief: NUMBER NAME [DETAIL], and no map.
   43 TooManyObservers  more than 1024: make several maps and add them
   44 BadEye [PLACE]    this eye, or without PLACE the target, is above 1000000 units: units are 10^-D
   45 BadRadius         not 1 to 8192 cells
+  46 SinkOutside PLACE this sink is not in the grid: give ROW,COL in cells and not coordinates
+  47 SinkOnNodata PLACE this sink stands where there is no data, which drains already: take it out
+  48 TooManySinks      more than 1024: name fewer
   51 Read              standard input failed
   52 Write             standard output failed: a full disk, a closed pipe
 KEY is a header word. PLACE counts from 0: of cells in row order, so it is row PLACE / ncols, rounded down, and
-column PLACE % ncols; of observers in the order in which they were given.";
+column PLACE % ncols; of observers and sinks in the order in which they were given.";

@@ -1,5 +1,5 @@
 // Facts of the definitions alone.
-ghost use Rattle.request.specs.Laws.{FillAlone, HelpOfView, NoSideOfZero, VersionAlone, ViewWithRadius, WishesAreAccepted, WishesAreOne};
+ghost use Rattle.request.specs.Laws.{BasinsOfSinks, FillAlone, HelpOfView, NoSideOfZero, VersionAlone, ViewWithRadius, WishesAreAccepted, WishesAreOne};
 
 /// Words have at most one wish.
 pub fn wishes_are_one()
@@ -11,9 +11,14 @@ pub fn wishes_are_accepted()
     ensures { WishesAreAccepted }
 {}
 
-/// `relief fill` wishes for tiles of side 256, one worker and scale 0.
+/// `relief fill` wishes for tiles of side 256, one worker and scale 0, and no sinks.
 pub fn fill_alone()
     ensures { FillAlone }
+{}
+
+/// `relief basins 1,2 0,3` wishes for basins with these two sinks.
+pub fn basins_of_sinks()
+    ensures { BasinsOfSinks }
 {}
 
 /// `relief view --radius 5 1,2,3` wishes for what the observer at row 1 and column 2 sees from height 3.

@@ -4,14 +4,14 @@
 mod help;
 pub mod laws;
 mod map;
-mod observer_word;
 mod options;
+mod place_words;
 mod program;
 mod words;
 
 pub use map::Map;
-pub use observer_word::parse_observer;
 pub use options::Options;
+pub use place_words::{parse_observer, parse_sink};
 pub use words::{WordsFault, parse};
 
 /// The program's version, with which CHANGELOG.md begins.

@@ -1,34 +1,39 @@
 // What the caller asks for.
-ghost use Rattle.std.specs.Prelude.{◌≡◌, IfSome, IfNone};
-ghost use Rattle.request.specs.Wish.{AreLimits};
+ghost use Rattle.std.specs.Prelude.{◌≡◌, [], IfSome, IfNone, IfOk, IfErr};
+ghost use Rattle.request.specs.Wish.{AreLimits, IsView};
 
 use crate::map::Map;
 use std::marker::Model;
+use terrain::Place;
 
-/// A map, a tile's side in cells, a number of workers and a scale, each in its limits.
+/// A map, a tile's side in cells, a number of workers and a scale, each in its limits, and the sinks into
+/// which water flows.
 #[derive(Drop)]
 pub struct Options {
     map: Map,
     tile: u32,
     workers: u32,
     scale: u8,
+    sinks: Option<Vec<Place>>,
 }
 
 impl Model for Options {
+    ghost use Rattle.std.specs.Prelude.{[]};
+    ghost use Rattle.std.specs.Option.{option_map_or};
     ghost use Rattle.request.specs.Wish.{Wish, IsWish};
 
     ghost Value = { Wish };
 
-    ghost view = { λ o. record { map = o.map; tile = o.tile; workers = o.workers; scale = o.scale } };
+    ghost view = { λ o. record { map = o.map; tile = o.tile; workers = o.workers; scale = o.scale; sinks = option_map_or (λ v. v.items) o.sinks [] } };
 
-    ghost invariant = { λ o. IsWish (record { map = o.map; tile = o.tile; workers = o.workers; scale = o.scale }) };
+    ghost invariant = { λ o. IsWish (record { map = o.map; tile = o.tile; workers = o.workers; scale = o.scale; sinks = option_map_or (λ v. v.items) o.sinks [] }) };
 }
 
 impl Options {
-    /// None exactly where the tile's side (1 to 4,096), the workers (1 to 64) or the scale (0 to 6) is
-    /// outside its limits.
+    /// Options without sinks. None exactly where the tile's side (1 to 4,096), the workers (1 to 64) or the
+    /// scale (0 to 6) is outside its limits.
     pub fn new(map: Map, tile: u32, workers: u32, scale: u8) -> Option<Self>
-        ensures some { IfSome result (λ o. o ≡ record { map = map; tile = tile; workers = workers; scale = scale }) }
+        ensures some { IfSome result (λ o. o ≡ record { map = map; tile = tile; workers = workers; scale = scale; sinks = [] }) }
         ensures limits { IfSome result (λ _. AreLimits tile workers scale) }
         ensures none { IfNone result (AreLimits tile workers scale → ⊥) }
     {
@@ -38,10 +43,29 @@ impl Options {
                 tile,
                 workers,
                 scale,
+                sinks: None,
             })
         } else {
             None
         }
+    }
+
+    /// The same options with these sinks, in place of those that they had. A viewshed has no sinks: its
+    /// options come back as they were.
+    pub fn with_sinks(self, sinks: Vec<Place>) -> Result<Self, Self>
+        ensures some { IfOk result (λ o. (o ≡ record self { sinks = sinks.items }) × ¬ IsView self.map) }
+        ensures view { IfErr result (λ o. (o ≡ self) × IsView self.map) }
+    {
+        if let Map::View { .. } = self.map {
+            return Err(self);
+        }
+        Ok(Options {
+            map: self.map,
+            tile: self.tile,
+            workers: self.workers,
+            scale: self.scale,
+            sinks: Some(sinks),
+        })
     }
 
     /// The map that is asked for.
@@ -73,5 +97,16 @@ impl Options {
         ensures limits { AreLimits self.now.tile self.now.workers self.now.scale }
     {
         self.scale
+    }
+
+    /// The sinks, in the order of naming. A viewshed has none.
+    pub fn sinks(&self) -> &[Place]
+        ensures value { result.now ≡ self.now.sinks }
+        ensures view { IsView self.now.map → self.now.sinks ≡ [] }
+    {
+        match &self.sinks {
+            Some(sinks) => sinks.as_slice(),
+            None => &[],
+        }
     }
 }

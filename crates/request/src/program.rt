@@ -1,13 +1,13 @@
 // The subcommands and options of the program.
 ghost use Rattle.std.specs.Prelude.{◌≡◌, IfOk};
 ghost use Rattle.clap.specs.Words.{app_of};
-ghost use Rattle.request.specs.CommandLine.{map_shape, number_rule, observers_rule, program_app, radius_rule, scale_rule, target_rule, tile_rule, view_shape, workers_rule};
+ghost use Rattle.request.specs.CommandLine.{drainage_shape, map_shape, number_rule, observers_rule, program_app, radius_rule, scale_rule, sinks_rule, target_rule, tile_rule, view_shape, workers_rule};
 ghost use Rattle.request.specs.Commands.{IsArg, IsLeaf, bare_app};
 
 use crate::VERSION;
 use crate::help::{
-    ABOUT, ACCUMULATE, BASINS, COMMON, EXAMPLES_AND_FAULTS, FILL, FLOW, MapHelp, USAGE, VIEW,
-    VIEW_WORDS,
+    ABOUT, ACCUMULATE, BASINS, COMMON, EXAMPLES_AND_FAULTS, FILL, FLOW, MapHelp, SINK_WORDS, USAGE,
+    VIEW, VIEW_WORDS,
 };
 use clap::builder::ValueParser;
 use clap::{Arg, ArgAction, Command, value_parser};
@@ -82,6 +82,17 @@ fn observer_words<'a>(alloc: Global) -> Arg<'a>
         .help(VIEW_WORDS)
 }
 
+/// The words after the options of a map of drainage.
+fn sink_words<'a>(alloc: Global) -> Arg<'a>
+    ensures { IsArg sinks_rule result }
+{
+    Arg::new(alloc, "sinks")
+        .value_name("ROW,COL")
+        .action(ArgAction::Append)
+        .num_args(0..)
+        .help(SINK_WORDS)
+}
+
 /// A subcommand with the options that each map has.
 fn map_command<'a>(alloc: Global, name: &'a str, help: MapHelp) -> Result<Command<'a>, AllocError>
     ensures { IfOk result (IsLeaf (map_shape name.entry.now)) }
@@ -94,6 +105,16 @@ fn map_command<'a>(alloc: Global, name: &'a str, help: MapHelp) -> Result<Comman
         .arg(tile_option(alloc))?
         .arg(workers_option(alloc))?
         .arg(scale_option(alloc))
+}
+
+fn drainage_command<'a>(
+    alloc: Global,
+    name: &'a str,
+    help: MapHelp,
+) -> Result<Command<'a>, AllocError>
+    ensures { IfOk result (IsLeaf (drainage_shape name.entry.now)) }
+{
+    map_command(alloc, name, help)?.arg(sink_words(alloc))
 }
 
 fn view_command<'a>(alloc: Global) -> Result<Command<'a>, AllocError>
@@ -123,9 +144,9 @@ pub(crate) fn program<'a>(alloc: Global) -> Result<Command<'a>, AllocError>
     ensures { IfOk result (λ c. app_of c ≡ program_app) }
 {
     bare_program(alloc)
-        .subcommand(map_command(alloc, "fill", FILL)?)?
-        .subcommand(map_command(alloc, "flow", FLOW)?)?
-        .subcommand(map_command(alloc, "accumulate", ACCUMULATE)?)?
-        .subcommand(map_command(alloc, "basins", BASINS)?)?
+        .subcommand(drainage_command(alloc, "fill", FILL)?)?
+        .subcommand(drainage_command(alloc, "flow", FLOW)?)?
+        .subcommand(drainage_command(alloc, "accumulate", ACCUMULATE)?)?
+        .subcommand(drainage_command(alloc, "basins", BASINS)?)?
         .subcommand(view_command(alloc)?)
 }

@@ -1,19 +1,20 @@
 // The words of the command line.
-ghost use Rattle.std.specs.Prelude.{◌≡◌, ℕ, map, codes, Some, IfOk, IfErr, IfSome, IfNone};
+ghost use Rattle.std.specs.Prelude.{◌≡◌, ℕ, [], map, codes, IfOk, IfErr, IfSome, IfNone};
 ghost use Rattle.clap.specs.Words.{found_of, rows_of};
-ghost use Rattle.request.specs.CommandLine.{HasNumber, HasOptions, Names, WishFor, words_given};
-ghost use Rattle.request.specs.ObserverWord.{observer_of};
-ghost use Rattle.request.specs.Wish.{AreLimits, IsWish};
-ghost use Rattle.request.specs.WordsFaults.{IsBadAfter, IsBadAmong, IsFaultBy, IsFaultOf, IsNoMap, IsWant};
+ghost use Rattle.request.specs.CommandLine.{HasNumber, HasOptions, IsFirstBad, Names, Spell, WishFor, sink_words, words_given};
+ghost use Rattle.request.specs.PlaceWords.{observer_of, sink_of};
+ghost use Rattle.request.specs.Wish.{AreLimits};
+ghost use Rattle.request.specs.WordsFaults.{IsBadAfter, IsFaultBy, IsFaultOf, IsNoMap, IsWant};
 ghost use Rattle.request.specs.declared.words.WordsFault.TheVariants.{Clap};
 
 use crate::map::Map;
-use crate::observer_word::parse_observer;
 use crate::options::Options;
+use crate::place_words::{parse_observer, parse_sink};
 use crate::program::program;
 use clap::{ArgMatches, Error};
 use sight::Observer;
 use std::alloc::{AllocError, Global};
+use terrain::Place;
 
 static NAME_ALONE: [&str; 1] = ["relief"];
 
@@ -24,6 +25,8 @@ pub enum WordsFault {
     Clap(Error),
     /// The observer word at this place from 0 is none.
     BadObserver(usize),
+    /// The sink word at this place from 0 is none.
+    BadSink(usize),
     /// They name no map, which `clap` refuses before.
     NoMap,
 }
@@ -54,8 +57,8 @@ fn number_given(found: &ArgMatches<'_>, id: &str) -> Option<u32>
 
 /// The observers that these words are.
 fn observers_of(alloc: Global, words: &[&str]) -> Result<Vec<Observer>, WordsFault>
-    ensures some { IfOk result (λ v. map observer_of (map (λ w. w.now) words.now) ≡ map Some v.items) }
-    ensures none { IfErr result (IsFaultBy (IsBadAmong (map (λ w. w.now) words.now)) ⊥) }
+    ensures some { IfOk result (λ v. Spell observer_of (map (λ w. w.now) words.now) v.items) }
+    ensures none { IfErr result (IsFaultBy (IsFirstBad observer_of (map (λ w. w.now) words.now)) (λ _. ⊥) ⊥) }
 {
     let mut observers = Vec::new(alloc);
     for place in 0..words.len() {
@@ -67,15 +70,28 @@ fn observers_of(alloc: Global, words: &[&str]) -> Result<Vec<Observer>, WordsFau
     Ok(observers)
 }
 
+/// The sinks that these words are.
+fn sinks_of(alloc: Global, words: &[&str]) -> Result<Vec<Place>, WordsFault>
+    ensures some { IfOk result (λ v. Spell sink_of (map (λ w. w.now) words.now) v.items) }
+    ensures none { IfErr result (IsFaultBy (λ _. ⊥) (IsFirstBad sink_of (map (λ w. w.now) words.now)) ⊥) }
+{
+    let mut sinks = Vec::new(alloc);
+    for place in 0..words.len() {
+        let Some(sink) = parse_sink(words[place]) else {
+            return Err(WordsFault::BadSink(place));
+        };
+        sinks.push(sink).map_err(AllocError::from)?;
+    }
+    Ok(sinks)
+}
+
 /// The viewshed that is asked for.
 fn view_of(alloc: Global, found: &ArgMatches<'_>) -> Result<Map, WordsFault>
     ensures some { IfOk result (Names (codes "view") (rows_of (found_of found.now))) }
-    ensures none { IfErr result (IsFaultBy (IsBadAfter (codes "view") (rows_of (found_of found.now)))
+    ensures none { IfErr result (IsFaultBy (IsBadAfter (codes "view") (rows_of (found_of found.now))) (λ _. ⊥)
         (IsNoMap (codes "view") (rows_of (found_of found.now)))) }
 {
-    let Some(words) = found.get_strs("observers") else {
-        return Err(WordsFault::NoMap);
-    };
+    let words: &[&str] = found.get_strs("observers").unwrap_or(&[]);
     let observers = observers_of(alloc, words)?;
     let Some(target) = number_given(found, "target") else {
         return Err(WordsFault::NoMap);
@@ -93,7 +109,7 @@ fn view_of(alloc: Global, found: &ArgMatches<'_>) -> Result<Map, WordsFault>
 /// The map of this name.
 fn map_of(alloc: Global, name: &str, found: &ArgMatches<'_>) -> Result<Map, WordsFault>
     ensures some { IfOk result (Names name.now (rows_of (found_of found.now))) }
-    ensures none { IfErr result (IsFaultBy (IsBadAfter name.now (rows_of (found_of found.now)))
+    ensures none { IfErr result (IsFaultBy (IsBadAfter name.now (rows_of (found_of found.now))) (λ _. ⊥)
         (IsNoMap name.now (rows_of (found_of found.now)))) }
 {
     match name {
@@ -106,10 +122,22 @@ fn map_of(alloc: Global, name: &str, found: &ArgMatches<'_>) -> Result<Map, Word
     }
 }
 
+/// The sinks that are given for the map of this name; a viewshed has none.
+fn sinks_given(alloc: Global, name: &str, found: &ArgMatches<'_>) -> Result<Vec<Place>, WordsFault>
+    ensures some { IfOk result (λ v. Spell sink_of (sink_words name.now (rows_of (found_of found.now))) v.items) }
+    ensures none { IfErr result (IsFaultBy (λ _. ⊥) (IsFirstBad sink_of (sink_words name.now (rows_of (found_of found.now)))) ⊥) }
+{
+    if name == "view" {
+        return Ok(Vec::new(alloc));
+    }
+    let words: &[&str] = found.get_strs("sinks").unwrap_or(&[]);
+    sinks_of(alloc, words)
+}
+
 /// A map with the options given; None where one of them is not in its limits.
 fn with_options(map: Map, found: &ArgMatches<'_>) -> Option<Options>
-    ensures some { IfSome result (λ o. (o.map ≡ map) × HasOptions (rows_of (found_of found.now)) o.tile o.workers o.scale) }
-    ensures limits { IfSome result IsWish }
+    ensures some { IfSome result (λ o. (o.map ≡ map) × (o.sinks ≡ []) × HasOptions (rows_of (found_of found.now)) o.tile o.workers o.scale) }
+    ensures limits { IfSome result (λ o. AreLimits o.tile o.workers o.scale) }
     ensures none { IfNone result ((tile workers scale : ℕ) → AreLimits tile workers scale →
         HasOptions (rows_of (found_of found.now)) tile workers scale → ⊥) }
 {
@@ -132,9 +160,13 @@ fn options_asked<'a>(alloc: Global, words: &'a [&'a str]) -> Result<Options, Wor
         return Err(WordsFault::NoMap);
     };
     let map = map_of(alloc, name, found)?;
-    match with_options(map, found) {
-        Some(options) => Ok(options),
-        None => Err(WordsFault::NoMap),
+    let sinks = sinks_given(alloc, name, found)?;
+    let Some(options) = with_options(map, found) else {
+        return Err(WordsFault::NoMap);
+    };
+    match options.with_sinks(sinks) {
+        Ok(options) => Ok(options),
+        Err(options) => Ok(options),
     }
 }
 

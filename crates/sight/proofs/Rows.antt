@@ -10,7 +10,7 @@ use Rattle.sight.specs.declared.fault.SightFault.{SightFault}
 use Rattle.sight.specs.declared.fault.SightFault.TheVariants.{Outside, OnNodata, BadEye, BadRadius}
 
 abbrev pub land : ℕ → ℕ → List (Option ℤ) → Terrain
-land cols rows cells = record { cols = cols; rows = rows; cells = cells }
+land cols rows cells = record { cols = cols; rows = rows; cells = cells; sinks = [] }
 
 abbrev pub at : ℕ → ℕ → Place
 at r c = record { row = r; col = c }

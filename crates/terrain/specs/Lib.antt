@@ -4,3 +4,4 @@ pub mod Raster
 pub mod Neighbours
 pub mod Ways
 pub mod Parts
+pub mod Sinks

@@ -1,5 +1,5 @@
 -- Which cells are next to each other, and which drain off the data.
-use Rattle.std.specs.Prelude.{◌≡◌, ◌≢◌, ℕ, ◌+◌, ◌*◌, ◌<◌, ◌≤◌, ℤ, pos, List, Option, None, IsSome, IsNone, ◌&&◌, nat_lt, if◌then◌else◌, slice_index_or, unwrap_or, ◌⊎◌}
+use Rattle.std.specs.Prelude.{◌≡◌, ◌≢◌, ℕ, ◌+◌, ◌*◌, ◌<◌, ◌≤◌, ℤ, pos, List, Option, None, IsSome, IsNone, ◌&&◌, nat_lt, if◌then◌else◌, slice_index_or, unwrap_or, ◌⊎◌, Contains}
 use Rattle.terrain.specs.Raster.{Terrain}
 use Rattle.terrain.specs.declared.place.Place.{Place}
 
@@ -56,3 +56,11 @@ HasGapAround t p = HasGapWhere (λ q. IsNone (height_at t q)) p
 -- A data cell with a gap around it.
 abbrev pub IsEdge : Terrain → Place → Type 0
 IsEdge t p = IsDataCell t p × HasGapAround t p
+
+-- A data cell that is named as a sink.
+abbrev pub IsSink : Terrain → Place → Type 0
+IsSink t p = IsDataCell t p × Contains t.sinks p
+
+-- An edge cell or a named sink.
+abbrev pub IsEnd : Terrain → Place → Type 0
+IsEnd t p = IsEdge t p ⊎ IsSink t p

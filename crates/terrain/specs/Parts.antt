@@ -2,14 +2,19 @@
 use Rattle.std.specs.Prelude.{ℕ, ℤ, List, Option}
 use Rattle.terrain.specs.Raster.{Raster}
 use Rattle.terrain.specs.declared.grid.GridHeader.{GridHeader}
+use Rattle.terrain.specs.declared.place.Place.{Place}
 
--- The grid of a header, a scale and cells.
-abbrev pub raster_with : GridHeader → ℕ → List (Option ℤ) → Raster
-raster_with header scale cells = record {
-  terrain = record { cols = header.cols; rows = header.rows; cells = cells };
+-- The grid of a header, a scale, cells and sinks.
+abbrev pub raster_with : GridHeader → ℕ → List (Option ℤ) → List Place → Raster
+raster_with header scale cells sinks = record {
+  terrain = record { cols = header.cols; rows = header.rows; cells = cells; sinks = sinks };
   xll = record { centre = header.xll.centre; word = header.xll.word };
   yll = record { centre = header.yll.centre; word = header.yll.word };
   cellsize = header.cellsize;
   nodata = header.nodata;
   scale = scale;
 }
+
+-- The same grid with other cells and sinks.
+abbrev pub raster_with_parts : Raster → List (Option ℤ) → List Place → Raster
+raster_with_parts g cells sinks = record g { terrain = record g.terrain { cells = cells; sinks = sinks } }

@@ -1,9 +1,11 @@
-// A grid, seen as its size, its header words, its scale and its cells.
-ghost use Rattle.std.specs.Prelude.{◌≡◌, ◌↔◌, ◌+◌, ◌*◌, ◌<◌, ◌≤◌, ℕ, length, All, Any, Contains, IfSome, IfOk, IsTrue, Some};
+// A grid, seen as its size, its header words, its scale, its cells and its sinks.
+ghost use Rattle.std.specs.Prelude.{◌≡◌, ◌↔◌, ◌+◌, ◌*◌, ◌<◌, ◌≤◌, ℕ, List, [], length, All, Any, Contains, IfSome, IfOk, IsTrue, Some};
 ghost use Rattle.terrain.specs.Raster.{Raster, IsLawful};
-ghost use Rattle.terrain.specs.Neighbours.{IsInside, height_at, IsEdge, HasGapAround};
+ghost use Rattle.terrain.specs.Neighbours.{IsInside, height_at, IsEdge, IsEnd, HasGapAround};
+ghost use Rattle.terrain.specs.Sinks.{RefusesSinks, raster_with_sinks, sinks_fault};
 
 use crate::place::{Height, Place};
+use crate::sinks::{SinkFault, each_once, first_fault, is_one_of};
 use crate::word::Word;
 use std::alloc::{AllocError, Global};
 use std::marker::Model;
@@ -68,6 +70,7 @@ pub struct Grid {
     header: GridHeader,
     scale: u8,
     cells: Vec<Option<Height>>,
+    sinks: Vec<Place>,
 }
 
 impl Model for Grid {
@@ -76,23 +79,29 @@ impl Model for Grid {
 
     ghost Value = { Raster };
 
-    ghost view = { λ g. raster_with g.header g.scale g.cells.items };
+    ghost view = { λ g. raster_with g.header g.scale g.cells.items g.sinks.items };
 
-    ghost invariant = { λ g. IsLawful (raster_with g.header g.scale g.cells.items) };
+    ghost invariant = { λ g. IsLawful (raster_with g.header g.scale g.cells.items g.sinks.items) };
 }
 
 impl Grid {
-    ghost use Rattle.terrain.specs.Parts.{raster_with};
+    ghost use Rattle.terrain.specs.Parts.{raster_with, raster_with_parts};
 
-    /// The grid of a header, a scale and the cells in row order.
-    pub fn from_parts(header: GridHeader, scale: u8, cells: Vec<Option<Height>>) -> Self
-        requires { IsLawful (raster_with header scale cells.items) }
-        ensures { result ≡ raster_with header scale cells.items }
+    /// The grid of a header, a scale and the cells in row order. It has no sinks.
+    pub fn from_parts(
+        alloc: Global,
+        header: GridHeader,
+        scale: u8,
+        cells: Vec<Option<Height>>,
+    ) -> Self
+        requires { IsLawful (raster_with header scale cells.items []) }
+        ensures { result ≡ raster_with header scale cells.items [] }
     {
         Grid {
             header,
             scale,
             cells,
+            sinks: Vec::new(alloc),
         }
     }
 
@@ -126,6 +135,14 @@ impl Grid {
         ensures lawful { IsLawful self.now }
     {
         &self.cells
+    }
+
+    /// The named sinks, each once, in the order of first naming.
+    pub fn sinks(&self) -> &[Place]
+        ensures value { result.now ≡ self.now.terrain.sinks }
+        ensures lawful { IsLawful self.now }
+    {
+        &self.sinks
     }
 
     /// The position along the columns' axis, as read.
@@ -166,12 +183,13 @@ impl Grid {
         self.cells[place.row as usize * self.header.cols as usize + place.col as usize]
     }
 
-    /// Whether the cell has a height and, at one of the eight places around it, there is none.
+    /// Whether the cell is an end cell: it has a height, and is a named sink or has a gap among the eight places
+    /// around it. It looks through the list of sinks.
     pub fn is_edge(&self, place: Place) -> bool
         requires { IsInside self.now.terrain place }
-        ensures { IsTrue result ↔ IsEdge self.now.terrain place }
+        ensures { IsTrue result ↔ IsEnd self.now.terrain place }
     {
-        self.at(place).is_some() && self.has_gap_around(place)
+        self.at(place).is_some() && (self.has_gap_around(place) || is_one_of(self.sinks(), place))
     }
 
     fn has_gap_around(&self, place: Place) -> bool
@@ -193,21 +211,53 @@ impl Grid {
         false
     }
 
-    /// The same grid with these cells. Each height among them stands in the grid.
+    /// The same grid with these cells, and the same sinks. Each height among them stands in the grid.
     pub fn with_cells(&self, alloc: Global, cells: &[Option<Height>]) -> Result<Grid, NoMemory>
         requires size { length cells.now ≡ self.now.terrain.cols * self.now.terrain.rows }
         requires heights { All (λ c. IfSome c (λ h. Contains self.now.terrain.cells (Some h))) cells.now }
         ensures { IfOk result (λ g. g ≡ record self.now { terrain = record self.now.terrain { cells = cells.now } }) }
     {
-        Ok(self.with_own_cells(Vec::from_slice(alloc, cells)?))
+        self.with_own_cells(alloc, Vec::from_slice(alloc, cells)?)
     }
 
-    /// The same as [`Grid::with_cells`], of a list that is handed over. It takes no memory.
-    pub fn with_own_cells(&self, cells: Vec<Option<Height>>) -> Grid
+    /// The same as [`Grid::with_cells`], of a list that is handed over. It takes memory for the sinks alone.
+    pub fn with_own_cells(
+        &self,
+        alloc: Global,
+        cells: Vec<Option<Height>>,
+    ) -> Result<Grid, NoMemory>
         requires size { length cells.items ≡ self.now.terrain.cols * self.now.terrain.rows }
         requires heights { All (λ c. IfSome c (λ h. Contains self.now.terrain.cells (Some h))) cells.items }
-        ensures { result ≡ record self.now { terrain = record self.now.terrain { cells = cells.items } } }
+        ensures { IfOk result (λ g. g ≡ record self.now { terrain = record self.now.terrain { cells = cells.items } }) }
     {
-        Grid::from_parts(self.header.copy(), self.scale, cells)
+        Ok(self.with_parts(cells, Vec::from_slice(alloc, self.sinks())?))
+    }
+
+    fn with_parts(&self, cells: Vec<Option<Height>>, sinks: Vec<Place>) -> Grid
+        requires { IsLawful (raster_with_parts self.now cells.items sinks.items) }
+        ensures { result ≡ raster_with_parts self.now cells.items sinks.items }
+    {
+        Grid {
+            header: self.header.copy(),
+            scale: self.scale,
+            cells,
+            sinks,
+        }
+    }
+
+    /// The same grid with these cells as its sinks, each once, in place of those that it had.
+    ///
+    /// Refusals in their order: more than [`MOST_SINKS`](crate::MOST_SINKS) entries; the first sink that lies
+    /// outside or has no data; want of memory.
+    pub fn with_sinks(&self, alloc: Global, sinks: &[Place]) -> Result<Grid, SinkFault>
+        ensures grid { IfOk result (λ g. g ≡ raster_with_sinks self.now sinks.now) }
+        ensures fault { RefusesSinks (sinks_fault self.now.terrain sinks.now) result }
+    {
+        if let Some(fault) = first_fault(self, sinks) {
+            return Err(fault);
+        }
+        let sinks = each_once(alloc, sinks)?;
+        let cells = Vec::from_slice(alloc, self.cells())?;
+        Ok(self.with_parts(cells, sinks))
     }
 }

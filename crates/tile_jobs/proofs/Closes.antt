@@ -1,5 +1,5 @@
 -- Closing a board, deque by deque.
-use Rattle.std.proofs.Common.{◌≡◌, ◌≢◌, ℕ, zero, suc, ◌+◌, ◌-◌, ◌%◌, ◌<◌, ◌≤◌, true, false, cond, ◌==◌, nat_lt, add-one, add-zero, add-suc, List, [], ◌∷◌, ◌++◌, length, get_or, drop, sym, refl, ap, ◌∙◌, arith, inl, inr, below_more}
+use Rattle.std.proofs.Common.{◌≡◌, ◌≢◌, ℕ, zero, suc, ◌+◌, ◌-◌, ◌%◌, ◌<◌, ◌≤◌, true, false, cond, ◌==◌, nat_lt, add-one, add-zero, List, [], ◌∷◌, ◌++◌, length, get_or, drop, sym, refl, ap, ◌∙◌, arith, inl, inr, below_more}
 use Rattle.std.proofs.lemmas.Bool.Decides.{nat_tests}
 use Rattle.std.proofs.lemmas.Bool.{cases_eq, eq-eqb, ne_eqb}
 use Rattle.std.proofs.lemmas.List.{append-nil, length-drop, get_or-drop, get_or_default, drop-drop}
@@ -9,7 +9,7 @@ use Rattle.tile_jobs.specs.Board.{deal, times, sum_to}
 use Rattle.std.specs.List.{concat}
 use Rattle.tile_jobs.specs.Ends.{EndState, SeatState, IsSeat, IsDeal, HasAllMarks, of, skip}
 use Rattle.tile_jobs.specs.Closed.{ArePartsOf, in_seats, IsClosed}
-use Rattle.tile_jobs.proofs.Entries.{times_append, deal_is}
+use Rattle.tile_jobs.proofs.Entries.{times_append, times_deal, deal_is}
 use Rattle.tile_jobs.proofs.Seats.{get_snoc}
 
 -- what has the remainder v is in the part of v
@@ -33,14 +33,6 @@ deal_other jobs seats v y far = none_or (times y (deal jobs seats v)) (y % seats
 
 pub deal_past : (jobs seats v y : ℕ) → jobs ≤ y → times y (deal jobs seats v) ≡ 0
 deal_past jobs seats v y high = none_or (times y (deal jobs seats v)) (y < jobs) (λ n. (deal_is jobs seats v y n).0) (λ l. absurd (omega arith))
-
-times_deal : (j seats v y : ℕ) → times y (deal (suc j) seats v) ≡ times y (deal j seats v) + cond (j % seats == v) (cond (j == y) 1 0) 0
-times_deal j seats v y =
-    let split = times_append y (deal j seats v) (j ∷ []) in
-    elim (j % seats == v) as (λ b. times y (cond b (deal j seats v ++ j ∷ []) (deal j seats v)) ≡ times y (deal j seats v) + cond b (cond (j == y) 1 0) 0) [
-      | true ↦ omega arith
-      | false ↦ omega arith
-    ]
 
 pub deal_one : (jobs seats y : ℕ) → y < jobs → times y (deal jobs seats (y % seats)) ≡ 1
 deal_one zero seats y low = absurd (omega arith)
@@ -67,12 +59,10 @@ get_of_drop xs k d = get_or-drop k xs 0 d ∙ ap (λ n. get_or xs n d) (add-zero
 pub some_drop : {A : Type 0} (xs : List A) (k : ℕ) → k < length xs → 0 < length (drop k xs)
 some_drop xs k low = omega (arith, length-drop k xs)
 
-sum_grows : (n m : ℕ) (f : ℕ → ℕ) → sum_to n f ≤ sum_to (n + m) f
-sum_grows n zero f = rw add-zero (omega arith)
-sum_grows n (suc m) f = let h = sum_grows n m f in rw add-suc (omega arith)
-
 pub sum_mono : (n m : ℕ) (f : ℕ → ℕ) → n ≤ m → sum_to n f ≤ sum_to m f
-sum_mono n m f l = let h = sum_grows n (m - n) f in let e : n + (m - n) ≡ m = omega arith in rw e at h
+sum_mono zero m f l = omega arith
+sum_mono (suc n) zero f l = absurd (omega arith)
+sum_mono (suc n) (suc m) f l = elim (cases_eq n m) [ inl e ↦ rw e (omega arith) | inr far ↦ let h = sum_mono (suc n) m f (omega arith) in omega arith ]
 
 -- seat s's next end is that of deque v
 pub place_is : (s v : ℕ) → s ≢ v → skip s (v - cond (nat_lt s v) 1 0) ≡ v
@@ -129,9 +119,6 @@ left_more jobs seats ss v left p low h k part empty again once =
           (λ s ls d m y e. let a = h.again s d ls m y e in let b = else_none y (λ q. absurd (omega arith)) in let c = times_append y left p in omega arith)
           (λ d m y e. let a = h.later y (omega arith) in let b = ap (times y) (again d m) in let c = times_append y left p in omega arith) s l d m y e;
     }
-
-pub below_next : (P : ℕ → Type 0) (n : ℕ) → ((j : ℕ) → j < n → P j) → P n → (j : ℕ) → j < suc n → P j
-below_next P n below here j low = elim (cases_eq j n) [ inl e ↦ rw e here | inr far ↦ below j (omega arith) ]
 
 -- the place of deque v's end among the others of seat s
 abbrev pub head : ℕ → ℕ → ℕ

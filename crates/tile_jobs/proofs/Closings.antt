@@ -1,38 +1,34 @@
 -- Closing a deque.
-use Rattle.std.proofs.Common.{◌≡◌, ◌≢◌, ℕ, zero, suc, ◌+◌, ◌<◌, ◌≤◌, Bool, true, false, true≢false, cond, ◌==◌, nat_lt, add-one, List, [], ◌∷◌, ◌++◌, length, take, drop, replicate, sym, refl, ap, ◌∙◌, arith}
+use Rattle.std.proofs.Common.{◌≡◌, ◌≢◌, ℕ, zero, suc, ◌+◌, ◌<◌, ◌≤◌, Bool, true, false, true≢false, cond, ◌==◌, nat_lt, add-one, List, [], ◌∷◌, ◌++◌, length, drop, replicate, sym, refl, ap, ◌∙◌, arith}
 use Rattle.std.proofs.lemmas.Bool.{ne_eqb}
 use Rattle.std.proofs.lemmas.List.{append-nil, append_assoc, drop_all}
 use Rattle.std.proofs.lemmas.Bool.Decides.{nat_tests}
 use lib.ListN.{length-append}
+use Rattle.tile_jobs.specs.declared.deque.Entry.{Entry}
 use Rattle.tile_jobs.specs.declared.deque.Entry.TheVariants.{Job, End}
 use Rattle.tile_jobs.specs.Board.{deal, feed, jobs_in, times, sum_to}
 use Rattle.tile_jobs.specs.declared.deque.Log.{Log}
 use Rattle.tile_jobs.specs.Ends.{IsSeated, ClosingState, place_of, deal_of}
-use Rattle.tile_jobs.proofs.Entries.{times_append}
+use Rattle.tile_jobs.proofs.Entries.{times_append, no_job}
 
-job_only : (n t j : ℕ) → Job j ∷ [] ≡ take 1 (drop t (replicate n End)) → ⊥
-job_only zero zero j e = cc
-job_only zero (suc t) j e = cc
-job_only (suc n) zero j e = cc
-job_only (suc n) (suc t) j e = job_only n t j e
+job_at : (d : List ℕ) (n t j : ℕ) (rest : List Entry) → Job j ∷ rest ≡ drop t (jobs_in d ++ replicate n End) → j ∷ drop (suc t) d ≡ drop t d
+job_at [] n t j rest e = absurd (no_job n t j rest e)
+job_at (i ∷ d) n zero j rest e = let q : j ≡ i = cc in ap (λ k. k ∷ d) q
+job_at (i ∷ d) n (suc t) j rest e = job_at d n t j rest e
 
-job_at : (d : List ℕ) (n t j : ℕ) → Job j ∷ [] ≡ take 1 (drop t (jobs_in d ++ replicate n End)) → j ∷ drop (suc t) d ≡ drop t d
-job_at [] n t j e = absurd (job_only n t j e)
-job_at (i ∷ d) n zero j e = let q : j ≡ i = cc in ap (λ k. k ∷ d) q
-job_at (i ∷ d) n (suc t) j e = job_at d n t j e
+end_at : (d : List ℕ) (n t : ℕ) (rest : List Entry) → End ∷ rest ≡ drop t (jobs_in d ++ replicate n End) → length d ≤ t
+end_at [] n t rest e = omega arith
+end_at (i ∷ d) n zero rest e = cc
+end_at (i ∷ d) n (suc t) rest e = let h = end_at d n t rest e in omega arith
 
-end_at : (d : List ℕ) (n t : ℕ) → End ∷ [] ≡ take 1 (drop t (jobs_in d ++ replicate n End)) → length d ≤ t
-end_at [] n t e = omega arith
-end_at (i ∷ d) n zero e = cc
-end_at (i ∷ d) n (suc t) e = let h = end_at d n t e in omega arith
-
-pub feed_job_at : (jobs seats v t j : ℕ) → Job j ∷ [] ≡ take 1 (drop t (feed jobs seats v)) → j ∷ drop (suc t) (deal jobs seats v) ≡ drop t (deal jobs seats v)
+pub feed_job_at : (jobs seats v t j : ℕ) (rest : List Entry) → Job j ∷ rest ≡ drop t (feed jobs seats v)
+    → j ∷ drop (suc t) (deal jobs seats v) ≡ drop t (deal jobs seats v)
 unfolding feed
-feed_job_at jobs seats v t j e = job_at (deal jobs seats v) seats t j e
+feed_job_at jobs seats v t j rest e = job_at (deal jobs seats v) seats t j rest e
 
-pub feed_end_at : (jobs seats v t : ℕ) → End ∷ [] ≡ take 1 (drop t (feed jobs seats v)) → length (deal jobs seats v) ≤ t
+pub feed_end_at : (jobs seats v t : ℕ) (rest : List Entry) → End ∷ rest ≡ drop t (feed jobs seats v) → length (deal jobs seats v) ≤ t
 unfolding feed
-feed_end_at jobs seats v t e = end_at (deal jobs seats v) seats t e
+feed_end_at jobs seats v t rest e = end_at (deal jobs seats v) seats t rest e
 
 pub one_share : (marked : Bool) (u : Log) → IsSeated marked u → u.leaves + u.marks ≡ 1
 one_share true u is = let a = is.1 in let b = is.2 in omega arith

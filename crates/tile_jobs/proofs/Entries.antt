@@ -1,12 +1,11 @@
 -- The feed, its parts, and counts of lists.
-use Rattle.std.proofs.Common.{◌≡◌, ℕ, zero, suc, ◌+◌, ◌%◌, ◌<◌, ◌≤◌, Bool, true, false, cond, ◌==◌, List, [], ◌∷◌, ◌++◌, length, take, drop, get_or, add-one, add-zero, replicate, sym, refl, ap, ◌∙◌, subst, arith, eq-eqb}
+use Rattle.std.proofs.Common.{◌≡◌, ℕ, zero, suc, ◌+◌, ◌%◌, ◌<◌, ◌≤◌, true, false, cond, ◌==◌, List, [], ◌∷◌, ◌++◌, length, take, drop, get_or, add-one, add-zero, replicate, sym, refl, ap, ◌∙◌, subst, arith, eq-eqb, inl, inr}
 use Rattle.std.proofs.lemmas.Bool.Decides.{nat_tests}
-use Rattle.std.proofs.lemmas.Bool.{eqb-true}
+use Rattle.std.proofs.lemmas.Bool.{cases_eq, ne_eqb}
 use Rattle.std.proofs.lemmas.List.{append-nil, length-drop, get_or-drop, take_more, drop-drop, take-append-drop}
 use Rattle.tile_jobs.specs.declared.deque.Entry.{Entry}
 use Rattle.tile_jobs.specs.declared.deque.Entry.TheVariants.{Job, End}
 use Rattle.tile_jobs.specs.Board.{deal, feed, jobs_in, jobs_of, ends_of, times}
-use Rattle.tile_jobs.specs.Rule.{IsRising, AllAbove}
 
 module _ {A : Type 0} where
   -- the first of the rest stands at the cut
@@ -81,81 +80,29 @@ mark_late [] (suc n) (suc t) h = no_jobs n t
 mark_late (i ∷ d) n zero h = absurd (omega arith)
 mark_late (i ∷ d) n (suc t) h = ap (λ l. i ∷ l) (mark_late d n t h)
 
--- rising lists
--- each number of the list is below x
-abbrev pub AllBelow : ℕ → List ℕ → Type 0
-AllBelow x [] = Unit {0}
-AllBelow x (y ∷ ys) = (y < x) × AllBelow x ys
-
-below_more : (j k : ℕ) (xs : List ℕ) → j < k → AllBelow j xs → AllBelow k xs
-below_more j k [] l h = tt
-below_more j k (x ∷ xs) l h = (omega arith, below_more j k xs l h.1)
-
-below_snoc : (k j : ℕ) (xs : List ℕ) → AllBelow k xs → j < k → AllBelow k (xs ++ j ∷ [])
-below_snoc k j [] h l = (l, tt)
-below_snoc k j (x ∷ xs) h l = (h.0, below_snoc k j xs h.1 l)
-
-above_snoc : (x j : ℕ) (xs : List ℕ) → AllAbove x xs → x < j → AllAbove x (xs ++ j ∷ [])
-above_snoc x j [] h l = (l, tt)
-above_snoc x j (y ∷ ys) h l = (h.0, above_snoc x j ys h.1 l)
-
-pub rising_snoc : (j : ℕ) (xs : List ℕ) → IsRising xs → AllBelow j xs → IsRising (xs ++ j ∷ [])
-rising_snoc j [] h b = (tt, tt)
-rising_snoc j (x ∷ xs) h b = (above_snoc x j xs h.0 b.0, rising_snoc j xs h.1 b.1)
-
-above_mid : (x j : ℕ) (xs rest : List ℕ) → AllAbove x (xs ++ j ∷ rest) → x < j
-above_mid x j [] rest h = h.0
-above_mid x j (y ∷ ys) rest h = above_mid x j ys rest h.1
-
-pub rising_mid : (j : ℕ) (xs rest : List ℕ) → IsRising (xs ++ j ∷ rest) → AllBelow j xs
-rising_mid j [] rest h = tt
-rising_mid j (x ∷ xs) rest h = (above_mid x j xs rest h.0, rising_mid j xs rest h.1)
-
-deal_below : (jobs seats v : ℕ) → AllBelow jobs (deal jobs seats v)
-deal_below zero seats v = tt
-deal_below (suc j) seats v =
-    let old = below_more j (suc j) (deal j seats v) (omega arith) (deal_below j seats v) in
-    elim (j % seats == v) as (λ b. AllBelow (suc j) (cond b (deal j seats v ++ j ∷ []) (deal j seats v))) [ true ↦ below_snoc (suc j) j (deal j seats v) old (omega arith) | false ↦ old ]
-
-pub deal_rising : (jobs seats v : ℕ) → IsRising (deal jobs seats v)
-deal_rising zero seats v = tt
-deal_rising (suc j) seats v =
-    elim (j % seats == v) as (λ b. IsRising (cond b (deal j seats v ++ j ∷ []) (deal j seats v))) [ true ↦ rising_snoc j (deal j seats v) (deal_rising j seats v) (deal_below j seats v) | false ↦ deal_rising j seats v ]
-
 times_self : (x : ℕ) → ◌≡◌ {A = ℕ} (cond (x == x) 1 0) 1
 times_self x = ap (λ b. cond b 1 0) (eq-eqb x x refl)
 
-below_of_at : (b : Bool) (j x : ℕ) (xs : List ℕ) (y : ℕ) → (x == y) ≡ b → AllBelow j (x ∷ xs) → (0 < times y xs → y < j) → 0 < times y (x ∷ xs) → y < j
-below_of_at true j x xs y is h rest n = let e : x ≡ y = grind (arith, nat_tests) in let l = h.0 in omega arith
-below_of_at false j x xs y is h rest n = let m : 0 < cond false 1 0 + times y xs = rw is at n in rest (omega arith)
-
--- what stands in a list
-pub below_of : (j : ℕ) (ys : List ℕ) → AllBelow j ys → (y : ℕ) → 0 < times y ys → y < j
-below_of j [] h y n = absurd (omega arith)
-below_of j (x ∷ xs) h y n = below_of_at (x == y) j x xs y refl h (below_of j xs h.1 y) n
-
-pub all_below : (j : ℕ) (xs : List ℕ) → ((y : ℕ) → 0 < times y xs → y < j) → AllBelow j xs
-all_below j [] h = tt
-all_below j (x ∷ xs) h =
-    let one = times_self x in
-    (h x (omega arith), all_below j xs (λ y n. h y (omega arith)))
-
-member_here : (b : Bool) (j seats v y : ℕ) → (j == y) ≡ b → j % seats ≡ v → (0 < times y (deal j seats v) → (y < j) × (y % seats ≡ v)) → 0 < times y (deal j seats v) + times y (j ∷ [])
-    → (y < suc j) × (y % seats ≡ v)
-member_here true j seats v y is r old n = let e : j ≡ y = grind (arith, nat_tests) in (omega arith, ap (λ k. k % seats) (sym e) ∙ r)
-member_here false j seats v y is r old n = let m : 0 < times y (deal j seats v) + (cond false 1 0 + 0) = rw is at n in let h = old (omega arith) in (omega arith, h.1)
-
-member_at : (b : Bool) (j seats v y : ℕ) → (j % seats == v) ≡ b → (0 < times y (deal j seats v) → (y < j) × (y % seats ≡ v)) → 0 < times y (cond b (deal j seats v ++ j ∷ []) (deal j seats v))
-    → (y < suc j) × (y % seats ≡ v)
-member_at false j seats v y is old n = let h = old n in (omega arith, h.1)
-member_at true j seats v y is old n =
+pub times_deal : (j seats v y : ℕ) → times y (deal (suc j) seats v) ≡ times y (deal j seats v) + cond (j % seats == v) (cond (j == y) 1 0) 0
+times_deal j seats v y =
     let split = times_append y (deal j seats v) (j ∷ []) in
-    member_here (j == y) j seats v y refl (eqb-true (j % seats) v is) old (omega arith)
+    elim (j % seats == v) as (λ b. times y (cond b (deal j seats v ++ j ∷ []) (deal j seats v)) ≡ times y (deal j seats v) + cond b (cond (j == y) 1 0) 0) [
+      | true ↦ omega arith
+      | false ↦ omega arith
+    ]
 
 -- the deal of v is of numbers below `jobs` with the remainder v
 pub deal_is : (jobs seats v y : ℕ) → 0 < times y (deal jobs seats v) → (y < jobs) × (y % seats ≡ v)
 deal_is zero seats v y n = absurd (omega arith)
-deal_is (suc j) seats v y n = member_at (j % seats == v) j seats v y refl (deal_is j seats v y) n
+deal_is (suc j) seats v y n =
+    let split = times_deal j seats v y in
+    elim (cases_eq j y) [
+      | inl e ↦ elim (cases_eq (j % seats) v) [
+        | inl r ↦ (omega arith, ap (λ k. k % seats) (sym e) ∙ r)
+        | inr far ↦ let t = ne_eqb (j % seats) v far in let h = deal_is j seats v y (let m = rw (split, t) at n in omega arith) in (omega (arith, h.0), h.1)
+      ]
+      | inr far ↦ let t = ne_eqb j y far in let h = deal_is j seats v y (grind (arith, nat_tests)) in (omega (arith, h.0), h.1)
+    ]
 
 pub feed_jobs : (jobs seats v : ℕ) → jobs_of (feed jobs seats v) ≡ deal jobs seats v
 unfolding feed
@@ -173,14 +120,7 @@ pub feed_late : (jobs seats v t : ℕ) → 0 < ends_of (take t (feed jobs seats 
 unfolding feed
 feed_late jobs seats v t h = mark_late (deal jobs seats v) seats t h
 
--- the jobs before an entry are below it
-pub feed_below : (jobs seats v t j : ℕ) (rest : List Entry) → Job j ∷ rest ≡ drop t (feed jobs seats v) → AllBelow j (jobs_of (take t (feed jobs seats v)))
-feed_below jobs seats v t j rest e =
-    let all = feed jobs seats v in
-    let parts : jobs_of (take t all) ++ (j ∷ jobs_of rest) ≡ deal jobs seats v = sym (jobs_append (take t all) (Job j ∷ rest)) ∙ ap (λ l. jobs_of (take t all ++ l)) e ∙ ap jobs_of (take-append-drop t all) ∙ feed_jobs jobs seats v in
-    rising_mid j (jobs_of (take t all)) (jobs_of rest) (subst IsRising (sym parts) (deal_rising jobs seats v))
-
--- and it is one of the deal
+-- a job among the entries is one of the deal
 pub feed_is : (jobs seats v t j : ℕ) (rest : List Entry) → Job j ∷ rest ≡ drop t (feed jobs seats v) → (j < jobs) × (j % seats ≡ v)
 feed_is jobs seats v t j rest e =
     let all = feed jobs seats v in

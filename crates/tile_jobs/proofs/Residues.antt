@@ -22,10 +22,6 @@ of_here v seats xs j e = let t : (j % seats == v) ≡ true = eq-eqb (j % seats) 
 pub of_else : (v seats : ℕ) (xs : List ℕ) (j : ℕ) → j % seats ≢ v → of v seats (xs ++ j ∷ []) ≡ of v seats xs
 of_else v seats xs j e = let t : (j % seats == v) ≡ false = grind (arith, nat_tests, e) in of_append v seats xs (j ∷ []) ∙ rw t (append-nil (of v seats xs))
 
-pub sum_plus : (n : ℕ) (f g : ℕ → ℕ) → sum_to n (λ v. f v + g v) ≡ sum_to n f + sum_to n g
-sum_plus zero f g = refl
-sum_plus (suc n) f g = let h = sum_plus n f g in omega arith
-
 pub sum_ext : (n : ℕ) (f g : ℕ → ℕ) → ((v : ℕ) → v < n → f v ≡ g v) → sum_to n f ≡ sum_to n g
 sum_ext zero f g h = refl
 sum_ext (suc n) f g h = let k = sum_ext n f g (λ v l. h v (omega arith)) in let here = h n (omega arith) in omega arith
@@ -44,21 +40,14 @@ sum_lt (suc n) f g w low h less =
       | inr far ↦ let m = sum_lt n f g w (omega arith) (λ v l. h v (omega arith)) less in omega arith
     ]
 
--- one of the remainders is that of r
-sum_none : (n r : ℕ) → n ≤ r → ◌≡◌ {A = ℕ} (sum_to n (λ v. cond (r == v) 1 0)) 0
-sum_none zero r l = refl
-sum_none (suc n) r l = let h = sum_none n r (omega arith) in let t : (r == n) ≡ false = grind (arith, nat_tests) in rw t (omega arith)
-
-pub sum_one : (n r : ℕ) → r < n → ◌≡◌ {A = ℕ} (sum_to n (λ v. cond (r == v) 1 0)) 1
-sum_one zero r l = absurd (omega arith)
-sum_one (suc n) r l =
-    elim (cases_eq r n) [
-      | inl e ↦ let none = sum_none n r (omega arith) in rw (eq-eqb r n e) (omega arith)
-      | inr far ↦ let one = sum_one n r (omega arith) in rw (ne_eqb r n far) (omega arith)
+-- two sums whose parts differ at w alone
+pub sum_at : (n w : ℕ) (f g : ℕ → ℕ) → w < n → ((v : ℕ) → v < n → v ≢ w → f v ≡ g v) → sum_to n f + g w ≡ sum_to n g + f w
+sum_at zero w f g low same = absurd (omega arith)
+sum_at (suc n) w f g low same =
+    elim (cases_eq n w) [
+      | inl e ↦ let rest = sum_ext n f g (λ v l. same v (omega arith) (omega arith)) in rw (← e) (omega arith)
+      | inr far ↦ let rest = sum_at n w f g (omega arith) (λ v l. same v (omega arith)) in let here = same n (omega arith) far in omega arith
     ]
-
-of_length : (v seats x : ℕ) (xs : List ℕ) → length (of v seats (x ∷ xs)) ≡ cond (x % seats == v) 1 0 + length (of v seats xs)
-of_length v seats x xs = elim (x % seats == v) as (λ b. length (cond b (x ∷ of v seats xs) (of v seats xs)) ≡ cond b 1 0 + length (of v seats xs)) [ true ↦ omega arith | false ↦ omega arith ]
 
 sum_zero : (n : ℕ) → ◌≡◌ {A = ℕ} (sum_to n (λ v. 0)) 0
 sum_zero zero = refl
@@ -68,11 +57,11 @@ sum_zero (suc n) = let h = sum_zero n in omega arith
 pub parts_length : (seats : ℕ) (xs : List ℕ) → 0 < seats → sum_to seats (λ v. length (of v seats xs)) ≡ length xs
 parts_length seats [] some_seat = sum_zero seats
 parts_length seats (x ∷ xs) some_seat =
-    let r : x % seats < seats = omega arith in
+    let r = x % seats in
     let h = parts_length seats xs some_seat in
-    let one = sum_one seats (x % seats) r in
-    let split = sum_plus seats (λ v. cond (x % seats == v) 1 0) (λ v. length (of v seats xs)) in
-    sum_ext seats (λ v. length (of v seats (x ∷ xs))) (λ v. cond (x % seats == v) 1 0 + length (of v seats xs)) (λ v l. of_length v seats x xs) ∙ omega arith
+    let at = sum_at seats r (λ v. length (of v seats xs)) (λ v. length (of v seats (x ∷ xs))) (omega arith) (λ v l far. rw (ne_eqb r v (λ e. far (sym e))) refl) in
+    let here : length (of r seats (x ∷ xs)) ≡ suc (length (of r seats xs)) = rw (eq-eqb r r refl) refl in
+    omega arith
 
 pub deal_length : (j seats v : ℕ) → length (deal (suc j) seats v) ≡ cond (j % seats == v) 1 0 + length (deal j seats v)
 deal_length j seats v =
@@ -83,11 +72,11 @@ deal_length j seats v =
 pub deals_length : (seats jobs : ℕ) → 0 < seats → sum_to seats (λ v. length (deal jobs seats v)) ≡ jobs
 deals_length seats zero some_seat = sum_zero seats
 deals_length seats (suc j) some_seat =
-    let r : j % seats < seats = omega arith in
+    let r = j % seats in
     let h = deals_length seats j some_seat in
-    let one = sum_one seats (j % seats) r in
-    let split = sum_plus seats (λ v. cond (j % seats == v) 1 0) (λ v. length (deal j seats v)) in
-    sum_ext seats (λ v. length (deal (suc j) seats v)) (λ v. cond (j % seats == v) 1 0 + length (deal j seats v)) (λ v l. deal_length j seats v) ∙ omega arith
+    let at = sum_at seats r (λ v. length (deal j seats v)) (λ v. length (deal (suc j) seats v)) (omega arith) (λ v l far. rw (ne_eqb r v (λ e. far (sym e))) refl) in
+    let here : length (deal (suc j) seats r) ≡ suc (length (deal j seats r)) = deal_length j seats r ∙ rw (eq-eqb r r refl) (omega arith) in
+    omega arith
 
 -- a seat that takes one more job had room for it
 pub room_left : (seats jobs : ℕ) (xs : List ℕ) (w : ℕ) → w < seats → ((v : ℕ) → v < seats → length (of v seats xs) ≤ length (deal jobs seats v)) → length (of w seats xs) < length (deal jobs seats w) → length xs < jobs
@@ -147,13 +136,5 @@ pub once_more : (n x : ℕ) → 0 < n → once n x ≡ x
 once_more zero x h = absurd (omega arith)
 once_more (suc n) x h = refl
 
-sum_past : (n v : ℕ) (f : ℕ → ℕ) → n ≤ v → sum_to n (λ i. cond (i == v) 0 (f i)) ≡ sum_to n f
-sum_past n v f high = sum_ext n (λ i. cond (i == v) 0 (f i)) f (λ i low. let t : (i == v) ≡ false = grind (arith, nat_tests) in rw t refl)
-
 pub sum_skip : (n v : ℕ) (f : ℕ → ℕ) → v < n → sum_to n (λ i. cond (i == v) 0 (f i)) + f v ≡ sum_to n f
-sum_skip zero v f low = absurd (omega arith)
-sum_skip (suc n) v f low =
-    elim (cases_eq n v) [
-      | inl e ↦ let past = sum_past n v f (omega arith) in let same : f n ≡ f v = ap f e in rw (eq-eqb n v e) (omega arith)
-      | inr far ↦ let rest = sum_skip n v f (omega arith) in rw (ne_eqb n v far) (omega arith)
-    ]
+sum_skip n v f low = sum_at n v (λ i. cond (i == v) 0 (f i)) f low (λ i l far. rw (ne_eqb i v far) refl) ∙ rw (eq-eqb v v refl) (omega arith)

@@ -1,5 +1,6 @@
 -- What is dealt in whole rounds over the seats.
-use Rattle.std.proofs.Common.{◌≡◌, ℕ, zero, suc, ◌+◌, ◌*◌, ◌/◌, ◌%◌, ◌<◌, ◌≤◌, Bool, true, false, cond, nat_lt, ◌==◌, length, mul-le-mul_right, sym, refl, ap, ◌∙◌, arith}
+use Rattle.std.proofs.Common.{◌≡◌, ℕ, zero, suc, ◌+◌, ◌*◌, ◌/◌, ◌%◌, ◌<◌, ◌≤◌, true, false, cond, nat_lt, length, sym, refl, ap, ◌∙◌, arith, inl, inr}
+use Rattle.std.proofs.lemmas.Bool.{cases_eq, cases_lt}
 use Rattle.std.proofs.lemmas.Bool.Decides.{nat_tests}
 use Rattle.std.proofs.lemmas.Nat.{mod-mul-add}
 use Rattle.std.proofs.Math.Nat.{mod-add-div'}
@@ -36,23 +37,20 @@ deal_before_round seats v round low =
     let t : nat_lt v v ≡ false = grind (arith, nat_tests) in
     rw e (part_of_round round v seats v (omega arith) (whole_rounds round seats v low) ∙ rw t (omega arith))
 
-below_at : (b : Bool) (jobs seats v round : ℕ) → nat_lt v (jobs % seats) ≡ b → v < seats → round < jobs / seats + cond b 1 0 → v + round * seats < jobs
-below_at true jobs seats v round is low few =
-    let s = mod-add-div' jobs seats in
-    let m : round * seats ≤ (jobs / seats) * seats = mul-le-mul_right seats (omega arith) in
-    let reached : v < jobs % seats = grind (arith, nat_tests) in
-    omega (arith, s, m, reached)
-below_at false jobs seats v round is low few =
-    let s = mod-add-div' jobs seats in
-    let m : suc round * seats ≤ (jobs / seats) * seats = mul-le-mul_right seats (omega arith) in
-    let e : suc round * seats ≡ round * seats + seats = omega arith in
-    omega (arith, s, m, e)
+deal_grows : (n m seats v : ℕ) → n ≤ m → length (deal n seats v) ≤ length (deal m seats v)
+deal_grows zero m seats v l = omega arith
+deal_grows (suc n) zero seats v l = absurd (omega arith)
+deal_grows (suc n) (suc m) seats v l =
+    elim (cases_eq n m) [
+      | inl e ↦ rw e (omega arith)
+      | inr far ↦ let h = deal_grows (suc n) m seats v (omega arith) in let s = deal_length m seats v in omega arith
+    ]
 
 -- the job of a round before the last is below `jobs`
 pub round_below : (jobs seats v count round : ℕ) → v < seats → count ≡ length (deal jobs seats v) → round < count → v + round * seats < jobs
 round_below jobs seats v count round low is few =
-    let n = is ∙ deal_count jobs seats v low in
-    below_at (nat_lt v (jobs % seats)) jobs seats v round refl low (rw n at few)
+    let at = deal_before_round seats v round low in
+    elim (cases_lt (v + round * seats) jobs) [ inl l ↦ l | inr high ↦ let h = deal_grows jobs (v + round * seats) seats v high in absurd (omega arith) ]
 
 -- the job of a round is of the deque
 pub round_remainder : (seats v round : ℕ) → v < seats → (v + round * seats) % seats ≡ v

@@ -1,5 +1,5 @@
 -- What a take leaves of a seat.
-use Rattle.std.proofs.Common.{◌≡◌, ◌≢◌, ℕ, zero, suc, ◌-◌, ◌%◌, ◌<◌, ◌≤◌, inl, inr, cond, ◌==◌, List, [], ◌∷◌, ◌++◌, length, get_or, set, take, drop, sym, refl, ap, ◌∙◌, arith}
+use Rattle.std.proofs.Common.{◌≡◌, ◌≢◌, ℕ, zero, suc, ◌-◌, ◌%◌, ◌<◌, ◌≤◌, inl, inr, cond, ◌==◌, List, [], ◌∷◌, ◌++◌, length, get_or, set, sym, refl, ap, ◌∙◌, arith}
 use Rattle.std.proofs.lemmas.Bool.Decides.{nat_tests}
 use Rattle.std.proofs.lemmas.Bool.{cases_eq, cases_lt, eq-eqb, ne_eqb, lt-ltb, le-ltb}
 use Rattle.std.proofs.lemmas.List.{get_or-set_same, get_or-set_other}
@@ -202,10 +202,6 @@ without_cond xs n v x e =
       | inl q ↦ rw (eq-eqb n v q) (sym (without_last xs n x (q ∙ e)))
       | inr far ↦ rw (ne_eqb n v far) (sym (without_more xs n x (λ q. far (q ∙ sym e))))
     ]
-
-pub get_tail : {A : Type 0} (xs : List A) (i : ℕ) (d : A) → get_or (take 0 xs ++ drop (suc 0) xs) i d ≡ get_or xs (suc i) d
-get_tail [] i d = refl
-get_tail (y ∷ ys) i d = refl
 
 -- seats that stay the same stay a deal
 pub deal_same : (jobs seats : ℕ) (ss ts : List SeatState) → IsDeal jobs seats ss → length ts ≡ seats → ((s : ℕ) (d : SeatState) → s < seats → SameSeat (get_or ss s d) (get_or ts s d)) → IsDeal jobs seats ts

@@ -11,9 +11,9 @@ use Rattle.tile_jobs.specs.declared.deque.Entry.{Entry}
 use Rattle.tile_jobs.specs.declared.deque.Entry.TheVariants.{Job, End}
 use Rattle.tile_jobs.specs.declared.deque.Log.{Log}
 use Rattle.tile_jobs.specs.Board.{deal, feed, jobs_of, ends_of, times}
-use Rattle.tile_jobs.specs.Rule.{total, all_taken, taken, share, AllRising, blank, spent, once, dealing, IsOf, Lawful, CanTake, Took, lent, lending, taken_back, TookNext}
+use Rattle.tile_jobs.specs.Rule.{total, all_taken, taken, share, blank, spent, once, dealing, IsOf, Lawful, CanTake, Took, lent, lending, taken_back, TookNext}
 use Rattle.tile_jobs.proofs.Totals.{total_set, total_at, total_snoc, total_plus, total_alone}
-use Rattle.tile_jobs.proofs.Entries.{AllBelow, cut_take, cut_drop, cut_below, cut_past, times_append, jobs_append, ends_append, rising_snoc, below_of, all_below, feed_ends, feed_early, feed_late, feed_below, feed_is}
+use Rattle.tile_jobs.proofs.Entries.{cut_take, cut_drop, cut_below, cut_past, times_append, jobs_append, ends_append, feed_ends, feed_early, feed_late, feed_is}
 
 -- what a pass that may take knows of the deque
 pub names : (items : List Entry) (views : List Log) (h : Lawful items views) (port : ℕ) (u : Log) → get_elem? views port ≡ some u → CanTake u → (u.jobs ≡ h.jobs) × (u.seats ≡ h.seats) × (u.deque ≡ h.v)
@@ -44,7 +44,6 @@ after x items views h port u w at can more same jobs ends is =
       v = h.v;
       pushed = h.pushed;
       owner = h.owner;
-      room = h.room;
       within = omega arith;
       held = rw (t', whole, take_all (length all) all (omega arith)) (cut_drop all t x items held);
       each = λ y. rw (t', next, jobs_append, times_append)
@@ -71,8 +70,6 @@ takes_job j items views h port u at can =
     let mine_of_all = total_at taken views port u at in
     let marks_of_all = total_at (λ (v : Log). v.marks) views port u at in
     let no_marks : u.marks ≡ 0 = (let a = h.marks in let b = early.1 in omega arith) in
-    let below : AllBelow j u.took = all_below j u.took (λ y k. below_of j (jobs_of (take t all)) (feed_below h.jobs h.seats h.v t j items held) y
-    (let a = total_at (λ (v : Log). times y (all_taken v)) views port u at in let b = h.each y in let c = times_append y u.took (concat u.gathered) in omega arith)) in
     let l1 = length-append u.took (j ∷ []) in
     let l2 = length-append (u.took ++ j ∷ []) (concat u.gathered) in
     let l3 = length-append u.took (concat u.gathered) in
@@ -80,7 +77,7 @@ takes_job j items views h port u at can =
       after (Job j) items views h port u w at can (omega arith) refl
           (λ y. (let a = times_append y (u.took ++ j ∷ []) (concat u.gathered) in let b = times_append y u.took (j ∷ []) in let c = times_append y u.took (concat u.gathered) in omega arith))
           (omega arith)
-          (record { named = mine.named; owns = mine.owns; ready = mine.ready; idle = λ z. absurd (omega arith); rising = (rising_snoc j u.took mine.rising.0 below, mine.rising.1) }),
+          (record { named = mine.named; owns = mine.owns; ready = mine.ready; idle = λ z. absurd (omega arith) }),
       (refl, rw n.0 j_is.0, rw (n.1, n.2) j_is.1, rw (n.0, n.1, n.2) (omega arith), no_marks),
       held,
     )
@@ -96,7 +93,7 @@ takes_mark items views h port u at can =
     let w : Log = record u { marks = suc u.marks; leaves = u.leaves - 1 } in
     let some_leave : 0 < u.leaves = can.0 in (
       after End items views h port u w at can (omega arith) (omega arith) (λ y. omega arith) (omega arith)
-          (record { named = λ _. mine.named (inr (omega arith)); owns = mine.owns; ready = λ r. ((mine.ready r).0, omega arith); idle = λ z. absurd (omega arith); rising = mine.rising }),
+          (record { named = λ _. mine.named (inr (omega arith)); owns = mine.owns; ready = λ r. ((mine.ready r).0, omega arith); idle = λ z. absurd (omega arith) }),
       refl,
       held,
     )
@@ -139,8 +136,8 @@ forks port u owns all two items views h at =
     let l : Log = lending u in
     let r : Log = lent u in
     let vs : List Log = set views port l in
-    let left_is : IsOf h.jobs h.seats h.v h.pushed h.owner port l = record { named = λ _. n; owns = mine.owns; ready = λ q. ((mine.ready q).0, omega arith); idle = λ z. absurd (omega arith); rising = mine.rising } in
-    let right_is : (j : ℕ) → IsOf h.jobs h.seats h.v h.pushed h.owner j r = λ j. record { named = λ _. n; owns = λ o. absurd (true≢false (sym o)); ready = λ q. (whole, omega arith); idle = λ z. absurd (omega arith); rising = (tt, tt) } in
+    let left_is : IsOf h.jobs h.seats h.v h.pushed h.owner port l = record { named = λ _. n; owns = mine.owns; ready = λ q. ((mine.ready q).0, omega arith); idle = λ z. absurd (omega arith) } in
+    let right_is : (j : ℕ) → IsOf h.jobs h.seats h.v h.pushed h.owner j r = λ j. record { named = λ _. n; owns = λ o. absurd (true≢false (sym o)); ready = λ q. (whole, omega arith); idle = λ z. absurd (omega arith) } in
     let same : total taken (vs ++ r ∷ []) ≡ total taken views = (let s = total_set taken views port u l at in let k = total_snoc taken vs r in omega arith) in
     record {
       jobs = h.jobs;
@@ -148,7 +145,6 @@ forks port u owns all two items views h at =
       v = h.v;
       pushed = h.pushed;
       owner = h.owner;
-      room = h.room;
       within = rw same h.within;
       held = rw same h.held;
       each = λ y. rw same (let s = total_set (λ (v : Log). times y (all_taken v)) views port u l at in let k = total_snoc (λ (v : Log). times y (all_taken v)) vs r in let old = h.each y in omega arith);
@@ -164,10 +160,6 @@ forks port u owns all two items views h at =
 back_all : (u w : Log) → all_taken (taken_back u w) ≡ all_taken u ++ all_taken w
 back_all u w = ap (λ l. u.took ++ l) (concat-append u.gathered (w.took ∷ w.gathered)) ∙ sym (append_assoc u.took (concat u.gathered) (all_taken w))
 
-rising_append : (xs ys : List (List ℕ)) → AllRising xs → AllRising ys → AllRising (xs ++ ys)
-rising_append [] ys a b = b
-rising_append (x ∷ xs) ys a b = (a.0, rising_append xs ys a.1 b)
-
 -- a pass comes back to the owner's
 pub merges : (port : ℕ) (u : Log) (other : ℕ) (w : Log) → u.owns ≡ true → Merges Lawful port u other w (taken_back u w) spent
 merges port u other w owns items views h at two at' =
@@ -180,8 +172,8 @@ merges port u other w owns items views h at two at' =
     let joins : all_taken both ≡ all_taken u ++ all_taken w = back_all u w in
     let sizes : length (all_taken both) ≡ length (all_taken u) + length (all_taken w) = ap length joins ∙ length-append (all_taken u) (all_taken w) in
     let idle : share both ≡ 0 → all_taken both ≡ [] = λ z. joins ∙ rw (mine.idle (omega arith), theirs.idle (omega arith)) in
-    let both_is : IsOf h.jobs h.seats h.v h.pushed h.owner port both = record { named = λ _. n; owns = mine.owns; ready = λ q. let k = (mine.ready q).1 in ((mine.ready q).0, omega arith); idle = idle; rising = (mine.rising.0, rising_append u.gathered (w.took ∷ w.gathered) mine.rising.1 theirs.rising) } in
-    let spent_is : IsOf h.jobs h.seats h.v h.pushed h.owner other spent = record { named = elim [ inl o ↦ absurd (true≢false (sym o)) | inr z ↦ absurd (omega arith) ]; owns = λ o. absurd (true≢false (sym o)); ready = λ q. absurd (true≢false (sym q)); idle = λ _. refl; rising = (tt, tt) } in
+    let both_is : IsOf h.jobs h.seats h.v h.pushed h.owner port both = record { named = λ _. n; owns = mine.owns; ready = λ q. let k = (mine.ready q).1 in ((mine.ready q).0, omega arith); idle = idle } in
+    let spent_is : IsOf h.jobs h.seats h.v h.pushed h.owner other spent = record { named = elim [ inl o ↦ absurd (true≢false (sym o)) | inr z ↦ absurd (omega arith) ]; owns = λ o. absurd (true≢false (sym o)); ready = λ q. absurd (true≢false (sym q)); idle = λ _. refl } in
     let same : total taken (set vs other spent) ≡ total taken views = (let s = total_set taken views port u both at in let k = total_set taken vs other w spent at' in omega arith) in
     record {
       jobs = h.jobs;
@@ -189,7 +181,6 @@ merges port u other w owns items views h at two at' =
       v = h.v;
       pushed = h.pushed;
       owner = h.owner;
-      room = h.room;
       within = rw same h.within;
       held = rw same h.held;
       each = λ y. rw same (let s = total_set (λ (v : Log). times y (all_taken v)) views port u both at in let k = total_set (λ (v : Log). times y (all_taken v)) vs other w spent at' in let old = h.each y in
@@ -223,7 +214,7 @@ whole_learns port u is items views h at y =
 
 first_is : (port : ℕ) (u : Log) → get_elem? (blank ∷ []) port ≡ some u → IsOf 0 0 0 0 0 port u
 first_is zero u e = let is : blank ≡ u = cc in
-    subst (IsOf 0 0 0 0 0 0) is (record { named = λ _. (refl, refl, refl); owns = λ _. (refl, refl); ready = λ q. absurd (true≢false (sym q)); idle = λ _. refl; rising = (tt, tt) })
+    subst (IsOf 0 0 0 0 0 0) is (record { named = λ _. (refl, refl, refl); owns = λ _. (refl, refl); ready = λ q. absurd (true≢false (sym q)); idle = λ _. refl })
 first_is (suc port) u e = absurd (some-ne-none u (sym e))
 
 pub begins : Lawful [] (blank ∷ [])
@@ -233,7 +224,6 @@ begins = record {
   v = 0;
   pushed = 0;
   owner = 0;
-  room = omega arith;
   within = omega arith;
   held = refl;
   each = λ y. refl;
@@ -254,14 +244,13 @@ pushed_after J S V n e rest items views h port at next none held shares others =
     let w : Log = dealing J S V (suc n) in
     let low = cut_below all n e rest next in
     let t' : total taken (set views port w) ≡ 0 = (let s = total_set taken views port u w at in omega arith) in
-    let w_is : IsOf J S V (suc n) port port w = record { named = λ _. (refl, refl, refl); owns = λ _. (refl, refl); ready = λ q. absurd (true≢false (sym q)); idle = λ _. refl; rising = (tt, tt) } in
+    let w_is : IsOf J S V (suc n) port port w = record { named = λ _. (refl, refl, refl); owns = λ _. (refl, refl); ready = λ q. absurd (true≢false (sym q)); idle = λ _. refl } in
     record {
       jobs = J;
       seats = S;
       v = V;
       pushed = suc n;
       owner = port;
-      room = low;
       within = omega arith;
       held = rw (t', cut_take all n e rest next) (ap (λ l. l ++ e ∷ []) held);
       each = λ y. rw t' (let s = total_set (λ (v : Log). times y (all_taken v)) views port u w at in let old = rw none at (h.each y) in omega arith);
@@ -294,7 +283,6 @@ pushes J S V zero port e rest next items views h at =
       owns = λ q. absurd (far ((theirs.owns q).0 ∙ sym o.0));
       ready = λ q. (let some_share = (theirs.ready q).1 in absurd (omega arith));
       idle = theirs.idle;
-      rising = theirs.rising;
     } in
     (dealing J S V 1, pushed_after J S V 0 e rest items views h port at next none held (omega arith) others, refl)
 pushes J S V (suc m) port e rest next items views h at =
@@ -313,18 +301,17 @@ pushes J S V (suc m) port e rest next items views h at =
       owns = λ q. absurd (far ((theirs.owns q).0 ∙ sym o.0));
       ready = λ q. (let late = (theirs.ready q).0 in absurd (omega arith));
       idle = theirs.idle;
-      rising = theirs.rising;
     } in
     (dealing J S V (suc (suc m)), pushed_after J S V (suc m) e rest items views h port at next none held (omega arith) others, refl)
 
 next_is : (x : Entry) (items : List Entry) (views : List Log) (h : Lawful (x ∷ items) views) (port : ℕ) (u : Log) → get_elem? views port ≡ some u → u.owns ≡ true → share u ≡ u.seats
-    → x ∷ items ≡ drop (total taken views) (feed h.jobs h.seats h.v) → x ∷ [] ≡ take 1 (drop (taken u) (feed u.jobs u.seats u.deque))
+    → x ∷ items ≡ drop (total taken views) (feed h.jobs h.seats h.v) → (rest : List Entry) × (x ∷ rest ≡ drop (taken u) (feed u.jobs u.seats u.deque))
 next_is x items views h port u at owns whole held =
     let n = (h.views_are port u at).named (inl owns) in
     let alone : total share views ≡ share u = h.leaves ∙ sym n.1 ∙ sym whole in
     let weigh : (j : ℕ) (v : Log) → get_elem? views j ≡ some v → share v ≡ 0 → taken v ≡ 0 = λ j v e z. (let k = ap length ((h.views_are j v e).idle z) in omega arith) in
     let only = total_alone taken share views port u weigh at alone in
-    rw (n.0, n.1, n.2, ← only) (ap (take 1) held)
+    (items, rw (n.0, n.1, n.2, ← only) held)
 
 -- where the owner has every pass back, it takes the feed's next entry
 pub takes_next : (port : ℕ) (u : Log) → CanTake u → u.owns ≡ true → share u ≡ u.seats → Takes Lawful port u 1 (TookNext u)

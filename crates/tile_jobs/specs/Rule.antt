@@ -30,20 +30,6 @@ taken v = length (all_taken v) + v.marks
 abbrev pub share : Log → ℕ
 share v = v.leaves + v.marks
 
--- each number of the list is above x
-abbrev pub AllAbove : ℕ → List ℕ → Type 0
-AllAbove x [] = Unit {0}
-AllAbove x (y ∷ ys) = (x < y) × AllAbove x ys
-
--- each number is above those before it
-abbrev pub IsRising : List ℕ → Type 0
-IsRising [] = Unit {0}
-IsRising (x ∷ xs) = AllAbove x xs × IsRising xs
-
-abbrev pub AllRising : List (List ℕ) → Type 0
-AllRising [] = Unit {0}
-AllRising (xs ∷ rest) = IsRising xs × AllRising rest
-
 -- a view before the first push, and the view of a pass that may do nothing
 abbrev pub blank : Log
 blank = record { jobs = 0; seats = 0; deque = 0; owns = true; pushed = 0; ready = false; leaves = 0; marks = 0; took = []; gathered = [] }
@@ -67,7 +53,6 @@ pub record IsOf (jobs seats v pushed owner : ℕ) (port : ℕ) (u : Log) : Type 
   pub owns : u.owns ≡ true → (port ≡ owner) × (u.pushed ≡ pushed)
   pub ready : u.ready ≡ true → (pushed ≡ length (feed jobs seats v)) × (0 < share u)
   pub idle : share u ≡ 0 → all_taken u ≡ []
-  pub rising : AllRising (u.took ∷ u.gathered)
 
 -- a lawful deque: what it holds, and the views of all who may act on it
 pub record Lawful (items : List Entry) (views : List Log) : Type 0 where
@@ -77,7 +62,6 @@ pub record Lawful (items : List Entry) (views : List Log) : Type 0 where
   pub v : ℕ
   pub pushed : ℕ
   pub owner : ℕ
-  pub room : pushed ≤ length (feed jobs seats v)
   pub within : total taken views ≤ pushed
   -- the deque holds what was pushed and not taken
   pub held : items ≡ drop (total taken views) (take pushed (feed jobs seats v))
@@ -113,4 +97,4 @@ taken_back u w = record u { leaves = u.leaves + w.leaves; marks = u.marks + w.ma
 
 -- the entry at place `taken u` of the feed was taken
 abbrev pub TookNext : Log → List Entry → Log → Type 0
-TookNext u xs w = Took u xs w × (xs ≡ take 1 (drop (taken u) (feed u.jobs u.seats u.deque)))
+TookNext u xs w = Took u xs w × ((rest : List Entry) × (xs ++ rest ≡ drop (taken u) (feed u.jobs u.seats u.deque)))

@@ -1,7 +1,7 @@
 -- A grid cut into square tiles, which are numbered in row order.
 -- Source: the tiles of a TIFF file (TIFF 6.0, section 15), left to right and top to bottom; here the tiles at
 -- the east and south ends are smaller where the side does not divide the grid.
-use Rattle.std.specs.Prelude.{◌≡◌, ℕ, ℤ, slice_index_or, ◌+◌, ◌-◌, ◌*◌, ◌/◌, ◌%◌, ◌<◌, ◌≤◌, min, Bool, ◌&&◌, ◌||◌, not, ◌==◌, nat_lt, nat_le, if◌then◌else◌, List, map, filter, length, Option, None, slice_get, slice_range, Some, Vec, option_and_then}
+use Rattle.std.specs.Prelude.{◌≡◌, ℕ, ℤ, slice_index_or, ◌+◌, ◌-◌, ◌*◌, ◌/◌, ◌%◌, ◌<◌, ◌≤◌, min, Bool, ◌&&◌, ◌||◌, not, ◌==◌, nat_lt, nat_le, if◌then◌else◌, List, [], map, filter, length, Option, None, slice_get, slice_range, Some, Vec, option_and_then}
 use Rattle.std.specs.declared.alloc.Global.{Global}
 use Rattle.std.specs.Int.{div_ceil}
 use Rattle.std.specs.List.{range_with_len, flat_map}
@@ -161,9 +161,9 @@ pub record IsPutBack {X : Type 0} (t : Cutting) (lists : List (Vec X Global)) (w
 abbrev pub Cuts : Cutting → Terrain → Type 0
 Cuts c t = (c.cols ≡ t.cols) × (c.rows ≡ t.rows)
 
--- The terrain of which a view shows a tile.
+-- The terrain of which a view shows a tile. A view shows no sinks.
 abbrev pub terrain_of : View (Option ℤ) → Terrain
-terrain_of v = record { cols = v.cutting.cols; rows = v.cutting.rows; cells = v.cells }
+terrain_of v = record { cols = v.cutting.cols; rows = v.cutting.rows; cells = v.cells; sinks = [] }
 
 -- The entry of a place in a list that has a tile's entries in its row order.
 abbrev pub tile_entry : {X : Type 0} → Cutting → ℕ → List (Option X) → Place → Option X

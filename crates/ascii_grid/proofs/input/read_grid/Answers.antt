@@ -1,27 +1,18 @@
 use Rattle.std.proofs.Common.{rules, arith, ◌≡◌, ◌≤◌, ◌<◌, ◌++◌, ℕ, List, [], length, take, drop, None, Some, Err, Result, sym, ap, subst, ◌∙◌}
-use Rattle.std.specs.Result.{IfOk}
 use Rattle.std.specs.Io.KnownBytes.{Consumes}
 use Rattle.std.proofs.lemmas.List.{append-nil, length-append, length-take-le, length-take, take-append-le}
-use Rattle.ascii_grid.specs.GridText.{IsGridText, IsRefusal, IsRefusalSoFar, fault_so_far}
+use Rattle.ascii_grid.specs.GridText.{IsRefusal, IsRefusalSoFar, fault_so_far}
 use Rattle.terrain.specs.Raster.{Raster}
 use Rattle.ascii_grid.specs.Reader.{HasTaken}
 use Rattle.ascii_grid.specs.declared.fault.GridFault.{GridFault}
 use Rattle.ascii_grid.specs.declared.input.InputFault.{InputFault}
 use Rattle.ascii_grid.specs.declared.input.InputFault.TheVariants as input
-use Rattle.ascii_grid.proofs.Reading.{Consumes-more, Consumes-kept}
+use Rattle.ascii_grid.proofs.Taking.{Consumes-more, Consumes-kept, not_too_long, consumed_front, consumed_all}
 use Rattle.ascii_grid.proofs.Feeding.{stays}
-use Rattle.ascii_grid.proofs.Taking.{not_too_long, consumed_front, consumed_all}
 use Rattle.ascii_grid.proofs.input.read_grid.Goals as goal
 
 same_grid_fault : (f g : GridFault) → ◌≡◌ {A = Result Raster InputFault} (Err (input.Grid f)) (Err (input.Grid g)) → f ≡ g
 same_grid_fault f g e = cc
-
--- a grid at a scale that is the asked one
-grid_at : {E : Type 0} (d e : ℕ) (text : List ℕ) (r : Result Raster E) → d ≡ e → IfOk r (λ g. IsGridText d text g) → IfOk r (λ g. IsGridText e text g)
-grid_at d e text r same h = subst (λ (n : ℕ). IfOk r (λ g. IsGridText n text g)) same h
-
-refusal_at : (d e : ℕ) (text : List ℕ) (f : GridFault) → d ≡ e → IsRefusal d text f → IsRefusal e text f
-refusal_at d e text f same h = subst (λ (n : ℕ). IsRefusal n text f) same h
 
 pub returns-then-count-eq0 : goal.returns-then-count-eq0
 returns-then-count-eq0 g c =
@@ -34,8 +25,8 @@ returns-then-count-eq0 g c =
     let all : (text : List ℕ) → g.R.Read.remaining c.args.reader.now.device ≡ Some text → HasTaken c.loop-count.grid_reader text = λ text told.
     subst (λ (z : List ℕ). HasTaken c.loop-count.grid_reader z) (consumed_all _ _ _ text held.text told held.bytes last (c.in-Ok.ensures.bytes.1 c.if-count-eq0.true room)) held.fed in
     record {
-      grid = λ text told. grid_at _ _ text c.finished.result held.scale_kept (c.finished.ensures.grid text (all text told));
-      fault = λ text f told is. refusal_at _ _ text f held.scale_kept (c.finished.ensures.fault text f (all text told) is);
+      grid = λ text told. rw held.scale_kept at (c.finished.ensures.grid text (all text told));
+      fault = λ text f told is. rw held.scale_kept at (c.finished.ensures.fault text f (all text told) is);
       read = λ bad. absurd (c.finished.ensures.sound bad);
       sound = search rules;
       taken = (held.text, subst (λ (z : List ℕ). Consumes (g.R.Read.remaining c.args.reader.now.device) (g.R.Read.remaining c.read.new.self.device) z) (append-nil held.text) (Consumes-more _ _ _ _ _ held.bytes last), omega (arith, held.size, held.room), λ bad. absurd (c.finished.ensures.sound bad));
@@ -58,7 +49,7 @@ returns-in-Err g c =
       fault = λ text f told is.
           let more = consumed_front _ _ text (held.text ++ front) told bytes in
           let whole = subst (λ (z : List ℕ). IsRefusal c.loop-count.grid_reader.scale z c.in-Err.fault) (sym more.1) (stays _ (held.text ++ front) more.0 c.in-Err.fault shown) in
-          refusal_at _ _ text f held.scale_kept (rw (same_grid_fault _ _ is) at whole);
+          rw (held.scale_kept, same_grid_fault _ _ is) at whole;
       read = λ bad. absurd (cc);
       sound = search rules;
       taken = (held.text ++ front, bytes, omega (arith, sizes, read, held.size, held.room, within, c.min-room.ensures, c.read.auto.buffer, full, cut), λ bad. absurd (cc));

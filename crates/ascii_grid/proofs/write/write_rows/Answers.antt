@@ -1,6 +1,6 @@
 use Rattle.std.proofs.Common.{arith, ◌≡◌, ◌+◌, ◌-◌, ◌*◌}
 use Rattle.std.proofs.lemmas.Result.{err_from_is_err_and}
-use Rattle.ascii_grid.proofs.Gathering.{gathered, gather_failed}
+use Rattle.ascii_grid.proofs.Writing.{gathered, gather_failed}
 use Rattle.ascii_grid.proofs.RowText.{rows_more, rows_split}
 use Rattle.ascii_grid.proofs.write.write_rows.Goals as goal
 

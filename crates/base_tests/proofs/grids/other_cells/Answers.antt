@@ -1,5 +1,5 @@
 use Rattle.std.proofs.Common.{rules}
 use Rattle.base_tests.proofs.grids.other_cells.Goals as goal
 
-pub with_cells-requires-clause-heights : goal.with_cells-requires-clause-heights
-with_cells-requires-clause-heights g c = rw c.bowl-grid.ensures (search rules)
+pub filled-other-requires-clause-high : goal.filled-other-requires-clause-high
+filled-other-requires-clause-high g c = rw c.bowl-grid.ensures.cells (search rules)

@@ -1,4 +1,4 @@
-use Rattle.std.proofs.Common.{◌≡◌, ℕ, None, Some, ◌∷◌, [], get_or, refl, sym, ap, ◌∙◌, rules, to_z-of_z}
+use Rattle.std.proofs.Common.{◌≡◌, ℕ, None, Some, ◌∷◌, [], get_or, inl, refl, sym, ap, ◌∙◌, rules, to_z-of_z}
 use mir.Val.{SFits}
 use mir.Syntax.{w32}
 use Rattle.std.specs.Option.{option_zip}
@@ -23,5 +23,5 @@ returns c =
             c.entry.ensures c.entry-2.ensures c.entry-3.ensures (rw c.before-west.ensures at c.entry-4.ensures) (rw c.before-west.ensures at c.entry-5.ensures)
             (rw (c.before-west.ensures, c.before-north.ensures) at c.entry-6.ensures) (rw c.before-north.ensures at c.entry-7.ensures) (rw c.before-north.ensures at c.entry-8.ensures);
       };
-      edge = (λ _. outermost_edge t p c.args.level c.requires.inside c.requires.level c.requires.outermost, λ _. refl);
+      edge = (λ _. inl (outermost_edge t p c.args.level c.requires.inside c.requires.level c.requires.outermost), λ _. refl);
     }

@@ -12,8 +12,8 @@ invariant_of-made g c =
     let are : AreFloods c.args.grid.now.terrain k v.items = floods_given _ k v.items c.tiles.ensures.lawful c.requires (omega (arith, v.ok.0, c.in_ok-floods.ensures.len, jobs)) (λ j d below. c.in_ok-floods.ensures.given j d (omega (arith, below, jobs))) in
     record { size = c.in_ok-levels.ensures.size; fit = fit_of _ k v.items are.lawful are; lawful = are.lawful }
 
-pub with_own_cells-filled-requires-clause-heights : goal.with_own_cells-filled-requires-clause-heights
-with_own_cells-filled-requires-clause-heights g c =
+pub with_own_cells-requires-clause-heights : goal.with_own_cells-requires-clause-heights
+with_own_cells-requires-clause-heights g c =
     let t = c.args.grid.now.terrain in
     let k = c.args.tiling.now in
     let jobs = c.tiles.ensures.value in
@@ -30,7 +30,7 @@ from_grid-requires g c =
     let v = c.in_ok-floods.floods in
     let are : AreFloods t k v.items = floods_given t k v.items c.tiles.ensures.lawful c.requires (omega (arith, v.ok.0, c.in_ok-floods.ensures.len, jobs)) (λ j d below. c.in_ok-floods.ensures.given j d (omega (arith, below, jobs))) in
     let raises = rw c.deref.ensures.value at c.in_ok-levels.ensures.levels in
-    (filled_grid c.args.grid.now c.with_own_cells-filled.result c.in_ok-cells.cells.items c.with_own_cells-filled.ensures (filled_map t k v.items _ c.in_ok-cells.cells.items are raises c.in_ok-cells.ensures.made)).0
+    (filled_grid c.args.grid.now c.in-Ok.filled c.in_ok-cells.cells.items c.in-Ok.ensures (filled_map t k v.items _ c.in_ok-cells.cells.items are raises c.in_ok-cells.ensures.made)).0
 
 pub returns-clause-filled : goal.returns-clause-filled
 returns-clause-filled g c =
@@ -40,4 +40,4 @@ returns-clause-filled g c =
     let v = c.in_ok-floods.floods in
     let are : AreFloods t k v.items = floods_given t k v.items c.tiles.ensures.lawful c.requires (omega (arith, v.ok.0, c.in_ok-floods.ensures.len, jobs)) (λ j d below. c.in_ok-floods.ensures.given j d (omega (arith, below, jobs))) in
     let raises = rw c.deref.ensures.value at c.in_ok-levels.ensures.levels in
-    rw c.from_grid.ensures (filled_grid c.args.grid.now c.with_own_cells-filled.result c.in_ok-cells.cells.items c.with_own_cells-filled.ensures (filled_map t k v.items _ c.in_ok-cells.cells.items are raises c.in_ok-cells.ensures.made)).1
+    rw c.from_grid.ensures (filled_grid c.args.grid.now c.in-Ok.filled c.in_ok-cells.cells.items c.in-Ok.ensures (filled_map t k v.items _ c.in_ok-cells.cells.items are raises c.in_ok-cells.ensures.made)).1

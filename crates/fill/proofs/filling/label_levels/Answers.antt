@@ -10,8 +10,8 @@ returns-then-has_no_inner_cell-clause-levels g c =
 pub invariant_of-run : goal.invariant_of-run
 invariant_of-run g c = record { fit = fit_of c.args.grid.now.terrain c.args.tiling.now c.args.floods.now c.requires.floods.lawful c.requires.floods }
 
-pub returns-clause-levels : goal.returns-clause-levels
-returns-clause-levels g c = c.in_ok-levels.ensures.levels c.args.grid.now.terrain c.args.floods.now c.requires.floods (record {
+pub spill_levels-requires-clause-parts : goal.spill_levels-requires-clause-parts
+spill_levels-requires-clause-parts g c = record {
   count = omega (arith, c.in_ok-parts.parts.ok.0, c.in_ok-parts.ensures.len, c.tiles.ensures.value);
   each = λ j d below. c.in_ok-parts.ensures.given j d (omega (arith, below, c.tiles.ensures.value));
-})
+}

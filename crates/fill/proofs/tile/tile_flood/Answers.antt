@@ -1,7 +1,11 @@
 use Rattle.std.proofs.Common.{refl, ◌∙◌}
+use Rattle.terrain.specs.Sinks.{with_sinks}
 use Rattle.tiles.specs.Cutting.{terrain_of}
 use Rattle.fill.proofs.TileWindows.{tile_flood_is, labels_below}
 use Rattle.fill.proofs.tile.tile_flood.Goals as goal
+
+pub returns-then-bounds-eq1-2 : goal.returns-then-bounds-eq1-2
+returns-then-bounds-eq1-2 c = c.cell_flood.ensures c.args.sinks.now
 
 pub labels_of-requires-clause-nodes : goal.labels_of-requires-clause-nodes
 labels_of-requires-clause-nodes c = rw c.deref-2.ensures.value (labels_below c.in_ok-net.net c.in_ok-flooded.flooded.level.items _ c.in_ok-flooded.ensures)
@@ -13,7 +17,7 @@ pub invariant_of-result : goal.invariant_of-result
 invariant_of-result c =
     let made = c.in-Ok.ensures.ok in
     let lawful = c.bounds-bounds.ensures.lawful in
-    rw made ((tile_flood_is (terrain_of c.args.view.now) c.args.view.now.cutting c.args.view.now.tile c.in_ok-net.net c.bounds-bounds.result
+    rw made ((tile_flood_is (with_sinks (terrain_of c.args.view.now) c.args.sinks.now) c.args.view.now.cutting c.args.view.now.tile c.in_ok-net.net c.bounds-bounds.result
     c.in_ok-flooded.flooded.level.items c.in_ok-levels.levels.items c.in_ok-flooded.flooded.label.items _
     lawful.cutting lawful.tile (refl, refl) c.in_ok-net.ensures c.in_ok-flooded.ensures c.bounds-bounds.ensures.value
     (rw c.deref.ensures.value at c.in_ok-levels.ensures) (rw c.deref-2.ensures.value at c.in_ok-labels.ensures)).1)
@@ -22,7 +26,7 @@ pub returns : goal.returns
 returns c =
     let made = c.in-Ok.ensures.ok in
     let lawful = c.bounds-bounds.ensures.lawful in
-    rw made ((tile_flood_is (terrain_of c.args.view.now) c.args.view.now.cutting c.args.view.now.tile c.in_ok-net.net c.bounds-bounds.result
+    rw made ((tile_flood_is (with_sinks (terrain_of c.args.view.now) c.args.sinks.now) c.args.view.now.cutting c.args.view.now.tile c.in_ok-net.net c.bounds-bounds.result
     c.in_ok-flooded.flooded.level.items c.in_ok-levels.levels.items c.in_ok-flooded.flooded.label.items _
     lawful.cutting lawful.tile (refl, refl) c.in_ok-net.ensures c.in_ok-flooded.ensures c.bounds-bounds.ensures.value
     (rw c.deref.ensures.value at c.in_ok-levels.ensures) (rw c.deref-2.ensures.value at c.in_ok-labels.ensures)).0)

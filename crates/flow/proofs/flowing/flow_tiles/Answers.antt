@@ -1,6 +1,6 @@
-use Rattle.std.proofs.Common.{refl}
-use Rattle.flow.specs.TileFlow.{IsTileFlow, AreTileCounts}
-use Rattle.flow.specs.RimGraph.{AreFlowsOf}
+use Rattle.std.proofs.Common.{true, refl}
+use Rattle.flow.specs.TileFlow.{AreTileCounts}
+use Rattle.flow.specs.RimGraph.{AreFlowsOf, IsFound}
 use Rattle.flow.specs.Whole.{make_directed}
 use Rattle.flow.proofs.Together.{jobs_gave}
 use Rattle.flow.proofs.flowing.flow_tiles.Goals as goal
@@ -9,15 +9,15 @@ pub returns-clause-flows : goal.returns-clause-flows
 returns-clause-flows g c =
     let t = c.args.tiling.now in
     let d = make_directed t.cols t.rows c.args.codes.now in
-    jobs_gave (IsTileFlow d t) c.run.result _ _ (AreFlowsOf d t) c.tiles.ensures.value (λ outs count each. record {
+    jobs_gave (IsFound d t true) c.run.result _ _ (AreFlowsOf d t) c.tiles.ensures.value (λ outs count each. record {
       cutting = c.tiles.ensures.lawful;
       ends = c.requires.grid.ends;
-      of_tiles = record { size = (refl, refl); count = count; each = λ k x there. (each k x there).exits };
+      of_tiles = record { size = (refl, refl); count = count; each = λ k x there. (each k x there).0 };
     }) c.run.ensures.len c.run.ensures.given
 
 pub returns-clause-counts : goal.returns-clause-counts
 returns-clause-counts g c =
     let t = c.args.tiling.now in
     let d = make_directed t.cols t.rows c.args.codes.now in
-    jobs_gave (IsTileFlow d t) c.run.result _ _ (AreTileCounts d t) c.tiles.ensures.value
-    (λ outs count each. record { each = λ k x there. (each k x there).counts }) c.run.ensures.len c.run.ensures.given
+    jobs_gave (IsFound d t true) c.run.result _ _ (AreTileCounts d t) c.tiles.ensures.value
+    (λ outs count each. record { each = λ k x there. (each k x there).1 refl }) c.run.ensures.len c.run.ensures.given

@@ -16,7 +16,6 @@ send-requires-clause-within c =
 
 pub send-requires-clause-fits : goal.send-requires-clause-fits
 send-requires-clause-fits c = λ k h.
-    let f = entering c.args.tiling.now c.args.flows.now c.args.weights.now c.args.came.now k in
     omega (
       arith,
       c.loop-number.invariant.each k h,

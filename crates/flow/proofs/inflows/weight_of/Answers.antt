@@ -9,7 +9,6 @@ use Rattle.flow.proofs.inflows.weight_of.Goals as goal
 
 pub through_at-requires-clause-within : goal.through_at-requires-clause-within
 through_at-requires-clause-within c =
-    let d = c.requires.flows.0 in
     let x = target_from c.requires.flows.0 c.args.tiling.now c.args.flows.now c.requires.flows.1 c.args.number c.in-Some.field-0 (sym c.in-Some.ensures) in
     subst (λ (p : Place). IsWithin c.args.tiling.now p) (sym c.rim_place.ensures) (within_of c.requires.flows.0 c.args.tiling.now c.args.flows.now c.requires.flows.1 _ x.crosses.coded)
 

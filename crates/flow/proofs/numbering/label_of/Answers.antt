@@ -1,34 +1,25 @@
-use Rattle.std.proofs.Common.{◌≡◌, get_or, None, subst, sym, ap, ◌∙◌}
+use Rattle.std.proofs.Common.{get_or, None, ap, ◌∙◌}
 use Rattle.terrain.specs.declared.place.Place.{Place}
 use Rattle.tiles.specs.declared.bounds.Bounds.{Bounds}
 use Rattle.flow.specs.TileLinks.{place_in}
 use Rattle.flow.specs.RimGraph.{outlet_in}
-use Rattle.flow.specs.Numbering.{IsExitOfTile, number_at}
+use Rattle.flow.specs.Numbering.{number_at}
 use Rattle.flow.proofs.Listed.{exit_placed, label_own}
 use Rattle.flow.proofs.numbering.label_of.Goals as goal
 
 pub number_of-requires-clause-within : goal.number_of-requires-clause-within
 number_of-requires-clause-within c =
-    let f = c.args.flow.now in
-    let at : c.place_at.result ≡ place_in c.args.flow.now.bounds c.in-Some.exit = c.place_at.ensures.value ∙ ap (λ (b : Bounds). place_in b c.in-Some.exit) c.bounds.ensures.value in
-    let placed : IsExitOfTile c.args.outlets.now c.args.numbers.now c.args.flow.now.bounds c.place_at.result =
-    subst (λ (p : Place). IsExitOfTile c.args.outlets.now c.args.numbers.now c.args.flow.now.bounds p) (sym at)
-    (exit_placed c.args.numbers.now c.args.outlets.now f.bounds c.in-Some.exit (get_or f.exits c.args.index None) c.in-Some.ensures.value c.requires.exit) in
-    placed.within
+    (exit_placed c.args.numbers.now c.args.outlets.now c.args.flow.now.bounds c.in-Some.exit _ c.place_at.result
+    (c.place_at.ensures.value ∙ ap (λ (b : Bounds). place_in b c.in-Some.exit) c.bounds.ensures.value) c.in-Some.ensures.value c.requires.exit).within
 
 pub number_of-requires-clause-numbered : goal.number_of-requires-clause-numbered
 number_of-requires-clause-numbered c =
-    let f = c.args.flow.now in
-    let at : c.place_at.result ≡ place_in c.args.flow.now.bounds c.in-Some.exit = c.place_at.ensures.value ∙ ap (λ (b : Bounds). place_in b c.in-Some.exit) c.bounds.ensures.value in
-    let placed : IsExitOfTile c.args.outlets.now c.args.numbers.now c.args.flow.now.bounds c.place_at.result =
-    subst (λ (p : Place). IsExitOfTile c.args.outlets.now c.args.numbers.now c.args.flow.now.bounds p) (sym at)
-    (exit_placed c.args.numbers.now c.args.outlets.now f.bounds c.in-Some.exit (get_or f.exits c.args.index None) c.in-Some.ensures.value c.requires.exit) in
-    placed.numbered
+    (exit_placed c.args.numbers.now c.args.outlets.now c.args.flow.now.bounds c.in-Some.exit _ c.place_at.result
+    (c.place_at.ensures.value ∙ ap (λ (b : Bounds). place_in b c.in-Some.exit) c.bounds.ensures.value) c.in-Some.ensures.value c.requires.exit).numbered
 
 pub returns : goal.returns
 returns c =
-    let f = c.args.flow.now in
-    let at : c.place_at.result ≡ place_in c.args.flow.now.bounds c.in-Some.exit = c.place_at.ensures.value ∙ ap (λ (b : Bounds). place_in b c.in-Some.exit) c.bounds.ensures.value in
     c.number_of.ensures
-    ∙ ap (λ (p : Place). number_at c.args.outlets.now.cutting.cols c.args.numbers.now (outlet_in c.args.outlets.now p)) at
-    ∙ label_own c.args.numbers.now c.args.outlets.now f.bounds c.args.index c.in-Some.exit (get_or f.exits c.args.index None) c.in-Some.ensures.value c.if-exit-index.false c.requires.exit
+    ∙ ap (λ (p : Place). number_at c.args.outlets.now.cutting.cols c.args.numbers.now (outlet_in c.args.outlets.now p))
+    (c.place_at.ensures.value ∙ ap (λ (b : Bounds). place_in b c.in-Some.exit) c.bounds.ensures.value)
+    ∙ label_own c.args.numbers.now c.args.outlets.now c.args.flow.now.bounds c.args.index c.in-Some.exit (get_or c.args.flow.now.exits c.args.index None) c.in-Some.ensures.value c.if-exit-index.false c.requires.exit

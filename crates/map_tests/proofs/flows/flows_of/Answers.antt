@@ -1,8 +1,7 @@
 use Rattle.std.proofs.Common.{◌≡◌, [], ◌∷◌, ◌++◌, rules}
 use Rattle.drainage.specs.Drained.{directed_of}
 use Rattle.flow.specs.TileFlow.{IsTileFlow}
-use Rattle.flow.proofs.Pushing.{pushed_size}
-use Rattle.map_tests.proofs.Pushing.{each_more}
+use Rattle.map_tests.proofs.Pushing.{each_more, pushed_size}
 use Rattle.map_tests.proofs.flows.flows_of.Goals as goal
 
 pub loop-tile-preserved : goal.loop-tile-preserved

@@ -1,4 +1,4 @@
-use Rattle.std.proofs.Common.{rules, ◌≡◌, ◌⊎◌, ◌≢◌, refl, inl, inr}
+use Rattle.std.proofs.Common.{rules, ◌≢◌, refl, inl, inr}
 use Rattle.clap.specs.Words.{kind_of}
 use Rattle.clap.specs.declared.error.kind.ErrorKind.TheVariants.{DisplayHelp, DisplayVersion, OutOfMemory}
 use Rattle.request.specs.CommandLine.{IsHelp}

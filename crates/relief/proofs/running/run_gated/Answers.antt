@@ -1,5 +1,10 @@
-use Rattle.std.proofs.Common.{ap, Err}
+use Rattle.std.proofs.Common.{◌≡◌, ap, subst, None, Err}
 use Rattle.std.proofs.lemmas.Result.{err_from_is_err_and}
+use Rattle.terrain.specs.Raster.{Raster}
+use Rattle.relief.specs.MadeMap.{made_text}
+use Rattle.relief.specs.MapText.{IsMapText}
+use Rattle.relief.specs.Refusals.{IsWorkRefusal, wish_fault}
+use Rattle.relief.proofs.Draining.{refusal_without}
 use Rattle.relief.proofs.Ran.{reading_refused, making_refused, writing_failed, ran}
 use Rattle.relief.proofs.running.run_gated.Goals as goal
 
@@ -14,31 +19,45 @@ returns-in_err-grid g c =
     (λ other. read.sound (λ bad. other (cc)))
     (record { bytes = took.0; consumed = took.1; few = took.2; clean = λ same. took.3 (ap Err same) }))
 
+pub returns-in_err-grid-2 : goal.returns-in_err-grid-2
+returns-in_err-grid-2 g c =
+    let p = err_from_is_err_and c.from_residual-in_err-grid-2.result c.from_residual-in_err-grid-2.ensures.1 in
+    let took = c.in_ok-grid.ensures.taken in
+    rw (p.1, p.2) (making_refused g.R.Read.remaining g.W.Write.contents c.args.options.now c.args.reader.now c.read_grid.new.reader c.args.writer.now c.in_ok-grid.grid c.in_err-grid-2.field-0.0
+    (λ text told. rw c.scale.ensures.value at (c.in_ok-grid.ensures.grid text told))
+    (c.in_ok-grid.ensures.sound (λ bad. cc))
+    (record { bytes = took.0; consumed = took.1; few = took.2; clean = λ no_read. absurd no_read })
+    c.in_err-grid-2.ensures.fault)
+
 pub returns-in_err-map : goal.returns-in_err-map
 returns-in_err-map g c =
     let p = err_from_is_err_and c.from_residual-in_err-map.result c.from_residual-in_err-map.ensures.1 in
     let took = c.in_ok-grid.ensures.taken in
-    rw (p.1, p.2) (making_refused g.R.Read.remaining g.W.Write.contents c.args.options.now c.args.reader.now c.read_grid.new.reader c.args.writer.now c.in_ok-grid.grid c.in_err-map.field-0.0
+    let w = c.args.options.now in
+    rw (p.1, p.2) (making_refused g.R.Read.remaining g.W.Write.contents w c.args.reader.now c.read_grid.new.reader c.args.writer.now c.in_ok-grid.grid c.in_err-map.field-0.0
     (λ text told. rw c.scale.ensures.value at (c.in_ok-grid.ensures.grid text told))
     (c.in_ok-grid.ensures.sound (λ bad. cc))
     (record { bytes = took.0; consumed = took.1; few = took.2; clean = λ no_read. absurd no_read })
-    c.in_err-map.ensures.fault)
+    (refusal_without w c.in_ok-grid.grid _ w.sinks (subst (λ (r : Raster). IsWorkRefusal w r c.in_err-map.field-0.0) c.in_ok-grid-2.ensures.grid c.in_err-map.ensures.fault)))
 
 pub returns-in_err-write_map : goal.returns-in_err-write_map
 returns-in_err-write_map g c =
     let p = err_from_is_err_and c.from_residual-in_err-write_map.result c.from_residual-in_err-write_map.ensures.1 in
     let took = c.in_ok-grid.ensures.taken in
-    rw (p.1, p.2) (writing_failed g.R.Read.remaining g.W.Write.contents c.args.options.now c.args.reader.now c.read_grid.new.reader c.args.writer.now c.write_map.new.writer c.in_ok-grid.grid c.in_ok-map.map _
+    let w = c.args.options.now in
+    rw (p.1, p.2) (writing_failed g.R.Read.remaining g.W.Write.contents w c.args.reader.now c.read_grid.new.reader c.args.writer.now c.write_map.new.writer c.in_ok-grid.grid _ _
     (λ text told. rw c.scale.ensures.value at (c.in_ok-grid.ensures.grid text told))
     (c.in_ok-grid.ensures.sound (λ bad. cc))
     (record { bytes = took.0; consumed = took.1; few = took.2; clean = λ no_read. absurd no_read })
-    c.in_ok-map.ensures.ready c.in_ok-map.ensures.map c.in_err-write_map.ensures)
+    (subst (λ (r : Raster). wish_fault w r ≡ None) c.in_ok-grid-2.ensures.grid c.in_ok-map.ensures.ready)
+    (subst (λ (r : Raster). IsMapText r w.map (made_text c.in_ok-grid-2.grid c.in_ok-map.map)) c.in_ok-grid-2.ensures.grid c.in_ok-map.ensures.map) c.in_err-write_map.ensures)
 
 pub returns : goal.returns
 returns g c =
     let took = c.in_ok-grid.ensures.taken in
-    ran g.R.Read.remaining g.W.Write.contents c.args.options.now c.args.reader.now c.read_grid.new.reader c.args.writer.now c.write_map.new.writer c.in_ok-grid.grid c.in_ok-map.map
+    let w = c.args.options.now in
+    ran g.R.Read.remaining g.W.Write.contents w c.args.reader.now c.read_grid.new.reader c.args.writer.now c.write_map.new.writer c.in_ok-grid.grid _
     (λ text told. rw c.scale.ensures.value at (c.in_ok-grid.ensures.grid text told))
     (c.in_ok-grid.ensures.sound (λ bad. cc))
     (record { bytes = took.0; consumed = took.1; few = took.2; clean = λ no_read. absurd no_read })
-    c.in_ok-map.ensures.map c.in_ok-write_map.ensures
+    (subst (λ (r : Raster). IsMapText r w.map (made_text c.in_ok-grid-2.grid c.in_ok-map.map)) c.in_ok-grid-2.ensures.grid c.in_ok-map.ensures.map) c.in_ok-write_map.ensures

@@ -1,6 +1,7 @@
-use Rattle.std.proofs.Common.{◌≡◌, Some, map, take}
-use Rattle.request.specs.ObserverWord.{observer_of}
+use Rattle.std.proofs.Common.{map, take}
+use Rattle.request.specs.CommandLine.{Spell}
+use Rattle.request.specs.PlaceWords.{observer_of}
 use Rattle.request.proofs.words.observers_of.Given as goal
 
 abbrev pub invariant-loop-place : goal.invariant-loop-place
-invariant-loop-place l = map observer_of (map (λ w. w.now) (take l.place l.words)) ≡ map Some l.observers.items
+invariant-loop-place l = Spell observer_of (map (λ w. w.now) (take l.place l.words)) l.observers.items

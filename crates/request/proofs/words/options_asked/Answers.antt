@@ -3,10 +3,13 @@ use Rattle.std.proofs.lemmas.Result.{IfErr-weaker}
 use Rattle.clap.specs.Words.{Text, found_of, rows_of, subcommand_of}
 use Rattle.clap.specs.Faults.{fault_of, is_simple_and_free}
 use Rattle.clap.specs.Kinds.{HasKind}
-use Rattle.request.specs.CommandLine.{Names, program_app}
+use Rattle.request.specs.CommandLine.{Spell, WishFor, program_app}
+use Rattle.request.specs.PlaceWords.{sink_of}
+use Rattle.request.specs.Wish.{IsView}
 use Rattle.request.specs.WordsFaults.{IsFaultOf}
 use Rattle.request.specs.declared.words.WordsFault.TheVariants.{Clap}
-use Rattle.request.proofs.Asked.{accepted, found_in, map_refused, named_by, none_named, options_refused, program_free}
+use Rattle.request.proofs.Asked.{accepted, found_in, map_refused, named_by, none_named, options_refused, program_free, sinks_refused, wished}
+use Rattle.request.proofs.Given.{view_without_sinks}
 use Rattle.request.proofs.words.options_asked.Goals as goal
 
 pub returns-in_err-matches-clause-fault : goal.returns-in_err-matches-clause-fault
@@ -34,26 +37,39 @@ returns-in_err-map-clause-fault c =
     IfErr-weaker c.from_residual-in_err-map.result _ _ (λ y e. subst (IsFaultOf words) (sym e)
     (map_refused words (accepted _ words c.in_ok-command.ensures c.in_ok-matches.ensures.kinds) _ _ found _ c.in_err-map.ensures.none)) same
 
-pub returns-in-Some-with_options-clause-wish : goal.returns-in-Some-with_options-clause-wish
-returns-in-Some-with_options-clause-wish c =
-    let words : List Text = map (λ w. w.now) c.args.words.now in
-    let given = c.in-Some-with_options.ensures.some in
-    record {
-      name = c.in-Some.name.now;
-      rows = rows_of (found_of c.in-Some.found.now);
-      command = record {
-        accepted = accepted _ words c.in_ok-command.ensures c.in_ok-matches.ensures.kinds;
-        found = found_in _ words c.in_ok-matches.matches c.in_ok-command.ensures c.in_ok-matches.ensures.matches
-            ∙ named_by _ _ _ c.in-Some.ensures.name c.in-Some.ensures.rows;
-      };
-      map = subst (Names c.in-Some.name.now (rows_of (found_of c.in-Some.found.now))) (sym given.0) c.in_ok-map.ensures.some;
-      options = given.1;
-      limits = c.in-Some-with_options.ensures.limits;
-    }
-
-pub returns-clause-fault : goal.returns-clause-fault
-returns-clause-fault c =
+pub returns-in_err-sinks-clause-fault : goal.returns-in_err-sinks-clause-fault
+returns-in_err-sinks-clause-fault c =
     let words : List Text = map (λ w. w.now) c.args.words.now in
     let found = found_in _ words c.in_ok-matches.matches c.in_ok-command.ensures c.in_ok-matches.ensures.matches
     ∙ named_by _ _ _ c.in-Some.ensures.name c.in-Some.ensures.rows in
-    options_refused words (accepted _ words c.in_ok-command.ensures c.in_ok-matches.ensures.kinds) _ _ found _ c.in_ok-map.ensures.some c.in-None.ensures.none
+    let same : IfErr c.from_residual-in_err-sinks.result (λ y. y ≡ c.in_err-sinks.field-0.0) = search rules in
+    IfErr-weaker c.from_residual-in_err-sinks.result _ _ (λ y e. subst (IsFaultOf words) (sym e)
+    (sinks_refused words (accepted _ words c.in_ok-command.ensures c.in_ok-matches.ensures.kinds) _ _ found _ c.in_ok-map.ensures.some _ c.in_err-sinks.ensures.none)) same
+
+pub returns-in_default-with_options-clause-fault : goal.returns-in_default-with_options-clause-fault
+returns-in_default-with_options-clause-fault c =
+    let words : List Text = map (λ w. w.now) c.args.words.now in
+    let found = found_in _ words c.in_ok-matches.matches c.in_ok-command.ensures c.in_ok-matches.ensures.matches
+    ∙ named_by _ _ _ c.in-Some.ensures.name c.in-Some.ensures.rows in
+    options_refused words (accepted _ words c.in_ok-command.ensures c.in_ok-matches.ensures.kinds) _ _ found _ _ c.in_ok-map.ensures.some c.in_ok-sinks.ensures.some c.in_default-with_options.ensures.none
+
+pub returns-in-Ok-clause-wish : goal.returns-in-Ok-clause-wish
+returns-in-Ok-clause-wish c =
+    let words : List Text = map (λ w. w.now) c.args.words.now in
+    let found = found_in _ words c.in_ok-matches.matches c.in_ok-command.ensures c.in_ok-matches.ensures.matches
+    ∙ named_by _ _ _ c.in-Some.ensures.name c.in-Some.ensures.rows in
+    let given = c.in-Some-with_options.ensures in
+    subst (WishFor words) (sym c.in-Ok.ensures.some.0)
+    (wished words (accepted _ words c.in_ok-command.ensures c.in_ok-matches.ensures.kinds) _ _ found c.in_ok-map.map (record c.in-Some-with_options.options { sinks = c.in_ok-sinks.sinks.items })
+    c.in_ok-map.ensures.some given.some.0 c.in_ok-sinks.ensures.some given.some.2 given.limits (λ view. absurd (c.in-Ok.ensures.some.1 view)))
+
+pub returns-clause-wish : goal.returns-clause-wish
+returns-clause-wish c =
+    let words : List Text = map (λ w. w.now) c.args.words.now in
+    let found = found_in _ words c.in_ok-matches.matches c.in_ok-command.ensures c.in_ok-matches.ensures.matches
+    ∙ named_by _ _ _ c.in-Some.ensures.name c.in-Some.ensures.rows in
+    let given = c.in-Some-with_options.ensures in
+    let none = view_without_sinks _ (rows_of (found_of c.in-Some.found.now)) c.in_ok-map.map c.in_ok-map.ensures.some (subst IsView given.some.0 c.in-Err.ensures.view.1) in
+    subst (WishFor words) (sym c.in-Err.ensures.view.0)
+    (wished words (accepted _ words c.in_ok-command.ensures c.in_ok-matches.ensures.kinds) _ _ found c.in_ok-map.map c.in-Some-with_options.options
+    c.in_ok-map.ensures.some given.some.0 (subst (Spell sink_of _) (sym given.some.1) none) given.some.2 given.limits (λ view. given.some.1))

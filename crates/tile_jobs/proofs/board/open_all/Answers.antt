@@ -1,10 +1,9 @@
-use Rattle.std.proofs.Common.{rules, arith, sym, ap, ◌≡◌, ℕ, suc, ◌∷◌, List, length, drop, get_or, ◌∙◌, vec_len, subst}
+use Rattle.std.proofs.Common.{rules, arith, sym, ap, ◌≡◌, ℕ, suc, ◌∷◌, List, length, drop, get_or, ◌∙◌, vec_len, subst, below_more}
 use Rattle.std.proofs.lemmas.Grind.{common_steps}
 use Rattle.std.specs.Vec.Iter.{into_iter_items}
 use Rattle.tile_jobs.specs.Ends.{EndState, SeatState, IsSeat}
 use Rattle.tile_jobs.proofs.Entries.{get_drop, cut_drop}
 use Rattle.tile_jobs.proofs.Seats.{get_snoc}
-use Rattle.tile_jobs.proofs.Closes.{below_next}
 use Rattle.tile_jobs.proofs.board.open_all.Goals as goal
 
 pub loop-seat-preserved : goal.loop-seat-preserved
@@ -29,7 +28,7 @@ loop-seat-preserved c =
       count = omega (arith, inv.count, ap length step, len);
       same = (c.put-in-loop-seat.ensures.len ∙ ap suc inv.same.0 ∙ sym len, c.put-in-loop-seat-2.ensures.len ∙ ap suc inv.same.1 ∙ sym len);
       room = (omega (arith, inv.room.0, c.put.ensures.room), omega (arith, inv.room.1, c.put-in-loop-seat.ensures.room), omega (arith, inv.room.2, c.put-in-loop-seat-2.ensures.room));
-      seats = λ s d low. below_next (λ j. IsSeat (get_or all j d)) n (λ j l. inv.seats j d l) (subst IsSeat (at d) c.into_parts-own.ensures.seat) s (omega (arith, len));
+      seats = λ s d low. below_more (λ j. IsSeat (get_or all j d)) n (λ j l. inv.seats j d l) (subst IsSeat (at d) c.into_parts-own.ensures.seat) s (omega (arith, len));
       owns = λ s d o low. rw c.put.ensures.items (get_snoc O c.loop-seat.owns.items r.0 (λ j x l e. inv.owns j e x (omega (arith, s1))) (λ e. rw s1 (sym (ap (λ (x : SeatState). x.own) parts) ∙ ap (λ (x : SeatState). x.own) (at e))) s o (omega (arith, s1, len)) d);
       rows = λ s d o low. rw c.put-in-loop-seat.ensures.items
           (get_snoc (λ j x. (d : SeatState) → x.items ≡ (get_or all j d).others) c.loop-seat.rows.items r.1 (λ j x l e. inv.rows j e x (omega (arith, s2))) (λ e. rw s2 (sym (ap (λ (x : SeatState). x.others) parts) ∙ ap (λ (x : SeatState). x.others) (at e))) s o (omega (arith, s2, len)) d);

@@ -1,9 +1,10 @@
-use Rattle.std.proofs.Common.{arith, ap, sym, ◌≡◌, ℕ, ◌<◌, ◌∙◌, suc, length, get_or, drop, List, ◌++◌, ◌∷◌, [], vec_len, add-one}
+use Rattle.std.proofs.Common.{arith, ap, sym, ◌≡◌, ℕ, ◌+◌, ◌<◌, ◌∙◌, length, get_or, drop, List, ◌++◌, ◌∷◌, [], vec_len, add-one}
 use Rattle.std.proofs.lemmas.Grind.{common_steps}
+use Rattle.std.proofs.lemmas.List.{get_or-drop}
 use Rattle.std.specs.Vec.Iter.{into_iter_items}
 use Rattle.tile_jobs.specs.Ends.{EndState, SeatState, seat_of, without}
 use Rattle.tile_jobs.proofs.Entries.{get_drop, cut_below, cut_drop}
-use Rattle.tile_jobs.proofs.Seats.{fresh_seat, get_tail, get_snoc}
+use Rattle.tile_jobs.proofs.Seats.{fresh_seat, get_snoc}
 use Rattle.tile_jobs.proofs.dealing.seat_all.Goals as goal
 
 pub new-requires-clause-seat : goal.new-requires-clause-seat
@@ -44,6 +45,6 @@ loop-own-preserved c =
       count = omega (arith, c.loop-own.invariant.count, ap length step);
       size = omega (arith, c.loop-own.invariant.size, c.remove-others.ensures.len);
       len = grind (arith, common_steps);
-      rows = λ i d low. ap (λ v. v.items) (ap (λ l. get_or l i d) c.remove-others.ensures.items ∙ get_tail c.loop-own.rows.items i d) ∙ c.loop-own.invariant.rows (suc i) d (omega (arith, c.remove-others.ensures.len)) ∙ ap (λ k. without k all) (omega arith);
+      rows = λ i d low. ap (λ v. v.items) (ap (λ l. get_or l i d) c.remove-others.ensures.items ∙ get_or-drop 1 c.loop-own.rows.items i d) ∙ c.loop-own.invariant.rows (1 + i) d (omega (arith, c.remove-others.ensures.len)) ∙ ap (λ k. without k all) (omega arith);
       each = λ s d e low. rw items (get_snoc P seats seat (λ j x l e'. c.loop-own.invariant.each j x e' (omega (arith, size))) last s d (omega (arith, size)) e);
     }

@@ -1,5 +1,4 @@
-use Rattle.std.proofs.Common.{◌≡◌, ◌<◌, ◌≤◌, ◌++◌, ◌∷◌, [], length, None, arith, rules, ap, refl, sym, ◌∙◌, inr}
-use Rattle.std.proofs.lemmas.Option.{cond_some}
+use Rattle.std.proofs.Common.{◌≡◌, ◌<◌, ◌≤◌, ◌++◌, ◌∷◌, [], length, arith, rules, ap, refl, sym, ◌∙◌, inr}
 use Rattle.ascii_grid.specs.GridText.{is_cell, cells_wanted}
 use Rattle.ascii_grid.specs.Reading.{flat}
 use Rattle.ascii_grid.proofs.Cells.{meaning_cell, meaning_nothing}

@@ -1,7 +1,7 @@
 use Rattle.std.proofs.Common.{arith, ◌≡◌, length, ap, sym, ◌∙◌, Some, inl, inr}
 use Rattle.std.proofs.lemmas.Bool.{cond-true, cond-false, lt-ltb, le-ltb}
 use Rattle.std.proofs.lemmas.Result.{err_from_is_err_and}
-use Rattle.ascii_grid.specs.declared.fault.GridFault.TheVariants.{TooFew, NoValue}
+use Rattle.ascii_grid.specs.declared.fault.GridFault.TheVariants.{TooFew}
 use Rattle.ascii_grid.proofs.Spelled.{whole-grid, lawful-grid, spelled-grid, end-value, end-missing, end-memory, end-none, end-heights}
 use Rattle.ascii_grid.proofs.judge.Judge.finish.Goals as goal
 
@@ -13,7 +13,7 @@ into_grid-requires-clause-lawful c =
     lawful-grid c.args.self c.requires.judged.0 c.requires.judged.1 c.in-AtHeights.is c.requires.scale (omega (arith, c.args.self.cells.ok.0))
 
 pub returns-in-AtValue : goal.returns-in-AtValue
-returns-in-AtValue c = λ ws h. end-value c.args.self ws _ h c.in-AtValue.is ∙ ap (λ k. Some (NoValue k)) (sym c.key.ensures)
+returns-in-AtValue c = λ ws h. end-value c.args.self ws _ _ h c.in-AtValue.is
 
 pub returns-in_err-begin_heights-in-AtKey : goal.returns-in_err-begin_heights-in-AtKey
 returns-in_err-begin_heights-in-AtKey c = λ ws h.

@@ -1,6 +1,6 @@
-use Rattle.std.proofs.Common.{sym, ◌∙◌, refl}
+use Rattle.std.proofs.Common.{rules, sym, ◌∙◌, refl}
 use Rattle.std.proofs.lemmas.Result.{MatchResult-weaker}
-use Rattle.ascii_grid.proofs.Ending.{words_after_byte, words_after_separator, fault_after_separator}
+use Rattle.ascii_grid.proofs.Ending.{words_after_byte, kept_more, kept_full, words_after_separator, fault_after_separator}
 use Rattle.ascii_grid.proofs.progress.Progress.take.Goals as goal
 
 pub returns-then-is_separator-clause-words : goal.returns-then-is_separator-clause-words
@@ -10,7 +10,12 @@ returns-then-is_separator-clause-words c = λ text h.
     (λ _ k. words_after_separator c.args.self.now c.end_word.new.self text c.args.byte h at k)
     (λ f k. fault_after_separator c.args.self.now.judge.scale text c.args.byte f at k)
 
-pub returns-clause-words : goal.returns-clause-words
-returns-clause-words c = λ text h.
+pub returns-then-has_room-clause-words : goal.returns-then-has_room-clause-words
+returns-then-has_room-clause-words c = λ text h.
     let at = sym c.is_separator.ensures ∙ c.if-is_separator.false in
-    words_after_byte c.args.self.now _ text c.args.byte h at refl c.push.ensures
+    words_after_byte c.args.self.now _ text c.args.byte h at refl (c.push_byte.ensures ∙ kept_more h.last c.args.self.now.word c.args.byte h.front (c.has_room.ensures.0 c.if-has_room.true))
+
+pub returns-else-has_room-clause-words : goal.returns-else-has_room-clause-words
+returns-else-has_room-clause-words c = λ text h.
+    let at = sym c.is_separator.ensures ∙ c.if-is_separator.false in
+    words_after_byte c.args.self.now _ text c.args.byte h at refl (kept_full h.last c.args.self.now.word c.args.byte h.front (search rules))

@@ -1,5 +1,4 @@
 use Rattle.std.proofs.Common.{ℕ, List, MatchResult, rules, sym, ap, subst, ◌∙◌}
-use Rattle.std.specs.Prelude.{IfErr, IfOk}
 use Rattle.std.proofs.lemmas.Result.{MatchResult-weaker, err_from_is_err_and}
 use Rattle.terrain.specs.Words.{words}
 use Rattle.ascii_grid.specs.GridText.{IsGridText, IsRefusal}

@@ -10,7 +10,7 @@ pub returns : goal.returns
 returns c =
     let fits : SFits w32 c.in-Some.height = search rules in
     let height = to_z-of_z w32 c.in-Some.height fits in
-    let n : Cells = record { stride = c.self.inside.stride; cells = c.self.inside.cells.items } in
+    let n : Cells = record { stride = c.self.inside.stride; cells = c.self.inside.cells.items; sinks = c.self.inside.sinks.items } in
     let low : c.args.node < length c.self.inside.cells.items = search rules in
     let here : get_or n.cells c.args.node None ≡ Some c.in-Some.height = sym (get_or_read c.self.inside.cells.items c.args.node c.index.result.now low c.index.ensures None) ∙ c.in-Some.is in
     let above : n.stride < c.args.node = search rules in

@@ -3,9 +3,3 @@ use Rattle.fill.proofs.spills.SpillGraph.gather.Goals as goal
 
 pub tile_parts-requires : goal.tile_parts-requires
 tile_parts-requires c = fit_of c.requires.0 c.args.tiling.now c.args.floods.now c.requires.1.lawful c.requires.1
-
-pub of_parts-requires : goal.of_parts-requires
-of_parts-requires c = (c.requires.0, c.args.floods.now, c.requires.1, c.in_ok-parts.ensures)
-
-pub returns : goal.returns
-returns c = λ t are. c.in_ok-of_parts.ensures t c.args.floods.now are c.in_ok-parts.ensures

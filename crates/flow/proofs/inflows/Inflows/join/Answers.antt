@@ -9,73 +9,54 @@ use Rattle.flow.proofs.RimInflows.{entering_few, inflows_are}
 use Rattle.flow.proofs.inflows.Inflows.join.Goals as goal
 
 pub upstream-requires-clause-streams : goal.upstream-requires-clause-streams
-upstream-requires-clause-streams c =
-    rim_streams c.requires.0 c.args.tiling.now c.args.flows.now c.requires.1 c.deref.result.now (c.deref.ensures.value ∙ c.in_ok-links.ensures)
+upstream-requires-clause-streams c = rim_streams _ _ _ c.requires.1 _ (c.deref.ensures.value ∙ c.in_ok-links.ensures)
 
 pub upstream-requires-clause-few : goal.upstream-requires-clause-few
-upstream-requires-clause-few c =
-    omega (
-      arith,
-      links_size c.requires.0 c.args.tiling.now c.args.flows.now c.requires.1 c.deref.result.now (c.deref.ensures.value ∙ c.in_ok-links.ensures),
-      few_numbers c.args.tiling.now c.requires.1.cutting,
-    )
+upstream-requires-clause-few c = omega (arith, links_size _ _ _ c.requires.1 _ (c.deref.ensures.value ∙ c.in_ok-links.ensures), few_numbers _ c.requires.1.cutting)
 
 pub upstream-requires-clause-same : goal.upstream-requires-clause-same
 upstream-requires-clause-same c =
     let made = c.deref.ensures.value ∙ c.in_ok-links.ensures in
-    weights_size c.requires.0 c.args.tiling.now c.args.flows.now c.requires.1 c.requires.2 c.deref.result.now made c.deref-2.result.now (c.deref-2.ensures.value ∙ c.in_ok-weights.ensures)
-    ∙ sym (links_size c.requires.0 c.args.tiling.now c.args.flows.now c.requires.1 c.deref.result.now made)
+    weights_size _ _ _ c.requires.1 c.requires.2 _ made _ (c.deref-2.ensures.value ∙ c.in_ok-weights.ensures) ∙ sym (links_size _ _ _ c.requires.1 _ made)
 
 pub upstream-requires-clause-fits : goal.upstream-requires-clause-fits
-upstream-requires-clause-fits c =
+upstream-requires-clause-fits c i h =
     let made = c.deref.ensures.value ∙ c.in_ok-links.ensures in
-    λ i h. omega (
-      arith,
-      total_few c.requires.0 c.args.tiling.now c.args.flows.now c.requires.1 c.requires.2 c.deref.result.now made c.deref-2.result.now (c.deref-2.ensures.value ∙ c.in_ok-weights.ensures) i
-          (omega (arith, h, links_size c.requires.0 c.args.tiling.now c.args.flows.now c.requires.1 c.deref.result.now made)),
-    )
+    let weighed = c.deref-2.ensures.value ∙ c.in_ok-weights.ensures in
+    omega (arith, total_few _ _ _ c.requires.1 c.requires.2 _ made _ weighed i (omega (arith, h, links_size _ _ _ c.requires.1 _ made)))
 
 pub all_entering-requires-clause-weights : goal.all_entering-requires-clause-weights
 all_entering-requires-clause-weights c =
-    ap length c.deref-3.ensures.value
-    ∙ weights_size c.requires.0 c.args.tiling.now c.args.flows.now c.requires.1 c.requires.2 c.deref.result.now (c.deref.ensures.value ∙ c.in_ok-links.ensures) c.in_ok-weights.weights.items c.in_ok-weights.ensures
+    ap length c.deref-3.ensures.value ∙ weights_size _ _ _ c.requires.1 c.requires.2 _ (c.deref.ensures.value ∙ c.in_ok-links.ensures) _ c.in_ok-weights.ensures
 
 pub all_entering-requires-clause-came : goal.all_entering-requires-clause-came
 all_entering-requires-clause-came c =
-    ap length c.deref-4.ensures.value ∙ c.in_ok-came.ensures.size
-    ∙ links_size c.requires.0 c.args.tiling.now c.args.flows.now c.requires.1 c.deref.result.now (c.deref.ensures.value ∙ c.in_ok-links.ensures)
+    ap length c.deref-4.ensures.value ∙ c.in_ok-came.ensures.size ∙ links_size _ _ _ c.requires.1 _ (c.deref.ensures.value ∙ c.in_ok-links.ensures)
 
 pub all_entering-requires-clause-amounts : goal.all_entering-requires-clause-amounts
-all_entering-requires-clause-amounts c =
+all_entering-requires-clause-amounts c i h =
     let made = c.deref.ensures.value ∙ c.in_ok-links.ensures in
-    let size = links_size c.requires.0 c.args.tiling.now c.args.flows.now c.requires.1 c.deref.result.now made in
-    λ i h. omega (
+    omega (
       arith,
-      c.in_ok-came.ensures.each i (omega (arith, h, size)),
-      total_few c.requires.0 c.args.tiling.now c.args.flows.now c.requires.1 c.requires.2 c.deref.result.now made c.deref-2.result.now (c.deref-2.ensures.value ∙ c.in_ok-weights.ensures) i h,
+      c.in_ok-came.ensures.each i (omega (arith, h, links_size _ _ _ c.requires.1 _ made)),
+      total_few _ _ _ c.requires.1 c.requires.2 _ made _ (c.deref-2.ensures.value ∙ c.in_ok-weights.ensures) i h,
       ap (λ (l : List ℕ). get_or l i 0) c.deref-4.ensures.value,
-      ap (λ (l : List ℕ). get_or l i 0) c.deref-3.ensures.value,
-      ap (λ (l : List ℕ). get_or l i 0) c.deref-2.ensures.value,
+      ap (λ (l : List ℕ). get_or l i 0) (c.deref-3.ensures.value ∙ sym c.deref-2.ensures.value),
     )
 
 pub all_entering-requires-clause-few : goal.all_entering-requires-clause-few
-all_entering-requires-clause-few c =
-    let made = c.deref.ensures.value ∙ c.in_ok-links.ensures in
-    let up : AreUpstream c.deref.result.now c.in_ok-weights.weights.items c.in_ok-came.came.items =
-    subst (λ (w : List ℕ). AreUpstream c.deref.result.now w c.in_ok-came.came.items) c.deref-2.ensures.value c.in_ok-came.ensures in
-    λ k. omega (
+all_entering-requires-clause-few c k =
+    let up = subst (λ (w : List ℕ). AreUpstream c.deref.result.now w c.in_ok-came.came.items) c.deref-2.ensures.value c.in_ok-came.ensures in
+    omega (
       arith,
-      entering_few c.requires.0 c.args.tiling.now c.args.flows.now c.requires.1 c.requires.2 c.deref.result.now c.in_ok-weights.weights.items c.in_ok-came.came.items made c.in_ok-weights.ensures up k,
+      entering_few _ _ _ c.requires.1 c.requires.2 _ _ _ (c.deref.ensures.value ∙ c.in_ok-links.ensures) c.in_ok-weights.ensures up k,
       ap (λ (w : List ℕ). sum_below (entering c.args.tiling.now c.args.flows.now w c.deref-4.result.now k) (number_count c.args.tiling.now)) c.deref-3.ensures.value,
       ap (λ (w : List ℕ). sum_below (entering c.args.tiling.now c.args.flows.now c.in_ok-weights.weights.items w k) (number_count c.args.tiling.now)) c.deref-4.ensures.value,
     )
 
 pub returns-clause-inflows : goal.returns-clause-inflows
-returns-clause-inflows c =
-    let made = c.deref.ensures.value ∙ c.in_ok-links.ensures in
-    let up : AreUpstream c.deref.result.now c.in_ok-weights.weights.items c.in_ok-came.came.items =
-    subst (λ (w : List ℕ). AreUpstream c.deref.result.now w c.in_ok-came.came.items) c.deref-2.ensures.value c.in_ok-came.ensures in
-    let are : AreEntering c.args.tiling.now c.args.flows.now c.in_ok-weights.weights.items c.in_ok-came.came.items c.in_ok-listed.listed.items =
-    subst (λ (w : List ℕ). AreEntering c.args.tiling.now c.args.flows.now w c.in_ok-came.came.items c.in_ok-listed.listed.items) c.deref-3.ensures.value
-    (subst (λ (w : List ℕ). AreEntering c.args.tiling.now c.args.flows.now c.deref-3.result.now w c.in_ok-listed.listed.items) c.deref-4.ensures.value c.in_ok-listed.ensures) in
-    λ d f counts. inflows_are d c.args.tiling.now c.args.flows.now f counts c.deref.result.now c.in_ok-weights.weights.items c.in_ok-came.came.items made c.in_ok-weights.ensures up c.in_ok-listed.listed.items are
+returns-clause-inflows c d f counts =
+    let up = subst (λ (w : List ℕ). AreUpstream c.deref.result.now w c.in_ok-came.came.items) c.deref-2.ensures.value c.in_ok-came.ensures in
+    inflows_are d c.args.tiling.now c.args.flows.now f counts _ _ _ (c.deref.ensures.value ∙ c.in_ok-links.ensures) c.in_ok-weights.ensures up _
+    (subst (λ (w : List ℕ). AreEntering c.args.tiling.now c.args.flows.now w c.in_ok-came.came.items c.in_ok-listed.listed.items) c.deref-3.ensures.value
+    (subst (λ (w : List ℕ). AreEntering c.args.tiling.now c.args.flows.now c.deref-3.result.now w c.in_ok-listed.listed.items) c.deref-4.ensures.value c.in_ok-listed.ensures))

@@ -18,21 +18,18 @@ count_before-counted-requires-clause-counted c =
 
 pub overflow_add-result : goal.overflow_add-result
 overflow_add-result c =
-    let n = c.self.inside in
-    let below : c.args.index < length n.runs.codes = omega (arith, c.requires, ap length c.self.view_is) in
-    let here = counted_here n.runs n.counts.items n.before.items c.length.ensures.lawful c.self.invariant c.args.index below c.length.ensures.value c.length-2.ensures.value c.codes.ensures.value c.index-2.ensures c.count_before-counted.ensures in
+    let below : c.args.index < length c.self.inside.runs.codes = omega (arith, c.requires, ap length c.self.view_is) in
+    let here = counted_here _ _ _ c.length.ensures.lawful c.self.invariant c.args.index below c.length.ensures.value c.length-2.ensures.value c.codes.ensures.value c.index-2.ensures c.count_before-counted.ensures in
     omega (arith, here.1)
 
 pub overflow_add-result-2 : goal.overflow_add-result-2
 overflow_add-result-2 c =
-    let n = c.self.inside in
-    let below : c.args.index < length n.runs.codes = omega (arith, c.requires, ap length c.self.view_is) in
-    let here = counted_here n.runs n.counts.items n.before.items c.length.ensures.lawful c.self.invariant c.args.index below c.length.ensures.value c.length-2.ensures.value c.codes.ensures.value c.index-2.ensures c.count_before-counted.ensures in
+    let below : c.args.index < length c.self.inside.runs.codes = omega (arith, c.requires, ap length c.self.view_is) in
+    let here = counted_here _ _ _ c.length.ensures.lawful c.self.invariant c.args.index below c.length.ensures.value c.length-2.ensures.value c.codes.ensures.value c.index-2.ensures c.count_before-counted.ensures in
     omega (arith, here.1)
 
 pub returns : goal.returns
 returns c =
-    let n = c.self.inside in
-    let below : c.args.index < length n.runs.codes = omega (arith, c.requires, ap length c.self.view_is) in
-    let here = counted_here n.runs n.counts.items n.before.items c.length.ensures.lawful c.self.invariant c.args.index below c.length.ensures.value c.length-2.ensures.value c.codes.ensures.value c.index-2.ensures c.count_before-counted.ensures in
+    let below : c.args.index < length c.self.inside.runs.codes = omega (arith, c.requires, ap length c.self.view_is) in
+    let here = counted_here _ _ _ c.length.ensures.lawful c.self.invariant c.args.index below c.length.ensures.value c.length-2.ensures.value c.codes.ensures.value c.index-2.ensures c.count_before-counted.ensures in
     omega (arith, here.0, ap (λ (l : List (Option ℕ)). count_by is_outlet_code (take c.args.index l)) c.self.view_is)

@@ -1,4 +1,4 @@
-use Rattle.std.proofs.Common.{◌≡◌, ℕ, ◌<◌, List, length, get_or, ap, ◌∙◌, arith}
+use Rattle.std.proofs.Common.{ℕ, ◌<◌, List, length, get_or, ap, ◌∙◌, arith}
 use Rattle.std.proofs.lemmas.List.FromFn.{length-map-range_with_len}
 use Rattle.flow.specs.RimNumbers.{number_count}
 use Rattle.flow.specs.RimGraph.{rim_outlet, rim_outlets_by}
@@ -8,29 +8,21 @@ use Rattle.flow.proofs.RimFlows.{links_size, rim_streams, outlets_are}
 use Rattle.flow.proofs.outlets.Outlets.join.Goals as goal
 
 pub ends-requires-clause-streams : goal.ends-requires-clause-streams
-ends-requires-clause-streams c =
-    rim_streams c.requires.0 c.args.tiling.now c.args.flows.now c.requires.1 c.deref.result.now (c.deref.ensures.value ∙ c.in_ok-links.ensures)
+ends-requires-clause-streams c = rim_streams _ _ _ c.requires.1 _ (c.deref.ensures.value ∙ c.in_ok-links.ensures)
 
 pub ends-requires-clause-few : goal.ends-requires-clause-few
-ends-requires-clause-few c =
-    omega (
-      arith,
-      links_size c.requires.0 c.args.tiling.now c.args.flows.now c.requires.1 c.deref.result.now (c.deref.ensures.value ∙ c.in_ok-links.ensures),
-      few_numbers c.args.tiling.now c.requires.1.cutting,
-    )
+ends-requires-clause-few c = omega (arith, links_size _ _ _ c.requires.1 _ (c.deref.ensures.value ∙ c.in_ok-links.ensures), few_numbers _ c.requires.1.cutting)
 
 pub rim_outlets-requires-clause-size : goal.rim_outlets-requires-clause-size
 rim_outlets-requires-clause-size c =
-    ap length c.deref-2.ensures.value ∙ c.in_ok-ends.ensures.size
-    ∙ links_size c.requires.0 c.args.tiling.now c.args.flows.now c.requires.1 c.deref.result.now (c.deref.ensures.value ∙ c.in_ok-links.ensures)
+    ap length c.deref-2.ensures.value ∙ c.in_ok-ends.ensures.size ∙ links_size _ _ _ c.requires.1 _ (c.deref.ensures.value ∙ c.in_ok-links.ensures)
 
 pub rim_outlets-requires-clause-inside : goal.rim_outlets-requires-clause-inside
 rim_outlets-requires-clause-inside c =
     let made = c.deref.ensures.value ∙ c.in_ok-links.ensures in
-    let size = links_size c.requires.0 c.args.tiling.now c.args.flows.now c.requires.1 c.deref.result.now made in
-    let streams = rim_streams c.requires.0 c.args.tiling.now c.args.flows.now c.requires.1 c.deref.result.now made in
+    let size = links_size _ _ _ c.requires.1 _ made in
     λ i h. (let here : i < length c.deref.result.now = omega (arith, h, size) in
-    omega (arith, ap (λ (l : List ℕ). get_or l i 0) c.deref-2.ensures.value, c.in_ok-ends.ensures.each i here, end-inside c.deref.result.now streams i here, size))
+    omega (arith, ap (λ (l : List ℕ). get_or l i 0) c.deref-2.ensures.value, c.in_ok-ends.ensures.each i here, end-inside _ (rim_streams _ _ _ c.requires.1 _ made) i here, size))
 
 pub invariant_of-result : goal.invariant_of-result
 invariant_of-result c = (
@@ -39,8 +31,6 @@ invariant_of-result c = (
 )
 
 pub returns-clause-outlets : goal.returns-clause-outlets
-returns-clause-outlets c =
-    let listed : c.in_ok-outlets.outlets.items ≡ rim_outlets_by c.args.tiling.now c.args.flows.now c.in_ok-ends.ends.items =
-    c.in_ok-outlets.ensures ∙ ap (rim_outlets_by c.args.tiling.now c.args.flows.now) c.deref-2.ensures.value in
-    λ d f. outlets_are d c.args.tiling.now c.args.flows.now f c.deref.result.now (c.deref.ensures.value ∙ c.in_ok-links.ensures)
-    c.in_ok-ends.ends.items c.in_ok-ends.ensures c.in_ok-outlets.outlets.items listed
+returns-clause-outlets c d f =
+    outlets_are d c.args.tiling.now c.args.flows.now f _ (c.deref.ensures.value ∙ c.in_ok-links.ensures) _ c.in_ok-ends.ensures _
+    (c.in_ok-outlets.ensures ∙ ap (rim_outlets_by c.args.tiling.now c.args.flows.now) c.deref-2.ensures.value)

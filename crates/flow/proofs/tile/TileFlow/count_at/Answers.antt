@@ -1,8 +1,7 @@
 use Rattle.std.proofs.Common.{◌≡◌, ◌<◌, length, get_or, None, sym, ap, subst, ◌∙◌, arith}
 use Rattle.std.proofs.lemmas.List.{get_or_default}
 use Rattle.flow.specs.TileFlow.{Flow}
-use Rattle.flow.specs.TileLinks.{where_data}
-use Rattle.flow.proofs.Listed.{through_at, through_past}
+use Rattle.flow.proofs.Listed.{made_at, through_past}
 use Rattle.flow.proofs.tile.TileFlow.count_at.Goals as goal
 
 pub returns-then-index-len : goal.returns-then-index-len
@@ -13,10 +12,8 @@ returns-then-index-len c =
     let seen = ap (λ (f : Flow). length f.codes) c.self.view_is in
     let below : c.args.index < length c.self.inside.codes.items = omega (arith, c.requires, seen) in
     let there : c.args.index < length c.self.inside.came.items = omega (arith, c.if-index-len.true, c.len.ensures, c.self.inside.came.ok.0) in
-    let code = c.index.ensures ∙ get_or_default cells i c.index.result.now None below in
-    let count = c.index-then-index-len.ensures ∙ get_or_default came i c.index-then-index-len.result.now 0 there in
     subst (λ (f : Flow). c.where_data.result ≡ get_or f.through c.args.index None) c.self.view_is
-    (c.where_data.ensures ∙ ap (λ n. where_data c.index.result.now n) count ∙ ap (λ o. where_data o (get_or c.self.inside.came.items c.args.index 0)) code ∙ sym (through_at cells came i there))
+    (c.where_data.ensures ∙ made_at cells (λ i. get_or came i 0) (length came) i _ _ below there c.index.ensures (c.index-then-index-len.ensures ∙ get_or_default came i c.index-then-index-len.result.now 0 there))
 
 pub returns-else-index-len : goal.returns-else-index-len
 returns-else-index-len c =

@@ -1,4 +1,4 @@
-use Rattle.std.proofs.Common.{◌≡◌, ◌-◌, ◌*◌, ℕ, subst, ap, arith}
+use Rattle.std.proofs.Common.{◌≡◌, ◌-◌, ◌*◌, ℕ, subst, arith}
 use Rattle.tile_maps.specs.Maps.{AreMadeBelow}
 use Rattle.tile_maps.proofs.TileLists.{made_tile}
 use Rattle.sight.specs.Viewed.{HasValue}

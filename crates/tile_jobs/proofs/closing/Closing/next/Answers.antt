@@ -13,7 +13,7 @@ returns-in-Job c =
     let t : TookNext u (Job j ∷ []) (worker_view c.pop_next.new.worker) = c.in-Job.ensures.took in
     let none : u.marks ≡ 0 = t.0.4 in
     let at : taken u ≡ length (all_taken u) = omega (arith, none) in
-    let next = feed_job_at u.jobs u.seats u.deque (length (all_taken u)) j (rw at at t.1) in
+    let next = feed_job_at u.jobs u.seats u.deque (length (all_taken u)) j t.1.0 (rw at at t.1.1) in
     rw (← c.self.view_is, t.0.0, c.pop_next.ensures.same.0) (refl, none, next)
 
 pub returns-in-End : goal.returns-in-End
@@ -23,5 +23,5 @@ returns-in-End c =
     let unmarked = rw (← c.self.view_is) at c.requires.unmarked in
     let leave : 0 < u.leaves = c.self.invariant.0.3 unmarked in
     let back : u.leaves - 1 + suc u.marks ≡ u.leaves + u.marks = omega arith in
-    let past = feed_end_at u.jobs u.seats u.deque (taken u) t.1 in
+    let past = feed_end_at u.jobs u.seats u.deque (taken u) t.1.0 t.1.1 in
     rw (← c.self.view_is, t.0, c.pop_next.ensures.same.0) (rw back refl, λ z. omega (arith, past, z))

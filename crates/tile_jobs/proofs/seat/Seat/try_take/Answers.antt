@@ -9,7 +9,6 @@ put-requires c =
     let s : SeatState = seat_of c.self.inside.number c.self.inside.own c.self.inside.others.items c.self.inside.taken.items in
     let h : IsSeat s = c.self.invariant.0 in
     let t : TookJob c.self.inside.own c.in-Some.job c.take.new.self = c.in-Some.ensures in
-    let jobs : c.take.new.self.jobs ≡ c.self.inside.own.jobs = t.0.1 in
     let room = own_room s c.in-Some.job c.take.new.self h t in
     let size : vec_len c.self.inside.taken ≡ length c.self.inside.taken.items = search rules in
     omega (arith, room, c.self.invariant.1, size)
@@ -31,7 +30,6 @@ put-requires-in-Job c =
     let h1 : IsSeat s1 = kept_own s c.take.new.self h c.in_default.ensures.0 in
     let fs : List EndState = c.steal_round.new.others.items in
     let t : TookAmong c.self.inside.others.items c.in-Job.job fs = c.in-Job.ensures.ends in
-    let len : length fs ≡ length c.self.inside.others.items = grind (arith, common_steps) in
     let room = others_room s1 c.in-Job.job fs h1 t in
     let size : vec_len c.self.inside.taken ≡ length c.self.inside.taken.items = search rules in
     omega (arith, room, c.self.invariant.1, size)

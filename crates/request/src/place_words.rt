@@ -1,0 +1,67 @@
+// Observers and sinks as words of the command line.
+ghost use Rattle.std.specs.Prelude.{◌≡◌, ◌==◌, ◌∷◌, [], Some, None, IfSome, IfNone, if◌then◌else◌};
+ghost use Rattle.std.specs.List.{slice_split, position};
+ghost use Rattle.terrain.specs.Decimal.{number_of};
+ghost use Rattle.request.specs.PlaceWords.{is_number, observer_of, sink_of};
+
+use ascii_grid::whole_number;
+use sight::Observer;
+use terrain::Place;
+
+// The most digits of a number.
+const MOST_DIGITS: usize = 10;
+
+fn comma_at(bytes: &[u8]) -> Option<usize>
+    ensures { result ≡ position (λ b. b == 44) bytes.now }
+{
+    bytes.iter().position(|b| *b == b',')
+}
+
+/// What stands before and after the first comma.
+fn split_at_comma(bytes: &[u8]) -> Option<(&[u8], &[u8])>
+    ensures some { IfSome result (λ parts.
+        slice_split (λ b. b == 44) bytes.now ≡ parts.0.now ∷ slice_split (λ b. b == 44) parts.1.now) }
+    ensures none { IfNone result (slice_split (λ b. b == 44) bytes.now ≡ bytes.now ∷ []) }
+{
+    let at = comma_at(bytes)?;
+    Some((&bytes[..at], &bytes[at + 1..]))
+}
+
+fn number(part: &[u8]) -> Option<u32>
+    ensures { result ≡ (if is_number part.now then Some (number_of part.now) else None) }
+{
+    if part.len() > MOST_DIGITS {
+        return None;
+    }
+    whole_number(part)
+}
+
+/// The observer of three whole numbers of 1 to 10 digits that fit 32 bits, joined by commas: row,
+/// column and eye height. None for any other word.
+pub fn parse_observer(word: &str) -> Option<Observer>
+    ensures { result ≡ observer_of word.now }
+{
+    let (row, rest) = split_at_comma(word.as_bytes())?;
+    let (col, eye) = split_at_comma(rest)?;
+    if let Some((_, _)) = split_at_comma(eye) {
+        return None;
+    }
+    let row = number(row)?;
+    let col = number(col)?;
+    let eye = number(eye)?;
+    Some(Observer { row, col, eye })
+}
+
+/// The place of two whole numbers of 1 to 10 digits that fit 32 bits, joined by a comma: row and
+/// column. None for any other word.
+pub fn parse_sink(word: &str) -> Option<Place>
+    ensures { result ≡ sink_of word.now }
+{
+    let (row, col) = split_at_comma(word.as_bytes())?;
+    if let Some((_, _)) = split_at_comma(col) {
+        return None;
+    }
+    let row = number(row)?;
+    let col = number(col)?;
+    Some(Place { row, col })
+}

@@ -1,0 +1,75 @@
+-- Named sinks lie in the grid.
+use Rattle.std.proofs.Common.{◌≡◌, ◌+◌, ℕ, zero, suc, not, ◌&&◌, List, [], ◌∷◌, length, Option, None, Some, fold, refl, sym, ap, subst, ◌∙◌, inl, inr, arith, is_none}
+use Rattle.std.specs.Prelude.{nat_lt, if◌then◌else◌}
+use Rattle.std.specs.List.{All, list_any}
+use Rattle.std.specs.Option.{option_or}
+use Rattle.std.proofs.lemmas.Bool.{and_parts, cases_Bool, cond-true, cond-false, ltb-true}
+use Rattle.std.proofs.lemmas.List.Elements.{All-append}
+use Rattle.terrain.specs.Raster.{Terrain, Raster, IsLawful}
+use Rattle.terrain.specs.Neighbours.{IsInside, height_at}
+use Rattle.terrain.specs.Sinks.{is_place, named_once, each_once, sink_fault_of, first_sink_fault, sinks_fault, most_sinks, raster_with_sinks}
+use Rattle.terrain.specs.declared.place.Place.{Place}
+use Rattle.terrain.specs.declared.sinks.SinkFault.{SinkFault}
+use Rattle.terrain.specs.declared.sinks.SinkFault.TheVariants.{Outside, OnNodata, TooManySinks}
+
+none_of_both : (a b : Option SinkFault) → option_or a b ≡ None → (a ≡ None) × (b ≡ None)
+none_of_both None b h = (refl, h)
+none_of_both (Some f) b h = absurd (cc)
+
+inside : (t : Terrain) (i : ℕ) (p : Place) → sink_fault_of t i p ≡ None → IsInside t p
+inside t i p h = elim (cases_Bool (nat_lt p.row t.rows && nat_lt p.col t.cols)) [
+  | inl is ↦ let both = and_parts (nat_lt p.row t.rows) (nat_lt p.col t.cols) is in (ltb-true _ _ both.0, ltb-true _ _ both.1)
+  | inr isnt ↦
+      let fault : sink_fault_of t i p ≡ Some (Outside i) =
+      ap (λ b. if not b then Some (Outside i) else if is_none (height_at t p) then Some (OnNodata i) else None) isnt in
+      absurd (cc)
+]
+
+all_inside : (t : Terrain) (i : ℕ) (places : List Place) → first_sink_fault t i places ≡ None → All (IsInside t) places
+all_inside t i [] h k d below = absurd (omega (arith, below))
+all_inside t i (p ∷ rest) h zero d below = inside t i p (none_of_both (sink_fault_of t i p) (first_sink_fault t (i + 1) rest) h).0
+all_inside t i (p ∷ rest) h (suc k) d below =
+    all_inside t (i + 1) rest (none_of_both (sink_fault_of t i p) (first_sink_fault t (i + 1) rest) h).1 k d (omega (arith, below))
+
+named : (P : Place → Type 0) (places : List Place) (p : Place) → All P places → P p → All P (named_once places p)
+named P places p all one = elim (cases_Bool (list_any (is_place p) places)) [
+  | inl is ↦ subst (All P) (sym (cond-true _ _ _ is)) all
+  | inr isnt ↦ subst (All P) (sym (cond-false _ _ _ isnt)) (All-append P places (p ∷ []) all (alone P p one))
+] where
+  alone : (P : Place → Type 0) (p : Place) → P p → All P (p ∷ [])
+  alone P p one zero d below = one
+  alone P p one (suc k) d below = absurd (omega (arith, below))
+
+all_named : (P : Place → Type 0) (places rest : List Place) → All P places → All P rest → All P (fold named_once places rest)
+all_named P places [] all more = all
+all_named P places (p ∷ rest) all more =
+    all_named P (named_once places p) rest (named P places p all (more 0 p (omega arith))) (λ k d below. more (suc k) d (omega (arith, below)))
+
+sinks_inside : (t : Terrain) (sinks : List Place) → sinks_fault t sinks ≡ None → All (IsInside t) (each_once sinks)
+sinks_inside t sinks h = all_named (IsInside t) [] sinks (λ k d below. absurd (omega (arith, below))) (all_inside t 0 sinks
+    (elim (cases_Bool (nat_lt most_sinks (length sinks))) [
+      | inl many ↦ let fault : sinks_fault t sinks ≡ Some TooManySinks = cond-true _ _ _ many in absurd (cc)
+      | inr few ↦ sym (cond-false _ _ _ few) ∙ h
+    ]))
+
+pub lawful_with_sinks : (g : Raster) (sinks : List Place) → IsLawful g → sinks_fault g.terrain sinks ≡ None → IsLawful (raster_with_sinks g sinks)
+lawful_with_sinks g sinks lawful fault =
+    let t = lawful.terrain in
+    record {
+      terrain = record {
+        some_col = t.some_col;
+        some_row = t.some_row;
+        few_cols = t.few_cols;
+        few_rows = t.few_rows;
+        size = t.size;
+        heights = t.heights;
+        sinks = sinks_inside g.terrain sinks fault;
+      };
+      scale = lawful.scale;
+      xll = lawful.xll;
+      yll = lawful.yll;
+      cellsize = lawful.cellsize;
+      above_zero = lawful.above_zero;
+      nodata = lawful.nodata;
+      apart = lawful.apart;
+    }

@@ -1,0 +1,90 @@
+// Named sinks, judged and counted once.
+ghost use Rattle.std.specs.Prelude.{◌≡◌, ◌+◌, ◌<◌, ◌≤◌, length, IfOk};
+ghost use Rattle.std.specs.List.{list_any};
+ghost use Rattle.terrain.specs.declared.sinks.SinkFault.TheVariants.{Memory};
+ghost use Rattle.terrain.specs.Sinks.{each_once, first_sink_fault, is_place, most_sinks, named_once, sink_fault_of, sinks_fault};
+
+use crate::grid::Grid;
+use crate::place::Place;
+use std::alloc::{AllocError, Global};
+
+/// The most entries of a list of sinks, repeats counted.
+pub const MOST_SINKS: usize = 1_024;
+
+/// Why places cannot be named as sinks; an index is a place in the list that was lent, from 0.
+#[derive(Clone, Copy, Debug, PartialEq, Eq)]
+pub enum SinkFault {
+    /// The sink at this index lies outside the grid.
+    Outside(u32),
+    /// The sink at this index has no data.
+    OnNodata(u32),
+    /// The list has more than [`MOST_SINKS`] entries.
+    TooManySinks,
+    /// There was no memory for the grid.
+    Memory,
+}
+
+impl From<AllocError> for SinkFault {
+    ghost from_gives = { λ _ fault. fault ≡ Memory };
+
+    fn from(_error: AllocError) -> Self {
+        SinkFault::Memory
+    }
+}
+
+/// What is wrong with the sink that stands at `index`.
+fn sink_fault_at(grid: &Grid, sink: Place, index: u32) -> Option<SinkFault>
+    ensures { result ≡ sink_fault_of grid.now.terrain index sink }
+{
+    if sink.row >= grid.rows() || sink.col >= grid.cols() {
+        return Some(SinkFault::Outside(index));
+    }
+    if grid.at(sink).is_none() {
+        return Some(SinkFault::OnNodata(index));
+    }
+    None
+}
+
+/// The first sink that lies outside the grid or has no data.
+fn first_bad_sink(grid: &Grid, sinks: &[Place]) -> Option<SinkFault>
+    requires { length sinks.now ≤ most_sinks }
+    ensures { result ≡ first_sink_fault grid.now.terrain 0 sinks.now }
+{
+    for (index, sink) in sinks.iter().enumerate() {
+        let fault = sink_fault_at(grid, *sink, index as u32);
+        if fault.is_some() {
+            return fault;
+        }
+    }
+    None
+}
+
+/// The first fault of sinks over a grid.
+pub(crate) fn first_fault(grid: &Grid, sinks: &[Place]) -> Option<SinkFault>
+    ensures { result ≡ sinks_fault grid.now.terrain sinks.now }
+{
+    if sinks.len() > MOST_SINKS {
+        return Some(SinkFault::TooManySinks);
+    }
+    first_bad_sink(grid, sinks)
+}
+
+/// Whether a place is one of these.
+pub(crate) fn is_one_of(places: &[Place], place: Place) -> bool
+    ensures { result ≡ list_any (is_place place) places.now }
+{
+    places.contains(&place)
+}
+
+/// These places, each once, in the order of first naming.
+pub(crate) fn each_once(alloc: Global, places: &[Place]) -> Result<Vec<Place>, AllocError>
+    ensures { IfOk result (λ v. v.items ≡ each_once places.now) }
+{
+    let mut named: Vec<Place> = Vec::new(alloc);
+    for place in places {
+        if !is_one_of(&named, *place) {
+            named.push(*place)?;
+        }
+    }
+    Ok(named)
+}
