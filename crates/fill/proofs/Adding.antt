@@ -17,8 +17,8 @@ use Rattle.fill.specs.TileFlood.{Flood}
 use Rattle.fill.specs.Gathering.{mark_among, Meets, IsMeetingAt, joins_of, Adds, AddsCovered, Covered}
 use Rattle.fill.specs.declared.spills.Join.{Join}
 use Rattle.fill.specs.declared.marks.Mark.{Mark}
-use Rattle.fill.proofs.Steps.{none_some}
-use Rattle.fill.proofs.Heaps.{cons_head, cons_cases, one_held}
+use Rattle.floods.proofs.Steps.{none_some}
+use Rattle.floods.proofs.Heaps.{cons_head, cons_cases, one_held}
 
 -- the join of two marks
 joins_of_differ : (from to : Mark) → from.node ≢ to.node → joins_of from (Some to) ≡ record { from = from.node; to = to.node; height = int_max from.level to.level } ∷ []

@@ -7,21 +7,22 @@ use Rattle.std.proofs.lemmas.Option.{MatchOption-at_some, MatchOption-at_none, s
 use Rattle.terrain.specs.Neighbours.{index_of}
 use Rattle.terrain.specs.declared.place.Place.{Place}
 use Rattle.tiles.specs.declared.bounds.Bounds.{Bounds}
-use Rattle.tiles.specs.Cutting.{Cutting, IsCutting, IsWithin, IsInTile, IsInBounds, tile_count, tile_of_place, bounds_of}
-use Rattle.tiles.proofs.Cut.{in_tile}
-use Rattle.fill.specs.TileFlood.{Flood, LabelsInside, is_in_bounds, level_in, label_in, entry_in, AreEqualAround, HasOneLabelAround, IsInner}
+use Rattle.tiles.specs.Cutting.{Cutting, IsCutting, IsWithin, IsInTile, IsInBounds, tile_count, tile_of_place, bounds_of, is_in_bounds}
+use Rattle.tiles.proofs.Cut.{in_tile, in_bounds_parts}
+use Rattle.fill.specs.TileFlood.{Flood, LabelsInside, level_in, label_in, entry_in, AreEqualAround, HasOneLabelAround, IsInner, IsFlood}
 use Rattle.fill.specs.Labels.{labels_by}
 use Rattle.fill.specs.Gathering.{Fit, mark_of, mark_among, Meets, Adds, mark_with, joins_of, AddsAround, AddsCovered}
 use Rattle.fill.specs.declared.spills.Join.{Join}
 use Rattle.fill.specs.declared.marks.Mark.{Mark}
 use Rattle.std.proofs.lemmas.Nat.{mul-le}
 use Rattle.std.proofs.lemmas.List.Elements.{All-contains}
-use Rattle.fill.specs.Cells.{cells_around}
-use Rattle.fill.proofs.CellWays.{beside_around}
-use Rattle.fill.proofs.Windows.{rows_beside}
-use Rattle.fill.proofs.Steps.{seen}
+use Rattle.floods.specs.Cells.{cells_around}
+use Rattle.floods.proofs.CellWays.{beside_around}
+use Rattle.floods.proofs.Windows.{rows_beside}
+use Rattle.floods.proofs.Steps.{seen}
 use Rattle.fill.proofs.Adding.{covered_itself, joins_of_is, HasAdded, none_added, added_more, all_added, no_mark_adds}
-use Rattle.fill.proofs.TileWindows.{in_bounds_parts, bounds_from_entry, entry_in-inside, entry_index}
+use Rattle.fill.proofs.LabelTables.{cells_size}
+use Rattle.fill.proofs.TileWindows.{bounds_from_entry, entry_in-inside, entry_index}
 
 -- a label lies in the grid
 pub label_within : (c : Cutting) (f : Flood) (p label : Place) → length f.labels ≡ f.bounds.rows * f.bounds.cols → LabelsInside c f → label_in f p ≡ Some label → IsWithin c label
@@ -92,9 +93,10 @@ label_by_entry b places cells p size i =
     ∙ get_or-map (λ k. get_or places k None) cells ((p.row - b.top) * b.cols + (p.col - b.left)) 0 None (omega (arith, size, entry_index b p i))
 
 -- where the entries are equal around a cell that is not on the rim, so are the labels
-pub one_label_around : (f : Flood) (places : List (Option Place)) (cells : List ℕ) (p : Place) (i : ℕ) → f.labels ≡ labels_by places cells → length cells ≡ f.bounds.rows * f.bounds.cols → IsInner f.bounds p → i ≡ (p.row - f.bounds.top) * f.bounds.cols + (p.col - f.bounds.left) → AreEqualAround cells i f.bounds.cols → HasOneLabelAround f p
-one_label_around f places cells p i are size inner at e q t =
+pub one_label_around : (f : Flood) (places : List (Option Place)) (cells : List ℕ) (p : Place) (i : ℕ) → f.labels ≡ labels_by places cells → IsFlood f → IsInner f.bounds p → i ≡ (p.row - f.bounds.top) * f.bounds.cols + (p.col - f.bounds.left) → AreEqualAround cells i f.bounds.cols → HasOneLabelAround f p
+one_label_around f places cells p i are lawful inner at e q t =
     let b = f.bounds in
+    let size = cells_size f places cells are lawful ∙ lawful.levels_size in
     let row : 1 ≤ p.row - b.top = omega (arith, inner) in
     let col : 1 ≤ p.col - b.left = omega (arith, inner) in
     let here : IsInBounds b p = (omega (arith, inner), omega (arith, inner), omega (arith, inner), omega (arith, inner)) in

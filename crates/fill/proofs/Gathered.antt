@@ -21,17 +21,17 @@ use Rattle.fill.specs.Parts.{IsPart, AreParts, IsGraph, joins_by_part, graph_of_
 use Rattle.fill.specs.declared.parts.Part.{Part}
 use Rattle.fill.specs.declared.spills.Join.{Join}
 use Rattle.fill.specs.declared.marks.Mark.{Mark}
-use Rattle.fill.proofs.Steps.{seen, none_some, none_done}
-use Rattle.fill.specs.CellJoins.{max_comm}
-use Rattle.fill.proofs.Heaps.{all_by_contains, not_some}
-use Rattle.fill.proofs.Windows.{data_is, height_is}
+use Rattle.floods.proofs.Steps.{seen, none_some, none_done}
+use Rattle.floods.specs.CellJoins.{max_comm}
+use Rattle.floods.proofs.Heaps.{all_by_contains, not_some}
+use Rattle.floods.proofs.Windows.{data_is, height_is}
 use Rattle.fill.proofs.TileWindows.{data_within, entry_in-inside}
 use Rattle.drainage.proofs.Heights.{first_is_data, trans}
 use Rattle.drainage.proofs.Uniqueness.{between}
 use Rattle.fill.proofs.Rims.{HasTileLevel, has_tile_level, level_has_data, label_has_data, label_in_tile, source_level, end_label, list_there, among_is}
 use Rattle.fill.proofs.CellMarks.{label_within, mark_some, mark_parts, mark_outside}
 use Rattle.fill.proofs.Adding.{no_join}
-use Rattle.fill.proofs.Waits.{in_some_list, in_lists}
+use Rattle.floods.proofs.Waits.{in_some_list, in_lists}
 use Rattle.fill.proofs.GraphParts.{part_there, part_with}
 
 -- the lowest joins of a tile

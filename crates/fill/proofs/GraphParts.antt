@@ -11,12 +11,12 @@ use Rattle.fill.specs.declared.spills.Join.{Join}
 use Rattle.fill.proofs.Adding.{no_join}
 use Rattle.fill.specs.declared.parts.Part.{Part}
 use Rattle.std.proofs.lemmas.List.Elements.{All-contains, Contains-get_or}
-use Rattle.fill.specs.declared.net.Spill.{Spill}
-use Rattle.fill.specs.Walk.{HasJust}
+use Rattle.floods.specs.declared.net.Spill.{Spill}
+use Rattle.floods.specs.Walk.{HasJust}
 use Rattle.fill.specs.Spills.{Graph, HasJoin}
 use Rattle.fill.specs.Gathering.{AreRising, IsBefore, way_of}
-use Rattle.fill.proofs.Waits.{in_some_list, in_lists}
-use Rattle.fill.proofs.Heaps.{all_by_contains}
+use Rattle.floods.proofs.Waits.{in_some_list, in_lists}
+use Rattle.floods.proofs.Heaps.{all_by_contains}
 
 -- The parts of the first tiles.
 pub record AreFirstParts (c : Cutting) (floods : List Flood) (count : ℕ) (parts : List Part) : Type 0 where

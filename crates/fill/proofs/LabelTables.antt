@@ -1,17 +1,17 @@
 -- Labels by a table of their places.
-use Rattle.std.proofs.Common.{◌≡◌, ◌≢◌, ◌==◌, ℕ, ◌+◌, ◌<◌, ◌≤◌, inl, inr, zero, suc, List, [], ◌∷◌, ◌++◌, map, take, drop, length, get_or, Option, None, Some, ◌∙◌, sym, ap, subst, refl, arith, append_assoc}
+use Rattle.std.proofs.Common.{◌≡◌, ◌≢◌, ◌==◌, ℕ, ◌+◌, ◌<◌, ◌≤◌, inl, inr, zero, suc, List, [], ◌∷◌, ◌++◌, map, take, length, get_or, Option, None, Some, ◌∙◌, sym, ap, subst, refl, arith}
 use Rattle.std.specs.Prelude.{IfSome}
 use Rattle.std.specs.List.{All}
 use Rattle.std.proofs.lemmas.Bool.{cases_eq, cases_lt, eq-eqb, eqb-true, or_left}
-use Rattle.std.proofs.lemmas.List.{length-map, map-append, map_more, get_or_past, get_or_append_left, get_or_push, length_push, get_or-drop, get_or-take, get_or-map, get_or_default, length-take}
+use Rattle.std.proofs.lemmas.List.{length-map, map-append, map_more, get_or_past, get_or_append_left, get_or_push, length_push, get_or-map, get_or_default}
 use Rattle.std.proofs.lemmas.List.Elements.{All-push}
 use Rattle.std.proofs.lemmas.List.Folds.{list_any-append, list_any_at, Any-from_list_any}
 use Rattle.terrain.specs.declared.place.Place.{Place}
 use Rattle.tiles.specs.declared.bounds.Bounds.{Bounds}
 use Rattle.tiles.specs.Cutting.{Cutting, IsWithin}
-use Rattle.fill.specs.Labels.{labels_by, IsTable, label_of_node, AreNodesBelow, IsListedAt}
+use Rattle.fill.specs.Labels.{labels_by, IsTable, label_of_node, IsListedAt}
 use Rattle.fill.specs.TileFlood.{Flood, IsFlood, LabelsInside}
-use Rattle.fill.proofs.Steps.{none_some, seen}
+use Rattle.floods.proofs.Steps.{none_some, seen}
 
 -- a table that keeps its entries keeps the labels
 labels_kept : (old new : List (Option Place)) (cells : List ℕ) → All (λ k. k < length old) cells → ((k : ℕ) → k < length old → get_or new k None ≡ get_or old k None) → labels_by new cells ≡ labels_by old cells
@@ -67,18 +67,8 @@ cell_label index label old new cells more table at is =
     ∙ ap (λ z. z ++ get_or new index None ∷ []) (labels_kept old new cells table.inside (listed_kept index label old new at))
     ∙ ap (λ z. labels_by old cells ++ z ∷ []) at.is
 
-pub labels_more : (b : Bounds) (first now next : List (Option Place)) (nodes : List (Option ℕ)) (i : ℕ) → i < length nodes → now ≡ first ++ map (label_of_node b) (take i nodes) → next ≡ now ++ label_of_node b (get_or nodes i None) ∷ [] → next ≡ first ++ map (label_of_node b) (take (i + 1) nodes)
-labels_more b first now next nodes i low is more =
-    more ∙ ap (λ z. z ++ label_of_node b (get_or nodes i None) ∷ []) is
-    ∙ append_assoc first (map (label_of_node b) (take i nodes)) (label_of_node b (get_or nodes i None) ∷ [])
-    ∙ ap (λ z. first ++ z) (sym (map_more (label_of_node b) nodes i None low))
-
--- nodes of a part of a list
-pub nodes_between : (nodes : List (Option ℕ)) (count from cols : ℕ) → AreNodesBelow count nodes → AreNodesBelow count (take cols (drop from nodes))
-nodes_between nodes count from cols below k node e = elim (cases_lt k cols) [
-  | inl low ↦ below (from + k) node (sym (get_or-drop from nodes k None) ∙ sym (get_or-take cols (drop from nodes) k None low) ∙ e)
-  | inr past ↦ none_some _ node (get_or_past (take cols (drop from nodes)) k None (omega (arith, past, length-take cols (drop from nodes)))) e
-]
+pub labels_more : (b : Bounds) (now next : List (Option Place)) (nodes : List (Option ℕ)) (i : ℕ) → i < length nodes → now ≡ map (label_of_node b) (take i nodes) → next ≡ now ++ label_of_node b (get_or nodes i None) ∷ [] → next ≡ map (label_of_node b) (take (i + 1) nodes)
+labels_more b now next nodes i low is more = more ∙ ap (λ z. z ++ label_of_node b (get_or nodes i None) ∷ []) is ∙ sym (map_more (label_of_node b) nodes i None low)
 
 -- each place of the table of a flood whose labels lie in the grid lies in it
 pub places_within : (c : Cutting) (f : Flood) (places : List (Option Place)) (cells : List ℕ) → f.labels ≡ labels_by places cells → IsTable places cells → LabelsInside c f → (k : ℕ) (p : Place) → get_or places k None ≡ Some p → IsWithin c p

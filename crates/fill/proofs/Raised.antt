@@ -1,30 +1,27 @@
 -- A raised tile has its filled heights, and the tiles together give the filled grid.
-use Rattle.std.proofs.Common.{◌≡◌, ℕ, ◌+◌, ◌-◌, ◌*◌, ◌<◌, ◌≤◌, ◌⊎◌, inl, inr, ℤ, ◌≤ℤ◌, List, length, get_or, map, Option, None, Some, is_some, ◌∙◌, sym, ap, subst, refl, arith, zero, suc, ◌/◌, ◌%◌, IfSome, MatchOption, mul_comm}
+use Rattle.std.proofs.Common.{◌≡◌, ℕ, ◌+◌, ◌-◌, ◌*◌, ◌<◌, ◌⊎◌, inl, inr, ℤ, List, length, get_or, map, Option, None, Some, is_some, ◌∙◌, sym, ap, subst, refl, arith, zero, suc, ◌/◌, ◌%◌, IfSome, MatchOption, mul_comm}
 use Rattle.std.specs.Prelude.{slice_get, option_and_then}
 use Rattle.std.specs.Int.{int_max}
-use Rattle.std.proofs.Math.Nat.{zero-div, zero-mod, zero-mul}
-use Rattle.std.proofs.lemmas.Int.{ints, clamps}
 use Rattle.std.proofs.lemmas.List.{get_or-map}
 use Rattle.terrain.specs.Raster.{Terrain, Raster}
 use Rattle.terrain.specs.Sinks.{with_sinks}
 use Rattle.terrain.specs.Neighbours.{height_at, index_of, entry_at, IsInside}
-use Rattle.drainage.specs.Filled.{crest, IsFilledHeight, IsFilled, IsFilledGrid, IsOwnFilled}
+use Rattle.drainage.specs.Filled.{IsFilledHeight, IsFilled, IsFilledGrid, IsOwnFilled}
 use Rattle.terrain.specs.declared.place.Place.{Place}
-use Rattle.terrain.proofs.Places.{entry-inside, inside_from_entry, make_place}
-use Rattle.drainage.proofs.Heights.{height_below_crest, filled_height_stands}
+use Rattle.terrain.proofs.Places.{entry-inside}
+use Rattle.drainage.proofs.Heights.{filled_height_stands}
 use Rattle.tiles.specs.declared.bounds.Bounds.{Bounds}
-use Rattle.tiles.specs.Cutting.{Cutting, IsCutting, IsInBounds, IsWithin, across, bounds_of, cell_count, tile_count, tile_entry, tile_of_place, Cuts, View, terrain_of}
-use Rattle.tiles.proofs.Cut.{in_bounds, in_tile, tile_of_place_below}
+use Rattle.tiles.specs.Cutting.{Cutting, IsCutting, IsInBounds, IsWithin, bounds_of, cell_count, tile_count, tile_entry, tile_of_place, Cuts, View, terrain_of}
+use Rattle.tiles.proofs.Cut.{in_bounds, tile_of_place_below}
 use Rattle.tiles.proofs.TileOrder.{tile_entry-in}
-use Rattle.fill.specs.TileFlood.{Flood, IsTileSource, level_in, label_in, IsTileFlood}
-use Rattle.fill.specs.Spills.{AreFloods, level_among, AreSpillLevels, spill_of, greater_of, raised_by, AreGreater, IsRaised, raised_among, RaisesToFilled, HasNoInnerCell, IsFilledTile}
+use Rattle.fill.specs.TileFlood.{Flood, level_in, label_in, IsTileFlood}
+use Rattle.fill.specs.Spills.{AreFloods, level_among, AreSpillLevels, spill_of, greater_of, raised_by, AreGreater, IsRaised, raised_among, IsFilledTile}
 use Rattle.fill.specs.Gathering.{Fit}
 use Rattle.fill.specs.Labels.{labels_by, IsTable}
 use Rattle.fill.proofs.Gathered.{fit_of}
-use Rattle.fill.proofs.Steps.{seen, match_of, none_some}
-use Rattle.fill.proofs.TileWindows.{entry_in-inside, entry_index, data_within, rim_of_tile, rim_of_window}
-use Rattle.fill.proofs.Windows.{cases_rim, data_is, height_is}
-use Rattle.fill.proofs.Rims.{has_tile_level, among_is, source_level, rims, list_there}
+use Rattle.floods.proofs.Steps.{seen, match_of, none_some}
+use Rattle.fill.proofs.TileWindows.{entry_in-inside, entry_index}
+use Rattle.fill.proofs.Rims.{has_tile_level, among_is, rims, list_there}
 use Rattle.std.specs.List.{Contains, All}
 use Rattle.std.proofs.lemmas.Option.{MatchOption-at_some, MatchOption-at_none, get_or_from_slice_get, slice_get_within, same_Some}
 use Rattle.std.proofs.lemmas.List.Elements.{All-from_get_or}
@@ -81,98 +78,33 @@ raised_tile c floods tile f levels raised h fit there is =
           ∙ sym (ap (λ z. raised_by c levels z (get_or f.labels k None)) own_level) ∙ sym (ap (raised_by c levels (level_among c floods p)) own_label);
     }
 
--- what levels that raise to filled heights raise a place to
-filled_at : (t : Terrain) (c : Cutting) (floods : List Flood) (levels : List (Option ℤ)) → AreFloods t c floods → RaisesToFilled t c floods levels → (p : Place) → IsWithin c p →
+-- the levels of the spill graph raise a place to its filled height
+filled_at : (t : Terrain) (c : Cutting) (floods : List Flood) (levels : List (Option ℤ)) → AreFloods t c floods → AreSpillLevels t c floods levels → (p : Place) → IsWithin c p →
     (entry : Option ℤ) → entry ≡ raised_among c floods levels p → MatchOption (height_at t p) (entry ≡ None) (λ _. (level : ℤ) × (entry ≡ Some level) × IsFilledHeight t p level)
-filled_at t c floods levels are raises p within entry e =
+filled_at t c floods levels are spill p within entry e =
     let tile = tile_of_place c p in
     let f = list_there floods tile (omega (arith, are.count, tile_of_place_below c p are.lawful within)) in
     match_of (height_at t p) _ _
     (λ none. e ∙ raised_from_none c levels _ _ (among_is (λ g. level_in g p) floods tile f.0 f.1 ∙ (MatchOption-at_none _ _ none ((are.each tile f.0 f.1).each p (within, refl))).0))
-    (λ h some. let filled = raises p (ap is_some some) in (filled.0, e ∙ filled.1, filled.2))
+    (λ h some.
+    let l = has_tile_level t c floods are.lawful are p (ap is_some some) in
+    let filled = rims t c floods spill.0 levels spill.2.0 are.lawful are spill.1 spill.2.1 p l (ap is_some some) in
+    (int_max l.level filled.0, e ∙ raised_from c levels _ _ l.level filled.0 l.label l.level_is l.label_is filled.1, filled.2))
 
-pub filled_tile : (t : Terrain) (c : Cutting) (floods : List Flood) (tile : ℕ) (f : Flood) (levels raised : List (Option ℤ)) → IsCutting c → AreFloods t c floods → slice_get floods tile ≡ Some f → RaisesToFilled t c floods levels → IsRaised c f levels raised → IsFilledTile t c tile raised
-filled_tile t c floods tile f levels raised h are there raises is =
-    let made = raised_tile c floods tile f levels raised h (fit_of t c floods h are) there is in
-    record { size = made.size; each = λ p i. filled_at t c floods levels are raises p i.0 (tile_entry c tile raised p) (made.each p i) }
+pub filled_tile : (t : Terrain) (c : Cutting) (floods : List Flood) (tile : ℕ) (f : Flood) (levels raised : List (Option ℤ)) → AreFloods t c floods → slice_get floods tile ≡ Some f → AreSpillLevels t c floods levels → IsRaised c f levels raised → IsFilledTile t c tile raised
+filled_tile t c floods tile f levels raised are there spill is =
+    let made = raised_tile c floods tile f levels raised are.lawful (fit_of t c floods are.lawful are) there is in
+    record { size = made.size; each = λ p i. filled_at t c floods levels are spill p i.0 (tile_entry c tile raised p) (made.each p i) }
 
 -- the whole grid, raised by such levels
-pub filled_map : (t : Terrain) (c : Cutting) (floods : List Flood) (levels whole : List (Option ℤ)) → AreFloods t c floods → RaisesToFilled t c floods levels →
+pub filled_map : (t : Terrain) (c : Cutting) (floods : List Flood) (levels whole : List (Option ℤ)) → AreFloods t c floods → AreSpillLevels t c floods levels →
     IsMadeMap c (λ p height. height ≡ raised_among c floods levels p) whole → IsFilled t whole
-filled_map t c floods levels whole are raises made =
+filled_map t c floods levels whole are spill made =
     let all = map_of_size c t.cols t.rows (λ p height. height ≡ raised_among c floods levels p) whole are.cuts.0 are.cuts.1 made in
     record {
       size = all.0;
-      each = λ p inside. filled_at t c floods levels are raises p (omega (arith, inside, are.cuts), omega (arith, inside, are.cuts)) (entry_at t.cols t.rows whole p) (all.1 p inside);
+      each = λ p inside. filled_at t c floods levels are spill p (omega (arith, inside, are.cuts), omega (arith, inside, are.cuts)) (entry_at t.cols t.rows whole p) (all.1 p inside);
     }
-
--- the levels of the spill graph raise each cell to its filled height
-pub spill_raises : (t : Terrain) (c : Cutting) (floods : List Flood) (levels : List (Option ℤ)) → AreFloods t c floods → AreSpillLevels t c floods levels → RaisesToFilled t c floods levels
-spill_raises t c floods levels are spill p some =
-    let l = has_tile_level t c floods are.lawful are p some in
-    let filled = rims t c floods spill.0 levels spill.2.0 are.lawful are spill.1 spill.2.1 p l some in
-    (int_max l.level filled.0, raised_from c levels _ _ l.level filled.0 l.label l.level_is l.label_is filled.1, filled.2)
-
--- where each cell lies on the rim of its tile, it is its own label, and the filled heights of the grid raise it to its own
-pub own_raises : (t : Terrain) (c : Cutting) (floods : List Flood) (levels : List (Option ℤ)) → AreFloods t c floods → HasNoInnerCell c → IsFilled t levels → RaisesToFilled t c floods levels
-own_raises t c floods levels are alone filled p some =
-    let l = has_tile_level t c floods are.lawful are p some in
-    let height = data_is (height_at t p) some in
-    let source : IsTileSource t c p = inl (some, alone p (data_within t c p are.cuts some)) in
-    let level = source_level t c p l.label l.level l.right source in
-    let label : l.label ≡ p = l.right.own source (height.1 ∙ ap Some (sym (level ∙ height_is t p height.0 height.1))) in
-    let inside = inside_from_entry t.cols t.rows t.cells p height.0 height.1 in
-    let here = MatchOption-at_some _ _ height.0 height.1 (filled.each p inside) in
-    let entry : get_or levels (index_of c.cols l.label) None ≡ Some here.0 =
-    ap (λ (q : Place). get_or levels (index_of c.cols q) None) label
-    ∙ ap (λ n. get_or levels (index_of n p) None) are.cuts.0
-    ∙ sym (entry-inside t.cols t.rows levels p inside.0 inside.1)
-    ∙ here.1 in
-    let low : l.level ≤ℤ here.0 = subst (λ z. l.level ≤ℤ z) here.2.reached.2 (subst (λ z. z ≤ℤ crest t p here.2.reached.0) (sym level) (height_below_crest t p here.2.reached.0)) in
-    (int_max l.level here.0, raised_from c levels _ _ l.level here.0 l.label l.level_is l.label_is entry, subst (IsFilledHeight t p) (sym (max_is l.level here.0 low)) here.2)
-  where
-    max_is : (a b : ℤ) → a ≤ℤ b → int_max a b ≡ b
-    max_is a b h = omega (arith, ints, clamps)
-
--- the first tile begins at the first row and column
-first_at : (c : Cutting) → ((bounds_of c 0).top ≡ 0) × ((bounds_of c 0).left ≡ 0)
-first_at c = (ap (λ n. n * c.side) (zero-div (across c)) ∙ zero-mul c.side, ap (λ n. n * c.side) (zero-mod (across c)) ∙ zero-mul c.side)
-
--- no tile has more rows or columns than the first one
-rows_least : (c : Cutting) (tile : ℕ) → (bounds_of c tile).rows ≤ (bounds_of c 0).rows
-rows_least c tile = omega (arith, (first_at c).0)
-
-cols_least : (c : Cutting) (tile : ℕ) → (bounds_of c tile).cols ≤ (bounds_of c 0).cols
-cols_least c tile = omega (arith, (first_at c).1)
-
--- where the first tile has no inner cell, no tile has one
-pub no_inner : (c : Cutting) → IsCutting c → ((bounds_of c 0).rows ≤ 2) ⊎ ((bounds_of c 0).cols ≤ 2) → HasNoInnerCell c
-no_inner c h few p within =
-    let tile = tile_of_place c p in
-    elim (cases_rim (bounds_of c tile) p (in_bounds c tile p h (within, refl))) [
-      | inl rim ↦ rim_of_tile c tile p (within, refl) rim
-      | inr inner ↦ elim few [
-        | inl rows ↦ absurd (omega (arith, rows, inner, rows_least c tile))
-        | inr cols ↦ absurd (omega (arith, cols, inner, cols_least c tile))
-      ]
-    ]
-
-pub some_tile : (c : Cutting) → IsCutting c → 0 < tile_count c
-some_tile c h = omega (arith, tile_of_place_below c (make_place 0 0) h (h.some_row, h.some_col))
-
--- a first tile of three rows and columns has an inner cell
-pub some_inner : (c : Cutting) → IsCutting c → 2 < (bounds_of c 0).rows → 2 < (bounds_of c 0).cols → HasNoInnerCell c → ⊥
-some_inner c h rows cols alone =
-    let amid = make_place 1 1 in
-    let first = first_at c in
-    let inside : IsInBounds (bounds_of c 0) amid = (omega (arith, first.0), omega (arith, first.0, rows), omega (arith, first.1), omega (arith, first.1, cols)) in
-    let in_first = in_tile c 0 amid h (some_tile c h) inside in
-    elim (rim_of_window c 0 amid in_first (alone amid in_first.0)) [
-      | inl e ↦ absurd (omega (arith, e, first.0))
-      | inr (inl e) ↦ absurd (omega (arith, e, rows, first.0))
-      | inr (inr (inl e)) ↦ absurd (omega (arith, e, first.1))
-      | inr (inr (inr e)) ↦ absurd (omega (arith, e, cols, first.1))
-    ]
 
 -- the flood of a view is that of its terrain
 pub flood_of_view : (t : Terrain) (c : Cutting) (job : ℕ) (v : View (Option ℤ)) (cells : List (Option ℤ)) (sinks : List Place) (f : Flood) → Cuts c t → v ≡ record { cutting = c; tile = job; cells = cells } → cells ≡ t.cells → sinks ≡ t.sinks → IsTileFlood (with_sinks (terrain_of v) sinks) v.cutting v.tile f → IsTileFlood t c job f

@@ -15,12 +15,13 @@ use Rattle.drainage.proofs.FilledExists.{filled_height}
 use Rattle.drainage.proofs.Reach.{HasLowPath}
 use Rattle.tiles.specs.Cutting.{Cutting, IsCutting, IsWithin, tile_of_place, bounds_of}
 use Rattle.tiles.proofs.Cut.{in_bounds, tile_of_place_below}
-use Rattle.fill.specs.declared.net.Spill.{Spill}
-use Rattle.fill.specs.Walk.{IsWalk, crest as walk_crest, IsFlooded}
-use Rattle.fill.specs.TileFlood.{IsTileSource, IsTilePath, IsTileLevel, Flood, level_in, label_in, last_of}
+use Rattle.floods.specs.declared.net.Spill.{Spill}
+use Rattle.floods.specs.Walk.{IsWalk, crest as walk_crest, IsFlooded}
+use Rattle.fill.specs.TileFlood.{IsTileSource, IsTilePath, IsTileLevel, Flood, level_in, label_in}
+use Rattle.floods.specs.Cells.{last_of}
 use Rattle.fill.specs.Spills.{AreFloods, level_among, label_among, Carries, IsPass, Graph, HasJoin, source_in, IsGraphOf}
-use Rattle.fill.proofs.Steps.{seen, none_some, le_of_same}
-use Rattle.fill.proofs.Windows.{data_is, height_is, path_in_window}
+use Rattle.floods.proofs.Steps.{seen, none_some, le_of_same}
+use Rattle.floods.proofs.Windows.{data_is, height_is, path_in_window}
 use Rattle.fill.proofs.TileWindows.{data_within, tile_path}
 
 -- The level and the label of a cell among the floods.
@@ -226,11 +227,11 @@ rims t c floods g levels labels h are graph flooded p l some =
           let path = low_from_label t c p l.label l.level total l.right (max_left l.level found.0) (low_below t found.0 total l.label (max_right l.level found.0) way) in
           let least : (rest : List Place) → IsPath t p rest → total ≤ℤ crest t p rest = λ rest is_path.
           let walk = path_walk t c floods g h are graph p l rest is_path in
-          max_least l.level found.0 (crest t p rest) (level_low t c floods h are p l rest is_path) (trans _ _ _ (level.least walk.0 walk.1) walk.2) in (
+          max_least l.level found.0 (crest t p rest) (level_low t c floods h are p l rest is_path) (trans found.0 (walk_crest (source_in g) a walk.0) (crest t p rest) (level.least walk.0 walk.1) walk.2) in (
             found.0,
             found.1,
             record {
-              reached = (path.0, path.1, between _ _ path.2 (least path.0 path.1));
+              reached = (path.0, path.1, between (crest t p path.0) total path.2 (least path.0 path.1));
               least = least;
             },
           )

@@ -1,11 +1,11 @@
 -- The sources of the spill graph, tile by tile.
-use Rattle.std.proofs.Common.{◌≡◌, ℕ, ◌+◌, ◌*◌, ◌/◌, ◌%◌, ◌<◌, ◌≤◌, ◌⊎◌, inl, inr, ℤ, List, [], ◌∷◌, ◌++◌, length, get_or, Option, None, Some, IsSome, is_some, ◌∙◌, sym, ap, subst, refl, arith}
-use Rattle.std.specs.Prelude.{slice_get, IfSome}
+use Rattle.std.proofs.Common.{◌≡◌, ℕ, ◌+◌, ◌*◌, ◌/◌, ◌%◌, ◌<◌, ◌≤◌, ◌⊎◌, inl, inr, ℤ, List, [], ◌∷◌, ◌++◌, length, get_or, Option, None, Some, IsSome, is_some, ◌∙◌, sym, ap, subst, arith, set}
+use Rattle.std.specs.Prelude.{slice_get}
 use Rattle.std.specs.List.{Contains, All}
 use Rattle.std.proofs.lemmas.Bool.{cases_eq, cases_lt}
 use Rattle.std.proofs.lemmas.Nat.{div-add-mod', div_below, mod_below}
 use Rattle.std.proofs.lemmas.Option.{same_Some}
-use Rattle.std.proofs.lemmas.List.{get_or_default, length-map, get_or-map, get_or_past}
+use Rattle.std.proofs.lemmas.List.{get_or_default, length-map, get_or-map, get_or_past, length-set, get_or-set_same, get_or-set_other}
 use Rattle.std.proofs.lemmas.List.Elements.{Contains-append_left, Contains-push, Contains-push_cases}
 use Rattle.terrain.specs.Neighbours.{index_of}
 use Rattle.terrain.specs.declared.place.Place.{Place}
@@ -13,15 +13,17 @@ use Rattle.terrain.proofs.Places.{index_injective, index_below}
 use Rattle.tiles.specs.Cutting.{Cutting, IsCutting, IsWithin, IsInTile, tile_count, tile_of_place}
 use Rattle.tiles.proofs.Cut.{tile_of_place_below}
 use Rattle.fill.specs.Labels.{labels_by}
-use Rattle.fill.specs.TileCells.{HasOneCell}
-use Rattle.fill.specs.TileFlood.{Flood, label_in, LabelsInside}
-use Rattle.fill.specs.Gathering.{Fit, IsSpillSource, IsSourceEntry, IsSourceNode, AddsSources, PutsSources, AreSources}
+use Rattle.fill.specs.TileFlood.{Flood, label_in}
+use Rattle.fill.specs.Gathering.{Fit, IsSpillSource, IsSourceEntry, IsSourceNode, AddsSources, PutsSources, AreSources, mark_among, IsSinkNode}
 use Rattle.fill.specs.declared.marks.Mark.{Mark}
 use Rattle.fill.specs.declared.sources.Source.{Source}
-use Rattle.fill.proofs.Steps.{seen, none_some}
+use Rattle.floods.proofs.Steps.{seen, none_some, none_done}
 use Rattle.fill.proofs.TileWindows.{bounds_from_entry, entry_in-inside}
 use Rattle.fill.proofs.CellMarks.{label_within, mark_parts, mark_from_tile}
-use Rattle.fill.proofs.Heaps.{all_by_contains}
+use Rattle.floods.proofs.Heaps.{all_by_contains}
+use Rattle.fill.specs.Spills.{level_among, label_among}
+use Rattle.floods.proofs.Windows.{data_is}
+use Rattle.fill.proofs.Gathered.{marked_within}
 
 -- a place has one height as a source
 one_height : (c : Cutting) (floods : List Flood) (p : Place) (h k : ℤ) → IsSpillSource c floods p h → IsSpillSource c floods p k → h ≡ k
@@ -112,22 +114,6 @@ table_lists f places cells are i p e =
           ]
     ]
 
--- the only cell's label
-pub cell_lists : (f : Flood) (label : Option Place) → HasOneCell f → label ≡ get_or f.labels 0 None → (i : ℕ) (p : Place) → get_or f.labels i None ≡ Some p → Contains (label ∷ []) (Some p)
-cell_lists f label one is i p e = elim (cases_lt i 1) [
-  | inl low ↦ (0, omega arith, is ∙ ap (λ k. get_or f.labels k None) (omega (arith, low)) ∙ e)
-  | inr past ↦ none_some _ p (get_or_past f.labels i None (omega (arith, past, ap length one.2))) e
-]
-
-within_if : (c : Cutting) (o : Option Place) → ((p : Place) → o ≡ Some p → IsWithin c p) → IfSome o (IsWithin c)
-within_if c None some = tt
-within_if c (Some p) some = some p refl
-
-pub cell_within : (c : Cutting) (f : Flood) (label : Option Place) → LabelsInside c f → label ≡ get_or f.labels 0 None → All (λ (o : Option Place). IfSome o (IsWithin c)) (label ∷ [])
-cell_within c f label inside is k d low =
-    let at : 0 ≡ k = omega (arith, low) in
-    subst (λ n. IfSome (get_or (label ∷ []) n d) (IsWithin c)) at (within_if c label (λ p e. inside 0 p (sym is ∙ e)))
-
 no_source : (s : Source) → Contains [] s → ⊥
 no_source s held = omega (arith, held.1)
 
@@ -187,3 +173,55 @@ all_sources c floods heights h s = record { size = s.size; each = entry } where
         let place = index_injective c.cols is.place (at k) is.within.1 (within k below).1 (is.node ∙ sym (node k)) in
         subst (IsSourceEntry c floods (at k)) (sym found.1) (subst (λ p. IsSpillSource c floods p found.0) place is.source)
   ]
+
+-- The levels of the first sinks have been put at their nodes.
+pub record PutsFirstSinks (c : Cutting) (floods : List Flood) (sinks : List Place) (count : ℕ) (old new : List (Option ℤ)) : Type 0 where
+  pub size : length new ≡ length old
+  pub only : (k : ℕ) → (get_or new k None ≡ get_or old k None) ⊎ IsSinkNode c floods sinks k (get_or new k None)
+  pub every : (k : ℕ) (d : Place) → k < count → IsSome (mark_among c floods (get_or sinks k d)) → get_or new (index_of c.cols (get_or sinks k d)) None ≡ level_among c floods (get_or sinks k d)
+
+pub sink_more : (c : Cutting) (floods : List Flood) (sinks : List Place) (i node : ℕ) (p d : Place) (m : Mark) (old now : List (Option ℤ)) → IsCutting c → Fit c floods → i < length sinks → get_or sinks i d ≡ p → mark_among c floods p ≡ Some m → node ≡ index_of c.cols p → length old ≡ c.cols * c.rows
+    → PutsFirstSinks c floods sinks i old now → PutsFirstSinks c floods sinks (i + 1) old (set now node (Some m.level))
+sink_more c floods sinks i node p d m old now h fit below at marked number size s = record {
+  size = length-set now node (Some m.level) ∙ s.size;
+  only = λ k. elim (cases_eq k node) [
+    | inl same ↦ inr (record {
+      place = p;
+      named = (i, below, get_or_default sinks i p d below ∙ at);
+      number = sym number ∙ sym same;
+      has = ap is_some marked;
+      is = put k same ∙ sym level;
+    })
+    | inr other ↦ subst (λ o. (o ≡ get_or old k None) ⊎ IsSinkNode c floods sinks k o) (sym (get_or-set_other now node k (Some m.level) None other)) (s.only k)
+  ];
+  every = λ k e less some.
+      let q = get_or sinks k e in
+      elim (cases_eq (index_of c.cols q) node) [
+        | inl same ↦
+            let mark = data_is (mark_among c floods q) some in
+            let is = index_injective c.cols q p (marked_within c floods q mark.0 h fit mark.1).1 within.1 (same ∙ number) in
+            put (index_of c.cols q) same ∙ sym level ∙ ap (level_among c floods) (sym is)
+        | inr other ↦ elim (cases_eq k i) [
+          | inl last ↦ absurd (other (ap (λ n. index_of c.cols (get_or sinks n e)) last ∙ ap (index_of c.cols) (get_or_default sinks i e d below ∙ at) ∙ sym number))
+          | inr before ↦ get_or-set_other now node (index_of c.cols q) (Some m.level) None other ∙ s.every k e (omega (arith, less, before)) some
+        ]
+      ];
+} where
+  within : IsWithin c p
+  within = marked_within c floods p m h fit marked
+
+  level : level_among c floods p ≡ Some m.level
+  level = (mark_parts c.cols (level_among c floods p) (label_among c floods p) m marked).1
+
+  put : (k : ℕ) → k ≡ node → get_or (set now node (Some m.level)) k None ≡ Some m.level
+  put k same = ap (λ n. get_or (set now node (Some m.level)) n None) same ∙ get_or-set_same now node (Some m.level) None (omega (arith, number, s.size, size, index_below c.cols c.rows p within.0 within.1))
+
+pub sink_none : (c : Cutting) (floods : List Flood) (sinks : List Place) (i : ℕ) (p d : Place) (old now : List (Option ℤ)) → i < length sinks → get_or sinks i d ≡ p → mark_among c floods p ≡ None → PutsFirstSinks c floods sinks i old now → PutsFirstSinks c floods sinks (i + 1) old now
+sink_none c floods sinks i p d old now below at none s = record {
+  size = s.size;
+  only = s.only;
+  every = λ k e less some. elim (cases_eq k i) [
+    | inl last ↦ none_done (mark_among c floods (get_or sinks k e)) (ap (λ n. mark_among c floods (get_or sinks n e)) last ∙ ap (mark_among c floods) (get_or_default sinks i e d below ∙ at) ∙ none) some
+    | inr before ↦ s.every k e (omega (arith, less, before)) some
+  ];
+}

@@ -1,132 +1,29 @@
--- Floods of the net of a window: of a whole grid, of a tile, and of a tile of one cell.
-use Rattle.std.proofs.Common.{◌⊎◌, ◌≡◌, ℕ, zero, suc, ◌+◌, ◌-◌, ◌*◌, ◌<◌, ◌≤◌, inl, inr, ℤ, Bool, List, [], ◌∷◌, length, get_or, take, drop, Option, None, is_some, ◌∙◌, sym, ap, arith, length-append, length-drop, length-take-le, true, map, Some, subst, refl, ◌≤ℤ◌}
-use Rattle.std.proofs.lemmas.Bool.{cases_eq, and_from, and_parts, or_cases, or_left, or_right, cond-true, cond-false, le-leb, lt-ltb, leb-true, ltb-true, eqb-true, eq-eqb, cases_Bool, cases_lt}
+-- Floods of the net of a tile.
+use Rattle.std.proofs.Common.{◌≡◌, ℕ, ◌+◌, ◌-◌, ◌*◌, ◌<◌, inl, inr, ℤ, List, [], ◌∷◌, length, get_or, Option, None, is_some, ◌∙◌, sym, ap, arith, true, map, Some, subst, refl, take, zero, suc}
+use Rattle.std.proofs.lemmas.Bool.{or_cases, or_left, or_right, cond-true, cond-false, eqb-true, eq-eqb, cases_Bool, cases_lt}
 use Rattle.std.proofs.lemmas.Nat.{mul-add-lt, div-mul-add, mod-mul-add}
-use Rattle.std.proofs.lemmas.List.{get_or_append_left, get_or-append_right, get_or-drop, get_or-take, get_or-map, length-map, get_or_past}
+use Rattle.std.proofs.lemmas.List.{get_or-map, length-map, get_or_past, get_or_append_left, get_or-append_right, get_or-drop, get_or-take, length-take}
 use Rattle.std.proofs.lemmas.Slice.{between_is}
-use Rattle.std.specs.Prelude.{slice_range}
 use Rattle.terrain.specs.Raster.{Terrain}
-use Rattle.terrain.specs.Sinks.{with_sinks}
-use Rattle.terrain.specs.Neighbours.{height_at, entry_at, IsDataCell, IsEnd}
-use Rattle.drainage.specs.Filled.{IsPath, IsFilledHeight, IsFilled, crest}
+use Rattle.terrain.specs.Neighbours.{height_at, IsDataCell}
 use Rattle.terrain.specs.declared.place.Place.{Place}
-use Rattle.terrain.proofs.Places.{gap_at_end, none_outside, entry-inside, same_place}
+use Rattle.terrain.proofs.Places.{same_place}
 use Rattle.drainage.proofs.Reach.{data_inside}
-use Rattle.tiles.specs.Cutting.{IsInBounds, Cutting, IsCutting, View, IsView, AreBounds, IsInTile, IsWithin, tile_count, bounds_of, is_on_rim, is_first_or_last, row_shown, terrain_of}
-use Rattle.fill.specs.Walk.{IsFlooded, IsWalk, end_of}
-use Rattle.fill.specs.Cells.{Cells, node_at, IsNetOf, HasSinks, IsCellJoin, source_of, whole, inner_rows, bordered_rows, place_of_node}
-use Rattle.fill.proofs.Steps.{seen, match_of, none_some}
-use Rattle.fill.proofs.Windows.{IsOnRim, IsWindowSource, IsWindowPath, IsWindowLevel, end_is_source, window_level, window_none, height_is}
+use Rattle.tiles.specs.Cutting.{IsInBounds, Cutting, IsCutting, AreBounds, IsInTile, IsWithin, tile_count, bounds_of, is_on_rim, is_first_or_last, is_in_bounds}
+use Rattle.floods.specs.Walk.{IsFlooded, IsWalk, end_of}
+use Rattle.floods.specs.Cells.{Cells, node_at, IsNetOf, IsCellJoin, source_of, inner_rows, place_of_node}
+use Rattle.floods.proofs.Steps.{seen, match_of, none_some}
+use Rattle.floods.proofs.Nets.{length-inner_rows, inner_rows_at}
+use Rattle.floods.proofs.Windows.{IsOnRim, IsWindowSource, IsWindowPath, IsWindowLevel, end_is_source, window_level, window_none}
 use Rattle.std.proofs.lemmas.Option.{MatchOption-at_some, MatchOption-at_none, same_Some}
 use Rattle.tiles.specs.declared.bounds.Bounds.{Bounds}
-use Rattle.tiles.proofs.Cut.{in_bounds, in_tile, bounds_inside}
-use Rattle.tiles.proofs.Shown.{row_end, get_or-row_shown}
-use Rattle.fill.specs.declared.net.Spill.{Spill}
-use Rattle.fill.specs.CellJoins.{join_inside}
+use Rattle.tiles.proofs.Cut.{in_bounds_parts, in_bounds_from, in_bounds, in_tile, bounds_inside}
+use Rattle.floods.specs.declared.net.Spill.{Spill}
+use Rattle.floods.specs.CellJoins.{join_inside}
 use Rattle.fill.specs.Labels.{label_of_node, AreNodesBelow}
-use Rattle.fill.specs.TileFlood.{IsTileSource, IsTilePath, IsTileLevel, Flood, is_in_bounds, entry_in, IsFlood, IsTileFlood, level_in, label_in}
-use Rattle.fill.proofs.Borders.{AreRows, ShowRows, net_of_rows}
-use Rattle.fill.specs.TileCells.{own_label, ShowsOneCell}
-use Rattle.drainage.proofs.Heights.{height_below_crest}
+use Rattle.fill.specs.TileFlood.{IsTileSource, IsTilePath, IsTileLevel, Flood, entry_in, IsFlood, IsTileFlood}
 
--- the entries inside the border
-pub length-inner_rows : {X : Type 0} (list : List X) (cols count : ℕ) → (count + 1) * (cols + 2) ≤ length list → length (inner_rows list cols count) ≡ count * cols
-length-inner_rows list cols zero h = omega arith
-length-inner_rows list cols (suc count) h =
-    let from = (count + 1) * (cols + 2) + 1 in
-    let was = length-inner_rows list cols count (omega arith) in
-    let row : length (drop from (take (from + cols) list)) ≡ cols = length-drop from (take (from + cols) list) ∙ ap (λ n. n - from) (length-take-le (from + cols) list (omega arith)) ∙ omega arith in
-    length-append (inner_rows list cols count) _ ∙ omega (arith, was, ap length (between_is list from (from + cols)) ∙ row)
-
-pub inner_rows_at : {X : Type 0} (list : List (Option X)) (cols count : ℕ) → (count + 1) * (cols + 2) ≤ length list → (r c : ℕ) → r < count → c < cols → get_or (inner_rows list cols count) (r * cols + c) None ≡ get_or list ((r + 1) * (cols + 2) + (c + 1)) None
-inner_rows_at list cols zero h r c below inside = absurd (omega arith)
-inner_rows_at list cols (suc count) h r c below inside =
-    let from = (count + 1) * (cols + 2) + 1 in
-    let len = length-inner_rows list cols count (omega arith) in
-    elim (cases_eq r count) [
-      | inl same ↦
-          ap (λ n. get_or (inner_rows list cols (suc count)) (n * cols + c) None) same
-          ∙ get_or-append_right (inner_rows list cols count) _ (count * cols) (count * cols + c) None len (omega arith)
-          ∙ ap (λ n. get_or (slice_range list from (from + cols)) n None) (minus (count * cols) c)
-          ∙ ap (λ z. get_or z c None) (between_is list from (from + cols))
-          ∙ get_or-drop from (take (from + cols) list) c None
-          ∙ get_or-take (from + cols) list (from + c) None (omega arith)
-          ∙ ap (λ n. get_or list n None) (move count c (cols + 2))
-          ∙ ap (λ n. get_or list ((n + 1) * (cols + 2) + (c + 1)) None) (sym same)
-      | inr other ↦
-          let low : r < count = omega arith in
-          get_or_append_left (inner_rows list cols count) _ None _ (omega (arith, len, mul-add-lt r cols c count low inside))
-          ∙ inner_rows_at list cols count (omega arith) r c low inside
-    ] where
-      minus : (a b : ℕ) → (a + b) - a ≡ b
-      minus a b = omega arith
-
-      move : (k c s : ℕ) → (k + 1) * s + 1 + c ≡ (k + 1) * s + (c + 1)
-      move k c s = omega arith
-
--- the rim of the whole terrain is its edge
-source_is_end : (t : Terrain) (p : Place) → IsInBounds (whole t) p → IsWindowSource t (whole t) p → IsEnd t p
-source_is_end t p inside (inr sink) = inr sink
-source_is_end t p inside (inl source) = inl (source.0, elim source.1 [ inl rim ↦ gap_at_end t.cols t.rows p (none_outside t) (at rim) | inr gap ↦ gap ]) where
-  at : IsOnRim (whole t) p → (p.row ≡ 0) ⊎ (p.row + 1 ≡ t.rows) ⊎ (p.col ≡ 0) ⊎ (p.col + 1 ≡ t.cols)
-  at (inl e) = inl e
-  at (inr (inl e)) = inr (inl (omega arith))
-  at (inr (inr (inl e))) = inr (inr (inl e))
-  at (inr (inr (inr e))) = inr (inr (inr (omega arith)))
-
-data_in_window : (t : Terrain) (p : Place) → IsDataCell t p → IsInBounds (whole t) p
-data_in_window t p some = let inside = data_inside t p some in (omega arith, omega (arith, inside), omega arith, omega (arith, inside))
-
--- a path of the terrain is a path in the window that is the whole of it
-whole_path : (t : Terrain) (p : Place) (rest : List Place) → IsPath t p rest → IsWindowPath t (whole t) p rest
-whole_path t p [] path = end_is_source t (whole t) p path
-whole_path t p (q ∷ rest) path = (path.0, data_in_window t q path.0.to_data, whole_path t q rest path.1)
-
-back_path : (t : Terrain) (p : Place) (rest : List Place) → IsInBounds (whole t) p → IsWindowPath t (whole t) p rest → IsPath t p rest
-back_path t p [] inside path = source_is_end t p inside path
-back_path t p (q ∷ rest) inside path = (path.0, back_path t q rest path.1 path.2)
-
-whole_level : (t : Terrain) (p label : Place) (level : ℤ) → IsInBounds (whole t) p → IsWindowLevel t (whole t) p level label → IsFilledHeight t p level
-whole_level t p label level inside l = record {
-  reached = (l.reached.0, back_path t p l.reached.0 inside l.reached.1, l.reached.2);
-  least = λ rest path. l.least rest (whole_path t p rest path);
-}
-
--- the levels of a flood of the whole terrain are its filled heights
-pub whole_filled : (t : Terrain) (n : Cells) (levels : List (Option ℤ)) (labels : List (Option ℕ)) → IsNetOf t (whole t) n → IsFlooded (IsCellJoin n) (source_of n) (length n.cells) levels labels → IsFilled t (inner_rows levels t.cols t.rows)
-whole_filled t n levels labels net flooded =
-    let size : length levels ≡ (t.rows + 2) * (t.cols + 2) = flooded.levels_size ∙ net.size in
-    let long : (t.rows + 1) * (t.cols + 2) ≤ length levels = omega (arith, size) in
-    record {
-      size = length-inner_rows levels t.cols t.rows long ∙ omega arith;
-      each = λ p inside.
-          let in_window : IsInBounds (whole t) p = (omega arith, omega (arith, inside), omega arith, omega (arith, inside)) in
-          let entry : entry_at t.cols t.rows (inner_rows levels t.cols t.rows) p ≡ get_or levels (node_at (whole t) p) None =
-          entry-inside t.cols t.rows (inner_rows levels t.cols t.rows) p inside.0 inside.1
-          ∙ inner_rows_at levels t.cols t.rows long p.row p.col inside.0 inside.1
-          ∙ ap (λ k. get_or levels k None) (shift p.row p.col (t.cols + 2)) in
-          match_of (height_at t p) _ _
-          (λ none. entry ∙ (window_none t (whole t) n levels labels net flooded p in_window none (omega (arith, net.size, mul-add-lt (p.row + 1) (t.cols + 2) (p.col + 1) (t.rows + 2) (omega (arith, inside)) (omega (arith, inside)), sym (shift p.row p.col (t.cols + 2))))).0)
-          (λ z some.
-          let l = window_level t (whole t) n levels labels net flooded p in_window (ap is_some some) in
-          (l.level, entry ∙ l.level_is, whole_level t p l.label l.level in_window l.right));
-    } where
-      shift : (r c s : ℕ) → (r + 1) * s + (c + 1) ≡ (r - 0 + 1) * s + (c - 0 + 1)
-      shift r c s = ap (λ n. (n + 1) * s + (c + 1)) (minus r) ∙ ap (λ n. (r - 0 + 1) * s + (n + 1)) (minus c) where
-        minus : (n : ℕ) → n ≡ n - 0
-        minus n = omega arith
-
--- places in bounds, and what lists in their row order have there
-pub in_bounds_parts : (b : Bounds) (p : Place) → is_in_bounds b p ≡ true → IsInBounds b p
-in_bounds_parts b p e =
-    let a = and_parts _ _ e in
-    let d = and_parts _ _ a.0 in
-    let f = and_parts _ _ d.0 in
-    (leb-true _ _ f.0, ltb-true _ _ f.1, leb-true _ _ d.1, ltb-true _ _ a.1)
-
-pub in_bounds_from : (b : Bounds) (p : Place) → IsInBounds b p → is_in_bounds b p ≡ true
-in_bounds_from b p h = and_from _ _ (and_from _ _ (and_from _ _ (le-leb _ _ h.0) (lt-ltb _ _ h.1)) (le-leb _ _ h.2)) (lt-ltb _ _ h.3)
-
+-- what lists in the row order of bounds have there
 pub entry_in-inside : {X : Type 0} (b : Bounds) (xs : List (Option X)) (p : Place) → IsInBounds b p → entry_in b xs p ≡ get_or xs ((p.row - b.top) * b.cols + (p.col - b.left)) None
 entry_in-inside b xs p h = cond-true _ _ _ (in_bounds_from b p h)
 
@@ -139,26 +36,6 @@ bounds_from_entry b xs p x e = elim (cases_Bool (is_in_bounds b p)) [
 pub entry_index : (b : Bounds) (p : Place) → IsInBounds b p → (p.row - b.top) * b.cols + (p.col - b.left) < b.rows * b.cols
 entry_index b p h = omega (arith, mul-add-lt (p.row - b.top) b.cols (p.col - b.left) b.rows (omega (arith, h)) (omega (arith, h)))
 
--- the rows of a view
-row_shown_length : (v : View (Option ℤ)) → IsView v → AreRows (row_shown v) (bounds_of v.cutting v.tile).cols (bounds_of v.cutting v.tile).rows
-row_shown_length v is r below =
-    let b = bounds_of v.cutting v.tile in
-    let end = row_end v.cutting b r (bounds_inside v.cutting v.tile is.cutting is.tile) below in
-    let from = (b.top + r) * v.cutting.cols + b.left in
-    ap length (between_is v.cells from (from + b.cols)) ∙ length-drop from (take (from + b.cols) v.cells)
-    ∙ ap (λ n. n - from) (length-take-le (from + b.cols) v.cells (omega (arith, end, is.size))) ∙ omega arith
-
-row_shown_cells : (v : View (Option ℤ)) → IsView v → ShowRows (terrain_of v) (bounds_of v.cutting v.tile) (row_shown v)
-row_shown_cells v is r c below inside =
-    let b = bounds_of v.cutting v.tile in
-    let all = bounds_inside v.cutting v.tile is.cutting is.tile in
-    get_or-row_shown v r c None inside
-    ∙ sym (entry-inside v.cutting.cols v.cutting.rows v.cells (record { row = b.top + r; col = b.left + c }) (omega (arith, below, all.rows_inside)) (omega (arith, inside, all.cols_inside)))
-
-pub net_of_view : (v : View (Option ℤ)) (b : Bounds) (items : List (Option ℤ)) (places : List Place) (sinks : List Bool) → IsView v → b ≡ bounds_of v.cutting v.tile → items ≡ bordered_rows (row_shown v) ((bounds_of v.cutting v.tile).cols + 2) (bounds_of v.cutting v.tile).rows → HasSinks b places sinks → IsNetOf (with_sinks (terrain_of v) places) (bounds_of v.cutting v.tile) (record { stride = b.cols + 2; cells = items; sinks = sinks })
-net_of_view v b items places sinks is same are has = rw (same, are) (net_of_rows (with_sinks (terrain_of v) places) (bounds_of v.cutting v.tile) (row_shown v) (row_shown_length v is) (row_shown_cells v is) sinks (subst (λ w. HasSinks w places sinks) same has))
-
--- sources and paths of a tile
 pub rim_of_tile : (c : Cutting) (tile : ℕ) (p : Place) → IsInTile c tile p → IsOnRim (bounds_of c tile) p → is_on_rim c p ≡ true
 rim_of_tile c tile p i rim = subst (λ n. is_first_or_last (bounds_of c n) p ≡ true) (sym i.1) (at rim) where
   b : Bounds
@@ -289,7 +166,7 @@ walk_end_below : (n : Cells) (a : ℕ) (walk : List Spill) → a < length n.cell
 walk_end_below n a [] low walk = low
 walk_end_below n a (step ∷ rest) low walk = walk_end_below n step.to rest (join_inside n a step.to step.height walk.0) walk.1
 
-pub labels_below : (n : Cells) (levels : List (Option ℤ)) (labels : List (Option ℕ)) → IsFlooded (IsCellJoin n) (source_of n) (length n.cells) levels labels → AreNodesBelow (length labels) labels
+labels_below : (n : Cells) (levels : List (Option ℤ)) (labels : List (Option ℕ)) → IsFlooded (IsCellJoin n) (source_of n) (length n.cells) levels labels → AreNodesBelow (length labels) labels
 labels_below n levels labels flooded k node e = elim (cases_lt k (length labels)) [
   | inr past ↦ none_some _ node (get_or_past labels k None past) e
   | inl low ↦ elim (seen (get_or levels k None)) [
@@ -302,53 +179,27 @@ labels_below n levels labels flooded k node e = elim (cases_lt k (length labels)
   ]
 ]
 
--- The flood of a tile whose only cell has this height.
-abbrev pub CellFlood : Bounds → Option ℤ → Flood
-CellFlood b level = record { bounds = b; levels = level ∷ []; labels = own_label b level ∷ [] }
+inner_below : (count : ℕ) (list : List (Option ℕ)) (cols rows : ℕ) → AreNodesBelow count list → AreNodesBelow count (inner_rows list cols rows)
+inner_below count list cols zero below k node e = none_some _ node (get_or_past [] k None (omega arith)) e
+inner_below count list cols (suc rows) below k node e =
+    let was = inner_rows list cols rows in
+    let from = (rows + 1) * (cols + 2) + 1 in
+    let row = take (from + cols) list in
+    elim (cases_lt k (length was)) [
+      | inl low ↦ inner_below count list cols rows below k node (sym (get_or_append_left was _ None k low) ∙ e)
+      | inr past ↦
+          let i = from + (k - length was) in
+          let there : get_or row i None ≡ Some node =
+          sym (get_or-drop from row (k - length was) None) ∙ ap (λ z. get_or z (k - length was) None) (sym (between_is list from (from + cols))) ∙ sym (get_or-append_right was _ (length was) k None refl past) ∙ e in
+          elim (cases_lt i (from + cols)) [
+            | inl inside ↦ below i node (sym (get_or-take (from + cols) list i None inside) ∙ there)
+            | inr outside ↦ none_some _ node (get_or_past row i None (omega (arith, outside, length-take (from + cols) list))) there
+          ]
+    ]
 
--- the level of a cell on the rim is its height
-own_level : (t : Terrain) (c : Cutting) (tile : ℕ) (p : Place) (h : ℤ) → IsInTile c tile p → p.row ≡ (bounds_of c tile).top → height_at t p ≡ Some h → IsTileLevel t c p h p
-own_level t c tile p h i first e = record {
-  reached = ([], inl (ap is_some e, rim_of_tile c tile p i (inl first)), height_is t p h e, refl);
-  least = λ rest path. subst (λ z. z ≤ℤ crest t p rest) (height_is t p h e) (height_below_crest t p rest);
-  own = λ source height. refl;
-}
-
-pub cell_flooded : (t : Terrain) (c : Cutting) (tile : ℕ) (level : Option ℤ) → IsCutting c → tile < tile_count c → let b = bounds_of c tile in
-    b.rows ≡ 1 → b.cols ≡ 1 → height_at t (record { row = b.top; col = b.left }) ≡ level → IsTileFlood t c tile (CellFlood b level)
-cell_flooded t c tile level h l one_row one_col is = record {
-  bounds = refl;
-  levels_size = sym (ap (λ n. n * b.cols) one_row ∙ ap (λ n. 1 * n) one_col);
-  labels_size = sym (ap (λ n. n * b.cols) one_row ∙ ap (λ n. 1 * n) one_col);
-  each = λ p i.
-      let inside = in_bounds c tile p h i in
-      let here = first p inside in
-      let height : height_at t p ≡ level = ap (height_at t) here ∙ is in
-      let level_is : level_in (CellFlood b level) p ≡ level = entry_in-inside b (level ∷ []) p inside ∙ ap (λ k. get_or (level ∷ []) k None) (index p inside) in
-      let label_is : label_in (CellFlood b level) p ≡ own_label b level = entry_in-inside b (own_label b level ∷ []) p inside ∙ ap (λ k. get_or (own_label b level ∷ []) k None) (index p inside) in
-      match_of (height_at t p) _ _
-      (λ none. let gap : level ≡ None = sym height ∙ none in (level_is ∙ gap, label_is ∙ ap (own_label b) gap))
-      (λ z found.
-      let some : level ≡ Some z = sym height ∙ found in
-      (z, p, level_is ∙ some, label_is ∙ ap (own_label b) some ∙ ap Some (sym here), own_level t c tile p z i (ap (λ (q : Place). q.row) here) found));
-} where
-  b : Bounds
-  b = bounds_of c tile
-
-  first : (p : Place) → IsInBounds b p → p ≡ record { row = b.top; col = b.left }
-  first p inside = same_place p _ (omega (arith, inside, one_row)) (omega (arith, inside, one_col))
-
-  index : (p : Place) → IsInBounds b p → (p.row - b.top) * b.cols + (p.col - b.left) ≡ 0
-  index p inside =
-      let row : p.row - b.top ≡ 0 = omega (arith, inside, one_row) in
-      ap (λ n. n * b.cols + (p.col - b.left)) row ∙ omega (arith, inside, one_col)
-
-pub view_flooded : (v : View (Option ℤ)) (b : Bounds) (row : List (Option ℤ)) (sinks : List Place) → IsView v → b ≡ bounds_of v.cutting v.tile → ShowsOneCell v → row ≡ row_shown v 0 → IsTileFlood (with_sinks (terrain_of v) sinks) v.cutting v.tile (CellFlood b (get_or row 0 None))
-view_flooded v b row sinks is same cell shown =
-    let all = bounds_inside v.cutting v.tile is.cutting is.tile in
-    let w = bounds_of v.cutting v.tile in
-    rw (same, shown) (cell_flooded (with_sinks (terrain_of v) sinks) v.cutting v.tile _ is.cutting is.tile cell.0 cell.1 (
-    entry-inside v.cutting.cols v.cutting.rows v.cells (record { row = w.top; col = w.left }) (omega (arith, all)) (omega (arith, all))
-    ∙ ap (λ k. get_or v.cells k None) (omega arith)
-    ∙ sym (get_or-row_shown v 0 0 None (omega (arith, cell.1)))
-    ))
+-- the labels of the cells inside the border are nodes of the net, and there is one for each cell
+pub inner_labels : (b : Bounds) (n : Cells) (levels : List (Option ℤ)) (labels : List (Option ℕ)) → length n.cells ≡ (b.rows + 2) * (b.cols + 2) → IsFlooded (IsCellJoin n) (source_of n) (length n.cells) levels labels →
+    AreNodesBelow ((b.rows + 2) * (b.cols + 2)) (inner_rows labels b.cols b.rows) × (length (inner_rows labels b.cols b.rows) ≡ b.rows * b.cols)
+inner_labels b n levels labels size flooded =
+    let long = flooded.labels_size ∙ size in
+    (inner_below _ labels b.cols b.rows (subst (λ (k : ℕ). AreNodesBelow k labels) long (labels_below n levels labels flooded)), length-inner_rows labels b.cols b.rows (omega (arith, long)))

@@ -10,7 +10,7 @@ use Rattle.fill.specs.Spills.{level_among, label_among}
 use Rattle.fill.specs.declared.spills.Join.{Join}
 use Rattle.fill.specs.declared.marks.Mark.{Mark}
 use Rattle.fill.specs.declared.sources.Source.{Source}
-use Rattle.fill.specs.declared.net.Spill.{Spill}
+use Rattle.floods.specs.declared.net.Spill.{Spill}
 
 -- The floods are of this cutting's tiles, and their labels lie in the grid.
 pub record Fit (c : Cutting) (floods : List Flood) : Type 0 where

@@ -4,7 +4,7 @@ use Rattle.std.specs.Option.{option_map}
 use Rattle.std.specs.List.{All, list_any}
 use Rattle.terrain.specs.declared.place.Place.{Place}
 use Rattle.tiles.specs.declared.bounds.Bounds.{Bounds}
-use Rattle.fill.specs.Cells.{place_of_node}
+use Rattle.floods.specs.Cells.{place_of_node}
 
 -- The labels of cells whose entries are indexes into a table.
 abbrev pub labels_by : List (Option Place) → List ℕ → List (Option Place)

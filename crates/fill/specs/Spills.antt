@@ -1,14 +1,14 @@
 -- The spill graph: how the labels of all tiles are joined, and the levels that it gives them.
-use Rattle.std.specs.Prelude.{◌≡◌, ◌≢◌, ℕ, ◌*◌, ◌<◌, true, ℤ, ◌≤ℤ◌, List, length, Option, None, Some, MatchOption, slice_get, slice_index_or, option_and_then}
+use Rattle.std.specs.Prelude.{◌≡◌, ◌≢◌, ℕ, ◌*◌, ◌<◌, ℤ, ◌≤ℤ◌, List, length, Option, None, Some, MatchOption, slice_get, slice_index_or, option_and_then}
 use Rattle.std.specs.Int.{int_max}
 use Rattle.std.specs.List.{Contains}
 use Rattle.terrain.specs.Raster.{Terrain}
-use Rattle.terrain.specs.Neighbours.{height_at, index_of, IsDataCell, IsNeighbour, IsEnd}
+use Rattle.terrain.specs.Neighbours.{height_at, index_of, IsNeighbour, IsEnd}
 use Rattle.drainage.specs.Filled.{IsFilledHeight}
 use Rattle.terrain.specs.declared.place.Place.{Place}
-use Rattle.tiles.specs.Cutting.{Cutting, IsCutting, IsWithin, Cuts, tile_count, tile_of_place, is_on_rim, IsInTile, tile_entry, cell_count}
+use Rattle.tiles.specs.Cutting.{Cutting, IsCutting, Cuts, tile_count, tile_of_place, IsInTile, tile_entry, cell_count}
 use Rattle.fill.specs.TileFlood.{Flood, IsTileFlood, level_in, label_in}
-use Rattle.fill.specs.Walk.{IsFlooded}
+use Rattle.floods.specs.Walk.{IsFlooded}
 use Rattle.fill.specs.declared.spills.Join.{Join}
 
 -- One flood for each tile, in tile order.
@@ -109,18 +109,9 @@ pub record IsRaised (c : Cutting) (f : Flood) (levels : List (Option ℤ)) (rais
   pub each : (i : ℕ) → i < length f.levels →
       slice_index_or raised i None ≡ raised_by c levels (slice_index_or f.levels i None) (slice_index_or f.labels i None)
 
--- Each cell lies on the rim of its tile, so that each is its own label.
-abbrev pub HasNoInnerCell : Cutting → Type 0
-HasNoInnerCell c = (p : Place) → IsWithin c p → is_on_rim c p ≡ true
-
 -- What the flood of its tile and these levels of the labels raise a cell to.
 abbrev pub raised_among : Cutting → List Flood → List (Option ℤ) → Place → Option ℤ
 raised_among c floods levels p = raised_by c levels (level_among c floods p) (label_among c floods p)
-
--- Raised by these levels of the labels, each data cell has its filled height.
-abbrev pub RaisesToFilled : Terrain → Cutting → List Flood → List (Option ℤ) → Type 0
-RaisesToFilled t c floods levels = (p : Place) → IsDataCell t p → (height : ℤ)
-    × (raised_among c floods levels p ≡ Some height) × IsFilledHeight t p height
 
 -- The list has the filled heights of a tile's cells, in its row order.
 pub record IsFilledTile (t : Terrain) (c : Cutting) (tile : ℕ) (levels : List (Option ℤ)) : Type 0 where

@@ -1,13 +1,13 @@
 -- Levels and labels inside one tile.
-use Rattle.std.specs.Prelude.{◌≡◌, ℕ, ◌+◌, ◌-◌, ◌*◌, ◌≤◌, ◌<◌, ◌⊎◌, ℤ, ◌≤ℤ◌, Bool, ◌&&◌, nat_le, nat_lt, if◌then◌else◌, List, [], ◌∷◌, length, Option, None, Some, IsTrue, MatchOption, slice_index_or}
+use Rattle.std.specs.Prelude.{◌≡◌, ℕ, ◌+◌, ◌-◌, ◌*◌, ◌≤◌, ◌<◌, ◌⊎◌, ℤ, ◌≤ℤ◌, if◌then◌else◌, List, [], ◌∷◌, length, Option, None, Some, IsTrue, MatchOption, slice_index_or}
 use Rattle.std.specs.List.{All}
 use Rattle.terrain.specs.Raster.{Terrain}
 use Rattle.terrain.specs.Neighbours.{height_at, IsDataCell, IsNeighbour, IsEnd, Touches}
 use Rattle.drainage.specs.Filled.{crest}
 use Rattle.terrain.specs.declared.place.Place.{Place}
 use Rattle.tiles.specs.declared.bounds.Bounds.{Bounds}
-use Rattle.fill.specs.Cells.{cells_around}
-use Rattle.tiles.specs.Cutting.{Cutting, IsWithin, tile_of_place, bounds_of, is_on_rim, IsInBounds, IsInTile, cell_count}
+use Rattle.floods.specs.Cells.{cells_around, last_of}
+use Rattle.tiles.specs.Cutting.{Cutting, IsWithin, tile_of_place, bounds_of, is_on_rim, IsInBounds, is_in_bounds, IsInTile, cell_count}
 
 -- A data cell on the rim of its tile, or an end cell.
 abbrev pub IsTileSource : Terrain → Cutting → Place → Type 0
@@ -17,11 +17,6 @@ IsTileSource t c p = (IsDataCell t p × IsTrue (is_on_rim c p)) ⊎ IsEnd t p
 abbrev pub IsTilePath : Terrain → Cutting → Place → List Place → Type 0
 IsTilePath t c p [] = IsTileSource t c p
 IsTilePath t c p (q ∷ rest) = IsNeighbour t p q × (tile_of_place c q ≡ tile_of_place c p) × IsTilePath t c q rest
-
--- The cell at which a path ends.
-abbrev pub last_of : Place → List Place → Place
-last_of p [] = p
-last_of p (q ∷ rest) = last_of q rest
 
 -- The level is the least crest of the paths in the tile, and the label ends a path of that crest. A
 -- source whose level is its own height is its own label.
@@ -35,9 +30,6 @@ pub record Flood : Type 0 where
   pub bounds : Bounds
   pub levels : List (Option ℤ)
   pub labels : List (Option Place)
-
-abbrev pub is_in_bounds : Bounds → Place → Bool
-is_in_bounds b p = nat_le b.top p.row && nat_lt p.row (b.top + b.rows) && nat_le b.left p.col && nat_lt p.col (b.left + b.cols)
 
 -- The entry of a place in a list in the row order of these bounds, None outside.
 abbrev pub entry_in : {X : Type 0} → Bounds → List (Option X) → Place → Option X

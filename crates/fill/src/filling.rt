@@ -1,17 +1,15 @@
 // The filled heights of a grid, by tiles and workers.
-ghost use Rattle.std.specs.Prelude.{◌≡◌, ◌*◌, ◌<◌, ◌≤◌, length, IfOk, IsTrue, ◌↔◌};
+ghost use Rattle.std.specs.Prelude.{◌≡◌, ◌*◌, ◌<◌, ◌≤◌, length, IfOk};
 ghost use Rattle.drainage.specs.Filled.{IsFilledGrid};
 ghost use Rattle.tiles.specs.Cutting.{Cuts, IsCutting};
-ghost use Rattle.fill.specs.Spills.{AreFloods, RaisesToFilled, HasNoInnerCell};
+ghost use Rattle.fill.specs.Spills.{AreFloods, AreSpillLevels};
 ghost use Rattle.tile_jobs.specs.Fault.{RefusesWorkers};
 ghost use Rattle.fill.specs.Gathering.{Fit};
-ghost use Rattle.fill.specs.Parts.{AreParts};
 
 use crate::parts::{Part, tile_part};
 use crate::raising::raise;
 use crate::spills::SpillGraph;
 use crate::tile::{TileFlood, tile_flood};
-use crate::whole::filled_heights;
 use drainage::Filled;
 use std::alloc::Global;
 use std::sync::Wait;
@@ -19,7 +17,7 @@ use std::thread::Threads;
 use terrain::{Grid, Height, NoMemory};
 use tile_jobs::{Gate, JobFault, Work};
 use tile_maps::{Crew, TileMap};
-use tiles::{Bounds, Tiling};
+use tiles::Tiling;
 
 /// Floods each tile.
 #[derive(Drop)]
@@ -103,63 +101,28 @@ impl<'a> TileMap for Raised<'a> {
     }
 }
 
-/// The levels of the spill graph of these parts.
-fn spill_levels(
-    alloc: Global,
-    grid: &Grid,
-    tiling: &Tiling,
-    floods: &[TileFlood],
-    parts: Vec<Part>,
-) -> Result<Vec<Option<Height>>, NoMemory>
-    requires floods { AreFloods grid.now.terrain tiling.now floods.now }
-    requires parts { AreParts tiling.now floods.now parts.items }
-    ensures levels { IfOk result (λ v. RaisesToFilled grid.now.terrain tiling.now floods.now v.items) }
-    ensures size { IfOk result (λ v. length v.items ≡ tiling.now.cols * tiling.now.rows) }
-{
-    let graph = SpillGraph::of_parts(alloc, tiling, floods, parts, grid.sinks())?;
-    let levels = graph.levels(alloc)?;
-    Ok(levels)
-}
-
-/// Whether each cell lies on the rim of its tile. The first tile is as large as any.
-fn has_no_inner_cell(tiling: &Tiling) -> bool
-    requires { IsCutting tiling.now }
-    ensures { IsTrue result ↔ HasNoInnerCell tiling.now }
-{
-    let Bounds { rows, cols, .. } = tiling.bounds(0);
-    rows <= 2 || cols <= 2
-}
-
-/// The level of each label in the spill graph. Where each cell is its own label, the graph is the net of the grid's
-/// cells, and no joins are listed.
+/// The level of each label in the spill graph.
 fn label_levels<R: Threads + Wait + Sync, G: Gate + Sync>(
     crew: &Crew<'_, R, G>,
     grid: &Grid,
     tiling: &Tiling,
     floods: &[TileFlood],
 ) -> Result<Vec<Option<Height>>, JobFault>
-    requires cuts { Cuts tiling.now grid.now.terrain }
     requires floods { AreFloods grid.now.terrain tiling.now floods.now }
     requires workers { (0 < crew.now.workers) × (crew.now.workers ≤ 64) }
-    ensures levels { IfOk result (λ v. RaisesToFilled grid.now.terrain tiling.now floods.now v.items) }
-    ensures size { IfOk result (λ v. length v.items ≡ tiling.now.cols * tiling.now.rows) }
+    ensures levels { IfOk result (λ v. AreSpillLevels grid.now.terrain tiling.now floods.now v.items) }
     ensures workers { RefusesWorkers crew.now.workers result }
 {
-    if has_no_inner_cell(tiling) {
-        let Ok(levels) = filled_heights(crew.alloc, grid) else {
-            return Err(JobFault::Memory);
-        };
-        return Ok(levels);
-    }
     let parts = crew.run(&PartTiles { tiling, floods }, tiling.tiles())?;
-    let Ok(levels) = spill_levels(crew.alloc, grid, tiling, floods, parts) else {
+    let graph = SpillGraph::of_parts(crew.alloc, tiling, floods, parts, grid.sinks())?;
+    let Ok(levels) = graph.levels(crew.alloc) else {
         return Err(JobFault::Memory);
     };
     Ok(levels)
 }
 
 /// The grid with each height replaced by its filled height. Each tile is flooded in a job of its own, adds
-/// to the spill graph in a second one, where tiles have inner cells, and is raised in a last one.
+/// to the spill graph in a second one, and is raised in a last one.
 pub fn filled<R: Threads + Wait + Sync, G: Gate + Sync>(
     rt: &R,
     alloc: Global,

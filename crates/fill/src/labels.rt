@@ -1,6 +1,6 @@
 // The labels of a tile's cells, by a table of their places.
-ghost use Rattle.std.specs.Prelude.{◌≡◌, ◌+◌, ◌*◌, ◌^◌, ◌<◌, ◌≤◌, ◌∷◌, ◌++◌, [], None, map, length, slice_index_or, IfOk, IfSome, OnOk};
-ghost use Rattle.fill.specs.Cells.{inner_rows, place_of_node};
+ghost use Rattle.std.specs.Prelude.{◌≡◌, ◌+◌, ◌*◌, ◌^◌, ◌<◌, ◌≤◌, ◌∷◌, [], None, map, length, slice_index_or, IfOk, IfSome, OnOk};
+ghost use Rattle.floods.specs.Cells.{place_of_node};
 ghost use Rattle.fill.specs.Labels.{IsTable, AreMet, AreNodesBelow, IsListedAt, label_of_node, labels_by};
 
 use std::alloc::{AllocError, Global};
@@ -71,32 +71,6 @@ fn index_of_label(
     Ok(index)
 }
 
-/// Adds the labels of a row of cells.
-fn push_labels(
-    cells: &mut Vec<u32>,
-    places: &mut Vec<Option<Place>>,
-    met: &mut [u32],
-    bounds: Bounds,
-    nodes: &[Option<u32>],
-) -> Result<(), AllocError>
-    requires bounds { (bounds.top ≤ 4096) × (bounds.left ≤ 4096) × (bounds.cols ≤ 4096) }
-    requires few { length places.old.items + length nodes.now < 2 ^ 32 }
-    requires nodes { AreNodesBelow (length met.old) nodes.now }
-    requires table { IsTable places.old.items cells.old.items }
-    requires met { AreMet bounds met.old places.old.items }
-    ensures few { OnOk result (length places.new.items ≤ length places.old.items + length nodes.now) }
-    ensures table { OnOk result (IsTable places.new.items cells.new.items) }
-    ensures met { OnOk result (AreMet bounds met.new places.new.items) }
-    ensures labels { OnOk result (labels_by places.new.items cells.new.items
-        ≡ labels_by places.old.items cells.old.items ++ map (label_of_node bounds) nodes.now) }
-{
-    for node in nodes {
-        let index = index_of_label(places, met, bounds, *node)?;
-        cells.push(index)?;
-    }
-    Ok(())
-}
-
 /// A table of labels with no place yet.
 fn empty_table(alloc: Global) -> Result<Vec<Option<Place>>, AllocError>
     ensures { IfOk result (λ v. v.items ≡ None ∷ []) }
@@ -106,7 +80,7 @@ fn empty_table(alloc: Global) -> Result<Vec<Option<Place>>, AllocError>
     Ok(places)
 }
 
-/// The labels of a tile's cells, of those of the nodes of its net.
+/// The labels of a tile's cells, of the nodes that they have as labels in its net.
 pub(crate) fn labels_of(
     alloc: Global,
     bounds: Bounds,
@@ -114,20 +88,17 @@ pub(crate) fn labels_of(
 ) -> Result<Labels, AllocError>
     requires few_rows { bounds.top + bounds.rows ≤ 4096 }
     requires few_cols { bounds.left + bounds.cols ≤ 4096 }
-    requires size { length nodes.now ≡ (bounds.rows + 2) * (bounds.cols + 2) }
-    requires nodes { AreNodesBelow (length nodes.now) nodes.now }
-    ensures { IfOk result (λ labels. labels_by labels.places.items labels.cells.items
-        ≡ map (label_of_node bounds) (inner_rows nodes.now bounds.cols bounds.rows)) }
+    requires size { length nodes.now ≡ bounds.rows * bounds.cols }
+    requires nodes { AreNodesBelow ((bounds.rows + 2) * (bounds.cols + 2)) nodes.now }
+    ensures { IfOk result (λ labels. labels_by labels.places.items labels.cells.items ≡ map (label_of_node bounds) nodes.now) }
 {
-    let width = bounds.cols as usize;
-    let stride = width + 2;
-    let mut met = vec![in alloc; 0u32; nodes.len()]?;
+    let count = (bounds.rows as usize + 2) * (bounds.cols as usize + 2);
+    let mut met = vec![in alloc; 0u32; count]?;
     let mut places = empty_table(alloc)?;
-    let mut cells = Vec::with_capacity(alloc, bounds.rows as usize * width)?;
-    for row in 0..bounds.rows {
-        let start = (row as usize + 1) * stride + 1;
-        let inner = &nodes[start..start + width];
-        push_labels(&mut cells, &mut places, &mut met, bounds, inner)?;
+    let mut cells = Vec::with_capacity(alloc, nodes.len())?;
+    for node in nodes {
+        let index = index_of_label(&mut places, &mut met, bounds, *node)?;
+        cells.push(index)?;
     }
     Ok(Labels { places, cells })
 }

@@ -1,5 +1,5 @@
 // What each tile adds to the spill graph.
-ghost use Rattle.std.specs.Prelude.{◌≡◌, ◌<◌, ℕ, IfOk};
+ghost use Rattle.std.specs.Prelude.{◌<◌, IfOk};
 ghost use Rattle.tiles.specs.Cutting.{tile_count};
 ghost use Rattle.fill.specs.Gathering.{Fit};
 ghost use Rattle.fill.specs.Parts.{IsPart, AreParts};

@@ -5,10 +5,9 @@ ghost use Rattle.terrain.specs.Raster.{Terrain};
 ghost use Rattle.tiles.specs.Cutting.{IsWithin};
 ghost use Rattle.fill.specs.TileFlood.{Flood, LabelsInside};
 ghost use Rattle.fill.specs.Spills.{AreFloods, AreSpillLevels, IsRaised, IsFilledTile, AreGreater, greater_of, spill_of};
-ghost use Rattle.fill.specs.TileCells.{HasOneCell};
 
 use crate::marks::node_of;
-use crate::tile::{Lists, TileFlood};
+use crate::tile::TileFlood;
 use std::alloc::{AllocError, Global};
 use terrain::{Height, NoMemory, Place};
 use tiles::Tiling;
@@ -73,41 +72,6 @@ fn greater_levels(
     Ok(raised)
 }
 
-/// The filled heights of a tile of several cells.
-fn raise_lists(
-    alloc: Global,
-    tiling: &Tiling,
-    lists: &Lists,
-    levels: &[Option<Height>],
-) -> Result<Vec<Option<Height>>, AllocError>
-    requires size { length levels.now ≡ tiling.now.cols * tiling.now.rows }
-    requires same { length lists.now.labels.cells.items ≡ length lists.now.levels.items }
-    requires labels { All (λ label. IfSome label (IsWithin tiling.now)) lists.now.labels.places.items }
-    ensures { IfOk result (λ v. AreGreater lists.now.levels.items lists.now.labels.cells.items
-        (map (spill_of tiling.now levels.now) lists.now.labels.places.items) v.items) }
-{
-    let labels = &lists.labels;
-    let spills = spills_of(alloc, tiling, &labels.places, levels)?;
-    greater_levels(alloc, &lists.levels, &labels.cells, &spills)
-}
-
-/// The filled height of a tile of one cell.
-fn raise_cell(
-    alloc: Global,
-    tiling: &Tiling,
-    flood: &TileFlood,
-    levels: &[Option<Height>],
-) -> Result<Vec<Option<Height>>, AllocError>
-    requires size { length levels.now ≡ tiling.now.cols * tiling.now.rows }
-    requires labels { LabelsInside tiling.now flood.now }
-    requires one { HasOneCell flood.now }
-    ensures { IfOk result (λ v. IsRaised tiling.now flood.now levels.now v.items) }
-{
-    let spill = spill(tiling, levels, flood.label_at(0));
-    let raised = greater(flood.level_at(0), spill);
-    Vec::from_slice(alloc, &[raised])
-}
-
 /// The filled heights of a tile in its row order, of its flood and the levels of the graph in which it
 /// was gathered.
 pub fn raise(
@@ -125,8 +89,7 @@ pub fn raise(
         AreFloods t tiling.now floods → slice_get floods tile ≡ Some flood.now →
         AreSpillLevels t tiling.now floods levels.now → IsFilledTile t tiling.now tile v.items) }
 {
-    match flood.lists() {
-        Some(lists) => Ok(raise_lists(alloc, tiling, lists, levels)?),
-        None => Ok(raise_cell(alloc, tiling, flood, levels)?),
-    }
+    let labels = flood.labels();
+    let spills = spills_of(alloc, tiling, &labels.places, levels)?;
+    Ok(greater_levels(alloc, flood.levels(), &labels.cells, &spills)?)
 }

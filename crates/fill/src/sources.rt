@@ -6,7 +6,6 @@ ghost use Rattle.fill.specs.TileFlood.{Flood};
 ghost use Rattle.fill.specs.Gathering.{Fit, AddsSources, AreSources, PutsSinks, PutsSources};
 ghost use Rattle.fill.specs.Parts.{AreParts};
 
-use crate::flooding::empty_list;
 use crate::marks::{mark_at, node_of, source_at};
 use crate::parts::Part;
 use crate::tile::TileFlood;
@@ -75,11 +74,8 @@ pub(crate) fn tile_sources(
     ensures { IfOk result (λ v. AddsSources tiling.now floods.now (IsInTile tiling.now tile) [] v.items) }
 {
     let mut sources = Vec::new(alloc);
-    let flood = &floods[tile as usize];
-    match flood.lists() {
-        Some(lists) => push_sources(&mut sources, tiling, floods, tile, &lists.labels.places)?,
-        None => push_sources(&mut sources, tiling, floods, tile, &[flood.label_at(0)])?,
-    }
+    let labels = floods[tile as usize].labels();
+    push_sources(&mut sources, tiling, floods, tile, &labels.places)?;
     Ok(sources)
 }
 
@@ -103,7 +99,7 @@ pub(crate) fn gather_sources(
     ensures { IfOk result (λ v. (floods : List Flood) → AreParts tiling.now floods parts.now → AreSources tiling.now floods v.items) }
 {
     let nodes = tiling.cols() * tiling.rows();
-    let mut heights = empty_list(alloc, nodes as usize)?;
+    let mut heights = vec![in alloc; None; nodes as usize]?;
     for part in parts {
         put_sources(&mut heights, &part.sources);
     }

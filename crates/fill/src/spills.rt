@@ -5,11 +5,10 @@ ghost use Rattle.fill.specs.Parts.{AreParts};
 ghost use Rattle.fill.specs.Spills.{AreFloods, IsGraphOf, AreLevelsOf};
 ghost use Rattle.fill.specs.Gathering.{AreRising, way_of};
 
-use crate::flooding::{Flooded, flood};
-use crate::net::{Net, Spill};
 use crate::parts::{Part, tile_parts};
 use crate::sources::{gather_sources, put_sinks};
 use crate::tile::TileFlood;
+use floods::{Flooded, Net, Spill, flood};
 use smallvec::SmallVec;
 use std::alloc::{AllocError, Global};
 use std::marker::Model;

@@ -1,9 +1,10 @@
 -- Which tile a place lies in, and the bounds of a tile.
-use Rattle.std.proofs.Common.{◌≡◌, ◌↔◌, ℕ, ◌+◌, ◌-◌, ◌*◌, ◌/◌, ◌%◌, ◌<◌, min, sym, ap, subst, ◌∙◌, arith, mul_comm}
+use Rattle.std.proofs.Common.{◌≡◌, ◌↔◌, ℕ, ◌+◌, ◌-◌, ◌*◌, ◌/◌, ◌%◌, ◌<◌, min, sym, ap, subst, ◌∙◌, arith, mul_comm, true}
+use Rattle.std.proofs.lemmas.Bool.{and_from, and_parts, le-leb, lt-ltb, leb-true, ltb-true}
 use Rattle.std.proofs.lemmas.Nat.{div-mul-add, mod-mul-add, mul-add-lt, div_below, mod_below, div-add-mod'}
 use Rattle.terrain.specs.declared.place.Place.{Place}
 use Rattle.tiles.specs.declared.bounds.Bounds.{Bounds}
-use Rattle.tiles.specs.Cutting.{Cutting, IsCutting, IsWithin, IsInTile, IsInBounds, AreBounds, across, down, tile_count, tile_of_place, bounds_of}
+use Rattle.tiles.specs.Cutting.{Cutting, IsCutting, IsWithin, IsInTile, IsInBounds, is_in_bounds, AreBounds, across, down, tile_count, tile_of_place, bounds_of}
 use Rattle.tiles.proofs.Quotients.{piece_begins, piece_of, pieces_some, piece_is, piece_from}
 
 abbrev pub make_bounds : ℕ → ℕ → ℕ → ℕ → Bounds
@@ -93,3 +94,14 @@ bounds_from t tile a n m e f g =
     ap (λ i. make_bounds (tile / a * t.side) (tile % a * t.side) i m) f
     ∙ ap (λ i. make_bounds (tile / a * t.side) (tile % a * t.side) (min t.side (t.rows - tile / a * t.side)) i) g
     ∙ ap (λ i. make_bounds (tile / i * t.side) (tile % i * t.side) (min t.side (t.rows - tile / i * t.side)) (min t.side (t.cols - tile % i * t.side))) e
+
+-- whether a place is in bounds, decided
+pub in_bounds_parts : (b : Bounds) (p : Place) → is_in_bounds b p ≡ true → IsInBounds b p
+in_bounds_parts b p e =
+    let a = and_parts _ _ e in
+    let d = and_parts _ _ a.0 in
+    let f = and_parts _ _ d.0 in
+    (leb-true _ _ f.0, ltb-true _ _ f.1, leb-true _ _ d.1, ltb-true _ _ a.1)
+
+pub in_bounds_from : (b : Bounds) (p : Place) → IsInBounds b p → is_in_bounds b p ≡ true
+in_bounds_from b p h = and_from _ _ (and_from _ _ (and_from _ _ (le-leb _ _ h.0) (lt-ltb _ _ h.1)) (le-leb _ _ h.2)) (lt-ltb _ _ h.3)

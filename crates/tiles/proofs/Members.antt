@@ -1,15 +1,15 @@
 -- Which places stand on a rim, and which touch a place.
-use Rattle.std.proofs.Common.{◌≡◌, ◌≢◌, ◌⊎◌, ℕ, zero, suc, ◌+◌, ◌<◌, ◌≤◌, Bool, true, List, [], ◌∷◌, length, map, filter, Contains, Option, None, Some, slice_index_or, not, sym, ap, subst, refl, ◌∙◌, arith, inl, inr, lit<}
+use Rattle.std.proofs.Common.{◌≡◌, ◌≢◌, ◌⊎◌, ℕ, zero, suc, ◌+◌, ◌<◌, ◌≤◌, Bool, true, List, [], ◌∷◌, length, map, filter, Contains, Option, None, Some, slice_index_or, sym, ap, subst, refl, ◌∙◌, arith, inl, inr, lit<}
 use Rattle.std.specs.List.{range_with_len, flat_map, filter_map}
-use Rattle.std.proofs.lemmas.Bool.{cases_Bool, cases_eq, cases_order, cond-true, cond-false, and_from, and_parts, lt-ltb, ltb-true, ne_eqb, eq-eqb}
+use Rattle.std.proofs.lemmas.Bool.{cases_Bool, cases_eq, cases_order, cond-true, cond-false}
 use Rattle.std.proofs.lemmas.List.Elements.{Contains-append_left, Contains-append_right, Contains-append_cases}
 use Rattle.std.proofs.lemmas.Option.{none-some, same_Some}
 use Rattle.terrain.specs.Neighbours.{Touches}
-use Rattle.terrain.specs.Ways.{before, place_of, ways_from, places_around}
+use Rattle.terrain.specs.Ways.{before, place_of, ways_from}
 use Rattle.terrain.specs.declared.place.Place.{Place}
 use Rattle.terrain.proofs.Places.{make_place, same_place}
 use Rattle.tiles.specs.declared.bounds.Bounds.{Bounds}
-use Rattle.tiles.specs.Cutting.{Cutting, IsCutting, IsWithin, IsInTile, IsInBounds, tile_count, tile_of_place, bounds_of, is_in_other_tile, is_first_or_last, is_on_rim, places_in, rim_places, outer_places}
+use Rattle.tiles.specs.Cutting.{Cutting, IsCutting, IsInTile, IsInBounds, tile_count, bounds_of, is_first_or_last, is_on_rim, places_in, rim_places}
 use Rattle.tiles.proofs.Cut.{in_bounds, in_tile}
 
 Contains-here : {X : Type 0} (y : X) (xs : List X) (x : X) → y ≡ x → Contains (y ∷ xs) x
@@ -164,11 +164,11 @@ before_is (suc n) m e = ap (λ k. Some k) (omega (arith, e))
 place_is : (row col : Option ℕ) (q : Place) → row ≡ Some q.row → col ≡ Some q.col → place_of row col ≡ Some q
 place_is row col q e f = ap (λ r. place_of r col) e ∙ ap (λ c. place_of (Some q.row) c) f
 
-before_parts : (n m : ℕ) → before n ≡ Some m → m + 1 ≡ n
+pub before_parts : (n m : ℕ) → before n ≡ Some m → m + 1 ≡ n
 before_parts zero m e = absurd (none-some m e)
 before_parts (suc n) m e = let s = same_Some n m e in omega (arith, s)
 
-place_parts : (row col : Option ℕ) (q : Place) → place_of row col ≡ Some q → (row ≡ Some q.row) × (col ≡ Some q.col)
+pub place_parts : (row col : Option ℕ) (q : Place) → place_of row col ≡ Some q → (row ≡ Some q.row) × (col ≡ Some q.col)
 place_parts None col q e = absurd (none-some q e)
 place_parts (Some r) None q e = absurd (none-some q e)
 place_parts (Some r) (Some c) q e =

@@ -1,6 +1,6 @@
 -- What the rows of a tile have, and the list of the tile.
 use Rattle.std.proofs.Common.{◌≡◌, ◌≢◌, ℕ, ◌+◌, ◌-◌, ◌*◌, ◌<◌, ◌≤◌, ◌⊎◌, inl, inr, List, length, get_or, drop, slice_range, Option, None, sym, ap, subst, refl, ◌∙◌, arith}
-use Rattle.std.proofs.lemmas.Bool.{cases_lt, cases_eq, cond-true, and_from, lt-ltb, eq-eqb}
+use Rattle.std.proofs.lemmas.Bool.{cases_lt, cases_eq}
 use Rattle.std.proofs.lemmas.List.{get_or-take, get_or-drop}
 use Rattle.std.proofs.Math.Nat.{mul-le-mul_right}
 use Rattle.std.proofs.lemmas.Nat.{row_fits}
@@ -8,7 +8,7 @@ use Rattle.terrain.proofs.Places.{make_place, entry-inside}
 use Rattle.terrain.specs.Neighbours.{entry_at, index_of}
 use Rattle.terrain.specs.declared.place.Place.{Place}
 use Rattle.tiles.specs.declared.bounds.Bounds.{Bounds}
-use Rattle.tiles.specs.Cutting.{Cutting, IsCutting, View, IsView, AreBounds, IsInBounds, IsWithin, IsInTile, bounds_of, row_shown, tile_entry, index_in_tile, tile_of_place, tile_count, cell_count}
+use Rattle.tiles.specs.Cutting.{Cutting, IsCutting, View, IsView, AreBounds, IsInBounds, IsWithin, IsInTile, bounds_of, row_shown, tile_entry, tile_of_place, tile_count, cell_count}
 use Rattle.tiles.proofs.Cut.{in_bounds, in_tile}
 use Rattle.tiles.proofs.TileOrder.{index_in, tile_entry-in}
 

@@ -76,6 +76,9 @@ cell_count t tile = (bounds_of t tile).rows * (bounds_of t tile).cols
 abbrev pub IsInBounds : Bounds → Place → Type 0
 IsInBounds b p = (b.top ≤ p.row) × (p.row < b.top + b.rows) × (b.left ≤ p.col) × (p.col < b.left + b.cols)
 
+abbrev pub is_in_bounds : Bounds → Place → Bool
+is_in_bounds b p = nat_le b.top p.row && nat_lt p.row (b.top + b.rows) && nat_le b.left p.col && nat_lt p.col (b.left + b.cols)
+
 -- What holds of the bounds of a tile: they have a cell, and lie in the grid.
 pub record AreBounds (t : Cutting) (b : Bounds) : Type 0 where
   pub some_row : 1 ≤ b.rows

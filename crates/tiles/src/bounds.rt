@@ -1,5 +1,5 @@
 ghost use Rattle.std.specs.Prelude.{◌≡◌, ◌+◌, ◌≤◌};
-ghost use Rattle.tiles.specs.Cutting.{is_first_or_last, IsInBounds};
+ghost use Rattle.tiles.specs.Cutting.{is_first_or_last, IsInBounds, is_in_bounds};
 
 use terrain::Place;
 
@@ -13,6 +13,18 @@ pub struct Bounds {
 }
 
 impl Bounds {
+    /// Whether a place lies in these bounds.
+    #[inline(always)]
+    pub fn contains(self, place: Place) -> bool
+        requires { (self.top + self.rows ≤ 4096) × (self.left + self.cols ≤ 4096) }
+        ensures { result ≡ is_in_bounds self place }
+    {
+        self.top <= place.row
+            && place.row < self.top + self.rows
+            && self.left <= place.col
+            && place.col < self.left + self.cols
+    }
+
     // Whether a place of these bounds lies in their first or last row or column.
     #[inline(always)]
     pub(crate) fn is_first_or_last(self, place: Place) -> bool

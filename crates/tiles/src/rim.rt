@@ -30,6 +30,7 @@ impl Model for Rim {
 
 impl Rim {
     // The rim of a tile with these bounds.
+    #[tactic(auto, using(crate::proofs::RimSteps::rim_start))]
     pub(crate) fn of_bounds(bounds: Bounds) -> Self
         requires rows { (1 ≤ bounds.rows) × (bounds.top + bounds.rows ≤ longest_axis) }
         requires cols { (1 ≤ bounds.cols) × (bounds.left + bounds.cols ≤ longest_axis) }

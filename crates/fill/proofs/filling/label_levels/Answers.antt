@@ -1,17 +1,18 @@
-use Rattle.std.proofs.Common.{arith}
+use Rattle.std.proofs.Common.{arith, sym}
 use Rattle.fill.proofs.Gathered.{fit_of}
-use Rattle.fill.proofs.Raised.{own_raises}
 use Rattle.fill.proofs.filling.label_levels.Goals as goal
-
-pub returns-then-has_no_inner_cell-clause-levels : goal.returns-then-has_no_inner_cell-clause-levels
-returns-then-has_no_inner_cell-clause-levels g c =
-    own_raises c.args.grid.now.terrain c.args.tiling.now c.args.floods.now c.in-Ok.levels.items c.requires.floods (c.has_no_inner_cell.ensures.0 c.if-has_no_inner_cell.true) c.in-Ok.ensures
 
 pub invariant_of-run : goal.invariant_of-run
 invariant_of-run g c = record { fit = fit_of c.args.grid.now.terrain c.args.tiling.now c.args.floods.now c.requires.floods.lawful c.requires.floods }
 
-pub spill_levels-requires-clause-parts : goal.spill_levels-requires-clause-parts
-spill_levels-requires-clause-parts g c = record {
+pub of_parts-requires-clause-floods : goal.of_parts-requires-clause-floods
+of_parts-requires-clause-floods g c = (c.args.grid.now.terrain, c.requires.floods)
+
+pub of_parts-requires-clause-parts : goal.of_parts-requires-clause-parts
+of_parts-requires-clause-parts g c = record {
   count = omega (arith, c.in_ok-parts.parts.ok.0, c.in_ok-parts.ensures.len, c.tiles.ensures.value);
   each = λ j d below. c.in_ok-parts.ensures.given j d (omega (arith, below, c.tiles.ensures.value));
 }
+
+pub returns-clause-levels : goal.returns-clause-levels
+returns-clause-levels g c = (c.in_ok-graph.graph, c.in_ok-graph.ensures c.args.grid.now.terrain (sym c.sinks.ensures.value) c.requires.floods, c.in-Ok.ensures)

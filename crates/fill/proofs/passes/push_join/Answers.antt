@@ -1,6 +1,6 @@
 use Rattle.std.proofs.Common.{rules, ◌≢◌, arith}
 use Rattle.fill.proofs.Adding.{adds_differ}
-use Rattle.fill.proofs.Noting.{kept_crest}
+use Rattle.floods.proofs.Noting.{kept_crest}
 use Rattle.fill.proofs.passes.push_join.Goals as goal
 
 pub returns : goal.returns

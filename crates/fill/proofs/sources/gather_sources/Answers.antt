@@ -1,6 +1,6 @@
 use Rattle.std.proofs.Common.{◌≡◌, ◌<◌, ℕ, length, ap, subst, ◌∙◌, arith}
 use Rattle.tiles.specs.Cutting.{IsWithin, IsInTile, tile_of_place, tile_count}
-use Rattle.fill.proofs.Noting.{written_back}
+use Rattle.floods.proofs.Noting.{written_back}
 use Rattle.fill.proofs.GraphParts.{part_at}
 use Rattle.fill.proofs.SourceCells.{HaveSources, nodes_inside, sources_more, all_sources}
 use Rattle.fill.proofs.sources.gather_sources.Goals as goal

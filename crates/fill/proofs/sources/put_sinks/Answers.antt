@@ -4,7 +4,7 @@ use Rattle.std.proofs.lemmas.Int.{to_z-of_z}
 use Rattle.terrain.proofs.Places.{make_place}
 use Rattle.tiles.proofs.Cut.{tile_of_place_below}
 use Rattle.fill.proofs.Gathered.{marked_within}
-use Rattle.fill.proofs.SinkCells.{sink_more, sink_none}
+use Rattle.fill.proofs.SourceCells.{sink_more, sink_none}
 use Rattle.fill.proofs.sources.put_sinks.Goals as goal
 use Rattle.fill.proofs.sources.put_sinks.Goals.{in-Some, in_default}
 

@@ -1,4 +1,4 @@
-use Rattle.fill.proofs.SinkCells.{PutsFirstSinks}
+use Rattle.fill.proofs.SourceCells.{PutsFirstSinks}
 use Rattle.fill.proofs.sources.put_sinks.Given as goal
 
 abbrev pub invariant-loop-sink : goal.invariant-loop-sink

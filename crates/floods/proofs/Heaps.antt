@@ -1,0 +1,168 @@
+-- The state of a flood, and what a heap of waiting nodes has after each pop and push.
+use Rattle.std.proofs.Common.{[], ◌≡◌, ℕ, ◌<◌, ◌⊎◌, ℤ, List, length, Option, None, Some, IsSome, zero, suc, ◌+◌, false, ◌∷◌, get_or, set, replicate, ◌≤ℤ◌, is_some, sym, ap, subst, refl, ◌∙◌, arith, inl, inr}
+use Rattle.std.specs.Int.{int_max}
+use Rattle.std.specs.List.{Contains, All}
+use Rattle.floods.specs.Walk.{Joins, Sources, IsWalk, crest, end_of, IsLevel}
+use Rattle.floods.specs.Flood.{entry_of, IsDone, SomeWaits, TakesLowest, PutsIn, HasNone, SourcesWait, HasSourcesNoted}
+use Rattle.floods.specs.declared.net.Spill.{Spill}
+use Rattle.floods.specs.declared.flooding.Waiting.{Waiting}
+use Rattle.std.proofs.lemmas.Int.{ints}
+use Rattle.std.proofs.lemmas.Bool.{cases_eq}
+use Rattle.std.proofs.lemmas.List.{get_or-set_same, get_or-set_other}
+use Rattle.std.proofs.lemmas.List.Elements.{All-contains, All-contains_itself}
+use Rattle.std.proofs.lemmas.List.Sorted.{Contains-permutation, IsPermutation-sym}
+use Rattle.std.proofs.lemmas.Option.{same_Some}
+
+-- A walk from the node has this crest and ends at the label.
+abbrev pub HasWalk : Joins → Sources → Waiting → Type 0
+HasWalk joins source w =
+    (walk : List Spill) × IsWalk joins source w.node walk × (crest source w.node walk ≡ w.height.0) × (end_of w.node walk ≡ w.label)
+
+-- The state of a flood: nodes that are done have their level and label; of the others each source waits,
+-- and so does each neighbour of a node that is done.
+pub record IsFlooding (joins : Joins) (source : Sources) (nodes : ℕ) (levels : List (Option ℤ)) (labels : List (Option ℕ)) (waiting : List Waiting) : Type 0 where
+  pub levels_size : length levels ≡ nodes
+  pub labels_size : length labels ≡ nodes
+  pub settled : (a b : ℕ) → entry_of labels a ≡ Some b → (l : ℤ) × (entry_of levels a ≡ Some l) × IsLevel joins source a l b
+  pub waits : All (λ w. (w.node < nodes) × HasWalk joins source w) waiting
+  pub sources : (a : ℕ) (h : ℤ) → a < nodes → source a ≡ Some h → entry_of labels a ≡ None → SomeWaits waiting a h
+  pub frontier : (a b : ℕ) (l h : ℤ) → a < nodes → joins a b h → IsSome (entry_of labels b) → entry_of levels b ≡ Some l → entry_of labels a ≡ None → SomeWaits waiting a (int_max h l)
+
+-- What has left the heap so far is done.
+pub record OnlyDoneLeft (labels : List (Option ℕ)) (old new : List Waiting) : Type 0 where
+  pub left : All (Contains old) new
+  pub kept : All (λ x. IsDone labels x ⊎ Contains new x) old
+
+pub all_by_contains : {X : Type 0} (P : X → Type 0) (xs : List X) → ((x : X) → Contains xs x → P x) → All P xs
+all_by_contains P xs h k d below = h (get_or xs k d) (All-contains_itself xs k d below)
+
+pub cons_head : {X : Type 0} (x : X) (xs : List X) → Contains (x ∷ xs) x
+cons_head x xs = (0, omega arith, refl)
+
+pub cons_cases : {X : Type 0} (x : X) (xs : List X) (y : X) → Contains (x ∷ xs) y → (y ≡ x) ⊎ Contains xs y
+cons_cases x xs y h = go h.0 h.1 h.2 where
+  go : (k : ℕ) → k < length (x ∷ xs) → get_or (x ∷ xs) k y ≡ y → (y ≡ x) ⊎ Contains xs y
+  go zero below e = inl (sym e)
+  go (suc k) below e = inr (k, omega arith, e)
+
+pub one_held : {X : Type 0} (x y : X) → Contains (x ∷ []) y → y ≡ x
+one_held x y h = elim (cons_cases x [] y h) [ inl same ↦ same | inr none ↦ absurd (omega (arith, none.1)) ]
+
+pub cons_tail : {X : Type 0} (x : X) (xs : List X) (y : X) → Contains xs y → Contains (x ∷ xs) y
+cons_tail x xs y h = (suc h.0, omega (arith, h.1), h.2)
+
+pub replicated : {X : Type 0} (x : X) (n k : ℕ) → get_or (replicate n x) k x ≡ x
+replicated x zero k = refl
+replicated x (suc n) zero = refl
+replicated x (suc n) (suc k) = replicated x n k
+
+-- what waits with one more that is put in
+pub held_in : {x : Waiting} {old new : List Waiting} → PutsIn x old new → (y : Waiting) → Contains (x ∷ old) y → Contains new y
+held_in {x} {old} {new} perm y h = Contains-permutation (x ∷ old) new y perm h
+
+pub held_cases : {x : Waiting} {old new : List Waiting} → PutsIn x old new → (y : Waiting) → Contains new y → (y ≡ x) ⊎ Contains old y
+held_cases {x} {old} {new} perm y h = cons_cases x old y (Contains-permutation new (x ∷ old) y (IsPermutation-sym _ _ perm) h)
+
+pub nothing_left : (labels : List (Option ℕ)) (xs : List Waiting) → OnlyDoneLeft labels xs xs
+nothing_left labels xs = record {
+  left = All-contains_itself xs;
+  kept = λ k d below. inr (All-contains_itself xs k d below);
+}
+
+pub one_left : (labels : List (Option ℕ)) (old now rest : List Waiting) (x : Waiting) → OnlyDoneLeft labels old now → PutsIn x rest now → IsDone labels x → OnlyDoneLeft labels old rest
+one_left labels old now rest x s perm done = record {
+  left = all_by_contains (Contains old) rest (λ y h. All-contains (Contains old) now y s.left (held_in perm y (cons_tail x rest y h)));
+  kept = all_by_contains (λ y. IsDone labels y ⊎ Contains rest y) old (λ y h.
+      elim (All-contains (λ z. IsDone labels z ⊎ Contains now z) old y s.kept h) [
+        | inl d ↦ inl d
+        | inr held ↦ elim (held_cases perm y held) [
+          | inl same ↦ inl (subst (λ (z : Waiting). IsDone labels z) (sym same) done)
+          | inr still ↦ inr still
+        ]
+      ]);
+}
+
+pub first_open : (labels : List (Option ℕ)) (old now rest : List Waiting) (x : Waiting) → OnlyDoneLeft labels old now → PutsIn x rest now → All (λ y. x.height.0 ≤ℤ y.height.0) rest → entry_of labels x.node ≡ None → TakesLowest labels old x rest
+first_open labels old now rest x s perm bound is_open =
+    record {
+      was_open = is_open;
+      was = All-contains (Contains old) now x s.left (held_in perm x (cons_head x rest));
+      lowest = all_by_contains (λ y. IsDone labels y ⊎ (x.height.0 ≤ℤ y.height.0)) old (λ y h.
+          elim (All-contains (λ z. IsDone labels z ⊎ Contains now z) old y s.kept h) [
+            | inl d ↦ inl d
+            | inr held ↦ elim (held_cases perm y held) [
+              | inl same ↦ inr (omega (arith, ints, ap (λ (z : Waiting). z.height.0) same))
+              | inr still ↦ inr (All-contains (λ z. x.height.0 ≤ℤ z.height.0) rest y bound still)
+            ]
+          ]);
+      left = all_by_contains (Contains old) rest (λ y h. All-contains (Contains old) now y s.left (held_in perm y (cons_tail x rest y h)));
+      kept = all_by_contains (λ y. IsDone labels y ⊎ (y ≡ x) ⊎ Contains rest y) old (λ y h.
+          elim (All-contains (λ z. IsDone labels z ⊎ Contains now z) old y s.kept h) [
+            | inl d ↦ inl d
+            | inr held ↦ inr (held_cases perm y held)
+          ]);
+    }
+
+-- what has left is done, and so is all where nothing is left
+pub all_done : (labels : List (Option ℕ)) (old now : List Waiting) → OnlyDoneLeft labels old now → HasNone now → All (IsDone labels) old
+all_done labels old now s none = all_by_contains (IsDone labels) old (λ y h.
+    elim (All-contains (λ z. IsDone labels z ⊎ Contains now z) old y s.kept h) [ inl d ↦ d | inr held ↦ absurd (none y held) ])
+
+pub no_sources : (source : Sources) (waiting : List Waiting) → HasNone waiting → SourcesWait 0 source waiting
+no_sources source waiting none = record {
+  only = all_by_contains (λ w. (w.node < 0) × (source w.node ≡ Some w.height.0) × (w.label ≡ w.node)) waiting (λ w h. absurd (none w h));
+  every = λ a h below e. absurd (omega (arith, below));
+}
+
+-- a node that is no source
+pub source_passed : (source : Sources) (n : ℕ) (waiting : List Waiting) → SourcesWait n source waiting → source n ≡ None → SourcesWait (n + 1) source waiting
+source_passed source n waiting s none = record {
+  only = λ k d below. let o = s.only k d below in (omega (arith, o.0), o.1, o.2);
+  every = λ a h below e. elim (cases_eq a n) [
+    | inl same ↦ let no : source n ≡ Some h = subst (λ (k : ℕ). source k ≡ Some h) same e in absurd (cc)
+    | inr other ↦ s.every a h (omega arith) e
+  ];
+}
+
+-- a source that waits
+pub source_more : (source : Sources) (n : ℕ) (h : ℤ) (now new : List Waiting) (w : Waiting) → SourcesWait n source now → source n ≡ Some h → w.node ≡ n → w.label ≡ n → w.height.0 ≡ h → PutsIn w now new → SourcesWait (n + 1) source new
+source_more source n h now new w s is node label height perm = record {
+  only = all_by_contains (λ x. (x.node < n + 1) × (source x.node ≡ Some x.height.0) × (x.label ≡ x.node)) new (λ x held.
+      elim (held_cases perm x held) [
+        | inl same ↦ subst (λ (x : Waiting). (x.node < n + 1) × (source x.node ≡ Some x.height.0) × (x.label ≡ x.node)) (sym same) (omega arith, ap source node ∙ is ∙ ap Some (sym height), label ∙ sym node)
+        | inr was ↦ let o = All-contains (λ x. (x.node < n) × (source x.node ≡ Some x.height.0) × (x.label ≡ x.node)) now x s.only was in (omega (arith, o.0), o.1, o.2)
+      ]);
+  every = λ a k below e. elim (cases_eq a n) [
+    | inl same ↦ (w, held_in perm w (cons_head w now), node ∙ sym same, height ∙ same_Some h k (sym is ∙ subst (λ (j : ℕ). source j ≡ Some k) same e))
+    | inr other ↦ let x = s.every a k (omega arith) e in (x.0, held_in perm x.0 (cons_tail w now x.0 x.1), x.2, x.3)
+  ];
+}
+
+-- the height of one more source is noted, or of a node that is none
+pub none_noted : (source : Sources) (nodes : ℕ) → HasSourcesNoted 0 source (replicate nodes None)
+none_noted source nodes = record {
+  each = λ a below. absurd (omega (arith, below));
+  rest = λ a _. replicated None nodes a;
+}
+
+pub noted_past : (source : Sources) (n : ℕ) (levels : List (Option ℤ)) → HasSourcesNoted n source levels → source n ≡ None → HasSourcesNoted (n + 1) source levels
+noted_past source n levels s none = record {
+  each = λ a below. elim (cases_eq a n) [
+    | inl same ↦ subst (λ (k : ℕ). entry_of levels k ≡ source k) (sym same) (s.rest n (omega arith) ∙ sym none)
+    | inr other ↦ s.each a (omega arith)
+  ];
+  rest = λ a past. s.rest a (omega (arith, past));
+}
+
+pub noted_more : (source : Sources) (n : ℕ) (h : ℤ) (levels : List (Option ℤ)) → n < length levels → HasSourcesNoted n source levels → source n ≡ Some h → HasSourcesNoted (n + 1) source (set levels n (Some h))
+noted_more source n h levels inside s is = record {
+  each = λ a below. elim (cases_eq a n) [
+    | inl same ↦ subst (λ (k : ℕ). entry_of (set levels n (Some h)) k ≡ source k) (sym same) (get_or-set_same levels n (Some h) None inside ∙ sym is)
+    | inr other ↦ get_or-set_other levels n a (Some h) None other ∙ s.each a (omega arith)
+  ];
+  rest = λ a past. get_or-set_other levels n a (Some h) None (λ same. omega (arith, same, past)) ∙ s.rest a (omega (arith, past));
+}
+
+pub not_some : {X : Type 0} (o : Option X) → is_some o ≡ false → o ≡ None
+not_some None e = refl
+not_some (Some x) e = absurd (cc)

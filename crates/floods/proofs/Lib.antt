@@ -1,0 +1,11 @@
+-- the flood of a net
+pub mod Steps
+pub mod Heaps
+pub mod Waits
+pub mod Noting
+-- a window of cells as a net
+pub mod CellWays
+mod Borders
+pub mod Windows
+-- the whole grid, and a tile that a view shows
+pub mod Nets

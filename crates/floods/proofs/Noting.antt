@@ -1,0 +1,142 @@
+-- Ways followed one by one, and what is noted of the nodes that they lead to.
+use Rattle.std.proofs.Common.{◌≡◌, ℕ, ◌+◌, ◌<◌, List, [], ◌∷◌, ◌++◌, length, get_or, set, take, drop, ℤ, ◌≤ℤ◌, Option, None, Some, IsSome, sym, subst, refl, ◌∙◌, arith, ◌⊎◌, inl, inr, to_z, of_z, w32}
+use Rattle.std.specs.Int.{int_max}
+use Rattle.std.specs.Int.Signed.{≤ℤ_refl}
+use Rattle.drainage.proofs.Heights.{trans}
+use Rattle.std.specs.List.{Contains}
+use Rattle.std.proofs.lemmas.Int.{ints, to_z-of_z}
+use Rattle.std.proofs.lemmas.Int.{by_lt_z}
+use mir.Val.{SFits}
+use Rattle.std.proofs.lemmas.Bool.{cases_eq}
+use Rattle.std.proofs.lemmas.List.{length-set, get_or-set_same, get_or-set_other, take_more}
+use Rattle.std.proofs.lemmas.List.Elements.{All-contains, All-contains_itself, Contains-append_left, Contains-append_right, Contains-append_cases}
+use Rattle.std.proofs.Math.Seq.{take-append_seam}
+use Rattle.std.proofs.lemmas.Option.{same_Some}
+use Rattle.floods.specs.declared.net.Spill.{Spill}
+use Rattle.floods.specs.declared.flooding.Waiting.{Waiting}
+use Rattle.floods.specs.Walk.{Sources}
+use Rattle.floods.specs.Flood.{AreOwn, PutsIn, entry_of, SomeWaits, ComesBy, waiting_by, MakesWait, AreNoted, KeepsDone}
+use Rattle.floods.proofs.Heaps.{all_by_contains, cons_head, cons_tail, held_in, held_cases, one_held}
+use Rattle.floods.proofs.Steps.{none_done, le_of_same}
+
+-- a way that is not followed, since nothing is won by it
+pub passed : (labels : List (Option ℕ)) (from : Waiting) (way : Spill) (waiting : List Waiting) → (entry_of labels way.to ≡ None → SomeWaits waiting way.to (int_max way.height from.height.0)) → MakesWait labels from (way ∷ []) waiting waiting
+passed labels from way waiting reached = record {
+  kept = All-contains_itself waiting;
+  made = λ k d below. inl (All-contains_itself waiting k d below);
+  reached = all_by_contains (λ y. entry_of labels y.to ≡ None → SomeWaits waiting y.to (int_max y.height from.height.0)) (way ∷ []) (λ y h. subst (λ (y : Spill). entry_of labels y.to ≡ None → SomeWaits waiting y.to (int_max y.height from.height.0)) (sym (one_held way y h)) reached);
+}
+
+-- the node at its end is done
+pub passed_done : (labels : List (Option ℕ)) (from : Waiting) (way : Spill) (waiting : List Waiting) → IsSome (entry_of labels way.to) → MakesWait labels from (way ∷ []) waiting waiting
+passed_done labels from way waiting done = passed labels from way waiting (λ none. none_done (entry_of labels way.to) none done)
+
+-- the node at its end waits as low
+pub passed_low : (labels : List (Option ℕ)) (levels : List (Option ℤ)) (from : Waiting) (way : Spill) (waiting : List Waiting) (h : ℤ) → AreNoted labels levels waiting → entry_of levels way.to ≡ Some h → h ≤ℤ int_max way.height from.height.0 → MakesWait labels from (way ∷ []) waiting waiting
+passed_low labels levels from way waiting h s noted low = passed labels from way waiting (λ none.
+    let x = s.waits way.to h none noted in
+    (x.0, x.1, x.2, trans _ _ _ x.3 low))
+
+-- a way that is followed
+pub followed : (labels : List (Option ℕ)) (from : Waiting) (way : Spill) (old new : List Waiting) → PutsIn (waiting_by from way) old new → MakesWait labels from (way ∷ []) old new
+followed labels from way old new perm = record {
+  kept = all_by_contains (Contains new) old (λ y h. held_in perm y (cons_tail (waiting_by from way) old y h));
+  made = all_by_contains (λ y. Contains old y ⊎ ComesBy from (way ∷ []) y) new (λ y h.
+      elim (held_cases perm y h) [
+        | inl same ↦ inr (way, cons_head way [], same)
+        | inr held ↦ inl held
+      ]);
+  reached = all_by_contains (λ y. entry_of labels y.to ≡ None → SomeWaits new y.to (int_max y.height from.height.0)) (way ∷ []) (λ y h. subst (λ (y : Spill). entry_of labels y.to ≡ None → SomeWaits new y.to (int_max y.height from.height.0)) (sym (one_held way y h)) (λ _. here));
+} where
+  here : SomeWaits new way.to (int_max way.height from.height.0)
+  here = (waiting_by from way, held_in perm _ (cons_head (waiting_by from way) old), refl, ≤ℤ_refl _)
+
+-- the crest by a way that is followed is noted
+pub noted : (labels : List (Option ℕ)) (levels : List (Option ℤ)) (from : Waiting) (way : Spill) (old new : List Waiting) → way.to < length labels → AreNoted labels levels old → PutsIn (waiting_by from way) old new → AreNoted labels (set levels way.to (Some (int_max way.height from.height.0))) new
+noted labels levels from way old new below s perm = record {
+  size = length-set levels way.to (Some crest) ∙ s.size;
+  waits = λ a h none found. elim (cases_eq a way.to) [
+    | inl same ↦
+        let found_there : entry_of (set levels way.to (Some crest)) way.to ≡ Some h = subst (λ (n : ℕ). entry_of (set levels way.to (Some crest)) n ≡ Some h) same found in
+        let is : crest ≡ h = same_Some _ _ (sym (get_or-set_same levels way.to (Some crest) None (omega (arith, below, s.size))) ∙ found_there) in
+        (waiting_by from way, held_in perm _ (cons_head (waiting_by from way) old), sym same, le_of_same crest h is)
+    | inr n ↦
+        let x = s.waits a h none (sym (get_or-set_other levels way.to a (Some crest) None n) ∙ found) in
+        (x.0, held_in perm x.0 (cons_tail (waiting_by from way) old x.0 x.1), x.2, x.3)
+  ];
+} where
+  crest : ℤ
+  crest = int_max way.height from.height.0
+
+-- what is known of the sources stands: a crest below what was noted of a source is below its height
+pub own_by_way : (source : Sources) (labels : List (Option ℕ)) (levels : List (Option ℤ)) (from : Waiting) (way : Spill) (old new : List Waiting) → way.to < length labels → length levels ≡ length labels → entry_of labels way.to ≡ None → ((h : ℤ) × (entry_of levels way.to ≡ Some h) × (h ≤ℤ int_max way.height from.height.0) → ⊥) → PutsIn (waiting_by from way) old new → AreOwn source labels levels old → AreOwn source labels (set levels way.to (Some (int_max way.height from.height.0))) new
+own_by_way source labels levels from way old new below size none lower perm s = record {
+  own = all_by_contains (λ y. source y.node ≡ Some y.height.0 → y.label ≡ y.node) new (λ y h.
+      elim (held_cases perm y h) [
+        | inl same ↦ subst (λ (y : Waiting). source y.node ≡ Some y.height.0 → y.label ≡ y.node) (sym same) (λ is. absurd (lower (s.low way.to crest below is none)))
+        | inr held ↦ All-contains (λ y. source y.node ≡ Some y.height.0 → y.label ≡ y.node) old y s.own held
+      ]);
+  low = λ a h inside is open_here.
+      let was = s.low a h inside is open_here in
+      elim (cases_eq a way.to) [
+        | inl same ↦
+            let there : entry_of levels way.to ≡ Some was.0 = subst (λ (n : ℕ). entry_of levels n ≡ Some was.0) same was.1 in
+            (crest, subst (λ (n : ℕ). entry_of (set levels way.to (Some crest)) n ≡ Some crest) (sym same) (get_or-set_same levels way.to (Some crest) None (omega (arith, below, size))), high was.0 h there was.2)
+        | inr n ↦ (was.0, get_or-set_other levels way.to a (Some crest) None n ∙ was.1, was.2)
+      ];
+} where
+  crest : ℤ
+  crest = int_max way.height from.height.0
+
+  high : (l h : ℤ) → entry_of levels way.to ≡ Some l → l ≤ℤ h → crest ≤ℤ h
+  high l h there low = by_lt_z crest l (λ less. omega (arith, ints, less, low)) (λ up. absurd (lower (l, there, up)))
+
+-- a node that is not done is noted, and the others keep their levels
+pub keeps_done : (labels : List (Option ℕ)) (levels : List (Option ℤ)) (a : ℕ) (level : Option ℤ) → entry_of labels a ≡ None → KeepsDone labels levels (set levels a level)
+keeps_done labels levels a level none = λ b done. elim (cases_eq b a) [
+  | inl same ↦ none_done (entry_of labels a) none (subst (λ (n : ℕ). IsSome (entry_of labels n)) same done)
+  | inr n ↦ get_or-set_other levels a b level None n
+]
+
+-- the crest by a way, as a machine keeps it
+pub kept_crest : (height level greater : ℤ) → SFits w32 height → SFits w32 level → SFits w32 greater → greater ≡ int_max (to_z w32 (of_z w32 height)) (to_z w32 (of_z w32 level)) → to_z w32 (of_z w32 greater) ≡ int_max height level
+kept_crest height level greater fits_height fits_level fits_greater e =
+    to_z-of_z w32 greater fits_greater ∙ (rw (to_z-of_z w32 height fits_height, to_z-of_z w32 level fits_level) at e)
+
+-- no way so far
+pub no_ways : (labels : List (Option ℕ)) (from : Waiting) (waiting : List Waiting) → MakesWait labels from [] waiting waiting
+no_ways labels from waiting = record {
+  kept = All-contains_itself waiting;
+  made = λ k d below. inl (All-contains_itself waiting k d below);
+  reached = λ k d below. absurd (omega (arith, below));
+}
+
+-- one more way
+pub way_more : (labels : List (Option ℕ)) (from : Waiting) (ways : List Spill) (i : ℕ) (d : Spill) (old now new : List Waiting) → i < length ways → MakesWait labels from (take i ways) old now → MakesWait labels from (get_or ways i d ∷ []) now new → MakesWait labels from (take (i + 1) ways) old new
+way_more labels from ways i d old now new below s t = subst (λ z. MakesWait labels from z old new) (sym (take_more ways i d below)) (record {
+  kept = all_by_contains (Contains new) old (λ y h. All-contains (Contains new) now y t.kept (All-contains (Contains now) old y s.kept h));
+  made = all_by_contains (λ y. Contains old y ⊎ ComesBy from joined y) new (λ y h.
+      elim (All-contains (λ z. Contains now z ⊎ ComesBy from last z) new y t.made h) [
+        | inl held ↦ elim (All-contains (λ z. Contains old z ⊎ ComesBy from (take i ways) z) now y s.made held) [
+          | inl was ↦ inl was
+          | inr by ↦ inr (by.0, Contains-append_left (take i ways) last by.0 by.1, by.2)
+        ]
+        | inr by ↦ inr (by.0, Contains-append_right (take i ways) last by.0 by.1, by.2)
+      ]);
+  reached = all_by_contains (λ y. entry_of labels y.to ≡ None → SomeWaits new y.to (int_max y.height from.height.0)) joined (λ y h none.
+      elim (Contains-append_cases (take i ways) last y h) [
+        | inl early ↦
+            let x = All-contains (λ z. entry_of labels z.to ≡ None → SomeWaits now z.to (int_max z.height from.height.0)) (take i ways) y s.reached early none in
+            (x.0, All-contains (Contains new) now x.0 t.kept x.1, x.2, x.3)
+        | inr late ↦ All-contains (λ z. entry_of labels z.to ≡ None → SomeWaits new z.to (int_max z.height from.height.0)) last y t.reached late none
+      ]);
+}) where
+  last : List Spill
+  last = get_or ways i d ∷ []
+
+  joined : List Spill
+  joined = take i ways ++ last
+
+-- a slice of a whole list, written back
+pub written_back : {X : Type 0} (n : ℕ) (xs items : List X) → length xs ≡ n → take n (xs ++ drop (length xs) items) ≡ xs
+written_back n xs items e = subst (λ k. take k (xs ++ drop (length xs) items) ≡ xs) e (take-append_seam xs (drop (length xs) items))

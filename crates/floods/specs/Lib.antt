@@ -1,0 +1,4 @@
+pub mod Walk
+pub mod Flood
+pub mod Cells
+pub mod CellJoins

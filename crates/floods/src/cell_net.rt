@@ -1,0 +1,297 @@
+// A rectangle of cells as a net.
+ghost use Rattle.std.specs.Prelude.{◌≡◌, None, ◌+◌, ◌-◌, ◌*◌, ◌^◌, ◌<◌, ◌≤◌, ◌∷◌, ◌++◌, [], ℕ, ℤ, length, All, IfOk, IfSome, OnOk, is_none, slice_index_or, replicate};
+ghost use Rattle.std.specs.List.{list_any, filter_map};
+ghost use Rattle.terrain.specs.Sinks.{with_sinks};
+ghost use Rattle.floods.specs.Cells.{Cells, cells_around, way_to, whole, IsNetOf, IsCellJoin, source_of, bordered_rows, inner_rows, row_of};
+ghost use Rattle.tiles.specs.Cutting.{bounds_of, row_shown, terrain_of};
+
+use crate::net::{Net, Spill};
+use crate::sinks::{is_sink, window_sinks};
+use smallvec::SmallVec;
+use std::alloc::{AllocError, Global};
+use std::marker::Model;
+use terrain::{Grid, Height, NoMemory, Place};
+use tiles::{Bounds, TileView};
+
+/// The cells of a rectangle with a border of cells without data around them, so that each cell of
+/// the rectangle has eight around it. Data cells beside each other are joined at the greater of
+/// their heights, and a data cell that has a gap around it or is a sink is a source.
+#[derive(Drop)]
+pub struct CellNet {
+    stride: u32,
+    cells: Vec<Option<Height>>,
+    sinks: Vec<bool>,
+}
+
+impl Model for CellNet {
+    ghost use Rattle.floods.specs.Cells.{Cells, IsBordered};
+
+    ghost Value = { Cells };
+
+    ghost view = { λ n. record { stride = n.stride; cells = n.cells.items; sinks = n.sinks.items } };
+
+    ghost invariant = { λ n. IsBordered (record { stride = n.stride; cells = n.cells.items; sinks = n.sinks.items }) };
+}
+
+/// The eight cells around one that is not on the border.
+#[inline(always)]
+fn around(stride: u32, node: u32) -> [u32; 8]
+    requires above { stride < node }
+    requires below { node + stride + 1 < 2 ^ 32 }
+    ensures { result ≡ cells_around stride node }
+{
+    let above = node - stride;
+    let below = node + stride;
+    [
+        above - 1,
+        above,
+        above + 1,
+        node - 1,
+        node + 1,
+        below - 1,
+        below,
+        below + 1,
+    ]
+}
+
+/// Whether one of these cells has no data.
+#[inline(always)]
+fn any_gap(cells: &[Option<Height>], around: &[u32; 8]) -> bool
+    requires { All (λ b. b < length cells.now) around.now }
+    ensures { result ≡ list_any (λ b. is_none (slice_index_or cells.now b None)) around.now }
+{
+    around.iter().any(|&node| cells[node as usize].is_none())
+}
+
+/// The way from a cell of this height to another one, where that has data.
+#[inline(always)]
+fn way_to(cells: &[Option<Height>], height: Height, to: u32) -> Option<Spill>
+    requires { to < length cells.now }
+    ensures { result ≡ way_to cells.now height to }
+{
+    let other = cells[to as usize]?;
+    Some(Spill {
+        to,
+        height: other.max(height),
+    })
+}
+
+/// The ways from a cell of this height to the eight around it, where all have data.
+#[inline(always)]
+fn all_ways(cells: &[Option<Height>], height: Height, around: [u32; 8]) -> Option<[Spill; 8]>
+    requires { All (λ b. b < length cells.now) around }
+    ensures { IfSome result (λ ways. ways ≡ filter_map (way_to cells.now height) around) }
+{
+    let [a, b, c, d, e, f, g, h] = around;
+    Some([
+        way_to(cells, height, a)?,
+        way_to(cells, height, b)?,
+        way_to(cells, height, c)?,
+        way_to(cells, height, d)?,
+        way_to(cells, height, e)?,
+        way_to(cells, height, f)?,
+        way_to(cells, height, g)?,
+        way_to(cells, height, h)?,
+    ])
+}
+
+/// The ways from a cell of this height to those of the cells around it that have data.
+fn some_ways(
+    alloc: Global,
+    cells: &[Option<Height>],
+    height: Height,
+    around: [u32; 8],
+) -> SmallVec<Spill, 8>
+    requires { All (λ b. b < length cells.now) around }
+    ensures { result.items ≡ filter_map (way_to cells.now height) around }
+{
+    let mut ways = SmallVec::new(alloc);
+    for to in around {
+        if let Some(way) = way_to(cells, height, to) {
+            ways.push_reserved(way);
+        }
+    }
+    ways
+}
+
+/// The ways from a cell of this height to those of the cells around it that have data.
+#[inline(always)]
+fn ways_to(
+    alloc: Global,
+    cells: &[Option<Height>],
+    height: Height,
+    around: [u32; 8],
+) -> SmallVec<Spill, 8>
+    requires { All (λ b. b < length cells.now) around }
+    ensures { result.items ≡ filter_map (way_to cells.now height) around }
+{
+    match all_ways(cells, height, around) {
+        Some(ways) => SmallVec::from_buf(alloc, ways),
+        None => some_ways(alloc, cells, height, around),
+    }
+}
+
+impl Net for CellNet {
+    ghost use Rattle.std.specs.Prelude.{length};
+    ghost use Rattle.floods.specs.Cells.{IsCellJoin, source_of};
+    ghost use Rattle.floods.specs.CellJoins.{join_inside, join_back};
+
+    ghost node_count = { λ n. length n.cells };
+
+    ghost joins = { IsCellJoin };
+
+    ghost source_height = { source_of };
+
+    ghost joined_inside = { join_inside };
+
+    ghost joined_back = { join_back };
+
+    #[inline]
+    fn nodes(&self) -> u32 {
+        self.cells.len() as u32
+    }
+
+    #[inline]
+    fn neighbours(&self, alloc: Global, node: u32) -> Result<SmallVec<Spill, 8>, NoMemory> {
+        let Some(height) = self.cells[node as usize] else {
+            return Ok(SmallVec::new(alloc));
+        };
+        Ok(ways_to(alloc, &self.cells, height, around(self.stride, node)))
+    }
+
+    #[inline]
+    fn source(&self, node: u32) -> Option<Height> {
+        let height = self.cells[node as usize]?;
+        if any_gap(&self.cells, &around(self.stride, node)) || is_sink(&self.sinks, node) {
+            Some(height)
+        } else {
+            None
+        }
+    }
+}
+
+/// Adds cells without data.
+#[inline]
+fn push_empty(cells: &mut Vec<Option<Height>>, count: usize) -> Result<(), AllocError>
+    ensures { OnOk result (cells.new.items ≡ cells.old.items ++ replicate count None) }
+{
+    for _ in 0..count {
+        cells.push(None)?;
+    }
+    Ok(())
+}
+
+/// Adds a row, with a cell without data at either end.
+#[inline]
+fn push_row(cells: &mut Vec<Option<Height>>, row: &[Option<Height>]) -> Result<(), AllocError>
+    ensures { OnOk result (cells.new.items ≡ cells.old.items ++ (None ∷ row.now ++ None ∷ [])) }
+{
+    cells.push(None)?;
+    cells.extend_from_slice(row)?;
+    cells.push(None)?;
+    Ok(())
+}
+
+/// The rows of a list in row order, with a border.
+fn bordered(
+    alloc: Global,
+    cells: &[Option<Height>],
+    cols: u32,
+    rows: u32,
+) -> Result<Vec<Option<Height>>, AllocError>
+    requires size { length cells.now ≡ cols * rows }
+    requires few_cols { cols ≤ 4096 }
+    requires few_rows { rows ≤ 4096 }
+    ensures { IfOk result (λ v. v.items ≡ bordered_rows (row_of cols cells.now) (cols + 2) rows) }
+{
+    let width = cols as usize;
+    let stride = width + 2;
+    let mut list = Vec::with_capacity(alloc, (rows as usize + 2) * stride)?;
+    push_empty(&mut list, stride)?;
+    for row in 0..rows {
+        let start = row as usize * width;
+        push_row(&mut list, &cells[start..start + width])?;
+    }
+    push_empty(&mut list, stride)?;
+    Ok(list)
+}
+
+/// The rows of a tile, with a border.
+fn bordered_tile(
+    alloc: Global,
+    view: &TileView<'_, Option<Height>>,
+) -> Result<Vec<Option<Height>>, AllocError>
+    ensures { let b = bounds_of view.now.cutting view.now.tile in
+        IfOk result (λ v. v.items ≡ bordered_rows (row_shown view.now) (b.cols + 2) b.rows) }
+{
+    let Bounds { rows, cols, .. } = view.bounds();
+    let stride = cols as usize + 2;
+    let mut list = Vec::with_capacity(alloc, (rows as usize + 2) * stride)?;
+    push_empty(&mut list, stride)?;
+    for row in 0..rows {
+        push_row(&mut list, view.row(row))?;
+    }
+    push_empty(&mut list, stride)?;
+    Ok(list)
+}
+
+impl CellNet {
+    /// The whole grid as a net.
+    pub fn of_grid(alloc: Global, grid: &Grid) -> Result<CellNet, NoMemory>
+        ensures { IfOk result (IsNetOf grid.now.terrain (whole grid.now.terrain)) }
+    {
+        let bounds = Bounds {
+            top: 0,
+            left: 0,
+            rows: grid.rows(),
+            cols: grid.cols(),
+        };
+        let cells = bordered(alloc, grid.cells(), bounds.cols, bounds.rows)?;
+        let sinks = window_sinks(alloc, bounds, grid.sinks())?;
+        Ok(CellNet {
+            stride: bounds.cols + 2,
+            cells,
+            sinks,
+        })
+    }
+
+    /// A tile as a net of its own, with those of these sinks that lie in it.
+    pub fn of_view(
+        alloc: Global,
+        view: &TileView<'_, Option<Height>>,
+        sinks: &[Place],
+    ) -> Result<CellNet, NoMemory>
+        ensures { IfOk result (IsNetOf (with_sinks (terrain_of view.now) sinks.now) (bounds_of view.now.cutting view.now.tile)) }
+    {
+        let bounds = view.bounds();
+        let cells = bordered_tile(alloc, view)?;
+        let sinks = window_sinks(alloc, bounds, sinks)?;
+        Ok(CellNet {
+            stride: bounds.cols + 2,
+            cells,
+            sinks,
+        })
+    }
+}
+
+/// The entries of a [`CellNet`] inside its border of gaps, in row order: those of its `rows` times `cols` cells.
+pub fn without_border<T: Copy>(
+    alloc: Global,
+    list: &[Option<T>],
+    cols: u32,
+    rows: u32,
+) -> Result<Vec<Option<T>>, AllocError>
+    requires size { length list.now ≡ (rows + 2) * (cols + 2) }
+    requires few_cols { cols ≤ 4096 }
+    requires few_rows { rows ≤ 4096 }
+    ensures { IfOk result (λ v. v.items ≡ inner_rows list.now cols rows) }
+{
+    let width = cols as usize;
+    let stride = width + 2;
+    let mut inner = Vec::with_capacity(alloc, rows as usize * width)?;
+    for row in 0..rows {
+        let start = (row as usize + 1) * stride + 1;
+        inner.extend_from_slice(&list[start..start + width])?;
+    }
+    Ok(inner)
+}

@@ -1,0 +1,43 @@
+// A net of nodes that are joined at spill heights.
+ghost use Rattle.std.specs.Prelude.{◌≡◌, ◌↔◌, ◌<◌, ℕ, ℤ, Option, IfOk};
+ghost use Rattle.std.specs.List.{Contains};
+ghost use Rattle.floods.specs.Walk.{HasJust};
+
+use smallvec::SmallVec;
+use std::alloc::Global;
+use terrain::{Height, NoMemory};
+
+/// A neighbour and the height at which it is reached.
+#[derive(Clone, Copy, Debug, Default, PartialEq, Eq)]
+pub struct Spill {
+    pub to: u32,
+    pub height: Height,
+}
+
+/// Nodes numbered from 0, some of them joined, and some of them sources.
+pub trait Net {
+    ghost node_count: { Self → ℕ };
+
+    // Node a is joined to node b at a spill height.
+    ghost joins: { Self → ℕ → ℕ → ℤ → Type 0 };
+
+    // The height of a source.
+    ghost source_height: { Self → ℕ → Option ℤ };
+
+    fn nodes(&self) -> u32
+        ensures { result ≡ node_count self.now };
+
+    fn neighbours(&self, alloc: Global, node: u32) -> Result<SmallVec<Spill, 8>, NoMemory>
+        requires { node < node_count self.now }
+        ensures { IfOk result (λ v. HasJust (joins self.now node) v.items) };
+
+    fn source(&self, node: u32) -> Option<Height>
+        requires { node < node_count self.now }
+        ensures { result ≡ source_height self.now node };
+
+    // A joined node is one of the net.
+    ghost joined_inside: { (net : Self) (a b : ℕ) (h : ℤ) → joins net a b h → b < node_count net };
+
+    // Nodes are joined both ways at one height.
+    ghost joined_back: { (net : Self) (a b : ℕ) (h : ℤ) → joins net a b h → joins net b a h };
+}
