@@ -8,7 +8,7 @@ use Rattle.terrain.specs.declared.place.Place.{Place}
 use Rattle.terrain.proofs.Places.{inside_from_entry}
 use Rattle.drainage.specs.Following.{Directed, code_at, next, follow, moves, last_of, IsOutlet}
 use Rattle.drainage.specs.Drained.{AllFlowEnds}
-use Rattle.flow.proofs.EarlyEnds.{stays_from}
+use Rattle.flow.proofs.Ending.{stays_from}
 
 pub record IsCoded (d : Directed) (p : Place) : Type 0 where
   pub code : ℕ

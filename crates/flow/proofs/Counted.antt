@@ -7,15 +7,14 @@ use Rattle.std.proofs.lemmas.Option.{slice_get_within}
 use Rattle.std.proofs.lemmas.List.FromFn.{get_or-map-range_with_len, length-map-range_with_len}
 use Rattle.terrain.specs.declared.place.Place.{Place}
 use Rattle.tiles.specs.declared.bounds.Bounds.{Bounds}
-use Rattle.tiles.specs.Cutting.{Cutting, IsInBounds, AreBounds, tile_count, cell_count, bounds_of}
+use Rattle.tiles.specs.Cutting.{Cutting, IsInBounds, IsInTile, AreBounds, tile_count, cell_count, bounds_of, tile_entry}
 use Rattle.tiles.proofs.Cut.{in_bounds, bounds_inside}
 use Rattle.tiles.proofs.TileOrder.{index_in_below, index_in-place_in, place_in-index_in, tile_entry-in}
 use Rattle.drainage.specs.Following.{Directed, code_at}
-use Rattle.flow.specs.Counts.{accumulation}
+use Rattle.flow.specs.Counts.{accumulation, IsValueAt}
 use Rattle.flow.specs.Streams.{AreStreams, AreUpstream, total}
 use Rattle.flow.specs.TileFlow.{Flow, IsTileExits, AreTileCounts}
 use Rattle.flow.specs.TileLinks.{AreTileCodes, place_in, index_in, links_by, weights_by, where_data}
-use Rattle.flow.specs.TileMaps.{IsTileMapOf}
 use Rattle.flow.specs.Whole.{IsGridFlow, make_directed}
 use Rattle.flow.specs.Inflows.{Inflows, AreInflows, inflow_in}
 use Rattle.flow.specs.RimGraph.{AreFlowsOf}
@@ -143,15 +142,6 @@ module _ (t : Cutting) (codes : List (Option ℕ)) (flows : List Flow) (inflows 
                 accumulation_is (make_directed t.cols t.rows codes) ending p is,
               )
 
-          pub tile_counted : IsTileMapOf (make_directed t.cols t.rows codes) t tile (accumulation (make_directed t.cols t.rows codes)) (counts_by f.codes weights came)
-          tile_counted = record {
-            size = length-map-range_with_len (λ i. where_data (get_or f.codes i None) (get_or came i 0 + get_or weights i 0 - 1)) 0 (length f.codes) ∙ of_cells.size;
-            each = λ p i.
-                let h = in_bounds t tile p s.are_flows.cutting i in
-                match_data (code_at (make_directed t.cols t.rows codes) p) _ _ _ (tile_entry-in t tile (counts_by f.codes weights came) p i ∙ entry_is p h)
-                (λ code is. count_is p h (record { code = code; is = is }));
-          }
-
     countable : IsCountable inflows tile f
     countable =
         let made : links_by f.bounds f.codes ≡ links_by (bounds_of t tile) f.codes = ap (λ (b : Bounds). links_by b f.codes) right.bounds in
@@ -170,13 +160,17 @@ module _ (t : Cutting) (codes : List (Option ℕ)) (flows : List Flow) (inflows 
           );
         }
 
-    -- the same of what a job has
-    pub tile_summed : (values : List (Option ℕ)) → AreCounts inflows tile f values →
-        IsTileMapOf (make_directed t.cols t.rows codes) t tile (accumulation (make_directed t.cols t.rows codes)) values
-    tile_summed values are =
-        subst (λ (l : List (Option ℕ)). IsTileMapOf (make_directed t.cols t.rows codes) t tile (accumulation (make_directed t.cols t.rows codes)) l) (sym are.made)
-        (tile_counted (links_by f.bounds f.codes) (ap (λ (b : Bounds). links_by b f.codes) right.bounds) are.weights
-        (subst (λ (x : Cutting). AreRimWeights inflows (bounds_of x tile) f.codes are.weights) s.are_inflows.cutting are.weighed) are.came are.up)
+    -- what the counts have at a place
+    pub entry_counted : (values : List (Option ℕ)) → AreCounts inflows tile f values → (p : Place) → IsInTile t tile p →
+        IsValueAt (make_directed t.cols t.rows codes) (accumulation (make_directed t.cols t.rows codes)) p (tile_entry t tile values p)
+    entry_counted values are p i =
+        let h = in_bounds t tile p s.are_flows.cutting i in
+        let made : links_by f.bounds f.codes ≡ links_by (bounds_of t tile) f.codes = ap (λ (b : Bounds). links_by b f.codes) right.bounds in
+        let weighed = subst (λ (x : Cutting). AreRimWeights inflows (bounds_of x tile) f.codes are.weights) s.are_inflows.cutting are.weighed in
+        match_data (code_at (make_directed t.cols t.rows codes) p) _ _ _
+        (tile_entry-in t tile values p i ∙ ap (λ (l : List (Option ℕ)). get_or l (index_in (bounds_of t tile) p) None) are.made
+        ∙ entry_is (links_by f.bounds f.codes) made are.weights weighed are.came are.up p h)
+        (λ code is. count_is (links_by f.bounds f.codes) made are.weights weighed are.came are.up p h (record { code = code; is = is }))
 
   pub countable_all : AreCountable t flows inflows
   countable_all = record { same_cutting = s.are_inflows.cutting; count = s.are_flows.of_tiles.count; each = countable }

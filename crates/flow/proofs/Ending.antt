@@ -1,11 +1,81 @@
--- Where paths end.
-use Rattle.std.proofs.Common.{◌≡◌, ◌≢◌, ℕ, zero, suc, ◌<◌, inl, inr, List, length, get_or, set, sym, ap, refl, ◌∙◌, arith}
-use Rattle.std.proofs.lemmas.Bool.{cases_eq}
+-- A path that ends does so within as many moves as there are nodes; and where paths end.
+use Rattle.std.proofs.Common.{◌≡◌, ℕ, zero, suc, ◌+◌, ◌-◌, ◌<◌, ◌≤◌, ◌⊎◌, inl, inr, List, length, sym, ap, subst, ◌∙◌, arith, add-zero, ◌≢◌, get_or, set, refl}
+use Rattle.std.proofs.lemmas.Bool.{cases_eq, cases_lt}
 use Rattle.std.proofs.lemmas.List.{get_or-set_same, get_or-set_other}
 use Rattle.std.proofs.Math.ListN.{length-set}
+use Rattle.drainage.proofs.Pigeonhole.{pigeonhole}
 use Rattle.flow.specs.Streams.{AreStreams, onward, node_after, end_of}
-use Rattle.flow.proofs.EarlyEnds.{inside_along}
 use Rattle.flow.specs.Finding.{AreFound, IsKnown, unknown_mark}
+
+-- a sequence of which each next value depends on the last one stays where it has stopped
+pub stays_from : {X : Type 0} (x : ℕ → X) → ((a b : ℕ) → x a ≡ x b → x (suc a) ≡ x (suc b)) → (k m : ℕ) → k ≤ m → x (suc k) ≡ x k → x m ≡ x k
+stays_from {X} x step k zero le stop = let z : 0 ≡ k = omega arith in ap x z
+stays_from {X} x step k (suc m) le stop = elim (cases_eq k (suc m)) [
+  | inl e ↦ sym (ap x e)
+  | inr ne ↦ step m k (stays_from x step k m (omega arith) stop) ∙ stop
+]
+
+module _ (x : ℕ → ℕ) (step : (a b : ℕ) → x a ≡ x b → x (suc a) ≡ x (suc b)) where
+  -- it repeats itself where a value comes twice
+  again : (a b : ℕ) → x a ≡ x b → (t : ℕ) → x (a + t) ≡ x (b + t)
+  again a b same zero = ap x (add-zero a) ∙ same ∙ sym (ap x (add-zero b))
+  again a b same (suc t) =
+      let p : a + suc t ≡ suc (a + t) = omega arith in let q : b + suc t ≡ suc (b + t) = omega arith in
+      ap x p ∙ step (a + t) (b + t) (again a b same t) ∙ sym (ap x q)
+
+  -- so it never stops, where it hasn't before
+  never : (n a b : ℕ) → a < b → b ≤ n → x a ≡ x b → ((k : ℕ) → k < n → x (suc k) ≡ x k → ⊥) → (fuel m : ℕ) → m ≤ fuel → x (suc m) ≡ x m → ⊥
+  never n a b lt le same none zero m few stop = none m (omega arith) stop
+  never n a b lt le same none (suc fuel) m few stop = elim (cases_lt m n) [
+    | inl l ↦ none m l stop
+    | inr far ↦ (let z : b + (m - b) ≡ m = omega arith in
+        let back : x (a + (m - b)) ≡ x m = again a b same (m - b) ∙ ap x z in
+        never n a b lt le same none fuel (a + (m - b)) (omega arith) (step (a + (m - b)) m back ∙ stop ∙ sym back))
+  ]
+
+  cases_stop : (n : ℕ) → ((k : ℕ) × (k < n) × (x (suc k) ≡ x k)) ⊎ ((k : ℕ) → k < n → x (suc k) ≡ x k → ⊥)
+  cases_stop zero = inr (λ k h _. omega arith)
+  cases_stop (suc n) = elim (cases_stop n) [
+    | inl r ↦ inl (r.0, omega (arith, r.1), r.2)
+    | inr none ↦ elim (cases_eq (x (suc n)) (x n)) [
+      | inl e ↦ inl (n, omega arith, e)
+      | inr ne ↦ inr (λ k h. elim (cases_eq k n) [
+        | inl e ↦ (λ stop. ne (subst (λ (j : ℕ). x (suc j) ≡ x j) e stop))
+        | inr other ↦ none k (omega arith)
+      ])
+    ]
+  ]
+
+  -- one that stops at all does so before it has had more values than there are
+  pub early_stop : (n : ℕ) → ((k : ℕ) → x k < n) → (m : ℕ) → x (suc m) ≡ x m → (k : ℕ) × (k < n) × (x (suc k) ≡ x k)
+  early_stop n below m stop = elim (cases_stop n) [
+    | inl r ↦ r
+    | inr none ↦ (let count : n + 1 ≤ n = pigeonhole n (n + 1) x (λ k l. below k) (λ a b lt le same. never n a b lt (omega arith) same none m m (omega arith) stop) in
+        absurd (omega arith))
+  ]
+
+abbrev pub IsStop : List ℕ → ℕ → ℕ → Type 0
+IsStop links i k = onward links (node_after links i k) ≡ node_after links i k
+
+pub inside_along : (links : List ℕ) → ((i : ℕ) → i < length links → onward links i < length links) → (i : ℕ) → i < length links → (k : ℕ) → node_after links i k < length links
+inside_along links inside i h zero = h
+inside_along links inside i h (suc k) = inside (node_after links i k) (inside_along links inside i h k)
+
+pub node_stays : (links : List ℕ) (i k m : ℕ) → k ≤ m → IsStop links i k → node_after links i m ≡ node_after links i k
+node_stays links i = stays_from (node_after links i) (λ a b e. ap (onward links) e)
+
+pub early_end : (links : List ℕ) → ((i : ℕ) → i < length links → onward links i < length links) → (i : ℕ) → i < length links → (m : ℕ) → IsStop links i m →
+    (k : ℕ) × (k < length links) × IsStop links i k
+early_end links inside i h m stop = early_stop (node_after links i) (λ a b e. ap (onward links) e) (length links) (inside_along links inside i h) m stop
+
+pub streams_from : (links : List ℕ) → ((i : ℕ) → i < length links → onward links i < length links) → ((i : ℕ) → i < length links → (m : ℕ) × IsStop links i m) → AreStreams links
+streams_from links inside stops = record {
+  inside = inside;
+  ends = λ i h. (let s = stops i h in
+      let r = early_end links inside i h s.0 s.1 in
+      let last = node_stays links i r.0 (length links) (omega (arith, r.1)) r.2 in
+      ap (onward links) last ∙ r.2 ∙ sym last);
+}
 
 pub node_after-inside : (links : List ℕ) → AreStreams links → (i : ℕ) → i < length links → (k : ℕ) → node_after links i k < length links
 node_after-inside links s = inside_along links s.inside

@@ -8,15 +8,16 @@ use Rattle.terrain.specs.declared.place.Place.{Place}
 use Rattle.tiles.specs.Cutting.{Cutting, tile_of_place}
 use Rattle.tiles.proofs.TileOrder.{index_in-place_in}
 use Rattle.drainage.specs.Following.{Directed, code_at, follow, moves}
+use Rattle.terrain.proofs.Listed.{is_place_from, place_is}
 use Rattle.flow.specs.Counts.{is_place, drains_through, accumulation}
 use Rattle.flow.specs.Streams.{sum_below}
 use Rattle.flow.specs.TileFlow.{stays, reaches_inside, through_of, inflow_of}
 use Rattle.flow.specs.TileLinks.{place_in, index_in}
 use Rattle.flow.proofs.Sums.{bit_le, sum_below-except, sum_below-few}
-use Rattle.flow.proofs.Ranges.{any_in_range, all_in_range}
+use Rattle.flow.proofs.Windows.{any_in_range, all_in_range, whole_bounds, sum_of_cells}
 use Rattle.flow.proofs.Coded.{IsCoded}
-use Rattle.flow.proofs.Waiting.{and_on}
-use Rattle.flow.proofs.Reaching.{IsEnding, whole_bounds, place_test, place_from_test, sum_of_cells, cell_below, cell_back, enters}
+use Rattle.flow.proofs.Sending.{and_on}
+use Rattle.flow.proofs.Reaching.{IsEnding, cell_below, cell_back, enters}
 
 -- a cell of the grid
 abbrev pub cell : Directed → ℕ → Place
@@ -71,29 +72,29 @@ module _ (d : Directed) (s : IsEnding d) where
       omega (arith, change, here, there, sum_of_cells g d.cols d.rows)
 
   other_test : (p q : Place) → q ≢ p → is_place p q ≡ false
-  other_test p q ne = false_from_ne_true _ (λ y. ne (sym (place_from_test p q y)))
+  other_test p q ne = false_from_ne_true _ (λ y. ne (sym (place_is p q y)))
 
   pub drains_itself : (p : Place) → drains_through d p p ≡ true
-  drains_itself p = any_in_range (λ k. is_place p (follow d p k)) (moves d) 0 some_moves (place_test p p refl)
+  drains_itself p = any_in_range (λ k. is_place p (follow d p k)) (moves d) 0 some_moves (is_place_from p p refl)
 
   pub reaches_itself : (t : Cutting) (p : Place) → reaches_inside d t p p ≡ true
   reaches_itself t p =
       any_in_range (λ k. is_place p (follow d p k) && stays d t p k) (moves d) 0 some_moves
-      (and_from _ _ (place_test p p refl) (all_in_range _ (0 + 1) (λ l h. (let z : 0 ≡ l = omega arith in eq-eqb _ _ (ap (λ n. tile_of_place t (follow d p n)) (sym z))))))
+      (and_from _ _ (is_place_from p p refl) (all_in_range _ (0 + 1) (λ l h. (let z : 0 ≡ l = omega arith in eq-eqb _ _ (ap (λ n. tile_of_place t (follow d p n)) (sym z))))))
 
   pub accumulation_is : (p : Place) → IsCoded d p → all_drained d p ≡ accumulation d p + 1
   accumulation_is p is =
       one_more (drained d p) (λ q. cond {A = ℕ} (is_some (code_at d q) && not (is_place p q) && drains_through d p q) 1 0) p is
       (λ q ne. ap (λ x. cond {A = ℕ} (x && drains_through d p q) 1 0) (sym (and_on (is_some (code_at d q)) (not (is_place p q)) (not_from_false _ (other_test p q ne)))))
       (counted_on d p _ is (drains_itself p))
-      (cond-false {A = ℕ} _ 1 0 (and_left _ _ (and_right _ _ (not_from_true _ (place_test p p refl)))))
+      (cond-false {A = ℕ} _ 1 0 (and_left _ _ (and_right _ _ (not_from_true _ (is_place_from p p refl)))))
 
   pub through_is : (t : Cutting) (p : Place) → IsCoded d p → all_gathered d t p ≡ through_of d t p + 1
   through_is t p is =
       one_more (gathered d t p) (λ q. cond {A = ℕ} (is_some (code_at d q) && not (is_place p q) && reaches_inside d t p q) 1 0) p is
       (λ q ne. ap (λ x. cond {A = ℕ} (x && reaches_inside d t p q) 1 0) (sym (and_on (is_some (code_at d q)) (not (is_place p q)) (not_from_false _ (other_test p q ne)))))
       (counted_on d p _ is (reaches_itself t p))
-      (cond-false {A = ℕ} _ 1 0 (and_left _ _ (and_right _ _ (not_from_true _ (place_test p p refl)))))
+      (cond-false {A = ℕ} _ 1 0 (and_left _ _ (and_right _ _ (not_from_true _ (is_place_from p p refl)))))
 
   -- a count of cells
   pub counted_few : (test : Place → Bool) → sum_below (λ c. cond {A = ℕ} (test (cell d c)) 1 0) (d.rows * d.cols) ≤ 16777216

@@ -1,18 +1,21 @@
--- Paths along the links of a tile are the parts of flow paths that stay in it.
-use Rattle.std.proofs.Common.{◌≡◌, ◌↔◌, ℕ, zero, suc, ◌<◌, ◌≤◌, ◌⊎◌, inl, inr, true, List, length, sym, ap, subst, refl, ◌∙◌, arith}
+-- Paths along the links of a tile are the parts of flow paths that stay in it, and end at exits.
+use Rattle.std.proofs.Common.{◌≡◌, ◌↔◌, ℕ, zero, suc, ◌<◌, ◌≤◌, ◌⊎◌, inl, inr, List, length, sym, ap, subst, refl, ◌∙◌, arith, ◌+◌, true, Option, is_some, mul_comm}
 use Rattle.std.specs.Prelude.{◌*◌, if◌then◌else◌, is_some, slice_index}
-use Rattle.std.proofs.lemmas.Bool.{cases_eq, cases_Bool, and_from, and_parts, lt-ltb, le-leb, ltb-true, leb-true, cond-true, cond-false, false_from_ne_true}
+use Rattle.std.proofs.lemmas.Bool.{cases_eq, cases_Bool, cond-true, cond-false, false_from_ne_true, eq-eqb}
+use Rattle.std.proofs.Math.Nat.{mul-le-mul}
 use Rattle.terrain.specs.declared.place.Place.{Place}
 use Rattle.tiles.specs.declared.bounds.Bounds.{Bounds}
-use Rattle.tiles.specs.Cutting.{Cutting, IsCutting, IsWithin, IsInTile, IsInBounds, AreBounds}
+use Rattle.tiles.specs.Cutting.{Cutting, IsCutting, IsWithin, IsInTile, IsInBounds, AreBounds, tile_of_place}
 use Rattle.tiles.proofs.TileOrder.{place_in_bounds, index_in_below, index_in-place_in, place_in-index_in}
 use Rattle.drainage.specs.Following.{Directed, code_at, next, follow, moves, last_of}
 use Rattle.drainage.specs.Drained.{AllFlowEnds}
-use Rattle.flow.specs.Streams.{AreStreams, onward, node_after}
-use Rattle.flow.specs.TileFlow.{is_in_bounds}
+use Rattle.tiles.proofs.Cut.{in_bounds_parts, in_bounds_from}
+use Rattle.flow.specs.Streams.{AreStreams, onward, node_after, end_of}
+use Rattle.flow.specs.TileFlow.{is_in_bounds, stays, IsExitOf}
 use Rattle.flow.specs.TileLinks.{place_in, index_in}
-use Rattle.flow.proofs.EarlyEnds.{IsStop, inside_along, streams_from}
-use Rattle.flow.proofs.Coded.{IsCoded, cases_coded, none_stays, outlet_stays, coded_inside}
+use Rattle.flow.proofs.Ending.{IsStop, inside_along, streams_from, early_end, node_stays}
+use Rattle.flow.proofs.Coded.{IsCoded, cases_coded, none_stays, outlet_stays, coded_inside, coded_along, outlet_from_stays}
+use Rattle.flow.proofs.Windows.{all_in_range}
 
 -- The cell to which the water of a cell goes on, or the cell itself where it stays or leaves the tile.
 abbrev pub link_in : Directed → Bounds → ℕ → ℕ
@@ -30,25 +33,17 @@ pub record AreTileWeights (d : Directed) (b : Bounds) (weights : List ℕ) : Typ
   pub size : length weights ≡ b.rows * b.cols
   pub each : (i : ℕ) → i < b.rows * b.cols → slice_index weights i ≡ weight_in d b i
 
-pub bounds_from_test : (b : Bounds) (p : Place) → is_in_bounds b p ≡ true → IsInBounds b p
-bounds_from_test b p h =
-    let x = and_parts _ _ h in let y = and_parts _ _ x.0 in let z = and_parts _ _ y.0 in
-    (leb-true _ _ z.0, ltb-true _ _ z.1, leb-true _ _ y.1, ltb-true _ _ x.1)
-
-pub test_from_bounds : (b : Bounds) (p : Place) → IsInBounds b p → is_in_bounds b p ≡ true
-test_from_bounds b p h = and_from _ _ (and_from _ _ (and_from _ _ (le-leb _ _ h.0) (lt-ltb _ _ h.1)) (le-leb _ _ h.2)) (lt-ltb _ _ h.3)
-
 pub cases_bounds : (b : Bounds) (p : Place) → IsInBounds b p ⊎ (IsInBounds b p → ⊥)
 cases_bounds b p = elim (cases_Bool (is_in_bounds b p)) [
-  | inl t ↦ inl (bounds_from_test b p t)
-  | inr f ↦ inr (λ h. (let t = test_from_bounds b p h in absurd cc))
+  | inl t ↦ inl (in_bounds_parts b p t)
+  | inr f ↦ inr (λ h. (let t = in_bounds_from b p h in absurd cc))
 ]
 
 pub link-in : (d : Directed) (b : Bounds) (i : ℕ) → IsInBounds b (next d (place_in b i)) → link_in d b i ≡ index_in b (next d (place_in b i))
-link-in d b i h = cond-true _ _ _ (test_from_bounds b _ h)
+link-in d b i h = cond-true _ _ _ (in_bounds_from b _ h)
 
 pub link-out : (d : Directed) (b : Bounds) (i : ℕ) → (IsInBounds b (next d (place_in b i)) → ⊥) → link_in d b i ≡ i
-link-out d b i out = cond-false _ _ _ (false_from_ne_true _ (λ t. out (bounds_from_test b _ t)))
+link-out d b i out = cond-false _ _ _ (false_from_ne_true _ (λ t. out (in_bounds_parts b _ t)))
 
 -- a tile of a map of directions whose paths all end, and its links
 pub record IsPiece (d : Directed) (c : Cutting) (tile : ℕ) (b : Bounds) (links : List ℕ) : Type 0 where
@@ -133,15 +128,6 @@ module _ (d : Directed) (c : Cutting) (tile : ℕ) (b : Bounds) (links : List �
         ]
       ]
 
-  -- while the flow path stays, the links follow it
-  pub in_step : (j : ℕ) → j < length links → (k : ℕ) → ((l : ℕ) → l ≤ k → IsInBounds b (follow d (place_in b j) l)) →
-      place_in b (node_after links j k) ≡ follow d (place_in b j) k
-  in_step j h zero way = refl
-  in_step j h (suc k) way =
-      let before = in_step j h k (λ l le. way l (omega arith)) in
-      let on : next d (place_in b (node_after links j k)) ≡ follow d (place_in b j) (suc k) = ap (next d) before in
-      link_place (node_after links j k) (node_inside j h k) (subst (λ (q : Place). IsInBounds b q) (sym on) (way (suc k) (omega arith))) ∙ on
-
   pub stops : (j : ℕ) → j < length links → (k : ℕ) × IsStop links j k
   stops j h = elim (cases_coded d (place_in b j)) [
     | inl none ↦ (0, self_link j h (none_stays d (place_in b j) none))
@@ -161,3 +147,44 @@ module _ (d : Directed) (c : Cutting) (tile : ℕ) (b : Bounds) (links : List �
   -- a data cell's place in the grid
   pub coded_within : (p : Place) → IsCoded d p → IsWithin c p
   coded_within p is = let w = coded_inside d p is in (omega (arith, w.0, s.rows), omega (arith, w.1, s.cols))
+
+  pub few_cells : length links ≤ moves d
+  few_cells =
+      let r : b.rows ≤ d.rows = omega (arith, s.inside.rows_inside, s.rows) in
+      let k : b.cols ≤ d.cols = omega (arith, s.inside.cols_inside, s.cols) in
+      omega (arith, s.made.size, mul-le-mul r k, mul_comm d.rows d.cols)
+
+  -- a cell of the tile
+  pub tile_is : (q : Place) → IsInBounds b q → tile_of_place c q ≡ tile
+  tile_is q h = ((s.places q).1 h).1
+
+  pub stays_from_way : (q : Place) (k : ℕ) → ((l : ℕ) → l ≤ k → IsInBounds b (follow d q l)) → stays d c q k ≡ true
+  stays_from_way q k way = all_in_range _ (k + 1)
+      (λ l h. eq-eqb _ _ (tile_is (follow d q l) (way l (omega arith)) ∙ sym (tile_is q (way 0 (omega arith)))))
+
+  -- where the links of a data cell end is its exit
+  pub exit_is : (i : ℕ) → i < length links → IsCoded d (place_in b i) → IsExitOf d c (place_in b i) (place_in b (end_of links i))
+  exit_is i h is =
+      let r = early_end links tile_streams.inside i h (length links) (tile_streams.ends i h) in
+      let last : node_after links i r.0 ≡ end_of links i = sym (node_stays links i r.0 (length links) (omega (arith, r.1)) r.2) in
+      let t = tracks i h r.0 in
+      let at : follow d (place_in b i) t.met ≡ place_in b (end_of links i) = sym t.here ∙ ap (place_in b) last in
+      let coded = subst (λ (q : Place). IsCoded d q) at (coded_along d s.ends (place_in b i) is t.met) in
+      let stop : onward links (end_of links i) ≡ end_of links i = tile_streams.ends i h in
+      let inside = node_inside i h (length links) in (
+        t.met,
+        omega (arith, t.few, r.1, few_cells),
+        stays_from_way (place_in b i) t.met t.way,
+        at,
+        (
+          ap (λ (o : Option ℕ). is_some o) coded.is,
+          elim (cases_bounds b (next d (place_in b (end_of links i)))) [
+            | inl y ↦ inl (outlet_from_stays d s.ends (place_in b (end_of links i)) coded
+                (sym (link_place (end_of links i) inside y) ∙ ap (place_in b) stop))
+            | inr out ↦ inr (λ same. out ((s.places (next d (place_in b (end_of links i)))).0 (
+              coded_within (next d (place_in b (end_of links i))) (coded_along d s.ends (place_in b (end_of links i)) coded 1),
+              same ∙ tile_is (place_in b (end_of links i)) (in_place (end_of links i) inside),
+            )))
+          ],
+        ),
+      )

@@ -2,28 +2,18 @@
 mod Rows
 -- sums and ranges
 pub mod Sums
-pub mod DoubleSums
 pub mod Windows
-pub mod Ranges
-pub mod Pushing
 -- along links
-pub mod EarlyEnds
 pub mod Ending
 pub mod Totals
 -- sending downstream along them
-pub mod Waiting
-pub mod Moving
-pub mod Settled
-pub mod Stepping
+pub mod Sending
 -- flow paths
 pub mod Coded
-pub mod Directed
 pub mod Reaching
 pub mod Gathering
 -- a tile
 pub mod InTile
-pub mod Through
-pub mod Shown
 pub mod Piece
 pub mod Listed
 pub mod CodeMasks

@@ -1,17 +1,24 @@
--- What the lists of a tile's flow have at an index, and the labels of its exits.
-use Rattle.std.proofs.Common.{◌≡◌, ℕ, ◌<◌, ◌≤◌, List, length, get_or, map, Option, None, Some, IfSome, sym, ap, subst, refl, ◌∙◌, arith}
+-- The rows that a view shows of a tile, and what the lists of its flow have at an index, with the labels of its exits.
+use Rattle.std.proofs.Common.{◌≡◌, ℕ, ◌<◌, ◌≤◌, List, length, get_or, map, Option, None, Some, IfSome, sym, ap, subst, refl, ◌∙◌, arith, ◌+◌, ◌-◌, ◌*◌, inl, inr, ◌++◌}
 use Rattle.std.specs.List.{range_with_len}
 use Rattle.std.specs.Option.{option_map}
-use Rattle.std.proofs.lemmas.Bool.{cond-true, eq-eqb}
+use Rattle.std.proofs.lemmas.Bool.{cond-true, eq-eqb, cases_lt}
 use Rattle.std.proofs.lemmas.Option.{none-some, same_Some}
-use Rattle.std.proofs.lemmas.List.{get_or_default, get_or_past}
+use Rattle.std.proofs.lemmas.List.{get_or_default, get_or_past, length-append, get_or_append_left, get_or-append_right}
 use Rattle.std.proofs.lemmas.List.FromFn.{get_or-map-range_with_len, length-map-range_with_len}
 use Rattle.terrain.specs.declared.place.Place.{Place}
 use Rattle.tiles.specs.declared.bounds.Bounds.{Bounds}
 use Rattle.tiles.proofs.TileOrder.{index_in-place_in, place_in-index_in}
+use Rattle.flow.specs.TileFlow.{Flow, directed_by}
 use Rattle.flow.specs.TileLinks.{place_in, index_in, where_data, through_by, exits_by}
 use Rattle.flow.specs.RimGraph.{Outlets, outlet_in}
 use Rattle.flow.specs.Numbering.{IsExitOfTile, number_at, label_by}
+use Rattle.std.proofs.Math.Nat.{suc-mul}
+use Rattle.std.proofs.lemmas.Nat.{div-mul-add, mod-mul-add}
+use Rattle.terrain.proofs.Places.{make_place, same_place, entry-inside}
+use Rattle.tiles.specs.Cutting.{View, AreBounds, bounds_of, row_shown}
+use Rattle.drainage.specs.Following.{code_at}
+use Rattle.tiles.proofs.TileRows.{row_has}
 
 -- the entry of a list that is made where there is data, of what was read
 pub made_at : {X : Type 0} (cells : List (Option ℕ)) (value : ℕ → X) (n i : ℕ) (code : Option ℕ) (x : X) → i < length cells → i < n → code ≡ get_or cells i code → x ≡ value i →
@@ -40,17 +47,56 @@ pub exit_index_is : (b : Bounds) (cells : List (Option ℕ)) (ends : List ℕ) (
     where_data (get_or cells i None) (get_or ends i 0) ≡ option_map (index_in b) (get_or (exits_by b cells ends) i None)
 exit_index_is b cells ends i h = index_of_placed b (get_or cells i None) (get_or ends i 0) ∙ ap (option_map (index_in b)) (sym (exit_at b cells ends i h))
 
-module _ (codes : List (Option ℕ)) (o : Outlets) (b : Bounds) where
+module _ (o : Outlets) (flows : List Flow) (codes : List (Option ℕ)) (b : Bounds) where
   -- the exit of which the index is given
-  pub exit_placed : (exit : ℕ) (x : Option Place) (q : Place) → q ≡ place_in b exit → Some exit ≡ option_map (index_in b) x → IfSome x (IsExitOfTile o codes b) → IsExitOfTile o codes b q
+  pub exit_placed : (exit : ℕ) (x : Option Place) (q : Place) → q ≡ place_in b exit → Some exit ≡ option_map (index_in b) x → IfSome x (IsExitOfTile o flows codes b) → IsExitOfTile o flows codes b q
   exit_placed exit None q at some is = absurd (none-some exit (sym some))
   exit_placed exit (Some e) q at some is =
-      subst (λ (p : Place). IsExitOfTile o codes b p) (sym (place_in-index_in b e is.inside) ∙ ap (place_in b) (sym (same_Some exit (index_in b e) some)) ∙ sym at) is
+      subst (λ (p : Place). IsExitOfTile o flows codes b p) (sym (place_in-index_in b e is.inside) ∙ ap (place_in b) (sym (same_Some exit (index_in b e) some)) ∙ sym at) is
 
-  pub label_own : (i exit : ℕ) (x : Option Place) → Some exit ≡ option_map (index_in b) x → exit ≡ i → IfSome x (IsExitOfTile o codes b) →
-      number_at o.cutting.cols codes (outlet_in o (place_in b exit)) ≡ label_by codes o b i x
+  pub label_own : (i exit : ℕ) (x : Option Place) → Some exit ≡ option_map (index_in b) x → exit ≡ i → IfSome x (IsExitOfTile o flows codes b) →
+      number_at o.cutting.cols codes (outlet_in o flows (place_in b exit)) ≡ label_by o flows codes b i x
   label_own i exit None some own is = absurd (none-some exit (sym some))
   label_own i exit (Some e) some own is =
       let at : exit ≡ index_in b e = same_Some exit (index_in b e) some in
-      ap (λ (p : Place). number_at o.cutting.cols codes (outlet_in o p)) (ap (place_in b) at ∙ place_in-index_in b e is.inside)
-      ∙ sym (cond-true {A = ℕ} _ (number_at o.cutting.cols codes (outlet_in o e)) 0 (eq-eqb (index_in b e) i (sym at ∙ own)))
+      ap (λ (p : Place). number_at o.cutting.cols codes (outlet_in o flows p)) (ap (place_in b) at ∙ place_in-index_in b e is.inside)
+      ∙ sym (cond-true {A = ℕ} _ (number_at o.cutting.cols codes (outlet_in o flows e)) 0 (eq-eqb (index_in b e) i (sym at ∙ own)))
+
+-- the place of an index, by its row and column
+pub place_in_row : (b : Bounds) (r k : ℕ) → k < b.cols → place_in b (r * b.cols + k) ≡ make_place (b.top + r) (b.left + k)
+place_in_row b r k h =
+    same_place (place_in b (r * b.cols + k)) (make_place (b.top + r) (b.left + k))
+    (ap (λ n. b.top + n) (div-mul-add r b.cols k h)) (ap (λ n. b.left + n) (mod-mul-add r b.cols k h))
+
+-- what the first rows of a tile have
+pub record AreFirstRows (v : View (Option ℕ)) (b : Bounds) (rows : ℕ) (cells : List (Option ℕ)) : Type 0 where
+  pub size : length cells ≡ rows * b.cols
+  pub each : (i : ℕ) → i < rows * b.cols → get_or cells i None ≡ code_at (directed_by v) (place_in b i)
+
+row_code : (v : View (Option ℕ)) (b : Bounds) (r k : ℕ) → b ≡ bounds_of v.cutting v.tile → AreBounds v.cutting b → r < b.rows → k < b.cols →
+    get_or (row_shown v r) k None ≡ code_at (directed_by v) (place_in b (r * b.cols + k))
+row_code v b r k e a below inside =
+    let x = a.rows_inside in let y = a.cols_inside in
+    let sum : (b.top + r) * v.cutting.cols + b.left + k ≡ (b.top + r) * v.cutting.cols + (b.left + k) = omega arith in
+    row_has v b r k e inside ∙ ap (λ n. get_or v.cells n None) sum
+    ∙ sym (entry-inside v.cutting.cols v.cutting.rows v.cells (make_place (b.top + r) (b.left + k)) (omega arith) (omega arith))
+    ∙ ap (λ (p : Place). code_at (directed_by v) p) (sym (place_in_row b r k inside))
+
+-- one more row
+pub row_added : (v : View (Option ℕ)) (b : Bounds) (r : ℕ) (cells row new : List (Option ℕ)) → b ≡ bounds_of v.cutting v.tile → AreBounds v.cutting b → r < b.rows →
+    row ≡ row_shown v r → length row ≡ b.cols → new ≡ cells ++ row → AreFirstRows v b r cells → AreFirstRows v b (r + 1) new
+row_added v b r cells row new e a below is size made so_far =
+    let more : (r + 1) * b.cols ≡ r * b.cols + b.cols = ap (λ n. n * b.cols) (omega arith) ∙ suc-mul r b.cols in
+    record {
+      size = ap length made ∙ length-append cells row ∙ omega (arith, so_far.size, size, more);
+      each = λ i h. elim (cases_lt i (r * b.cols)) [
+        | inl early ↦ ap (λ xs. get_or xs i None) made ∙ get_or_append_left cells row None i (omega (arith, so_far.size)) ∙ so_far.each i early
+        | inr late ↦
+            let inside : i - r * b.cols < b.cols = omega (arith, h, more, late) in
+            let at : r * b.cols + (i - r * b.cols) ≡ i = omega (arith, late) in
+            ap (λ xs. get_or xs i None) made ∙ get_or-append_right cells row (r * b.cols) i None so_far.size late
+            ∙ ap (λ xs. get_or xs (i - r * b.cols) None) is
+            ∙ row_code v b r (i - r * b.cols) e a below inside
+            ∙ ap (λ n. code_at (directed_by v) (place_in b n)) at
+      ];
+    }

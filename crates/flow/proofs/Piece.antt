@@ -8,7 +8,7 @@ use Rattle.std.proofs.lemmas.List.FromFn.{get_or-map-range_with_len, length-map-
 use Rattle.terrain.specs.declared.place.Place.{Place}
 use Rattle.tiles.specs.declared.bounds.Bounds.{Bounds}
 use Rattle.tiles.specs.Cutting.{Cutting, IsCutting, View, IsView, AreBounds, IsInBounds, bounds_of, tile_count}
-use Rattle.tiles.proofs.Cut.{places_from_value, in_bounds, bounds_inside}
+use Rattle.tiles.proofs.Cut.{places_from_value, in_bounds, bounds_inside, in_bounds_from}
 use Rattle.tiles.proofs.TileOrder.{place_in_tile, index_in-place_in, index_in_below, place_in-index_in}
 use Rattle.drainage.specs.Following.{Directed, code_at}
 use Rattle.drainage.specs.Drained.{AllFlowEnds}
@@ -20,8 +20,7 @@ use Rattle.flow.proofs.Ending.{end-inside}
 use Rattle.flow.proofs.Reaching.{IsEnding, ending_of}
 use Rattle.flow.proofs.Gathering.{all_gathered, gathered_few, through_is as gathered_through}
 use Rattle.flow.proofs.Coded.{IsCoded, cases_coded}
-use Rattle.flow.proofs.InTile.{AreTileLinks, AreTileWeights, IsPiece, test_from_bounds, tile_streams}
-use Rattle.flow.proofs.Through.{exit_is}
+use Rattle.flow.proofs.InTile.{AreTileLinks, AreTileWeights, IsPiece, tile_streams, exit_is}
 use Rattle.flow.proofs.TileTotals.{own_totals}
 
 pub small_from : {X : Type 0} (v : View X) (b : Bounds) → AreBounds v.cutting b → IsView v → IsSmall b
@@ -40,18 +39,6 @@ weights_from d b cells codes = record {
   size = length-map cells (λ (code : Option ℕ). cond {A = ℕ} (is_some code) 1 0) ∙ codes.size;
   each = λ i h. get_or-map (λ (code : Option ℕ). cond {A = ℕ} (is_some code) 1 0) cells i None 0 (omega (arith, codes.size))
       ∙ ap (λ (code : Option ℕ). cond {A = ℕ} (is_some code) 1 0) (codes.each i h);
-}
-
-pub piece_from : (v : View (Option ℕ)) (b : Bounds) (cells : List (Option ℕ)) (links : List ℕ) → AllFlowEnds (directed_by v) → b ≡ bounds_of v.cutting v.tile → AreBounds v.cutting b → IsView v →
-    AreTileCodes (directed_by v) b cells → links ≡ links_by b cells → IsPiece (directed_by v) v.cutting v.tile b links
-piece_from v b cells links ends is inside lawful codes made = record {
-  cutting = lawful.cutting;
-  cols = refl;
-  rows = refl;
-  ends = ends;
-  inside = inside;
-  places = places_from_value v.cutting v.tile b lawful.cutting lawful.tile is;
-  made = subst (λ (l : List ℕ). AreTileLinks (directed_by v) b l) (sym made) (links_from (directed_by v) b cells codes);
 }
 
 -- the lists of a tile
@@ -89,7 +76,15 @@ match_data (Some code) x y entry e same = e ∙ ap Some (same code refl)
 
 module _ (v : View (Option ℕ)) (b : Bounds) (cells : List (Option ℕ)) (links weights : List ℕ) (s : AreLists v b cells links weights) where
   pub piece : IsPiece (directed_by v) v.cutting v.tile b links
-  piece = piece_from v b cells links s.ends s.bounds s.inside s.lawful s.codes s.made
+  piece = record {
+    cutting = s.lawful.cutting;
+    cols = refl;
+    rows = refl;
+    ends = s.ends;
+    inside = s.inside;
+    places = places_from_value v.cutting v.tile b s.lawful.cutting s.lawful.tile s.bounds;
+    made = subst (λ (l : List ℕ). AreTileLinks (directed_by v) b l) (sym s.made) (links_from (directed_by v) b cells s.codes);
+  }
 
   weighs : AreTileWeights (directed_by v) b weights
   weighs = subst (λ (w : List ℕ). AreTileWeights (directed_by v) b w) (sym s.weighed) (weights_from (directed_by v) b cells s.codes)
@@ -118,7 +113,7 @@ module _ (v : View (Option ℕ)) (b : Bounds) (cells : List (Option ℕ)) (links
   sizes = piece.made.size ∙ sym s.codes.size
 
   pub entry_is : {X : Type 0} (entries : List (Option X)) (p : Place) → IsInBounds b p → entry_in b entries p ≡ get_or entries (index_in b p) None
-  entry_is entries p h = cond-true _ _ _ (test_from_bounds b p h)
+  entry_is entries p h = cond-true _ _ _ (in_bounds_from b p h)
 
   in_cells : (p : Place) → IsInBounds b p → index_in b p < length cells
   in_cells p h = omega (arith, index_in_below b p h, s.codes.size)
@@ -219,7 +214,7 @@ codes_from d t tile f cutting below right = record {
       let inside = place_in_tile t tile i cutting below h in
       let entry : entry_in f.bounds f.codes (place_in (bounds_of t tile) i) ≡ get_or f.codes i None =
       ap (λ (b : Bounds). entry_in b f.codes (place_in (bounds_of t tile) i)) right.bounds
-      ∙ cond-true {A = Option ℕ} _ _ _ (test_from_bounds (bounds_of t tile) (place_in (bounds_of t tile) i) (in_bounds t tile (place_in (bounds_of t tile) i) cutting inside))
+      ∙ cond-true {A = Option ℕ} _ _ _ (in_bounds_from (bounds_of t tile) (place_in (bounds_of t tile) i) (in_bounds t tile (place_in (bounds_of t tile) i) cutting inside))
       ∙ ap (λ n. get_or f.codes n None) (index_in-place_in (bounds_of t tile) i) in
       sym entry ∙ right.same_codes (place_in (bounds_of t tile) i) inside;
 }

@@ -1,31 +1,21 @@
 -- Where each flow path ends, none comes back to a place, and each is as short as the grid has cells.
 use Rattle.std.proofs.Common.{◌≡◌, ◌≢◌, ℕ, zero, suc, ◌+◌, ◌-◌, ◌*◌, ◌<◌, ◌≤◌, ◌⊎◌, Bool, true, ◌&&◌, not, eqb, inl, inr, sym, ap, subst, ◌∙◌, arith}
-use Rattle.std.specs.List.{list_any, range_with_len, sum_by}
+use Rattle.std.specs.List.{list_any, range_with_len}
 use Rattle.std.proofs.lemmas.Bool.{cases_eq, cases_lt, cases_order, and_from, and_parts, eq-eqb, ne_eqb, eqb-true, not-true, not_from_false, false≢true}
 use Rattle.terrain.specs.Neighbours.{index_of}
-use Rattle.terrain.specs.Ways.{places}
 use Rattle.terrain.specs.declared.place.Place.{Place}
-use Rattle.terrain.proofs.Places.{make_place, same_place, index_below, index_injective}
-use Rattle.tiles.specs.declared.bounds.Bounds.{Bounds}
+use Rattle.terrain.proofs.Places.{index_below, index_injective}
 use Rattle.tiles.specs.Cutting.{Cutting, IsCutting, IsInBounds, tile_of_place}
 use Rattle.tiles.proofs.TileOrder.{place_in-index_in, index_in_below}
 use Rattle.drainage.specs.Following.{Directed, next, follow, moves, last_of}
 use Rattle.drainage.specs.Drained.{AllFlowEnds}
+use Rattle.terrain.proofs.Listed.{place_is, is_place_from}
 use Rattle.flow.specs.Counts.{is_place, drains_through}
-use Rattle.flow.specs.Streams.{sum_below}
 use Rattle.flow.specs.TileFlow.{stays}
 use Rattle.flow.specs.TileLinks.{place_in, index_in}
-use Rattle.flow.proofs.Sums.{sum_below-same}
-use Rattle.flow.proofs.Windows.{sum_by_places, sum_in_rows, row_sum}
-use Rattle.flow.proofs.Ranges.{some_in_range, any_in_range, every_in_range, all_in_range}
-use Rattle.flow.proofs.EarlyEnds.{early_stop}
+use Rattle.flow.proofs.Windows.{whole_bounds, some_in_range, any_in_range, every_in_range, all_in_range}
+use Rattle.flow.proofs.Ending.{early_stop}
 use Rattle.flow.proofs.Coded.{IsCoded, coded_along, coded_inside, outlet_stays, follow_stays, follow_more, StopsAt, cycle_stops}
-
-pub place_test : (p q : Place) → p ≡ q → is_place p q ≡ true
-place_test p q e = and_from _ _ (eq-eqb _ _ (ap (λ (r : Place). r.row) e)) (eq-eqb _ _ (ap (λ (r : Place). r.col) e))
-
-pub place_from_test : (p q : Place) → is_place p q ≡ true → p ≡ q
-place_from_test p q h = let w = and_parts _ _ h in same_place p q (eqb-true _ _ w.0) (eqb-true _ _ w.1)
 
 -- the first moves stay in a tile
 pub still_at : (d : Directed) (t : Cutting) (q : Place) (k : ℕ) → stays d t q k ≡ true → (l : ℕ) → l ≤ k → tile_of_place t (follow d q l) ≡ tile_of_place t q
@@ -50,23 +40,6 @@ ending_of d t ends h size = record {
   few_cols = omega (arith, h.few_cols, size.0);
   few_rows = omega (arith, h.few_rows, size.1);
 }
-
-abbrev pub whole_bounds : ℕ → ℕ → Bounds
-whole_bounds cols rows = record { top = 0; left = 0; rows = rows; cols = cols }
-
--- a sum over the places of a grid
-pub sum_of_cells : (f : Place → ℕ) (cols rows : ℕ) → sum_by f (places cols rows) ≡ sum_below (λ i. f (place_in (whole_bounds cols rows) i)) (rows * cols)
-sum_of_cells f cols rows =
-    sum_by_places f cols rows
-    ∙ sum_below-same (row_sum f cols) (λ r. sum_below (λ c. f (make_place (0 + r) (0 + c))) cols) rows
-    (λ r h. sum_below-same (λ c. f (make_place r c)) (λ c. f (make_place (0 + r) (0 + c))) cols (λ c k. same r c))
-    ∙ sym (sum_in_rows f (whole_bounds cols rows) rows)
-  where
-    same : (r c : ℕ) → f (make_place r c) ≡ f (make_place (0 + r) (0 + c))
-    same r c =
-        let a : r ≡ 0 + r = omega arith in
-        let b : c ≡ 0 + c = omega arith in
-        ap (λ n. f (make_place n c)) a ∙ ap (λ n. f (make_place (0 + r) n)) b
 
 module _ (d : Directed) (s : IsEnding d) where
   pub again_stops : (c : Place) → IsCoded d c → (a b : ℕ) → a < b → follow d c a ≡ follow d c b → StopsAt d c a
@@ -114,10 +87,10 @@ module _ (d : Directed) (s : IsEnding d) where
   pub drains_at : (c p : Place) → IsCoded d c → (k : ℕ) → follow d c k ≡ p → drains_through d p c ≡ true
   drains_at c p is k way =
       let m = reached_early c p is k way in
-      any_in_range (λ k. is_place p (follow d c k)) (moves d) m.0 m.1 (place_test p (follow d c m.0) (sym m.3))
+      any_in_range (λ k. is_place p (follow d c k)) (moves d) m.0 m.1 (is_place_from p (follow d c m.0) (sym m.3))
 
   pub drains_from : (c p : Place) → drains_through d p c ≡ true → (k : ℕ) × (follow d c k ≡ p)
-  drains_from c p y = let r = some_in_range (λ k. is_place p (follow d c k)) (moves d) y in (r.0, sym (place_from_test p (follow d c r.0) r.2))
+  drains_from c p y = let r = some_in_range (λ k. is_place p (follow d c k)) (moves d) y in (r.0, sym (place_is p (follow d c r.0) r.2))
 
   -- the last part of a path lies in a region, and comes from outside
   pub record Comes (In : Place → Type 0) (q : Place) (k : ℕ) : Type 0 where
@@ -189,9 +162,9 @@ module _ (d : Directed) (s : IsEnding d) (t : Cutting) (p q : Place) where
   enters_from y =
       let r = some_in_range (enters d t p q) (moves d - 1) y in
       let w = and_parts _ _ r.2 in
-      (r.0, sym (one_on r.0) ∙ sym (place_from_test p (follow d q (r.0 + 1)) w.0), λ e. false≢true (sym (not-true _ w.1) ∙ eq-eqb _ _ e))
+      (r.0, sym (one_on r.0) ∙ sym (place_is p (follow d q (r.0 + 1)) w.0), λ e. false≢true (sym (not-true _ w.1) ∙ eq-eqb _ _ e))
 
   pub enters_at : IsCoded d q → (k : ℕ) → follow d q (suc k) ≡ p → tile_of_place t (follow d q k) ≢ tile_of_place t p → list_any (enters d t p q) (range_with_len 0 (moves d - 1)) ≡ true
   enters_at is k leads apart =
       any_in_range (enters d t p q) (moves d - 1) k (early_move d s q is k (λ e. apart (ap (tile_of_place t) (sym e ∙ leads))))
-      (and_from _ _ (place_test p (follow d q (k + 1)) (sym leads ∙ sym (one_on k))) (not_from_false _ (ne_eqb _ _ apart)))
+      (and_from _ _ (is_place_from p (follow d q (k + 1)) (sym leads ∙ sym (one_on k))) (not_from_false _ (ne_eqb _ _ apart)))

@@ -4,8 +4,9 @@ use Rattle.std.proofs.lemmas.Bool.{cases_Bool, and_from, and_parts, and_left, an
 use Rattle.terrain.specs.declared.place.Place.{Place}
 use Rattle.tiles.specs.declared.bounds.Bounds.{Bounds}
 use Rattle.tiles.specs.Cutting.{Cutting, IsCutting, IsWithin, is_within, IsInTile, IsInBounds, AreBounds, bounds_of, tile_count, tile_of_place}
-use Rattle.tiles.proofs.Cut.{in_bounds, in_tile}
+use Rattle.tiles.proofs.Cut.{in_bounds, in_tile, in_bounds_parts, in_bounds_from}
 use Rattle.tiles.proofs.TileOrder.{index_in_below, place_in-index_in}
+use Rattle.terrain.proofs.Listed.{is_place_from, place_is}
 use Rattle.flow.specs.Counts.{is_place}
 use Rattle.flow.specs.Streams.{sum_below}
 use Rattle.flow.specs.TileFlow.{is_in_bounds}
@@ -13,12 +14,8 @@ use Rattle.flow.specs.TileLinks.{place_in, index_in, IsSmall}
 use Rattle.flow.specs.RimNumbers.{stride, side_number, rim_number, rim_place}
 use Rattle.flow.specs.RimGraph.{stands_for}
 use Rattle.flow.specs.Inflows.{adds, inflow_by}
-use Rattle.flow.proofs.Sums.{sum_more}
-use Rattle.flow.proofs.Windows.{sum_below-part}
-use Rattle.flow.proofs.DoubleSums.{one_term}
-use Rattle.flow.proofs.InTile.{bounds_from_test, test_from_bounds}
-use Rattle.flow.proofs.Reaching.{place_test, place_from_test}
-use Rattle.flow.proofs.Waiting.{added_at}
+use Rattle.flow.proofs.Sums.{sum_more, sum_below-part, one_term}
+use Rattle.flow.proofs.Sending.{added_at}
 use Rattle.flow.proofs.RimNumbered.{side_below, no_wider, no_higher}
 
 adds_off : (t : Cutting) (listed : List ℕ) (k : ℕ) (p : Place) → (is_place (rim_place t k) p && eqb (rim_number t p) k) ≡ false → adds t listed k p ≡ 0
@@ -33,11 +30,11 @@ module _ (t : Cutting) (listed : List ℕ) (b : Bounds) (k : ℕ) where
       get_or (set old (index_in b (rim_place t k)) (get_or old (index_in b (rim_place t k)) 0 + get_or listed k 0)) (index_in b p) 0 ≡ get_or old (index_in b p) 0 + adds t listed k p
   added old size y p h =
       let w = and_parts (stands_for t (rim_place t k) k) (is_in_bounds b (rim_place t k)) y in
-      let inside = bounds_from_test b (rim_place t k) w.1 in
+      let inside = in_bounds_parts b (rim_place t k) w.1 in
       let number : rim_number t (rim_place t k) ≡ k = eqb-true _ _ (and_parts (is_within t (rim_place t k)) (eqb (rim_number t (rim_place t k)) k) w.0).1 in
       let same : eqb (index_in b (rim_place t k)) (index_in b p) ≡ (is_place (rim_place t k) p && eqb (rim_number t p) k) = elim (cases_Bool (is_place (rim_place t k) p)) [
-        | inl here ↦ (let e = place_from_test _ _ here in eq-eqb _ _ (ap (index_in b) e) ∙ sym (and_from _ _ here (eq-eqb _ _ (ap (rim_number t) (sym e) ∙ number))))
-        | inr f ↦ ne_eqb _ _ (λ e. false≢true (sym f ∙ place_test _ _ (sym (place_in-index_in b (rim_place t k) inside) ∙ ap (place_in b) e ∙ place_in-index_in b p h))) ∙ sym (and_left _ _ f)
+        | inl here ↦ (let e = place_is _ _ here in eq-eqb _ _ (ap (index_in b) e) ∙ sym (and_from _ _ here (eq-eqb _ _ (ap (rim_number t) (sym e) ∙ number))))
+        | inr f ↦ ne_eqb _ _ (λ e. false≢true (sym f ∙ is_place_from _ _ (sym (place_in-index_in b (rim_place t k) inside) ∙ ap (place_in b) e ∙ place_in-index_in b p h))) ∙ sym (and_left _ _ f)
       ] in
       added_at old (index_in b (rim_place t k)) (get_or listed k 0) (index_in b p) (omega (arith, index_in_below b (rim_place t k) inside, size))
       ∙ ap (λ x. get_or old (index_in b p) 0 + cond {A = ℕ} x (get_or listed k 0) 0) same
@@ -46,17 +43,17 @@ module _ (t : Cutting) (listed : List ℕ) (b : Bounds) (k : ℕ) where
   pub unadded : AreBounds t b → (stands_for t (rim_place t k) k && is_in_bounds b (rim_place t k)) ≡ false → (p : Place) → IsInBounds b p → adds t listed k p ≡ 0
   unadded a f p h = adds_off t listed k p (false_from_ne_true _ (λ y.
       (let w = and_parts _ _ y in
-      let e : p ≡ rim_place t k = sym (place_from_test _ _ w.0) in
+      let e : p ≡ rim_place t k = sym (place_is _ _ w.0) in
       let row : p.row < t.rows = omega (arith, a.rows_inside) in
       let col : p.col < t.cols = omega (arith, a.cols_inside) in
-      let stands : (stands_for t p k && is_in_bounds b p) ≡ true = and_from _ _ (and_from _ _ (and_from _ _ (lt-ltb _ _ row) (lt-ltb _ _ col)) w.1) (test_from_bounds b p h) in
+      let stands : (stands_for t p k && is_in_bounds b p) ≡ true = and_from _ _ (and_from _ _ (and_from _ _ (lt-ltb _ _ row) (lt-ltb _ _ col)) w.1) (in_bounds_from b p h) in
       false≢true (sym f ∙ sym (ap (λ (q : Place). stands_for t q k && is_in_bounds b q) e) ∙ stands))))
 
   pub own_adds : (stands_for t (rim_place t k) k && is_in_bounds b (rim_place t k)) ≡ true → adds t listed k (rim_place t k) ≡ get_or listed k 0
   own_adds y =
       let stands = (and_parts (stands_for t (rim_place t k) k) (is_in_bounds b (rim_place t k)) y).0 in
       let number = (and_parts (is_within t (rim_place t k)) (eqb (rim_number t (rim_place t k)) k) stands).1 in
-      adds_on t listed k (rim_place t k) (and_from _ _ (place_test (rim_place t k) (rim_place t k) refl) number)
+      adds_on t listed k (rim_place t k) (and_from _ _ (is_place_from (rim_place t k) (rim_place t k) refl) number)
 
 module _ (t : Cutting) (h : IsCutting t) (listed : List ℕ) where
   all_adds : (p : Place) → IsWithin t p → sum_below (λ k. adds t listed (tile_of_place t p * stride (bounds_of t 0) + k) p) (stride (bounds_of t 0)) ≡ inflow_by t listed p

@@ -9,21 +9,19 @@ use Rattle.terrain.specs.Neighbours.{Touches}
 use Rattle.terrain.specs.Ways.{place_toward, place_on, way_of, ways_from}
 use Rattle.terrain.specs.declared.place.Place.{Place}
 use Rattle.tiles.specs.Cutting.{Cutting, IsWithin, IsInBounds, is_within, bounds_of, tile_of_place}
-use Rattle.tiles.proofs.Cut.{in_bounds, in_tile, tile_of_place_below}
+use Rattle.tiles.proofs.Cut.{in_bounds, in_tile, tile_of_place_below, in_bounds_parts, in_bounds_from}
 use Rattle.tiles.proofs.Members.{Touches-from_ways}
 use Rattle.drainage.specs.Following.{Directed, code_at, next, follow, moves, last_of, IsOutlet}
+use Rattle.terrain.proofs.Listed.{is_place_from, place_is}
 use Rattle.flow.specs.Counts.{is_place}
 use Rattle.flow.specs.Streams.{AreStreams, AreEnds, onward, node_after, end_of}
 use Rattle.flow.specs.TileFlow.{Flow, is_in_bounds, stays, entry_in, exit_in, IsTileExits, IsExitOf, IsExitCell}
 use Rattle.flow.specs.Whole.{is_outlet_code}
 use Rattle.flow.specs.RimNumbers.{number_count, rim_number, rim_place}
 use Rattle.flow.specs.RimGraph.{code_in, AreFlowsOf, next_by, exit_by, target_by, way_out_in, way_out_by, number_or, rim_link, rim_links_by, rim_outlet, rim_outlets_by, outlet_by, AreOutlets}
-use Rattle.flow.proofs.Ranges.{every_in_range}
-use Rattle.flow.proofs.EarlyEnds.{IsStop, streams_from}
-use Rattle.flow.proofs.Ending.{node_after-first, node_after-inside}
+use Rattle.flow.proofs.Windows.{every_in_range}
+use Rattle.flow.proofs.Ending.{IsStop, streams_from, node_after-first, node_after-inside}
 use Rattle.flow.proofs.Coded.{IsCoded, cases_option, cases_coded, coded_along, coded_inside, coded_from_some, none_stays, outlet_stays, follow_stays, follow_more, follow_first, StopsAt, stops_sooner, cycle_stops}
-use Rattle.flow.proofs.InTile.{bounds_from_test, test_from_bounds}
-use Rattle.flow.proofs.Reaching.{place_test, place_from_test}
 use Rattle.flow.proofs.RimNumbered.{IsSide, number_below, number_back}
 
 pub outlet_from_code : (o : Option ℕ) → is_outlet_code o ≡ true → o ≡ Some 0
@@ -122,7 +120,7 @@ module _ (d : Directed) (t : Cutting) (flows : List Flow) (s : AreFlowsOf d t fl
   out_of_bounds p c =
       let w = within_of p c.coded in
       false_from_ne_true _ (λ y. c.apart (in_tile t (tile_of_place t p) (next d p) s.cutting (tile_of_place_below t p s.cutting w)
-      (bounds_from_test (bounds_of t (tile_of_place t p)) (next d p) (sym (ap (is_in_bounds (bounds_of t (tile_of_place t p))) (next_here p w)) ∙ y))).1)
+      (in_bounds_parts (bounds_of t (tile_of_place t p)) (next d p) (sym (ap (is_in_bounds (bounds_of t (tile_of_place t p))) (next_here p w)) ∙ y))).1)
 
   pub target_on : (p : Place) → Crosses p → target_by t flows (rim_number t p) ≡ Some (next d p)
   target_on p c =
@@ -139,7 +137,7 @@ module _ (d : Directed) (t : Cutting) (flows : List Flow) (s : AreFlowsOf d t fl
   crosses_from : (p : Place) → IsWithin t p → is_in_bounds (bounds_of t (tile_of_place t p)) (next_by t flows p) ≡ false → Crosses p
   crosses_from p w f =
       let out : (IsInBounds (bounds_of t (tile_of_place t p)) (next d p) → ⊥) =
-      λ i. false≢true (sym f ∙ ap (is_in_bounds (bounds_of t (tile_of_place t p))) (next_here p w) ∙ test_from_bounds _ _ i) in
+      λ i. false≢true (sym f ∙ ap (is_in_bounds (bounds_of t (tile_of_place t p))) (next_here p w) ∙ in_bounds_from _ _ i) in
       elim (cases_coded d p) [
         | inl none ↦ absurd (out (subst (λ (q : Place). IsInBounds (bounds_of t (tile_of_place t p)) q) (sym (none_stays d p none)) (in_bounds t (tile_of_place t p) p s.cutting (w, refl))))
         | inr is ↦ record {
@@ -173,21 +171,7 @@ module _ (d : Directed) (t : Cutting) (flows : List Flow) (s : AreFlowsOf d t fl
     | inr q ↦ subst (λ (o : Option Place). IfSome o (IsWithin t)) (sym q.1) (target_within i q.0 q.1).1
   ]
 
-  -- water that enters a tile leaves it again, or ends there
-  pub record LeavesAt (q e : Place) : Type 0 where
-    pub out : way_out_by t flows q ≡ Some e
-    pub steps : ℕ
-    pub still : stays d t q steps ≡ true
-    pub way : follow d q steps ≡ e
-    pub crosses : Crosses e
-
-  pub record EndsAt (q e : Place) : Type 0 where
-    pub out : way_out_by t flows q ≡ None
-    pub exit : exit_by t flows q ≡ Some e
-    pub steps : ℕ
-    pub way : follow d q steps ≡ e
-    pub outlet : IsOutlet d e
-
+  -- where water that enters a tile leaves it again, or ends
   pub record HasExit (q e : Place) : Type 0 where
     pub exit : exit_by t flows q ≡ Some e
     pub leads : IsExitOf d t q e
@@ -232,24 +216,11 @@ module _ (d : Directed) (t : Cutting) (flows : List Flow) (s : AreFlowsOf d t fl
   pub not_outlet : (e : Place) → Crosses e → is_outlet_code (code_at d e) ≡ false
   not_outlet e c = false_from_ne_true _ (λ y. c.apart (ap (tile_of_place t) (outlet_stays d e (outlet_from_code (code_at d e) y))))
 
-  pub way_cases : (q : Place) → IsCoded d q → (e : Place) × (LeavesAt q e ⊎ EndsAt q e)
-  way_cases q is =
-      let x = exit_here q is in
-      let l = x.1.leads in
-      let coded = subst (λ (z : Place). IsCoded d z) l.3 (coded_along d s.ends q is l.0) in (
-        x.0,
-        elim l.4.1 [
-          | inl out ↦ inr (record { out = x.1.out ∙ cond-true {A = Option Place} _ _ _ (ap is_outlet_code out); exit = x.1.exit; steps = l.0; way = l.3; outlet = out })
-          | inr apart ↦ (let c : Crosses x.0 = record { coded = coded; apart = apart } in
-              inl (record { out = x.1.out ∙ cond-false {A = Option Place} _ _ _ (not_outlet x.0 c); steps = l.0; still = l.2; way = l.3; crosses = c }))
-        ],
-      )
-
   pub way_out_within : (q e : Place) → IsWithin t q → way_out_by t flows q ≡ Some e → IsWithin t e
   way_out_within q e w x = elim (cases_coded d q) [
-    | inr is ↦ (let y = way_cases q is in elim y.1 [
-      | inl l ↦ subst (λ (z : Place). IsWithin t z) (same_Some _ _ (sym l.out ∙ x)) (within_of y.0 l.crosses.coded)
-      | inr l ↦ absurd (none-some e (sym l.out ∙ x))
+    | inr is ↦ (let y = exit_here q is in elim (cases_Bool (is_outlet_code (code_at d y.0))) [
+      | inl out ↦ absurd (none-some e (sym (cond-true {A = Option Place} _ None (Some y.0) out) ∙ sym y.1.out ∙ x))
+      | inr goes ↦ subst (λ (z : Place). IsWithin t z) (same_Some y.0 e (sym (cond-false {A = Option Place} _ None (Some y.0) goes) ∙ sym y.1.out ∙ x)) (within_of y.0 (exit_in_tile q y.0 is y.1.leads).0)
     ])
     | inl none ↦ (let f = flow_of q w in
         let m = MatchOption-at_none _ _ none (f.right.each q (w, refl)) in
@@ -280,18 +251,29 @@ module _ (d : Directed) (t : Cutting) (flows : List Flow) (s : AreFlowsOf d t fl
   pub targets_on : (i : ℕ) (q : Place) → target_by t flows i ≡ Some q → Goes i ⊎ Stops i
   targets_on i q e =
       let x = target_from i q e in
-      let y = way_cases q (target_within i q e).0 in
-      let first : (k : ℕ) → follow d (rim_place t i) (suc k) ≡ follow d q k = λ k. sym (ap (λ (r : Place). follow d r k) x.is ∙ follow_first d (rim_place t i) k) in
-      elim y.1 [
-        | inl l ↦ inl (record { to = y.0; crosses = l.crosses; steps = l.steps; still = subst (λ (z : Place). stays d t z l.steps ≡ true) x.is l.still; way = first l.steps ∙ l.way; link = ap (link_by i) e ∙ ap (number_or t i) l.out })
-        | inr l ↦ inr (record {
+      let is = (target_within i q e).0 in
+      let y = exit_here q is in
+      let leads = y.1.leads in
+      let way : follow d (rim_place t i) (suc leads.0) ≡ y.0 = sym (ap (λ (r : Place). follow d r leads.0) x.is ∙ follow_first d (rim_place t i) leads.0) ∙ leads.3 in
+      let link : rim_link t flows i ≡ number_or t i (cond {A = Option Place} (is_outlet_code (code_at d y.0)) None (Some y.0)) = ap (link_by i) e ∙ ap (number_or t i) y.1.out in
+      elim leads.4.1 [
+        | inl out ↦ inr (record {
           to = y.0;
-          steps = l.steps;
-          way = first l.steps ∙ l.way;
-          outlet = l.outlet;
-          exit = ap (λ (o : Option Place). option_and_then (λ q. exit_by t flows q) o) e ∙ l.exit;
-          link = ap (link_by i) e ∙ ap (number_or t i) l.out;
+          steps = leads.0;
+          way = way;
+          outlet = out;
+          exit = ap (λ (o : Option Place). option_and_then (λ q. exit_by t flows q) o) e ∙ y.1.exit;
+          link = link ∙ ap (number_or t i) (cond-true {A = Option Place} _ None (Some y.0) (ap is_outlet_code out));
         })
+        | inr apart ↦ (let c : Crosses y.0 = record { coded = (exit_in_tile q y.0 is leads).0; apart = apart } in
+            inl (record {
+              to = y.0;
+              crosses = c;
+              steps = leads.0;
+              still = subst (λ (z : Place). stays d t z leads.0 ≡ true) x.is leads.2;
+              way = way;
+              link = link ∙ ap (number_or t i) (cond-false {A = Option Place} _ None (Some y.0) (not_outlet y.0 c));
+            }))
       ]
 
   pub untargeted : (i : ℕ) → target_by t flows i ≡ None → rim_link t flows i ≡ i
@@ -319,31 +301,26 @@ module _ (d : Directed) (t : Cutting) (flows : List Flow) (s : AreFlowsOf d t fl
       ]
     ]
 
-    stop_within : (n i : ℕ) → i < number_count t → StopsAt d (rim_place t i) n → (m : ℕ) × IsStop links i m
+    stop_within : (n i : ℕ) → i < number_count t → ((q : Place) → target_by t flows i ≡ Some q → StopsAt d (rim_place t i) n) → (m : ℕ) × IsStop links i m
     stop_within zero i h stop = elim (cases_option (target_by t flows i)) [
       | inl none ↦ (0, link_at i h ∙ untargeted i none)
-      | inr q ↦ absurd ((target_from i q.0 q.1).crosses.apart (ap (tile_of_place t) stop))
+      | inr q ↦ absurd ((target_from i q.0 q.1).crosses.apart (ap (tile_of_place t) (stop q.0 q.1)))
     ]
     stop_within (suc n) i h stop = elim (cases_option (target_by t flows i)) [
       | inl none ↦ (0, link_at i h ∙ untargeted i none)
       | inr q ↦ elim (targets_on i q.0 q.1) [
         | inr e ↦ (0, link_at i h ∙ e.link)
-        | inl g ↦ (let there = subst (λ (q : Place). StopsAt d q n) (sym (back g.to g.crosses)) (stops_sooner d (rim_place t i) g.to g.steps n g.way stop) in
-            let r = stop_within n (rim_number t g.to) (to_below g.to g.crosses) there in
+        | inl g ↦ (let there = subst (λ (z : Place). StopsAt d z n) (sym (back g.to g.crosses)) (stops_sooner d (rim_place t i) g.to g.steps n g.way (stop q.0 q.1)) in
+            let r = stop_within n (rim_number t g.to) (to_below g.to g.crosses) (λ z e. there) in
             let same : node_after links (rim_number t g.to) r.0 ≡ node_after links i (suc r.0) =
             ap (λ j. node_after links j r.0) (sym (link_at i h ∙ g.link)) ∙ node_after-first links i r.0 in
             (suc r.0, sym (ap (onward links) same) ∙ r.1 ∙ same))
       ]
     ]
 
-    stop_of : (i : ℕ) → i < number_count t → (m : ℕ) × IsStop links i m
-    stop_of i h = elim (cases_option (target_by t flows i)) [
-      | inl none ↦ (0, link_at i h ∙ untargeted i none)
-      | inr q ↦ (let c = (target_from i q.0 q.1).crosses in stop_within (moves d) i h (stops_of (rim_place t i) c.coded))
-    ]
-
     pub rim_streams : AreStreams links
-    rim_streams = streams_from links (λ i h. omega (arith, links_in i (omega (arith, h, links_size)), links_size)) (λ i h. stop_of i (omega (arith, h, links_size)))
+    rim_streams = streams_from links (λ i h. omega (arith, links_in i (omega (arith, h, links_size)), links_size))
+        (λ i h. stop_within (moves d) i (omega (arith, h, links_size)) (λ q e. stops_of (rim_place t i) (target_from i q e).crosses.coded))
 
     -- the nodes of a path have water that ends at one outlet
     record OnWay (i j : ℕ) : Type 0 where
@@ -397,7 +374,7 @@ module _ (d : Directed) (t : Cutting) (flows : List Flow) (s : AreFlowsOf d t fl
             elim x.1 [
               | inl out ↦ cond-true {A = Option Place} _ _ _ (ap is_outlet_code (code_here p w ∙ out)) ∙ ap Some (sym (last_here p out))
               | inr apart ↦ (let c : Crosses p = record { coded = is; apart = apart } in
-                  outlet_listed t flows outlets p (ap is_outlet_code (code_here p w) ∙ not_outlet p c) (place_test _ _ (back p c))
+                  outlet_listed t flows outlets p (ap is_outlet_code (code_here p w) ∙ not_outlet p c) (is_place_from _ _ (back p c))
                   ∙ listed_at (rim_number t p) (to_below p c)
                   ∙ outlet_of (rim_number t p) (to_below p c) (next d p) (target_on p c)
                   ∙ ap (λ (q : Place). Some (last_of d q)) (back p c))
@@ -413,10 +390,10 @@ module _ (d : Directed) (t : Cutting) (flows : List Flow) (s : AreFlowsOf d t fl
                   ∙ listed_at (rim_number t p) (number_below t s.cutting p w)
                   ∙ elim (cases_option (target_by t flows (rim_number t p))) [
                     | inl none ↦ ap (λ (x : Option Place). option_and_then (λ (z : Place). option_and_then (λ q. exit_by t flows q) (target_by t flows (get_or ends (rim_number t p) 0))) x) none
-                    | inr q ↦ (let c = subst (λ (z : Place). Crosses z) (place_from_test _ _ y) (target_from (rim_number t p) q.0 q.1).crosses in
+                    | inr q ↦ (let c = subst (λ (z : Place). Crosses z) (place_is _ _ y) (target_from (rim_number t p) q.0 q.1).crosses in
                         absurd (out (ap (λ (c : Option ℕ). is_some c) c.coded.is, inr c.apart)))
                   ]
             ]
 
-        pub outlets_are : AreOutlets d t (record { cutting = t; flows = flows; listed = outlets })
+        pub outlets_are : AreOutlets d t flows (record { cutting = t; listed = outlets })
         outlets_are = record { outlets = exit_outlet; no_outlets = no_exit_outlet }

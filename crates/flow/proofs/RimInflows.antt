@@ -6,18 +6,18 @@ use Rattle.terrain.specs.declared.place.Place.{Place}
 use Rattle.tiles.specs.Cutting.{Cutting, IsWithin, bounds_of, tile_of_place}
 use Rattle.tiles.proofs.Cut.{in_bounds, in_tile, tile_of_place_below}
 use Rattle.drainage.specs.Following.{Directed, code_at, next, follow, moves}
+use Rattle.terrain.proofs.Listed.{is_place_from, place_is}
 use Rattle.flow.specs.Counts.{is_place, drains_through}
 use Rattle.flow.specs.Streams.{AreUpstream, sum_below}
 use Rattle.flow.specs.TileFlow.{Flow, AreTileCounts, inflow_of}
 use Rattle.flow.specs.RimNumbers.{number_count, rim_number, rim_place}
 use Rattle.flow.specs.RimGraph.{AreFlowsOf, target_by, rim_links_by}
 use Rattle.flow.specs.Inflows.{rim_weights_by, sent_to, entering, AreEntering, inflow_by, AreInflows}
-use Rattle.flow.proofs.Sums.{sum_below-same, sum_below-none}
-use Rattle.flow.proofs.DoubleSums.{exchange, one_term, cond-sum}
+use Rattle.flow.proofs.Sums.{sum_below-same, sum_below-none, exchange, one_term, cond-sum}
 use Rattle.flow.proofs.Coded.{IsCoded, cases_option, coded_along, coded_from_some}
 use Rattle.flow.proofs.RimNumbered.{IsSide, number_below, number_back}
 use Rattle.flow.proofs.RimFlows.{Crosses, within_of, touching, back, target_on, target_from, to_below, links_size}
-use Rattle.flow.proofs.Reaching.{place_test, place_from_test, drains_at, drains_from, comes_once, one_move, enters, enters_from, enters_at}
+use Rattle.flow.proofs.Reaching.{drains_at, drains_from, comes_once, one_move, enters, enters_from, enters_at}
 use Rattle.flow.proofs.Gathering.{cell, drained, all_drained, entered, entered_few, inflow_sum, counted_on, counted_off, counted_none}
 use Rattle.flow.proofs.RimTotals.{ending, total_drained}
 
@@ -91,6 +91,15 @@ module _ (d : Directed) (t : Cutting) (flows : List Flow) (s : AreFlowsOf d t fl
     ]
   ]
 
+  piece_off : (p : Place) → rim_place t (rim_number t p) ≡ p → (c i : ℕ) → ((m : ℕ) → follow d (cell d c) m ≡ rim_place t i → LeadsTo p i → ⊥) → piece p c i ≡ 0
+  piece_off p on c i none = elim (cases_lead p on i) [
+    | inl z ↦ z (drained d (rim_place t i) (cell d c))
+    | inr l ↦ elim (cases_Bool (drains_through d (rim_place t i) (cell d c))) [
+      | inr n ↦ ap (sent_to t (rim_number t p) (target_by t flows i)) (counted_off d (cell d c) _ n) ∙ sent-none t (rim_number t p) (target_by t flows i)
+      | inl through ↦ (let m = drains_from d (ending d t flows s counts) (cell d c) (rim_place t i) through in absurd (none m.0 m.1 l))
+    ]
+  ]
+
   pieces_are : (p : Place) → rim_place t (rim_number t p) ≡ p → (c : ℕ) → sum_below (piece p c) (number_count t) ≡ entered d t p (cell d c)
   pieces_are p on c = elim (cases_Bool (is_some (code_at d (cell d c)))) [
     | inr f ↦ sum_below-none (piece p c) (number_count t) (λ i h. ap (sent_to t (rim_number t p) (target_by t flows i)) (counted_none d (cell d c) _ f) ∙ sent-none t (rim_number t p) (target_by t flows i))
@@ -101,32 +110,18 @@ module _ (d : Directed) (t : Cutting) (flows : List Flow) (s : AreFlowsOf d t fl
           | inl y ↦
               let x = enters_crossing p (cell d c) is y in
               one_term (piece p c) (number_count t) (rim_number t (follow d (cell d c) x.steps)) (to_below d t flows s (follow d (cell d c) x.steps) x.crosses)
-              (λ i h ne. elim (cases_lead p on i) [
-                | inl z ↦ z (drained d (rim_place t i) (cell d c))
-                | inr l ↦ elim (cases_Bool (drains_through d (rim_place t i) (cell d c))) [
-                  | inr n ↦ ap (sent_to t (rim_number t p) (target_by t flows i)) (counted_off d (cell d c) _ n) ∙ sent-none t (rim_number t p) (target_by t flows i)
-                  | inl through ↦
-                      let m = drains_from d (ending d t flows s counts) (cell d c) (rim_place t i) through in
-                      let same = enters_once p (cell d c) is m.0 x.steps (subst (λ (z : Place). Crosses d t flows s z) (sym m.1) l.crosses) (ap (next d) m.1 ∙ l.leads) x.crosses x.leads in
-                      absurd (ne (sym l.number ∙ ap (rim_number t) (sym m.1 ∙ same)))
-                ]
-              ])
+              (λ i h ne. piece_off p on c i (λ m at l.
+              let same = enters_once p (cell d c) is m x.steps (subst (λ (z : Place). Crosses d t flows s z) (sym at) l.crosses) (ap (next d) at ∙ l.leads) x.crosses x.leads in
+              ne (sym l.number ∙ ap (rim_number t) (sym at ∙ same))))
               ∙ ap (λ (o : Option Place). sent_to t (rim_number t p) o (drained d (rim_place t (rim_number t (follow d (cell d c) x.steps))) (cell d c))) (target_on d t flows s (follow d (cell d c) x.steps) x.crosses)
               ∙ cond-true {A = ℕ} _ (drained d (rim_place t (rim_number t (follow d (cell d c) x.steps))) (cell d c)) 0 (eq-eqb _ _ (ap (rim_number t) x.leads))
               ∙ ap (λ z. drained d z (cell d c)) (back d t flows s (follow d (cell d c) x.steps) x.crosses)
               ∙ counted_on d (cell d c) _ is (drains_at d (ending d t flows s counts) (cell d c) (follow d (cell d c) x.steps) is x.steps refl)
               ∙ sym (cond-true {A = ℕ} _ 1 0 (and_from _ _ some y))
           | inr n ↦
-              sum_below-none (piece p c) (number_count t) (λ i h. elim (cases_lead p on i) [
-                | inl z ↦ z (drained d (rim_place t i) (cell d c))
-                | inr l ↦ elim (cases_Bool (drains_through d (rim_place t i) (cell d c))) [
-                  | inr off ↦ ap (sent_to t (rim_number t p) (target_by t flows i)) (counted_off d (cell d c) _ off) ∙ sent-none t (rim_number t p) (target_by t flows i)
-                  | inl through ↦
-                      let m = drains_from d (ending d t flows s counts) (cell d c) (rim_place t i) through in
-                      absurd (false≢true (sym n ∙ enters_at d (ending d t flows s counts) t p (cell d c) is m.0 (ap (next d) m.1 ∙ l.leads)
-                      (λ z. l.crosses.apart (ap (tile_of_place t) l.leads ∙ sym z ∙ ap (tile_of_place t) m.1))))
-                ]
-              ])
+              sum_below-none (piece p c) (number_count t) (λ i h. piece_off p on c i (λ m at l.
+              false≢true (sym n ∙ enters_at d (ending d t flows s counts) t p (cell d c) is m (ap (next d) at ∙ l.leads)
+              (λ z. l.crosses.apart (ap (tile_of_place t) l.leads ∙ sym z ∙ ap (tile_of_place t) at)))))
               ∙ sym (cond-false {A = ℕ} _ 1 0 (and_right _ _ n))
         ]
   ]
@@ -183,10 +178,10 @@ module _ (d : Directed) (t : Cutting) (flows : List Flow) (s : AreFlowsOf d t fl
     module _ (listed : List ℕ) (are : AreEntering t flows weights came listed) where
       pub inflow_at : (p : Place) → IsWithin t p → inflow_by t listed p ≡ inflow_of d t p
       inflow_at p w = elim (cases_Bool (is_place (rim_place t (rim_number t p)) p)) [
-        | inr f ↦ cond-false {A = ℕ} _ (get_or listed (rim_number t p) 0) 0 f ∙ sym (inflow_none p (λ e. false≢true (sym f ∙ place_test _ _ e)))
+        | inr f ↦ cond-false {A = ℕ} _ (get_or listed (rim_number t p) 0) 0 f ∙ sym (inflow_none p (λ e. false≢true (sym f ∙ is_place_from _ _ e)))
         | inl y ↦ cond-true {A = ℕ} _ (get_or listed (rim_number t p) 0) 0 y
             ∙ are.each (rim_number t p) (number_below t s.cutting p w)
-            ∙ entering_is p (place_from_test _ _ y)
+            ∙ entering_is p (place_is _ _ y)
             ∙ sym (inflow_sum d t p)
       ]
 

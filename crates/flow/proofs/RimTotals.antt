@@ -1,5 +1,5 @@
 -- All that comes through an exit is its total along the links of the exits.
-use Rattle.std.proofs.Common.{◌≡◌, ◌≢◌, ℕ, suc, ◌+◌, ◌-◌, ◌*◌, ◌<◌, ◌≤◌, ◌⊎◌, inl, inr, Bool, true, false, cond, ◌&&◌, eqb, List, length, get_or, Option, None, Some, is_some, sym, ap, subst, refl, ◌∙◌, arith, unwrap_or}
+use Rattle.std.proofs.Common.{◌≡◌, ◌≢◌, ℕ, suc, ◌+◌, ◌-◌, ◌*◌, ◌<◌, ◌≤◌, ◌⊎◌, inl, inr, true, false, cond, ◌&&◌, eqb, List, length, get_or, Option, None, Some, is_some, sym, ap, subst, refl, ◌∙◌, arith, unwrap_or}
 use Rattle.std.specs.Option.{option_and_then}
 use Rattle.std.proofs.lemmas.Option.{none-some, MatchOption-at_some}
 use Rattle.std.proofs.lemmas.List.FromFn.{get_or-map-range_with_len, length-map-range_with_len}
@@ -7,19 +7,19 @@ use Rattle.std.proofs.lemmas.Bool.{cases_eq, cases_lt, cases_Bool, and_from, and
 use Rattle.terrain.specs.declared.place.Place.{Place}
 use Rattle.tiles.specs.Cutting.{Cutting, tile_of_place}
 use Rattle.drainage.specs.Following.{Directed, code_at, next, follow, moves}
+use Rattle.terrain.proofs.Listed.{is_place_from, place_is}
 use Rattle.flow.specs.Counts.{is_place, drains_through}
-use Rattle.flow.specs.Streams.{onward, leads_to, upstream_sum, sum_below, total}
+use Rattle.flow.specs.Streams.{onward, leads_to, upstream_sum, sum_below, total, total_within}
 use Rattle.flow.specs.TileFlow.{Flow, AreTileCounts, stays, reaches_inside, IsExitOf, through_in}
 use Rattle.flow.specs.RimNumbers.{number_count, rim_number, rim_place}
 use Rattle.flow.specs.RimGraph.{AreFlowsOf, target_by, way_out_by, number_or, rim_links_by}
 use Rattle.flow.specs.Inflows.{rim_weight, rim_weights_by, weight_or, through_by}
-use Rattle.flow.proofs.Sums.{sum_below-same, sum_below-add, sum_below-none}
-use Rattle.flow.proofs.DoubleSums.{exchange, one_term, cond-sum}
-use Rattle.flow.proofs.Ranges.{some_in_range, any_in_range, every_in_range}
-use Rattle.flow.proofs.Totals.{AreTotals, total_is, leads_parts, leads_from}
+use Rattle.flow.proofs.Sums.{cond_same, sum_below-same, sum_below-add, sum_below-none, exchange, one_term, cond-sum}
+use Rattle.flow.proofs.Windows.{some_in_range, any_in_range, every_in_range}
+use Rattle.flow.proofs.Totals.{each_downstream, totals_are, sums_same, leads_parts, leads_from}
 use Rattle.flow.proofs.Coded.{IsCoded, cases_option, coded_along, coded_from_some, outlet_stays, follow_stays, follow_more, follow_first}
 use Rattle.flow.proofs.RimFlows.{Crosses, Goes, flow_of, within_of, back, target_on, target_from, exit_here, not_outlet, to_below, targets_on, untargeted, links_size, link_at, rim_streams}
-use Rattle.flow.proofs.Reaching.{IsEnding, ending_of, place_test, place_from_test, still_at, still_from, reached_early, drains_at, drains_from, Comes, cases_comes, comes_never, comes_once}
+use Rattle.flow.proofs.Reaching.{IsEnding, ending_of, still_at, still_from, reached_early, drains_at, drains_from, Comes, cases_comes, comes_never, comes_once}
 use Rattle.flow.proofs.Gathering.{cell, drained, all_drained, drained_few, gathered, all_gathered, gathered_few, through_is, counted_on, counted_off, counted_none}
 
 module _ (d : Directed) (t : Cutting) (flows : List Flow) (s : AreFlowsOf d t flows) (counts : AreTileCounts d t flows) where
@@ -64,6 +64,19 @@ module _ (d : Directed) (t : Cutting) (flows : List Flow) (s : AreFlowsOf d t fl
   ]
 
   module _ (links : List ℕ) (made : links ≡ rim_links_by t flows) where
+    -- water of a number that is linked to another leaves the next tile over that one
+    leads_out : (i j : ℕ) → j < number_count t → leads_to links j i ≡ true → (g : Goes d t flows s j) × (rim_number t g.to ≡ i) × (q : Place) × (target_by t flows j ≡ Some q)
+    leads_out i j h y =
+        let l = leads_parts links j i y in
+        let at = link_at d t flows s links made j h in
+        elim (cases_option (target_by t flows j)) [
+          | inl none ↦ absurd (l.1 (sym (at ∙ untargeted d t flows s j none) ∙ l.0))
+          | inr q ↦ elim (targets_on d t flows s j q.0 q.1) [
+            | inr stop ↦ absurd (l.1 (sym (at ∙ stop.link) ∙ l.0))
+            | inl g ↦ (g, sym (at ∙ g.link) ∙ l.0, q.0, q.1)
+          ]
+        ]
+
     -- the exit of a place is linked to that of the place that its water enters
     link_on : (e : Place) → Crosses d t flows s e → (is : IsCoded d (next d e)) → Crosses d t flows s (exit_here d t flows s (next d e) is).0 →
         onward links (rim_number t e) ≡ rim_number t (exit_here d t flows s (next d e) is).0
@@ -79,24 +92,16 @@ module _ (d : Directed) (t : Cutting) (flows : List Flow) (s : AreFlowsOf d t fl
       In p = tile_of_place t p ≡ tile_of_place t (rim_place t i)
 
       abbrev term : ℕ → ℕ
-      term j = cond {A = ℕ} (leads_to links j i) (cond {A = ℕ} (is_some (target_by t flows j)) (drained d (rim_place t j) c) 0) 0
+      term j = cond {A = ℕ} (leads_to links j i) (drained d (rim_place t j) c) 0
 
       term_off : (j : ℕ) → j < number_count t →
           ((k : ℕ) → follow d c k ≡ rim_place t i → (x : Comes d ending In c k) → follow d c x.from ≡ rim_place t j → rim_number t (rim_place t j) ≡ j → ⊥) → term j ≡ 0
       term_off j h none = elim (cases_Bool (leads_to links j i)) [
         | inr n ↦ cond-false {A = ℕ} _ _ 0 n
-        | inl y ↦ cond-true {A = ℕ} _ _ 0 y ∙ elim (cases_option (target_by t flows j)) [
-          | inl no_target ↦ ap (λ (o : Option Place). cond {A = ℕ} (is_some o) (drained d (rim_place t j) c) 0) no_target
-          | inr r ↦
-              ap (λ (o : Option Place). cond {A = ℕ} (is_some o) (drained d (rim_place t j) c) 0) r.1
-              ∙ counted_off d c _ (false_from_ne_true _ (λ z. (let m = drains_from d ending c (rim_place t j) z in
-              let l = leads_parts links j i y in
-              elim (targets_on d t flows s j r.0 r.1) [
-                | inr stop ↦ l.1 (sym (link_at d t flows s links made j h ∙ stop.link) ∙ l.0)
-                | inl g ↦ comes_over j m.0 m.1 g (sym (back d t flows s g.to g.crosses) ∙ ap (rim_place t) (sym (link_at d t flows s links made j h ∙ g.link) ∙ l.0))
-                    (target_from d t flows s j r.0 r.1).crosses.apart (λ k at x from. none k at x from (target_from d t flows s j r.0 r.1).number)
-              ])))
-        ]
+        | inl y ↦ cond-true {A = ℕ} _ _ 0 y ∙ counted_off d c _ (false_from_ne_true _ (λ z. (let m = drains_from d ending c (rim_place t j) z in
+            let o = leads_out i j h y in
+            let x = target_from d t flows s j o.2 o.3 in
+            comes_over j m.0 m.1 o.0 (sym (back d t flows s o.0.to o.0.crosses) ∙ ap (rim_place t) o.1) x.crosses.apart (λ k at comes from. none k at comes from x.number))))
       ]
         where
           comes_over : (j m : ℕ) → follow d c m ≡ rim_place t j → (g : Goes d t flows s j) → g.to ≡ rim_place t i → tile_of_place t (next d (rim_place t j)) ≢ tile_of_place t (rim_place t j) →
@@ -119,7 +124,7 @@ module _ (d : Directed) (t : Cutting) (flows : List Flow) (s : AreFlowsOf d t fl
       reached y =
           let r = some_in_range (λ k. is_place (rim_place t i) (follow d c k) && stays d t c k) (moves d) y in
           let w = and_parts _ _ r.2 in
-          let at : follow d c r.0 ≡ rim_place t i = sym (place_from_test (rim_place t i) (follow d c r.0) w.0) in
+          let at : follow d c r.0 ≡ rim_place t i = sym (place_is (rim_place t i) (follow d c r.0) w.0) in
           (r.0, at, λ l le. still_at d t c r.0 w.1 l le ∙ sym (still_at d t c r.0 w.1 r.0 (omega arith)) ∙ ap (tile_of_place t) at)
 
       parts : drained d (rim_place t i) c ≡ gathered d t (rim_place t i) c + sum_below term (length links)
@@ -138,7 +143,7 @@ module _ (d : Directed) (t : Cutting) (flows : List Flow) (s : AreFlowsOf d t fl
                     arith,
                     counted_on d c _ is y,
                     counted_on d c (reaches_inside d t (rim_place t i) c) is (any_in_range (λ k. is_place (rim_place t i) (follow d c k) && stays d t c k) (moves d) r.0 r.1
-                        (and_from _ _ (place_test (rim_place t i) (follow d c r.0) (sym r.3)) (still_from d t c r.0 (λ l le. way l (omega (arith, le, r.2)) ∙ sym (way 0 (omega arith)))))),
+                        (and_from _ _ (is_place_from (rim_place t i) (follow d c r.0) (sym r.3)) (still_from d t c r.0 (λ l le. way l (omega (arith, le, r.2)) ∙ sym (way 0 (omega arith)))))),
                     sum_below-none term (length links) (λ j l. term_off j (omega (arith, l, links_size d t flows s links made)) (λ k at x _ _. comes_never d ending In c is m.0 k (m.1 ∙ sym at) way x)),
                   )
               | inr x ↦ comes_on y m.0 m.1 x
@@ -174,55 +179,30 @@ module _ (d : Directed) (t : Cutting) (flows : List Flow) (s : AreFlowsOf d t fl
                 one_term term (length links) (rim_number t (follow d c x.from)) (omega (arith, to_below d t flows s (follow d c x.from) cr, links_size d t flows s links made))
                     (λ j l ne. term_off j (omega (arith, l, links_size d t flows s links made)) (λ m there z at_j number.
                     ne (sym number ∙ ap (rim_number t) (sym at_j ∙ ap (follow d c) (comes_once d ending In c is m k (there ∙ sym at) z x))))),
-                cond-true {A = ℕ} _ (cond {A = ℕ} (is_some (target_by t flows (rim_number t (follow d c x.from)))) (drained d (rim_place t (rim_number t (follow d c x.from))) c) 0) 0 leads,
-                ap (λ (o : Option Place). cond {A = ℕ} (is_some o) (drained d (rim_place t (rim_number t (follow d c x.from))) c) 0) (target_on d t flows s (follow d c x.from) cr),
+                cond-true {A = ℕ} _ (drained d (rim_place t (rim_number t (follow d c x.from))) c) 0 leads,
                 counted_on d c (drains_through d (rim_place t (rim_number t (follow d c x.from))) c) is (drains_at d ending c _ is x.from (sym place)),
               )
 
-    -- all that comes through the exit of a number
-    abbrev rim_total : ℕ → ℕ
-    rim_total i = cond {A = ℕ} (is_some (target_by t flows i)) (all_drained d (rim_place t i)) 0
-
-    total_targeted : (i : ℕ) (q : Place) → target_by t flows i ≡ Some q → rim_total i ≡ all_drained d (rim_place t i)
-    total_targeted i q e = ap (λ (o : Option Place). cond {A = ℕ} (is_some o) (all_drained d (rim_place t i)) 0) e
-
-    total_untargeted : (i : ℕ) → target_by t flows i ≡ None → rim_total i ≡ 0
-    total_untargeted i e = ap (λ (o : Option Place). cond {A = ℕ} (is_some o) (all_drained d (rim_place t i)) 0) e
-
-    -- nothing leads to another number
+    -- nothing leads to a number that stands for no such exit
     none_leads : (i j : ℕ) → target_by t flows i ≡ None → j < number_count t → leads_to links j i ≡ false
-    none_leads i j none h =
-        let at = link_at d t flows s links made j h in
-        false_from_ne_true _ (λ y. (let l = leads_parts links j i y in
-        elim (cases_option (target_by t flows j)) [
-          | inl no_target ↦ l.1 (sym (at ∙ untargeted d t flows s j no_target) ∙ l.0)
-          | inr r ↦ elim (targets_on d t flows s j r.0 r.1) [
-            | inr stop ↦ l.1 (sym (at ∙ stop.link) ∙ l.0)
-            | inl g ↦ none-some (next d g.to) (sym none ∙ ap (target_by t flows) (sym l.0 ∙ at ∙ g.link) ∙ target_on d t flows s g.to g.crosses)
-          ]
-        ]))
+    none_leads i j none h = false_from_ne_true _ (λ y. (let o = leads_out i j h y in
+        none-some (next d o.0.to) (sym none ∙ ap (target_by t flows) (sym o.1) ∙ target_on d t flows s o.0.to o.0.crosses)))
 
     -- a cell's water that comes over an exit that is linked to another
     abbrev over : ℕ → ℕ → ℕ → ℕ
-    over i c j = cond {A = ℕ} (leads_to links j i) (cond {A = ℕ} (is_some (target_by t flows j)) (drained d (rim_place t j) (cell d c)) 0) 0
+    over i c j = cond {A = ℕ} (leads_to links j i) (drained d (rim_place t j) (cell d c)) 0
 
     -- the same of the water of all cells
-    tallied : (i : ℕ) (q : Place) → target_by t flows i ≡ Some q → all_drained d (rim_place t i) ≡ all_gathered d t (rim_place t i) + upstream_sum links rim_total i
+    tallied : (i : ℕ) (q : Place) → target_by t flows i ≡ Some q → all_drained d (rim_place t i) ≡ all_gathered d t (rim_place t i) + upstream_sum links (λ j. all_drained d (rim_place t j)) i
     tallied i q e = omega (
       arith,
       sum_below-same (λ c. drained d (rim_place t i) (cell d c)) (λ c. gathered d t (rim_place t i) (cell d c) + sum_below (over i c) (length links)) (d.rows * d.cols) (λ c _. of_cell c),
       sum_below-add (λ c. gathered d t (rim_place t i) (cell d c)) (λ c. sum_below (over i c) (length links)) (d.rows * d.cols),
       exchange (over i) (d.rows * d.cols) (length links),
-      sum_below-same (λ j. sum_below (λ c. over i c j) (d.rows * d.cols)) (λ j. cond {A = ℕ} (leads_to links j i) (rim_total j) 0) (length links) (λ j _.
-          sym (ap (λ n. cond {A = ℕ} (leads_to links j i) n 0) (cond-sum (is_some (target_by t flows j)) (λ c. drained d (rim_place t j) (cell d c)) (d.rows * d.cols))
-          ∙ cond-sum (leads_to links j i) (λ c. cond {A = ℕ} (is_some (target_by t flows j)) (drained d (rim_place t j) (cell d c)) 0) (d.rows * d.cols))),
+      sum_below-same (λ j. sum_below (λ c. over i c j) (d.rows * d.cols)) (λ j. cond {A = ℕ} (leads_to links j i) (all_drained d (rim_place t j)) 0) (length links)
+          (λ j _. sym (cond-sum (leads_to links j i) (λ c. drained d (rim_place t j) (cell d c)) (d.rows * d.cols))),
     )
       where
-        cond_none : (x y : Bool) (n : ℕ) → n ≡ 0 → cond {A = ℕ} x (cond {A = ℕ} y n 0) 0 ≡ 0
-        cond_none true true n z = z
-        cond_none true false n z = refl
-        cond_none false y n z = refl
-
         of_cell : (c : ℕ) → drained d (rim_place t i) (cell d c) ≡ gathered d t (rim_place t i) (cell d c) + sum_below (over i c) (length links)
         of_cell c = elim (cases_Bool (is_some (code_at d (cell d c)))) [
           | inl y ↦ parts i q e (cell d c) (coded_from_some d (cell d c) y)
@@ -230,7 +210,8 @@ module _ (d : Directed) (t : Cutting) (flows : List Flow) (s : AreFlowsOf d t fl
             arith,
             counted_none d (cell d c) (drains_through d (rim_place t i) (cell d c)) n,
             counted_none d (cell d c) (reaches_inside d t (rim_place t i) (cell d c)) n,
-            sum_below-none (over i c) (length links) (λ j _. cond_none (leads_to links j i) (is_some (target_by t flows j)) _ (counted_none d (cell d c) (drains_through d (rim_place t j) (cell d c)) n)),
+            sum_below-none (over i c) (length links)
+                (λ j _. ap (λ x. cond {A = ℕ} (leads_to links j i) x 0) (counted_none d (cell d c) (drains_through d (rim_place t j) (cell d c)) n) ∙ cond_same (leads_to links j i)),
           )
         ]
 
@@ -241,30 +222,34 @@ module _ (d : Directed) (t : Cutting) (flows : List Flow) (s : AreFlowsOf d t fl
       weight_at : (i : ℕ) → i < number_count t → get_or weights i 0 ≡ rim_weight t flows i
       weight_at i h = ap (λ (l : List ℕ). get_or l i 0) weighed ∙ get_or-map-range_with_len (rim_weight t flows) 0 (number_count t) i i 0 h (omega arith)
 
-      rim_totals : AreTotals links weights rim_total
-      rim_totals = record {
-        each = λ i l. (let h : i < number_count t = omega (arith, l, links_size d t flows s links made) in
-            elim (cases_option (target_by t flows i)) [
-              | inl none ↦ omega (
-                arith,
-                total_untargeted i none,
-                weight_at i h,
-                weight_untargeted i none,
-                sum_below-none (λ j. cond {A = ℕ} (leads_to links j i) (rim_total j) 0) (length links)
-                    (λ j m. cond-false {A = ℕ} _ (rim_total j) 0 (none_leads i j none (omega (arith, m, links_size d t flows s links made)))),
-              )
-              | inr q ↦ omega (arith, total_targeted i q.0 q.1, weight_at i h, weight_targeted i q.0 q.1, tallied i q.0 q.1)
-            ]);
-      }
+      numbered : (i : ℕ) → i < length links → i < number_count t
+      numbered i h = omega (arith, h, links_size d t flows s links made)
 
-      pub total_few : (i : ℕ) → i < number_count t → total links weights i ≤ 16777216
-      total_few i h =
-          let is = total_is links weights rim_total (rim_streams d t flows s links made) rim_totals i (omega (arith, h, links_size d t flows s links made)) in
-          elim (cases_option (target_by t flows i)) [
-            | inl none ↦ omega (arith, is, total_untargeted i none)
-            | inr q ↦ omega (arith, is, total_targeted i q.0 q.1, drained_few d ending (rim_place t i))
-          ]
+      linked : (i : ℕ) → i < number_count t → i < length links
+      linked i h = omega (arith, h, links_size d t flows s links made)
 
       pub total_drained : (i : ℕ) (q : Place) → i < number_count t → target_by t flows i ≡ Some q → total links weights i ≡ all_drained d (rim_place t i)
       total_drained i q h e =
-          total_is links weights rim_total (rim_streams d t flows s links made) rim_totals i (omega (arith, h, links_size d t flows s links made)) ∙ total_targeted i q e
+          each_downstream links (rim_streams d t flows s links made) (λ k i. (q : Place) → target_by t flows i ≡ Some q → total_within links weights k i ≡ all_drained d (rim_place t i))
+          (λ k i l before q e. omega (
+            arith,
+            weight_at i (numbered i l),
+            weight_targeted i q e,
+            tallied i q e,
+            sums_same links i (total_within links weights k) (λ j. all_drained d (rim_place t j))
+                (λ j m on. (let o = leads_out i j (numbered j m) on in before j m on o.2 o.3)),
+          ))
+          i (linked i h) q e
+
+      pub total_few : (i : ℕ) → i < number_count t → total links weights i ≤ 16777216
+      total_few i h = elim (cases_option (target_by t flows i)) [
+        | inr q ↦ omega (arith, total_drained i q.0 h q.1, drained_few d ending (rim_place t i))
+        | inl none ↦ omega (
+          arith,
+          (totals_are links weights (rim_streams d t flows s links made)).each i (linked i h),
+          weight_at i h,
+          weight_untargeted i none,
+          sum_below-none (λ j. cond {A = ℕ} (leads_to links j i) (total links weights j) 0) (length links)
+              (λ j m. cond-false {A = ℕ} _ (total links weights j) 0 (none_leads i j none (numbered j m))),
+        )
+      ]

@@ -1,5 +1,5 @@
 -- Sums of what a function has at each number below another.
-use Rattle.std.proofs.Common.{◌≡◌, ◌≢◌, ℕ, zero, suc, ◌+◌, ◌<◌, ◌≤◌, Bool, true, false, cond, inl, inr, sym, ap, refl, arith, add-one}
+use Rattle.std.proofs.Common.{◌≡◌, ◌≢◌, ℕ, zero, suc, ◌+◌, ◌-◌, ◌<◌, ◌≤◌, Bool, true, false, cond, inl, inr, sym, ap, refl, ◌∙◌, arith, add-one, add-zero}
 use Rattle.std.proofs.lemmas.Bool.{cases_eq, cases_lt}
 use Rattle.flow.specs.Streams.{sum_below}
 
@@ -16,6 +16,10 @@ pub sum_below-le : (f g : ℕ → ℕ) (n : ℕ) → ((i : ℕ) → i < n → f 
 sum_below-le f g zero le = omega arith
 sum_below-le f g (suc n) le =
     omega (arith, sum_below-le f g n (λ i h. le i (omega arith)), le n (omega arith))
+
+pub cond_same : (b : Bool) → cond {A = ℕ} b 0 0 ≡ 0
+cond_same true = refl
+cond_same false = refl
 
 -- a test counts for at most 1
 pub bit_le : (b : Bool) → cond {A = ℕ} b 1 0 ≤ 1
@@ -58,3 +62,31 @@ some_term f (suc n) h = elim (cases_lt 0 (f n)) [
 
 pub sum_more : (f : ℕ → ℕ) (n : ℕ) → sum_below f (n + 1) ≡ sum_below f n + f n
 sum_more f n = rw add-one refl
+
+-- a sum in two parts
+pub sum_below-split : (f : ℕ → ℕ) (a n : ℕ) → sum_below f (a + n) ≡ sum_below f a + sum_below (λ i. f (a + i)) n
+sum_below-split f a zero = ap (sum_below f) (add-zero a) ∙ omega arith
+sum_below-split f a (suc n) =
+    let next : a + suc n ≡ suc (a + n) = omega arith in
+    let rest : sum_below f (a + n) ≡ sum_below f a + sum_below (λ i. f (a + i)) n = sum_below-split f a n in
+    ap (sum_below f) next ∙ omega arith
+
+-- a part of a sum
+pub sum_below-part : (f : ℕ → ℕ) (k n : ℕ) → k ≤ n → sum_below f k ≤ sum_below f n
+sum_below-part f k n le =
+    let whole : k + (n - k) ≡ n = omega arith in
+    omega (arith, sum_below-split f k (n - k), ap (sum_below f) whole)
+
+-- sums over two numbers in either order
+pub exchange : (f : ℕ → ℕ → ℕ) (n m : ℕ) → sum_below (λ i. sum_below (f i) m) n ≡ sum_below (λ j. sum_below (λ i. f i j) n) m
+exchange f zero m = sym (sum_below-none (λ j. 0) m (λ j h. refl))
+exchange f (suc n) m = ap (λ k. k + sum_below (f n) m) (exchange f n m) ∙ sym (sum_below-add (λ j. sum_below (λ i. f i j) n) (f n) m)
+
+-- a sum with one term above 0
+pub one_term : (f : ℕ → ℕ) (n i : ℕ) → i < n → ((j : ℕ) → j < n → j ≢ i → f j ≡ 0) → sum_below f n ≡ f i
+one_term f n i h none = omega (arith, sum_below-except f (λ _. 0) n i h none, sum_below-none (λ _. 0) n (λ j l. refl))
+
+-- a sum that is there or not
+pub cond-sum : (b : Bool) (f : ℕ → ℕ) (n : ℕ) → cond {A = ℕ} b (sum_below f n) 0 ≡ sum_below (λ c. cond {A = ℕ} b (f c) 0) n
+cond-sum true f n = refl
+cond-sum false f n = sym (sum_below-none (λ c. 0) n (λ c h. refl))

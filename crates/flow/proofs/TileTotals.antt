@@ -7,19 +7,18 @@ use Rattle.tiles.specs.declared.bounds.Bounds.{Bounds}
 use Rattle.tiles.specs.Cutting.{Cutting, IsInBounds, tile_of_place}
 use Rattle.tiles.proofs.TileOrder.{index_in_below, index_in-place_in, place_in-index_in}
 use Rattle.drainage.specs.Following.{Directed, code_at, next, follow, moves}
+use Rattle.terrain.proofs.Listed.{is_place_from, place_is}
 use Rattle.flow.specs.Counts.{is_place, drains_through}
 use Rattle.flow.specs.Streams.{onward, leads_to, upstream_sum, sum_below}
 use Rattle.flow.specs.TileFlow.{stays, reaches_inside, inflow_of}
 use Rattle.flow.specs.TileLinks.{place_in, index_in}
-use Rattle.flow.proofs.Sums.{sum_below-same, sum_below-add, sum_below-none}
-use Rattle.flow.proofs.DoubleSums.{exchange, one_term, cond-sum}
-use Rattle.flow.proofs.Ranges.{some_in_range, any_in_range}
+use Rattle.flow.proofs.Sums.{cond_same, sum_below-same, sum_below-add, sum_below-none, exchange, one_term, cond-sum}
+use Rattle.flow.proofs.Windows.{whole_bounds, some_in_range, any_in_range}
 use Rattle.flow.proofs.Totals.{AreTotals, leads_parts, leads_from}
-use Rattle.flow.proofs.Waiting.{and_on}
+use Rattle.flow.proofs.Sending.{and_on}
 use Rattle.flow.proofs.Coded.{IsCoded, coded_from_some, coded_along}
-use Rattle.flow.proofs.InTile.{weight_in, AreTileWeights, IsPiece, cases_bounds, in_place, link_is, link-in, link-out, link_place, coded_within}
-use Rattle.flow.proofs.Through.{tile_is}
-use Rattle.flow.proofs.Reaching.{IsEnding, whole_bounds, place_test, place_from_test, still_at, still_from, reached_early, drains_at, drains_from, Comes, cases_comes, comes_never, comes_once, one_move, enters_from, enters_at}
+use Rattle.flow.proofs.InTile.{weight_in, AreTileWeights, IsPiece, cases_bounds, in_place, link_is, link-in, link-out, link_place, coded_within, tile_is}
+use Rattle.flow.proofs.Reaching.{IsEnding, still_at, still_from, reached_early, drains_at, drains_from, Comes, cases_comes, comes_never, comes_once, one_move, enters_from, enters_at}
 use Rattle.flow.proofs.Gathering.{cell, all_drained, all_gathered, entered, inflow_sum, counted_on, counted_off, counted_none}
 
 module _ (d : Directed) (e : IsEnding d) (t : Cutting) (tile : ℕ) (b : Bounds) (links : List ℕ) (s : IsPiece d t tile b links) where
@@ -64,7 +63,7 @@ module _ (d : Directed) (e : IsEnding d) (t : Cutting) (tile : ℕ) (b : Bounds)
       | inr n ↦ omega (
         arith,
         counted_off d q (R (place_in b i)) n,
-        counted_off d q (is_place (place_in b i) q) (false_from_ne_true _ (λ y. false≢true (sym n ∙ at (place_in b i) 0 (sym (place_from_test (place_in b i) q y)) start))),
+        counted_off d q (is_place (place_in b i) q) (false_from_ne_true _ (λ y. false≢true (sym n ∙ at (place_in b i) 0 (sym (place_is (place_in b i) q y)) start))),
         off (λ a goes far _. false≢true (sym n ∙ at (place_in b i) (suc a) goes far)),
         sum_below-none term (length links) (λ j l. term_off j l (λ a goes _ far _. false≢true (sym n ∙ at (place_in b i) (suc a) goes far))),
       )
@@ -75,7 +74,7 @@ module _ (d : Directed) (e : IsEnding d) (t : Cutting) (tile : ℕ) (b : Bounds)
                 omega (
                   arith,
                   counted_on d q (R (place_in b i)) is y,
-                  counted_on d q (is_place (place_in b i) q) is (place_test (place_in b i) q (sym (way 0 (omega arith)))),
+                  counted_on d q (is_place (place_in b i) q) is (is_place_from (place_in b i) q (sym (way 0 (omega arith)))),
                   off (λ a goes far out. here a goes (λ z. out (subst (λ (p : Place). IsInBounds b p) (sym z) (in_place d t tile b links s i h)))),
                   sum_below-none term (length links) (λ j l. term_off j l (λ a goes apart _ _. here a goes apart)),
                 ))
@@ -91,8 +90,8 @@ module _ (d : Directed) (e : IsEnding d) (t : Cutting) (tile : ℕ) (b : Bounds)
             let same : (a : ℕ) → follow d q (suc a) ≡ place_in b i → follow d q a ≢ place_in b i → a ≡ c.from =
             λ a moves apart. comes_once d e (λ z. z ≡ place_in b i) q is (suc a) k (moves ∙ sym way) (one_move d e q (place_in b i) a moves apart) c in
             let not_own : is_place (place_in b i) q ≡ false =
-            false_from_ne_true _ (λ z. comes_never d e (λ z. z ≡ place_in b i) q is 0 k (sym (place_from_test (place_in b i) q z) ∙ sym way)
-            (λ l le. (let w : l ≡ 0 = omega arith in ap (follow d q) w ∙ sym (place_from_test (place_in b i) q z))) c) in
+            false_from_ne_true _ (λ z. comes_never d e (λ z. z ≡ place_in b i) q is 0 k (sym (place_is (place_in b i) q z) ∙ sym way)
+            (λ l le. (let w : l ≡ 0 = omega arith in ap (follow d q) w ∙ sym (place_is (place_in b i) q z))) c) in
             elim (cases_bounds b (follow d q c.from)) [
               | inr out ↦ omega (
                 arith,
@@ -161,10 +160,6 @@ module _ (d : Directed) (e : IsEnding d) (t : Cutting) (tile : ℕ) (b : Bounds)
               (λ j l. ap (λ x. cond {A = ℕ} (leads_to links j i) x 0) (counted_none d q (R (place_in b j) q) n) ∙ cond_same (leads_to links j i)),
         )
       ]
-        where
-          cond_same : (x : Bool) → cond {A = ℕ} x 0 0 ≡ 0
-          cond_same true = refl
-          cond_same false = refl
 
       own_sum : sum_below (λ c. own (place_in b i) (cell d c)) (d.rows * d.cols) ≡ weight_in d b i
       own_sum =
@@ -172,9 +167,9 @@ module _ (d : Directed) (e : IsEnding d) (t : Cutting) (tile : ℕ) (b : Bounds)
           (let x = in_place d t tile b links s i h in (omega arith, omega (arith, x, s.inside.rows_inside, s.rows), omega arith, omega (arith, x, s.inside.cols_inside, s.cols))) in
           one_term (λ c. own (place_in b i) (cell d c)) (d.rows * d.cols) (index_in (whole_bounds d.cols d.rows) (place_in b i)) (index_in_below (whole_bounds d.cols d.rows) (place_in b i) inside)
           (λ j l ne. counted_off d (cell d j) _ (false_from_ne_true _ (λ y.
-          ne (sym (index_in-place_in (whole_bounds d.cols d.rows) j) ∙ ap (index_in (whole_bounds d.cols d.rows)) (sym (place_from_test (place_in b i) (cell d j) y))))))
+          ne (sym (index_in-place_in (whole_bounds d.cols d.rows) j) ∙ ap (index_in (whole_bounds d.cols d.rows)) (sym (place_is (place_in b i) (cell d j) y))))))
           ∙ ap (own (place_in b i)) (place_in-index_in (whole_bounds d.cols d.rows) (place_in b i) inside)
-          ∙ ap (λ x. cond {A = ℕ} x 1 0) (and_on (is_some (code_at d (place_in b i))) _ (place_test (place_in b i) (place_in b i) refl))
+          ∙ ap (λ x. cond {A = ℕ} x 1 0) (and_on (is_some (code_at d (place_in b i))) _ (is_place_from (place_in b i) (place_in b i) refl))
 
   -- the weights of a tile's cells: themselves, and what flows in
   abbrev pub AreWeights : List ℕ → Type 0
@@ -208,9 +203,9 @@ module _ (d : Directed) (e : IsEnding d) (t : Cutting) (tile : ℕ) (b : Bounds)
       sum_below-none (λ c. 0) (d.rows * d.cols) (λ c _. refl),
       tallied (reaches_inside d t) (λ p q. 0) i h (λ q is. parts q is i h (λ p. reaches_inside d t p q) (λ k. stays d t q k ≡ true) (begins q)
           (λ p y. (let r = some_in_range (λ k. is_place p (follow d q k) && stays d t q k) (moves d) y in
-          let w = and_parts _ _ r.2 in (r.0, sym (place_from_test p (follow d q r.0) w.0), w.1)))
+          let w = and_parts _ _ r.2 in (r.0, sym (place_is p (follow d q r.0) w.0), w.1)))
           (λ p k way still. (let m = reached_early d e q p is k way in
-          any_in_range (λ k. is_place p (follow d q k) && stays d t q k) (moves d) m.0 m.1 (and_from _ _ (place_test p (follow d q m.0) (sym m.3)) (sooner q k m.0 m.2 still))))
+          any_in_range (λ k. is_place p (follow d q k) && stays d t q k) (moves d) m.0 m.1 (and_from _ _ (is_place_from p (follow d q m.0) (sym m.3)) (sooner q k m.0 m.2 still))))
           (sooner q) (later q) 0 (λ _. refl)
           (λ a goes still out. absurd (out ((s.places (follow d q a)).0 (
             coded_within d t tile b links s (follow d q a) (coded_along d s.ends q is a),

@@ -1,17 +1,26 @@
--- The tiles together.
-use Rattle.std.proofs.Common.{◌≡◌, ℕ, ◌*◌, List, length, Option, Some, Vec, Global, vec_len, slice_get, subst, arith}
+-- The codes of a map of directions, and the tiles together.
+use Rattle.std.proofs.Common.{◌≡◌, ℕ, ◌*◌, List, length, Option, subst, sym, ap, ◌∙◌, Some, Vec, Global, vec_len, slice_get, arith}
 use Rattle.std.specs.Prelude.{Result, Ok, Err, IfOk}
 use Rattle.std.proofs.lemmas.Option.{get_or_from_slice_get, slice_get_within}
+use Rattle.tiles.specs.Cutting.{Cutting, Cuts, IsWithin}
+use Rattle.drainage.specs.Following.{Directed}
+use Rattle.drainage.specs.Drained.{Drained, IsDraining, AllFlowEnds, directed_of}
+use Rattle.drainage.proofs.Ends.{falling_ends}
 use Rattle.terrain.specs.Neighbours.{entry_at}
 use Rattle.terrain.specs.declared.place.Place.{Place}
 use Rattle.tile_jobs.specs.Answers.{AllGiven}
-use Rattle.tiles.specs.Cutting.{Cutting, IsWithin, Cuts}
-use Rattle.drainage.specs.Following.{Directed}
-use Rattle.drainage.specs.Drained.{Drained, directed_of}
-use Rattle.flow.specs.Counts.{IsMapOf}
-use Rattle.flow.specs.Whole.{make_directed}
-use Rattle.flow.specs.TileMaps.{IsValueAt}
-use Rattle.flow.proofs.Directed.{directed_same}
+use Rattle.flow.specs.Whole.{make_directed, IsGridFlow}
+use Rattle.flow.specs.Counts.{IsMapOf, IsValueAt}
+
+pub directed_same : (d : Drained) (t : Cutting) (codes : List (Option ℕ)) → Cuts t d.terrain → codes ≡ d.codes → make_directed t.cols t.rows codes ≡ directed_of d
+directed_same d t codes cuts e =
+    ap (λ n. make_directed n t.rows codes) cuts.0 ∙ ap (λ n. make_directed d.terrain.cols n codes) cuts.1 ∙ ap (make_directed d.terrain.cols d.terrain.rows) e
+
+pub grid_flow : (d : Drained) (t : Cutting) (codes : List (Option ℕ)) → IsDraining d → Cuts t d.terrain → codes ≡ d.codes → IsGridFlow t.cols t.rows codes
+grid_flow d t codes draining cuts e = record {
+  size = ap length e ∙ draining.codes_size ∙ sym (ap (λ n. n * t.rows) cuts.0 ∙ ap (λ n. d.terrain.cols * n) cuts.1);
+  ends = subst (λ (x : Directed). AllFlowEnds x) (sym (directed_same d t codes cuts e)) (falling_ends d draining);
+}
 
 -- what the jobs gave, one answer for each
 pub jobs_gave : {X E : Type 0} (P : ℕ → X → Type 0) (r : Result (Vec X Global) E) (n m : ℕ) (Q : List X → Type 0) → n ≡ m →

@@ -3,7 +3,7 @@ use Rattle.std.proofs.Common.{◌≡◌, ◌≢◌, ℕ, zero, suc, ◌+◌, ◌
 use Rattle.std.proofs.lemmas.Bool.{cases_eq, cases_Bool, cond-true, cond-false, and_from, and_parts, and_right, eq-eqb, ne_eqb, eqb-true, not-true, not_from_true, not_from_false, false_from_ne_true, false≢true}
 use Rattle.flow.specs.Streams.{AreStreams, total_within, total, onward, node_after, leads_to, upstream_sum}
 use Rattle.flow.proofs.Sums.{sum_below-le}
-use Rattle.flow.proofs.EarlyEnds.{IsStop, early_end}
+use Rattle.flow.proofs.Ending.{IsStop, early_end}
 
 pub leads_parts : (links : List ℕ) (j i : ℕ) → leads_to links j i ≡ true → (onward links j ≡ i) × (j ≢ i)
 leads_parts links j i y = let w = and_parts _ _ y in (eqb-true _ _ w.0, λ e. false≢true (sym (not-true _ w.1) ∙ eq-eqb _ _ e))
@@ -56,6 +56,9 @@ sums_le links i f g le =
       | inr off ↦ omega (arith, cond-false {A = ℕ} _ (f j) 0 off, cond-false {A = ℕ} _ (g j) 0 off)
     ])
 
+pub sums_same : (links : List ℕ) (i : ℕ) (f g : ℕ → ℕ) → ((j : ℕ) → j < length links → leads_to links j i ≡ true → f j ≡ g j) → upstream_sum links f i ≡ upstream_sum links g i
+sums_same links i f g same = omega (arith, sums_le links i f g (λ j l on. omega (arith, same j l on)), sums_le links i g f (λ j l on. omega (arith, same j l on)))
+
 -- what is no more than its weight and what comes to it is no more than what has at least that
 pub totals_le : (links : List ℕ) → AreStreams links → (w f g : ℕ → ℕ) → ((i : ℕ) → i < length links → f i ≤ w i + upstream_sum links f i) →
     ((i : ℕ) → i < length links → w i + upstream_sum links g i ≤ g i) → (i : ℕ) → i < length links → f i ≤ g i
@@ -69,11 +72,7 @@ pub record AreTotals (links weights : List ℕ) (f : ℕ → ℕ) : Type 0 where
 pub totals_are : (links weights : List ℕ) → AreStreams links → AreTotals links weights (total links weights)
 totals_are links weights streams = record {
   each = each_downstream links streams (λ k i. total_within links weights k i ≡ total_within links weights (suc k) i)
-      (λ k i h before. omega (
-        arith,
-        sums_le links i (total_within links weights k) (total_within links weights (suc k)) (λ j l on. omega (arith, before j l on)),
-        sums_le links i (total_within links weights (suc k)) (total_within links weights k) (λ j l on. omega (arith, before j l on)),
-      ));
+      (λ k i h before. omega (arith, sums_same links i (total_within links weights k) (total_within links weights (suc k)) before));
 }
 
 pub total_is : (links weights : List ℕ) (f : ℕ → ℕ) → AreStreams links → AreTotals links weights f → (i : ℕ) → i < length links → total links weights i ≡ f i

@@ -1,70 +1,73 @@
--- Counts over the places of a grid as sums over rows and columns, and over the indexes of bounds.
-use Rattle.std.proofs.Common.{◌≡◌, ℕ, zero, suc, ◌+◌, ◌-◌, ◌*◌, ◌%◌, ◌≤◌, List, [], ◌∷◌, map, sym, ap, refl, ◌∙◌, arith, add-one, add-zero, zero-mul}
-use Rattle.std.proofs.lemmas.List.Sums.{sum_by-append, sum_by-cons}
-use Rattle.std.proofs.lemmas.List.FromFn.{sum_by-map-range_with_len_more}
+-- Sums over the cells of a grid; some and all of the numbers of a range, and lists that are made of its numbers.
+use Rattle.std.proofs.Common.{◌≡◌, ℕ, zero, suc, ◌+◌, ◌*◌, ◌≤◌, map, sym, ap, refl, ◌∙◌, arith, add-one, zero-mul, ◌<◌, Bool, true, [], ◌∷◌, ◌++◌, get_or}
+use Rattle.std.proofs.lemmas.List.Sums.{sum_by-append, AllPass-from_list_all, list_all-from_AllPass}
+use Rattle.std.proofs.lemmas.List.FromFn.{sum_by-map-range_with_len_more, length-range_with_len, get_or-range_with_len, map-range_with_len_more}
 use Rattle.std.proofs.lemmas.Nat.{div-mul-add, mod-mul-add}
-use Rattle.std.specs.List.{range_with_len, flat_map, sum_by}
+use Rattle.std.specs.List.{range_with_len, flat_map, sum_by, list_any, list_all}
 use Rattle.terrain.specs.Ways.{places}
 use Rattle.terrain.specs.declared.place.Place.{Place}
-use Rattle.terrain.proofs.Places.{make_place}
+use Rattle.terrain.proofs.Places.{make_place, same_place}
 use Rattle.tiles.specs.declared.bounds.Bounds.{Bounds}
 use Rattle.flow.specs.Streams.{sum_below}
 use Rattle.flow.specs.TileLinks.{place_in}
-use Rattle.flow.proofs.Sums.{sum_below-same}
+use Rattle.flow.proofs.Sums.{sum_below-same, sum_below-split}
+use Rattle.std.proofs.lemmas.List.Folds.{Any-from_list_any, list_any_at}
 
--- a sum over a range
-sum_by_row : {X : Type 0} (f : X → ℕ) (g : ℕ → X) (n : ℕ) → sum_by f (map g (range_with_len 0 n)) ≡ sum_below (λ i. f (g i)) n
-sum_by_row f g zero = refl
-sum_by_row f g (suc n) =
-    ap (λ (k : ℕ). sum_by f (map g (range_with_len 0 k))) (sym (add-one n))
-    ∙ sum_by-map-range_with_len_more f g 0 n n (omega arith)
-    ∙ ap (λ k. k + f (g n)) (sum_by_row f g n)
+abbrev pub whole_bounds : ℕ → ℕ → Bounds
+whole_bounds cols rows = record { top = 0; left = 0; rows = rows; cols = cols }
 
--- a sum over lists that are joined
-sum_by_rows : {X Y : Type 0} (f : X → ℕ) (g : Y → List X) (ys : List Y) → sum_by f (flat_map g ys) ≡ sum_by (λ y. sum_by f (g y)) ys
-sum_by_rows f g [] = refl
-sum_by_rows f g (y ∷ ys) =
-    sum_by-append f (g y) (flat_map g ys) ∙ ap (λ k. sum_by f (g y) + k) (sum_by_rows f g ys) ∙ sym (sum_by-cons (λ z. sum_by f (g z)) y ys)
+module _ (f : Place → ℕ) (cols rows : ℕ) where
+  abbrev at : ℕ → ℕ
+  at i = f (place_in (whole_bounds cols rows) i)
 
-map_id : (xs : List ℕ) → map (λ x. x) xs ≡ xs
-map_id [] = refl
-map_id (x ∷ xs) = ap (λ ys. x ∷ ys) (map_id xs)
+  row_sum : (r n : ℕ) → n ≤ cols → sum_by f (map (λ (c : ℕ). make_place r c) (range_with_len 0 n)) ≡ sum_below (λ c. at (r * cols + c)) n
+  row_sum r zero le = refl
+  row_sum r (suc n) le =
+      let here : make_place r n ≡ place_in (whole_bounds cols rows) (r * cols + n) =
+      same_place (make_place r n) (place_in (whole_bounds cols rows) (r * cols + n)) (omega (arith, div-mul-add r cols n (omega arith))) (omega (arith, mod-mul-add r cols n (omega arith))) in
+      ap (λ (k : ℕ). sum_by f (map (λ (c : ℕ). make_place r c) (range_with_len 0 k))) (sym (add-one n))
+      ∙ sum_by-map-range_with_len_more f (λ (c : ℕ). make_place r c) 0 n n (omega arith)
+      ∙ omega (arith, row_sum r n (omega arith), ap f here)
 
--- what a function has in a row
-abbrev pub row_sum : (Place → ℕ) → ℕ → ℕ → ℕ
-row_sum f cols r = sum_below (λ c. f (make_place r c)) cols
+  rows_sum : (a n : ℕ) → sum_by f (flat_map (λ (r : ℕ). map (λ (c : ℕ). make_place r c) (range_with_len 0 cols)) (range_with_len a n)) ≡ sum_below (λ i. at (a * cols + i)) (n * cols)
+  rows_sum a zero = sym (ap (sum_below (λ i. at (a * cols + i))) (zero-mul cols))
+  rows_sum a (suc n) =
+      let size : suc n * cols ≡ cols + n * cols = grind arith in
+      let on : (i : ℕ) → a * cols + (cols + i) ≡ (a + 1) * cols + i = λ i. omega arith in
+      sum_by-append f (map (λ (c : ℕ). make_place a c) (range_with_len 0 cols)) (flat_map (λ (r : ℕ). map (λ (c : ℕ). make_place r c) (range_with_len 0 cols)) (range_with_len (a + 1) n))
+      ∙ omega (
+        arith,
+        row_sum a cols (omega arith),
+        rows_sum (a + 1) n,
+        ap (sum_below (λ i. at (a * cols + i))) size,
+        sum_below-split (λ i. at (a * cols + i)) cols (n * cols),
+        sum_below-same (λ i. at (a * cols + (cols + i))) (λ i. at ((a + 1) * cols + i)) (n * cols) (λ i _. ap (λ k. at k) (on i)),
+      )
 
-pub sum_by_places : (f : Place → ℕ) (cols rows : ℕ) → sum_by f (places cols rows) ≡ sum_below (row_sum f cols) rows
-sum_by_places f cols rows =
-    sum_by_rows f (λ (r : ℕ). map (λ (c : ℕ). make_place r c) (range_with_len 0 cols)) (range_with_len 0 rows)
-    ∙ ap (λ xs. sum_by (λ (r : ℕ). sum_by f (map (λ (c : ℕ). make_place r c) (range_with_len 0 cols))) xs) (sym (map_id (range_with_len 0 rows)))
-    ∙ sum_by_row (λ (r : ℕ). sum_by f (map (λ (c : ℕ). make_place r c) (range_with_len 0 cols))) (λ (r : ℕ). r) rows
-    ∙ sum_below-same _ (row_sum f cols) rows (λ r h. sum_by_row f (λ (c : ℕ). make_place r c) cols)
+  pub sum_of_cells : sum_by f (places cols rows) ≡ sum_below (λ i. at i) (rows * cols)
+  sum_of_cells =
+      let on : (i : ℕ) → 0 * cols + i ≡ i = λ i. omega arith in
+      rows_sum 0 rows ∙ sum_below-same (λ i. at (0 * cols + i)) (λ i. at i) (rows * cols) (λ i _. ap (λ k. at k) (on i))
 
--- a sum in two parts
-pub sum_below-split : (f : ℕ → ℕ) (a n : ℕ) → sum_below f (a + n) ≡ sum_below f a + sum_below (λ i. f (a + i)) n
-sum_below-split f a zero = ap (sum_below f) (add-zero a) ∙ omega arith
-sum_below-split f a (suc n) =
-    let next : a + suc n ≡ suc (a + n) = omega arith in
-    let rest : sum_below f (a + n) ≡ sum_below f a + sum_below (λ i. f (a + i)) n = sum_below-split f a n in
-    ap (sum_below f) next ∙ omega arith
+number_at : (n k d : ℕ) → k < n → get_or (range_with_len 0 n) k d ≡ k
+number_at n k d h = omega (arith, get_or-range_with_len 0 n k d h)
 
--- a sum over the indexes of bounds, row by row
-pub sum_in_rows : (f : Place → ℕ) (b : Bounds) (rows : ℕ) →
-    sum_below (λ i. f (place_in b i)) (rows * b.cols) ≡ sum_below (λ r. sum_below (λ c. f (make_place (b.top + r) (b.left + c))) b.cols) rows
-sum_in_rows f b zero = ap (sum_below (λ i. f (place_in b i))) (zero-mul b.cols)
-sum_in_rows f b (suc rows) =
-    let size : suc rows * b.cols ≡ rows * b.cols + b.cols = grind arith in
-    let split : sum_below (λ i. f (place_in b i)) (rows * b.cols + b.cols) ≡ sum_below (λ i. f (place_in b i)) (rows * b.cols) + sum_below (λ c. f (place_in b (rows * b.cols + c))) b.cols =
-    sum_below-split (λ i. f (place_in b i)) (rows * b.cols) b.cols in
-    let row : sum_below (λ c. f (place_in b (rows * b.cols + c))) b.cols ≡ sum_below (λ c. f (make_place (b.top + rows) (b.left + c))) b.cols =
-    sum_below-same _ _ b.cols (λ c h. ap (λ q. f (make_place (b.top + q) (b.left + (rows * b.cols + c) % b.cols))) (div-mul-add rows b.cols c h)
-    ∙ ap (λ q. f (make_place (b.top + rows) (b.left + q))) (mod-mul-add rows b.cols c h)) in
-    let rest : sum_below (λ i. f (place_in b i)) (rows * b.cols) ≡ sum_below (λ r. sum_below (λ c. f (make_place (b.top + r) (b.left + c))) b.cols) rows = sum_in_rows f b rows in
-    ap (sum_below (λ i. f (place_in b i))) size ∙ omega arith
+pub some_in_range : (f : ℕ → Bool) (n : ℕ) → list_any f (range_with_len 0 n) ≡ true → (k : ℕ) × (k < n) × (f k ≡ true)
+some_in_range f n h =
+    let r = Any-from_list_any f (range_with_len 0 n) h in
+    let below : r.0 < n = omega (arith, r.2, length-range_with_len 0 n) in
+    (r.0, below, ap f (sym (number_at n r.0 r.1 below) ∙ r.3) ∙ r.4)
 
--- a part of a sum
-pub sum_below-part : (f : ℕ → ℕ) (k n : ℕ) → k ≤ n → sum_below f k ≤ sum_below f n
-sum_below-part f k n le =
-    let whole : k + (n - k) ≡ n = omega arith in
-    omega (arith, sum_below-split f k (n - k), ap (sum_below f) whole)
+pub any_in_range : (f : ℕ → Bool) (n k : ℕ) → k < n → f k ≡ true → list_any f (range_with_len 0 n) ≡ true
+any_in_range f n k h t = list_any_at f (range_with_len 0 n) k 0 (omega (arith, h, length-range_with_len 0 n)) (ap f (number_at n k 0 h) ∙ t)
+
+pub every_in_range : (f : ℕ → Bool) (n : ℕ) → list_all f (range_with_len 0 n) ≡ true → (k : ℕ) → k < n → f k ≡ true
+every_in_range f n h k l = ap f (sym (number_at n k 0 l)) ∙ AllPass-from_list_all f (range_with_len 0 n) h k 0 (omega (arith, l, length-range_with_len 0 n))
+
+pub all_in_range : (f : ℕ → Bool) (n : ℕ) → ((k : ℕ) → k < n → f k ≡ true) → list_all f (range_with_len 0 n) ≡ true
+all_in_range f n h = list_all-from_AllPass f (range_with_len 0 n)
+    (λ k d below. (let l : k < n = omega (arith, below, length-range_with_len 0 n) in ap f (number_at n k d l) ∙ h k l))
+
+-- one more entry of a list that is made from a function
+pub mapped_next : {X : Type 0} (f : ℕ → X) (n : ℕ) → map f (range_with_len 0 (n + 1)) ≡ map f (range_with_len 0 n) ++ f n ∷ []
+mapped_next f n = map-range_with_len_more f 0 n n (omega arith)

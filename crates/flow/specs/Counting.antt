@@ -4,8 +4,7 @@ use Rattle.std.specs.List.{range_with_len}
 use Rattle.terrain.specs.declared.place.Place.{Place}
 use Rattle.tiles.specs.declared.bounds.Bounds.{Bounds}
 use Rattle.tiles.specs.Cutting.{Cutting, IsInBounds, bounds_of, cell_count, tile_count}
-use Rattle.flow.specs.Counts.{accumulation}
-use Rattle.flow.specs.TileMaps.{IsValueAt}
+use Rattle.flow.specs.Counts.{accumulation, IsValueAt}
 use Rattle.flow.specs.Streams.{AreStreams, AreUpstream, total}
 use Rattle.flow.specs.TileFlow.{Flow}
 use Rattle.flow.specs.TileLinks.{index_in, links_by, weights_by, where_data}

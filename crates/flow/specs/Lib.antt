@@ -8,7 +8,6 @@ pub mod TileLinks
 pub mod Whole
 pub mod RimNumbers
 pub mod RimGraph
-pub mod TileMaps
 pub mod OutletRuns
 pub mod Numbering
 pub mod Inflows

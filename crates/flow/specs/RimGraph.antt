@@ -78,12 +78,11 @@ outlet_by t flows outlets p =
 -- Where the water of each exit ends.
 pub record Outlets : Type 0 where
   pub cutting : Cutting
-  pub flows : List Flow
   pub listed : List (Option Place)
 
-abbrev pub outlet_in : Outlets → Place → Option Place
-outlet_in o p = outlet_by o.cutting o.flows o.listed p
+abbrev pub outlet_in : Outlets → List Flow → Place → Option Place
+outlet_in o flows p = outlet_by o.cutting flows o.listed p
 
-pub record AreOutlets (d : Directed) (t : Cutting) (o : Outlets) : Type 0 where
-  pub outlets : (p : Place) → IsExitCell d t p → outlet_in o p ≡ Some (last_of d p)
-  pub no_outlets : (p : Place) → IsWithin t p → (IsExitCell d t p → ⊥) → outlet_in o p ≡ None
+pub record AreOutlets (d : Directed) (t : Cutting) (flows : List Flow) (o : Outlets) : Type 0 where
+  pub outlets : (p : Place) → IsExitCell d t p → outlet_in o flows p ≡ Some (last_of d p)
+  pub no_outlets : (p : Place) → IsWithin t p → (IsExitCell d t p → ⊥) → outlet_in o flows p ≡ None

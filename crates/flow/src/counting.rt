@@ -72,7 +72,7 @@ pub fn accumulation<R: Threads + Wait + Sync, G: Gate + Sync>(
         workers,
         gate,
     };
-    let flows = flow_tiles(&crew, d.codes(), tiling)?;
+    let flows = flow_tiles(&crew, d.codes(), tiling, true)?;
     let inflows = Inflows::join(alloc, tiling, &flows)?;
     crew.made(Counting {
         tiling,
@@ -116,7 +116,7 @@ fn rim_weights(
 }
 
 // The total of each data cell, itself left out; that of a cell without data is 0.
-#[tactic(auto, using(crate::proofs::Pushing::mapped_next))]
+#[tactic(auto, using(crate::proofs::Windows::mapped_next))]
 fn counts(
     alloc: Global,
     cells: &[Option<Code>],

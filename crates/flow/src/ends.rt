@@ -14,29 +14,9 @@ pub(crate) fn ends(alloc: Global, links: &[u32]) -> Result<Vec<u32>, AllocError>
     requires few { length links.now ≤ 2 ^ 30 }
     ensures { IfOk result (λ v. AreEnds links.now v.items) }
 {
-    let mut ends = unknown(alloc, links)?;
-    mark_ends(links, &mut ends);
+    let mut ends = vec![in alloc; UNKNOWN; links.len()]?;
     find_ends(links, &mut ends);
     Ok(ends)
-}
-
-fn unknown(alloc: Global, links: &[u32]) -> Result<Vec<u32>, AllocError>
-    ensures { IfOk result (λ v. AreFound links.now v.items) }
-{
-    vec![in alloc; UNKNOWN; links.len()]
-}
-
-// Marks the nodes that are ends.
-fn mark_ends(links: &[u32], ends: &mut [u32])
-    requires few { length links.now ≤ 2 ^ 30 }
-    requires found { AreFound links.now ends.old }
-    ensures { AreFound links.now ends.new }
-{
-    for node in 0..links.len() {
-        if links[node] as usize == node {
-            ends[node] = links[node];
-        }
-    }
 }
 
 fn find_ends(links: &[u32], ends: &mut [u32])
@@ -51,7 +31,7 @@ fn find_ends(links: &[u32], ends: &mut [u32])
     }
 }
 
-// The end of a node's path, read off where the path meets a known one.
+// The end of a node's path, read off where the path meets a known one, or comes to it.
 fn end_from(links: &[u32], ends: &[u32], from: usize) -> u32
     requires streams { AreStreams links.now }
     requires few { length links.now ≤ 2 ^ 30 }
@@ -64,7 +44,11 @@ fn end_from(links: &[u32], ends: &[u32], from: usize) -> u32
         if ends[node] != UNKNOWN {
             return ends[node];
         }
-        node = links[node] as usize;
+        let next = links[node];
+        if next as usize == node {
+            return next;
+        }
+        node = next as usize;
     }
     node as u32
 }

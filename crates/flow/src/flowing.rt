@@ -1,6 +1,5 @@
 // The flow of each tile, in a job of its own.
-ghost use Rattle.std.specs.Prelude.{IfOk};
-ghost use Rattle.tiles.specs.Cutting.{IsCutting};
+ghost use Rattle.std.specs.Prelude.{◌≡◌, true, IfOk};
 ghost use Rattle.tile_jobs.specs.Fault.{RefusesWorkers};
 ghost use Rattle.flow.specs.TileFlow.{AreTileCounts};
 ghost use Rattle.flow.specs.RimGraph.{AreFlowsOf};
@@ -48,40 +47,22 @@ impl<'a> Work for FlowTiles<'a> {
     }
 }
 
-/// The flows of all tiles, in tile order.
+/// The flows of all tiles, in tile order, without their counts where exits alone are asked for.
 pub(crate) fn flow_tiles<R: Threads + Wait + Sync, G: Gate + Sync>(
     crew: &Crew<'_, R, G>,
     codes: &[Option<Code>],
     tiling: &Tiling,
+    counted: bool,
 ) -> Result<Vec<TileFlow>, JobFault>
     requires grid { IsGridFlow tiling.now.cols tiling.now.rows codes.now }
     ensures flows { IfOk result (λ v. AreFlowsOf (make_directed tiling.now.cols tiling.now.rows codes.now) tiling.now v.items) }
-    ensures counts { IfOk result (λ v. AreTileCounts (make_directed tiling.now.cols tiling.now.rows codes.now) tiling.now v.items) }
+    ensures counts { IfOk result (λ v. counted ≡ true → AreTileCounts (make_directed tiling.now.cols tiling.now.rows codes.now) tiling.now v.items) }
     ensures workers { RefusesWorkers crew.now.workers result }
 {
     let work = FlowTiles {
         codes,
         tiling,
-        counted: true,
-    };
-    crew.run(&work, tiling.tiles())
-}
-
-/// The flows of all tiles without their counts, in tile order.
-pub(crate) fn exit_tiles<R: Threads + Wait + Sync, G: Gate + Sync>(
-    crew: &Crew<'_, R, G>,
-    codes: &[Option<Code>],
-    tiling: &Tiling,
-) -> Result<Vec<TileFlow>, JobFault>
-    requires grid { IsGridFlow tiling.now.cols tiling.now.rows codes.now }
-    ensures flows { IfOk result (λ v. AreFlowsOf (make_directed tiling.now.cols tiling.now.rows codes.now) tiling.now v.items) }
-    ensures lawful { IsCutting tiling.now }
-    ensures workers { RefusesWorkers crew.now.workers result }
-{
-    let work = FlowTiles {
-        codes,
-        tiling,
-        counted: false,
+        counted,
     };
     crew.run(&work, tiling.tiles())
 }

@@ -159,7 +159,7 @@ fn weight_of(tiling: &Tiling, flows: &[TileFlow], number: u32) -> u32
     through_at(tiling, flows, rim_place(tiling, number)).unwrap_or(0) + 1
 }
 
-#[tactic(auto, using(crate::proofs::Pushing::mapped_next))]
+#[tactic(auto, using(crate::proofs::Windows::mapped_next))]
 fn rim_weights(alloc: Global, tiling: &Tiling, flows: &[TileFlow]) -> Result<Vec<u32>, AllocError>
     requires { (d : Directed) × AreFlowsOf d tiling.now flows.now × AreTileCounts d tiling.now flows.now }
     ensures { IfOk result (λ v. v.items ≡ rim_weights_by tiling.now flows.now) }

@@ -17,24 +17,26 @@ use tiles::Tiling;
 /// What flows in over the rims, and where the water of each exit ends.
 #[derive(Drop)]
 pub struct RimLinks<'a> {
+    flows: &'a [TileFlow],
     inflows: Inflows,
-    outlets: Outlets<'a>,
+    outlets: Outlets,
 }
 
 impl<'a> Model for RimLinks<'a> {
-    ghost use Rattle.std.specs.Prelude.{◌≡◌};
+    ghost use Rattle.std.specs.Prelude.{◌≡◌, length};
+    ghost use Rattle.tiles.specs.Cutting.{tile_count};
     ghost use Rattle.flow.specs.Links.{Links};
 
     ghost Value = { Links };
 
     ghost view = { λ l. record {
       cutting = l.outlets.cutting;
-      flows = l.outlets.flows;
+      flows = l.flows.now;
       inflows = l.inflows.listed;
       outlets = l.outlets.listed;
     } };
 
-    ghost invariant = { λ l. l.inflows.cutting ≡ l.outlets.cutting };
+    ghost invariant = { λ l. (l.inflows.cutting ≡ l.outlets.cutting) × (length l.flows.now ≡ tile_count l.outlets.cutting) };
 }
 
 impl<'a> RimLinks<'a> {
@@ -52,7 +54,11 @@ impl<'a> RimLinks<'a> {
         prove!(tiling.cols() > 0);
         let inflows = Inflows::join(alloc, tiling, flows)?;
         let outlets = Outlets::join(alloc, tiling, flows)?;
-        Ok(RimLinks { inflows, outlets })
+        Ok(RimLinks {
+            flows,
+            inflows,
+            outlets,
+        })
     }
 
     /// How many cells' flow paths hold the place right after a cell of another tile.
@@ -68,6 +74,6 @@ impl<'a> RimLinks<'a> {
         requires { IsWithin self.now.cutting exit }
         ensures { result ≡ outlet_in self.now exit }
     {
-        self.outlets.outlet(exit)
+        self.outlets.outlet(self.flows, exit)
     }
 }

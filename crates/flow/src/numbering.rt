@@ -1,67 +1,105 @@
 // The basins of a map of directions, tile by tile.
 ghost use Rattle.std.proofs.Props.{props};
-ghost use Rattle.std.specs.declared.alloc.Global.{Global};
-ghost use Rattle.std.specs.Prelude.{◌≡◌, ◌<◌, ℕ, Option, Vec, length, slice_index_or, vec_len, None, IfOk, IfSome};
-ghost use Rattle.tiles.specs.Cutting.{Cuts, IsCutting, IsWithin, tile_count};
-ghost use Rattle.tile_jobs.specs.Answers.{AllGiven};
+ghost use Rattle.std.specs.Prelude.{◌≡◌, ◌<◌, ℕ, length, slice_index_or, None, IfOk, IfSome};
+ghost use Rattle.terrain.specs.Neighbours.{index_of};
+ghost use Rattle.tiles.specs.Cutting.{Cuts, IsWithin};
 ghost use Rattle.tile_jobs.specs.Fault.{RefusesWorkers};
 ghost use Rattle.drainage.specs.Drained.{directed_of};
-ghost use Rattle.drainage.specs.Following.{Directed};
-ghost use Rattle.flow.specs.Counts.{AreBasins, basin};
-ghost use Rattle.flow.specs.Whole.{IsGridFlow, make_directed};
-ghost use Rattle.terrain.specs.Neighbours.{index_of};
+ghost use Rattle.flow.specs.Counts.{AreBasins};
 ghost use Rattle.flow.specs.RimGraph.{outlet_in};
-ghost use Rattle.flow.specs.TileMaps.{IsTileMapOf};
-ghost use Rattle.flow.specs.Numbering.{IsNumbering, AreReady, IsExitOfTile, number_at, label_by, labels_by, label_at, numbered_by};
+ghost use Rattle.flow.specs.Numbering.{AreReady, IsExitOfTile, number_at, label_by, labels_by, label_at, numbered_by};
 
 use crate::cells::place_at;
-use crate::flowing::exit_tiles;
+use crate::flowing::flow_tiles;
 use crate::outlet_numbers::OutletNumbers;
 use crate::outlets::Outlets;
 use crate::tile::TileFlow;
-use drainage::{Code, Directions};
+use drainage::Directions;
 use std::alloc::{AllocError, Global};
 use std::sync::Wait;
 use std::thread::Threads;
-use terrain::Place;
-use tile_jobs::{Gate, JobFault, Work};
-use tile_maps::Crew;
+use terrain::{NoMemory, Place};
+use tile_jobs::{Gate, JobFault};
+use tile_maps::{Crew, TileMap};
 use tiles::Tiling;
 
-/// Numbers the cells of each tile.
+/// The basins, of the exits of all tiles, their outlets and the outlets' numbers.
 #[derive(Drop)]
-struct NumberTiles<'a> {
+struct Numbering<'a> {
     tiling: &'a Tiling,
-    flows: &'a [TileFlow],
-    outlets: &'a Outlets<'a>,
-    numbers: &'a OutletNumbers<'a>,
-    ghost ready: { AreReady tiling.now flows.now outlets.now numbers.now } by { Prim.hlevel props },
+    flows: Vec<TileFlow>,
+    outlets: Outlets,
+    numbers: OutletNumbers<'a>,
+    ghost ready: { AreReady tiling.now flows.items outlets numbers } by { Prim.hlevel props },
 }
 
-impl<'a> Work for NumberTiles<'a> {
-    type Out = Vec<Option<u32>>;
+impl<'a> TileMap for Numbering<'a> {
+    ghost use Rattle.flow.specs.Numbering.{IsBasinAt};
 
-    ghost use Rattle.tiles.specs.Cutting.{tile_count};
-    ghost use Rattle.drainage.specs.Following.{Directed};
-    ghost use Rattle.flow.specs.Counts.{basin};
-    ghost use Rattle.flow.specs.Numbering.{IsNumbering};
-    ghost use Rattle.flow.specs.TileMaps.{IsTileMapOf};
+    type Cell = u32;
 
-    ghost most = { λ w. tile_count w.tiling.now };
+    ghost cutting = { λ m. m.tiling.now };
 
-    ghost gives = { λ w job out. (d : Directed) → IsNumbering d w.tiling.now w.flows.now w.outlets.now w.numbers.now →
-        IsTileMapOf d w.tiling.now job (basin d) out.items };
+    ghost has = { λ m. IsBasinAt m.tiling.now m.flows.items m.outlets m.numbers };
 
-    fn run(&self, alloc: Global, job: u32) -> Result<Vec<Option<u32>>, JobFault> {
-        let values = tile_basins(
-            alloc,
-            self.tiling,
-            self.flows,
-            self.outlets,
-            self.numbers,
-            job,
-        )?;
+    fn tiling(&self) -> Tiling {
+        *self.tiling
+    }
+
+    fn tile(&self, alloc: Global, tile: u32) -> Result<Vec<Option<u32>>, NoMemory> {
+        let flow = &self.flows[tile as usize];
+        let labels = self.exit_labels(alloc, flow)?;
+        let values = numbered(alloc, flow, &labels)?;
         Ok(values)
+    }
+}
+
+impl<'a> Numbering<'a> {
+    // The number of the outlet of each exit, at its own index.
+    #[tactic(auto, using(crate::proofs::Windows::mapped_next))]
+    fn exit_labels(&self, alloc: Global, flow: &TileFlow) -> Result<Vec<u32>, AllocError>
+        requires { (i : ℕ) → IfSome (slice_index_or flow.now.exits i None)
+            (IsExitOfTile self.now.outlets self.now.flows.items self.now.numbers flow.now.bounds) }
+        ensures { IfOk result (λ v. v.items ≡ labels_by self.now.outlets self.now.flows.items self.now.numbers flow.now) }
+    {
+        let mut labels = Vec::with_capacity(alloc, flow.cell_count())?;
+        for index in 0..flow.cell_count() {
+            labels.push(self.label_of(flow, index))?;
+        }
+        Ok(labels)
+    }
+
+    #[inline(always)]
+    fn label_of(&self, flow: &TileFlow, index: usize) -> u32
+        requires index { index < length flow.now.exits }
+        requires exit { IfSome (slice_index_or flow.now.exits index None)
+            (IsExitOfTile self.now.outlets self.now.flows.items self.now.numbers flow.now.bounds) }
+        ensures { result ≡ label_by self.now.outlets self.now.flows.items self.now.numbers flow.now.bounds index
+            (slice_index_or flow.now.exits index None) }
+    {
+        let Some(exit) = flow.exit_index(index) else {
+            return 0;
+        };
+        if exit as usize != index {
+            return 0;
+        }
+        self.number_of(place_at(flow.bounds(), exit))
+    }
+
+    // The number of the outlet of an exit.
+    fn number_of(&self, exit: Place) -> u32
+        requires within { IsWithin self.now.outlets.cutting exit }
+        requires numbered { IfSome (outlet_in self.now.outlets self.now.flows.items exit)
+            (λ o. index_of self.now.outlets.cutting.cols o < length self.now.numbers) }
+        ensures { result ≡ number_at self.now.outlets.cutting.cols self.now.numbers
+            (outlet_in self.now.outlets self.now.flows.items exit) }
+    {
+        match self.outlets.outlet(&self.flows, exit) {
+            Some(outlet) => self.numbers.number(
+                outlet.row as usize * self.tiling.cols() as usize + outlet.col as usize,
+            ),
+            None => 0,
+        }
     }
 }
 
@@ -86,123 +124,20 @@ pub fn basins<R: Threads + Wait + Sync, G: Gate + Sync>(
         workers,
         gate,
     };
-    let lists = basin_tiles(&crew, d.codes(), tiling)?;
-    match tiling.put_back(alloc, &lists) {
-        Ok(values) => Ok(values),
-        Err(_) => Err(JobFault::Memory),
-    }
-}
-
-// The basins of each tile, in tile order. What they are found of is let go.
-fn basin_tiles<R: Threads + Wait + Sync, G: Gate + Sync>(
-    crew: &Crew<'_, R, G>,
-    codes: &[Option<Code>],
-    tiling: &Tiling,
-) -> Result<Vec<Vec<Option<u32>>>, JobFault>
-    requires grid { IsGridFlow tiling.now.cols tiling.now.rows codes.now }
-    ensures lawful { IsCutting tiling.now }
-    ensures len { IfOk result (λ v. vec_len v ≡ tile_count tiling.now) }
-    ensures given { IfOk result (λ v. AllGiven (λ tile (list : Vec (Option ℕ) Global).
-        IsTileMapOf (make_directed tiling.now.cols tiling.now.rows codes.now) tiling.now tile
-        (basin (make_directed tiling.now.cols tiling.now.rows codes.now)) list.items) (tile_count tiling.now) v.items) }
-    ensures workers { RefusesWorkers crew.now.workers result }
-{
-    let flows = exit_tiles(crew, codes, tiling)?;
-    let outlets = Outlets::join(crew.alloc, tiling, &flows)?;
-    let tiles = tiling.tiles();
-    let numbers = OutletNumbers::of_codes(crew, codes, tiles)?;
-    let work = NumberTiles {
+    let codes = d.codes();
+    let flows = flow_tiles(&crew, codes, tiling, false)?;
+    let outlets = Outlets::join(alloc, tiling, &flows)?;
+    let numbers = OutletNumbers::of_codes(&crew, codes, tiling.tiles())?;
+    crew.made(Numbering {
         tiling,
-        flows: &flows,
-        outlets: &outlets,
-        numbers: &numbers,
-    };
-    crew.run(&work, tiles)
-}
-
-// The numbers of a tile's cells.
-fn tile_basins(
-    alloc: Global,
-    tiling: &Tiling,
-    flows: &[TileFlow],
-    outlets: &Outlets<'_>,
-    numbers: &OutletNumbers<'_>,
-    tile: u32,
-) -> Result<Vec<Option<u32>>, AllocError>
-    requires ready { AreReady tiling.now flows.now outlets.now numbers.now }
-    requires tile { tile < tile_count tiling.now }
-    ensures { IfOk result (λ v. (d : Directed) → IsNumbering d tiling.now flows.now outlets.now numbers.now →
-        IsTileMapOf d tiling.now tile (basin d) v.items) }
-{
-    let flow = &flows[tile as usize];
-    let labels = exit_labels(alloc, tiling, outlets, numbers, flow)?;
-    numbered(alloc, flow, &labels)
-}
-
-// The number of the outlet of each exit, at its own index.
-#[tactic(auto, using(crate::proofs::Pushing::mapped_next))]
-fn exit_labels(
-    alloc: Global,
-    tiling: &Tiling,
-    outlets: &Outlets<'_>,
-    numbers: &OutletNumbers<'_>,
-    flow: &TileFlow,
-) -> Result<Vec<u32>, AllocError>
-    requires cutting { outlets.now.cutting ≡ tiling.now }
-    requires exits { (i : ℕ) → IfSome (slice_index_or flow.now.exits i None) (IsExitOfTile outlets.now numbers.now flow.now.bounds) }
-    ensures { IfOk result (λ v. v.items ≡ labels_by numbers.now outlets.now flow.now.bounds flow.now.exits) }
-{
-    let mut labels = Vec::with_capacity(alloc, flow.cell_count())?;
-    for index in 0..flow.cell_count() {
-        labels.push(label_of(tiling, outlets, numbers, flow, index))?;
-    }
-    Ok(labels)
-}
-
-#[inline(always)]
-fn label_of(
-    tiling: &Tiling,
-    outlets: &Outlets<'_>,
-    numbers: &OutletNumbers<'_>,
-    flow: &TileFlow,
-    index: usize,
-) -> u32
-    requires cutting { outlets.now.cutting ≡ tiling.now }
-    requires index { index < length flow.now.exits }
-    requires exit { IfSome (slice_index_or flow.now.exits index None) (IsExitOfTile outlets.now numbers.now flow.now.bounds) }
-    ensures { result ≡ label_by numbers.now outlets.now flow.now.bounds index (slice_index_or flow.now.exits index None) }
-{
-    let Some(exit) = flow.exit_index(index) else {
-        return 0;
-    };
-    if exit as usize != index {
-        return 0;
-    }
-    number_of(tiling, outlets, numbers, place_at(flow.bounds(), exit))
-}
-
-// The number of the outlet of an exit.
-fn number_of(
-    tiling: &Tiling,
-    outlets: &Outlets<'_>,
-    numbers: &OutletNumbers<'_>,
-    exit: Place,
-) -> u32
-    requires cutting { outlets.now.cutting ≡ tiling.now }
-    requires within { IsWithin outlets.now.cutting exit }
-    requires numbered { IfSome (outlet_in outlets.now exit) (λ o. index_of outlets.now.cutting.cols o < length numbers.now) }
-    ensures { result ≡ number_at outlets.now.cutting.cols numbers.now (outlet_in outlets.now exit) }
-{
-    match outlets.outlet(exit) {
-        Some(outlet) => {
-            numbers.number(outlet.row as usize * tiling.cols() as usize + outlet.col as usize)
-        }
-        None => 0,
-    }
+        flows,
+        outlets,
+        numbers,
+    })
 }
 
 // The label of each cell's exit.
-#[tactic(auto, using(crate::proofs::Pushing::mapped_next))]
+#[tactic(auto, using(crate::proofs::Windows::mapped_next))]
 fn numbered(alloc: Global, flow: &TileFlow, labels: &[u32]) -> Result<Vec<Option<u32>>, AllocError>
     requires { length labels.now ≡ length flow.now.exits }
     ensures { IfOk result (λ v. v.items ≡ numbered_by flow.now.bounds labels.now flow.now.exits) }

@@ -18,36 +18,34 @@ use tiles::Tiling;
 
 /// Where the water of each exit ends.
 #[derive(Drop)]
-pub struct Outlets<'a> {
+pub struct Outlets {
     tiling: Tiling,
-    flows: &'a [TileFlow],
     // of each number of a rim cell whose water goes on into another tile
     outlets: Vec<Option<Place>>,
 }
 
-impl<'a> Model for Outlets<'a> {
+impl Model for Outlets {
     ghost use Rattle.std.specs.Prelude.{◌≡◌, length};
-    ghost use Rattle.tiles.specs.Cutting.{IsCutting, tile_count};
     ghost use Rattle.flow.specs.RimNumbers.{number_count};
     ghost use Rattle.flow.specs.RimGraph.{Outlets};
 
     ghost Value = { Outlets };
 
-    ghost view = { λ o. record { cutting = o.tiling; flows = o.flows.now; listed = o.outlets.items } };
+    ghost view = { λ o. record { cutting = o.tiling; listed = o.outlets.items } };
 
-    ghost invariant = { λ o. (length o.flows.now ≡ tile_count o.tiling) × (length o.outlets.items ≡ number_count o.tiling) };
+    ghost invariant = { λ o. length o.outlets.items ≡ number_count o.tiling };
 }
 
-impl<'a> Outlets<'a> {
+impl Outlets {
     /// Follows the water of each exit from tile to tile.
     pub(crate) fn join(
         alloc: Global,
         tiling: &Tiling,
-        flows: &'a [TileFlow],
-    ) -> Result<Outlets<'a>, AllocError>
+        flows: &[TileFlow],
+    ) -> Result<Outlets, AllocError>
         requires { (d : Directed) × AreFlowsOf d tiling.now flows.now }
         ensures cutting { IfOk result (λ o. o.cutting ≡ tiling.now) }
-        ensures outlets { IfOk result (λ o. (d : Directed) → AreFlowsOf d tiling.now flows.now → AreOutlets d tiling.now o) }
+        ensures outlets { IfOk result (λ o. (d : Directed) → AreFlowsOf d tiling.now flows.now → AreOutlets d tiling.now flows.now o) }
     {
         let links = rim_links(alloc, tiling, flows)?;
         let ends = ends(alloc, &links)?;
@@ -55,17 +53,17 @@ impl<'a> Outlets<'a> {
         let outlets = rim_outlets(alloc, tiling, flows, &ends)?;
         Ok(Outlets {
             tiling: *tiling,
-            flows,
             outlets,
         })
     }
 
-    /// Where the flow path of an exit ends; None for a place that is no exit.
-    pub(crate) fn outlet(&self, exit: Place) -> Option<Place>
-        requires { IsWithin self.now.cutting exit }
-        ensures { result ≡ outlet_in self.now exit }
+    /// Where the flow path of an exit ends, by the flows of the tiles; None for a place that is no exit.
+    pub(crate) fn outlet(&self, flows: &[TileFlow], exit: Place) -> Option<Place>
+        requires count { length flows.now ≡ tile_count self.now.cutting }
+        requires within { IsWithin self.now.cutting exit }
+        ensures { result ≡ outlet_in self.now flows.now exit }
     {
-        if is_outlet(code_of(&self.tiling, self.flows, exit)) {
+        if is_outlet(code_of(&self.tiling, flows, exit)) {
             return Some(exit);
         }
         let number = rim_number(&self.tiling, exit);
@@ -163,7 +161,7 @@ fn link_of(tiling: &Tiling, flows: &[TileFlow], number: u32) -> u32
     }
 }
 
-#[tactic(auto, using(crate::proofs::Pushing::mapped_next))]
+#[tactic(auto, using(crate::proofs::Windows::mapped_next))]
 pub(crate) fn rim_links(
     alloc: Global,
     tiling: &Tiling,
@@ -197,7 +195,7 @@ fn outlet_of(tiling: &Tiling, flows: &[TileFlow], ends: &[u32], number: u32) -> 
     exit_of(tiling, flows, entry)
 }
 
-#[tactic(auto, using(crate::proofs::Pushing::mapped_next))]
+#[tactic(auto, using(crate::proofs::Windows::mapped_next))]
 fn rim_outlets(
     alloc: Global,
     tiling: &Tiling,

@@ -1,7 +1,7 @@
 use Rattle.std.proofs.Common.{◌≡◌, ◌++◌, subst, ap, refl, rules, arith}
 use Rattle.tiles.specs.declared.bounds.Bounds.{Bounds}
 use Rattle.tiles.specs.Cutting.{AreBounds, bounds_of}
-use Rattle.flow.proofs.Shown.{AreFirstRows, row_added}
+use Rattle.flow.proofs.Listed.{AreFirstRows, row_added}
 use Rattle.flow.proofs.cells.tile_codes.Goals as goal
 
 pub loop-row-preserved : goal.loop-row-preserved

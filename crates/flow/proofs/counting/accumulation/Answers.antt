@@ -1,12 +1,11 @@
-use Rattle.std.proofs.Common.{ℕ, Option, Vec, Global}
+use Rattle.std.proofs.Common.{ℕ, Option, Vec, Global, refl}
 use Rattle.std.proofs.lemmas.Result.{IfOk-weaker}
 use Rattle.tile_maps.specs.Maps.{IsMadeMap}
 use Rattle.drainage.specs.Drained.{directed_of}
 use Rattle.flow.specs.Counts.{accumulation, AreAccumulations}
 use Rattle.flow.specs.Counting.{IsCountAt}
 use Rattle.flow.proofs.Counted.{counting_of, countable_all}
-use Rattle.flow.proofs.Directed.{grid_flow}
-use Rattle.flow.proofs.Together.{whole_map}
+use Rattle.flow.proofs.Together.{grid_flow, whole_map}
 use Rattle.flow.proofs.counting.accumulation.Goals as goal
 
 pub flow_tiles-requires-clause-grid : goal.flow_tiles-requires-clause-grid
@@ -16,7 +15,7 @@ pub invariant_of-made : goal.invariant_of-made
 invariant_of-made g c = record {
   countable = countable_all _ _ _ _ (counting_of c.args.tiling.now c.codes.result.now _ _ _
       (grid_flow c.args.d.now c.args.tiling.now c.codes.result.now c.codes.ensures.draining c.requires c.codes.ensures.value)
-      c.in_ok-flows.ensures.flows c.in_ok-flows.ensures.counts c.deref.ensures.value c.in_ok-inflows.ensures.inflows);
+      c.in_ok-flows.ensures.flows (c.in_ok-flows.ensures.counts refl) c.deref.ensures.value c.in_ok-inflows.ensures.inflows);
 }
 
 pub returns-clause-values : goal.returns-clause-values
@@ -24,7 +23,7 @@ returns-clause-values g c =
     let t = c.args.tiling.now in
     let codes = c.codes.result.now in
     let counting = counting_of t codes _ _ _ (grid_flow c.args.d.now t codes c.codes.ensures.draining c.requires c.codes.ensures.value)
-    c.in_ok-flows.ensures.flows c.in_ok-flows.ensures.counts c.deref.ensures.value c.in_ok-inflows.ensures.inflows in
+    c.in_ok-flows.ensures.flows (c.in_ok-flows.ensures.counts refl) c.deref.ensures.value c.in_ok-inflows.ensures.inflows in
     IfOk-weaker c.made.result (λ (v : Vec (Option ℕ) Global). IsMadeMap t (IsCountAt t c.in_ok-flows.flows.items c.in_ok-inflows.inflows) v.items) (λ (v : Vec (Option ℕ) Global). AreAccumulations (directed_of c.args.d.now) v.items)
     (λ v made. whole_map c.args.d.now t codes c.requires c.codes.ensures.value accumulation v.items made.size (λ p i. made.each p i codes counting))
     c.made.ensures.made

@@ -1,16 +1,16 @@
 use Rattle.std.proofs.Common.{◌≡◌, ◌+◌, ◌^◌, ◌<◌, ◌&&◌, true, false, get_or, set, sym, ap, ◌∙◌, arith, rules}
 use Rattle.std.proofs.lemmas.Bool.{and_parts}
 use Rattle.terrain.specs.declared.place.Place.{Place}
+use Rattle.tiles.proofs.Cut.{in_bounds_parts}
 use Rattle.flow.specs.TileFlow.{is_in_bounds}
 use Rattle.flow.specs.TileLinks.{index_in}
 use Rattle.flow.specs.RimNumbers.{rim_place}
 use Rattle.flow.specs.RimGraph.{stands_for}
-use Rattle.flow.proofs.InTile.{bounds_from_test}
 use Rattle.flow.proofs.RimAdded.{added, unadded, own_adds}
 use Rattle.flow.proofs.inflows.add_one.Goals as goal
 
 pub index_of-requires-clause-given : goal.index_of-requires-clause-given
-index_of-requires-clause-given c = bounds_from_test c.args.bounds c.rim_place-place.result (and_parts _ _ (sym c.if-stands_in.ensures)).1
+index_of-requires-clause-given c = in_bounds_parts c.args.bounds c.rim_place-place.result (and_parts _ _ (sym c.if-stands_in.ensures)).1
 
 pub overflow_add-weights : goal.overflow_add-weights
 overflow_add-weights c =
@@ -18,7 +18,7 @@ overflow_add-weights c =
     let stands : (stands_for c.args.tiling.now (rim_place c.args.tiling.now c.args.number) c.args.number && is_in_bounds c.args.bounds (rim_place c.args.tiling.now c.args.number)) ≡ true =
     sym (ap (λ (q : Place). stands_for c.args.tiling.now q c.args.number && is_in_bounds c.args.bounds q) at) ∙ sym c.if-stands_in.ensures in
     let inside =
-    bounds_from_test c.args.bounds (rim_place c.args.tiling.now c.args.number)
+    in_bounds_parts c.args.bounds (rim_place c.args.tiling.now c.args.number)
     (and_parts (stands_for c.args.tiling.now (rim_place c.args.tiling.now c.args.number) c.args.number) (is_in_bounds c.args.bounds (rim_place c.args.tiling.now c.args.number)) stands).1 in
     let index : c.index_of.result ≡ index_in c.args.bounds (rim_place c.args.tiling.now c.args.number) = c.index_of.ensures.value ∙ ap (index_in c.args.bounds) at in
     let fits : get_or c.args.weights.now c.index_of.result 0 + get_or c.args.listed.now c.args.number 0 < 2 ^ 32 =

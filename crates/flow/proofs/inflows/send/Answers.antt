@@ -1,7 +1,7 @@
 use Rattle.std.proofs.Common.{◌+◌, Option, cond, eqb, get_or, sym, ap, ◌∙◌, arith}
 use Rattle.terrain.specs.declared.place.Place.{Place}
 use Rattle.flow.specs.Inflows.{sent_to}
-use Rattle.flow.proofs.Waiting.{added_at}
+use Rattle.flow.proofs.Sending.{added_at}
 use Rattle.flow.proofs.inflows.send.Goals as goal
 
 pub returns-clause-each : goal.returns-clause-each

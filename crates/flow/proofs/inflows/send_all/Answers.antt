@@ -4,8 +4,7 @@ use Rattle.tiles.specs.Cutting.{IsWithin}
 use Rattle.flow.specs.Streams.{sum_below}
 use Rattle.flow.specs.RimNumbers.{number_count}
 use Rattle.flow.specs.Inflows.{sent_to, entering}
-use Rattle.flow.proofs.Sums.{sum_more}
-use Rattle.flow.proofs.Windows.{sum_below-part}
+use Rattle.flow.proofs.Sums.{sum_more, sum_below-part}
 use Rattle.flow.proofs.RimFlows.{targets_within}
 use Rattle.flow.proofs.inflows.send_all.Goals as goal
 

@@ -1,5 +1,5 @@
 use Rattle.std.proofs.Common.{arith}
-use Rattle.flow.proofs.Settled.{donors_begin, upstream_from}
+use Rattle.flow.proofs.Sending.{donors_begin, upstream_from}
 use Rattle.flow.proofs.streams.send_all.Goals as goal
 
 pub loop-node-init : goal.loop-node-init

@@ -1,8 +1,7 @@
 use Rattle.std.proofs.Common.{◌+◌, ◌^◌, ◌<◌, get_or, arith, rules}
 use Rattle.std.proofs.lemmas.List.{get_or-set_other}
 use Rattle.flow.specs.Sending.{sent_mark}
-use Rattle.flow.proofs.Settled.{came_le}
-use Rattle.flow.proofs.Stepping.{step_waits, step_sending, step_fits, step_falls, step_early, end_sending, end_early}
+use Rattle.flow.proofs.Sending.{came_le, step_waits, step_sending, step_fits, step_falls, step_early, end_sending, end_early}
 use Rattle.flow.proofs.streams.send_on.Goals as goal
 
 pub bounds-came-next : goal.bounds-came-next

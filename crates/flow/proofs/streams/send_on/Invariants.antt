@@ -1,6 +1,6 @@
 use Rattle.std.proofs.Common.{◌≢◌, ℕ, ◌+◌, ◌<◌, length, get_or}
 use Rattle.flow.specs.Sending.{IsSending}
-use Rattle.flow.proofs.Settled.{unsent}
+use Rattle.flow.proofs.Sending.{unsent}
 use Rattle.flow.proofs.streams.send_on.Given as goal
 
 abbrev pub invariant-downstream : goal.invariant-downstream

@@ -1,7 +1,7 @@
 use Rattle.std.proofs.Common.{◌≡◌, length, Some, slice_get, refl, ap, ◌∙◌, arith}
 use Rattle.std.proofs.lemmas.Option.{slice_get_read}
 use Rattle.tiles.specs.Cutting.{Cutting, cell_count}
-use Rattle.flow.proofs.Counted.{counts_size, tile_summed}
+use Rattle.flow.proofs.Counted.{counts_size, entry_counted}
 use Rattle.flow.proofs.counting.CountingTileMap.tile.Goals as goal
 
 pub tile_counts-requires-clause-countable : goal.tile_counts-requires-clause-countable
@@ -17,5 +17,5 @@ returns c =
     let counts = c.in_ok-counts.ensures in
     record {
       size = counts_size m.inflows c.args.tile flow c.in_ok-counts.counts.items counts ∙ (m.countable.each c.args.tile flow there).size ∙ ap (λ (x : Cutting). cell_count x c.args.tile) m.countable.same_cutting;
-      each = λ p i codes s. (tile_summed m.tiling.now codes m.flows.items m.inflows s c.args.tile flow there c.in_ok-counts.counts.items counts).each p i;
+      each = λ p i codes s. entry_counted m.tiling.now codes m.flows.items m.inflows s c.args.tile flow there c.in_ok-counts.counts.items counts p i;
     }

@@ -25,10 +25,8 @@ rim_outlets-requires-clause-inside c =
     omega (arith, ap (λ (l : List ℕ). get_or l i 0) c.deref-2.ensures.value, c.in_ok-ends.ensures.each i here, end-inside _ (rim_streams _ _ _ c.requires.1 _ made) i here, size))
 
 pub invariant_of-result : goal.invariant_of-result
-invariant_of-result c = (
-  c.requires.1.of_tiles.count,
-  ap length c.in_ok-outlets.ensures ∙ length-map-range_with_len (rim_outlet c.args.tiling.now c.args.flows.now c.deref-2.result.now) 0 (number_count c.args.tiling.now),
-)
+invariant_of-result c =
+    ap length c.in_ok-outlets.ensures ∙ length-map-range_with_len (rim_outlet c.args.tiling.now c.args.flows.now c.deref-2.result.now) 0 (number_count c.args.tiling.now)
 
 pub returns-clause-outlets : goal.returns-clause-outlets
 returns-clause-outlets c d f =

@@ -5,21 +5,22 @@ use Rattle.flow.specs.TileLinks.{place_in}
 use Rattle.flow.specs.RimGraph.{outlet_in}
 use Rattle.flow.specs.Numbering.{number_at}
 use Rattle.flow.proofs.Listed.{exit_placed, label_own}
-use Rattle.flow.proofs.numbering.label_of.Goals as goal
+use Rattle.flow.proofs.numbering.Numbering.label_of.Goals as goal
 
 pub number_of-requires-clause-within : goal.number_of-requires-clause-within
 number_of-requires-clause-within c =
-    (exit_placed c.args.numbers.now c.args.outlets.now c.args.flow.now.bounds c.in-Some.exit _ c.place_at.result
+    (exit_placed c.args.self.now.outlets c.args.self.now.flows.items c.args.self.now.numbers c.args.flow.now.bounds c.in-Some.exit _ c.place_at.result
     (c.place_at.ensures.value ∙ ap (λ (b : Bounds). place_in b c.in-Some.exit) c.bounds.ensures.value) c.in-Some.ensures.value c.requires.exit).within
 
 pub number_of-requires-clause-numbered : goal.number_of-requires-clause-numbered
 number_of-requires-clause-numbered c =
-    (exit_placed c.args.numbers.now c.args.outlets.now c.args.flow.now.bounds c.in-Some.exit _ c.place_at.result
+    (exit_placed c.args.self.now.outlets c.args.self.now.flows.items c.args.self.now.numbers c.args.flow.now.bounds c.in-Some.exit _ c.place_at.result
     (c.place_at.ensures.value ∙ ap (λ (b : Bounds). place_in b c.in-Some.exit) c.bounds.ensures.value) c.in-Some.ensures.value c.requires.exit).numbered
 
 pub returns : goal.returns
 returns c =
+    let m = c.args.self.now in
     c.number_of.ensures
-    ∙ ap (λ (p : Place). number_at c.args.outlets.now.cutting.cols c.args.numbers.now (outlet_in c.args.outlets.now p))
+    ∙ ap (λ (p : Place). number_at m.outlets.cutting.cols m.numbers (outlet_in m.outlets m.flows.items p))
     (c.place_at.ensures.value ∙ ap (λ (b : Bounds). place_in b c.in-Some.exit) c.bounds.ensures.value)
-    ∙ label_own c.args.numbers.now c.args.outlets.now c.args.flow.now.bounds c.args.index c.in-Some.exit (get_or c.args.flow.now.exits c.args.index None) c.in-Some.ensures.value c.if-exit-index.false c.requires.exit
+    ∙ label_own m.outlets m.flows.items m.numbers c.args.flow.now.bounds c.args.index c.in-Some.exit (get_or c.args.flow.now.exits c.args.index None) c.in-Some.ensures.value c.if-exit-index.false c.requires.exit
