@@ -17,7 +17,7 @@ use Rattle.drain.specs.Steepness.{weight, positive_part, drop_to, leads_on}
 use Rattle.drain.specs.Fitting.{IsLaidAround}
 use Rattle.drain.specs.declared.around.Around.{Around}
 use Rattle.drain.proofs.Counted.{height_is}
-use Rattle.drain.proofs.Quiet.{data_inside}
+use Rattle.drainage.proofs.Reach.{data_inside}
 use Rattle.drain.proofs.Ways.{eight, zip_some}
 
 pub height_fits : (t : Terrain) (q : Place) (h : ℤ) → IsTerrain t → height_at t q ≡ Some h → IsHeight h

@@ -1,5 +1,5 @@
 -- Codes and steps together make a map of directions along which the pair of height and steps falls.
-use Rattle.std.proofs.Common.{◌≡◌, ℕ, ◌<◌, ◌≤◌, ◌⊎◌, inl, inr, List, [], Option, None, Some, MatchOption, is_some, ℤ, sym, ap, subst, ◌∙◌}
+use Rattle.std.proofs.Common.{◌≡◌, ℕ, ◌<◌, inl, inr, List, [], Option, None, Some, MatchOption, is_some, ℤ, sym, ap, subst, ◌∙◌}
 use Rattle.std.proofs.lemmas.Bool.{cases_lt}
 use Rattle.std.proofs.lemmas.Option.{MatchOption-at_some, MatchOption-at_none, same_Some, none-some}
 use Rattle.terrain.proofs.Places.{entry-below, entry-beside, inside_from_entry}
@@ -13,16 +13,15 @@ use Rattle.drainage.specs.Drained.{IsDraining}
 use Rattle.drain.proofs.Pointing.{direction_leads}
 use Rattle.drain.proofs.Nearby.{cases_option}
 
-outside_same : {X Y : Type 0} (cols rows : ℕ) (xs : List (Option X)) (ys : List (Option Y)) (p : Place) → (rows ≤ p.row) ⊎ (cols ≤ p.col) → is_some (entry_at cols rows xs p) ≡ is_some (entry_at cols rows ys p)
-outside_same cols rows xs ys p (inl a) = ap is_some (entry-below cols rows xs p a) ∙ sym (ap is_some (entry-below cols rows ys p a))
-outside_same cols rows xs ys p (inr a) = ap is_some (entry-beside cols rows xs p a) ∙ sym (ap is_some (entry-beside cols rows ys p a))
-
 -- what holds at each place inside, and is the same outside, is the same everywhere
 everywhere : {X Y : Type 0} (cols rows : ℕ) (xs : List (Option X)) (ys : List (Option Y)) → ((p : Place) → p.row < rows → p.col < cols → is_some (entry_at cols rows xs p) ≡ is_some (entry_at cols rows ys p)) →
     (p : Place) → is_some (entry_at cols rows xs p) ≡ is_some (entry_at cols rows ys p)
 everywhere cols rows xs ys same p = elim (cases_lt p.row rows) [
-  | inl row ↦ elim (cases_lt p.col cols) [ inl col ↦ same p row col | inr past ↦ outside_same cols rows xs ys p (inr past) ]
-  | inr past ↦ outside_same cols rows xs ys p (inl past)
+  | inl row ↦ elim (cases_lt p.col cols) [
+    | inl col ↦ same p row col
+    | inr past ↦ ap is_some (entry-beside cols rows xs p past) ∙ sym (ap is_some (entry-beside cols rows ys p past))
+  ]
+  | inr past ↦ ap is_some (entry-below cols rows xs p past) ∙ sym (ap is_some (entry-below cols rows ys p past))
 ]
 
 -- a list that has numbers exactly where a terrain has data
@@ -51,14 +50,9 @@ are_draining t steps codes are all = record {
       ];
 }
 
-make_terrain : ℕ → ℕ → List (Option ℤ) → Terrain
-make_terrain cols rows cells = record { cols = cols; rows = rows; cells = cells; sinks = [] }
-
 -- a terrain without its sinks, by its parts
 pub same_terrain : (t : Terrain) (cols rows : ℕ) (cells : List (Option ℤ)) → cols ≡ t.cols → rows ≡ t.rows → cells ≡ t.cells → with_sinks t [] ≡ record { cols = cols; rows = rows; cells = cells; sinks = [] }
-unfolding make_terrain
-same_terrain t cols rows cells a b c =
-    sym (ap (λ (n : ℕ). make_terrain n rows cells) a ∙ ap (λ (n : ℕ). make_terrain t.cols n cells) b ∙ ap (λ (xs : List (Option ℤ)). make_terrain t.cols t.rows xs) c)
+same_terrain t cols rows cells a b c = cc
 
 -- a grid with its own cells has its own terrain
 pub own_terrain : (g own : Raster) (cells : List (Option ℤ)) → cells ≡ g.terrain.cells → own ≡ record g { terrain = record g.terrain { cells = cells } } → own.terrain ≡ g.terrain

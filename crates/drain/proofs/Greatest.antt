@@ -1,5 +1,5 @@
 -- The greatest of a list of numbers, and where it first stands.
-use Rattle.std.proofs.Common.{◌≡◌, ℕ, zero, suc, ◌+◌, ◌<◌, ◌≤◌, max, Bool, true, false, eqb, List, [], ◌∷◌, length, get_or, fold, Some, inl, inr, sym, ap, subst, refl, ◌∙◌, arith}
+use Rattle.std.proofs.Common.{◌≡◌, ℕ, zero, suc, ◌+◌, ◌<◌, ◌≤◌, ◌⊎◌, max, Bool, true, false, eqb, List, [], ◌∷◌, length, get_or, fold, Some, inl, inr, sym, ap, subst, refl, ◌∙◌, arith}
 use Rattle.std.proofs.lemmas.Bool.{cases_eq, cases_lt, false≢true, eq-eqb, ne_eqb, lt-ltb, cond-true, or_from}
 use Rattle.std.specs.List.{position, position_or_len, list_any}
 use Rattle.std.proofs.lemmas.List.Sums.{position_or_len_is, fails_before_first}
@@ -32,20 +32,20 @@ none_seen xs place = record {
   before = λ k h _. omega arith;
 }
 
-pub takes_greater : (xs : List ℕ) (seen greatest place x : ℕ) → IsFirstGreatest xs seen greatest place → x ≡ get_or xs seen 0 → greatest < x → IsFirstGreatest xs (seen + 1) x seen
-takes_greater xs seen greatest place x f is more = record {
-  bound = λ k h. elim (cases_eq k seen) [ inl e ↦ (let at_k : get_or xs k 0 ≡ x = ap (λ j. get_or xs j 0) e ∙ sym is in omega arith) | inr ne ↦ (let le : get_or xs k 0 ≤ greatest = f.bound k (omega arith) in omega arith) ];
-  within = λ h. omega arith;
-  at = λ h. sym is;
-  before = λ k h lt. (let le : get_or xs k 0 ≤ greatest = f.bound k lt in omega arith);
+-- the greatest, with one number more
+pub next_greatest : (xs : List ℕ) (seen greatest place x g p : ℕ) → IsFirstGreatest xs seen greatest place → x ≡ get_or xs seen 0 →
+    ((greatest < x) × (g ≡ x) × (p ≡ seen)) ⊎ ((x ≤ greatest) × (g ≡ greatest) × (p ≡ place)) → IsFirstGreatest xs (seen + 1) g p
+next_greatest xs seen greatest place x g p f is (inl (more, g_is, p_is)) = record {
+  bound = λ k h. elim (cases_eq k seen) [ inl e ↦ omega (arith, ap (λ j. get_or xs j 0) e, is, g_is) | inr ne ↦ omega (arith, f.bound k (omega arith), more, g_is) ];
+  within = λ h. omega (arith, p_is);
+  at = λ h. ap (λ j. get_or xs j 0) p_is ∙ sym is ∙ sym g_is;
+  before = λ k h lt. omega (arith, f.bound k (omega (arith, lt, p_is)), more, g_is);
 }
-
-pub keeps_greatest : (xs : List ℕ) (seen greatest place x : ℕ) → IsFirstGreatest xs seen greatest place → x ≡ get_or xs seen 0 → x ≤ greatest → IsFirstGreatest xs (seen + 1) greatest place
-keeps_greatest xs seen greatest place x f is less = record {
-  bound = λ k h. elim (cases_eq k seen) [ inl e ↦ (let at_k : get_or xs k 0 ≡ x = ap (λ j. get_or xs j 0) e ∙ sym is in omega arith) | inr ne ↦ f.bound k (omega arith) ];
-  within = λ h. (let lt : place < seen = f.within h in omega arith);
-  at = f.at;
-  before = f.before;
+next_greatest xs seen greatest place x g p f is (inr (less, g_is, p_is)) = record {
+  bound = λ k h. elim (cases_eq k seen) [ inl e ↦ omega (arith, ap (λ j. get_or xs j 0) e, is, less, g_is) | inr ne ↦ omega (arith, f.bound k (omega arith), g_is) ];
+  within = λ h. omega (arith, f.within (omega (arith, g_is)), p_is);
+  at = λ h. ap (λ j. get_or xs j 0) p_is ∙ f.at (omega (arith, g_is)) ∙ sym g_is;
+  before = λ k h lt. omega (arith, f.before k (omega (arith, h, g_is)) (omega (arith, lt, p_is)), g_is);
 }
 
 pub le-fold_max : (xs : List ℕ) (a k : ℕ) → (a ≤ fold max a xs) × (k < length xs → get_or xs k 0 ≤ fold max a xs)
@@ -91,6 +91,6 @@ greatest_of xs (suc n) =
     let g = greatest_of xs n in
     let next : n + 1 ≡ suc n = omega arith in
     elim (cases_lt g.0 (get_or xs n 0)) [
-      | inl more ↦ (get_or xs n 0, n, subst (λ k. IsFirstGreatest xs k (get_or xs n 0) n) next (takes_greater xs n g.0 g.1 (get_or xs n 0) g.2 refl more))
-      | inr less ↦ (g.0, g.1, subst (λ k. IsFirstGreatest xs k g.0 g.1) next (keeps_greatest xs n g.0 g.1 (get_or xs n 0) g.2 refl less))
+      | inl more ↦ (get_or xs n 0, n, subst (λ k. IsFirstGreatest xs k (get_or xs n 0) n) next (next_greatest xs n g.0 g.1 (get_or xs n 0) (get_or xs n 0) n g.2 refl (inl (more, refl, refl))))
+      | inr less ↦ (g.0, g.1, subst (λ k. IsFirstGreatest xs k g.0 g.1) next (next_greatest xs n g.0 g.1 (get_or xs n 0) g.0 g.1 g.2 refl (inr (less, refl, refl))))
     ]

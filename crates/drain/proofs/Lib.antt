@@ -17,7 +17,6 @@ pub mod Spots
 pub mod TileRound
 -- rounds over all tiles
 pub mod RoundLemmas
-pub mod Touching
 pub mod Entered
 -- the direction of a cell
 pub mod Block
@@ -28,7 +27,6 @@ pub mod Weights
 pub mod Pointing
 pub mod Laid
 pub mod AmidLemmas
-pub mod EachDirection
 pub mod Unique
 -- the map of directions
 pub mod DrainedLemmas

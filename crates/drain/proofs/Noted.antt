@@ -1,16 +1,17 @@
 -- Which spots' counts a search changed, and which are left to spread from.
-use Rattle.std.proofs.Common.{◌≡◌, ◌≢◌, ℕ, ◌+◌, ◌<◌, ◌≤◌, inl, inr, List, [], ◌∷◌, ◌++◌, length, get_or, set, Option, Some, ℤ, sym, ap, subst, refl, ◌∙◌, arith}
+use Rattle.std.proofs.Common.{◌≡◌, ◌≢◌, ℕ, ◌+◌, ◌<◌, ◌≤◌, ◌⊎◌, inl, inr, All, List, [], ◌∷◌, ◌++◌, length, get_or, set, Option, Some, ℤ, sym, ap, subst, refl, ◌∙◌, arith}
 use Rattle.std.specs.Prelude.{slice_get}
 use Rattle.std.proofs.lemmas.Bool.{cases_eq}
 use Rattle.std.proofs.lemmas.List.{length_push, get_or-set_same, get_or-set_other}
+use Rattle.std.proofs.lemmas.List.Elements.{All-push}
 use Rattle.std.proofs.lemmas.Option.{slice_get_within, same_Some}
 use Rattle.tiles.proofs.SliceGet.{slice_get-append_left, slice_get-append_right}
 use Rattle.terrain.proofs.Places.{cases_place, index_injective}
 use Rattle.terrain.specs.Neighbours.{Touches}
 use Rattle.terrain.specs.declared.place.Place.{Place}
 use Rattle.tiles.specs.declared.bounds.Bounds.{Bounds}
-use Rattle.drain.specs.Window.{spot_index, area_of, IsSpot, IsInner, level_on, count_on, IsNotAbove, IsNear, AreNoted, IsEvenBut, IsEven}
-use Rattle.drain.proofs.Spreading.{touches_back, spot_below, spot_from_inner}
+use Rattle.drain.specs.Window.{spot_index, area_of, IsSpot, IsInner, level_on, count_on, IsSpread, IsNear, AreNoted, IsReached, IsEvenBut, IsEven, moved}
+use Rattle.drain.proofs.Spreading.{touches_back, spot_below, spot_from_inner, spread_none, spread_not_above, spread_on, sum-set}
 
 pub noted_none : (b : Bounds) (counts : List ℕ) (xs : List Place) → AreNoted b counts counts xs xs
 noted_none b counts xs = record { longer = omega arith; kept = λ k below. refl; each = λ s inner. inl refl }
@@ -34,44 +35,88 @@ other_kept b counts s r i n e spot other ne =
     let apart : spot_index b r ≢ i = λ at. ne (index_injective (b.cols + 2) r s other.1 spot.1 (at ∙ e)) in
     get_or-set_other counts i (spot_index b r) n 0 apart
 
+-- a spot stands in a list beside those before, if it is one of the tile's
+abbrev pub IsAdded : Bounds → Place → List Place → List Place → Type 0
+IsAdded b s xs ys = (IsInner b s × (ys ≡ xs ++ s ∷ [])) ⊎ ((IsInner b s → ⊥) × (ys ≡ xs))
+
 -- a count is set, and its spot added
-pub noted_set : (b : Bounds) (counts : List ℕ) (s : Place) (i n : ℕ) (xs : List Place) → i ≡ spot_index b s → IsSpot b s → AreNoted b counts (set counts i n) xs (xs ++ s ∷ [])
-noted_set b counts s i n xs e spot = record {
-  longer = omega (arith, length_push xs s);
-  kept = λ k below. slice_get-append_left xs (s ∷ []) k below;
+pub noted_set : (b : Bounds) (counts : List ℕ) (s : Place) (i n : ℕ) (xs ys : List Place) → i ≡ spot_index b s → IsSpot b s → IsAdded b s xs ys → AreNoted b counts (set counts i n) xs ys
+noted_set b counts s i n xs ys e spot (inl (inside, is)) = record {
+  longer = omega (arith, length_push xs s, ap (λ (zs : List Place). length zs) is);
+  kept = λ k below. ap (λ (zs : List Place). slice_get zs k) is ∙ slice_get-append_left xs (s ∷ []) k below;
   each = λ r inner. elim (cases_place r s) [
-    | inl one ↦ inr (length xs, omega arith, slice_get-append_right xs (s ∷ []) (length xs) 0 (omega arith) ∙ ap Some (sym one))
+    | inl one ↦ inr (length xs, omega arith, ap (λ (zs : List Place). slice_get zs (length xs)) is ∙ slice_get-append_right xs (s ∷ []) (length xs) 0 (omega arith) ∙ ap Some (sym one))
     | inr ne ↦ inl (other_kept b counts s r i n e spot (spot_from_inner b r inner) ne)
   ];
 }
-
--- a count off the tile is set
-pub noted_off : (b : Bounds) (counts : List ℕ) (s : Place) (i n : ℕ) (xs : List Place) → i ≡ spot_index b s → IsSpot b s → (IsInner b s → ⊥) → AreNoted b counts (set counts i n) xs xs
-noted_off b counts s i n xs e spot off = record {
-  longer = omega arith;
-  kept = λ k below. refl;
+noted_set b counts s i n xs ys e spot (inr (off, is)) = record {
+  longer = omega (arith, ap (λ (zs : List Place). length zs) is);
+  kept = λ k below. ap (λ (zs : List Place). slice_get zs k) is;
   each = λ r inner. inl (other_kept b counts s r i n e spot (spot_from_inner b r inner) (λ one. off (subst (λ (p : Place). IsInner b p) one inner)));
 }
 
--- the spot that is reached has one more than the one that it is reached from
-pub reached_near : (b : Bounds) (counts : List ℕ) (from to : Place) (i j : ℕ) → i ≡ spot_index b from → j ≡ spot_index b to → IsSpot b to → length counts ≡ area_of b →
-    count_on b (set counts j (get_or counts i 0 + 1)) to ≤ count_on b counts from + 1
-reached_near b counts from to i j e f spot size =
-    let at : get_or (set counts j (get_or counts i 0 + 1)) (spot_index b to) 0 ≡ get_or counts i 0 + 1 =
-    ap (λ (k : ℕ). get_or (set counts k (get_or counts i 0 + 1)) (spot_index b to) 0) f ∙ get_or-set_same counts (spot_index b to) (get_or counts i 0 + 1) 0 (omega (arith, size, spot_below b to spot)) in
-    let from_is : get_or counts i 0 ≡ count_on b counts from = ap (λ (k : ℕ). get_or counts k 0) e in
-    omega (arith, at, from_is)
+-- nothing is moved
+pub reached_same : {b : Bounds} {levels : List (Option ℤ)} {spot : Place} {Done : Place → Type 0} {counts : List ℕ} {xs : List Place} →
+    ((r : Place) → Done r → level_on b levels spot ≡ level_on b levels r → count_on b counts r ≤ count_on b counts spot + 1) → IsReached b levels spot Done counts counts xs xs
+reached_same {b} {levels} {spot} {Done} {counts} {xs} near = record {
+  spread = spread_none b levels counts;
+  near = near;
+  own = refl;
+  noted = noted_none b counts xs;
+  inner = λ all. all;
+  left = omega arith;
+}
 
--- and that one keeps its count
-pub reached_own : (b : Bounds) (counts : List ℕ) (from to : Place) (i j : ℕ) → i ≡ spot_index b from → j ≡ spot_index b to → IsSpot b from → IsSpot b to → get_or counts i 0 + 1 < get_or counts j 0 →
-    count_on b (set counts j (get_or counts i 0 + 1)) from ≡ count_on b counts from
-reached_own b counts from to i j e f spot other less =
-    other_kept b counts to from j (get_or counts i 0 + 1) f other spot
-    (λ one.
-    let same : count_on b counts from ≡ count_on b counts to = ap (λ (p : Place). count_on b counts p) one in
+pub reached_none : {b : Bounds} {levels : List (Option ℤ)} {spot : Place} {Done : Place → Type 0} {counts : List ℕ} {xs : List Place} → ((r : Place) → Done r → ⊥) →
+    IsReached b levels spot Done counts counts xs xs
+reached_none none = reached_same (λ r done _. absurd (none r done))
+
+-- a spot is reached
+pub reached_set : (b : Bounds) (levels : List (Option ℤ)) (counts : List ℕ) (from to : Place) (i j : ℕ) (xs ys : List Place) → i ≡ spot_index b from → j ≡ spot_index b to → IsSpot b from →
+    IsSpot b to × Touches from to → length counts ≡ area_of b → level_on b levels from ≡ level_on b levels to → get_or counts i 0 + 1 < get_or counts j 0 → IsAdded b to xs ys →
+    IsReached b levels from (λ r. r ≡ to) counts (set counts j (get_or counts i 0 + 1)) xs ys
+reached_set b levels counts from to i j xs ys e f spot other size level less added =
+    let n = get_or counts i 0 + 1 in
     let from_is : get_or counts i 0 ≡ count_on b counts from = ap (λ (k : ℕ). get_or counts k 0) e in
     let to_is : get_or counts j 0 ≡ count_on b counts to = ap (λ (k : ℕ). get_or counts k 0) f in
-    omega (arith, same, from_is, to_is, less))
+    let differ : from ≢ to = λ one. (let at : count_on b counts from ≡ count_on b counts to = ap (λ (p : Place). count_on b counts p) one in omega (arith, at, from_is, to_is, less)) in
+    let at : get_or (set counts j n) (spot_index b to) 0 ≡ n = ap (λ (k : ℕ). get_or (set counts k n) (spot_index b to) 0) f
+    ∙ get_or-set_same counts (spot_index b to) n 0 (omega (arith, size, spot_below b to other.0)) in
+    record {
+      spread = subst (λ (k : ℕ). IsSpread b levels counts (set counts k n)) (sym f)
+          (moved counts counts from to n (spread_none b levels counts) (spread_none b levels counts) spot other.0 other.1 differ level (omega (arith, from_is)) (omega (arith, to_is, less)));
+      near = λ r one _. (let there : count_on b (set counts j n) r ≡ count_on b (set counts j n) to = ap (λ (p : Place). count_on b (set counts j n) p) one in omega (arith, there, at, from_is));
+      own = other_kept b counts to from j n f other.0 spot differ;
+      noted = noted_set b counts to j n xs ys f other.0 added;
+      inner = λ all. elim added [
+        | inl h ↦ subst (λ (zs : List Place). All (λ (s : Place). IsInner b s) zs) (sym h.1) (All-push (λ (s : Place). IsInner b s) xs to all h.0)
+        | inr h ↦ subst (λ (zs : List Place). All (λ (s : Place). IsInner b s) zs) (sym h.1) all
+      ];
+      left = elim added [
+        | inl h ↦ omega (arith, ap (λ (zs : List Place). length zs) h.1, length_push xs to, sum-set counts j n less)
+        | inr h ↦ omega (arith, ap (λ (zs : List Place). length zs) h.1, sum-set counts j n less)
+      ];
+    }
+
+-- some spots are reached after others
+pub reached_then : {b : Bounds} {levels : List (Option ℤ)} {spot : Place} {First Next Done : Place → Type 0} {old mid new : List ℕ} {xs ys zs : List Place} →
+    IsReached b levels spot First old mid xs ys → IsReached b levels spot Next mid new ys zs → ((r : Place) → Done r → First r ⊎ Next r) → IsReached b levels spot Done old new xs zs
+reached_then {b} {levels} {spot} {First} {Next} {Done} {old} {mid} {new} {xs} {ys} {zs} f g each = record {
+  spread = spread_on b levels old mid new f.spread g.spread;
+  near = λ r done level. elim (each r done) [
+    | inl first ↦ omega (arith, f.near r first level, (spread_not_above b levels mid new g.spread).each (spot_index b r))
+    | inr next ↦ omega (arith, g.near r next level, f.own)
+  ];
+  own = g.own ∙ f.own;
+  noted = noted_then b old mid new xs ys zs f.noted g.noted;
+  inner = λ all. g.inner (f.inner all);
+  left = omega (arith, f.left, g.left);
+}
+
+-- all of some spots are reached
+pub reached_all : {b : Bounds} {levels : List (Option ℤ)} {spot : Place} {First Done : Place → Type 0} {old new : List ℕ} {xs ys : List Place} → IsReached b levels spot First old new xs ys →
+    ((r : Place) → Done r → First r) → IsReached b levels spot Done old new xs ys
+reached_all f each = record { spread = f.spread; near = λ r done. f.near r (each r done); own = f.own; noted = f.noted; inner = f.inner; left = f.left }
 
 -- before the first is spread from
 pub even_begin : (b : Bounds) (levels : List (Option ℤ)) (old counts : List ℕ) (reached : List Place) → ((s : Place) → IsInner b s → IsNear b levels old counts s) → AreNoted b old counts [] reached →
@@ -84,26 +129,25 @@ even_begin b levels old counts reached near noted = record {
 }
 
 -- one is spread from
-pub even_spread : (b : Bounds) (levels : List (Option ℤ)) (counts new : List ℕ) (waiting after : List Place) (done : ℕ) (spot : Place) → IsEvenBut b levels counts waiting done →
-    slice_get waiting done ≡ Some spot → AreNoted b counts new waiting after → IsNotAbove new counts → count_on b new spot ≡ count_on b counts spot →
-    ((r : Place) → IsSpot b r → Touches spot r → level_on b levels spot ≡ level_on b levels r → count_on b new r ≤ count_on b counts spot + 1) → IsEvenBut b levels new after (done + 1)
-even_spread b levels counts new waiting after done spot even here noted less own near = record {
+pub even_spread : {b : Bounds} {levels : List (Option ℤ)} {counts new : List ℕ} {waiting after : List Place} {done : ℕ} {spot : Place} → IsEvenBut b levels counts waiting done →
+    slice_get waiting done ≡ Some spot → IsReached b levels spot (Touches spot) counts new waiting after → IsEvenBut b levels new after (done + 1)
+even_spread {b} {levels} {counts} {new} {waiting} {after} {done} {spot} even here reached = record {
   each = λ s r inner other touch level. elim (even.each s r inner other touch level) [
-    | inl le ↦ elim (noted.each s inner) [
-      | inl same ↦ inl (omega (arith, le, same, less.each (spot_index b r)))
+    | inl le ↦ elim (reached.noted.each s inner) [
+      | inl same ↦ inl (omega (arith, le, same, (spread_not_above b levels counts new reached.spread).each (spot_index b r)))
       | inr at ↦ inr (at.0, omega (arith, at.1, slice_get_within waiting done spot here), at.2)
     ]
     | inr at ↦ elim (cases_eq at.0 done) [
-      | inl e ↦ inl (spread_from s r inner other touch level (same_Some spot s (sym here ∙ ap (λ (k : ℕ). slice_get waiting k) (sym e) ∙ at.2)))
-      | inr ne ↦ inr (at.0, omega (arith, at.1), noted.kept at.0 (slice_get_within waiting at.0 s at.2) ∙ at.2)
+      | inl e ↦ inl (spread_from s r touch level (same_Some spot s (sym here ∙ ap (λ (k : ℕ). slice_get waiting k) (sym e) ∙ at.2)))
+      | inr ne ↦ inr (at.0, omega (arith, at.1), reached.noted.kept at.0 (slice_get_within waiting at.0 s at.2) ∙ at.2)
     ]
   ];
 }
   where
-    spread_from : (s r : Place) → IsInner b s → IsInner b r → Touches s r → level_on b levels r ≡ level_on b levels s → spot ≡ s → count_on b new r ≤ count_on b new s + 1
-    spread_from s r inner other touch level one =
-        let from = near r (spot_from_inner b r other) (subst (λ (p : Place). Touches p r) (sym one) touch) (ap (λ (p : Place). level_on b levels p) one ∙ sym level) in
-        let same : count_on b new s ≡ count_on b counts spot = ap (λ (p : Place). count_on b new p) (sym one) ∙ own in
+    spread_from : (s r : Place) → Touches s r → level_on b levels r ≡ level_on b levels s → spot ≡ s → count_on b new r ≤ count_on b new s + 1
+    spread_from s r touch level one =
+        let from = reached.near r (subst (λ (p : Place). Touches p r) (sym one) touch) (ap (λ (p : Place). level_on b levels p) one ∙ sym level) in
+        let same : count_on b new s ≡ count_on b counts spot = ap (λ (p : Place). count_on b new p) (sym one) ∙ reached.own in
         omega (arith, from, same)
 
 -- none is left

@@ -4,16 +4,16 @@ use Rattle.std.proofs.lemmas.Bool.{false≢true}
 use Rattle.std.proofs.lemmas.Option.{MatchOption-at_some}
 use Rattle.terrain.proofs.Places.{inside_from_entry}
 use Rattle.terrain.specs.Raster.{Terrain, IsTerrain}
-use Rattle.terrain.specs.Neighbours.{height_at, entry_at, IsDataCell, IsNeighbour, height_of}
+use Rattle.terrain.specs.Neighbours.{height_at, entry_at, IsDataCell, IsNeighbour}
 use Rattle.drainage.specs.Filled.{IsFilled}
 use Rattle.terrain.specs.Sinks.{with_sinks}
 use Rattle.terrain.specs.declared.place.Place.{Place}
 use Rattle.tiles.specs.Cutting.{Cutting, Cuts, IsCutting, tile_of_place, IsInTile, tile_entry}
-use Rattle.drain.specs.Beginning.{HasZeros, AreBegun}
-use Rattle.drain.specs.Laws.{IsQuiet}
+use Rattle.drain.specs.Beginning.{HasZeros, AreBegun, IsQuiet}
 use Rattle.drain.specs.Steps.{DrainsAtOnce, IsLevelWalk, IsFlatWalk, IsSteps, AreSteps}
 use Rattle.drain.specs.Rounds.{IsLent, IsWalked, AreWalked, IsOneAbove, IsRound, AreCounting, AreSettled}
-use Rattle.drain.proofs.Counted.{has_steps, height_is}
+use Rattle.drain.proofs.Counted.{has_steps}
+use Rattle.drainage.proofs.Reach.{data_inside}
 use Rattle.drain.proofs.Nearby.{cases_option}
 use Rattle.drain.proofs.Few.{steps_are_few, drains_data, data_on_walk}
 use Rattle.tiles.proofs.Cut.{tile_of_place_below}
@@ -87,9 +87,6 @@ module _ (t : Terrain) (steps : List (Option ℕ)) (zeros : HasZeros t steps) (a
 -- a place in tile order
 pub in_own_tile : (t : Terrain) (c : Cutting) (p : Place) → Cuts c t → (p.row < t.rows) × (p.col < t.cols) → IsInTile c (tile_of_place c p) p
 in_own_tile t c p cuts inside = ((omega (arith, inside.0, cuts.1), omega (arith, inside.1, cuts.0)), refl)
-
-pub data_inside : (t : Terrain) (p : Place) → IsDataCell t p → (p.row < t.rows) × (p.col < t.cols)
-data_inside t p is = inside_from_entry t.cols t.rows t.cells p (height_of t p) (height_is t p is)
 
 -- the cells that are lent 0 to begin with are those that drain at once
 pub begun_lent : (t : Terrain) (counts : List (Option ℕ)) → AreBegun t counts → (p : Place) → DrainsAtOnce t p → IsLent t counts p

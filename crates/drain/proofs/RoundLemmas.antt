@@ -1,8 +1,7 @@
 -- What a round over all tiles makes of the counts.
 use Rattle.std.proofs.Common.{◌≡◌, ◌≢◌, ℕ, zero, suc, ◌*◌, ◌^◌, ◌<◌, ◌≤◌, inl, inr, true, false, List, [], ◌∷◌, length, get_or, Option, None, Some, unwrap_or, sum_by, IfSome, ℤ, sym, ap, subst, refl, ◌∙◌, arith}
 use Rattle.std.proofs.lemmas.Option.{MatchOption-at_some}
-use Rattle.std.proofs.lemmas.Bool.{cases_eq, cases_lt, false≢true}
-use Rattle.std.proofs.lemmas.List.{get_or_past}
+use Rattle.std.proofs.lemmas.Bool.{cases_eq, false≢true}
 use Rattle.std.proofs.lemmas.List.Sums.{sum_by-cons}
 use Rattle.terrain.proofs.Places.{inside_from_entry, entry-inside, index_below}
 use Rattle.terrain.specs.Raster.{Terrain}
@@ -10,12 +9,13 @@ use Rattle.terrain.specs.Neighbours.{entry_at, index_of}
 use Rattle.terrain.specs.declared.place.Place.{Place}
 use Rattle.tiles.specs.Cutting.{Cutting, View, IsWithin, IsInTile, tile_entry, tile_of_place, tile_count, terrain_of}
 use Rattle.tiles.proofs.Cut.{tile_of_place_below}
-use Rattle.drain.specs.Rounds.{IsLent, LendSame, IsWalked, IsRound, IsTileEven, IsUnentered, IsTileStill, IsDue, IsTileAnswer, is_changed, AreCounting, Rounding, levels_of, IsRounding, told, told_by, IsSized, AreSized, IsUntouched, AreAnswered, AreStill, IsNext, left_to_count}
+use Rattle.drain.specs.Rounds.{IsLent, LendSame, IsWalked, IsRound, IsTileEven, IsUnentered, IsTileStill, IsDue, IsTileAnswer, is_changed, AreCounting, Rounding, levels_of, IsRounding, told, told_by, IsUntouched, AreAnswered, AreStill, IsNext, left_to_count}
 use Rattle.drain.specs.declared.tile_state.Due.{Due}
 use Rattle.drain.specs.declared.tile_state.Due.TheVariants.{Search, IfEntered, Nothing}
 use Rattle.drain.specs.declared.tile_state.TileAnswer.{TileAnswer}
 use Rattle.drain.specs.declared.tile_state.TileAnswer.TheVariants.{Still, Changed}
-use Rattle.drain.proofs.Quiet.{if_some, data_inside, ended, walked_to}
+use Rattle.drainage.proofs.Reach.{data_inside}
+use Rattle.drain.proofs.Quiet.{if_some, ended, walked_to}
 use Rattle.drain.proofs.Unique.{at_place}
 
 -- a tile that a round leaves as it was
@@ -42,16 +42,6 @@ still_unentered r tile even out = record {
 -- what is due of a tile, where it is known what that is
 pub due_at : (t : Terrain) (c : Cutting) (tile : ℕ) (steps : List (Option ℕ)) (d e : Due) → d ≡ e → IsDue t c tile steps d → IsDue t c tile steps e
 due_at t c tile steps d e same due = subst (λ (x : Due). IsDue t c tile steps x) same due
-
-answer_sized : (t : Terrain) (c : Cutting) (tile : ℕ) (steps : List (Option ℕ)) (o : TileAnswer) → IsTileAnswer t c tile steps o → IsSized c tile o
-answer_sized t c tile steps Still a = tt
-answer_sized t c tile steps (Changed list) a = a.0.size
-
-pub answers_sized : (r : Rounding) (outs : List TileAnswer) → AreAnswered r outs → AreSized r.cutting outs
-answers_sized r outs a tile = elim (cases_lt tile (tile_count r.cutting)) [
-  | inl below ↦ answer_sized (levels_of r) r.cutting tile r.steps (get_or outs tile Still) (a.each tile below)
-  | inr past ↦ subst (λ (o : TileAnswer). IsSized r.cutting tile o) (sym (get_or_past outs tile Still (omega (arith, a.count)))) tt
-]
 
 -- an answer that changes nothing
 still_answer : (t : Terrain) (c : Cutting) (tile : ℕ) (steps : List (Option ℕ)) (o : TileAnswer) → is_changed o ≡ false → IsTileAnswer t c tile steps o → IsTileStill t c tile steps

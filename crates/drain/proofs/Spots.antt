@@ -1,7 +1,8 @@
 -- What the spots of a tile and the places around it show.
-use Rattle.std.proofs.Common.{◌≡◌, ◌≢◌, ℕ, zero, suc, ◌+◌, ◌-◌, ◌*◌, ◌<◌, ◌≤◌, true, false, inl, inr, List, [], ◌∷◌, ◌++◌, length, get_or, slice_get, Option, None, Some, sym, ap, subst, refl, ◌∙◌, arith}
+use Rattle.std.proofs.Common.{◌≡◌, ◌≢◌, ℕ, ◌+◌, ◌-◌, ◌*◌, ◌<◌, ◌≤◌, true, false, inl, inr, List, [], ◌∷◌, ◌++◌, length, get_or, Option, None, unwrap_or, sym, ap, subst, refl, ◌∙◌, arith}
 use Rattle.std.proofs.lemmas.Bool.{cases_Bool, cases_eq, cases_lt, cond-true, cond-false, and_from, and_left, le-leb}
 use Rattle.std.proofs.lemmas.List.{get_or_append_left, get_or-append_right, length-append, get_or_push, length_push}
+use Rattle.std.proofs.lemmas.Option.{unwrap_or-slice_get}
 use Rattle.std.proofs.Math.Nat.{mul-le-mul_right}
 use Rattle.terrain.proofs.Places.{make_place, same_place, index_injective, entry-inside}
 use Rattle.terrain.specs.Neighbours.{entry_at, index_of}
@@ -13,16 +14,6 @@ use Rattle.tile_maps.specs.Maps.{AreMadeBelow}
 use Rattle.drain.proofs.Spreading.{spot_below}
 use Rattle.tile_maps.proofs.TileLists.{made_next}
 use Rattle.tiles.proofs.TileRows.{row_has}
-
--- what stands in an option, if it is one
-abbrev pub joined : {X : Type 0} → Option (Option X) → Option X
-joined None = None
-joined (Some o) = o
-
-joined-slice_get : {X : Type 0} (xs : List (Option X)) (i : ℕ) → joined (slice_get xs i) ≡ get_or xs i None
-joined-slice_get [] i = refl
-joined-slice_get (x ∷ xs) zero = refl
-joined-slice_get (x ∷ xs) (suc i) = joined-slice_get xs i
 
 -- the place of a spot is shown, if it is in the grid
 shows_within : (c : Cutting) (tile : ℕ) (b : Bounds) (s p : Place) → b ≡ bounds_of c tile → IsSpot b s → Shows b s p → is_within c p ≡ true → is_shown c tile p ≡ true
@@ -42,23 +33,23 @@ not_shown c tile p out = and_left _ _ (and_left _ _ (and_left _ _ (and_left _ _ 
 
 -- a view has at the place of a spot what the grid has there
 pub shown_is : {X : Type 0} (v : View (Option X)) (b : Bounds) (s p : Place) → b ≡ bounds_of v.cutting v.tile → IsSpot b s → Shows b s p →
-    joined (cell_shown v p) ≡ entry_at v.cutting.cols v.cutting.rows v.cells p
-shown_is v b s p e spot shows =
+    unwrap_or (cell_shown v p) None ≡ entry_at v.cutting.cols v.cutting.rows v.cells p
+shown_is {X = X} v b s p e spot shows =
     elim (cases_Bool (is_within v.cutting p)) [
       | inl within ↦
-          ap joined (cond-true _ _ _ (shows_within v.cutting v.tile b s p e spot shows within))
-          ∙ joined-slice_get v.cells (index_of v.cutting.cols p) ∙ sym (cond-true _ _ _ within)
-      | inr out ↦ ap joined (cond-false _ _ _ (not_shown v.cutting v.tile p out)) ∙ sym (cond-false _ _ _ out)
+          ap (λ (o : Option (Option X)). unwrap_or o None) (cond-true _ _ _ (shows_within v.cutting v.tile b s p e spot shows within))
+          ∙ unwrap_or-slice_get v.cells (index_of v.cutting.cols p) None ∙ sym (cond-true _ _ _ within)
+      | inr out ↦ ap (λ (o : Option (Option X)). unwrap_or o None) (cond-false _ _ _ (not_shown v.cutting v.tile p out)) ∙ sym (cond-false _ _ _ out)
     ]
 
 -- the same, where the place was computed
-pub shown_at : {X : Type 0} (v : View (Option X)) (b : Bounds) (s : Place) (o : Option (Option X)) → b ≡ bounds_of v.cutting v.tile → IsSpot b s →
-    (b.top + s.row ≢ 0) → (b.left + s.col ≢ 0) → o ≡ cell_shown v (make_place (b.top + s.row - 1) (b.left + s.col - 1)) →
-    IsShown v.cutting.cols v.cutting.rows v.cells b s (joined o)
-shown_at v b s o e spot row col is = (
+pub shown_at : {X : Type 0} (v : View (Option X)) (b : Bounds) (s : Place) (o : Option (Option X)) (x : Option X) → b ≡ bounds_of v.cutting v.tile → IsSpot b s →
+    (b.top + s.row ≢ 0) → (b.left + s.col ≢ 0) → o ≡ cell_shown v (make_place (b.top + s.row - 1) (b.left + s.col - 1)) → x ≡ unwrap_or o None →
+    IsShown v.cutting.cols v.cutting.rows v.cells b s x
+shown_at {X = X} v b s o x e spot row col is value = (
   λ p shows.
       let here : p ≡ make_place (b.top + s.row - 1) (b.left + s.col - 1) = same_place p (make_place (b.top + s.row - 1) (b.left + s.col - 1)) (omega (arith, shows.0)) (omega (arith, shows.1)) in
-      ap joined (is ∙ ap (λ (q : Place). cell_shown v q) (sym here)) ∙ shown_is v b s p e spot shows,
+      value ∙ ap (λ (o : Option (Option X)). unwrap_or o None) (is ∙ ap (λ (q : Place). cell_shown v q) (sym here)) ∙ shown_is v b s p e spot shows,
   λ off. absurd (elim off [ inl a ↦ row a | inr a ↦ col a ]),
 )
 

@@ -52,21 +52,6 @@ spread_on b levels old mid new first (moved counts some s r n before earlier spo
 pub spread_counts : (b : Bounds) (levels : List (Option ℤ)) (old new : List ℕ) → AreCounts old → IsSpread b levels old new → AreCounts new
 spread_counts b levels old new small spread = λ k. omega (arith, small k, (spread_not_above b levels old new spread).each k)
 
--- one move from what a spot has
-pub one_move : (b : Bounds) (levels : List (Option ℤ)) (counts : List ℕ) (s r : Place) (i n : ℕ) → i ≡ spot_index b r → IsSpot b s → IsSpot b r → Touches s r
-    → level_on b levels s ≡ level_on b levels r → n ≡ count_on b counts s + 1 → n < count_on b counts r → IsSpread b levels counts (set counts i n)
-one_move b levels counts s r i n e spot other touch level from less =
-    let differ : s ≢ r = λ one. (let at : count_on b counts s ≡ count_on b counts r = ap (λ (p : Place). count_on b counts p) one in omega (arith, at)) in
-    subst (λ j. IsSpread b levels counts (set counts j n)) (sym e) (moved counts counts s r n same same spot other touch differ level from less)
-
--- the same move, where the spots' places in the list were computed
-pub move_at : (b : Bounds) (levels : List (Option ℤ)) (counts : List ℕ) (s r : Place) (i j : ℕ) → i ≡ spot_index b s → j ≡ spot_index b r → IsSpot b s → IsSpot b r → Touches s r
-    → level_on b levels s ≡ level_on b levels r → get_or counts i 0 + 1 < get_or counts j 0 → IsSpread b levels counts (set counts j (get_or counts i 0 + 1))
-move_at b levels counts s r i j e f spot other touch level less =
-    let from : get_or counts i 0 ≡ count_on b counts s = ap (λ k. get_or counts k 0) e in
-    let to : get_or counts j 0 ≡ count_on b counts r = ap (λ k. get_or counts k 0) f in
-    one_move b levels counts s r j (get_or counts i 0 + 1) f spot other touch level (omega (arith, from)) (omega (arith, to))
-
 pub sum-set : (xs : List ℕ) (i n : ℕ) → n < get_or xs i 0 → sum (set xs i n) + 1 ≤ sum xs
 sum-set xs i n less = elim (cases_lt i (length xs)) [
   | inl lt ↦ omega (arith, sum_by-set (λ (m : ℕ). m) xs i n 0 lt)

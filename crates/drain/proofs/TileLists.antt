@@ -1,6 +1,5 @@
 -- The lists of a tile that the first map and the last make, one entry more at a time.
 use Rattle.std.proofs.Common.{ℕ, ◌+◌, ◌*◌, ◌<◌, List, ◌∷◌, ◌++◌, [], Option, ◌∙◌, arith}
-use Rattle.std.specs.Prelude.{Result, Ok, Err, IfOk}
 use Rattle.terrain.specs.Raster.{Terrain}
 use Rattle.terrain.proofs.Places.{make_place}
 use Rattle.tiles.specs.declared.bounds.Bounds.{Bounds}
@@ -37,7 +36,3 @@ begun_map t c counts new cuts made put =
 
 pub coded_map : (t : Terrain) (c : Cutting) (codes : List (Option ℕ)) → Cuts c t → IsMadeMap c (IsCodeAt t) codes → AreDirections t codes
 coded_map t c codes cuts made = let all = map_of_size c t.cols t.rows (IsCodeAt t) codes cuts.0 cuts.1 made in record { size = all.0; each = all.1 }
-
-pub both_ok : {T E : Type 0} (r : Result T E) (P Q R : T → Type 0) → ((x : T) → P x → Q x → R x) → IfOk r P → IfOk r Q → IfOk r R
-both_ok (Ok x) P Q R f a b = f x a b
-both_ok (Err e) P Q R f a b = a

@@ -19,10 +19,6 @@ use Rattle.drain.proofs.Counted.{height_is}
 use Rattle.drain.proofs.Unique.{at_place}
 use Rattle.drain.proofs.Few.{data_on_level_walk}
 
--- the place of a spot that has something
-pub place_shown : Bounds → Place → Place
-place_shown b s = make_place (b.top + s.row - 1) (b.left + s.col - 1)
-
 -- a spot that shows something shows a place
 is_on : {X : Type 0} (cols rows : ℕ) (entries : List (Option X)) (b : Bounds) (s : Place) (o : Option X) (x : X) → IsShown cols rows entries b s o → o ≡ Some x →
     (p : Place) × Shows b s p × (entry_at cols rows entries p ≡ Some x)

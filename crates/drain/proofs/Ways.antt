@@ -4,10 +4,9 @@ use Rattle.std.proofs.lemmas.Bool.{eq-eqb, ne_eqb, or_left, or_right, or_from}
 use Rattle.std.proofs.lemmas.List.{get_or_default}
 use Rattle.std.proofs.lemmas.Option.{none-some, same_Some, some_pair_parts}
 use Rattle.std.specs.Option.{option_zip, option_and_then}
-use Rattle.terrain.proofs.Places.{make_place}
 use Rattle.terrain.specs.Neighbours.{Touches}
-use Rattle.terrain.specs.Ways.{ways_from, place_on, place_of, place_toward, code_of, before}
-use Rattle.tiles.proofs.Members.{Contains-ways_from}
+use Rattle.terrain.specs.Ways.{ways_from, place_on, place_toward, code_of, before}
+use Rattle.tiles.proofs.Members.{Contains-ways_from, place_parts, before_parts}
 use Rattle.terrain.specs.declared.place.Place.{Place}
 
 -- what holds of each of eight numbers
@@ -34,26 +33,17 @@ before-is (suc n) m e = let same : n ≡ m = omega arith in ap Some same
 pub way_to : (p q : Place) → Touches p q → p ≢ q → (way : ℕ) × (way < 8) × (place_on way p ≡ Some q)
 way_to p q t differ = let at = Contains-ways_from p q t differ in (at.0, at.1, get_or_default (ways_from p) at.0 None (Some q) at.1 ∙ at.2)
 
-place_parts : (row col : Option ℕ) (q : Place) → place_of row col ≡ Some q → (row ≡ Some q.row) × (col ≡ Some q.col)
-place_parts None col q e = absurd (none-some q e)
-place_parts (Some r) None q e = absurd (none-some q e)
-place_parts (Some r) (Some c) q e = let same = same_Some (make_place r c) q e in (ap (λ (z : Place). Some z.row) same, ap (λ (z : Place). Some z.col) same)
-
-before-back : (n m : ℕ) → before n ≡ Some m → n ≡ m + 1
-before-back zero m e = absurd (none-some m e)
-before-back (suc n) m e = let same = same_Some n m e in omega (arith, same)
-
 -- even ways lead along a row or column, and odd ones across a diagonal
 pub along : (p q : Place) (way : ℕ) → way < 8 → place_on way p ≡ Some q → (eqb p.row q.row || eqb p.col q.col) ≡ eqb (way % 2) 0
 along p q = eight (λ way. place_on way p ≡ Some q → (eqb p.row q.row || eqb p.col q.col) ≡ eqb (way % 2) 0)
     (λ e. let at = place_parts (Some p.row) (Some (p.col + 1)) q e in or_left _ _ (eq-eqb _ _ (same_Some _ _ at.0)))
     (λ e. let at = place_parts (Some (p.row + 1)) (Some (p.col + 1)) q e in let row = same_Some _ _ at.0 in let col = same_Some _ _ at.1 in across (λ same. omega (arith, row, same)) (λ same. omega (arith, col, same)))
     (λ e. let at = place_parts (Some (p.row + 1)) (Some p.col) q e in or_right _ _ (eq-eqb _ _ (same_Some _ _ at.1)))
-    (λ e. let at = place_parts (Some (p.row + 1)) (before p.col) q e in let row = same_Some _ _ at.0 in let col = before-back _ _ at.1 in across (λ same. omega (arith, row, same)) (λ same. omega (arith, col, same)))
+    (λ e. let at = place_parts (Some (p.row + 1)) (before p.col) q e in let row = same_Some _ _ at.0 in let col = before_parts _ _ at.1 in across (λ same. omega (arith, row, same)) (λ same. omega (arith, col, same)))
     (λ e. let at = place_parts (Some p.row) (before p.col) q e in or_left _ _ (eq-eqb _ _ (same_Some _ _ at.0)))
-    (λ e. let at = place_parts (before p.row) (before p.col) q e in let row = before-back _ _ at.0 in let col = before-back _ _ at.1 in across (λ same. omega (arith, row, same)) (λ same. omega (arith, col, same)))
+    (λ e. let at = place_parts (before p.row) (before p.col) q e in let row = before_parts _ _ at.0 in let col = before_parts _ _ at.1 in across (λ same. omega (arith, row, same)) (λ same. omega (arith, col, same)))
     (λ e. let at = place_parts (before p.row) (Some p.col) q e in or_right _ _ (eq-eqb _ _ (same_Some _ _ at.1)))
-    (λ e. let at = place_parts (before p.row) (Some (p.col + 1)) q e in let row = before-back _ _ at.0 in let col = same_Some _ _ at.1 in across (λ same. omega (arith, row, same)) (λ same. omega (arith, col, same)))
+    (λ e. let at = place_parts (before p.row) (Some (p.col + 1)) q e in let row = before_parts _ _ at.0 in let col = same_Some _ _ at.1 in across (λ same. omega (arith, row, same)) (λ same. omega (arith, col, same)))
   where
     across : (p.row ≢ q.row) → (p.col ≢ q.col) → (eqb p.row q.row || eqb p.col q.col) ≡ false
     across row col = or_from _ _ (ne_eqb _ _ row) (ne_eqb _ _ col)

@@ -8,7 +8,7 @@ use Rattle.std.specs.List.{enumerate_from, list_any, position}
 use Rattle.drain.specs.Steepness.{weight, weights, drop_to, leads_on, direction_of}
 use Rattle.terrain.specs.Ways.{code_of}
 use Rattle.drain.specs.declared.around.Around.{Around}
-use Rattle.drain.proofs.Greatest.{IsFirstGreatest, takes_greater, keeps_greatest, le-fold_max, none_passes}
+use Rattle.drain.proofs.Greatest.{IsFirstGreatest, next_greatest, le-fold_max, none_passes}
 use Rattle.drain.specs.Fitting.{IsFitting}
 
 abbrev pub own_weight : Around → ℕ × Option (ℤ × ℕ) → ℕ
@@ -66,18 +66,10 @@ drains_onward a f low inside = go a low inside f.drains
     go a low inside (inr (inr e)) = e
 
 -- the greatest so far, after one way more
-pub next_greatest : (a : Around) (way greatest place own next_greatest next_place drop : ℕ) → way < length a.ways → IsFirstGreatest (weights a) way greatest place
+pub greatest_with : (a : Around) (way greatest place own g p drop : ℕ) → way < length a.ways → IsFirstGreatest (weights a) way greatest place
     → drop ≡ drop_to a.level (get_or a.ways way None) → own ≡ weight way drop
-    → ((greatest < own) × (next_greatest ≡ own) × (next_place ≡ way)) ⊎ ((own ≤ greatest) × (next_greatest ≡ greatest) × (next_place ≡ place))
-    → IsFirstGreatest (weights a) (way + 1) next_greatest next_place
-next_greatest a way greatest place own g p drop within f d w (inl (more, is_own, is_way)) =
-    subst (λ n. IsFirstGreatest (weights a) (way + 1) n p) (sym is_own)
-    (subst (λ n. IsFirstGreatest (weights a) (way + 1) own n) (sym is_way)
-    (takes_greater (weights a) way greatest place own f (w ∙ ap (weight way) d ∙ sym (get_or-weights a way within)) more))
-next_greatest a way greatest place own g p drop within f d w (inr (less, is_old, is_place)) =
-    subst (λ n. IsFirstGreatest (weights a) (way + 1) n p) (sym is_old)
-    (subst (λ n. IsFirstGreatest (weights a) (way + 1) greatest n) (sym is_place)
-    (keeps_greatest (weights a) way greatest place own f (w ∙ ap (weight way) d ∙ sym (get_or-weights a way within)) less))
+    → ((greatest < own) × (g ≡ own) × (p ≡ way)) ⊎ ((own ≤ greatest) × (g ≡ greatest) × (p ≡ place)) → IsFirstGreatest (weights a) (way + 1) g p
+greatest_with a way greatest place own g p drop within f d w = next_greatest (weights a) way greatest place own g p f (w ∙ ap (weight way) d ∙ sym (get_or-weights a way within))
 
 pub direction_down : (a : Around) (greatest way : ℕ) → greatest ≡ fold max 0 (weights a) → 0 < greatest → position (λ w. eqb w greatest) (weights a) ≡ Some way → direction_of a ≡ code_of (Some way)
 direction_down a greatest way is some first =

@@ -1,11 +1,12 @@
 -- The counts that the rounds begin with.
-use Rattle.std.specs.Prelude.{◌≡◌, ◌⊎◌, ◌≤◌, ℕ, ◌+◌, ◌-◌, ◌*◌, ℤ, ◌<ℤ◌, List, length, Option, None, Some}
+use Rattle.std.specs.Prelude.{◌≡◌, ◌⊎◌, ◌≤◌, ◌<◌, ℕ, ◌+◌, ◌-◌, ◌*◌, ℤ, ◌<ℤ◌, List, length, Option, None, Some}
 use Rattle.terrain.specs.Neighbours.{IsInside, entry_at, IsEdge, IsSink}
 use Rattle.terrain.specs.Raster.{Terrain}
 use Rattle.terrain.specs.declared.place.Place.{Place}
 use Rattle.tiles.specs.declared.bounds.Bounds.{Bounds}
-use Rattle.tiles.specs.Cutting.{longest_axis}
+use Rattle.tiles.specs.Cutting.{Cutting, IsInTile, longest_axis, tile_count, tile_entry}
 use Rattle.drain.specs.Steps.{HasLower, DrainsAtOnce}
+use Rattle.drain.specs.Rounds.{IsRound}
 
 -- The cell has no data or is lower.
 abbrev pub IsGapOrLower : ℤ → Option ℤ → Type 0
@@ -35,6 +36,11 @@ pub record IsBegunAtSinks (t : Terrain) (old new : List (Option ℕ)) : Type 0 w
 -- Each cell that drains at once has the count 0.
 abbrev pub HasZeros : Terrain → List (Option ℕ) → Type 0
 HasZeros t counts = (p : Place) → DrainsAtOnce t p → entry_at t.cols t.rows counts p ≡ Some 0
+
+-- A round over all tiles leaves each count as it was. There is one list for each tile.
+pub record IsQuiet (t : Terrain) (c : Cutting) (steps : List (Option ℕ)) (lists : ℕ → List (Option ℕ)) : Type 0 where
+  pub rounds : (tile : ℕ) → tile < tile_count c → IsRound (DrainsAtOnce t) t c tile steps (lists tile)
+  pub same : (tile : ℕ) (p : Place) → IsInTile c tile p → tile_entry c tile (lists tile) p ≡ entry_at t.cols t.rows steps p
 
 -- The place lies in the first or last row or column.
 abbrev pub IsOutermost : Terrain → Place → Type 0

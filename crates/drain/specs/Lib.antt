@@ -8,4 +8,3 @@ pub mod Stages
 pub mod Beginning
 pub mod Fitting
 pub mod Amid
-pub mod Laws

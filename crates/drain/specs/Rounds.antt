@@ -128,7 +128,6 @@ left_to_count steps = sum_by (λ o. unwrap_or o (2 ^ 24)) steps
 -- The bounds are some tile's.
 pub record IsBoundsOf (c : Cutting) (b : Bounds) : Type 0 where
   pub tile : ℕ
-  pub below : tile < tile_count c
   pub value : b ≡ bounds_of c tile
 
 -- No tile changed that has a cell of this tile or one that touches it.

@@ -1,6 +1,6 @@
 -- A tile with the places around it, one row and one column more on each side: what the search for steps
 -- works on. A spot of it is a place counted from the row and the column before the tile's first.
-use Rattle.std.specs.Prelude.{◌≡◌, ◌≢◌, ℕ, ◌+◌, ◌*◌, ◌^◌, ◌<◌, ◌≤◌, ◌⊎◌, ℤ, List, map, length, Option, None, Some, nat_lt, if◌then◌else◌, slice_get, slice_index_or, slice_set, unwrap_or}
+use Rattle.std.specs.Prelude.{◌≡◌, ◌≢◌, ℕ, ◌+◌, ◌*◌, ◌^◌, ◌<◌, ◌≤◌, ◌⊎◌, ℤ, List, All, map, sum, length, Option, None, Some, nat_lt, if◌then◌else◌, slice_get, slice_index_or, slice_set, unwrap_or}
 use Rattle.terrain.specs.Neighbours.{entry_at, index_of, Touches}
 use Rattle.terrain.specs.declared.place.Place.{Place}
 use Rattle.tiles.specs.declared.bounds.Bounds.{Bounds}
@@ -76,6 +76,17 @@ pub record AreNoted (b : Bounds) (old new : List ℕ) (before after : List Place
   pub longer : length before ≤ length after
   pub kept : (k : ℕ) → k < length before → slice_get after k ≡ slice_get before k
   pub each : (s : Place) → IsInner b s → (count_on b new s ≡ count_on b old s) ⊎ ((k : ℕ) × (length before ≤ k) × (slice_get after k ≡ Some s))
+
+-- How far a search has come from a spot: moves lead from the old counts to the new, and where those of some places
+-- are on its level, they have at most one more than it has and keeps.
+pub record IsReached (b : Bounds) (levels : List (Option ℤ)) (spot : Place) (Done : Place → Type 0) (old new : List ℕ) (before after : List Place) : Type 0 where
+  pub spread : IsSpread b levels old new
+  pub near : (r : Place) → Done r → level_on b levels spot ≡ level_on b levels r → count_on b new r ≤ count_on b old spot + 1
+  pub own : count_on b new spot ≡ count_on b old spot
+  pub noted : AreNoted b old new before after
+  pub inner : All (IsInner b) before → All (IsInner b) after
+  -- each that was added took something off the counts
+  pub left : length after + sum new ≤ length before + sum old
 
 -- Each count of the tile is at most one above those that its spot touches on its level, but where it touches
 -- one that stands in the list from a place on.

@@ -4,7 +4,7 @@ ghost use Rattle.terrain.specs.Raster.{Terrain};
 ghost use Rattle.terrain.specs.Sinks.{with_sinks};
 ghost use Rattle.tiles.specs.Cutting.{Cuts, terrain_of};
 ghost use Rattle.tile_jobs.specs.Fault.{RefusesWorkers};
-ghost use Rattle.drain.specs.Beginning.{AreBegun, HasZeros};
+ghost use Rattle.drain.specs.Beginning.{HasZeros};
 ghost use Rattle.drain.specs.Rounds.{AreWalked, IsLent, IsRound};
 ghost use Rattle.drain.specs.Steps.{AreSteps, DrainsAtOnce};
 ghost use Rattle.drain.specs.Directions.{AreDirections};
@@ -39,7 +39,8 @@ pub(crate) fn round(
     let ground = looking::ground(alloc, levels)?;
     let old = looking::counts(alloc, steps)?;
     let counts = window::settled(alloc, &ground, &old)?;
-    looking::hand_out(alloc, &ground, &counts)
+    let list = looking::hand_out(alloc, &ground, &counts)?;
+    Ok(list)
 }
 
 /// One round of counting steps over one tile, which it answers in its row order: a search from all counts that
@@ -58,24 +59,7 @@ pub fn flat_steps(
     requires walked { AreWalked (DrainsAtOnce terrain) terrain steps.now.cells }
     ensures { IfOk result (λ v. IsRound (DrainsAtOnce terrain) terrain levels.now.cutting levels.now.tile steps.now.cells v.items) }
 {
-    match round(alloc, levels, steps) {
-        Ok(counts) => Ok(counts),
-        Err(_) => Err(NoMemory),
-    }
-}
-
-/// The counts that the rounds begin with.
-fn begun<R: Threads + Wait + Sync, G: Gate + Sync>(
-    crew: &Crew<'_, R, G>,
-    grid: &Grid,
-    tiling: &Tiling,
-) -> Result<Vec<Option<u32>>, JobFault>
-    requires { Cuts tiling.now grid.now.terrain }
-    ensures begun { IfOk result (λ v. AreBegun grid.now.terrain v.items) }
-    ensures workers { RefusesWorkers crew.now.workers result }
-{
-    let mut counts = crew.made(Beginning { grid, tiling })?;
-    begin_at_sinks(grid, &mut counts);
+    let counts = round(alloc, levels, steps)?;
     Ok(counts)
 }
 
@@ -91,8 +75,10 @@ fn counted<R: Threads + Wait + Sync, G: Gate + Sync>(
 {
     let grid = filled.grid();
     let cells = grid.cells();
-    let begun = begun(crew, grid, tiling)?;
-    settle(crew, tiling, cells, begun)
+    let mut begun = crew.made(Beginning { grid, tiling })?;
+    begin_at_sinks(grid, &mut begun);
+    let steps = settle(crew, tiling, cells, begun)?;
+    Ok(steps)
 }
 
 /// The direction of each cell of a filled grid. The tiles' rounds are jobs of the workers. Nothing is handed out

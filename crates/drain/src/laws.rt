@@ -1,43 +1,58 @@
 // Facts of the definitions alone.
-ghost use Rattle.drain.specs.Laws.{DirectionIsOfCell, DirectionsAreOne, EachHasDirection, EachHasSteps, QuietIsCounted, StepsAreFew, StepsAreOne};
+ghost use Rattle.std.specs.Prelude.{◌≡◌, ℕ, ◌*◌, ◌^◌, ◌<◌, List, length, Option};
+ghost use Rattle.terrain.specs.Raster.{Terrain, IsTerrain};
+ghost use Rattle.terrain.specs.Neighbours.{IsDataCell};
+ghost use Rattle.terrain.specs.declared.place.Place.{Place};
+ghost use Rattle.drainage.specs.Filled.{IsFilled};
+ghost use Rattle.tiles.specs.Cutting.{Cutting, IsCutting, Cuts};
+ghost use Rattle.drain.specs.Steps.{IsSteps, AreSteps};
+ghost use Rattle.drain.specs.Beginning.{HasZeros, IsQuiet};
+ghost use Rattle.drain.specs.Directions.{IsDirection, AreDirections};
+ghost use Rattle.drain.specs.Steepness.{direction_of};
+ghost use Rattle.drain.specs.Fitting.{IsAround};
+ghost use Rattle.drain.specs.declared.around.Around.{Around};
 
 /// A cell has at most one number of steps.
 #[tactic(auto, using(crate::proofs::Local::one_number_of_steps))]
 pub fn steps_are_one()
-    ensures { StepsAreOne }
+    ensures { (t : Terrain) (p : Place) (m n : ℕ) → IsSteps t p m → IsSteps t p n → m ≡ n }
 {}
 
 /// Where a terrain's filled heights are its own, each data cell has a number of steps.
 #[tactic(auto, using(crate::proofs::Counted::has_steps))]
 pub fn each_has_steps()
-    ensures { EachHasSteps }
+    ensures { (t : Terrain) (p : Place) → IsTerrain t → IsFilled t t.cells → IsDataCell t p → (n : ℕ) × IsSteps t p n }
 {}
 
-/// A cell of a grid has fewer steps than the grid may have cells.
+/// A cell of a grid has fewer steps than the grid may have cells: a shortest walk meets no cell twice.
 pub fn steps_are_few()
-    ensures { StepsAreFew }
+    ensures { (t : Terrain) (p : Place) (n : ℕ) → IsTerrain t → IsSteps t p n → n < 2 ^ 24 }
 {}
 
 /// Where a terrain's filled heights are its own, each data cell has exactly one direction.
-#[tactic(auto, using(crate::proofs::EachDirection::has_direction))]
+#[tactic(auto, using(crate::proofs::Unique::has_direction))]
 pub fn each_has_direction()
-    ensures { EachHasDirection }
+    ensures { (t : Terrain) (p : Place) → IsTerrain t → IsFilled t t.cells → IsDataCell t p →
+        (code : ℕ) × IsDirection t p code × ((other : ℕ) → IsDirection t p other → other ≡ code) }
 {}
 
 /// Of what stands around a cell, `direction` answers its direction.
 #[tactic(auto, using(crate::proofs::Laid::direction_is))]
 pub fn direction_is_of_cell()
-    ensures { DirectionIsOfCell }
+    ensures { (t : Terrain) (steps : List (Option ℕ)) (p : Place) (a : Around) → AreSteps t steps → IsAround t steps p a →
+        IsDirection t p (direction_of a) }
 {}
 
 /// A terrain has at most one map of directions.
 #[tactic(auto, using(crate::proofs::Unique::one_list_of_directions))]
 pub fn directions_are_one()
-    ensures { DirectionsAreOne }
+    ensures { (t : Terrain) (codes others : List (Option ℕ)) → AreDirections t codes → AreDirections t others → codes ≡ others }
 {}
 
 /// Where a round over all tiles changes nothing, the counts are the steps.
 #[tactic(auto, using(crate::proofs::Quiet::counts_are_steps))]
 pub fn quiet_is_counted()
-    ensures { QuietIsCounted }
+    ensures { (t : Terrain) (c : Cutting) (steps : List (Option ℕ)) (lists : ℕ → List (Option ℕ)) →
+        IsTerrain t → IsFilled t t.cells → Cuts c t → IsCutting c → length steps ≡ t.cols * t.rows →
+        HasZeros t steps → IsQuiet t c steps lists → AreSteps t steps }
 {}

@@ -31,10 +31,7 @@ fn shown<T: Copy>(view: &TileView<'_, Option<T>>, bounds: Bounds, spot: Place) -
         row: row - 1,
         col: col - 1,
     };
-    match view.at(place) {
-        Some(entry) => *entry,
-        None => None,
-    }
+    view.at(place).copied().unwrap_or(None)
 }
 
 /// Takes one row of spots, one by one.
@@ -72,14 +69,8 @@ fn look_across<T: Copy + Drop>(
     ensures { OnOk result (AreShownBelow view.now.cutting.cols view.now.cutting.rows view.now.cells bounds ((row + 1) * (bounds.cols + 2)) list.new.items) }
 {
     let first = shown(view, bounds, Place { row, col: 0 });
-    let last = shown(
-        view,
-        bounds,
-        Place {
-            row,
-            col: bounds.cols + 1,
-        },
-    );
+    let col = bounds.cols + 1;
+    let last = shown(view, bounds, Place { row, col });
     list.push(first)?;
     list.extend_from_slice(view.row(row - 1))?;
     list.push(last)?;
@@ -91,8 +82,8 @@ fn look<T: Copy + Drop>(
     alloc: Global,
     view: &TileView<'_, Option<T>>,
 ) -> Result<Vec<Option<T>>, AllocError>
-    ensures size { IfOk result (λ v. length v.items ≡ area_of (bounds_of view.now.cutting view.now.tile)) }
-    ensures shown { IfOk result (λ v. AreShown view.now.cutting.cols view.now.cutting.rows view.now.cells (bounds_of view.now.cutting view.now.tile) v.items) }
+    ensures { IfOk result (λ v. (length v.items ≡ area_of (bounds_of view.now.cutting view.now.tile))
+        × AreShown view.now.cutting.cols view.now.cutting.rows view.now.cells (bounds_of view.now.cutting view.now.tile) v.items) }
 {
     let bounds = view.bounds();
     let mut list = Vec::with_capacity(

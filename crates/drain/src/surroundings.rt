@@ -89,7 +89,7 @@ fn around(grid: &Grid, steps: &[Option<u32>], place: Place, level: Height, own: 
 
 /// The code of a data cell of the first or last row or column.
 #[inline(never)]
-#[tactic(auto, using(crate::proofs::Laid::fitting))]
+#[tactic(auto, using(crate::proofs::Laid::fitting, crate::proofs::Laid::code_by_direction))]
 fn code_outermost(grid: &Grid, steps: &[Option<u32>], place: Place, level: Height, own: u32) -> Code
     requires lawful { IsTerrain grid.now.terrain }
     requires steps { AreSteps grid.now.terrain steps.now }

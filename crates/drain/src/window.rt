@@ -2,7 +2,7 @@
 ghost use Rattle.std.specs.Prelude.{◌≡◌, ◌≢◌, ℕ, ◌+◌, ◌*◌, ◌^◌, ◌<◌, ◌≤◌, ◌⊎◌, ◌↔◌, IsTrue, [], All, sum, length, None, OnOk, IfOk, vec_len, slice_index_or};
 ghost use Rattle.terrain.specs.Neighbours.{Touches};
 ghost use Rattle.terrain.specs.declared.place.Place.{Place};
-ghost use Rattle.drain.specs.Window.{AreCounts, area_of, spot_index, IsSpot, IsInner, level_on, count_on, IsLeastAlong, IsSpread, IsNotAbove, IsNear, AreNoted, IsEvenBut, IsEven, IsSettled};
+ghost use Rattle.drain.specs.Window.{AreCounts, area_of, spot_index, IsSpot, IsInner, level_on, count_on, IsLeastAlong, IsSpread, IsNotAbove, IsNear, AreNoted, IsReached, IsEvenBut, IsEven, IsSettled};
 
 use std::alloc::{AllocError, Global};
 use terrain::{Height, Place};
@@ -111,33 +111,15 @@ fn least_around(ground: &Ground, counts: &[u32], spot: Place, bound: u32) -> u32
         × (result ≡ count_on ground.now.bounds counts.now r + 1) × (result < bound)) }
 {
     let level = ground.levels[ground.index(spot)];
-    let Place { row, col } = spot;
-    let north = least_of_three(
-        ground,
-        counts,
-        Place {
-            row: row - 1,
-            col: col - 1,
-        },
-        level,
-        bound,
-    );
-    let here = least_of_three(ground, counts, Place { row, col: col - 1 }, level, north);
-    least_of_three(
-        ground,
-        counts,
-        Place {
-            row: row + 1,
-            col: col - 1,
-        },
-        level,
-        here,
-    )
+    let row = spot.row;
+    let col = spot.col - 1;
+    let north = least_of_three(ground, counts, Place { row: row - 1, col }, level, bound);
+    let here = least_of_three(ground, counts, Place { row, col }, level, north);
+    least_of_three(ground, counts, Place { row: row + 1, col }, level, here)
 }
 
 /// Gives a spot one step more than a spot that it touches, where that is less than it has.
 #[inline(always)]
-#[tactic(auto, using(crate::proofs::Spreading::spread_none, crate::proofs::Spreading::move_at, crate::proofs::Noted::reached_near, crate::proofs::Noted::reached_own))]
 fn reach(
     ground: &Ground,
     counts: &mut [u32],
@@ -149,14 +131,7 @@ fn reach(
     requires counts { AreCounts counts.old }
     requires from { IsSpot ground.now.bounds from }
     requires to { IsSpot ground.now.bounds to × Touches from to }
-    requires inner { All (IsInner ground.now.bounds) reached.old.items }
-    ensures spread { OnOk result (IsSpread ground.now.bounds ground.now.levels.items counts.old counts.new) }
-    ensures inner { OnOk result (All (IsInner ground.now.bounds) reached.new.items) }
-    ensures near { OnOk result (level_on ground.now.bounds ground.now.levels.items from ≡ level_on ground.now.bounds ground.now.levels.items to →
-        count_on ground.now.bounds counts.new to ≤ count_on ground.now.bounds counts.old from + 1) }
-    ensures own { OnOk result (count_on ground.now.bounds counts.new from ≡ count_on ground.now.bounds counts.old from) }
-    ensures noted { OnOk result (AreNoted ground.now.bounds counts.old counts.new reached.old.items reached.new.items) }
-    ensures left { OnOk result (vec_len reached.new + sum counts.new ≤ vec_len reached.old + sum counts.old) }
+    ensures { OnOk result (IsReached ground.now.bounds ground.now.levels.items from (λ r. r ≡ to) counts.old counts.new reached.old.items reached.new.items) }
 {
     let next = counts[ground.index(from)] + 1;
     let index = ground.index(to);
@@ -171,7 +146,7 @@ fn reach(
 
 /// Spreads from a spot to three spots of one row.
 #[inline(always)]
-#[tactic(auto, using(crate::proofs::Spreading::spread_none, crate::proofs::Spreading::spread_on, crate::proofs::Spreading::spread_counts, crate::proofs::Noted::noted_none, crate::proofs::Noted::noted_then))]
+#[tactic(auto, using(crate::proofs::Spreading::spread_counts))]
 fn spread_along(
     ground: &Ground,
     counts: &mut [u32],
@@ -183,15 +158,7 @@ fn spread_along(
     requires counts { AreCounts counts.old }
     requires spot { IsInner ground.now.bounds spot }
     requires row { (row ≤ spot.row + 1) × (spot.row ≤ row + 1) }
-    requires inner { All (IsInner ground.now.bounds) reached.old.items }
-    ensures spread { OnOk result (IsSpread ground.now.bounds ground.now.levels.items counts.old counts.new) }
-    ensures inner { OnOk result (All (IsInner ground.now.bounds) reached.new.items) }
-    ensures near { OnOk result ((r : Place) → IsSpot ground.now.bounds r → Touches spot r → r.row ≡ row →
-        level_on ground.now.bounds ground.now.levels.items spot ≡ level_on ground.now.bounds ground.now.levels.items r →
-        count_on ground.now.bounds counts.new r ≤ count_on ground.now.bounds counts.old spot + 1) }
-    ensures own { OnOk result (count_on ground.now.bounds counts.new spot ≡ count_on ground.now.bounds counts.old spot) }
-    ensures noted { OnOk result (AreNoted ground.now.bounds counts.old counts.new reached.old.items reached.new.items) }
-    ensures left { OnOk result (vec_len reached.new + sum counts.new ≤ vec_len reached.old + sum counts.old) }
+    ensures { OnOk result (IsReached ground.now.bounds ground.now.levels.items spot (λ r. Touches spot r × (r.row ≡ row)) counts.old counts.new reached.old.items reached.new.items) }
 {
     for col in spot.col - 1..spot.col + 2 {
         reach(ground, counts, reached, spot, Place { row, col })?;
@@ -200,7 +167,7 @@ fn spread_along(
 }
 
 /// Spreads from a spot to the spots that it touches.
-#[tactic(auto, using(crate::proofs::Spreading::spread_none, crate::proofs::Spreading::spread_on, crate::proofs::Spreading::spread_counts, crate::proofs::Noted::noted_none, crate::proofs::Noted::noted_then))]
+#[tactic(auto, using(crate::proofs::Spreading::spread_counts))]
 fn spread(
     ground: &Ground,
     counts: &mut [u32],
@@ -210,15 +177,7 @@ fn spread(
     requires size { length counts.old ≡ area_of ground.now.bounds }
     requires counts { AreCounts counts.old }
     requires spot { IsInner ground.now.bounds spot }
-    requires inner { All (IsInner ground.now.bounds) reached.old.items }
-    ensures spread { OnOk result (IsSpread ground.now.bounds ground.now.levels.items counts.old counts.new) }
-    ensures inner { OnOk result (All (IsInner ground.now.bounds) reached.new.items) }
-    ensures near { OnOk result ((r : Place) → IsSpot ground.now.bounds r → Touches spot r →
-        level_on ground.now.bounds ground.now.levels.items spot ≡ level_on ground.now.bounds ground.now.levels.items r →
-        count_on ground.now.bounds counts.new r ≤ count_on ground.now.bounds counts.old spot + 1) }
-    ensures own { OnOk result (count_on ground.now.bounds counts.new spot ≡ count_on ground.now.bounds counts.old spot) }
-    ensures noted { OnOk result (AreNoted ground.now.bounds counts.old counts.new reached.old.items reached.new.items) }
-    ensures left { OnOk result (vec_len reached.new + sum counts.new ≤ vec_len reached.old + sum counts.old) }
+    ensures { OnOk result (IsReached ground.now.bounds ground.now.levels.items spot (Touches spot) counts.old counts.new reached.old.items reached.new.items) }
 {
     for row in spot.row - 1..spot.row + 2 {
         spread_along(ground, counts, reached, spot, row)?;
@@ -337,7 +296,8 @@ fn settle(alloc: Global, ground: &Ground, old: &[u32], counts: &mut [u32]) -> Re
     ensures { OnOk result (IsSettled ground.now.bounds ground.now.levels.items old.now counts.new) }
 {
     let reached = pull(alloc, ground, old, counts)?;
-    search(ground, counts, reached)
+    search(ground, counts, reached)?;
+    Ok(())
 }
 
 /// The counts after that search.

@@ -2,13 +2,14 @@
 use Rattle.std.proofs.Common.{◌≡◌, List, [], ◌∷◌, Option, None, Some, is_some, ℤ, pos, ◌≤ℤ◌, sym, ap, subst, refl, ◌∙◌, inl, inr}
 use Rattle.std.specs.Prelude.{unwrap_or, IsSome, MatchOption}
 use Rattle.std.proofs.lemmas.Bool.{cases_lt}
+use Rattle.std.proofs.lemmas.Option.{MatchOption-at_some, MatchOption-at_none}
 use Rattle.terrain.specs.Raster.{Terrain}
 use Rattle.terrain.specs.Neighbours.{height_at, entry_at, HasGapAround, height_of}
 use Rattle.drainage.specs.Filled.{IsPath, crest, IsFilledHeight, IsFilled}
 use Rattle.terrain.specs.declared.place.Place.{Place}
 use Rattle.terrain.proofs.Places.{entry-below, entry-beside, inside_from_entry, gap_where}
 use Rattle.drainage.proofs.Uniqueness.{between}
-use Rattle.drainage.proofs.Heights.{max_right, max_least, first_is_data, height_below_crest, trans}
+use Rattle.drainage.proofs.Heights.{known, max_right, max_least, first_is_data, height_below_crest, trans}
 
 -- the terrain of the filled heights
 abbrev pub refilled : Terrain → List (Option ℤ) → Terrain
@@ -19,23 +20,17 @@ record HasLevel (t : Terrain) (levels : List (Option ℤ)) (p : Place) (level : 
   entry : entry_at t.cols t.rows levels p ≡ Some level
   filled : IsFilledHeight t p level
 
-at_some : (P : Type 0) (Q : ℤ → Type 0) (o : Option ℤ) (x : ℤ) → o ≡ Some x → MatchOption o P Q → Q x
-at_some P Q o x e h = let m : MatchOption (Some x) P Q = subst (λ z. MatchOption z P Q) e h in m
-
-at_none : (P : Type 0) (Q : ℤ → Type 0) (o : Option ℤ) → o ≡ None → MatchOption o P Q → P
-at_none P Q o e h = let m : MatchOption None P Q = subst (λ z. MatchOption z P Q) e h in m
-
 -- what the list of filled heights has at a place
 level_at : (t : Terrain) (levels : List (Option ℤ)) → IsFilled t levels → (p : Place) (x : ℤ) → height_at t p ≡ Some x → (level : ℤ) × HasLevel t levels p level
 level_at t levels h p x e =
     let inside = inside_from_entry t.cols t.rows t.cells p x e in
-    let m = at_some (entry_at t.cols t.rows levels p ≡ None) (λ _. (level : ℤ) × (entry_at t.cols t.rows levels p ≡ Some level) × IsFilledHeight t p level) (height_at t p) x e (h.each p inside) in
+    let m = MatchOption-at_some _ _ x e (h.each p inside) in
     (m.0, record { entry = m.1; filled = m.2 })
 
 no_level_at : (t : Terrain) (levels : List (Option ℤ)) → IsFilled t levels → (p : Place) → height_at t p ≡ None → entry_at t.cols t.rows levels p ≡ None
 no_level_at t levels h p e = elim (cases_lt p.row t.rows) [
   | inl a ↦ elim (cases_lt p.col t.cols) [
-    | inl b ↦ at_none (entry_at t.cols t.rows levels p ≡ None) (λ _. (level : ℤ) × (entry_at t.cols t.rows levels p ≡ Some level) × IsFilledHeight t p level) (height_at t p) e (h.each p (a, b))
+    | inl b ↦ MatchOption-at_none _ _ e (h.each p (a, b))
     | inr n ↦ entry-beside t.cols t.rows levels p n
   ]
   | inr n ↦ entry-below t.cols t.rows levels p n
@@ -49,9 +44,8 @@ same_data_at t levels h p (Some x) e = ap is_some (level_at t levels h p x e).1.
 same_data : (t : Terrain) (levels : List (Option ℤ)) → IsFilled t levels → (p : Place) → is_some (height_at (refilled t levels) p) ≡ is_some (height_at t p)
 same_data t levels h p = same_data_at t levels h p (height_at t p) refl
 
-data_level : (t : Terrain) (levels : List (Option ℤ)) → IsFilled t levels → (p : Place) (o : Option ℤ) → height_at t p ≡ o → IsSome o → (level : ℤ) × HasLevel t levels p level
-data_level t levels h p None e d = absurd (cc)
-data_level t levels h p (Some x) e d = level_at t levels h p x e
+data_level : (t : Terrain) (levels : List (Option ℤ)) → IsFilled t levels → (p : Place) → IsSome (height_at t p) → (level : ℤ) × HasLevel t levels p level
+data_level t levels h p d = level_at t levels h p (height_of t p) (known (height_at t p) d)
 
 -- paths stay paths
 gap_again : (t : Terrain) (levels : List (Option ℤ)) → IsFilled t levels → (p : Place) → HasGapAround t p → HasGapAround (refilled t levels) p
@@ -76,7 +70,7 @@ new_height t levels p level h = ap (λ (o : Option ℤ). unwrap_or o (pos 0)) h.
 
 new_height_below : (t : Terrain) (levels : List (Option ℤ)) → IsFilled t levels → (p : Place) (rest : List Place) → IsPath t p rest → height_of (refilled t levels) p ≤ℤ crest t p rest
 new_height_below t levels h p rest path =
-    let l = data_level t levels h p (height_at t p) refl (first_is_data t p rest path) in
+    let l = data_level t levels h p (first_is_data t p rest path) in
     subst (λ z. z ≤ℤ crest t p rest) (sym (new_height t levels p l.0 l.1)) (l.1.filled.least rest path)
 
 -- no crest rises
@@ -107,7 +101,7 @@ each_again : (t : Terrain) (levels : List (Option ℤ)) → IsFilled t levels �
 each_again t levels h p None e = e
 each_again t levels h p (Some x) e =
     let seen : IsSome (height_at t p) = sym (same_data t levels h p) ∙ ap is_some e in
-    let l = data_level t levels h p (height_at t p) refl seen in
+    let l = data_level t levels h p seen in
     (l.0, l.1.entry, filled_again t levels h p l.0 l.1)
 
 pub filled_twice : (t : Terrain) (levels : List (Option ℤ)) → IsFilled t levels → IsFilled (refilled t levels) levels

@@ -1,61 +1,44 @@
 -- Which cells reach an end cell without passing a height: a test.
-use Rattle.std.proofs.Common.{◌≡◌, ℕ, zero, suc, ◌+◌, ◌<◌, Bool, true, not, ◌&&◌, ◌||◌, leb, List, [], ◌∷◌, ◌++◌, is_some, ℤ, ◌≤ℤ◌, subst, ◌∙◌, arith, inl, inr}
+use Rattle.std.proofs.Common.{◌≡◌, ℕ, zero, suc, ◌+◌, ◌*◌, ◌/◌, ◌%◌, ◌<◌, Bool, true, not, ◌&&◌, ◌||◌, leb, List, [], ◌∷◌, map, is_some, ℤ, ◌≤ℤ◌, ap, ◌∙◌, arith, inl, inr}
 use Rattle.std.specs.Prelude.{◌==◌, int_le}
-use Rattle.std.specs.List.{list_any}
-use Rattle.std.proofs.lemmas.Bool.{cases_eq, and_parts, and_from, or_left, or_right, or_cases, not-true, not_from_false, both_ways, eq-eqb, eqb-true, leb-true, le-leb, false_from_ne_true}
-use Rattle.std.proofs.lemmas.List.Folds.{list_any-append}
+use Rattle.std.specs.List.{list_any, range_with_len}
+use Rattle.std.proofs.lemmas.Bool.{and_parts, and_from, or_left, or_right, or_cases, not-true, not_from_false, both_ways, eq-eqb, eqb-true, false_from_ne_true}
+use Rattle.std.proofs.lemmas.Bool.Decides.{nat_tests}
+use Rattle.std.proofs.lemmas.List.Folds.{list_any_at, Any-from_list_any, list_any-from_Any}
+use Rattle.std.proofs.lemmas.List.FromFn.{length-map-range_with_len, get_or-map-range_with_len}
+use Rattle.std.proofs.lemmas.Nat.{div-mul-add, mod-mul-add}
 use Rattle.terrain.specs.Raster.{Terrain}
-use Rattle.terrain.specs.Neighbours.{height_at, IsDataCell, Touches, IsNeighbour, HasGapAround, IsEnd, height_of}
+use Rattle.terrain.specs.Neighbours.{height_at, index_of, IsDataCell, Touches, IsNeighbour, HasGapAround, IsEnd, height_of}
 use Rattle.terrain.specs.Sinks.{is_place}
 use Rattle.drainage.specs.Filled.{IsPath, crest}
 use Rattle.terrain.specs.declared.place.Place.{Place}
-use Rattle.terrain.proofs.Places.{make_place, inside_from_entry}
+use Rattle.terrain.proofs.Places.{make_place, same_place, index_below, inside_from_entry}
 use Rattle.terrain.proofs.Listed.{place_is, is_place_from, listed_from_any, any_from_listed}
 use Rattle.drainage.proofs.Heights.{known, first_is_data, max_left, max_right, max_least, trans}
 
--- the places of a field, and of its next row and column
-abbrev pub row_places : ℕ → ℕ → List Place
-row_places r zero = []
-row_places r (suc c) = make_place r c ∷ row_places r c
+-- the places of a field
+abbrev pub place_at : ℕ → ℕ → Place
+place_at cols n = make_place (n / cols) (n % cols)
 
 abbrev pub all_places : ℕ → ℕ → List Place
-all_places cols zero = []
-all_places cols (suc r) = row_places r cols ++ all_places cols r
+all_places cols rows = map (place_at cols) (range_with_len 0 (cols * rows))
 
 abbrev pub field : Terrain → List Place
 field t = all_places (t.cols + 1) (t.rows + 1)
 
 -- where a place of a list passes a test
-any_row : (P : Place → Bool) (r n c : ℕ) → c < n → P (make_place r c) ≡ true → list_any P (row_places r n) ≡ true
-any_row P r zero c h k = absurd (omega arith)
-any_row P r (suc n) c h k = elim (cases_eq c n) [
-  | inl e ↦ or_left (P (make_place r n)) (list_any P (row_places r n)) (subst (λ m. P (make_place r m) ≡ true) e k)
-  | inr ne ↦ or_right (P (make_place r n)) (list_any P (row_places r n)) (any_row P r n c (below c n h ne) k)
-] where
-  below : (c n : ℕ) → c < suc n → (c ≡ n → ⊥) → c < n
-  below c n h ne = omega arith
-
-pub any_place : (P : Place → Bool) (cols m : ℕ) (q : Place) → q.row < m → q.col < cols → P q ≡ true → list_any P (all_places cols m) ≡ true
-any_place P cols zero q a b k = absurd (omega arith)
-any_place P cols (suc m) q a b k =
-    list_any-append P (row_places m cols) (all_places cols m)
-    ∙ elim (cases_eq q.row m) [
-      | inl e ↦ or_left (list_any P (row_places m cols)) (list_any P (all_places cols m)) (any_row P m cols q.col b (subst (λ r. P (make_place r q.col) ≡ true) e k))
-      | inr ne ↦ or_right (list_any P (row_places m cols)) (list_any P (all_places cols m)) (any_place P cols m q (below q.row m a ne) b k)
-    ] where
-      below : (c n : ℕ) → c < suc n → (c ≡ n → ⊥) → c < n
-      below c n h ne = omega arith
+pub any_place : (P : Place → Bool) (cols rows : ℕ) (q : Place) → q.row < rows → q.col < cols → P q ≡ true → list_any P (all_places cols rows) ≡ true
+any_place P cols rows q a b k =
+    let below = index_below cols rows q a b in
+    let is : place_at cols (index_of cols q) ≡ q = same_place _ q (div-mul-add q.row cols q.col b) (mod-mul-add q.row cols q.col b) in
+    list_any_at P (all_places cols rows) (index_of cols q) q (omega (arith, length-map-range_with_len (place_at cols) 0 (cols * rows), below))
+    (ap P (get_or-map-range_with_len (place_at cols) 0 (cols * rows) (index_of cols q) (index_of cols q) q below (omega arith) ∙ is) ∙ k)
 
 pub any_found : (P : Place → Bool) (xs : List Place) → list_any P xs ≡ true → (q : Place) × (P q ≡ true)
-any_found P [] h = absurd (cc)
-any_found P (x ∷ xs) h = elim (or_cases (P x) (list_any P xs) h) [ inl a ↦ (x, a) | inr b ↦ any_found P xs b ]
+any_found P xs h = let any = Any-from_list_any P xs h in (any.1, any.4)
 
 pub any_weaker : (P Q : Place → Bool) → ((q : Place) → P q ≡ true → Q q ≡ true) → (xs : List Place) → list_any P xs ≡ true → list_any Q xs ≡ true
-any_weaker P Q w [] h = absurd (cc)
-any_weaker P Q w (x ∷ xs) h = elim (or_cases (P x) (list_any P xs) h) [
-  | inl a ↦ or_left (Q x) (list_any Q xs) (w x a)
-  | inr b ↦ or_right (Q x) (list_any Q xs) (any_weaker P Q w xs b)
-]
+any_weaker P Q w xs h = let any = Any-from_list_any P xs h in list_any-from_Any Q xs (any.0, any.1, any.2, any.3, w any.1 any.4)
 
 -- a data cell is inside
 pub data_inside : (t : Terrain) (p : Place) → IsDataCell t p → (p.row < t.rows) × (p.col < t.cols)
@@ -84,22 +67,15 @@ abbrev pub is_end_cell : Terrain → Place → Bool
 is_end_cell t p = is_data t p && (has_gap t p || list_any (is_place p) t.sinks)
 
 touches_true : (p q : Place) → touches p q ≡ true → Touches p q
-touches_true p q h =
-    let ab = and_parts (leb q.row (p.row + 1) && leb p.row (q.row + 1)) (leb q.col (p.col + 1) && leb p.col (q.col + 1)) h in
-    let a = and_parts (leb q.row (p.row + 1)) (leb p.row (q.row + 1)) ab.0 in
-    let b = and_parts (leb q.col (p.col + 1)) (leb p.col (q.col + 1)) ab.1 in
-    record {
-      row_down = leb-true q.row (p.row + 1) a.0;
-      row_up = leb-true p.row (q.row + 1) a.1;
-      col_right = leb-true q.col (p.col + 1) b.0;
-      col_left = leb-true p.col (q.col + 1) b.1;
-    }
+touches_true p q h = record {
+  row_down = grind (arith, nat_tests, h);
+  row_up = grind (arith, nat_tests, h);
+  col_right = grind (arith, nat_tests, h);
+  col_left = grind (arith, nat_tests, h);
+}
 
 true_touches : (p q : Place) → Touches p q → touches p q ≡ true
-true_touches p q h =
-    and_from (leb q.row (p.row + 1) && leb p.row (q.row + 1)) (leb q.col (p.col + 1) && leb p.col (q.col + 1))
-    (and_from (leb q.row (p.row + 1)) (leb p.row (q.row + 1)) (le-leb q.row (p.row + 1) h.row_down) (le-leb p.row (q.row + 1) h.row_up))
-    (and_from (leb q.col (p.col + 1)) (leb p.col (q.col + 1)) (le-leb q.col (p.col + 1) h.col_right) (le-leb p.col (q.col + 1) h.col_left))
+true_touches p q h = grind (arith, nat_tests, h.row_down, h.row_up, h.col_right, h.col_left)
 
 pub next_true : (t : Terrain) (p q : Place) → is_next t p q ≡ true → IsNeighbour t p q
 next_true t p q h =

@@ -2,4 +2,3 @@ pub mod Filled
 pub mod CodeNumber
 pub mod Following
 pub mod Drained
-pub mod Laws

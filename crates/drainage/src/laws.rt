@@ -1,28 +1,37 @@
 // Facts of the definitions alone.
-ghost use Rattle.drainage.specs.Laws.{EachHasFilledHeight, FallingEnds, FilledHeightsAreOne, FilledHeightsStand, FilledTwiceIsFilled};
+ghost use Rattle.std.specs.Prelude.{◌≡◌, ℤ, List, Option, Some, Contains};
+ghost use Rattle.terrain.specs.Raster.{Terrain, IsTerrain};
+ghost use Rattle.terrain.specs.Neighbours.{IsDataCell};
+ghost use Rattle.terrain.specs.declared.place.Place.{Place};
+ghost use Rattle.drainage.specs.Filled.{IsFilled, IsFilledHeight};
+ghost use Rattle.drainage.specs.Drained.{Drained, IsDraining, directed_of, AllFlowEnds};
 
 /// Each data cell has a filled height.
+#[tactic(auto, using(crate::proofs::FilledExists::filled_height))]
 pub fn each_has_filled_height()
-    ensures { EachHasFilledHeight }
+    ensures { (t : Terrain) (p : Place) → IsDataCell t p → (level : ℤ) × IsFilledHeight t p level }
 {}
 
 /// A cell has at most one filled height.
+#[tactic(auto, using(crate::proofs::Uniqueness::one_filled_height))]
 pub fn filled_heights_are_one()
-    ensures { FilledHeightsAreOne }
+    ensures { (t : Terrain) (p : Place) (l m : ℤ) → IsFilledHeight t p l → IsFilledHeight t p m → l ≡ m }
 {}
 
 /// A filled height is a height of the terrain.
 pub fn filled_heights_stand()
-    ensures { FilledHeightsStand }
+    ensures { (t : Terrain) (p : Place) (level : ℤ) → IsFilledHeight t p level → Contains t.cells (Some level) }
 {}
 
 /// The filled heights of filled heights are their own.
+#[tactic(auto, using(crate::proofs::FilledTwice::filled_twice))]
 pub fn filled_twice_is_filled()
-    ensures { FilledTwiceIsFilled }
+    ensures { (t : Terrain) (levels : List (Option ℤ)) → IsFilled t levels → IsFilled (record t { cells = levels }) levels }
 {}
 
 /// Where the pair of filled height and steps falls along each code, every flow path ends at an
 /// outlet, and has no more cells than the grid.
+#[tactic(auto, using(crate::proofs::Ends::falling_ends))]
 pub fn falling_ends()
-    ensures { FallingEnds }
+    ensures { (d : Drained) → IsTerrain d.terrain → IsDraining d → AllFlowEnds (directed_of d) }
 {}

@@ -1,7 +1,5 @@
-use Rattle.std.proofs.Common.{◌*◌, List, Option, Vec, Global, ℕ, sym, subst}
-use Rattle.std.proofs.lemmas.Result.{IfOk-weaker}
+use Rattle.std.proofs.Common.{◌*◌, List, ℕ, sym, subst}
 use Rattle.tiles.specs.Cutting.{terrain_of}
-use Rattle.drain.specs.Rounds.{IsLent, IsRound}
 use Rattle.tile_maps.specs.Maps.{AreMadeBelow}
 use Rattle.drain.specs.Window.{AreCounts, IsSettled, IsHandedOut}
 use Rattle.drain.proofs.TileRound.{lent_to, lent_small, round_from}
@@ -25,8 +23,5 @@ returns c =
     let new = c.in_ok-counts.counts.items in
     let lent = lent_to v w b old c.requires.cutting c.requires.tile c.in_ok-ground.ensures.bounds c.in_ok-old.ensures in
     let settled = subst (λ (xs : List ℕ). IsSettled b g.levels.items xs new) c.deref.ensures.value c.in_ok-counts.ensures.settled in
-    IfOk-weaker c.hand_out.result (λ (list : Vec (Option ℕ) Global). AreMadeBelow b (IsHandedOut b c.deref-2.result.now) (b.rows * b.cols) list.items)
-    (λ (list : Vec (Option ℕ) Global). IsRound (IsLent (terrain_of v) w.cells) (terrain_of v) v.cutting v.tile w.cells list.items)
-    (λ list out. round_from v w b g.levels.items old new list.items c.in_ok-ground.ensures.lawful c.in_ok-ground.ensures.bounds c.in_ok-ground.ensures.shown lent c.requires.walked settled
-    (subst (λ (xs : List ℕ). AreMadeBelow b (IsHandedOut b xs) (b.rows * b.cols) list.items) c.deref-2.ensures.value out))
-    c.hand_out.ensures
+    round_from v w b g.levels.items old new c.in_ok-list.list.items c.in_ok-ground.ensures.lawful c.in_ok-ground.ensures.bounds c.in_ok-ground.ensures.shown lent c.requires.walked settled
+    (subst (λ (xs : List ℕ). AreMadeBelow b (IsHandedOut b xs) (b.rows * b.cols) c.in_ok-list.list.items) c.deref-2.ensures.value c.in_ok-list.ensures)

@@ -11,16 +11,9 @@ look_beside-requires-2-clause-list g c =
     let end : c.loop-row.row ≡ b.rows + 1 = omega arith in
     subst (λ (n : ℕ). AreShownBelow {X = g.row.T.Denot} v.cutting.cols v.cutting.rows v.cells b (n * (b.cols + 2)) c.loop-row.list.items) end c.loop-row.invariant
 
-pub returns-clause-size : goal.returns-clause-size
-returns-clause-size g c =
+pub returns : goal.returns
+returns g c =
     let v = c.args.view.now in
     let b = c.bounds-bounds.result in
-    (shown_whole v.cutting.cols v.cutting.rows v.cells b (bounds_of v.cutting v.tile) ((b.rows + 1 + 1) * (b.cols + 2)) c.look_beside-2.new.list.items
-    c.bounds-bounds.ensures.value (omega arith) c.in_ok-look_beside-2.ensures).0
-
-pub returns-clause-shown : goal.returns-clause-shown
-returns-clause-shown g c =
-    let v = c.args.view.now in
-    let b = c.bounds-bounds.result in
-    (shown_whole v.cutting.cols v.cutting.rows v.cells b (bounds_of v.cutting v.tile) ((b.rows + 1 + 1) * (b.cols + 2)) c.look_beside-2.new.list.items
-    c.bounds-bounds.ensures.value (omega arith) c.in_ok-look_beside-2.ensures).1
+    shown_whole v.cutting.cols v.cutting.rows v.cells b (bounds_of v.cutting v.tile) ((b.rows + 1 + 1) * (b.cols + 2)) c.look_beside-2.new.list.items
+    c.bounds-bounds.ensures.value (omega arith) c.in_ok-look_beside-2.ensures

@@ -6,7 +6,7 @@ use Rattle.drain.specs.Steepness.{weights}
 use Rattle.drain.specs.declared.around.Around.{Around}
 use Rattle.drain.proofs.AmidLemmas.{drop_on}
 use Rattle.drain.proofs.Greatest.{IsFirstGreatest, is_fold, is_position}
-use Rattle.drain.proofs.Weights.{length-weights, next_greatest}
+use Rattle.drain.proofs.Weights.{length-weights, greatest_with}
 use Rattle.drain.proofs.steepness.steepest.Goals as goal
 use Rattle.drain.proofs.steepness.steepest.Goals.{then-own-weight, else-own-weight}
 
@@ -27,7 +27,7 @@ loop-way-preserved c =
       eight = c.loop-way.invariant.eight;
       greatest = λ a same.
           let has = subst (λ z. HasHeights a z c.args.heights.now) (to_z-of_z fits) same in
-          next_greatest a c.loop-way.way c.loop-way.weight c.loop-way.steepest c.weight_along-own.result
+          greatest_with a c.loop-way.way c.loop-way.weight c.loop-way.steepest c.weight_along-own.result
           c.if-own-weight.weight c.if-own-weight.steepest c.drop_along-drop.result
           (omega (arith, has.count, c.loop-way-test.true)) (c.loop-way.invariant.greatest a same)
           (drop_on a c.args.level c.args.heights.now c.loop-way.way c.drop_along-drop.result has c.loop-way-test.true drop_is) c.weight_along-own.ensures

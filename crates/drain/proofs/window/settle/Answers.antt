@@ -1,6 +1,4 @@
-use Rattle.drain.specs.Window.{IsSpread, IsEven, IsSettled}
 use Rattle.drain.proofs.Noted.{even_begin}
-use Rattle.drain.proofs.TileLists.{both_ok}
 use Rattle.drain.proofs.Spreading.{spread_not_above, spread_on, near_after}
 use Rattle.drain.proofs.window.settle.Goals as goal
 
@@ -12,10 +10,9 @@ pub returns : goal.returns
 returns c =
     let b = c.args.ground.now.bounds in
     let levels = c.args.ground.now.levels.items in
-    both_ok c.search.result (λ _. IsSpread b levels c.pull.new.counts c.search.new.counts) (λ _. IsEven b levels c.search.new.counts) (λ _. IsSettled b levels c.args.old.now c.search.new.counts)
-    (λ done spread even. record {
+    let spread = c.in_ok-search.ensures.spread in
+    record {
       spread = spread_on b levels c.args.old.now c.pull.new.counts c.search.new.counts c.in_ok-reached.ensures.spread spread;
       near = λ s inner. near_after b levels c.args.old.now c.pull.new.counts c.search.new.counts s (c.in_ok-reached.ensures.near s inner) (spread_not_above b levels c.pull.new.counts c.search.new.counts spread);
-      even = even;
-    })
-    c.search.ensures.spread c.search.ensures.even
+      even = c.in_ok-search.ensures.even;
+    }

@@ -1,7 +1,6 @@
 use Rattle.std.proofs.Common.{◌∙◌, ℕ, true, List, Option, length, sym, ap, subst, arith}
 use Rattle.std.proofs.lemmas.List.{with_items_is}
-use Rattle.drain.specs.Rounds.{rounding_of}
-use Rattle.drain.specs.Rounds.{IsNext}
+use Rattle.drain.specs.Rounds.{rounding_of, IsNext}
 use Rattle.drain.proofs.RoundLemmas.{all_still, next_round}
 use Rattle.drain.proofs.rounds.Counting.one_round.Goals as goal
 
