@@ -1,5 +1,5 @@
 -- The cell of a word, by its scaled value.
-use Rattle.std.proofs.Common.{◌≡◌, ℕ, Bool, Option, true, false, cond, None, Some, ℤ, pos, negsuc, ◌<◌, ◌^◌, arith, refl, ap, sym, ◌∙◌, inl, inr}
+use Rattle.std.proofs.Common.{◌≡◌, ℕ, Bool, Option, true, false, cond, Some, ℤ, pos, negsuc, ◌<◌, ◌^◌, arith, refl, ap, sym, ◌∙◌, inl, inr}
 use Rattle.std.specs.Prelude.{int_le, unsigned_abs}
 use Rattle.std.proofs.lemmas.Int.{fits_signed_from_abs}
 use mir.Val.{SFits}
@@ -17,7 +17,7 @@ use Rattle.ascii_grid.specs.Meaning.{meaning_of}
 use Rattle.ascii_grid.specs.declared.cell.Meaning.TheVariants.{Cell, Nothing}
 
 -- a word with a scaled value is NODATA by that value alone
-nodata_by_value : (d : ℕ) (nodata w : Word) (z : ℤ) → scaled_value d w ≡ Some z → is_nodata d nodata w ≡ same_value (Some z) (scaled_value d nodata)
+pub nodata_by_value : (d : ℕ) (nodata w : Word) (z : ℤ) → scaled_value d w ≡ Some z → is_nodata d nodata w ≡ same_value (Some z) (scaled_value d nodata)
 nodata_by_value d nodata w z e =
     elim (cases_Bool (bytes_eq w nodata)) [
       | inl equal ↦
@@ -30,22 +30,13 @@ nodata_by_value d nodata w z e =
       | inr other ↦ rw (other, e) refl
     ]
 
--- what a word with a scaled value stands for
-pub meaning_by_value : (d : ℕ) (nodata w : Word) (z : ℤ) → scaled_value d w ≡ Some z → meaning_of d nodata w ≡ cond (same_value (Some z) (scaled_value d nodata)) (Cell None) (cond (is_height z) (Cell (Some z)) Nothing)
-meaning_by_value d nodata w z e =
-    let by = nodata_by_value d nodata w z e in
-    elim (cases_Bool (same_value (Some z) (scaled_value d nodata))) [
-      | inl same ↦ let is : is_nodata d nodata w ≡ true = by ∙ same in rw (is, same) refl
-      | inr other ↦
-          let is : is_nodata d nodata w ≡ false = by ∙ other in
-          let cell : is_cell d nodata w ≡ is_height z = rw (is, e) refl in
-          let value : cell_of d nodata w ≡ Some z = rw (is, e) refl in
-          rw (cell, value, other) refl
-    ]
-
 -- a height stands for itself
 pub meaning_of_height : (d : ℕ) (nodata w : Word) (z : ℤ) → scaled_value d w ≡ Some z → same_value (Some z) (scaled_value d nodata) ≡ false → is_height z ≡ true → Cell (Some z) ≡ meaning_of d nodata w
-meaning_of_height d nodata w z e other high = sym (meaning_by_value d nodata w z e ∙ rw (other, high) refl)
+meaning_of_height d nodata w z e other high =
+    let is : is_nodata d nodata w ≡ false = nodata_by_value d nodata w z e ∙ other in
+    let cell : is_cell d nodata w ≡ true = rw (is, e) high in
+    let value : cell_of d nodata w ≡ Some z = rw (is, e) refl in
+    rw (cell, value) refl
 
 -- a meaning tells whether the word is a cell's
 pub meaning_cell : (b : Bool) (c cell : Option ℤ) → cond b (Cell c) Nothing ≡ Cell cell → (b ≡ true) × (c ≡ cell)

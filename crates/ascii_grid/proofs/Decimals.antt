@@ -1,11 +1,19 @@
--- The digits of a number, from the last on.
-use Rattle.std.proofs.Common.{◌≡◌, ℕ, zero, suc, ◌+◌, ◌*◌, ◌/◌, ◌%◌, ◌^◌, ◌<◌, ◌≤◌, ◌-◌, List, [], ◌∷◌, ◌++◌, length, drop, set, sym, ap, refl, ◌∙◌, arith, add-one, false}
+-- The digits of a number, written and read again.
+use Rattle.std.proofs.Common.{◌≡◌, ℕ, zero, suc, ◌+◌, ◌*◌, ◌/◌, ◌%◌, ◌^◌, ◌<◌, ◌≤◌, ◌-◌, List, [], ◌∷◌, ◌++◌, length, drop, set, sym, ap, refl, ◌∙◌, arith, add-one, false, true, leb}
 use Rattle.std.specs.Prelude.{decimal, ℤ, pos, negsuc, ◌<ℤ◌, unsigned_abs}
-use Rattle.std.proofs.Math.Nat.{div-le_self, div-div-eq-div-mul, pow-succ', div-one}
+use Rattle.std.proofs.Math.Nat.{div-div-eq-div-mul, pow-succ', div-one}
 use lib.Signed.{le_z}
-use Rattle.std.proofs.lemmas.Fmt.{length-decimal-le}
+use Rattle.std.proofs.lemmas.Fmt.{length-decimal-le, decimal_by_steps, decimal_nonempty}
 use Rattle.std.proofs.lemmas.Grind.{drop-set_at}
 use Rattle.ascii_grid.specs.Text.{last_digits, decimals_text, height_text}
+use Rattle.std.specs.List.{list_all}
+use Rattle.std.specs.Char.{is_ascii_digit}
+use Rattle.std.proofs.lemmas.Bool.{and_from, le-leb}
+use Rattle.std.proofs.lemmas.List.{append_assoc, append-nil, length-append}
+use Rattle.std.proofs.lemmas.List.Folds.{list_all-append}
+use Rattle.std.proofs.lemmas.List.Sums.{fold-append}
+use Rattle.terrain.specs.Words.{is_word}
+use Rattle.terrain.specs.Decimal.{number_of, are_digits}
 
 -- one digit more is one power of ten more
 pub div_pow : (n k : ℕ) → n / 10 / 10 ^ k ≡ n / 10 ^ (suc k)
@@ -38,10 +46,6 @@ pub height_text-negative : (d : ℕ) (z : ℤ) → z <ℤ pos 0 → height_text 
 height_text-negative d (pos n) h = absurd (grind (arith, h))
 height_text-negative d (negsuc n) h = refl
 
--- the whole part has at most ten digits
-pub few_whole_digits : (n m whole : ℕ) → whole ≡ n / m → n < 2 ^ 32 → length (decimal whole) ≤ 10
-few_whole_digits n m whole e h = few_digits whole (omega (arith, e, div-le_self n m))
-
 -- a height's text, once its sign is put before the rest
 pub signed_text : (d size whole start end : ℕ) (z : ℤ) (buffer decimals : List ℕ) →
     le_z (pos 0) z ≡ false → size ≡ unsigned_abs z → whole ≡ size / 10 ^ d →
@@ -56,3 +60,62 @@ signed_text d size whole start end z buffer decimals below is_size is_whole some
     ∙ ap (λ n. 45 ∷ (decimal n ++ decimals_text d size)) is_whole
     ∙ ap (λ n. 45 ∷ (decimal (n / 10 ^ d) ++ decimals_text d n)) is_size
     ∙ sym (height_text-negative d z (grind (arith, below)))
+
+-- one digit more
+pub number_of-push : (ds : List ℕ) (b : ℕ) → number_of (ds ++ b ∷ []) ≡ 10 * number_of ds + (b - 48)
+number_of-push ds b = fold-append (λ n c. 10 * n + (c - 48)) 0 ds (b ∷ [])
+
+last_value : (n m : ℕ) → m ≡ n / 10 → 10 * m + (48 + n % 10 - 48) ≡ n
+last_value n m e = omega (arith, e)
+
+pub decimal_value : (n : ℕ) → n < 2 ^ 64 → number_of (decimal n) ≡ n
+decimal_value n h =
+    decimal_by_steps (λ m ds. number_of ds ≡ m)
+    (λ m k. omega arith)
+    (λ m ds k e. number_of-push ds (48 + m % 10) ∙ last_value m (number_of ds) e)
+    n h
+
+digit_of : (m : ℕ) → m < 10 → is_ascii_digit (48 + m) ≡ true
+digit_of m h = and_from (leb 48 (48 + m)) (leb (48 + m) 57) (le-leb 48 (48 + m) (omega arith)) (le-leb (48 + m) 57 (omega arith))
+
+digits_push : (ds : List ℕ) (m : ℕ) → m < 10 → list_all is_ascii_digit ds ≡ true → list_all is_ascii_digit (ds ++ (48 + m) ∷ []) ≡ true
+digits_push ds m h k =
+    list_all-append is_ascii_digit ds ((48 + m) ∷ [])
+    ∙ and_from (list_all is_ascii_digit ds) (list_all is_ascii_digit ((48 + m) ∷ [])) k (and_from (is_ascii_digit (48 + m)) true (digit_of m h) refl)
+
+pub decimal_digits : (n : ℕ) → n < 2 ^ 64 → list_all is_ascii_digit (decimal n) ≡ true
+decimal_digits n h =
+    decimal_by_steps (λ m ds. list_all is_ascii_digit ds ≡ true)
+    (λ m k. digits_push [] m k refl)
+    (λ m ds k e. digits_push ds (m % 10) (omega arith) e)
+    n h
+
+pub decimal_word : (n : ℕ) → n < 2 ^ 64 → is_word (decimal n) ≡ true
+decimal_word n h = some (decimal n) (decimal_nonempty n h)
+  where
+    some : (ds : List ℕ) → 0 < length ds → is_word ds ≡ true
+    some [] h = absurd (omega arith)
+    some (d ∷ ds) h = refl
+
+pub decimal_are_digits : (n : ℕ) → n < 2 ^ 64 → are_digits (decimal n) ≡ true
+decimal_are_digits n h = and_from (is_word (decimal n)) (list_all is_ascii_digit (decimal n)) (decimal_word n h) (decimal_digits n h)
+
+pub last_digits_digits : (d n : ℕ) → list_all is_ascii_digit (last_digits d n) ≡ true
+last_digits_digits zero n = refl
+last_digits_digits (suc d) n = digits_push (last_digits d (n / 10)) (n % 10) (omega arith) (last_digits_digits d (n / 10))
+
+pub length-last_digits : (d n : ℕ) → length (last_digits d n) ≡ d
+length-last_digits zero n = refl
+length-last_digits (suc d) n =
+    let e = length-last_digits d (n / 10) in
+    omega (arith, e, length-append (last_digits d (n / 10)) ((48 + n % 10) ∷ []))
+
+-- the whole part and the decimals, read as one number
+pub scaled_digits : (d n : ℕ) → n < 2 ^ 64 → number_of (decimal (n / 10 ^ d) ++ last_digits d n) ≡ n
+scaled_digits zero n h = ap number_of (append-nil (decimal (n / 10 ^ 0))) ∙ ap (λ m. number_of (decimal m)) (div-one n) ∙ decimal_value n h
+scaled_digits (suc d) n h =
+    let small : n / 10 < 2 ^ 64 = omega arith in
+    ap number_of (sym (append_assoc (decimal (n / 10 ^ suc d)) (last_digits d (n / 10)) ((48 + n % 10) ∷ [])))
+    ∙ number_of-push (decimal (n / 10 ^ suc d) ++ last_digits d (n / 10)) (48 + n % 10)
+    ∙ ap (λ m. 10 * number_of (decimal m ++ last_digits d (n / 10)) + (48 + n % 10 - 48)) (sym (div_pow n d))
+    ∙ last_value n (number_of (decimal (n / 10 / 10 ^ d) ++ last_digits d (n / 10))) (scaled_digits d (n / 10) small)

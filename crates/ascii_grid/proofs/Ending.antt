@@ -16,10 +16,9 @@ use Rattle.ascii_grid.specs.declared.fault.GridFault.TheVariants.{TooLong, Memor
 use Rattle.ascii_grid.specs.declared.judge.Judge.{Judge}
 use Rattle.ascii_grid.specs.declared.judge.Stage.TheVariants.{AtHeights}
 use Rattle.ascii_grid.specs.declared.progress.Progress.{Progress}
-use Rattle.ascii_grid.proofs.Parting.{words-parted, IsParted-byte, IsParted-separator, ended_words-separator}
+use Rattle.ascii_grid.proofs.Parting.{words-parted, IsParted-byte, IsParted-separator}
 use Rattle.ascii_grid.proofs.Judging.{Pairs, HasBegun-push}
-use Rattle.ascii_grid.proofs.JudgedWords.{at_heights}
-use Rattle.ascii_grid.proofs.Told.{is_memory, word_fault, long_fault, height_word}
+use Rattle.ascii_grid.proofs.JudgedWords.{at_heights, is_memory, word_fault, long_fault, height_word}
 
 -- ---- the bytes kept
 
@@ -38,10 +37,6 @@ filter-word : (w : Word) → 0 < length w → filter is_word (w ∷ []) ≡ w �
 filter-word [] h = absurd (omega arith)
 filter-word (b ∷ bs) h = refl
 
--- a word of at most 64 bytes was kept whole
-whole : (w : Word) → length (take 65 w) ≤ 64 → take 65 w ≡ w
-whole w h = take_all 65 w (let k : length w ≤ 65 = omega (arith, length-take 65 w) in k)
-
 words-last : (p : Progress) (text : List ℕ) (h : HasWords p text) → 0 < length p.word → words text ≡ h.ended ++ h.last ∷ []
 words-last p text h some =
     let size = ap length h.front in
@@ -51,7 +46,7 @@ words-last p text h some =
 pub ended_ok : (p : Progress) (j : Judge) (text : List ℕ) (h : HasWords p text) → 0 < length p.word → length p.word ≤ 64 → HasJudged j (h.ended ++ p.word ∷ []) → HasJudged j (words text)
 ended_ok p j text h some short k =
     let size = ap length h.front in
-    let same : p.word ≡ h.last = h.front ∙ whole h.last (omega arith) in
+    let same : p.word ≡ h.last = h.front ∙ take_all 65 h.last (omega (arith, length-take 65 h.last)) in
     subst (HasJudged j) (ap (λ w. h.ended ++ w ∷ []) same ∙ sym (words-last p text h some)) k
 
 pub ended_fault : (p : Progress) (text : List ℕ) (f : GridFault) (h : HasWords p text) → 0 < length p.word → (64 < length p.word → f ≡ TooLong) → IsWordFault p.judge.scale (h.ended ++ p.word ∷ []) f → IsWordFault p.judge.scale (words text) f
@@ -63,7 +58,7 @@ ended_fault p text f h some long k =
           let at : words_fault p.judge.scale (words text) ≡ Some TooLong = ap (words_fault p.judge.scale) (words-last p text h some) ∙ long_fault p.judge h.ended h.last h.judged more in
           word_fault p.judge.scale (words text) f (ap (λ g. is_memory (Some g)) (long far)) (at ∙ ap Some (sym (long far)))
       | inr near ↦
-          let same : p.word ≡ h.last = h.front ∙ whole h.last (omega arith) in
+          let same : p.word ≡ h.last = h.front ∙ take_all 65 h.last (omega (arith, length-take 65 h.last)) in
           subst (λ ws. IsWordFault p.judge.scale ws f) (ap (λ w. h.ended ++ w ∷ []) same ∙ sym (words-last p text h some)) k
     ]
 
@@ -87,9 +82,6 @@ words_after_separator p p' text b h e k = record {
   front = k.0;
 }
 
-pub fault_after_separator : (d : ℕ) (text : List ℕ) (b : ℕ) (f : GridFault) → is_separator b ≡ true → IsWordFault d (words text) f → IsWordFault d (ended_words (text ++ b ∷ [])) f
-fault_after_separator d text b f e k = subst (λ ws. IsWordFault d ws f) (sym (ended_words-separator text b e)) k
-
 -- the bytes of a piece up to this place, and one more
 more_bytes : (text bytes : List ℕ) (i b : ℕ) → i < length bytes → b ≡ get_or bytes i 0 → (text ++ take i bytes) ++ b ∷ [] ≡ text ++ take (i + 1) bytes
 more_bytes text bytes i b inside at =
@@ -111,18 +103,13 @@ IsParted-bytes text ws w (b ∷ more) h none =
     let next = IsParted-bytes (text ++ b ∷ []) ws (w ++ b ∷ []) more (IsParted-byte text ws w b h parts.0) parts.1 in
     subst (λ t. IsParted t ws (w ++ b ∷ more)) (append_assoc text (b ∷ []) more) (subst (λ z. IsParted ((text ++ b ∷ []) ++ more) ws z) (append_assoc w (b ∷ []) more) next)
 
--- nothing of a word in progress
-none_last : (p : Progress) (text : List ℕ) (h : HasWords p text) → p.word ≡ [] → h.last ≡ []
-none_last p text h e =
-    let size = ap length (sym h.front ∙ e) in
-    nil_from_length h.last (omega (arith, length-take 65 h.last))
-
 -- a word whole in a piece, with the separator behind it
 parted_plain : (p : Progress) (text bytes : List ℕ) (len b : ℕ) (h : HasWords p text) → p.word ≡ [] → list_any is_separator (take len bytes) ≡ false → 0 < len → len < length bytes → b ≡ get_or bytes len 0 → is_separator b ≡ true → IsParted (text ++ take (len + 1) bytes) (h.ended ++ take len bytes ∷ []) []
 parted_plain p text bytes len b h e none some inside at ends =
     let w = take len bytes in
     let more : 0 < length w = omega (arith, length-take len bytes) in
-    let begun = subst (λ z. IsParted text h.ended z) (none_last p text h e) h.parted in
+    let last : h.last ≡ [] = nil_from_length h.last (omega (arith, ap length (sym h.front ∙ e), length-take 65 h.last)) in
+    let begun = subst (λ z. IsParted text h.ended z) last h.parted in
     let whole = IsParted-bytes text h.ended [] w begun none in
     let all : words (text ++ w) ≡ h.ended ++ w ∷ [] = words-parted (text ++ w) h.ended w whole ∙ ap (λ z. h.ended ++ z) (filter-word w more) in
     let bytes_are : (text ++ w) ++ b ∷ [] ≡ text ++ take (len + 1) bytes = more_bytes text bytes len b inside at in
@@ -144,12 +131,9 @@ plain_word p j text bytes len b value r h none stage plain inside at ends header
     (λ _ more. record { ended = h.ended ++ w ∷ []; last = []; parted = parted; judged = more; front = none })
     (λ f fault. (len + 1, omega arith, subst (λ ws. IsWordFault p.judge.scale ws f) (sym parted.ended) fault))
 
-same_front : (text bytes rest : List ℕ) (at n : ℕ) → rest ≡ drop at bytes → (text ++ take at bytes) ++ take n rest ≡ text ++ take (at + n) bytes
+pub same_front : (text bytes rest : List ℕ) (at n : ℕ) → rest ≡ drop at bytes → (text ++ take at bytes) ++ take n rest ≡ text ++ take (at + n) bytes
 same_front text bytes rest at n e =
     append_assoc text (take at bytes) (take n rest) ∙ ap (λ z. text ++ z) (ap (λ z. take at bytes ++ take n z) e ∙ sym (take-add at n bytes))
-
-pub words_further : (p : Progress) (text bytes rest : List ℕ) (at n : ℕ) → rest ≡ drop at bytes → HasWords p ((text ++ take at bytes) ++ take n rest) → HasWords p (text ++ take (at + n) bytes)
-words_further p text bytes rest at n e h = subst (HasWords p) (same_front text bytes rest at n e) h
 
 pub fault_further : (d d' : ℕ) (text bytes rest : List ℕ) (at : ℕ) (f : GridFault) → d' ≡ d → rest ≡ drop at bytes → at ≤ length bytes → (n : ℕ) × (n ≤ length rest) × IsWordFault d' (ended_words ((text ++ take at bytes) ++ take n rest)) f → (n : ℕ) × (n ≤ length bytes) × IsWordFault d (ended_words (text ++ take n bytes)) f
 fault_further d d' text bytes rest at f same e within k =

@@ -1,43 +1,39 @@
--- What a judge has kept after one more word, and the fault of a word that has one.
-use Rattle.std.proofs.Common.{◌≡◌, ℕ, ◌+◌, ◌<◌, ◌≤◌, Bool, true, false, cond, List, [], ◌∷◌, ◌++◌, length, take, Option, None, Some, arith, refl, ap, sym, ◌∙◌, subst, inl, inr}
-use Rattle.std.specs.Prelude.{MatchOption}
+-- What a judge has kept after one more word, and what is told of a word that has a fault.
+use Rattle.std.proofs.Common.{◌≡◌, ℕ, ◌+◌, ◌<◌, ◌≤◌, Bool, true, false, cond, List, [], ◌∷◌, ◌++◌, length, take, Option, None, Some, arith, refl, ap, sym, ◌∙◌, subst, inl, inr, nat_lt, ◌⊎◌, Result, MatchResult}
+use Rattle.std.specs.Prelude.{MatchOption, option_map}
 use Rattle.std.specs.Option.{option_or, option_map_or}
 use Rattle.std.specs.List.{list_any}
 use Rattle.std.proofs.Math.Bool.{or-false}
 use Rattle.std.proofs.lemmas.Bool.{cases_Bool, lt-ltb, le-ltb}
-use Rattle.std.proofs.lemmas.List.{append-nil, append_assoc, map_push, length-map}
+use Rattle.std.proofs.lemmas.List.{append-nil, append_assoc, length-append, map_push, length-map}
 use Rattle.terrain.specs.Words.{Word}
 use Rattle.ascii_grid.specs.Header.{fills, slot_of, is_long, is_value, bad_value, begins_with_letter, header_words, height_words, key_left, nodata_for, header_fault, key_fault, value_fault, missing_fault}
-use Rattle.ascii_grid.specs.GridText.{AsksForCells, is_cell, cell_of, cells_wanted, words_fault, heights_fault, height_fault, AsksAtHeight}
+use Rattle.ascii_grid.specs.GridText.{AsksForCells, is_cell, cell_of, cells_wanted, words_fault, heights_fault, height_fault, AsksAtHeight, IsTold}
 use Rattle.ascii_grid.specs.Slots.{is_given, is_centre, with_value}
-use Rattle.ascii_grid.specs.Reading.{flat, slots_of, keys_before, IsHeaderOf, AwaitsValue, HasBegun, AreHeights, IsAt, HasJudged}
+use Rattle.ascii_grid.specs.Reading.{flat, slots_of, keys_before, IsHeaderOf, AwaitsValue, HasBegun, AreHeights, IsAt, HasJudged, IsWordFault}
 use Rattle.ascii_grid.specs.declared.fault.Key.{Key}
 use Rattle.ascii_grid.specs.declared.fault.GridFault.{GridFault}
-use Rattle.ascii_grid.specs.declared.fault.GridFault.TheVariants.{UnknownKey, RepeatedKey, BadHeight, TooMany, TooLong}
+use Rattle.ascii_grid.specs.declared.fault.GridFault.TheVariants.{UnknownKey, RepeatedKey, TooLong, MissingKey, BadHeight, TooMany, Memory}
 use Rattle.ascii_grid.specs.declared.header.Header.{Header}
 use Rattle.ascii_grid.specs.declared.judge.Stage.{Stage}
 use Rattle.ascii_grid.specs.declared.judge.Stage.TheVariants.{AtKey, AtValue, AtHeights}
 use Rattle.ascii_grid.specs.declared.judge.Judge.{Judge}
-use Rattle.ascii_grid.proofs.Judging.{Pairs, header_words-flat, height_words-flat, key_left-flat, flat-push, are_keys-push, header_fault-flat, list_any-keys_before, is_given-slots_of, with_value-slots_of, words_fault-key, words_fault-value, words_fault-heights, header_words-begun, height_words-begun, heights_fault-push}
+use Rattle.ascii_grid.proofs.Judging.{Pairs, or_none, then_none, words-flat, key_left-flat, flat-push, are_keys-push, header_fault-flat, list_any-keys_before, is_given-slots_of, with_value-slots_of, words_fault-flat, words_fault-key, words_fault-value, words_fault-heights, words-begun, heights_fault-push, HasBegun-push}
+use Rattle.std.proofs.lemmas.Result.{MatchResult-weaker}
+use Rattle.ascii_grid.specs.declared.fault.Key.TheVariants.{Ncols}
 
 -- ---- where a judge stands
 
-at : (j : Judge) (ws : List Word) (h : HasJudged j ws) (s : Stage) → j.stage ≡ s → IsAt j h.pairs h.rest s
-at j ws h s e = subst (λ z. IsAt j h.pairs h.rest z) e h.at
-
-stand : (j : Judge) (ps : Pairs) (rest : List Word) (s : Stage) → j.stage ≡ s → IsAt j ps rest s → IsAt j ps rest j.stage
-stand j ps rest s e t = subst (λ z. IsAt j ps rest z) (sym e) t
-
 pub at_key : (j : Judge) (ws : List Word) (h : HasJudged j ws) → j.stage ≡ AtKey → ws ≡ flat h.pairs
-at_key j ws h e = h.words ∙ ap (λ z. flat h.pairs ++ z) (at j ws h AtKey e) ∙ append-nil (flat h.pairs)
+at_key j ws h e = h.words ∙ ap (λ z. flat h.pairs ++ z) (rw e at h.at) ∙ append-nil (flat h.pairs)
 
 pub at_value : (j : Judge) (ws : List Word) (h : HasJudged j ws) (slot : Key) (centre : Bool) → j.stage ≡ AtValue slot centre → (k : Word) × (ws ≡ flat h.pairs ++ k ∷ []) × AwaitsValue h.pairs k slot centre
 at_value j ws h slot centre e =
-    let there = at j ws h (AtValue slot centre) e in
+    let there = rw e at h.at in
     (there.0, h.words ∙ ap (λ z. flat h.pairs ++ z) there.1, there.2)
 
 pub at_heights : (j : Judge) (ws : List Word) (h : HasJudged j ws) → j.stage ≡ AtHeights → HasBegun h.rest × AreHeights j h.pairs h.rest
-at_heights j ws h e = at j ws h AtHeights e
+at_heights j ws h e = subst (IsAt j h.pairs h.rest) e h.at
 
 -- ---- a key
 
@@ -56,10 +52,6 @@ fault_of_slot ps o = option_map_or (λ slot. cond (list_any (fills slot) (keys_b
 key_fault-short : (ps : Pairs) (k : Word) → length k ≤ 64 → key_fault (keys_before ps []) k ≡ fault_of_slot ps (slot_of k)
 key_fault-short ps k h = rw (is_short k h) refl
 
-pub key_fault-none : (ps : Pairs) (k : Word) (slot : Key) → length k ≤ 64 → slot_of k ≡ Some slot → is_given (slots_of ps) slot ≡ false → key_fault (keys_before ps []) k ≡ None
-key_fault-none ps k slot h s free =
-    key_fault-short ps k h ∙ ap (fault_of_slot ps) s ∙ ap (λ b. cond b (Some (RepeatedKey slot)) None) (repeats slot ps ∙ free)
-
 slot_fault : (ps : Pairs) (o : Option Key) (f : GridFault) → MatchOption o (f ≡ UnknownKey) (λ slot. (is_given (slots_of ps) slot ≡ true) × (f ≡ RepeatedKey slot)) → fault_of_slot ps o ≡ Some f
 slot_fault ps None f e = ap Some (sym e)
 slot_fault ps (Some slot) f e = ap (λ b. cond b (Some (RepeatedKey slot)) None) (repeats slot ps ∙ e.0) ∙ ap Some (sym e.1)
@@ -67,20 +59,22 @@ slot_fault ps (Some slot) f e = ap (λ b. cond b (Some (RepeatedKey slot)) None)
 pub judged-key : (j j' : Judge) (ws : List Word) (w : Word) (slot : Key) → HasJudged j ws → j.stage ≡ AtKey → length w ≤ 64 → begins_with_letter w ≡ true → slot_of w ≡ Some slot → is_given j.header slot ≡ false → j'.header ≡ j.header → j'.stage ≡ AtValue slot (is_centre w) → HasJudged j' (ws ++ w ∷ [])
 judged-key j j' ws w slot h e short letter s free same stage =
     let none : is_given (slots_of h.pairs) slot ≡ false = ap (λ x. is_given x slot) (sym h.header.slots) ∙ free in
-    let awaits : AwaitsValue h.pairs w slot (is_centre w) = record { letter = letter; faultless = key_fault-none h.pairs w slot short s none; key_is = s; named = refl; free = none } in
+    let awaits : AwaitsValue h.pairs w slot (is_centre w) = record { letter = letter; faultless = key_fault-short h.pairs w short ∙ ap (fault_of_slot h.pairs) s ∙ ap (λ b. cond b (Some (RepeatedKey slot)) None) (repeats slot h.pairs ∙ none); key_is = s; named = refl; free = none } in
     record {
       pairs = h.pairs;
       rest = w ∷ [];
       words = ap (λ z. z ++ w ∷ []) (at_key j ws h e);
       header = same_header j.header j'.header h.pairs same h.header;
-      at = stand j' h.pairs (w ∷ []) (AtValue slot (is_centre w)) stage (w, refl, awaits);
+      at = rw stage (w, refl, awaits);
     }
 
-pub fault-key : (j : Judge) (d : ℕ) (ws : List Word) (w : Word) (f : GridFault) → HasJudged j ws → j.stage ≡ AtKey → length w ≤ 64 → begins_with_letter w ≡ true → MatchOption (slot_of w) (f ≡ UnknownKey) (λ slot. (is_given j.header slot ≡ true) × (f ≡ RepeatedKey slot)) → words_fault d (ws ++ w ∷ []) ≡ Some f
-fault-key j d ws w f h e short letter m =
-    ap (λ z. words_fault d (z ++ w ∷ [])) (at_key j ws h e)
-    ∙ words_fault-key d h.pairs w h.header.keys h.header.faultless letter
-    ∙ key_fault-short h.pairs w short
+-- the fault of a word in a key's place
+pub next-key : (j : Judge) (ws : List Word) (w : Word) (h : HasJudged j ws) → j.stage ≡ AtKey → begins_with_letter w ≡ true → words_fault j.scale (ws ++ w ∷ []) ≡ key_fault (keys_before h.pairs []) w
+next-key j ws w h e letter = ap (λ z. words_fault j.scale (z ++ w ∷ [])) (at_key j ws h e) ∙ words_fault-key j.scale h.pairs w h.header.keys h.header.faultless letter
+
+pub fault-key : (j : Judge) (ws : List Word) (w : Word) (f : GridFault) → HasJudged j ws → j.stage ≡ AtKey → length w ≤ 64 → begins_with_letter w ≡ true → MatchOption (slot_of w) (f ≡ UnknownKey) (λ slot. (is_given j.header slot ≡ true) × (f ≡ RepeatedKey slot)) → words_fault j.scale (ws ++ w ∷ []) ≡ Some f
+fault-key j ws w f h e short letter m =
+    next-key j ws w h e letter ∙ key_fault-short h.pairs w short
     ∙ slot_fault h.pairs (slot_of w) f (subst (λ x. MatchOption (slot_of w) (f ≡ UnknownKey) (λ slot. (is_given x slot ≡ true) × (f ≡ RepeatedKey slot))) h.header.slots m)
 
 -- ---- a value
@@ -105,27 +99,30 @@ judged-value j j' ws v slot centre h e short ok same stage =
         faultless = ap (header_fault []) (flat-push h.pairs k v) ∙ none;
         slots = same ∙ ap (λ x. with_value x slot centre v) h.header.slots ∙ ap (λ b. with_value (slots_of h.pairs) slot b v) awaits.named ∙ with_value-slots_of slot h.pairs k v awaits.key_is awaits.free;
       };
-      at = stand j' (h.pairs ++ (k, v) ∷ []) [] AtKey stage refl;
+      at = rw stage refl;
     }
 
-pub fault-value : (j : Judge) (d : ℕ) (ws : List Word) (v : Word) (slot : Key) (centre : Bool) → HasJudged j ws → j.stage ≡ AtValue slot centre → length v ≤ 64 → is_value slot v ≡ false → words_fault d (ws ++ v ∷ []) ≡ Some (bad_value slot)
-fault-value j d ws v slot centre h e short bad =
+-- the fault of a word in a value's place
+pub next-value : (j : Judge) (ws : List Word) (v : Word) (slot : Key) (centre : Bool) (h : HasJudged j ws) (e : j.stage ≡ AtValue slot centre) → words_fault j.scale (ws ++ v ∷ []) ≡ value_fault (at_value j ws h slot centre e).0 v
+next-value j ws v slot centre h e =
     let there = at_value j ws h slot centre e in
-    let k = there.0 in
-    let awaits = there.2 in
-    ap (λ z. words_fault d (z ++ v ∷ [])) there.1
-    ∙ ap (words_fault d) (append_assoc (flat h.pairs) (k ∷ []) (v ∷ []))
-    ∙ words_fault-value d h.pairs k v h.header.keys h.header.faultless awaits.letter awaits.faultless
-    ∙ value_fault-short k v slot short awaits.key_is
+    ap (words_fault j.scale) (ap (λ z. z ++ v ∷ []) there.1 ∙ append_assoc (flat h.pairs) (there.0 ∷ []) (v ∷ []))
+    ∙ words_fault-value j.scale h.pairs there.0 v h.header.keys h.header.faultless there.2.letter there.2.faultless
+
+pub fault-value : (j : Judge) (ws : List Word) (v : Word) (slot : Key) (centre : Bool) → HasJudged j ws → j.stage ≡ AtValue slot centre → length v ≤ 64 → is_value slot v ≡ false → words_fault j.scale (ws ++ v ∷ []) ≡ Some (bad_value slot)
+fault-value j ws v slot centre h e short bad =
+    let there = at_value j ws h slot centre e in
+    next-value j ws v slot centre h e
+    ∙ value_fault-short there.0 v slot short there.2.key_is
     ∙ ap (λ b. cond b None (Some (bad_value slot))) bad
 
 -- ---- heights
 
-pub header_before : (h : Header) (ps : Pairs) (hs : List Word) → IsHeaderOf h ps → HasBegun hs → header_words (flat ps ++ hs) ≡ flat ps
-header_before h ps hs k begun = header_words-flat ps hs k.keys ∙ ap (λ z. flat ps ++ z) (header_words-begun hs begun) ∙ append-nil (flat ps)
-
-pub heights_after : (h : Header) (ps : Pairs) (hs : List Word) → IsHeaderOf h ps → HasBegun hs → height_words (flat ps ++ hs) ≡ hs
-heights_after h ps hs k begun = height_words-flat ps hs k.keys ∙ height_words-begun hs begun
+pub words-after : (h : Header) (ps : Pairs) (hs : List Word) → IsHeaderOf h ps → HasBegun hs → (header_words (flat ps ++ hs) ≡ flat ps) × (height_words (flat ps ++ hs) ≡ hs)
+words-after h ps hs k begun =
+    let both = words-flat ps hs k.keys in
+    let rest = words-begun hs begun in
+    (both.0 ∙ ap (λ z. flat ps ++ z) rest.0 ∙ append-nil (flat ps), both.1 ∙ rest.1)
 
 pub paired : (ps : Pairs) → key_left (flat ps) ≡ None
 paired ps = ap key_left (sym (append-nil (flat ps))) ∙ key_left-flat ps []
@@ -133,31 +130,18 @@ paired ps = ap key_left (sym (append-nil (flat ps))) ∙ key_left-flat ps []
 -- the list of cells is asked for once the header is whole
 pub asks : (h : Header) (ps : Pairs) (hs : List Word) → IsHeaderOf h ps → HasBegun hs → missing_fault (flat ps) ≡ None → list_any is_long (take 1 hs) ≡ false → AsksForCells (flat ps ++ hs)
 asks h ps hs k begun whole first =
-    let header = header_before h ps hs k begun in
-    let heights = heights_after h ps hs k begun in
+    let are = words-after h ps hs k begun in
     record {
-      faultless = ap (header_fault []) header ∙ k.faultless;
-      paired = ap key_left header ∙ paired ps;
-      given = ap missing_fault header ∙ whole;
-      first = ap (λ z. list_any is_long (take 1 z)) heights ∙ first;
+      faultless = ap (header_fault []) are.0 ∙ k.faultless;
+      paired = ap key_left are.0 ∙ paired ps;
+      given = ap missing_fault are.0 ∙ whole;
+      first = ap (λ z. list_any is_long (take 1 z)) are.1 ∙ first;
     }
 
-pub some_height : (ps : Pairs) (hs : List Word) (h : Header) → IsHeaderOf h ps → HasBegun hs → 0 < length (height_words (flat ps ++ hs))
-some_height ps [] h k begun = absurd begun
-some_height ps (x ∷ hs) h k begun = rw (height_words-flat ps (x ∷ hs) k.keys, height_words-begun (x ∷ hs) begun) (omega arith)
-
 -- where the heights so far have no fault, the first of them isn't long
-first_none : (d : ℕ) (header hs : List Word) → heights_fault d header 0 hs ≡ None → list_any is_long (take 1 hs) ≡ false
-first_none d header [] none = refl
-first_none d header (x ∷ hs) none =
-    elim (cases_Bool (is_long x)) [
-      | inl long ↦ let clash : heights_fault d header 0 (x ∷ hs) ≡ Some TooLong = rw long refl in absurd (cc)
-      | inr short ↦ rw short refl
-    ]
-
 first_short : (d : ℕ) (header hs : List Word) (w : Word) → length w ≤ 64 → heights_fault d header 0 hs ≡ None → list_any is_long (take 1 (hs ++ w ∷ [])) ≡ false
 first_short d header [] w short none = rw (is_short w short) refl
-first_short d header (x ∷ hs) w short none = first_none d header (x ∷ hs) none
+first_short d header (x ∷ hs) w short none = rw (then_none (is_long x) TooLong _ (or_none (height_fault d header 0 x) _ none).0).0 refl
 
 -- the words after a header, one more height among them
 pub judged-height : (j j' : Judge) (ws : List Word) (ps : Pairs) (hs : List Word) (w : Word) → IsHeaderOf j.header ps → ws ≡ flat ps ++ hs → HasBegun (hs ++ w ∷ []) → AreHeights j' ps (hs ++ w ∷ []) → j'.header ≡ j.header → j'.stage ≡ AtHeights → HasJudged j' (ws ++ w ∷ [])
@@ -166,39 +150,25 @@ judged-height j j' ws ps hs w k e begun heights same stage = record {
   rest = hs ++ w ∷ [];
   words = ap (λ z. z ++ w ∷ []) e ∙ append_assoc (flat ps) hs (w ∷ []);
   header = same_header j.header j'.header ps same k;
-  at = stand j' ps (hs ++ w ∷ []) AtHeights stage (begun, heights);
+  at = subst (IsAt j' ps (hs ++ w ∷ [])) (sym stage) (begun, heights);
 }
 
 -- the fault of one more height
-pub fault-height : (j : Judge) (ws : List Word) (ps : Pairs) (hs : List Word) (w : Word) (f : GridFault) (h : Header) → IsHeaderOf h ps → ws ≡ flat ps ++ hs → HasBegun (hs ++ w ∷ []) → AreHeights j ps hs → height_fault j.scale (flat ps) (length hs) w ≡ Some f → words_fault j.scale (ws ++ w ∷ []) ≡ Some f
-fault-height j ws ps hs w f h k e begun heights fault =
-    ap (words_fault j.scale) (ap (λ z. z ++ w ∷ []) e ∙ append_assoc (flat ps) hs (w ∷ []))
-    ∙ words_fault-heights j.scale ps (hs ++ w ∷ []) k.keys k.faultless begun
-    ∙ heights_fault-push j.scale (flat ps) 0 hs w
-    ∙ ap (λ o. option_or o (height_fault j.scale (flat ps) (0 + length hs) w)) heights.faultless
-    ∙ ap (λ n. height_fault j.scale (flat ps) n w) (omega arith)
-    ∙ fault
+pub next-height : (d : ℕ) (ws : List Word) (ps : Pairs) (hs : List Word) (w : Word) (h : Header) → IsHeaderOf h ps → ws ≡ flat ps ++ hs → HasBegun (hs ++ w ∷ []) → heights_fault d (flat ps) 0 hs ≡ None → words_fault d (ws ++ w ∷ []) ≡ height_fault d (flat ps) (length hs) w
+next-height d ws ps hs w h k e begun none =
+    ap (words_fault d) (ap (λ z. z ++ w ∷ []) e ∙ append_assoc (flat ps) hs (w ∷ []))
+    ∙ words_fault-heights d ps (hs ++ w ∷ []) k.keys k.faultless begun
+    ∙ heights_fault-push d (flat ps) 0 hs w
+    ∙ ap (λ o. option_or o (height_fault d (flat ps) (0 + length hs) w)) none
+    ∙ ap (λ n. height_fault d (flat ps) n w) (omega arith)
 
 -- no memory at a height
 pub memory-height : (j : Judge) (ws : List Word) (ps : Pairs) (hs : List Word) (w : Word) (h : Header) → IsHeaderOf h ps → ws ≡ flat ps ++ hs → HasBegun (hs ++ w ∷ []) → missing_fault (flat ps) ≡ None → heights_fault j.scale (flat ps) 0 hs ≡ None → length w ≤ 64 → AsksAtHeight (ws ++ w ∷ [])
 memory-height j ws ps hs w h k e begun whole none short =
     let words : ws ++ w ∷ [] ≡ flat ps ++ (hs ++ w ∷ []) = ap (λ z. z ++ w ∷ []) e ∙ append_assoc (flat ps) hs (w ∷ []) in
-    rw words (asks h ps (hs ++ w ∷ []) k begun whole (first_short j.scale (flat ps) hs w short none), some_height ps (hs ++ w ∷ []) h k begun)
-
--- the first height, after a header that isn't whole
-pub fault-first : (d : ℕ) (ws : List Word) (ps : Pairs) (w : Word) (f : GridFault) (h : Header) → IsHeaderOf h ps → ws ≡ flat ps → begins_with_letter w ≡ false → length w ≤ 64 → missing_fault (flat ps) ≡ Some f → words_fault d (ws ++ w ∷ []) ≡ Some f
-fault-first d ws ps w f h k e begun short missing =
-    ap (λ z. words_fault d (z ++ w ∷ [])) e
-    ∙ words_fault-heights d ps (w ∷ []) k.keys k.faultless begun
-    ∙ rw (is_short w short, missing) refl
+    rw words (asks h ps (hs ++ w ∷ []) k begun whole (first_short j.scale (flat ps) hs w short none), rw ((words-after h ps (hs ++ w ∷ []) k begun).1) (omega (arith, length-append hs (w ∷ []))))
 
 -- ---- the heights that a judge keeps
-
-pub height_fault-more : (d : ℕ) (header : List Word) (place : ℕ) (w : Word) → length w ≤ 64 → missing_fault header ≡ None → cells_wanted header ≤ place → height_fault d header place w ≡ Some TooMany
-height_fault-more d header place w short whole over = rw (is_short w short, whole, le-ltb place (cells_wanted header) over) refl
-
-pub height_fault-bad : (d : ℕ) (header : List Word) (place : ℕ) (w : Word) → length w ≤ 64 → missing_fault header ≡ None → place < cells_wanted header → is_cell d (nodata_for header) w ≡ false → height_fault d header place w ≡ Some (BadHeight place)
-height_fault-bad d header place w short whole room bad = rw (is_short w short, whole, lt-ltb place (cells_wanted header) room, bad) refl
 
 pub height_fault-none : (d : ℕ) (header : List Word) (place : ℕ) (w : Word) → length w ≤ 64 → missing_fault header ≡ None → place < cells_wanted header → is_cell d (nodata_for header) w ≡ true → height_fault d header place w ≡ None
 height_fault-none d header place w short whole room ok = rw (is_short w short, whole, lt-ltb place (cells_wanted header) room, ok) refl
@@ -217,3 +187,109 @@ AreHeights-push j j' ps hs w h short room ok wanted nodata value scale cells = r
   faultless = rw scale (heights_fault-push j.scale (flat ps) 0 hs w ∙ ap (λ o. option_or o (height_fault j.scale (flat ps) (0 + length hs) w)) h.faultless ∙ height_fault-none j.scale (flat ps) (0 + length hs) w short h.whole (omega (arith, place_of j ps hs h, h.wanted, room)) (ap (λ n. is_cell j.scale n w) (sym h.nodata) ∙ ok));
   cells = cells ∙ rw (scale, nodata) (ap (λ z. z ++ cell_of j.scale j.nodata w ∷ []) h.cells ∙ sym (map_push (cell_of j.scale j.nodata) hs w));
 }
+
+-- words that were judged have no fault
+pub judged_none : (j : Judge) (ws : List Word) → HasJudged j ws → words_fault j.scale ws ≡ None
+judged_none j ws h = by_stage j.stage refl
+  where
+    by_stage : (s : Stage) → j.stage ≡ s → words_fault j.scale ws ≡ None
+    by_stage AtKey e =
+        ap (words_fault j.scale) (at_key j ws h e ∙ sym (append-nil (flat h.pairs)))
+        ∙ words_fault-flat j.scale h.pairs [] [] [] h.header.keys h.header.faultless refl refl
+    by_stage (AtValue slot centre) e =
+        let there = at_value j ws h slot centre e in
+        ap (words_fault j.scale) there.1 ∙ words_fault-key j.scale h.pairs there.0 h.header.keys h.header.faultless there.2.letter ∙ there.2.faultless
+    by_stage AtHeights e =
+        let there = at_heights j ws h e in
+        ap (words_fault j.scale) h.words
+        ∙ words_fault-heights j.scale h.pairs h.rest h.header.keys h.header.faultless there.0
+        ∙ there.1.faultless
+
+-- want of memory
+abbrev pub is_memory : Option GridFault → Bool
+is_memory None = false
+is_memory (Some Memory) = true
+is_memory (Some f) = false
+
+told_or : (o p : Option GridFault) → is_memory o ≡ false → is_memory p ≡ false → is_memory (option_or o p) ≡ false
+told_or None p h k = k
+told_or (Some f) p h k = h
+
+pub told_bad_value : (slot : Key) → is_memory (Some (bad_value slot)) ≡ false
+told_bad_value Ncols = refl
+told_bad_value slot = refl
+
+told_cond : (b : Bool) (o p : Option GridFault) → is_memory o ≡ false → is_memory p ≡ false → is_memory (cond b o p) ≡ false
+told_cond true o p h k = h
+told_cond false o p h k = k
+
+-- the fault of a key word
+pub told_slot : (o : Option Key) (given : Key → Type 0) (f : GridFault) → MatchOption o (f ≡ UnknownKey) (λ slot. given slot × (f ≡ RepeatedKey slot)) → is_memory (Some f) ≡ false
+told_slot None given f e = ap (λ g. is_memory (Some g)) e
+told_slot (Some slot) given f e = ap (λ g. is_memory (Some g)) e.1
+
+told_missing_slot : (o : Option Key) → is_memory (option_map MissingKey o) ≡ false
+told_missing_slot None = refl
+told_missing_slot (Some slot) = refl
+
+pub told_missing : (header : List Word) → is_memory (missing_fault header) ≡ false
+told_missing header = told_missing_slot _
+
+told_height : (d : ℕ) (header : List Word) (place : ℕ) (w : Word) → is_memory (height_fault d header place w) ≡ false
+told_height d header place w =
+    told_cond (is_long w) (Some TooLong) _ refl
+    (told_or (missing_fault header) _ (told_missing header)
+    (told_cond (nat_lt place (cells_wanted header)) _ (Some TooMany) (told_cond (is_cell d (nodata_for header) w) None (Some (BadHeight place)) refl refl) refl))
+
+-- ---- the fault that is told
+
+pub told : (may_lack : Type 0) (o : Option GridFault) (f : GridFault) → is_memory o ≡ false → o ≡ Some f → IsTold may_lack o f
+told may_lack o Memory m h = absurd (let k : is_memory o ≡ true = ap is_memory h in cc)
+told may_lack o f m h = h
+
+-- what is told here is told there
+pub told_further : (may_lack may_lack' : Type 0) (o o' : Option GridFault) (f : GridFault) → (may_lack → may_lack') → ((g : GridFault) → o ≡ Some g → o' ≡ Some g) → IsTold may_lack o f → IsTold may_lack' o' f
+told_further may_lack may_lack' o o' Memory lacks more h = lacks h
+told_further may_lack may_lack' o o' f lacks more h = more f h
+
+pub word_fault : (d : ℕ) (ws : List Word) (f : GridFault) → is_memory (Some f) ≡ false → words_fault d ws ≡ Some f → IsWordFault d ws f
+word_fault d ws f other h = told (AsksAtHeight ws) (words_fault d ws) f (ap is_memory h ∙ other) h
+
+pub memory_fault : (d : ℕ) (ws : List Word) (f : GridFault) → f ≡ Memory → AsksAtHeight ws → IsWordFault d ws f
+memory_fault d ws f e h = rw e h
+
+-- a word of more than 64 bytes
+pub long_fault : (j : Judge) (ws : List Word) (w : Word) → HasJudged j ws → 64 < length w → words_fault j.scale (ws ++ w ∷ []) ≡ Some TooLong
+long_fault j ws w h far = by_stage j.stage refl
+  where
+    long : is_long w ≡ true
+    long = lt-ltb 64 (length w) far
+
+    by_stage : (s : Stage) → j.stage ≡ s → words_fault j.scale (ws ++ w ∷ []) ≡ Some TooLong
+    by_stage AtKey e =
+        elim (cases_Bool (begins_with_letter w)) [
+          | inl letter ↦ next-key j ws w h e letter ∙ rw long refl
+          | inr begun ↦ next-height j.scale ws h.pairs [] w j.header h.header (at_key j ws h e ∙ sym (append-nil (flat h.pairs))) begun refl ∙ rw long refl
+        ]
+    by_stage (AtValue slot centre) e = next-value j ws w slot centre h e ∙ rw long refl
+    by_stage AtHeights e =
+        let there = at_heights j ws h e in
+        next-height j.scale ws h.pairs h.rest w j.header h.header h.words (HasBegun-push h.rest w there.0) there.1.faultless ∙ rw long refl
+
+-- a height, the first or a further one
+pub height_word : {T : Type 0} (j j' : Judge) (ws : List Word) (ps : Pairs) (hs : List Word) (w : Word) (r : Result T GridFault) → IsHeaderOf j.header ps → ws ≡ flat ps ++ hs → HasBegun (hs ++ w ∷ []) → AreHeights j ps hs → length w ≤ 64 → j'.header ≡ j.header → j'.stage ≡ AtHeights → MatchResult r (λ _. AreHeights j' ps (hs ++ w ∷ [])) (λ f. (f ≡ Memory) ⊎ (height_fault j.scale (flat ps) (length hs) w ≡ Some f)) → MatchResult r (λ _. HasJudged j' (ws ++ w ∷ [])) (IsWordFault j.scale (ws ++ w ∷ []))
+height_word j j' ws ps hs w r k e begun heights short same stage m =
+    MatchResult-weaker r m (λ _ more. judged-height j j' ws ps hs w k e begun more same stage)
+    (λ f why. elim why [
+      | inl lack ↦ memory_fault j.scale (ws ++ w ∷ []) f lack (memory-height j ws ps hs w j.header k e begun heights.whole heights.faultless short)
+      | inr fault ↦ word_fault j.scale (ws ++ w ∷ []) f (ap is_memory (sym fault) ∙ told_height j.scale (flat ps) (length hs) w) (next-height j.scale ws ps hs w j.header k e begun heights.faultless ∙ fault)
+    ])
+
+-- no first height: the header isn't whole, or there is no memory
+pub no_first_height : (j : Judge) (ws : List Word) (w : Word) (f : GridFault) (h : HasJudged j ws) → j.stage ≡ AtKey → begins_with_letter w ≡ false → length w ≤ 64 → (missing_fault (flat h.pairs) ≡ Some f) ⊎ ((f ≡ Memory) × (missing_fault (flat h.pairs) ≡ None)) → IsWordFault j.scale (ws ++ w ∷ []) f
+no_first_height j ws w f h stage begun short why =
+    let e = at_key j ws h stage ∙ sym (append-nil (flat h.pairs)) in
+    elim why [
+      | inl missing ↦ word_fault j.scale (ws ++ w ∷ []) f (ap is_memory (sym missing) ∙ told_missing (flat h.pairs)) (next-height j.scale ws h.pairs [] w j.header h.header e begun refl ∙ rw (is_short w short, missing) refl)
+      | inr lack ↦ memory_fault j.scale (ws ++ w ∷ []) f lack.0 (memory-height j ws h.pairs [] w j.header h.header e begun lack.1 refl short)
+    ]

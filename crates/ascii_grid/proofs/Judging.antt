@@ -1,14 +1,14 @@
 -- One more word of a text: what it does to the header, the heights and the first fault.
 use Rattle.std.proofs.Common.{◌≡◌, ℕ, ◌+◌, Bool, true, false, ◌||◌, cond, ◌==◌, List, [], ◌∷◌, ◌++◌, length, Option, None, Some, arith, refl, ap, sym, ◌∙◌}
-use Rattle.std.specs.Prelude.{find, is_some, unwrap_or, option_map, codes}
+use Rattle.std.specs.Prelude.{find, is_some, unwrap_or, option_map}
 use Rattle.std.specs.Option.{option_or, option_map_or}
 use Rattle.std.specs.List.{list_any, list_all}
-use Rattle.std.proofs.lemmas.Bool.{and_parts}
+use Rattle.std.proofs.lemmas.Bool.{and_parts, eq-eqb}
 use Rattle.std.proofs.lemmas.List.{append-nil}
-use Rattle.std.proofs.lemmas.List.Folds.{find-append}
+use Rattle.std.proofs.lemmas.List.Folds.{find-append, list_all-append}
 use Rattle.terrain.specs.Words.{Word}
 use Rattle.terrain.specs.Decimal.{number_of}
-use Rattle.ascii_grid.specs.Header.{fills, slot_of, slot_number, begins_with_letter, header_words, height_words, pairs, key_left, nodata_for, header_fault, key_fault, value_fault, missing_fault}
+use Rattle.ascii_grid.specs.Header.{fills, slot_of, slot_number, begins_with_letter, header_words, height_words, pairs, key_left, header_fault, key_fault, value_fault, missing_fault}
 use Rattle.ascii_grid.specs.GridText.{cells_wanted, words_fault, heights_fault, height_fault}
 use Rattle.ascii_grid.specs.Slots.{is_given, is_centre, with_value, missing_of, wanted_of}
 use Rattle.ascii_grid.specs.Reading.{flat, given, slots_of, keys_before, HasBegun}
@@ -54,17 +54,15 @@ else_none false o x h = cc
 
 -- ---- pairs and what follows them
 
-pub header_words-flat : (ps : Pairs) (rest : List Word) → are_keys ps ≡ true → header_words (flat ps ++ rest) ≡ flat ps ++ header_words rest
-header_words-flat [] rest h = refl
-header_words-flat (p ∷ ps) rest h =
+pub words-flat : (ps : Pairs) (rest : List Word) → are_keys ps ≡ true → (header_words (flat ps ++ rest) ≡ flat ps ++ header_words rest) × (height_words (flat ps ++ rest) ≡ height_words rest)
+words-flat [] rest h = (refl, refl)
+words-flat (p ∷ ps) rest h =
     let k = and_parts (begins_with_letter p.0) (are_keys ps) h in
-    rw k.0 (ap (λ z. p.0 ∷ p.1 ∷ z) (header_words-flat ps rest k.1))
+    let more = words-flat ps rest k.1 in
+    rw k.0 (ap (λ z. p.0 ∷ p.1 ∷ z) more.0, more.1)
 
-pub height_words-flat : (ps : Pairs) (rest : List Word) → are_keys ps ≡ true → height_words (flat ps ++ rest) ≡ height_words rest
-height_words-flat [] rest h = refl
-height_words-flat (p ∷ ps) rest h =
-    let k = and_parts (begins_with_letter p.0) (are_keys ps) h in
-    rw k.0 (height_words-flat ps rest k.1)
+pub words-whole : (ps : Pairs) → are_keys ps ≡ true → (header_words (flat ps) ≡ flat ps) × (height_words (flat ps) ≡ [])
+words-whole ps h = rw append-nil at (words-flat ps [] h)
 
 pub key_left-flat : (ps : Pairs) (rest : List Word) → key_left (flat ps ++ rest) ≡ key_left rest
 key_left-flat [] rest = refl
@@ -79,10 +77,7 @@ flat-push [] k v = refl
 flat-push (p ∷ ps) k v = ap (λ z. p.0 ∷ p.1 ∷ z) (flat-push ps k v)
 
 pub are_keys-push : (ps : Pairs) (k v : Word) → are_keys ps ≡ true → begins_with_letter k ≡ true → are_keys (ps ++ (k, v) ∷ []) ≡ true
-are_keys-push [] k v h b = rw b refl
-are_keys-push (p ∷ ps) k v h b =
-    let parts = and_parts (begins_with_letter p.0) (are_keys ps) h in
-    rw parts.0 (are_keys-push ps k v parts.1 b)
+are_keys-push ps k v h b = list_all-append (λ (p : Word × Word). begins_with_letter p.0) ps ((k, v) ∷ []) ∙ rw (h, b) refl
 
 pub header_fault-flat : (before : List Word) (ps : Pairs) (rest : List Word) → header_fault before (flat ps ++ rest) ≡ option_or (header_fault before (flat ps)) (header_fault (keys_before ps before) rest)
 header_fault-flat before [] rest = refl
@@ -110,9 +105,6 @@ pub missing_of-slots_of : (ps : Pairs) → missing_of (slots_of ps) ≡ missing_
 missing_of-slots_of ps =
     rw (pairs-flat ps, is_given-slots_of Ncols ps, is_given-slots_of Nrows ps, is_given-slots_of Xll ps, is_given-slots_of Yll ps, is_given-slots_of Cellsize ps) refl
 
-pub nodata-slots_of : (ps : Pairs) → unwrap_or (slots_of ps).nodata (codes "-9999") ≡ nodata_for (flat ps)
-nodata-slots_of ps = rw (pairs-flat ps) refl
-
 pub number-of_pair : (o : Option (Word × Word)) → unwrap_or (option_map (λ (p : Word × Word). number_of p.1) o) 0 ≡ number_of (unwrap_or (option_map (λ (p : Word × Word). p.1) o) [])
 number-of_pair None = refl
 number-of_pair (Some p) = refl
@@ -138,16 +130,12 @@ with_value-at Yll p ps qs h = rw (h.0, h.1 Ncols refl, h.1 Nrows refl, h.1 Xll r
 with_value-at Cellsize p ps qs h = rw (h.0, h.1 Ncols refl, h.1 Nrows refl, h.1 Xll refl, h.1 Yll refl, h.1 Nodata refl) refl
 with_value-at Nodata p ps qs h = rw (h.0, h.1 Ncols refl, h.1 Nrows refl, h.1 Xll refl, h.1 Yll refl, h.1 Cellsize refl) refl
 
-same_number : (slot : Key) → (slot_number slot == slot_number slot) ≡ true
-same_number Ncols = refl
-same_number slot = refl
-
 -- one more pair fills its slot
 pub with_value-slots_of : (slot : Key) (ps : Pairs) (k v : Word) → slot_of k ≡ Some slot → is_given (slots_of ps) slot ≡ false → with_value (slots_of ps) slot (is_centre k) v ≡ slots_of (ps ++ (k, v) ∷ [])
 with_value-slots_of slot ps k v h free =
     let none = none_from_is_some (given slot ps) (sym (is_given-slots_of slot ps) ∙ free) in
     with_value-at slot (k, v) ps (ps ++ (k, v) ∷ []) (
-      given-push slot slot ps k v h ∙ rw (none, same_number slot) refl,
+      given-push slot slot ps k v h ∙ rw (none, eq-eqb (slot_number slot) (slot_number slot) refl) refl,
       λ s other. given-push s slot ps k v h ∙ rw other (option_or-none (given s ps)),
     )
 
@@ -155,8 +143,8 @@ with_value-slots_of slot ps k v h free =
 
 pub words_fault-flat : (d : ℕ) (ps : Pairs) (rest header heights : List Word) → are_keys ps ≡ true → header_fault [] (flat ps) ≡ None → header_words rest ≡ header → height_words rest ≡ heights → words_fault d (flat ps ++ rest) ≡ option_or (header_fault (keys_before ps []) header) (heights_fault d (flat ps ++ header) 0 heights)
 words_fault-flat d ps rest header heights keys none h k =
-    let front : header_words (flat ps ++ rest) ≡ flat ps ++ header = header_words-flat ps rest keys ∙ ap (λ z. flat ps ++ z) h in
-    let back : height_words (flat ps ++ rest) ≡ heights = height_words-flat ps rest keys ∙ k in
+    let front : header_words (flat ps ++ rest) ≡ flat ps ++ header = (words-flat ps rest keys).0 ∙ ap (λ z. flat ps ++ z) h in
+    let back : height_words (flat ps ++ rest) ≡ heights = (words-flat ps rest keys).1 ∙ k in
     let first : header_fault [] (flat ps ++ header) ≡ header_fault (keys_before ps []) header = header_fault-flat [] ps header ∙ ap (λ o. option_or o (header_fault (keys_before ps []) header)) none in
     rw (front, back, first) refl
 
@@ -172,15 +160,11 @@ words_fault-value d ps k v keys none b first =
     ∙ option_or-none (header_fault (keys_before ps []) (k ∷ v ∷ []))
     ∙ rw first (option_or-none (value_fault k v))
 
-pub header_words-begun : (hs : List Word) → HasBegun hs → header_words hs ≡ []
-header_words-begun [] h = absurd h
-header_words-begun (x ∷ []) h = rw h refl
-header_words-begun (x ∷ y ∷ hs) h = rw h refl
-
-pub height_words-begun : (hs : List Word) → HasBegun hs → height_words hs ≡ hs
-height_words-begun [] h = absurd h
-height_words-begun (x ∷ []) h = rw h refl
-height_words-begun (x ∷ y ∷ hs) h = rw h refl
+-- words that begin with no letter are all heights
+pub words-begun : (hs : List Word) → HasBegun hs → (header_words hs ≡ []) × (height_words hs ≡ hs)
+words-begun [] h = absurd h
+words-begun (x ∷ []) h = (rw h refl, rw h refl)
+words-begun (x ∷ y ∷ hs) h = (rw h refl, rw h refl)
 
 pub HasBegun-push : (hs : List Word) (w : Word) → HasBegun hs → HasBegun (hs ++ w ∷ [])
 HasBegun-push [] w h = absurd h
@@ -189,7 +173,7 @@ HasBegun-push (x ∷ hs) w h = h
 -- heights
 pub words_fault-heights : (d : ℕ) (ps : Pairs) (hs : List Word) → are_keys ps ≡ true → header_fault [] (flat ps) ≡ None → HasBegun hs → words_fault d (flat ps ++ hs) ≡ heights_fault d (flat ps) 0 hs
 words_fault-heights d ps hs keys none h =
-    words_fault-flat d ps hs [] hs keys none (header_words-begun hs h) (height_words-begun hs h)
+    words_fault-flat d ps hs [] hs keys none (words-begun hs h).0 (words-begun hs h).1
     ∙ ap (λ z. heights_fault d z 0 hs) (append-nil (flat ps))
 
 pub heights_fault-push : (d : ℕ) (header : List Word) (place : ℕ) (hs : List Word) (w : Word) → heights_fault d header place (hs ++ w ∷ []) ≡ option_or (heights_fault d header place hs) (height_fault d header (place + length hs) w)

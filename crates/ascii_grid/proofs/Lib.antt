@@ -3,29 +3,22 @@ mod Rows
 -- words of a text, and what they are worth
 pub mod Parting
 pub mod Scaled
-pub mod PlainNumbers
 pub mod Cells
 -- one more word: the header, the heights, the first fault
 pub mod Judging
 pub mod JudgedWords
-pub mod Told
 pub mod Stays
 -- a text by pieces, to its end
 pub mod Ending
-pub mod Whole
 pub mod Spelled
 pub mod Feeding
 pub mod Taking
-pub mod TextLaws
 -- the written text, and its length
 pub mod Writing
 pub mod Decimals
 pub mod RowText
 pub mod TextLength
 -- the written text, read again
-pub mod ReadBackWords
 pub mod ReadBackDecimals
-pub mod ReadBackNumbers
-pub mod ReadBackHeights
 pub mod ReadBackCells
 pub mod ReadBack

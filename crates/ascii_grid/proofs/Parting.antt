@@ -1,75 +1,41 @@
--- One more byte of a text: what it does to the ended words and to the word in progress.
-use Rattle.std.proofs.Common.{◌≡◌, ℕ, ◌+◌, ◌-◌, ◌<◌, ◌≤◌, Bool, true, false, not, cond, List, [], ◌∷◌, ◌++◌, length, take, arith, refl, ap, sym, ◌∙◌, inl, inr}
+-- One more byte of a text, what it does to the ended words and to the word in progress, and the words of a written text.
+use Rattle.std.proofs.Common.{◌≡◌, ℕ, ◌+◌, ◌-◌, ◌≤◌, Bool, true, false, not, cond, List, [], ◌∷◌, ◌++◌, length, take, arith, refl, ap, sym, ◌∙◌, inl, inr, zero, suc, ◌*◌, ◌<◌, drop, map, Option}
 use Rattle.std.specs.Prelude.{filter}
-use Rattle.std.specs.List.{slice_split, onto_first, before_last, suffix_len, prefix_len}
-use Rattle.std.proofs.lemmas.Bool.{cases_Bool}
-use Rattle.std.proofs.lemmas.List.{reverse-append, length-append, take_at, take-append-le}
-use Rattle.std.proofs.lemmas.List.Elements.{filter-append}
-use Rattle.std.proofs.lemmas.List.Splits.{slice_split-cons_yes, slice_split-cons_no}
+use Rattle.std.specs.List.{slice_split, onto_first, before_last, suffix_len, prefix_len, All, list_any, filter, join_with_byte}
+use Rattle.std.proofs.lemmas.Bool.{cases_Bool, cond-true, cond-false, or_parts}
+use Rattle.std.proofs.lemmas.List.{append-nil, append_assoc, reverse-append, length-append, take_at, take-append-le, map-append, take-append-drop, length-take-le, length-drop}
+use Rattle.std.proofs.lemmas.List.Elements.{filter-append, All-head, All-tail, All-take, All-drop}
+use Rattle.std.proofs.lemmas.List.Splits.{slice_split-cons_yes, slice_split-cons_no, length-slice_split}
 use Rattle.terrain.specs.Words.{Word, is_word, is_separator, words, ended_words}
 use Rattle.ascii_grid.specs.Reading.{IsParted}
+use Rattle.ascii_grid.specs.Text.{cell_text, rows_text}
 
--- the parts with one more byte in the last
-onto_last : ℕ → List Word → List Word
-onto_last b [] = []
-onto_last b (part ∷ []) = (part ++ b ∷ []) ∷ []
-onto_last b (part ∷ next ∷ parts) = part ∷ onto_last b (next ∷ parts)
+-- the parts of two texts, one after another: the last of the one and the first of the other are one part
+abbrev Continues : (ℕ → Bool) → List ℕ → List ℕ → Word → List Word → Type 0
+Continues p xs ys first rest = (front : List Word) (last : Word) → slice_split p xs ≡ front ++ last ∷ [] → slice_split p (xs ++ ys) ≡ front ++ (last ++ first) ∷ rest
 
-onto_last-append : (b : ℕ) (parts : List Word) (w : Word) → onto_last b (parts ++ w ∷ []) ≡ parts ++ (w ++ b ∷ []) ∷ []
-unfolding onto_last
-onto_last-append b [] w = refl
-onto_last-append b (part ∷ []) w = refl
-onto_last-append b (part ∷ next ∷ parts) w = ap (λ z. part ∷ z) (onto_last-append b (next ∷ parts) w)
-
--- a text has one part at least
-some_part : (p : ℕ → Bool) (xs : List ℕ) → (part : Word) × (parts : List Word) × (slice_split p xs ≡ part ∷ parts)
-some_part p [] = ([], [], refl)
-some_part p (x ∷ xs) =
+split-append : (p : ℕ → Bool) (xs ys : List ℕ) (first : Word) (rest : List Word) → slice_split p ys ≡ first ∷ rest → Continues p xs ys first rest
+split-append p [] ys first rest k [] last h = let none : [] ≡ last = cc in rw (← none) k
+split-append p [] ys first rest k (part ∷ front) last h = absurd (omega (arith, ap length h, length-append front (last ∷ [])))
+split-append p (x ∷ xs) ys first rest k front last h =
+    let more = split-append p xs ys first rest k in
     elim (cases_Bool (p x)) [
-      | inl here ↦ ([], slice_split p xs, slice_split-cons_yes p x xs here)
-      | inr apart ↦
-          let more = some_part p xs in
-          (x ∷ more.0, more.1, slice_split-cons_no p x xs apart ∙ ap (onto_first x) more.2)
+      | inl here ↦ slice_split-cons_yes p x (xs ++ ys) here ∙ opened more front (sym (slice_split-cons_yes p x xs here) ∙ h)
+      | inr apart ↦ slice_split-cons_no p x (xs ++ ys) apart ∙ joined more (slice_split p xs) front refl (sym (slice_split-cons_no p x xs apart) ∙ h)
     ]
+  where
+    opened : Continues p xs ys first rest → (front : List Word) → [] ∷ slice_split p xs ≡ front ++ last ∷ [] → [] ∷ slice_split p (xs ++ ys) ≡ front ++ (last ++ first) ∷ rest
+    opened more [] e = absurd (omega (arith, ap length e, length-slice_split p xs))
+    opened more (part ∷ front) e = let next = more front last (cc) in cc
 
-onto_last-cons : (b : ℕ) (part : Word) (parts : List Word) → 0 < length parts → onto_last b (part ∷ parts) ≡ part ∷ onto_last b parts
-unfolding onto_last
-onto_last-cons b part [] h = absurd (omega arith)
-onto_last-cons b part (next ∷ parts) h = refl
-
-onto_last-onto_first : (b x : ℕ) (part : Word) (parts : List Word) → onto_last b (onto_first x (part ∷ parts)) ≡ onto_first x (onto_last b (part ∷ parts))
-unfolding onto_last
-onto_last-onto_first b x part [] = refl
-onto_last-onto_first b x part (next ∷ parts) = refl
-
-slice_split-push_no : (p : ℕ → Bool) (xs : List ℕ) (b : ℕ) → p b ≡ false → slice_split p (xs ++ b ∷ []) ≡ onto_last b (slice_split p xs)
-unfolding onto_last
-slice_split-push_no p [] b h = slice_split-cons_no p b [] h
-slice_split-push_no p (x ∷ xs) b h =
-    let more = slice_split-push_no p xs b h in
-    let some = some_part p xs in
-    elim (cases_Bool (p x)) [
-      | inl here ↦
-          slice_split-cons_yes p x (xs ++ b ∷ []) here ∙ ap (λ z. [] ∷ z) more
-          ∙ sym (ap (onto_last b) (slice_split-cons_yes p x xs here) ∙ onto_last-cons b [] (slice_split p xs) (rw some.2 (omega arith)))
-      | inr apart ↦
-          slice_split-cons_no p x (xs ++ b ∷ []) apart ∙ ap (onto_first x) (more ∙ ap (onto_last b) some.2)
-          ∙ sym (ap (onto_last b) (slice_split-cons_no p x xs apart ∙ ap (onto_first x) some.2) ∙ onto_last-onto_first b x some.0 some.1)
-    ]
-
-slice_split-push_yes : (p : ℕ → Bool) (xs : List ℕ) (b : ℕ) → p b ≡ true → slice_split p (xs ++ b ∷ []) ≡ slice_split p xs ++ [] ∷ []
-slice_split-push_yes p [] b h = slice_split-cons_yes p b [] h
-slice_split-push_yes p (x ∷ xs) b h =
-    let more = slice_split-push_yes p xs b h in
-    let some = some_part p xs in
-    elim (cases_Bool (p x)) [
-      | inl here ↦
-          slice_split-cons_yes p x (xs ++ b ∷ []) here ∙ ap (λ z. [] ∷ z) more
-          ∙ sym (ap (λ z. z ++ [] ∷ []) (slice_split-cons_yes p x xs here))
-      | inr apart ↦
-          slice_split-cons_no p x (xs ++ b ∷ []) apart ∙ ap (onto_first x) (more ∙ ap (λ z. z ++ [] ∷ []) some.2)
-          ∙ sym (ap (λ z. z ++ [] ∷ []) (slice_split-cons_no p x xs apart ∙ ap (onto_first x) some.2))
-    ]
+    joined : Continues p xs ys first rest → (parts front : List Word) → slice_split p xs ≡ parts → onto_first x parts ≡ front ++ last ∷ [] → onto_first x (slice_split p (xs ++ ys)) ≡ front ++ (last ++ first) ∷ rest
+    joined more [] front s e = absurd (omega (arith, ap length s, length-slice_split p xs))
+    joined more (part ∷ parts) [] s e =
+        let same : x ∷ part ≡ last = cc in
+        ap (onto_first x) (more [] part (cc)) ∙ ap (λ w. (w ++ first) ∷ rest) same
+    joined more (part ∷ parts) (begun ∷ front) s e =
+        let same : x ∷ part ≡ begun = cc in
+        ap (onto_first x) (more (part ∷ front) last (cc)) ∙ ap (λ w. w ∷ front ++ (last ++ first) ∷ rest) same
 
 -- ---- what a separator ends
 
@@ -102,7 +68,7 @@ IsParted-none = record { parts = []; split = refl; kept = refl; ended = refl }
 pub IsParted-byte : (text : List ℕ) (ws : List Word) (w : Word) (b : ℕ) → IsParted text ws w → is_separator b ≡ false → IsParted (text ++ b ∷ []) ws (w ++ b ∷ [])
 IsParted-byte text ws w b h e = record {
   parts = h.parts;
-  split = slice_split-push_no is_separator text b e ∙ ap (onto_last b) h.split ∙ onto_last-append b h.parts w;
+  split = split-append is_separator text (b ∷ []) (b ∷ []) [] (slice_split-cons_no is_separator b [] e) h.parts w h.split;
   kept = h.kept;
   ended = ap words (before_last-no is_separator text b e) ∙ h.ended;
 }
@@ -113,7 +79,51 @@ ended_words-separator text b e = ap words (before_last-yes is_separator text b e
 pub IsParted-separator : (text : List ℕ) (ws : List Word) (w : Word) (b : ℕ) → IsParted text ws w → is_separator b ≡ true → IsParted (text ++ b ∷ []) (words text) []
 IsParted-separator text ws w b h e = record {
   parts = h.parts ++ w ∷ [];
-  split = slice_split-push_yes is_separator text b e ∙ ap (λ z. z ++ [] ∷ []) h.split;
+  split =
+      split-append is_separator text (b ∷ []) [] ([] ∷ []) (slice_split-cons_yes is_separator b [] e) h.parts w h.split
+      ∙ ap (λ z. h.parts ++ z ∷ [] ∷ []) (append-nil w) ∙ sym (append_assoc h.parts (w ∷ []) ([] ∷ []));
   kept = ap (filter is_word) (sym h.split);
   ended = ended_words-separator text b e;
 }
+
+-- one byte or more, and no separator among them
+pub record IsClean (w : List ℕ) : Type 0 where
+  pub some : is_word w ≡ true
+  pub plain : list_any is_separator w ≡ false
+
+split-plain : (w rest : List ℕ) (b : ℕ) → list_any is_separator w ≡ false → is_separator b ≡ true → slice_split is_separator (w ++ b ∷ rest) ≡ w ∷ slice_split is_separator rest
+split-plain [] rest b h s = cond-true _ _ _ s
+split-plain (x ∷ w) rest b h s =
+    let parts = or_parts (is_separator x) (list_any is_separator w) h in
+    cond-false _ _ _ parts.0
+    ∙ ap (λ z. onto_first x z) (split-plain w rest b parts.1 s)
+
+-- a word, a separator and the rest
+pub words-word : (w rest : List ℕ) (b : ℕ) → IsClean w → is_separator b ≡ true → words (w ++ b ∷ rest) ≡ w ∷ words rest
+words-word w rest b h s =
+    ap (λ z. filter is_word z) (split-plain w rest b h.plain s) ∙ cond-true _ _ _ h.some
+
+-- a line of words
+pub words-row : {X : Type 0} (f : X → List ℕ) (cells : List X) (rest : List ℕ) → 0 < length cells → All (λ c. IsClean (f c)) cells → words ((join_with_byte 32 (map f cells) ++ 10 ∷ []) ++ rest) ≡ map f cells ++ words rest
+words-row f [] rest h clean = absurd (omega arith)
+words-row f (c ∷ []) rest h clean =
+    ap words (append_assoc (f c) (10 ∷ []) rest)
+    ∙ words-word (f c) rest 10 (All-head (λ c. IsClean (f c)) c [] clean) refl
+words-row f (c ∷ d ∷ cells) rest h clean =
+    ap words (regroup (f c) (join_with_byte 32 (map f (d ∷ cells))) (10 ∷ []) rest)
+    ∙ words-word (f c) ((join_with_byte 32 (map f (d ∷ cells)) ++ 10 ∷ []) ++ rest) 32 (All-head (λ c. IsClean (f c)) c (d ∷ cells) clean) refl
+    ∙ ap (λ ws. f c ∷ ws) (words-row f (d ∷ cells) rest (omega arith) (All-tail (λ c. IsClean (f c)) c (d ∷ cells) clean)) where
+      regroup : (a b c d : List ℕ) → ((a ++ 32 ∷ b) ++ c) ++ d ≡ a ++ 32 ∷ ((b ++ c) ++ d)
+      regroup a b c d = simp append_assoc
+
+-- lines of words
+pub words-rows : {X : Type 0} (v : X → List ℕ) (nodata : List ℕ) (cols n : ℕ) (cells : List (Option X)) → 0 < cols → length cells ≡ n * cols → All (λ c. IsClean (cell_text v nodata c)) cells → words (rows_text v nodata cols n cells) ≡ map (cell_text v nodata) cells
+words-rows v nodata cols zero [] h size clean = refl
+words-rows v nodata cols zero (c ∷ cells) h size clean = absurd (omega arith)
+words-rows {X} v nodata cols (suc n) cells h size clean =
+    let front : length (take cols cells) ≡ cols = length-take-le cols cells (omega (arith, size)) in
+    let back : length (drop cols cells) ≡ n * cols = omega (arith, size, length-drop cols cells) in
+    words-row (cell_text v nodata) (take cols cells) (rows_text v nodata cols n (drop cols cells)) (omega (arith, front)) (All-take (λ c. IsClean (cell_text v nodata c)) cols cells clean)
+    ∙ ap (λ z. map (cell_text v nodata) (take cols cells) ++ z) (words-rows v nodata cols n (drop cols cells) h back (All-drop (λ c. IsClean (cell_text v nodata c)) cols cells clean))
+    ∙ sym (map-append (cell_text v nodata) (take cols cells) (drop cols cells))
+    ∙ ap (λ (z : List (Option X)). map (cell_text v nodata) z) (take-append-drop cols cells)

@@ -1,29 +1,124 @@
--- A written cell, read again.
-use Rattle.std.proofs.Common.{◌≡◌, ◌≢◌, ℕ, ◌+◌, ◌^◌, ◌≤◌, true, false, List, [], ◌∷◌, length, map, Option, None, Some, ℤ, pos, negsuc, sym, ap, refl, ◌∙◌, arith}
-use Rattle.std.specs.Prelude.{unsigned_abs, IfSome, int_le}
-use Rattle.std.specs.List.{All}
+-- A written height and a written cell, read again.
+use Rattle.std.proofs.Common.{◌≡◌, ◌≢◌, ℕ, ◌+◌, ◌^◌, ◌≤◌, true, false, List, [], ◌∷◌, length, map, Option, None, Some, ℤ, pos, negsuc, sym, ap, refl, ◌∙◌, arith, zero, suc, ◌-◌, ◌*◌, ◌/◌, ◌<◌, ltb, cond, ◌++◌, take, drop, replicate, inl, inr}
+use Rattle.std.specs.Prelude.{unsigned_abs, IfSome, int_le, decimal, neg_ℤ}
+use Rattle.std.specs.List.{All, list_any, before_first, after_first}
 use Rattle.std.specs.Option.{option_map_or, option_or}
 use Rattle.std.specs.Str.{bytes_eq}
 use Rattle.std.specs.Ordering.{int_eq}
-use Rattle.std.proofs.lemmas.Bool.{cond-true, cond-false, and_from, or_left, or_right, or_from, false_from_ne_true, ltb-false}
+use Rattle.std.proofs.lemmas.Bool.{cond-true, cond-false, and_from, or_left, or_right, or_from, false_from_ne_true, ltb-false, cases_Bool, and_parts, le-leb, le-ltb}
 use Rattle.std.proofs.lemmas.Bool.Decides.{Decides-int_eq}
 use Rattle.std.proofs.lemmas.Slice.Eq.{bytes_eq-Decides}
 use Rattle.std.proofs.lemmas.List.Elements.{All-head, All-tail}
 use Rattle.terrain.specs.Words.{Word}
-use Rattle.terrain.specs.Decimal.{scaled_value}
+use Rattle.terrain.specs.Decimal.{scaled_value, without_sign, is_negative, is_point, is_exponent_mark, has_exponent, is_decimal, has_scaled_value}
 use Rattle.terrain.specs.Raster.{lowest, highest, IsHeight, is_height, IsHeaderWord}
 use Rattle.ascii_grid.specs.Header.{begins_with_letter, is_long, nodata_for, missing_fault}
 use Rattle.ascii_grid.specs.GridText.{same_value, is_nodata, cell_of, is_cell, cells_wanted, heights_fault}
-use Rattle.ascii_grid.specs.Text.{height_text, cell_text}
+use Rattle.ascii_grid.specs.Text.{height_text, cell_text, last_digits, decimals_text}
+use Rattle.ascii_grid.proofs.Cells.{nodata_by_value}
 use Rattle.ascii_grid.proofs.JudgedWords.{is_short, height_fault-none}
-use Rattle.ascii_grid.proofs.ReadBackWords.{IsClean}
-use Rattle.ascii_grid.proofs.ReadBackDecimals.{decimal_clean, decimal_begins}
-use Rattle.ascii_grid.proofs.ReadBackHeights.{height_value, decimal_from_value, height_short}
+use Rattle.ascii_grid.proofs.Parting.{IsClean}
+use Rattle.ascii_grid.proofs.ReadBackDecimals.{decimal_clean, decimal_begins, before_first-at, after_first-at}
+use Rattle.std.proofs.lemmas.List.{append-nil, length-append, take_at, drop_all}
+use Rattle.std.proofs.lemmas.List.Folds.{list_any-append}
+use Rattle.std.proofs.lemmas.Nat.{pow-add}
+use Rattle.std.proofs.Math.Nat.{div-le_self, div-lt_iff_lt-mul, one-le-pow}
+use Rattle.std.proofs.lemmas.Fmt.{decimal_nonempty, length-decimal-le}
+use Rattle.ascii_grid.proofs.Scaled.{are_digits_joined, before_first-none, scaled_value-digits, any-digits, no_exponent, no_point, after_first-none, bare_digits}
+use Rattle.ascii_grid.proofs.Decimals.{decimal_digits, last_digits_digits, length-last_digits, scaled_digits}
 
--- a cell that a lawful grid can have
-pub record IsLawfulCell (d : ℕ) (nodata : Word) (c : Option ℤ) : Type 0 where
-  pub height : IfSome c IsHeight
-  pub apart : IfSome c (λ h. scaled_value d nodata ≢ Some h)
+-- the text of a height without its sign
+abbrev pub body : ℕ → ℕ → List ℕ
+body d n = decimal (n / 10 ^ d) ++ decimals_text d n
+
+whole_small : (d n : ℕ) → n < 2 ^ 64 → n / 10 ^ d < 2 ^ 64
+whole_small d n h = omega (arith, h, div-le_self n (10 ^ d))
+
+whole_no_point : (d n : ℕ) → n < 2 ^ 64 → list_any is_point (decimal (n / 10 ^ d)) ≡ false
+whole_no_point d n h = any-digits is_point (decimal (n / 10 ^ d)) no_point (decimal_digits (n / 10 ^ d) (whole_small d n h))
+
+decimals_no_mark : (d n : ℕ) → list_any is_exponent_mark (decimals_text d n) ≡ false
+decimals_no_mark zero n = refl
+decimals_no_mark (suc d) n = any-digits is_exponent_mark (last_digits (suc d) n) no_exponent (last_digits_digits (suc d) n)
+
+body_no_mark : (d n : ℕ) → n < 2 ^ 64 → list_any is_exponent_mark (body d n) ≡ false
+body_no_mark d n h =
+    list_any-append is_exponent_mark (decimal (n / 10 ^ d)) (decimals_text d n)
+    ∙ or_from _ _ (any-digits is_exponent_mark (decimal (n / 10 ^ d)) no_exponent (decimal_digits (n / 10 ^ d) (whole_small d n h))) (decimals_no_mark d n)
+
+body_whole : (d n : ℕ) → n < 2 ^ 64 → before_first is_point (body d n) ≡ decimal (n / 10 ^ d)
+body_whole zero n h =
+    ap (before_first is_point) (append-nil (decimal (n / 10 ^ 0)))
+    ∙ before_first-none is_point (decimal (n / 10 ^ 0)) (whole_no_point 0 n h)
+body_whole (suc d) n h =
+    before_first-at is_point (decimal (n / 10 ^ suc d)) (last_digits (suc d) n) 46 (whole_no_point (suc d) n h) refl
+
+body_fraction : (d n : ℕ) → n < 2 ^ 64 → after_first is_point (body d n) ≡ last_digits d n
+body_fraction zero n h =
+    ap (after_first is_point) (append-nil (decimal (n / 10 ^ 0)))
+    ∙ after_first-none is_point (decimal (n / 10 ^ 0)) (whole_no_point 0 n h)
+body_fraction (suc d) n h =
+    after_first-at is_point (decimal (n / 10 ^ suc d)) (last_digits (suc d) n) 46 (whole_no_point (suc d) n h) refl
+
+length-decimals : (d n : ℕ) → length (decimals_text d n) ≤ d + 1
+length-decimals zero n = omega arith
+length-decimals (suc d) n = omega (arith, length-last_digits (suc d) n)
+
+-- it begins with a digit
+body_unsigned : (d n : ℕ) → n < 2 ^ 64 → (without_sign (body d n) ≡ body d n) × (is_negative (body d n) ≡ false)
+body_unsigned d n h = bare_digits (decimal (n / 10 ^ d)) (decimals_text d n) (decimal_nonempty (n / 10 ^ d) (whole_small d n h)) (decimal_digits (n / 10 ^ d) (whole_small d n h))
+
+-- a text with a scaled value is a decimal text
+pub decimal_from_value : (d : ℕ) (w : Word) (z : ℤ) → scaled_value d w ≡ Some z → is_decimal w ≡ true
+decimal_from_value d w z e = elim (cases_Bool (has_scaled_value d w)) [
+  | inl has ↦ (and_parts _ _ (and_parts _ _ (and_parts _ _ has).0).0).0
+  | inr none ↦ let clash : scaled_value d w ≡ None = cond-false _ _ _ none in absurd (cc)
+]
+
+-- a word that is such a text but for its sign
+written_value : (d n : ℕ) (w : Word) → without_sign w ≡ body d n → has_exponent w ≡ false → n ≤ 10 ^ 18 → scaled_value d w ≡ Some (cond (is_negative w) (neg_ℤ (pos n)) (pos n))
+written_value d n w unsigned plain few =
+    let small : n < 2 ^ 64 = omega (arith, few) in
+    let digits = decimal_digits (n / 10 ^ d) (whole_small d n small) in
+    let kept : take d (last_digits d n ++ replicate d 48) ≡ last_digits d n = take_at (last_digits d n) (replicate d 48) d (length-last_digits d n) in
+    let none : drop d (last_digits d n) ≡ [] = drop_all d (last_digits d n) (omega (arith, length-last_digits d n)) in
+    scaled_value-digits d w (decimal (n / 10 ^ d)) (last_digits d n) (Some n) plain
+    (sym (ap (before_first is_point) unsigned ∙ body_whole d n small)) (sym (ap (after_first is_point) unsigned ∙ body_fraction d n small))
+    (are_digits_joined (decimal (n / 10 ^ d)) (last_digits d n) (decimal_nonempty (n / 10 ^ d) (whole_small d n small)) ∙ rw (digits, last_digits_digits d n) refl)
+    (rw (none, kept, scaled_digits d n small, le-leb n (10 ^ 18) few) refl)
+
+-- a height that isn't below zero
+text-pos : (d n : ℕ) → height_text d (pos n) ≡ body d n
+text-pos d n = ap (λ z. z ++ decimal (n / 10 ^ d) ++ decimals_text d n) (cond-false (ltb n 0) (45 ∷ []) [] (le-ltb n 0 (omega arith)))
+
+-- the text of a height has that height as its scaled value
+pub height_value : (d : ℕ) (z : ℤ) → unsigned_abs z ≤ 10 ^ 9 → scaled_value d (height_text d z) ≡ Some z
+height_value d (pos n) h =
+    let small : n < 2 ^ 64 = omega (arith, h) in
+    let bare = body_unsigned d n small in
+    ap (scaled_value d) (text-pos d n)
+    ∙ written_value d n (body d n) bare.0 (body_no_mark d n small) (omega (arith, h))
+    ∙ ap Some (cond-false (is_negative (body d n)) (neg_ℤ (pos n)) (pos n) bare.1)
+height_value d (negsuc n) h = written_value d (suc n) (45 ∷ body d (suc n)) refl (body_no_mark d (suc n) (omega (arith, h))) (omega (arith, h))
+
+-- and few bytes: the whole part has at most ten digits, less one for each decimal
+whole_digits : (d n : ℕ) → d ≤ 6 → n ≤ 10 ^ 9 → length (decimal (n / 10 ^ d)) + d ≤ 10
+whole_digits d n few h =
+    let ten : 10 - d + d ≡ 10 = omega (arith, few) in
+    let all : 10 ^ (10 - d) * 10 ^ d ≡ 10 ^ 10 = sym (pow-add 10 (10 - d) d) ∙ ap (λ k. 10 ^ k) ten in
+    let some : 0 < 10 ^ d = let k = one-le-pow d 10 (omega arith) in omega (arith, k) in
+    let small : n / 10 ^ d < 10 ^ (10 - d) = (div-lt_iff_lt-mul some).1 (omega (arith, all, h)) in
+    let l = length-decimal-le (10 - d) (n / 10 ^ d) (omega (arith, few)) small (whole_small d n (omega (arith, h))) in
+    omega (arith, l, few)
+
+body_short : (d n : ℕ) → d ≤ 6 → n ≤ 10 ^ 9 → length (body d n) ≤ 11
+body_short d n few h =
+    let whole = whole_digits d n few h in
+    omega (arith, whole, length-decimals d n, length-append (decimal (n / 10 ^ d)) (decimals_text d n))
+
+pub height_short : (d : ℕ) (z : ℤ) → d ≤ 6 → unsigned_abs z ≤ 10 ^ 9 → length (height_text d z) ≤ 12
+height_short d (pos n) few h = let size = body_short d n few h in let same = ap length (text-pos d n) in omega (arith, size, same)
+height_short d (negsuc n) few h = let size = body_short d (suc n) few h in omega (arith, size)
 
 -- what is known of a written cell's word
 pub record ReadsAs (d : ℕ) (nodata : Word) (c : Option ℤ) (w : Word) : Type 0 where
@@ -40,17 +135,14 @@ size_of_height (negsuc n) h = grind (arith, h.0)
 height_test : (z : ℤ) → IsHeight z → is_height z ≡ true
 height_test z h = and_from (int_le lowest z) (int_le z highest) (grind (arith, h.0)) (grind (arith, h.1))
 
-same_bytes : (w : Word) → bytes_eq w w ≡ true
-same_bytes w = (bytes_eq-Decides w w).1 refl
-
 other_value : (h : ℤ) (o : Option ℤ) → o ≢ Some h → same_value (Some h) o ≡ false
 other_value h None n = refl
 other_value h (Some x) n = false_from_ne_true (int_eq h x) (λ t. n (ap Some (sym ((Decides-int_eq h x).0 t))))
 
--- the NODATA word
-reads_nodata : (d : ℕ) (nodata : Word) → IsHeaderWord nodata → ReadsAs d nodata None nodata
-reads_nodata d nodata h =
-    let own : is_nodata d nodata nodata ≡ true = or_left (bytes_eq nodata nodata) (same_value (scaled_value d nodata) (scaled_value d nodata)) (same_bytes nodata) in
+-- the NODATA word, or the text of a height
+pub reads_cell : (d : ℕ) (nodata : Word) (c : Option ℤ) → d ≤ 6 → IsHeaderWord nodata → IfSome c IsHeight → IfSome c (λ h. scaled_value d nodata ≢ Some h) → ReadsAs d nodata c (cell_text (height_text d) nodata c)
+reads_cell d nodata None few h height apart =
+    let own : is_nodata d nodata nodata ≡ true = or_left (bytes_eq nodata nodata) (same_value (scaled_value d nodata) (scaled_value d nodata)) ((bytes_eq-Decides nodata nodata).1 refl) in
     record {
       clean = decimal_clean nodata h.1;
       begins = decimal_begins nodata h.1;
@@ -58,29 +150,18 @@ reads_nodata d nodata h =
       is = or_left (is_nodata d nodata nodata) (option_map_or is_height (scaled_value d nodata) false) own;
       value = cond-true (is_nodata d nodata nodata) None (scaled_value d nodata) own;
     }
-
--- a height
-reads_height : (d : ℕ) (nodata : Word) (z : ℤ) → d ≤ 6 → IsHeight z → scaled_value d nodata ≢ Some z → ReadsAs d nodata (Some z) (height_text d z)
-reads_height d nodata z few h apart =
-    let size = size_of_height z h in
+reads_cell d nodata (Some z) few h height apart =
+    let size = size_of_height z height in
     let value = height_value d z size in
-    let bytes : bytes_eq (height_text d z) nodata ≡ false =
-    false_from_ne_true (bytes_eq (height_text d z) nodata) (λ t. apart (ap (scaled_value d) (sym ((bytes_eq-Decides (height_text d z) nodata).0 t)) ∙ value)) in
-    let other : same_value (scaled_value d (height_text d z)) (scaled_value d nodata) ≡ false =
-    ap (λ o. same_value o (scaled_value d nodata)) value ∙ other_value z (scaled_value d nodata) apart in
-    let not_nodata : is_nodata d nodata (height_text d z) ≡ false = or_from (bytes_eq (height_text d z) nodata) (same_value (scaled_value d (height_text d z)) (scaled_value d nodata)) bytes other in
+    let not_nodata : is_nodata d nodata (height_text d z) ≡ false = nodata_by_value d nodata (height_text d z) z value ∙ other_value z (scaled_value d nodata) apart in
     let decimal_text = decimal_from_value d (height_text d z) z value in
     record {
       clean = decimal_clean (height_text d z) decimal_text;
       begins = decimal_begins (height_text d z) decimal_text;
       short = is_short (height_text d z) (let l = height_short d z few size in omega (arith, l));
-      is = or_right (is_nodata d nodata (height_text d z)) (option_map_or is_height (scaled_value d (height_text d z)) false) (ap (λ o. option_map_or is_height o false) value ∙ height_test z h);
+      is = or_right (is_nodata d nodata (height_text d z)) (option_map_or is_height (scaled_value d (height_text d z)) false) (ap (λ o. option_map_or is_height o false) value ∙ height_test z height);
       value = cond-false (is_nodata d nodata (height_text d z)) None (scaled_value d (height_text d z)) not_nodata ∙ value;
     }
-
-pub reads_cell : (d : ℕ) (nodata : Word) (c : Option ℤ) → d ≤ 6 → IsHeaderWord nodata → IsLawfulCell d nodata c → ReadsAs d nodata c (cell_text (height_text d) nodata c)
-reads_cell d nodata None few h lawful = reads_nodata d nodata h
-reads_cell d nodata (Some z) few h lawful = reads_height d nodata z few lawful.height lawful.apart
 
 -- the words of the cells, from some place on
 pub no_heights_fault : (d : ℕ) (header : List Word) (nodata : Word) (place : ℕ) (cells : List (Option ℤ)) → missing_fault header ≡ None → nodata_for header ≡ nodata → place + length cells ≡ cells_wanted header → All (λ c. ReadsAs d nodata c (cell_text (height_text d) nodata c)) cells → heights_fault d header place (map (cell_text (height_text d) nodata) cells) ≡ None

@@ -1,14 +1,16 @@
 -- Decimal texts: which bytes they have, and how they begin.
-use Rattle.std.proofs.Common.{◌≡◌, ℕ, suc, ◌+◌, Bool, true, false, not, ◌&&◌, ◌||◌, ◌==◌, List, [], ◌∷◌, ◌++◌, take, drop, sym, ap, subst, refl, ◌∙◌, arith, inl, inr}
-use Rattle.std.specs.List.{list_all, list_any, before_first, after_first, prefix_len}
+use Rattle.std.proofs.Common.{◌≡◌, ℕ, suc, ◌+◌, Bool, true, false, not, ◌&&◌, ◌||◌, ◌==◌, List, [], ◌∷◌, ◌++◌, length, get_or, take, drop, sym, ap, subst, refl, ◌∙◌, arith, inl, inr}
+use Rattle.std.specs.List.{list_all, list_any, position_or_len, before_first, after_first}
 use Rattle.std.specs.Char.{is_ascii_digit, is_ascii_alphabetic}
-use Rattle.std.proofs.lemmas.Bool.{false≢true, cond-true, cond-false, cases_Bool, and_parts, or_cases, or_parts, or_from, not-true, not_from_false, not_from_true, eqb-true, lt-leb, false_from_ne_true}
-use Rattle.std.proofs.lemmas.List.Folds.{list_all-append}
+use Rattle.std.proofs.lemmas.Bool.{false≢true, cond-true, cond-false, cases_Bool, cases_lt, and_parts, or_cases, or_parts, or_from, not-true, eqb-true, lt-leb, false_from_ne_true}
+use Rattle.std.proofs.lemmas.List.{append_assoc, length-append, take_at, drop_at, take_all}
+use Rattle.std.proofs.lemmas.List.Folds.{list_all-append, list_any-append}
+use Rattle.std.proofs.lemmas.List.Sums.{split_at_first, passes_at_first}
 use Rattle.terrain.specs.Words.{is_separator, is_word}
 use Rattle.terrain.specs.Decimal.{without_sign, is_point, is_exponent_mark, mantissa, whole_part, fraction, has_exponent, are_digits, is_decimal}
 use Rattle.ascii_grid.specs.Header.{begins_with_letter}
-use Rattle.ascii_grid.proofs.PlainNumbers.{PassesNoDigit, no_separator, any-digits, after_first-none}
-use Rattle.ascii_grid.proofs.ReadBackWords.{IsClean}
+use Rattle.ascii_grid.proofs.Scaled.{PassesNoDigit, no_separator, any-digits, after_first-none}
+use Rattle.ascii_grid.proofs.Parting.{IsClean}
 
 -- `+` or `-`
 abbrev pub is_sign : ℕ → Bool
@@ -23,47 +25,34 @@ record PassesNoByte (q : ℕ → Bool) : Type 0 where
   mark : q 101 ≡ false
   capital : q 69 ≡ false
 
--- the front up to a byte, and what follows it
-before_first-stop : (p : ℕ → Bool) (b : ℕ) (bs : List ℕ) → p b ≡ true → before_first p (b ∷ bs) ≡ []
-before_first-stop p b bs h = ap (λ n. take n (b ∷ bs)) (cond-false (not (p b)) (1 + prefix_len (λ x. not (p x)) bs) 0 (not_from_true (p b) h))
+-- at the first byte that passes
+position-at : (p : ℕ → Bool) (xs ys : List ℕ) (y : ℕ) → list_any p xs ≡ false → p y ≡ true → position_or_len p (xs ++ y ∷ ys) ≡ length xs
+position-at p [] ys y h k = rw k refl
+position-at p (x ∷ xs) ys y h k = let parts = or_parts (p x) (list_any p xs) h in rw parts.0 (omega (arith, position-at p xs ys y parts.1 k))
 
-before_first-step : (p : ℕ → Bool) (b : ℕ) (bs : List ℕ) → p b ≡ false → before_first p (b ∷ bs) ≡ b ∷ before_first p bs
-before_first-step p b bs h =
-    let e : 1 + prefix_len (λ x. not (p x)) bs ≡ suc (prefix_len (λ x. not (p x)) bs) = omega arith in
-    ap (λ n. take n (b ∷ bs)) (cond-true (not (p b)) (1 + prefix_len (λ x. not (p x)) bs) 0 (not_from_false (p b) h) ∙ e)
+pub before_first-at : (p : ℕ → Bool) (xs ys : List ℕ) (y : ℕ) → list_any p xs ≡ false → p y ≡ true → before_first p (xs ++ y ∷ ys) ≡ xs
+before_first-at p xs ys y h k = ap (λ n. take n (xs ++ y ∷ ys)) (position-at p xs ys y h k) ∙ take_at xs (y ∷ ys) (length xs) refl
 
-after_first-stop : (p : ℕ → Bool) (b : ℕ) (bs : List ℕ) → p b ≡ true → after_first p (b ∷ bs) ≡ bs
-after_first-stop p b bs h = ap (λ n. drop (n + 1) (b ∷ bs)) (cond-false (not (p b)) (1 + prefix_len (λ x. not (p x)) bs) 0 (not_from_true (p b) h))
+pub after_first-at : (p : ℕ → Bool) (xs ys : List ℕ) (y : ℕ) → list_any p xs ≡ false → p y ≡ true → after_first p (xs ++ y ∷ ys) ≡ ys
+after_first-at p xs ys y h k =
+    ap (λ n. drop (n + 1) (xs ++ y ∷ ys)) (position-at p xs ys y h k)
+    ∙ ap (drop (length xs + 1)) (sym (append_assoc xs (y ∷ []) ys))
+    ∙ drop_at (xs ++ y ∷ []) ys (length xs + 1) (length-append xs (y ∷ []))
 
 after_first-step : (p : ℕ → Bool) (b : ℕ) (bs : List ℕ) → p b ≡ false → after_first p (b ∷ bs) ≡ after_first p bs
 after_first-step p b bs h =
-    let e : 1 + prefix_len (λ x. not (p x)) bs + 1 ≡ suc (prefix_len (λ x. not (p x)) bs + 1) = omega arith in
-    ap (λ n. drop (n + 1) (b ∷ bs)) (cond-true (not (p b)) (1 + prefix_len (λ x. not (p x)) bs) 0 (not_from_false (p b) h))
-    ∙ ap (λ n. drop n (b ∷ bs)) e
-
--- at the first byte that passes
-pub before_first-at : (p : ℕ → Bool) (xs ys : List ℕ) (y : ℕ) → list_any p xs ≡ false → p y ≡ true → before_first p (xs ++ y ∷ ys) ≡ xs
-before_first-at p [] ys y h k = before_first-stop p y ys k
-before_first-at p (b ∷ bs) ys y h k =
-    let parts = or_parts (p b) (list_any p bs) h in
-    before_first-step p b (bs ++ y ∷ ys) parts.0 ∙ ap (λ z. b ∷ z) (before_first-at p bs ys y parts.1 k)
-
-pub after_first-at : (p : ℕ → Bool) (xs ys : List ℕ) (y : ℕ) → list_any p xs ≡ false → p y ≡ true → after_first p (xs ++ y ∷ ys) ≡ ys
-after_first-at p [] ys y h k = after_first-stop p y ys k
-after_first-at p (b ∷ bs) ys y h k =
-    let parts = or_parts (p b) (list_any p bs) h in
-    after_first-step p b (bs ++ y ∷ ys) parts.0 ∙ after_first-at p bs ys y parts.1 k
+    let e : position_or_len p (b ∷ bs) + 1 ≡ suc (position_or_len p bs + 1) = rw h (omega arith) in
+    ap (λ n. drop n (b ∷ bs)) e
 
 -- the front, the byte and what follows are all
 list_any-around : (p q : ℕ → Bool) → ((b : ℕ) → p b ≡ true → q b ≡ false) → (xs : List ℕ) → list_any q (before_first p xs) ≡ false → list_any q (after_first p xs) ≡ false → list_any q xs ≡ false
-list_any-around p q w [] h k = refl
-list_any-around p q w (b ∷ bs) h k =
-    elim (cases_Bool (p b)) [
-      | inl t ↦ or_from (q b) (list_any q bs) (w b t) (ap (list_any q) (sym (after_first-stop p b bs t)) ∙ k)
-      | inr f ↦
-          let parts = or_parts (q b) (list_any q (before_first p bs)) (ap (list_any q) (sym (before_first-step p b bs f)) ∙ h) in
-          or_from (q b) (list_any q bs) parts.0
-          (list_any-around p q w bs parts.1 (ap (list_any q) (sym (after_first-step p b bs f)) ∙ k))
+list_any-around p q w xs h k =
+    elim (cases_lt (position_or_len p xs) (length xs)) [
+      | inl found ↦
+          ap (list_any q) (split_at_first p xs 0 found)
+          ∙ list_any-append q (before_first p xs) (get_or xs (position_or_len p xs) 0 ∷ after_first p xs)
+          ∙ or_from _ _ h (or_from _ _ (w _ (passes_at_first p xs 0 found)) k)
+      | inr none ↦ ap (list_any q) (sym (take_all (position_or_len p xs) xs none)) ∙ h
     ]
 
 -- one of two bytes, as a case
@@ -72,9 +61,6 @@ one_of P b m n h x y = elim (or_cases (b == m) (b == n) h) [
   | inl e ↦ subst P (sym (eqb-true b m e)) x
   | inr e ↦ subst P (sym (eqb-true b n e)) y
 ]
-
-sign_not_exponent : (b : ℕ) → is_sign b ≡ true → is_exponent_mark b ≡ false
-sign_not_exponent b h = one_of (λ c. is_exponent_mark c ≡ false) b 43 45 h refl refl
 
 -- a text whose rest without a sign has no such byte has none
 signed_bytes : (q : ℕ → Bool) → PassesNoByte q → (w : List ℕ) → list_any q (without_sign w) ≡ false → list_any q w ≡ false
@@ -88,7 +74,7 @@ signed_bytes q none (b ∷ bs) h = elim (cases_Bool (is_sign b)) [
 exponent_of_unsigned : (w : List ℕ) → after_first is_exponent_mark (without_sign w) ≡ after_first is_exponent_mark w
 exponent_of_unsigned [] = refl
 exponent_of_unsigned (b ∷ bs) = elim (cases_Bool (is_sign b)) [
-  | inl s ↦ ap (after_first is_exponent_mark) (cond-true (is_sign b) bs (b ∷ bs) s) ∙ sym (after_first-step is_exponent_mark b bs (sign_not_exponent b s))
+  | inl s ↦ ap (after_first is_exponent_mark) (cond-true (is_sign b) bs (b ∷ bs) s) ∙ sym (after_first-step is_exponent_mark b bs (one_of (λ c. is_exponent_mark c ≡ false) b 43 45 s refl refl))
   | inr n ↦ ap (after_first is_exponent_mark) (cond-false (is_sign b) bs (b ∷ bs) n)
 ]
 
@@ -135,14 +121,11 @@ no_other_letters : PassesNoByte is_other_letter
 unfolding is_other_letter
 no_other_letters = record { digits = λ b low high. rw (lt-leb 65 b (omega arith), lt-leb 97 b (omega arith)) refl; plus = refl; minus = refl; point = refl; mark = refl; capital = refl }
 
-mark_not_sign : (b : ℕ) → is_exponent_mark b ≡ true → is_sign b ≡ false
-mark_not_sign b h = one_of (λ c. is_sign c ≡ false) b 101 69 h refl refl
-
 -- a text that begins with the exponent's mark has no digits before it
 marked_mantissa : (b : ℕ) (bs : List ℕ) → is_exponent_mark b ≡ true → mantissa (b ∷ bs) ≡ []
 marked_mantissa b bs h =
-    ap (before_first is_exponent_mark) (cond-false (is_sign b) bs (b ∷ bs) (mark_not_sign b h))
-    ∙ before_first-stop is_exponent_mark b bs h
+    ap (before_first is_exponent_mark) (cond-false (is_sign b) bs (b ∷ bs) (one_of (λ c. is_sign c ≡ false) b 101 69 h refl refl))
+    ∙ before_first-at is_exponent_mark [] bs b refl h
 
 not_marked : (b : ℕ) (bs : List ℕ) → is_decimal (b ∷ bs) ≡ true → is_exponent_mark b ≡ true → ⊥
 not_marked b bs h k =

@@ -1,37 +1,142 @@
 -- What the end of a text tells, and that the grid which its words spell is lawful.
-use Rattle.std.proofs.Common.{◌≡◌, ℕ, ◌*◌, ◌≤◌, true, false, cond, nat_lt, Bool, List, [], ◌∷◌, ◌++◌, length, map, Option, None, Some, arith, lit≤, refl, ap, sym, ◌∙◌, subst}
-use Rattle.std.specs.Prelude.{unwrap_or, option_map, codes}
+use Rattle.std.proofs.Common.{◌≡◌, ◌≢◌, ℕ, ◌+◌, ◌<◌, ◌≤◌, Bool, true, false, not, cond, nat_lt, nat_le, ◌==◌, List, [], ◌∷◌, ◌++◌, length, map, Option, None, Some, ℤ, arith, lit≤, refl, ap, sym, ◌∙◌, subst, inl, inr}
+use Rattle.std.specs.Prelude.{is_some, All, IfSome, unwrap_or, option_map, int_le, codes}
 use Rattle.std.specs.Option.{option_map_or}
-use Rattle.std.proofs.lemmas.Bool.{and_parts, lt-ltb}
+use Rattle.std.specs.Str.{bytes_eq}
+use Rattle.std.specs.Ordering.{int_eq}
+use Rattle.std.proofs.lemmas.Bool.Decides.{Decides-int_eq}
+use Rattle.std.proofs.lemmas.Bool.{cases_Bool, cond-false, and_parts, or_parts, lt-ltb, le-ltb, ltb-true, ltb-false, leb-true, eqb-true}
+use Rattle.std.proofs.lemmas.Int.{ints}
+use Rattle.std.proofs.lemmas.List.{length-map}
+use Rattle.std.proofs.lemmas.List.Elements.{All-cons}
 use Rattle.std.proofs.Math.Nat.{one-le-mul}
-use Rattle.std.proofs.lemmas.List.{append-nil, length-map}
 use Rattle.terrain.specs.Words.{Word}
-use Rattle.terrain.specs.Decimal.{number_of, is_decimal, is_above_zero}
-use Rattle.terrain.specs.Raster.{IsHeaderWord, IsLawful}
-use Rattle.ascii_grid.specs.Header.{header_words, height_words, key_left, nodata_for, missing_fault, header_fault}
-use Rattle.ascii_grid.specs.GridText.{AsksForCells, cell_of, cells_wanted, heights_fault, end_fault, grid_of}
-use Rattle.ascii_grid.specs.Slots.{anchor_at, is_centre, wanted_of, IsWhole, raster_of}
-use Rattle.ascii_grid.specs.Reading.{flat, given, slots_of, IsHeaderOf, AreHeights, HasJudged, IsEndFault}
+use Rattle.terrain.specs.Decimal.{number_of, scaled_value, is_decimal, is_above_zero}
+use Rattle.terrain.specs.Raster.{lowest, highest, IsHeight, is_height, IsHeaderWord, IsLawful}
+use Rattle.ascii_grid.specs.Header.{fills, slot_of, slot_number, header_words, height_words, pairs, key_left, pair_for, value_for, word_for, nodata_for, is_long, is_size, is_value, bad_value, key_fault, value_fault, header_fault, missing_fault, no_value_fault}
+use Rattle.ascii_grid.specs.GridText.{AsksForCells, same_value, is_nodata, is_cell, cell_of, cells_wanted, height_fault, heights_fault, words_fault, end_fault, grid_of}
+use Rattle.ascii_grid.specs.Slots.{anchor_at, is_given, is_centre, IsWhole, raster_of}
+use Rattle.ascii_grid.specs.Reading.{flat, given, slots_of, AreHeights, HasJudged, IsEndFault}
 use Rattle.ascii_grid.specs.declared.fault.Key.{Key}
 use Rattle.ascii_grid.specs.declared.fault.Key.TheVariants.{Ncols, Nrows, Xll, Yll, Cellsize, Nodata}
 use Rattle.ascii_grid.specs.declared.fault.GridFault.{GridFault}
-use Rattle.ascii_grid.specs.declared.fault.GridFault.TheVariants.{TooFew, NoValue, Memory}
+use Rattle.ascii_grid.specs.declared.fault.GridFault.TheVariants.{MissingKey, BadHeight, TooFew, TooMany, TooLong, NoValue, Memory}
 use Rattle.terrain.specs.declared.grid.Anchor.{Anchor}
-use Rattle.ascii_grid.specs.declared.header.Header.{Header}
 use Rattle.ascii_grid.specs.declared.judge.Judge.{Judge}
 use Rattle.ascii_grid.specs.declared.judge.Stage.TheVariants.{AtKey, AtValue, AtHeights}
-use Rattle.ascii_grid.proofs.Judging.{Pairs, pairs-flat, header_words-flat, height_words-flat, key_left-flat, is_given-slots_of, missing_of-slots_of, wanted_of-slots_of, number-of_pair}
-use Rattle.ascii_grid.proofs.JudgedWords.{at_key, at_value, at_heights, place_of, header_before, heights_after, paired}
-use Rattle.ascii_grid.proofs.Told.{is_memory, told, told_missing}
-use Rattle.ascii_grid.proofs.Whole.{cells_ok, size_between, valid, value_of, IsWhole-from_missing}
+use Rattle.ascii_grid.proofs.Judging.{Pairs, or_none, then_none, else_none, pairs-flat, words-flat, words-whole, key_left-flat, is_given-slots_of, missing_of-slots_of, number-of_pair}
+use Rattle.ascii_grid.proofs.JudgedWords.{at_key, at_value, at_heights, place_of, words-after, paired, judged_none, is_memory, told, told_missing}
 
--- ---- header and heights of the words
+-- ---- a header whose words have no fault
 
-header_whole : (h : Header) (ps : Pairs) → IsHeaderOf h ps → header_words (flat ps) ≡ flat ps
-header_whole h ps k = ap header_words (sym (append-nil (flat ps))) ∙ header_words-flat ps [] k.keys ∙ append-nil (flat ps)
+slot_at : ℕ → Key
+slot_at n = cond (n == 0) Ncols (cond (n == 1) Nrows (cond (n == 2) Xll (cond (n == 3) Yll (cond (n == 4) Cellsize Nodata))))
 
-heights_none : (h : Header) (ps : Pairs) → IsHeaderOf h ps → height_words (flat ps) ≡ []
-heights_none h ps k = ap height_words (sym (append-nil (flat ps))) ∙ height_words-flat ps [] k.keys
+slot_at-number : (slot : Key) → slot_at (slot_number slot) ≡ slot
+unfolding slot_at
+slot_at-number Ncols = refl
+slot_at-number slot = refl
+
+fills-slot : (o : Option Key) (slot : Key) → option_map_or (λ s. slot_number s == slot_number slot) o false ≡ true → o ≡ Some slot
+fills-slot None slot h = cc
+fills-slot (Some s) slot h =
+    ap Some (sym (slot_at-number s) ∙ ap slot_at (eqb-true (slot_number s) (slot_number slot) h) ∙ slot_at-number slot)
+
+abbrev IsShortValue : Key → Word → Type 0
+IsShortValue slot w = (is_value slot w ≡ true) × (length w ≤ 64)
+
+value_ok : (k v : Word) (slot : Key) → fills slot k ≡ true → value_fault k v ≡ None → IsShortValue slot v
+value_ok k v slot h e =
+    let short = then_none (is_long v) TooLong _ e in
+    let ok = else_none (is_value slot v) None (bad_value slot) (rw (fills-slot (slot_of k) slot h) at short.1) in
+    (ok.0, ltb-false 64 (length v) short.0)
+
+-- the value given for a slot is one
+valid : (before header : List Word) (slot : Key) → header_fault before header ≡ None → IfSome (value_for slot header) (IsShortValue slot)
+valid before [] slot none = tt
+valid before (k ∷ []) slot none = tt
+valid before (k ∷ v ∷ rest) slot none =
+    let parts = or_none (key_fault before k) _ none in
+    let values = or_none (value_fault k v) _ parts.1 in
+    elim (cases_Bool (fills slot k)) [
+      | inl here ↦ rw here (value_ok k v slot here values.0)
+      | inr apart ↦ rw apart (valid (k ∷ before) rest slot values.1)
+    ]
+
+given_slot : (a : Bool) (s : Key) (o : Option Key) → option_map MissingKey (cond (not a) (Some s) o) ≡ None → (a ≡ true) × (option_map MissingKey o ≡ None)
+given_slot true s o h = (refl, h)
+given_slot false s o h = cc
+
+-- the required slots of a header that misses none
+whole_slots : (ps : Pairs) → missing_fault (flat ps) ≡ None → IsWhole (slots_of ps)
+whole_slots ps none =
+    let h = slots_of ps in
+    let a = given_slot (is_some h.cols) Ncols _ (missing_of-slots_of ps ∙ none) in
+    let b = given_slot (is_some h.rows) Nrows _ a.1 in
+    let c = given_slot (is_some h.xll) Xll _ b.1 in
+    let d = given_slot (is_some h.yll) Yll _ c.1 in
+    let e = given_slot (is_some h.cellsize) Cellsize _ d.1 in
+    record { cols = a.0; rows = b.0; xll = c.0; yll = d.0; cellsize = e.0 }
+
+given_slots : (header : List Word) → missing_fault header ≡ None → IsWhole (slots_of (pairs header))
+given_slots header e = whole_slots (pairs header) (rw (pairs-flat (pairs header)) e)
+
+-- the value word of a slot that is given
+value_of : (header : List Word) (slot : Key) → header_fault [] header ≡ None → is_given (slots_of (pairs header)) slot ≡ true → IsShortValue slot (word_for slot header)
+value_of header slot none some = go (pair_for slot header) (sym (is_given-slots_of slot (pairs header)) ∙ some) (valid [] header slot none)
+  where
+    go : (o : Option (Word × Word)) → is_some o ≡ true → IfSome (option_map (λ (p : Word × Word). p.1) o) (IsShortValue slot) → IsShortValue slot (unwrap_or (option_map (λ (p : Word × Word). p.1) o) [])
+    go None some ok = cc
+    go (Some p) some ok = ok
+
+size_between : (w : Word) → is_size w ≡ true → (1 ≤ number_of w) × (number_of w ≤ 4096)
+size_between w h =
+    let parts = and_parts _ (nat_le (number_of w) 4096) h in
+    let low = and_parts _ (nat_le 1 (number_of w)) parts.0 in
+    (leb-true 1 (number_of w) low.1, leb-true (number_of w) 4096 parts.1)
+
+-- ---- cells without a fault
+
+height_from : (z : ℤ) → is_height z ≡ true → IsHeight z
+height_from z h =
+    let parts = and_parts (int_le lowest z) (int_le z highest) h in
+    (grind (arith, ints, parts.0), grind (arith, ints, parts.1))
+
+some_ok : (d : ℕ) (nodata w : Word) (o : Option ℤ) → scaled_value d w ≡ o → is_nodata d nodata w ≡ false → is_cell d nodata w ≡ true → IfSome (cell_of d nodata w) IsHeight × IfSome (cell_of d nodata w) (λ h. scaled_value d nodata ≢ Some h)
+some_ok d nodata w None e n h = let clash : is_cell d nodata w ≡ false = rw (n, e) refl in absurd (cc)
+some_ok d nodata w (Some z) e n h =
+    let high : is_cell d nodata w ≡ is_height z = rw (n, e) refl in
+    let apart = (or_parts (bytes_eq w nodata) (same_value (scaled_value d w) (scaled_value d nodata)) n).1 in
+    let own : int_eq z z ≡ true = (Decides-int_eq z z).1 refl in
+    let cell : cell_of d nodata w ≡ Some z = rw (n, e) refl in
+    rw cell (height_from z (sym high ∙ h), λ k. let same : same_value (scaled_value d w) (scaled_value d nodata) ≡ int_eq z z = rw (e, k) refl in cc)
+
+-- a word that stands for a cell has a height, apart from NODATA's value, or none
+cell_ok : (d : ℕ) (nodata w : Word) → is_cell d nodata w ≡ true → IfSome (cell_of d nodata w) IsHeight × IfSome (cell_of d nodata w) (λ h. scaled_value d nodata ≢ Some h)
+cell_ok d nodata w h =
+    elim (cases_Bool (is_nodata d nodata w)) [
+      | inl none ↦ let cell : cell_of d nodata w ≡ None = rw none refl in rw cell (tt, tt)
+      | inr some ↦ some_ok d nodata w (scaled_value d w) refl some h
+    ]
+
+-- a height without a fault
+height_ok : (d : ℕ) (header : List Word) (place : ℕ) (w : Word) → height_fault d header place w ≡ None → (place < cells_wanted header) × (is_cell d (nodata_for header) w ≡ true)
+height_ok d header place w h =
+    let short = then_none (is_long w) TooLong _ h in
+    let whole = or_none (missing_fault header) _ short.1 in
+    let room = else_none (nat_lt place (cells_wanted header)) _ TooMany whole.1 in
+    let ok = else_none (is_cell d (nodata_for header) w) None (BadHeight place) room.1 in
+    (ltb-true place (cells_wanted header) room.0, ok.0)
+
+cells_ok : (d : ℕ) (header : List Word) (place : ℕ) (hs : List Word) → place ≤ cells_wanted header → heights_fault d header place hs ≡ None → (place + length hs ≤ cells_wanted header) × (All (λ c. IfSome c IsHeight) (map (cell_of d (nodata_for header)) hs) × All (λ c. IfSome c (λ h. scaled_value d (nodata_for header) ≢ Some h)) (map (cell_of d (nodata_for header)) hs))
+cells_ok d header place [] h none = (omega arith, (λ k x below. absurd (omega arith), λ k x below. absurd (omega arith)))
+cells_ok d header place (w ∷ hs) h none =
+    let parts = or_none (height_fault d header place w) (heights_fault d header (place + 1) hs) none in
+    let nodata = nodata_for header in
+    let first = height_ok d header place w parts.0 in
+    let cell = cell_ok d nodata w first.1 in
+    let rest = cells_ok d header (place + 1) hs (omega (arith, first.0)) parts.1 in
+    (omega (arith, rest.0), (All-cons (λ c. IfSome c IsHeight) (cell_of d nodata w) (map (cell_of d nodata) hs) cell.0 rest.1.0, All-cons (λ c. IfSome c (λ z. scaled_value d nodata ≢ Some z)) (cell_of d nodata w) (map (cell_of d nodata) hs) cell.1 rest.1.1))
 
 -- ---- the fault at the end
 
@@ -42,65 +147,46 @@ end-value j ws slot centre h e =
     let k = there.0 in
     let letter = there.2.letter in
     let one : header_words (k ∷ []) ≡ k ∷ [] = rw letter refl in
-    let header : header_words ws ≡ flat h.pairs ++ k ∷ [] = ap header_words there.1 ∙ header_words-flat h.pairs (k ∷ []) h.header.keys ∙ ap (λ z. flat h.pairs ++ z) one in
+    let header : header_words ws ≡ flat h.pairs ++ k ∷ [] = ap header_words there.1 ∙ (words-flat h.pairs (k ∷ []) h.header.keys).0 ∙ ap (λ z. flat h.pairs ++ z) one in
     let left : key_left (flat h.pairs ++ k ∷ []) ≡ Some k = key_left-flat h.pairs (k ∷ []) in
     rw (header, left, there.2.key_is) refl
 
 -- in the header, where no required slot is missing: no height
-missing_at_end : (d : ℕ) (h : Header) (ps : Pairs) (f : GridFault) → IsHeaderOf h ps → missing_fault (flat ps) ≡ Some f → end_fault (flat ps) ≡ Some f
-missing_at_end d h ps f k e = rw (header_whole h ps k, paired ps, e) refl
-
 pub end-missing : (j : Judge) (ws : List Word) (f : GridFault) (h : HasJudged j ws) → j.stage ≡ AtKey → missing_fault (flat h.pairs) ≡ Some f → IsEndFault ws f
 end-missing j ws f h e missing =
     let same = at_key j ws h e in
-    let there = ap end_fault same ∙ missing_at_end 0 j.header h.pairs f h.header missing in
+    let at_end : end_fault (flat h.pairs) ≡ Some f = rw ((words-whole h.pairs h.header.keys).0, paired h.pairs, missing) refl in
+    let there = ap end_fault same ∙ at_end in
     told (AsksForCells ws) (end_fault ws) f (ap is_memory (there ∙ sym missing) ∙ told_missing (flat h.pairs)) there
 
 pub end-memory : (j : Judge) (ws : List Word) (f : GridFault) (h : HasJudged j ws) → j.stage ≡ AtKey → f ≡ Memory → missing_fault (flat h.pairs) ≡ None → IsEndFault ws f
 end-memory j ws f h e m whole =
     let same = at_key j ws h e in
-    let header = header_whole j.header h.pairs h.header in
-    let none = heights_none j.header h.pairs h.header in
-    let asks : AsksForCells (flat h.pairs) = record { faultless = rw header h.header.faultless; paired = rw header (paired h.pairs); given = rw header whole; first = rw none refl } in
+    let are = words-whole h.pairs h.header.keys in
+    let asks : AsksForCells (flat h.pairs) = record { faultless = rw are.0 h.header.faultless; paired = rw are.0 (paired h.pairs); given = rw are.0 whole; first = rw are.1 refl } in
     rw (m, same) asks
 
 -- ---- the grid
 
-abbrev pub is_whole : Pairs → Type 0
-is_whole ps = IsWhole (slots_of ps)
-
-pub whole_slots : (ps : Pairs) → missing_fault (flat ps) ≡ None → is_whole ps
-whole_slots ps e = IsWhole-from_missing (slots_of ps) (missing_of-slots_of ps ∙ e)
-
-product : (o q : Option (Word × Word)) (p r : Word × Word) → o ≡ Some p → q ≡ Some r → unwrap_or (option_map (λ (x : Word × Word). number_of x.1) o) 0 * unwrap_or (option_map (λ (x : Word × Word). number_of x.1) q) 0 ≡ number_of p.1 * number_of r.1
-product o q p r e k = rw (e, k) refl
-
-some_wanted : (ps : Pairs) → header_fault [] (flat ps) ≡ None → is_whole ps → 1 ≤ cells_wanted (flat ps)
-some_wanted ps none w =
-    let cols = value_of ps Ncols none (sym (is_given-slots_of Ncols ps) ∙ w.cols) in
-    let rows = value_of ps Nrows none (sym (is_given-slots_of Nrows ps) ∙ w.rows) in
-    let a = (size_between cols.0.1 cols.2).0 in
-    let b = (size_between rows.0.1 rows.2).0 in
-    let at : wanted_of (slots_of ps) ≡ number_of cols.0.1 * number_of rows.0.1 = product (given Ncols ps) (given Nrows ps) cols.0 rows.0 cols.1 rows.1 in
-    let b1 = one-le-mul a b in
-    subst (λ n. 1 ≤ n) (sym at ∙ wanted_of-slots_of ps) b1
+some_wanted : (header : List Word) → header_fault [] header ≡ None → missing_fault header ≡ None → 1 ≤ cells_wanted header
+some_wanted header none missing =
+    let given = given_slots header missing in
+    one-le-mul (size_between (word_for Ncols header) (value_of header Ncols none given.cols).0).0 (size_between (word_for Nrows header) (value_of header Nrows none given.rows).0).0
 
 -- in the header: no height came
 pub end-none : (j j' : Judge) (ws : List Word) (h : HasJudged j ws) → j.stage ≡ AtKey → AreHeights j' h.pairs [] → end_fault ws ≡ Some (TooFew 0)
 end-none j j' ws h e heights =
-    let header = header_whole j.header h.pairs h.header in
-    let none = heights_none j.header h.pairs h.header in
-    let some : nat_lt 0 (cells_wanted (flat h.pairs)) ≡ true = lt-ltb 0 (cells_wanted (flat h.pairs)) (let k = some_wanted h.pairs h.header.faultless (whole_slots h.pairs heights.whole) in omega (arith, k)) in
-    ap end_fault (at_key j ws h e) ∙ rw (header, paired h.pairs, heights.whole, none, some) refl
+    let are = words-whole h.pairs h.header.keys in
+    let some : nat_lt 0 (cells_wanted (flat h.pairs)) ≡ true = lt-ltb 0 (cells_wanted (flat h.pairs)) (let k = some_wanted (flat h.pairs) h.header.faultless heights.whole in omega (arith, k)) in
+    ap end_fault (at_key j ws h e) ∙ rw (are.0, paired h.pairs, heights.whole, are.1, some) refl
 
 -- among the heights: whether too few came
 pub end-heights : (j : Judge) (ws : List Word) (h : HasJudged j ws) → j.stage ≡ AtHeights → end_fault ws ≡ cond (nat_lt (length j.cells.items) j.wanted) (Some (TooFew (length j.cells.items))) None
 end-heights j ws h e =
     let there = at_heights j ws h e in
-    let header = header_before j.header h.pairs h.rest h.header there.0 in
-    let heights = heights_after j.header h.pairs h.rest h.header there.0 in
+    let are = words-after j.header h.pairs h.rest h.header there.0 in
     let place = place_of j h.pairs h.rest there.1 in
-    ap end_fault h.words ∙ rw (header, paired h.pairs, there.1.whole, heights, place, there.1.wanted) refl
+    ap end_fault h.words ∙ rw (are.0, paired h.pairs, there.1.whole, are.1, place, there.1.wanted) refl
 
 centre_of : (o : Option (Word × Word)) → option_map_or (λ (a : Anchor). a.centre) (option_map (λ (p : Word × Word). anchor_at (is_centre p.0) p.1) o) false ≡ option_map_or (λ (p : Word × Word). is_centre p.0) o false
 centre_of None = refl
@@ -111,69 +197,67 @@ word_of None = refl
 word_of (Some p) = refl
 
 -- the grid of the slots is the one that the words spell
-pub raster_of-grid_of : (d : ℕ) (ps : Pairs) (ws hs : List Word) → header_words ws ≡ flat ps → height_words ws ≡ hs → raster_of (slots_of ps) d (nodata_for (flat ps)) (map (cell_of d (nodata_for (flat ps))) hs) ≡ grid_of d ws
+raster_of-grid_of : (d : ℕ) (ps : Pairs) (ws hs : List Word) → header_words ws ≡ flat ps → height_words ws ≡ hs → raster_of (slots_of ps) d (nodata_for (flat ps)) (map (cell_of d (nodata_for (flat ps))) hs) ≡ grid_of d ws
 raster_of-grid_of d ps ws hs header heights =
     rw (header, heights, pairs-flat ps, number-of_pair (given Ncols ps), number-of_pair (given Nrows ps), centre_of (given Xll ps), word_of (given Xll ps), centre_of (given Yll ps), word_of (given Yll ps)) refl
 
-nodata_ok : (ps : Pairs) → header_fault [] (flat ps) ≡ None → IsHeaderWord (nodata_for (flat ps))
-nodata_ok ps none = rw (pairs-flat ps) (go (given Nodata ps) refl)
+nodata_ok : (header : List Word) → header_fault [] header ≡ None → IsHeaderWord (nodata_for header)
+nodata_ok header none = go (value_for Nodata header) (valid [] header Nodata none)
   where
-    go : (o : Option (Word × Word)) → given Nodata ps ≡ o → IsHeaderWord (unwrap_or (option_map (λ (p : Word × Word). p.1) o) (codes "-9999"))
-    go None e = (lit≤ tt, refl)
-    go (Some p) e = let ok = valid [] ps Nodata p none e in (ok.1, ok.0)
+    go : (o : Option Word) → IfSome o (IsShortValue Nodata) → IsHeaderWord (unwrap_or o (codes "-9999"))
+    go None ok = (lit≤ tt, refl)
+    go (Some w) ok = (ok.1, ok.0)
 
-pub lawful_slots : (ps : Pairs) (d : ℕ) (hs : List Word) → header_fault [] (flat ps) ≡ None → missing_fault (flat ps) ≡ None → d ≤ 6 → heights_fault d (flat ps) 0 hs ≡ None → cells_wanted (flat ps) ≤ length hs → IsLawful (raster_of (slots_of ps) d (nodata_for (flat ps)) (map (cell_of d (nodata_for (flat ps))) hs))
-lawful_slots ps d hs none missing scale faultless enough =
-    let w = whole_slots ps missing in
-    let cols = value_of ps Ncols none (sym (is_given-slots_of Ncols ps) ∙ w.cols) in
-    let rows = value_of ps Nrows none (sym (is_given-slots_of Nrows ps) ∙ w.rows) in
-    let xll = value_of ps Xll none (sym (is_given-slots_of Xll ps) ∙ w.xll) in
-    let yll = value_of ps Yll none (sym (is_given-slots_of Yll ps) ∙ w.yll) in
-    let cellsize = value_of ps Cellsize none (sym (is_given-slots_of Cellsize ps) ∙ w.cellsize) in
-    let above = and_parts (is_decimal cellsize.0.1) (is_above_zero cellsize.0.1) cellsize.2 in
-    let cells = cells_ok d (flat ps) 0 hs (omega arith) faultless in
-    let size : length (map (cell_of d (nodata_for (flat ps))) hs) ≡ wanted_of (slots_of ps) = length-map hs (cell_of d (nodata_for (flat ps))) ∙ (let n : length hs ≡ cells_wanted (flat ps) = omega (arith, cells.0) in n) ∙ sym (wanted_of-slots_of ps) in
+-- words without a fault spell a lawful grid
+pub lawful_words : (d : ℕ) (ws : List Word) → d ≤ 6 → words_fault d ws ≡ None → end_fault ws ≡ None → IsLawful (grid_of d ws)
+lawful_words d ws few faultless end =
+    let header = header_words ws in
+    let heights = height_words ws in
+    let first = or_none (header_fault [] header) _ faultless in
+    let whole = or_none (missing_fault header) _ (or_none (no_value_fault header) _ end).1 in
+    let enough = ltb-false (length heights) (cells_wanted header) (then_none _ (TooFew (length heights)) None whole.1).0 in
+    let given = given_slots header whole.0 in
+    let cols = size_between (word_for Ncols header) (value_of header Ncols first.0 given.cols).0 in
+    let rows = size_between (word_for Nrows header) (value_of header Nrows first.0 given.rows).0 in
+    let xll = value_of header Xll first.0 given.xll in
+    let yll = value_of header Yll first.0 given.yll in
+    let cellsize = value_of header Cellsize first.0 given.cellsize in
+    let above = and_parts (is_decimal (word_for Cellsize header)) (is_above_zero (word_for Cellsize header)) cellsize.0 in
+    let cells = cells_ok d header 0 heights (omega arith) first.1 in
+    let size : length heights ≡ cells_wanted header = omega (arith, cells.0) in
     record {
       terrain = record {
-        some_col = rw cols.1 (size_between cols.0.1 cols.2).0;
-        some_row = rw rows.1 (size_between rows.0.1 rows.2).0;
-        few_cols = rw cols.1 (size_between cols.0.1 cols.2).1;
-        few_rows = rw rows.1 (size_between rows.0.1 rows.2).1;
-        size = size;
+        some_col = cols.0;
+        some_row = rows.0;
+        few_cols = cols.1;
+        few_rows = rows.1;
+        size = length-map heights (cell_of d (nodata_for header)) ∙ size;
         heights = cells.1.0;
         sinks = λ k d below. absurd (omega (arith, below));
       };
-      scale = scale;
-      xll = rw xll.1 (xll.3, xll.2);
-      yll = rw yll.1 (yll.3, yll.2);
-      cellsize = rw cellsize.1 (cellsize.3, above.0);
-      above_zero = rw cellsize.1 above.1;
-      nodata = nodata_ok ps none;
+      scale = few;
+      xll = (xll.1, xll.0);
+      yll = (yll.1, yll.0);
+      cellsize = (cellsize.1, above.0);
+      above_zero = above.1;
+      nodata = nodata_ok header first.0;
       apart = cells.1.1;
     }
 
--- the raster of a judge whose heights are enough
-pub raster-same : (j : Judge) (ps : Pairs) (hs : List Word) → IsHeaderOf j.header ps → AreHeights j ps hs → raster_of j.header j.scale j.nodata j.cells.items ≡ raster_of (slots_of ps) j.scale (nodata_for (flat ps)) (map (cell_of j.scale (nodata_for (flat ps))) hs)
-raster-same j ps hs k heights =
-    ap (λ h. raster_of h j.scale j.nodata j.cells.items) k.slots
-    ∙ ap (λ c. raster_of (slots_of ps) j.scale j.nodata c) heights.cells
-    ∙ ap (λ n. raster_of (slots_of ps) j.scale n (map (cell_of j.scale n) hs)) heights.nodata
-
+-- the grid of a judge whose heights are enough
 pub whole-grid : (j : Judge) (ws : List Word) → HasJudged j ws → j.stage ≡ AtHeights → IsWhole j.header
-whole-grid j ws h e =
-    let there = at_heights j ws h e in
-    subst IsWhole (sym h.header.slots) (whole_slots h.pairs there.1.whole)
-
-pub lawful-grid : (j : Judge) (ws : List Word) → HasJudged j ws → j.stage ≡ AtHeights → j.scale ≤ 6 → j.wanted ≤ length j.cells.items → IsLawful (raster_of j.header j.scale j.nodata j.cells.items)
-lawful-grid j ws h e scale enough =
-    let there = at_heights j ws h e in
-    let place = place_of j h.pairs h.rest there.1 in
-    subst IsLawful (sym (raster-same j h.pairs h.rest h.header there.1)) (lawful_slots h.pairs j.scale h.rest h.header.faultless there.1.whole scale there.1.faultless (omega (arith, place, there.1.wanted)))
+whole-grid j ws h e = subst IsWhole (sym h.header.slots) (whole_slots h.pairs (at_heights j ws h e).1.whole)
 
 pub spelled-grid : (j : Judge) (ws : List Word) → HasJudged j ws → j.stage ≡ AtHeights → raster_of j.header j.scale j.nodata j.cells.items ≡ grid_of j.scale ws
 spelled-grid j ws h e =
     let there = at_heights j ws h e in
-    let header = header_before j.header h.pairs h.rest h.header there.0 in
-    let heights = heights_after j.header h.pairs h.rest h.header there.0 in
-    raster-same j h.pairs h.rest h.header there.1
-    ∙ raster_of-grid_of j.scale h.pairs ws h.rest (ap header_words h.words ∙ header) (ap height_words h.words ∙ heights)
+    let are = words-after j.header h.pairs h.rest h.header there.0 in
+    ap (λ x. raster_of x j.scale j.nodata j.cells.items) h.header.slots
+    ∙ ap (raster_of (slots_of h.pairs) j.scale j.nodata) there.1.cells
+    ∙ ap (λ n. raster_of (slots_of h.pairs) j.scale n (map (cell_of j.scale n) h.rest)) there.1.nodata
+    ∙ raster_of-grid_of j.scale h.pairs ws h.rest (ap header_words h.words ∙ are.0) (ap height_words h.words ∙ are.1)
+
+pub lawful-grid : (j : Judge) (ws : List Word) → HasJudged j ws → j.stage ≡ AtHeights → j.scale ≤ 6 → j.wanted ≤ length j.cells.items → IsLawful (raster_of j.header j.scale j.nodata j.cells.items)
+lawful-grid j ws h e scale enough =
+    subst IsLawful (sym (spelled-grid j ws h e))
+    (lawful_words j.scale ws scale (judged_none j ws h) (end-heights j ws h e ∙ cond-false _ _ _ (le-ltb (length j.cells.items) j.wanted enough)))

@@ -4,7 +4,7 @@ use Rattle.std.specs.Prelude.{filter}
 use Rattle.std.specs.Option.{option_or}
 use Rattle.std.specs.List.{list_any}
 use Rattle.std.proofs.lemmas.Bool.{cases_Bool}
-use Rattle.std.proofs.lemmas.List.{append-nil, append_assoc, length-append}
+use Rattle.std.proofs.lemmas.List.{append-nil, append_assoc, length-append, take-append-le}
 use Rattle.terrain.specs.Words.{Word, is_word, is_separator, words, ended_words}
 use Rattle.ascii_grid.specs.Header.{begins_with_letter, is_long, header_words, height_words, header_fault, key_fault, value_fault, key_left, missing_fault}
 use Rattle.ascii_grid.specs.GridText.{words_fault, heights_fault, height_fault, AsksAtHeight}
@@ -42,13 +42,11 @@ ended-more front more =
     let next = further front at.0 at.1 more at.2 in
     (next.0, next.2.ended ∙ ap (λ z. z ++ next.0) (sym at.2.ended))
 
-pub words-more : (front more : List ℕ) → (others : List Word) × (words (front ++ more) ≡ ended_words front ++ others)
-words-more front more =
-    let at = parted front in
-    let next = further front at.0 at.1 more at.2 in (
-      next.0 ++ filter is_word (next.1 ∷ []),
-      words-parted (front ++ more) (at.0 ++ next.0) next.1 next.2 ∙ append_assoc at.0 next.0 (filter is_word (next.1 ∷ [])) ∙ ap (λ z. z ++ (next.0 ++ filter is_word (next.1 ∷ []))) (sym at.2.ended),
-    )
+-- all words are those that ended, and what the text's end ends
+pub ended-words : (text : List ℕ) → (others : List Word) × (words text ≡ ended_words text ++ others)
+ended-words text =
+    let at = parted text in
+    (filter is_word (at.1 ∷ []), words-parted text at.0 at.1 at.2 ∙ ap (λ z. z ++ filter is_word (at.1 ∷ [])) (sym at.2.ended))
 
 -- ---- the fault of more words
 
@@ -132,10 +130,6 @@ same_header (k ∷ v ∷ rest) more h =
       | inr height ↦ (rw height refl, rw height refl)
     ]
 
-same_first : (hs more : List Word) → 0 < length hs → take 1 (hs ++ more) ≡ take 1 hs
-same_first [] more h = absurd (omega arith)
-same_first (w ∷ hs) more h = refl
-
 pub asks-more : (ws more : List Word) → AsksAtHeight ws → AsksAtHeight (ws ++ more)
 asks-more ws more h =
     let same = same_header ws more h.1 in (
@@ -143,7 +137,7 @@ asks-more ws more h =
         faultless = ap (header_fault []) same.0 ∙ h.0.faultless;
         paired = ap key_left same.0 ∙ h.0.paired;
         given = ap missing_fault same.0 ∙ h.0.given;
-        first = ap (λ z. list_any is_long (take 1 z)) same.1 ∙ ap (list_any is_long) (same_first (height_words ws) more h.1) ∙ h.0.first;
+        first = ap (λ z. list_any is_long (take 1 z)) same.1 ∙ ap (list_any is_long) (take-append-le 1 (height_words ws) more (omega (arith, h.1))) ∙ h.0.first;
       },
       omega (arith, h.1, ap length same.1, length-append (height_words ws) more),
     )

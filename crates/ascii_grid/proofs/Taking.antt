@@ -1,5 +1,5 @@
 -- One read after another, and a grid that is read piece by piece.
-use Rattle.std.proofs.Common.{ℕ, List, [], ◌++◌, Option, None, Some, sym, ap, subst, ◌∙◌, ◌≡◌, ◌≤◌, length, take, inl, inr}
+use Rattle.std.proofs.Common.{ℕ, List, [], ◌++◌, Option, None, Some, sym, ap, ◌∙◌, ◌≡◌, ◌≤◌, length, take, inl, inr}
 use Rattle.std.specs.Io.KnownBytes.{Consumes, Keeps, IsAtEnd}
 use Rattle.std.proofs.lemmas.List.{append_assoc, append-nil}
 use Rattle.std.proofs.lemmas.Bool.{cases_lt}
@@ -18,15 +18,12 @@ Consumes-more (Some a) None c x y h k = absurd h
 Consumes-more (Some a) (Some b) None x y h k = absurd k
 Consumes-more (Some a) (Some b) (Some c) x y h k = h ∙ ap (λ z. x ++ z) k ∙ sym (append_assoc x y c)
 
--- a read that gave nothing
-pub Consumes-keeps : (a b : Option (List ℕ)) → Keeps a b → Consumes a b []
-Consumes-keeps None b h = tt
-Consumes-keeps (Some xs) None h = absurd h
-Consumes-keeps (Some xs) (Some ys) h = sym h
-
 -- bytes, and then a read that gave nothing
 pub Consumes-kept : (a b c : Option (List ℕ)) (x : List ℕ) → Consumes a b x → Keeps b c → Consumes a c x
-Consumes-kept a b c x h k = subst (λ z. Consumes a c z) (append-nil x) (Consumes-more a b c x [] h (Consumes-keeps b c k))
+Consumes-kept None b c x h k = tt
+Consumes-kept (Some a) None c x h k = absurd h
+Consumes-kept (Some a) (Some b) None x h k = absurd k
+Consumes-kept (Some a) (Some b) (Some c) x h k = h ∙ ap (λ z. x ++ z) (sym k)
 
 -- so much was taken of a reader's bytes and fed, with no fault so far
 pub record IsTaking {R : Type 0} (remaining : R → Option (List ℕ)) (first now : Device R) (scale : ℕ) (r : Reader) (taken : ℕ) : Type 0 where

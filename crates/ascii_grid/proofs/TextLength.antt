@@ -1,16 +1,16 @@
 -- How long a written grid is.
-use Rattle.std.proofs.Common.{◌≡◌, ℕ, zero, suc, ◌+◌, ◌*◌, ◌<◌, ◌≤◌, Bool, true, false, List, [], ◌∷◌, ◌++◌, length, take, drop, map, get_or, Option, None, Some, ℤ, refl, ◌∙◌, arith}
+use Rattle.std.proofs.Common.{◌≡◌, ℕ, zero, suc, ◌+◌, ◌*◌, ◌<◌, ◌≤◌, cond, List, [], ◌∷◌, ◌++◌, length, take, drop, map, get_or, Option, None, Some, ℤ, refl, ◌∙◌, arith}
 use Rattle.std.specs.Prelude.{codes, decimal, IfSome}
 use Rattle.std.specs.List.{All, join_with_byte}
 use Rattle.std.proofs.Math.Nat.{mul_comm, mul-le-mul}
+use Rattle.std.proofs.lemmas.Bool.{cond_both}
 use Rattle.std.proofs.lemmas.List.{length-append, length-take-le, length-drop}
 use Rattle.std.proofs.lemmas.List.Elements.{All-head, All-tail, All-take, All-drop}
 use Rattle.std.proofs.lemmas.Fmt.{length-decimal-le}
 use Rattle.terrain.specs.Raster.{Anchor, Raster, IsHeight, IsLawful}
 use Rattle.ascii_grid.specs.GridText.{most_bytes}
 use Rattle.ascii_grid.specs.Text.{height_text, cell_text, row_text, rows_text, line_text, anchor_text, header_text, heights_text}
-use Rattle.ascii_grid.proofs.ReadBackHeights.{height_short}
-use Rattle.ascii_grid.proofs.ReadBackCells.{size_of_height}
+use Rattle.ascii_grid.proofs.ReadBackCells.{height_short, size_of_height}
 
 -- words of at most 14 bytes, each with the byte after it
 line_short : {X : Type 0} (f : X → List ℕ) (cells : List X) → 0 < length cells → All (λ c. length (f c) ≤ 14) cells → length (join_with_byte 32 (map f cells)) + 1 ≤ 15 * length cells
@@ -37,10 +37,9 @@ line_length : (key value : List ℕ) → length (line_text key value) ≡ length
 line_length key value = omega (arith, length-append (key ++ value) (10 ∷ []), length-append key value)
 
 anchor_length : (corner centre : List ℕ) (a : Anchor) → length corner ≡ 14 → length centre ≡ 14 → length (anchor_text corner centre a) ≡ 15 + length a.word
-anchor_length corner centre a h k = anchor_at corner centre a.centre a.word h k where
-  anchor_at : (corner centre : List ℕ) (c : Bool) (w : List ℕ) → length corner ≡ 14 → length centre ≡ 14 → length (anchor_text corner centre (record { centre = c; word = w })) ≡ 15 + length w
-  anchor_at corner centre true w h k = omega (arith, line_length centre w, k)
-  anchor_at corner centre false w h k = omega (arith, line_length corner w, h)
+anchor_length corner centre a h k =
+    let key = cond_both a.centre centre corner (λ z. length z ≡ 14) (λ _. k) (λ _. h) in
+    omega (arith, line_length (cond a.centre centre corner) a.word, key)
 
 size_digits : (n : ℕ) → n ≤ 4096 → length (decimal n) ≤ 4
 size_digits n h = length-decimal-le 4 n (omega arith) (omega arith) (omega arith)

@@ -43,6 +43,7 @@ fn write_decimals(size: u32, scale: usize, buffer: &mut [u8; ROOM]) -> (u32, usi
 
 /// Writes a height at the end of the buffer, and answers where it starts.
 #[inline(always)]
+#[tactic(auto, using(crate::proofs::Decimals::few_digits))]
 fn write_height(height: Height, scale: u8, buffer: &mut [u8; ROOM]) -> usize
     requires { scale ≤ 6 }
     ensures within { result ≤ 24 }

@@ -154,14 +154,8 @@ impl Header {
         if self.cellsize.is_none() {
             return Err(GridFault::MissingKey(Key::Cellsize));
         }
-        Ok(cell_count(cols, rows))
+        Ok(u32::from(cols) * u32::from(rows))
     }
-}
-
-fn cell_count(cols: u16, rows: u16) -> u32
-    ensures { result ≡ cols * rows }
-{
-    u32::from(cols) * u32::from(rows)
 }
 
 fn decimal(word: &[u8]) -> Option<Word>

@@ -2,27 +2,12 @@ use Rattle.std.proofs.Common.{rules, arith, ◌≤◌, ◌<◌, length}
 use mir.Syntax.{w32}
 use mir.Val.{SFits}
 use Rattle.std.proofs.lemmas.Int.{to_z-of_z}
-use Rattle.ascii_grid.proofs.Decimals.{few_whole_digits, signed_text}
+use Rattle.ascii_grid.proofs.Decimals.{few_digits, signed_text}
 use Rattle.ascii_grid.proofs.cell_text.write_height.Goals as goal
-
-pub write_digits-start-requires : goal.write_digits-start-requires
-write_digits-start-requires c =
-    let few = few_whole_digits _ _ _ c.write_decimals-whole.ensures.left (omega arith) in
-    (omega (arith, few), search rules)
-
-pub overflow_sub-buffer : goal.overflow_sub-buffer
-overflow_sub-buffer c =
-    let few = few_whole_digits _ _ _ c.write_decimals-whole.ensures.left (omega arith) in
-    omega (arith, few)
-
-pub overflow_sub-result : goal.overflow_sub-result
-overflow_sub-result c =
-    let few = few_whole_digits _ _ _ c.write_decimals-whole.ensures.left (omega arith) in
-    omega (arith, few)
 
 pub returns-clause-written : goal.returns-clause-written
 returns-clause-written c =
-    let few = few_whole_digits _ _ _ c.write_decimals-whole.ensures.left (omega arith) in
+    let few = few_digits c.write_decimals-whole.result.0 (omega arith) in
     let fits : SFits w32 c.args.height = search rules in
     let same = to_z-of_z w32 c.args.height fits in
     let some : 0 < c.write_digits-start.result = omega (arith, few) in

@@ -4,8 +4,7 @@ use Rattle.std.proofs.lemmas.List.{append-nil}
 use Rattle.ascii_grid.specs.Reading.{flat, HasJudged, IsWordFault}
 use Rattle.ascii_grid.specs.declared.judge.Judge.{Judge}
 use Rattle.ascii_grid.proofs.Judging.{HasBegun-push}
-use Rattle.ascii_grid.proofs.Told.{long_fault, height_word, no_first_height}
-use Rattle.ascii_grid.proofs.JudgedWords.{at_key, at_heights, same_header}
+use Rattle.ascii_grid.proofs.JudgedWords.{long_fault, height_word, no_first_height, at_key, at_heights, same_header}
 use Rattle.ascii_grid.proofs.judge.Judge.judge.Goals as goal
 
 pub returns-then-word-gt64-clause-word : goal.returns-then-word-gt64-clause-word

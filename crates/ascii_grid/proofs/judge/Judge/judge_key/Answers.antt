@@ -1,8 +1,7 @@
 use Rattle.std.proofs.Common.{◌++◌, ◌∷◌, [], ap, refl}
 use Rattle.std.proofs.lemmas.Result.{err_from_is_err_and}
 use Rattle.ascii_grid.specs.declared.judge.Stage.TheVariants.{AtValue}
-use Rattle.ascii_grid.proofs.Told.{told_slot, word_fault}
-use Rattle.ascii_grid.proofs.JudgedWords.{judged-key, fault-key}
+use Rattle.ascii_grid.proofs.JudgedWords.{told_slot, word_fault, judged-key, fault-key}
 use Rattle.ascii_grid.proofs.judge.Judge.judge_key.Goals as goal
 
 pub returns-clause-word : goal.returns-clause-word
@@ -12,4 +11,4 @@ returns-clause-word c = λ ws h.
 pub returns-in_err-key-clause-word : goal.returns-in_err-key-clause-word
 returns-in_err-key-clause-word c = λ ws h.
     let p = err_from_is_err_and c.from_residual.result c.from_residual.ensures.1 in
-    rw (p.1, p.2) (word_fault c.args.self.now.scale (ws ++ c.args.word.now ∷ []) _ (told_slot _ _ _ c.in_err-key.ensures.err) (fault-key c.args.self.now c.args.self.now.scale ws c.args.word.now _ h c.requires.stage c.requires.short c.requires.letter c.in_err-key.ensures.err))
+    rw (p.1, p.2) (word_fault c.args.self.now.scale (ws ++ c.args.word.now ∷ []) _ (told_slot _ _ _ c.in_err-key.ensures.err) (fault-key c.args.self.now ws c.args.word.now _ h c.requires.stage c.requires.short c.requires.letter c.in_err-key.ensures.err))

@@ -1,6 +1,8 @@
-use Rattle.std.proofs.Common.{rules, sym, ◌∙◌, refl}
+use Rattle.std.proofs.Common.{rules, sym, ◌∙◌, refl, subst}
 use Rattle.std.proofs.lemmas.Result.{MatchResult-weaker}
-use Rattle.ascii_grid.proofs.Ending.{words_after_byte, kept_more, kept_full, words_after_separator, fault_after_separator}
+use Rattle.ascii_grid.proofs.Ending.{words_after_byte, kept_more, kept_full, words_after_separator}
+use Rattle.ascii_grid.proofs.Parting.{ended_words-separator}
+use Rattle.ascii_grid.specs.Reading.{IsWordFault}
 use Rattle.ascii_grid.proofs.progress.Progress.take.Goals as goal
 
 pub returns-then-is_separator-clause-words : goal.returns-then-is_separator-clause-words
@@ -8,7 +10,7 @@ returns-then-is_separator-clause-words c = λ text h.
     let at = sym c.is_separator.ensures ∙ c.if-is_separator.true in
     MatchResult-weaker c.end_word.result (c.end_word.ensures.words text h)
     (λ _ k. words_after_separator c.args.self.now c.end_word.new.self text c.args.byte h at k)
-    (λ f k. fault_after_separator c.args.self.now.judge.scale text c.args.byte f at k)
+    (λ f k. subst (λ ws. IsWordFault c.args.self.now.judge.scale ws f) (sym (ended_words-separator text c.args.byte at)) k)
 
 pub returns-then-has_room-clause-words : goal.returns-then-has_room-clause-words
 returns-then-has_room-clause-words c = λ text h.

@@ -1,7 +1,8 @@
-use Rattle.std.proofs.Common.{arith, ap, length, ◌++◌, ◌∙◌, take}
+use Rattle.std.proofs.Common.{arith, ap, length, ◌++◌, ◌∙◌, take, subst}
 use Rattle.std.proofs.lemmas.List.{take_rest, length-drop}
 use Rattle.std.proofs.lemmas.Result.{err_from_is_err_and}
-use Rattle.ascii_grid.proofs.Ending.{words_further, fault_further}
+use Rattle.ascii_grid.proofs.Ending.{same_front, fault_further}
+use Rattle.ascii_grid.specs.Reading.{HasWords}
 use Rattle.ascii_grid.proofs.progress.Progress.take_all.Goals as goal
 
 pub returns-in_err-at-clause-words : goal.returns-in_err-at-clause-words
@@ -13,5 +14,5 @@ pub loop-at-preserved : goal.loop-at-preserved
 loop-at-preserved c = record {
   within = (let n = c.in_ok-at.ensures.taken.1 in let size = ap length (take_rest c.args.bytes.now c.loop-at.at) in omega (arith, n, size, length-drop c.loop-at.at c.args.bytes.now, c.loop-at.invariant.within));
   scale = c.in_ok-at.ensures.scale ∙ c.loop-at.invariant.scale;
-  words = λ text h. words_further c.take_some.new.self text c.args.bytes.now _ c.loop-at.at c.in_ok-at.field-0 (take_rest c.args.bytes.now c.loop-at.at) (c.in_ok-at.ensures.words (text ++ take c.loop-at.at c.args.bytes.now) (c.loop-at.invariant.words text h));
+  words = λ text h. subst (HasWords c.take_some.new.self) (same_front text c.args.bytes.now _ c.loop-at.at c.in_ok-at.field-0 (take_rest c.args.bytes.now c.loop-at.at)) (c.in_ok-at.ensures.words (text ++ take c.loop-at.at c.args.bytes.now) (c.loop-at.invariant.words text h));
 }

@@ -1,21 +1,18 @@
-use Rattle.std.proofs.Common.{rules, List, ℕ, arith, ◌≡◌, ◌+◌, ◌++◌, None, Some, refl, ap, sym, ◌∙◌, subst}
+use Rattle.std.proofs.Common.{arith, ◌≡◌, ◌+◌, ◌++◌, None, Some, refl, ap, sym, ◌∙◌, subst}
 use Rattle.ascii_grid.specs.GridText.{IsRefusalSoFar, fault_so_far}
 use Rattle.ascii_grid.specs.Reader.{HasTaken}
 use Rattle.ascii_grid.specs.declared.fault.GridFault.TheVariants.{TooLong}
-use Rattle.ascii_grid.proofs.Feeding.{answered, answered_more, refusal_stays, fed_fault, fed_long, fed_whole, faultless}
+use Rattle.ascii_grid.proofs.Feeding.{answered, answered_more, fed_fault, fed_long, fed_whole, faultless}
 use Rattle.ascii_grid.proofs.reader.GridReader.feed.Goals as goal
 
-pub returns-in-Some : goal.returns-in-Some
-returns-in-Some c =
-    let told = λ (text : List ℕ) (h : HasTaken c.args.self.now text). answered _ text c.in-Some.fault c.in-Some.is (subst (λ r. HasTaken r text) (sym c.self.view_is) h) in
-    record {
-      scale = search rules;
-      taken = λ text h. subst (λ r. HasTaken r (text ++ c.args.piece.now)) c.self.view_is (answered_more _ text c.args.piece.now c.in-Some.fault c.in-Some.is (told text h));
-      ok = search rules;
-      err = λ text h. subst (λ r. IsRefusalSoFar r.scale (text ++ c.args.piece.now) c.in-Some.fault) c.self.view_is (refusal_stays _ text c.args.piece.now c.in-Some.fault (told text h));
-      fault = search rules;
-      again = search rules;
-    }
+pub returns-in-Some-clause-taken : goal.returns-in-Some-clause-taken
+returns-in-Some-clause-taken c = λ text h.
+    subst (λ r. HasTaken r (text ++ c.args.piece.now)) c.self.view_is (answered_more _ text c.args.piece.now c.in-Some.fault c.in-Some.is (subst (λ r. HasTaken r text) (sym c.self.view_is) h))
+
+pub returns-in-Some-clause-err : goal.returns-in-Some-clause-err
+returns-in-Some-clause-err c = λ text h.
+    subst (λ r. IsRefusalSoFar r.scale (text ++ c.args.piece.now) c.in-Some.fault) c.self.view_is
+    (answered _ (text ++ c.args.piece.now) c.in-Some.fault c.in-Some.is (answered_more _ text c.args.piece.now c.in-Some.fault c.in-Some.is (subst (λ r. HasTaken r text) (sym c.self.view_is) h)))
 
 pub invariant_of-self : goal.invariant_of-self
 invariant_of-self c =
@@ -23,17 +20,14 @@ invariant_of-self c =
     let fed = fed_fault _ taken.0 c.args.piece.now c.min-within.result c.in-Err.fault c.min-within.ensures c.in_default.is taken.1 c.in-Err.ensures.words in
     (omega (arith, c.in-Err.ensures.scale, c.self.invariant.0), (taken.0 ++ c.args.piece.now, rw c.in-Err.ensures.scale fed))
 
-pub returns-in-Err : goal.returns-in-Err
-returns-in-Err c =
-    let told = λ (text : List ℕ) (h : HasTaken c.args.self.now text). fed_fault _ text c.args.piece.now c.min-within.result c.in-Err.fault c.min-within.ensures c.in_default.is (subst (λ r. HasTaken r text) (sym c.self.view_is) h) c.in-Err.ensures.words in
-    record {
-      scale = search rules;
-      taken = λ text h. rw c.in-Err.ensures.scale (told text h);
-      ok = search rules;
-      err = λ text h. subst (λ r. IsRefusalSoFar r.scale (text ++ c.args.piece.now) c.in-Err.fault) c.self.view_is (told text h);
-      fault = search rules;
-      again = search rules;
-    }
+pub returns-in-Err-clause-taken : goal.returns-in-Err-clause-taken
+returns-in-Err-clause-taken c = λ text h.
+    rw c.in-Err.ensures.scale (fed_fault _ text c.args.piece.now c.min-within.result c.in-Err.fault c.min-within.ensures c.in_default.is (subst (λ r. HasTaken r text) (sym c.self.view_is) h) c.in-Err.ensures.words)
+
+pub returns-in-Err-clause-err : goal.returns-in-Err-clause-err
+returns-in-Err-clause-err c = λ text h.
+    subst (λ r. IsRefusalSoFar r.scale (text ++ c.args.piece.now) c.in-Err.fault) c.self.view_is
+    (fed_fault _ text c.args.piece.now c.min-within.result c.in-Err.fault c.min-within.ensures c.in_default.is (subst (λ r. HasTaken r text) (sym c.self.view_is) h) c.in-Err.ensures.words)
 
 pub invariant_of-self-then-within-piece : goal.invariant_of-self-then-within-piece
 invariant_of-self-then-within-piece c =

@@ -3,7 +3,8 @@ use Rattle.std.proofs.lemmas.Result.{MatchResult-weaker, err_from_is_err_and}
 use Rattle.terrain.specs.Words.{words}
 use Rattle.ascii_grid.specs.GridText.{IsGridText, IsRefusal}
 use Rattle.ascii_grid.specs.Reader.{HasTaken}
-use Rattle.ascii_grid.proofs.Feeding.{answered, whole_refusal, reading, end_refused, judged_none, finished}
+use Rattle.ascii_grid.proofs.Feeding.{answered, whole_refusal, reading, end_refused, finished}
+use Rattle.ascii_grid.proofs.JudgedWords.{judged_none}
 use Rattle.ascii_grid.proofs.reader.GridReader.finish.Goals as goal
 
 pub returns-in-Some-clause-fault : goal.returns-in-Some-clause-fault
