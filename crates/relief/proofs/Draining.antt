@@ -1,5 +1,5 @@
 -- A grid that was read, given its sinks.
-use Rattle.std.proofs.Common.{◌≡◌, ℕ, ◌+◌, ◌<◌, ◌≤◌, ◌&&◌, Bool, true, false, not, cond, eqb, length, List, [], ◌∷◌, Option, None, Some, Ok, Err, sym, ap, subst, refl, ◌∙◌}
+use Rattle.std.proofs.Common.{◌≡◌, ℕ, ◌+◌, ◌<◌, ◌≤◌, ◌&&◌, true, false, not, eqb, length, List, [], ◌∷◌, Option, None, Some, Ok, Err, sym, ap, subst, refl, ◌∙◌}
 use Rattle.std.specs.Prelude.{nat_lt, is_none}
 use Rattle.std.specs.Option.{option_map, option_or}
 use Rattle.std.proofs.lemmas.Bool.{le-ltb, lt-ltb, cond-false, cond-true}
@@ -10,6 +10,7 @@ use Rattle.terrain.specs.declared.place.Place.{Place}
 use Rattle.terrain.specs.declared.sinks.SinkFault.{SinkFault}
 use Rattle.terrain.specs.declared.sinks.SinkFault.TheVariants as sink
 use Rattle.ascii_grid.specs.GridText.{IsGridText}
+use Rattle.sight.proofs.Refused.{IsNot, not_if, not_or}
 use Rattle.tiles.specs.Cutting.{most_tiles}
 use Rattle.tiles.specs.declared.tiling.TilingFault.TheVariants.{TooManyTiles}
 use Rattle.request.specs.Wish.{IsView, Wish}
@@ -66,30 +67,15 @@ pub no_sink_fault : {T : Type 0} (fault : Option SinkFault) (x : T) → RefusesS
 no_sink_fault None x h = refl
 no_sink_fault (Some f) x h = let bad = h.told f refl in absurd (cc)
 
-pub first_of : {F : Type 0} (p q : Option F) (f : F) → (p ≡ Some f → ⊥) → (q ≡ Some f → ⊥) → option_or p q ≡ Some f → ⊥
-first_of None q f h k e = k e
-first_of (Some g) q f h k e = h e
-
 -- sinks are never at fault for want of memory
-sink_is_no_want : (t : Terrain) (i : ℕ) (p : Place) → sink_fault_of t i p ≡ Some sink.Memory → ⊥
-sink_is_no_want t i p e = go (not (nat_lt p.row t.rows && nat_lt p.col t.cols)) e where
-  nodata : (b : Bool) → cond b (Some (sink.OnNodata i)) None ≡ Some sink.Memory → ⊥
-  nodata true h = cc
-  nodata false h = cc
-
-  go : (b : Bool) → cond b (Some (sink.Outside i)) (cond (is_none (height_at t p)) (Some (sink.OnNodata i)) None) ≡ Some sink.Memory → ⊥
-  go true h = cc
-  go false h = nodata (is_none (height_at t p)) h
-
-first_is_no_want : (t : Terrain) (i : ℕ) (ps : List Place) → first_sink_fault t i ps ≡ Some sink.Memory → ⊥
+first_is_no_want : (t : Terrain) (i : ℕ) (ps : List Place) → IsNot sink.Memory (first_sink_fault t i ps)
 first_is_no_want t i [] e = cc
-first_is_no_want t i (p ∷ rest) e = first_of _ _ _ (sink_is_no_want t i p) (first_is_no_want t (i + 1) rest) e
+first_is_no_want t i (p ∷ rest) e =
+    not_or (sink_fault_of t i p) _ (not_if (not (nat_lt p.row t.rows && nat_lt p.col t.cols)) _ _ (λ h. cc) (not_if (is_none (height_at t p)) _ _ (λ h. cc) (λ h. cc)))
+    (first_is_no_want t (i + 1) rest) e
 
-sinks_are_no_want : (t : Terrain) (ps : List Place) → sinks_fault t ps ≡ Some sink.Memory → ⊥
-sinks_are_no_want t ps e = go (nat_lt most_sinks (length ps)) e where
-  go : (b : Bool) → cond b (Some sink.TooManySinks) (first_sink_fault t 0 ps) ≡ Some sink.Memory → ⊥
-  go true h = cc
-  go false h = first_is_no_want t 0 ps h
+sinks_are_no_want : (t : Terrain) (ps : List Place) → IsNot sink.Memory (sinks_fault t ps)
+sinks_are_no_want t ps = not_if (nat_lt most_sinks (length ps)) _ _ (λ h. cc) (first_is_no_want t 0 ps)
 
 -- refused sinks as a refusal of the work
 pub sinks_refused : {T : Type 0} (w : Wish) (g : Raster) (f : SinkFault) → (IsView w.map → w.sinks ≡ []) → eqb (length w.sinks) 0 ≡ false → tiles_of g w.tile ≤ most_tiles → RefusesSinks {T = T} (sinks_fault g.terrain w.sinks) (Err f) → IsWorkRefusal w g (of_sinks f)

@@ -1,4 +1,3 @@
-mod Refused
 mod Draining
 mod Ran
 mod Viewing

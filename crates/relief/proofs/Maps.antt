@@ -1,5 +1,5 @@
 -- A text has one map.
-use Rattle.std.proofs.Common.{◌≡◌, ℕ, ◌⊎◌, List, Option, None, Some, ℤ, sym, ap, subst, refl, ◌∙◌, inl, inr}
+use Rattle.std.proofs.Common.{◌≡◌, ℕ, List, Option, Some, ℤ, sym, ap, subst, ◌∙◌, inl, inr}
 use Rattle.std.proofs.lemmas.Option.{MatchOption-at_none, MatchOption-at_some}
 use Rattle.terrain.specs.Raster.{Raster, Terrain}
 use Rattle.terrain.specs.Neighbours.{height_at}
@@ -10,6 +10,7 @@ use Rattle.terrain.specs.declared.place.Place.{Place}
 use Rattle.drainage.proofs.Uniqueness.{one_filled_height}
 use Rattle.drainage.specs.Following.{Directed, code_at}
 use Rattle.drain.specs.Directions.{AreDirections}
+use Rattle.drain.proofs.Nearby.{cases_option}
 use Rattle.drain.proofs.Unique.{same_entries, one_list_of_directions}
 use Rattle.flow.specs.Counts.{IsMapOf, accumulation, basin}
 use Rattle.sight.proofs.Uniqueness.{viewsheds_are_one}
@@ -17,10 +18,6 @@ use Rattle.request.specs.declared.map.Map.{Map}
 use Rattle.request.specs.declared.map.Map.TheVariants.{Fill, Flow, Accumulate, Basins, View}
 use Rattle.request.specs.Laws.{AreSame}
 use Rattle.relief.specs.MapText.{IsDrainage, IsMapText, IsMapOfText}
-
-cases_option : {X : Type 0} (o : Option X) → (o ≡ None) ⊎ ((x : X) × (o ≡ Some x))
-cases_option None = inl refl
-cases_option (Some x) = inr (x, refl)
 
 -- there is one list of filled heights
 one_list_of_heights : (t : Terrain) (xs ys : List (Option ℤ)) → IsFilled t xs → IsFilled t ys → xs ≡ ys

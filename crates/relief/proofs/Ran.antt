@@ -17,7 +17,7 @@ use Rattle.relief.specs.MapText.{IsMapText}
 use Rattle.relief.specs.Refusals.{wish_fault, IsWorkRefusal}
 use Rattle.relief.specs.Runs.{Runs}
 use Rattle.relief.proofs.Draining.{fault_without, map_of_text}
-use Rattle.relief.proofs.Refused.{work_refused, work_is_no_device}
+use Rattle.relief.proofs.Viewing.{work_refused, work_is_no_device}
 
 Keeps-same : (a : Option (List ℕ)) → Keeps a a
 Keeps-same None = tt

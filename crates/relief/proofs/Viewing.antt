@@ -1,69 +1,39 @@
--- What a viewshed's answer says of the wish.
-use Rattle.std.proofs.Common.{◌≡◌, ◌⊎◌, ℕ, ◌+◌, ◌≤◌, Bool, true, false, ◌||◌, cond, List, [], ◌∷◌, length, Option, None, Some, Ok, Err, sym, ap, subst, refl, ◌∙◌, arith, inl, inr}
-use Rattle.std.specs.Prelude.{nat_lt, is_none}
+-- Refusals of the work as refusals of the run, and what a viewshed's answer says of the wish.
+use Rattle.std.proofs.Common.{◌≡◌, ◌⊎◌, ℕ, ◌≤◌, Option, None, Some, Ok, Err, sym, ap, subst, refl, ◌∙◌, arith, inl, inr, Bool, true, false, cond, List}
 use Rattle.std.specs.Option.{option_map, option_or}
-use Rattle.std.specs.List.{position_from}
-use Rattle.terrain.specs.Raster.{Raster, Terrain}
-use Rattle.terrain.specs.Neighbours.{height_at}
+use Rattle.terrain.specs.Raster.{Raster}
 use Rattle.tile_jobs.specs.declared.JobFault.{JobFault}
 use Rattle.tile_jobs.specs.declared.JobFault.TheVariants as jobs
 use Rattle.sight.specs.declared.fault.SightFault.{SightFault}
 use Rattle.sight.specs.declared.fault.SightFault.TheVariants as sight
-use Rattle.sight.specs.Sight.{place_of, most_observers, longest_radius}
-use Rattle.sight.specs.Refusals.{RefusesSight, is_high, is_outside, place_fault_of, place_fault, observers_fault}
-use Rattle.sight.specs.declared.observer.Observer.{Observer}
+use Rattle.sight.specs.Refusals.{RefusesSight}
+use Rattle.sight.proofs.Refused.{not_jobs}
 use Rattle.request.specs.declared.map.Map.{Map}
 use Rattle.request.specs.declared.map.Map.TheVariants.{Fill, Flow, Accumulate, Basins, View}
-use Rattle.relief.specs.declared.fault.RunFault.TheVariants.{Sight}
+use Rattle.relief.specs.declared.fault.RunFault.TheVariants.{Sight, Grid, Tiling, Jobs, Sinks, Read, Write}
 use Rattle.relief.specs.Faults.{of_sight}
 use Rattle.request.specs.Wish.{Wish}
-use Rattle.relief.specs.Refusals.{map_fault, wish_fault, IsWorkRefusal}
-use Rattle.relief.proofs.Draining.{first_of}
+use Rattle.relief.specs.Refusals.{map_fault, wish_fault, IsWorkRefusal, tiles_of, IsRunRefusal}
+use Rattle.std.specs.Prelude.{⊤, nat_lt}
+use Rattle.terrain.specs.Sinks.{sinks_fault}
+use Rattle.terrain.specs.declared.sinks.SinkFault.{SinkFault}
+use Rattle.ascii_grid.specs.GridText.{IsGridText}
+use Rattle.tiles.specs.declared.tiling.TilingFault.TheVariants.{TooManyTiles}
+use Rattle.tiles.specs.Cutting.{most_tiles}
+use Rattle.relief.specs.declared.fault.RunFault.{RunFault}
 
 -- an answer comes only where the observers have no fault
 pub no_fault : {T : Type 0} (fault : Option SightFault) (workers : ℕ) (x : T) → RefusesSight fault workers (Ok x) → fault ≡ None
 no_fault None workers x h = refl
 no_fault (Some f) workers x h = let bad = h.told f refl in absurd (cc)
 
--- a list of observers is never refused for its work
-outside_or_nodata : (t : Terrain) (i : ℕ) (o : Observer) (x : JobFault) → place_fault_of t i o ≡ Some (sight.Jobs x) → ⊥
-outside_or_nodata t i o x e = go (is_outside t o) e where
-  nodata : (b : Bool) → cond b (Some (sight.OnNodata i)) None ≡ Some (sight.Jobs x) → ⊥
-  nodata true h = cc
-  nodata false h = cc
-
-  go : (b : Bool) → cond b (Some (sight.Outside i)) (cond (is_none (height_at t (place_of o))) (Some (sight.OnNodata i)) None) ≡ Some (sight.Jobs x) → ⊥
-  go true h = cc
-  go false h = nodata (is_none (height_at t (place_of o))) h
-
-place_is_no_work : (t : Terrain) (i : ℕ) (os : List Observer) (x : JobFault) → place_fault t i os ≡ Some (sight.Jobs x) → ⊥
-place_is_no_work t i [] x e = cc
-place_is_no_work t i (o ∷ rest) x e = first_of _ _ _ (outside_or_nodata t i o x) (place_is_no_work t (i + 1) rest x) e
-
-observers_are_no_work : (t : Terrain) (os : List Observer) (target radius : ℕ) (x : JobFault) → observers_fault t os target radius ≡ Some (sight.Jobs x) → ⊥
-observers_are_no_work t os target radius x e = many (nat_lt most_observers (length os)) e where
-  eye : (o : Option ℕ) → option_map (λ i. sight.BadEye (Some i)) o ≡ Some (sight.Jobs x) → ⊥
-  eye None h = cc
-  eye (Some i) h = cc
-
-  reach : (b : Bool) → cond b (Some sight.BadRadius) (place_fault t 0 os) ≡ Some (sight.Jobs x) → ⊥
-  reach true h = cc
-  reach false h = place_is_no_work t 0 os x h
-
-  high : (b : Bool) → cond b (Some (sight.BadEye None)) (option_or (option_map (λ i. sight.BadEye (Some i)) (position_from (λ (o : Observer). is_high o.eye) 0 os)) (cond (nat_lt radius 1 || nat_lt longest_radius radius) (Some sight.BadRadius) (place_fault t 0 os))) ≡ Some (sight.Jobs x) → ⊥
-  high true h = cc
-  high false h = first_of _ _ _ (eye (position_from (λ (o : Observer). is_high o.eye) 0 os)) (reach (nat_lt radius 1 || nat_lt longest_radius radius)) h
-
-  many : (b : Bool) → cond b (Some sight.TooManyObservers) (cond (is_high target) (Some (sight.BadEye None)) (option_or (option_map (λ i. sight.BadEye (Some i)) (position_from (λ (o : Observer). is_high o.eye) 0 os)) (cond (nat_lt radius 1 || nat_lt longest_radius radius) (Some sight.BadRadius) (place_fault t 0 os)))) ≡ Some (sight.Jobs x) → ⊥
-  many true h = cc
-  many false h = high (is_high target) h
-
+-- observers are never refused for their work
 map_is_no_work : (g : Raster) (m : Map) (x : JobFault) → map_fault g m ≡ Some (sight.Jobs x) → ⊥
 map_is_no_work g Fill x e = cc
 map_is_no_work g Flow x e = cc
 map_is_no_work g Accumulate x e = cc
 map_is_no_work g Basins x e = cc
-map_is_no_work g (View observers target radius) x e = observers_are_no_work g.terrain observers.items target radius x e
+map_is_no_work g (View observers target radius) x e = not_jobs x g.terrain observers.items target radius e
 
 -- a fault of the observers is told as one of the wish
 told_fault : (w : Wish) (g : Raster) (f : SightFault) → ((x : JobFault) → f ≡ sight.Jobs x → ⊥) → wish_fault w g ≡ Some (Sight f) → IsWorkRefusal w g (of_sight f)
@@ -95,3 +65,44 @@ view_refused {T} w g f some few is h = go (map_fault g w.map) refl h where
   go (Some k) e r =
       let same : k ≡ f = let told = r.told k refl in cc in
       told_fault w g f (λ x bad. map_is_no_work g w.map x (e ∙ ap Some (same ∙ bad))) (is ∙ ap (λ o. option_map Sight o) e ∙ ap (λ (s : SightFault). Some (Sight s)) same)
+
+-- a wish is forbidden by too many tiles, by its sinks or by its observers
+abbrev pub Forbids : RunFault → Type 0
+Forbids (Tiling fault) = ⊤
+Forbids (Sight fault) = ⊤
+Forbids (Sinks fault) = ⊤
+Forbids fault = ⊥
+
+pub wish_forbids : (w : Wish) (g : Raster) (f : RunFault) → wish_fault w g ≡ Some f → Forbids f
+wish_forbids w g f e = go (nat_lt most_tiles (tiles_of g w.tile)) e where
+  sights : (o : Option SightFault) → option_map Sight o ≡ Some f → Forbids f
+  sights None h = absurd (cc)
+  sights (Some s) h = let same : Sight s ≡ f = cc in subst Forbids same tt
+
+  sinks : (o : Option SinkFault) → option_or (option_map Sinks o) (option_map Sight (map_fault g w.map)) ≡ Some f → Forbids f
+  sinks None h = sights (map_fault g w.map) h
+  sinks (Some s) h = let same : Sinks s ≡ f = cc in subst Forbids same tt
+
+  go : (t : Bool) → cond t (Some (Tiling TooManyTiles)) (option_or (option_map Sinks (sinks_fault g.terrain w.sinks)) (option_map Sight (map_fault g w.map))) ≡ Some f → Forbids f
+  go true h = let same : Tiling TooManyTiles ≡ f = cc in subst Forbids same tt
+  go false h = sinks (sinks_fault g.terrain w.sinks) h
+
+-- a refusal of the work at a text's grid is one at the text
+pub work_refused : (w : Wish) (text : List ℕ) (g : Raster) (f : RunFault) → IsGridText w.scale text g → IsWorkRefusal w g f → IsRunRefusal w text f
+work_refused w text g (Jobs fault) is h = (g, is, h)
+work_refused w text g (Tiling fault) is h = (g, is, h)
+work_refused w text g (Sight fault) is h = (g, is, h)
+work_refused w text g (Sinks fault) is h = (g, is, h)
+work_refused w text g (Grid fault) is h = absurd (wish_forbids w g _ h)
+work_refused w text g Read is h = tt
+work_refused w text g Write is h = absurd (wish_forbids w g _ h)
+
+-- the work answers no fault of a device
+pub work_is_no_device : (w : Wish) (g : Raster) (f : RunFault) → IsWorkRefusal w g f → (f ≡ Read → ⊥) × (f ≡ Write → ⊥)
+work_is_no_device w g (Jobs fault) h = (λ e. cc, λ e. cc)
+work_is_no_device w g (Tiling fault) h = (λ e. cc, λ e. cc)
+work_is_no_device w g (Sight fault) h = (λ e. cc, λ e. cc)
+work_is_no_device w g (Sinks fault) h = (λ e. cc, λ e. cc)
+work_is_no_device w g (Grid fault) h = (λ e. cc, λ e. cc)
+work_is_no_device w g Read h = absurd (wish_forbids w g _ h)
+work_is_no_device w g Write h = absurd (wish_forbids w g _ h)

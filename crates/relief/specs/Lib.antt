@@ -5,4 +5,3 @@ pub mod Refusals
 pub mod Runs
 pub mod Ends
 pub mod MadeMap
-pub mod Laws

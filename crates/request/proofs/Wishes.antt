@@ -5,15 +5,14 @@ use Rattle.std.specs.Option.{option_map_or}
 use Rattle.std.specs.Str.Parse.{IsNumeral, digits_value, without_leading_plus}
 use Rattle.std.proofs.lemmas.Option.{same_Some}
 use Rattle.clap.specs.Words.{Row, Text, one_of, subcommand_of}
-use Rattle.clap.specs.Faults.{fault_of}
 use Rattle.clap.specs.Kinds.{Kinds}
 use Rattle.clap.specs.declared.error.kind.ErrorKind.{ErrorKind}
 use Rattle.clap.specs.declared.error.kind.ErrorKind.TheVariants as kind
 use Rattle.clap.proofs.OnLiterals.{clap_on_literals}
 use Rattle.sight.specs.declared.observer.Observer.{Observer}
-use Rattle.request.specs.CommandLine.{AreRefused, AskForHelp, HasNumber, HasOptions, IsHelp, Names, Spell, WishFor, program_app, sink_words, words_of}
+use Rattle.request.specs.CommandLine.{AreRefused, AskForHelp, HasNumber, HasOptions, IsHelp, Names, Spell, WishFor, program_app, sink_words}
 use Rattle.request.specs.Laws.{AreSame, BasinsOfSinks, FillAlone, HelpOfView, NoSideOfZero, VersionAlone, ViewWithRadius}
-use Rattle.request.specs.PlaceWords.{observer_of, sink_of}
+use Rattle.request.specs.PlaceWords.{sink_of}
 use Rattle.request.specs.Wish.{Wish}
 use Rattle.request.specs.declared.map.Map.{Map}
 use Rattle.request.specs.declared.map.Map.TheVariants.{Fill, Flow, Accumulate, Basins, View}
@@ -98,146 +97,72 @@ rows_in words = option_map_or (λ p. p.1) (subcommand_of program_app words) []
 spelled : (rows : List Row) (id text : Text) (n : ℕ) → one_of id rows ≡ Some text → IsNumeral 10 (without_leading_plus text) → digits_value 10 (without_leading_plus text) ≡ n → n < 2 ^ 32 → HasNumber rows id n
 spelled rows id text n given numeral value small = record { text = text; given = given; numeral = numeral; spelled = value; small = small }
 
+default_options : (given : List Row) → one_of (codes "tile") given ≡ Some (codes "256") → one_of (codes "workers") given ≡ Some (codes "1")
+    → one_of (codes "scale") given ≡ Some (codes "0") → HasOptions given 256 1 0
+default_options given tile workers scale = (
+  spelled given (codes "tile") (codes "256") 256 tile (search rules) refl (omega arith),
+  spelled given (codes "workers") (codes "1") 1 workers (search rules) refl (omega arith),
+  spelled given (codes "scale") (codes "0") 0 scale (search rules) refl (omega arith),
+)
+
 abbrev fill_words : List Text
 fill_words = codes "relief" ∷ codes "fill" ∷ []
 
-fill_accepted : fault_of program_app fill_words ≡ []
-unfolding clap_on_literals
-fill_accepted = refl
-
-fill_found : subcommand_of program_app fill_words ≡ Some (codes "fill", rows_in fill_words)
-unfolding clap_on_literals
-fill_found = refl
-
-fill_tile : one_of (codes "tile") (rows_in fill_words) ≡ Some (codes "256")
-unfolding clap_on_literals
-fill_tile = refl
-
-numeral_256 : IsNumeral 10 (without_leading_plus (codes "256"))
-numeral_256 = search rules
-
-value_256 : digits_value 10 (without_leading_plus (codes "256")) ≡ 256
-value_256 = refl
-
-fill_workers : one_of (codes "workers") (rows_in fill_words) ≡ Some (codes "1")
-unfolding clap_on_literals
-fill_workers = refl
-
-fill_scale : one_of (codes "scale") (rows_in fill_words) ≡ Some (codes "0")
-unfolding clap_on_literals
-fill_scale = refl
-
-fill_sinks : Spell sink_of (sink_words (codes "fill") (rows_in fill_words)) []
-unfolding clap_on_literals
-fill_sinks = refl
-
 pub fill_alone : FillAlone
+unfolding clap_on_literals
 fill_alone = record {
   name = codes "fill";
   rows = rows_in fill_words;
-  command = record { accepted = fill_accepted; found = fill_found };
+  command = record { accepted = refl; found = refl };
   map = refl;
-  sinks = fill_sinks;
-  options = (
-    spelled _ (codes "tile") (codes "256") 256 fill_tile (search rules) refl (omega arith),
-    spelled _ (codes "workers") (codes "1") 1 fill_workers (search rules) refl (omega arith),
-    spelled _ (codes "scale") (codes "0") 0 fill_scale (search rules) refl (omega arith),
-  );
+  sinks = refl;
+  options = default_options (rows_in fill_words) refl refl refl;
   limits = record { in_limits = search rules; view = λ v. absurd v };
 }
 
 abbrev basins_words : List Text
 basins_words = codes "relief" ∷ codes "basins" ∷ codes "1,2" ∷ codes "0,3" ∷ []
 
-basins_accepted : fault_of program_app basins_words ≡ []
-unfolding clap_on_literals
-basins_accepted = refl
-
-basins_found : subcommand_of program_app basins_words ≡ Some (codes "basins", rows_in basins_words)
-unfolding clap_on_literals
-basins_found = refl
-
-basins_values : (one_of (codes "tile") (rows_in basins_words) ≡ Some (codes "256")) × (one_of (codes "workers") (rows_in basins_words) ≡ Some (codes "1"))
-    × (one_of (codes "scale") (rows_in basins_words) ≡ Some (codes "0")) × (sink_words (codes "basins") (rows_in basins_words) ≡ codes "1,2" ∷ codes "0,3" ∷ [])
-unfolding clap_on_literals
-basins_values = (refl, refl, refl, refl)
-
-basins_sinks : map sink_of (codes "1,2" ∷ codes "0,3" ∷ []) ≡ map Some (record { row = 1; col = 2 } ∷ record { row = 0; col = 3 } ∷ [])
-basins_sinks = refl
-
 pub basins_of_sinks : BasinsOfSinks
+unfolding clap_on_literals
 basins_of_sinks = record {
   name = codes "basins";
   rows = rows_in basins_words;
-  command = record { accepted = basins_accepted; found = basins_found };
+  command = record { accepted = refl; found = refl };
   map = refl;
-  sinks = ap (map sink_of) basins_values.3 ∙ basins_sinks;
-  options = (
-    spelled _ (codes "tile") (codes "256") 256 basins_values.0 (search rules) refl (omega arith),
-    spelled _ (codes "workers") (codes "1") 1 basins_values.1 (search rules) refl (omega arith),
-    spelled _ (codes "scale") (codes "0") 0 basins_values.2 (search rules) refl (omega arith),
-  );
+  sinks = refl;
+  options = default_options (rows_in basins_words) refl refl refl;
   limits = record { in_limits = search rules; view = λ v. absurd v };
 }
 
 abbrev view_words : List Text
 view_words = codes "relief" ∷ codes "view" ∷ codes "--radius" ∷ codes "5" ∷ codes "1,2,3" ∷ []
 
-view_accepted : fault_of program_app view_words ≡ []
-unfolding clap_on_literals
-view_accepted = refl
-
-view_found : subcommand_of program_app view_words ≡ Some (codes "view", rows_in view_words)
-unfolding clap_on_literals
-view_found = refl
-
-view_values : (one_of (codes "tile") (rows_in view_words) ≡ Some (codes "256")) × (one_of (codes "workers") (rows_in view_words) ≡ Some (codes "1"))
-    × (one_of (codes "scale") (rows_in view_words) ≡ Some (codes "0")) × (one_of (codes "target") (rows_in view_words) ≡ Some (codes "0"))
-    × (one_of (codes "radius") (rows_in view_words) ≡ Some (codes "5")) × (words_of (codes "observers") (rows_in view_words) ≡ codes "1,2,3" ∷ [])
-unfolding clap_on_literals
-view_values = (refl, refl, refl, refl, refl, refl)
-
-view_observer : observer_of (codes "1,2,3") ≡ Some (record { row = 1; col = 2; eye = 3 })
-view_observer = refl
-
 pub view_with_radius : ViewWithRadius
+unfolding clap_on_literals
 view_with_radius observers one = record {
   name = codes "view";
   rows = rows_in view_words;
-  command = record { accepted = view_accepted; found = view_found };
+  command = record { accepted = refl; found = refl };
   map = (
     refl,
-    ap (map observer_of) view_values.5 ∙ ap (λ o. o ∷ []) view_observer ∙ ap (λ (os : List Observer). map Some os) (sym one),
-    spelled _ (codes "target") (codes "0") 0 view_values.3 (search rules) refl (omega arith),
-    spelled _ (codes "radius") (codes "5") 5 view_values.4 (search rules) refl (omega arith),
+    ap (λ (os : List Observer). map Some os) (sym one),
+    spelled (rows_in view_words) (codes "target") (codes "0") 0 refl (search rules) refl (omega arith),
+    spelled (rows_in view_words) (codes "radius") (codes "5") 5 refl (search rules) refl (omega arith),
   );
   sinks = refl;
-  options = (
-    spelled _ (codes "tile") (codes "256") 256 view_values.0 (search rules) refl (omega arith),
-    spelled _ (codes "workers") (codes "1") 1 view_values.1 (search rules) refl (omega arith),
-    spelled _ (codes "scale") (codes "0") 0 view_values.2 (search rules) refl (omega arith),
-  );
+  options = default_options (rows_in view_words) refl refl refl;
   limits = record { in_limits = search rules; view = λ v. refl };
 }
 
-tile_fault : fault_of program_app (codes "relief" ∷ codes "fill" ∷ codes "--tile" ∷ codes "0" ∷ []) ≡ kind.ValueValidation ∷ []
-unfolding clap_on_literals
-tile_fault = refl
-
 pub no_side_of_zero : NoSideOfZero
-no_side_of_zero =
-    inl (subst (Any (λ k. ¬ IsHelp k)) (sym tile_fault) (0, kind.ValueValidation, omega arith, refl, λ help. elim help [ inl same ↦ cc | inr same ↦ cc ]))
-
-help_fault : fault_of program_app (codes "relief" ∷ codes "view" ∷ codes "--help" ∷ []) ≡ kind.DisplayHelp ∷ []
 unfolding clap_on_literals
-help_fault = refl
+no_side_of_zero = inl (0, kind.ValueValidation, omega arith, refl, λ help. elim help [ inl same ↦ cc | inr same ↦ cc ])
 
 pub help_of_view : HelpOfView
-help_of_view = subst (Any IsHelp) (sym help_fault) (0, kind.DisplayHelp, omega arith, refl, inl refl)
-
-version_fault : fault_of program_app (codes "relief" ∷ codes "--version" ∷ []) ≡ kind.DisplayVersion ∷ []
 unfolding clap_on_literals
-version_fault = refl
+help_of_view = (0, kind.DisplayHelp, omega arith, refl, inl refl)
 
 pub version_alone : VersionAlone
-version_alone = (version_fault, subst (Any IsHelp) (sym version_fault) (0, kind.DisplayVersion, omega arith, refl, inr refl))
+unfolding clap_on_literals
+version_alone = (refl, (0, kind.DisplayVersion, omega arith, refl, inr refl))

@@ -6,6 +6,15 @@ use crate::map::Map;
 use std::marker::Model;
 use terrain::Place;
 
+/// Greatest side of a tile, in cells.
+pub(crate) const LONGEST_SIDE: u32 = 4_096;
+
+/// Greatest number of workers.
+pub(crate) const MOST_WORKERS: u32 = 64;
+
+/// Greatest scale.
+pub(crate) const MOST_DECIMALS: u8 = 6;
+
 /// A map, a tile's side in cells, a number of workers and a scale, each in its limits, and the sinks into
 /// which water flows.
 #[derive(Drop)]
@@ -37,7 +46,10 @@ impl Options {
         ensures limits { IfSome result (λ _. AreLimits tile workers scale) }
         ensures none { IfNone result (AreLimits tile workers scale → ⊥) }
     {
-        if (1..=4096).contains(&tile) && (1..=64).contains(&workers) && scale <= 6 {
+        if (1..=LONGEST_SIDE).contains(&tile)
+            && (1..=MOST_WORKERS).contains(&workers)
+            && scale <= MOST_DECIMALS
+        {
             Some(Options {
                 map,
                 tile,

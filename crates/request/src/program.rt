@@ -1,6 +1,6 @@
 // The subcommands and options of the program.
 ghost use Rattle.std.specs.Prelude.{◌≡◌, IfOk};
-ghost use Rattle.clap.specs.Words.{app_of};
+ghost use Rattle.clap.specs.Words.{app_of, with_subcommand};
 ghost use Rattle.request.specs.CommandLine.{drainage_shape, map_shape, number_rule, observers_rule, program_app, radius_rule, scale_rule, sinks_rule, target_rule, tile_rule, view_shape, workers_rule};
 ghost use Rattle.request.specs.Commands.{IsArg, IsLeaf, bare_app};
 
@@ -9,6 +9,7 @@ use crate::help::{
     ABOUT, ACCUMULATE, BASINS, COMMON, EXAMPLES_AND_FAULTS, FILL, FLOW, MapHelp, SINK_WORDS, USAGE,
     VIEW, VIEW_WORDS,
 };
+use crate::options::{LONGEST_SIDE, MOST_DECIMALS, MOST_WORKERS};
 use clap::builder::ValueParser;
 use clap::{Arg, ArgAction, Command, value_parser};
 use std::alloc::{AllocError, Global};
@@ -36,7 +37,7 @@ fn tile_option<'a>(alloc: Global) -> Arg<'a>
     ensures { IsArg tile_rule result }
 {
     let help = "Side of the tiles in cells, 1 to 4096; the map is the same for each";
-    let sides = value_parser!(u32).range(1..=4096);
+    let sides = value_parser!(u32).range(1..=i64::from(LONGEST_SIDE));
     number_option(alloc, "tile", "N", sides, "256", help)
 }
 
@@ -44,7 +45,7 @@ fn workers_option<'a>(alloc: Global) -> Arg<'a>
     ensures { IsArg workers_rule result }
 {
     let help = "Number of threads, 1 to 64; the map is the same for each";
-    let counts = value_parser!(u32).range(1..=64);
+    let counts = value_parser!(u32).range(1..=i64::from(MOST_WORKERS));
     number_option(alloc, "workers", "N", counts, "1", help)
 }
 
@@ -52,7 +53,7 @@ fn scale_option<'a>(alloc: Global) -> Arg<'a>
     ensures { IsArg scale_rule result }
 {
     let help = "Decimals of the heights, 0 to 6: heights are whole numbers of units of 10^-D";
-    let scales = value_parser!(u8).range(0..=6);
+    let scales = value_parser!(u8).range(0..=i64::from(MOST_DECIMALS));
     number_option(alloc, "scale", "D", scales, "0", help)
 }
 
@@ -117,6 +118,18 @@ fn drainage_command<'a>(
     map_command(alloc, name, help)?.arg(sink_words(alloc))
 }
 
+/// The program with a map of drainage more.
+fn with_drainage<'a>(
+    alloc: Global,
+    program: Command<'a>,
+    name: &'a str,
+    help: MapHelp,
+) -> Result<Command<'a>, AllocError>
+    ensures { IfOk result (λ c. app_of c ≡ with_subcommand (app_of program.entry) (drainage_shape name.entry.now)) }
+{
+    program.subcommand(drainage_command(alloc, name, help)?)
+}
+
 fn view_command<'a>(alloc: Global) -> Result<Command<'a>, AllocError>
     ensures { IfOk result (IsLeaf view_shape) }
 {
@@ -143,10 +156,9 @@ fn bare_program<'a>(alloc: Global) -> Command<'a>
 pub(crate) fn program<'a>(alloc: Global) -> Result<Command<'a>, AllocError>
     ensures { IfOk result (λ c. app_of c ≡ program_app) }
 {
-    bare_program(alloc)
-        .subcommand(drainage_command(alloc, "fill", FILL)?)?
-        .subcommand(drainage_command(alloc, "flow", FLOW)?)?
-        .subcommand(drainage_command(alloc, "accumulate", ACCUMULATE)?)?
-        .subcommand(drainage_command(alloc, "basins", BASINS)?)?
-        .subcommand(view_command(alloc)?)
+    let program = with_drainage(alloc, bare_program(alloc), "fill", FILL)?;
+    let program = with_drainage(alloc, program, "flow", FLOW)?;
+    let program = with_drainage(alloc, program, "accumulate", ACCUMULATE)?;
+    let program = with_drainage(alloc, program, "basins", BASINS)?;
+    program.subcommand(view_command(alloc)?)
 }

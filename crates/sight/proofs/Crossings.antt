@@ -1,5 +1,5 @@
--- The two walks of a line of sight are over its crossings with the columns and with the rows.
-use Rattle.std.proofs.Common.{arith, refl, sym, ap, ◌∙◌, ◌≡◌, ◌+◌, ◌-◌, ◌*◌, ◌<◌, ◌≤◌, ℕ, ℤ, Option, None, get_or, length, max, inl, inr}
+-- The two walks of a line of sight are over its crossings with the columns and with the rows, from either end.
+use Rattle.std.proofs.Common.{arith, refl, sym, ap, ◌∙◌, ◌≡◌, ◌+◌, ◌-◌, ◌*◌, ◌<◌, ◌≤◌, ℕ, ℤ, Option, None, get_or, length, max, inl, inr, List}
 use Rattle.std.specs.Int.{abs_diff}
 use Rattle.std.proofs.lemmas.Bool.{cases_lt}
 use Rattle.std.proofs.lemmas.Nat.{mul-add-lt}
@@ -7,11 +7,15 @@ use Rattle.terrain.specs.Raster.{Terrain}
 use Rattle.terrain.specs.Neighbours.{IsInside, height_at}
 use Rattle.terrain.specs.declared.place.Place.{Place}
 use Rattle.terrain.proofs.Places.{entry-inside}
-use Rattle.sight.specs.Sight.{onward, sight, blocks, column_crossing, row_crossing, column_blocks, row_blocks}
-use Rattle.sight.specs.Walk.{whole_at, part_at, index_at, is_above, step_blocks, walk_blocks, columns_of, rows_of, over_columns, over_rows, IsOver}
+use Rattle.sight.specs.Sight.{onward, sight, blocks, column_crossing, row_crossing, column_blocks, row_blocks, toward}
+use Rattle.sight.specs.Walk.{whole_at, part_at, index_at, is_above, step_blocks, walk_blocks, columns_of, rows_of, over_columns, over_rows, IsOver, steps_of}
 use Rattle.sight.proofs.Steps.{whole_le, whole_lt}
 use Rattle.sight.proofs.Toward.{onward_is}
-use Rattle.sight.proofs.Ranges.{any_same}
+use Rattle.sight.proofs.Ranges.{any_same, any_back}
+use Rattle.std.specs.List.{list_any, range_with_len}
+use Rattle.std.proofs.lemmas.Int.{ints}
+use Rattle.sight.specs.declared.walk.Axis.{Axis}
+use Rattle.sight.specs.declared.walk.Sightline.{Sightline}
 
 -- a cell of weight 0 takes no part
 above_same : (near near' far far' : Option ℤ) (v w : ℕ) (z : ℤ) → near ≡ near' → (0 < w → far ≡ far') → is_above near v far w z ≡ is_above near' v far' w z
@@ -70,3 +74,27 @@ columns_in_list t p q size a b = omega (arith, size, mul-add-lt (max p.row q.row
 
 pub rows_in_list : (t : Terrain) (p q : Place) → length t.cells ≡ t.cols * t.rows → IsInside t p → IsInside t q → IsOver t.cells (rows_of t p q) (columns_of p q)
 rows_in_list t p q size a b = omega (arith, size, mul-add-lt (max p.row q.row) t.cols (max p.col q.col) t.rows (omega arith) (omega arith))
+
+toward_back : (a b n k : ℕ) → k ≤ n → toward b a n k ≡ toward a b n (n - k)
+toward_back a b n k h = let left : n - (n - k) ≡ k = omega arith in rw left (omega arith)
+
+sight_back : (e f : ℤ) (n k : ℕ) → k ≤ n → sight f e n k ≡ sight e f n (n - k)
+sight_back e f n k h = let left : n - (n - k) ≡ k = omega arith in rw left (omega (arith, ints))
+
+abbrev back : Axis → Axis
+back a = record { from = a.to; to = a.from; stride = a.stride }
+
+step_back : (cells : List (Option ℤ)) (lead side : Axis) (e f : ℤ) (n k : ℕ) → k ≤ n → step_blocks cells (back lead) (back side) f e n k ≡ step_blocks cells lead side e f n (n - k)
+step_back cells lead side e f n k h =
+    rw (toward_back lead.from lead.to n k h, toward_back side.from side.to n k h, sight_back e f n k h) refl
+
+-- the line from the other end
+abbrev pub reversed : Sightline → Sightline
+reversed l = record { lead = back l.lead; side = back l.side; from_level = l.to_level; to_level = l.from_level }
+
+pub walk_back : (cells : List (Option ℤ)) (l : Sightline) → walk_blocks cells (reversed l) ≡ walk_blocks cells l
+walk_back cells l =
+    let n = steps_of l in
+    let same : steps_of (reversed l) ≡ n = omega arith in
+    ap (λ n. list_any (λ k. step_blocks cells (back l.lead) (back l.side) l.to_level l.from_level n k) (range_with_len 1 (n - 1))) same
+    ∙ any_back _ _ n (λ k low high. step_back cells l.lead l.side l.from_level l.to_level n k (omega arith))

@@ -9,14 +9,10 @@ pub mod Steps
 pub mod Ranges
 -- its crossings, from either end
 pub mod Crossings
-pub mod Back
 pub mod Seen
 -- blocks of cells below the line
-pub mod BlockTops
 pub mod LowBlocks
 -- observers and refusals
-pub mod Faultless
 pub mod Refused
 -- the viewshed
-pub mod Whole
 pub mod Uniqueness

@@ -3,16 +3,20 @@ use Rattle.std.proofs.Common.{arith, refl, ap, subst, ◌∙◌, ◌≡◌, ◌+
 use borrow.Author.Differences.{up, down}
 use Rattle.std.proofs.lemmas.Int.{ints}
 use Rattle.std.proofs.lemmas.Bool.{cases_lt}
-use Rattle.std.proofs.lemmas.Nat.{mul-le, div-add-mod', mod_below}
+use Rattle.std.proofs.lemmas.Nat.{mul-le, div-add-mod', mod_below, mul-add-lt}
 use Rattle.sight.specs.Sight.{toward, sight}
-use Rattle.sight.specs.Walk.{whole_at, part_at, index_at, is_above, step_blocks, steps_of, IsAt}
-use Rattle.sight.specs.Blocks.{IsTopOf, IsLow, AreTopsAlong, AreLowBetween}
+use Rattle.sight.specs.Walk.{whole_at, part_at, index_at, is_above, step_blocks, steps_of, IsAt, over_columns, over_rows}
+use Rattle.sight.specs.Blocks.{IsTopOf, IsLow, AreTopsAlong, AreLowBetween, blocks_in, AreTops}
 use Rattle.sight.specs.declared.walk.Axis.{Axis}
 use Rattle.sight.specs.declared.walk.Step.{Step}
 use Rattle.sight.specs.declared.walk.Sightline.{Sightline}
 use Rattle.sight.specs.declared.passing.BlockStrides.{BlockStrides}
 use Rattle.sight.proofs.Ground.{above_both, weighed_height-some}
 use Rattle.sight.proofs.Steps.{whole_le, whole_lt}
+use Rattle.terrain.specs.Raster.{Terrain}
+use Rattle.terrain.specs.Neighbours.{IsInside}
+use Rattle.terrain.specs.declared.place.Place.{Place}
+use Rattle.sight.proofs.Crossings.{height_is}
 
 -- a sum of two ends, where the weight goes over from the one to the other
 rising : (a b i p q r : ℕ) → a ≤ b → (a * (p + (q + r)) + b * i ≤ a * (q + r) + b * (i + p)) × (a * (q + r) + b * (i + p) ≤ a * r + b * (i + p + q))
@@ -165,3 +169,27 @@ step_passed cells tops line s i j k block start end some low high few at_start a
     (low_at b (omega (arith, between, at_start.whole, at_end.whole)) (omega (arith, between, at_start.whole, at_end.whole)) b_in)
     (λ part h is. low_at (b + 1) (omega (arith, between, at_start.whole, at_end.whole)) (omega (arith, between, at_start.whole, at_end.whole))
     (whole_lt line.side n k some (omega arith) part) h (ap (λ x. get_or cells x None) beside ∙ is))
+
+pub block_below : (cols rows r c : ℕ) → r < rows → c < cols → r / 16 * blocks_in cols + c / 16 < blocks_in rows * blocks_in cols
+block_below cols rows r c a b = omega (arith, mul-add-lt (r / 16) (blocks_in cols) (c / 16) (blocks_in rows) (omega arith) (omega arith))
+
+-- the top over a place, whose index in the list of tops is told
+top_at : (t : Terrain) (tops : List (Option ℤ)) (r c i j : ℕ) (h : ℤ) → AreTops t tops → r < t.rows → c < t.cols → i ≡ r * t.cols + c → j ≡ r / 16 * blocks_in t.cols + c / 16
+    → get_or t.cells i None ≡ Some h → IsTopOf (get_or tops j None) h
+top_at t tops r c i j h are a b i_is j_is is =
+    let P : ℕ → Type 0 = λ n. IsTopOf (get_or tops n None) h in
+    subst P (omega arith) (are.above (record { row = r; col = c }) h (height_is t r c i a b i_is ∙ is))
+
+pub along_columns : (t : Terrain) (tops : List (Option ℤ)) (p q : Place) (e f : ℤ) → AreTops t tops → IsInside t p → IsInside t q
+    → AreTopsAlong t.cells tops (over_columns t p q e f) (record { lead = 1; side = blocks_in t.cols })
+along_columns t tops p q e f are a b = record {
+  over = omega (arith, are.size, block_below t.cols t.rows (max p.row q.row) (max p.col q.col) (omega arith) (omega arith));
+  above = λ col row h c_in r_in is. top_at t tops row col (col * 1 + row * t.cols) (col / 16 * 1 + row / 16 * blocks_in t.cols) h are (omega arith) (omega arith) (omega arith) (omega arith) is;
+}
+
+pub along_rows : (t : Terrain) (tops : List (Option ℤ)) (p q : Place) (e f : ℤ) → AreTops t tops → IsInside t p → IsInside t q
+    → AreTopsAlong t.cells tops (over_rows t p q e f) (record { lead = blocks_in t.cols; side = 1 })
+along_rows t tops p q e f are a b = record {
+  over = omega (arith, are.size, block_below t.cols t.rows (max p.row q.row) (max p.col q.col) (omega arith) (omega arith));
+  above = λ row col h r_in c_in is. top_at t tops row col (row * t.cols + col * 1) (row / 16 * blocks_in t.cols + col / 16 * 1) h are (omega arith) (omega arith) (omega arith) (omega arith) is;
+}

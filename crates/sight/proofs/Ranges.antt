@@ -1,22 +1,9 @@
 -- A test of some number of a range.
-use Rattle.std.proofs.Common.{arith, refl, sym, ap, ◌∙◌, ◌≡◌, ◌+◌, ◌-◌, ◌<◌, ◌≤◌, ℕ, zero, suc, Bool, true, false, [], ◌∷◌, ◌++◌, get_or, inl, inr}
+use Rattle.std.proofs.Common.{arith, refl, sym, ap, ◌∙◌, ◌≡◌, ◌+◌, ◌-◌, ◌<◌, ◌≤◌, ℕ, zero, suc, Bool, true, false, get_or, inl, inr}
 use Rattle.std.specs.List.{list_any, range_with_len}
 use Rattle.std.proofs.lemmas.Bool.{or_from, cases_lt, false_from_ne_true, true_from_ne_false}
-use Rattle.std.proofs.lemmas.List.Folds.{list_any-append, list_any_at}
+use Rattle.std.proofs.lemmas.List.Folds.{list_any_at}
 use Rattle.std.proofs.lemmas.List.FromFn.{length-range_with_len, get_or-range_with_len}
-
--- one more number at the end
-pub range_more : (a n : ℕ) → range_with_len a n ++ (a + n) ∷ [] ≡ range_with_len a (n + 1)
-range_more a zero = let e : a + 0 ≡ a = omega arith in rw e refl
-range_more a (suc n) =
-    let e : a + suc n ≡ a + 1 + n = omega arith in
-    let count : suc n + 1 ≡ suc (n + 1) = omega arith in
-    rw (e, count) (ap (λ l. a ∷ l) (range_more (a + 1) n))
-
--- none passes, nor does the next
-pub any_more : (p : ℕ → Bool) (a n : ℕ) → list_any p (range_with_len a n) ≡ false → p (a + n) ≡ false → list_any p (range_with_len a (n + 1)) ≡ false
-any_more p a n none next =
-    ap (list_any p) (sym (range_more a n)) ∙ list_any-append p (range_with_len a n) ((a + n) ∷ []) ∙ or_from _ _ none (or_from _ _ next refl)
 
 -- one passes
 pub any_at : (p : ℕ → Bool) (a n k : ℕ) → k < n → p (a + k) ≡ true → list_any p (range_with_len a n) ≡ true
@@ -41,6 +28,10 @@ none_joined p a m b n e one two =
       | inl before ↦ none_at p a m k one low (omega arith)
       | inr after ↦ none_at p b n k two after (omega arith)
     ])
+
+-- none passes, nor does the next
+pub any_more : (p : ℕ → Bool) (a n : ℕ) → list_any p (range_with_len a n) ≡ false → p (a + n) ≡ false → list_any p (range_with_len a (n + 1)) ≡ false
+any_more p a n none next = none_joined p a n (a + n) 1 refl none (or_from _ _ next refl)
 
 -- one passes in a part of the range
 pub any_within : (p : ℕ → Bool) (a m b n : ℕ) → a ≤ b → b + n ≤ a + m → list_any p (range_with_len b n) ≡ true → list_any p (range_with_len a m) ≡ true

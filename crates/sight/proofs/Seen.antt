@@ -6,8 +6,7 @@ use Rattle.terrain.specs.declared.place.Place.{Place}
 use Rattle.sight.specs.Sight.{is_near, is_seen, place_of}
 use Rattle.sight.specs.Walk.{walk_blocks, over_columns, over_rows, IsLevel, IsSightline, AreSightlines}
 use Rattle.sight.specs.declared.observer.Observer.{Observer}
-use Rattle.sight.proofs.Crossings.{column_blocks-walk, row_blocks-walk, columns_in_list, rows_in_list}
-use Rattle.sight.proofs.Back.{walk_back}
+use Rattle.sight.proofs.Crossings.{column_blocks-walk, row_blocks-walk, columns_in_list, rows_in_list, walk_back}
 
 -- once both ends have heights and are near each other
 seen_is : (t : Terrain) (o : Observer) (q : Place) (target radius : ℕ) (from to : ℤ) → IsInside t (place_of o) → IsInside t q

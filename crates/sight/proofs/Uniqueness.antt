@@ -1,4 +1,4 @@
--- A terrain has one viewshed.
+-- A terrain has one viewshed, and a map that has the value of each place is it.
 use Rattle.std.proofs.Common.{arith, sym, ap, ◌∙◌, ◌≡◌, ◌*◌, ◌/◌, ◌%◌, ◌<◌, ℕ, ℤ, List, map, get_or, Option, None, Some, option_map, MatchOption}
 use Rattle.std.specs.List.{range_with_len}
 use Rattle.std.proofs.lemmas.List.FromFn.{fill_by_all}
@@ -8,16 +8,18 @@ use Rattle.terrain.specs.Neighbours.{height_at, entry_at, index_of}
 use Rattle.terrain.specs.declared.place.Place.{Place}
 use Rattle.terrain.proofs.Places.{entry-inside}
 use Rattle.sight.specs.Sight.{viewshed_value, IsViewshed}
-use Rattle.sight.specs.Viewed.{value_at}
-use Rattle.sight.specs.Laws.{ViewshedsAreOne}
+use Rattle.sight.specs.Viewed.{value_at, HasValue}
 use Rattle.sight.specs.declared.observer.Observer.{Observer}
+use Rattle.tiles.specs.Cutting.{Cutting, Cuts}
+use Rattle.tile_maps.specs.Maps.{IsMadeMap}
+use Rattle.tile_maps.proofs.Whole.{map_of_size}
 
 abbrev place_of_index : ℕ → ℕ → Place
 place_of_index cols k = record { row = k / cols; col = k % cols }
 
-told : (h : Option ℤ) (n : ℕ) (entry : Option ℕ) → MatchOption h (entry ≡ None) (λ _. entry ≡ Some n) → entry ≡ option_map (λ _. n) h
-told None n entry e = e
-told (Some x) n entry e = e
+entry_told : (h : Option ℤ) (n : ℕ) (entry : Option ℕ) → MatchOption h (entry ≡ None) (λ _. entry ≡ Some n) → entry ≡ option_map (λ _. n) h
+entry_told None n entry e = e
+entry_told (Some x) n entry e = e
 
 -- the entry at an index
 entry_is : (t : Terrain) (observers : List Observer) (target radius : ℕ) (values : List (Option ℕ)) (k : ℕ) → IsViewshed t observers target radius values → k < t.cols * t.rows
@@ -30,7 +32,7 @@ entry_is t observers target radius values k is below =
     let at : index_of t.cols p ≡ k = div-add-mod' k t.cols in
     ap (λ n. get_or values n None) (sym at)
     ∙ sym (entry-inside t.cols t.rows values p row col)
-    ∙ told (height_at t p) (viewshed_value t observers target radius p) (entry_at t.cols t.rows values p) (is.each p (row, col))
+    ∙ entry_told (height_at t p) (viewshed_value t observers target radius p) (entry_at t.cols t.rows values p) (is.each p (row, col))
   where
     positive : (a b k : ℕ) → k < a * b → 0 < a
     positive a b k h = grind arith
@@ -40,5 +42,15 @@ all_are : (t : Terrain) (observers : List Observer) (target radius : ℕ) (value
 all_are t observers target radius values is =
     fill_by_all (λ k. value_at t observers target radius (place_of_index t.cols k)) values (t.cols * t.rows) None is.size (λ k h. entry_is t observers target radius values k is h)
 
-pub viewsheds_are_one : ViewshedsAreOne
+pub viewsheds_are_one : (t : Terrain) (observers : List Observer) (target radius : ℕ) (values others : List (Option ℕ))
+    → IsViewshed t observers target radius values → IsViewshed t observers target radius others → values ≡ others
 viewsheds_are_one t observers target radius values others a b = all_are t observers target radius values a ∙ sym (all_are t observers target radius others b)
+
+told : (h : Option ℤ) (n : ℕ) (entry : Option ℕ) → entry ≡ option_map (λ _. n) h → MatchOption h (entry ≡ None) (λ _. entry ≡ Some n)
+told None n entry e = e
+told (Some x) n entry e = e
+
+pub whole_viewed : (c : Cutting) (t : Terrain) (observers : List Observer) (target radius : ℕ) (values : List (Option ℕ)) → Cuts c t → IsMadeMap c (HasValue t observers target radius) values → IsViewshed t observers target radius values
+whole_viewed c t observers target radius values cuts made =
+    let all = map_of_size c t.cols t.rows (HasValue t observers target radius) values cuts.0 cuts.1 made in
+    record { size = all.0; each = λ p i. told (height_at t p) (viewshed_value t observers target radius p) (entry_at t.cols t.rows values p) (all.1 p i) }

@@ -4,4 +4,3 @@ pub mod Pace
 pub mod Blocks
 pub mod Refusals
 pub mod Viewed
-pub mod Laws

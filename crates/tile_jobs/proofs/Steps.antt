@@ -25,6 +25,12 @@ settled items views h port u at can =
     let n = names items views h port u at can in
     ⊎_elim (λ (r : u.ready ≡ true). (mine.ready r).0) (λ (o : (u.owns ≡ true) × (u.pushed ≡ length (feed u.jobs u.seats u.deque))). sym (mine.owns o.0).1 ∙ rw (n.0, n.1, n.2) at o.1) can.1
 
+-- the deque holds what is left of its feed
+left_of_feed : (items : List Entry) (views : List Log) (h : Lawful items views) (port : ℕ) (u : Log) → get_elem? views port ≡ some u → CanTake u → items ≡ drop (total taken views) (feed h.jobs h.seats h.v)
+left_of_feed items views h port u at can =
+    let all = feed h.jobs h.seats h.v in
+    h.held ∙ ap (drop (total taken views)) (rw (settled items views h port u at can) (take_all (length all) all (omega arith)))
+
 -- the rule after one entry was taken
 after : (x : Entry) (items : List Entry) (views : List Log) (h : Lawful (x ∷ items) views) (port : ℕ) (u w : Log) → get_elem? views port ≡ some u → CanTake u
     → taken w ≡ suc (taken u) → share w ≡ share u → ((y : ℕ) → times y (all_taken w) ≡ times y (all_taken u) + times y (jobs_of (x ∷ []))) → w.marks ≡ u.marks + ends_of (x ∷ [])
@@ -34,7 +40,7 @@ after x items views h port u w at can more same jobs ends is =
     let all = feed h.jobs h.seats h.v in
     let t = total taken views in
     let whole = settled (x ∷ items) views h port u at can in
-    let held : x ∷ items ≡ drop t all = h.held ∙ ap (drop t) (rw whole (take_all (length all) all (omega arith))) in
+    let held = left_of_feed (x ∷ items) views h port u at can in
     let low = cut_below all t x items held in
     let t' : total taken (set views port w) ≡ suc t = (let s = total_set taken views port u w at in omega arith) in
     let next : take (suc t) all ≡ take t all ++ x ∷ [] = cut_take all t x items held in
@@ -56,14 +62,12 @@ after x items views h port u w at can more same jobs ends is =
     }
 
 takes_job : (j : ℕ) (items : List Entry) (views : List Log) (h : Lawful (Job j ∷ items) views) (port : ℕ) (u : Log) → get_elem? views port ≡ some u → CanTake u
-    → let w = record u { took = u.took ++ j ∷ [] } in Lawful items (set views port w) × Took u (Job j ∷ []) w × (Job j ∷ items ≡ drop (total taken views) (feed h.jobs h.seats h.v))
+    → let w = record u { took = u.took ++ j ∷ [] } in Lawful items (set views port w) × Took u (Job j ∷ []) w
 takes_job j items views h port u at can =
-    let all = feed h.jobs h.seats h.v in
     let t = total taken views in
     let mine = h.views_are port u at in
     let n = names (Job j ∷ items) views h port u at can in
-    let whole = settled (Job j ∷ items) views h port u at can in
-    let held : Job j ∷ items ≡ drop t all = h.held ∙ ap (drop t) (rw whole (take_all (length all) all (omega arith))) in
+    let held = left_of_feed (Job j ∷ items) views h port u at can in
     let w : Log = record u { took = u.took ++ j ∷ [] } in
     let some_leave : 0 < u.leaves = can.0 in
     let early = feed_early h.jobs h.seats h.v t j items held in
@@ -79,23 +83,17 @@ takes_job j items views h port u at can =
           (omega arith)
           (record { named = mine.named; owns = mine.owns; ready = mine.ready; idle = λ z. absurd (omega arith) }),
       (refl, rw n.0 j_is.0, rw (n.1, n.2) j_is.1, rw (n.0, n.1, n.2) (omega arith), no_marks),
-      held,
     )
 
 takes_mark : (items : List Entry) (views : List Log) (h : Lawful (End ∷ items) views) (port : ℕ) (u : Log) → get_elem? views port ≡ some u → CanTake u
-    → let w = record u { marks = suc u.marks; leaves = u.leaves - 1 } in Lawful items (set views port w) × Took u (End ∷ []) w × (End ∷ items ≡ drop (total taken views) (feed h.jobs h.seats h.v))
+    → let w = record u { marks = suc u.marks; leaves = u.leaves - 1 } in Lawful items (set views port w) × Took u (End ∷ []) w
 takes_mark items views h port u at can =
-    let all = feed h.jobs h.seats h.v in
-    let t = total taken views in
     let mine = h.views_are port u at in
-    let whole = settled (End ∷ items) views h port u at can in
-    let held : End ∷ items ≡ drop t all = h.held ∙ ap (drop t) (rw whole (take_all (length all) all (omega arith))) in
     let w : Log = record u { marks = suc u.marks; leaves = u.leaves - 1 } in
     let some_leave : 0 < u.leaves = can.0 in (
       after End items views h port u w at can (omega arith) (omega arith) (λ y. omega arith) (omega arith)
           (record { named = λ _. mine.named (inr (omega arith)); owns = mine.owns; ready = λ r. ((mine.ready r).0, omega arith); idle = λ z. absurd (omega arith) }),
       refl,
-      held,
     )
 
 -- one entry at the front is taken, by the owner's pass or a stealing one
@@ -110,8 +108,7 @@ pub never_empty : (port : ℕ) (u : Log) → CanTake u → (views : List Log) �
 never_empty port u can views h at =
     let all = feed h.jobs h.seats h.v in
     let t = total taken views in
-    let whole = settled [] views h port u at can in
-    let held : [] ≡ drop t all = h.held ∙ ap (drop t) (rw whole (take_all (length all) all (omega arith))) in
+    let held = left_of_feed [] views h port u at can in
     let past : length all ≤ t = cut_past all t held in
     let marks : total (λ (v : Log). v.marks) views ≡ h.seats = h.marks ∙ ap ends_of (take_all t all past) ∙ feed_ends h.jobs h.seats h.v in
     let sums = total_plus (λ (v : Log). v.leaves) (λ (v : Log). v.marks) views in
@@ -193,8 +190,7 @@ merges port u other w owns items views h at two at' =
           (λ (r : (j ≢ port) × (get_elem? views j ≡ some v)). h.views_are j v r.1) (at_set views port j both v q.1)) (at_set vs other j spent v e);
     }
 
--- once every pass came back and a mark was taken, the lists have each job once
--- all passes came back, and a mark was taken
+-- all passes came back, and a mark was taken: the lists have each job once
 abbrev pub IsWhole : Log → Type 0
 IsWhole u = (u.owns ≡ true) × (share u ≡ u.seats) × (0 < u.marks)
 
@@ -304,20 +300,16 @@ pushes J S V (suc m) port e rest next items views h at =
     } in
     (dealing J S V (suc (suc m)), pushed_after J S V (suc m) e rest items views h port at next none held (omega arith) others, refl)
 
-next_is : (x : Entry) (items : List Entry) (views : List Log) (h : Lawful (x ∷ items) views) (port : ℕ) (u : Log) → get_elem? views port ≡ some u → u.owns ≡ true → share u ≡ u.seats
-    → x ∷ items ≡ drop (total taken views) (feed h.jobs h.seats h.v) → (rest : List Entry) × (x ∷ rest ≡ drop (taken u) (feed u.jobs u.seats u.deque))
-next_is x items views h port u at owns whole held =
+next_is : (xs items : List Entry) (views : List Log) (h : Lawful (xs ++ items) views) (port : ℕ) (u : Log) → get_elem? views port ≡ some u → CanTake u → u.owns ≡ true → share u ≡ u.seats
+    → (rest : List Entry) × (xs ++ rest ≡ drop (taken u) (feed u.jobs u.seats u.deque))
+next_is xs items views h port u at can owns whole =
     let n = (h.views_are port u at).named (inl owns) in
     let alone : total share views ≡ share u = h.leaves ∙ sym n.1 ∙ sym whole in
     let weigh : (j : ℕ) (v : Log) → get_elem? views j ≡ some v → share v ≡ 0 → taken v ≡ 0 = λ j v e z. (let k = ap length ((h.views_are j v e).idle z) in omega arith) in
     let only = total_alone taken share views port u weigh at alone in
-    (items, rw (n.0, n.1, n.2, ← only) held)
+    (items, rw (n.0, n.1, n.2, ← only) (left_of_feed (xs ++ items) views h port u at can))
 
 -- where the owner has every pass back, it takes the feed's next entry
 pub takes_next : (port : ℕ) (u : Log) → CanTake u → u.owns ≡ true → share u ≡ u.seats → Takes Lawful port u 1 (TookNext u)
-takes_next port u can owns whole [] items views some_x few h at = absurd (omega arith)
-takes_next port u can owns whole (x ∷ y ∷ zs) items views some_x few h at = absurd (omega arith)
-takes_next port u can owns whole (Job j ∷ []) items views some_x few h at =
-    let r = takes_job j items views h port u at can in (record u { took = u.took ++ j ∷ [] }, r.0, (r.1, next_is (Job j) items views h port u at owns whole r.2))
-takes_next port u can owns whole (End ∷ []) items views some_x few h at =
-    let r = takes_mark items views h port u at can in (record u { marks = suc u.marks; leaves = u.leaves - 1 }, r.0, (r.1, next_is End items views h port u at owns whole r.2))
+takes_next port u can owns whole xs items views some_x few h at =
+    let r = takes port u can xs items views some_x few h at in (r.0, r.1, (r.2, next_is xs items views h port u at can owns whole))

@@ -26,6 +26,7 @@ impl Model for Dealer {
 
 /// How many jobs below `jobs` are of deque `v`: one in each whole round over the seats, and one more in a
 /// last round that reaches `v`.
+#[tactic(auto, using(std::proofs::lemmas::Bool::Decides::nat_tests, crate::proofs::Rounds::deal_count))]
 fn count_jobs(jobs: u32, seats: u32, v: u32) -> u32
     requires { v < seats }
     ensures count { result ≡ length (deal jobs seats v) }

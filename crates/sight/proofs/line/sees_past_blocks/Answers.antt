@@ -2,7 +2,7 @@ use Rattle.std.proofs.Common.{◌≡◌, pos, ◌+ℤ◌, sym, subst}
 use Rattle.sight.specs.Sight.{place_of}
 use Rattle.sight.specs.Blocks.{blocks_in, AreTopsAlong}
 use Rattle.sight.specs.declared.walk.Sightline.{Sightline}
-use Rattle.sight.proofs.BlockTops.{along_columns, along_rows}
+use Rattle.sight.proofs.LowBlocks.{along_columns, along_rows}
 use Rattle.sight.proofs.line.sees_past_blocks.Goals as goal
 use Rattle.terrain.specs.Neighbours.{height_of}
 

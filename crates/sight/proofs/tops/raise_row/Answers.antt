@@ -3,7 +3,7 @@ use Rattle.std.proofs.lemmas.Bool.{cases_eq, cases_lt}
 use Rattle.std.proofs.lemmas.List.{get_or-set_same, get_or-set_other}
 use Rattle.terrain.specs.Neighbours.{height_at}
 use Rattle.sight.specs.Blocks.{blocks_in, block_of, IsTopOf}
-use Rattle.sight.proofs.BlockTops.{block_below}
+use Rattle.sight.proofs.LowBlocks.{block_below}
 use Rattle.sight.proofs.tops.raise_row.Goals as goal
 
 -- one height is raised

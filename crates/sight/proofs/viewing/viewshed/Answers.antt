@@ -1,7 +1,7 @@
 use Rattle.std.proofs.Common.{◌≡◌, Some}
 use Rattle.sight.specs.Refusals.{observers_fault}
 use Rattle.sight.proofs.Refused.{not_jobs, refuses}
-use Rattle.sight.proofs.Whole.{whole_viewed}
+use Rattle.sight.proofs.Uniqueness.{whole_viewed}
 use Rattle.sight.proofs.viewing.viewshed.Goals as goal
 
 pub returns-in-Some-clause-refusals : goal.returns-in-Some-clause-refusals
@@ -10,7 +10,7 @@ returns-in-Some-clause-refusals g c =
     let os = c.args.observers.now in
     let fault = observers_fault t os c.args.target_height c.args.radius in
     let told : fault ≡ Some c.in-Some.fault = rw c.first_fault.ensures at c.in-Some.is in
-    refuses fault c.in-Some.fault c.args.workers (not_jobs t os c.args.target_height c.args.radius) told
+    refuses fault c.in-Some.fault c.args.workers (λ job. not_jobs job t os c.args.target_height c.args.radius) told
 
 pub returns-clause-values : goal.returns-clause-values
 returns-clause-values g c =

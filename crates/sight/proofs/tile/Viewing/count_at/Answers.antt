@@ -1,4 +1,4 @@
-use Rattle.sight.proofs.Faultless.{lawful_from}
+use Rattle.sight.proofs.Refused.{lawful_from}
 use Rattle.sight.proofs.tile.Viewing.count_at.Goals as goal
 
 pub sees_past_blocks-requires-clause-observer : goal.sees_past_blocks-requires-clause-observer
