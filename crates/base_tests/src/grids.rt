@@ -1,7 +1,7 @@
 //! The parts of a grid, and its sinks.
 ghost use Rattle.std.specs.Prelude.{◌≡◌, ◌*◌, ◌∷◌, [], pos, negsuc, None, Some, Contains};
 
-use crate::texts::{PIT, PIT_CELLS, grid_of};
+use crate::texts::{PIT, PIT_CELLS, expect_cells, grid_of};
 use std::alloc::Global;
 use std::process::Abort;
 use std::test::Fail;
@@ -117,7 +117,7 @@ fn cells_by_place(rt: HostRuntime) {
 fn other_cells(rt: HostRuntime) {
     let grid = bowl(&rt, rt.alloc());
     let other = filled(&rt, rt.alloc(), &grid);
-    assert_eq!(rt; other.cells(), FILLED.as_slice());
+    expect_cells(&rt, other.cells(), &FILLED);
     assert_eq!(rt; other.cols(), 3);
     assert_eq!(rt; other.scale(), 1);
     is_anchor(&rt, other.xll(), true, b"100.5");
@@ -133,7 +133,7 @@ fn sink_in_a_pit(rt: HostRuntime) {
     let named = named(&rt, rt.alloc(), &pit, &[MIDDLE]);
     has_sinks(&rt, &named, &[MIDDLE]);
     assert!(rt; is_edge(&rt, &named, MIDDLE));
-    assert_eq!(rt; named.cells(), PIT_CELLS.as_slice());
+    expect_cells(&rt, named.cells(), &PIT_CELLS);
 }
 
 #[test]
@@ -154,7 +154,7 @@ fn sinks_stay_with_other_cells(rt: HostRuntime) {
     let sunk = named(&rt, rt.alloc(), &grid, &[NORTH_EAST, MIDDLE]);
     let other = filled(&rt, rt.alloc(), &sunk);
     has_sinks(&rt, &other, &[NORTH_EAST, MIDDLE]);
-    assert_eq!(rt; other.cells(), FILLED.as_slice());
+    expect_cells(&rt, other.cells(), &FILLED);
 }
 
 #[test]
@@ -193,5 +193,5 @@ fn refused_sinks_are_named_once_more(rt: HostRuntime) {
         }
     };
     has_sinks(&rt, &named, &[MIDDLE]);
-    assert_eq!(rt; named.cells(), PIT_CELLS.as_slice());
+    expect_cells(&rt, named.cells(), &PIT_CELLS);
 }

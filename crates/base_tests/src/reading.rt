@@ -283,13 +283,19 @@ fn long_words(rt: HostRuntime) {
     refuses(&rt, rt.alloc(), &surplus, GridFault::TooLong);
 }
 
+/// The reader answers this to the next piece.
+fn answers(rt: &impl Abort, reader: &mut GridReader, piece: &[u8], answer: Result<(), GridFault>) {
+    assert_eq!(rt; reader.feed(piece), answer);
+}
+
 #[test]
 fn fault_stays(rt: HostRuntime) {
     let mut reader = GridReader::new(rt.alloc(), 0);
-    assert_eq!(rt; reader.feed(b"ncols 0"), Ok(()));
-    assert_eq!(rt; reader.feed(b"\n"), Err(GridFault::BadSize(Key::Ncols)));
-    assert_eq!(rt; reader.feed(HEADER), Err(GridFault::BadSize(Key::Ncols)));
-    assert_eq!(rt; reader.finish().err(), Some(GridFault::BadSize(Key::Ncols)));
+    let fault = GridFault::BadSize(Key::Ncols);
+    answers(&rt, &mut reader, b"ncols 0", Ok(()));
+    answers(&rt, &mut reader, b"\n", Err(fault));
+    answers(&rt, &mut reader, HEADER, Err(fault));
+    assert_eq!(rt; reader.finish().err(), Some(fault));
 }
 
 /// So many of the first bytes of the header and two heights, and the fault of each such text.

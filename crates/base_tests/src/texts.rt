@@ -44,3 +44,11 @@ pub fn grid_of(
     assert!(rt; grid.cells() == cells, "other cells");
     grid
 }
+
+pub fn expect_cells(rt: &impl Abort, found: &[Option<Height>], wanted: &[Option<Height>]) {
+    assert_eq!(rt; found, wanted);
+}
+
+pub fn expect_numbers(rt: &impl Abort, found: &[u32], wanted: &[u32]) {
+    assert_eq!(rt; found, wanted);
+}

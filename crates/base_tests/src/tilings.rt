@@ -2,7 +2,8 @@
 ghost use Rattle.std.specs.Prelude.{◌≡◌, IfOk};
 ghost use Rattle.tiles.specs.Cutting.{IsWithin};
 
-use std::alloc::{AllocError, Global};
+use crate::texts::expect_numbers;
+use std::alloc::Global;
 use std::process::Abort;
 use std::test::Fail;
 use terrain::Place;
@@ -123,45 +124,31 @@ fn rim_of_one_tile(rt: HostRuntime) {
     }
 }
 
-/// The places of the rim of a tile, as it is walked.
-fn rim_of(
-    rt: &impl Abort,
-    alloc: Global,
-    tiling: &Tiling,
-    tile: u32,
-) -> Result<Vec<(u32, u32)>, AllocError> {
+/// Appends a place as `(row,col)`.
+fn push_place(rt: &impl Abort, alloc: Global, text: &mut String, place: Place) {
+    let word = format!(in alloc; "({},{})", place.row, place.col).expect(rt, "a word");
+    text.push_str(word.as_str()).expect(rt, "a text");
+}
+
+/// The rim of a tile has these places, as it is walked.
+fn has_rim(rt: &impl Abort, alloc: Global, tiling: &Tiling, tile: u32, rim: &str) {
     assert!(rt; tile < tiling.tiles());
-    let mut walked = Vec::new(alloc);
+    let mut walked = String::new(alloc);
     for next in tiling.rim(tile) {
-        walked.push((next.row, next.col))?;
+        push_place(rt, alloc, &mut walked, next);
     }
-    Ok(walked)
+    assert_eq!(rt; walked.as_str(), rim, "tile {tile}");
 }
 
 #[test]
-fn rims_in_row_order(rt: HostRuntime) -> Result<(), Fail> {
+fn rims_in_row_order(rt: HostRuntime) {
+    let alloc = rt.alloc();
     let tiling = cut(&rt, 5, 4, 3);
-    let rims = [
-        [
-            (0, 0),
-            (0, 1),
-            (0, 2),
-            (1, 0),
-            (1, 2),
-            (2, 0),
-            (2, 1),
-            (2, 2),
-        ]
-        .as_slice(),
-        [(0, 3), (0, 4), (1, 3), (1, 4), (2, 3), (2, 4)].as_slice(),
-        [(3, 0), (3, 1), (3, 2)].as_slice(),
-        [(3, 3), (3, 4)].as_slice(),
-    ];
-    for tile in 0..4 {
-        let walked = rim_of(&rt, rt.alloc(), &tiling, tile)?;
-        assert_eq!(rt; walked.as_slice(), rims[tile as usize], "tile {tile}");
-    }
-    Ok(())
+    let first = "(0,0)(0,1)(0,2)(1,0)(1,2)(2,0)(2,1)(2,2)";
+    has_rim(&rt, alloc, &tiling, 0, first);
+    has_rim(&rt, alloc, &tiling, 1, "(0,3)(0,4)(1,3)(1,4)(2,3)(2,4)");
+    has_rim(&rt, alloc, &tiling, 2, "(3,0)(3,1)(3,2)");
+    has_rim(&rt, alloc, &tiling, 3, "(3,3)(3,4)");
 }
 
 #[test]
@@ -174,49 +161,24 @@ fn rim_of_one_cell_ends(rt: HostRuntime) {
 }
 
 /// These places lie beside one of five by three cells, in other tiles.
-fn has_outer(
-    rt: &impl Abort,
-    alloc: Global,
-    side: u32,
-    row: u32,
-    col: u32,
-    outer: &[(u32, u32)],
-) -> Result<(), AllocError> {
+fn has_outer(rt: &impl Abort, alloc: Global, side: u32, row: u32, col: u32, outer: &str) {
     let tiling = cut(rt, 5, 3, side);
     let place = place_in(rt, &tiling, row, col);
-    let mut found = Vec::new(alloc);
+    let mut found = String::new(alloc);
     for next in tiling.outer_neighbours(alloc, place).as_slice() {
-        found.push((next.row, next.col))?;
+        push_place(rt, alloc, &mut found, *next);
     }
-    assert_eq!(rt; found.as_slice(), outer, "row {row}, column {col}");
-    Ok(())
+    assert_eq!(rt; found.as_str(), outer, "row {row}, column {col}");
 }
 
 #[test]
-fn neighbours_in_other_tiles(rt: HostRuntime) -> Result<(), Fail> {
+fn neighbours_in_other_tiles(rt: HostRuntime) {
     let alloc = rt.alloc();
-    has_outer(
-        &rt,
-        alloc,
-        2,
-        1,
-        1,
-        &[(1, 2), (2, 2), (2, 1), (2, 0), (0, 2)],
-    )?;
-    has_outer(&rt, alloc, 2, 2, 4, &[(2, 3), (1, 3), (1, 4)])?;
-    has_outer(&rt, alloc, 2, 0, 0, &[])?;
-    let around = [
-        (1, 2),
-        (2, 2),
-        (2, 1),
-        (2, 0),
-        (1, 0),
-        (0, 0),
-        (0, 1),
-        (0, 2),
-    ];
-    has_outer(&rt, alloc, 1, 1, 1, &around)?;
-    Ok(())
+    has_outer(&rt, alloc, 2, 1, 1, "(1,2)(2,2)(2,1)(2,0)(0,2)");
+    has_outer(&rt, alloc, 2, 2, 4, "(2,3)(1,3)(1,4)");
+    has_outer(&rt, alloc, 2, 0, 0, "");
+    let around = "(1,2)(2,2)(2,1)(2,0)(1,0)(0,0)(0,1)(0,2)";
+    has_outer(&rt, alloc, 1, 1, 1, around);
 }
 
 /// The view has this cell at a place.
@@ -231,7 +193,7 @@ fn view_of_a_tile_and_around(rt: HostRuntime) {
     let cells: [u32; 15] = [0, 1, 2, 3, 4, 10, 11, 12, 13, 14, 20, 21, 22, 23, 24];
     let view = tiling.view(&cells, 3);
     assert_eq!(rt; view.bounds().rows, 1);
-    assert_eq!(rt; view.row(0), [20, 21].as_slice());
+    expect_numbers(&rt, view.row(0), &[20, 21]);
     for (row, col, cell) in [
         (1, 0, Some(10)),
         (1, 1, Some(11)),
@@ -263,6 +225,6 @@ fn six_lists_put_back(rt: HostRuntime) -> Result<(), Fail> {
     ];
     let whole = tiling.put_back(alloc, &lists)?;
     let cells: [u32; 15] = [0, 1, 2, 3, 4, 10, 11, 12, 13, 14, 20, 21, 22, 23, 24];
-    assert_eq!(rt; whole.as_slice(), cells.as_slice());
+    expect_numbers(&rt, &whole, &cells);
     Ok(())
 }

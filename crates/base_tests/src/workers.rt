@@ -1,6 +1,7 @@
 //! Jobs run by workers, and what their gates are told.
 ghost use Rattle.std.specs.Prelude.{◌≤◌};
 
+use crate::texts::expect_numbers;
 use std::alloc::{AllocError, Global};
 use std::process::Abort;
 use std::sync::Wait;
@@ -158,11 +159,7 @@ fn run_by_turns<R: Threads + Wait + Sync>(
 fn answers_come_in_job_order(rt: HostRuntime) -> Result<(), Fail> {
     for workers in [1, 2, 3, 10, 64] {
         let squares = run_squares(&rt, rt.alloc(), 10, 10, workers)?;
-        assert_eq!(rt;
-            squares.as_slice(),
-            [0, 1, 4, 9, 16, 25, 36, 49, 64, 81].as_slice(),
-            "{workers} workers"
-        );
+        expect_numbers(&rt, &squares, &[0, 1, 4, 9, 16, 25, 36, 49, 64, 81]);
     }
     Ok(())
 }
@@ -171,9 +168,9 @@ fn answers_come_in_job_order(rt: HostRuntime) -> Result<(), Fail> {
 fn fewer_jobs_than_may_be_run(rt: HostRuntime) -> Result<(), Fail> {
     for workers in [1, 4] {
         let none = run_squares(&rt, rt.alloc(), 10, 0, workers)?;
-        assert_eq!(rt; none.len(), 0);
+        expect_numbers(&rt, &none, &[]);
         let two = run_squares(&rt, rt.alloc(), 10, 2, workers)?;
-        assert_eq!(rt; two.as_slice(), [0, 1].as_slice());
+        expect_numbers(&rt, &two, &[0, 1]);
     }
     Ok(())
 }
@@ -245,7 +242,7 @@ fn two_jobs_meet(rt: HostRuntime) -> Result<(), Fail> {
 fn refused_memory_is_told(rt: HostRuntime) {
     for workers in [1, 3] {
         match run_squares(&rt, rt.alloc(), 5, 5, workers) {
-            Ok(squares) => assert_eq!(rt; squares.as_slice(), [0, 1, 4, 9, 16].as_slice()),
+            Ok(squares) => expect_numbers(&rt, &squares, &[0, 1, 4, 9, 16]),
             Err(JobFault::Memory) => {}
             Err(fault) => assert_eq!(rt; (fault, workers), (JobFault::NoThread, 3)),
         }
@@ -416,7 +413,7 @@ fn threads_that_cannot_be_started(rt: HostRuntime) -> Result<(), Fail> {
     }
     let visits = Visits::new(rt.alloc(), 5)?;
     let answers = run_capped(&rt, rt.alloc(), &visits, 1, 0)?;
-    assert_eq!(rt; answers.as_slice(), [0, 1, 2, 3, 4].as_slice());
+    expect_numbers(&rt, &answers, &[0, 1, 2, 3, 4]);
     Ok(())
 }
 

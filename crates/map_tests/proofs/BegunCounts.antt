@@ -10,7 +10,7 @@ use Rattle.terrain.specs.Neighbours.{IsInside, index_of}
 use Rattle.terrain.specs.declared.place.Place.{Place}
 use Rattle.drain.specs.Beginning.{IsBegun, AreBegun}
 use Rattle.drain.specs.Steps.{IsLower, HasLower, DrainsAtOnce}
-use Rattle.drain.proofs.Quiet.{data_inside}
+use Rattle.drainage.proofs.Reach.{data_inside}
 
 -- Of the cells that stand before an index in row order none is a lower neighbour.
 abbrev pub HasNoLowerBelow : Terrain → Place → ℕ → Type 0

@@ -1,132 +1,82 @@
 // Directions of single cells by what stands around them, and refused numbers of workers.
+ghost use Rattle.drain.specs.Fitting.{IsFitting};
+
 use crate::ground::{cut, land};
-use drain::{Around, direction, directions};
-use fill::filled;
+use crate::stages::{directed, leveled};
+use drain::{Around, direction};
 use flow::{accumulation, basins};
-use terrain::Place;
+use std::alloc::Global;
+use std::process::Abort;
+use std::sync::Wait;
+use std::thread::Threads;
+use terrain::{Grid, Height};
 use tile_jobs::{JobFault, NoGate};
+
+/// The number of the code of a cell with these ways around it.
+fn number(level: Height, steps: u32, edge: bool, ways: [Option<(Height, u32)>; 8]) -> u8
+    requires { IsFitting (record { level = level; steps = steps; edge = edge; ways = ways }) }
+{
+    let around = Around {
+        level,
+        steps,
+        edge,
+        ways,
+    };
+    direction(&around).number()
+}
+
+const NONE: Option<(Height, u32)> = None;
 
 #[test]
 fn code_of_one_cell(rt: HostRuntime) {
-    let side = Around {
-        level: 20,
-        steps: 0,
-        edge: true,
-        ways: [
-            Some((15, 0)),
-            Some((13, 0)),
-            None,
-            None,
-            None,
-            None,
-            None,
-            None,
-        ],
-    };
-    assert_eq!(rt; direction(&side).number(), 1);
-    let corner = Around {
-        level: 20,
-        steps: 0,
-        edge: true,
-        ways: [
-            Some((13, 0)),
-            Some((10, 0)),
-            None,
-            None,
-            None,
-            None,
-            None,
-            None,
-        ],
-    };
-    assert_eq!(rt; direction(&corner).number(), 2);
-    let level = Around {
-        level: 20,
-        steps: 0,
-        edge: true,
-        ways: [
-            Some((20, 0)),
-            Some((20, 0)),
-            None,
-            None,
-            None,
-            None,
-            None,
-            None,
-        ],
-    };
-    assert_eq!(rt; direction(&level).number(), 0);
+    let (side, corner, n) = (Some((15, 0)), Some((13, 0)), NONE);
+    assert_eq!(rt; number(20, 0, true, [side, corner, n, n, n, n, n, n]), 1);
+    let (side, corner) = (Some((13, 0)), Some((10, 0)));
+    assert_eq!(rt; number(20, 0, true, [side, corner, n, n, n, n, n, n]), 2);
+    let same = Some((20, 0));
+    assert_eq!(rt; number(20, 0, true, [same, same, n, n, n, n, n, n]), 0);
 }
 
 #[test]
 fn codes_of_surroundings(rt: HostRuntime) {
-    let same = Some((20, 0));
-    let slope = Around {
-        level: 20,
-        steps: 0,
-        edge: false,
-        ways: [
-            Some((15, 0)),
-            Some((13, 0)),
-            same,
-            same,
-            same,
-            same,
-            same,
-            same,
-        ],
-    };
-    assert_eq!(rt; direction(&slope).number(), 1);
-    let flat = Around {
-        level: 5,
-        steps: 2,
-        edge: false,
-        ways: [
-            Some((5, 2)),
-            None,
-            Some((5, 1)),
-            None,
-            Some((5, 1)),
-            None,
-            None,
-            None,
-        ],
-    };
-    assert_eq!(rt; direction(&flat).number(), 4);
-    let outlet = Around {
-        level: 5,
-        steps: 0,
-        edge: true,
-        ways: [Some((5, 1)); 8],
-    };
-    assert_eq!(rt; direction(&outlet).number(), 0);
-    let corner = Around {
-        level: 5,
-        steps: 0,
-        edge: true,
-        ways: [None, None, None, None, None, None, None, Some((4, 0))],
-    };
-    assert_eq!(rt; direction(&corner).number(), 128);
+    let (side, corner, s) = (Some((15, 0)), Some((13, 0)), Some((20, 0)));
+    assert_eq!(rt; number(20, 0, false, [side, corner, s, s, s, s, s, s]), 1);
+    let (two, one, n) = (Some((5, 2)), Some((5, 1)), NONE);
+    assert_eq!(rt; number(5, 2, false, [two, n, one, n, one, n, n, n]), 4);
+    assert_eq!(rt; number(5, 0, true, [one; 8]), 0);
+    assert_eq!(rt;
+        number(5, 0, true, [n, n, n, n, n, n, n, Some((4, 0))]),
+        128
+    );
+}
+
+/// What refuses the four maps to so many workers.
+fn faults<R: Abort + Threads + Wait + Sync>(
+    rt: &R,
+    alloc: Global,
+    grid: &Grid,
+    workers: u32,
+) -> [Option<JobFault>; 4] {
+    let tiling = cut(rt, grid, 1);
+    let level = leveled(rt, alloc, grid, &tiling, 1).expect(rt, "levels");
+    let ways = directed(rt, alloc, &level, &tiling, 1).expect(rt, "ways");
+    [
+        leveled(rt, alloc, grid, &tiling, workers).err(),
+        directed(rt, alloc, &level, &tiling, workers).err(),
+        accumulation(rt, alloc, &ways, &tiling, workers, &NoGate).err(),
+        basins(rt, alloc, &ways, &tiling, workers, &NoGate).err(),
+    ]
 }
 
 #[test]
 fn refused_workers(rt: HostRuntime) {
-    let alloc = rt.alloc();
-    let grid = land(&rt, alloc, 1, 1, "5");
-    let tiling = cut(&rt, &grid, 1);
-    let level = filled(&rt, alloc, &grid, &tiling, 64, &NoGate).expect(&rt, "levels");
-    let ways = directions(&rt, alloc, &level, &tiling, 64, &NoGate).expect(&rt, "ways");
-    let code = ways.code(Place { row: 0, col: 0 });
-    assert_eq!(rt; code.map(|code| code.number()), Some(0));
-    let refused = Some(JobFault::BadWorkers);
+    let grid = land(&rt, rt.alloc(), 1, 1, "5");
     for workers in [0, 65] {
-        let fault = filled(&rt, alloc, &grid, &tiling, workers, &NoGate).err();
-        assert_eq!(rt; fault, refused);
-        let fault = directions(&rt, alloc, &level, &tiling, workers, &NoGate).err();
-        assert_eq!(rt; fault, refused);
-        let fault = accumulation(&rt, alloc, &ways, &tiling, workers, &NoGate).err();
-        assert_eq!(rt; fault, refused);
-        let fault = basins(&rt, alloc, &ways, &tiling, workers, &NoGate).err();
-        assert_eq!(rt; fault, refused);
+        let refused = [Some(JobFault::BadWorkers); 4];
+        assert_eq!(rt;
+            faults(&rt, rt.alloc(), &grid, workers),
+            refused,
+            "{workers} workers"
+        );
     }
 }

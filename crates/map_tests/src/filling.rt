@@ -1,22 +1,25 @@
 // Floods of tiles, the graph that joins them, and want of memory.
 ghost use Rattle.std.specs.Prelude.{IfOk};
+ghost use Rattle.terrain.specs.Raster.{Terrain};
 ghost use Rattle.fill.specs.Spills.{AreFloods};
 ghost use Rattle.tiles.specs.Cutting.{Cuts};
 
-use crate::ground::{cut, land};
-use fill::{SpillGraph, TileFlood, filled, tile_flood};
+use crate::ground::{cut, expect_cells, land};
+use crate::refused::again;
+use crate::stages::leveled;
+use fill::{SpillGraph, TileFlood, tile_flood};
 use std::alloc::{AllocError, Global};
 use std::process::Abort;
 use std::sync::Wait;
 use std::thread::Threads;
 use terrain::{Grid, Height, NoMemory, Place};
-use tile_jobs::{JobFault, NoGate};
+use tile_jobs::JobFault;
 use tiles::Tiling;
 
 /// A valley between two ridges, through two tiles of side 3. It spills over the low place in the second.
 const VALLEY: &str = "9 9 9 9 9 9\n9 1 5 4 1 6\n9 9 9 9 9 9";
 
-const FILLED: [i32; 18] = [9, 9, 9, 9, 9, 9, 9, 6, 6, 6, 6, 6, 9, 9, 9, 9, 9, 9];
+const FILLED: &str = "9 9 9 9 9 9\n9 6 6 6 6 6\n9 9 9 9 9 9";
 
 /// The flood of each tile, in tile order.
 pub(crate) fn floods_of(
@@ -51,14 +54,10 @@ fn levels_of(alloc: Global, flood: &TileFlood) -> Result<Vec<Option<Height>>, Al
 
 fn expect_floods(rt: &impl Abort, alloc: Global, floods: &[TileFlood]) {
     assert_eq!(rt; floods.len(), 2);
-    let (n, c, b) = (Some(9), Some(5), Some(4));
     let first = levels_of(alloc, &floods[0]).expect(rt, "levels");
-    assert_eq!(rt; first.as_slice(), [n, n, n, n, c, c, n, n, n].as_slice());
+    expect_cells(rt, alloc, &first, 3, 3, "9 9 9\n9 5 5\n9 9 9");
     let second = levels_of(alloc, &floods[1]).expect(rt, "levels");
-    assert_eq!(rt;
-        second.as_slice(),
-        [n, n, n, b, b, Some(6), n, n, n].as_slice()
-    );
+    expect_cells(rt, alloc, &second, 3, 3, "9 9 9\n4 4 6\n9 9 9");
     let west = Place { row: 1, col: 2 };
     let east = Place { row: 1, col: 3 };
     assert_eq!(rt; floods[0].label(Place { row: 1, col: 1 }), Some(west));
@@ -66,9 +65,23 @@ fn expect_floods(rt: &impl Abort, alloc: Global, floods: &[TileFlood]) {
     assert_eq!(rt; floods[1].level(west), None);
 }
 
+/// The levels of the labels of these floods.
+pub(crate) fn label_levels(
+    rt: &impl Abort,
+    alloc: Global,
+    tiling: &Tiling,
+    floods: &[TileFlood],
+) -> Vec<Option<Height>>
+    requires { (t : Terrain) × AreFloods t tiling.now floods.now }
+{
+    let graph = again!(rt, SpillGraph::gather(alloc, tiling, floods, &[]));
+    again!(rt, graph.levels(alloc))
+}
+
 fn expect_levels(rt: &impl Abort, levels: &[Option<Height>]) {
     assert_eq!(rt; levels.len(), 18);
-    assert_eq!(rt; (levels[8], levels[9], levels[7]), (Some(6), Some(6), None));
+    let middle = [None, Some(6), Some(6)];
+    assert_eq!(rt; levels.get(7..10), Some(middle.as_slice()));
 }
 
 #[test]
@@ -78,11 +91,9 @@ fn valley_through_two_tiles(rt: HostRuntime) {
     let tiling = cut(&rt, &grid, 3);
     let floods = floods_of(alloc, &grid, &tiling).expect(&rt, "floods");
     expect_floods(&rt, alloc, &floods);
-    let graph = SpillGraph::gather(alloc, &tiling, &floods, &[]).expect(&rt, "a graph");
-    let levels = graph.levels(alloc).expect(&rt, "levels");
-    expect_levels(&rt, &levels);
-    let level = filled(&rt, alloc, &grid, &tiling, 2, &NoGate).expect(&rt, "filled heights");
-    assert_eq!(rt; level.grid().cells(), FILLED.map(Some).as_slice());
+    expect_levels(&rt, &label_levels(&rt, alloc, &tiling, &floods));
+    let level = leveled(&rt, alloc, &grid, &tiling, 2).expect(&rt, "filled heights");
+    expect_cells(&rt, alloc, level.grid().cells(), 6, 3, FILLED);
 }
 
 /// With ample memory the filled heights of the valley by tiles of this side, and with `--fail-alloc`
@@ -90,8 +101,8 @@ fn valley_through_two_tiles(rt: HostRuntime) {
 fn expect_filled_or_refused<R: Abort + Threads + Wait + Sync>(rt: &R, alloc: Global, side: u32) {
     let grid = land(rt, alloc, 6, 3, VALLEY);
     let tiling = cut(rt, &grid, side);
-    match filled(rt, alloc, &grid, &tiling, 1, &NoGate) {
-        Ok(level) => assert_eq!(rt; level.grid().cells(), FILLED.map(Some).as_slice()),
+    match leveled(rt, alloc, &grid, &tiling, 1) {
+        Ok(level) => expect_cells(rt, alloc, level.grid().cells(), 6, 3, FILLED),
         Err(fault) => assert_eq!(rt; fault, JobFault::Memory),
     }
 }

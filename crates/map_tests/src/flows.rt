@@ -5,13 +5,12 @@ ghost use Rattle.flow.specs.TileFlow.{IsTileFlow, AreTileFlows};
 ghost use Rattle.tiles.specs.Cutting.{Cuts, tile_count};
 
 use crate::ground::{cut, land};
-use drain::{Directions, directions};
-use fill::filled;
+use crate::stages::{directed, leveled};
+use drain::Directions;
 use flow::{RimLinks, TileFlow, tile_flow};
 use std::alloc::Global;
 use std::process::Abort;
 use terrain::{NoMemory, Place};
-use tile_jobs::NoGate;
 use tiles::Tiling;
 
 /// The flow of a tile.
@@ -50,7 +49,7 @@ pub(crate) fn flows_of(
 }
 
 /// The links over the rims of these flows.
-pub(crate) fn links_of<'a>(
+fn links_of<'a>(
     alloc: Global,
     tiling: &Tiling,
     ways: &Directions,
@@ -74,7 +73,7 @@ fn expect_tile_flows(rt: &impl Abort, flows: &[TileFlow]) {
 }
 
 /// What comes in over the rim at a place, and where the water of an exit ends.
-pub(crate) fn link_at(
+fn link_at(
     rt: &impl Abort,
     tiling: &Tiling,
     links: &RimLinks<'_>,
@@ -87,19 +86,39 @@ pub(crate) fn link_at(
     (links.inflow(place), links.outlet(place))
 }
 
+/// These come in over the rim at two places, and there their water ends. Links that are refused memory are
+/// joined once more.
+pub(crate) fn expect_links(
+    rt: &impl Abort,
+    alloc: Global,
+    tiling: &Tiling,
+    ways: &Directions,
+    flows: &[TileFlow],
+    wanted: [(Place, (u32, Option<Place>)); 2],
+)
+    requires ends { AllFlowEnds (directed_of ways.now) }
+    requires flows { AreTileFlows (directed_of ways.now) tiling.now flows.now }
+{
+    let is_refused = links_of(alloc, tiling, ways, flows).is_err();
+    let attempt = if is_refused { "once more" } else { "links" };
+    let links = links_of(alloc, tiling, ways, flows).expect(rt, attempt);
+    for (place, link) in wanted {
+        assert_eq!(rt; link_at(rt, tiling, &links, place), link);
+    }
+}
+
 #[test]
 fn slope_in_tiles_and_joined(rt: HostRuntime) {
     let alloc = rt.alloc();
     let slope = land(&rt, alloc, 6, 2, "6 5 4 3 2 1\n7 7 7 7 7 7");
     let tiling = cut(&rt, &slope, 2);
-    let level = filled(&rt, alloc, &slope, &tiling, 1, &NoGate).expect(&rt, "levels");
-    let ways = directions(&rt, alloc, &level, &tiling, 1, &NoGate).expect(&rt, "ways");
+    let level = leveled(&rt, alloc, &slope, &tiling, 1).expect(&rt, "levels");
+    let ways = directed(&rt, alloc, &level, &tiling, 1).expect(&rt, "ways");
     let flows = flows_of(alloc, &tiling, &ways).expect(&rt, "flows");
     expect_tile_flows(&rt, &flows);
-    let links = links_of(alloc, &tiling, &ways, &flows).expect(&rt, "links");
     let beyond = Place { row: 0, col: 2 };
-    assert_eq!(rt; link_at(&rt, &tiling, &links, beyond), (4, None));
     let exit = Place { row: 0, col: 1 };
     let outlet = Place { row: 0, col: 5 };
-    assert_eq!(rt; link_at(&rt, &tiling, &links, exit), (0, Some(outlet)));
+    let wanted = [(beyond, (4, None)), (exit, (0, Some(outlet)))];
+    expect_links(&rt, alloc, &tiling, &ways, &flows, wanted);
 }

@@ -4,7 +4,7 @@ ghost use Rattle.tiles.specs.Cutting.{Cuts};
 use ascii_grid::read_text;
 use std::alloc::Global;
 use std::process::Abort;
-use terrain::Grid;
+use terrain::{Grid, Height};
 use tiles::Tiling;
 
 /// A pit along the diagonal of 4 by 4 cells, which spills at the height of the last cell.
@@ -24,4 +24,17 @@ pub(crate) fn cut(rt: &impl Abort, grid: &Grid, side: u32) -> Tiling
     ensures { Cuts result grid.now.terrain }
 {
     Tiling::new(grid.cols(), grid.rows(), side).expect(rt, "a tiling")
+}
+
+/// These are the whole heights, -9999 where there is no data.
+pub(crate) fn expect_cells(
+    rt: &impl Abort,
+    alloc: Global,
+    cells: &[Option<Height>],
+    cols: u32,
+    rows: u32,
+    heights: &str,
+) {
+    let wanted = land(rt, alloc, cols, rows, heights);
+    assert_eq!(rt; cells, wanted.cells());
 }

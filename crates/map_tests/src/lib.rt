@@ -1,4 +1,4 @@
-//! Tests of the maps and of whole runs, over their public calls.
+//! Tests of the maps, over their public calls.
 #![tactic(auto)]
 
 #[cfg(test)]
@@ -8,8 +8,6 @@ mod filling;
 #[cfg(test)]
 mod flats;
 #[cfg(test)]
-mod floods;
-#[cfg(test)]
 mod flows;
 #[cfg(test)]
 mod ground;
@@ -18,16 +16,14 @@ mod lowering;
 #[cfg(test)]
 mod maps;
 #[cfg(test)]
-mod meeting;
+mod nodes;
 #[cfg(test)]
 mod pits;
 #[cfg(test)]
 mod refused;
 #[cfg(test)]
-mod runs;
-#[cfg(test)]
 mod seeing;
 #[cfg(test)]
-mod streams;
+mod stages;
 #[cfg(test)]
-mod words;
+mod streams;

@@ -1,7 +1,8 @@
 // The maps of the ways of water, by their rows.
-use crate::ground::{cut, land};
-use drain::{Code, directions};
-use fill::{filled, filled_heights};
+use crate::ground::{cut, expect_cells, land};
+use crate::stages::{directed, leveled};
+use drain::Code;
+use fill::filled_heights;
 use flow::{accumulation, basins};
 use std::alloc::Global;
 use std::process::Abort;
@@ -58,19 +59,15 @@ impl Maps {
     /// These are the maps, however the terrain is cut and whoever does the work.
     pub(crate) fn expect<R: Abort + Threads + Wait + Sync>(&self, rt: &R, alloc: Global) {
         let land = land(rt, alloc, self.cols, self.rows, self.heights);
-        let wanted = self.grid(rt, alloc, self.filled);
         let levels = filled_heights(alloc, &land).expect(rt, "filled heights");
-        assert!(rt; levels.as_slice() == wanted.cells(), "filled at once");
+        expect_cells(rt, alloc, &levels, self.cols, self.rows, self.filled);
         for (side, workers) in CUTS {
             self.expect_cut(rt, alloc, &land, side, workers);
         }
     }
 
-    fn grid(&self, rt: &impl Abort, alloc: Global, numbers: &str) -> Grid {
-        land(rt, alloc, self.cols, self.rows, numbers)
-    }
-
-    fn expect_cut<R: Abort + Threads + Wait + Sync>(
+    /// These are the maps where the land is cut into tiles of this side.
+    pub(crate) fn expect_cut<R: Abort + Threads + Wait + Sync>(
         &self,
         rt: &R,
         alloc: Global,
@@ -79,31 +76,35 @@ impl Maps {
         workers: u32,
     ) {
         let tiling = cut(rt, land, side);
-        let level = filled(rt, alloc, land, &tiling, workers, &NoGate).expect(rt, "levels");
-        let cells = level.grid().cells();
-        let heights = self.grid(rt, alloc, self.filled);
-        assert!(rt;
-            cells == heights.cells(),
-            "filled, side {side}, {workers} workers"
+        let level = leveled(rt, alloc, land, &tiling, workers).expect(rt, "levels");
+        expect_cells(
+            rt,
+            alloc,
+            level.grid().cells(),
+            self.cols,
+            self.rows,
+            self.filled,
         );
-        let ways = directions(rt, alloc, &level, &tiling, workers, &NoGate).expect(rt, "ways");
+        let ways = directed(rt, alloc, &level, &tiling, workers).expect(rt, "ways");
         let codes = numbers(alloc, ways.codes()).expect(rt, "codes");
-        let wanted = self.grid(rt, alloc, self.codes);
-        assert!(rt;
-            agree(&codes, &wanted),
-            "codes, side {side}, {workers} workers"
-        );
         let counts = accumulation(rt, alloc, &ways, &tiling, workers, &NoGate).expect(rt, "counts");
-        let wanted = self.grid(rt, alloc, self.accumulation);
-        assert!(rt;
-            agree(&counts, &wanted),
-            "counts, side {side}, {workers} workers"
-        );
         let numbers = basins(rt, alloc, &ways, &tiling, workers, &NoGate).expect(rt, "basins");
-        let wanted = self.grid(rt, alloc, self.basins);
-        assert!(rt;
-            agree(&numbers, &wanted),
-            "basins, side {side}, {workers} workers"
-        );
+        let agreed = [
+            self.agrees(rt, alloc, &codes, self.codes),
+            self.agrees(rt, alloc, &counts, self.accumulation),
+            self.agrees(rt, alloc, &numbers, self.basins),
+        ];
+        assert_eq!(rt; agreed, [true; 3], "side {side}, {workers} workers");
+    }
+
+    /// Whether the values are these numbers of a map.
+    fn agrees(
+        &self,
+        rt: &impl Abort,
+        alloc: Global,
+        values: &[Option<u32>],
+        numbers: &str,
+    ) -> bool {
+        agree(values, &land(rt, alloc, self.cols, self.rows, numbers))
     }
 }

@@ -72,6 +72,26 @@ fn expect_values<R: Abort + Threads + Wait + Sync>(
     }
 }
 
+/// The viewshed at the farthest radius has these values.
+fn expect_far<R: Abort + Threads + Wait + Sync>(
+    rt: &R,
+    alloc: Global,
+    land: &Grid,
+    observers: &[Observer],
+    target_height: u32,
+    expected: &str,
+) {
+    expect_values(
+        rt,
+        alloc,
+        land,
+        observers,
+        target_height,
+        FARTHEST,
+        expected,
+    );
+}
+
 #[test]
 fn one_line(rt: HostRuntime) {
     let land = land(&rt, rt.alloc(), 3, 1, "0 6 10");
@@ -90,93 +110,58 @@ fn one_line(rt: HostRuntime) {
 #[test]
 fn as_high_as_the_line(rt: HostRuntime) {
     let level = land(&rt, rt.alloc(), 3, 1, "0 5 10");
-    expect_values(&rt, rt.alloc(), &level, &[CORNER], 0, FARTHEST, "111");
+    expect_far(&rt, rt.alloc(), &level, &[CORNER], 0, "111");
     let higher = land(&rt, rt.alloc(), 3, 1, "0 6 10");
-    expect_values(&rt, rt.alloc(), &higher, &[CORNER], 0, FARTHEST, "110");
+    expect_far(&rt, rt.alloc(), &higher, &[CORNER], 0, "110");
 }
 
 #[test]
 fn no_data_tests_nothing(rt: HostRuntime) {
     let gap = land(&rt, rt.alloc(), 3, 2, "0 30000 0\n0 -9999 0");
-    expect_values(&rt, rt.alloc(), &gap, &[CORNER], 0, FARTHEST, "110 1.1");
+    expect_far(&rt, rt.alloc(), &gap, &[CORNER], 0, "110 1.1");
 }
 
 #[test]
 fn heights_between_two_cells(rt: HostRuntime) {
     let above = land(&rt, rt.alloc(), 3, 2, "0 8 0\n0 -7 0");
-    expect_values(&rt, rt.alloc(), &above, &[CORNER], 0, FARTHEST, "110 110");
+    expect_far(&rt, rt.alloc(), &above, &[CORNER], 0, "110 110");
     let level = land(&rt, rt.alloc(), 3, 2, "0 8 0\n0 -8 0");
-    expect_values(&rt, rt.alloc(), &level, &[CORNER], 0, FARTHEST, "110 111");
+    expect_far(&rt, rt.alloc(), &level, &[CORNER], 0, "110 111");
 }
 
 #[test]
 fn hidden_by_a_row_alone(rt: HostRuntime) {
     let hills = land(&rt, rt.alloc(), 4, 3, "0 -9 0 0\n0 4 1 0\n0 0 -9 0");
-    expect_values(
-        &rt,
-        rt.alloc(),
-        &hills,
-        &[CORNER],
-        0,
-        FARTHEST,
-        "1111 1110 1000",
-    );
+    expect_far(&rt, rt.alloc(), &hills, &[CORNER], 0, "1111 1110 1000");
 }
 
 #[test]
 fn an_observer_twice(rt: HostRuntime) {
     let flat = land(&rt, rt.alloc(), 3, 3, "0 0 0\n0 0 0\n0 0 0");
-    expect_values(
-        &rt,
-        rt.alloc(),
-        &flat,
-        &[observer(1, 1, 0), observer(1, 1, 0)],
-        0,
-        1,
-        "020 222 020",
-    );
+    let twice = [observer(1, 1, 0); 2];
+    expect_values(&rt, rt.alloc(), &flat, &twice, 0, 1, "020 222 020");
 }
 
 #[test]
 fn eye_and_target_heights(rt: HostRuntime) {
     let ridge = land(&rt, rt.alloc(), 3, 1, "0 6 10");
-    expect_values(
-        &rt,
-        rt.alloc(),
-        &ridge,
-        &[observer(0, 0, 2)],
-        0,
-        FARTHEST,
-        "111",
-    );
-    expect_values(&rt, rt.alloc(), &ridge, &[CORNER], 2, FARTHEST, "111");
-    expect_values(&rt, rt.alloc(), &ridge, &[CORNER], 1, FARTHEST, "110");
+    expect_far(&rt, rt.alloc(), &ridge, &[observer(0, 0, 2)], 0, "111");
+    expect_far(&rt, rt.alloc(), &ridge, &[CORNER], 2, "111");
+    expect_far(&rt, rt.alloc(), &ridge, &[CORNER], 1, "110");
 }
 
 #[test]
 fn nobody_looks(rt: HostRuntime) {
     let gap = land(&rt, rt.alloc(), 3, 1, "0 -9999 10");
-    expect_values(&rt, rt.alloc(), &gap, &[], 0, FARTHEST, "0.0");
+    expect_far(&rt, rt.alloc(), &gap, &[], 0, "0.0");
 }
 
 #[test]
 fn greatest_numbers(rt: HostRuntime) {
-    let peaks = land(
-        &rt,
-        rt.alloc(),
-        3,
-        2,
-        "-1000000000 1000000000 -1000000000\n1000000000 -1000000000 1000000000",
-    );
-    expect_values(
-        &rt,
-        rt.alloc(),
-        &peaks,
-        &[observer(0, 0, 1_000_000), observer(1, 2, 1_000_000)],
-        1_000_000,
-        FARTHEST,
-        "221 222",
-    );
+    let heights = "-1000000000 1000000000 -1000000000\n1000000000 -1000000000 1000000000";
+    let peaks = land(&rt, rt.alloc(), 3, 2, heights);
+    let high = [observer(0, 0, 1_000_000), observer(1, 2, 1_000_000)];
+    expect_far(&rt, rt.alloc(), &peaks, &high, 1_000_000, "221 222");
 }
 
 const HEIGHTS: &str = "-5 -8 -9999 2 7 -7 -7 8 -2\n\
@@ -197,24 +182,10 @@ fn rough_land(rt: HostRuntime) {
         observer(6, 1, 1),
         observer(5, 7, 0),
     ];
-    expect_values(
-        &rt,
-        rt.alloc(),
-        &rough,
-        &observers,
-        1,
-        6,
-        "00.100021 022000021 221132201 222133402 113232.32 12.23.322 222123222",
-    );
-    expect_values(
-        &rt,
-        rt.alloc(),
-        &rough,
-        &observers,
-        1,
-        FARTHEST,
-        "00.100031 033000031 331132301 222133403 113232.42 12.23.323 222124322",
-    );
+    let near = "00.100021 022000021 221132201 222133402 113232.32 12.23.322 222123222";
+    expect_values(&rt, rt.alloc(), &rough, &observers, 1, 6, near);
+    let far = "00.100031 033000031 331132301 222133403 113232.42 12.23.323 222124322";
+    expect_far(&rt, rt.alloc(), &rough, &observers, 1, far);
 }
 
 const ROUGH_COLS: u32 = 53;

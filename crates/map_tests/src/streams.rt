@@ -1,5 +1,6 @@
 // Filled heights, codes, accumulations and basins of small terrains. Those that no worked example has
 // are those of a separate program that follows the definitions.
+use crate::ground::land;
 use crate::maps::Maps;
 
 #[test]
@@ -205,6 +206,8 @@ fn one_cell_and_none(rt: HostRuntime) {
         basins: "1",
     };
     one.expect(&rt, rt.alloc());
+    let land = land(&rt, rt.alloc(), 1, 1, one.heights);
+    one.expect_cut(&rt, rt.alloc(), &land, 1, 64);
     let none = Maps {
         cols: 2,
         rows: 1,

@@ -1,6 +1,7 @@
 // Two tiles in work at once, at each stage of each map.
-use crate::ground::{PITS, cut, land};
-use ascii_grid::Counted;
+ghost use Rattle.tiles.specs.Cutting.{Cuts};
+
+use ascii_grid::{Counted, read_text};
 use drain::directions;
 use fill::filled;
 use flow::{accumulation, basins};
@@ -12,7 +13,20 @@ use std::sync::Wait;
 use std::sync::atomic::{AtomicU64, Ordering};
 use std::thread;
 use std::thread::Threads;
+use terrain::Grid;
 use tile_jobs::{Gate, NoGate};
+use tiles::Tiling;
+
+/// A pit along the diagonal of 4 by 4 cells, which spills at the height of the last cell.
+const PITS: &[u8] =
+    b"ncols 4\nnrows 4\nxllcorner 0\nyllcorner 0\ncellsize 1\n9 9 9 9\n9 1 9 9\n9 9 2 9\n9 9 9 3\n";
+
+/// Two hollows in two tiles of side 3, which spill over the low place in the second.
+const VALLEY: &[u8] =
+    b"ncols 6\nnrows 3\nxllcorner 0\nyllcorner 0\ncellsize 1\n9 9 9 9 9 9\n9 1 5 4 1 6\n9 9 9 9 9 9\n";
+
+const LEVEL: &[u8] =
+    b"ncols 5\nnrows 2\nxllcorner 0\nyllcorner 0\ncellsize 1\n5 5 5 5 5\n5 5 5 5 5\n";
 
 /// How often a held job looks for the other.
 const MOST_LOOKS: u32 = 10_000_000;
@@ -69,21 +83,26 @@ impl Meeting {
     }
 }
 
-/// Two hollows in two tiles of side 3, which spill over the low place in the second.
-const VALLEY: &str = "9 9 9 9 9 9\n9 1 5 4 1 6\n9 9 9 9 9 9";
-
 const CORNER: Observer = Observer {
     row: 0,
     col: 0,
     eye: 0,
 };
 
+/// The grid of a text, and how it is cut into tiles of this side.
+fn cut(rt: &impl Abort, alloc: Global, text: &[u8], side: u32) -> (Grid, Tiling)
+    ensures { Cuts result.1 result.0.terrain }
+{
+    let grid = read_text(alloc, 0, text).expect(rt, "a grid");
+    let tiling = Tiling::new(grid.cols(), grid.rows(), side).expect(rt, "a tiling");
+    (grid, tiling)
+}
+
 // The steps of the pit reach the first of four tiles in the second round, and the third changes nothing.
 #[test]
 fn tiles_meet_at_each_stage(rt: HostRuntime) {
     let alloc = rt.alloc();
-    let pit = land(&rt, alloc, 4, 4, PITS);
-    let tiling = cut(&rt, &pit, 2);
+    let (pit, tiling) = cut(&rt, alloc, PITS, 2);
     let gate = Meeting::new();
     let level = filled(&rt, alloc, &pit, &tiling, 2, &gate).expect(&rt, "levels");
     gate.expect(&rt, 2, 4, "filled");
@@ -106,8 +125,7 @@ fn tiles_meet_at_each_stage(rt: HostRuntime) {
 #[test]
 fn tiles_with_inner_cells_meet(rt: HostRuntime) {
     let alloc = rt.alloc();
-    let valley = land(&rt, alloc, 6, 3, VALLEY);
-    let tiling = cut(&rt, &valley, 3);
+    let (valley, tiling) = cut(&rt, alloc, VALLEY, 3);
     let gate = Meeting::new();
     let level = filled(&rt, alloc, &valley, &tiling, 2, &gate).expect(&rt, "levels");
     gate.expect(&rt, 3, 2, "filled");
@@ -120,8 +138,7 @@ fn tiles_with_inner_cells_meet(rt: HostRuntime) {
 #[test]
 fn three_stages_of_three_jobs(rt: HostRuntime) {
     let alloc = rt.alloc();
-    let level = land(&rt, alloc, 5, 2, "5 5 5 5 5\n5 5 5 5 5");
-    let tiling = cut(&rt, &level, 2);
+    let (level, tiling) = cut(&rt, alloc, LEVEL, 2);
     let level = filled(&rt, alloc, &level, &tiling, 1, &NoGate).expect(&rt, "levels");
     let ways = directions(&rt, alloc, &level, &tiling, 1, &NoGate).expect(&rt, "ways");
     for workers in [2, 8] {
@@ -146,13 +163,9 @@ fn met_rows<R: Abort + Threads + Wait + Sync>(
     name: &str,
 ) -> Vec<u8> {
     let options = Options::new(map, 2, 2, 0).expect(rt, "options");
-    let text = format!(in alloc;
-        "ncols 4\nnrows 4\nxllcorner 0\nyllcorner 0\ncellsize 1\n{PITS}\n"
-    );
-    let text = text.expect(rt, "a text");
     let gate = Meeting::new();
     let mut out = Vec::new(alloc);
-    let mut reader = Counted::new(text.as_bytes());
+    let mut reader = Counted::new(PITS);
     let mut writer = Counted::new(&mut out);
     let result = run_gated(rt, alloc, &options, &mut reader, &mut writer, &gate);
     drop(writer);

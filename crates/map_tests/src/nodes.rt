@@ -1,9 +1,10 @@
 // Floods of nodes 0 to 3: 0 and 1 are joined at 5, 1 and 2 at 3, 0 and 2 at 7, and 3 stands alone.
 ghost use Rattle.std.specs.Prelude.{◌≡◌, ◌∷◌, []};
 
-use fill::{Net, Spill, flood};
+use fill::{Flooded, Net, Spill, flood};
 use smallvec::SmallVec;
 use std::alloc::Global;
+use std::process::Abort;
 use std::test::Fail;
 use terrain::{Height, NoMemory};
 
@@ -65,27 +66,23 @@ impl Net for FourNodes {
     }
 }
 
+/// The nodes have these labels, and the levels that they have in each test.
+fn expect_labels(rt: &impl Abort, flooded: &Flooded, labels: &[Option<u32>]) {
+    let levels = [Some(5), Some(3), Some(2), None];
+    assert_eq!(rt; flooded.level.as_slice(), levels.as_slice());
+    assert_eq!(rt; flooded.label.as_slice(), labels);
+}
+
 #[test]
 fn four_nodes(rt: HostRuntime) -> Result<(), Fail> {
-    let levels = [Some(5), Some(3), Some(2), None];
-    let cases = [
-        (
-            [None, None, Some(2), None],
-            [Some(2), Some(2), Some(2), None],
-        ),
-        (
-            [Some(6), None, Some(2), None],
-            [Some(2), Some(2), Some(2), None],
-        ),
-        (
-            [Some(5), None, Some(2), None],
-            [Some(0), Some(2), Some(2), None],
-        ),
-    ];
-    for (sources, labels) in cases {
+    let two = Some(2);
+    for (sources, labels) in [
+        ([None, None, Some(2), None], [two, two, two, None]),
+        ([Some(6), None, Some(2), None], [two, two, two, None]),
+        ([Some(5), None, Some(2), None], [Some(0), two, two, None]),
+    ] {
         let flooded = flood(rt.alloc(), &FourNodes { sources })?;
-        assert_eq!(rt; flooded.level.as_slice(), levels.as_slice());
-        assert_eq!(rt; flooded.label.as_slice(), labels.as_slice());
+        expect_labels(&rt, &flooded, &labels);
     }
     Ok(())
 }
@@ -95,13 +92,6 @@ fn four_nodes(rt: HostRuntime) -> Result<(), Fail> {
 fn refused_memory_is_told(rt: HostRuntime) {
     let sources = [None, None, Some(2), None];
     if let Ok(flooded) = flood(rt.alloc(), &FourNodes { sources }) {
-        assert_eq!(rt;
-            flooded.level.as_slice(),
-            [Some(5), Some(3), Some(2), None].as_slice()
-        );
-        assert_eq!(rt;
-            flooded.label.as_slice(),
-            [Some(2), Some(2), Some(2), None].as_slice()
-        );
+        expect_labels(&rt, &flooded, &[Some(2), Some(2), Some(2), None]);
     }
 }

@@ -1,0 +1,9 @@
+//! Tests of whole runs, and of the stages that they are made of, over their public calls.
+#![tactic(auto)]
+
+#[cfg(test)]
+mod meeting;
+#[cfg(test)]
+mod runs;
+#[cfg(test)]
+mod words;
