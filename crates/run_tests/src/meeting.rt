@@ -105,7 +105,7 @@ fn tiles_meet_at_each_stage(rt: HostRuntime) {
     let (pit, tiling) = cut(&rt, alloc, PITS, 2);
     let gate = Meeting::new();
     let level = filled(&rt, alloc, &pit, &tiling, 2, &gate).expect(&rt, "levels");
-    gate.expect(&rt, 2, 4, "filled");
+    gate.expect(&rt, 3, 4, "filled");
     let gate = Meeting::new();
     let ways = directions(&rt, alloc, &level, &tiling, 2, &gate).expect(&rt, "ways");
     gate.expect(&rt, 5, 4, "directions");
@@ -121,7 +121,7 @@ fn tiles_meet_at_each_stage(rt: HostRuntime) {
     gate.expect(&rt, 1, 4, "viewshed");
 }
 
-// Tiles with inner cells have one stage more: what each adds to the spill graph.
+// Tiles with inner cells have the same stages.
 #[test]
 fn tiles_with_inner_cells_meet(rt: HostRuntime) {
     let alloc = rt.alloc();
@@ -192,14 +192,14 @@ fn tiles_meet(rt: HostRuntime) {
         radius: 2,
     };
     for (map, stages, rows) in [
-        (Map::Fill, 2, "\n9 9 9 9\n9 3 9 9\n9 9 3 9\n9 9 9 3\n"),
-        (Map::Flow, 7, "\n2 4 8 0\n1 2 4 8\n128 1 2 4\n0 128 1 0\n"),
+        (Map::Fill, 3, "\n9 9 9 9\n9 3 9 9\n9 9 3 9\n9 9 9 3\n"),
+        (Map::Flow, 8, "\n2 4 8 0\n1 2 4 8\n128 1 2 4\n0 128 1 0\n"),
         (
             Map::Accumulate,
-            9,
+            10,
             "\n0 0 0 0\n0 5 0 0\n0 0 10 0\n0 0 0 13\n",
         ),
-        (Map::Basins, 10, "\n3 3 3 1\n3 3 3 3\n3 3 3 3\n2 3 3 3\n"),
+        (Map::Basins, 11, "\n3 3 3 1\n3 3 3 3\n3 3 3 3\n2 3 3 3\n"),
         (view, 1, "\n2 2 2 0\n2 2 0 1\n2 0 1 1\n0 1 1 1\n"),
     ] {
         let out = met_rows(&rt, rt.alloc(), map, stages, rows);
