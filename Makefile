@@ -18,11 +18,11 @@ test:
 # The rest takes the program that `make` has built.
 BUILT = @test -x relief || { echo "There is no ./relief: run make first." >&2; exit 1; }
 
-# Times against a plain Rust twin: make bench SIZES="1024 2048" MAPS="fill flow" CORES="1 4" REPEAT=3
+# Times against a plain Rust twin: make bench SIZES="1024 2048" MAPS="fill flow" CORES="1 4" REPEAT=3 TERRAINS="hills cone"
 bench:
 	$(BUILT)
 	bench/run ./relief $(if $(SIZES),--sizes $(SIZES)) $(if $(MAPS),--maps $(MAPS)) \
-	  $(if $(CORES),--workers $(CORES)) $(if $(REPEAT),--repeat $(REPEAT))
+	  $(if $(CORES),--workers $(CORES)) $(if $(REPEAT),--repeat $(REPEAT)) $(if $(TERRAINS),--terrains $(TERRAINS))
 
 # Runs the commands of docs/recipes.md whose tools are installed.
 recipes:

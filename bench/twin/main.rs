@@ -4,7 +4,7 @@
 //!     rustc --edition 2021 -O main.rs -o twin
 //!     twin fill|flow|accumulate|basins [--workers N] [--scale D] < grid.asc > map.asc
 //!     twin view [--workers N] [--scale D] [--target N] [--radius N] ROW,COL,EYE.. < grid.asc > map.asc
-//!     twin terrain hills|serpentine COLUMNS ROWS SEED [SCALE] > grid.asc
+//!     twin terrain hills|coast|.. COLUMNS ROWS SEED [SCALE] > grid.asc
 
 mod accumulate;
 mod basins;

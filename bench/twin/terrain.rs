@@ -1,5 +1,7 @@
 //! Terrains to run maps on, the same for each seed: `hills` has pits at every scale, level lakes, sea below 0
-//! and holes without data; `serpentine` is one flat that winds through corridors one cell wide.
+//! and holes without data; `coast` is hills without data below the sea; of `holes` each second cell has no data, at
+//! random; `serpentine` is one flat that winds through corridors one cell wide; `smooth` has wide hills alone; and
+//! `cone`, `flat`, `checkerboard`, `spikes` and `noise` are what their names say.
 
 use crate::frame::{Frame, NODATA};
 use crate::read::Header;
@@ -24,6 +26,16 @@ const HOLE_SIDE: i64 = 64;
 const HOLES_FROM: i64 = 60_000;
 
 const LEAST_SIDE: usize = 4;
+
+/// Of a thousand cells of `spikes` so many stand out, by so much.
+const SPIKES: u64 = 4;
+const SPIKE: i64 = 100;
+
+/// Heights of `noise` are from the lowest to the highest that are allowed, in scaled units.
+const HIGHEST: i64 = 1_000_000_000;
+
+/// The narrowest hills of `smooth` are so many times as narrow as its widest.
+const SMOOTH: i64 = 8;
 
 /// A well mixed number for each number.
 fn mixed(number: u64) -> u64 {
@@ -63,11 +75,12 @@ fn smooth_row(seed: u64, step: i64, row: i64, columns: usize) -> impl Iterator<I
     })
 }
 
-/// The sum of smooth rows of ever smaller lattices, each about half as high, as parts of 2^16 of `swing`.
-fn rough_row(seed: u64, swing: i64, widest: i64, row: i64, columns: usize) -> Vec<i64> {
+/// The sum of smooth rows of ever smaller lattices, each about half as high, as parts of 2^16 of `swing`, down to the
+/// lattice of `least` cells.
+fn rough_row(seed: u64, swing: i64, least: i64, widest: i64, row: i64, columns: usize) -> Vec<i64> {
     let mut heights = vec![0; columns];
     let (mut step, mut high) = (widest, swing / 2);
-    while step >= 1 {
+    while step >= least.max(1) {
         let seed = mixed(seed ^ step as u64);
         for (height, part) in heights.iter_mut().zip(smooth_row(seed, step, row, columns)) {
             *height += part * high;
@@ -78,19 +91,22 @@ fn rough_row(seed: u64, swing: i64, widest: i64, row: i64, columns: usize) -> Ve
     heights.into_iter().map(|height| height >> 16).collect()
 }
 
+/// Observers stand at the quarters of the sides, which are never without data.
+fn is_stand(terrain: &Frame<i32>, row: usize, column: usize) -> bool {
+    4 * row % terrain.rows == 0 && 4 * column % terrain.columns == 0
+}
+
 fn hills(columns: usize, rows: usize, seed: u64, unit: i64) -> Frame<i32> {
     let widest = columns.max(rows).min(WIDEST) as i64;
     let mut terrain = Frame::new(columns, rows, NODATA);
     for row in 0..rows {
-        let heights = rough_row(seed, SWING * unit, widest, row as i64, columns);
+        let heights = rough_row(seed, SWING * unit, 1, widest, row as i64, columns);
         let wet = smooth_row(mixed(seed ^ 1), LAKE_SIDE, row as i64, columns);
         let known = smooth_row(mixed(seed ^ 2), HOLE_SIDE, row as i64, columns);
         let place = terrain.place(row, 0);
         let cells = heights.into_iter().zip(wet).zip(known).enumerate();
         for (column, ((height, wet), known)) in cells {
-            // Observers stand at the quarters of the sides, which are never a hole.
-            let is_stand = 4 * row % rows == 0 && 4 * column % columns == 0;
-            if known < HOLES_FROM || is_stand {
+            if known < HOLES_FROM || is_stand(&terrain, row, column) {
                 let height = height - SEA * unit;
                 let is_lake = height > 0 && wet > LAKES_FROM;
                 let depth = if is_lake {
@@ -125,7 +141,76 @@ fn serpentine(columns: usize, rows: usize, unit: i64) -> Frame<i32> {
     terrain
 }
 
-/// Writes the terrain that the words name: `hills|serpentine COLUMNS ROWS SEED [SCALE]`.
+/// A terrain without the cells of another that a test of row, column and height picks out, but for the stands.
+fn without(mut terrain: Frame<i32>, picks: impl Fn(usize, usize, i32) -> bool) -> Frame<i32> {
+    for row in 0..terrain.rows {
+        for column in 0..terrain.columns {
+            let place = terrain.place(row, column);
+            if picks(row, column, terrain.cells[place]) && !is_stand(&terrain, row, column) {
+                terrain.cells[place] = NODATA;
+            }
+        }
+    }
+    terrain
+}
+
+/// A terrain of the heights that a function gives each row.
+fn by_rows(columns: usize, rows: usize, heights: impl Fn(i64) -> Vec<i64>) -> Frame<i32> {
+    let mut terrain = Frame::new(columns, rows, NODATA);
+    for row in 0..rows {
+        let place = terrain.place(row, 0);
+        for (column, height) in heights(row as i64).into_iter().enumerate() {
+            terrain.cells[place + column] = height as i32;
+        }
+    }
+    terrain
+}
+
+/// A terrain of the heights that a function gives each row and column.
+fn by_cells(columns: usize, rows: usize, height: impl Fn(i64, i64) -> i64) -> Frame<i32> {
+    by_rows(columns, rows, |row| {
+        (0..columns as i64)
+            .map(|column| height(row, column))
+            .collect()
+    })
+}
+
+/// The terrain of this name, of which a unit is so many scaled units.
+fn terrain_of(name: &str, columns: usize, rows: usize, seed: u64, unit: i64) -> Option<Frame<i32>> {
+    let (middle_row, middle_column) = (rows as i64 / 2, columns as i64 / 2);
+    let any = |row, column| mixed(seed ^ mixed((row as u64) << 32 | column as u64));
+    Some(match name {
+        "hills" => hills(columns, rows, seed, unit),
+        "coast" => without(hills(columns, rows, seed, unit), |_, _, height| height < 0),
+        "holes" => without(hills(columns, rows, seed, unit), |row, column, _| {
+            any(row as i64, column as i64) % 2 == 0
+        }),
+        "serpentine" => serpentine(columns, rows, unit),
+        "smooth" => by_rows(columns, rows, |row| {
+            let widest = columns.max(rows).min(WIDEST) as i64;
+            rough_row(seed, SWING * unit, widest / SMOOTH, widest, row, columns)
+        }),
+        "cone" => by_cells(columns, rows, |row, column| {
+            ((row - middle_row).abs() + (column - middle_column).abs()) * unit
+        }),
+        "flat" => by_cells(columns, rows, |_, _| 0),
+        "checkerboard" => by_cells(columns, rows, |row, column| (row + column) % 2 * unit),
+        "spikes" => by_cells(columns, rows, |row, column| {
+            let number = any(row, column);
+            if number % 1000 < SPIKES {
+                SPIKE * unit
+            } else {
+                (number >> 32) as i64 % 4 * unit
+            }
+        }),
+        "noise" => by_cells(columns, rows, |row, column| {
+            (any(row, column) % (2 * HIGHEST as u64 + 1)) as i64 - HIGHEST
+        }),
+        _ => return None,
+    })
+}
+
+/// Writes the terrain that the words name: `NAME COLUMNS ROWS SEED [SCALE]`.
 pub fn write_terrain(words: &[String]) -> Result<(), String> {
     let number = |place: usize| -> Result<u64, String> {
         let word = words
@@ -145,11 +230,8 @@ pub fn write_terrain(words: &[String]) -> Result<(), String> {
         ));
     }
     let unit = 10i64.pow(scale as u32);
-    let terrain = match words[0].as_str() {
-        "hills" => hills(columns, rows, seed, unit),
-        "serpentine" => serpentine(columns, rows, unit),
-        other => return Err(format!("there is no terrain {other}")),
-    };
+    let terrain = terrain_of(&words[0], columns, rows, seed, unit)
+        .ok_or_else(|| format!("there is no terrain {}", words[0]))?;
     let header = Header {
         columns,
         rows,
