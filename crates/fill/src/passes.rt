@@ -1,16 +1,16 @@
 // Where the labels of neighbouring cells meet.
-ghost use Rattle.std.specs.Prelude.{◌≡◌, ◌+◌, ◌<◌, ◌≤◌, ◌∷◌, [], Some, MatchOption, IfOk, OnOk, length, IsTrue, ◌↔◌};
+ghost use Rattle.std.specs.Prelude.{◌≡◌, ◌+◌, ◌<◌, ◌≤◌, ◌∷◌, [], Some, MatchOption, IfOk, OnOk, length, IsTrue, ◌↔◌, None, is_some, slice_index_or};
 ghost use Rattle.std.specs.Bool.{OnTrue, OnFalse};
 ghost use Rattle.terrain.specs.declared.place.Place.{Place};
 ghost use Rattle.tiles.specs.Cutting.{IsCutting, IsWithin, IsInTile, bounds_of, tile_count};
 ghost use Rattle.fill.specs.TileFlood.{LabelsInside};
-ghost use Rattle.fill.specs.Gathering.{Fit, Adds, AddsCovered, AddsAround, AreLowest, IsRepeat, joins_of, mark_with};
+ghost use Rattle.fill.specs.Gathering.{Fit, Adds, AddsCovered, AddsAround, AreLowest, AreOpen, are_settled, IsRepeat, joins_of, mark_with};
 
 use crate::marks::{Mark, mark_at, mark_of_entry};
 use crate::spills::Join;
 use crate::tile::TileFlood;
 use std::alloc::{AllocError, Global};
-use terrain::Place;
+use terrain::{Height, Place};
 use tiles::{Bounds, Tiling};
 
 /// How many slots a [`JoinTable`] has at first: few, since they are cleared for each tile.
@@ -329,6 +329,43 @@ pub(crate) fn tile_joins(
     }
     let JoinTable { joins, .. } = table;
     Ok(joins)
+}
+
+/// Whether a label is among these sources, of which those past the end are none.
+#[inline(always)]
+fn is_source(sources: &[Option<Height>], node: u32) -> bool
+    ensures { result ≡ is_some (slice_index_or sources.now node None) }
+{
+    match sources.get(node as usize) {
+        Some(height) => height.is_some(),
+        None => false,
+    }
+}
+
+/// Whether both labels of a join are among these sources.
+#[inline(always)]
+fn are_settled(sources: &[Option<Height>], join: Join) -> bool
+    ensures { result ≡ are_settled sources.now join }
+{
+    is_source(sources, join.from) && is_source(sources, join.to)
+}
+
+/// The joins but those of two of these sources.
+pub(crate) fn open_joins(
+    alloc: Global,
+    joins: Vec<Join>,
+    sources: &[Option<Height>],
+) -> Result<Vec<Join>, AllocError>
+    ensures { IfOk result (λ v. AreOpen sources.now joins.items v.items) }
+{
+    let mut left = Vec::new(alloc);
+    for index in 0..joins.len() {
+        if are_settled(sources, joins[index]) {
+            continue;
+        }
+        left.push(joins[index])?;
+    }
+    Ok(left)
 }
 
 /// Whether the join before this one is of the same labels.
