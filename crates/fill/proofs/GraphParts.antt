@@ -18,41 +18,38 @@ use Rattle.fill.specs.Gathering.{AreRising, IsBefore, way_of}
 use Rattle.floods.proofs.Waits.{in_some_list, in_lists}
 use Rattle.floods.proofs.Heaps.{all_by_contains}
 
--- The parts of the first tiles.
-pub record AreFirstParts (c : Cutting) (floods : List Flood) (count : ℕ) (parts : List Part) : Type 0 where
-  pub size : length parts ≡ count
-  pub each : (tile : ℕ) (d : Part) → tile < count → IsPart c floods tile (get_or parts tile d)
+-- What the first tiles gave, in tile order.
+pub record AreFirst {X : Type 0} (has : ℕ → X → Type 0) (count : ℕ) (given : List X) : Type 0 where
+  pub size : length given ≡ count
+  pub each : (tile : ℕ) (d : X) → tile < count → has tile (get_or given tile d)
 
-pub parts_more : (c : Cutting) (floods : List Flood) (tile : ℕ) (part : Part) (old new : List Part) → AreFirstParts c floods tile old → IsPart c floods tile part → new ≡ old ++ part ∷ [] → AreFirstParts c floods (tile + 1) new
-parts_more c floods tile part old new s here is = subst (AreFirstParts c floods (tile + 1)) (sym is) (record {
-  size = length_push old part ∙ ap (λ n. n + 1) s.size;
+pub first_more : {X : Type 0} (has : ℕ → X → Type 0) (tile : ℕ) (x : X) (old new : List X) → AreFirst has tile old → has tile x → new ≡ old ++ x ∷ [] → AreFirst has (tile + 1) new
+first_more has tile x old new s here is = subst (AreFirst has (tile + 1)) (sym is) (record {
+  size = length_push old x ∙ ap (λ n. n + 1) s.size;
   each = λ i d low. elim (cases_eq i tile) [
-    | inr other ↦ subst (IsPart c floods i) (sym (get_or_append_left old (part ∷ []) d i (omega (arith, low, other, s.size)))) (s.each i d (omega (arith, low, other)))
-    | inl same ↦ subst (λ n. IsPart c floods n (get_or (old ++ part ∷ []) n d)) (sym same) (subst (IsPart c floods tile) (sym (get_or_push old part d tile s.size)) here)
+    | inr other ↦ subst (has i) (sym (get_or_append_left old (x ∷ []) d i (omega (arith, low, other, s.size)))) (s.each i d (omega (arith, low, other)))
+    | inl same ↦ subst (λ n. has n (get_or (old ++ x ∷ []) n d)) (sym same) (subst (has tile) (sym (get_or_push old x d tile s.size)) here)
   ];
 })
 
-pub all_parts : (c : Cutting) (floods : List Flood) (count : ℕ) (parts : List Part) → AreFirstParts c floods count parts → count ≡ tile_count c → AreParts c floods parts
-all_parts c floods count parts s all = record { count = s.size ∙ all; each = λ tile d low. s.each tile d (omega (arith, low, all)) }
-
-pub part_at : (c : Cutting) (floods : List Flood) (parts : List Part) (i : ℕ) (part : Part) → AreParts c floods parts → i < length parts → part ≡ get_or parts i part → IsPart c floods i part
-part_at c floods parts i part are low is = subst (IsPart c floods i) (sym is) (are.each i part (omega (arith, low, are.count)))
+pub part_at : (c : Cutting) (floods : List Flood) (out : List (Option ℤ)) (parts : List Part) (i : ℕ) (part : Part) → AreParts c floods out parts → i < length parts → part ≡ get_or parts i part → IsPart c floods out i part
+part_at c floods out parts i part are low is = subst (IsPart c floods out i) (sym is) (are.each i part (omega (arith, low, are.count)))
 
 -- the joins of one of the parts
 pub joins_at : (parts : List Part) (i : ℕ) (x : Part) → i < length parts → x ≡ get_or parts i x → get_or (joins_by_part parts) i [] ≡ x.joins.items
 joins_at parts i x below is = get_or-map (λ (part : Part). part.joins.items) parts i x [] below ∙ ap (λ (part : Part). part.joins.items) (sym is)
 
 -- a tile's part
-pub part_there : (c : Cutting) (floods : List Flood) (parts : List Part) (i : ℕ) → AreParts c floods parts → i < length parts → (x : Part) × IsPart c floods i x × (get_or (joins_by_part parts) i [] ≡ x.joins.items)
-part_there c floods parts i are below = elim (slice_get_cases parts i).1 [
-  | inl found ↦ (found.0, part_at c floods parts i found.0 are below (sym found.3), joins_at parts i found.0 below (sym found.3))
+pub part_there : (c : Cutting) (floods : List Flood) (out : List (Option ℤ)) (parts : List Part) (i : ℕ) → AreParts c floods out parts → i < length parts → (x : Part) × IsPart c floods out i x × (get_or (joins_by_part parts) i [] ≡ x.joins.items)
+part_there c floods out parts i are below = elim (slice_get_cases parts i).1 [
+  | inl found ↦ (found.0, part_at c floods out parts i found.0 are below (sym found.3), joins_at parts i found.0 below (sym found.3))
   | inr past ↦ absurd (omega (arith, below, past.0))
 ]
 
 -- the part that has a join
-pub part_with : (c : Cutting) (floods : List Flood) (parts : List Part) (i : ℕ) (j : Join) → AreParts c floods parts → Contains (get_or (joins_by_part parts) i []) j → (x : Part) × IsPart c floods i x × (get_or (joins_by_part parts) i [] ≡ x.joins.items)
-part_with c floods parts i j are h = elim (cases_lt i (length parts)) [
-  | inl below ↦ part_there c floods parts i are below
+pub part_with : (c : Cutting) (floods : List Flood) (out : List (Option ℤ)) (parts : List Part) (i : ℕ) (j : Join) → AreParts c floods out parts → Contains (get_or (joins_by_part parts) i []) j → (x : Part) × IsPart c floods out i x × (get_or (joins_by_part parts) i [] ≡ x.joins.items)
+part_with c floods out parts i j are h = elim (cases_lt i (length parts)) [
+  | inl below ↦ part_there c floods out parts i are below
   | inr past ↦ absurd (no_join j (subst (λ (z : List Join). Contains z j) (get_or_past (joins_by_part parts) i [] (omega (arith, past, length-map parts (λ (part : Part). part.joins.items)))) h))
 ]
 

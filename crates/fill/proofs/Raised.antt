@@ -15,7 +15,7 @@ use Rattle.tiles.specs.Cutting.{Cutting, IsCutting, IsInBounds, IsWithin, bounds
 use Rattle.tiles.proofs.Cut.{in_bounds, tile_of_place_below}
 use Rattle.tiles.proofs.TileOrder.{tile_entry-in}
 use Rattle.fill.specs.TileFlood.{Flood, level_in, label_in, IsTileFlood}
-use Rattle.fill.specs.Spills.{AreFloods, level_among, AreSpillLevels, spill_of, greater_of, raised_by, AreGreater, IsRaised, raised_among, IsFilledTile}
+use Rattle.fill.specs.Spills.{AreFloods, level_among, AreSpillLevels, AreOpenLevels, spill_of, greater_of, raised_by, AreGreater, IsRaised, raised_among, IsFilledTile}
 use Rattle.fill.specs.Gathering.{Fit}
 use Rattle.fill.specs.Labels.{labels_by, IsTable}
 use Rattle.fill.proofs.Gathered.{fit_of}
@@ -78,8 +78,21 @@ raised_tile c floods tile f levels raised h fit there is =
           ∙ sym (ap (λ z. raised_by c levels z (get_or f.labels k None)) own_level) ∙ sym (ap (raised_by c levels (level_among c floods p)) own_label);
     }
 
+-- a graph with all joins is one in which some may be left out
+pub open_levels : (t : Terrain) (c : Cutting) (floods : List Flood) (levels : List (Option ℤ)) → AreSpillLevels t c floods levels → AreOpenLevels t c floods levels
+open_levels t c floods levels s = (
+  s.0,
+  record {
+    count = s.1.count;
+    joined = λ a b h differ pass. inr (s.1.joined a b h differ pass);
+    joined_only = s.1.joined_only;
+    sources = s.1.sources;
+  },
+  s.2,
+)
+
 -- the levels of the spill graph raise a place to its filled height
-filled_at : (t : Terrain) (c : Cutting) (floods : List Flood) (levels : List (Option ℤ)) → AreFloods t c floods → AreSpillLevels t c floods levels → (p : Place) → IsWithin c p →
+filled_at : (t : Terrain) (c : Cutting) (floods : List Flood) (levels : List (Option ℤ)) → AreFloods t c floods → AreOpenLevels t c floods levels → (p : Place) → IsWithin c p →
     (entry : Option ℤ) → entry ≡ raised_among c floods levels p → MatchOption (height_at t p) (entry ≡ None) (λ _. (level : ℤ) × (entry ≡ Some level) × IsFilledHeight t p level)
 filled_at t c floods levels are spill p within entry e =
     let tile = tile_of_place c p in
@@ -91,13 +104,13 @@ filled_at t c floods levels are spill p within entry e =
     let filled = rims t c floods spill.0 levels spill.2.0 are.lawful are spill.1 spill.2.1 p l (ap is_some some) in
     (int_max l.level filled.0, e ∙ raised_from c levels _ _ l.level filled.0 l.label l.level_is l.label_is filled.1, filled.2))
 
-pub filled_tile : (t : Terrain) (c : Cutting) (floods : List Flood) (tile : ℕ) (f : Flood) (levels raised : List (Option ℤ)) → AreFloods t c floods → slice_get floods tile ≡ Some f → AreSpillLevels t c floods levels → IsRaised c f levels raised → IsFilledTile t c tile raised
+pub filled_tile : (t : Terrain) (c : Cutting) (floods : List Flood) (tile : ℕ) (f : Flood) (levels raised : List (Option ℤ)) → AreFloods t c floods → slice_get floods tile ≡ Some f → AreOpenLevels t c floods levels → IsRaised c f levels raised → IsFilledTile t c tile raised
 filled_tile t c floods tile f levels raised are there spill is =
     let made = raised_tile c floods tile f levels raised are.lawful (fit_of t c floods are.lawful are) there is in
     record { size = made.size; each = λ p i. filled_at t c floods levels are spill p i.0 (tile_entry c tile raised p) (made.each p i) }
 
 -- the whole grid, raised by such levels
-pub filled_map : (t : Terrain) (c : Cutting) (floods : List Flood) (levels whole : List (Option ℤ)) → AreFloods t c floods → AreSpillLevels t c floods levels →
+pub filled_map : (t : Terrain) (c : Cutting) (floods : List Flood) (levels whole : List (Option ℤ)) → AreFloods t c floods → AreOpenLevels t c floods levels →
     IsMadeMap c (λ p height. height ≡ raised_among c floods levels p) whole → IsFilled t whole
 filled_map t c floods levels whole are spill made =
     let all = map_of_size c t.cols t.rows (λ p height. height ≡ raised_among c floods levels p) whole are.cuts.0 are.cuts.1 made in

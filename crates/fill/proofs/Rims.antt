@@ -1,6 +1,7 @@
 -- The levels of the spill graph raise each tile's levels to the filled heights.
 use Rattle.std.proofs.Common.{◌≡◌, ℕ, ◌<◌, inl, inr, ℤ, pos, ◌≤ℤ◌, List, [], ◌∷◌, length, get_or, Option, None, Some, is_some, unwrap_or, ◌∙◌, sym, ap, subst, refl, arith}
-use Rattle.std.specs.Prelude.{slice_get, option_and_then}
+use Rattle.std.specs.Prelude.{slice_get, option_and_then, IsSome}
+use Rattle.std.specs.Int.Signed.{≤ℤ_refl}
 use Rattle.std.specs.Int.{int_max}
 use Rattle.std.proofs.lemmas.Bool.{cases_eq}
 use Rattle.std.proofs.lemmas.Option.{MatchOption-at_some, MatchOption-at_none, same_Some, slice_get_cases}
@@ -19,7 +20,7 @@ use Rattle.floods.specs.declared.net.Spill.{Spill}
 use Rattle.floods.specs.Walk.{IsWalk, crest as walk_crest, IsFlooded}
 use Rattle.fill.specs.TileFlood.{IsTileSource, IsTilePath, IsTileLevel, Flood, level_in, label_in}
 use Rattle.floods.specs.Cells.{last_of}
-use Rattle.fill.specs.Spills.{AreFloods, level_among, label_among, Carries, IsPass, Graph, HasJoin, source_in, IsGraphOf}
+use Rattle.fill.specs.Spills.{AreFloods, level_among, label_among, Carries, IsPass, Graph, HasJoin, source_in, IsOpenGraphOf}
 use Rattle.floods.proofs.Steps.{seen, none_some, le_of_same}
 use Rattle.floods.proofs.Windows.{data_is, height_is, path_in_window}
 use Rattle.fill.proofs.TileWindows.{data_within, tile_path}
@@ -141,8 +142,24 @@ end_label t c p label level l end =
     let height = data_is (height_at t p) (first_is_data t p [] end) in
     l.own (inr end) (height.1 ∙ ap Some (sym (height_is t p height.0 height.1) ∙ sym (source_level t c p label level l (inr end))))
 
+-- the last cell of a path is not above its crest
+last_low : (t : Terrain) (p : Place) (rest : List Place) → height_of t (last_of p rest) ≤ℤ crest t p rest
+last_low t p [] = ≤ℤ_refl (height_of t p)
+last_low t p (q ∷ rest) = trans _ _ _ (last_low t q rest) (max_right (height_of t p) (crest t q rest))
+
+-- a label that is a source has a walk of no steps
+source_walk : (t : Terrain) (c : Cutting) (floods : List Flood) (g : Graph) → AreFloods t c floods → IsOpenGraphOf t c floods g → (p : Place) (l : HasTileLevel t c floods p) (m : ℤ) → l.level ≤ℤ m → IsSome (source_in g (index_of c.cols l.label)) → (walk : List Spill) × IsWalk (HasJoin g) (source_in g) (index_of c.cols l.label) walk × (walk_crest (source_in g) (index_of c.cols l.label) walk ≤ℤ m)
+source_walk t c floods g are graph p l m low some =
+    let z = data_is (source_in g (index_of c.cols l.label)) some in
+    let end = graph.sources.only (index_of c.cols l.label) z.0 z.1 in
+    let label_within = data_within t c l.label are.cuts (label_has_data t c p l.label l.level l.right) in
+    let same = index_injective c.cols end.0 l.label (data_within t c end.0 are.cuts (first_is_data t end.0 [] end.3)).1 label_within.1 end.1 in
+    let height : height_of t l.label ≡ z.0 = subst (λ y. height_of t y ≡ z.0) same (height_is t end.0 z.0 end.4) in
+    let label_low : height_of t l.label ≤ℤ l.level = subst (λ n. height_of t l.label ≤ℤ n) l.right.reached.2 (subst (λ q. height_of t q ≤ℤ crest t p l.right.reached.0) l.right.reached.3 (last_low t p l.right.reached.0)) in
+    ([], some, trans _ _ _ (le_of_same _ _ (ap (λ (o : Option ℤ). unwrap_or o (pos 0)) z.1 ∙ sym height)) (trans _ _ _ label_low low))
+
 -- a path from a cell gives a walk from its label at no greater crest
-pub path_walk : (t : Terrain) (c : Cutting) (floods : List Flood) (g : Graph) → IsCutting c → AreFloods t c floods → IsGraphOf t c floods g → (p : Place) (l : HasTileLevel t c floods p) (rest : List Place) → IsPath t p rest → (walk : List Spill) × IsWalk (HasJoin g) (source_in g) (index_of c.cols l.label) walk × (walk_crest (source_in g) (index_of c.cols l.label) walk ≤ℤ crest t p rest)
+pub path_walk : (t : Terrain) (c : Cutting) (floods : List Flood) (g : Graph) → IsCutting c → AreFloods t c floods → IsOpenGraphOf t c floods g → (p : Place) (l : HasTileLevel t c floods p) (rest : List Place) → IsPath t p rest → (walk : List Spill) × IsWalk (HasJoin g) (source_in g) (index_of c.cols l.label) walk × (walk_crest (source_in g) (index_of c.cols l.label) walk ≤ℤ crest t p rest)
 path_walk t c floods g h are graph p l [] path =
     let same = end_label t c p l.label l.level l.right path in
     let height = data_is (height_at t p) (first_is_data t p [] path) in
@@ -168,10 +185,13 @@ path_walk t c floods g h are graph p l (q ∷ rest) path =
             to_is = k.level_is;
             greater = refl;
           } in
-          let join = graph.joined (index_of c.cols l.label) (index_of c.cols k.label) (int_max l.level k.level) (λ e. differ (sym e)) pass in
-          let least = (graph.joined_only (index_of c.cols l.label) (index_of c.cols k.label) join.0 join.1).least (int_max l.level k.level) pass in
-          let levels : int_max l.level k.level ≤ℤ crest t p (q ∷ rest) = max_least _ _ _ (level_low t c floods h are p l (q ∷ rest) path) (trans _ _ _ (level_low t c floods h are q k rest path.1) (max_right (height_of t p) (crest t q rest))) in
-          (record { to = index_of c.cols k.label; height = join.0 } ∷ further.0, (join.1, further.1), max_least _ _ _ (trans _ _ _ least levels) low)
+          elim (graph.joined (index_of c.cols l.label) (index_of c.cols k.label) (int_max l.level k.level) (λ e. differ (sym e)) pass) [
+            | inl both ↦ source_walk t c floods g are graph p l (crest t p (q ∷ rest)) (level_low t c floods h are p l (q ∷ rest) path) both.0
+            | inr join ↦
+                let least = (graph.joined_only (index_of c.cols l.label) (index_of c.cols k.label) join.0 join.1).least (int_max l.level k.level) pass in
+                let levels : int_max l.level k.level ≤ℤ crest t p (q ∷ rest) = max_least _ _ _ (level_low t c floods h are p l (q ∷ rest) path) (trans _ _ _ (level_low t c floods h are q k rest path.1) (max_right (height_of t p) (crest t q rest))) in
+                (record { to = index_of c.cols k.label; height = join.0 } ∷ further.0, (join.1, further.1), max_least _ _ _ (trans _ _ _ least levels) low)
+          ]
     ]
 
 -- a cell's level and label, from what it carries
@@ -183,7 +203,7 @@ carried t c floods h are x a m some carries level =
     (l.label, ap (index_of c.cols) same ∙ carries.2, subst (λ z. IsTileLevel t c x z l.label) same_level l.right)
 
 -- a walk from a label's node gives a path from the label at no greater crest
-pub walk_path : (t : Terrain) (c : Cutting) (floods : List Flood) (g : Graph) → IsCutting c → AreFloods t c floods → IsGraphOf t c floods g → (walk : List Spill) (p : Place) → IsWithin c p → IsWalk (HasJoin g) (source_in g) (index_of c.cols p) walk → HasLowPath t (walk_crest (source_in g) (index_of c.cols p) walk) p
+pub walk_path : (t : Terrain) (c : Cutting) (floods : List Flood) (g : Graph) → IsCutting c → AreFloods t c floods → IsOpenGraphOf t c floods g → (walk : List Spill) (p : Place) → IsWithin c p → IsWalk (HasJoin g) (source_in g) (index_of c.cols p) walk → HasLowPath t (walk_crest (source_in g) (index_of c.cols p) walk) p
 walk_path t c floods g h are graph [] p within walk =
     let height = data_is (source_in g (index_of c.cols p)) walk in
     let source = graph.sources.only (index_of c.cols p) height.0 height.1 in
@@ -211,7 +231,7 @@ walk_path t c floods g h are graph (step ∷ steps) p within walk =
     subst (HasLowPath t total) same (low_at_label t c pass.from x.0 pass.from_level total x.2 from_low across)
 
 -- the filled height of a cell is the greater of its level and its label's level
-pub rims : (t : Terrain) (c : Cutting) (floods : List Flood) (g : Graph) (levels : List (Option ℤ)) (labels : List (Option ℕ)) → IsCutting c → AreFloods t c floods → IsGraphOf t c floods g → IsFlooded (HasJoin g) (source_in g) g.nodes levels labels → (p : Place) (l : HasTileLevel t c floods p) → IsDataCell t p → (n : ℤ) × (get_or levels (index_of c.cols l.label) None ≡ Some n) × IsFilledHeight t p (int_max l.level n)
+pub rims : (t : Terrain) (c : Cutting) (floods : List Flood) (g : Graph) (levels : List (Option ℤ)) (labels : List (Option ℕ)) → IsCutting c → AreFloods t c floods → IsOpenGraphOf t c floods g → IsFlooded (HasJoin g) (source_in g) g.nodes levels labels → (p : Place) (l : HasTileLevel t c floods p) → IsDataCell t p → (n : ℤ) × (get_or levels (index_of c.cols l.label) None ≡ Some n) × IsFilledHeight t p (int_max l.level n)
 rims t c floods g levels labels h are graph flooded p l some =
     let a = index_of c.cols l.label in
     let label_within = data_within t c l.label are.cuts (label_has_data t c p l.label l.level l.right) in

@@ -17,6 +17,8 @@ use Rattle.fill.specs.TileFlood.{Flood, label_in}
 use Rattle.fill.specs.Gathering.{Fit, IsSpillSource, IsSourceEntry, IsSourceNode, AddsSources, PutsSources, AreSources, mark_among, IsSinkNode}
 use Rattle.fill.specs.declared.marks.Mark.{Mark}
 use Rattle.fill.specs.declared.sources.Source.{Source}
+use Rattle.fill.specs.declared.sources.TileSources.{TileSources}
+use Rattle.fill.specs.Parts.{AreTileSources, AreAllSources}
 use Rattle.floods.proofs.Steps.{seen, none_some, none_done}
 use Rattle.fill.proofs.TileWindows.{bounds_from_entry, entry_in-inside}
 use Rattle.fill.proofs.CellMarks.{label_within, mark_parts, mark_from_tile}
@@ -113,6 +115,10 @@ table_lists f places cells are i p e =
             | inl inside ↦ (k, inside, get_or_default places k (Some p) None inside ∙ entry)
           ]
     ]
+
+-- the sources of one of the tiles
+pub sources_at : (c : Cutting) (floods : List Flood) (lists : List TileSources) (i : ℕ) (list : TileSources) → AreAllSources c floods lists → i < length lists → list ≡ get_or lists i list → AreTileSources c floods i list
+sources_at c floods lists i list are low is = subst (AreTileSources c floods i) (sym is) (are.each i list (omega (arith, low, are.count)))
 
 no_source : (s : Source) → Contains [] s → ⊥
 no_source s held = omega (arith, held.1)

@@ -1,5 +1,5 @@
 -- How the joins of a spill graph are gathered from the floods of the tiles.
-use Rattle.std.specs.Prelude.{◌≡◌, ◌≢◌, ℕ, ◌+◌, ◌-◌, ◌*◌, ◌/◌, ◌%◌, ◌<◌, ◌⊎◌, ◌==◌, if◌then◌else◌, ℤ, ◌≤ℤ◌, List, [], ◌∷◌, length, Option, None, Some, IsSome, MatchOption, slice_get, slice_index_or}
+use Rattle.std.specs.Prelude.{◌≡◌, ◌≢◌, ℕ, ◌+◌, ◌-◌, ◌*◌, ◌/◌, ◌%◌, ◌<◌, ◌⊎◌, ◌==◌, ◌&&◌, true, false, if◌then◌else◌, is_some, Bool, ℤ, ◌≤ℤ◌, List, [], ◌∷◌, length, Option, None, Some, IsSome, MatchOption, slice_get, slice_index_or}
 use Rattle.std.specs.Int.{int_max}
 use Rattle.std.specs.List.{Contains}
 use Rattle.terrain.specs.Neighbours.{index_of, Touches, HasGapWhere}
@@ -106,10 +106,19 @@ pub record AreLowest (joins lowest : List Join) : Type 0 where
   pub every : (j : Join) → Contains joins j → Covered lowest j
   pub rising : AreRising lowest
 
--- The joins of these places, each as low as those that were met.
-pub record AreGathered (c : Cutting) (floods : List Flood) (places : Place → Type 0) (joins : List Join) : Type 0 where
-  pub only : (j : Join) → Contains joins j → IsMeetingAt c floods places j
-  pub every : (p q : Place) (j : Join) → places p → Meets c floods p q j → Covered joins j
+-- Both labels are among these sources. The join of two sources lowers the level of neither.
+abbrev pub are_settled : List (Option ℤ) → Join → Bool
+are_settled sources j = is_some (slice_index_or sources j.from None) && is_some (slice_index_or sources j.to None)
+
+-- The joins but those of two of these sources.
+pub record AreOpen (sources : List (Option ℤ)) (joins left : List Join) : Type 0 where
+  pub only : (j : Join) → Contains left j → Contains joins j × (are_settled sources j ≡ false)
+  pub every : (j : Join) → Contains joins j → (are_settled sources j ≡ true) ⊎ Contains left j
+
+-- The joins of these places but those of two of these sources, each as low as those that were met.
+pub record AreGathered (c : Cutting) (floods : List Flood) (places : Place → Type 0) (sources : List (Option ℤ)) (joins : List Join) : Type 0 where
+  pub only : (j : Join) → Contains joins j → IsMeetingAt c floods places j × (are_settled sources j ≡ false)
+  pub every : (p q : Place) (j : Join) → places p → Meets c floods p q j → (are_settled sources j ≡ true) ⊎ Covered joins j
 
 -- A place outside or without data touches the place.
 abbrev pub HasGapAmong : Cutting → List Flood → Place → Type 0

@@ -7,17 +7,26 @@ use Rattle.fill.specs.Gathering.{AreGathered, AreRising, AddsSources}
 use Rattle.fill.specs.Spills.{Graph}
 use Rattle.fill.specs.declared.spills.Join.{Join}
 use Rattle.fill.specs.declared.parts.Part.{Part}
+use Rattle.fill.specs.declared.sources.TileSources.{TileSources}
 
--- The joins and sources of the cells of a tile. The joins rise by their labels.
-pub record IsPart (c : Cutting) (floods : List Flood) (tile : ℕ) (part : Part) : Type 0 where
-  pub joins : AreGathered c floods (IsInTile c tile) part.joins.items
+-- The sources among the cells of a tile.
+abbrev pub AreTileSources : Cutting → List Flood → ℕ → TileSources → Type 0
+AreTileSources c floods tile sources = AddsSources c floods (IsInTile c tile) [] sources.list.items
+
+-- The sources of each tile, in tile order.
+pub record AreAllSources (c : Cutting) (floods : List Flood) (lists : List TileSources) : Type 0 where
+  pub count : length lists ≡ tile_count c
+  pub each : (tile : ℕ) (d : TileSources) → tile < tile_count c → AreTileSources c floods tile (slice_index_or lists tile d)
+
+-- The joins of the cells of a tile but those of two of these sources. They rise by their labels.
+pub record IsPart (c : Cutting) (floods : List Flood) (sources : List (Option ℤ)) (tile : ℕ) (part : Part) : Type 0 where
+  pub joins : AreGathered c floods (IsInTile c tile) sources part.joins.items
   pub rising : AreRising part.joins.items
-  pub sources : AddsSources c floods (IsInTile c tile) [] part.sources.items
 
 -- One part for each tile, in tile order.
-pub record AreParts (c : Cutting) (floods : List Flood) (parts : List Part) : Type 0 where
+pub record AreParts (c : Cutting) (floods : List Flood) (sources : List (Option ℤ)) (parts : List Part) : Type 0 where
   pub count : length parts ≡ tile_count c
-  pub each : (tile : ℕ) (d : Part) → tile < tile_count c → IsPart c floods tile (slice_index_or parts tile d)
+  pub each : (tile : ℕ) (d : Part) → tile < tile_count c → IsPart c floods sources tile (slice_index_or parts tile d)
 
 -- The joins of each part.
 abbrev pub joins_by_part : List Part → List (List Join)

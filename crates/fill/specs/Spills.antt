@@ -1,5 +1,5 @@
 -- The spill graph: how the labels of all tiles are joined, and the levels that it gives them.
-use Rattle.std.specs.Prelude.{◌≡◌, ◌≢◌, ℕ, ◌*◌, ◌<◌, ℤ, ◌≤ℤ◌, List, length, Option, None, Some, MatchOption, slice_get, slice_index_or, option_and_then}
+use Rattle.std.specs.Prelude.{◌≡◌, ◌≢◌, ℕ, ◌*◌, ◌<◌, ℤ, ◌≤ℤ◌, List, length, Option, None, Some, IsSome, ◌⊎◌, MatchOption, slice_get, slice_index_or, option_and_then}
 use Rattle.std.specs.Int.{int_max}
 use Rattle.std.specs.List.{Contains}
 use Rattle.terrain.specs.Raster.{Terrain}
@@ -69,10 +69,22 @@ pub record AreSpillSources (t : Terrain) (c : Cutting) (floods : List Flood) (g 
   pub only : (a : ℕ) (h : ℤ) → source_in g a ≡ Some h →
       (p : Place) × (index_of c.cols p ≡ a) × Carries c floods p a × IsEnd t p × (height_at t p ≡ Some h)
 
+-- The heights of the labels that are end cells, in row order of the grid.
+pub record AreSourcesOf (t : Terrain) (c : Cutting) (floods : List Flood) (sources : List (Option ℤ)) : Type 0 where
+  pub size : length sources ≡ c.cols * c.rows
+  pub right : (g : Graph) → g.sources ≡ sources → AreSpillSources t c floods g
+
 -- The graph of these floods: its nodes, joins and sources. A node's number is its label's place in row order.
 pub record IsGraphOf (t : Terrain) (c : Cutting) (floods : List Flood) (g : Graph) : Type 0 where
   pub count : g.nodes ≡ c.cols * c.rows
   pub joined : (a b : ℕ) (h : ℤ) → a ≢ b → IsPass t c floods a b h → (least : ℤ) × HasJoin g a b least
+  pub joined_only : (a b : ℕ) (h : ℤ) → HasJoin g a b h → IsJoined t c floods a b h
+  pub sources : AreSpillSources t c floods g
+
+-- Such a graph, in which two labels that are both end cells may stand without their join.
+pub record IsOpenGraphOf (t : Terrain) (c : Cutting) (floods : List Flood) (g : Graph) : Type 0 where
+  pub count : g.nodes ≡ c.cols * c.rows
+  pub joined : (a b : ℕ) (h : ℤ) → a ≢ b → IsPass t c floods a b h → (IsSome (source_in g a) × IsSome (source_in g b)) ⊎ ((least : ℤ) × HasJoin g a b least)
   pub joined_only : (a b : ℕ) (h : ℤ) → HasJoin g a b h → IsJoined t c floods a b h
   pub sources : AreSpillSources t c floods g
 
@@ -83,6 +95,9 @@ AreLevelsOf g levels = (labels : List (Option ℕ)) × IsFlooded (HasJoin g) (so
 -- The levels of the graph of these floods.
 abbrev pub AreSpillLevels : Terrain → Cutting → List Flood → List (Option ℤ) → Type 0
 AreSpillLevels t c floods levels = (g : Graph) × IsGraphOf t c floods g × AreLevelsOf g levels
+
+abbrev pub AreOpenLevels : Terrain → Cutting → List Flood → List (Option ℤ) → Type 0
+AreOpenLevels t c floods levels = (g : Graph) × IsOpenGraphOf t c floods g × AreLevelsOf g levels
 
 -- The level of a label in the graph.
 abbrev pub spill_of : Cutting → List (Option ℤ) → Option Place → Option ℤ

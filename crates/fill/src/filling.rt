@@ -2,12 +2,13 @@
 ghost use Rattle.std.specs.Prelude.{◌≡◌, ◌*◌, ◌<◌, ◌≤◌, length, IfOk};
 ghost use Rattle.drainage.specs.Filled.{IsFilledGrid};
 ghost use Rattle.tiles.specs.Cutting.{Cuts, IsCutting};
-ghost use Rattle.fill.specs.Spills.{AreFloods, AreSpillLevels};
+ghost use Rattle.fill.specs.Spills.{AreFloods, AreOpenLevels};
 ghost use Rattle.tile_jobs.specs.Fault.{RefusesWorkers};
 ghost use Rattle.fill.specs.Gathering.{Fit};
 
 use crate::parts::{Part, tile_part};
 use crate::raising::raise;
+use crate::sources::{TileSources, label_sources, tile_sources};
 use crate::spills::SpillGraph;
 use crate::tile::{TileFlood, tile_flood};
 use drainage::Filled;
@@ -46,11 +47,36 @@ impl<'a> Work for FloodTiles<'a> {
     }
 }
 
-/// Finds what each tile adds to the spill graph.
+/// Finds the sources among the labels of each tile.
+#[derive(Drop)]
+struct SourceTiles<'a> {
+    tiling: &'a Tiling,
+    floods: &'a [TileFlood],
+    ghost fit: { Fit tiling.now floods.now },
+}
+
+impl<'a> Work for SourceTiles<'a> {
+    type Out = TileSources;
+
+    ghost use Rattle.tiles.specs.Cutting.{tile_count};
+    ghost use Rattle.fill.specs.Parts.{AreTileSources};
+
+    ghost most = { λ w. tile_count w.tiling.now };
+
+    ghost gives = { λ w job out. AreTileSources w.tiling.now w.floods.now job out };
+
+    fn run(&self, alloc: Global, job: u32) -> Result<TileSources, JobFault> {
+        let sources = tile_sources(alloc, self.tiling, self.floods, job)?;
+        Ok(sources)
+    }
+}
+
+/// Finds what each tile adds to the spill graph, but joins of two sources.
 #[derive(Drop)]
 struct PartTiles<'a> {
     tiling: &'a Tiling,
     floods: &'a [TileFlood],
+    sources: &'a [Option<Height>],
     ghost fit: { Fit tiling.now floods.now },
 }
 
@@ -62,10 +88,10 @@ impl<'a> Work for PartTiles<'a> {
 
     ghost most = { λ w. tile_count w.tiling.now };
 
-    ghost gives = { λ w job out. IsPart w.tiling.now w.floods.now job out };
+    ghost gives = { λ w job out. IsPart w.tiling.now w.floods.now w.sources.now job out };
 
     fn run(&self, alloc: Global, job: u32) -> Result<Part, JobFault> {
-        let part = tile_part(alloc, self.tiling, self.floods, job)?;
+        let part = tile_part(alloc, self.tiling, self.floods, self.sources, job)?;
         Ok(part)
     }
 }
@@ -110,11 +136,20 @@ fn label_levels<R: Threads + Wait + Sync, G: Gate + Sync>(
 ) -> Result<Vec<Option<Height>>, JobFault>
     requires floods { AreFloods grid.now.terrain tiling.now floods.now }
     requires workers { (0 < crew.now.workers) × (crew.now.workers ≤ 64) }
-    ensures levels { IfOk result (λ v. AreSpillLevels grid.now.terrain tiling.now floods.now v.items) }
+    ensures levels { IfOk result (λ v. AreOpenLevels grid.now.terrain tiling.now floods.now v.items) }
     ensures workers { RefusesWorkers crew.now.workers result }
 {
-    let parts = crew.run(&PartTiles { tiling, floods }, tiling.tiles())?;
-    let graph = SpillGraph::of_parts(crew.alloc, tiling, floods, parts, grid.sinks())?;
+    let lists = crew.run(&SourceTiles { tiling, floods }, tiling.tiles())?;
+    let sources = label_sources(crew.alloc, tiling, floods, &lists, grid.sinks())?;
+    drop(lists);
+    let work = PartTiles {
+        tiling,
+        floods,
+        sources: &sources,
+    };
+    let parts = crew.run(&work, tiling.tiles())?;
+    drop(work);
+    let graph = SpillGraph::of_parts(tiling, sources, parts);
     let Ok(levels) = graph.levels(crew.alloc) else {
         return Err(JobFault::Memory);
     };
@@ -122,7 +157,7 @@ fn label_levels<R: Threads + Wait + Sync, G: Gate + Sync>(
 }
 
 /// The grid with each height replaced by its filled height. Each tile is flooded in a job of its own, adds
-/// to the spill graph in a second one, and is raised in a last one.
+/// to the spill graph in two more, and is raised in a last one.
 pub fn filled<R: Threads + Wait + Sync, G: Gate + Sync>(
     rt: &R,
     alloc: Global,

@@ -1,40 +1,77 @@
 // Where the labels of neighbouring cells meet.
-ghost use Rattle.std.specs.Prelude.{◌≡◌, ◌+◌, ◌<◌, ◌≤◌, ◌∷◌, [], Some, MatchOption, IfOk, OnOk, length, IsTrue, ◌↔◌};
+ghost use Rattle.std.specs.Prelude.{◌≡◌, ◌+◌, ◌<◌, ◌≤◌, ◌∷◌, [], Some, MatchOption, IfOk, OnOk, length, IsTrue, ◌↔◌, None, is_some, slice_index_or};
 ghost use Rattle.std.specs.Bool.{OnTrue, OnFalse};
 ghost use Rattle.terrain.specs.declared.place.Place.{Place};
 ghost use Rattle.tiles.specs.Cutting.{IsCutting, IsWithin, IsInTile, bounds_of, tile_count};
 ghost use Rattle.fill.specs.TileFlood.{LabelsInside};
-ghost use Rattle.fill.specs.Gathering.{Fit, Adds, AddsCovered, AddsAround, AreLowest, IsRepeat, joins_of, mark_with};
+ghost use Rattle.fill.specs.Gathering.{Fit, Adds, AddsCovered, AddsAround, AreLowest, AreOpen, are_settled, IsRepeat, joins_of, mark_with};
 
 use crate::marks::{Mark, mark_at, mark_of_entry};
 use crate::spills::Join;
 use crate::tile::TileFlood;
 use std::alloc::{AllocError, Global};
-use terrain::Place;
+use terrain::{Height, Place};
 use tiles::{Bounds, Tiling};
 
-/// How many slots a [`JoinTable`] has: few, since they are cleared for each tile.
-const SLOTS: usize = 256;
+/// How many slots a [`JoinTable`] has at first: few, since they are cleared for each tile.
+const FIRST_SLOTS: usize = 256;
 
-/// Joins that are added, and where the last one of each slot stands: a join of the same labels is not added once more.
+/// How many slots are looked at for a join.
+const MOST_PROBES: usize = 16;
+
+/// Joins that are added, and where they stand by their labels: a join of the same labels is seldom added once more.
 #[derive(Drop)]
 struct JoinTable {
+    alloc: Global,
     joins: Vec<Join>,
-    /// An index past all joins, where none of the slot was added.
-    last: [usize; SLOTS],
+    /// For each slot the index of a join, or one past all joins. Joins that stand in a slot after their own have
+    /// none free between.
+    slots: Vec<usize>,
+    ghost some: { 0 < length slots.items },
 }
 
-/// The slot of two labels. Labels along a side of a tile often differ by a multiple of a power of two, so all
-/// of their bits are mixed.
+/// A slot of so many for two labels: at first their own, and then those after it. Labels along a side of a tile often
+/// differ by a multiple of a power of two, so all of their bits are mixed.
 #[inline(always)]
-fn slot_of(from: u32, to: u32) -> usize
-    ensures { result < 256 }
+fn slot_of(from: u32, to: u32, probe: usize, slots: usize) -> usize
+    requires { 0 < slots }
+    ensures { result < slots }
 {
     let mixed = from
         .wrapping_mul(31)
         .wrapping_add(to)
         .wrapping_mul(0x9E37_79B1);
-    (mixed >> 12) as usize % SLOTS
+    let own = (mixed >> 8) as usize;
+    (own.wrapping_add(probe) & (slots - 1)).min(slots - 1)
+}
+
+/// The slot of a join of these labels, or a free one. Where neither is near, it is the labels' own.
+#[inline(always)]
+fn slot_for(joins: &[Join], slots: &[usize], join: Join) -> usize
+    requires { 0 < length slots.now }
+    ensures { result < length slots.now }
+{
+    for probe in 0..MOST_PROBES {
+        let slot = slot_of(join.from, join.to, probe, slots.len());
+        let Some(met) = joins.get(slots[slot]) else {
+            return slot;
+        };
+        if met.from == join.from && met.to == join.to {
+            return slot;
+        }
+    }
+    slot_of(join.from, join.to, 0, slots.len())
+}
+
+/// Puts all joins into their slots.
+fn fill_slots(joins: &[Join], slots: &mut [usize])
+    requires { 0 < length slots.old }
+    ensures { length slots.new ≡ length slots.old }
+{
+    for index in 0..joins.len() {
+        let slot = slot_for(joins, slots, joins[index]);
+        slots[slot] = index;
+    }
 }
 
 /// Whether the join at this index is of the same labels as this one. Then it is made as low.
@@ -57,27 +94,53 @@ fn lowers(joins: &mut Vec<Join>, at: usize, join: Join) -> bool
 }
 
 impl JoinTable {
-    fn new(alloc: Global) -> Self
-        ensures { result.joins.items ≡ [] }
+    fn new(alloc: Global) -> Result<Self, AllocError>
+        ensures { IfOk result (λ table. table.joins.items ≡ []) }
     {
-        JoinTable {
+        let slots = vec![in alloc; usize::MAX; FIRST_SLOTS]?;
+        Ok(JoinTable {
+            alloc,
             joins: Vec::new(alloc),
-            last: [usize::MAX; SLOTS],
-        }
+            slots,
+        })
     }
 
-    /// Adds a join. The last one of its slot is made as low instead, where it is of the same labels.
+    /// Makes twice as many slots.
+    #[inline(never)]
+    fn grow(&mut self) -> Result<(), AllocError>
+        ensures { OnOk result (self.new.joins.items ≡ self.old.joins.items) }
+    {
+        let count = self.slots.len().saturating_mul(2);
+        let mut slots = vec![in self.alloc; usize::MAX; count]?;
+        fill_slots(&self.joins, &mut slots);
+        self.slots = slots;
+        Ok(())
+    }
+
+    /// Makes more slots, where more than half of them are taken.
+    #[inline(always)]
+    fn make_room(&mut self) -> Result<(), AllocError>
+        ensures { OnOk result (self.new.joins.items ≡ self.old.joins.items) }
+    {
+        if self.joins.len() <= self.slots.len() / 2 {
+            return Ok(());
+        }
+        self.grow()
+    }
+
+    /// Adds a join, or makes one of the same labels as low.
     #[inline(always)]
     fn add(&mut self, join: Join) -> Result<(), AllocError>
         ensures { OnOk result (AddsCovered self.old.joins.items (join ∷ []) self.new.joins.items) }
     {
-        let slot = slot_of(join.from, join.to);
-        let at = self.last[slot];
+        let slot = slot_for(&self.joins, &self.slots, join);
+        let at = self.slots[slot];
         if lowers(&mut self.joins, at, join) {
             return Ok(());
         }
-        self.last[slot] = self.joins.len();
+        self.slots[slot] = self.joins.len();
         self.joins.push(join)?;
+        self.make_room()?;
         Ok(())
     }
 }
@@ -259,13 +322,50 @@ pub(crate) fn tile_joins(
     requires tile { tile < tile_count tiling.now }
     ensures { IfOk result (λ v. Adds tiling.now floods.now (IsInTile tiling.now tile) [] v.items) }
 {
-    let mut table = JoinTable::new(alloc);
+    let mut table = JoinTable::new(alloc)?;
     let Bounds { top, rows, .. } = tiling.bounds(tile);
     for row in top..top + rows {
         push_cells(&mut table, tiling, floods, tile, row)?;
     }
     let JoinTable { joins, .. } = table;
     Ok(joins)
+}
+
+/// Whether a label is among these sources, of which those past the end are none.
+#[inline(always)]
+fn is_source(sources: &[Option<Height>], node: u32) -> bool
+    ensures { result ≡ is_some (slice_index_or sources.now node None) }
+{
+    match sources.get(node as usize) {
+        Some(height) => height.is_some(),
+        None => false,
+    }
+}
+
+/// Whether both labels of a join are among these sources.
+#[inline(always)]
+fn are_settled(sources: &[Option<Height>], join: Join) -> bool
+    ensures { result ≡ are_settled sources.now join }
+{
+    is_source(sources, join.from) && is_source(sources, join.to)
+}
+
+/// The joins but those of two of these sources.
+pub(crate) fn open_joins(
+    alloc: Global,
+    joins: Vec<Join>,
+    sources: &[Option<Height>],
+) -> Result<Vec<Join>, AllocError>
+    ensures { IfOk result (λ v. AreOpen sources.now joins.items v.items) }
+{
+    let mut left = Vec::new(alloc);
+    for index in 0..joins.len() {
+        if are_settled(sources, joins[index]) {
+            continue;
+        }
+        left.push(joins[index])?;
+    }
+    Ok(left)
 }
 
 /// Whether the join before this one is of the same labels.

@@ -1,13 +1,14 @@
 // The sources of the spill graph.
-ghost use Rattle.std.specs.Prelude.{◌≡◌, ◌*◌, ◌<◌, List, [], Some, length, IfOk, IfSome, OnOk};
+ghost use Rattle.std.specs.Prelude.{◌≡◌, ◌*◌, ◌<◌, List, Some, length, IfOk, IfSome, OnOk};
 ghost use Rattle.std.specs.List.{All, Contains};
 ghost use Rattle.tiles.specs.Cutting.{IsCutting, IsInTile, IsWithin, tile_count};
 ghost use Rattle.fill.specs.TileFlood.{Flood};
 ghost use Rattle.fill.specs.Gathering.{Fit, AddsSources, AreSources, PutsSinks, PutsSources};
-ghost use Rattle.fill.specs.Parts.{AreParts};
+ghost use Rattle.fill.specs.Parts.{AreTileSources, AreAllSources};
+ghost use Rattle.terrain.specs.Raster.{Terrain};
+ghost use Rattle.fill.specs.Spills.{AreFloods, AreSourcesOf};
 
 use crate::marks::{mark_at, node_of, source_at};
-use crate::parts::Part;
 use crate::tile::TileFlood;
 use std::alloc::{AllocError, Global};
 use terrain::{Height, Place};
@@ -18,6 +19,12 @@ use tiles::Tiling;
 pub struct Source {
     pub node: u32,
     pub height: Height,
+}
+
+/// The sources among the labels of a tile.
+#[derive(Drop)]
+pub struct TileSources {
+    pub list: Vec<Source>,
 }
 
 /// Adds a place of the grid, if it is a source.
@@ -68,15 +75,32 @@ pub(crate) fn tile_sources(
     tiling: &Tiling,
     floods: &[TileFlood],
     tile: u32,
-) -> Result<Vec<Source>, AllocError>
+) -> Result<TileSources, AllocError>
     requires fit { Fit tiling.now floods.now }
     requires tile { tile < tile_count tiling.now }
-    ensures { IfOk result (λ v. AddsSources tiling.now floods.now (IsInTile tiling.now tile) [] v.items) }
+    ensures { IfOk result (λ sources. AreTileSources tiling.now floods.now tile sources) }
 {
     let mut sources = Vec::new(alloc);
     let labels = floods[tile as usize].labels();
     push_sources(&mut sources, tiling, floods, tile, &labels.places)?;
-    Ok(sources)
+    Ok(TileSources { list: sources })
+}
+
+/// The sources among the labels of each tile, in tile order.
+pub(crate) fn sources_by_tile(
+    alloc: Global,
+    tiling: &Tiling,
+    floods: &[TileFlood],
+) -> Result<Vec<TileSources>, AllocError>
+    requires { Fit tiling.now floods.now }
+    ensures { IfOk result (λ v. AreAllSources tiling.now floods.now v.items) }
+{
+    let mut lists = Vec::new(alloc);
+    for tile in 0..tiling.tiles() {
+        let list = tile_sources(alloc, tiling, floods, tile)?;
+        lists.push(list)?;
+    }
+    Ok(lists)
 }
 
 /// Puts the heights of sources at their nodes.
@@ -90,24 +114,24 @@ fn put_sources(heights: &mut [Option<Height>], sources: &[Source])
 }
 
 /// The heights of the sources, in row order of the grid.
-pub(crate) fn gather_sources(
+fn gather_sources(
     alloc: Global,
     tiling: &Tiling,
-    parts: &[Part],
+    lists: &[TileSources],
 ) -> Result<Vec<Option<Height>>, AllocError>
-    requires { (floods : List Flood) × AreParts tiling.now floods parts.now }
-    ensures { IfOk result (λ v. (floods : List Flood) → AreParts tiling.now floods parts.now → AreSources tiling.now floods v.items) }
+    requires { (floods : List Flood) × AreAllSources tiling.now floods lists.now }
+    ensures { IfOk result (λ v. (floods : List Flood) → AreAllSources tiling.now floods lists.now → AreSources tiling.now floods v.items) }
 {
     let nodes = tiling.cols() * tiling.rows();
     let mut heights = vec![in alloc; None; nodes as usize]?;
-    for part in parts {
-        put_sources(&mut heights, &part.sources);
+    for sources in lists {
+        put_sources(&mut heights, &sources.list);
     }
     Ok(heights)
 }
 
 /// Puts the heights of sinks at their nodes. A place outside the grid or without data is no sink.
-pub(crate) fn put_sinks(
+fn put_sinks(
     mut heights: Vec<Option<Height>>,
     tiling: &Tiling,
     floods: &[TileFlood],
@@ -124,4 +148,21 @@ pub(crate) fn put_sinks(
         }
     }
     heights
+}
+
+/// The heights of the labels that are end cells, in row order of the grid.
+pub(crate) fn label_sources(
+    alloc: Global,
+    tiling: &Tiling,
+    floods: &[TileFlood],
+    lists: &[TileSources],
+    sinks: &[Place],
+) -> Result<Vec<Option<Height>>, AllocError>
+    requires floods { (t : Terrain) × AreFloods t tiling.now floods.now }
+    requires lists { AreAllSources tiling.now floods.now lists.now }
+    ensures size { IfOk result (λ v. length v.items ≡ tiling.now.cols * tiling.now.rows) }
+    ensures right { IfOk result (λ v. (t : Terrain) → t.sinks ≡ sinks.now → AreFloods t tiling.now floods.now → AreSourcesOf t tiling.now floods.now v.items) }
+{
+    let edges = gather_sources(alloc, tiling, lists)?;
+    Ok(put_sinks(edges, tiling, floods, sinks))
 }

@@ -1,12 +1,13 @@
 // The graph of the labels of all tiles.
-ghost use Rattle.std.specs.Prelude.{◌≡◌, ◌<◌, ◌≤◌, ℕ, length, map, take, drop, ◌-◌, IfOk, slice_index_or};
+ghost use Rattle.std.specs.Prelude.{◌≡◌, ◌<◌, ◌≤◌, ◌*◌, ℕ, ℤ, List, Option, length, map, take, drop, ◌-◌, IfOk, slice_index_or};
 ghost use Rattle.terrain.specs.Raster.{Terrain};
-ghost use Rattle.fill.specs.Parts.{AreParts};
+ghost use Rattle.fill.specs.Parts.{AreParts, graph_of_parts};
+ghost use Rattle.fill.specs.TileFlood.{Flood};
 ghost use Rattle.fill.specs.Spills.{AreFloods, IsGraphOf, AreLevelsOf};
 ghost use Rattle.fill.specs.Gathering.{AreRising, way_of};
 
 use crate::parts::{Part, tile_parts};
-use crate::sources::{gather_sources, put_sinks};
+use crate::sources::{label_sources, sources_by_tile};
 use crate::tile::TileFlood;
 use floods::{Flooded, Net, Spill, flood};
 use smallvec::SmallVec;
@@ -154,29 +155,26 @@ impl SpillGraph {
         requires { (t : Terrain) × AreFloods t tiling.now floods.now }
         ensures { IfOk result (λ g. (t : Terrain) → t.sinks ≡ sinks.now → AreFloods t tiling.now floods.now → IsGraphOf t tiling.now floods.now g) }
     {
-        let parts = tile_parts(alloc, tiling, floods)?;
-        Ok(SpillGraph::of_parts(alloc, tiling, floods, parts, sinks)?)
+        let lists = sources_by_tile(alloc, tiling, floods)?;
+        let sources = label_sources(alloc, tiling, floods, &lists, sinks)?;
+        let parts = tile_parts(alloc, tiling, floods, &[])?;
+        Ok(SpillGraph::of_parts(tiling, sources, parts))
     }
 
-    /// The graph of what each tile adds to it, in tile order.
+    /// The graph of what each tile adds to it, in tile order, and of its sources.
     pub(crate) fn of_parts(
-        alloc: Global,
         tiling: &Tiling,
-        floods: &[TileFlood],
+        sources: Vec<Option<Height>>,
         parts: Vec<Part>,
-        sinks: &[Place],
-    ) -> Result<SpillGraph, AllocError>
-        requires floods { (t : Terrain) × AreFloods t tiling.now floods.now }
-        requires parts { AreParts tiling.now floods.now parts.items }
-        ensures { IfOk result (λ g. (t : Terrain) → t.sinks ≡ sinks.now → AreFloods t tiling.now floods.now → IsGraphOf t tiling.now floods.now g) }
+    ) -> SpillGraph
+        requires { (t : Terrain) × (floods : List Flood) × (out : List (Option ℤ)) × AreFloods t tiling.now floods × (length sources.items ≡ tiling.now.cols * tiling.now.rows) × AreParts tiling.now floods out parts.items }
+        ensures { result ≡ graph_of_parts tiling.now parts.items sources.items }
     {
-        let edges = gather_sources(alloc, tiling, &parts)?;
-        let sources = put_sinks(edges, tiling, floods, sinks);
-        Ok(SpillGraph {
+        SpillGraph {
             tiling: *tiling,
             parts,
             sources,
-        })
+        }
     }
 
     /// The least crest from each label to an end cell, None at a place that is no label.

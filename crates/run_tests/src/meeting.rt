@@ -105,7 +105,7 @@ fn tiles_meet_at_each_stage(rt: HostRuntime) {
     let (pit, tiling) = cut(&rt, alloc, PITS, 2);
     let gate = Meeting::new();
     let level = filled(&rt, alloc, &pit, &tiling, 2, &gate).expect(&rt, "levels");
-    gate.expect(&rt, 3, 4, "filled");
+    gate.expect(&rt, 4, 4, "filled");
     let gate = Meeting::new();
     let ways = directions(&rt, alloc, &level, &tiling, 2, &gate).expect(&rt, "ways");
     gate.expect(&rt, 5, 4, "directions");
@@ -128,7 +128,7 @@ fn tiles_with_inner_cells_meet(rt: HostRuntime) {
     let (valley, tiling) = cut(&rt, alloc, VALLEY, 3);
     let gate = Meeting::new();
     let level = filled(&rt, alloc, &valley, &tiling, 2, &gate).expect(&rt, "levels");
-    gate.expect(&rt, 3, 2, "filled");
+    gate.expect(&rt, 4, 2, "filled");
     let gate = Meeting::new();
     assert!(rt; directions(&rt, alloc, &level, &tiling, 2, &gate).is_ok());
     gate.expect(&rt, 5, 2, "directions");
@@ -192,14 +192,14 @@ fn tiles_meet(rt: HostRuntime) {
         radius: 2,
     };
     for (map, stages, rows) in [
-        (Map::Fill, 3, "\n9 9 9 9\n9 3 9 9\n9 9 3 9\n9 9 9 3\n"),
-        (Map::Flow, 8, "\n2 4 8 0\n1 2 4 8\n128 1 2 4\n0 128 1 0\n"),
+        (Map::Fill, 4, "\n9 9 9 9\n9 3 9 9\n9 9 3 9\n9 9 9 3\n"),
+        (Map::Flow, 9, "\n2 4 8 0\n1 2 4 8\n128 1 2 4\n0 128 1 0\n"),
         (
             Map::Accumulate,
-            10,
+            11,
             "\n0 0 0 0\n0 5 0 0\n0 0 10 0\n0 0 0 13\n",
         ),
-        (Map::Basins, 11, "\n3 3 3 1\n3 3 3 3\n3 3 3 3\n2 3 3 3\n"),
+        (Map::Basins, 12, "\n3 3 3 1\n3 3 3 3\n3 3 3 3\n2 3 3 3\n"),
         (view, 1, "\n2 2 2 0\n2 2 0 1\n2 0 1 1\n0 1 1 1\n"),
     ] {
         let out = met_rows(&rt, rt.alloc(), map, stages, rows);

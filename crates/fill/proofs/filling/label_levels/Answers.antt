@@ -1,18 +1,49 @@
-use Rattle.std.proofs.Common.{arith, sym}
-use Rattle.fill.proofs.Gathered.{fit_of}
+use Rattle.std.proofs.Common.{ℤ, List, Option, arith, sym, subst}
+use Rattle.fill.specs.Parts.{AreParts, graph_of_parts}
+use Rattle.fill.specs.Spills.{Graph, AreLevelsOf}
+use Rattle.fill.proofs.Gathered.{fit_of, is_open_graph}
 use Rattle.fill.proofs.filling.label_levels.Goals as goal
 
 pub invariant_of-run : goal.invariant_of-run
 invariant_of-run g c = record { fit = fit_of c.args.grid.now.terrain c.args.tiling.now c.args.floods.now c.requires.floods.lawful c.requires.floods }
 
-pub of_parts-requires-clause-floods : goal.of_parts-requires-clause-floods
-of_parts-requires-clause-floods g c = (c.args.grid.now.terrain, c.requires.floods)
+pub invariant_of-work : goal.invariant_of-work
+invariant_of-work g c = record { fit = fit_of c.args.grid.now.terrain c.args.tiling.now c.args.floods.now c.requires.floods.lawful c.requires.floods }
 
-pub of_parts-requires-clause-parts : goal.of_parts-requires-clause-parts
-of_parts-requires-clause-parts g c = record {
-  count = omega (arith, c.in_ok-parts.parts.ok.0, c.in_ok-parts.ensures.len, c.tiles.ensures.value);
-  each = λ j d below. c.in_ok-parts.ensures.given j d (omega (arith, below, c.tiles.ensures.value));
-}
+pub label_sources-requires-clause-floods : goal.label_sources-requires-clause-floods
+label_sources-requires-clause-floods g c = (c.args.grid.now.terrain, c.requires.floods)
+
+pub label_sources-requires-clause-lists : goal.label_sources-requires-clause-lists
+label_sources-requires-clause-lists g c = rw c.deref.ensures.value (record {
+  count = omega (arith, c.in_ok-lists.lists.ok.0, c.in_ok-lists.ensures.len, c.tiles.ensures.value);
+  each = λ j d below. c.in_ok-lists.ensures.given j d (omega (arith, below, c.tiles.ensures.value));
+})
+
+pub of_parts-graph-requires : goal.of_parts-graph-requires
+of_parts-graph-requires g c = (
+  c.args.grid.now.terrain,
+  c.args.floods.now,
+  c.deref-2.result.now,
+  c.requires.floods,
+  c.in_ok-sources.ensures.size,
+  record {
+    count = omega (arith, c.in_ok-parts.parts.ok.0, c.in_ok-parts.ensures.len, c.tiles-2.ensures.value);
+    each = λ j d below. c.in_ok-parts.ensures.given j d (omega (arith, below, c.tiles-2.ensures.value));
+  },
+)
 
 pub returns-clause-levels : goal.returns-clause-levels
-returns-clause-levels g c = (c.in_ok-graph.graph, c.in_ok-graph.ensures c.args.grid.now.terrain (sym c.sinks.ensures.value) c.requires.floods, c.in-Ok.ensures)
+returns-clause-levels g c =
+    let t = c.args.grid.now.terrain in
+    let k = c.args.tiling.now in
+    let floods = c.args.floods.now in
+    let sources = c.in_ok-sources.sources.items in
+    let parts = c.in_ok-parts.parts.items in
+    let are : AreParts k floods sources parts = subst (λ (z : List (Option ℤ)). AreParts k floods z parts) c.deref-2.ensures.value (record {
+      count = omega (arith, c.in_ok-parts.parts.ok.0, c.in_ok-parts.ensures.len, c.tiles-2.ensures.value);
+      each = λ j d below. c.in_ok-parts.ensures.given j d (omega (arith, below, c.tiles-2.ensures.value));
+    }) in (
+      graph_of_parts k parts sources,
+      is_open_graph t k floods parts sources c.requires.floods.lawful c.requires.floods are (c.in_ok-sources.ensures.right t (sym c.sinks.ensures.value) c.requires.floods),
+      subst (λ (x : Graph). AreLevelsOf x c.in-Ok.levels.items) c.of_parts-graph.ensures c.in-Ok.ensures,
+    )

@@ -1,5 +1,6 @@
-use Rattle.fill.proofs.GraphParts.{AreFirstParts}
+use Rattle.fill.specs.Parts.{IsPart}
+use Rattle.fill.proofs.GraphParts.{AreFirst}
 use Rattle.fill.proofs.parts.tile_parts.Given as goal
 
 abbrev pub invariant-loop-tile : goal.invariant-loop-tile
-invariant-loop-tile l = AreFirstParts l.tiling l.floods l.tile l.parts.items
+invariant-loop-tile l = AreFirst (IsPart l.tiling l.floods l.sources) l.tile l.parts.items

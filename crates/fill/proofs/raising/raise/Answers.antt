@@ -1,5 +1,5 @@
 use Rattle.fill.proofs.LabelTables.{all_within, cells_size}
-use Rattle.fill.proofs.Raised.{raised_by_table, filled_tile}
+use Rattle.fill.proofs.Raised.{raised_by_table, filled_tile, open_levels}
 use Rattle.fill.proofs.raising.raise.Goals as goal
 
 pub spills_of-requires-clause-labels : goal.spills_of-requires-clause-labels
@@ -18,4 +18,4 @@ returns-clause-raised c =
 
 pub returns-clause-filled : goal.returns-clause-filled
 returns-clause-filled c = λ t floods tile are there spill.
-    filled_tile t c.args.tiling.now floods tile c.args.flood.now c.args.levels.now _ are there spill (returns-clause-raised c)
+    filled_tile t c.args.tiling.now floods tile c.args.flood.now c.args.levels.now _ are there (open_levels t c.args.tiling.now floods c.args.levels.now spill) (returns-clause-raised c)

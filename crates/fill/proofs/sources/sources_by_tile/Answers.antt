@@ -1,0 +1,14 @@
+use Rattle.std.proofs.Common.{◌≡◌, ◌∙◌, arith}
+use Rattle.tiles.specs.Cutting.{tile_count}
+use Rattle.fill.specs.Parts.{AreTileSources}
+use Rattle.fill.proofs.GraphParts.{first_more}
+use Rattle.fill.proofs.sources.sources_by_tile.Goals as goal
+
+pub loop-tile-preserved : goal.loop-tile-preserved
+loop-tile-preserved c =
+    first_more (AreTileSources c.args.tiling.now c.args.floods.now) c.loop-tile.tile c.in_ok-list.list c.loop-tile.lists.items _ c.loop-tile.invariant c.in_ok-list.ensures c.in_ok-push.ensures.items
+
+pub returns : goal.returns
+returns c =
+    let all : c.loop-tile.tile ≡ tile_count c.args.tiling.now = omega (arith, c.loop-tile.auto.tile-end, c.loop-tile-test.false, c.tiles-tile-end.ensures.value) in
+    record { count = c.loop-tile.invariant.size ∙ all; each = λ tile d low. c.loop-tile.invariant.each tile d (omega (arith, low, all)) }
