@@ -105,15 +105,11 @@ pub fn directions<R: Threads + Wait + Sync, G: Gate + Sync>(
         gate,
     };
     let grid = filled.grid();
-    let cells = grid.cells();
     let steps = counted(&crew, filled, tiling)?;
     let codes = crew.made(Codes {
         grid,
         steps: &steps,
         tiling,
     })?;
-    let Ok(own) = grid.with_cells(alloc, cells) else {
-        return Err(JobFault::Memory);
-    };
-    Ok(Directions::new(own, steps, codes))
+    Ok(Directions::new(grid, &steps, codes))
 }
