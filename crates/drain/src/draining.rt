@@ -1,6 +1,6 @@
 // Steps and directions of a filled grid, by tiles and workers.
-ghost use Rattle.std.specs.Prelude.{◌≡◌, [], IfOk};
-ghost use Rattle.terrain.specs.Raster.{Terrain};
+ghost use Rattle.std.specs.Prelude.{◌≡◌, [], IfOk, OnOk};
+ghost use Rattle.terrain.specs.Raster.{Terrain, IsTerrain};
 ghost use Rattle.terrain.specs.Sinks.{with_sinks};
 ghost use Rattle.tiles.specs.Cutting.{Cuts, terrain_of};
 ghost use Rattle.tile_jobs.specs.Fault.{RefusesWorkers};
@@ -63,7 +63,7 @@ pub fn flat_steps(
     Ok(counts)
 }
 
-/// The steps of each cell of a filled grid.
+/// The steps of each cell of a filled grid, which is within the limits.
 fn counted<R: Threads + Wait + Sync, G: Gate + Sync>(
     crew: &Crew<'_, R, G>,
     filled: &Filled,
@@ -71,6 +71,7 @@ fn counted<R: Threads + Wait + Sync, G: Gate + Sync>(
 ) -> Result<Vec<Option<u32>>, JobFault>
     requires { Cuts tiling.now filled.now.terrain }
     ensures steps { IfOk result (λ s. AreSteps filled.now.terrain s.items) }
+    ensures lawful { OnOk result (IsTerrain filled.now.terrain) }
     ensures workers { RefusesWorkers crew.now.workers result }
 {
     let grid = filled.grid();

@@ -1,12 +1,23 @@
-use Rattle.std.proofs.Common.{sym, subst}
-use Rattle.terrain.specs.Raster.{Raster}
+use Rattle.std.proofs.Common.{ℕ, List, Option, sym, subst}
+use Rattle.terrain.specs.Raster.{Raster, IsTerrain}
+use Rattle.tiles.specs.Cutting.{Cuts}
 use Rattle.tile_maps.specs.Maps.{IsMadeMap}
 use Rattle.drain.specs.Directions.{IsCodeAt}
+use Rattle.drain.specs.Steps.{AreSteps}
 use Rattle.drainage.specs.Drained.{Drained, IsDraining, AllFlowEnds, directed_of}
 use Rattle.drain.proofs.TileLists.{coded_map}
 use Rattle.drain.proofs.DrainedLemmas.{are_draining}
 use Rattle.drainage.proofs.Ends.{falling_ends}
 use Rattle.drain.proofs.draining.directions.Goals as goal
+
+pub invariant_of-made : goal.invariant_of-made
+invariant_of-made g c =
+    let same = sym c.grid-grid.ensures.value in
+    record {
+      lawful = subst (λ (x : Raster). IsTerrain x.terrain) same c.in_ok-steps.ensures.lawful;
+      steps = subst (λ (x : Raster). AreSteps x.terrain c.deref.result.now) same (subst (λ (l : List (Option ℕ)). AreSteps c.args.filled.now.terrain l) (sym c.deref.ensures.value) c.in_ok-steps.ensures.steps);
+      cuts = subst (λ (x : Raster). Cuts c.args.tiling.now x.terrain) same c.requires;
+    }
 
 pub new-requires : goal.new-requires
 new-requires g c =
