@@ -61,26 +61,35 @@ fn push_links(
 {
     let start = row * bounds.cols;
     for col in 0..bounds.cols {
-        let place = Place {
-            row: bounds.top + row,
-            col: bounds.left + col,
-        };
         let index = start + col;
-        let code = cells[index as usize];
-        let link = if is_amid(bounds, row, col) {
-            link_amid(bounds, row, col, code)
-        } else {
-            link_of(bounds, index, place, code)
-        };
+        let link = link_at(bounds, row, col, cells[index as usize]);
         links.push(link)?;
     }
     Ok(())
 }
 
+/// The link of the cell in this row and column of the tile.
+#[inline(always)]
+fn link_at(bounds: Bounds, row: u32, col: u32, code: Option<Code>) -> u32
+    requires small { IsSmall bounds }
+    requires row { row < bounds.rows }
+    requires col { col < bounds.cols }
+    ensures { result ≡ link_by bounds (row * bounds.cols + col) code }
+{
+    if is_amid(bounds, row, col) {
+        return link_amid(bounds, row, col, code);
+    }
+    let place = Place {
+        row: bounds.top + row,
+        col: bounds.left + col,
+    };
+    link_of(bounds, row * bounds.cols + col, place, code)
+}
+
 /// Whether the cell in this row and column of the tile has eight cells of the tile around it.
 #[inline(always)]
 fn is_amid(bounds: Bounds, row: u32, col: u32) -> bool
-    requires { IsSmall bounds }
+    requires small { IsSmall bounds }
     requires row { row < bounds.rows }
     requires col { col < bounds.cols }
     ensures { IsTrue result ↔ IsAmid bounds row col }
@@ -90,7 +99,6 @@ fn is_amid(bounds: Bounds, row: u32, col: u32) -> bool
 
 /// The link of a cell that has eight cells of the tile around it. No way leads out of the tile there.
 #[inline(always)]
-#[tactic(auto, using(crate::proofs::AmidLinks::link_amid))]
 fn link_amid(bounds: Bounds, row: u32, col: u32, code: Option<Code>) -> u32
     requires small { IsSmall bounds }
     requires amid { IsAmid bounds row col }
@@ -101,16 +109,17 @@ fn link_amid(bounds: Bounds, row: u32, col: u32, code: Option<Code>) -> u32
         return index;
     };
     let number = code.number();
-    let on = rows_on(bounds.cols, leads_south(number)) + u32::from(leads_east(number));
-    let back = rows_on(bounds.cols, leads_north(number)) + u32::from(leads_west(number));
+    let on = move_by(bounds.cols, leads_south(number)) + move_by(1, leads_east(number));
+    let back = move_by(bounds.cols, leads_north(number)) + move_by(1, leads_west(number));
     index + on - back
 }
 
+/// So many cells where a code leads there, and none elsewhere.
 #[inline(always)]
-fn rows_on(cols: u32, leads: bool) -> u32
-    ensures { result ≡ if leads then cols else 0 }
+fn move_by(cells: u32, leads: bool) -> u32
+    ensures { result ≡ if leads then cells else 0 }
 {
-    if leads { cols } else { 0 }
+    if leads { cells } else { 0 }
 }
 
 /// 1 for each data cell, and 0 for each without data.
