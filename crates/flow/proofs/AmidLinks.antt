@@ -1,5 +1,5 @@
 -- The links of cells that have eight cells of their tile around them.
-use Rattle.std.proofs.Common.{◌≡◌, ℕ, suc, ◌+◌, ◌-◌, ◌*◌, ◌<◌, ◌≤◌, Option, None, Some, unwrap_or, cond, sym, ap, ◌∙◌, arith}
+use Rattle.std.proofs.Common.{◌≡◌, ℕ, suc, ◌+◌, ◌-◌, ◌*◌, ◌<◌, ◌≤◌, Some, unwrap_or, cond, sym, ap, ◌∙◌, arith}
 use Rattle.std.proofs.Math.Nat.{suc-mul}
 use Rattle.std.proofs.lemmas.Bool.{cond-true}
 use Rattle.terrain.specs.Ways.{place_toward}
@@ -39,15 +39,31 @@ module _ (b : Bounds) (x y i : ℕ) (top : b.top ≤ x) (bottom : x + 2 < b.top 
 
   each_code : (n : ℕ) → IsCode n → link_from b i n (make_place (suc x) (suc y)) ≡ i + onward_by b.cols n - back_by b.cols n
   each_code = cases_code (λ n. link_from b i n (make_place (suc x) (suc y)) ≡ i + onward_by b.cols n - back_by b.cols n)
-      (to (make_place (suc x) (suc y)) _ (omega arith, omega arith, omega arith, omega arith) (omega (arith, at)))
-      (to (make_place (suc x) (suc y + 1)) _ (omega arith, omega arith, omega arith, omega arith) (omega (arith, at)), (
-      to (make_place (suc x + 1) (suc y + 1)) _ (omega arith, omega arith, omega arith, omega arith) (omega (arith, at, here, after)), (
-      to (make_place (suc x + 1) (suc y)) _ (omega arith, omega arith, omega arith, omega arith) (omega (arith, at, here, after)), (
-      to (make_place (suc x + 1) y) _ (omega arith, omega arith, omega arith, omega arith) (omega (arith, at, here, after)), (
-      to (make_place (suc x) y) _ (omega arith, omega arith, omega arith, omega arith) (omega (arith, at)), (
-      to (make_place x y) _ (omega arith, omega arith, omega arith, omega arith) (omega (arith, at, here)), (
-      to (make_place x (suc y)) _ (omega arith, omega arith, omega arith, omega arith) (omega (arith, at, here)), (
-      to (make_place x (suc y + 1)) _ (omega arith, omega arith, omega arith, omega arith) (omega (arith, at, here)), tt))))))))
+      (to (make_place (suc x) (suc y)) _ (omega arith, omega arith, omega arith, omega arith) (omega (arith, at))) (
+        to (make_place (suc x) (suc y + 1)) _ (omega arith, omega arith, omega arith, omega arith) (omega (arith, at)),
+        (
+          to (make_place (suc x + 1) (suc y + 1)) _ (omega arith, omega arith, omega arith, omega arith) (omega (arith, at, here, after)),
+          (
+            to (make_place (suc x + 1) (suc y)) _ (omega arith, omega arith, omega arith, omega arith) (omega (arith, at, here, after)),
+            (
+              to (make_place (suc x + 1) y) _ (omega arith, omega arith, omega arith, omega arith) (omega (arith, at, here, after)),
+              (
+                to (make_place (suc x) y) _ (omega arith, omega arith, omega arith, omega arith) (omega (arith, at)),
+                (
+                  to (make_place x y) _ (omega arith, omega arith, omega arith, omega arith) (omega (arith, at, here)),
+                  (
+                    to (make_place x (suc y)) _ (omega arith, omega arith, omega arith, omega arith) (omega (arith, at, here)),
+                    (
+                      to (make_place x (suc y + 1)) _ (omega arith, omega arith, omega arith, omega arith) (omega (arith, at, here)),
+                      tt,
+                    ),
+                  ),
+                ),
+              ),
+            ),
+          ),
+        ),
+      )
 
 pub link_amid : (b : Bounds) (r k n : ℕ) → IsAmid b r k → IsCode n → r * b.cols + k + onward_by b.cols n - back_by b.cols n ≡ link_by b (r * b.cols + k) (Some n)
 link_amid b r k n amid is =

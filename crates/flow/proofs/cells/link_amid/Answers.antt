@@ -1,4 +1,4 @@
-use Rattle.std.proofs.Common.{◌≡◌, ℕ, ◌+◌, ◌-◌, ◌*◌, Option, Bool, Some, cond, sym, ap, ◌∙◌}
+use Rattle.std.proofs.Common.{◌≡◌, ℕ, ◌+◌, ◌-◌, ◌*◌, Bool, cond, sym, ap, ◌∙◌}
 use Rattle.flow.specs.CodeSteps.{leads_east, leads_south, leads_west, leads_north}
 use Rattle.flow.specs.TileLinks.{link_by}
 use Rattle.flow.proofs.AmidLinks.{link_amid}
