@@ -3,6 +3,7 @@ ghost use Rattle.std.specs.Prelude.{◌≡◌, ◌+◌, ◌-◌, ◌/◌, ◌^�
 ghost use Rattle.ascii_grid.specs.Text.{last_digits, decimals_text, height_text};
 
 use crate::page::Page;
+use drainage::Code;
 use itoa::write_digits;
 use terrain::Height;
 
@@ -91,5 +92,14 @@ impl CellValue for u32 {
         let mut buffer = [0; ROOM];
         let start = write_digits(self as u64, &mut buffer, ROOM);
         page.push(&buffer[start..]);
+    }
+}
+
+impl CellValue for Code {
+    ghost text = { λ _. decimal };
+
+    #[inline(always)]
+    fn push_to(self, scale: u8, page: &mut Page) {
+        u32::from(self.number()).push_to(scale, page);
     }
 }

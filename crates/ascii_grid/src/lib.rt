@@ -25,4 +25,4 @@ pub use page::Page;
 pub use read::read_text;
 pub use reader::GridReader;
 pub use terrain::{Grid, HIGHEST, Height, LOWEST, NoMemory, Place};
-pub use write::{write_counts, write_heights};
+pub use write::{write_codes, write_counts, write_heights};

@@ -9,6 +9,7 @@ ghost use Rattle.ascii_grid.specs.Text.{cell_text, row_text, rows_text, line_tex
 use crate::cell_text::CellValue;
 use crate::counted::{Counted, WriteFailed};
 use crate::page::Page;
+use drainage::Code;
 use itoa::Buffer;
 use std::io::Write;
 use terrain::{Anchor, Grid};
@@ -220,4 +221,17 @@ pub fn write_counts<W: Write>(
     ensures { Writes W.contents out.old out.new (counts_text grid.now values.now) result }
 {
     write_cells(grid, values, COUNTS_NODATA, out)
+}
+
+/// Writes the grid and a map of its directions, as [`write_counts`] writes their codes' numbers.
+pub fn write_codes<W: Write>(
+    grid: &Grid,
+    codes: &[Option<Code>],
+    out: &mut Counted<W>,
+) -> Result<(), WriteFailed>
+    requires few { out.old.failures < 2 ^ 64 - 1 }
+    requires size { length codes.now ≡ grid.now.terrain.cols * grid.now.terrain.rows }
+    ensures { Writes W.contents out.old out.new (counts_text grid.now codes.now) result }
+{
+    write_cells(grid, codes, COUNTS_NODATA, out)
 }

@@ -3,7 +3,7 @@ use Rattle.std.proofs.Common.{◌≡◌, ℕ, ◌<◌, inl, inr, List, [], Optio
 use Rattle.std.proofs.lemmas.Bool.{cases_lt}
 use Rattle.std.proofs.lemmas.Option.{MatchOption-at_some, MatchOption-at_none, same_Some, none-some}
 use Rattle.terrain.proofs.Places.{entry-below, entry-beside, inside_from_entry}
-use Rattle.terrain.specs.Raster.{Terrain, Raster}
+use Rattle.terrain.specs.Raster.{Terrain}
 use Rattle.terrain.specs.Neighbours.{IsInside, height_at, entry_at}
 use Rattle.terrain.specs.Sinks.{with_sinks}
 use Rattle.terrain.specs.declared.place.Place.{Place}
@@ -53,7 +53,3 @@ are_draining t steps codes are all = record {
 -- a terrain without its sinks, by its parts
 pub same_terrain : (t : Terrain) (cols rows : ℕ) (cells : List (Option ℤ)) → cols ≡ t.cols → rows ≡ t.rows → cells ≡ t.cells → with_sinks t [] ≡ record { cols = cols; rows = rows; cells = cells; sinks = [] }
 same_terrain t cols rows cells a b c = cc
-
--- a grid with its own cells has its own terrain
-pub own_terrain : (g own : Raster) (cells : List (Option ℤ)) → cells ≡ g.terrain.cells → own ≡ record g { terrain = record g.terrain { cells = cells } } → own.terrain ≡ g.terrain
-own_terrain g own cells e is = ap (λ (x : Raster). x.terrain) is ∙ ap (λ (xs : List (Option ℤ)). record g.terrain { cells = xs }) e

@@ -1,6 +1,6 @@
 // Steps and directions of a filled grid, by tiles and workers.
-ghost use Rattle.std.specs.Prelude.{◌≡◌, [], IfOk};
-ghost use Rattle.terrain.specs.Raster.{Terrain};
+ghost use Rattle.std.specs.Prelude.{◌≡◌, [], IfOk, OnOk};
+ghost use Rattle.terrain.specs.Raster.{Terrain, IsTerrain};
 ghost use Rattle.terrain.specs.Sinks.{with_sinks};
 ghost use Rattle.tiles.specs.Cutting.{Cuts, terrain_of};
 ghost use Rattle.tile_jobs.specs.Fault.{RefusesWorkers};
@@ -63,7 +63,7 @@ pub fn flat_steps(
     Ok(counts)
 }
 
-/// The steps of each cell of a filled grid.
+/// The steps of each cell of a filled grid, which is within the limits.
 fn counted<R: Threads + Wait + Sync, G: Gate + Sync>(
     crew: &Crew<'_, R, G>,
     filled: &Filled,
@@ -71,6 +71,7 @@ fn counted<R: Threads + Wait + Sync, G: Gate + Sync>(
 ) -> Result<Vec<Option<u32>>, JobFault>
     requires { Cuts tiling.now filled.now.terrain }
     ensures steps { IfOk result (λ s. AreSteps filled.now.terrain s.items) }
+    ensures lawful { OnOk result (IsTerrain filled.now.terrain) }
     ensures workers { RefusesWorkers crew.now.workers result }
 {
     let grid = filled.grid();
@@ -105,15 +106,11 @@ pub fn directions<R: Threads + Wait + Sync, G: Gate + Sync>(
         gate,
     };
     let grid = filled.grid();
-    let cells = grid.cells();
     let steps = counted(&crew, filled, tiling)?;
     let codes = crew.made(Codes {
         grid,
         steps: &steps,
         tiling,
     })?;
-    let Ok(own) = grid.with_cells(alloc, cells) else {
-        return Err(JobFault::Memory);
-    };
-    Ok(Directions::new(own, steps, codes))
+    Ok(Directions::new(grid, &steps, codes))
 }

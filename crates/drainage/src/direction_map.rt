@@ -6,34 +6,43 @@ ghost use Rattle.drainage.specs.Following.{code_at};
 
 use crate::code::Code;
 use std::marker::Model;
+use std::snapshot::Snapshot;
 use terrain::{Grid, Place};
 
-/// The direction of each cell, with filled heights and steps. Along each code but 0 the pair of filled height
-/// and steps falls.
+/// The direction of each cell. Along each code but 0 the pair of filled height and steps falls: clauses see these, and
+/// only the codes are kept.
 #[derive(Drop)]
 pub struct Directions {
-    grid: Grid,
-    steps: Vec<Option<u32>>,
+    cols: u32,
     codes: Vec<Option<Code>>,
+    grid: Snapshot<Grid>,
+    steps: Snapshot<Vec<Option<u32>>>,
 }
 
 impl Model for Directions {
+    ghost use Rattle.std.specs.Prelude.{◌≡◌};
     ghost use Rattle.drainage.specs.Drained.{Drained, IsDraining};
 
     ghost Value = { Drained };
 
-    ghost view = { λ d. record { terrain = d.grid.terrain; steps = d.steps.items; codes = d.codes.items } };
+    ghost view = { λ d. record { terrain = d.grid.value.terrain; steps = d.steps.value.items; codes = d.codes.items } };
 
-    ghost invariant = { λ d. IsDraining (record { terrain = d.grid.terrain; steps = d.steps.items; codes = d.codes.items }) };
+    ghost invariant = { λ d. (d.cols ≡ d.grid.value.terrain.cols)
+        × IsDraining (record { terrain = d.grid.value.terrain; steps = d.steps.value.items; codes = d.codes.items }) };
 }
 
 impl Directions {
-    /// Takes over a filled grid with its steps and codes, row by row: the pair of height and steps falls along each code.
-    pub fn new(grid: Grid, steps: Vec<Option<u32>>, codes: Vec<Option<Code>>) -> Self
-        requires { IsDraining (record { terrain = grid.terrain; steps = steps.items; codes = codes.items }) }
-        ensures { result ≡ record { terrain = grid.terrain; steps = steps.items; codes = codes.items } }
+    /// Takes over the codes of a filled grid with its steps, row by row: the pair of height and steps falls along each code.
+    pub fn new(grid: &Grid, steps: &Vec<Option<u32>>, codes: Vec<Option<Code>>) -> Self
+        requires { IsDraining (record { terrain = grid.now.terrain; steps = steps.now.items; codes = codes.items }) }
+        ensures { result ≡ record { terrain = grid.now.terrain; steps = steps.now.items; codes = codes.items } }
     {
-        Directions { grid, steps, codes }
+        Directions {
+            cols: grid.cols(),
+            codes,
+            grid: Snapshot::of(grid),
+            steps: Snapshot::of(steps),
+        }
     }
 
     /// The code at a place of the grid, None where there is no data.
@@ -42,7 +51,7 @@ impl Directions {
         requires { IsInside self.now.terrain place }
         ensures { result ≡ code_at (directed_of self.now) place }
     {
-        self.codes[place.row as usize * self.grid.cols() as usize + place.col as usize]
+        self.codes[place.row as usize * self.cols as usize + place.col as usize]
     }
 
     /// The codes of all cells, in row order.

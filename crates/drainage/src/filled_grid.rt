@@ -38,4 +38,11 @@ impl Filled {
     {
         &self.grid
     }
+
+    /// The grid, handed over.
+    pub fn into_grid(self) -> Grid
+        ensures { result ≡ self }
+    {
+        self.grid
+    }
 }

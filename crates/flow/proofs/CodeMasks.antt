@@ -7,7 +7,7 @@ use Rattle.terrain.specs.Ways.{way_codes}
 use Rattle.drainage.specs.CodeNumber.{IsCode}
 use Rattle.flow.specs.CodeSteps.{leads_east, leads_south, leads_west, leads_north}
 
-abbrev Each : (ℕ → Type 0) → List ℕ → Type 0
+abbrev pub Each : (ℕ → Type 0) → List ℕ → Type 0
 Each P [] = Unit {0}
 Each P (x ∷ xs) = P x × Each P xs
 
@@ -18,7 +18,7 @@ of_list P (x ∷ xs) each n any = elim (or_cases _ _ any) [
   | inr rest ↦ of_list P xs each.1 n rest
 ]
 
-cases_code : (P : ℕ → Type 0) → P 0 → Each P way_codes → (n : ℕ) → IsCode n → P n
+pub cases_code : (P : ℕ → Type 0) → P 0 → Each P way_codes → (n : ℕ) → IsCode n → P n
 cases_code P zero each n is = elim (or_cases _ _ is) [ inl e ↦ subst P (sym (eqb-true n 0 e)) zero | inr any ↦ of_list P way_codes each n any ]
 
 pub masks_east : (n : ℕ) → IsCode n → not (bit_and n 131 == 0) ≡ leads_east n

@@ -17,6 +17,7 @@ pub mod InTile
 pub mod Piece
 pub mod Listed
 pub mod CodeMasks
+pub mod AmidLinks
 -- from tile to tile over the rims
 pub mod RimNumbered
 pub mod RimFlows

@@ -20,6 +20,13 @@ pub record IsSmall (b : Bounds) : Type 0 where
   pub few_rows : b.top + b.rows ≤ longest_axis
   pub few_cols : b.left + b.cols ≤ longest_axis
 
+-- The cell in a row and a column of the bounds has eight cells of them around it.
+pub record IsAmid (b : Bounds) (row col : ℕ) : Type 0 where
+  pub first_row : 0 < row
+  pub last_row : row + 1 < b.rows
+  pub first_col : 0 < col
+  pub last_col : col + 1 < b.cols
+
 -- the codes of the cells in the bounds, in their row order
 pub record AreTileCodes (d : Directed) (b : Bounds) (cells : List (Option ℕ)) : Type 0 where
   pub size : length cells ≡ b.rows * b.cols

@@ -1,11 +1,11 @@
 // The cells of a tile, numbered in its row order, and the cells to which their water goes on.
-ghost use Rattle.std.specs.Prelude.{◌≡◌, ◌+◌, ◌-◌, ◌*◌, ◌^◌, ◌<◌, length, Some, IfOk, OnOk, unwrap_or, option_and_then};
+ghost use Rattle.std.specs.Prelude.{◌≡◌, ◌↔◌, IsTrue, if◌then◌else◌, ◌+◌, ◌-◌, ◌*◌, ◌^◌, ◌<◌, length, Some, IfOk, OnOk, unwrap_or, option_and_then};
 ghost use Rattle.terrain.specs.Ways.{place_of, place_toward};
 ghost use Rattle.tiles.specs.Cutting.{IsInBounds, bounds_of};
 ghost use Rattle.drainage.specs.CodeNumber.{IsCode};
 ghost use Rattle.flow.specs.TileFlow.{directed_by, is_in_bounds};
 ghost use Rattle.flow.specs.CodeSteps.{moved, leads_east, leads_south, leads_west, leads_north};
-ghost use Rattle.flow.specs.TileLinks.{AreTileCodes, IsSmall, place_in, index_in, link_by, first_links, links_by, weights_by};
+ghost use Rattle.flow.specs.TileLinks.{AreTileCodes, IsAmid, IsSmall, place_in, index_in, link_by, first_links, links_by, weights_by};
 
 use drainage::Code;
 use std::alloc::{AllocError, Global};
@@ -61,15 +61,65 @@ fn push_links(
 {
     let start = row * bounds.cols;
     for col in 0..bounds.cols {
-        let place = Place {
-            row: bounds.top + row,
-            col: bounds.left + col,
-        };
         let index = start + col;
-        let link = link_of(bounds, index, place, cells[index as usize]);
+        let link = link_at(bounds, row, col, cells[index as usize]);
         links.push(link)?;
     }
     Ok(())
+}
+
+/// The link of the cell in this row and column of the tile.
+#[inline(always)]
+fn link_at(bounds: Bounds, row: u32, col: u32, code: Option<Code>) -> u32
+    requires small { IsSmall bounds }
+    requires row { row < bounds.rows }
+    requires col { col < bounds.cols }
+    ensures { result ≡ link_by bounds (row * bounds.cols + col) code }
+{
+    if is_amid(bounds, row, col) {
+        return link_amid(bounds, row, col, code);
+    }
+    let place = Place {
+        row: bounds.top + row,
+        col: bounds.left + col,
+    };
+    link_of(bounds, row * bounds.cols + col, place, code)
+}
+
+/// Whether the cell in this row and column of the tile has eight cells of the tile around it.
+#[inline(always)]
+fn is_amid(bounds: Bounds, row: u32, col: u32) -> bool
+    requires small { IsSmall bounds }
+    requires row { row < bounds.rows }
+    requires col { col < bounds.cols }
+    ensures { IsTrue result ↔ IsAmid bounds row col }
+{
+    0 < row && row + 1 < bounds.rows && 0 < col && col + 1 < bounds.cols
+}
+
+/// The link of a cell that has eight cells of the tile around it. No way leads out of the tile there.
+#[inline(always)]
+fn link_amid(bounds: Bounds, row: u32, col: u32, code: Option<Code>) -> u32
+    requires small { IsSmall bounds }
+    requires amid { IsAmid bounds row col }
+    ensures { result ≡ link_by bounds (row * bounds.cols + col) code }
+{
+    let index = row * bounds.cols + col;
+    let Some(code) = code else {
+        return index;
+    };
+    let number = code.number();
+    let on = move_by(bounds.cols, leads_south(number)) + move_by(1, leads_east(number));
+    let back = move_by(bounds.cols, leads_north(number)) + move_by(1, leads_west(number));
+    index + on - back
+}
+
+/// So many cells where a code leads there, and none elsewhere.
+#[inline(always)]
+fn move_by(cells: u32, leads: bool) -> u32
+    ensures { result ≡ if leads then cells else 0 }
+{
+    if leads { cells } else { 0 }
 }
 
 /// 1 for each data cell, and 0 for each without data.

@@ -2,78 +2,54 @@
 ghost use Rattle.std.specs.Prelude.{◌≡◌, ◌<◌, ◌≤◌, ◌*◌, length, None, IfOk, IfErr, OnOk, option_map};
 ghost use Rattle.tiles.specs.Cutting.{Cuts, longest_side, most_tiles};
 ghost use Rattle.tile_jobs.specs.Fault.{RefusesWorkers};
-ghost use Rattle.ascii_grid.specs.Text.{counts_text};
 ghost use Rattle.drainage.specs.Drained.{directed_of};
+ghost use Rattle.drainage.specs.Filled.{IsFilledGrid};
 ghost use Rattle.relief.specs.MadeMap.{drained_into, made_text, FitsGrid};
 ghost use Rattle.relief.specs.MapText.{IsMapText, IsDrainage};
 ghost use Rattle.relief.specs.Refusals.{IsWorkRefusal, map_fault, wish_fault, tiles_of};
 
 use crate::fault::RunFault;
 use drain::directions;
-use drainage::{Code, Directions, Filled};
+use drainage::Directions;
 use fill::filled;
 use flow::{accumulation, basins};
 use request::{Map, Options};
 use sight::viewshed;
-use std::alloc::{AllocError, Global};
+use std::alloc::Global;
 use std::sync::Wait;
 use std::thread::Threads;
 use terrain::Grid;
 use tile_jobs::{Gate, JobFault};
 use tiles::{Tiling, TilingFault};
 
-/// A map that waits to be written.
+/// What a map that waits to be written has at the cells of its grid.
 #[derive(Drop)]
-pub(crate) enum MadeMap {
-    Heights(Filled),
+pub(crate) enum MapCells {
+    /// The heights of the grid itself.
+    Heights,
+    Codes(Directions),
     Counts(Vec<Option<u32>>),
 }
 
-/// The numbers of direction codes.
-fn code_numbers(alloc: Global, codes: &[Option<Code>]) -> Result<Vec<Option<u32>>, AllocError>
-    ensures { IfOk result (λ v. v.items ≡ codes.now) }
-{
-    let mut numbers = Vec::with_capacity(alloc, codes.len())?;
-    for code in codes {
-        numbers.push(code.map(|code| u32::from(code.number())))?;
-    }
-    Ok(numbers)
-}
-
-/// The directions on a grid's filled heights, which are let go.
+/// A grid, filled, and the directions on its heights. The grid as it was is let go as soon as it is filled.
 fn drained<H: Threads + Wait + Sync, G: Gate + Sync>(
     rt: &H,
     alloc: Global,
-    grid: &Grid,
+    grid: Grid,
     tiling: &Tiling,
     workers: u32,
     gate: &G,
-) -> Result<Directions, JobFault>
-    requires { Cuts tiling.now grid.now.terrain }
-    ensures drainage { IfOk result (λ d. IsDrainage grid.now (directed_of d)) }
-    ensures size { IfOk result (λ d. Cuts tiling.now d.terrain) }
+) -> Result<(Grid, Directions), JobFault>
+    requires { Cuts tiling.now grid.terrain }
+    ensures filled { IfOk result (λ r. IsFilledGrid grid r.0) }
+    ensures drainage { IfOk result (λ r. IsDrainage grid (directed_of r.1)) }
+    ensures size { IfOk result (λ r. Cuts tiling.now r.1.terrain) }
     ensures workers { RefusesWorkers workers result }
 {
-    let filled = filled(rt, alloc, grid, tiling, workers, gate)?;
-    directions(rt, alloc, &filled, tiling, workers, gate)
-}
-
-/// The map of direction codes.
-fn flow_map<H: Threads + Wait + Sync, G: Gate + Sync>(
-    rt: &H,
-    alloc: Global,
-    grid: &Grid,
-    tiling: &Tiling,
-    workers: u32,
-    gate: &G,
-) -> Result<Vec<Option<u32>>, JobFault>
-    requires { Cuts tiling.now grid.now.terrain }
-    ensures map { IfOk result (λ v. IsMapText grid.now Map.Flow (counts_text grid.now v.items)) }
-    ensures size { IfOk result (λ v. length v.items ≡ grid.now.terrain.cols * grid.now.terrain.rows) }
-    ensures workers { RefusesWorkers workers result }
-{
-    let directions = drained(rt, alloc, grid, tiling, workers, gate)?;
-    Ok(code_numbers(alloc, directions.codes())?)
+    let filled = filled(rt, alloc, &grid, tiling, workers, gate)?;
+    drop(grid);
+    let directions = directions(rt, alloc, &filled, tiling, workers, gate)?;
+    Ok((filled.into_grid(), directions))
 }
 
 /// Cuts a grid into tiles of this side.
@@ -107,41 +83,41 @@ pub(crate) fn prepare(
     Ok((grid, tiling))
 }
 
-/// Judges the observers, and makes the map that is asked for.
+/// Judges the observers, and makes the map that is asked for, with a grid that has its header.
 pub(crate) fn make_map<H: Threads + Wait + Sync, G: Gate + Sync>(
     rt: &H,
     alloc: Global,
     options: &Options,
-    grid: &Grid,
+    grid: Grid,
     tiling: &Tiling,
     gate: &G,
-) -> Result<MadeMap, RunFault>
-    requires cuts { Cuts tiling.now grid.now.terrain }
-    requires sound { wish_fault options.now grid.now ≡ option_map RunFault.Sight (map_fault grid.now options.now.map) }
-    ensures map { IfOk result (λ m. IsMapText grid.now options.now.map (made_text grid.now m)) }
-    ensures size { IfOk result (λ m. FitsGrid grid.now m) }
-    ensures ready { OnOk result (wish_fault options.now grid.now ≡ None) }
-    ensures fault { IfErr result (λ f. IsWorkRefusal options.now grid.now f) }
+) -> Result<(Grid, MapCells), RunFault>
+    requires cuts { Cuts tiling.now grid.terrain }
+    requires sound { wish_fault options.now grid ≡ option_map RunFault.Sight (map_fault grid options.now.map) }
+    ensures map { IfOk result (λ m. IsMapText grid options.now.map (made_text m.0 m.1)) }
+    ensures size { IfOk result (λ m. FitsGrid m.0 m.1) }
+    ensures ready { OnOk result (wish_fault options.now grid ≡ None) }
+    ensures fault { IfErr result (λ f. IsWorkRefusal options.now grid f) }
 {
     let workers = options.workers();
     match options.map() {
         Map::Fill => {
-            let filled = filled(rt, alloc, grid, tiling, workers, gate)?;
-            Ok(MadeMap::Heights(filled))
+            let filled = filled(rt, alloc, &grid, tiling, workers, gate)?;
+            Ok((filled.into_grid(), MapCells::Heights))
         }
         Map::Flow => {
-            let codes = flow_map(rt, alloc, grid, tiling, workers, gate)?;
-            Ok(MadeMap::Counts(codes))
+            let (grid, directions) = drained(rt, alloc, grid, tiling, workers, gate)?;
+            Ok((grid, MapCells::Codes(directions)))
         }
         Map::Accumulate => {
-            let directions = drained(rt, alloc, grid, tiling, workers, gate)?;
+            let (grid, directions) = drained(rt, alloc, grid, tiling, workers, gate)?;
             let counts = accumulation(rt, alloc, &directions, tiling, workers, gate)?;
-            Ok(MadeMap::Counts(counts))
+            Ok((grid, MapCells::Counts(counts)))
         }
         Map::Basins => {
-            let directions = drained(rt, alloc, grid, tiling, workers, gate)?;
+            let (grid, directions) = drained(rt, alloc, grid, tiling, workers, gate)?;
             let numbers = basins(rt, alloc, &directions, tiling, workers, gate)?;
-            Ok(MadeMap::Counts(numbers))
+            Ok((grid, MapCells::Counts(numbers)))
         }
         Map::View {
             observers,
@@ -149,9 +125,9 @@ pub(crate) fn make_map<H: Threads + Wait + Sync, G: Gate + Sync>(
             radius,
         } => {
             let counts = viewshed(
-                rt, alloc, grid, observers, *target, *radius, tiling, workers, gate,
+                rt, alloc, &grid, observers, *target, *radius, tiling, workers, gate,
             )?;
-            Ok(MadeMap::Counts(counts))
+            Ok((grid, MapCells::Counts(counts)))
         }
     }
 }

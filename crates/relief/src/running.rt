@@ -5,8 +5,8 @@ ghost use Rattle.relief.specs.MadeMap.{made_text, FitsGrid};
 ghost use Rattle.relief.specs.Runs.{Runs};
 
 use crate::fault::RunFault;
-use crate::making::{MadeMap, make_map, prepare};
-use ascii_grid::{Counted, WriteFailed, read_grid, write_counts, write_heights};
+use crate::making::{MapCells, make_map, prepare};
+use ascii_grid::{Counted, WriteFailed, read_grid, write_codes, write_counts, write_heights};
 use request::Options;
 use std::alloc::Global;
 use std::io::{Read, Write};
@@ -50,23 +50,24 @@ pub fn run_gated<H: Threads + Wait + Sync, R: Read, W: Write, G: Gate + Sync>(
 {
     let grid = read_grid(alloc, options.scale(), reader)?;
     let (grid, tiling) = prepare(alloc, options, grid)?;
-    let map = make_map(rt, alloc, options, &grid, &tiling, gate)?;
-    write_map(&grid, &map, writer)?;
+    let (grid, cells) = make_map(rt, alloc, options, grid, &tiling, gate)?;
+    write_map(&grid, &cells, writer)?;
     Ok(())
 }
 
 /// Writes a map with the header of its grid. It takes no memory.
 fn write_map<W: Write>(
     grid: &Grid,
-    map: &MadeMap,
+    cells: &MapCells,
     writer: &mut Counted<W>,
 ) -> Result<(), WriteFailed>
     requires few { writer.old.failures < 2 ^ 64 - 1 }
-    requires size { FitsGrid grid.now map.now }
-    ensures { Writes W.contents writer.old writer.new (made_text grid.now map.now) result }
+    requires size { FitsGrid grid.now cells.now }
+    ensures { Writes W.contents writer.old writer.new (made_text grid.now cells.now) result }
 {
-    match map {
-        MadeMap::Heights(filled) => write_heights(filled.grid(), writer),
-        MadeMap::Counts(values) => write_counts(grid, values, writer),
+    match cells {
+        MapCells::Heights => write_heights(grid, writer),
+        MapCells::Codes(directions) => write_codes(grid, directions.codes(), writer),
+        MapCells::Counts(values) => write_counts(grid, values, writer),
     }
 }

@@ -44,3 +44,6 @@ returns-clause-steps g c =
     (first_counts c.grid-grid.result.now _ v c.in_ok-begun.begun _ c.begin_at_sinks.new.counts c.grid-grid.ensures.value c.requires c.deref_mut.ensures.value c.in_ok-begun.ensures.made c.begin_at_sinks.ensures) in
     settled_is_steps v t begun c.in_ok-steps.steps.items c.requires lawful c.grid-grid.ensures.own first
     (subst (λ (x : Terrain). AreSettled v x begun c.in_ok-steps.steps.items) (sym same) c.in_ok-steps.ensures.settled)
+
+pub returns-clause-lawful : goal.returns-clause-lawful
+returns-clause-lawful g c = subst (λ (x : Raster). IsTerrain x.terrain) c.grid-grid.ensures.value c.cells-cells.ensures.lawful.terrain

@@ -1,12 +1,23 @@
-use Rattle.std.proofs.Common.{◌∙◌, sym, ap, subst}
-use Rattle.terrain.specs.Raster.{Raster, Terrain}
+use Rattle.std.proofs.Common.{ℕ, List, Option, sym, subst}
+use Rattle.terrain.specs.Raster.{Raster, IsTerrain}
+use Rattle.tiles.specs.Cutting.{Cuts}
 use Rattle.tile_maps.specs.Maps.{IsMadeMap}
 use Rattle.drain.specs.Directions.{IsCodeAt}
+use Rattle.drain.specs.Steps.{AreSteps}
 use Rattle.drainage.specs.Drained.{Drained, IsDraining, AllFlowEnds, directed_of}
 use Rattle.drain.proofs.TileLists.{coded_map}
-use Rattle.drain.proofs.DrainedLemmas.{are_draining, own_terrain}
+use Rattle.drain.proofs.DrainedLemmas.{are_draining}
 use Rattle.drainage.proofs.Ends.{falling_ends}
 use Rattle.drain.proofs.draining.directions.Goals as goal
+
+pub invariant_of-made : goal.invariant_of-made
+invariant_of-made g c =
+    let same = sym c.grid-grid.ensures.value in
+    record {
+      lawful = subst (λ (x : Raster). IsTerrain x.terrain) same c.in_ok-steps.ensures.lawful;
+      steps = subst (λ (x : Raster). AreSteps x.terrain c.deref.result.now) same (subst (λ (l : List (Option ℕ)). AreSteps c.args.filled.now.terrain l) (sym c.deref.ensures.value) c.in_ok-steps.ensures.steps);
+      cuts = subst (λ (x : Raster). Cuts c.args.tiling.now x.terrain) same c.requires;
+    }
 
 pub new-requires : goal.new-requires
 new-requires g c =
@@ -14,8 +25,7 @@ new-requires g c =
     let steps = c.in_ok-steps.steps.items in
     let codes = c.in_ok-codes.codes.items in
     let all = coded_map t c.args.tiling.now codes c.requires (subst (λ (x : Raster). IsMadeMap c.args.tiling.now (IsCodeAt x.terrain) codes) c.grid-grid.ensures.value c.in_ok-codes.ensures.made) in
-    let same = own_terrain c.grid-grid.result.now c.in-Ok.own c.cells-cells.result.now c.cells-cells.ensures.value c.in-Ok.ensures ∙ ap (λ (x : Raster). x.terrain) c.grid-grid.ensures.value in
-    subst (λ (x : Terrain). IsDraining (record { terrain = x; steps = steps; codes = codes })) (sym same) (are_draining t steps codes c.in_ok-steps.ensures.steps all)
+    subst (λ (x : Raster). IsDraining (record { terrain = x.terrain; steps = steps; codes = codes })) (sym c.grid-grid.ensures.value) (are_draining t steps codes c.in_ok-steps.ensures.steps all)
 
 pub returns-clause-ends : goal.returns-clause-ends
 returns-clause-ends g c =
@@ -23,7 +33,6 @@ returns-clause-ends g c =
     let steps = c.in_ok-steps.steps.items in
     let codes = c.in_ok-codes.codes.items in
     let all = coded_map t c.args.tiling.now codes c.requires (subst (λ (x : Raster). IsMadeMap c.args.tiling.now (IsCodeAt x.terrain) codes) c.grid-grid.ensures.value c.in_ok-codes.ensures.made) in
-    let same = own_terrain c.grid-grid.result.now c.in-Ok.own c.cells-cells.result.now c.cells-cells.ensures.value c.in-Ok.ensures ∙ ap (λ (x : Raster). x.terrain) c.grid-grid.ensures.value in
-    let d : Drained = record { terrain = c.in-Ok.own.terrain; steps = steps; codes = codes } in
-    let draining = subst (λ (x : Terrain). IsDraining (record { terrain = x; steps = steps; codes = codes })) (sym same) (are_draining t steps codes c.in_ok-steps.ensures.steps all) in
+    let d : Drained = record { terrain = c.grid-grid.result.now.terrain; steps = steps; codes = codes } in
+    let draining = subst (λ (x : Raster). IsDraining (record { terrain = x.terrain; steps = steps; codes = codes })) (sym c.grid-grid.ensures.value) (are_draining t steps codes c.in_ok-steps.ensures.steps all) in
     subst (λ (x : Drained). AllFlowEnds (directed_of x)) (sym c.new.ensures) (falling_ends d draining)

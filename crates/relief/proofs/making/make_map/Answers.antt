@@ -1,17 +1,53 @@
-use Rattle.std.proofs.Common.{◌≡◌, ap, sym, ◌∙◌}
+use Rattle.std.proofs.Common.{◌≡◌, ℕ, List, Option, ap, refl, subst, sym, ◌∙◌}
 use Rattle.std.specs.Option.{option_map}
 use Rattle.std.proofs.lemmas.Result.{err_from_is_err_and}
 use Rattle.relief.specs.declared.fault.RunFault.TheVariants.{Sight}
 use Rattle.relief.specs.Refusals.{map_fault}
 use Rattle.sight.specs.Refusals.{observers_fault}
 use Rattle.relief.proofs.Viewing.{no_fault, view_refused}
+use Rattle.terrain.specs.Raster.{Raster}
+use Rattle.ascii_grid.specs.Text.{counts_text, heights_text}
+use Rattle.drainage.specs.Drained.{directed_of}
+use Rattle.drainage.specs.Filled.{IsFilledGrid}
+use Rattle.request.specs.declared.map.Map.{Map}
+use Rattle.relief.specs.MapText.{IsMapText}
 use Rattle.relief.proofs.making.make_map.Goals as goal
+
+-- a filled grid has the header of the grid
+same_text : (g f : Raster) (values : List (Option ℕ)) → IsFilledGrid g f → counts_text f values ≡ counts_text g values
+same_text g f values is = ap (λ (r : Raster). counts_text r values) is.rest
+
+pub returns-in_ok-filled-in-Fill-clause-map : goal.returns-in_ok-filled-in-Fill-clause-map
+returns-in_ok-filled-in-Fill-clause-map g c =
+    subst (λ (m : Map). IsMapText c.args.grid m (heights_text c.into_grid.result)) (sym (sym c.map.ensures ∙ c.in-Fill.is))
+    (c.into_grid.result, subst (λ (f : Raster). IsFilledGrid c.args.grid f) (sym c.into_grid.ensures) c.in_ok-filled-in-Fill.ensures.filled, refl)
+
+pub returns-in_ok-grid-in-Flow-clause-map : goal.returns-in_ok-grid-in-Flow-clause-map
+returns-in_ok-grid-in-Flow-clause-map g c =
+    let grid = c.in_ok-grid-in-Flow.grid in
+    let d = c.in_ok-grid-in-Flow.directions in
+    subst (λ (m : Map). IsMapText c.args.grid m (counts_text grid d.codes)) (sym (sym c.map.ensures ∙ c.in-Flow.is))
+    (directed_of d, c.in_ok-grid-in-Flow.ensures.drainage, same_text c.args.grid grid d.codes c.in_ok-grid-in-Flow.ensures.filled)
+
+pub returns-in_ok-counts-in-Accumulate-clause-map : goal.returns-in_ok-counts-in-Accumulate-clause-map
+returns-in_ok-counts-in-Accumulate-clause-map g c =
+    let grid = c.in_ok-grid-in-Accumulate.grid in
+    let values = c.in_ok-counts-in-Accumulate.counts.items in
+    subst (λ (m : Map). IsMapText c.args.grid m (counts_text grid values)) (sym (sym c.map.ensures ∙ c.in-Accumulate.is))
+    (directed_of c.in_ok-grid-in-Accumulate.directions, values, c.in_ok-grid-in-Accumulate.ensures.drainage, c.in_ok-counts-in-Accumulate.ensures.values, same_text c.args.grid grid values c.in_ok-grid-in-Accumulate.ensures.filled)
+
+pub returns-in_ok-numbers-in-Basins-clause-map : goal.returns-in_ok-numbers-in-Basins-clause-map
+returns-in_ok-numbers-in-Basins-clause-map g c =
+    let grid = c.in_ok-grid-in-Basins.grid in
+    let values = c.in_ok-numbers-in-Basins.numbers.items in
+    subst (λ (m : Map). IsMapText c.args.grid m (counts_text grid values)) (sym (sym c.map.ensures ∙ c.in-Basins.is))
+    (directed_of c.in_ok-grid-in-Basins.directions, values, c.in_ok-grid-in-Basins.ensures.drainage, c.in_ok-numbers-in-Basins.ensures.values, same_text c.args.grid grid values c.in_ok-grid-in-Basins.ensures.filled)
 
 pub returns-in_err-counts-in-View-clause-fault : goal.returns-in_err-counts-in-View-clause-fault
 returns-in_err-counts-in-View-clause-fault g c =
     let p = err_from_is_err_and c.from_residual-in_err-counts-in-View.result c.from_residual-in_err-counts-in-View.ensures.1 in
     let w = c.args.options.now in
-    let grid = c.args.grid.now in
+    let grid = c.args.grid in
     let asked : map_fault grid w.map ≡ observers_fault grid.terrain c.in-View.observers.items c.in-View.target c.in-View.radius = ap (λ m. map_fault grid m) (sym c.map.ensures ∙ c.in-View.is) in
     let refusals = rw (c.deref.ensures.value, c.workers-workers.ensures.value) at c.in_err-counts-in-View.ensures.refusals in
     let told = rw (← asked) at refusals in
@@ -20,6 +56,6 @@ returns-in_err-counts-in-View-clause-fault g c =
 pub returns-in_ok-counts-in-View-clause-ready : goal.returns-in_ok-counts-in-View-clause-ready
 returns-in_ok-counts-in-View-clause-ready g c =
     let w = c.args.options.now in
-    let grid = c.args.grid.now in
+    let grid = c.args.grid in
     let asked : map_fault grid w.map ≡ observers_fault grid.terrain c.in-View.observers.items c.in-View.target c.in-View.radius = ap (λ m. map_fault grid m) (sym c.map.ensures ∙ c.in-View.is) in
     c.requires.sound ∙ ap (λ o. option_map Sight o) (asked ∙ no_fault _ _ _ (rw c.deref.ensures.value at c.in_ok-counts-in-View.ensures.refusals))
