@@ -9,7 +9,7 @@ pub mod fault;
 mod judging;
 pub mod laws;
 pub mod line;
-mod looking;
+mod marking;
 pub mod observer;
 mod passing;
 mod reach;
