@@ -14,5 +14,9 @@ pub mod Seen
 pub mod LowBlocks
 -- observers and refusals
 pub mod Refused
+-- a tile, observer by observer
+pub mod Far
+pub mod Marked
+pub mod Counting
 -- the viewshed
 pub mod Uniqueness

@@ -4,3 +4,4 @@ pub mod Pace
 pub mod Blocks
 pub mod Refusals
 pub mod Viewed
+pub mod Marks

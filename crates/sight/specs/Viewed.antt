@@ -1,5 +1,6 @@
--- What is told of one place: its viewshed value. No public clause cites it.
-use Rattle.std.specs.Prelude.{◌≡◌, ℕ, List, Option, option_map, IsTrue, is_none}
+-- What is told of one place: its viewshed value, and how it grows from observer to observer. No public clause
+-- cites it.
+use Rattle.std.specs.Prelude.{◌≡◌, ℕ, ◌+◌, ◌≤◌, Bool, if◌then◌else◌, List, Option, None, Some, option_map, IsTrue, is_none, slice_index_or}
 use Rattle.terrain.specs.Raster.{Terrain}
 use Rattle.terrain.specs.Neighbours.{height_at}
 use Rattle.terrain.specs.declared.place.Place.{Place}
@@ -14,6 +15,14 @@ value_at t observers target radius p = option_map (λ _. viewshed_value t observ
 -- The entry is the value of its place.
 abbrev pub HasValue : Terrain → List Observer → ℕ → ℕ → Place → Option ℕ → Type 0
 HasValue t observers target radius p entry = entry ≡ value_at t observers target radius p
+
+-- A value with one more observer, who sees its cell or not.
+abbrev pub counted : Option ℕ → Bool → Option ℕ
+counted value is_seen = if is_seen then option_map (λ n. n + 1) value else value
+
+-- No value is above this.
+abbrev pub AreAtMost : ℕ → List (Option ℕ) → Type 0
+AreAtMost most values = (k n : ℕ) → slice_index_or values k None ≡ Some n → n ≤ most
 
 -- Observers, target height and radius have no fault.
 abbrev pub IsFaultless : Terrain → List Observer → ℕ → ℕ → Type 0

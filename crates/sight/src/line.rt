@@ -1,28 +1,16 @@
 // One line of sight.
-ghost use Rattle.std.specs.Prelude.{◌≡◌, ◌<◌, ◌≤◌, pos, ◌+ℤ◌, false, MatchOption};
+ghost use Rattle.std.specs.Prelude.{◌≡◌, ◌≤◌, pos, ◌+ℤ◌, false, MatchOption};
 ghost use Rattle.terrain.specs.Neighbours.{IsInside};
-ghost use Rattle.sight.specs.Sight.{highest_eye, longest_radius, is_near, is_seen, place_of};
+ghost use Rattle.sight.specs.Sight.{highest_eye, longest_radius, is_seen, place_of};
 ghost use Rattle.sight.specs.Walk.{IsLevel, AreSightlines};
 ghost use Rattle.sight.specs.Blocks.{AreTops};
 
 use crate::observer::Observer;
 use crate::passing::{BlockStrides, is_blocked_past_blocks};
+use crate::reach::is_in_reach;
 use crate::tops::blocks_in;
 use crate::walk::{Axis, Sightline, is_blocked};
 use terrain::{Grid, Height, Place};
-
-/// Whether the target is not farther than the radius.
-#[inline(always)]
-fn is_in_reach(eye: Place, target: Place, radius: u32) -> bool
-    requires rows { (eye.row < 4096) × (target.row < 4096) }
-    requires cols { (eye.col < 4096) × (target.col < 4096) }
-    requires radius { radius ≤ longest_radius }
-    ensures { result ≡ is_near eye target radius }
-{
-    let rows = eye.row.abs_diff(target.row);
-    let cols = eye.col.abs_diff(target.col);
-    rows * rows + cols * cols <= radius * radius
-}
 
 /// How high an eye or a target stands.
 #[inline(always)]

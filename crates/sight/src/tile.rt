@@ -1,15 +1,17 @@
-// The viewshed of one tile.
-ghost use Rattle.std.specs.Prelude.{◌≡◌, ◌+◌, ◌-◌, ◌*◌, ◌<◌, ◌≤◌, count_by, OnOk};
+// The viewshed of one tile, observer by observer.
+ghost use Rattle.std.specs.Prelude.{◌≡◌, ℕ, ◌+◌, ◌-◌, ◌*◌, ◌<◌, ◌≤◌, [], length, None, IfSome, IfOk, OnOk, option_map, slice_index_or, false};
+ghost use Rattle.std.specs.Bool.{OnFalse};
 ghost use Rattle.terrain.specs.Neighbours.{IsInside};
-ghost use Rattle.tiles.specs.Cutting.{AreBounds, Cuts, IsCutting};
+ghost use Rattle.terrain.specs.declared.place.Place.{Place};
+ghost use Rattle.tiles.specs.Cutting.{AreBounds, IsInBounds, Cuts, IsCutting};
 ghost use Rattle.tile_maps.specs.Maps.{AreMadeBelow};
-ghost use Rattle.sight.specs.Sight.{is_seen};
 ghost use Rattle.std.proofs.Props.{props};
 ghost use Rattle.sight.specs.Blocks.{AreTops};
-ghost use Rattle.sight.specs.Viewed.{value_at, HasValue, IsFaultless};
+ghost use Rattle.sight.specs.Sight.{is_seen, most_observers, place_of};
+ghost use Rattle.sight.specs.Viewed.{value_at, HasValue, counted, AreAtMost, IsFaultless};
 
-use crate::line::sees_past_blocks;
 use crate::observer::Observer;
+use crate::reach::is_any_in_reach;
 use std::alloc::{AllocError, Global};
 use terrain::{Grid, Height, NoMemory, Place};
 use tile_maps::TileMap;
@@ -30,43 +32,44 @@ pub struct Viewing<'a> {
     ghost faultless: { IsFaultless grid.now.terrain observers.now target_height radius },
 }
 
-impl<'a> Viewing<'a> {
-    /// How many observers see the place.
-    fn count_at(&self, place: Place) -> u32
-        requires { IsInside self.now.grid.now.terrain place }
-        ensures { result ≡ count_by (λ (o : Observer).
-            is_seen self.now.grid.now.terrain o place self.now.target_height self.now.radius)
-            self.now.observers.now }
-    {
-        let mut count = 0;
-        for observer in self.observers {
-            if sees_past_blocks(
-                self.grid,
-                self.tops,
-                observer,
-                place,
-                self.target_height,
-                self.radius,
-            ) {
-                count += 1;
-            }
-        }
-        count
+/// A value with one observer more.
+fn one_more(value: Option<u32>) -> Option<u32>
+    requires { IfSome value (λ n. n < most_observers) }
+    ensures { result ≡ option_map (λ n. n + 1) value }
+{
+    match value {
+        None => None,
+        Some(count) => Some(count + 1),
     }
+}
 
-    /// The value of a cell, None where there is no data.
-    fn value_at(&self, place: Place) -> Option<u32>
+/// Counts an observer at each cell that it sees.
+fn count_seen(seen: &[bool], values: &mut [Option<u32>])
+    requires size { length seen.now ≡ length values.old }
+    requires few { AreAtMost 1023 values.old }
+    ensures { (k : ℕ) → slice_index_or values.new k None
+        ≡ counted (slice_index_or values.old k None) (slice_index_or seen.now k false) }
+{
+    for (index, mark) in seen.iter().enumerate() {
+        if *mark {
+            values[index] = one_more(values[index]);
+        }
+    }
+}
+
+impl<'a> Viewing<'a> {
+    /// The value of a cell before any observer, None where there is no data.
+    fn first_value(&self, place: Place) -> Option<u32>
         requires { IsInside self.now.grid.now.terrain place }
-        ensures { result ≡ value_at self.now.grid.now.terrain self.now.observers.now
-            self.now.target_height self.now.radius place }
+        ensures { result ≡ value_at self.now.grid.now.terrain [] self.now.target_height self.now.radius place }
     {
         if self.grid.at(place).is_none() {
             return None;
         }
-        Some(self.count_at(place))
+        Some(0)
     }
 
-    /// Appends the values of a row of a tile.
+    /// Appends the first values of a row of a tile.
     fn push_row(
         &self,
         bounds: Bounds,
@@ -77,16 +80,66 @@ impl<'a> Viewing<'a> {
         requires inside { AreBounds self.now.tiling.now bounds }
         requires row { (bounds.top ≤ row) × (row < bounds.top + bounds.rows) }
         requires values { AreMadeBelow bounds
-            (HasValue self.now.grid.now.terrain self.now.observers.now self.now.target_height self.now.radius)
+            (HasValue self.now.grid.now.terrain [] self.now.target_height self.now.radius)
             ((row - bounds.top) * bounds.cols) values.old.items }
         ensures { OnOk result (AreMadeBelow bounds
-            (HasValue self.now.grid.now.terrain self.now.observers.now self.now.target_height self.now.radius)
+            (HasValue self.now.grid.now.terrain [] self.now.target_height self.now.radius)
             ((row + 1 - bounds.top) * bounds.cols) values.new.items) }
     {
         for col in bounds.left..bounds.left + bounds.cols {
-            values.push(self.value_at(Place { row, col }))?;
+            values.push(self.first_value(Place { row, col }))?;
         }
         Ok(())
+    }
+
+    /// The values of a tile before any observer.
+    fn first_values(&self, alloc: Global, bounds: Bounds) -> Result<Vec<Option<u32>>, AllocError>
+        requires lawful { IsCutting self.now.tiling.now }
+        requires inside { AreBounds self.now.tiling.now bounds }
+        ensures { IfOk result (λ v. AreMadeBelow bounds
+            (HasValue self.now.grid.now.terrain [] self.now.target_height self.now.radius)
+            (bounds.rows * bounds.cols) v.items) }
+    {
+        let mut values = Vec::with_capacity(alloc, bounds.rows as usize * bounds.cols as usize)?;
+        for row in bounds.top..bounds.top + bounds.rows {
+            self.push_row(bounds, row, &mut values)?;
+        }
+        Ok(values)
+    }
+
+    /// Whether an observer has a place of a tile in reach.
+    fn reaches(&self, observer: &Observer, bounds: Bounds) -> bool
+        requires lawful { IsCutting self.now.tiling.now }
+        requires inside { AreBounds self.now.tiling.now bounds }
+        requires observer { IsInside self.now.grid.now.terrain (place_of observer.now) }
+        ensures { OnFalse result ((p : Place) → IsInBounds bounds p
+            → is_seen self.now.grid.now.terrain observer.now p self.now.target_height self.now.radius ≡ false) }
+    {
+        let eye = Place {
+            row: observer.row,
+            col: observer.col,
+        };
+        is_any_in_reach(eye, bounds, self.radius)
+    }
+
+    /// Counts each observer at the cells of a tile that it sees. What `seen` has before is written over.
+    fn count_observers(&self, bounds: Bounds, seen: &mut [bool], values: &mut [Option<u32>])
+        requires lawful { IsCutting self.now.tiling.now }
+        requires inside { AreBounds self.now.tiling.now bounds }
+        requires size { length seen.old ≡ bounds.rows * bounds.cols }
+        requires values { AreMadeBelow bounds
+            (HasValue self.now.grid.now.terrain [] self.now.target_height self.now.radius)
+            (bounds.rows * bounds.cols) values.old }
+        ensures { AreMadeBelow bounds
+            (HasValue self.now.grid.now.terrain self.now.observers.now self.now.target_height self.now.radius)
+            (bounds.rows * bounds.cols) values.new }
+    {
+        for observer in self.observers {
+            if self.reaches(observer, bounds) {
+                self.look(observer, bounds, seen);
+                count_seen(seen, values);
+            }
+        }
     }
 }
 
@@ -105,10 +158,9 @@ impl<'a> TileMap for Viewing<'a> {
 
     fn tile(&self, alloc: Global, tile: u32) -> Result<Vec<Option<u32>>, NoMemory> {
         let bounds = self.tiling.bounds(tile);
-        let mut values = Vec::with_capacity(alloc, bounds.rows as usize * bounds.cols as usize)?;
-        for row in bounds.top..bounds.top + bounds.rows {
-            self.push_row(bounds, row, &mut values)?;
-        }
+        let mut values = self.first_values(alloc, bounds)?;
+        let mut seen = vec![in alloc; false; values.len()]?;
+        self.count_observers(bounds, &mut seen, &mut values);
         Ok(values)
     }
 }

@@ -12,7 +12,7 @@ use Rattle.tiles.proofs.TileRows.{tile_entry_is}
 use Rattle.tile_maps.specs.Maps.{index_within, AreMadeBelow, IsMadeTile}
 
 -- two places that stand at one place of the bounds' row order are one
-within_injective : (b : Bounds) (p q : Place) → IsInBounds b p → IsInBounds b q → index_within b p ≡ index_within b q → p ≡ q
+pub within_injective : (b : Bounds) (p q : Place) → IsInBounds b p → IsInBounds b q → index_within b p ≡ index_within b q → p ≡ q
 within_injective b p q i j e =
     let one = index_injective b.cols (make_place (p.row - b.top) (p.col - b.left)) (make_place (q.row - b.top) (q.col - b.left)) (omega (arith, i.2, i.3)) (omega (arith, j.2, j.3)) e in
     let row : p.row - b.top ≡ q.row - b.top = ap (λ (r : Place). r.row) one in
@@ -46,7 +46,7 @@ made_next {X} b Has row col list x below beside before here =
     subst (λ (n : ℕ). AreMadeBelow b Has n (list ++ x ∷ [])) next
     (made_push b Has p list x (omega arith, omega arith, omega arith, omega arith) (subst (λ (n : ℕ). AreMadeBelow b Has n list) (sym at) before) here)
 
-within_below : (b : Bounds) (p : Place) → IsInBounds b p → index_within b p < b.rows * b.cols
+pub within_below : (b : Bounds) (p : Place) → IsInBounds b p → index_within b p < b.rows * b.cols
 within_below b p i =
     let below : index_within b p < b.cols * b.rows = mul-add-lt (p.row - b.top) b.cols (p.col - b.left) b.rows (omega (arith, i.0, i.1)) (omega (arith, i.2, i.3)) in
     omega arith

@@ -9,11 +9,11 @@ pub loop-col-preserved : goal.loop-col-preserved
 loop-col-preserved c =
     let self = c.args.self.now in
     let b = c.args.bounds in
-    let Has = HasValue self.grid.now.terrain self.observers.now self.target_height self.radius in
+    let Has = HasValue self.grid.now.terrain [] self.target_height self.radius in
     let p = make_place c.args.row c.loop-col.col in
     let next : index_within b p + 1 ≡ (c.args.row - b.top) * b.cols + (c.loop-col.col + 1 - b.left) = omega arith in
-    let more = made_push b Has p c.loop-col.values.items c.value_at.result (omega (arith, c.requires.row), omega (arith, c.requires.row), omega arith, omega arith) c.loop-col.invariant c.value_at.ensures in
-    subst (λ (xs : List (Option ℕ)). AreMadeBelow b Has ((c.args.row - b.top) * b.cols + (c.loop-col.col + 1 - b.left)) xs) (sym c.in_ok-push.ensures.items) (subst (λ (n : ℕ). AreMadeBelow b Has n (c.loop-col.values.items ++ c.value_at.result ∷ [])) next more)
+    let more = made_push b Has p c.loop-col.values.items c.first_value.result (omega (arith, c.requires.row), omega (arith, c.requires.row), omega arith, omega arith) c.loop-col.invariant c.first_value.ensures in
+    subst (λ (xs : List (Option ℕ)). AreMadeBelow b Has ((c.args.row - b.top) * b.cols + (c.loop-col.col + 1 - b.left)) xs) (sym c.in_ok-push.ensures.items) (subst (λ (n : ℕ). AreMadeBelow b Has n (c.loop-col.values.items ++ c.first_value.result ∷ [])) next more)
 
 pub returns : goal.returns
 returns c =
@@ -22,4 +22,4 @@ returns c =
     let up : c.args.row + 1 - b.top ≡ (c.args.row - b.top) + 1 = omega (arith, c.requires.row) in
     let wide : c.loop-col.col - b.left ≡ b.cols = omega arith in
     let all : (c.args.row - b.top) * b.cols + (c.loop-col.col - b.left) ≡ (c.args.row + 1 - b.top) * b.cols = omega (arith, wide, ap (λ (n : ℕ). n * b.cols) up) in
-    subst (λ (n : ℕ). AreMadeBelow b (HasValue self.grid.now.terrain self.observers.now self.target_height self.radius) n c.loop-col.values.items) all c.loop-col.invariant
+    subst (λ (n : ℕ). AreMadeBelow b (HasValue self.grid.now.terrain [] self.target_height self.radius) n c.loop-col.values.items) all c.loop-col.invariant

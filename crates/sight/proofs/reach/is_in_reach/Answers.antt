@@ -1,6 +1,6 @@
 use Rattle.std.proofs.Common.{arith}
 use Rattle.std.proofs.lemmas.Nat.{mul-le}
-use Rattle.sight.proofs.line.is_in_reach.Goals as goal
+use Rattle.sight.proofs.reach.is_in_reach.Goals as goal
 
 pub overflow_add-result : goal.overflow_add-result
 overflow_add-result c =

@@ -1,0 +1,90 @@
+-- The values of a tile, one observer more at a time.
+use Rattle.std.proofs.Common.{arith, refl, sym, ap, ◌∙◌, ◌≡◌, ◌+◌, ◌-◌, ◌*◌, ◌/◌, ◌%◌, ◌<◌, ℕ, ℤ, Bool, true, false, List, length, get_or, take, Option, None, Some, option_map, inl, inr}
+use Rattle.std.proofs.lemmas.Bool.{cases_lt}
+use Rattle.std.proofs.lemmas.List.{get_or_past, length-take}
+use Rattle.std.proofs.lemmas.List.Sums.{count_by_more_yes, count_by_more_no, count_by-le-length}
+use Rattle.std.proofs.lemmas.Nat.{div-add-mod', mod_below, div_below}
+use Rattle.terrain.specs.Raster.{Terrain}
+use Rattle.terrain.specs.Neighbours.{height_at}
+use Rattle.terrain.specs.declared.place.Place.{Place}
+use Rattle.terrain.proofs.Places.{make_place}
+use Rattle.tiles.specs.declared.bounds.Bounds.{Bounds}
+use Rattle.tiles.specs.Cutting.{IsInBounds}
+use Rattle.tile_maps.specs.Maps.{index_within, AreMadeBelow}
+use Rattle.sight.specs.Sight.{is_seen, viewshed_value}
+use Rattle.sight.specs.Viewed.{value_at, HasValue, counted, AreAtMost}
+use Rattle.sight.specs.Marks.{AreMarked}
+use Rattle.sight.specs.declared.observer.Observer.{Observer}
+
+-- the value of a place
+counted_yes : (h : Option ℤ) (n m : ℕ) → m ≡ n + 1 → counted (option_map (λ _. n) h) true ≡ option_map (λ _. m) h
+counted_yes None n m e = refl
+counted_yes (Some x) n m e = ap Some (sym e)
+
+value_counted : (t : Terrain) (os : List Observer) (target radius i : ℕ) (d : Observer) (p : Place) (sees : Bool) → i < length os → is_seen t (get_or os i d) p target radius ≡ sees
+    → counted (value_at t (take i os) target radius p) sees ≡ value_at t (take (i + 1) os) target radius p
+value_counted t os target radius i d p true less e =
+    counted_yes (height_at t p) (viewshed_value t (take i os) target radius p) (viewshed_value t (take (i + 1) os) target radius p)
+    (count_by_more_yes (λ (o : Observer). is_seen t o p target radius) os i d less e)
+value_counted t os target radius i d p false less e =
+    ap (λ n. option_map (λ _. n) (height_at t p)) (sym (count_by_more_no (λ (o : Observer). is_seen t o p target radius) os i d less e))
+
+-- an observer who looked at the tile
+pub looked : (t : Terrain) (os : List Observer) (target radius i : ℕ) (d : Observer) (b : Bounds) (old new : List (Option ℕ)) (seen : List Bool) → i < length os
+    → AreMadeBelow b (HasValue t (take i os) target radius) (b.rows * b.cols) old → AreMarked b (λ (p : Place). is_seen t (get_or os i d) p target radius) seen
+    → length new ≡ length old → ((k : ℕ) → get_or new k None ≡ counted (get_or old k None) (get_or seen k false))
+    → AreMadeBelow b (HasValue t (take (i + 1) os) target radius) (b.rows * b.cols) new
+looked t os target radius i d b old new seen less before marks size each = record {
+  size = size ∙ before.size;
+  each = λ p inside below.
+      let k = index_within b p in
+      each k ∙ ap (λ v. counted v (get_or seen k false)) (before.each p inside below) ∙ ap (λ s. counted (value_at t (take i os) target radius p) s) (marks.each p inside below)
+      ∙ value_counted t os target radius i d p (is_seen t (get_or os i d) p target radius) less refl;
+}
+
+-- an observer who sees no cell of the tile
+pub passed : (t : Terrain) (os : List Observer) (target radius i : ℕ) (d : Observer) (b : Bounds) (values : List (Option ℕ)) → i < length os
+    → AreMadeBelow b (HasValue t (take i os) target radius) (b.rows * b.cols) values → ((p : Place) → IsInBounds b p → is_seen t (get_or os i d) p target radius ≡ false)
+    → AreMadeBelow b (HasValue t (take (i + 1) os) target radius) (b.rows * b.cols) values
+passed t os target radius i d b values less before none = record {
+  size = before.size;
+  each = λ p inside below. before.each p inside below ∙ value_counted t os target radius i d p false less (none p inside);
+}
+
+-- no value is above the number of observers
+value_few : (h : Option ℤ) (n m : ℕ) → option_map (λ _. m) h ≡ Some n → n ≡ m
+value_few None n m e = absurd (cc)
+value_few (Some x) n m e = cc
+
+module _ (b : Bounds) (k : ℕ) (below : k < b.rows * b.cols) where
+  place : Place
+  place = make_place (b.top + k / b.cols) (b.left + k % b.cols)
+
+  some_cols : 0 < b.cols
+  some_cols = positive b.rows b.cols k below
+    where
+      positive : (r c k : ℕ) → k < r * c → 0 < c
+      positive r c k h = grind arith
+
+  inside : IsInBounds b place
+  unfolding place
+  inside = (omega arith, omega (arith, div_below k b.cols b.rows some_cols (omega (arith, below))), omega arith, omega (arith, mod_below k b.cols some_cols))
+
+  at : index_within b place ≡ k
+  unfolding place
+  at =
+      let row : b.top + k / b.cols - b.top ≡ k / b.cols = omega arith in
+      let whole = div-add-mod' k b.cols in
+      let rows : (b.top + k / b.cols - b.top) * b.cols ≡ k / b.cols * b.cols = ap (λ n. n * b.cols) row in
+      omega (arith, rows, whole)
+
+pub few : (t : Terrain) (os : List Observer) (target radius i : ℕ) (b : Bounds) (values : List (Option ℕ)) → AreMadeBelow b (HasValue t (take i os) target radius) (b.rows * b.cols) values → AreAtMost i values
+few t os target radius i b values made k n e = elim (cases_lt k (length values)) [
+  | inl less ↦
+      (let below : k < b.rows * b.cols = omega (arith, made.size) in
+      let p = place b k below in
+      let here : get_or values k None ≡ value_at t (take i os) target radius p = ap (λ j. get_or values j None) (sym (at b k below)) ∙ made.each p (inside b k below) (omega (arith, at b k below)) in
+      let is : n ≡ viewshed_value t (take i os) target radius p = value_few (height_at t p) n (viewshed_value t (take i os) target radius p) (sym here ∙ e) in
+      omega (arith, count_by-le-length (λ (o : Observer). is_seen t o p target radius) (take i os), length-take i os))
+  | inr past ↦ (let none = get_or_past values k None past in absurd (cc))
+]

@@ -1,0 +1,24 @@
+-- What is out of reach of an observer.
+use Rattle.std.proofs.Common.{arith, ◌≡◌, ◌+◌, ◌-◌, ◌*◌, ◌<◌, ◌≤◌, ℕ, false, max, min}
+use Rattle.std.specs.Int.{abs_diff}
+use Rattle.std.proofs.lemmas.Bool.{leb-false, lt-leb}
+use Rattle.std.proofs.lemmas.Nat.{mul-le}
+use Rattle.terrain.specs.declared.place.Place.{Place}
+use Rattle.tiles.specs.declared.bounds.Bounds.{Bounds}
+use Rattle.tiles.specs.Cutting.{IsInBounds}
+use Rattle.sight.specs.Sight.{is_near}
+
+-- no place of a row of places is nearer than the one to which a number is brought
+nearest : (a from count x : ℕ) → from ≤ x → x < from + count → abs_diff a (max from (min a (from + count - 1))) ≤ abs_diff a x
+nearest a from count x low high = omega arith
+
+-- where the nearest place of the bounds is out of reach, all are
+pub all_far : (eye near p : Place) (b : Bounds) (radius : ℕ) → near.row ≡ max b.top (min eye.row (b.top + b.rows - 1)) → near.col ≡ max b.left (min eye.col (b.left + b.cols - 1))
+    → is_near eye near radius ≡ false → IsInBounds b p → is_near eye p radius ≡ false
+all_far eye near p b radius row col far inside =
+    let rows : abs_diff eye.row near.row ≤ abs_diff eye.row p.row = omega (arith, row, nearest eye.row b.top b.rows p.row inside.0 inside.1) in
+    let cols : abs_diff eye.col near.col ≤ abs_diff eye.col p.col = omega (arith, col, nearest eye.col b.left b.cols p.col inside.2 inside.3) in
+    let rows_squared = mul-le (abs_diff eye.row near.row) (abs_diff eye.row near.row) (abs_diff eye.row p.row) (abs_diff eye.row p.row) rows rows in
+    let cols_squared = mul-le (abs_diff eye.col near.col) (abs_diff eye.col near.col) (abs_diff eye.col p.col) (abs_diff eye.col p.col) cols cols in
+    let less = leb-false (abs_diff eye.row near.row * abs_diff eye.row near.row + abs_diff eye.col near.col * abs_diff eye.col near.col) (radius * radius) far in
+    lt-leb (abs_diff eye.row p.row * abs_diff eye.row p.row + abs_diff eye.col p.col * abs_diff eye.col p.col) (radius * radius) (omega arith)
