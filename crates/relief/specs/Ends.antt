@@ -1,5 +1,5 @@
 -- How the program ends, on any schedule of its workers.
-use Rattle.std.specs.Prelude.{◌≡◌, ◌≢◌, ◌⊎◌, ℕ, List, [], ◌++◌, Option, Result, ⊤, MatchResult, codes, decimal}
+use Rattle.std.specs.Prelude.{◌≡◌, ◌≢◌, ◌⊎◌, ℕ, List, ◌++◌, Option, Result, ⊤, MatchResult, codes, decimal}
 use Rattle.ascii_grid.specs.Device.{Device, Writes}
 use Rattle.ascii_grid.specs.declared.counted.WriteFailed.{WriteFailed}
 use Rattle.clap.specs.Words.{Text}
