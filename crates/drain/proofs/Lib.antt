@@ -15,7 +15,11 @@ pub mod Noted
 pub mod Least
 pub mod Spots
 pub mod TileRound
--- rounds over all tiles
+-- a search within a tile, and rounds of such
+pub mod Lowered
+pub mod Noting
+pub mod RunLemmas
+pub mod Putting
 pub mod RoundLemmas
 pub mod Entered
 -- the direction of a cell

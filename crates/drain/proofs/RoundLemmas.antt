@@ -1,218 +1,301 @@
--- What a round over all tiles makes of the counts.
-use Rattle.std.proofs.Common.{◌≡◌, ◌≢◌, ℕ, zero, suc, ◌*◌, ◌^◌, ◌<◌, ◌≤◌, inl, inr, true, false, List, [], ◌∷◌, length, get_or, Option, None, Some, unwrap_or, sum_by, IfSome, ℤ, sym, ap, subst, refl, ◌∙◌, arith}
-use Rattle.std.proofs.lemmas.Option.{MatchOption-at_some}
-use Rattle.std.proofs.lemmas.Bool.{cases_eq, false≢true}
-use Rattle.std.proofs.lemmas.List.Sums.{sum_by-cons}
-use Rattle.terrain.proofs.Places.{inside_from_entry, entry-inside, index_below}
+-- What rounds over tiles make of the counts.
+use Rattle.std.proofs.Common.{◌≡◌, ◌≢◌, ℕ, ◌+◌, ◌-◌, ◌*◌, ◌^◌, ◌<◌, ◌≤◌, inl, inr, List, length, get_or, Option, Some, None, Vec, Global, IfSome, unwrap_or, ℤ, [], sym, ap, subst, refl, ◌∙◌, arith}
+use Rattle.std.specs.Prelude.{slice_get}
+use Rattle.std.proofs.lemmas.Bool.{cases_eq, cases_lt}
+use Rattle.std.proofs.lemmas.Option.{MatchOption-at_some, get_or_from_slice_get, slice_get_cases, slice_get_within, same_Some, slice_get-get_or}
+use Rattle.terrain.proofs.Places.{entry-inside, index_below, index_injective, inside_from_entry}
 use Rattle.terrain.specs.Raster.{Terrain}
 use Rattle.terrain.specs.Neighbours.{entry_at, index_of}
 use Rattle.terrain.specs.declared.place.Place.{Place}
-use Rattle.tiles.specs.Cutting.{Cutting, View, IsWithin, IsInTile, tile_entry, tile_of_place, tile_count, terrain_of}
+use Rattle.tiles.specs.Cutting.{Cutting, IsCutting, IsWithin, AreTileLists, IsPutBack, tile_count, tile_entry, tile_of_place}
 use Rattle.tiles.proofs.Cut.{tile_of_place_below}
-use Rattle.drain.specs.Rounds.{IsLent, LendSame, IsWalked, IsRound, IsTileEven, IsUnentered, IsTileStill, IsDue, IsTileAnswer, is_changed, AreCounting, Rounding, levels_of, IsRounding, told, told_by, IsUntouched, AreAnswered, AreStill, IsNext, left_to_count}
-use Rattle.drain.specs.declared.tile_state.Due.{Due}
-use Rattle.drain.specs.declared.tile_state.Due.TheVariants.{Search, IfEntered, Nothing}
-use Rattle.drain.specs.declared.tile_state.TileAnswer.{TileAnswer}
-use Rattle.drain.specs.declared.tile_state.TileAnswer.TheVariants.{Still, Changed}
+use Rattle.tiles.proofs.PutBack.{entry_at-put_back}
 use Rattle.drainage.proofs.Reach.{data_inside}
+use Rattle.drain.specs.Rounds.{IsLent, LendSame, IsWalked, IsOneAbove, IsRound, AreCounting, AreSettled}
+use Rattle.drain.specs.Lowering.{AreLevel, IsEvenInside, IsTileAnswer, count_of, total}
+use Rattle.drain.specs.Entering.{lent_terrain, AreNoted}
+use Rattle.drain.specs.Rounding.{Rounding, IsRounding, levels_of, AreAnswered, IsGiven, ArePut, IsNext}
+use Rattle.drain.specs.declared.changes.Change.{Change}
+use Rattle.drain.specs.declared.changes.Entry.{Entry}
+use Rattle.drain.specs.declared.changes.Run.{Run}
+use Rattle.drain.proofs.Lowered.{small, total_less}
+use Rattle.std.specs.List.Sorted.{IsNonDecreasingBy, IsPermutation}
+use Rattle.drain.proofs.Noting.{noted_in_order}
 use Rattle.drain.proofs.Quiet.{if_some, ended, walked_to}
-use Rattle.drain.proofs.Unique.{at_place}
 
--- a tile that a round leaves as it was
-pub still_from : (r : Rounding) (tile : ℕ) (v : View (Option ℤ)) (w : View (Option ℕ)) (list xs : List (Option ℕ)) →
-    v ≡ record { cutting = r.cutting; tile = tile; cells = r.levels } → w ≡ record { cutting = r.cutting; tile = tile; cells = r.steps } → xs ≡ list →
-    IsRound (IsLent (terrain_of v) w.cells) (terrain_of v) v.cutting v.tile w.cells list →
-    ((p : Place) → IsInTile w.cutting w.tile p → tile_entry w.cutting w.tile xs p ≡ entry_at w.cutting.cols w.cutting.rows w.cells p) → IsTileStill (levels_of r) r.cutting tile r.steps
-still_from r tile v w list xs e f g round same =
-    let here = subst (λ (z : View (Option ℕ)). IsRound (IsLent (levels_of r) z.cells) (levels_of r) r.cutting tile z.cells list) f
-    (subst (λ (z : View (Option ℤ)). IsRound (IsLent (terrain_of z) w.cells) (terrain_of z) z.cutting z.tile w.cells list) e round) in
-    let kept = subst (λ (ys : List (Option ℕ)). (p : Place) → IsInTile r.cutting tile p → tile_entry r.cutting tile ys p ≡ entry_at r.cutting.cols r.cutting.rows r.steps p) g
-    (subst (λ (z : View (Option ℕ)). (p : Place) → IsInTile z.cutting z.tile p → tile_entry z.cutting z.tile xs p ≡ entry_at z.cutting.cols z.cutting.rows z.cells p) f same) in
-    record { near = λ p q inside next level m e less. (let near = here.near p q inside next level m e less in (near.0, sym (kept p inside) ∙ near.1, near.2)) }
+-- counts of the same cells, none greater and each of a walk to a cell that is lent 0
+pub record AreCarried (t : Terrain) (old new : List (Option ℕ)) : Type 0 where
+  pub size : length new ≡ t.cols * t.rows
+  pub kept : (p : Place) (m : ℕ) → entry_at t.cols t.rows old p ≡ Some m → (n : ℕ) × (entry_at t.cols t.rows new p ≡ Some n) × (n ≤ m)
+  pub walked : (p : Place) → IfSome (entry_at t.cols t.rows new p) (IsWalked (IsLent t old) t p)
 
--- a tile that is even and into which no count comes
-pub still_unentered : (r : Rounding) (tile : ℕ) → IsTileEven (levels_of r) r.cutting tile r.steps → IsUnentered (levels_of r) r.cutting tile r.steps → IsTileStill (levels_of r) r.cutting tile r.steps
-still_unentered r tile even out = record {
-  near = λ p q inside next level. elim (cases_eq (tile_of_place r.cutting q) tile) [
-    | inl here ↦ even.within p q inside (data_inside (levels_of r) q next.to_data, here) next level
-    | inr ne ↦ out.each p q inside (λ i. ne i.1) next level
-  ];
-}
+pub carried_lend_same : (t : Terrain) (old new : List (Option ℕ)) → AreCarried t old new → LendSame t old new
+carried_lend_same t old new carried p = (
+  λ lent. (let n = carried.kept p 0 lent.1 in (lent.0, n.1 ∙ ap Some (let none : n.0 ≡ 0 = omega (arith, n.2) in none))),
+  λ lent. (let walk = MatchOption-at_some _ _ 0 lent.1 (carried.walked p) in ended (IsLent t old) t p walk.1 walk.2 walk.3),
+)
 
--- what is due of a tile, where it is known what that is
-pub due_at : (t : Terrain) (c : Cutting) (tile : ℕ) (steps : List (Option ℕ)) (d e : Due) → d ≡ e → IsDue t c tile steps d → IsDue t c tile steps e
-due_at t c tile steps d e same due = subst (λ (x : Due). IsDue t c tile steps x) same due
+pub carried_counting : (c : Cutting) (levels : List (Option ℤ)) (old new : List (Option ℕ)) → AreCarried (lent_terrain c levels) old new → AreCounting (lent_terrain c levels) new
+carried_counting c levels old new carried =
+    let t = lent_terrain c levels in
+    record {
+      size = carried.size;
+      walked = λ p. if_some (entry_at t.cols t.rows new p) (IsWalked (IsLent t new) t p) (λ n e.
+          walked_to (IsLent t old) (IsLent t new) t [] (λ q lent. (carried_lend_same t old new carried q).0 lent) p n (MatchOption-at_some _ _ n e (carried.walked p)));
+    }
 
--- an answer that changes nothing
-still_answer : (t : Terrain) (c : Cutting) (tile : ℕ) (steps : List (Option ℕ)) (o : TileAnswer) → is_changed o ≡ false → IsTileAnswer t c tile steps o → IsTileStill t c tile steps
-still_answer t c tile steps Still e a = a
-still_answer t c tile steps (Changed list) e a = absurd (false≢true (sym e))
+-- a count at most one above another
+pub one_above : (m n : Option ℕ) → unwrap_or m (2 ^ 24) ≤ unwrap_or n (2 ^ 24) + 1 → IsOneAbove m n
+one_above None n le k e less = absurd (let is : unwrap_or n (2 ^ 24) ≡ k = ap (λ (o : Option ℕ). unwrap_or o (2 ^ 24)) e in omega (arith, is, le, less))
+one_above (Some m) n le k e less = (let is : unwrap_or n (2 ^ 24) ≡ k = ap (λ (o : Option ℕ). unwrap_or o (2 ^ 24)) e in (m, refl, omega (arith, is, le)))
 
-told_still : (c : Cutting) (steps : List (Option ℕ)) (p : Place) (o : TileAnswer) → is_changed o ≡ false → told_by c steps p o ≡ entry_at c.cols c.rows steps p
-told_still c steps p Still e = refl
-told_still c steps p (Changed list) e = absurd (false≢true (sym e))
+-- the same, of counts that are small
+pub above_one : (m n : Option ℕ) → unwrap_or m (2 ^ 24) ≤ 2 ^ 24 → unwrap_or n (2 ^ 24) ≤ 2 ^ 24 → IsOneAbove m n → unwrap_or m (2 ^ 24) ≤ unwrap_or n (2 ^ 24) + 1
+above_one m None few small above = omega (arith, few)
+above_one m (Some n) few small above = elim (cases_lt n (2 ^ 24 - 1)) [
+  | inl less ↦ (let at = above n refl less in let is : unwrap_or m (2 ^ 24) ≡ at.0 = ap (λ (o : Option ℕ). unwrap_or o (2 ^ 24)) at.1 in omega (arith, is, at.2))
+  | inr more ↦ omega (arith, few, more)
+]
 
--- what is left of a count is no more than it was, and less where it changed
-told_less : (IsEnd : Place → Type 0) (t : Terrain) (p : Place) (old new : Option ℕ) → ((m : ℕ) → old ≡ Some m → (n : ℕ) × (new ≡ Some n) × (n ≤ m)) → IfSome new (IsWalked IsEnd t p) →
-    (unwrap_or new (2 ^ 24) ≤ unwrap_or old (2 ^ 24)) × (new ≢ old → unwrap_or new (2 ^ 24) < unwrap_or old (2 ^ 24))
-told_less IsEnd t p (Some m) new kept walked =
-    let n = kept m refl in
-    let is : unwrap_or new (2 ^ 24) ≡ n.0 = ap (λ (o : Option ℕ). unwrap_or o (2 ^ 24)) n.1 in
-    (omega (arith, n.2), λ other. let apart : n.0 ≢ m = λ e. other (n.1 ∙ ap Some e) in omega (arith, n.2))
-told_less IsEnd t p None None kept walked = (omega arith, λ other. absurd (other refl))
-told_less IsEnd t p None (Some n) kept walked = (omega (arith, walked.0), λ other. omega (arith, walked.0))
-
--- a sum of terms that are no greater, and of which one may be less
-sums_less : (f : Option ℕ → ℕ) (xs ys : List (Option ℕ)) → length xs ≡ length ys → ((k : ℕ) → k < length xs → f (get_or xs k None) ≤ f (get_or ys k None)) →
-    (sum_by f xs ≤ sum_by f ys) × ((j : ℕ) → j < length xs → f (get_or xs j None) < f (get_or ys j None) → sum_by f xs < sum_by f ys)
-sums_less f [] [] e h = (omega arith, λ j l less. absurd (omega arith))
-sums_less f [] (y ∷ ys) e h = absurd (omega arith)
-sums_less f (x ∷ xs) [] e h = absurd (omega arith)
-sums_less f (x ∷ xs) (y ∷ ys) e h =
-    let first : f x ≤ f y = h 0 (omega arith) in
-    let rest = sums_less f xs ys (omega arith) (λ k l. h (suc k) (omega arith)) in
-    (omega (arith, sum_by-cons f x xs, sum_by-cons f y ys, rest.0), at first rest.0 rest.1)
-  where
-    at : f x ≤ f y → sum_by f xs ≤ sum_by f ys → ((j : ℕ) → j < length xs → f (get_or xs j None) < f (get_or ys j None) → sum_by f xs < sum_by f ys) →
-        (j : ℕ) → j < length (x ∷ xs) → f (get_or (x ∷ xs) j None) < f (get_or (y ∷ ys) j None) → sum_by f (x ∷ xs) < sum_by f (y ∷ ys)
-    at first le rest zero l less = let here : f x < f y = less in omega (arith, sum_by-cons f x xs, sum_by-cons f y ys, le)
-    at first le rest (suc j) l less = omega (arith, sum_by-cons f x xs, sum_by-cons f y ys, first, rest j (omega arith) less)
-
--- where no tile changed, all are still
-pub all_still : (r : Rounding) (outs : List TileAnswer) → AreAnswered r outs → ((tile : ℕ) → tile < tile_count r.cutting → is_changed (get_or outs tile Still) ≡ false) → AreStill r
-all_still r outs answered none tile below = still_answer (levels_of r) r.cutting tile r.steps (get_or outs tile Still) (none tile below) (answered.each tile below)
-
-module _ (r : Rounding) (outs : List TileAnswer) (new : List (Option ℕ)) (rounding : IsRounding r) (answered : AreAnswered r outs)
-    (size : length new ≡ r.cutting.cols * r.cutting.rows)
-    (put : (p : Place) → IsWithin r.cutting p → entry_at r.cutting.cols r.cutting.rows new p ≡ told r.cutting r.steps outs p) where
-  IsEnd : Place → Type 0
-  IsEnd = IsLent (levels_of r) r.steps
-
-  old_at : Place → Option ℕ
-  old_at p = entry_at r.cutting.cols r.cutting.rows r.steps p
-
-  new_at : Place → Option ℕ
-  new_at p = entry_at r.cutting.cols r.cutting.rows new p
-
-  answer_at : Place → TileAnswer
-  answer_at p = get_or outs (tile_of_place r.cutting p) Still
-
-  -- no count rises or is lost, and each is of a walk
-  IsCarried : Place → Option ℕ → Type 0
-  IsCarried p count = ((m : ℕ) → old_at p ≡ Some m → (n : ℕ) × (count ≡ Some n) × (n ≤ m)) × IfSome count (IsWalked IsEnd (levels_of r) p)
-
-  carried_by : (p : Place) (o : TileAnswer) → IsWithin r.cutting p → IsTileAnswer (levels_of r) r.cutting (tile_of_place r.cutting p) r.steps o → IsCarried p (told_by r.cutting r.steps p o)
-  unfolding IsCarried IsEnd old_at
-  carried_by p Still within a = (λ m e. (m, e, omega arith), rounding.counting.walked p)
-  carried_by p (Changed list) within a = (λ m e. a.0.kept p m (within, refl) e, a.0.walked p (within, refl))
-
-  carried : (p : Place) → IsWithin r.cutting p → IsCarried p (new_at p)
-  unfolding new_at answer_at
-  carried p within =
-      subst (λ (o : Option ℕ). IsCarried p o) (sym (put p within))
-      (carried_by p (answer_at p) within (answered.each (tile_of_place r.cutting p) (tile_of_place_below r.cutting p rounding.cutting within)))
-
-  lent_same : LendSame (levels_of r) r.steps new
-  unfolding IsCarried IsEnd old_at new_at
-  lent_same p = (
-    λ lent. (let n = (carried p (data_inside (levels_of r) p lent.0)).0 0 lent.1 in (lent.0, n.1 ∙ ap Some (let none : n.0 ≡ 0 = omega (arith, n.2) in none))),
-    λ lent. (let walk = MatchOption-at_some _ _ 0 lent.1 (carried p (data_inside (levels_of r) p lent.0)).1 in ended (IsLent (levels_of r) r.steps) (levels_of r) p walk.1 walk.2 walk.3),
-  )
-
-  counting_after : AreCounting (levels_of r) new
-  unfolding IsCarried IsEnd new_at
-  counting_after = record {
-    size = size;
-    walked = λ p. if_some (entry_at r.cutting.cols r.cutting.rows new p) (IsWalked (IsLent (levels_of r) new) (levels_of r) p) (λ n e.
-        let within = inside_from_entry r.cutting.cols r.cutting.rows new p n e in
-        walked_to (IsLent (levels_of r) r.steps) (IsLent (levels_of r) new) (levels_of r) [] (λ q lent. (lent_same q).0 lent) p n (MatchOption-at_some _ _ n e (carried p within).1));
-  }
-
-  left_at : List (Option ℕ) → ℕ → ℕ
-  left_at xs i = unwrap_or (get_or xs i None) (2 ^ 24)
-
-  -- what is left of a count, by its place
-  left_is : (xs : List (Option ℕ)) (p : Place) → IsWithin r.cutting p → left_at xs (index_of r.cutting.cols p) ≡ unwrap_or (entry_at r.cutting.cols r.cutting.rows xs p) (2 ^ 24)
-  unfolding left_at
-  left_is xs p within = ap (λ (o : Option ℕ). unwrap_or o (2 ^ 24)) (sym (entry-inside r.cutting.cols r.cutting.rows xs p within.0 within.1))
-
-  less_at : (p : Place) → p.row < r.cutting.rows → p.col < r.cutting.cols → left_at new (index_of r.cutting.cols p) ≤ left_at r.steps (index_of r.cutting.cols p)
-  unfolding IsCarried old_at new_at
-  less_at p row col =
-      omega (arith, left_is new p (row, col), left_is r.steps p (row, col), (told_less IsEnd (levels_of r) p (old_at p) (new_at p) (carried p (row, col)).0 (carried p (row, col)).1).0)
-
-  changed_place : (tile : ℕ) (o : TileAnswer) → get_or outs tile Still ≡ o → is_changed o ≡ true → IsTileAnswer (levels_of r) r.cutting tile r.steps o →
-      (p : Place) × IsWithin r.cutting p × (new_at p ≢ old_at p)
-  unfolding old_at new_at
-  changed_place tile Still e is a = absurd (false≢true is)
-  changed_place tile (Changed list) e is a =
-      let p = a.1.0 in
-      let inside = a.1.1 in (
-        p,
-        inside.0,
-        λ equal. a.1.2
-            (ap (λ (k : ℕ). tile_entry r.cutting k list.items p) (sym inside.1)
-            ∙ ap (λ (o : TileAnswer). told_by r.cutting r.steps p o) (sym (ap (λ (k : ℕ). get_or outs k Still) inside.1 ∙ e)) ∙ sym (put p inside.0) ∙ equal),
-      )
-
-  left_after : (tile : ℕ) → tile < tile_count r.cutting → is_changed (get_or outs tile Still) ≡ true → left_to_count new < left_to_count r.steps
-  unfolding IsCarried old_at new_at left_at
-  left_after tile below is =
-      let changed = changed_place tile (get_or outs tile Still) refl is (answered.each tile below) in
-      let p = changed.0 in
-      let within = changed.1 in
-      let fewer = (told_less IsEnd (levels_of r) p (old_at p) (new_at p) (carried p within).0 (carried p within).1).1 changed.2 in
-      (sums_less (λ o. unwrap_or o (2 ^ 24)) new r.steps (size ∙ sym rounding.counting.size)
-      (λ k l. at_place (λ i. left_at new i ≤ left_at r.steps i) r.cutting.cols r.cutting.rows less_at k (omega (arith, size)))).1
-      (index_of r.cutting.cols p) (omega (arith, size, index_below r.cutting.cols r.cutting.rows p within.0 within.1))
-      (omega (arith, fewer, left_is new p within, left_is r.steps p within))
-
-  same_at : (p : Place) → IsWithin r.cutting p → is_changed (get_or outs (tile_of_place r.cutting p) Still) ≡ false → entry_at r.cutting.cols r.cutting.rows new p ≡ entry_at r.cutting.cols r.cutting.rows r.steps p
-  same_at p within none = put p within ∙ told_still r.cutting r.steps p (get_or outs (tile_of_place r.cutting p) Still) none
-
-  still_after : (tile : ℕ) → tile < tile_count r.cutting → IsUntouched r.cutting outs tile → IsTileStill (levels_of r) r.cutting tile new
-  still_after tile below untouched = record {
-    near = λ p q inside next level m e less.
-        let within = data_inside (levels_of r) q next.to_data in
-        let own = untouched.each p p inside (record { row_down = omega arith; row_up = omega arith; col_right = omega arith; col_left = omega arith }) inside.0 in
-        let none : is_changed (get_or outs tile Still) ≡ false = ap (λ (k : ℕ). is_changed (get_or outs k Still)) (sym inside.1) ∙ own in
-        let still = still_answer (levels_of r) r.cutting tile r.steps (get_or outs tile Still) none (answered.each tile below) in
-        let near = still.near p q inside next level m (sym (same_at q within (untouched.each p q inside next.touches within)) ∙ e) less in
-        (near.0, same_at p inside.0 own ∙ near.1, near.2);
-  }
-
-  -- what a place of a tile has, by the tile's answer
-  told_in : (tile : ℕ) (o : TileAnswer) (p : Place) → get_or outs tile Still ≡ o → IsInTile r.cutting tile p → entry_at r.cutting.cols r.cutting.rows new p ≡ told_by r.cutting r.steps p o
-  told_in tile o p is i = put p i.0 ∙ ap (λ (z : TileAnswer). told_by r.cutting r.steps p z) (ap (λ (k : ℕ). get_or outs k Still) i.1 ∙ is)
-
-  even_from : (tile : ℕ) (o : TileAnswer) → get_or outs tile Still ≡ o → IsTileAnswer (levels_of r) r.cutting tile r.steps o → IsTileEven (levels_of r) r.cutting tile new
-  even_from tile Still is still = record {
-    within = λ p q i j next level m e less.
-        let near = still.near p q i next level m (sym (told_in tile Still q is j) ∙ e) less in (near.0, told_in tile Still p is i ∙ near.1, near.2);
-  }
-  even_from tile (Changed list) is answer = record {
-    within = λ p q i j next level m e less.
-        let in_tile = λ (x : Place) (k : IsInTile r.cutting tile x). told_in tile (Changed list) x is k ∙ ap (λ (n : ℕ). tile_entry r.cutting n list.items x) k.1 in
-        let near = answer.0.within p q i j next level m (sym (in_tile q j) ∙ e) less in (near.0, in_tile p i ∙ near.1, near.2);
-  }
-
-  due_after : (tile : ℕ) (d : Due) → tile < tile_count r.cutting → (d ≡ Nothing → IsUntouched r.cutting outs tile) → IsDue (levels_of r) r.cutting tile new d
-  due_after tile Search below untouched = tt
-  due_after tile IfEntered below untouched = even_from tile (get_or outs tile Still) refl (answered.each tile below)
-  due_after tile Nothing below untouched = still_after tile below (untouched refl)
-
-  -- the round that follows, where some tile changed
-  pub next_round : (due : List Due) (tile : ℕ) → length due ≡ tile_count r.cutting → tile < tile_count r.cutting → is_changed (get_or outs tile Still) ≡ true →
-      ((k : ℕ) → k < tile_count r.cutting → get_or due k Search ≡ Nothing → IsUntouched r.cutting outs k) →
-      IsNext r (record { cutting = r.cutting; levels = r.levels; steps = new; due = due }) true
-  next_round due tile all below is untouched = record {
-    rounding = record {
+-- where nothing comes into any tile, the counts are settled
+pub settled_from : (r : Rounding) (lent : List (Option ℕ)) → IsRounding r → length r.entries ≡ 0 → LendSame (levels_of r) lent r.steps → AreSettled r.cutting (levels_of r) lent r.steps
+settled_from r lent rounding none same =
+    let c = r.cutting in
+    record {
       cutting = rounding.cutting;
-      size = rounding.size;
-      counting = counting_after;
-      all_due = all;
-      due = λ k l. due_after k (get_or due k Search) l (untouched k l);
-    };
-    same_lent = lent_same;
-    more = left_after tile below is;
+      counting = rounding.counting;
+      same_lent = same;
+      still = λ tile below. record {
+        near = λ p q inside next level.
+            (let there = data_inside (levels_of r) q next.to_data in
+            let side : AreLevel (levels_of r) p q = record { next = next; level = level } in
+            let le : count_of r.steps (index_of c.cols p) ≤ count_of r.steps (index_of c.cols q) + 1 = elim (cases_eq (tile_of_place c p) (tile_of_place c q)) [
+              | inl one ↦ (rounding.even tile).within p q inside (there, sym one ∙ inside.1) side
+              | inr other ↦ elim (rounding.entered p q side other) [
+                | inl le ↦ le
+                | inr told ↦ absurd (omega (arith, none, slice_get_within r.entries told.1.0 told.0 told.1.1))
+              ]
+            ] in
+            let at_p = ap (λ (o : Option ℕ). unwrap_or o (2 ^ 24)) (entry-inside c.cols c.rows r.steps p inside.0.0 inside.0.1) in
+            let at_q = ap (λ (o : Option ℕ). unwrap_or o (2 ^ 24)) (entry-inside c.cols c.rows r.steps q there.0 there.1) in
+            one_above (entry_at c.cols c.rows r.steps p) (entry_at c.cols c.rows r.steps q) (omega (arith, le, at_p, at_q)));
+      };
+    }
+
+-- the jobs of a round that were run
+module _ (r : Rounding) (outs : List (Vec Change Global)) (answered : AreAnswered r outs) where
+  -- what a job that was run answered
+  pub answer_of : (j : ℕ) (list : Vec Change Global) → slice_get outs j ≡ Some list → (run : Run) × (first : Entry) × (slice_get answered.runs j ≡ Some run)
+      × IsTileAnswer (levels_of r) r.cutting first.tile r.steps r.entries run.from run.end list.items
+  answer_of j list at =
+      let run = get_or answered.runs j (record { from = 0; end = 0 }) in
+      let here : slice_get answered.runs j ≡ Some run = slice_get-get_or answered.runs j (record { from = 0; end = 0 }) (omega (arith, answered.count, slice_get_within outs j list at)) in
+      let is = answered.right run (j, here) in
+      let none : Entry = record { tile = 0; change = record { place = record { row = 0; col = 0 }; count = 0 } } in
+      let start = slice_get-get_or r.entries run.from none (omega (arith, is.some, is.below)) in
+      (run, get_or r.entries run.from none, here, answered.each j list at run (get_or r.entries run.from none) here start)
+
+  pub given_within : (x : Change) → IsGiven outs x → IsWithin r.cutting x.place
+  given_within x given = ((answer_of given.0 given.1 given.2).3.lowered.each x given.3).inside.0
+
+-- what a round leaves
+module _ (r : Rounding) (outs : List (Vec Change Global)) (new : List (Option ℕ)) (rounding : IsRounding r) (answered : AreAnswered r outs)
+    (put : ArePut r.cutting.cols r.steps new (IsGiven outs)) where
+  -- what is put is no more than each job came to
+  put_below : (tile from end : ℕ) (j : ℕ) (list : Vec Change Global) → slice_get outs j ≡ Some list → (a : IsTileAnswer (levels_of r) r.cutting tile r.steps r.entries from end list.items) →
+      (p : Place) → IsWithin r.cutting p → count_of new (index_of r.cutting.cols p) ≤ a.counts (index_of r.cutting.cols p)
+  put_below tile from end j list at a p within = elim (a.lowered.told p within) [
+    | inl same ↦ omega (arith, same, put.low (index_of r.cutting.cols p))
+    | inr told ↦ put.done _ (j, list, at, told)
+  ]
+
+  -- the place of a change
+  place_of : (x : Change) (p : Place) → IsGiven outs x → IsWithin r.cutting p → index_of r.cutting.cols x.place ≡ index_of r.cutting.cols p → x.place ≡ p
+  place_of x p given within same =
+      let a = answer_of r outs answered given.0 given.1 given.2 in
+      index_injective r.cutting.cols x.place p (a.3.lowered.each x given.3).inside.0.1 within.1 same
+
+  pub put_carried : AreCarried (levels_of r) r.steps new
+  put_carried = record {
+    size = put.size ∙ rounding.counting.size;
+    kept = λ p m e.
+        let within = inside_from_entry r.cutting.cols r.cutting.rows r.steps p m e in
+        let here = entry-inside r.cutting.cols r.cutting.rows new p within.0 within.1 in
+        let there = entry-inside r.cutting.cols r.cutting.rows r.steps p within.0 within.1 in
+        elim (put.told (index_of r.cutting.cols p)) [
+          | inl same ↦ (m, here ∙ same ∙ sym there ∙ e, omega arith)
+          | inr told ↦ (
+            told.0.count,
+            here ∙ told.3,
+            (let new_is = ap (λ (o : Option ℕ). unwrap_or o (2 ^ 24)) told.3 in
+                let old_is = ap (λ (o : Option ℕ). unwrap_or o (2 ^ 24)) (sym there ∙ e) in omega (arith, new_is, old_is, put.low (index_of r.cutting.cols p))),
+          )
+        ];
+    walked = λ p. if_some (entry_at r.cutting.cols r.cutting.rows new p) (IsWalked (IsLent (levels_of r) r.steps) (levels_of r) p) (λ n e.
+        let within = inside_from_entry r.cutting.cols r.cutting.rows new p n e in
+        let here = entry-inside r.cutting.cols r.cutting.rows new p within.0 within.1 in
+        let there = entry-inside r.cutting.cols r.cutting.rows r.steps p within.0 within.1 in
+        elim (put.told (index_of r.cutting.cols p)) [
+          | inl same ↦ MatchOption-at_some _ _ n (there ∙ sym same ∙ sym here ∙ e) (rounding.counting.walked p)
+          | inr told ↦
+              (let x = told.0 in
+              let a = answer_of r outs answered told.1.0 told.1.1 told.1.2 in
+              let walk = (a.3.lowered.each x told.1.3).walked in
+              let place = place_of x p told.1 within told.2 in
+              let same : x.count ≡ n = same_Some x.count n (sym told.3 ∙ sym here ∙ e) in
+              subst (λ (k : ℕ). IsWalked (IsLent (levels_of r) r.steps) (levels_of r) p k) same (subst (λ (q : Place). IsWalked (IsLent (levels_of r) r.steps) (levels_of r) q x.count) place walk))
+        ]);
   }
+
+  put_even : (tile : ℕ) → IsEvenInside (levels_of r) r.cutting tile (count_of new)
+  put_even tile = record {
+    within = λ p q i j side. elim (put.told (index_of r.cutting.cols q)) [
+      | inl same ↦
+          (let is = ap (λ (o : Option ℕ). unwrap_or o (2 ^ 24)) same in
+          omega (arith, is, (rounding.even tile).within p q i j side, put.low (index_of r.cutting.cols p)))
+      | inr told ↦
+          (let x = told.0 in
+          let a = answer_of r outs answered told.1.0 told.1.1 told.1.2 in
+          let change = a.3.lowered.each x told.1.3 in
+          let place = place_of x q told.1 j.0 told.2 in
+          let own : a.1.tile ≡ tile = sym change.inside.1 ∙ ap (λ (z : Place). tile_of_place r.cutting z) place ∙ j.1 in
+          let even = a.3.even.within p q (i.0, i.1 ∙ sym own) (j.0, j.1 ∙ sym own) side in
+          let least : a.3.counts (index_of r.cutting.cols q) ≤ x.count = subst (λ (k : ℕ). a.3.counts k ≤ x.count) told.2 change.least in
+          let is = ap (λ (o : Option ℕ). unwrap_or o (2 ^ 24)) told.3 in
+          omega (arith, even, least, is, put_below a.1.tile a.0.from a.0.end told.1.0 told.1.1 told.1.2 a.3 p i.0))
+    ];
+  }
+
+  -- an entry came in
+  put_entered : (k : ℕ) (e : Entry) → slice_get r.entries k ≡ Some e → count_of new (index_of r.cutting.cols e.change.place) ≤ e.change.count
+  put_entered k e at =
+      let job = answered.covered k (slice_get_within r.entries k e at) in
+      elim (slice_get_cases outs job.0).1 [
+        | inr past ↦ absurd (omega (arith, past.0, answered.count, slice_get_within answered.runs job.0 job.1 job.2))
+        | inl list ↦
+            (let a = answer_of r outs answered job.0 list.0 list.2 in
+            let one : job.1 ≡ a.0 = same_Some job.1 a.0 (sym job.2 ∙ a.2) in
+            let from = ap (λ (z : Run). z.from) one in
+            let end = ap (λ (z : Run). z.end) one in
+            let within = (rounding.entries e (k, at)).inside.0 in
+            omega (arith, a.3.entered.each k e (omega (arith, from, job.3)) (omega (arith, end, job.4)) at, put_below a.1.tile a.0.from a.0.end job.0 list.0 list.2 a.3 e.change.place within))
+      ]
+
+  put_less : 0 < length r.entries → total (r.cutting.cols * r.cutting.rows) (count_of new) < total (r.cutting.cols * r.cutting.rows) (count_of r.steps)
+  put_less some =
+      let none : Entry = record { tile = 0; change = record { place = record { row = 0; col = 0 }; count = 0 } } in
+      let e = get_or r.entries 0 none in
+      let at = slice_get-get_or r.entries 0 none some in
+      let entry = rounding.entries e (0, at) in
+      total_less (r.cutting.cols * r.cutting.rows) (count_of r.steps) (count_of new) put.low (index_of r.cutting.cols e.change.place)
+      (index_below r.cutting.cols r.cutting.rows e.change.place entry.inside.0.0 entry.inside.0.1) (omega (arith, put_entered 0 e at, entry.less))
+
+  pub next_round : (noted entries : List Entry) → 0 < length r.entries → IsPermutation noted entries → IsNonDecreasingBy (λ e. e.tile) entries →
+      AreNoted (levels_of r) r.cutting new (λ p q. (x : Change) × IsGiven outs x × (x.place ≡ q) × (tile_of_place r.cutting p ≢ tile_of_place r.cutting q)) [] noted →
+      IsNext r (record { cutting = r.cutting; levels = r.levels; steps = new; entries = entries })
+  next_round noted entries some same sorted notes =
+      let all = noted_in_order (levels_of r) r.cutting new _ noted entries same notes in
+      record {
+        rounding = record {
+          cutting = rounding.cutting;
+          size = rounding.size;
+          counting = carried_counting r.cutting r.levels r.steps new put_carried;
+          even = put_even;
+          entries = all.0;
+          sorted = sorted;
+          entered = λ p q side differ. elim (put.told (index_of r.cutting.cols q)) [
+            | inl unchanged ↦
+                (let is = ap (λ (o : Option ℕ). unwrap_or o (2 ^ 24)) unchanged in
+                elim (rounding.entered p q side differ) [
+                  | inl le ↦ inl (omega (arith, le, is, put.low (index_of r.cutting.cols p)))
+                  | inr told ↦ inl (let here : count_of new (index_of r.cutting.cols p) ≤ told.0.change.count = subst (λ (z : Place). count_of new (index_of r.cutting.cols z) ≤ told.0.change.count) told.2 (put_entered told.1.0 told.0 told.1.1) in
+                      omega (arith, here, told.3, is))
+                ])
+            | inr told ↦ (let there = data_inside (levels_of r) q side.next.to_data in all.1 p q (told.0, told.1, place_of told.0 q told.1 there told.2, differ) side)
+          ];
+        };
+        same_lent = carried_lend_same (levels_of r) r.steps new put_carried;
+        less = put_less some;
+      }
+
+-- a number below one that is within the limit
+pub few_of : (n m : ℕ) → n < m → m ≤ 65536 → n < 65536
+few_of n m less few = omega arith
+
+few_none : (n k : ℕ) → n ≤ k → k < n → ⊥
+few_none n k le less = omega arith
+
+-- the first round
+module _ (c : Cutting) (levels : List (Option ℤ)) (old : List (Option ℕ)) (lists : List (Vec (Option ℕ) Global)) (count : length lists ≡ tile_count c)
+    (given : (j : ℕ) (d : Vec (Option ℕ) Global) → j < tile_count c → IsRound (IsLent (lent_terrain c levels) old) (lent_terrain c levels) c j old (get_or lists j d).items) where
+  round_at : (tile : ℕ) (list : Vec (Option ℕ) Global) → slice_get lists tile ≡ Some list → IsRound (IsLent (lent_terrain c levels) old) (lent_terrain c levels) c tile old list.items
+  round_at tile list at =
+      let below : tile < tile_count c = subst (λ (k : ℕ). tile < k) count (slice_get_within lists tile list at) in
+      subst (λ (v : Vec (Option ℕ) Global). IsRound (IsLent (lent_terrain c levels) old) (lent_terrain c levels) c tile old v.items) (get_or_from_slice_get lists tile list list at) (given tile list below)
+
+  pub first_lists : AreTileLists c lists
+  first_lists = record { count = count; each = λ tile list at. (round_at tile list at).size }
+
+  -- the list of a place's tile
+  list_of : (p : Place) → IsCutting c → IsWithin c p → (list : Vec (Option ℕ) Global) × (slice_get lists (tile_of_place c p) ≡ Some list)
+  list_of p lawful within = elim (slice_get_cases lists (tile_of_place c p)).1 [
+    | inr past ↦ absurd (few_none (length lists) (tile_of_place c p) past.0 (subst (λ (k : ℕ). tile_of_place c p < k) (sym count) (tile_of_place_below c p lawful within)))
+    | inl list ↦ (list.0, list.2)
+  ]
+
+  pub first_carried : (whole : List (Option ℕ)) → IsCutting c → IsPutBack c lists whole → AreCarried (lent_terrain c levels) old whole
+  first_carried whole lawful put = record {
+    size = put.size;
+    kept = λ p m e.
+        let within = inside_from_entry c.cols c.rows old p m e in
+        let list = list_of p lawful within in
+        let here = entry_at-put_back c lists whole (tile_of_place c p) list.0 p put (within, refl) list.1 in
+        let n = (round_at (tile_of_place c p) list.0 list.1).kept p m (within, refl) e in
+        (n.0, here ∙ n.1, n.2);
+    walked = λ p. if_some (entry_at c.cols c.rows whole p) (IsWalked (IsLent (lent_terrain c levels) old) (lent_terrain c levels) p) (λ n e.
+        let within = inside_from_entry c.cols c.rows whole p n e in
+        let list = list_of p lawful within in
+        let here = entry_at-put_back c lists whole (tile_of_place c p) list.0 p put (within, refl) list.1 in
+        MatchOption-at_some _ _ n (sym here ∙ e) ((round_at (tile_of_place c p) list.0 list.1).walked p (within, refl)));
+  }
+
+  pub first_even : (whole : List (Option ℕ)) → IsCutting c → IsPutBack c lists whole → (tile : ℕ) → IsEvenInside (lent_terrain c levels) c tile (count_of whole)
+  first_even whole lawful put tile = record {
+    within = λ p q i j side.
+        let list = list_of p lawful i.0 in
+        let own : slice_get lists tile ≡ Some list.0 = ap (λ (k : ℕ). slice_get lists k) (sym i.1) ∙ list.1 in
+        let here = entry_at-put_back c lists whole tile list.0 p put i own in
+        let there = entry_at-put_back c lists whole tile list.0 q put j own in
+        let counting = carried_counting c levels old whole (first_carried whole lawful put) in
+        let few_p = small (lent_terrain c levels) whole (index_of c.cols p) counting in
+        let few_q = small (lent_terrain c levels) whole (index_of c.cols q) counting in
+        let at_p = ap (λ (o : Option ℕ). unwrap_or o (2 ^ 24)) (sym here ∙ entry-inside c.cols c.rows whole p i.0.0 i.0.1) in
+        let at_q = ap (λ (o : Option ℕ). unwrap_or o (2 ^ 24)) (sym there ∙ entry-inside c.cols c.rows whole q j.0.0 j.0.1) in
+        let le = above_one (tile_entry c tile list.0.items p) (tile_entry c tile list.0.items q) (omega (arith, few_p, at_p)) (omega (arith, few_q, at_q))
+        ((round_at tile list.0 own).within p q i j side.next side.level) in
+        omega (arith, le, at_p, at_q);
+  }
+
+-- what comes out of all tiles after the first round
+pub first_rounding : (r : Rounding) (noted : List Entry) → IsCutting r.cutting → length r.levels ≡ r.cutting.cols * r.cutting.rows → AreCounting (levels_of r) r.steps →
+    ((tile : ℕ) → IsEvenInside (levels_of r) r.cutting tile (count_of r.steps)) → IsPermutation noted r.entries → IsNonDecreasingBy (λ e. e.tile) r.entries →
+    AreNoted (levels_of r) r.cutting r.steps (λ p q. IsWithin r.cutting q × (tile_of_place r.cutting p ≢ tile_of_place r.cutting q)) [] noted → IsRounding r
+first_rounding r noted lawful size counting even same sorted notes =
+    let all = noted_in_order (levels_of r) r.cutting r.steps _ noted r.entries same notes in
+    record {
+      cutting = lawful;
+      size = size;
+      counting = counting;
+      even = even;
+      entries = all.0;
+      sorted = sorted;
+      entered = λ p q side differ. all.1 p q (data_inside (levels_of r) q side.next.to_data, differ) side;
+    }
+
+-- by other names of the cutting and the heights
+pub settled_at : (r : Rounding) (c : Cutting) (levels : List (Option ℤ)) (lent : List (Option ℕ)) → r.cutting ≡ c → r.levels ≡ levels → IsRounding r → length r.entries ≡ 0 →
+    LendSame (lent_terrain c levels) lent r.steps → AreSettled c (lent_terrain c levels) lent r.steps
+settled_at r c levels lent e f rounding none same =
+    subst (λ (x : Cutting). LendSame (lent_terrain x levels) lent r.steps → AreSettled x (lent_terrain x levels) lent r.steps) e
+    (subst (λ (xs : List (Option ℤ)). LendSame (lent_terrain r.cutting xs) lent r.steps → AreSettled r.cutting (lent_terrain r.cutting xs) lent r.steps) f
+    (λ own. settled_from r lent rounding none own)) same

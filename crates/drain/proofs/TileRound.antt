@@ -43,7 +43,7 @@ IsSound t steps b counts = (s : Place) → IsSpot b s → count_on b counts s < 
 count-known : (b : Bounds) (shown : List (Option ℕ)) (s : Place) → length shown ≡ area_of b → IsSpot b s → count_on b (known_counts shown) s ≡ unwrap_or (get_or shown (spot_index b s) None) no_count
 count-known b shown s size spot = get_or-map (λ (o : Option ℕ). unwrap_or o no_count) shown (spot_index b s) None 0 (omega (arith, size, spot_below b s spot))
 
-some_of_known : (o : Option ℕ) (n : ℕ) → n ≡ unwrap_or o no_count → n < no_count → o ≡ Some n
+pub some_of_known : (o : Option ℕ) (n : ℕ) → n ≡ unwrap_or o no_count → n < no_count → o ≡ Some n
 some_of_known None n e less = absurd (omega arith)
 some_of_known (Some m) n e less = ap Some (sym e)
 
@@ -70,7 +70,7 @@ apart_places b s r p q f g ne e =
     ne (same_place s r (omega (arith, f.0, g.0, row)) (omega (arith, f.1, g.1, col)))
 
 -- a step from a walked cell to a neighbour on its level
-walked_on : (t : Terrain) (steps : List (Option ℕ)) (p q : Place) (m n : ℕ) → IsNeighbour t q p → height_at t p ≡ height_at t q → IsWalked (IsLent t steps) t p m → n ≡ m + 1 → n < 2 ^ 24 → IsWalked (IsLent t steps) t q n
+pub walked_on : (t : Terrain) (steps : List (Option ℕ)) (p q : Place) (m n : ℕ) → IsNeighbour t q p → height_at t p ≡ height_at t q → IsWalked (IsLent t steps) t p m → n ≡ m + 1 → n < 2 ^ 24 → IsWalked (IsLent t steps) t q n
 walked_on t steps p q m n next level walk is less = (less, p ∷ walk.1, (next, level, walk.2), omega (arith, walk.3, is))
 
 sound_moved : (t : Terrain) (steps : List (Option ℕ)) (b : Bounds) (levels : List (Option ℤ)) (some : List ℕ) (s r : Place) (n : ℕ) → AreShown t.cols t.rows t.cells b levels → IsSound t steps b some →

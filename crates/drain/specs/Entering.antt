@@ -1,22 +1,40 @@
--- Where no count of a cell would become less by a neighbour's.
-use Rattle.std.specs.Prelude.{◌≡◌, ℕ, ◌+◌, ◌<◌, ◌≤◌, ℤ, List, [], Option, Some}
+-- What comes from one tile into another.
+use Rattle.std.specs.Prelude.{◌≡◌, ℕ, ◌+◌, ◌<◌, ◌≤◌, ◌⊎◌, ℤ, List, [], length, Option, Some, slice_get}
 use Rattle.terrain.specs.Raster.{Terrain}
-use Rattle.terrain.specs.Neighbours.{height_at, entry_at, IsNeighbour}
+use Rattle.terrain.specs.Neighbours.{index_of}
 use Rattle.terrain.specs.declared.place.Place.{Place}
-use Rattle.tiles.specs.Cutting.{Cutting}
-use Rattle.drain.specs.Rounds.{IsOneAbove}
+use Rattle.tiles.specs.Cutting.{Cutting, IsInTile}
+use Rattle.drain.specs.Rounds.{IsLent, IsWalked}
+use Rattle.drain.specs.Lowering.{AreLevel, IsAmong, count_of}
+use Rattle.drain.specs.declared.changes.Entry.{Entry}
+use Rattle.drain.specs.declared.changes.Run.{Run}
 
 -- The terrain of a list of the size of a cutting's grid. It has no sinks.
 abbrev pub lent_terrain : Cutting → List (Option ℤ) → Terrain
 lent_terrain c levels = record { cols = c.cols; rows = c.rows; cells = levels; sinks = [] }
 
--- The count of a cell is at most one above those of its neighbours on the flat.
-pub record IsLeastAround (t : Terrain) (steps : List (Option ℕ)) (p : Place) : Type 0 where
-  pub each : (q : Place) → IsNeighbour t p q → height_at t q ≡ height_at t p →
-      IsOneAbove (entry_at t.cols t.rows steps p) (entry_at t.cols t.rows steps q)
+-- A cell of the tile would get less, the length of a walk.
+pub record IsEntry (t : Terrain) (c : Cutting) (steps : List (Option ℕ)) (e : Entry) : Type 0 where
+  pub inside : IsInTile c e.tile e.change.place
+  pub walked : IsWalked (IsLent t steps) t e.change.place e.change.count
+  pub less : e.change.count < count_of steps (index_of c.cols e.change.place)
 
--- A count is at most one above those of the cells on this level in a row, from one up to a column; rows and
--- columns are counted from 1.
-pub record AreLeastFrom (t : Terrain) (steps : List (Option ℕ)) (from : Place) (end : ℕ) (level : ℤ) (own : ℕ) : Type 0 where
-  pub each : (q : Place) (m : ℕ) → q.row + 1 ≡ from.row → from.col ≤ q.col + 1 → q.col + 1 < end →
-      height_at t q ≡ Some level → entry_at t.cols t.rows steps q ≡ Some m → own ≤ m + 1
+abbrev pub AreEntries : Terrain → Cutting → List (Option ℕ) → List Entry → Type 0
+AreEntries t c steps entries = (e : Entry) → IsAmong entries e → IsEntry t c steps e
+
+-- A count would not be made less by a neighbour's, or an entry tells that it would.
+abbrev pub IsEvenOrEntered : Cutting → List (Option ℕ) → List Entry → Place → Place → Type 0
+IsEvenOrEntered c steps entries p q = (count_of steps (index_of c.cols p) ≤ count_of steps (index_of c.cols q) + 1)
+    ⊎ ((e : Entry) × IsAmong entries e × (e.change.place ≡ p) × (e.change.count ≤ count_of steps (index_of c.cols q) + 1))
+
+-- A list of entries has grown, and tells of all neighbours in a relation.
+pub record AreNoted (t : Terrain) (c : Cutting) (steps : List (Option ℕ)) (Done : Place → Place → Type 0) (old new : List Entry) : Type 0 where
+  pub kept : (e : Entry) → IsAmong old e → IsAmong new e
+  pub each : AreEntries t c steps old → AreEntries t c steps new
+  pub done : (p q : Place) → Done p q → AreLevel t p q → IsEvenOrEntered c steps new p q
+
+-- The entries of a run are into one tile.
+pub record IsRun (entries : List Entry) (run : Run) : Type 0 where
+  pub some : run.from < run.end
+  pub below : run.end ≤ length entries
+  pub one : (k : ℕ) (e f : Entry) → run.from ≤ k → k < run.end → slice_get entries k ≡ Some e → slice_get entries run.from ≡ Some f → e.tile ≡ f.tile

@@ -2,7 +2,9 @@ pub mod Steepness
 pub mod Steps
 pub mod Directions
 pub mod Rounds
+pub mod Lowering
 pub mod Entering
+pub mod Rounding
 pub mod Window
 pub mod Stages
 pub mod Beginning

@@ -1,12 +1,16 @@
-// Whether counts of other tiles reach into a tile.
-ghost use Rattle.std.specs.Prelude.{◌≡◌, ℕ, ◌+◌, ◌*◌, ◌^◌, ◌<◌, ◌≤◌, length, Some};
-ghost use Rattle.std.specs.Bool.{OnFalse};
-ghost use Rattle.terrain.specs.Neighbours.{entry_at};
-ghost use Rattle.tiles.specs.Cutting.{IsCutting, IsWithin, tile_count};
-ghost use Rattle.drain.specs.Rounds.{IsUnentered};
-ghost use Rattle.drain.specs.Entering.{IsLeastAround, AreLeastFrom, lent_terrain};
+// What comes into tiles from other tiles.
+ghost use Rattle.std.specs.Prelude.{◌≡◌, ◌≢◌, ℕ, ◌+◌, ◌*◌, ◌<◌, ◌≤◌, ◌↔◌, length, Some, IsTrue, OnOk, IfOk};
+ghost use Rattle.terrain.specs.declared.place.Place.{Place};
+ghost use Rattle.drain.specs.declared.changes.Change.{Change};
+ghost use Rattle.terrain.specs.Neighbours.{height_at, index_of, Touches};
+ghost use Rattle.tiles.specs.Cutting.{IsCutting, IsWithin, IsInTile, tile_count, tile_of_place};
+ghost use Rattle.drain.specs.Rounds.{AreCounting};
+ghost use Rattle.drain.specs.Lowering.{IsAmong, count_of};
+ghost use Rattle.drain.specs.Entering.{lent_terrain, AreNoted};
 
+use crate::changes::{Change, Entry};
 use crate::looking::NO_COUNT;
+use std::alloc::AllocError;
 use terrain::{Height, Place};
 use tiles::Tiling;
 
@@ -21,89 +25,144 @@ pub(crate) struct Lent<'a> {
     ghost steps_size: { length steps.now ≡ tiling.now.cols * tiling.now.rows },
 }
 
-/// The entry of a list in row order at a place, None off the grid.
-#[inline(always)]
-fn entry_at<T: Copy>(tiling: &Tiling, entries: &[Option<T>], place: Place) -> Option<T>
-    requires { length entries.now ≡ tiling.now.cols * tiling.now.rows }
-    ensures { result ≡ entry_at tiling.now.cols tiling.now.rows entries.now place }
-{
-    if place.row >= tiling.rows() || place.col >= tiling.cols() {
-        return None;
-    }
-    entries[place.row as usize * tiling.cols() as usize + place.col as usize]
-}
-
 impl<'a> Lent<'a> {
-    /// Whether a cell is on this level, and its count and one more is less than this.
+    /// Where a cell stands in row order.
     #[inline(always)]
-    fn lessens(&self, place: Place, level: Height, own: u32) -> bool
-        ensures { OnFalse result ((m : ℕ) → entry_at self.now.tiling.now.cols self.now.tiling.now.rows self.now.levels.now place ≡ Some level →
-            entry_at self.now.tiling.now.cols self.now.tiling.now.rows self.now.steps.now place ≡ Some m → own ≤ m + 1) }
-    {
-        let Some(count) = entry_at(self.tiling, self.steps, place) else {
-            return false;
-        };
-        if count >= own || count + 1 >= own {
-            return false;
-        }
-        entry_at(self.tiling, self.levels, place) == Some(level)
-    }
-
-    /// Whether one of three cells of a row does so. Rows and columns are counted from 1 here; 0 is off the grid.
-    #[inline(always)]
-    fn lessens_along(&self, from: Place, level: Height, own: u32) -> bool
-        requires { from.col + 3 < 2 ^ 32 }
-        ensures { OnFalse result (AreLeastFrom (lent_terrain self.now.tiling.now self.now.levels.now) self.now.steps.now from (from.col + 3) level own) }
-    {
-        if from.row == 0 {
-            return false;
-        }
-        for col in from.col..from.col + 3 {
-            if col == 0 {
-                continue;
-            }
-            let place = Place {
-                row: from.row - 1,
-                col: col - 1,
-            };
-            if self.lessens(place, level, own) {
-                return true;
-            }
-        }
-        false
-    }
-
-    /// Whether the count of a cell would become less by a neighbour's.
-    fn is_lessened(&self, place: Place) -> bool
+    pub(crate) fn index(&self, place: Place) -> usize
         requires { IsWithin self.now.tiling.now place }
-        ensures { OnFalse result (IsLeastAround (lent_terrain self.now.tiling.now self.now.levels.now) self.now.steps.now place) }
+        ensures value { result ≡ index_of self.now.tiling.now.cols place }
+        ensures below { result < self.now.tiling.now.cols * self.now.tiling.now.rows }
     {
-        let own = entry_at(self.tiling, self.steps, place).unwrap_or(NO_COUNT);
-        if own == 0 {
-            return false;
-        }
-        let Some(level) = entry_at(self.tiling, self.levels, place) else {
-            return false;
-        };
-        let Place { row, col } = place;
-        for next in row..row + 3 {
-            if self.lessens_along(Place { row: next, col }, level, own) {
-                return true;
-            }
-        }
-        false
+        place.row as usize * self.tiling.cols() as usize + place.col as usize
     }
 
-    /// Whether a count of a tile would become less by that of a neighbour in another tile.
-    pub(crate) fn is_entered(&self, tile: u32) -> bool
-        requires { tile < tile_count self.now.tiling.now }
-        ensures { OnFalse result (IsUnentered (lent_terrain self.now.tiling.now self.now.levels.now) self.now.tiling.now tile self.now.steps.now) }
+    /// Whether two cells have one filled height, or none.
+    #[inline(always)]
+    pub(crate) fn is_level(&self, place: Place, other: Place) -> bool
+        requires place { IsWithin self.now.tiling.now place }
+        requires other { IsWithin self.now.tiling.now other }
+        ensures { IsTrue result ↔ (height_at (lent_terrain self.now.tiling.now self.now.levels.now) other
+            ≡ height_at (lent_terrain self.now.tiling.now self.now.levels.now) place) }
+    {
+        self.levels[self.index(other)] == self.levels[self.index(place)]
+    }
+
+    /// The count of a cell, by its index.
+    #[inline(always)]
+    pub(crate) fn count(&self, index: usize) -> u32
+        requires { index < self.now.tiling.now.cols * self.now.tiling.now.rows }
+        ensures { result ≡ count_of self.now.steps.now index }
+    {
+        self.steps[index].unwrap_or(NO_COUNT)
+    }
+
+    /// Notes a cell that touches another, if it would get less by that one's count.
+    #[inline(always)]
+    fn note(&self, from: Change, to: Place, entries: &mut Vec<Entry>) -> Result<(), AllocError>
+        requires counting { AreCounting (lent_terrain self.now.tiling.now self.now.levels.now) self.now.steps.now }
+        requires from { IsWithin self.now.tiling.now from.place }
+        requires count { from.count ≡ count_of self.now.steps.now (index_of self.now.tiling.now.cols from.place) }
+        requires to { IsWithin self.now.tiling.now to × Touches to from.place }
+        ensures { OnOk result (AreNoted (lent_terrain self.now.tiling.now self.now.levels.now) self.now.tiling.now self.now.steps.now
+            (λ p q. (p ≡ to) × (q ≡ from.place)) entries.old.items entries.new.items) }
+    {
+        let count = from.count + 1;
+        let own = self.count(self.index(to));
+        if own <= count {
+            return Ok(());
+        }
+        if !self.is_level(from.place, to) {
+            return Ok(());
+        }
+        let tile = self.tiling.tile_of(to);
+        let change = Change { place: to, count };
+        entries.push(Entry { tile, change })?;
+        Ok(())
+    }
+
+    /// Notes those of a row that would get less by the count of a cell.
+    #[inline(always)]
+    fn note_along(&self, from: Change, row: u32, entries: &mut Vec<Entry>) -> Result<(), AllocError>
+        requires counting { AreCounting (lent_terrain self.now.tiling.now self.now.levels.now) self.now.steps.now }
+        requires from { IsWithin self.now.tiling.now from.place }
+        requires count { from.count ≡ count_of self.now.steps.now (index_of self.now.tiling.now.cols from.place) }
+        requires row { (row < self.now.tiling.now.rows) × (row ≤ from.place.row + 1) × (from.place.row ≤ row + 1) }
+        ensures { OnOk result (AreNoted (lent_terrain self.now.tiling.now self.now.levels.now) self.now.tiling.now self.now.steps.now
+            (λ p q. (p.row ≡ row) × (q ≡ from.place)) entries.old.items entries.new.items) }
+    {
+        let first = from.place.col.max(1) - 1;
+        let end = (from.place.col + 2).min(self.tiling.cols());
+        for col in first..end {
+            self.note(from, Place { row, col }, entries)?;
+        }
+        Ok(())
+    }
+
+    /// Notes the cells around one that would get less by its count.
+    pub(crate) fn note_around(
+        &self,
+        place: Place,
+        entries: &mut Vec<Entry>,
+    ) -> Result<(), AllocError>
+        requires counting { AreCounting (lent_terrain self.now.tiling.now self.now.levels.now) self.now.steps.now }
+        requires place { IsWithin self.now.tiling.now place }
+        ensures { OnOk result (AreNoted (lent_terrain self.now.tiling.now self.now.levels.now) self.now.tiling.now self.now.steps.now
+            (λ p q. q ≡ place) entries.old.items entries.new.items) }
+    {
+        let from = Change {
+            place,
+            count: self.count(self.index(place)),
+        };
+        let first = place.row.max(1) - 1;
+        let end = (place.row + 2).min(self.tiling.rows());
+        for row in first..end {
+            self.note_along(from, row, entries)?;
+        }
+        Ok(())
+    }
+
+    /// Notes what comes out of a tile over its rim.
+    pub(crate) fn note_rim(&self, tile: u32, entries: &mut Vec<Entry>) -> Result<(), AllocError>
+        requires counting { AreCounting (lent_terrain self.now.tiling.now self.now.levels.now) self.now.steps.now }
+        requires tile { tile < tile_count self.now.tiling.now }
+        ensures { OnOk result (AreNoted (lent_terrain self.now.tiling.now self.now.levels.now) self.now.tiling.now self.now.steps.now
+            (λ p q. IsInTile self.now.tiling.now tile q × (tile_of_place self.now.tiling.now p ≢ tile)) entries.old.items entries.new.items) }
     {
         for place in self.tiling.rim(tile) {
-            if self.is_lessened(place) {
-                return true;
-            }
+            self.note_around(place, entries)?;
         }
-        false
+        Ok(())
+    }
+
+    /// Notes what comes out of a tile by one of its cells.
+    fn note_over_rim(&self, place: Place, entries: &mut Vec<Entry>) -> Result<(), AllocError>
+        requires counting { AreCounting (lent_terrain self.now.tiling.now self.now.levels.now) self.now.steps.now }
+        requires place { IsWithin self.now.tiling.now place }
+        ensures { OnOk result (AreNoted (lent_terrain self.now.tiling.now self.now.levels.now) self.now.tiling.now self.now.steps.now
+            (λ p q. (q ≡ place) × (tile_of_place self.now.tiling.now p ≢ tile_of_place self.now.tiling.now q)) entries.old.items entries.new.items) }
+    {
+        if !self.tiling.on_rim(place) {
+            return Ok(());
+        }
+        self.note_around(place, entries)?;
+        Ok(())
+    }
+
+    /// Notes what comes out of a tile by these of its cells.
+    pub(crate) fn note_changes(
+        &self,
+        changes: &[Change],
+        entries: &mut Vec<Entry>,
+    ) -> Result<(), AllocError>
+        requires counting { AreCounting (lent_terrain self.now.tiling.now self.now.levels.now) self.now.steps.now }
+        requires changes { (x : Change) → IsAmong changes.now x → IsWithin self.now.tiling.now x.place }
+        ensures { OnOk result (AreNoted (lent_terrain self.now.tiling.now self.now.levels.now) self.now.tiling.now self.now.steps.now
+            (λ p q. (x : Change) × IsAmong changes.now x × (x.place ≡ q) × (tile_of_place self.now.tiling.now p ≢ tile_of_place self.now.tiling.now q))
+            entries.old.items entries.new.items) }
+    {
+        for change in changes {
+            self.note_over_rim(change.place, entries)?;
+        }
+        Ok(())
     }
 }

@@ -4,15 +4,18 @@
 mod amid;
 pub mod around;
 mod beginning;
+mod changes;
 pub mod draining;
 mod entering;
+mod first;
 pub mod laws;
 mod looking;
+mod lowering;
 mod rounds;
+mod runs;
 mod stages;
 pub mod steepness;
 mod surroundings;
-mod tile_state;
 mod window;
 
 pub use around::Around;

@@ -1,18 +1,21 @@
-// Rounds over all tiles until nothing changes.
-ghost use Rattle.std.specs.Prelude.{◌≡◌, ◌≢◌, ℕ, ◌+◌, ◌*◌, ◌<◌, ◌≤◌, ◌⊎◌, Err, None, true, false, length, vec_len, IfOk, IfErr, slice_index_or};
-ghost use Rattle.std.specs.Bool.{MatchBool, OnFalse};
+// Rounds of counting until nothing changes: the first over all tiles, and then over those into which a count comes.
+ghost use Rattle.std.specs.Prelude.{◌≡◌, ◌≢◌, ℕ, ◌*◌, ◌<◌, ◌≤◌, [], Some, Vec, length, vec_len, OnOk, IfOk, slice_get};
 ghost use Rattle.terrain.specs.declared.place.Place.{Place};
-ghost use Rattle.terrain.specs.Neighbours.{entry_at};
 ghost use Rattle.tile_jobs.specs.Fault.{RefusesWorkers};
-ghost use Rattle.tiles.specs.Cutting.{IsCutting, AreBounds, IsWithin, IsInTile, tile_count, tile_entry, cell_count, tile_of_place};
-ghost use Rattle.drain.specs.Entering.{lent_terrain};
-ghost use Rattle.drain.specs.Rounds.{told, told_by, is_changed, IsSized, AreSized, IsBoundsOf, IsUntouched, AreAnswered, IsRounding, IsNext, AreCounting, AreSettled};
-ghost use Rattle.drain.specs.declared.tile_state.Due.TheVariants.{Search, Nothing};
-ghost use Rattle.drain.specs.declared.tile_state.TileAnswer.TheVariants.{Still};
+ghost use Rattle.tiles.specs.Cutting.{IsWithin, tile_of_place};
+ghost use Rattle.std.specs.declared.alloc.Global.{Global};
+ghost use Rattle.drain.specs.declared.changes.Change.{Change};
+ghost use Rattle.drain.specs.Rounds.{AreCounting, AreSettled};
+ghost use Rattle.drain.specs.Lowering.{IsAmong};
+ghost use Rattle.drain.specs.Entering.{lent_terrain, AreNoted};
+ghost use Rattle.drain.specs.Rounding.{AreAnswered, ArePut, IsGiven, IsRounding, IsNext, IsAnswer};
 
-use crate::draining::round;
+use crate::changes::{Change, Entry, Run};
 use crate::entering::Lent;
-use crate::tile_state::{Due, TileAnswer};
+use crate::first::first_round;
+use crate::looking::NO_COUNT;
+use crate::lowering::lower_tile;
+use crate::runs::{runs_of, sort};
 use std::alloc::{AllocError, Global};
 use std::marker::Model;
 use std::sync::Wait;
@@ -20,326 +23,207 @@ use std::thread::Threads;
 use terrain::{Height, Place};
 use tile_jobs::{Gate, JobFault, Work};
 use tile_maps::Crew;
-use tiles::{Bounds, TileView, Tiling};
+use tiles::Tiling;
 
-/// What the jobs of a round work on: filled heights, the counts so far, and what is left to do of each tile.
+/// What the jobs of a round work on: filled heights, the counts so far, and what comes into the tile of each.
 #[derive(Drop)]
 struct Round<'a> {
     tiling: &'a Tiling,
     levels: &'a [Option<Height>],
     steps: &'a [Option<u32>],
-    due: &'a [Due],
+    entries: &'a [Entry],
+    runs: &'a [Run],
 }
 
 impl<'a> Model for Round<'a> {
-    ghost use Rattle.drain.specs.Rounds.{Rounding, IsRounding};
+    ghost use Rattle.drain.specs.Rounding.{Jobs, AreJobs};
 
-    ghost Value = { Rounding };
+    ghost Value = { Jobs };
 
-    ghost view = { λ r. record { cutting = r.tiling.now; levels = r.levels.now; steps = r.steps.now; due = r.due.now } };
+    ghost view = { λ r. record { rounding = record { cutting = r.tiling.now; levels = r.levels.now; steps = r.steps.now; entries = r.entries.now }; runs = r.runs.now } };
 
-    ghost invariant = { λ r. IsRounding (record { cutting = r.tiling.now; levels = r.levels.now; steps = r.steps.now; due = r.due.now }) };
-}
-
-/// Whether a row of a tile's list differs from what the view has there.
-fn row_differs(old: &[Option<u32>], new: &[Option<u32>], from: usize) -> bool
-    requires { from + length old.now ≤ length new.now }
-    ensures { MatchBool result
-        ((k : ℕ) × (k < length old.now) × (slice_index_or new.now (from + k) None ≢ slice_index_or old.now k None))
-        ((k : ℕ) → k < length old.now → slice_index_or new.now (from + k) None ≡ slice_index_or old.now k None) }
-{
-    for (k, count) in old.iter().enumerate() {
-        if new[from + k] != *count {
-            return true;
-        }
-    }
-    false
-}
-
-/// Whether a tile's list differs from what the view has.
-#[tactic(auto, using(tiles::proofs::Cut::in_bounds))]
-fn differs(steps: &TileView<'_, Option<u32>>, list: &[Option<u32>]) -> bool
-    requires { length list.now ≡ cell_count steps.now.cutting steps.now.tile }
-    ensures { MatchBool result
-        ((p : Place) × IsInTile steps.now.cutting steps.now.tile p
-        × (tile_entry steps.now.cutting steps.now.tile list.now p ≢ entry_at steps.now.cutting.cols steps.now.cutting.rows steps.now.cells p))
-        ((p : Place) → IsInTile steps.now.cutting steps.now.tile p →
-        tile_entry steps.now.cutting steps.now.tile list.now p ≡ entry_at steps.now.cutting.cols steps.now.cutting.rows steps.now.cells p) }
-{
-    let bounds = steps.bounds();
-    for row in 0..bounds.rows {
-        if row_differs(steps.row(row), list, row as usize * bounds.cols as usize) {
-            return true;
-        }
-    }
-    false
-}
-
-impl<'a> Round<'a> {
-    ghost use Rattle.drain.specs.Rounds.{IsTileStill, levels_of};
-
-    /// Whether a round may change something of a tile.
-    fn is_due(&self, tile: u32) -> bool
-        requires { tile < tile_count self.now.cutting }
-        ensures { OnFalse result (IsTileStill (levels_of self.now) self.now.cutting tile self.now.steps) }
-    {
-        match self.due[tile as usize] {
-            Due::Search => true,
-            Due::IfEntered => {
-                let lent = Lent {
-                    tiling: self.tiling,
-                    levels: self.levels,
-                    steps: self.steps,
-                };
-                lent.is_entered(tile)
-            }
-            Due::Nothing => false,
-        }
-    }
+    ghost invariant = { λ r. AreJobs (record { rounding = record { cutting = r.tiling.now; levels = r.levels.now; steps = r.steps.now; entries = r.entries.now }; runs = r.runs.now }) };
 }
 
 impl<'a> Work for Round<'a> {
-    ghost use Rattle.tiles.specs.Cutting.{tile_count};
-    ghost use Rattle.drain.specs.Rounds.{IsTileAnswer, levels_of};
+    ghost use Rattle.std.specs.Prelude.{length};
+    ghost use Rattle.drain.specs.Rounding.{IsAnswer};
 
-    type Out = TileAnswer;
+    type Out = Vec<Change>;
 
-    ghost most = { λ r. tile_count r.cutting };
+    ghost most = { λ r. length r.runs };
 
-    ghost gives = { λ r tile out. IsTileAnswer (levels_of r) r.cutting tile r.steps out };
+    ghost gives = { λ r job out. IsAnswer r job out.items };
 
-    fn run(&self, alloc: Global, job: u32) -> Result<TileAnswer, JobFault> {
-        if !self.is_due(job) {
-            return Ok(TileAnswer::Still);
-        }
-        let levels = self.tiling.view(self.levels, job);
-        let steps = self.tiling.view(self.steps, job);
-        let list = round(alloc, &levels, &steps)?;
-        if differs(&steps, &list) {
-            Ok(TileAnswer::Changed(list))
-        } else {
-            Ok(TileAnswer::Still)
-        }
+    fn run(&self, alloc: Global, job: u32) -> Result<Vec<Change>, JobFault> {
+        let lent = Lent {
+            tiling: self.tiling,
+            levels: self.levels,
+            steps: self.steps,
+        };
+        let changes = lower_tile(alloc, &lent, self.entries, self.runs[job as usize])?;
+        Ok(changes)
     }
 }
 
-/// Writes a row of a tile's list into the counts of the grid.
-fn put_row(steps: &mut [Option<u32>], at: usize, list: &[Option<u32>], from: usize, count: usize)
-    requires steps { at + count ≤ length steps.old }
-    requires list { from + count ≤ length list.now }
-    ensures written { (k : ℕ) → k < count → slice_index_or steps.new (at + k) None ≡ slice_index_or list.now (from + k) None }
-    ensures kept { (i : ℕ) → (i < at) ⊎ (at + count ≤ i) → slice_index_or steps.new i None ≡ slice_index_or steps.old i None }
-{
-    for k in 0..count {
-        steps[at + k] = list[from + k];
-    }
-}
-
-/// Writes a tile's list into the counts of the grid.
-#[tactic(auto, using(tiles::proofs::TileRows::row_in_grid, tiles::proofs::TileRows::row_in_list, tiles::proofs::TileRows::none_written, tiles::proofs::TileRows::tile_written))]
-fn put_tile(tiling: &Tiling, steps: &mut [Option<u32>], tile: u32, list: &[Option<u32>])
-    requires steps { length steps.old ≡ tiling.now.cols * tiling.now.rows }
-    requires tile { tile < tile_count tiling.now }
-    requires list { length list.now ≡ cell_count tiling.now tile }
-    ensures written { (p : Place) → IsInTile tiling.now tile p →
-        entry_at tiling.now.cols tiling.now.rows steps.new p ≡ tile_entry tiling.now tile list.now p }
-    ensures kept { (p : Place) → IsWithin tiling.now p → tile_of_place tiling.now p ≢ tile →
-        entry_at tiling.now.cols tiling.now.rows steps.new p ≡ entry_at tiling.now.cols tiling.now.rows steps.old p }
-{
-    let Bounds {
-        top,
-        left,
-        rows,
-        cols,
-    } = tiling.bounds(tile);
-    for row in 0..rows {
-        let at = (top + row) as usize * tiling.cols() as usize + left as usize;
-        put_row(steps, at, list, row as usize * cols as usize, cols as usize);
-    }
-}
-
-/// Writes what a tile's job answered into the counts of the grid.
-fn put_answer(tiling: &Tiling, steps: &mut [Option<u32>], tile: u32, out: &TileAnswer)
-    requires steps { length steps.old ≡ tiling.now.cols * tiling.now.rows }
-    requires tile { tile < tile_count tiling.now }
-    requires sized { IsSized tiling.now tile out.now }
-    ensures told { (p : Place) → IsInTile tiling.now tile p →
-        entry_at tiling.now.cols tiling.now.rows steps.new p ≡ told_by tiling.now steps.old p out.now }
-    ensures kept { (p : Place) → IsWithin tiling.now p → tile_of_place tiling.now p ≢ tile →
-        entry_at tiling.now.cols tiling.now.rows steps.new p ≡ entry_at tiling.now.cols tiling.now.rows steps.old p }
-{
-    if let TileAnswer::Changed(list) = out {
-        put_tile(tiling, steps, tile, list);
-    }
-}
-
-/// Writes back what changed.
-fn put_all(tiling: &Tiling, steps: &mut [Option<u32>], outs: &[TileAnswer])
-    requires steps { length steps.old ≡ tiling.now.cols * tiling.now.rows }
-    requires outs { length outs.now ≡ tile_count tiling.now }
-    requires sized { AreSized tiling.now outs.now }
-    ensures { (p : Place) → IsWithin tiling.now p → entry_at tiling.now.cols tiling.now.rows steps.new p ≡ told tiling.now steps.old outs.now p }
-{
-    for tile in 0..tiling.tiles() {
-        put_answer(tiling, steps, tile, &outs[tile as usize]);
-    }
-}
-
-/// Whether a tile changed.
+/// Puts a count in the place of a greater one.
 #[inline(always)]
-fn is_changed(out: &TileAnswer) -> bool
-    ensures { result ≡ is_changed out.now }
+fn put(tiling: &Tiling, steps: &mut [Option<u32>], change: Change)
+    requires steps { length steps.old ≡ tiling.now.cols * tiling.now.rows }
+    requires place { IsWithin tiling.now change.place }
+    ensures { ArePut tiling.now.cols steps.old steps.new (λ x. x ≡ change) }
 {
-    match out {
-        TileAnswer::Still => false,
-        TileAnswer::Changed(_) => true,
+    let Place { row, col } = change.place;
+    let index = row as usize * tiling.cols() as usize + col as usize;
+    if change.count < steps[index].unwrap_or(NO_COUNT) {
+        steps[index] = Some(change.count);
     }
 }
 
-/// Whether a round changed something.
-fn any_changed(outs: &[TileAnswer]) -> bool
-    ensures { MatchBool result
-        ((tile : ℕ) × (tile < length outs.now) × (is_changed (slice_index_or outs.now tile Still) ≡ true))
-        ((tile : ℕ) → tile < length outs.now → is_changed (slice_index_or outs.now tile Still) ≡ false) }
+/// Puts what one job answered into the counts of the grid.
+fn put_changes(tiling: &Tiling, steps: &mut [Option<u32>], changes: &[Change])
+    requires steps { length steps.old ≡ tiling.now.cols * tiling.now.rows }
+    requires changes { (x : Change) → IsAmong changes.now x → IsWithin tiling.now x.place }
+    ensures { ArePut tiling.now.cols steps.old steps.new (IsAmong changes.now) }
 {
-    for out in outs {
-        if is_changed(out) {
-            return true;
-        }
-    }
-    false
-}
-
-/// Whether the tile of a place changed. Rows and columns are counted from 1 here; 0 is off the grid.
-#[inline(always)]
-fn changed_near(tiling: &Tiling, outs: &[TileAnswer], row: u32, col: u32) -> bool
-    requires { length outs.now ≡ tile_count tiling.now }
-    ensures { OnFalse result ((p : Place) → IsWithin tiling.now p → p.row + 1 ≡ row → p.col + 1 ≡ col →
-        is_changed (slice_index_or outs.now (tile_of_place tiling.now p) Still) ≡ false) }
-{
-    if row == 0 || col == 0 || row > tiling.rows() || col > tiling.cols() {
-        return false;
-    }
-    let tile = tiling.tile_of(Place {
-        row: row - 1,
-        col: col - 1,
-    });
-    is_changed(&outs[tile as usize])
-}
-
-/// Whether a tile changed that has a cell in this row, in a tile's columns or beside them.
-#[inline(always)]
-fn changed_along(tiling: &Tiling, outs: &[TileAnswer], bounds: Bounds, row: u32) -> bool
-    requires outs { length outs.now ≡ tile_count tiling.now }
-    requires bounds { IsBoundsOf tiling.now bounds }
-    requires inside { AreBounds tiling.now bounds }
-    requires lawful { IsCutting tiling.now }
-    ensures { OnFalse result ((p : Place) → IsWithin tiling.now p → p.row + 1 ≡ row → bounds.left ≤ p.col + 1 → p.col ≤ bounds.left + bounds.cols →
-        is_changed (slice_index_or outs.now (tile_of_place tiling.now p) Still) ≡ false) }
-{
-    if changed_near(tiling, outs, row, bounds.left) {
-        return true;
-    }
-    if changed_near(tiling, outs, row, bounds.left + 1) {
-        return true;
-    }
-    changed_near(tiling, outs, row, bounds.left + bounds.cols + 1)
-}
-
-/// Whether a tile changed or one that it touches.
-fn is_touched(tiling: &Tiling, outs: &[TileAnswer], tile: u32) -> bool
-    requires outs { length outs.now ≡ tile_count tiling.now }
-    requires tile { tile < tile_count tiling.now }
-    ensures { OnFalse result (IsUntouched tiling.now outs.now tile) }
-{
-    let bounds = tiling.bounds(tile);
-    if changed_along(tiling, outs, bounds, bounds.top) {
-        return true;
-    }
-    if changed_along(tiling, outs, bounds, bounds.top + 1) {
-        return true;
-    }
-    changed_along(tiling, outs, bounds, bounds.top + bounds.rows + 1)
-}
-
-/// What is left to do of a tile: nothing, if neither it nor one that it touches changed.
-fn due_of(tiling: &Tiling, outs: &[TileAnswer], tile: u32) -> Due
-    requires outs { length outs.now ≡ tile_count tiling.now }
-    requires tile { tile < tile_count tiling.now }
-    ensures { result ≡ Nothing → IsUntouched tiling.now outs.now tile }
-{
-    if is_touched(tiling, outs, tile) {
-        Due::IfEntered
-    } else {
-        Due::Nothing
+    for change in changes {
+        put(tiling, steps, *change);
     }
 }
 
-/// What is left to do of each tile.
-fn next_due(alloc: Global, tiling: &Tiling, outs: &[TileAnswer]) -> Result<Vec<Due>, AllocError>
-    requires { length outs.now ≡ tile_count tiling.now }
-    ensures size { IfOk result (λ v. length v.items ≡ tile_count tiling.now) }
-    ensures untouched { IfOk result (λ v. (tile : ℕ) → tile < tile_count tiling.now → slice_index_or v.items tile Search ≡ Nothing → IsUntouched tiling.now outs.now tile) }
+/// Puts what the jobs answered into the counts of the grid.
+fn put_all(tiling: &Tiling, steps: &mut [Option<u32>], outs: &[Vec<Change>])
+    requires steps { length steps.old ≡ tiling.now.cols * tiling.now.rows }
+    requires changes { (x : Change) → IsGiven outs.now x → IsWithin tiling.now x.place }
+    ensures { ArePut tiling.now.cols steps.old steps.new (IsGiven outs.now) }
 {
-    let mut due = Vec::with_capacity(alloc, outs.len())?;
-    for tile in 0..tiling.tiles() {
-        due.push(due_of(tiling, outs, tile))?;
+    for changes in outs {
+        put_changes(tiling, steps, changes);
     }
-    Ok(due)
 }
 
-/// What the jobs of a round answer, in tile order.
+/// What comes out of all tiles.
+fn entries_of_all(alloc: Global, lent: &Lent<'_>) -> Result<Vec<Entry>, AllocError>
+    requires { AreCounting (lent_terrain lent.now.tiling.now lent.now.levels.now) lent.now.steps.now }
+    ensures { IfOk result (λ v. AreNoted (lent_terrain lent.now.tiling.now lent.now.levels.now) lent.now.tiling.now lent.now.steps.now
+        (λ p q. IsWithin lent.now.tiling.now q × (tile_of_place lent.now.tiling.now p ≢ tile_of_place lent.now.tiling.now q)) [] v.items) }
+{
+    let mut entries = Vec::new(alloc);
+    for tile in 0..lent.tiling.tiles() {
+        lent.note_rim(tile, &mut entries)?;
+    }
+    Ok(entries)
+}
+
+/// What comes out of tiles by the cells that changed.
+fn entries_of_changed(
+    alloc: Global,
+    lent: &Lent<'_>,
+    outs: &[Vec<Change>],
+) -> Result<Vec<Entry>, AllocError>
+    requires counting { AreCounting (lent_terrain lent.now.tiling.now lent.now.levels.now) lent.now.steps.now }
+    requires changes { (x : Change) → IsGiven outs.now x → IsWithin lent.now.tiling.now x.place }
+    ensures { IfOk result (λ v. AreNoted (lent_terrain lent.now.tiling.now lent.now.levels.now) lent.now.tiling.now lent.now.steps.now
+        (λ p q. (x : Change) × IsGiven outs.now x × (x.place ≡ q) × (tile_of_place lent.now.tiling.now p ≢ tile_of_place lent.now.tiling.now q)) [] v.items) }
+{
+    let mut entries = Vec::new(alloc);
+    for changes in outs {
+        lent.note_changes(changes, &mut entries)?;
+    }
+    Ok(entries)
+}
+
+/// What the jobs of a round answer. No more workers are started than there are jobs.
 fn answers<R: Threads + Wait + Sync, G: Gate + Sync>(
     crew: &Crew<'_, R, G>,
     round: &Round<'_>,
-) -> Result<Vec<TileAnswer>, JobFault>
-    ensures answered { IfOk result (λ outs. AreAnswered round.now outs.items) }
+) -> Result<Vec<Vec<Change>>, JobFault>
+    requires jobs { (1 ≤ length round.now.runs) × (length round.now.runs ≤ 65536) }
+    requires workers { (1 ≤ crew.now.workers) × (crew.now.workers ≤ 64) }
+    ensures len { IfOk result (λ v. vec_len v ≡ length round.now.runs) }
+    ensures answered { IfOk result (λ v. (job : ℕ) (list : Vec Change Global) → slice_get v.items job ≡ Some list → IsAnswer round.now job list.items) }
     ensures workers { RefusesWorkers crew.now.workers result }
 {
-    crew.run(round, round.tiling.tiles())
+    let jobs = round.runs.len() as u32;
+    let few = Crew {
+        rt: crew.rt,
+        alloc: crew.alloc,
+        workers: crew.workers.min(jobs),
+        gate: crew.gate,
+    };
+    few.run(round, jobs)
 }
 
-/// The counts of a grid on their way, and what the next round has to do.
+/// What the jobs of a round answer, one for each tile into which something comes.
+fn answers_of<R: Threads + Wait + Sync, G: Gate + Sync>(
+    crew: &Crew<'_, R, G>,
+    lent: &Lent<'_>,
+    entries: &[Entry],
+) -> Result<Vec<Vec<Change>>, JobFault>
+    requires rounding { IsRounding (record { cutting = lent.now.tiling.now; levels = lent.now.levels.now; steps = lent.now.steps.now; entries = entries.now }) }
+    requires some { 0 < length entries.now }
+    requires workers { (1 ≤ crew.now.workers) × (crew.now.workers ≤ 64) }
+    ensures answered { IfOk result (λ v. AreAnswered (record { cutting = lent.now.tiling.now; levels = lent.now.levels.now; steps = lent.now.steps.now; entries = entries.now }) v.items) }
+    ensures workers { RefusesWorkers crew.now.workers result }
+{
+    let runs = runs_of(crew.alloc, entries)?;
+    let round = Round {
+        tiling: lent.tiling,
+        levels: lent.levels,
+        steps: lent.steps,
+        entries,
+        runs: &runs,
+    };
+    let outs = answers(crew, &round)?;
+    Ok(outs)
+}
+
+/// The counts of a grid on their way, and what comes from tile to tile, in the order of the tiles.
 #[derive(Drop)]
 struct Counting<'a> {
     tiling: &'a Tiling,
     levels: &'a [Option<Height>],
     steps: Vec<Option<u32>>,
-    due: Vec<Due>,
+    entries: Vec<Entry>,
 }
 
 impl<'a> Counting<'a> {
-    ghost use Rattle.drain.specs.Rounds.{rounding_of};
+    ghost use Rattle.drain.specs.Rounding.{rounding_of};
 
-    /// One round over all tiles; whether it changed something.
+    /// One round over the tiles into which a count comes.
     fn one_round<R: Threads + Wait + Sync, G: Gate + Sync>(
         &mut self,
         crew: &Crew<'_, R, G>,
-    ) -> Result<bool, JobFault>
-        requires { IsRounding (rounding_of self.old) }
-        ensures next { IfOk result (λ more. IsNext (rounding_of self.old) (rounding_of self.new) more) }
+    ) -> Result<(), JobFault>
+        requires rounding { IsRounding (rounding_of self.old) }
+        requires some { 0 < vec_len self.old.entries }
+        requires workers { (1 ≤ crew.now.workers) × (crew.now.workers ≤ 64) }
+        ensures next { OnOk result (IsNext (rounding_of self.old) (rounding_of self.new)) }
         ensures ground { (self.new.tiling ≡ self.old.tiling) × (self.new.levels ≡ self.old.levels) }
         ensures workers { RefusesWorkers crew.now.workers result }
     {
         let outs = {
-            let round = Round {
+            let lent = Lent {
                 tiling: self.tiling,
                 levels: self.levels,
                 steps: &self.steps,
-                due: &self.due,
             };
-            answers(crew, &round)?
+            answers_of(crew, &lent, &self.entries)?
         };
-        if !any_changed(&outs) {
-            return Ok(false);
-        }
-        self.due = next_due(crew.alloc, self.tiling, &outs)?;
         put_all(self.tiling, &mut self.steps, &outs);
-        Ok(true)
+        let lent = Lent {
+            tiling: self.tiling,
+            levels: self.levels,
+            steps: &self.steps,
+        };
+        let mut entries = entries_of_changed(crew.alloc, &lent, &outs)?;
+        sort(&mut entries)?;
+        self.entries = entries;
+        Ok(())
     }
 }
 
-/// Rounds over all tiles, each from the counts that the one before put back, until one changes nothing.
+/// Rounds over tiles, each from the counts that the one before put back, until none comes into any tile.
 pub(crate) fn settle<R: Threads + Wait + Sync, G: Gate + Sync>(
     crew: &Crew<'_, R, G>,
     tiling: &Tiling,
@@ -352,13 +236,24 @@ pub(crate) fn settle<R: Threads + Wait + Sync, G: Gate + Sync>(
     ensures settled { IfOk result (λ s. AreSettled tiling.now (lent_terrain tiling.now levels.now) steps.items s.items) }
     ensures workers { RefusesWorkers crew.now.workers result }
 {
-    let due = vec![in crew.alloc; Due::Search; tiling.tiles() as usize]?;
+    let steps = first_round(crew, tiling, levels, steps)?;
+    let mut entries = entries_of_all(
+        crew.alloc,
+        &Lent {
+            tiling,
+            levels,
+            steps: &steps,
+        },
+    )?;
+    sort(&mut entries)?;
     let mut counting = Counting {
         tiling,
         levels,
         steps,
-        due,
+        entries,
     };
-    while counting.one_round(crew)? {}
+    while !counting.entries.is_empty() {
+        counting.one_round(crew)?;
+    }
     Ok(counting.steps)
 }

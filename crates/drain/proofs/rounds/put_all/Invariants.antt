@@ -1,12 +1,8 @@
-use Rattle.std.proofs.Common.{◌≡◌, ◌<◌, ◌≤◌}
-use Rattle.terrain.specs.Neighbours.{entry_at}
-use Rattle.terrain.specs.declared.place.Place.{Place}
-use Rattle.tiles.specs.Cutting.{IsWithin, tile_of_place}
-use Rattle.drain.specs.Rounds.{told}
+use Rattle.std.proofs.Common.{◌≡◌, ◌<◌, ℕ, Some, Vec, Global, slice_get}
+use Rattle.drain.specs.declared.changes.Change.{Change}
+use Rattle.drain.specs.Lowering.{IsAmong}
+use Rattle.drain.specs.Rounding.{ArePut}
 use Rattle.drain.proofs.rounds.put_all.Given as goal
 
-abbrev pub invariant-loop-tile : goal.invariant-loop-tile
-invariant-loop-tile l = record {
-  told : (p : Place) → IsWithin l.tiling p → tile_of_place l.tiling p < l.tile → entry_at l.tiling.cols l.tiling.rows l.steps p ≡ told l.tiling l.initial.steps l.outs p;
-  rest : (p : Place) → IsWithin l.tiling p → l.tile ≤ tile_of_place l.tiling p → entry_at l.tiling.cols l.tiling.rows l.steps p ≡ entry_at l.tiling.cols l.tiling.rows l.initial.steps p;
-}
+abbrev pub invariant-loop-changes : goal.invariant-loop-changes
+invariant-loop-changes l = ArePut l.tiling.cols l.initial.steps l.steps (λ x. (j : ℕ) × (list : Vec Change Global) × (j < l.changes-index) × (slice_get l.outs j ≡ Some list) × IsAmong list.items x)

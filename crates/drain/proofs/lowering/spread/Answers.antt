@@ -1,0 +1,45 @@
+use Rattle.std.proofs.Common.{◌-◌, ◌<◌, inl, inr, arith}
+use Rattle.std.proofs.lemmas.Bool.{cases_eq}
+use Rattle.tiles.specs.Cutting.{tile_of_place}
+use Rattle.drain.specs.Entering.{lent_terrain}
+use Rattle.drain.proofs.Lowered.{change_low, own_bounds, reached_none, reached_then, reached_all}
+use Rattle.drain.proofs.lowering.spread.Goals as goal
+
+pub reach_along-requires-clause-from : goal.reach_along-requires-clause-from
+reach_along-requires-clause-from c =
+    let v = c.args.lent.now.tiling.now in
+    change_low (lent_terrain v c.args.lent.now.levels.now) v (tile_of_place v c.args.from.place) c.args.lent.now.steps.now _ _ c.args.from c.loop-row.invariant.low c.requires.from
+
+pub reach_along-requires-clause-row : goal.reach_along-requires-clause-row
+reach_along-requires-clause-row c =
+    let own = own_bounds c.args.lent.now.tiling.now c.args.from.place c.args.from.place c.args.bounds c.args.lent.now.lawful c.requires.bounds c.requires.from.inside in
+    (omega (arith, own), omega (arith, own), omega (arith, own), omega (arith, own))
+
+pub reach_along-requires-clause-low : goal.reach_along-requires-clause-low
+reach_along-requires-clause-low c = λ k. omega (arith, c.loop-row.invariant.low k, c.requires.low k)
+
+pub loop-row-init : goal.loop-row-init
+loop-row-init c =
+    let v = c.args.lent.now.tiling.now in
+    reached_none _ _ _ _ _ _ _ (λ p done.
+    let own = own_bounds v c.args.from.place p c.args.bounds c.args.lent.now.lawful c.requires.bounds done.0 in
+    let low : p.row < c.max-first.result - 1 = done.3 in omega (arith, own, low, done.1.row_up, c.max-first.ensures))
+
+pub loop-row-preserved : goal.loop-row-preserved
+loop-row-preserved c =
+    reached_then _ _ _ _ _ _ _ _ _ _ _ (λ p done. elim (cases_eq p.row c.loop-row.row) [
+      | inl e ↦ inr (done.0, done.1, done.2, e)
+      | inr ne ↦ inl (done.0, done.1, done.2, omega (arith, done.3))
+    ]) c.loop-row.invariant c.in_ok-reach_along.ensures
+
+pub returns : goal.returns
+returns c =
+    let v = c.args.lent.now.tiling.now in
+    reached_all _ _ _ _ _ _ _ _ _ (λ p done.
+    let own = own_bounds v c.args.from.place p c.args.bounds c.args.lent.now.lawful c.requires.bounds done.0 in
+    (done.0, done.1, done.2, omega (arith, own, done.1.row_down))) c.loop-row.invariant
+
+pub overflow_add-bounds : goal.overflow_add-bounds
+overflow_add-bounds c =
+    let own = own_bounds c.args.lent.now.tiling.now c.args.from.place c.args.from.place c.args.bounds c.args.lent.now.lawful c.requires.bounds c.requires.from.inside in
+    omega (arith, own, c.requires.from.inside.0.0, c.args.lent.now.lawful.few_rows)

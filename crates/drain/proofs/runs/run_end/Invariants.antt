@@ -1,0 +1,6 @@
+use Rattle.std.proofs.Common.{◌≡◌, ◌≤◌, ◌<◌, ℕ, Some, slice_get}
+use Rattle.drain.specs.declared.changes.Entry.{Entry}
+use Rattle.drain.proofs.runs.run_end.Given as goal
+
+abbrev pub invariant-loop-k : goal.invariant-loop-k
+invariant-loop-k l = (k : ℕ) (e f : Entry) → l.from ≤ k → k < l.k → slice_get l.entries k ≡ Some e → slice_get l.entries l.from ≡ Some f → e.tile ≡ f.tile

@@ -1,0 +1,83 @@
+-- How the counts of one tile are made less by those that come into it. Counts are told by the index of their cell.
+use Rattle.std.specs.Prelude.{◌≡◌, ℕ, zero, suc, ◌+◌, ◌*◌, ◌^◌, ◌<◌, ◌≤◌, ◌⊎◌, List, length, Option, None, Some, nat_eq, slice_get, slice_index_or, unwrap_or}
+use Rattle.std.specs.HashMap.{get}
+use Rattle.terrain.specs.Raster.{Terrain}
+use Rattle.terrain.specs.Neighbours.{height_at, index_of, IsNeighbour}
+use Rattle.terrain.specs.declared.place.Place.{Place}
+use Rattle.tiles.specs.Cutting.{Cutting, IsWithin, IsInTile}
+use Rattle.drain.specs.Rounds.{IsLent, IsWalked}
+use Rattle.drain.specs.declared.changes.Change.{Change}
+use Rattle.drain.specs.declared.changes.Entry.{Entry}
+use Rattle.drain.specs.declared.lowering.Lowered.{Lowered}
+
+-- The element stands in the list.
+abbrev pub IsAmong : {X : Type 0} → List X → X → Type 0
+IsAmong xs x = (k : ℕ) × (slice_get xs k ≡ Some x)
+
+-- Neighbours of one height.
+pub record AreLevel (t : Terrain) (p q : Place) : Type 0 where
+  pub next : IsNeighbour t p q
+  pub level : height_at t q ≡ height_at t p
+
+-- A count of a list in row order; one more than the greatest where none is known.
+abbrev pub count_of : List (Option ℕ) → ℕ → ℕ
+count_of steps k = unwrap_or (slice_index_or steps k None) (2 ^ 24)
+
+-- The counts that a search has come to, over those that it was lent.
+abbrev pub counts_in : List (Option ℕ) → Lowered → ℕ → ℕ
+counts_in steps l k = unwrap_or (get nat_eq l.counts k) (count_of steps k)
+
+-- The counts below an index, added up.
+unfoldable pub total : ℕ → (ℕ → ℕ) → ℕ
+total zero counts = 0
+total (suc n) counts = counts n + total n counts
+
+-- Inside the tile no count would be made less by a neighbour's.
+pub record IsEvenInside (t : Terrain) (c : Cutting) (tile : ℕ) (counts : ℕ → ℕ) : Type 0 where
+  pub within : (p q : Place) → IsInTile c tile p → IsInTile c tile q → AreLevel t p q → counts (index_of c.cols p) ≤ counts (index_of c.cols q) + 1
+
+-- A cell of the tile gets less than it was lent, the length of a walk, and it ends with no more.
+pub record IsChange (t : Terrain) (c : Cutting) (tile : ℕ) (steps : List (Option ℕ)) (counts : ℕ → ℕ) (x : Change) : Type 0 where
+  pub inside : IsInTile c tile x.place
+  pub walked : IsWalked (IsLent t steps) t x.place x.count
+  pub less : x.count < count_of steps (index_of c.cols x.place)
+  pub least : counts (index_of c.cols x.place) ≤ x.count
+
+-- The counts differ from those that were lent by these changes alone.
+pub record IsLowered (t : Terrain) (c : Cutting) (tile : ℕ) (steps : List (Option ℕ)) (counts : ℕ → ℕ) (changes : List Change) : Type 0 where
+  pub low : (k : ℕ) → counts k ≤ count_of steps k
+  pub told : (p : Place) → IsWithin c p → (counts (index_of c.cols p) ≡ count_of steps (index_of c.cols p))
+      ⊎ IsAmong changes (record { place = p; count = counts (index_of c.cols p) })
+  pub each : (x : Change) → IsAmong changes x → IsChange t c tile steps counts x
+
+-- A change tells what a place has come to, and stands in the list from a place on.
+abbrev pub IsTold : Cutting → List (Option ℕ) → Lowered → ℕ → Place → Type 0
+IsTold c steps l from p = (k : ℕ) × (from ≤ k) × (slice_get l.changes.items k ≡ Some (record { place = p; count = counts_in steps l (index_of c.cols p) }))
+
+-- How far a search has come: some places have at most a bound, and the changes since are told.
+pub record IsReached (t : Terrain) (c : Cutting) (tile : ℕ) (steps : List (Option ℕ)) (Done : Place → Type 0) (bound : ℕ) (old new : Lowered) : Type 0 where
+  pub low : (k : ℕ) → counts_in steps new k ≤ counts_in steps old k
+  pub near : (p : Place) → Done p → counts_in steps new (index_of c.cols p) ≤ bound
+  pub longer : length old.changes.items ≤ length new.changes.items
+  pub kept : (k : ℕ) → k < length old.changes.items → slice_get new.changes.items k ≡ slice_get old.changes.items k
+  pub told : (p : Place) → IsWithin c p → (counts_in steps new (index_of c.cols p) ≡ counts_in steps old (index_of c.cols p))
+      ⊎ IsTold c steps new (length old.changes.items) p
+  pub added : (k : ℕ) (x : Change) → length old.changes.items ≤ k → slice_get new.changes.items k ≡ Some x → IsChange t c tile steps (counts_in steps new) x
+  -- each that was added took something off the counts
+  pub left : length new.changes.items + total (c.cols * c.rows) (counts_in steps new) ≤ length old.changes.items + total (c.cols * c.rows) (counts_in steps old)
+
+-- Inside the tile no count would be made less by a neighbour's, but where that stands in the list from a place on.
+pub record IsEvenBut (t : Terrain) (c : Cutting) (tile : ℕ) (steps : List (Option ℕ)) (l : Lowered) (from : ℕ) : Type 0 where
+  pub within : (p q : Place) → IsInTile c tile p → IsInTile c tile q → AreLevel t p q →
+      (counts_in steps l (index_of c.cols p) ≤ counts_in steps l (index_of c.cols q) + 1) ⊎ IsTold c steps l from q
+
+-- Nothing of the tile has more than these entries bring.
+pub record IsEntered (c : Cutting) (entries : List Entry) (from end : ℕ) (counts : ℕ → ℕ) : Type 0 where
+  pub each : (k : ℕ) (e : Entry) → from ≤ k → k < end → slice_get entries k ≡ Some e → counts (index_of c.cols e.change.place) ≤ e.change.count
+
+-- What the job of a tile answers: as many changes as make it even inside, after its entries came in.
+pub record IsTileAnswer (t : Terrain) (c : Cutting) (tile : ℕ) (steps : List (Option ℕ)) (entries : List Entry) (from end : ℕ) (changes : List Change) : Type 0 where
+  pub counts : ℕ → ℕ
+  pub lowered : IsLowered t c tile steps counts changes
+  pub even : IsEvenInside t c tile counts
+  pub entered : IsEntered c entries from end counts

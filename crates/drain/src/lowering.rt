@@ -1,0 +1,170 @@
+// The search that goes on from what comes into a tile, over counts that others share.
+ghost use Rattle.std.specs.Prelude.{◌≡◌, ℕ, ◌+◌, ◌*◌, ◌<◌, ◌≤◌, ◌⊎◌, true, false, length, OnOk, IfOk, Some, slice_get};
+ghost use Rattle.std.specs.Bool.{OnFalse};
+ghost use Rattle.terrain.specs.declared.place.Place.{Place};
+ghost use Rattle.terrain.specs.Neighbours.{height_at, index_of, Touches};
+ghost use Rattle.tiles.specs.Cutting.{IsWithin, IsInTile, bounds_of, tile_of_place};
+ghost use Rattle.drain.specs.declared.changes.Entry.{Entry};
+ghost use Rattle.drain.specs.Rounds.{IsLent, IsWalked, AreCounting};
+ghost use Rattle.drain.specs.Entering.{lent_terrain, AreEntries, IsRun};
+ghost use Rattle.drain.specs.Lowering.{IsChange, IsEvenInside, IsReached, IsTileAnswer, count_of, counts_in};
+
+use crate::changes::{Change, Entry, Run};
+use crate::entering::Lent;
+use std::alloc::{AllocError, Global};
+use std::collections::HashMap;
+use terrain::Place;
+use tiles::Bounds;
+
+/// What a search has made less: the count of each such cell by its index, and each change, in turn.
+#[derive(Drop)]
+struct Lowered {
+    counts: HashMap<usize, u32>,
+    changes: Vec<Change>,
+}
+
+impl Lowered {
+    /// The count that a cell has come to.
+    #[inline(always)]
+    fn count(&self, lent: &Lent<'_>, index: usize) -> u32
+        requires { index < lent.now.tiling.now.cols * lent.now.tiling.now.rows }
+        ensures { result ≡ counts_in lent.now.steps.now self.now index }
+    {
+        match self.counts.get(&index) {
+            Some(count) => *count,
+            None => lent.count(index),
+        }
+    }
+}
+
+/// Gives a cell a count, if it has a greater one.
+#[inline(always)]
+fn lower(lent: &Lent<'_>, lowered: &mut Lowered, change: Change) -> Result<(), AllocError>
+    requires counting { let c = lent.now.tiling.now in AreCounting (lent_terrain c lent.now.levels.now) lent.now.steps.now }
+    requires within { IsWithin lent.now.tiling.now change.place }
+    requires walked { let t = lent_terrain lent.now.tiling.now lent.now.levels.now in change.count < counts_in lent.now.steps.now lowered.old (index_of lent.now.tiling.now.cols change.place) →
+        IsWalked (IsLent t lent.now.steps.now) t change.place change.count }
+    requires low { (k : ℕ) → counts_in lent.now.steps.now lowered.old k ≤ count_of lent.now.steps.now k }
+    ensures { let c = lent.now.tiling.now in OnOk result (IsReached (lent_terrain c lent.now.levels.now) c (tile_of_place c change.place) lent.now.steps.now
+        (λ p. p ≡ change.place) change.count lowered.old lowered.new) }
+{
+    let index = lent.index(change.place);
+    if change.count < lowered.count(lent, index) {
+        lowered.counts.insert(index, change.count)?;
+        lowered.changes.push(change)?;
+    }
+    Ok(())
+}
+
+/// Gives a cell beside one of a tile, and in that tile, one more than the count of that, if they are on one level and
+/// it has more.
+#[inline(always)]
+fn reach(lent: &Lent<'_>, lowered: &mut Lowered, from: Change, to: Place) -> Result<(), AllocError>
+    requires counting { let c = lent.now.tiling.now in AreCounting (lent_terrain c lent.now.levels.now) lent.now.steps.now }
+    requires from { let c = lent.now.tiling.now in IsChange (lent_terrain c lent.now.levels.now) c (tile_of_place c from.place) lent.now.steps.now (counts_in lent.now.steps.now lowered.old) from }
+    requires to { IsInTile lent.now.tiling.now (tile_of_place lent.now.tiling.now from.place) to × Touches from.place to }
+    requires low { (k : ℕ) → counts_in lent.now.steps.now lowered.old k ≤ count_of lent.now.steps.now k }
+    ensures { let c = lent.now.tiling.now in let t = lent_terrain c lent.now.levels.now in OnOk result (IsReached t c (tile_of_place c from.place) lent.now.steps.now
+        (λ p. (p ≡ to) × (height_at t p ≡ height_at t from.place)) (from.count + 1) lowered.old lowered.new) }
+{
+    if lent.is_level(from.place, to) {
+        let count = from.count + 1;
+        lower(lent, lowered, Change { place: to, count })?;
+    }
+    Ok(())
+}
+
+/// Does so for the cells of a row.
+#[inline(always)]
+fn reach_along(
+    lent: &Lent<'_>,
+    bounds: Bounds,
+    lowered: &mut Lowered,
+    from: Change,
+    row: u32,
+) -> Result<(), AllocError>
+    requires counting { let c = lent.now.tiling.now in AreCounting (lent_terrain c lent.now.levels.now) lent.now.steps.now }
+    requires from { let c = lent.now.tiling.now in IsChange (lent_terrain c lent.now.levels.now) c (tile_of_place c from.place) lent.now.steps.now (counts_in lent.now.steps.now lowered.old) from }
+    requires bounds { bounds ≡ bounds_of lent.now.tiling.now (tile_of_place lent.now.tiling.now from.place) }
+    requires row { (bounds.top ≤ row) × (row < bounds.top + bounds.rows) × (row ≤ from.place.row + 1) × (from.place.row ≤ row + 1) }
+    requires low { (k : ℕ) → counts_in lent.now.steps.now lowered.old k ≤ count_of lent.now.steps.now k }
+    ensures { let c = lent.now.tiling.now in let t = lent_terrain c lent.now.levels.now in OnOk result (IsReached t c (tile_of_place c from.place) lent.now.steps.now
+        (λ p. IsInTile c (tile_of_place c from.place) p × Touches from.place p × (height_at t p ≡ height_at t from.place) × (p.row ≡ row)) (from.count + 1) lowered.old lowered.new) }
+{
+    let first = from.place.col.max(bounds.left + 1) - 1;
+    let end = (from.place.col + 2).min(bounds.left + bounds.cols);
+    for col in first..end {
+        reach(lent, lowered, from, Place { row, col })?;
+    }
+    Ok(())
+}
+
+/// Does so for the cells around it.
+fn spread(
+    lent: &Lent<'_>,
+    bounds: Bounds,
+    lowered: &mut Lowered,
+    from: Change,
+) -> Result<(), AllocError>
+    requires counting { let c = lent.now.tiling.now in AreCounting (lent_terrain c lent.now.levels.now) lent.now.steps.now }
+    requires from { let c = lent.now.tiling.now in IsChange (lent_terrain c lent.now.levels.now) c (tile_of_place c from.place) lent.now.steps.now (counts_in lent.now.steps.now lowered.old) from }
+    requires bounds { bounds ≡ bounds_of lent.now.tiling.now (tile_of_place lent.now.tiling.now from.place) }
+    requires low { (k : ℕ) → counts_in lent.now.steps.now lowered.old k ≤ count_of lent.now.steps.now k }
+    ensures { let c = lent.now.tiling.now in let t = lent_terrain c lent.now.levels.now in OnOk result (IsReached t c (tile_of_place c from.place) lent.now.steps.now
+        (λ p. IsInTile c (tile_of_place c from.place) p × Touches from.place p × (height_at t p ≡ height_at t from.place)) (from.count + 1) lowered.old lowered.new) }
+{
+    let first = from.place.row.max(bounds.top + 1) - 1;
+    let end = (from.place.row + 2).min(bounds.top + bounds.rows);
+    for row in first..end {
+        reach_along(lent, bounds, lowered, from, row)?;
+    }
+    Ok(())
+}
+
+/// Whether an entry comes in before the next change is spread from. So changes come in the order of their counts,
+/// if entries do.
+#[inline(always)]
+fn comes_first(entry: Entry, changes: &[Change], done: usize) -> bool
+    ensures { OnFalse result (done < length changes.now) }
+{
+    match changes.get(done) {
+        Some(change) => entry.change.count <= change.count.saturating_add(1),
+        None => true,
+    }
+}
+
+/// What the job of a tile answers.
+pub(crate) fn lower_tile(
+    alloc: Global,
+    lent: &Lent<'_>,
+    entries: &[Entry],
+    run: Run,
+) -> Result<Vec<Change>, AllocError>
+    requires counting { let c = lent.now.tiling.now in AreCounting (lent_terrain c lent.now.levels.now) lent.now.steps.now }
+    requires run { IsRun entries.now run }
+    requires entries { let c = lent.now.tiling.now in AreEntries (lent_terrain c lent.now.levels.now) c lent.now.steps.now entries.now }
+    requires even { let c = lent.now.tiling.now in (tile : ℕ) → IsEvenInside (lent_terrain c lent.now.levels.now) c tile (count_of lent.now.steps.now) }
+    ensures { let c = lent.now.tiling.now in IfOk result (λ v. (first : Entry) → slice_get entries.now run.from ≡ Some first →
+        IsTileAnswer (lent_terrain c lent.now.levels.now) c first.tile lent.now.steps.now entries.now run.from run.end v.items) }
+{
+    let first = entries[run.from];
+    let bounds = lent.tiling.bounds(first.tile);
+    let mut lowered = Lowered {
+        counts: HashMap::new(alloc),
+        changes: Vec::new(alloc),
+    };
+    let mut next = run.from;
+    let mut done = 0;
+    while next < run.end || done < lowered.changes.len() {
+        if next < run.end && comes_first(entries[next], &lowered.changes, done) {
+            let entry = entries[next];
+            lower(lent, &mut lowered, entry.change)?;
+            next += 1;
+        } else {
+            let change = lowered.changes[done];
+            spread(lent, bounds, &mut lowered, change)?;
+            done += 1;
+        }
+    }
+    Ok(lowered.changes)
+}
