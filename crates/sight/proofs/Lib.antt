@@ -12,6 +12,13 @@ pub mod Crossings
 pub mod Seen
 -- blocks of cells below the line
 pub mod LowBlocks
+-- rays, and the ramps of the ground that they meet
+pub mod Products
+pub mod Rays
+pub mod Spans
+pub mod Laid
+-- a horizon over all lines so far
+pub mod Passed
 -- observers and refusals
 pub mod Refused
 -- the viewshed

@@ -5,12 +5,15 @@
 //! centres. Earth's curvature and refraction are left out.
 #![tactic(auto)]
 
+mod family;
 pub mod fault;
 mod judging;
 pub mod laws;
 pub mod line;
+mod line_ground;
 pub mod observer;
 mod passing;
+mod sweep;
 mod tile;
 mod tops;
 pub mod viewing;
