@@ -19,6 +19,9 @@ pub mod Spans
 pub mod Laid
 -- a horizon over all lines so far
 pub mod Passed
+-- rays in the order of their slopes, and of their lines
+pub mod Ranking
+pub mod Gathered
 -- observers and refusals
 pub mod Refused
 -- the viewshed

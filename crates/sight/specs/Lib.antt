@@ -3,5 +3,7 @@ pub mod Walk
 pub mod Pace
 pub mod Blocks
 pub mod Sweep
+pub mod Ranks
+pub mod Hiding
 pub mod Refusals
 pub mod Viewed

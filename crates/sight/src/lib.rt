@@ -7,17 +7,20 @@
 
 mod family;
 pub mod fault;
+mod gathering;
 mod judging;
 pub mod laws;
 pub mod line;
 mod line_ground;
 pub mod observer;
 mod passing;
+mod ranks;
 mod sweep;
 mod tile;
 mod tops;
 pub mod viewing;
 mod walk;
+mod window;
 
 pub use fault::SightFault;
 pub use line::sees;
