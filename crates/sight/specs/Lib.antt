@@ -5,5 +5,6 @@ pub mod Blocks
 pub mod Sweep
 pub mod Ranks
 pub mod Hiding
+pub mod Looking
 pub mod Refusals
 pub mod Viewed

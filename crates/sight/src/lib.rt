@@ -12,6 +12,7 @@ mod judging;
 pub mod laws;
 pub mod line;
 mod line_ground;
+mod looking;
 pub mod observer;
 mod passing;
 mod ranks;
