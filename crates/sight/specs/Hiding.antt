@@ -38,3 +38,11 @@ pub record AreRays (f : Family) (w : Window) (marks : List Bool) (n c : ℕ) (ra
   pub sorted : (u v : ℕ) (s t : Target) → u ≤ v → slice_get rays u ≡ Some s → slice_get rays v ≡ Some t → s.line ≤ t.line
   pub whole : (m y : ℕ) → (m < n) ⊎ ((m ≡ n) × (y < c)) → Crosses f w m → IsInRun w.side y → mark_at w (lead_of f m) y marks ≡ true
       → (u : ℕ) × (slice_get rays u ≡ Some (target_at f m y))
+
+-- The height of cell y of line n, None where it has none.
+abbrev pub height_at : List (Option ℤ) → Family → ℕ → ℕ → Option ℤ
+height_at cells f n y = slice_index_or cells (lead_of f n * f.lines.stride + y * f.side.stride) None
+
+-- How much a target, so high above the ground of cell y of line n, is above the eye.
+abbrev pub rise_at : List (Option ℤ) → Family → ℕ → ℕ → ℕ → ℤ
+rise_at cells f height n y = (unwrap_or (height_at cells f n y) (pos 0) +ℤ pos height) -ℤ f.eye

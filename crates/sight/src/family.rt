@@ -64,7 +64,7 @@ fn is_at_centre(target: Target, line: u32, aside: i32) -> bool
 }
 
 #[inline(always)]
-fn height_at(cells: &[Option<Height>], index: usize) -> Option<Height>
+pub(crate) fn height_at(cells: &[Option<Height>], index: usize) -> Option<Height>
     ensures { result ≡ slice_index_or cells.now index None }
 {
     match cells.get(index) {
@@ -107,7 +107,7 @@ impl Family {
 
     /// Where the cell so far aside on a line stands in the list of cells, None where it is past an end of the line.
     #[inline(always)]
-    fn index_at(self, line: u32, aside: i32) -> Option<usize>
+    pub(crate) fn index_at(self, line: u32, aside: i32) -> Option<usize>
         requires family { IsFamily self }
         requires line { IsLine self line }
         requires aside { unsigned_abs aside ≤ 2 ^ 25 }

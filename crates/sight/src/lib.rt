@@ -16,6 +16,7 @@ mod looking;
 pub mod observer;
 mod passing;
 mod ranks;
+mod rising;
 mod sweep;
 mod tile;
 mod tops;
