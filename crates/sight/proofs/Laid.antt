@@ -1,12 +1,11 @@
 -- The ground of a line, laid over the targets piece by piece.
-use Rattle.std.proofs.Common.{arith, refl, sym, ap, subst, ◌∙◌, ◌≡◌, ℕ, ◌+◌, ◌<◌, ◌≤◌, max, ℤ, pos, ◌+ℤ◌, ◌*ℤ◌, ◌<ℤ◌, ◌≤ℤ◌, Bool, true, false, List, [], length, Option, Some, inl, inr}
+use Rattle.std.proofs.Common.{arith, refl, ◌∙◌, ◌≡◌, ℕ, ◌+◌, ◌<◌, ◌≤◌, ℤ, pos, ◌+ℤ◌, List, [], Option, Some, inl, inr}
 use Rattle.std.specs.Prelude.{slice_get}
 use Rattle.std.proofs.lemmas.Bool.{cases_lt}
-use Rattle.std.proofs.lemmas.Option.{same_Some}
 use Rattle.horizons.specs.declared.target.Target.{Target}
 use Rattle.horizons.specs.declared.ramp.Ramp.{Ramp}
 use Rattle.horizons.specs.declared.horizon.Piece.{Piece}
-use Rattle.horizons.specs.Horizons.{IsTarget, AreTargets, IsSlopeUpTo, IsPushed, extent, ramp_at}
+use Rattle.horizons.specs.Horizons.{AreTargets, IsPushed, extent}
 use Rattle.horizons.proofs.Straight.{slope_up}
 use Rattle.sight.specs.Sweep.{IsBefore, AreBefore, Passes, Shows, ShowsBelow}
 use Rattle.sight.specs.declared.family.Family.{Family}

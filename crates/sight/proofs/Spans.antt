@@ -1,16 +1,15 @@
 -- What a span of a line's ground tells of the rays over it.
-use Rattle.std.proofs.Common.{arith, refl, sym, ap, subst, ◌∙◌, ◌≡◌, ◌+◌, ◌-◌, ◌*◌, ◌/◌, ◌^◌, ◌<◌, ◌≤◌, ℕ, ℤ, pos, negsuc, ◌+ℤ◌, ◌-ℤ◌, ◌*ℤ◌, ◌≤ℤ◌, ◌<ℤ◌, int_lt, unsigned_abs, Bool, true, false, List, Option, None, Some, get_or, inl, inr, FitsSigned, w32, w64}
+use Rattle.std.proofs.Common.{arith, refl, sym, ap, ◌∙◌, ◌≡◌, ◌+◌, ◌-◌, ◌*◌, ◌/◌, ◌^◌, ◌<◌, ◌≤◌, ℕ, ℤ, pos, negsuc, ◌+ℤ◌, ◌-ℤ◌, ◌*ℤ◌, ◌≤ℤ◌, ◌<ℤ◌, unsigned_abs, false, List, Option, None, Some, get_or, inl, inr, FitsSigned, w32}
 use borrow.Author.Differences.{up, down}
 use Rattle.std.specs.Int.{int_div_euclid}
-use Rattle.std.proofs.lemmas.Int.{ints, unsigned_abs-mul, fits_signed_mul}
-use Rattle.std.proofs.lemmas.Bool.{cases_lt, cases_Bool}
+use Rattle.std.proofs.lemmas.Int.{ints, unsigned_abs-mul}
+use Rattle.std.proofs.lemmas.Bool.{cases_Bool}
 use Rattle.std.proofs.lemmas.Nat.{mul-le, div-add-mod', mod_below}
 use Rattle.horizons.specs.declared.target.Target.{Target}
-use Rattle.horizons.specs.declared.ramp.Ramp.{Ramp}
-use Rattle.horizons.specs.Horizons.{IsTarget, IsRampAt, IsSlopeUpTo, hides_by, value_at}
+use Rattle.horizons.specs.Horizons.{IsTarget, IsRampAt, hides_by, value_at}
 use Rattle.sight.specs.Sight.{sight}
 use Rattle.sight.specs.Walk.{is_above, whole_at, IsLevel}
-use Rattle.sight.specs.Sweep.{lead_of, aside_of, lead_axis, line_blocks, ramp_of, IsFamily, IsLine, IsRise, Passes, StandsAt, Shows}
+use Rattle.sight.specs.Sweep.{lead_of, lead_axis, line_blocks, ramp_of, IsFamily, IsLine, Passes, StandsAt}
 use Rattle.sight.specs.declared.family.Family.{Family}
 use Rattle.sight.proofs.Products.{sum_times}
 use Rattle.sight.proofs.Toward.{lead_up_is, lead_down_is}

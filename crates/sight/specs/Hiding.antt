@@ -1,8 +1,7 @@
 -- Marks of the cells of a window, and which of them a family hides. No public clause cites it.
-use Rattle.std.specs.Prelude.{◌≡◌, ◌≢◌, ℕ, ◌+◌, ◌-◌, ◌*◌, ◌^◌, ◌<◌, ◌≤◌, Bool, true, false, not, ◌&&◌, ◌⊎◌, ℤ, pos, ◌+ℤ◌, ◌-ℤ◌, List, length, Option, None, Some, unwrap_or, slice_get, slice_index_or}
+use Rattle.std.specs.Prelude.{◌≡◌, ℕ, ◌+◌, ◌-◌, ◌*◌, ◌<◌, ◌≤◌, Bool, true, false, ◌⊎◌, ℤ, pos, ◌+ℤ◌, ◌-ℤ◌, List, length, Option, None, Some, unwrap_or, slice_get, slice_index_or}
 use Rattle.horizons.specs.declared.target.Target.{Target}
-use Rattle.horizons.specs.Horizons.{IsTarget}
-use Rattle.sight.specs.Sweep.{lead_of, aside_of, is_blocked_before, IsLine, StandsAt}
+use Rattle.sight.specs.Sweep.{lead_of, aside_of, IsLine, StandsAt}
 use Rattle.sight.specs.declared.family.Family.{Family}
 use Rattle.sight.specs.declared.window.Run.{Run}
 use Rattle.sight.specs.declared.window.Window.{Window}

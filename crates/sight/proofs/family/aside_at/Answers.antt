@@ -1,7 +1,7 @@
-use Rattle.std.proofs.Common.{arith, ◌≡◌, pos, ◌*ℤ◌, sym, ◌∙◌, ap, w32, unsigned_abs, ◌≤◌, ◌^◌}
+use Rattle.std.proofs.Common.{arith, ◌≡◌, pos, ◌*ℤ◌, w32, unsigned_abs, ◌≤◌, ◌^◌}
 use Rattle.std.specs.Int.{int_div_euclid}
 use Rattle.std.proofs.lemmas.Nat.{mul-le}
-use Rattle.std.proofs.lemmas.Int.{to_z-of_z, to_z_pos, ints, unsigned_abs-mul}
+use Rattle.std.proofs.lemmas.Int.{to_z_pos, unsigned_abs-mul}
 use Rattle.horizons.proofs.Sizes.{back_short}
 use Rattle.sight.proofs.Spans.{floor_low, floor_high, floor_small}
 use Rattle.sight.proofs.family.aside_at.Goals as goal

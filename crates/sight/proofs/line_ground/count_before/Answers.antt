@@ -1,4 +1,4 @@
-use Rattle.std.proofs.Common.{arith, ◌≡◌, ◌+◌, ◌-◌, pos}
+use Rattle.std.proofs.Common.{arith, ◌+◌, pos}
 use Rattle.std.proofs.lemmas.Option.{slice_get-get_or}
 use Rattle.horizons.proofs.Sizes.{back_short}
 use Rattle.sight.proofs.Laid.{before_to}

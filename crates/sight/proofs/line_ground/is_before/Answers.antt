@@ -1,4 +1,4 @@
-use Rattle.std.proofs.Common.{arith, ◌≡◌, ◌≤◌, ◌^◌, pos, ◌*ℤ◌, w64, unsigned_abs, sym}
+use Rattle.std.proofs.Common.{arith, ◌≤◌, ◌^◌, pos, ◌*ℤ◌, w64, unsigned_abs, sym}
 use borrow.Author.Differences.{true_is_lt}
 use Rattle.std.proofs.lemmas.Nat.{mul-le}
 use Rattle.std.proofs.lemmas.Int.{ints, to_z_pos, unsigned_abs-mul}

@@ -1,4 +1,4 @@
-use Rattle.std.proofs.Common.{arith, refl, sym, ap, ◌∙◌, subst, length, ◌≡◌, ℕ, ◌+◌, ◌<◌, ◌≤◌, pos, ◌+ℤ◌, get_or, Some, w32, to_z, of_z, true}
+use Rattle.std.proofs.Common.{arith, sym, ap, ◌∙◌, subst, length, ◌≡◌, ℕ, ◌<◌, ◌≤◌, pos, ◌+ℤ◌, get_or, Some}
 use Rattle.std.specs.Prelude.{slice_get}
 use Rattle.std.proofs.lemmas.Int.{ints}
 use Rattle.std.proofs.lemmas.Option.{slice_get-get_or, same_Some}

@@ -1,9 +1,9 @@
-use Rattle.std.proofs.Common.{arith, rules, refl, sym, ap, ◌∙◌, ◌≡◌, ◌++◌, [], ◌∷◌, List, pos, length}
+use Rattle.std.proofs.Common.{arith, rules, refl, ◌≡◌, [], ◌∷◌, pos, length}
 use Rattle.std.proofs.lemmas.List.{length-append}
 use Rattle.std.proofs.lemmas.List.Elements.{All-push}
 use Rattle.std.proofs.lemmas.List.Sorted.{IsNonDecreasingBy-from_sort_by_key, length_permutation, All-permutation}
 use Rattle.std.proofs.lemmas.Option.{slice_get-get_or}
-use Rattle.sight.specs.Ranks.{IsNumbered, HasNumbers}
+use Rattle.sight.specs.Ranks.{IsNumbered}
 use Rattle.sight.specs.declared.ranks.Numbered.{Numbered}
 use Rattle.sight.proofs.Ranking.{numbers_more, numbers_moved}
 use Rattle.sight.proofs.ranks.number_by_slope.Goals as goal

@@ -1,5 +1,5 @@
-use Rattle.std.proofs.Common.{◌≡◌, ℕ, ◌<◌, length, Some}
-use Rattle.std.specs.Prelude.{slice_get, All}
+use Rattle.std.proofs.Common.{◌≡◌, length}
+use Rattle.std.specs.Prelude.{All}
 use Rattle.sight.specs.Ranks.{IsNumbered, HasNumbers}
 use Rattle.sight.proofs.ranks.number_by_slope.Given as goal
 

@@ -1,8 +1,7 @@
-use Rattle.std.proofs.Common.{arith, rules, refl, sym, ap, ◌∙◌, ◌≡◌, ◌<◌, ◌++◌, [], ◌∷◌, List, pos, length, get_or, Some}
+use Rattle.std.proofs.Common.{arith, refl, ◌≡◌, ◌<◌, pos, length, Some}
 use Rattle.std.specs.Prelude.{slice_get}
 use Rattle.std.proofs.lemmas.List.{length-set}
 use Rattle.std.proofs.lemmas.Option.{slice_get-get_or, slice_get_read, slice_get_within}
-use Rattle.sight.specs.declared.ranks.Numbered.{Numbered}
 use Rattle.sight.proofs.Ranking.{ray_of, taken_more, ranks_more, ranked}
 use Rattle.sight.proofs.ranks.rank.Goals as goal
 

@@ -1,5 +1,5 @@
 use Rattle.std.proofs.Common.{arith}
-use Rattle.sight.proofs.Gathered.{none_gathered, all_gathered}
+use Rattle.sight.proofs.Gathered.{all_gathered}
 use Rattle.sight.proofs.family.Family.gather.Goals as goal
 
 pub returns-clause-few : goal.returns-clause-few

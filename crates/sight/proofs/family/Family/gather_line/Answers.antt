@@ -1,4 +1,4 @@
-use Rattle.std.proofs.Common.{arith, refl, sym, ap, subst, ◌∙◌, ◌≡◌, ℕ, ◌*◌, ◌+◌, ◌-◌, ◌++◌, ◌∷◌, [], List, get_or, false}
+use Rattle.std.proofs.Common.{arith, sym, ap, subst, ◌∙◌, ◌≡◌, ℕ, ◌*◌, ◌+◌, ◌-◌, ◌++◌, ◌∷◌, [], List, get_or, false}
 use Rattle.horizons.specs.declared.target.Target.{Target}
 use Rattle.sight.specs.Sweep.{lead_of}
 use Rattle.sight.specs.Hiding.{target_at, AreRays, Crosses, IsInRun, mark_at}

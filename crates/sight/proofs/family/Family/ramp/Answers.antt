@@ -1,6 +1,6 @@
-use Rattle.std.proofs.Common.{arith, refl, rules, ◌≡◌, pos, ◌-ℤ◌, ◌*ℤ◌, w32, w64, FitsSigned, ◌≤◌, ◌<◌, ◌^◌, unsigned_abs}
+use Rattle.std.proofs.Common.{arith, refl, pos, ◌-ℤ◌, ◌*ℤ◌, w32, w64}
 use Rattle.std.proofs.lemmas.Int.{to_z-of_z, to_z_pos, ints, fits_signed_from_abs}
-use Rattle.horizons.proofs.Sizes.{back, back_short}
+use Rattle.horizons.proofs.Sizes.{back}
 use Rattle.sight.proofs.Spans.{gain_small, tilt_small, level_small, ramp_is}
 use Rattle.sight.proofs.family.Family.ramp.Goals as goal
 
