@@ -12,6 +12,18 @@ pub mod Crossings
 pub mod Seen
 -- blocks of cells below the line
 pub mod LowBlocks
+-- rays, and the ramps of the ground that they meet
+pub mod Products
+pub mod Rays
+pub mod Spans
+pub mod Laid
+-- a horizon over all lines so far
+pub mod Passed
+-- rays in the order of their slopes, and of their lines
+pub mod Ranking
+pub mod Gathered
+-- what a family blocks, against the walk
+pub mod Families
 -- observers and refusals
 pub mod Refused
 -- a tile, observer by observer

@@ -2,6 +2,10 @@ pub mod Sight
 pub mod Walk
 pub mod Pace
 pub mod Blocks
+pub mod Sweep
+pub mod Ranks
+pub mod Hiding
+pub mod Looking
 pub mod Refusals
 pub mod Viewed
 pub mod Marks

@@ -5,18 +5,26 @@
 //! centres. Earth's curvature and refraction are left out.
 #![tactic(auto)]
 
+mod family;
 pub mod fault;
+mod gathering;
 mod judging;
 pub mod laws;
 pub mod line;
+mod line_ground;
+mod looking;
 mod marking;
 pub mod observer;
 mod passing;
+mod ranks;
 mod reach;
+mod rising;
+mod sweep;
 mod tile;
 mod tops;
 pub mod viewing;
 mod walk;
+mod window;
 
 pub use fault::SightFault;
 pub use line::sees;

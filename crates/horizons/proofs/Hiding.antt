@@ -1,0 +1,45 @@
+-- What the greater of two ramps hides.
+use Rattle.std.proofs.Common.{◌≡◌, ℕ, ◌+◌, ◌*◌, ◌<◌, ◌≤◌, Bool, true, false, ◌||◌, ℤ, pos, ◌*ℤ◌, ◌≤ℤ◌, refl, sym, arith, inl, inr}
+use borrow.Author.Differences.{up, down, true_is_lt}
+use Rattle.std.proofs.lemmas.Bool.{cases_lt, cases_Bool}
+use Rattle.std.proofs.lemmas.Int.{ints}
+use Rattle.std.proofs.lemmas.Nat.{mul-le}
+use Rattle.horizons.specs.Horizons.{value_at, hides_by, is_above, IsRampAt}
+use Rattle.horizons.specs.Merging.{greater_at}
+use Rattle.horizons.specs.declared.target.Target.{Target}
+use Rattle.horizons.specs.declared.ramp.Ramp.{Ramp}
+
+-- x * k < A and A * l <= B * k, so x * l < B
+passed_on : (x y a b c d k l : ℕ) → 0 < k → 0 < l → x * k + b < y * k + a → a * l + d * k ≤ c * k + b * l → x * l + d < y * l + c
+passed_on x y a b c d k l some more less h =
+    elim (cases_lt (x * l + d) (y * l + c)) [
+      | inl is ↦ is
+      | inr not ↦ absurd (omega (arith, mul-le (x * k + b + 1) l (y * k + a) l (omega arith) (omega arith), mul-le (y * l + c) k (x * l + d) k not (omega arith)))
+    ]
+
+hides_more : (r s : Ramp) (t : Target) (x : ℤ) → 0 < r.lines → 0 < s.lines → (value_at r t *ℤ pos s.lines) ≤ℤ (value_at s t *ℤ pos r.lines)
+    → hides_by r t x ≡ true → hides_by s t x ≡ true
+hides_more r s t x some more h e =
+    let is = passed_on (up x) (down x) (up (value_at r t)) (down (value_at r t)) (up (value_at s t)) (down (value_at s t)) r.lines s.lines some more (omega (arith, ints, e)) (omega (arith, ints, h)) in
+    sym (true_is_lt (x *ℤ pos s.lines) (value_at s t) (omega (arith, ints, is)))
+
+either_hides : (a b : Bool) → (b ≡ true → a ≡ true) → a ≡ (a || b)
+either_hides true b h = refl
+either_hides false true h = h refl
+either_hides false false h = refl
+
+either_hides' : (a b : Bool) → (a ≡ true → b ≡ true) → b ≡ (a || b)
+either_hides' true b h = h refl
+either_hides' false b h = refl
+
+pub greater_hides : (r s : Ramp) (t : Target) (x : ℤ) → IsRampAt r t → IsRampAt s t → hides_by (greater_at s r t) t x ≡ (hides_by r t x || hides_by s t x)
+greater_hides r s t x is_r is_s = elim (cases_Bool (is_above s r t)) [
+  | inl above ↦ rw above (either_hides' (hides_by r t x) (hides_by s t x) (hides_more r s t x is_r.lines.0 is_s.lines.0 (omega (arith, ints, above))))
+  | inr not ↦ rw not (either_hides (hides_by r t x) (hides_by s t x) (hides_more s r t x is_s.lines.0 is_r.lines.0 (omega (arith, ints, not))))
+]
+
+pub greater_is_ramp : (r s : Ramp) (t : Target) → IsRampAt r t → IsRampAt s t → IsRampAt (greater_at s r t) t
+greater_is_ramp r s t is_r is_s = elim (cases_Bool (is_above s r t)) [
+  | inl above ↦ rw above is_s
+  | inr not ↦ rw not is_r
+]

@@ -1,0 +1,139 @@
+-- Pieces of a horizon: what an index finds among them, when one is added and when the last is made longer.
+use Rattle.std.proofs.Common.{◌≡◌, ℕ, zero, suc, ◌+◌, ◌<◌, ◌≤◌, max, List, [], ◌∷◌, ◌++◌, length, get_or, set, Some, refl, sym, ap, ◌∙◌, arith, inl, inr}
+use Rattle.std.specs.Prelude.{slice_get}
+use Rattle.std.proofs.lemmas.Bool.{cases_lt}
+use Rattle.std.proofs.lemmas.Option.{same_Some, get_or_from_slice_get}
+use Rattle.horizons.specs.Horizons.{ramp_at, extent, IsPushed, AreUpTo}
+use Rattle.horizons.specs.declared.horizon.Piece.{Piece}
+use Rattle.horizons.specs.declared.ramp.Ramp.{Ramp}
+
+ramp_at-here : (p : Piece) (ps : List Piece) (i : ℕ) → i < p.end → ramp_at (p ∷ ps) i ≡ Some p.ramp
+unfolding ramp_at
+ramp_at-here p ps i h = grind arith
+
+ramp_at-later : (p : Piece) (ps : List Piece) (i : ℕ) → p.end ≤ i → ramp_at (p ∷ ps) i ≡ ramp_at ps i
+unfolding ramp_at
+ramp_at-later p ps i h = grind arith
+
+-- the first piece that ends above an index
+pub ramp_of_piece : (ps : List Piece) (k : ℕ) (p : Piece) (i : ℕ) → slice_get ps k ≡ Some p → ((m : ℕ) (q : Piece) → m < k → slice_get ps m ≡ Some q → q.end ≤ i) → i < p.end → ramp_at ps i ≡ Some p.ramp
+ramp_of_piece [] k p i e before h = cc
+ramp_of_piece (q ∷ ps) zero p i e before h =
+    let same : q ≡ p = same_Some q p e in
+    ramp_at-here q ps i (rw same h) ∙ ap (λ (z : Piece). Some z.ramp) same
+ramp_of_piece (q ∷ ps) (suc k) p i e before h =
+    ramp_at-later q ps i (before 0 q (omega arith) refl) ∙ ramp_of_piece ps k p i e (λ m z less is. before (suc m) z (omega arith) is) h
+
+pub within_extent : (ps : List Piece) (k : ℕ) (p : Piece) → slice_get ps k ≡ Some p → p.end ≤ extent ps
+unfolding extent
+within_extent [] k p e = cc
+within_extent (q ∷ ps) zero p e = let same : q ≡ p = same_Some q p e in rw (← same) (omega arith)
+within_extent (q ∷ ps) (suc k) p e = omega (arith, within_extent ps k p e)
+
+-- where all pieces end at or before an index, none reaches past it
+pub extent_up_to : (ps : List Piece) (k i : ℕ) → length ps ≤ k → ((m : ℕ) (q : Piece) → m < k → slice_get ps m ≡ Some q → q.end ≤ i) → extent ps ≤ i
+unfolding extent
+extent_up_to [] k i few before = omega arith
+extent_up_to (q ∷ ps) zero i few before = absurd (omega (arith, few))
+extent_up_to (q ∷ ps) (suc k) i few before =
+    omega (arith, before 0 q (omega arith) refl, extent_up_to ps k i (omega arith) (λ m z less is. before (suc m) z (omega arith) is))
+
+-- a walk over the pieces: it finds one that ends above an index that they reach, and may go on to each later index
+pub inside : (ps : List Piece) (k i : ℕ) → AreUpTo ps k i → i < extent ps → k < length ps
+inside ps k i before h = elim (cases_lt k (length ps)) [
+  | inl is ↦ is
+  | inr past ↦ absurd (omega (arith, extent_up_to ps k i past before))
+]
+
+pub passed : (ps : List Piece) (k i : ℕ) (d : Piece) → AreUpTo ps k i → k < length ps → (get_or ps k d).end ≤ i → AreUpTo ps (k + 1) i
+passed ps k i d before h ends m p less at = elim (cases_lt m k) [
+  | inl first ↦ before m p first at
+  | inr not ↦
+      let m_is : m ≡ k = omega arith in
+      let is : get_or ps k d ≡ p = get_or_from_slice_get ps k p d (ap (slice_get ps) (sym m_is) ∙ at) in
+      rw is at ends
+]
+
+pub ends_above : (ps : List Piece) (k i : ℕ) (d p : Piece) → i < (get_or ps k d).end → slice_get ps k ≡ Some p → i < p.end
+ends_above ps k i d p h at = rw (get_or_from_slice_get ps k p d at) at h
+
+pub later : (ps : List Piece) (k i j : ℕ) → AreUpTo ps k i → i ≤ j → AreUpTo ps k j
+later ps k i j before h m p less at = omega (arith, before m p less at)
+
+-- an index that the pieces reach has a ramp
+pub reached : (ps : List Piece) (i : ℕ) → i < extent ps → (r : Ramp) × (ramp_at ps i ≡ Some r)
+unfolding extent
+reached [] i h = absurd (omega arith)
+reached (p ∷ ps) i h = elim (cases_lt i p.end) [
+  | inl here ↦ (p.ramp, ramp_at-here p ps i here)
+  | inr later ↦ let rest = reached ps i (omega arith) in (rest.0, ramp_at-later p ps i later ∙ rest.1)
+]
+
+-- a piece at the end
+added_extent : (ps : List Piece) (p : Piece) → extent (ps ++ p ∷ []) ≡ max (extent ps) p.end
+unfolding extent
+added_extent [] p = omega arith
+added_extent (q ∷ ps) p = omega (arith, added_extent ps p)
+
+added_kept : (ps : List Piece) (p : Piece) (i : ℕ) → i < extent ps → ramp_at (ps ++ p ∷ []) i ≡ ramp_at ps i
+unfolding extent
+added_kept [] p i h = absurd (omega arith)
+added_kept (q ∷ ps) p i h = elim (cases_lt i q.end) [
+  | inl here ↦ ramp_at-here q (ps ++ p ∷ []) i here ∙ sym (ramp_at-here q ps i here)
+  | inr later ↦ ramp_at-later q (ps ++ p ∷ []) i later ∙ added_kept ps p i (omega arith) ∙ sym (ramp_at-later q ps i later)
+]
+
+added_new : (ps : List Piece) (p : Piece) (i : ℕ) → extent ps ≤ i → i < p.end → ramp_at (ps ++ p ∷ []) i ≡ Some p.ramp
+unfolding extent
+added_new [] p i past h = ramp_at-here p [] i h
+added_new (q ∷ ps) p i past h = ramp_at-later q (ps ++ p ∷ []) i (omega arith) ∙ added_new ps p i (omega arith) h
+
+pub pushed : (ps : List Piece) (p : Piece) → IsPushed ps p.end p.ramp (ps ++ p ∷ [])
+pushed ps p = record {
+  reach = added_extent ps p;
+  kept = added_kept ps p;
+  added = added_new ps p;
+}
+
+-- the last piece made longer
+longer_extent : (ps : List Piece) (k : ℕ) (p q : Piece) → k + 1 ≡ length ps → slice_get ps k ≡ Some q → q.end ≤ p.end → extent (set ps k p) ≡ max (extent ps) p.end
+unfolding extent
+longer_extent [] k p q last e h = absurd (omega arith)
+longer_extent (z ∷ []) zero p q last e h = let same : z ≡ q = same_Some z q e in rw same (omega arith)
+longer_extent (z ∷ y ∷ ps) zero p q last e h = absurd (omega arith)
+longer_extent (z ∷ ps) (suc k) p q last e h = omega (arith, longer_extent ps k p q (omega arith) e h)
+
+longer_kept : (ps : List Piece) (k : ℕ) (p q : Piece) (i : ℕ) → k + 1 ≡ length ps → slice_get ps k ≡ Some q → q.end ≤ p.end → q.ramp ≡ p.ramp → i < extent ps → ramp_at (set ps k p) i ≡ ramp_at ps i
+unfolding extent
+longer_kept [] k p q i last e h same h_i = absurd (omega arith)
+longer_kept (z ∷ []) zero p q i last e h same h_i =
+    let z_is : z ≡ q = same_Some z q e in
+    let z_end : z.end ≡ q.end = ap (λ (y : Piece). y.end) z_is in
+    ramp_at-here p [] i (omega arith) ∙ ap Some (sym same) ∙ ap (λ (y : Piece). Some y.ramp) (sym z_is) ∙ sym (ramp_at-here z [] i (omega arith))
+longer_kept (z ∷ y ∷ ps) zero p q i last e h same h_i = absurd (omega arith)
+longer_kept (z ∷ ps) (suc k) p q i last e h same h_i = elim (cases_lt i z.end) [
+  | inl here ↦ ramp_at-here z (set ps k p) i here ∙ sym (ramp_at-here z ps i here)
+  | inr later ↦ ramp_at-later z (set ps k p) i later ∙ longer_kept ps k p q i (omega arith) e h same (omega arith) ∙ sym (ramp_at-later z ps i later)
+]
+
+longer_new : (ps : List Piece) (k : ℕ) (p q : Piece) (i : ℕ) → k + 1 ≡ length ps → slice_get ps k ≡ Some q → extent ps ≤ i → i < p.end → ramp_at (set ps k p) i ≡ Some p.ramp
+unfolding extent
+longer_new [] k p q i last e past h = absurd (omega arith)
+longer_new (z ∷ []) zero p q i last e past h = ramp_at-here p [] i h
+longer_new (z ∷ y ∷ ps) zero p q i last e past h = absurd (omega arith)
+longer_new (z ∷ ps) (suc k) p q i last e past h = ramp_at-later z (set ps k p) i (omega arith) ∙ longer_new ps k p q i (omega arith) e (omega arith) h
+
+pub lengthened : (ps : List Piece) (k : ℕ) (p q : Piece) → k + 1 ≡ length ps → slice_get ps k ≡ Some q → q.end ≤ p.end → q.ramp ≡ p.ramp → IsPushed ps p.end p.ramp (set ps k p)
+lengthened ps k p q last e h same = record {
+  reach = longer_extent ps k p q last e h;
+  kept = λ i. longer_kept ps k p q i last e h same;
+  added = λ i. longer_new ps k p q i last e;
+}
+
+-- what ends no further is left out
+pub left_out : (ps : List Piece) (end : ℕ) (r : Ramp) → end ≤ extent ps → IsPushed ps end r ps
+left_out ps end r h = record {
+  reach = omega arith;
+  kept = λ i less. refl;
+  added = λ i past less. absurd (omega arith);
+}

@@ -1,0 +1,7 @@
+use Rattle.std.proofs.Common.{refl}
+use Rattle.horizons.specs.Horizons.{extent}
+use Rattle.horizons.proofs.horizon.Horizon.clear.Goals as goal
+
+pub invariant_of-self : goal.invariant_of-self
+unfolding extent
+invariant_of-self c = rw c.clear.ensures.items refl

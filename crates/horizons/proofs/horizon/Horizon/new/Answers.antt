@@ -1,0 +1,7 @@
+use Rattle.std.proofs.Common.{refl}
+use Rattle.horizons.specs.Horizons.{extent}
+use Rattle.horizons.proofs.horizon.Horizon.new.Goals as goal
+
+pub invariant_of-result : goal.invariant_of-result
+unfolding extent
+invariant_of-result c = rw c.new.ensures.items refl

@@ -1,0 +1,2 @@
+pub mod Horizons
+pub mod Merging

@@ -1,0 +1,16 @@
+//! Horizons: how high the ground stands before each of many targets, as an observer sees it.
+//!
+//! The targets are sorted by the slopes of the rays to them, and a horizon is a function of a target's
+//! index, kept as pieces of straight lines of the slope. The greater of two horizons is found in whole
+//! numbers, at the slopes of targets alone.
+#![tactic(auto)]
+
+pub mod horizon;
+pub mod merging;
+pub mod ramp;
+pub mod target;
+
+pub use horizon::{Cursor, Horizon, Piece};
+pub use merging::greater;
+pub use ramp::{Ramp, Value};
+pub use target::Target;

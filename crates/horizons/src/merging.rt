@@ -1,0 +1,104 @@
+// The greater of two horizons.
+ghost use Rattle.std.specs.Prelude.{◌≡◌, ℕ, ◌+◌, ◌<◌, ◌≤◌, not, Bool, length, Some, OnOk, slice_get};
+ghost use Rattle.horizons.specs.declared.target.Target.{Target};
+ghost use Rattle.horizons.specs.Horizons.{AreTargets, IsOver, IsGreater, is_above, extent};
+ghost use Rattle.horizons.specs.Merging.{IsRampOn, IsAboveOn, IsGreaterPushed};
+
+use crate::horizon::{Cursor, Horizon};
+use crate::ramp::Ramp;
+use crate::target::Target;
+use std::alloc::AllocError;
+
+/// Whether the one ramp is above the other at the slope of a target.
+#[inline(always)]
+fn is_above_at(targets: &[Target], one: Ramp, other: Ramp, index: usize) -> bool
+    requires targets { AreTargets targets.now }
+    requires index { index < length targets.now }
+    requires one { IsRampOn targets.now one index (index + 1) }
+    requires other { IsRampOn targets.now other index (index + 1) }
+    ensures { (t : Target) → slice_get targets.now index ≡ Some t → is_above one other t ≡ result }
+{
+    one.is_above(other, targets[index])
+}
+
+/// Two ramps change places once at most, since their difference is straight. From the target that is
+/// answered on, up to `end`, the one is above the other where it is not at `from`, or not where it is.
+#[inline(always)]
+fn turn(targets: &[Target], one: Ramp, other: Ramp, first: bool, from: usize, end: usize) -> usize
+    requires targets { AreTargets targets.now }
+    requires range { (from < end) × (end ≤ length targets.now) }
+    requires one { IsRampOn targets.now one from end }
+    requires other { IsRampOn targets.now other from end }
+    requires first { IsAboveOn targets.now one other first from (from + 1) }
+    ensures range { (from < result) × (result ≤ end) }
+    ensures before { IsAboveOn targets.now one other first from result }
+    ensures after { IsAboveOn targets.now one other (not first) result end }
+{
+    if is_above_at(targets, one, other, end - 1) == first {
+        return end;
+    }
+    let mut same = from;
+    let mut turned = end - 1;
+    while turned - same > 1 {
+        let middle = same + (turned - same) / 2;
+        if is_above_at(targets, one, other, middle) == first {
+            same = middle;
+        } else {
+            turned = middle;
+        }
+    }
+    turned
+}
+
+/// Adds the greater of two ramps over the targets from the extent on up to `end`.
+#[inline(always)]
+fn push_greater(
+    targets: &[Target],
+    one: Ramp,
+    other: Ramp,
+    end: usize,
+    into: &mut Horizon,
+) -> Result<(), AllocError>
+    requires targets { AreTargets targets.now }
+    requires range { (extent into.old < end) × (end ≤ length targets.now) }
+    requires one { IsRampOn targets.now one (extent into.old) end }
+    requires other { IsRampOn targets.now other (extent into.old) end }
+    ensures { OnOk result (IsGreaterPushed targets.now one other into.old end into.new) }
+{
+    let from = into.extent();
+    let first = is_above_at(targets, one, other, from);
+    let turn = turn(targets, one, other, first, from, end);
+    if first {
+        into.push(turn, one)?;
+        into.push(end, other)
+    } else {
+        into.push(turn, other)?;
+        into.push(end, one)
+    }
+}
+
+/// Makes the horizon that hides what either of two does.
+pub fn greater(
+    targets: &[Target],
+    f: &Horizon,
+    g: &Horizon,
+    into: &mut Horizon,
+) -> Result<(), AllocError>
+    requires targets { AreTargets targets.now }
+    requires f { IsOver targets.now f.now }
+    requires g { IsOver targets.now g.now }
+    ensures { OnOk result (IsGreater targets.now f.now g.now into.new) }
+{
+    into.clear();
+    let mut f_cursor = Cursor::start();
+    let mut g_cursor = Cursor::start();
+    let mut from = 0;
+    while from < targets.len() {
+        let one = g.piece(&mut g_cursor, from);
+        let other = f.piece(&mut f_cursor, from);
+        let end = one.end.min(other.end);
+        push_greater(targets, one.ramp, other.ramp, end, into)?;
+        from = end;
+    }
+    Ok(())
+}

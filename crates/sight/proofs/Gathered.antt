@@ -1,0 +1,132 @@
+-- Rays gathered line by line and cell by cell.
+use Rattle.std.proofs.Common.{arith, refl, sym, ap, subst, ◌∙◌, ◌≡◌, ℕ, ◌+◌, ◌<◌, ◌≤◌, ◌++◌, Bool, false, List, [], ◌∷◌, length, Some, inl, inr}
+use Rattle.std.specs.Prelude.{slice_get}
+use Rattle.std.proofs.lemmas.Bool.{cases_lt}
+use Rattle.std.proofs.lemmas.List.{length-append}
+use Rattle.std.proofs.lemmas.Option.{same_Some, slice_get_within}
+use Rattle.horizons.specs.declared.target.Target.{Target}
+use Rattle.sight.specs.Sweep.{lead_of, StandsAt, IsFamily}
+use Rattle.sight.specs.Hiding.{target_at, mark_at, AreRays, Crosses, IsInRun, IsWindow}
+use Rattle.sight.specs.declared.family.Family.{Family}
+use Rattle.sight.specs.declared.window.Window.{Window}
+use Rattle.sight.proofs.Ranking.{slice_get-front, slice_get-last}
+
+pub none_gathered : (f : Family) (w : Window) (marks : List Bool) (n : ℕ) (rays : List Target) → rays ≡ [] → ((m : ℕ) → Crosses f w m → n ≤ m) → AreRays f w marks n 0 rays
+none_gathered f w marks n rays e first = rw e (record {
+  few = omega arith;
+  each = λ u t at. absurd (omega (arith, slice_get_within [] u t at));
+  sorted = λ u v s t le at at'. absurd (omega (arith, slice_get_within [] u s at));
+  whole = λ m y before crosses in_run marked. elim before [
+    | inl h ↦ absurd (omega (arith, first m crosses))
+    | inr h ↦ absurd (omega (arith, h.1))
+  ];
+})
+
+pub line_begun : (f : Family) (w : Window) (marks : List Bool) (n : ℕ) (rays : List Target) → AreRays f w marks n 0 rays → AreRays f w marks n w.side.first rays
+line_begun f w marks n rays are = record {
+  few = omega (arith, are.few);
+  each = are.each;
+  sorted = are.sorted;
+  whole = λ m y before crosses in_run marked. elim before [
+    | inl h ↦ are.whole m y (inl h) crosses in_run marked
+    | inr h ↦ absurd (omega (arith, h.1, in_run))
+  ];
+}
+
+pub line_ended : (f : Family) (w : Window) (marks : List Bool) (n c : ℕ) (rays : List Target) → w.side.first + w.side.cells ≤ c → c ≤ 4096 → AreRays f w marks n c rays → AreRays f w marks (n + 1) 0 rays
+line_ended f w marks n c rays all few are = record {
+  few = omega (arith, are.few);
+  each = λ u t at. let is = are.each u t at in (is.0, is.1, is.2, is.3, omega (arith, is.4));
+  sorted = are.sorted;
+  whole = λ m y before crosses in_run marked. elim before [
+    | inl h ↦ elim (cases_lt m n) [
+      | inl less ↦ are.whole m y (inl less) crosses in_run marked
+      | inr not ↦ are.whole m y (inr (omega arith, omega (arith, in_run))) crosses in_run marked
+    ]
+    | inr h ↦ absurd (omega (arith, h.1))
+  ];
+}
+
+pub line_passed : (f : Family) (w : Window) (marks : List Bool) (n : ℕ) (rays : List Target) → (Crosses f w n → ⊥) → AreRays f w marks n 0 rays → AreRays f w marks (n + 1) 0 rays
+line_passed f w marks n rays not_there are = record {
+  few = omega (arith, are.few);
+  each = λ u t at. let is = are.each u t at in (is.0, is.1, is.2, is.3, omega (arith, is.4));
+  sorted = are.sorted;
+  whole = λ m y before crosses in_run marked. elim before [
+    | inl h ↦ elim (cases_lt m n) [
+      | inl less ↦ are.whole m y (inl less) crosses in_run marked
+      | inr not ↦
+          let m_is : m ≡ n = omega arith in
+          let P : ℕ → Type 0 = λ k. Crosses f w k in
+          absurd (not_there (subst P m_is crosses))
+    ]
+    | inr h ↦ absurd (omega (arith, h.1))
+  ];
+}
+
+pub cell_passed : (f : Family) (w : Window) (marks : List Bool) (n c : ℕ) (rays : List Target) → mark_at w (lead_of f n) c marks ≡ false → AreRays f w marks n c rays → AreRays f w marks n (c + 1) rays
+cell_passed f w marks n c rays unmarked are = record {
+  few = omega (arith, are.few);
+  each = are.each;
+  sorted = are.sorted;
+  whole = λ m y before crosses in_run marked. elim before [
+    | inl h ↦ are.whole m y (inl h) crosses in_run marked
+    | inr h ↦ elim (cases_lt y c) [
+      | inl less ↦ are.whole m y (inr (h.0, less)) crosses in_run marked
+      | inr not ↦
+          let y_is : y ≡ c = omega (arith, h.1) in
+          let here : mark_at w (lead_of f m) y marks ≡ mark_at w (lead_of f n) c marks = ap (λ k. mark_at w (lead_of f k) y marks) h.0 ∙ ap (λ k. mark_at w (lead_of f n) k marks) y_is in
+          absurd (cc)
+    ]
+  ];
+}
+
+pub cell_taken : (f : Family) (w : Window) (marks : List Bool) (n c : ℕ) (rays : List Target) → IsFamily f → IsWindow f w marks → Crosses f w n → IsInRun w.side c → AreRays f w marks n c rays → AreRays f w marks n (c + 1) (rays ++ target_at f n c ∷ [])
+cell_taken f w marks n c rays is_f is_w crosses in_run are =
+    let t = target_at f n c in
+    let stands : StandsAt f c t = record { aside = refl; side = omega (arith, is_w.side, in_run); line = crosses.line } in
+    let old : (u : ℕ) (s : Target) → u < length rays → slice_get (rays ++ t ∷ []) u ≡ Some s → slice_get rays u ≡ Some s = λ u s less at. sym (slice_get-front rays t u less) ∙ at in
+    let new : (u : ℕ) (s : Target) → length rays ≤ u → slice_get (rays ++ t ∷ []) u ≡ Some s → t ≡ s = λ u s not at.
+    let u_is : u ≡ length rays = omega (arith, slice_get_within (rays ++ t ∷ []) u s at, length-append rays (t ∷ [])) in
+    same_Some t s (sym (slice_get-last rays t) ∙ ap (slice_get (rays ++ t ∷ [])) (sym u_is) ∙ at) in
+    record {
+      few = omega (arith, are.few, in_run, length-append rays (t ∷ []));
+      each = λ u s at. elim (cases_lt u (length rays)) [
+        | inl less ↦ are.each u s (old u s less at)
+        | inr not ↦
+            let P : Target → Type 0 = λ r. (y : ℕ) × StandsAt f y r × IsInRun w.side y × Crosses f w r.line × (r.line ≤ n) in
+            subst P (new u s not at) (c, stands, in_run, crosses, omega arith)
+      ];
+      sorted = λ u v r s le at_r at_s. elim (cases_lt v (length rays)) [
+        | inl less ↦ are.sorted u v r s le (old u r (omega arith) at_r) (old v s less at_s)
+        | inr not ↦
+            let last : t ≡ s = new v s not at_s in
+            elim (cases_lt u (length rays)) [
+              | inl before ↦
+                  let is = are.each u r (old u r before at_r) in
+                  omega (arith, is.4, ap (λ q. q.line) last)
+              | inr also ↦ let first : t ≡ r = new u r also at_r in omega (arith, ap (λ q. q.line) last, ap (λ q. q.line) first)
+            ]
+      ];
+      whole = λ m y before crossed in_y marked.
+          let kept : (u : ℕ) × (slice_get rays u ≡ Some (target_at f m y)) → (u : ℕ) × (slice_get (rays ++ t ∷ []) u ≡ Some (target_at f m y)) = λ was.
+          (was.0, slice_get-front rays t was.0 (slice_get_within rays was.0 (target_at f m y) was.1) ∙ was.1) in
+          elim before [
+            | inl h ↦ kept (are.whole m y (inl h) crossed in_y marked)
+            | inr h ↦ elim (cases_lt y c) [
+              | inl less ↦ kept (are.whole m y (inr (h.0, less)) crossed in_y marked)
+              | inr not ↦
+                  let y_is : c ≡ y = omega (arith, h.1) in
+                  let here : t ≡ target_at f m y = ap (λ k. target_at f k c) (sym h.0) ∙ ap (λ k. target_at f m k) y_is in
+                  (length rays, slice_get-last rays t ∙ ap (λ q. Some q) here)
+            ]
+          ];
+    }
+
+pub all_gathered : (f : Family) (w : Window) (marks : List Bool) (n : ℕ) (rays : List Target) → n ≤ 4096 → ((m : ℕ) → Crosses f w m → m < n) → AreRays f w marks n 0 rays → AreRays f w marks 4097 0 rays
+all_gathered f w marks n rays few end are = record {
+  few = omega (arith, are.few);
+  each = λ u t at. let is = are.each u t at in (is.0, is.1, is.2, is.3, omega (arith, is.4));
+  sorted = are.sorted;
+  whole = λ m y before crosses in_run marked. are.whole m y (inl (end m crosses)) crosses in_run marked;
+}

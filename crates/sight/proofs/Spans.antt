@@ -1,0 +1,151 @@
+-- What a span of a line's ground tells of the rays over it.
+use Rattle.std.proofs.Common.{arith, refl, sym, ap, ◌∙◌, ◌≡◌, ◌+◌, ◌-◌, ◌*◌, ◌/◌, ◌^◌, ◌<◌, ◌≤◌, ℕ, ℤ, pos, negsuc, ◌+ℤ◌, ◌-ℤ◌, ◌*ℤ◌, ◌≤ℤ◌, ◌<ℤ◌, unsigned_abs, false, List, Option, None, Some, get_or, inl, inr, FitsSigned, w32}
+use borrow.Author.Differences.{up, down}
+use Rattle.std.specs.Int.{int_div_euclid}
+use Rattle.std.proofs.lemmas.Int.{ints, unsigned_abs-mul}
+use Rattle.std.proofs.lemmas.Bool.{cases_Bool}
+use Rattle.std.proofs.lemmas.Nat.{mul-le, div-add-mod', mod_below}
+use Rattle.horizons.specs.declared.target.Target.{Target}
+use Rattle.horizons.specs.Horizons.{IsTarget, IsRampAt, hides_by, value_at}
+use Rattle.sight.specs.Sight.{sight}
+use Rattle.sight.specs.Walk.{is_above, whole_at, IsLevel}
+use Rattle.sight.specs.Sweep.{lead_of, lead_axis, line_blocks, ramp_of, IsFamily, IsLine, Passes, StandsAt}
+use Rattle.sight.specs.declared.family.Family.{Family}
+use Rattle.sight.proofs.Products.{sum_times}
+use Rattle.sight.proofs.Toward.{lead_up_is, lead_down_is}
+use Rattle.sight.proofs.Rays.{ramp_gains, shown_between, not_shown_near, not_shown_far, cell_is, stays_inside}
+
+-- the quotient of `div_euclid` is rounded down
+pub floor_low : (z : ℤ) (n : ℕ) → 0 < n → (int_div_euclid z (pos n) *ℤ pos n) ≤ℤ z
+floor_low (pos a) n some = omega (arith, ints, div-add-mod' a n)
+floor_low (negsuc a) n some = omega (arith, ints, div-add-mod' a n, mod_below a n some)
+
+pub floor_high : (z : ℤ) (n : ℕ) → 0 < n → z <ℤ ((int_div_euclid z (pos n) +ℤ pos 1) *ℤ pos n)
+floor_high (pos a) n some = omega (arith, ints, div-add-mod' a n, mod_below a n some, sum_times (pos (a / n)) (pos 1) (pos n))
+floor_high (negsuc a) n some = omega (arith, ints, div-add-mod' a n, sum_times (negsuc (a / n)) (pos 1) (pos n))
+
+pub floor_small : (z : ℤ) (n : ℕ) → 0 < n → unsigned_abs z ≤ 2 ^ 24 → unsigned_abs (int_div_euclid z (pos n)) ≤ 2 ^ 25
+floor_small (pos a) n some h = omega (arith, ints, mul-le (a / n) 1 (a / n) n (omega arith) (omega arith), div-add-mod' a n)
+floor_small (negsuc a) n some h = omega (arith, ints, mul-le (a / n) 1 (a / n) n (omega arith) (omega arith), div-add-mod' a n)
+
+-- how many n-ths of a cell the ray to a target on line n is past a cell
+pub past : (k : ℕ) (aside : ℤ) (t : Target) → Passes k aside t → (m : ℕ) × (m < t.line) × ((t.aside *ℤ pos k) ≡ (aside *ℤ pos t.line) +ℤ pos m)
+past k aside t p =
+    let x = t.aside *ℤ pos k in
+    let y = aside *ℤ pos t.line in
+    let m = (up x + down y) - (down x + up y) in
+    (m, omega (arith, ints, p.low, p.high, sum_times aside (pos 1) (pos t.line)), omega (arith, ints, p.low))
+
+lead_is : (f : Family) (n k : ℕ) → IsLine f n → k ≤ n → whole_at (lead_axis f n) n k ≡ lead_of f k
+lead_is f n k is few =
+    elim (cases_Bool f.lines.back) [
+      | inl back ↦
+          let room = is.2 back in
+          let there = lead_down_is f.lines.at (f.lines.at - n) n k (omega arith) is.0 few in
+          rw back (omega (arith, there))
+      | inr ahead ↦
+          let there = lead_up_is f.lines.at (f.lines.at + n) n k refl is.0 few in
+          rw ahead (omega (arith, there))
+    ]
+
+abbrev pub near_index : Family → ℕ → ℕ → ℕ
+near_index f k c = lead_of f k * f.lines.stride + c * f.side.stride
+
+stands_past : (f : Family) (k m y : ℕ) (aside : ℤ) (t : Target) → StandsAt f y t → (t.aside *ℤ pos k) ≡ (aside *ℤ pos t.line) +ℤ pos m → (pos y -ℤ pos f.side.at) *ℤ pos k ≡ (aside *ℤ pos t.line) +ℤ pos m
+stands_past f k m y aside t stands is = ap (λ z. z *ℤ pos k) (sym stands.aside) ∙ is
+
+crossing_is : (cells : List (Option ℤ)) (f : Family) (k c m y : ℕ) (aside rise : ℤ) (t : Target) → StandsAt f y t → k < t.line → m < t.line
+    → (t.aside *ℤ pos k) ≡ (aside *ℤ pos t.line) +ℤ pos m → pos c ≡ pos f.side.at +ℤ aside
+    → line_blocks cells f t.line y rise k
+    ≡ is_above (get_or cells (near_index f k c) None) (t.line - m) (get_or cells (near_index f k c + f.side.stride) None) m (sight f.eye (f.eye +ℤ rise) t.line k)
+crossing_is cells f k c m y aside rise t stands later below is at =
+    let cell = cell_is f.side.at y c t.line k m aside (omega arith) below (stands_past f k m y aside t stands is) at in
+    let lead = lead_is f t.line k stands.line (omega arith) in
+    rw (cell.0, cell.1, lead) refl
+
+-- no ray passes a cell outside
+pub none_outside : (f : Family) (k y : ℕ) (aside : ℤ) (t : Target) → IsFamily f → StandsAt f y t → k < t.line → Passes k aside t → (c : ℕ) × (pos c ≡ pos f.side.at +ℤ aside) × (c < f.side.cells)
+none_outside f k y aside t is stands later passes =
+    let m = past k aside t passes in
+    let in_side = stays_inside f.side.at y f.side.cells t.line k m.0 aside is.side stands.side (omega arith) m.1 (stands_past f k m.0 y aside t stands m.2) in
+    let is_natural = natural (pos f.side.at +ℤ aside) f.side.cells in_side.0 in_side.1 in
+    (up (pos f.side.at +ℤ aside), is_natural.0, is_natural.1)
+  where
+    natural : (z : ℤ) (n : ℕ) → pos 0 ≤ℤ z → z <ℤ pos n → (pos (up z) ≡ z) × (up z < n)
+    natural (pos m) n low high = (refl, omega (arith, ints, high))
+    natural (negsuc m) n low high = absurd (omega (arith, ints, low))
+
+pub nothing_near : (cells : List (Option ℤ)) (f : Family) (k c y : ℕ) (aside rise : ℤ) (t : Target) → StandsAt f y t → k < t.line → Passes k aside t → pos c ≡ pos f.side.at +ℤ aside
+    → get_or cells (near_index f k c) None ≡ None → line_blocks cells f t.line y rise k ≡ false
+nothing_near cells f k c y aside rise t stands later passes at none =
+    let m = past k aside t passes in
+    crossing_is cells f k c m.0 y aside rise t stands later m.1 m.2 at
+    ∙ (rw none (not_shown_near (get_or cells (near_index f k c + f.side.stride) None) t.line m.0 (sight f.eye (f.eye +ℤ rise) t.line k) m.1))
+
+pub nothing_far : (cells : List (Option ℤ)) (f : Family) (k c y : ℕ) (aside rise near : ℤ) (t : Target) → StandsAt f y t → k < t.line → Passes k aside t → pos c ≡ pos f.side.at +ℤ aside
+    → get_or cells (near_index f k c) None ≡ Some near → get_or cells (near_index f k c + f.side.stride) None ≡ None → (aside *ℤ pos t.line) <ℤ (t.aside *ℤ pos k)
+    → line_blocks cells f t.line y rise k ≡ false
+nothing_far cells f k c y aside rise near t stands later passes at some none beyond =
+    let m = past k aside t passes in
+    let part : 0 < m.0 = omega (arith, ints, beyond, m.2) in
+    crossing_is cells f k c m.0 y aside rise t stands later m.1 m.2 at
+    ∙ (rw (some, none) (not_shown_far near t.line m.0 (sight f.eye (f.eye +ℤ rise) t.line k) m.1 part))
+
+-- what a ramp is made of is small
+step_small : (near far : ℤ) → FitsSigned w32 near → FitsSigned w32 far → unsigned_abs (far -ℤ near) ≤ 2 ^ 32
+step_small near far a b = omega (arith, ints)
+
+base_small : (near e : ℤ) → FitsSigned w32 near → IsLevel e → unsigned_abs (near -ℤ e) ≤ 2 ^ 33
+base_small near e a b = omega (arith, ints)
+
+product_small : (a b : ℤ) (m n : ℕ) → unsigned_abs a ≤ m → unsigned_abs b ≤ n → unsigned_abs (a *ℤ b) ≤ m * n
+product_small a b m n p q = omega (arith, unsigned_abs-mul a b, mul-le (unsigned_abs a) (unsigned_abs b) m n p q)
+
+sum_small : (a b : ℤ) → unsigned_abs a ≤ 2 ^ 45 → unsigned_abs b ≤ 2 ^ 45 → unsigned_abs (a +ℤ b) ≤ 2 ^ 46
+sum_small a b p q = omega (arith, ints)
+
+rest_small : (a b : ℤ) → unsigned_abs a ≤ 2 ^ 45 → unsigned_abs b ≤ 2 ^ 45 → unsigned_abs (a -ℤ b) ≤ 2 ^ 46
+rest_small a b p q = omega (arith, ints)
+
+pub gain_small : (near far : ℤ) (k : ℕ) → FitsSigned w32 near → FitsSigned w32 far → k ≤ 4096 → unsigned_abs ((far -ℤ near) *ℤ pos k) ≤ 2 ^ 44
+gain_small near far k a b few = product_small (far -ℤ near) (pos k) (2 ^ 32) 4096 (step_small near far a b) few
+
+pub tilt_small : (near far aside : ℤ) → FitsSigned w32 near → FitsSigned w32 far → unsigned_abs aside ≤ 4096 → unsigned_abs ((far -ℤ near) *ℤ aside) ≤ 2 ^ 44
+tilt_small near far aside a b few = product_small (far -ℤ near) aside (2 ^ 32) 4096 (step_small near far a b) few
+
+pub level_small : (near far e aside : ℤ) → FitsSigned w32 near → FitsSigned w32 far → IsLevel e → unsigned_abs aside ≤ 4096 → unsigned_abs ((near -ℤ e) -ℤ ((far -ℤ near) *ℤ aside)) ≤ 2 ^ 46
+level_small near far e aside a b is few = rest_small (near -ℤ e) ((far -ℤ near) *ℤ aside) (omega (arith, base_small near e a is)) (omega (arith, tilt_small near far aside a b few))
+
+pub ramp_is : (f : Family) (k : ℕ) (aside near far : ℤ) (t : Target) → IsFamily f → IsLine f k → FitsSigned w32 near → FitsSigned w32 far → unsigned_abs aside ≤ 4096
+    → IsTarget t → Passes k aside t → IsRampAt (ramp_of f k aside near far) t
+ramp_is f k aside near far t is line a b few is_t passes =
+    let m = past k aside t passes in
+    let step = far -ℤ near in
+    let base = near -ℤ f.eye in
+    let gains : value_at (ramp_of f k aside near far) t ≡ (base *ℤ pos t.line) +ℤ (pos m.0 *ℤ step) = ramp_gains base step aside t.aside t.line k m.0 m.2 in
+    let one = product_small base (pos t.line) (2 ^ 33) 4096 (base_small near f.eye a is.eye) (omega (arith, is_t.line)) in
+    let two = product_small (pos m.0) step 4096 (2 ^ 32) (omega (arith, is_t.line, m.1)) (step_small near far a b) in
+    let sum = sum_small (base *ℤ pos t.line) (pos m.0 *ℤ step) (omega (arith, one)) (omega (arith, two)) in
+    record {
+      lines = (line.0, line.1);
+      gain = gain_small near far k a b line.1;
+      level = level_small near far f.eye aside a b is.eye few;
+      value = rw gains (omega (arith, sum));
+    }
+
+-- between two cells
+pub shows_ramp : (cells : List (Option ℤ)) (f : Family) (k c y : ℕ) (aside near far rise : ℤ) (t : Target) → StandsAt f y t → k < t.line → Passes k aside t → pos c ≡ pos f.side.at +ℤ aside
+    → get_or cells (near_index f k c) None ≡ Some near → get_or cells (near_index f k c + f.side.stride) None ≡ Some far
+    → hides_by (ramp_of f k aside near far) t rise ≡ line_blocks cells f t.line y rise k
+shows_ramp cells f k c y aside near far rise t stands later passes at some also =
+    let m = past k aside t passes in
+    let here = crossing_is cells f k c m.0 y aside rise t stands later m.1 m.2 at in
+    shown_between near far f.eye rise aside t.aside t.line k m.0 m.1 (omega arith) m.2 ∙ sym (here ∙ rw (some, also) refl)
+
+-- through the centre of a cell, whatever is beside it
+pub shows_centre : (cells : List (Option ℤ)) (f : Family) (k c y : ℕ) (aside near rise : ℤ) (t : Target) → StandsAt f y t → k < t.line → (t.aside *ℤ pos k) ≡ aside *ℤ pos t.line → pos c ≡ pos f.side.at +ℤ aside
+    → get_or cells (near_index f k c) None ≡ Some near → hides_by (ramp_of f k aside near near) t rise ≡ line_blocks cells f t.line y rise k
+shows_centre cells f k c y aside near rise t stands later centre at some =
+    let is : (t.aside *ℤ pos k) ≡ (aside *ℤ pos t.line) +ℤ pos 0 = omega (arith, ints, centre) in
+    let here = crossing_is cells f k c 0 y aside rise t stands later (omega arith) is at in
+    shown_between near near f.eye rise aside t.aside t.line k 0 (omega arith) (omega arith) is ∙ sym (here ∙ rw some refl)

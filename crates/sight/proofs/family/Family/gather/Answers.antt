@@ -1,0 +1,10 @@
+use Rattle.std.proofs.Common.{arith}
+use Rattle.sight.proofs.Gathered.{all_gathered}
+use Rattle.sight.proofs.family.Family.gather.Goals as goal
+
+pub returns-clause-few : goal.returns-clause-few
+returns-clause-few c = omega (arith, c.loop-line.invariant.few)
+
+pub returns-clause-rays : goal.returns-clause-rays
+returns-clause-rays c =
+    all_gathered c.args.self c.args.window c.args.marks.now c.loop-line.line c.loop-line.rays.items (omega arith) (λ m crosses. omega (arith, c.end_line.ensures.end m crosses)) c.loop-line.invariant

@@ -1,0 +1,29 @@
+use Rattle.std.proofs.Common.{arith, sym, ap, subst, ◌∙◌, ◌≡◌, ℕ, ◌*◌, ◌+◌, ◌-◌, ◌++◌, ◌∷◌, [], List, get_or, false}
+use Rattle.horizons.specs.declared.target.Target.{Target}
+use Rattle.sight.specs.Sweep.{lead_of}
+use Rattle.sight.specs.Hiding.{target_at, AreRays, Crosses, IsInRun, mark_at}
+use Rattle.sight.proofs.Gathered.{cell_passed, cell_taken}
+use Rattle.sight.proofs.family.Family.gather_line.Goals as goal
+use Rattle.sight.proofs.family.Family.gather_line.Goals.{then-marks-row+in_ok-push, else-marks-row}
+
+pub loop-cell-preserved : goal.loop-cell-preserved
+loop-cell-preserved c =
+    let f = c.args.self in
+    let window = c.args.window in
+    let n = c.args.line in
+    let marks = c.args.marks.now in
+    let cell = c.loop-cell.cell in
+    let old = c.loop-cell.rays.items in
+    let lead = c.lead_of-lead.ensures in
+    let Q : ℕ → Type 0 = λ x. IsInRun window.lines x in
+    let crosses : Crosses f window n = record { later = c.requires.later; line = c.requires.line; within = subst Q lead (c.has.ensures.0 c.if-not-has.false) } in
+    let P : List Target → Type 0 = λ rays. AreRays f window marks n (cell + 1) rays in
+    elim c.if-marks-row.branch [
+      | then-marks-row+in_ok-push w ↦
+          let items : c.if-marks-row.rays.items ≡ old ++ target_at f n cell ∷ [] = ap (λ v. v.items) w.rays-is ∙ w.in_ok-push.ensures.items ∙ ap (λ t. old ++ t ∷ []) w.target_at.ensures in
+          subst P (sym items) (cell_taken f window marks n cell old c.requires.family c.requires.window crosses (omega arith, omega arith) c.loop-cell.invariant)
+      | else-marks-row w ↦
+          let unmarked : mark_at window (lead_of f n) cell marks ≡ false =
+          ap (λ x. get_or marks ((x - window.lines.first) * window.lines.stride + (cell - window.side.first) * window.side.stride) false) (sym lead) ∙ w.if-marks-row.false in
+          subst P (ap (λ v. v.items) (sym w.rays-is)) (cell_passed f window marks n cell old unmarked c.loop-cell.invariant)
+    ]

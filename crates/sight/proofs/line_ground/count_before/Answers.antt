@@ -1,0 +1,19 @@
+use Rattle.std.proofs.Common.{arith, ◌+◌, pos}
+use Rattle.std.proofs.lemmas.Option.{slice_get-get_or}
+use Rattle.horizons.proofs.Sizes.{back_short}
+use Rattle.sight.proofs.Laid.{before_to}
+use Rattle.sight.proofs.line_ground.count_before.Goals as goal
+
+pub loop-leap-preserved : goal.loop-leap-preserved
+loop-leap-preserved c =
+    let targets = c.args.targets.now in
+    let l = c.loop-leap in
+    let next = l.low + l.leap in
+    let back = back_short c.args.aside (omega (arith, c.requires.aside)) in
+    let told = rw back at c.is_before.ensures in
+    let at = slice_get-get_or targets next (record { aside = pos 0; line = 0 }) (omega arith) in
+    rw back (record {
+      range = (omega arith, omega arith);
+      leap = (omega arith, omega arith);
+      before = before_to targets c.args.line next c.args.aside _ c.requires.targets at (told.0 c.if-not-is_before.false);
+    })

@@ -1,0 +1,47 @@
+-- Marks of the cells of a window, and which of them a family hides. No public clause cites it.
+use Rattle.std.specs.Prelude.{◌≡◌, ℕ, ◌+◌, ◌-◌, ◌*◌, ◌<◌, ◌≤◌, Bool, true, false, ◌⊎◌, ℤ, pos, ◌+ℤ◌, ◌-ℤ◌, List, length, Option, None, Some, unwrap_or, slice_get, slice_index_or}
+use Rattle.horizons.specs.declared.target.Target.{Target}
+use Rattle.sight.specs.Sweep.{lead_of, aside_of, IsLine, StandsAt}
+use Rattle.sight.specs.declared.family.Family.{Family}
+use Rattle.sight.specs.declared.window.Run.{Run}
+use Rattle.sight.specs.declared.window.Window.{Window}
+
+-- The coordinate is one of the run's.
+abbrev pub IsInRun : Run → ℕ → Type 0
+IsInRun r x = (r.first ≤ x) × (x < r.first + r.cells)
+
+-- The window lies in the grid, and has a mark for each of its cells.
+pub record IsWindow (f : Family) (w : Window) (marks : List Bool) : Type 0 where
+  pub lines : w.lines.first + w.lines.cells ≤ 4096
+  pub side : w.side.first + w.side.cells ≤ f.side.cells
+  pub strides : (w.lines.stride ≤ 4096) × (w.side.stride ≤ 4096)
+  pub inside : (x y : ℕ) → x < w.lines.cells → y < w.side.cells → x * w.lines.stride + y * w.side.stride < length marks
+
+-- Line n of the family is there and not the first, and crosses the window.
+pub record Crosses (f : Family) (w : Window) (n : ℕ) : Type 0 where
+  pub later : 2 ≤ n
+  pub line : IsLine f n
+  pub within : IsInRun w.lines (lead_of f n)
+
+-- Whether the cell at x and y is marked.
+abbrev pub mark_at : Window → ℕ → ℕ → List Bool → Bool
+mark_at w x y marks = slice_index_or marks ((x - w.lines.first) * w.lines.stride + (y - w.side.first) * w.side.stride) false
+
+abbrev pub target_at : Family → ℕ → ℕ → Target
+target_at f n y = record { aside = aside_of f y; line = n }
+
+-- Rays to marked cells, in the order of the lines: all of the lines before line n, and of that line all before cell c.
+pub record AreRays (f : Family) (w : Window) (marks : List Bool) (n c : ℕ) (rays : List Target) : Type 0 where
+  pub few : length rays ≤ n * 4096 + (c - w.side.first)
+  pub each : (u : ℕ) (t : Target) → slice_get rays u ≡ Some t → (y : ℕ) × StandsAt f y t × IsInRun w.side y × Crosses f w t.line × (t.line ≤ n)
+  pub sorted : (u v : ℕ) (s t : Target) → u ≤ v → slice_get rays u ≡ Some s → slice_get rays v ≡ Some t → s.line ≤ t.line
+  pub whole : (m y : ℕ) → (m < n) ⊎ ((m ≡ n) × (y < c)) → Crosses f w m → IsInRun w.side y → mark_at w (lead_of f m) y marks ≡ true
+      → (u : ℕ) × (slice_get rays u ≡ Some (target_at f m y))
+
+-- The height of cell y of line n, None where it has none.
+abbrev pub height_at : List (Option ℤ) → Family → ℕ → ℕ → Option ℤ
+height_at cells f n y = slice_index_or cells (lead_of f n * f.lines.stride + y * f.side.stride) None
+
+-- How much a target, so high above the ground of cell y of line n, is above the eye.
+abbrev pub rise_at : List (Option ℤ) → Family → ℕ → ℕ → ℕ → ℤ
+rise_at cells f height n y = (unwrap_or (height_at cells f n y) (pos 0) +ℤ pos height) -ℤ f.eye

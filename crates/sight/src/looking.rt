@@ -1,0 +1,91 @@
+// Looks from line to line at what stands before the targets.
+ghost use Rattle.std.specs.Prelude.{◌≡◌, ◌^◌, ◌<◌, ◌≤◌, ℤ, ℕ, List, Option, Some, IfOk, OnOk, unsigned_abs};
+ghost use Rattle.horizons.specs.declared.horizon.Piece.{Piece};
+ghost use Rattle.horizons.specs.declared.ramp.Ramp.{Ramp};
+ghost use Rattle.horizons.specs.Horizons.{AreTargets, IsTarget, IsRampAt, IsUpTo, extent, hides, ramp_at};
+ghost use Rattle.sight.specs.Sweep.{IsFamily, IsLine};
+ghost use Rattle.sight.specs.Looking.{LooksFrom};
+ghost use Rattle.sight.specs.declared.family.Family.{Family};
+
+use crate::family::Family;
+use crate::sweep::Sweep;
+use horizons::{Cursor, Target};
+use std::alloc::{AllocError, Global};
+use terrain::Height;
+
+/// A cursor that has not gone past a rank: this one, unless it was asked about a later rank.
+#[inline(always)]
+fn cursor_at(cursor: Cursor, last: usize, rank: usize) -> Cursor
+    ensures { (pieces : List Piece) → IsUpTo pieces cursor last → IsUpTo pieces result rank }
+{
+    if rank < last { Cursor::start() } else { cursor }
+}
+
+/// A sweep up to a line, and where the looks of that line's targets have come to.
+#[derive(Drop)]
+pub struct Look {
+    pub sweep: Sweep,
+    pub line: u32,
+    pub cursor: Cursor,
+    pub last: usize,
+}
+
+impl Look {
+    /// From the first line.
+    pub(crate) fn new(alloc: Global, targets: &[Target]) -> Result<Self, AllocError>
+        requires { AreTargets targets.now }
+        ensures { IfOk result (λ l. (cells : List (Option ℤ)) (f : Family) → LooksFrom cells f targets.now 1 l) }
+    {
+        Ok(Look {
+            sweep: Sweep::new(alloc, targets)?,
+            line: 1,
+            cursor: Cursor::start(),
+            last: 0,
+        })
+    }
+
+    /// Goes on to a line.
+    pub(crate) fn go_to(
+        &mut self,
+        cells: &[Option<Height>],
+        family: Family,
+        line: u32,
+        targets: &[Target],
+    ) -> Result<(), AllocError>
+        requires family { IsFamily family }
+        requires line { IsLine family line }
+        requires range { (0 < self.old.line) × (self.old.line ≤ line) }
+        requires targets { AreTargets targets.now }
+        requires before { LooksFrom cells.now family targets.now self.old.line self.old }
+        ensures { OnOk result (LooksFrom cells.now family targets.now line self.new) }
+    {
+        if self.line == line {
+            return Ok(());
+        }
+        self.sweep
+            .pass_lines(cells, family, self.line, line, targets)?;
+        self.line = line;
+        self.cursor = Cursor::start();
+        Ok(())
+    }
+
+    /// Whether a line before this one hides the target of a rank.
+    #[inline(always)]
+    pub(crate) fn hides(&mut self, rank: usize, target: Target, rise: i64) -> bool
+        requires rank { rank < extent self.old.sweep.highest }
+        requires cursor { IsUpTo self.old.sweep.highest self.old.cursor self.old.last }
+        requires target { IsTarget target }
+        requires at { (r : Ramp) → ramp_at self.old.sweep.highest rank ≡ Some r → IsRampAt r target }
+        requires rise { unsigned_abs rise ≤ 2 ^ 50 }
+        ensures answer { result ≡ hides self.old.sweep.highest rank target rise }
+        ensures line { self.new.line ≡ self.old.line }
+        ensures highest { self.new.sweep ≡ self.old.sweep }
+        ensures cursor { IsUpTo self.new.sweep.highest self.new.cursor self.new.last }
+    {
+        let mut cursor = cursor_at(self.cursor, self.last, rank);
+        let hides = self.sweep.highest.hides(&mut cursor, rank, target, rise);
+        self.cursor = cursor;
+        self.last = rank;
+        hides
+    }
+}

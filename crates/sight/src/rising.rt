@@ -1,0 +1,41 @@
+// How much targets rise above the eye.
+ghost use Rattle.std.specs.Prelude.{◌≡◌, ℕ, ◌≤◌};
+ghost use Rattle.horizons.specs.Horizons.{IsTarget};
+ghost use Rattle.horizons.specs.declared.target.Target.{Target};
+ghost use Rattle.sight.specs.Sweep.{IsFamily, IsLine, IsRise, StandsAt};
+ghost use Rattle.sight.specs.Hiding.{height_at, rise_at};
+
+use crate::family::{Family, height_at};
+use horizons::Target;
+use terrain::Height;
+
+impl Family {
+    /// The height of a target's cell, None where it has none.
+    #[inline(always)]
+    fn height_of(self, cells: &[Option<Height>], target: Target) -> Option<Height>
+        requires family { IsFamily self }
+        requires line { IsLine self target.line }
+        requires target { IsTarget target }
+        ensures { (y : ℕ) → StandsAt self y target → result ≡ height_at cells.now self target.line y }
+    {
+        match self.index_at(target.line, target.aside) {
+            Some(index) => height_at(cells, index),
+            None => None,
+        }
+    }
+
+    /// How much a target, so high above its cell's ground, is above the eye; where the cell has no data its ground
+    /// counts as 0.
+    #[inline(always)]
+    pub(crate) fn rise(self, cells: &[Option<Height>], target: Target, height: u32) -> i64
+        requires family { IsFamily self }
+        requires line { IsLine self target.line }
+        requires target { IsTarget target }
+        requires height { height ≤ 1000000 }
+        ensures value { (y : ℕ) → StandsAt self y target → result ≡ rise_at cells.now self height target.line y }
+        ensures small { IsRise result }
+    {
+        let ground = self.height_of(cells, target).unwrap_or(0);
+        ground as i64 + height as i64 - self.eye
+    }
+}

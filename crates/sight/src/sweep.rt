@@ -1,0 +1,79 @@
+// A horizon that rises line by line, as an observer looks outward.
+ghost use Rattle.std.specs.Prelude.{◌≡◌, ◌+◌, ◌≤◌, ℤ, List, Option, IfOk, OnOk};
+ghost use Rattle.horizons.specs.Horizons.{AreTargets};
+ghost use Rattle.sight.specs.Sweep.{IsFamily, IsLine, HidesBefore};
+ghost use Rattle.sight.specs.declared.family.Family.{Family};
+
+use crate::family::Family;
+use crate::line_ground::lay_ground;
+use horizons::{Horizon, Ramp, Target, greater};
+use std::alloc::{AllocError, Global};
+use std::mem;
+use terrain::Height;
+
+/// The greatest ground of the lines so far over each target, and room for that of one line more.
+#[derive(Drop)]
+pub struct Sweep {
+    pub highest: Horizon,
+    ground: Horizon,
+    spare: Horizon,
+}
+
+impl Sweep {
+    /// Before the first line.
+    pub(crate) fn new(alloc: Global, targets: &[Target]) -> Result<Self, AllocError>
+        requires { AreTargets targets.now }
+        ensures { IfOk result (λ s. (cells : List (Option ℤ)) (f : Family) → HidesBefore cells f targets.now 1 s.highest) }
+    {
+        let mut highest = Horizon::new(alloc);
+        highest.push(targets.len(), Ramp::nothing())?;
+        Ok(Sweep {
+            highest,
+            ground: Horizon::new(alloc),
+            spare: Horizon::new(alloc),
+        })
+    }
+
+    /// Past a line.
+    fn pass(
+        &mut self,
+        cells: &[Option<Height>],
+        family: Family,
+        line: u32,
+        targets: &[Target],
+    ) -> Result<(), AllocError>
+        requires family { IsFamily family }
+        requires line { IsLine family line }
+        requires targets { AreTargets targets.now }
+        requires before { HidesBefore cells.now family targets.now line self.old.highest }
+        ensures { OnOk result (HidesBefore cells.now family targets.now (line + 1) self.new.highest) }
+    {
+        lay_ground(cells, family, line, targets, &mut self.ground)?;
+        greater(targets, &self.highest, &self.ground, &mut self.spare)?;
+        mem::swap(&mut self.highest, &mut self.spare);
+        Ok(())
+    }
+
+    /// Past the lines from one on, and before another.
+    pub(crate) fn pass_lines(
+        &mut self,
+        cells: &[Option<Height>],
+        family: Family,
+        from: u32,
+        to: u32,
+        targets: &[Target],
+    ) -> Result<(), AllocError>
+        requires family { IsFamily family }
+        requires range { from ≤ to }
+        requires from { IsLine family from }
+        requires to { IsLine family to }
+        requires targets { AreTargets targets.now }
+        requires before { HidesBefore cells.now family targets.now from self.old.highest }
+        ensures { OnOk result (HidesBefore cells.now family targets.now to self.new.highest) }
+    {
+        for line in from..to {
+            self.pass(cells, family, line, targets)?;
+        }
+        Ok(())
+    }
+}
