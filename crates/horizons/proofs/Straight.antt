@@ -92,7 +92,7 @@ above_between r s t u v false is_t is_u is_v low high first last =
     not_if_not_over r s u (holds_between (gain r s) (gain s r) (level s r) (level r s) t u v is_t.line.0 is_v.line.0 low high (not_over_if_not r s t first) (not_over_if_not r s v last))
 
 -- slopes do not fall along the targets
-slope_up : (targets : List Target) (i j : ℕ) (t u : Target) → AreTargets targets → i ≤ j → slice_get targets i ≡ Some t → slice_get targets j ≡ Some u → IsSlopeUpTo t u
+pub slope_up : (targets : List Target) (i j : ℕ) (t u : Target) → AreTargets targets → i ≤ j → slice_get targets i ≡ Some t → slice_get targets j ≡ Some u → IsSlopeUpTo t u
 slope_up targets i j t u are h at_i at_j =
     elim (cases_lt i j) [
       | inl less ↦ are.sorted i j t u less at_i at_j
