@@ -25,6 +25,16 @@ const PITS: &[u8] =
 const VALLEY: &[u8] =
     b"ncols 6\nnrows 3\nxllcorner 0\nyllcorner 0\ncellsize 1\n9 9 9 9 9 9\n9 1 5 4 1 6\n9 9 9 9 9 9\n";
 
+/// Two corridors through two tiles of side 5, each with its way out in another one: into each tile comes a count
+/// of the other.
+const CORRIDORS: &[u8] = b"ncols 10\nnrows 5\nxllcorner 0\nyllcorner 0\ncellsize 1
+9 9 9 9 9 9 1 9 9 9
+9 9 9 1 1 1 1 9 9 9
+9 9 9 9 9 9 9 9 9 9
+9 9 9 1 1 1 1 9 9 9
+9 9 9 1 9 9 9 9 9 9
+";
+
 const LEVEL: &[u8] =
     b"ncols 5\nnrows 2\nxllcorner 0\nyllcorner 0\ncellsize 1\n5 5 5 5 5\n5 5 5 5 5\n";
 
@@ -98,7 +108,6 @@ fn cut(rt: &impl Abort, alloc: Global, text: &[u8], side: u32) -> (Grid, Tiling)
     (grid, tiling)
 }
 
-// The steps of the pit reach the first of four tiles in the second round, and the third changes nothing.
 #[test]
 fn tiles_meet_at_each_stage(rt: HostRuntime) {
     let alloc = rt.alloc();
@@ -106,9 +115,7 @@ fn tiles_meet_at_each_stage(rt: HostRuntime) {
     let gate = Meeting::new();
     let level = filled(&rt, alloc, &pit, &tiling, 2, &gate).expect(&rt, "levels");
     gate.expect(&rt, 4, 4, "filled");
-    let gate = Meeting::new();
-    let ways = directions(&rt, alloc, &level, &tiling, 2, &gate).expect(&rt, "ways");
-    gate.expect(&rt, 5, 4, "directions");
+    let ways = directions(&rt, alloc, &level, &tiling, 2, &NoGate).expect(&rt, "ways");
     let gate = Meeting::new();
     assert!(rt; accumulation(&rt, alloc, &ways, &tiling, 2, &gate).is_ok());
     gate.expect(&rt, 2, 4, "accumulation");
@@ -127,11 +134,34 @@ fn tiles_with_inner_cells_meet(rt: HostRuntime) {
     let alloc = rt.alloc();
     let (valley, tiling) = cut(&rt, alloc, VALLEY, 3);
     let gate = Meeting::new();
-    let level = filled(&rt, alloc, &valley, &tiling, 2, &gate).expect(&rt, "levels");
+    let level = filled(&rt, alloc, &valley, &tiling, 2, &gate);
+    assert!(rt; level.is_ok());
     gate.expect(&rt, 4, 2, "filled");
+}
+
+// After the first counts and the first round, a round has a job for each tile into which a count comes; then come codes.
+#[test]
+fn tiles_meet_in_each_round(rt: HostRuntime) {
+    let alloc = rt.alloc();
+    let (corridors, tiling) = cut(&rt, alloc, CORRIDORS, 5);
+    let level = filled(&rt, alloc, &corridors, &tiling, 1, &NoGate).expect(&rt, "levels");
     let gate = Meeting::new();
     assert!(rt; directions(&rt, alloc, &level, &tiling, 2, &gate).is_ok());
-    gate.expect(&rt, 5, 2, "directions");
+    gate.expect(&rt, 4, 2, "directions");
+}
+
+// The steps of the pit come into the first of four tiles alone, once.
+#[test]
+fn one_job_for_one_tile(rt: HostRuntime) {
+    let alloc = rt.alloc();
+    let (pit, tiling) = cut(&rt, alloc, PITS, 2);
+    let level = filled(&rt, alloc, &pit, &tiling, 1, &NoGate).expect(&rt, "levels");
+    let gate = Meeting {
+        looks: 0,
+        ..Meeting::new()
+    };
+    assert!(rt; directions(&rt, alloc, &level, &tiling, 2, &gate).is_ok());
+    assert_eq!(rt; gate.all.load(Ordering::SeqCst), 13);
 }
 
 // Each of three tiles has one job at each of three stages, also where one worker does them in turn.
@@ -154,7 +184,7 @@ fn three_stages_of_three_jobs(rt: HostRuntime) {
     assert_eq!(rt; gate.all.load(Ordering::SeqCst), 9);
 }
 
-/// What a run in tiles of side 2 by two workers writes below the header.
+/// What a run over the corridors in tiles of side 5 by two workers writes.
 fn met_rows<R: Abort + Threads + Wait + Sync>(
     rt: &R,
     alloc: Global,
@@ -162,15 +192,15 @@ fn met_rows<R: Abort + Threads + Wait + Sync>(
     stages: u64,
     name: &str,
 ) -> Vec<u8> {
-    let options = Options::new(map, 2, 2, 0).expect(rt, "options");
+    let options = Options::new(map, 5, 2, 0).expect(rt, "options");
     let gate = Meeting::new();
     let mut out = Vec::new(alloc);
-    let mut reader = Counted::new(PITS);
+    let mut reader = Counted::new(CORRIDORS);
     let mut writer = Counted::new(&mut out);
     let result = run_gated(rt, alloc, &options, &mut reader, &mut writer, &gate);
     drop(writer);
     assert_eq!(rt; result, Ok(()), "{name}");
-    gate.expect(rt, stages, 4, name);
+    gate.expect(rt, stages, 2, name);
     out
 }
 
@@ -192,19 +222,65 @@ fn tiles_meet(rt: HostRuntime) {
         radius: 2,
     };
     for (map, stages, rows) in [
-        (Map::Fill, 4, "\n9 9 9 9\n9 3 9 9\n9 9 3 9\n9 9 9 3\n"),
-        (Map::Flow, 9, "\n2 4 8 0\n1 2 4 8\n128 1 2 4\n0 128 1 0\n"),
+        (
+            Map::Fill,
+            4,
+            "
+9 9 9 9 9 9 1 9 9 9
+9 9 9 1 1 1 1 9 9 9
+9 9 9 9 9 9 9 9 9 9
+9 9 9 1 1 1 1 9 9 9
+9 9 9 1 9 9 9 9 9 9
+",
+        ),
+        (
+            Map::Flow,
+            8,
+            "
+0 0 2 4 4 1 0 16 0 0
+0 1 1 1 1 128 64 16 1 0
+0 1 2 4 4 4 4 8 1 0
+0 1 1 4 8 16 16 16 1 0
+0 0 1 0 16 64 64 32 0 0
+",
+        ),
         (
             Map::Accumulate,
-            11,
-            "\n0 0 0 0\n0 5 0 0\n0 0 10 0\n0 0 0 13\n",
+            10,
+            "
+0 0 0 0 0 0 12 0 0 0
+0 0 1 4 6 7 1 0 0 1
+0 0 1 0 0 0 0 0 0 1
+0 0 1 5 10 8 5 0 0 1
+0 0 0 19 0 0 0 0 0 0
+",
         ),
-        (Map::Basins, 12, "\n3 3 3 1\n3 3 3 3\n3 3 3 3\n2 3 3 3\n"),
-        (view, 1, "\n2 2 2 0\n2 2 0 1\n2 0 1 1\n0 1 1 1\n"),
+        (
+            Map::Basins,
+            11,
+            "
+1 2 3 3 3 3 3 3 4 5
+6 3 3 3 3 3 3 3 7 7
+8 14 14 14 14 14 14 14 9 9
+10 14 14 14 14 14 14 14 11 11
+12 13 14 14 14 14 14 14 15 16
+",
+        ),
+        (
+            view,
+            1,
+            "
+2 2 2 0 0 0 0 0 0 0
+2 2 0 1 0 0 0 0 0 0
+2 0 1 1 1 0 0 0 0 0
+0 1 1 1 1 1 0 0 0 0
+0 0 1 1 1 0 0 0 0 0
+",
+        ),
     ] {
         let out = met_rows(&rt, rt.alloc(), map, stages, rows);
         let wanted = format!(in rt.alloc();
-            "ncols         4\nnrows         4\nxllcorner     0\nyllcorner     0\ncellsize      1\nNODATA_value  -9999{rows}"
+            "ncols         10\nnrows         5\nxllcorner     0\nyllcorner     0\ncellsize      1\nNODATA_value  -9999{rows}"
         );
         let wanted = wanted.expect(&rt, "a text");
         assert_eq!(rt; out.as_slice(), wanted.as_bytes());
