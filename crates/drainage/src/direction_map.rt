@@ -51,7 +51,7 @@ impl Directions {
         requires { IsInside self.now.terrain place }
         ensures { result ≡ code_at (directed_of self.now) place }
     {
-        self.codes[place.row as usize * self.cols as usize + place.col as usize]
+        self.codes[place.index_in(self.cols)]
     }
 
     /// The codes of all cells, in row order.

@@ -10,6 +10,9 @@ use crate::word::Word;
 use std::alloc::{AllocError, Global};
 use std::marker::Model;
 
+/// The most columns, and the most rows, of a grid.
+pub const LONGEST_AXIS: u32 = 4_096;
+
 /// There was no memory for a list.
 #[derive(Clone, Copy, Debug, PartialEq, Eq)]
 pub struct NoMemory;
@@ -105,7 +108,7 @@ impl Grid {
         }
     }
 
-    /// The number of columns, from 1 to 4,096.
+    /// The number of columns, from 1 to [`LONGEST_AXIS`].
     pub fn cols(&self) -> u32
         ensures value { result ≡ self.now.terrain.cols }
         ensures lawful { IsLawful self.now }
@@ -113,7 +116,7 @@ impl Grid {
         self.header.cols
     }
 
-    /// The number of rows, from 1 to 4,096.
+    /// The number of rows, from 1 to [`LONGEST_AXIS`].
     pub fn rows(&self) -> u32
         ensures value { result ≡ self.now.terrain.rows }
         ensures lawful { IsLawful self.now }
@@ -180,7 +183,7 @@ impl Grid {
         requires { IsInside self.now.terrain place }
         ensures { result ≡ height_at self.now.terrain place }
     {
-        self.cells[place.row as usize * self.header.cols as usize + place.col as usize]
+        self.cells[place.index_in(self.header.cols)]
     }
 
     /// Whether the cell is an end cell: it has a height, and is a named sink or has a gap among the eight places

@@ -1,12 +1,13 @@
 // A word of the header, kept in place.
 ghost use Rattle.std.specs.Prelude.{◌≡◌, ◌≤◌, ℕ, List, length, take};
+ghost use Rattle.terrain.specs.declared.word.TheConstants.{MOST_WORD_BYTES};
 
 use std::marker::Model;
 
 /// The most bytes that a word may have.
 pub const MOST_WORD_BYTES: usize = 64;
 
-/// A word of at most 64 bytes. Contracts see it as the list of its bytes.
+/// A word of at most [`MOST_WORD_BYTES`] bytes. Contracts see it as the list of its bytes.
 #[derive(Drop)]
 pub struct Word {
     bytes: [u8; MOST_WORD_BYTES],
@@ -18,13 +19,13 @@ impl Model for Word {
 
     ghost view = { λ w. take w.len w.bytes };
 
-    ghost invariant = { λ w. w.len ≤ 64 };
+    ghost invariant = { λ w. w.len ≤ MOST_WORD_BYTES };
 }
 
 impl Word {
     /// A copy of these bytes.
     pub fn from_bytes(bytes: &[u8]) -> Self
-        requires { length bytes.now ≤ 64 }
+        requires { length bytes.now ≤ MOST_WORD_BYTES }
         ensures { result ≡ bytes.now }
     {
         let mut kept = [0; MOST_WORD_BYTES];
@@ -36,7 +37,7 @@ impl Word {
     /// The word's bytes.
     pub fn as_bytes(&self) -> &[u8]
         ensures value { result.now ≡ self.now }
-        ensures short { length result.now ≤ 64 }
+        ensures short { length result.now ≤ MOST_WORD_BYTES }
     {
         &self.bytes[..self.len]
     }

@@ -1,5 +1,5 @@
 ghost use Rattle.std.specs.Prelude.{◌≡◌, ◌+◌, ◌≤◌};
-ghost use Rattle.tiles.specs.Cutting.{is_first_or_last, IsInBounds, is_in_bounds};
+ghost use Rattle.tiles.specs.Cutting.{is_first_or_last, IsInBounds, is_in_bounds, longest_axis};
 
 use terrain::Place;
 
@@ -16,7 +16,7 @@ impl Bounds {
     /// Whether a place lies in these bounds.
     #[inline(always)]
     pub fn contains(self, place: Place) -> bool
-        requires { (self.top + self.rows ≤ 4096) × (self.left + self.cols ≤ 4096) }
+        requires { (self.top + self.rows ≤ longest_axis) × (self.left + self.cols ≤ longest_axis) }
         ensures { result ≡ is_in_bounds self place }
     {
         self.top <= place.row

@@ -229,14 +229,9 @@ impl Tiling {
         requires { AreTileLists self.now results.now }
         ensures { IfOk result (λ whole. IsPutBack self.now results.now whole.items) }
     {
-        let Ok(mut whole) = Vec::with_capacity(alloc, self.cols as usize * self.rows as usize)
-        else {
-            return Err(NoMemory);
-        };
+        let mut whole = Vec::with_capacity(alloc, self.cols as usize * self.rows as usize)?;
         for row in 0..self.rows {
-            if self.push_row(results, row, &mut whole).is_err() {
-                return Err(NoMemory);
-            }
+            self.push_row(results, row, &mut whole)?;
         }
         Ok(whole)
     }

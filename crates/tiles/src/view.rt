@@ -75,8 +75,7 @@ impl<'a, T> TileView<'a, T> {
         ensures { option_copied result ≡ cell_shown self.now place }
     {
         if self.shows(place) {
-            let index = place.row as usize * self.tiling.cols() as usize + place.col as usize;
-            Some(element(self.cells, index))
+            Some(element(self.cells, place.index_in(self.tiling.cols())))
         } else {
             None
         }

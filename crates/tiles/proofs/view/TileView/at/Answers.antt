@@ -9,4 +9,4 @@ element-requires g c =
     let v : View g.row.T.Denot = record { cutting = a.tiling; tile = a.tile; cells = a.cells.now } in
     let shown : is_shown a.tiling a.tile c.args.place ≡ true =
     subst (λ (w : View g.row.T.Denot). is_shown w.cutting w.tile c.args.place ≡ true) (sym c.self.view_is) (sym c.shows.ensures ∙ c.if-shows.true) in
-    rw c.cols.ensures.value (shown_index v c.args.place c.self.invariant.1 shown)
+    rw (c.index_in.ensures, c.cols.ensures.value) (shown_index v c.args.place c.self.invariant.1 shown)
