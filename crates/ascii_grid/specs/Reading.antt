@@ -14,6 +14,7 @@ use Rattle.ascii_grid.specs.declared.judge.Stage.{Stage}
 use Rattle.ascii_grid.specs.declared.judge.Stage.TheVariants.{AtKey, AtValue, AtHeights}
 use Rattle.ascii_grid.specs.declared.judge.Judge.{Judge}
 use Rattle.ascii_grid.specs.declared.progress.Progress.{Progress}
+use Rattle.ascii_grid.specs.declared.progress.TheConstants.{KEPT_BYTES}
 
 -- The words of pairs.
 abbrev pub flat : List (Word × Word) → List Word
@@ -103,4 +104,4 @@ pub record HasWords (p : Progress) (text : List ℕ) : Type 0 where
   pub last : Word
   pub parted : IsParted text ended last
   pub judged : HasJudged p.judge ended
-  pub front : p.word ≡ take 65 last
+  pub front : p.word ≡ take KEPT_BYTES last

@@ -2,7 +2,7 @@
 ghost use Rattle.std.specs.Prelude.{◌≡◌, ◌+◌, ◌-◌, ◌/◌, ◌^◌, ◌≤◌, ◌++◌, ℕ, List, length, drop, decimal};
 ghost use Rattle.ascii_grid.specs.Text.{last_digits, decimals_text, height_text};
 
-use crate::page::Page;
+use crate::page::{PAGE, Page};
 use drainage::Code;
 use itoa::write_digits;
 use terrain::Height;
@@ -15,7 +15,7 @@ const ROOM: usize = 24;
 fn write_last_digits(size: u32, count: usize, buffer: &mut [u8; ROOM]) -> u32
     requires { count ≤ 6 }
     ensures left { result ≡ size / 10 ^ count }
-    ensures written { drop (24 - count) buffer.new ≡ last_digits count size }
+    ensures written { drop (ROOM - count) buffer.new ≡ last_digits count size }
 {
     let mut left = size;
     for done in 0..count {
@@ -30,7 +30,7 @@ fn write_last_digits(size: u32, count: usize, buffer: &mut [u8; ROOM]) -> u32
 fn write_decimals(size: u32, scale: usize, buffer: &mut [u8; ROOM]) -> (u32, usize)
     requires { scale ≤ 6 }
     ensures left { result.0 ≡ size / 10 ^ scale }
-    ensures within { 17 ≤ result.1 × (result.1 ≤ 24) }
+    ensures within { 17 ≤ result.1 × (result.1 ≤ ROOM) }
     ensures written { drop result.1 buffer.new ≡ decimals_text scale size }
 {
     if scale == 0 {
@@ -47,7 +47,7 @@ fn write_decimals(size: u32, scale: usize, buffer: &mut [u8; ROOM]) -> (u32, usi
 #[tactic(auto, using(crate::proofs::Decimals::few_digits))]
 fn write_height(height: Height, scale: u8, buffer: &mut [u8; ROOM]) -> usize
     requires { scale ≤ 6 }
-    ensures within { result ≤ 24 }
+    ensures within { result ≤ ROOM }
     ensures written { drop result buffer.new ≡ height_text scale height }
 {
     let (whole, end) = write_decimals(height.unsigned_abs(), scale as usize, buffer);
@@ -67,9 +67,9 @@ pub(crate) trait CellValue: Copy {
     /// Adds the text to the page.
     fn push_to(self, scale: u8, page: &mut Page)
         requires scale { scale ≤ 6 }
-        requires room { length page.old + 24 ≤ 4096 }
+        requires room { length page.old + ROOM ≤ PAGE }
         ensures text { page.new ≡ page.old ++ text scale self }
-        ensures short { length page.new ≤ length page.old + 24 };
+        ensures short { length page.new ≤ length page.old + ROOM };
 }
 
 impl CellValue for Height {

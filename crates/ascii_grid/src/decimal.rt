@@ -6,6 +6,8 @@ ghost use Rattle.terrain.specs.Decimal.{without_sign, is_negative, is_point, is_
 ghost use Rattle.ascii_grid.specs.Header.{is_size};
 ghost use Rattle.ascii_grid.specs.Plain.{IsPlain};
 
+use terrain::LONGEST_AXIS;
+
 /// One more than the greatest scaled value: numbers above it are kept as this.
 const OVER: u64 = 1_000_000_000_000_000_001;
 
@@ -29,7 +31,7 @@ pub(crate) fn is_above_zero(word: &[u8]) -> bool
     !is_negative(word) && (has_other_than_zero(whole) || has_other_than_zero(fraction))
 }
 
-/// A number of columns or rows: digits, from 1 to 4,096.
+/// A number of columns or rows: digits, from 1 to [`LONGEST_AXIS`].
 pub(crate) fn size(word: &[u8]) -> Option<u16>
     ensures { result ≡ (if is_size word.now then Some (number_of word.now) else None) }
 {
@@ -37,7 +39,7 @@ pub(crate) fn size(word: &[u8]) -> Option<u16>
         return None;
     }
     let number = digits_after(0, word);
-    if 1 <= number && number <= 4096 {
+    if 1 <= number && number <= u64::from(LONGEST_AXIS) {
         Some(number as u16)
     } else {
         None

@@ -9,7 +9,7 @@ use crate::decimal::{is_above_zero, is_decimal, size};
 use crate::fault::{GridFault, Key};
 use crate::key::slot_of;
 use std::alloc::Global;
-use terrain::{Anchor, Grid, GridHeader, Height, Word};
+use terrain::{Anchor, Grid, GridHeader, Height, MOST_WORD_BYTES, Word};
 
 /// What a header has given so far.
 #[derive(Drop)]
@@ -64,7 +64,7 @@ impl Header {
 
     /// Fills a slot, that of a position by a centre or a corner.
     pub(crate) fn put(&mut self, key: Key, centre: bool, word: &[u8]) -> Result<(), GridFault>
-        requires { length word.now ≤ 64 }
+        requires { length word.now ≤ MOST_WORD_BYTES }
         ensures ok { IfOk result (λ _. (is_value key word.now ≡ true)
             × (self.new ≡ with_value self.old key centre word.now)) }
         ensures err { IfErr result (λ f. (is_value key word.now ≡ false) × (f ≡ bad_value key)) }
@@ -159,7 +159,7 @@ impl Header {
 }
 
 fn decimal(word: &[u8]) -> Option<Word>
-    requires { length word.now ≤ 64 }
+    requires { length word.now ≤ MOST_WORD_BYTES }
     ensures { result ≡ (if is_decimal word.now then Some word.now else None) }
 {
     is_decimal(word).then_some(Word::from_bytes(word))

@@ -13,7 +13,7 @@ use crate::fault::{GridFault, Key};
 use crate::header::Header;
 use crate::key::{begins_with_letter, names_centre};
 use std::alloc::Global;
-use terrain::{Grid, Height, Word};
+use terrain::{Grid, Height, MOST_WORD_BYTES, Word};
 
 /// What the next word is.
 #[derive(Clone, Copy)]
@@ -59,12 +59,12 @@ impl Judge {
     /// Judges the next word.
     pub(crate) fn judge(&mut self, word: &[u8]) -> Result<(), GridFault>
         ensures scale { self.new.scale ≡ self.old.scale }
-        ensures long { 64 < length word.now → result ≡ Err GridFault.TooLong }
+        ensures long { MOST_WORD_BYTES < length word.now → result ≡ Err GridFault.TooLong }
         ensures word { (ws : List Word) → HasJudged self.old ws → MatchResult result
             (λ _. HasJudged self.new (ws ++ word.now ∷ []))
             (IsWordFault self.old.scale (ws ++ word.now ∷ [])) }
     {
-        if word.len() > 64 {
+        if word.len() > MOST_WORD_BYTES {
             return Err(GridFault::TooLong);
         }
         match self.stage {
@@ -107,7 +107,7 @@ impl Judge {
     }
 
     fn judge_key(&mut self, word: &[u8]) -> Result<(), GridFault>
-        requires short { length word.now ≤ 64 }
+        requires short { length word.now ≤ MOST_WORD_BYTES }
         requires letter { begins_with_letter word.now ≡ true }
         requires stage { self.old.stage ≡ Stage.AtKey }
         ensures scale { self.new.scale ≡ self.old.scale }
@@ -122,7 +122,7 @@ impl Judge {
     }
 
     fn judge_value(&mut self, key: Key, centre: bool, word: &[u8]) -> Result<(), GridFault>
-        requires short { length word.now ≤ 64 }
+        requires short { length word.now ≤ MOST_WORD_BYTES }
         requires stage { self.old.stage ≡ Stage.AtValue key centre }
         ensures scale { self.new.scale ≡ self.old.scale }
         ensures word { (ws : List Word) → HasJudged self.old ws → MatchResult result
@@ -156,7 +156,7 @@ impl Judge {
 
     #[inline(never)]
     fn judge_height(&mut self, word: &[u8]) -> Result<(), GridFault>
-        requires { length word.now ≤ 64 }
+        requires { length word.now ≤ MOST_WORD_BYTES }
         ensures kept { self.new ≡ record self.old { cells = self.new.cells } }
         ensures word { (ps : List (Word × Word)) (hs : List Word) → AreHeights self.old ps hs →
             MatchResult result (λ _. AreHeights self.new ps (hs ++ word.now ∷ []))
@@ -172,7 +172,7 @@ impl Judge {
     pub(crate) fn judge_value_of_height(&mut self, value: i64) -> Result<(), GridFault>
         ensures kept { self.new ≡ record self.old { cells = self.new.cells } }
         ensures word { (ps : List (Word × Word)) (hs : List Word) (word : Word) → AreHeights self.old ps hs →
-            length word ≤ 64 → scaled_value self.old.scale word ≡ Some value →
+            length word ≤ MOST_WORD_BYTES → scaled_value self.old.scale word ≡ Some value →
             MatchResult result (λ _. AreHeights self.new ps (hs ++ word ∷ []))
             (λ f. (f ≡ GridFault.Memory)
             ⊎ (height_fault self.old.scale (flat ps) (length hs) word ≡ Some f)) }
@@ -186,7 +186,7 @@ impl Judge {
     fn add_cell(&mut self, meaning: Meaning) -> Result<(), GridFault>
         ensures kept { self.new ≡ record self.old { cells = self.new.cells } }
         ensures word { (ps : List (Word × Word)) (hs : List Word) (word : Word) → AreHeights self.old ps hs →
-            length word ≤ 64 → meaning ≡ meaning_of self.old.scale self.old.nodata word →
+            length word ≤ MOST_WORD_BYTES → meaning ≡ meaning_of self.old.scale self.old.nodata word →
             MatchResult result (λ _. AreHeights self.new ps (hs ++ word ∷ []))
             (λ f. (f ≡ GridFault.Memory)
             ⊎ (height_fault self.old.scale (flat ps) (length hs) word ≡ Some f)) }

@@ -8,13 +8,16 @@ use crate::fault::GridFault;
 use crate::judge::Judge;
 use crate::page::Buffer;
 use std::alloc::Global;
+use terrain::MOST_WORD_BYTES;
+
+/// Of a word in progress its front is kept, with one byte more than a word may have.
+const KEPT_BYTES: usize = MOST_WORD_BYTES + 1;
 
 /// The words so far, judged, and the word in progress.
 #[derive(Drop)]
 pub(crate) struct Progress {
     pub(crate) judge: Judge,
-    // Its front: one byte more than a word may have, to know that it is too long.
-    word: Buffer<65>,
+    word: Buffer<KEPT_BYTES>,
 }
 
 impl Progress {

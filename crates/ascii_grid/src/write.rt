@@ -8,14 +8,14 @@ ghost use Rattle.ascii_grid.specs.Text.{cell_text, row_text, rows_text, line_tex
 
 use crate::cell_text::CellValue;
 use crate::counted::{Counted, WriteFailed};
-use crate::page::Page;
+use crate::page::{PAGE, Page};
 use drainage::Code;
 use itoa::Buffer;
 use std::io::Write;
-use terrain::{Anchor, Grid};
+use terrain::{Anchor, Grid, MOST_WORD_BYTES};
 
-/// More bytes than a cell takes with the byte that ends it.
-const CELL_ROOM: usize = 80;
+/// More bytes than a cell takes, or a line of the header, with the byte that ends it.
+const ENTRY_ROOM: usize = 80;
 
 /// The NODATA word of the maps of whole numbers.
 const COUNTS_NODATA: &[u8] = b"-9999";
@@ -35,10 +35,10 @@ fn hand_on<W: Write>(page: &mut Page, out: &mut Counted<W>) -> Result<(), WriteF
 #[inline(always)]
 fn make_room<W: Write>(page: &mut Page, out: &mut Counted<W>) -> Result<(), WriteFailed>
     requires { out.old.failures < 2 ^ 64 - 1 }
-    ensures room { OnOk result (length page.new + 80 ≤ 4096) }
+    ensures room { OnOk result (length page.new + ENTRY_ROOM ≤ PAGE) }
     ensures text { Gathers W.contents out.old page.old out.new page.new [] result }
 {
-    if page.has_room(CELL_ROOM) {
+    if page.has_room(ENTRY_ROOM) {
         return Ok(());
     }
     hand_on(page, out)
@@ -48,10 +48,10 @@ fn make_room<W: Write>(page: &mut Page, out: &mut Counted<W>) -> Result<(), Writ
 #[inline(always)]
 fn push_cell<T: CellValue>(cell: Option<T>, scale: u8, nodata: &[u8], page: &mut Page)
     requires scale { scale ≤ 6 }
-    requires short { length nodata.now ≤ 64 }
-    requires room { length page.old + 64 ≤ 4096 }
+    requires short { length nodata.now ≤ MOST_WORD_BYTES }
+    requires room { length page.old + MOST_WORD_BYTES ≤ PAGE }
     ensures text { page.new ≡ page.old ++ cell_text (T.text scale) nodata.now cell }
-    ensures short { length page.new ≤ length page.old + 64 }
+    ensures short { length page.new ≤ length page.old + MOST_WORD_BYTES }
 {
     match cell {
         Some(value) => value.push_to(scale, page),
@@ -71,7 +71,7 @@ fn write_cell<T: CellValue, W: Write>(
 ) -> Result<(), WriteFailed>
     requires few { out.old.failures < 2 ^ 64 - 1 }
     requires scale { scale ≤ 6 }
-    requires short { length nodata.now ≤ 64 }
+    requires short { length nodata.now ≤ MOST_WORD_BYTES }
     ensures { Gathers W.contents out.old page.old out.new page.new
         (cell_text (T.text scale) nodata.now cell ++ end ∷ []) result }
 {
@@ -91,7 +91,7 @@ fn write_row<T: CellValue, W: Write>(
 ) -> Result<(), WriteFailed>
     requires few { out.old.failures < 2 ^ 64 - 1 }
     requires scale { scale ≤ 6 }
-    requires short { length nodata.now ≤ 64 }
+    requires short { length nodata.now ≤ MOST_WORD_BYTES }
     requires some { 0 < length cells.now }
     ensures { Gathers W.contents out.old page.old out.new page.new
         (row_text (T.text scale) nodata.now cells.now) result }
@@ -114,7 +114,7 @@ fn write_rows<T: CellValue, W: Write>(
 ) -> Result<(), WriteFailed>
     requires few { out.old.failures < 2 ^ 64 - 1 }
     requires scale { scale ≤ 6 }
-    requires short { length nodata.now ≤ 64 }
+    requires short { length nodata.now ≤ MOST_WORD_BYTES }
     requires some { 0 < cols }
     ensures { Gathers W.contents out.old page.old out.new page.new
         (rows_text (T.text scale) nodata.now cols (length cells.now / cols) cells.now) result }
@@ -129,10 +129,10 @@ fn write_rows<T: CellValue, W: Write>(
 /// Adds a line of the header.
 fn push_line(key: &[u8], value: &[u8], page: &mut Page)
     requires key { length key.now ≤ 14 }
-    requires value { length value.now ≤ 64 }
-    requires room { length page.old + 79 ≤ 4096 }
+    requires value { length value.now ≤ MOST_WORD_BYTES }
+    requires room { length page.old + ENTRY_ROOM ≤ PAGE }
     ensures text { page.new ≡ page.old ++ line_text key.now value.now }
-    ensures short { length page.new ≤ length page.old + 79 }
+    ensures short { length page.new ≤ length page.old + ENTRY_ROOM }
 {
     page.push(key);
     page.push(value);
@@ -142,9 +142,9 @@ fn push_line(key: &[u8], value: &[u8], page: &mut Page)
 /// Adds a line of the header that has a number.
 fn push_number_line(key: &[u8], number: u32, page: &mut Page)
     requires key { length key.now ≤ 14 }
-    requires room { length page.old + 79 ≤ 4096 }
+    requires room { length page.old + ENTRY_ROOM ≤ PAGE }
     ensures text { page.new ≡ page.old ++ line_text key.now (decimal number) }
-    ensures short { length page.new ≤ length page.old + 79 }
+    ensures short { length page.new ≤ length page.old + ENTRY_ROOM }
 {
     let mut digits = Buffer::new();
     push_line(key, digits.format(number).as_bytes(), page);
@@ -154,10 +154,10 @@ fn push_number_line(key: &[u8], number: u32, page: &mut Page)
 fn push_anchor(corner: &[u8], centre: &[u8], anchor: &Anchor, page: &mut Page)
     requires corner { length corner.now ≤ 14 }
     requires centre { length centre.now ≤ 14 }
-    requires room { length page.old + 79 ≤ 4096 }
+    requires room { length page.old + ENTRY_ROOM ≤ PAGE }
     ensures text { page.new ≡ page.old ++ anchor_text corner.now centre.now
         (record { centre = anchor.now.centre; word = anchor.now.word }) }
-    ensures short { length page.new ≤ length page.old + 79 }
+    ensures short { length page.new ≤ length page.old + ENTRY_ROOM }
 {
     let key = if anchor.centre { centre } else { corner };
     push_line(key, anchor.word.as_bytes(), page);
@@ -165,7 +165,7 @@ fn push_anchor(corner: &[u8], centre: &[u8], anchor: &Anchor, page: &mut Page)
 
 /// A page that begins with the header.
 fn header_page(grid: &Grid, nodata: &[u8]) -> Page
-    requires { length nodata.now ≤ 64 }
+    requires { length nodata.now ≤ MOST_WORD_BYTES }
     ensures { result ≡ header_text grid.now nodata.now }
 {
     let mut page = Page::new();
@@ -187,7 +187,7 @@ fn write_cells<T: CellValue, W: Write>(
 ) -> Result<(), WriteFailed>
     requires few { out.old.failures < 2 ^ 64 - 1 }
     requires size { length cells.now ≡ grid.now.terrain.cols * grid.now.terrain.rows }
-    requires short { length nodata.now ≤ 64 }
+    requires short { length nodata.now ≤ MOST_WORD_BYTES }
     ensures { Writes W.contents out.old out.new (header_text grid.now nodata.now
         ++ rows_text (T.text grid.now.scale) nodata.now grid.now.terrain.cols grid.now.terrain.rows cells.now)
         result }

@@ -7,8 +7,8 @@ use Rattle.ascii_grid.proofs.Judging.{HasBegun-push}
 use Rattle.ascii_grid.proofs.JudgedWords.{long_fault, height_word, no_first_height, at_key, at_heights, same_header}
 use Rattle.ascii_grid.proofs.judge.Judge.judge.Goals as goal
 
-pub returns-then-word-gt64-clause-word : goal.returns-then-word-gt64-clause-word
-returns-then-word-gt64-clause-word c = λ ws h. long_fault c.args.self.now ws c.args.word.now h c.if-word-gt64.true
+pub returns-then-word-gt-MOST_WORD_BYTES-clause-word : goal.returns-then-word-gt-MOST_WORD_BYTES-clause-word
+returns-then-word-gt-MOST_WORD_BYTES-clause-word c = λ ws h. long_fault c.args.self.now ws c.args.word.now h c.if-word-gt-MOST_WORD_BYTES.true
 
 pub returns-in_err-begin_heights-in-AtKey-clause-word : goal.returns-in_err-begin_heights-in-AtKey-clause-word
 returns-in_err-begin_heights-in-AtKey-clause-word c = λ ws h.
