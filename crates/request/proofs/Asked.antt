@@ -42,6 +42,10 @@ pub named_by : {Z : Type 0} (x : Option (Box SubCommand Z)) (n : Text) (rs : Lis
 named_by None n rs name rows = absurd (none-some n (sym name))
 named_by (Some b) n rs name rows = ap₂ (λ (k : Text) (r : List Row). Some (k, r)) (sym (same_Some _ _ name)) (sym (same_Some _ _ rows))
 
+pub none_by : {Z : Type 0} (x : Option (Box SubCommand Z)) → None ≡ option_map (λ (p : Text × List Row). p.1) (subcommand_rows x) → subcommand_rows x ≡ None
+none_by None none = refl
+none_by (Some b) none = absurd (cc)
+
 module _ (words : List Text) (accepted : fault_of program_app words ≡ []) where
   pub none_named : subcommand_of program_app words ≡ None → IsFaultOf words NoMap
   none_named none = (

@@ -1,50 +1,45 @@
-use Rattle.std.proofs.Common.{rules, ◌≡◌, List, None, IfErr, map, ap, sym, subst, ◌∙◌}
-use Rattle.std.proofs.lemmas.Result.{IfErr-weaker}
-use Rattle.clap.specs.Words.{Text, found_of, rows_of, subcommand_of}
+use Rattle.std.proofs.Common.{List, map, ap, sym, subst, ◌∙◌}
+use Rattle.std.proofs.lemmas.Result.{err_from_is_err_and}
+use Rattle.clap.specs.Words.{Text, found_of, rows_of}
 use Rattle.clap.specs.Faults.{fault_of, is_simple_and_free}
 use Rattle.clap.specs.Kinds.{HasKind}
 use Rattle.request.specs.CommandLine.{Spell, WishFor, program_app}
 use Rattle.request.specs.PlaceWords.{sink_of}
 use Rattle.request.specs.Wish.{IsView}
-use Rattle.request.specs.WordsFaults.{IsFaultOf}
-use Rattle.request.specs.declared.words.WordsFault.TheVariants.{Clap}
-use Rattle.request.proofs.Asked.{accepted, found_in, map_refused, named_by, none_named, options_refused, program_free, sinks_refused, wished}
+use Rattle.request.proofs.Asked.{accepted, found_in, map_refused, named_by, none_by, none_named, options_refused, program_free, sinks_refused, wished}
 use Rattle.request.proofs.Given.{view_without_sinks}
 use Rattle.request.proofs.words.options_asked.Goals as goal
 
 pub returns-in_err-matches-clause-fault : goal.returns-in_err-matches-clause-fault
 returns-in_err-matches-clause-fault c =
     let words : List Text = map (λ w. w.now) c.args.words.now in
-    let same : IfErr c.from_residual-in_err-matches.result (λ y. y ≡ Clap c.in_err-matches.field-0.0) = search rules in
+    let p = err_from_is_err_and c.from_residual-in_err-matches.result c.from_residual-in_err-matches.ensures.1 in
     let kind : HasKind (fault_of program_app words) c.in_err-matches.field-0.0 =
     subst (λ a. HasKind (fault_of a words) c.in_err-matches.field-0.0) c.in_ok-command.ensures
     (c.in_err-matches.ensures.kinds (ap is_simple_and_free c.in_ok-command.ensures ∙ program_free)) in
-    IfErr-weaker c.from_residual-in_err-matches.result _ _ (λ y e. subst (IsFaultOf words) (sym e) kind) same
+    rw (p.1, p.2) kind
 
 pub returns-in_default-clause-fault : goal.returns-in_default-clause-fault
 returns-in_default-clause-fault c =
     let words : List Text = map (λ w. w.now) c.args.words.now in
     let found = found_in _ words c.in_ok-matches.matches c.in_ok-command.ensures c.in_ok-matches.ensures.matches in
-    let none : subcommand_of program_app words ≡ None = search rules in
-    none_named words (accepted _ words c.in_ok-command.ensures c.in_ok-matches.ensures.kinds) none
+    none_named words (accepted _ words c.in_ok-command.ensures c.in_ok-matches.ensures.kinds) (found ∙ none_by _ c.in_default.ensures.rows)
 
 pub returns-in_err-map-clause-fault : goal.returns-in_err-map-clause-fault
 returns-in_err-map-clause-fault c =
     let words : List Text = map (λ w. w.now) c.args.words.now in
     let found = found_in _ words c.in_ok-matches.matches c.in_ok-command.ensures c.in_ok-matches.ensures.matches
     ∙ named_by _ _ _ c.in-Some.ensures.name c.in-Some.ensures.rows in
-    let same : IfErr c.from_residual-in_err-map.result (λ y. y ≡ c.in_err-map.field-0.0) = search rules in
-    IfErr-weaker c.from_residual-in_err-map.result _ _ (λ y e. subst (IsFaultOf words) (sym e)
-    (map_refused words (accepted _ words c.in_ok-command.ensures c.in_ok-matches.ensures.kinds) _ _ found _ c.in_err-map.ensures.none)) same
+    let p = err_from_is_err_and c.from_residual-in_err-map.result c.from_residual-in_err-map.ensures.1 in
+    rw (p.1, p.2) (map_refused words (accepted _ words c.in_ok-command.ensures c.in_ok-matches.ensures.kinds) _ _ found _ c.in_err-map.ensures.none)
 
 pub returns-in_err-sinks-clause-fault : goal.returns-in_err-sinks-clause-fault
 returns-in_err-sinks-clause-fault c =
     let words : List Text = map (λ w. w.now) c.args.words.now in
     let found = found_in _ words c.in_ok-matches.matches c.in_ok-command.ensures c.in_ok-matches.ensures.matches
     ∙ named_by _ _ _ c.in-Some.ensures.name c.in-Some.ensures.rows in
-    let same : IfErr c.from_residual-in_err-sinks.result (λ y. y ≡ c.in_err-sinks.field-0.0) = search rules in
-    IfErr-weaker c.from_residual-in_err-sinks.result _ _ (λ y e. subst (IsFaultOf words) (sym e)
-    (sinks_refused words (accepted _ words c.in_ok-command.ensures c.in_ok-matches.ensures.kinds) _ _ found _ c.in_ok-map.ensures.some _ c.in_err-sinks.ensures.none)) same
+    let p = err_from_is_err_and c.from_residual-in_err-sinks.result c.from_residual-in_err-sinks.ensures.1 in
+    rw (p.1, p.2) (sinks_refused words (accepted _ words c.in_ok-command.ensures c.in_ok-matches.ensures.kinds) _ _ found _ c.in_ok-map.ensures.some _ c.in_err-sinks.ensures.none)
 
 pub returns-in_default-with_options-clause-fault : goal.returns-in_default-with_options-clause-fault
 returns-in_default-with_options-clause-fault c =
