@@ -22,6 +22,8 @@ pub mod Passed
 -- rays in the order of their slopes, and of their lines
 pub mod Ranking
 pub mod Gathered
+-- the marks that a family takes
+pub mod Asked
 -- what a family blocks, against the walk
 pub mod Families
 -- observers and refusals

@@ -8,6 +8,7 @@
 mod family;
 pub mod fault;
 mod gathering;
+mod hiding;
 mod judging;
 pub mod laws;
 pub mod line;
