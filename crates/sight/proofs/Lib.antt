@@ -26,6 +26,9 @@ pub mod Gathered
 pub mod Asked
 -- what a family blocks, against the walk
 pub mod Families
+-- the marks that a tile keeps on all sides of an observer
+pub mod BothSides
+pub mod PlacesLeft
 -- observers and refusals
 pub mod Refused
 -- a tile, observer by observer

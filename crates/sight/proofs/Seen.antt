@@ -4,7 +4,7 @@ use Rattle.terrain.specs.Raster.{Terrain, IsTerrain}
 use Rattle.terrain.specs.Neighbours.{IsInside, height_at}
 use Rattle.terrain.specs.declared.place.Place.{Place}
 use Rattle.sight.specs.Sight.{is_near, is_seen, place_of}
-use Rattle.sight.specs.Walk.{walk_blocks, over_columns, over_rows, IsLevel, IsSightline, AreSightlines}
+use Rattle.sight.specs.Walk.{walk_blocks, over_columns, over_rows, is_open, IsLevel, IsSightline, AreSightlines}
 use Rattle.sight.specs.declared.observer.Observer.{Observer}
 use Rattle.sight.proofs.Crossings.{column_blocks-walk, row_blocks-walk, columns_in_list, rows_in_list, walk_back}
 
@@ -22,6 +22,10 @@ seen_is t o q target radius from to a b from_is to_is near =
     let back_columns = walk_back t.cells (over_columns t p q e f) in
     let back_rows = walk_back t.cells (over_rows t p q e f) in
     rw (from_is, to_is, near, cs, rs, back_columns, back_rows) refl
+
+reached_is : (t : Terrain) (o : Observer) (q : Place) (target radius : ℕ) (from to : ℤ) → height_at t (place_of o) ≡ Some from → height_at t q ≡ Some to → is_near (place_of o) q radius ≡ true
+    → is_seen t o q target radius ≡ is_open t o q target
+reached_is t o q target radius from to from_is to_is near = rw (from_is, to_is, near) refl
 
 small : (t : Terrain) (p q : Place) (e f : ℤ) → IsTerrain t → IsInside t p → IsInside t q → IsLevel e → IsLevel f → IsSightline (over_columns t q p f e) × IsSightline (over_rows t q p f e)
 small t p q e f is a b e_level f_level = (
@@ -56,4 +60,5 @@ lines_are t o q target radius from to is a b from_is to_is near e_level f_level 
       columns_inside = columns_in_list t q p is.size b a;
       rows_inside = rows_in_list t q p is.size b a;
       seen = seen_is t o q target radius from to a b from_is to_is near;
+      reached = reached_is t o q target radius from to from_is to_is near;
     }

@@ -20,6 +20,7 @@ mod passing;
 mod ranks;
 mod reach;
 mod rising;
+mod sides;
 mod sweep;
 mod tile;
 mod tops;

@@ -3,6 +3,7 @@ ghost use Rattle.std.specs.Prelude.{◌≡◌, ◌≤◌, pos, ◌+ℤ◌, false
 ghost use Rattle.terrain.specs.Neighbours.{IsInside};
 ghost use Rattle.sight.specs.Sight.{highest_eye, longest_radius, is_seen, place_of};
 ghost use Rattle.sight.specs.Walk.{IsLevel, AreSightlines};
+ghost use Rattle.sight.specs.Marks.{TellsSeenIfOpen};
 ghost use Rattle.sight.specs.Blocks.{AreTops};
 
 use crate::observer::Observer;
@@ -14,7 +15,7 @@ use terrain::{Grid, Height, Place};
 
 /// How high an eye or a target stands.
 #[inline(always)]
-fn level(height: Height, above: u32) -> i64
+pub(crate) fn level(height: Height, above: u32) -> i64
     requires { above ≤ highest_eye }
     ensures value { result ≡ height +ℤ pos above }
     ensures small { IsLevel result }
@@ -114,6 +115,25 @@ pub fn sees(
         return false;
     }
     !is_blocked(cells, lines.rows)
+}
+
+/// Whether an observer sees a place unless a crossing blocks the line of sight.
+#[inline(always)]
+pub(crate) fn may_see(
+    grid: &Grid,
+    observer: &Observer,
+    target: Place,
+    target_height: u32,
+    radius: u32,
+) -> bool
+    requires observer { IsInside grid.now.terrain (place_of observer.now) }
+    requires target { IsInside grid.now.terrain target }
+    requires eye { observer.now.eye ≤ highest_eye }
+    requires height { target_height ≤ highest_eye }
+    requires radius { (1 ≤ radius) × (radius ≤ longest_radius) }
+    ensures { TellsSeenIfOpen grid.now.terrain observer.now target_height radius target result }
+{
+    lines_of_sight(grid, observer, target, target_height, radius).is_some()
 }
 
 /// As `sees`, by passing over the blocks of cells that the line of sight is above. The blocks'
