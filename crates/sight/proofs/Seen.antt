@@ -1,5 +1,5 @@
 -- What is seen, by the two lines from the target to the observer.
-use Rattle.std.proofs.Common.{arith, refl, ◌≡◌, ℤ, pos, ◌+ℤ◌, ℕ, true, not, ◌&&◌, Some}
+use Rattle.std.proofs.Common.{arith, refl, sym, ap, ◌∙◌, ◌≡◌, ℤ, pos, ◌+ℤ◌, ℕ, Bool, true, false, not, ◌&&◌, Some}
 use Rattle.terrain.specs.Raster.{Terrain, IsTerrain}
 use Rattle.terrain.specs.Neighbours.{IsInside, height_at}
 use Rattle.terrain.specs.declared.place.Place.{Place}
@@ -62,3 +62,16 @@ lines_are t o q target radius from to is a b from_is to_is near e_level f_level 
       seen = seen_is t o q target radius from to a b from_is to_is near;
       reached = reached_is t o q target radius from to from_is to_is near;
     }
+
+-- a line that is blocked hides
+pub hidden_by_columns : (seen a b : Bool) → seen ≡ (not a && not b) → a ≡ true → false ≡ seen
+hidden_by_columns seen a b is blocked = sym (is ∙ ap (λ x. not x && not b) blocked)
+
+pub hidden_by_rows : (seen a b : Bool) → seen ≡ (not a && not b) → b ≡ true → false ≡ seen
+hidden_by_rows seen true b is blocked = sym is
+hidden_by_rows seen false b is blocked = sym (is ∙ ap not blocked)
+
+-- a place is seen unless a crossing blocks, where the rows' first crossings do not, or do
+pub seen_if_open : (seen is_open a b rows : Bool) → seen ≡ (not a && not b) → seen ≡ is_open → (rows ≡ true → b ≡ true) → (not rows && is_open) ≡ seen
+seen_if_open seen is_open a b true is same told = hidden_by_rows seen a b is (told refl)
+seen_if_open seen is_open a b false is same told = sym same
