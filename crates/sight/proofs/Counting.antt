@@ -13,7 +13,7 @@ use Rattle.tiles.specs.Cutting.{IsInBounds}
 use Rattle.tile_maps.specs.Maps.{index_within, AreMadeBelow}
 use Rattle.sight.specs.Sight.{is_seen, viewshed_value}
 use Rattle.sight.specs.Viewed.{value_at, HasValue, counted, AreAtMost}
-use Rattle.sight.specs.Marks.{AreMarked}
+use Rattle.sight.specs.Marks.{AreMarked, TellsSeen}
 use Rattle.sight.specs.declared.observer.Observer.{Observer}
 
 -- the value of a place
@@ -31,7 +31,7 @@ value_counted t os target radius i d p false less e =
 
 -- an observer who looked at the tile
 pub looked : (t : Terrain) (os : List Observer) (target radius i : ℕ) (d : Observer) (b : Bounds) (old new : List (Option ℕ)) (seen : List Bool) → i < length os
-    → AreMadeBelow b (HasValue t (take i os) target radius) (b.rows * b.cols) old → AreMarked b (λ (p : Place). is_seen t (get_or os i d) p target radius) seen
+    → AreMadeBelow b (HasValue t (take i os) target radius) (b.rows * b.cols) old → AreMarked b (TellsSeen t (get_or os i d) target radius) seen
     → length new ≡ length old → ((k : ℕ) → get_or new k None ≡ counted (get_or old k None) (get_or seen k false))
     → AreMadeBelow b (HasValue t (take (i + 1) os) target radius) (b.rows * b.cols) new
 looked t os target radius i d b old new seen less before marks size each = record {

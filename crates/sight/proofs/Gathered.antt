@@ -6,7 +6,7 @@ use Rattle.std.proofs.lemmas.List.{length-append}
 use Rattle.std.proofs.lemmas.Option.{same_Some, slice_get_within}
 use Rattle.horizons.specs.declared.target.Target.{Target}
 use Rattle.sight.specs.Sweep.{lead_of, StandsAt, IsFamily}
-use Rattle.sight.specs.Hiding.{target_at, mark_at, AreRays, Crosses, IsInRun, IsWindow}
+use Rattle.sight.specs.Hiding.{target_at, mark_at, AreRays, Crosses, IsInRun, IsRay, IsWindow}
 use Rattle.sight.specs.declared.family.Family.{Family}
 use Rattle.sight.specs.declared.window.Window.{Window}
 use Rattle.sight.proofs.Ranking.{slice_get-front, slice_get-last}
@@ -36,7 +36,7 @@ line_begun f w marks n rays are = record {
 pub line_ended : (f : Family) (w : Window) (marks : List Bool) (n c : ℕ) (rays : List Target) → w.side.first + w.side.cells ≤ c → c ≤ 4096 → AreRays f w marks n c rays → AreRays f w marks (n + 1) 0 rays
 line_ended f w marks n c rays all few are = record {
   few = omega (arith, are.few);
-  each = λ u t at. let is = are.each u t at in (is.0, is.1, is.2, is.3, omega (arith, is.4));
+  each = λ u t at. let is = are.each u t at in (is.0, omega (arith, is.1));
   sorted = are.sorted;
   whole = λ m y before crosses in_run marked. elim before [
     | inl h ↦ elim (cases_lt m n) [
@@ -50,7 +50,7 @@ line_ended f w marks n c rays all few are = record {
 pub line_passed : (f : Family) (w : Window) (marks : List Bool) (n : ℕ) (rays : List Target) → (Crosses f w n → ⊥) → AreRays f w marks n 0 rays → AreRays f w marks (n + 1) 0 rays
 line_passed f w marks n rays not_there are = record {
   few = omega (arith, are.few);
-  each = λ u t at. let is = are.each u t at in (is.0, is.1, is.2, is.3, omega (arith, is.4));
+  each = λ u t at. let is = are.each u t at in (is.0, omega (arith, is.1));
   sorted = are.sorted;
   whole = λ m y before crosses in_run marked. elim before [
     | inl h ↦ elim (cases_lt m n) [
@@ -94,8 +94,8 @@ cell_taken f w marks n c rays is_f is_w crosses in_run are =
       each = λ u s at. elim (cases_lt u (length rays)) [
         | inl less ↦ are.each u s (old u s less at)
         | inr not ↦
-            let P : Target → Type 0 = λ r. (y : ℕ) × StandsAt f y r × IsInRun w.side y × Crosses f w r.line × (r.line ≤ n) in
-            subst P (new u s not at) (c, stands, in_run, crosses, omega arith)
+            let P : Target → Type 0 = λ r. IsRay f w r × (r.line ≤ n) in
+            subst P (new u s not at) (record { cell = c; stands = stands; within = in_run; crosses = crosses }, omega arith)
       ];
       sorted = λ u v r s le at_r at_s. elim (cases_lt v (length rays)) [
         | inl less ↦ are.sorted u v r s le (old u r (omega arith) at_r) (old v s less at_s)
@@ -104,7 +104,7 @@ cell_taken f w marks n c rays is_f is_w crosses in_run are =
             elim (cases_lt u (length rays)) [
               | inl before ↦
                   let is = are.each u r (old u r before at_r) in
-                  omega (arith, is.4, ap (λ q. q.line) last)
+                  omega (arith, is.1, ap (λ q. q.line) last)
               | inr also ↦ let first : t ≡ r = new u r also at_r in omega (arith, ap (λ q. q.line) last, ap (λ q. q.line) first)
             ]
       ];
@@ -126,7 +126,7 @@ cell_taken f w marks n c rays is_f is_w crosses in_run are =
 pub all_gathered : (f : Family) (w : Window) (marks : List Bool) (n : ℕ) (rays : List Target) → n ≤ 4096 → ((m : ℕ) → Crosses f w m → m < n) → AreRays f w marks n 0 rays → AreRays f w marks 4097 0 rays
 all_gathered f w marks n rays few end are = record {
   few = omega (arith, are.few);
-  each = λ u t at. let is = are.each u t at in (is.0, is.1, is.2, is.3, omega (arith, is.4));
+  each = λ u t at. let is = are.each u t at in (is.0, omega (arith, is.1));
   sorted = are.sorted;
   whole = λ m y before crosses in_run marked. are.whole m y (inl (end m crosses)) crosses in_run marked;
 }

@@ -22,8 +22,13 @@ pub mod Passed
 -- rays in the order of their slopes, and of their lines
 pub mod Ranking
 pub mod Gathered
+-- the marks that a family takes
+pub mod Asked
 -- what a family blocks, against the walk
 pub mod Families
+-- the marks that a tile keeps on all sides of an observer
+pub mod BothSides
+pub mod PlacesLeft
 -- observers and refusals
 pub mod Refused
 -- a tile, observer by observer

@@ -1,22 +1,35 @@
 -- Marks of a part of a grid, one place more at a time.
-use Rattle.std.proofs.Common.{arith, sym, ap, ◌∙◌, ◌≡◌, ◌+◌, ◌<◌, ℕ, Bool, false, List, length, get_or, set, inl, inr}
+use Rattle.std.proofs.Common.{arith, sym, ap, subst, ◌∙◌, ◌≡◌, ◌+◌, ◌<◌, ℕ, Bool, false, List, length, get_or, set, inl, inr}
 use Rattle.std.proofs.lemmas.Bool.{cases_eq}
 use Rattle.std.proofs.lemmas.List.{length-set, get_or-set_same, get_or-set_other}
+use Rattle.terrain.specs.Raster.{Terrain}
 use Rattle.terrain.specs.declared.place.Place.{Place}
 use Rattle.tiles.specs.declared.bounds.Bounds.{Bounds}
 use Rattle.tiles.specs.Cutting.{IsInBounds}
 use Rattle.tile_maps.specs.Maps.{index_within}
 use Rattle.tile_maps.proofs.TileLists.{within_injective, within_below}
-use Rattle.sight.specs.Marks.{AreMarkedBelow}
+use Rattle.sight.specs.Walk.{is_open}
+use Rattle.sight.specs.Marks.{AreMarkedBelow, AreMarked, AreLeft, TellsSeen, TellsSeenIfOpen}
+use Rattle.sight.specs.declared.observer.Observer.{Observer}
 
-pub marked_more : (b : Bounds) (test : Place → Bool) (p : Place) (marks : List Bool) (i : ℕ) (x : Bool) → IsInBounds b p → i ≡ index_within b p → AreMarkedBelow b test i marks → x ≡ test p
-    → AreMarkedBelow b test (i + 1) (set marks i x)
-marked_more b test p marks i x inside at before is = record {
+pub marked_more : (b : Bounds) (Says : Place → Bool → Type 0) (p : Place) (marks : List Bool) (i : ℕ) (x : Bool) → IsInBounds b p → i ≡ index_within b p → AreMarkedBelow b Says i marks → Says p x
+    → AreMarkedBelow b Says (i + 1) (set marks i x)
+marked_more b Says p marks i x inside at before is = record {
   size = length-set marks i x ∙ before.size;
   each = λ q within below. elim (cases_eq (index_within b q) i) [
-    | inl e ↦ (let one : p ≡ q = within_injective b p q inside within (sym at ∙ sym e) in
+    | inl e ↦
+        let one : p ≡ q = within_injective b p q inside within (sym at ∙ sym e) in
         let room : i < length marks = omega (arith, within_below b p inside, before.size) in
-        ap (λ k. get_or (set marks i x) k false) e ∙ get_or-set_same marks i x false room ∙ is ∙ ap test one)
-    | inr ne ↦ get_or-set_other marks i (index_within b q) x false ne ∙ before.each q within (omega arith)
+        let here : get_or (set marks i x) (index_within b q) false ≡ x = ap (λ k. get_or (set marks i x) k false) e ∙ get_or-set_same marks i x false room in
+        subst (Says q) (sym here) (subst (λ (r : Place). Says r x) one is)
+    | inr ne ↦ subst (Says q) (sym (get_or-set_other marks i (index_within b q) x false ne)) (before.each q within (omega arith))
   ];
+}
+
+-- the marks that are left tell what is seen
+pub left_seen : (b : Bounds) (t : Terrain) (o : Observer) (target radius : ℕ) (old new : List Bool) → AreMarked b (TellsSeenIfOpen t o target radius) old → AreLeft b (λ (p : Place). is_open t o p target) old new
+    → AreMarked b (TellsSeen t o target radius) new
+left_seen b t o target radius old new marked left = record {
+  size = left.size ∙ marked.size;
+  each = λ p inside below. left.each p inside ∙ marked.each p inside below;
 }

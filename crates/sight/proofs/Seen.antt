@@ -1,10 +1,10 @@
 -- What is seen, by the two lines from the target to the observer.
-use Rattle.std.proofs.Common.{arith, refl, ◌≡◌, ℤ, pos, ◌+ℤ◌, ℕ, true, not, ◌&&◌, Some}
+use Rattle.std.proofs.Common.{arith, refl, sym, ap, ◌∙◌, ◌≡◌, ℤ, pos, ◌+ℤ◌, ℕ, Bool, true, false, not, ◌&&◌, Some}
 use Rattle.terrain.specs.Raster.{Terrain, IsTerrain}
 use Rattle.terrain.specs.Neighbours.{IsInside, height_at}
 use Rattle.terrain.specs.declared.place.Place.{Place}
 use Rattle.sight.specs.Sight.{is_near, is_seen, place_of}
-use Rattle.sight.specs.Walk.{walk_blocks, over_columns, over_rows, IsLevel, IsSightline, AreSightlines}
+use Rattle.sight.specs.Walk.{walk_blocks, over_columns, over_rows, is_open, IsLevel, IsSightline, AreSightlines}
 use Rattle.sight.specs.declared.observer.Observer.{Observer}
 use Rattle.sight.proofs.Crossings.{column_blocks-walk, row_blocks-walk, columns_in_list, rows_in_list, walk_back}
 
@@ -22,6 +22,10 @@ seen_is t o q target radius from to a b from_is to_is near =
     let back_columns = walk_back t.cells (over_columns t p q e f) in
     let back_rows = walk_back t.cells (over_rows t p q e f) in
     rw (from_is, to_is, near, cs, rs, back_columns, back_rows) refl
+
+reached_is : (t : Terrain) (o : Observer) (q : Place) (target radius : ℕ) (from to : ℤ) → height_at t (place_of o) ≡ Some from → height_at t q ≡ Some to → is_near (place_of o) q radius ≡ true
+    → is_seen t o q target radius ≡ is_open t o q target
+reached_is t o q target radius from to from_is to_is near = rw (from_is, to_is, near) refl
 
 small : (t : Terrain) (p q : Place) (e f : ℤ) → IsTerrain t → IsInside t p → IsInside t q → IsLevel e → IsLevel f → IsSightline (over_columns t q p f e) × IsSightline (over_rows t q p f e)
 small t p q e f is a b e_level f_level = (
@@ -56,4 +60,18 @@ lines_are t o q target radius from to is a b from_is to_is near e_level f_level 
       columns_inside = columns_in_list t q p is.size b a;
       rows_inside = rows_in_list t q p is.size b a;
       seen = seen_is t o q target radius from to a b from_is to_is near;
+      reached = reached_is t o q target radius from to from_is to_is near;
     }
+
+-- a line that is blocked hides
+pub hidden_by_columns : (seen a b : Bool) → seen ≡ (not a && not b) → a ≡ true → false ≡ seen
+hidden_by_columns seen a b is blocked = sym (is ∙ ap (λ x. not x && not b) blocked)
+
+pub hidden_by_rows : (seen a b : Bool) → seen ≡ (not a && not b) → b ≡ true → false ≡ seen
+hidden_by_rows seen true b is blocked = sym is
+hidden_by_rows seen false b is blocked = sym (is ∙ ap not blocked)
+
+-- a place is seen unless a crossing blocks, where the rows' first crossings do not, or do
+pub seen_if_open : (seen is_open a b rows : Bool) → seen ≡ (not a && not b) → seen ≡ is_open → (rows ≡ true → b ≡ true) → (not rows && is_open) ≡ seen
+seen_if_open seen is_open a b true is same told = hidden_by_rows seen a b is (told refl)
+seen_if_open seen is_open a b false is same told = sym same

@@ -1,7 +1,7 @@
 -- Marks of the cells of a window, and which of them a family hides. No public clause cites it.
-use Rattle.std.specs.Prelude.{◌≡◌, ℕ, ◌+◌, ◌-◌, ◌*◌, ◌<◌, ◌≤◌, Bool, true, false, ◌⊎◌, ℤ, pos, ◌+ℤ◌, ◌-ℤ◌, List, length, Option, None, Some, unwrap_or, slice_get, slice_index_or}
+use Rattle.std.specs.Prelude.{◌≡◌, ℕ, ◌+◌, ◌-◌, ◌*◌, ◌<◌, ◌≤◌, Bool, true, false, not, ◌&&◌, ◌⊎◌, ℤ, pos, ◌+ℤ◌, ◌-ℤ◌, List, length, Option, None, Some, unwrap_or, slice_get, slice_index_or}
 use Rattle.horizons.specs.declared.target.Target.{Target}
-use Rattle.sight.specs.Sweep.{lead_of, aside_of, IsLine, StandsAt}
+use Rattle.sight.specs.Sweep.{lead_of, aside_of, IsLine, StandsAt, is_blocked_before}
 use Rattle.sight.specs.declared.family.Family.{Family}
 use Rattle.sight.specs.declared.window.Run.{Run}
 use Rattle.sight.specs.declared.window.Window.{Window}
@@ -17,15 +17,31 @@ pub record IsWindow (f : Family) (w : Window) (marks : List Bool) : Type 0 where
   pub strides : (w.lines.stride ≤ 4096) × (w.side.stride ≤ 4096)
   pub inside : (x y : ℕ) → x < w.lines.cells → y < w.side.cells → x * w.lines.stride + y * w.side.stride < length marks
 
+-- Different cells of the window have different marks: they stand side by side along one coordinate, and along the other
+-- at least as far apart as the window reaches along the first.
+pub record IsApart (w : Window) : Type 0 where
+  pub apart : ((w.side.stride ≡ 1) × (w.side.cells ≤ w.lines.stride)) ⊎ ((w.lines.stride ≡ 1) × (w.lines.cells ≤ w.side.stride))
+
 -- Line n of the family is there and not the first, and crosses the window.
 pub record Crosses (f : Family) (w : Window) (n : ℕ) : Type 0 where
   pub later : 2 ≤ n
   pub line : IsLine f n
   pub within : IsInRun w.lines (lead_of f n)
 
+-- Where the mark of the cell at x and y stands.
+abbrev pub mark_index : Window → ℕ → ℕ → ℕ
+mark_index w x y = (x - w.lines.first) * w.lines.stride + (y - w.side.first) * w.side.stride
+
 -- Whether the cell at x and y is marked.
 abbrev pub mark_at : Window → ℕ → ℕ → List Bool → Bool
-mark_at w x y marks = slice_index_or marks ((x - w.lines.first) * w.lines.stride + (y - w.side.first) * w.side.stride) false
+mark_at w x y marks = slice_index_or marks (mark_index w x y) false
+
+-- The target is a cell of the window, on a line that crosses it.
+pub record IsRay (f : Family) (w : Window) (t : Target) : Type 0 where
+  pub cell : ℕ
+  pub stands : StandsAt f cell t
+  pub within : IsInRun w.side cell
+  pub crosses : Crosses f w t.line
 
 abbrev pub target_at : Family → ℕ → ℕ → Target
 target_at f n y = record { aside = aside_of f y; line = n }
@@ -33,7 +49,7 @@ target_at f n y = record { aside = aside_of f y; line = n }
 -- Rays to marked cells, in the order of the lines: all of the lines before line n, and of that line all before cell c.
 pub record AreRays (f : Family) (w : Window) (marks : List Bool) (n c : ℕ) (rays : List Target) : Type 0 where
   pub few : length rays ≤ n * 4096 + (c - w.side.first)
-  pub each : (u : ℕ) (t : Target) → slice_get rays u ≡ Some t → (y : ℕ) × StandsAt f y t × IsInRun w.side y × Crosses f w t.line × (t.line ≤ n)
+  pub each : (u : ℕ) (t : Target) → slice_get rays u ≡ Some t → IsRay f w t × (t.line ≤ n)
   pub sorted : (u v : ℕ) (s t : Target) → u ≤ v → slice_get rays u ≡ Some s → slice_get rays v ≡ Some t → s.line ≤ t.line
   pub whole : (m y : ℕ) → (m < n) ⊎ ((m ≡ n) × (y < c)) → Crosses f w m → IsInRun w.side y → mark_at w (lead_of f m) y marks ≡ true
       → (u : ℕ) × (slice_get rays u ≡ Some (target_at f m y))
@@ -45,3 +61,23 @@ height_at cells f n y = slice_index_or cells (lead_of f n * f.lines.stride + y *
 -- How much a target, so high above the ground of cell y of line n, is above the eye.
 abbrev pub rise_at : List (Option ℤ) → Family → ℕ → ℕ → ℕ → ℤ
 rise_at cells f height n y = (unwrap_or (height_at cells f n y) (pos 0) +ℤ pos height) -ℤ f.eye
+
+-- The mark that is left to cell y of line n: its old one, unless a line before line n blocks the cell.
+abbrev pub mark_left : List (Option ℤ) → Family → Window → ℕ → List Bool → ℕ → ℕ → Bool
+mark_left cells f w height old n y = mark_at w (lead_of f n) y old && not (is_blocked_before cells f n y (rise_at cells f height n y) n)
+
+-- A family has hidden marked cells of a window: on each line from the second on, a cell keeps its mark where no line
+-- before its own blocks it; all other marks stay.
+pub record AreHidden (cells : List (Option ℤ)) (f : Family) (w : Window) (height : ℕ) (old new : List Bool) : Type 0 where
+  pub size : length new ≡ length old
+  pub crossed : (n y : ℕ) → Crosses f w n → IsInRun w.side y → mark_at w (lead_of f n) y new ≡ mark_left cells f w height old n y
+  pub kept : (x y : ℕ) → IsInRun w.lines x → IsInRun w.side y → ((n : ℕ) → Crosses f w n → lead_of f n ≡ x → ⊥) → mark_at w x y new ≡ mark_at w x y old
+
+-- So far the cells of the first rays were asked.
+pub record AreHiddenBelow (cells : List (Option ℤ)) (f : Family) (w : Window) (height : ℕ) (rays : List Target) (end : ℕ) (old new : List Bool) : Type 0 where
+  pub size : length new ≡ length old
+  pub asked : (u n y : ℕ) → u < end → slice_get rays u ≡ Some (target_at f n y) → Crosses f w n → IsInRun w.side y
+      → mark_at w (lead_of f n) y new ≡ mark_left cells f w height old n y
+  pub crossed : (n y : ℕ) → Crosses f w n → IsInRun w.side y
+      → (mark_at w (lead_of f n) y new ≡ mark_at w (lead_of f n) y old) ⊎ (mark_at w (lead_of f n) y new ≡ mark_left cells f w height old n y)
+  pub kept : (x y : ℕ) → IsInRun w.lines x → IsInRun w.side y → ((n : ℕ) → Crosses f w n → lead_of f n ≡ x → ⊥) → mark_at w x y new ≡ mark_at w x y old

@@ -5,6 +5,7 @@ pub mod Blocks
 pub mod Sweep
 pub mod Ranks
 pub mod Hiding
+pub mod Sides
 pub mod Looking
 pub mod Refusals
 pub mod Viewed

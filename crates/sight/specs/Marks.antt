@@ -1,19 +1,36 @@
 -- Marks of the places of a part of a grid, one for each place in its row order. No public clause cites it.
-use Rattle.std.specs.Prelude.{◌≡◌, ℕ, ◌*◌, ◌<◌, Bool, false, List, length, slice_index_or}
+use Rattle.std.specs.Prelude.{◌≡◌, ℕ, ◌*◌, ◌<◌, Bool, false, ◌&&◌, List, length, slice_index_or}
+use Rattle.terrain.specs.Raster.{Terrain}
 use Rattle.terrain.specs.declared.place.Place.{Place}
 use Rattle.tiles.specs.declared.bounds.Bounds.{Bounds}
 use Rattle.tiles.specs.Cutting.{IsInBounds}
 use Rattle.tile_maps.specs.Maps.{index_within}
+use Rattle.sight.specs.Sight.{is_seen}
+use Rattle.sight.specs.Walk.{is_open}
+use Rattle.sight.specs.declared.observer.Observer.{Observer}
 
 -- The mark of a place.
 abbrev pub mark_at : Bounds → List Bool → Place → Bool
 mark_at b marks p = slice_index_or marks (index_within b p) false
 
--- There is a mark for each place of the bounds, and those before one in row order are what a test says.
-pub record AreMarkedBelow (b : Bounds) (test : Place → Bool) (end : ℕ) (marks : List Bool) : Type 0 where
+-- There is a mark for each place of the bounds, and those before one in row order say of their places what they should.
+pub record AreMarkedBelow (b : Bounds) (Says : Place → Bool → Type 0) (end : ℕ) (marks : List Bool) : Type 0 where
   pub size : length marks ≡ b.rows * b.cols
-  pub each : (p : Place) → IsInBounds b p → index_within b p < end → mark_at b marks p ≡ test p
+  pub each : (p : Place) → IsInBounds b p → index_within b p < end → Says p (mark_at b marks p)
 
--- All of them are.
-abbrev pub AreMarked : Bounds → (Place → Bool) → List Bool → Type 0
-AreMarked b test marks = AreMarkedBelow b test (b.rows * b.cols) marks
+-- All of them do.
+abbrev pub AreMarked : Bounds → (Place → Bool → Type 0) → List Bool → Type 0
+AreMarked b Says marks = AreMarkedBelow b Says (b.rows * b.cols) marks
+
+-- A mark tells whether the place is seen.
+abbrev pub TellsSeen : Terrain → Observer → ℕ → ℕ → Place → Bool → Type 0
+TellsSeen t o target radius p mark = mark ≡ is_seen t o p target radius
+
+-- A mark tells of a place whether it is seen, unless a crossing blocks the line of sight to it.
+abbrev pub TellsSeenIfOpen : Terrain → Observer → ℕ → ℕ → Place → Bool → Type 0
+TellsSeenIfOpen t o target radius p mark = (mark && is_open t o p target) ≡ is_seen t o p target radius
+
+-- Of the marks those are left whose places pass a test.
+pub record AreLeft (b : Bounds) (test : Place → Bool) (old new : List Bool) : Type 0 where
+  pub size : length new ≡ length old
+  pub each : (p : Place) → IsInBounds b p → mark_at b new p ≡ (mark_at b old p && test p)

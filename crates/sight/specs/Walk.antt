@@ -7,7 +7,7 @@ use Rattle.std.specs.List.{list_any, range_with_len}
 use Rattle.std.specs.Option.{option_map_or}
 use Rattle.terrain.specs.Raster.{Terrain}
 use Rattle.terrain.specs.declared.place.Place.{Place}
-use Rattle.sight.specs.Sight.{toward, sight, is_seen, place_of}
+use Rattle.sight.specs.Sight.{toward, sight, column_blocks, row_blocks, is_seen, place_of}
 use Rattle.sight.specs.declared.observer.Observer.{Observer}
 use Rattle.sight.specs.declared.line.Sightlines.{Sightlines}
 use Rattle.sight.specs.declared.walk.Axis.{Axis}
@@ -90,6 +90,14 @@ pub record IsAt (l : Sightline) (k : ℕ) (s : Step) : Type 0 where
   pub part : s.part ≡ part_at l.side (steps_of l) k
   pub sight : s.sight ≡ sight l.from_level l.to_level (steps_of l) k
 
+-- No crossing blocks the line of sight to a place.
+abbrev pub is_open : Terrain → Observer → Place → ℕ → Bool
+is_open t o q target =
+    let p = place_of o in
+    let e = height_of t p +ℤ pos o.eye in
+    let f = height_of t q +ℤ pos target in
+    not (column_blocks t p q e f) && not (row_blocks t p q e f)
+
 -- The two lines from a target to an observer, which sees it exactly where neither is blocked.
 pub record AreSightlines (t : Terrain) (o : Observer) (q : Place) (target radius : ℕ) (lines : Sightlines) : Type 0 where
   pub columns : lines.columns ≡ over_columns t q (place_of o) (height_of t q +ℤ pos target) (height_of t (place_of o) +ℤ pos o.eye)
@@ -99,3 +107,4 @@ pub record AreSightlines (t : Terrain) (o : Observer) (q : Place) (target radius
   pub columns_inside : IsOver t.cells lines.columns.lead lines.columns.side
   pub rows_inside : IsOver t.cells lines.rows.lead lines.rows.side
   pub seen : is_seen t o q target radius ≡ (not (walk_blocks t.cells lines.columns) && not (walk_blocks t.cells lines.rows))
+  pub reached : is_seen t o q target radius ≡ is_open t o q target

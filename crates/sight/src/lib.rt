@@ -8,6 +8,7 @@
 mod family;
 pub mod fault;
 mod gathering;
+mod hiding;
 mod judging;
 pub mod laws;
 pub mod line;
@@ -19,6 +20,7 @@ mod passing;
 mod ranks;
 mod reach;
 mod rising;
+mod sides;
 mod sweep;
 mod tile;
 mod tops;

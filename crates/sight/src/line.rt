@@ -1,20 +1,21 @@
 // One line of sight.
-ghost use Rattle.std.specs.Prelude.{◌≡◌, ◌≤◌, pos, ◌+ℤ◌, false, MatchOption};
+ghost use Rattle.std.specs.Prelude.{◌≡◌, ◌≤◌, pos, ◌+ℤ◌, true, false, MatchOption};
 ghost use Rattle.terrain.specs.Neighbours.{IsInside};
 ghost use Rattle.sight.specs.Sight.{highest_eye, longest_radius, is_seen, place_of};
-ghost use Rattle.sight.specs.Walk.{IsLevel, AreSightlines};
+ghost use Rattle.sight.specs.Walk.{IsLevel, IsSightline, IsOver, AreSightlines, walk_blocks};
+ghost use Rattle.sight.specs.Marks.{TellsSeenIfOpen};
 ghost use Rattle.sight.specs.Blocks.{AreTops};
 
 use crate::observer::Observer;
 use crate::passing::{BlockStrides, is_blocked_past_blocks};
 use crate::reach::is_in_reach;
 use crate::tops::blocks_in;
-use crate::walk::{Axis, Sightline, is_blocked};
+use crate::walk::{Axis, Pace, Sightline, is_blocked, is_blocked_between};
 use terrain::{Grid, Height, Place};
 
 /// How high an eye or a target stands.
 #[inline(always)]
-fn level(height: Height, above: u32) -> i64
+pub(crate) fn level(height: Height, above: u32) -> i64
     requires { above ≤ highest_eye }
     ensures value { result ≡ height +ℤ pos above }
     ensures small { IsLevel result }
@@ -114,6 +115,51 @@ pub fn sees(
         return false;
     }
     !is_blocked(cells, lines.rows)
+}
+
+/// How many crossings beside a target are tested before all others.
+const FIRST_CROSSINGS: u32 = 2;
+
+/// Whether one of the first crossings on the way to the other end blocks.
+#[inline(always)]
+fn is_blocked_at_once(cells: &[Option<Height>], line: Sightline) -> bool
+    requires line { IsSightline line }
+    requires over { IsOver cells.now line.lead line.side }
+    ensures { result ≡ true → walk_blocks cells.now line ≡ true }
+{
+    let steps = line.steps();
+    if steps < 2 {
+        return false;
+    }
+    let end = steps.min(FIRST_CROSSINGS + 1);
+    is_blocked_between(cells, line, Pace::new(line), line.at(1), 1, end)
+}
+
+/// Whether an observer sees a place unless a crossing blocks the line of sight. The first crossings on the way from the
+/// place, which hide the most, are tested.
+#[inline(always)]
+pub(crate) fn may_see(
+    grid: &Grid,
+    observer: &Observer,
+    target: Place,
+    target_height: u32,
+    radius: u32,
+) -> bool
+    requires observer { IsInside grid.now.terrain (place_of observer.now) }
+    requires target { IsInside grid.now.terrain target }
+    requires eye { observer.now.eye ≤ highest_eye }
+    requires height { target_height ≤ highest_eye }
+    requires radius { (1 ≤ radius) × (radius ≤ longest_radius) }
+    ensures { TellsSeenIfOpen grid.now.terrain observer.now target_height radius target result }
+{
+    let Some(lines) = lines_of_sight(grid, observer, target, target_height, radius) else {
+        return false;
+    };
+    let cells = grid.cells();
+    if is_blocked_at_once(cells, lines.columns) {
+        return false;
+    }
+    !is_blocked_at_once(cells, lines.rows)
 }
 
 /// As `sees`, by passing over the blocks of cells that the line of sight is above. The blocks'

@@ -123,23 +123,30 @@ impl<'a> Viewing<'a> {
     }
 
     /// Counts each observer at the cells of a tile that it sees. What `seen` has before is written over.
-    fn count_observers(&self, bounds: Bounds, seen: &mut [bool], values: &mut [Option<u32>])
+    fn count_observers(
+        &self,
+        alloc: Global,
+        bounds: Bounds,
+        seen: &mut [bool],
+        values: &mut [Option<u32>],
+    ) -> Result<(), AllocError>
         requires lawful { IsCutting self.now.tiling.now }
         requires inside { AreBounds self.now.tiling.now bounds }
         requires size { length seen.old ≡ bounds.rows * bounds.cols }
         requires values { AreMadeBelow bounds
             (HasValue self.now.grid.now.terrain [] self.now.target_height self.now.radius)
             (bounds.rows * bounds.cols) values.old }
-        ensures { AreMadeBelow bounds
+        ensures { OnOk result (AreMadeBelow bounds
             (HasValue self.now.grid.now.terrain self.now.observers.now self.now.target_height self.now.radius)
-            (bounds.rows * bounds.cols) values.new }
+            (bounds.rows * bounds.cols) values.new) }
     {
         for observer in self.observers {
             if self.reaches(observer, bounds) {
-                self.look(observer, bounds, seen);
+                self.look(alloc, observer, bounds, seen)?;
                 count_seen(seen, values);
             }
         }
+        Ok(())
     }
 }
 
@@ -160,7 +167,7 @@ impl<'a> TileMap for Viewing<'a> {
         let bounds = self.tiling.bounds(tile);
         let mut values = self.first_values(alloc, bounds)?;
         let mut seen = vec![in alloc; false; values.len()]?;
-        self.count_observers(bounds, &mut seen, &mut values);
+        self.count_observers(alloc, bounds, &mut seen, &mut values)?;
         Ok(values)
     }
 }

@@ -1,8 +1,9 @@
 use Rattle.std.proofs.Common.{arith, sym, ap, subst, ◌∙◌, ◌≡◌, ℕ, ◌*◌, ◌+◌, ◌-◌, ◌++◌, ◌∷◌, [], List, get_or, false}
+use Rattle.std.proofs.lemmas.Bool.{both_ways}
 use Rattle.horizons.specs.declared.target.Target.{Target}
 use Rattle.sight.specs.Sweep.{lead_of}
 use Rattle.sight.specs.Hiding.{target_at, AreRays, Crosses, IsInRun, mark_at}
-use Rattle.sight.proofs.Gathered.{cell_passed, cell_taken}
+use Rattle.sight.proofs.Gathered.{cell_passed, cell_taken, line_passed, line_ended}
 use Rattle.sight.proofs.family.Family.gather_line.Goals as goal
 use Rattle.sight.proofs.family.Family.gather_line.Goals.{then-marks-row+in_ok-push, else-marks-row}
 
@@ -27,3 +28,12 @@ loop-cell-preserved c =
           ap (λ x. get_or marks ((x - window.lines.first) * window.lines.stride + (cell - window.side.first) * window.side.stride) false) (sym lead) ∙ w.if-marks-row.false in
           subst P (ap (λ v. v.items) (sym w.rays-is)) (cell_passed f window marks n cell old unmarked c.loop-cell.invariant)
     ]
+
+pub returns-then-not-has : goal.returns-then-not-has
+returns-then-not-has c =
+    let out : Crosses c.args.self c.args.window c.args.line → ⊥ = λ crosses. both_ways c.has.result c.if-not-has.true (c.has.ensures.1 (subst (λ (x : ℕ). IsInRun c.args.window.lines x) (sym c.lead_of-lead.ensures) crosses.within)) in
+    line_passed c.args.self c.args.window c.args.marks.now c.args.line c.args.rays.now.items out c.requires.rays
+
+pub returns : goal.returns
+returns c =
+    line_ended c.args.self c.args.window c.args.marks.now c.args.line c.loop-cell.cell c.loop-cell.rays.items (omega arith) (omega (arith, c.loop-cell.auto.cell-end, c.requires.window.side, c.requires.family.cells)) c.loop-cell.invariant

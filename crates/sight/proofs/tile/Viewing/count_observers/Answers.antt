@@ -7,7 +7,7 @@ use Rattle.sight.specs.declared.observer.Observer.{Observer}
 use Rattle.sight.proofs.Refused.{lawful_from}
 use Rattle.sight.proofs.Counting.{looked, passed, few}
 use Rattle.sight.proofs.tile.Viewing.count_observers.Goals as goal
-use Rattle.sight.proofs.tile.Viewing.count_observers.Goals.{then-reaches, else-reaches}
+use Rattle.sight.proofs.tile.Viewing.count_observers.Goals.{then-reaches+in_ok-look, else-reaches}
 
 pub reaches-requires-clause-observer : goal.reaches-requires-clause-observer
 reaches-requires-clause-observer c =
@@ -39,9 +39,9 @@ loop-observer-preserved c =
     let nobody : Observer = record { row = 0; col = 0; eye = 0 } in
     let Made : List (Option ℕ) → Type 0 = λ values. AreMadeBelow c.args.bounds (HasValue t (take (i + 1) self.observers.now) self.target_height self.radius) (c.args.bounds.rows * c.args.bounds.cols) values in
     elim c.if-reaches.branch [
-      | then-reaches w ↦ subst Made (sym w.values-is)
+      | then-reaches+in_ok-look w ↦ subst Made (sym w.values-is)
           (looked t self.observers.now self.target_height self.radius i nobody c.args.bounds c.loop-observer.values w.count_seen.new.values w.look.new.seen c.loop-observer-test.true
-          c.loop-observer.invariant w.look.ensures w.count_seen.auto.values w.count_seen.ensures)
+          c.loop-observer.invariant w.in_ok-look.ensures w.count_seen.auto.values w.count_seen.ensures)
       | else-reaches w ↦ subst Made (sym w.values-is)
           (passed t self.observers.now self.target_height self.radius i nobody c.args.bounds c.loop-observer.values c.loop-observer-test.true c.loop-observer.invariant
           (OnFalse_at w.if-reaches.false c.reaches.ensures))

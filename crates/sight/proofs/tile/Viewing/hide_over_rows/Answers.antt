@@ -1,0 +1,31 @@
+use Rattle.std.proofs.Common.{rules, arith}
+use Rattle.std.specs.Int.{w64}
+use Rattle.std.proofs.lemmas.Int.{to_z-of_z}
+use Rattle.std.proofs.lemmas.Result.{on_ok_weaker}
+use Rattle.sight.specs.Sight.{place_of}
+use Rattle.sight.specs.Sides.{AreOpen}
+use Rattle.sight.proofs.PlacesLeft.{rows_from, by_rows, rows_window, rows_left}
+use Rattle.sight.proofs.tile.Viewing.hide_over_rows.Goals as goal
+
+pub hide_on_both_sides-requires-clause-window :
+    goal.hide_on_both_sides-requires-clause-window
+hide_on_both_sides-requires-clause-window c =
+    let self = c.args.self.now in
+    let t = self.grid.now.terrain in
+    let b = c.args.bounds in
+    let back = to_z-of_z w64 c.args.eye (search rules) in
+    rw (c.cols.ensures.value, c.cols-2.ensures.value, back)
+    (rows_window t (place_of c.args.observer.now) c.args.eye b c.args.marks.now c.cols.ensures.lawful.terrain (omega (arith, c.requires.inside.rows_inside, self.cut)) (omega (arith, c.requires.inside.cols_inside, self.cut)) c.requires.size)
+
+pub returns : goal.returns
+returns c =
+    let self = c.args.self.now in
+    let t = self.grid.now.terrain in
+    let b = c.args.bounds in
+    let p = place_of c.args.observer.now in
+    let back = to_z-of_z w64 c.args.eye (search rules) in
+    let told = rw (c.cols.ensures.value, c.cols-2.ensures.value, back, c.cells-cells.ensures.value) at c.hide_on_both_sides.ensures in
+    on_ok_weaker c.hide_on_both_sides.result
+    (λ (are : AreOpen t.cells (rows_from t p c.args.eye) (by_rows b) self.target_height c.args.marks.now c.hide_on_both_sides.new.marks).
+    rows_left t p b c.args.eye self.target_height c.args.marks.now c.hide_on_both_sides.new.marks c.requires.observer (omega (arith, c.requires.inside.rows_inside, self.cut)) (omega (arith, c.requires.inside.cols_inside, self.cut)) are)
+    told

@@ -1,0 +1,56 @@
+// Which marked cells of a window a family hides.
+ghost use Rattle.std.specs.Prelude.{◌≡◌, ℕ, ◌≤◌, false, OnOk, slice_set};
+ghost use Rattle.sight.specs.Sweep.{IsFamily, StandsAt, lead_of};
+ghost use Rattle.sight.specs.Hiding.{mark_index, AreHidden, IsApart, IsRay, IsWindow};
+
+use crate::family::Family;
+use crate::looking::Look;
+use crate::ranks::rank;
+use crate::window::Window;
+use horizons::Target;
+use std::alloc::{AllocError, Global};
+use terrain::Height;
+
+impl Family {
+    /// Takes the mark from the cell of a ray.
+    #[inline(always)]
+    fn unmark(self, window: Window, ray: Target, marks: &mut [bool])
+        requires family { IsFamily self }
+        requires window { IsWindow self window marks.old }
+        requires ray { IsRay self window ray }
+        ensures { (y : ℕ) → StandsAt self y ray
+            → marks.new ≡ slice_set marks.old (mark_index window (lead_of self ray.line) y) false }
+    {
+        let row = (self.lead_of(ray.line) - window.lines.first) as usize * window.lines.stride;
+        let cell = (self.side.at as i32 + ray.aside) as u32;
+        marks[row + (cell - window.side.first) as usize * window.side.stride] = false;
+    }
+}
+
+/// Takes the marks from the marked cells of a window that the family hides. Targets stand `height` above their cells' ground.
+pub(crate) fn hide(
+    alloc: Global,
+    cells: &[Option<Height>],
+    family: Family,
+    window: Window,
+    height: u32,
+    marks: &mut [bool],
+) -> Result<(), AllocError>
+    requires family { IsFamily family }
+    requires window { IsWindow family window marks.old }
+    requires apart { IsApart window }
+    requires height { height ≤ 1000000 }
+    ensures { OnOk result (AreHidden cells.now family window height marks.old marks.new) }
+{
+    let rays = family.gather(alloc, window, marks)?;
+    let ranked = rank(alloc, &rays)?;
+    let mut look = Look::new(alloc, &ranked.targets)?;
+    for (number, ray) in rays.iter().enumerate() {
+        look.go_to(cells, family, ray.line, &ranked.targets)?;
+        let rise = family.rise(cells, *ray, height);
+        if look.hides(ranked.ranks[number] as usize, *ray, rise) {
+            family.unmark(window, *ray, marks);
+        }
+    }
+    Ok(())
+}
