@@ -16,6 +16,7 @@ pub mod Least
 pub mod Spots
 pub mod TileRound
 -- a search within a tile, and rounds of such
+pub mod Kept
 pub mod Lowered
 pub mod Noting
 pub mod RunLemmas

@@ -1,11 +1,9 @@
 -- A search within a tile: how far it has come, one change more at a time.
-use Rattle.std.proofs.Common.{◌≡◌, ◌≢◌, ℕ, zero, suc, ◌+◌, ◌*◌, ◌^◌, ◌<◌, ◌≤◌, ◌⊎◌, inl, inr, List, [], ◌∷◌, ◌++◌, length, Option, Some, None, cond, unwrap_or, IfSome, sym, ap, subst, refl, ◌∙◌, arith}
-use Rattle.std.specs.Prelude.{nat_eq, slice_get}
-use Rattle.std.specs.HashMap.{get}
+use Rattle.std.proofs.Common.{◌≡◌, ◌≢◌, ℕ, zero, suc, ◌+◌, ◌*◌, ◌^◌, ◌<◌, ◌≤◌, ◌⊎◌, inl, inr, List, [], ◌∷◌, ◌++◌, length, get_or, Vec, Global, Option, Some, None, unwrap_or, IfSome, sym, ap, subst, refl, ◌∙◌, arith}
+use Rattle.std.specs.Prelude.{slice_get}
 use Rattle.std.proofs.lemmas.Bool.{cases_eq, cases_lt}
 use Rattle.std.proofs.lemmas.List.{length_push, get_or_past}
-use Rattle.std.proofs.lemmas.Map.{update_here, update_apart}
-use Rattle.std.proofs.lemmas.Option.{slice_get_within, same_Some}
+use Rattle.std.proofs.lemmas.Option.{slice_get-get_or, slice_get_within, same_Some}
 use Rattle.tiles.proofs.SliceGet.{slice_get-append_left, slice_get-append_right}
 use Rattle.terrain.proofs.Places.{cases_place, entry-inside, index_injective, index_below}
 use Rattle.terrain.specs.Raster.{Terrain}
@@ -17,10 +15,13 @@ use Rattle.tiles.proofs.Cut.{in_bounds, in_tile, tile_of_place_below}
 use Rattle.drain.specs.Rounds.{IsLent, IsWalked, AreCounting}
 use Rattle.drain.specs.Lowering.{count_of, counts_in, total, IsEvenInside, IsChange, IsLowered, IsTold, IsReached, IsEvenBut, IsEntered}
 use Rattle.drain.specs.declared.changes.Change.{Change}
+use Rattle.drain.specs.Entering.{AreEntries, IsRun}
 use Rattle.drain.specs.declared.changes.Entry.{Entry}
+use Rattle.drain.specs.declared.changes.Run.{Run}
 use Rattle.drain.specs.declared.lowering.Lowered.{Lowered}
 use Rattle.drain.proofs.Spreading.{touches_back}
 use Rattle.drain.proofs.Unique.{at_place}
+use Rattle.drain.proofs.Kept.{kept_none}
 
 pub total_low : (n : ℕ) (f g : ℕ → ℕ) → ((k : ℕ) → g k ≤ f k) → total n g ≤ total n f
 unfolding total
@@ -51,14 +52,14 @@ small t steps k counting = elim (cases_lt k (t.cols * t.rows)) [
 
 module _ (t : Terrain) (c : Cutting) (tile : ℕ) (steps : List (Option ℕ)) where
   at : Lowered → Place → ℕ
-  at l p = counts_in steps l (index_of c.cols p)
+  at l p = counts_in c tile steps l (index_of c.cols p)
 
   pub change_low : (f g : ℕ → ℕ) (x : Change) → ((k : ℕ) → g k ≤ f k) → IsChange t c tile steps f x → IsChange t c tile steps g x
   change_low f g x low is = record { inside = is.inside; walked = is.walked; less = is.less; least = omega (arith, is.least, low (index_of c.cols x.place)) }
 
   -- what is told of a place stays told where its count stays
   told_still : (old new : Lowered) (from : ℕ) (p : Place) → ((k : ℕ) → k < length old.changes.items → slice_get new.changes.items k ≡ slice_get old.changes.items k) →
-      counts_in steps new (index_of c.cols p) ≡ counts_in steps old (index_of c.cols p) → IsTold c steps old from p → IsTold c steps new from p
+      counts_in c tile steps new (index_of c.cols p) ≡ counts_in c tile steps old (index_of c.cols p) → IsTold c tile steps old from p → IsTold c tile steps new from p
   told_still old new from p kept same told = (
     told.0,
     told.1,
@@ -66,10 +67,11 @@ module _ (t : Terrain) (c : Cutting) (tile : ℕ) (steps : List (Option ℕ)) wh
   )
 
   -- nothing is changed
-  pub reached_same : (Done : Place → Type 0) (bound : ℕ) (l : Lowered) → ((p : Place) → Done p → counts_in steps l (index_of c.cols p) ≤ bound) → IsReached t c tile steps Done bound l l
+  pub reached_same : (Done : Place → Type 0) (bound : ℕ) (l : Lowered) → ((p : Place) → Done p → counts_in c tile steps l (index_of c.cols p) ≤ bound) → IsReached t c tile steps Done bound l l
   reached_same Done bound l near = record {
     low = λ k. omega arith;
     near = near;
+    rows = refl;
     longer = omega arith;
     kept = λ k below. refl;
     told = λ p within. inl refl;
@@ -81,7 +83,7 @@ module _ (t : Terrain) (c : Cutting) (tile : ℕ) (steps : List (Option ℕ)) wh
   reached_none Done bound l none = reached_same Done bound l (λ p done. absurd (none p done))
 
   pub reached_all : (First Done : Place → Type 0) (bound : ℕ) (old new : Lowered) → ((p : Place) → Done p → First p) → IsReached t c tile steps First bound old new → IsReached t c tile steps Done bound old new
-  reached_all First Done bound old new each f = record { low = f.low; near = λ p done. f.near p (each p done); longer = f.longer; kept = f.kept; told = f.told; added = f.added; left = f.left }
+  reached_all First Done bound old new each f = record { low = f.low; near = λ p done. f.near p (each p done); rows = f.rows; longer = f.longer; kept = f.kept; told = f.told; added = f.added; left = f.left }
 
   -- some places after others
   pub reached_then : (First Next Done : Place → Type 0) (bound : ℕ) (old mid new : Lowered) → ((p : Place) → Done p → First p ⊎ Next p) →
@@ -92,6 +94,7 @@ module _ (t : Terrain) (c : Cutting) (tile : ℕ) (steps : List (Option ℕ)) wh
       | inl first ↦ omega (arith, f.near p first, g.low (index_of c.cols p))
       | inr next ↦ g.near p next
     ];
+    rows = g.rows ∙ f.rows;
     longer = omega (arith, f.longer, g.longer);
     kept = λ k below. g.kept k (omega (arith, f.longer)) ∙ f.kept k below;
     told = λ p within. elim (g.told p within) [
@@ -102,25 +105,22 @@ module _ (t : Terrain) (c : Cutting) (tile : ℕ) (steps : List (Option ℕ)) wh
       ]
     ];
     added = λ k x past is. elim (cases_lt k (length mid.changes.items)) [
-      | inl below ↦ change_low (counts_in steps mid) (counts_in steps new) x g.low (f.added k x past (sym (g.kept k below) ∙ is))
+      | inl below ↦ change_low (counts_in c tile steps mid) (counts_in c tile steps new) x g.low (f.added k x past (sym (g.kept k below) ∙ is))
       | inr beyond ↦ g.added k x beyond is
     ];
     left = omega (arith, f.left, g.left);
   }
 
   -- one cell gets less
-  pub reached_put : (old new : Lowered) (x : Change) → IsInTile c tile x.place → IsWalked (IsLent t steps) t x.place x.count → x.count < counts_in steps old (index_of c.cols x.place) →
-      ((k : ℕ) → counts_in steps old k ≤ count_of steps k) →
-      ((q : ℕ) → get nat_eq new.counts q ≡ cond (nat_eq (index_of c.cols x.place) q) (Some x.count) (get nat_eq old.counts q)) →
-      new.changes.items ≡ old.changes.items ++ x ∷ [] → IsReached t c tile steps (λ p. p ≡ x.place) x.count old new
-  reached_put old new x inside walked less_old low_old put pushed =
+  pub reached_put : (old new : Lowered) (x : Change) → IsInTile c tile x.place → IsWalked (IsLent t steps) t x.place x.count → x.count < counts_in c tile steps old (index_of c.cols x.place) →
+      ((k : ℕ) → counts_in c tile steps old k ≤ count_of steps k) →
+      counts_in c tile steps new (index_of c.cols x.place) ≡ x.count → ((k : ℕ) → k ≢ index_of c.cols x.place → counts_in c tile steps new k ≡ counts_in c tile steps old k) →
+      length new.rows.items ≡ length old.rows.items → new.changes.items ≡ old.changes.items ++ x ∷ [] → IsReached t c tile steps (λ p. p ≡ x.place) x.count old new
+  reached_put old new x inside walked less_old low_old here other rows pushed =
       let i = index_of c.cols x.place in
-      let here : counts_in steps new i ≡ x.count = ap (λ (o : Option ℕ). unwrap_or o (count_of steps i)) (put i ∙ update_here (λ (q : ℕ). get nat_eq old.counts q) i (Some x.count)) in
-      let other : (k : ℕ) → k ≢ i → counts_in steps new k ≡ counts_in steps old k =
-      λ k ne. ap (λ (o : Option ℕ). unwrap_or o (count_of steps k)) (put k ∙ update_apart (λ (q : ℕ). get nat_eq old.counts q) i (Some x.count) k ne) in
-      let low : (k : ℕ) → counts_in steps new k ≤ counts_in steps old k = λ k. elim (cases_eq k i) [
-        | inl e ↦ (let new_is : counts_in steps new k ≡ counts_in steps new i = ap (λ (j : ℕ). counts_in steps new j) e in
-            let old_is : counts_in steps old k ≡ counts_in steps old i = ap (λ (j : ℕ). counts_in steps old j) e in omega (arith, new_is, old_is, here, less_old))
+      let low : (k : ℕ) → counts_in c tile steps new k ≤ counts_in c tile steps old k = λ k. elim (cases_eq k i) [
+        | inl e ↦ (let new_is : counts_in c tile steps new k ≡ counts_in c tile steps new i = ap (λ (j : ℕ). counts_in c tile steps new j) e in
+            let old_is : counts_in c tile steps old k ≡ counts_in c tile steps old i = ap (λ (j : ℕ). counts_in c tile steps old j) e in omega (arith, new_is, old_is, here, less_old))
         | inr ne ↦ omega (arith, other k ne)
       ] in
       let size : length new.changes.items ≡ length old.changes.items + 1 = ap (λ (xs : List Change). length xs) pushed ∙ length_push old.changes.items x in
@@ -128,7 +128,8 @@ module _ (t : Terrain) (c : Cutting) (tile : ℕ) (steps : List (Option ℕ)) wh
       ap (λ (xs : List Change). slice_get xs (length old.changes.items)) pushed ∙ slice_get-append_right old.changes.items (x ∷ []) (length old.changes.items) 0 (omega arith) in
       record {
         low = low;
-        near = λ p e. (let is : counts_in steps new (index_of c.cols p) ≡ counts_in steps new i = ap (λ (q : Place). counts_in steps new (index_of c.cols q)) e in omega (arith, is, here));
+        near = λ p e. (let is : counts_in c tile steps new (index_of c.cols p) ≡ counts_in c tile steps new i = ap (λ (q : Place). counts_in c tile steps new (index_of c.cols q)) e in omega (arith, is, here));
+        rows = rows;
         longer = omega (arith, size);
         kept = λ k below. ap (λ (xs : List Change). slice_get xs k) pushed ∙ slice_get-append_left old.changes.items (x ∷ []) k below;
         told = λ p within. elim (cases_place p x.place) [
@@ -136,25 +137,25 @@ module _ (t : Terrain) (c : Cutting) (tile : ℕ) (steps : List (Option ℕ)) wh
             length old.changes.items,
             omega arith,
             last ∙ ap (λ (n : ℕ). Some (let y : Change = record { place = x.place; count = n } in y)) (sym here)
-                ∙ ap (λ (q : Place). Some (let y : Change = record { place = q; count = counts_in steps new (index_of c.cols q) } in y)) (sym e),
+                ∙ ap (λ (q : Place). Some (let y : Change = record { place = q; count = counts_in c tile steps new (index_of c.cols q) } in y)) (sym e),
           )
           | inr ne ↦ inl (other (index_of c.cols p) (λ e. ne (index_injective c.cols p x.place within.1 inside.0.1 e)))
         ];
         added = λ k y past is.
             (let at_end : k ≡ length old.changes.items = omega (arith, slice_get_within new.changes.items k y is, size) in
             let one : x ≡ y = same_Some x y (sym last ∙ ap (λ (j : ℕ). slice_get new.changes.items j) (sym at_end) ∙ is) in
-            subst (λ (z : Change). IsChange t c tile steps (counts_in steps new) z) one
+            subst (λ (z : Change). IsChange t c tile steps (counts_in c tile steps new) z) one
             (record { inside = inside; walked = walked; less = omega (arith, less_old, low_old i); least = omega (arith, here) }));
         left = omega (
           arith,
           size,
-          total_less (c.cols * c.rows) (counts_in steps old) (counts_in steps new) low i (index_below c.cols c.rows x.place inside.0.0 inside.0.1) (omega (arith, here, less_old)),
+          total_less (c.cols * c.rows) (counts_in c tile steps old) (counts_in c tile steps new) low i (index_below c.cols c.rows x.place inside.0.0 inside.0.1) (omega (arith, here, less_old)),
         );
       }
 
   -- what a search has come to, after it came further
-  pub lowered_then : (Done : Place → Type 0) (bound : ℕ) (old new : Lowered) → IsLowered t c tile steps (counts_in steps old) old.changes.items → IsReached t c tile steps Done bound old new →
-      IsLowered t c tile steps (counts_in steps new) new.changes.items
+  pub lowered_then : (Done : Place → Type 0) (bound : ℕ) (old new : Lowered) → IsLowered t c tile steps (counts_in c tile steps old) old.changes.items → IsReached t c tile steps Done bound old new →
+      IsLowered t c tile steps (counts_in c tile steps new) new.changes.items
   lowered_then Done bound old new f g = record {
     low = λ k. omega (arith, f.low k, g.low k);
     told = λ p within. elim (g.told p within) [
@@ -165,7 +166,7 @@ module _ (t : Terrain) (c : Cutting) (tile : ℕ) (steps : List (Option ℕ)) wh
       ]
     ];
     each = λ x among. elim (cases_lt among.0 (length old.changes.items)) [
-      | inl below ↦ change_low (counts_in steps old) (counts_in steps new) x g.low (f.each x (among.0, sym (g.kept among.0 below) ∙ among.1))
+      | inl below ↦ change_low (counts_in c tile steps old) (counts_in c tile steps new) x g.low (f.each x (among.0, sym (g.kept among.0 below) ∙ among.1))
       | inr past ↦ g.added among.0 x past among.1
     ];
   }
@@ -192,9 +193,9 @@ module _ (t : Terrain) (c : Cutting) (tile : ℕ) (steps : List (Option ℕ)) wh
       | inl same ↦ elim (even.within p q i j side) [
         | inl le ↦ inl (omega (arith, le, same, g.low (index_of c.cols p)))
         | inr waits ↦ elim (cases_eq waits.0 done) [
-          | inl e ↦ (let one : from ≡ (record { place = q; count = counts_in steps old (index_of c.cols q) }) = same_Some from _ (sym here ∙ ap (λ (k : ℕ). slice_get old.changes.items k) (sym e) ∙ waits.2) in
+          | inl e ↦ (let one : from ≡ (record { place = q; count = counts_in c tile steps old (index_of c.cols q) }) = same_Some from _ (sym here ∙ ap (λ (k : ℕ). slice_get old.changes.items k) (sym e) ∙ waits.2) in
               let place : q ≡ from.place = sym (ap (λ (x : Change). x.place) one) in
-              let count : from.count ≡ counts_in steps old (index_of c.cols q) = ap (λ (x : Change). x.count) one in
+              let count : from.count ≡ counts_in c tile steps old (index_of c.cols q) = ap (λ (x : Change). x.count) one in
               let near = g.near p (i, subst (λ (r : Place). Touches r p) place (touches_back p q side.next.touches), sym side.level ∙ ap (λ (r : Place). height_at t r) place) in
               inl (omega (arith, near, count, same)))
           | inr ne ↦ inr (told_still old new (done + 1) q g.kept same (waits.0, omega (arith, waits.1), waits.2))
@@ -204,7 +205,7 @@ module _ (t : Terrain) (c : Cutting) (tile : ℕ) (steps : List (Option ℕ)) wh
   }
 
   -- none is left
-  pub even_end : (l : Lowered) (done : ℕ) → length l.changes.items ≤ done → IsEvenBut t c tile steps l done → IsEvenInside t c tile (counts_in steps l)
+  pub even_end : (l : Lowered) (done : ℕ) → length l.changes.items ≤ done → IsEvenBut t c tile steps l done → IsEvenInside t c tile (counts_in c tile steps l)
   even_end l done all even = record {
     within = λ p q i j side. elim (even.within p q i j side) [
       | inl le ↦ le
@@ -213,14 +214,19 @@ module _ (t : Terrain) (c : Cutting) (tile : ℕ) (steps : List (Option ℕ)) wh
   }
 
 -- of its own tile
-pub change_own : (t : Terrain) (c : Cutting) (tile : ℕ) (steps : List (Option ℕ)) (f : ℕ → ℕ) (x : Change) → IsChange t c tile steps f x → IsChange t c (tile_of_place c x.place) steps f x
-change_own t c tile steps f x is = subst (λ (k : ℕ). IsChange t c k steps f x) (sym is.inside.1) is
+pub change_own : (t : Terrain) (c : Cutting) (tile : ℕ) (steps : List (Option ℕ)) (l : Lowered) (x : Change) → IsChange t c tile steps (counts_in c tile steps l) x →
+    IsChange t c (tile_of_place c x.place) steps (counts_in c (tile_of_place c x.place) steps l) x
+change_own t c tile steps l x is = subst (λ (k : ℕ). IsChange t c k steps (counts_in c k steps l) x) (sym is.inside.1) is
+
+pub low_own : (c : Cutting) (tile : ℕ) (steps : List (Option ℕ)) (l : Lowered) (p : Place) → tile_of_place c p ≡ tile → ((k : ℕ) → counts_in c tile steps l k ≤ count_of steps k) →
+    (k : ℕ) → counts_in c (tile_of_place c p) steps l k ≤ count_of steps k
+low_own c tile steps l p own low = subst (λ (i : ℕ). (k : ℕ) → counts_in c i steps l k ≤ count_of steps k) (sym own) low
 
 -- before the first entry
-pub begun : (t : Terrain) (c : Cutting) (tile : ℕ) (steps : List (Option ℕ)) (l : Lowered) → ((k : ℕ) → get nat_eq l.counts k ≡ None) → l.changes.items ≡ [] → IsEvenInside t c tile (count_of steps) →
-    IsLowered t c tile steps (counts_in steps l) l.changes.items × IsEvenBut t c tile steps l 0
+pub begun : (t : Terrain) (c : Cutting) (tile : ℕ) (steps : List (Option ℕ)) (l : Lowered) → ((k : ℕ) (row : Vec ℕ Global) → slice_get l.rows.items k ≡ Some row → row.items ≡ []) → l.changes.items ≡ [] → IsEvenInside t c tile (count_of steps) →
+    IsLowered t c tile steps (counts_in c tile steps l) l.changes.items × IsEvenBut t c tile steps l 0
 begun t c tile steps l none empty even =
-    let same : (k : ℕ) → counts_in steps l k ≡ count_of steps k = λ k. ap (λ (o : Option ℕ). unwrap_or o (count_of steps k)) (none k) in (
+    let same : (k : ℕ) → counts_in c tile steps l k ≡ count_of steps k = λ k. ap (λ (o : Option ℕ). unwrap_or o (count_of steps k)) (kept_none c tile l none k) in (
       record {
         low = λ k. omega (arith, same k);
         told = λ p within. inl (same (index_of c.cols p));
@@ -241,6 +247,18 @@ own_bounds c p q b lawful e inside = subst (λ (x : Bounds). IsInBounds x q) (sy
 pub reached_tile : (t : Terrain) (c : Cutting) (tile other : ℕ) (steps : List (Option ℕ)) (Done : Place → Type 0) (bound : ℕ) (old new : Lowered) → tile ≡ other →
     IsReached t c tile steps Done bound old new → IsReached t c other steps Done bound old new
 reached_tile t c tile other steps Done bound old new e f = subst (λ (k : ℕ). IsReached t c k steps Done bound old new) e f
+
+-- the tile of a run of entries, which begins at a place in their list
+abbrev pub run_first : List Entry → ℕ → Entry
+run_first entries from = get_or entries from (record { tile = 0; change = record { place = record { row = 0; col = 0 }; count = 0 } })
+
+pub run_begins : (entries : List Entry) (run : Run) → IsRun entries run → slice_get entries run.from ≡ Some (run_first entries run.from)
+run_begins entries run is = slice_get-get_or entries run.from _ (omega (arith, is.some, is.below))
+
+-- an entry of a run is into its tile
+pub entry_own : (t : Terrain) (c : Cutting) (steps : List (Option ℕ)) (entries : List Entry) (run : Run) (k : ℕ) (e : Entry) → AreEntries t c steps entries → IsRun entries run → run.from ≤ k → k < run.end → slice_get entries k ≡ Some e →
+    tile_of_place c e.change.place ≡ (run_first entries run.from).tile
+entry_own t c steps entries run k e are is past below at = (are e (k, at)).inside.1 ∙ is.one k e (run_first entries run.from) past below at (run_begins entries run is)
 
 -- entries that came in stay so
 pub entered_low : (c : Cutting) (entries : List Entry) (from end : ℕ) (f g : ℕ → ℕ) → ((k : ℕ) → g k ≤ f k) → IsEntered c entries from end f → IsEntered c entries from end g

@@ -10,6 +10,7 @@ use Rattle.terrain.proofs.Places.{make_place, entry-inside, same_place, index_be
 use Rattle.terrain.specs.Raster.{Terrain}
 use Rattle.terrain.specs.Neighbours.{height_at, entry_at, index_of, IsDataCell, height_of}
 use Rattle.terrain.specs.declared.place.Place.{Place}
+use Rattle.drain.specs.Lowering.{place_at}
 use Rattle.drain.specs.Directions.{AreDirections, IsDirection}
 use Rattle.drain.proofs.Pointing.{one_direction}
 use Rattle.drain.proofs.Nearby.{cases_option}
@@ -24,10 +25,7 @@ use Rattle.drain.proofs.Laid.{direction_is}
 use Rattle.drainage.proofs.Reach.{is_end_cell, end_true, true_end}
 
 -- the place of an index in row order
-abbrev pub place_at : ℕ → ℕ → Place
-place_at cols i = make_place (i / cols) (i % cols)
-
-index-place_at : (cols i : ℕ) → index_of cols (place_at cols i) ≡ i
+pub index-place_at : (cols i : ℕ) → index_of cols (place_at cols i) ≡ i
 index-place_at cols i = let whole : cols * (i / cols) + i % cols ≡ i = div-add-mod i cols in omega arith
 
 some_cols : (cols rows i : ℕ) → i < cols * rows → 1 ≤ cols
@@ -66,7 +64,7 @@ steps_of : (t : Terrain) → IsFilled t t.cells → (p : Place) (o : Option ℤ)
 steps_of t filled p None e = (None, refl)
 steps_of t filled p (Some h) e = let n = has_steps t p filled (ap is_some e) in (Some n.0, (n.0, refl, n.1))
 
-place_at-index_of : (cols : ℕ) (p : Place) → p.col < cols → place_at cols (index_of cols p) ≡ p
+pub place_at-index_of : (cols : ℕ) (p : Place) → p.col < cols → place_at cols (index_of cols p) ≡ p
 place_at-index_of cols p below = sym (same_place p (place_at cols (index_of cols p)) (sym (div-mul-add p.row cols p.col below)) (sym (mod-mul-add p.row cols p.col below)))
 
 module _ (t : Terrain) (filled : IsFilled t t.cells) where

@@ -3,11 +3,16 @@ use Rattle.std.specs.Prelude.{◌≡◌, ℕ, ◌+◌, ◌<◌, ◌≤◌, ◌�
 use Rattle.terrain.specs.Raster.{Terrain}
 use Rattle.terrain.specs.Neighbours.{index_of}
 use Rattle.terrain.specs.declared.place.Place.{Place}
+use Rattle.tiles.specs.declared.bounds.Bounds.{Bounds}
 use Rattle.tiles.specs.Cutting.{Cutting, IsInTile}
 use Rattle.drain.specs.Rounds.{IsLent, IsWalked}
 use Rattle.drain.specs.Lowering.{AreLevel, IsAmong, count_of}
 use Rattle.drain.specs.declared.changes.Entry.{Entry}
 use Rattle.drain.specs.declared.changes.Run.{Run}
+
+-- The place and all around it lie in the bounds.
+abbrev pub IsAmid : Bounds → Place → Type 0
+IsAmid b p = (b.top < p.row) × (p.row + 1 < b.top + b.rows) × (b.left < p.col) × (p.col + 1 < b.left + b.cols)
 
 -- The terrain of a list of the size of a cutting's grid. It has no sinks.
 abbrev pub lent_terrain : Cutting → List (Option ℤ) → Terrain

@@ -1,10 +1,10 @@
 -- How the counts of one tile are made less by those that come into it. Counts are told by the index of their cell.
-use Rattle.std.specs.Prelude.{◌≡◌, ℕ, zero, suc, ◌+◌, ◌*◌, ◌^◌, ◌<◌, ◌≤◌, ◌⊎◌, List, length, Option, None, Some, nat_eq, slice_get, slice_index_or, unwrap_or}
-use Rattle.std.specs.HashMap.{get}
+use Rattle.std.specs.Prelude.{◌≡◌, ℕ, zero, suc, ◌+◌, ◌-◌, ◌*◌, ◌/◌, ◌%◌, ◌^◌, ◌<◌, ◌≤◌, ◌⊎◌, List, Vec, length, Option, None, Some, if◌then◌else◌, option_and_then, slice_get, slice_index_or, unwrap_or}
+use Rattle.std.specs.declared.alloc.Global.{Global}
 use Rattle.terrain.specs.Raster.{Terrain}
 use Rattle.terrain.specs.Neighbours.{height_at, index_of, IsNeighbour}
 use Rattle.terrain.specs.declared.place.Place.{Place}
-use Rattle.tiles.specs.Cutting.{Cutting, IsWithin, IsInTile}
+use Rattle.tiles.specs.Cutting.{Cutting, IsWithin, IsInTile, bounds_of, is_in_bounds}
 use Rattle.drain.specs.Rounds.{IsLent, IsWalked}
 use Rattle.drain.specs.declared.changes.Change.{Change}
 use Rattle.drain.specs.declared.changes.Entry.{Entry}
@@ -23,9 +23,24 @@ pub record AreLevel (t : Terrain) (p q : Place) : Type 0 where
 abbrev pub count_of : List (Option ℕ) → ℕ → ℕ
 count_of steps k = unwrap_or (slice_index_or steps k None) (2 ^ 24)
 
+-- The place of an index in row order.
+abbrev pub place_at : ℕ → ℕ → Place
+place_at cols k = record { row = k / cols; col = k % cols }
+
+-- The count that a search keeps of a row and a column of its tile.
+abbrev pub kept_at : Lowered → ℕ → ℕ → Option ℕ
+kept_at l row col = option_and_then (λ (counts : Vec ℕ Global). slice_get counts.items col) (slice_get l.rows.items row)
+
+-- The count that a search keeps of a cell.
+unfoldable pub kept_of : Cutting → ℕ → Lowered → ℕ → Option ℕ
+kept_of c tile l k =
+    let b = bounds_of c tile in
+    let p = place_at c.cols k in
+    if is_in_bounds b p then kept_at l (p.row - b.top) (p.col - b.left) else None
+
 -- The counts that a search has come to, over those that it was lent.
-abbrev pub counts_in : List (Option ℕ) → Lowered → ℕ → ℕ
-counts_in steps l k = unwrap_or (get nat_eq l.counts k) (count_of steps k)
+abbrev pub counts_in : Cutting → ℕ → List (Option ℕ) → Lowered → ℕ → ℕ
+counts_in c tile steps l k = unwrap_or (kept_of c tile l k) (count_of steps k)
 
 -- The counts below an index, added up.
 unfoldable pub total : ℕ → (ℕ → ℕ) → ℕ
@@ -51,25 +66,26 @@ pub record IsLowered (t : Terrain) (c : Cutting) (tile : ℕ) (steps : List (Opt
   pub each : (x : Change) → IsAmong changes x → IsChange t c tile steps counts x
 
 -- A change tells what a place has come to, and stands in the list from a place on.
-abbrev pub IsTold : Cutting → List (Option ℕ) → Lowered → ℕ → Place → Type 0
-IsTold c steps l from p = (k : ℕ) × (from ≤ k) × (slice_get l.changes.items k ≡ Some (record { place = p; count = counts_in steps l (index_of c.cols p) }))
+abbrev pub IsTold : Cutting → ℕ → List (Option ℕ) → Lowered → ℕ → Place → Type 0
+IsTold c tile steps l from p = (k : ℕ) × (from ≤ k) × (slice_get l.changes.items k ≡ Some (record { place = p; count = counts_in c tile steps l (index_of c.cols p) }))
 
 -- How far a search has come: some places have at most a bound, and the changes since are told.
 pub record IsReached (t : Terrain) (c : Cutting) (tile : ℕ) (steps : List (Option ℕ)) (Done : Place → Type 0) (bound : ℕ) (old new : Lowered) : Type 0 where
-  pub low : (k : ℕ) → counts_in steps new k ≤ counts_in steps old k
-  pub near : (p : Place) → Done p → counts_in steps new (index_of c.cols p) ≤ bound
+  pub low : (k : ℕ) → counts_in c tile steps new k ≤ counts_in c tile steps old k
+  pub near : (p : Place) → Done p → counts_in c tile steps new (index_of c.cols p) ≤ bound
+  pub rows : length new.rows.items ≡ length old.rows.items
   pub longer : length old.changes.items ≤ length new.changes.items
   pub kept : (k : ℕ) → k < length old.changes.items → slice_get new.changes.items k ≡ slice_get old.changes.items k
-  pub told : (p : Place) → IsWithin c p → (counts_in steps new (index_of c.cols p) ≡ counts_in steps old (index_of c.cols p))
-      ⊎ IsTold c steps new (length old.changes.items) p
-  pub added : (k : ℕ) (x : Change) → length old.changes.items ≤ k → slice_get new.changes.items k ≡ Some x → IsChange t c tile steps (counts_in steps new) x
+  pub told : (p : Place) → IsWithin c p → (counts_in c tile steps new (index_of c.cols p) ≡ counts_in c tile steps old (index_of c.cols p))
+      ⊎ IsTold c tile steps new (length old.changes.items) p
+  pub added : (k : ℕ) (x : Change) → length old.changes.items ≤ k → slice_get new.changes.items k ≡ Some x → IsChange t c tile steps (counts_in c tile steps new) x
   -- each that was added took something off the counts
-  pub left : length new.changes.items + total (c.cols * c.rows) (counts_in steps new) ≤ length old.changes.items + total (c.cols * c.rows) (counts_in steps old)
+  pub left : length new.changes.items + total (c.cols * c.rows) (counts_in c tile steps new) ≤ length old.changes.items + total (c.cols * c.rows) (counts_in c tile steps old)
 
 -- Inside the tile no count would be made less by a neighbour's, but where that stands in the list from a place on.
 pub record IsEvenBut (t : Terrain) (c : Cutting) (tile : ℕ) (steps : List (Option ℕ)) (l : Lowered) (from : ℕ) : Type 0 where
   pub within : (p q : Place) → IsInTile c tile p → IsInTile c tile q → AreLevel t p q →
-      (counts_in steps l (index_of c.cols p) ≤ counts_in steps l (index_of c.cols q) + 1) ⊎ IsTold c steps l from q
+      (counts_in c tile steps l (index_of c.cols p) ≤ counts_in c tile steps l (index_of c.cols q) + 1) ⊎ IsTold c tile steps l from q
 
 -- Nothing of the tile has more than these entries bring.
 pub record IsEntered (c : Cutting) (entries : List Entry) (from end : ℕ) (counts : ℕ → ℕ) : Type 0 where

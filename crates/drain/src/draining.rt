@@ -63,6 +63,24 @@ pub fn flat_steps(
     Ok(counts)
 }
 
+/// How many tiles stand in a row or a column at most, where small ones are joined.
+const MOST_ACROSS: u32 = 16;
+
+/// The tiles of the rounds: those of the grid's own cutting, unless they are so many that the jobs would cost more than
+/// the cells. Then larger ones.
+fn joined(tiling: &Tiling) -> Tiling
+    ensures { (t : Terrain) → Cuts tiling.now t → Cuts result t }
+{
+    if tiling.tiles() <= MOST_ACROSS * MOST_ACROSS {
+        return *tiling;
+    }
+    let longest = tiling.cols().max(tiling.rows());
+    match Tiling::new(tiling.cols(), tiling.rows(), longest.div_ceil(MOST_ACROSS)) {
+        Ok(larger) => larger,
+        Err(_) => *tiling,
+    }
+}
+
 /// The steps of each cell of a filled grid, which is within the limits.
 fn counted<R: Threads + Wait + Sync, G: Gate + Sync>(
     crew: &Crew<'_, R, G>,
@@ -106,11 +124,12 @@ pub fn directions<R: Threads + Wait + Sync, G: Gate + Sync>(
         gate,
     };
     let grid = filled.grid();
-    let steps = counted(&crew, filled, tiling)?;
+    let tiling = joined(tiling);
+    let steps = counted(&crew, filled, &tiling)?;
     let codes = crew.made(Codes {
         grid,
         steps: &steps,
-        tiling,
+        tiling: &tiling,
     })?;
     Ok(Directions::new(grid, &steps, codes))
 }

@@ -3,16 +3,16 @@ ghost use Rattle.std.specs.Prelude.{◌≡◌, ◌≢◌, ℕ, ◌+◌, ◌*◌,
 ghost use Rattle.terrain.specs.declared.place.Place.{Place};
 ghost use Rattle.drain.specs.declared.changes.Change.{Change};
 ghost use Rattle.terrain.specs.Neighbours.{height_at, index_of, Touches};
-ghost use Rattle.tiles.specs.Cutting.{IsCutting, IsWithin, IsInTile, tile_count, tile_of_place};
+ghost use Rattle.tiles.specs.Cutting.{IsCutting, AreBounds, IsWithin, IsInTile, tile_count, tile_of_place};
 ghost use Rattle.drain.specs.Rounds.{AreCounting};
 ghost use Rattle.drain.specs.Lowering.{IsAmong, count_of};
-ghost use Rattle.drain.specs.Entering.{lent_terrain, AreNoted};
+ghost use Rattle.drain.specs.Entering.{lent_terrain, AreNoted, IsAmid};
 
 use crate::changes::{Change, Entry};
 use crate::looking::NO_COUNT;
 use std::alloc::AllocError;
 use terrain::{Height, Place};
-use tiles::Tiling;
+use tiles::{Bounds, Tiling};
 
 /// What a round is lent: the filled heights and the counts of a grid that is cut into tiles.
 #[derive(Clone, Copy)]
@@ -134,21 +134,20 @@ impl<'a> Lent<'a> {
         Ok(())
     }
 
-    /// Notes what comes out of a tile by one of its cells.
-    fn note_over_rim(&self, place: Place, entries: &mut Vec<Entry>) -> Result<(), AllocError>
-        requires counting { AreCounting (lent_terrain self.now.tiling.now self.now.levels.now) self.now.steps.now }
+    /// Whether a place and all places around it lie in the bounds of a tile.
+    #[inline(always)]
+    fn is_amid(&self, bounds: Bounds, place: Place) -> bool
+        requires bounds { AreBounds self.now.tiling.now bounds }
         requires place { IsWithin self.now.tiling.now place }
-        ensures { OnOk result (AreNoted (lent_terrain self.now.tiling.now self.now.levels.now) self.now.tiling.now self.now.steps.now
-            (λ p q. (q ≡ place) × (tile_of_place self.now.tiling.now p ≢ tile_of_place self.now.tiling.now q)) entries.old.items entries.new.items) }
+        ensures { IsTrue result ↔ IsAmid bounds place }
     {
-        if !self.tiling.on_rim(place) {
-            return Ok(());
-        }
-        self.note_around(place, entries)?;
-        Ok(())
+        bounds.top < place.row
+            && place.row + 1 < bounds.top + bounds.rows
+            && bounds.left < place.col
+            && place.col + 1 < bounds.left + bounds.cols
     }
 
-    /// Notes what comes out of a tile by these of its cells.
+    /// Notes what comes out of tiles by these of their cells, most of which are amid the tile of the first.
     pub(crate) fn note_changes(
         &self,
         changes: &[Change],
@@ -160,8 +159,14 @@ impl<'a> Lent<'a> {
             (λ p q. (x : Change) × IsAmong changes.now x × (x.place ≡ q) × (tile_of_place self.now.tiling.now p ≢ tile_of_place self.now.tiling.now q))
             entries.old.items entries.new.items) }
     {
+        let Some(first) = changes.first() else {
+            return Ok(());
+        };
+        let bounds = self.tiling.bounds(self.tiling.tile_of(first.place));
         for change in changes {
-            self.note_over_rim(change.place, entries)?;
+            if !self.is_amid(bounds, change.place) {
+                self.note_around(change.place, entries)?;
+            }
         }
         Ok(())
     }

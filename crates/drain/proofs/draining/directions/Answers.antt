@@ -2,7 +2,7 @@ use Rattle.std.proofs.Common.{ℕ, List, Option, sym, subst}
 use Rattle.terrain.specs.Raster.{Raster, IsTerrain}
 use Rattle.tiles.specs.Cutting.{Cuts}
 use Rattle.tile_maps.specs.Maps.{IsMadeMap}
-use Rattle.drain.specs.Directions.{IsCodeAt}
+use Rattle.drain.specs.Directions.{AreDirections, IsCodeAt}
 use Rattle.drain.specs.Steps.{AreSteps}
 use Rattle.drainage.specs.Drained.{Drained, IsDraining, AllFlowEnds, directed_of}
 use Rattle.drain.proofs.TileLists.{coded_map}
@@ -16,7 +16,7 @@ invariant_of-made g c =
     record {
       lawful = subst (λ (x : Raster). IsTerrain x.terrain) same c.in_ok-steps.ensures.lawful;
       steps = subst (λ (x : Raster). AreSteps x.terrain c.deref.result.now) same (subst (λ (l : List (Option ℕ)). AreSteps c.args.filled.now.terrain l) (sym c.deref.ensures.value) c.in_ok-steps.ensures.steps);
-      cuts = subst (λ (x : Raster). Cuts c.args.tiling.now x.terrain) same c.requires;
+      cuts = subst (λ (x : Raster). Cuts c.joined-tiling.result x.terrain) same (c.joined-tiling.ensures c.args.filled.now.terrain c.requires);
     }
 
 pub new-requires : goal.new-requires
@@ -24,15 +24,22 @@ new-requires g c =
     let t = c.args.filled.now.terrain in
     let steps = c.in_ok-steps.steps.items in
     let codes = c.in_ok-codes.codes.items in
-    let all = coded_map t c.args.tiling.now codes c.requires (subst (λ (x : Raster). IsMadeMap c.args.tiling.now (IsCodeAt x.terrain) codes) c.grid-grid.ensures.value c.in_ok-codes.ensures.made) in
+    let all = coded_map t c.joined-tiling.result codes (c.joined-tiling.ensures t c.requires) (subst (λ (x : Raster). IsMadeMap c.joined-tiling.result (IsCodeAt x.terrain) codes) c.grid-grid.ensures.value c.in_ok-codes.ensures.made) in
     subst (λ (x : Raster). IsDraining (record { terrain = x.terrain; steps = steps; codes = codes })) (sym c.grid-grid.ensures.value) (are_draining t steps codes c.in_ok-steps.ensures.steps all)
+
+pub returns-clause-codes : goal.returns-clause-codes
+returns-clause-codes g c =
+    let t = c.args.filled.now.terrain in
+    let codes = c.in_ok-codes.codes.items in
+    let all = coded_map t c.joined-tiling.result codes (c.joined-tiling.ensures t c.requires) (subst (λ (x : Raster). IsMadeMap c.joined-tiling.result (IsCodeAt x.terrain) codes) c.grid-grid.ensures.value c.in_ok-codes.ensures.made) in
+    subst (λ (x : Drained). AreDirections t x.codes) (sym c.new.ensures) all
 
 pub returns-clause-ends : goal.returns-clause-ends
 returns-clause-ends g c =
     let t = c.args.filled.now.terrain in
     let steps = c.in_ok-steps.steps.items in
     let codes = c.in_ok-codes.codes.items in
-    let all = coded_map t c.args.tiling.now codes c.requires (subst (λ (x : Raster). IsMadeMap c.args.tiling.now (IsCodeAt x.terrain) codes) c.grid-grid.ensures.value c.in_ok-codes.ensures.made) in
+    let all = coded_map t c.joined-tiling.result codes (c.joined-tiling.ensures t c.requires) (subst (λ (x : Raster). IsMadeMap c.joined-tiling.result (IsCodeAt x.terrain) codes) c.grid-grid.ensures.value c.in_ok-codes.ensures.made) in
     let d : Drained = record { terrain = c.grid-grid.result.now.terrain; steps = steps; codes = codes } in
     let draining = subst (λ (x : Raster). IsDraining (record { terrain = x.terrain; steps = steps; codes = codes })) (sym c.grid-grid.ensures.value) (are_draining t steps codes c.in_ok-steps.ensures.steps all) in
     subst (λ (x : Drained). AllFlowEnds (directed_of x)) (sym c.new.ensures) (falling_ends d draining)

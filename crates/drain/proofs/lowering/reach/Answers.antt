@@ -1,16 +1,22 @@
-use Rattle.std.proofs.Common.{◌≡◌, ◌≢◌, ◌+◌, is_some, sym, ap, refl, ◌∙◌, arith}
+use Rattle.std.proofs.Common.{◌≡◌, ◌≢◌, ◌+◌, ◌<◌, ℕ, is_some, sym, ap, subst, refl, ◌∙◌, arith}
 use Rattle.std.proofs.lemmas.Bool.{false≢true}
 use Rattle.terrain.specs.Neighbours.{index_of, height_at}
 use Rattle.terrain.specs.declared.place.Place.{Place}
-use Rattle.tiles.specs.Cutting.{tile_of_place}
+use Rattle.tiles.specs.Cutting.{bounds_of, tile_of_place}
 use Rattle.drain.specs.Entering.{lent_terrain}
 use Rattle.drain.specs.Lowering.{counts_in}
 use Rattle.drain.specs.Rounds.{IsLent}
 use Rattle.drain.proofs.Few.{data_on_level_walk}
 use Rattle.drain.proofs.Spreading.{touches_back}
 use Rattle.drain.proofs.TileRound.{walked_on}
-use Rattle.drain.proofs.Lowered.{small, reached_same, reached_all, reached_tile}
+use Rattle.drain.proofs.Lowered.{small, low_own, reached_same, reached_all, reached_tile}
 use Rattle.drain.proofs.lowering.reach.Goals as goal
+
+pub lower-requires-clause-bounds : goal.lower-requires-clause-bounds
+lower-requires-clause-bounds c = c.requires.bounds ∙ ap (λ (k : ℕ). bounds_of c.args.lent.now.tiling.now k) (sym c.requires.to.0.1)
+
+pub lower-requires-clause-low : goal.lower-requires-clause-low
+lower-requires-clause-low c = low_own c.args.lent.now.tiling.now _ c.args.lent.now.steps.now c.args.lowered.now c.args.to c.requires.to.0.1 c.requires.low
 
 pub lower-requires-clause-walked : goal.lower-requires-clause-walked
 lower-requires-clause-walked c = λ less.
@@ -19,12 +25,15 @@ lower-requires-clause-walked c = λ less.
     let steps = c.args.lent.now.steps.now in
     let from = c.args.from in
     let to = c.args.to in
+    let tile = tile_of_place v from.place in
+    let below : from.count + 1 < counts_in v tile steps c.args.lowered.now (index_of v.cols to) =
+    subst (λ (k : ℕ). from.count + 1 < counts_in v k steps c.args.lowered.now (index_of v.cols to)) c.requires.to.0.1 less in
     let level : height_at t to ≡ height_at t from.place = c.is_level.ensures.0 c.if-is_level.true in
     let is_data = data_on_level_walk (IsLent t steps) t (λ p lent. lent.0) from.place c.requires.from.walked.1 c.requires.from.walked.2 in
-    let differ : to ≢ from.place = λ e. (let same = ap (λ (q : Place). counts_in steps c.args.lowered.now (index_of v.cols q)) e in omega (arith, same, less, c.requires.from.least)) in
+    let differ : to ≢ from.place = λ e. (let same = ap (λ (q : Place). counts_in v tile steps c.args.lowered.now (index_of v.cols q)) e in omega (arith, same, below, c.requires.from.least)) in
     walked_on t steps from.place to from.count (from.count + 1)
     (record { different = differ; touches = touches_back from.place to c.requires.to.1; from_data = ap is_some level ∙ is_data; to_data = is_data }) (sym level) c.requires.from.walked refl
-    (omega (arith, less, c.requires.low (index_of v.cols to), small t steps (index_of v.cols to) c.requires.counting))
+    (omega (arith, below, c.requires.low (index_of v.cols to), small t steps (index_of v.cols to) c.requires.counting))
 
 pub returns-in_ok-lower : goal.returns-in_ok-lower
 returns-in_ok-lower c =

@@ -1,4 +1,4 @@
-use Rattle.std.proofs.Common.{◌-◌, ◌<◌, inl, inr, arith}
+use Rattle.std.proofs.Common.{◌-◌, ◌<◌, inl, inr, ◌∙◌, arith}
 use Rattle.std.proofs.lemmas.Bool.{cases_eq}
 use Rattle.terrain.proofs.Places.{make_place, same_place}
 use Rattle.tiles.specs.Cutting.{tile_of_place}
@@ -19,6 +19,9 @@ reach-requires-clause-to c =
     beside_in_tile v c.args.from.place (make_place c.args.row c.loop-col.col) c.args.bounds c.args.lent.now.lawful c.requires.from.inside.0 c.requires.bounds
     (c.requires.row.0, c.requires.row.1, omega (arith, own), omega (arith, own))
     (record { row_down = omega arith; row_up = omega arith; col_right = omega (arith, own); col_left = omega (arith, own) })
+
+pub reach-requires-clause-rows : goal.reach-requires-clause-rows
+reach-requires-clause-rows c = c.loop-col.invariant.rows ∙ c.requires.rows
 
 pub reach-requires-clause-low : goal.reach-requires-clause-low
 reach-requires-clause-low c = λ k. omega (arith, c.loop-col.invariant.low k, c.requires.low k)

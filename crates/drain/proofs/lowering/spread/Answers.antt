@@ -1,4 +1,4 @@
-use Rattle.std.proofs.Common.{◌-◌, ◌<◌, inl, inr, arith}
+use Rattle.std.proofs.Common.{◌-◌, ◌<◌, inl, inr, ◌∙◌, arith}
 use Rattle.std.proofs.lemmas.Bool.{cases_eq}
 use Rattle.tiles.specs.Cutting.{tile_of_place}
 use Rattle.drain.specs.Entering.{lent_terrain}
@@ -14,6 +14,9 @@ pub reach_along-requires-clause-row : goal.reach_along-requires-clause-row
 reach_along-requires-clause-row c =
     let own = own_bounds c.args.lent.now.tiling.now c.args.from.place c.args.from.place c.args.bounds c.args.lent.now.lawful c.requires.bounds c.requires.from.inside in
     (omega (arith, own), omega (arith, own), omega (arith, own), omega (arith, own))
+
+pub reach_along-requires-clause-rows : goal.reach_along-requires-clause-rows
+reach_along-requires-clause-rows c = c.loop-row.invariant.rows ∙ c.requires.rows
 
 pub reach_along-requires-clause-low : goal.reach_along-requires-clause-low
 reach_along-requires-clause-low c = λ k. omega (arith, c.loop-row.invariant.low k, c.requires.low k)

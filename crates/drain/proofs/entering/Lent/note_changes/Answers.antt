@@ -1,26 +1,53 @@
-use Rattle.std.proofs.Common.{ℕ, inl, inr, get_or, sym, ap, ◌∙◌, arith}
+use Rattle.std.proofs.Common.{◌≡◌, ℕ, inl, inr, Some, get_or, sym, ap, subst, ◌∙◌, arith}
 use Rattle.std.specs.Prelude.{slice_get}
 use Rattle.std.proofs.lemmas.Bool.{cases_eq}
+use Rattle.terrain.specs.declared.place.Place.{Place}
+use Rattle.tiles.specs.declared.bounds.Bounds.{Bounds}
+use Rattle.tiles.specs.Cutting.{bounds_of}
 use Rattle.drain.specs.declared.changes.Change.{Change}
+use Rattle.drain.specs.Entering.{lent_terrain, IsAmid}
+use Rattle.drain.proofs.Entered.{amid_tile}
+use Rattle.drain.proofs.Spreading.{touches_back}
 use Rattle.drain.proofs.Noting.{noted_all, noted_then}
 use Rattle.std.proofs.lemmas.Option.{slice_get-get_or, slice_get_within, same_Some}
 use Rattle.drain.proofs.entering.Lent.note_changes.Goals as goal
+use Rattle.drain.proofs.entering.Lent.note_changes.Goals.{then-not-is_amid+in_ok-note_around, else-not-is_amid}
 
 abbrev none : Change
 none = record { place = record { row = 0; col = 0 }; count = 0 }
 
-pub note_over_rim-requires-clause-place : goal.note_over_rim-requires-clause-place
-note_over_rim-requires-clause-place c = c.requires.changes _ (c.loop-change.change-index, slice_get-get_or c.args.changes.now c.loop-change.change-index none c.loop-change-test.true)
+pub tile_of-requires : goal.tile_of-requires
+tile_of-requires c = c.requires.changes c.in-Some.first.now (0, sym c.in-Some.ensures.value)
+
+pub is_amid-requires-clause-place : goal.is_amid-requires-clause-place
+is_amid-requires-clause-place c = c.requires.changes _ (c.loop-change.change-index, slice_get-get_or c.args.changes.now c.loop-change.change-index none c.loop-change-test.true)
+
+pub note_around-requires-clause-place : goal.note_around-requires-clause-place
+note_around-requires-clause-place c = c.requires.changes _ (c.loop-change.change-index, slice_get-get_or c.args.changes.now c.loop-change.change-index none c.loop-change-test.true)
 
 pub loop-change-preserved : goal.loop-change-preserved
 loop-change-preserved c =
+    let v = c.args.self.now.tiling.now in
+    let t = lent_terrain v c.args.self.now.levels.now in
+    let steps = c.args.self.now.steps.now in
     let changes = c.args.changes.now in
     let i = c.loop-change.change-index in
+    let x = get_or changes i none in
     let at = slice_get-get_or changes i none c.loop-change-test.true in
-    noted_then _ _ _ _ _ _ _ _ _ (λ p q done side. elim (cases_eq done.1 i) [
-      | inl e ↦ inr (sym (ap (λ (x : Change). x.place) (same_Some (get_or changes i none) done.0 (sym at ∙ ap (λ (k : ℕ). slice_get changes k) (sym e) ∙ done.3)) ∙ done.4), done.5)
-      | inr ne ↦ inl (done.0, done.1, omega (arith, done.2), done.3, done.4, done.5)
-    ]) c.loop-change.invariant c.in_ok-note_over_rim.ensures
+    let here : (k : ℕ) (y : Change) (q : Place) → k ≡ i → slice_get changes k ≡ Some y → y.place ≡ q → q ≡ x.place =
+    λ k y q e told is. sym (ap (λ (z : Change). z.place) (same_Some x y (sym at ∙ ap (λ (n : ℕ). slice_get changes n) (sym e) ∙ told)) ∙ is) in
+    elim c.if-not-is_amid.branch [
+      | then-not-is_amid+in_ok-note_around w ↦ rw w.entries-is (noted_then t v steps _ (λ p q. q ≡ x.place) _ _ _ _ (λ p q done side. elim (cases_eq done.1 i) [
+        | inl e ↦ inr (here done.1 done.0 q e done.3 done.4)
+        | inr ne ↦ inl (done.0, done.1, omega (arith, done.2), done.3, done.4, done.5)
+      ]) c.loop-change.invariant w.in_ok-note_around.ensures)
+      | else-not-is_amid w ↦ (let amid = subst (λ (b : Bounds). IsAmid b x.place) c.bounds-bounds.ensures.value (c.is_amid.ensures.0 w.if-not-is_amid.false) in
+          rw w.entries-is (noted_all t v steps _ _ _ _ (λ p q done side. elim (cases_eq done.1 i) [
+            | inl e ↦ (let own = subst (λ (r : Place). IsAmid (bounds_of v c.tile_of.result) r) (sym (here done.1 done.0 q e done.3 done.4)) amid in
+                absurd (done.5 (amid_tile v c.tile_of.result q p c.args.self.now.lawful c.tile_of.ensures.below own (touches_back p q side.next.touches))))
+            | inr ne ↦ (done.0, done.1, omega (arith, done.2), done.3, done.4, done.5)
+          ]) c.loop-change.invariant))
+    ]
 
 pub returns : goal.returns
 returns c =
