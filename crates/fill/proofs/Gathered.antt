@@ -1,5 +1,5 @@
 -- The gathered joins and sources are those of the spill graph.
-use Rattle.std.proofs.Common.{◌≡◌, ◌≢◌, ℕ, ◌+◌, ◌-◌, ◌*◌, ◌/◌, ◌%◌, ◌<◌, inl, inr, ◌⊎◌, ◌&&◌, true, false, Bool, ℤ, ◌≤ℤ◌, List, [], length, get_or, Option, None, Some, is_some, ◌∙◌, sym, ap, subst, refl, arith}
+use Rattle.std.proofs.Common.{◌≡◌, ◌≢◌, ℕ, ◌+◌, ◌-◌, ◌*◌, ◌/◌, ◌%◌, ◌<◌, inl, inr, ◌&&◌, true, false, Bool, ℤ, ◌≤ℤ◌, List, [], length, get_or, Option, None, Some, is_some, ◌∙◌, sym, ap, subst, refl, arith}
 use Rattle.std.specs.List.{Contains, flat_map}
 use Rattle.std.proofs.lemmas.Bool.{cases_lt, cases_order, cases_Bool}
 use Rattle.std.proofs.lemmas.Nat.{div-mul-add, mod-mul-add, div-add-mod'}
@@ -16,7 +16,7 @@ use Rattle.tiles.specs.declared.bounds.Bounds.{Bounds}
 use Rattle.tiles.proofs.TileOrder.{place_in, place_in_tile, index_in-place_in}
 use Rattle.fill.specs.TileFlood.{Flood, LabelsInside, IsTileFlood, label_in}
 use Rattle.fill.specs.Spills.{AreFloods, level_among, label_among, Carries, IsPass, Graph, HasJoin, IsJoined, AreSpillSources, AreSourcesOf, IsGraphOf, IsOpenGraphOf}
-use Rattle.fill.specs.Gathering.{Fit, mark_among, Meets, Adds, IsBefore, AreRising, AreLowest, AreGathered, Covered, are_settled, HasGapAmong, IsSpillSource, IsSourceEntry, AreSources, PutsSinks}
+use Rattle.fill.specs.Gathering.{Fit, mark_among, Meets, Adds, IsBefore, AreRising, AreLowest, AreGathered, are_settled, HasGapAmong, IsSpillSource, IsSourceEntry, AreSources, PutsSinks}
 use Rattle.fill.specs.Parts.{IsPart, AreParts, IsGraph, joins_by_part, graph_of_parts, tile_of_node}
 use Rattle.fill.specs.declared.parts.Part.{Part}
 use Rattle.fill.specs.declared.spills.Join.{Join}
