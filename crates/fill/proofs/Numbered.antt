@@ -1,6 +1,6 @@
--- The levels of a spill graph, by numbers of those of its nodes that are joined or are sources.
-use Rattle.std.proofs.Common.{◌≡◌, ◌≢◌, ℕ, ◌+◌, ◌<◌, ◌≤◌, ◌⊎◌, inl, inr, ℤ, pos, ◌≤ℤ◌, List, [], ◌∷◌, ◌++◌, map, length, get_or, set, Option, None, unwrap_or, ◌∙◌, sym, ap, subst, refl, arith}
-use Rattle.std.specs.Prelude.{IsSome}
+-- The levels of a spill graph, by numbers of those of its nodes that are joined.
+use Rattle.std.proofs.Common.{◌≡◌, ◌≢◌, ℕ, ◌+◌, ◌<◌, ◌≤◌, ◌⊎◌, inl, inr, ℤ, pos, ◌≤ℤ◌, List, [], ◌∷◌, ◌++◌, map, length, get_or, set, Option, None, Some, unwrap_or, ◌∙◌, sym, ap, subst, refl, arith}
+use Rattle.std.specs.Prelude.{IsSome, is_some, MatchOption}
 use Rattle.std.specs.Int.{int_max}
 use Rattle.std.specs.Option.{option_map}
 use Rattle.std.specs.List.{Contains, All, flat_map}
@@ -9,13 +9,13 @@ use Rattle.std.proofs.lemmas.Option.{MatchOption-at_some, MatchOption-at_none}
 use Rattle.std.proofs.lemmas.List.{length-set, length-map, length_push, get_or-map, get_or-set_same, get_or-set_other, get_or_append_left, get_or_push, get_or_past}
 use Rattle.std.proofs.lemmas.List.Elements.{All-contains, Contains-get_or}
 use Rattle.floods.specs.declared.net.Spill.{Spill}
-use Rattle.floods.specs.Walk.{IsWalk, crest, end_of, IsFlooded, HasJust}
+use Rattle.floods.specs.Walk.{IsWalk, crest, end_of, IsLevel, HasNoWalk, IsFlooded, HasJust}
 use Rattle.floods.proofs.Heaps.{all_by_contains}
-use Rattle.floods.proofs.Steps.{match_of, none_some, none_done}
+use Rattle.floods.proofs.Steps.{le_of_same, match_of, none_done}
 use Rattle.floods.proofs.Waits.{in_some_list, in_lists}
 use Rattle.fill.specs.Spills.{Graph, HasJoin, source_in, AreLevelsOf}
 use Rattle.fill.specs.Parts.{joins_by_part}
-use Rattle.fill.specs.Numbers.{AreNumbered, AreMarked, MarksJoined, HasNumberJoin, node_at, number_of, source_at, way_to_number, levels_by}
+use Rattle.fill.specs.Numbers.{AreNumbered, AreMarked, AreNumberLevels, MarksJoined, HasNumberJoin, node_at, number_of, source_at, way_to_number, levels_by}
 use Rattle.fill.specs.declared.spills.Join.{Join}
 use Rattle.fill.specs.declared.parts.Part.{Part}
 use Rattle.fill.proofs.GraphParts.{joins_at}
@@ -70,7 +70,6 @@ pub record NumbersFirst (g : Graph) (count : ℕ) (marks nodes numbers : List �
   pub number : (n : ℕ) → n < length nodes → get_or numbers (get_or nodes n 0) 0 ≡ n
   pub node : (a : ℕ) → a < count → (get_or numbers a 0 ≡ 4294967295) ⊎ ((get_or numbers a 0 < length nodes) × (get_or nodes (get_or numbers a 0) 0 ≡ a))
   pub marked : (a : ℕ) → a < count → get_or marks a 0 ≡ 0 → get_or numbers a 0 < length nodes
-  pub sources : (a : ℕ) → a < count → IsSome (source_in g a) → get_or numbers a 0 < length nodes
   pub rest : (a : ℕ) → count ≤ a → get_or numbers a 0 ≡ get_or marks a 0
 
 pub numbers_none : (g : Graph) (marks : List ℕ) → NumbersFirst g 0 marks [] marks
@@ -81,7 +80,6 @@ numbers_none g marks = record {
   number = λ n low. absurd (omega (arith, low));
   node = λ a low. absurd (omega (arith, low));
   marked = λ a low mark. absurd (omega (arith, low));
-  sources = λ a low source. absurd (omega (arith, low));
   rest = λ a high. refl;
 }
 
@@ -119,10 +117,6 @@ number_more g i marks nodes numbers below s = record {
     | inl same ↦ let e = at a same in omega (arith, e, count)
     | inr other ↦ let e = still a other in let old = s.marked a (omega (arith, low, other)) mark in omega (arith, e, old, count)
   ];
-  sources = λ a low source. elim (cases_eq a i) [
-    | inl same ↦ let e = at a same in omega (arith, e, count)
-    | inr other ↦ let e = still a other in let old = s.sources a (omega (arith, low, other)) source in omega (arith, e, old, count)
-  ];
   rest = λ a high. still a (λ e. omega (arith, high, e)) ∙ s.rest a (omega (arith, high));
 } where
   more : List ℕ
@@ -150,8 +144,8 @@ number_more g i marks nodes numbers below s = record {
   still a other = get_or-set_other numbers i a (length nodes) 0 other
 
 -- or none
-pub number_none : (g : Graph) (i : ℕ) (marks nodes numbers : List ℕ) → i < length marks → get_or numbers i 0 ≢ 0 → source_in g i ≡ None → NumbersFirst g i marks nodes numbers → NumbersFirst g (i + 1) marks nodes (set numbers i 4294967295)
-number_none g i marks nodes numbers below unmarked none s = record {
+pub number_none : (g : Graph) (i : ℕ) (marks nodes numbers : List ℕ) → i < length marks → get_or numbers i 0 ≢ 0 → NumbersFirst g i marks nodes numbers → NumbersFirst g (i + 1) marks nodes (set numbers i 4294967295)
+number_none g i marks nodes numbers below unmarked s = record {
   size = length-set numbers i 4294967295 ∙ s.size;
   few = omega (arith, s.few);
   inside = λ n low. let old = s.inside n low in omega (arith, old);
@@ -169,10 +163,6 @@ number_none g i marks nodes numbers below unmarked none s = record {
     | inl same ↦ absurd (unmarked (s.rest i (omega arith) ∙ ap (λ k. get_or marks k 0) (sym same) ∙ mark))
     | inr other ↦ let e = still a other in let old = s.marked a (omega (arith, low, other)) mark in omega (arith, e, old)
   ];
-  sources = λ a low source. elim (cases_eq a i) [
-    | inl same ↦ absurd (none_done (source_in g i) none (subst (λ k. IsSome (source_in g k)) same source))
-    | inr other ↦ let e = still a other in let old = s.sources a (omega (arith, low, other)) source in omega (arith, e, old)
-  ];
   rest = λ a high. still a (λ e. omega (arith, high, e)) ∙ s.rest a (omega (arith, high));
 } where
   new : List ℕ
@@ -181,18 +171,18 @@ number_none g i marks nodes numbers below unmarked none s = record {
   still : (a : ℕ) → a ≢ i → get_or new a 0 ≡ get_or numbers a 0
   still a other = get_or-set_other numbers i a 4294967295 0 other
 
-pub all_numbered : (g : Graph) (marks nodes numbers : List ℕ) → g.nodes < 4294967296 → AreMarked g marks → NumbersFirst g g.nodes marks nodes numbers → AreNumbered g nodes numbers
-all_numbered g marks nodes numbers few are s = record {
+pub all_numbered : (g : Graph) (marks nodes numbers : List ℕ) → AreMarked g marks → NumbersFirst g g.nodes marks nodes numbers → AreNumbered g nodes numbers
+all_numbered g marks nodes numbers are s = record {
   size = s.size ∙ are.size;
-  few = omega (arith, s.few, few);
+  few = s.few;
+  small = are.small;
   inside = s.inside;
   number = s.number;
   node = λ a below low. elim (s.node a below) [
-    | inl none ↦ absurd (omega (arith, none, low, s.few, few))
+    | inl none ↦ absurd (omega (arith, none, low, s.few, are.small))
     | inr has ↦ has.1
   ];
   joined = λ j held. let mark = are.every j held in s.marked j.from mark.0 mark.1;
-  sources = s.sources;
 }
 
 -- the ways of a node, by number
@@ -221,22 +211,20 @@ ways_numbered g nodes numbers n ways are below just = record {
   size : length (map (way_to_number numbers) ways) ≡ length ways
   size = length-map ways (way_to_number numbers)
 
--- a walk of nodes is one of their numbers
-walk_forth : (g : Graph) (nodes numbers : List ℕ) → AreNumbered g nodes numbers → (walk : List Spill) (a : ℕ) → a < g.nodes → IsWalk (HasJoin g) (source_in g) a walk →
-    (has : number_of numbers a < length nodes) × (steps : List Spill) × IsWalk (HasNumberJoin g nodes) (source_at g nodes) (number_of numbers a) steps × (crest (source_at g nodes) (number_of numbers a) steps ≡ crest (source_in g) a walk)
-walk_forth g nodes numbers are [] a below walk =
-    let has = are.sources a below walk in
+-- a walk from a node with a number is one of numbers
+walk_forth : (g : Graph) (nodes numbers : List ℕ) → AreNumbered g nodes numbers → (walk : List Spill) (a : ℕ) → a < g.nodes → number_of numbers a < length nodes → IsWalk (HasJoin g) (source_in g) a walk →
+    (steps : List Spill) × IsWalk (HasNumberJoin g nodes) (source_at g nodes) (number_of numbers a) steps × (crest (source_at g nodes) (number_of numbers a) steps ≡ crest (source_in g) a walk)
+walk_forth g nodes numbers are [] a below has walk =
     let same = ap (source_in g) (are.node a below has) in
-    (has, [], subst (λ (o : Option ℤ). IsSome o) (sym same) walk, ap (λ (o : Option ℤ). unwrap_or o (pos 0)) same)
-walk_forth g nodes numbers are (step ∷ rest) a below walk =
-    let further = walk_forth g nodes numbers are rest step.to walk.0.to_node walk.1 in
-    let has = are.joined (record { from = a; to = step.to; height = step.height }) walk.0.there in
+    ([], subst (λ (o : Option ℤ). IsSome o) (sym same) walk, ap (λ (o : Option ℤ). unwrap_or o (pos 0)) same)
+walk_forth g nodes numbers are (step ∷ rest) a below has walk =
+    let to = are.joined (record { from = step.to; to = a; height = step.height }) walk.0.back in
+    let further = walk_forth g nodes numbers are rest step.to walk.0.to_node to walk.1 in
     let join : HasJoin g (node_at nodes (number_of numbers a)) (node_at nodes (number_of numbers step.to)) step.height =
-    subst (λ x. HasJoin g x (node_at nodes (number_of numbers step.to)) step.height) (sym (are.node a below has)) (subst (λ y. HasJoin g a y step.height) (sym (are.node step.to walk.0.to_node further.0)) walk.0) in (
-      has,
-      way_to_number numbers step ∷ further.1,
-      (record { from_number = has; to_number = further.0; join = join }, further.2),
-      ap (int_max step.height) further.3,
+    subst (λ x. HasJoin g x (node_at nodes (number_of numbers step.to)) step.height) (sym (are.node a below has)) (subst (λ y. HasJoin g a y step.height) (sym (are.node step.to walk.0.to_node to)) walk.0) in (
+      way_to_number numbers step ∷ further.0,
+      (record { from_number = has; to_number = to; join = join }, further.1),
+      ap (int_max step.height) further.2,
     )
 
 -- and back
@@ -247,48 +235,212 @@ walk_back g nodes (step ∷ rest) n walk =
     let further = walk_back g nodes rest step.to walk.1 in
     (record { to = node_at nodes step.to; height = step.height } ∷ further.0, (walk.0.join, further.1), ap (int_max step.height) further.2, further.3)
 
+-- A node of the graph has this level and this label, or neither.
+abbrev IsNodeLevel : Graph → ℕ → Option ℤ → Option ℕ → Type 0
+IsNodeLevel g a level label = MatchOption level (HasNoWalk (HasJoin g) (source_in g) a × (label ≡ None)) (λ h. (end : ℕ) × (label ≡ Some end) × IsLevel (HasJoin g) (source_in g) a h end)
+
+-- the level of a node with a number
+joined_level : (g : Graph) (nodes numbers : List ℕ) (heights : List (Option ℤ)) (labels : List (Option ℕ)) → AreNumbered g nodes numbers → IsFlooded (HasNumberJoin g nodes) (source_at g nodes) (length nodes) heights labels → (a : ℕ) → a < g.nodes → number_of numbers a < length nodes →
+    IsNodeLevel g a (get_or heights (number_of numbers a) None) (option_map (node_at nodes) (get_or labels (number_of numbers a) None))
+joined_level g nodes numbers heights labels are flooded a below has = match_of (get_or heights n None) _ _ none some where
+  n : ℕ
+  n = number_of numbers a
+
+  none : get_or heights n None ≡ None → HasNoWalk (HasJoin g) (source_in g) a × (option_map (node_at nodes) (get_or labels n None) ≡ None)
+  none e =
+      let inner = MatchOption-at_none _ _ e (flooded.each n has) in
+      (λ walk is. let w = walk_forth g nodes numbers are walk a below has is in inner.0 w.0 w.1, ap (option_map (node_at nodes)) inner.1)
+
+  some : (level : ℤ) → get_or heights n None ≡ Some level → (end : ℕ) × (option_map (node_at nodes) (get_or labels n None) ≡ Some end) × IsLevel (HasJoin g) (source_in g) a level end
+  some level e =
+      let inner = MatchOption-at_some _ _ level e (flooded.each n has) in
+      let at : node_at nodes n ≡ a = are.node a below has in
+      let back = walk_back g nodes inner.2.reached.0 n inner.2.reached.1 in (
+        node_at nodes inner.0,
+        ap (option_map (node_at nodes)) inner.1,
+        record {
+          reached = (
+            back.0,
+            subst (λ x. IsWalk (HasJoin g) (source_in g) x back.0) at back.1,
+            subst (λ x. crest (source_in g) x back.0 ≡ level) at (back.2 ∙ inner.2.reached.2),
+            subst (λ x. end_of x back.0 ≡ node_at nodes inner.0) at (back.3 ∙ ap (node_at nodes) inner.2.reached.3),
+          );
+          least = λ walk is. let w = walk_forth g nodes numbers are walk a below has is in subst (λ z. level ≤ℤ z) w.2 (inner.2.least w.0 w.1);
+          own = λ source. ap (node_at nodes) (inner.2.own (ap (source_in g) at ∙ source)) ∙ at;
+        },
+      )
+
+-- A node that is joined to none.
+abbrev IsAlone : Graph → ℕ → Type 0
+IsAlone g a = (b : ℕ) (h : ℤ) → HasJoin g a b h → ⊥
+
+alone_none : (g : Graph) (a : ℕ) → IsAlone g a → source_in g a ≡ None → HasNoWalk (HasJoin g) (source_in g) a
+alone_none g a alone none = go where
+  go : HasNoWalk (HasJoin g) (source_in g) a
+  go [] walk = none_done (source_in g a) none walk
+  go (step ∷ rest) walk = alone step.to step.height walk.0
+
+alone_level : (g : Graph) (a : ℕ) (h : ℤ) → IsAlone g a → source_in g a ≡ Some h → IsNodeLevel g a (Some h) (Some a)
+alone_level g a h alone source = (a, refl, record { reached = ([], ap is_some source, height, refl); least = least; own = λ own. refl }) where
+  height : unwrap_or (source_in g a) (pos 0) ≡ h
+  height = ap (λ (o : Option ℤ). unwrap_or o (pos 0)) source
+
+  least : (walk : List Spill) → IsWalk (HasJoin g) (source_in g) a walk → h ≤ℤ crest (source_in g) a walk
+  least [] walk = le_of_same _ _ (sym height)
+  least (step ∷ rest) walk = absurd (alone step.to step.height walk.0)
+
+-- The nodes below a count have their levels by number, as those have from the start that have one of the first numbers.
+pub record HasLevels (g : Graph) (count first : ℕ) (old numbers : List ℕ) (heights : List (Option ℤ)) : Type 0 where
+  pub labels : List (Option ℕ)
+  pub size : length numbers ≡ g.nodes
+  pub labels_size : length labels ≡ length heights
+  pub enough : first ≤ length heights
+  pub few : length heights ≤ first + count
+  pub joined : (a : ℕ) → a < g.nodes → get_or numbers a 0 < first → IsNodeLevel g a (get_or heights (get_or numbers a 0) None) (get_or labels (get_or numbers a 0) None)
+  pub alone : (a : ℕ) → a < count → first ≤ get_or numbers a 0 → ((get_or numbers a 0 ≡ 4294967295) × HasNoWalk (HasJoin g) (source_in g) a)
+      ⊎ ((get_or numbers a 0 < length heights) × IsNodeLevel g a (get_or heights (get_or numbers a 0) None) (get_or labels (get_or numbers a 0) None))
+  pub rest : (a : ℕ) → count ≤ a → get_or numbers a 0 ≡ get_or old a 0
+
+pub joined_levels : (g : Graph) (nodes numbers : List ℕ) (heights : List (Option ℤ)) → AreNumbered g nodes numbers → AreNumberLevels g nodes heights → HasLevels g 0 (length heights) numbers numbers heights
+joined_levels g nodes numbers heights are s = record {
+  labels = map (option_map (node_at nodes)) s.0;
+  size = are.size;
+  labels_size = length-map s.0 (option_map (node_at nodes)) ∙ s.1.labels_size ∙ sym s.1.levels_size;
+  enough = omega arith;
+  few = omega arith;
+  joined = λ a below low.
+      let has : get_or numbers a 0 < length nodes = omega (arith, low, s.1.levels_size) in
+      subst (IsNodeLevel g a (get_or heights (get_or numbers a 0) None)) (sym (get_or-map (option_map (node_at nodes)) s.0 (get_or numbers a 0) None None (omega (arith, has, s.1.labels_size))))
+      (joined_level g nodes numbers heights s.0 are s.1 a below has);
+  alone = λ a low high. absurd (omega (arith, low));
+  rest = λ a high. refl;
+}
+
+-- a node that has no number is alone
+pub unnumbered : (g : Graph) (nodes numbers : List ℕ) (a first : ℕ) → AreNumbered g nodes numbers → first ≡ length nodes → first ≤ get_or numbers a 0 → IsAlone g a
+unnumbered g nodes numbers a first are same past b h join =
+    let has = are.joined (record { from = a; to = b; height = h }) join.there in
+    omega (arith, has, same, past)
+
+pub joined_next : (g : Graph) (i first : ℕ) (old numbers : List ℕ) (heights : List (Option ℤ)) → get_or numbers i 0 < first → HasLevels g i first old numbers heights → HasLevels g (i + 1) first old numbers heights
+joined_next g i first old numbers heights low s = record {
+  labels = s.labels;
+  size = s.size;
+  labels_size = s.labels_size;
+  enough = s.enough;
+  few = omega (arith, s.few);
+  joined = s.joined;
+  alone = λ a below high. elim (cases_eq a i) [
+    | inl same ↦ let e = ap (λ k. get_or numbers k 0) same in absurd (omega (arith, e, low, high))
+    | inr other ↦ s.alone a (omega (arith, below, other)) high
+  ];
+  rest = λ a high. s.rest a (omega (arith, high));
+}
+
+pub none_next : (g : Graph) (i first : ℕ) (old numbers : List ℕ) (heights : List (Option ℤ)) → i < g.nodes → first ≤ 16777216 → IsAlone g i → source_in g i ≡ None → HasLevels g i first old numbers heights → HasLevels g (i + 1) first old (set numbers i 4294967295) heights
+none_next g i first old numbers heights below small alone none s = record {
+  labels = s.labels;
+  size = length-set numbers i 4294967295 ∙ s.size;
+  labels_size = s.labels_size;
+  enough = s.enough;
+  few = omega (arith, s.few);
+  joined = λ a inside low. elim (cases_eq a i) [
+    | inl same ↦ let e = at a same in absurd (omega (arith, e, low, small))
+    | inr other ↦ subst (λ n. IsNodeLevel g a (get_or heights n None) (get_or s.labels n None)) (sym (still a other)) (s.joined a inside (subst (λ n. n < first) (still a other) low))
+  ];
+  alone = λ a low high. elim (cases_eq a i) [
+    | inl same ↦ inl (at a same, subst (HasNoWalk (HasJoin g) (source_in g)) (sym same) (alone_none g i alone none))
+    | inr other ↦ elim (s.alone a (omega (arith, low, other)) (subst (λ n. first ≤ n) (still a other) high)) [
+      | inl past ↦ inl (still a other ∙ past.0, past.1)
+      | inr has ↦ inr (subst (λ n. n < length heights) (sym (still a other)) has.0, subst (λ n. IsNodeLevel g a (get_or heights n None) (get_or s.labels n None)) (sym (still a other)) has.1)
+    ]
+  ];
+  rest = λ a high. still a (λ e. omega (arith, high, e)) ∙ s.rest a (omega (arith, high));
+} where
+  at : (a : ℕ) → a ≡ i → get_or (set numbers i 4294967295) a 0 ≡ 4294967295
+  at a same = ap (λ k. get_or (set numbers i 4294967295) k 0) same ∙ get_or-set_same numbers i 4294967295 0 (omega (arith, below, s.size))
+
+  still : (a : ℕ) → a ≢ i → get_or (set numbers i 4294967295) a 0 ≡ get_or numbers a 0
+  still a other = get_or-set_other numbers i a 4294967295 0 other
+
+pub alone_next : (g : Graph) (i first : ℕ) (h : ℤ) (old numbers : List ℕ) (heights : List (Option ℤ)) → i < g.nodes → IsAlone g i → source_in g i ≡ Some h → HasLevels g i first old numbers heights → HasLevels g (i + 1) first old (set numbers i (length heights)) (heights ++ Some h ∷ [])
+alone_next g i first h old numbers heights below alone source s = record {
+  labels = more;
+  size = length-set numbers i (length heights) ∙ s.size;
+  labels_size = length_push s.labels (Some i) ∙ ap (λ n. n + 1) s.labels_size ∙ sym count;
+  enough = omega (arith, s.enough, count);
+  few = omega (arith, s.few, count);
+  joined = λ a inside low. elim (cases_eq a i) [
+    | inl same ↦ let e = at a same in absurd (omega (arith, e, low, s.enough))
+    | inr other ↦
+        let before : get_or numbers a 0 < first = subst (λ n. n < first) (still a other) low in
+        kept a other (omega (arith, before, s.enough)) (s.joined a inside before)
+  ];
+  alone = λ a low high. elim (cases_eq a i) [
+    | inl same ↦
+        let e = at a same in
+        inr (
+          omega (arith, e, count),
+          subst (λ n. IsNodeLevel g a (get_or higher n None) (get_or more n None)) (sym e)
+              (subst (λ k. IsNodeLevel g k (get_or higher (length heights) None) (get_or more (length heights) None)) (sym same)
+              (subst (λ o. IsNodeLevel g i o (get_or more (length heights) None)) (sym (get_or_push heights (Some h) None (length heights) refl))
+              (subst (IsNodeLevel g i (Some h)) (sym (get_or_push s.labels (Some i) None (length heights) s.labels_size)) (alone_level g i h alone source)))),
+        )
+    | inr other ↦ elim (s.alone a (omega (arith, low, other)) (subst (λ n. first ≤ n) (still a other) high)) [
+      | inl past ↦ inl (still a other ∙ past.0, past.1)
+      | inr has ↦ let e = still a other in inr (omega (arith, e, has.0, count), kept a other has.0 has.1)
+    ]
+  ];
+  rest = λ a high. still a (λ e. omega (arith, high, e)) ∙ s.rest a (omega (arith, high));
+} where
+  new : List ℕ
+  new = set numbers i (length heights)
+
+  higher : List (Option ℤ)
+  higher = heights ++ Some h ∷ []
+
+  more : List (Option ℕ)
+  more = s.labels ++ Some i ∷ []
+
+  count : length higher ≡ length heights + 1
+  count = length_push heights (Some h)
+
+  at : (a : ℕ) → a ≡ i → get_or new a 0 ≡ length heights
+  at a same = ap (λ k. get_or new k 0) same ∙ get_or-set_same numbers i (length heights) 0 (omega (arith, below, s.size))
+
+  still : (a : ℕ) → a ≢ i → get_or new a 0 ≡ get_or numbers a 0
+  still a other = get_or-set_other numbers i a (length heights) 0 other
+
+  kept : (a : ℕ) → a ≢ i → get_or numbers a 0 < length heights → IsNodeLevel g a (get_or heights (get_or numbers a 0) None) (get_or s.labels (get_or numbers a 0) None) → IsNodeLevel g a (get_or higher (get_or new a 0) None) (get_or more (get_or new a 0) None)
+  kept a other low is =
+      subst (λ n. IsNodeLevel g a (get_or higher n None) (get_or more n None)) (sym (still a other))
+      (subst (λ o. IsNodeLevel g a o (get_or more (get_or numbers a 0) None)) (sym (get_or_append_left heights (Some h ∷ []) None (get_or numbers a 0) low))
+      (subst (IsNodeLevel g a (get_or heights (get_or numbers a 0) None)) (sym (get_or_append_left s.labels (Some i ∷ []) None (get_or numbers a 0) (omega (arith, low, s.labels_size)))) is))
+
 -- so the levels by number are those of the graph
-pub levels_numbered : (g : Graph) (nodes numbers : List ℕ) (heights : List (Option ℤ)) (labels : List (Option ℕ)) → AreNumbered g nodes numbers → IsFlooded (HasNumberJoin g nodes) (source_at g nodes) (length nodes) heights labels → AreLevelsOf g (levels_by heights numbers)
-levels_numbered g nodes numbers heights labels are flooded = (
+pub all_levels : (g : Graph) (first : ℕ) (old numbers : List ℕ) (heights : List (Option ℤ)) → g.nodes ≤ 16777216 → first ≤ 16777216 → HasLevels g g.nodes first old numbers heights → AreLevelsOf g (levels_by heights numbers)
+all_levels g first old numbers heights small few s = (
   map label_by numbers,
   record {
-    levels_size = length-map numbers (λ n. get_or heights n None) ∙ are.size;
-    labels_size = length-map numbers label_by ∙ are.size;
-    each = λ a below. match_of (get_or (levels_by heights numbers) a None) _ _
-        (λ none. (λ walk is. let w = walk_forth g nodes numbers are walk a below is in (MatchOption-at_none _ _ (sym (entry a below) ∙ none) (flooded.each (number_of numbers a) w.0)).0 w.1 w.2, label a below ∙ ap (option_map (node_at nodes)) (unlabelled (number_of numbers a) (sym (entry a below) ∙ none))))
-        (λ level some. elim (cases_lt (number_of numbers a) (length nodes)) [
-          | inr past ↦ none_some _ level (entry a below ∙ get_or_past heights (number_of numbers a) None (omega (arith, past, flooded.levels_size))) some
-          | inl has ↦
-              let inner = MatchOption-at_some _ _ level (sym (entry a below) ∙ some) (flooded.each (number_of numbers a) has) in
-              let at : node_at nodes (number_of numbers a) ≡ a = are.node a below has in
-              let back = walk_back g nodes inner.2.reached.0 (number_of numbers a) inner.2.reached.1 in (
-                node_at nodes inner.0,
-                label a below ∙ ap (option_map (node_at nodes)) inner.1,
-                record {
-                  reached = (
-                    back.0,
-                    subst (λ x. IsWalk (HasJoin g) (source_in g) x back.0) at back.1,
-                    subst (λ x. crest (source_in g) x back.0 ≡ level) at (back.2 ∙ inner.2.reached.2),
-                    subst (λ x. end_of x back.0 ≡ node_at nodes inner.0) at (back.3 ∙ ap (node_at nodes) inner.2.reached.3),
-                  );
-                  least = λ walk is. let w = walk_forth g nodes numbers are walk a below is in subst (λ z. level ≤ℤ z) w.3 (inner.2.least w.1 w.2);
-                  own = λ source. ap (node_at nodes) (inner.2.own (ap (source_in g) at ∙ source)) ∙ at;
-                },
-              )
-        ]);
+    levels_size = length-map numbers (λ n. get_or heights n None) ∙ s.size;
+    labels_size = length-map numbers label_by ∙ s.size;
+    each = λ a below.
+        let inside : a < length numbers = omega (arith, below, s.size) in
+        subst (λ o. IsNodeLevel g a o (get_or (map label_by numbers) a None)) (sym (get_or-map (λ n. get_or heights n None) numbers a 0 None inside))
+        (subst (IsNodeLevel g a (get_or heights (get_or numbers a 0) None)) (sym (get_or-map label_by numbers a 0 None inside)) (level a below));
   },
 ) where
   label_by : ℕ → Option ℕ
-  label_by n = option_map (node_at nodes) (get_or labels n None)
+  label_by n = get_or s.labels n None
 
-  entry : (a : ℕ) → a < g.nodes → get_or (levels_by heights numbers) a None ≡ get_or heights (number_of numbers a) None
-  entry a below = get_or-map (λ n. get_or heights n None) numbers a 0 None (omega (arith, below, are.size))
-
-  label : (a : ℕ) → a < g.nodes → get_or (map label_by numbers) a None ≡ label_by (number_of numbers a)
-  label a below = get_or-map label_by numbers a 0 None (omega (arith, below, are.size))
-
-  unlabelled : (n : ℕ) → get_or heights n None ≡ None → get_or labels n None ≡ None
-  unlabelled n none = elim (cases_lt n (length nodes)) [
-    | inl has ↦ (MatchOption-at_none _ _ none (flooded.each n has)).1
-    | inr past ↦ get_or_past labels n None (omega (arith, past, flooded.labels_size))
+  level : (a : ℕ) → a < g.nodes → IsNodeLevel g a (get_or heights (get_or numbers a 0) None) (label_by (get_or numbers a 0))
+  level a below = elim (cases_lt (get_or numbers a 0) first) [
+    | inl low ↦ s.joined a below low
+    | inr high ↦ elim (s.alone a below high) [
+      | inr has ↦ has.1
+      | inl past ↦
+          let out : length heights ≤ get_or numbers a 0 = omega (arith, past.0, s.few, small, few) in
+          subst (λ o. IsNodeLevel g a o (label_by (get_or numbers a 0))) (sym (get_or_past heights (get_or numbers a 0) None out))
+          (past.1, get_or_past s.labels (get_or numbers a 0) None (omega (arith, out, s.labels_size)))
+    ]
   ]

@@ -1,8 +1,8 @@
-// The labels of a spill graph that are joined or are sources, with numbers of their own.
-ghost use Rattle.std.specs.Prelude.{◌≡◌, ◌<◌, length, map, All, IfOk};
+// The labels of a spill graph that are joined, with numbers of their own.
+ghost use Rattle.std.specs.Prelude.{◌≡◌, ◌<◌, ℕ, List, length, map, All, IfOk};
 ghost use Rattle.std.specs.List.{flat_map};
 ghost use Rattle.fill.specs.Parts.{joins_by_part};
-ghost use Rattle.fill.specs.Numbers.{AreNumbered, AreMarked, MarksJoined, levels_by, way_to_number};
+ghost use Rattle.fill.specs.Numbers.{AreNumbered, AreMarked, AreNumberLevels, MarksJoined, levels_by, way_to_number};
 ghost use Rattle.fill.specs.Spills.{AreLevelsOf};
 
 use crate::parts::Part;
@@ -119,7 +119,7 @@ pub(crate) fn mark_parts(numbers: &mut [u32], parts: &[Part])
     }
 }
 
-/// Gives numbers to the nodes that are marked with 0 or are sources, and answers these nodes.
+/// Gives numbers to the nodes that are marked with 0, and answers these nodes.
 fn number_nodes(
     alloc: Global,
     graph: &SpillGraph,
@@ -130,7 +130,7 @@ fn number_nodes(
 {
     let mut nodes = Vec::new(alloc);
     for node in 0..graph.nodes() {
-        if numbers[node as usize] != 0 && graph.source(node).is_none() {
+        if numbers[node as usize] != 0 {
             numbers[node as usize] = NO_NUMBER;
             continue;
         }
@@ -148,7 +148,7 @@ fn number_levels(
     numbers: &[u32],
 ) -> Result<Vec<Option<Height>>, NoMemory>
     requires { AreNumbered graph.now nodes.now numbers.now }
-    ensures { IfOk result (λ heights. AreLevelsOf graph.now (levels_by heights.items numbers.now)) }
+    ensures { IfOk result (λ heights. AreNumberLevels graph.now nodes.now heights.items) }
 {
     let net = NumberedGraph {
         graph,
@@ -159,6 +159,30 @@ fn number_levels(
     Ok(level)
 }
 
+/// Adds the sources that have no number, each at its own height, and gives them numbers.
+fn add_alone(
+    graph: &SpillGraph,
+    numbers: &mut [u32],
+    mut heights: Vec<Option<Height>>,
+) -> Result<Vec<Option<Height>>, AllocError>
+    requires { (nodes : List ℕ) × AreNumbered graph.now nodes numbers.old × AreNumberLevels graph.now nodes heights.items }
+    ensures { IfOk result (λ v. AreLevelsOf graph.now (levels_by v.items numbers.new)) }
+{
+    let joined = heights.len();
+    for node in 0..graph.nodes() {
+        if (numbers[node as usize] as usize) < joined {
+            continue;
+        }
+        let Some(height) = graph.source(node) else {
+            numbers[node as usize] = NO_NUMBER;
+            continue;
+        };
+        numbers[node as usize] = heights.len() as u32;
+        heights.push(Some(height))?;
+    }
+    Ok(heights)
+}
+
 impl LabelLevels {
     /// The levels in a graph.
     pub(crate) fn of_graph(alloc: Global, graph: &SpillGraph) -> Result<LabelLevels, NoMemory>
@@ -166,7 +190,8 @@ impl LabelLevels {
     {
         let mut numbers = graph.marked(alloc)?;
         let nodes = number_nodes(alloc, graph, &mut numbers)?;
-        let heights = number_levels(alloc, graph, &nodes, &numbers)?;
+        let joined = number_levels(alloc, graph, &nodes, &numbers)?;
+        let heights = add_alone(graph, &mut numbers, joined)?;
         Ok(LabelLevels { numbers, heights })
     }
 }

@@ -16,5 +16,5 @@ pub returns : goal.returns
 returns c =
     let g = c.args.graph.now in
     let all : c.loop-node.node ≡ g.nodes = omega (arith, c.loop-node-test.false, c.loop-node.auto.node-end, c.nodes-node-end.ensures) in
-    all_numbered g c.args.numbers.now c.loop-node.nodes.items c.loop-node.numbers (omega (arith, c.nodes-node-end.ensures, c.nodes-node-end.type_inv)) c.requires
+    all_numbered g c.args.numbers.now c.loop-node.nodes.items c.loop-node.numbers c.requires
     (subst (λ (n : ℕ). NumbersFirst g n c.args.numbers.now c.loop-node.nodes.items c.loop-node.numbers) all c.loop-node.invariant)
