@@ -1,5 +1,5 @@
 -- Joins that are added cell by cell.
-use Rattle.std.proofs.Common.{◌≡◌, ◌≢◌, ◌==◌, ◌↔◌, ℕ, ◌+◌, ◌-◌, ◌*◌, ◌/◌, ◌%◌, ◌<◌, ◌≤◌, ◌⊎◌, inl, inr, ℤ, ◌≤ℤ◌, List, [], ◌∷◌, ◌++◌, length, get_or, set, Option, None, Some, ◌∙◌, sym, ap, subst, refl, arith}
+use Rattle.std.proofs.Common.{◌≡◌, ◌≢◌, ◌==◌, ◌↔◌, ℕ, ◌+◌, ◌-◌, ◌*◌, ◌/◌, ◌%◌, ◌<◌, ◌≤◌, ◌⊎◌, inl, inr, ℤ, ◌≤ℤ◌, false, true, List, [], ◌∷◌, ◌++◌, length, get_or, set, Option, None, Some, ◌∙◌, sym, ap, subst, refl, arith}
 use Rattle.std.specs.Int.{int_max}
 use Rattle.std.specs.Int.Signed.{≤ℤ_refl}
 use Rattle.drainage.proofs.Heights.{trans}
@@ -14,29 +14,41 @@ use Rattle.terrain.specs.declared.place.Place.{Place}
 use Rattle.terrain.proofs.Places.{same_place}
 use Rattle.tiles.specs.Cutting.{Cutting}
 use Rattle.fill.specs.TileFlood.{Flood}
-use Rattle.fill.specs.Gathering.{mark_among, Meets, IsMeetingAt, joins_of, Adds, AddsCovered, Covered}
+use Rattle.fill.specs.Gathering.{mark_among, are_settled, Meets, IsMeetingAt, joins_of, Adds, AddsCovered, Covered}
 use Rattle.fill.specs.declared.spills.Join.{Join}
 use Rattle.fill.specs.declared.marks.Mark.{Mark}
 use Rattle.floods.proofs.Steps.{none_some}
 use Rattle.floods.proofs.Heaps.{cons_head, cons_cases, one_held}
 
+abbrev join_between : Mark → Mark → Join
+join_between from to = record { from = from.node; to = to.node; height = int_max from.level to.level }
+
 -- the join of two marks
-joins_of_differ : (from to : Mark) → from.node ≢ to.node → joins_of from (Some to) ≡ record { from = from.node; to = to.node; height = int_max from.level to.level } ∷ []
-joins_of_differ from to differ = elim (cases_Bool (from.node == to.node)) [
+joins_of_apart : (sources : List (Option ℤ)) (from to : Mark) → from.node ≢ to.node → are_settled sources from.node to.node ≡ false → joins_of sources from (Some to) ≡ join_between from to ∷ []
+joins_of_apart sources from to differ apart = elim (cases_Bool (from.node == to.node)) [
   | inl same ↦ absurd (differ (eqb-true _ _ same))
-  | inr other ↦ cond-false _ _ _ other
+  | inr other ↦ cond-false _ _ _ other ∙ cond-false _ _ _ apart
+]
+
+joins_of_settled : (sources : List (Option ℤ)) (from to : Mark) → from.node ≢ to.node → are_settled sources from.node to.node ≡ true → joins_of sources from (Some to) ≡ []
+joins_of_settled sources from to differ settled = elim (cases_Bool (from.node == to.node)) [
+  | inl same ↦ absurd (differ (eqb-true _ _ same))
+  | inr other ↦ cond-false _ _ _ other ∙ cond-true _ _ _ settled
 ]
 
 pub no_join : (j : Join) → Contains [] j → ⊥
 no_join j h = omega (arith, h.1)
 
-pub joins_of_is : (from : Mark) (o : Option Mark) (j : Join) → Contains (joins_of from o) j → (to : Mark) × (o ≡ Some to) × (from.node ≢ to.node) × (record { from = from.node; to = to.node; height = int_max from.level to.level } ≡ j)
-joins_of_is from None j h = absurd (no_join j h)
-joins_of_is from (Some to) j h = elim (cases_eq from.node to.node) [
+pub joins_of_is : (sources : List (Option ℤ)) (from : Mark) (o : Option Mark) (j : Join) → Contains (joins_of sources from o) j → (to : Mark) × (o ≡ Some to) × (from.node ≢ to.node) × (are_settled sources from.node to.node ≡ false) × (join_between from to ≡ j)
+joins_of_is sources from None j h = absurd (no_join j h)
+joins_of_is sources from (Some to) j h = elim (cases_eq from.node to.node) [
   | inl same ↦ absurd (no_join j (subst (λ (z : List Join). Contains z j) (cond-true _ _ _ (eq-eqb _ _ same)) h))
-  | inr differ ↦ elim (cons_cases _ [] j (subst (λ (z : List Join). Contains z j) (joins_of_differ from to differ) h)) [
-    | inl same ↦ (to, refl, differ, sym same)
-    | inr none ↦ absurd (no_join j none)
+  | inr differ ↦ elim (cases_Bool (are_settled sources from.node to.node)) [
+    | inl settled ↦ absurd (no_join j (subst (λ (z : List Join). Contains z j) (joins_of_settled sources from to differ settled) h))
+    | inr apart ↦ elim (cons_cases _ [] j (subst (λ (z : List Join). Contains z j) (joins_of_apart sources from to differ apart) h)) [
+      | inl same ↦ (to, refl, differ, apart, sym same)
+      | inr none ↦ absurd (no_join j none)
+    ]
   ]
 ]
 
@@ -75,17 +87,25 @@ adds_lower old at met j inside is from to low = record {
   there = (at, omega (arith, inside, length-set old at j), get_or-set_same old at j j inside)
 
 -- the join of two marks that differ
-pub adds_differ : (old new : List Join) (from to : Mark) → from.node ≢ to.node → AddsCovered old (record { from = from.node; to = to.node; height = int_max from.level to.level } ∷ []) new → AddsCovered old (joins_of from (Some to)) new
-adds_differ old new from to differ s = subst (λ (z : List Join). AddsCovered old z new) (sym (joins_of_differ from to differ)) s
+pub adds_apart : (sources : List (Option ℤ)) (old new : List Join) (from to : Mark) → from.node ≢ to.node → are_settled sources from.node to.node ≡ false → AddsCovered old (join_between from to ∷ []) new → AddsCovered old (joins_of sources from (Some to)) new
+adds_apart sources old new from to differ apart s = subst (λ (z : List Join). AddsCovered old z new) (sym (joins_of_apart sources from to differ apart)) s
+
+-- two sources have none
+pub adds_settled : (sources : List (Option ℤ)) (now : List Join) (from to : Mark) → from.node ≢ to.node → are_settled sources from.node to.node ≡ true → AddsCovered now (joins_of sources from (Some to)) now
+adds_settled sources now from to differ settled = subst (λ (z : List Join). AddsCovered now z now) (sym (joins_of_settled sources from to differ settled)) (record {
+  kept = λ j h. covered_itself now j h;
+  only = λ j h. inl h;
+  every = λ j h. absurd (no_join j h);
+})
 
 -- the joins of a cell that have been added before a way
-pub record HasAdded (c : Cutting) (floods : List Flood) (p : Place) (way : ℕ) (old new : List Join) : Type 0 where
+pub record HasAdded (c : Cutting) (floods : List Flood) (sources : List (Option ℤ)) (p : Place) (way : ℕ) (old new : List Join) : Type 0 where
   pub kept : (j : Join) → Contains old j → Covered new j
-  pub only : (j : Join) → Contains new j → Contains old j ⊎ IsMeetingAt c floods (λ q. q ≡ p) j
-  pub every : (q : Place) (j : Join) → (q.row + 1 - p.row) * 3 + (q.col + 1 - p.col) < way → Meets c floods p q j → Covered new j
+  pub only : (j : Join) → Contains new j → Contains old j ⊎ IsMeetingAt c floods sources (λ q. q ≡ p) j
+  pub every : (q : Place) (j : Join) → (q.row + 1 - p.row) * 3 + (q.col + 1 - p.col) < way → Meets c floods sources p q j → Covered new j
 
-pub none_added : (c : Cutting) (floods : List Flood) (p : Place) (old : List Join) → HasAdded c floods p 0 old old
-none_added c floods p old = record {
+pub none_added : (c : Cutting) (floods : List Flood) (sources : List (Option ℤ)) (p : Place) (old : List Join) → HasAdded c floods sources p 0 old old
+none_added c floods sources p old = record {
   kept = λ j h. covered_itself old j h;
   only = λ j h. inl h;
   every = λ q j low m. absurd (omega (arith, low));
@@ -98,24 +118,25 @@ way_place p q way t e =
     (omega (arith, both.0, t.row_up), omega (arith, both.1, t.col_left))
 
 -- the mark on the way was none, or its join was added
-pub added_more : (c : Cutting) (floods : List Flood) (p near : Place) (way : ℕ) (from : Mark) (o : Option Mark) (old now new : List Join) → mark_among c floods p ≡ Some from → mark_among c floods near ≡ o → near.row + 1 ≡ p.row + way / 3 → near.col + 1 ≡ p.col + way % 3 → way < 9 → HasAdded c floods p way old now → AddsCovered now (joins_of from o) new → HasAdded c floods p (way + 1) old new
-added_more c floods p near way from o old now new here there row col few s is = record {
+pub added_more : (c : Cutting) (floods : List Flood) (sources : List (Option ℤ)) (p near : Place) (way : ℕ) (from : Mark) (o : Option Mark) (old now new : List Join) → mark_among c floods p ≡ Some from → mark_among c floods near ≡ o → near.row + 1 ≡ p.row + way / 3 → near.col + 1 ≡ p.col + way % 3 → way < 9 → HasAdded c floods sources p way old now → AddsCovered now (joins_of sources from o) new → HasAdded c floods sources p (way + 1) old new
+added_more c floods sources p near way from o old now new here there row col few s is = record {
   kept = λ j h. covered_still now new is.kept j (s.kept j h);
   only = λ j h. elim (is.only j h) [
     | inl was ↦ s.only j was
     | inr made ↦
-        let m = joins_of_is from o j made in
+        let m = joins_of_is sources from o j made in
         inr (
           p,
           near,
           refl,
-          subst (λ (z : Join). Meets c floods p near z) m.3 (record {
+          subst (λ (z : Join). Meets c floods sources p near z) m.4 (record {
             touches = touch;
             from_level = from.level;
             to_level = m.0.level;
             from_is = here;
             to_is = there ∙ m.1;
             different = m.2;
+            apart = m.3;
             greater = refl;
           }),
         )
@@ -128,9 +149,9 @@ added_more c floods p near way from o old now new here there row col few s is = 
         let to : Mark = record { level = m.to_level; node = j.to } in
         let mark_is : o ≡ Some to = sym there ∙ ap (mark_among c floods) (sym q_is) ∙ m.to_is in
         let from_same = same_Some from (record { level = m.from_level; node = j.from }) (sym here ∙ m.from_is) in
-        let made : Contains (joins_of from o) j =
-        subst (λ (f : Mark). Contains (joins_of f o) j) (sym from_same) (subst (λ (z : Option Mark). Contains (joins_of (record { level = m.from_level; node = j.from }) z) j) (sym mark_is)
-        (subst (λ (z : List Join). Contains z j) (sym (joins_of_differ (record { level = m.from_level; node = j.from }) to m.different))
+        let made : Contains (joins_of sources from o) j =
+        subst (λ (f : Mark). Contains (joins_of sources f o) j) (sym from_same) (subst (λ (z : Option Mark). Contains (joins_of sources (record { level = m.from_level; node = j.from }) z) j) (sym mark_is)
+        (subst (λ (z : List Join). Contains z j) (sym (joins_of_apart sources (record { level = m.from_level; node = j.from }) to m.different m.apart))
         (subst (λ (h : ℤ). Contains (record { from = j.from; to = j.to; height = h } ∷ []) j) (sym m.greater) (cons_head j [])))) in
         is.every j made
   ];
@@ -145,8 +166,8 @@ added_more c floods p near way from o old now new here there row col few s is = 
   touch = record { row_down = omega (arith, rows, row); row_up = omega (arith, row); col_right = omega (arith, cols, col); col_left = omega (arith, col) }
 
 -- there is no place on the way, or it is outside
-pub added_none : (c : Cutting) (floods : List Flood) (p : Place) (way : ℕ) (old now : List Join) → HasAdded c floods p way old now → (p.row + way / 3 ≡ 0) ⊎ (p.col + way % 3 ≡ 0) → HasAdded c floods p (way + 1) old now
-added_none c floods p way old now s out = record {
+pub added_none : (c : Cutting) (floods : List Flood) (sources : List (Option ℤ)) (p : Place) (way : ℕ) (old now : List Join) → HasAdded c floods sources p way old now → (p.row + way / 3 ≡ 0) ⊎ (p.col + way % 3 ≡ 0) → HasAdded c floods sources p (way + 1) old now
+added_none c floods sources p way old now s out = record {
   kept = s.kept;
   only = s.only;
   every = λ q j low m. elim (cases_eq ((q.row + 1 - p.row) * 3 + (q.col + 1 - p.col)) way) [
@@ -154,33 +175,33 @@ added_none c floods p way old now s out = record {
     | inl same ↦ absurd (nowhere q j m (way_place p q way m.touches same))
   ];
 } where
-  nowhere : (q : Place) (j : Join) → Meets c floods p q j → (q.row + 1 ≡ p.row + way / 3) × (q.col + 1 ≡ p.col + way % 3) → ⊥
+  nowhere : (q : Place) (j : Join) → Meets c floods sources p q j → (q.row + 1 ≡ p.row + way / 3) × (q.col + 1 ≡ p.col + way % 3) → ⊥
   nowhere q j m at = elim out [
     | inl top ↦ omega (arith, at.0, top)
     | inr left ↦ omega (arith, at.1, left)
   ]
 
-pub all_added : (c : Cutting) (floods : List Flood) (p : Place) (old new : List Join) → HasAdded c floods p 9 old new → Adds c floods (λ q. q ≡ p) old new
-all_added c floods p old new s = record {
+pub all_added : (c : Cutting) (floods : List Flood) (sources : List (Option ℤ)) (p : Place) (old new : List Join) → HasAdded c floods sources p 9 old new → Adds c floods sources (λ q. q ≡ p) old new
+all_added c floods sources p old new s = record {
   kept = s.kept;
   only = s.only;
   every = λ x q j same m.
-      let here = subst (λ (z : Place). Meets c floods z q j) same m in
+      let here = subst (λ (z : Place). Meets c floods sources z q j) same m in
       let t = here.touches in
       s.every q j (omega (arith, t.row_down, t.col_right)) here;
 }
 
 -- a cell with no mark has no joins
-pub no_mark_adds : (c : Cutting) (floods : List Flood) (p : Place) (old : List Join) → mark_among c floods p ≡ None → Adds c floods (λ q. q ≡ p) old old
-no_mark_adds c floods p old none = record {
+pub no_mark_adds : (c : Cutting) (floods : List Flood) (sources : List (Option ℤ)) (p : Place) (old : List Join) → mark_among c floods p ≡ None → Adds c floods sources (λ q. q ≡ p) old old
+no_mark_adds c floods sources p old none = record {
   kept = λ j h. covered_itself old j h;
   only = λ j h. inl h;
   every = λ x q j same m. none_some _ (record { level = m.from_level; node = j.from }) (ap (mark_among c floods) same ∙ none) m.from_is;
 }
 
 -- one after another
-pub adds_then : (c : Cutting) (floods : List Flood) (first later both : Place → Type 0) (old now new : List Join) → ((p : Place) → both p ↔ (first p ⊎ later p)) → Adds c floods first old now → Adds c floods later now new → Adds c floods both old new
-adds_then c floods first later both old now new split a b = record {
+pub adds_then : (c : Cutting) (floods : List Flood) (sources : List (Option ℤ)) (first later both : Place → Type 0) (old now new : List Join) → ((p : Place) → both p ↔ (first p ⊎ later p)) → Adds c floods sources first old now → Adds c floods sources later now new → Adds c floods sources both old new
+adds_then c floods sources first later both old now new split a b = record {
   kept = λ j h. covered_still now new b.kept j (a.kept j h);
   only = λ j h. elim (b.only j h) [
     | inr late ↦ inr (late.0, late.1, (split late.0).1 (inr late.2), late.3)
@@ -189,8 +210,8 @@ adds_then c floods first later both old now new split a b = record {
   every = λ p q j at m. elim ((split p).0 at) [ inl early ↦ covered_still now new b.kept j (a.every p q j early m) | inr late ↦ b.every p q j late m ];
 }
 
-pub adds_as : (c : Cutting) (floods : List Flood) (first both : Place → Type 0) (old new : List Join) → ((p : Place) → both p ↔ first p) → Adds c floods first old new → Adds c floods both old new
-adds_as c floods first both old new same a = record {
+pub adds_as : (c : Cutting) (floods : List Flood) (sources : List (Option ℤ)) (first both : Place → Type 0) (old new : List Join) → ((p : Place) → both p ↔ first p) → Adds c floods sources first old new → Adds c floods sources both old new
+adds_as c floods sources first both old new same a = record {
   kept = a.kept;
   only = λ j h. elim (a.only j h) [ inl was ↦ inl was | inr made ↦ inr (made.0, made.1, (same made.0).1 made.2, made.3) ];
   every = λ p q j at m. a.every p q j ((same p).0 at) m;

@@ -105,12 +105,12 @@ one_label_around f places cells p i are lawful inner at e q t =
     (there, ap (λ (z : List (Option Place)). entry_in b z q) are ∙ label_by_entry b places cells q size there ∙ ap (λ k. get_or places k None) same ∙ sym (label_by_entry b places cells p size here) ∙ ap (λ (z : List (Option Place)). entry_in b z p) (sym are))
 
 -- a cell with one label around it adds no joins
-pub one_label_adds : (c : Cutting) (floods : List Flood) (tile : ℕ) (f : Flood) (p : Place) (old : List Join) → IsCutting c → tile < tile_count c → slice_get floods tile ≡ Some f → f.bounds ≡ bounds_of c tile → IsInTile c tile p → HasOneLabelAround f p → Adds c floods (λ q. q ≡ p) old old
-one_label_adds c floods tile f p old h below e bounds i around = record {
+pub one_label_adds : (c : Cutting) (floods : List Flood) (sources : List (Option ℤ)) (tile : ℕ) (f : Flood) (p : Place) (old : List Join) → IsCutting c → tile < tile_count c → slice_get floods tile ≡ Some f → f.bounds ≡ bounds_of c tile → IsInTile c tile p → HasOneLabelAround f p → Adds c floods sources (λ q. q ≡ p) old old
+one_label_adds c floods sources tile f p old h below e bounds i around = record {
   kept = λ j held. covered_itself old j held;
   only = λ j held. inl held;
   every = λ x q j same m.
-      let here = subst (λ (z : Place). Meets c floods z q j) same m in
+      let here = subst (λ (z : Place). Meets c floods sources z q j) same m in
       let near = around q here.touches in
       let inside = in_tile c tile q h below (subst (λ (b : Bounds). IsInBounds b q) bounds near.0) in
       let from = mark_parts c.cols _ _ _ (mark_from_tile c floods tile f p e i.1 ∙ here.from_is) in
@@ -130,12 +130,12 @@ entry_mark c floods tile f q i h below e bounds inside at =
     ∙ ap (λ n. mark_with c.cols f n) index
 
 -- a cell with the same label gives no join
-pub same_label_adds : (cols : ℕ) (f : Flood) (i j : ℕ) (from : Mark) (now : List Join) → mark_with cols f i ≡ Some from → slice_index_or f.labels i None ≡ slice_index_or f.labels j None → AddsCovered now (joins_of from (mark_with cols f j)) now
-same_label_adds cols f i j from now is same = record {
+pub same_label_adds : (cols : ℕ) (f : Flood) (sources : List (Option ℤ)) (i j : ℕ) (from : Mark) (now : List Join) → mark_with cols f i ≡ Some from → slice_index_or f.labels i None ≡ slice_index_or f.labels j None → AddsCovered now (joins_of sources from (mark_with cols f j)) now
+same_label_adds cols f sources i j from now is same = record {
   kept = λ x h. covered_itself now x h;
   only = λ x h. inl h;
   every = λ x h.
-      let m = joins_of_is from (mark_with cols f j) x h in
+      let m = joins_of_is sources from (mark_with cols f j) x h in
       let a = mark_parts cols _ _ from is in
       let b = mark_parts cols _ _ m.0 m.1 in
       let label = same_Some _ _ (sym a.2 ∙ same ∙ b.2) in
@@ -143,9 +143,9 @@ same_label_adds cols f i j from now is same = record {
 }
 
 -- the joins with the eight cells around have been added
-pub inner_adds : (c : Cutting) (floods : List Flood) (tile : ℕ) (f : Flood) (p : Place) (i : ℕ) (from : Mark) (old new : List Join) → IsCutting c → tile < tile_count c → slice_get floods tile ≡ Some f → f.bounds ≡ bounds_of c tile → IsInner (bounds_of c tile) p → i ≡ (p.row - (bounds_of c tile).top) * (bounds_of c tile).cols + (p.col - (bounds_of c tile).left) → mark_with c.cols f i ≡ Some from → AddsAround c.cols f from i (bounds_of c tile).cols old new → Adds c floods (λ q. q ≡ p) old new
-inner_adds c floods tile f p i from old new h below e bounds inner at is s =
-    all_added c floods p old new
+pub inner_adds : (c : Cutting) (floods : List Flood) (sources : List (Option ℤ)) (tile : ℕ) (f : Flood) (p : Place) (i : ℕ) (from : Mark) (old new : List Join) → IsCutting c → tile < tile_count c → slice_get floods tile ≡ Some f → f.bounds ≡ bounds_of c tile → IsInner (bounds_of c tile) p → i ≡ (p.row - (bounds_of c tile).top) * (bounds_of c tile).cols + (p.col - (bounds_of c tile).left) → mark_with c.cols f i ≡ Some from → AddsAround c.cols f sources from i (bounds_of c tile).cols old new → Adds c floods sources (λ q. q ≡ p) old new
+inner_adds c floods sources tile f p i from old new h below e bounds inner at is s =
+    all_added c floods sources p old new
     (step 8 south east _ _ _ (omega (arith, inner)) (omega (arith, inner)) (omega arith) (omega (arith, inner)) (omega (arith, inner)) (omega (arith, at, inner, down))
     (step 7 south p.col _ _ _ (omega (arith, inner)) (omega (arith, inner)) (omega arith) (omega (arith, inner)) (omega (arith, inner)) (omega (arith, at, inner, down))
     (step 6 south west _ _ _ (omega (arith, inner)) (omega (arith, inner)) (omega arith) (omega (arith, inner)) (omega (arith, inner)) (omega (arith, at, inner, down))
@@ -155,8 +155,8 @@ inner_adds c floods tile f p i from old new h below e bounds inner at is s =
     (step 2 north east _ _ _ (omega (arith, inner)) (omega (arith, inner)) (omega arith) (omega (arith, inner)) (omega (arith, inner)) (omega (arith, at, inner, up))
     (step 1 north p.col _ _ _ (omega (arith, inner)) (omega (arith, inner)) (omega arith) (omega (arith, inner)) (omega (arith, inner)) (omega (arith, at, inner, up))
     (step 0 north west _ _ _ (omega (arith, inner)) (omega (arith, inner)) (omega arith) (omega (arith, inner)) (omega (arith, inner)) (omega (arith, at, inner, up))
-    (none_added c floods p old) s.north_west) s.north) s.north_east) s.west)
-    (same_label_adds c.cols f i i from s.after_fourth is refl)) s.east) s.south_west) s.south) s.south_east) where
+    (none_added c floods sources p old) s.north_west) s.north) s.north_east) s.west)
+    (same_label_adds c.cols f sources i i from s.after_fourth is refl)) s.east) s.south_west) s.south) s.south_east) where
       b : Bounds
       b = bounds_of c tile
 
@@ -178,25 +178,25 @@ inner_adds c floods tile f p i from old new h below e bounds inner at is s =
       down : (p.row + 1 - b.top) * b.cols ≡ (p.row - b.top) * b.cols + b.cols
       down = let more : p.row + 1 - b.top ≡ p.row - b.top + 1 = omega (arith, inner) in omega (arith, ap (λ n. n * b.cols) more)
 
-      step : (way row col j : ℕ) (now next : List Join) → row + 1 ≡ p.row + way / 3 → col + 1 ≡ p.col + way % 3 → way < 9 → (b.top ≤ row) × (row < b.top + b.rows) → (b.left ≤ col) × (col < b.left + b.cols) → j ≡ (row - b.top) * b.cols + (col - b.left) → HasAdded c floods p way old now → AddsCovered now (joins_of from (mark_with c.cols f j)) next → HasAdded c floods p (way + 1) old next
+      step : (way row col j : ℕ) (now next : List Join) → row + 1 ≡ p.row + way / 3 → col + 1 ≡ p.col + way % 3 → way < 9 → (b.top ≤ row) × (row < b.top + b.rows) → (b.left ≤ col) × (col < b.left + b.cols) → j ≡ (row - b.top) * b.cols + (col - b.left) → HasAdded c floods sources p way old now → AddsCovered now (joins_of sources from (mark_with c.cols f j)) next → HasAdded c floods sources p (way + 1) old next
       step way row col j now next same_row same_col few rows cols index s a =
           let near : Place = record { row = row; col = col } in
-          added_more c floods p near way from (mark_with c.cols f j) old now next
+          added_more c floods sources p near way from (mark_with c.cols f j) old now next
           (entry_mark c floods tile f p i h below e bounds (omega (arith, inner), omega (arith, inner), omega (arith, inner), omega (arith, inner)) at ∙ is)
           (entry_mark c floods tile f near j h below e bounds (rows.0, rows.1, cols.0, cols.1) index)
           same_row same_col few s a
 
 -- a cell that is not on the rim has its joins added, where it has a mark
-pub inner_cell_adds : (c : Cutting) (floods : List Flood) (tile : ℕ) (f : Flood) (p : Place) (i : ℕ) (old new : List Join) → IsCutting c → tile < tile_count c → slice_get floods tile ≡ Some f → f.bounds ≡ bounds_of c tile → IsInner f.bounds p → i ≡ (p.row - f.bounds.top) * f.bounds.cols + (p.col - f.bounds.left) → MatchOption (mark_with c.cols f i) (new ≡ old) (λ from. AddsAround c.cols f from i f.bounds.cols old new) → Adds c floods (λ q. q ≡ p) old new
-inner_cell_adds c floods tile f p i old new h below e bounds inner at s =
+pub inner_cell_adds : (c : Cutting) (floods : List Flood) (sources : List (Option ℤ)) (tile : ℕ) (f : Flood) (p : Place) (i : ℕ) (old new : List Join) → IsCutting c → tile < tile_count c → slice_get floods tile ≡ Some f → f.bounds ≡ bounds_of c tile → IsInner f.bounds p → i ≡ (p.row - f.bounds.top) * f.bounds.cols + (p.col - f.bounds.left) → MatchOption (mark_with c.cols f i) (new ≡ old) (λ from. AddsAround c.cols f sources from i f.bounds.cols old new) → Adds c floods sources (λ q. q ≡ p) old new
+inner_cell_adds c floods sources tile f p i old new h below e bounds inner at s =
     let at_tile : i ≡ (p.row - (bounds_of c tile).top) * (bounds_of c tile).cols + (p.col - (bounds_of c tile).left) = at ∙ ap (λ (b : Bounds). (p.row - b.top) * b.cols + (p.col - b.left)) bounds in
     let inner_tile : IsInner (bounds_of c tile) p = subst (λ (b : Bounds). IsInner b p) bounds inner in
     elim (seen (mark_with c.cols f i)) [
       | inl none ↦
           let same = MatchOption-at_none _ _ none s in
           let inside : IsInBounds (bounds_of c tile) p = (omega (arith, inner_tile), omega (arith, inner_tile), omega (arith, inner_tile), omega (arith, inner_tile)) in
-          subst (λ (z : List Join). Adds c floods (λ q. q ≡ p) old z) (sym same) (no_mark_adds c floods p old (entry_mark c floods tile f p i h below e bounds inside at_tile ∙ none))
+          subst (λ (z : List Join). Adds c floods sources (λ q. q ≡ p) old z) (sym same) (no_mark_adds c floods sources p old (entry_mark c floods tile f p i h below e bounds inside at_tile ∙ none))
       | inr found ↦
-          inner_adds c floods tile f p i found.0 old new h below e bounds inner_tile at_tile found.1
-          (subst (λ (b : Bounds). AddsAround c.cols f found.0 i b.cols old new) bounds (MatchOption-at_some _ _ found.0 found.1 s))
+          inner_adds c floods sources tile f p i found.0 old new h below e bounds inner_tile at_tile found.1
+          (subst (λ (b : Bounds). AddsAround c.cols f sources found.0 i b.cols old new) bounds (MatchOption-at_some _ _ found.0 found.1 s))
     ]

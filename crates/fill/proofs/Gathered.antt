@@ -1,7 +1,7 @@
 -- The gathered joins and sources are those of the spill graph.
-use Rattle.std.proofs.Common.{◌≡◌, ◌≢◌, ℕ, ◌+◌, ◌-◌, ◌*◌, ◌/◌, ◌%◌, ◌<◌, inl, inr, ◌⊎◌, ◌&&◌, true, false, Bool, ℤ, ◌≤ℤ◌, List, [], length, get_or, Option, None, Some, is_some, ◌∙◌, sym, ap, subst, refl, arith}
+use Rattle.std.proofs.Common.{◌≡◌, ◌≢◌, ℕ, ◌+◌, ◌-◌, ◌*◌, ◌/◌, ◌%◌, ◌<◌, inl, inr, ◌&&◌, true, false, Bool, ℤ, ◌≤ℤ◌, List, [], length, get_or, Option, None, Some, is_some, ◌∙◌, sym, ap, subst, refl, arith}
 use Rattle.std.specs.List.{Contains, flat_map}
-use Rattle.std.proofs.lemmas.Bool.{cases_lt, cases_order}
+use Rattle.std.proofs.lemmas.Bool.{cases_lt, cases_order, cases_Bool}
 use Rattle.std.proofs.lemmas.Nat.{div-mul-add, mod-mul-add, div-add-mod'}
 use Rattle.std.proofs.lemmas.Option.{MatchOption-at_some, MatchOption-at_none, same_Some, slice_get_within}
 use Rattle.std.proofs.lemmas.List.{get_or_default, get_or_past}
@@ -16,7 +16,7 @@ use Rattle.tiles.specs.declared.bounds.Bounds.{Bounds}
 use Rattle.tiles.proofs.TileOrder.{place_in, place_in_tile, index_in-place_in}
 use Rattle.fill.specs.TileFlood.{Flood, LabelsInside, IsTileFlood, label_in}
 use Rattle.fill.specs.Spills.{AreFloods, level_among, label_among, Carries, IsPass, Graph, HasJoin, IsJoined, AreSpillSources, AreSourcesOf, IsGraphOf, IsOpenGraphOf}
-use Rattle.fill.specs.Gathering.{Fit, mark_among, Meets, Adds, IsBefore, AreRising, AreLowest, AreOpen, AreGathered, Covered, are_settled, HasGapAmong, IsSpillSource, IsSourceEntry, AreSources, PutsSinks}
+use Rattle.fill.specs.Gathering.{Fit, mark_among, Meets, Adds, IsBefore, AreRising, AreLowest, AreGathered, are_settled, HasGapAmong, IsSpillSource, IsSourceEntry, AreSources, PutsSinks}
 use Rattle.fill.specs.Parts.{IsPart, AreParts, IsGraph, joins_by_part, graph_of_parts, tile_of_node}
 use Rattle.fill.specs.declared.parts.Part.{Part}
 use Rattle.fill.specs.declared.spills.Join.{Join}
@@ -35,11 +35,6 @@ use Rattle.floods.proofs.Waits.{in_some_list, in_lists}
 use Rattle.fill.proofs.GraphParts.{part_there, part_with}
 
 -- labels are settled or not, and so both ways
-settled_as : (out : List (Option ℤ)) (j k : Join) → j.from ≡ k.from → j.to ≡ k.to → are_settled out j ≡ are_settled out k
-settled_as out j k e f =
-    ap (λ n. is_some (get_or out n None) && is_some (get_or out j.to None)) e
-    ∙ ap (λ n. is_some (get_or out k.from None) && is_some (get_or out n None)) f
-
 and_turned : (a b : Bool) → (a && b) ≡ (b && a)
 and_turned true true = refl
 and_turned true false = refl
@@ -52,17 +47,13 @@ and_both true false e = absurd (cc)
 and_both false b e = absurd (cc)
 
 -- the lowest joins of a tile
-pub tile_gathered : (c : Cutting) (floods : List Flood) (tile : ℕ) (out : List (Option ℤ)) (met left lowest : List Join) → Adds c floods (IsInTile c tile) [] met → AreOpen out met left → AreLowest left lowest → AreGathered c floods (IsInTile c tile) out lowest
-tile_gathered c floods tile out met left lowest adds some low = record {
-  only = λ j made.
-      let was = some.only j (low.only j made) in
-      (elim (adds.only j was.0) [ inl none ↦ absurd (no_join j none) | inr meets ↦ meets ], was.1);
+pub tile_gathered : (c : Cutting) (floods : List Flood) (tile : ℕ) (out : List (Option ℤ)) (met lowest : List Join) → Adds c floods out (IsInTile c tile) [] met → AreLowest met lowest → AreGathered c floods (IsInTile c tile) out lowest
+tile_gathered c floods tile out met lowest adds low = record {
+  only = λ j made. elim (adds.only j (low.only j made)) [ inl none ↦ absurd (no_join j none) | inr meets ↦ meets ];
   every = λ p q j at m.
       let was = adds.every p q j at m in
-      elim (some.every was.0 was.1) [
-        | inl settled ↦ inl (sym (settled_as out was.0 j was.2 was.3) ∙ settled)
-        | inr there ↦ let made = low.every was.0 there in inr (made.0, made.1, made.2 ∙ was.2, made.3 ∙ was.3, trans _ _ _ made.4 was.4)
-      ];
+      let made = low.every was.0 was.1 in
+      (made.0, made.1, made.2 ∙ was.2, made.3 ∙ was.3, trans _ _ _ made.4 was.4);
 }
 
 -- the joins of all parts
@@ -71,24 +62,14 @@ parts_gathered c floods out parts h are = record {
   only = λ j there.
       let at = in_some_list (joins_by_part parts) j there in
       let x = part_with c floods out parts at.0 j are at.1 in
-      let made = x.1.joins.only j (subst (λ (z : List Join). Contains z j) x.2 at.1) in
-      let m = made.0 in
-      ((m.0, m.1, m.2.0, m.3), made.1);
+      let m = x.1.joins.only j (subst (λ (z : List Join). Contains z j) x.2 at.1) in
+      (m.0, m.1, m.2.0, m.3);
   every = λ p q j within m.
       let tile = tile_of_place c p in
       let x = part_there c floods out parts tile are (omega (arith, are.count, tile_of_place_below c p h within)) in
-      elim (x.1.joins.every p q j (within, refl) m) [
-        | inl settled ↦ inl settled
-        | inr made ↦ inr (made.0, in_lists (joins_by_part parts) tile made.0 (subst (λ (z : List Join). Contains z made.0) (sym x.2) made.1), made.2, made.3, made.4)
-      ];
+      let made = x.1.joins.every p q j (within, refl) m in
+      (made.0, in_lists (joins_by_part parts) tile made.0 (subst (λ (z : List Join). Contains z made.0) (sym x.2) made.1), made.2, made.3, made.4);
 }
-
--- a join that is not settled is covered
-open_cover : (c : Cutting) (floods : List Flood) (out : List (Option ℤ)) (joins : List Join) → AreGathered c floods (IsWithin c) out joins → (p q : Place) (j : Join) → IsWithin c p → Meets c floods p q j → are_settled out j ≡ false → Covered joins j
-open_cover c floods out joins s p q j within m apart = elim (s.every p q j within m) [
-  | inl settled ↦ absurd (cc (apart, settled))
-  | inr cover ↦ cover
-]
 
 -- joins that rise have each two labels once
 one_join : (joins : List Join) → AreRising joins → (j k : Join) → Contains joins j → Contains joins k → j.from ≡ k.from → j.to ≡ k.to → j ≡ k
@@ -131,14 +112,15 @@ node_below c floods p m h fit e =
 abbrev turned : Join → Join
 turned j = record { from = j.to; to = j.from; height = j.height }
 
-meets_turned : (c : Cutting) (floods : List Flood) (p q : Place) (j : Join) → Meets c floods p q j → Meets c floods q p (turned j)
-meets_turned c floods p q j m = record {
+meets_turned : (c : Cutting) (floods : List Flood) (out : List (Option ℤ)) (p q : Place) (j : Join) → Meets c floods out p q j → Meets c floods out q p (turned j)
+meets_turned c floods out p q j m = record {
   touches = record { row_down = m.touches.row_up; row_up = m.touches.row_down; col_right = m.touches.col_left; col_left = m.touches.col_right };
   from_level = m.to_level;
   to_level = m.from_level;
   from_is = m.to_is;
   to_is = m.from_is;
   different = λ e. m.different (sym e);
+  apart = and_turned (is_some (get_or out j.to None)) (is_some (get_or out j.from None)) ∙ m.apart;
   greater = max_comm m.to_level m.from_level ∙ m.greater;
 }
 
@@ -147,23 +129,20 @@ abbrev AreOnce : List Join → Type 0
 AreOnce joins = (j k : Join) → Contains joins j → Contains joins k → j.from ≡ k.from → j.to ≡ k.to → j ≡ k
 
 -- a gathered join is as low as each meeting of its labels
-low_as : (c : Cutting) (floods : List Flood) (out : List (Option ℤ)) (joins : List Join) → IsCutting c → Fit c floods → AreGathered c floods (IsWithin c) out joins → AreOnce joins → (j k : Join) (p q : Place) → Contains joins j → Meets c floods p q k → j.from ≡ k.from → j.to ≡ k.to → j.height ≤ℤ k.height
+low_as : (c : Cutting) (floods : List Flood) (out : List (Option ℤ)) (joins : List Join) → IsCutting c → Fit c floods → AreGathered c floods (IsWithin c) out joins → AreOnce joins → (j k : Join) (p q : Place) → Contains joins j → Meets c floods out p q k → j.from ≡ k.from → j.to ≡ k.to → j.height ≤ℤ k.height
 low_as c floods out joins h fit s once j k p q there m e f =
-    let apart : are_settled out k ≡ false = sym (settled_as out j k e f) ∙ (s.only j there).1 in
-    let cover = open_cover c floods out joins s p q k (marked_within c floods p _ h fit m.from_is) m apart in
+    let cover = s.every p q k (marked_within c floods p _ h fit m.from_is) m in
     let same = once j cover.0 there cover.1 (e ∙ sym cover.2) (f ∙ sym cover.3) in
     subst (λ (z : Join). z.height ≤ℤ k.height) (sym same) cover.4
 
 -- a gathered join stands there both ways
 join_back : (c : Cutting) (floods : List Flood) (out : List (Option ℤ)) (joins : List Join) → IsCutting c → Fit c floods → AreGathered c floods (IsWithin c) out joins → AreOnce joins → (j : Join) → Contains joins j → Contains joins (turned j)
 join_back c floods out joins h fit s once j there =
-    let met = s.only j there in
-    let meet = met.0 in
-    let back = meets_turned c floods meet.0 meet.1 j meet.3 in
-    let apart : are_settled out (turned j) ≡ false = and_turned (is_some (get_or out j.to None)) (is_some (get_or out j.from None)) ∙ met.1 in
-    let cover = open_cover c floods out joins s meet.1 meet.0 (turned j) (marked_within c floods meet.1 _ h fit back.from_is) back apart in
-    let other = (s.only cover.0 cover.1).0 in
-    let again = meets_turned c floods other.0 other.1 cover.0 other.3 in
+    let meet = s.only j there in
+    let back = meets_turned c floods out meet.0 meet.1 j meet.3 in
+    let cover = s.every meet.1 meet.0 (turned j) (marked_within c floods meet.1 _ h fit back.from_is) back in
+    let other = s.only cover.0 cover.1 in
+    let again = meets_turned c floods out other.0 other.1 cover.0 other.3 in
     let low = low_as c floods out joins h fit s once j (turned cover.0) other.1 other.0 there again (sym cover.3) (sym cover.2) in
     let height : cover.0.height ≡ j.height = between _ _ cover.4 low in
     subst (Contains joins) (same_join cover.0 (turned j) cover.2 cover.3 height) cover.1 where
@@ -204,19 +183,20 @@ mark_is : (t : Terrain) (c : Cutting) (floods : List Flood) (p : Place) (l : Has
 mark_is t c floods p l node e = mark_some c.cols (level_among c floods p) (label_among c floods p) l.level l.label node l.level_is l.label_is e
 
 -- a pass is a meeting, and back
-pass_meets : (t : Terrain) (c : Cutting) (floods : List Flood) (a b : ℕ) (h : ℤ) → a ≢ b → (x : IsPass t c floods a b h) → Meets c floods x.from x.to (record { from = a; to = b; height = h })
-pass_meets t c floods a b h differ x = record {
+pass_meets : (t : Terrain) (c : Cutting) (floods : List Flood) (out : List (Option ℤ)) (a b : ℕ) (h : ℤ) → a ≢ b → are_settled out a b ≡ false → (x : IsPass t c floods a b h) → Meets c floods out x.from x.to (record { from = a; to = b; height = h })
+pass_meets t c floods out a b h differ apart x = record {
   touches = x.neighbours.touches;
   from_level = x.from_level;
   to_level = x.to_level;
   from_is = mark_some c.cols _ _ x.from_level x.from_label.0 a x.from_is x.from_label.1 (sym x.from_label.2);
   to_is = mark_some c.cols _ _ x.to_level x.to_label.0 b x.to_is x.to_label.1 (sym x.to_label.2);
   different = differ;
+  apart = apart;
   greater = x.greater;
 }
 
-meets_pass : (t : Terrain) (c : Cutting) (floods : List Flood) (p q : Place) (j : Join) → IsCutting c → AreFloods t c floods → Meets c floods p q j → IsPass t c floods j.from j.to j.height
-meets_pass t c floods p q j h are m =
+meets_pass : (t : Terrain) (c : Cutting) (floods : List Flood) (out : List (Option ℤ)) (p q : Place) (j : Join) → IsCutting c → AreFloods t c floods → Meets c floods out p q j → IsPass t c floods j.from j.to j.height
+meets_pass t c floods out p q j h are m =
     let fit = fit_of t c floods h are in
     let x = mark_parts c.cols (level_among c floods p) (label_among c floods p) _ m.from_is in
     let y = mark_parts c.cols (level_among c floods q) (label_among c floods q) _ m.to_is in
@@ -340,7 +320,7 @@ sources_of t c floods sinks old sources h are named s puts = record {
 -- a join is of the part of its first label's tile
 own_join : (t : Terrain) (c : Cutting) (floods : List Flood) (out : List (Option ℤ)) (tile : ℕ) (x : Part) (j : Join) → IsCutting c → AreFloods t c floods → IsPart c floods out tile x → Contains x.joins.items j → tile_of_node c j.from ≡ tile
 own_join t c floods out tile x j h are part there =
-    let m = (part.joins.only j there).0 in
+    let m = part.joins.only j there in
     let mark = mark_parts c.cols (level_among c floods m.0) (label_among c floods m.0) _ m.3.from_is in
     let l = has_tile_level t c floods h are m.0 (level_has_data t c floods h are m.0 m.3.from_level m.2.0 mark.1) in
     let label : l.label ≡ mark.0 = same_Some l.label mark.0 (sym l.label_is ∙ mark.2) in
@@ -371,7 +351,7 @@ is_graph t c floods out parts sources h are s size =
       count = s.count;
       sources = size;
       ends = all_by_contains (λ (j : Join). (j.from < c.cols * c.rows) × (j.to < c.cols * c.rows)) joins (λ j there.
-          let meet = (gathered.only j there).0 in
+          let meet = gathered.only j there in
           (node_below c floods meet.0 _ h fit meet.3.from_is, node_below c floods meet.1 _ h fit meet.3.to_is));
       back = join_back c floods out joins h fit gathered (parts_once t c floods out parts h are s);
       rising = λ tile below. let x = part_there c floods out parts tile s below in subst AreRising (sym x.2) x.1.rising;
@@ -379,19 +359,16 @@ is_graph t c floods out parts sources h are s size =
     }
 
 -- two labels that meet are joined in it, where they are not settled
-is_joined : (t : Terrain) (c : Cutting) (floods : List Flood) (out : List (Option ℤ)) (parts : List Part) (sources : List (Option ℤ)) → IsCutting c → AreFloods t c floods → AreParts c floods out parts → length sources ≡ c.cols * c.rows → (a b : ℕ) (z : ℤ) → a ≢ b → IsPass t c floods a b z → (are_settled out (record { from = a; to = b; height = z }) ≡ true) ⊎ ((least : ℤ) × HasJoin (graph_of_parts c parts sources) a b least)
-is_joined t c floods out parts sources h are s size a b z differ pass =
+is_joined : (t : Terrain) (c : Cutting) (floods : List Flood) (out : List (Option ℤ)) (parts : List Part) (sources : List (Option ℤ)) → IsCutting c → AreFloods t c floods → AreParts c floods out parts → length sources ≡ c.cols * c.rows → (a b : ℕ) (z : ℤ) → a ≢ b → are_settled out a b ≡ false → IsPass t c floods a b z → (least : ℤ) × HasJoin (graph_of_parts c parts sources) a b least
+is_joined t c floods out parts sources h are s size a b z differ apart pass =
     let fit = fit_of t c floods h are in
     let graph = is_graph t c floods out parts sources h are s size in
     let joins = flat_map (λ joins. joins) (joins_by_part parts) in
-    let m = pass_meets t c floods a b z differ pass in
-    elim ((parts_gathered c floods out parts h s).every pass.from pass.to (record { from = a; to = b; height = z }) (marked_within c floods pass.from _ h fit m.from_is) m) [
-      | inl settled ↦ inl settled
-      | inr cover ↦
-          let there : Contains joins (record { from = a; to = b; height = cover.0.height }) = subst (Contains joins) (ap (λ n. record { from = n; to = cover.0.to; height = cover.0.height }) cover.2 ∙ ap (λ n. record { from = a; to = n; height = cover.0.height }) cover.3) cover.1 in
-          let ends = All-contains (λ (j : Join). (j.from < c.cols * c.rows) × (j.to < c.cols * c.rows)) joins (record { from = a; to = b; height = cover.0.height }) graph.ends there in
-          inr (cover.0.height, record { from_node = ends.0; to_node = ends.1; there = there; back = graph.back _ there })
-    ]
+    let m = pass_meets t c floods out a b z differ apart pass in
+    let cover = (parts_gathered c floods out parts h s).every pass.from pass.to (record { from = a; to = b; height = z }) (marked_within c floods pass.from _ h fit m.from_is) m in
+    let there : Contains joins (record { from = a; to = b; height = cover.0.height }) = subst (Contains joins) (ap (λ n. record { from = n; to = cover.0.to; height = cover.0.height }) cover.2 ∙ ap (λ n. record { from = a; to = n; height = cover.0.height }) cover.3) cover.1 in
+    let ends = All-contains (λ (j : Join). (j.from < c.cols * c.rows) × (j.to < c.cols * c.rows)) joins (record { from = a; to = b; height = cover.0.height }) graph.ends there in
+    (cover.0.height, record { from_node = ends.0; to_node = ends.1; there = there; back = graph.back _ there })
 
 -- and no others
 is_joined_only : (t : Terrain) (c : Cutting) (floods : List Flood) (out : List (Option ℤ)) (parts : List Part) (sources : List (Option ℤ)) → IsCutting c → AreFloods t c floods → AreParts c floods out parts → (a b : ℕ) (z : ℤ) → HasJoin (graph_of_parts c parts sources) a b z → IsJoined t c floods a b z
@@ -399,26 +376,23 @@ is_joined_only t c floods out parts sources h are s a b z join =
     let fit = fit_of t c floods h are in
     let joins = flat_map (λ joins. joins) (joins_by_part parts) in
     let gathered = parts_gathered c floods out parts h s in
-    let meet = (gathered.only (record { from = a; to = b; height = z }) join.there).0 in
+    let meet = gathered.only (record { from = a; to = b; height = z }) join.there in
     record {
       different = meet.3.different;
-      pass = meets_pass t c floods meet.0 meet.1 (record { from = a; to = b; height = z }) h are meet.3;
-      least = λ other pass. low_as c floods out joins h fit gathered (parts_once t c floods out parts h are s) (record { from = a; to = b; height = z }) (record { from = a; to = b; height = other }) pass.from pass.to join.there (pass_meets t c floods a b other meet.3.different pass) refl refl;
+      pass = meets_pass t c floods out meet.0 meet.1 (record { from = a; to = b; height = z }) h are meet.3;
+      least = λ other pass. low_as c floods out joins h fit gathered (parts_once t c floods out parts h are s) (record { from = a; to = b; height = z }) (record { from = a; to = b; height = other }) pass.from pass.to join.there (pass_meets t c floods out a b other meet.3.different meet.3.apart pass) refl refl;
     }
 
-none_settled : (j : Join) → are_settled [] j ≡ false
-none_settled j =
+none_settled : (a b : ℕ) → are_settled [] a b ≡ false
+none_settled a b =
     let none : List (Option ℤ) = [] in
-    ap (λ (o : Option ℤ). is_some o && is_some (get_or none j.to None)) (get_or_past none j.from None (omega arith))
+    ap (λ (o : Option ℤ). is_some o && is_some (get_or none b None)) (get_or_past none a None (omega arith))
 
 -- where none are left out, the graph is that of the floods
 pub is_graph_of : (t : Terrain) (c : Cutting) (floods : List Flood) (parts : List Part) (sources : List (Option ℤ)) → IsCutting c → AreFloods t c floods → AreParts c floods [] parts → AreSourcesOf t c floods sources → IsGraphOf t c floods (graph_of_parts c parts sources)
 is_graph_of t c floods parts sources h are s srcs = record {
   count = refl;
-  joined = λ a b z differ pass. elim (is_joined t c floods [] parts sources h are s srcs.size a b z differ pass) [
-    | inl settled ↦ absurd (cc (settled, none_settled (record { from = a; to = b; height = z })))
-    | inr join ↦ join
-  ];
+  joined = λ a b z differ pass. is_joined t c floods [] parts sources h are s srcs.size a b z differ (none_settled a b) pass;
   joined_only = is_joined_only t c floods [] parts sources h are s;
   sources = srcs.right (graph_of_parts c parts sources) refl;
 }
@@ -427,9 +401,9 @@ is_graph_of t c floods parts sources h are s srcs = record {
 pub is_open_graph : (t : Terrain) (c : Cutting) (floods : List Flood) (parts : List Part) (sources : List (Option ℤ)) → IsCutting c → AreFloods t c floods → AreParts c floods sources parts → AreSourcesOf t c floods sources → IsOpenGraphOf t c floods (graph_of_parts c parts sources)
 is_open_graph t c floods parts sources h are s srcs = record {
   count = refl;
-  joined = λ a b z differ pass. elim (is_joined t c floods sources parts sources h are s srcs.size a b z differ pass) [
+  joined = λ a b z differ pass. elim (cases_Bool (are_settled sources a b)) [
     | inl settled ↦ inl (and_both (is_some (get_or sources a None)) (is_some (get_or sources b None)) settled)
-    | inr join ↦ inr join
+    | inr apart ↦ inr (is_joined t c floods sources parts sources h are s srcs.size a b z differ apart pass)
   ];
   joined_only = is_joined_only t c floods sources parts sources h are s;
   sources = srcs.right (graph_of_parts c parts sources) refl;

@@ -8,6 +8,7 @@ mod Lowest
 mod SourceCells
 pub mod Gathered
 mod GraphParts
+mod Numbered
 -- raising, and the tiles together
 mod Rims
 pub mod Raised

@@ -1,5 +1,5 @@
 -- The lowest joins of each two labels.
-use Rattle.std.proofs.Common.{◌≡◌, ℕ, ◌+◌, ◌-◌, ◌<◌, ◌≤◌, ◌⊎◌, inl, inr, ◌≤ℤ◌, ℤ, Option, true, false, List, [], ◌∷◌, ◌++◌, length, get_or, ◌∙◌, sym, ap, subst, refl, arith}
+use Rattle.std.proofs.Common.{◌≡◌, ℕ, ◌+◌, ◌-◌, ◌<◌, ◌≤◌, ◌⊎◌, inl, inr, ◌≤ℤ◌, false, List, [], ◌∷◌, ◌++◌, length, get_or, ◌∙◌, sym, ap, subst, refl, arith}
 use Rattle.std.specs.Ordering.{nat_cmp, int_cmp, ordering_then, is_lt}
 use Rattle.std.specs.declared.cmp.Ordering.{Ordering}
 use Rattle.std.specs.List.{Contains}
@@ -12,7 +12,7 @@ use Rattle.std.proofs.lemmas.List.Sorted.{Contains-permutation, IsPermutation-sy
 use Rattle.std.proofs.lemmas.Cmp.{nat_cmp_total, int_cmp_total, on_total, then_total}
 use Rattle.std.specs.Cmp.{IsTotalOrder}
 use Rattle.drainage.proofs.Heights.{trans}
-use Rattle.fill.specs.Gathering.{Covered, IsBefore, AreLowest, AreOpen, are_settled, IsRepeat}
+use Rattle.fill.specs.Gathering.{Covered, IsBefore, AreLowest, IsRepeat}
 use Rattle.fill.specs.declared.spills.Join.{Join}
 
 -- The order of joins: by their labels, and then by height.
@@ -123,36 +123,4 @@ all_kept given joins lowest perm s = record {
   only = λ j h. let at = s.only j h in Contains-permutation joins given j (IsPermutation-sym given joins perm) (at.0, at.1, at.2);
   every = λ j h. let there = Contains-permutation given joins j perm h in subst (Covered lowest) there.2 (s.every there.0 j there.1);
   rising = s.rising;
-}
-
--- of the first joins those have been taken that are not of two sources
-pub record HasOpen (sources : List (Option ℤ)) (joins : List Join) (i : ℕ) (left : List Join) : Type 0 where
-  pub only : (j : Join) → Contains left j → Contains joins j × (are_settled sources j ≡ false)
-  pub every : (k : ℕ) (d : Join) → k < i → (are_settled sources (get_or joins k d) ≡ true) ⊎ Contains left (get_or joins k d)
-
-pub settled_more : (sources : List (Option ℤ)) (joins : List Join) (i : ℕ) (x : Join) (left : List Join) → i < length joins → x ≡ get_or joins i x → are_settled sources x ≡ true → HasOpen sources joins i left → HasOpen sources joins (i + 1) left
-settled_more sources joins i x left below is settled s = record {
-  only = s.only;
-  every = λ k d low. elim (cases_eq k i) [
-    | inr other ↦ s.every k d (omega (arith, low, other))
-    | inl same ↦ inl (ap (are_settled sources) (ap (λ n. get_or joins n d) same ∙ get_or_default joins i d x below ∙ sym is) ∙ settled)
-  ];
-}
-
-pub open_more : (sources : List (Option ℤ)) (joins : List Join) (i : ℕ) (x : Join) (left : List Join) → i < length joins → x ≡ get_or joins i x → are_settled sources x ≡ false → HasOpen sources joins i left → HasOpen sources joins (i + 1) (left ++ x ∷ [])
-open_more sources joins i x left below is apart s = record {
-  only = λ j h. elim (Contains-push_cases left x j h) [
-    | inl was ↦ s.only j was
-    | inr same ↦ subst (λ (z : Join). Contains joins z × (are_settled sources z ≡ false)) same ((i, below, sym is), apart)
-  ];
-  every = λ k d low. elim (cases_eq k i) [
-    | inr other ↦ elim (s.every k d (omega (arith, low, other))) [ inl settled ↦ inl settled | inr was ↦ inr (Contains-append_left left (x ∷ []) _ was) ]
-    | inl same ↦ inr (subst (Contains (left ++ x ∷ [])) (is ∙ get_or_default joins i x d below ∙ sym (ap (λ n. get_or joins n d) same)) (Contains-push left x))
-  ];
-}
-
-pub all_open : (sources : List (Option ℤ)) (joins left : List Join) (i : ℕ) → length joins ≤ i → HasOpen sources joins i left → AreOpen sources joins left
-all_open sources joins left i all s = record {
-  only = s.only;
-  every = λ j h. subst (λ (z : Join). (are_settled sources z ≡ true) ⊎ Contains left z) h.2 (s.every h.0 j (omega (arith, h.1, all)));
 }

@@ -1,5 +1,5 @@
 -- How the joins of a spill graph are gathered from the floods of the tiles.
-use Rattle.std.specs.Prelude.{◌≡◌, ◌≢◌, ℕ, ◌+◌, ◌-◌, ◌*◌, ◌/◌, ◌%◌, ◌<◌, ◌⊎◌, ◌==◌, ◌&&◌, true, false, if◌then◌else◌, is_some, Bool, ℤ, ◌≤ℤ◌, List, [], ◌∷◌, length, Option, None, Some, IsSome, MatchOption, slice_get, slice_index_or}
+use Rattle.std.specs.Prelude.{◌≡◌, ◌≢◌, ℕ, ◌+◌, ◌-◌, ◌*◌, ◌/◌, ◌%◌, ◌<◌, ◌⊎◌, ◌==◌, ◌&&◌, false, if◌then◌else◌, is_some, Bool, ℤ, ◌≤ℤ◌, List, [], ◌∷◌, length, Option, None, Some, IsSome, MatchOption, slice_get, slice_index_or}
 use Rattle.std.specs.Int.{int_max}
 use Rattle.std.specs.List.{Contains}
 use Rattle.terrain.specs.Neighbours.{index_of, Touches, HasGapWhere}
@@ -33,25 +33,32 @@ mark_among c floods p = mark_of c.cols (level_among c floods p) (label_among c f
 abbrev pub mark_with : ℕ → Flood → ℕ → Option Mark
 mark_with cols f index = mark_of cols (slice_index_or f.levels index None) (slice_index_or f.labels index None)
 
--- Cells that touch carry the two labels of the join, and its height is the greater of their levels.
-pub record Meets (c : Cutting) (floods : List Flood) (p q : Place) (j : Join) : Type 0 where
+-- Both labels are among these sources. The join of two sources lowers the level of neither.
+abbrev pub are_settled : List (Option ℤ) → ℕ → ℕ → Bool
+are_settled sources a b = is_some (slice_index_or sources a None) && is_some (slice_index_or sources b None)
+
+-- Cells that touch carry the two labels of the join, and its height is the greater of their levels. Not both labels
+-- are among these sources.
+pub record Meets (c : Cutting) (floods : List Flood) (sources : List (Option ℤ)) (p q : Place) (j : Join) : Type 0 where
   pub touches : Touches p q
   pub from_level : ℤ
   pub to_level : ℤ
   pub from_is : mark_among c floods p ≡ Some (record { level = from_level; node = j.from })
   pub to_is : mark_among c floods q ≡ Some (record { level = to_level; node = j.to })
   pub different : j.from ≢ j.to
+  pub apart : are_settled sources j.from j.to ≡ false
   pub greater : int_max from_level to_level ≡ j.height
 
 -- One of these places gives the join with a place that touches it.
-abbrev pub IsMeetingAt : Cutting → List Flood → (Place → Type 0) → Join → Type 0
-IsMeetingAt c floods places j = (p q : Place) × places p × Meets c floods p q j
+abbrev pub IsMeetingAt : Cutting → List Flood → List (Option ℤ) → (Place → Type 0) → Join → Type 0
+IsMeetingAt c floods sources places j = (p q : Place) × places p × Meets c floods sources p q j
 
--- The joins that two marks give: one, where their labels differ.
-abbrev pub joins_of : Mark → Option Mark → List Join
-joins_of from None = []
-joins_of from (Some to) =
-    if from.node == to.node then [] else (record { from = from.node; to = to.node; height = int_max from.level to.level }) ∷ []
+-- The joins that two marks give: one, where their labels differ and are not both among these sources.
+abbrev pub joins_of : List (Option ℤ) → Mark → Option Mark → List Join
+joins_of sources from None = []
+joins_of sources from (Some to) =
+    if from.node == to.node then [] else
+    (if are_settled sources from.node to.node then [] else (record { from = from.node; to = to.node; height = int_max from.level to.level }) ∷ [])
 
 -- A join of the same labels that is not higher.
 abbrev pub Covered : List Join → Join → Type 0
@@ -64,11 +71,11 @@ pub record AddsCovered (old added new : List Join) : Type 0 where
   pub every : (j : Join) → Contains added j → Covered new j
 
 -- The join of a cell with the one at an index has been added, where there is one.
-abbrev pub AddsNear : ℕ → Flood → Mark → ℕ → List Join → List Join → Type 0
-AddsNear cols f from near old new = AddsCovered old (joins_of from (mark_with cols f near)) new
+abbrev pub AddsNear : ℕ → Flood → List (Option ℤ) → Mark → ℕ → List Join → List Join → Type 0
+AddsNear cols f sources from near old new = AddsCovered old (joins_of sources from (mark_with cols f near)) new
 
 -- The joins of a cell with the eight around it in rows of this width have been added.
-pub record AddsAround (cols : ℕ) (f : Flood) (from : Mark) (i width : ℕ) (old new : List Join) : Type 0 where
+pub record AddsAround (cols : ℕ) (f : Flood) (sources : List (Option ℤ)) (from : Mark) (i width : ℕ) (old new : List Join) : Type 0 where
   pub after_first : List Join
   pub after_second : List Join
   pub after_third : List Join
@@ -76,21 +83,21 @@ pub record AddsAround (cols : ℕ) (f : Flood) (from : Mark) (i width : ℕ) (ol
   pub after_fifth : List Join
   pub after_sixth : List Join
   pub after_seventh : List Join
-  pub north_west : AddsNear cols f from (i - width - 1) old after_first
-  pub north : AddsNear cols f from (i - width) after_first after_second
-  pub north_east : AddsNear cols f from (i - width + 1) after_second after_third
-  pub west : AddsNear cols f from (i - 1) after_third after_fourth
-  pub east : AddsNear cols f from (i + 1) after_fourth after_fifth
-  pub south_west : AddsNear cols f from (i + width - 1) after_fifth after_sixth
-  pub south : AddsNear cols f from (i + width) after_sixth after_seventh
-  pub south_east : AddsNear cols f from (i + width + 1) after_seventh new
+  pub north_west : AddsNear cols f sources from (i - width - 1) old after_first
+  pub north : AddsNear cols f sources from (i - width) after_first after_second
+  pub north_east : AddsNear cols f sources from (i - width + 1) after_second after_third
+  pub west : AddsNear cols f sources from (i - 1) after_third after_fourth
+  pub east : AddsNear cols f sources from (i + 1) after_fourth after_fifth
+  pub south_west : AddsNear cols f sources from (i + width - 1) after_fifth after_sixth
+  pub south : AddsNear cols f sources from (i + width) after_sixth after_seventh
+  pub south_east : AddsNear cols f sources from (i + width + 1) after_seventh new
 
 -- The joins of these places have been added, but for those that others cover, and no others. Joins may have
 -- been lowered to added ones.
-pub record Adds (c : Cutting) (floods : List Flood) (places : Place → Type 0) (old new : List Join) : Type 0 where
+pub record Adds (c : Cutting) (floods : List Flood) (sources : List (Option ℤ)) (places : Place → Type 0) (old new : List Join) : Type 0 where
   pub kept : (j : Join) → Contains old j → Covered new j
-  pub only : (j : Join) → Contains new j → Contains old j ⊎ IsMeetingAt c floods places j
-  pub every : (p q : Place) (j : Join) → places p → Meets c floods p q j → Covered new j
+  pub only : (j : Join) → Contains new j → Contains old j ⊎ IsMeetingAt c floods sources places j
+  pub every : (p q : Place) (j : Join) → places p → Meets c floods sources p q j → Covered new j
 
 -- The first join has labels before those of the second.
 abbrev pub IsBefore : Join → Join → Type 0
@@ -106,19 +113,10 @@ pub record AreLowest (joins lowest : List Join) : Type 0 where
   pub every : (j : Join) → Contains joins j → Covered lowest j
   pub rising : AreRising lowest
 
--- Both labels are among these sources. The join of two sources lowers the level of neither.
-abbrev pub are_settled : List (Option ℤ) → Join → Bool
-are_settled sources j = is_some (slice_index_or sources j.from None) && is_some (slice_index_or sources j.to None)
-
--- The joins but those of two of these sources.
-pub record AreOpen (sources : List (Option ℤ)) (joins left : List Join) : Type 0 where
-  pub only : (j : Join) → Contains left j → Contains joins j × (are_settled sources j ≡ false)
-  pub every : (j : Join) → Contains joins j → (are_settled sources j ≡ true) ⊎ Contains left j
-
 -- The joins of these places but those of two of these sources, each as low as those that were met.
 pub record AreGathered (c : Cutting) (floods : List Flood) (places : Place → Type 0) (sources : List (Option ℤ)) (joins : List Join) : Type 0 where
-  pub only : (j : Join) → Contains joins j → IsMeetingAt c floods places j × (are_settled sources j ≡ false)
-  pub every : (p q : Place) (j : Join) → places p → Meets c floods p q j → (are_settled sources j ≡ true) ⊎ Covered joins j
+  pub only : (j : Join) → Contains joins j → IsMeetingAt c floods sources places j
+  pub every : (p q : Place) (j : Join) → places p → Meets c floods sources p q j → Covered joins j
 
 -- A place outside or without data touches the place.
 abbrev pub HasGapAmong : Cutting → List Flood → Place → Type 0

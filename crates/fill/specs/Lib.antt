@@ -3,3 +3,4 @@ pub mod Spills
 pub mod Gathering
 pub mod Parts
 pub mod Labels
+pub mod Numbers

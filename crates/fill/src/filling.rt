@@ -6,8 +6,9 @@ ghost use Rattle.fill.specs.Spills.{AreFloods, AreOpenLevels};
 ghost use Rattle.tile_jobs.specs.Fault.{RefusesWorkers};
 ghost use Rattle.fill.specs.Gathering.{Fit};
 
+use crate::numbering::LabelLevels;
 use crate::parts::{Part, tile_part};
-use crate::raising::raise;
+use crate::raising::raised_by;
 use crate::sources::{TileSources, label_sources, tile_sources};
 use crate::spills::SpillGraph;
 use crate::tile::{TileFlood, tile_flood};
@@ -101,8 +102,8 @@ impl<'a> Work for PartTiles<'a> {
 struct Raised<'a> {
     tiling: &'a Tiling,
     floods: Vec<TileFlood>,
-    levels: Vec<Option<Height>>,
-    ghost size: { length levels.items ≡ tiling.now.cols * tiling.now.rows },
+    levels: LabelLevels,
+    ghost size: { length levels ≡ tiling.now.cols * tiling.now.rows },
     ghost fit: { Fit tiling.now floods.items },
     ghost lawful: { IsCutting tiling.now },
 }
@@ -115,7 +116,7 @@ impl<'a> TileMap for Raised<'a> {
 
     ghost cutting = { λ m. m.tiling.now };
 
-    ghost has = { λ m p height. height ≡ raised_among m.tiling.now m.floods.items m.levels.items p };
+    ghost has = { λ m p height. height ≡ raised_among m.tiling.now m.floods.items m.levels p };
 
     fn tiling(&self) -> Tiling {
         *self.tiling
@@ -123,7 +124,7 @@ impl<'a> TileMap for Raised<'a> {
 
     fn tile(&self, alloc: Global, tile: u32) -> Result<Vec<Option<Height>>, NoMemory> {
         let flood = &self.floods[tile as usize];
-        raise(alloc, self.tiling, flood, &self.levels)
+        raised_by(alloc, self.tiling, flood, &self.levels)
     }
 }
 
@@ -133,10 +134,10 @@ fn label_levels<R: Threads + Wait + Sync, G: Gate + Sync>(
     grid: &Grid,
     tiling: &Tiling,
     floods: &[TileFlood],
-) -> Result<Vec<Option<Height>>, JobFault>
+) -> Result<LabelLevels, JobFault>
     requires floods { AreFloods grid.now.terrain tiling.now floods.now }
     requires workers { (0 < crew.now.workers) × (crew.now.workers ≤ 64) }
-    ensures levels { IfOk result (λ v. AreOpenLevels grid.now.terrain tiling.now floods.now v.items) }
+    ensures levels { IfOk result (λ levels. AreOpenLevels grid.now.terrain tiling.now floods.now levels) }
     ensures workers { RefusesWorkers crew.now.workers result }
 {
     let lists = crew.run(&SourceTiles { tiling, floods }, tiling.tiles())?;
@@ -150,7 +151,7 @@ fn label_levels<R: Threads + Wait + Sync, G: Gate + Sync>(
     let parts = crew.run(&work, tiling.tiles())?;
     drop(work);
     let graph = SpillGraph::of_parts(tiling, sources, parts);
-    let Ok(levels) = graph.levels(crew.alloc) else {
+    let Ok(levels) = LabelLevels::of_graph(crew.alloc, &graph) else {
         return Err(JobFault::Memory);
     };
     Ok(levels)

@@ -4,6 +4,7 @@
 mod filling;
 mod labels;
 mod marks;
+mod numbering;
 mod parts;
 mod passes;
 mod raising;

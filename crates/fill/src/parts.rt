@@ -4,7 +4,7 @@ ghost use Rattle.tiles.specs.Cutting.{tile_count};
 ghost use Rattle.fill.specs.Gathering.{Fit};
 ghost use Rattle.fill.specs.Parts.{IsPart, AreParts};
 
-use crate::passes::{lowest_joins, open_joins, tile_joins};
+use crate::passes::{lowest_joins, tile_joins};
 use crate::spills::Join;
 use crate::tile::TileFlood;
 use std::alloc::{AllocError, Global};
@@ -30,8 +30,8 @@ pub(crate) fn tile_part(
     requires tile { tile < tile_count tiling.now }
     ensures { IfOk result (λ part. IsPart tiling.now floods.now sources.now tile part) }
 {
-    let met = tile_joins(alloc, tiling, floods, tile)?;
-    let joins = lowest_joins(alloc, open_joins(alloc, met, sources)?)?;
+    let met = tile_joins(alloc, tiling, floods, sources, tile)?;
+    let joins = lowest_joins(alloc, met)?;
     Ok(Part { joins })
 }
 

@@ -4,7 +4,7 @@ ghost use Rattle.std.specs.Bool.{OnTrue, OnFalse};
 ghost use Rattle.terrain.specs.declared.place.Place.{Place};
 ghost use Rattle.tiles.specs.Cutting.{IsCutting, IsWithin, IsInTile, bounds_of, tile_count};
 ghost use Rattle.fill.specs.TileFlood.{LabelsInside};
-ghost use Rattle.fill.specs.Gathering.{Fit, Adds, AddsCovered, AddsAround, AreLowest, AreOpen, are_settled, IsRepeat, joins_of, mark_with};
+ghost use Rattle.fill.specs.Gathering.{Fit, Adds, AddsCovered, AddsAround, AreLowest, are_settled, IsRepeat, joins_of, mark_with};
 
 use crate::marks::{Mark, mark_at, mark_of_entry};
 use crate::spills::Join;
@@ -145,13 +145,40 @@ impl JoinTable {
     }
 }
 
-/// Adds the join of two marks, where their labels differ.
+/// Whether a label is among these sources, of which those past the end are none.
 #[inline(always)]
-fn push_join(table: &mut JoinTable, from: Mark, to: Option<Mark>) -> Result<(), AllocError>
-    ensures { OnOk result (AddsCovered table.old.joins.items (joins_of from to) table.new.joins.items) }
+fn is_source(sources: &[Option<Height>], node: u32) -> bool
+    ensures { result ≡ is_some (slice_index_or sources.now node None) }
+{
+    match sources.get(node as usize) {
+        Some(height) => height.is_some(),
+        None => false,
+    }
+}
+
+/// Whether both labels are among these sources.
+#[inline(always)]
+fn are_settled(sources: &[Option<Height>], from: u32, to: u32) -> bool
+    ensures { result ≡ are_settled sources.now from to }
+{
+    is_source(sources, from) && is_source(sources, to)
+}
+
+/// Adds the join of two marks, where their labels differ and are not both among these sources.
+#[inline(always)]
+fn push_join(
+    table: &mut JoinTable,
+    sources: &[Option<Height>],
+    from: Mark,
+    to: Option<Mark>,
+) -> Result<(), AllocError>
+    ensures { OnOk result (AddsCovered table.old.joins.items (joins_of sources.now from to) table.new.joins.items) }
 {
     let Some(to) = to else { return Ok(()) };
     if from.node == to.node {
+        return Ok(());
+    }
+    if are_settled(sources, from.node, to.node) {
         return Ok(());
     }
     table.add(Join {
@@ -167,6 +194,7 @@ fn push_rim_cell(
     table: &mut JoinTable,
     tiling: &Tiling,
     floods: &[TileFlood],
+    sources: &[Option<Height>],
     tile: u32,
     place: Place,
 ) -> Result<(), AllocError>
@@ -174,7 +202,7 @@ fn push_rim_cell(
     requires tile { tile < tile_count tiling.now }
     requires place { IsWithin tiling.now place }
     requires lawful { IsCutting tiling.now }
-    ensures { OnOk result (Adds tiling.now floods.now (λ p. p ≡ place) table.old.joins.items table.new.joins.items) }
+    ensures { OnOk result (Adds tiling.now floods.now sources.now (λ p. p ≡ place) table.old.joins.items table.new.joins.items) }
 {
     let Some(from) = mark_at(tiling, floods, tile, place) else {
         return Ok(());
@@ -187,7 +215,7 @@ fn push_rim_cell(
                 row: row - 1,
                 col: col - 1,
             };
-            push_join(table, from, mark_at(tiling, floods, tile, near))?;
+            push_join(table, sources, from, mark_at(tiling, floods, tile, near))?;
         }
     }
     Ok(())
@@ -199,6 +227,7 @@ fn push_near(
     table: &mut JoinTable,
     tiling: &Tiling,
     flood: &TileFlood,
+    sources: &[Option<Height>],
     index: usize,
     from: Mark,
     near: usize,
@@ -207,12 +236,12 @@ fn push_near(
     requires index { index < length flood.now.labels }
     requires near { near < length flood.now.labels }
     requires from { mark_with tiling.now.cols flood.now index ≡ Some from }
-    ensures { OnOk result (AddsCovered table.old.joins.items (joins_of from (mark_with tiling.now.cols flood.now near)) table.new.joins.items) }
+    ensures { OnOk result (AddsCovered table.old.joins.items (joins_of sources.now from (mark_with tiling.now.cols flood.now near)) table.new.joins.items) }
 {
     if flood.has_same_label(index, near) {
         return Ok(());
     }
-    push_join(table, from, mark_of_entry(tiling, flood, near))
+    push_join(table, sources, from, mark_of_entry(tiling, flood, near))
 }
 
 /// Adds the joins of a cell with the eight around it, which are of the tile.
@@ -220,6 +249,7 @@ fn push_around(
     table: &mut JoinTable,
     tiling: &Tiling,
     flood: &TileFlood,
+    sources: &[Option<Height>],
     index: usize,
     from: Mark,
     width: usize,
@@ -229,18 +259,18 @@ fn push_around(
     requires after { index + width + 1 < length flood.now.labels }
     requires few { length flood.now.labels ≤ 16777216 }
     requires from { mark_with tiling.now.cols flood.now index ≡ Some from }
-    ensures { OnOk result (AddsAround tiling.now.cols flood.now from index width table.old.joins.items table.new.joins.items) }
+    ensures { OnOk result (AddsAround tiling.now.cols flood.now sources.now from index width table.old.joins.items table.new.joins.items) }
 {
     let above = index - width;
     let below = index + width;
-    push_near(table, tiling, flood, index, from, above - 1)?;
-    push_near(table, tiling, flood, index, from, above)?;
-    push_near(table, tiling, flood, index, from, above + 1)?;
-    push_near(table, tiling, flood, index, from, index - 1)?;
-    push_near(table, tiling, flood, index, from, index + 1)?;
-    push_near(table, tiling, flood, index, from, below - 1)?;
-    push_near(table, tiling, flood, index, from, below)?;
-    push_near(table, tiling, flood, index, from, below + 1)?;
+    push_near(table, tiling, flood, sources, index, from, above - 1)?;
+    push_near(table, tiling, flood, sources, index, from, above)?;
+    push_near(table, tiling, flood, sources, index, from, above + 1)?;
+    push_near(table, tiling, flood, sources, index, from, index - 1)?;
+    push_near(table, tiling, flood, sources, index, from, index + 1)?;
+    push_near(table, tiling, flood, sources, index, from, below - 1)?;
+    push_near(table, tiling, flood, sources, index, from, below)?;
+    push_near(table, tiling, flood, sources, index, from, below + 1)?;
     Ok(())
 }
 
@@ -249,19 +279,20 @@ fn push_inner_cell(
     table: &mut JoinTable,
     tiling: &Tiling,
     flood: &TileFlood,
+    sources: &[Option<Height>],
     index: usize,
 ) -> Result<(), AllocError>
     requires labels { LabelsInside tiling.now flood.now }
     requires before { flood.now.bounds.cols + 1 ≤ index }
     requires after { index + flood.now.bounds.cols + 1 < length flood.now.labels }
     ensures { OnOk result (MatchOption (mark_with tiling.now.cols flood.now index) (table.new.joins.items ≡ table.old.joins.items)
-        (λ from. AddsAround tiling.now.cols flood.now from index flood.now.bounds.cols table.old.joins.items table.new.joins.items)) }
+        (λ from. AddsAround tiling.now.cols flood.now sources.now from index flood.now.bounds.cols table.old.joins.items table.new.joins.items)) }
 {
     let Some(from) = mark_of_entry(tiling, flood, index) else {
         return Ok(());
     };
     let width = flood.bounds().cols as usize;
-    push_around(table, tiling, flood, index, from, width)
+    push_around(table, tiling, flood, sources, index, from, width)
 }
 
 /// Adds the joins of a cell of a tile with those that touch it. Most cells have one label around them, and none.
@@ -270,6 +301,7 @@ fn push_cell(
     table: &mut JoinTable,
     tiling: &Tiling,
     floods: &[TileFlood],
+    sources: &[Option<Height>],
     tile: u32,
     place: Place,
 ) -> Result<(), AllocError>
@@ -277,15 +309,15 @@ fn push_cell(
     requires tile { tile < tile_count tiling.now }
     requires place { IsInTile tiling.now tile place }
     requires lawful { IsCutting tiling.now }
-    ensures { OnOk result (Adds tiling.now floods.now (λ p. p ≡ place) table.old.joins.items table.new.joins.items) }
+    ensures { OnOk result (Adds tiling.now floods.now sources.now (λ p. p ≡ place) table.old.joins.items table.new.joins.items) }
 {
     let flood = &floods[tile as usize];
     if flood.has_one_label_around(place) {
         return Ok(());
     }
     match flood.inner_index(place) {
-        Some(index) => push_inner_cell(table, tiling, flood, index),
-        None => push_rim_cell(table, tiling, floods, tile, place),
+        Some(index) => push_inner_cell(table, tiling, flood, sources, index),
+        None => push_rim_cell(table, tiling, floods, sources, tile, place),
     }
 }
 
@@ -294,6 +326,7 @@ fn push_cells(
     table: &mut JoinTable,
     tiling: &Tiling,
     floods: &[TileFlood],
+    sources: &[Option<Height>],
     tile: u32,
     row: u32,
 ) -> Result<(), AllocError>
@@ -301,71 +334,35 @@ fn push_cells(
     requires tile { tile < tile_count tiling.now }
     requires top { (bounds_of tiling.now tile).top ≤ row }
     requires row { row < (bounds_of tiling.now tile).top + (bounds_of tiling.now tile).rows }
-    ensures { OnOk result (Adds tiling.now floods.now
+    ensures { OnOk result (Adds tiling.now floods.now sources.now
         (λ p. IsInTile tiling.now tile p × (p.row ≡ row)) table.old.joins.items table.new.joins.items) }
 {
     let Bounds { left, cols, .. } = tiling.bounds(tile);
     for col in left..left + cols {
-        push_cell(table, tiling, floods, tile, Place { row, col })?;
+        push_cell(table, tiling, floods, sources, tile, Place { row, col })?;
     }
     Ok(())
 }
 
-/// The joins of the cells of a tile with those that touch them.
+/// The joins of the cells of a tile with those that touch them, but those of two of these sources.
 pub(crate) fn tile_joins(
     alloc: Global,
     tiling: &Tiling,
     floods: &[TileFlood],
+    sources: &[Option<Height>],
     tile: u32,
 ) -> Result<Vec<Join>, AllocError>
     requires fit { Fit tiling.now floods.now }
     requires tile { tile < tile_count tiling.now }
-    ensures { IfOk result (λ v. Adds tiling.now floods.now (IsInTile tiling.now tile) [] v.items) }
+    ensures { IfOk result (λ v. Adds tiling.now floods.now sources.now (IsInTile tiling.now tile) [] v.items) }
 {
     let mut table = JoinTable::new(alloc)?;
     let Bounds { top, rows, .. } = tiling.bounds(tile);
     for row in top..top + rows {
-        push_cells(&mut table, tiling, floods, tile, row)?;
+        push_cells(&mut table, tiling, floods, sources, tile, row)?;
     }
     let JoinTable { joins, .. } = table;
     Ok(joins)
-}
-
-/// Whether a label is among these sources, of which those past the end are none.
-#[inline(always)]
-fn is_source(sources: &[Option<Height>], node: u32) -> bool
-    ensures { result ≡ is_some (slice_index_or sources.now node None) }
-{
-    match sources.get(node as usize) {
-        Some(height) => height.is_some(),
-        None => false,
-    }
-}
-
-/// Whether both labels of a join are among these sources.
-#[inline(always)]
-fn are_settled(sources: &[Option<Height>], join: Join) -> bool
-    ensures { result ≡ are_settled sources.now join }
-{
-    is_source(sources, join.from) && is_source(sources, join.to)
-}
-
-/// The joins but those of two of these sources.
-pub(crate) fn open_joins(
-    alloc: Global,
-    joins: Vec<Join>,
-    sources: &[Option<Height>],
-) -> Result<Vec<Join>, AllocError>
-    ensures { IfOk result (λ v. AreOpen sources.now joins.items v.items) }
-{
-    let mut left = Vec::new(alloc);
-    for index in 0..joins.len() {
-        if are_settled(sources, joins[index]) {
-            continue;
-        }
-        left.push(joins[index])?;
-    }
-    Ok(left)
 }
 
 /// Whether the join before this one is of the same labels.

@@ -5,7 +5,9 @@ ghost use Rattle.fill.specs.Parts.{AreParts, graph_of_parts};
 ghost use Rattle.fill.specs.TileFlood.{Flood};
 ghost use Rattle.fill.specs.Spills.{AreFloods, IsGraphOf, AreLevelsOf};
 ghost use Rattle.fill.specs.Gathering.{AreRising, way_of};
+ghost use Rattle.fill.specs.Numbers.{AreMarked};
 
+use crate::numbering::{NO_NUMBER, mark_parts};
 use crate::parts::{Part, tile_parts};
 use crate::sources::{label_sources, sources_by_tile};
 use crate::tile::TileFlood;
@@ -175,6 +177,15 @@ impl SpillGraph {
             parts,
             sources,
         }
+    }
+
+    /// A list with 0 for each label that is joined, and [`NO_NUMBER`] for all else.
+    pub(crate) fn marked(&self, alloc: Global) -> Result<Vec<u32>, AllocError>
+        ensures { IfOk result (λ marks. AreMarked self.now marks.items) }
+    {
+        let mut marks = vec![in alloc; NO_NUMBER; self.nodes() as usize]?;
+        mark_parts(&mut marks, &self.parts);
+        Ok(marks)
     }
 
     /// The least crest from each label to an end cell, None at a place that is no label.

@@ -45,5 +45,5 @@ returns-clause-levels g c =
     }) in (
       graph_of_parts k parts sources,
       is_open_graph t k floods parts sources c.requires.floods.lawful c.requires.floods are (c.in_ok-sources.ensures.right t (sym c.sinks.ensures.value) c.requires.floods),
-      subst (λ (x : Graph). AreLevelsOf x c.in-Ok.levels.items) c.of_parts-graph.ensures c.in-Ok.ensures,
+      subst (λ (x : Graph). AreLevelsOf x c.in-Ok.levels) c.of_parts-graph.ensures c.in-Ok.ensures,
     )

@@ -15,7 +15,7 @@ pub returns-then-has_one_label_around : goal.returns-then-has_one_label_around
 returns-then-has_one_label_around c =
     let f = c.index-floods-tile.result in
     let there = slice_get_read c.args.floods.now (length c.args.floods.now) c.args.tile f refl (omega (arith, c.requires.fit.count, c.requires.tile)) c.index-floods-tile.is in
-    one_label_adds c.args.tiling.now c.args.floods.now c.args.tile f c.args.place _ c.requires.lawful c.requires.tile there (c.requires.fit.bounds c.args.tile f there) c.requires.place (OnTrue_at c.if-has_one_label_around.true c.has_one_label_around.ensures)
+    one_label_adds c.args.tiling.now c.args.floods.now c.args.sources.now c.args.tile f c.args.place _ c.requires.lawful c.requires.tile there (c.requires.fit.bounds c.args.tile f there) c.requires.place (OnTrue_at c.if-has_one_label_around.true c.has_one_label_around.ensures)
 
 pub inner_index-requires : goal.inner_index-requires
 inner_index-requires c =
@@ -32,5 +32,5 @@ returns-in-Some c =
     let f = c.index-floods-tile.result in
     let there = slice_get_read c.args.floods.now (length c.args.floods.now) c.args.tile f refl (omega (arith, c.requires.fit.count, c.requires.tile)) c.index-floods-tile.is in
     on_ok_weaker c.push_inner_cell.result
-    (inner_cell_adds c.args.tiling.now c.args.floods.now c.args.tile f c.args.place c.in-Some.index _ _ c.requires.lawful c.requires.tile there (c.requires.fit.bounds c.args.tile f there) c.in-Some.ensures.inner c.in-Some.ensures.index)
+    (inner_cell_adds c.args.tiling.now c.args.floods.now c.args.sources.now c.args.tile f c.args.place c.in-Some.index _ _ c.requires.lawful c.requires.tile there (c.requires.fit.bounds c.args.tile f there) c.in-Some.ensures.inner c.in-Some.ensures.index)
     c.push_inner_cell.ensures

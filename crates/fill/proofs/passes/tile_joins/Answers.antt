@@ -6,7 +6,7 @@ use Rattle.fill.proofs.passes.tile_joins.Goals as goal
 
 pub loop-row-preserved : goal.loop-row-preserved
 loop-row-preserved c =
-    adds_then c.args.tiling.now c.args.floods.now
+    adds_then c.args.tiling.now c.args.floods.now c.args.sources.now
     (λ p. IsInTile c.args.tiling.now c.args.tile p × (p.row < c.loop-row.row))
     (λ p. IsInTile c.args.tiling.now c.args.tile p × (p.row ≡ c.loop-row.row))
     (λ p. IsInTile c.args.tiling.now c.args.tile p × (p.row < c.loop-row.row + 1)) _ _ _
@@ -21,7 +21,7 @@ loop-row-preserved c =
 
 pub returns : goal.returns
 returns c =
-    adds_as c.args.tiling.now c.args.floods.now
+    adds_as c.args.tiling.now c.args.floods.now c.args.sources.now
     (λ p. IsInTile c.args.tiling.now c.args.tile p × (p.row < c.loop-row.row))
     (IsInTile c.args.tiling.now c.args.tile) _ _
     (λ p. (λ at. let inside = (c.bounds-top.ensures.places p).0 at in (at, omega (arith, inside.1, c.loop-row-test.false)), λ at. at.0))

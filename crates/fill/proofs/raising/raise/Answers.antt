@@ -1,21 +1,18 @@
-use Rattle.fill.proofs.LabelTables.{all_within, cells_size}
-use Rattle.fill.proofs.Raised.{raised_by_table, filled_tile, open_levels}
+use Rattle.std.proofs.Common.{◌≡◌, ℕ, ℤ, List, Option, Some, Vec, Global}
+use Rattle.std.specs.Prelude.{slice_get}
+use Rattle.std.proofs.lemmas.Result.{IfOk-weaker}
+use Rattle.terrain.specs.Raster.{Terrain}
+use Rattle.fill.specs.TileFlood.{Flood}
+use Rattle.fill.specs.Spills.{AreFloods, AreSpillLevels, IsRaised, IsFilledTile}
+use Rattle.fill.proofs.Raised.{filled_tile, open_levels}
 use Rattle.fill.proofs.raising.raise.Goals as goal
 
-pub spills_of-requires-clause-labels : goal.spills_of-requires-clause-labels
-spills_of-requires-clause-labels c = rw c.deref.ensures.value (all_within c.args.tiling.now c.args.flood.now _ _ c.labels-labels.ensures.labels c.labels-labels.result.now.table c.requires.labels)
-
-pub greater_levels-requires-clause-size : goal.greater_levels-requires-clause-size
-greater_levels-requires-clause-size c = rw (c.deref-2.ensures.value, c.levels.ensures) (cells_size c.args.flood.now _ _ c.labels-labels.ensures.labels c.labels-labels.ensures.lawful)
-
-pub returns-clause-raised : goal.returns-clause-raised
-returns-clause-raised c =
-    let labels = c.labels-labels.result.now in
-    let is = c.labels-labels.ensures in
-    raised_by_table c.args.tiling.now c.args.flood.now labels.places.items labels.cells.items c.args.levels.now c.in_ok-spills.spills.items _ is.labels labels.table
-    (cells_size c.args.flood.now _ _ is.labels is.lawful) (rw c.deref.ensures.value at c.in_ok-spills.ensures)
-    (rw (c.levels.ensures, c.deref-2.ensures.value, c.deref-3.ensures.value) at c.in_ok-greater_levels.ensures)
-
 pub returns-clause-filled : goal.returns-clause-filled
-returns-clause-filled c = λ t floods tile are there spill.
-    filled_tile t c.args.tiling.now floods tile c.args.flood.now c.args.levels.now _ are there (open_levels t c.args.tiling.now floods c.args.levels.now spill) (returns-clause-raised c)
+returns-clause-filled c =
+    let k = c.args.tiling.now in
+    let flood = c.args.flood.now in
+    let levels = c.args.levels.now in
+    IfOk-weaker c.raised_by.result (λ (v : Vec (Option ℤ) Global). IsRaised k flood levels v.items)
+    (λ (v : Vec (Option ℤ) Global). (t : Terrain) (floods : List Flood) (tile : ℕ) → AreFloods t k floods → slice_get floods tile ≡ Some flood → AreSpillLevels t k floods levels → IsFilledTile t k tile v.items)
+    (λ v raised t floods tile are there spill. filled_tile t k floods tile flood levels v.items are there (open_levels t k floods levels spill) raised)
+    c.raised_by.ensures
