@@ -12,9 +12,10 @@ use Rattle.tiles.proofs.Cut.{places_from_value, in_bounds, bounds_inside, in_bou
 use Rattle.tiles.proofs.TileOrder.{place_in_tile, index_in-place_in, index_in_below, place_in-index_in}
 use Rattle.drainage.specs.Following.{Directed, code_at}
 use Rattle.drainage.specs.Drained.{AllFlowEnds}
-use Rattle.flow.specs.Streams.{AreStreams, AreUpstream, AreEnds, total}
+use Rattle.flow.specs.Streams.{AreStreams, AreUpstream, AreEnds, end_of, total}
+use Rattle.flow.specs.Finding.{AreFound}
 use Rattle.flow.specs.TileFlow.{Flow, directed_by, entry_in, through_in, through_of, IsExitOf, IsFlow, IsTileExits, IsTileCounts}
-use Rattle.flow.specs.TileLinks.{place_in, index_in, link_by, AreTileCodes, IsSmall, links_by, weights_by, where_data, through_by, exits_by, flow_by, AreFlowLists}
+use Rattle.flow.specs.TileLinks.{place_in, index_in, link_by, AreTileCodes, IsSmall, links_by, weights_by, where_data, through_by, ends_by, exits_by, flow_by, AreFlowLists}
 use Rattle.flow.proofs.Totals.{total_is}
 use Rattle.flow.proofs.Ending.{end-inside}
 use Rattle.flow.proofs.Reaching.{IsEnding, ending_of}
@@ -40,6 +41,33 @@ weights_from d b cells codes = record {
   each = λ i h. get_or-map (λ (code : Option ℕ). cond {A = ℕ} (is_some code) 1 0) cells i None 0 (omega (arith, codes.size))
       ∙ ap (λ (code : Option ℕ). cond {A = ℕ} (is_some code) 1 0) (codes.each i h);
 }
+
+pub ends_are : (links : List ℕ) → AreEnds links (ends_by links)
+ends_are links = record {
+  size = length-map-range_with_len (end_of links) 0 (length links);
+  each = λ i h. get_or-map-range_with_len (end_of links) 0 (length links) i i 0 h (omega arith);
+}
+
+-- what the lists of a flow have together
+module _ (b : Bounds) (cells : List (Option ℕ)) (links came ends : List ℕ) (s : AreFlowLists b cells links came ends) where
+  pub as_many_links : length links ≡ length cells
+  as_many_links = ap length s.linked ∙ length-map-range_with_len (λ i. link_by b i (get_or cells i None)) 0 (b.rows * b.cols) ∙ sym s.lawful.codes_size
+
+  pub few_links : length links ≤ 2 ^ 24
+  few_links =
+      let r : b.rows ≤ 4096 = omega (arith, s.lawful.few_rows) in
+      let k : b.cols ≤ 4096 = omega (arith, s.lawful.few_cols) in
+      let most : b.rows * b.cols ≤ 4096 * 4096 = mul-le-mul r k in
+      omega (arith, as_many_links, s.lawful.codes_size)
+
+  pub end_below : (i : ℕ) → i < length cells → end_of links i < b.rows * b.cols
+  end_below i h = omega (arith, end-inside links s.streams i (omega (arith, h, as_many_links)), as_many_links, s.lawful.codes_size)
+
+  pub end_listed : (i : ℕ) → i < length cells → end_of links i ≡ get_or (ends_by links) i 0
+  end_listed i h = sym ((ends_are links).each i (omega (arith, h, as_many_links)))
+
+  pub all_found : (found : List ℕ) → AreEnds links found → AreFlowLists b cells links came found
+  all_found found are = record { linked = s.linked; lawful = s.lawful; streams = s.streams; found = record { size = are.size; right = λ i h known. are.each i h } }
 
 -- the lists of a tile
 pub record AreLists (v : View (Option ℕ)) (b : Bounds) (cells : List (Option ℕ)) (links weights : List ℕ) : Type 0 where
@@ -179,9 +207,6 @@ module _ (v : View (Option ℕ)) (b : Bounds) (cells : List (Option ℕ)) (links
           exits_size = length-map-range_with_len (λ i. where_data (get_or cells i None) (place_in b (get_or ends i 0))) 0 (length cells) ∙ s.codes.size;
         }
 
-    pub lists_are : (came : List ℕ) → AreFlowLists b cells links came ends
-    lists_are came = record { lawful = flow_lawful came; linked = s.made; ends_size = ends_size; inside = ends_inside }
-
     pub exits_are : (came : List ℕ) → IsTileExits (directed_by v) v.cutting v.tile (flow_by b cells came ends)
     exits_are came = record {
       bounds = s.bounds;
@@ -197,6 +222,9 @@ module _ (v : View (Option ℕ)) (b : Bounds) (cells : List (Option ℕ)) (links
             )
           ]);
     }
+
+  pub lists_are : (came ends : List ℕ) → AreFound links ends → AreFlowLists b cells links came ends
+  lists_are came ends found = record { linked = s.made; lawful = flow_lawful (ends_by links) (ends_are links) came; streams = streams; found = found }
 
   pub counts_are : (came : List ℕ) → AreUpstream links weights came → (f : Flow) → f.bounds ≡ b → f.through ≡ through_by cells came → IsTileCounts (directed_by v) v.cutting v.tile f
   counts_are came up f same through = record {

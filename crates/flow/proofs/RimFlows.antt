@@ -18,7 +18,7 @@ use Rattle.flow.specs.Streams.{AreStreams, AreEnds, onward, node_after, end_of}
 use Rattle.flow.specs.TileFlow.{Flow, is_in_bounds, stays, entry_in, exit_in, IsTileExits, IsExitOf, IsExitCell}
 use Rattle.flow.specs.Whole.{is_outlet_code}
 use Rattle.flow.specs.RimNumbers.{number_count, rim_number, rim_place}
-use Rattle.flow.specs.RimGraph.{code_in, AreFlowsOf, next_by, exit_by, target_by, way_out_in, way_out_by, number_or, rim_link, rim_links_by, rim_outlet, rim_outlets_by, outlet_by, AreOutlets}
+use Rattle.flow.specs.RimGraph.{code_in, AreFlowsOf, next_by, exit_by, target_by, targets_by, way_out_in, way_out_by, number_or, rim_link, rim_links_by, rim_outlet, rim_outlets_by, outlet_by, AreOutlets}
 use Rattle.flow.proofs.Windows.{every_in_range}
 use Rattle.flow.proofs.Ending.{IsStop, streams_from, node_after-first, node_after-inside}
 use Rattle.flow.proofs.Coded.{IsCoded, cases_option, cases_coded, coded_along, coded_inside, coded_from_some, none_stays, outlet_stays, follow_stays, follow_more, follow_first, StopsAt, stops_sooner, cycle_stops}
@@ -47,6 +47,14 @@ outlet_listed t flows listed p f y = cond-false {A = Option Place} _ (Some p) (c
 pub outlet_unlisted : (t : Cutting) (flows : List Flow) (listed : List (Option Place)) (p : Place) → is_outlet_code (code_in t flows p) ≡ false → is_place (rim_place t (rim_number t p)) p ≡ false →
     outlet_by t flows listed p ≡ None
 outlet_unlisted t flows listed p f n = cond-false {A = Option Place} _ (Some p) (cond {A = Option Place} (is_place (rim_place t (rim_number t p)) p) (get_or listed (rim_number t p) None) None) f ∙ cond-false {A = Option Place} _ _ _ n
+
+-- the list of all targets
+pub targets_size : (t : Cutting) (flows : List Flow) (targets : List (Option Place)) → targets ≡ targets_by t flows → length targets ≡ number_count t
+targets_size t flows targets made = ap length made ∙ length-map-range_with_len (target_by t flows) 0 (number_count t)
+
+pub target_listed : (t : Cutting) (flows : List Flow) (targets : List (Option Place)) → targets ≡ targets_by t flows → (i : ℕ) → i < number_count t → get_or targets i None ≡ target_by t flows i
+target_listed t flows targets made i h =
+    ap (λ l. get_or l i None) made ∙ get_or-map-range_with_len (target_by t flows) 0 (number_count t) i i None h (omega arith)
 
 module _ (d : Directed) (t : Cutting) (flows : List Flow) (s : AreFlowsOf d t flows) where
   pub within_of : (p : Place) → IsCoded d p → IsWithin t p

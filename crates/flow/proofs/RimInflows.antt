@@ -11,12 +11,12 @@ use Rattle.flow.specs.Counts.{is_place, drains_through}
 use Rattle.flow.specs.Streams.{AreUpstream, sum_below}
 use Rattle.flow.specs.TileFlow.{Flow, AreTileCounts, inflow_of}
 use Rattle.flow.specs.RimNumbers.{number_count, rim_number, rim_place}
-use Rattle.flow.specs.RimGraph.{AreFlowsOf, target_by, rim_links_by}
+use Rattle.flow.specs.RimGraph.{AreFlowsOf, target_by, targets_by, rim_links_by}
 use Rattle.flow.specs.Inflows.{rim_weights_by, sent_to, entering, AreEntering, inflow_by, AreInflows}
 use Rattle.flow.proofs.Sums.{sum_below-same, sum_below-none, exchange, one_term, cond-sum}
 use Rattle.flow.proofs.Coded.{IsCoded, cases_option, coded_along, coded_from_some}
 use Rattle.flow.proofs.RimNumbered.{IsSide, number_below, number_back}
-use Rattle.flow.proofs.RimFlows.{Crosses, within_of, touching, back, target_on, target_from, to_below, links_size}
+use Rattle.flow.proofs.RimFlows.{Crosses, within_of, touching, back, target_on, target_from, to_below, links_size, target_listed}
 use Rattle.flow.proofs.Reaching.{drains_at, drains_from, comes_once, one_move, enters, enters_from, enters_at}
 use Rattle.flow.proofs.Gathering.{cell, drained, all_drained, entered, entered_few, inflow_sum, counted_on, counted_off, counted_none}
 use Rattle.flow.proofs.RimTotals.{ending, total_drained}
@@ -137,34 +137,35 @@ module _ (d : Directed) (t : Cutting) (flows : List Flow) (s : AreFlowsOf d t fl
     ]
   ])
 
-  module _ (links weights came : List ℕ) (made : links ≡ rim_links_by t flows) (weighed : weights ≡ rim_weights_by t flows) (up : AreUpstream links weights came) where
+  module _ (links weights came : List ℕ) (targets : List (Option Place)) (asked : targets ≡ targets_by t flows) (made : links ≡ rim_links_by t flows) (weighed : weights ≡ rim_weights_by t flows) (up : AreUpstream links weights came) where
     -- what an exit sends
-    sends : (k i : ℕ) → i < number_count t → entering t flows weights came k i ≡ sent_to t k (target_by t flows i) (all_drained d (rim_place t i))
+    sends : (k i : ℕ) → i < number_count t → entering t targets weights came k i ≡ sent_to t k (target_by t flows i) (all_drained d (rim_place t i))
     sends k i h =
         let at = up.each i (omega (arith, h, links_size d t flows s links made)) in
-        elim (cases_option (target_by t flows i)) [
+        ap (λ (o : Option Place). sent_to t k o (get_or came i 0 + get_or weights i 0)) (target_listed t flows targets asked i h)
+        ∙ elim (cases_option (target_by t flows i)) [
           | inl none ↦ ap (λ (o : Option Place). sent_to t k o (get_or came i 0 + get_or weights i 0)) none ∙ sym (ap (λ (o : Option Place). sent_to t k o (all_drained d (rim_place t i))) none)
           | inr q ↦ ap (sent_to t k (target_by t flows i)) (at ∙ total_drained d t flows s counts links made weights weighed i q.0 h q.1)
         ]
 
     -- all that enters at a place on the rim
-    entering_is : (p : Place) → rim_place t (rim_number t p) ≡ p → sum_below (entering t flows weights came (rim_number t p)) (number_count t) ≡ sum_below (λ c. entered d t p (cell d c)) (d.rows * d.cols)
+    entering_is : (p : Place) → rim_place t (rim_number t p) ≡ p → sum_below (entering t targets weights came (rim_number t p)) (number_count t) ≡ sum_below (λ c. entered d t p (cell d c)) (d.rows * d.cols)
     entering_is p on =
-        sum_below-same (entering t flows weights came (rim_number t p)) (λ i. sum_below (λ c. piece p c i) (d.rows * d.cols)) (number_count t)
+        sum_below-same (entering t targets weights came (rim_number t p)) (λ i. sum_below (λ c. piece p c i) (d.rows * d.cols)) (number_count t)
         (λ i h. sends (rim_number t p) i h ∙ sent-sum t (rim_number t p) (target_by t flows i) (λ c. drained d (rim_place t i) (cell d c)) (d.rows * d.cols))
         ∙ exchange (λ i c. piece p c i) (number_count t) (d.rows * d.cols)
         ∙ sum_below-same (λ c. sum_below (piece p c) (number_count t)) (λ c. entered d t p (cell d c)) (d.rows * d.cols) (λ c h. pieces_are p on c)
 
-    pub entering_few : (k : ℕ) → sum_below (entering t flows weights came k) (number_count t) ≤ 16777216
+    pub entering_few : (k : ℕ) → sum_below (entering t targets weights came k) (number_count t) ≤ 16777216
     entering_few k =
         elim (cases_eq (rim_number t (rim_place t k)) k) [
           | inl e ↦
-              let same = ap (λ n. sum_below (entering t flows weights came n) (number_count t)) (sym e) in
+              let same = ap (λ n. sum_below (entering t targets weights came n) (number_count t)) (sym e) in
               omega (arith, same, entering_is (rim_place t k) (ap (rim_place t) e), entered_few d (ending d t flows s counts) t (rim_place t k))
           | inr ne ↦
               omega (
                 arith,
-                sum_below-none (entering t flows weights came k) (number_count t) (λ i h. elim (cases_option (target_by t flows i)) [
+                sum_below-none (entering t targets weights came k) (number_count t) (λ i h. ap (λ (o : Option Place). sent_to t k o (get_or came i 0 + get_or weights i 0)) (target_listed t flows targets asked i h) ∙ elim (cases_option (target_by t flows i)) [
                   | inl none ↦ ap (λ (o : Option Place). sent_to t k o (get_or came i 0 + get_or weights i 0)) none
                   | inr q ↦
                       let x = target_from d t flows s i q.0 q.1 in
@@ -175,7 +176,7 @@ module _ (d : Directed) (t : Cutting) (flows : List Flow) (s : AreFlowsOf d t fl
               )
         ]
 
-    module _ (listed : List ℕ) (are : AreEntering t flows weights came listed) where
+    module _ (listed : List ℕ) (are : AreEntering t targets weights came listed) where
       pub inflow_at : (p : Place) → IsWithin t p → inflow_by t listed p ≡ inflow_of d t p
       inflow_at p w = elim (cases_Bool (is_place (rim_place t (rim_number t p)) p)) [
         | inr f ↦ cond-false {A = ℕ} _ (get_or listed (rim_number t p) 0) 0 f ∙ sym (inflow_none p (λ e. false≢true (sym f ∙ is_place_from _ _ e)))

@@ -1,5 +1,5 @@
 -- Water that enters tiles over their rims. Only the contracts of private functions speak of it.
-use Rattle.std.specs.Prelude.{◌≡◌, ℕ, ◌+◌, ◌<◌, ◌==◌, ◌&&◌, if◌then◌else◌, List, map, length, Option, None, Some, slice_get, slice_index, unwrap_or, option_and_then}
+use Rattle.std.specs.Prelude.{◌≡◌, ℕ, ◌+◌, ◌<◌, ◌==◌, ◌&&◌, if◌then◌else◌, List, map, length, Option, None, Some, slice_get, slice_index, slice_index_or, unwrap_or, option_and_then}
 use Rattle.std.specs.List.{range_with_len}
 use Rattle.terrain.specs.declared.place.Place.{Place}
 use Rattle.tiles.specs.Cutting.{Cutting, IsWithin, tile_of_place}
@@ -30,13 +30,13 @@ abbrev pub sent_to : Cutting → ℕ → Option Place → ℕ → ℕ
 sent_to t k None amount = 0
 sent_to t k (Some entry) amount = if rim_number t entry == k then amount else 0
 
-abbrev pub entering : Cutting → List Flow → List ℕ → List ℕ → ℕ → ℕ → ℕ
-entering t flows weights came k i = sent_to t k (target_by t flows i) (slice_index came i + slice_index weights i)
+abbrev pub entering : Cutting → List (Option Place) → List ℕ → List ℕ → ℕ → ℕ → ℕ
+entering t targets weights came k i = sent_to t k (slice_index_or targets i None) (slice_index came i + slice_index weights i)
 
 -- what enters at the place of each number
-pub record AreEntering (t : Cutting) (flows : List Flow) (weights came listed : List ℕ) : Type 0 where
+pub record AreEntering (t : Cutting) (targets : List (Option Place)) (weights came listed : List ℕ) : Type 0 where
   pub size : length listed ≡ number_count t
-  pub each : (k : ℕ) → k < number_count t → slice_index listed k ≡ sum_below (entering t flows weights came k) (number_count t)
+  pub each : (k : ℕ) → k < number_count t → slice_index listed k ≡ sum_below (entering t targets weights came k) (number_count t)
 
 -- What flows in over the rims, by numbers.
 pub record Inflows : Type 0 where

@@ -43,6 +43,9 @@ target_by t flows i =
     if stands_for t p i && not (is_in_bounds (bounds_of t (tile_of_place t p)) (next_by t flows p))
     then Some (next_by t flows p) else None
 
+abbrev pub targets_by : Cutting → List Flow → List (Option Place)
+targets_by t flows = map (target_by t flows) (range_with_len 0 (number_count t))
+
 -- where water that enters a tile at a place leaves it again; None where it ends in the tile
 abbrev pub way_out_in : Flow → Place → Option Place
 way_out_in f p = option_and_then (λ e. if is_outlet_code (entry_in f.bounds f.codes e) then None else Some e) (exit_in f p)

@@ -6,6 +6,8 @@ use Rattle.tiles.specs.Cutting.{longest_axis}
 use Rattle.terrain.specs.declared.place.Place.{Place}
 use Rattle.tiles.specs.declared.bounds.Bounds.{Bounds}
 use Rattle.drainage.specs.Following.{Directed, code_at}
+use Rattle.flow.specs.Streams.{AreStreams, end_of}
+use Rattle.flow.specs.Finding.{AreFound}
 use Rattle.flow.specs.TileFlow.{Flow, IsFlow, is_in_bounds}
 
 abbrev pub place_in : Bounds → ℕ → Place
@@ -57,6 +59,10 @@ where_data (Some code) x = Some x
 abbrev pub through_by : List (Option ℕ) → List ℕ → List (Option ℕ)
 through_by cells came = map (λ i. where_data (slice_index_or cells i None) (slice_index came i)) (range_with_len 0 (length came))
 
+-- where the path of each cell along links ends
+abbrev pub ends_by : List ℕ → List ℕ
+ends_by links = map (end_of links) (range_with_len 0 (length links))
+
 abbrev pub exits_by : Bounds → List (Option ℕ) → List ℕ → List (Option Place)
 exits_by b cells ends = map (λ i. where_data (slice_index_or cells i None) (place_in b (slice_index ends i))) (range_with_len 0 (length cells))
 
@@ -64,9 +70,9 @@ exits_by b cells ends = map (λ i. where_data (slice_index_or cells i None) (pla
 abbrev pub flow_by : Bounds → List (Option ℕ) → List ℕ → List ℕ → Flow
 flow_by b cells came ends = record { bounds = b; codes = cells; through = through_by cells came; exits = exits_by b cells ends }
 
--- what holds of these lists
+-- What holds of these lists, where the ends of some paths have been found.
 pub record AreFlowLists (b : Bounds) (cells : List (Option ℕ)) (links came ends : List ℕ) : Type 0 where
   pub linked : links ≡ links_by b cells
-  pub lawful : IsFlow (flow_by b cells came ends)
-  pub ends_size : length ends ≡ length cells
-  pub inside : (i : ℕ) → i < length cells → slice_index ends i < b.rows * b.cols
+  pub lawful : IsFlow (flow_by b cells came (ends_by links))
+  pub streams : AreStreams links
+  pub found : AreFound links ends

@@ -14,25 +14,47 @@ pub(crate) fn ends(alloc: Global, links: &[u32]) -> Result<Vec<u32>, AllocError>
     requires few { length links.now ≤ 2 ^ 30 }
     ensures { IfOk result (λ v. AreEnds links.now v.items) }
 {
-    let mut ends = vec![in alloc; UNKNOWN; links.len()]?;
+    let mut ends = unknown_ends(alloc, links)?;
     find_ends(links, &mut ends);
     Ok(ends)
 }
 
-fn find_ends(links: &[u32], ends: &mut [u32])
+/// The ends of the paths of all nodes, of which none is found yet.
+pub(crate) fn unknown_ends(alloc: Global, links: &[u32]) -> Result<Vec<u32>, AllocError>
+    ensures { IfOk result (λ v. AreFound links.now v.items) }
+{
+    vec![in alloc; UNKNOWN; links.len()]
+}
+
+/// Finds where the path of each node ends.
+pub(crate) fn find_ends(links: &[u32], ends: &mut [u32])
     requires streams { AreStreams links.now }
     requires few { length links.now ≤ 2 ^ 30 }
     requires found { AreFound links.now ends.old }
     ensures { AreEnds links.now ends.new }
 {
     for node in 0..links.len() {
-        let last = end_from(links, ends, node);
-        mark_path(links, ends, node, last);
+        find_end(links, ends, node);
     }
 }
 
-// The end of a node's path, read off where the path meets a known one, or comes to it.
-fn end_from(links: &[u32], ends: &[u32], from: usize) -> u32
+/// Finds where the path of a node ends, and so do those of the nodes along it.
+pub(crate) fn find_end(links: &[u32], ends: &mut [u32], node: usize)
+    requires streams { AreStreams links.now }
+    requires few { length links.now ≤ 2 ^ 30 }
+    requires found { AreFound links.now ends.old }
+    requires inside { node < length links.now }
+    ensures found { AreFound links.now ends.new }
+    ensures kept { (i : ℕ) → IsKnown ends.old i → IsKnown ends.new i }
+    ensures marked { IsKnown ends.new node }
+{
+    let last = end_from(links, ends, node);
+    mark_path(links, ends, node, last);
+}
+
+/// The end of a node's path, read off where the path meets a known one, or comes to it.
+#[inline]
+pub(crate) fn end_from(links: &[u32], ends: &[u32], from: usize) -> u32
     requires streams { AreStreams links.now }
     requires few { length links.now ≤ 2 ^ 30 }
     requires found { AreFound links.now ends.now }

@@ -37,7 +37,8 @@ impl<'a> Work for FlowTiles<'a> {
     fn run(&self, alloc: Global, job: u32) -> Result<TileFlow, JobFault> {
         let view = self.tiling.view(self.codes, job);
         if !self.counted {
-            let flow = tile_exits(alloc, &view)?;
+            let mut flow = tile_exits(alloc, &view)?;
+            flow.find_exits();
             return Ok(flow);
         }
         let Ok(flow) = tile_flow(alloc, &view) else {

@@ -1,5 +1,5 @@
 // What flows into tiles over their rims.
-ghost use Rattle.std.specs.Prelude.{◌≡◌, ◌+◌, ◌*◌, ◌^◌, ◌<◌, ◌&&◌, ℕ, length, slice_index, IfOk, IfSome};
+ghost use Rattle.std.specs.Prelude.{◌≡◌, ◌+◌, ◌*◌, ◌^◌, ◌<◌, ◌&&◌, ℕ, None, length, slice_index, slice_index_or, IfOk, IfSome};
 ghost use Rattle.terrain.specs.declared.place.Place.{Place as AtPlace};
 ghost use Rattle.tiles.specs.Cutting.{AreBounds, IsInBounds, IsWithin, bounds_of, cell_count, tile_count};
 ghost use Rattle.drainage.specs.Following.{Directed};
@@ -8,11 +8,11 @@ ghost use Rattle.flow.specs.Sending.{AreNone};
 ghost use Rattle.flow.specs.TileFlow.{AreTileCounts, is_in_bounds};
 ghost use Rattle.flow.specs.TileLinks.{IsSmall, index_in};
 ghost use Rattle.flow.specs.RimNumbers.{number_count};
-ghost use Rattle.flow.specs.RimGraph.{AreFlowsOf, stands_for};
+ghost use Rattle.flow.specs.RimGraph.{AreFlowsOf, stands_for, targets_by};
 ghost use Rattle.flow.specs.Inflows.{AreEntering, AreInflows, adds, entering, inflow_by, inflow_in, rim_weight, rim_weights_by, sent_to, through_by};
 
 use crate::cells::{contains, index_of};
-use crate::outlets::{is_place, rim_links, stands_for, target_of};
+use crate::outlets::{is_place, rim_links, rim_targets, stands_for, target_at};
 use crate::rim::{number_count, numbers_of, rim_number, rim_place};
 use crate::streams::{upstream, zeros};
 use crate::tile::TileFlow;
@@ -53,10 +53,11 @@ impl Inflows {
         ensures inflows { IfOk result (λ i. (d : Directed) → AreFlowsOf d tiling.now flows.now →
             AreTileCounts d tiling.now flows.now → AreInflows d tiling.now i) }
     {
-        let links = rim_links(alloc, tiling, flows)?;
-        let weights = rim_weights(alloc, tiling, flows)?;
+        let targets = rim_targets(alloc, tiling, flows)?;
+        let links = rim_links(alloc, tiling, flows, &targets)?;
+        let weights = rim_weights(alloc, tiling, flows, &targets)?;
         let came = upstream(alloc, &links, &weights)?;
-        let listed = all_entering(alloc, tiling, flows, &weights, &came)?;
+        let listed = all_entering(alloc, tiling, &targets, &weights, &came)?;
         Ok(Inflows {
             tiling: *tiling,
             listed,
@@ -148,26 +149,33 @@ fn through_at(tiling: &Tiling, flows: &[TileFlow], place: Place) -> Option<u32>
 }
 
 // How many cells of its tile flow through an exit that leads into another tile; 0 for any other number.
-fn weight_of(tiling: &Tiling, flows: &[TileFlow], number: u32) -> u32
+fn weight_of(tiling: &Tiling, flows: &[TileFlow], targets: &[Option<Place>], number: u32) -> u32
     requires flows { (d : Directed) × AreFlowsOf d tiling.now flows.now × AreTileCounts d tiling.now flows.now }
+    requires targets { targets.now ≡ targets_by tiling.now flows.now }
     requires number { number < number_count tiling.now }
     ensures { result ≡ rim_weight tiling.now flows.now number }
 {
-    let Some(_) = target_of(tiling, flows, number) else {
+    let Some(_) = target_at(targets, number) else {
         return 0;
     };
     through_at(tiling, flows, rim_place(tiling, number)).unwrap_or(0) + 1
 }
 
 #[tactic(auto, using(crate::proofs::Windows::mapped_next))]
-fn rim_weights(alloc: Global, tiling: &Tiling, flows: &[TileFlow]) -> Result<Vec<u32>, AllocError>
-    requires { (d : Directed) × AreFlowsOf d tiling.now flows.now × AreTileCounts d tiling.now flows.now }
+fn rim_weights(
+    alloc: Global,
+    tiling: &Tiling,
+    flows: &[TileFlow],
+    targets: &[Option<Place>],
+) -> Result<Vec<u32>, AllocError>
+    requires targets { targets.now ≡ targets_by tiling.now flows.now }
+    requires flows { (d : Directed) × AreFlowsOf d tiling.now flows.now × AreTileCounts d tiling.now flows.now }
     ensures { IfOk result (λ v. v.items ≡ rim_weights_by tiling.now flows.now) }
 {
     let count = number_count(tiling);
     let mut weights = Vec::with_capacity(alloc, count as usize)?;
     for number in 0..count {
-        weights.push(weight_of(tiling, flows, number))?;
+        weights.push(weight_of(tiling, flows, targets, number))?;
     }
     Ok(weights)
 }
@@ -176,33 +184,41 @@ fn rim_weights(alloc: Global, tiling: &Tiling, flows: &[TileFlow]) -> Result<Vec
 fn all_entering(
     alloc: Global,
     tiling: &Tiling,
-    flows: &[TileFlow],
+    targets: &[Option<Place>],
     weights: &[u32],
     came: &[u32],
 ) -> Result<Vec<u32>, AllocError>
-    requires flows { (d : Directed) × AreFlowsOf d tiling.now flows.now }
+    requires targets { length targets.now ≡ number_count tiling.now }
+    requires within { (i : ℕ) → i < number_count tiling.now → IfSome (slice_index_or targets.now i None) (IsWithin tiling.now) }
     requires weights { length weights.now ≡ number_count tiling.now }
     requires came { length came.now ≡ number_count tiling.now }
     requires amounts { (i : ℕ) → i < number_count tiling.now → slice_index came.now i + slice_index weights.now i < 2 ^ 32 }
-    requires few { (k : ℕ) → sum_below (entering tiling.now flows.now weights.now came.now k) (number_count tiling.now) < 2 ^ 32 }
-    ensures { IfOk result (λ v. AreEntering tiling.now flows.now weights.now came.now v.items) }
+    requires few { (k : ℕ) → sum_below (entering tiling.now targets.now weights.now came.now k) (number_count tiling.now) < 2 ^ 32 }
+    ensures { IfOk result (λ v. AreEntering tiling.now targets.now weights.now came.now v.items) }
 {
     let mut listed = zeros(alloc, number_count(tiling) as usize)?;
-    send_all(tiling, flows, weights, came, &mut listed);
+    send_all(tiling, targets, weights, came, &mut listed);
     Ok(listed)
 }
 
-fn send_all(tiling: &Tiling, flows: &[TileFlow], weights: &[u32], came: &[u32], listed: &mut [u32])
-    requires flows { (d : Directed) × AreFlowsOf d tiling.now flows.now }
+fn send_all(
+    tiling: &Tiling,
+    targets: &[Option<Place>],
+    weights: &[u32],
+    came: &[u32],
+    listed: &mut [u32],
+)
+    requires targets { length targets.now ≡ number_count tiling.now }
+    requires within { (i : ℕ) → i < number_count tiling.now → IfSome (slice_index_or targets.now i None) (IsWithin tiling.now) }
     requires weights { length weights.now ≡ number_count tiling.now }
     requires came { length came.now ≡ number_count tiling.now }
     requires amounts { (i : ℕ) → i < number_count tiling.now → slice_index came.now i + slice_index weights.now i < 2 ^ 32 }
-    requires few { (k : ℕ) → sum_below (entering tiling.now flows.now weights.now came.now k) (number_count tiling.now) < 2 ^ 32 }
+    requires few { (k : ℕ) → sum_below (entering tiling.now targets.now weights.now came.now k) (number_count tiling.now) < 2 ^ 32 }
     requires none { AreNone (number_count tiling.now) listed.old }
-    ensures { AreEntering tiling.now flows.now weights.now came.now listed.new }
+    ensures { AreEntering tiling.now targets.now weights.now came.now listed.new }
 {
     for number in 0..number_count(tiling) {
-        let target = target_of(tiling, flows, number);
+        let target = target_at(targets, number);
         let amount = came[number as usize] + weights[number as usize];
         send(tiling, target, amount, listed);
     }

@@ -1,10 +1,10 @@
 // Where the water of the exits of all tiles ends.
-ghost use Rattle.std.specs.Prelude.{◌≡◌, ◌<◌, ◌≤◌, ℕ, length, slice_index, IfOk};
+ghost use Rattle.std.specs.Prelude.{◌≡◌, ◌<◌, ◌≤◌, ℕ, None, length, slice_index, slice_index_or, IfOk};
 ghost use Rattle.tiles.specs.Cutting.{IsCutting, IsWithin, tile_count};
 ghost use Rattle.drainage.specs.Following.{Directed};
 ghost use Rattle.flow.specs.Counts.{is_place};
 ghost use Rattle.flow.specs.RimNumbers.{number_count};
-ghost use Rattle.flow.specs.RimGraph.{code_in, AreFlowsOf, AreOutlets, target_by, way_out_by, rim_link, rim_links_by, rim_outlet, rim_outlets_by, outlet_in, next_by, exit_by, stands_for};
+ghost use Rattle.flow.specs.RimGraph.{code_in, AreFlowsOf, AreOutlets, target_by, targets_by, way_out_by, rim_link, rim_links_by, rim_outlet, rim_outlets_by, outlet_in, next_by, exit_by, stands_for};
 
 use crate::cells::{contains, next_of};
 use crate::ends::ends;
@@ -47,10 +47,11 @@ impl Outlets {
         ensures cutting { IfOk result (λ o. o.cutting ≡ tiling.now) }
         ensures outlets { IfOk result (λ o. (d : Directed) → AreFlowsOf d tiling.now flows.now → AreOutlets d tiling.now flows.now o) }
     {
-        let links = rim_links(alloc, tiling, flows)?;
+        let targets = rim_targets(alloc, tiling, flows)?;
+        let links = rim_links(alloc, tiling, flows, &targets)?;
         let ends = ends(alloc, &links)?;
         drop(links);
-        let outlets = rim_outlets(alloc, tiling, flows, &ends)?;
+        let outlets = rim_outlets(alloc, tiling, flows, &targets, &ends)?;
         Ok(Outlets {
             tiling: *tiling,
             outlets,
@@ -129,7 +130,7 @@ fn way_out(tiling: &Tiling, flows: &[TileFlow], entry: Place) -> Option<Place>
 }
 
 // Where the water of a number's cell enters another tile; None for a number that stands for no such cell.
-pub(crate) fn target_of(tiling: &Tiling, flows: &[TileFlow], number: u32) -> Option<Place>
+fn target_of(tiling: &Tiling, flows: &[TileFlow], number: u32) -> Option<Place>
     requires count { length flows.now ≡ tile_count tiling.now }
     requires number { number < number_count tiling.now }
     ensures { result ≡ target_by tiling.now flows.now number }
@@ -146,13 +147,41 @@ pub(crate) fn target_of(tiling: &Tiling, flows: &[TileFlow], number: u32) -> Opt
     }
 }
 
+/// Where the water of each number's cell enters another tile.
+#[tactic(auto, using(crate::proofs::Windows::mapped_next))]
+pub(crate) fn rim_targets(
+    alloc: Global,
+    tiling: &Tiling,
+    flows: &[TileFlow],
+) -> Result<Vec<Option<Place>>, AllocError>
+    requires { (d : Directed) × AreFlowsOf d tiling.now flows.now }
+    ensures { IfOk result (λ v. v.items ≡ targets_by tiling.now flows.now) }
+{
+    let count = number_count(tiling);
+    let mut targets = Vec::with_capacity(alloc, count as usize)?;
+    for number in 0..count {
+        targets.push(target_of(tiling, flows, number))?;
+    }
+    Ok(targets)
+}
+
+/// The target of a number.
+#[inline(always)]
+pub(crate) fn target_at(targets: &[Option<Place>], number: u32) -> Option<Place>
+    requires { number < length targets.now }
+    ensures { result ≡ slice_index_or targets.now number None }
+{
+    targets[number as usize]
+}
+
 // The number to which a number is linked: that of the exit over which its water leaves the next tile.
-fn link_of(tiling: &Tiling, flows: &[TileFlow], number: u32) -> u32
+fn link_of(tiling: &Tiling, flows: &[TileFlow], targets: &[Option<Place>], number: u32) -> u32
     requires flows { (d : Directed) × AreFlowsOf d tiling.now flows.now }
+    requires targets { targets.now ≡ targets_by tiling.now flows.now }
     requires number { number < number_count tiling.now }
     ensures { result ≡ rim_link tiling.now flows.now number }
 {
-    let Some(entry) = target_of(tiling, flows, number) else {
+    let Some(entry) = target_at(targets, number) else {
         return number;
     };
     match way_out(tiling, flows, entry) {
@@ -166,30 +195,39 @@ pub(crate) fn rim_links(
     alloc: Global,
     tiling: &Tiling,
     flows: &[TileFlow],
+    targets: &[Option<Place>],
 ) -> Result<Vec<u32>, AllocError>
-    requires { (d : Directed) × AreFlowsOf d tiling.now flows.now }
+    requires flows { (d : Directed) × AreFlowsOf d tiling.now flows.now }
+    requires targets { targets.now ≡ targets_by tiling.now flows.now }
     ensures { IfOk result (λ v. v.items ≡ rim_links_by tiling.now flows.now) }
 {
     let count = number_count(tiling);
     let mut links = Vec::with_capacity(alloc, count as usize)?;
     for number in 0..count {
-        links.push(link_of(tiling, flows, number))?;
+        links.push(link_of(tiling, flows, targets, number))?;
     }
     Ok(links)
 }
 
 // The exit of the place that the last of a number's links enters.
-fn outlet_of(tiling: &Tiling, flows: &[TileFlow], ends: &[u32], number: u32) -> Option<Place>
+fn outlet_of(
+    tiling: &Tiling,
+    flows: &[TileFlow],
+    targets: &[Option<Place>],
+    ends: &[u32],
+    number: u32,
+) -> Option<Place>
     requires flows { (d : Directed) × AreFlowsOf d tiling.now flows.now }
+    requires targets { targets.now ≡ targets_by tiling.now flows.now }
     requires number { number < number_count tiling.now }
     requires size { length ends.now ≡ number_count tiling.now }
     requires inside { (i : ℕ) → i < number_count tiling.now → slice_index ends.now i < number_count tiling.now }
     ensures { result ≡ rim_outlet tiling.now flows.now ends.now number }
 {
-    let Some(_) = target_of(tiling, flows, number) else {
+    let Some(_) = target_at(targets, number) else {
         return None;
     };
-    let Some(entry) = target_of(tiling, flows, ends[number as usize]) else {
+    let Some(entry) = target_at(targets, ends[number as usize]) else {
         return None;
     };
     exit_of(tiling, flows, entry)
@@ -200,9 +238,11 @@ fn rim_outlets(
     alloc: Global,
     tiling: &Tiling,
     flows: &[TileFlow],
+    targets: &[Option<Place>],
     ends: &[u32],
 ) -> Result<Vec<Option<Place>>, AllocError>
     requires flows { (d : Directed) × AreFlowsOf d tiling.now flows.now }
+    requires targets { targets.now ≡ targets_by tiling.now flows.now }
     requires size { length ends.now ≡ number_count tiling.now }
     requires inside { (i : ℕ) → i < number_count tiling.now → slice_index ends.now i < number_count tiling.now }
     ensures { IfOk result (λ v. v.items ≡ rim_outlets_by tiling.now flows.now ends.now) }
@@ -210,7 +250,7 @@ fn rim_outlets(
     let count = number_count(tiling);
     let mut outlets = Vec::with_capacity(alloc, count as usize)?;
     for number in 0..count {
-        outlets.push(outlet_of(tiling, flows, ends, number))?;
+        outlets.push(outlet_of(tiling, flows, targets, ends, number))?;
     }
     Ok(outlets)
 }

@@ -1,9 +1,14 @@
 // Numbers for the cells on the rims of all tiles.
-ghost use Rattle.std.specs.Prelude.{◌≡◌, ◌+◌, ◌*◌, ◌^◌, ◌<◌, ◌≤◌};
+ghost use Rattle.std.specs.Prelude.{◌≡◌, ◌+◌, ◌*◌, ◌^◌, ◌<◌, ◌≤◌, length, IfOk};
 ghost use Rattle.tiles.specs.Cutting.{IsInBounds, IsWithin, bounds_of, tile_count};
+ghost use Rattle.flow.specs.Streams.{AreStreams};
+ghost use Rattle.flow.specs.Finding.{AreFound};
 ghost use Rattle.flow.specs.TileLinks.{IsSmall};
 ghost use Rattle.flow.specs.RimNumbers.{stride, side_number, side_place, number_count, rim_number, rim_place};
 
+use crate::cells::index_of;
+use crate::ends::{find_end, unknown_ends};
+use std::alloc::{AllocError, Global};
 use terrain::Place;
 use tiles::{Bounds, Tiling};
 
@@ -45,6 +50,35 @@ pub(crate) fn rim_place(tiling: &Tiling, number: u32) -> Place
     let largest = tiling.bounds(0);
     let bounds = tiling.bounds(number / stride(largest));
     side_place(largest, bounds, number % stride(largest))
+}
+
+/// Where the paths of the cells on the rim of a tile end in it; of the other cells, the ends of those that they meet.
+pub(crate) fn rim_ends(alloc: Global, bounds: Bounds, links: &[u32]) -> Result<Vec<u32>, AllocError>
+    requires small { IsSmall bounds }
+    requires some_row { 1 ≤ bounds.rows }
+    requires size { length links.now ≡ bounds.rows * bounds.cols }
+    requires streams { AreStreams links.now }
+    requires few { length links.now ≤ 2 ^ 30 }
+    ensures { IfOk result (λ v. AreFound links.now v.items) }
+{
+    let mut ends = unknown_ends(alloc, links)?;
+    find_rim_ends(bounds, links, &mut ends);
+    Ok(ends)
+}
+
+fn find_rim_ends(bounds: Bounds, links: &[u32], ends: &mut [u32])
+    requires small { IsSmall bounds }
+    requires some_row { 1 ≤ bounds.rows }
+    requires size { length links.now ≡ bounds.rows * bounds.cols }
+    requires streams { AreStreams links.now }
+    requires few { length links.now ≤ 2 ^ 30 }
+    requires found { AreFound links.now ends.old }
+    ensures { AreFound links.now ends.new }
+{
+    for side in 0..stride(bounds) {
+        let place = side_place(bounds, bounds, side);
+        find_end(links, ends, index_of(bounds, place));
+    }
 }
 
 fn stride(largest: Bounds) -> u32

@@ -8,7 +8,8 @@ ghost use Rattle.flow.specs.Whole.{is_outlet_code};
 ghost use Rattle.flow.specs.RimGraph.{way_out_in};
 
 use crate::cells::{contains, index_of, place_at, tile_codes, tile_links, tile_weights};
-use crate::ends::ends;
+use crate::ends::{end_from, find_ends};
+use crate::rim::rim_ends;
 use crate::streams::upstream;
 use drainage::Code;
 use std::alloc::{AllocError, Global};
@@ -25,17 +26,18 @@ pub struct TileFlow {
     links: Vec<u32>,
     // What comes to each cell; empty where exits alone are asked for.
     came: Vec<u32>,
-    // The index of each cell's exit. A cell without data has no exit, and nothing comes to it.
+    // The index of each cell's exit, as far as it has been found: the links lead to it from any other cell. A cell
+    // without data has no exit, and nothing comes to it.
     ends: Vec<u32>,
 }
 
 impl Model for TileFlow {
     ghost use Rattle.flow.specs.TileFlow.{Flow};
-    ghost use Rattle.flow.specs.TileLinks.{AreFlowLists, flow_by};
+    ghost use Rattle.flow.specs.TileLinks.{AreFlowLists, ends_by, flow_by};
 
     ghost Value = { Flow };
 
-    ghost view = { λ f. flow_by f.bounds f.codes.items f.came.items f.ends.items };
+    ghost view = { λ f. flow_by f.bounds f.codes.items f.came.items (ends_by f.links.items) };
 
     ghost invariant = { λ f. AreFlowLists f.bounds f.codes.items f.links.items f.came.items f.ends.items };
 }
@@ -115,7 +117,8 @@ impl TileFlow {
         requires { index < length self.now.exits }
         ensures { result ≡ slice_index_or self.now.exits index None }
     {
-        where_data(self.codes[index], place_at(self.bounds, self.ends[index]))
+        let end = end_from(&self.links, &self.ends, index);
+        where_data(self.codes[index], place_at(self.bounds, end))
     }
 
     // The index of the exit of the cell with this index.
@@ -125,7 +128,15 @@ impl TileFlow {
         ensures value { result ≡ option_map (index_in self.now.bounds) (slice_index_or self.now.exits index None) }
         ensures below { IfSome result (λ exit. exit < length self.now.exits) }
     {
-        where_data(self.codes[index], self.ends[index])
+        let end = end_from(&self.links, &self.ends, index);
+        where_data(self.codes[index], end)
+    }
+
+    // Finds the exits of all cells, to be asked for one by one.
+    pub(crate) fn find_exits(&mut self)
+        ensures { self.new ≡ self.old }
+    {
+        find_ends(&self.links, &mut self.ends);
     }
 
     // Where water that enters the tile at a place leaves it again; None where it ends in the tile.
@@ -188,7 +199,7 @@ pub(crate) fn tile_exits(
     let bounds = codes.bounds();
     let cells = tile_codes(alloc, codes)?;
     let links = tile_links(alloc, bounds, &cells)?;
-    let ends = ends(alloc, &links)?;
+    let ends = rim_ends(alloc, bounds, &links)?;
     Ok(TileFlow {
         bounds,
         codes: cells,

@@ -5,22 +5,21 @@ use Rattle.flow.specs.Streams.{sum_below}
 use Rattle.flow.specs.RimNumbers.{number_count}
 use Rattle.flow.specs.Inflows.{sent_to, entering}
 use Rattle.flow.proofs.Sums.{sum_more, sum_below-part}
-use Rattle.flow.proofs.RimFlows.{targets_within}
 use Rattle.flow.proofs.inflows.send_all.Goals as goal
 
 pub send-requires-clause-within : goal.send-requires-clause-within
 send-requires-clause-within c =
-    subst (λ (o : Option Place). IfSome o (IsWithin c.args.tiling.now)) (sym c.target_of-target.ensures)
-    (targets_within c.requires.flows.0 c.args.tiling.now c.args.flows.now c.requires.flows.1 c.loop-number.number)
+    subst (λ (o : Option Place). IfSome o (IsWithin c.args.tiling.now)) (sym c.target_at-target.ensures)
+    (c.requires.within c.loop-number.number (omega (arith, c.loop-number-test.true, c.number_count-number-end.ensures.value)))
 
 pub send-requires-clause-fits : goal.send-requires-clause-fits
 send-requires-clause-fits c = λ k h.
     omega (
       arith,
       c.loop-number.invariant.each k h,
-      ap (λ (o : Option Place). sent_to c.args.tiling.now k o (get_or c.args.came.now c.loop-number.number 0 + get_or c.args.weights.now c.loop-number.number 0)) c.target_of-target.ensures,
-      sum_more (entering c.args.tiling.now c.args.flows.now c.args.weights.now c.args.came.now k) c.loop-number.number,
-      sum_below-part (entering c.args.tiling.now c.args.flows.now c.args.weights.now c.args.came.now k) (c.loop-number.number + 1) (number_count c.args.tiling.now)
+      ap (λ (o : Option Place). sent_to c.args.tiling.now k o (get_or c.args.came.now c.loop-number.number 0 + get_or c.args.weights.now c.loop-number.number 0)) c.target_at-target.ensures,
+      sum_more (entering c.args.tiling.now c.args.targets.now c.args.weights.now c.args.came.now k) c.loop-number.number,
+      sum_below-part (entering c.args.tiling.now c.args.targets.now c.args.weights.now c.args.came.now k) (c.loop-number.number + 1) (number_count c.args.tiling.now)
           (omega (arith, c.loop-number-test.true, c.number_count-number-end.ensures.value)),
       c.requires.few k,
     )
@@ -32,8 +31,8 @@ loop-number-preserved c = record {
     arith,
     c.send.ensures.each k h,
     c.loop-number.invariant.each k h,
-    ap (λ (o : Option Place). sent_to c.args.tiling.now k o (get_or c.args.came.now c.loop-number.number 0 + get_or c.args.weights.now c.loop-number.number 0)) c.target_of-target.ensures,
-    sum_more (entering c.args.tiling.now c.args.flows.now c.args.weights.now c.args.came.now k) c.loop-number.number,
+    ap (λ (o : Option Place). sent_to c.args.tiling.now k o (get_or c.args.came.now c.loop-number.number 0 + get_or c.args.weights.now c.loop-number.number 0)) c.target_at-target.ensures,
+    sum_more (entering c.args.tiling.now c.args.targets.now c.args.weights.now c.args.came.now k) c.loop-number.number,
   );
 }
 
@@ -42,5 +41,5 @@ returns c =
     let all : c.loop-number.number ≡ number_count c.args.tiling.now = omega (arith, c.loop-number-test.false, c.loop-number.auto.number-end, c.number_count-number-end.ensures.value) in
     record {
       size = c.loop-number.invariant.size;
-      each = λ k h. c.loop-number.invariant.each k h ∙ ap (sum_below (entering c.args.tiling.now c.args.flows.now c.args.weights.now c.args.came.now k)) all;
+      each = λ k h. c.loop-number.invariant.each k h ∙ ap (sum_below (entering c.args.tiling.now c.args.targets.now c.args.weights.now c.args.came.now k)) all;
     }
