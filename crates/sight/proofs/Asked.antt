@@ -92,6 +92,7 @@ looked_on cells f targets k old new were line sweep cursor = record {
 pub window_kept : (f : Family) (w : Window) (old new : List Bool) → length new ≡ length old → IsWindow f w old → IsWindow f w new
 window_kept f w old new size is = record {
   lines = is.lines;
+  first = is.first;
   side = is.side;
   strides = is.strides;
   inside = λ x y a b. omega (arith, is.inside x y a b);

@@ -13,6 +13,7 @@ IsInRun r x = (r.first ≤ x) × (x < r.first + r.cells)
 -- The window lies in the grid, and has a mark for each of its cells.
 pub record IsWindow (f : Family) (w : Window) (marks : List Bool) : Type 0 where
   pub lines : w.lines.first + w.lines.cells ≤ 4096
+  pub first : f.side.first ≤ w.side.first
   pub side : w.side.first + w.side.cells ≤ f.side.cells
   pub strides : (w.lines.stride ≤ 4096) × (w.side.stride ≤ 4096)
   pub inside : (x y : ℕ) → x < w.lines.cells → y < w.side.cells → x * w.lines.stride + y * w.side.stride < length marks

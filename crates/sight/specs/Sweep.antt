@@ -36,6 +36,7 @@ is_blocked_before cells f n y rise k = list_any (line_blocks cells f n y rise) (
 -- The numbers of a family are small enough to reckon with.
 pub record IsFamily (f : Family) : Type 0 where
   pub lines : f.lines.at < 4096
+  pub first : f.side.first ≤ f.side.at
   pub side : f.side.at < f.side.cells
   pub cells : f.side.cells ≤ 4096
   pub strides : (f.lines.stride ≤ 4096) × (f.side.stride ≤ 4096)
@@ -65,6 +66,7 @@ AreBefore targets k aside end = (i : ℕ) (t : Target) → i < end → slice_get
 -- The target is cell y of a line of the family.
 pub record StandsAt (f : Family) (y : ℕ) (t : Target) : Type 0 where
   pub aside : t.aside ≡ aside_of f y
+  pub first : f.side.first ≤ y
   pub side : y < f.side.cells
   pub line : IsLine f t.line
 

@@ -1,5 +1,5 @@
 // The lines of a family of crossings, and the ground that rays meet there.
-ghost use Rattle.std.specs.Prelude.{◌≡◌, ◌↔◌, ℕ, ◌^◌, ◌≤◌, IsTrue, true, pos, ◌+ℤ◌, ◌*ℤ◌, None, MatchOption, slice_index_or, unsigned_abs};
+ghost use Rattle.std.specs.Prelude.{◌≡◌, ◌↔◌, ℕ, ◌^◌, ◌≤◌, IsTrue, true, pos, ◌+ℤ◌, ◌-ℤ◌, ◌*ℤ◌, None, MatchOption, slice_index_or, unsigned_abs};
 ghost use Rattle.horizons.specs.declared.target.Target.{Target};
 ghost use Rattle.horizons.specs.Horizons.{IsTarget, IsRampAt, IsSlopeUpTo};
 ghost use Rattle.sight.specs.Sweep.{lead_of, ramp_of, IsFamily, IsLine, IsCell, Passes, Shows};
@@ -16,11 +16,12 @@ pub struct Lines {
     pub back: bool,
 }
 
-/// The coordinate along a line, which has so many cells.
+/// The coordinate along a line. The observer and all targets stand at cells from `first` on and before `cells`.
 #[derive(Clone, Copy)]
 pub struct Side {
     pub at: u32,
     pub stride: usize,
+    pub first: u32,
     pub cells: u32,
 }
 
@@ -63,6 +64,18 @@ fn is_at_centre(target: Target, line: u32, aside: i32) -> bool
     target.aside * line as i32 == aside * target.line as i32
 }
 
+/// The ramp over targets that a line has nothing to tell of: above all ground, so that it is one piece from then on.
+#[inline(always)]
+pub(crate) fn passed() -> Ramp
+    ensures { (t : Target) → IsTarget t → IsRampAt result t }
+{
+    Ramp {
+        gain: 0,
+        level: 1 << 36,
+        lines: 1,
+    }
+}
+
 #[inline(always)]
 pub(crate) fn height_at(cells: &[Option<Height>], index: usize) -> Option<Height>
     ensures { result ≡ slice_index_or cells.now index None }
@@ -74,6 +87,26 @@ pub(crate) fn height_at(cells: &[Option<Height>], index: usize) -> Option<Height
 }
 
 impl Family {
+    /// How far aside the first cell of the side is.
+    #[inline(always)]
+    pub(crate) fn first_aside(self) -> i32
+        requires family { IsFamily self }
+        ensures value { result ≡ pos self.side.first -ℤ pos self.side.at }
+        ensures small { unsigned_abs result ≤ 4096 }
+    {
+        self.side.first as i32 - self.side.at as i32
+    }
+
+    /// How far aside the cell past the last one is.
+    #[inline(always)]
+    pub(crate) fn end_aside(self) -> i32
+        requires family { IsFamily self }
+        ensures value { result ≡ pos self.side.cells -ℤ pos self.side.at }
+        ensures small { unsigned_abs result ≤ 4096 }
+    {
+        self.side.cells as i32 - self.side.at as i32
+    }
+
     /// Where a line stands.
     #[inline(always)]
     pub(crate) fn lead_of(self, line: u32) -> u32

@@ -1,10 +1,10 @@
 // The ground of a line, as the rays to many targets meet it.
-ghost use Rattle.std.specs.Prelude.{◌≡◌, ℕ, ◌+◌, ◌^◌, ◌<◌, ◌≤◌, IsTrue, ◌↔◌, pos, ◌*ℤ◌, ◌<ℤ◌, length, Some, OnOk, slice_get, unsigned_abs};
+ghost use Rattle.std.specs.Prelude.{◌≡◌, ℕ, ◌+◌, ◌^◌, ◌<◌, ◌≤◌, IsTrue, ◌↔◌, pos, ◌-ℤ◌, ◌*ℤ◌, ◌<ℤ◌, length, Some, OnOk, slice_get, unsigned_abs};
 ghost use Rattle.horizons.specs.declared.target.Target.{Target};
 ghost use Rattle.horizons.specs.Horizons.{IsTarget, AreTargets, extent};
 ghost use Rattle.sight.specs.Sweep.{IsBefore, AreBefore, IsFamily, IsLine, ShowsBelow};
 
-use crate::family::Family;
+use crate::family::{Family, passed};
 use horizons::{Horizon, Target};
 use std::alloc::AllocError;
 use terrain::Height;
@@ -67,6 +67,21 @@ fn count_before(targets: &[Target], from: usize, line: u32, aside: i32) -> usize
     halved(targets, low, targets.len(), line, aside)
 }
 
+/// How many targets have rays before the first cell of the side. They stand no farther than the line.
+fn count_passed(family: Family, line: u32, targets: &[Target]) -> usize
+    requires family { IsFamily family }
+    requires line { line ≤ 4096 }
+    requires targets { AreTargets targets.now }
+    ensures range { result ≤ length targets.now }
+    ensures before { AreBefore targets.now line (pos family.side.first -ℤ pos family.side.at) result }
+{
+    let first = family.first_aside();
+    if targets.is_empty() || !is_before(targets[0], line, first) {
+        return 0;
+    }
+    count_before(targets, 0, line, first)
+}
+
 /// Lays the ground of a line over the targets.
 pub(crate) fn lay_ground(
     cells: &[Option<Height>],
@@ -82,9 +97,13 @@ pub(crate) fn lay_ground(
         × ShowsBelow cells.now family targets.now line (length targets.now) ground.new) }
 {
     ground.clear();
-    let mut from = 0;
+    let mut from = count_passed(family, line, targets);
+    ground.push(from, passed())?;
     while from < targets.len() {
         let span = family.span(cells, line, targets[from]);
+        if span.aside >= family.end_aside() {
+            return ground.push(targets.len(), passed());
+        }
         let end = if span.alone {
             from + 1
         } else {

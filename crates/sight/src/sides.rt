@@ -85,7 +85,8 @@ impl<'a> Viewing<'a> {
             side: Side {
                 at: observer.row,
                 stride: self.grid.cols() as usize,
-                cells: self.grid.rows(),
+                first: observer.row.min(bounds.top),
+                cells: (observer.row + 1).max(bounds.top + bounds.rows),
             },
             eye,
         };
@@ -133,7 +134,8 @@ impl<'a> Viewing<'a> {
             side: Side {
                 at: observer.col,
                 stride: 1,
-                cells: self.grid.cols(),
+                first: observer.col.min(bounds.left),
+                cells: (observer.col + 1).max(bounds.left + bounds.cols),
             },
             eye,
         };

@@ -1,19 +1,37 @@
-use Rattle.std.proofs.Common.{arith, sym, ap, ◌∙◌, subst, length, ◌≡◌, ℕ, ◌<◌, ◌≤◌, pos, ◌+ℤ◌, get_or, Some}
+use Rattle.std.proofs.Common.{arith, sym, ap, ◌∙◌, subst, length, ◌≡◌, ℕ, ◌<◌, ◌≤◌, pos, ◌+ℤ◌, ◌-ℤ◌, ◌≤ℤ◌, get_or, Some}
 use Rattle.std.specs.Prelude.{slice_get}
 use Rattle.std.proofs.lemmas.Int.{ints}
+use Rattle.std.proofs.lemmas.Result.{on_ok_weaker}
 use Rattle.std.proofs.lemmas.Option.{slice_get-get_or, same_Some}
 use Rattle.horizons.specs.declared.target.Target.{Target}
 use Rattle.horizons.proofs.Sizes.{back_short}
 use Rattle.horizons.proofs.Straight.{slope_up}
 use Rattle.sight.specs.Sweep.{AreBefore, Passes, Shows}
-use Rattle.sight.proofs.Laid.{before_to, passes_onward, none_laid, more_laid}
+use Rattle.sight.proofs.Laid.{before_to, passes_onward, low_laid, high_laid, more_laid}
 use Rattle.sight.proofs.line_ground.lay_ground.Goals as goal
 use Rattle.sight.proofs.line_ground.lay_ground.Goals.{then-span, else-span}
 
 pub loop-from-init : goal.loop-from-init
 loop-from-init c =
-    let none = none_laid c.args.cells.now c.args.family c.args.targets.now c.args.line c.clear.new.self c.clear.ensures in
-    record { within = omega arith; extent = none.0; shows = none.1 }
+    let laid = low_laid c.args.cells.now c.args.family c.args.targets.now c.args.line c.count_passed-from.result c.passed.result c.clear.new.self c.push.new.self c.clear.ensures c.requires.family c.requires.targets c.in_ok-push.ensures
+    c.count_passed-from.ensures.before c.passed.ensures in
+    record { within = c.count_passed-from.ensures.range; extent = laid.0; shows = laid.1 }
+
+pub returns-then-span-end_aside : goal.returns-then-span-end_aside
+returns-then-span-end_aside c =
+    let targets = c.args.targets.now in
+    let f = c.args.family in
+    let from = c.loop-from.from in
+    let span = c.span-span.result in
+    let u = get_or targets from (record { aside = pos 0; line = 0 }) in
+    let at_u : slice_get targets from ≡ Some u = slice_get-get_or targets from (record { aside = pos 0; line = 0 }) (omega arith) in
+    let back = back_short span.aside (omega (arith, c.span-span.ensures.small)) in
+    let end_back = back_short c.end_aside.result (omega (arith, c.end_aside.ensures.small)) in
+    let past : (pos f.side.cells -ℤ pos f.side.at) ≤ℤ span.aside = omega (arith, ints, (rw (end_back, back) at c.if-span-end_aside.true), c.end_aside.ensures.value) in
+    on_ok_weaker c.push-then-span-end_aside.result
+    (high_laid c.args.cells.now f targets c.args.line from span.aside u c.passed-then-span-end_aside.result c.loop-from.ground c.push-then-span-end_aside.new.self c.requires.line.0 c.requires.family c.requires.targets at_u c.span-span.ensures.passes past
+    c.loop-from.invariant.extent c.loop-from-test.true c.passed-then-span-end_aside.ensures c.loop-from.invariant.shows)
+    c.push-then-span-end_aside.ensures
 
 pub span-span-requires-clause-target : goal.span-span-requires-clause-target
 span-span-requires-clause-target c =
@@ -65,5 +83,5 @@ loop-from-preserved c =
                 (λ yes. let no = w.if-span.false in absurd (cc)),
           )
     ] in
-    let more = more_laid cells f targets k from end span.ramp c.loop-from.ground c.push.new.self c.loop-from.invariant.extent laid.0 c.in_ok-push.ensures c.loop-from.invariant.shows laid.2 in
+    let more = more_laid cells f targets k from end span.ramp c.loop-from.ground c.push-in-loop-from.new.self c.loop-from.invariant.extent laid.0 c.in_ok-push-2.ensures c.loop-from.invariant.shows laid.2 in
     record { within = laid.1; extent = more.0; shows = more.1 }

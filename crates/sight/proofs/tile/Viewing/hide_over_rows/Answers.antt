@@ -14,7 +14,7 @@ hide_on_both_sides-requires-clause-window c =
     let t = self.grid.now.terrain in
     let b = c.args.bounds in
     let back = to_z-of_z w64 c.args.eye (search rules) in
-    rw (c.cols.ensures.value, c.cols-2.ensures.value, back)
+    rw (c.cols.ensures.value, back, c.min.ensures, c.max.ensures)
     (rows_window t (place_of c.args.observer.now) c.args.eye b c.args.marks.now c.cols.ensures.lawful.terrain (omega (arith, c.requires.inside.rows_inside, self.cut)) (omega (arith, c.requires.inside.cols_inside, self.cut)) c.requires.size)
 
 pub returns : goal.returns
@@ -24,8 +24,8 @@ returns c =
     let b = c.args.bounds in
     let p = place_of c.args.observer.now in
     let back = to_z-of_z w64 c.args.eye (search rules) in
-    let told = rw (c.cols.ensures.value, c.cols-2.ensures.value, back, c.cells-cells.ensures.value) at c.hide_on_both_sides.ensures in
+    let told = rw (c.cols.ensures.value, back, c.min.ensures, c.max.ensures, c.cells-cells.ensures.value) at c.hide_on_both_sides.ensures in
     on_ok_weaker c.hide_on_both_sides.result
-    (λ (are : AreOpen t.cells (rows_from t p c.args.eye) (by_rows b) self.target_height c.args.marks.now c.hide_on_both_sides.new.marks).
+    (λ (are : AreOpen t.cells (rows_from t b p c.args.eye) (by_rows b) self.target_height c.args.marks.now c.hide_on_both_sides.new.marks).
     rows_left t p b c.args.eye self.target_height c.args.marks.now c.hide_on_both_sides.new.marks c.requires.observer (omega (arith, c.requires.inside.rows_inside, self.cut)) (omega (arith, c.requires.inside.cols_inside, self.cut)) are)
     told
