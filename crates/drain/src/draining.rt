@@ -20,7 +20,7 @@ use std::sync::Wait;
 use std::thread::Threads;
 use terrain::{Grid, Height, NoMemory};
 use tile_jobs::{Gate, JobFault};
-use tile_maps::Crew;
+use tile_maps::{Crew, joined};
 use tiles::{TileView, Tiling};
 
 /// One round over one tile, as far as it can go.
@@ -61,24 +61,6 @@ pub fn flat_steps(
 {
     let counts = round(alloc, levels, steps)?;
     Ok(counts)
-}
-
-/// How many tiles stand in a row or a column at most, where small ones are joined.
-const MOST_ACROSS: u32 = 16;
-
-/// The tiles of the rounds: those of the grid's own cutting, unless they are so many that the jobs would cost more than
-/// the cells. Then larger ones.
-fn joined(tiling: &Tiling) -> Tiling
-    ensures { (t : Terrain) → Cuts tiling.now t → Cuts result t }
-{
-    if tiling.tiles() <= MOST_ACROSS * MOST_ACROSS {
-        return *tiling;
-    }
-    let longest = tiling.cols().max(tiling.rows());
-    match Tiling::new(tiling.cols(), tiling.rows(), longest.div_ceil(MOST_ACROSS)) {
-        Ok(larger) => larger,
-        Err(_) => *tiling,
-    }
 }
 
 /// The steps of each cell of a filled grid, which is within the limits.

@@ -18,7 +18,7 @@ use std::sync::Wait;
 use std::thread::Threads;
 use terrain::{Grid, Height, NoMemory};
 use tile_jobs::{Gate, JobFault, Work};
-use tile_maps::{Crew, TileMap};
+use tile_maps::{Crew, TileMap, joined};
 use tiles::Tiling;
 
 /// Floods each tile.
@@ -177,10 +177,15 @@ pub fn filled<R: Threads + Wait + Sync, G: Gate + Sync>(
         workers,
         gate,
     };
-    let floods = crew.run(&FloodTiles { grid, tiling }, tiling.tiles())?;
-    let levels = label_levels(&crew, grid, tiling, &floods)?;
+    let tiling = joined(tiling);
+    let work = FloodTiles {
+        grid,
+        tiling: &tiling,
+    };
+    let floods = crew.run(&work, tiling.tiles())?;
+    let levels = label_levels(&crew, grid, &tiling, &floods)?;
     let cells = crew.made(Raised {
-        tiling,
+        tiling: &tiling,
         floods,
         levels,
     })?;

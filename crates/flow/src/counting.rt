@@ -20,7 +20,7 @@ use std::sync::Wait;
 use std::thread::Threads;
 use terrain::NoMemory;
 use tile_jobs::{Gate, JobFault};
-use tile_maps::{Crew, TileMap};
+use tile_maps::{Crew, TileMap, joined};
 use tiles::Tiling;
 
 /// The accumulations, of the flows of all tiles and what flows into them.
@@ -72,10 +72,11 @@ pub fn accumulation<R: Threads + Wait + Sync, G: Gate + Sync>(
         workers,
         gate,
     };
-    let flows = flow_tiles(&crew, d.codes(), tiling, true)?;
-    let inflows = Inflows::join(alloc, tiling, &flows)?;
+    let tiling = joined(tiling);
+    let flows = flow_tiles(&crew, d.codes(), &tiling, true)?;
+    let inflows = Inflows::join(alloc, &tiling, &flows)?;
     crew.made(Counting {
-        tiling,
+        tiling: &tiling,
         flows,
         inflows,
     })

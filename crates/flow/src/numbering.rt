@@ -20,7 +20,7 @@ use std::sync::Wait;
 use std::thread::Threads;
 use terrain::{NoMemory, Place};
 use tile_jobs::{Gate, JobFault};
-use tile_maps::{Crew, TileMap};
+use tile_maps::{Crew, TileMap, joined};
 use tiles::Tiling;
 
 /// The basins, of the exits of all tiles, their outlets and the outlets' numbers.
@@ -125,11 +125,12 @@ pub fn basins<R: Threads + Wait + Sync, G: Gate + Sync>(
         gate,
     };
     let codes = d.codes();
-    let flows = flow_tiles(&crew, codes, tiling, false)?;
-    let outlets = Outlets::join(alloc, tiling, &flows)?;
+    let tiling = joined(tiling);
+    let flows = flow_tiles(&crew, codes, &tiling, false)?;
+    let outlets = Outlets::join(alloc, &tiling, &flows)?;
     let numbers = OutletNumbers::of_codes(&crew, codes, tiling.tiles())?;
     crew.made(Numbering {
-        tiling,
+        tiling: &tiling,
         flows,
         outlets,
         numbers,

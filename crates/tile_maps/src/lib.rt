@@ -4,7 +4,9 @@
 #![tactic(auto)]
 
 mod crew;
+mod joining;
 mod map;
 
 pub use crew::Crew;
+pub use joining::joined;
 pub use map::TileMap;

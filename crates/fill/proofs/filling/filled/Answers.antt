@@ -7,35 +7,35 @@ use Rattle.fill.proofs.filling.filled.Goals as goal
 pub invariant_of-made : goal.invariant_of-made
 invariant_of-made g c =
     let t = c.args.grid.now.terrain in
-    let k = c.args.tiling.now in
+    let k = c.joined-tiling.result in
     let v = c.in_ok-floods.floods in
-    let are : AreFloods t k v.items = floods_given t k v.items c.tiles.ensures.lawful c.requires (omega (arith, v.ok.0, c.in_ok-floods.ensures.len, c.tiles.ensures.value)) (λ j d below. c.in_ok-floods.ensures.given j d (omega (arith, below, c.tiles.ensures.value))) in
+    let are : AreFloods t k v.items = floods_given t k v.items c.tiles.ensures.lawful (c.joined-tiling.ensures c.args.grid.now.terrain c.requires) (omega (arith, v.ok.0, c.in_ok-floods.ensures.len, c.tiles.ensures.value)) (λ j d below. c.in_ok-floods.ensures.given j d (omega (arith, below, c.tiles.ensures.value))) in
     let spill = rw c.deref.ensures.value at c.in_ok-levels.ensures.levels in
     record { size = spill.2.1.levels_size ∙ spill.1.count; fit = fit_of t k v.items are.lawful are; lawful = are.lawful }
 
 pub with_own_cells-requires-clause-heights : goal.with_own_cells-requires-clause-heights
 with_own_cells-requires-clause-heights g c =
     let t = c.args.grid.now.terrain in
-    let k = c.args.tiling.now in
+    let k = c.joined-tiling.result in
     let v = c.in_ok-floods.floods in
-    let are : AreFloods t k v.items = floods_given t k v.items c.tiles.ensures.lawful c.requires (omega (arith, v.ok.0, c.in_ok-floods.ensures.len, c.tiles.ensures.value)) (λ j d below. c.in_ok-floods.ensures.given j d (omega (arith, below, c.tiles.ensures.value))) in
+    let are : AreFloods t k v.items = floods_given t k v.items c.tiles.ensures.lawful (c.joined-tiling.ensures c.args.grid.now.terrain c.requires) (omega (arith, v.ok.0, c.in_ok-floods.ensures.len, c.tiles.ensures.value)) (λ j d below. c.in_ok-floods.ensures.given j d (omega (arith, below, c.tiles.ensures.value))) in
     let spill = rw c.deref.ensures.value at c.in_ok-levels.ensures.levels in
     filled_stand t c.in_ok-cells.cells.items (filled_map t k v.items _ c.in_ok-cells.cells.items are spill c.in_ok-cells.ensures.made)
 
 pub from_grid-requires : goal.from_grid-requires
 from_grid-requires g c =
     let t = c.args.grid.now.terrain in
-    let k = c.args.tiling.now in
+    let k = c.joined-tiling.result in
     let v = c.in_ok-floods.floods in
-    let are : AreFloods t k v.items = floods_given t k v.items c.tiles.ensures.lawful c.requires (omega (arith, v.ok.0, c.in_ok-floods.ensures.len, c.tiles.ensures.value)) (λ j d below. c.in_ok-floods.ensures.given j d (omega (arith, below, c.tiles.ensures.value))) in
+    let are : AreFloods t k v.items = floods_given t k v.items c.tiles.ensures.lawful (c.joined-tiling.ensures c.args.grid.now.terrain c.requires) (omega (arith, v.ok.0, c.in_ok-floods.ensures.len, c.tiles.ensures.value)) (λ j d below. c.in_ok-floods.ensures.given j d (omega (arith, below, c.tiles.ensures.value))) in
     let spill = rw c.deref.ensures.value at c.in_ok-levels.ensures.levels in
     (filled_grid c.args.grid.now c.in-Ok.filled c.in_ok-cells.cells.items c.in-Ok.ensures (filled_map t k v.items _ c.in_ok-cells.cells.items are spill c.in_ok-cells.ensures.made)).0
 
 pub returns-clause-filled : goal.returns-clause-filled
 returns-clause-filled g c =
     let t = c.args.grid.now.terrain in
-    let k = c.args.tiling.now in
+    let k = c.joined-tiling.result in
     let v = c.in_ok-floods.floods in
-    let are : AreFloods t k v.items = floods_given t k v.items c.tiles.ensures.lawful c.requires (omega (arith, v.ok.0, c.in_ok-floods.ensures.len, c.tiles.ensures.value)) (λ j d below. c.in_ok-floods.ensures.given j d (omega (arith, below, c.tiles.ensures.value))) in
+    let are : AreFloods t k v.items = floods_given t k v.items c.tiles.ensures.lawful (c.joined-tiling.ensures c.args.grid.now.terrain c.requires) (omega (arith, v.ok.0, c.in_ok-floods.ensures.len, c.tiles.ensures.value)) (λ j d below. c.in_ok-floods.ensures.given j d (omega (arith, below, c.tiles.ensures.value))) in
     let spill = rw c.deref.ensures.value at c.in_ok-levels.ensures.levels in
     rw c.from_grid.ensures (filled_grid c.args.grid.now c.in-Ok.filled c.in_ok-cells.cells.items c.in-Ok.ensures (filled_map t k v.items _ c.in_ok-cells.cells.items are spill c.in_ok-cells.ensures.made)).1
