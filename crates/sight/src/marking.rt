@@ -5,12 +5,15 @@ ghost use Rattle.tiles.specs.Cutting.{AreBounds, IsCutting};
 ghost use Rattle.sight.specs.Sight.{highest_eye, place_of};
 ghost use Rattle.sight.specs.Marks.{AreMarkedBelow, AreMarked, TellsSeen, TellsSeenIfOpen};
 
-use crate::line::may_see;
+use crate::line::{may_see, sees_past_blocks};
 use crate::observer::Observer;
 use crate::tile::Viewing;
 use std::alloc::{AllocError, Global};
 use terrain::Place;
 use tiles::Bounds;
+
+/// How many cells of a tile are asked before it is looked at.
+const SAMPLES: u32 = 64;
 
 impl<'a> Viewing<'a> {
     /// Marks the cells of a tile that an observer sees, and no other.
@@ -29,8 +32,75 @@ impl<'a> Viewing<'a> {
         ensures { OnOk result (AreMarked bounds
             (TellsSeen self.now.grid.now.terrain observer.now self.now.target_height self.now.radius) seen.new) }
     {
+        if !self.is_mostly_open(observer, bounds) {
+            self.walk(observer, bounds, seen);
+            return Ok(());
+        }
         self.mark(observer, bounds, seen);
         self.hide_blocked(alloc, observer, bounds, seen)
+    }
+
+    /// Whether of a sample of a tile's cells the crossings beside them hide at most a quarter. Then lines of sight are long
+    /// and near the ground, and one sweep over all cells costs less than a walk to each.
+    fn is_mostly_open(&self, observer: &Observer, bounds: Bounds) -> bool
+        requires lawful { IsCutting self.now.tiling.now }
+        requires inside { AreBounds self.now.tiling.now bounds }
+        requires observer { IsInside self.now.grid.now.terrain (place_of observer.now) }
+        requires eye { observer.now.eye ≤ highest_eye }
+    {
+        let mut open = 0;
+        for step in 0..SAMPLES {
+            let place = Place {
+                row: bounds.top + step * 37 % bounds.rows,
+                col: bounds.left + step * 61 % bounds.cols,
+            };
+            if may_see(self.grid, observer, place, self.target_height, self.radius) {
+                open += 1;
+            }
+        }
+        open * 4 >= SAMPLES * 3
+    }
+
+    /// Marks the cells of a tile that an observer sees, by a walk along each line of sight.
+    fn walk(&self, observer: &Observer, bounds: Bounds, seen: &mut [bool])
+        requires lawful { IsCutting self.now.tiling.now }
+        requires inside { AreBounds self.now.tiling.now bounds }
+        requires observer { IsInside self.now.grid.now.terrain (place_of observer.now) }
+        requires eye { observer.now.eye ≤ highest_eye }
+        requires size { length seen.old ≡ bounds.rows * bounds.cols }
+        ensures { AreMarked bounds
+            (TellsSeen self.now.grid.now.terrain observer.now self.now.target_height self.now.radius) seen.new }
+    {
+        for row in bounds.top..bounds.top + bounds.rows {
+            self.walk_along(observer, bounds, row, seen);
+        }
+    }
+
+    /// The same along one row of the tile.
+    fn walk_along(&self, observer: &Observer, bounds: Bounds, row: u32, seen: &mut [bool])
+        requires lawful { IsCutting self.now.tiling.now }
+        requires inside { AreBounds self.now.tiling.now bounds }
+        requires observer { IsInside self.now.grid.now.terrain (place_of observer.now) }
+        requires eye { observer.now.eye ≤ highest_eye }
+        requires row { (bounds.top ≤ row) × (row < bounds.top + bounds.rows) }
+        requires seen { AreMarkedBelow bounds
+            (TellsSeen self.now.grid.now.terrain observer.now self.now.target_height self.now.radius)
+            ((row - bounds.top) * bounds.cols) seen.old }
+        ensures { AreMarkedBelow bounds
+            (TellsSeen self.now.grid.now.terrain observer.now self.now.target_height self.now.radius)
+            ((row + 1 - bounds.top) * bounds.cols) seen.new }
+    {
+        let first = (row - bounds.top) as usize * bounds.cols as usize;
+        for col in bounds.left..bounds.left + bounds.cols {
+            seen[first + (col - bounds.left) as usize] = sees_past_blocks(
+                self.grid,
+                self.tops,
+                observer,
+                Place { row, col },
+                self.target_height,
+                self.radius,
+            );
+        }
     }
 
     /// Marks the cells of a tile that the observer sees unless a crossing blocks the line of sight.

@@ -1,4 +1,4 @@
-use Rattle.std.proofs.Common.{◌≡◌, ◌-◌, ℕ, ◌∙◌, sym, arith}
+use Rattle.std.proofs.Common.{◌-◌, ◌∙◌, sym, arith}
 use Rattle.sight.specs.Walk.{step_blocks, steps_of}
 use Rattle.sight.proofs.Ranges.{any_within}
 use Rattle.sight.proofs.line.is_blocked_at_once.Goals as goal

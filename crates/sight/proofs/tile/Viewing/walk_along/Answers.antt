@@ -1,0 +1,33 @@
+use Rattle.std.proofs.Common.{◌≡◌, ◌+◌, ◌-◌, ◌*◌, ℕ, set, ap, subst, arith}
+use Rattle.terrain.proofs.Places.{make_place}
+use Rattle.tile_maps.specs.Maps.{index_within}
+use Rattle.tile_maps.proofs.TileLists.{within_below}
+use Rattle.sight.specs.Marks.{AreMarkedBelow, TellsSeen}
+use Rattle.sight.proofs.Marked.{marked_more}
+use Rattle.sight.proofs.tile.Viewing.walk_along.Goals as goal
+
+pub bounds-seen-first : goal.bounds-seen-first
+bounds-seen-first c =
+    let b = c.args.bounds in
+    let below = within_below b (make_place c.args.row c.loop-col.col) (omega (arith, c.requires.row), omega (arith, c.requires.row), omega arith, omega arith) in
+    omega (arith, below, c.loop-col.invariant.size)
+
+pub loop-col-preserved : goal.loop-col-preserved
+loop-col-preserved c =
+    let self = c.args.self.now in
+    let b = c.args.bounds in
+    let Says = TellsSeen self.grid.now.terrain c.args.observer.now self.target_height self.radius in
+    let p = make_place c.args.row c.loop-col.col in
+    let at : (c.args.row - b.top) * b.cols + (c.loop-col.col - b.left) ≡ index_within b p = omega arith in
+    let next : (c.args.row - b.top) * b.cols + (c.loop-col.col - b.left) + 1 ≡ (c.args.row - b.top) * b.cols + (c.loop-col.col + 1 - b.left) = omega arith in
+    let more = marked_more b Says p c.loop-col.seen ((c.args.row - b.top) * b.cols + (c.loop-col.col - b.left)) c.sees_past_blocks.result (omega (arith, c.requires.row), omega (arith, c.requires.row), omega arith, omega arith) at c.loop-col.invariant c.sees_past_blocks.ensures in
+    subst (λ (n : ℕ). AreMarkedBelow b Says n (set c.loop-col.seen ((c.args.row - b.top) * b.cols + (c.loop-col.col - b.left)) c.sees_past_blocks.result)) next more
+
+pub returns : goal.returns
+returns c =
+    let self = c.args.self.now in
+    let b = c.args.bounds in
+    let up : c.args.row + 1 - b.top ≡ (c.args.row - b.top) + 1 = omega (arith, c.requires.row) in
+    let wide : c.loop-col.col - b.left ≡ b.cols = omega arith in
+    let all : (c.args.row - b.top) * b.cols + (c.loop-col.col - b.left) ≡ (c.args.row + 1 - b.top) * b.cols = omega (arith, wide, ap (λ (n : ℕ). n * b.cols) up) in
+    subst (λ (n : ℕ). AreMarkedBelow b (TellsSeen self.grid.now.terrain c.args.observer.now self.target_height self.radius) n c.loop-col.seen) all c.loop-col.invariant
