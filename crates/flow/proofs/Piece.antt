@@ -1,5 +1,5 @@
 -- The flow of a tile, of the lists that are made for it.
-use Rattle.std.proofs.Common.{◌≡◌, ℕ, ◌*◌, ◌^◌, ◌<◌, ◌≤◌, inl, inr, List, length, get_or, Option, None, Some, is_some, MatchOption, cond, sym, ap, subst, refl, ◌∙◌, arith}
+use Rattle.std.proofs.Common.{◌≡◌, ℕ, ◌+◌, ◌*◌, ◌^◌, ◌<◌, ◌≤◌, inl, inr, List, length, get_or, Option, None, Some, is_some, MatchOption, cond, sym, ap, subst, refl, ◌∙◌, arith}
 use Rattle.std.proofs.Math.Nat.{mul-le-mul}
 use Rattle.std.proofs.lemmas.Bool.{cond-true}
 use Rattle.std.proofs.Math.ListN.{length-map}
@@ -7,7 +7,7 @@ use Rattle.std.proofs.lemmas.List.{get_or-map}
 use Rattle.std.proofs.lemmas.List.FromFn.{get_or-map-range_with_len, length-map-range_with_len}
 use Rattle.terrain.specs.declared.place.Place.{Place}
 use Rattle.tiles.specs.declared.bounds.Bounds.{Bounds}
-use Rattle.tiles.specs.Cutting.{Cutting, IsCutting, View, IsView, AreBounds, IsInBounds, bounds_of, tile_count}
+use Rattle.tiles.specs.Cutting.{Cutting, IsCutting, longest_axis, View, IsView, AreBounds, IsInBounds, bounds_of, tile_count}
 use Rattle.tiles.proofs.Cut.{places_from_value, in_bounds, bounds_inside, in_bounds_from}
 use Rattle.tiles.proofs.TileOrder.{place_in_tile, index_in-place_in, index_in_below, place_in-index_in}
 use Rattle.drainage.specs.Following.{Directed, code_at}
@@ -48,17 +48,20 @@ ends_are links = record {
   each = λ i h. get_or-map-range_with_len (end_of links) 0 (length links) i i 0 h (omega arith);
 }
 
+few_cells : (b : Bounds) → b.top + b.rows ≤ longest_axis → b.left + b.cols ≤ longest_axis → b.rows * b.cols ≤ 2 ^ 24
+few_cells b rows cols =
+    let r : b.rows ≤ 4096 = omega (arith, rows) in
+    let k : b.cols ≤ 4096 = omega (arith, cols) in
+    let most : b.rows * b.cols ≤ 4096 * 4096 = mul-le-mul r k in
+    omega arith
+
 -- what the lists of a flow have together
 module _ (b : Bounds) (cells : List (Option ℕ)) (links came ends : List ℕ) (s : AreFlowLists b cells links came ends) where
   pub as_many_links : length links ≡ length cells
   as_many_links = ap length s.linked ∙ length-map-range_with_len (λ i. link_by b i (get_or cells i None)) 0 (b.rows * b.cols) ∙ sym s.lawful.codes_size
 
   pub few_links : length links ≤ 2 ^ 24
-  few_links =
-      let r : b.rows ≤ 4096 = omega (arith, s.lawful.few_rows) in
-      let k : b.cols ≤ 4096 = omega (arith, s.lawful.few_cols) in
-      let most : b.rows * b.cols ≤ 4096 * 4096 = mul-le-mul r k in
-      omega (arith, as_many_links, s.lawful.codes_size)
+  few_links = omega (arith, as_many_links, s.lawful.codes_size, few_cells b s.lawful.few_rows s.lawful.few_cols)
 
   pub end_below : (i : ℕ) → i < length cells → end_of links i < b.rows * b.cols
   end_below i h = omega (arith, end-inside links s.streams i (omega (arith, h, as_many_links)), as_many_links, s.lawful.codes_size)
@@ -121,12 +124,7 @@ module _ (v : View (Option ℕ)) (b : Bounds) (cells : List (Option ℕ)) (links
   streams = tile_streams (directed_by v) v.cutting v.tile b links piece
 
   pub few : length links ≤ 2 ^ 24
-  few =
-      let small = small_from v b s.inside s.lawful in
-      let r : b.rows ≤ 4096 = omega (arith, small.few_rows) in
-      let k : b.cols ≤ 4096 = omega (arith, small.few_cols) in
-      let most : b.rows * b.cols ≤ 4096 * 4096 = mul-le-mul r k in
-      omega (arith, piece.made.size)
+  few = let small = small_from v b s.inside s.lawful in omega (arith, piece.made.size, few_cells b small.few_rows small.few_cols)
 
   ending : IsEnding (directed_by v)
   ending = ending_of (directed_by v) v.cutting s.ends s.lawful.cutting (refl, refl)
@@ -175,12 +173,6 @@ module _ (v : View (Option ℕ)) (b : Bounds) (cells : List (Option ℕ)) (links
         ∙ ap (through_of (directed_by v) v.cutting) at
 
   module _ (ends : List ℕ) (last : AreEnds links ends) where
-    pub ends_size : length ends ≡ length cells
-    ends_size = last.size ∙ sizes
-
-    pub ends_inside : (i : ℕ) → i < length cells → get_or ends i 0 < b.rows * b.cols
-    ends_inside i h = omega (arith, last.each i (omega (arith, h, sizes)), end-inside links streams i (omega (arith, h, sizes)), piece.made.size)
-
     exit_entry : (p : Place) → IsInBounds b p → entry_in b (exits_by b cells ends) p ≡ where_data (code_at (directed_by v) p) (place_in b (get_or ends (index_in b p) 0))
     exit_entry p h =
         entry_is (exits_by b cells ends) p h

@@ -12,7 +12,7 @@ ghost use Rattle.flow.specs.RimGraph.{AreFlowsOf, stands_for, targets_by};
 ghost use Rattle.flow.specs.Inflows.{AreEntering, AreInflows, adds, entering, inflow_by, inflow_in, rim_weight, rim_weights_by, sent_to, through_by};
 
 use crate::cells::{contains, index_of};
-use crate::outlets::{is_place, rim_links, rim_targets, stands_for, target_at};
+use crate::outlets::{is_place, rim_links, rim_targets, stands_for};
 use crate::rim::{number_count, numbers_of, rim_number, rim_place};
 use crate::streams::{upstream, zeros};
 use crate::tile::TileFlow;
@@ -155,7 +155,7 @@ fn weight_of(tiling: &Tiling, flows: &[TileFlow], targets: &[Option<Place>], num
     requires number { number < number_count tiling.now }
     ensures { result ≡ rim_weight tiling.now flows.now number }
 {
-    let Some(_) = target_at(targets, number) else {
+    let Some(_) = targets[number as usize] else {
         return 0;
     };
     through_at(tiling, flows, rim_place(tiling, number)).unwrap_or(0) + 1
@@ -218,9 +218,8 @@ fn send_all(
     ensures { AreEntering tiling.now targets.now weights.now came.now listed.new }
 {
     for number in 0..number_count(tiling) {
-        let target = target_at(targets, number);
         let amount = came[number as usize] + weights[number as usize];
-        send(tiling, target, amount, listed);
+        send(tiling, targets[number as usize], amount, listed);
     }
 }
 

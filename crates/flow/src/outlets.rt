@@ -1,5 +1,5 @@
 // Where the water of the exits of all tiles ends.
-ghost use Rattle.std.specs.Prelude.{◌≡◌, ◌<◌, ◌≤◌, ℕ, None, length, slice_index, slice_index_or, IfOk};
+ghost use Rattle.std.specs.Prelude.{◌≡◌, ◌<◌, ◌≤◌, ℕ, length, slice_index, IfOk};
 ghost use Rattle.tiles.specs.Cutting.{IsCutting, IsWithin, tile_count};
 ghost use Rattle.drainage.specs.Following.{Directed};
 ghost use Rattle.flow.specs.Counts.{is_place};
@@ -165,15 +165,6 @@ pub(crate) fn rim_targets(
     Ok(targets)
 }
 
-/// The target of a number.
-#[inline(always)]
-pub(crate) fn target_at(targets: &[Option<Place>], number: u32) -> Option<Place>
-    requires { number < length targets.now }
-    ensures { result ≡ slice_index_or targets.now number None }
-{
-    targets[number as usize]
-}
-
 // The number to which a number is linked: that of the exit over which its water leaves the next tile.
 fn link_of(tiling: &Tiling, flows: &[TileFlow], targets: &[Option<Place>], number: u32) -> u32
     requires flows { (d : Directed) × AreFlowsOf d tiling.now flows.now }
@@ -181,7 +172,7 @@ fn link_of(tiling: &Tiling, flows: &[TileFlow], targets: &[Option<Place>], numbe
     requires number { number < number_count tiling.now }
     ensures { result ≡ rim_link tiling.now flows.now number }
 {
-    let Some(entry) = target_at(targets, number) else {
+    let Some(entry) = targets[number as usize] else {
         return number;
     };
     match way_out(tiling, flows, entry) {
@@ -224,10 +215,10 @@ fn outlet_of(
     requires inside { (i : ℕ) → i < number_count tiling.now → slice_index ends.now i < number_count tiling.now }
     ensures { result ≡ rim_outlet tiling.now flows.now ends.now number }
 {
-    let Some(_) = target_at(targets, number) else {
+    let Some(_) = targets[number as usize] else {
         return None;
     };
-    let Some(entry) = target_at(targets, ends[number as usize]) else {
+    let Some(entry) = targets[ends[number as usize] as usize] else {
         return None;
     };
     exit_of(tiling, flows, entry)

@@ -9,15 +9,13 @@ use Rattle.flow.proofs.inflows.send_all.Goals as goal
 
 pub send-requires-clause-within : goal.send-requires-clause-within
 send-requires-clause-within c =
-    subst (λ (o : Option Place). IfSome o (IsWithin c.args.tiling.now)) (sym c.target_at-target.ensures)
-    (c.requires.within c.loop-number.number (omega (arith, c.loop-number-test.true, c.number_count-number-end.ensures.value)))
+    c.requires.within c.loop-number.number (omega (arith, c.loop-number-test.true, c.number_count-number-end.ensures.value))
 
 pub send-requires-clause-fits : goal.send-requires-clause-fits
 send-requires-clause-fits c = λ k h.
     omega (
       arith,
       c.loop-number.invariant.each k h,
-      ap (λ (o : Option Place). sent_to c.args.tiling.now k o (get_or c.args.came.now c.loop-number.number 0 + get_or c.args.weights.now c.loop-number.number 0)) c.target_at-target.ensures,
       sum_more (entering c.args.tiling.now c.args.targets.now c.args.weights.now c.args.came.now k) c.loop-number.number,
       sum_below-part (entering c.args.tiling.now c.args.targets.now c.args.weights.now c.args.came.now k) (c.loop-number.number + 1) (number_count c.args.tiling.now)
           (omega (arith, c.loop-number-test.true, c.number_count-number-end.ensures.value)),
@@ -31,7 +29,6 @@ loop-number-preserved c = record {
     arith,
     c.send.ensures.each k h,
     c.loop-number.invariant.each k h,
-    ap (λ (o : Option Place). sent_to c.args.tiling.now k o (get_or c.args.came.now c.loop-number.number 0 + get_or c.args.weights.now c.loop-number.number 0)) c.target_at-target.ensures,
     sum_more (entering c.args.tiling.now c.args.targets.now c.args.weights.now c.args.came.now k) c.loop-number.number,
   );
 }

@@ -5,28 +5,28 @@ use Rattle.flow.specs.RimGraph.{target_by, exit_by}
 use Rattle.flow.proofs.RimFlows.{target_listed, targets_size, target_within}
 use Rattle.flow.proofs.outlets.outlet_of.Goals as goal
 
-pub target_at-requires : goal.target_at-requires
-target_at-requires c = omega (arith, c.requires.number, targets_size _ _ _ c.requires.targets)
+pub bounds : goal.bounds
+bounds c = omega (arith, c.requires.number, targets_size _ _ _ c.requires.targets)
 
-pub target_at-requires-2 : goal.target_at-requires-2
-target_at-requires-2 c = omega (arith, c.requires.inside c.args.number c.requires.number, targets_size _ _ _ c.requires.targets)
+pub bounds-2 : goal.bounds-2
+bounds-2 c = omega (arith, c.requires.inside c.args.number c.requires.number, targets_size _ _ _ c.requires.targets)
 
 pub returns-in_default : goal.returns-in_default
 returns-in_default c =
     ap (λ (o : Option Place). option_and_then (λ (y : Place). option_and_then (λ q. exit_by c.args.tiling.now c.args.flows.now q) (target_by c.args.tiling.now c.args.flows.now (get_or c.args.ends.now c.args.number 0))) o)
-    (c.in_default.ensures ∙ (target_listed _ _ _ c.requires.targets c.args.number c.requires.number))
+    (sym c.in_default.is ∙ (target_listed _ _ _ c.requires.targets c.args.number c.requires.number))
 
-pub returns-in_default-target_at : goal.returns-in_default-target_at
-returns-in_default-target_at c =
-    sym (ap (λ (o : Option Place). option_and_then (λ (y : Place). option_and_then (λ q. exit_by c.args.tiling.now c.args.flows.now q) (target_by c.args.tiling.now c.args.flows.now (get_or c.args.ends.now c.args.number 0))) o) (sym (target_listed _ _ _ c.requires.targets c.args.number c.requires.number) ∙ sym c.in-Some.ensures)
-    ∙ ap (λ (o : Option Place). option_and_then (λ q. exit_by c.args.tiling.now c.args.flows.now q) o) (sym (target_listed _ _ _ c.requires.targets (get_or c.args.ends.now c.args.number 0) (c.requires.inside c.args.number c.requires.number)) ∙ sym c.in_default-target_at.ensures))
+pub returns-in_default-targets : goal.returns-in_default-targets
+returns-in_default-targets c =
+    sym (ap (λ (o : Option Place). option_and_then (λ (y : Place). option_and_then (λ q. exit_by c.args.tiling.now c.args.flows.now q) (target_by c.args.tiling.now c.args.flows.now (get_or c.args.ends.now c.args.number 0))) o) (sym (target_listed _ _ _ c.requires.targets c.args.number c.requires.number) ∙ c.in-Some.is)
+    ∙ ap (λ (o : Option Place). option_and_then (λ q. exit_by c.args.tiling.now c.args.flows.now q) o) (sym (target_listed _ _ _ c.requires.targets (get_or c.args.ends.now c.args.number 0) (c.requires.inside c.args.number c.requires.number)) ∙ c.in_default-targets.is))
 
 pub exit_of-requires-clause-within : goal.exit_of-requires-clause-within
 exit_of-requires-clause-within c =
-    (target_within c.requires.flows.0 c.args.tiling.now c.args.flows.now c.requires.flows.1 _ c.in-Some-target_at.entry (sym (target_listed _ _ _ c.requires.targets (get_or c.args.ends.now c.args.number 0) (c.requires.inside c.args.number c.requires.number)) ∙ sym c.in-Some-target_at.ensures)).1
+    (target_within c.requires.flows.0 c.args.tiling.now c.args.flows.now c.requires.flows.1 _ c.in-Some-targets.entry (sym (target_listed _ _ _ c.requires.targets (get_or c.args.ends.now c.args.number 0) (c.requires.inside c.args.number c.requires.number)) ∙ c.in-Some-targets.is)).1
 
 pub returns : goal.returns
 returns c =
     c.exit_of.ensures
-    ∙ sym (ap (λ (o : Option Place). option_and_then (λ (y : Place). option_and_then (λ q. exit_by c.args.tiling.now c.args.flows.now q) (target_by c.args.tiling.now c.args.flows.now (get_or c.args.ends.now c.args.number 0))) o) (sym (target_listed _ _ _ c.requires.targets c.args.number c.requires.number) ∙ sym c.in-Some.ensures)
-    ∙ ap (λ (o : Option Place). option_and_then (λ q. exit_by c.args.tiling.now c.args.flows.now q) o) (sym (target_listed _ _ _ c.requires.targets (get_or c.args.ends.now c.args.number 0) (c.requires.inside c.args.number c.requires.number)) ∙ sym c.in-Some-target_at.ensures))
+    ∙ sym (ap (λ (o : Option Place). option_and_then (λ (y : Place). option_and_then (λ q. exit_by c.args.tiling.now c.args.flows.now q) (target_by c.args.tiling.now c.args.flows.now (get_or c.args.ends.now c.args.number 0))) o) (sym (target_listed _ _ _ c.requires.targets c.args.number c.requires.number) ∙ c.in-Some.is)
+    ∙ ap (λ (o : Option Place). option_and_then (λ q. exit_by c.args.tiling.now c.args.flows.now q) o) (sym (target_listed _ _ _ c.requires.targets (get_or c.args.ends.now c.args.number 0) (c.requires.inside c.args.number c.requires.number)) ∙ c.in-Some-targets.is))
