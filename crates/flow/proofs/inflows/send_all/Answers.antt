@@ -1,9 +1,7 @@
-use Rattle.std.proofs.Common.{◌≡◌, ◌+◌, Option, IfSome, get_or, subst, sym, ap, ◌∙◌, arith}
-use Rattle.terrain.specs.declared.place.Place.{Place}
-use Rattle.tiles.specs.Cutting.{IsWithin}
+use Rattle.std.proofs.Common.{◌≡◌, ◌+◌, ap, ◌∙◌, arith}
 use Rattle.flow.specs.Streams.{sum_below}
 use Rattle.flow.specs.RimNumbers.{number_count}
-use Rattle.flow.specs.Inflows.{sent_to, entering}
+use Rattle.flow.specs.Inflows.{entering}
 use Rattle.flow.proofs.Sums.{sum_more, sum_below-part}
 use Rattle.flow.proofs.inflows.send_all.Goals as goal
 
