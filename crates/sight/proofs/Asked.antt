@@ -1,14 +1,14 @@
 -- Cells of a window lose their marks, ray by ray.
-use Rattle.std.proofs.Common.{arith, refl, sym, ap, subst, ◌∙◌, ◌≡◌, ◌≢◌, ℕ, ◌+◌, ◌-◌, ◌*◌, ◌<◌, ◌≤◌, Bool, true, false, not, ◌&&◌, ◌⊎◌, ℤ, pos, List, length, get_or, set, Option, Some, inl, inr}
+use Rattle.std.proofs.Common.{arith, refl, sym, ap, subst, ◌∙◌, ◌≡◌, ◌≢◌, ℕ, ◌+◌, ◌-◌, ◌*◌, ◌<◌, ◌≤◌, Bool, true, false, not, ◌&&◌, ℤ, pos, List, length, get_or, set, Option, Some, inl, inr}
 use Rattle.std.specs.Prelude.{slice_get, if◌then◌else◌}
-use Rattle.std.proofs.lemmas.Bool.{cases_lt, cases_eq, cases_Bool, and_left, and_right, not_from_true}
+use Rattle.std.proofs.lemmas.Bool.{cases_lt, cases_eq, cases_Bool, and_left, and_right}
 use Rattle.std.proofs.lemmas.Int.{ints}
 use Rattle.std.proofs.lemmas.List.{get_or-set_same, get_or-set_other, length-set}
 use Rattle.std.proofs.lemmas.Nat.{mul-le}
 use Rattle.std.proofs.lemmas.Option.{same_Some, slice_get_within, slice_get-get_or, slice_get_read, get_or_from_slice_get}
 use Rattle.horizons.specs.declared.target.Target.{Target}
 use Rattle.horizons.specs.Horizons.{IsTarget, IsUpTo}
-use Rattle.sight.specs.Sweep.{lead_of, is_blocked_before, HidesBefore, IsFamily, IsLine, StandsAt}
+use Rattle.sight.specs.Sweep.{lead_of, is_blocked_before, HidesBefore, IsFamily, StandsAt}
 use Rattle.sight.specs.Ranks.{IsRanked}
 use Rattle.sight.specs.Looking.{LooksFrom}
 use Rattle.sight.specs.Hiding.{mark_at, mark_index, mark_left, rise_at, target_at, AreHidden, AreHiddenBelow, AreRays, Crosses, IsApart, IsInRun, IsRay, IsWindow}
