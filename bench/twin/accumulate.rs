@@ -1,7 +1,7 @@
 //! How many other cells' water flows through each cell.
 
 use crate::directions::Way;
-use crate::frame::{beside, Frame, NODATA};
+use crate::frame::{beside, Frame, NO_NUMBER};
 
 /// How many neighbours give their water to each cell.
 fn donors(directions: &Frame<Way>, ways: &[isize; 8]) -> Vec<u8> {
@@ -19,7 +19,7 @@ fn donors(directions: &Frame<Way>, ways: &[isize; 8]) -> Vec<u8> {
 pub fn accumulate(directions: &Frame<Way>) -> Frame<i32> {
     let ways = directions.ways();
     let mut donors = donors(directions, &ways);
-    let mut counts = directions.map(NODATA, |way| if way.has_data() { 0 } else { NODATA });
+    let mut counts = directions.map(NO_NUMBER, |way| if way.has_data() { 0 } else { NO_NUMBER });
     /// A source that was followed, so that no walk begins at a cell on another's way.
     const DONE: u8 = u8::MAX;
     for source in directions.places() {

@@ -1,14 +1,17 @@
 //! The number of the outlet to which each cell's water flows.
 
 use crate::directions::Way;
-use crate::frame::{beside, Frame, NODATA};
+use crate::frame::{beside, Frame, NO_NUMBER};
 
 const UNKNOWN: i32 = 0;
 
 /// The outlets by their numbers from 1 in row order, and each other cell by its outlet.
 pub fn basins(directions: &Frame<Way>) -> Frame<i32> {
     let ways = directions.ways();
-    let mut basins = directions.map(NODATA, |way| if way.has_data() { UNKNOWN } else { NODATA });
+    let mut basins = directions.map(
+        NO_NUMBER,
+        |way| if way.has_data() { UNKNOWN } else { NO_NUMBER },
+    );
     let outlets = directions
         .places()
         .filter(|&place| directions.cells[place].is_outlet());

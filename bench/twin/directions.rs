@@ -1,6 +1,6 @@
 //! D8 directions on filled heights: the steepest neighbour, and on flats the shortest way to where they drain.
 
-use crate::frame::{beside, Frame, NODATA};
+use crate::frame::{beside, Frame, Height, NODATA, NO_NUMBER};
 use crate::parallel::each_rows;
 
 /// Where the water of a cell goes: a neighbour by its number from 0 in the order of the codes, or a mark.
@@ -30,7 +30,7 @@ impl Way {
     /// The code that a map of directions shows.
     pub fn code(self) -> i32 {
         match self {
-            Way::NODATA => NODATA,
+            Way::NODATA => NO_NUMBER,
             Way::OUTLET => 0,
             Way(neighbour) => 1 << neighbour,
         }
@@ -39,7 +39,7 @@ impl Way {
 
 /// The first of the four neighbours with the least height, as its place in the list and its height.
 #[inline(always)]
-fn lowest(heights: [i32; 4]) -> (u8, i32) {
+fn lowest(heights: [Height; 4]) -> (u8, Height) {
     let mut found = (0, heights[0]);
     for number in 1..4 {
         if heights[number] < found.1 {
@@ -50,23 +50,24 @@ fn lowest(heights: [i32; 4]) -> (u8, i32) {
 }
 
 /// Twice the square of drop over distance.
-fn weight(drop: i64, neighbour: u8) -> i64 {
+fn weight(drop: Height, neighbour: u8) -> i128 {
+    let square = i128::from(drop) * i128::from(drop);
     if neighbour % 2 == 0 {
-        2 * drop * drop
+        2 * square
     } else {
-        drop * drop
+        square
     }
 }
 
 /// The way of a cell with data all around.
 #[inline(always)]
-fn inner_way(height: i32, around: [i32; 8]) -> Way {
+fn inner_way(height: Height, around: [Height; 8]) -> Way {
     let [e, se, s, sw, w, nw, n, ne] = around;
     let ((side, beside), (corner, across)) = (lowest([e, s, w, n]), lowest([se, sw, nw, ne]));
     if beside.min(across) >= height {
         return Way::FLAT;
     }
-    let drop = |lower: i32| i64::from(height) - i64::from(lower.min(height));
+    let drop = |lower: Height| height - lower.min(height);
     if weight(drop(beside), 0) >= weight(drop(across), 1) {
         Way(2 * side)
     } else {
@@ -76,19 +77,18 @@ fn inner_way(height: i32, around: [i32; 8]) -> Way {
 
 /// The way of a cell at the data's edge.
 #[cold]
-fn edge_way(height: i32, around: [i32; 8]) -> Way {
+fn edge_way(height: Height, around: [Height; 8]) -> Way {
     let lower = (0u8..)
         .zip(around)
         .filter(|&(_, other)| other != NODATA && other < height);
-    let weights =
-        lower.map(|(number, other)| (weight(i64::from(height) - i64::from(other), number), number));
+    let weights = lower.map(|(number, other)| (weight(height - other, number), number));
     let steepest = weights.reduce(|best, next| if next.0 > best.0 { next } else { best });
     steepest.map_or(Way::OUTLET, |(_, number)| Way(number))
 }
 
 /// The way of a cell, `FLAT` where it has no lower neighbour and is no edge cell.
 #[inline(always)]
-fn way_of(filled: &[i32], place: usize, ways: &[isize; 8]) -> Way {
+fn way_of(filled: &[Height], place: usize, ways: &[isize; 8]) -> Way {
     let height = filled[place];
     if height == NODATA {
         return Way::NODATA;
@@ -102,7 +102,7 @@ fn way_of(filled: &[i32], place: usize, ways: &[isize; 8]) -> Way {
 }
 
 /// The directions of the water on filled heights.
-pub fn directions(filled: &Frame<i32>, workers: usize) -> Frame<Way> {
+pub fn directions(filled: &Frame<Height>, workers: usize) -> Frame<Way> {
     let mut directions = Frame::new(filled.columns, filled.rows, Way::NODATA);
     let (width, ways) = (filled.width(), filled.ways());
     each_rows(directions.body_mut(), width, workers, |first, rows| {
@@ -119,9 +119,9 @@ pub fn directions(filled: &Frame<i32>, workers: usize) -> Frame<Way> {
 
 /// Goes over the flats from where they drain, one step after the other. A cell may go to a cell of the step
 /// before alone, so the cells of a step are found first and given their ways after that.
-fn drain_flats(filled: &Frame<i32>, directions: &mut [Way], ways: &[isize; 8]) {
+fn drain_flats(filled: &Frame<Height>, directions: &mut [Way], ways: &[isize; 8]) {
     let heights = &filled.cells;
-    let is_flat = |directions: &[Way], place: usize, height: i32| {
+    let is_flat = |directions: &[Way], place: usize, height: Height| {
         directions[place] == Way::FLAT && heights[place] == height
     };
     let drains = |place: &usize| {

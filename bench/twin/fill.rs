@@ -1,7 +1,7 @@
 //! Filled heights by tiles: each tile is flooded for itself, a graph of spills between the tiles' labels gives
 //! each label its level, and each tile is raised to the levels of its labels.
 
-use crate::frame::{beside, ways_of_width, Frame, NODATA};
+use crate::frame::{beside, ways_of_width, Frame, Height, NODATA};
 use crate::parallel::{each, each_rows};
 use crate::queue::{Buckets, Heap, Waiting};
 use crate::spill_graph::Levels;
@@ -10,7 +10,7 @@ use crate::spill_graph::Levels;
 pub const SIDE: usize = 256;
 
 /// The widest span of heights in a tile that is flooded with a bucket for each height.
-const WIDEST_BUCKETS: i64 = 1 << 16;
+const WIDEST_BUCKETS: Height = 1 << 16;
 
 /// The label of what drains off the data inside the tile.
 pub const OUTSIDE: u32 = 1;
@@ -30,7 +30,7 @@ pub struct Tile {
 }
 
 impl Tile {
-    pub fn numbered(terrain: &Frame<i32>, number: usize) -> Self {
+    pub fn numbered(terrain: &Frame<Height>, number: usize) -> Self {
         let across = terrain.columns.div_ceil(SIDE);
         let (top, left) = (number / across * SIDE, number % across * SIDE);
         Tile {
@@ -51,11 +51,11 @@ impl Tile {
 pub struct Spill {
     pub lower: u32,
     pub upper: u32,
-    pub height: i32,
+    pub height: Height,
 }
 
 impl Spill {
-    pub fn between(one: u32, other: u32, height: i32) -> Self {
+    pub fn between(one: u32, other: u32, height: Height) -> Self {
         Spill {
             lower: one.min(other),
             upper: one.max(other),
@@ -73,14 +73,14 @@ pub fn keep_lowest(spills: &mut Vec<Spill>) {
 /// A tile flooded from its rim and its edge cells, in a frame.
 pub struct Flood {
     pub tile: Tile,
-    pub heights: Vec<i32>,
+    pub heights: Vec<Height>,
     pub labels: Vec<u32>,
     pub next_label: u32,
     pub spills: Vec<Spill>,
 }
 
 impl Flood {
-    fn new(terrain: &Frame<i32>, tile: Tile) -> Self {
+    fn new(terrain: &Frame<Height>, tile: Tile) -> Self {
         let mut heights = Vec::with_capacity((tile.rows + 2) * (tile.columns + 2));
         for row in 0..tile.rows + 2 {
             let start = (tile.top + row) * terrain.width() + tile.left;
@@ -95,7 +95,7 @@ impl Flood {
             spills: Vec::new(),
         };
         match flood.span() {
-            Some((low, high)) if i64::from(high) - i64::from(low) < WIDEST_BUCKETS => {
+            Some((low, high)) if high - low < WIDEST_BUCKETS => {
                 flood.run(Buckets::new(low, high, flood.heights.len()));
             }
             Some(_) => flood.run(Heap::default()),
@@ -110,7 +110,7 @@ impl Flood {
     }
 
     /// The lowest and highest height of the tile, where it has data.
-    fn span(&self) -> Option<(i32, i32)> {
+    fn span(&self) -> Option<(Height, Height)> {
         let rows = (0..self.tile.rows).map(|row| self.place(row, 0));
         let heights = rows.flat_map(|start| &self.heights[start..start + self.tile.columns]);
         heights
@@ -189,7 +189,7 @@ impl Flood {
     }
 
     /// Raises the cells of one row of the tile to the levels of their labels.
-    fn raise_row(&self, row: usize, number: usize, levels: &Levels, raised: &mut [i32]) {
+    fn raise_row(&self, row: usize, number: usize, levels: &Levels, raised: &mut [Height]) {
         let start = self.place(row, 0);
         let places = start..start + self.tile.columns;
         let cells = self.heights[places.clone()]
@@ -204,7 +204,7 @@ impl Flood {
 }
 
 /// The filled heights of a terrain.
-pub fn fill(terrain: &Frame<i32>, workers: usize) -> Frame<i32> {
+pub fn fill(terrain: &Frame<Height>, workers: usize) -> Frame<Height> {
     let across = terrain.columns.div_ceil(SIDE);
     let tiles = across * terrain.rows.div_ceil(SIDE);
     let floods = each(tiles, workers, |number| {

@@ -1,7 +1,27 @@
 //! A grid inside a frame one cell wide, so that no inner loop asks where the grid ends.
 
-/// Stands for a cell without data, and for the frame.
-pub const NODATA: i32 = i32::MIN;
+/// A height in scaled units.
+pub type Height = i64;
+
+/// Stands for a cell without data, and for the frame. It is below all heights, and times a number of cells it fits.
+pub const NODATA: Height = -(1 << 50);
+
+/// Stands for a cell without data in a map of whole numbers.
+pub const NO_NUMBER: i32 = i32::MIN;
+
+/// A value of a map.
+pub trait Value: Copy + PartialEq + Into<i64> + Sync {
+    /// What stands for a cell without data.
+    const NONE: Self;
+}
+
+impl Value for Height {
+    const NONE: Self = NODATA;
+}
+
+impl Value for i32 {
+    const NONE: Self = NO_NUMBER;
+}
 
 /// Cells of a grid in row order, with a frame round them.
 pub struct Frame<T> {

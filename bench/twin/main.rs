@@ -19,8 +19,7 @@ mod terrain;
 mod view;
 mod write;
 
-use frame::{Frame, NODATA};
-use read::Header;
+use frame::{Frame, Height, NO_NUMBER};
 use std::io::{self, Read};
 use std::process::ExitCode;
 use view::{Observer, Sight};
@@ -78,16 +77,19 @@ fn make_map(wish: &Wish) -> Result<(), String> {
         .map_err(|error| error.to_string())?;
     let (header, terrain) = read::read_grid(&text, wish.scale, wish.workers)?;
     drop(text);
-    let (map, nodata, scale) = map_of(wish, &header, terrain)?;
-    write::write_map(&header, &map, nodata, scale, wish.workers).map_err(|error| error.to_string())
+    let written = if wish.map == "fill" {
+        let filled = fill::fill(&terrain, wish.workers);
+        drop(terrain);
+        write::write_map(&header, &filled, &header.nodata, wish.scale, wish.workers)
+    } else {
+        let numbers = numbers_of(wish, terrain)?;
+        write::write_map(&header, &numbers, "-9999", 0, wish.workers)
+    };
+    written.map_err(|error| error.to_string())
 }
 
-/// The asked map, the word for its cells without data, and its decimals.
-fn map_of<'a>(
-    wish: &Wish,
-    header: &'a Header,
-    terrain: Frame<i32>,
-) -> Result<(Frame<i32>, &'a str, usize), String> {
+/// The asked map of whole numbers.
+fn numbers_of(wish: &Wish, terrain: Frame<Height>) -> Result<Frame<i32>, String> {
     let workers = wish.workers;
     if wish.map == "view" {
         let sight = Sight {
@@ -95,22 +97,18 @@ fn map_of<'a>(
             target: wish.target,
             radius: wish.radius,
         };
-        return Ok((sight.viewshed(&wish.observers, workers), "-9999", 0));
+        return Ok(sight.viewshed(&wish.observers, workers));
     }
     let filled = fill::fill(&terrain, workers);
-    if wish.map == "fill" {
-        return Ok((filled, &header.nodata, wish.scale));
-    }
     drop(terrain);
     let ways = directions::directions(&filled, workers);
     drop(filled);
-    let map = match wish.map.as_str() {
-        "flow" => ways.map(NODATA, |way| way.code()),
-        "accumulate" => accumulate::accumulate(&ways),
-        "basins" => basins::basins(&ways),
-        other => return Err(format!("there is no map {other}")),
-    };
-    Ok((map, "-9999", 0))
+    match wish.map.as_str() {
+        "flow" => Ok(ways.map(NO_NUMBER, |way| way.code())),
+        "accumulate" => Ok(accumulate::accumulate(&ways)),
+        "basins" => Ok(basins::basins(&ways)),
+        other => Err(format!("there is no map {other}")),
+    }
 }
 
 fn main() -> ExitCode {

@@ -1,23 +1,24 @@
 //! Cells that wait in a flood, the lowest first.
 
+use crate::frame::Height;
 use std::cmp::Reverse;
 use std::collections::BinaryHeap;
 
 /// A queue of places by their height.
 pub trait Waiting {
-    fn push(&mut self, height: i32, place: usize);
+    fn push(&mut self, height: Height, place: usize);
     fn pop(&mut self) -> Option<usize>;
 }
 
 /// For heights of any span.
 #[derive(Default)]
 pub struct Heap {
-    places: BinaryHeap<Reverse<(i32, u32)>>,
+    places: BinaryHeap<Reverse<(Height, u32)>>,
 }
 
 impl Waiting for Heap {
     #[inline]
-    fn push(&mut self, height: i32, place: usize) {
+    fn push(&mut self, height: Height, place: usize) {
         self.places.push(Reverse((height, place as u32)));
     }
 
@@ -32,14 +33,14 @@ const NOTHING: u32 = u32::MAX;
 /// For a narrow span of heights: a list for each height, linked through one entry a place. What is popped
 /// never falls, since a flood pushes nothing below the cell that it came from.
 pub struct Buckets {
-    lowest: i32,
+    lowest: Height,
     current: usize,
     heads: Vec<u32>,
     links: Vec<u32>,
 }
 
 impl Buckets {
-    pub fn new(lowest: i32, highest: i32, places: usize) -> Self {
+    pub fn new(lowest: Height, highest: Height, places: usize) -> Self {
         let heads = vec![NOTHING; (highest - lowest) as usize + 1];
         Buckets {
             lowest,
@@ -52,7 +53,7 @@ impl Buckets {
 
 impl Waiting for Buckets {
     #[inline]
-    fn push(&mut self, height: i32, place: usize) {
+    fn push(&mut self, height: Height, place: usize) {
         let head = &mut self.heads[(height - self.lowest) as usize];
         self.links[place] = *head;
         *head = place as u32;

@@ -1,9 +1,9 @@
 //! Reads the grid text: the header, then the heights in pieces, one for each worker.
 
-use crate::frame::{Frame, NODATA};
+use crate::frame::{Frame, Height, NODATA};
 use crate::parallel::each;
 
-const HIGHEST: i64 = 1_000_000_000;
+const HIGHEST: Height = 1_000_000_000_000_000;
 
 /// The header's words that a map's text takes over.
 pub struct Header {
@@ -67,7 +67,7 @@ fn read_header(text: &[u8]) -> Result<(Header, usize), String> {
 }
 
 /// The whole number `word * 10^scale`, where the word has one in the limits of heights.
-fn scaled(word: &[u8], scale: usize) -> Option<i32> {
+fn scaled(word: &[u8], scale: usize) -> Option<Height> {
     let digits = word
         .strip_prefix(b"-")
         .or(word.strip_prefix(b"+"))
@@ -86,22 +86,23 @@ fn scaled(word: &[u8], scale: usize) -> Option<i32> {
         .iter()
         .chain(kept)
         .chain(zeros)
-        .try_fold(0i64, |size, &byte| {
-            (byte.is_ascii_digit() && size <= HIGHEST).then(|| size * 10 + i64::from(byte - b'0'))
+        .try_fold(0, |size, &byte| {
+            (byte.is_ascii_digit() && size <= HIGHEST)
+                .then(|| size * 10 + Height::from(byte - b'0'))
         })?;
     let value = if word[0] == b'-' { -size } else { size };
-    (size <= HIGHEST).then_some(value as i32)
+    (size <= HIGHEST).then_some(value)
 }
 
 /// How the heights of one text are to be read.
 struct Heights<'a> {
     scale: usize,
     nodata: &'a [u8],
-    nodata_value: Option<i32>,
+    nodata_value: Option<Height>,
 }
 
 impl Heights<'_> {
-    fn value(&self, word: &[u8]) -> Result<i32, String> {
+    fn value(&self, word: &[u8]) -> Result<Height, String> {
         if word == self.nodata {
             return Ok(NODATA);
         }
@@ -114,18 +115,18 @@ impl Heights<'_> {
         })
     }
 
-    /// A number of at most nine digits with at most `scale` decimals is read in one pass over its bytes;
+    /// A number of at most fifteen digits with at most `scale` decimals is read in one pass over its bytes;
     /// `None` where the word is longer or otherwise.
     #[inline(always)]
-    fn plain(&self, text: &[u8], from: usize) -> Option<(i32, usize)> {
+    fn plain(&self, text: &[u8], from: usize) -> Option<(Height, usize)> {
         let negative = text[from] == b'-';
         let (mut place, mut digits, mut decimals, mut point) =
             (from + usize::from(negative), 0, 0, false);
-        let mut size = 0u32;
+        let mut size = 0u64;
         while let Some(&byte) = text.get(place) {
             let digit = byte.wrapping_sub(b'0');
             if digit <= 9 {
-                size = size.wrapping_mul(10).wrapping_add(u32::from(digit));
+                size = size.wrapping_mul(10).wrapping_add(u64::from(digit));
                 digits += 1;
                 decimals += usize::from(point);
             } else if byte == b'.' && !point {
@@ -136,11 +137,14 @@ impl Heights<'_> {
             place += 1;
         }
         let whole_word = text.get(place).is_none_or(|&byte| is_separator(byte));
-        if digits == 0 || decimals > self.scale || digits + self.scale - decimals > 9 || !whole_word
+        if digits == 0
+            || decimals > self.scale
+            || digits + self.scale - decimals > 15
+            || !whole_word
         {
             return None;
         }
-        let size = (size * 10u32.pow((self.scale - decimals) as u32)) as i32;
+        let size = (size * 10u64.pow((self.scale - decimals) as u32)) as Height;
         let value = if negative { -size } else { size };
         Some((
             if Some(value) == self.nodata_value {
@@ -152,7 +156,7 @@ impl Heights<'_> {
         ))
     }
 
-    fn read_piece(&self, piece: &[u8]) -> Result<Vec<i32>, String> {
+    fn read_piece(&self, piece: &[u8]) -> Result<Vec<Height>, String> {
         let mut heights = Vec::with_capacity(piece.len() / 4);
         let mut place = 0;
         while place < piece.len() {
@@ -191,7 +195,7 @@ pub fn read_grid(
     text: &[u8],
     scale: usize,
     workers: usize,
-) -> Result<(Header, Frame<i32>), String> {
+) -> Result<(Header, Frame<Height>), String> {
     let (header, start) = read_header(text)?;
     let heights = Heights {
         scale,

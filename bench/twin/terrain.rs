@@ -3,7 +3,7 @@
 //! random; `serpentine` is one flat that winds through corridors one cell wide; `smooth` has wide hills alone; and
 //! `cone`, `flat`, `checkerboard`, `spikes` and `noise` are what their names say.
 
-use crate::frame::{Frame, NODATA};
+use crate::frame::{Frame, Height, NODATA};
 use crate::read::Header;
 use crate::write::write_map;
 
@@ -31,8 +31,8 @@ const LEAST_SIDE: usize = 4;
 const SPIKES: u64 = 4;
 const SPIKE: i64 = 100;
 
-/// Heights of `noise` are from the lowest to the highest that are allowed, in scaled units.
-const HIGHEST: i64 = 1_000_000_000;
+/// Heights of `noise` are from its negative to this, in scaled units.
+const NOISE: i64 = 1_000_000_000;
 
 /// The narrowest hills of `smooth` are so many times as narrow as its widest.
 const SMOOTH: i64 = 8;
@@ -92,11 +92,11 @@ fn rough_row(seed: u64, swing: i64, least: i64, widest: i64, row: i64, columns: 
 }
 
 /// Observers stand at the quarters of the sides, which are never without data.
-fn is_stand(terrain: &Frame<i32>, row: usize, column: usize) -> bool {
+fn is_stand(terrain: &Frame<Height>, row: usize, column: usize) -> bool {
     4 * row % terrain.rows == 0 && 4 * column % terrain.columns == 0
 }
 
-fn hills(columns: usize, rows: usize, seed: u64, unit: i64) -> Frame<i32> {
+fn hills(columns: usize, rows: usize, seed: u64, unit: i64) -> Frame<Height> {
     let widest = columns.max(rows).min(WIDEST) as i64;
     let mut terrain = Frame::new(columns, rows, NODATA);
     for row in 0..rows {
@@ -114,15 +114,15 @@ fn hills(columns: usize, rows: usize, seed: u64, unit: i64) -> Frame<i32> {
                 } else {
                     0
                 };
-                terrain.cells[place + column] = (height - depth) as i32;
+                terrain.cells[place + column] = height - depth;
             }
         }
     }
     terrain
 }
 
-fn serpentine(columns: usize, rows: usize, unit: i64) -> Frame<i32> {
-    let (floor, wall) = (unit as i32, 9 * unit as i32);
+fn serpentine(columns: usize, rows: usize, unit: i64) -> Frame<Height> {
+    let (floor, wall) = (unit, 9 * unit);
     let mut terrain = Frame::new(columns, rows, wall);
     for row in (1..rows.saturating_sub(1)).step_by(2) {
         let (west, east) = (terrain.place(row, 1), terrain.place(row, columns - 1));
@@ -142,7 +142,10 @@ fn serpentine(columns: usize, rows: usize, unit: i64) -> Frame<i32> {
 }
 
 /// A terrain without the cells of another that a test of row, column and height picks out, but for the stands.
-fn without(mut terrain: Frame<i32>, picks: impl Fn(usize, usize, i32) -> bool) -> Frame<i32> {
+fn without(
+    mut terrain: Frame<Height>,
+    picks: impl Fn(usize, usize, Height) -> bool,
+) -> Frame<Height> {
     for row in 0..terrain.rows {
         for column in 0..terrain.columns {
             let place = terrain.place(row, column);
@@ -155,19 +158,19 @@ fn without(mut terrain: Frame<i32>, picks: impl Fn(usize, usize, i32) -> bool) -
 }
 
 /// A terrain of the heights that a function gives each row.
-fn by_rows(columns: usize, rows: usize, heights: impl Fn(i64) -> Vec<i64>) -> Frame<i32> {
+fn by_rows(columns: usize, rows: usize, heights: impl Fn(i64) -> Vec<i64>) -> Frame<Height> {
     let mut terrain = Frame::new(columns, rows, NODATA);
     for row in 0..rows {
         let place = terrain.place(row, 0);
         for (column, height) in heights(row as i64).into_iter().enumerate() {
-            terrain.cells[place + column] = height as i32;
+            terrain.cells[place + column] = height;
         }
     }
     terrain
 }
 
 /// A terrain of the heights that a function gives each row and column.
-fn by_cells(columns: usize, rows: usize, height: impl Fn(i64, i64) -> i64) -> Frame<i32> {
+fn by_cells(columns: usize, rows: usize, height: impl Fn(i64, i64) -> i64) -> Frame<Height> {
     by_rows(columns, rows, |row| {
         (0..columns as i64)
             .map(|column| height(row, column))
@@ -176,7 +179,13 @@ fn by_cells(columns: usize, rows: usize, height: impl Fn(i64, i64) -> i64) -> Fr
 }
 
 /// The terrain of this name, of which a unit is so many scaled units.
-fn terrain_of(name: &str, columns: usize, rows: usize, seed: u64, unit: i64) -> Option<Frame<i32>> {
+fn terrain_of(
+    name: &str,
+    columns: usize,
+    rows: usize,
+    seed: u64,
+    unit: i64,
+) -> Option<Frame<Height>> {
     let (middle_row, middle_column) = (rows as i64 / 2, columns as i64 / 2);
     let any = |row, column| mixed(seed ^ mixed((row as u64) << 32 | column as u64));
     Some(match name {
@@ -204,7 +213,7 @@ fn terrain_of(name: &str, columns: usize, rows: usize, seed: u64, unit: i64) -> 
             }
         }),
         "noise" => by_cells(columns, rows, |row, column| {
-            (any(row, column) % (2 * HIGHEST as u64 + 1)) as i64 - HIGHEST
+            (any(row, column) % (2 * NOISE as u64 + 1)) as i64 - NOISE
         }),
         _ => return None,
     })

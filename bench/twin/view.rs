@@ -1,7 +1,7 @@
 //! Viewsheds: exact lines of sight in whole numbers. A run of crossings is passed over where no ground near it
 //! reaches the line.
 
-use crate::frame::{Frame, NODATA};
+use crate::frame::{Frame, Height, NODATA, NO_NUMBER};
 use crate::parallel::each;
 use std::str::FromStr;
 
@@ -36,7 +36,7 @@ impl FromStr for Observer {
 
 /// What is to be seen: targets above a terrain within a radius.
 pub struct Sight<'a> {
-    pub terrain: &'a Frame<i32>,
+    pub terrain: &'a Frame<Height>,
     pub target: u32,
     pub radius: u32,
 }
@@ -44,11 +44,11 @@ pub struct Sight<'a> {
 /// The highest ground of each block of a terrain, frame included.
 struct Blocks {
     across: i64,
-    highest: Vec<i32>,
+    highest: Vec<Height>,
 }
 
 impl Blocks {
-    fn new(terrain: &Frame<i32>) -> Self {
+    fn new(terrain: &Frame<Height>) -> Self {
         let side = BLOCK as usize;
         let (width, across) = (terrain.width(), terrain.width().div_ceil(side));
         let mut highest = vec![NODATA; across * (terrain.rows + 2).div_ceil(side)];
@@ -110,10 +110,10 @@ impl Line {
 
 /// A terrain seen along one of its axes: how far cells and blocks lie from each other along it and across.
 struct Axis<'a> {
-    cells: &'a [i32],
+    cells: &'a [Height],
     cell_along: i64,
     cell_across: i64,
-    blocks: &'a [i32],
+    blocks: &'a [Height],
     block_along: i64,
     block_across: i64,
 }
@@ -145,8 +145,8 @@ impl Axis<'_> {
         let row = line.along(last) / BLOCK * self.block_along;
         let blocks =
             (low..=high).map(|block| self.blocks.get((row + block * self.block_across) as usize));
-        let highest = blocks.flatten().copied().fold(NODATA, i32::max);
-        line.steps * i64::from(highest) <= line.level(first).min(line.level(last))
+        let highest = blocks.flatten().copied().fold(NODATA, Height::max);
+        line.steps * highest <= line.level(first).min(line.level(last))
     }
 
     /// Tests the crossings of a run one by one, from the target's end.
@@ -184,23 +184,22 @@ impl Axis<'_> {
             return false;
         }
         if weight == 0 {
-            return line.steps * i64::from(near) > line.level(step);
+            return line.steps * near > line.level(step);
         }
         let far = self.cells[(place + self.cell_across) as usize];
-        far != NODATA
-            && (line.steps - weight) * i64::from(near) + weight * i64::from(far) > line.level(step)
+        far != NODATA && (line.steps - weight) * near + weight * far > line.level(step)
     }
 }
 
 /// A terrain seen along its rows and along its columns.
 struct Ground<'a> {
-    terrain: &'a Frame<i32>,
+    terrain: &'a Frame<Height>,
     rows: Axis<'a>,
     columns: Axis<'a>,
 }
 
 impl<'a> Ground<'a> {
-    fn new(terrain: &'a Frame<i32>, blocks: &'a Blocks) -> Self {
+    fn new(terrain: &'a Frame<Height>, blocks: &'a Blocks) -> Self {
         let axis = |cell_along, cell_across, block_along, block_across| Axis {
             cells: &terrain.cells,
             cell_along,
@@ -217,8 +216,8 @@ impl<'a> Ground<'a> {
         }
     }
 
-    fn height(&self, row: i64, column: i64) -> i64 {
-        i64::from(self.terrain.cells[self.terrain.place(row as usize, column as usize)])
+    fn height(&self, row: i64, column: i64) -> Height {
+        self.terrain.cells[self.terrain.place(row as usize, column as usize)]
     }
 
     /// Whether a target is seen, whose height counts from the same level as that of the eye.
@@ -256,7 +255,10 @@ impl Sight<'_> {
         let terrain = self.terrain;
         let blocks = Blocks::new(terrain);
         let ground = Ground::new(terrain, &blocks);
-        let mut seen = terrain.map(NODATA, |height| if height == NODATA { NODATA } else { 0 });
+        let mut seen = terrain.map(
+            NO_NUMBER,
+            |height| if height == NODATA { NO_NUMBER } else { 0 },
+        );
         let parts = terrain.rows.div_ceil(ROWS_AT_ONCE);
         let made = each(parts, workers, |part| {
             self.rows_seen(&ground, observers, part)
@@ -284,7 +286,7 @@ impl Sight<'_> {
         cells
             .map(|(row, column, height)| {
                 if height == NODATA {
-                    NODATA
+                    NO_NUMBER
                 } else {
                     self.seen_by(ground, observers, row, column, height)
                 }
@@ -299,9 +301,9 @@ impl Sight<'_> {
         observers: &[Observer],
         row: i64,
         column: i64,
-        height: i32,
+        height: Height,
     ) -> i32 {
-        let target_level = i64::from(height) + i64::from(self.target);
+        let target_level = height + i64::from(self.target);
         let reach = i64::from(self.radius) * i64::from(self.radius);
         let is_seen = |observer: &&Observer| {
             let (down, east) = (row - observer.row, column - observer.column);

@@ -1,6 +1,6 @@
 //! Writes the text of a map: the header, then rows made by all workers.
 
-use crate::frame::{Frame, NODATA};
+use crate::frame::{Frame, Value};
 use crate::parallel::each;
 use crate::read::Header;
 use std::io::{self, Write};
@@ -37,7 +37,7 @@ const PAIRS: [[u8; 2]; 100] = {
 
 /// Puts a number in front of the end of a buffer, and answers where it begins.
 #[inline(always)]
-fn put(buffer: &mut [u8; 16], value: i32, scale: usize) -> usize {
+fn put(buffer: &mut [u8; 24], value: i64, scale: usize) -> usize {
     let (mut start, mut rest) = (buffer.len(), value.unsigned_abs());
     for _ in 0..scale {
         start -= 1;
@@ -67,13 +67,13 @@ fn put(buffer: &mut [u8; 16], value: i32, scale: usize) -> usize {
     start
 }
 
-fn put_row(text: &mut Vec<u8>, row: &[i32], nodata: &[u8], scale: usize) {
-    let mut buffer = [0; 16];
+fn put_row<T: Value>(text: &mut Vec<u8>, row: &[T], nodata: &[u8], scale: usize) {
+    let mut buffer = [0; 24];
     for &value in row {
-        if value == NODATA {
+        if value == T::NONE {
             text.extend_from_slice(nodata);
         } else {
-            let start = put(&mut buffer, value, scale);
+            let start = put(&mut buffer, value.into(), scale);
             text.extend_from_slice(&buffer[start..]);
         }
         text.push(b' ');
@@ -84,9 +84,9 @@ fn put_row(text: &mut Vec<u8>, row: &[i32], nodata: &[u8], scale: usize) {
 }
 
 /// Writes a map to standard output, its values with `scale` decimals.
-pub fn write_map(
+pub fn write_map<T: Value>(
     header: &Header,
-    map: &Frame<i32>,
+    map: &Frame<T>,
     nodata: &str,
     scale: usize,
     workers: usize,

@@ -1,12 +1,8 @@
 -- The cell of a word, by its scaled value.
-use Rattle.std.proofs.Common.{◌≡◌, ℕ, Bool, Option, true, false, cond, Some, ℤ, pos, negsuc, ◌<◌, ◌^◌, arith, refl, ap, sym, ◌∙◌, inl, inr}
-use Rattle.std.specs.Prelude.{int_le, unsigned_abs}
-use Rattle.std.proofs.lemmas.Int.{fits_signed_from_abs}
-use mir.Val.{SFits}
-use mir.Syntax.{w32}
+use Rattle.std.proofs.Common.{◌≡◌, ℕ, Bool, Option, true, false, cond, Some, ℤ, refl, ap, sym, ◌∙◌, inl, inr}
 use Rattle.std.specs.Str.{bytes_eq}
 use Rattle.std.specs.Ordering.{int_eq}
-use Rattle.std.proofs.lemmas.Bool.{cases_Bool, leb-true}
+use Rattle.std.proofs.lemmas.Bool.{cases_Bool}
 use Rattle.std.proofs.lemmas.Bool.Decides.{Decides-int_eq}
 use Rattle.std.proofs.lemmas.Slice.Eq.{bytes_eq-Decides}
 use Rattle.terrain.specs.Raster.{is_height}
@@ -46,10 +42,3 @@ meaning_cell false c cell e = cc
 pub meaning_nothing : (b : Bool) (c : Option ℤ) → cond b (Cell c) Nothing ≡ Nothing → b ≡ false
 meaning_nothing true c e = cc
 meaning_nothing false c e = refl
-
-height_abs : (z : ℤ) → int_le (negsuc 999999999) z ≡ true → int_le z (pos 1000000000) ≡ true → unsigned_abs z < 2 ^ 31
-height_abs (pos n) low high = let k = leb-true n 1000000000 high in omega (arith, k)
-height_abs (negsuc n) low high = let k = leb-true n 999999999 low in omega (arith, k)
-
-pub height_fits : (z : ℤ) → int_le (negsuc 999999999) z ≡ true → int_le z (pos 1000000000) ≡ true → SFits w32 z
-height_fits z low high = fits_signed_from_abs w32 z (height_abs z low high)

@@ -92,7 +92,7 @@ text-pos : (d n : ℕ) → height_text d (pos n) ≡ body d n
 text-pos d n = ap (λ z. z ++ decimal (n / 10 ^ d) ++ decimals_text d n) (cond-false (ltb n 0) (45 ∷ []) [] (le-ltb n 0 (omega arith)))
 
 -- the text of a height has that height as its scaled value
-pub height_value : (d : ℕ) (z : ℤ) → unsigned_abs z ≤ 10 ^ 9 → scaled_value d (height_text d z) ≡ Some z
+pub height_value : (d : ℕ) (z : ℤ) → unsigned_abs z ≤ 10 ^ 15 → scaled_value d (height_text d z) ≡ Some z
 height_value d (pos n) h =
     let small : n < 2 ^ 64 = omega (arith, h) in
     let bare = body_unsigned d n small in
@@ -101,22 +101,22 @@ height_value d (pos n) h =
     ∙ ap Some (cond-false (is_negative (body d n)) (neg_ℤ (pos n)) (pos n) bare.1)
 height_value d (negsuc n) h = written_value d (suc n) (45 ∷ body d (suc n)) refl (body_no_mark d (suc n) (omega (arith, h))) (omega (arith, h))
 
--- and few bytes: the whole part has at most ten digits, less one for each decimal
-whole_digits : (d n : ℕ) → d ≤ 6 → n ≤ 10 ^ 9 → length (decimal (n / 10 ^ d)) + d ≤ 10
+-- and few bytes: the whole part has at most sixteen digits, less one for each decimal
+whole_digits : (d n : ℕ) → d ≤ 6 → n ≤ 10 ^ 15 → length (decimal (n / 10 ^ d)) + d ≤ 16
 whole_digits d n few h =
-    let ten : 10 - d + d ≡ 10 = omega (arith, few) in
-    let all : 10 ^ (10 - d) * 10 ^ d ≡ 10 ^ 10 = sym (pow-add 10 (10 - d) d) ∙ ap (λ k. 10 ^ k) ten in
+    let sixteen : 16 - d + d ≡ 16 = omega (arith, few) in
+    let all : 10 ^ (16 - d) * 10 ^ d ≡ 10 ^ 16 = sym (pow-add 10 (16 - d) d) ∙ ap (λ k. 10 ^ k) sixteen in
     let some : 0 < 10 ^ d = let k = one-le-pow d 10 (omega arith) in omega (arith, k) in
-    let small : n / 10 ^ d < 10 ^ (10 - d) = (div-lt_iff_lt-mul some).1 (omega (arith, all, h)) in
-    let l = length-decimal-le (10 - d) (n / 10 ^ d) (omega (arith, few)) small (whole_small d n (omega (arith, h))) in
+    let small : n / 10 ^ d < 10 ^ (16 - d) = (div-lt_iff_lt-mul some).1 (omega (arith, all, h)) in
+    let l = length-decimal-le (16 - d) (n / 10 ^ d) (omega (arith, few)) small (whole_small d n (omega (arith, h))) in
     omega (arith, l, few)
 
-body_short : (d n : ℕ) → d ≤ 6 → n ≤ 10 ^ 9 → length (body d n) ≤ 11
+body_short : (d n : ℕ) → d ≤ 6 → n ≤ 10 ^ 15 → length (body d n) ≤ 17
 body_short d n few h =
     let whole = whole_digits d n few h in
     omega (arith, whole, length-decimals d n, length-append (decimal (n / 10 ^ d)) (decimals_text d n))
 
-pub height_short : (d : ℕ) (z : ℤ) → d ≤ 6 → unsigned_abs z ≤ 10 ^ 9 → length (height_text d z) ≤ 12
+pub height_short : (d : ℕ) (z : ℤ) → d ≤ 6 → unsigned_abs z ≤ 10 ^ 15 → length (height_text d z) ≤ 18
 height_short d (pos n) few h = let size = body_short d n few h in let same = ap length (text-pos d n) in omega (arith, size, same)
 height_short d (negsuc n) few h = let size = body_short d (suc n) few h in omega (arith, size)
 
@@ -128,7 +128,7 @@ pub record ReadsAs (d : ℕ) (nodata : Word) (c : Option ℤ) (w : Word) : Type 
   pub is : is_cell d nodata w ≡ true
   pub value : cell_of d nodata w ≡ c
 
-pub size_of_height : (z : ℤ) → IsHeight z → unsigned_abs z ≤ 10 ^ 9
+pub size_of_height : (z : ℤ) → IsHeight z → unsigned_abs z ≤ 10 ^ 15
 size_of_height (pos n) h = grind (arith, h.1)
 size_of_height (negsuc n) h = grind (arith, h.0)
 

@@ -141,7 +141,7 @@ bare_digits (x ∷ xs) rest h k =
     (rw (ne_eqb x 43 (λ e. omega arith), ne_eqb x 45 (λ e. omega arith)) refl, ne_eqb x 45 (λ e. omega arith))
 
 -- plain digits, and the same after `-`
-pub IsPlain-positive : (d : ℕ) (bytes : List ℕ) (len : ℕ) → 0 < len → len ≤ 9 → len ≤ length bytes → list_all is_ascii_digit (take len bytes) ≡ true → number_of (take len bytes) * 10 ^ d ≤ 10 ^ 18 → IsPlain d bytes len (pos (number_of (take len bytes) * 10 ^ d))
+pub IsPlain-positive : (d : ℕ) (bytes : List ℕ) (len : ℕ) → 0 < len → len ≤ 16 → len ≤ length bytes → list_all is_ascii_digit (take len bytes) ≡ true → number_of (take len bytes) * 10 ^ d ≤ 10 ^ 18 → IsPlain d bytes len (pos (number_of (take len bytes) * 10 ^ d))
 IsPlain-positive d bytes len some short within digits small =
     let xs = take len bytes in
     let more : 0 < length xs = omega (arith, length-take len bytes) in
@@ -154,7 +154,7 @@ IsPlain-positive d bytes len some short within digits small =
       whole = any-digits is_separator xs no_separator digits;
     }
 
-pub IsPlain-negative : (d : ℕ) (bytes rest : List ℕ) (len : ℕ) → is_negative bytes ≡ true → rest ≡ drop 1 bytes → 0 < len → len ≤ 9 → len ≤ length rest → list_all is_ascii_digit (take len rest) ≡ true → number_of (take len rest) * 10 ^ d ≤ 10 ^ 18 → IsPlain d bytes (len + 1) (neg_ℤ (pos (number_of (take len rest) * 10 ^ d)))
+pub IsPlain-negative : (d : ℕ) (bytes rest : List ℕ) (len : ℕ) → is_negative bytes ≡ true → rest ≡ drop 1 bytes → 0 < len → len ≤ 16 → len ≤ length rest → list_all is_ascii_digit (take len rest) ≡ true → number_of (take len rest) * 10 ^ d ≤ 10 ^ 18 → IsPlain d bytes (len + 1) (neg_ℤ (pos (number_of (take len rest) * 10 ^ d)))
 IsPlain-negative d [] rest len sign e some short within digits small = cc
 IsPlain-negative d (b ∷ bs) rest len sign e some short within digits small =
     let xs = take len rest in

@@ -32,7 +32,7 @@ pub record IsTaking {R : Type 0} (remaining : R → Option (List ℕ)) (first no
   pub faultless : fault_so_far scale text ≡ None
   pub scale_kept : r.scale ≡ scale
   pub size : length text ≡ taken
-  pub room : taken ≤ 268435456
+  pub room : taken ≤ 536870912
   pub count : now.failures ≡ first.failures
   pub bytes : Consumes (remaining first.device) (remaining now.device) text
 

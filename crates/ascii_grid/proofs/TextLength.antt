@@ -12,22 +12,22 @@ use Rattle.ascii_grid.specs.GridText.{most_bytes}
 use Rattle.ascii_grid.specs.Text.{height_text, cell_text, row_text, rows_text, line_text, anchor_text, header_text, heights_text}
 use Rattle.ascii_grid.proofs.ReadBackCells.{height_short, size_of_height}
 
--- words of at most 14 bytes, each with the byte after it
-line_short : {X : Type 0} (f : X → List ℕ) (cells : List X) → 0 < length cells → All (λ c. length (f c) ≤ 14) cells → length (join_with_byte 32 (map f cells)) + 1 ≤ 15 * length cells
+-- words of at most 30 bytes, each with the byte after it
+line_short : {X : Type 0} (f : X → List ℕ) (cells : List X) → 0 < length cells → All (λ c. length (f c) ≤ 30) cells → length (join_with_byte 32 (map f cells)) + 1 ≤ 31 * length cells
 line_short f [] h short = absurd (omega arith)
-line_short f (c ∷ []) h short = let here = All-head (λ x. length (f x) ≤ 14) c [] short in omega (arith, here)
+line_short f (c ∷ []) h short = let here = All-head (λ x. length (f x) ≤ 30) c [] short in omega (arith, here)
 line_short f (c ∷ d ∷ cells) h short =
-    let here = All-head (λ x. length (f x) ≤ 14) c (d ∷ cells) short in
-    let rest = line_short f (d ∷ cells) (omega arith) (All-tail (λ x. length (f x) ≤ 14) c (d ∷ cells) short) in
+    let here = All-head (λ x. length (f x) ≤ 30) c (d ∷ cells) short in
+    let rest = line_short f (d ∷ cells) (omega arith) (All-tail (λ x. length (f x) ≤ 30) c (d ∷ cells) short) in
     omega (arith, here, rest, length-append (f c) (32 ∷ join_with_byte 32 (map f (d ∷ cells))))
 
-rows_short : {X : Type 0} (v : X → List ℕ) (nodata : List ℕ) (cols n : ℕ) (cells : List (Option X)) → 0 < cols → length cells ≡ n * cols → All (λ c. length (cell_text v nodata c) ≤ 14) cells → length (rows_text v nodata cols n cells) ≤ 15 * length cells
+rows_short : {X : Type 0} (v : X → List ℕ) (nodata : List ℕ) (cols n : ℕ) (cells : List (Option X)) → 0 < cols → length cells ≡ n * cols → All (λ c. length (cell_text v nodata c) ≤ 30) cells → length (rows_text v nodata cols n cells) ≤ 31 * length cells
 rows_short v nodata cols zero cells h size short = omega arith
 rows_short v nodata cols (suc n) cells h size short =
     let front : length (take cols cells) ≡ cols = length-take-le cols cells (omega (arith, size)) in
     let back : length (drop cols cells) ≡ n * cols = omega (arith, size, length-drop cols cells) in
-    let line = line_short (cell_text v nodata) (take cols cells) (omega (arith, front)) (All-take (λ c. length (cell_text v nodata c) ≤ 14) cols cells short) in
-    let rest = rows_short v nodata cols n (drop cols cells) h back (All-drop (λ c. length (cell_text v nodata c) ≤ 14) cols cells short) in
+    let line = line_short (cell_text v nodata) (take cols cells) (omega (arith, front)) (All-take (λ c. length (cell_text v nodata c) ≤ 30) cols cells short) in
+    let rest = rows_short v nodata cols n (drop cols cells) h back (All-drop (λ c. length (cell_text v nodata c) ≤ 30) cols cells short) in
     let row = length-append (join_with_byte 32 (map (cell_text v nodata) (take cols cells))) (10 ∷ []) in
     let both = length-append (row_text v nodata (take cols cells)) (rows_text v nodata cols n (drop cols cells)) in
     omega (arith, size, front, back, line, rest, row, both)
@@ -62,18 +62,18 @@ header_short g h =
       six : (a b c d e f : List ℕ) → length a ≤ 19 → length b ≤ 19 → length c ≤ 79 → length d ≤ 79 → length e ≤ 79 → length f ≤ 79 → length (((((a ++ b) ++ c) ++ d) ++ e) ++ f) ≤ 400
       six a b c d e f i j k l m n = omega (arith, i, j, k, l, m, n, length-append ((((a ++ b) ++ c) ++ d) ++ e) f, length-append (((a ++ b) ++ c) ++ d) e, length-append ((a ++ b) ++ c) d, length-append (a ++ b) c, length-append a b)
 
-cells_short : (g : Raster) → IsLawful g → length g.nodata ≤ 14 → All (λ c. length (cell_text (height_text g.scale) g.nodata c) ≤ 14) g.terrain.cells
+cells_short : (g : Raster) → IsLawful g → length g.nodata ≤ 30 → All (λ c. length (cell_text (height_text g.scale) g.nodata c) ≤ 30) g.terrain.cells
 cells_short g h nodata = λ k d within. cell_short g h nodata (get_or g.terrain.cells k d) (h.terrain.heights k d within) where
-  cell_short : (g : Raster) → IsLawful g → length g.nodata ≤ 14 → (c : Option ℤ) → IfSome c IsHeight → length (cell_text (height_text g.scale) g.nodata c) ≤ 14
+  cell_short : (g : Raster) → IsLawful g → length g.nodata ≤ 30 → (c : Option ℤ) → IfSome c IsHeight → length (cell_text (height_text g.scale) g.nodata c) ≤ 30
   cell_short g h nodata None height = nodata
   cell_short g h nodata (Some z) height = let l = height_short g.scale z h.scale (size_of_height z height) in omega (arith, l)
 
-pub text_short : (g : Raster) → IsLawful g → length g.nodata ≤ 14 → length (heights_text g) ≤ most_bytes
+pub text_short : (g : Raster) → IsLawful g → length g.nodata ≤ 30 → length (heights_text g) ≤ most_bytes
 text_short g h nodata =
     let some : 0 < g.terrain.cols = omega (arith, h.terrain.some_col) in
     let header = header_short g h in
     let rows = rows_short (height_text g.scale) g.nodata g.terrain.cols g.terrain.rows g.terrain.cells some (h.terrain.size ∙ mul_comm g.terrain.cols g.terrain.rows) (cells_short g h nodata) in
     let few : g.terrain.cols * g.terrain.rows ≤ 4096 * 4096 = mul-le-mul h.terrain.few_cols h.terrain.few_rows in
     sum (header_text g g.nodata) (rows_text (height_text g.scale) g.nodata g.terrain.cols g.terrain.rows g.terrain.cells) (length g.terrain.cells) header rows (omega (arith, few, h.terrain.size)) where
-      sum : (a b : List ℕ) (n : ℕ) → length a ≤ 400 → length b ≤ 15 * n → n ≤ 16777216 → length (a ++ b) ≤ most_bytes
+      sum : (a b : List ℕ) (n : ℕ) → length a ≤ 400 → length b ≤ 31 * n → n ≤ 16777216 → length (a ++ b) ≤ most_bytes
       sum a b n i j k = omega (arith, i, j, k, length-append a b)

@@ -7,7 +7,7 @@ use Rattle.terrain.specs.Decimal.{scaled_value}
 -- The first bytes are a short word with this scaled value, and none of them parts words.
 pub record IsPlain (d : ℕ) (bytes : List ℕ) (len : ℕ) (value : ℤ) : Type 0 where
   pub some : 0 < len
-  pub short : len ≤ 10
+  pub short : len ≤ 17
   pub within : len ≤ length bytes
   pub scaled : scaled_value d (take len bytes) ≡ Some value
   pub whole : list_any is_separator (take len bytes) ≡ false

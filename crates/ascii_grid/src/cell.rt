@@ -5,11 +5,7 @@ ghost use Rattle.ascii_grid.specs.GridText.{same_value};
 ghost use Rattle.ascii_grid.specs.Meaning.{meaning_of};
 
 use crate::decimal::scaled_value;
-use terrain::{Height, place};
-
-const LOWEST: i64 = place::LOWEST as i64;
-
-const HIGHEST: i64 = place::HIGHEST as i64;
+use terrain::{HIGHEST, Height, LOWEST};
 
 /// What a word among the heights stands for.
 #[derive(Clone, Copy)]
@@ -41,7 +37,7 @@ pub(crate) fn value_cell(value: i64, nodata_value: Option<i64>) -> Meaning
         return Meaning::Cell(None);
     }
     if LOWEST <= value && value <= HIGHEST {
-        Meaning::Cell(Some(value as Height))
+        Meaning::Cell(Some(value))
     } else {
         Meaning::Nothing
     }

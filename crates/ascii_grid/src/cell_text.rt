@@ -8,11 +8,11 @@ use itoa::write_digits;
 use terrain::Height;
 
 /// Room for the longest text of a value, which is written from its end.
-const ROOM: usize = 24;
+const ROOM: usize = 32;
 
 /// Writes the last digits at the end of the buffer, and answers the number before them.
 #[inline(always)]
-fn write_last_digits(size: u32, count: usize, buffer: &mut [u8; ROOM]) -> u32
+fn write_last_digits(size: u64, count: usize, buffer: &mut [u8; ROOM]) -> u64
     requires { count ≤ 6 }
     ensures left { result ≡ size / 10 ^ count }
     ensures written { drop (ROOM - count) buffer.new ≡ last_digits count size }
@@ -27,10 +27,10 @@ fn write_last_digits(size: u32, count: usize, buffer: &mut [u8; ROOM]) -> u32
 
 /// Writes the decimals at the end of the buffer, and answers the whole part and where they start.
 #[inline(always)]
-fn write_decimals(size: u32, scale: usize, buffer: &mut [u8; ROOM]) -> (u32, usize)
+fn write_decimals(size: u64, scale: usize, buffer: &mut [u8; ROOM]) -> (u64, usize)
     requires { scale ≤ 6 }
     ensures left { result.0 ≡ size / 10 ^ scale }
-    ensures within { 17 ≤ result.1 × (result.1 ≤ ROOM) }
+    ensures within { 25 ≤ result.1 × (result.1 ≤ ROOM) }
     ensures written { drop result.1 buffer.new ≡ decimals_text scale size }
 {
     if scale == 0 {
@@ -51,7 +51,7 @@ fn write_height(height: Height, scale: u8, buffer: &mut [u8; ROOM]) -> usize
     ensures written { drop result buffer.new ≡ height_text scale height }
 {
     let (whole, end) = write_decimals(height.unsigned_abs(), scale as usize, buffer);
-    let start = write_digits(whole as u64, buffer, end);
+    let start = write_digits(whole, buffer, end);
     if height >= 0 {
         return start;
     }

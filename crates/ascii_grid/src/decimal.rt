@@ -11,6 +11,9 @@ use terrain::LONGEST_AXIS;
 /// One more than the greatest scaled value: numbers above it are kept as this.
 const OVER: u64 = 1_000_000_000_000_000_001;
 
+/// The most digits of a height in scaled units.
+const HEIGHT_DIGITS: usize = 16;
+
 /// Whether the word is a decimal text.
 pub(crate) fn is_decimal(word: &[u8]) -> bool
     ensures { result ≡ is_decimal word.now }
@@ -72,58 +75,59 @@ pub(crate) fn scaled_value(scale: u8, word: &[u8]) -> Option<i64>
     Some(signed(is_negative(word), size))
 }
 
-/// A whole number of one to nine digits, with `-` or without, at the front of the bytes, times 10^scale. It
-/// comes with its length. What follows it isn't looked at.
+/// A whole number of few digits, with `-` or without, at the front of the bytes, times 10^scale. It comes
+/// with its length. What follows it isn't looked at.
 #[inline(always)]
 pub(crate) fn plain_number(scale: u8, bytes: &[u8]) -> Option<(usize, i64)>
     requires { scale ≤ 6 }
     ensures { IfSome result (λ r. IsPlain scale bytes.now r.0 r.1) }
 {
     if is_negative(bytes) {
-        let (len, number) = digits_in_front(&bytes[1..]);
-        if len == 0 {
-            return None;
-        }
-        return Some((len + 1, signed(true, scaled(number, scale))));
+        let (len, size) = plain_size(scale, &bytes[1..])?;
+        return Some((len + 1, signed(true, size)));
     }
+    let (len, size) = plain_size(scale, bytes)?;
+    Some((len, signed(false, size)))
+}
+
+// The digits at the front, times 10^scale. With more digits in all than a height can have they are left alone.
+#[inline(always)]
+fn plain_size(scale: u8, bytes: &[u8]) -> Option<(usize, u64)>
+    requires { scale ≤ 6 }
+    ensures within { IfSome result (λ r. (0 < r.0) × (r.0 ≤ HEIGHT_DIGITS) × (r.0 ≤ length bytes.now)) }
+    ensures digits { IfSome result (λ r. list_all is_ascii_digit (take r.0 bytes.now) ≡ true) }
+    ensures value { IfSome result (λ r. r.1 ≡ number_of (take r.0 bytes.now) * 10 ^ scale) }
+    ensures small { IfSome result (λ r. r.1 ≤ 10 ^ 18) }
+{
     let (len, number) = digits_in_front(bytes);
-    if len == 0 {
+    if len == 0 || len + scale as usize > HEIGHT_DIGITS {
         return None;
     }
-    Some((len, signed(false, scaled(number, scale))))
+    Some((len, number * unit(scale)))
 }
 
-#[inline(always)]
-fn scaled(number: u64, scale: u8) -> u64
-    requires small { number < 10 ^ 9 }
-    requires given { scale ≤ 6 }
-    ensures value { result ≡ number * 10 ^ scale }
-    ensures small { result ≤ 10 ^ 18 }
-{
-    number * unit(scale)
-}
-
-// At most nine digits, and their number. Over nine bytes the loop has a fixed length, and is unrolled.
+// Digits as far as they go, not past the most that a height has, and their number. Over so many bytes the loop has a
+// fixed length, and is unrolled.
 #[inline(always)]
 fn digits_in_front(bytes: &[u8]) -> (usize, u64)
-    ensures within { (result.0 ≤ 9) × (result.0 ≤ length bytes.now) }
+    ensures within { (result.0 ≤ HEIGHT_DIGITS) × (result.0 ≤ length bytes.now) }
     ensures digits { list_all is_ascii_digit (take result.0 bytes.now) ≡ true }
     ensures number { result.1 ≡ number_of (take result.0 bytes.now) }
-    ensures small { result.1 < 10 ^ 9 }
+    ensures small { result.1 < 10 ^ result.0 }
 {
-    if bytes.len() < 9 {
+    if bytes.len() < HEIGHT_DIGITS {
         return leading_digits(bytes);
     }
-    leading_digits(&bytes[..9])
+    leading_digits(&bytes[..HEIGHT_DIGITS])
 }
 
 #[inline(always)]
 fn leading_digits(bytes: &[u8]) -> (usize, u64)
-    requires { length bytes.now ≤ 9 }
+    requires { length bytes.now ≤ HEIGHT_DIGITS }
     ensures within { result.0 ≤ length bytes.now }
     ensures digits { list_all is_ascii_digit (take result.0 bytes.now) ≡ true }
     ensures number { result.1 ≡ number_of (take result.0 bytes.now) }
-    ensures small { result.1 < 10 ^ 9 }
+    ensures small { result.1 < 10 ^ result.0 }
 {
     let mut number = 0;
     for at in 0..bytes.len() {

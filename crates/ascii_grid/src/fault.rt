@@ -34,7 +34,7 @@ pub enum GridFault {
     TooMany,
     /// The text ends after a key, without its value.
     NoValue(Key),
-    /// A word has more than 64 bytes, or the text more than 2^28.
+    /// A word has more than 64 bytes, or the text more than 2^29.
     TooLong,
     /// There was no memory for the list of cells.
     Memory,

@@ -24,7 +24,7 @@ pub enum InputFault {
 }
 
 /// The grid that a reader's bytes spell, its heights in units of 10^-scale. No text is kept whole, and
-/// at most 2^28 + 1 bytes are taken. Where the reader fails, a fault of a word that was ended before
+/// at most 2^29 + 1 bytes are taken. Where the reader fails, a fault of a word that was ended before
 /// goes first.
 pub fn read_grid<R: Read>(
     alloc: Global,

@@ -34,8 +34,8 @@ pub fn grids_read_back()
         IsGridText g.scale (heights_text g) (raster_with_sinks g []) }
 {}
 
-/// A grid whose NODATA word has at most 14 bytes has a text that can be read again.
+/// A grid whose NODATA word has at most 30 bytes has a text that can be read again.
 #[tactic(auto, using(crate::proofs::TextLength::text_short))]
 pub fn grid_texts_fit()
-    ensures { (g : Raster) → IsLawful g → length g.nodata ≤ 14 → length (heights_text g) ≤ most_bytes }
+    ensures { (g : Raster) → IsLawful g → length g.nodata ≤ 30 → length (heights_text g) ≤ most_bytes }
 {}

@@ -10,8 +10,8 @@ use std::alloc::Global;
 use std::marker::Model;
 use terrain::Grid;
 
-/// The most bytes that a text may have: 2^28.
-pub const MOST_TEXT_BYTES: usize = 268_435_456;
+/// The most bytes that a text may have: 2^29.
+pub const MOST_TEXT_BYTES: usize = 536_870_912;
 
 /// A reader of a text that comes in pieces, which it does not keep.
 #[derive(Drop)]

@@ -5,7 +5,7 @@ use crate::texts::{PIT, PIT_CELLS, expect_cells, grid_of};
 use std::alloc::Global;
 use std::process::Abort;
 use std::test::Fail;
-use terrain::{Anchor, Grid, Place, SinkFault, Word};
+use terrain::{Anchor, Grid, Height, Place, SinkFault, Word};
 
 /// The place in the middle of three by three cells, and others in and beside them.
 const MIDDLE: Place = Place { row: 1, col: 1 };
@@ -46,7 +46,7 @@ fn named(rt: &impl Abort, alloc: Global, grid: &Grid, sinks: &[Place]) -> Grid
 }
 
 /// The cells of the bowl, filled.
-const FILLED: [Option<i32>; 9] = [
+const FILLED: [Option<Height>; 9] = [
     Some(5),
     Some(5),
     Some(5),

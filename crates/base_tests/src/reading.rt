@@ -70,8 +70,14 @@ fn heights(rt: HostRuntime) {
     spells_after_header(
         &rt,
         rt.alloc(),
-        b" 3 -1000000000",
-        &[Some(3), Some(-1_000_000_000)],
+        b" 3 1000000001",
+        &[Some(3), Some(1_000_000_001)],
+    );
+    spells_after_header(
+        &rt,
+        rt.alloc(),
+        b" 1000000000000000 -1000000000000000",
+        &[Some(1_000_000_000_000_000), Some(-1_000_000_000_000_000)],
     );
     spells_after_header(&rt, rt.alloc(), b" +3. 4.000", &[Some(3), Some(4)]);
     spells_after_header(&rt, rt.alloc(), b" .0 -0.", &[Some(0), Some(0)]);
@@ -84,12 +90,40 @@ fn heights(rt: HostRuntime) {
     spells_after_header(
         &rt,
         rt.alloc(),
-        b" 999999999 -999999999\n",
-        &[Some(999_999_999), Some(-999_999_999)],
+        b" 00000000000000000012\t-00000000000000000003\n",
+        &[Some(12), Some(-3)],
+    );
+    spells_after_header(
+        &rt,
+        rt.alloc(),
+        b" 999999999999999 -999999999999999\n",
+        &[Some(999_999_999_999_999), Some(-999_999_999_999_999)],
     );
     let zeros =
         b"ncols 0000000000000000000000000000000000000000000000000000000000000002 nrows 1 xllcorner 0 yllcorner 0 cellsize 1 3 4";
     spells(&rt, rt.alloc(), 0, zeros, &[Some(3), Some(4)]);
+}
+
+#[test]
+fn heights_of_six_decimals(rt: HostRuntime) {
+    for (words, cells) in [
+        (
+            b" 1000000000 -999999999.5".as_slice(),
+            [Some(1_000_000_000_000_000), Some(-999_999_999_500_000)],
+        ),
+        (
+            b" -1000000000.000000 999999999 ".as_slice(),
+            [Some(-1_000_000_000_000_000), Some(999_999_999_000_000)],
+        ),
+    ] {
+        spells(
+            &rt,
+            rt.alloc(),
+            6,
+            &after_header(&rt, rt.alloc(), words),
+            &cells,
+        );
+    }
 }
 
 #[test]
@@ -102,7 +136,13 @@ fn cells_without_data(rt: HostRuntime) {
         b" NODATA_value -9999.5 3 -9999.5",
         &[Some(3), None],
     );
-    // The greatest scaled value, and words that have none.
+    // A value past the heights, the greatest scaled value, and words that have none.
+    spells_after_header(
+        &rt,
+        rt.alloc(),
+        b" NODATA_value -9999999999999999 3 -9999999999999999 ",
+        &[Some(3), None],
+    );
     spells_after_header(
         &rt,
         rt.alloc(),
@@ -134,9 +174,30 @@ fn cells_without_data(rt: HostRuntime) {
 fn bad_heights(rt: HostRuntime) {
     refuses_after_header(&rt, rt.alloc(), b" 1e3 4", GridFault::BadHeight(0));
     refuses_after_header(&rt, rt.alloc(), b" 3 1.5", GridFault::BadHeight(1));
-    refuses_after_header(&rt, rt.alloc(), b" 3 1000000001", GridFault::BadHeight(1));
-    refuses_after_header(&rt, rt.alloc(), b" 1234567890 4", GridFault::BadHeight(0));
-    refuses_after_header(&rt, rt.alloc(), b" 3 -1234567890 ", GridFault::BadHeight(1));
+    refuses_after_header(
+        &rt,
+        rt.alloc(),
+        b" 3 1000000000000001",
+        GridFault::BadHeight(1),
+    );
+    refuses_after_header(
+        &rt,
+        rt.alloc(),
+        b" 1234567890123456 4",
+        GridFault::BadHeight(0),
+    );
+    refuses_after_header(
+        &rt,
+        rt.alloc(),
+        b" 3 -1234567890123456 ",
+        GridFault::BadHeight(1),
+    );
+    refuses_after_header(
+        &rt,
+        rt.alloc(),
+        b" 10000000000000000 4",
+        GridFault::BadHeight(0),
+    );
     // 2^64 + 3 doesn't wrap, nor do 64 digits.
     refuses_after_header(
         &rt,

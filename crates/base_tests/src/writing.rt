@@ -76,13 +76,13 @@ const HALVES: &[u8] =
     b"ncols         2\nnrows         2\nxllcorner     0\nyllcenter     0\ncellsize      1\nNODATA_value  -9999\n0.5 -0.5\n0.0 7.0\n";
 
 const EXTREMES: &[u8] =
-    b"ncols         4\nnrows         1\nxllcorner     0\nyllcenter     0\ncellsize      1\nNODATA_value  -9999\n-1000.000000 1000.000000 -0.000001 0.000010\n";
+    b"ncols         4\nnrows         1\nxllcorner     0\nyllcenter     0\ncellsize      1\nNODATA_value  -9999\n-1000000000.000000 1000000000.000000 -0.000001 0.000010\n";
 
 const PIT_WRITTEN: &[u8] =
     b"ncols         3\nnrows         3\nxllcorner     0\nyllcorner     0\ncellsize      1\nNODATA_value  -9999\n9 9 9\n9 1 9\n9 9 9\n";
 
 const WHOLE: &[u8] =
-    b"ncols         1\nnrows         4\nxllcorner     0\nyllcenter     0\ncellsize      1\nNODATA_value  -9999\n-1000000000\n1000000000\n0\n-1\n";
+    b"ncols         1\nnrows         4\nxllcorner     0\nyllcenter     0\ncellsize      1\nNODATA_value  -9999\n-1000000000000000\n1000000000000000\n0\n-1\n";
 
 /// Writes the grid's heights, and has the writer back.
 fn written(rt: &impl Abort, grid: &Grid, mut taker: Taker, failures: u64) -> Taker {
@@ -180,10 +180,10 @@ fn decimals_of_each_scale(rt: HostRuntime) {
         &rt,
         rt.alloc(),
         6,
-        b"ncols 4 nrows 1 xllcorner 0 yllcenter 0 cellsize 1 -1000 1000 -.000001 .00001",
+        b"ncols 4 nrows 1 xllcorner 0 yllcenter 0 cellsize 1 -1000000000 1000000000 -.000001 .00001",
         &[
-            Some(-1_000_000_000),
-            Some(1_000_000_000),
+            Some(-1_000_000_000_000_000),
+            Some(1_000_000_000_000_000),
             Some(-1),
             Some(10),
         ],
@@ -193,8 +193,13 @@ fn decimals_of_each_scale(rt: HostRuntime) {
         &rt,
         rt.alloc(),
         0,
-        b"ncols 1 nrows 4 xllcorner 0 yllcenter 0 cellsize 1 -1000000000 1000000000 0 -1",
-        &[Some(-1_000_000_000), Some(1_000_000_000), Some(0), Some(-1)],
+        b"ncols 1 nrows 4 xllcorner 0 yllcenter 0 cellsize 1 -1000000000000000 1000000000000000 0 -1",
+        &[
+            Some(-1_000_000_000_000_000),
+            Some(1_000_000_000_000_000),
+            Some(0),
+            Some(-1),
+        ],
         WHOLE,
     );
 }

@@ -1,36 +1,37 @@
 -- What stands around a cell amid the grid, by places in row order.
-use Rattle.std.proofs.Common.{◌≡◌, ◌≢◌, ℕ, ◌+◌, ◌-◌, ◌*◌, ◌<◌, ◌≤◌, ◌⊎◌, inl, inr, true, false, eqb, max, fold, List, get_or, Option, None, Some, is_some, IfSome, ℤ, sym, ap, subst, refl, ◌∙◌, arith}
+use Rattle.std.proofs.Common.{◌≡◌, ◌≢◌, ℕ, ◌+◌, ◌-◌, ◌*◌, ◌<◌, ◌≤◌, ◌⊎◌, inl, inr, true, false, max, fold, List, get_or, Option, None, Some, is_some, IfSome, ℤ, sym, ap, subst, refl, ◌∙◌, arith}
 use Rattle.std.specs.Prelude.{option_map}
 use Rattle.std.specs.List.{list_any, position}
 use Rattle.std.specs.Option.{option_zip, option_and_then}
+use Rattle.std.proofs.Math.Nat.{mul-le-mul_right}
 use Rattle.std.proofs.lemmas.Bool.{cases_eq}
 use Rattle.terrain.proofs.Places.{make_place, entry-inside, index_below}
+use Rattle.terrain.proofs.Heights.{height_in}
 use Rattle.terrain.specs.Raster.{Terrain, IsTerrain, IsHeight}
 use Rattle.terrain.specs.Neighbours.{IsInside, height_at, entry_at, index_of, Touches}
 use Rattle.terrain.specs.Ways.{place_on, place_of, before, entry_on, code_of}
 use Rattle.terrain.specs.declared.place.Place.{Place}
-use Rattle.drain.specs.Amid.{around_index, drop_by, HasHeights, StandAround}
+use Rattle.drain.specs.Amid.{around_index, drop_by, drop_on, HasHeights, IsSteepestWay, StandAround}
 use Rattle.drain.specs.Beginning.{IsOutermost}
 use Rattle.drain.specs.Directions.{IsCodeAt}
 use Rattle.drain.specs.Fitting.{IsLaidAround}
 use Rattle.drain.specs.Steepness.{weights, drop_to, leads_on}
 use Rattle.drain.specs.Steps.{DrainsAtOnce, AreSteps}
 use Rattle.drain.specs.declared.around.Around.{Around}
-use Rattle.drain.proofs.AroundLemmas.{height_fits, shown_on, around_with, laid_with, steps_at}
+use Rattle.drain.proofs.AroundLemmas.{shown_on, around_with, laid_with, steps_at}
 use Rattle.drain.proofs.Nearby.{cases_option}
 use Rattle.drain.proofs.Laid.{with_steps, without_steps, leads as leads_by_steps, is_down, is_outlet, is_onward, code_is}
 use Rattle.drain.proofs.Quiet.{if_some}
 use Rattle.drain.proofs.Ways.{eight, before-is}
 
-drop_is : (level : ℤ) (w : Option (ℤ × ℕ)) → drop_by level (option_map (λ (v : ℤ × ℕ). v.0) w) ≡ drop_to level w
-drop_is level None = refl
-drop_is level (Some w) = refl
-
--- how far a way drops, by its height
-pub drop_on : (a : Around) (level : ℤ) (heights : List (Option ℤ)) (way drop : ℕ) → HasHeights a level heights → way < 8 → drop ≡ drop_by level (get_or heights way None) →
-    drop ≡ drop_to a.level (get_or a.ways way None)
-drop_on a level heights way drop has below is =
-    is ∙ ap (λ (o : Option ℤ). drop_by level o) (has.each way below) ∙ drop_is level (get_or a.ways way None) ∙ ap (λ (z : ℤ). drop_to z (get_or a.ways way None)) (sym has.own_level)
+-- how far a way leads down, by its height
+pub drop_is : (a : Around) (level : ℤ) (heights : List (Option ℤ)) (way : ℕ) → HasHeights a level heights → way < 8 → drop_on level heights way ≡ drop_to a.level (get_or a.ways way None)
+drop_is a level heights way has below =
+    ap (λ (o : Option ℤ). drop_by level o) (has.each way below) ∙ without_steps level (get_or a.ways way None) ∙ ap (λ (z : ℤ). drop_to z (get_or a.ways way None)) (sym has.own_level)
+  where
+    without_steps : (level : ℤ) (w : Option (ℤ × ℕ)) → drop_by level (option_map (λ (v : ℤ × ℕ). v.0) w) ≡ drop_to level w
+    without_steps level None = refl
+    without_steps level (Some w) = refl
 
 -- The place on a way from another lies in the grid, and stands where the list of the places around says.
 pub record IsOnWay (t : Terrain) (p : Place) (way : ℕ) (q : Place) : Type 0 where
@@ -97,6 +98,13 @@ pub on_way_amid : (t : Terrain) (p : Place) → IsInside t p → (IsOutermost t 
 on_way_amid t p inside amid =
     let part = amid_parts t p inside amid in
     on_ways t p (p.row - 1) (p.col - 1) (omega (arith, part.0)) (omega (arith, part.1)) (omega (arith, part.0, part.2)) (omega (arith, part.1, part.3))
+
+-- a row stands before a cell amid the grid
+pub row_before : (t : Terrain) (p : Place) → IsInside t p → (IsOutermost t p → ⊥) → t.cols < index_of t.cols p
+row_before t p inside amid =
+    let part = amid_parts t p inside amid in
+    let row : 1 * t.cols ≤ p.row * t.cols = mul-le-mul_right t.cols part.0 in
+    omega (arith, part.1)
 
 -- the places around a cell amid the grid stand in its lists
 pub around_below : (t : Terrain) (p : Place) → IsInside t p → (IsOutermost t p → ⊥) → (way : ℕ) → way < 8 → get_or (around_index t.cols (index_of t.cols p)) way 0 < t.cols * t.rows
@@ -181,19 +189,19 @@ module _ (t : Terrain) (steps : List (Option ℕ)) (p : Place) (level : ℤ) (ow
   code_onward way code some first is =
       code_is t p level code high (is_onward t steps p (around_of t steps p level own) are laid way code (stays some) first is)
 
-  pub code_down : (greatest way code : ℕ) → greatest ≡ fold max 0 (weights (around_of t steps p level own)) → 0 < greatest →
-      position (λ w. eqb w greatest) (weights (around_of t steps p level own)) ≡ Some way → code ≡ code_of (Some way) → IsCodeAt t p (Some code)
-  code_down greatest way code greatest_is some first is =
-      code_is t p level code high (is_down t steps p (around_of t steps p level own) are laid greatest way code greatest_is some first is)
+  pub code_down : (found : Option ℕ) (way code : ℕ) → IsSteepestWay (around_of t steps p level own) found → found ≡ Some way → code ≡ code_of (Some way) → IsCodeAt t p (Some code)
+  code_down found way code steepest some is =
+      let first = steepest.some way some in
+      code_is t p level code high (is_down t steps p (around_of t steps p level own) are laid (fold max 0 (weights (around_of t steps p level own))) way code refl first.1 first.2 is)
 
-  pub code_outlet : (greatest code : ℕ) → own ≤ 0 → greatest ≡ fold max 0 (weights (around_of t steps p level own)) → greatest ≤ 0 → code ≡ 0 → IsCodeAt t p (Some code)
-  code_outlet greatest code none greatest_is low is =
+  pub code_outlet : (found : Option ℕ) (code : ℕ) → own ≤ 0 → IsSteepestWay (around_of t steps p level own) found → found ≡ None → code ≡ 0 → IsCodeAt t p (Some code)
+  code_outlet found code few steepest none is =
       code_is t p level code high
-      (is_outlet t steps p (around_of t steps p level own) are laid code (omega (arith, greatest_is, low)) (without_steps t steps p (around_of t steps p level own) are laid (omega (arith, none))) is)
+      (is_outlet t steps p (around_of t steps p level own) are laid code (omega (arith, steepest.none none)) (without_steps t steps p (around_of t steps p level own) are laid (omega (arith, few))) is)
 
 pub heights_fit : (t : Terrain) (p : Place) (cells heights : List (Option ℤ)) (at : List ℕ) → IsTerrain t → IsInside t p → (IsOutermost t p → ⊥) → cells ≡ t.cells →
     at ≡ around_index t.cols (index_of t.cols p) → ((way : ℕ) → way < 8 → get_or heights way None ≡ get_or cells (get_or at way 0) None) →
     (way : ℕ) → way < 8 → IfSome (get_or heights way None) IsHeight
 heights_fit t p cells heights at lawful inside amid cells_are at_is given way below =
     let q = cell_on_way t p cells at cells_are at_is inside amid way below in
-    subst (λ (o : Option ℤ). IfSome o IsHeight) (sym (given way below ∙ q.2)) (if_some (height_at t q.0) IsHeight (λ h e. height_fits t q.0 h lawful e))
+    subst (λ (o : Option ℤ). IfSome o IsHeight) (sym (given way below ∙ q.2)) (if_some (height_at t q.0) IsHeight (λ h e. height_in t q.0 h lawful e))

@@ -1,15 +1,13 @@
 -- Heights and steps of what stands on the ways from a cell.
-use Rattle.std.proofs.Common.{◌≡◌, ℕ, zero, suc, ◌+◌, ◌*◌, ◌<◌, ◌<ℤ◌, ◌-ℤ◌, ◌%◌, inl, inr, Bool, true, eqb, List, [], ◌∷◌, get_or, Option, None, Some, IfSome, ℤ, pos, negsuc, sym, ap, refl, ◌∙◌, arith}
+use Rattle.std.proofs.Common.{◌≡◌, ℕ, zero, suc, ◌+◌, ◌*◌, ◌<◌, ◌<ℤ◌, ◌-ℤ◌, ◌%◌, inl, inr, Bool, true, eqb, List, [], ◌∷◌, get_or, Option, None, Some, ℤ, pos, negsuc, sym, ap, refl, ◌∙◌, arith}
 use Rattle.std.proofs.lemmas.Int.{ints}
 use Rattle.std.proofs.lemmas.Bool.{cases_Bool, and_parts, eqb-true, cond-true, cond-false, false≢true}
-use Rattle.std.proofs.lemmas.List.Elements.{All-get_or}
 use Rattle.std.proofs.lemmas.Option.{MatchOption-at_some}
 use Rattle.std.specs.Int.{int_gap}
 use Rattle.std.specs.Option.{option_zip}
 use Rattle.std.proofs.lemmas.Bool.Decides.{Decides-int_eq}
-use Rattle.terrain.proofs.Places.{inside_from_entry, entry-inside, index_below}
-use Rattle.terrain.specs.Raster.{Terrain, IsTerrain, IsHeight}
-use Rattle.terrain.specs.Neighbours.{height_at, entry_at, index_of, IsDataCell, height_of}
+use Rattle.terrain.specs.Raster.{Terrain}
+use Rattle.terrain.specs.Neighbours.{height_at, entry_at, IsDataCell, height_of}
 use Rattle.terrain.specs.Ways.{place_on, entry_on}
 use Rattle.terrain.specs.declared.place.Place.{Place}
 use Rattle.drain.specs.Steps.{IsSteps, AreSteps}
@@ -19,12 +17,6 @@ use Rattle.drain.specs.declared.around.Around.{Around}
 use Rattle.drain.proofs.Counted.{height_is}
 use Rattle.drainage.proofs.Reach.{data_inside}
 use Rattle.drain.proofs.Ways.{eight, zip_some}
-
-pub height_fits : (t : Terrain) (q : Place) (h : ℤ) → IsTerrain t → height_at t q ≡ Some h → IsHeight h
-height_fits t q h lawful e =
-    let inside = inside_from_entry t.cols t.rows t.cells q h e in
-    MatchOption-at_some _ _ h (sym (entry-inside t.cols t.rows t.cells q inside.0 inside.1) ∙ e)
-    (All-get_or (λ (c : Option ℤ). IfSome c IsHeight) t.cells (index_of t.cols q) None (omega (arith, lawful.size, index_below t.cols t.rows q inside.0 inside.1)) lawful.heights)
 
 -- what stands on a way is a neighbour's
 pub on_way : (t : Terrain) (steps : List (Option ℕ)) (p : Place) (a : Around) (way : ℕ) (w : ℤ × ℕ) → IsLaidAround t steps p a → way < 8 → get_or a.ways way None ≡ Some w →

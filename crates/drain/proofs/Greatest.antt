@@ -5,7 +5,7 @@ use Rattle.std.specs.List.{position, position_or_len, list_any}
 use Rattle.std.proofs.lemmas.List.Sums.{position_or_len_is, fails_before_first}
 
 -- no greater than a bound of all
-fold-max_least : (xs : List ℕ) (a m : ℕ) → a ≤ m → ((k : ℕ) → k < length xs → get_or xs k 0 ≤ m) → fold max a xs ≤ m
+pub fold-max_least : (xs : List ℕ) (a m : ℕ) → a ≤ m → ((k : ℕ) → k < length xs → get_or xs k 0 ≤ m) → fold max a xs ≤ m
 fold-max_least [] a m le all = le
 fold-max_least (x ∷ xs) a m le all =
     let x_le : x ≤ m = all 0 (omega arith) in

@@ -9,6 +9,7 @@ use Rattle.std.proofs.lemmas.Option.{none-some, same_Some}
 use Rattle.std.specs.Int.{int_gap}
 use Rattle.std.specs.List.{list_any, position}
 use Rattle.std.specs.Option.{option_zip, option_and_then}
+use Rattle.terrain.proofs.Heights.{height_in}
 use Rattle.terrain.specs.Raster.{Terrain, IsTerrain, IsHeight}
 use Rattle.terrain.specs.Neighbours.{height_at, entry_at, IsDataCell, IsNeighbour, height_of}
 use Rattle.terrain.specs.Ways.{place_on, code_of}
@@ -18,7 +19,7 @@ use Rattle.drain.specs.Steepness.{weight, positive_part, drop_to, weights, leads
 use Rattle.drain.specs.Fitting.{IsFitting, IsLaidAround, IsAround}
 use Rattle.drain.specs.Directions.{weight_of, IsSteepest, IsOnward, PointsToFirst, IsDirection, IsCodeAt}
 use Rattle.drain.specs.declared.around.Around.{Around}
-use Rattle.drain.proofs.AroundLemmas.{height_fits, on_way, positive_part-below, gap-below, steps_at, some_way, some_onward, weight-drop}
+use Rattle.drain.proofs.AroundLemmas.{on_way, positive_part-below, gap-below, steps_at, some_way, some_onward, weight-drop}
 use Rattle.drain.proofs.Counted.{height_is}
 use Rattle.drain.proofs.Greatest.{le-fold_max, greatest_of, is_fold, is_position, first_passes}
 use Rattle.drain.proofs.Local.{one_number_of_steps}
@@ -186,9 +187,9 @@ pub fitting : (t : Terrain) (steps : List (Option ℕ)) (p : Place) (a : Around)
 fitting t steps p a lawful are around =
     let laid = around.laid in
     record {
-      level = height_fits t p a.level lawful laid.level;
+      level = height_in t p a.level lawful laid.level;
       ways = λ way. if_some (get_or a.ways way None) (λ w. IsHeight w.0) (λ w e. elim (cases_lt way 8) [
-        | inl below ↦ (let at = on_way t steps p a way w laid below e in height_fits t at.0 w.0 lawful at.2)
+        | inl below ↦ (let at = on_way t steps p a way w laid below e in height_in t at.0 w.0 lawful at.2)
         | inr past ↦ absurd (none-some w (sym (get_or_past a.ways way None (omega (arith, laid.count))) ∙ e))
       ]);
       drains = elim (drains_at_once t p) [

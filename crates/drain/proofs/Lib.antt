@@ -33,5 +33,6 @@ pub mod Pointing
 pub mod Laid
 pub mod AmidLemmas
 pub mod Unique
+pub mod Steepest
 -- the map of directions
 pub mod DrainedLemmas

@@ -1,13 +1,10 @@
 -- Counts put in the place of greater ones, one change more at a time.
-use Rattle.std.proofs.Common.{ℕ, ◌⊎◌, inl, inr, List, Option, refl, ◌∙◌, arith}
+use Rattle.std.proofs.Common.{ℕ, ◌⊎◌, inl, inr, List, Option, ◌∙◌, arith}
 use Rattle.terrain.specs.Neighbours.{index_of}
 use Rattle.drain.specs.Rounding.{ArePut}
 use Rattle.drain.specs.declared.changes.Change.{Change}
 
 module _ (cols : ℕ) where
-  pub put_none : (Given : Change → Type 0) (steps : List (Option ℕ)) → ((x : Change) → Given x → ⊥) → ArePut cols steps steps Given
-  put_none Given steps none = record { size = refl; low = λ k. omega arith; done = λ x given. absurd (none x given); told = λ k. inl refl }
-
   -- some after others
   pub put_then : (First Next Given : Change → Type 0) (old mid new : List (Option ℕ)) → ((x : Change) → Given x → First x ⊎ Next x) → ((x : Change) → First x → Given x) → ((x : Change) → Next x → Given x) →
       ArePut cols old mid First → ArePut cols mid new Next → ArePut cols old new Given

@@ -6,7 +6,7 @@ use Rattle.std.proofs.lemmas.Option.{MatchOption-at_none, MatchOption-at_some}
 use Rattle.std.proofs.Math.Nat.{div-add-mod}
 use Rattle.std.proofs.lemmas.List.{ext_get_or, length-map}
 use Rattle.std.proofs.lemmas.Nat.{div_below, mod_below, div-mul-add, mod-mul-add}
-use Rattle.terrain.proofs.Places.{make_place, entry-inside, same_place, index_below}
+use Rattle.terrain.proofs.Places.{entry-inside, same_place, index_below}
 use Rattle.terrain.specs.Raster.{Terrain}
 use Rattle.terrain.specs.Neighbours.{height_at, entry_at, index_of, IsDataCell, height_of}
 use Rattle.terrain.specs.declared.place.Place.{Place}

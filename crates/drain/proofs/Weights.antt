@@ -8,7 +8,7 @@ use Rattle.std.specs.List.{enumerate_from, list_any, position}
 use Rattle.drain.specs.Steepness.{weight, weights, drop_to, leads_on, direction_of}
 use Rattle.terrain.specs.Ways.{code_of}
 use Rattle.drain.specs.declared.around.Around.{Around}
-use Rattle.drain.proofs.Greatest.{IsFirstGreatest, next_greatest, le-fold_max, none_passes}
+use Rattle.drain.proofs.Greatest.{le-fold_max, none_passes}
 use Rattle.drain.specs.Fitting.{IsFitting}
 
 abbrev pub own_weight : Around → ℕ × Option (ℤ × ℕ) → ℕ
@@ -28,7 +28,7 @@ get_or-weights a k h =
     ∙ ap (own_weight a) (get_or-enumerate_from 0 a.ways k no_way h)
     ∙ ap (λ way. weight way (drop_to a.level (get_or a.ways k None))) zero_and
 
-square-above_zero : (n : ℕ) → 1 ≤ n → 1 ≤ n * n
+pub square-above_zero : (n : ℕ) → 1 ≤ n → 1 ≤ n * n
 square-above_zero n h = let more : 1 * n ≤ n * n = mul-le-mul_right n h in omega arith
 
 -- only a drop of 0 has the weight 0
@@ -64,12 +64,6 @@ drains_onward a f low inside = go a low inside f.drains
     go a low inside (inl e) = absurd (false≢true (sym inside ∙ e))
     go a low inside (inr (inl e)) = absurd (false≢true (sym (no_way_down a low) ∙ e))
     go a low inside (inr (inr e)) = e
-
--- the greatest so far, after one way more
-pub greatest_with : (a : Around) (way greatest place own g p drop : ℕ) → way < length a.ways → IsFirstGreatest (weights a) way greatest place
-    → drop ≡ drop_to a.level (get_or a.ways way None) → own ≡ weight way drop
-    → ((greatest < own) × (g ≡ own) × (p ≡ way)) ⊎ ((own ≤ greatest) × (g ≡ greatest) × (p ≡ place)) → IsFirstGreatest (weights a) (way + 1) g p
-greatest_with a way greatest place own g p drop within f d w = next_greatest (weights a) way greatest place own g p f (w ∙ ap (weight way) d ∙ sym (get_or-weights a way within))
 
 pub direction_down : (a : Around) (greatest way : ℕ) → greatest ≡ fold max 0 (weights a) → 0 < greatest → position (λ w. eqb w greatest) (weights a) ≡ Some way → direction_of a ≡ code_of (Some way)
 direction_down a greatest way is some first =

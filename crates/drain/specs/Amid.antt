@@ -1,7 +1,7 @@
 -- The code of a cell that has eight cells of the grid around it, by their places in row order.
-use Rattle.std.specs.Prelude.{◌≡◌, ℕ, ◌+◌, ◌-◌, ◌<◌, ℤ, ◌-ℤ◌, List, [], ◌∷◌, length, Option, None, Some, option_map, slice_index_or}
+use Rattle.std.specs.Prelude.{◌≡◌, ℕ, ◌+◌, ◌-◌, ◌%◌, ◌<◌, ◌≤◌, ◌==◌, max, ℤ, ◌-ℤ◌, List, [], ◌∷◌, length, fold, Option, None, Some, option_map, position, slice_index_or}
 use Rattle.std.specs.Option.{option_zip}
-use Rattle.drain.specs.Steepness.{positive_part}
+use Rattle.drain.specs.Steepness.{positive_part, weights}
 use Rattle.drain.specs.declared.around.Around.{Around}
 
 -- Where the cells around one stand, in the order of the codes.
@@ -19,6 +19,23 @@ pub record HasHeights (a : Around) (level : ℤ) (heights : List (Option ℤ)) :
   pub own_level : a.level ≡ level
   pub count : length a.ways ≡ 8
   pub each : (way : ℕ) → way < 8 → slice_index_or heights way None ≡ option_map (λ w. w.0) (slice_index_or a.ways way None)
+
+-- How far a way leads down from this level.
+abbrev pub drop_on : ℤ → List (Option ℤ) → ℕ → ℕ
+drop_on level heights way = drop_by level (slice_index_or heights way None)
+
+-- Among the ways before an end that are even, or odd, none leads further down than this drop, and where it isn't 0
+-- this way is the first that leads as far.
+pub record IsFurthest (level : ℤ) (heights : List (Option ℤ)) (parity end drop way : ℕ) : Type 0 where
+  pub bound : (other : ℕ) → other < end → other % 2 ≡ parity → drop_on level heights other ≤ drop
+  pub reached : 0 < drop → (way < end) × (way % 2 ≡ parity) × (drop_on level heights way ≡ drop)
+  pub first : (other : ℕ) → 0 < drop → other < way → other % 2 ≡ parity → drop_on level heights other < drop
+
+-- The first of the steepest ways down, where one leads down.
+pub record IsSteepestWay (a : Around) (found : Option ℕ) : Type 0 where
+  pub none : found ≡ None → fold max 0 (weights a) ≡ 0
+  pub some : (way : ℕ) → found ≡ Some way →
+      let most = fold max 0 (weights a) in (way < 8) × (0 < most) × (position (λ w. w == most) (weights a) ≡ Some way)
 
 -- The cells at these places stand around one of this level and these steps.
 pub record StandAround (a : Around) (cells : List (Option ℤ)) (steps : List (Option ℕ)) (at : List ℕ) (level : ℤ) (own : ℕ) : Type 0 where

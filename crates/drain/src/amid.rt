@@ -42,8 +42,8 @@ pub(crate) fn cells_around(grid: &Grid, place: Place) -> [usize; 8]
     ensures value { result ≡ around_index grid.now.terrain.cols (index_of grid.now.terrain.cols place) }
     ensures below { (way : ℕ) → way < 8 → slice_index_or result way 0 < grid.now.terrain.cols * grid.now.terrain.rows }
 {
-    let cols = grid.cols() as usize;
-    around_index(cols, place.row as usize * cols + place.col as usize)
+    let cols = grid.cols();
+    around_index(cols as usize, place.index_in(cols))
 }
 
 /// The heights at these places.
@@ -101,7 +101,7 @@ fn onward(
 
 /// The code of a data cell. One that has steps has no lower neighbour, and one without drains at once.
 #[inline(always)]
-#[tactic(auto, using(crate::proofs::AroundLemmas::height_fits, crate::proofs::AmidLemmas::heights_fit))]
+#[tactic(auto, using(terrain::proofs::Heights::height_in, crate::proofs::AmidLemmas::heights_fit))]
 pub(crate) fn code_amid(
     grid: &Grid,
     steps: &[Option<u32>],
@@ -122,10 +122,8 @@ pub(crate) fn code_amid(
     if own > 0 {
         return Code::of_way(onward(cells, steps, &at, level, own));
     }
-    let fall = steepest(level, &heights_at(cells, &at));
-    if fall.weight > 0 {
-        Code::of_way(fall.way)
-    } else {
-        Code::outlet()
+    match steepest(level, &heights_at(cells, &at)) {
+        Some(way) => Code::of_way(way),
+        None => Code::outlet(),
     }
 }

@@ -123,7 +123,7 @@ pub(crate) fn begin_at_sinks(grid: &Grid, counts: &mut [Option<u32>])
         if grid.at(*sink).is_none() {
             continue;
         }
-        let index = sink.row as usize * grid.cols() as usize + sink.col as usize;
+        let index = sink.index_in(grid.cols());
         counts[index] = Some(0);
     }
 }

@@ -33,7 +33,7 @@ impl<'a> Lent<'a> {
         ensures value { result ≡ index_of self.now.tiling.now.cols place }
         ensures below { result < self.now.tiling.now.cols * self.now.tiling.now.rows }
     {
-        place.row as usize * self.tiling.cols() as usize + place.col as usize
+        place.index_in(self.tiling.cols())
     }
 
     /// Whether two cells have one filled height, or none.

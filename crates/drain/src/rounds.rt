@@ -20,7 +20,7 @@ use std::alloc::{AllocError, Global};
 use std::marker::Model;
 use std::sync::Wait;
 use std::thread::Threads;
-use terrain::{Height, Place};
+use terrain::Height;
 use tile_jobs::{Gate, JobFault, Work};
 use tile_maps::Crew;
 use tiles::Tiling;
@@ -73,8 +73,7 @@ fn put(tiling: &Tiling, steps: &mut [Option<u32>], change: Change)
     requires place { IsWithin tiling.now change.place }
     ensures { ArePut tiling.now.cols steps.old steps.new (λ x. x ≡ change) }
 {
-    let Place { row, col } = change.place;
-    let index = row as usize * tiling.cols() as usize + col as usize;
+    let index = change.place.index_in(tiling.cols());
     if change.count < steps[index].unwrap_or(NO_COUNT) {
         steps[index] = Some(change.count);
     }

@@ -1,9 +1,9 @@
 // The direction of one cell.
-ghost use Rattle.std.specs.Prelude.{◌≡◌, ◌<◌, ◌≤◌, ℕ, IfSome, IsTrue, Some, None, option_map, slice_index_or, fold, max, position, ◌==◌, nat_lt};
+ghost use Rattle.std.specs.Prelude.{◌≡◌, ◌*◌, ◌<◌, ◌≤◌, ℕ, IfSome, IsTrue, Some, None, option_map, slice_index_or, position};
 ghost use Rattle.std.specs.List.{list_any};
-ghost use Rattle.terrain.specs.Raster.{IsHeight};
-ghost use Rattle.drain.specs.Steepness.{direction_of, weight, weights, leads_on};
-ghost use Rattle.drain.specs.Amid.{HasHeights, drop_by};
+ghost use Rattle.terrain.specs.Raster.{IsHeight, greatest_drop};
+ghost use Rattle.drain.specs.Steepness.{direction_of, leads_on};
+ghost use Rattle.drain.specs.Amid.{HasHeights, IsFurthest, IsSteepestWay};
 ghost use Rattle.drain.specs.Fitting.{IsFitting};
 ghost use Rattle.drain.specs.declared.around.Around.{Around};
 
@@ -11,63 +11,65 @@ use crate::around::Around;
 use drainage::Code;
 use terrain::Height;
 
-/// The steepest way down: its weight, 0 where no way leads down, and which way it is.
+/// The furthest way down: how far it leads down, 0 where no way does, and which way it is.
 #[derive(Clone, Copy)]
-pub(crate) struct Fall {
-    pub(crate) weight: u64,
-    pub(crate) way: usize,
+struct Fall {
+    drop: u64,
+    way: usize,
 }
 
-/// How far a neighbour is lower than this level; 0 where it isn't, and where there is no neighbour.
+/// The furthest way down along rows and columns, which are the even ways, or across diagonals, which are the odd
+/// ones. Among equals the first.
 #[inline(always)]
-fn drop_along(level: Height, neighbour: Option<Height>) -> u64
-    requires level { IsHeight level }
-    requires neighbour { IfSome neighbour IsHeight }
-    ensures value { result ≡ drop_by level neighbour }
-    ensures bound { result ≤ 2000000000 }
-{
-    match neighbour {
-        Some(height) if height < level => (level - height) as u64,
-        _ => 0,
-    }
-}
-
-/// The square of a drop by its distance, doubled: ways along a row or column are the even ones.
-#[inline(always)]
-fn weight_along(way: usize, drop: u64) -> u64
-    requires { drop ≤ 2000000000 }
-    ensures { result ≡ weight way drop }
-{
-    if way % 2 == 0 {
-        2 * (drop * drop)
-    } else {
-        drop * drop
-    }
-}
-
-/// The first of the ways whose weight is the greatest, of the heights on them.
-#[inline(always)]
-pub(crate) fn steepest(level: Height, heights: &[Option<Height>; 8]) -> Fall
+fn furthest(level: Height, heights: &[Option<Height>; 8], parity: usize) -> Fall
+    requires parity { parity < 2 }
     requires level { IsHeight level }
     requires heights { (way : ℕ) → way < 8 → IfSome (slice_index_or heights.now way None) IsHeight }
-    ensures weight { (a : Around) → HasHeights a level heights.now → result.weight ≡ fold max 0 (weights a) }
-    ensures way { (a : Around) → HasHeights a level heights.now → 0 < result.weight →
-        (result.way < 8) × (position (λ w. w == result.weight) (weights a) ≡ Some result.way) }
+    ensures value { IsFurthest level heights.now parity 8 result.drop result.way }
+    ensures bound { result.drop ≤ greatest_drop }
 {
-    let mut weight = 0;
-    let mut steepest = 0;
-    for way in 0..8 {
-        let drop = drop_along(level, heights[way]);
-        let own = weight_along(way, drop);
-        if own > weight {
-            weight = own;
-            steepest = way;
+    let mut lowest = level;
+    let mut furthest = parity;
+    for turn in 0..4 {
+        let way = 2 * turn + parity;
+        let height = heights[way].unwrap_or(lowest);
+        if height < lowest {
+            lowest = height;
+            furthest = way;
         }
     }
     Fall {
-        weight,
-        way: steepest,
+        drop: (level - lowest) as u64,
+        way: furthest,
     }
+}
+
+/// The square of a drop.
+#[inline(always)]
+fn square(drop: u64) -> u128
+    requires { drop ≤ greatest_drop }
+    ensures value { result ≡ drop * drop }
+    ensures bound { result ≤ greatest_drop * greatest_drop }
+{
+    drop as u128 * drop as u128
+}
+
+/// The first of the steepest ways down, of the heights on them.
+#[inline(always)]
+pub(crate) fn steepest(level: Height, heights: &[Option<Height>; 8]) -> Option<usize>
+    requires level { IsHeight level }
+    requires heights { (way : ℕ) → way < 8 → IfSome (slice_index_or heights.now way None) IsHeight }
+    ensures { (a : Around) → HasHeights a level heights.now → IsSteepestWay a result }
+{
+    let straight = furthest(level, heights, 0);
+    let across = furthest(level, heights, 1);
+    // No fraction is the root of two, so the two are equal only where no way leads down.
+    let fall = if 2 * square(straight.drop) > square(across.drop) {
+        straight
+    } else {
+        across
+    };
+    (fall.drop > 0).then_some(fall.way)
 }
 
 /// The height of a neighbour.
@@ -133,12 +135,9 @@ pub fn direction(around: &Around) -> Code
     requires { IsFitting around.now }
     ensures { result ≡ direction_of around.now }
 {
-    let fall = steepest(around.level, &heights_around(around));
-    if fall.weight > 0 {
-        Code::of_way(fall.way)
-    } else if around.edge {
-        Code::outlet()
-    } else {
-        Code::of_way(onward(around))
+    match steepest(around.level, &heights_around(around)) {
+        Some(way) => Code::of_way(way),
+        None if around.edge => Code::outlet(),
+        None => Code::of_way(onward(around)),
     }
 }

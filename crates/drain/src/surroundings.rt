@@ -46,7 +46,7 @@ fn entry(
     if row >= grid.rows() || col >= grid.cols() {
         return None;
     }
-    let index = row as usize * grid.cols() as usize + col as usize;
+    let index = Place { row, col }.index_in(grid.cols());
     match (grid.cells()[index], steps[index]) {
         (Some(height), Some(count)) => Some((height, count)),
         _ => None,
@@ -110,7 +110,7 @@ fn code_at(grid: &Grid, steps: &[Option<u32>], place: Place) -> Option<Code>
     requires inside { IsInside grid.now.terrain place }
     ensures { IsCodeAt grid.now.terrain place result }
 {
-    let index = place.row as usize * grid.cols() as usize + place.col as usize;
+    let index = place.index_in(grid.cols());
     let (Some(level), Some(own)) = (grid.at(place), steps[index]) else {
         return None;
     };

@@ -26,7 +26,7 @@ impl Ground {
         ensures value { result ≡ spot_index self.now.bounds spot }
         ensures below { result < area_of self.now.bounds }
     {
-        spot.row as usize * (self.bounds.cols as usize + 2) + spot.col as usize
+        spot.index_in(self.bounds.cols + 2)
     }
 
     /// Whether a spot is one of the tile's.

@@ -1,10 +1,12 @@
 -- the flood of a tile
 mod LabelTables
 mod TileWindows
+pub mod Where
 mod CellMarks
 -- the spill graph
 mod Adding
 mod Lowest
+mod SourceHeights
 mod SourceCells
 pub mod Gathered
 mod GraphParts

@@ -1,23 +1,26 @@
 -- A raised tile has its filled heights, and the tiles together give the filled grid.
-use Rattle.std.proofs.Common.{◌≡◌, ℕ, ◌+◌, ◌-◌, ◌*◌, ◌<◌, ◌⊎◌, inl, inr, ℤ, List, length, get_or, map, Option, None, Some, is_some, ◌∙◌, sym, ap, subst, refl, arith, zero, suc, ◌/◌, ◌%◌, IfSome, MatchOption, mul_comm}
-use Rattle.std.specs.Prelude.{slice_get, option_and_then}
+use Rattle.std.proofs.Common.{◌≡◌, ℕ, ◌+◌, ◌-◌, ◌*◌, ◌<◌, ◌≤◌, ◌⊎◌, inl, inr, ℤ, List, [], ◌∷◌, ◌++◌, length, get_or, map, Option, None, Some, is_some, ◌∙◌, sym, ap, subst, refl, arith, zero, suc, ◌/◌, ◌%◌, IfSome, MatchOption, mul_comm, pos}
+use Rattle.std.specs.Prelude.{slice_get, option_and_then, option_map}
 use Rattle.std.specs.Int.{int_max}
-use Rattle.std.proofs.lemmas.List.{get_or-map}
+use Rattle.std.proofs.lemmas.Bool.{cases_lt}
+use Rattle.std.proofs.lemmas.List.{get_or-map, length-map, length_push, get_or_append_left, get_or_push}
 use Rattle.terrain.specs.Raster.{Terrain, Raster}
 use Rattle.terrain.specs.Sinks.{with_sinks}
 use Rattle.terrain.specs.Neighbours.{height_at, index_of, entry_at, IsInside}
 use Rattle.drainage.specs.Filled.{IsFilledHeight, IsFilled, IsFilledGrid, IsOwnFilled}
 use Rattle.terrain.specs.declared.place.Place.{Place}
-use Rattle.terrain.proofs.Places.{entry-inside}
+use Rattle.terrain.proofs.Places.{make_place, entry-inside, index_injective, index_below}
 use Rattle.drainage.proofs.Heights.{filled_height_stands}
 use Rattle.tiles.specs.declared.bounds.Bounds.{Bounds}
-use Rattle.tiles.specs.Cutting.{Cutting, IsCutting, IsInBounds, IsWithin, bounds_of, cell_count, tile_count, tile_entry, tile_of_place, Cuts, View, terrain_of}
-use Rattle.tiles.proofs.Cut.{in_bounds, tile_of_place_below}
+use Rattle.tiles.specs.Cutting.{Cutting, IsCutting, IsInBounds, IsInTile, IsWithin, bounds_of, cell_count, tile_count, tile_entry, tile_of_place, Cuts, View, terrain_of}
+use Rattle.tiles.proofs.Cut.{in_bounds, in_tile, bounds_inside, tile_of_place_below}
+use Rattle.tiles.proofs.PutBack.{row_in_list}
 use Rattle.tiles.proofs.TileOrder.{tile_entry-in}
-use Rattle.fill.specs.TileFlood.{Flood, level_in, label_in, IsTileFlood}
-use Rattle.fill.specs.Spills.{AreFloods, level_among, AreSpillLevels, AreOpenLevels, spill_of, greater_of, raised_by, AreGreater, IsRaised, raised_among, IsFilledTile}
+use Rattle.fill.specs.TileFlood.{Flood, level_in, label_in, IsTileFlood, levels_where}
+use Rattle.fill.specs.Spills.{AreFloods, level_among, AreSpillLevels, AreOpenLevels, spill_of, greater_of, raised_by, AreGreater, IsRaised, raised_among, AreRaisedBelow, IsFilledTile}
 use Rattle.fill.specs.Gathering.{Fit}
 use Rattle.fill.specs.Labels.{labels_by, IsTable}
+use Rattle.fill.proofs.Where.{levels_where-length, levels_where-at}
 use Rattle.fill.proofs.Gathered.{fit_of}
 use Rattle.floods.proofs.Steps.{seen, match_of, none_some}
 use Rattle.fill.proofs.TileWindows.{entry_in-inside, entry_index}
@@ -31,52 +34,114 @@ use Rattle.tile_maps.proofs.Whole.{map_of_size}
 use Rattle.drainage.proofs.FilledTwice.{filled_twice}
 
 -- The first cells have the greater of their levels and their labels'.
-pub record AreFirstGreater (levels : List (Option ℤ)) (labels : List ℕ) (spills : List (Option ℤ)) (count : ℕ) (raised : List (Option ℤ)) : Type 0 where
+pub record AreFirstGreater (heights : List ℤ) (labels : List ℕ) (spills : List (Option ℤ)) (count : ℕ) (raised : List (Option ℤ)) : Type 0 where
   pub size : length raised ≡ count
-  pub each : (i : ℕ) → i < count → get_or raised i None ≡ greater_of (get_or levels i None) (get_or spills (get_or labels i 0) None)
+  pub each : (i : ℕ) → i < count → get_or raised i None ≡ greater_of (Some (get_or heights i (pos 0))) (get_or spills (get_or labels i 0) None)
+
+-- a level stands where a label does, and only there a cell is raised
+raised_where : (c : Cutting) (levels : List (Option ℤ)) (height : ℤ) (label : Option Place) → greater_of (Some height) (spill_of c levels label) ≡ raised_by c levels (option_map (λ _. height) label) label
+raised_where c levels height None = refl
+raised_where c levels height (Some p) = refl
 
 -- by the levels of the labels of its table a tile is raised
-pub raised_by_table : (c : Cutting) (f : Flood) (places : List (Option Place)) (cells : List ℕ) (levels spills raised : List (Option ℤ)) → f.labels ≡ labels_by places cells → IsTable places cells → length cells ≡ length f.levels → spills ≡ map (spill_of c levels) places → AreGreater f.levels cells spills raised → IsRaised c f levels raised
-raised_by_table c f places cells levels spills raised are table long is s = record {
-  size = s.size;
+pub raised_by_table : (c : Cutting) (f : Flood) (places : List (Option Place)) (cells : List ℕ) (heights : List ℤ) (levels spills raised : List (Option ℤ)) → f.labels ≡ labels_by places cells → IsTable places cells
+    → f.levels ≡ levels_where f.labels heights → length cells ≡ length heights → spills ≡ map (spill_of c levels) places → AreGreater heights cells spills raised → IsRaised c f levels raised
+raised_by_table c f places cells heights levels spills raised are table where_is long is s = record {
+  size = s.size ∙ sym (ap length where_is ∙ levels_where-length f.labels heights fit ∙ fit);
   each = λ i low.
-      let inside : i < length cells = omega (arith, low, long) in
-      s.each i low ∙ ap (greater_of (get_or f.levels i None)) (
+      let inside : i < length cells = omega (arith, low, long, ap length where_is ∙ levels_where-length f.labels heights fit, fit) in
+      let spill : get_or spills (get_or cells i 0) None ≡ spill_of c levels (get_or f.labels i None) =
       ap (λ (z : List (Option ℤ)). get_or z (get_or cells i 0) None) is
       ∙ get_or-map (spill_of c levels) places (get_or cells i 0) None None (table.inside i 0 inside)
-      ∙ ap (spill_of c levels) (sym (get_or-map (λ k. get_or places k None) cells i 0 None inside) ∙ ap (λ (z : List (Option Place)). get_or z i None) (sym are))
-      );
+      ∙ ap (spill_of c levels) (sym (get_or-map (λ k. get_or places k None) cells i 0 None inside) ∙ ap (λ (z : List (Option Place)). get_or z i None) (sym are)) in
+      let level : get_or f.levels i None ≡ option_map (λ _. get_or heights i (pos 0)) (get_or f.labels i None) =
+      ap (λ (z : List (Option ℤ)). get_or z i None) where_is ∙ levels_where-at f.labels heights i fit in
+      s.each i (omega (arith, inside, long)) ∙ ap (greater_of (Some (get_or heights i (pos 0)))) spill
+      ∙ raised_where c levels (get_or heights i (pos 0)) (get_or f.labels i None) ∙ ap (λ z. raised_by c levels z (get_or f.labels i None)) (sym level);
 }
+  where
+    fit : length f.labels ≡ length heights
+    fit = ap length are ∙ length-map cells (λ k. get_or places k None) ∙ long
 
--- what a cell is raised to
 raised_from : (c : Cutting) (levels : List (Option ℤ)) (o : Option ℤ) (l : Option Place) (level n : ℤ) (label : Place) → o ≡ Some level → l ≡ Some label → get_or levels (index_of c.cols label) None ≡ Some n → raised_by c levels o l ≡ Some (int_max level n)
 raised_from c levels o l level n label a b e = rw (a, b) (ap (option_and_then (λ z. Some (int_max level z))) e)
 
 raised_from_none : (c : Cutting) (levels : List (Option ℤ)) (o : Option ℤ) (l : Option Place) → o ≡ None → raised_by c levels o l ≡ None
 raised_from_none c levels o l a = rw a refl
 
+-- what a flood and its tile's index say of a place of the tile
+pub raised_here : (c : Cutting) (floods : List Flood) (tile k : ℕ) (f : Flood) (levels : List (Option ℤ)) (p : Place) → IsCutting c → Fit c floods → slice_get floods tile ≡ Some f → IsInTile c tile p
+    → k ≡ (p.row - (bounds_of c tile).top) * (bounds_of c tile).cols + (p.col - (bounds_of c tile).left) → raised_by c levels (get_or f.levels k None) (get_or f.labels k None) ≡ raised_among c floods levels p
+raised_here c floods tile k f levels p h fit there i at =
+    let bounds = fit.bounds tile f there in
+    let held : IsInBounds f.bounds p = subst (λ x. IsInBounds x p) (sym bounds) (in_bounds c tile p h i) in
+    let index : (p.row - f.bounds.top) * f.bounds.cols + (p.col - f.bounds.left) ≡ k = ap (λ (x : Bounds). (p.row - x.top) * x.cols + (p.col - x.left)) bounds ∙ sym at in
+    let level : level_in f p ≡ get_or f.levels k None = entry_in-inside f.bounds f.levels p held ∙ ap (λ n. get_or f.levels n None) index in
+    let label : label_in f p ≡ get_or f.labels k None = entry_in-inside f.bounds f.labels p held ∙ ap (λ n. get_or f.labels n None) index in
+    let own : slice_get floods (tile_of_place c p) ≡ Some f = ap (slice_get floods) i.1 ∙ there in
+    let own_level = among_is (λ g. level_in g p) floods (tile_of_place c p) f own ∙ level in
+    let own_label = among_is (λ g. label_in g p) floods (tile_of_place c p) f own ∙ label in
+    sym (ap (λ z. raised_by c levels z (get_or f.labels k None)) own_level) ∙ sym (ap (raised_by c levels (level_among c floods p)) own_label)
+
 -- a raised tile has what its cells are raised to
 pub raised_tile : (c : Cutting) (floods : List Flood) (tile : ℕ) (f : Flood) (levels raised : List (Option ℤ)) → IsCutting c → Fit c floods → slice_get floods tile ≡ Some f → IsRaised c f levels raised →
     IsMadeTile c tile (λ p height. height ≡ raised_among c floods levels p) raised
 raised_tile c floods tile f levels raised h fit there is =
-    let bounds = fit.bounds tile f there in
-    let area : length f.levels ≡ cell_count c tile = fit.levels tile f there ∙ ap (λ (x : Bounds). x.rows * x.cols) bounds in
+    let area : length f.levels ≡ cell_count c tile = fit.levels tile f there ∙ ap (λ (x : Bounds). x.rows * x.cols) (fit.bounds tile f there) in
     record {
       size = is.size ∙ area;
       each = λ p i.
           let b = bounds_of c tile in
-          let inside = in_bounds c tile p h i in
           let k = (p.row - b.top) * b.cols + (p.col - b.left) in
-          let low : k < length f.levels = omega (arith, entry_index b p inside, area) in
-          let held : IsInBounds f.bounds p = subst (λ x. IsInBounds x p) (sym bounds) inside in
-          let level : level_in f p ≡ get_or f.levels k None = entry_in-inside f.bounds f.levels p held ∙ ap (λ (x : Bounds). get_or f.levels ((p.row - x.top) * x.cols + (p.col - x.left)) None) bounds in
-          let label : label_in f p ≡ get_or f.labels k None = entry_in-inside f.bounds f.labels p held ∙ ap (λ (x : Bounds). get_or f.labels ((p.row - x.top) * x.cols + (p.col - x.left)) None) bounds in
-          let at : slice_get floods (tile_of_place c p) ≡ Some f = ap (slice_get floods) i.1 ∙ there in
-          let own_level = among_is (λ g. level_in g p) floods (tile_of_place c p) f at ∙ level in
-          let own_label = among_is (λ g. label_in g p) floods (tile_of_place c p) f at ∙ label in
-          tile_entry-in c tile raised p i ∙ is.each k low
-          ∙ sym (ap (λ z. raised_by c levels z (get_or f.labels k None)) own_level) ∙ sym (ap (raised_by c levels (level_among c floods p)) own_label);
+          let low : k < length f.levels = omega (arith, entry_index b p (in_bounds c tile p h i), area) in
+          tile_entry-in c tile raised p i ∙ is.each k low ∙ raised_here c floods tile k f levels p h fit there i refl;
     }
+
+-- no cell yet, and one more
+pub raised_none : (c : Cutting) (floods : List Flood) (levels : List (Option ℤ)) → AreRaisedBelow c floods levels 0 []
+raised_none c floods levels = record { size = refl; each = λ p within low. absurd (omega (arith, low)) }
+
+pub raised_more : (c : Cutting) (floods : List Flood) (levels list : List (Option ℤ)) (p : Place) (n : ℕ) (x : Option ℤ) → IsWithin c p → n ≡ index_of c.cols p → x ≡ raised_among c floods levels p → AreRaisedBelow c floods levels n list → AreRaisedBelow c floods levels (n + 1) (list ++ x ∷ [])
+raised_more c floods levels list p n x within at is below = record {
+  size = length_push list x ∙ ap (λ k. k + 1) below.size;
+  each = λ q inside low. elim (cases_lt (index_of c.cols q) n) [
+    | inl before ↦ get_or_append_left list (x ∷ []) None (index_of c.cols q) (omega (arith, before, below.size)) ∙ below.each q inside before
+    | inr past ↦
+        let same : index_of c.cols q ≡ n = omega (arith, past, low) in
+        get_or_push list x None (index_of c.cols q) (below.size ∙ sym same) ∙ is ∙ ap (raised_among c floods levels) (index_injective c.cols p q within.1 inside.1 (sym at ∙ sym same))
+  ];
+}
+
+-- the tile of a place has the rest of its row up to the tile's last column
+pub part_of_row : (c : Cutting) (floods : List Flood) (row col tile : ℕ) (f : Flood) (b : Bounds) → IsCutting c → Fit c floods → row < c.rows → col < c.cols → tile ≡ tile_of_place c (make_place row col) → slice_get floods tile ≡ Some f → b ≡ f.bounds
+    → (b ≡ bounds_of c tile) × IsInBounds b (make_place row col) × (b.left + b.cols ≤ c.cols) × ((row - b.top) * b.cols + b.cols ≤ length f.labels)
+part_of_row c floods row col tile f b h fit low left is there e =
+    let p = make_place row col in
+    let same : b ≡ bounds_of c tile = e ∙ fit.bounds tile f there in
+    let below : tile < tile_count c = omega (arith, tile_of_place_below c p h (low, left), is) in
+    let inside : IsInBounds b p = subst (λ (x : Bounds). IsInBounds x p) (sym same) (in_bounds c tile p h ((low, left), sym is)) in
+    let end : b.left + b.cols ≤ c.cols = subst (λ (x : Bounds). x.left + x.cols ≤ c.cols) (sym same) (bounds_inside c tile h below).cols_inside in
+    (same, inside, end, row_in_list b row (length f.labels) (fit.sizes tile f there ∙ ap (λ (x : Bounds). x.rows * x.cols) (sym e)) inside.0 inside.1)
+
+-- one more cell of such a part
+pub part_more : (c : Cutting) (floods : List Flood) (levels list : List (Option ℤ)) (row start index tile : ℕ) (f : Flood) (b : Bounds) (x : Option ℤ) → IsCutting c → Fit c floods → tile < tile_count c → slice_get floods tile ≡ Some f → b ≡ bounds_of c tile
+    → b.top ≤ row → row < b.top + b.rows → start ≡ (row - b.top) * b.cols → start ≤ index → index < start + b.cols → x ≡ raised_by c levels (get_or f.levels index None) (get_or f.labels index None)
+    → AreRaisedBelow c floods levels (row * c.cols + (b.left + (index - start))) list → AreRaisedBelow c floods levels (row * c.cols + (b.left + (index + 1 - start))) (list ++ x ∷ [])
+part_more c floods levels list row start index tile f b x h fit below there same top bottom at from end is raised =
+    let p = make_place row (b.left + (index - start)) in
+    let inside : IsInBounds b p = (top, bottom, omega arith, omega (arith, from, end)) in
+    let i = in_tile c tile p h below (subst (λ (z : Bounds). IsInBounds z p) same inside) in
+    let k : index ≡ (p.row - b.top) * b.cols + (p.col - b.left) = omega (arith, at, from) in
+    let own : index ≡ (p.row - (bounds_of c tile).top) * (bounds_of c tile).cols + (p.col - (bounds_of c tile).left) = k ∙ ap (λ (z : Bounds). (p.row - z.top) * z.cols + (p.col - z.left)) same in
+    subst (λ n. AreRaisedBelow c floods levels n (list ++ x ∷ [])) (omega (arith, from))
+    (raised_more c floods levels list p _ x i.0 refl (is ∙ raised_here c floods tile index f levels p h fit there i own) raised)
+
+-- so all cells of the grid
+pub raised_map : (c : Cutting) (floods : List Flood) (levels list : List (Option ℤ)) (n : ℕ) → n ≡ c.rows * c.cols → AreRaisedBelow c floods levels n list → IsMadeMap c (λ p height. height ≡ raised_among c floods levels p) list
+raised_map c floods levels list n all below = record {
+  size = below.size ∙ all ∙ mul_comm c.rows c.cols;
+  each = λ p within. entry-inside c.cols c.rows list p within.0 within.1 ∙ below.each p within (omega (arith, index_below c.cols c.rows p within.0 within.1, all, mul_comm c.rows c.cols));
+}
 
 -- a graph with all joins is one in which some may be left out
 pub open_levels : (t : Terrain) (c : Cutting) (floods : List Flood) (levels : List (Option ℤ)) → AreSpillLevels t c floods levels → AreOpenLevels t c floods levels

@@ -1,12 +1,12 @@
 -- The sources of the spill graph, tile by tile.
-use Rattle.std.proofs.Common.{◌≡◌, ℕ, ◌+◌, ◌*◌, ◌/◌, ◌%◌, ◌<◌, ◌≤◌, ◌⊎◌, inl, inr, ℤ, List, [], ◌∷◌, ◌++◌, length, get_or, Option, None, Some, IsSome, is_some, ◌∙◌, sym, ap, subst, arith, set}
+use Rattle.std.proofs.Common.{◌≡◌, ◌≢◌, ℕ, ◌+◌, ◌*◌, ◌/◌, ◌%◌, ◌<◌, ◌≤◌, ◌⊎◌, inl, inr, ℤ, List, [], ◌∷◌, ◌++◌, length, get_or, Option, None, Some, IsSome, is_some, ◌∙◌, sym, ap, subst, arith, set}
 use Rattle.std.specs.Prelude.{slice_get}
 use Rattle.std.specs.List.{Contains, All}
 use Rattle.std.proofs.lemmas.Bool.{cases_eq, cases_lt}
 use Rattle.std.proofs.lemmas.Nat.{div-add-mod', div_below, mod_below}
 use Rattle.std.proofs.lemmas.Option.{same_Some}
 use Rattle.std.proofs.lemmas.List.{get_or_default, length-map, get_or-map, get_or_past, length-set, get_or-set_same, get_or-set_other}
-use Rattle.std.proofs.lemmas.List.Elements.{Contains-append_left, Contains-push, Contains-push_cases}
+use Rattle.std.proofs.lemmas.List.Elements.{All-contains, Contains-append_left, Contains-push, Contains-push_cases}
 use Rattle.terrain.specs.Neighbours.{index_of}
 use Rattle.terrain.specs.declared.place.Place.{Place}
 use Rattle.terrain.proofs.Places.{index_injective, index_below}
@@ -129,6 +129,38 @@ pub record PutsFirst (sources : List Source) (count : ℕ) (old new : List (Opti
   pub kept : (k : ℕ) → IsSome (get_or old k None) → IsSome (get_or new k None)
   pub only : (k : ℕ) (h : ℤ) → get_or new k None ≡ Some h → (get_or old k None ≡ Some h) ⊎ Contains sources (record { node = k; height = h })
   pub every : (k : ℕ) (d : Source) → k < count → IsSome (get_or new (get_or sources k d).node None)
+
+-- one more source
+pub source_put : (sources : List Source) (i : ℕ) (d : Source) (old now : List (Option ℤ)) → All (λ (s : Source). s.node < length old) sources → i < length sources → PutsFirst sources i old now → PutsFirst sources (i + 1) old (set now (get_or sources i d).node (Some (get_or sources i d).height))
+source_put sources i d old now inside below s = record {
+  size = length-set now made.node (Some made.height) ∙ s.size;
+  kept = λ k some. elim (cases_eq k made.node) [
+    | inl same ↦ ap is_some (at k same)
+    | inr other ↦ ap is_some (still k other) ∙ s.kept k some
+  ];
+  only = λ k h e. elim (cases_eq k made.node) [
+    | inl same ↦ inr (subst (Contains sources) (ap (λ n. record { node = n; height = made.height }) (sym same) ∙ ap (λ (z : ℤ). record { node = k; height = z }) (same_Some made.height h (sym (at k same) ∙ e))) held)
+    | inr other ↦ s.only k h (sym (still k other) ∙ e)
+  ];
+  every = λ k e low. elim (cases_eq (get_or sources k e).node made.node) [
+    | inl same ↦ ap is_some (at _ same)
+    | inr other ↦ elim (cases_eq k i) [
+      | inl last ↦ absurd (other (ap (λ n. (get_or sources n e).node) last ∙ ap (λ (x : Source). x.node) (get_or_default sources i e d below)))
+      | inr before ↦ ap is_some (still _ other) ∙ s.every k e (omega (arith, low, before))
+    ]
+  ];
+} where
+  made : Source
+  made = get_or sources i d
+
+  held : Contains sources made
+  held = (i, below, get_or_default sources i made d below)
+
+  at : (k : ℕ) → k ≡ made.node → get_or (set now made.node (Some made.height)) k None ≡ Some made.height
+  at k same = ap (λ n. get_or (set now made.node (Some made.height)) n None) same ∙ get_or-set_same now made.node (Some made.height) None (omega (arith, s.size, All-contains (λ (x : Source). x.node < length old) sources made inside held))
+
+  still : (k : ℕ) → k ≢ made.node → get_or (set now made.node (Some made.height)) k None ≡ get_or now k None
+  still k other = get_or-set_other now made.node k (Some made.height) None other
 
 -- The entries are heights of sources, and the sources among the places have theirs.
 pub record HaveSources (c : Cutting) (floods : List Flood) (places : Place → Type 0) (heights : List (Option ℤ)) : Type 0 where

@@ -46,6 +46,11 @@ way_to_number numbers way = record { to = number_of numbers way.to; height = way
 abbrev pub levels_by : List (Option ℤ) → List ℕ → List (Option ℤ)
 levels_by heights numbers = map (λ n. slice_index_or heights n None) numbers
 
+-- Each place has an index into the heights. There are as few of them as its 32 bits can tell.
+pub record AreIndexes (heights : List (Option ℤ)) (numbers : List ℕ) : Type 0 where
+  pub few : length heights ≤ 4294967296
+  pub inside : (k : ℕ) → slice_index_or numbers k 0 < length heights
+
 -- The first labels of these joins have been marked with 0, and no mark of 0 has been taken back.
 pub record MarksJoined (joins : List Join) (old new : List ℕ) : Type 0 where
   pub size : length new ≡ length old

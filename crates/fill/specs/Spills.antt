@@ -1,12 +1,12 @@
 -- The spill graph: how the labels of all tiles are joined, and the levels that it gives them.
-use Rattle.std.specs.Prelude.{◌≡◌, ◌≢◌, ℕ, ◌*◌, ◌<◌, ℤ, ◌≤ℤ◌, List, length, Option, None, Some, IsSome, ◌⊎◌, MatchOption, slice_get, slice_index_or, option_and_then}
+use Rattle.std.specs.Prelude.{◌≡◌, ◌≢◌, ℕ, ◌*◌, ◌<◌, ℤ, pos, ◌≤ℤ◌, List, length, Option, None, Some, IsSome, ◌⊎◌, MatchOption, slice_get, slice_index_or, option_and_then}
 use Rattle.std.specs.Int.{int_max}
 use Rattle.std.specs.List.{Contains}
 use Rattle.terrain.specs.Raster.{Terrain}
 use Rattle.terrain.specs.Neighbours.{height_at, index_of, IsNeighbour, IsEnd}
 use Rattle.drainage.specs.Filled.{IsFilledHeight}
 use Rattle.terrain.specs.declared.place.Place.{Place}
-use Rattle.tiles.specs.Cutting.{Cutting, IsCutting, Cuts, tile_count, tile_of_place, IsInTile, tile_entry, cell_count}
+use Rattle.tiles.specs.Cutting.{Cutting, IsCutting, IsWithin, Cuts, tile_count, tile_of_place, IsInTile, tile_entry, cell_count}
 use Rattle.fill.specs.TileFlood.{Flood, IsTileFlood, level_in, label_in}
 use Rattle.floods.specs.Walk.{IsFlooded}
 use Rattle.fill.specs.declared.spills.Join.{Join}
@@ -114,10 +114,10 @@ abbrev pub raised_by : Cutting → List (Option ℤ) → Option ℤ → Option P
 raised_by c levels level label = greater_of level (spill_of c levels label)
 
 -- Each entry is the greater of a level and its label's, where labels are indexes into the list of their levels.
-pub record AreGreater (levels : List (Option ℤ)) (labels : List ℕ) (spills : List (Option ℤ)) (raised : List (Option ℤ)) : Type 0 where
-  pub size : length raised ≡ length levels
-  pub each : (i : ℕ) → i < length levels →
-      slice_index_or raised i None ≡ greater_of (slice_index_or levels i None) (slice_index_or spills (slice_index_or labels i 0) None)
+pub record AreGreater (heights : List ℤ) (labels : List ℕ) (spills : List (Option ℤ)) (raised : List (Option ℤ)) : Type 0 where
+  pub size : length raised ≡ length heights
+  pub each : (i : ℕ) → i < length heights →
+      slice_index_or raised i None ≡ greater_of (Some (slice_index_or heights i (pos 0))) (slice_index_or spills (slice_index_or labels i 0) None)
 
 pub record IsRaised (c : Cutting) (f : Flood) (levels : List (Option ℤ)) (raised : List (Option ℤ)) : Type 0 where
   pub size : length raised ≡ length f.levels
@@ -127,6 +127,11 @@ pub record IsRaised (c : Cutting) (f : Flood) (levels : List (Option ℤ)) (rais
 -- What the flood of its tile and these levels of the labels raise a cell to.
 abbrev pub raised_among : Cutting → List Flood → List (Option ℤ) → Place → Option ℤ
 raised_among c floods levels p = raised_by c levels (level_among c floods p) (label_among c floods p)
+
+-- So many places, the first in row order, have what they are raised to.
+pub record AreRaisedBelow (c : Cutting) (floods : List Flood) (levels : List (Option ℤ)) (count : ℕ) (raised : List (Option ℤ)) : Type 0 where
+  pub size : length raised ≡ count
+  pub each : (p : Place) → IsWithin c p → index_of c.cols p < count → slice_index_or raised (index_of c.cols p) None ≡ raised_among c floods levels p
 
 -- The list has the filled heights of a tile's cells, in its row order.
 pub record IsFilledTile (t : Terrain) (c : Cutting) (tile : ℕ) (levels : List (Option ℤ)) : Type 0 where

@@ -1,5 +1,5 @@
 -- Levels and labels inside one tile.
-use Rattle.std.specs.Prelude.{◌≡◌, ℕ, ◌+◌, ◌-◌, ◌*◌, ◌≤◌, ◌<◌, ◌⊎◌, ℤ, ◌≤ℤ◌, if◌then◌else◌, List, [], ◌∷◌, length, Option, None, Some, IsTrue, MatchOption, slice_index_or}
+use Rattle.std.specs.Prelude.{◌≡◌, ℕ, ◌+◌, ◌-◌, ◌*◌, ◌≤◌, ◌<◌, ◌⊎◌, ℤ, pos, ◌≤ℤ◌, if◌then◌else◌, List, [], ◌∷◌, length, Option, None, Some, IsTrue, MatchOption, option_map, unwrap_or, slice_index_or}
 use Rattle.std.specs.List.{All}
 use Rattle.terrain.specs.Raster.{Terrain}
 use Rattle.terrain.specs.Neighbours.{height_at, IsDataCell, IsNeighbour, IsEnd, Touches}
@@ -30,6 +30,15 @@ pub record Flood : Type 0 where
   pub bounds : Bounds
   pub levels : List (Option ℤ)
   pub labels : List (Option Place)
+
+abbrev pub height_or_nought : Option ℤ → ℤ
+height_or_nought level = unwrap_or level (pos 0)
+
+-- The levels of cells, of their labels and heights: a cell without a label has none.
+abbrev pub levels_where : List (Option Place) → List ℤ → List (Option ℤ)
+levels_where [] heights = []
+levels_where (label ∷ labels) [] = []
+levels_where (label ∷ labels) (height ∷ heights) = option_map (λ _. height) label ∷ levels_where labels heights
 
 -- The entry of a place in a list in the row order of these bounds, None outside.
 abbrev pub entry_in : {X : Type 0} → Bounds → List (Option X) → Place → Option X

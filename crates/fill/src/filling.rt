@@ -8,7 +8,8 @@ ghost use Rattle.fill.specs.Gathering.{Fit};
 
 use crate::numbering::LabelLevels;
 use crate::parts::{Part, tile_part};
-use crate::raising::raised_by;
+use crate::rows::raised_grid;
+use crate::source_heights::SourceHeights;
 use crate::sources::{TileSources, label_sources, tile_sources};
 use crate::spills::SpillGraph;
 use crate::tile::{TileFlood, tile_flood};
@@ -16,9 +17,9 @@ use drainage::Filled;
 use std::alloc::Global;
 use std::sync::Wait;
 use std::thread::Threads;
-use terrain::{Grid, Height, NoMemory};
+use terrain::Grid;
 use tile_jobs::{Gate, JobFault, Work};
-use tile_maps::{Crew, TileMap, joined};
+use tile_maps::{Crew, joined};
 use tiles::Tiling;
 
 /// Floods each tile.
@@ -77,7 +78,7 @@ impl<'a> Work for SourceTiles<'a> {
 struct PartTiles<'a> {
     tiling: &'a Tiling,
     floods: &'a [TileFlood],
-    sources: &'a [Option<Height>],
+    sources: &'a SourceHeights,
     ghost fit: { Fit tiling.now floods.now },
 }
 
@@ -94,37 +95,6 @@ impl<'a> Work for PartTiles<'a> {
     fn run(&self, alloc: Global, job: u32) -> Result<Part, JobFault> {
         let part = tile_part(alloc, self.tiling, self.floods, self.sources, job)?;
         Ok(part)
-    }
-}
-
-/// The filled heights, of the floods of all tiles and the levels of their labels.
-#[derive(Drop)]
-struct Raised<'a> {
-    tiling: &'a Tiling,
-    floods: Vec<TileFlood>,
-    levels: LabelLevels,
-    ghost size: { length levels ≡ tiling.now.cols * tiling.now.rows },
-    ghost fit: { Fit tiling.now floods.items },
-    ghost lawful: { IsCutting tiling.now },
-}
-
-impl<'a> TileMap for Raised<'a> {
-    ghost use Rattle.std.specs.Prelude.{◌≡◌};
-    ghost use Rattle.fill.specs.Spills.{raised_among};
-
-    type Cell = Height;
-
-    ghost cutting = { λ m. m.tiling.now };
-
-    ghost has = { λ m p height. height ≡ raised_among m.tiling.now m.floods.items m.levels p };
-
-    fn tiling(&self) -> Tiling {
-        *self.tiling
-    }
-
-    fn tile(&self, alloc: Global, tile: u32) -> Result<Vec<Option<Height>>, NoMemory> {
-        let flood = &self.floods[tile as usize];
-        raised_by(alloc, self.tiling, flood, &self.levels)
     }
 }
 
@@ -157,8 +127,8 @@ fn label_levels<R: Threads + Wait + Sync, G: Gate + Sync>(
     Ok(levels)
 }
 
-/// The grid with each height replaced by its filled height. Each tile is flooded in a job of its own, adds
-/// to the spill graph in two more, and is raised in a last one.
+/// The grid with each height replaced by its filled height. Each tile is flooded in a job of its own, and adds
+/// to the spill graph in two more; then all are raised.
 pub fn filled<R: Threads + Wait + Sync, G: Gate + Sync>(
     rt: &R,
     alloc: Global,
@@ -184,11 +154,8 @@ pub fn filled<R: Threads + Wait + Sync, G: Gate + Sync>(
     };
     let floods = crew.run(&work, tiling.tiles())?;
     let levels = label_levels(&crew, grid, &tiling, &floods)?;
-    let cells = crew.made(Raised {
-        tiling: &tiling,
-        floods,
-        levels,
-    })?;
+    let cells = raised_grid(alloc, &tiling, &floods, &levels)?;
+    drop(floods);
     let Ok(filled) = grid.with_own_cells(alloc, cells) else {
         return Err(JobFault::Memory);
     };

@@ -8,6 +8,8 @@ mod numbering;
 mod parts;
 mod passes;
 mod raising;
+mod rows;
+mod source_heights;
 mod sources;
 mod spills;
 mod tile;

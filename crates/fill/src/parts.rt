@@ -5,10 +5,10 @@ ghost use Rattle.fill.specs.Gathering.{Fit};
 ghost use Rattle.fill.specs.Parts.{IsPart, AreParts};
 
 use crate::passes::{lowest_joins, tile_joins};
+use crate::source_heights::SourceHeights;
 use crate::spills::Join;
 use crate::tile::TileFlood;
 use std::alloc::{AllocError, Global};
-use terrain::Height;
 use tiles::Tiling;
 
 /// What a tile adds to the spill graph: the joins of its cells with those that touch them, each as low
@@ -23,7 +23,7 @@ pub(crate) fn tile_part(
     alloc: Global,
     tiling: &Tiling,
     floods: &[TileFlood],
-    sources: &[Option<Height>],
+    sources: &SourceHeights,
     tile: u32,
 ) -> Result<Part, AllocError>
     requires fit { Fit tiling.now floods.now }
@@ -40,7 +40,7 @@ pub(crate) fn tile_parts(
     alloc: Global,
     tiling: &Tiling,
     floods: &[TileFlood],
-    sources: &[Option<Height>],
+    sources: &SourceHeights,
 ) -> Result<Vec<Part>, AllocError>
     requires { Fit tiling.now floods.now }
     ensures { IfOk result (λ v. AreParts tiling.now floods.now sources.now v.items) }

@@ -7,10 +7,11 @@ ghost use Rattle.fill.specs.TileFlood.{LabelsInside};
 ghost use Rattle.fill.specs.Gathering.{Fit, Adds, AddsCovered, AddsAround, AreLowest, are_settled, IsRepeat, joins_of, mark_with};
 
 use crate::marks::{Mark, mark_at, mark_of_entry};
+use crate::source_heights::SourceHeights;
 use crate::spills::Join;
 use crate::tile::TileFlood;
 use std::alloc::{AllocError, Global};
-use terrain::{Height, Place};
+use terrain::Place;
 use tiles::{Bounds, Tiling};
 
 /// How many slots a [`JoinTable`] has at first: few, since they are cleared for each tile.
@@ -145,30 +146,19 @@ impl JoinTable {
     }
 }
 
-/// Whether a label is among these sources, of which those past the end are none.
-#[inline(always)]
-fn is_source(sources: &[Option<Height>], node: u32) -> bool
-    ensures { result ≡ is_some (slice_index_or sources.now node None) }
-{
-    match sources.get(node as usize) {
-        Some(height) => height.is_some(),
-        None => false,
-    }
-}
-
 /// Whether both labels are among these sources.
 #[inline(always)]
-fn are_settled(sources: &[Option<Height>], from: u32, to: u32) -> bool
+fn are_settled(sources: &SourceHeights, from: u32, to: u32) -> bool
     ensures { result ≡ are_settled sources.now from to }
 {
-    is_source(sources, from) && is_source(sources, to)
+    sources.at(from).is_some() && sources.at(to).is_some()
 }
 
 /// Adds the join of two marks, where their labels differ and are not both among these sources.
 #[inline(always)]
 fn push_join(
     table: &mut JoinTable,
-    sources: &[Option<Height>],
+    sources: &SourceHeights,
     from: Mark,
     to: Option<Mark>,
 ) -> Result<(), AllocError>
@@ -194,7 +184,7 @@ fn push_rim_cell(
     table: &mut JoinTable,
     tiling: &Tiling,
     floods: &[TileFlood],
-    sources: &[Option<Height>],
+    sources: &SourceHeights,
     tile: u32,
     place: Place,
 ) -> Result<(), AllocError>
@@ -227,7 +217,7 @@ fn push_near(
     table: &mut JoinTable,
     tiling: &Tiling,
     flood: &TileFlood,
-    sources: &[Option<Height>],
+    sources: &SourceHeights,
     index: usize,
     from: Mark,
     near: usize,
@@ -249,7 +239,7 @@ fn push_around(
     table: &mut JoinTable,
     tiling: &Tiling,
     flood: &TileFlood,
-    sources: &[Option<Height>],
+    sources: &SourceHeights,
     index: usize,
     from: Mark,
     width: usize,
@@ -279,7 +269,7 @@ fn push_inner_cell(
     table: &mut JoinTable,
     tiling: &Tiling,
     flood: &TileFlood,
-    sources: &[Option<Height>],
+    sources: &SourceHeights,
     index: usize,
 ) -> Result<(), AllocError>
     requires labels { LabelsInside tiling.now flood.now }
@@ -301,7 +291,7 @@ fn push_cell(
     table: &mut JoinTable,
     tiling: &Tiling,
     floods: &[TileFlood],
-    sources: &[Option<Height>],
+    sources: &SourceHeights,
     tile: u32,
     place: Place,
 ) -> Result<(), AllocError>
@@ -326,7 +316,7 @@ fn push_cells(
     table: &mut JoinTable,
     tiling: &Tiling,
     floods: &[TileFlood],
-    sources: &[Option<Height>],
+    sources: &SourceHeights,
     tile: u32,
     row: u32,
 ) -> Result<(), AllocError>
@@ -349,7 +339,7 @@ pub(crate) fn tile_joins(
     alloc: Global,
     tiling: &Tiling,
     floods: &[TileFlood],
-    sources: &[Option<Height>],
+    sources: &SourceHeights,
     tile: u32,
 ) -> Result<Vec<Join>, AllocError>
     requires fit { Fit tiling.now floods.now }

@@ -39,7 +39,11 @@ impl<'a> SpillLevels for WholeLevels<'a> {
 
 /// The level of a label in the graph, None where there is no label.
 #[inline(always)]
-fn spill<L: SpillLevels>(tiling: &Tiling, levels: &L, label: Option<Place>) -> Option<Height>
+pub(crate) fn spill<L: SpillLevels>(
+    tiling: &Tiling,
+    levels: &L,
+    label: Option<Place>,
+) -> Option<Height>
     requires size { length (L.list levels.now) ≡ tiling.now.cols * tiling.now.rows }
     requires label { IfSome label (IsWithin tiling.now) }
     ensures { result ≡ spill_of tiling.now (L.list levels.now) label }
@@ -66,14 +70,14 @@ fn spills_of<L: SpillLevels>(
     Ok(spills)
 }
 
-/// The greater of two levels, None where one of them is missing.
+/// The greater of a cell's level and its label's, None where it has no label.
 #[inline(always)]
-fn greater(level: Option<Height>, spill: Option<Height>) -> Option<Height>
-    ensures { result ≡ greater_of level spill }
+fn greater(height: Height, spill: Option<Height>) -> Option<Height>
+    ensures { result ≡ greater_of (Some height) spill }
 {
-    match (level, spill) {
-        (Some(level), Some(spill)) => Some(level.max(spill)),
-        _ => None,
+    match spill {
+        Some(spill) => Some(height.max(spill)),
+        None => None,
     }
 }
 
@@ -81,18 +85,18 @@ fn greater(level: Option<Height>, spill: Option<Height>) -> Option<Height>
 /// level in `spills`.
 fn greater_levels(
     alloc: Global,
-    levels: &[Option<Height>],
+    heights: &[Height],
     labels: &[u32],
     spills: &[Option<Height>],
 ) -> Result<Vec<Option<Height>>, AllocError>
-    requires size { length labels.now ≡ length levels.now }
+    requires size { length labels.now ≡ length heights.now }
     requires labels { All (λ k. k < length spills.now) labels.now }
-    ensures { IfOk result (λ v. AreGreater levels.now labels.now spills.now v.items) }
+    ensures { IfOk result (λ v. AreGreater heights.now labels.now spills.now v.items) }
 {
-    let mut raised = Vec::with_capacity(alloc, levels.len())?;
-    for index in 0..levels.len() {
+    let mut raised = Vec::with_capacity(alloc, heights.len())?;
+    for index in 0..heights.len() {
         let spill = spills[labels[index] as usize];
-        raised.push(greater(levels[index], spill))?;
+        raised.push(greater(heights[index], spill))?;
     }
     Ok(raised)
 }
@@ -110,7 +114,7 @@ pub(crate) fn raised_by<L: SpillLevels>(
 {
     let labels = flood.labels();
     let spills = spills_of(alloc, tiling, &labels.places, levels)?;
-    Ok(greater_levels(alloc, flood.levels(), &labels.cells, &spills)?)
+    Ok(greater_levels(alloc, flood.heights(), &labels.cells, &spills)?)
 }
 
 /// The filled heights of a tile in its row order, of its flood and the levels of the graph in which it

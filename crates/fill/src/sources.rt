@@ -9,6 +9,7 @@ ghost use Rattle.terrain.specs.Raster.{Terrain};
 ghost use Rattle.fill.specs.Spills.{AreFloods, AreSourcesOf};
 
 use crate::marks::{mark_at, node_of, source_at};
+use crate::source_heights::SourceHeights;
 use crate::tile::TileFlood;
 use std::alloc::{AllocError, Global};
 use terrain::{Height, Place};
@@ -104,13 +105,14 @@ pub(crate) fn sources_by_tile(
 }
 
 /// Puts the heights of sources at their nodes.
-fn put_sources(heights: &mut [Option<Height>], sources: &[Source])
+fn put_sources(heights: &mut SourceHeights, sources: &[Source]) -> Result<(), AllocError>
     requires { All (λ s. s.node < length heights.old) sources.now }
-    ensures { PutsSources sources.now heights.old heights.new }
+    ensures { OnOk result (PutsSources sources.now heights.old heights.new) }
 {
     for source in sources {
-        heights[source.node as usize] = Some(source.height);
+        heights.put(source.node, source.height)?;
     }
+    Ok(())
 }
 
 /// The heights of the sources, in row order of the grid.
@@ -118,36 +120,36 @@ fn gather_sources(
     alloc: Global,
     tiling: &Tiling,
     lists: &[TileSources],
-) -> Result<Vec<Option<Height>>, AllocError>
+) -> Result<SourceHeights, AllocError>
     requires { (floods : List Flood) × AreAllSources tiling.now floods lists.now }
-    ensures { IfOk result (λ v. (floods : List Flood) → AreAllSources tiling.now floods lists.now → AreSources tiling.now floods v.items) }
+    ensures { IfOk result (λ v. (floods : List Flood) → AreAllSources tiling.now floods lists.now → AreSources tiling.now floods v) }
 {
     let nodes = tiling.cols() * tiling.rows();
-    let mut heights = vec![in alloc; None; nodes as usize]?;
+    let mut heights = SourceHeights::none(alloc, nodes as usize)?;
     for sources in lists {
-        put_sources(&mut heights, &sources.list);
+        put_sources(&mut heights, &sources.list)?;
     }
     Ok(heights)
 }
 
 /// Puts the heights of sinks at their nodes. A place outside the grid or without data is no sink.
 fn put_sinks(
-    mut heights: Vec<Option<Height>>,
+    mut heights: SourceHeights,
     tiling: &Tiling,
     floods: &[TileFlood],
     sinks: &[Place],
-) -> Vec<Option<Height>>
+) -> Result<SourceHeights, AllocError>
     requires lawful { IsCutting tiling.now }
     requires fit { Fit tiling.now floods.now }
-    requires size { length heights.items ≡ tiling.now.cols * tiling.now.rows }
-    ensures { PutsSinks tiling.now floods.now sinks.now heights.items result.items }
+    requires size { length heights ≡ tiling.now.cols * tiling.now.rows }
+    ensures { IfOk result (λ v. PutsSinks tiling.now floods.now sinks.now heights v) }
 {
     for sink in sinks {
         if let Some(mark) = mark_at(tiling, floods, 0, *sink) {
-            heights[node_of(tiling, *sink) as usize] = Some(mark.level);
+            heights.put(node_of(tiling, *sink), mark.level)?;
         }
     }
-    heights
+    Ok(heights)
 }
 
 /// The heights of the labels that are end cells, in row order of the grid.
@@ -157,12 +159,12 @@ pub(crate) fn label_sources(
     floods: &[TileFlood],
     lists: &[TileSources],
     sinks: &[Place],
-) -> Result<Vec<Option<Height>>, AllocError>
+) -> Result<SourceHeights, AllocError>
     requires floods { (t : Terrain) × AreFloods t tiling.now floods.now }
     requires lists { AreAllSources tiling.now floods.now lists.now }
-    ensures size { IfOk result (λ v. length v.items ≡ tiling.now.cols * tiling.now.rows) }
-    ensures right { IfOk result (λ v. (t : Terrain) → t.sinks ≡ sinks.now → AreFloods t tiling.now floods.now → AreSourcesOf t tiling.now floods.now v.items) }
+    ensures size { IfOk result (λ v. length v ≡ tiling.now.cols * tiling.now.rows) }
+    ensures right { IfOk result (λ v. (t : Terrain) → t.sinks ≡ sinks.now → AreFloods t tiling.now floods.now → AreSourcesOf t tiling.now floods.now v) }
 {
     let edges = gather_sources(alloc, tiling, lists)?;
-    Ok(put_sinks(edges, tiling, floods, sinks))
+    put_sinks(edges, tiling, floods, sinks)
 }

@@ -9,6 +9,7 @@ ghost use Rattle.fill.specs.Numbers.{AreMarked};
 
 use crate::numbering::{NO_NUMBER, mark_parts};
 use crate::parts::{Part, tile_parts};
+use crate::source_heights::SourceHeights;
 use crate::sources::{label_sources, sources_by_tile};
 use crate::tile::TileFlood;
 use floods::{Flooded, Net, Spill, flood};
@@ -34,7 +35,7 @@ pub struct SpillGraph {
     tiling: Tiling,
     // the joins that begin at a label are of the part of its tile, and each stands there both ways
     parts: Vec<Part>,
-    sources: Vec<Option<Height>>,
+    sources: SourceHeights,
 }
 
 impl Model for SpillGraph {
@@ -45,9 +46,9 @@ impl Model for SpillGraph {
     ghost use Rattle.tiles.specs.Cutting.{IsCutting};
     ghost use Rattle.fill.specs.Parts.{IsGraph, graph_of_parts};
 
-    ghost view = { λ g. graph_of_parts g.tiling g.parts.items g.sources.items };
+    ghost view = { λ g. graph_of_parts g.tiling g.parts.items g.sources };
 
-    ghost invariant = { λ g. IsCutting g.tiling × IsGraph g.tiling g.parts.items (graph_of_parts g.tiling g.parts.items g.sources.items) };
+    ghost invariant = { λ g. IsCutting g.tiling × IsGraph g.tiling g.parts.items (graph_of_parts g.tiling g.parts.items g.sources) };
 }
 
 /// The first of the joins that begins at this node or a later one.
@@ -142,7 +143,7 @@ impl Net for SpillGraph {
 
     #[inline]
     fn source(&self, node: u32) -> Option<Height> {
-        self.sources[node as usize]
+        self.sources.at(node)
     }
 }
 
@@ -159,18 +160,15 @@ impl SpillGraph {
     {
         let lists = sources_by_tile(alloc, tiling, floods)?;
         let sources = label_sources(alloc, tiling, floods, &lists, sinks)?;
-        let parts = tile_parts(alloc, tiling, floods, &[])?;
+        let none = SourceHeights::none(alloc, 0)?;
+        let parts = tile_parts(alloc, tiling, floods, &none)?;
         Ok(SpillGraph::of_parts(tiling, sources, parts))
     }
 
     /// The graph of what each tile adds to it, in tile order, and of its sources.
-    pub(crate) fn of_parts(
-        tiling: &Tiling,
-        sources: Vec<Option<Height>>,
-        parts: Vec<Part>,
-    ) -> SpillGraph
-        requires { (t : Terrain) × (floods : List Flood) × (out : List (Option ℤ)) × AreFloods t tiling.now floods × (length sources.items ≡ tiling.now.cols * tiling.now.rows) × AreParts tiling.now floods out parts.items }
-        ensures { result ≡ graph_of_parts tiling.now parts.items sources.items }
+    pub(crate) fn of_parts(tiling: &Tiling, sources: SourceHeights, parts: Vec<Part>) -> SpillGraph
+        requires { (t : Terrain) × (floods : List Flood) × (out : List (Option ℤ)) × AreFloods t tiling.now floods × (length sources ≡ tiling.now.cols * tiling.now.rows) × AreParts tiling.now floods out parts.items }
+        ensures { result ≡ graph_of_parts tiling.now parts.items sources }
     {
         SpillGraph {
             tiling: *tiling,

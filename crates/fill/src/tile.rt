@@ -1,14 +1,14 @@
 // Flooding of one tile.
-ghost use Rattle.std.specs.Prelude.{◌≡◌, ◌≤◌, ◌+◌, IfOk, IfSome, length, true, false, MatchOption, None, slice_index_or, ◌*◌, ◌-◌, ◌<◌};
+ghost use Rattle.std.specs.Prelude.{◌≡◌, ◌≤◌, ◌+◌, IfOk, IfSome, length, map, true, false, MatchOption, None, slice_index_or, ◌*◌, ◌-◌, ◌<◌};
 ghost use Rattle.std.specs.Bool.{OnTrue};
 ghost use Rattle.terrain.specs.Sinks.{with_sinks};
 ghost use Rattle.tiles.specs.Cutting.{terrain_of, IsInBounds, is_in_bounds};
 ghost use Rattle.fill.specs.Labels.{labels_by};
-ghost use Rattle.fill.specs.TileFlood.{IsFlood, IsTileFlood, level_in, label_in, HasOneLabelAround, AreEqualAround, IsInner};
+ghost use Rattle.fill.specs.TileFlood.{IsFlood, IsTileFlood, level_in, label_in, HasOneLabelAround, AreEqualAround, IsInner, levels_where, height_or_nought};
 
 use crate::labels::{Labels, labels_of};
 use floods::{CellNet, flood, without_border};
-use std::alloc::Global;
+use std::alloc::{AllocError, Global};
 use std::marker::Model;
 use terrain::{Height, NoMemory, Place};
 use tiles::{Bounds, TileView};
@@ -18,19 +18,21 @@ use tiles::{Bounds, TileView};
 #[derive(Drop)]
 pub struct TileFlood {
     bounds: Bounds,
-    levels: Vec<Option<Height>>,
+    /// The level of each cell that has a label.
+    heights: Vec<Height>,
     labels: Labels,
+    ghost whole: { length heights.items ≡ length labels.cells.items },
 }
 
 impl Model for TileFlood {
-    ghost use Rattle.fill.specs.TileFlood.{Flood, IsFlood};
+    ghost use Rattle.fill.specs.TileFlood.{Flood, IsFlood, levels_where};
     ghost use Rattle.fill.specs.Labels.{labels_by};
 
     ghost Value = { Flood };
 
-    ghost view = { λ f. record { bounds = f.bounds; levels = f.levels.items; labels = labels_by f.labels.places.items f.labels.cells.items } };
+    ghost view = { λ f. record { bounds = f.bounds; levels = levels_where (labels_by f.labels.places.items f.labels.cells.items) f.heights.items; labels = labels_by f.labels.places.items f.labels.cells.items } };
 
-    ghost invariant = { λ f. IsFlood (record { bounds = f.bounds; levels = f.levels.items; labels = labels_by f.labels.places.items f.labels.cells.items }) };
+    ghost invariant = { λ f. IsFlood (record { bounds = f.bounds; levels = levels_where (labels_by f.labels.places.items f.labels.cells.items) f.heights.items; labels = labels_by f.labels.places.items f.labels.cells.items }) };
 }
 
 /// Whether an entry is equal to the eight around it in rows of this width.
@@ -105,7 +107,11 @@ impl TileFlood {
         requires { index < length self.now.labels }
         ensures { result ≡ slice_index_or self.now.levels index None }
     {
-        self.levels[index]
+        let height = self.heights[index];
+        match self.label_at(index) {
+            Some(_) => Some(height),
+            None => None,
+        }
     }
 
     /// The label of the cell with this index in the tile's row order.
@@ -117,12 +123,13 @@ impl TileFlood {
         self.labels.at(index)
     }
 
-    /// The levels of the tile's cells, in its row order.
+    /// The levels of the tile's cells that have a label, in its row order.
     #[inline(always)]
-    pub(crate) fn levels(&self) -> &[Option<Height>]
-        ensures { result.now ≡ self.now.levels }
+    pub(crate) fn heights(&self) -> &[Height]
+        ensures levels { self.now.levels ≡ levels_where self.now.labels result.now }
+        ensures size { length result.now ≡ length self.now.labels }
     {
-        &self.levels
+        &self.heights
     }
 
     /// The labels of the tile's cells.
@@ -186,6 +193,18 @@ impl TileFlood {
     }
 }
 
+/// Levels, and 0 in place of those that are missing.
+fn heights_of(alloc: Global, levels: &[Option<Height>]) -> Result<Vec<Height>, AllocError>
+    ensures { IfOk result (λ v. v.items ≡ map height_or_nought levels.now) }
+{
+    let mut heights = Vec::with_capacity(alloc, levels.len())?;
+    for level in levels {
+        let height = level.unwrap_or(0);
+        heights.push(height)?;
+    }
+    Ok(heights)
+}
+
 /// The least crest of each cell's paths in the tile, and a source that has it. Of these sinks those in the tile are
 /// sources.
 pub fn tile_flood(
@@ -203,9 +222,10 @@ pub fn tile_flood(
     let levels = without_border(alloc, &flooded.level, bounds.cols, bounds.rows)?;
     let nodes = without_border(alloc, &flooded.label, bounds.cols, bounds.rows)?;
     let labels = labels_of(alloc, bounds, &nodes)?;
+    let heights = heights_of(alloc, &levels)?;
     Ok(TileFlood {
         bounds,
-        levels,
+        heights,
         labels,
     })
 }

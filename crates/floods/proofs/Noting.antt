@@ -1,7 +1,8 @@
 -- Ways followed one by one, and what is noted of the nodes that they lead to.
-use Rattle.std.proofs.Common.{◌≡◌, ℕ, ◌+◌, ◌<◌, List, [], ◌∷◌, ◌++◌, length, get_or, set, take, drop, ℤ, ◌≤ℤ◌, Option, None, Some, IsSome, sym, subst, refl, ◌∙◌, arith, ◌⊎◌, inl, inr, to_z, of_z, w32}
+use Rattle.std.proofs.Common.{◌≡◌, ℕ, ◌+◌, ◌<◌, List, [], ◌∷◌, ◌++◌, length, get_or, set, take, drop, ℤ, ◌≤ℤ◌, Option, None, Some, IsSome, sym, subst, refl, ◌∙◌, arith, ◌⊎◌, inl, inr, to_z, of_z}
 use Rattle.std.specs.Int.{int_max}
 use Rattle.std.specs.Int.Signed.{≤ℤ_refl}
+use Rattle.terrain.proofs.Heights.{height_width}
 use Rattle.drainage.proofs.Heights.{trans}
 use Rattle.std.specs.List.{Contains}
 use Rattle.std.proofs.lemmas.Int.{ints, to_z-of_z}
@@ -99,9 +100,9 @@ keeps_done labels levels a level none = λ b done. elim (cases_eq b a) [
 ]
 
 -- the crest by a way, as a machine keeps it
-pub kept_crest : (height level greater : ℤ) → SFits w32 height → SFits w32 level → SFits w32 greater → greater ≡ int_max (to_z w32 (of_z w32 height)) (to_z w32 (of_z w32 level)) → to_z w32 (of_z w32 greater) ≡ int_max height level
+pub kept_crest : (height level greater : ℤ) → SFits height_width height → SFits height_width level → SFits height_width greater → greater ≡ int_max (to_z height_width (of_z height_width height)) (to_z height_width (of_z height_width level)) → to_z height_width (of_z height_width greater) ≡ int_max height level
 kept_crest height level greater fits_height fits_level fits_greater e =
-    to_z-of_z w32 greater fits_greater ∙ (rw (to_z-of_z w32 height fits_height, to_z-of_z w32 level fits_level) at e)
+    to_z-of_z height_width greater fits_greater ∙ (rw (to_z-of_z height_width height fits_height, to_z-of_z height_width level fits_level) at e)
 
 -- no way so far
 pub no_ways : (labels : List (Option ℕ)) (from : Waiting) (waiting : List Waiting) → MakesWait labels from [] waiting waiting

@@ -97,11 +97,10 @@ impl Waits {
         ensures inside { IfSome result (λ k. k < length self.now.lists.items) }
         ensures level { IfSome result (λ k. height ≡ self.now.base +ℤ pos k) }
     {
-        let above = i64::from(height) - i64::from(self.base);
-        if above < 0 {
+        if height < self.base {
             return None;
         }
-        let index = above as usize;
+        let index = height.abs_diff(self.base) as usize;
         if self.first <= index && index < self.lists.len() {
             Some(index)
         } else {
@@ -116,11 +115,10 @@ impl Waits {
         ensures lower { (k : ℕ) → k < result → (self.now.base +ℤ pos k) ≤ℤ height }
         ensures rest { (k : ℕ) → result ≤ k → k < self.now.end → height ≤ℤ (self.now.base +ℤ pos k) }
     {
-        let above = i64::from(height) - i64::from(self.base);
-        if above < 0 {
+        if height < self.base {
             0
         } else {
-            self.end.min(above as usize)
+            self.end.min(height.abs_diff(self.base) as usize)
         }
     }
 

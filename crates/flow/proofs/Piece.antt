@@ -17,7 +17,6 @@ use Rattle.flow.specs.Finding.{AreFound}
 use Rattle.flow.specs.TileFlow.{Flow, directed_by, entry_in, through_in, through_of, IsExitOf, IsFlow, IsTileExits, IsTileCounts}
 use Rattle.flow.specs.TileLinks.{place_in, index_in, link_by, AreTileCodes, IsSmall, links_by, weights_by, where_data, through_by, ends_by, exits_by, flow_by, AreFlowLists}
 use Rattle.flow.proofs.Totals.{total_is}
-use Rattle.flow.proofs.Ending.{end-inside}
 use Rattle.flow.proofs.Reaching.{IsEnding, ending_of}
 use Rattle.flow.proofs.Gathering.{all_gathered, gathered_few, through_is as gathered_through}
 use Rattle.flow.proofs.Coded.{IsCoded, cases_coded}
@@ -60,17 +59,8 @@ module _ (b : Bounds) (cells : List (Option ℕ)) (links came ends : List ℕ) (
   pub as_many_links : length links ≡ length cells
   as_many_links = ap length s.linked ∙ length-map-range_with_len (λ i. link_by b i (get_or cells i None)) 0 (b.rows * b.cols) ∙ sym s.lawful.codes_size
 
-  pub few_links : length links ≤ 2 ^ 24
-  few_links = omega (arith, as_many_links, s.lawful.codes_size, few_cells b s.lawful.few_rows s.lawful.few_cols)
-
-  pub end_below : (i : ℕ) → i < length cells → end_of links i < b.rows * b.cols
-  end_below i h = omega (arith, end-inside links s.streams i (omega (arith, h, as_many_links)), as_many_links, s.lawful.codes_size)
-
   pub end_listed : (i : ℕ) → i < length cells → end_of links i ≡ get_or (ends_by links) i 0
   end_listed i h = sym ((ends_are links).each i (omega (arith, h, as_many_links)))
-
-  pub all_found : (found : List ℕ) → AreEnds links found → AreFlowLists b cells links came found
-  all_found found are = record { linked = s.linked; lawful = s.lawful; streams = s.streams; found = record { size = are.size; right = λ i h known. are.each i h } }
 
 -- the lists of a tile
 pub record AreLists (v : View (Option ℕ)) (b : Bounds) (cells : List (Option ℕ)) (links weights : List ℕ) : Type 0 where

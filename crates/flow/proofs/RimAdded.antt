@@ -3,13 +3,12 @@ use Rattle.std.proofs.Common.{◌≡◌, ℕ, ◌+◌, ◌*◌, ◌^◌, ◌<◌
 use Rattle.std.proofs.lemmas.Bool.{cases_Bool, and_from, and_parts, and_left, and_right, eq-eqb, ne_eqb, eqb-true, lt-ltb, cond-true, cond-false, false_from_ne_true, false≢true}
 use Rattle.terrain.specs.declared.place.Place.{Place}
 use Rattle.tiles.specs.declared.bounds.Bounds.{Bounds}
-use Rattle.tiles.specs.Cutting.{Cutting, IsCutting, IsWithin, is_within, IsInTile, IsInBounds, AreBounds, bounds_of, tile_count, tile_of_place}
+use Rattle.tiles.specs.Cutting.{Cutting, IsCutting, IsWithin, is_within, IsInTile, IsInBounds, AreBounds, bounds_of, tile_count, tile_of_place, is_in_bounds}
 use Rattle.tiles.proofs.Cut.{in_bounds, in_tile, in_bounds_parts, in_bounds_from}
 use Rattle.tiles.proofs.TileOrder.{index_in_below, place_in-index_in}
 use Rattle.terrain.proofs.Listed.{is_place_from, place_is}
 use Rattle.flow.specs.Counts.{is_place}
 use Rattle.flow.specs.Streams.{sum_below}
-use Rattle.flow.specs.TileFlow.{is_in_bounds}
 use Rattle.flow.specs.TileLinks.{place_in, index_in, IsSmall}
 use Rattle.flow.specs.RimNumbers.{stride, side_number, rim_number, rim_place}
 use Rattle.flow.specs.RimGraph.{stands_for}

@@ -1,7 +1,7 @@
 -- A cell of a rim and its number.
-use Rattle.std.proofs.Common.{◌≡◌, ◌≢◌, ℕ, ◌+◌, ◌-◌, ◌*◌, ◌/◌, ◌%◌, ◌^◌, ◌<◌, ◌≤◌, inl, inr, subst, sym, ap, ◌∙◌, arith, mul_comm, zero-mul}
+use Rattle.std.proofs.Common.{◌≡◌, ◌≢◌, ℕ, ◌+◌, ◌-◌, ◌*◌, ◌/◌, ◌%◌, ◌^◌, ◌<◌, ◌≤◌, inl, inr, ap, ◌∙◌, arith, mul_comm, zero-mul}
 use Rattle.std.proofs.Math.Nat.{zero-div, zero-mod, mul-le-mul}
-use Rattle.std.proofs.lemmas.Bool.{cases_eq, cases_lt, eq-eqb, ne_eqb, lt-ltb, le-ltb, cond-true, cond-false}
+use Rattle.std.proofs.lemmas.Bool.{cases_eq, eq-eqb, ne_eqb, lt-ltb, le-ltb, cond-true, cond-false}
 use Rattle.std.proofs.lemmas.Nat.{div-mul-add, mod-mul-add, mul-add-lt}
 use Rattle.terrain.specs.declared.place.Place.{Place}
 use Rattle.terrain.proofs.Places.{make_place, same_place}
@@ -68,25 +68,6 @@ module _ (l b : Bounds) (p : Place) (cols : b.cols ≤ l.cols) (rows : b.rows �
       ]
     ]
   ]
-
--- each side of the largest tile is a cell of it
-pub side_inside : (b : Bounds) (i : ℕ) → 1 ≤ b.rows → 1 ≤ b.cols → i < stride b → IsInBounds b (side_place b b i)
-side_inside b i r k h = elim (cases_lt i b.cols) [
-  | inl top ↦ subst (λ (p : Place). IsInBounds b p) (sym (cond-true {A = Place} _ _ _ (lt-ltb _ _ top)))
-      (omega arith, omega arith, omega arith, omega arith)
-  | inr a ↦ elim (cases_lt i (2 * b.cols)) [
-    | inl bottom ↦ subst (λ (p : Place). IsInBounds b p) (sym (cond-false {A = Place} _ _ _ (le-ltb _ _ a) ∙ cond-true {A = Place} _ _ _ (lt-ltb _ _ bottom)))
-        (omega arith, omega arith, omega arith, omega arith)
-    | inr c ↦ elim (cases_lt i (2 * b.cols + b.rows)) [
-      | inl left ↦ subst (λ (p : Place). IsInBounds b p)
-          (sym (cond-false {A = Place} _ _ _ (le-ltb _ _ a) ∙ cond-false {A = Place} _ _ _ (le-ltb _ _ c) ∙ cond-true {A = Place} _ _ _ (lt-ltb _ _ left)))
-          (omega arith, omega arith, omega arith, omega arith)
-      | inr d ↦ subst (λ (p : Place). IsInBounds b p)
-          (sym (cond-false {A = Place} _ _ _ (le-ltb _ _ a) ∙ cond-false {A = Place} _ _ _ (le-ltb _ _ c) ∙ cond-false {A = Place} _ _ _ (le-ltb _ _ d)))
-          (omega arith, omega arith, omega arith, omega arith)
-    ]
-  ]
-]
 
 module _ (t : Cutting) (h : IsCutting t) where
   pub no_wider : (tile : ℕ) → (bounds_of t tile).cols ≤ (bounds_of t 0).cols

@@ -2,13 +2,13 @@
 use Rattle.std.specs.Prelude.{◌≡◌, ℕ, ◌+◌, ◌-◌, ◌*◌, ◌/◌, ◌%◌, ◌<◌, ◌≤◌, if◌then◌else◌, is_some, List, map, length, Option, None, Some, slice_index, slice_index_or, unwrap_or, option_and_then}
 use Rattle.std.specs.List.{range_with_len}
 use Rattle.terrain.specs.Ways.{place_toward}
-use Rattle.tiles.specs.Cutting.{longest_axis}
+use Rattle.tiles.specs.Cutting.{longest_axis, is_in_bounds}
 use Rattle.terrain.specs.declared.place.Place.{Place}
 use Rattle.tiles.specs.declared.bounds.Bounds.{Bounds}
 use Rattle.drainage.specs.Following.{Directed, code_at}
 use Rattle.flow.specs.Streams.{AreStreams, end_of}
 use Rattle.flow.specs.Finding.{AreFound}
-use Rattle.flow.specs.TileFlow.{Flow, IsFlow, is_in_bounds}
+use Rattle.flow.specs.TileFlow.{Flow, IsFlow}
 
 abbrev pub place_in : Bounds → ℕ → Place
 place_in b i = record { row = b.top + i / b.cols; col = b.left + i % b.cols }

@@ -1,9 +1,9 @@
 // The cells of a tile, numbered in its row order, and the cells to which their water goes on.
 ghost use Rattle.std.specs.Prelude.{◌≡◌, ◌↔◌, IsTrue, if◌then◌else◌, ◌+◌, ◌-◌, ◌*◌, ◌^◌, ◌<◌, length, Some, IfOk, OnOk, unwrap_or, option_and_then};
 ghost use Rattle.terrain.specs.Ways.{place_of, place_toward};
-ghost use Rattle.tiles.specs.Cutting.{IsInBounds, bounds_of};
+ghost use Rattle.tiles.specs.Cutting.{IsInBounds, bounds_of, is_in_bounds};
 ghost use Rattle.drainage.specs.CodeNumber.{IsCode};
-ghost use Rattle.flow.specs.TileFlow.{directed_by, is_in_bounds};
+ghost use Rattle.flow.specs.TileFlow.{directed_by};
 ghost use Rattle.flow.specs.CodeSteps.{moved, leads_east, leads_south, leads_west, leads_north};
 ghost use Rattle.flow.specs.TileLinks.{AreTileCodes, IsAmid, IsSmall, place_in, index_in, link_by, first_links, links_by, weights_by};
 
@@ -165,23 +165,11 @@ fn link_of(bounds: Bounds, index: u32, place: Place, code: Option<Code>) -> u32
     ensures { result ≡ link_by bounds index code }
 {
     let next = next_of(code, place);
-    if contains(bounds, next) {
+    if bounds.contains(next) {
         (next.row - bounds.top) * bounds.cols + (next.col - bounds.left)
     } else {
         index
     }
-}
-
-/// Whether a place lies in the bounds.
-#[inline(always)]
-pub(crate) fn contains(bounds: Bounds, place: Place) -> bool
-    requires { IsSmall bounds }
-    ensures { result ≡ is_in_bounds bounds place }
-{
-    bounds.top <= place.row
-        && place.row < bounds.top + bounds.rows
-        && bounds.left <= place.col
-        && place.col < bounds.left + bounds.cols
 }
 
 /// Where water goes on from a place with this code.

@@ -10,6 +10,7 @@ ghost use Rattle.flow.specs.Inflows.{inflow_in};
 ghost use Rattle.terrain.specs.declared.place.Place.{Place as AtPlace};
 
 use crate::cells::tile_weights;
+use crate::crossings::Crossings;
 use crate::flowing::flow_tiles;
 use crate::inflows::Inflows;
 use crate::streams::upstream;
@@ -74,7 +75,9 @@ pub fn accumulation<R: Threads + Wait + Sync, G: Gate + Sync>(
     };
     let tiling = joined(tiling);
     let flows = flow_tiles(&crew, d.codes(), &tiling, true)?;
-    let inflows = Inflows::join(alloc, &tiling, &flows)?;
+    let crossings = Crossings::of(alloc, &tiling, &flows)?;
+    let inflows = Inflows::join(alloc, &tiling, &flows, &crossings)?;
+    drop(crossings);
     crew.made(Counting {
         tiling: &tiling,
         flows,

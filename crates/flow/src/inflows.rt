@@ -1,18 +1,19 @@
 // What flows into tiles over their rims.
 ghost use Rattle.std.specs.Prelude.{◌≡◌, ◌+◌, ◌*◌, ◌^◌, ◌<◌, ◌&&◌, ℕ, None, length, slice_index, slice_index_or, IfOk, IfSome};
 ghost use Rattle.terrain.specs.declared.place.Place.{Place as AtPlace};
-ghost use Rattle.tiles.specs.Cutting.{AreBounds, IsInBounds, IsWithin, bounds_of, cell_count, tile_count};
+ghost use Rattle.tiles.specs.Cutting.{AreBounds, IsInBounds, IsWithin, bounds_of, cell_count, tile_count, is_in_bounds};
 ghost use Rattle.drainage.specs.Following.{Directed};
 ghost use Rattle.flow.specs.Streams.{sum_below};
 ghost use Rattle.flow.specs.Sending.{AreNone};
-ghost use Rattle.flow.specs.TileFlow.{AreTileCounts, is_in_bounds};
+ghost use Rattle.flow.specs.TileFlow.{AreTileCounts};
 ghost use Rattle.flow.specs.TileLinks.{IsSmall, index_in};
 ghost use Rattle.flow.specs.RimNumbers.{number_count};
-ghost use Rattle.flow.specs.RimGraph.{AreFlowsOf, stands_for, targets_by};
+ghost use Rattle.flow.specs.RimGraph.{AreFlowsOf, rim_links_by, stands_for, targets_by};
 ghost use Rattle.flow.specs.Inflows.{AreEntering, AreInflows, adds, entering, inflow_by, inflow_in, rim_weight, rim_weights_by, sent_to, through_by};
 
-use crate::cells::{contains, index_of};
-use crate::outlets::{is_place, rim_links, rim_targets, stands_for};
+use crate::cells::index_of;
+use crate::crossings::{Crossings, stands_for};
+use crate::outlets::is_place;
 use crate::rim::{number_count, numbers_of, rim_number, rim_place};
 use crate::streams::{upstream, zeros};
 use crate::tile::TileFlow;
@@ -47,17 +48,19 @@ impl Inflows {
         alloc: Global,
         tiling: &Tiling,
         flows: &[TileFlow],
+        crossings: &Crossings,
     ) -> Result<Inflows, AllocError>
-        requires { (d : Directed) × AreFlowsOf d tiling.now flows.now × AreTileCounts d tiling.now flows.now }
+        requires flows { (d : Directed) × AreFlowsOf d tiling.now flows.now × AreTileCounts d tiling.now flows.now }
+        requires targets { crossings.now.targets.items ≡ targets_by tiling.now flows.now }
+        requires links { crossings.now.links.items ≡ rim_links_by tiling.now flows.now }
         ensures cutting { IfOk result (λ i. i.cutting ≡ tiling.now) }
         ensures inflows { IfOk result (λ i. (d : Directed) → AreFlowsOf d tiling.now flows.now →
             AreTileCounts d tiling.now flows.now → AreInflows d tiling.now i) }
     {
-        let targets = rim_targets(alloc, tiling, flows)?;
-        let links = rim_links(alloc, tiling, flows, &targets)?;
-        let weights = rim_weights(alloc, tiling, flows, &targets)?;
-        let came = upstream(alloc, &links, &weights)?;
-        let listed = all_entering(alloc, tiling, &targets, &weights, &came)?;
+        let targets = &crossings.targets;
+        let weights = rim_weights(alloc, tiling, flows, targets)?;
+        let came = upstream(alloc, &crossings.links, &weights)?;
+        let listed = all_entering(alloc, tiling, targets, &weights, &came)?;
         Ok(Inflows {
             tiling: *tiling,
             listed,
@@ -135,7 +138,7 @@ fn stands_in(tiling: &Tiling, bounds: Bounds, place: Place, number: u32) -> bool
     requires { IsSmall bounds }
     ensures { result ≡ (stands_for tiling.now place number && is_in_bounds bounds place) }
 {
-    stands_for(tiling, place, number) && contains(bounds, place)
+    stands_for(tiling, place, number) && bounds.contains(place)
 }
 
 // How many cells of its tile flow through the place, itself left out.

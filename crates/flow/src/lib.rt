@@ -3,6 +3,7 @@
 
 mod cells;
 mod counting;
+mod crossings;
 mod ends;
 mod flowing;
 mod inflows;

@@ -6,6 +6,7 @@ ghost use Rattle.drainage.specs.Following.{Directed};
 ghost use Rattle.flow.specs.TileFlow.{AreTileFlows};
 ghost use Rattle.flow.specs.Links.{AreLinks, inflow_in, outlet_in};
 
+use crate::crossings::Crossings;
 use crate::inflows::Inflows;
 use crate::outlets::Outlets;
 use crate::tile::TileFlow;
@@ -52,8 +53,9 @@ impl<'a> RimLinks<'a> {
             AreTileFlows d tiling.now flows.now → AreLinks d tiling.now l) }
     {
         prove!(tiling.cols() > 0);
-        let inflows = Inflows::join(alloc, tiling, flows)?;
-        let outlets = Outlets::join(alloc, tiling, flows)?;
+        let crossings = Crossings::of(alloc, tiling, flows)?;
+        let inflows = Inflows::join(alloc, tiling, flows, &crossings)?;
+        let outlets = Outlets::join(alloc, tiling, flows, &crossings)?;
         Ok(RimLinks {
             flows,
             inflows,

@@ -10,6 +10,7 @@ ghost use Rattle.flow.specs.RimGraph.{outlet_in};
 ghost use Rattle.flow.specs.Numbering.{AreReady, IsExitOfTile, number_at, label_by, labels_by, label_at, numbered_by};
 
 use crate::cells::place_at;
+use crate::crossings::Crossings;
 use crate::flowing::flow_tiles;
 use crate::outlet_numbers::OutletNumbers;
 use crate::outlets::Outlets;
@@ -95,9 +96,7 @@ impl<'a> Numbering<'a> {
             (outlet_in self.now.outlets self.now.flows.items exit) }
     {
         match self.outlets.outlet(&self.flows, exit) {
-            Some(outlet) => self.numbers.number(
-                outlet.row as usize * self.tiling.cols() as usize + outlet.col as usize,
-            ),
+            Some(outlet) => self.numbers.number(outlet.index_in(self.tiling.cols())),
             None => 0,
         }
     }
@@ -127,7 +126,9 @@ pub fn basins<R: Threads + Wait + Sync, G: Gate + Sync>(
     let codes = d.codes();
     let tiling = joined(tiling);
     let flows = flow_tiles(&crew, codes, &tiling, false)?;
-    let outlets = Outlets::join(alloc, &tiling, &flows)?;
+    let crossings = Crossings::of(alloc, &tiling, &flows)?;
+    let outlets = Outlets::join(alloc, &tiling, &flows, &crossings)?;
+    drop(crossings);
     let numbers = OutletNumbers::of_codes(&crew, codes, tiling.tiles())?;
     crew.made(Numbering {
         tiling: &tiling,

@@ -6,11 +6,10 @@ ghost use Rattle.flow.specs.Counts.{is_place};
 ghost use Rattle.flow.specs.RimNumbers.{number_count};
 ghost use Rattle.flow.specs.RimGraph.{code_in, AreFlowsOf, AreOutlets, target_by, targets_by, way_out_by, rim_link, rim_links_by, rim_outlet, rim_outlets_by, outlet_in, next_by, exit_by, stands_for};
 
-use crate::cells::{contains, next_of};
+use crate::crossings::{Crossings, code_of};
 use crate::ends::ends;
 use crate::rim::{number_count, rim_number, rim_place};
 use crate::tile::{TileFlow, is_outlet};
-use drainage::Code;
 use std::alloc::{AllocError, Global};
 use std::marker::Model;
 use terrain::Place;
@@ -42,16 +41,16 @@ impl Outlets {
         alloc: Global,
         tiling: &Tiling,
         flows: &[TileFlow],
+        crossings: &Crossings,
     ) -> Result<Outlets, AllocError>
-        requires { (d : Directed) × AreFlowsOf d tiling.now flows.now }
+        requires flows { (d : Directed) × AreFlowsOf d tiling.now flows.now }
+        requires targets { crossings.now.targets.items ≡ targets_by tiling.now flows.now }
+        requires links { crossings.now.links.items ≡ rim_links_by tiling.now flows.now }
         ensures cutting { IfOk result (λ o. o.cutting ≡ tiling.now) }
         ensures outlets { IfOk result (λ o. (d : Directed) → AreFlowsOf d tiling.now flows.now → AreOutlets d tiling.now flows.now o) }
     {
-        let targets = rim_targets(alloc, tiling, flows)?;
-        let links = rim_links(alloc, tiling, flows, &targets)?;
-        let ends = ends(alloc, &links)?;
-        drop(links);
-        let outlets = rim_outlets(alloc, tiling, flows, &targets, &ends)?;
+        let ends = ends(alloc, &crossings.links)?;
+        let outlets = rim_outlets(alloc, tiling, flows, &crossings.targets, &ends)?;
         Ok(Outlets {
             tiling: *tiling,
             outlets,
@@ -83,34 +82,6 @@ pub(crate) fn is_place(place: Place, other: Place) -> bool
     place.row == other.row && place.col == other.col
 }
 
-// Whether a place is in the grid and has this number.
-#[inline(always)]
-pub(crate) fn stands_for(tiling: &Tiling, place: Place, number: u32) -> bool
-    ensures { result ≡ stands_for tiling.now place number }
-{
-    place.row < tiling.rows() && place.col < tiling.cols() && rim_number(tiling, place) == number
-}
-
-// Where the water of a place goes on.
-#[inline(always)]
-fn next_from(tiling: &Tiling, flows: &[TileFlow], place: Place) -> Place
-    requires count { length flows.now ≡ tile_count tiling.now }
-    requires within { IsWithin tiling.now place }
-    ensures { result ≡ next_by tiling.now flows.now place }
-{
-    next_of(code_of(tiling, flows, place), place)
-}
-
-#[inline(always)]
-fn code_of(tiling: &Tiling, flows: &[TileFlow], place: Place) -> Option<Code>
-    requires count { length flows.now ≡ tile_count tiling.now }
-    requires within { IsWithin tiling.now place }
-    ensures value { result ≡ code_in tiling.now flows.now place }
-    ensures lawful { IsCutting tiling.now }
-{
-    flows[tiling.tile_of(place) as usize].code(place)
-}
-
 #[inline(always)]
 fn exit_of(tiling: &Tiling, flows: &[TileFlow], place: Place) -> Option<Place>
     requires count { length flows.now ≡ tile_count tiling.now }
@@ -118,86 +89,6 @@ fn exit_of(tiling: &Tiling, flows: &[TileFlow], place: Place) -> Option<Place>
     ensures { result ≡ exit_by tiling.now flows.now place }
 {
     flows[tiling.tile_of(place) as usize].exit(place)
-}
-
-#[inline(always)]
-fn way_out(tiling: &Tiling, flows: &[TileFlow], entry: Place) -> Option<Place>
-    requires count { length flows.now ≡ tile_count tiling.now }
-    requires within { IsWithin tiling.now entry }
-    ensures { result ≡ way_out_by tiling.now flows.now entry }
-{
-    flows[tiling.tile_of(entry) as usize].way_out(entry)
-}
-
-// Where the water of a number's cell enters another tile; None for a number that stands for no such cell.
-fn target_of(tiling: &Tiling, flows: &[TileFlow], number: u32) -> Option<Place>
-    requires count { length flows.now ≡ tile_count tiling.now }
-    requires number { number < number_count tiling.now }
-    ensures { result ≡ target_by tiling.now flows.now number }
-{
-    let place = rim_place(tiling, number);
-    if !stands_for(tiling, place, number) {
-        return None;
-    }
-    let next = next_from(tiling, flows, place);
-    if contains(tiling.bounds(tiling.tile_of(place)), next) {
-        None
-    } else {
-        Some(next)
-    }
-}
-
-/// Where the water of each number's cell enters another tile.
-#[tactic(auto, using(crate::proofs::Windows::mapped_next))]
-pub(crate) fn rim_targets(
-    alloc: Global,
-    tiling: &Tiling,
-    flows: &[TileFlow],
-) -> Result<Vec<Option<Place>>, AllocError>
-    requires { (d : Directed) × AreFlowsOf d tiling.now flows.now }
-    ensures { IfOk result (λ v. v.items ≡ targets_by tiling.now flows.now) }
-{
-    let count = number_count(tiling);
-    let mut targets = Vec::with_capacity(alloc, count as usize)?;
-    for number in 0..count {
-        targets.push(target_of(tiling, flows, number))?;
-    }
-    Ok(targets)
-}
-
-// The number to which a number is linked: that of the exit over which its water leaves the next tile.
-fn link_of(tiling: &Tiling, flows: &[TileFlow], targets: &[Option<Place>], number: u32) -> u32
-    requires flows { (d : Directed) × AreFlowsOf d tiling.now flows.now }
-    requires targets { targets.now ≡ targets_by tiling.now flows.now }
-    requires number { number < number_count tiling.now }
-    ensures { result ≡ rim_link tiling.now flows.now number }
-{
-    let Some(entry) = targets[number as usize] else {
-        return number;
-    };
-    match way_out(tiling, flows, entry) {
-        Some(exit) => rim_number(tiling, exit),
-        None => number,
-    }
-}
-
-#[tactic(auto, using(crate::proofs::Windows::mapped_next))]
-pub(crate) fn rim_links(
-    alloc: Global,
-    tiling: &Tiling,
-    flows: &[TileFlow],
-    targets: &[Option<Place>],
-) -> Result<Vec<u32>, AllocError>
-    requires flows { (d : Directed) × AreFlowsOf d tiling.now flows.now }
-    requires targets { targets.now ≡ targets_by tiling.now flows.now }
-    ensures { IfOk result (λ v. v.items ≡ rim_links_by tiling.now flows.now) }
-{
-    let count = number_count(tiling);
-    let mut links = Vec::with_capacity(alloc, count as usize)?;
-    for number in 0..count {
-        links.push(link_of(tiling, flows, targets, number))?;
-    }
-    Ok(links)
 }
 
 // The exit of the place that the last of a number's links enters.

@@ -7,7 +7,7 @@ ghost use Rattle.flow.specs.TileLinks.{index_in, where_data, links_by};
 ghost use Rattle.flow.specs.Whole.{is_outlet_code};
 ghost use Rattle.flow.specs.RimGraph.{way_out_in};
 
-use crate::cells::{contains, index_of, place_at, tile_codes, tile_links, tile_weights};
+use crate::cells::{index_of, place_at, tile_codes, tile_links, tile_weights};
 use crate::ends::{end_from, find_ends};
 use crate::rim::rim_ends;
 use crate::streams::upstream;
@@ -47,7 +47,7 @@ impl TileFlow {
     pub fn through(&self, place: Place) -> Option<u32>
         ensures { result ≡ through_in self.now place }
     {
-        if contains(self.bounds, place) {
+        if self.bounds.contains(place) {
             self.count_at(index_of(self.bounds, place))
         } else {
             None
@@ -58,7 +58,7 @@ impl TileFlow {
     pub(crate) fn code(&self, place: Place) -> Option<Code>
         ensures { result ≡ entry_in self.now.bounds self.now.codes place }
     {
-        if contains(self.bounds, place) {
+        if self.bounds.contains(place) {
             self.codes[index_of(self.bounds, place)]
         } else {
             None
@@ -155,7 +155,7 @@ impl TileFlow {
     pub fn exit(&self, place: Place) -> Option<Place>
         ensures { result ≡ exit_in self.now place }
     {
-        if contains(self.bounds, place) {
+        if self.bounds.contains(place) {
             self.exit_at(index_of(self.bounds, place))
         } else {
             None

@@ -1,6 +1,6 @@
 -- Horizons over targets sorted by slope. Lines are counted 1, 2, 3, .. outward from an observer, and a slope is in cells
 -- aside a line. A target on line n, j cells aside, has the slope j / n, and its rise is how much it is above the eye.
-use Rattle.std.specs.Prelude.{◌≡◌, ℕ, ◌^◌, ◌<◌, ◌≤◌, max, nat_lt, if◌then◌else◌, Bool, false, ◌||◌, ℤ, pos, unsigned_abs, int_lt, ◌+ℤ◌, ◌*ℤ◌, ◌≤ℤ◌, List, [], ◌∷◌, length, Option, None, Some, slice_get}
+use Rattle.std.specs.Prelude.{◌≡◌, ℕ, ◌^◌, ◌<◌, ◌≤◌, max, nat_lt, if◌then◌else◌, Bool, false, ℤ, pos, unsigned_abs, int_lt, ◌+ℤ◌, ◌*ℤ◌, ◌≤ℤ◌, List, [], ◌∷◌, length, Option, None, Some, slice_get}
 use Rattle.std.specs.Option.{option_map_or}
 use Rattle.horizons.specs.declared.target.Target.{Target}
 use Rattle.horizons.specs.declared.ramp.Ramp.{Ramp}
@@ -32,12 +32,10 @@ hides_by r t rise = int_lt (rise *ℤ pos r.lines) (value_at r t)
 abbrev pub is_above : Ramp → Ramp → Target → Bool
 is_above r s t = int_lt (value_at s t *ℤ pos r.lines) (value_at r t *ℤ pos s.lines)
 
--- A ramp that may be asked at a target: nothing there grows past 64 bits.
+-- A ramp that may be asked at a target: its value there is of 64 bits.
 pub record IsRampAt (r : Ramp) (t : Target) : Type 0 where
   pub lines : (0 < r.lines) × (r.lines ≤ 4096)
-  pub gain : unsigned_abs r.gain ≤ 2 ^ 44
-  pub level : unsigned_abs r.level ≤ 2 ^ 46
-  pub value : unsigned_abs (value_at r t) ≤ 2 ^ 50
+  pub value : unsigned_abs (value_at r t) < 2 ^ 63
 
 -- The pieces of a horizon stand for a function of a target's index. At an index it is the ramp of the first piece that
 -- ends above it.
@@ -72,8 +70,3 @@ AreUpTo ps k index = (m : ℕ) (p : Piece) → m < k → slice_get ps m ≡ Some
 -- A walk over the pieces may go on to this index.
 abbrev pub IsUpTo : List Piece → Cursor → ℕ → Type 0
 IsUpTo ps c index = AreUpTo ps c.piece index
-
--- The greater of two horizons: it hides what either of them does.
-pub record IsGreater (targets : List Target) (f g h : List Piece) : Type 0 where
-  pub over : IsOver targets h
-  pub hides : (i : ℕ) (t : Target) (rise : ℤ) → slice_get targets i ≡ Some t → hides h i t rise ≡ (hides f i t rise || hides g i t rise)

@@ -1,4 +1,4 @@
--- How the greater of two horizons is made. No public clause cites it.
+-- The greater of two ramps, over targets side by side.
 use Rattle.std.specs.Prelude.{◌≡◌, ℕ, ◌<◌, ◌≤◌, Bool, if◌then◌else◌, List, Some, slice_get}
 use Rattle.horizons.specs.Horizons.{is_above, ramp_at, extent, IsRampAt}
 use Rattle.horizons.specs.declared.target.Target.{Target}
@@ -22,9 +22,3 @@ pub record IsGreaterPushed (targets : List Target) (r s : Ramp) (old : List Piec
   pub reach : extent new ≡ end
   pub kept : (i : ℕ) → i < extent old → ramp_at new i ≡ ramp_at old i
   pub added : (i : ℕ) (t : Target) → extent old ≤ i → i < end → slice_get targets i ≡ Some t → ramp_at new i ≡ Some (greater_at r s t)
-
--- A horizon is the greater of two as far as it reaches.
-abbrev pub IsGreaterSoFar : List Target → List Piece → List Piece → List Piece → Type 0
-IsGreaterSoFar targets f g h =
-    (i : ℕ) (t : Target) (r s : Ramp) → i < extent h → slice_get targets i ≡ Some t → ramp_at f i ≡ Some r → ramp_at g i ≡ Some s
-    → ramp_at h i ≡ Some (greater_at s r t)

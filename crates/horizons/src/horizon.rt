@@ -1,5 +1,5 @@
 // Horizons as pieces of ramps.
-ghost use Rattle.std.specs.Prelude.{◌≡◌, ℕ, ◌+◌, ◌^◌, ◌<◌, ◌≤◌, ℤ, List, [], length, Some, OnOk, OnErr, slice_get, unsigned_abs};
+ghost use Rattle.std.specs.Prelude.{◌≡◌, ℕ, ◌+◌, ◌<◌, ◌≤◌, ℤ, List, [], length, Some, OnOk, OnErr, slice_get};
 ghost use Rattle.horizons.specs.declared.horizon.Piece.{Piece};
 ghost use Rattle.horizons.specs.declared.ramp.Ramp.{Ramp};
 ghost use Rattle.horizons.specs.Horizons.{IsTarget, IsRampAt, IsPushed, IsUpTo, AreUpTo, ramp_at, extent, hides};
@@ -132,7 +132,7 @@ impl Horizon {
 
     /// The piece that holds an index, to which the cursor goes on.
     #[inline(always)]
-    pub(crate) fn piece(&self, cursor: &mut Cursor, index: usize) -> Piece
+    pub fn piece(&self, cursor: &mut Cursor, index: usize) -> Piece
         requires index { index < extent self.now }
         requires cursor { IsUpTo self.now cursor.old index }
         ensures cursor { IsUpTo self.now cursor.new index }
@@ -151,7 +151,6 @@ impl Horizon {
         requires cursor { IsUpTo self.now cursor.old index }
         requires target { IsTarget target }
         requires at { (r : Ramp) → ramp_at self.now index ≡ Some r → IsRampAt r target }
-        requires rise { unsigned_abs rise ≤ 2 ^ 50 }
         ensures cursor { IsUpTo self.now cursor.new index }
         ensures answer { result ≡ hides self.now index target rise }
     {

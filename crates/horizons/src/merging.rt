@@ -1,10 +1,11 @@
-// The greater of two horizons.
-ghost use Rattle.std.specs.Prelude.{◌≡◌, ℕ, ◌+◌, ◌<◌, ◌≤◌, not, Bool, length, Some, OnOk, slice_get};
+// The greater of two ramps, and where neither is above the other.
+ghost use Rattle.std.specs.Prelude.{◌≡◌, ℕ, ◌+◌, ◌<◌, ◌≤◌, not, Bool, false, length, Some, OnOk, slice_get};
+ghost use Rattle.std.specs.Bool.{OnTrue};
 ghost use Rattle.horizons.specs.declared.target.Target.{Target};
-ghost use Rattle.horizons.specs.Horizons.{AreTargets, IsOver, IsGreater, is_above, extent};
+ghost use Rattle.horizons.specs.Horizons.{AreTargets, is_above, extent};
 ghost use Rattle.horizons.specs.Merging.{IsRampOn, IsAboveOn, IsGreaterPushed};
 
-use crate::horizon::{Cursor, Horizon};
+use crate::horizon::Horizon;
 use crate::ramp::Ramp;
 use crate::target::Target;
 use std::alloc::AllocError;
@@ -19,6 +20,21 @@ fn is_above_at(targets: &[Target], one: Ramp, other: Ramp, index: usize) -> bool
     ensures { (t : Target) → slice_get targets.now index ≡ Some t → is_above one other t ≡ result }
 {
     one.is_above(other, targets[index])
+}
+
+/// Whether the one ramp is above the other at none of the targets from one on up to `end`.
+#[inline(always)]
+pub fn is_never_above(targets: &[Target], one: Ramp, other: Ramp, from: usize, end: usize) -> bool
+    requires targets { AreTargets targets.now }
+    requires range { (from < end) × (end ≤ length targets.now) }
+    requires one { IsRampOn targets.now one from end }
+    requires other { IsRampOn targets.now other from end }
+    ensures { OnTrue result (IsAboveOn targets.now one other false from end) }
+{
+    if is_above_at(targets, one, other, from) {
+        return false;
+    }
+    !is_above_at(targets, one, other, end - 1)
 }
 
 /// Two ramps change places once at most, since their difference is straight. From the target that is
@@ -52,7 +68,7 @@ fn turn(targets: &[Target], one: Ramp, other: Ramp, first: bool, from: usize, en
 
 /// Adds the greater of two ramps over the targets from the extent on up to `end`.
 #[inline(always)]
-fn push_greater(
+pub fn push_greater(
     targets: &[Target],
     one: Ramp,
     other: Ramp,
@@ -75,30 +91,4 @@ fn push_greater(
         into.push(turn, other)?;
         into.push(end, one)
     }
-}
-
-/// Makes the horizon that hides what either of two does.
-pub fn greater(
-    targets: &[Target],
-    f: &Horizon,
-    g: &Horizon,
-    into: &mut Horizon,
-) -> Result<(), AllocError>
-    requires targets { AreTargets targets.now }
-    requires f { IsOver targets.now f.now }
-    requires g { IsOver targets.now g.now }
-    ensures { OnOk result (IsGreater targets.now f.now g.now into.new) }
-{
-    into.clear();
-    let mut f_cursor = Cursor::start();
-    let mut g_cursor = Cursor::start();
-    let mut from = 0;
-    while from < targets.len() {
-        let one = g.piece(&mut g_cursor, from);
-        let other = f.piece(&mut f_cursor, from);
-        let end = one.end.min(other.end);
-        push_greater(targets, one.ramp, other.ramp, end, into)?;
-        from = end;
-    }
-    Ok(())
 }

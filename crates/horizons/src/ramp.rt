@@ -1,5 +1,5 @@
 // Straight lines over slopes.
-ghost use Rattle.std.specs.Prelude.{◌≡◌, ℤ, negsuc, ◌^◌, ◌≤◌, ◌≤ℤ◌, false, unsigned_abs};
+ghost use Rattle.std.specs.Prelude.{◌≡◌, ℤ, ◌^◌, ◌≤◌, false, unsigned_abs};
 ghost use Rattle.horizons.specs.declared.target.Target.{Target};
 ghost use Rattle.horizons.specs.Horizons.{IsTarget, IsRampAt, value_at, hides_by, is_above};
 
@@ -7,6 +7,9 @@ use crate::target::Target;
 
 /// What heights are reckoned in.
 pub type Value = i64;
+
+/// What values times lines are reckoned in.
+type Product = i128;
 
 /// A function of the slope `s`: `(gain * s + level) / lines`.
 #[derive(Clone, Copy, PartialEq)]
@@ -19,12 +22,12 @@ pub struct Ramp {
 impl Ramp {
     /// What stands where there is no ground: below the rise of every target.
     pub fn nothing() -> Self
-        ensures below { (t : Target) (rise : ℤ) → IsTarget t → negsuc 68719476735 ≤ℤ rise → hides_by result t rise ≡ false }
+        ensures below { (t : Target) (rise : ℤ) → IsTarget t → unsigned_abs rise ≤ 2 ^ 51 → hides_by result t rise ≡ false }
         ensures at { (t : Target) → IsTarget t → IsRampAt result t }
     {
         Ramp {
             gain: 0,
-            level: -(1 << 36),
+            level: -(1 << 51),
             lines: 1,
         }
     }
@@ -36,7 +39,9 @@ impl Ramp {
         requires at { IsRampAt self target }
         ensures { result ≡ value_at self target }
     {
-        self.gain * Value::from(target.aside) + self.level * Value::from(target.line)
+        let gained = Product::from(self.gain) * Product::from(target.aside);
+        let based = Product::from(self.level) * Product::from(target.line);
+        (gained + based) as Value
     }
 
     /// Whether it is above another ramp at the slope of a target.
@@ -47,8 +52,8 @@ impl Ramp {
         requires other { IsRampAt other target }
         ensures { result ≡ is_above self other target }
     {
-        self.value_at(target) * Value::from(other.lines)
-            > other.value_at(target) * Value::from(self.lines)
+        Product::from(self.value_at(target)) * Product::from(other.lines)
+            > Product::from(other.value_at(target)) * Product::from(self.lines)
     }
 
     /// Whether it hides a target that is so much above the eye.
@@ -56,9 +61,8 @@ impl Ramp {
     pub fn hides(self, target: Target, rise: Value) -> bool
         requires target { IsTarget target }
         requires at { IsRampAt self target }
-        requires rise { unsigned_abs rise ≤ 2 ^ 50 }
         ensures { result ≡ hides_by self target rise }
     {
-        self.value_at(target) > rise * Value::from(self.lines)
+        Product::from(self.value_at(target)) > Product::from(rise) * Product::from(self.lines)
     }
 }

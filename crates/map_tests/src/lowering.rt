@@ -26,14 +26,14 @@ const NEAR: [&str; 8] = [" 0", " 0", " 1", " 1", " 2", " 2", " 3", " 3"];
 
 /// Farther apart than the lists of so few cells, which have four levels.
 const FAR: [&str; 8] = [
-    " -1000000000",
+    " -1000000000000000",
     " -70",
     " -1",
     " 0",
     " 2",
     " 4",
     " 60",
-    " 1000000000",
+    " 1000000000000000",
 ];
 
 /// One cell in some thirty is a gap, and the others stand at one of the heights.

@@ -158,10 +158,17 @@ fn nobody_looks(rt: HostRuntime) {
 
 #[test]
 fn greatest_numbers(rt: HostRuntime) {
-    let heights = "-1000000000 1000000000 -1000000000\n1000000000 -1000000000 1000000000";
+    let heights =
+        "-1000000000000000 1000000000000000 -1000000000000000\n1000000000000000 -1000000000000000 1000000000000000";
     let peaks = land(&rt, rt.alloc(), 3, 2, heights);
     let high = [observer(0, 0, 1_000_000), observer(1, 2, 1_000_000)];
     expect_far(&rt, rt.alloc(), &peaks, &high, 1_000_000, "221 222");
+    let level = "-1000000000000000 0 1000000000000000";
+    let level = land(&rt, rt.alloc(), 3, 1, level);
+    expect_far(&rt, rt.alloc(), &level, &[CORNER], 0, "111");
+    let higher = "-1000000000000000 1 1000000000000000";
+    let higher = land(&rt, rt.alloc(), 3, 1, higher);
+    expect_far(&rt, rt.alloc(), &higher, &[CORNER], 0, "110");
 }
 
 const HEIGHTS: &str = "-5 -8 -9999 2 7 -7 -7 8 -2\n\
@@ -202,7 +209,7 @@ fn rough_heights(rt: &impl Abort, alloc: Global, seed: u32) -> String {
         let height = if word % 23 == 0 {
             -9_999
         } else {
-            (word % 40) as i32
+            i64::from(word % 40)
         };
         let next = format!(in alloc; "{height} ").expect(rt, "a word");
         text.push_str(next.as_str()).expect(rt, "a text");

@@ -137,7 +137,8 @@ fn river_that_comes_back(rt: HostRuntime) {
 
 #[test]
 fn greatest_drops(rt: HostRuntime) {
-    let peaks = "1000000000 -1000000000 1000000000\n-1000000000 1000000000 1000000000";
+    let peaks =
+        "1000000000000000 -1000000000000000 1000000000000000\n-1000000000000000 1000000000000000 1000000000000000";
     let maps = Maps {
         cols: 3,
         rows: 2,
@@ -146,6 +147,23 @@ fn greatest_drops(rt: HostRuntime) {
         codes: "1 0 16\n0 16 32",
         accumulation: "0 3 0\n1 0 0",
         basins: "1 1 1\n2 2 1",
+    };
+    maps.expect(&rt, rt.alloc());
+}
+
+// Of two drops, one along a row and one across a diagonal, the squares differ by a fiftieth.
+#[test]
+fn great_drops_compared(rt: HostRuntime) {
+    let slope =
+        "1000000000000000 1000000000000000 1000000000000000\n1000000000000000 1000000000000000 300000000000000\n1000000000000000 1000000000000000 0";
+    let maps = Maps {
+        cols: 3,
+        rows: 3,
+        heights: slope,
+        filled: slope,
+        codes: "0 2 4\n0 2 4\n0 1 0",
+        accumulation: "0 0 0\n0 0 2\n0 0 5",
+        basins: "1 4 4\n2 4 4\n3 4 4",
     };
     maps.expect(&rt, rt.alloc());
 }

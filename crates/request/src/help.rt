@@ -80,7 +80,7 @@ west to east. Nothing is rounded: a height with a digit other than 0 past the sc
 NODATA where its word is the header's NODATA word or has the same value.\n\n\
 Units: D is the number of --scale, the decimals of the heights, so a unit is 10^-D: with heights in metres a\n\
 metre for D 0, a centimetre for D 2.\n\n\
-Limits: 4096 columns and rows; heights from -10^9 to 10^9 units; 2^28 bytes of text; words of 64 bytes; 65536\n\
+Limits: 4096 columns and rows; heights from -10^15 to 10^15 units; 2^29 bytes of text; words of 64 bytes; 65536\n\
 tiles.\n\n\
 Exit status:\n  \
 0  the map was written, or help or the version was asked for\n  \
@@ -109,13 +109,13 @@ A fault is one line on standard error, relief: NUMBER NAME [DETAIL], and no map.
    4 BadSize KEY       columns or rows are not 1 to 4096: cut a part out, or make the cells larger
    5 BadPlace KEY      a position or the cell size is no number, or the cell size not above 0: mend the header
    6 BadNodata         the NODATA word is no number, as nan: gdalwarp -dstnodata -9999
-   7 BadHeight PLACE   digits past the scale: --scale 2, and gdal_translate -co DECIMAL_PRECISION=2; or past 10^9
+   7 BadHeight PLACE   digits past the scale: --scale 2, and gdal_translate -co DECIMAL_PRECISION=2; or past 10^15
                        units, or no number (a decimal comma, an exponent): look at this cell
    8 TooFew COUNT      the text ended after COUNT heights: it was cut off, or the header names another size
    9 TooMany           words follow after the last height: the header names another size, or take them out
   10 NoValue KEY       the text ended after a header word: it was cut off
   11 TooLong           a word past 64 bytes: take out the line of a projection, write fewer decimals; or a text
-                       past 2^28 bytes: write fewer decimals, or cut a part out
+                       past 2^29 bytes: write fewer decimals, or cut a part out
   12 Memory            no memory was to be had: a smaller grid, or more memory
   21 BadSide           the side of tiles is not 1 to 4096: such words are refused before
   22 TooManyTiles      more than 65536: a larger --tile

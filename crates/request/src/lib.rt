@@ -15,4 +15,4 @@ pub use place_words::{parse_observer, parse_sink};
 pub use words::{WordsFault, parse};
 
 /// The program's version, with which CHANGELOG.md begins.
-pub const VERSION: &str = "0.1.0";
+pub const VERSION: &str = "0.2.0";

@@ -264,6 +264,6 @@ fn a_reader_without_end(rt: HostRuntime) -> Result<(), Fail> {
     let result = run(&rt, rt.alloc(), &options, &mut reader, &mut writer);
     assert_eq!(rt; result, Err(RunFault::Grid(GridFault::TooLong)));
     drop(reader);
-    assert!(rt; endless.given <= 268_435_457, "{} bytes", endless.given);
+    assert!(rt; endless.given <= 536_870_913, "{} bytes", endless.given);
     Ok(())
 }

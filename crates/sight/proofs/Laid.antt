@@ -1,5 +1,5 @@
--- The ground of a line, laid over the targets piece by piece.
-use Rattle.std.proofs.Common.{arith, refl, ap, negsuc, length, ◌∙◌, ◌≡◌, ℕ, ◌+◌, ◌-◌, ◌*◌, ◌<◌, ◌≤◌, ℤ, pos, ◌+ℤ◌, ◌-ℤ◌, ◌*ℤ◌, ◌≤ℤ◌, ◌<ℤ◌, subst, List, [], Option, Some, inl, inr}
+-- A horizon raised to the ground of a line, piece by piece.
+use Rattle.std.proofs.Common.{arith, refl, ap, negsuc, ◌∙◌, ◌≡◌, ℕ, ◌+◌, ◌-◌, ◌*◌, ◌<◌, ◌≤◌, ℤ, pos, ◌+ℤ◌, ◌-ℤ◌, ◌*ℤ◌, ◌≤ℤ◌, ◌<ℤ◌, subst, true, List, [], Option, Some, inl, inr}
 use Rattle.std.specs.Prelude.{slice_get}
 use Rattle.std.proofs.lemmas.Bool.{cases_lt}
 use Rattle.std.proofs.lemmas.Int.{ints}
@@ -7,40 +7,98 @@ use Rattle.std.proofs.lemmas.Nat.{mul-le}
 use Rattle.horizons.specs.declared.target.Target.{Target}
 use Rattle.horizons.specs.declared.ramp.Ramp.{Ramp}
 use Rattle.horizons.specs.declared.horizon.Piece.{Piece}
-use Rattle.horizons.specs.Horizons.{AreTargets, IsTarget, IsPushed, IsRampAt, extent}
+use Rattle.horizons.specs.Horizons.{AreTargets, IsTarget, IsSlopeUpTo, IsPushed, IsOver, IsRampAt, extent, ramp_at, hides_by}
+use Rattle.horizons.specs.Merging.{IsGreaterPushed, greater_at}
+use Rattle.horizons.proofs.Hiding.{greater_hides, greater_is_ramp, either_hides}
 use Rattle.horizons.proofs.Straight.{slope_up}
-use Rattle.sight.specs.Sweep.{IsBefore, AreBefore, Passes, Shows, ShowsBelow, IsFamily, StandsAt}
+use Rattle.sight.specs.Sweep.{IsBefore, AreBefore, Passes, PassesAmong, Shows, IsHiddenOn, Raises, RaisesBelow, IsFamily, StandsAt, line_blocks}
 use Rattle.sight.specs.declared.family.Family.{Family}
+use Rattle.sight.specs.declared.family.Span.{Span}
 use Rattle.sight.proofs.Products.{rest_times}
 use Rattle.sight.proofs.Rays.{low_onward, high_back}
+
+-- times a number of lines
+pub grows : (a b : ℤ) (n : ℕ) → a ≤ℤ b → (a *ℤ pos n) ≤ℤ (b *ℤ pos n)
+grows a b n h = by (b -ℤ a) refl
+  where
+    by : (d : ℤ) → d ≡ b -ℤ a → (a *ℤ pos n) ≤ℤ (b *ℤ pos n)
+    by (pos m) e = omega (arith, ints, rest_times b a (pos n), ap (λ z. z *ℤ pos n) e)
+    by (negsuc m) e = absurd (omega (arith, ints, e, h))
 
 -- a ray before a cell has those of smaller slopes before it too
 pub before_to : (targets : List Target) (k m : ℕ) (aside : ℤ) (u : Target) → AreTargets targets → slice_get targets m ≡ Some u → IsBefore k aside u → AreBefore targets k aside (m + 1)
 before_to targets k m aside u are at_m before i t below at_i =
     high_back aside t.aside u.aside t.line u.line k (are.each i t at_i).line.0 (slope_up targets i m t u are (omega arith) at_i at_m) before
 
--- from a target on, the rays that pass before the next cell pass as its own does
-pub passes_onward : (targets : List Target) (k from end i : ℕ) (aside : ℤ) (u t : Target) → AreTargets targets → slice_get targets from ≡ Some u → Passes k aside u → AreBefore targets k (aside +ℤ pos 1) end
-    → from ≤ i → i < end → slice_get targets i ≡ Some t → Passes k aside t
-passes_onward targets k from end i aside u t are at_u passes before low high at_t = record {
+-- from a target on, the rays that pass before the cell past another pass no nearer cell than its own does
+pub passes_onward : (targets : List Target) (k from end i : ℕ) (aside last : ℤ) (u t : Target) → AreTargets targets → slice_get targets from ≡ Some u → Passes k aside u → AreBefore targets k (last +ℤ pos 1) end
+    → from ≤ i → i < end → slice_get targets i ≡ Some t → PassesAmong k aside last t
+passes_onward targets k from end i aside last u t are at_u passes before low high at_t = record {
   low = low_onward aside u.aside t.aside u.line t.line k (are.each from u at_u).line.0 (slope_up targets from i u t are low at_u at_t) passes.low;
   high = before i t high at_t;
 }
 
-pub none_laid : (cells : List (Option ℤ)) (f : Family) (targets : List Target) (k : ℕ) (h : List Piece) → h ≡ [] → (extent h ≡ 0) × ShowsBelow cells f targets k 0 h
-unfolding extent
-none_laid cells f targets k h e = (rw e refl, λ i t below at. absurd (omega arith))
+-- the ray of a target that passes before a cell passes before each later one
+pub passes_before : (k : ℕ) (aside last : ℤ) (t : Target) → aside ≤ℤ last → Passes k aside t → PassesAmong k aside last t
+passes_before k aside last t up passes = record { low = passes.low; high = omega (arith, ints, passes.high, grows (aside +ℤ pos 1) (last +ℤ pos 1) t.line (omega (arith, ints, up))) }
 
-pub more_laid : (cells : List (Option ℤ)) (f : Family) (targets : List Target) (k from end : ℕ) (ramp : Ramp) (old new : List Piece) → extent old ≡ from → from < end → IsPushed old end ramp new
-    → ShowsBelow cells f targets k from old → ((i : ℕ) (t : Target) → from ≤ i → i < end → slice_get targets i ≡ Some t → Shows cells f k t ramp)
-    → (extent new ≡ end) × ShowsBelow cells f targets k end new
-more_laid cells f targets k from end ramp old new reach more pushed shown here = (
+pub none_raised : (cells : List (Option ℤ)) (f : Family) (targets : List Target) (k : ℕ) (highest h : List Piece) → h ≡ [] → (extent h ≡ 0) × RaisesBelow cells f targets k highest 0 h
+unfolding extent
+none_raised cells f targets k highest h e = (rw e refl, λ i t below at. absurd (omega arith))
+
+-- a ramp over the targets from one on
+pub more_raised : (cells : List (Option ℤ)) (f : Family) (targets : List Target) (k from end : ℕ) (highest : List Piece) (ramp : Ramp) (old new : List Piece) → extent old ≡ from → from < end → IsPushed old end ramp new
+    → RaisesBelow cells f targets k highest from old → ((i : ℕ) (t : Target) → from ≤ i → i < end → slice_get targets i ≡ Some t → Raises cells f k highest i t ramp)
+    → (extent new ≡ end) × RaisesBelow cells f targets k highest end new
+more_raised cells f targets k from end highest ramp old new reach more pushed raised here = (
   omega (arith, pushed.reach),
   λ i t below at. elim (cases_lt i from) [
-    | inl before ↦ let was = shown i t before at in (was.0, pushed.kept i (omega arith) ∙ was.1, was.2)
+    | inl before ↦ let was = raised i t before at in (was.0, pushed.kept i (omega arith) ∙ was.1, was.2)
     | inr after ↦ (ramp, pushed.added i (omega arith) below, here i t after below at)
   ],
 )
+
+-- over the targets of a span, from its first on
+pub shown_over : (cells : List (Option ℤ)) (f : Family) (targets : List Target) (k from end : ℕ) (span : Span) (u : Target) → AreTargets targets → slice_get targets from ≡ Some u
+    → ((t : Target) → IsTarget t → IsSlopeUpTo u t → PassesAmong k span.aside span.last t → (span.alone ≡ true → t ≡ u) → Shows cells f k t span.ramp)
+    → ((i : ℕ) (t : Target) → from ≤ i → i < end → slice_get targets i ≡ Some t → PassesAmong k span.aside span.last t × (span.alone ≡ true → t ≡ u))
+    → (i : ℕ) (t : Target) → from ≤ i → i < end → slice_get targets i ≡ Some t → Shows cells f k t span.ramp
+shown_over cells f targets k from end span u are at_u shows over i t low high at =
+    let here = over i t low high at in
+    shows t (are.each i t at) (slope_up targets from i u t are low at_u at) here.0 here.1
+
+-- the greater of the ground's ramp and of the one that was there
+raised_to : (cells : List (Option ℤ)) (f : Family) (k i : ℕ) (highest : List Piece) (ground ramp : Ramp) (t : Target) → ramp_at highest i ≡ Some ramp → IsRampAt ramp t → Shows cells f k t ground
+    → Raises cells f k highest i t (greater_at ground ramp t)
+raised_to cells f k i highest ground ramp t is is_ramp shows = record {
+  at = greater_is_ramp ramp ground t is_ramp shows.at;
+  hides = λ y rise stands later small. greater_hides ramp ground t rise is_ramp shows.at ∙ (rw (is, shows.hides y rise stands later small) refl);
+}
+
+pub greater_raised : (cells : List (Option ℤ)) (f : Family) (targets : List Target) (k from end : ℕ) (highest : List Piece) (ground ramp : Ramp) (old new : List Piece) → extent old ≡ from → from < end
+    → IsOver targets highest → ((i : ℕ) → from ≤ i → i < end → ramp_at highest i ≡ Some ramp) → IsGreaterPushed targets ground ramp old end new
+    → RaisesBelow cells f targets k highest from old → ((i : ℕ) (t : Target) → from ≤ i → i < end → slice_get targets i ≡ Some t → Shows cells f k t ground)
+    → (extent new ≡ end) × RaisesBelow cells f targets k highest end new
+greater_raised cells f targets k from end highest ground ramp old new reach more over is pushed raised shows = (
+  pushed.reach,
+  λ i t below at. elim (cases_lt i from) [
+    | inl before ↦ let was = raised i t before at in (was.0, pushed.kept i (omega arith) ∙ was.1, was.2)
+    | inr after ↦
+        let here = is i after below in (
+          greater_at ground ramp t,
+          pushed.added i t (omega arith) below at,
+          raised_to cells f k i highest ground ramp t here (over.each i t ramp at here) (shows i t after below at),
+        )
+  ],
+)
+
+-- where a line blocks nothing that the ramp does not hide, the ramp stays
+pub hidden_raised : (cells : List (Option ℤ)) (f : Family) (targets : List Target) (k i from end : ℕ) (highest : List Piece) (ramp : Ramp) (t : Target) → IsOver targets highest → ramp_at highest i ≡ Some ramp
+    → IsHiddenOn cells f targets k ramp from end → from ≤ i → i < end → slice_get targets i ≡ Some t → Raises cells f k highest i t ramp
+hidden_raised cells f targets k i from end highest ramp t over is hidden low high at = record {
+  at = over.each i t ramp at is;
+  hides = λ y rise stands later small. either_hides (hides_by ramp t rise) (line_blocks cells f t.line y rise k) (hidden i t low high at y rise stands later) ∙ (rw is refl);
+}
 
 -- cells from the first on stand on a line past line n of which r lines are left, and so does the observer
 low_side : (first at y k r : ℕ) → first ≤ at → first ≤ y → y * k + at * (r + k) < first * (r + k) + at * k → ⊥
@@ -68,18 +126,11 @@ passed_high f k y t is stands some later past =
     high_side f.side.cells f.side.at y k r some is.side stands.side
     (omega (arith, ints, left, rest_times (pos y) (pos f.side.at) (pos k), rest_times (pos f.side.cells) (pos f.side.at) (pos (r + k))))
 
-grows : (a b : ℤ) (n : ℕ) → a ≤ℤ b → (a *ℤ pos n) ≤ℤ (b *ℤ pos n)
-grows a b n h = by (b -ℤ a) refl
-  where
-    by : (d : ℤ) → d ≡ b -ℤ a → (a *ℤ pos n) ≤ℤ (b *ℤ pos n)
-    by (pos m) e = omega (arith, ints, rest_times b a (pos n), ap (λ z. z *ℤ pos n) e)
-    by (negsuc m) e = absurd (omega (arith, ints, e, h))
-
 -- over the targets whose rays pass before the first cell
-pub low_laid : (cells : List (Option ℤ)) (f : Family) (targets : List Target) (k end : ℕ) (ramp : Ramp) (old new : List Piece) → old ≡ [] → IsFamily f → AreTargets targets → IsPushed old end ramp new
-    → AreBefore targets k (pos f.side.first -ℤ pos f.side.at) end → ((t : Target) → IsTarget t → IsRampAt ramp t) → (extent new ≡ end) × ShowsBelow cells f targets k end new
-low_laid cells f targets k end ramp old new e is are pushed before at =
-    let none = none_laid cells f targets k old e in (
+pub low_raised : (cells : List (Option ℤ)) (f : Family) (targets : List Target) (k end : ℕ) (highest : List Piece) (ramp : Ramp) (old new : List Piece) → old ≡ [] → IsFamily f → AreTargets targets → IsPushed old end ramp new
+    → AreBefore targets k (pos f.side.first -ℤ pos f.side.at) end → ((t : Target) → IsTarget t → IsRampAt ramp t) → (extent new ≡ end) × RaisesBelow cells f targets k highest end new
+low_raised cells f targets k end highest ramp old new e is are pushed before at =
+    let none = none_raised cells f targets k highest old e in (
       omega (arith, pushed.reach, none.0),
       λ i t below at_t. (
         ramp,
@@ -92,16 +143,16 @@ low_laid cells f targets k end ramp old new e is are pushed before at =
     )
 
 -- over those from one on whose ray passes past the last cell
-pub high_laid : (cells : List (Option ℤ)) (f : Family) (targets : List Target) (k from : ℕ) (aside : ℤ) (u : Target) (ramp : Ramp) (old new : List Piece) → 0 < k → IsFamily f → AreTargets targets → slice_get targets from ≡ Some u
-    → Passes k aside u → (pos f.side.cells -ℤ pos f.side.at) ≤ℤ aside → extent old ≡ from → from < length targets → ((t : Target) → IsTarget t → IsRampAt ramp t)
-    → ShowsBelow cells f targets k from old → IsPushed old (length targets) ramp new → (extent new ≡ length targets) × ShowsBelow cells f targets k (length targets) new
-high_laid cells f targets k from aside u ramp old new some is are at_u passes past reach more at shown pushed =
-    more_laid cells f targets k from (length targets) ramp old new reach more pushed shown
+pub high_raised : (cells : List (Option ℤ)) (f : Family) (targets : List Target) (k from end : ℕ) (highest : List Piece) (aside : ℤ) (u : Target) (ramp : Ramp) (old new : List Piece) → 0 < k → IsFamily f → AreTargets targets → slice_get targets from ≡ Some u
+    → Passes k aside u → (pos f.side.cells -ℤ pos f.side.at) ≤ℤ aside → extent old ≡ from → from < end → ((t : Target) → IsTarget t → IsRampAt ramp t)
+    → RaisesBelow cells f targets k highest from old → IsPushed old end ramp new → (extent new ≡ end) × RaisesBelow cells f targets k highest end new
+high_raised cells f targets k from end highest aside u ramp old new some is are at_u passes past reach more at raised pushed =
+    more_raised cells f targets k from end highest ramp old new reach more pushed raised
     (λ i t low high at_t. record {
       at = at t (are.each i t at_t);
       hides = λ y rise stands later _.
-          let end = pos f.side.cells -ℤ pos f.side.at in
-          let here : (end *ℤ pos u.line) ≤ℤ (u.aside *ℤ pos k) = omega (arith, ints, grows end aside u.line past, passes.low) in
-          let on = low_onward end u.aside t.aside u.line t.line k (are.each from u at_u).line.0 (slope_up targets from i u t are low at_u at_t) here in
+          let last = pos f.side.cells -ℤ pos f.side.at in
+          let here : (last *ℤ pos u.line) ≤ℤ (u.aside *ℤ pos k) = omega (arith, ints, grows last aside u.line past, passes.low) in
+          let on = low_onward last u.aside t.aside u.line t.line k (are.each from u at_u).line.0 (slope_up targets from i u t are low at_u at_t) here in
           absurd (passed_high f k y t is stands some later on);
     })

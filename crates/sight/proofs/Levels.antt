@@ -1,9 +1,8 @@
 -- How the line of sight rises, and that all its levels fit.
-use Rattle.std.proofs.Common.{arith, sym, ◌∙◌, ◌≡◌, ◌+◌, ◌-◌, ◌<◌, ◌≤◌, ℕ, ℤ, pos, negsuc, ◌+ℤ◌, ◌-ℤ◌, ◌*ℤ◌, ◌≤ℤ◌, FitsSigned}
+use Rattle.std.proofs.Common.{arith, sym, ◌∙◌, ◌≡◌, ◌+◌, ◌-◌, ◌<◌, ◌≤◌, ℕ, ℤ, pos, unsigned_abs, ◌^◌, ◌*◌, ◌+ℤ◌, ◌-ℤ◌, ◌*ℤ◌, FitsSigned}
 use Rattle.std.specs.Int.{w64}
 use mir.Val.{to_z, of_z}
-use Rattle.std.proofs.lemmas.Int.{ints, to_z-of_z}
-use borrow.Author.Differences.{up, down}
+use Rattle.std.proofs.lemmas.Int.{ints, to_z-of_z, unsigned_abs-mul}
 use Rattle.std.proofs.Math.Nat.{sub-zero}
 use Rattle.std.proofs.lemmas.Nat.{mul-le}
 use Rattle.sight.specs.Sight.{sight}
@@ -18,34 +17,29 @@ rises e f k r = omega (arith, ints)
 pub sight_more : (e f : ℤ) (n k : ℕ) → k < n → sight e f n (k + 1) ≡ sight e f n k +ℤ (f -ℤ e)
 sight_more e f n k h = let split : n - k ≡ (n - (k + 1)) + 1 = omega arith in rw split (rises e f k (n - (k + 1)))
 
--- a level's size
-parts : (e : ℤ) → IsLevel e → (up e ≤ 4294967296) × (down e ≤ 4294967296)
-parts (pos n) p = (omega (arith, ints), omega arith)
-parts (negsuc n) p = (omega arith, omega (arith, ints))
+-- a product of small numbers
+pub times_small : (a b : ℤ) (m n : ℕ) → unsigned_abs a ≤ m → unsigned_abs b ≤ n → unsigned_abs (a *ℤ b) ≤ m * n
+times_small a b m n p q = omega (arith, unsigned_abs-mul a b, mul-le (unsigned_abs a) (unsigned_abs b) m n p q)
 
--- a level at steps k of n, of at most 4096
-bounded : (e f : ℤ) (r k : ℕ) → IsLevel e → IsLevel f → r ≤ 4096 → k ≤ 4096 → (negsuc 35184372088831 ≤ℤ ((e *ℤ pos r) +ℤ (f *ℤ pos k))) × (((e *ℤ pos r) +ℤ (f *ℤ pos k)) ≤ℤ pos 35184372088832)
-bounded e f r k p q h l =
-    let e_parts = parts e p in
-    let f_parts = parts f q in
-    let a = mul-le (up e) r 4294967296 4096 e_parts.0 h in
-    let b = mul-le (down e) r 4294967296 4096 e_parts.1 h in
-    let c = mul-le (up f) k 4294967296 4096 f_parts.0 l in
-    let d = mul-le (down f) k 4294967296 4096 f_parts.1 l in
-    (omega (arith, ints, a, b, c, d), omega (arith, ints, a, b, c, d))
+-- what lies between two levels is no larger
+pub between_small : (e f : ℤ) (m r k n : ℕ) → unsigned_abs e ≤ m → unsigned_abs f ≤ m → r + k ≤ n → unsigned_abs ((e *ℤ pos r) +ℤ (f *ℤ pos k)) ≤ m * n
+between_small e f m r k n p q few =
+    let a = times_small e (pos r) m r p (omega arith) in
+    let b = times_small f (pos k) m k q (omega arith) in
+    omega (arith, ints, a, b, mul-le m (r + k) m n (omega arith) few)
 
-pub sight_bounded : (e f : ℤ) (n k : ℕ) → IsLevel e → IsLevel f → k ≤ n → n ≤ 4096 → (negsuc 35184372088831 ≤ℤ sight e f n k) × (sight e f n k ≤ℤ pos 35184372088832)
-sight_bounded e f n k p q h l = bounded e f (n - k) k p q (omega arith) (omega arith)
+pub sight_bounded : (e f : ℤ) (n k : ℕ) → IsLevel e → IsLevel f → k ≤ n → n ≤ 4096 → unsigned_abs (sight e f n k) ≤ 2 ^ 62
+sight_bounded e f n k p q h l = omega (arith, between_small e f (2 ^ 50) (n - k) k 4096 p q (omega arith))
 
 -- what the walk computes fits
-fits : (z : ℤ) → negsuc 35184372088831 ≤ℤ z → z ≤ℤ pos 35184372088832 → FitsSigned w64 z
-fits z low high = omega (arith, ints)
+fits : (z : ℤ) → unsigned_abs z ≤ 2 ^ 62 → FitsSigned w64 z
+fits z small = omega (arith, ints)
 
 pub level_fits : (e : ℤ) → IsLevel e → FitsSigned w64 e
 level_fits e p = omega (arith, ints)
 
 pub sight_fits : (e f : ℤ) (n k : ℕ) → IsLevel e → IsLevel f → k ≤ n → n ≤ 4096 → FitsSigned w64 (sight e f n k)
-sight_fits e f n k p q h l = let is = sight_bounded e f n k p q h l in fits (sight e f n k) is.0 is.1
+sight_fits e f n k p q h l = fits (sight e f n k) (sight_bounded e f n k p q h l)
 
 pub scaled_fits : (e : ℤ) (n : ℕ) → IsLevel e → n ≤ 4096 → FitsSigned w64 (e *ℤ pos n)
 scaled_fits e n p h = rw (← sight_none e e n) (sight_fits e e n 0 p p (omega arith) h)
@@ -54,7 +48,7 @@ pub rise_fits : (e f : ℤ) → IsLevel e → IsLevel f → FitsSigned w64 (f -�
 rise_fits e f p q = omega (arith, ints)
 
 pub more_fits : (e f : ℤ) (n k : ℕ) → IsLevel e → IsLevel f → k < n → n ≤ 4096 → FitsSigned w64 (sight e f n k +ℤ (f -ℤ e))
-more_fits e f n k p q h l = let is = sight_bounded e f n (k + 1) p q (omega arith) l in fits (sight e f n k +ℤ (f -ℤ e)) (rw (sight_more e f n k h) at is.0) (rw (sight_more e f n k h) at is.1)
+more_fits e f n k p q h l = let is = sight_bounded e f n (k + 1) p q (omega arith) l in fits (sight e f n k +ℤ (f -ℤ e)) (rw (sight_more e f n k h) at is)
 
 -- the next level, as the walk adds it up
 pub next_level : (e f : ℤ) (n k bits : ℕ) → IsLevel e → IsLevel f → k < n → n ≤ 4096 → to_z w64 bits ≡ sight e f n k

@@ -4,6 +4,7 @@ mod Rows
 pub mod Ground
 pub mod Toward
 pub mod OnTheLine
+pub mod Heights
 pub mod Levels
 pub mod Steps
 pub mod Ranges
@@ -17,6 +18,7 @@ pub mod Products
 pub mod Rays
 pub mod Spans
 pub mod Laid
+pub mod Below
 -- a horizon over all lines so far
 pub mod Passed
 -- rays in the order of their slopes, and of their lines

@@ -6,7 +6,7 @@ use Rattle.std.proofs.lemmas.Bool.{cases_lt}
 use Rattle.std.proofs.lemmas.Nat.{mul-le, div-add-mod', mod_below, mul-add-lt}
 use Rattle.sight.specs.Sight.{toward, sight}
 use Rattle.sight.specs.Walk.{whole_at, part_at, index_at, is_above, step_blocks, steps_of, IsAt, over_columns, over_rows}
-use Rattle.sight.specs.Blocks.{IsTopOf, IsLow, AreTopsAlong, AreLowBetween, blocks_in, AreTops}
+use Rattle.sight.specs.Blocks.{IsTopOf, IsPeak, IsLow, AreTopsAlong, AreLowBetween, blocks_in, AreTops}
 use Rattle.sight.specs.declared.walk.Axis.{Axis}
 use Rattle.sight.specs.declared.walk.Step.{Step}
 use Rattle.sight.specs.declared.walk.Sightline.{Sightline}
@@ -170,6 +170,44 @@ step_passed cells tops line s i j k block start end some low high few at_start a
     (λ part h is. low_at (b + 1) (omega (arith, between, at_start.whole, at_end.whole)) (omega (arith, between, at_start.whole, at_end.whole))
     (whole_lt line.side n k some (omega arith) part) h (ap (λ x. get_or cells x None) beside ∙ is))
 
+-- nor is a line above the peak from one step on
+pub step_above : (cells tops : List (Option ℤ)) (line : Sightline) (s : BlockStrides) (peak : ℤ) (i k : ℕ) (start : Step)
+    → 0 < steps_of line → i ≤ k → k < steps_of line → IsAt line i start → AreTopsAlong cells tops line s → IsPeak tops peak → (pos (steps_of line) *ℤ peak) ≤ℤ start.sight → peak ≤ℤ line.to_level
+    → step_blocks cells line.lead line.side line.from_level line.to_level (steps_of line) k ≡ false
+step_above cells tops line s peak i k start some low high at_start is_top is_peak above ends =
+    let n = steps_of line in
+    let a = whole_at line.lead n k in
+    let b = whole_at line.side n k in
+    let m = part_at line.side n k in
+    let index = index_at line.lead line.side n k in
+    let e = line.from_level in
+    let f = line.to_level in
+    let a_in = whole_le line.lead n k some (omega arith) in
+    let b_in = whole_le line.side n k some (omega arith) in
+    let part_below = mod_below (toward line.side.from line.side.to n k) n some in
+    let all : (n - m) + m ≡ n = omega (arith, part_below) in
+    let none_left : n - n ≡ 0 = omega arith in
+    let end : (pos n *ℤ peak) ≤ℤ sight e f n n = rw none_left (at_end e f peak n ends) in
+    let low_at : (cell : ℕ) → cell ≤ max line.side.from line.side.to → (h : ℤ) → get_or cells (a * line.lead.stride + cell * line.side.stride) None ≡ Some h → (pos ((n - m) + m) *ℤ h) ≤ℤ sight e f n k =
+    λ cell inside h is.
+    let under = below_peak (get_or tops (a / 16 * s.lead + cell / 16 * s.side) None) peak h (is_top.above a cell h a_in inside is) (is_peak (a / 16 * s.lead + cell / 16 * s.side)) in
+    let lower = times_le n h peak under in
+    rw all (sight_between e f (pos n *ℤ h) n i n k low (omega arith) (omega arith) (omega (arith, ints, lower, (rw at_start.sight at above))) (omega (arith, ints, lower, end))) in
+    let beside : a * line.lead.stride + (b + 1) * line.side.stride ≡ index + line.side.stride = omega arith in
+    low_not_above (get_or cells index None) (get_or cells (index + line.side.stride) None) (n - m) m (sight e f n k) (omega (arith, part_below))
+    (low_at b b_in)
+    (λ part h is. low_at (b + 1) (whole_lt line.side n k some (omega arith) part) h (ap (λ x. get_or cells x None) beside ∙ is))
+  where
+    times_le : (n : ℕ) (h p : ℤ) → h ≤ℤ p → (pos n *ℤ h) ≤ℤ (pos n *ℤ p)
+    times_le n h p le = omega (arith, ints, mul-le n (up h + down p) n (up p + down h) (omega arith) (omega (arith, ints, le)))
+
+    at_end : (e f p : ℤ) (n : ℕ) → p ≤ℤ f → (pos n *ℤ p) ≤ℤ ((e *ℤ pos 0) +ℤ (f *ℤ pos n))
+    at_end e f p n le = omega (arith, ints, times_le n p f le)
+
+    below_peak : (top : Option ℤ) (p h : ℤ) → IsTopOf top h → ((x : ℤ) → top ≡ Some x → x ≤ℤ p) → h ≤ℤ p
+    below_peak None p h is all = absurd is
+    below_peak (Some x) p h is all = omega (arith, ints, is, all x refl)
+
 pub block_below : (cols rows r c : ℕ) → r < rows → c < cols → r / 16 * blocks_in cols + c / 16 < blocks_in rows * blocks_in cols
 block_below cols rows r c a b = omega (arith, mul-add-lt (r / 16) (blocks_in cols) (c / 16) (blocks_in rows) (omega arith) (omega arith))
 
@@ -183,6 +221,7 @@ top_at t tops r c i j h are a b i_is j_is is =
 pub along_columns : (t : Terrain) (tops : List (Option ℤ)) (p q : Place) (e f : ℤ) → AreTops t tops → IsInside t p → IsInside t q
     → AreTopsAlong t.cells tops (over_columns t p q e f) (record { lead = 1; side = blocks_in t.cols })
 along_columns t tops p q e f are a b = record {
+  heights = are.heights;
   over = omega (arith, are.size, block_below t.cols t.rows (max p.row q.row) (max p.col q.col) (omega arith) (omega arith));
   above = λ col row h c_in r_in is. top_at t tops row col (col * 1 + row * t.cols) (col / 16 * 1 + row / 16 * blocks_in t.cols) h are (omega arith) (omega arith) (omega arith) (omega arith) is;
 }
@@ -190,6 +229,7 @@ along_columns t tops p q e f are a b = record {
 pub along_rows : (t : Terrain) (tops : List (Option ℤ)) (p q : Place) (e f : ℤ) → AreTops t tops → IsInside t p → IsInside t q
     → AreTopsAlong t.cells tops (over_rows t p q e f) (record { lead = blocks_in t.cols; side = 1 })
 along_rows t tops p q e f are a b = record {
+  heights = are.heights;
   over = omega (arith, are.size, block_below t.cols t.rows (max p.row q.row) (max p.col q.col) (omega arith) (omega arith));
   above = λ row col h r_in c_in is. top_at t tops row col (row * t.cols + col * 1) (row / 16 * blocks_in t.cols + col / 16 * 1) h are (omega arith) (omega arith) (omega arith) (omega arith) is;
 }

@@ -1,13 +1,13 @@
 -- How a horizon tells of one line more.
-use Rattle.std.proofs.Common.{arith, refl, sym, ap, subst, ◌∙◌, ◌≡◌, ℕ, zero, suc, ◌+◌, ◌-◌, ◌<◌, ◌||◌, ℤ, negsuc, ◌≤ℤ◌, Bool, true, false, List, [], length, Option, Some}
+use Rattle.std.proofs.Common.{arith, refl, sym, ap, subst, ◌∙◌, ◌≡◌, ℕ, zero, suc, ◌+◌, ◌-◌, ◌<◌, ◌||◌, ◌≤◌, ◌^◌, ℤ, unsigned_abs, Bool, true, false, List, [], length, Option, Some}
 use Rattle.std.specs.Prelude.{slice_get}
 use Rattle.std.specs.List.{list_any, range_with_len}
 use Rattle.std.proofs.lemmas.Option.{same_Some, slice_get_within}
 use Rattle.horizons.specs.declared.target.Target.{Target}
 use Rattle.horizons.specs.declared.ramp.Ramp.{Ramp}
 use Rattle.horizons.specs.declared.horizon.Piece.{Piece}
-use Rattle.horizons.specs.Horizons.{IsTarget, AreTargets, IsPushed, IsOver, IsGreater, IsRampAt, extent, ramp_at, hides, hides_by}
-use Rattle.sight.specs.Sweep.{ShowsBelow, HidesBefore, line_blocks, is_blocked_before}
+use Rattle.horizons.specs.Horizons.{IsTarget, AreTargets, IsPushed, IsOver, IsRampAt, extent, ramp_at, hides_by}
+use Rattle.sight.specs.Sweep.{RaisesBelow, HidesBefore, line_blocks, is_blocked_before}
 use Rattle.sight.specs.declared.family.Family.{Family}
 
 or_none : (b : Bool) → (b || false) ≡ b
@@ -26,35 +26,34 @@ any_next p a (suc n) =
     let count : suc n + 1 ≡ suc (n + 1) = omega arith in
     rw count (ap (λ b. p a || b) (any_next p (a + 1) n) ∙ or_between (p a) (list_any p (range_with_len (a + 1) n)) (p (a + 1 + n)) ∙ ap (λ i. (p a || list_any p (range_with_len (a + 1) n)) || p i) same)
 
--- a horizon that tells of each target whether a line blocks it
-pub is_over : (cells : List (Option ℤ)) (f : Family) (targets : List Target) (k : ℕ) (h : List Piece) → extent h ≡ length targets → ShowsBelow cells f targets k (length targets) h → IsOver targets h
-is_over cells f targets k h whole shows = record {
+-- a horizon that a line has raised
+is_over : (cells : List (Option ℤ)) (f : Family) (targets : List Target) (k : ℕ) (old new : List Piece) → extent new ≡ length targets → RaisesBelow cells f targets k old (length targets) new → IsOver targets new
+is_over cells f targets k old new whole raises = record {
   whole = whole;
   each = λ i t r at ramp.
-      let shown = shows i t (slice_get_within targets i t at) at in
+      let raised = raises i t (slice_get_within targets i t at) at in
       let P : Ramp → Type 0 = λ s. IsRampAt s t in
-      subst P (same_Some shown.0 r (sym shown.1 ∙ ramp)) shown.2.at;
+      subst P (same_Some raised.0 r (sym raised.1 ∙ ramp)) raised.2.at;
 }
 
-pub hides_next : (cells : List (Option ℤ)) (f : Family) (targets : List Target) (k : ℕ) (old ground new : List Piece) → 0 < k → HidesBefore cells f targets k old
-    → ShowsBelow cells f targets k (length targets) ground → IsGreater targets old ground new
-    → HidesBefore cells f targets (k + 1) new
-hides_next cells f targets k old ground new some before shows greater = record {
-  over = greater.over;
+pub hides_next : (cells : List (Option ℤ)) (f : Family) (targets : List Target) (k : ℕ) (old new : List Piece) → 0 < k → HidesBefore cells f targets k old
+    → extent new ≡ length targets → RaisesBelow cells f targets k old (length targets) new → HidesBefore cells f targets (k + 1) new
+hides_next cells f targets k old new some before whole raises = record {
+  over = is_over cells f targets k old new whole raises;
   hides = λ i t y rise at stands later is.
-      let shown = shows i t (slice_get_within targets i t at) at in
-      let here : hides ground i t rise ≡ line_blocks cells f t.line y rise k = rw shown.1 (shown.2.hides y rise stands (omega arith) is) in
+      let raised = raises i t (slice_get_within targets i t at) at in
+      let here = raised.2.hides y rise stands (omega arith) is in
       let was = before.hides i t y rise at stands (omega arith) is in
       let count : k + 1 - 1 ≡ (k - 1) + 1 = omega arith in
       let last : 1 + (k - 1) ≡ k = omega arith in
       let next : is_blocked_before cells f t.line y rise (k + 1) ≡ (is_blocked_before cells f t.line y rise k || line_blocks cells f t.line y rise k) =
       rw count (any_next (line_blocks cells f t.line y rise) 1 (k - 1) ∙ ap (λ n. is_blocked_before cells f t.line y rise k || line_blocks cells f t.line y rise n) last) in
-      greater.hides i t rise at ∙ rw (was, here) (sym next);
+      rw raised.1 (here ∙ rw was (sym next));
 }
 
 -- before the first line nothing hides
 pub none_hides : (targets : List Target) (ramp : Ramp) (h : List Piece) → AreTargets targets → IsPushed [] (length targets) ramp h
-    → ((t : Target) (rise : ℤ) → IsTarget t → negsuc 68719476735 ≤ℤ rise → hides_by ramp t rise ≡ false) → ((t : Target) → IsTarget t → IsRampAt ramp t)
+    → ((t : Target) (rise : ℤ) → IsTarget t → unsigned_abs rise ≤ 2 ^ 51 → hides_by ramp t rise ≡ false) → ((t : Target) → IsTarget t → IsRampAt ramp t)
     → (cells : List (Option ℤ)) (f : Family) → HidesBefore cells f targets 1 h
 unfolding extent
 none_hides targets ramp h are pushed below is cells f =
@@ -66,5 +65,5 @@ none_hides targets ramp h are pushed below is cells f =
             let P : Ramp → Type 0 = λ s. IsRampAt s t in
             subst P (same_Some ramp r (sym (at i t at_t) ∙ here)) (is t (are.each i t at_t));
       };
-      hides = λ i t y rise at_t stands later is_rise. rw (at i t at_t) (below t rise (are.each i t at_t) is_rise.0);
+      hides = λ i t y rise at_t stands later is_rise. rw (at i t at_t) (below t rise (are.each i t at_t) is_rise);
     }

@@ -106,6 +106,17 @@ stays_inside o y cells n k m aside a b few below is =
     brought : (o y k m : ℕ) (aside : ℤ) (r : ℕ) → (pos y -ℤ pos o) *ℤ pos k ≡ (aside *ℤ pos (r + k)) +ℤ pos m → (pos o *ℤ pos r) +ℤ (pos y *ℤ pos k) ≡ ((pos o +ℤ aside) *ℤ pos (r + k)) +ℤ pos m
     brought o y k m aside r e = omega (arith, ints, e, rest_times (pos y) (pos o) (pos k), sum_times (pos o) aside (pos (r + k)))
 
+-- where it is past a cell, the next one is there
+pub next_inside : (o y cells c n k m : ℕ) (aside : ℤ) → o < cells → y < cells → k ≤ n → 0 < m → (pos y -ℤ pos o) *ℤ pos k ≡ (aside *ℤ pos n) +ℤ pos m → pos c ≡ pos o +ℤ aside → c + 1 < cells
+next_inside o y cells c n k m aside a b few part is at =
+    let r = n - k in
+    let n_is : n ≡ r + k = omega arith in
+    let there = located o y c r k m aside (is ∙ ap (λ z. (aside *ℤ pos z) +ℤ pos m) n_is) at in
+    elim (cases_lt (c + 1) cells) [
+      | inl h ↦ h
+      | inr past ↦ absurd (omega (arith, there, mul-le o r (cells - 1) r (omega arith) (omega arith), mul-le y k (cells - 1) k (omega arith) (omega arith), mul-le (cells - 1) (r + k) c (r + k) (omega arith) (omega arith)))
+    ]
+
 -- Along the targets slopes do not fall. Here slopes are j / n and i / m, told by two parts each.
 onward : (a b j l i h n m k : ℕ) → 0 < n → j * m + h * n ≤ i * n + l * m → a * n + l * k ≤ j * k + b * n → a * m + h * k ≤ i * k + b * m
 onward a b j l i h n m k some slope low =

@@ -1,17 +1,19 @@
 -- What a span of a line's ground tells of the rays over it.
-use Rattle.std.proofs.Common.{arith, refl, sym, ap, ◌∙◌, ◌≡◌, ◌+◌, ◌-◌, ◌*◌, ◌/◌, ◌^◌, ◌<◌, ◌≤◌, ℕ, ℤ, pos, negsuc, ◌+ℤ◌, ◌-ℤ◌, ◌*ℤ◌, ◌≤ℤ◌, ◌<ℤ◌, unsigned_abs, false, List, Option, None, Some, get_or, inl, inr, FitsSigned, w32}
+use Rattle.std.proofs.Common.{arith, refl, sym, ap, ◌∙◌, ◌≡◌, ◌+◌, ◌-◌, ◌*◌, ◌/◌, ◌^◌, ◌<◌, ◌≤◌, ℕ, ℤ, pos, negsuc, ◌+ℤ◌, ◌-ℤ◌, ◌*ℤ◌, ◌≤ℤ◌, ◌<ℤ◌, unsigned_abs, false, List, Option, None, Some, get_or, inl, inr}
 use borrow.Author.Differences.{up, down}
 use Rattle.std.specs.Int.{int_div_euclid}
-use Rattle.std.proofs.lemmas.Int.{ints, unsigned_abs-mul}
+use Rattle.std.proofs.lemmas.Int.{ints}
 use Rattle.std.proofs.lemmas.Bool.{cases_Bool}
 use Rattle.std.proofs.lemmas.Nat.{mul-le, div-add-mod', mod_below}
+use Rattle.terrain.specs.Raster.{IsHeight}
 use Rattle.horizons.specs.declared.target.Target.{Target}
 use Rattle.horizons.specs.Horizons.{IsTarget, IsRampAt, hides_by, value_at}
 use Rattle.sight.specs.Sight.{sight}
 use Rattle.sight.specs.Walk.{is_above, whole_at, IsLevel}
 use Rattle.sight.specs.Sweep.{lead_of, lead_axis, line_blocks, ramp_of, IsFamily, IsLine, Passes, StandsAt}
 use Rattle.sight.specs.declared.family.Family.{Family}
-use Rattle.sight.proofs.Products.{sum_times}
+use Rattle.sight.proofs.Products.{sum_times, rest_times}
+use Rattle.sight.proofs.Levels.{times_small, between_small}
 use Rattle.sight.proofs.Toward.{lead_up_is, lead_down_is}
 use Rattle.sight.proofs.Rays.{ramp_gains, shown_between, not_shown_near, not_shown_far, cell_is, stays_inside}
 
@@ -51,10 +53,10 @@ lead_is f n k is few =
 abbrev pub near_index : Family → ℕ → ℕ → ℕ
 near_index f k c = lead_of f k * f.lines.stride + c * f.side.stride
 
-stands_past : (f : Family) (k m y : ℕ) (aside : ℤ) (t : Target) → StandsAt f y t → (t.aside *ℤ pos k) ≡ (aside *ℤ pos t.line) +ℤ pos m → (pos y -ℤ pos f.side.at) *ℤ pos k ≡ (aside *ℤ pos t.line) +ℤ pos m
+pub stands_past : (f : Family) (k m y : ℕ) (aside : ℤ) (t : Target) → StandsAt f y t → (t.aside *ℤ pos k) ≡ (aside *ℤ pos t.line) +ℤ pos m → (pos y -ℤ pos f.side.at) *ℤ pos k ≡ (aside *ℤ pos t.line) +ℤ pos m
 stands_past f k m y aside t stands is = ap (λ z. z *ℤ pos k) (sym stands.aside) ∙ is
 
-crossing_is : (cells : List (Option ℤ)) (f : Family) (k c m y : ℕ) (aside rise : ℤ) (t : Target) → StandsAt f y t → k < t.line → m < t.line
+pub crossing_is : (cells : List (Option ℤ)) (f : Family) (k c m y : ℕ) (aside rise : ℤ) (t : Target) → StandsAt f y t → k < t.line → m < t.line
     → (t.aside *ℤ pos k) ≡ (aside *ℤ pos t.line) +ℤ pos m → pos c ≡ pos f.side.at +ℤ aside
     → line_blocks cells f t.line y rise k
     ≡ is_above (get_or cells (near_index f k c) None) (t.line - m) (get_or cells (near_index f k c + f.side.stride) None) m (sight f.eye (f.eye +ℤ rise) t.line k)
@@ -92,45 +94,47 @@ nothing_far cells f k c y aside rise near t stands later passes at some none bey
     ∙ (rw (some, none) (not_shown_far near t.line m.0 (sight f.eye (f.eye +ℤ rise) t.line k) m.1 part))
 
 -- what a ramp is made of is small
-step_small : (near far : ℤ) → FitsSigned w32 near → FitsSigned w32 far → unsigned_abs (far -ℤ near) ≤ 2 ^ 32
-step_small near far a b = omega (arith, ints)
+pub step_small : (near far : ℤ) → IsHeight near → IsHeight far → unsigned_abs (far -ℤ near) ≤ 2 * 10 ^ 15
+step_small near far a b = omega (arith, ints, a, b)
 
-base_small : (near e : ℤ) → FitsSigned w32 near → IsLevel e → unsigned_abs (near -ℤ e) ≤ 2 ^ 33
-base_small near e a b = omega (arith, ints)
+pub base_small : (near e : ℤ) → IsHeight near → IsLevel e → unsigned_abs (near -ℤ e) ≤ 10 ^ 15 + 2 ^ 50
+base_small near e a b = omega (arith, ints, a, b)
 
-product_small : (a b : ℤ) (m n : ℕ) → unsigned_abs a ≤ m → unsigned_abs b ≤ n → unsigned_abs (a *ℤ b) ≤ m * n
-product_small a b m n p q = omega (arith, unsigned_abs-mul a b, mul-le (unsigned_abs a) (unsigned_abs b) m n p q)
+pub gain_small : (near far : ℤ) (k : ℕ) → IsHeight near → IsHeight far → k ≤ 4096 → unsigned_abs ((far -ℤ near) *ℤ pos k) < 2 ^ 63
+gain_small near far k a b few = omega (arith, times_small (far -ℤ near) (pos k) (2 * 10 ^ 15) 4096 (step_small near far a b) few)
 
-sum_small : (a b : ℤ) → unsigned_abs a ≤ 2 ^ 45 → unsigned_abs b ≤ 2 ^ 45 → unsigned_abs (a +ℤ b) ≤ 2 ^ 46
-sum_small a b p q = omega (arith, ints)
+tilt_within : (near far aside : ℤ) → IsHeight near → IsHeight far → unsigned_abs aside ≤ 4096 → unsigned_abs ((far -ℤ near) *ℤ aside) ≤ 8192 * 10 ^ 15
+tilt_within near far aside a b few = omega (arith, times_small (far -ℤ near) aside (2 * 10 ^ 15) 4096 (step_small near far a b) few)
 
-rest_small : (a b : ℤ) → unsigned_abs a ≤ 2 ^ 45 → unsigned_abs b ≤ 2 ^ 45 → unsigned_abs (a -ℤ b) ≤ 2 ^ 46
+pub tilt_small : (near far aside : ℤ) → IsHeight near → IsHeight far → unsigned_abs aside ≤ 4096 → unsigned_abs ((far -ℤ near) *ℤ aside) < 2 ^ 63
+tilt_small near far aside a b few = omega (arith, tilt_within near far aside a b few)
+
+rest_small : (a b : ℤ) → unsigned_abs a ≤ 10 ^ 15 + 2 ^ 50 → unsigned_abs b ≤ 8192 * 10 ^ 15 → unsigned_abs (a -ℤ b) < 2 ^ 63
 rest_small a b p q = omega (arith, ints)
 
-pub gain_small : (near far : ℤ) (k : ℕ) → FitsSigned w32 near → FitsSigned w32 far → k ≤ 4096 → unsigned_abs ((far -ℤ near) *ℤ pos k) ≤ 2 ^ 44
-gain_small near far k a b few = product_small (far -ℤ near) (pos k) (2 ^ 32) 4096 (step_small near far a b) few
+pub level_small : (near far e aside : ℤ) → IsHeight near → IsHeight far → IsLevel e → unsigned_abs aside ≤ 4096 → unsigned_abs ((near -ℤ e) -ℤ ((far -ℤ near) *ℤ aside)) < 2 ^ 63
+level_small near far e aside a b is few = rest_small (near -ℤ e) ((far -ℤ near) *ℤ aside) (base_small near e a is) (tilt_within near far aside a b few)
 
-pub tilt_small : (near far aside : ℤ) → FitsSigned w32 near → FitsSigned w32 far → unsigned_abs aside ≤ 4096 → unsigned_abs ((far -ℤ near) *ℤ aside) ≤ 2 ^ 44
-tilt_small near far aside a b few = product_small (far -ℤ near) aside (2 ^ 32) 4096 (step_small near far a b) few
+-- a ramp lies between the heights of its two cells
+mixed : (near far e : ℤ) (r m : ℕ) → ((near -ℤ e) *ℤ pos (r + m)) +ℤ (pos m *ℤ (far -ℤ near)) ≡ ((near -ℤ e) *ℤ pos r) +ℤ ((far -ℤ e) *ℤ pos m)
+mixed near far e r m = omega (arith, ints, rest_times near e (pos (r + m)), rest_times near e (pos r), rest_times far e (pos m), rest_times far near (pos m))
 
-pub level_small : (near far e aside : ℤ) → FitsSigned w32 near → FitsSigned w32 far → IsLevel e → unsigned_abs aside ≤ 4096 → unsigned_abs ((near -ℤ e) -ℤ ((far -ℤ near) *ℤ aside)) ≤ 2 ^ 46
-level_small near far e aside a b is few = rest_small (near -ℤ e) ((far -ℤ near) *ℤ aside) (omega (arith, base_small near e a is)) (omega (arith, tilt_small near far aside a b few))
+pub ramp_between : (f : Family) (k m : ℕ) (aside near far : ℤ) (t : Target) → m < t.line → (t.aside *ℤ pos k) ≡ (aside *ℤ pos t.line) +ℤ pos m
+    → value_at (ramp_of f k aside near far) t ≡ ((near -ℤ f.eye) *ℤ pos (t.line - m)) +ℤ ((far -ℤ f.eye) *ℤ pos m)
+ramp_between f k m aside near far t below is =
+    let n_is : t.line ≡ (t.line - m) + m = omega arith in
+    let gains : value_at (ramp_of f k aside near far) t ≡ ((near -ℤ f.eye) *ℤ pos t.line) +ℤ (pos m *ℤ (far -ℤ near)) = ramp_gains (near -ℤ f.eye) (far -ℤ near) aside t.aside t.line k m is in
+    gains ∙ ap (λ n. ((near -ℤ f.eye) *ℤ pos n) +ℤ (pos m *ℤ (far -ℤ near))) n_is ∙ mixed near far f.eye (t.line - m) m
 
-pub ramp_is : (f : Family) (k : ℕ) (aside near far : ℤ) (t : Target) → IsFamily f → IsLine f k → FitsSigned w32 near → FitsSigned w32 far → unsigned_abs aside ≤ 4096
+pub ramp_is : (f : Family) (k : ℕ) (aside near far : ℤ) (t : Target) → IsFamily f → IsLine f k → IsHeight near → IsHeight far
     → IsTarget t → Passes k aside t → IsRampAt (ramp_of f k aside near far) t
-ramp_is f k aside near far t is line a b few is_t passes =
+ramp_is f k aside near far t is line a b is_t passes =
     let m = past k aside t passes in
-    let step = far -ℤ near in
-    let base = near -ℤ f.eye in
-    let gains : value_at (ramp_of f k aside near far) t ≡ (base *ℤ pos t.line) +ℤ (pos m.0 *ℤ step) = ramp_gains base step aside t.aside t.line k m.0 m.2 in
-    let one = product_small base (pos t.line) (2 ^ 33) 4096 (base_small near f.eye a is.eye) (omega (arith, is_t.line)) in
-    let two = product_small (pos m.0) step 4096 (2 ^ 32) (omega (arith, is_t.line, m.1)) (step_small near far a b) in
-    let sum = sum_small (base *ℤ pos t.line) (pos m.0 *ℤ step) (omega (arith, one)) (omega (arith, two)) in
+    let between = ramp_between f k m.0 aside near far t m.1 m.2 in
+    let small = between_small (near -ℤ f.eye) (far -ℤ f.eye) (10 ^ 15 + 2 ^ 50) (t.line - m.0) m.0 4096 (base_small near f.eye a is.eye) (base_small far f.eye b is.eye) (omega (arith, m.1, is_t.line)) in
     record {
       lines = (line.0, line.1);
-      gain = gain_small near far k a b line.1;
-      level = level_small near far f.eye aside a b is.eye few;
-      value = rw gains (omega (arith, sum));
+      value = rw between (omega (arith, small));
     }
 
 -- between two cells

@@ -4,7 +4,7 @@ use Rattle.std.specs.Prelude.{◌≡◌, ℕ, ◌+◌, ◌*◌, ◌/◌, ◌<◌
 use Rattle.terrain.specs.Raster.{Terrain}
 use Rattle.terrain.specs.Neighbours.{height_at}
 use Rattle.terrain.specs.declared.place.Place.{Place}
-use Rattle.sight.specs.Walk.{steps_of}
+use Rattle.sight.specs.Walk.{steps_of, AreHeights}
 use Rattle.sight.specs.declared.walk.Sightline.{Sightline}
 use Rattle.sight.specs.declared.walk.Step.{Step}
 use Rattle.sight.specs.declared.passing.BlockStrides.{BlockStrides}
@@ -24,10 +24,16 @@ IsTopOf top h = MatchOption top ⊥ (λ m. h ≤ℤ m)
 -- The list has a height for each block, which none of the block's heights is above.
 pub record AreTops (t : Terrain) (tops : List (Option ℤ)) : Type 0 where
   pub size : length tops ≡ blocks_in t.rows * blocks_in t.cols
+  pub heights : AreHeights tops
   pub above : (p : Place) (h : ℤ) → height_at t p ≡ Some h → IsTopOf (slice_index_or tops (block_of t p) None) h
+
+-- No block's height is above a peak.
+abbrev pub IsPeak : List (Option ℤ) → ℤ → Type 0
+IsPeak tops peak = (i : ℕ) (h : ℤ) → slice_index_or tops i None ≡ Some h → h ≤ℤ peak
 
 -- The same along the two coordinates of a line.
 pub record AreTopsAlong (cells tops : List (Option ℤ)) (l : Sightline) (s : BlockStrides) : Type 0 where
+  pub heights : AreHeights tops
   pub over : max l.lead.from l.lead.to / 16 * s.lead + max l.side.from l.side.to / 16 * s.side < length tops
   pub above : (a b : ℕ) (h : ℤ) → a ≤ max l.lead.from l.lead.to → b ≤ max l.side.from l.side.to
       → slice_index_or cells (a * l.lead.stride + b * l.side.stride) None ≡ Some h

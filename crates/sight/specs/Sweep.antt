@@ -1,6 +1,6 @@
 -- The crossings of one family, as an observer meets them: with the columns to the east or the west, with the rows to the
 -- south or the north. Its lines are counted 1, 2, 3, .. outward from the observer. No public clause cites it.
-use Rattle.std.specs.Prelude.{◌≡◌, ℕ, ◌+◌, ◌-◌, ◌*◌, ◌<◌, ◌≤◌, Bool, true, if◌then◌else◌, ℤ, pos, negsuc, ◌+ℤ◌, ◌-ℤ◌, ◌*ℤ◌, ◌<ℤ◌, ◌≤ℤ◌, List, Option, Some, slice_get}
+use Rattle.std.specs.Prelude.{◌≡◌, ℕ, ◌+◌, ◌-◌, ◌*◌, ◌^◌, ◌<◌, ◌≤◌, Bool, true, ◌||◌, if◌then◌else◌, ℤ, pos, unsigned_abs, ◌+ℤ◌, ◌-ℤ◌, ◌*ℤ◌, ◌<ℤ◌, ◌≤ℤ◌, List, Option, Some, slice_get}
 use Rattle.std.specs.List.{list_any, range_with_len}
 use Rattle.horizons.specs.declared.target.Target.{Target}
 use Rattle.horizons.specs.declared.ramp.Ramp.{Ramp}
@@ -55,6 +55,11 @@ pub record Passes (k : ℕ) (aside : ℤ) (t : Target) : Type 0 where
   pub low : (aside *ℤ pos t.line) ≤ℤ (t.aside *ℤ pos k)
   pub high : (t.aside *ℤ pos k) <ℤ ((aside +ℤ pos 1) *ℤ pos t.line)
 
+-- It passes over the first of two cells, or from there on up to the one past the last.
+pub record PassesAmong (k : ℕ) (first last : ℤ) (t : Target) : Type 0 where
+  pub low : (first *ℤ pos t.line) ≤ℤ (t.aside *ℤ pos k)
+  pub high : (t.aside *ℤ pos k) <ℤ ((last +ℤ pos 1) *ℤ pos t.line)
+
 -- On line k the ray to a target passes before the cell so far aside.
 abbrev pub IsBefore : ℕ → ℤ → Target → Type 0
 IsBefore k aside t = (t.aside *ℤ pos k) <ℤ (aside *ℤ pos t.line)
@@ -76,19 +81,33 @@ ramp_of f k aside near far =
     let step = far -ℤ near in
     record { gain = step *ℤ pos k; level = (near -ℤ f.eye) -ℤ (step *ℤ aside); lines = k }
 
+-- The ramp of a height that is the same along line k.
+abbrev pub level_ramp : Family → ℕ → ℤ → Ramp
+level_ramp f k height = record { gain = pos 0; level = height -ℤ f.eye; lines = k }
+
 -- What a target may rise above the eye.
 abbrev pub IsRise : ℤ → Type 0
-IsRise rise = (negsuc 68719476735 ≤ℤ rise) × (rise ≤ℤ pos 68719476736)
+IsRise rise = unsigned_abs rise ≤ 2 ^ 51
 
 -- The ramp tells of a target whether line k blocks it.
 pub record Shows (cells : List (Option ℤ)) (f : Family) (k : ℕ) (t : Target) (r : Ramp) : Type 0 where
   pub at : IsRampAt r t
   pub hides : (y : ℕ) (rise : ℤ) → StandsAt f y t → k < t.line → IsRise rise → hides_by r t rise ≡ line_blocks cells f t.line y rise k
 
--- Up to an index, a horizon tells of each target whether line k blocks it.
-abbrev pub ShowsBelow : List (Option ℤ) → Family → List Target → ℕ → ℕ → List Piece → Type 0
-ShowsBelow cells f targets k end h = (i : ℕ) (t : Target) → i < end → slice_get targets i ≡ Some t
-    → (r : Ramp) × (ramp_at h i ≡ Some r) × Shows cells f k t r
+-- Of the targets from an index on up to an end, the ramp hides those that line k blocks.
+abbrev pub IsHiddenOn : List (Option ℤ) → Family → List Target → ℕ → Ramp → ℕ → ℕ → Type 0
+IsHiddenOn cells f targets k r from end = (i : ℕ) (t : Target) → from ≤ i → i < end → slice_get targets i ≡ Some t
+    → (y : ℕ) (rise : ℤ) → StandsAt f y t → k < t.line → line_blocks cells f t.line y rise k ≡ true → hides_by r t rise ≡ true
+
+-- The ramp hides a target where a horizon hides the target of that index, or line k blocks it.
+pub record Raises (cells : List (Option ℤ)) (f : Family) (k : ℕ) (old : List Piece) (i : ℕ) (t : Target) (r : Ramp) : Type 0 where
+  pub at : IsRampAt r t
+  pub hides : (y : ℕ) (rise : ℤ) → StandsAt f y t → k < t.line → IsRise rise → hides_by r t rise ≡ (hides old i t rise || line_blocks cells f t.line y rise k)
+
+-- Up to an index, a horizon does so at each target.
+abbrev pub RaisesBelow : List (Option ℤ) → Family → List Target → ℕ → List Piece → ℕ → List Piece → Type 0
+RaisesBelow cells f targets k old end new = (i : ℕ) (t : Target) → i < end → slice_get targets i ≡ Some t
+    → (r : Ramp) × (ramp_at new i ≡ Some r) × Raises cells f k old i t r
 
 -- A horizon tells of each target from line k on whether a line before line k blocks it.
 pub record HidesBefore (cells : List (Option ℤ)) (f : Family) (targets : List Target) (k : ℕ) (h : List Piece) : Type 0 where

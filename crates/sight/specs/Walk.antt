@@ -1,11 +1,11 @@
 -- A walk along a line of sight, over a list of cells: the crossings of the line, as the crate's own functions
 -- find them. No public clause cites it. The line's two coordinates are a leading one, at whose whole steps
 -- the line is tested, and the one at its side.
-use Rattle.std.specs.Prelude.{◌≡◌, ℕ, ◌+◌, ◌-◌, ◌*◌, ◌/◌, ◌%◌, ◌<◌, ◌≤◌, Bool, false, not, ◌&&◌, ◌==◌, if◌then◌else◌, ℤ, pos, negsuc, ◌≤ℤ◌, ◌+ℤ◌, ◌*ℤ◌, int_lt, List, length, Option, None, Some, option_map, option_and_then, slice_index_or, max}
+use Rattle.std.specs.Prelude.{◌≡◌, ℕ, ◌+◌, ◌-◌, ◌*◌, ◌/◌, ◌%◌, ◌^◌, ◌<◌, ◌≤◌, Bool, false, not, ◌&&◌, ◌==◌, if◌then◌else◌, ℤ, pos, unsigned_abs, ◌+ℤ◌, ◌*ℤ◌, int_lt, List, length, Option, None, Some, option_map, option_and_then, slice_index_or, max}
 use Rattle.std.specs.Int.{abs_diff}
 use Rattle.std.specs.List.{list_any, range_with_len}
 use Rattle.std.specs.Option.{option_map_or}
-use Rattle.terrain.specs.Raster.{Terrain}
+use Rattle.terrain.specs.Raster.{Terrain, IsHeight}
 use Rattle.terrain.specs.declared.place.Place.{Place}
 use Rattle.sight.specs.Sight.{toward, sight, column_blocks, row_blocks, is_seen, place_of}
 use Rattle.sight.specs.declared.observer.Observer.{Observer}
@@ -73,9 +73,13 @@ over_rows t p q e f = record { lead = rows_of t p q; side = columns_of p q; from
 abbrev pub IsOver : List (Option ℤ) → Axis → Axis → Type 0
 IsOver cells lead side = max lead.from lead.to * lead.stride + max side.from side.to * side.stride < length cells
 
--- A height with an eye or a target on it fits: it is well within 2^33.
+-- The list has heights within their limits.
+abbrev pub AreHeights : List (Option ℤ) → Type 0
+AreHeights cells = (i : ℕ) (h : ℤ) → slice_index_or cells i None ≡ Some h → IsHeight h
+
+-- A height with an eye or a target on it fits: a height is at most 10 ^ 15, and what stands on it at most 10 ^ 6 high.
 abbrev pub IsLevel : ℤ → Type 0
-IsLevel z = (negsuc 4294967295 ≤ℤ z) × (z ≤ℤ pos 4294967296)
+IsLevel z = unsigned_abs z ≤ 2 ^ 50
 
 -- The numbers of a line are small enough to walk along it.
 pub record IsSightline (l : Sightline) : Type 0 where

@@ -1,9 +1,15 @@
 // The lines of a family of crossings, and the ground that rays meet there.
-ghost use Rattle.std.specs.Prelude.{◌≡◌, ◌↔◌, ℕ, ◌^◌, ◌≤◌, IsTrue, true, pos, ◌+ℤ◌, ◌-ℤ◌, ◌*ℤ◌, None, MatchOption, slice_index_or, unsigned_abs};
+ghost use Rattle.std.specs.Prelude.{◌≡◌, ◌↔◌, ℕ, ◌^◌, ◌≤◌, IsTrue, true, pos, ◌+ℤ◌, ◌-ℤ◌, ◌*ℤ◌, ◌≤ℤ◌, ◌<ℤ◌, ◌<◌, ℤ, None, Some, MatchOption, slice_index_or, unsigned_abs};
+ghost use Rattle.std.specs.Bool.{OnTrue};
 ghost use Rattle.horizons.specs.declared.target.Target.{Target};
 ghost use Rattle.horizons.specs.Horizons.{IsTarget, IsRampAt, IsSlopeUpTo};
-ghost use Rattle.sight.specs.Sweep.{lead_of, ramp_of, IsFamily, IsLine, IsCell, Passes, Shows};
+ghost use Rattle.terrain.specs.Raster.{IsHeight};
+ghost use Rattle.sight.specs.Walk.{AreHeights};
+ghost use Rattle.sight.specs.Blocks.{IsTopOf};
+ghost use Rattle.sight.specs.Hiding.{height_at};
+ghost use Rattle.sight.specs.Sweep.{lead_of, aside_of, ramp_of, level_ramp, IsFamily, IsLine, IsCell, Passes, PassesAmong, Shows};
 
+use crate::tops::raised;
 use horizons::{Ramp, Target};
 use terrain::Height;
 
@@ -34,10 +40,11 @@ pub struct Family {
 }
 
 /// What a ray meets on a line: how far aside the cell is that it passes over or beside, and the ramp of the
-/// ground there. It is the ground of all rays from this one up to the next cell, or of this one alone.
+/// ground there. It is the ground of all rays from this one up to the cell past `last`, or of this one alone.
 #[derive(Clone, Copy)]
 pub struct Span {
     pub aside: i32,
+    pub last: i32,
     pub ramp: Ramp,
     pub alone: bool,
 }
@@ -71,7 +78,7 @@ pub(crate) fn passed() -> Ramp
 {
     Ramp {
         gain: 0,
-        level: 1 << 36,
+        level: 1 << 51,
         lines: 1,
     }
 }
@@ -127,13 +134,14 @@ impl Family {
         requires family { IsFamily self }
         requires line { IsLine self line }
         requires aside { unsigned_abs aside ≤ 4096 }
+        requires heights { IsHeight near × IsHeight far }
         ensures ramp { result ≡ ramp_of self line aside near far }
         ensures at { (t : Target) → IsTarget t → Passes line aside t → IsRampAt result t }
     {
-        let step = far as i64 - near as i64;
+        let step = far - near;
         Ramp {
             gain: step * line as i64,
-            level: near as i64 - self.eye - step * aside as i64,
+            level: near - self.eye - step * aside as i64,
             lines: line,
         }
     }
@@ -154,20 +162,109 @@ impl Family {
         Some(self.lead_of(line) as usize * self.lines.stride + cell as usize * self.side.stride)
     }
 
+    /// The ramp of a height that is the same along a line.
+    #[inline(always)]
+    pub(crate) fn level_ramp(self, line: u32, height: Height) -> Ramp
+        requires family { IsFamily self }
+        requires line { IsLine self line }
+        requires height { IsHeight height }
+        ensures ramp { result ≡ level_ramp self line height }
+        ensures at { (t : Target) → IsTarget t → IsRampAt result t }
+    {
+        Ramp {
+            gain: 0,
+            level: height - self.eye,
+            lines: line,
+        }
+    }
+
+    /// The greatest height of a line's cells from the one so far aside up to the one past another, None where they have none.
+    #[inline(always)]
+    pub(crate) fn top_between(
+        self,
+        cells: &[Option<Height>],
+        line: u32,
+        low: i32,
+        high: i32,
+    ) -> Option<Height>
+        requires heights { AreHeights cells.now }
+        requires family { IsFamily self }
+        requires line { IsLine self line }
+        requires low { unsigned_abs low ≤ 2 ^ 25 }
+        requires high { unsigned_abs high ≤ 2 ^ 25 }
+        ensures top { (c : ℕ) (h : ℤ) → c < self.side.cells → low ≤ℤ aside_of self c → aside_of self c ≤ℤ (high +ℤ pos 1)
+            → height_at cells.now self line c ≡ Some h → IsTopOf result h }
+        ensures height { (h : ℤ) → result ≡ Some h → IsHeight h }
+    {
+        let first = (self.side.at as i32 + low).max(0) as u32;
+        let past = (self.side.at as i32 + high + 2).max(0) as u32;
+        let start = self.lead_of(line) as usize * self.lines.stride;
+        let mut top = None;
+        for cell in first..past.min(self.side.cells) {
+            top = raised(
+                top,
+                height_at(cells, start + cell as usize * self.side.stride),
+            );
+        }
+        top
+    }
+
+    /// Whether a ramp is that of the ground between a cell of a line and the next one.
+    #[inline(always)]
+    fn goes_on(self, cells: &[Option<Height>], line: u32, aside: i32, ramp: Ramp) -> bool
+        requires heights { AreHeights cells.now }
+        requires family { IsFamily self }
+        requires line { IsLine self line }
+        requires aside { unsigned_abs aside ≤ 2 ^ 25 }
+        ensures inside { OnTrue result (aside ≤ℤ pos 4096) }
+        ensures shows { OnTrue result ((t : Target) → IsTarget t → Passes line aside t → Shows cells.now self line t ramp) }
+    {
+        let Some(index) = self.index_at(line, aside) else {
+            return false;
+        };
+        let Some(near) = height_at(cells, index) else {
+            return false;
+        };
+        let Some(far) = height_at(cells, index + self.side.stride) else {
+            return false;
+        };
+        self.ramp(line, aside, near, far) == ramp
+    }
+
+    /// The last cell of a line, from one on, up to the next one of which a ramp goes on.
+    #[inline(always)]
+    fn last_of(self, cells: &[Option<Height>], line: u32, first: i32, ramp: Ramp) -> i32
+        requires heights { AreHeights cells.now }
+        requires family { IsFamily self }
+        requires line { IsLine self line }
+        requires first { unsigned_abs first ≤ 4096 }
+        ensures range { (first ≤ℤ result) × (result ≤ℤ pos 4096) }
+        ensures shows { (b : ℤ) (t : Target) → first <ℤ b → b ≤ℤ result → IsTarget t → Passes line b t → Shows cells.now self line t ramp }
+    {
+        let mut last = first;
+        while self.goes_on(cells, line, last + 1, ramp) {
+            last += 1;
+        }
+        last
+    }
+
     /// What the ray to a target meets on a line.
     #[inline(always)]
     pub(crate) fn span(self, cells: &[Option<Height>], line: u32, target: Target) -> Span
+        requires heights { AreHeights cells.now }
         requires family { IsFamily self }
         requires line { IsLine self line }
         requires target { IsTarget target }
         ensures passes { Passes line result.aside target }
         ensures small { unsigned_abs result.aside ≤ 2 ^ 25 }
-        ensures shows { (t : Target) → IsTarget t → IsSlopeUpTo target t → Passes line result.aside t
+        ensures last { (result.aside ≤ℤ result.last) × (unsigned_abs result.last ≤ 2 ^ 25) }
+        ensures shows { (t : Target) → IsTarget t → IsSlopeUpTo target t → PassesAmong line result.aside result.last t
             → (result.alone ≡ true → t ≡ target) → Shows cells.now self line t result.ramp }
     {
         let aside = aside_at(target, line);
         let nothing = Span {
             aside,
+            last: aside,
             ramp: Ramp::nothing(),
             alone: false,
         };
@@ -178,9 +275,11 @@ impl Family {
             return nothing;
         };
         if let Some(far) = height_at(cells, index + self.side.stride) {
+            let ramp = self.ramp(line, aside, near, far);
             return Span {
                 aside,
-                ramp: self.ramp(line, aside, near, far),
+                last: self.last_of(cells, line, aside, ramp),
+                ramp,
                 alone: false,
             };
         }
@@ -189,6 +288,7 @@ impl Family {
         }
         Span {
             aside,
+            last: aside,
             ramp: self.ramp(line, aside, near, near),
             alone: true,
         }

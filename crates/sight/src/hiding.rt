@@ -1,5 +1,6 @@
 // Which marked cells of a window a family hides.
 ghost use Rattle.std.specs.Prelude.{◌≡◌, ℕ, ◌≤◌, false, OnOk, slice_set};
+ghost use Rattle.sight.specs.Walk.{AreHeights};
 ghost use Rattle.sight.specs.Sweep.{IsFamily, StandsAt, lead_of};
 ghost use Rattle.sight.specs.Hiding.{mark_index, AreHidden, IsApart, IsRay, IsWindow};
 
@@ -36,6 +37,7 @@ pub(crate) fn hide(
     height: u32,
     marks: &mut [bool],
 ) -> Result<(), AllocError>
+    requires heights { AreHeights cells.now }
     requires family { IsFamily family }
     requires window { IsWindow family window marks.old }
     requires apart { IsApart window }

@@ -1,10 +1,11 @@
 // One line of sight.
-ghost use Rattle.std.specs.Prelude.{◌≡◌, ◌≤◌, pos, ◌+ℤ◌, true, false, MatchOption};
+ghost use Rattle.std.specs.Prelude.{◌≡◌, ◌<◌, ◌≤◌, pos, ◌+ℤ◌, true, false, MatchOption};
+ghost use Rattle.terrain.specs.Raster.{IsHeight};
 ghost use Rattle.terrain.specs.Neighbours.{IsInside};
 ghost use Rattle.sight.specs.Sight.{highest_eye, longest_radius, is_seen, place_of};
-ghost use Rattle.sight.specs.Walk.{IsLevel, IsSightline, IsOver, AreSightlines, walk_blocks};
+ghost use Rattle.sight.specs.Walk.{AreHeights, IsLevel, IsSightline, IsOver, AreSightlines, walk_blocks};
 ghost use Rattle.sight.specs.Marks.{TellsSeenIfOpen};
-ghost use Rattle.sight.specs.Blocks.{AreTops};
+ghost use Rattle.sight.specs.Blocks.{AreTops, IsPeak};
 
 use crate::observer::Observer;
 use crate::passing::{BlockStrides, is_blocked_past_blocks};
@@ -16,11 +17,12 @@ use terrain::{Grid, Height, Place};
 /// How high an eye or a target stands.
 #[inline(always)]
 pub(crate) fn level(height: Height, above: u32) -> i64
-    requires { above ≤ highest_eye }
+    requires height { IsHeight height }
+    requires above { above ≤ highest_eye }
     ensures value { result ≡ height +ℤ pos above }
     ensures small { IsLevel result }
 {
-    height as i64 + above as i64
+    height + above as i64
 }
 
 /// The two lines of sight of an observer and a target: over the columns between them, and over the
@@ -120,23 +122,54 @@ pub fn sees(
 /// How many crossings beside a target are tested before all others.
 const FIRST_CROSSINGS: u32 = 2;
 
-/// Whether one of the first crossings on the way to the other end blocks.
+/// Whether one of so many first crossings on the way to the other end blocks.
 #[inline(always)]
-fn is_blocked_at_once(cells: &[Option<Height>], line: Sightline) -> bool
+fn is_blocked_at_once(cells: &[Option<Height>], line: Sightline, crossings: u32) -> bool
+    requires heights { AreHeights cells.now }
     requires line { IsSightline line }
     requires over { IsOver cells.now line.lead line.side }
+    requires crossings { (0 < crossings) × (crossings ≤ 4096) }
     ensures { result ≡ true → walk_blocks cells.now line ≡ true }
 {
     let steps = line.steps();
     if steps < 2 {
         return false;
     }
-    let end = steps.min(FIRST_CROSSINGS + 1);
+    let end = steps.min(crossings + 1);
     is_blocked_between(cells, line, Pace::new(line), line.at(1), 1, end)
 }
 
-/// Whether an observer sees a place unless a crossing blocks the line of sight. The first crossings on the way from the
-/// place, which hide the most, are tested.
+/// Whether so many first crossings on the way from a place to an observer, which hide the most, are open. None where
+/// the place has no data or is out of reach.
+#[inline(always)]
+pub(crate) fn starts_open(
+    grid: &Grid,
+    observer: &Observer,
+    target: Place,
+    target_height: u32,
+    radius: u32,
+    crossings: u32,
+) -> Option<bool>
+    requires observer { IsInside grid.now.terrain (place_of observer.now) }
+    requires target { IsInside grid.now.terrain target }
+    requires eye { observer.now.eye ≤ highest_eye }
+    requires height { target_height ≤ highest_eye }
+    requires radius { (1 ≤ radius) × (radius ≤ longest_radius) }
+    requires crossings { (0 < crossings) × (crossings ≤ 4096) }
+    ensures { MatchOption result (is_seen grid.now.terrain observer.now target target_height radius ≡ false)
+        (TellsSeenIfOpen grid.now.terrain observer.now target_height radius target) }
+{
+    let Some(lines) = lines_of_sight(grid, observer, target, target_height, radius) else {
+        return None;
+    };
+    let cells = grid.cells();
+    if is_blocked_at_once(cells, lines.columns, crossings) {
+        return Some(false);
+    }
+    Some(!is_blocked_at_once(cells, lines.rows, crossings))
+}
+
+/// Whether an observer sees a place unless a crossing blocks the line of sight.
 #[inline(always)]
 pub(crate) fn may_see(
     grid: &Grid,
@@ -152,28 +185,31 @@ pub(crate) fn may_see(
     requires radius { (1 ≤ radius) × (radius ≤ longest_radius) }
     ensures { TellsSeenIfOpen grid.now.terrain observer.now target_height radius target result }
 {
-    let Some(lines) = lines_of_sight(grid, observer, target, target_height, radius) else {
-        return false;
-    };
-    let cells = grid.cells();
-    if is_blocked_at_once(cells, lines.columns) {
-        return false;
-    }
-    !is_blocked_at_once(cells, lines.rows)
+    starts_open(
+        grid,
+        observer,
+        target,
+        target_height,
+        radius,
+        FIRST_CROSSINGS,
+    )
+    .unwrap_or(false)
 }
 
 /// As `sees`, by passing over the blocks of cells that the line of sight is above. The blocks'
-/// greatest heights are `tops`.
+/// greatest heights are `tops`, and none is above the `peak`.
 #[inline(always)]
 pub(crate) fn sees_past_blocks(
     grid: &Grid,
     tops: &[Option<Height>],
+    peak: Height,
     observer: &Observer,
     target: Place,
     target_height: u32,
     radius: u32,
 ) -> bool
     requires tops { AreTops grid.now.terrain tops.now }
+    requires peak { IsHeight peak × IsPeak tops.now peak }
     requires observer { IsInside grid.now.terrain (place_of observer.now) }
     requires target { IsInside grid.now.terrain target }
     requires eye { observer.now.eye ≤ highest_eye }
@@ -194,8 +230,8 @@ pub(crate) fn sees_past_blocks(
         lead: wide,
         side: 1,
     };
-    if is_blocked_past_blocks(cells, tops, along_columns, lines.columns) {
+    if is_blocked_past_blocks(cells, tops, peak, along_columns, lines.columns) {
         return false;
     }
-    !is_blocked_past_blocks(cells, tops, along_rows, lines.rows)
+    !is_blocked_past_blocks(cells, tops, peak, along_rows, lines.rows)
 }

@@ -1,11 +1,14 @@
-// The ground of a line, as the rays to many targets meet it.
-ghost use Rattle.std.specs.Prelude.{◌≡◌, ℕ, ◌+◌, ◌^◌, ◌<◌, ◌≤◌, IsTrue, ◌↔◌, pos, ◌-ℤ◌, ◌*ℤ◌, ◌<ℤ◌, length, Some, OnOk, slice_get, unsigned_abs};
+// How the ground of a line raises what stands before many targets.
+ghost use Rattle.std.specs.Prelude.{◌≡◌, ℕ, ◌+◌, ◌^◌, ◌<◌, ◌≤◌, IsTrue, true, ◌↔◌, pos, ◌-ℤ◌, ◌*ℤ◌, ◌≤ℤ◌, ◌<ℤ◌, length, Some, OnOk, slice_get, unsigned_abs};
+ghost use Rattle.std.specs.Bool.{OnTrue};
 ghost use Rattle.horizons.specs.declared.target.Target.{Target};
-ghost use Rattle.horizons.specs.Horizons.{IsTarget, AreTargets, extent};
-ghost use Rattle.sight.specs.Sweep.{IsBefore, AreBefore, IsFamily, IsLine, ShowsBelow};
+ghost use Rattle.horizons.specs.Horizons.{IsTarget, AreTargets, IsOver, extent, ramp_at};
+ghost use Rattle.horizons.specs.Merging.{IsRampOn};
+ghost use Rattle.sight.specs.Walk.{AreHeights};
+ghost use Rattle.sight.specs.Sweep.{IsBefore, AreBefore, IsFamily, IsLine, Passes, PassesAmong, IsHiddenOn, RaisesBelow};
 
-use crate::family::{Family, passed};
-use horizons::{Horizon, Target};
+use crate::family::{Family, Span, aside_at, passed};
+use horizons::{Cursor, Horizon, Piece, Ramp, Target, is_never_above, push_greater};
 use std::alloc::AllocError;
 use terrain::Height;
 
@@ -43,20 +46,20 @@ fn halved(targets: &[Target], low: usize, high: usize, line: u32, aside: i32) ->
     past
 }
 
-/// How many targets have rays before the cell so far aside, of which `from` is one.
+/// How many targets have rays before the cell so far aside, of which `from` is one and `end` is none or past the last one.
 #[inline]
-fn count_before(targets: &[Target], from: usize, line: u32, aside: i32) -> usize
+fn count_before(targets: &[Target], from: usize, end: usize, line: u32, aside: i32) -> usize
     requires targets { AreTargets targets.now }
     requires line { line ≤ 4096 }
     requires aside { unsigned_abs aside ≤ 2 ^ 26 }
-    requires from { from < length targets.now }
+    requires range { (from < end) × (end ≤ length targets.now) }
     requires before { AreBefore targets.now line aside (from + 1) }
-    ensures range { (from < result) × (result ≤ length targets.now) }
+    ensures range { (from < result) × (result ≤ end) }
     ensures before { AreBefore targets.now line aside result }
 {
     let mut low = from;
     let mut leap = 1;
-    while leap < targets.len() - low {
+    while leap < end - low {
         let next = low + leap;
         if !is_before(targets[next], line, aside) {
             return halved(targets, low, next, line, aside);
@@ -64,7 +67,25 @@ fn count_before(targets: &[Target], from: usize, line: u32, aside: i32) -> usize
         low = next;
         leap += leap;
     }
-    halved(targets, low, targets.len(), line, aside)
+    halved(targets, low, end, line, aside)
+}
+
+/// Up to which target a span tells of the rays, of which `from` is the first.
+#[inline(always)]
+fn end_of(span: Span, targets: &[Target], from: usize, end: usize, line: u32) -> usize
+    requires last { (span.aside ≤ℤ span.last) × (unsigned_abs span.last ≤ 2 ^ 25) }
+    requires targets { AreTargets targets.now }
+    requires line { line ≤ 4096 }
+    requires range { (from < end) × (end ≤ length targets.now) }
+    requires passes { (u : Target) → slice_get targets.now from ≡ Some u → Passes line span.aside u }
+    ensures range { (from < result) × (result ≤ end) }
+    ensures over { (i : ℕ) (u t : Target) → from ≤ i → i < result → slice_get targets.now from ≡ Some u → slice_get targets.now i ≡ Some t
+        → PassesAmong line span.aside span.last t × (span.alone ≡ true → t ≡ u) }
+{
+    if span.alone {
+        return from + 1;
+    }
+    count_before(targets, from, end, line, span.last + 1)
 }
 
 /// How many targets have rays before the first cell of the side. They stand no farther than the line.
@@ -79,38 +100,104 @@ fn count_passed(family: Family, line: u32, targets: &[Target]) -> usize
     if targets.is_empty() || !is_before(targets[0], line, first) {
         return 0;
     }
-    count_before(targets, 0, line, first)
+    count_before(targets, 0, targets.len(), line, first)
 }
 
-/// Lays the ground of a line over the targets.
-pub(crate) fn lay_ground(
+/// Whether a line is too low to rise above a piece of a horizon, from a target on.
+#[inline(always)]
+fn is_too_low(
     cells: &[Option<Height>],
     family: Family,
     line: u32,
     targets: &[Target],
-    ground: &mut Horizon,
-) -> Result<(), AllocError>
+    from: usize,
+    piece: Piece,
+) -> bool
+    requires heights { AreHeights cells.now }
     requires family { IsFamily family }
     requires line { IsLine family line }
     requires targets { AreTargets targets.now }
-    ensures { OnOk result ((extent ground.new ≡ length targets.now)
-        × ShowsBelow cells.now family targets.now line (length targets.now) ground.new) }
+    requires range { (from < piece.end) × (piece.end ≤ length targets.now) }
+    requires ramp { IsRampOn targets.now piece.ramp from piece.end }
+    ensures { OnTrue result (IsHiddenOn cells.now family targets.now line piece.ramp from piece.end) }
 {
-    ground.clear();
-    let mut from = count_passed(family, line, targets);
-    ground.push(from, passed())?;
-    while from < targets.len() {
+    let low = aside_at(targets[from], line);
+    let high = aside_at(targets[piece.end - 1], line);
+    let Some(top) = family.top_between(cells, line, low, high) else {
+        return true;
+    };
+    is_never_above(
+        targets,
+        family.level_ramp(line, top),
+        piece.ramp,
+        from,
+        piece.end,
+    )
+}
+
+/// Raises a piece of a horizon to the ground of a line, from the extent on.
+fn raise_piece(
+    cells: &[Option<Height>],
+    family: Family,
+    line: u32,
+    targets: &[Target],
+    highest: &Horizon,
+    piece: Piece,
+    raised: &mut Horizon,
+) -> Result<(), AllocError>
+    requires heights { AreHeights cells.now }
+    requires family { IsFamily family }
+    requires line { IsLine family line }
+    requires targets { AreTargets targets.now }
+    requires highest { IsOver targets.now highest.now }
+    requires range { (extent raised.old < piece.end) × (piece.end ≤ length targets.now) }
+    requires piece { (i : ℕ) → extent raised.old ≤ i → i < piece.end → ramp_at highest.now i ≡ Some piece.ramp }
+    requires before { RaisesBelow cells.now family targets.now line highest.now (extent raised.old) raised.old }
+    ensures { OnOk result ((extent raised.new ≡ piece.end)
+        × RaisesBelow cells.now family targets.now line highest.now piece.end raised.new) }
+{
+    let mut from = raised.extent();
+    while from < piece.end {
         let span = family.span(cells, line, targets[from]);
         if span.aside >= family.end_aside() {
-            return ground.push(targets.len(), passed());
+            return raised.push(piece.end, passed());
         }
-        let end = if span.alone {
-            from + 1
-        } else {
-            count_before(targets, from, line, span.aside + 1)
-        };
-        ground.push(end, span.ramp)?;
+        let end = end_of(span, targets, from, piece.end, line);
+        push_greater(targets, span.ramp, piece.ramp, end, raised)?;
         from = end;
+    }
+    Ok(())
+}
+
+/// Raises a horizon to the ground of a line.
+pub(crate) fn raise(
+    cells: &[Option<Height>],
+    family: Family,
+    line: u32,
+    targets: &[Target],
+    highest: &Horizon,
+    raised: &mut Horizon,
+) -> Result<(), AllocError>
+    requires heights { AreHeights cells.now }
+    requires family { IsFamily family }
+    requires line { IsLine family line }
+    requires targets { AreTargets targets.now }
+    requires highest { IsOver targets.now highest.now }
+    ensures { OnOk result ((extent raised.new ≡ length targets.now)
+        × RaisesBelow cells.now family targets.now line highest.now (length targets.now) raised.new) }
+{
+    raised.clear();
+    let mut cursor = Cursor::start();
+    let mut from = count_passed(family, line, targets);
+    raised.push(from, passed())?;
+    while from < targets.len() {
+        let piece = highest.piece(&mut cursor, from);
+        if is_too_low(cells, family, line, targets, from, piece) {
+            raised.push(piece.end, piece.ramp)?;
+        } else {
+            raise_piece(cells, family, line, targets, highest, piece, raised)?;
+        }
+        from = piece.end;
     }
     Ok(())
 }

@@ -1,8 +1,9 @@
 // Looks from line to line at what stands before the targets.
-ghost use Rattle.std.specs.Prelude.{◌≡◌, ◌^◌, ◌<◌, ◌≤◌, ℤ, ℕ, List, Option, Some, IfOk, OnOk, unsigned_abs};
+ghost use Rattle.std.specs.Prelude.{◌≡◌, ◌<◌, ◌≤◌, ℤ, ℕ, List, Option, Some, IfOk, OnOk};
 ghost use Rattle.horizons.specs.declared.horizon.Piece.{Piece};
 ghost use Rattle.horizons.specs.declared.ramp.Ramp.{Ramp};
 ghost use Rattle.horizons.specs.Horizons.{AreTargets, IsTarget, IsRampAt, IsUpTo, extent, hides, ramp_at};
+ghost use Rattle.sight.specs.Walk.{AreHeights};
 ghost use Rattle.sight.specs.Sweep.{IsFamily, IsLine};
 ghost use Rattle.sight.specs.Looking.{LooksFrom};
 ghost use Rattle.sight.specs.declared.family.Family.{Family};
@@ -52,6 +53,7 @@ impl Look {
         line: u32,
         targets: &[Target],
     ) -> Result<(), AllocError>
+        requires heights { AreHeights cells.now }
         requires family { IsFamily family }
         requires line { IsLine family line }
         requires range { (0 < self.old.line) × (self.old.line ≤ line) }
@@ -76,7 +78,6 @@ impl Look {
         requires cursor { IsUpTo self.old.sweep.highest self.old.cursor self.old.last }
         requires target { IsTarget target }
         requires at { (r : Ramp) → ramp_at self.old.sweep.highest rank ≡ Some r → IsRampAt r target }
-        requires rise { unsigned_abs rise ≤ 2 ^ 50 }
         ensures answer { result ≡ hides self.old.sweep.highest rank target rise }
         ensures line { self.new.line ≡ self.old.line }
         ensures highest { self.new.sweep ≡ self.old.sweep }

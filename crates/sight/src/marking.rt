@@ -5,15 +5,20 @@ ghost use Rattle.tiles.specs.Cutting.{AreBounds, IsCutting};
 ghost use Rattle.sight.specs.Sight.{highest_eye, place_of};
 ghost use Rattle.sight.specs.Marks.{AreMarkedBelow, AreMarked, TellsSeen, TellsSeenIfOpen};
 
-use crate::line::{may_see, sees_past_blocks};
+use crate::line::{may_see, sees_past_blocks, starts_open};
 use crate::observer::Observer;
 use crate::tile::Viewing;
 use std::alloc::{AllocError, Global};
 use terrain::Place;
 use tiles::Bounds;
 
-/// How many cells of a tile are asked before it is looked at.
+/// How many cells of a tile are asked before it is looked at, and how many crossings of each line of sight.
 const SAMPLES: u32 = 64;
+
+const SAMPLED_CROSSINGS: u32 = 32;
+
+/// A tile with shorter sides is swept only where all of the sample is open.
+const SWEPT_SIDE: u32 = 64;
 
 impl<'a> Viewing<'a> {
     /// Marks the cells of a tile that an observer sees, and no other.
@@ -40,25 +45,35 @@ impl<'a> Viewing<'a> {
         self.hide_blocked(alloc, observer, bounds, seen)
     }
 
-    /// Whether of a sample of a tile's cells the crossings beside them hide at most a quarter. Then lines of sight are long
-    /// and near the ground, and one sweep over all cells costs less than a walk to each.
+    /// Whether of a sample of a tile's cells, those that have data and are in reach, many are not hidden by the first
+    /// crossings on the way. Then lines of sight are long and near the ground, and one sweep over all cells costs less than
+    /// a walk to each: a quarter is enough in a tile of 256 squared, and more where fewer cells share the sweep.
     fn is_mostly_open(&self, observer: &Observer, bounds: Bounds) -> bool
         requires lawful { IsCutting self.now.tiling.now }
         requires inside { AreBounds self.now.tiling.now bounds }
         requires observer { IsInside self.now.grid.now.terrain (place_of observer.now) }
         requires eye { observer.now.eye ≤ highest_eye }
     {
+        let mut asked = 0;
         let mut open = 0;
         for step in 0..SAMPLES {
             let place = Place {
                 row: bounds.top + step * 37 % bounds.rows,
                 col: bounds.left + step * 61 % bounds.cols,
             };
-            if may_see(self.grid, observer, place, self.target_height, self.radius) {
-                open += 1;
-            }
+            let start = starts_open(
+                self.grid,
+                observer,
+                place,
+                self.target_height,
+                self.radius,
+                SAMPLED_CROSSINGS,
+            );
+            asked += u32::from(start.is_some());
+            open += u32::from(start == Some(true));
         }
-        open * 4 >= SAMPLES * 3
+        let side = bounds.rows.min(bounds.cols).max(SWEPT_SIDE);
+        open * side >= asked * SWEPT_SIDE
     }
 
     /// Marks the cells of a tile that an observer sees, by a walk along each line of sight.
@@ -95,6 +110,7 @@ impl<'a> Viewing<'a> {
             seen[first + (col - bounds.left) as usize] = sees_past_blocks(
                 self.grid,
                 self.tops,
+                self.peak,
                 observer,
                 Place { row, col },
                 self.target_height,

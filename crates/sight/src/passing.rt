@@ -1,8 +1,9 @@
 // A walk along a line of sight that passes over blocks of cells below it.
 ghost use Rattle.std.specs.Prelude.{◌≡◌, ℕ, ◌+◌, ◌*◌, ◌/◌, ◌<◌, ◌≤◌, length, slice_index_or, None, max};
 ghost use Rattle.std.specs.Bool.{OnTrue};
-ghost use Rattle.sight.specs.Walk.{steps_of, whole_at, IsSightline, IsAt, IsOver, walk_blocks};
-ghost use Rattle.sight.specs.Blocks.{IsLow, AreTopsAlong, AreLowBetween};
+ghost use Rattle.sight.specs.Walk.{steps_of, whole_at, AreHeights, IsSightline, IsAt, IsOver, walk_blocks};
+ghost use Rattle.sight.specs.Blocks.{IsLow, IsPeak, AreTopsAlong, AreLowBetween};
+ghost use Rattle.terrain.specs.Raster.{IsHeight};
 
 use crate::walk::{Pace, Sightline, Step, is_blocked_between, weighed};
 use terrain::Height;
@@ -51,6 +52,7 @@ fn are_low(
     weight: u32,
     sight: i64,
 ) -> bool
+    requires heights { AreHeights tops.now }
     requires room { (i : ℕ) → i < count → first + i * stride < length tops.now }
     requires weight { weight ≤ 4096 }
     ensures { OnTrue result ((i : ℕ) → i < count
@@ -79,6 +81,7 @@ fn is_above_blocks(
     end: Step,
 ) -> bool
     requires line { IsSightline line }
+    requires heights { AreHeights tops.now }
     requires strides { (strides.lead ≤ 4096) × (strides.side ≤ 4096) }
     requires lead { lead_block ≤ max line.lead.from line.lead.to / 16 }
     requires over { max line.lead.from line.lead.to / 16 * strides.lead
@@ -100,18 +103,21 @@ fn is_above_blocks(
 }
 
 /// As `is_blocked`, by passing over the steps at which the line is above the blocks of cells whose
-/// greatest heights are `tops`.
+/// greatest heights are `tops`, and over all that are left once it stays above the `peak`.
 #[inline(always)]
 pub(crate) fn is_blocked_past_blocks(
     cells: &[Option<Height>],
     tops: &[Option<Height>],
+    peak: Height,
     strides: BlockStrides,
     line: Sightline,
 ) -> bool
+    requires heights { AreHeights cells.now }
     requires line { IsSightline line }
     requires over { IsOver cells.now line.lead line.side }
     requires strides { (strides.lead ≤ 4096) × (strides.side ≤ 4096) }
     requires tops { AreTopsAlong cells.now tops.now line strides }
+    requires peak { IsHeight peak × IsPeak tops.now peak }
     ensures { result ≡ walk_blocks cells.now line }
 {
     let steps = line.steps();
@@ -119,9 +125,14 @@ pub(crate) fn is_blocked_past_blocks(
         return false;
     }
     let pace = Pace::new(line);
+    let ends_above = peak <= line.to_level;
+    let clear = weighed(peak, steps);
     let mut first = 1;
     let mut start = line.at(1);
     while first < steps {
+        if ends_above && clear <= start.sight {
+            return false;
+        }
         let end = block_end(line, first);
         let next = line.at(end);
         let lead_block = line.lead_at(first) / BLOCK_SIDE;

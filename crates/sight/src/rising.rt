@@ -1,7 +1,9 @@
 // How much targets rise above the eye.
-ghost use Rattle.std.specs.Prelude.{◌≡◌, ℕ, ◌≤◌};
+ghost use Rattle.std.specs.Prelude.{◌≡◌, ℕ, ◌≤◌, ℤ, Some};
 ghost use Rattle.horizons.specs.Horizons.{IsTarget};
 ghost use Rattle.horizons.specs.declared.target.Target.{Target};
+ghost use Rattle.terrain.specs.Raster.{IsHeight};
+ghost use Rattle.sight.specs.Walk.{AreHeights};
 ghost use Rattle.sight.specs.Sweep.{IsFamily, IsLine, IsRise, StandsAt};
 ghost use Rattle.sight.specs.Hiding.{height_at, rise_at};
 
@@ -13,10 +15,12 @@ impl Family {
     /// The height of a target's cell, None where it has none.
     #[inline(always)]
     fn height_of(self, cells: &[Option<Height>], target: Target) -> Option<Height>
+        requires heights { AreHeights cells.now }
         requires family { IsFamily self }
         requires line { IsLine self target.line }
         requires target { IsTarget target }
-        ensures { (y : ℕ) → StandsAt self y target → result ≡ height_at cells.now self target.line y }
+        ensures value { (y : ℕ) → StandsAt self y target → result ≡ height_at cells.now self target.line y }
+        ensures height { (h : ℤ) → result ≡ Some h → IsHeight h }
     {
         match self.index_at(target.line, target.aside) {
             Some(index) => height_at(cells, index),
@@ -28,6 +32,7 @@ impl Family {
     /// counts as 0.
     #[inline(always)]
     pub(crate) fn rise(self, cells: &[Option<Height>], target: Target, height: u32) -> i64
+        requires heights { AreHeights cells.now }
         requires family { IsFamily self }
         requires line { IsLine self target.line }
         requires target { IsTarget target }
@@ -36,6 +41,6 @@ impl Family {
         ensures small { IsRise result }
     {
         let ground = self.height_of(cells, target).unwrap_or(0);
-        ground as i64 + height as i64 - self.eye
+        ground + height as i64 - self.eye
     }
 }

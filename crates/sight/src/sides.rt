@@ -4,13 +4,13 @@ ghost use Rattle.terrain.specs.Neighbours.{IsInside, height_of};
 ghost use Rattle.terrain.specs.declared.place.Place.{Place};
 ghost use Rattle.tiles.specs.Cutting.{AreBounds, IsCutting};
 ghost use Rattle.sight.specs.Sight.{column_blocks, highest_eye, place_of, row_blocks};
-ghost use Rattle.sight.specs.Walk.{IsLevel, is_open};
+ghost use Rattle.sight.specs.Walk.{AreHeights, IsLevel, is_open};
 ghost use Rattle.sight.specs.Sweep.{IsFamily};
 ghost use Rattle.sight.specs.Hiding.{IsApart, IsWindow};
 ghost use Rattle.sight.specs.Sides.{AreOpen, facing};
 ghost use Rattle.sight.specs.Marks.{AreLeft};
 
-use crate::family::{Family, Lines, Side};
+use crate::family::{Family, Lines, Side, height_at};
 use crate::hiding::hide;
 use crate::line::level;
 use crate::observer::Observer;
@@ -46,6 +46,7 @@ fn hide_on_both_sides(
     height: u32,
     marks: &mut [bool],
 ) -> Result<(), AllocError>
+    requires heights { AreHeights cells.now }
     requires family { IsFamily family }
     requires window { IsWindow family window marks.old }
     requires apart { IsApart window }
@@ -176,7 +177,8 @@ impl<'a> Viewing<'a> {
             row: observer.row,
             col: observer.col,
         };
-        let eye = level(self.grid.at(stands).unwrap_or(0), observer.eye);
+        let ground = height_at(self.grid.cells(), stands.index_in(self.grid.cols()));
+        let eye = level(ground.unwrap_or(0), observer.eye);
         self.hide_over_columns(alloc, observer, eye, bounds, marks)?;
         self.hide_over_rows(alloc, observer, eye, bounds, marks)
     }

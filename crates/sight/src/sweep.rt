@@ -1,12 +1,13 @@
 // A horizon that rises line by line, as an observer looks outward.
 ghost use Rattle.std.specs.Prelude.{◌≡◌, ◌+◌, ◌≤◌, ℤ, List, Option, IfOk, OnOk};
 ghost use Rattle.horizons.specs.Horizons.{AreTargets};
+ghost use Rattle.sight.specs.Walk.{AreHeights};
 ghost use Rattle.sight.specs.Sweep.{IsFamily, IsLine, HidesBefore};
 ghost use Rattle.sight.specs.declared.family.Family.{Family};
 
 use crate::family::Family;
-use crate::line_ground::lay_ground;
-use horizons::{Horizon, Ramp, Target, greater};
+use crate::line_ground::raise;
+use horizons::{Horizon, Ramp, Target};
 use std::alloc::{AllocError, Global};
 use std::mem;
 use terrain::Height;
@@ -15,7 +16,6 @@ use terrain::Height;
 #[derive(Drop)]
 pub struct Sweep {
     pub highest: Horizon,
-    ground: Horizon,
     spare: Horizon,
 }
 
@@ -29,7 +29,6 @@ impl Sweep {
         highest.push(targets.len(), Ramp::nothing())?;
         Ok(Sweep {
             highest,
-            ground: Horizon::new(alloc),
             spare: Horizon::new(alloc),
         })
     }
@@ -42,14 +41,14 @@ impl Sweep {
         line: u32,
         targets: &[Target],
     ) -> Result<(), AllocError>
+        requires heights { AreHeights cells.now }
         requires family { IsFamily family }
         requires line { IsLine family line }
         requires targets { AreTargets targets.now }
         requires before { HidesBefore cells.now family targets.now line self.old.highest }
         ensures { OnOk result (HidesBefore cells.now family targets.now (line + 1) self.new.highest) }
     {
-        lay_ground(cells, family, line, targets, &mut self.ground)?;
-        greater(targets, &self.highest, &self.ground, &mut self.spare)?;
+        raise(cells, family, line, targets, &self.highest, &mut self.spare)?;
         mem::swap(&mut self.highest, &mut self.spare);
         Ok(())
     }
@@ -63,6 +62,7 @@ impl Sweep {
         to: u32,
         targets: &[Target],
     ) -> Result<(), AllocError>
+        requires heights { AreHeights cells.now }
         requires family { IsFamily family }
         requires range { from ≤ to }
         requires from { IsLine family from }

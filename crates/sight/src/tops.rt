@@ -1,11 +1,13 @@
 // The greatest height of each block of cells.
-ghost use Rattle.std.specs.Prelude.{◌≡◌, ℕ, ℤ, ◌*◌, ◌<◌, ◌≤◌, length, slice_index_or, None, Some, IfOk};
+ghost use Rattle.std.specs.Prelude.{◌≡◌, ◌⊎◌, ℕ, ℤ, ◌*◌, ◌<◌, ◌≤◌, length, slice_index_or, None, Some, IfOk};
 ghost use Rattle.terrain.specs.Neighbours.{height_at};
-ghost use Rattle.sight.specs.Blocks.{blocks_in, block_of, IsTopOf, AreTops};
+ghost use Rattle.sight.specs.Walk.{AreHeights};
+ghost use Rattle.sight.specs.Blocks.{blocks_in, block_of, IsTopOf, IsPeak, AreTops};
+ghost use Rattle.terrain.specs.Raster.{IsHeight};
 
 use crate::passing::BLOCK_SIDE;
 use std::alloc::{AllocError, Global};
-use terrain::{Grid, Height, Place};
+use terrain::{Grid, Height, LOWEST, Place};
 
 /// How many blocks side by side hold so many cells.
 #[inline(always)]
@@ -16,11 +18,12 @@ pub(crate) fn blocks_in(cells: u32) -> usize
     ((cells + BLOCK_SIDE - 1) / BLOCK_SIDE) as usize
 }
 
-/// The greater of a block's height so far and the height of one of its cells.
+/// The greater of a height so far and the height of a cell.
 #[inline(always)]
-fn raised(top: Option<Height>, height: Option<Height>) -> Option<Height>
+pub(crate) fn raised(top: Option<Height>, height: Option<Height>) -> Option<Height>
     ensures kept { (h : ℤ) → IsTopOf top h → IsTopOf result h }
     ensures raised { (h : ℤ) → height ≡ Some h → IsTopOf result h }
+    ensures one { (result ≡ top) ⊎ (result ≡ height) }
 {
     let Some(height) = height else {
         return top;
@@ -35,6 +38,8 @@ fn raised(top: Option<Height>, height: Option<Height>) -> Option<Height>
 fn raise_row(grid: &Grid, row: u32, tops: &mut [Option<Height>])
     requires row { row < grid.now.terrain.rows }
     requires size { length tops.old ≡ blocks_in grid.now.terrain.rows * blocks_in grid.now.terrain.cols }
+    requires heights { AreHeights tops.old }
+    ensures heights { AreHeights tops.new }
     ensures kept { (i : ℕ) (h : ℤ) → IsTopOf (slice_index_or tops.old i None) h
         → IsTopOf (slice_index_or tops.new i None) h }
     ensures raised { (col : ℕ) (h : ℤ) → col < grid.now.terrain.cols
@@ -58,4 +63,17 @@ pub(crate) fn block_tops(alloc: Global, grid: &Grid) -> Result<Vec<Option<Height
         raise_row(grid, row, &mut tops);
     }
     Ok(tops)
+}
+
+/// The greatest height of all blocks, or the lowest that there can be where none has one.
+pub(crate) fn peak_of(tops: &[Option<Height>]) -> Height
+    requires heights { AreHeights tops.now }
+    ensures height { IsHeight result }
+    ensures peak { IsPeak tops.now result }
+{
+    let mut peak = None;
+    for index in 0..tops.len() {
+        peak = raised(peak, tops[index]);
+    }
+    peak.unwrap_or(LOWEST)
 }

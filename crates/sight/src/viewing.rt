@@ -8,7 +8,7 @@ use crate::fault::SightFault;
 use crate::judging::first_fault;
 use crate::observer::Observer;
 use crate::tile::Viewing;
-use crate::tops::block_tops;
+use crate::tops::{block_tops, peak_of};
 use std::alloc::Global;
 use std::sync::Wait;
 use std::thread::Threads;
@@ -47,6 +47,7 @@ pub fn viewshed<R: Threads + Wait + Sync, G: Gate + Sync>(
         return Err(SightFault::Jobs(JobFault::BadWorkers));
     }
     let tops = block_tops(alloc, grid).map_err(JobFault::from)?;
+    let peak = peak_of(&tops);
     let crew = Crew {
         rt,
         alloc,
@@ -56,6 +57,7 @@ pub fn viewshed<R: Threads + Wait + Sync, G: Gate + Sync>(
     let values = crew.made(Viewing {
         grid,
         tops: &tops,
+        peak,
         observers,
         target_height,
         radius,

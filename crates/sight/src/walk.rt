@@ -1,7 +1,8 @@
 // A walk along a line of sight, from crossing to crossing.
-ghost use Rattle.std.specs.Prelude.{◌≡◌, ◌^◌, ◌+◌, ◌-◌, ◌*◌, ◌<◌, ◌≤◌, ℤ, pos, negsuc, ◌+ℤ◌, ◌*ℤ◌, ◌≤ℤ◌, ◌<ℤ◌, length, slice_index_or, None, nat_lt, if◌then◌else◌, max};
+ghost use Rattle.std.specs.Prelude.{◌≡◌, ◌^◌, ◌+◌, ◌-◌, ◌*◌, ◌<◌, ◌≤◌, ℤ, pos, unsigned_abs, ◌+ℤ◌, ◌*ℤ◌, length, slice_index_or, None, nat_lt, if◌then◌else◌, max};
 ghost use Rattle.std.specs.Int.{abs_diff};
-ghost use Rattle.sight.specs.Walk.{is_above, steps_of, whole_at, IsSightline, IsAt, IsOver, step_range_blocks, walk_blocks};
+ghost use Rattle.terrain.specs.Raster.{IsHeight};
+ghost use Rattle.sight.specs.Walk.{is_above, steps_of, whole_at, AreHeights, IsSightline, IsAt, IsOver, step_range_blocks, walk_blocks};
 ghost use Rattle.sight.specs.Pace.{IsPace, Gains};
 
 use terrain::Height;
@@ -131,15 +132,15 @@ impl Axis {
     }
 }
 
-/// At most 2^43 either way, so that two of them can be added.
+/// At most 4,096 * 10^15 either way, so that two of them can be added.
 #[inline(always)]
 pub(crate) fn weighed(height: Height, weight: u32) -> i64
-    requires { weight ≤ 4096 }
+    requires weight { weight ≤ 4096 }
+    requires height { IsHeight height }
     ensures value { result ≡ pos weight *ℤ height }
-    ensures low { negsuc 8796093022207 ≤ℤ result }
-    ensures high { result ≤ℤ pos 8796093022208 }
+    ensures small { unsigned_abs result ≤ 4096 * 10 ^ 15 }
 {
-    weight as i64 * height as i64
+    weight as i64 * height
 }
 
 /// Whether the ground between a near cell and the far one beside it is above the sight.
@@ -152,6 +153,7 @@ fn is_higher(
     far_weight: u32,
     sight: i64,
 ) -> bool
+    requires heights { AreHeights cells.now }
     requires near { index < length cells.now }
     requires far { 0 < far_weight → index + beside < length cells.now }
     requires weights { (0 < near_weight) × (near_weight + far_weight ≤ 4096) }
@@ -239,6 +241,7 @@ pub(crate) fn is_blocked_between(
     first: u32,
     end: u32,
 ) -> bool
+    requires heights { AreHeights cells.now }
     requires line { IsSightline line }
     requires over { IsOver cells.now line.lead line.side }
     requires pace { IsPace line.lead line.side (steps_of line) pace }
@@ -271,6 +274,7 @@ pub(crate) fn is_blocked_between(
 /// Whether the ground is above the line at a step between its two ends.
 #[inline(always)]
 pub(crate) fn is_blocked(cells: &[Option<Height>], line: Sightline) -> bool
+    requires heights { AreHeights cells.now }
     requires line { IsSightline line }
     requires over { IsOver cells.now line.lead line.side }
     ensures { result ≡ walk_blocks cells.now line }

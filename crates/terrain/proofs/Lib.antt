@@ -4,3 +4,5 @@ pub mod Places
 pub mod Listed
 -- named sinks
 pub mod Naming
+-- heights fit their type
+pub mod Heights

@@ -7,6 +7,6 @@ pub mod sinks;
 pub mod word;
 
 pub use grid::{Anchor, Grid, GridHeader, LONGEST_AXIS, NoMemory};
-pub use place::{HIGHEST, Height, LOWEST, Place};
+pub use place::{GREATEST_DROP, HIGHEST, Height, LOWEST, Place};
 pub use sinks::{MOST_SINKS, SinkFault};
 pub use word::{MOST_WORD_BYTES, Word};

@@ -20,10 +20,13 @@ impl Place {
 }
 
 /// A height in scaled units: a whole number of 10^-scale of the text's unit, from [`LOWEST`] to [`HIGHEST`].
-pub type Height = i32;
+pub type Height = i64;
 
 /// The least height.
-pub const LOWEST: Height = -1_000_000_000;
+pub const LOWEST: Height = -1_000_000_000_000_000;
 
 /// The greatest height.
-pub const HIGHEST: Height = 1_000_000_000;
+pub const HIGHEST: Height = 1_000_000_000_000_000;
+
+/// The most by which one height can be above another.
+pub const GREATEST_DROP: u64 = 2_000_000_000_000_000;

@@ -7,6 +7,9 @@ use tiles::Tiling;
 /// How many tiles stand in a row or a column at most, where small ones are joined.
 const MOST_ACROSS: u32 = 16;
 
+/// Cells along a side at least, where small ones are joined.
+const LEAST_SIDE: u32 = 128;
+
 /// The tiles of a cutting, unless they are so many that their jobs would cost more than their cells. Then larger ones of
 /// the same grid.
 pub fn joined(tiling: &Tiling) -> Tiling
@@ -16,7 +19,8 @@ pub fn joined(tiling: &Tiling) -> Tiling
         return *tiling;
     }
     let longest = tiling.cols().max(tiling.rows());
-    match Tiling::new(tiling.cols(), tiling.rows(), longest.div_ceil(MOST_ACROSS)) {
+    let side = longest.div_ceil(MOST_ACROSS).max(LEAST_SIDE);
+    match Tiling::new(tiling.cols(), tiling.rows(), side) {
         Ok(larger) => larger,
         Err(_) => *tiling,
     }

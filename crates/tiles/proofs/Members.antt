@@ -1,6 +1,6 @@
 -- Which places stand on a rim, and which touch a place.
 use Rattle.std.proofs.Common.{◌≡◌, ◌≢◌, ◌⊎◌, ℕ, zero, suc, ◌+◌, ◌<◌, ◌≤◌, Bool, true, List, [], ◌∷◌, length, map, filter, Contains, Option, None, Some, slice_index_or, sym, ap, subst, refl, ◌∙◌, arith, inl, inr, lit<}
-use Rattle.std.specs.List.{range_with_len, flat_map, filter_map}
+use Rattle.std.specs.List.{range_with_len, flat_map}
 use Rattle.std.proofs.lemmas.Bool.{cases_Bool, cases_eq, cases_order, cond-true, cond-false}
 use Rattle.std.proofs.lemmas.List.Elements.{Contains-append_left, Contains-append_right, Contains-append_cases}
 use Rattle.std.proofs.lemmas.Option.{none-some, same_Some}
@@ -55,25 +55,6 @@ Contains-from_filter test (y ∷ ys) x h =
       | inr b ↦
           let k = subst (λ zs. Contains zs x) (cond-false (test y) (y ∷ filter test ys) (filter test ys) b) h in
           let r = Contains-from_filter test ys x k in (Contains-there y ys x r.0, r.1)
-    ]
-
--- those that are there
-Contains-somes : {X : Type 0} (os : List (Option X)) (x : X) → Contains os (Some x) → Contains (filter_map (λ (o : Option X). o) os) x
-Contains-somes [] x h = absurd (Contains-nil (Some x) h)
-Contains-somes (None ∷ os) x h = elim (Contains-cons_cases None os (Some x) h) [ inl e ↦ absurd (none-some x e) | inr k ↦ Contains-somes os x k ]
-Contains-somes {X} (Some y ∷ os) x h =
-    elim (Contains-cons_cases (Some y) os (Some x) h) [
-      | inl e ↦ Contains-here y (filter_map (λ (o : Option X). o) os) x (same_Some y x e)
-      | inr k ↦ Contains-there y (filter_map (λ (o : Option X). o) os) x (Contains-somes os x k)
-    ]
-
-Contains-from_somes : {X : Type 0} (os : List (Option X)) (x : X) → Contains (filter_map (λ (o : Option X). o) os) x → Contains os (Some x)
-Contains-from_somes [] x h = absurd (Contains-nil x h)
-Contains-from_somes (None ∷ os) x h = Contains-there None os (Some x) (Contains-from_somes os x h)
-Contains-from_somes {X} (Some y ∷ os) x h =
-    elim (Contains-cons_cases y (filter_map (λ (o : Option X). o) os) x h) [
-      | inl e ↦ Contains-here (Some y) os (Some x) (ap (λ z. Some z) e)
-      | inr k ↦ Contains-there (Some y) os (Some x) (Contains-from_somes os x k)
     ]
 
 -- numbers in a row

@@ -6,4 +6,4 @@ abbrev pub invariant-loop-count : goal.invariant-loop-count
 invariant-loop-count g l = IsTaking g.R.Read.remaining l.initial.reader l.reader l.scale l.grid_reader l.taken
 
 abbrev pub decreases-loop-count : goal.decreases-loop-count
-decreases-loop-count g l = 268435457 - l.taken
+decreases-loop-count g l = 536870913 - l.taken

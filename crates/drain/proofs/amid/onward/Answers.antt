@@ -1,6 +1,4 @@
-use Rattle.std.proofs.Common.{◌≡◌, true, None, sym, subst, ◌∙◌, arith, rules, to_z-of_z}
-use mir.Val.{SFits}
-use mir.Syntax.{w32}
+use Rattle.std.proofs.Common.{◌≡◌, true, None, sym, subst, ◌∙◌, arith, to_z-of_z}
 use Rattle.std.proofs.lemmas.Bool.{false≢true}
 use Rattle.drain.specs.Steepness.{leads_on}
 use Rattle.drain.proofs.Greatest.{position_is, none_passes}
@@ -8,16 +6,14 @@ use Rattle.drain.proofs.amid.onward.Goals as goal
 
 pub returns-then-leads_on-clause-first : goal.returns-then-leads_on-clause-first
 returns-then-leads_on-clause-first c =
-    let fits : SFits w32 c.args.level = search rules in
-    let before = rw (to_z-of_z fits) at c.loop-way.invariant.before in
-    let leads = rw (to_z-of_z fits) at c.leads_on.ensures in
+    let before = rw (to_z-of_z c.ranges.level) at c.loop-way.invariant.before in
+    let leads = rw (to_z-of_z c.ranges.level) at c.leads_on.ensures in
     λ a stand.
     position_is (leads_on a) a.ways c.loop-way.way None (omega (arith, stand.count, c.loop-way-test.true)) (before a stand)
     (subst (λ o. leads_on a o ≡ true) (sym (stand.each c.loop-way.way c.loop-way-test.true)) (sym (leads a stand.own_level stand.own_steps) ∙ c.if-leads_on.true))
 
 pub unreachable-requires : goal.unreachable-requires
 unreachable-requires c =
-    let fits : SFits w32 c.args.level = search rules in
-    let before = rw (to_z-of_z fits) at c.loop-way.invariant.before in
+    let before = rw (to_z-of_z c.ranges.level) at c.loop-way.invariant.before in
     let some = c.requires.some in
     false≢true (sym (none_passes (leads_on some.0) some.0.ways None (λ k h. before some.0 some.1 k (omega (arith, some.1.count, c.loop-way-test.false)))) ∙ some.2)

@@ -18,5 +18,5 @@ loop-sink-preserved c =
     let i = c.loop-sink.sink-index in
     let below = c.loop-sink-test.true in
     let inside = subst (λ (xs : List Place). All (IsInside t) xs) (sym c.sinks-sink-items.ensures.value) c.sinks-sink-items.ensures.lawful.terrain.sinks i (make_place 0 0) below in
-    subst (λ (n : ℕ). AreBegunBefore t sinks (i + 1) c.args.counts.now (slice_set c.loop-sink.counts (index_of n (sink_at sinks i)) (Some 0))) (sym c.cols.ensures.value)
+    subst (λ (n : ℕ). AreBegunBefore t sinks (i + 1) c.args.counts.now (slice_set c.loop-sink.counts n (Some 0))) (sym (c.index_in-index.ensures ∙ ap (λ (n : ℕ). index_of n (sink_at sinks i)) c.cols.ensures.value))
     (sink_put t sinks i c.args.counts.now c.loop-sink.counts below c.loop-sink.invariant (c.loop-sink.auto.counts ∙ c.requires) inside (sym (ap is_some c.at.ensures) ∙ c.if-is_none.ensures))

@@ -1,6 +1,4 @@
-use Rattle.std.proofs.Common.{◌≡◌, ℕ, None, Some, ◌∷◌, [], get_or, inl, refl, sym, ap, ◌∙◌, rules, to_z-of_z}
-use mir.Val.{SFits}
-use mir.Syntax.{w32}
+use Rattle.std.proofs.Common.{◌≡◌, ℕ, None, Some, ◌∷◌, [], get_or, inl, refl, sym, ap, ◌∙◌, to_z-of_z}
 use Rattle.std.specs.Option.{option_zip}
 use Rattle.terrain.specs.Ways.{entry_on}
 use Rattle.drain.proofs.Block.{outermost_edge}
@@ -12,10 +10,9 @@ returns c =
     let t = c.args.grid.now.terrain in
     let steps = c.args.steps.now in
     let p = c.args.place in
-    let fits : SFits w32 c.args.level = search rules in
     record {
       laid = record {
-        level = c.requires.level ∙ ap Some (sym (to_z-of_z fits));
+        level = c.requires.level ∙ ap Some (sym (to_z-of_z c.ranges.level));
         own_steps = c.requires.own;
         count = refl;
         ways = eight (λ (way : ℕ). get_or (c.entry.result ∷ c.entry-2.result ∷ c.entry-3.result ∷ c.entry-4.result ∷ c.entry-5.result ∷ c.entry-6.result ∷ c.entry-7.result ∷ c.entry-8.result ∷ []) way None

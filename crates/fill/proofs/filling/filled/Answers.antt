@@ -1,17 +1,16 @@
-use Rattle.std.proofs.Common.{arith, ◌∙◌}
+use Rattle.std.proofs.Common.{arith}
 use Rattle.fill.specs.Spills.{AreFloods}
 use Rattle.fill.proofs.Gathered.{fit_of}
 use Rattle.fill.proofs.Raised.{floods_given, filled_map, filled_stand, filled_grid}
 use Rattle.fill.proofs.filling.filled.Goals as goal
 
-pub invariant_of-made : goal.invariant_of-made
-invariant_of-made g c =
+pub raised_grid-requires-clause-fit : goal.raised_grid-requires-clause-fit
+raised_grid-requires-clause-fit g c =
     let t = c.args.grid.now.terrain in
     let k = c.joined-tiling.result in
     let v = c.in_ok-floods.floods in
     let are : AreFloods t k v.items = floods_given t k v.items c.tiles.ensures.lawful (c.joined-tiling.ensures c.args.grid.now.terrain c.requires) (omega (arith, v.ok.0, c.in_ok-floods.ensures.len, c.tiles.ensures.value)) (λ j d below. c.in_ok-floods.ensures.given j d (omega (arith, below, c.tiles.ensures.value))) in
-    let spill = rw c.deref.ensures.value at c.in_ok-levels.ensures.levels in
-    record { size = spill.2.1.levels_size ∙ spill.1.count; fit = fit_of t k v.items are.lawful are; lawful = are.lawful }
+    rw c.deref-2.ensures.value (fit_of t k v.items are.lawful are)
 
 pub with_own_cells-requires-clause-heights : goal.with_own_cells-requires-clause-heights
 with_own_cells-requires-clause-heights g c =
@@ -20,7 +19,7 @@ with_own_cells-requires-clause-heights g c =
     let v = c.in_ok-floods.floods in
     let are : AreFloods t k v.items = floods_given t k v.items c.tiles.ensures.lawful (c.joined-tiling.ensures c.args.grid.now.terrain c.requires) (omega (arith, v.ok.0, c.in_ok-floods.ensures.len, c.tiles.ensures.value)) (λ j d below. c.in_ok-floods.ensures.given j d (omega (arith, below, c.tiles.ensures.value))) in
     let spill = rw c.deref.ensures.value at c.in_ok-levels.ensures.levels in
-    filled_stand t c.in_ok-cells.cells.items (filled_map t k v.items _ c.in_ok-cells.cells.items are spill c.in_ok-cells.ensures.made)
+    filled_stand t c.in_ok-cells.cells.items (filled_map t k v.items _ c.in_ok-cells.cells.items are spill (rw c.deref-2.ensures.value at c.in_ok-cells.ensures))
 
 pub from_grid-requires : goal.from_grid-requires
 from_grid-requires g c =
@@ -29,7 +28,7 @@ from_grid-requires g c =
     let v = c.in_ok-floods.floods in
     let are : AreFloods t k v.items = floods_given t k v.items c.tiles.ensures.lawful (c.joined-tiling.ensures c.args.grid.now.terrain c.requires) (omega (arith, v.ok.0, c.in_ok-floods.ensures.len, c.tiles.ensures.value)) (λ j d below. c.in_ok-floods.ensures.given j d (omega (arith, below, c.tiles.ensures.value))) in
     let spill = rw c.deref.ensures.value at c.in_ok-levels.ensures.levels in
-    (filled_grid c.args.grid.now c.in-Ok.filled c.in_ok-cells.cells.items c.in-Ok.ensures (filled_map t k v.items _ c.in_ok-cells.cells.items are spill c.in_ok-cells.ensures.made)).0
+    (filled_grid c.args.grid.now c.in-Ok.filled c.in_ok-cells.cells.items c.in-Ok.ensures (filled_map t k v.items _ c.in_ok-cells.cells.items are spill (rw c.deref-2.ensures.value at c.in_ok-cells.ensures))).0
 
 pub returns-clause-filled : goal.returns-clause-filled
 returns-clause-filled g c =
@@ -38,4 +37,4 @@ returns-clause-filled g c =
     let v = c.in_ok-floods.floods in
     let are : AreFloods t k v.items = floods_given t k v.items c.tiles.ensures.lawful (c.joined-tiling.ensures c.args.grid.now.terrain c.requires) (omega (arith, v.ok.0, c.in_ok-floods.ensures.len, c.tiles.ensures.value)) (λ j d below. c.in_ok-floods.ensures.given j d (omega (arith, below, c.tiles.ensures.value))) in
     let spill = rw c.deref.ensures.value at c.in_ok-levels.ensures.levels in
-    rw c.from_grid.ensures (filled_grid c.args.grid.now c.in-Ok.filled c.in_ok-cells.cells.items c.in-Ok.ensures (filled_map t k v.items _ c.in_ok-cells.cells.items are spill c.in_ok-cells.ensures.made)).1
+    rw c.from_grid.ensures (filled_grid c.args.grid.now c.in-Ok.filled c.in_ok-cells.cells.items c.in-Ok.ensures (filled_map t k v.items _ c.in_ok-cells.cells.items are spill (rw c.deref-2.ensures.value at c.in_ok-cells.ensures))).1

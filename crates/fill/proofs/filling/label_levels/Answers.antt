@@ -1,4 +1,4 @@
-use Rattle.std.proofs.Common.{ℤ, List, Option, arith, sym, subst}
+use Rattle.std.proofs.Common.{arith, sym, subst}
 use Rattle.fill.specs.Parts.{AreParts, graph_of_parts}
 use Rattle.fill.specs.Spills.{Graph, AreLevelsOf}
 use Rattle.fill.proofs.Gathered.{fit_of, is_open_graph}
@@ -23,7 +23,7 @@ pub of_parts-graph-requires : goal.of_parts-graph-requires
 of_parts-graph-requires g c = (
   c.args.grid.now.terrain,
   c.args.floods.now,
-  c.deref-2.result.now,
+  c.in_ok-sources.sources,
   c.requires.floods,
   c.in_ok-sources.ensures.size,
   record {
@@ -37,12 +37,12 @@ returns-clause-levels g c =
     let t = c.args.grid.now.terrain in
     let k = c.args.tiling.now in
     let floods = c.args.floods.now in
-    let sources = c.in_ok-sources.sources.items in
+    let sources = c.in_ok-sources.sources in
     let parts = c.in_ok-parts.parts.items in
-    let are : AreParts k floods sources parts = subst (λ (z : List (Option ℤ)). AreParts k floods z parts) c.deref-2.ensures.value (record {
+    let are : AreParts k floods sources parts = record {
       count = omega (arith, c.in_ok-parts.parts.ok.0, c.in_ok-parts.ensures.len, c.tiles-2.ensures.value);
       each = λ j d below. c.in_ok-parts.ensures.given j d (omega (arith, below, c.tiles-2.ensures.value));
-    }) in (
+    } in (
       graph_of_parts k parts sources,
       is_open_graph t k floods parts sources c.requires.floods.lawful c.requires.floods are (c.in_ok-sources.ensures.right t (sym c.sinks.ensures.value) c.requires.floods),
       subst (λ (x : Graph). AreLevelsOf x c.in-Ok.levels) c.of_parts-graph.ensures c.in-Ok.ensures,

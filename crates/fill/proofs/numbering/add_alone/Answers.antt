@@ -1,6 +1,7 @@
-use Rattle.std.proofs.Common.{rules, w32, ◌≡◌, ◌<◌, ◌≤◌, ◌∙◌, ℕ, length, get_or, sym, subst, arith}
+use Rattle.std.proofs.Common.{rules, ◌≡◌, ◌<◌, ◌≤◌, ◌∙◌, ℕ, length, get_or, sym, subst, arith}
 use mir.Val.{SFits}
 use Rattle.std.proofs.lemmas.Int.{to_z-of_z}
+use Rattle.terrain.proofs.Heights.{height_width}
 use Rattle.fill.proofs.Numbered.{HasLevels, joined_levels, unnumbered, none_next, alone_next, all_levels}
 use Rattle.fill.proofs.numbering.add_alone.Goals as goal
 
@@ -29,8 +30,8 @@ loop-node-preserved c =
     let same : get_or c.loop-node.numbers i 0 ≡ get_or old i 0 = c.loop-node.invariant.rest i (omega arith) in
     let past : first ≤ get_or old i 0 = omega (arith, c.if-numbers-node.false, c.len-joined.ensures, c.args.heights.ok.0, same) in
     let count : c.len.result ≡ length c.loop-node.heights.items = omega (arith, c.len.ensures, c.loop-node.heights.ok.0) in
-    let fits : SFits w32 c.in-Some.height = search rules in
-    let pushed = rw (to_z-of_z w32 c.in-Some.height fits) at c.in_ok-push.ensures.items in
+    let fits : SFits height_width c.in-Some.height = search rules in
+    let pushed = rw (to_z-of_z height_width c.in-Some.height fits) at c.in_ok-push.ensures.items in
     rw (pushed, count) (alone_next g i first c.in-Some.height old c.loop-node.numbers c.loop-node.heights.items below (unnumbered g c.requires.0 old i first c.requires.1 c.requires.2.1.levels_size past) (sym c.source.ensures ∙ c.in-Some.is) c.loop-node.invariant)
 
 pub returns : goal.returns

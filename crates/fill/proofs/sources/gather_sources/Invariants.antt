@@ -6,4 +6,4 @@ use Rattle.fill.proofs.SourceCells.{HaveSources}
 use Rattle.fill.proofs.sources.gather_sources.Given as goal
 
 abbrev pub invariant-loop-sources : goal.invariant-loop-sources
-invariant-loop-sources l = (floods : List Flood) → AreAllSources l.tiling floods l.lists → HaveSources l.tiling floods (λ p. IsWithin l.tiling p × (tile_of_place l.tiling p < l.sources-index)) l.heights.items
+invariant-loop-sources l = (floods : List Flood) → AreAllSources l.tiling floods l.lists → HaveSources l.tiling floods (λ p. IsWithin l.tiling p × (tile_of_place l.tiling p < l.sources-index)) l.heights

@@ -1,17 +1,18 @@
-use Rattle.std.proofs.Common.{rules, ◌≡◌, ◌∙◌, sym, ap, length, w32, to_z, of_z}
+use Rattle.std.proofs.Common.{rules, ◌≡◌, ◌∙◌, sym, ap, length, to_z, of_z}
 use mir.Val.{SFits}
 use Rattle.std.specs.List.{filter_map}
 use Rattle.std.proofs.lemmas.Int.{to_z-of_z}
+use Rattle.terrain.proofs.Heights.{height_width}
 use Rattle.floods.specs.Cells.{way_to}
 use Rattle.floods.proofs.CellWays.{eight_given}
 use Rattle.floods.proofs.cell_net.all_ways.Goals as goal
 
 pub returns : goal.returns
 returns c =
-    let fits : SFits w32 c.args.height = search rules in
-    let height = to_z-of_z w32 c.args.height fits in
+    let fits : SFits height_width c.args.height = search rules in
+    let height = to_z-of_z height_width c.args.height fits in
     let eight : length c.args.around ≡ 8 = search rules in
-    eight_given (way_to c.args.cells.now (to_z w32 (of_z w32 c.args.height))) c.args.around _ _ _ _ _ _ _ _ eight
+    eight_given (way_to c.args.cells.now (to_z height_width (of_z height_width c.args.height))) c.args.around _ _ _ _ _ _ _ _ eight
     (sym c.way_to.ensures ∙ c.in_ok-way_to.was)
     (sym c.way_to-2.ensures ∙ c.in_ok-way_to-2.was)
     (sym c.way_to-3.ensures ∙ c.in_ok-way_to-3.was)

@@ -1,5 +1,6 @@
-use Rattle.std.proofs.Common.{rules, arith, ◌<◌, ap, ◌∙◌, sym, to_z, of_z, w32, length}
+use Rattle.std.proofs.Common.{rules, arith, ◌<◌, ap, ◌∙◌, sym, to_z, of_z, length}
 use Rattle.std.proofs.lemmas.List.{length_push, append-nil}
+use Rattle.terrain.proofs.Heights.{height_width}
 use Rattle.floods.specs.Cells.{way_to}
 use Rattle.floods.proofs.CellWays.{filter_map_more, none_by}
 use Rattle.floods.proofs.cell_net.some_ways.Goals as goal
@@ -8,7 +9,7 @@ use Rattle.floods.proofs.cell_net.some_ways.Goals.{in-Some, in_default}
 pub loop-to-preserved : goal.loop-to-preserved
 loop-to-preserved c =
     let inside : c.loop-to.to-index < length c.args.around = search rules in
-    let more = filter_map_more (way_to c.args.cells.now (to_z w32 (of_z w32 c.args.height))) c.args.around c.loop-to.to-index 0 inside in
+    let more = filter_map_more (way_to c.args.cells.now (to_z height_width (of_z height_width c.args.height))) c.args.around c.loop-to.to-index 0 inside in
     elim c.match-way_to.branch [
       | in-Some w ↦
           rw (w.ways-is) (record {

@@ -1,5 +1,6 @@
-use Rattle.std.proofs.Common.{rules, w32, to_z, of_z, ◌≡◌, ◌<◌, length, sym, ap, ◌∙◌, Some, None, arith}
+use Rattle.std.proofs.Common.{rules, to_z, of_z, ◌≡◌, ◌<◌, length, sym, ap, ◌∙◌, Some, None, arith}
 use mir.Val.{SFits}
+use Rattle.terrain.proofs.Heights.{height_width}
 use Rattle.floods.specs.Flood.{waiting_in}
 use Rattle.std.proofs.lemmas.Int.{to_z-of_z}
 use Rattle.std.proofs.lemmas.List.{length-set, length-replicate}
@@ -30,12 +31,12 @@ spread-requires-clause-noted g c =
     let takes = rw c.deref.ensures.value at c.in-Some.ensures.some in
     let here = All-contains (λ x. (x.node < g.N.Net.node_count c.args.net.now) × HasWalk (g.N.Net.joins c.args.net.now) (g.N.Net.source_height c.args.net.now) x) _ c.in-Some.waiting c.loop-waiting.invariant.state.waits takes.was in
     let inside : c.in-Some.waiting.node < length c.loop-waiting.label.items = omega (arith, here.0, c.loop-waiting.invariant.state.labels_size) in
-    rw (sym c.deref-in-Some.ensures.value, sym c.deref_mut-in-Some.ensures.value) at (noted_still c.loop-waiting.label.items c.loop-waiting.level.items (waiting_in c.loop-waiting.waits) (waiting_in c.next_open.new.waits) c.in-Some.waiting (to_z w32 (of_z w32 c.in-Some.waiting.height.0)) c.in-Some.waiting.label inside c.loop-waiting.invariant.noted takes)
+    rw (sym c.deref-in-Some.ensures.value, sym c.deref_mut-in-Some.ensures.value) at (noted_still c.loop-waiting.label.items c.loop-waiting.level.items (waiting_in c.loop-waiting.waits) (waiting_in c.next_open.new.waits) c.in-Some.waiting (to_z height_width (of_z height_width c.in-Some.waiting.height.0)) c.in-Some.waiting.label inside c.loop-waiting.invariant.noted takes)
 
 pub loop-waiting-preserved : goal.loop-waiting-preserved
 loop-waiting-preserved g c =
-    let fits : SFits w32 c.in-Some.waiting.height.0 = search rules in
-    let height = to_z-of_z w32 c.in-Some.waiting.height.0 fits in
+    let fits : SFits height_width c.in-Some.waiting.height.0 = search rules in
+    let height = to_z-of_z height_width c.in-Some.waiting.height.0 fits in
     let takes = rw c.deref.ensures.value at c.in-Some.ensures.some in
     let added = rw (c.deref-in-Some.ensures.value) at c.in_ok-spread.ensures.added in
     let noted = rw (c.deref-in-Some.ensures.value) at c.in_ok-spread.ensures.noted in
@@ -43,7 +44,7 @@ loop-waiting-preserved g c =
     let size_kept : length c.spread.new.levels ≡ length c.loop-waiting.level.items =
     noted.size ∙ length-set c.loop-waiting.label.items c.in-Some.waiting.node (Some c.in-Some.waiting.label) ∙ sym c.loop-waiting.invariant.noted.size in
     let size : length c.spread.new.levels ≡ c.loop-waiting.level.len =
-    size_kept ∙ sym (length-set c.loop-waiting.level.items c.in-Some.waiting.node (Some (to_z w32 (of_z w32 c.in-Some.waiting.height.0)))) ∙ sym (ap length c.deref_mut-in-Some.ensures.value) ∙ c.deref_mut-in-Some.ensures.len in
+    size_kept ∙ sym (length-set c.loop-waiting.level.items c.in-Some.waiting.node (Some (to_z height_width (of_z height_width c.in-Some.waiting.height.0)))) ∙ sym (ap length c.deref_mut-in-Some.ensures.value) ∙ c.deref_mut-in-Some.ensures.len in
     let here = All-contains (λ x. (x.node < g.N.Net.node_count c.args.net.now) × HasWalk (g.N.Net.joins c.args.net.now) (g.N.Net.source_height c.args.net.now) x) _ c.in-Some.waiting c.loop-waiting.invariant.state.waits takes.was in
     let inside : c.in-Some.waiting.node < length c.loop-waiting.label.items = omega (arith, here.0, c.loop-waiting.invariant.state.labels_size) in
     let own = rw (c.deref-in-Some.ensures.value, c.deref_mut-in-Some.ensures.value, height) at (c.in_ok-spread.ensures.own (g.N.Net.source_height c.args.net.now)) in

@@ -1,7 +1,8 @@
-use Rattle.std.proofs.Common.{rules, ◌≡◌, ◌<◌, length, sym, ap, ◌∙◌, refl, w32, Some, None, arith}
+use Rattle.std.proofs.Common.{rules, ◌≡◌, ◌<◌, length, sym, ap, ◌∙◌, refl, Some, None, arith}
 use mir.Val.{SFits}
 use Rattle.std.proofs.lemmas.Int.{to_z-of_z}
 use Rattle.std.proofs.lemmas.List.{length-set, length-replicate}
+use Rattle.terrain.proofs.Heights.{height_width}
 use Rattle.floods.proofs.Heaps.{no_sources, source_passed, source_more, none_noted, noted_past, noted_more}
 use Rattle.floods.proofs.flooding.waiting_sources.Goals as goal
 use Rattle.floods.proofs.flooding.waiting_sources.Goals.{in-Some+in_ok-put, in_default}
@@ -9,15 +10,15 @@ use Rattle.floods.proofs.flooding.waiting_sources.Goals.{in-Some+in_ok-put, in_d
 pub loop-node-preserved : goal.loop-node-preserved
 loop-node-preserved g c = elim c.match-source.branch [
   | in-Some+in_ok-put w ↦
-      let fits : SFits w32 w.in-Some.height = search rules in
-      let pushed = rw (to_z-of_z w32 w.in-Some.height fits) at w.in_ok-put.ensures.puts in
+      let fits : SFits height_width w.in-Some.height = search rules in
+      let pushed = rw (to_z-of_z height_width w.in-Some.height fits) at w.in_ok-put.ensures.puts in
       let source : g.N.Net.source_height c.args.net.now c.loop-node.node ≡ Some w.in-Some.height = sym c.source.ensures ∙ w.in-Some.is in
       let count : length c.loop-node.levels ≡ g.N.Net.node_count c.args.net.now = c.loop-node.invariant.size ∙ ap length c.requires ∙ length-replicate _ None in
       let inside : c.loop-node.node < length c.loop-node.levels = omega (arith, count, c.nodes-node-end.ensures, c.loop-node-test.true) in
       rw (w.waits-is, w.levels-is) (record {
         order = w.in_ok-put.ensures.order;
         sources = source_more _ c.loop-node.node w.in-Some.height _ _ _ c.loop-node.invariant.sources source refl refl refl pushed;
-        noted = rw (to_z-of_z w32 w.in-Some.height fits) (noted_more _ c.loop-node.node w.in-Some.height _ inside c.loop-node.invariant.noted source);
+        noted = rw (to_z-of_z height_width w.in-Some.height fits) (noted_more _ c.loop-node.node w.in-Some.height _ inside c.loop-node.invariant.noted source);
         size = length-set c.loop-node.levels c.loop-node.node _ ∙ c.loop-node.invariant.size;
       })
   | in_default w ↦

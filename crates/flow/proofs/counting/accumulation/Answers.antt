@@ -15,7 +15,7 @@ pub invariant_of-made : goal.invariant_of-made
 invariant_of-made g c = record {
   countable = countable_all _ _ _ _ (counting_of c.joined-tiling.result c.codes.result.now _ _ _
       (grid_flow c.args.d.now c.joined-tiling.result c.codes.result.now c.codes.ensures.draining (c.joined-tiling.ensures c.args.d.now.terrain c.requires) c.codes.ensures.value)
-      c.in_ok-flows.ensures.flows (c.in_ok-flows.ensures.counts refl) c.deref.ensures.value c.in_ok-inflows.ensures.inflows);
+      c.in_ok-flows.ensures.flows (c.in_ok-flows.ensures.counts refl) c.deref-2.ensures.value c.in_ok-inflows.ensures.inflows);
 }
 
 pub returns-clause-values : goal.returns-clause-values
@@ -23,7 +23,7 @@ returns-clause-values g c =
     let t = c.joined-tiling.result in
     let codes = c.codes.result.now in
     let counting = counting_of t codes _ _ _ (grid_flow c.args.d.now t codes c.codes.ensures.draining (c.joined-tiling.ensures c.args.d.now.terrain c.requires) c.codes.ensures.value)
-    c.in_ok-flows.ensures.flows (c.in_ok-flows.ensures.counts refl) c.deref.ensures.value c.in_ok-inflows.ensures.inflows in
+    c.in_ok-flows.ensures.flows (c.in_ok-flows.ensures.counts refl) c.deref-2.ensures.value c.in_ok-inflows.ensures.inflows in
     IfOk-weaker c.made.result (λ (v : Vec (Option ℕ) Global). IsMadeMap t (IsCountAt t c.in_ok-flows.flows.items c.in_ok-inflows.inflows) v.items) (λ (v : Vec (Option ℕ) Global). AreAccumulations (directed_of c.args.d.now) v.items)
     (λ v made. whole_map c.args.d.now t codes (c.joined-tiling.ensures c.args.d.now.terrain c.requires) c.codes.ensures.value accumulation v.items made.size (λ p i. made.each p i codes counting))
     c.made.ensures.made

@@ -2,7 +2,7 @@ use Rattle.std.proofs.Common.{◌≡◌, ◌+◌, ◌^◌, ◌<◌, ◌&&◌, tr
 use Rattle.std.proofs.lemmas.Bool.{and_parts}
 use Rattle.terrain.specs.declared.place.Place.{Place}
 use Rattle.tiles.proofs.Cut.{in_bounds_parts}
-use Rattle.flow.specs.TileFlow.{is_in_bounds}
+use Rattle.tiles.specs.Cutting.{is_in_bounds}
 use Rattle.flow.specs.TileLinks.{index_in}
 use Rattle.flow.specs.RimNumbers.{rim_place}
 use Rattle.flow.specs.RimGraph.{stands_for}

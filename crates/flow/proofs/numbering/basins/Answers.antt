@@ -17,7 +17,7 @@ pub invariant_of-made : goal.invariant_of-made
 invariant_of-made g c = record {
   ready = ready _ _ _ _ _ (numbering_of c.joined-tiling.result c.codes-codes.result.now _ _ _ _
       (grid_flow c.args.d.now c.joined-tiling.result c.codes-codes.result.now c.codes-codes.ensures.draining (c.joined-tiling.ensures c.args.d.now.terrain c.requires) c.codes-codes.ensures.value)
-      c.in_ok-flows.ensures.flows c.deref.ensures.value c.in_ok-outlets.ensures.cutting c.in_ok-outlets.ensures.outlets c.in_ok-numbers.ensures.codes);
+      c.in_ok-flows.ensures.flows c.deref-2.ensures.value c.in_ok-outlets.ensures.cutting c.in_ok-outlets.ensures.outlets c.in_ok-numbers.ensures.codes);
 }
 
 pub returns-clause-values : goal.returns-clause-values
@@ -25,7 +25,7 @@ returns-clause-values g c =
     let t = c.joined-tiling.result in
     let codes = c.codes-codes.result.now in
     let numbering = numbering_of t codes _ _ _ _ (grid_flow c.args.d.now t codes c.codes-codes.ensures.draining (c.joined-tiling.ensures c.args.d.now.terrain c.requires) c.codes-codes.ensures.value)
-    c.in_ok-flows.ensures.flows c.deref.ensures.value c.in_ok-outlets.ensures.cutting c.in_ok-outlets.ensures.outlets c.in_ok-numbers.ensures.codes in
+    c.in_ok-flows.ensures.flows c.deref-2.ensures.value c.in_ok-outlets.ensures.cutting c.in_ok-outlets.ensures.outlets c.in_ok-numbers.ensures.codes in
     IfOk-weaker c.made.result (λ (v : Vec (Option ℕ) Global). IsMadeMap t (IsBasinAt t c.in_ok-flows.flows.items c.in_ok-outlets.outlets c.in_ok-numbers.numbers) v.items) (λ (v : Vec (Option ℕ) Global). AreBasins (directed_of c.args.d.now) v.items)
     (λ v made. whole_map c.args.d.now t codes (c.joined-tiling.ensures c.args.d.now.terrain c.requires) c.codes-codes.ensures.value basin v.items made.size (λ p i. made.each p i (make_directed t.cols t.rows codes) numbering))
     c.made.ensures.made

@@ -1,11 +1,22 @@
 use Rattle.std.proofs.Common.{rules, sym, ◌∙◌, ◌≡◌, pos, ◌+ℤ◌, FitsSigned, Some, true}
-use Rattle.std.specs.Int.{w32, w64}
+use Rattle.std.specs.Int.{w64}
 use Rattle.std.proofs.lemmas.Int.{to_z-of_z}
 use Rattle.terrain.specs.Neighbours.{height_at}
 use Rattle.sight.specs.Sight.{is_near, place_of}
 use Rattle.sight.specs.Walk.{IsLevel}
+use Rattle.sight.proofs.Heights.{kept, height_is_height}
 use Rattle.sight.proofs.Seen.{lines_are}
 use Rattle.sight.proofs.line.lines_of_sight.Goals as goal
+
+pub level-eye_level-requires-clause-height : goal.level-eye_level-requires-clause-height
+level-eye_level-requires-clause-height c =
+    let ground = c.in_ok-eye_ground.eye_ground in
+    kept ground (height_is_height c.args.grid.now.terrain (place_of c.args.observer.now) ground c.cols-stride.ensures.lawful.terrain (sym c.at.ensures ∙ c.in_ok-eye_ground.was))
+
+pub level-target_level-requires-clause-height : goal.level-target_level-requires-clause-height
+level-target_level-requires-clause-height c =
+    let ground = c.in_ok-target_ground.target_ground in
+    kept ground (height_is_height c.args.grid.now.terrain c.args.target ground c.cols-stride.ensures.lawful.terrain (sym c.at-2.ensures ∙ c.in_ok-target_ground.was))
 
 pub returns : goal.returns
 returns c =
@@ -14,10 +25,10 @@ returns c =
     let q = c.args.target in
     let eye = c.in_ok-eye_ground.eye_ground in
     let ground = c.in_ok-target_ground.target_ground in
-    let eye_fits : FitsSigned w32 eye = search rules in
-    let ground_fits : FitsSigned w32 ground = search rules in
-    let eye_level : c.level-eye_level.result ≡ eye +ℤ pos o.eye = rw (to_z-of_z w32 eye eye_fits) at c.level-eye_level.ensures.value in
-    let target_level : c.level-target_level.result ≡ ground +ℤ pos c.args.target_height = rw (to_z-of_z w32 ground ground_fits) at c.level-target_level.ensures.value in
+    let eye_fits : FitsSigned w64 eye = search rules in
+    let ground_fits : FitsSigned w64 ground = search rules in
+    let eye_level : c.level-eye_level.result ≡ eye +ℤ pos o.eye = rw (to_z-of_z w64 eye eye_fits) at c.level-eye_level.ensures.value in
+    let target_level : c.level-target_level.result ≡ ground +ℤ pos c.args.target_height = rw (to_z-of_z w64 ground ground_fits) at c.level-target_level.ensures.value in
     let eye_back = to_z-of_z w64 c.level-eye_level.result (search rules) in
     let target_back = to_z-of_z w64 c.level-target_level.result (search rules) in
     let near : is_near (place_of o) q c.args.radius ≡ true = sym c.is_in_reach.ensures ∙ c.if-not-is_in_reach.false in

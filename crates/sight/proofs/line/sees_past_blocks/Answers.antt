@@ -3,6 +3,7 @@ use Rattle.sight.specs.Sight.{place_of}
 use Rattle.sight.specs.Blocks.{blocks_in, AreTopsAlong}
 use Rattle.sight.specs.declared.walk.Sightline.{Sightline}
 use Rattle.sight.proofs.LowBlocks.{along_columns, along_rows}
+use Rattle.sight.proofs.Heights.{are_heights}
 use Rattle.sight.proofs.line.sees_past_blocks.Goals as goal
 use Rattle.terrain.specs.Neighbours.{height_of}
 
@@ -28,3 +29,9 @@ is_blocked_past_blocks-requires-2-clause-tops c =
     let P : Sightline → Type 0 = λ line. AreTopsAlong t.cells tops line (record { lead = blocks_in t.cols; side = 1 }) in
     rw (c.cells-cells.ensures.value, wide)
     (subst P (sym c.in-Some.ensures.rows) (along_rows t tops q (place_of o) (height_of t q +ℤ pos c.args.target_height) (height_of t (place_of o) +ℤ pos o.eye) c.requires.tops c.requires.target c.requires.observer))
+
+pub is_blocked_past_blocks-requires-clause-heights : goal.is_blocked_past_blocks-requires-clause-heights
+is_blocked_past_blocks-requires-clause-heights c = rw c.cells-cells.ensures.value (are_heights c.args.grid.now.terrain c.cells-cells.ensures.lawful.terrain)
+
+pub is_blocked_past_blocks-requires-2-clause-heights : goal.is_blocked_past_blocks-requires-2-clause-heights
+is_blocked_past_blocks-requires-2-clause-heights c = rw c.cells-cells.ensures.value (are_heights c.args.grid.now.terrain c.cells-cells.ensures.lawful.terrain)

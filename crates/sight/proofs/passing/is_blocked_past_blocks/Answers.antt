@@ -1,9 +1,10 @@
-use Rattle.std.proofs.Common.{arith, sym, ap, ◌∙◌, ◌≡◌, ◌+◌, ◌-◌, ◌/◌}
+use Rattle.std.proofs.Common.{arith, rules, w64, FitsSigned, pos, ◌*ℤ◌, ◌≤ℤ◌, sym, ap, ◌∙◌, ◌≡◌, ◌+◌, ◌-◌, ◌/◌}
 use Rattle.std.proofs.lemmas.Bool.{OnTrue_at}
+use Rattle.std.proofs.lemmas.Int.{ints, to_z-of_z}
 use Rattle.sight.specs.Walk.{steps_of, step_blocks, whole_at}
 use Rattle.sight.proofs.Steps.{whole_le}
 use Rattle.sight.proofs.Ranges.{none_from, none_joined, any_within}
-use Rattle.sight.proofs.LowBlocks.{step_passed}
+use Rattle.sight.proofs.LowBlocks.{step_above, step_passed}
 use Rattle.sight.proofs.passing.is_blocked_past_blocks.Goals as goal
 
 pub is_above_blocks-requires-clause-lead : goal.is_above_blocks-requires-clause-lead
@@ -20,6 +21,28 @@ pub is_above_blocks-requires-clause-end : goal.is_above_blocks-requires-clause-e
 is_above_blocks-requires-clause-end c =
     let line = c.args.line in
     omega (arith, c.at-next.ensures.whole, whole_le line.side (steps_of line) c.block_end-end.result (omega arith) (omega arith))
+
+pub returns-then-clear-start : goal.returns-then-clear-start
+returns-then-clear-start c =
+    let line = c.args.line in
+    let n = steps_of line in
+    let first = c.loop-first.first in
+    let peak = c.args.peak in
+    let p = step_blocks c.args.cells.now line.lead line.side line.from_level line.to_level n in
+    let all : n - 1 ≡ (first - 1) + (n - first) = omega arith in
+    let sight_fits : FitsSigned w64 c.loop-first.start.sight = search rules in
+    let sight_is = to_z-of_z w64 c.loop-first.start.sight sight_fits in
+    let end_fits : FitsSigned w64 line.to_level = search rules in
+    let end_is = to_z-of_z w64 line.to_level end_fits in
+    let peak_is = to_z-of_z w64 peak c.ranges.peak in
+    let clear_fits : FitsSigned w64 c.weighed-clear.result = search rules in
+    let clear_is = to_z-of_z w64 c.weighed-clear.result clear_fits in
+    let clear : c.weighed-clear.result ≡ pos n *ℤ peak = rw (c.steps-steps.ensures, peak_is) at c.weighed-clear.ensures.value in
+    let above : (pos n *ℤ peak) ≤ℤ c.loop-first.start.sight = omega (arith, ints, clear, (rw (clear_is, sight_is) at c.if-clear-start.true)) in
+    let ends : peak ≤ℤ line.to_level = omega (arith, ints, (rw (peak_is, end_is) at c.if-ends_above.true)) in
+    let none = none_from p first (n - first) (λ k low high. step_above c.args.cells.now c.args.tops.now line c.args.strides peak first k c.loop-first.start
+    (omega arith) low (omega arith) c.loop-first.invariant.start c.requires.tops c.requires.peak.1 above ends) in
+    sym (rw all (none_joined p 1 (first - 1) first (n - first) (omega arith) c.loop-first.invariant.clear none))
 
 pub returns-then-is_blocked_between : goal.returns-then-is_blocked_between
 returns-then-is_blocked_between c =

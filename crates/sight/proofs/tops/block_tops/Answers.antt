@@ -11,6 +11,9 @@ use Rattle.sight.proofs.tops.block_tops.Goals as goal
 written_back : (n : ℕ) (new old : List (Option ℤ)) → length new ≡ n → take n (new ++ drop (length new) old) ≡ new
 written_back n new old e = subst (λ k. take k (new ++ drop (length new) old) ≡ new) e (take-append_seam new (drop (length new) old))
 
+pub raise_row-requires-clause-heights : goal.raise_row-requires-clause-heights
+raise_row-requires-clause-heights c = rw c.deref_mut.ensures.value c.loop-row.invariant.heights
+
 pub loop-row-preserved : goal.loop-row-preserved
 loop-row-preserved c =
     let t = c.args.grid.now.terrain in
@@ -28,4 +31,4 @@ loop-row-preserved c =
           let Q : ℕ → Type 0 = λ r. height_at t (record { row = r; col = p.col }) ≡ Some h in
           subst P (sym here) (c.raise_row.ensures.raised p.col h inside.1 (subst Q here is))
     ] in
-    rw (written_back c.loop-row.tops.len new c.loop-row.tops.items len) (record { size = size; above = above })
+    rw (written_back c.loop-row.tops.len new c.loop-row.tops.items len) (record { size = size; heights = c.raise_row.ensures.heights; above = above })

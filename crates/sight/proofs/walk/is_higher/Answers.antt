@@ -1,13 +1,23 @@
-use Rattle.std.proofs.Common.{rules, arith, ◌<◌, ◌+ℤ◌, sym, FitsSigned}
-use Rattle.std.specs.Int.{w32, w64}
+use Rattle.std.proofs.Common.{rules, arith, ◌+◌, ◌<◌, ◌+ℤ◌, sym, FitsSigned}
+use Rattle.std.specs.Int.{w64}
 use Rattle.std.proofs.lemmas.Int.{to_z-of_z}
+use Rattle.sight.proofs.Heights.{kept}
 use Rattle.sight.proofs.Ground.{above_both}
 use Rattle.sight.proofs.walk.is_higher.Goals as goal
 
+pub weighed-requires-clause-height : goal.weighed-requires-clause-height
+weighed-requires-clause-height c = kept c.in-Some.near (c.requires.heights c.args.index c.in-Some.near c.in-Some.is)
+
+pub weighed-requires-2-clause-height : goal.weighed-requires-2-clause-height
+weighed-requires-2-clause-height c = kept c.in-Some.near (c.requires.heights c.args.index c.in-Some.near c.in-Some.is)
+
+pub weighed-requires-3-clause-height : goal.weighed-requires-3-clause-height
+weighed-requires-3-clause-height c = kept c.in-Some-cells.far (c.requires.heights (c.args.index + c.args.beside) c.in-Some-cells.far c.in-Some-cells.is)
+
 pub returns : goal.returns
 returns c =
-    let near : FitsSigned w32 c.in-Some.near = search rules in
-    let far : FitsSigned w32 c.in-Some-cells.far = search rules in
+    let near : FitsSigned w64 c.in-Some.near = search rules in
+    let far : FitsSigned w64 c.in-Some-cells.far = search rules in
     let one : FitsSigned w64 c.weighed-2.result = search rules in
     let two : FitsSigned w64 c.weighed-3.result = search rules in
     let sight : FitsSigned w64 c.args.sight = search rules in

@@ -1,4 +1,4 @@
-use Rattle.std.proofs.Common.{◌≡◌, ◌-◌, ◌<◌, ℕ, List, length, Option, None, Some, unwrap_or, slice_get, sym, ap, refl, ◌∙◌, arith}
+use Rattle.std.proofs.Common.{◌≡◌, ◌-◌, ℕ, List, length, Option, None, Some, unwrap_or, slice_get, sym, ap, refl, ◌∙◌, arith}
 use Rattle.std.proofs.lemmas.Option.{slice_get_read, slice_get_past}
 use Rattle.terrain.specs.Neighbours.{index_of}
 use Rattle.tiles.specs.Cutting.{tile_of_place}

@@ -20,7 +20,7 @@ pub returns : goal.returns
 returns c =
     let t = c.self.inside.tiling in
     let parts = c.self.inside.parts.items in
-    let sources = c.self.inside.sources.items in
+    let sources = c.self.inside.sources in
     let joins = c.index-part.result.now.joins.items in
     let start = rw c.deref.ensures.value at c.first_from-start.ensures in
     let end = rw c.deref-2.ensures.value at c.end_of-end.ensures in

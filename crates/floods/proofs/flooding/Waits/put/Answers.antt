@@ -1,7 +1,8 @@
-use Rattle.std.proofs.Common.{rules, ◌≡◌, ◌<◌, ◌++◌, ◌∷◌, [], ◌∙◌, List, length, get_or, sym, ap, arith, w32, heap_items}
+use Rattle.std.proofs.Common.{rules, ◌≡◌, ◌<◌, ◌++◌, ◌∷◌, [], ◌∙◌, List, length, get_or, sym, ap, arith, heap_items}
 use mir.Val.{SFits}
 use Rattle.std.proofs.lemmas.Int.{to_z-of_z}
 use Rattle.std.proofs.lemmas.List.{length-map}
+use Rattle.terrain.proofs.Heights.{height_width}
 use Rattle.floods.specs.declared.flooding.Waiting.{Waiting}
 use Rattle.floods.specs.Flood.{entries_of}
 use Rattle.floods.proofs.Waits.{entries_at, entries_set, put_in_list, put_in_heap, list_put_ordered}
@@ -20,10 +21,10 @@ added c =
 pub returns-clause-order : goal.returns-clause-order
 returns-clause-order c =
     let lists = c.args.self.now.lists.items in
-    let fits : SFits w32 c.args.waiting.height.0 = search rules in
+    let fits : SFits height_width c.args.waiting.height.0 = search rules in
     let is = added c in
     rw (entries_set lists c.in-Some.index c.push-2.new.self)
-    (list_put_ordered c.args.self.now.base c.args.self.now.first c.args.self.now.end c.max-self.result c.in-Some.index c.args.waiting (entries_of lists) _ (heap_items c.args.self.now.others) c.requires is.0 is.1 (rw (to_z-of_z w32 c.args.waiting.height.0 fits) at c.in-Some.ensures.level)
+    (list_put_ordered c.args.self.now.base c.args.self.now.first c.args.self.now.end c.max-self.result c.in-Some.index c.args.waiting (entries_of lists) _ (heap_items c.args.self.now.others) c.requires is.0 is.1 (rw (to_z-of_z height_width c.args.waiting.height.0 fits) at c.in-Some.ensures.level)
     c.in-Some.ensures.from (omega (arith, c.max-self.ensures)) (omega (arith, c.max-self.ensures)) (omega (arith, c.max-self.ensures, c.requires.end_inside, is.0)))
 
 pub returns-clause-puts : goal.returns-clause-puts

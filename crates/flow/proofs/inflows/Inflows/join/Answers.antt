@@ -10,69 +10,66 @@ use Rattle.flow.proofs.RimTotals.{weights_size, total_few}
 use Rattle.flow.proofs.RimInflows.{entering_few, inflows_are}
 use Rattle.flow.proofs.inflows.Inflows.join.Goals as goal
 
-pub rim_links-requires-clause-targets : goal.rim_links-requires-clause-targets
-rim_links-requires-clause-targets c = c.deref.ensures.value ∙ c.in_ok-targets.ensures
-
 pub rim_weights-requires-clause-targets : goal.rim_weights-requires-clause-targets
-rim_weights-requires-clause-targets c = c.deref-2.ensures.value ∙ c.in_ok-targets.ensures
+rim_weights-requires-clause-targets c = c.deref.ensures.value ∙ c.requires.targets
 
 pub all_entering-requires-clause-targets : goal.all_entering-requires-clause-targets
-all_entering-requires-clause-targets c = targets_size _ _ _ (c.deref-5.ensures.value ∙ c.in_ok-targets.ensures)
+all_entering-requires-clause-targets c = targets_size _ _ _ (c.deref-4.ensures.value ∙ c.requires.targets)
 
 pub all_entering-requires-clause-within : goal.all_entering-requires-clause-within
 all_entering-requires-clause-within c i h =
-    subst (λ (o : Option Place). IfSome o (IsWithin c.args.tiling.now)) (sym (target_listed _ _ _ (c.deref-5.ensures.value ∙ c.in_ok-targets.ensures) i h))
-    (targets_within _ _ _ c.requires.1 i)
+    subst (λ (o : Option Place). IfSome o (IsWithin c.args.tiling.now)) (sym (target_listed _ _ _ (c.deref-4.ensures.value ∙ c.requires.targets) i h))
+    (targets_within _ _ _ c.requires.flows.1 i)
 
 pub upstream-requires-clause-streams : goal.upstream-requires-clause-streams
-upstream-requires-clause-streams c = rim_streams _ _ _ c.requires.1 _ (c.deref-3.ensures.value ∙ c.in_ok-links.ensures)
+upstream-requires-clause-streams c = rim_streams _ _ _ c.requires.flows.1 _ (c.deref-2.ensures.value ∙ c.requires.links)
 
 pub upstream-requires-clause-few : goal.upstream-requires-clause-few
-upstream-requires-clause-few c = omega (arith, links_size _ _ _ c.requires.1 _ (c.deref-3.ensures.value ∙ c.in_ok-links.ensures), few_numbers _ c.requires.1.cutting)
+upstream-requires-clause-few c = omega (arith, links_size _ _ _ c.requires.flows.1 _ (c.deref-2.ensures.value ∙ c.requires.links), few_numbers _ c.requires.flows.1.cutting)
 
 pub upstream-requires-clause-same : goal.upstream-requires-clause-same
 upstream-requires-clause-same c =
-    let made = c.deref-3.ensures.value ∙ c.in_ok-links.ensures in
-    weights_size _ _ _ c.requires.1 c.requires.2 _ made _ (c.deref-4.ensures.value ∙ c.in_ok-weights.ensures) ∙ sym (links_size _ _ _ c.requires.1 _ made)
+    let made = c.deref-2.ensures.value ∙ c.requires.links in
+    weights_size _ _ _ c.requires.flows.1 c.requires.flows.2 _ made _ (c.deref-3.ensures.value ∙ c.in_ok-weights.ensures) ∙ sym (links_size _ _ _ c.requires.flows.1 _ made)
 
 pub upstream-requires-clause-fits : goal.upstream-requires-clause-fits
 upstream-requires-clause-fits c i h =
-    let made = c.deref-3.ensures.value ∙ c.in_ok-links.ensures in
-    let weighed = c.deref-4.ensures.value ∙ c.in_ok-weights.ensures in
-    omega (arith, total_few _ _ _ c.requires.1 c.requires.2 _ made _ weighed i (omega (arith, h, links_size _ _ _ c.requires.1 _ made)))
+    let made = c.deref-2.ensures.value ∙ c.requires.links in
+    let weighed = c.deref-3.ensures.value ∙ c.in_ok-weights.ensures in
+    omega (arith, total_few _ _ _ c.requires.flows.1 c.requires.flows.2 _ made _ weighed i (omega (arith, h, links_size _ _ _ c.requires.flows.1 _ made)))
 
 pub all_entering-requires-clause-weights : goal.all_entering-requires-clause-weights
 all_entering-requires-clause-weights c =
-    ap length c.deref-6.ensures.value ∙ weights_size _ _ _ c.requires.1 c.requires.2 _ (c.deref-3.ensures.value ∙ c.in_ok-links.ensures) _ c.in_ok-weights.ensures
+    ap length c.deref-5.ensures.value ∙ weights_size _ _ _ c.requires.flows.1 c.requires.flows.2 _ (c.deref-2.ensures.value ∙ c.requires.links) _ c.in_ok-weights.ensures
 
 pub all_entering-requires-clause-came : goal.all_entering-requires-clause-came
 all_entering-requires-clause-came c =
-    ap length c.deref-7.ensures.value ∙ c.in_ok-came.ensures.size ∙ links_size _ _ _ c.requires.1 _ (c.deref-3.ensures.value ∙ c.in_ok-links.ensures)
+    ap length c.deref-6.ensures.value ∙ c.in_ok-came.ensures.size ∙ links_size _ _ _ c.requires.flows.1 _ (c.deref-2.ensures.value ∙ c.requires.links)
 
 pub all_entering-requires-clause-amounts : goal.all_entering-requires-clause-amounts
 all_entering-requires-clause-amounts c i h =
-    let made = c.deref-3.ensures.value ∙ c.in_ok-links.ensures in
+    let made = c.deref-2.ensures.value ∙ c.requires.links in
     omega (
       arith,
-      c.in_ok-came.ensures.each i (omega (arith, h, links_size _ _ _ c.requires.1 _ made)),
-      total_few _ _ _ c.requires.1 c.requires.2 _ made _ (c.deref-4.ensures.value ∙ c.in_ok-weights.ensures) i h,
-      ap (λ (l : List ℕ). get_or l i 0) c.deref-7.ensures.value,
-      ap (λ (l : List ℕ). get_or l i 0) (c.deref-6.ensures.value ∙ sym c.deref-4.ensures.value),
+      c.in_ok-came.ensures.each i (omega (arith, h, links_size _ _ _ c.requires.flows.1 _ made)),
+      total_few _ _ _ c.requires.flows.1 c.requires.flows.2 _ made _ (c.deref-3.ensures.value ∙ c.in_ok-weights.ensures) i h,
+      ap (λ (l : List ℕ). get_or l i 0) c.deref-6.ensures.value,
+      ap (λ (l : List ℕ). get_or l i 0) (c.deref-5.ensures.value ∙ sym c.deref-3.ensures.value),
     )
 
 pub all_entering-requires-clause-few : goal.all_entering-requires-clause-few
 all_entering-requires-clause-few c k =
-    let up = subst (λ (w : List ℕ). AreUpstream c.deref-3.result.now w c.in_ok-came.came.items) c.deref-4.ensures.value c.in_ok-came.ensures in
+    let up = subst (λ (w : List ℕ). AreUpstream c.deref-2.result.now w c.in_ok-came.came.items) c.deref-3.ensures.value c.in_ok-came.ensures in
     omega (
       arith,
-      entering_few _ _ _ c.requires.1 c.requires.2 _ _ _ _ (c.deref-5.ensures.value ∙ c.in_ok-targets.ensures) (c.deref-3.ensures.value ∙ c.in_ok-links.ensures) c.in_ok-weights.ensures up k,
-      ap (λ (w : List ℕ). sum_below (entering c.args.tiling.now c.deref-5.result.now w c.deref-7.result.now k) (number_count c.args.tiling.now)) c.deref-6.ensures.value,
-      ap (λ (w : List ℕ). sum_below (entering c.args.tiling.now c.deref-5.result.now c.in_ok-weights.weights.items w k) (number_count c.args.tiling.now)) c.deref-7.ensures.value,
+      entering_few _ _ _ c.requires.flows.1 c.requires.flows.2 _ _ _ _ (c.deref-4.ensures.value ∙ c.requires.targets) (c.deref-2.ensures.value ∙ c.requires.links) c.in_ok-weights.ensures up k,
+      ap (λ (w : List ℕ). sum_below (entering c.args.tiling.now c.deref-4.result.now w c.deref-6.result.now k) (number_count c.args.tiling.now)) c.deref-5.ensures.value,
+      ap (λ (w : List ℕ). sum_below (entering c.args.tiling.now c.deref-4.result.now c.in_ok-weights.weights.items w k) (number_count c.args.tiling.now)) c.deref-6.ensures.value,
     )
 
 pub returns-clause-inflows : goal.returns-clause-inflows
 returns-clause-inflows c d f counts =
-    let up = subst (λ (w : List ℕ). AreUpstream c.deref-3.result.now w c.in_ok-came.came.items) c.deref-4.ensures.value c.in_ok-came.ensures in
-    inflows_are d c.args.tiling.now c.args.flows.now f counts _ _ _ _ (c.deref-5.ensures.value ∙ c.in_ok-targets.ensures) (c.deref-3.ensures.value ∙ c.in_ok-links.ensures) c.in_ok-weights.ensures up _
-    (subst (λ (w : List ℕ). AreEntering c.args.tiling.now c.deref-5.result.now w c.in_ok-came.came.items c.in_ok-listed.listed.items) c.deref-6.ensures.value
-    (subst (λ (w : List ℕ). AreEntering c.args.tiling.now c.deref-5.result.now c.deref-6.result.now w c.in_ok-listed.listed.items) c.deref-7.ensures.value c.in_ok-listed.ensures))
+    let up = subst (λ (w : List ℕ). AreUpstream c.deref-2.result.now w c.in_ok-came.came.items) c.deref-3.ensures.value c.in_ok-came.ensures in
+    inflows_are d c.args.tiling.now c.args.flows.now f counts _ _ _ _ (c.deref-4.ensures.value ∙ c.requires.targets) (c.deref-2.ensures.value ∙ c.requires.links) c.in_ok-weights.ensures up _
+    (subst (λ (w : List ℕ). AreEntering c.args.tiling.now c.deref-4.result.now w c.in_ok-came.came.items c.in_ok-listed.listed.items) c.deref-5.ensures.value
+    (subst (λ (w : List ℕ). AreEntering c.args.tiling.now c.deref-4.result.now c.deref-5.result.now w c.in_ok-listed.listed.items) c.deref-6.ensures.value c.in_ok-listed.ensures))

@@ -1,32 +1,68 @@
-use Rattle.std.proofs.Common.{arith, w64, pos, ◌*ℤ◌}
-use Rattle.std.proofs.lemmas.Int.{to_z-of_z}
-use Rattle.std.proofs.lemmas.Int.{fits_signed_from_abs}
+use Rattle.std.proofs.Common.{arith, rules, w64, pos, ◌*ℤ◌, FitsSigned}
+use mir.Syntax.{w128}
+use Rattle.std.proofs.lemmas.Int.{to_z-of_z, fits_signed_from_abs}
 use Rattle.horizons.specs.Horizons.{value_at}
-use Rattle.horizons.proofs.Sizes.{back, back_short, back_count, gained_fits, based_fits}
+use Rattle.horizons.proofs.Sizes.{back, back_short, back_long, back_count, value_abs, product_fits}
 use Rattle.horizons.proofs.ramp.Ramp.value_at.Goals as goal
 
 pub overflow_add-result : goal.overflow_add-result
 overflow_add-result c =
     let r = c.args.self in
     let t = c.args.target in
-    let gain = back r.gain (omega (arith, c.requires.at.gain)) in
-    let level = back r.level (omega (arith, c.requires.at.level)) in
+    let gain_fits : FitsSigned w64 r.gain = search rules in
+    let level_fits : FitsSigned w64 r.level = search rules in
+    let gain_abs = value_abs r.gain gain_fits in
+    let level_abs = value_abs r.level level_fits in
     let short = back_short t.aside (omega (arith, c.requires.target.aside)) in
-    let aside = back t.aside (omega (arith, c.requires.target.aside)) in
+    let gain = to_z-of_z w64 r.gain gain_fits in
+    let level = to_z-of_z w64 r.level level_fits in
+    let gain_long = back_long r.gain (omega (arith, gain_abs)) in
+    let level_long = back_long r.level (omega (arith, level_abs)) in
+    let aside = back_long t.aside (omega (arith, c.requires.target.aside)) in
     let line = back_count t.line (omega (arith, c.requires.target.line)) in
-    let one = to_z-of_z w64 (r.gain *ℤ t.aside) (gained_fits r t c.requires.target c.requires.at) in
-    let two = to_z-of_z w64 (r.level *ℤ pos t.line) (based_fits r t c.requires.target c.requires.at) in
-    rw (c.from.ensures, c.from-2.ensures, short, gain, level, aside, line, one, two) (fits_signed_from_abs w64 (value_at r t) (omega (arith, c.requires.at.value)))
+    let one = to_z-of_z w128 (r.gain *ℤ t.aside) (product_fits r.gain t.aside gain_abs c.requires.target.aside) in
+    let two = to_z-of_z w128 (r.level *ℤ pos t.line) (product_fits r.level (pos t.line) level_abs (omega (arith, c.requires.target.line))) in
+    rw (c.from.ensures, c.from-2.ensures, c.from-3.ensures, c.from-4.ensures, short, gain, level, gain_long, level_long, aside, line, one, two)
+    (fits_signed_from_abs w128 (value_at r t) (omega (arith, c.requires.at.value)))
+
+pub overflow_cast-result : goal.overflow_cast-result
+overflow_cast-result c =
+    let r = c.args.self in
+    let t = c.args.target in
+    let gain_fits : FitsSigned w64 r.gain = search rules in
+    let level_fits : FitsSigned w64 r.level = search rules in
+    let gain_abs = value_abs r.gain gain_fits in
+    let level_abs = value_abs r.level level_fits in
+    let short = back_short t.aside (omega (arith, c.requires.target.aside)) in
+    let gain = to_z-of_z w64 r.gain gain_fits in
+    let level = to_z-of_z w64 r.level level_fits in
+    let gain_long = back_long r.gain (omega (arith, gain_abs)) in
+    let level_long = back_long r.level (omega (arith, level_abs)) in
+    let aside = back_long t.aside (omega (arith, c.requires.target.aside)) in
+    let line = back_count t.line (omega (arith, c.requires.target.line)) in
+    let one = to_z-of_z w128 (r.gain *ℤ t.aside) (product_fits r.gain t.aside gain_abs c.requires.target.aside) in
+    let two = to_z-of_z w128 (r.level *ℤ pos t.line) (product_fits r.level (pos t.line) level_abs (omega (arith, c.requires.target.line))) in
+    let sum = back_long (value_at r t) (omega (arith, c.requires.at.value)) in
+    rw (c.from.ensures, c.from-2.ensures, c.from-3.ensures, c.from-4.ensures, short, gain, level, gain_long, level_long, aside, line, one, two, sum)
+    (fits_signed_from_abs w64 (value_at r t) c.requires.at.value)
 
 pub returns : goal.returns
 returns c =
     let r = c.args.self in
     let t = c.args.target in
-    let gain = back r.gain (omega (arith, c.requires.at.gain)) in
-    let level = back r.level (omega (arith, c.requires.at.level)) in
+    let gain_fits : FitsSigned w64 r.gain = search rules in
+    let level_fits : FitsSigned w64 r.level = search rules in
+    let gain_abs = value_abs r.gain gain_fits in
+    let level_abs = value_abs r.level level_fits in
     let short = back_short t.aside (omega (arith, c.requires.target.aside)) in
-    let aside = back t.aside (omega (arith, c.requires.target.aside)) in
+    let gain = to_z-of_z w64 r.gain gain_fits in
+    let level = to_z-of_z w64 r.level level_fits in
+    let gain_long = back_long r.gain (omega (arith, gain_abs)) in
+    let level_long = back_long r.level (omega (arith, level_abs)) in
+    let aside = back_long t.aside (omega (arith, c.requires.target.aside)) in
     let line = back_count t.line (omega (arith, c.requires.target.line)) in
-    let one = to_z-of_z w64 (r.gain *ℤ t.aside) (gained_fits r t c.requires.target c.requires.at) in
-    let two = to_z-of_z w64 (r.level *ℤ pos t.line) (based_fits r t c.requires.target c.requires.at) in
-    rw (c.from.ensures, c.from-2.ensures, short, gain, level, aside, line, one, two) (back (value_at r t) (omega (arith, c.requires.at.value)))
+    let one = to_z-of_z w128 (r.gain *ℤ t.aside) (product_fits r.gain t.aside gain_abs c.requires.target.aside) in
+    let two = to_z-of_z w128 (r.level *ℤ pos t.line) (product_fits r.level (pos t.line) level_abs (omega (arith, c.requires.target.line))) in
+    let sum = back_long (value_at r t) (omega (arith, c.requires.at.value)) in
+    rw (c.from.ensures, c.from-2.ensures, c.from-3.ensures, c.from-4.ensures, short, gain, level, gain_long, level_long, aside, line, one, two, sum)
+    (back (value_at r t) c.requires.at.value)

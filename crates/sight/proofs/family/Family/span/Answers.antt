@@ -1,8 +1,10 @@
-use Rattle.std.proofs.Common.{arith, rules, refl, sym, ap, ◌∙◌, ◌≡◌, ℕ, ◌+◌, ◌≤◌, pos, ◌+ℤ◌, ◌*ℤ◌, ◌<ℤ◌, get_or, None, Some, w32, FitsSigned}
+use Rattle.std.proofs.Common.{arith, rules, refl, sym, ap, ◌∙◌, ◌≡◌, ℕ, ◌+◌, ◌≤◌, pos, ◌+ℤ◌, ◌*ℤ◌, ◌<ℤ◌, get_or, None, Some, w64, FitsSigned}
 use Rattle.std.proofs.lemmas.Int.{ints, to_z-of_z, by_lt_z}
 use Rattle.horizons.specs.Horizons.{hides_by}
 use Rattle.horizons.proofs.Sizes.{back_short}
 use Rattle.sight.specs.Sweep.{IsCell, ramp_of}
+use Rattle.sight.proofs.Below.{among_shows, passes_one}
+use Rattle.sight.proofs.Heights.{kept}
 use Rattle.sight.proofs.Rays.{past_onward}
 use Rattle.sight.proofs.Spans.{near_index, none_outside, nothing_near, nothing_far, shows_ramp, shows_centre}
 use Rattle.sight.proofs.family.Family.span.Goals as goal
@@ -14,7 +16,9 @@ returns-in_default-clause-shows c =
     let aside = c.aside_at-aside.result in
     let back = back_short aside (omega (arith, c.aside_at-aside.ensures.small)) in
     let out : (n : ℕ) → pos n ≡ pos f.side.at +ℤ aside → f.side.cells ≤ n = rw back at c.in_default.ensures in
-    rw back (λ t is_t slope passes alone. record {
+    rw back (λ t is_t slope among alone.
+    let passes = passes_one k aside t among in
+    record {
       at = c.nothing.ensures.at t is_t;
       hides = λ y rise stands later is.
           let cell = none_outside f k y aside t c.requires.family stands later passes in
@@ -30,9 +34,11 @@ returns-in_default-height_at-clause-shows c =
     let back = back_short aside (omega (arith, c.aside_at-aside.ensures.small)) in
     let cell : IsCell f k aside c.in-Some.index = rw back at c.in-Some.ensures in
     let none : get_or cells (near_index f k cell.0) None ≡ None = ap (λ n. get_or cells n None) (sym cell.3) ∙ sym c.height_at.ensures ∙ c.in_default-height_at.is in
-    rw back (λ t is_t slope passes alone. record {
+    rw back (λ t is_t slope among alone.
+    let passes = passes_one k aside t among in
+    record {
       at = c.nothing.ensures.at t is_t;
-      hides = λ y rise stands later is. c.nothing.ensures.below t rise is_t is.0 ∙ sym (nothing_near cells f k cell.0 y aside rise t stands later passes cell.2 none);
+      hides = λ y rise stands later is. c.nothing.ensures.below t rise is_t is ∙ sym (nothing_near cells f k cell.0 y aside rise t stands later passes cell.2 none);
     })
 
 pub returns-in-Some-height_at-2-clause-shows : goal.returns-in-Some-height_at-2-clause-shows
@@ -44,19 +50,25 @@ returns-in-Some-height_at-2-clause-shows c =
     let near = c.in-Some-height_at.near in
     let far = c.in-Some-height_at-2.far in
     let back = back_short aside (omega (arith, c.aside_at-aside.ensures.small)) in
-    let near_fits : FitsSigned w32 near = search rules in
-    let far_fits : FitsSigned w32 far = search rules in
-    let near_back = to_z-of_z w32 near near_fits in
-    let far_back = to_z-of_z w32 far far_fits in
+    let near_fits : FitsSigned w64 near = search rules in
+    let far_fits : FitsSigned w64 far = search rules in
+    let near_back = to_z-of_z w64 near near_fits in
+    let far_back = to_z-of_z w64 far far_fits in
     let cell : IsCell f k aside c.in-Some.index = rw back at c.in-Some.ensures in
     let here : get_or cells (near_index f k cell.0) None ≡ Some near = ap (λ n. get_or cells n None) (sym cell.3) ∙ sym c.height_at.ensures ∙ c.in-Some-height_at.is in
     let next : get_or cells (near_index f k cell.0 + f.side.stride) None ≡ Some far = ap (λ n. get_or cells (n + f.side.stride) None) (sym cell.3) ∙ sym c.height_at-2.ensures ∙ c.in-Some-height_at-2.is in
-    let ramp : c.ramp.result ≡ ramp_of f k aside near far = rw (back, near_back, far_back) at c.ramp.ensures.ramp in
-    let at = rw back at c.ramp.ensures.at in
-    rw back (λ t is_t slope passes alone. record {
+    let ramp : c.ramp-ramp.result ≡ ramp_of f k aside near far = rw (back, near_back, far_back) at c.ramp-ramp.ensures.ramp in
+    let at = rw back at c.ramp-ramp.ensures.at in
+    let last = c.last_of.result in
+    let last_back = back_short last (omega (arith, ints, c.last_of.ensures.range, c.aside_at-aside.ensures.small)) in
+    let onward = rw back at c.last_of.ensures.shows in
+    rw (back, last_back) (λ t is_t slope among alone.
+    among_shows cells f k aside last c.ramp-ramp.result t is_t.line.0 among
+    (λ passes. record {
       at = at t is_t passes;
       hides = λ y rise stands later is. ap (λ r. hides_by r t rise) ramp ∙ shows_ramp cells f k cell.0 y aside near far rise t stands later passes cell.2 here next;
     })
+    (λ b past below passes. onward b t past below is_t passes))
 
 pub returns-then-not-is_at_centre-clause-shows : goal.returns-then-not-is_at_centre-clause-shows
 returns-then-not-is_at_centre-clause-shows c =
@@ -77,15 +89,36 @@ returns-then-not-is_at_centre-clause-shows c =
     let yes = centre.1 centred in
     let no = c.if-not-is_at_centre.true in
     absurd (cc)) in
-    rw back (λ t is_t slope passes alone. record {
+    rw back (λ t is_t slope among alone.
+    let passes = passes_one k aside t among in
+    record {
       at = c.nothing.ensures.at t is_t;
       hides = λ y rise stands later is.
           let past = past_onward aside target.aside t.aside target.line t.line k is_t.line.0 slope beyond in
-          c.nothing.ensures.below t rise is_t is.0 ∙ sym (nothing_far cells f k cell.0 y aside rise near t stands later passes cell.2 here next past);
+          c.nothing.ensures.below t rise is_t is ∙ sym (nothing_far cells f k cell.0 y aside rise near t stands later passes cell.2 here next past);
     })
 
-pub ramp-requires-2-clause-aside : goal.ramp-requires-2-clause-aside
-ramp-requires-2-clause-aside c =
+pub ramp-ramp-requires-clause-heights : goal.ramp-ramp-requires-clause-heights
+ramp-ramp-requires-clause-heights c = (
+  kept c.in-Some-height_at.near (c.requires.heights c.in-Some.index c.in-Some-height_at.near (sym c.height_at.ensures ∙ c.in-Some-height_at.is)),
+  kept c.in-Some-height_at-2.far (c.requires.heights (c.in-Some.index + c.args.self.side.stride) c.in-Some-height_at-2.far (sym c.height_at-2.ensures ∙ c.in-Some-height_at-2.is)),
+)
+
+pub ramp-requires-clause-heights : goal.ramp-requires-clause-heights
+ramp-requires-clause-heights c =
+    let is = kept c.in-Some-height_at.near (c.requires.heights c.in-Some.index c.in-Some-height_at.near (sym c.height_at.ensures ∙ c.in-Some-height_at.is)) in
+    (is, is)
+
+pub last_of-requires-clause-first : goal.last_of-requires-clause-first
+last_of-requires-clause-first c =
+    let f = c.args.self in
+    let aside = c.aside_at-aside.result in
+    let back = back_short aside (omega (arith, c.aside_at-aside.ensures.small)) in
+    let cell : IsCell f c.args.line aside c.in-Some.index = rw back at c.in-Some.ensures in
+    rw back (omega (arith, ints, cell.1, cell.2, c.requires.family))
+
+pub ramp-requires-clause-aside : goal.ramp-requires-clause-aside
+ramp-requires-clause-aside c =
     let f = c.args.self in
     let aside = c.aside_at-aside.result in
     let back = back_short aside (omega (arith, c.aside_at-aside.ensures.small)) in
@@ -101,15 +134,16 @@ returns-clause-shows c =
     let aside = c.aside_at-aside.result in
     let near = c.in-Some-height_at.near in
     let back = back_short aside (omega (arith, c.aside_at-aside.ensures.small)) in
-    let near_fits : FitsSigned w32 near = search rules in
-    let near_back = to_z-of_z w32 near near_fits in
+    let near_fits : FitsSigned w64 near = search rules in
+    let near_back = to_z-of_z w64 near near_fits in
     let cell : IsCell f k aside c.in-Some.index = rw back at c.in-Some.ensures in
     let here : get_or cells (near_index f k cell.0) None ≡ Some near = ap (λ n. get_or cells n None) (sym cell.3) ∙ sym c.height_at.ensures ∙ c.in-Some-height_at.is in
-    let ramp : c.ramp-2.result ≡ ramp_of f k aside near near = rw (back, near_back) at c.ramp-2.ensures.ramp in
-    let at = rw back at c.ramp-2.ensures.at in
+    let ramp : c.ramp.result ≡ ramp_of f k aside near near = rw (back, near_back) at c.ramp.ensures.ramp in
+    let at = rw back at c.ramp.ensures.at in
     let centre = rw back at c.is_at_centre.ensures in
     let centred : (target.aside *ℤ pos k) ≡ aside *ℤ pos target.line = centre.0 c.if-not-is_at_centre.false in
-    rw back (λ t is_t slope passes alone.
+    rw back (λ t is_t slope among alone.
+    let passes = passes_one k aside t among in
     let same : t ≡ target = alone refl in
     record {
       at = at t is_t passes;

@@ -5,6 +5,7 @@ use Rattle.std.proofs.lemmas.Result.{on_ok_weaker}
 use Rattle.sight.specs.Sight.{place_of}
 use Rattle.sight.specs.Sides.{AreOpen}
 use Rattle.sight.proofs.PlacesLeft.{columns_from, by_columns, columns_window, columns_left}
+use Rattle.sight.proofs.Heights.{are_heights}
 use Rattle.sight.proofs.tile.Viewing.hide_over_columns.Goals as goal
 
 pub hide_on_both_sides-requires-clause-window :
@@ -29,3 +30,6 @@ returns c =
     (λ (are : AreOpen t.cells (columns_from t b p c.args.eye) (by_columns b) self.target_height c.args.marks.now c.hide_on_both_sides.new.marks).
     columns_left t p b c.args.eye self.target_height c.args.marks.now c.hide_on_both_sides.new.marks c.requires.observer (omega (arith, c.requires.inside.rows_inside, self.cut)) (omega (arith, c.requires.inside.cols_inside, self.cut)) are)
     told
+
+pub hide_on_both_sides-requires-clause-heights : goal.hide_on_both_sides-requires-clause-heights
+hide_on_both_sides-requires-clause-heights c = rw c.cells-cells.ensures.value (are_heights c.args.self.now.grid.now.terrain c.cells-cells.ensures.lawful.terrain)

@@ -1,0 +1,147 @@
+// Where water crosses the rims of tiles.
+ghost use Rattle.std.specs.Prelude.{◌≡◌, ◌<◌, length, IfOk};
+ghost use Rattle.tiles.specs.Cutting.{IsCutting, IsWithin, tile_count};
+ghost use Rattle.drainage.specs.Following.{Directed};
+ghost use Rattle.flow.specs.RimNumbers.{number_count};
+ghost use Rattle.flow.specs.RimGraph.{code_in, AreFlowsOf, target_by, targets_by, way_out_by, rim_link, rim_links_by, next_by, stands_for};
+
+use crate::cells::next_of;
+use crate::rim::{number_count, rim_number, rim_place};
+use crate::tile::TileFlow;
+use drainage::Code;
+use std::alloc::{AllocError, Global};
+use terrain::Place;
+use tiles::Tiling;
+
+/// Of each number of a rim cell: the place of another tile that its water enters, and the number of the exit over
+/// which it leaves that tile again.
+#[derive(Drop)]
+pub(crate) struct Crossings {
+    pub(crate) targets: Vec<Option<Place>>,
+    pub(crate) links: Vec<u32>,
+}
+
+impl Crossings {
+    /// The crossings of one flow for each tile, in tile order.
+    pub(crate) fn of(
+        alloc: Global,
+        tiling: &Tiling,
+        flows: &[TileFlow],
+    ) -> Result<Crossings, AllocError>
+        requires { (d : Directed) × AreFlowsOf d tiling.now flows.now }
+        ensures targets { IfOk result (λ x. x.targets.items ≡ targets_by tiling.now flows.now) }
+        ensures links { IfOk result (λ x. x.links.items ≡ rim_links_by tiling.now flows.now) }
+    {
+        let targets = rim_targets(alloc, tiling, flows)?;
+        let links = rim_links(alloc, tiling, flows, &targets)?;
+        Ok(Crossings { targets, links })
+    }
+}
+
+// Whether a place is in the grid and has this number.
+#[inline(always)]
+pub(crate) fn stands_for(tiling: &Tiling, place: Place, number: u32) -> bool
+    ensures { result ≡ stands_for tiling.now place number }
+{
+    place.row < tiling.rows() && place.col < tiling.cols() && rim_number(tiling, place) == number
+}
+
+// Where the water of a place goes on.
+#[inline(always)]
+fn next_from(tiling: &Tiling, flows: &[TileFlow], place: Place) -> Place
+    requires count { length flows.now ≡ tile_count tiling.now }
+    requires within { IsWithin tiling.now place }
+    ensures { result ≡ next_by tiling.now flows.now place }
+{
+    next_of(code_of(tiling, flows, place), place)
+}
+
+#[inline(always)]
+pub(crate) fn code_of(tiling: &Tiling, flows: &[TileFlow], place: Place) -> Option<Code>
+    requires count { length flows.now ≡ tile_count tiling.now }
+    requires within { IsWithin tiling.now place }
+    ensures value { result ≡ code_in tiling.now flows.now place }
+    ensures lawful { IsCutting tiling.now }
+{
+    flows[tiling.tile_of(place) as usize].code(place)
+}
+
+#[inline(always)]
+fn way_out(tiling: &Tiling, flows: &[TileFlow], entry: Place) -> Option<Place>
+    requires count { length flows.now ≡ tile_count tiling.now }
+    requires within { IsWithin tiling.now entry }
+    ensures { result ≡ way_out_by tiling.now flows.now entry }
+{
+    flows[tiling.tile_of(entry) as usize].way_out(entry)
+}
+
+// Where the water of a number's cell enters another tile; None for a number that stands for no such cell.
+fn target_of(tiling: &Tiling, flows: &[TileFlow], number: u32) -> Option<Place>
+    requires count { length flows.now ≡ tile_count tiling.now }
+    requires number { number < number_count tiling.now }
+    ensures { result ≡ target_by tiling.now flows.now number }
+{
+    let place = rim_place(tiling, number);
+    if !stands_for(tiling, place, number) {
+        return None;
+    }
+    let next = next_from(tiling, flows, place);
+    if tiling.bounds(tiling.tile_of(place)).contains(next) {
+        None
+    } else {
+        Some(next)
+    }
+}
+
+// Where the water of each number's cell enters another tile.
+#[tactic(auto, using(crate::proofs::Windows::mapped_next))]
+fn rim_targets(
+    alloc: Global,
+    tiling: &Tiling,
+    flows: &[TileFlow],
+) -> Result<Vec<Option<Place>>, AllocError>
+    requires { (d : Directed) × AreFlowsOf d tiling.now flows.now }
+    ensures { IfOk result (λ v. v.items ≡ targets_by tiling.now flows.now) }
+{
+    let count = number_count(tiling);
+    let mut targets = Vec::with_capacity(alloc, count as usize)?;
+    for number in 0..count {
+        targets.push(target_of(tiling, flows, number))?;
+    }
+    Ok(targets)
+}
+
+// The number to which a number is linked: that of the exit over which its water leaves the next tile.
+fn link_of(tiling: &Tiling, flows: &[TileFlow], targets: &[Option<Place>], number: u32) -> u32
+    requires flows { (d : Directed) × AreFlowsOf d tiling.now flows.now }
+    requires targets { targets.now ≡ targets_by tiling.now flows.now }
+    requires number { number < number_count tiling.now }
+    ensures { result ≡ rim_link tiling.now flows.now number }
+{
+    let Some(entry) = targets[number as usize] else {
+        return number;
+    };
+    match way_out(tiling, flows, entry) {
+        Some(exit) => rim_number(tiling, exit),
+        None => number,
+    }
+}
+
+#[tactic(auto, using(crate::proofs::Windows::mapped_next))]
+fn rim_links(
+    alloc: Global,
+    tiling: &Tiling,
+    flows: &[TileFlow],
+    targets: &[Option<Place>],
+) -> Result<Vec<u32>, AllocError>
+    requires flows { (d : Directed) × AreFlowsOf d tiling.now flows.now }
+    requires targets { targets.now ≡ targets_by tiling.now flows.now }
+    ensures { IfOk result (λ v. v.items ≡ rim_links_by tiling.now flows.now) }
+{
+    let count = number_count(tiling);
+    let mut links = Vec::with_capacity(alloc, count as usize)?;
+    for number in 0..count {
+        links.push(link_of(tiling, flows, targets, number))?;
+    }
+    Ok(links)
+}

@@ -1,0 +1,35 @@
+-- Heights are within their limits.
+use Rattle.std.proofs.Common.{arith, ◌≡◌, ℤ, length, Option, None, Some, IfSome, inl, inr, refl, sym, ◌∙◌, pos, FitsSigned, w64, to_z, of_z}
+use Rattle.std.specs.Prelude.{unwrap_or}
+use Rattle.std.proofs.lemmas.Int.{ints, to_z-of_z}
+use Rattle.std.proofs.lemmas.Bool.{cases_lt}
+use Rattle.std.proofs.lemmas.List.{get_or_past}
+use Rattle.std.proofs.lemmas.List.Elements.{All-get_or}
+use Rattle.terrain.specs.Raster.{Terrain, IsTerrain, IsHeight}
+use Rattle.terrain.specs.Neighbours.{height_at, index_of}
+use Rattle.terrain.specs.declared.place.Place.{Place}
+use Rattle.terrain.proofs.Places.{inside_from_entry, entry-inside}
+use Rattle.sight.specs.Walk.{AreHeights}
+
+pub are_heights : (t : Terrain) → IsTerrain t → AreHeights t.cells
+are_heights t is i h at = elim (cases_lt i (length t.cells)) [
+  | inl within ↦ rw at at (All-get_or (λ (c : Option ℤ). IfSome c IsHeight) t.cells i None within is.heights)
+  | inr past ↦ let none = get_or_past t.cells i None past in absurd (cc)
+]
+
+pub height_is_height : (t : Terrain) (p : Place) (h : ℤ) → IsTerrain t → height_at t p ≡ Some h → IsHeight h
+height_is_height t p h is at =
+    let inside = inside_from_entry t.cols t.rows t.cells p h at in
+    are_heights t is (index_of t.cols p) h (sym (entry-inside t.cols t.rows t.cells p inside.0 inside.1) ∙ at)
+
+-- the ground of a cell, 0 where it has none
+pub ground_is_height : (height : Option ℤ) → ((h : ℤ) → height ≡ Some h → IsHeight h) → IsHeight (unwrap_or height (pos 0))
+ground_is_height None are = (omega (arith, ints), omega (arith, ints))
+ground_is_height (Some h) are = are h refl
+
+pub height_fits : (h : ℤ) → IsHeight h → FitsSigned w64 h
+height_fits h is = omega (arith, ints, is)
+
+-- a height as it is passed on
+pub kept : (h : ℤ) → IsHeight h → IsHeight (to_z w64 (of_z w64 h))
+kept h is = rw (to_z-of_z w64 h (height_fits h is)) is

@@ -1,0 +1,29 @@
+use Rattle.sight.specs.Sight.{is_seen}
+use Rattle.sight.specs.Walk.{is_open, walk_blocks}
+use Rattle.sight.proofs.Seen.{hidden_by_columns, seen_if_open}
+use Rattle.sight.proofs.Heights.{are_heights}
+use Rattle.sight.proofs.line.starts_open.Goals as goal
+
+pub returns-then-is_blocked_at_once : goal.returns-then-is_blocked_at_once
+returns-then-is_blocked_at_once c =
+    let t = c.args.grid.now.terrain in
+    let lines = c.in-Some.lines in
+    let are = c.in-Some.ensures in
+    hidden_by_columns (is_seen t c.args.observer.now c.args.target c.args.target_height c.args.radius) (walk_blocks t.cells lines.columns) (walk_blocks t.cells lines.rows) are.seen
+    (rw c.cells-cells.ensures.value at (c.is_blocked_at_once.ensures c.if-is_blocked_at_once.true))
+
+pub returns : goal.returns
+returns c =
+    let t = c.args.grid.now.terrain in
+    let o = c.args.observer.now in
+    let q = c.args.target in
+    let lines = c.in-Some.lines in
+    let are = c.in-Some.ensures in
+    seen_if_open (is_seen t o q c.args.target_height c.args.radius) (is_open t o q c.args.target_height) (walk_blocks t.cells lines.columns) (walk_blocks t.cells lines.rows) c.is_blocked_at_once-2.result are.seen are.reached
+    (λ yes. rw c.cells-cells.ensures.value at (c.is_blocked_at_once-2.ensures yes))
+
+pub is_blocked_at_once-requires-clause-heights : goal.is_blocked_at_once-requires-clause-heights
+is_blocked_at_once-requires-clause-heights c = rw c.cells-cells.ensures.value (are_heights c.args.grid.now.terrain c.cells-cells.ensures.lawful.terrain)
+
+pub is_blocked_at_once-requires-2-clause-heights : goal.is_blocked_at_once-requires-2-clause-heights
+is_blocked_at_once-requires-2-clause-heights c = rw c.cells-cells.ensures.value (are_heights c.args.grid.now.terrain c.cells-cells.ensures.lawful.terrain)

@@ -1,0 +1,37 @@
+-- What stands in a terrain are heights, and heights fit their type.
+use Rattle.std.proofs.Common.{◌≡◌, ℕ, ◌<◌, ◌≤◌, ◌^◌, ℤ, pos, negsuc, true, List, length, get_or, Option, None, Some, IfSome, sym, ◌∙◌, arith}
+use Rattle.std.specs.Prelude.{int_le, unsigned_abs}
+use Rattle.std.proofs.lemmas.Int.{fits_signed_from_abs}
+use Rattle.std.proofs.lemmas.Bool.{leb-true}
+use mir.Val.{SFits}
+use mir.Syntax.{Width, w64}
+use Rattle.std.specs.List.{All}
+use Rattle.std.proofs.lemmas.List.Elements.{All-get_or}
+use Rattle.std.proofs.lemmas.Option.{MatchOption-at_some}
+use Rattle.terrain.specs.Raster.{Terrain, IsTerrain, IsHeight, lowest, highest}
+use Rattle.terrain.specs.Neighbours.{height_at, index_of}
+use Rattle.terrain.specs.declared.place.Place.{Place}
+use Rattle.terrain.proofs.Places.{inside_from_entry, entry-inside, index_below}
+
+-- the width of a height
+abbrev pub height_width : Width
+height_width = w64
+
+height_abs : (z : ℤ) → int_le lowest z ≡ true → int_le z highest ≡ true → unsigned_abs z ≤ 10 ^ 15
+height_abs (pos n) low high = let k = leb-true n 1000000000000000 high in omega (arith, k)
+height_abs (negsuc n) low high = let k = leb-true n 999999999999999 low in omega (arith, k)
+
+-- a height fits
+pub height_fits : (z : ℤ) → int_le lowest z ≡ true → int_le z highest ≡ true → SFits height_width z
+height_fits z low high = fits_signed_from_abs height_width z (omega (arith, height_abs z low high))
+
+-- what stands in a list of heights
+pub listed_height : (cells : List (Option ℤ)) (i : ℕ) (h : ℤ) → All (λ c. IfSome c IsHeight) cells → i < length cells → get_or cells i None ≡ Some h → IsHeight h
+listed_height cells i h heights within e = MatchOption-at_some _ _ h e (All-get_or (λ (c : Option ℤ). IfSome c IsHeight) cells i None within heights)
+
+-- what stands at a place of a terrain
+pub height_in : (t : Terrain) (q : Place) (h : ℤ) → IsTerrain t → height_at t q ≡ Some h → IsHeight h
+height_in t q h lawful e =
+    let inside = inside_from_entry t.cols t.rows t.cells q h e in
+    listed_height t.cells (index_of t.cols q) h lawful.heights (omega (arith, lawful.size, index_below t.cols t.rows q inside.0 inside.1))
+    (sym (entry-inside t.cols t.rows t.cells q inside.0 inside.1) ∙ e)
