@@ -7,9 +7,7 @@ ghost use Rattle.ascii_grid.specs.Header.{is_size};
 ghost use Rattle.ascii_grid.specs.Plain.{IsPlain};
 
 use terrain::LONGEST_AXIS;
-
-/// One more than the greatest scaled value: numbers above it are kept as this.
-const OVER: u64 = 1_000_000_000_000_000_001;
+use terrain::digits::{OVER, all_digits, are_digits, digits_after};
 
 /// The most digits of a height in scaled units.
 const HEIGHT_DIGITS: usize = 16;
@@ -47,17 +45,6 @@ pub(crate) fn size(word: &[u8]) -> Option<u16>
     } else {
         None
     }
-}
-
-/// The number that one or more digits spell, where it fits 32 bits.
-pub fn whole_number(digits: &[u8]) -> Option<u32>
-    ensures { result ≡ (if are_digits digits.now && nat_lt (number_of digits.now) (2 ^ 32)
-        then Some (number_of digits.now) else None) }
-{
-    if !are_digits(digits) {
-        return None;
-    }
-    u32::try_from(digits_after(0, digits)).ok()
 }
 
 /// The word times 10^scale, where it is a whole number from -10^18 to 10^18.
@@ -218,12 +205,6 @@ fn point_at(word: &[u8]) -> Option<usize>
     word.iter().position(|b| *b == b'.')
 }
 
-fn are_digits(bytes: &[u8]) -> bool
-    ensures { result ≡ are_digits bytes.now }
-{
-    !bytes.is_empty() && all_digits(bytes)
-}
-
 #[tactic(auto, using(crate::proofs::Scaled::are_digits_joined))]
 fn are_digits_in_all(whole: &[u8], fraction: &[u8]) -> bool
     ensures { result ≡ are_digits (whole.now ++ fraction.now) }
@@ -233,12 +214,6 @@ fn are_digits_in_all(whole: &[u8], fraction: &[u8]) -> bool
     } else {
         all_digits(whole) && all_digits(fraction)
     }
-}
-
-fn all_digits(bytes: &[u8]) -> bool
-    ensures { result ≡ list_all is_ascii_digit bytes.now }
-{
-    bytes.iter().all(|b| b.is_ascii_digit())
 }
 
 fn only_zeros(bytes: &[u8]) -> bool
@@ -287,19 +262,6 @@ fn zeros_after(number: u64, zeros: usize) -> u64
     let mut value = number;
     for _ in 0..zeros {
         value = (10 * value).min(OVER);
-    }
-    value
-}
-
-// The number that these digits make after a number's own, not above OVER.
-fn digits_after(number: u64, digits: &[u8]) -> u64
-    requires { number ≤ OVER }
-    ensures small { result ≤ OVER }
-    ensures value { (n : ℕ) → number ≡ min n OVER → result ≡ min (fold (λ n b. 10 * n + (b - 48)) n digits.now) OVER }
-{
-    let mut value = number;
-    for b in digits {
-        value = (10 * value + u64::from(b.saturating_sub(b'0'))).min(OVER);
     }
     value
 }

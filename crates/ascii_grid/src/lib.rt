@@ -18,7 +18,6 @@ pub mod reader;
 pub mod write;
 
 pub use counted::{Counted, ReadFailed, WriteFailed};
-pub use decimal::whole_number;
 pub use fault::{GridFault, Key};
 pub use input::{InputFault, read_grid};
 pub use page::Page;

@@ -4,7 +4,7 @@ use Rattle.std.specs.declared.alloc.Global.{Global}
 use Rattle.clap.specs.Words.{Text}
 use Rattle.clap.specs.Faults.{fault_of}
 use Rattle.clap.specs.declared.error.kind.ErrorKind.TheVariants.{DisplayVersion}
-use Rattle.sight.specs.declared.observer.Observer.{Observer}
+use Rattle.terrain.specs.declared.observer.Observer.{Observer}
 use Rattle.request.specs.CommandLine.{AreRefused, AskForHelp, WishFor, program_app}
 use Rattle.request.specs.Wish.{Wish}
 use Rattle.request.specs.declared.map.Map.{Map}

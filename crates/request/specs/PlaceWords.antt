@@ -3,7 +3,7 @@ use Rattle.std.specs.Prelude.{ℕ, ◌^◌, Bool, ◌&&◌, ◌==◌, nat_lt, na
 use Rattle.std.specs.List.{slice_split}
 use Rattle.terrain.specs.Decimal.{are_digits, number_of}
 use Rattle.terrain.specs.declared.place.Place.{Place}
-use Rattle.sight.specs.declared.observer.Observer.{Observer}
+use Rattle.terrain.specs.declared.observer.Observer.{Observer}
 
 -- A whole number of 1 to 10 digits that fits 32 bits.
 abbrev pub is_number : List ℕ → Bool

@@ -1,4 +1,4 @@
-use sight::Observer;
+use terrain::Observer;
 
 /// Which map is asked for.
 #[derive(Drop)]

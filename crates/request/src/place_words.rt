@@ -4,9 +4,7 @@ ghost use Rattle.std.specs.List.{slice_split, position};
 ghost use Rattle.terrain.specs.Decimal.{number_of};
 ghost use Rattle.request.specs.PlaceWords.{is_number, observer_of, sink_of};
 
-use ascii_grid::whole_number;
-use sight::Observer;
-use terrain::Place;
+use terrain::{Observer, Place, whole_number};
 
 // The most digits of a number.
 const MOST_DIGITS: usize = 10;

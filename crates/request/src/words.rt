@@ -12,7 +12,7 @@ use crate::options::Options;
 use crate::place_words::{parse_observer, parse_sink};
 use crate::program::program;
 use clap::{ArgMatches, Error};
-use sight::Observer;
+use terrain::Observer;
 use std::alloc::{AllocError, Global};
 use terrain::Place;
 

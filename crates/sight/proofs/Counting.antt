@@ -14,7 +14,7 @@ use Rattle.tile_maps.specs.Maps.{index_within, AreMadeBelow}
 use Rattle.sight.specs.Sight.{is_seen, viewshed_value}
 use Rattle.sight.specs.Viewed.{value_at, HasValue, counted, AreAtMost}
 use Rattle.sight.specs.Marks.{AreMarked, TellsSeen}
-use Rattle.sight.specs.declared.observer.Observer.{Observer}
+use Rattle.terrain.specs.declared.observer.Observer.{Observer}
 
 -- the value of a place
 counted_yes : (h : Option ℤ) (n m : ℕ) → m ≡ n + 1 → counted (option_map (λ _. n) h) true ≡ option_map (λ _. m) h

@@ -10,7 +10,7 @@ use Rattle.tile_maps.specs.Maps.{index_within}
 use Rattle.tile_maps.proofs.TileLists.{within_injective, within_below}
 use Rattle.sight.specs.Walk.{is_open}
 use Rattle.sight.specs.Marks.{AreMarkedBelow, AreMarked, AreLeft, TellsSeen, TellsSeenIfOpen}
-use Rattle.sight.specs.declared.observer.Observer.{Observer}
+use Rattle.terrain.specs.declared.observer.Observer.{Observer}
 
 pub marked_more : (b : Bounds) (Says : Place → Bool → Type 0) (p : Place) (marks : List Bool) (i : ℕ) (x : Bool) → IsInBounds b p → i ≡ index_within b p → AreMarkedBelow b Says i marks → Says p x
     → AreMarkedBelow b Says (i + 1) (set marks i x)

@@ -8,7 +8,7 @@ use Rattle.tile_jobs.specs.declared.JobFault.{JobFault}
 use Rattle.tile_jobs.specs.declared.JobFault.TheVariants.{NoThread}
 use Rattle.sight.specs.Sight.{place_of}
 use Rattle.sight.specs.Refusals.{is_high, is_outside, place_fault_of, place_fault, observers_fault, RefusesSight}
-use Rattle.sight.specs.declared.observer.Observer.{Observer}
+use Rattle.terrain.specs.declared.observer.Observer.{Observer}
 use Rattle.sight.specs.declared.fault.SightFault.{SightFault}
 use Rattle.sight.specs.declared.fault.SightFault.TheVariants.{BadEye, Jobs, Outside, OnNodata, TooManyObservers, BadRadius}
 use Rattle.std.proofs.lemmas.Bool.{ltb-true, ltb-false, and_parts, or_parts, not-false}

@@ -5,7 +5,7 @@ use Rattle.terrain.specs.Ways.{places}
 use Rattle.terrain.specs.declared.place.Place.{Place}
 use Rattle.sight.specs.Sight.{viewshed_value, row_crossing, ground, sight, column_blocks}
 use Rattle.sight.specs.Refusals.{observers_fault}
-use Rattle.sight.specs.declared.observer.Observer.{Observer}
+use Rattle.terrain.specs.declared.observer.Observer.{Observer}
 use Rattle.sight.specs.declared.fault.SightFault.{SightFault}
 use Rattle.sight.specs.declared.fault.SightFault.TheVariants.{Outside, OnNodata, BadEye, BadRadius}
 

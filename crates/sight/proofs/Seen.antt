@@ -5,7 +5,7 @@ use Rattle.terrain.specs.Neighbours.{IsInside, height_at}
 use Rattle.terrain.specs.declared.place.Place.{Place}
 use Rattle.sight.specs.Sight.{is_near, is_seen, place_of}
 use Rattle.sight.specs.Walk.{walk_blocks, over_columns, over_rows, is_open, IsLevel, IsSightline, AreSightlines}
-use Rattle.sight.specs.declared.observer.Observer.{Observer}
+use Rattle.terrain.specs.declared.observer.Observer.{Observer}
 use Rattle.sight.proofs.Crossings.{column_blocks-walk, row_blocks-walk, columns_in_list, rows_in_list, walk_back}
 
 -- once both ends have heights and are near each other

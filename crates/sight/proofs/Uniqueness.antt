@@ -9,7 +9,7 @@ use Rattle.terrain.specs.declared.place.Place.{Place}
 use Rattle.terrain.proofs.Places.{entry-inside}
 use Rattle.sight.specs.Sight.{viewshed_value, IsViewshed}
 use Rattle.sight.specs.Viewed.{value_at, HasValue}
-use Rattle.sight.specs.declared.observer.Observer.{Observer}
+use Rattle.terrain.specs.declared.observer.Observer.{Observer}
 use Rattle.tiles.specs.Cutting.{Cutting, Cuts}
 use Rattle.tile_maps.specs.Maps.{IsMadeMap}
 use Rattle.tile_maps.proofs.Whole.{map_of_size}

@@ -7,7 +7,7 @@ use Rattle.tiles.specs.Cutting.{IsInBounds}
 use Rattle.tile_maps.specs.Maps.{index_within}
 use Rattle.sight.specs.Sight.{is_seen}
 use Rattle.sight.specs.Walk.{is_open}
-use Rattle.sight.specs.declared.observer.Observer.{Observer}
+use Rattle.terrain.specs.declared.observer.Observer.{Observer}
 
 -- The mark of a place.
 abbrev pub mark_at : Bounds → List Bool → Place → Bool

@@ -7,7 +7,7 @@ use Rattle.std.specs.Option.{option_map_or}
 use Rattle.terrain.specs.Raster.{Terrain}
 use Rattle.terrain.specs.Neighbours.{IsInside, height_at, entry_at, height_of}
 use Rattle.terrain.specs.declared.place.Place.{Place}
-use Rattle.sight.specs.declared.observer.Observer.{Observer}
+use Rattle.terrain.specs.declared.observer.Observer.{Observer}
 
 -- The limits: entries of a list of observers; an eye's and a target's height, in scaled units; a radius,
 -- in cells.

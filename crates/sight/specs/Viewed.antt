@@ -6,7 +6,7 @@ use Rattle.terrain.specs.Neighbours.{height_at}
 use Rattle.terrain.specs.declared.place.Place.{Place}
 use Rattle.sight.specs.Sight.{viewshed_value}
 use Rattle.sight.specs.Refusals.{observers_fault}
-use Rattle.sight.specs.declared.observer.Observer.{Observer}
+use Rattle.terrain.specs.declared.observer.Observer.{Observer}
 
 -- The viewshed value of a data cell, None where there is no data.
 abbrev pub value_at : Terrain → List Observer → ℕ → ℕ → Place → Option ℕ

@@ -8,7 +8,7 @@ use Rattle.std.specs.Option.{option_map_or}
 use Rattle.terrain.specs.Raster.{Terrain, IsHeight}
 use Rattle.terrain.specs.declared.place.Place.{Place}
 use Rattle.sight.specs.Sight.{toward, sight, column_blocks, row_blocks, is_seen, place_of}
-use Rattle.sight.specs.declared.observer.Observer.{Observer}
+use Rattle.terrain.specs.declared.observer.Observer.{Observer}
 use Rattle.sight.specs.declared.line.Sightlines.{Sightlines}
 use Rattle.sight.specs.declared.walk.Axis.{Axis}
 use Rattle.sight.specs.declared.walk.Sightline.{Sightline}

@@ -2,7 +2,7 @@
 ghost use Rattle.std.specs.Prelude.{◌≡◌, ℕ, List, Option};
 ghost use Rattle.terrain.specs.Raster.{Terrain};
 ghost use Rattle.sight.specs.Sight.{CrossingsAreOnTheLine, IsViewshed};
-ghost use Rattle.sight.specs.declared.observer.Observer.{Observer};
+ghost use Rattle.terrain.specs.declared.observer.Observer.{Observer};
 
 /// However a grid is cut and whoever does the work, there is one viewshed.
 pub fn viewsheds_are_one()

@@ -15,7 +15,6 @@ pub mod line;
 mod line_ground;
 mod looking;
 mod marking;
-pub mod observer;
 mod passing;
 mod ranks;
 mod reach;
@@ -30,5 +29,5 @@ mod window;
 
 pub use fault::SightFault;
 pub use line::sees;
-pub use observer::Observer;
+pub use terrain::Observer;
 pub use viewing::viewshed;

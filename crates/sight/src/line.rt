@@ -7,7 +7,7 @@ ghost use Rattle.sight.specs.Walk.{AreHeights, IsLevel, IsSightline, IsOver, Are
 ghost use Rattle.sight.specs.Marks.{TellsSeenIfOpen};
 ghost use Rattle.sight.specs.Blocks.{AreTops, IsPeak};
 
-use crate::observer::Observer;
+use terrain::Observer;
 use crate::passing::{BlockStrides, is_blocked_past_blocks};
 use crate::reach::is_in_reach;
 use crate::tops::blocks_in;

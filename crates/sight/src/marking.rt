@@ -6,7 +6,7 @@ ghost use Rattle.sight.specs.Sight.{highest_eye, place_of};
 ghost use Rattle.sight.specs.Marks.{AreMarkedBelow, AreMarked, TellsSeen, TellsSeenIfOpen};
 
 use crate::line::{may_see, sees_past_blocks, starts_open};
-use crate::observer::Observer;
+use terrain::Observer;
 use crate::tile::Viewing;
 use std::alloc::{AllocError, Global};
 use terrain::Place;

@@ -13,7 +13,7 @@ ghost use Rattle.sight.specs.Marks.{AreLeft};
 use crate::family::{Family, Lines, Side, height_at};
 use crate::hiding::hide;
 use crate::line::level;
-use crate::observer::Observer;
+use terrain::Observer;
 use crate::tile::Viewing;
 use crate::window::{Run, Window};
 use std::alloc::{AllocError, Global};

@@ -6,7 +6,7 @@ ghost use Rattle.sight.specs.Refusals.{RefusesSight, observers_fault};
 
 use crate::fault::SightFault;
 use crate::judging::first_fault;
-use crate::observer::Observer;
+use terrain::Observer;
 use crate::tile::Viewing;
 use crate::tops::{block_tops, peak_of};
 use std::alloc::Global;

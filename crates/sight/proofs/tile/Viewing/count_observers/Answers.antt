@@ -3,7 +3,7 @@ use Rattle.std.proofs.lemmas.Bool.{OnFalse_at}
 use Rattle.std.proofs.lemmas.List.{take_all}
 use Rattle.tile_maps.specs.Maps.{AreMadeBelow}
 use Rattle.sight.specs.Viewed.{HasValue}
-use Rattle.sight.specs.declared.observer.Observer.{Observer}
+use Rattle.terrain.specs.declared.observer.Observer.{Observer}
 use Rattle.sight.proofs.Refused.{lawful_from}
 use Rattle.sight.proofs.Counting.{looked, passed, few}
 use Rattle.sight.proofs.tile.Viewing.count_observers.Goals as goal
