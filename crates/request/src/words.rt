@@ -12,9 +12,8 @@ use crate::options::Options;
 use crate::place_words::{parse_observer, parse_sink};
 use crate::program::program;
 use clap::{ArgMatches, Error};
-use terrain::Observer;
 use std::alloc::{AllocError, Global};
-use terrain::Place;
+use terrain::{Observer, Place};
 
 static NAME_ALONE: [&str; 1] = ["relief"];
 

@@ -5,8 +5,7 @@ ghost use Rattle.sight.specs.Sight.{most_observers};
 ghost use Rattle.sight.specs.Refusals.{is_high, place_fault, place_fault_of, observers_fault};
 
 use crate::fault::SightFault;
-use terrain::Observer;
-use terrain::{Grid, Place};
+use terrain::{Grid, Observer, Place};
 
 const MOST_OBSERVERS: usize = 1_024;
 

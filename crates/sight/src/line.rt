@@ -7,12 +7,11 @@ ghost use Rattle.sight.specs.Walk.{AreHeights, IsLevel, IsSightline, IsOver, Are
 ghost use Rattle.sight.specs.Marks.{TellsSeenIfOpen};
 ghost use Rattle.sight.specs.Blocks.{AreTops, IsPeak};
 
-use terrain::Observer;
 use crate::passing::{BlockStrides, is_blocked_past_blocks};
 use crate::reach::is_in_reach;
 use crate::tops::blocks_in;
 use crate::walk::{Axis, Pace, Sightline, is_blocked, is_blocked_between};
-use terrain::{Grid, Height, Place};
+use terrain::{Grid, Height, Observer, Place};
 
 /// How high an eye or a target stands.
 #[inline(always)]

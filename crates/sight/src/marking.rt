@@ -6,10 +6,9 @@ ghost use Rattle.sight.specs.Sight.{highest_eye, place_of};
 ghost use Rattle.sight.specs.Marks.{AreMarkedBelow, AreMarked, TellsSeen, TellsSeenIfOpen};
 
 use crate::line::{may_see, sees_past_blocks, starts_open};
-use terrain::Observer;
 use crate::tile::Viewing;
 use std::alloc::{AllocError, Global};
-use terrain::Place;
+use terrain::{Observer, Place};
 use tiles::Bounds;
 
 /// How many cells of a tile are asked before it is looked at, and how many crossings of each line of sight.

@@ -13,11 +13,10 @@ ghost use Rattle.sight.specs.Marks.{AreLeft};
 use crate::family::{Family, Lines, Side, height_at};
 use crate::hiding::hide;
 use crate::line::level;
-use terrain::Observer;
 use crate::tile::Viewing;
 use crate::window::{Run, Window};
 use std::alloc::{AllocError, Global};
-use terrain::{Height, Place};
+use terrain::{Height, Observer, Place};
 use tiles::Bounds;
 
 impl Family {

@@ -11,10 +11,9 @@ ghost use Rattle.terrain.specs.Raster.{IsHeight};
 ghost use Rattle.sight.specs.Sight.{is_seen, most_observers, place_of};
 ghost use Rattle.sight.specs.Viewed.{value_at, HasValue, counted, AreAtMost, IsFaultless};
 
-use terrain::Observer;
 use crate::reach::is_any_in_reach;
 use std::alloc::{AllocError, Global};
-use terrain::{Grid, Height, NoMemory, Place};
+use terrain::{Grid, Height, NoMemory, Observer, Place};
 use tile_maps::TileMap;
 use tiles::{Bounds, Tiling};
 

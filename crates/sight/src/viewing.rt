@@ -6,13 +6,12 @@ ghost use Rattle.sight.specs.Refusals.{RefusesSight, observers_fault};
 
 use crate::fault::SightFault;
 use crate::judging::first_fault;
-use terrain::Observer;
 use crate::tile::Viewing;
 use crate::tops::{block_tops, peak_of};
 use std::alloc::Global;
 use std::sync::Wait;
 use std::thread::Threads;
-use terrain::Grid;
+use terrain::{Grid, Observer};
 use tile_jobs::{Gate, JobFault, MOST_WORKERS};
 use tile_maps::Crew;
 use tiles::Tiling;
