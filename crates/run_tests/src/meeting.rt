@@ -114,7 +114,7 @@ fn tiles_meet_at_each_stage(rt: HostRuntime) {
     let (pit, tiling) = cut(&rt, alloc, PITS, 2);
     let gate = Meeting::new();
     let level = filled(&rt, alloc, &pit, &tiling, 2, &gate).expect(&rt, "levels");
-    gate.expect(&rt, 4, 4, "filled");
+    gate.expect(&rt, 3, 4, "filled");
     let ways = directions(&rt, alloc, &level, &tiling, 2, &NoGate).expect(&rt, "ways");
     let gate = Meeting::new();
     assert!(rt; accumulation(&rt, alloc, &ways, &tiling, 2, &gate).is_ok());
@@ -136,7 +136,7 @@ fn tiles_with_inner_cells_meet(rt: HostRuntime) {
     let gate = Meeting::new();
     let level = filled(&rt, alloc, &valley, &tiling, 2, &gate);
     assert!(rt; level.is_ok());
-    gate.expect(&rt, 4, 2, "filled");
+    gate.expect(&rt, 3, 2, "filled");
 }
 
 // After the first counts and the first round, a round has a job for each tile into which a count comes; then come codes.
@@ -224,7 +224,7 @@ fn tiles_meet(rt: HostRuntime) {
     for (map, stages, rows) in [
         (
             Map::Fill,
-            4,
+            3,
             "
 9 9 9 9 9 9 1 9 9 9
 9 9 9 1 1 1 1 9 9 9
@@ -235,7 +235,7 @@ fn tiles_meet(rt: HostRuntime) {
         ),
         (
             Map::Flow,
-            8,
+            7,
             "
 0 0 2 4 4 1 0 16 0 0
 0 1 1 1 1 128 64 16 1 0
@@ -246,7 +246,7 @@ fn tiles_meet(rt: HostRuntime) {
         ),
         (
             Map::Accumulate,
-            10,
+            9,
             "
 0 0 0 0 0 0 12 0 0 0
 0 0 1 4 6 7 1 0 0 1
@@ -257,7 +257,7 @@ fn tiles_meet(rt: HostRuntime) {
         ),
         (
             Map::Basins,
-            11,
+            10,
             "
 1 2 3 3 3 3 3 3 4 5
 6 3 3 3 3 3 3 3 7 7
