@@ -9,7 +9,14 @@ use Rattle.std.proofs.lemmas.List.Elements.{filter_map-append, All-cons, All-nil
 use Rattle.floods.specs.declared.net.Spill.{Spill}
 use Rattle.floods.specs.Walk.{HasJust}
 use Rattle.floods.specs.Cells.{Cells, cell_of, IsBeside, IsCellJoin, cells_around, way_to}
-use Rattle.floods.proofs.Steps.{seen}
+use Rattle.std.specs.Prelude.{◌≤ℤ◌}
+use Rattle.std.proofs.lemmas.Int.{ints, clamps}
+use Rattle.drainage.proofs.Heights.{trans}
+use Rattle.floods.specs.declared.queue.Waiting.{Waiting}
+use Rattle.floods.specs.Flood.{entry_of, MakesWait, AreNoted}
+use Rattle.floods.proofs.Noting.{passed_low}
+use Rattle.floods.proofs.Noting.{no_ways as no_ways_yet}
+use Rattle.floods.proofs.Steps.{seen, le_of_same}
 use Rattle.floods.proofs.Heaps.{cons_head, cons_tail, cons_cases, all_by_contains}
 
 -- what a list gives, and from what
@@ -120,3 +127,15 @@ read_eight xs eight = grind (arith, elements)
 pub eight_given : {Y : Type 0} (f : ℕ → Option Y) (xs : List ℕ) (a b c d e g h i : Y) → length xs ≡ 8 → f (get_or xs 0 0) ≡ Some a → f (get_or xs 1 0) ≡ Some b → f (get_or xs 2 0) ≡ Some c → f (get_or xs 3 0) ≡ Some d → f (get_or xs 4 0) ≡ Some e → f (get_or xs 5 0) ≡ Some g → f (get_or xs 6 0) ≡ Some h → f (get_or xs 7 0) ≡ Some i → a ∷ b ∷ c ∷ d ∷ e ∷ g ∷ h ∷ i ∷ [] ≡ filter_map f xs
 eight_given f xs a b c d e g h i eight first second third fourth fifth sixth seventh eighth =
     rw (read_eight xs eight) (rw (first, second, third, fourth, fifth, sixth, seventh, eighth) refl)
+
+-- the crest by a way, of the two heights and the level
+pub crest_by : (other height level : ℤ) → int_max other (int_max height level) ≡ int_max (int_max other height) level
+crest_by other height level = omega (arith, ints, clamps)
+
+-- a cell that has been noted as low needs no way
+pub no_higher_way : (cells : List (Option ℤ)) (labels : List (Option ℕ)) (levels : List (Option ℤ)) (from : Waiting) (to : ℕ) (height crest : ℤ) (waiting : List Waiting) → AreNoted labels levels waiting → ((h : ℤ) → get_or cells to None ≡ Some h → crest ≡ int_max h (int_max height from.height.0)) → (l : ℤ) × (entry_of levels to ≡ Some l) × (l ≤ℤ crest) → MakesWait labels from (cons_option (way_to cells height to) []) waiting waiting
+no_higher_way cells labels levels from to height crest waiting noted is low = elim (seen (get_or cells to None)) [
+  | inl none ↦ subst (λ o. MakesWait labels from (cons_option o []) waiting waiting) (sym (way_none cells height to none)) (no_ways_yet labels from waiting)
+  | inr found ↦ subst (λ o. MakesWait labels from (cons_option o []) waiting waiting) (sym (way_some cells height to found.0 found.1))
+      (passed_low labels levels from (record { to = to; height = int_max found.0 height }) waiting low.0 noted low.1 (trans _ _ _ low.2 (le_of_same _ _ (is found.0 found.1 ∙ crest_by found.0 height from.height.0))))
+]

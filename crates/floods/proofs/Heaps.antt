@@ -5,7 +5,7 @@ use Rattle.std.specs.List.{Contains, All}
 use Rattle.floods.specs.Walk.{Joins, Sources, IsWalk, crest, end_of, IsLevel}
 use Rattle.floods.specs.Flood.{entry_of, IsDone, SomeWaits, TakesLowest, PutsIn, HasNone, SourcesWait, HasSourcesNoted}
 use Rattle.floods.specs.declared.net.Spill.{Spill}
-use Rattle.floods.specs.declared.flooding.Waiting.{Waiting}
+use Rattle.floods.specs.declared.queue.Waiting.{Waiting}
 use Rattle.std.proofs.lemmas.Int.{ints}
 use Rattle.std.proofs.lemmas.Bool.{cases_eq}
 use Rattle.std.proofs.lemmas.List.{get_or-set_same, get_or-set_other}

@@ -1,3 +1,6 @@
+-- what is noted of nodes
+pub mod HeightLists
+pub mod LabelNumbers
 -- the flood of a net
 pub mod Steps
 pub mod Heaps

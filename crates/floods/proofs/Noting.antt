@@ -14,7 +14,7 @@ use Rattle.std.proofs.lemmas.List.Elements.{All-contains, All-contains_itself, C
 use Rattle.std.proofs.Math.Seq.{take-append_seam}
 use Rattle.std.proofs.lemmas.Option.{same_Some}
 use Rattle.floods.specs.declared.net.Spill.{Spill}
-use Rattle.floods.specs.declared.flooding.Waiting.{Waiting}
+use Rattle.floods.specs.declared.queue.Waiting.{Waiting}
 use Rattle.floods.specs.Walk.{Sources}
 use Rattle.floods.specs.Flood.{AreOwn, PutsIn, entry_of, SomeWaits, ComesBy, waiting_by, MakesWait, AreNoted, KeepsDone}
 use Rattle.floods.proofs.Heaps.{all_by_contains, cons_head, cons_tail, held_in, held_cases, one_held}
@@ -112,31 +112,31 @@ no_ways labels from waiting = record {
   reached = λ k d below. absurd (omega (arith, below));
 }
 
--- one more way
-pub way_more : (labels : List (Option ℕ)) (from : Waiting) (ways : List Spill) (i : ℕ) (d : Spill) (old now new : List Waiting) → i < length ways → MakesWait labels from (take i ways) old now → MakesWait labels from (get_or ways i d ∷ []) now new → MakesWait labels from (take (i + 1) ways) old new
-way_more labels from ways i d old now new below s t = subst (λ z. MakesWait labels from z old new) (sym (take_more ways i d below)) (record {
+-- some ways, and others after them
+pub more_ways : (labels : List (Option ℕ)) (from : Waiting) (ways last : List Spill) (old now new : List Waiting) → MakesWait labels from ways old now → MakesWait labels from last now new → MakesWait labels from (ways ++ last) old new
+more_ways labels from ways last old now new s t = record {
   kept = all_by_contains (Contains new) old (λ y h. All-contains (Contains new) now y t.kept (All-contains (Contains now) old y s.kept h));
-  made = all_by_contains (λ y. Contains old y ⊎ ComesBy from joined y) new (λ y h.
+  made = all_by_contains (λ y. Contains old y ⊎ ComesBy from (ways ++ last) y) new (λ y h.
       elim (All-contains (λ z. Contains now z ⊎ ComesBy from last z) new y t.made h) [
-        | inl held ↦ elim (All-contains (λ z. Contains old z ⊎ ComesBy from (take i ways) z) now y s.made held) [
+        | inl held ↦ elim (All-contains (λ z. Contains old z ⊎ ComesBy from ways z) now y s.made held) [
           | inl was ↦ inl was
-          | inr by ↦ inr (by.0, Contains-append_left (take i ways) last by.0 by.1, by.2)
+          | inr by ↦ inr (by.0, Contains-append_left ways last by.0 by.1, by.2)
         ]
-        | inr by ↦ inr (by.0, Contains-append_right (take i ways) last by.0 by.1, by.2)
+        | inr by ↦ inr (by.0, Contains-append_right ways last by.0 by.1, by.2)
       ]);
-  reached = all_by_contains (λ y. entry_of labels y.to ≡ None → SomeWaits new y.to (int_max y.height from.height.0)) joined (λ y h none.
-      elim (Contains-append_cases (take i ways) last y h) [
+  reached = all_by_contains (λ y. entry_of labels y.to ≡ None → SomeWaits new y.to (int_max y.height from.height.0)) (ways ++ last) (λ y h none.
+      elim (Contains-append_cases ways last y h) [
         | inl early ↦
-            let x = All-contains (λ z. entry_of labels z.to ≡ None → SomeWaits now z.to (int_max z.height from.height.0)) (take i ways) y s.reached early none in
+            let x = All-contains (λ z. entry_of labels z.to ≡ None → SomeWaits now z.to (int_max z.height from.height.0)) ways y s.reached early none in
             (x.0, All-contains (Contains new) now x.0 t.kept x.1, x.2, x.3)
         | inr late ↦ All-contains (λ z. entry_of labels z.to ≡ None → SomeWaits new z.to (int_max z.height from.height.0)) last y t.reached late none
       ]);
-}) where
-  last : List Spill
-  last = get_or ways i d ∷ []
+}
 
-  joined : List Spill
-  joined = take i ways ++ last
+-- one more way
+pub way_more : (labels : List (Option ℕ)) (from : Waiting) (ways : List Spill) (i : ℕ) (d : Spill) (old now new : List Waiting) → i < length ways → MakesWait labels from (take i ways) old now → MakesWait labels from (get_or ways i d ∷ []) now new → MakesWait labels from (take (i + 1) ways) old new
+way_more labels from ways i d old now new below s t =
+    subst (λ z. MakesWait labels from z old new) (sym (take_more ways i d below)) (more_ways labels from (take i ways) (get_or ways i d ∷ []) old now new s t)
 
 -- a slice of a whole list, written back
 pub written_back : {X : Type 0} (n : ℕ) (xs items : List X) → length xs ≡ n → take n (xs ++ drop (length xs) items) ≡ xs

@@ -9,8 +9,8 @@ use Rattle.std.proofs.lemmas.Option.{same_Some}
 use Rattle.std.proofs.lemmas.Bool.{cases_eq, cases_lt}
 use Rattle.drainage.proofs.Heights.{max_right, trans}
 use Rattle.floods.specs.declared.net.Spill.{Spill}
-use Rattle.floods.specs.declared.flooding.Waiting.{Waiting}
-use Rattle.floods.specs.Walk.{Joins, Sources, IsWalk, crest, IsLevel, HasNoWalk, IsFlooded, HasJust}
+use Rattle.floods.specs.declared.queue.Waiting.{Waiting}
+use Rattle.floods.specs.Walk.{Joins, Sources, IsWalk, crest, end_of, IsLevel, HasNoWalk, IsFlooded, HasJust}
 use Rattle.floods.specs.Flood.{entry_of, IsDone, TakesLowest, waiting_by, SourcesWait, HasSourcesNoted, AreOwn, SomeWaits, ComesBy, MakesWait, AreNoted, KeepsDone}
 use Rattle.floods.proofs.Heaps.{HasWalk, IsFlooding, all_by_contains, replicated}
 
@@ -212,3 +212,8 @@ own_still source labels levels old new w level label below s t = record {
       let was = s.low a h (omega (arith, inside, length-set labels w.node (Some label))) is (sym (get_or-set_other labels w.node a (Some label) None n) ∙ none) in
       (was.0, get_or-set_other levels w.node a (Some level) None n ∙ was.1, was.2);
 }
+
+-- a walk ends at a node of the net
+pub ends_inside : (joins : Joins) (source : Sources) (nodes : ℕ) → ((a b : ℕ) (h : ℤ) → joins a b h → b < nodes) → (walk : List Spill) (a : ℕ) → a < nodes → IsWalk joins source a walk → end_of a walk < nodes
+ends_inside joins source nodes inside [] a below walk = below
+ends_inside joins source nodes inside (step ∷ rest) a below walk = ends_inside joins source nodes inside rest step.to (inside a step.to step.height walk.0) walk.1

@@ -10,7 +10,7 @@ use Rattle.std.proofs.lemmas.Int.{ints, by_lt_z}
 use Rattle.std.proofs.lemmas.List.{map-set, set-get_or, get_or-map, get_or-set_same, get_or-set_other, length-set}
 use Rattle.std.proofs.lemmas.List.Elements.{All-contains, All-from_recursion, All-weaker, All-append, All-push, All-pop, Contains-append_left, Contains-append_right, Contains-append_cases}
 use Rattle.std.proofs.lemmas.List.Sorted.{IsPermutation-sym, IsPermutation-trans, IsPermutation-to_front, IsPermutation-middle, IsPermutation-append_left, IsPermutation-append_right}
-use Rattle.floods.specs.declared.flooding.Waiting.{Waiting}
+use Rattle.floods.specs.declared.queue.Waiting.{Waiting}
 use Rattle.floods.specs.Flood.{waiting_order, entries_of, all_entries, AreOrdered, IsListed, PutsIn, HasNone}
 use Rattle.floods.proofs.Heaps.{all_by_contains, replicated}
 

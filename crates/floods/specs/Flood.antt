@@ -2,8 +2,8 @@
 use Rattle.std.specs.Prelude.{◌≡◌, ℕ, ◌<◌, ◌≤◌, ◌⊎◌, ℤ, pos, ◌+ℤ◌, ◌≤ℤ◌, List, [], ◌∷◌, ◌++◌, map, length, Option, None, Some, IsSome, slice_index_or}
 use Rattle.std.specs.Ordering.{int_cmp}
 use Rattle.std.specs.declared.cmp.Ordering.{Ordering}
-use Rattle.floods.specs.declared.flooding.Waiting.{Waiting}
-use Rattle.floods.specs.declared.flooding.Waits.{Waits}
+use Rattle.floods.specs.declared.queue.Waiting.{Waiting}
+use Rattle.floods.specs.declared.queue.Waits.{Waits}
 use Rattle.std.specs.declared.vec.Vec.{Vec}
 use Rattle.std.specs.BinaryHeap.{IsHeap, heap_items}
 use Rattle.std.specs.Int.{int_max}

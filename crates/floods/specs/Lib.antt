@@ -1,4 +1,5 @@
 pub mod Walk
 pub mod Flood
+pub mod Notes
 pub mod Cells
 pub mod CellJoins

@@ -1,14 +1,20 @@
 // A rectangle of cells as a net.
 ghost use Rattle.std.specs.Prelude.{◌≡◌, None, ◌+◌, ◌-◌, ◌*◌, ◌^◌, ◌<◌, ◌≤◌, ◌∷◌, ◌++◌, [], ℕ, ℤ, length, All, IfOk, IfSome, OnOk, is_none, slice_index_or, replicate};
-ghost use Rattle.std.specs.List.{list_any, filter_map};
+ghost use Rattle.std.specs.List.{list_any, filter_map, cons_option};
+ghost use Rattle.floods.specs.Walk.{Sources};
+ghost use Rattle.floods.specs.Flood.{waiting_in, InOrder, MakesWait, AreOwn, AreNoted, KeepsDone};
 ghost use Rattle.terrain.specs.Sinks.{with_sinks};
 ghost use Rattle.floods.specs.Cells.{Cells, cells_around, way_to, whole, IsNetOf, IsCellJoin, source_of, bordered_rows, inner_rows, row_of};
 ghost use Rattle.tiles.specs.Cutting.{bounds_of, row_shown, terrain_of};
 
+use crate::heights::HeightList;
 use crate::net::{Net, Spill};
+use crate::node_labels::NodeLabels;
+use crate::queue::{Waiting, Waits, push_way};
 use crate::sinks::{is_sink, window_sinks};
 use smallvec::SmallVec;
 use std::alloc::{AllocError, Global};
+use std::cmp::Reverse;
 use std::marker::Model;
 use terrain::{Grid, Height, NoMemory, Place};
 use tiles::{Bounds, TileView};
@@ -19,7 +25,7 @@ use tiles::{Bounds, TileView};
 #[derive(Drop)]
 pub struct CellNet {
     stride: u32,
-    cells: Vec<Option<Height>>,
+    cells: HeightList,
     sinks: Vec<bool>,
 }
 
@@ -28,9 +34,9 @@ impl Model for CellNet {
 
     ghost Value = { Cells };
 
-    ghost view = { λ n. record { stride = n.stride; cells = n.cells.items; sinks = n.sinks.items } };
+    ghost view = { λ n. record { stride = n.stride; cells = n.cells; sinks = n.sinks.items } };
 
-    ghost invariant = { λ n. IsBordered (record { stride = n.stride; cells = n.cells.items; sinks = n.sinks.items }) };
+    ghost invariant = { λ n. IsBordered (record { stride = n.stride; cells = n.cells; sinks = n.sinks.items }) };
 }
 
 /// The eight cells around one that is not on the border.
@@ -56,49 +62,30 @@ fn around(stride: u32, node: u32) -> [u32; 8]
 
 /// Whether one of these cells has no data.
 #[inline(always)]
-fn any_gap(cells: &[Option<Height>], around: &[u32; 8]) -> bool
+fn any_gap(cells: &HeightList, around: &[u32; 8]) -> bool
     requires { All (λ b. b < length cells.now) around.now }
     ensures { result ≡ list_any (λ b. is_none (slice_index_or cells.now b None)) around.now }
 {
-    around.iter().any(|&node| cells[node as usize].is_none())
+    around.iter().any(|&node| !cells.has(node))
 }
 
 /// The way from a cell of this height to another one, where that has data.
 #[inline(always)]
-fn way_to(cells: &[Option<Height>], height: Height, to: u32) -> Option<Spill>
+fn way_to(cells: &HeightList, height: Height, to: u32) -> Option<Spill>
     requires { to < length cells.now }
     ensures { result ≡ way_to cells.now height to }
 {
-    let other = cells[to as usize]?;
+    let other = cells.at(to as usize)?;
     Some(Spill {
         to,
         height: other.max(height),
     })
 }
 
-/// The ways from a cell of this height to the eight around it, where all have data.
-#[inline(always)]
-fn all_ways(cells: &[Option<Height>], height: Height, around: [u32; 8]) -> Option<[Spill; 8]>
-    requires { All (λ b. b < length cells.now) around }
-    ensures { IfSome result (λ ways. ways ≡ filter_map (way_to cells.now height) around) }
-{
-    let [a, b, c, d, e, f, g, h] = around;
-    Some([
-        way_to(cells, height, a)?,
-        way_to(cells, height, b)?,
-        way_to(cells, height, c)?,
-        way_to(cells, height, d)?,
-        way_to(cells, height, e)?,
-        way_to(cells, height, f)?,
-        way_to(cells, height, g)?,
-        way_to(cells, height, h)?,
-    ])
-}
-
 /// The ways from a cell of this height to those of the cells around it that have data.
-fn some_ways(
+fn ways_to(
     alloc: Global,
-    cells: &[Option<Height>],
+    cells: &HeightList,
     height: Height,
     around: [u32; 8],
 ) -> SmallVec<Spill, 8>
@@ -114,21 +101,67 @@ fn some_ways(
     ways
 }
 
-/// The ways from a cell of this height to those of the cells around it that have data.
+/// Makes one of the cells around a cell of this height wait, where it has data and no label yet and does not wait as low.
 #[inline(always)]
-fn ways_to(
-    alloc: Global,
-    cells: &[Option<Height>],
+fn push_cell(
+    waits: &mut Waits,
+    cells: &HeightList,
+    to: u32,
     height: Height,
-    around: [u32; 8],
-) -> SmallVec<Spill, 8>
-    requires { All (λ b. b < length cells.now) around }
-    ensures { result.items ≡ filter_map (way_to cells.now height) around }
+    from: &Waiting,
+    labels: &NodeLabels,
+    levels: &mut HeightList,
+) -> Result<(), AllocError>
+    requires order { InOrder waits.old }
+    requires cell { to < length cells.now }
+    requires inside { to < length labels.now }
+    requires noted { AreNoted labels.now levels.old (waiting_in waits.old) }
+    ensures order { OnOk result (InOrder waits.new) }
+    ensures noted { OnOk result (AreNoted labels.now levels.new (waiting_in waits.new)) }
+    ensures kept { OnOk result (KeepsDone labels.now levels.old levels.new) }
+    ensures own { OnOk result ((source : Sources) → AreOwn source labels.now levels.old (waiting_in waits.old) →
+        AreOwn source labels.now levels.new (waiting_in waits.new)) }
+    ensures waits { OnOk result (MakesWait labels.now from.now (cons_option (way_to cells.now height to) [])
+        (waiting_in waits.old) (waiting_in waits.new)) }
 {
-    match all_ways(cells, height, around) {
-        Some(ways) => SmallVec::from_buf(alloc, ways),
-        None => some_ways(alloc, cells, height, around),
+    // Most cells around have been noted no higher, which needs no look at whether they have data.
+    let Reverse(level) = from.height;
+    if levels.is_no_higher(to, cells.raised(to, height.max(level))) {
+        return Ok(());
     }
+    let Some(way) = way_to(cells, height, to) else {
+        return Ok(());
+    };
+    push_way(waits, way, from, labels, levels)
+}
+
+/// Makes those of the cells around a cell of this height wait that have data and no label yet and do not wait as low.
+#[inline(always)]
+fn push_around(
+    waits: &mut Waits,
+    cells: &HeightList,
+    around: [u32; 8],
+    height: Height,
+    from: &Waiting,
+    labels: &NodeLabels,
+    levels: &mut HeightList,
+) -> Result<(), AllocError>
+    requires order { InOrder waits.old }
+    requires cells { All (λ b. b < length cells.now) around }
+    requires inside { length labels.now ≡ length cells.now }
+    requires noted { AreNoted labels.now levels.old (waiting_in waits.old) }
+    ensures order { OnOk result (InOrder waits.new) }
+    ensures noted { OnOk result (AreNoted labels.now levels.new (waiting_in waits.new)) }
+    ensures kept { OnOk result (KeepsDone labels.now levels.old levels.new) }
+    ensures own { OnOk result ((source : Sources) → AreOwn source labels.now levels.old (waiting_in waits.old) →
+        AreOwn source labels.now levels.new (waiting_in waits.new)) }
+    ensures waits { OnOk result (MakesWait labels.now from.now (filter_map (way_to cells.now height) around)
+        (waiting_in waits.old) (waiting_in waits.new)) }
+{
+    for to in around {
+        push_cell(waits, cells, to, height, from, labels, levels)?;
+    }
+    Ok(())
 }
 
 impl Net for CellNet {
@@ -153,15 +186,39 @@ impl Net for CellNet {
 
     #[inline]
     fn neighbours(&self, alloc: Global, node: u32) -> Result<SmallVec<Spill, 8>, NoMemory> {
-        let Some(height) = self.cells[node as usize] else {
+        let Some(height) = self.cells.at(node as usize) else {
             return Ok(SmallVec::new(alloc));
         };
         Ok(ways_to(alloc, &self.cells, height, around(self.stride, node)))
     }
 
     #[inline]
+    fn spread(
+        &self,
+        _alloc: Global,
+        waits: &mut Waits,
+        from: &Waiting,
+        labels: &NodeLabels,
+        levels: &mut HeightList,
+    ) -> Result<(), NoMemory> {
+        let Some(height) = self.cells.at(from.node as usize) else {
+            return Ok(());
+        };
+        push_around(
+            waits,
+            &self.cells,
+            around(self.stride, from.node),
+            height,
+            from,
+            labels,
+            levels,
+        )?;
+        Ok(())
+    }
+
+    #[inline]
     fn source(&self, node: u32) -> Option<Height> {
-        let height = self.cells[node as usize]?;
+        let height = self.cells.at(node as usize)?;
         if any_gap(&self.cells, &around(self.stride, node)) || is_sink(&self.sinks, node) {
             Some(height)
         } else {
@@ -170,26 +227,12 @@ impl Net for CellNet {
     }
 }
 
-/// Adds cells without data.
+/// The list with a row more, which has a cell without data at either end.
 #[inline]
-fn push_empty(cells: &mut Vec<Option<Height>>, count: usize) -> Result<(), AllocError>
-    ensures { OnOk result (cells.new.items ≡ cells.old.items ++ replicate count None) }
+fn with_row(cells: HeightList, row: &[Option<Height>]) -> Result<HeightList, AllocError>
+    ensures { IfOk result (λ list. list ≡ cells ++ (None ∷ row.now ++ None ∷ [])) }
 {
-    for _ in 0..count {
-        cells.push(None)?;
-    }
-    Ok(())
-}
-
-/// Adds a row, with a cell without data at either end.
-#[inline]
-fn push_row(cells: &mut Vec<Option<Height>>, row: &[Option<Height>]) -> Result<(), AllocError>
-    ensures { OnOk result (cells.new.items ≡ cells.old.items ++ (None ∷ row.now ++ None ∷ [])) }
-{
-    cells.push(None)?;
-    cells.extend_from_slice(row)?;
-    cells.push(None)?;
-    Ok(())
+    cells.with_lacking(1)?.with(row)?.with_lacking(1)
 }
 
 /// The rows of a list in row order, with a border.
@@ -198,41 +241,39 @@ fn bordered(
     cells: &[Option<Height>],
     cols: u32,
     rows: u32,
-) -> Result<Vec<Option<Height>>, AllocError>
+) -> Result<HeightList, AllocError>
     requires size { length cells.now ≡ cols * rows }
     requires few_cols { cols ≤ 4096 }
     requires few_rows { rows ≤ 4096 }
-    ensures { IfOk result (λ v. v.items ≡ bordered_rows (row_of cols cells.now) (cols + 2) rows) }
+    ensures { IfOk result (λ v. v ≡ bordered_rows (row_of cols cells.now) (cols + 2) rows) }
 {
     let width = cols as usize;
     let stride = width + 2;
-    let mut list = Vec::with_capacity(alloc, (rows as usize + 2) * stride)?;
-    push_empty(&mut list, stride)?;
+    let empty = HeightList::with_capacity(alloc, (rows as usize + 2) * stride)?;
+    let mut list = empty.with_lacking(stride)?;
     for row in 0..rows {
         let start = row as usize * width;
-        push_row(&mut list, &cells[start..start + width])?;
+        list = with_row(list, &cells[start..start + width])?;
     }
-    push_empty(&mut list, stride)?;
-    Ok(list)
+    list.with_lacking(stride)
 }
 
 /// The rows of a tile, with a border.
 fn bordered_tile(
     alloc: Global,
     view: &TileView<'_, Option<Height>>,
-) -> Result<Vec<Option<Height>>, AllocError>
+) -> Result<HeightList, AllocError>
     ensures { let b = bounds_of view.now.cutting view.now.tile in
-        IfOk result (λ v. v.items ≡ bordered_rows (row_shown view.now) (b.cols + 2) b.rows) }
+        IfOk result (λ v. v ≡ bordered_rows (row_shown view.now) (b.cols + 2) b.rows) }
 {
     let Bounds { rows, cols, .. } = view.bounds();
     let stride = cols as usize + 2;
-    let mut list = Vec::with_capacity(alloc, (rows as usize + 2) * stride)?;
-    push_empty(&mut list, stride)?;
+    let empty = HeightList::with_capacity(alloc, (rows as usize + 2) * stride)?;
+    let mut list = empty.with_lacking(stride)?;
     for row in 0..rows {
-        push_row(&mut list, view.row(row))?;
+        list = with_row(list, view.row(row))?;
     }
-    push_empty(&mut list, stride)?;
-    Ok(list)
+    list.with_lacking(stride)
 }
 
 impl CellNet {
@@ -277,10 +318,10 @@ impl CellNet {
 /// The entries of a [`CellNet`] inside its border of gaps, in row order: those of its `rows` times `cols` cells.
 pub fn without_border<T: Copy>(
     alloc: Global,
-    list: &[Option<T>],
+    list: &[T],
     cols: u32,
     rows: u32,
-) -> Result<Vec<Option<T>>, AllocError>
+) -> Result<Vec<T>, AllocError>
     requires size { length list.now ≡ (rows + 2) * (cols + 2) }
     requires few_cols { cols ≤ 4096 }
     requires few_rows { rows ≤ 4096 }

@@ -1,13 +1,14 @@
-// Levels and labels by a queue of waiting nodes.
-ghost use Rattle.std.specs.Prelude.{◌≡◌, ◌↔◌, ◌⊎◌, ◌<◌, ◌≤◌, pos, ◌+ℤ◌, ◌≤ℤ◌, ◌<ℤ◌, ◌∷◌, [], ℕ, ℤ, IsTrue, IfOk, OnOk, IfSome, IfNone, length, All, replicate, slice_index_or, None, Some};
-ghost use Rattle.std.specs.BinaryHeap.{heap_items, heap_len};
-ghost use Rattle.floods.specs.Walk.{IsFlooded, Sources};
-ghost use Rattle.floods.specs.Flood.{entries_of, waiting_in, InOrder, PutsIn, HasNone, IsDone, TakesLowest, SourcesWait, HasSourcesNoted, AreOwn, MakesWait, AreNoted, KeepsDone, Spreads};
+// The least crests of a net's nodes, and the sources that have them.
+ghost use Rattle.std.specs.Prelude.{◌≡◌, IfOk, length, replicate, None};
+ghost use Rattle.floods.specs.Walk.{IsFlooded};
+ghost use Rattle.floods.specs.Flood.{waiting_in, InOrder, SourcesWait, HasSourcesNoted};
 
-use crate::net::{Net, Spill};
+use crate::heights::HeightList;
+use crate::net::Net;
+use crate::node_labels::{NodeLabels, label_of};
+use crate::queue::{Waiting, Waits, next_open};
 use std::alloc::{AllocError, Global};
 use std::cmp::Reverse;
-use std::collections::BinaryHeap;
 use terrain::{Height, NoMemory};
 
 /// The level of each node, and the source that it drains to.
@@ -17,281 +18,18 @@ pub struct Flooded {
     pub label: Vec<Option<u32>>,
 }
 
-/// A node that waits: a walk from it, which ends at the label, has this crest. The lowest comes first.
-#[derive(Clone, Copy)]
-#[derive_where(PartialEq, Eq, PartialOrd, Ord)]
-struct Waiting {
-    height: Reverse<Height>,
-    #[derive_where(skip(EqHashOrd))]
-    node: u32,
-    #[derive_where(skip(EqHashOrd))]
-    label: u32,
-}
-
-/// Levels of the window at most. Those of a tile of 256 by 256 cells mostly span fewer, and no more empty lists than
-/// this are passed over where heights lie far apart.
-const MOST_LEVELS: usize = 512;
-
-/// Nodes for each level of the window at least, so that making the lists is little of a flood.
-const NODES_A_LEVEL: usize = 16;
-
-/// Nodes that wait. Those at a level of the window, which begins at `base`, stand in the list of that level, and all
-/// others in the heap.
+/// The same in less memory.
 #[derive(Drop)]
-struct Waits {
-    base: Height,
-    /// No list before this one has an entry.
-    first: usize,
-    /// No list from this one on has an entry.
-    end: usize,
-    lists: Vec<Vec<Waiting>>,
-    others: BinaryHeap<Waiting>,
-}
-
-/// Empty lists.
-fn empty_lists(alloc: Global, count: usize) -> Result<Vec<Vec<Waiting>>, AllocError>
-    ensures { IfOk result (λ v. entries_of v.items ≡ replicate count []) }
-{
-    let mut lists = Vec::with_capacity(alloc, count)?;
-    for _ in 0..count {
-        lists.push(Vec::new(alloc))?;
-    }
-    Ok(lists)
-}
-
-/// The first list from `first` on, before `stop`, that has an entry, if there is one.
-#[inline(always)]
-fn first_filled(lists: &[Vec<Waiting>], first: usize, stop: usize) -> usize
-    requires { stop ≤ length lists.now }
-    ensures from { first ≤ result }
-    ensures empty { (k : ℕ) → first ≤ k → k < result → slice_index_or (entries_of lists.now) k [] ≡ [] }
-    ensures filled { result < stop → 0 < length (slice_index_or (entries_of lists.now) result []) }
-{
-    let mut index = first;
-    while index < stop && lists[index].is_empty() {
-        index += 1;
-    }
-    index
-}
-
-impl Waits {
-    /// For a net of so many nodes. The first that is taken begins the first window.
-    fn new(alloc: Global, nodes: usize) -> Result<Self, AllocError>
-        ensures order { IfOk result (λ w. InOrder w) }
-        ensures none { IfOk result (λ w. HasNone (waiting_in w)) }
-    {
-        let lists = empty_lists(alloc, MOST_LEVELS.min(nodes / NODES_A_LEVEL))?;
-        Ok(Waits {
-            base: 0,
-            first: lists.len(),
-            end: 0,
-            lists,
-            others: BinaryHeap::new(alloc),
-        })
-    }
-
-    /// The list of a level, if it is one of those that may have entries.
-    #[inline(always)]
-    fn list_of(&self, height: Height) -> Option<usize>
-        ensures from { IfSome result (λ k. self.now.first ≤ k) }
-        ensures inside { IfSome result (λ k. k < length self.now.lists.items) }
-        ensures level { IfSome result (λ k. height ≡ self.now.base +ℤ pos k) }
-    {
-        if height < self.base {
-            return None;
-        }
-        let index = height.abs_diff(self.base) as usize;
-        if self.first <= index && index < self.lists.len() {
-            Some(index)
-        } else {
-            None
-        }
-    }
-
-    /// How many lists are below a height, of those before the end.
-    #[inline(always)]
-    fn lists_below(&self, height: Height) -> usize
-        ensures end { result ≤ self.now.end }
-        ensures lower { (k : ℕ) → k < result → (self.now.base +ℤ pos k) ≤ℤ height }
-        ensures rest { (k : ℕ) → result ≤ k → k < self.now.end → height ≤ℤ (self.now.base +ℤ pos k) }
-    {
-        if height < self.base {
-            0
-        } else {
-            self.end.min(height.abs_diff(self.base) as usize)
-        }
-    }
-
-    /// How many lists are below all of the heap.
-    #[inline(always)]
-    fn lower_lists(&self) -> usize
-        requires { InOrder self.now }
-        ensures end { result ≤ self.now.end }
-        ensures lower { (k : ℕ) → k < result → All (λ x. (self.now.base +ℤ pos k) ≤ℤ x.height.0) (heap_items self.now.others) }
-        ensures rest { (k : ℕ) (d : Waiting) → result ≤ k → k < self.now.end →
-            (slice_index_or (heap_items self.now.others) 0 d).height.0 ≤ℤ (self.now.base +ℤ pos k) }
-        ensures none { heap_len self.now.others ≡ 0 → result ≡ self.now.end }
-    {
-        let Some(lowest) = self.others.peek() else {
-            return self.end;
-        };
-        let Reverse(height) = lowest.height;
-        self.lists_below(height)
-    }
-
-    /// Takes the lowest of the heap, where no list has a lower one. If no list has any, a new window begins.
-    #[inline]
-    fn take_other(&mut self) -> Option<Waiting>
-        requires order { InOrder self.old }
-        requires lowest { (k : ℕ) (d : Waiting) → self.old.first ≤ k → k < self.old.end →
-            (slice_index_or (heap_items self.old.others) 0 d).height.0 ≤ℤ (self.old.base +ℤ pos k) }
-        requires some { heap_len self.old.others ≡ 0 → self.old.end ≤ self.old.first }
-        ensures order { InOrder self.new }
-        ensures taken { IfSome result (λ w. PutsIn w (waiting_in self.new) (waiting_in self.old)) }
-        ensures lowest { IfSome result (λ w. All (λ x. w.height.0 ≤ℤ x.height.0) (waiting_in self.new)) }
-        ensures none { IfNone result (HasNone (waiting_in self.old)) }
-    {
-        let waiting = self.others.pop()?;
-        if self.end <= self.first {
-            let Reverse(height) = waiting.height;
-            self.base = height;
-            self.first = 0;
-            self.end = 0;
-        }
-        Some(waiting)
-    }
-
-    /// Takes a lowest one.
-    #[inline]
-    fn take(&mut self) -> Option<Waiting>
-        requires { InOrder self.old }
-        ensures order { InOrder self.new }
-        ensures taken { IfSome result (λ w. PutsIn w (waiting_in self.new) (waiting_in self.old)) }
-        ensures lowest { IfSome result (λ w. All (λ x. w.height.0 ≤ℤ x.height.0) (waiting_in self.new)) }
-        ensures none { IfNone result (HasNone (waiting_in self.old)) }
-    {
-        let stop = self.lower_lists();
-        self.first = first_filled(&self.lists, self.first, stop);
-        if self.first < stop {
-            self.lists[self.first].pop()
-        } else {
-            self.take_other()
-        }
-    }
-
-    /// Puts one in.
-    #[inline(always)]
-    fn put(&mut self, waiting: Waiting) -> Result<(), AllocError>
-        requires { InOrder self.old }
-        ensures order { OnOk result (InOrder self.new) }
-        ensures puts { OnOk result (PutsIn waiting (waiting_in self.old) (waiting_in self.new)) }
-    {
-        let Reverse(height) = waiting.height;
-        let Some(index) = self.list_of(height) else {
-            self.others.push(waiting)?;
-            return Ok(());
-        };
-        self.lists[index].push(waiting)?;
-        self.end = self.end.max(index + 1);
-        Ok(())
-    }
-}
-
-/// Takes the lowest node that has no label yet.
-fn next_open(waits: &mut Waits, labels: &[Option<u32>]) -> Option<Waiting>
-    requires order { InOrder waits.old }
-    requires inside { All (λ w. w.node < length labels.now) (waiting_in waits.old) }
-    ensures order { InOrder waits.new }
-    ensures some { IfSome result (λ w.
-        TakesLowest labels.now (waiting_in waits.old) w (waiting_in waits.new)) }
-    ensures none { IfNone result (All (IsDone labels.now) (waiting_in waits.old)) }
-{
-    while let Some(waiting) = waits.take() {
-        if labels[waiting.node as usize].is_none() {
-            return Some(waiting);
-        }
-    }
-    None
-}
-
-/// Whether a crest that was noted is not above this one.
-#[inline(always)]
-fn is_no_lower(crest: Height, noted: Option<Height>) -> bool
-    ensures { IsTrue result ↔ (h : ℤ) × (noted ≡ Some h) × (h ≤ℤ crest) }
-{
-    match noted {
-        Some(height) => height <= crest,
-        None => false,
-    }
-}
-
-/// Makes one neighbour of a node wait, where it has no label yet and does not wait as low.
-#[inline(always)]
-fn push_way(
-    waits: &mut Waits,
-    way: Spill,
-    from: &Waiting,
-    labels: &[Option<u32>],
-    levels: &mut [Option<Height>],
-) -> Result<(), AllocError>
-    requires order { InOrder waits.old }
-    requires inside { way.to < length labels.now }
-    requires noted { AreNoted labels.now levels.old (waiting_in waits.old) }
-    ensures order { OnOk result (InOrder waits.new) }
-    ensures noted { OnOk result (AreNoted labels.now levels.new (waiting_in waits.new)) }
-    ensures kept { OnOk result (KeepsDone labels.now levels.old levels.new) }
-    ensures own { OnOk result ((source : Sources) → AreOwn source labels.now levels.old (waiting_in waits.old) →
-        AreOwn source labels.now levels.new (waiting_in waits.new)) }
-    ensures waits { OnOk result (MakesWait labels.now from.now (way ∷ []) (waiting_in waits.old) (waiting_in waits.new)) }
-{
-    let Reverse(level) = from.height;
-    let crest = way.height.max(level);
-    if is_no_lower(crest, levels[way.to as usize]) {
-        return Ok(());
-    }
-    if labels[way.to as usize].is_some() {
-        return Ok(());
-    }
-    let waiting = Waiting {
-        height: Reverse(crest),
-        node: way.to,
-        label: from.label,
-    };
-    waits.put(waiting)?;
-    levels[way.to as usize] = Some(crest);
-    Ok(())
-}
-
-/// Makes the neighbours of a node wait that have no label yet and do not wait as low.
-#[inline]
-fn push_ways(
-    waits: &mut Waits,
-    ways: &[Spill],
-    from: &Waiting,
-    labels: &[Option<u32>],
-    levels: &mut [Option<Height>],
-) -> Result<(), AllocError>
-    requires order { InOrder waits.old }
-    requires inside { All (λ way. way.to < length labels.now) ways.now }
-    requires noted { AreNoted labels.now levels.old (waiting_in waits.old) }
-    ensures order { OnOk result (InOrder waits.new) }
-    ensures noted { OnOk result (AreNoted labels.now levels.new (waiting_in waits.new)) }
-    ensures kept { OnOk result (KeepsDone labels.now levels.old levels.new) }
-    ensures own { OnOk result ((source : Sources) → AreOwn source labels.now levels.old (waiting_in waits.old) →
-        AreOwn source labels.now levels.new (waiting_in waits.new)) }
-    ensures waits { OnOk result (MakesWait labels.now from.now ways.now (waiting_in waits.old) (waiting_in waits.new)) }
-{
-    for way in ways {
-        push_way(waits, *way, from, labels, levels)?;
-    }
-    Ok(())
+pub struct FloodedNet {
+    pub levels: HeightList,
+    pub labels: NodeLabels,
 }
 
 /// Makes the sources wait, and notes their heights.
 fn waiting_sources<N: Net>(
     alloc: Global,
     net: &N,
-    levels: &mut [Option<Height>],
+    levels: &mut HeightList,
 ) -> Result<Waits, AllocError>
     requires { levels.old ≡ replicate (N.node_count net.now) None }
     ensures order { IfOk result (λ waits. InOrder waits) }
@@ -309,64 +47,61 @@ fn waiting_sources<N: Net>(
                 label: node,
             };
             waits.put(waiting)?;
-            levels[node as usize] = Some(height);
+            levels.put(node, height);
         }
     }
     Ok(waits)
 }
 
-/// A list of this many entries, all None.
-fn empty_list<T: Copy>(alloc: Global, count: usize) -> Result<Vec<Option<T>>, AllocError>
-    ensures { IfOk result (λ v. v.items ≡ replicate count None) }
-{
-    let mut entries = Vec::new(alloc);
-    entries.resize(count, None)?;
-    Ok(entries)
-}
-
-/// Makes the neighbours of a node of the net wait that have no label yet and do not wait as low.
-#[inline]
-fn spread<N: Net>(
-    alloc: Global,
-    net: &N,
-    waits: &mut Waits,
-    from: &Waiting,
-    labels: &[Option<u32>],
-    levels: &mut [Option<Height>],
-) -> Result<(), NoMemory>
-    requires order { InOrder waits.old }
-    requires inside { from.now.node < N.node_count net.now }
-    requires size { length labels.now ≡ N.node_count net.now }
-    requires noted { AreNoted labels.now levels.old (waiting_in waits.old) }
-    ensures order { OnOk result (InOrder waits.new) }
-    ensures noted { OnOk result (AreNoted labels.now levels.new (waiting_in waits.new)) }
-    ensures kept { OnOk result (KeepsDone labels.now levels.old levels.new) }
-    ensures own { OnOk result ((source : Sources) → AreOwn source labels.now levels.old (waiting_in waits.old) →
-        AreOwn source labels.now levels.new (waiting_in waits.new)) }
-    ensures added { OnOk result (Spreads (N.joins net.now) labels.now from.now
-        (waiting_in waits.old) (waiting_in waits.new)) }
-{
-    let ways = net.neighbours(alloc, from.node)?;
-    push_ways(waits, ways.as_slice(), from, labels, levels)?;
-    Ok(())
-}
-
 /// The least crest from each node, and a source that has it.
+pub fn flood_net<N: Net>(alloc: Global, net: &N) -> Result<FloodedNet, NoMemory>
+    ensures { IfOk result (λ f.
+        IsFlooded (N.joins net.now) (N.source_height net.now) (N.node_count net.now) f.levels f.labels) }
+{
+    let count = net.nodes() as usize;
+    let mut levels = HeightList::lacking(alloc, count)?;
+    let mut labels = NodeLabels::none(alloc, count)?;
+    let mut waits = waiting_sources(alloc, net, &mut levels)?;
+    while let Some(waiting) = next_open(&mut waits, &labels) {
+        let Reverse(height) = waiting.height;
+        levels.put(waiting.node, height);
+        labels.put(waiting.node, waiting.label);
+        net.spread(alloc, &mut waits, &waiting, &labels, &mut levels)?;
+    }
+    Ok(FloodedNet { levels, labels })
+}
+
+/// The levels as a list of their own.
+fn list_of_levels(alloc: Global, levels: &HeightList) -> Result<Vec<Option<Height>>, AllocError>
+    ensures { IfOk result (λ v. v.items ≡ levels.now) }
+{
+    let mut list = Vec::with_capacity(alloc, levels.len())?;
+    for index in 0..levels.len() {
+        list.push(levels.at(index))?;
+    }
+    Ok(list)
+}
+
+/// The labels as a list of their own.
+fn list_of_labels(alloc: Global, labels: &NodeLabels) -> Result<Vec<Option<u32>>, AllocError>
+    ensures { IfOk result (λ v. v.items ≡ labels.now) }
+{
+    let numbers = labels.numbers();
+    let mut list = Vec::with_capacity(alloc, numbers.len())?;
+    for number in numbers {
+        list.push(label_of(*number))?;
+    }
+    Ok(list)
+}
+
+/// The least crest from each node, and a source that has it, as lists.
 pub fn flood<N: Net>(alloc: Global, net: &N) -> Result<Flooded, NoMemory>
     ensures { IfOk result (λ f.
         IsFlooded (N.joins net.now) (N.source_height net.now) (N.node_count net.now)
         f.level.items f.label.items) }
 {
-    let count = net.nodes() as usize;
-    let mut level = empty_list(alloc, count)?;
-    let mut label = empty_list(alloc, count)?;
-    let mut waits = waiting_sources(alloc, net, &mut level)?;
-    while let Some(waiting) = next_open(&mut waits, &label) {
-        let node = waiting.node as usize;
-        let Reverse(height) = waiting.height;
-        level[node] = Some(height);
-        label[node] = Some(waiting.label);
-        spread(alloc, net, &mut waits, &waiting, &label, &mut level)?;
-    }
+    let FloodedNet { levels, labels } = flood_net(alloc, net)?;
+    let level = list_of_levels(alloc, &levels)?;
+    let label = list_of_labels(alloc, &labels)?;
     Ok(Flooded { level, label })
 }

@@ -1,8 +1,11 @@
 // A net of nodes that are joined at spill heights.
-ghost use Rattle.std.specs.Prelude.{◌≡◌, ◌↔◌, ◌<◌, ℕ, ℤ, Option, IfOk};
-ghost use Rattle.std.specs.List.{Contains};
-ghost use Rattle.floods.specs.Walk.{HasJust};
+ghost use Rattle.std.specs.Prelude.{◌≡◌, ◌<◌, ℕ, ℤ, Option, IfOk, OnOk, length};
+ghost use Rattle.floods.specs.Walk.{HasJust, Sources};
+ghost use Rattle.floods.specs.Flood.{waiting_in, InOrder, Spreads, AreOwn, AreNoted, KeepsDone};
 
+use crate::heights::HeightList;
+use crate::node_labels::NodeLabels;
+use crate::queue::{Waiting, Waits, push_ways};
 use smallvec::SmallVec;
 use std::alloc::Global;
 use terrain::{Height, NoMemory};
@@ -34,6 +37,33 @@ pub trait Net {
     fn source(&self, node: u32) -> Option<Height>
         requires { node < node_count self.now }
         ensures { result ≡ source_height self.now node };
+
+    /// Makes the neighbours of a node wait that have no label yet and do not wait as low.
+    #[inline]
+    fn spread(
+        &self,
+        alloc: Global,
+        waits: &mut Waits,
+        from: &Waiting,
+        labels: &NodeLabels,
+        levels: &mut HeightList,
+    ) -> Result<(), NoMemory>
+        requires order { InOrder waits.old }
+        requires inside { from.now.node < node_count self.now }
+        requires size { length labels.now ≡ node_count self.now }
+        requires noted { AreNoted labels.now levels.old (waiting_in waits.old) }
+        ensures order { OnOk result (InOrder waits.new) }
+        ensures noted { OnOk result (AreNoted labels.now levels.new (waiting_in waits.new)) }
+        ensures kept { OnOk result (KeepsDone labels.now levels.old levels.new) }
+        ensures own { OnOk result ((source : Sources) → AreOwn source labels.now levels.old (waiting_in waits.old) →
+            AreOwn source labels.now levels.new (waiting_in waits.new)) }
+        ensures added { OnOk result (Spreads (joins self.now) labels.now from.now
+            (waiting_in waits.old) (waiting_in waits.new)) }
+    {
+        let ways = self.neighbours(alloc, from.node)?;
+        push_ways(waits, ways.as_slice(), from, labels, levels)?;
+        Ok(())
+    }
 
     // A joined node is one of the net.
     ghost joined_inside: { (net : Self) (a b : ℕ) (h : ℤ) → joins net a b h → b < node_count net };

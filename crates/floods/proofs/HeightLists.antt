@@ -1,0 +1,150 @@
+-- Lists of heights, some of which are lacking.
+use Rattle.std.proofs.Common.{◌≡◌, ℕ, zero, suc, ◌+◌, ◌<◌, ◌≤ℤ◌, ◌<ℤ◌, ℤ, pos, Bool, true, false, if◌then◌else◌, List, [], ◌∷◌, ◌++◌, length, get_or, set, take, replicate, unwrap_or, append_assoc, T, Option, None, Some, is_some, ◌∙◌, sym, ap, refl, arith, inl, inr, subst}
+use Rattle.std.specs.Int.Signed.{le_z, lt_z}
+use Rattle.std.proofs.lemmas.Int.{ints}
+use Rattle.std.proofs.lemmas.Float.{T_from_true}
+use Rattle.std.proofs.lemmas.Bool.{cases_eq, cases_lt}
+use Rattle.std.proofs.lemmas.Option.{same_Some}
+use Rattle.std.proofs.lemmas.List.{length-set, length_push, length-replicate, get_or-replicate, get_or-set_same, get_or-set_other, get_or_append_left, get_or_push, take_more, replicate-append-replicate}
+use Rattle.floods.specs.Notes.{AreHeights, heights_where, lack}
+
+pub length-where : (there : List Bool) (heights : List ℤ) → length there ≡ length heights → length (heights_where there heights) ≡ length heights
+length-where [] [] e = refl
+length-where [] (h ∷ heights) e = e
+length-where (t ∷ there) [] e = absurd (omega (arith, e))
+length-where (t ∷ there) (h ∷ heights) e = ap suc (length-where there heights (omega (arith, e)))
+
+pub where-at : (there : List Bool) (heights : List ℤ) (i : ℕ) → length there ≡ length heights → get_or (heights_where there heights) i None ≡ (if get_or there i false then Some (get_or heights i (pos 0)) else None)
+where-at [] heights i e = refl
+where-at (t ∷ there) [] i e = absurd (omega (arith, e))
+where-at (t ∷ there) (h ∷ heights) zero e = refl
+where-at (t ∷ there) (h ∷ heights) (suc i) e = where-at there heights i (omega (arith, e))
+
+pub where-set : (there : List Bool) (heights : List ℤ) (i : ℕ) (h : ℤ) → length there ≡ length heights → heights_where (set there i true) (set heights i h) ≡ set (heights_where there heights) i (Some h)
+where-set [] heights i h e = refl
+where-set (t ∷ there) [] i h e = absurd (omega (arith, e))
+where-set (t ∷ there) (x ∷ heights) zero h e = refl
+where-set (t ∷ there) (x ∷ heights) (suc i) h e = ap (λ z. (if t then Some x else None) ∷ z) (where-set there heights i h (omega (arith, e)))
+
+pub where-push : (there : List Bool) (heights : List ℤ) (t : Bool) (h : ℤ) → length there ≡ length heights → heights_where (there ++ t ∷ []) (heights ++ h ∷ []) ≡ heights_where there heights ++ (if t then Some h else None) ∷ []
+where-push [] [] t h e = refl
+where-push [] (x ∷ heights) t h e = absurd (omega (arith, e))
+where-push (b ∷ there) [] t h e = absurd (omega (arith, e))
+where-push (b ∷ there) (x ∷ heights) t h e = ap (λ z. (if b then Some x else None) ∷ z) (where-push there heights t h (omega (arith, e)))
+
+pub where-lacking : (n : ℕ) (h : ℤ) → heights_where (replicate n false) (replicate n h) ≡ replicate n None
+where-lacking zero h = refl
+where-lacking (suc n) h = ap (λ z. None ∷ z) (where-lacking n h)
+
+pub lacking_are : (n : ℕ) → AreHeights (replicate n lack) (replicate n false)
+lacking_are n = record {
+  size = length-replicate n false ∙ sym (length-replicate n lack);
+  lacks = λ i below _. get_or-replicate n i lack (pos 0) (omega (arith, below, length-replicate n lack));
+}
+
+-- an entry put in the place of another
+pub put_are : (heights : List ℤ) (there : List Bool) (i : ℕ) (h : ℤ) → i < length heights → AreHeights heights there → AreHeights (set heights i h) (set there i true)
+put_are heights there i h inside are = record {
+  size = length-set there i true ∙ are.size ∙ sym (length-set heights i h);
+  lacks = λ k below none. elim (cases_eq k i) [
+    | inl same ↦
+        let is : get_or (set there i true) k false ≡ true = ap (λ n. get_or (set there i true) n false) same ∙ get_or-set_same there i true false (omega (arith, inside, are.size)) in
+        absurd (cc)
+    | inr other ↦ get_or-set_other heights i k h (pos 0) other ∙ are.lacks k (omega (arith, below, length-set heights i h)) (sym (get_or-set_other there i k true false other) ∙ none)
+  ];
+}
+
+-- an entry at the end
+pub push_are : (heights : List ℤ) (there : List Bool) (t : Bool) (h : ℤ) → (t ≡ false → h ≡ lack) → AreHeights heights there → AreHeights (heights ++ h ∷ []) (there ++ t ∷ [])
+push_are heights there t h last are = record {
+  size = omega (arith, length_push there t, are.size, length_push heights h);
+  lacks = λ k below none. elim (cases_lt k (length heights)) [
+    | inl low ↦
+        get_or_append_left heights (h ∷ []) (pos 0) k low
+        ∙ are.lacks k low (sym (get_or_append_left there (t ∷ []) false k (omega (arith, low, are.size))) ∙ none)
+    | inr past ↦
+        let at : k ≡ length heights = omega (arith, past, below, length_push heights h) in
+        get_or_push heights h (pos 0) k (sym at) ∙ last (sym (get_or_push there t false k (are.size ∙ sym at)) ∙ none)
+  ];
+}
+
+-- what stands at an entry that is there, and at one that is not
+pub there_at : (heights : List ℤ) (there : List Bool) (i : ℕ) → AreHeights heights there → get_or there i false ≡ true → get_or (heights_where there heights) i None ≡ Some (get_or heights i (pos 0))
+there_at heights there i are is = where-at there heights i are.size ∙ ap (λ b. if b then Some (get_or heights i (pos 0)) else None) is
+
+pub not_there : (heights : List ℤ) (there : List Bool) (i : ℕ) → AreHeights heights there → get_or there i false ≡ false → get_or (heights_where there heights) i None ≡ None
+not_there heights there i are is = where-at there heights i are.size ∙ ap (λ b. if b then Some (get_or heights i (pos 0)) else None) is
+
+is_there : {A : Type 0} (b : Bool) (x : A) → b ≡ is_some (if b then Some x else None)
+is_there true x = refl
+is_there false x = refl
+
+pub there_is : (heights : List ℤ) (there : List Bool) (i : ℕ) → AreHeights heights there → get_or there i false ≡ is_some (get_or (heights_where there heights) i None)
+there_is heights there i are = is_there (get_or there i false) (get_or heights i (pos 0)) ∙ ap is_some (sym (where-at there heights i are.size))
+
+-- the number of an entry that is there
+from_some : (b : Bool) (x h : ℤ) → (if b then Some x else None) ≡ Some h → x ≡ h
+from_some true x h e = same_Some x h e
+from_some false x h e = absurd (cc)
+
+pub value_at : (heights : List ℤ) (there : List Bool) (i : ℕ) (h : ℤ) → AreHeights heights there → get_or (heights_where there heights) i None ≡ Some h → get_or heights i (pos 0) ≡ h
+value_at heights there i h are e = from_some (get_or there i false) _ h (sym (where-at there heights i are.size) ∙ e)
+
+-- an entry that is lower than the number that stands for a lack is there
+pub below_lack : (heights : List ℤ) (there : List Bool) (i : ℕ) (h : ℤ) → i < length heights → AreHeights heights there → get_or heights i (pos 0) ≤ℤ h → (lack ≤ℤ h → ⊥) → get_or there i false ≡ true
+below_lack heights there i h inside are low less = go (get_or there i false) (λ none. are.lacks i inside none) where
+  go : (b : Bool) → (b ≡ false → get_or heights i (pos 0) ≡ lack) → b ≡ true
+  go true is = refl
+  go false is = absurd (less (subst (λ z. z ≤ℤ h) (is refl) low))
+
+-- tests of a machine, and what they tell
+tells : (b : Bool) → T b → b ≡ true
+tells true h = refl
+tells false h = absurd h
+
+pub is_low : (a b : ℤ) → le_z a b ≡ true → a ≤ℤ b
+is_low a b e = record { le = T_from_true _ e }
+
+pub low_is : (a b : ℤ) → a ≤ℤ b → le_z a b ≡ true
+low_is a b h = tells _ h.le
+
+-- an entry that is there and not above a height, by the number that stands for it
+pub no_higher : (heights : List ℤ) (there : List Bool) (seen : List (Option ℤ)) (i : ℕ) (h : ℤ) → AreHeights heights there → heights_where there heights ≡ seen → get_or there i false ≡ true → get_or heights i (pos 0) ≤ℤ h → (x : ℤ) × (get_or seen i None ≡ Some x) × (x ≤ℤ h)
+no_higher heights there seen i h are view is low = (get_or heights i (pos 0), ap (λ (l : List (Option ℤ)). get_or l i None) (sym view) ∙ there_at heights there i are is, low)
+
+pub no_higher_is : (heights : List ℤ) (there : List Bool) (seen : List (Option ℤ)) (i : ℕ) (h : ℤ) → AreHeights heights there → heights_where there heights ≡ seen → (x : ℤ) × (get_or seen i None ≡ Some x) × (x ≤ℤ h) → (get_or there i false ≡ true) × (get_or heights i (pos 0) ≤ℤ h)
+no_higher_is heights there seen i h are view s =
+    let here = ap (λ (l : List (Option ℤ)). get_or l i None) view ∙ s.1 in
+    (there_is heights there i are ∙ ap is_some here, subst (λ z. z ≤ℤ h) (sym (value_at heights there i s.0 are here)) s.2)
+
+pub below_no : (a b : ℤ) → lt_z a b ≡ true → b ≤ℤ a → ⊥
+below_no a b e h = omega (arith, ints, less, h) where
+  less : a <ℤ b
+  less = record { lt = T_from_true _ e }
+
+entry_back : (e : Option ℤ) (t : Bool) (h : ℤ) → t ≡ is_some e → h ≡ unwrap_or e lack → (if t then Some h else None) ≡ e
+entry_back None t h there value = ap (λ b. if b then Some h else None) there
+entry_back (Some x) t h there value = ap (λ b. if b then Some h else None) there ∙ ap Some value
+
+entry_lack : (e : Option ℤ) (t : Bool) (h : ℤ) → t ≡ is_some e → h ≡ unwrap_or e lack → t ≡ false → h ≡ lack
+entry_lack None t h there value lost = value
+entry_lack (Some x) t h there value lost = absurd (cc)
+
+-- one more entry of a list
+pub one_more : (heights : List ℤ) (there : List Bool) (seen entries : List (Option ℤ)) (i : ℕ) (t : Bool) (h : ℤ) → i < length entries → AreHeights heights there → heights_where there heights ≡ seen ++ take i entries → t ≡ is_some (get_or entries i None) → h ≡ unwrap_or (get_or entries i None) lack
+    → AreHeights (heights ++ h ∷ []) (there ++ t ∷ []) × (heights_where (there ++ t ∷ []) (heights ++ h ∷ []) ≡ seen ++ take (i + 1) entries)
+one_more heights there seen entries i t h below are list is value = (
+  push_are heights there t h (entry_lack (get_or entries i None) t h is value) are,
+  where-push there heights t h are.size ∙ ap (λ (z : List (Option ℤ)). z ++ (if t then Some h else None) ∷ []) list
+      ∙ append_assoc seen (take i entries) ((if t then Some h else None) ∷ [])
+      ∙ ap (λ z. seen ++ z) (ap (λ z. take i entries ++ z ∷ []) (entry_back (get_or entries i None) t h is value) ∙ sym (take_more entries i None below)),
+)
+
+-- one more that is lacking
+pub one_lacking : (heights : List ℤ) (there : List Bool) (seen : List (Option ℤ)) (i : ℕ) → AreHeights heights there → heights_where there heights ≡ seen ++ replicate i None
+    → AreHeights (heights ++ lack ∷ []) (there ++ false ∷ []) × (heights_where (there ++ false ∷ []) (heights ++ lack ∷ []) ≡ seen ++ replicate (i + 1) None)
+one_lacking heights there seen i are list = (
+  push_are heights there false lack (λ _. refl) are,
+  where-push there heights false lack are.size ∙ ap (λ (z : List (Option ℤ)). z ++ None ∷ []) list
+      ∙ append_assoc seen (replicate i None) (None ∷ []) ∙ ap (λ z. seen ++ z) (replicate-append-replicate i 1 None),
+)

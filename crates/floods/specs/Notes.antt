@@ -1,0 +1,23 @@
+-- Lists of what is noted of nodes, each entry of which may be lacking.
+use Rattle.std.specs.Prelude.{◌≡◌, ℕ, ◌<◌, ℤ, pos, Bool, false, ◌==◌, List, [], ◌∷◌, map, length, Option, None, Some, if◌then◌else◌, slice_index_or}
+
+-- The heights of those entries that are there.
+abbrev pub heights_where : List Bool → List ℤ → List (Option ℤ)
+heights_where [] heights = []
+heights_where (there ∷ rest) [] = []
+heights_where (there ∷ rest) (height ∷ heights) = (if there then Some height else None) ∷ heights_where rest heights
+
+-- The greatest number of 64 bits, which stands for a height that is lacking.
+abbrev pub lack : ℤ
+lack = pos 9223372036854775807
+
+pub record AreHeights (heights : List ℤ) (there : List Bool) : Type 0 where
+  pub size : length there ≡ length heights
+  pub lacks : (index : ℕ) → index < length heights → slice_index_or there index false ≡ false → slice_index_or heights index (pos 0) ≡ lack
+
+-- The greatest number of 32 bits stands for no label.
+abbrev pub label_of : ℕ → Option ℕ
+label_of number = if number == 4294967295 then None else Some number
+
+abbrev pub numbered_labels : List ℕ → List (Option ℕ)
+numbered_labels numbers = map label_of numbers
