@@ -13,7 +13,8 @@ use Rattle.tiles.specs.Cutting.{IsInBounds, Cutting, IsCutting, AreBounds, IsInT
 use Rattle.floods.specs.Walk.{IsFlooded, IsWalk, end_of}
 use Rattle.floods.specs.Cells.{Cells, node_at, IsNetOf, IsCellJoin, source_of, inner_rows, place_of_node}
 use Rattle.floods.proofs.Steps.{seen, match_of, none_some}
-use Rattle.floods.proofs.Nets.{length-inner_rows, inner_rows_at}
+use Rattle.floods.proofs.Nets.{length-inner_rows, inner_rows-map, inner_rows_at}
+use Rattle.floods.specs.Notes.{height_or_lack, label_of, numbered_labels}
 use Rattle.floods.proofs.Windows.{IsOnRim, IsWindowSource, IsWindowPath, IsWindowLevel, end_is_source, window_level, window_none}
 use Rattle.std.proofs.lemmas.Option.{MatchOption-at_some, MatchOption-at_none, same_Some}
 use Rattle.tiles.specs.declared.bounds.Bounds.{Bounds}
@@ -203,3 +204,11 @@ pub inner_labels : (b : Bounds) (n : Cells) (levels : List (Option ℤ)) (labels
 inner_labels b n levels labels size flooded =
     let long = flooded.labels_size ∙ size in
     (inner_below _ labels b.cols b.rows (subst (λ (k : ℕ). AreNodesBelow k labels) long (labels_below n levels labels flooded)), length-inner_rows labels b.cols b.rows (omega (arith, long)))
+
+-- the lists of a tile, of the heights and numbers that stand for the levels and labels of its net
+pub inner_lists : (b : Bounds) (levels : List (Option ℤ)) (labels : List (Option ℕ)) (raw heights : List ℤ) (numbers nodes : List ℕ) → raw ≡ map height_or_lack levels → labels ≡ numbered_labels numbers → heights ≡ inner_rows raw b.cols b.rows → nodes ≡ inner_rows numbers b.cols b.rows →
+    (heights ≡ map height_or_lack (inner_rows levels b.cols b.rows)) × (numbered_labels nodes ≡ inner_rows labels b.cols b.rows)
+inner_lists b levels labels raw heights numbers nodes raw_is labels_are heights_are nodes_are = (
+  heights_are ∙ ap (λ z. inner_rows z b.cols b.rows) raw_is ∙ inner_rows-map height_or_lack levels b.cols b.rows,
+  ap numbered_labels nodes_are ∙ sym (inner_rows-map label_of numbers b.cols b.rows) ∙ ap (λ z. inner_rows z b.cols b.rows) (sym labels_are),
+)

@@ -15,7 +15,8 @@ use Rattle.floods.specs.Cells.{inner_rows}
 use Rattle.floods.proofs.Steps.{seen}
 use Rattle.floods.proofs.Nets.{length-inner_rows}
 use Rattle.fill.specs.Labels.{labels_by, label_of_node}
-use Rattle.fill.specs.TileFlood.{Flood, IsFlood, IsTileFlood, level_in, label_in, levels_where, height_or_nought}
+use Rattle.fill.specs.TileFlood.{Flood, IsFlood, IsTileFlood, level_in, label_in, levels_where}
+use Rattle.floods.specs.Notes.{height_or_lack}
 use Rattle.fill.proofs.TileWindows.{entry_in-inside}
 
 pub levels_where-length : (labels : List (Option Place)) (heights : List ℤ) → length labels ≡ length heights → length (levels_where labels heights) ≡ length labels
@@ -29,19 +30,19 @@ levels_where-at (label ∷ labels) [] i e = absurd (omega (arith, e))
 levels_where-at (label ∷ labels) (height ∷ heights) zero e = refl
 levels_where-at (label ∷ labels) (height ∷ heights) (suc i) e = levels_where-at labels heights i (omega (arith, e))
 
-one_back : (label : Option Place) (level : Option ℤ) → is_some label ≡ is_some level → option_map (λ _. height_or_nought level) label ≡ level
+one_back : (label : Option Place) (level : Option ℤ) → is_some label ≡ is_some level → option_map (λ _. height_or_lack level) label ≡ level
 one_back None None e = refl
 one_back None (Some z) e = absurd (cc)
 one_back (Some p) None e = absurd (cc)
 one_back (Some p) (Some z) e = refl
 
 -- levels that stand where the labels do are those of their heights
-pub levels_back : (labels : List (Option Place)) (levels : List (Option ℤ)) → length labels ≡ length levels → ((i : ℕ) → is_some (get_or labels i None) ≡ is_some (get_or levels i None)) → levels_where labels (map height_or_nought levels) ≡ levels
+pub levels_back : (labels : List (Option Place)) (levels : List (Option ℤ)) → length labels ≡ length levels → ((i : ℕ) → is_some (get_or labels i None) ≡ is_some (get_or levels i None)) → levels_where labels (map height_or_lack levels) ≡ levels
 levels_back [] [] e each = refl
 levels_back [] (level ∷ levels) e each = absurd (omega (arith, e))
 levels_back (label ∷ labels) [] e each = absurd (omega (arith, e))
 levels_back (label ∷ labels) (level ∷ levels) e each =
-    ap (λ z. z ∷ levels_where labels (map height_or_nought levels)) (one_back label level (each 0))
+    ap (λ z. z ∷ levels_where labels (map height_or_lack levels)) (one_back label level (each 0))
     ∙ ap (λ z. level ∷ z) (levels_back labels levels (omega (arith, e)) (λ i. each (suc i)))
 
 some_below : (i m n : ℕ) → i < m * n → 0 < n
@@ -80,7 +81,7 @@ both_stand t c tile f h l is sound i = elim (cases_lt i (f.bounds.rows * f.bound
         sym (ap is_some label) ∙ both ∙ ap is_some level
 
 -- a flood whose levels are kept as heights where the labels are
-pub flood_where : (t : Terrain) (c : Cutting) (tile : ℕ) (b : Bounds) (levels : List (Option ℤ)) (labels : List (Option Place)) (heights : List ℤ) → IsCutting c → tile < tile_count c → heights ≡ map height_or_nought levels
+pub flood_where : (t : Terrain) (c : Cutting) (tile : ℕ) (b : Bounds) (levels : List (Option ℤ)) (labels : List (Option Place)) (heights : List ℤ) → IsCutting c → tile < tile_count c → heights ≡ map height_or_lack levels
     → IsTileFlood t c tile (record { bounds = b; levels = levels; labels = labels }) × IsFlood (record { bounds = b; levels = levels; labels = labels })
     → IsTileFlood t c tile (record { bounds = b; levels = levels_where labels heights; labels = labels }) × IsFlood (record { bounds = b; levels = levels_where labels heights; labels = labels })
 flood_where t c tile b levels labels heights h l are is =
@@ -98,7 +99,7 @@ level_shown f labels heights i label levels_are labels_are fit is =
 
 -- there is a height for each cell
 pub heights_whole : (b : Bounds) (levels : List (Option ℤ)) (nodes : List (Option ℕ)) (places : List (Option Place)) (cells : List ℕ) (heights : List ℤ) → length levels ≡ (b.rows + 2) * (b.cols + 2) → length nodes ≡ (b.rows + 2) * (b.cols + 2)
-    → heights ≡ map height_or_nought (inner_rows levels b.cols b.rows) → labels_by places cells ≡ map (label_of_node b) (inner_rows nodes b.cols b.rows) → length heights ≡ length cells
+    → heights ≡ map height_or_lack (inner_rows levels b.cols b.rows) → labels_by places cells ≡ map (label_of_node b) (inner_rows nodes b.cols b.rows) → length heights ≡ length cells
 heights_whole b levels nodes places cells heights levels_long nodes_long are labels =
-    ap length are ∙ length-map (inner_rows levels b.cols b.rows) height_or_nought ∙ length-inner_rows levels b.cols b.rows (omega (arith, levels_long))
+    ap length are ∙ length-map (inner_rows levels b.cols b.rows) height_or_lack ∙ length-inner_rows levels b.cols b.rows (omega (arith, levels_long))
     ∙ sym (sym (length-map cells (λ k. get_or places k None)) ∙ ap length labels ∙ length-map (inner_rows nodes b.cols b.rows) (label_of_node b) ∙ length-inner_rows nodes b.cols b.rows (omega (arith, nodes_long)))

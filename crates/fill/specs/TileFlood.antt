@@ -31,9 +31,6 @@ pub record Flood : Type 0 where
   pub levels : List (Option ℤ)
   pub labels : List (Option Place)
 
-abbrev pub height_or_nought : Option ℤ → ℤ
-height_or_nought level = unwrap_or level (pos 0)
-
 -- The levels of cells, of their labels and heights: a cell without a label has none.
 abbrev pub levels_where : List (Option Place) → List ℤ → List (Option ℤ)
 levels_where [] heights = []

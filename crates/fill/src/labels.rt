@@ -1,8 +1,10 @@
 // The labels of a tile's cells, by a table of their places.
 ghost use Rattle.std.specs.Prelude.{◌≡◌, ◌+◌, ◌*◌, ◌^◌, ◌<◌, ◌≤◌, ◌∷◌, [], None, map, length, slice_index_or, IfOk, IfSome, OnOk};
 ghost use Rattle.floods.specs.Cells.{place_of_node};
+ghost use Rattle.floods.specs.Notes.{numbered_labels};
 ghost use Rattle.fill.specs.Labels.{IsTable, AreMet, AreNodesBelow, IsListedAt, label_of_node, labels_by};
 
+use floods::label_of;
 use std::alloc::{AllocError, Global};
 use terrain::Place;
 use tiles::Bounds;
@@ -80,24 +82,20 @@ fn empty_table(alloc: Global) -> Result<Vec<Option<Place>>, AllocError>
     Ok(places)
 }
 
-/// The labels of a tile's cells, of the nodes that they have as labels in its net.
-pub(crate) fn labels_of(
-    alloc: Global,
-    bounds: Bounds,
-    nodes: &[Option<u32>],
-) -> Result<Labels, AllocError>
+/// The labels of a tile's cells, of the nodes that they have as labels in its net, as numbers.
+pub(crate) fn labels_of(alloc: Global, bounds: Bounds, nodes: &[u32]) -> Result<Labels, AllocError>
     requires few_rows { bounds.top + bounds.rows ≤ 4096 }
     requires few_cols { bounds.left + bounds.cols ≤ 4096 }
     requires size { length nodes.now ≡ bounds.rows * bounds.cols }
-    requires nodes { AreNodesBelow ((bounds.rows + 2) * (bounds.cols + 2)) nodes.now }
-    ensures { IfOk result (λ labels. labels_by labels.places.items labels.cells.items ≡ map (label_of_node bounds) nodes.now) }
+    requires nodes { AreNodesBelow ((bounds.rows + 2) * (bounds.cols + 2)) (numbered_labels nodes.now) }
+    ensures { IfOk result (λ labels. labels_by labels.places.items labels.cells.items ≡ map (label_of_node bounds) (numbered_labels nodes.now)) }
 {
     let count = (bounds.rows as usize + 2) * (bounds.cols as usize + 2);
     let mut met = vec![in alloc; 0u32; count]?;
     let mut places = empty_table(alloc)?;
     let mut cells = Vec::with_capacity(alloc, nodes.len())?;
     for node in nodes {
-        let index = index_of_label(&mut places, &mut met, bounds, *node)?;
+        let index = index_of_label(&mut places, &mut met, bounds, label_of(*node))?;
         cells.push(index)?;
     }
     Ok(Labels { places, cells })

@@ -1,14 +1,14 @@
 // Flooding of one tile.
-ghost use Rattle.std.specs.Prelude.{◌≡◌, ◌≤◌, ◌+◌, IfOk, IfSome, length, map, true, false, MatchOption, None, slice_index_or, ◌*◌, ◌-◌, ◌<◌};
+ghost use Rattle.std.specs.Prelude.{◌≡◌, ◌≤◌, ◌+◌, IfOk, IfSome, length, true, false, MatchOption, None, slice_index_or, ◌*◌, ◌-◌, ◌<◌};
 ghost use Rattle.std.specs.Bool.{OnTrue};
 ghost use Rattle.terrain.specs.Sinks.{with_sinks};
 ghost use Rattle.tiles.specs.Cutting.{terrain_of, IsInBounds, is_in_bounds};
 ghost use Rattle.fill.specs.Labels.{labels_by};
-ghost use Rattle.fill.specs.TileFlood.{IsFlood, IsTileFlood, level_in, label_in, HasOneLabelAround, AreEqualAround, IsInner, levels_where, height_or_nought};
+ghost use Rattle.fill.specs.TileFlood.{IsFlood, IsTileFlood, level_in, label_in, HasOneLabelAround, AreEqualAround, IsInner, levels_where};
 
 use crate::labels::{Labels, labels_of};
-use floods::{CellNet, flood, without_border};
-use std::alloc::{AllocError, Global};
+use floods::{CellNet, FloodedNet, flood_net, without_border};
+use std::alloc::Global;
 use std::marker::Model;
 use terrain::{Height, NoMemory, Place};
 use tiles::{Bounds, TileView};
@@ -193,18 +193,6 @@ impl TileFlood {
     }
 }
 
-/// Levels, and 0 in place of those that are missing.
-fn heights_of(alloc: Global, levels: &[Option<Height>]) -> Result<Vec<Height>, AllocError>
-    ensures { IfOk result (λ v. v.items ≡ map height_or_nought levels.now) }
-{
-    let mut heights = Vec::with_capacity(alloc, levels.len())?;
-    for level in levels {
-        let height = level.unwrap_or(0);
-        heights.push(height)?;
-    }
-    Ok(heights)
-}
-
 /// The least crest of each cell's paths in the tile, and a source that has it. Of these sinks those in the tile are
 /// sources.
 pub fn tile_flood(
@@ -217,12 +205,12 @@ pub fn tile_flood(
 {
     let bounds = view.bounds();
     let net = CellNet::of_view(alloc, view, sinks)?;
-    let flooded = flood(alloc, &net)?;
+    let FloodedNet { levels, labels } = flood_net(alloc, &net)?;
     drop(net);
-    let levels = without_border(alloc, &flooded.level, bounds.cols, bounds.rows)?;
-    let nodes = without_border(alloc, &flooded.label, bounds.cols, bounds.rows)?;
+    let heights = without_border(alloc, levels.heights(), bounds.cols, bounds.rows)?;
+    drop(levels);
+    let nodes = without_border(alloc, labels.numbers(), bounds.cols, bounds.rows)?;
     let labels = labels_of(alloc, bounds, &nodes)?;
-    let heights = heights_of(alloc, &levels)?;
     Ok(TileFlood {
         bounds,
         heights,

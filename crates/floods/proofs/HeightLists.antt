@@ -1,12 +1,12 @@
 -- Lists of heights, some of which are lacking.
-use Rattle.std.proofs.Common.{◌≡◌, ℕ, zero, suc, ◌+◌, ◌<◌, ◌≤ℤ◌, ◌<ℤ◌, ℤ, pos, Bool, true, false, if◌then◌else◌, List, [], ◌∷◌, ◌++◌, length, get_or, set, take, replicate, unwrap_or, append_assoc, T, Option, None, Some, is_some, ◌∙◌, sym, ap, refl, arith, inl, inr, subst}
+use Rattle.std.proofs.Common.{◌≡◌, ℕ, zero, suc, ◌+◌, ◌<◌, ◌≤ℤ◌, ◌<ℤ◌, ℤ, pos, Bool, true, false, if◌then◌else◌, List, [], ◌∷◌, ◌++◌, length, get_or, map, set, take, ext_get_or, ◌⊎◌, replicate, unwrap_or, append_assoc, T, Option, None, Some, is_some, ◌∙◌, sym, ap, refl, arith, inl, inr, subst}
 use Rattle.std.specs.Int.Signed.{le_z, lt_z}
 use Rattle.std.proofs.lemmas.Int.{ints}
 use Rattle.std.proofs.lemmas.Float.{T_from_true}
 use Rattle.std.proofs.lemmas.Bool.{cases_eq, cases_lt}
 use Rattle.std.proofs.lemmas.Option.{same_Some}
-use Rattle.std.proofs.lemmas.List.{length-set, length_push, length-replicate, get_or-replicate, get_or-set_same, get_or-set_other, get_or_append_left, get_or_push, take_more, replicate-append-replicate}
-use Rattle.floods.specs.Notes.{AreHeights, heights_where, lack}
+use Rattle.std.proofs.lemmas.List.{length-map, get_or-map, length-set, length_push, length-replicate, get_or-replicate, get_or-set_same, get_or-set_other, get_or_append_left, get_or_push, take_more, replicate-append-replicate}
+use Rattle.floods.specs.Notes.{AreHeights, heights_where, height_or_lack, lack}
 
 pub length-where : (there : List Bool) (heights : List ℤ) → length there ≡ length heights → length (heights_where there heights) ≡ length heights
 length-where [] [] e = refl
@@ -148,3 +148,22 @@ one_lacking heights there seen i are list = (
   where-push there heights false lack are.size ∙ ap (λ (z : List (Option ℤ)). z ++ None ∷ []) list
       ∙ append_assoc seen (replicate i None) (None ∷ []) ∙ ap (λ z. seen ++ z) (replicate-append-replicate i 1 None),
 )
+
+-- how all entries stand
+pub stand : (heights : List ℤ) (there : List Bool) → AreHeights heights there → heights ≡ map height_or_lack (heights_where there heights)
+stand heights there are = ext_get_or (pos 0) heights (map height_or_lack seen) (sym (length-map seen height_or_lack ∙ length-where there heights are.size)) each where
+  seen : List (Option ℤ)
+  seen = heights_where there heights
+
+  cases_there : (b : Bool) → (b ≡ true) ⊎ (b ≡ false)
+  cases_there true = inl refl
+  cases_there false = inr refl
+
+  entry : (i : ℕ) → i < length heights → get_or (map height_or_lack seen) i (pos 0) ≡ height_or_lack (get_or seen i None)
+  entry i below = get_or-map height_or_lack seen i None (pos 0) (omega (arith, below, length-where there heights are.size))
+
+  each : (i : ℕ) → i < length heights → get_or heights i (pos 0) ≡ get_or (map height_or_lack seen) i (pos 0)
+  each i below = elim (cases_there (get_or there i false)) [
+    | inl is ↦ sym (entry i below ∙ ap height_or_lack (there_at heights there i are is))
+    | inr none ↦ are.lacks i below none ∙ sym (entry i below ∙ ap height_or_lack (not_there heights there i are none))
+  ]

@@ -1,9 +1,9 @@
 -- The nets of a whole grid and of a tile that a view shows, and the flood of a whole grid.
-use Rattle.std.proofs.Common.{◌⊎◌, ◌≡◌, ℕ, zero, suc, ◌+◌, ◌-◌, ◌*◌, ◌<◌, ◌≤◌, inl, inr, ℤ, Bool, List, [], ◌∷◌, length, get_or, take, drop, Option, None, is_some, ◌∙◌, sym, ap, arith, length-append, length-drop, length-take-le, subst}
+use Rattle.std.proofs.Common.{◌⊎◌, ◌≡◌, ℕ, zero, suc, ◌+◌, ◌-◌, ◌*◌, ◌<◌, ◌≤◌, inl, inr, ℤ, Bool, List, [], ◌∷◌, length, map, ◌++◌, refl, get_or, take, drop, Option, None, is_some, ◌∙◌, sym, ap, arith, length-append, length-drop, length-take-le, subst}
 use Rattle.std.proofs.Math.Nat.{add-sub_cancel_left}
 use Rattle.std.proofs.lemmas.Bool.{cases_eq}
 use Rattle.std.proofs.lemmas.Nat.{mul-add-lt}
-use Rattle.std.proofs.lemmas.List.{get_or_append_left, get_or-append_right, get_or-drop, get_or-take}
+use Rattle.std.proofs.lemmas.List.{take-map, drop-map, map-append, get_or_append_left, get_or-append_right, get_or-drop, get_or-take}
 use Rattle.std.proofs.lemmas.Slice.{between_is}
 use Rattle.std.specs.Prelude.{slice_range}
 use Rattle.terrain.specs.Raster.{Terrain}
@@ -31,6 +31,16 @@ length-inner_rows list cols (suc count) h =
     let was = length-inner_rows list cols count (omega arith) in
     let row : length (drop from (take (from + cols) list)) ≡ cols = length-drop from (take (from + cols) list) ∙ ap (λ n. n - from) (length-take-le (from + cols) list (omega arith)) ∙ omega arith in
     length-append (inner_rows list cols count) _ ∙ omega (arith, was, ap length (between_is list from (from + cols)) ∙ row)
+
+-- the entries inside the border, each taken for another
+pub inner_rows-map : {X Y : Type 0} (f : X → Y) (list : List X) (cols count : ℕ) → inner_rows (map f list) cols count ≡ map f (inner_rows list cols count)
+inner_rows-map f list cols zero = refl
+inner_rows-map f list cols (suc count) =
+    let from = (count + 1) * (cols + 2) + 1 in
+    let row : slice_range (map f list) from (from + cols) ≡ map f (slice_range list from (from + cols)) =
+    between_is (map f list) from (from + cols) ∙ ap (drop from) (take-map f (from + cols) list) ∙ drop-map f from (take (from + cols) list) ∙ ap (map f) (sym (between_is list from (from + cols))) in
+    ap (λ z. z ++ slice_range (map f list) from (from + cols)) (inner_rows-map f list cols count) ∙ ap (λ z. map f (inner_rows list cols count) ++ z) row
+    ∙ sym (map-append f (inner_rows list cols count) _)
 
 pub inner_rows_at : {X : Type 0} (list : List (Option X)) (cols count : ℕ) → (count + 1) * (cols + 2) ≤ length list → (r c : ℕ) → r < count → c < cols → get_or (inner_rows list cols count) (r * cols + c) None ≡ get_or list ((r + 1) * (cols + 2) + (c + 1)) None
 inner_rows_at list cols zero h r c below inside = absurd (omega arith)

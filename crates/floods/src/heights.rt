@@ -1,7 +1,7 @@
 // Lists of heights, some of which are lacking.
-ghost use Rattle.std.specs.Prelude.{◌≡◌, ◌↔◌, ◌<◌, ◌≤ℤ◌, ◌∷◌, [], ◌++◌, ℕ, ℤ, pos, IsTrue, IfOk, OnOk, None, Some, length, replicate, set, slice_index_or, is_some};
+ghost use Rattle.std.specs.Prelude.{◌≡◌, ◌↔◌, ◌<◌, ◌≤ℤ◌, ◌∷◌, [], ◌++◌, ℕ, ℤ, pos, IsTrue, IfOk, OnOk, None, Some, length, map, replicate, set, slice_index_or, is_some};
 ghost use Rattle.std.specs.Int.{int_max};
-ghost use Rattle.floods.specs.Notes.{AreHeights, heights_where};
+ghost use Rattle.floods.specs.Notes.{AreHeights, heights_where, height_or_lack};
 
 use std::alloc::{AllocError, Global};
 use std::marker::Model;
@@ -135,10 +135,9 @@ impl HeightList {
         self.there[index as usize] = true;
     }
 
-    /// The heights, and any number in place of those that are lacking.
+    /// The heights, and a number that no comparison is to read in place of those that are lacking.
     pub fn heights(&self) -> &[Height]
-        ensures size { length result.now ≡ length self.now }
-        ensures value { (index : ℕ) (h : ℤ) → slice_index_or self.now index None ≡ Some h → slice_index_or result.now index (pos 0) ≡ h }
+        ensures { result.now ≡ map height_or_lack self.now }
     {
         &self.heights
     }

@@ -1,4 +1,5 @@
 use Rattle.std.proofs.Common.{◌≡◌, ◌+◌, ◌*◌, ◌≤◌, length, map, take}
+use Rattle.floods.specs.Notes.{numbered_labels}
 use Rattle.fill.specs.Labels.{IsTable, AreMet, label_of_node, labels_by}
 use Rattle.fill.proofs.labels.labels_of.Given as goal
 
@@ -8,5 +9,5 @@ invariant-loop-node l = record {
   table : IsTable l.places.items l.cells.items;
   met : AreMet l.bounds l.met.items l.places.items;
   size : length l.met.items ≡ (l.bounds.rows + 2) * (l.bounds.cols + 2);
-  labels : labels_by l.places.items l.cells.items ≡ map (label_of_node l.bounds) (take l.node-index l.nodes);
+  labels : labels_by l.places.items l.cells.items ≡ map (label_of_node l.bounds) (take l.node-index (numbered_labels l.nodes));
 }

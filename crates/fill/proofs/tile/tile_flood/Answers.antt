@@ -2,30 +2,36 @@ use Rattle.std.proofs.Common.{◌≡◌, ◌+◌, ◌*◌, refl, sym, ap, subst,
 use Rattle.terrain.specs.Sinks.{with_sinks}
 use Rattle.tiles.specs.declared.bounds.Bounds.{Bounds}
 use Rattle.tiles.specs.Cutting.{terrain_of, bounds_of}
-use Rattle.fill.specs.TileFlood.{height_or_nought}
+use Rattle.floods.specs.Notes.{label_of, numbered_labels}
+use Rattle.fill.specs.Labels.{AreNodesBelow, label_of_node}
 use Rattle.fill.proofs.Where.{flood_where, heights_whole}
-use Rattle.fill.proofs.TileWindows.{tile_flood_is, inner_labels}
+use Rattle.fill.proofs.TileWindows.{tile_flood_is, inner_labels, inner_lists}
+use Rattle.std.proofs.lemmas.List.{length-map}
 use Rattle.fill.proofs.tile.tile_flood.Goals as goal
 
 pub labels_of-requires-clause-nodes : goal.labels_of-requires-clause-nodes
 labels_of-requires-clause-nodes c =
-    rw (c.deref-3.ensures.value, rw c.deref-2.ensures.value at c.in_ok-nodes.ensures, c.bounds-bounds.ensures.value)
-    ((inner_labels (bounds_of c.args.view.now.cutting c.args.view.now.tile) c.in_ok-net.net c.in_ok-flooded.flooded.level.items c.in_ok-flooded.flooded.label.items c.in_ok-net.ensures.size c.in_ok-flooded.ensures).0)
+    let b = c.bounds-bounds.result in
+    let size : length c.in_ok-net.net.cells ≡ (b.rows + 2) * (b.cols + 2) = subst (λ (x : Bounds). length c.in_ok-net.net.cells ≡ (x.rows + 2) * (x.cols + 2)) (sym c.bounds-bounds.ensures.value) c.in_ok-net.ensures.size in
+    let lists = inner_lists c.bounds-bounds.result c.in_ok-levels.field-0.levels c.in_ok-levels.field-0.labels _ _ _ _ c.heights.ensures c.numbers.ensures c.in_ok-heights.ensures c.in_ok-nodes.ensures in
+    rw (c.deref.ensures.value, lists.1) (inner_labels b c.in_ok-net.net c.in_ok-levels.field-0.levels c.in_ok-levels.field-0.labels size c.in_ok-levels.ensures).0
 
 pub labels_of-requires-clause-size : goal.labels_of-requires-clause-size
 labels_of-requires-clause-size c =
-    rw (c.deref-3.ensures.value, rw c.deref-2.ensures.value at c.in_ok-nodes.ensures, c.bounds-bounds.ensures.value)
-    ((inner_labels (bounds_of c.args.view.now.cutting c.args.view.now.tile) c.in_ok-net.net c.in_ok-flooded.flooded.level.items c.in_ok-flooded.flooded.label.items c.in_ok-net.ensures.size c.in_ok-flooded.ensures).1)
+    let b = c.bounds-bounds.result in
+    let size : length c.in_ok-net.net.cells ≡ (b.rows + 2) * (b.cols + 2) = subst (λ (x : Bounds). length c.in_ok-net.net.cells ≡ (x.rows + 2) * (x.cols + 2)) (sym c.bounds-bounds.ensures.value) c.in_ok-net.ensures.size in
+    let lists = inner_lists c.bounds-bounds.result c.in_ok-levels.field-0.levels c.in_ok-levels.field-0.labels _ _ _ _ c.heights.ensures c.numbers.ensures c.in_ok-heights.ensures c.in_ok-nodes.ensures in
+    ap length c.deref.ensures.value ∙ sym (length-map c.in_ok-nodes.nodes.items label_of) ∙ ap length lists.1
+    ∙ (inner_labels b c.in_ok-net.net c.in_ok-levels.field-0.levels c.in_ok-levels.field-0.labels size c.in_ok-levels.ensures).1
 
 pub invariant_of-result : goal.invariant_of-result
 invariant_of-result c =
     let b = c.bounds-bounds.result in
     let size : length c.in_ok-net.net.cells ≡ (b.rows + 2) * (b.cols + 2) = subst (λ (x : Bounds). length c.in_ok-net.net.cells ≡ (x.rows + 2) * (x.cols + 2)) (sym c.bounds-bounds.ensures.value) c.in_ok-net.ensures.size in
-    let levels = rw c.deref.ensures.value at c.in_ok-levels.ensures in
-    let heights = rw c.deref-4.ensures.value at c.in_ok-heights.ensures in
-    let labels = rw (c.deref-3.ensures.value, rw c.deref-2.ensures.value at c.in_ok-nodes.ensures) at c.in_ok-labels.ensures in (
-      heights_whole c.bounds-bounds.result c.in_ok-flooded.flooded.level.items c.in_ok-flooded.flooded.label.items c.in_ok-labels.labels.places.items c.in_ok-labels.labels.cells.items c.in_ok-heights.heights.items
-          (c.in_ok-flooded.ensures.levels_size ∙ size) (c.in_ok-flooded.ensures.labels_size ∙ size) (heights ∙ ap (map height_or_nought) levels) labels,
+    let lists = inner_lists c.bounds-bounds.result c.in_ok-levels.field-0.levels c.in_ok-levels.field-0.labels _ _ _ _ c.heights.ensures c.numbers.ensures c.in_ok-heights.ensures c.in_ok-nodes.ensures in
+    let labels = rw (c.deref.ensures.value, lists.1) at c.in_ok-labels.ensures in (
+      heights_whole b c.in_ok-levels.field-0.levels c.in_ok-levels.field-0.labels c.in_ok-labels.labels.places.items c.in_ok-labels.labels.cells.items c.in_ok-heights.heights.items
+          (c.in_ok-levels.ensures.levels_size ∙ size) (c.in_ok-levels.ensures.labels_size ∙ size) lists.0 labels,
       tt,
     )
 
@@ -35,11 +41,12 @@ invariant_of-result-2 c =
     let cutting = c.args.view.now.cutting in
     let tile = c.args.view.now.tile in
     let t = with_sinks (terrain_of c.args.view.now) c.args.sinks.now in
-    (flood_where t cutting tile c.bounds-bounds.result c.in_ok-levels.levels.items _ c.in_ok-heights.heights.items lawful.cutting lawful.tile (rw c.deref-4.ensures.value at c.in_ok-heights.ensures)
+    let lists = inner_lists c.bounds-bounds.result c.in_ok-levels.field-0.levels c.in_ok-levels.field-0.labels _ _ _ _ c.heights.ensures c.numbers.ensures c.in_ok-heights.ensures c.in_ok-nodes.ensures in
+    let labels = rw (c.deref.ensures.value, lists.1) at c.in_ok-labels.ensures in
+    (flood_where t cutting tile c.bounds-bounds.result _ _ c.in_ok-heights.heights.items lawful.cutting lawful.tile lists.0
     (tile_flood_is t cutting tile c.in_ok-net.net c.bounds-bounds.result
-    c.in_ok-flooded.flooded.level.items c.in_ok-levels.levels.items c.in_ok-flooded.flooded.label.items _
-    lawful.cutting lawful.tile (refl, refl) c.in_ok-net.ensures c.in_ok-flooded.ensures c.bounds-bounds.ensures.value
-    (rw c.deref.ensures.value at c.in_ok-levels.ensures) (rw (c.deref-3.ensures.value, rw c.deref-2.ensures.value at c.in_ok-nodes.ensures) at c.in_ok-labels.ensures))).1
+    c.in_ok-levels.field-0.levels _ c.in_ok-levels.field-0.labels _
+    lawful.cutting lawful.tile (refl, refl) c.in_ok-net.ensures c.in_ok-levels.ensures c.bounds-bounds.ensures.value refl labels)).1
 
 pub returns : goal.returns
 returns c =
@@ -47,8 +54,9 @@ returns c =
     let cutting = c.args.view.now.cutting in
     let tile = c.args.view.now.tile in
     let t = with_sinks (terrain_of c.args.view.now) c.args.sinks.now in
-    (flood_where t cutting tile c.bounds-bounds.result c.in_ok-levels.levels.items _ c.in_ok-heights.heights.items lawful.cutting lawful.tile (rw c.deref-4.ensures.value at c.in_ok-heights.ensures)
+    let lists = inner_lists c.bounds-bounds.result c.in_ok-levels.field-0.levels c.in_ok-levels.field-0.labels _ _ _ _ c.heights.ensures c.numbers.ensures c.in_ok-heights.ensures c.in_ok-nodes.ensures in
+    let labels = rw (c.deref.ensures.value, lists.1) at c.in_ok-labels.ensures in
+    (flood_where t cutting tile c.bounds-bounds.result _ _ c.in_ok-heights.heights.items lawful.cutting lawful.tile lists.0
     (tile_flood_is t cutting tile c.in_ok-net.net c.bounds-bounds.result
-    c.in_ok-flooded.flooded.level.items c.in_ok-levels.levels.items c.in_ok-flooded.flooded.label.items _
-    lawful.cutting lawful.tile (refl, refl) c.in_ok-net.ensures c.in_ok-flooded.ensures c.bounds-bounds.ensures.value
-    (rw c.deref.ensures.value at c.in_ok-levels.ensures) (rw (c.deref-3.ensures.value, rw c.deref-2.ensures.value at c.in_ok-nodes.ensures) at c.in_ok-labels.ensures))).0
+    c.in_ok-levels.field-0.levels _ c.in_ok-levels.field-0.labels _
+    lawful.cutting lawful.tile (refl, refl) c.in_ok-net.ensures c.in_ok-levels.ensures c.bounds-bounds.ensures.value refl labels)).0
