@@ -1,17 +1,18 @@
 -- What the floods say of cells, and the joins of cells amid a tile.
-use Rattle.std.proofs.Common.{◌≡◌, ℕ, ◌+◌, ◌-◌, ◌*◌, ◌<◌, ◌≤◌, inl, inr, ℤ, true, List, length, get_or, Option, None, Some, ◌∙◌, sym, ap, subst, refl, arith, ◌/◌, ◌%◌}
+use Rattle.std.proofs.Common.{◌≡◌, ◌↔◌, ◌⊎◌, ℕ, ◌+◌, ◌-◌, ◌*◌, ◌<◌, ◌≤◌, inl, inr, ℤ, true, List, length, get_or, Option, None, Some, ◌∙◌, sym, ap, subst, refl, arith, ◌/◌, ◌%◌}
 use Rattle.std.specs.Prelude.{slice_get, option_and_then, slice_index_or, MatchOption}
-use Rattle.std.proofs.lemmas.Bool.{cond-false, cases_Bool, cases_eq}
+use Rattle.std.proofs.lemmas.Bool.{cond-false, cases_Bool, cases_eq, cases_lt}
 use Rattle.std.proofs.lemmas.List.{get_or-map}
 use Rattle.std.proofs.lemmas.Option.{MatchOption-at_some, MatchOption-at_none, same_Some, slice_get_within}
 use Rattle.terrain.specs.Neighbours.{index_of}
 use Rattle.terrain.specs.declared.place.Place.{Place}
+use Rattle.terrain.proofs.Places.{same_place}
 use Rattle.tiles.specs.declared.bounds.Bounds.{Bounds}
 use Rattle.tiles.specs.Cutting.{Cutting, IsCutting, IsWithin, IsInTile, IsInBounds, tile_count, tile_of_place, bounds_of, is_in_bounds}
 use Rattle.tiles.proofs.Cut.{in_tile, in_bounds_parts}
 use Rattle.fill.specs.TileFlood.{Flood, LabelsInside, level_in, label_in, entry_in, AreEqualAround, HasOneLabelAround, IsInner, IsFlood}
 use Rattle.fill.specs.Labels.{labels_by}
-use Rattle.fill.specs.Gathering.{Fit, mark_of, mark_among, Meets, Adds, mark_with, joins_of, AddsAround, AddsCovered}
+use Rattle.fill.specs.Gathering.{Fit, mark_of, mark_among, Adds, mark_with, joins_of, AddsAround, AddsCovered}
 use Rattle.fill.specs.declared.spills.Join.{Join}
 use Rattle.fill.specs.declared.marks.Mark.{Mark}
 use Rattle.std.proofs.lemmas.Nat.{mul-le}
@@ -104,21 +105,6 @@ one_label_around f places cells p i are lawful inner at e q t =
     let same = equal_near cells b.cols (p.row - b.top) (p.col - b.left) (q.row - b.top) (q.col - b.left) row col (subst (λ n. AreEqualAround cells n b.cols) at e) (omega (arith, t.row_up, row)) (omega (arith, t.row_down, row)) (omega (arith, t.col_left, col)) (omega (arith, t.col_right, col)) in
     (there, ap (λ (z : List (Option Place)). entry_in b z q) are ∙ label_by_entry b places cells q size there ∙ ap (λ k. get_or places k None) same ∙ sym (label_by_entry b places cells p size here) ∙ ap (λ (z : List (Option Place)). entry_in b z p) (sym are))
 
--- a cell with one label around it adds no joins
-pub one_label_adds : (c : Cutting) (floods : List Flood) (sources : List (Option ℤ)) (tile : ℕ) (f : Flood) (p : Place) (old : List Join) → IsCutting c → tile < tile_count c → slice_get floods tile ≡ Some f → f.bounds ≡ bounds_of c tile → IsInTile c tile p → HasOneLabelAround f p → Adds c floods sources (λ q. q ≡ p) old old
-one_label_adds c floods sources tile f p old h below e bounds i around = record {
-  kept = λ j held. covered_itself old j held;
-  only = λ j held. inl held;
-  every = λ x q j same m.
-      let here = subst (λ (z : Place). Meets c floods sources z q j) same m in
-      let near = around q here.touches in
-      let inside = in_tile c tile q h below (subst (λ (b : Bounds). IsInBounds b q) bounds near.0) in
-      let from = mark_parts c.cols _ _ _ (mark_from_tile c floods tile f p e i.1 ∙ here.from_is) in
-      let to = mark_parts c.cols _ _ _ (mark_from_tile c floods tile f q e inside.1 ∙ here.to_is) in
-      let label = same_Some _ _ (sym from.2 ∙ sym near.1 ∙ to.2) in
-      absurd (here.different (sym from.3 ∙ ap (index_of c.cols) label ∙ to.3));
-}
-
 -- an entry of a flood is the mark of its cell
 pub entry_mark : (c : Cutting) (floods : List Flood) (tile : ℕ) (f : Flood) (q : Place) (i : ℕ) → IsCutting c → tile < tile_count c → slice_get floods tile ≡ Some f → f.bounds ≡ bounds_of c tile → IsInBounds (bounds_of c tile) q → i ≡ (q.row - (bounds_of c tile).top) * (bounds_of c tile).cols + (q.col - (bounds_of c tile).left) → mark_among c floods q ≡ mark_with c.cols f i
 entry_mark c floods tile f q i h below e bounds inside at =
@@ -141,6 +127,36 @@ same_label_adds cols f sources i j from now is same = record {
       let label = same_Some _ _ (sym a.2 ∙ same ∙ b.2) in
       absurd (m.2 (sym a.3 ∙ ap (index_of cols) label ∙ b.3));
 }
+
+-- a cell whose entry is equal to the eight around it gives no joins
+pub equal_around_adds : (cols : ℕ) (f : Flood) (sources : List (Option ℤ)) (places : List (Option Place)) (cells : List ℕ) (i width : ℕ) (now : List Join) → f.labels ≡ labels_by places cells → i + width + 1 < length cells → AreEqualAround cells i width → MatchOption (mark_with cols f i) (now ≡ now) (λ from. AddsAround cols f sources from i width now now)
+equal_around_adds cols f sources places cells i width now are inside e = elim (seen (mark_with cols f i)) [
+  | inl none ↦ subst (λ (o : Option Mark). MatchOption o (now ≡ now) (λ from. AddsAround cols f sources from i width now now)) (sym none) refl
+  | inr found ↦ subst (λ (o : Option Mark). MatchOption o (now ≡ now) (λ from. AddsAround cols f sources from i width now now)) (sym found.1) (record {
+    after_first = now;
+    after_second = now;
+    after_third = now;
+    after_fourth = now;
+    after_fifth = now;
+    after_sixth = now;
+    after_seventh = now;
+    north_west = near found.0 found.1 0 (omega arith) (omega arith);
+    north = near found.0 found.1 1 (omega arith) (omega arith);
+    north_east = near found.0 found.1 2 (omega arith) (omega arith);
+    west = near found.0 found.1 3 (omega arith) (omega arith);
+    east = near found.0 found.1 4 (omega arith) (omega arith);
+    south_west = near found.0 found.1 5 (omega arith) (omega arith);
+    south = near found.0 found.1 6 (omega arith) (omega arith);
+    south_east = near found.0 found.1 7 (omega arith) (omega arith);
+  })
+] where
+  label : (k : ℕ) → k < length cells → get_or f.labels k None ≡ get_or places (get_or cells k 0) None
+  label k low = ap (λ (z : List (Option Place)). get_or z k None) are ∙ get_or-map (λ n. get_or places n None) cells k 0 None low
+
+  near : (from : Mark) → mark_with cols f i ≡ Some from → (way : ℕ) → way < 8 → get_or (cells_around width i) way 0 < length cells → AddsCovered now (joins_of sources from (mark_with cols f (get_or (cells_around width i) way 0))) now
+  near from is way few low =
+      let j = get_or (cells_around width i) way 0 in
+      same_label_adds cols f sources i j from now is (label i (omega (arith, inside)) ∙ ap (λ n. get_or places n None) (sym (e way 0 few)) ∙ sym (label j low))
 
 -- the joins with the eight cells around have been added
 pub inner_adds : (c : Cutting) (floods : List Flood) (sources : List (Option ℤ)) (tile : ℕ) (f : Flood) (p : Place) (i : ℕ) (from : Mark) (old new : List Join) → IsCutting c → tile < tile_count c → slice_get floods tile ≡ Some f → f.bounds ≡ bounds_of c tile → IsInner (bounds_of c tile) p → i ≡ (p.row - (bounds_of c tile).top) * (bounds_of c tile).cols + (p.col - (bounds_of c tile).left) → mark_with c.cols f i ≡ Some from → AddsAround c.cols f sources from i (bounds_of c tile).cols old new → Adds c floods sources (λ q. q ≡ p) old new
@@ -187,16 +203,36 @@ inner_adds c floods sources tile f p i from old new h below e bounds inner at is
           same_row same_col few s a
 
 -- a cell that is not on the rim has its joins added, where it has a mark
-pub inner_cell_adds : (c : Cutting) (floods : List Flood) (sources : List (Option ℤ)) (tile : ℕ) (f : Flood) (p : Place) (i : ℕ) (old new : List Join) → IsCutting c → tile < tile_count c → slice_get floods tile ≡ Some f → f.bounds ≡ bounds_of c tile → IsInner f.bounds p → i ≡ (p.row - f.bounds.top) * f.bounds.cols + (p.col - f.bounds.left) → MatchOption (mark_with c.cols f i) (new ≡ old) (λ from. AddsAround c.cols f sources from i f.bounds.cols old new) → Adds c floods sources (λ q. q ≡ p) old new
-inner_cell_adds c floods sources tile f p i old new h below e bounds inner at s =
-    let at_tile : i ≡ (p.row - (bounds_of c tile).top) * (bounds_of c tile).cols + (p.col - (bounds_of c tile).left) = at ∙ ap (λ (b : Bounds). (p.row - b.top) * b.cols + (p.col - b.left)) bounds in
-    let inner_tile : IsInner (bounds_of c tile) p = subst (λ (b : Bounds). IsInner b p) bounds inner in
-    elim (seen (mark_with c.cols f i)) [
-      | inl none ↦
-          let same = MatchOption-at_none _ _ none s in
-          let inside : IsInBounds (bounds_of c tile) p = (omega (arith, inner_tile), omega (arith, inner_tile), omega (arith, inner_tile), omega (arith, inner_tile)) in
-          subst (λ (z : List Join). Adds c floods sources (λ q. q ≡ p) old z) (sym same) (no_mark_adds c floods sources p old (entry_mark c floods tile f p i h below e bounds inside at_tile ∙ none))
-      | inr found ↦
-          inner_adds c floods sources tile f p i found.0 old new h below e bounds inner_tile at_tile found.1
-          (subst (λ (b : Bounds). AddsAround c.cols f sources found.0 i b.cols old new) bounds (MatchOption-at_some _ _ found.0 found.1 s))
-    ]
+pub inner_cell_adds : (c : Cutting) (floods : List Flood) (sources : List (Option ℤ)) (tile : ℕ) (f : Flood) (p : Place) (i : ℕ) (old new : List Join) → IsCutting c → tile < tile_count c → slice_get floods tile ≡ Some f → f.bounds ≡ bounds_of c tile → IsInner (bounds_of c tile) p → i ≡ (p.row - (bounds_of c tile).top) * (bounds_of c tile).cols + (p.col - (bounds_of c tile).left) → MatchOption (mark_with c.cols f i) (new ≡ old) (λ from. AddsAround c.cols f sources from i f.bounds.cols old new) → Adds c floods sources (λ q. q ≡ p) old new
+inner_cell_adds c floods sources tile f p i old new h below e bounds inner at s = elim (seen (mark_with c.cols f i)) [
+  | inl none ↦
+      let same = MatchOption-at_none _ _ none s in
+      let inside : IsInBounds (bounds_of c tile) p = (omega (arith, inner), omega (arith, inner), omega (arith, inner), omega (arith, inner)) in
+      subst (λ (z : List Join). Adds c floods sources (λ q. q ≡ p) old z) (sym same) (no_mark_adds c floods sources p old (entry_mark c floods tile f p i h below e bounds inside at ∙ none))
+  | inr found ↦
+      inner_adds c floods sources tile f p i found.0 old new h below e bounds inner at found.1
+      (subst (λ (b : Bounds). AddsAround c.cols f sources found.0 i b.cols old new) bounds (MatchOption-at_some _ _ found.0 found.1 s))
+]
+
+-- the cells of an inner row have a row of the tile before them, and one after them
+pub inner_row_index : (b : Bounds) (row index : ℕ) → b.top < row → row + 1 < b.top + b.rows → (row - b.top) * b.cols + 1 ≤ index → index + 1 < (row - b.top) * b.cols + b.cols → (b.cols + 1 ≤ index) × (index + b.cols + 1 < b.rows * b.cols)
+inner_row_index b row index above below first last = (
+  omega (arith, first, mul-le 1 b.cols (row - b.top) b.cols (omega (arith, above)) (omega arith)),
+  omega (arith, last, mul-le (row - b.top + 2) b.cols b.rows b.cols (omega (arith, above, below)) (omega arith)),
+)
+
+-- the inner cells of a row up to one, and it
+pub inner_so_far : (b : Bounds) (row start index : ℕ) → b.top < row → row + 1 < b.top + b.rows → start < index → index + 1 < start + b.cols → (p : Place) →
+    (IsInner b p × (p.row ≡ row) × (p.col + start < b.left + (index + 1))) ↔ ((IsInner b p × (p.row ≡ row) × (p.col + start < b.left + index)) ⊎ (p ≡ record { row = row; col = b.left + (index - start) }))
+inner_so_far b row start index above below first last p = (
+  λ at. elim (cases_lt (p.col + start) (b.left + index)) [
+    | inl early ↦ inl (at.0, at.1, early)
+    | inr late ↦ inr (same_place p (record { row = row; col = b.left + (index - start) }) at.1 (omega (arith, at.2, late, first)))
+  ],
+  λ at. elim at [
+    | inl early ↦ (early.0, early.1, omega (arith, early.2))
+    | inr same ↦
+        subst (λ (q : Place). IsInner b q × (q.row ≡ row) × (q.col + start < b.left + (index + 1))) (sym same)
+        ((omega (arith, above), omega (arith, below), omega (arith, first), omega (arith, first, last)), refl, omega (arith, first))
+  ],
+)

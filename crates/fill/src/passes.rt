@@ -3,7 +3,7 @@ ghost use Rattle.std.specs.Prelude.{◌≡◌, ◌+◌, ◌<◌, ◌≤◌, ◌�
 ghost use Rattle.std.specs.Bool.{OnTrue, OnFalse};
 ghost use Rattle.terrain.specs.declared.place.Place.{Place};
 ghost use Rattle.tiles.specs.Cutting.{IsCutting, IsWithin, IsInTile, bounds_of, tile_count};
-ghost use Rattle.fill.specs.TileFlood.{LabelsInside};
+ghost use Rattle.fill.specs.TileFlood.{LabelsInside, AreEqualAround, IsInner};
 ghost use Rattle.fill.specs.Gathering.{Fit, Adds, AddsCovered, AddsAround, AreLowest, are_settled, IsRepeat, joins_of, mark_with};
 
 use crate::marks::{Mark, mark_at, mark_of_entry};
@@ -264,7 +264,28 @@ fn push_around(
     Ok(())
 }
 
-/// Adds the joins of a cell that is not on the rim of its tile.
+/// Whether an entry is equal to the eight around it in rows of this width.
+#[inline(always)]
+fn are_equal_around(labels: &[u32], index: usize, width: usize) -> bool
+    requires before { width + 1 ≤ index }
+    requires after { index + width + 1 < length labels.now }
+    ensures { OnTrue result (AreEqualAround labels.now index width) }
+{
+    let label = labels[index];
+    let above = index - width;
+    let below = index + width;
+    labels[index - 1] == label
+        && labels[index + 1] == label
+        && labels[above - 1] == label
+        && labels[above] == label
+        && labels[above + 1] == label
+        && labels[below - 1] == label
+        && labels[below] == label
+        && labels[below + 1] == label
+}
+
+/// Adds the joins of a cell that is not on the rim of its tile. Most cells have one label around them, and none.
+#[inline(always)]
 fn push_inner_cell(
     table: &mut JoinTable,
     tiling: &Tiling,
@@ -278,37 +299,64 @@ fn push_inner_cell(
     ensures { OnOk result (MatchOption (mark_with tiling.now.cols flood.now index) (table.new.joins.items ≡ table.old.joins.items)
         (λ from. AddsAround tiling.now.cols flood.now sources.now from index flood.now.bounds.cols table.old.joins.items table.new.joins.items)) }
 {
+    let width = flood.bounds().cols as usize;
+    if are_equal_around(&flood.labels().cells, index, width) {
+        return Ok(());
+    }
     let Some(from) = mark_of_entry(tiling, flood, index) else {
         return Ok(());
     };
-    let width = flood.bounds().cols as usize;
     push_around(table, tiling, flood, sources, index, from, width)
 }
 
-/// Adds the joins of a cell of a tile with those that touch it. Most cells have one label around them, and none.
-#[inline(always)]
-fn push_cell(
+/// Adds the joins of the cells of one row of a tile that are not on its rim.
+fn push_inner_cells(
     table: &mut JoinTable,
     tiling: &Tiling,
     floods: &[TileFlood],
     sources: &SourceHeights,
     tile: u32,
-    place: Place,
+    row: u32,
 ) -> Result<(), AllocError>
     requires fit { Fit tiling.now floods.now }
     requires tile { tile < tile_count tiling.now }
-    requires place { IsInTile tiling.now tile place }
     requires lawful { IsCutting tiling.now }
-    ensures { OnOk result (Adds tiling.now floods.now sources.now (λ p. p ≡ place) table.old.joins.items table.new.joins.items) }
+    requires top { (bounds_of tiling.now tile).top < row }
+    requires row { row + 1 < (bounds_of tiling.now tile).top + (bounds_of tiling.now tile).rows }
+    ensures { OnOk result (Adds tiling.now floods.now sources.now
+        (λ p. IsInner (bounds_of tiling.now tile) p × (p.row ≡ row)) table.old.joins.items table.new.joins.items) }
 {
     let flood = &floods[tile as usize];
-    if flood.has_one_label_around(place) {
-        return Ok(());
+    let Bounds { top, cols, .. } = tiling.bounds(tile);
+    let width = cols as usize;
+    let start = (row - top) as usize * width;
+    for index in start + 1..start + width - 1 {
+        push_inner_cell(table, tiling, flood, sources, index)?;
     }
-    match flood.inner_index(place) {
-        Some(index) => push_inner_cell(table, tiling, flood, sources, index),
-        None => push_rim_cell(table, tiling, floods, sources, tile, place),
+    Ok(())
+}
+
+/// Adds the joins of the cells of one row of a tile, whichever tiles those that touch them are of.
+fn push_rim_cells(
+    table: &mut JoinTable,
+    tiling: &Tiling,
+    floods: &[TileFlood],
+    sources: &SourceHeights,
+    tile: u32,
+    row: u32,
+) -> Result<(), AllocError>
+    requires fit { Fit tiling.now floods.now }
+    requires tile { tile < tile_count tiling.now }
+    requires top { (bounds_of tiling.now tile).top ≤ row }
+    requires row { row < (bounds_of tiling.now tile).top + (bounds_of tiling.now tile).rows }
+    ensures { OnOk result (Adds tiling.now floods.now sources.now
+        (λ p. IsInTile tiling.now tile p × (p.row ≡ row)) table.old.joins.items table.new.joins.items) }
+{
+    let Bounds { left, cols, .. } = tiling.bounds(tile);
+    for col in left..left + cols {
+        push_rim_cell(table, tiling, floods, sources, tile, Place { row, col })?;
     }
+    Ok(())
 }
 
 /// Adds the joins of the cells of one row of a tile.
@@ -327,10 +375,33 @@ fn push_cells(
     ensures { OnOk result (Adds tiling.now floods.now sources.now
         (λ p. IsInTile tiling.now tile p × (p.row ≡ row)) table.old.joins.items table.new.joins.items) }
 {
-    let Bounds { left, cols, .. } = tiling.bounds(tile);
-    for col in left..left + cols {
-        push_cell(table, tiling, floods, sources, tile, Place { row, col })?;
+    let Bounds {
+        top,
+        left,
+        rows,
+        cols,
+    } = tiling.bounds(tile);
+    if row == top || row + 1 == top + rows {
+        return push_rim_cells(table, tiling, floods, sources, tile, row);
     }
+    let last = left + cols - 1;
+    push_rim_cell(
+        table,
+        tiling,
+        floods,
+        sources,
+        tile,
+        Place { row, col: left },
+    )?;
+    push_inner_cells(table, tiling, floods, sources, tile, row)?;
+    push_rim_cell(
+        table,
+        tiling,
+        floods,
+        sources,
+        tile,
+        Place { row, col: last },
+    )?;
     Ok(())
 }
 

@@ -1,48 +1,58 @@
-use Rattle.std.proofs.Common.{◌≡◌, ◌↔◌, ◌⊎◌, ℕ, ◌+◌, ◌<◌, ap, sym, subst, refl, arith, inl, inr}
-use Rattle.tiles.specs.declared.bounds.Bounds.{Bounds}
-use Rattle.std.proofs.lemmas.Bool.{cases_lt}
+use Rattle.std.proofs.Common.{◌≡◌, ◌↔◌, ◌⊎◌, ℕ, ◌+◌, ◌-◌, ◌<◌, ◌≤◌, ap, sym, subst, refl, arith, inl, inr}
+use Rattle.std.proofs.lemmas.Bool.{cases_eq}
 use Rattle.terrain.specs.declared.place.Place.{Place}
 use Rattle.terrain.proofs.Places.{same_place}
-use Rattle.tiles.specs.Cutting.{Cutting, IsInTile}
-use Rattle.fill.proofs.Adding.{adds_then, adds_as}
+use Rattle.tiles.specs.declared.bounds.Bounds.{Bounds}
+use Rattle.tiles.specs.Cutting.{Cutting, IsInTile, IsInBounds}
+use Rattle.fill.specs.TileFlood.{IsInner}
+use Rattle.fill.proofs.Adding.{adds_then}
 use Rattle.fill.proofs.passes.push_cells.Goals as goal
 
--- the cells of a row up to one, and it
-row_so_far : (t : Cutting) (tile row col : ℕ) → IsInTile t tile (record { row = row; col = col }) → (p : Place) → (IsInTile t tile p × (p.row ≡ row) × (p.col < col + 1)) ↔ ((IsInTile t tile p × (p.row ≡ row) × (p.col < col)) ⊎ (p ≡ record { row = row; col = col }))
-row_so_far t tile row col inside p = (
-  λ at. elim (cases_lt p.col col) [
-    | inl early ↦ inl (at.0, at.1, early)
-    | inr late ↦ inr (same_place p (record { row = row; col = col }) at.1 (omega (arith, at.2, late)))
+-- the cells of a row of bounds: the first, those that are not on the rim, and the last
+row_parts : (b : Bounds) (row : ℕ) → b.top < row → row + 1 < b.top + b.rows → 1 ≤ b.cols → (p : Place) →
+    (IsInBounds b p × (p.row ≡ row)) ↔ (((p ≡ record { row = row; col = b.left }) ⊎ (IsInner b p × (p.row ≡ row))) ⊎ (p ≡ record { row = row; col = b.left + b.cols - 1 }))
+row_parts b row above below some p = (
+  λ at. elim (cases_eq p.col b.left) [
+    | inl first ↦ inl (inl (same_place p (record { row = row; col = b.left }) at.1 first))
+    | inr other ↦ elim (cases_eq (p.col + 1) (b.left + b.cols)) [
+      | inl last ↦ inr (same_place p (record { row = row; col = b.left + b.cols - 1 }) at.1 (omega (arith, last)))
+      | inr amid ↦ inl (inr ((omega (arith, above, at.1), omega (arith, below, at.1), omega (arith, other, at.0), omega (arith, amid, at.0)), at.1))
+    ]
   ],
   λ at. elim at [
-    | inl early ↦ (early.0, early.1, omega (arith, early.2))
-    | inr same ↦ subst (λ (q : Place). IsInTile t tile q × (q.row ≡ row) × (q.col < col + 1)) (sym same) (inside, refl, omega arith)
+    | inr last ↦ subst (λ (q : Place). IsInBounds b q × (q.row ≡ row)) (sym last) ((omega (arith, above), omega (arith, below), omega (arith, some), omega (arith, some)), refl)
+    | inl before ↦ elim before [
+      | inl first ↦ subst (λ (q : Place). IsInBounds b q × (q.row ≡ row)) (sym first) ((omega (arith, above), omega (arith, below), omega arith, omega (arith, some)), refl)
+      | inr inner ↦ ((omega (arith, inner.0), omega (arith, inner.0), omega (arith, inner.0), omega (arith, inner.0)), inner.1)
+    ]
   ],
 )
 
-pub loop-col-preserved : goal.loop-col-preserved
-loop-col-preserved c =
-    let top = ap (λ (b : Bounds). b.top) c.bounds-left.ensures.value in
-    let rows = ap (λ (b : Bounds). b.rows) c.bounds-left.ensures.value in
-    let inside = (c.bounds-left.ensures.places (record { row = c.args.row; col = c.loop-col.col })).1 (omega (arith, top, c.requires.top), omega (arith, top, rows, c.requires.row), c.loop-col.auto.col, c.loop-col-test.true) in
-    adds_then c.args.tiling.now c.args.floods.now c.args.sources.now
-    (λ p. IsInTile c.args.tiling.now c.args.tile p × (p.row ≡ c.args.row) × (p.col < c.loop-col.col))
-    (λ p. p ≡ record { row = c.args.row; col = c.loop-col.col })
-    (λ p. IsInTile c.args.tiling.now c.args.tile p × (p.row ≡ c.args.row) × (p.col < c.loop-col.col + 1)) _ _ _
-    (row_so_far c.args.tiling.now c.args.tile c.args.row c.loop-col.col inside)
-    c.loop-col.invariant c.in_ok-push_cell.ensures
-
 pub returns : goal.returns
 returns c =
-    adds_as c.args.tiling.now c.args.floods.now c.args.sources.now
-    (λ p. IsInTile c.args.tiling.now c.args.tile p × (p.row ≡ c.args.row) × (p.col < c.loop-col.col))
-    (λ p. IsInTile c.args.tiling.now c.args.tile p × (p.row ≡ c.args.row)) _ _
-    (λ p. (λ at. let inside = (c.bounds-left.ensures.places p).0 at.0 in (at.0, at.1, omega (arith, inside.3, c.loop-col-test.false)), λ at. (at.0, at.1)))
-    c.loop-col.invariant
-
-pub push_cell-requires-clause-place : goal.push_cell-requires-clause-place
-push_cell-requires-clause-place c =
-    let place : Place = record { row = c.args.row; col = c.loop-col.col } in
-    let top = ap (λ (b : Bounds). b.top) c.bounds-left.ensures.value in
-    let rows = ap (λ (b : Bounds). b.rows) c.bounds-left.ensures.value in
-    (c.bounds-left.ensures.places place).1 (omega (arith, top, c.requires.top), omega (arith, top, rows, c.requires.row), c.loop-col.auto.col, c.loop-col-test.true)
+    let t : Cutting = c.args.tiling.now in
+    let b : Bounds = c.bounds-top.result in
+    let row : ℕ = c.args.row in
+    let same = c.bounds-top.ensures.value in
+    let above : b.top < row = omega (arith, ap (λ (z : Bounds). z.top) same, c.requires.top, c.if-row-top.false) in
+    let below : row + 1 < b.top + b.rows = omega (arith, ap (λ (z : Bounds). z.top) same, ap (λ (z : Bounds). z.rows) same, c.requires.row, c.if-row-top-2.false) in
+    let parts = row_parts b row above below c.bounds-top.ensures.inside.some_col in
+    let places = c.bounds-top.ensures.places in
+    let first : Place = record { row = row; col = b.left } in
+    let last : Place = record { row = row; col = b.left + b.cols - 1 } in
+    adds_then t c.args.floods.now c.args.sources.now
+    (λ p. (p ≡ first) ⊎ (IsInner b p × (p.row ≡ row)))
+    (λ p. p ≡ last)
+    (λ p. IsInTile t c.args.tile p × (p.row ≡ row)) _ _ _
+    (λ p. (
+      λ at. (parts p).0 ((places p).0 at.0, at.1),
+      λ at. let inside = (parts p).1 at in ((places p).1 inside.0, inside.1),
+    ))
+    (adds_then t c.args.floods.now c.args.sources.now
+    (λ p. p ≡ first)
+    (λ p. IsInner b p × (p.row ≡ row))
+    (λ p. (p ≡ first) ⊎ (IsInner b p × (p.row ≡ row))) _ _ _
+    (λ p. (λ at. at, λ at. at))
+    c.in_ok-push_rim_cell.ensures
+    (rw same c.in_ok-push_inner_cells.ensures))
+    c.in_ok-push_rim_cell-2.ensures

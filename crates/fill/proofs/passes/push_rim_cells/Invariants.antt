@@ -1,7 +1,7 @@
 use Rattle.std.proofs.Common.{◌≡◌, ◌<◌}
 use Rattle.tiles.specs.Cutting.{IsInTile}
 use Rattle.fill.specs.Gathering.{Adds}
-use Rattle.fill.proofs.passes.push_cells.Given as goal
+use Rattle.fill.proofs.passes.push_rim_cells.Given as goal
 
 abbrev pub invariant-loop-col : goal.invariant-loop-col
 invariant-loop-col l = Adds l.tiling l.floods l.sources (λ p. IsInTile l.tiling l.tile p × (p.row ≡ l.row) × (p.col < l.col)) l.initial.table.joins.items l.table.joins.items
