@@ -1,5 +1,5 @@
 -- Ways followed one by one, and what is noted of the nodes that they lead to.
-use Rattle.std.proofs.Common.{◌≡◌, ℕ, ◌+◌, ◌<◌, List, [], ◌∷◌, ◌++◌, length, get_or, set, take, drop, ℤ, ◌≤ℤ◌, Option, None, Some, IsSome, sym, subst, refl, ◌∙◌, arith, ◌⊎◌, inl, inr, to_z, of_z}
+use Rattle.std.proofs.Common.{◌≡◌, ℕ, ◌<◌, List, [], ◌∷◌, ◌++◌, length, set, take, drop, ℤ, ◌≤ℤ◌, Option, None, Some, IsSome, sym, subst, refl, ◌∙◌, arith, ◌⊎◌, inl, inr, to_z, of_z}
 use Rattle.std.specs.Int.{int_max}
 use Rattle.std.specs.Int.Signed.{≤ℤ_refl}
 use Rattle.terrain.proofs.Heights.{height_width}
@@ -9,14 +9,15 @@ use Rattle.std.proofs.lemmas.Int.{ints, to_z-of_z}
 use Rattle.std.proofs.lemmas.Int.{by_lt_z}
 use mir.Val.{SFits}
 use Rattle.std.proofs.lemmas.Bool.{cases_eq}
-use Rattle.std.proofs.lemmas.List.{length-set, get_or-set_same, get_or-set_other, take_more}
+use Rattle.std.proofs.lemmas.List.{length-set, get_or-set_same, get_or-set_other}
 use Rattle.std.proofs.lemmas.List.Elements.{All-contains, All-contains_itself, Contains-append_left, Contains-append_right, Contains-append_cases}
 use Rattle.std.proofs.Math.Seq.{take-append_seam}
 use Rattle.std.proofs.lemmas.Option.{same_Some}
 use Rattle.floods.specs.declared.net.Spill.{Spill}
 use Rattle.floods.specs.declared.queue.Waiting.{Waiting}
+use Rattle.floods.specs.declared.queue.Waits.{Waits}
 use Rattle.floods.specs.Walk.{Sources}
-use Rattle.floods.specs.Flood.{AreOwn, PutsIn, entry_of, SomeWaits, ComesBy, waiting_by, MakesWait, AreNoted, KeepsDone}
+use Rattle.floods.specs.Flood.{AreOwn, InOrder, PutsIn, waiting_in, entry_of, SomeWaits, ComesBy, waiting_by, MakesWait, AreNoted, KeepsDone, Follows}
 use Rattle.floods.proofs.Heaps.{all_by_contains, cons_head, cons_tail, held_in, held_cases, one_held}
 use Rattle.floods.proofs.Steps.{none_done, le_of_same}
 
@@ -133,10 +134,23 @@ more_ways labels from ways last old now new s t = record {
       ]);
 }
 
--- one more way
-pub way_more : (labels : List (Option ℕ)) (from : Waiting) (ways : List Spill) (i : ℕ) (d : Spill) (old now new : List Waiting) → i < length ways → MakesWait labels from (take i ways) old now → MakesWait labels from (get_or ways i d ∷ []) now new → MakesWait labels from (take (i + 1) ways) old new
-way_more labels from ways i d old now new below s t =
-    subst (λ z. MakesWait labels from z old new) (sym (take_more ways i d below)) (more_ways labels from (take i ways) (get_or ways i d ∷ []) old now new s t)
+-- ways by which nothing is won
+pub stays : (labels : List (Option ℕ)) (levels : List (Option ℤ)) (from : Waiting) (ways : List Spill) (waits : Waits) → InOrder waits → AreNoted labels levels (waiting_in waits) → MakesWait labels from ways (waiting_in waits) (waiting_in waits) → Follows labels from ways levels levels waits waits
+stays labels levels from ways waits order noted passed = record { order = order; noted = noted; kept = λ a done. refl; own = λ source s. s; waits = passed }
+
+-- no way so far
+pub none_followed : (labels : List (Option ℕ)) (levels : List (Option ℤ)) (from : Waiting) (waits : Waits) → InOrder waits → AreNoted labels levels (waiting_in waits) → Follows labels from [] levels levels waits waits
+none_followed labels levels from waits order noted = stays labels levels from [] waits order noted (no_ways labels from (waiting_in waits))
+
+-- some ways have been followed, and then others
+pub more_followed : (labels : List (Option ℕ)) (from : Waiting) (ways last : List Spill) (levels between after : List (Option ℤ)) (old now new : Waits) → Follows labels from ways levels between old now → Follows labels from last between after now new → Follows labels from (ways ++ last) levels after old new
+more_followed labels from ways last levels between after old now new s t = record {
+  order = t.order;
+  noted = t.noted;
+  kept = λ a done. t.kept a done ∙ s.kept a done;
+  own = λ source o. t.own source (s.own source o);
+  waits = more_ways labels from ways last (waiting_in old) (waiting_in now) (waiting_in new) s.waits t.waits;
+}
 
 -- a slice of a whole list, written back
 pub written_back : {X : Type 0} (n : ℕ) (xs items : List X) → length xs ≡ n → take n (xs ++ drop (length xs) items) ≡ xs

@@ -104,11 +104,6 @@ pub record MakesWait (labels : List (Option ℕ)) (from : Waiting) (ways : List 
   pub made : All (λ w. Contains old w ⊎ ComesBy from ways w) new
   pub reached : All (λ way. entry_of labels way.to ≡ None → SomeWaits new way.to (int_max way.height from.height.0)) ways
 
--- Each neighbour of the node that is not done now waits behind it, or waits no higher.
-abbrev pub Spreads : Joins → List (Option ℕ) → Waiting → List Waiting → List Waiting → Type 0
-Spreads joins labels from old new =
-    (ways : List Spill) × HasJust (joins from.node) ways × MakesWait labels from ways old new
-
 -- Where a node is not done and has a crest noted as its level, some entry of it is not above that.
 pub record AreNoted (labels : List (Option ℕ)) (levels : List (Option ℤ)) (waiting : List Waiting) : Type 0 where
   pub size : length levels ≡ length labels
@@ -117,3 +112,16 @@ pub record AreNoted (labels : List (Option ℕ)) (levels : List (Option ℤ)) (w
 -- The levels of the nodes that are done stay as they are.
 abbrev pub KeepsDone : List (Option ℕ) → List (Option ℤ) → List (Option ℤ) → Type 0
 KeepsDone labels old new = (a : ℕ) → IsSome (entry_of labels a) → entry_of new a ≡ entry_of old a
+
+-- The ways from a node that waits have been followed, in whatever order the others wait.
+pub record Follows (labels : List (Option ℕ)) (from : Waiting) (ways : List Spill) (levels after : List (Option ℤ)) (old new : Waits) : Type 0 where
+  pub order : InOrder new
+  pub noted : AreNoted labels after (waiting_in new)
+  pub kept : KeepsDone labels levels after
+  pub own : (source : Sources) → AreOwn source labels levels (waiting_in old) → AreOwn source labels after (waiting_in new)
+  pub waits : MakesWait labels from ways (waiting_in old) (waiting_in new)
+
+-- Each neighbour of the node that is not done now waits behind it, or waits no higher.
+abbrev pub Spreads : Joins → List (Option ℕ) → Waiting → List (Option ℤ) → List (Option ℤ) → Waits → Waits → Type 0
+Spreads joins labels from levels after old new =
+    (ways : List Spill) × HasJust (joins from.node) ways × Follows labels from ways levels after old new

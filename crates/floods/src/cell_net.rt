@@ -1,8 +1,7 @@
 // A rectangle of cells as a net.
 ghost use Rattle.std.specs.Prelude.{◌≡◌, None, ◌+◌, ◌-◌, ◌*◌, ◌^◌, ◌<◌, ◌≤◌, ◌∷◌, ◌++◌, [], ℕ, ℤ, length, All, IfOk, IfSome, OnOk, is_none, slice_index_or, replicate};
 ghost use Rattle.std.specs.List.{list_any, filter_map, cons_option};
-ghost use Rattle.floods.specs.Walk.{Sources};
-ghost use Rattle.floods.specs.Flood.{waiting_in, InOrder, MakesWait, AreOwn, AreNoted, KeepsDone};
+ghost use Rattle.floods.specs.Flood.{waiting_in, InOrder, Follows, AreNoted};
 ghost use Rattle.terrain.specs.Sinks.{with_sinks};
 ghost use Rattle.floods.specs.Cells.{Cells, cells_around, way_to, whole, IsNetOf, IsCellJoin, source_of, bordered_rows, inner_rows, row_of};
 ghost use Rattle.tiles.specs.Cutting.{bounds_of, row_shown, terrain_of};
@@ -116,13 +115,7 @@ fn push_cell(
     requires cell { to < length cells.now }
     requires inside { to < length labels.now }
     requires noted { AreNoted labels.now levels.old (waiting_in waits.old) }
-    ensures order { OnOk result (InOrder waits.new) }
-    ensures noted { OnOk result (AreNoted labels.now levels.new (waiting_in waits.new)) }
-    ensures kept { OnOk result (KeepsDone labels.now levels.old levels.new) }
-    ensures own { OnOk result ((source : Sources) → AreOwn source labels.now levels.old (waiting_in waits.old) →
-        AreOwn source labels.now levels.new (waiting_in waits.new)) }
-    ensures waits { OnOk result (MakesWait labels.now from.now (cons_option (way_to cells.now height to) [])
-        (waiting_in waits.old) (waiting_in waits.new)) }
+    ensures { OnOk result (Follows labels.now from.now (cons_option (way_to cells.now height to) []) levels.old levels.new waits.old waits.new) }
 {
     // Most cells around have been noted no higher, which needs no look at whether they have data.
     let Reverse(level) = from.height;
@@ -150,13 +143,7 @@ fn push_around(
     requires cells { All (λ b. b < length cells.now) around }
     requires inside { length labels.now ≡ length cells.now }
     requires noted { AreNoted labels.now levels.old (waiting_in waits.old) }
-    ensures order { OnOk result (InOrder waits.new) }
-    ensures noted { OnOk result (AreNoted labels.now levels.new (waiting_in waits.new)) }
-    ensures kept { OnOk result (KeepsDone labels.now levels.old levels.new) }
-    ensures own { OnOk result ((source : Sources) → AreOwn source labels.now levels.old (waiting_in waits.old) →
-        AreOwn source labels.now levels.new (waiting_in waits.new)) }
-    ensures waits { OnOk result (MakesWait labels.now from.now (filter_map (way_to cells.now height) around)
-        (waiting_in waits.old) (waiting_in waits.new)) }
+    ensures { OnOk result (Follows labels.now from.now (filter_map (way_to cells.now height) around) levels.old levels.new waits.old waits.new) }
 {
     for to in around {
         push_cell(waits, cells, to, height, from, labels, levels)?;

@@ -1,7 +1,7 @@
 // A net of nodes that are joined at spill heights.
 ghost use Rattle.std.specs.Prelude.{◌≡◌, ◌<◌, ℕ, ℤ, Option, IfOk, OnOk, length};
-ghost use Rattle.floods.specs.Walk.{HasJust, Sources};
-ghost use Rattle.floods.specs.Flood.{waiting_in, InOrder, Spreads, AreOwn, AreNoted, KeepsDone};
+ghost use Rattle.floods.specs.Walk.{HasJust};
+ghost use Rattle.floods.specs.Flood.{waiting_in, InOrder, Spreads, AreNoted};
 
 use crate::heights::HeightList;
 use crate::node_labels::NodeLabels;
@@ -52,13 +52,7 @@ pub trait Net {
         requires inside { from.now.node < node_count self.now }
         requires size { length labels.now ≡ node_count self.now }
         requires noted { AreNoted labels.now levels.old (waiting_in waits.old) }
-        ensures order { OnOk result (InOrder waits.new) }
-        ensures noted { OnOk result (AreNoted labels.now levels.new (waiting_in waits.new)) }
-        ensures kept { OnOk result (KeepsDone labels.now levels.old levels.new) }
-        ensures own { OnOk result ((source : Sources) → AreOwn source labels.now levels.old (waiting_in waits.old) →
-            AreOwn source labels.now levels.new (waiting_in waits.new)) }
-        ensures added { OnOk result (Spreads (joins self.now) labels.now from.now
-            (waiting_in waits.old) (waiting_in waits.new)) }
+        ensures { OnOk result (Spreads (joins self.now) labels.now from.now levels.old levels.new waits.old waits.new) }
     {
         let ways = self.neighbours(alloc, from.node)?;
         push_ways(waits, ways.as_slice(), from, labels, levels)?;

@@ -1,8 +1,7 @@
 // Nodes that wait while a net is flooded, the lowest first.
 ghost use Rattle.std.specs.Prelude.{◌≡◌, ◌<◌, ◌≤◌, pos, ◌+ℤ◌, ◌≤ℤ◌, ◌∷◌, [], ℕ, ℤ, IfOk, OnOk, IfSome, IfNone, length, All, replicate, slice_index_or};
 ghost use Rattle.std.specs.BinaryHeap.{heap_items, heap_len};
-ghost use Rattle.floods.specs.Walk.{Sources};
-ghost use Rattle.floods.specs.Flood.{entries_of, waiting_in, InOrder, PutsIn, HasNone, IsDone, TakesLowest, AreOwn, MakesWait, AreNoted, KeepsDone};
+ghost use Rattle.floods.specs.Flood.{entries_of, waiting_in, InOrder, PutsIn, HasNone, IsDone, TakesLowest, Follows, AreNoted};
 
 use crate::heights::HeightList;
 use crate::net::Spill;
@@ -221,12 +220,7 @@ pub(crate) fn push_way(
     requires order { InOrder waits.old }
     requires inside { way.to < length labels.now }
     requires noted { AreNoted labels.now levels.old (waiting_in waits.old) }
-    ensures order { OnOk result (InOrder waits.new) }
-    ensures noted { OnOk result (AreNoted labels.now levels.new (waiting_in waits.new)) }
-    ensures kept { OnOk result (KeepsDone labels.now levels.old levels.new) }
-    ensures own { OnOk result ((source : Sources) → AreOwn source labels.now levels.old (waiting_in waits.old) →
-        AreOwn source labels.now levels.new (waiting_in waits.new)) }
-    ensures waits { OnOk result (MakesWait labels.now from.now (way ∷ []) (waiting_in waits.old) (waiting_in waits.new)) }
+    ensures { OnOk result (Follows labels.now from.now (way ∷ []) levels.old levels.new waits.old waits.new) }
 {
     let Reverse(level) = from.height;
     let crest = way.height.max(level);
@@ -258,12 +252,7 @@ pub(crate) fn push_ways(
     requires order { InOrder waits.old }
     requires inside { All (λ way. way.to < length labels.now) ways.now }
     requires noted { AreNoted labels.now levels.old (waiting_in waits.old) }
-    ensures order { OnOk result (InOrder waits.new) }
-    ensures noted { OnOk result (AreNoted labels.now levels.new (waiting_in waits.new)) }
-    ensures kept { OnOk result (KeepsDone labels.now levels.old levels.new) }
-    ensures own { OnOk result ((source : Sources) → AreOwn source labels.now levels.old (waiting_in waits.old) →
-        AreOwn source labels.now levels.new (waiting_in waits.new)) }
-    ensures waits { OnOk result (MakesWait labels.now from.now ways.now (waiting_in waits.old) (waiting_in waits.new)) }
+    ensures { OnOk result (Follows labels.now from.now ways.now levels.old levels.new waits.old waits.new) }
 {
     for way in ways {
         push_way(waits, *way, from, labels, levels)?;

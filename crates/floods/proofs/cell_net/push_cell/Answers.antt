@@ -5,21 +5,23 @@ use Rattle.terrain.proofs.Heights.{height_width}
 use Rattle.std.specs.Int.{int_max}
 use Rattle.std.specs.List.{cons_option}
 use Rattle.floods.specs.Cells.{way_to}
-use Rattle.floods.specs.Flood.{MakesWait, waiting_in}
+use Rattle.floods.specs.Flood.{Follows}
 use Rattle.floods.proofs.CellWays.{no_higher_way}
-use Rattle.floods.proofs.Noting.{kept_crest, no_ways}
+use Rattle.floods.proofs.Noting.{kept_crest, stays, none_followed}
 use Rattle.floods.proofs.cell_net.push_cell.Goals as goal
 
-pub returns-then-is_no_higher-clause-waits : goal.returns-then-is_no_higher-clause-waits
-returns-then-is_no_higher-clause-waits c =
+pub returns-then-is_no_higher : goal.returns-then-is_no_higher
+returns-then-is_no_higher c =
     let greater = kept_crest c.args.height c.args.from.now.height.0 c.max.result (search rules) (search rules) (search rules) c.max.ensures.value in
     let fits : SFits height_width c.raised.result = search rules in
     let low = rw (to_z-of_z height_width c.raised.result fits) at (c.is_no_higher.ensures.0 c.if-is_no_higher.true) in
-    no_higher_way c.args.cells.now c.args.labels.now c.args.levels.now c.args.from.now c.args.to c.args.height _ _ c.requires.noted
-    (λ h here. c.raised.ensures h here ∙ ap (λ z. int_max h z) greater) low
+    stays _ _ _ _ _ c.requires.order c.requires.noted
+    (no_higher_way c.args.cells.now c.args.labels.now c.args.levels.now c.args.from.now c.args.to c.args.height _ _ c.requires.noted
+    (λ h here. c.raised.ensures h here ∙ ap (λ z. int_max h z) greater) low)
 
-pub returns-in_default-clause-waits : goal.returns-in_default-clause-waits
-returns-in_default-clause-waits c =
+pub returns-in_default : goal.returns-in_default
+returns-in_default c =
     let fits : SFits height_width c.args.height = search rules in
-    subst (λ o. MakesWait c.args.labels.now c.args.from.now (cons_option o []) (waiting_in c.args.waits.now) (waiting_in c.args.waits.now)) (sym c.in_default.is ∙ c.way_to.ensures ∙ ap (λ h. way_to c.args.cells.now h c.args.to) (to_z-of_z height_width c.args.height fits))
-    (no_ways c.args.labels.now c.args.from.now _)
+    subst (λ o. Follows c.args.labels.now c.args.from.now (cons_option o []) c.args.levels.now c.args.levels.now c.args.waits.now c.args.waits.now)
+    (sym c.in_default.is ∙ c.way_to.ensures ∙ ap (λ h. way_to c.args.cells.now h c.args.to) (to_z-of_z height_width c.args.height fits))
+    (none_followed _ _ _ _ c.requires.order c.requires.noted)

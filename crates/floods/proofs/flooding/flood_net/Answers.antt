@@ -39,19 +39,17 @@ loop-waiting-preserved g c =
     let height = to_z-of_z height_width c.in-Some.waiting.height.0 fits in
     let put = rw height at c.put.ensures in
     let takes = c.in-Some.ensures.some in
-    let added = rw c.put-in-Some.ensures at c.in_ok-spread.ensures.added in
-    let noted = rw c.put-in-Some.ensures at c.in_ok-spread.ensures.noted in
-    let kept = rw (c.put-in-Some.ensures, put) at c.in_ok-spread.ensures.kept in
+    let spread = rw (c.put-in-Some.ensures, put) at c.in_ok-spread.ensures in
+    let follows = spread.2 in
     let size : length c.spread.new.levels ≡ length c.loop-waiting.levels =
-    noted.size ∙ length-set c.loop-waiting.labels c.in-Some.waiting.node (Some c.in-Some.waiting.label) ∙ sym c.loop-waiting.invariant.noted.size in
+    follows.noted.size ∙ length-set c.loop-waiting.labels c.in-Some.waiting.node (Some c.in-Some.waiting.label) ∙ sym c.loop-waiting.invariant.noted.size in
     let here = All-contains (λ x. (x.node < g.N.Net.node_count c.args.net.now) × HasWalk (g.N.Net.joins c.args.net.now) (g.N.Net.source_height c.args.net.now) x) _ c.in-Some.waiting c.loop-waiting.invariant.state.waits takes.was in
     let inside : c.in-Some.waiting.node < length c.loop-waiting.labels = omega (arith, here.0, c.loop-waiting.invariant.state.labels_size) in
-    let own = rw (c.put-in-Some.ensures, put) at (c.in_ok-spread.ensures.own (g.N.Net.source_height c.args.net.now)) in
     rw c.put-in-Some.ensures (record {
-      order = c.in_ok-spread.ensures.order;
-      state = settle _ _ _ _ _ _ _ _ _ c.in-Some.waiting added.0 (g.met.N.Net.joined_inside c.args.net.now) (g.met.N.Net.joined_back c.args.net.now) c.loop-waiting.invariant.state takes added.1 added.2 size kept (All-contains (λ x. g.N.Net.source_height c.args.net.now x.node ≡ Some x.height.0 → x.label ≡ x.node) _ c.in-Some.waiting c.loop-waiting.invariant.own.own takes.was);
-      noted = noted;
-      own = own (own_still _ _ _ _ _ c.in-Some.waiting c.in-Some.waiting.height.0 c.in-Some.waiting.label inside c.loop-waiting.invariant.own takes);
+      order = follows.order;
+      state = settle _ _ _ _ _ _ _ _ _ c.in-Some.waiting spread.0 (g.met.N.Net.joined_inside c.args.net.now) (g.met.N.Net.joined_back c.args.net.now) c.loop-waiting.invariant.state takes spread.1 follows.waits size follows.kept (All-contains (λ x. g.N.Net.source_height c.args.net.now x.node ≡ Some x.height.0 → x.label ≡ x.node) _ c.in-Some.waiting c.loop-waiting.invariant.own.own takes.was);
+      noted = follows.noted;
+      own = follows.own (g.N.Net.source_height c.args.net.now) (own_still _ _ _ _ _ c.in-Some.waiting c.in-Some.waiting.height.0 c.in-Some.waiting.label inside c.loop-waiting.invariant.own takes);
     })
 
 pub put-requires-in-Some-clause-label : goal.put-requires-in-Some-clause-label

@@ -1,45 +1,34 @@
 use Rattle.std.proofs.Common.{rules, ◌≡◌, sym, ◌∙◌, is_some, true, Option, IsSome}
 use Rattle.floods.specs.Flood.{entry_of}
 use Rattle.floods.proofs.Heaps.{not_some}
-use Rattle.floods.proofs.Noting.{passed_low, passed_done, followed, noted, keeps_done, own_by_way, kept_crest}
+use Rattle.floods.proofs.Noting.{passed_low, passed_done, stays, followed, noted, keeps_done, own_by_way, kept_crest}
 use Rattle.floods.proofs.Steps.{le_of_same}
 use Rattle.drainage.proofs.Heights.{trans}
 use Rattle.floods.proofs.queue.push_way.Goals as goal
 
-pub returns-then-is_no_higher-clause-waits : goal.returns-then-is_no_higher-clause-waits
-returns-then-is_no_higher-clause-waits c =
+pub returns-then-is_no_higher : goal.returns-then-is_no_higher
+returns-then-is_no_higher c =
     let value = kept_crest c.args.way.height c.args.from.now.height.0 c.max-crest.result (search rules) (search rules) (search rules) c.max-crest.ensures.value in
     let known = c.is_no_higher.ensures.0 c.if-is_no_higher.true in
-    passed_low c.args.labels.now _ c.args.from.now c.args.way _ known.0 c.requires.noted known.1 (trans _ _ _ known.2 (le_of_same _ _ value))
+    stays _ _ _ _ _ c.requires.order c.requires.noted
+    (passed_low c.args.labels.now _ c.args.from.now c.args.way _ known.0 c.requires.noted known.1 (trans _ _ _ known.2 (le_of_same _ _ value)))
 
-pub returns-then-has-clause-waits : goal.returns-then-has-clause-waits
-returns-then-has-clause-waits c = passed_done c.args.labels.now c.args.from.now c.args.way _ (has (entry_of c.args.labels.now c.args.way.to) (sym c.has.ensures ∙ c.if-has.true)) where
-  has : {X : Type 0} (o : Option X) → is_some o ≡ true → IsSome o
-  has o e = e
+pub returns-then-has : goal.returns-then-has
+returns-then-has c =
+    stays _ _ _ _ _ c.requires.order c.requires.noted
+    (passed_done c.args.labels.now c.args.from.now c.args.way _ (has (entry_of c.args.labels.now c.args.way.to) (sym c.has.ensures ∙ c.if-has.true))) where
+      has : {X : Type 0} (o : Option X) → is_some o ≡ true → IsSome o
+      has o e = e
 
-pub returns-clause-noted : goal.returns-clause-noted
-returns-clause-noted c =
+pub returns : goal.returns
+returns c =
     let value = kept_crest c.args.way.height c.args.from.now.height.0 c.max-crest.result (search rules) (search rules) (search rules) c.max-crest.ensures.value in
-    let pushed = c.in_ok-put.ensures.puts in
-    rw (c.put-2.ensures, value) (noted c.args.labels.now _ c.args.from.now c.args.way _ _ c.requires.inside c.requires.noted (rw value at pushed))
-
-pub returns-clause-kept : goal.returns-clause-kept
-returns-clause-kept c = rw c.put-2.ensures (keeps_done c.args.labels.now _ c.args.way.to _ (not_some (entry_of c.args.labels.now c.args.way.to) (sym c.has.ensures ∙ c.if-has.false)))
-
-pub returns-clause-waits : goal.returns-clause-waits
-returns-clause-waits c =
-    let value = kept_crest c.args.way.height c.args.from.now.height.0 c.max-crest.result (search rules) (search rules) (search rules) c.max-crest.ensures.value in
-    followed c.args.labels.now c.args.from.now c.args.way _ _ (rw value at (c.in_ok-put.ensures.puts))
-
-pub returns-then-is_no_higher-clause-own : goal.returns-then-is_no_higher-clause-own
-returns-then-is_no_higher-clause-own c = λ source s. s
-
-pub returns-then-has-clause-own : goal.returns-then-has-clause-own
-returns-then-has-clause-own c = λ source s. s
-
-pub returns-clause-own : goal.returns-clause-own
-returns-clause-own c = λ source s.
-    let value = kept_crest c.args.way.height c.args.from.now.height.0 c.max-crest.result (search rules) (search rules) (search rules) c.max-crest.ensures.value in
-    let pushed = c.in_ok-put.ensures.puts in
+    let pushed = rw value at c.in_ok-put.ensures.puts in
     let none = not_some (entry_of c.args.labels.now c.args.way.to) (sym c.has.ensures ∙ c.if-has.false) in
-    rw (c.put-2.ensures, value) (own_by_way source c.args.labels.now _ c.args.from.now c.args.way _ _ c.requires.inside c.requires.noted.size none (λ noted. let yes = c.is_no_higher.ensures.1 (noted.0, noted.1, trans _ _ _ noted.2 (le_of_same _ _ (sym value))) in absurd (cc (yes, c.if-is_no_higher.false))) (rw value at pushed) s)
+    rw (c.put-2.ensures, value) (record {
+      order = c.in_ok-put.ensures.order;
+      noted = noted c.args.labels.now _ c.args.from.now c.args.way _ _ c.requires.inside c.requires.noted pushed;
+      kept = keeps_done c.args.labels.now _ c.args.way.to _ none;
+      own = λ source s. own_by_way source c.args.labels.now _ c.args.from.now c.args.way _ _ c.requires.inside c.requires.noted.size none (λ noted. let yes = c.is_no_higher.ensures.1 (noted.0, noted.1, trans _ _ _ noted.2 (le_of_same _ _ (sym value))) in absurd (cc (yes, c.if-is_no_higher.false))) pushed s;
+      waits = followed c.args.labels.now c.args.from.now c.args.way _ _ pushed;
+    })

@@ -4,20 +4,20 @@ use mir.Val.{SFits}
 use Rattle.std.proofs.lemmas.Int.{to_z-of_z}
 use Rattle.terrain.proofs.Heights.{height_width}
 use Rattle.floods.proofs.CellWays.{just_ways, no_ways}
-use Rattle.floods.proofs.Noting.{no_ways as no_ways_yet}
+use Rattle.floods.proofs.Noting.{none_followed}
 use Rattle.floods.proofs.cell_net.CellNetNet.spread.Goals as goal
 
-pub returns-in_default-clause-added : goal.returns-in_default-clause-added
-returns-in_default-clause-added c =
+pub returns-in_default : goal.returns-in_default
+returns-in_default c =
     let none : get_or c.args.self.now.cells c.args.from.now.node None ≡ None = ap (λ (n : Cells). get_or n.cells c.args.from.now.node None) (sym c.self.view_is) ∙ sym c.at.ensures ∙ c.in_default.is in
-    ([], no_ways c.args.self.now c.args.from.now.node none, no_ways_yet _ _ _)
+    ([], no_ways c.args.self.now c.args.from.now.node none, none_followed _ _ _ _ c.requires.order c.requires.noted)
 
-pub returns-clause-added : goal.returns-clause-added
-returns-clause-added c =
+pub returns : goal.returns
+returns c =
     let fits : SFits height_width c.in-Some.height = search rules in
     let height = to_z-of_z height_width c.in-Some.height fits in
     let n : Cells = record { stride = c.self.inside.stride; cells = c.self.inside.cells; sinks = c.self.inside.sinks.items } in
     let here : get_or n.cells c.args.from.now.node None ≡ Some c.in-Some.height = sym c.at.ensures ∙ c.in-Some.is in
     let above : n.stride < c.args.from.now.node = search rules in
-    let waits = rw (height, c.around.ensures) at c.in_ok-push_around.ensures.waits in
+    let waits = rw (height, c.around.ensures) at c.in_ok-push_around.ensures in
     (_, rw (← c.self.view_is) (just_ways n c.args.from.now.node c.in-Some.height here above), waits)
