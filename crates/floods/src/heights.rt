@@ -135,7 +135,7 @@ impl HeightList {
         self.there[index as usize] = true;
     }
 
-    /// The heights, and a number that no comparison is to read in place of those that are lacking.
+    /// The heights as they stand: one that is lacking is the greatest number of 64 bits.
     pub fn heights(&self) -> &[Height]
         ensures { result.now ≡ map height_or_lack self.now }
     {
