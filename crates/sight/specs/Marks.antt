@@ -8,6 +8,8 @@ use Rattle.tile_maps.specs.Maps.{index_within}
 use Rattle.sight.specs.Sight.{is_seen}
 use Rattle.sight.specs.Walk.{is_open}
 use Rattle.terrain.specs.declared.observer.Observer.{Observer}
+use Rattle.sight.specs.declared.marking.Asked.{Asked}
+use Rattle.sight.specs.declared.marking.Asked.TheVariants.{Whole, FirstCrossings}
 
 -- The mark of a place.
 abbrev pub mark_at : Bounds → List Bool → Place → Bool
@@ -29,6 +31,11 @@ TellsSeen t o target radius p mark = mark ≡ is_seen t o p target radius
 -- A mark tells of a place whether it is seen, unless a crossing blocks the line of sight to it.
 abbrev pub TellsSeenIfOpen : Terrain → Observer → ℕ → ℕ → Place → Bool → Type 0
 TellsSeenIfOpen t o target radius p mark = (mark && is_open t o p target) ≡ is_seen t o p target radius
+
+-- A mark tells of a place what was asked.
+abbrev pub Tells : Asked → Terrain → Observer → ℕ → ℕ → Place → Bool → Type 0
+Tells Whole = TellsSeen
+Tells FirstCrossings = TellsSeenIfOpen
 
 -- Of the marks those are left whose places pass a test.
 pub record AreLeft (b : Bounds) (test : Place → Bool) (old new : List Bool) : Type 0 where

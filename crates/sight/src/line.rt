@@ -1,5 +1,5 @@
 // One line of sight.
-ghost use Rattle.std.specs.Prelude.{◌≡◌, ◌<◌, ◌≤◌, pos, ◌+ℤ◌, true, false, MatchOption};
+ghost use Rattle.std.specs.Prelude.{◌≡◌, ◌<◌, ◌≤◌, pos, ◌+ℤ◌, true, false, not, ◌&&◌, MatchOption};
 ghost use Rattle.terrain.specs.Raster.{IsHeight};
 ghost use Rattle.terrain.specs.Neighbours.{IsInside};
 ghost use Rattle.sight.specs.Sight.{highest_eye, longest_radius, is_seen, place_of};
@@ -7,10 +7,10 @@ ghost use Rattle.sight.specs.Walk.{AreHeights, IsLevel, IsSightline, IsOver, Are
 ghost use Rattle.sight.specs.Marks.{TellsSeenIfOpen};
 ghost use Rattle.sight.specs.Blocks.{AreTops, IsPeak};
 
-use crate::passing::{BlockStrides, is_blocked_past_blocks};
+use crate::passing::{BlockStrides, blocking_step_past_blocks};
 use crate::reach::is_in_reach;
 use crate::tops::blocks_in;
-use crate::walk::{Axis, Pace, Sightline, is_blocked, is_blocked_between};
+use crate::walk::{Axis, Pace, Sightline, blocking_step, is_blocked};
 use terrain::{Grid, Height, Observer, Place};
 
 /// How high an eye or a target stands.
@@ -118,57 +118,31 @@ pub fn sees(
     !is_blocked(cells, lines.rows)
 }
 
-/// How many crossings beside a target are tested before all others.
+/// How many crossings beside a target are tested before a sweep.
 const FIRST_CROSSINGS: u32 = 2;
 
-/// Whether one of so many first crossings on the way to the other end blocks.
+/// How many crossings are tested about the one that hid the last target.
+const NEARBY_CROSSINGS: u32 = 4;
+
+/// Whether one of so many crossings blocks, from a step on the way to the other end on.
 #[inline(always)]
-fn is_blocked_at_once(cells: &[Option<Height>], line: Sightline, crossings: u32) -> bool
+fn is_blocked_from(cells: &[Option<Height>], line: Sightline, first: u32, crossings: u32) -> bool
     requires heights { AreHeights cells.now }
     requires line { IsSightline line }
     requires over { IsOver cells.now line.lead line.side }
-    requires crossings { (0 < crossings) × (crossings ≤ 4096) }
+    requires first { (0 < first) × (first ≤ 4096) }
+    requires crossings { crossings ≤ 4096 }
     ensures { result ≡ true → walk_blocks cells.now line ≡ true }
 {
-    let steps = line.steps();
-    if steps < 2 {
+    let end = line.steps().min(first + crossings);
+    if end <= first {
         return false;
     }
-    let end = steps.min(crossings + 1);
-    is_blocked_between(cells, line, Pace::new(line), line.at(1), 1, end)
+    blocking_step(cells, line, Pace::new(line), line.at(first), first, end).is_some()
 }
 
-/// Whether so many first crossings on the way from a place to an observer, which hide the most, are open. None where
-/// the place has no data or is out of reach.
-#[inline(always)]
-pub(crate) fn starts_open(
-    grid: &Grid,
-    observer: &Observer,
-    target: Place,
-    target_height: u32,
-    radius: u32,
-    crossings: u32,
-) -> Option<bool>
-    requires observer { IsInside grid.now.terrain (place_of observer.now) }
-    requires target { IsInside grid.now.terrain target }
-    requires eye { observer.now.eye ≤ highest_eye }
-    requires height { target_height ≤ highest_eye }
-    requires radius { (1 ≤ radius) × (radius ≤ longest_radius) }
-    requires crossings { (0 < crossings) × (crossings ≤ 4096) }
-    ensures { MatchOption result (is_seen grid.now.terrain observer.now target target_height radius ≡ false)
-        (TellsSeenIfOpen grid.now.terrain observer.now target_height radius target) }
-{
-    let Some(lines) = lines_of_sight(grid, observer, target, target_height, radius) else {
-        return None;
-    };
-    let cells = grid.cells();
-    if is_blocked_at_once(cells, lines.columns, crossings) {
-        return Some(false);
-    }
-    Some(!is_blocked_at_once(cells, lines.rows, crossings))
-}
-
-/// Whether an observer sees a place unless a crossing blocks the line of sight.
+/// Whether an observer sees a place unless a crossing blocks the line of sight. The crossings beside the place are
+/// tested, which hide the most.
 #[inline(always)]
 pub(crate) fn may_see(
     grid: &Grid,
@@ -184,19 +158,67 @@ pub(crate) fn may_see(
     requires radius { (1 ≤ radius) × (radius ≤ longest_radius) }
     ensures { TellsSeenIfOpen grid.now.terrain observer.now target_height radius target result }
 {
-    starts_open(
-        grid,
-        observer,
-        target,
-        target_height,
-        radius,
-        FIRST_CROSSINGS,
-    )
-    .unwrap_or(false)
+    let Some(lines) = lines_of_sight(grid, observer, target, target_height, radius) else {
+        return false;
+    };
+    let cells = grid.cells();
+    if is_blocked_from(cells, lines.columns, 1, FIRST_CROSSINGS) {
+        return false;
+    }
+    !is_blocked_from(cells, lines.rows, 1, FIRST_CROSSINGS)
+}
+
+/// Whether one of the crossings about so many steps before the other end blocks.
+#[inline(always)]
+fn is_blocked_about(cells: &[Option<Height>], line: Sightline, left: u32) -> bool
+    requires heights { AreHeights cells.now }
+    requires line { IsSightline line }
+    requires over { IsOver cells.now line.lead line.side }
+    ensures { result ≡ true → walk_blocks cells.now line ≡ true }
+{
+    let step = line.steps().saturating_sub(left);
+    let first = step.saturating_sub(NEARBY_CROSSINGS / 2).max(1);
+    is_blocked_from(cells, line, first, NEARBY_CROSSINGS)
+}
+
+/// Which crossing hid the target that was hidden last: on which of the two lines of sight, and how many steps before
+/// the observer.
+#[derive(Clone, Copy)]
+pub struct Blocker {
+    over_rows: bool,
+    left: u32,
+}
+
+impl Blocker {
+    /// Of no target yet.
+    pub(crate) fn none() -> Self {
+        Blocker {
+            over_rows: false,
+            left: 0,
+        }
+    }
+
+    /// Whether the crossing as far from the observer hides another target.
+    #[inline(always)]
+    fn hides(self, cells: &[Option<Height>], lines: Sightlines) -> bool
+        requires heights { AreHeights cells.now }
+        requires columns { IsSightline lines.columns }
+        requires rows { IsSightline lines.rows }
+        requires over_columns { IsOver cells.now lines.columns.lead lines.columns.side }
+        requires over_rows { IsOver cells.now lines.rows.lead lines.rows.side }
+        ensures { result ≡ true → (not (walk_blocks cells.now lines.columns) && not (walk_blocks cells.now lines.rows)) ≡ false }
+    {
+        if self.over_rows {
+            is_blocked_about(cells, lines.rows, self.left)
+        } else {
+            is_blocked_about(cells, lines.columns, self.left)
+        }
+    }
 }
 
 /// As `sees`, by passing over the blocks of cells that the line of sight is above. The blocks'
-/// greatest heights are `tops`, and none is above the `peak`.
+/// greatest heights are `tops`, and none is above the `peak`. What hid the last target is asked first, since it
+/// often hides the next one too.
 #[inline(always)]
 pub(crate) fn sees_past_blocks(
     grid: &Grid,
@@ -206,6 +228,7 @@ pub(crate) fn sees_past_blocks(
     target: Place,
     target_height: u32,
     radius: u32,
+    last: &mut Blocker,
 ) -> bool
     requires tops { AreTops grid.now.terrain tops.now }
     requires peak { IsHeight peak × IsPeak tops.now peak }
@@ -220,6 +243,9 @@ pub(crate) fn sees_past_blocks(
         return false;
     };
     let cells = grid.cells();
+    if last.hides(cells, lines) {
+        return false;
+    }
     let wide = blocks_in(grid.cols());
     let along_columns = BlockStrides {
         lead: 1,
@@ -229,8 +255,19 @@ pub(crate) fn sees_past_blocks(
         lead: wide,
         side: 1,
     };
-    if is_blocked_past_blocks(cells, tops, peak, along_columns, lines.columns) {
+    if let Some(step) = blocking_step_past_blocks(cells, tops, peak, along_columns, lines.columns) {
+        *last = Blocker {
+            over_rows: false,
+            left: lines.columns.steps() - step,
+        };
         return false;
     }
-    !is_blocked_past_blocks(cells, tops, peak, along_rows, lines.rows)
+    if let Some(step) = blocking_step_past_blocks(cells, tops, peak, along_rows, lines.rows) {
+        *last = Blocker {
+            over_rows: true,
+            left: lines.rows.steps() - step,
+        };
+        return false;
+    }
+    true
 }

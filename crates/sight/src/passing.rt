@@ -1,11 +1,11 @@
 // A walk along a line of sight that passes over blocks of cells below it.
-ghost use Rattle.std.specs.Prelude.{◌≡◌, ℕ, ◌+◌, ◌*◌, ◌/◌, ◌<◌, ◌≤◌, length, slice_index_or, None, max};
+ghost use Rattle.std.specs.Prelude.{◌≡◌, ℕ, ◌+◌, ◌*◌, ◌/◌, ◌<◌, ◌≤◌, length, slice_index_or, None, IfSome, is_some, max};
 ghost use Rattle.std.specs.Bool.{OnTrue};
 ghost use Rattle.sight.specs.Walk.{steps_of, whole_at, AreHeights, IsSightline, IsAt, IsOver, walk_blocks};
 ghost use Rattle.sight.specs.Blocks.{IsLow, IsPeak, AreTopsAlong, AreLowBetween};
 ghost use Rattle.terrain.specs.Raster.{IsHeight};
 
-use crate::walk::{Pace, Sightline, Step, is_blocked_between, weighed};
+use crate::walk::{Pace, Sightline, Step, blocking_step, weighed};
 use terrain::Height;
 
 /// The side of a block, in cells.
@@ -102,27 +102,29 @@ fn is_above_blocks(
     are_low(tops, first, strides.side, count, line.steps(), sight)
 }
 
-/// As `is_blocked`, by passing over the steps at which the line is above the blocks of cells whose
-/// greatest heights are `tops`, and over all that are left once it stays above the `peak`.
+/// The first step between the two ends at which the ground is above the line, by passing over the steps at which the
+/// line is above the blocks of cells whose greatest heights are `tops`, and over all that are left once it stays
+/// above the `peak`.
 #[inline(always)]
-pub(crate) fn is_blocked_past_blocks(
+pub(crate) fn blocking_step_past_blocks(
     cells: &[Option<Height>],
     tops: &[Option<Height>],
     peak: Height,
     strides: BlockStrides,
     line: Sightline,
-) -> bool
+) -> Option<u32>
     requires heights { AreHeights cells.now }
     requires line { IsSightline line }
     requires over { IsOver cells.now line.lead line.side }
     requires strides { (strides.lead ≤ 4096) × (strides.side ≤ 4096) }
     requires tops { AreTopsAlong cells.now tops.now line strides }
     requires peak { IsHeight peak × IsPeak tops.now peak }
-    ensures { result ≡ walk_blocks cells.now line }
+    ensures answer { is_some result ≡ walk_blocks cells.now line }
+    ensures range { IfSome result (λ k. k < steps_of line) }
 {
     let steps = line.steps();
     if steps < 2 {
-        return false;
+        return None;
     }
     let pace = Pace::new(line);
     let ends_above = peak <= line.to_level;
@@ -131,18 +133,18 @@ pub(crate) fn is_blocked_past_blocks(
     let mut start = line.at(1);
     while first < steps {
         if ends_above && clear <= start.sight {
-            return false;
+            return None;
         }
         let end = block_end(line, first);
         let next = line.at(end);
         let lead_block = line.lead_at(first) / BLOCK_SIDE;
         if !is_above_blocks(tops, strides, line, lead_block, start, next) {
-            if is_blocked_between(cells, line, pace, start, first, end) {
-                return true;
+            if let Some(step) = blocking_step(cells, line, pace, start, first, end) {
+                return Some(step);
             }
         }
         first = end;
         start = next;
     }
-    false
+    None
 }

@@ -1,5 +1,5 @@
 // A walk along a line of sight, from crossing to crossing.
-ghost use Rattle.std.specs.Prelude.{◌≡◌, ◌^◌, ◌+◌, ◌-◌, ◌*◌, ◌<◌, ◌≤◌, ℤ, pos, unsigned_abs, ◌+ℤ◌, ◌*ℤ◌, length, slice_index_or, None, nat_lt, if◌then◌else◌, max};
+ghost use Rattle.std.specs.Prelude.{◌≡◌, ◌^◌, ◌+◌, ◌-◌, ◌*◌, ◌<◌, ◌≤◌, ℤ, pos, unsigned_abs, ◌+ℤ◌, ◌*ℤ◌, length, slice_index_or, None, IfSome, is_some, nat_lt, if◌then◌else◌, max};
 ghost use Rattle.std.specs.Int.{abs_diff};
 ghost use Rattle.terrain.specs.Raster.{IsHeight};
 ghost use Rattle.sight.specs.Walk.{is_above, steps_of, whole_at, AreHeights, IsSightline, IsAt, IsOver, step_range_blocks, walk_blocks};
@@ -230,24 +230,25 @@ impl Pace {
     }
 }
 
-/// Whether the ground is above the line at a step from `first` on and before `end`, where the line
-/// is at `start` at the first.
+/// The first step from `first` on and before `end` at which the ground is above the line, where the line is
+/// at `start` at the first. None where it is so at none of them.
 #[inline(always)]
-pub(crate) fn is_blocked_between(
+pub(crate) fn blocking_step(
     cells: &[Option<Height>],
     line: Sightline,
     pace: Pace,
     start: Step,
     first: u32,
     end: u32,
-) -> bool
+) -> Option<u32>
     requires heights { AreHeights cells.now }
     requires line { IsSightline line }
     requires over { IsOver cells.now line.lead line.side }
     requires pace { IsPace line.lead line.side (steps_of line) pace }
     requires start { IsAt line first start }
     requires range { (first < end) × (end ≤ steps_of line) }
-    ensures { result ≡ step_range_blocks cells.now line first (end - first) }
+    ensures answer { is_some result ≡ step_range_blocks cells.now line first (end - first) }
+    ensures range { IfSome result (λ k. (first ≤ k) × (k < end)) }
 {
     let rise = line.to_level - line.from_level;
     let mut index = line.lead_at(first) as usize * line.lead.stride
@@ -263,12 +264,12 @@ pub(crate) fn is_blocked_between(
             part,
             sight,
         ) {
-            return true;
+            return Some(step);
         }
         (index, part) = pace.next(index, part);
         sight += rise;
     }
-    false
+    None
 }
 
 /// Whether the ground is above the line at a step between its two ends.
@@ -283,5 +284,5 @@ pub(crate) fn is_blocked(cells: &[Option<Height>], line: Sightline) -> bool
     if steps < 2 {
         return false;
     }
-    is_blocked_between(cells, line, Pace::new(line), line.at(1), 1, steps)
+    blocking_step(cells, line, Pace::new(line), line.at(1), 1, steps).is_some()
 }

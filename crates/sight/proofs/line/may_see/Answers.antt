@@ -1,17 +1,29 @@
-use Rattle.std.proofs.Common.{◌≡◌, Bool, false, ◌&&◌, Option, None, Some, MatchOption, sym, ap, ◌∙◌}
-use Rattle.std.specs.Prelude.{unwrap_or}
 use Rattle.sight.specs.Sight.{is_seen}
-use Rattle.sight.specs.Walk.{is_open}
+use Rattle.sight.specs.Walk.{is_open, walk_blocks}
+use Rattle.sight.proofs.Seen.{hidden_by_columns, seen_if_open}
+use Rattle.sight.proofs.Heights.{are_heights}
 use Rattle.sight.proofs.line.may_see.Goals as goal
 
-told : (start : Option Bool) (clear seen : Bool) → MatchOption start (seen ≡ false) (λ (mark : Bool). (mark && clear) ≡ seen) → (unwrap_or start false && clear) ≡ seen
-told None clear seen none = sym none
-told (Some mark) clear seen is = is
+pub returns-then-is_blocked_from : goal.returns-then-is_blocked_from
+returns-then-is_blocked_from c =
+    let t = c.args.grid.now.terrain in
+    let lines = c.in-Some.lines in
+    let are = c.in-Some.ensures in
+    hidden_by_columns (is_seen t c.args.observer.now c.args.target c.args.target_height c.args.radius) (walk_blocks t.cells lines.columns) (walk_blocks t.cells lines.rows) are.seen
+    (rw c.cells-cells.ensures.value at (c.is_blocked_from.ensures c.if-is_blocked_from.true))
 
 pub returns : goal.returns
 returns c =
     let t = c.args.grid.now.terrain in
     let o = c.args.observer.now in
-    let clear = is_open t o c.args.target c.args.target_height in
-    ap (λ (mark : Bool). mark && clear) c.unwrap_or.ensures
-    ∙ told c.starts_open.result clear (is_seen t o c.args.target c.args.target_height c.args.radius) c.starts_open.ensures
+    let q = c.args.target in
+    let lines = c.in-Some.lines in
+    let are = c.in-Some.ensures in
+    seen_if_open (is_seen t o q c.args.target_height c.args.radius) (is_open t o q c.args.target_height) (walk_blocks t.cells lines.columns) (walk_blocks t.cells lines.rows) c.is_blocked_from-2.result are.seen are.reached
+    (λ yes. rw c.cells-cells.ensures.value at (c.is_blocked_from-2.ensures yes))
+
+pub is_blocked_from-requires-clause-heights : goal.is_blocked_from-requires-clause-heights
+is_blocked_from-requires-clause-heights c = rw c.cells-cells.ensures.value (are_heights c.args.grid.now.terrain c.cells-cells.ensures.lawful.terrain)
+
+pub is_blocked_from-requires-2-clause-heights : goal.is_blocked_from-requires-2-clause-heights
+is_blocked_from-requires-2-clause-heights c = rw c.cells-cells.ensures.value (are_heights c.args.grid.now.terrain c.cells-cells.ensures.lawful.terrain)

@@ -7,8 +7,8 @@ use Rattle.sight.proofs.Heights.{are_heights}
 use Rattle.sight.proofs.line.sees_past_blocks.Goals as goal
 use Rattle.terrain.specs.Neighbours.{height_of}
 
-pub is_blocked_past_blocks-requires-clause-tops : goal.is_blocked_past_blocks-requires-clause-tops
-is_blocked_past_blocks-requires-clause-tops c =
+pub blocking_step_past_blocks-requires-clause-tops : goal.blocking_step_past_blocks-requires-clause-tops
+blocking_step_past_blocks-requires-clause-tops c =
     let t = c.args.grid.now.terrain in
     let tops = c.args.tops.now in
     let o = c.args.observer.now in
@@ -18,9 +18,9 @@ is_blocked_past_blocks-requires-clause-tops c =
     rw (c.cells-cells.ensures.value, wide)
     (subst P (sym c.in-Some.ensures.columns) (along_columns t tops q (place_of o) (height_of t q +ℤ pos c.args.target_height) (height_of t (place_of o) +ℤ pos o.eye) c.requires.tops c.requires.target c.requires.observer))
 
-pub is_blocked_past_blocks-requires-2-clause-tops :
-    goal.is_blocked_past_blocks-requires-2-clause-tops
-is_blocked_past_blocks-requires-2-clause-tops c =
+pub blocking_step_past_blocks-requires-2-clause-tops :
+    goal.blocking_step_past_blocks-requires-2-clause-tops
+blocking_step_past_blocks-requires-2-clause-tops c =
     let t = c.args.grid.now.terrain in
     let tops = c.args.tops.now in
     let o = c.args.observer.now in
@@ -30,8 +30,11 @@ is_blocked_past_blocks-requires-2-clause-tops c =
     rw (c.cells-cells.ensures.value, wide)
     (subst P (sym c.in-Some.ensures.rows) (along_rows t tops q (place_of o) (height_of t q +ℤ pos c.args.target_height) (height_of t (place_of o) +ℤ pos o.eye) c.requires.tops c.requires.target c.requires.observer))
 
-pub is_blocked_past_blocks-requires-clause-heights : goal.is_blocked_past_blocks-requires-clause-heights
-is_blocked_past_blocks-requires-clause-heights c = rw c.cells-cells.ensures.value (are_heights c.args.grid.now.terrain c.cells-cells.ensures.lawful.terrain)
+pub blocking_step_past_blocks-requires-clause-heights : goal.blocking_step_past_blocks-requires-clause-heights
+blocking_step_past_blocks-requires-clause-heights c = rw c.cells-cells.ensures.value (are_heights c.args.grid.now.terrain c.cells-cells.ensures.lawful.terrain)
 
-pub is_blocked_past_blocks-requires-2-clause-heights : goal.is_blocked_past_blocks-requires-2-clause-heights
-is_blocked_past_blocks-requires-2-clause-heights c = rw c.cells-cells.ensures.value (are_heights c.args.grid.now.terrain c.cells-cells.ensures.lawful.terrain)
+pub blocking_step_past_blocks-requires-2-clause-heights : goal.blocking_step_past_blocks-requires-2-clause-heights
+blocking_step_past_blocks-requires-2-clause-heights c = rw c.cells-cells.ensures.value (are_heights c.args.grid.now.terrain c.cells-cells.ensures.lawful.terrain)
+
+pub hides-requires-clause-heights : goal.hides-requires-clause-heights
+hides-requires-clause-heights c = rw c.cells-cells.ensures.value (are_heights c.args.grid.now.terrain c.cells-cells.ensures.lawful.terrain)

@@ -2,7 +2,7 @@ use Rattle.std.proofs.Common.{◌≡◌, ◌+◌, ◌-◌, ◌*◌, ℕ, set, ap
 use Rattle.terrain.proofs.Places.{make_place}
 use Rattle.tile_maps.specs.Maps.{index_within}
 use Rattle.tile_maps.proofs.TileLists.{within_below}
-use Rattle.sight.specs.Marks.{AreMarkedBelow, TellsSeenIfOpen}
+use Rattle.sight.specs.Marks.{AreMarkedBelow, Tells}
 use Rattle.sight.proofs.Marked.{marked_more}
 use Rattle.sight.proofs.tile.Viewing.mark_along.Goals as goal
 
@@ -16,12 +16,12 @@ pub loop-col-preserved : goal.loop-col-preserved
 loop-col-preserved c =
     let self = c.args.self.now in
     let b = c.args.bounds in
-    let Says = TellsSeenIfOpen self.grid.now.terrain c.args.observer.now self.target_height self.radius in
+    let Says = Tells c.args.asked self.grid.now.terrain c.args.observer.now self.target_height self.radius in
     let p = make_place c.args.row c.loop-col.col in
     let at : (c.args.row - b.top) * b.cols + (c.loop-col.col - b.left) ≡ index_within b p = omega arith in
     let next : (c.args.row - b.top) * b.cols + (c.loop-col.col - b.left) + 1 ≡ (c.args.row - b.top) * b.cols + (c.loop-col.col + 1 - b.left) = omega arith in
-    let more = marked_more b Says p c.loop-col.marks ((c.args.row - b.top) * b.cols + (c.loop-col.col - b.left)) c.may_see.result (omega (arith, c.requires.row), omega (arith, c.requires.row), omega arith, omega arith) at c.loop-col.invariant c.may_see.ensures in
-    subst (λ (n : ℕ). AreMarkedBelow b Says n (set c.loop-col.marks ((c.args.row - b.top) * b.cols + (c.loop-col.col - b.left)) c.may_see.result)) next more
+    let more = marked_more b Says p c.loop-col.marks ((c.args.row - b.top) * b.cols + (c.loop-col.col - b.left)) c.mark_of.result (omega (arith, c.requires.row), omega (arith, c.requires.row), omega arith, omega arith) at c.loop-col.invariant c.mark_of.ensures in
+    subst (λ (n : ℕ). AreMarkedBelow b Says n (set c.loop-col.marks ((c.args.row - b.top) * b.cols + (c.loop-col.col - b.left)) c.mark_of.result)) next more
 
 pub returns : goal.returns
 returns c =
@@ -30,4 +30,4 @@ returns c =
     let up : c.args.row + 1 - b.top ≡ (c.args.row - b.top) + 1 = omega (arith, c.requires.row) in
     let wide : c.loop-col.col - b.left ≡ b.cols = omega arith in
     let all : (c.args.row - b.top) * b.cols + (c.loop-col.col - b.left) ≡ (c.args.row + 1 - b.top) * b.cols = omega (arith, wide, ap (λ (n : ℕ). n * b.cols) up) in
-    subst (λ (n : ℕ). AreMarkedBelow b (TellsSeenIfOpen self.grid.now.terrain c.args.observer.now self.target_height self.radius) n c.loop-col.marks) all c.loop-col.invariant
+    subst (λ (n : ℕ). AreMarkedBelow b (Tells c.args.asked self.grid.now.terrain c.args.observer.now self.target_height self.radius) n c.loop-col.marks) all c.loop-col.invariant

@@ -1,7 +1,7 @@
 use Rattle.std.proofs.Common.{◌≡◌, ◌-◌, false}
 use Rattle.sight.specs.Sight.{sight}
 use Rattle.sight.specs.Walk.{index_at, part_at, steps_of, step_range_blocks}
-use Rattle.sight.proofs.walk.is_blocked_between.Given as goal
+use Rattle.sight.proofs.walk.blocking_step.Given as goal
 
 abbrev pub invariant-loop-step : goal.invariant-loop-step
 invariant-loop-step l =

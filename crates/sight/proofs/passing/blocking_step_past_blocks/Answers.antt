@@ -1,11 +1,11 @@
-use Rattle.std.proofs.Common.{arith, rules, w64, FitsSigned, pos, ◌*ℤ◌, ◌≤ℤ◌, sym, ap, ◌∙◌, ◌≡◌, ◌+◌, ◌-◌, ◌/◌}
+use Rattle.std.proofs.Common.{arith, rules, w64, FitsSigned, pos, ◌*ℤ◌, ◌≤ℤ◌, sym, ap, ◌∙◌, ◌≡◌, ◌+◌, ◌-◌, ◌/◌, is_some}
 use Rattle.std.proofs.lemmas.Bool.{OnTrue_at}
 use Rattle.std.proofs.lemmas.Int.{ints, to_z-of_z}
 use Rattle.sight.specs.Walk.{steps_of, step_blocks, whole_at}
 use Rattle.sight.proofs.Steps.{whole_le}
 use Rattle.sight.proofs.Ranges.{none_from, none_joined, any_within}
 use Rattle.sight.proofs.LowBlocks.{step_above, step_passed}
-use Rattle.sight.proofs.passing.is_blocked_past_blocks.Goals as goal
+use Rattle.sight.proofs.passing.blocking_step_past_blocks.Goals as goal
 
 pub is_above_blocks-requires-clause-lead : goal.is_above_blocks-requires-clause-lead
 is_above_blocks-requires-clause-lead c =
@@ -22,8 +22,8 @@ is_above_blocks-requires-clause-end c =
     let line = c.args.line in
     omega (arith, c.at-next.ensures.whole, whole_le line.side (steps_of line) c.block_end-end.result (omega arith) (omega arith))
 
-pub returns-then-clear-start : goal.returns-then-clear-start
-returns-then-clear-start c =
+pub returns-then-clear-start-clause-answer : goal.returns-then-clear-start-clause-answer
+returns-then-clear-start-clause-answer c =
     let line = c.args.line in
     let n = steps_of line in
     let first = c.loop-first.first in
@@ -44,16 +44,16 @@ returns-then-clear-start c =
     (omega arith) low (omega arith) c.loop-first.invariant.start c.requires.tops c.requires.peak.1 above ends) in
     sym (rw all (none_joined p 1 (first - 1) first (n - first) (omega arith) c.loop-first.invariant.clear none))
 
-pub returns-then-is_blocked_between : goal.returns-then-is_blocked_between
-returns-then-is_blocked_between c =
+pub returns-in-Some-clause-answer : goal.returns-in-Some-clause-answer
+returns-in-Some-clause-answer c =
     let line = c.args.line in
     let first = c.loop-first.first in
     let end = c.block_end-end.result in
     let p = step_blocks c.args.cells.now line.lead line.side line.from_level line.to_level (steps_of line) in
-    sym (any_within p 1 (steps_of line - 1) first (end - first) (omega arith) (omega arith) (sym c.is_blocked_between.ensures ∙ c.if-is_blocked_between.true))
+    sym (any_within p 1 (steps_of line - 1) first (end - first) (omega arith) (omega arith) (sym c.blocking_step.ensures.answer ∙ ap is_some c.in-Some.is))
 
-pub loop-first-preserved-else-is_blocked_between : goal.loop-first-preserved-else-is_blocked_between
-loop-first-preserved-else-is_blocked_between c =
+pub loop-first-preserved-in_default : goal.loop-first-preserved-in_default
+loop-first-preserved-in_default c =
     let line = c.args.line in
     let first = c.loop-first.first in
     let end = c.block_end-end.result in
@@ -63,7 +63,7 @@ loop-first-preserved-else-is_blocked_between c =
       begun = omega arith;
       within = omega arith;
       start = c.at-next.ensures;
-      clear = rw all (none_joined p 1 (first - 1) first (end - first) (omega arith) c.loop-first.invariant.clear (sym c.is_blocked_between.ensures ∙ c.if-is_blocked_between.false));
+      clear = rw all (none_joined p 1 (first - 1) first (end - first) (omega arith) c.loop-first.invariant.clear (sym c.blocking_step.ensures.answer ∙ ap is_some c.in_default.is));
     }
 
 pub loop-first-preserved : goal.loop-first-preserved

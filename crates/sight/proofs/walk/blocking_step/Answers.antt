@@ -4,7 +4,7 @@ use Rattle.sight.specs.Walk.{step_blocks, steps_of}
 use Rattle.sight.proofs.Steps.{index_stays, index_passes, near_inside, far_inside, room, next_is, whole_le}
 use Rattle.sight.proofs.Levels.{next_level}
 use Rattle.sight.proofs.Ranges.{any_more, any_at}
-use Rattle.sight.proofs.walk.is_blocked_between.Goals as goal
+use Rattle.sight.proofs.walk.blocking_step.Goals as goal
 
 pub overflow_add-index : goal.overflow_add-index
 overflow_add-index c =
@@ -26,8 +26,8 @@ is_higher-requires-clause-far c some =
     let line = c.args.line in
     rw c.loop-step.invariant.index (far_inside c.args.cells.now line.lead line.side (steps_of line) c.loop-step.step c.requires.over (omega arith) (omega arith) (omega (arith, c.loop-step.invariant.part)))
 
-pub returns-then-is_higher : goal.returns-then-is_higher
-returns-then-is_higher c =
+pub returns-then-is_higher-clause-answer : goal.returns-then-is_higher-clause-answer
+returns-then-is_higher-clause-answer c =
     let line = c.args.line in
     let n = steps_of line in
     let k = c.loop-step.step in

@@ -1,6 +1,6 @@
 use Rattle.std.proofs.Common.{◌≡◌, ◌-◌, ◌≤◌, false}
 use Rattle.sight.specs.Walk.{steps_of, step_range_blocks, IsAt}
-use Rattle.sight.proofs.passing.is_blocked_past_blocks.Given as goal
+use Rattle.sight.proofs.passing.blocking_step_past_blocks.Given as goal
 
 abbrev pub invariant-loop-first : goal.invariant-loop-first
 invariant-loop-first l = record {
