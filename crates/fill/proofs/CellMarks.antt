@@ -1,7 +1,7 @@
 -- What the floods say of cells, and the joins of cells amid a tile.
 use Rattle.std.proofs.Common.{◌≡◌, ◌↔◌, ◌⊎◌, ℕ, ◌+◌, ◌-◌, ◌*◌, ◌<◌, ◌≤◌, inl, inr, ℤ, true, List, length, get_or, Option, None, Some, ◌∙◌, sym, ap, subst, refl, arith, ◌/◌, ◌%◌}
 use Rattle.std.specs.Prelude.{slice_get, option_and_then, slice_index_or, MatchOption}
-use Rattle.std.proofs.lemmas.Bool.{cond-false, cases_Bool, cases_eq, cases_lt}
+use Rattle.std.proofs.lemmas.Bool.{cond-false, cases_Bool, cases_lt}
 use Rattle.std.proofs.lemmas.List.{get_or-map}
 use Rattle.std.proofs.lemmas.Option.{MatchOption-at_some, MatchOption-at_none, same_Some, slice_get_within}
 use Rattle.terrain.specs.Neighbours.{index_of}
@@ -10,20 +10,16 @@ use Rattle.terrain.proofs.Places.{same_place}
 use Rattle.tiles.specs.declared.bounds.Bounds.{Bounds}
 use Rattle.tiles.specs.Cutting.{Cutting, IsCutting, IsWithin, IsInTile, IsInBounds, tile_count, tile_of_place, bounds_of, is_in_bounds}
 use Rattle.tiles.proofs.Cut.{in_tile, in_bounds_parts}
-use Rattle.fill.specs.TileFlood.{Flood, LabelsInside, level_in, label_in, entry_in, AreEqualAround, HasOneLabelAround, IsInner, IsFlood}
+use Rattle.fill.specs.TileFlood.{Flood, LabelsInside, level_in, label_in, AreEqualAround, IsInner}
 use Rattle.fill.specs.Labels.{labels_by}
 use Rattle.fill.specs.Gathering.{Fit, mark_of, mark_among, Adds, mark_with, joins_of, AddsAround, AddsCovered}
 use Rattle.fill.specs.declared.spills.Join.{Join}
 use Rattle.fill.specs.declared.marks.Mark.{Mark}
 use Rattle.std.proofs.lemmas.Nat.{mul-le}
-use Rattle.std.proofs.lemmas.List.Elements.{All-contains}
 use Rattle.floods.specs.Cells.{cells_around}
-use Rattle.floods.proofs.CellWays.{beside_around}
-use Rattle.floods.proofs.Windows.{rows_beside}
 use Rattle.floods.proofs.Steps.{seen}
 use Rattle.fill.proofs.Adding.{covered_itself, joins_of_is, HasAdded, none_added, added_more, all_added, no_mark_adds}
-use Rattle.fill.proofs.LabelTables.{cells_size}
-use Rattle.fill.proofs.TileWindows.{bounds_from_entry, entry_in-inside, entry_index}
+use Rattle.fill.proofs.TileWindows.{bounds_from_entry, entry_in-inside}
 
 -- a label lies in the grid
 pub label_within : (c : Cutting) (f : Flood) (p label : Place) → length f.labels ≡ f.bounds.rows * f.bounds.cols → LabelsInside c f → label_in f p ≡ Some label → IsWithin c label
@@ -70,40 +66,6 @@ mark_outside c floods p h fit outside = elim (seen (slice_get floods (tile_of_pl
 -- a place that a flood holds is of its tile
 pub held : (c : Cutting) (floods : List Flood) (tile : ℕ) (f : Flood) (p : Place) → IsCutting c → Fit c floods → tile < tile_count c → slice_get floods tile ≡ Some f → is_in_bounds f.bounds p ≡ true → IsInTile c tile p
 held c floods tile f p h fit below e inside = in_tile c tile p h below (subst (λ b. IsInBounds b p) (fit.bounds tile f e) (in_bounds_parts f.bounds p inside))
-
--- an entry that is equal to those around it, at each of their rows and columns
-equal_near : (xs : List ℕ) (w r c s d : ℕ) → 1 ≤ r → 1 ≤ c → AreEqualAround xs (r * w + c) w → r ≤ s + 1 → s ≤ r + 1 → c ≤ d + 1 → d ≤ c + 1 → get_or xs (s * w + d) 0 ≡ get_or xs (r * w + c) 0
-equal_near xs w r c s d one_row one_col e up down left right = elim (cases_eq r s) [
-  | inl row ↦ elim (cases_eq c d) [
-    | inl col ↦ ap (λ n. get_or xs n 0) (ap (λ n. n * w + d) (sym row) ∙ ap (λ n. r * w + n) (sym col))
-    | inr other ↦ beside (λ _. other)
-  ]
-  | inr other ↦ beside (λ row _. other row)
-] where
-  above : w < r * w + c
-  above = omega (arith, one_col, mul-le 1 w r w one_row (omega arith))
-
-  beside : (r ≡ s → c ≡ d → ⊥) → get_or xs (s * w + d) 0 ≡ get_or xs (r * w + c) 0
-  beside differ = All-contains (λ k. get_or xs k 0 ≡ get_or xs (r * w + c) 0) (cells_around w (r * w + c)) (s * w + d) e
-      (beside_around w (r * w + c) (s * w + d) above (rows_beside w r c s d down up right left differ))
-
--- labels by their entries
-pub label_by_entry : (b : Bounds) (places : List (Option Place)) (cells : List ℕ) (p : Place) → length cells ≡ b.rows * b.cols → IsInBounds b p → entry_in b (labels_by places cells) p ≡ get_or places (get_or cells ((p.row - b.top) * b.cols + (p.col - b.left)) 0) None
-label_by_entry b places cells p size i =
-    entry_in-inside b (labels_by places cells) p i
-    ∙ get_or-map (λ k. get_or places k None) cells ((p.row - b.top) * b.cols + (p.col - b.left)) 0 None (omega (arith, size, entry_index b p i))
-
--- where the entries are equal around a cell that is not on the rim, so are the labels
-pub one_label_around : (f : Flood) (places : List (Option Place)) (cells : List ℕ) (p : Place) (i : ℕ) → f.labels ≡ labels_by places cells → IsFlood f → IsInner f.bounds p → i ≡ (p.row - f.bounds.top) * f.bounds.cols + (p.col - f.bounds.left) → AreEqualAround cells i f.bounds.cols → HasOneLabelAround f p
-one_label_around f places cells p i are lawful inner at e q t =
-    let b = f.bounds in
-    let size = cells_size f places cells are lawful ∙ lawful.levels_size in
-    let row : 1 ≤ p.row - b.top = omega (arith, inner) in
-    let col : 1 ≤ p.col - b.left = omega (arith, inner) in
-    let here : IsInBounds b p = (omega (arith, inner), omega (arith, inner), omega (arith, inner), omega (arith, inner)) in
-    let there : IsInBounds b q = (omega (arith, t.row_up, inner), omega (arith, t.row_down, inner), omega (arith, t.col_left, inner), omega (arith, t.col_right, inner)) in
-    let same = equal_near cells b.cols (p.row - b.top) (p.col - b.left) (q.row - b.top) (q.col - b.left) row col (subst (λ n. AreEqualAround cells n b.cols) at e) (omega (arith, t.row_up, row)) (omega (arith, t.row_down, row)) (omega (arith, t.col_left, col)) (omega (arith, t.col_right, col)) in
-    (there, ap (λ (z : List (Option Place)). entry_in b z q) are ∙ label_by_entry b places cells q size there ∙ ap (λ k. get_or places k None) same ∙ sym (label_by_entry b places cells p size here) ∙ ap (λ (z : List (Option Place)). entry_in b z p) (sym are))
 
 -- an entry of a flood is the mark of its cell
 pub entry_mark : (c : Cutting) (floods : List Flood) (tile : ℕ) (f : Flood) (q : Place) (i : ℕ) → IsCutting c → tile < tile_count c → slice_get floods tile ≡ Some f → f.bounds ≡ bounds_of c tile → IsInBounds (bounds_of c tile) q → i ≡ (q.row - (bounds_of c tile).top) * (bounds_of c tile).cols + (q.col - (bounds_of c tile).left) → mark_among c floods q ≡ mark_with c.cols f i

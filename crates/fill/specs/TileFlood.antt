@@ -1,13 +1,13 @@
 -- Levels and labels inside one tile.
-use Rattle.std.specs.Prelude.{◌≡◌, ℕ, ◌+◌, ◌-◌, ◌*◌, ◌≤◌, ◌<◌, ◌⊎◌, ℤ, pos, ◌≤ℤ◌, if◌then◌else◌, List, [], ◌∷◌, length, Option, None, Some, IsTrue, MatchOption, option_map, unwrap_or, slice_index_or}
+use Rattle.std.specs.Prelude.{◌≡◌, ℕ, ◌+◌, ◌-◌, ◌*◌, ◌≤◌, ◌<◌, ◌⊎◌, ℤ, ◌≤ℤ◌, if◌then◌else◌, List, [], ◌∷◌, length, Option, None, Some, IsTrue, MatchOption, option_map, slice_index_or}
 use Rattle.std.specs.List.{All}
 use Rattle.terrain.specs.Raster.{Terrain}
-use Rattle.terrain.specs.Neighbours.{height_at, IsDataCell, IsNeighbour, IsEnd, Touches}
+use Rattle.terrain.specs.Neighbours.{height_at, IsDataCell, IsNeighbour, IsEnd}
 use Rattle.drainage.specs.Filled.{crest}
 use Rattle.terrain.specs.declared.place.Place.{Place}
 use Rattle.tiles.specs.declared.bounds.Bounds.{Bounds}
 use Rattle.floods.specs.Cells.{cells_around, last_of}
-use Rattle.tiles.specs.Cutting.{Cutting, IsWithin, tile_of_place, bounds_of, is_on_rim, IsInBounds, is_in_bounds, IsInTile, cell_count}
+use Rattle.tiles.specs.Cutting.{Cutting, IsWithin, tile_of_place, bounds_of, is_on_rim, is_in_bounds, IsInTile, cell_count}
 
 -- A data cell on the rim of its tile, or an end cell.
 abbrev pub IsTileSource : Terrain → Cutting → Place → Type 0
@@ -51,10 +51,6 @@ label_in f p = entry_in f.bounds f.labels p
 -- The place lies inside these bounds and not on their rim.
 abbrev pub IsInner : Bounds → Place → Type 0
 IsInner b p = (b.top < p.row) × (p.row + 1 < b.top + b.rows) × (b.left < p.col) × (p.col + 1 < b.left + b.cols)
-
--- A place and those that touch it are of the tile, and have one label or none of them any.
-abbrev pub HasOneLabelAround : Flood → Place → Type 0
-HasOneLabelAround f p = (q : Place) → Touches p q → IsInBounds f.bounds q × (label_in f q ≡ label_in f p)
 
 -- The entry is equal to the eight around it in rows of this width.
 abbrev pub AreEqualAround : List ℕ → ℕ → ℕ → Type 0

@@ -2,9 +2,9 @@
 ghost use Rattle.std.specs.Prelude.{◌≡◌, ◌≤◌, ◌+◌, IfOk, IfSome, length, true, false, MatchOption, None, slice_index_or, ◌*◌, ◌-◌, ◌<◌};
 ghost use Rattle.std.specs.Bool.{OnTrue};
 ghost use Rattle.terrain.specs.Sinks.{with_sinks};
-ghost use Rattle.tiles.specs.Cutting.{terrain_of, IsInBounds, is_in_bounds};
+ghost use Rattle.tiles.specs.Cutting.{terrain_of, is_in_bounds};
 ghost use Rattle.fill.specs.Labels.{labels_by};
-ghost use Rattle.fill.specs.TileFlood.{IsFlood, IsTileFlood, level_in, label_in, HasOneLabelAround, AreEqualAround, IsInner, levels_where};
+ghost use Rattle.fill.specs.TileFlood.{IsFlood, IsTileFlood, level_in, label_in, levels_where};
 
 use crate::labels::{Labels, labels_of};
 use floods::{CellNet, FloodedNet, flood_net, without_border};
@@ -33,26 +33,6 @@ impl Model for TileFlood {
     ghost view = { λ f. record { bounds = f.bounds; levels = levels_where (labels_by f.labels.places.items f.labels.cells.items) f.heights.items; labels = labels_by f.labels.places.items f.labels.cells.items } };
 
     ghost invariant = { λ f. IsFlood (record { bounds = f.bounds; levels = levels_where (labels_by f.labels.places.items f.labels.cells.items) f.heights.items; labels = labels_by f.labels.places.items f.labels.cells.items }) };
-}
-
-/// Whether an entry is equal to the eight around it in rows of this width.
-#[inline(always)]
-fn are_equal_around(labels: &[u32], index: usize, width: usize) -> bool
-    requires before { width + 1 ≤ index }
-    requires after { index + width + 1 < length labels.now }
-    ensures { OnTrue result (AreEqualAround labels.now index width) }
-{
-    let label = labels[index];
-    let above = index - width;
-    let below = index + width;
-    labels[index - 1] == label
-        && labels[index + 1] == label
-        && labels[above - 1] == label
-        && labels[above] == label
-        && labels[above + 1] == label
-        && labels[below - 1] == label
-        && labels[below] == label
-        && labels[below + 1] == label
 }
 
 impl TileFlood {
@@ -141,27 +121,6 @@ impl TileFlood {
         &self.labels
     }
 
-    /// Where a place of the tile that is not on its rim stands in its row order, None at any other.
-    #[inline(always)]
-    pub(crate) fn inner_index(&self, place: Place) -> Option<usize>
-        requires { IsInBounds self.now.bounds place }
-        ensures inner { IfSome result (λ _. IsInner self.now.bounds place) }
-        ensures around { IfSome result (λ index. (self.now.bounds.cols + 1 ≤ index) × (index + self.now.bounds.cols + 1 < length self.now.labels)) }
-        ensures index { IfSome result (λ index. index ≡ (place.row - self.now.bounds.top) * self.now.bounds.cols + (place.col - self.now.bounds.left)) }
-    {
-        let Bounds {
-            top,
-            left,
-            rows,
-            cols,
-        } = self.bounds;
-        let (row, col) = (place.row - top, place.col - left);
-        if row == 0 || col == 0 || row + 1 == rows || col + 1 == cols {
-            return None;
-        }
-        Some(row as usize * cols as usize + col as usize)
-    }
-
     /// Whether two cells with these indices in the tile's row order have one label, or neither any.
     #[inline(always)]
     pub(crate) fn has_same_label(&self, first: usize, second: usize) -> bool
@@ -170,18 +129,6 @@ impl TileFlood {
         ensures { OnTrue result (slice_index_or self.now.labels first None ≡ slice_index_or self.now.labels second None) }
     {
         self.labels.cells[first] == self.labels.cells[second]
-    }
-
-    /// Whether a cell and the eight around it lie in the tile and have one label, or none of them any.
-    #[inline]
-    pub(crate) fn has_one_label_around(&self, place: Place) -> bool
-        requires { IsInBounds self.now.bounds place }
-        ensures { OnTrue result (HasOneLabelAround self.now place) }
-    {
-        let Some(index) = self.inner_index(place) else {
-            return false;
-        };
-        are_equal_around(&self.labels.cells, index, self.bounds.cols as usize)
     }
 
     /// Whether a place is one of the tile's.

@@ -1,9 +1,8 @@
-use Rattle.std.proofs.Common.{◌≡◌, ◌+◌, ◌*◌, refl, sym, ap, subst, map, length, ◌∙◌}
+use Rattle.std.proofs.Common.{◌≡◌, ◌+◌, ◌*◌, refl, sym, ap, subst, length, ◌∙◌}
 use Rattle.terrain.specs.Sinks.{with_sinks}
 use Rattle.tiles.specs.declared.bounds.Bounds.{Bounds}
-use Rattle.tiles.specs.Cutting.{terrain_of, bounds_of}
-use Rattle.floods.specs.Notes.{label_of, numbered_labels}
-use Rattle.fill.specs.Labels.{AreNodesBelow, label_of_node}
+use Rattle.tiles.specs.Cutting.{terrain_of}
+use Rattle.floods.specs.Notes.{label_of}
 use Rattle.fill.proofs.Where.{flood_where, heights_whole}
 use Rattle.fill.proofs.TileWindows.{tile_flood_is, inner_labels, inner_lists}
 use Rattle.std.proofs.lemmas.List.{length-map}
