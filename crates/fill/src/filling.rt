@@ -17,7 +17,7 @@ use drainage::Filled;
 use std::alloc::Global;
 use std::sync::Wait;
 use std::thread::Threads;
-use terrain::Grid;
+use terrain::{Frame, Grid};
 use tile_jobs::{Gate, JobFault, Work};
 use tile_maps::{Crew, joined};
 use tiles::Tiling;
@@ -101,17 +101,17 @@ impl<'a> Work for PartTiles<'a> {
 /// The level of each label in the spill graph.
 fn label_levels<R: Threads + Wait + Sync, G: Gate + Sync>(
     crew: &Crew<'_, R, G>,
-    grid: &Grid,
+    frame: &Frame,
     tiling: &Tiling,
     floods: &[TileFlood],
 ) -> Result<LabelLevels, JobFault>
-    requires floods { AreFloods grid.now.terrain tiling.now floods.now }
+    requires floods { AreFloods frame.now.terrain tiling.now floods.now }
     requires workers { (0 < crew.now.workers) × (crew.now.workers ≤ 64) }
-    ensures levels { IfOk result (λ levels. AreOpenLevels grid.now.terrain tiling.now floods.now levels) }
+    ensures levels { IfOk result (λ levels. AreOpenLevels frame.now.terrain tiling.now floods.now levels) }
     ensures workers { RefusesWorkers crew.now.workers result }
 {
     let lists = crew.run(&SourceTiles { tiling, floods }, tiling.tiles())?;
-    let sources = label_sources(crew.alloc, tiling, floods, &lists, grid.sinks())?;
+    let sources = label_sources(crew.alloc, tiling, floods, &lists, frame.sinks())?;
     drop(lists);
     let work = PartTiles {
         tiling,
@@ -128,17 +128,18 @@ fn label_levels<R: Threads + Wait + Sync, G: Gate + Sync>(
 }
 
 /// The grid with each height replaced by its filled height. Each tile is flooded in a job of its own, and adds
-/// to the spill graph in two more; then all are raised.
+/// to the spill graph in two more; then all are raised. The grid is taken over, so that its cells are let go as soon
+/// as the tiles are flooded.
 pub fn filled<R: Threads + Wait + Sync, G: Gate + Sync>(
     rt: &R,
     alloc: Global,
-    grid: &Grid,
+    grid: Grid,
     tiling: &Tiling,
     workers: u32,
     gate: &G,
 ) -> Result<Filled, JobFault>
-    requires { Cuts tiling.now grid.now.terrain }
-    ensures filled { IfOk result (λ f. IsFilledGrid grid.now f) }
+    requires { Cuts tiling.now grid.terrain }
+    ensures filled { IfOk result (λ f. IsFilledGrid grid f) }
     ensures workers { RefusesWorkers workers result }
 {
     let crew = Crew {
@@ -149,15 +150,14 @@ pub fn filled<R: Threads + Wait + Sync, G: Gate + Sync>(
     };
     let tiling = joined(tiling);
     let work = FloodTiles {
-        grid,
+        grid: &grid,
         tiling: &tiling,
     };
     let floods = crew.run(&work, tiling.tiles())?;
-    let levels = label_levels(&crew, grid, &tiling, &floods)?;
+    drop(work);
+    let frame = grid.into_frame();
+    let levels = label_levels(&crew, &frame, &tiling, &floods)?;
     let cells = raised_grid(alloc, &tiling, &floods, &levels)?;
     drop(floods);
-    let Ok(filled) = grid.with_own_cells(alloc, cells) else {
-        return Err(JobFault::Memory);
-    };
-    Ok(Filled::from_grid(filled))
+    Ok(Filled::from_grid(frame.with_cells(cells)))
 }

@@ -31,7 +31,7 @@ pub(crate) enum MapCells {
     Counts(Vec<Option<u32>>),
 }
 
-/// A grid, filled, and the directions on its heights. The grid as it was is let go as soon as it is filled.
+/// A grid, filled, and the directions on its heights.
 fn drained<H: Threads + Wait + Sync, G: Gate + Sync>(
     rt: &H,
     alloc: Global,
@@ -46,8 +46,7 @@ fn drained<H: Threads + Wait + Sync, G: Gate + Sync>(
     ensures size { IfOk result (λ r. Cuts tiling.now r.1.terrain) }
     ensures workers { RefusesWorkers workers result }
 {
-    let filled = filled(rt, alloc, &grid, tiling, workers, gate)?;
-    drop(grid);
+    let filled = filled(rt, alloc, grid, tiling, workers, gate)?;
     let directions = directions(rt, alloc, &filled, tiling, workers, gate)?;
     Ok((filled.into_grid(), directions))
 }
@@ -102,7 +101,7 @@ pub(crate) fn make_map<H: Threads + Wait + Sync, G: Gate + Sync>(
     let workers = options.workers();
     match options.map() {
         Map::Fill => {
-            let filled = filled(rt, alloc, &grid, tiling, workers, gate)?;
+            let filled = filled(rt, alloc, grid, tiling, workers, gate)?;
             Ok((filled.into_grid(), MapCells::Heights))
         }
         Map::Flow => {

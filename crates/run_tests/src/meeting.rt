@@ -113,7 +113,11 @@ fn tiles_meet_at_each_stage(rt: HostRuntime) {
     let alloc = rt.alloc();
     let (pit, tiling) = cut(&rt, alloc, PITS, 2);
     let gate = Meeting::new();
-    let level = filled(&rt, alloc, &pit, &tiling, 2, &gate).expect(&rt, "levels");
+    let seen = viewshed(&rt, alloc, &pit, &[CORNER], 0, 9, &tiling, 2, &gate);
+    assert!(rt; seen.is_ok());
+    gate.expect(&rt, 1, 4, "viewshed");
+    let gate = Meeting::new();
+    let level = filled(&rt, alloc, pit, &tiling, 2, &gate).expect(&rt, "levels");
     gate.expect(&rt, 3, 4, "filled");
     let ways = directions(&rt, alloc, &level, &tiling, 2, &NoGate).expect(&rt, "ways");
     let gate = Meeting::new();
@@ -122,10 +126,6 @@ fn tiles_meet_at_each_stage(rt: HostRuntime) {
     let gate = Meeting::new();
     assert!(rt; basins(&rt, alloc, &ways, &tiling, 2, &gate).is_ok());
     gate.expect(&rt, 3, 4, "basins");
-    let gate = Meeting::new();
-    let seen = viewshed(&rt, alloc, &pit, &[CORNER], 0, 9, &tiling, 2, &gate);
-    assert!(rt; seen.is_ok());
-    gate.expect(&rt, 1, 4, "viewshed");
 }
 
 // Tiles with inner cells have the same stages.
@@ -134,7 +134,7 @@ fn tiles_with_inner_cells_meet(rt: HostRuntime) {
     let alloc = rt.alloc();
     let (valley, tiling) = cut(&rt, alloc, VALLEY, 3);
     let gate = Meeting::new();
-    let level = filled(&rt, alloc, &valley, &tiling, 2, &gate);
+    let level = filled(&rt, alloc, valley, &tiling, 2, &gate);
     assert!(rt; level.is_ok());
     gate.expect(&rt, 3, 2, "filled");
 }
@@ -144,7 +144,7 @@ fn tiles_with_inner_cells_meet(rt: HostRuntime) {
 fn tiles_meet_in_each_round(rt: HostRuntime) {
     let alloc = rt.alloc();
     let (corridors, tiling) = cut(&rt, alloc, CORRIDORS, 5);
-    let level = filled(&rt, alloc, &corridors, &tiling, 1, &NoGate).expect(&rt, "levels");
+    let level = filled(&rt, alloc, corridors, &tiling, 1, &NoGate).expect(&rt, "levels");
     let gate = Meeting::new();
     assert!(rt; directions(&rt, alloc, &level, &tiling, 2, &gate).is_ok());
     gate.expect(&rt, 4, 2, "directions");
@@ -155,7 +155,7 @@ fn tiles_meet_in_each_round(rt: HostRuntime) {
 fn one_job_for_one_tile(rt: HostRuntime) {
     let alloc = rt.alloc();
     let (pit, tiling) = cut(&rt, alloc, PITS, 2);
-    let level = filled(&rt, alloc, &pit, &tiling, 1, &NoGate).expect(&rt, "levels");
+    let level = filled(&rt, alloc, pit, &tiling, 1, &NoGate).expect(&rt, "levels");
     let gate = Meeting {
         looks: 0,
         ..Meeting::new()
@@ -169,7 +169,7 @@ fn one_job_for_one_tile(rt: HostRuntime) {
 fn three_stages_of_three_jobs(rt: HostRuntime) {
     let alloc = rt.alloc();
     let (level, tiling) = cut(&rt, alloc, LEVEL, 2);
-    let level = filled(&rt, alloc, &level, &tiling, 1, &NoGate).expect(&rt, "levels");
+    let level = filled(&rt, alloc, level, &tiling, 1, &NoGate).expect(&rt, "levels");
     let ways = directions(&rt, alloc, &level, &tiling, 1, &NoGate).expect(&rt, "ways");
     for workers in [2, 8] {
         let gate = Meeting::new();

@@ -4,5 +4,7 @@ pub mod Places
 pub mod Listed
 -- named sinks
 pub mod Naming
+-- a grid with other cells
+pub mod OtherCells
 -- heights fit their type
 pub mod Heights

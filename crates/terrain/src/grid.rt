@@ -9,6 +9,7 @@ use crate::sinks::{SinkFault, each_once, first_fault, is_one_of};
 use crate::word::Word;
 use std::alloc::{AllocError, Global};
 use std::marker::Model;
+use std::snapshot::Snapshot;
 
 /// The most columns, and the most rows, of a grid.
 pub const LONGEST_AXIS: u32 = 4_096;
@@ -85,6 +86,57 @@ impl Model for Grid {
     ghost view = { λ g. raster_with g.header g.scale g.cells.items g.sinks.items };
 
     ghost invariant = { λ g. IsLawful (raster_with g.header g.scale g.cells.items g.sinks.items) };
+}
+
+/// A grid whose cells were let go: its header, its scale and its sinks. Clauses see the grid as it was.
+#[derive(Drop)]
+pub struct Frame {
+    header: GridHeader,
+    scale: u8,
+    named_sinks: Vec<Place>,
+    grid: Snapshot<Grid>,
+}
+
+impl Model for Frame {
+    ghost use Rattle.std.specs.Prelude.{◌≡◌};
+    ghost use Rattle.terrain.specs.Raster.{Raster, IsLawful};
+    ghost use Rattle.terrain.specs.Parts.{raster_with};
+
+    ghost Value = { Raster };
+
+    ghost view = { λ f. f.grid.value };
+
+    ghost invariant = { λ f. IsLawful f.grid.value × (f.grid.value ≡ raster_with f.header f.scale f.grid.value.terrain.cells f.named_sinks.items) };
+}
+
+impl Frame {
+    /// The named sinks of the grid.
+    pub fn sinks(&self) -> &[Place]
+        ensures { result.now ≡ self.now.terrain.sinks }
+    {
+        &self.named_sinks
+    }
+
+    /// The grid with these cells in place of those that were let go. Each height among them stood in the grid. It
+    /// takes no memory.
+    pub fn with_cells(self, cells: Vec<Option<Height>>) -> Grid
+        requires size { length cells.items ≡ self.terrain.cols * self.terrain.rows }
+        requires heights { All (λ c. IfSome c (λ h. Contains self.terrain.cells (Some h))) cells.items }
+        ensures { result ≡ record self { terrain = record self.terrain { cells = cells.items } } }
+    {
+        let Frame {
+            header,
+            scale,
+            named_sinks,
+            ..
+        } = self;
+        Grid {
+            header,
+            scale,
+            cells,
+            sinks: named_sinks,
+        }
+    }
 }
 
 impl Grid {
@@ -220,20 +272,27 @@ impl Grid {
         requires heights { All (λ c. IfSome c (λ h. Contains self.now.terrain.cells (Some h))) cells.now }
         ensures { IfOk result (λ g. g ≡ record self.now { terrain = record self.now.terrain { cells = cells.now } }) }
     {
-        self.with_own_cells(alloc, Vec::from_slice(alloc, cells)?)
+        let cells = Vec::from_slice(alloc, cells)?;
+        Ok(self.with_parts(cells, Vec::from_slice(alloc, self.sinks())?))
     }
 
-    /// The same as [`Grid::with_cells`], of a list that is handed over. It takes memory for the sinks alone.
-    pub fn with_own_cells(
-        &self,
-        alloc: Global,
-        cells: Vec<Option<Height>>,
-    ) -> Result<Grid, NoMemory>
-        requires size { length cells.items ≡ self.now.terrain.cols * self.now.terrain.rows }
-        requires heights { All (λ c. IfSome c (λ h. Contains self.now.terrain.cells (Some h))) cells.items }
-        ensures { IfOk result (λ g. g ≡ record self.now { terrain = record self.now.terrain { cells = cells.items } }) }
+    /// The grid without its cells, which are let go.
+    pub fn into_frame(self) -> Frame
+        ensures { result ≡ self }
     {
-        Ok(self.with_parts(cells, Vec::from_slice(alloc, self.sinks())?))
+        let grid = Snapshot::of(&self);
+        let Grid {
+            header,
+            scale,
+            sinks,
+            ..
+        } = self;
+        Frame {
+            header,
+            scale,
+            named_sinks: sinks,
+            grid,
+        }
     }
 
     fn with_parts(&self, cells: Vec<Option<Height>>, sinks: Vec<Place>) -> Grid

@@ -9,7 +9,7 @@ pub mod sinks;
 pub mod word;
 
 pub use digits::whole_number;
-pub use grid::{Anchor, Grid, GridHeader, LONGEST_AXIS, NoMemory};
+pub use grid::{Anchor, Frame, Grid, GridHeader, LONGEST_AXIS, NoMemory};
 pub use observer::Observer;
 pub use place::{GREATEST_DROP, HIGHEST, Height, LOWEST, Place};
 pub use sinks::{MOST_SINKS, SinkFault};

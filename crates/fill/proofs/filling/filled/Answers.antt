@@ -1,4 +1,5 @@
-use Rattle.std.proofs.Common.{arith}
+use Rattle.std.proofs.Common.{arith, ap, ◌∙◌}
+use Rattle.terrain.specs.Raster.{Raster}
 use Rattle.fill.specs.Spills.{AreFloods}
 use Rattle.fill.proofs.Gathered.{fit_of}
 use Rattle.fill.proofs.Raised.{floods_given, filled_map, filled_stand, filled_grid}
@@ -6,35 +7,43 @@ use Rattle.fill.proofs.filling.filled.Goals as goal
 
 pub raised_grid-requires-clause-fit : goal.raised_grid-requires-clause-fit
 raised_grid-requires-clause-fit g c =
-    let t = c.args.grid.now.terrain in
+    let t = c.args.grid.terrain in
     let k = c.joined-tiling.result in
     let v = c.in_ok-floods.floods in
-    let are : AreFloods t k v.items = floods_given t k v.items c.tiles.ensures.lawful (c.joined-tiling.ensures c.args.grid.now.terrain c.requires) (omega (arith, v.ok.0, c.in_ok-floods.ensures.len, c.tiles.ensures.value)) (λ j d below. c.in_ok-floods.ensures.given j d (omega (arith, below, c.tiles.ensures.value))) in
+    let are : AreFloods t k v.items = floods_given t k v.items c.tiles.ensures.lawful (c.joined-tiling.ensures c.args.grid.terrain c.requires) (omega (arith, v.ok.0, c.in_ok-floods.ensures.len, c.tiles.ensures.value)) (λ j d below. c.in_ok-floods.ensures.given j d (omega (arith, below, c.tiles.ensures.value))) in
     rw c.deref-2.ensures.value (fit_of t k v.items are.lawful are)
 
-pub with_own_cells-requires-clause-heights : goal.with_own_cells-requires-clause-heights
-with_own_cells-requires-clause-heights g c =
-    let t = c.args.grid.now.terrain in
+pub label_levels-requires-clause-floods : goal.label_levels-requires-clause-floods
+label_levels-requires-clause-floods g c =
+    let t = c.args.grid.terrain in
     let k = c.joined-tiling.result in
     let v = c.in_ok-floods.floods in
-    let are : AreFloods t k v.items = floods_given t k v.items c.tiles.ensures.lawful (c.joined-tiling.ensures c.args.grid.now.terrain c.requires) (omega (arith, v.ok.0, c.in_ok-floods.ensures.len, c.tiles.ensures.value)) (λ j d below. c.in_ok-floods.ensures.given j d (omega (arith, below, c.tiles.ensures.value))) in
-    let spill = rw c.deref.ensures.value at c.in_ok-levels.ensures.levels in
-    filled_stand t c.in_ok-cells.cells.items (filled_map t k v.items _ c.in_ok-cells.cells.items are spill (rw c.deref-2.ensures.value at c.in_ok-cells.ensures))
+    let are : AreFloods t k v.items = floods_given t k v.items c.tiles.ensures.lawful (c.joined-tiling.ensures c.args.grid.terrain c.requires) (omega (arith, v.ok.0, c.in_ok-floods.ensures.len, c.tiles.ensures.value)) (λ j d below. c.in_ok-floods.ensures.given j d (omega (arith, below, c.tiles.ensures.value))) in
+    rw (c.deref.ensures.value, c.into_frame-frame.ensures) (λ lives live. are)
+
+pub with_cells-requires-clause-heights : goal.with_cells-requires-clause-heights
+with_cells-requires-clause-heights g c =
+    let t = c.args.grid.terrain in
+    let k = c.joined-tiling.result in
+    let v = c.in_ok-floods.floods in
+    let are : AreFloods t k v.items = floods_given t k v.items c.tiles.ensures.lawful (c.joined-tiling.ensures c.args.grid.terrain c.requires) (omega (arith, v.ok.0, c.in_ok-floods.ensures.len, c.tiles.ensures.value)) (λ j d below. c.in_ok-floods.ensures.given j d (omega (arith, below, c.tiles.ensures.value))) in
+    let spill = rw c.into_frame-frame.ensures at (rw c.deref.ensures.value at c.in_ok-levels.ensures.levels) in
+    rw c.into_frame-frame.ensures (filled_stand t c.in_ok-cells.cells.items (filled_map t k v.items _ c.in_ok-cells.cells.items are spill (rw c.deref-2.ensures.value at c.in_ok-cells.ensures)))
 
 pub from_grid-requires : goal.from_grid-requires
 from_grid-requires g c =
-    let t = c.args.grid.now.terrain in
+    let t = c.args.grid.terrain in
     let k = c.joined-tiling.result in
     let v = c.in_ok-floods.floods in
-    let are : AreFloods t k v.items = floods_given t k v.items c.tiles.ensures.lawful (c.joined-tiling.ensures c.args.grid.now.terrain c.requires) (omega (arith, v.ok.0, c.in_ok-floods.ensures.len, c.tiles.ensures.value)) (λ j d below. c.in_ok-floods.ensures.given j d (omega (arith, below, c.tiles.ensures.value))) in
-    let spill = rw c.deref.ensures.value at c.in_ok-levels.ensures.levels in
-    (filled_grid c.args.grid.now c.in-Ok.filled c.in_ok-cells.cells.items c.in-Ok.ensures (filled_map t k v.items _ c.in_ok-cells.cells.items are spill (rw c.deref-2.ensures.value at c.in_ok-cells.ensures))).0
+    let are : AreFloods t k v.items = floods_given t k v.items c.tiles.ensures.lawful (c.joined-tiling.ensures c.args.grid.terrain c.requires) (omega (arith, v.ok.0, c.in_ok-floods.ensures.len, c.tiles.ensures.value)) (λ j d below. c.in_ok-floods.ensures.given j d (omega (arith, below, c.tiles.ensures.value))) in
+    let spill = rw c.into_frame-frame.ensures at (rw c.deref.ensures.value at c.in_ok-levels.ensures.levels) in
+    (filled_grid c.args.grid c.with_cells.result c.in_ok-cells.cells.items (c.with_cells.ensures ∙ ap (λ (r : Raster). record r { terrain = record r.terrain { cells = c.in_ok-cells.cells.items } }) c.into_frame-frame.ensures) (filled_map t k v.items _ c.in_ok-cells.cells.items are spill (rw c.deref-2.ensures.value at c.in_ok-cells.ensures))).0
 
 pub returns-clause-filled : goal.returns-clause-filled
 returns-clause-filled g c =
-    let t = c.args.grid.now.terrain in
+    let t = c.args.grid.terrain in
     let k = c.joined-tiling.result in
     let v = c.in_ok-floods.floods in
-    let are : AreFloods t k v.items = floods_given t k v.items c.tiles.ensures.lawful (c.joined-tiling.ensures c.args.grid.now.terrain c.requires) (omega (arith, v.ok.0, c.in_ok-floods.ensures.len, c.tiles.ensures.value)) (λ j d below. c.in_ok-floods.ensures.given j d (omega (arith, below, c.tiles.ensures.value))) in
-    let spill = rw c.deref.ensures.value at c.in_ok-levels.ensures.levels in
-    rw c.from_grid.ensures (filled_grid c.args.grid.now c.in-Ok.filled c.in_ok-cells.cells.items c.in-Ok.ensures (filled_map t k v.items _ c.in_ok-cells.cells.items are spill (rw c.deref-2.ensures.value at c.in_ok-cells.ensures))).1
+    let are : AreFloods t k v.items = floods_given t k v.items c.tiles.ensures.lawful (c.joined-tiling.ensures c.args.grid.terrain c.requires) (omega (arith, v.ok.0, c.in_ok-floods.ensures.len, c.tiles.ensures.value)) (λ j d below. c.in_ok-floods.ensures.given j d (omega (arith, below, c.tiles.ensures.value))) in
+    let spill = rw c.into_frame-frame.ensures at (rw c.deref.ensures.value at c.in_ok-levels.ensures.levels) in
+    rw c.from_grid.ensures (filled_grid c.args.grid c.with_cells.result c.in_ok-cells.cells.items (c.with_cells.ensures ∙ ap (λ (r : Raster). record r { terrain = record r.terrain { cells = c.in_ok-cells.cells.items } }) c.into_frame-frame.ensures) (filled_map t k v.items _ c.in_ok-cells.cells.items are spill (rw c.deref-2.ensures.value at c.in_ok-cells.ensures))).1

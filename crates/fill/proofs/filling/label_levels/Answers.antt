@@ -5,13 +5,13 @@ use Rattle.fill.proofs.Gathered.{fit_of, is_open_graph}
 use Rattle.fill.proofs.filling.label_levels.Goals as goal
 
 pub invariant_of-run : goal.invariant_of-run
-invariant_of-run g c = record { fit = fit_of c.args.grid.now.terrain c.args.tiling.now c.args.floods.now c.requires.floods.lawful c.requires.floods }
+invariant_of-run g c = record { fit = fit_of c.args.frame.now.terrain c.args.tiling.now c.args.floods.now c.requires.floods.lawful c.requires.floods }
 
 pub invariant_of-work : goal.invariant_of-work
-invariant_of-work g c = record { fit = fit_of c.args.grid.now.terrain c.args.tiling.now c.args.floods.now c.requires.floods.lawful c.requires.floods }
+invariant_of-work g c = record { fit = fit_of c.args.frame.now.terrain c.args.tiling.now c.args.floods.now c.requires.floods.lawful c.requires.floods }
 
 pub label_sources-requires-clause-floods : goal.label_sources-requires-clause-floods
-label_sources-requires-clause-floods g c = (c.args.grid.now.terrain, c.requires.floods)
+label_sources-requires-clause-floods g c = (c.args.frame.now.terrain, c.requires.floods)
 
 pub label_sources-requires-clause-lists : goal.label_sources-requires-clause-lists
 label_sources-requires-clause-lists g c = rw c.deref.ensures.value (record {
@@ -21,7 +21,7 @@ label_sources-requires-clause-lists g c = rw c.deref.ensures.value (record {
 
 pub of_parts-graph-requires : goal.of_parts-graph-requires
 of_parts-graph-requires g c = (
-  c.args.grid.now.terrain,
+  c.args.frame.now.terrain,
   c.args.floods.now,
   c.in_ok-sources.sources,
   c.requires.floods,
@@ -34,7 +34,7 @@ of_parts-graph-requires g c = (
 
 pub returns-clause-levels : goal.returns-clause-levels
 returns-clause-levels g c =
-    let t = c.args.grid.now.terrain in
+    let t = c.args.frame.now.terrain in
     let k = c.args.tiling.now in
     let floods = c.args.floods.now in
     let sources = c.in_ok-sources.sources in
@@ -44,6 +44,6 @@ returns-clause-levels g c =
       each = λ j d below. c.in_ok-parts.ensures.given j d (omega (arith, below, c.tiles-2.ensures.value));
     } in (
       graph_of_parts k parts sources,
-      is_open_graph t k floods parts sources c.requires.floods.lawful c.requires.floods are (c.in_ok-sources.ensures.right t (sym c.sinks.ensures.value) c.requires.floods),
+      is_open_graph t k floods parts sources c.requires.floods.lawful c.requires.floods are (c.in_ok-sources.ensures.right t (sym c.sinks.ensures) c.requires.floods),
       subst (λ (x : Graph). AreLevelsOf x c.in-Ok.levels) c.of_parts-graph.ensures c.in-Ok.ensures,
     )
