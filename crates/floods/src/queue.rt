@@ -15,11 +15,11 @@ use terrain::Height;
 #[derive(Clone, Copy)]
 #[derive_where(PartialEq, Eq, PartialOrd, Ord)]
 pub struct Waiting {
-    pub(crate) height: Reverse<Height>,
+    pub height: Reverse<Height>,
     #[derive_where(skip(EqHashOrd))]
-    pub(crate) node: u32,
+    pub node: u32,
     #[derive_where(skip(EqHashOrd))]
-    pub(crate) label: u32,
+    pub label: u32,
 }
 
 /// Levels of the window at most. Those of a tile of 256 by 256 cells mostly span fewer, and no more empty lists than
