@@ -1,13 +1,13 @@
 -- The state of a flood, and what a heap of waiting nodes has after each pop and push.
-use Rattle.std.proofs.Common.{[], ◌≡◌, ℕ, ◌<◌, ◌⊎◌, ℤ, List, length, Option, None, Some, IsSome, zero, suc, ◌+◌, false, ◌∷◌, get_or, set, replicate, ◌≤ℤ◌, is_some, sym, ap, subst, refl, ◌∙◌, arith, inl, inr}
+use Rattle.std.proofs.Common.{[], ◌≡◌, ℕ, ◌<◌, ◌≤◌, ◌⊎◌, ℤ, List, length, Option, None, Some, IsSome, zero, suc, ◌+◌, false, ◌∷◌, get_or, set, replicate, ◌≤ℤ◌, is_some, sym, ap, subst, refl, ◌∙◌, arith, inl, inr}
 use Rattle.std.specs.Int.{int_max}
 use Rattle.std.specs.List.{Contains, All}
-use Rattle.floods.specs.Walk.{Joins, Sources, IsWalk, crest, end_of, IsLevel}
+use Rattle.floods.specs.Walk.{Joins, Sources, HasNoSource, IsWalk, crest, end_of, IsLevel}
 use Rattle.floods.specs.Flood.{entry_of, IsDone, SomeWaits, TakesLowest, PutsIn, HasNone, SourcesWait, HasSourcesNoted}
 use Rattle.floods.specs.declared.net.Spill.{Spill}
 use Rattle.floods.specs.declared.queue.Waiting.{Waiting}
 use Rattle.std.proofs.lemmas.Int.{ints}
-use Rattle.std.proofs.lemmas.Bool.{cases_eq}
+use Rattle.std.proofs.lemmas.Bool.{cases_eq, cases_lt}
 use Rattle.std.proofs.lemmas.List.{get_or-set_same, get_or-set_other}
 use Rattle.std.proofs.lemmas.List.Elements.{All-contains, All-contains_itself}
 use Rattle.std.proofs.lemmas.List.Sorted.{Contains-permutation, IsPermutation-sym}
@@ -124,6 +124,16 @@ source_passed source n waiting s none = record {
   ];
 }
 
+-- some nodes that are no sources
+pub sources_passed : (source : Sources) (n m : ℕ) (waiting : List Waiting) → SourcesWait n source waiting → n ≤ m → HasNoSource source n m → SourcesWait m source waiting
+sources_passed source n m waiting s up none = record {
+  only = λ k d below. let o = s.only k d below in (omega (arith, o.0, up), o.1, o.2);
+  every = λ a h below e. elim (cases_lt a n) [
+    | inl early ↦ s.every a h early e
+    | inr late ↦ let no = none a late below in absurd (cc)
+  ];
+}
+
 -- a source that waits
 pub source_more : (source : Sources) (n : ℕ) (h : ℤ) (now new : List Waiting) (w : Waiting) → SourcesWait n source now → source n ≡ Some h → w.node ≡ n → w.label ≡ n → w.height.0 ≡ h → PutsIn w now new → SourcesWait (n + 1) source new
 source_more source n h now new w s is node label height perm = record {
@@ -152,6 +162,15 @@ noted_past source n levels s none = record {
     | inr other ↦ s.each a (omega arith)
   ];
   rest = λ a past. s.rest a (omega (arith, past));
+}
+
+pub noted_passed : (source : Sources) (n m : ℕ) (levels : List (Option ℤ)) → HasSourcesNoted n source levels → n ≤ m → HasNoSource source n m → HasSourcesNoted m source levels
+noted_passed source n m levels s up none = record {
+  each = λ a below. elim (cases_lt a n) [
+    | inl early ↦ s.each a early
+    | inr late ↦ s.rest a late ∙ sym (none a late below)
+  ];
+  rest = λ a past. s.rest a (omega (arith, past, up));
 }
 
 pub noted_more : (source : Sources) (n : ℕ) (h : ℤ) (levels : List (Option ℤ)) → n < length levels → HasSourcesNoted n source levels → source n ≡ Some h → HasSourcesNoted (n + 1) source (set levels n (Some h))

@@ -1,12 +1,13 @@
 -- Lists of heights, some of which are lacking.
-use Rattle.std.proofs.Common.{◌≡◌, ℕ, zero, suc, ◌+◌, ◌<◌, ◌≤ℤ◌, ◌<ℤ◌, ℤ, pos, Bool, true, false, if◌then◌else◌, List, [], ◌∷◌, ◌++◌, length, get_or, map, set, take, ext_get_or, ◌⊎◌, replicate, unwrap_or, append_assoc, T, Option, None, Some, is_some, ◌∙◌, sym, ap, refl, arith, inl, inr, subst}
+use Rattle.std.proofs.Common.{◌≡◌, ℕ, zero, suc, ◌+◌, ◌-◌, ◌<◌, ◌≤◌, ◌≤ℤ◌, ◌<ℤ◌, ℤ, pos, Bool, true, false, if◌then◌else◌, List, [], ◌∷◌, ◌++◌, length, get_or, map, set, take, drop, slice_range, ext_get_or, ◌⊎◌, replicate, unwrap_or, append_assoc, T, Option, None, Some, is_some, ◌∙◌, sym, ap, refl, arith, inl, inr, subst}
 use Rattle.std.specs.Int.Signed.{le_z, lt_z}
 use Rattle.std.proofs.lemmas.Int.{ints}
 use Rattle.std.proofs.lemmas.Float.{T_from_true}
 use Rattle.std.proofs.lemmas.Bool.{cases_eq, cases_lt}
 use Rattle.std.proofs.lemmas.Option.{same_Some}
-use Rattle.std.proofs.lemmas.List.{length-map, get_or-map, length-set, length_push, length-replicate, get_or-replicate, get_or-set_same, get_or-set_other, get_or_append_left, get_or_push, take_more, replicate-append-replicate}
-use Rattle.floods.specs.Notes.{AreHeights, heights_where, height_or_lack, lack}
+use Rattle.std.proofs.lemmas.List.{length-map, get_or-map, length-set, length_push, length-replicate, get_or-replicate, get_or-set_same, get_or-set_other, get_or_append_left, get_or_push, get_or-take, get_or-drop, length-take-le, length-drop, take_more, replicate-append-replicate}
+use Rattle.std.specs.List.{EachIndex}
+use Rattle.floods.specs.Notes.{AreHeights, heights_where, height_or_lack, lack, AreAllThere}
 
 pub length-where : (there : List Bool) (heights : List ℤ) → length there ≡ length heights → length (heights_where there heights) ≡ length heights
 length-where [] [] e = refl
@@ -81,6 +82,32 @@ is_there false x = refl
 
 pub there_is : (heights : List ℤ) (there : List Bool) (i : ℕ) → AreHeights heights there → get_or there i false ≡ is_some (get_or (heights_where there heights) i None)
 there_is heights there i are = is_there (get_or there i false) (get_or heights i (pos 0)) ∙ ap is_some (sym (where-at there heights i are.size))
+
+-- whether an entry of a part is there
+part_at : (there : List Bool) (heights : List ℤ) (seen : List (Option ℤ)) (first count index : ℕ) → AreHeights heights there → heights_where there heights ≡ seen → index < count → get_or (slice_range there first (first + count)) index false ≡ is_some (get_or seen (first + index) None)
+part_at there heights seen first count index are view below =
+    get_or-take (first + count - first) (drop first there) index false (omega (arith, below))
+    ∙ get_or-drop first there index false
+    ∙ there_is heights there (first + index) are
+    ∙ ap (λ (l : List (Option ℤ)). is_some (get_or l (first + index) None)) view
+
+part_length : (there : List Bool) (first count : ℕ) → first + count ≤ length there → length (slice_range there first (first + count)) ≡ count
+part_length there first count inside =
+    length-take-le (first + count - first) (drop first there) (omega (arith, inside, length-drop first there)) ∙ omega arith
+
+-- a part all of whose entries are there
+pub part_there : (there : List Bool) (heights : List ℤ) (seen : List (Option ℤ)) (first count : ℕ) → AreHeights heights there → heights_where there heights ≡ seen → first + count ≤ length there → EachIndex (slice_range there first (first + count)) (λ k. get_or (slice_range there first (first + count)) k false ≡ true) → AreAllThere seen first (first + count)
+part_there there heights seen first count are view inside all index from below =
+    let at : index ≡ first + (index - first) = omega (arith, from) in
+    let low : index - first < length (slice_range there first (first + count)) = omega (arith, from, below, part_length there first count inside) in
+    ap (λ k. is_some (get_or seen k None)) at
+    ∙ sym (part_at there heights seen first count (index - first) are view (omega (arith, from, below)))
+    ∙ all (index - first) low
+
+pub there_part : (there : List Bool) (heights : List ℤ) (seen : List (Option ℤ)) (first count : ℕ) → AreHeights heights there → heights_where there heights ≡ seen → first + count ≤ length there → AreAllThere seen first (first + count) → EachIndex (slice_range there first (first + count)) (λ k. get_or (slice_range there first (first + count)) k false ≡ true)
+there_part there heights seen first count are view inside all index below =
+    let low : index < count = omega (arith, below, part_length there first count inside) in
+    part_at there heights seen first count index are view low ∙ all (first + index) (omega arith) (omega (arith, low))
 
 -- the number of an entry that is there
 from_some : (b : Bool) (x h : ℤ) → (if b then Some x else None) ≡ Some h → x ≡ h

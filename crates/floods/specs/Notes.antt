@@ -1,5 +1,5 @@
 -- Lists of what is noted of nodes, each entry of which may be lacking.
-use Rattle.std.specs.Prelude.{◌≡◌, ℕ, ◌<◌, ℤ, pos, Bool, false, ◌==◌, List, [], ◌∷◌, map, length, Option, None, Some, if◌then◌else◌, slice_index_or, unwrap_or}
+use Rattle.std.specs.Prelude.{◌≡◌, ℕ, ◌<◌, ◌≤◌, ℤ, pos, Bool, false, ◌==◌, List, [], ◌∷◌, map, length, Option, None, Some, IsSome, if◌then◌else◌, slice_index_or, unwrap_or}
 
 -- The heights of those entries that are there.
 abbrev pub heights_where : List Bool → List ℤ → List (Option ℤ)
@@ -14,6 +14,10 @@ lack = pos 9223372036854775807
 pub record AreHeights (heights : List ℤ) (there : List Bool) : Type 0 where
   pub size : length there ≡ length heights
   pub lacks : (index : ℕ) → index < length heights → slice_index_or there index false ≡ false → slice_index_or heights index (pos 0) ≡ lack
+
+-- Each entry from a first one on and before an end is there.
+abbrev pub AreAllThere : List (Option ℤ) → ℕ → ℕ → Type 0
+AreAllThere entries first end = (index : ℕ) → first ≤ index → index < end → IsSome (slice_index_or entries index None)
 
 -- How an entry stands.
 abbrev pub height_or_lack : Option ℤ → ℤ

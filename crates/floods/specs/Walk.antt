@@ -1,6 +1,6 @@
 -- Walks over a net, and the least crest among them. A net is given by which nodes are joined at
 -- which height, and by the sources with their heights.
-use Rattle.std.specs.Prelude.{◌≡◌, ℕ, ◌<◌, ℤ, pos, ◌≤ℤ◌, List, [], ◌∷◌, length, Option, None, Some, IsSome, MatchOption, slice_index_or, unwrap_or}
+use Rattle.std.specs.Prelude.{◌≡◌, ℕ, ◌<◌, ◌≤◌, ℤ, pos, ◌≤ℤ◌, List, [], ◌∷◌, length, Option, None, Some, IsSome, MatchOption, slice_index_or, unwrap_or}
 use Rattle.std.specs.List.{Contains, All}
 use Rattle.std.specs.Int.{int_max}
 use Rattle.floods.specs.declared.net.Spill.{Spill}
@@ -12,6 +12,10 @@ Joins = ℕ → ℕ → ℤ → Type 0
 -- The height of a source, None at any other node.
 abbrev pub Sources : Type 0
 Sources = ℕ → Option ℤ
+
+-- No node from a first one on and before an end is a source.
+abbrev pub HasNoSource : Sources → ℕ → ℕ → Type 0
+HasNoSource source first end = (a : ℕ) → first ≤ a → a < end → source a ≡ None
 
 -- A walk is a first node and the list of the steps after it: each step leads to a neighbour at its
 -- spill height, and the last node is a source.

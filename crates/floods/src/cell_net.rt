@@ -1,6 +1,8 @@
 // A rectangle of cells as a net.
 ghost use Rattle.std.specs.Prelude.{◌≡◌, None, ◌+◌, ◌-◌, ◌*◌, ◌^◌, ◌<◌, ◌≤◌, ◌∷◌, ◌++◌, [], ℕ, ℤ, length, All, IfOk, IfSome, OnOk, is_none, slice_index_or, replicate};
 ghost use Rattle.std.specs.List.{list_any, filter_map, cons_option};
+ghost use Rattle.std.specs.Bool.{OnTrue};
+ghost use Rattle.floods.specs.Walk.{HasNoSource};
 ghost use Rattle.floods.specs.Flood.{waiting_in, InOrder, Follows, AreNoted};
 ghost use Rattle.terrain.specs.Sinks.{with_sinks};
 ghost use Rattle.floods.specs.Cells.{Cells, cells_around, way_to, whole, IsNetOf, IsCellJoin, source_of, bordered_rows, inner_rows, row_of};
@@ -37,6 +39,9 @@ impl Model for CellNet {
 
     ghost invariant = { λ n. IsBordered (record { stride = n.stride; cells = n.cells; sinks = n.sinks.items }) };
 }
+
+/// So many cells of a row at a time are passed over where they and all cells around them have data.
+const RUN: u32 = 16;
 
 /// The eight cells around one that is not on the border.
 #[inline(always)]
@@ -151,6 +156,27 @@ fn push_around(
     Ok(())
 }
 
+impl CellNet {
+    /// Whether the cells of a run from this one on and all cells around them have data, in a net
+    /// without sinks: then none of the run is a source.
+    #[inline]
+    fn is_filled_run(&self, node: u32) -> bool
+        ensures few { length self.now.cells < 2 ^ 32 }
+        ensures inside { OnTrue result (node + RUN ≤ length self.now.cells) }
+        ensures none { OnTrue result (HasNoSource (source_of self.now) node (node + RUN)) }
+    {
+        let first = node as usize;
+        let stride = self.stride as usize;
+        let count = RUN as usize + 2;
+        self.sinks.is_empty()
+            && stride < first
+            && first + stride + count <= self.cells.len() + 1
+            && self.cells.all_there(first - stride - 1, count)
+            && self.cells.all_there(first - 1, count)
+            && self.cells.all_there(first + stride - 1, count)
+    }
+}
+
 impl Net for CellNet {
     ghost use Rattle.std.specs.Prelude.{length};
     ghost use Rattle.floods.specs.Cells.{IsCellJoin, source_of};
@@ -211,6 +237,16 @@ impl Net for CellNet {
         } else {
             None
         }
+    }
+
+    // Runs begin at each RUN-th node alone: so a gap is not met again from each node before it.
+    #[inline]
+    fn next_candidate(&self, from: u32) -> u32 {
+        let mut node = from;
+        while node % RUN == 0 && self.is_filled_run(node) {
+            node += RUN;
+        }
+        node
     }
 }
 

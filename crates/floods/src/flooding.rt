@@ -39,7 +39,9 @@ fn waiting_sources<N: Net>(
     ensures size { length levels.new ≡ length levels.old }
 {
     let mut waits = Waits::new(alloc, levels.len())?;
-    for node in 0..net.nodes() {
+    let count = net.nodes();
+    let mut node = net.next_candidate(0);
+    while node < count {
         if let Some(height) = net.source(node) {
             let waiting = Waiting {
                 height: Reverse(height),
@@ -49,6 +51,7 @@ fn waiting_sources<N: Net>(
             waits.put(waiting)?;
             levels.put(node, height);
         }
+        node = net.next_candidate(node + 1);
     }
     Ok(waits)
 }

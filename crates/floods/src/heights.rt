@@ -1,7 +1,7 @@
 // Lists of heights, some of which are lacking.
-ghost use Rattle.std.specs.Prelude.{◌≡◌, ◌↔◌, ◌<◌, ◌≤ℤ◌, ◌∷◌, [], ◌++◌, ℕ, ℤ, pos, IsTrue, IfOk, OnOk, None, Some, length, map, replicate, set, slice_index_or, is_some};
+ghost use Rattle.std.specs.Prelude.{◌≡◌, ◌↔◌, ◌+◌, ◌<◌, ◌≤◌, ◌≤ℤ◌, ◌∷◌, [], ◌++◌, ℕ, ℤ, pos, IsTrue, EachIndex, false, true, IfOk, OnOk, None, Some, length, map, replicate, set, slice_index_or, is_some};
 ghost use Rattle.std.specs.Int.{int_max};
-ghost use Rattle.floods.specs.Notes.{AreHeights, heights_where, height_or_lack};
+ghost use Rattle.floods.specs.Notes.{AreHeights, heights_where, height_or_lack, AreAllThere};
 
 use std::alloc::{AllocError, Global};
 use std::marker::Model;
@@ -27,6 +27,14 @@ impl Model for HeightList {
     ghost Value = { List (Option ℤ) };
 
     ghost view = { λ l. heights_where l.there.items l.heights.items };
+}
+
+/// Whether all of a list are true.
+#[inline(always)]
+fn are_true(list: &[bool]) -> bool
+    ensures { IsTrue result ↔ EachIndex list.now (λ k. slice_index_or list.now k false ≡ true) }
+{
+    list.iter().all(|one| *one)
 }
 
 impl HeightList {
@@ -92,6 +100,15 @@ impl HeightList {
         ensures { result ≡ is_some (slice_index_or self.now index None) }
     {
         self.there[index as usize]
+    }
+
+    /// Whether all of so many entries from a first one on are there.
+    #[inline(always)]
+    pub(crate) fn all_there(&self, first: usize, count: usize) -> bool
+        requires { first + count ≤ length self.now }
+        ensures { IsTrue result ↔ AreAllThere self.now first (first + count) }
+    {
+        are_true(&self.there[first..first + count])
     }
 
     /// An entry.

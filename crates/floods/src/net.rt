@@ -1,6 +1,6 @@
 // A net of nodes that are joined at spill heights.
-ghost use Rattle.std.specs.Prelude.{◌≡◌, ◌<◌, ℕ, ℤ, Option, IfOk, OnOk, length};
-ghost use Rattle.floods.specs.Walk.{HasJust};
+ghost use Rattle.std.specs.Prelude.{◌≡◌, ◌<◌, ◌≤◌, ℕ, ℤ, Option, IfOk, OnOk, length};
+ghost use Rattle.floods.specs.Walk.{HasJust, HasNoSource};
 ghost use Rattle.floods.specs.Flood.{waiting_in, InOrder, Spreads, AreNoted};
 
 use crate::heights::HeightList;
@@ -37,6 +37,18 @@ pub trait Net {
     fn source(&self, node: u32) -> Option<Height>
         requires { node < node_count self.now }
         ensures { result ≡ source_height self.now node };
+
+    /// The next node that may be a source, from this one on, or the number of nodes: a net that
+    /// can tell of many nodes at once that none is a source passes over them.
+    #[inline]
+    fn next_candidate(&self, from: u32) -> u32
+        requires { from ≤ node_count self.now }
+        ensures from { from ≤ result }
+        ensures inside { result ≤ node_count self.now }
+        ensures passed { HasNoSource (source_height self.now) from result }
+    {
+        from
+    }
 
     /// Makes the neighbours of a node wait that have no label yet and do not wait as low.
     #[inline]
