@@ -1,36 +1,143 @@
 -- The levels of a spill graph, by numbers of those of its nodes that are joined.
-use Rattle.std.proofs.Common.{◌≡◌, ◌≢◌, ℕ, ◌+◌, ◌<◌, ◌≤◌, ◌⊎◌, inl, inr, ℤ, pos, ◌≤ℤ◌, List, [], ◌∷◌, ◌++◌, map, length, get_or, set, Option, None, Some, unwrap_or, ◌∙◌, sym, ap, subst, refl, arith}
-use Rattle.std.specs.Prelude.{IsSome, is_some, MatchOption}
+use Rattle.std.proofs.Common.{◌≡◌, ◌≢◌, ℕ, zero, suc, replicate, ◌+◌, ◌<◌, ◌≤◌, ◌⊎◌, inl, inr, ℤ, pos, ◌≤ℤ◌, List, [], ◌∷◌, ◌++◌, map, length, get_or, set, Option, None, Some, unwrap_or, ◌∙◌, sym, ap, subst, refl, arith}
+use Rattle.std.specs.Prelude.{IsSome, is_some, MatchOption, slice_get}
 use Rattle.std.specs.Int.{int_max}
 use Rattle.std.specs.Option.{option_map}
 use Rattle.std.specs.List.{Contains, All, flat_map}
 use Rattle.std.proofs.lemmas.Bool.{cases_eq, cases_lt}
-use Rattle.std.proofs.lemmas.Option.{MatchOption-at_some, MatchOption-at_none}
-use Rattle.std.proofs.lemmas.List.{length-set, length-map, length_push, get_or-map, get_or-set_same, get_or-set_other, get_or_append_left, get_or_push, get_or_past}
+use Rattle.std.proofs.lemmas.Option.{MatchOption-at_some, MatchOption-at_none, slice_get-get_or, unwrap_or-slice_get}
+use Rattle.std.proofs.lemmas.List.{length-set, length-map, length-replicate, length_push, get_or-map, get_or-replicate, get_or-set_same, get_or-set_other, get_or_append_left, get_or_push, get_or_past, get_or_default}
 use Rattle.std.proofs.lemmas.List.Elements.{All-contains, Contains-get_or}
 use Rattle.floods.specs.declared.net.Spill.{Spill}
 use Rattle.floods.specs.Walk.{IsWalk, crest, end_of, IsLevel, HasNoWalk, IsFlooded, HasJust}
 use Rattle.floods.proofs.Heaps.{all_by_contains}
-use Rattle.floods.proofs.Steps.{le_of_same, match_of, none_done}
 use Rattle.floods.proofs.Waits.{in_some_list, in_lists}
+use Rattle.floods.proofs.Steps.{seen, le_of_same, match_of, none_done}
 use Rattle.fill.specs.Spills.{Graph, HasJoin, source_in, AreLevelsOf}
+use Rattle.fill.specs.Numbers.{AreTold, AreNumbered, BeginsOne, AreNumberLevels, HasNumber, HasNumberJoin, Numbers, node_at, number_of, source_at, way_to_number, levels_with}
 use Rattle.fill.specs.Parts.{joins_by_part}
-use Rattle.fill.specs.Numbers.{AreNumbered, AreMarked, AreNumberLevels, MarksJoined, HasNumberJoin, node_at, number_of, source_at, way_to_number, levels_by}
 use Rattle.fill.specs.declared.spills.Join.{Join}
 use Rattle.fill.specs.declared.parts.Part.{Part}
+use Rattle.fill.proofs.Adding.{no_join}
 use Rattle.fill.proofs.GraphParts.{joins_at}
 
--- The first labels of the first joins have been marked.
-pub record MarksFirst (joins : List Join) (count : ℕ) (old new : List ℕ) : Type 0 where
-  pub size : length new ≡ length old
-  pub kept : (a : ℕ) → get_or old a 0 ≡ 0 → get_or new a 0 ≡ 0
-  pub every : (k : ℕ) (d : Join) → k < count → get_or new (get_or joins k d).from 0 ≡ 0
+-- no number yet
+pub none_told : (n : ℕ) → AreTold [] (replicate n 4294967295)
+none_told n = record {
+  few = omega arith;
+  inside = λ k low. absurd (omega (arith, low));
+  number = λ k low. absurd (omega (arith, low));
+  node = λ a low some. absurd (some (get_or-replicate n a 4294967295 0 (omega (arith, low, length-replicate {A = ℕ} n 4294967295))));
+}
 
--- Those of the first parts have been marked.
-pub record MarksParts (parts : List Part) (count : ℕ) (old new : List ℕ) : Type 0 where
-  pub size : length new ≡ length old
-  pub kept : (a : ℕ) → get_or old a 0 ≡ 0 → get_or new a 0 ≡ 0
-  pub every : (i : ℕ) (j : Join) → i < count → Contains (get_or (joins_by_part parts) i []) j → get_or new j.from 0 ≡ 0
+-- one more number
+pub number_more : (nodes numbers : List ℕ) (a : ℕ) → a < length numbers → length nodes < 4294967295 → get_or numbers a 0 ≡ 4294967295 → AreTold nodes numbers → AreTold (nodes ++ a ∷ []) (set numbers a (length nodes))
+number_more nodes numbers a below room none s = record {
+  few = omega (arith, count, room);
+  inside = λ n low. elim (cases_eq n (length nodes)) [
+    | inl last ↦ omega (arith, pushed n last, below, size)
+    | inr early ↦
+        let under : n < length nodes = omega (arith, low, early, count) in
+        omega (arith, kept n under, s.inside n under, size)
+  ];
+  number = λ n low. elim (cases_eq n (length nodes)) [
+    | inl last ↦ ap (λ b. get_or new b 0) (pushed n last) ∙ here ∙ sym last
+    | inr early ↦
+        let under : n < length nodes = omega (arith, low, early, count) in
+        let was = s.number n under in
+        ap (λ b. get_or new b 0) (kept n under) ∙ still (get_or nodes n 0) (λ e. let again = ap (λ b. get_or numbers b 0) e in omega (arith, again, was, none, under, s.few)) ∙ was
+  ];
+  node = λ b low some. elim (cases_eq b a) [
+    | inl same ↦
+        let e = ap (λ k. get_or new k 0) same ∙ here in
+        (omega (arith, e, count), ap (λ k. get_or more k 0) e ∙ pushed (length nodes) refl ∙ sym same)
+    | inr other ↦
+        let e = still b other in
+        let has = s.node b (omega (arith, low, size)) (λ none_here. some (e ∙ none_here)) in
+        (omega (arith, e, has.0, count), ap (λ k. get_or more k 0) e ∙ kept (get_or numbers b 0) has.0 ∙ has.1)
+  ];
+} where
+  more : List ℕ
+  more = nodes ++ a ∷ []
+
+  new : List ℕ
+  new = set numbers a (length nodes)
+
+  count : length more ≡ length nodes + 1
+  count = length_push nodes a
+
+  size : length new ≡ length numbers
+  size = length-set numbers a (length nodes)
+
+  pushed : (n : ℕ) → n ≡ length nodes → get_or more n 0 ≡ a
+  pushed n last = get_or_push nodes a 0 n (sym last)
+
+  kept : (n : ℕ) → n < length nodes → get_or more n 0 ≡ get_or nodes n 0
+  kept n under = get_or_append_left nodes (a ∷ []) 0 n under
+
+  here : get_or new a 0 ≡ length nodes
+  here = get_or-set_same numbers a (length nodes) 0 below
+
+  still : (b : ℕ) → b ≢ a → get_or new b 0 ≡ get_or numbers b 0
+  still b other = get_or-set_other numbers a b (length nodes) 0 other
+
+pub numbered_by : (g : Graph) (nodes numbers : List ℕ) → AreTold nodes numbers → length numbers ≡ g.nodes → length g.sources ≡ g.nodes → All (λ j. HasNumber nodes numbers j.from) g.joins → AreNumbered g nodes numbers
+numbered_by g nodes numbers told size sources joined = record {
+  size = size;
+  sources = sources;
+  few = told.few;
+  inside = λ k low. omega (arith, told.inside k low, size);
+  number = told.number;
+  node = λ a below has. (told.node a (omega (arith, below, size)) (λ none. omega (arith, none, has, told.few))).1;
+  joined = λ j held. All-contains (λ (k : Join). HasNumber nodes numbers k.from) g.joins j joined held;
+}
+
+-- one node more, which has a number or gets one
+pub has_told : (nodes numbers : List ℕ) (a : ℕ) → a < length numbers → get_or numbers a 0 ≢ 4294967295 → AreTold nodes numbers → Numbers (λ b. b ≡ a) nodes numbers nodes numbers
+has_told nodes numbers a below some told = record {
+  size = refl;
+  kept = λ b has. has;
+  every = λ b same. let e = ap (λ k. get_or numbers k 0) same in omega (arith, e, (told.node a below some).0);
+}
+
+pub one_told : (nodes numbers : List ℕ) (a : ℕ) → a < length numbers → length nodes < 4294967295 → get_or numbers a 0 ≡ 4294967295 → Numbers (λ b. b ≡ a) nodes numbers (nodes ++ a ∷ []) (set numbers a (length nodes))
+one_told nodes numbers a below room none = record {
+  size = length-set numbers a (length nodes);
+  kept = λ b has. elim (cases_eq b a) [
+    | inl same ↦ let e = ap (λ k. get_or numbers k 0) same in absurd (omega (arith, e, none, has, room))
+    | inr other ↦ let e = get_or-set_other numbers a b (length nodes) 0 other in omega (arith, e, has, length_push nodes a)
+  ];
+  every = λ b same. let e = ap (λ k. get_or (set numbers a (length nodes)) k 0) same ∙ get_or-set_same numbers a (length nodes) 0 below in omega (arith, e, length_push nodes a);
+}
+
+-- one after the other
+pub then_told : (first second all : ℕ → Type 0) (nodes numbers nodes_now numbers_now nodes_after numbers_after : List ℕ) → ((a : ℕ) → all a → first a ⊎ second a) →
+    Numbers first nodes numbers nodes_now numbers_now → Numbers second nodes_now numbers_now nodes_after numbers_after → Numbers all nodes numbers nodes_after numbers_after
+then_told first second all nodes numbers nodes_now numbers_now nodes_after numbers_after split s m = record {
+  size = m.size ∙ s.size;
+  kept = λ a has. m.kept a (s.kept a has);
+  every = λ a is. elim (split a is) [ inl early ↦ m.kept a (s.every a early) | inr late ↦ m.every a late ];
+}
+
+pub same_told : (some all : ℕ → Type 0) (nodes numbers nodes_after numbers_after : List ℕ) → ((a : ℕ) → all a → some a) → Numbers some nodes numbers nodes_after numbers_after → Numbers all nodes numbers nodes_after numbers_after
+same_told some all nodes numbers nodes_after numbers_after are s = record { size = s.size; kept = s.kept; every = λ a is. s.every a (are a is) }
+
+-- The nodes at which the first joins begin.
+abbrev pub BeginsFirst : List Join → ℕ → ℕ → Type 0
+BeginsFirst joins count a = (k : ℕ) × (k < count) × (k < length joins) × ((d : Join) → (get_or joins k d).from ≡ a)
+
+pub begins_more : (joins : List Join) (i : ℕ) (x : Join) (a : ℕ) → i < length joins → BeginsFirst joins (i + 1) a → BeginsFirst joins i a ⊎ (a ≡ (get_or joins i x).from)
+begins_more joins i x a below h = elim (cases_eq h.0 i) [
+  | inl same ↦ inr (sym (h.3 x) ∙ ap (λ (k : ℕ). (get_or joins k x).from) same)
+  | inr other ↦ inl (h.0, omega (arith, h.1, other), h.2, h.3)
+]
+
+pub begins_all : (joins : List Join) (i a : ℕ) → length joins ≤ i → BeginsOne joins a → BeginsFirst joins i a
+begins_all joins i a all (j, held, from) = (held.0, omega (arith, held.1, all), held.1, λ d. ap (λ (k : Join). k.from) (get_or_default joins held.0 d j held.1 ∙ held.2) ∙ from)
+
+-- The nodes at which joins of the first parts begin.
+abbrev pub BeginsInFirst : List Part → ℕ → ℕ → Type 0
+BeginsInFirst parts count a = (i : ℕ) × (i < count) × BeginsOne (get_or (joins_by_part parts) i []) a
 
 -- the joins of one part begin in the list
 pub part_inside : (parts : List Part) (i count : ℕ) (x : Part) → All (λ (j : Join). j.from < count) (flat_map (λ joins. joins) (joins_by_part parts)) → i < length parts → x ≡ get_or parts i x → All (λ (j : Join). j.from < count) x.joins.items
@@ -38,152 +145,20 @@ part_inside parts i count x all below is = all_by_contains (λ (j : Join). j.fro
     All-contains (λ (j : Join). j.from < count) (flat_map (λ joins. joins) (joins_by_part parts)) j all
     (in_lists (joins_by_part parts) i j (subst (λ (z : List Join). Contains z j) (sym (joins_at parts i x below is)) held)))
 
-pub part_marked : (parts : List Part) (i : ℕ) (x : Part) (old now new : List ℕ) → i < length parts → x ≡ get_or parts i x → MarksParts parts i old now → MarksJoined x.joins.items now new → MarksParts parts (i + 1) old new
-part_marked parts i x old now new below is s m = record {
-  size = m.size ∙ s.size;
-  kept = λ a zero. m.kept a (s.kept a zero);
-  every = λ k j low held. elim (cases_eq k i) [
-    | inl same ↦ m.every j (subst (λ (z : List Join). Contains z j) (ap (λ n. get_or (joins_by_part parts) n []) same ∙ joins_at parts i x below is) held)
-    | inr other ↦ m.kept j.from (s.every k j (omega (arith, low, other)) held)
-  ];
-}
+pub part_begins : (parts : List Part) (i : ℕ) (x : Part) (a : ℕ) → i < length parts → x ≡ get_or parts i x → BeginsInFirst parts (i + 1) a → BeginsInFirst parts i a ⊎ BeginsOne x.joins.items a
+part_begins parts i x a below is (k, low, begins) = elim (cases_eq k i) [
+  | inl same ↦ inr (subst (λ (z : List Join). BeginsOne z a) (ap (λ n. get_or (joins_by_part parts) n []) same ∙ joins_at parts i x below is) begins)
+  | inr other ↦ inl (k, omega (arith, low, other), begins)
+]
 
-pub all_marked : (parts : List Part) (i : ℕ) (old new : List ℕ) → length parts ≤ i → MarksParts parts i old new → MarksJoined (flat_map (λ joins. joins) (joins_by_part parts)) old new
-all_marked parts i old new all s = record {
-  size = s.size;
-  kept = s.kept;
-  every = λ j held.
-      let there = in_some_list (joins_by_part parts) j held in
-      elim (cases_lt there.0 i) [
-        | inl low ↦ s.every there.0 j low there.1
-        | inr past ↦ absurd (nowhere j (subst (λ (z : List Join). Contains z j) (get_or_past (joins_by_part parts) there.0 [] (omega (arith, past, all, length-map parts (λ (part : Part). part.joins.items)))) there.1))
-      ];
-} where
-  nowhere : (j : Join) → Contains [] j → ⊥
-  nowhere j h = omega (arith, h.1)
-
--- The nodes below a count have been numbered, and the marks of the others stand.
-pub record NumbersFirst (g : Graph) (count : ℕ) (marks nodes numbers : List ℕ) : Type 0 where
-  pub size : length numbers ≡ length marks
-  pub few : length nodes ≤ count
-  pub inside : (n : ℕ) → n < length nodes → get_or nodes n 0 < count
-  pub number : (n : ℕ) → n < length nodes → get_or numbers (get_or nodes n 0) 0 ≡ n
-  pub node : (a : ℕ) → a < count → (get_or numbers a 0 ≡ 4294967295) ⊎ ((get_or numbers a 0 < length nodes) × (get_or nodes (get_or numbers a 0) 0 ≡ a))
-  pub marked : (a : ℕ) → a < count → get_or marks a 0 ≡ 0 → get_or numbers a 0 < length nodes
-  pub rest : (a : ℕ) → count ≤ a → get_or numbers a 0 ≡ get_or marks a 0
-
-pub numbers_none : (g : Graph) (marks : List ℕ) → NumbersFirst g 0 marks [] marks
-numbers_none g marks = record {
-  size = refl;
-  few = omega arith;
-  inside = λ n low. absurd (omega (arith, low));
-  number = λ n low. absurd (omega (arith, low));
-  node = λ a low. absurd (omega (arith, low));
-  marked = λ a low mark. absurd (omega (arith, low));
-  rest = λ a high. refl;
-}
-
--- one more node has a number
-pub number_more : (g : Graph) (i : ℕ) (marks nodes numbers : List ℕ) → i < length marks → NumbersFirst g i marks nodes numbers → NumbersFirst g (i + 1) marks (nodes ++ i ∷ []) (set numbers i (length nodes))
-number_more g i marks nodes numbers below s = record {
-  size = length-set numbers i (length nodes) ∙ s.size;
-  few = omega (arith, count, s.few);
-  inside = λ n low. elim (cases_eq n (length nodes)) [
-    | inl last ↦ let e = pushed n last in omega (arith, e)
-    | inr early ↦
-        let under : n < length nodes = omega (arith, low, early, count) in
-        let e = kept n under in
-        let old = s.inside n under in
-        omega (arith, e, old)
-  ];
-  number = λ n low. elim (cases_eq n (length nodes)) [
-    | inl last ↦ ap (λ a. get_or new a 0) (pushed n last) ∙ here ∙ sym last
-    | inr early ↦
-        let under : n < length nodes = omega (arith, low, early, count) in
-        ap (λ a. get_or new a 0) (kept n under) ∙ still (get_or nodes n 0) (λ e. omega (arith, s.inside n under, e)) ∙ s.number n under
-  ];
-  node = λ a low. elim (cases_eq a i) [
-    | inl same ↦
-        let e = at a same in
-        inr (omega (arith, e, count), ap (λ k. get_or more k 0) e ∙ pushed (length nodes) refl ∙ sym same)
-    | inr other ↦
-        let e = still a other in
-        elim (s.node a (omega (arith, low, other))) [
-          | inl none ↦ inl (e ∙ none)
-          | inr has ↦ inr (omega (arith, e, has.0, count), ap (λ k. get_or more k 0) e ∙ kept (get_or numbers a 0) has.0 ∙ has.1)
-        ]
-  ];
-  marked = λ a low mark. elim (cases_eq a i) [
-    | inl same ↦ let e = at a same in omega (arith, e, count)
-    | inr other ↦ let e = still a other in let old = s.marked a (omega (arith, low, other)) mark in omega (arith, e, old, count)
-  ];
-  rest = λ a high. still a (λ e. omega (arith, high, e)) ∙ s.rest a (omega (arith, high));
-} where
-  more : List ℕ
-  more = nodes ++ i ∷ []
-
-  new : List ℕ
-  new = set numbers i (length nodes)
-
-  count : length more ≡ length nodes + 1
-  count = length_push nodes i
-
-  pushed : (n : ℕ) → n ≡ length nodes → get_or more n 0 ≡ i
-  pushed n last = get_or_push nodes i 0 n (sym last)
-
-  kept : (n : ℕ) → n < length nodes → get_or more n 0 ≡ get_or nodes n 0
-  kept n under = get_or_append_left nodes (i ∷ []) 0 n under
-
-  here : get_or new i 0 ≡ length nodes
-  here = get_or-set_same numbers i (length nodes) 0 (omega (arith, below, s.size))
-
-  at : (a : ℕ) → a ≡ i → get_or new a 0 ≡ length nodes
-  at a same = ap (λ k. get_or new k 0) same ∙ here
-
-  still : (a : ℕ) → a ≢ i → get_or new a 0 ≡ get_or numbers a 0
-  still a other = get_or-set_other numbers i a (length nodes) 0 other
-
--- or none
-pub number_none : (g : Graph) (i : ℕ) (marks nodes numbers : List ℕ) → i < length marks → get_or numbers i 0 ≢ 0 → NumbersFirst g i marks nodes numbers → NumbersFirst g (i + 1) marks nodes (set numbers i 4294967295)
-number_none g i marks nodes numbers below unmarked s = record {
-  size = length-set numbers i 4294967295 ∙ s.size;
-  few = omega (arith, s.few);
-  inside = λ n low. let old = s.inside n low in omega (arith, old);
-  number = λ n low. still (get_or nodes n 0) (λ e. omega (arith, s.inside n low, e)) ∙ s.number n low;
-  node = λ a low. elim (cases_eq a i) [
-    | inl same ↦ inl (ap (λ k. get_or new k 0) same ∙ get_or-set_same numbers i 4294967295 0 (omega (arith, below, s.size)))
-    | inr other ↦
-        let e = still a other in
-        elim (s.node a (omega (arith, low, other))) [
-          | inl past ↦ inl (e ∙ past)
-          | inr has ↦ inr (omega (arith, e, has.0), ap (λ k. get_or nodes k 0) e ∙ has.1)
-        ]
-  ];
-  marked = λ a low mark. elim (cases_eq a i) [
-    | inl same ↦ absurd (unmarked (s.rest i (omega arith) ∙ ap (λ k. get_or marks k 0) (sym same) ∙ mark))
-    | inr other ↦ let e = still a other in let old = s.marked a (omega (arith, low, other)) mark in omega (arith, e, old)
-  ];
-  rest = λ a high. still a (λ e. omega (arith, high, e)) ∙ s.rest a (omega (arith, high));
-} where
-  new : List ℕ
-  new = set numbers i 4294967295
-
-  still : (a : ℕ) → a ≢ i → get_or new a 0 ≡ get_or numbers a 0
-  still a other = get_or-set_other numbers i a 4294967295 0 other
-
-pub all_numbered : (g : Graph) (marks nodes numbers : List ℕ) → AreMarked g marks → NumbersFirst g g.nodes marks nodes numbers → AreNumbered g nodes numbers
-all_numbered g marks nodes numbers are s = record {
-  size = s.size ∙ are.size;
-  few = s.few;
-  small = are.small;
-  inside = s.inside;
-  number = s.number;
-  node = λ a below low. elim (s.node a below) [
-    | inl none ↦ absurd (omega (arith, none, low, s.few, are.small))
-    | inr has ↦ has.1
-  ];
-  joined = λ j held. let mark = are.every j held in s.marked j.from mark.0 mark.1;
-}
+pub all_numbered : (parts : List Part) (i : ℕ) (nodes numbers nodes_after numbers_after : List ℕ) → length parts ≤ i → Numbers (BeginsInFirst parts i) nodes numbers nodes_after numbers_after →
+    All (λ j. HasNumber nodes_after numbers_after j.from) (flat_map (λ joins. joins) (joins_by_part parts))
+all_numbered parts i nodes numbers nodes_after numbers_after all s = all_by_contains (λ (j : Join). HasNumber nodes_after numbers_after j.from) (flat_map (λ joins. joins) (joins_by_part parts)) (λ j held.
+    let there = in_some_list (joins_by_part parts) j held in
+    elim (cases_lt there.0 i) [
+      | inl low ↦ s.every j.from (there.0, low, (j, there.1, refl))
+      | inr past ↦ absurd (no_join j (subst (λ (z : List Join). Contains z j) (get_or_past (joins_by_part parts) there.0 [] (omega (arith, past, all, length-map parts (λ (part : Part). part.joins.items)))) there.1))
+    ])
 
 -- the ways of a node, by number
 pub ways_numbered : (g : Graph) (nodes numbers : List ℕ) (n : ℕ) (ways : List Spill) → AreNumbered g nodes numbers → n < length nodes → HasJust (HasJoin g (node_at nodes n)) ways → HasJust (HasNumberJoin g nodes n) (map (way_to_number numbers) ways)
@@ -289,158 +264,85 @@ alone_level g a h alone source = (a, refl, record { reached = ([], ap is_some so
   least [] walk = le_of_same _ _ (sym height)
   least (step ∷ rest) walk = absurd (alone step.to step.height walk.0)
 
--- The nodes below a count have their levels by number, as those have from the start that have one of the first numbers.
-pub record HasLevels (g : Graph) (count first : ℕ) (old numbers : List ℕ) (heights : List (Option ℤ)) : Type 0 where
-  pub labels : List (Option ℕ)
-  pub size : length numbers ≡ g.nodes
-  pub labels_size : length labels ≡ length heights
-  pub enough : first ≤ length heights
-  pub few : length heights ≤ first + count
-  pub joined : (a : ℕ) → a < g.nodes → get_or numbers a 0 < first → IsNodeLevel g a (get_or heights (get_or numbers a 0) None) (get_or labels (get_or numbers a 0) None)
-  pub alone : (a : ℕ) → a < count → first ≤ get_or numbers a 0 → ((get_or numbers a 0 ≡ 4294967295) × HasNoWalk (HasJoin g) (source_in g) a)
-      ⊎ ((get_or numbers a 0 < length heights) × IsNodeLevel g a (get_or heights (get_or numbers a 0) None) (get_or labels (get_or numbers a 0) None))
-  pub rest : (a : ℕ) → count ≤ a → get_or numbers a 0 ≡ get_or old a 0
-
-pub joined_levels : (g : Graph) (nodes numbers : List ℕ) (heights : List (Option ℤ)) → AreNumbered g nodes numbers → AreNumberLevels g nodes heights → HasLevels g 0 (length heights) numbers numbers heights
-joined_levels g nodes numbers heights are s = record {
-  labels = map (option_map (node_at nodes)) s.0;
-  size = are.size;
-  labels_size = length-map s.0 (option_map (node_at nodes)) ∙ s.1.labels_size ∙ sym s.1.levels_size;
-  enough = omega arith;
-  few = omega arith;
-  joined = λ a below low.
-      let has : get_or numbers a 0 < length nodes = omega (arith, low, s.1.levels_size) in
-      subst (IsNodeLevel g a (get_or heights (get_or numbers a 0) None)) (sym (get_or-map (option_map (node_at nodes)) s.0 (get_or numbers a 0) None None (omega (arith, has, s.1.labels_size))))
-      (joined_level g nodes numbers heights s.0 are s.1 a below has);
-  alone = λ a low high. absurd (omega (arith, low));
-  rest = λ a high. refl;
-}
-
 -- a node that has no number is alone
-pub unnumbered : (g : Graph) (nodes numbers : List ℕ) (a first : ℕ) → AreNumbered g nodes numbers → first ≡ length nodes → first ≤ get_or numbers a 0 → IsAlone g a
-unnumbered g nodes numbers a first are same past b h join =
+unnumbered : (g : Graph) (nodes numbers : List ℕ) (a : ℕ) → AreNumbered g nodes numbers → length nodes ≤ get_or numbers a 0 → IsAlone g a
+unnumbered g nodes numbers a are past b h join =
     let has = are.joined (record { from = a; to = b; height = h }) join.there in
-    omega (arith, has, same, past)
+    omega (arith, has, past)
 
-pub joined_next : (g : Graph) (i first : ℕ) (old numbers : List ℕ) (heights : List (Option ℤ)) → get_or numbers i 0 < first → HasLevels g i first old numbers heights → HasLevels g (i + 1) first old numbers heights
-joined_next g i first old numbers heights low s = record {
-  labels = s.labels;
-  size = s.size;
-  labels_size = s.labels_size;
-  enough = s.enough;
-  few = omega (arith, s.few);
-  joined = s.joined;
-  alone = λ a below high. elim (cases_eq a i) [
-    | inl same ↦ let e = ap (λ k. get_or numbers k 0) same in absurd (omega (arith, e, low, high))
-    | inr other ↦ s.alone a (omega (arith, below, other)) high
-  ];
-  rest = λ a high. s.rest a (omega (arith, high));
-}
+-- what a node has, by its number or as a source
+pub with_at : {X : Type 0} (xs : List X) (numbers : List ℕ) (others : List X) (k : ℕ) (d : X) → k < length numbers → length others ≡ length numbers → get_or (levels_with xs numbers others) k d ≡ unwrap_or (slice_get xs (get_or numbers k 0)) (get_or others k d)
+with_at xs [] others k d low same = absurd (omega (arith, low))
+with_at xs (n ∷ numbers) [] k d low same = absurd (omega (arith, same))
+with_at xs (n ∷ numbers) (o ∷ others) zero d low same = refl
+with_at xs (n ∷ numbers) (o ∷ others) (suc k) d low same = with_at xs numbers others k d (omega (arith, low)) (omega (arith, same))
 
-pub none_next : (g : Graph) (i first : ℕ) (old numbers : List ℕ) (heights : List (Option ℤ)) → i < g.nodes → first ≤ 16777216 → IsAlone g i → source_in g i ≡ None → HasLevels g i first old numbers heights → HasLevels g (i + 1) first old (set numbers i 4294967295) heights
-none_next g i first old numbers heights below small alone none s = record {
-  labels = s.labels;
-  size = length-set numbers i 4294967295 ∙ s.size;
-  labels_size = s.labels_size;
-  enough = s.enough;
-  few = omega (arith, s.few);
-  joined = λ a inside low. elim (cases_eq a i) [
-    | inl same ↦ let e = at a same in absurd (omega (arith, e, low, small))
-    | inr other ↦ subst (λ n. IsNodeLevel g a (get_or heights n None) (get_or s.labels n None)) (sym (still a other)) (s.joined a inside (subst (λ n. n < first) (still a other) low))
-  ];
-  alone = λ a low high. elim (cases_eq a i) [
-    | inl same ↦ inl (at a same, subst (HasNoWalk (HasJoin g) (source_in g)) (sym same) (alone_none g i alone none))
-    | inr other ↦ elim (s.alone a (omega (arith, low, other)) (subst (λ n. first ≤ n) (still a other) high)) [
-      | inl past ↦ inl (still a other ∙ past.0, past.1)
-      | inr has ↦ inr (subst (λ n. n < length heights) (sym (still a other)) has.0, subst (λ n. IsNodeLevel g a (get_or heights n None) (get_or s.labels n None)) (sym (still a other)) has.1)
-    ]
-  ];
-  rest = λ a high. still a (λ e. omega (arith, high, e)) ∙ s.rest a (omega (arith, high));
-} where
-  at : (a : ℕ) → a ≡ i → get_or (set numbers i 4294967295) a 0 ≡ 4294967295
-  at a same = ap (λ k. get_or (set numbers i 4294967295) k 0) same ∙ get_or-set_same numbers i 4294967295 0 (omega (arith, below, s.size))
+pub length-with : {X : Type 0} (xs : List X) (numbers : List ℕ) (others : List X) → length others ≡ length numbers → length (levels_with xs numbers others) ≡ length numbers
+length-with xs [] others same = refl
+length-with xs (n ∷ numbers) [] same = absurd (omega (arith, same))
+length-with xs (n ∷ numbers) (o ∷ others) same = ap suc (length-with xs numbers others (omega (arith, same)))
 
-  still : (a : ℕ) → a ≢ i → get_or (set numbers i 4294967295) a 0 ≡ get_or numbers a 0
-  still a other = get_or-set_other numbers i a 4294967295 0 other
+-- each source has itself as its label
+abbrev own_from : ℕ → List (Option ℤ) → List (Option ℕ)
+own_from k [] = []
+own_from k (source ∷ sources) = option_map (λ _. k) source ∷ own_from (k + 1) sources
 
-pub alone_next : (g : Graph) (i first : ℕ) (h : ℤ) (old numbers : List ℕ) (heights : List (Option ℤ)) → i < g.nodes → IsAlone g i → source_in g i ≡ Some h → HasLevels g i first old numbers heights → HasLevels g (i + 1) first old (set numbers i (length heights)) (heights ++ Some h ∷ [])
-alone_next g i first h old numbers heights below alone source s = record {
-  labels = more;
-  size = length-set numbers i (length heights) ∙ s.size;
-  labels_size = length_push s.labels (Some i) ∙ ap (λ n. n + 1) s.labels_size ∙ sym count;
-  enough = omega (arith, s.enough, count);
-  few = omega (arith, s.few, count);
-  joined = λ a inside low. elim (cases_eq a i) [
-    | inl same ↦ let e = at a same in absurd (omega (arith, e, low, s.enough))
-    | inr other ↦
-        let before : get_or numbers a 0 < first = subst (λ n. n < first) (still a other) low in
-        kept a other (omega (arith, before, s.enough)) (s.joined a inside before)
-  ];
-  alone = λ a low high. elim (cases_eq a i) [
-    | inl same ↦
-        let e = at a same in
-        inr (
-          omega (arith, e, count),
-          subst (λ n. IsNodeLevel g a (get_or higher n None) (get_or more n None)) (sym e)
-              (subst (λ k. IsNodeLevel g k (get_or higher (length heights) None) (get_or more (length heights) None)) (sym same)
-              (subst (λ o. IsNodeLevel g i o (get_or more (length heights) None)) (sym (get_or_push heights (Some h) None (length heights) refl))
-              (subst (IsNodeLevel g i (Some h)) (sym (get_or_push s.labels (Some i) None (length heights) s.labels_size)) (alone_level g i h alone source)))),
-        )
-    | inr other ↦ elim (s.alone a (omega (arith, low, other)) (subst (λ n. first ≤ n) (still a other) high)) [
-      | inl past ↦ inl (still a other ∙ past.0, past.1)
-      | inr has ↦ let e = still a other in inr (omega (arith, e, has.0, count), kept a other has.0 has.1)
-    ]
-  ];
-  rest = λ a high. still a (λ e. omega (arith, high, e)) ∙ s.rest a (omega (arith, high));
-} where
-  new : List ℕ
-  new = set numbers i (length heights)
+length-own : (k : ℕ) (sources : List (Option ℤ)) → length (own_from k sources) ≡ length sources
+length-own k [] = refl
+length-own k (source ∷ sources) = ap suc (length-own (k + 1) sources)
 
-  higher : List (Option ℤ)
-  higher = heights ++ Some h ∷ []
+own_at : (k n : ℕ) (sources : List (Option ℤ)) (a : ℕ) → n ≡ k + a → get_or (own_from k sources) a None ≡ option_map (λ _. n) (get_or sources a None)
+own_at k n [] a e = refl
+own_at k n (source ∷ sources) zero e = ap (λ m. option_map (λ _. m) source) (omega (arith, e))
+own_at k n (source ∷ sources) (suc a) e = own_at (k + 1) n sources a (omega (arith, e))
 
-  more : List (Option ℕ)
-  more = s.labels ++ Some i ∷ []
+pub with_low : {X : Type 0} (xs : List X) (k : ℕ) (other d : X) → k < length xs → unwrap_or (slice_get xs k) other ≡ get_or xs k d
+with_low {X = X} xs k other d low = ap (λ (o : Option X). unwrap_or o other) (slice_get-get_or xs k d low)
 
-  count : length higher ≡ length heights + 1
-  count = length_push heights (Some h)
+pub with_past : {X : Type 0} (xs : List X) (k : ℕ) (other : X) → length xs ≤ k → unwrap_or (slice_get xs k) other ≡ other
+with_past xs k other past = unwrap_or-slice_get xs k other ∙ get_or_past xs k other past
 
-  at : (a : ℕ) → a ≡ i → get_or new a 0 ≡ length heights
-  at a same = ap (λ k. get_or new k 0) same ∙ get_or-set_same numbers i (length heights) 0 (omega (arith, below, s.size))
-
-  still : (a : ℕ) → a ≢ i → get_or new a 0 ≡ get_or numbers a 0
-  still a other = get_or-set_other numbers i a (length heights) 0 other
-
-  kept : (a : ℕ) → a ≢ i → get_or numbers a 0 < length heights → IsNodeLevel g a (get_or heights (get_or numbers a 0) None) (get_or s.labels (get_or numbers a 0) None) → IsNodeLevel g a (get_or higher (get_or new a 0) None) (get_or more (get_or new a 0) None)
-  kept a other low is =
-      subst (λ n. IsNodeLevel g a (get_or higher n None) (get_or more n None)) (sym (still a other))
-      (subst (λ o. IsNodeLevel g a o (get_or more (get_or numbers a 0) None)) (sym (get_or_append_left heights (Some h ∷ []) None (get_or numbers a 0) low))
-      (subst (IsNodeLevel g a (get_or heights (get_or numbers a 0) None)) (sym (get_or_append_left s.labels (Some i ∷ []) None (get_or numbers a 0) (omega (arith, low, s.labels_size)))) is))
-
--- so the levels by number are those of the graph
-pub all_levels : (g : Graph) (first : ℕ) (old numbers : List ℕ) (heights : List (Option ℤ)) → g.nodes ≤ 16777216 → first ≤ 16777216 → HasLevels g g.nodes first old numbers heights → AreLevelsOf g (levels_by heights numbers)
-all_levels g first old numbers heights small few s = (
-  map label_by numbers,
+-- so the levels by number, and the heights of sources without a number, are those of the graph
+pub all_levels : (g : Graph) (nodes numbers : List ℕ) (heights : List (Option ℤ)) → AreNumbered g nodes numbers → AreNumberLevels g nodes heights → AreLevelsOf g (levels_with heights numbers g.sources)
+all_levels g nodes numbers heights are s = (
+  levels_with labels numbers own,
   record {
-    levels_size = length-map numbers (λ n. get_or heights n None) ∙ s.size;
-    labels_size = length-map numbers label_by ∙ s.size;
+    levels_size = length-with heights numbers g.sources same ∙ are.size;
+    labels_size = length-with labels numbers own own_same ∙ are.size;
     each = λ a below.
-        let inside : a < length numbers = omega (arith, below, s.size) in
-        subst (λ o. IsNodeLevel g a o (get_or (map label_by numbers) a None)) (sym (get_or-map (λ n. get_or heights n None) numbers a 0 None inside))
-        (subst (IsNodeLevel g a (get_or heights (get_or numbers a 0) None)) (sym (get_or-map label_by numbers a 0 None inside)) (level a below));
+        let inside : a < length numbers = omega (arith, below, are.size) in
+        subst (λ o. IsNodeLevel g a o (get_or (levels_with labels numbers own) a None)) (sym (with_at heights numbers g.sources a None inside same))
+        (subst (IsNodeLevel g a (unwrap_or (slice_get heights (get_or numbers a 0)) (get_or g.sources a None))) (sym (with_at labels numbers own a None inside own_same)) (level a below));
   },
 ) where
-  label_by : ℕ → Option ℕ
-  label_by n = get_or s.labels n None
+  labels : List (Option ℕ)
+  labels = map (option_map (node_at nodes)) s.0
 
-  level : (a : ℕ) → a < g.nodes → IsNodeLevel g a (get_or heights (get_or numbers a 0) None) (label_by (get_or numbers a 0))
-  level a below = elim (cases_lt (get_or numbers a 0) first) [
-    | inl low ↦ s.joined a below low
-    | inr high ↦ elim (s.alone a below high) [
-      | inr has ↦ has.1
-      | inl past ↦
-          let out : length heights ≤ get_or numbers a 0 = omega (arith, past.0, s.few, small, few) in
-          subst (λ o. IsNodeLevel g a o (label_by (get_or numbers a 0))) (sym (get_or_past heights (get_or numbers a 0) None out))
-          (past.1, get_or_past s.labels (get_or numbers a 0) None (omega (arith, out, s.labels_size)))
-    ]
-  ]
+  own : List (Option ℕ)
+  own = own_from 0 g.sources
+
+  same : length g.sources ≡ length numbers
+  same = are.sources ∙ sym are.size
+
+  own_same : length own ≡ length numbers
+  own_same = length-own 0 g.sources ∙ same
+
+  many : length labels ≡ length nodes
+  many = length-map s.0 (option_map (node_at nodes)) ∙ s.1.labels_size
+
+  level : (a : ℕ) → a < g.nodes → IsNodeLevel g a (unwrap_or (slice_get heights (get_or numbers a 0)) (get_or g.sources a None)) (unwrap_or (slice_get labels (get_or numbers a 0)) (get_or own a None))
+  level a below = elim (cases_lt k (length nodes)) [
+    | inl has ↦
+        let label = get_or-map (option_map (node_at nodes)) s.0 k None None (omega (arith, has, s.1.labels_size)) in
+        rw (with_low heights k (get_or g.sources a None) None (omega (arith, has, s.1.levels_size)), with_low labels k (get_or own a None) None (omega (arith, has, many)), label)
+        (joined_level g nodes numbers heights s.0 are s.1 a below has)
+    | inr past ↦
+        let alone = unnumbered g nodes numbers a are past in
+        rw (with_past heights k (get_or g.sources a None) (omega (arith, past, s.1.levels_size)), with_past labels k (get_or own a None) (omega (arith, past, many)), own_at 0 a g.sources a (omega arith))
+        (elim (seen (get_or g.sources a None)) [
+          | inl none ↦ rw none (alone_none g a alone none, refl)
+          | inr some ↦ rw some.1 (alone_level g a some.0 alone some.1)
+        ])
+  ] where
+    k : ℕ
+    k = get_or numbers a 0

@@ -1,6 +1,6 @@
 -- Numbers of their own for those labels of a spill graph that are joined. All others are alone: the level of a source
 -- is its height, and the others have none. No public clause cites this.
-use Rattle.std.specs.Prelude.{◌≡◌, ℕ, ◌<◌, ◌≤◌, ℤ, List, map, length, Option, None, slice_index_or}
+use Rattle.std.specs.Prelude.{◌≡◌, ◌≢◌, ℕ, ◌<◌, ◌≤◌, ℤ, List, [], ◌∷◌, map, length, Option, None, slice_get, slice_index_or, unwrap_or}
 use Rattle.std.specs.List.{Contains}
 use Rattle.floods.specs.declared.net.Spill.{Spill}
 use Rattle.floods.specs.Walk.{IsFlooded}
@@ -15,15 +15,35 @@ node_at nodes number = slice_index_or nodes number 0
 abbrev pub number_of : List ℕ → ℕ → ℕ
 number_of numbers node = slice_index_or numbers node 0
 
+-- Nodes in the order of their numbers, and the number of each node: the greatest one of 32 bits for none.
+pub record AreTold (nodes numbers : List ℕ) : Type 0 where
+  pub few : length nodes ≤ 4294967295
+  pub inside : (n : ℕ) → n < length nodes → node_at nodes n < length numbers
+  pub number : (n : ℕ) → n < length nodes → number_of numbers (node_at nodes n) ≡ n
+  pub node : (a : ℕ) → a < length numbers → number_of numbers a ≢ 4294967295 → (number_of numbers a < length nodes) × (node_at nodes (number_of numbers a) ≡ a)
+
+abbrev pub HasNumber : List ℕ → List ℕ → ℕ → Type 0
+HasNumber nodes numbers a = number_of numbers a < length nodes
+
+-- These nodes have numbers now, and so have those that had one before.
+pub record Numbers (added : ℕ → Type 0) (nodes numbers nodes_after numbers_after : List ℕ) : Type 0 where
+  pub size : length numbers_after ≡ length numbers
+  pub kept : (a : ℕ) → HasNumber nodes numbers a → HasNumber nodes_after numbers_after a
+  pub every : (a : ℕ) → added a → HasNumber nodes_after numbers_after a
+
+-- One of the joins begins at the node.
+abbrev pub BeginsOne : List Join → ℕ → Type 0
+BeginsOne joins a = (j : Join) × Contains joins j × (j.from ≡ a)
+
 -- The nodes, and the number of each node of the graph. All that are joined have one.
 pub record AreNumbered (g : Graph) (nodes numbers : List ℕ) : Type 0 where
   pub size : length numbers ≡ g.nodes
-  pub few : length nodes ≤ g.nodes
-  pub small : g.nodes ≤ 16777216
+  pub sources : length g.sources ≡ g.nodes
+  pub few : length nodes ≤ 4294967295
   pub inside : (n : ℕ) → n < length nodes → node_at nodes n < g.nodes
   pub number : (n : ℕ) → n < length nodes → number_of numbers (node_at nodes n) ≡ n
   pub node : (a : ℕ) → a < g.nodes → number_of numbers a < length nodes → node_at nodes (number_of numbers a) ≡ a
-  pub joined : (j : Join) → Contains g.joins j → number_of numbers j.from < length nodes
+  pub joined : (j : Join) → Contains g.joins j → HasNumber nodes numbers j.from
 
 -- Numbers are joined as their nodes are.
 pub record HasNumberJoin (g : Graph) (nodes : List ℕ) (m n : ℕ) (height : ℤ) : Type 0 where
@@ -42,23 +62,17 @@ AreNumberLevels g nodes heights = (labels : List (Option ℕ)) × IsFlooded (Has
 abbrev pub way_to_number : List ℕ → Spill → Spill
 way_to_number numbers way = record { to = number_of numbers way.to; height = way.height }
 
--- The levels of nodes, of the levels by number.
+-- The heights of places, of their indexes.
 abbrev pub levels_by : List (Option ℤ) → List ℕ → List (Option ℤ)
 levels_by heights numbers = map (λ n. slice_index_or heights n None) numbers
+
+-- The levels of nodes, of the levels by number: a node without a number has its height as a source.
+abbrev pub levels_with : {X : Type 0} → List X → List ℕ → List X → List X
+levels_with heights [] sources = []
+levels_with heights (number ∷ numbers) [] = []
+levels_with heights (number ∷ numbers) (source ∷ sources) = unwrap_or (slice_get heights number) source ∷ levels_with heights numbers sources
 
 -- Each place has an index into the heights. There are as few of them as its 32 bits can tell.
 pub record AreIndexes (heights : List (Option ℤ)) (numbers : List ℕ) : Type 0 where
   pub few : length heights ≤ 4294967296
   pub inside : (k : ℕ) → slice_index_or numbers k 0 < length heights
-
--- The first labels of these joins have been marked with 0, and no mark of 0 has been taken back.
-pub record MarksJoined (joins : List Join) (old new : List ℕ) : Type 0 where
-  pub size : length new ≡ length old
-  pub kept : (a : ℕ) → number_of old a ≡ 0 → number_of new a ≡ 0
-  pub every : (j : Join) → Contains joins j → number_of new j.from ≡ 0
-
--- The first label of each join is marked with 0.
-pub record AreMarked (g : Graph) (numbers : List ℕ) : Type 0 where
-  pub size : length numbers ≡ g.nodes
-  pub small : g.nodes ≤ 16777216
-  pub every : (j : Join) → Contains g.joins j → (j.from < g.nodes) × (number_of numbers j.from ≡ 0)

@@ -2,7 +2,7 @@
 ghost use Rattle.std.specs.Prelude.{◌≡◌, ◌*◌, ◌<◌, ◌≤◌, length, IfOk};
 ghost use Rattle.drainage.specs.Filled.{IsFilledGrid};
 ghost use Rattle.tiles.specs.Cutting.{Cuts, IsCutting};
-ghost use Rattle.fill.specs.Spills.{AreFloods, AreOpenLevels};
+ghost use Rattle.fill.specs.Spills.{AreFloods, IsOpenGraphOf};
 ghost use Rattle.tile_jobs.specs.Fault.{RefusesWorkers};
 ghost use Rattle.fill.specs.Gathering.{Fit};
 
@@ -98,16 +98,16 @@ impl<'a> Work for PartTiles<'a> {
     }
 }
 
-/// The level of each label in the spill graph.
-fn label_levels<R: Threads + Wait + Sync, G: Gate + Sync>(
+/// The spill graph of the floods, but for joins of two sources.
+fn spill_graph<R: Threads + Wait + Sync, G: Gate + Sync>(
     crew: &Crew<'_, R, G>,
     frame: &Frame,
     tiling: &Tiling,
     floods: &[TileFlood],
-) -> Result<LabelLevels, JobFault>
+) -> Result<SpillGraph, JobFault>
     requires floods { AreFloods frame.now.terrain tiling.now floods.now }
     requires workers { (0 < crew.now.workers) × (crew.now.workers ≤ 64) }
-    ensures levels { IfOk result (λ levels. AreOpenLevels frame.now.terrain tiling.now floods.now levels) }
+    ensures graph { IfOk result (IsOpenGraphOf frame.now.terrain tiling.now floods.now) }
     ensures workers { RefusesWorkers crew.now.workers result }
 {
     let lists = crew.run(&SourceTiles { tiling, floods }, tiling.tiles())?;
@@ -120,11 +120,7 @@ fn label_levels<R: Threads + Wait + Sync, G: Gate + Sync>(
     };
     let parts = crew.run(&work, tiling.tiles())?;
     drop(work);
-    let graph = SpillGraph::of_parts(tiling, sources, parts);
-    let Ok(levels) = LabelLevels::of_graph(crew.alloc, &graph) else {
-        return Err(JobFault::Memory);
-    };
-    Ok(levels)
+    Ok(SpillGraph::of_parts(tiling, sources, parts))
 }
 
 /// The grid with each height replaced by its filled height. Each tile is flooded in a job of its own, and adds
@@ -156,8 +152,13 @@ pub fn filled<R: Threads + Wait + Sync, G: Gate + Sync>(
     let floods = crew.run(&work, tiling.tiles())?;
     drop(work);
     let frame = grid.into_frame();
-    let levels = label_levels(&crew, &frame, &tiling, &floods)?;
-    let cells = raised_grid(alloc, &tiling, &floods, &levels)?;
+    let graph = spill_graph(&crew, &frame, &tiling, &floods)?;
+    let Ok(levels) = LabelLevels::of_graph(alloc, &graph) else {
+        return Err(JobFault::Memory);
+    };
+    let Ok(cells) = raised_grid(alloc, &tiling, &floods, &levels) else {
+        return Err(JobFault::Memory);
+    };
     drop(floods);
     Ok(Filled::from_grid(frame.with_cells(cells)))
 }

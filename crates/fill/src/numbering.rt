@@ -1,8 +1,8 @@
 // The labels of a spill graph that are joined, with numbers of their own.
-ghost use Rattle.std.specs.Prelude.{◌≡◌, ◌<◌, ℕ, List, length, map, All, IfOk};
+ghost use Rattle.std.specs.Prelude.{◌≡◌, ◌<◌, length, map, All, IfOk, OnOk};
 ghost use Rattle.std.specs.List.{flat_map};
 ghost use Rattle.fill.specs.Parts.{joins_by_part};
-ghost use Rattle.fill.specs.Numbers.{AreNumbered, AreMarked, AreNumberLevels, MarksJoined, levels_by, way_to_number};
+ghost use Rattle.fill.specs.Numbers.{AreNumbered, AreTold, AreNumberLevels, BeginsOne, HasNumber, Numbers, way_to_number};
 ghost use Rattle.fill.specs.Spills.{AreLevelsOf};
 
 use crate::parts::Part;
@@ -19,30 +19,95 @@ pub(crate) const NO_NUMBER: u32 = u32::MAX;
 
 /// The levels of the labels in the spill graph.
 #[derive(Drop)]
-pub(crate) struct LabelLevels {
+pub(crate) struct LabelLevels<'a> {
+    graph: &'a SpillGraph,
     /// For each place of the grid the number of its label, which is past all heights where it has none.
     numbers: Vec<u32>,
     /// The levels by number.
     heights: Vec<Option<Height>>,
+    ghost sizes: { (length numbers.items ≡ graph.now.nodes) × (length graph.now.sources ≡ graph.now.nodes) },
 }
 
-impl Model for LabelLevels {
+impl<'a> Model for LabelLevels<'a> {
     ghost use Rattle.std.specs.Prelude.{ℤ, List, Option};
-    ghost use Rattle.fill.specs.Numbers.{levels_by};
+    ghost use Rattle.fill.specs.Numbers.{levels_with};
 
     ghost Value = { List (Option ℤ) };
 
-    ghost view = { λ l. levels_by l.heights.items l.numbers.items };
+    ghost view = { λ l. levels_with l.heights.items l.numbers.items l.graph.now.sources };
 }
 
-/// The nodes of a spill graph that have numbers, as a net of these numbers.
+/// Labels with numbers of their own.
+#[derive(Drop)]
+pub(crate) struct Numbering {
+    /// The labels in the order of their numbers.
+    nodes: Vec<u32>,
+    /// For each place of the grid its label's number, or [`NO_NUMBER`].
+    numbers: Vec<u32>,
+    ghost told: { AreTold nodes.items numbers.items },
+}
+
+impl Numbering {
+    /// For so many places, of which none has a number yet.
+    fn none(alloc: Global, places: usize) -> Result<Self, AllocError>
+        ensures { IfOk result (λ n. length n.numbers.items ≡ places) }
+    {
+        let numbers = vec![in alloc; NO_NUMBER; places]?;
+        Ok(Numbering {
+            nodes: Vec::new(alloc),
+            numbers,
+        })
+    }
+
+    /// Gives a label a number, if it has none.
+    #[inline]
+    fn add(&mut self, node: u32) -> Result<(), AllocError>
+        requires { node < length self.old.numbers.items }
+        ensures { OnOk result (Numbers (λ a. a ≡ node) self.old.nodes.items self.old.numbers.items self.new.nodes.items self.new.numbers.items) }
+    {
+        if self.numbers[node as usize] != NO_NUMBER {
+            return Ok(());
+        }
+        let count = self.nodes.len();
+        if count >= NO_NUMBER as usize {
+            return Err(AllocError);
+        }
+        self.nodes.push(node)?;
+        self.numbers[node as usize] = count as u32;
+        Ok(())
+    }
+
+    /// Numbers the first labels of these joins.
+    fn add_joined(&mut self, joins: &[Join]) -> Result<(), AllocError>
+        requires { All (λ j. j.from < length self.old.numbers.items) joins.now }
+        ensures { OnOk result (Numbers (BeginsOne joins.now) self.old.nodes.items self.old.numbers.items self.new.nodes.items self.new.numbers.items) }
+    {
+        for join in joins {
+            self.add(join.from)?;
+        }
+        Ok(())
+    }
+
+    /// Numbers the labels that are joined in these parts of a graph with so many places.
+    pub(crate) fn of_parts(alloc: Global, places: usize, parts: &[Part]) -> Result<Self, AllocError>
+        requires { All (λ j. j.from < places) (flat_map (λ joins. joins) (joins_by_part parts.now)) }
+        ensures size { IfOk result (λ n. length n.numbers.items ≡ places) }
+        ensures joined { IfOk result (λ n. All (λ j. HasNumber n.nodes.items n.numbers.items j.from) (flat_map (λ joins. joins) (joins_by_part parts.now))) }
+    {
+        let mut numbering = Numbering::none(alloc, places)?;
+        for part in parts {
+            numbering.add_joined(&part.joins)?;
+        }
+        Ok(numbering)
+    }
+}
+
+/// The labels of a spill graph that have numbers, as a net of these numbers.
 #[derive(Drop)]
 struct NumberedGraph<'a> {
     graph: &'a SpillGraph,
-    nodes: &'a [u32],
-    /// The number of each node of the graph.
-    numbers: &'a [u32],
-    ghost are: { AreNumbered graph.now nodes.now numbers.now },
+    numbering: &'a Numbering,
+    ghost are: { AreNumbered graph.now numbering.now.nodes.items numbering.now.numbers.items },
 }
 
 /// These ways, to the numbers of their nodes.
@@ -69,11 +134,11 @@ impl<'a> Net for NumberedGraph<'a> {
     ghost use Rattle.std.specs.Prelude.{length};
     ghost use Rattle.fill.specs.Numbers.{HasNumberJoin, source_at};
 
-    ghost node_count = { λ n. length n.nodes.now };
+    ghost node_count = { λ n. length n.numbering.now.nodes.items };
 
-    ghost joins = { λ n. HasNumberJoin n.graph.now n.nodes.now };
+    ghost joins = { λ n. HasNumberJoin n.graph.now n.numbering.now.nodes.items };
 
-    ghost source_height = { λ n. source_at n.graph.now n.nodes.now };
+    ghost source_height = { λ n. source_at n.graph.now n.numbering.now.nodes.items };
 
     ghost joined_inside = { λ n a b h j. j.to_number };
 
@@ -85,123 +150,61 @@ impl<'a> Net for NumberedGraph<'a> {
 
     #[inline]
     fn nodes(&self) -> u32 {
-        self.nodes.len() as u32
+        self.numbering.nodes.len() as u32
     }
 
     fn neighbours(&self, alloc: Global, node: u32) -> Result<SmallVec<Spill, 8>, NoMemory> {
-        let ways = self.graph.neighbours(alloc, self.nodes[node as usize])?;
-        Ok(ways_by_number(alloc, ways.as_slice(), self.numbers)?)
+        let ways = self
+            .graph
+            .neighbours(alloc, self.numbering.nodes[node as usize])?;
+        Ok(ways_by_number(alloc, ways.as_slice(), &self.numbering.numbers)?)
     }
 
     #[inline]
     fn source(&self, node: u32) -> Option<Height> {
-        self.graph.source(self.nodes[node as usize])
+        self.graph.source(self.numbering.nodes[node as usize])
     }
 }
 
-/// Marks the first labels of these joins with 0.
-fn mark_joined(numbers: &mut [u32], joins: &[Join])
-    requires { All (λ j. j.from < length numbers.old) joins.now }
-    ensures { MarksJoined joins.now numbers.old numbers.new }
-{
-    for join in joins {
-        numbers[join.from as usize] = 0;
-    }
-}
-
-/// Marks the first labels of the joins of these parts with 0.
-pub(crate) fn mark_parts(numbers: &mut [u32], parts: &[Part])
-    requires { All (λ j. j.from < length numbers.old) (flat_map (λ joins. joins) (joins_by_part parts.now)) }
-    ensures { MarksJoined (flat_map (λ joins. joins) (joins_by_part parts.now)) numbers.old numbers.new }
-{
-    for part in parts {
-        mark_joined(numbers, &part.joins);
-    }
-}
-
-/// Gives numbers to the nodes that are marked with 0, and answers these nodes.
-fn number_nodes(
-    alloc: Global,
-    graph: &SpillGraph,
-    numbers: &mut [u32],
-) -> Result<Vec<u32>, AllocError>
-    requires { AreMarked graph.now numbers.old }
-    ensures { IfOk result (λ nodes. AreNumbered graph.now nodes.items numbers.new) }
-{
-    let mut nodes = Vec::new(alloc);
-    for node in 0..graph.nodes() {
-        if numbers[node as usize] != 0 {
-            numbers[node as usize] = NO_NUMBER;
-            continue;
-        }
-        numbers[node as usize] = nodes.len() as u32;
-        nodes.push(node)?;
-    }
-    Ok(nodes)
-}
-
-/// The levels of these nodes of a graph, by number.
+/// The levels of the labels with numbers, by number.
 fn number_levels(
     alloc: Global,
     graph: &SpillGraph,
-    nodes: &[u32],
-    numbers: &[u32],
+    numbering: &Numbering,
 ) -> Result<Vec<Option<Height>>, NoMemory>
-    requires { AreNumbered graph.now nodes.now numbers.now }
-    ensures { IfOk result (λ heights. AreNumberLevels graph.now nodes.now heights.items) }
+    requires { AreNumbered graph.now numbering.now.nodes.items numbering.now.numbers.items }
+    ensures { IfOk result (λ heights. AreNumberLevels graph.now numbering.now.nodes.items heights.items) }
 {
-    let net = NumberedGraph {
-        graph,
-        nodes,
-        numbers,
-    };
+    let net = NumberedGraph { graph, numbering };
     let Flooded { level, .. } = flood(alloc, &net)?;
     Ok(level)
 }
 
-/// Adds the sources that have no number, each at its own height, and gives them numbers.
-fn add_alone(
-    graph: &SpillGraph,
-    numbers: &mut [u32],
-    mut heights: Vec<Option<Height>>,
-) -> Result<Vec<Option<Height>>, AllocError>
-    requires { (nodes : List ℕ) × AreNumbered graph.now nodes numbers.old × AreNumberLevels graph.now nodes heights.items }
-    ensures { IfOk result (λ v. AreLevelsOf graph.now (levels_by v.items numbers.new)) }
-{
-    let joined = heights.len();
-    for node in 0..graph.nodes() {
-        if (numbers[node as usize] as usize) < joined {
-            continue;
-        }
-        let Some(height) = graph.source(node) else {
-            numbers[node as usize] = NO_NUMBER;
-            continue;
-        };
-        numbers[node as usize] = heights.len() as u32;
-        heights.push(Some(height))?;
-    }
-    Ok(heights)
-}
-
-impl LabelLevels {
+impl<'a> LabelLevels<'a> {
     /// The levels in a graph.
-    pub(crate) fn of_graph(alloc: Global, graph: &SpillGraph) -> Result<LabelLevels, NoMemory>
+    pub(crate) fn of_graph(alloc: Global, graph: &'a SpillGraph) -> Result<Self, NoMemory>
         ensures { IfOk result (λ levels. AreLevelsOf graph.now levels) }
     {
-        let mut numbers = graph.marked(alloc)?;
-        let nodes = number_nodes(alloc, graph, &mut numbers)?;
-        let joined = number_levels(alloc, graph, &nodes, &numbers)?;
-        let heights = add_alone(graph, &mut numbers, joined)?;
-        Ok(LabelLevels { numbers, heights })
+        let numbering = graph.numbering(alloc)?;
+        let heights = number_levels(alloc, graph, &numbering)?;
+        let Numbering { numbers, .. } = numbering;
+        Ok(LabelLevels {
+            graph,
+            numbers,
+            heights,
+        })
     }
 }
 
-impl SpillLevels for LabelLevels {
+impl<'a> SpillLevels for LabelLevels<'a> {
     ghost list = { λ levels. levels };
 
-    #[inline(always)]
+    #[inline]
     fn level(&self, node: u32) -> Option<Height> {
         let number = self.numbers[node as usize];
-        *self.heights.get(number as usize)?
+        match self.heights.get(number as usize) {
+            Some(height) => *height,
+            None => self.graph.source(node),
+        }
     }
 }

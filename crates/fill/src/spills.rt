@@ -5,9 +5,9 @@ ghost use Rattle.fill.specs.Parts.{AreParts, graph_of_parts};
 ghost use Rattle.fill.specs.TileFlood.{Flood};
 ghost use Rattle.fill.specs.Spills.{AreFloods, IsGraphOf, AreLevelsOf};
 ghost use Rattle.fill.specs.Gathering.{AreRising, way_of};
-ghost use Rattle.fill.specs.Numbers.{AreMarked};
+ghost use Rattle.fill.specs.Numbers.{AreNumbered};
 
-use crate::numbering::{NO_NUMBER, mark_parts};
+use crate::numbering::Numbering;
 use crate::parts::{Part, tile_parts};
 use crate::source_heights::SourceHeights;
 use crate::sources::{label_sources, sources_by_tile};
@@ -177,13 +177,12 @@ impl SpillGraph {
         }
     }
 
-    /// A list with 0 for each label that is joined, and [`NO_NUMBER`] for all else.
-    pub(crate) fn marked(&self, alloc: Global) -> Result<Vec<u32>, AllocError>
-        ensures { IfOk result (λ marks. AreMarked self.now marks.items) }
+    /// Numbers for the labels that are joined.
+    pub(crate) fn numbering(&self, alloc: Global) -> Result<Numbering, AllocError>
+        ensures { IfOk result (λ n. AreNumbered self.now n.nodes.items n.numbers.items) }
     {
-        let mut marks = vec![in alloc; NO_NUMBER; self.nodes() as usize]?;
-        mark_parts(&mut marks, &self.parts);
-        Ok(marks)
+        let numbering = Numbering::of_parts(alloc, self.nodes() as usize, &self.parts)?;
+        Ok(numbering)
     }
 
     /// The least crest from each label to an end cell, None at a place that is no label.

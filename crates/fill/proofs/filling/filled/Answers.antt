@@ -1,6 +1,6 @@
 use Rattle.std.proofs.Common.{arith, ap, ◌∙◌}
 use Rattle.terrain.specs.Raster.{Raster}
-use Rattle.fill.specs.Spills.{AreFloods}
+use Rattle.fill.specs.Spills.{AreFloods, AreOpenLevels}
 use Rattle.fill.proofs.Gathered.{fit_of}
 use Rattle.fill.proofs.Raised.{floods_given, filled_map, filled_stand, filled_grid}
 use Rattle.fill.proofs.filling.filled.Goals as goal
@@ -13,8 +13,8 @@ raised_grid-requires-clause-fit g c =
     let are : AreFloods t k v.items = floods_given t k v.items c.tiles.ensures.lawful (c.joined-tiling.ensures c.args.grid.terrain c.requires) (omega (arith, v.ok.0, c.in_ok-floods.ensures.len, c.tiles.ensures.value)) (λ j d below. c.in_ok-floods.ensures.given j d (omega (arith, below, c.tiles.ensures.value))) in
     rw c.deref-2.ensures.value (fit_of t k v.items are.lawful are)
 
-pub label_levels-requires-clause-floods : goal.label_levels-requires-clause-floods
-label_levels-requires-clause-floods g c =
+pub spill_graph-requires-clause-floods : goal.spill_graph-requires-clause-floods
+spill_graph-requires-clause-floods g c =
     let t = c.args.grid.terrain in
     let k = c.joined-tiling.result in
     let v = c.in_ok-floods.floods in
@@ -27,8 +27,9 @@ with_cells-requires-clause-heights g c =
     let k = c.joined-tiling.result in
     let v = c.in_ok-floods.floods in
     let are : AreFloods t k v.items = floods_given t k v.items c.tiles.ensures.lawful (c.joined-tiling.ensures c.args.grid.terrain c.requires) (omega (arith, v.ok.0, c.in_ok-floods.ensures.len, c.tiles.ensures.value)) (λ j d below. c.in_ok-floods.ensures.given j d (omega (arith, below, c.tiles.ensures.value))) in
-    let spill = rw c.into_frame-frame.ensures at (rw c.deref.ensures.value at c.in_ok-levels.ensures.levels) in
-    rw c.into_frame-frame.ensures (filled_stand t c.in_ok-cells.cells.items (filled_map t k v.items _ c.in_ok-cells.cells.items are spill (rw c.deref-2.ensures.value at c.in_ok-cells.ensures)))
+    let graph = rw c.into_frame-frame.ensures at (rw c.deref.ensures.value at c.in_ok-graph.ensures.graph) in
+    let spill : AreOpenLevels t k v.items c.in-Ok.levels = (c.in_ok-graph.graph, graph, c.in-Ok.ensures) in
+    rw c.into_frame-frame.ensures (filled_stand t c.in-Ok-raised_grid.cells.items (filled_map t k v.items _ c.in-Ok-raised_grid.cells.items are spill (rw c.deref-2.ensures.value at c.in-Ok-raised_grid.ensures)))
 
 pub from_grid-requires : goal.from_grid-requires
 from_grid-requires g c =
@@ -36,8 +37,9 @@ from_grid-requires g c =
     let k = c.joined-tiling.result in
     let v = c.in_ok-floods.floods in
     let are : AreFloods t k v.items = floods_given t k v.items c.tiles.ensures.lawful (c.joined-tiling.ensures c.args.grid.terrain c.requires) (omega (arith, v.ok.0, c.in_ok-floods.ensures.len, c.tiles.ensures.value)) (λ j d below. c.in_ok-floods.ensures.given j d (omega (arith, below, c.tiles.ensures.value))) in
-    let spill = rw c.into_frame-frame.ensures at (rw c.deref.ensures.value at c.in_ok-levels.ensures.levels) in
-    (filled_grid c.args.grid c.with_cells.result c.in_ok-cells.cells.items (c.with_cells.ensures ∙ ap (λ (r : Raster). record r { terrain = record r.terrain { cells = c.in_ok-cells.cells.items } }) c.into_frame-frame.ensures) (filled_map t k v.items _ c.in_ok-cells.cells.items are spill (rw c.deref-2.ensures.value at c.in_ok-cells.ensures))).0
+    let graph = rw c.into_frame-frame.ensures at (rw c.deref.ensures.value at c.in_ok-graph.ensures.graph) in
+    let spill : AreOpenLevels t k v.items c.in-Ok.levels = (c.in_ok-graph.graph, graph, c.in-Ok.ensures) in
+    (filled_grid c.args.grid c.with_cells.result c.in-Ok-raised_grid.cells.items (c.with_cells.ensures ∙ ap (λ (r : Raster). record r { terrain = record r.terrain { cells = c.in-Ok-raised_grid.cells.items } }) c.into_frame-frame.ensures) (filled_map t k v.items _ c.in-Ok-raised_grid.cells.items are spill (rw c.deref-2.ensures.value at c.in-Ok-raised_grid.ensures))).0
 
 pub returns-clause-filled : goal.returns-clause-filled
 returns-clause-filled g c =
@@ -45,5 +47,6 @@ returns-clause-filled g c =
     let k = c.joined-tiling.result in
     let v = c.in_ok-floods.floods in
     let are : AreFloods t k v.items = floods_given t k v.items c.tiles.ensures.lawful (c.joined-tiling.ensures c.args.grid.terrain c.requires) (omega (arith, v.ok.0, c.in_ok-floods.ensures.len, c.tiles.ensures.value)) (λ j d below. c.in_ok-floods.ensures.given j d (omega (arith, below, c.tiles.ensures.value))) in
-    let spill = rw c.into_frame-frame.ensures at (rw c.deref.ensures.value at c.in_ok-levels.ensures.levels) in
-    rw c.from_grid.ensures (filled_grid c.args.grid c.with_cells.result c.in_ok-cells.cells.items (c.with_cells.ensures ∙ ap (λ (r : Raster). record r { terrain = record r.terrain { cells = c.in_ok-cells.cells.items } }) c.into_frame-frame.ensures) (filled_map t k v.items _ c.in_ok-cells.cells.items are spill (rw c.deref-2.ensures.value at c.in_ok-cells.ensures))).1
+    let graph = rw c.into_frame-frame.ensures at (rw c.deref.ensures.value at c.in_ok-graph.ensures.graph) in
+    let spill : AreOpenLevels t k v.items c.in-Ok.levels = (c.in_ok-graph.graph, graph, c.in-Ok.ensures) in
+    rw c.from_grid.ensures (filled_grid c.args.grid c.with_cells.result c.in-Ok-raised_grid.cells.items (c.with_cells.ensures ∙ ap (λ (r : Raster). record r { terrain = record r.terrain { cells = c.in-Ok-raised_grid.cells.items } }) c.into_frame-frame.ensures) (filled_map t k v.items _ c.in-Ok-raised_grid.cells.items are spill (rw c.deref-2.ensures.value at c.in-Ok-raised_grid.ensures))).1

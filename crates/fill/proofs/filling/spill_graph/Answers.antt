@@ -1,8 +1,7 @@
-use Rattle.std.proofs.Common.{arith, sym, subst}
-use Rattle.fill.specs.Parts.{AreParts, graph_of_parts}
-use Rattle.fill.specs.Spills.{Graph, AreLevelsOf}
+use Rattle.std.proofs.Common.{arith, sym}
+use Rattle.fill.specs.Parts.{AreParts}
 use Rattle.fill.proofs.Gathered.{fit_of, is_open_graph}
-use Rattle.fill.proofs.filling.label_levels.Goals as goal
+use Rattle.fill.proofs.filling.spill_graph.Goals as goal
 
 pub invariant_of-run : goal.invariant_of-run
 invariant_of-run g c = record { fit = fit_of c.args.frame.now.terrain c.args.tiling.now c.args.floods.now c.requires.floods.lawful c.requires.floods }
@@ -19,8 +18,8 @@ label_sources-requires-clause-lists g c = rw c.deref.ensures.value (record {
   each = λ j d below. c.in_ok-lists.ensures.given j d (omega (arith, below, c.tiles.ensures.value));
 })
 
-pub of_parts-graph-requires : goal.of_parts-graph-requires
-of_parts-graph-requires g c = (
+pub of_parts-requires : goal.of_parts-requires
+of_parts-requires g c = (
   c.args.frame.now.terrain,
   c.args.floods.now,
   c.in_ok-sources.sources,
@@ -32,8 +31,8 @@ of_parts-graph-requires g c = (
   },
 )
 
-pub returns-clause-levels : goal.returns-clause-levels
-returns-clause-levels g c =
+pub returns-clause-graph : goal.returns-clause-graph
+returns-clause-graph g c =
     let t = c.args.frame.now.terrain in
     let k = c.args.tiling.now in
     let floods = c.args.floods.now in
@@ -42,8 +41,5 @@ returns-clause-levels g c =
     let are : AreParts k floods sources parts = record {
       count = omega (arith, c.in_ok-parts.parts.ok.0, c.in_ok-parts.ensures.len, c.tiles-2.ensures.value);
       each = λ j d below. c.in_ok-parts.ensures.given j d (omega (arith, below, c.tiles-2.ensures.value));
-    } in (
-      graph_of_parts k parts sources,
-      is_open_graph t k floods parts sources c.requires.floods.lawful c.requires.floods are (c.in_ok-sources.ensures.right t (sym c.sinks.ensures) c.requires.floods),
-      subst (λ (x : Graph). AreLevelsOf x c.in-Ok.levels) c.of_parts-graph.ensures c.in-Ok.ensures,
-    )
+    } in
+    rw c.of_parts.ensures (is_open_graph t k floods parts sources c.requires.floods.lawful c.requires.floods are (c.in_ok-sources.ensures.right t (sym c.sinks.ensures) c.requires.floods))
