@@ -124,8 +124,8 @@ fn spill_graph<R: Threads + Wait + Sync, G: Gate + Sync>(
 }
 
 /// The grid with each height replaced by its filled height. Each tile is flooded in a job of its own, and adds
-/// to the spill graph in two more; then all are raised. The grid is taken over, so that its cells are let go as soon
-/// as the tiles are flooded.
+/// to the spill graph in two more; then all are raised. The grid is taken over, so that the filled heights take the place of
+/// its own.
 pub fn filled<R: Threads + Wait + Sync, G: Gate + Sync>(
     rt: &R,
     alloc: Global,
@@ -151,12 +151,12 @@ pub fn filled<R: Threads + Wait + Sync, G: Gate + Sync>(
     };
     let floods = crew.run(&work, tiling.tiles())?;
     drop(work);
-    let frame = grid.into_frame();
+    let (frame, room) = grid.into_parts();
     let graph = spill_graph(&crew, &frame, &tiling, &floods)?;
     let Ok(levels) = LabelLevels::of_graph(alloc, &graph) else {
         return Err(JobFault::Memory);
     };
-    let Ok(cells) = raised_grid(alloc, &tiling, &floods, &levels) else {
+    let Ok(cells) = raised_grid(room, &tiling, &floods, &levels) else {
         return Err(JobFault::Memory);
     };
     drop(floods);

@@ -9,7 +9,7 @@ ghost use Rattle.fill.specs.Spills.{raised_among, raised_by, AreRaisedBelow};
 use crate::numbering::LabelLevels;
 use crate::raising::spill;
 use crate::tile::TileFlood;
-use std::alloc::{AllocError, Global};
+use std::alloc::AllocError;
 use terrain::{Height, Place};
 use tiles::{Bounds, Tiling};
 
@@ -18,7 +18,7 @@ use tiles::{Bounds, Tiling};
 fn raised_at(
     tiling: &Tiling,
     flood: &TileFlood,
-    levels: &LabelLevels,
+    levels: &LabelLevels<'_>,
     index: usize,
 ) -> Option<Height>
     requires size { length levels.now ≡ tiling.now.cols * tiling.now.rows }
@@ -37,7 +37,7 @@ fn push_part(
     cells: &mut Vec<Option<Height>>,
     tiling: &Tiling,
     floods: &[TileFlood],
-    levels: &LabelLevels,
+    levels: &LabelLevels<'_>,
     row: u32,
     col: u32,
 ) -> Result<u32, AllocError>
@@ -69,7 +69,7 @@ fn push_row(
     cells: &mut Vec<Option<Height>>,
     tiling: &Tiling,
     floods: &[TileFlood],
-    levels: &LabelLevels,
+    levels: &LabelLevels<'_>,
     row: u32,
 ) -> Result<(), AllocError>
     requires size { length levels.now ≡ tiling.now.cols * tiling.now.rows }
@@ -88,18 +88,20 @@ fn push_row(
 }
 
 /// What all cells are raised to, in row order of the grid: by the floods of its tiles and the levels of their labels.
+/// The list takes the memory of another one, whose entries are let go.
 pub(crate) fn raised_grid(
-    alloc: Global,
+    room: Vec<Option<Height>>,
     tiling: &Tiling,
     floods: &[TileFlood],
-    levels: &LabelLevels,
+    levels: &LabelLevels<'_>,
 ) -> Result<Vec<Option<Height>>, AllocError>
     requires size { length levels.now ≡ tiling.now.cols * tiling.now.rows }
     requires lawful { IsCutting tiling.now }
     requires fit { Fit tiling.now floods.now }
     ensures { IfOk result (λ v. IsMadeMap tiling.now (λ p height. height ≡ raised_among tiling.now floods.now levels.now p) v.items) }
 {
-    let mut cells = Vec::with_capacity(alloc, tiling.cols() as usize * tiling.rows() as usize)?;
+    let mut cells = room;
+    cells.clear();
     for row in 0..tiling.rows() {
         push_row(&mut cells, tiling, floods, levels, row)?;
     }

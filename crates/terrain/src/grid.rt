@@ -68,98 +68,46 @@ impl GridHeader {
     }
 }
 
-/// A terrain grid.
-#[derive(Drop)]
-pub struct Grid {
-    header: GridHeader,
-    scale: u8,
-    cells: Vec<Option<Height>>,
-    sinks: Vec<Place>,
-}
-
-impl Model for Grid {
-    ghost use Rattle.terrain.specs.Raster.{Raster, IsLawful};
-    ghost use Rattle.terrain.specs.Parts.{raster_with};
-
-    ghost Value = { Raster };
-
-    ghost view = { λ g. raster_with g.header g.scale g.cells.items g.sinks.items };
-
-    ghost invariant = { λ g. IsLawful (raster_with g.header g.scale g.cells.items g.sinks.items) };
-}
-
-/// A grid whose cells were let go: its header, its scale and its sinks. Clauses see the grid as it was.
+/// A grid without its cells: its header, its scale and its sinks. Clauses see the grid's cells too, as they were when it
+/// was made.
 #[derive(Drop)]
 pub struct Frame {
     header: GridHeader,
     scale: u8,
-    named_sinks: Vec<Place>,
-    grid: Snapshot<Grid>,
+    sinks: Vec<Place>,
+    cells: Snapshot<Vec<Option<Height>>>,
 }
 
 impl Model for Frame {
-    ghost use Rattle.std.specs.Prelude.{◌≡◌};
     ghost use Rattle.terrain.specs.Raster.{Raster, IsLawful};
     ghost use Rattle.terrain.specs.Parts.{raster_with};
 
     ghost Value = { Raster };
 
-    ghost view = { λ f. f.grid.value };
+    ghost view = { λ f. raster_with f.header f.scale f.cells.value.items f.sinks.items };
 
-    ghost invariant = { λ f. IsLawful f.grid.value × (f.grid.value ≡ raster_with f.header f.scale f.grid.value.terrain.cells f.named_sinks.items) };
+    ghost invariant = { λ f. IsLawful (raster_with f.header f.scale f.cells.value.items f.sinks.items) };
+}
+
+/// A terrain grid.
+#[derive(Drop)]
+pub struct Grid {
+    frame: Frame,
+    cells: Vec<Option<Height>>,
+}
+
+impl Model for Grid {
+    ghost use Rattle.std.specs.Prelude.{◌≡◌};
+    ghost use Rattle.terrain.specs.Raster.{Raster, IsLawful};
+
+    ghost Value = { Raster };
+
+    ghost view = { λ g. g.frame };
+
+    ghost invariant = { λ g. IsLawful g.frame × (g.cells.items ≡ g.frame.terrain.cells) };
 }
 
 impl Frame {
-    /// The named sinks of the grid.
-    pub fn sinks(&self) -> &[Place]
-        ensures { result.now ≡ self.now.terrain.sinks }
-    {
-        &self.named_sinks
-    }
-
-    /// The grid with these cells in place of those that were let go. Each height among them stood in the grid. It
-    /// takes no memory.
-    pub fn with_cells(self, cells: Vec<Option<Height>>) -> Grid
-        requires size { length cells.items ≡ self.terrain.cols * self.terrain.rows }
-        requires heights { All (λ c. IfSome c (λ h. Contains self.terrain.cells (Some h))) cells.items }
-        ensures { result ≡ record self { terrain = record self.terrain { cells = cells.items } } }
-    {
-        let Frame {
-            header,
-            scale,
-            named_sinks,
-            ..
-        } = self;
-        Grid {
-            header,
-            scale,
-            cells,
-            sinks: named_sinks,
-        }
-    }
-}
-
-impl Grid {
-    ghost use Rattle.terrain.specs.Parts.{raster_with, raster_with_parts};
-
-    /// The grid of a header, a scale and the cells in row order. It has no sinks.
-    pub fn from_parts(
-        alloc: Global,
-        header: GridHeader,
-        scale: u8,
-        cells: Vec<Option<Height>>,
-    ) -> Self
-        requires { IsLawful (raster_with header scale cells.items []) }
-        ensures { result ≡ raster_with header scale cells.items [] }
-    {
-        Grid {
-            header,
-            scale,
-            cells,
-            sinks: Vec::new(alloc),
-        }
-    }
-
     /// The number of columns, from 1 to [`LONGEST_AXIS`].
     pub fn cols(&self) -> u32
         ensures value { result ≡ self.now.terrain.cols }
@@ -184,18 +132,9 @@ impl Grid {
         self.scale
     }
 
-    /// The heights in row order, None where there is no data.
-    pub fn cells(&self) -> &[Option<Height>]
-        ensures value { result.now ≡ self.now.terrain.cells }
-        ensures lawful { IsLawful self.now }
-    {
-        &self.cells
-    }
-
     /// The named sinks, each once, in the order of first naming.
     pub fn sinks(&self) -> &[Place]
-        ensures value { result.now ≡ self.now.terrain.sinks }
-        ensures lawful { IsLawful self.now }
+        ensures { result.now ≡ self.now.terrain.sinks }
     {
         &self.sinks
     }
@@ -230,12 +169,119 @@ impl Grid {
         &self.header.nodata
     }
 
+    /// The grid with these cells in place of those that were let go. Each height among them stood in the grid. It
+    /// takes no memory.
+    pub fn with_cells(self, cells: Vec<Option<Height>>) -> Grid
+        requires size { length cells.items ≡ self.terrain.cols * self.terrain.rows }
+        requires heights { All (λ c. IfSome c (λ h. Contains self.terrain.cells (Some h))) cells.items }
+        ensures { result ≡ record self { terrain = record self.terrain { cells = cells.items } } }
+    {
+        let Frame {
+            header,
+            scale,
+            sinks,
+            ..
+        } = self;
+        Grid::of_parts(header, scale, cells, sinks)
+    }
+}
+
+impl Grid {
+    ghost use Rattle.terrain.specs.Parts.{raster_with, raster_with_parts};
+
+    fn of_parts(
+        header: GridHeader,
+        scale: u8,
+        cells: Vec<Option<Height>>,
+        sinks: Vec<Place>,
+    ) -> Self
+        requires { IsLawful (raster_with header scale cells.items sinks.items) }
+        ensures { result ≡ raster_with header scale cells.items sinks.items }
+    {
+        let frame = Frame {
+            header,
+            scale,
+            sinks,
+            cells: Snapshot::of(&cells),
+        };
+        Grid { frame, cells }
+    }
+
+    /// The grid of a header, a scale and the cells in row order. It has no sinks.
+    pub fn from_parts(
+        alloc: Global,
+        header: GridHeader,
+        scale: u8,
+        cells: Vec<Option<Height>>,
+    ) -> Self
+        requires { IsLawful (raster_with header scale cells.items []) }
+        ensures { result ≡ raster_with header scale cells.items [] }
+    {
+        Grid::of_parts(header, scale, cells, Vec::new(alloc))
+    }
+
+    /// The grid without its cells, lent.
+    pub fn frame(&self) -> &Frame
+        ensures { result.now ≡ self.now }
+    {
+        &self.frame
+    }
+
+    /// The grid without its cells, and the cells.
+    pub fn into_parts(self) -> (Frame, Vec<Option<Height>>)
+        ensures frame { result.0 ≡ self }
+        ensures cells { result.1.items ≡ self.terrain.cells }
+    {
+        let Grid { frame, cells } = self;
+        (frame, cells)
+    }
+
+    /// The grid without its cells, which are let go.
+    pub fn into_frame(self) -> Frame
+        ensures { result ≡ self }
+    {
+        let Grid { frame, .. } = self;
+        frame
+    }
+
+    /// The number of columns, from 1 to [`LONGEST_AXIS`].
+    pub fn cols(&self) -> u32
+        ensures value { result ≡ self.now.terrain.cols }
+        ensures lawful { IsLawful self.now }
+    {
+        self.frame.cols()
+    }
+
+    /// The number of rows, from 1 to [`LONGEST_AXIS`].
+    pub fn rows(&self) -> u32
+        ensures value { result ≡ self.now.terrain.rows }
+        ensures lawful { IsLawful self.now }
+    {
+        self.frame.rows()
+    }
+
+    /// The heights in row order, None where there is no data.
+    pub fn cells(&self) -> &[Option<Height>]
+        ensures value { result.now ≡ self.now.terrain.cells }
+        ensures lawful { IsLawful self.now }
+    {
+        &self.cells
+    }
+
+    /// The named sinks, each once, in the order of first naming.
+    pub fn sinks(&self) -> &[Place]
+        ensures value { result.now ≡ self.now.terrain.sinks }
+        ensures lawful { IsLawful self.now }
+    {
+        self.frame.sinks()
+    }
+
     /// The height at a place, None where there is no data.
     pub fn at(&self, place: Place) -> Option<Height>
         requires { IsInside self.now.terrain place }
         ensures { result ≡ height_at self.now.terrain place }
     {
-        self.cells[place.index_in(self.header.cols)]
+        self.cells()[place.index_in(self.cols())]
     }
 
     /// Whether the cell is an end cell: it has a height, and is a named sink or has a gap among the eight places
@@ -276,35 +322,12 @@ impl Grid {
         Ok(self.with_parts(cells, Vec::from_slice(alloc, self.sinks())?))
     }
 
-    /// The grid without its cells, which are let go.
-    pub fn into_frame(self) -> Frame
-        ensures { result ≡ self }
-    {
-        let grid = Snapshot::of(&self);
-        let Grid {
-            header,
-            scale,
-            sinks,
-            ..
-        } = self;
-        Frame {
-            header,
-            scale,
-            named_sinks: sinks,
-            grid,
-        }
-    }
-
     fn with_parts(&self, cells: Vec<Option<Height>>, sinks: Vec<Place>) -> Grid
         requires { IsLawful (raster_with_parts self.now cells.items sinks.items) }
         ensures { result ≡ raster_with_parts self.now cells.items sinks.items }
     {
-        Grid {
-            header: self.header.copy(),
-            scale: self.scale,
-            cells,
-            sinks,
-        }
+        let frame = &self.frame;
+        Grid::of_parts(frame.header.copy(), frame.scale, cells, sinks)
     }
 
     /// The same grid with these cells as its sinks, each once, in place of those that it had.

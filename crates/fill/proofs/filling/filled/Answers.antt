@@ -19,7 +19,7 @@ spill_graph-requires-clause-floods g c =
     let k = c.joined-tiling.result in
     let v = c.in_ok-floods.floods in
     let are : AreFloods t k v.items = floods_given t k v.items c.tiles.ensures.lawful (c.joined-tiling.ensures c.args.grid.terrain c.requires) (omega (arith, v.ok.0, c.in_ok-floods.ensures.len, c.tiles.ensures.value)) (λ j d below. c.in_ok-floods.ensures.given j d (omega (arith, below, c.tiles.ensures.value))) in
-    rw (c.deref.ensures.value, c.into_frame-frame.ensures) (λ lives live. are)
+    rw (c.deref.ensures.value, c.into_parts-frame.ensures.frame) (λ lives live. are)
 
 pub with_cells-requires-clause-heights : goal.with_cells-requires-clause-heights
 with_cells-requires-clause-heights g c =
@@ -27,9 +27,9 @@ with_cells-requires-clause-heights g c =
     let k = c.joined-tiling.result in
     let v = c.in_ok-floods.floods in
     let are : AreFloods t k v.items = floods_given t k v.items c.tiles.ensures.lawful (c.joined-tiling.ensures c.args.grid.terrain c.requires) (omega (arith, v.ok.0, c.in_ok-floods.ensures.len, c.tiles.ensures.value)) (λ j d below. c.in_ok-floods.ensures.given j d (omega (arith, below, c.tiles.ensures.value))) in
-    let graph = rw c.into_frame-frame.ensures at (rw c.deref.ensures.value at c.in_ok-graph.ensures.graph) in
+    let graph = rw c.into_parts-frame.ensures.frame at (rw c.deref.ensures.value at c.in_ok-graph.ensures.graph) in
     let spill : AreOpenLevels t k v.items c.in-Ok.levels = (c.in_ok-graph.graph, graph, c.in-Ok.ensures) in
-    rw c.into_frame-frame.ensures (filled_stand t c.in-Ok-raised_grid.cells.items (filled_map t k v.items _ c.in-Ok-raised_grid.cells.items are spill (rw c.deref-2.ensures.value at c.in-Ok-raised_grid.ensures)))
+    rw c.into_parts-frame.ensures.frame (filled_stand t c.in-Ok-raised_grid.cells.items (filled_map t k v.items _ c.in-Ok-raised_grid.cells.items are spill (rw c.deref-2.ensures.value at c.in-Ok-raised_grid.ensures)))
 
 pub from_grid-requires : goal.from_grid-requires
 from_grid-requires g c =
@@ -37,9 +37,9 @@ from_grid-requires g c =
     let k = c.joined-tiling.result in
     let v = c.in_ok-floods.floods in
     let are : AreFloods t k v.items = floods_given t k v.items c.tiles.ensures.lawful (c.joined-tiling.ensures c.args.grid.terrain c.requires) (omega (arith, v.ok.0, c.in_ok-floods.ensures.len, c.tiles.ensures.value)) (λ j d below. c.in_ok-floods.ensures.given j d (omega (arith, below, c.tiles.ensures.value))) in
-    let graph = rw c.into_frame-frame.ensures at (rw c.deref.ensures.value at c.in_ok-graph.ensures.graph) in
+    let graph = rw c.into_parts-frame.ensures.frame at (rw c.deref.ensures.value at c.in_ok-graph.ensures.graph) in
     let spill : AreOpenLevels t k v.items c.in-Ok.levels = (c.in_ok-graph.graph, graph, c.in-Ok.ensures) in
-    (filled_grid c.args.grid c.with_cells.result c.in-Ok-raised_grid.cells.items (c.with_cells.ensures ∙ ap (λ (r : Raster). record r { terrain = record r.terrain { cells = c.in-Ok-raised_grid.cells.items } }) c.into_frame-frame.ensures) (filled_map t k v.items _ c.in-Ok-raised_grid.cells.items are spill (rw c.deref-2.ensures.value at c.in-Ok-raised_grid.ensures))).0
+    (filled_grid c.args.grid c.with_cells.result c.in-Ok-raised_grid.cells.items (c.with_cells.ensures ∙ ap (λ (r : Raster). record r { terrain = record r.terrain { cells = c.in-Ok-raised_grid.cells.items } }) c.into_parts-frame.ensures.frame) (filled_map t k v.items _ c.in-Ok-raised_grid.cells.items are spill (rw c.deref-2.ensures.value at c.in-Ok-raised_grid.ensures))).0
 
 pub returns-clause-filled : goal.returns-clause-filled
 returns-clause-filled g c =
@@ -47,6 +47,6 @@ returns-clause-filled g c =
     let k = c.joined-tiling.result in
     let v = c.in_ok-floods.floods in
     let are : AreFloods t k v.items = floods_given t k v.items c.tiles.ensures.lawful (c.joined-tiling.ensures c.args.grid.terrain c.requires) (omega (arith, v.ok.0, c.in_ok-floods.ensures.len, c.tiles.ensures.value)) (λ j d below. c.in_ok-floods.ensures.given j d (omega (arith, below, c.tiles.ensures.value))) in
-    let graph = rw c.into_frame-frame.ensures at (rw c.deref.ensures.value at c.in_ok-graph.ensures.graph) in
+    let graph = rw c.into_parts-frame.ensures.frame at (rw c.deref.ensures.value at c.in_ok-graph.ensures.graph) in
     let spill : AreOpenLevels t k v.items c.in-Ok.levels = (c.in_ok-graph.graph, graph, c.in-Ok.ensures) in
-    rw c.from_grid.ensures (filled_grid c.args.grid c.with_cells.result c.in-Ok-raised_grid.cells.items (c.with_cells.ensures ∙ ap (λ (r : Raster). record r { terrain = record r.terrain { cells = c.in-Ok-raised_grid.cells.items } }) c.into_frame-frame.ensures) (filled_map t k v.items _ c.in-Ok-raised_grid.cells.items are spill (rw c.deref-2.ensures.value at c.in-Ok-raised_grid.ensures))).1
+    rw c.from_grid.ensures (filled_grid c.args.grid c.with_cells.result c.in-Ok-raised_grid.cells.items (c.with_cells.ensures ∙ ap (λ (r : Raster). record r { terrain = record r.terrain { cells = c.in-Ok-raised_grid.cells.items } }) c.into_parts-frame.ensures.frame) (filled_map t k v.items _ c.in-Ok-raised_grid.cells.items are spill (rw c.deref-2.ensures.value at c.in-Ok-raised_grid.ensures))).1
