@@ -2,7 +2,7 @@
 use Rattle.std.proofs.Common.{◌≡◌, ℕ, ◌+◌, ◌-◌, ◌*◌, ◌<◌, ◌≤◌, ◌⊎◌, inl, inr, ℤ, List, [], ◌∷◌, ◌++◌, length, get_or, map, Option, None, Some, is_some, ◌∙◌, sym, ap, subst, refl, arith, zero, suc, ◌/◌, ◌%◌, IfSome, MatchOption, mul_comm, pos}
 use Rattle.std.specs.Prelude.{slice_get, option_and_then, option_map}
 use Rattle.std.specs.Int.{int_max}
-use Rattle.std.proofs.lemmas.Bool.{cases_lt}
+use Rattle.std.proofs.lemmas.Bool.{cases_lt, cases_eq}
 use Rattle.std.proofs.lemmas.List.{get_or-map, length-map, length_push, get_or_append_left, get_or_push}
 use Rattle.terrain.specs.Raster.{Terrain, Raster}
 use Rattle.terrain.specs.Sinks.{with_sinks}
@@ -18,6 +18,8 @@ use Rattle.tiles.proofs.PutBack.{row_in_list}
 use Rattle.tiles.proofs.TileOrder.{tile_entry-in}
 use Rattle.fill.specs.TileFlood.{Flood, level_in, label_in, IsTileFlood, levels_where}
 use Rattle.fill.specs.Spills.{AreFloods, level_among, AreSpillLevels, AreOpenLevels, spill_of, greater_of, raised_by, AreGreater, IsRaised, raised_among, AreRaisedBelow, IsFilledTile}
+use Rattle.fill.specs.RaisedTiles.{IsRaisedBy}
+use Rattle.fill.specs.declared.rows.RaisedTile.{RaisedTile}
 use Rattle.fill.specs.Gathering.{Fit}
 use Rattle.fill.specs.Labels.{labels_by, IsTable}
 use Rattle.fill.proofs.Where.{levels_where-length, levels_where-at}
@@ -26,7 +28,7 @@ use Rattle.floods.proofs.Steps.{seen, match_of, none_some}
 use Rattle.fill.proofs.TileWindows.{entry_in-inside, entry_index}
 use Rattle.fill.proofs.Rims.{has_tile_level, among_is, rims, list_there}
 use Rattle.std.specs.List.{Contains, All}
-use Rattle.std.proofs.lemmas.Option.{MatchOption-at_some, MatchOption-at_none, get_or_from_slice_get, slice_get_within, same_Some}
+use Rattle.std.proofs.lemmas.Option.{MatchOption-at_some, MatchOption-at_none, get_or_from_slice_get, slice_get-get_or, slice_get_within, same_Some}
 use Rattle.std.proofs.lemmas.List.Elements.{All-from_get_or}
 use Rattle.std.proofs.lemmas.Nat.{div-add-mod', mod_below, div_below}
 use Rattle.tile_maps.specs.Maps.{IsMadeTile, IsMadeMap}
@@ -44,24 +46,56 @@ raised_where c levels height None = refl
 raised_where c levels height (Some p) = refl
 
 -- by the levels of the labels of its table a tile is raised
-pub raised_by_table : (c : Cutting) (f : Flood) (places : List (Option Place)) (cells : List ℕ) (heights : List ℤ) (levels spills raised : List (Option ℤ)) → f.labels ≡ labels_by places cells → IsTable places cells
-    → f.levels ≡ levels_where f.labels heights → length cells ≡ length heights → spills ≡ map (spill_of c levels) places → AreGreater heights cells spills raised → IsRaised c f levels raised
-raised_by_table c f places cells heights levels spills raised are table where_is long is s = record {
-  size = s.size ∙ sym (ap length where_is ∙ levels_where-length f.labels heights fit ∙ fit);
+pub by_table : (c : Cutting) (f : Flood) (places : List (Option Place)) (cells : List ℕ) (heights : List ℤ) (levels spills : List (Option ℤ)) → f.labels ≡ labels_by places cells → IsTable places cells
+    → f.levels ≡ levels_where f.labels heights → length cells ≡ length heights → spills ≡ map (spill_of c levels) places → IsRaisedBy c f levels heights cells spills
+by_table c f places cells heights levels spills are table where_is long is = record {
+  heights_size = sym fit;
+  labels_size = long ∙ sym fit;
+  inside = λ i d low. omega (arith, table.inside i d low, ap length is, length-map places (spill_of c levels));
   each = λ i low.
-      let inside : i < length cells = omega (arith, low, long, ap length where_is ∙ levels_where-length f.labels heights fit, fit) in
+      let inside : i < length cells = omega (arith, low, long, fit) in
       let spill : get_or spills (get_or cells i 0) None ≡ spill_of c levels (get_or f.labels i None) =
       ap (λ (z : List (Option ℤ)). get_or z (get_or cells i 0) None) is
       ∙ get_or-map (spill_of c levels) places (get_or cells i 0) None None (table.inside i 0 inside)
       ∙ ap (spill_of c levels) (sym (get_or-map (λ k. get_or places k None) cells i 0 None inside) ∙ ap (λ (z : List (Option Place)). get_or z i None) (sym are)) in
       let level : get_or f.levels i None ≡ option_map (λ _. get_or heights i (pos 0)) (get_or f.labels i None) =
       ap (λ (z : List (Option ℤ)). get_or z i None) where_is ∙ levels_where-at f.labels heights i fit in
-      s.each i (omega (arith, inside, long)) ∙ ap (greater_of (Some (get_or heights i (pos 0)))) spill
+      ap (greater_of (Some (get_or heights i (pos 0)))) spill
       ∙ raised_where c levels (get_or heights i (pos 0)) (get_or f.labels i None) ∙ ap (λ z. raised_by c levels z (get_or f.labels i None)) (sym level);
 }
   where
     fit : length f.labels ≡ length heights
     fit = ap length are ∙ length-map cells (λ k. get_or places k None) ∙ long
+
+pub raised_by_table : (c : Cutting) (f : Flood) (places : List (Option Place)) (cells : List ℕ) (heights : List ℤ) (levels spills raised : List (Option ℤ)) → f.labels ≡ labels_by places cells → IsTable places cells
+    → f.levels ≡ levels_where f.labels heights → length cells ≡ length heights → spills ≡ map (spill_of c levels) places → AreGreater heights cells spills raised → IsRaised c f levels raised
+raised_by_table c f places cells heights levels spills raised are table where_is long is s =
+    let by = by_table c f places cells heights levels spills are table where_is long is in
+    let same : length f.levels ≡ length f.labels = ap length where_is ∙ levels_where-length f.labels heights (sym by.heights_size) in
+    record {
+      size = s.size ∙ by.heights_size ∙ sym same;
+      each = λ i low. s.each i (omega (arith, low, same, by.heights_size)) ∙ by.each i (omega (arith, low, same));
+    }
+
+-- Such a tile for each of the first floods.
+pub record AreFirstRaised (c : Cutting) (floods : List Flood) (levels : List (Option ℤ)) (count : ℕ) (tiles : List RaisedTile) : Type 0 where
+  pub size : length tiles ≡ count
+  pub each : (tile : ℕ) (f : Flood) (x : RaisedTile) → tile < count → slice_get floods tile ≡ Some f → slice_get tiles tile ≡ Some x → IsRaisedBy c f levels x.heights.now x.labels.now x.spills.items
+
+pub raised_one : (c : Cutting) (floods : List Flood) (levels : List (Option ℤ)) (i : ℕ) (f : Flood) (x : RaisedTile) (tiles : List RaisedTile) → i < length floods → f ≡ get_or floods i f → IsRaisedBy c f levels x.heights.now x.labels.now x.spills.items
+    → AreFirstRaised c floods levels i tiles → AreFirstRaised c floods levels (i + 1) (tiles ++ x ∷ [])
+raised_one c floods levels i f x tiles below is by s = record {
+  size = length_push tiles x ∙ ap (λ n. n + 1) s.size;
+  each = λ k g y low there tile. elim (cases_eq k i) [
+    | inr other ↦
+        let early : k < length tiles = omega (arith, low, other, s.size) in
+        s.each k g y (omega (arith, low, other)) there (slice_get-get_or tiles k y early ∙ ap Some (sym (get_or_append_left tiles (x ∷ []) y k early) ∙ get_or_from_slice_get (tiles ++ x ∷ []) k y y tile))
+    | inl same ↦
+        let f_is : f ≡ g = is ∙ sym (ap (λ n. get_or floods n f) same) ∙ get_or_from_slice_get floods k g f there in
+        let x_is : x ≡ y = sym (get_or_push tiles x y k (s.size ∙ sym same)) ∙ get_or_from_slice_get (tiles ++ x ∷ []) k y y tile in
+        subst (λ (z : RaisedTile). IsRaisedBy c g levels z.heights.now z.labels.now z.spills.items) x_is (subst (λ (h : Flood). IsRaisedBy c h levels x.heights.now x.labels.now x.spills.items) f_is by)
+  ];
+}
 
 raised_from : (c : Cutting) (levels : List (Option ℤ)) (o : Option ℤ) (l : Option Place) (level n : ℤ) (label : Place) → o ≡ Some level → l ≡ Some label → get_or levels (index_of c.cols label) None ≡ Some n → raised_by c levels o l ≡ Some (int_max level n)
 raised_from c levels o l level n label a b e = rw (a, b) (ap (option_and_then (λ z. Some (int_max level z))) e)

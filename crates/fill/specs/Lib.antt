@@ -4,3 +4,4 @@ pub mod Gathering
 pub mod Parts
 pub mod Labels
 pub mod Numbers
+pub mod RaisedTiles

@@ -156,7 +156,7 @@ pub fn filled<R: Threads + Wait + Sync, G: Gate + Sync>(
     let Ok(levels) = LabelLevels::of_graph(alloc, &graph) else {
         return Err(JobFault::Memory);
     };
-    let Ok(cells) = raised_grid(room, &tiling, &floods, &levels) else {
+    let Ok(cells) = raised_grid(alloc, room, &tiling, &floods, &levels) else {
         return Err(JobFault::Memory);
     };
     drop(floods);

@@ -39,11 +39,7 @@ impl<'a> SpillLevels for WholeLevels<'a> {
 
 /// The level of a label in the graph, None where there is no label.
 #[inline(always)]
-pub(crate) fn spill<L: SpillLevels>(
-    tiling: &Tiling,
-    levels: &L,
-    label: Option<Place>,
-) -> Option<Height>
+fn spill<L: SpillLevels>(tiling: &Tiling, levels: &L, label: Option<Place>) -> Option<Height>
     requires size { length (L.list levels.now) ≡ tiling.now.cols * tiling.now.rows }
     requires label { IfSome label (IsWithin tiling.now) }
     ensures { result ≡ spill_of tiling.now (L.list levels.now) label }
@@ -53,7 +49,7 @@ pub(crate) fn spill<L: SpillLevels>(
 }
 
 /// The levels of labels in the graph.
-fn spills_of<L: SpillLevels>(
+pub(crate) fn spills_of<L: SpillLevels>(
     alloc: Global,
     tiling: &Tiling,
     labels: &[Option<Place>],
@@ -72,7 +68,7 @@ fn spills_of<L: SpillLevels>(
 
 /// The greater of a cell's level and its label's, None where it has no label.
 #[inline(always)]
-fn greater(height: Height, spill: Option<Height>) -> Option<Height>
+pub(crate) fn greater(height: Height, spill: Option<Height>) -> Option<Height>
     ensures { result ≡ greater_of (Some height) spill }
 {
     match spill {

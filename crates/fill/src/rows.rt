@@ -1,34 +1,77 @@
 // The filled heights of a grid, row by row over its tiles.
-ghost use Rattle.std.specs.Prelude.{◌≡◌, ◌+◌, ◌-◌, ◌*◌, ◌<◌, ◌≤◌, length, slice_index_or, None, IfOk, OnOk};
+ghost use Rattle.std.specs.Prelude.{◌≡◌, ◌+◌, ◌-◌, ◌*◌, ◌<◌, ◌≤◌, pos, length, slice_index_or, None, Some, All, IfOk, OnOk};
 ghost use Rattle.tiles.specs.Cutting.{IsCutting};
 ghost use Rattle.tile_maps.specs.Maps.{IsMadeMap};
 ghost use Rattle.fill.specs.TileFlood.{LabelsInside};
 ghost use Rattle.fill.specs.Gathering.{Fit};
-ghost use Rattle.fill.specs.Spills.{raised_among, raised_by, AreRaisedBelow};
+ghost use Rattle.fill.specs.Spills.{greater_of, raised_among, AreRaisedBelow};
+ghost use Rattle.fill.specs.RaisedTiles.{IsRaisedBy, AreRaisedTiles};
 
 use crate::numbering::LabelLevels;
-use crate::raising::spill;
+use crate::raising::{greater, spills_of};
 use crate::tile::TileFlood;
-use std::alloc::AllocError;
+use std::alloc::{AllocError, Global};
 use terrain::{Height, Place};
 use tiles::{Bounds, Tiling};
 
-/// What the cell with this index in its tile's row order is raised to.
-#[inline(always)]
-fn raised_at(
+/// A flood's levels, and the level in the spill graph of each label in its table.
+#[derive(Drop)]
+pub(crate) struct RaisedTile<'a> {
+    heights: &'a [Height],
+    labels: &'a [u32],
+    spills: Vec<Option<Height>>,
+}
+
+impl<'a> RaisedTile<'a> {
+    /// Of a flood and the levels of the spill graph.
+    fn new(
+        alloc: Global,
+        tiling: &Tiling,
+        flood: &'a TileFlood,
+        levels: &LabelLevels<'_>,
+    ) -> Result<Self, AllocError>
+        requires size { length levels.now ≡ tiling.now.cols * tiling.now.rows }
+        requires labels { LabelsInside tiling.now flood.now }
+        ensures { IfOk result (λ tile. IsRaisedBy tiling.now flood.now levels.now tile.heights.now tile.labels.now tile.spills.items) }
+    {
+        let labels = flood.labels();
+        let spills = spills_of(alloc, tiling, &labels.places, levels)?;
+        Ok(RaisedTile {
+            heights: flood.heights(),
+            labels: &labels.cells,
+            spills,
+        })
+    }
+
+    /// What the cell with this index in the tile's row order is raised to.
+    #[inline(always)]
+    fn at(&self, index: usize) -> Option<Height>
+        requires height { index < length self.now.heights.now }
+        requires label { index < length self.now.labels.now }
+        requires inside { All (λ k. k < length self.now.spills.items) self.now.labels.now }
+        ensures { result ≡ greater_of (Some (slice_index_or self.now.heights.now index (pos 0))) (slice_index_or self.now.spills.items (slice_index_or self.now.labels.now index 0) None) }
+    {
+        let spill = self.spills[self.labels[index] as usize];
+        greater(self.heights[index], spill)
+    }
+}
+
+/// Such a tile for each flood.
+fn raised_tiles<'a>(
+    alloc: Global,
     tiling: &Tiling,
-    flood: &TileFlood,
+    floods: &'a [TileFlood],
     levels: &LabelLevels<'_>,
-    index: usize,
-) -> Option<Height>
+) -> Result<Vec<RaisedTile<'a>>, AllocError>
     requires size { length levels.now ≡ tiling.now.cols * tiling.now.rows }
-    requires labels { LabelsInside tiling.now flood.now }
-    requires index { index < length flood.now.labels }
-    ensures { result ≡ raised_by tiling.now levels.now (slice_index_or flood.now.levels index None) (slice_index_or flood.now.labels index None) }
+    requires fit { Fit tiling.now floods.now }
+    ensures { IfOk result (λ v. AreRaisedTiles tiling.now floods.now levels.now v.items) }
 {
-    let level = flood.level_at(index)?;
-    let spill = spill(tiling, levels, flood.label_at(index))?;
-    Some(level.max(spill))
+    let mut tiles = Vec::with_capacity(alloc, floods.len())?;
+    for flood in floods {
+        tiles.push(RaisedTile::new(alloc, tiling, flood, levels)?)?;
+    }
+    Ok(tiles)
 }
 
 /// Adds the cells of a row from a column on that lie in one tile, and answers the column after them.
@@ -38,28 +81,30 @@ fn push_part(
     tiling: &Tiling,
     floods: &[TileFlood],
     levels: &LabelLevels<'_>,
+    tiles: &[RaisedTile<'_>],
     row: u32,
     col: u32,
 ) -> Result<u32, AllocError>
-    requires size { length levels.now ≡ tiling.now.cols * tiling.now.rows }
     requires lawful { IsCutting tiling.now }
     requires fit { Fit tiling.now floods.now }
+    requires tiles { AreRaisedTiles tiling.now floods.now levels.now tiles.now }
     requires row { row < tiling.now.rows }
     requires col { col < tiling.now.cols }
     requires before { AreRaisedBelow tiling.now floods.now levels.now (row * tiling.now.cols + col) cells.old.items }
     ensures more { IfOk result (λ next. (col < next) × (next ≤ tiling.now.cols)) }
     ensures raised { IfOk result (λ next. AreRaisedBelow tiling.now floods.now levels.now (row * tiling.now.cols + next) cells.new.items) }
 {
-    let flood = &floods[tiling.tile_of(Place { row, col }) as usize];
+    let tile = tiling.tile_of(Place { row, col }) as usize;
     let Bounds {
         top,
         left,
         cols,
         ..
-    } = flood.bounds();
+    } = floods[tile].bounds();
+    let raised = &tiles[tile];
     let start = (row - top) as usize * cols as usize;
     for index in start + (col - left) as usize..start + cols as usize {
-        cells.push(raised_at(tiling, flood, levels, index))?;
+        cells.push(raised.at(index))?;
     }
     Ok(left + cols)
 }
@@ -70,11 +115,12 @@ fn push_row(
     tiling: &Tiling,
     floods: &[TileFlood],
     levels: &LabelLevels<'_>,
+    tiles: &[RaisedTile<'_>],
     row: u32,
 ) -> Result<(), AllocError>
-    requires size { length levels.now ≡ tiling.now.cols * tiling.now.rows }
     requires lawful { IsCutting tiling.now }
     requires fit { Fit tiling.now floods.now }
+    requires tiles { AreRaisedTiles tiling.now floods.now levels.now tiles.now }
     requires row { row < tiling.now.rows }
     requires before { AreRaisedBelow tiling.now floods.now levels.now (row * tiling.now.cols) cells.old.items }
     ensures { OnOk result (AreRaisedBelow tiling.now floods.now levels.now ((row + 1) * tiling.now.cols) cells.new.items) }
@@ -82,7 +128,7 @@ fn push_row(
     let cols = tiling.cols();
     let mut col = 0;
     while col < cols {
-        col = push_part(cells, tiling, floods, levels, row, col)?;
+        col = push_part(cells, tiling, floods, levels, tiles, row, col)?;
     }
     Ok(())
 }
@@ -90,6 +136,7 @@ fn push_row(
 /// What all cells are raised to, in row order of the grid: by the floods of its tiles and the levels of their labels.
 /// The list takes the memory of another one, whose entries are let go.
 pub(crate) fn raised_grid(
+    alloc: Global,
     room: Vec<Option<Height>>,
     tiling: &Tiling,
     floods: &[TileFlood],
@@ -100,10 +147,11 @@ pub(crate) fn raised_grid(
     requires fit { Fit tiling.now floods.now }
     ensures { IfOk result (λ v. IsMadeMap tiling.now (λ p height. height ≡ raised_among tiling.now floods.now levels.now p) v.items) }
 {
+    let tiles = raised_tiles(alloc, tiling, floods, levels)?;
     let mut cells = room;
     cells.clear();
     for row in 0..tiling.rows() {
-        push_row(&mut cells, tiling, floods, levels, row)?;
+        push_row(&mut cells, tiling, floods, levels, &tiles, row)?;
     }
     Ok(cells)
 }

@@ -1,4 +1,4 @@
-use Rattle.std.proofs.Common.{◌+◌, ◌-◌, ◌*◌, ◌≤◌, length, refl, subst, arith}
+use Rattle.std.proofs.Common.{◌+◌, ◌-◌, ◌*◌, ◌≤◌, ◌<◌, ◌∙◌, length, refl, subst, arith}
 use Rattle.std.proofs.lemmas.Option.{slice_get_read}
 use Rattle.fill.specs.Spills.{AreRaisedBelow}
 use Rattle.fill.proofs.Raised.{part_of_row, part_more}
@@ -6,56 +6,85 @@ use Rattle.fill.proofs.rows.push_part.Goals as goal
 
 pub overflow_sub-start : goal.overflow_sub-start
 overflow_sub-start c =
-    let f = c.index-floods-tile_of.result in
-    let there = slice_get_read c.args.floods.now (length c.args.floods.now) c.tile_of.result f refl (omega (arith, c.requires.fit.count, c.tile_of.ensures.below)) c.index-floods-tile_of.is in
-    (part_of_row c.args.tiling.now c.args.floods.now c.args.row c.args.col c.tile_of.result f c.bounds-top.result c.requires.lawful c.requires.fit c.requires.row c.requires.col c.tile_of.ensures.number there c.bounds-top.ensures.value).1.0
+    let f = c.index-floods-tile.result in
+    let there = slice_get_read c.args.floods.now (length c.args.floods.now) c.tile_of-tile.result f refl (omega (arith, c.requires.fit.count, c.tile_of-tile.ensures.below)) c.index-floods-tile.is in
+    (part_of_row c.args.tiling.now c.args.floods.now c.args.row c.args.col c.tile_of-tile.result f c.bounds-top.result c.requires.lawful c.requires.fit c.requires.row c.requires.col c.tile_of-tile.ensures.number there c.bounds-top.ensures.value).1.0
 
 pub overflow_sub-index : goal.overflow_sub-index
 overflow_sub-index c =
-    let f = c.index-floods-tile_of.result in
-    let there = slice_get_read c.args.floods.now (length c.args.floods.now) c.tile_of.result f refl (omega (arith, c.requires.fit.count, c.tile_of.ensures.below)) c.index-floods-tile_of.is in
-    (part_of_row c.args.tiling.now c.args.floods.now c.args.row c.args.col c.tile_of.result f c.bounds-top.result c.requires.lawful c.requires.fit c.requires.row c.requires.col c.tile_of.ensures.number there c.bounds-top.ensures.value).1.2
+    let f = c.index-floods-tile.result in
+    let there = slice_get_read c.args.floods.now (length c.args.floods.now) c.tile_of-tile.result f refl (omega (arith, c.requires.fit.count, c.tile_of-tile.ensures.below)) c.index-floods-tile.is in
+    (part_of_row c.args.tiling.now c.args.floods.now c.args.row c.args.col c.tile_of-tile.result f c.bounds-top.result c.requires.lawful c.requires.fit c.requires.row c.requires.col c.tile_of-tile.ensures.number there c.bounds-top.ensures.value).1.2
 
 pub loop-index-init : goal.loop-index-init
 loop-index-init c =
-    let f = c.index-floods-tile_of.result in
-    let there = slice_get_read c.args.floods.now (length c.args.floods.now) c.tile_of.result f refl (omega (arith, c.requires.fit.count, c.tile_of.ensures.below)) c.index-floods-tile_of.is in
-    let part = part_of_row c.args.tiling.now c.args.floods.now c.args.row c.args.col c.tile_of.result f c.bounds-top.result c.requires.lawful c.requires.fit c.requires.row c.requires.col c.tile_of.ensures.number there c.bounds-top.ensures.value in
+    let f = c.index-floods-tile.result in
+    let there = slice_get_read c.args.floods.now (length c.args.floods.now) c.tile_of-tile.result f refl (omega (arith, c.requires.fit.count, c.tile_of-tile.ensures.below)) c.index-floods-tile.is in
+    let part = part_of_row c.args.tiling.now c.args.floods.now c.args.row c.args.col c.tile_of-tile.result f c.bounds-top.result c.requires.lawful c.requires.fit c.requires.row c.requires.col c.tile_of-tile.ensures.number there c.bounds-top.ensures.value in
     subst (λ n. AreRaisedBelow c.args.tiling.now c.args.floods.now c.args.levels.now n c.args.cells.now.items) (omega (arith, part.1.2)) c.requires.before
 
-pub raised_at-requires-clause-labels : goal.raised_at-requires-clause-labels
-raised_at-requires-clause-labels c =
-    let f = c.index-floods-tile_of.result in
-    c.requires.fit.labels c.tile_of.result f (slice_get_read c.args.floods.now (length c.args.floods.now) c.tile_of.result f refl (omega (arith, c.requires.fit.count, c.tile_of.ensures.below)) c.index-floods-tile_of.is)
+pub at-requires-clause-height : goal.at-requires-clause-height
+at-requires-clause-height c =
+    let f = c.index-floods-tile.result in
+    let x = c.index-tiles-tile.result in
+    let tile = c.tile_of-tile.result in
+    let below : tile < length c.args.floods.now = omega (arith, c.requires.fit.count, c.tile_of-tile.ensures.below) in
+    let there = slice_get_read c.args.floods.now (length c.args.floods.now) tile f refl below c.index-floods-tile.is in
+    let raised = slice_get_read c.args.tiles.now (length c.args.tiles.now) tile x refl (omega (arith, below, c.requires.tiles.count)) c.index-tiles-tile.is in
+    let by = c.requires.tiles.each tile f x there raised in
+    let part = part_of_row c.args.tiling.now c.args.floods.now c.args.row c.args.col tile f c.bounds-top.result c.requires.lawful c.requires.fit c.requires.row c.requires.col c.tile_of-tile.ensures.number there c.bounds-top.ensures.value in
+    omega (arith, part.3, c.loop-index-test.true, by.heights_size)
 
-pub raised_at-requires-clause-index : goal.raised_at-requires-clause-index
-raised_at-requires-clause-index c =
-    let f = c.index-floods-tile_of.result in
-    let there = slice_get_read c.args.floods.now (length c.args.floods.now) c.tile_of.result f refl (omega (arith, c.requires.fit.count, c.tile_of.ensures.below)) c.index-floods-tile_of.is in
-    let part = part_of_row c.args.tiling.now c.args.floods.now c.args.row c.args.col c.tile_of.result f c.bounds-top.result c.requires.lawful c.requires.fit c.requires.row c.requires.col c.tile_of.ensures.number there c.bounds-top.ensures.value in
-    omega (arith, part.3, c.loop-index-test.true)
+pub at-requires-clause-label : goal.at-requires-clause-label
+at-requires-clause-label c =
+    let f = c.index-floods-tile.result in
+    let x = c.index-tiles-tile.result in
+    let tile = c.tile_of-tile.result in
+    let below : tile < length c.args.floods.now = omega (arith, c.requires.fit.count, c.tile_of-tile.ensures.below) in
+    let there = slice_get_read c.args.floods.now (length c.args.floods.now) tile f refl below c.index-floods-tile.is in
+    let raised = slice_get_read c.args.tiles.now (length c.args.tiles.now) tile x refl (omega (arith, below, c.requires.tiles.count)) c.index-tiles-tile.is in
+    let by = c.requires.tiles.each tile f x there raised in
+    let part = part_of_row c.args.tiling.now c.args.floods.now c.args.row c.args.col tile f c.bounds-top.result c.requires.lawful c.requires.fit c.requires.row c.requires.col c.tile_of-tile.ensures.number there c.bounds-top.ensures.value in
+    omega (arith, part.3, c.loop-index-test.true, by.labels_size)
+
+pub at-requires-clause-inside : goal.at-requires-clause-inside
+at-requires-clause-inside c =
+    let f = c.index-floods-tile.result in
+    let x = c.index-tiles-tile.result in
+    let tile = c.tile_of-tile.result in
+    let below : tile < length c.args.floods.now = omega (arith, c.requires.fit.count, c.tile_of-tile.ensures.below) in
+    let there = slice_get_read c.args.floods.now (length c.args.floods.now) tile f refl below c.index-floods-tile.is in
+    let raised = slice_get_read c.args.tiles.now (length c.args.tiles.now) tile x refl (omega (arith, below, c.requires.tiles.count)) c.index-tiles-tile.is in
+    let by = c.requires.tiles.each tile f x there raised in
+    by.inside
 
 pub loop-index-preserved : goal.loop-index-preserved
 loop-index-preserved c =
-    let f = c.index-floods-tile_of.result in
-    let there = slice_get_read c.args.floods.now (length c.args.floods.now) c.tile_of.result f refl (omega (arith, c.requires.fit.count, c.tile_of.ensures.below)) c.index-floods-tile_of.is in
-    let part = part_of_row c.args.tiling.now c.args.floods.now c.args.row c.args.col c.tile_of.result f c.bounds-top.result c.requires.lawful c.requires.fit c.requires.row c.requires.col c.tile_of.ensures.number there c.bounds-top.ensures.value in
-    rw c.in_ok-push.ensures.items (part_more c.args.tiling.now c.args.floods.now c.args.levels.now c.loop-index.cells.items c.args.row _ c.loop-index.index c.tile_of.result f c.bounds-top.result _ c.requires.lawful c.requires.fit c.tile_of.ensures.below there part.0 part.1.0 part.1.1 refl
-    (omega (arith, c.loop-index.auto.index)) (omega (arith, c.loop-index-test.true)) c.raised_at.ensures c.loop-index.invariant)
+    let f = c.index-floods-tile.result in
+    let x = c.index-tiles-tile.result in
+    let tile = c.tile_of-tile.result in
+    let below : tile < length c.args.floods.now = omega (arith, c.requires.fit.count, c.tile_of-tile.ensures.below) in
+    let there = slice_get_read c.args.floods.now (length c.args.floods.now) tile f refl below c.index-floods-tile.is in
+    let raised = slice_get_read c.args.tiles.now (length c.args.tiles.now) tile x refl (omega (arith, below, c.requires.tiles.count)) c.index-tiles-tile.is in
+    let by = c.requires.tiles.each tile f x there raised in
+    let part = part_of_row c.args.tiling.now c.args.floods.now c.args.row c.args.col tile f c.bounds-top.result c.requires.lawful c.requires.fit c.requires.row c.requires.col c.tile_of-tile.ensures.number there c.bounds-top.ensures.value in
+    let low : c.loop-index.index < length f.labels = omega (arith, part.3, c.loop-index-test.true) in
+    rw c.in_ok-push.ensures.items (part_more c.args.tiling.now c.args.floods.now c.args.levels.now c.loop-index.cells.items c.args.row _ c.loop-index.index tile f c.bounds-top.result _ c.requires.lawful c.requires.fit c.tile_of-tile.ensures.below there part.0 part.1.0 part.1.1 refl
+    (omega (arith, c.loop-index.auto.index)) (omega (arith, c.loop-index-test.true)) (c.at.ensures ∙ by.each c.loop-index.index low) c.loop-index.invariant)
 
 pub returns-clause-more : goal.returns-clause-more
 returns-clause-more c =
-    let f = c.index-floods-tile_of.result in
-    let there = slice_get_read c.args.floods.now (length c.args.floods.now) c.tile_of.result f refl (omega (arith, c.requires.fit.count, c.tile_of.ensures.below)) c.index-floods-tile_of.is in
-    let part = part_of_row c.args.tiling.now c.args.floods.now c.args.row c.args.col c.tile_of.result f c.bounds-top.result c.requires.lawful c.requires.fit c.requires.row c.requires.col c.tile_of.ensures.number there c.bounds-top.ensures.value in
+    let f = c.index-floods-tile.result in
+    let there = slice_get_read c.args.floods.now (length c.args.floods.now) c.tile_of-tile.result f refl (omega (arith, c.requires.fit.count, c.tile_of-tile.ensures.below)) c.index-floods-tile.is in
+    let part = part_of_row c.args.tiling.now c.args.floods.now c.args.row c.args.col c.tile_of-tile.result f c.bounds-top.result c.requires.lawful c.requires.fit c.requires.row c.requires.col c.tile_of-tile.ensures.number there c.bounds-top.ensures.value in
     (part.1.3, part.2)
 
 pub returns-clause-raised : goal.returns-clause-raised
 returns-clause-raised c =
-    let f = c.index-floods-tile_of.result in
+    let f = c.index-floods-tile.result in
     let b = c.bounds-top.result in
-    let there = slice_get_read c.args.floods.now (length c.args.floods.now) c.tile_of.result f refl (omega (arith, c.requires.fit.count, c.tile_of.ensures.below)) c.index-floods-tile_of.is in
-    let part = part_of_row c.args.tiling.now c.args.floods.now c.args.row c.args.col c.tile_of.result f b c.requires.lawful c.requires.fit c.requires.row c.requires.col c.tile_of.ensures.number there c.bounds-top.ensures.value in
+    let there = slice_get_read c.args.floods.now (length c.args.floods.now) c.tile_of-tile.result f refl (omega (arith, c.requires.fit.count, c.tile_of-tile.ensures.below)) c.index-floods-tile.is in
+    let part = part_of_row c.args.tiling.now c.args.floods.now c.args.row c.args.col c.tile_of-tile.result f b c.requires.lawful c.requires.fit c.requires.row c.requires.col c.tile_of-tile.ensures.number there c.bounds-top.ensures.value in
     let start = (c.args.row - b.top) * b.cols in
     let last : c.loop-index.index ≤ start + b.cols = c.loop-index.auto.index-end (omega (arith, part.1.2, part.1.3)) in
     subst (λ n. AreRaisedBelow c.args.tiling.now c.args.floods.now c.args.levels.now n c.loop-index.cells.items) (omega (arith, c.loop-index-test.false, last)) c.loop-index.invariant

@@ -1,0 +1,20 @@
+-- Tiles whose cells are raised by tables of their labels' levels. No public clause cites this.
+use Rattle.std.specs.Prelude.{◌≡◌, ℕ, ◌<◌, ℤ, pos, List, length, Option, None, Some, slice_get, slice_index_or}
+use Rattle.std.specs.List.{All}
+use Rattle.tiles.specs.Cutting.{Cutting}
+use Rattle.fill.specs.TileFlood.{Flood}
+use Rattle.fill.specs.Spills.{greater_of, raised_by}
+use Rattle.fill.specs.declared.rows.RaisedTile.{RaisedTile}
+
+-- The heights, the labels' indexes and the levels of these raise each cell as its flood and these levels of all labels do.
+pub record IsRaisedBy (c : Cutting) (f : Flood) (levels : List (Option ℤ)) (heights : List ℤ) (labels : List ℕ) (spills : List (Option ℤ)) : Type 0 where
+  pub heights_size : length heights ≡ length f.labels
+  pub labels_size : length labels ≡ length f.labels
+  pub inside : All (λ k. k < length spills) labels
+  pub each : (i : ℕ) → i < length f.labels → greater_of (Some (slice_index_or heights i (pos 0))) (slice_index_or spills (slice_index_or labels i 0) None)
+      ≡ raised_by c levels (slice_index_or f.levels i None) (slice_index_or f.labels i None)
+
+-- One such tile for each flood.
+pub record AreRaisedTiles (c : Cutting) (floods : List Flood) (levels : List (Option ℤ)) (tiles : List RaisedTile) : Type 0 where
+  pub count : length tiles ≡ length floods
+  pub each : (tile : ℕ) (f : Flood) (x : RaisedTile) → slice_get floods tile ≡ Some f → slice_get tiles tile ≡ Some x → IsRaisedBy c f levels x.heights.now x.labels.now x.spills.items
