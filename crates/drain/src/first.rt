@@ -53,7 +53,7 @@ impl<'a> Work for FirstRound<'a> {
     }
 }
 
-/// What one round over each tile leaves.
+/// What one round over each tile leaves, in the memory of the counts that it began with.
 pub(crate) fn first_round<R: Threads + Wait + Sync, G: Gate + Sync>(
     crew: &Crew<'_, R, G>,
     tiling: &Tiling,
@@ -77,8 +77,7 @@ pub(crate) fn first_round<R: Threads + Wait + Sync, G: Gate + Sync>(
         };
         crew.run(&first, tiles)?
     };
-    drop(steps);
-    match tiling.put_back(crew.alloc, &lists) {
+    match tiling.put_back_into(steps, &lists) {
         Ok(whole) => Ok(whole),
         Err(_) => Err(JobFault::Memory),
     }

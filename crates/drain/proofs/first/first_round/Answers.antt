@@ -12,8 +12,8 @@ invariant_of-first g c = record {
   counting = subst (λ (xs : List (Option ℕ)). AreCounting (lent_terrain c.args.tiling.now c.args.levels.now) xs) (sym c.deref.ensures.value) c.requires.counting;
 }
 
-pub put_back-requires : goal.put_back-requires
-put_back-requires g c =
+pub put_back_into-requires : goal.put_back_into-requires
+put_back_into-requires g c =
     let lists = c.in_ok-lists.lists in
     let count : length lists.items ≡ tile_count c.args.tiling.now = omega (arith, lists.ok.0, c.in_ok-lists.ensures.len) ∙ c.tiles-tiles.ensures.value in
     let given = rw c.deref.ensures.value at c.in_ok-lists.ensures.given in
