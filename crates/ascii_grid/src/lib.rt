@@ -23,5 +23,5 @@ pub use input::{InputFault, read_grid};
 pub use page::Page;
 pub use read::read_text;
 pub use reader::GridReader;
-pub use terrain::{Grid, HIGHEST, Height, LOWEST, NoMemory, Place};
-pub use write::{write_codes, write_counts, write_heights};
+pub use terrain::{Frame, Grid, HIGHEST, Height, LOWEST, NoMemory, Place};
+pub use write::{write_codes, write_counts, write_framed_counts, write_heights};

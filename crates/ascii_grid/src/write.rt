@@ -12,7 +12,7 @@ use crate::page::{PAGE, Page};
 use drainage::Code;
 use itoa::Buffer;
 use std::io::Write;
-use terrain::{Anchor, Grid, MOST_WORD_BYTES};
+use terrain::{Anchor, Frame, Grid, MOST_WORD_BYTES};
 
 /// More bytes than a cell takes, or a line of the header, with the byte that ends it.
 const ENTRY_ROOM: usize = 80;
@@ -164,37 +164,37 @@ fn push_anchor(corner: &[u8], centre: &[u8], anchor: &Anchor, page: &mut Page)
 }
 
 /// A page that begins with the header.
-fn header_page(grid: &Grid, nodata: &[u8]) -> Page
+fn header_page(frame: &Frame, nodata: &[u8]) -> Page
     requires { length nodata.now ≤ MOST_WORD_BYTES }
-    ensures { result ≡ header_text grid.now nodata.now }
+    ensures { result ≡ header_text frame.now nodata.now }
 {
     let mut page = Page::new();
-    push_number_line(b"ncols         ", grid.cols(), &mut page);
-    push_number_line(b"nrows         ", grid.rows(), &mut page);
-    push_anchor(b"xllcorner     ", b"xllcenter     ", grid.xll(), &mut page);
-    push_anchor(b"yllcorner     ", b"yllcenter     ", grid.yll(), &mut page);
-    push_line(b"cellsize      ", grid.cellsize().as_bytes(), &mut page);
+    push_number_line(b"ncols         ", frame.cols(), &mut page);
+    push_number_line(b"nrows         ", frame.rows(), &mut page);
+    push_anchor(b"xllcorner     ", b"xllcenter     ", frame.xll(), &mut page);
+    push_anchor(b"yllcorner     ", b"yllcenter     ", frame.yll(), &mut page);
+    push_line(b"cellsize      ", frame.cellsize().as_bytes(), &mut page);
     push_line(b"NODATA_value  ", nodata, &mut page);
     page
 }
 
-/// Writes the grid's header with this NODATA word, and these cells.
+/// Writes a grid's header with this NODATA word, and these cells.
 fn write_cells<T: CellValue, W: Write>(
-    grid: &Grid,
+    frame: &Frame,
     cells: &[Option<T>],
     nodata: &[u8],
     out: &mut Counted<W>,
 ) -> Result<(), WriteFailed>
     requires few { out.old.failures < 2 ^ 64 - 1 }
-    requires size { length cells.now ≡ grid.now.terrain.cols * grid.now.terrain.rows }
+    requires size { length cells.now ≡ frame.now.terrain.cols * frame.now.terrain.rows }
     requires short { length nodata.now ≤ MOST_WORD_BYTES }
-    ensures { Writes W.contents out.old out.new (header_text grid.now nodata.now
-        ++ rows_text (T.text grid.now.scale) nodata.now grid.now.terrain.cols grid.now.terrain.rows cells.now)
+    ensures { Writes W.contents out.old out.new (header_text frame.now nodata.now
+        ++ rows_text (T.text frame.now.scale) nodata.now frame.now.terrain.cols frame.now.terrain.rows cells.now)
         result }
 {
-    let mut page = header_page(grid, nodata);
-    let cols = grid.cols() as usize;
-    let scale = grid.scale();
+    let mut page = header_page(frame, nodata);
+    let cols = frame.cols() as usize;
+    let scale = frame.scale();
     write_rows(cells, cols, scale, nodata, &mut page, out)?;
     page.write_to(out)
 }
@@ -207,10 +207,11 @@ pub fn write_heights<W: Write>(grid: &Grid, out: &mut Counted<W>) -> Result<(), 
     ensures again { length (heights_text grid.now) ≤ most_bytes →
         IsGridText grid.now.scale (heights_text grid.now) (raster_with_sinks grid.now []) }
 {
-    write_cells(grid, grid.cells(), grid.nodata().as_bytes(), out)
+    let frame = grid.frame();
+    write_cells(frame, grid.cells(), frame.nodata().as_bytes(), out)
 }
 
-/// Writes the grid and a map of whole numbers of it. It takes no memory.
+/// Writes a map of whole numbers with the header of its grid. It takes no memory.
 pub fn write_counts<W: Write>(
     grid: &Grid,
     values: &[Option<u32>],
@@ -220,18 +221,31 @@ pub fn write_counts<W: Write>(
     requires size { length values.now ≡ grid.now.terrain.cols * grid.now.terrain.rows }
     ensures { Writes W.contents out.old out.new (counts_text grid.now values.now) result }
 {
-    write_cells(grid, values, COUNTS_NODATA, out)
+    write_framed_counts(grid.frame(), values, out)
 }
 
-/// Writes the grid and a map of its directions, as [`write_counts`] writes their codes' numbers.
+/// As [`write_counts`], where the grid's cells may have been let go.
+pub fn write_framed_counts<W: Write>(
+    frame: &Frame,
+    values: &[Option<u32>],
+    out: &mut Counted<W>,
+) -> Result<(), WriteFailed>
+    requires few { out.old.failures < 2 ^ 64 - 1 }
+    requires size { length values.now ≡ frame.now.terrain.cols * frame.now.terrain.rows }
+    ensures { Writes W.contents out.old out.new (counts_text frame.now values.now) result }
+{
+    write_cells(frame, values, COUNTS_NODATA, out)
+}
+
+/// Writes a map of directions with the header of its grid, as [`write_counts`] writes their codes' numbers.
 pub fn write_codes<W: Write>(
-    grid: &Grid,
+    frame: &Frame,
     codes: &[Option<Code>],
     out: &mut Counted<W>,
 ) -> Result<(), WriteFailed>
     requires few { out.old.failures < 2 ^ 64 - 1 }
-    requires size { length codes.now ≡ grid.now.terrain.cols * grid.now.terrain.rows }
-    ensures { Writes W.contents out.old out.new (counts_text grid.now codes.now) result }
+    requires size { length codes.now ≡ frame.now.terrain.cols * frame.now.terrain.rows }
+    ensures { Writes W.contents out.old out.new (counts_text frame.now codes.now) result }
 {
-    write_cells(grid, codes, COUNTS_NODATA, out)
+    write_cells(frame, codes, COUNTS_NODATA, out)
 }

@@ -96,10 +96,10 @@ fn is_anchor(rt: &impl Abort, anchor: &Anchor, centre: bool, text: &[u8]) {
 fn parts_of_a_grid(rt: HostRuntime) {
     let grid = bowl(&rt, rt.alloc());
     assert_eq!(rt; grid.scale(), 1);
-    is_anchor(&rt, grid.xll(), true, b"100.5");
-    is_anchor(&rt, grid.yll(), false, b"-2E1");
-    is_word(&rt, grid.cellsize(), b"30.0");
-    is_word(&rt, grid.nodata(), b"-9999");
+    is_anchor(&rt, grid.frame().xll(), true, b"100.5");
+    is_anchor(&rt, grid.frame().yll(), false, b"-2E1");
+    is_word(&rt, grid.frame().cellsize(), b"30.0");
+    is_word(&rt, grid.frame().nodata(), b"-9999");
 }
 
 #[test]
@@ -120,8 +120,8 @@ fn other_cells(rt: HostRuntime) {
     expect_cells(&rt, other.cells(), &FILLED);
     assert_eq!(rt; other.cols(), 3);
     assert_eq!(rt; other.scale(), 1);
-    is_anchor(&rt, other.xll(), true, b"100.5");
-    is_word(&rt, other.nodata(), b"-9999");
+    is_anchor(&rt, other.frame().xll(), true, b"100.5");
+    is_word(&rt, other.frame().nodata(), b"-9999");
     assert_eq!(rt; grid.at(MIDDLE), Some(-1));
 }
 

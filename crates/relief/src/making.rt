@@ -18,20 +18,19 @@ use sight::viewshed;
 use std::alloc::Global;
 use std::sync::Wait;
 use std::thread::Threads;
-use terrain::Grid;
+use terrain::{Frame, Grid};
 use tile_jobs::{Gate, JobFault};
 use tiles::{Tiling, TilingFault};
 
-/// What a map that waits to be written has at the cells of its grid.
+/// A map that waits to be written. But for heights, its grid's cells are let go, and the header is left.
 #[derive(Drop)]
-pub(crate) enum MapCells {
-    /// The heights of the grid itself.
-    Heights,
-    Codes(Directions),
-    Counts(Vec<Option<u32>>),
+pub(crate) enum MadeMap {
+    Heights(Grid),
+    Codes(Frame, Directions),
+    Counts(Frame, Vec<Option<u32>>),
 }
 
-/// A grid, filled, and the directions on its heights.
+/// The directions on a grid's filled heights, and the filled grid without its cells.
 fn drained<H: Threads + Wait + Sync, G: Gate + Sync>(
     rt: &H,
     alloc: Global,
@@ -39,7 +38,7 @@ fn drained<H: Threads + Wait + Sync, G: Gate + Sync>(
     tiling: &Tiling,
     workers: u32,
     gate: &G,
-) -> Result<(Grid, Directions), JobFault>
+) -> Result<(Frame, Directions), JobFault>
     requires { Cuts tiling.now grid.terrain }
     ensures filled { IfOk result (λ r. IsFilledGrid grid r.0) }
     ensures drainage { IfOk result (λ r. IsDrainage grid (directed_of r.1)) }
@@ -48,7 +47,7 @@ fn drained<H: Threads + Wait + Sync, G: Gate + Sync>(
 {
     let filled = filled(rt, alloc, grid, tiling, workers, gate)?;
     let directions = directions(rt, alloc, &filled, tiling, workers, gate)?;
-    Ok((filled.into_grid(), directions))
+    Ok((filled.into_grid().into_frame(), directions))
 }
 
 /// Cuts a grid into tiles of this side.
@@ -82,7 +81,7 @@ pub(crate) fn prepare(
     Ok((grid, tiling))
 }
 
-/// Judges the observers, and makes the map that is asked for, with a grid that has its header.
+/// Judges the observers, and makes the map that is asked for.
 pub(crate) fn make_map<H: Threads + Wait + Sync, G: Gate + Sync>(
     rt: &H,
     alloc: Global,
@@ -90,11 +89,11 @@ pub(crate) fn make_map<H: Threads + Wait + Sync, G: Gate + Sync>(
     grid: Grid,
     tiling: &Tiling,
     gate: &G,
-) -> Result<(Grid, MapCells), RunFault>
+) -> Result<MadeMap, RunFault>
     requires cuts { Cuts tiling.now grid.terrain }
     requires sound { wish_fault options.now grid ≡ option_map RunFault.Sight (map_fault grid options.now.map) }
-    ensures map { IfOk result (λ m. IsMapText grid options.now.map (made_text m.0 m.1)) }
-    ensures size { IfOk result (λ m. FitsGrid m.0 m.1) }
+    ensures map { IfOk result (λ m. IsMapText grid options.now.map (made_text m)) }
+    ensures size { IfOk result (λ m. FitsGrid m) }
     ensures ready { OnOk result (wish_fault options.now grid ≡ None) }
     ensures fault { IfErr result (λ f. IsWorkRefusal options.now grid f) }
 {
@@ -102,21 +101,21 @@ pub(crate) fn make_map<H: Threads + Wait + Sync, G: Gate + Sync>(
     match options.map() {
         Map::Fill => {
             let filled = filled(rt, alloc, grid, tiling, workers, gate)?;
-            Ok((filled.into_grid(), MapCells::Heights))
+            Ok(MadeMap::Heights(filled.into_grid()))
         }
         Map::Flow => {
-            let (grid, directions) = drained(rt, alloc, grid, tiling, workers, gate)?;
-            Ok((grid, MapCells::Codes(directions)))
+            let (frame, directions) = drained(rt, alloc, grid, tiling, workers, gate)?;
+            Ok(MadeMap::Codes(frame, directions))
         }
         Map::Accumulate => {
-            let (grid, directions) = drained(rt, alloc, grid, tiling, workers, gate)?;
+            let (frame, directions) = drained(rt, alloc, grid, tiling, workers, gate)?;
             let counts = accumulation(rt, alloc, &directions, tiling, workers, gate)?;
-            Ok((grid, MapCells::Counts(counts)))
+            Ok(MadeMap::Counts(frame, counts))
         }
         Map::Basins => {
-            let (grid, directions) = drained(rt, alloc, grid, tiling, workers, gate)?;
+            let (frame, directions) = drained(rt, alloc, grid, tiling, workers, gate)?;
             let numbers = basins(rt, alloc, &directions, tiling, workers, gate)?;
-            Ok((grid, MapCells::Counts(numbers)))
+            Ok(MadeMap::Counts(frame, numbers))
         }
         Map::View {
             observers,
@@ -126,7 +125,7 @@ pub(crate) fn make_map<H: Threads + Wait + Sync, G: Gate + Sync>(
             let counts = viewshed(
                 rt, alloc, &grid, observers, *target, *radius, tiling, workers, gate,
             )?;
-            Ok((grid, MapCells::Counts(counts)))
+            Ok(MadeMap::Counts(grid.into_frame(), counts))
         }
     }
 }

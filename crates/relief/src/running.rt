@@ -5,14 +5,15 @@ ghost use Rattle.relief.specs.MadeMap.{made_text, FitsGrid};
 ghost use Rattle.relief.specs.Runs.{Runs};
 
 use crate::fault::RunFault;
-use crate::making::{MapCells, make_map, prepare};
-use ascii_grid::{Counted, WriteFailed, read_grid, write_codes, write_counts, write_heights};
+use crate::making::{MadeMap, make_map, prepare};
+use ascii_grid::{
+    Counted, WriteFailed, read_grid, write_codes, write_framed_counts, write_heights,
+};
 use request::Options;
 use std::alloc::Global;
 use std::io::{Read, Write};
 use std::sync::Wait;
 use std::thread::Threads;
-use terrain::Grid;
 use tile_jobs::{Gate, NoGate};
 
 /// Reads a grid, and writes the map that is asked for: what is written is the map of the grid that the
@@ -50,24 +51,20 @@ pub fn run_gated<H: Threads + Wait + Sync, R: Read, W: Write, G: Gate + Sync>(
 {
     let grid = read_grid(alloc, options.scale(), reader)?;
     let (grid, tiling) = prepare(alloc, options, grid)?;
-    let (grid, cells) = make_map(rt, alloc, options, grid, &tiling, gate)?;
-    write_map(&grid, &cells, writer)?;
+    let made = make_map(rt, alloc, options, grid, &tiling, gate)?;
+    write_map(&made, writer)?;
     Ok(())
 }
 
 /// Writes a map with the header of its grid. It takes no memory.
-fn write_map<W: Write>(
-    grid: &Grid,
-    cells: &MapCells,
-    writer: &mut Counted<W>,
-) -> Result<(), WriteFailed>
+fn write_map<W: Write>(made: &MadeMap, writer: &mut Counted<W>) -> Result<(), WriteFailed>
     requires few { writer.old.failures < 2 ^ 64 - 1 }
-    requires size { FitsGrid grid.now cells.now }
-    ensures { Writes W.contents writer.old writer.new (made_text grid.now cells.now) result }
+    requires size { FitsGrid made.now }
+    ensures { Writes W.contents writer.old writer.new (made_text made.now) result }
 {
-    match cells {
-        MapCells::Heights => write_heights(grid, writer),
-        MapCells::Codes(directions) => write_codes(grid, directions.codes(), writer),
-        MapCells::Counts(values) => write_counts(grid, values, writer),
+    match made {
+        MadeMap::Heights(grid) => write_heights(grid, writer),
+        MadeMap::Codes(frame, directions) => write_codes(frame, directions.codes(), writer),
+        MadeMap::Counts(frame, values) => write_framed_counts(frame, values, writer),
     }
 }

@@ -260,6 +260,14 @@ impl Grid {
         self.frame.rows()
     }
 
+    /// How many decimals the heights have: a unit is 10^-scale.
+    pub fn scale(&self) -> u8
+        ensures value { result ≡ self.now.scale }
+        ensures lawful { IsLawful self.now }
+    {
+        self.frame.scale()
+    }
+
     /// The heights in row order, None where there is no data.
     pub fn cells(&self) -> &[Option<Height>]
         ensures value { result.now ≡ self.now.terrain.cells }

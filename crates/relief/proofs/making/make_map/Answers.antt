@@ -22,26 +22,32 @@ returns-in_ok-filled-in-Fill-clause-map g c =
     subst (λ (m : Map). IsMapText c.args.grid m (heights_text c.into_grid.result)) (sym (sym c.map.ensures ∙ c.in-Fill.is))
     (c.into_grid.result, subst (λ (f : Raster). IsFilledGrid c.args.grid f) (sym c.into_grid.ensures) c.in_ok-filled-in-Fill.ensures.filled, refl)
 
-pub returns-in_ok-grid-in-Flow-clause-map : goal.returns-in_ok-grid-in-Flow-clause-map
-returns-in_ok-grid-in-Flow-clause-map g c =
-    let grid = c.in_ok-grid-in-Flow.grid in
-    let d = c.in_ok-grid-in-Flow.directions in
+pub returns-in_ok-frame-in-Flow-clause-map : goal.returns-in_ok-frame-in-Flow-clause-map
+returns-in_ok-frame-in-Flow-clause-map g c =
+    let grid = c.in_ok-frame-in-Flow.frame in
+    let d = c.in_ok-frame-in-Flow.directions in
     subst (λ (m : Map). IsMapText c.args.grid m (counts_text grid d.codes)) (sym (sym c.map.ensures ∙ c.in-Flow.is))
-    (directed_of d, c.in_ok-grid-in-Flow.ensures.drainage, same_text c.args.grid grid d.codes c.in_ok-grid-in-Flow.ensures.filled)
+    (directed_of d, c.in_ok-frame-in-Flow.ensures.drainage, same_text c.args.grid grid d.codes c.in_ok-frame-in-Flow.ensures.filled)
 
 pub returns-in_ok-counts-in-Accumulate-clause-map : goal.returns-in_ok-counts-in-Accumulate-clause-map
 returns-in_ok-counts-in-Accumulate-clause-map g c =
-    let grid = c.in_ok-grid-in-Accumulate.grid in
+    let grid = c.in_ok-frame-in-Accumulate.frame in
     let values = c.in_ok-counts-in-Accumulate.counts.items in
     subst (λ (m : Map). IsMapText c.args.grid m (counts_text grid values)) (sym (sym c.map.ensures ∙ c.in-Accumulate.is))
-    (directed_of c.in_ok-grid-in-Accumulate.directions, values, c.in_ok-grid-in-Accumulate.ensures.drainage, c.in_ok-counts-in-Accumulate.ensures.values, same_text c.args.grid grid values c.in_ok-grid-in-Accumulate.ensures.filled)
+    (directed_of c.in_ok-frame-in-Accumulate.directions, values, c.in_ok-frame-in-Accumulate.ensures.drainage, c.in_ok-counts-in-Accumulate.ensures.values, same_text c.args.grid grid values c.in_ok-frame-in-Accumulate.ensures.filled)
 
 pub returns-in_ok-numbers-in-Basins-clause-map : goal.returns-in_ok-numbers-in-Basins-clause-map
 returns-in_ok-numbers-in-Basins-clause-map g c =
-    let grid = c.in_ok-grid-in-Basins.grid in
+    let grid = c.in_ok-frame-in-Basins.frame in
     let values = c.in_ok-numbers-in-Basins.numbers.items in
     subst (λ (m : Map). IsMapText c.args.grid m (counts_text grid values)) (sym (sym c.map.ensures ∙ c.in-Basins.is))
-    (directed_of c.in_ok-grid-in-Basins.directions, values, c.in_ok-grid-in-Basins.ensures.drainage, c.in_ok-numbers-in-Basins.ensures.values, same_text c.args.grid grid values c.in_ok-grid-in-Basins.ensures.filled)
+    (directed_of c.in_ok-frame-in-Basins.directions, values, c.in_ok-frame-in-Basins.ensures.drainage, c.in_ok-numbers-in-Basins.ensures.values, same_text c.args.grid grid values c.in_ok-frame-in-Basins.ensures.filled)
+
+pub returns-in_ok-counts-in-View-clause-map : goal.returns-in_ok-counts-in-View-clause-map
+returns-in_ok-counts-in-View-clause-map g c =
+    let values = c.in_ok-counts-in-View.counts.items in
+    subst (λ (m : Map). IsMapText c.args.grid m (counts_text c.into_frame.result values)) (sym (sym c.map.ensures ∙ c.in-View.is))
+    (values, rw c.deref.ensures.value at c.in_ok-counts-in-View.ensures.values, ap (λ (r : Raster). counts_text r values) c.into_frame.ensures)
 
 pub returns-in_err-counts-in-View-clause-fault : goal.returns-in_err-counts-in-View-clause-fault
 returns-in_err-counts-in-View-clause-fault g c =

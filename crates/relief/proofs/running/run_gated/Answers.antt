@@ -29,16 +29,16 @@ returns-in_err-grid-2 g c =
     (record { bytes = took.0; consumed = took.1; few = took.2; clean = λ no_read. absurd no_read })
     c.in_err-grid-2.ensures.fault)
 
-pub returns-in_err-grid-3 : goal.returns-in_err-grid-3
-returns-in_err-grid-3 g c =
-    let p = err_from_is_err_and c.from_residual-in_err-grid-3.result c.from_residual-in_err-grid-3.ensures.1 in
+pub returns-in_err-made : goal.returns-in_err-made
+returns-in_err-made g c =
+    let p = err_from_is_err_and c.from_residual-in_err-made.result c.from_residual-in_err-made.ensures.1 in
     let took = c.in_ok-grid.ensures.taken in
     let w = c.args.options.now in
-    rw (p.1, p.2) (making_refused g.R.Read.remaining g.W.Write.contents w c.args.reader.now c.read_grid.new.reader c.args.writer.now c.in_ok-grid.grid c.in_err-grid-3.field-0.0
+    rw (p.1, p.2) (making_refused g.R.Read.remaining g.W.Write.contents w c.args.reader.now c.read_grid.new.reader c.args.writer.now c.in_ok-grid.grid c.in_err-made.field-0.0
     (λ text told. rw c.scale.ensures.value at (c.in_ok-grid.ensures.grid text told))
     (c.in_ok-grid.ensures.sound (λ bad. cc))
     (record { bytes = took.0; consumed = took.1; few = took.2; clean = λ no_read. absurd no_read })
-    (refusal_without w c.in_ok-grid.grid _ w.sinks (subst (λ (r : Raster). IsWorkRefusal w r c.in_err-grid-3.field-0.0) c.in_ok-grid-2.ensures.grid c.in_err-grid-3.ensures.fault)))
+    (refusal_without w c.in_ok-grid.grid _ w.sinks (subst (λ (r : Raster). IsWorkRefusal w r c.in_err-made.field-0.0) c.in_ok-grid-2.ensures.grid c.in_err-made.ensures.fault)))
 
 pub returns-in_err-write_map : goal.returns-in_err-write_map
 returns-in_err-write_map g c =
@@ -49,8 +49,8 @@ returns-in_err-write_map g c =
     (λ text told. rw c.scale.ensures.value at (c.in_ok-grid.ensures.grid text told))
     (c.in_ok-grid.ensures.sound (λ bad. cc))
     (record { bytes = took.0; consumed = took.1; few = took.2; clean = λ no_read. absurd no_read })
-    (subst (λ (r : Raster). wish_fault w r ≡ None) c.in_ok-grid-2.ensures.grid c.in_ok-grid-3.ensures.ready)
-    (subst (λ (r : Raster). IsMapText r w.map (made_text c.in_ok-grid-3.grid c.in_ok-grid-3.cells)) c.in_ok-grid-2.ensures.grid c.in_ok-grid-3.ensures.map) c.in_err-write_map.ensures)
+    (subst (λ (r : Raster). wish_fault w r ≡ None) c.in_ok-grid-2.ensures.grid c.in_ok-made.ensures.ready)
+    (subst (λ (r : Raster). IsMapText r w.map (made_text c.in_ok-made.made)) c.in_ok-grid-2.ensures.grid c.in_ok-made.ensures.map) c.in_err-write_map.ensures)
 
 pub returns : goal.returns
 returns g c =
@@ -60,4 +60,4 @@ returns g c =
     (λ text told. rw c.scale.ensures.value at (c.in_ok-grid.ensures.grid text told))
     (c.in_ok-grid.ensures.sound (λ bad. cc))
     (record { bytes = took.0; consumed = took.1; few = took.2; clean = λ no_read. absurd no_read })
-    (subst (λ (r : Raster). IsMapText r w.map (made_text c.in_ok-grid-3.grid c.in_ok-grid-3.cells)) c.in_ok-grid-2.ensures.grid c.in_ok-grid-3.ensures.map) c.in_ok-write_map.ensures
+    (subst (λ (r : Raster). IsMapText r w.map (made_text c.in_ok-made.made)) c.in_ok-grid-2.ensures.grid c.in_ok-made.ensures.map) c.in_ok-write_map.ensures
