@@ -103,6 +103,15 @@ fn count_passed(family: Family, line: u32, targets: &[Target]) -> usize
     count_before(targets, 0, targets.len(), line, first)
 }
 
+/// Whether a piece of a horizon is the ground of the line before this one. Where the ground was seen there, it mostly is
+/// here too.
+#[inline(always)]
+fn was_laid_before(piece: Piece, line: u32) -> bool
+    requires line { 0 < line }
+{
+    piece.ramp.lines == line - 1
+}
+
 /// Whether a line is too low to rise above a piece of a horizon, from a target on.
 #[inline(always)]
 fn is_too_low(
@@ -192,7 +201,7 @@ pub(crate) fn raise(
     raised.push(from, passed())?;
     while from < targets.len() {
         let piece = highest.piece(&mut cursor, from);
-        if is_too_low(cells, family, line, targets, from, piece) {
+        if !was_laid_before(piece, line) && is_too_low(cells, family, line, targets, from, piece) {
             raised.push(piece.end, piece.ramp)?;
         } else {
             raise_piece(cells, family, line, targets, highest, piece, raised)?;
