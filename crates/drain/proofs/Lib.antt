@@ -6,14 +6,14 @@ pub mod Quiet
 pub mod Few
 pub mod Nearby
 pub mod Counted
--- lists of the entries of a tile, and counts at sinks
-pub mod BegunSinks
+-- lists of the entries of a tile
 pub mod TileLists
 -- a round over a tile
 pub mod Spreading
 pub mod Noted
 pub mod Least
 pub mod Spots
+pub mod Begun
 pub mod TileRound
 -- a search within a tile, and rounds of such
 pub mod Kept

@@ -1,10 +1,35 @@
 -- Counts put in the place of greater ones, one change more at a time.
-use Rattle.std.proofs.Common.{ℕ, ◌⊎◌, inl, inr, List, Option, ◌∙◌, arith}
+use Rattle.std.proofs.Common.{◌≡◌, ℕ, ◌^◌, ◌<◌, ◌≤◌, ◌⊎◌, inl, inr, List, length, get_or, slice_set, Option, None, Some, unwrap_or, sym, ap, subst, refl, ◌∙◌, arith}
+use Rattle.std.proofs.lemmas.Bool.{cases_eq}
+use Rattle.std.proofs.lemmas.List.{get_or-set_same, get_or-set_other, length-set}
 use Rattle.terrain.specs.Neighbours.{index_of}
+use Rattle.drain.specs.Lowering.{count_of}
 use Rattle.drain.specs.Rounding.{ArePut}
 use Rattle.drain.specs.declared.changes.Change.{Change}
 
 module _ (cols : ℕ) where
+  -- one count that is less than the one in its place
+  pub put_one : (x : Change) (old : List (Option ℕ)) (count : Option ℕ) → count ≡ Some x.count → index_of cols x.place < length old → x.count < count_of old (index_of cols x.place) →
+      ArePut cols old (slice_set old (index_of cols x.place) count) (λ y. y ≡ x)
+  put_one x old count is inside less = record {
+    size = length-set old (index_of cols x.place) count;
+    low = λ k. elim (cases_eq k (index_of cols x.place)) [
+      | inl e ↦ (let here = ap (λ (n : ℕ). count_of (slice_set old (index_of cols x.place) count) n) e ∙ at in omega (arith, here, less, ap (λ (n : ℕ). count_of old n) e))
+      | inr ne ↦ (let same = ap (λ (o : Option ℕ). unwrap_or o (2 ^ 24)) (get_or-set_other old (index_of cols x.place) k count None ne) in omega (arith, same))
+    ];
+    done = λ y e. subst (λ (z : Change). count_of (slice_set old (index_of cols x.place) count) (index_of cols z.place) ≤ z.count) (sym e) (omega (arith, at));
+    told = λ k. elim (cases_eq k (index_of cols x.place)) [
+      | inl e ↦ inr (x, refl, sym e, subst (λ (n : ℕ). get_or (slice_set old (index_of cols x.place) count) n None ≡ Some x.count) (sym e) (put ∙ is))
+      | inr ne ↦ inl (get_or-set_other old (index_of cols x.place) k count None ne)
+    ];
+  }
+    where
+      put : get_or (slice_set old (index_of cols x.place) count) (index_of cols x.place) None ≡ count
+      put = get_or-set_same old (index_of cols x.place) count None inside
+
+      at : count_of (slice_set old (index_of cols x.place) count) (index_of cols x.place) ≡ x.count
+      at = ap (λ (o : Option ℕ). unwrap_or o (2 ^ 24)) (put ∙ is)
+
   -- some after others
   pub put_then : (First Next Given : Change → Type 0) (old mid new : List (Option ℕ)) → ((x : Change) → Given x → First x ⊎ Next x) → ((x : Change) → First x → Given x) → ((x : Change) → Next x → Given x) →
       ArePut cols old mid First → ArePut cols mid new Next → ArePut cols old new Given

@@ -9,7 +9,8 @@ use Rattle.terrain.specs.Neighbours.{entry_at, index_of}
 use Rattle.terrain.specs.declared.place.Place.{Place}
 use Rattle.tiles.specs.declared.bounds.Bounds.{Bounds}
 use Rattle.tiles.specs.Cutting.{Cutting, View, AreBounds, bounds_of, is_within, is_shown, cell_shown, row_shown}
-use Rattle.drain.specs.Window.{IsInner, IsHandedOut, known, count_on, spot_index, area_of, IsSpot, Shows, IsShown, AreShownBelow, AreShown}
+use Rattle.drainage.specs.StepCounts.{known}
+use Rattle.drain.specs.Window.{IsInner, IsHandedOut, count_on, spot_index, area_of, IsSpot, Shows, IsShown, AreMadeSpots, AreShownBelow, AreShown}
 use Rattle.tile_maps.specs.Maps.{AreMadeBelow}
 use Rattle.drain.proofs.Spreading.{spot_below}
 use Rattle.tile_maps.proofs.TileLists.{made_next}
@@ -54,19 +55,23 @@ shown_at {X = X} v b s o x e spot row col is value = (
 )
 
 -- one spot more
-pub shown_push : {X : Type 0} (cols rows : ℕ) (entries : List (Option X)) (b : Bounds) (s : Place) (shown : List (Option X)) (x : Option X) → IsSpot b s →
-    AreShownBelow cols rows entries b (spot_index b s) shown → IsShown cols rows entries b s x → AreShownBelow cols rows entries b (spot_index b s + 1) (shown ++ x ∷ [])
-shown_push {X = X} cols rows entries b s shown x spot before here = record {
-  size = length_push shown x ∙ ap (λ n. n + 1) before.size;
+pub made_push : {X : Type 0} (Has : Place → X → Type 0) (b : Bounds) (s : Place) (lack : X) (list : List X) (x : X) → IsSpot b s →
+    AreMadeSpots Has b (spot_index b s) lack list → Has s x → AreMadeSpots Has b (spot_index b s + 1) lack (list ++ x ∷ [])
+made_push {X = X} Has b s lack list x spot before here = record {
+  size = length_push list x ∙ ap (λ n. n + 1) before.size;
   each = λ r inside below. elim (cases_eq (spot_index b r) (spot_index b s)) [
     | inl e ↦ (let one : s ≡ r = index_injective (b.cols + 2) s r spot.1 inside.1 (sym e) in
-        subst (λ (q : Place). IsShown cols rows entries b q (get_or (shown ++ x ∷ []) (spot_index b q) None)) one
-        (subst (λ (o : Option X). IsShown cols rows entries b s o) (sym (get_or_push shown x None (spot_index b s) before.size)) here))
+        subst (λ (q : Place). Has q (get_or (list ++ x ∷ []) (spot_index b q) lack)) one
+        (subst (λ (o : X). Has s o) (sym (get_or_push list x lack (spot_index b s) before.size)) here))
     | inr ne ↦ (let lower : spot_index b r < spot_index b s = omega arith in
-        subst (λ (o : Option X). IsShown cols rows entries b r o) (sym (get_or_append_left shown (x ∷ []) None (spot_index b r) (omega (arith, before.size))))
+        subst (λ (o : X). Has r o) (sym (get_or_append_left list (x ∷ []) lack (spot_index b r) (omega (arith, before.size))))
         (before.each r inside lower))
   ];
 }
+
+pub shown_push : {X : Type 0} (cols rows : ℕ) (entries : List (Option X)) (b : Bounds) (s : Place) (shown : List (Option X)) (x : Option X) → IsSpot b s →
+    AreShownBelow cols rows entries b (spot_index b s) shown → IsShown cols rows entries b s x → AreShownBelow cols rows entries b (spot_index b s + 1) (shown ++ x ∷ [])
+shown_push {X = X} cols rows entries b s shown x spot before here = made_push (IsShown cols rows entries b) b s None shown x spot before here
 
 -- the row of a place in row order
 row_is : (width row : ℕ) (s : Place) → s.col < width → row * width ≤ index_of width s → index_of width s < row * width + width → s.row ≡ row

@@ -1,4 +1,4 @@
--- The lists of a tile that the first map and the last make, one entry more at a time.
+-- The lists of a tile that the map of codes is made of, one entry more at a time.
 use Rattle.std.proofs.Common.{ℕ, ◌+◌, ◌*◌, ◌<◌, List, ◌∷◌, ◌++◌, [], Option, ◌∙◌, arith}
 use Rattle.terrain.specs.Raster.{Terrain}
 use Rattle.terrain.proofs.Places.{make_place}
@@ -7,13 +7,8 @@ use Rattle.tiles.specs.Cutting.{Cutting, IsCutting, Cuts, AreBounds}
 use Rattle.tile_maps.specs.Maps.{AreMadeBelow, IsMadeMap}
 use Rattle.tile_maps.proofs.TileLists.{made_next}
 use Rattle.tile_maps.proofs.Whole.{map_of_size}
-use Rattle.drain.specs.Beginning.{DrainsAnyway, IsBegun, IsBegunAtSinks, AreBegun, IsPartOf}
+use Rattle.drain.specs.Beginning.{IsPartOf}
 use Rattle.drain.specs.Directions.{IsCodeAt, AreDirections}
-use Rattle.drain.proofs.BegunSinks.{begun_with}
-
-pub begun_next : (t : Terrain) (b : Bounds) (row col : ℕ) (list : List (Option ℕ)) (x : Option ℕ) → row < b.rows → col < b.cols →
-    AreMadeBelow b (IsBegun (DrainsAnyway t)) (row * b.cols + col) list → IsBegun (DrainsAnyway t) (make_place (b.top + row) (b.left + col)) x → AreMadeBelow b (IsBegun (DrainsAnyway t)) (row * b.cols + (col + 1)) (list ++ x ∷ [])
-begun_next t b = made_next b (IsBegun (DrainsAnyway t))
 
 pub coded_next : (t : Terrain) (b : Bounds) (row col : ℕ) (list : List (Option ℕ)) (x : Option ℕ) → row < b.rows → col < b.cols →
     AreMadeBelow b (IsCodeAt t) (row * b.cols + col) list → IsCodeAt t (make_place (b.top + row) (b.left + col)) x → AreMadeBelow b (IsCodeAt t) (row * b.cols + (col + 1)) (list ++ x ∷ [])
@@ -28,11 +23,6 @@ part_of t c b lawful cuts fits = record {
   cols = omega (arith, cuts.0, fits.cols_inside);
 }
 
--- the maps that the tiles' lists are put back to, by places of the terrain
-pub begun_map : (t : Terrain) (c : Cutting) (counts new : List (Option ℕ)) → Cuts c t → IsMadeMap c (IsBegun (DrainsAnyway t)) counts → IsBegunAtSinks t counts new → AreBegun t new
-begun_map t c counts new cuts made put =
-    let all = map_of_size c t.cols t.rows (IsBegun (DrainsAnyway t)) counts cuts.0 cuts.1 made in
-    record { size = put.size ∙ all.0; each = λ p inside. begun_with t p _ _ (all.1 p inside) (put.zero p) (put.kept p) }
-
+-- the map that the tiles' lists are put back to, by places of the terrain
 pub coded_map : (t : Terrain) (c : Cutting) (codes : List (Option ℕ)) → Cuts c t → IsMadeMap c (IsCodeAt t) codes → AreDirections t codes
 coded_map t c codes cuts made = let all = map_of_size c t.cols t.rows (IsCodeAt t) codes cuts.0 cuts.1 made in record { size = all.0; each = all.1 }

@@ -13,7 +13,9 @@ use Rattle.tiles.proofs.Cut.{in_bounds}
 use Rattle.drain.specs.Rounds.{IsLent, IsWalked, AreWalked, IsOneAbove, IsRound}
 use Rattle.tile_maps.specs.Maps.{AreMadeBelow, IsMadeTile}
 use Rattle.tile_maps.proofs.TileLists.{made_tile}
-use Rattle.drain.specs.Window.{no_count, AreCounts, spot_index, area_of, IsSpot, IsInner, Shows, IsShown, AreShown, level_on, count_on, IsSpread, same, moved, IsSettled, known, known_counts, IsHandedOut, AreLent}
+use Rattle.drainage.specs.StepCounts.{known, no_count}
+use Rattle.drainage.specs.ToldCounts.{known-some, known-none}
+use Rattle.drain.specs.Window.{AreCounts, spot_index, area_of, IsSpot, IsInner, Shows, IsShown, AreShown, level_on, count_on, IsSpread, same, moved, IsSettled, known_counts, IsHandedOut, AreLent}
 use Rattle.drain.proofs.Spreading.{spot_below, spread_not_above, spread_counts, spread-length, spot_from_inner}
 use Rattle.drain.proofs.Counted.{height_is}
 use Rattle.drain.proofs.Unique.{at_place}
@@ -137,19 +139,16 @@ touching_spots b p q s r f g t = record {
   col_left = omega (arith, f.1, g.1, t.col_right);
 }
 
-known-some : (n : ℕ) → n < no_count → known n ≡ Some n
-known-some n less = cond-true _ _ _ (lt-ltb _ _ less)
-
 known_is : (n m : ℕ) → known n ≡ Some m → n ≡ m
 known_is n m e = elim (cases_lt n no_count) [
   | inl less ↦ same_Some n m (sym (known-some n less) ∙ e)
-  | inr more ↦ absurd (none-some m (sym (cond-false _ _ _ (le-ltb _ _ more)) ∙ e))
+  | inr more ↦ absurd (none-some m (sym (known-none n more) ∙ e))
 ]
 
 known-if : (n : ℕ) (P : ℕ → Type 0) → (n < no_count → P n) → IfSome (known n) P
 known-if n P h = elim (cases_lt n no_count) [
   | inl less ↦ subst (λ (o : Option ℕ). IfSome o P) (sym (known-some n less)) (h less)
-  | inr more ↦ subst (λ (o : Option ℕ). IfSome o P) (sym (cond-false _ _ _ (le-ltb _ _ more))) tt
+  | inr more ↦ subst (λ (o : Option ℕ). IfSome o P) (sym (known-none n more)) tt
 ]
 
 count_small : (t : Terrain) (b : Bounds) (s : Place) (steps : List (Option ℕ)) (o : Option ℕ) → IsShown t.cols t.rows steps b s o → AreWalked (IsLent t steps) t steps → unwrap_or o no_count ≤ no_count

@@ -1,12 +1,14 @@
 -- The counts that the rounds begin with.
 use Rattle.std.specs.Prelude.{◌≡◌, ◌⊎◌, ◌≤◌, ◌<◌, ℕ, ◌+◌, ◌-◌, ◌*◌, ℤ, ◌<ℤ◌, List, length, Option, None, Some}
-use Rattle.terrain.specs.Neighbours.{IsInside, entry_at, IsEdge, IsSink}
+use Rattle.terrain.specs.Neighbours.{IsInside, entry_at, IsEdge}
 use Rattle.terrain.specs.Raster.{Terrain}
 use Rattle.terrain.specs.declared.place.Place.{Place}
 use Rattle.tiles.specs.declared.bounds.Bounds.{Bounds}
 use Rattle.tiles.specs.Cutting.{Cutting, IsInTile, longest_axis, tile_count, tile_entry}
 use Rattle.drain.specs.Steps.{HasLower, DrainsAtOnce}
 use Rattle.drain.specs.Rounds.{IsRound}
+use Rattle.drain.specs.Window.{AreMadeSpots, IsOff, Shows, area_of}
+use Rattle.drainage.specs.StepCounts.{known, no_count}
 
 -- The cell has no data or is lower.
 abbrev pub IsGapOrLower : ℤ → Option ℤ → Type 0
@@ -27,11 +29,13 @@ pub record AreBegun (t : Terrain) (counts : List (Option ℕ)) : Type 0 where
   pub size : length counts ≡ t.cols * t.rows
   pub each : (p : Place) → IsInside t p → IsBegun (DrainsAtOnce t) p (entry_at t.cols t.rows counts p)
 
--- The named sinks have the count 0, and the others what they had.
-pub record IsBegunAtSinks (t : Terrain) (old new : List (Option ℕ)) : Type 0 where
-  pub size : length new ≡ length old
-  pub zero : (p : Place) → IsSink t p → entry_at t.cols t.rows new p ≡ Some 0
-  pub kept : (p : Place) → IsSink t p ⊎ (entry_at t.cols t.rows new p ≡ entry_at t.cols t.rows old p)
+-- The number at a spot is the count of the place that it shows, and off the grid there is none.
+abbrev pub IsBegunSpot : (Place → Type 0) → Bounds → Place → ℕ → Type 0
+IsBegunSpot Drains b s count = (count ≤ no_count) × ((p : Place) → Shows b s p → IsBegun Drains p (known count)) × (IsOff b s → known count ≡ None)
+
+-- The numbers at the spots of a tile and the places around it.
+abbrev pub AreBegunSpots : (Place → Type 0) → Bounds → List ℕ → Type 0
+AreBegunSpots Drains b counts = AreMadeSpots (IsBegunSpot Drains b) b (area_of b) 0 counts
 
 -- Each cell that drains at once has the count 0.
 abbrev pub HasZeros : Terrain → List (Option ℕ) → Type 0

@@ -14,17 +14,6 @@ use Rattle.drain.specs.declared.changes.Entry.{Entry}
 use Rattle.drain.specs.declared.changes.Run.{Run}
 use Rattle.drain.specs.declared.rounds.Counting.{Counting}
 
--- What the jobs of the first round work on: filled heights and the counts to begin with.
-pub record Beginning : Type 0 where
-  pub cutting : Cutting
-  pub levels : List (Option ℤ)
-  pub steps : List (Option ℕ)
-
-pub record IsBeginning (b : Beginning) : Type 0 where
-  pub cutting : IsCutting b.cutting
-  pub size : length b.levels ≡ b.cutting.cols * b.cutting.rows
-  pub counting : AreCounting (lent_terrain b.cutting b.levels) b.steps
-
 -- Counts on their way, and what comes over the rims of tiles, in the order of the tiles.
 pub record Rounding : Type 0 where
   pub cutting : Cutting

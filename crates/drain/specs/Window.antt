@@ -1,13 +1,11 @@
 -- A tile with the places around it, one row and one column more on each side: what the search for steps
 -- works on. A spot of it is a place counted from the row and the column before the tile's first.
-use Rattle.std.specs.Prelude.{◌≡◌, ◌≢◌, ℕ, ◌+◌, ◌*◌, ◌^◌, ◌<◌, ◌≤◌, ◌⊎◌, ℤ, List, All, map, sum, length, Option, None, Some, nat_lt, if◌then◌else◌, slice_get, slice_index_or, slice_set, unwrap_or}
+use Rattle.std.specs.Prelude.{◌≡◌, ◌≢◌, ℕ, ◌+◌, ◌*◌, ◌<◌, ◌≤◌, ◌⊎◌, ℤ, List, All, map, sum, length, Option, None, Some, slice_get, slice_index_or, slice_set, unwrap_or}
 use Rattle.terrain.specs.Neighbours.{entry_at, index_of, Touches}
 use Rattle.terrain.specs.declared.place.Place.{Place}
 use Rattle.tiles.specs.declared.bounds.Bounds.{Bounds}
-
--- the count where none is known: greater than every number of steps
-abbrev pub no_count : ℕ
-no_count = 2 ^ 24
+use Rattle.tile_maps.specs.Maps.{AreMadeBelow}
+use Rattle.drainage.specs.StepCounts.{known, no_count}
 
 abbrev pub area_of : Bounds → ℕ
 area_of b = (b.cols + 2) * (b.rows + 2)
@@ -103,18 +101,18 @@ pub record IsEven (b : Bounds) (levels : List (Option ℤ)) (counts : List ℕ) 
 abbrev pub AreShown : {X : Type 0} → ℕ → ℕ → List (Option X) → Bounds → List (Option X) → Type 0
 AreShown cols rows entries b shown = (s : Place) → IsSpot b s → IsShown cols rows entries b s (slice_index_or shown (spot_index b s) None)
 
+-- The list has something for each spot that stands before a place in row order, and nothing more.
+pub record AreMadeSpots {X : Type 0} (Has : Place → X → Type 0) (b : Bounds) (end : ℕ) (lack : X) (list : List X) : Type 0 where
+  pub size : length list ≡ end
+  pub each : (s : Place) → IsSpot b s → spot_index b s < end → Has s (slice_index_or list (spot_index b s) lack)
+
 -- The list has what each spot shows that stands before a place in row order, and nothing more.
-pub record AreShownBelow {X : Type 0} (cols rows : ℕ) (entries : List (Option X)) (b : Bounds) (end : ℕ) (shown : List (Option X)) : Type 0 where
-  pub size : length shown ≡ end
-  pub each : (s : Place) → IsSpot b s → spot_index b s < end → IsShown cols rows entries b s (slice_index_or shown (spot_index b s) None)
+abbrev pub AreShownBelow : {X : Type 0} → ℕ → ℕ → List (Option X) → Bounds → ℕ → List (Option X) → Type 0
+AreShownBelow cols rows entries b end shown = AreMadeSpots (IsShown cols rows entries b) b end None shown
 
 -- The counts as numbers.
 abbrev pub known_counts : List (Option ℕ) → List ℕ
 known_counts shown = map (λ o. unwrap_or o no_count) shown
-
--- A count as it is handed out.
-abbrev pub known : ℕ → Option ℕ
-known n = if nat_lt n no_count then Some n else None
 
 -- What is handed out at a place: the count of the spot that shows it, where it is known.
 abbrev pub IsHandedOut : Bounds → List ℕ → Place → Option ℕ → Type 0
@@ -126,6 +124,10 @@ pub record IsSettled (b : Bounds) (levels : List (Option ℤ)) (old new : List �
   pub spread : IsSpread b levels old new
   pub near : (s : Place) → IsInner b s → IsNear b levels old new s
   pub even : IsEven b levels new
+
+-- What a round leaves of a tile, of the counts of the tile and the places around it.
+abbrev pub IsRoundOf : Bounds → List (Option ℤ) → List ℕ → List (Option ℕ) → Type 0
+IsRoundOf b levels old list = (new : List ℕ) × IsSettled b levels old new × AreMadeBelow b (IsHandedOut b new) (b.rows * b.cols) list
 
 -- The counts are those that the spots show, as numbers.
 pub record AreLent (cols rows : ℕ) (entries : List (Option ℕ)) (b : Bounds) (counts : List ℕ) : Type 0 where

@@ -12,7 +12,7 @@ ghost use Rattle.drain.specs.Steps.{AreSteps};
 ghost use Rattle.drain.specs.declared.around.Around.{Around};
 
 use crate::steepness::steepest;
-use drainage::Code;
+use drainage::{Code, StepCount};
 use terrain::{Grid, Height, Place};
 
 /// Where the eight cells around one stand, in the order of the codes.
@@ -79,7 +79,7 @@ fn leads_on(level: Height, own: u32, height: Option<Height>, steps: Option<u32>)
 #[inline(always)]
 fn onward(
     cells: &[Option<Height>],
-    steps: &[Option<u32>],
+    steps: &[StepCount],
     at: &[usize; 8],
     level: Height,
     own: u32,
@@ -92,7 +92,7 @@ fn onward(
 {
     for way in 0..8 {
         let index = at[way];
-        if leads_on(level, own, cells[index], steps[index]) {
+        if leads_on(level, own, cells[index], steps[index].known()) {
             return way;
         }
     }
@@ -104,7 +104,7 @@ fn onward(
 #[tactic(auto, using(terrain::proofs::Heights::height_in, crate::proofs::AmidLemmas::heights_fit))]
 pub(crate) fn code_amid(
     grid: &Grid,
-    steps: &[Option<u32>],
+    steps: &[StepCount],
     place: Place,
     level: Height,
     own: u32,

@@ -1,11 +1,15 @@
-// The counts that the rounds begin with: 0 at each cell that drains at once, named sinks last.
-ghost use Rattle.std.specs.Prelude.{◌≡◌, ℕ, ◌+◌, ◌*◌, ◌<◌, ◌≤◌, ◌↔◌, Some, None, length, vec_len, IsTrue, OnOk, IfOk, slice_index_or};
+// The counts that the first round begins with: 0 at each cell that drains at once, named sinks last.
+ghost use Rattle.std.specs.Prelude.{◌≡◌, ℕ, ◌+◌, ◌*◌, ◌<◌, ◌≤◌, ◌↔◌, Some, MatchOption, None, length, IsTrue, OnOk, IfOk, slice_index_or};
 ghost use Rattle.std.specs.Bool.{MatchBool};
 ghost use Rattle.terrain.specs.Neighbours.{IsInside, height_at};
-ghost use Rattle.drain.specs.Beginning.{DrainsAnyway, IsGapOrLower, IsOutermost, IsBegun, IsBegunAtSinks, IsPartOf};
-ghost use Rattle.tile_maps.specs.Maps.{AreMadeBelow};
+ghost use Rattle.drainage.specs.StepCounts.{known, no_count};
+ghost use Rattle.drain.specs.Beginning.{DrainsAnyway, IsGapOrLower, IsOutermost, IsBegun, IsBegunSpot, AreBegunSpots, IsPartOf};
+ghost use Rattle.drain.specs.Steps.{DrainsAtOnce};
+ghost use Rattle.drain.specs.Window.{AreMadeSpots, IsSpot, Shows, spot_index};
+ghost use Rattle.terrain.specs.declared.place.Place.{Place};
 
 use crate::amid::cells_around;
+use drainage::NO_COUNT;
 use std::alloc::{AllocError, Global};
 use terrain::{Grid, Height, Place};
 use tiles::Bounds;
@@ -65,65 +69,113 @@ fn drains_anyway(grid: &Grid, place: Place, level: Height) -> bool
 
 /// The count of a cell: 0 where it drains, whichever sinks are named, and none elsewhere.
 #[inline(always)]
-fn begin_at(grid: &Grid, place: Place) -> Option<u32>
+fn begin_at(grid: &Grid, place: Place) -> u32
     requires { IsInside grid.now.terrain place }
-    ensures { IsBegun (DrainsAnyway grid.now.terrain) place result }
+    ensures begun { IsBegun (DrainsAnyway grid.now.terrain) place (known result) }
+    ensures few { result ≤ no_count }
 {
     match grid.at(place) {
-        Some(level) if drains_anyway(grid, place, level) => Some(0),
-        _ => None,
+        Some(level) if drains_anyway(grid, place, level) => 0,
+        _ => NO_COUNT,
     }
 }
 
-/// Begins the counts of one row of a tile.
-#[tactic(auto, using(crate::proofs::TileLists::begun_next))]
+/// The count at a spot of the window of a tile, none off the grid.
+#[inline(always)]
+fn begin_spot(grid: &Grid, bounds: Bounds, spot: Place) -> u32
+    requires inside { IsPartOf grid.now.terrain bounds }
+    requires spot { IsSpot bounds spot }
+    ensures { IsBegunSpot (DrainsAnyway grid.now.terrain) bounds spot result }
+{
+    let row = bounds.top + spot.row;
+    let col = bounds.left + spot.col;
+    if row == 0 || col == 0 || row > grid.rows() || col > grid.cols() {
+        return NO_COUNT;
+    }
+    let place = Place {
+        row: row - 1,
+        col: col - 1,
+    };
+    begin_at(grid, place)
+}
+
+/// Begins the counts of one row of spots.
 fn begin_along(
     grid: &Grid,
     bounds: Bounds,
     row: u32,
-    counts: &mut Vec<Option<u32>>,
+    counts: &mut Vec<u32>,
 ) -> Result<(), AllocError>
     requires inside { IsPartOf grid.now.terrain bounds }
-    requires row { row < bounds.rows }
-    requires counts { AreMadeBelow bounds (IsBegun (DrainsAnyway grid.now.terrain)) (row * bounds.cols) counts.old.items }
-    ensures { OnOk result (AreMadeBelow bounds (IsBegun (DrainsAnyway grid.now.terrain)) ((row + 1) * bounds.cols) counts.new.items) }
+    requires row { row < bounds.rows + 2 }
+    requires counts { AreMadeSpots (IsBegunSpot (DrainsAnyway grid.now.terrain) bounds) bounds (row * (bounds.cols + 2)) 0 counts.old.items }
+    ensures { OnOk result (AreMadeSpots (IsBegunSpot (DrainsAnyway grid.now.terrain) bounds) bounds ((row + 1) * (bounds.cols + 2)) 0 counts.new.items) }
 {
-    for col in 0..bounds.cols {
-        let place = Place {
-            row: bounds.top + row,
-            col: bounds.left + col,
-        };
-        counts.push(begin_at(grid, place))?;
+    for col in 0..bounds.cols + 2 {
+        counts.push(begin_spot(grid, bounds, Place { row, col }))?;
     }
     Ok(())
 }
 
-/// The counts of a tile that the rounds begin with, in its row order.
-pub(crate) fn begin_tile(
+/// Where the spot of a place stands among those of a tile and the places around it.
+fn spot_of(bounds: Bounds, place: Place) -> Option<usize>
+    requires { (bounds.top + bounds.rows ≤ 4096) × (bounds.left + bounds.cols ≤ 4096) }
+    ensures { MatchOption result ((s : Place) → IsSpot bounds s → Shows bounds s place → ⊥)
+        (λ index. (s : Place) × IsSpot bounds s × Shows bounds s place × (index ≡ spot_index bounds s)) }
+{
+    let Bounds {
+        top,
+        left,
+        rows,
+        cols,
+    } = bounds;
+    if place.row > top + rows || place.col > left + cols {
+        return None;
+    }
+    let row = place.row + 1;
+    let col = place.col + 1;
+    if row < top || col < left {
+        return None;
+    }
+    let spot = Place {
+        row: row - top,
+        col: col - left,
+    };
+    Some(spot.index_in(cols + 2))
+}
+
+/// Puts the count 0 at the spot of each named sink that has data.
+fn begin_at_sinks(grid: &Grid, bounds: Bounds, counts: &mut [u32])
+    requires inside { IsPartOf grid.now.terrain bounds }
+    requires counts { AreBegunSpots (DrainsAnyway grid.now.terrain) bounds counts.old }
+    ensures { AreBegunSpots (DrainsAtOnce grid.now.terrain) bounds counts.new }
+{
+    for sink in grid.sinks() {
+        let Some(index) = spot_of(bounds, *sink) else {
+            continue;
+        };
+        if grid.at(*sink).is_some() {
+            counts[index] = 0;
+        }
+    }
+}
+
+/// The counts of a tile and the places around it that the first round begins with.
+pub(crate) fn begun_counts(
     alloc: Global,
     grid: &Grid,
     bounds: Bounds,
-) -> Result<Vec<Option<u32>>, AllocError>
+) -> Result<Vec<u32>, AllocError>
     requires inside { IsPartOf grid.now.terrain bounds }
-    ensures { IfOk result (λ counts. AreMadeBelow bounds (IsBegun (DrainsAnyway grid.now.terrain)) (bounds.rows * bounds.cols) counts.items) }
+    ensures { IfOk result (λ counts. AreBegunSpots (DrainsAtOnce grid.now.terrain) bounds counts.items) }
 {
-    let mut counts = Vec::with_capacity(alloc, bounds.rows as usize * bounds.cols as usize)?;
-    for row in 0..bounds.rows {
+    let mut counts = Vec::with_capacity(
+        alloc,
+        (bounds.rows as usize + 2) * (bounds.cols as usize + 2),
+    )?;
+    for row in 0..bounds.rows + 2 {
         begin_along(grid, bounds, row, &mut counts)?;
     }
+    begin_at_sinks(grid, bounds, &mut counts);
     Ok(counts)
-}
-
-/// Puts the count 0 at each named sink that has data.
-pub(crate) fn begin_at_sinks(grid: &Grid, counts: &mut [Option<u32>])
-    requires { length counts.old ≡ grid.now.terrain.cols * grid.now.terrain.rows }
-    ensures { IsBegunAtSinks grid.now.terrain counts.old counts.new }
-{
-    for sink in grid.sinks() {
-        if grid.at(*sink).is_none() {
-            continue;
-        }
-        let index = sink.index_in(grid.cols());
-        counts[index] = Some(0);
-    }
 }

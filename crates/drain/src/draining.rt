@@ -1,20 +1,22 @@
 // Steps and directions of a filled grid, by tiles and workers.
-ghost use Rattle.std.specs.Prelude.{◌≡◌, [], IfOk, OnOk};
+ghost use Rattle.std.specs.Prelude.{◌≡◌, [], IfOk, OnOk, length};
 ghost use Rattle.terrain.specs.Raster.{Terrain, IsTerrain};
 ghost use Rattle.terrain.specs.Sinks.{with_sinks};
 ghost use Rattle.tiles.specs.Cutting.{Cuts, terrain_of};
 ghost use Rattle.tile_jobs.specs.Fault.{RefusesWorkers};
 ghost use Rattle.drain.specs.Beginning.{HasZeros};
-ghost use Rattle.drain.specs.Rounds.{AreWalked, IsLent, IsRound};
+ghost use Rattle.drain.specs.Rounds.{AreWalked, IsRound};
+ghost use Rattle.drain.specs.Window.{AreCounts, area_of, IsRoundOf};
 ghost use Rattle.drain.specs.Steps.{AreSteps, DrainsAtOnce};
 ghost use Rattle.drain.specs.Directions.{AreDirections};
 ghost use Rattle.drainage.specs.Drained.{AllFlowEnds, directed_of};
 
-use crate::beginning::begin_at_sinks;
+use crate::first::first_round;
 use crate::rounds::settle;
-use crate::stages::{Beginning, Codes};
+use crate::stages::Codes;
+use crate::window::Ground;
 use crate::{looking, window};
-use drainage::{Directions, Filled};
+use drainage::{Directions, Filled, StepCount};
 use std::alloc::{AllocError, Global};
 use std::sync::Wait;
 use std::thread::Threads;
@@ -23,23 +25,18 @@ use tile_jobs::{Gate, JobFault};
 use tile_maps::{Crew, joined};
 use tiles::{TileView, Tiling};
 
-/// One round over one tile, as far as it can go.
-#[tactic(auto, using(crate::proofs::TileRound::lent_to, crate::proofs::TileRound::lent_small, crate::proofs::TileRound::lent_size))]
+/// One round over one tile, as far as it can go, from the counts of the tile and the places around it.
 pub(crate) fn round(
     alloc: Global,
-    levels: &TileView<'_, Option<Height>>,
-    steps: &TileView<'_, Option<u32>>,
-) -> Result<Vec<Option<u32>>, AllocError>
-    requires cutting { steps.now.cutting ≡ levels.now.cutting }
-    requires tile { steps.now.tile ≡ levels.now.tile }
-    requires walked { AreWalked (IsLent (terrain_of levels.now) steps.now.cells) (terrain_of levels.now) steps.now.cells }
-    ensures { IfOk result (λ v. IsRound (IsLent (terrain_of levels.now) steps.now.cells) (terrain_of levels.now)
-        levels.now.cutting levels.now.tile steps.now.cells v.items) }
+    ground: &Ground,
+    old: &[u32],
+) -> Result<Vec<StepCount>, AllocError>
+    requires size { length old.now ≡ area_of ground.now.bounds }
+    requires counts { AreCounts old.now }
+    ensures { IfOk result (λ v. IsRoundOf ground.now.bounds ground.now.levels.items old.now v.items) }
 {
-    let ground = looking::ground(alloc, levels)?;
-    let old = looking::counts(alloc, steps)?;
-    let counts = window::settled(alloc, &ground, &old)?;
-    let list = looking::hand_out(alloc, &ground, &counts)?;
+    let counts = window::settled(alloc, ground, old)?;
+    let list = looking::hand_out(alloc, ground, &counts)?;
     Ok(list)
 }
 
@@ -59,8 +56,10 @@ pub fn flat_steps(
     requires walked { AreWalked (DrainsAtOnce terrain) terrain steps.now.cells }
     ensures { IfOk result (λ v. IsRound (DrainsAtOnce terrain) terrain levels.now.cutting levels.now.tile steps.now.cells v.items) }
 {
-    let counts = round(alloc, levels, steps)?;
-    Ok(counts)
+    let ground = looking::ground(alloc, levels)?;
+    let old = looking::counts(alloc, steps)?;
+    let counts = round(alloc, &ground, &old)?;
+    Ok(looking::told(alloc, &counts)?)
 }
 
 /// The steps of each cell of a filled grid, which is within the limits.
@@ -68,17 +67,15 @@ fn counted<R: Threads + Wait + Sync, G: Gate + Sync>(
     crew: &Crew<'_, R, G>,
     filled: &Filled,
     tiling: &Tiling,
-) -> Result<Vec<Option<u32>>, JobFault>
+) -> Result<Vec<StepCount>, JobFault>
     requires { Cuts tiling.now filled.now.terrain }
     ensures steps { IfOk result (λ s. AreSteps filled.now.terrain s.items) }
     ensures lawful { OnOk result (IsTerrain filled.now.terrain) }
     ensures workers { RefusesWorkers crew.now.workers result }
 {
     let grid = filled.grid();
-    let cells = grid.cells();
-    let mut begun = crew.made(Beginning { grid, tiling })?;
-    begin_at_sinks(grid, &mut begun);
-    let steps = settle(crew, tiling, cells, begun)?;
+    let first = first_round(crew, grid, tiling)?;
+    let steps = settle(crew, tiling, grid.cells(), first)?;
     Ok(steps)
 }
 

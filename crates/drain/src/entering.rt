@@ -9,7 +9,7 @@ ghost use Rattle.drain.specs.Lowering.{IsAmong, count_of};
 ghost use Rattle.drain.specs.Entering.{lent_terrain, AreNoted, IsAmid};
 
 use crate::changes::{Change, Entry};
-use crate::looking::NO_COUNT;
+use drainage::StepCount;
 use std::alloc::AllocError;
 use terrain::{Height, Place};
 use tiles::{Bounds, Tiling};
@@ -19,7 +19,7 @@ use tiles::{Bounds, Tiling};
 pub(crate) struct Lent<'a> {
     pub(crate) tiling: &'a Tiling,
     pub(crate) levels: &'a [Option<Height>],
-    pub(crate) steps: &'a [Option<u32>],
+    pub(crate) steps: &'a [StepCount],
     ghost lawful: { IsCutting tiling.now },
     ghost levels_size: { length levels.now ≡ tiling.now.cols * tiling.now.rows },
     ghost steps_size: { length steps.now ≡ tiling.now.cols * tiling.now.rows },
@@ -53,7 +53,7 @@ impl<'a> Lent<'a> {
         requires { index < self.now.tiling.now.cols * self.now.tiling.now.rows }
         ensures { result ≡ count_of self.now.steps.now index }
     {
-        self.steps[index].unwrap_or(NO_COUNT)
+        self.steps[index].number()
     }
 
     /// Notes a cell that touches another, if it would get less by that one's count.

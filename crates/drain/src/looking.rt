@@ -1,17 +1,15 @@
 // A tile and the places around it, taken out of the lists of the whole grid, and put back.
-ghost use Rattle.std.specs.Prelude.{◌≡◌, ℕ, ◌+◌, ◌-◌, ◌*◌, ◌^◌, ◌<◌, ◌≤◌, length, None, OnOk, IfOk, slice_index_or};
+ghost use Rattle.std.specs.Prelude.{◌≡◌, ℕ, ◌+◌, ◌-◌, ◌*◌, ◌^◌, ◌<◌, ◌≤◌, length, map, None, OnOk, IfOk, slice_index_or};
 ghost use Rattle.terrain.specs.declared.place.Place.{Place};
 ghost use Rattle.tiles.specs.Cutting.{IsCutting, AreBounds, bounds_of, terrain_of};
-ghost use Rattle.drain.specs.Window.{area_of, spot_index, IsSpot, IsShown, AreShown, AreShownBelow, AreLent, known, IsHandedOut};
+ghost use Rattle.drain.specs.Window.{area_of, spot_index, IsSpot, IsShown, AreShown, AreShownBelow, AreLent, IsHandedOut};
 ghost use Rattle.tile_maps.specs.Maps.{AreMadeBelow};
 
 use crate::window::Ground;
+use drainage::{NO_COUNT, StepCount};
 use std::alloc::{AllocError, Global};
 use terrain::{Height, Place};
 use tiles::{Bounds, TileView};
-
-/// Stands for a count that is not known: greater than every number of steps.
-pub(crate) const NO_COUNT: u32 = 1 << 24;
 
 /// What a view has at the place of a spot, None off the grid.
 #[inline(always)]
@@ -128,21 +126,13 @@ pub(crate) fn counts(
         .collect(alloc)
 }
 
-/// A count as it is handed out.
-#[inline(always)]
-fn known(count: u32) -> Option<u32>
-    ensures { result ≡ known count }
-{
-    if count < NO_COUNT { Some(count) } else { None }
-}
-
 /// Hands out the counts of one row of the tile.
 #[tactic(auto, using(crate::proofs::Spots::handed_next))]
 fn hand_out_along(
     ground: &Ground,
     counts: &[u32],
     row: u32,
-    list: &mut Vec<Option<u32>>,
+    list: &mut Vec<StepCount>,
 ) -> Result<(), AllocError>
     requires size { length counts.now ≡ area_of ground.now.bounds }
     requires row { row < ground.now.bounds.rows }
@@ -154,7 +144,7 @@ fn hand_out_along(
             row: row + 1,
             col: col + 1,
         };
-        list.push(known(counts[ground.index(spot)]))?;
+        list.push(StepCount::of(counts[ground.index(spot)]))?;
     }
     Ok(())
 }
@@ -164,7 +154,7 @@ pub(crate) fn hand_out(
     alloc: Global,
     ground: &Ground,
     counts: &[u32],
-) -> Result<Vec<Option<u32>>, AllocError>
+) -> Result<Vec<StepCount>, AllocError>
     requires { length counts.now ≡ area_of ground.now.bounds }
     ensures { IfOk result (λ v. AreMadeBelow ground.now.bounds (IsHandedOut ground.now.bounds counts.now) (ground.now.bounds.rows * ground.now.bounds.cols) v.items) }
 {
@@ -174,4 +164,11 @@ pub(crate) fn hand_out(
         hand_out_along(ground, counts, row, &mut list)?;
     }
     Ok(list)
+}
+
+/// The numbers of steps that these counts tell.
+pub(crate) fn told(alloc: Global, counts: &[StepCount]) -> Result<Vec<Option<u32>>, AllocError>
+    ensures { IfOk result (λ v. v.items ≡ map (λ count. count) counts.now) }
+{
+    counts.iter().map(|count| count.known()).collect(alloc)
 }

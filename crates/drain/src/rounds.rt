@@ -1,21 +1,20 @@
-// Rounds of counting until nothing changes: the first over all tiles, and then over those into which a count comes.
+// Rounds of counting after the first, until nothing changes: over the tiles into which a count comes.
 ghost use Rattle.std.specs.Prelude.{◌≡◌, ◌≢◌, ℕ, ◌*◌, ◌<◌, ◌≤◌, [], Some, Vec, length, vec_len, OnOk, IfOk, slice_get};
 ghost use Rattle.terrain.specs.declared.place.Place.{Place};
 ghost use Rattle.tile_jobs.specs.Fault.{RefusesWorkers};
-ghost use Rattle.tiles.specs.Cutting.{IsWithin, tile_of_place};
+ghost use Rattle.tiles.specs.Cutting.{IsCutting, IsWithin, tile_of_place};
 ghost use Rattle.std.specs.declared.alloc.Global.{Global};
 ghost use Rattle.drain.specs.declared.changes.Change.{Change};
 ghost use Rattle.drain.specs.Rounds.{AreCounting, AreSettled};
-ghost use Rattle.drain.specs.Lowering.{IsAmong};
+ghost use Rattle.drain.specs.Lowering.{IsAmong, IsEvenInside, count_of};
 ghost use Rattle.drain.specs.Entering.{lent_terrain, AreNoted};
 ghost use Rattle.drain.specs.Rounding.{AreAnswered, ArePut, IsGiven, IsRounding, IsNext, IsAnswer};
 
 use crate::changes::{Change, Entry, Run};
 use crate::entering::Lent;
-use crate::first::first_round;
-use crate::looking::NO_COUNT;
 use crate::lowering::lower_tile;
 use crate::runs::{runs_of, sort};
+use drainage::StepCount;
 use std::alloc::{AllocError, Global};
 use std::marker::Model;
 use std::sync::Wait;
@@ -30,7 +29,7 @@ use tiles::Tiling;
 struct Round<'a> {
     tiling: &'a Tiling,
     levels: &'a [Option<Height>],
-    steps: &'a [Option<u32>],
+    steps: &'a [StepCount],
     entries: &'a [Entry],
     runs: &'a [Run],
 }
@@ -68,19 +67,19 @@ impl<'a> Work for Round<'a> {
 
 /// Puts a count in the place of a greater one.
 #[inline(always)]
-fn put(tiling: &Tiling, steps: &mut [Option<u32>], change: Change)
+fn put(tiling: &Tiling, steps: &mut [StepCount], change: Change)
     requires steps { length steps.old ≡ tiling.now.cols * tiling.now.rows }
     requires place { IsWithin tiling.now change.place }
     ensures { ArePut tiling.now.cols steps.old steps.new (λ x. x ≡ change) }
 {
     let index = change.place.index_in(tiling.cols());
-    if change.count < steps[index].unwrap_or(NO_COUNT) {
-        steps[index] = Some(change.count);
+    if change.count < steps[index].number() {
+        steps[index] = StepCount::of(change.count);
     }
 }
 
 /// Puts what one job answered into the counts of the grid.
-fn put_changes(tiling: &Tiling, steps: &mut [Option<u32>], changes: &[Change])
+fn put_changes(tiling: &Tiling, steps: &mut [StepCount], changes: &[Change])
     requires steps { length steps.old ≡ tiling.now.cols * tiling.now.rows }
     requires changes { (x : Change) → IsAmong changes.now x → IsWithin tiling.now x.place }
     ensures { ArePut tiling.now.cols steps.old steps.new (IsAmong changes.now) }
@@ -91,7 +90,7 @@ fn put_changes(tiling: &Tiling, steps: &mut [Option<u32>], changes: &[Change])
 }
 
 /// Puts what the jobs answered into the counts of the grid.
-fn put_all(tiling: &Tiling, steps: &mut [Option<u32>], outs: &[Vec<Change>])
+fn put_all(tiling: &Tiling, steps: &mut [StepCount], outs: &[Vec<Change>])
     requires steps { length steps.old ≡ tiling.now.cols * tiling.now.rows }
     requires changes { (x : Change) → IsGiven outs.now x → IsWithin tiling.now x.place }
     ensures { ArePut tiling.now.cols steps.old steps.new (IsGiven outs.now) }
@@ -182,7 +181,7 @@ fn answers_of<R: Threads + Wait + Sync, G: Gate + Sync>(
 struct Counting<'a> {
     tiling: &'a Tiling,
     levels: &'a [Option<Height>],
-    steps: Vec<Option<u32>>,
+    steps: Vec<StepCount>,
     entries: Vec<Entry>,
 }
 
@@ -222,20 +221,22 @@ impl<'a> Counting<'a> {
     }
 }
 
-/// Rounds over tiles, each from the counts that the one before put back, until none comes into any tile.
+/// Rounds after the first, each over the tiles into which a count comes, from the counts that the one before put back,
+/// until none comes into any tile.
 pub(crate) fn settle<R: Threads + Wait + Sync, G: Gate + Sync>(
     crew: &Crew<'_, R, G>,
     tiling: &Tiling,
     levels: &[Option<Height>],
-    steps: Vec<Option<u32>>,
-) -> Result<Vec<Option<u32>>, JobFault>
+    steps: Vec<StepCount>,
+) -> Result<Vec<StepCount>, JobFault>
     requires size { length levels.now ≡ tiling.now.cols * tiling.now.rows }
+    requires lawful { IsCutting tiling.now }
     requires counting { AreCounting (lent_terrain tiling.now levels.now) steps.items }
+    requires even { (tile : ℕ) → IsEvenInside (lent_terrain tiling.now levels.now) tiling.now tile (count_of steps.items) }
     requires workers { (1 ≤ crew.now.workers) × (crew.now.workers ≤ 64) }
     ensures settled { IfOk result (λ s. AreSettled tiling.now (lent_terrain tiling.now levels.now) steps.items s.items) }
     ensures workers { RefusesWorkers crew.now.workers result }
 {
-    let steps = first_round(crew, tiling, levels, steps)?;
     let mut entries = entries_of_all(
         crew.alloc,
         &Lent {

@@ -14,7 +14,7 @@ use crate::amid::code_amid;
 use crate::around::Around;
 use crate::beginning::is_outermost;
 use crate::steepness::direction;
-use drainage::Code;
+use drainage::{Code, StepCount};
 use std::alloc::{AllocError, Global};
 use terrain::{Grid, Height, Place};
 use tiles::Bounds;
@@ -31,7 +31,7 @@ fn before(index: u32) -> Option<u32>
 #[inline(always)]
 fn entry(
     grid: &Grid,
-    steps: &[Option<u32>],
+    steps: &[StepCount],
     row: Option<u32>,
     col: Option<u32>,
 ) -> Option<(Height, u32)>
@@ -47,7 +47,7 @@ fn entry(
         return None;
     }
     let index = Place { row, col }.index_in(grid.cols());
-    match (grid.cells()[index], steps[index]) {
+    match (grid.cells()[index], steps[index].known()) {
         (Some(height), Some(count)) => Some((height, count)),
         _ => None,
     }
@@ -55,7 +55,7 @@ fn entry(
 
 /// What stands around a data cell of the first or last row or column, which is an edge cell.
 #[inline(always)]
-fn around(grid: &Grid, steps: &[Option<u32>], place: Place, level: Height, own: u32) -> Around
+fn around(grid: &Grid, steps: &[StepCount], place: Place, level: Height, own: u32) -> Around
     requires size { length steps.now ≡ grid.now.terrain.cols * grid.now.terrain.rows }
     requires lawful { IsTerrain grid.now.terrain }
     requires inside { IsInside grid.now.terrain place }
@@ -90,7 +90,7 @@ fn around(grid: &Grid, steps: &[Option<u32>], place: Place, level: Height, own: 
 /// The code of a data cell of the first or last row or column.
 #[inline(never)]
 #[tactic(auto, using(crate::proofs::Laid::fitting, crate::proofs::Laid::code_by_direction))]
-fn code_outermost(grid: &Grid, steps: &[Option<u32>], place: Place, level: Height, own: u32) -> Code
+fn code_outermost(grid: &Grid, steps: &[StepCount], place: Place, level: Height, own: u32) -> Code
     requires lawful { IsTerrain grid.now.terrain }
     requires steps { AreSteps grid.now.terrain steps.now }
     requires inside { IsInside grid.now.terrain place }
@@ -104,14 +104,14 @@ fn code_outermost(grid: &Grid, steps: &[Option<u32>], place: Place, level: Heigh
 
 /// The code of a cell, None where there is no data.
 #[inline(always)]
-fn code_at(grid: &Grid, steps: &[Option<u32>], place: Place) -> Option<Code>
+fn code_at(grid: &Grid, steps: &[StepCount], place: Place) -> Option<Code>
     requires lawful { IsTerrain grid.now.terrain }
     requires steps { AreSteps grid.now.terrain steps.now }
     requires inside { IsInside grid.now.terrain place }
     ensures { IsCodeAt grid.now.terrain place result }
 {
     let index = place.index_in(grid.cols());
-    let (Some(level), Some(own)) = (grid.at(place), steps[index]) else {
+    let (Some(level), Some(own)) = (grid.at(place), steps[index].known()) else {
         return None;
     };
     if is_outermost(grid, place) {
@@ -124,7 +124,7 @@ fn code_at(grid: &Grid, steps: &[Option<u32>], place: Place) -> Option<Code>
 #[tactic(auto, using(crate::proofs::TileLists::coded_next))]
 fn codes_along(
     grid: &Grid,
-    steps: &[Option<u32>],
+    steps: &[StepCount],
     bounds: Bounds,
     row: u32,
     codes: &mut Vec<Option<Code>>,
@@ -150,7 +150,7 @@ fn codes_along(
 pub(crate) fn codes_of_tile(
     alloc: Global,
     grid: &Grid,
-    steps: &[Option<u32>],
+    steps: &[StepCount],
     bounds: Bounds,
 ) -> Result<Vec<Option<Code>>, AllocError>
     requires lawful { IsTerrain grid.now.terrain }

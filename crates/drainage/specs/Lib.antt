@@ -2,3 +2,5 @@ pub mod Filled
 pub mod CodeNumber
 pub mod Following
 pub mod Drained
+pub mod StepCounts
+pub mod ToldCounts

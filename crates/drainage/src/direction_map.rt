@@ -5,6 +5,7 @@ ghost use Rattle.drainage.specs.Drained.{IsDraining, directed_of};
 ghost use Rattle.drainage.specs.Following.{code_at};
 
 use crate::code::Code;
+use crate::step_count::StepCount;
 use std::marker::Model;
 use std::snapshot::Snapshot;
 use terrain::{Grid, Place};
@@ -16,7 +17,7 @@ pub struct Directions {
     cols: u32,
     codes: Vec<Option<Code>>,
     grid: Snapshot<Grid>,
-    steps: Snapshot<Vec<Option<u32>>>,
+    steps: Snapshot<Vec<StepCount>>,
 }
 
 impl Model for Directions {
@@ -33,7 +34,7 @@ impl Model for Directions {
 
 impl Directions {
     /// Takes over the codes of a filled grid with its steps, row by row: the pair of height and steps falls along each code.
-    pub fn new(grid: &Grid, steps: &Vec<Option<u32>>, codes: Vec<Option<Code>>) -> Self
+    pub fn new(grid: &Grid, steps: &Vec<StepCount>, codes: Vec<Option<Code>>) -> Self
         requires { IsDraining (record { terrain = grid.now.terrain; steps = steps.now.items; codes = codes.items }) }
         ensures { result ≡ record { terrain = grid.now.terrain; steps = steps.now.items; codes = codes.items } }
     {

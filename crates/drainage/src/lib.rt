@@ -5,7 +5,9 @@ mod code;
 mod direction_map;
 mod filled_grid;
 pub mod laws;
+mod step_count;
 
 pub use code::Code;
 pub use direction_map::Directions;
 pub use filled_grid::Filled;
+pub use step_count::{NO_COUNT, StepCount};

@@ -1,5 +1,6 @@
-use Rattle.std.proofs.Common.{◌≡◌, true, None, sym, subst, ◌∙◌, arith, to_z-of_z}
+use Rattle.std.proofs.Common.{◌≡◌, true, None, get_or, sym, subst, ◌∙◌, arith, to_z-of_z}
 use Rattle.std.proofs.lemmas.Bool.{false≢true}
+use Rattle.std.proofs.lemmas.List.{get_or_default}
 use Rattle.drain.specs.Steepness.{leads_on}
 use Rattle.drain.proofs.Greatest.{position_is, none_passes}
 use Rattle.drain.proofs.amid.onward.Goals as goal
@@ -10,7 +11,7 @@ returns-then-leads_on-clause-first c =
     let leads = rw (to_z-of_z c.ranges.level) at c.leads_on.ensures in
     λ a stand.
     position_is (leads_on a) a.ways c.loop-way.way None (omega (arith, stand.count, c.loop-way-test.true)) (before a stand)
-    (subst (λ o. leads_on a o ≡ true) (sym (stand.each c.loop-way.way c.loop-way-test.true)) (sym (leads a stand.own_level stand.own_steps) ∙ c.if-leads_on.true))
+    (subst (λ o. leads_on a o ≡ true) (sym (stand.each c.loop-way.way c.loop-way-test.true)) (sym (rw (c.known.ensures ∙ c.index-steps-index.is ∙ get_or_default c.args.steps.now (get_or c.args.at.now c.loop-way.way 0) c.index-steps-index.result None (c.requires.steps c.loop-way.way c.loop-way-test.true)) at leads a stand.own_level stand.own_steps) ∙ c.if-leads_on.true))
 
 pub unreachable-requires : goal.unreachable-requires
 unreachable-requires c =

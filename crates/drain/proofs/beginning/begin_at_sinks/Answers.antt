@@ -1,22 +1,39 @@
-use Rattle.std.proofs.Common.{◌+◌, ◌∙◌, List, ℕ, Some, is_some, slice_set, sym, ap, subst}
-use Rattle.std.specs.List.{All}
-use Rattle.terrain.specs.Neighbours.{IsInside, index_of}
-use Rattle.terrain.proofs.Places.{make_place}
-use Rattle.terrain.specs.declared.place.Place.{Place}
-use Rattle.drain.proofs.BegunSinks.{AreBegunBefore, sink_at, sink_put, sink_passed}
+use Rattle.std.proofs.Common.{◌≡◌, ◌*◌, ◌+◌, ◌<◌, ◌∙◌, List, ℕ, Some, is_some, length, slice_set, sym, ap, subst, arith}
+use Rattle.std.proofs.lemmas.Bool.{false≢true}
+use Rattle.drain.proofs.Begun.{AreBegunBefore, before_all, before_any, sink_at, sink_passed, sink_put}
+use Rattle.drain.proofs.Spreading.{spot_below}
+use Rattle.drain.specs.Window.{spot_index}
+use Rattle.drain.proofs.beginning.begin_at_sinks.Goals.{then-is_some, else-is_some}
 use Rattle.drain.proofs.beginning.begin_at_sinks.Goals as goal
 
-pub loop-sink-preserved-then-is_none : goal.loop-sink-preserved-then-is_none
-loop-sink-preserved-then-is_none c =
-    sink_passed c.args.grid.now.terrain c.sinks-sink-items.result.now c.loop-sink.sink-index c.args.counts.now c.loop-sink.counts c.loop-sink-test.true c.loop-sink.invariant
-    (sym (ap is_some c.at.ensures) ∙ c.if-is_none.ensures)
+pub loop-sink-init : goal.loop-sink-init
+loop-sink-init c = before_any c.args.grid.now.terrain c.sinks-sink-items.result.now c.args.bounds c.args.counts.now c.requires.counts
+
+pub loop-sink-preserved-in_default : goal.loop-sink-preserved-in_default
+loop-sink-preserved-in_default c =
+    sink_passed c.args.grid.now.terrain c.sinks-sink-items.result.now c.loop-sink.sink-index c.args.bounds c.loop-sink.counts c.loop-sink-test.true c.loop-sink.invariant
+    (λ s spot shows here. c.in_default.ensures s spot shows)
+
+pub bounds-counts-index : goal.bounds-counts-index
+bounds-counts-index c =
+    let at = c.in-Some.ensures in
+    let below = spot_below c.args.bounds at.0 at.1 in
+    omega (arith, below, at.3, c.loop-sink.invariant.size)
 
 pub loop-sink-preserved : goal.loop-sink-preserved
 loop-sink-preserved c =
     let t = c.args.grid.now.terrain in
     let sinks = c.sinks-sink-items.result.now in
     let i = c.loop-sink.sink-index in
-    let below = c.loop-sink-test.true in
-    let inside = subst (λ (xs : List Place). All (IsInside t) xs) (sym c.sinks-sink-items.ensures.value) c.sinks-sink-items.ensures.lawful.terrain.sinks i (make_place 0 0) below in
-    subst (λ (n : ℕ). AreBegunBefore t sinks (i + 1) c.args.counts.now (slice_set c.loop-sink.counts n (Some 0))) (sym (c.index_in-index.ensures ∙ ap (λ (n : ℕ). index_of n (sink_at sinks i)) c.cols.ensures.value))
-    (sink_put t sinks i c.args.counts.now c.loop-sink.counts below c.loop-sink.invariant (c.loop-sink.auto.counts ∙ c.requires) inside (sym (ap is_some c.at.ensures) ∙ c.if-is_none.ensures))
+    let b = c.args.bounds in
+    let at = c.in-Some.ensures in
+    elim c.if-is_some.branch [
+      | then-is_some w ↦ subst (λ (xs : List ℕ). AreBegunBefore t sinks (i + 1) b xs) (sym (w.counts-is ∙ ap (λ (n : ℕ). slice_set c.loop-sink.counts n 0) at.3))
+          (sink_put t sinks i b c.loop-sink.counts c.loop-sink-test.true c.loop-sink.invariant at.0 at.1 at.2 (sym (ap is_some c.at.ensures) ∙ sym c.is_some.ensures ∙ w.if-is_some.true))
+      | else-is_some w ↦ subst (λ (xs : List ℕ). AreBegunBefore t sinks (i + 1) b xs) (sym w.counts-is)
+          (sink_passed t sinks i b c.loop-sink.counts c.loop-sink-test.true c.loop-sink.invariant (λ s spot shows here. false≢true (sym w.if-is_some.false ∙ c.is_some.ensures ∙ ap is_some c.at.ensures ∙ here)))
+    ]
+
+pub returns : goal.returns
+returns c =
+    before_all c.args.grid.now.terrain c.sinks-sink-items.result.now c.loop-sink.sink-index c.args.bounds c.loop-sink.counts c.sinks-sink-items.ensures.value (omega (arith, c.loop-sink-test.false)) c.loop-sink.invariant

@@ -1,26 +1,50 @@
-use Rattle.std.proofs.Common.{[], sym, subst}
+use Rattle.std.proofs.Common.{◌≡◌, ◌*◌, [], ◌∷◌, map, ℕ, ℤ, List, Option, sym, ap, subst, refl, ◌∙◌}
 use Rattle.std.proofs.lemmas.Option.{MatchOption-at_some}
 use Rattle.terrain.specs.Raster.{Terrain}
 use Rattle.terrain.specs.Sinks.{with_sinks}
+use Rattle.tiles.specs.Cutting.{View, terrain_of}
 use Rattle.drain.specs.Rounds.{IsLent, AreWalked, IsRound}
 use Rattle.drain.specs.Steps.{DrainsAtOnce}
+use Rattle.drain.specs.Beginning.{HasZeros}
+use Rattle.drain.specs.Window.{AreCounts, IsSettled}
 use Rattle.drain.proofs.Few.{drains_data}
 use Rattle.drain.proofs.Quiet.{ended, are_walked_to, round_to}
+use Rattle.drain.proofs.TileRound.{lent_to, lent_small, round_from}
 use Rattle.drain.proofs.draining.flat_steps.Goals as goal
 
-pub round-requires-clause-walked : goal.round-requires-clause-walked
-round-requires-clause-walked g c =
-    let t = g.terrain in
-    let steps = c.args.steps.now.cells in
-    subst (λ (x : Terrain). AreWalked (IsLent x steps) x steps) (sym c.requires.0)
-    (are_walked_to (DrainsAtOnce t) (IsLent t steps) t [] steps (λ p drains. (drains_data t p drains, c.requires.1.1.1.0 p drains)) c.requires.1.1.1.1)
+walks : (t : Terrain) (v : View (Option ℤ)) (steps : List (Option ℕ)) → terrain_of v ≡ with_sinks t [] → HasZeros t steps → AreWalked (DrainsAtOnce t) t steps → AreWalked (IsLent (terrain_of v) steps) (terrain_of v) steps
+walks t v steps shown zeros walked =
+    subst (λ (x : Terrain). AreWalked (IsLent x steps) x steps) (sym shown)
+    (are_walked_to (DrainsAtOnce t) (IsLent t steps) t [] steps (λ p drains. (drains_data t p drains, zeros p drains)) walked)
+
+each_is : (xs : List (Option ℕ)) → map (λ x. x) xs ≡ xs
+each_is [] = refl
+each_is (x ∷ xs) = ap (λ (ys : List (Option ℕ)). x ∷ ys) (each_is xs)
+
+pub round-requires-clause-counts : goal.round-requires-clause-counts
+round-requires-clause-counts g c =
+    let v = c.args.levels.now in
+    let w = c.args.steps.now in
+    let b = c.in_ok-ground.ground.bounds in
+    let lent = lent_to v w b c.in_ok-old.old.items c.requires.1.0 c.requires.1.1.0 c.in_ok-ground.ensures.bounds c.in_ok-old.ensures in
+    subst (λ (xs : List ℕ). AreCounts xs) (sym c.deref.ensures.value)
+    (lent_small (terrain_of v) b w.cells c.in_ok-old.old.items lent (walks g.terrain v w.cells c.requires.0 c.requires.1.1.1.0 c.requires.1.1.1.1))
 
 pub returns : goal.returns
 returns g c =
     let v = c.args.levels.now in
+    let w = c.args.steps.now in
     let t = g.terrain in
-    let steps = c.args.steps.now.cells in
-    let new = c.in_ok-counts.counts.items in
-    round_to (IsLent t steps) (DrainsAtOnce t) (with_sinks t []) t.sinks v.cutting v.tile steps new
+    let ground = c.in_ok-ground.ground in
+    let b = ground.bounds in
+    let old = c.in_ok-old.old.items in
+    let list = c.in_ok-counts.counts.items in
+    let lent = lent_to v w b old c.requires.1.0 c.requires.1.1.0 c.in_ok-ground.ensures.bounds c.in_ok-old.ensures in
+    let round = c.in_ok-counts.ensures in
+    let settled = subst (λ (xs : List ℕ). IsSettled b ground.levels.items xs round.0) c.deref.ensures.value round.1 in
+    let made = round_from v w b ground.levels.items old round.0 list c.in_ok-ground.ensures.lawful c.in_ok-ground.ensures.bounds c.in_ok-ground.ensures.shown lent
+        (walks t v w.cells c.requires.0 c.requires.1.1.1.0 c.requires.1.1.1.1) settled round.2 in
+    subst (λ (xs : List (Option ℕ)). IsRound (DrainsAtOnce t) t v.cutting v.tile w.cells xs) (sym (c.in_ok-told.ensures ∙ each_is c.deref-2.result.now ∙ c.deref-2.ensures.value))
+    (round_to (IsLent t w.cells) (DrainsAtOnce t) (with_sinks t []) t.sinks v.cutting v.tile w.cells list
     (λ p lent. let walk = MatchOption-at_some _ _ 0 lent.1 (c.requires.1.1.1.1 p) in ended (DrainsAtOnce t) t p walk.1 walk.2 walk.3)
-    (subst (λ (x : Terrain). IsRound (IsLent x steps) x v.cutting v.tile steps new) c.requires.0 c.in_ok-counts.ensures)
+    (subst (λ (x : Terrain). IsRound (IsLent x w.cells) x v.cutting v.tile w.cells list) c.requires.0 made))

@@ -6,9 +6,9 @@ use Rattle.drain.proofs.rounds.settle.Goals as goal
 
 pub invariant_of-entries_of_all : goal.invariant_of-entries_of_all
 invariant_of-entries_of_all g c = record {
-  lawful = c.in_ok-steps.ensures.lawful;
+  lawful = c.requires.lawful;
   levels_size = c.requires.size;
-  steps_size = ap (λ (xs : List (Option ℕ)). length xs) c.deref.ensures.value ∙ c.in_ok-steps.ensures.counting.size;
+  steps_size = ap (λ (xs : List (Option ℕ)). length xs) c.deref.ensures.value ∙ c.requires.counting.size;
 }
 
 pub loop-counting-init : goal.loop-counting-init
@@ -17,9 +17,9 @@ loop-counting-init g c =
     record {
       tiling = refl;
       levels = refl;
-      rounding = first_rounding (rounding_of (record { tiling = c.args.tiling; levels = c.args.levels; steps = c.in_ok-steps.steps; entries = c.sort.new.entries })) c.in_ok-entries.entries.items
-          c.in_ok-steps.ensures.lawful c.requires.size c.in_ok-steps.ensures.counting c.in_ok-steps.ensures.even c.in_ok-sort.ensures.same c.in_ok-sort.ensures.sorted notes;
-      same_lent = c.in_ok-steps.ensures.same_lent;
+      rounding = first_rounding (rounding_of (record { tiling = c.args.tiling; levels = c.args.levels; steps = c.args.steps; entries = c.sort.new.entries })) c.in_ok-entries.entries.items
+          c.requires.lawful c.requires.size c.requires.counting c.requires.even c.in_ok-sort.ensures.same c.in_ok-sort.ensures.sorted notes;
+      same_lent = λ p. (λ lent. lent, λ lent. lent);
     }
 
 pub returns-clause-settled : goal.returns-clause-settled

@@ -1,0 +1,237 @@
+-- The counts that the first round begins with.
+use Rattle.std.proofs.Common.{◌≡◌, ◌≢◌, ℕ, zero, suc, ◌+◌, ◌-◌, ◌*◌, ◌<◌, ◌≤◌, ◌⊎◌, inl, inr, List, [], ◌∷◌, ◌++◌, map, length, get_or, Option, None, Some, slice_set, unwrap_or, Contains, ℤ, sym, ap, subst, refl, ◌∙◌, arith}
+use Rattle.std.proofs.lemmas.Bool.{cases_eq, cases_lt}
+use Rattle.std.proofs.lemmas.List.{get_or_append_left, get_or_default, get_or_past, get_or_push, get_or-map, get_or-set_same, get_or-set_other, length_push, length-map, length-set}
+use Rattle.std.proofs.lemmas.Option.{none-some, same_Some}
+use Rattle.terrain.proofs.Places.{make_place, same_place, index_injective, entry-inside, index_below, inside_from_entry}
+use Rattle.terrain.specs.Raster.{Terrain}
+use Rattle.terrain.specs.Neighbours.{IsInside, IsDataCell, entry_at, index_of}
+use Rattle.terrain.specs.declared.place.Place.{Place}
+use Rattle.tiles.specs.declared.bounds.Bounds.{Bounds}
+use Rattle.tiles.specs.Cutting.{Cutting, IsCutting, Cuts, View, bounds_of}
+use Rattle.tile_maps.specs.Maps.{AreMadeBelow}
+use Rattle.drainage.specs.StepCounts.{known, no_count}
+use Rattle.drainage.specs.ToldCounts.{known-none, known_number}
+use Rattle.drainage.proofs.Reach.{data_inside}
+use Rattle.drain.specs.Beginning.{DrainsAnyway, IsBegun, IsBegunSpot, AreBegun, AreBegunSpots}
+use Rattle.drain.specs.Entering.{lent_terrain}
+use Rattle.drain.specs.Lowering.{place_at}
+use Rattle.drain.specs.Rounds.{AreWalked, IsLent, IsRound}
+use Rattle.drain.specs.Steps.{DrainsAtOnce}
+use Rattle.drain.specs.Window.{AreCounts, AreLent, AreMadeSpots, AreShown, IsHandedOut, IsOff, IsSettled, IsSpot, Shows, area_of, count_on, known_counts, spot_index}
+use Rattle.drain.proofs.DrainedLemmas.{same_terrain}
+use Rattle.drain.proofs.Few.{drains_data}
+use Rattle.drain.proofs.Nearby.{cases_option, drains_at_once}
+use Rattle.drain.proofs.Quiet.{begun_counting}
+use Rattle.drain.proofs.Spots.{made_push}
+use Rattle.drain.proofs.Spreading.{spot_below}
+use Rattle.drain.proofs.TileRound.{round_from}
+use Rattle.drain.proofs.Unique.{at_place, place_at-index_of}
+
+anyway_data : (t : Terrain) (p : Place) → DrainsAnyway t p → IsDataCell t p
+anyway_data t p (inl lower) = drains_data t p (inl lower)
+anyway_data t p (inr edge) = drains_data t p (inr (inl edge))
+
+-- the count at a spot, where its place was computed
+pub begun_shown : (t : Terrain) (b : Bounds) (s : Place) (n : ℕ) → b.top + s.row ≢ 0 → b.left + s.col ≢ 0 → n ≤ no_count →
+    IsBegun (DrainsAnyway t) (make_place (b.top + s.row - 1) (b.left + s.col - 1)) (known n) → IsBegunSpot (DrainsAnyway t) b s n
+begun_shown t b s n row col few here = (
+  few,
+  λ p shows. subst (λ (q : Place). IsBegun (DrainsAnyway t) q (known n)) (sym (same_place p (make_place (b.top + s.row - 1) (b.left + s.col - 1)) (omega (arith, shows.0)) (omega (arith, shows.1)))) here,
+  λ off. absurd (elim off [ inl a ↦ row a | inr a ↦ col a ]),
+)
+
+-- a spot that shows no place of the terrain has none
+pub begun_off : (t : Terrain) (b : Bounds) (s : Place) → ((p : Place) → Shows b s p → IsInside t p → ⊥) → IsBegunSpot (DrainsAnyway t) b s no_count
+begun_off t b s out = (
+  omega arith,
+  λ p shows. record {
+    zero = λ drains. absurd (out p shows (data_inside t p (anyway_data t p drains)));
+    only = λ n e. absurd (none-some n (sym (known-none no_count (omega arith)) ∙ e));
+  },
+  λ off. known-none no_count (omega arith),
+)
+
+-- the same cells drain
+begun_by : (A B : Place → Type 0) (b : Bounds) (s : Place) (n : ℕ) → ((p : Place) → Shows b s p → A p → B p) → ((p : Place) → Shows b s p → B p → A p) → IsBegunSpot A b s n → IsBegunSpot B b s n
+begun_by A B b s n to from is = (
+  is.0,
+  λ p shows. let at = is.1 p shows in record { zero = λ drains. at.zero (from p shows drains); only = λ m e. let one = at.only m e in (to p shows one.0, one.1) },
+  is.2,
+)
+
+abbrev pub sink_at : List Place → ℕ → Place
+sink_at sinks index = get_or sinks index (make_place 0 0)
+
+-- it drains anyway, or is one of the first sinks
+abbrev pub DrainsBefore : Terrain → List Place → ℕ → Place → Type 0
+DrainsBefore t sinks end p = DrainsAnyway t p ⊎ (IsDataCell t p × (k : ℕ) × (k < end) × (k < length sinks) × (get_or sinks k p ≡ p))
+
+abbrev pub AreBegunBefore : Terrain → List Place → ℕ → Bounds → List ℕ → Type 0
+AreBegunBefore t sinks end b counts = AreBegunSpots (DrainsBefore t sinks end) b counts
+
+spots_by : (A B : Place → Type 0) (b : Bounds) (counts : List ℕ) → ((s p : Place) → IsSpot b s → Shows b s p → A p → B p) → ((s p : Place) → IsSpot b s → Shows b s p → B p → A p) → AreBegunSpots A b counts → AreBegunSpots B b counts
+spots_by A B b counts to from are = record {
+  size = are.size;
+  each = λ s spot below. begun_by A B b s _ (λ p shows. to s p spot shows) (λ p shows. from s p spot shows) (are.each s spot below);
+}
+
+pub before_any : (t : Terrain) (sinks : List Place) (b : Bounds) (counts : List ℕ) → AreBegunSpots (DrainsAnyway t) b counts → AreBegunBefore t sinks 0 b counts
+before_any t sinks b counts are = spots_by (DrainsAnyway t) (DrainsBefore t sinks 0) b counts (λ s p spot shows drains. inl drains) (λ s p spot shows drains. elim drains [ inl anyway ↦ anyway | inr sink ↦ absurd (omega (arith, sink.2)) ]) are
+
+pub before_all : (t : Terrain) (sinks : List Place) (end : ℕ) (b : Bounds) (counts : List ℕ) → sinks ≡ t.sinks → length sinks ≤ end → AreBegunBefore t sinks end b counts → AreBegunSpots (DrainsAtOnce t) b counts
+before_all t sinks end b counts named all are =
+    spots_by (DrainsBefore t sinks end) (DrainsAtOnce t) b counts
+    (λ s p spot shows drains. elim drains [
+      | inl anyway ↦ elim anyway [ inl lower ↦ inl lower | inr edge ↦ inr (inl edge) ]
+      | inr sink ↦ inr (inr (sink.0, subst (λ (xs : List Place). Contains xs p) named (sink.1, sink.3, sink.4)))
+    ])
+    (λ s p spot shows drains. elim drains [
+      | inl lower ↦ inl (inl lower)
+      | inr end ↦ elim end [
+        | inl edge ↦ inl (inr edge)
+        | inr sink ↦ (let is = subst (λ (xs : List Place). Contains xs p) (sym named) sink.1 in inr (sink.0, is.0, omega (arith, is.1, all), is.1, is.2))
+      ]
+    ]) are
+
+module _ (t : Terrain) (sinks : List Place) (index : ℕ) (b : Bounds) (counts : List ℕ) (below : index < length sinks) (before : AreBegunBefore t sinks index b counts) where
+  abbrev sink : Place
+  sink = sink_at sinks index
+
+  named : (p : Place) → get_or sinks index p ≡ sink
+  named p = get_or_default sinks index p (make_place 0 0) below
+
+  later : (p : Place) → DrainsBefore t sinks index p → DrainsBefore t sinks (index + 1) p
+  later p (inl anyway) = inl anyway
+  later p (inr one) = inr (one.0, one.1, omega (arith, one.2), one.3, one.4)
+
+  earlier : (p : Place) → p ≢ sink ⊎ (IsDataCell t p → ⊥) → DrainsBefore t sinks (index + 1) p → DrainsBefore t sinks index p
+  earlier p other (inl anyway) = inl anyway
+  earlier p other (inr one) = elim (cases_eq one.1 index) [
+    | inl last ↦ (let same : p ≡ sink = sym one.4 ∙ ap (λ n. get_or sinks n p) last ∙ named p in absurd (elim other [ inl apart ↦ apart same | inr gap ↦ gap one.0 ]))
+    | inr ne ↦ inr (one.0, one.1, omega (arith, one.2, ne), one.3, one.4)
+  ]
+
+  -- one that no spot shows, or without data
+  pub sink_passed : ((s : Place) → IsSpot b s → Shows b s (sink_at sinks index) → IsDataCell t (sink_at sinks index) → ⊥) → AreBegunBefore t sinks (index + 1) b counts
+  sink_passed out =
+      spots_by (DrainsBefore t sinks index) (DrainsBefore t sinks (index + 1)) b counts (λ s p spot shows. later p)
+      (λ s p spot shows drains. elim (drains) [
+        | inl anyway ↦ inl anyway
+        | inr one ↦ elim (cases_eq one.1 index) [
+          | inl last ↦ (let same : p ≡ sink = sym one.4 ∙ ap (λ n. get_or sinks n p) last ∙ named p in
+              absurd (out s spot (subst (λ (q : Place). Shows b s q) same shows) (subst (λ (q : Place). IsDataCell t q) same one.0)))
+          | inr ne ↦ inr (one.0, one.1, omega (arith, one.2, ne), one.3, one.4)
+        ]
+      ]) before
+
+  -- the count of a spot that shows it
+  pub sink_put : (r : Place) → IsSpot b r → Shows b r (sink_at sinks index) → IsDataCell t (sink_at sinks index) → AreBegunBefore t sinks (index + 1) b (slice_set counts (spot_index b r) 0)
+  sink_put r spot on here = record {
+    size = length-set counts (spot_index b r) 0 ∙ before.size;
+    each = λ s inner low. elim (cases_eq (spot_index b s) (spot_index b r)) [
+      | inl e ↦ (let one : r ≡ s = index_injective (b.cols + 2) r s spot.1 inner.1 (sym e) in
+          subst (λ (q : Place). IsBegunSpot (DrainsBefore t sinks (index + 1)) b q (get_or (slice_set counts (spot_index b r) 0) (spot_index b q) 0)) one
+          (subst (λ (n : ℕ). IsBegunSpot (DrainsBefore t sinks (index + 1)) b r n) (sym (get_or-set_same counts (spot_index b r) 0 0 (omega (arith, before.size, spot_below b r spot)))) begun))
+      | inr ne ↦ (
+          subst (λ (n : ℕ). IsBegunSpot (DrainsBefore t sinks (index + 1)) b s n) (sym (get_or-set_other counts (spot_index b r) (spot_index b s) 0 0 ne))
+          (begun_by (DrainsBefore t sinks index) (DrainsBefore t sinks (index + 1)) b s _ (λ p shows. later p) (λ p shows. earlier p (inl (λ same. ne (ap (λ (q : Place). spot_index b q)
+              (same_place s r (omega (arith, shows.0, on.0, ap (λ (q : Place). q.row) same)) (omega (arith, shows.1, on.1, ap (λ (q : Place). q.col) same)))))))
+          (before.each s inner low)))
+    ];
+  }
+    where
+      begun : IsBegunSpot (DrainsBefore t sinks (index + 1)) b r 0
+      begun = (
+        omega arith,
+        λ p shows. let same : p ≡ sink = same_place p sink (omega (arith, shows.0, on.0)) (omega (arith, shows.1, on.1)) in record {
+          zero = λ drains. refl;
+          only = λ n e. (inr (subst (λ (q : Place). IsDataCell t q) (sym same) here, index, omega arith, below, named p ∙ sym same), same_Some n 0 (sym e));
+        },
+        λ off. absurd (elim off [ inl a ↦ omega (arith, a, on.0) | inr a ↦ omega (arith, a, on.1) ]),
+      )
+
+-- a cell has one count to begin with
+one_begun : (Drains : Place → Type 0) (p : Place) (x y : Option ℕ) → IsBegun Drains p x → IsBegun Drains p y → x ≡ y
+one_begun Drains p None None f g = refl
+one_begun Drains p (Some n) y f g = let drains = (f.only n refl).0 in f.zero drains ∙ sym (g.zero drains)
+one_begun Drains p None (Some n) f g = let drains = (g.only n refl).0 in f.zero drains ∙ sym (g.zero drains)
+
+told_back : (counts : List ℕ) → AreCounts counts → counts ≡ known_counts (map known counts)
+told_back [] few = refl
+told_back (n ∷ counts) few = ap (λ (m : ℕ). m ∷ counts) (sym (known_number n (few 0))) ∙ ap (λ (xs : List ℕ). unwrap_or (known n) no_count ∷ xs) (told_back counts (λ k. few (suc k)))
+
+-- the counts at the spots are those of any list that begins with them
+module _ (t : Terrain) (b : Bounds) (counts : List ℕ) (begun : List (Option ℕ)) (are : AreBegunSpots (DrainsAtOnce t) b counts) where
+  pub begun_small : AreCounts counts
+  begun_small k = elim (cases_lt k (area_of b)) [
+    | inl less ↦ at_place (λ i. get_or counts i 0 ≤ no_count) (b.cols + 2) (b.rows + 2) (λ s row col. (are.each s (row, col) (spot_below b s (row, col))).0) k less
+    | inr past ↦ omega (arith, get_or_past counts k 0 (omega (arith, are.size)))
+  ]
+
+  pub begun_window : AreBegun t begun → AreLent t.cols t.rows begun b counts
+  begun_window first = record {
+    shown = map known counts;
+    size = length-map counts known ∙ are.size;
+    seen = λ s spot.
+        let below = spot_below b s spot in
+        let at = are.each s spot below in
+        let here = get_or-map known counts (spot_index b s) 0 None (omega (arith, are.size, below)) in
+        (λ p shows. here ∙ value p (count_on b counts s) (at.1 p shows), λ off. here ∙ at.2 off);
+    value = told_back counts begun_small;
+  }
+    where
+      value : (p : Place) (n : ℕ) → IsBegun (DrainsAtOnce t) p (known n) → known n ≡ entry_at t.cols t.rows begun p
+      value p n is = one_begun (DrainsAtOnce t) p (known n) (entry_at t.cols t.rows begun p) is (entry p)
+        where
+          entry : (p : Place) → IsBegun (DrainsAtOnce t) p (entry_at t.cols t.rows begun p)
+          entry p = record {
+            zero = λ drains. (first.each p (data_inside t p (drains_data t p drains))).zero drains;
+            only = λ n e. (first.each p (inside_from_entry t.cols t.rows begun p n e)).only n e;
+          }
+
+-- a list with something for each index
+list_of : {X : Type 0} (Has : ℕ → X → Type 0) (lack : X) → ((k : ℕ) → (x : X) × Has k x) → (count : ℕ) → (xs : List X) × (length xs ≡ count) × ((k : ℕ) → k < count → Has k (get_or xs k lack))
+list_of Has lack some zero = ([], refl, λ k less. absurd (omega (arith, less)))
+list_of {X = X} Has lack some (suc count) =
+    let before = list_of Has lack some count in
+    let x = some count in
+    (
+      before.0 ++ x.0 ∷ [],
+      length_push before.0 x.0 ∙ ap (λ n. n + 1) before.1 ∙ omega arith,
+      λ k less. elim (cases_eq k count) [
+        | inl e ↦ subst (λ (n : ℕ). Has n (get_or (before.0 ++ x.0 ∷ []) n lack)) (sym e) (subst (λ (o : X). Has count o) (sym (get_or_push before.0 x.0 lack count before.1)) x.1)
+        | inr ne ↦ (let low : k < count = omega (arith, less, ne) in
+            subst (λ (o : X). Has k o) (sym (get_or_append_left before.0 (x.0 ∷ []) lack k (omega (arith, before.1, low)))) (before.2 k low))
+      ],
+    )
+
+-- there is such a list
+pub some_begun : (t : Terrain) → (begun : List (Option ℕ)) × AreBegun t begun
+some_begun t =
+    let all = list_of (λ k count. IsBegun (DrainsAtOnce t) (place_at t.cols k) count) None (λ k. one (place_at t.cols k)) (t.cols * t.rows) in
+    (all.0, record {
+      size = all.1;
+      each = λ p inside.
+          let below = index_below t.cols t.rows p inside.0 inside.1 in
+          subst (λ (o : Option ℕ). IsBegun (DrainsAtOnce t) p o) (sym (entry-inside t.cols t.rows all.0 p inside.0 inside.1))
+          (subst (λ (q : Place). IsBegun (DrainsAtOnce t) q (get_or all.0 (index_of t.cols p) None)) (place_at-index_of t.cols p inside.1) (all.2 (index_of t.cols p) below));
+    })
+  where
+    one : (p : Place) → (count : Option ℕ) × IsBegun (DrainsAtOnce t) p count
+    one p = elim (drains_at_once t p) [
+      | inl drains ↦ (Some 0, record { zero = λ _. refl; only = λ n e. (drains, same_Some n 0 (sym e)) })
+      | inr keeps ↦ (None, record { zero = λ drains. absurd (keeps drains); only = λ n e. absurd (none-some n e) })
+    ]
+
+-- a round from these counts
+pub begun_round : (t : Terrain) (v : View (Option ℤ)) (c : Cutting) (tile : ℕ) (b : Bounds) (levels : List (Option ℤ)) (old new : List ℕ) (list begun : List (Option ℕ)) →
+    v ≡ record { cutting = c; tile = tile; cells = t.cells } → Cuts c t → IsCutting v.cutting → b ≡ bounds_of v.cutting v.tile → AreShown v.cutting.cols v.cutting.rows v.cells b levels →
+    AreBegunSpots (DrainsAtOnce t) b old → AreBegun t begun → IsSettled b levels old new → AreMadeBelow b (IsHandedOut b new) (b.rows * b.cols) list →
+    IsRound (IsLent (lent_terrain c t.cells) begun) (lent_terrain c t.cells) c tile begun list
+begun_round t v c tile b levels old new list begun e cuts lawful bounds shown are first settled out =
+    let w : View (Option ℤ) = record { cutting = c; tile = tile; cells = t.cells } in
+    let here = subst (λ (z : View (Option ℤ)). IsCutting z.cutting × (b ≡ bounds_of z.cutting z.tile) × AreShown z.cutting.cols z.cutting.rows z.cells b levels) e (lawful, bounds, shown) in
+    let lent = subst (λ (n : ℕ). AreLent n c.rows begun b old) (sym cuts.0) (subst (λ (n : ℕ). AreLent t.cols n begun b old) (sym cuts.1) (begun_window t b old begun are first)) in
+    let walks = subst (λ (x : Terrain). AreWalked (IsLent x begun) x begun) (same_terrain t c.cols c.rows t.cells cuts.0 cuts.1 refl) (begun_counting t begun first).walked in
+    round_from w (record { cutting = c; tile = tile; cells = begun }) b levels old new list here.0 here.1 here.2 lent walks settled out

@@ -1,0 +1,23 @@
+use Rattle.std.proofs.Common.{◌≡◌, ◌*◌, ◌<◌, ◌^◌, ℕ, Option, List, None, get_or, length, slice_set, unwrap_or, sym, subst, arith, ◌∙◌, ap}
+use Rattle.std.proofs.lemmas.List.{get_or_default}
+use Rattle.terrain.proofs.Places.{index_below}
+use Rattle.terrain.specs.Neighbours.{index_of}
+use Rattle.drainage.specs.ToldCounts.{known-some}
+use Rattle.drain.specs.Lowering.{count_of}
+use Rattle.drain.specs.Rounding.{ArePut}
+use Rattle.drain.specs.declared.changes.Change.{Change}
+use Rattle.drain.proofs.Putting.{put_one}
+use Rattle.drain.proofs.rounds.put.Goals as goal
+
+pub returns-then-change-number : goal.returns-then-change-number
+returns-then-change-number c =
+    let x = c.args.change in
+    let steps = c.args.steps.now in
+    let cols = c.args.tiling.now.cols in
+    let at = c.index_in-index.result in
+    let is : at ≡ index_of cols x.place = c.index_in-index.ensures ∙ ap (λ (n : ℕ). index_of n x.place) c.cols.ensures.value in
+    let inside = subst (λ (n : ℕ). index_of cols x.place < n) (sym c.requires.steps) (index_below cols c.args.tiling.now.rows x.place c.requires.place.0 c.requires.place.1) in
+    let own = ap (λ (o : Option ℕ). unwrap_or o (2 ^ 24)) (get_or_default steps at c.index-steps-index.result None (subst (λ (n : ℕ). n < length steps) (sym is) inside)) in
+    let less : x.count < count_of steps at = omega (arith, c.if-change-number.true, c.number.ensures.value, own) in
+    let put = put_one cols x steps c.of.result (c.of.ensures ∙ known-some x.count (omega (arith, c.if-change-number.true, c.number.ensures.few))) inside (subst (λ (n : ℕ). x.count < count_of steps n) is less) in
+    subst (λ (n : ℕ). ArePut cols steps (slice_set steps n c.of.result) (λ (y : Change). y ≡ x)) (sym is) put

@@ -1,0 +1,65 @@
+// Numbers of steps, some of which are not known.
+ghost use Rattle.std.specs.Prelude.{◌≡◌, ◌≤◌, unwrap_or};
+ghost use Rattle.drainage.specs.StepCounts.{known, no_count};
+
+use std::marker::Model;
+
+/// Stands for a number of steps that is not known: greater than every number of steps.
+pub const NO_COUNT: u32 = 1 << 24;
+
+/// How many steps it is over level ground from a cell to where it drains, or that this is not known: in 4 bytes, where
+/// `Option<u32>` takes 8.
+#[derive(Clone, Copy, Debug)]
+pub struct StepCount {
+    number: u32,
+}
+
+impl Model for StepCount {
+    ghost use Rattle.std.specs.Prelude.{ℕ, Option, ◌≤◌, unwrap_or};
+    ghost use Rattle.std.proofs.Common.{ap};
+    ghost use Rattle.drainage.specs.StepCounts.{known, no_count};
+    ghost use Rattle.drainage.specs.ToldCounts.{known_number};
+
+    ghost Value = { Option ℕ };
+
+    ghost view = { λ s. known s.number };
+
+    ghost invariant = { λ s. s.number ≤ no_count };
+
+    ghost inverse = { λ o. record { number = unwrap_or o no_count } };
+
+    ghost inverse_ok = { λ s few. ap (λ n. record { number = n }) (known_number s.number few) };
+}
+
+impl StepCount {
+    /// So many steps; [`NO_COUNT`] and more are not known.
+    #[inline(always)]
+    pub fn of(number: u32) -> StepCount
+        ensures { result ≡ known number }
+    {
+        StepCount {
+            number: number.min(NO_COUNT),
+        }
+    }
+
+    /// The number of steps, None where it is not known.
+    #[inline(always)]
+    pub fn known(&self) -> Option<u32>
+        ensures { result ≡ self.now }
+    {
+        if self.number < NO_COUNT {
+            Some(self.number)
+        } else {
+            None
+        }
+    }
+
+    /// The number of steps, [`NO_COUNT`] where it is not known.
+    #[inline(always)]
+    pub fn number(&self) -> u32
+        ensures value { result ≡ unwrap_or self.now no_count }
+        ensures few { result ≤ no_count }
+    {
+        self.number
+    }
+}
