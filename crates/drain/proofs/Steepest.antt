@@ -1,13 +1,15 @@
 -- The furthest ways down, and the steepest of all.
-use Rattle.std.proofs.Common.{◌≡◌, ℕ, zero, suc, ◌+◌, ◌*◌, ◌<◌, ◌≤◌, ◌<ℤ◌, ◌≤ℤ◌, ◌-ℤ◌, ◌/◌, ◌%◌, ◌⊎◌, inl, inr, eqb, ltb, length, get_or, List, Option, None, Some, IfSome, unwrap_or, ℤ, pos, negsuc, refl, sym, ap, subst, ◌∙◌, arith}
-use Rattle.std.proofs.lemmas.Bool.{cases_eq, cases_lt, eq-eqb, ne_eqb, lt-ltb, le-ltb, cond-true, cond-false}
-use Rattle.std.proofs.lemmas.Int.{ints}
+use Rattle.std.proofs.Common.{◌≡◌, ℕ, zero, suc, ◌+◌, ◌*◌, ◌<◌, ◌≤◌, ◌≢◌, ◌<ℤ◌, ◌≤ℤ◌, ◌-ℤ◌, ◌/◌, ◌%◌, ◌⊎◌, inl, inr, eqb, ltb, length, get_or, List, Option, None, Some, IfSome, unwrap_or, Bool, true, false, ◌&&◌, ℤ, nat_abs, SFits, pos, negsuc, refl, sym, ap, subst, ◌∙◌, arith}
+use Rattle.std.proofs.lemmas.Bool.{cases_Bool, cases_eq, cases_lt, false≢true, eq-eqb, ne_eqb, lt-ltb, le-ltb, cond-true, cond-false}
+use Rattle.std.specs.Int.{int_min}
+use Rattle.std.proofs.lemmas.Int.{ints, clamps, by_lt_z}
 use Rattle.std.proofs.lemmas.Nat.{mul-le, mul-lt}
 use Rattle.std.proofs.lemmas.Option.{none-some, same_Some}
-use Rattle.std.specs.Bool.{then_some}
+use Rattle.std.specs.Bool.{then_some, MatchBool}
 use Rattle.std.specs.List.{position}
 use Rattle.terrain.specs.Raster.{IsHeight}
-use Rattle.drain.specs.Amid.{HasHeights, drop_by, drop_on, IsFurthest, IsSteepestWay}
+use Rattle.terrain.proofs.Heights.{height_width}
+use Rattle.drain.specs.Amid.{HasHeights, drop_by, drop_on, height_on, IsFurthest, IsLowestBefore, IsSteepestWay}
 use Rattle.drain.specs.Steepness.{weight, weights, positive_part}
 use Rattle.drain.specs.declared.around.Around.{Around}
 use Rattle.drain.proofs.AmidLemmas.{drop_is}
@@ -17,6 +19,14 @@ use Rattle.drain.proofs.Weights.{length-weights, get_or-weights, square-above_ze
 part_of : (z : ℤ) → (pos (positive_part z) ≡ z) ⊎ ((positive_part z ≡ 0) × (z <ℤ pos 0))
 part_of (pos n) = inl refl
 part_of (negsuc n) = inr (refl, omega (arith, ints))
+
+pub abs_part : (z : ℤ) → pos 0 ≤ℤ z → nat_abs z ≡ positive_part z
+abs_part (pos n) le = refl
+abs_part (negsuc n) le = absurd (omega (arith, ints))
+
+pub drop_fits : (z : ℤ) → pos 0 ≤ℤ z → z <ℤ pos 9223372036854775808 → SFits height_width z
+drop_fits (pos n) low high = record { sfits = omega (arith, ints) }
+drop_fits (negsuc n) low high = absurd (omega (arith, ints))
 
 -- what is not lower does not lie further down
 no_further_down : (level low h : ℤ) → low ≤ℤ h → drop_by level (Some h) ≤ drop_by level (Some low)
@@ -32,61 +42,131 @@ further_down level low h lt le = elim (part_of (level -ℤ h)) [
   | inr is ↦ absurd (omega (arith, ints))
 ]
 
-pub none_further : (level : ℤ) (heights : List (Option ℤ)) (parity way : ℕ) → IsFurthest level heights parity 0 (drop_by level (Some level)) way
-none_further level heights parity way =
-    let none : drop_by level (Some level) ≡ 0 = elim (part_of (level -ℤ level)) [ inl e ↦ omega (arith, ints) | inr e ↦ e.0 ] in
-    record {
-      bound = λ other lt _. absurd (omega arith);
-      reached = λ some. absurd (omega arith);
-      first = λ other some _ _. absurd (omega arith);
-    }
+-- a height, or the level
+pub or_level : (o : Option ℤ) (level : ℤ) → IfSome o IsHeight → IsHeight level → IsHeight (unwrap_or o level)
+or_level None level given height = height
+or_level (Some h) level given height = given
 
--- the next way of the two kinds
-next_way : (parity turn other : ℕ) → parity < 2 → other < 2 * (turn + 1) → other % 2 ≡ parity → (other < 2 * turn) ⊎ (other ≡ 2 * turn + parity)
-next_way parity turn other two lt e = elim (cases_lt other (2 * turn)) [ inl before ↦ inl before | inr after ↦ inr (omega arith) ]
+pub lowest_none : (level : ℤ) (heights : List (Option ℤ)) (parity : ℕ) → IsLowestBefore level heights parity 0 level
+lowest_none level heights parity = record { low = omega (arith, ints); each = λ turn below. absurd (omega (arith, below)); one = inl refl }
 
-module _ (level : ℤ) (heights : List (Option ℤ)) (parity turn drop way : ℕ) (two : parity < 2) (so_far : IsFurthest level heights parity (2 * turn) drop way) where
-  -- the next way leads further down
-  next_further : (further : ℕ) → drop_on level heights (2 * turn + parity) ≡ further → drop < further → IsFurthest level heights parity (2 * (turn + 1)) further (2 * turn + parity)
-  next_further further is more = record {
-    bound = λ other lt e. elim (next_way parity turn other two lt e) [ inl before ↦ omega (arith, so_far.bound other before e) | inr same ↦ omega (arith, ap (drop_on level heights) same) ];
-    reached = λ _. (omega arith, omega arith, is);
-    first = λ other _ lt e. (let before : other < 2 * turn = omega arith in omega (arith, so_far.bound other before e));
+pub lowest_next : (level : ℤ) (heights : List (Option ℤ)) (parity turn : ℕ) (lowest : ℤ) → IsLowestBefore level heights parity turn lowest →
+    IsLowestBefore level heights parity (turn + 1) (int_min lowest (height_on level heights parity turn))
+lowest_next level heights parity turn lowest before = record {
+  low = let low = before.low in omega (arith, ints, clamps);
+  each = λ other below. elim (cases_eq other turn) [
+    | inl e ↦ subst (λ (n : ℕ). int_min lowest (height_on level heights parity turn) ≤ℤ height_on level heights parity n) (sym e) (omega (arith, ints, clamps))
+    | inr ne ↦ (let low = before.each other (omega (arith, below, ne)) in omega (arith, ints, clamps))
+  ];
+  one = by_lt_z lowest (height_on level heights parity turn)
+    (λ less. let same : int_min lowest (height_on level heights parity turn) ≡ lowest = omega (arith, ints, clamps) in elim before.one [
+      | inl level_is ↦ inl (same ∙ level_is)
+      | inr at ↦ inr (at.0, omega (arith, at.1), at.2 ∙ sym same)
+    ])
+    (λ more. let same : int_min lowest (height_on level heights parity turn) ≡ height_on level heights parity turn = omega (arith, ints, clamps) in inr (turn, omega arith, sym same));
+}
+
+-- the way of a kind
+turn_of : (parity other : ℕ) → parity < 2 → other % 2 ≡ parity → other ≡ 2 * (other / 2) + parity
+turn_of parity other two e = omega arith
+
+module _ (level : ℤ) (heights : List (Option ℤ)) (parity : ℕ) (lowest : ℤ) (two : parity < 2) (is : IsLowestBefore level heights parity 4 lowest) where
+  not_further : (o : Option ℤ) → lowest ≤ℤ unwrap_or o level → drop_by level o ≤ drop_by level (Some lowest)
+  not_further None low = omega arith
+  not_further (Some h) low = no_further_down level lowest h low
+
+  less_far : (o : Option ℤ) → lowest <ℤ level → lowest <ℤ unwrap_or o level → drop_by level o < drop_by level (Some lowest)
+  less_far None under low = let some = further_down level level lowest under (omega (arith, ints)) in omega (arith, some)
+  less_far (Some h) under low = by_lt_z h level
+      (λ below. further_down level h lowest low (omega (arith, ints)))
+      (λ above. let some = further_down level level lowest under (omega (arith, ints)) in let none = no_further_down level level h above in omega (arith, some, none))
+
+  as_far : (o : Option ℤ) → lowest <ℤ level → unwrap_or o level ≡ lowest → drop_by level o ≡ drop_by level (Some lowest)
+  as_far None under e = absurd (omega (arith, ints))
+  as_far (Some h) under e = ap (λ (z : ℤ). drop_by level (Some z)) e
+
+  under_from : 0 < drop_by level (Some lowest) → lowest <ℤ level
+  under_from some = by_lt_z lowest level (λ less. less) (λ more. let none = no_further_down level level lowest more in let zero : drop_by level (Some level) ≡ 0 = level_drop in absurd (omega (arith, some, none, zero)))
+    where
+      level_drop : drop_by level (Some level) ≡ 0
+      level_drop = elim (part_of (level -ℤ level)) [ inl e ↦ omega (arith, ints) | inr e ↦ e.0 ]
+
+  -- the first way that is the lowest leads furthest, or none leads down
+  pub first_is_furthest : (turns : ℕ) → turns < 4 → ((turn : ℕ) → turn < turns → height_on level heights parity turn ≢ lowest) → (turns < 3 → height_on level heights parity turns ≡ lowest) →
+      IsFurthest level heights parity 8 (drop_by level (Some lowest)) (2 * turns + parity)
+  first_is_furthest turns few past here = record {
+    bound = λ other below e.
+        subst (λ (n : ℕ). drop_on level heights n ≤ drop_by level (Some lowest)) (sym (turn_of parity other two e)) (not_further _ (is.each (other / 2) (omega arith)));
+    reached = λ some. (omega arith, omega arith, as_far _ (under_from some) (found some));
+    first = λ other some before e.
+        let turn = other / 2 in
+        let low = is.each turn (omega arith) in
+        let apart = past turn (omega arith) in
+        subst (λ (n : ℕ). drop_on level heights n < drop_by level (Some lowest)) (sym (turn_of parity other two e))
+        (less_far _ (under_from some) (above low apart));
   }
+    where
+      above : {h : ℤ} → lowest ≤ℤ h → h ≢ lowest → lowest <ℤ h
+      above {h = h} low apart = by_lt_z lowest h (λ less. less) (λ more. absurd (apart (omega (arith, ints))))
 
-  -- the next way leads no further down
-  next_no_further : drop_on level heights (2 * turn + parity) ≤ drop → IsFurthest level heights parity (2 * (turn + 1)) drop way
-  next_no_further less = record {
-    bound = λ other lt e. elim (next_way parity turn other two lt e) [ inl before ↦ so_far.bound other before e | inr same ↦ omega (arith, ap (drop_on level heights) same) ];
-    reached = λ some. (let there = so_far.reached some in (omega (arith, there.0), there.1, there.2));
-    first = so_far.first;
-  }
+      found : 0 < drop_by level (Some lowest) → height_on level heights parity turns ≡ lowest
+      found some = elim (cases_lt turns 3) [
+        | inl less ↦ here less
+        | inr last ↦ elim is.one [
+          | inl level_is ↦ (let under = under_from some in absurd (omega (arith, ints)))
+          | inr at ↦ elim (cases_lt at.0 turns) [
+            | inl before ↦ absurd (past at.0 before at.2)
+            | inr not_before ↦ (let e : at.0 ≡ turns = omega (arith, at.1, not_before, last, few) in subst (λ (n : ℕ). height_on level heights parity n ≡ lowest) e at.2)
+          ]
+        ]
+      ]
 
-lower_there : (level low h : ℤ) (o : Option ℤ) → h ≡ unwrap_or o low → h <ℤ low → drop_by level o ≡ drop_by level (Some h)
-lower_there level low h None is less = absurd (omega (arith, ints))
-lower_there level low h (Some z) is less = ap (λ (y : ℤ). drop_by level (Some y)) (sym is)
+-- so many ways are past while none has been the lowest
+pub record ArePast (level : ℤ) (heights : List (Option ℤ)) (parity : ℕ) (lowest : ℤ) (turns turn : ℕ) (is_past : Bool) : Type 0 where
+  pub past : (other : ℕ) → other < turns → lowest <ℤ height_on level heights parity other
+  pub all : is_past ≡ true → turns ≡ turn
+  pub here : is_past ≡ false → (turns < turn) × (height_on level heights parity turns ≤ℤ lowest)
 
-not_lower_there : (level low h : ℤ) (o : Option ℤ) → h ≡ unwrap_or o low → low ≤ℤ h → drop_by level o ≤ drop_by level (Some low)
-not_lower_there level low h None is more = omega arith
-not_lower_there level low h (Some z) is more = no_further_down level low z (omega (arith, ints))
+-- one way more
+pub past_next : (level : ℤ) (heights : List (Option ℤ)) (parity : ℕ) (lowest : ℤ) (turns turn next : ℕ) (is_past above : Bool) → ArePast level heights parity lowest turns turn is_past →
+    MatchBool above (lowest <ℤ height_on level heights parity turn) (height_on level heights parity turn ≤ℤ lowest) →
+    ((is_past && above ≡ true) × (next ≡ turns + 1)) ⊎ ((is_past && above ≡ false) × (next ≡ turns)) → ArePast level heights parity lowest next (turn + 1) (is_past && above)
+past_next level heights parity lowest turns turn next true true so_far above (inl (both, more)) = record {
+  past = λ other less. elim (cases_lt other turns) [
+    | inl before ↦ so_far.past other before
+    | inr last ↦ (let e : turn ≡ other = omega (arith, so_far.all refl, less, last, more) in subst (λ (n : ℕ). lowest <ℤ height_on level heights parity n) e above)
+  ];
+  all = λ _. omega (arith, more, so_far.all refl);
+  here = λ e. absurd (false≢true (sym e));
+}
+past_next level heights parity lowest turns turn next true true so_far above (inr (neither, same)) = absurd (false≢true (sym neither))
+past_next level heights parity lowest turns turn next true false so_far above (inl (both, more)) = absurd (false≢true both)
+past_next level heights parity lowest turns turn next true false so_far above (inr (neither, same)) = record {
+  past = λ other less. so_far.past other (omega (arith, less, same));
+  all = λ e. absurd (false≢true e);
+  here = λ _. let e : turn ≡ next = omega (arith, so_far.all refl, same) in (omega (arith, e), subst (λ (n : ℕ). height_on level heights parity n ≤ℤ lowest) e above);
+}
+past_next level heights parity lowest turns turn next false above so_far is (inl (both, more)) = absurd (false≢true both)
+past_next level heights parity lowest turns turn next false above so_far is (inr (neither, same)) = record {
+  past = λ other less. so_far.past other (omega (arith, less, same));
+  all = λ e. absurd (false≢true e);
+  here = λ _. let there = so_far.here refl in (omega (arith, there.0, same), subst (λ (n : ℕ). height_on level heights parity n ≤ℤ lowest) (sym same) there.1);
+}
 
--- a height, or the lowest so far
-pub or_lowest : (o : Option ℤ) (low : ℤ) → IfSome o IsHeight → IsHeight low → IsHeight (unwrap_or o low)
-or_lowest None low given height = height
-or_lowest (Some h) low given height = given
+-- of the four ways
+pub past_all : (level : ℤ) (heights : List (Option ℤ)) (parity : ℕ) (lowest : ℤ) (turns turn : ℕ) (is_past : Bool) → parity < 2 → IsLowestBefore level heights parity 4 lowest → turn ≡ 3 →
+    ArePast level heights parity lowest turns turn is_past → IsFurthest level heights parity 8 (drop_by level (Some lowest)) (2 * turns + parity)
+past_all level heights parity lowest turns turn is_past two is three so_far =
+    first_is_furthest level heights parity lowest two is turns few (λ other less e. let above = so_far.past other less in omega (arith, ints)) at
+  where
+    few : turns < 4
+    few = elim (cases_Bool is_past) [ inl past ↦ omega (arith, so_far.all past, three) | inr found ↦ omega (arith, (so_far.here found).0, three) ]
 
--- the lowest so far, after one way more
-pub next_lowest : (level : ℤ) (heights : List (Option ℤ)) (parity turn : ℕ) (low : ℤ) (way : ℕ) (h next : ℤ) (f : ℕ) → parity < 2 → IsFurthest level heights parity (2 * turn) (drop_by level (Some low)) way →
-    h ≡ unwrap_or (get_or heights (2 * turn + parity) None) low → low ≤ℤ level → ((h <ℤ low) × (next ≡ h) × (f ≡ 2 * turn + parity)) ⊎ ((low ≤ℤ h) × (next ≡ low) × (f ≡ way)) →
-    IsFurthest level heights parity (2 * (turn + 1)) (drop_by level (Some next)) f
-next_lowest level heights parity turn low way h next f two so_far is under (inl (less, lowest, at)) =
-    subst (λ (z : ℤ). IsFurthest level heights parity (2 * (turn + 1)) (drop_by level (Some z)) f) (sym lowest)
-    (subst (λ (n : ℕ). IsFurthest level heights parity (2 * (turn + 1)) (drop_by level (Some h)) n) (sym at)
-    (next_further level heights parity turn (drop_by level (Some low)) way two so_far (drop_by level (Some h)) (lower_there level low h _ is less) (further_down level low h less under)))
-next_lowest level heights parity turn low way h next f two so_far is under (inr (more, lowest, at)) =
-    subst (λ (z : ℤ). IsFurthest level heights parity (2 * (turn + 1)) (drop_by level (Some z)) f) (sym lowest)
-    (subst (λ (n : ℕ). IsFurthest level heights parity (2 * (turn + 1)) (drop_by level (Some low)) n) (sym at)
-    (next_no_further level heights parity turn (drop_by level (Some low)) way two so_far (not_lower_there level low h _ is more)))
+    at : turns < 3 → height_on level heights parity turns ≡ lowest
+    at less = elim (cases_Bool is_past) [
+      | inl past ↦ absurd (omega (arith, so_far.all past, three, less))
+      | inr found ↦ (let low = (so_far.here found).1 in let high = is.each turns few in omega (arith, ints))
+    ]
 
 even_square : (n h : ℕ) → n ≡ 2 * h → n * n ≡ 4 * (h * h)
 even_square n h e = ap (λ k. k * k) e ∙ omega arith

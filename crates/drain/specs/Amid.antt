@@ -1,5 +1,5 @@
 -- The code of a cell that has eight cells of the grid around it, by their places in row order.
-use Rattle.std.specs.Prelude.{◌≡◌, ℕ, ◌+◌, ◌-◌, ◌%◌, ◌<◌, ◌≤◌, ◌==◌, max, ℤ, ◌-ℤ◌, List, [], ◌∷◌, length, fold, Option, None, Some, option_map, position, slice_index_or}
+use Rattle.std.specs.Prelude.{◌≡◌, ℕ, ◌+◌, ◌-◌, ◌%◌, ◌<◌, ◌≤◌, ◌*◌, ◌⊎◌, ◌==◌, max, ℤ, ◌-ℤ◌, ◌≤ℤ◌, List, [], ◌∷◌, length, fold, Option, None, Some, option_map, unwrap_or, position, slice_index_or}
 use Rattle.std.specs.Option.{option_zip}
 use Rattle.drain.specs.Steepness.{positive_part, weights}
 use Rattle.drain.specs.declared.around.Around.{Around}
@@ -23,6 +23,17 @@ pub record HasHeights (a : Around) (level : ℤ) (heights : List (Option ℤ)) :
 -- How far a way leads down from this level.
 abbrev pub drop_on : ℤ → List (Option ℤ) → ℕ → ℕ
 drop_on level heights way = drop_by level (slice_index_or heights way None)
+
+-- The height on a way along rows and columns, which are the even ones, or across diagonals, which are the odd ones: this
+-- level where there is none.
+abbrev pub height_on : ℤ → List (Option ℤ) → ℕ → ℕ → ℤ
+height_on level heights parity turn = unwrap_or (slice_index_or heights (2 * turn + parity) None) level
+
+-- The lowest of this level and the heights on the first ways of one kind.
+pub record IsLowestBefore (level : ℤ) (heights : List (Option ℤ)) (parity end : ℕ) (lowest : ℤ) : Type 0 where
+  pub low : lowest ≤ℤ level
+  pub each : (turn : ℕ) → turn < end → lowest ≤ℤ height_on level heights parity turn
+  pub one : (lowest ≡ level) ⊎ ((turn : ℕ) × (turn < end) × (height_on level heights parity turn ≡ lowest))
 
 -- Among the ways before an end that are even, or odd, none leads further down than this drop, and where it isn't 0
 -- this way is the first that leads as far.

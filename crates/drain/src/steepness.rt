@@ -1,9 +1,10 @@
 // The direction of one cell.
-ghost use Rattle.std.specs.Prelude.{◌≡◌, ◌*◌, ◌<◌, ◌≤◌, ℕ, IfSome, IsTrue, Some, None, option_map, slice_index_or, position};
+ghost use Rattle.std.specs.Prelude.{◌≡◌, ◌*◌, ◌<◌, ◌≤◌, ◌<ℤ◌, ◌≤ℤ◌, ℕ, IfSome, IsTrue, Some, None, option_map, slice_index_or, position};
+ghost use Rattle.std.specs.Bool.{MatchBool};
 ghost use Rattle.std.specs.List.{list_any};
 ghost use Rattle.terrain.specs.Raster.{IsHeight, greatest_drop};
 ghost use Rattle.drain.specs.Steepness.{direction_of, leads_on};
-ghost use Rattle.drain.specs.Amid.{HasHeights, IsFurthest, IsSteepestWay};
+ghost use Rattle.drain.specs.Amid.{HasHeights, IsFurthest, IsLowestBefore, IsSteepestWay, drop_by, height_on};
 ghost use Rattle.drain.specs.Fitting.{IsFitting};
 ghost use Rattle.drain.specs.declared.around.Around.{Around};
 
@@ -18,8 +19,65 @@ struct Fall {
     way: usize,
 }
 
-/// The furthest way down along rows and columns, which are the even ways, or across diagonals, which are the odd
-/// ones. Among equals the first.
+/// The height on a way along rows and columns, which are the even ones, or across diagonals, which are the odd ones:
+/// this level where there is none.
+#[inline(always)]
+fn height_on(level: Height, heights: &[Option<Height>; 8], parity: usize, turn: usize) -> Height
+    requires { (parity < 2) × (turn < 4) }
+    ensures { result ≡ height_on level heights.now parity turn }
+{
+    heights[2 * turn + parity].unwrap_or(level)
+}
+
+/// The lowest height on the ways of one kind, this level where none is lower.
+#[inline(always)]
+fn lowest(level: Height, heights: &[Option<Height>; 8], parity: usize) -> Height
+    requires parity { parity < 2 }
+    requires level { IsHeight level }
+    requires heights { (way : ℕ) → way < 8 → IfSome (slice_index_or heights.now way None) IsHeight }
+    ensures height { IsHeight result }
+    ensures lowest { IsLowestBefore level heights.now parity 4 result }
+{
+    let mut lowest = level;
+    for turn in 0..4 {
+        lowest = lowest.min(height_on(level, heights, parity, turn));
+    }
+    lowest
+}
+
+/// Whether a height is above another one.
+#[inline(always)]
+fn is_above(height: Height, lowest: Height) -> bool
+    ensures { MatchBool result (lowest <ℤ height) (height ≤ℤ lowest) }
+{
+    height > lowest
+}
+
+/// The first way of one kind that has the lowest height, the last of them where none has.
+// By sums alone, since a branch on which way it is would seldom be foreseen.
+#[inline(always)]
+fn first_lowest(
+    level: Height,
+    heights: &[Option<Height>; 8],
+    parity: usize,
+    lowest: Height,
+) -> usize
+    requires parity { parity < 2 }
+    requires lowest { IsLowestBefore level heights.now parity 4 lowest }
+    ensures { IsFurthest level heights.now parity 8 (drop_by level (Some lowest)) result }
+{
+    let mut turns = 0;
+    let mut is_past = true;
+    for turn in 0..3 {
+        is_past &= is_above(height_on(level, heights, parity, turn), lowest);
+        if is_past {
+            turns += 1;
+        }
+    }
+    2 * turns + parity
+}
+
+/// The furthest way down of one kind. Among equals the first.
 #[inline(always)]
 fn furthest(level: Height, heights: &[Option<Height>; 8], parity: usize) -> Fall
     requires parity { parity < 2 }
@@ -28,19 +86,10 @@ fn furthest(level: Height, heights: &[Option<Height>; 8], parity: usize) -> Fall
     ensures value { IsFurthest level heights.now parity 8 result.drop result.way }
     ensures bound { result.drop ≤ greatest_drop }
 {
-    let mut lowest = level;
-    let mut furthest = parity;
-    for turn in 0..4 {
-        let way = 2 * turn + parity;
-        let height = heights[way].unwrap_or(lowest);
-        if height < lowest {
-            lowest = height;
-            furthest = way;
-        }
-    }
+    let lowest = lowest(level, heights, parity);
     Fall {
         drop: (level - lowest) as u64,
-        way: furthest,
+        way: first_lowest(level, heights, parity, lowest),
     }
 }
 

@@ -29,6 +29,9 @@ const MOST_LEVELS: usize = 512;
 /// Nodes for each level of the window at least, so that making the lists is little of a flood.
 const NODES_A_LEVEL: usize = 16;
 
+/// Nodes of a level for which there is room from the start, so that few lists grow.
+const FIRST_ROOM: usize = 64;
+
 /// Nodes that wait. Those at a level of the window, which begins at `base`, stand in the list of that level, and all
 /// others in the heap.
 #[derive(Drop)]
@@ -42,13 +45,13 @@ pub struct Waits {
     others: BinaryHeap<Waiting>,
 }
 
-/// Empty lists.
+/// Empty lists, with room for some nodes each.
 fn empty_lists(alloc: Global, count: usize) -> Result<Vec<Vec<Waiting>>, AllocError>
     ensures { IfOk result (λ v. entries_of v.items ≡ replicate count []) }
 {
     let mut lists = Vec::with_capacity(alloc, count)?;
     for _ in 0..count {
-        lists.push(Vec::new(alloc))?;
+        lists.push(Vec::with_capacity(alloc, FIRST_ROOM)?)?;
     }
     Ok(lists)
 }

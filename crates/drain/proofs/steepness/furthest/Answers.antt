@@ -1,29 +1,20 @@
-use Rattle.std.proofs.Common.{◌*◌, ◌+◌, inl, inr, rules, arith}
-use Rattle.std.proofs.lemmas.Int.{ints}
+use Rattle.std.proofs.Common.{rules, ◌≡◌, ◌≤ℤ◌, ℕ, ℤ, ◌-ℤ◌, nat_abs, pos, Some, SFits, sym, subst, ◌∙◌, ap, arith}
+use Rattle.std.proofs.lemmas.Int.{to_z-of_z, ints}
 use Rattle.terrain.specs.Raster.{IsHeight}
-use Rattle.drain.proofs.Steepest.{none_further, or_lowest, next_lowest}
+use Rattle.terrain.proofs.Heights.{height_width}
+use Rattle.drain.specs.Amid.{IsFurthest, drop_by}
+use Rattle.drain.proofs.Steepest.{abs_part, drop_fits}
 use Rattle.drain.proofs.steepness.furthest.Goals as goal
-use Rattle.drain.proofs.steepness.furthest.Goals.{then-height-lowest, else-height-lowest}
 
-pub loop-turn-init : goal.loop-turn-init
-loop-turn-init c = search (rules, none_further)
-
-pub loop-turn-preserved : goal.loop-turn-preserved
-loop-turn-preserved c =
-    let h = c.unwrap_or-height.result in
-    let height : IsHeight h = rw c.unwrap_or-height.ensures (or_lowest _ _ (c.requires.heights (2 * c.loop-turn.turn + c.args.parity) (omega arith)) c.loop-turn.invariant.height) in
-    record {
-      height = elim c.if-height-lowest.branch [
-        | then-height-lowest w ↦ (omega (arith, ints, height.0), omega (arith, ints, height.1))
-        | else-height-lowest w ↦ (omega (arith, ints), omega (arith, ints))
-      ];
-      low = elim c.if-height-lowest.branch [
-        | then-height-lowest w ↦ omega (arith, ints)
-        | else-height-lowest w ↦ omega (arith, ints)
-      ];
-      furthest = next_lowest _ _ c.args.parity c.loop-turn.turn _ c.loop-turn.furthest h _ _ c.requires.parity c.loop-turn.invariant.furthest c.unwrap_or-height.ensures c.loop-turn.invariant.low
-          (elim c.if-height-lowest.branch [
-            | then-height-lowest w ↦ inl (omega (arith, ints), omega (arith, ints), w.furthest-is)
-            | else-height-lowest w ↦ inr (omega (arith, ints), omega (arith, ints), w.furthest-is)
-          ]);
-    }
+pub returns-clause-value : goal.returns-clause-value
+returns-clause-value c =
+    let low = c.lowest-lowest.result in
+    let fits : SFits height_width low = search rules in
+    let level = to_z-of_z height_width c.args.level c.ranges.level in
+    let here = to_z-of_z height_width low fits in
+    let under = c.lowest-lowest.ensures.lowest.low in
+    let least : IsHeight low = c.lowest-lowest.ensures.height in
+    let own : IsHeight c.args.level = c.requires.level in
+    let down : pos 0 ≤ℤ (c.args.level -ℤ low) = omega (arith, ints, rw level at under) in
+    let fits_drop = drop_fits (c.args.level -ℤ low) down (omega (arith, ints, least.0, least.1, own.0, own.1)) in
+    rw (level, here, to_z-of_z height_width (c.args.level -ℤ low) fits_drop, abs_part (c.args.level -ℤ low) down) (rw (level, here) at c.first_lowest.ensures)
