@@ -18,12 +18,11 @@ use Rattle.drain.specs.Entering.{lent_terrain}
 use Rattle.drain.specs.Lowering.{place_at}
 use Rattle.drain.specs.Rounds.{AreWalked, IsLent, IsRound}
 use Rattle.drain.specs.Steps.{DrainsAtOnce}
-use Rattle.drain.specs.Window.{AreCounts, AreLent, AreMadeSpots, AreShown, IsHandedOut, IsOff, IsSettled, IsSpot, Shows, area_of, count_on, known_counts, spot_index}
+use Rattle.drain.specs.Window.{AreCounts, AreLent, AreShown, IsHandedOut, IsSettled, IsSpot, Shows, area_of, count_on, known_counts, spot_index}
 use Rattle.drain.proofs.DrainedLemmas.{same_terrain}
 use Rattle.drain.proofs.Few.{drains_data}
-use Rattle.drain.proofs.Nearby.{cases_option, drains_at_once}
+use Rattle.drain.proofs.Nearby.{drains_at_once}
 use Rattle.drain.proofs.Quiet.{begun_counting}
-use Rattle.drain.proofs.Spots.{made_push}
 use Rattle.drain.proofs.Spreading.{spot_below}
 use Rattle.drain.proofs.TileRound.{round_from}
 use Rattle.drain.proofs.Unique.{at_place, place_at-index_of}
@@ -136,7 +135,7 @@ module _ (t : Terrain) (sinks : List Place) (index : ℕ) (b : Bounds) (counts :
       | inr ne ↦ (
           subst (λ (n : ℕ). IsBegunSpot (DrainsBefore t sinks (index + 1)) b s n) (sym (get_or-set_other counts (spot_index b r) (spot_index b s) 0 0 ne))
           (begun_by (DrainsBefore t sinks index) (DrainsBefore t sinks (index + 1)) b s _ (λ p shows. later p) (λ p shows. earlier p (inl (λ same. ne (ap (λ (q : Place). spot_index b q)
-              (same_place s r (omega (arith, shows.0, on.0, ap (λ (q : Place). q.row) same)) (omega (arith, shows.1, on.1, ap (λ (q : Place). q.col) same)))))))
+          (same_place s r (omega (arith, shows.0, on.0, ap (λ (q : Place). q.row) same)) (omega (arith, shows.1, on.1, ap (λ (q : Place). q.col) same)))))))
           (before.each s inner low)))
     ];
   }
@@ -195,8 +194,7 @@ list_of : {X : Type 0} (Has : ℕ → X → Type 0) (lack : X) → ((k : ℕ) �
 list_of Has lack some zero = ([], refl, λ k less. absurd (omega (arith, less)))
 list_of {X = X} Has lack some (suc count) =
     let before = list_of Has lack some count in
-    let x = some count in
-    (
+    let x = some count in (
       before.0 ++ x.0 ∷ [],
       length_push before.0 x.0 ∙ ap (λ n. n + 1) before.1 ∙ omega arith,
       λ k less. elim (cases_eq k count) [
@@ -209,14 +207,16 @@ list_of {X = X} Has lack some (suc count) =
 -- there is such a list
 pub some_begun : (t : Terrain) → (begun : List (Option ℕ)) × AreBegun t begun
 some_begun t =
-    let all = list_of (λ k count. IsBegun (DrainsAtOnce t) (place_at t.cols k) count) None (λ k. one (place_at t.cols k)) (t.cols * t.rows) in
-    (all.0, record {
-      size = all.1;
-      each = λ p inside.
-          let below = index_below t.cols t.rows p inside.0 inside.1 in
-          subst (λ (o : Option ℕ). IsBegun (DrainsAtOnce t) p o) (sym (entry-inside t.cols t.rows all.0 p inside.0 inside.1))
-          (subst (λ (q : Place). IsBegun (DrainsAtOnce t) q (get_or all.0 (index_of t.cols p) None)) (place_at-index_of t.cols p inside.1) (all.2 (index_of t.cols p) below));
-    })
+    let all = list_of (λ k count. IsBegun (DrainsAtOnce t) (place_at t.cols k) count) None (λ k. one (place_at t.cols k)) (t.cols * t.rows) in (
+      all.0,
+      record {
+        size = all.1;
+        each = λ p inside.
+            let below = index_below t.cols t.rows p inside.0 inside.1 in
+            subst (λ (o : Option ℕ). IsBegun (DrainsAtOnce t) p o) (sym (entry-inside t.cols t.rows all.0 p inside.0 inside.1))
+            (subst (λ (q : Place). IsBegun (DrainsAtOnce t) q (get_or all.0 (index_of t.cols p) None)) (place_at-index_of t.cols p inside.1) (all.2 (index_of t.cols p) below));
+      },
+    )
   where
     one : (p : Place) → (count : Option ℕ) × IsBegun (DrainsAtOnce t) p count
     one p = elim (drains_at_once t p) [

@@ -59,11 +59,11 @@ lowest_next level heights parity turn lowest before = record {
     | inr ne ↦ (let low = before.each other (omega (arith, below, ne)) in omega (arith, ints, clamps))
   ];
   one = by_lt_z lowest (height_on level heights parity turn)
-    (λ less. let same : int_min lowest (height_on level heights parity turn) ≡ lowest = omega (arith, ints, clamps) in elim before.one [
-      | inl level_is ↦ inl (same ∙ level_is)
-      | inr at ↦ inr (at.0, omega (arith, at.1), at.2 ∙ sym same)
-    ])
-    (λ more. let same : int_min lowest (height_on level heights parity turn) ≡ height_on level heights parity turn = omega (arith, ints, clamps) in inr (turn, omega arith, sym same));
+      (λ less. let same : int_min lowest (height_on level heights parity turn) ≡ lowest = omega (arith, ints, clamps) in elim before.one [
+        | inl level_is ↦ inl (same ∙ level_is)
+        | inr at ↦ inr (at.0, omega (arith, at.1), at.2 ∙ sym same)
+      ])
+      (λ more. let same : int_min lowest (height_on level heights parity turn) ≡ height_on level heights parity turn = omega (arith, ints, clamps) in inr (turn, omega arith, sym same));
 }
 
 -- the way of a kind

@@ -1,8 +1,7 @@
-use Rattle.std.proofs.Common.{◌≡◌, ◌*◌, ◌+◌, ◌<◌, ◌∙◌, List, ℕ, Some, is_some, length, slice_set, sym, ap, subst, arith}
+use Rattle.std.proofs.Common.{◌+◌, ◌∙◌, List, ℕ, is_some, slice_set, sym, ap, subst, arith}
 use Rattle.std.proofs.lemmas.Bool.{false≢true}
-use Rattle.drain.proofs.Begun.{AreBegunBefore, before_all, before_any, sink_at, sink_passed, sink_put}
+use Rattle.drain.proofs.Begun.{AreBegunBefore, before_all, before_any, sink_passed, sink_put}
 use Rattle.drain.proofs.Spreading.{spot_below}
-use Rattle.drain.specs.Window.{spot_index}
 use Rattle.drain.proofs.beginning.begin_at_sinks.Goals.{then-is_some, else-is_some}
 use Rattle.drain.proofs.beginning.begin_at_sinks.Goals as goal
 

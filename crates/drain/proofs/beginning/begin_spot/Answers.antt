@@ -1,4 +1,3 @@
-use Rattle.std.proofs.Common.{arith}
 use Rattle.drain.proofs.Begun.{begun_shown}
 use Rattle.drain.proofs.beginning.begin_spot.Goals as goal
 

@@ -1,9 +1,8 @@
-use Rattle.std.proofs.Common.{◌≡◌, ◌∙◌, List, ℕ, ℤ, Option, sym, ap, subst}
+use Rattle.std.proofs.Common.{List, ℤ, Option, sym, ap, subst}
 use Rattle.terrain.specs.Raster.{Raster, Terrain, IsTerrain}
-use Rattle.tiles.specs.Cutting.{Cuts}
 use Rattle.drain.specs.Beginning.{AreBegun}
 use Rattle.drain.specs.Entering.{lent_terrain}
-use Rattle.drain.specs.Rounds.{AreSettled, LendSame}
+use Rattle.drain.specs.Rounds.{AreSettled}
 use Rattle.drain.proofs.DrainedLemmas.{same_terrain}
 use Rattle.drain.proofs.Quiet.{settled_is_steps}
 use Rattle.drain.proofs.draining.counted.Goals as goal

@@ -1,4 +1,4 @@
-use Rattle.std.proofs.Common.{◌≡◌, ◌*◌, [], ◌∷◌, map, ℕ, ℤ, List, Option, sym, ap, subst, refl, ◌∙◌}
+use Rattle.std.proofs.Common.{◌≡◌, [], ◌∷◌, map, ℕ, ℤ, List, Option, sym, ap, subst, refl, ◌∙◌}
 use Rattle.std.proofs.lemmas.Option.{MatchOption-at_some}
 use Rattle.terrain.specs.Raster.{Terrain}
 use Rattle.terrain.specs.Sinks.{with_sinks}
@@ -43,7 +43,7 @@ returns g c =
     let round = c.in_ok-counts.ensures in
     let settled = subst (λ (xs : List ℕ). IsSettled b ground.levels.items xs round.0) c.deref.ensures.value round.1 in
     let made = round_from v w b ground.levels.items old round.0 list c.in_ok-ground.ensures.lawful c.in_ok-ground.ensures.bounds c.in_ok-ground.ensures.shown lent
-        (walks t v w.cells c.requires.0 c.requires.1.1.1.0 c.requires.1.1.1.1) settled round.2 in
+    (walks t v w.cells c.requires.0 c.requires.1.1.1.0 c.requires.1.1.1.1) settled round.2 in
     subst (λ (xs : List (Option ℕ)). IsRound (DrainsAtOnce t) t v.cutting v.tile w.cells xs) (sym (c.in_ok-told.ensures ∙ each_is c.deref-2.result.now ∙ c.deref-2.ensures.value))
     (round_to (IsLent t w.cells) (DrainsAtOnce t) (with_sinks t []) t.sinks v.cutting v.tile w.cells list
     (λ p lent. let walk = MatchOption-at_some _ _ 0 lent.1 (c.requires.1.1.1.1 p) in ended (DrainsAtOnce t) t p walk.1 walk.2 walk.3)

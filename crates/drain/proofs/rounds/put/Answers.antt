@@ -1,4 +1,4 @@
-use Rattle.std.proofs.Common.{◌≡◌, ◌*◌, ◌<◌, ◌^◌, ℕ, Option, List, None, get_or, length, slice_set, unwrap_or, sym, subst, arith, ◌∙◌, ap}
+use Rattle.std.proofs.Common.{◌≡◌, ◌<◌, ◌^◌, ℕ, Option, None, length, slice_set, unwrap_or, sym, subst, arith, ◌∙◌, ap}
 use Rattle.std.proofs.lemmas.List.{get_or_default}
 use Rattle.terrain.proofs.Places.{index_below}
 use Rattle.terrain.specs.Neighbours.{index_of}

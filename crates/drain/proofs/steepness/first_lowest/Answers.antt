@@ -1,4 +1,4 @@
-use Rattle.std.proofs.Common.{rules, ◌≡◌, ℕ, ◌+◌, inl, inr, SFits, arith}
+use Rattle.std.proofs.Common.{rules, inl, inr, SFits, arith}
 use Rattle.std.proofs.lemmas.Int.{to_z-of_z}
 use Rattle.terrain.proofs.Heights.{height_width}
 use Rattle.drain.proofs.Steepest.{past_all, past_next}

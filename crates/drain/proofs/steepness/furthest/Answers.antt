@@ -1,8 +1,7 @@
-use Rattle.std.proofs.Common.{rules, ◌≡◌, ◌≤ℤ◌, ℕ, ℤ, ◌-ℤ◌, nat_abs, pos, Some, SFits, sym, subst, ◌∙◌, ap, arith}
+use Rattle.std.proofs.Common.{rules, ◌≤ℤ◌, ◌-ℤ◌, pos, SFits, arith}
 use Rattle.std.proofs.lemmas.Int.{to_z-of_z, ints}
 use Rattle.terrain.specs.Raster.{IsHeight}
 use Rattle.terrain.proofs.Heights.{height_width}
-use Rattle.drain.specs.Amid.{IsFurthest, drop_by}
 use Rattle.drain.proofs.Steepest.{abs_part, drop_fits}
 use Rattle.drain.proofs.steepness.furthest.Goals as goal
 

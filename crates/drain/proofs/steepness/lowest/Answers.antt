@@ -1,4 +1,4 @@
-use Rattle.std.proofs.Common.{rules, ◌≡◌, ◌*◌, ℕ, ◌+◌, ℤ, SFits, sym, ap, subst, ◌∙◌, arith}
+use Rattle.std.proofs.Common.{rules, ◌≡◌, ◌*◌, ◌+◌, ℤ, SFits, ap, ◌∙◌, arith}
 use Rattle.std.proofs.lemmas.Int.{to_z-of_z, ints, clamps}
 use Rattle.std.specs.Int.{int_min}
 use Rattle.terrain.specs.Raster.{IsHeight}

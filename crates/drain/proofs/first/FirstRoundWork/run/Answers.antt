@@ -1,4 +1,4 @@
-use Rattle.std.proofs.Common.{◌≡◌, ◌*◌, [], ℕ, ℤ, List, Option, sym, ap, subst, ◌∙◌}
+use Rattle.std.proofs.Common.{[], ℕ, ℤ, List, Option, sym, ap, subst, ◌∙◌}
 use Rattle.tiles.specs.Cutting.{View, IsCutting, bounds_of}
 use Rattle.tiles.proofs.Cut.{inside_from_value}
 use Rattle.drain.specs.Window.{AreCounts, IsSettled}
