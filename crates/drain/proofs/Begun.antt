@@ -1,17 +1,17 @@
 -- The counts that the first round begins with.
-use Rattle.std.proofs.Common.{◌≡◌, ◌≢◌, ℕ, zero, suc, ◌+◌, ◌-◌, ◌*◌, ◌<◌, ◌≤◌, ◌⊎◌, inl, inr, List, [], ◌∷◌, ◌++◌, map, length, get_or, Option, None, Some, slice_set, unwrap_or, Contains, ℤ, sym, ap, subst, refl, ◌∙◌, arith}
+use Rattle.std.proofs.Common.{◌≡◌, ◌≢◌, ℕ, zero, suc, ◌+◌, ◌*◌, ◌<◌, ◌≤◌, ◌⊎◌, inl, inr, List, [], ◌∷◌, ◌++◌, map, length, get_or, Option, None, Some, slice_set, unwrap_or, Contains, ℤ, sym, ap, subst, refl, ◌∙◌, arith}
 use Rattle.std.proofs.lemmas.Bool.{cases_eq, cases_lt}
 use Rattle.std.proofs.lemmas.List.{get_or_append_left, get_or_default, get_or_past, get_or_push, get_or-map, get_or-set_same, get_or-set_other, length_push, length-map, length-set}
 use Rattle.std.proofs.lemmas.Option.{none-some, same_Some}
 use Rattle.terrain.proofs.Places.{make_place, same_place, index_injective, entry-inside, index_below, inside_from_entry}
 use Rattle.terrain.specs.Raster.{Terrain}
-use Rattle.terrain.specs.Neighbours.{IsInside, IsDataCell, entry_at, index_of}
+use Rattle.terrain.specs.Neighbours.{IsDataCell, entry_at, index_of}
 use Rattle.terrain.specs.declared.place.Place.{Place}
 use Rattle.tiles.specs.declared.bounds.Bounds.{Bounds}
 use Rattle.tiles.specs.Cutting.{Cutting, IsCutting, Cuts, View, bounds_of}
 use Rattle.tile_maps.specs.Maps.{AreMadeBelow}
 use Rattle.drainage.specs.StepCounts.{known, no_count}
-use Rattle.drainage.specs.ToldCounts.{known-none, known_number}
+use Rattle.drainage.specs.ToldCounts.{known_number}
 use Rattle.drainage.proofs.Reach.{data_inside}
 use Rattle.drain.specs.Beginning.{DrainsAnyway, IsBegun, IsBegunSpot, AreBegun, AreBegunSpots}
 use Rattle.drain.specs.Entering.{lent_terrain}
@@ -23,32 +23,17 @@ use Rattle.drain.proofs.DrainedLemmas.{same_terrain}
 use Rattle.drain.proofs.Few.{drains_data}
 use Rattle.drain.proofs.Nearby.{drains_at_once}
 use Rattle.drain.proofs.Quiet.{begun_counting}
+use Rattle.drain.proofs.Spots.{shows_same, shows_none}
 use Rattle.drain.proofs.Spreading.{spot_below}
 use Rattle.drain.proofs.TileRound.{round_from}
 use Rattle.drain.proofs.Unique.{at_place, place_at-index_of}
 
-anyway_data : (t : Terrain) (p : Place) → DrainsAnyway t p → IsDataCell t p
-anyway_data t p (inl lower) = drains_data t p (inl lower)
-anyway_data t p (inr edge) = drains_data t p (inr (inl edge))
-
--- the count at a spot, where its place was computed
-pub begun_shown : (t : Terrain) (b : Bounds) (s : Place) (n : ℕ) → b.top + s.row ≢ 0 → b.left + s.col ≢ 0 → n ≤ no_count →
-    IsBegun (DrainsAnyway t) (make_place (b.top + s.row - 1) (b.left + s.col - 1)) (known n) → IsBegunSpot (DrainsAnyway t) b s n
-begun_shown t b s n row col few here = (
+-- the count at a spot
+pub begun_shown : (t : Terrain) (b : Bounds) (s q : Place) (n : ℕ) → Shows b s q → n ≤ no_count → IsBegun (DrainsAnyway t) q (known n) → IsBegunSpot (DrainsAnyway t) b s n
+begun_shown t b s q n there few here = (
   few,
-  λ p shows. subst (λ (q : Place). IsBegun (DrainsAnyway t) q (known n)) (sym (same_place p (make_place (b.top + s.row - 1) (b.left + s.col - 1)) (omega (arith, shows.0)) (omega (arith, shows.1)))) here,
-  λ off. absurd (elim off [ inl a ↦ row a | inr a ↦ col a ]),
-)
-
--- a spot that shows no place of the terrain has none
-pub begun_off : (t : Terrain) (b : Bounds) (s : Place) → ((p : Place) → Shows b s p → IsInside t p → ⊥) → IsBegunSpot (DrainsAnyway t) b s no_count
-begun_off t b s out = (
-  omega arith,
-  λ p shows. record {
-    zero = λ drains. absurd (out p shows (data_inside t p (anyway_data t p drains)));
-    only = λ n e. absurd (none-some n (sym (known-none no_count (omega arith)) ∙ e));
-  },
-  λ off. known-none no_count (omega arith),
+  λ p shows. subst (λ (r : Place). IsBegun (DrainsAnyway t) r (known n)) (shows_same b s q p there shows) here,
+  λ off. absurd (shows_none b s q there off),
 )
 
 -- the same cells drain

@@ -1,5 +1,5 @@
 -- What the spots of a tile and the places around it show.
-use Rattle.std.proofs.Common.{◌≡◌, ◌≢◌, ℕ, ◌+◌, ◌-◌, ◌*◌, ◌<◌, ◌≤◌, true, false, inl, inr, List, [], ◌∷◌, ◌++◌, length, get_or, Option, None, unwrap_or, sym, ap, subst, refl, ◌∙◌, arith}
+use Rattle.std.proofs.Common.{◌≡◌, ℕ, ◌+◌, ◌-◌, ◌*◌, ◌<◌, ◌≤◌, true, false, inl, inr, List, [], ◌∷◌, ◌++◌, length, get_or, Option, None, unwrap_or, sym, ap, subst, refl, ◌∙◌, arith}
 use Rattle.std.proofs.lemmas.Bool.{cases_Bool, cases_eq, cases_lt, cond-true, cond-false, and_from, and_left, le-leb}
 use Rattle.std.proofs.lemmas.List.{get_or_append_left, get_or-append_right, length-append, get_or_push, length_push}
 use Rattle.std.proofs.lemmas.Option.{unwrap_or-slice_get}
@@ -10,7 +10,7 @@ use Rattle.terrain.specs.declared.place.Place.{Place}
 use Rattle.tiles.specs.declared.bounds.Bounds.{Bounds}
 use Rattle.tiles.specs.Cutting.{Cutting, View, AreBounds, bounds_of, is_within, is_shown, cell_shown, row_shown}
 use Rattle.drainage.specs.StepCounts.{known}
-use Rattle.drain.specs.Window.{IsInner, IsHandedOut, count_on, spot_index, area_of, IsSpot, Shows, IsShown, AreMadeSpots, AreShownBelow, AreShown}
+use Rattle.drain.specs.Window.{IsInner, IsHandedOut, count_on, spot_index, area_of, IsSpot, Shows, IsOff, IsShown, AreMadeSpots, AreShownBelow, AreShown}
 use Rattle.tile_maps.specs.Maps.{AreMadeBelow}
 use Rattle.drain.proofs.Spreading.{spot_below}
 use Rattle.tile_maps.proofs.TileLists.{made_next}
@@ -43,15 +43,20 @@ shown_is {X = X} v b s p e spot shows =
       | inr out ↦ ap (λ (o : Option (Option X)). unwrap_or o None) (cond-false _ _ _ (not_shown v.cutting v.tile p out)) ∙ sym (cond-false _ _ _ out)
     ]
 
--- the same, where the place was computed
-pub shown_at : {X : Type 0} (v : View (Option X)) (b : Bounds) (s : Place) (o : Option (Option X)) (x : Option X) → b ≡ bounds_of v.cutting v.tile → IsSpot b s →
-    (b.top + s.row ≢ 0) → (b.left + s.col ≢ 0) → o ≡ cell_shown v (make_place (b.top + s.row - 1) (b.left + s.col - 1)) → x ≡ unwrap_or o None →
-    IsShown v.cutting.cols v.cutting.rows v.cells b s x
-shown_at {X = X} v b s o x e spot row col is value = (
-  λ p shows.
-      let here : p ≡ make_place (b.top + s.row - 1) (b.left + s.col - 1) = same_place p (make_place (b.top + s.row - 1) (b.left + s.col - 1)) (omega (arith, shows.0)) (omega (arith, shows.1)) in
-      value ∙ ap (λ (o : Option (Option X)). unwrap_or o None) (is ∙ ap (λ (q : Place). cell_shown v q) (sym here)) ∙ shown_is v b s p e spot shows,
-  λ off. absurd (elim off [ inl a ↦ row a | inr a ↦ col a ]),
+-- a spot shows one place, or is off the grid
+pub shows_same : (b : Bounds) (s p q : Place) → Shows b s p → Shows b s q → p ≡ q
+shows_same b s p q here there = same_place p q (omega (arith, here.0, there.0)) (omega (arith, here.1, there.1))
+
+pub shows_none : (b : Bounds) (s p : Place) → Shows b s p → IsOff b s → ⊥
+shows_none b s p shows (inl off) = omega (arith, shows.0, off)
+shows_none b s p shows (inr off) = omega (arith, shows.1, off)
+
+-- the same, at the place that it shows
+pub shown_at : {X : Type 0} (v : View (Option X)) (b : Bounds) (s q : Place) (o : Option (Option X)) (x : Option X) → b ≡ bounds_of v.cutting v.tile → IsSpot b s →
+    Shows b s q → o ≡ cell_shown v q → x ≡ unwrap_or o None → IsShown v.cutting.cols v.cutting.rows v.cells b s x
+shown_at {X = X} v b s q o x e spot there is value = (
+  λ p shows. value ∙ ap (λ (o : Option (Option X)). unwrap_or o None) (is ∙ ap (λ (r : Place). cell_shown v r) (shows_same b s q p there shows)) ∙ shown_is v b s p e spot shows,
+  λ off. absurd (shows_none b s q there off),
 )
 
 -- one spot more

@@ -9,6 +9,7 @@ ghost use Rattle.drain.specs.Window.{AreMadeSpots, IsSpot, Shows, spot_index};
 ghost use Rattle.terrain.specs.declared.place.Place.{Place};
 
 use crate::amid::cells_around;
+use crate::looking::place_shown;
 use drainage::NO_COUNT;
 use std::alloc::{AllocError, Global};
 use terrain::{Grid, Height, Place};
@@ -87,16 +88,10 @@ fn begin_spot(grid: &Grid, bounds: Bounds, spot: Place) -> u32
     requires spot { IsSpot bounds spot }
     ensures { IsBegunSpot (DrainsAnyway grid.now.terrain) bounds spot result }
 {
-    let row = bounds.top + spot.row;
-    let col = bounds.left + spot.col;
-    if row == 0 || col == 0 || row > grid.rows() || col > grid.cols() {
-        return NO_COUNT;
+    match place_shown(bounds, spot) {
+        Some(place) if place.row < grid.rows() && place.col < grid.cols() => begin_at(grid, place),
+        _ => NO_COUNT,
     }
-    let place = Place {
-        row: row - 1,
-        col: col - 1,
-    };
-    begin_at(grid, place)
 }
 
 /// Begins the counts of one row of spots.

@@ -1,8 +1,8 @@
 // A tile and the places around it, taken out of the lists of the whole grid, and put back.
-ghost use Rattle.std.specs.Prelude.{◌≡◌, ℕ, ◌+◌, ◌-◌, ◌*◌, ◌^◌, ◌<◌, ◌≤◌, length, map, None, OnOk, IfOk, slice_index_or};
+ghost use Rattle.std.specs.Prelude.{◌≡◌, ℕ, ◌+◌, ◌-◌, ◌*◌, ◌^◌, ◌<◌, ◌≤◌, length, map, MatchOption, None, OnOk, IfOk, slice_index_or};
 ghost use Rattle.terrain.specs.declared.place.Place.{Place};
 ghost use Rattle.tiles.specs.Cutting.{IsCutting, AreBounds, bounds_of, terrain_of};
-ghost use Rattle.drain.specs.Window.{area_of, spot_index, IsSpot, IsShown, AreShown, AreShownBelow, AreLent, IsHandedOut};
+ghost use Rattle.drain.specs.Window.{area_of, spot_index, IsSpot, IsOff, Shows, IsShown, AreShown, AreShownBelow, AreLent, IsHandedOut};
 ghost use Rattle.tile_maps.specs.Maps.{AreMadeBelow};
 
 use crate::window::Ground;
@@ -10,6 +10,24 @@ use drainage::{NO_COUNT, StepCount};
 use std::alloc::{AllocError, Global};
 use terrain::{Height, Place};
 use tiles::{Bounds, TileView};
+
+/// The place that a spot shows, None where that lies north or west of the grid.
+#[inline(always)]
+pub(crate) fn place_shown(bounds: Bounds, spot: Place) -> Option<Place>
+    requires bounds { (bounds.top + bounds.rows ≤ 4096) × (bounds.left + bounds.cols ≤ 4096) }
+    requires spot { IsSpot bounds spot }
+    ensures { MatchOption result (IsOff bounds spot) (λ p. Shows bounds spot p) }
+{
+    let row = bounds.top + spot.row;
+    let col = bounds.left + spot.col;
+    if row == 0 || col == 0 {
+        return None;
+    }
+    Some(Place {
+        row: row - 1,
+        col: col - 1,
+    })
+}
 
 /// What a view has at the place of a spot, None off the grid.
 #[inline(always)]
@@ -20,15 +38,7 @@ fn shown<T: Copy>(view: &TileView<'_, Option<T>>, bounds: Bounds, spot: Place) -
     requires spot { IsSpot bounds spot }
     ensures { IsShown view.now.cutting.cols view.now.cutting.rows view.now.cells bounds spot result }
 {
-    let row = bounds.top + spot.row;
-    let col = bounds.left + spot.col;
-    if row == 0 || col == 0 {
-        return None;
-    }
-    let place = Place {
-        row: row - 1,
-        col: col - 1,
-    };
+    let place = place_shown(bounds, spot)?;
     view.at(place).copied().unwrap_or(None)
 }
 

@@ -4,5 +4,5 @@ use Rattle.drain.proofs.looking.shown.Goals as goal
 
 pub returns : goal.returns
 returns g c =
-    shown_at c.args.view.now c.args.bounds c.args.spot c.copied.result c.unwrap_or.result c.requires.bounds c.requires.spot
-    c.if-row-eq0.false c.if-col-eq0.false (c.copied.ensures ∙ c.at.ensures) c.unwrap_or.ensures
+    shown_at c.args.view.now c.args.bounds c.args.spot c.in_ok-place.place c.copied.result c.unwrap_or.result c.requires.bounds c.requires.spot
+    c.in_ok-place.ensures (c.copied.ensures ∙ c.at.ensures) c.unwrap_or.ensures
