@@ -16,9 +16,6 @@ use std::sync::Wait;
 use std::thread::Threads;
 use tile_jobs::{Gate, NoGate};
 
-/// As long as the longest list of a tile of 512 by 512 cells.
-const KEPT_BYTES: usize = 1 << 22;
-
 /// Reads a grid, and writes the map that is asked for: what is written is the map of the grid that the
 /// bytes read spell, with the sinks asked for, for every tile size, number of workers and schedule. Nothing is written before the
 /// map is whole, and from the first byte on only [`RunFault::Write`] can come and no memory is taken.
@@ -53,19 +50,10 @@ pub fn run_gated<H: Threads + Wait + Sync, R: Read, W: Write, G: Gate + Sync>(
     ensures { Runs R.remaining W.contents options.now reader.old reader.new writer.old writer.new result }
 {
     let grid = read_grid(alloc, options.scale(), reader)?;
-    keep_freed_memory(alloc);
     let (grid, tiling) = prepare(alloc, options, grid)?;
     let made = make_map(rt, alloc, options, grid, &tiling, gate)?;
     write_map(&made, writer)?;
     Ok(())
-}
-
-/// Has the allocator keep what a tile's job lets go for the next one, where there is memory for that: glibc's malloc keeps
-/// lists as long as the longest one that was ever let go, and gives the pages of longer ones back to the system each time.
-fn keep_freed_memory(alloc: Global) {
-    if let Ok(list) = Vec::<u8>::with_capacity(alloc, KEPT_BYTES) {
-        drop(list);
-    }
 }
 
 /// Writes a map with the header of its grid. It takes no memory.
