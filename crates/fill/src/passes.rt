@@ -264,7 +264,8 @@ fn push_around(
     Ok(())
 }
 
-/// Whether an entry is equal to the eight around it in rows of this width.
+/// Whether an entry is equal to the eight around it in rows of this width. All are compared, since a branch on which is
+/// the first that differs would seldom be foreseen.
 #[inline(always)]
 fn are_equal_around(labels: &[u32], index: usize, width: usize) -> bool
     requires before { width + 1 ≤ index }
@@ -274,14 +275,14 @@ fn are_equal_around(labels: &[u32], index: usize, width: usize) -> bool
     let label = labels[index];
     let above = index - width;
     let below = index + width;
-    labels[index - 1] == label
-        && labels[index + 1] == label
-        && labels[above - 1] == label
-        && labels[above] == label
-        && labels[above + 1] == label
-        && labels[below - 1] == label
-        && labels[below] == label
-        && labels[below + 1] == label
+    (labels[index - 1] == label)
+        & (labels[index + 1] == label)
+        & (labels[above - 1] == label)
+        & (labels[above] == label)
+        & (labels[above + 1] == label)
+        & (labels[below - 1] == label)
+        & (labels[below] == label)
+        & (labels[below + 1] == label)
 }
 
 /// Adds the joins of a cell that is not on the rim of its tile. Most cells have one label around them, and none.
