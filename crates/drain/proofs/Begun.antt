@@ -1,7 +1,9 @@
 -- The counts that the first round begins with.
-use Rattle.std.proofs.Common.{◌≡◌, ◌≢◌, ℕ, zero, suc, ◌+◌, ◌*◌, ◌<◌, ◌≤◌, ◌⊎◌, inl, inr, List, [], ◌∷◌, ◌++◌, map, length, get_or, Option, None, Some, slice_set, unwrap_or, Contains, ℤ, sym, ap, subst, refl, ◌∙◌, arith}
+use Rattle.std.proofs.Common.{◌≡◌, ℕ, suc, ◌+◌, ◌*◌, ◌<◌, ◌≤◌, ◌⊎◌, inl, inr, List, [], ◌∷◌, map, length, get_or, Option, None, Some, slice_set, unwrap_or, Contains, ℤ, sym, ap, subst, refl, ◌∙◌, arith}
 use Rattle.std.proofs.lemmas.Bool.{cases_eq, cases_lt}
-use Rattle.std.proofs.lemmas.List.{get_or_append_left, get_or_default, get_or_past, get_or_push, get_or-map, get_or-set_same, get_or-set_other, length_push, length-map, length-set}
+use Rattle.std.proofs.lemmas.List.{get_or_default, get_or_past, get_or-map, get_or-set_same, get_or-set_other, length-map, length-set}
+use Rattle.std.proofs.lemmas.List.FromFn.{length-range_with_len, get_or-map-range_with_len}
+use Rattle.std.specs.List.{range_with_len}
 use Rattle.std.proofs.lemmas.Option.{none-some, same_Some}
 use Rattle.terrain.proofs.Places.{make_place, same_place, index_injective, entry-inside, index_below, inside_from_entry}
 use Rattle.terrain.specs.Raster.{Terrain}
@@ -89,10 +91,10 @@ module _ (t : Terrain) (sinks : List Place) (index : ℕ) (b : Bounds) (counts :
   later p (inl anyway) = inl anyway
   later p (inr one) = inr (one.0, one.1, omega (arith, one.2), one.3, one.4)
 
-  earlier : (p : Place) → p ≢ sink ⊎ (IsDataCell t p → ⊥) → DrainsBefore t sinks (index + 1) p → DrainsBefore t sinks index p
+  earlier : (p : Place) → (p ≡ sink → IsDataCell t p → ⊥) → DrainsBefore t sinks (index + 1) p → DrainsBefore t sinks index p
   earlier p other (inl anyway) = inl anyway
   earlier p other (inr one) = elim (cases_eq one.1 index) [
-    | inl last ↦ (let same : p ≡ sink = sym one.4 ∙ ap (λ n. get_or sinks n p) last ∙ named p in absurd (elim other [ inl apart ↦ apart same | inr gap ↦ gap one.0 ]))
+    | inl last ↦ absurd (other (sym one.4 ∙ ap (λ n. get_or sinks n p) last ∙ named p) one.0)
     | inr ne ↦ inr (one.0, one.1, omega (arith, one.2, ne), one.3, one.4)
   ]
 
@@ -100,14 +102,7 @@ module _ (t : Terrain) (sinks : List Place) (index : ℕ) (b : Bounds) (counts :
   pub sink_passed : ((s : Place) → IsSpot b s → Shows b s (sink_at sinks index) → IsDataCell t (sink_at sinks index) → ⊥) → AreBegunBefore t sinks (index + 1) b counts
   sink_passed out =
       spots_by (DrainsBefore t sinks index) (DrainsBefore t sinks (index + 1)) b counts (λ s p spot shows. later p)
-      (λ s p spot shows drains. elim (drains) [
-        | inl anyway ↦ inl anyway
-        | inr one ↦ elim (cases_eq one.1 index) [
-          | inl last ↦ (let same : p ≡ sink = sym one.4 ∙ ap (λ n. get_or sinks n p) last ∙ named p in
-              absurd (out s spot (subst (λ (q : Place). Shows b s q) same shows) (subst (λ (q : Place). IsDataCell t q) same one.0)))
-          | inr ne ↦ inr (one.0, one.1, omega (arith, one.2, ne), one.3, one.4)
-        ]
-      ]) before
+      (λ s p spot shows. earlier p (λ same is. out s spot (subst (λ (q : Place). Shows b s q) same shows) (subst (λ (q : Place). IsDataCell t q) same is))) before
 
   -- the count of a spot that shows it
   pub sink_put : (r : Place) → IsSpot b r → Shows b r (sink_at sinks index) → IsDataCell t (sink_at sinks index) → AreBegunBefore t sinks (index + 1) b (slice_set counts (spot_index b r) 0)
@@ -119,8 +114,8 @@ module _ (t : Terrain) (sinks : List Place) (index : ℕ) (b : Bounds) (counts :
           (subst (λ (n : ℕ). IsBegunSpot (DrainsBefore t sinks (index + 1)) b r n) (sym (get_or-set_same counts (spot_index b r) 0 0 (omega (arith, before.size, spot_below b r spot)))) begun))
       | inr ne ↦ (
           subst (λ (n : ℕ). IsBegunSpot (DrainsBefore t sinks (index + 1)) b s n) (sym (get_or-set_other counts (spot_index b r) (spot_index b s) 0 0 ne))
-          (begun_by (DrainsBefore t sinks index) (DrainsBefore t sinks (index + 1)) b s _ (λ p shows. later p) (λ p shows. earlier p (inl (λ same. ne (ap (λ (q : Place). spot_index b q)
-          (same_place s r (omega (arith, shows.0, on.0, ap (λ (q : Place). q.row) same)) (omega (arith, shows.1, on.1, ap (λ (q : Place). q.col) same)))))))
+          (begun_by (DrainsBefore t sinks index) (DrainsBefore t sinks (index + 1)) b s _ (λ p shows. later p) (λ p shows. earlier p (λ same is. ne (ap (λ (q : Place). spot_index b q)
+          (same_place s r (omega (arith, shows.0, on.0, ap (λ (q : Place). q.row) same)) (omega (arith, shows.1, on.1, ap (λ (q : Place). q.col) same))))))
           (before.each s inner low)))
     ];
   }
@@ -128,7 +123,7 @@ module _ (t : Terrain) (sinks : List Place) (index : ℕ) (b : Bounds) (counts :
       begun : IsBegunSpot (DrainsBefore t sinks (index + 1)) b r 0
       begun = (
         omega arith,
-        λ p shows. let same : p ≡ sink = same_place p sink (omega (arith, shows.0, on.0)) (omega (arith, shows.1, on.1)) in record {
+        λ p shows. let same : p ≡ sink = shows_same b r p sink shows on in record {
           zero = λ drains. refl;
           only = λ n e. (inr (subst (λ (q : Place). IsDataCell t q) (sym same) here, index, omega arith, below, named p ∙ sym same), same_Some n 0 (sym e));
         },
@@ -174,40 +169,30 @@ module _ (t : Terrain) (b : Bounds) (counts : List ℕ) (begun : List (Option �
             only = λ n e. (first.each p (inside_from_entry t.cols t.rows begun p n e)).only n e;
           }
 
--- a list with something for each index
-list_of : {X : Type 0} (Has : ℕ → X → Type 0) (lack : X) → ((k : ℕ) → (x : X) × Has k x) → (count : ℕ) → (xs : List X) × (length xs ≡ count) × ((k : ℕ) → k < count → Has k (get_or xs k lack))
-list_of Has lack some zero = ([], refl, λ k less. absurd (omega (arith, less)))
-list_of {X = X} Has lack some (suc count) =
-    let before = list_of Has lack some count in
-    let x = some count in (
-      before.0 ++ x.0 ∷ [],
-      length_push before.0 x.0 ∙ ap (λ n. n + 1) before.1 ∙ omega arith,
-      λ k less. elim (cases_eq k count) [
-        | inl e ↦ subst (λ (n : ℕ). Has n (get_or (before.0 ++ x.0 ∷ []) n lack)) (sym e) (subst (λ (o : X). Has count o) (sym (get_or_push before.0 x.0 lack count before.1)) x.1)
-        | inr ne ↦ (let low : k < count = omega (arith, less, ne) in
-            subst (λ (o : X). Has k o) (sym (get_or_append_left before.0 (x.0 ∷ []) lack k (omega (arith, before.1, low)))) (before.2 k low))
-      ],
-    )
+begun_at : (t : Terrain) (p : Place) → (count : Option ℕ) × IsBegun (DrainsAtOnce t) p count
+begun_at t p = elim (drains_at_once t p) [
+  | inl drains ↦ (Some 0, record { zero = λ _. refl; only = λ n e. (drains, same_Some n 0 (sym e)) })
+  | inr keeps ↦ (None, record { zero = λ drains. absurd (keeps drains); only = λ n e. absurd (none-some n e) })
+]
+
+abbrev begun_in : Terrain → ℕ → Option ℕ
+begun_in t k = (begun_at t (place_at t.cols k)).0
 
 -- there is such a list
 pub some_begun : (t : Terrain) → (begun : List (Option ℕ)) × AreBegun t begun
 some_begun t =
-    let all = list_of (λ k count. IsBegun (DrainsAtOnce t) (place_at t.cols k) count) None (λ k. one (place_at t.cols k)) (t.cols * t.rows) in (
-      all.0,
+    let count = t.cols * t.rows in
+    let begun = map (begun_in t) (range_with_len 0 count) in (
+      begun,
       record {
-        size = all.1;
+        size = length-map (range_with_len 0 count) (begun_in t) ∙ length-range_with_len 0 count;
         each = λ p inside.
-            let below = index_below t.cols t.rows p inside.0 inside.1 in
-            subst (λ (o : Option ℕ). IsBegun (DrainsAtOnce t) p o) (sym (entry-inside t.cols t.rows all.0 p inside.0 inside.1))
-            (subst (λ (q : Place). IsBegun (DrainsAtOnce t) q (get_or all.0 (index_of t.cols p) None)) (place_at-index_of t.cols p inside.1) (all.2 (index_of t.cols p) below));
+            let at = entry-inside t.cols t.rows begun p inside.0 inside.1
+            ∙ get_or-map-range_with_len (begun_in t) 0 count (index_of t.cols p) (index_of t.cols p) None (index_below t.cols t.rows p inside.0 inside.1) (omega arith)
+            ∙ ap (λ q. (begun_at t q).0) (place_at-index_of t.cols p inside.1) in
+            subst (λ (o : Option ℕ). IsBegun (DrainsAtOnce t) p o) (sym at) (begun_at t p).1;
       },
     )
-  where
-    one : (p : Place) → (count : Option ℕ) × IsBegun (DrainsAtOnce t) p count
-    one p = elim (drains_at_once t p) [
-      | inl drains ↦ (Some 0, record { zero = λ _. refl; only = λ n e. (drains, same_Some n 0 (sym e)) })
-      | inr keeps ↦ (None, record { zero = λ drains. absurd (keeps drains); only = λ n e. absurd (none-some n e) })
-    ]
 
 -- a round from these counts
 pub begun_round : (t : Terrain) (v : View (Option ℤ)) (c : Cutting) (tile : ℕ) (b : Bounds) (levels : List (Option ℤ)) (old new : List ℕ) (list begun : List (Option ℕ)) →

@@ -47,9 +47,6 @@ pub or_level : (o : Option ℤ) (level : ℤ) → IfSome o IsHeight → IsHeight
 or_level None level given height = height
 or_level (Some h) level given height = given
 
-pub lowest_none : (level : ℤ) (heights : List (Option ℤ)) (parity : ℕ) → IsLowestBefore level heights parity 0 level
-lowest_none level heights parity = record { low = omega (arith, ints); each = λ turn below. absurd (omega (arith, below)); one = inl refl }
-
 pub lowest_next : (level : ℤ) (heights : List (Option ℤ)) (parity turn : ℕ) (lowest : ℤ) → IsLowestBefore level heights parity turn lowest →
     IsLowestBefore level heights parity (turn + 1) (int_min lowest (height_on level heights parity turn))
 lowest_next level heights parity turn lowest before = record {

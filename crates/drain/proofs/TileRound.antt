@@ -18,6 +18,7 @@ use Rattle.drainage.specs.ToldCounts.{known-some, known-none}
 use Rattle.drain.specs.Window.{AreCounts, spot_index, area_of, IsSpot, IsInner, Shows, IsShown, AreShown, level_on, count_on, IsSpread, same, moved, IsSettled, known_counts, IsHandedOut, AreLent}
 use Rattle.drain.proofs.Spreading.{spot_below, spread_not_above, spread_counts, spread-length, spot_from_inner}
 use Rattle.drain.proofs.Counted.{height_is}
+use Rattle.drain.proofs.Spots.{shows_same}
 use Rattle.drain.proofs.Unique.{at_place}
 use Rattle.drain.proofs.Few.{data_on_level_walk}
 
@@ -34,9 +35,6 @@ is_on {X = X} cols rows entries b s o x shown is =
             (make_place (b.top + s.row - 1) (b.left + s.col - 1), here, sym (shown.0 (make_place (b.top + s.row - 1) (b.left + s.col - 1)) here) ∙ is))
       ]
     ]
-
-shows_one : (b : Bounds) (s : Place) (p q : Place) → Shows b s p → Shows b s q → p ≡ q
-shows_one b s p q f g = same_place p q (omega (arith, f.0, g.0)) (omega (arith, f.1, g.1))
 
 -- each count that is known is of a walk to a cell that is lent 0, from the place that its spot shows
 IsSound : Terrain → List (Option ℕ) → Bounds → List ℕ → Type 0
@@ -196,7 +194,7 @@ module _ (t : Terrain) (c : Cutting) (tile : ℕ) (b : Bounds) (steps shown : Li
       (known-if (count_on b new (spot_of b p)) (IsWalked (IsLent t steps) t p) (λ less. place_one p inner.1 (sound (spot_of b p) (spot_from_inner b (spot_of b p) inner.0) less)))
     where
       place_one : (p : Place) → Shows b (spot_of b p) p → (q : Place) × Shows b (spot_of b p) q × IsWalked (IsLent t steps) t q (count_on b new (spot_of b p)) → IsWalked (IsLent t steps) t p (count_on b new (spot_of b p))
-      place_one p f h = subst (λ (x : Place). IsWalked (IsLent t steps) t x (count_on b new (spot_of b p))) (shows_one b (spot_of b p) h.0 p h.1 f) h.2
+      place_one p f h = subst (λ (x : Place). IsWalked (IsLent t steps) t x (count_on b new (spot_of b p))) (shows_same b (spot_of b p) h.0 p h.1 f) h.2
 
   near_here : (p q : Place) → IsInTile c tile p → IsNeighbour t p q → height_at t q ≡ height_at t p → IsOneAbove (tile_entry c tile list p) (entry_at t.cols t.rows steps q)
   near_here p q i next level m e less =
@@ -251,9 +249,6 @@ lent_to v w b old cutting tile bounds lent =
 
 pub lent_small : (t : Terrain) (b : Bounds) (steps : List (Option ℕ)) (old : List ℕ) → AreLent t.cols t.rows steps b old → AreWalked (IsLent t steps) t steps → AreCounts old
 lent_small t b steps old lent walks = subst (λ (xs : List ℕ). AreCounts xs) (sym lent.value) (counts_small t b steps lent.shown lent.size lent.seen walks)
-
-pub lent_size : (t : Terrain) (b : Bounds) (steps : List (Option ℕ)) (old : List ℕ) → AreLent t.cols t.rows steps b old → length old ≡ area_of b
-lent_size t b steps old lent = ap (λ (xs : List ℕ). length xs) lent.value ∙ length-map lent.shown (λ (o : Option ℕ). unwrap_or o no_count) ∙ lent.size
 
 pub round_from : (v : View (Option ℤ)) (w : View (Option ℕ)) (b : Bounds) (levels : List (Option ℤ)) (old new : List ℕ) (list : List (Option ℕ)) →
     IsCutting v.cutting → b ≡ bounds_of v.cutting v.tile → AreShown v.cutting.cols v.cutting.rows v.cells b levels → AreLent v.cutting.cols v.cutting.rows w.cells b old →

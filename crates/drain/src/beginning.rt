@@ -1,15 +1,15 @@
 // The counts that the first round begins with: 0 at each cell that drains at once, named sinks last.
-ghost use Rattle.std.specs.Prelude.{◌≡◌, ℕ, ◌+◌, ◌*◌, ◌<◌, ◌≤◌, ◌↔◌, Some, MatchOption, None, length, IsTrue, OnOk, IfOk, slice_index_or};
+ghost use Rattle.std.specs.Prelude.{◌≡◌, ℕ, ◌+◌, ◌*◌, ◌<◌, ◌≤◌, ◌↔◌, Some, None, length, IsTrue, OnOk, IfOk, slice_index_or};
 ghost use Rattle.std.specs.Bool.{MatchBool};
 ghost use Rattle.terrain.specs.Neighbours.{IsInside, height_at};
 ghost use Rattle.drainage.specs.StepCounts.{known, no_count};
 ghost use Rattle.drain.specs.Beginning.{DrainsAnyway, IsGapOrLower, IsOutermost, IsBegun, IsBegunSpot, AreBegunSpots, IsPartOf};
 ghost use Rattle.drain.specs.Steps.{DrainsAtOnce};
-ghost use Rattle.drain.specs.Window.{AreMadeSpots, IsSpot, Shows, spot_index};
-ghost use Rattle.terrain.specs.declared.place.Place.{Place};
+ghost use Rattle.drain.specs.Window.{AreMadeSpots, IsSpot};
 
 use crate::amid::cells_around;
-use crate::looking::place_shown;
+use crate::looking::{place_shown, spot_of};
+use crate::window::Ground;
 use drainage::NO_COUNT;
 use std::alloc::{AllocError, Global};
 use terrain::{Grid, Height, Place};
@@ -112,45 +112,18 @@ fn begin_along(
     Ok(())
 }
 
-/// Where the spot of a place stands among those of a tile and the places around it.
-fn spot_of(bounds: Bounds, place: Place) -> Option<usize>
-    requires { (bounds.top + bounds.rows ≤ 4096) × (bounds.left + bounds.cols ≤ 4096) }
-    ensures { MatchOption result ((s : Place) → IsSpot bounds s → Shows bounds s place → ⊥)
-        (λ index. (s : Place) × IsSpot bounds s × Shows bounds s place × (index ≡ spot_index bounds s)) }
-{
-    let Bounds {
-        top,
-        left,
-        rows,
-        cols,
-    } = bounds;
-    if place.row > top + rows || place.col > left + cols {
-        return None;
-    }
-    let row = place.row + 1;
-    let col = place.col + 1;
-    if row < top || col < left {
-        return None;
-    }
-    let spot = Place {
-        row: row - top,
-        col: col - left,
-    };
-    Some(spot.index_in(cols + 2))
-}
-
 /// Puts the count 0 at the spot of each named sink that has data.
-fn begin_at_sinks(grid: &Grid, bounds: Bounds, counts: &mut [u32])
-    requires inside { IsPartOf grid.now.terrain bounds }
-    requires counts { AreBegunSpots (DrainsAnyway grid.now.terrain) bounds counts.old }
-    ensures { AreBegunSpots (DrainsAtOnce grid.now.terrain) bounds counts.new }
+fn begin_at_sinks(grid: &Grid, ground: &Ground, counts: &mut [u32])
+    requires inside { IsPartOf grid.now.terrain ground.now.bounds }
+    requires counts { AreBegunSpots (DrainsAnyway grid.now.terrain) ground.now.bounds counts.old }
+    ensures { AreBegunSpots (DrainsAtOnce grid.now.terrain) ground.now.bounds counts.new }
 {
     for sink in grid.sinks() {
-        let Some(index) = spot_of(bounds, *sink) else {
+        let Some(spot) = spot_of(ground.bounds, *sink) else {
             continue;
         };
         if grid.at(*sink).is_some() {
-            counts[index] = 0;
+            counts[ground.index(spot)] = 0;
         }
     }
 }
@@ -159,11 +132,12 @@ fn begin_at_sinks(grid: &Grid, bounds: Bounds, counts: &mut [u32])
 pub(crate) fn begun_counts(
     alloc: Global,
     grid: &Grid,
-    bounds: Bounds,
+    ground: &Ground,
 ) -> Result<Vec<u32>, AllocError>
-    requires inside { IsPartOf grid.now.terrain bounds }
-    ensures { IfOk result (λ counts. AreBegunSpots (DrainsAtOnce grid.now.terrain) bounds counts.items) }
+    requires inside { IsPartOf grid.now.terrain ground.now.bounds }
+    ensures { IfOk result (λ counts. AreBegunSpots (DrainsAtOnce grid.now.terrain) ground.now.bounds counts.items) }
 {
+    let bounds = ground.bounds;
     let mut counts = Vec::with_capacity(
         alloc,
         (bounds.rows as usize + 2) * (bounds.cols as usize + 2),
@@ -171,6 +145,6 @@ pub(crate) fn begun_counts(
     for row in 0..bounds.rows + 2 {
         begin_along(grid, bounds, row, &mut counts)?;
     }
-    begin_at_sinks(grid, bounds, &mut counts);
+    begin_at_sinks(grid, ground, &mut counts);
     Ok(counts)
 }

@@ -1,5 +1,5 @@
 // The first round, over all tiles.
-ghost use Rattle.std.specs.Prelude.{◌≡◌, ℕ, ◌*◌, ◌≤◌, List, Option, length, IfOk};
+ghost use Rattle.std.specs.Prelude.{ℕ, List, Option, IfOk};
 ghost use Rattle.tile_jobs.specs.Fault.{RefusesWorkers};
 ghost use Rattle.tiles.specs.Cutting.{Cuts, IsCutting};
 ghost use Rattle.drain.specs.Beginning.{AreBegun};
@@ -41,11 +41,10 @@ impl<'a> Work for FirstRound<'a> {
     ghost gives = { λ f tile out. let t = lent_terrain f.tiling.now f.grid.now.terrain.cells in
         (begun : List (Option ℕ)) → AreBegun f.grid.now.terrain begun → IsRound (IsLent t begun) t f.tiling.now tile begun out.items };
 
-    #[tactic(auto, using(crate::proofs::TileLists::part_of))]
     fn run(&self, alloc: Global, job: u32) -> Result<Vec<StepCount>, JobFault> {
         let levels = self.tiling.view(self.grid.cells(), job);
         let ground = looking::ground(alloc, &levels)?;
-        let begun = begun_counts(alloc, self.grid, ground.bounds)?;
+        let begun = begun_counts(alloc, self.grid, &ground)?;
         let list = round(alloc, &ground, &begun)?;
         Ok(list)
     }

@@ -1,8 +1,8 @@
 // A tile and the places around it, taken out of the lists of the whole grid, and put back.
-ghost use Rattle.std.specs.Prelude.{◌≡◌, ℕ, ◌+◌, ◌-◌, ◌*◌, ◌^◌, ◌<◌, ◌≤◌, length, map, MatchOption, None, OnOk, IfOk, slice_index_or};
+ghost use Rattle.std.specs.Prelude.{◌≡◌, ◌+◌, ◌-◌, ◌*◌, ◌<◌, ◌≤◌, length, map, MatchOption, None, OnOk, IfOk};
 ghost use Rattle.terrain.specs.declared.place.Place.{Place};
-ghost use Rattle.tiles.specs.Cutting.{IsCutting, AreBounds, bounds_of, terrain_of};
-ghost use Rattle.drain.specs.Window.{area_of, spot_index, IsSpot, IsOff, Shows, IsShown, AreShown, AreShownBelow, AreLent, IsHandedOut};
+ghost use Rattle.tiles.specs.Cutting.{IsCutting, AreBounds, bounds_of};
+ghost use Rattle.drain.specs.Window.{area_of, IsSpot, IsOff, Shows, IsShown, AreShown, AreShownBelow, AreLent, IsHandedOut};
 ghost use Rattle.tile_maps.specs.Maps.{AreMadeBelow};
 
 use crate::window::Ground;
@@ -26,6 +26,31 @@ pub(crate) fn place_shown(bounds: Bounds, spot: Place) -> Option<Place>
     Some(Place {
         row: row - 1,
         col: col - 1,
+    })
+}
+
+/// The spot that shows a place, where one does.
+pub(crate) fn spot_of(bounds: Bounds, place: Place) -> Option<Place>
+    requires { (bounds.top + bounds.rows ≤ 4096) × (bounds.left + bounds.cols ≤ 4096) }
+    ensures { MatchOption result ((s : Place) → IsSpot bounds s → Shows bounds s place → ⊥) (λ s. IsSpot bounds s × Shows bounds s place) }
+{
+    let Bounds {
+        top,
+        left,
+        rows,
+        cols,
+    } = bounds;
+    if place.row > top + rows || place.col > left + cols {
+        return None;
+    }
+    let row = place.row + 1;
+    let col = place.col + 1;
+    if row < top || col < left {
+        return None;
+    }
+    Some(Place {
+        row: row - top,
+        col: col - left,
     })
 }
 

@@ -1,5 +1,5 @@
 // The search that goes on from what comes into a tile, over counts that others share.
-ghost use Rattle.std.specs.Prelude.{◌≡◌, ℕ, ◌+◌, ◌*◌, ◌<◌, ◌≤◌, ◌⊎◌, ◌≢◌, true, false, [], Vec, length, OnOk, IfOk, Some, slice_get, unwrap_or};
+ghost use Rattle.std.specs.Prelude.{◌≡◌, ℕ, ◌+◌, ◌*◌, ◌<◌, ◌≤◌, ◌≢◌, true, [], Vec, length, OnOk, IfOk, Some, slice_get, unwrap_or};
 ghost use Rattle.std.specs.Bool.{OnFalse};
 ghost use Rattle.std.specs.declared.alloc.Global.{Global};
 ghost use Rattle.terrain.specs.declared.place.Place.{Place};

@@ -1,6 +1,5 @@
 // Rounds of counting after the first, until nothing changes: over the tiles into which a count comes.
 ghost use Rattle.std.specs.Prelude.{◌≡◌, ◌≢◌, ℕ, ◌*◌, ◌<◌, ◌≤◌, [], Some, Vec, length, vec_len, OnOk, IfOk, slice_get};
-ghost use Rattle.terrain.specs.declared.place.Place.{Place};
 ghost use Rattle.tile_jobs.specs.Fault.{RefusesWorkers};
 ghost use Rattle.tiles.specs.Cutting.{IsCutting, IsWithin, tile_of_place};
 ghost use Rattle.std.specs.declared.alloc.Global.{Global};

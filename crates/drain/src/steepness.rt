@@ -53,7 +53,7 @@ fn is_above(height: Height, lowest: Height) -> bool
     height > lowest
 }
 
-/// The first way of one kind that has the lowest height, the last of them where none has.
+/// The first way of one kind that has the lowest height.
 // By sums alone, since a branch on which way it is would seldom be foreseen.
 #[inline(always)]
 fn first_lowest(
