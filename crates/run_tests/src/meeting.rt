@@ -139,7 +139,7 @@ fn tiles_with_inner_cells_meet(rt: HostRuntime) {
     gate.expect(&rt, 3, 2, "filled");
 }
 
-// After the first counts and the first round, a round has a job for each tile into which a count comes; then come codes.
+// After the first round, a round has a job for each tile into which a count comes; then come codes.
 #[test]
 fn tiles_meet_in_each_round(rt: HostRuntime) {
     let alloc = rt.alloc();
@@ -147,7 +147,7 @@ fn tiles_meet_in_each_round(rt: HostRuntime) {
     let level = filled(&rt, alloc, corridors, &tiling, 1, &NoGate).expect(&rt, "levels");
     let gate = Meeting::new();
     assert!(rt; directions(&rt, alloc, &level, &tiling, 2, &gate).is_ok());
-    gate.expect(&rt, 4, 2, "directions");
+    gate.expect(&rt, 3, 2, "directions");
 }
 
 // The steps of the pit come into the first of four tiles alone, once.
@@ -161,7 +161,7 @@ fn one_job_for_one_tile(rt: HostRuntime) {
         ..Meeting::new()
     };
     assert!(rt; directions(&rt, alloc, &level, &tiling, 2, &gate).is_ok());
-    assert_eq!(rt; gate.all.load(Ordering::SeqCst), 13);
+    assert_eq!(rt; gate.all.load(Ordering::SeqCst), 9);
 }
 
 // Each of three tiles has one job at each of three stages, also where one worker does them in turn.
@@ -235,7 +235,7 @@ fn tiles_meet(rt: HostRuntime) {
         ),
         (
             Map::Flow,
-            7,
+            6,
             "
 0 0 2 4 4 1 0 16 0 0
 0 1 1 1 1 128 64 16 1 0
@@ -246,7 +246,7 @@ fn tiles_meet(rt: HostRuntime) {
         ),
         (
             Map::Accumulate,
-            9,
+            8,
             "
 0 0 0 0 0 0 12 0 0 0
 0 0 1 4 6 7 1 0 0 1
@@ -257,7 +257,7 @@ fn tiles_meet(rt: HostRuntime) {
         ),
         (
             Map::Basins,
-            10,
+            9,
             "
 1 2 3 3 3 3 3 3 4 5
 6 3 3 3 3 3 3 3 7 7
