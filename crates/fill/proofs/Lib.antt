@@ -6,7 +6,6 @@ mod CellMarks
 -- the spill graph
 mod Adding
 mod Lowest
-mod SourceHeights
 mod SourceCells
 pub mod Gathered
 mod GraphParts

@@ -1,6 +1,6 @@
 -- Numbers of their own for those labels of a spill graph that are joined. All others are alone: the level of a source
 -- is its height, and the others have none. No public clause cites this.
-use Rattle.std.specs.Prelude.{◌≡◌, ◌≢◌, ℕ, ◌<◌, ◌≤◌, ℤ, List, [], ◌∷◌, map, length, Option, None, slice_get, slice_index_or, unwrap_or}
+use Rattle.std.specs.Prelude.{◌≡◌, ◌≢◌, ℕ, ◌<◌, ◌≤◌, ℤ, List, [], ◌∷◌, length, Option, slice_get, slice_index_or, unwrap_or}
 use Rattle.std.specs.List.{Contains}
 use Rattle.floods.specs.declared.net.Spill.{Spill}
 use Rattle.floods.specs.Walk.{IsFlooded}
@@ -62,17 +62,8 @@ AreNumberLevels g nodes heights = (labels : List (Option ℕ)) × IsFlooded (Has
 abbrev pub way_to_number : List ℕ → Spill → Spill
 way_to_number numbers way = record { to = number_of numbers way.to; height = way.height }
 
--- The heights of places, of their indexes.
-abbrev pub levels_by : List (Option ℤ) → List ℕ → List (Option ℤ)
-levels_by heights numbers = map (λ n. slice_index_or heights n None) numbers
-
 -- The levels of nodes, of the levels by number: a node without a number has its height as a source.
 abbrev pub levels_with : {X : Type 0} → List X → List ℕ → List X → List X
 levels_with heights [] sources = []
 levels_with heights (number ∷ numbers) [] = []
 levels_with heights (number ∷ numbers) (source ∷ sources) = unwrap_or (slice_get heights number) source ∷ levels_with heights numbers sources
-
--- Each place has an index into the heights. There are as few of them as its 32 bits can tell.
-pub record AreIndexes (heights : List (Option ℤ)) (numbers : List ℕ) : Type 0 where
-  pub few : length heights ≤ 4294967296
-  pub inside : (k : ℕ) → slice_index_or numbers k 0 < length heights

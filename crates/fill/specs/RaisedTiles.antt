@@ -3,7 +3,7 @@ use Rattle.std.specs.Prelude.{◌≡◌, ℕ, ◌<◌, ℤ, pos, List, length, O
 use Rattle.std.specs.List.{All}
 use Rattle.tiles.specs.Cutting.{Cutting}
 use Rattle.fill.specs.TileFlood.{Flood}
-use Rattle.fill.specs.Spills.{greater_of, raised_by}
+use Rattle.fill.specs.Spills.{greater_of, raised_by, AreRaisedBelow}
 use Rattle.fill.specs.declared.rows.RaisedTile.{RaisedTile}
 
 -- The heights, the labels' indexes and the levels of these raise each cell as its flood and these levels of all labels do.
@@ -18,3 +18,8 @@ pub record IsRaisedBy (c : Cutting) (f : Flood) (levels : List (Option ℤ)) (he
 pub record AreRaisedTiles (c : Cutting) (floods : List Flood) (levels : List (Option ℤ)) (tiles : List RaisedTile) : Type 0 where
   pub count : length tiles ≡ length floods
   pub each : (tile : ℕ) (f : Flood) (x : RaisedTile) → slice_get floods tile ≡ Some f → slice_get tiles tile ≡ Some x → IsRaisedBy c f levels x.heights.now x.labels.now x.spills.items
+
+-- A list of what the first cells are raised to has become longer, whatever levels of the labels the tiles are raised by.
+abbrev pub Raises : Cutting → List Flood → List RaisedTile → ℕ → List (Option ℤ) → ℕ → List (Option ℤ) → Type 0
+Raises c floods tiles count old count_after new = (levels : List (Option ℤ)) → AreRaisedTiles c floods levels tiles
+    → AreRaisedBelow c floods levels count old → AreRaisedBelow c floods levels count_after new

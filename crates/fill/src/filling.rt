@@ -8,7 +8,7 @@ ghost use Rattle.fill.specs.Gathering.{Fit};
 
 use crate::numbering::LabelLevels;
 use crate::parts::{Part, tile_part};
-use crate::rows::raised_grid;
+use crate::rows::{raised_grid, raised_tiles};
 use crate::source_heights::SourceHeights;
 use crate::sources::{TileSources, label_sources, tile_sources};
 use crate::spills::SpillGraph;
@@ -17,7 +17,7 @@ use drainage::Filled;
 use std::alloc::Global;
 use std::sync::Wait;
 use std::thread::Threads;
-use terrain::{Frame, Grid};
+use terrain::{Frame, Grid, Height};
 use tile_jobs::{Gate, JobFault, Work};
 use tile_maps::{Crew, joined};
 use tiles::Tiling;
@@ -98,10 +98,11 @@ impl<'a> Work for PartTiles<'a> {
     }
 }
 
-/// The spill graph of the floods, but for joins of two sources.
+/// The spill graph of the floods, but for joins of two sources. The list of its sources takes the memory of another one.
 fn spill_graph<R: Threads + Wait + Sync, G: Gate + Sync>(
     crew: &Crew<'_, R, G>,
     frame: &Frame,
+    room: Vec<Option<Height>>,
     tiling: &Tiling,
     floods: &[TileFlood],
 ) -> Result<SpillGraph, JobFault>
@@ -111,7 +112,7 @@ fn spill_graph<R: Threads + Wait + Sync, G: Gate + Sync>(
     ensures workers { RefusesWorkers crew.now.workers result }
 {
     let lists = crew.run(&SourceTiles { tiling, floods }, tiling.tiles())?;
-    let sources = label_sources(crew.alloc, tiling, floods, &lists, frame.sinks())?;
+    let sources = label_sources(room, tiling, floods, &lists, frame.sinks())?;
     drop(lists);
     let work = PartTiles {
         tiling,
@@ -152,13 +153,18 @@ pub fn filled<R: Threads + Wait + Sync, G: Gate + Sync>(
     let floods = crew.run(&work, tiling.tiles())?;
     drop(work);
     let (frame, room) = grid.into_parts();
-    let graph = spill_graph(&crew, &frame, &tiling, &floods)?;
+    let graph = spill_graph(&crew, &frame, room, &tiling, &floods)?;
     let Ok(levels) = LabelLevels::of_graph(alloc, &graph) else {
         return Err(JobFault::Memory);
     };
-    let Ok(cells) = raised_grid(alloc, room, &tiling, &floods, &levels) else {
+    let Ok(tiles) = raised_tiles(alloc, &tiling, &floods, &levels) else {
         return Err(JobFault::Memory);
     };
+    drop(levels);
+    let Ok(cells) = raised_grid(graph.into_room(), &tiling, &floods, &tiles) else {
+        return Err(JobFault::Memory);
+    };
+    drop(tiles);
     drop(floods);
     Ok(Filled::from_grid(frame.with_cells(cells)))
 }

@@ -1,11 +1,11 @@
 // The filled heights of a grid, row by row over its tiles.
-ghost use Rattle.std.specs.Prelude.{◌≡◌, ◌+◌, ◌-◌, ◌*◌, ◌<◌, ◌≤◌, pos, length, slice_index_or, None, Some, All, IfOk, OnOk};
+ghost use Rattle.std.specs.Prelude.{◌≡◌, ℤ, List, Option, ◌+◌, ◌-◌, ◌*◌, ◌<◌, ◌≤◌, pos, length, slice_index_or, None, Some, All, IfOk, OnOk};
 ghost use Rattle.tiles.specs.Cutting.{IsCutting};
 ghost use Rattle.tile_maps.specs.Maps.{IsMadeMap};
 ghost use Rattle.fill.specs.TileFlood.{LabelsInside};
 ghost use Rattle.fill.specs.Gathering.{Fit};
-ghost use Rattle.fill.specs.Spills.{greater_of, raised_among, AreRaisedBelow};
-ghost use Rattle.fill.specs.RaisedTiles.{IsRaisedBy, AreRaisedTiles};
+ghost use Rattle.fill.specs.Spills.{greater_of, raised_among};
+ghost use Rattle.fill.specs.RaisedTiles.{IsRaisedBy, AreRaisedTiles, Raises};
 
 use crate::numbering::LabelLevels;
 use crate::raising::{greater, spills_of};
@@ -57,7 +57,7 @@ impl<'a> RaisedTile<'a> {
 }
 
 /// Such a tile for each flood.
-fn raised_tiles<'a>(
+pub(crate) fn raised_tiles<'a>(
     alloc: Global,
     tiling: &Tiling,
     floods: &'a [TileFlood],
@@ -80,19 +80,18 @@ fn push_part(
     cells: &mut Vec<Option<Height>>,
     tiling: &Tiling,
     floods: &[TileFlood],
-    levels: &LabelLevels<'_>,
     tiles: &[RaisedTile<'_>],
     row: u32,
     col: u32,
 ) -> Result<u32, AllocError>
     requires lawful { IsCutting tiling.now }
     requires fit { Fit tiling.now floods.now }
-    requires tiles { AreRaisedTiles tiling.now floods.now levels.now tiles.now }
+    requires tiles { (levels : List (Option ℤ)) × AreRaisedTiles tiling.now floods.now levels tiles.now }
     requires row { row < tiling.now.rows }
     requires col { col < tiling.now.cols }
-    requires before { AreRaisedBelow tiling.now floods.now levels.now (row * tiling.now.cols + col) cells.old.items }
     ensures more { IfOk result (λ next. (col < next) × (next ≤ tiling.now.cols)) }
-    ensures raised { IfOk result (λ next. AreRaisedBelow tiling.now floods.now levels.now (row * tiling.now.cols + next) cells.new.items) }
+    ensures raised { IfOk result (λ next. Raises tiling.now floods.now tiles.now (row * tiling.now.cols + col) cells.old.items
+        (row * tiling.now.cols + next) cells.new.items) }
 {
     let tile = tiling.tile_of(Place { row, col }) as usize;
     let Bounds {
@@ -114,21 +113,20 @@ fn push_row(
     cells: &mut Vec<Option<Height>>,
     tiling: &Tiling,
     floods: &[TileFlood],
-    levels: &LabelLevels<'_>,
     tiles: &[RaisedTile<'_>],
     row: u32,
 ) -> Result<(), AllocError>
     requires lawful { IsCutting tiling.now }
     requires fit { Fit tiling.now floods.now }
-    requires tiles { AreRaisedTiles tiling.now floods.now levels.now tiles.now }
+    requires tiles { (levels : List (Option ℤ)) × AreRaisedTiles tiling.now floods.now levels tiles.now }
     requires row { row < tiling.now.rows }
-    requires before { AreRaisedBelow tiling.now floods.now levels.now (row * tiling.now.cols) cells.old.items }
-    ensures { OnOk result (AreRaisedBelow tiling.now floods.now levels.now ((row + 1) * tiling.now.cols) cells.new.items) }
+    ensures { OnOk result (Raises tiling.now floods.now tiles.now (row * tiling.now.cols) cells.old.items
+        ((row + 1) * tiling.now.cols) cells.new.items) }
 {
     let cols = tiling.cols();
     let mut col = 0;
     while col < cols {
-        col = push_part(cells, tiling, floods, levels, tiles, row, col)?;
+        col = push_part(cells, tiling, floods, tiles, row, col)?;
     }
     Ok(())
 }
@@ -136,22 +134,21 @@ fn push_row(
 /// What all cells are raised to, in row order of the grid: by the floods of its tiles and the levels of their labels.
 /// The list takes the memory of another one, whose entries are let go.
 pub(crate) fn raised_grid(
-    alloc: Global,
     room: Vec<Option<Height>>,
     tiling: &Tiling,
     floods: &[TileFlood],
-    levels: &LabelLevels<'_>,
+    tiles: &[RaisedTile<'_>],
 ) -> Result<Vec<Option<Height>>, AllocError>
-    requires size { length levels.now ≡ tiling.now.cols * tiling.now.rows }
     requires lawful { IsCutting tiling.now }
     requires fit { Fit tiling.now floods.now }
-    ensures { IfOk result (λ v. IsMadeMap tiling.now (λ p height. height ≡ raised_among tiling.now floods.now levels.now p) v.items) }
+    requires tiles { (levels : List (Option ℤ)) × AreRaisedTiles tiling.now floods.now levels tiles.now }
+    ensures { IfOk result (λ v. (levels : List (Option ℤ)) → AreRaisedTiles tiling.now floods.now levels tiles.now
+        → IsMadeMap tiling.now (λ p height. height ≡ raised_among tiling.now floods.now levels p) v.items) }
 {
-    let tiles = raised_tiles(alloc, tiling, floods, levels)?;
     let mut cells = room;
     cells.clear();
     for row in 0..tiling.rows() {
-        push_row(&mut cells, tiling, floods, levels, &tiles, row)?;
+        push_row(&mut cells, tiling, floods, tiles, row)?;
     }
     Ok(cells)
 }

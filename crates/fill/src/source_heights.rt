@@ -1,39 +1,32 @@
 // The heights of the sources of a spill graph.
-ghost use Rattle.std.specs.Prelude.{◌≡◌, ◌<◌, None, Some, IfOk, OnOk, length, replicate, set, slice_index_or};
-ghost use Rattle.fill.specs.Numbers.{AreIndexes};
+ghost use Rattle.std.specs.Prelude.{◌≡◌, ◌<◌, None, Some, IfOk, length, replicate, set, slice_index_or};
 
-use std::alloc::{AllocError, Global};
+use std::alloc::AllocError;
 use std::marker::Model;
 use terrain::Height;
 
-/// The heights of those places of a grid that are sources, in its row order: 4 bytes a place, and 16 more for each source.
+/// The heights of those places of a grid that are sources, in its row order.
 #[derive(Drop)]
 pub(crate) struct SourceHeights {
-    /// The first is None, for all places that are no source.
     heights: Vec<Option<Height>>,
-    /// For each place the index of its height.
-    numbers: Vec<u32>,
-    ghost are: { AreIndexes heights.items numbers.items },
 }
 
 impl Model for SourceHeights {
     ghost use Rattle.std.specs.Prelude.{ℤ, List, Option};
-    ghost use Rattle.fill.specs.Numbers.{levels_by};
 
     ghost Value = { List (Option ℤ) };
 
-    ghost view = { λ s. levels_by s.heights.items s.numbers.items };
+    ghost view = { λ s. s.heights.items };
 }
 
 impl SourceHeights {
-    /// So many places, none of them a source.
-    pub(crate) fn none(alloc: Global, places: usize) -> Result<Self, AllocError>
+    /// So many places, none of them a source. The list takes the memory of another one, whose entries are let go.
+    pub(crate) fn none(mut room: Vec<Option<Height>>, places: usize) -> Result<Self, AllocError>
         ensures { IfOk result (λ s. s ≡ replicate places None) }
     {
-        let mut heights = Vec::new(alloc);
-        heights.push(None)?;
-        let numbers = vec![in alloc; 0u32; places]?;
-        Ok(SourceHeights { heights, numbers })
+        room.clear();
+        room.resize(places, None)?;
+        Ok(SourceHeights { heights: room })
     }
 
     /// The height of the source with this number, None where it is no source or past the end.
@@ -41,20 +34,20 @@ impl SourceHeights {
     pub(crate) fn at(&self, node: u32) -> Option<Height>
         ensures { result ≡ slice_index_or self.now node None }
     {
-        let number = *self.numbers.get(node as usize)?;
-        self.heights[number as usize]
+        *self.heights.get(node as usize)?
     }
 
     /// Makes a place a source.
-    pub(crate) fn put(&mut self, node: u32, height: Height) -> Result<(), AllocError>
+    #[inline(always)]
+    pub(crate) fn put(&mut self, node: u32, height: Height)
         requires { node < length self.old }
-        ensures { OnOk result (self.new ≡ set self.old node (Some height)) }
+        ensures { self.new ≡ set self.old node (Some height) }
     {
-        let Ok(number) = u32::try_from(self.heights.len()) else {
-            return Err(AllocError);
-        };
-        self.heights.push(Some(height))?;
-        self.numbers[node as usize] = number;
-        Ok(())
+        self.heights[node as usize] = Some(height);
+    }
+
+    /// The memory of the list, whatever stands there.
+    pub(crate) fn into_room(self) -> Vec<Option<Height>> {
+        self.heights
     }
 }

@@ -105,19 +105,18 @@ pub(crate) fn sources_by_tile(
 }
 
 /// Puts the heights of sources at their nodes.
-fn put_sources(heights: &mut SourceHeights, sources: &[Source]) -> Result<(), AllocError>
+fn put_sources(heights: &mut SourceHeights, sources: &[Source])
     requires { All (λ s. s.node < length heights.old) sources.now }
-    ensures { OnOk result (PutsSources sources.now heights.old heights.new) }
+    ensures { PutsSources sources.now heights.old heights.new }
 {
     for source in sources {
-        heights.put(source.node, source.height)?;
+        heights.put(source.node, source.height);
     }
-    Ok(())
 }
 
-/// The heights of the sources, in row order of the grid.
+/// The heights of the sources, in row order of the grid. Their list takes the memory of another one.
 fn gather_sources(
-    alloc: Global,
+    room: Vec<Option<Height>>,
     tiling: &Tiling,
     lists: &[TileSources],
 ) -> Result<SourceHeights, AllocError>
@@ -125,9 +124,9 @@ fn gather_sources(
     ensures { IfOk result (λ v. (floods : List Flood) → AreAllSources tiling.now floods lists.now → AreSources tiling.now floods v) }
 {
     let nodes = tiling.cols() * tiling.rows();
-    let mut heights = SourceHeights::none(alloc, nodes as usize)?;
+    let mut heights = SourceHeights::none(room, nodes as usize)?;
     for sources in lists {
-        put_sources(&mut heights, &sources.list)?;
+        put_sources(&mut heights, &sources.list);
     }
     Ok(heights)
 }
@@ -138,23 +137,23 @@ fn put_sinks(
     tiling: &Tiling,
     floods: &[TileFlood],
     sinks: &[Place],
-) -> Result<SourceHeights, AllocError>
+) -> SourceHeights
     requires lawful { IsCutting tiling.now }
     requires fit { Fit tiling.now floods.now }
     requires size { length heights ≡ tiling.now.cols * tiling.now.rows }
-    ensures { IfOk result (λ v. PutsSinks tiling.now floods.now sinks.now heights v) }
+    ensures { PutsSinks tiling.now floods.now sinks.now heights result }
 {
     for sink in sinks {
         if let Some(mark) = mark_at(tiling, floods, 0, *sink) {
-            heights.put(node_of(tiling, *sink), mark.level)?;
+            heights.put(node_of(tiling, *sink), mark.level);
         }
     }
-    Ok(heights)
+    heights
 }
 
-/// The heights of the labels that are end cells, in row order of the grid.
+/// The heights of the labels that are end cells, in row order of the grid. Their list takes the memory of another one.
 pub(crate) fn label_sources(
-    alloc: Global,
+    room: Vec<Option<Height>>,
     tiling: &Tiling,
     floods: &[TileFlood],
     lists: &[TileSources],
@@ -165,6 +164,6 @@ pub(crate) fn label_sources(
     ensures size { IfOk result (λ v. length v ≡ tiling.now.cols * tiling.now.rows) }
     ensures right { IfOk result (λ v. (t : Terrain) → t.sinks ≡ sinks.now → AreFloods t tiling.now floods.now → AreSourcesOf t tiling.now floods.now v) }
 {
-    let edges = gather_sources(alloc, tiling, lists)?;
-    put_sinks(edges, tiling, floods, sinks)
+    let edges = gather_sources(room, tiling, lists)?;
+    Ok(put_sinks(edges, tiling, floods, sinks))
 }

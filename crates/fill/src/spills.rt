@@ -159,8 +159,8 @@ impl SpillGraph {
         ensures { IfOk result (λ g. (t : Terrain) → t.sinks ≡ sinks.now → AreFloods t tiling.now floods.now → IsGraphOf t tiling.now floods.now g) }
     {
         let lists = sources_by_tile(alloc, tiling, floods)?;
-        let sources = label_sources(alloc, tiling, floods, &lists, sinks)?;
-        let none = SourceHeights::none(alloc, 0)?;
+        let sources = label_sources(Vec::new(alloc), tiling, floods, &lists, sinks)?;
+        let none = SourceHeights::none(Vec::new(alloc), 0)?;
         let parts = tile_parts(alloc, tiling, floods, &none)?;
         Ok(SpillGraph::of_parts(tiling, sources, parts))
     }
@@ -175,6 +175,11 @@ impl SpillGraph {
             parts,
             sources,
         }
+    }
+
+    /// The memory of the sources' list, once the graph has served.
+    pub(crate) fn into_room(self) -> Vec<Option<Height>> {
+        self.sources.into_room()
     }
 
     /// Numbers for the labels that are joined.

@@ -17,11 +17,11 @@ overflow_sub-index c =
     (part_of_row c.args.tiling.now c.args.floods.now c.args.row c.args.col c.tile_of-tile.result f c.bounds-top.result c.requires.lawful c.requires.fit c.requires.row c.requires.col c.tile_of-tile.ensures.number there c.bounds-top.ensures.value).1.2
 
 pub loop-index-init : goal.loop-index-init
-loop-index-init c =
+loop-index-init c levels tiles before =
     let f = c.index-floods-tile.result in
     let there = slice_get_read c.args.floods.now (length c.args.floods.now) c.tile_of-tile.result f refl (omega (arith, c.requires.fit.count, c.tile_of-tile.ensures.below)) c.index-floods-tile.is in
     let part = part_of_row c.args.tiling.now c.args.floods.now c.args.row c.args.col c.tile_of-tile.result f c.bounds-top.result c.requires.lawful c.requires.fit c.requires.row c.requires.col c.tile_of-tile.ensures.number there c.bounds-top.ensures.value in
-    subst (λ n. AreRaisedBelow c.args.tiling.now c.args.floods.now c.args.levels.now n c.args.cells.now.items) (omega (arith, part.1.2)) c.requires.before
+    subst (λ n. AreRaisedBelow c.args.tiling.now c.args.floods.now levels n c.args.cells.now.items) (omega (arith, part.1.2)) before
 
 pub at-requires-clause-height : goal.at-requires-clause-height
 at-requires-clause-height c =
@@ -30,8 +30,8 @@ at-requires-clause-height c =
     let tile = c.tile_of-tile.result in
     let below : tile < length c.args.floods.now = omega (arith, c.requires.fit.count, c.tile_of-tile.ensures.below) in
     let there = slice_get_read c.args.floods.now (length c.args.floods.now) tile f refl below c.index-floods-tile.is in
-    let raised = slice_get_read c.args.tiles.now (length c.args.tiles.now) tile x refl (omega (arith, below, c.requires.tiles.count)) c.index-tiles-tile.is in
-    let by = c.requires.tiles.each tile f x there raised in
+    let raised = slice_get_read c.args.tiles.now (length c.args.tiles.now) tile x refl (omega (arith, below, c.requires.tiles.1.count)) c.index-tiles-tile.is in
+    let by = c.requires.tiles.1.each tile f x there raised in
     let part = part_of_row c.args.tiling.now c.args.floods.now c.args.row c.args.col tile f c.bounds-top.result c.requires.lawful c.requires.fit c.requires.row c.requires.col c.tile_of-tile.ensures.number there c.bounds-top.ensures.value in
     omega (arith, part.3, c.loop-index-test.true, by.heights_size)
 
@@ -42,8 +42,8 @@ at-requires-clause-label c =
     let tile = c.tile_of-tile.result in
     let below : tile < length c.args.floods.now = omega (arith, c.requires.fit.count, c.tile_of-tile.ensures.below) in
     let there = slice_get_read c.args.floods.now (length c.args.floods.now) tile f refl below c.index-floods-tile.is in
-    let raised = slice_get_read c.args.tiles.now (length c.args.tiles.now) tile x refl (omega (arith, below, c.requires.tiles.count)) c.index-tiles-tile.is in
-    let by = c.requires.tiles.each tile f x there raised in
+    let raised = slice_get_read c.args.tiles.now (length c.args.tiles.now) tile x refl (omega (arith, below, c.requires.tiles.1.count)) c.index-tiles-tile.is in
+    let by = c.requires.tiles.1.each tile f x there raised in
     let part = part_of_row c.args.tiling.now c.args.floods.now c.args.row c.args.col tile f c.bounds-top.result c.requires.lawful c.requires.fit c.requires.row c.requires.col c.tile_of-tile.ensures.number there c.bounds-top.ensures.value in
     omega (arith, part.3, c.loop-index-test.true, by.labels_size)
 
@@ -54,23 +54,23 @@ at-requires-clause-inside c =
     let tile = c.tile_of-tile.result in
     let below : tile < length c.args.floods.now = omega (arith, c.requires.fit.count, c.tile_of-tile.ensures.below) in
     let there = slice_get_read c.args.floods.now (length c.args.floods.now) tile f refl below c.index-floods-tile.is in
-    let raised = slice_get_read c.args.tiles.now (length c.args.tiles.now) tile x refl (omega (arith, below, c.requires.tiles.count)) c.index-tiles-tile.is in
-    let by = c.requires.tiles.each tile f x there raised in
+    let raised = slice_get_read c.args.tiles.now (length c.args.tiles.now) tile x refl (omega (arith, below, c.requires.tiles.1.count)) c.index-tiles-tile.is in
+    let by = c.requires.tiles.1.each tile f x there raised in
     by.inside
 
 pub loop-index-preserved : goal.loop-index-preserved
-loop-index-preserved c =
+loop-index-preserved c levels tiles before =
     let f = c.index-floods-tile.result in
     let x = c.index-tiles-tile.result in
     let tile = c.tile_of-tile.result in
     let below : tile < length c.args.floods.now = omega (arith, c.requires.fit.count, c.tile_of-tile.ensures.below) in
     let there = slice_get_read c.args.floods.now (length c.args.floods.now) tile f refl below c.index-floods-tile.is in
-    let raised = slice_get_read c.args.tiles.now (length c.args.tiles.now) tile x refl (omega (arith, below, c.requires.tiles.count)) c.index-tiles-tile.is in
-    let by = c.requires.tiles.each tile f x there raised in
+    let raised = slice_get_read c.args.tiles.now (length c.args.tiles.now) tile x refl (omega (arith, below, tiles.count)) c.index-tiles-tile.is in
+    let by = tiles.each tile f x there raised in
     let part = part_of_row c.args.tiling.now c.args.floods.now c.args.row c.args.col tile f c.bounds-top.result c.requires.lawful c.requires.fit c.requires.row c.requires.col c.tile_of-tile.ensures.number there c.bounds-top.ensures.value in
     let low : c.loop-index.index < length f.labels = omega (arith, part.3, c.loop-index-test.true) in
-    rw c.in_ok-push.ensures.items (part_more c.args.tiling.now c.args.floods.now c.args.levels.now c.loop-index.cells.items c.args.row _ c.loop-index.index tile f c.bounds-top.result _ c.requires.lawful c.requires.fit c.tile_of-tile.ensures.below there part.0 part.1.0 part.1.1 refl
-    (omega (arith, c.loop-index.auto.index)) (omega (arith, c.loop-index-test.true)) (c.at.ensures ∙ by.each c.loop-index.index low) c.loop-index.invariant)
+    rw c.in_ok-push.ensures.items (part_more c.args.tiling.now c.args.floods.now levels c.loop-index.cells.items c.args.row _ c.loop-index.index tile f c.bounds-top.result _ c.requires.lawful c.requires.fit c.tile_of-tile.ensures.below there part.0 part.1.0 part.1.1 refl
+    (omega (arith, c.loop-index.auto.index)) (omega (arith, c.loop-index-test.true)) (c.at.ensures ∙ by.each c.loop-index.index low) (c.loop-index.invariant levels tiles before))
 
 pub returns-clause-more : goal.returns-clause-more
 returns-clause-more c =
@@ -80,11 +80,11 @@ returns-clause-more c =
     (part.1.3, part.2)
 
 pub returns-clause-raised : goal.returns-clause-raised
-returns-clause-raised c =
+returns-clause-raised c levels tiles before =
     let f = c.index-floods-tile.result in
     let b = c.bounds-top.result in
     let there = slice_get_read c.args.floods.now (length c.args.floods.now) c.tile_of-tile.result f refl (omega (arith, c.requires.fit.count, c.tile_of-tile.ensures.below)) c.index-floods-tile.is in
     let part = part_of_row c.args.tiling.now c.args.floods.now c.args.row c.args.col c.tile_of-tile.result f b c.requires.lawful c.requires.fit c.requires.row c.requires.col c.tile_of-tile.ensures.number there c.bounds-top.ensures.value in
     let start = (c.args.row - b.top) * b.cols in
     let last : c.loop-index.index ≤ start + b.cols = c.loop-index.auto.index-end (omega (arith, part.1.2, part.1.3)) in
-    subst (λ n. AreRaisedBelow c.args.tiling.now c.args.floods.now c.args.levels.now n c.loop-index.cells.items) (omega (arith, c.loop-index-test.false, last)) c.loop-index.invariant
+    subst (λ n. AreRaisedBelow c.args.tiling.now c.args.floods.now levels n c.loop-index.cells.items) (omega (arith, c.loop-index-test.false, last)) (c.loop-index.invariant levels tiles before)

@@ -13,7 +13,7 @@ pub loop-sources-preserved : goal.loop-sources-preserved
 loop-sources-preserved c = λ floods are.
     let list = sources_at c.args.tiling.now floods c.args.lists.now c.loop-sources.sources-index c.sources-item.result are c.loop-sources-test.true c.sources-item.is in
     sources_more c.args.tiling.now floods c.loop-sources.sources-index c.sources-item.result.list.items c.loop-sources.heights _
-    (c.loop-sources.invariant floods are) list (rw c.deref.ensures.value at c.in_ok-put_sources.ensures)
+    (c.loop-sources.invariant floods are) list (rw c.deref.ensures.value at c.put_sources.ensures)
 
 pub returns : goal.returns
 returns c = λ floods are.

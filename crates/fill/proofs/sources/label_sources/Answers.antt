@@ -1,5 +1,4 @@
 use Rattle.std.proofs.Common.{◌∙◌}
-use Rattle.std.proofs.lemmas.Result.{IfOk-weaker}
 use Rattle.fill.proofs.Gathered.{fit_of, sources_of}
 use Rattle.fill.proofs.sources.label_sources.Goals as goal
 
@@ -16,8 +15,8 @@ pub put_sinks-requires-clause-size : goal.put_sinks-requires-clause-size
 put_sinks-requires-clause-size c = (c.in_ok-edges.ensures c.args.floods.now c.requires.lists).size
 
 pub returns-clause-size : goal.returns-clause-size
-returns-clause-size c = IfOk-weaker c.put_sinks.result _ _ (λ v puts. puts.size ∙ (c.in_ok-edges.ensures c.args.floods.now c.requires.lists).size) c.put_sinks.ensures
+returns-clause-size c = c.put_sinks.ensures.size ∙ (c.in_ok-edges.ensures c.args.floods.now c.requires.lists).size
 
 pub returns-clause-right : goal.returns-clause-right
-returns-clause-right c = IfOk-weaker c.put_sinks.result _ _ (λ v puts t named are.
-    sources_of t c.args.tiling.now c.args.floods.now c.args.sinks.now c.in_ok-edges.edges v are.lawful are named (c.in_ok-edges.ensures c.args.floods.now c.requires.lists) puts) c.put_sinks.ensures
+returns-clause-right c t named are =
+    sources_of t c.args.tiling.now c.args.floods.now c.args.sinks.now c.in_ok-edges.edges c.put_sinks.result are.lawful are named (c.in_ok-edges.ensures c.args.floods.now c.requires.lists) c.put_sinks.ensures

@@ -7,7 +7,7 @@ use Rattle.terrain.proofs.Heights.{height_width}
 use Rattle.fill.proofs.Gathered.{marked_within}
 use Rattle.fill.proofs.SourceCells.{sink_more, sink_none}
 use Rattle.fill.proofs.sources.put_sinks.Goals as goal
-use Rattle.fill.proofs.sources.put_sinks.Goals.{in-Some+in_ok-put, in_default}
+use Rattle.fill.proofs.sources.put_sinks.Goals.{in-Some, in_default}
 
 pub mark_at-requires-clause-tile : goal.mark_at-requires-clause-tile
 mark_at-requires-clause-tile c =
@@ -23,9 +23,9 @@ loop-sink-preserved c =
     let floods = c.args.floods.now in
     let i = c.loop-sink.sink-index in
     elim c.match-mark_at.branch [
-      | in-Some+in_ok-put w ↦
+      | in-Some w ↦
           let fits : SFits height_width w.in-Some.mark.level = search rules in
-          rw (w.heights-is, w.in_ok-put.ensures, to_z-of_z height_width w.in-Some.mark.level fits) (sink_more k floods c.args.sinks.now i w.node_of.result _ _ w.in-Some.mark c.args.heights c.loop-sink.heights
+          rw (w.heights-is, w.put.ensures, to_z-of_z height_width w.in-Some.mark.level fits) (sink_more k floods c.args.sinks.now i w.node_of.result _ _ w.in-Some.mark c.args.heights c.loop-sink.heights
           c.requires.lawful c.requires.fit c.loop-sink-test.true refl (sym c.mark_at.ensures ∙ w.in-Some.is) w.node_of.ensures.value c.requires.size c.loop-sink.invariant)
       | in_default w ↦ rw w.heights-is (sink_none k floods c.args.sinks.now i _ _ c.args.heights c.loop-sink.heights c.loop-sink-test.true refl (sym c.mark_at.ensures ∙ w.in_default.is) c.loop-sink.invariant)
     ]

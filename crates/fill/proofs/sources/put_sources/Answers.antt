@@ -12,4 +12,4 @@ loop-source-preserved c =
     let i = c.loop-source.source-index in
     let source : Source = get_or sources i (record { node = 0; height = pos 0 }) in
     let fits : SFits height_width source.height = search rules in
-    rw (c.in_ok-put.ensures, to_z-of_z height_width source.height fits) (source_put sources i _ _ _ c.requires c.loop-source-test.true c.loop-source.invariant)
+    rw (c.put.ensures, to_z-of_z height_width source.height fits) (source_put sources i _ _ _ c.requires c.loop-source-test.true c.loop-source.invariant)
