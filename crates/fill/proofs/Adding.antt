@@ -12,9 +12,9 @@ use Rattle.std.proofs.lemmas.List.Elements.{Contains-append_left, Contains-appen
 use Rattle.terrain.specs.Neighbours.{Touches}
 use Rattle.terrain.specs.declared.place.Place.{Place}
 use Rattle.terrain.proofs.Places.{same_place}
-use Rattle.tiles.specs.Cutting.{Cutting}
-use Rattle.fill.specs.TileFlood.{Flood}
-use Rattle.fill.specs.Gathering.{mark_among, are_settled, Meets, IsMeetingAt, joins_of, Adds, AddsCovered, Covered}
+use Rattle.tiles.specs.Cutting.{Cutting, bounds_of}
+use Rattle.fill.specs.TileFlood.{Flood, IsInner}
+use Rattle.fill.specs.Gathering.{mark_among, are_settled, Meets, IsMeetingAt, joins_of, Adds, AddsCovered, Covered, IsAfter}
 use Rattle.fill.specs.declared.spills.Join.{Join}
 use Rattle.fill.specs.declared.marks.Mark.{Mark}
 use Rattle.floods.proofs.Steps.{none_some}
@@ -98,28 +98,32 @@ adds_settled sources now from to differ settled = subst (λ (z : List Join). Add
   every = λ j h. absurd (no_join j h);
 })
 
--- the joins of a cell that have been added before a way
-pub record HasAdded (c : Cutting) (floods : List Flood) (sources : List (Option ℤ)) (p : Place) (way : ℕ) (old new : List Join) : Type 0 where
+-- the way from a place to one that touches it
+abbrev pub way_to : Place → Place → ℕ
+way_to p q = (q.row + 1 - p.row) * 3 + (q.col + 1 - p.col)
+
+-- the joins of a cell that have been added from one way on before another
+pub record HasAdded (c : Cutting) (floods : List Flood) (sources : List (Option ℤ)) (p : Place) (first way : ℕ) (old new : List Join) : Type 0 where
   pub kept : (j : Join) → Contains old j → Covered new j
   pub only : (j : Join) → Contains new j → Contains old j ⊎ IsMeetingAt c floods sources (λ q. q ≡ p) j
-  pub every : (q : Place) (j : Join) → (q.row + 1 - p.row) * 3 + (q.col + 1 - p.col) < way → Meets c floods sources p q j → Covered new j
+  pub every : (q : Place) (j : Join) → first ≤ way_to p q → way_to p q < way → Meets c floods sources p q j → Covered new j
 
-pub none_added : (c : Cutting) (floods : List Flood) (sources : List (Option ℤ)) (p : Place) (old : List Join) → HasAdded c floods sources p 0 old old
-none_added c floods sources p old = record {
+pub none_added : (c : Cutting) (floods : List Flood) (sources : List (Option ℤ)) (p : Place) (first : ℕ) (old : List Join) → HasAdded c floods sources p first first old old
+none_added c floods sources p first old = record {
   kept = λ j h. covered_itself old j h;
   only = λ j h. inl h;
-  every = λ q j low m. absurd (omega (arith, low));
+  every = λ q j from low m. absurd (omega (arith, from, low));
 }
 
 -- the place on a way
-way_place : (p q : Place) (way : ℕ) → Touches p q → (q.row + 1 - p.row) * 3 + (q.col + 1 - p.col) ≡ way → (q.row + 1 ≡ p.row + way / 3) × (q.col + 1 ≡ p.col + way % 3)
+way_place : (p q : Place) (way : ℕ) → Touches p q → way_to p q ≡ way → (q.row + 1 ≡ p.row + way / 3) × (q.col + 1 ≡ p.col + way % 3)
 way_place p q way t e =
     let both = same_from_place (q.row + 1 - p.row) (q.col + 1 - p.col) (way / 3) (way % 3) 3 (omega (arith, t.col_right)) (mod_below way 3 (omega arith)) (e ∙ sym (div-add-mod' way 3)) in
     (omega (arith, both.0, t.row_up), omega (arith, both.1, t.col_left))
 
 -- the mark on the way was none, or its join was added
-pub added_more : (c : Cutting) (floods : List Flood) (sources : List (Option ℤ)) (p near : Place) (way : ℕ) (from : Mark) (o : Option Mark) (old now new : List Join) → mark_among c floods p ≡ Some from → mark_among c floods near ≡ o → near.row + 1 ≡ p.row + way / 3 → near.col + 1 ≡ p.col + way % 3 → way < 9 → HasAdded c floods sources p way old now → AddsCovered now (joins_of sources from o) new → HasAdded c floods sources p (way + 1) old new
-added_more c floods sources p near way from o old now new here there row col few s is = record {
+pub added_more : (c : Cutting) (floods : List Flood) (sources : List (Option ℤ)) (p near : Place) (first way : ℕ) (from : Mark) (o : Option Mark) (old now new : List Join) → mark_among c floods p ≡ Some from → mark_among c floods near ≡ o → near.row + 1 ≡ p.row + way / 3 → near.col + 1 ≡ p.col + way % 3 → way < 9 → HasAdded c floods sources p first way old now → AddsCovered now (joins_of sources from o) new → HasAdded c floods sources p first (way + 1) old new
+added_more c floods sources p near first way from o old now new here there row col few s is = record {
   kept = λ j h. covered_still now new is.kept j (s.kept j h);
   only = λ j h. elim (is.only j h) [
     | inl was ↦ s.only j was
@@ -141,8 +145,8 @@ added_more c floods sources p near way from o old now new here there row col few
           }),
         )
   ];
-  every = λ q j low m. elim (cases_eq ((q.row + 1 - p.row) * 3 + (q.col + 1 - p.col)) way) [
-    | inr other ↦ covered_still now new is.kept j (s.every q j (omega (arith, low, other)) m)
+  every = λ q j above low m. elim (cases_eq (way_to p q) way) [
+    | inr other ↦ covered_still now new is.kept j (s.every q j above (omega (arith, low, other)) m)
     | inl same ↦
         let at = way_place p q way m.touches same in
         let q_is : q ≡ near = same_place q near (omega (arith, at.0, row)) (omega (arith, at.1, col)) in
@@ -166,12 +170,12 @@ added_more c floods sources p near way from o old now new here there row col few
   touch = record { row_down = omega (arith, rows, row); row_up = omega (arith, row); col_right = omega (arith, cols, col); col_left = omega (arith, col) }
 
 -- there is no place on the way, or it is outside
-pub added_none : (c : Cutting) (floods : List Flood) (sources : List (Option ℤ)) (p : Place) (way : ℕ) (old now : List Join) → HasAdded c floods sources p way old now → (p.row + way / 3 ≡ 0) ⊎ (p.col + way % 3 ≡ 0) → HasAdded c floods sources p (way + 1) old now
-added_none c floods sources p way old now s out = record {
+pub added_none : (c : Cutting) (floods : List Flood) (sources : List (Option ℤ)) (p : Place) (first way : ℕ) (old now : List Join) → HasAdded c floods sources p first way old now → (p.row + way / 3 ≡ 0) ⊎ (p.col + way % 3 ≡ 0) → HasAdded c floods sources p first (way + 1) old now
+added_none c floods sources p first way old now s out = record {
   kept = s.kept;
   only = s.only;
-  every = λ q j low m. elim (cases_eq ((q.row + 1 - p.row) * 3 + (q.col + 1 - p.col)) way) [
-    | inr other ↦ s.every q j (omega (arith, low, other)) m
+  every = λ q j above low m. elim (cases_eq (way_to p q) way) [
+    | inr other ↦ s.every q j above (omega (arith, low, other)) m
     | inl same ↦ absurd (nowhere q j m (way_place p q way m.touches same))
   ];
 } where
@@ -181,38 +185,39 @@ added_none c floods sources p way old now s out = record {
     | inr left ↦ omega (arith, at.1, left)
   ]
 
-pub all_added : (c : Cutting) (floods : List Flood) (sources : List (Option ℤ)) (p : Place) (old new : List Join) → HasAdded c floods sources p 9 old new → Adds c floods sources (λ q. q ≡ p) old new
-all_added c floods sources p old new s = record {
+-- with all ways from the first that is asked for, a cell's joins have been added
+pub all_added : (c : Cutting) (floods : List Flood) (sources : List (Option ℤ)) (tile : ℕ) (p : Place) (first : ℕ) (old new : List Join) → ((q : Place) → Touches p q → (IsInner (bounds_of c tile) p → IsAfter p q) → first ≤ way_to p q) → HasAdded c floods sources p first 9 old new → Adds c floods sources tile (λ q. q ≡ p) old new
+all_added c floods sources tile p first old new above s = record {
   kept = s.kept;
   only = s.only;
-  every = λ x q j same m.
+  every = λ x q j same after m.
       let here = subst (λ (z : Place). Meets c floods sources z q j) same m in
       let t = here.touches in
-      s.every q j (omega (arith, t.row_down, t.col_right)) here;
+      s.every q j (above q t (subst (λ (z : Place). IsInner (bounds_of c tile) z → IsAfter z q) same after)) (omega (arith, t.row_down, t.col_right)) here;
 }
 
 -- a cell with no mark has no joins
-pub no_mark_adds : (c : Cutting) (floods : List Flood) (sources : List (Option ℤ)) (p : Place) (old : List Join) → mark_among c floods p ≡ None → Adds c floods sources (λ q. q ≡ p) old old
-no_mark_adds c floods sources p old none = record {
+pub no_mark_adds : (c : Cutting) (floods : List Flood) (sources : List (Option ℤ)) (tile : ℕ) (p : Place) (old : List Join) → mark_among c floods p ≡ None → Adds c floods sources tile (λ q. q ≡ p) old old
+no_mark_adds c floods sources tile p old none = record {
   kept = λ j h. covered_itself old j h;
   only = λ j h. inl h;
-  every = λ x q j same m. none_some _ (record { level = m.from_level; node = j.from }) (ap (mark_among c floods) same ∙ none) m.from_is;
+  every = λ x q j same after m. none_some _ (record { level = m.from_level; node = j.from }) (ap (mark_among c floods) same ∙ none) m.from_is;
 }
 
 -- one after another
-pub adds_then : (c : Cutting) (floods : List Flood) (sources : List (Option ℤ)) (first later both : Place → Type 0) (old now new : List Join) → ((p : Place) → both p ↔ (first p ⊎ later p)) → Adds c floods sources first old now → Adds c floods sources later now new → Adds c floods sources both old new
-adds_then c floods sources first later both old now new split a b = record {
+pub adds_then : (c : Cutting) (floods : List Flood) (sources : List (Option ℤ)) (tile : ℕ) (first later both : Place → Type 0) (old now new : List Join) → ((p : Place) → both p ↔ (first p ⊎ later p)) → Adds c floods sources tile first old now → Adds c floods sources tile later now new → Adds c floods sources tile both old new
+adds_then c floods sources tile first later both old now new split a b = record {
   kept = λ j h. covered_still now new b.kept j (a.kept j h);
   only = λ j h. elim (b.only j h) [
     | inr late ↦ inr (late.0, late.1, (split late.0).1 (inr late.2), late.3)
     | inl was ↦ elim (a.only j was) [ inl old ↦ inl old | inr early ↦ inr (early.0, early.1, (split early.0).1 (inl early.2), early.3) ]
   ];
-  every = λ p q j at m. elim ((split p).0 at) [ inl early ↦ covered_still now new b.kept j (a.every p q j early m) | inr late ↦ b.every p q j late m ];
+  every = λ p q j at after m. elim ((split p).0 at) [ inl early ↦ covered_still now new b.kept j (a.every p q j early after m) | inr late ↦ b.every p q j late after m ];
 }
 
-pub adds_as : (c : Cutting) (floods : List Flood) (sources : List (Option ℤ)) (first both : Place → Type 0) (old new : List Join) → ((p : Place) → both p ↔ first p) → Adds c floods sources first old new → Adds c floods sources both old new
-adds_as c floods sources first both old new same a = record {
+pub adds_as : (c : Cutting) (floods : List Flood) (sources : List (Option ℤ)) (tile : ℕ) (first both : Place → Type 0) (old new : List Join) → ((p : Place) → both p ↔ first p) → Adds c floods sources tile first old new → Adds c floods sources tile both old new
+adds_as c floods sources tile first both old new same a = record {
   kept = a.kept;
   only = λ j h. elim (a.only j h) [ inl was ↦ inl was | inr made ↦ inr (made.0, made.1, (same made.0).1 made.2, made.3) ];
-  every = λ p q j at m. a.every p q j ((same p).0 at) m;
+  every = λ p q j at after m. a.every p q j ((same p).0 at) after m;
 }

@@ -4,29 +4,27 @@ use Rattle.std.specs.Prelude.{slice_get, option_and_then, slice_index_or, MatchO
 use Rattle.std.proofs.lemmas.Bool.{cond-false, cases_Bool, cases_lt}
 use Rattle.std.proofs.lemmas.List.{get_or-map}
 use Rattle.std.proofs.lemmas.Option.{MatchOption-at_some, MatchOption-at_none, same_Some, slice_get_within}
-use Rattle.terrain.specs.Neighbours.{index_of}
+use Rattle.terrain.specs.Neighbours.{index_of, Touches}
 use Rattle.terrain.specs.declared.place.Place.{Place}
 use Rattle.terrain.proofs.Places.{same_place}
 use Rattle.tiles.specs.declared.bounds.Bounds.{Bounds}
 use Rattle.tiles.specs.Cutting.{Cutting, IsCutting, IsWithin, IsInTile, IsInBounds, tile_count, tile_of_place, bounds_of, is_in_bounds}
 use Rattle.tiles.proofs.Cut.{in_tile, in_bounds_parts}
-use Rattle.fill.specs.TileFlood.{Flood, LabelsInside, level_in, label_in, AreEqualAround, IsInner}
+use Rattle.fill.specs.TileFlood.{Flood, level_in, label_in, AreEqualAfter, cells_after, IsInner}
 use Rattle.fill.specs.Labels.{labels_by}
-use Rattle.fill.specs.Gathering.{Fit, mark_of, mark_among, Adds, mark_with, joins_of, AddsAround, AddsCovered}
+use Rattle.fill.specs.Gathering.{Fit, mark_of, mark_among, Adds, mark_with, joins_of, AddsAfter, AddsCovered, IsAfter}
 use Rattle.fill.specs.declared.spills.Join.{Join}
 use Rattle.fill.specs.declared.marks.Mark.{Mark}
 use Rattle.std.proofs.lemmas.Nat.{mul-le}
-use Rattle.floods.specs.Cells.{cells_around}
 use Rattle.floods.proofs.Steps.{seen}
-use Rattle.fill.proofs.Adding.{covered_itself, joins_of_is, HasAdded, none_added, added_more, all_added, no_mark_adds}
+use Rattle.fill.proofs.Adding.{covered_itself, joins_of_is, HasAdded, way_to, none_added, added_more, all_added, no_mark_adds}
 use Rattle.fill.proofs.TileWindows.{bounds_from_entry, entry_in-inside}
 
--- a label lies in the grid
-pub label_within : (c : Cutting) (f : Flood) (p label : Place) → length f.labels ≡ f.bounds.rows * f.bounds.cols → LabelsInside c f → label_in f p ≡ Some label → IsWithin c label
-label_within c f p label size inside e =
+-- a label is an entry
+pub label_entry : (f : Flood) (p label : Place) → label_in f p ≡ Some label → (k : ℕ) × (get_or f.labels k None ≡ Some label)
+label_entry f p label e =
     let i = bounds_from_entry f.bounds f.labels p label e in
-    let here : get_or f.labels ((p.row - f.bounds.top) * f.bounds.cols + (p.col - f.bounds.left)) None ≡ Some label = sym (entry_in-inside f.bounds f.labels p i) ∙ e in
-    inside ((p.row - f.bounds.top) * f.bounds.cols + (p.col - f.bounds.left)) label here
+    ((p.row - f.bounds.top) * f.bounds.cols + (p.col - f.bounds.left), sym (entry_in-inside f.bounds f.labels p i) ∙ e)
 
 pub mark_some : (cols : ℕ) (o : Option ℤ) (l : Option Place) (level : ℤ) (label : Place) (node : ℕ) → o ≡ Some level → l ≡ Some label → node ≡ index_of cols label → mark_of cols o l ≡ Some (record { level = level; node = node })
 mark_some cols o l level label node a b c = rw (a, b, c) refl
@@ -90,56 +88,39 @@ same_label_adds cols f sources i j from now is same = record {
       absurd (m.2 (sym a.3 ∙ ap (index_of cols) label ∙ b.3));
 }
 
--- a cell whose entry is equal to the eight around it gives no joins
-pub equal_around_adds : (cols : ℕ) (f : Flood) (sources : List (Option ℤ)) (places : List (Option Place)) (cells : List ℕ) (i width : ℕ) (now : List Join) → f.labels ≡ labels_by places cells → i + width + 1 < length cells → AreEqualAround cells i width → MatchOption (mark_with cols f i) (now ≡ now) (λ from. AddsAround cols f sources from i width now now)
-equal_around_adds cols f sources places cells i width now are inside e = elim (seen (mark_with cols f i)) [
-  | inl none ↦ subst (λ (o : Option Mark). MatchOption o (now ≡ now) (λ from. AddsAround cols f sources from i width now now)) (sym none) refl
-  | inr found ↦ subst (λ (o : Option Mark). MatchOption o (now ≡ now) (λ from. AddsAround cols f sources from i width now now)) (sym found.1) (record {
+-- a cell whose entry is equal to the four after it gives no joins with them
+pub equal_after_adds : (cols : ℕ) (f : Flood) (sources : List (Option ℤ)) (places : List (Option Place)) (cells : List ℕ) (i width : ℕ) (now : List Join) → f.labels ≡ labels_by places cells → i + width + 1 < length cells → AreEqualAfter cells i width → MatchOption (mark_with cols f i) (now ≡ now) (λ from. AddsAfter cols f sources from i width now now)
+equal_after_adds cols f sources places cells i width now are inside e = elim (seen (mark_with cols f i)) [
+  | inl none ↦ subst (λ (o : Option Mark). MatchOption o (now ≡ now) (λ from. AddsAfter cols f sources from i width now now)) (sym none) refl
+  | inr found ↦ subst (λ (o : Option Mark). MatchOption o (now ≡ now) (λ from. AddsAfter cols f sources from i width now now)) (sym found.1) (record {
     after_first = now;
     after_second = now;
     after_third = now;
-    after_fourth = now;
-    after_fifth = now;
-    after_sixth = now;
-    after_seventh = now;
-    north_west = near found.0 found.1 0 (omega arith) (omega arith);
-    north = near found.0 found.1 1 (omega arith) (omega arith);
-    north_east = near found.0 found.1 2 (omega arith) (omega arith);
-    west = near found.0 found.1 3 (omega arith) (omega arith);
-    east = near found.0 found.1 4 (omega arith) (omega arith);
-    south_west = near found.0 found.1 5 (omega arith) (omega arith);
-    south = near found.0 found.1 6 (omega arith) (omega arith);
-    south_east = near found.0 found.1 7 (omega arith) (omega arith);
+    east = near found.0 found.1 0 (omega arith) (omega arith);
+    south_west = near found.0 found.1 1 (omega arith) (omega arith);
+    south = near found.0 found.1 2 (omega arith) (omega arith);
+    south_east = near found.0 found.1 3 (omega arith) (omega arith);
   })
 ] where
   label : (k : ℕ) → k < length cells → get_or f.labels k None ≡ get_or places (get_or cells k 0) None
   label k low = ap (λ (z : List (Option Place)). get_or z k None) are ∙ get_or-map (λ n. get_or places n None) cells k 0 None low
 
-  near : (from : Mark) → mark_with cols f i ≡ Some from → (way : ℕ) → way < 8 → get_or (cells_around width i) way 0 < length cells → AddsCovered now (joins_of sources from (mark_with cols f (get_or (cells_around width i) way 0))) now
+  near : (from : Mark) → mark_with cols f i ≡ Some from → (way : ℕ) → way < 4 → get_or (cells_after width i) way 0 < length cells → AddsCovered now (joins_of sources from (mark_with cols f (get_or (cells_after width i) way 0))) now
   near from is way few low =
-      let j = get_or (cells_around width i) way 0 in
+      let j = get_or (cells_after width i) way 0 in
       same_label_adds cols f sources i j from now is (label i (omega (arith, inside)) ∙ ap (λ n. get_or places n None) (sym (e way 0 few)) ∙ sym (label j low))
 
--- the joins with the eight cells around have been added
-pub inner_adds : (c : Cutting) (floods : List Flood) (sources : List (Option ℤ)) (tile : ℕ) (f : Flood) (p : Place) (i : ℕ) (from : Mark) (old new : List Join) → IsCutting c → tile < tile_count c → slice_get floods tile ≡ Some f → f.bounds ≡ bounds_of c tile → IsInner (bounds_of c tile) p → i ≡ (p.row - (bounds_of c tile).top) * (bounds_of c tile).cols + (p.col - (bounds_of c tile).left) → mark_with c.cols f i ≡ Some from → AddsAround c.cols f sources from i (bounds_of c tile).cols old new → Adds c floods sources (λ q. q ≡ p) old new
+-- the joins of a cell that is not on the rim with the four after it have been added
+pub inner_adds : (c : Cutting) (floods : List Flood) (sources : List (Option ℤ)) (tile : ℕ) (f : Flood) (p : Place) (i : ℕ) (from : Mark) (old new : List Join) → IsCutting c → tile < tile_count c → slice_get floods tile ≡ Some f → f.bounds ≡ bounds_of c tile → IsInner (bounds_of c tile) p → i ≡ (p.row - (bounds_of c tile).top) * (bounds_of c tile).cols + (p.col - (bounds_of c tile).left) → mark_with c.cols f i ≡ Some from → AddsAfter c.cols f sources from i (bounds_of c tile).cols old new → Adds c floods sources tile (λ q. q ≡ p) old new
 inner_adds c floods sources tile f p i from old new h below e bounds inner at is s =
-    all_added c floods sources p old new
+    all_added c floods sources tile p 5 old new after
     (step 8 south east _ _ _ (omega (arith, inner)) (omega (arith, inner)) (omega arith) (omega (arith, inner)) (omega (arith, inner)) (omega (arith, at, inner, down))
     (step 7 south p.col _ _ _ (omega (arith, inner)) (omega (arith, inner)) (omega arith) (omega (arith, inner)) (omega (arith, inner)) (omega (arith, at, inner, down))
     (step 6 south west _ _ _ (omega (arith, inner)) (omega (arith, inner)) (omega arith) (omega (arith, inner)) (omega (arith, inner)) (omega (arith, at, inner, down))
     (step 5 p.row east _ _ _ (omega (arith, inner)) (omega (arith, inner)) (omega arith) (omega (arith, inner)) (omega (arith, inner)) (omega (arith, at, inner))
-    (step 4 p.row p.col _ _ _ (omega (arith, inner)) (omega (arith, inner)) (omega arith) (omega (arith, inner)) (omega (arith, inner)) at
-    (step 3 p.row west _ _ _ (omega (arith, inner)) (omega (arith, inner)) (omega arith) (omega (arith, inner)) (omega (arith, inner)) (omega (arith, at, inner))
-    (step 2 north east _ _ _ (omega (arith, inner)) (omega (arith, inner)) (omega arith) (omega (arith, inner)) (omega (arith, inner)) (omega (arith, at, inner, up))
-    (step 1 north p.col _ _ _ (omega (arith, inner)) (omega (arith, inner)) (omega arith) (omega (arith, inner)) (omega (arith, inner)) (omega (arith, at, inner, up))
-    (step 0 north west _ _ _ (omega (arith, inner)) (omega (arith, inner)) (omega arith) (omega (arith, inner)) (omega (arith, inner)) (omega (arith, at, inner, up))
-    (none_added c floods sources p old) s.north_west) s.north) s.north_east) s.west)
-    (same_label_adds c.cols f sources i i from s.after_fourth is refl)) s.east) s.south_west) s.south) s.south_east) where
+    (none_added c floods sources p 5 old) s.east) s.south_west) s.south) s.south_east) where
       b : Bounds
       b = bounds_of c tile
-
-      north : ℕ
-      north = p.row - 1
 
       south : ℕ
       south = p.row + 1
@@ -150,38 +131,36 @@ inner_adds c floods sources tile f p i from old new h below e bounds inner at is
       east : ℕ
       east = p.col + 1
 
-      up : (p.row - 1 - b.top) * b.cols + b.cols ≡ (p.row - b.top) * b.cols
-      up = let less : p.row - 1 - b.top + 1 ≡ p.row - b.top = omega (arith, inner) in omega (arith, ap (λ n. n * b.cols) less)
+      after : (q : Place) → Touches p q → (IsInner b p → IsAfter p q) → 5 ≤ way_to p q
+      after q t is_after = elim (is_after inner) [ inl row ↦ omega (arith, row) | inr col ↦ omega (arith, col.0, col.1) ]
 
       down : (p.row + 1 - b.top) * b.cols ≡ (p.row - b.top) * b.cols + b.cols
       down = let more : p.row + 1 - b.top ≡ p.row - b.top + 1 = omega (arith, inner) in omega (arith, ap (λ n. n * b.cols) more)
 
-      step : (way row col j : ℕ) (now next : List Join) → row + 1 ≡ p.row + way / 3 → col + 1 ≡ p.col + way % 3 → way < 9 → (b.top ≤ row) × (row < b.top + b.rows) → (b.left ≤ col) × (col < b.left + b.cols) → j ≡ (row - b.top) * b.cols + (col - b.left) → HasAdded c floods sources p way old now → AddsCovered now (joins_of sources from (mark_with c.cols f j)) next → HasAdded c floods sources p (way + 1) old next
+      step : (way row col j : ℕ) (now next : List Join) → row + 1 ≡ p.row + way / 3 → col + 1 ≡ p.col + way % 3 → way < 9 → (b.top ≤ row) × (row < b.top + b.rows) → (b.left ≤ col) × (col < b.left + b.cols) → j ≡ (row - b.top) * b.cols + (col - b.left) → HasAdded c floods sources p 5 way old now → AddsCovered now (joins_of sources from (mark_with c.cols f j)) next → HasAdded c floods sources p 5 (way + 1) old next
       step way row col j now next same_row same_col few rows cols index s a =
           let near : Place = record { row = row; col = col } in
-          added_more c floods sources p near way from (mark_with c.cols f j) old now next
+          added_more c floods sources p near 5 way from (mark_with c.cols f j) old now next
           (entry_mark c floods tile f p i h below e bounds (omega (arith, inner), omega (arith, inner), omega (arith, inner), omega (arith, inner)) at ∙ is)
           (entry_mark c floods tile f near j h below e bounds (rows.0, rows.1, cols.0, cols.1) index)
           same_row same_col few s a
 
 -- a cell that is not on the rim has its joins added, where it has a mark
-pub inner_cell_adds : (c : Cutting) (floods : List Flood) (sources : List (Option ℤ)) (tile : ℕ) (f : Flood) (p : Place) (i : ℕ) (old new : List Join) → IsCutting c → tile < tile_count c → slice_get floods tile ≡ Some f → f.bounds ≡ bounds_of c tile → IsInner (bounds_of c tile) p → i ≡ (p.row - (bounds_of c tile).top) * (bounds_of c tile).cols + (p.col - (bounds_of c tile).left) → MatchOption (mark_with c.cols f i) (new ≡ old) (λ from. AddsAround c.cols f sources from i f.bounds.cols old new) → Adds c floods sources (λ q. q ≡ p) old new
+pub inner_cell_adds : (c : Cutting) (floods : List Flood) (sources : List (Option ℤ)) (tile : ℕ) (f : Flood) (p : Place) (i : ℕ) (old new : List Join) → IsCutting c → tile < tile_count c → slice_get floods tile ≡ Some f → f.bounds ≡ bounds_of c tile → IsInner (bounds_of c tile) p → i ≡ (p.row - (bounds_of c tile).top) * (bounds_of c tile).cols + (p.col - (bounds_of c tile).left) → MatchOption (mark_with c.cols f i) (new ≡ old) (λ from. AddsAfter c.cols f sources from i f.bounds.cols old new) → Adds c floods sources tile (λ q. q ≡ p) old new
 inner_cell_adds c floods sources tile f p i old new h below e bounds inner at s = elim (seen (mark_with c.cols f i)) [
   | inl none ↦
       let same = MatchOption-at_none _ _ none s in
       let inside : IsInBounds (bounds_of c tile) p = (omega (arith, inner), omega (arith, inner), omega (arith, inner), omega (arith, inner)) in
-      subst (λ (z : List Join). Adds c floods sources (λ q. q ≡ p) old z) (sym same) (no_mark_adds c floods sources p old (entry_mark c floods tile f p i h below e bounds inside at ∙ none))
+      subst (λ (z : List Join). Adds c floods sources tile (λ q. q ≡ p) old z) (sym same) (no_mark_adds c floods sources tile p old (entry_mark c floods tile f p i h below e bounds inside at ∙ none))
   | inr found ↦
       inner_adds c floods sources tile f p i found.0 old new h below e bounds inner at found.1
-      (subst (λ (b : Bounds). AddsAround c.cols f sources found.0 i b.cols old new) bounds (MatchOption-at_some _ _ found.0 found.1 s))
+      (subst (λ (b : Bounds). AddsAfter c.cols f sources found.0 i b.cols old new) bounds (MatchOption-at_some _ _ found.0 found.1 s))
 ]
 
--- the cells of an inner row have a row of the tile before them, and one after them
-pub inner_row_index : (b : Bounds) (row index : ℕ) → b.top < row → row + 1 < b.top + b.rows → (row - b.top) * b.cols + 1 ≤ index → index + 1 < (row - b.top) * b.cols + b.cols → (b.cols + 1 ≤ index) × (index + b.cols + 1 < b.rows * b.cols)
-inner_row_index b row index above below first last = (
-  omega (arith, first, mul-le 1 b.cols (row - b.top) b.cols (omega (arith, above)) (omega arith)),
-  omega (arith, last, mul-le (row - b.top + 2) b.cols b.rows b.cols (omega (arith, above, below)) (omega arith)),
-)
+-- the cells of an inner row have a row of the tile after them
+pub inner_row_index : (b : Bounds) (row index : ℕ) → b.top < row → row + 1 < b.top + b.rows → index + 1 < (row - b.top) * b.cols + b.cols → index + b.cols + 1 < b.rows * b.cols
+inner_row_index b row index above below last =
+    omega (arith, last, mul-le (row - b.top + 2) b.cols b.rows b.cols (omega (arith, above, below)) (omega arith))
 
 -- the inner cells of a row up to one, and it
 pub inner_so_far : (b : Bounds) (row start index : ℕ) → b.top < row → row + 1 < b.top + b.rows → start < index → index + 1 < start + b.cols → (p : Place) →

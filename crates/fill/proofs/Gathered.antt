@@ -1,23 +1,23 @@
 -- The gathered joins and sources are those of the spill graph.
-use Rattle.std.proofs.Common.{◌≡◌, ◌≢◌, ℕ, ◌+◌, ◌-◌, ◌*◌, ◌/◌, ◌%◌, ◌<◌, inl, inr, ◌&&◌, true, false, Bool, ℤ, ◌≤ℤ◌, List, [], length, get_or, Option, None, Some, is_some, ◌∙◌, sym, ap, subst, refl, arith}
+use Rattle.std.proofs.Common.{◌≡◌, ◌≢◌, ℕ, ◌+◌, ◌-◌, ◌*◌, ◌/◌, ◌%◌, ◌<◌, ◌⊎◌, inl, inr, ◌&&◌, true, false, Bool, ℤ, ◌≤ℤ◌, List, [], length, get_or, Option, None, Some, is_some, ◌∙◌, sym, ap, subst, refl, arith}
 use Rattle.std.specs.List.{Contains, flat_map}
 use Rattle.std.proofs.lemmas.Bool.{cases_lt, cases_order, cases_Bool}
 use Rattle.std.proofs.lemmas.Nat.{div-mul-add, mod-mul-add, div-add-mod'}
 use Rattle.std.proofs.lemmas.Option.{MatchOption-at_some, MatchOption-at_none, same_Some, slice_get_within}
 use Rattle.std.proofs.lemmas.List.{get_or_default, get_or_past}
-use Rattle.std.proofs.lemmas.List.Elements.{All-contains}
+use Rattle.std.proofs.lemmas.List.Elements.{All-contains, Contains-get_or}
 use Rattle.terrain.specs.Raster.{Terrain}
-use Rattle.terrain.specs.Neighbours.{height_at, index_of, IsDataCell, IsEdge, IsEnd, HasGapAround}
+use Rattle.terrain.specs.Neighbours.{height_at, index_of, IsEdge, IsEnd, HasGapAround}
 use Rattle.terrain.specs.declared.place.Place.{Place}
 use Rattle.terrain.proofs.Places.{same_place, index_below, index_injective, gap_where}
 use Rattle.tiles.specs.Cutting.{Cutting, IsCutting, IsWithin, IsInTile, IsInBounds, bounds_of, tile_count, tile_of_place}
-use Rattle.tiles.proofs.Cut.{tile_of_place_below, in_bounds}
+use Rattle.tiles.proofs.Cut.{tile_of_place_below, in_bounds, in_tile}
 use Rattle.tiles.specs.declared.bounds.Bounds.{Bounds}
 use Rattle.tiles.proofs.TileOrder.{place_in, place_in_tile, index_in-place_in}
-use Rattle.fill.specs.TileFlood.{Flood, LabelsInside, IsTileFlood, label_in}
+use Rattle.fill.specs.TileFlood.{Flood, IsInner, IsTileFlood, label_in}
 use Rattle.fill.specs.Spills.{AreFloods, level_among, label_among, Carries, IsPass, Graph, HasJoin, IsJoined, AreSpillSources, AreSourcesOf, IsGraphOf, IsOpenGraphOf}
-use Rattle.fill.specs.Gathering.{Fit, mark_among, Meets, Adds, IsBefore, AreRising, AreLowest, AreGathered, are_settled, HasGapAmong, IsSpillSource, IsSourceEntry, AreSources, PutsSinks}
-use Rattle.fill.specs.Parts.{IsPart, AreParts, IsGraph, joins_by_part, graph_of_parts, tile_of_node}
+use Rattle.fill.specs.Gathering.{Fit, mark_among, Meets, Adds, IsAfter, IsBefore, AreRising, AreLowest, AreGathered, are_settled, turned, HasGapAmong, IsSpillSource, IsSourceEntry, AreSources, PutsSinks}
+use Rattle.fill.specs.Parts.{IsPart, AreParts, AddsTurned, IsGraph, joins_by_part, graph_of_parts, tile_of_node}
 use Rattle.fill.specs.declared.parts.Part.{Part}
 use Rattle.fill.specs.declared.spills.Join.{Join}
 use Rattle.fill.specs.declared.marks.Mark.{Mark}
@@ -29,7 +29,7 @@ use Rattle.fill.proofs.TileWindows.{data_within, entry_in-inside}
 use Rattle.drainage.proofs.Heights.{first_is_data, trans}
 use Rattle.drainage.proofs.Uniqueness.{between}
 use Rattle.fill.proofs.Rims.{HasTileLevel, has_tile_level, level_has_data, label_has_data, label_in_tile, source_level, end_label, list_there, among_is}
-use Rattle.fill.proofs.CellMarks.{label_within, mark_some, mark_parts, mark_outside}
+use Rattle.fill.proofs.CellMarks.{label_entry, mark_some, mark_parts, mark_outside}
 use Rattle.fill.proofs.Adding.{no_join}
 use Rattle.floods.proofs.Waits.{in_some_list, in_lists}
 use Rattle.fill.proofs.GraphParts.{part_there, part_with}
@@ -47,11 +47,11 @@ and_both true false e = absurd (cc)
 and_both false b e = absurd (cc)
 
 -- the lowest joins of a tile
-pub tile_gathered : (c : Cutting) (floods : List Flood) (tile : ℕ) (out : List (Option ℤ)) (met lowest : List Join) → Adds c floods out (IsInTile c tile) [] met → AreLowest met lowest → AreGathered c floods (IsInTile c tile) out lowest
-tile_gathered c floods tile out met lowest adds low = record {
-  only = λ j made. elim (adds.only j (low.only j made)) [ inl none ↦ absurd (no_join j none) | inr meets ↦ meets ];
+pub tile_gathered : (c : Cutting) (floods : List Flood) (tile : ℕ) (out : List (Option ℤ)) (met lowest : List Join) → AreGathered c floods (IsInTile c tile) out met → AreLowest met lowest → AreGathered c floods (IsInTile c tile) out lowest
+tile_gathered c floods tile out met lowest gathered low = record {
+  only = λ j made. gathered.only j (low.only j made);
   every = λ p q j at m.
-      let was = adds.every p q j at m in
+      let was = gathered.every p q j at m in
       let made = low.every was.0 was.1 in
       (made.0, made.1, made.2 ∙ was.2, made.3 ∙ was.3, trans _ _ _ made.4 was.4);
 }
@@ -100,17 +100,28 @@ marked_within c floods p m h fit e = elim (cases_lt p.row c.rows) [
   ]
 ]
 
-node_below : (c : Cutting) (floods : List Flood) (p : Place) (m : Mark) → IsCutting c → Fit c floods → mark_among c floods p ≡ Some m → m.node < c.cols * c.rows
-node_below c floods p m h fit e =
+-- the place with a place's number
+source_place : (c : Cutting) (p : Place) → IsWithin c p → record { row = index_of c.cols p / c.cols; col = index_of c.cols p % c.cols } ≡ p
+source_place c p within = same_place _ p (div-mul-add p.row c.cols p.col within.1) (mod-mul-add p.row c.cols p.col within.1)
+
+-- a label lies in the grid, in the cell's tile
+node_place : (c : Cutting) (floods : List Flood) (p : Place) (m : Mark) → IsCutting c → Fit c floods → mark_among c floods p ≡ Some m → (label : Place) × (index_of c.cols label ≡ m.node) × IsWithin c label × (tile_of_place c label ≡ tile_of_place c p)
+node_place c floods p m h fit e =
     let parts = mark_parts c.cols (level_among c floods p) (label_among c floods p) m e in
     let tile = tile_of_place c p in
     let f = list_there floods tile (omega (arith, fit.count, tile_of_place_below c p h (marked_within c floods p m h fit e))) in
-    let label : label_in f.0 p ≡ Some parts.0 = sym (among_is (λ f. label_in f p) floods tile f.0 f.1) ∙ parts.2 in
-    let within = label_within c f.0 p parts.0 (fit.sizes tile f.0 f.1) (fit.labels tile f.0 f.1) label in
-    omega (arith, index_below c.cols c.rows parts.0 within.0 within.1, parts.3)
+    let entry = label_entry f.0 p parts.0 (sym (among_is (λ f. label_in f p) floods tile f.0 f.1) ∙ parts.2) in
+    (parts.0, parts.3, fit.labels tile f.0 f.1 entry.0 parts.0 entry.1, fit.own tile f.0 entry.0 parts.0 f.1 entry.1)
 
-abbrev turned : Join → Join
-turned j = record { from = j.to; to = j.from; height = j.height }
+pub node_below : (c : Cutting) (floods : List Flood) (p : Place) (m : Mark) → IsCutting c → Fit c floods → mark_among c floods p ≡ Some m → m.node < c.cols * c.rows
+node_below c floods p m h fit e =
+    let at = node_place c floods p m h fit e in
+    omega (arith, index_below c.cols c.rows at.0 at.2.0 at.2.1, at.1)
+
+node_own : (c : Cutting) (floods : List Flood) (p : Place) (m : Mark) → IsCutting c → Fit c floods → mark_among c floods p ≡ Some m → tile_of_node c m.node ≡ tile_of_place c p
+node_own c floods p m h fit e =
+    let at = node_place c floods p m h fit e in
+    ap (tile_of_node c) (sym at.1) ∙ ap (tile_of_place c) (source_place c at.0 at.2) ∙ at.3
 
 meets_turned : (c : Cutting) (floods : List Flood) (out : List (Option ℤ)) (p q : Place) (j : Join) → Meets c floods out p q j → Meets c floods out q p (turned j)
 meets_turned c floods out p q j m = record {
@@ -123,6 +134,71 @@ meets_turned c floods out p q j m = record {
   apart = and_turned (is_some (get_or out j.to None)) (is_some (get_or out j.from None)) ∙ m.apart;
   greater = max_comm m.to_level m.from_level ∙ m.greater;
 }
+
+-- a place is amid a tile or not
+inner_cases : (b : Bounds) (p : Place) → IsInner b p ⊎ (IsInner b p → ⊥)
+inner_cases b p = elim (cases_lt b.top p.row) [
+  | inr beyond ↦ inr (λ at. omega (arith, beyond, at))
+  | inl top ↦ elim (cases_lt (p.row + 1) (b.top + b.rows)) [
+    | inr beyond ↦ inr (λ at. omega (arith, beyond, at))
+    | inl bottom ↦ elim (cases_lt b.left p.col) [
+      | inr beyond ↦ inr (λ at. omega (arith, beyond, at))
+      | inl left ↦ elim (cases_lt (p.col + 1) (b.left + b.cols)) [ inr beyond ↦ inr (λ at. omega (arith, beyond, at)) | inl right ↦ inl (top, bottom, left, right) ]
+    ]
+  ]
+]
+
+-- the one of two places comes after the other
+after_cases : (p q : Place) → p ≢ q → IsAfter p q ⊎ IsAfter q p
+after_cases p q differ = elim (cases_order p.row q.row) [
+  | inr other ↦ elim other [ inl less ↦ inl (inl less) | inr more ↦ inr (inl more) ]
+  | inl row ↦ elim (cases_order p.col q.col) [
+    | inl col ↦ absurd (differ (same_place p q row col))
+    | inr other ↦ elim other [ inl less ↦ inl (inr (row, less)) | inr more ↦ inr (inr (sym row, more)) ]
+  ]
+]
+
+-- so of two cells that touch the one asks for their join, or the other does, and both are of the tile
+asks_cases : (b : Bounds) (p q : Place) → p ≢ q → (IsInner b p → IsAfter p q) ⊎ (IsInner b p × IsAfter q p)
+asks_cases b p q differ = elim (inner_cases b p) [
+  | inr rim ↦ inl (λ inner. absurd (rim inner))
+  | inl inner ↦ elim (after_cases p q differ) [ inl after ↦ inl (λ _. after) | inr before ↦ inr (inner, before) ]
+]
+
+meets_differ : (c : Cutting) (floods : List Flood) (out : List (Option ℤ)) (p q : Place) (j : Join) → Meets c floods out p q j → p ≢ q
+meets_differ c floods out p q j m e =
+    let same = same_Some (record { level = m.from_level; node = j.from }) (record { level = m.to_level; node = j.to }) (sym m.from_is ∙ ap (mark_among c floods) e ∙ m.to_is) in
+    m.different (ap (λ (z : Mark). z.node) same)
+
+-- the joins of a tile lead to labels in the grid
+pub met_below : (c : Cutting) (floods : List Flood) (tile : ℕ) (out : List (Option ℤ)) (met : List Join) → IsCutting c → Fit c floods → Adds c floods out tile (IsInTile c tile) [] met → (k : ℕ) (d : Join) → k < length met → (get_or met k d).to < c.cols * c.rows
+met_below c floods tile out met h fit adds k d low = elim (adds.only (get_or met k d) (Contains-get_or met k d low)) [
+  | inl none ↦ absurd (no_join _ none)
+  | inr m ↦ node_below c floods m.1 _ h fit m.3.to_is
+]
+
+-- with those of the tile the other way round too, the joins are gathered
+pub turned_gathered : (c : Cutting) (floods : List Flood) (tile : ℕ) (out : List (Option ℤ)) (met joins : List Join) → IsCutting c → Fit c floods → tile < tile_count c → Adds c floods out tile (IsInTile c tile) [] met → AddsTurned c tile met joins → AreGathered c floods (IsInTile c tile) out joins
+turned_gathered c floods tile out met joins h fit below adds turns = record {
+  only = λ j there. elim (turns.only j there) [
+    | inl was ↦ meeting j was
+    | inr turn ↦
+        let m = meeting turn.0 turn.1 in
+        let inside : IsInTile c tile m.1 = (marked_within c floods m.1 _ h fit m.3.to_is, sym (node_own c floods m.1 _ h fit m.3.to_is) ∙ turn.2) in
+        (m.1, m.0, inside, subst (Meets c floods out m.1 m.0) turn.3 (meets_turned c floods out m.0 m.1 turn.0 m.3))
+  ];
+  every = λ p q j at m. elim (asks_cases (bounds_of c tile) p q (meets_differ c floods out p q j m)) [
+    | inl asks ↦ let was = adds.every p q j at asks m in (was.0, turns.kept was.0 was.1, was.2, was.3, was.4)
+    | inr back ↦
+        let t = m.touches in
+        let inside : IsInTile c tile q = in_tile c tile q h below (omega (arith, back.0, t.row_up), omega (arith, back.0, t.row_down), omega (arith, back.0, t.col_left), omega (arith, back.0, t.col_right)) in
+        let was = adds.every q p (turned j) inside (λ _. back.1) (meets_turned c floods out p q j m) in
+        let own : tile_of_node c was.0.to ≡ tile = ap (tile_of_node c) was.3 ∙ node_own c floods p _ h fit m.from_is ∙ at.1 in
+        (turned was.0, turns.back was.0 was.1 own, was.3, was.2, was.4)
+  ];
+} where
+  meeting : (j : Join) → Contains met j → (p q : Place) × IsInTile c tile p × Meets c floods out p q j
+  meeting j there = elim (adds.only j there) [ inl none ↦ absurd (no_join j none) | inr meets ↦ meets ]
 
 -- Each two labels have one join at most.
 abbrev AreOnce : List Join → Type 0
@@ -150,7 +226,7 @@ join_back c floods out joins h fit s once j there =
       same_join x y a b e = ap (λ n. record { from = n; to = x.to; height = x.height }) a ∙ ap (λ n. record { from = y.from; to = n; height = x.height }) b ∙ ap (λ n. record { from = y.from; to = y.to; height = n }) e
 
 -- floods of tiles fit
-fit_labels : (t : Terrain) (c : Cutting) (tile : ℕ) (f : Flood) → IsCutting c → tile < tile_count c → (c.cols ≡ t.cols) × (c.rows ≡ t.rows) → IsTileFlood t c tile f → LabelsInside c f
+fit_labels : (t : Terrain) (c : Cutting) (tile : ℕ) (f : Flood) → IsCutting c → tile < tile_count c → (c.cols ≡ t.cols) × (c.rows ≡ t.rows) → IsTileFlood t c tile f → (k : ℕ) (label : Place) → get_or f.labels k None ≡ Some label → IsInTile c tile label
 fit_labels t c tile f h below cuts flood k label e = elim (cases_lt k (length f.labels)) [
   | inr past ↦ none_some _ label (get_or_past f.labels k None past) e
   | inl low ↦
@@ -165,7 +241,7 @@ fit_labels t c tile f h below cuts flood k label e = elim (cases_lt k (length f.
         | inr height ↦
             let here = MatchOption-at_some _ _ height.0 height.1 (flood.each p i) in
             let same = same_Some here.1 label (sym here.3 ∙ at) in
-            data_within t c label cuts (subst (IsDataCell t) same (label_has_data t c p here.1 here.0 here.4))
+            subst (IsInTile c tile) same (data_within t c here.1 cuts (label_has_data t c p here.1 here.0 here.4), label_in_tile t c p here.1 here.0 here.4 ∙ i.1)
       ]
 ]
 
@@ -173,7 +249,8 @@ pub fit_of : (t : Terrain) (c : Cutting) (floods : List Flood) → IsCutting c �
 fit_of t c floods h are = record {
   count = are.count;
   bounds = λ tile f e. (are.each tile f e).bounds;
-  labels = λ tile f e. fit_labels t c tile f h (omega (arith, are.count, slice_get_within floods tile f e)) are.cuts (are.each tile f e);
+  labels = λ tile f e k label at. (fit_labels t c tile f h (omega (arith, are.count, slice_get_within floods tile f e)) are.cuts (are.each tile f e) k label at).0;
+  own = λ tile f k label e at. (fit_labels t c tile f h (omega (arith, are.count, slice_get_within floods tile f e)) are.cuts (are.each tile f e) k label at).1;
   sizes = λ tile f e. (are.each tile f e).labels_size ∙ ap (λ (b : Bounds). b.rows * b.cols) (sym (are.each tile f e).bounds);
   levels = λ tile f e. (are.each tile f e).levels_size ∙ ap (λ (b : Bounds). b.rows * b.cols) (sym (are.each tile f e).bounds);
 }
@@ -202,15 +279,12 @@ meets_pass t c floods out p q j h are m =
     let y = mark_parts c.cols (level_among c floods q) (label_among c floods q) _ m.to_is in
     let p_data = level_has_data t c floods h are p m.from_level (marked_within c floods p _ h fit m.from_is) x.1 in
     let q_data = level_has_data t c floods h are q m.to_level (marked_within c floods q _ h fit m.to_is) y.1 in
-    let differ : p ≢ q = λ e.
-    let same = same_Some (record { level = m.from_level; node = j.from }) (record { level = m.to_level; node = j.to }) (sym m.from_is ∙ ap (mark_among c floods) e ∙ m.to_is) in
-    m.different (ap (λ (z : Mark). z.node) same) in
     record {
       from = p;
       to = q;
       from_level = m.from_level;
       to_level = m.to_level;
-      neighbours = record { different = differ; touches = m.touches; from_data = p_data; to_data = q_data };
+      neighbours = record { different = meets_differ c floods out p q j m; touches = m.touches; from_data = p_data; to_data = q_data };
       from_label = (x.0, x.2, x.3);
       to_label = (y.0, y.2, y.3);
       from_is = x.1;
@@ -233,10 +307,6 @@ gap_back t c floods p h are gap = gap_where p (λ q _ none. elim (seen (height_a
   | inl no_height ↦ ap is_some no_height
   | inr found ↦ none_some _ _ none (mark_is t c floods q (has_tile_level t c floods h are q (ap is_some found.1)) _ refl)
 ]) gap
-
--- the sources are those of the graph
-source_place : (c : Cutting) (p : Place) → IsWithin c p → record { row = index_of c.cols p / c.cols; col = index_of c.cols p % c.cols } ≡ p
-source_place c p within = same_place _ p (div-mul-add p.row c.cols p.col within.1) (mod-mul-add p.row c.cols p.col within.1)
 
 -- the mark of an end cell
 end_mark : (t : Terrain) (c : Cutting) (floods : List Flood) (p : Place) (z : ℤ) → IsCutting c → AreFloods t c floods → IsEnd t p → height_at t p ≡ Some z → mark_among c floods p ≡ Some (record { level = z; node = index_of c.cols p })
@@ -318,19 +388,15 @@ sources_of t c floods sinks old sources h are named s puts = record {
 }
 
 -- a join is of the part of its first label's tile
-own_join : (t : Terrain) (c : Cutting) (floods : List Flood) (out : List (Option ℤ)) (tile : ℕ) (x : Part) (j : Join) → IsCutting c → AreFloods t c floods → IsPart c floods out tile x → Contains x.joins.items j → tile_of_node c j.from ≡ tile
-own_join t c floods out tile x j h are part there =
+own_join : (c : Cutting) (floods : List Flood) (out : List (Option ℤ)) (tile : ℕ) (x : Part) (j : Join) → IsCutting c → Fit c floods → IsPart c floods out tile x → Contains x.joins.items j → tile_of_node c j.from ≡ tile
+own_join c floods out tile x j h fit part there =
     let m = part.joins.only j there in
-    let mark = mark_parts c.cols (level_among c floods m.0) (label_among c floods m.0) _ m.3.from_is in
-    let l = has_tile_level t c floods h are m.0 (level_has_data t c floods h are m.0 m.3.from_level m.2.0 mark.1) in
-    let label : l.label ≡ mark.0 = same_Some l.label mark.0 (sym l.label_is ∙ mark.2) in
-    let within = data_within t c mark.0 are.cuts (subst (IsDataCell t) label (label_has_data t c m.0 l.label l.level l.right)) in
-    ap (tile_of_node c) (sym mark.3) ∙ ap (tile_of_place c) (source_place c mark.0 within ∙ sym label) ∙ label_in_tile t c m.0 l.label l.level l.right ∙ m.2.1
+    node_own c floods m.0 _ h fit m.3.from_is ∙ m.2.1
 
 own_joins : (t : Terrain) (c : Cutting) (floods : List Flood) (out : List (Option ℤ)) (parts : List Part) → IsCutting c → AreFloods t c floods → AreParts c floods out parts → (tile : ℕ) (j : Join) → Contains (get_or (joins_by_part parts) tile []) j → tile_of_node c j.from ≡ tile
 own_joins t c floods out parts h are s tile j there =
     let x = part_with c floods out parts tile j s there in
-    own_join t c floods out tile x.0 j h are x.1 (subst (λ (z : List Join). Contains z j) x.2 there)
+    own_join c floods out tile x.0 j h (fit_of t c floods h are) x.1 (subst (λ (z : List Join). Contains z j) x.2 there)
 
 parts_once : (t : Terrain) (c : Cutting) (floods : List Flood) (out : List (Option ℤ)) (parts : List Part) → IsCutting c → AreFloods t c floods → AreParts c floods out parts → AreOnce (flat_map (λ joins. joins) (joins_by_part parts))
 parts_once t c floods out parts h are s j k a b e f =

@@ -1,5 +1,6 @@
 -- the flood of a tile
 mod LabelTables
+mod Turned
 mod TileWindows
 pub mod Where
 mod CellMarks

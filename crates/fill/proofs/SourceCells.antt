@@ -13,15 +13,14 @@ use Rattle.terrain.proofs.Places.{index_injective, index_below}
 use Rattle.tiles.specs.Cutting.{Cutting, IsCutting, IsWithin, IsInTile, tile_count, tile_of_place}
 use Rattle.tiles.proofs.Cut.{tile_of_place_below}
 use Rattle.fill.specs.Labels.{labels_by}
-use Rattle.fill.specs.TileFlood.{Flood, label_in}
+use Rattle.fill.specs.TileFlood.{Flood}
 use Rattle.fill.specs.Gathering.{Fit, IsSpillSource, IsSourceEntry, IsSourceNode, AddsSources, PutsSources, AreSources, mark_among, IsSinkNode}
 use Rattle.fill.specs.declared.marks.Mark.{Mark}
 use Rattle.fill.specs.declared.sources.Source.{Source}
 use Rattle.fill.specs.declared.sources.TileSources.{TileSources}
 use Rattle.fill.specs.Parts.{AreTileSources, AreAllSources}
 use Rattle.floods.proofs.Steps.{seen, none_some, none_done}
-use Rattle.fill.proofs.TileWindows.{bounds_from_entry, entry_in-inside}
-use Rattle.fill.proofs.CellMarks.{label_within, mark_parts, mark_from_tile}
+use Rattle.fill.proofs.CellMarks.{label_entry, mark_parts, mark_from_tile}
 use Rattle.floods.proofs.Heaps.{all_by_contains}
 use Rattle.fill.specs.Spills.{level_among, label_among}
 use Rattle.floods.proofs.Windows.{data_is}
@@ -95,10 +94,10 @@ tile_listed c floods tile f places old new fit there listed a = record {
   only = a.only;
   every = λ p h at source.
       let parts = mark_parts c.cols _ _ _ (mark_from_tile c floods tile f p there at.1 ∙ source.mark) in
-      let within = label_within c f p parts.0 (fit.sizes tile f there) (fit.labels tile f there) parts.2 in
-      let own : label_in f p ≡ Some p = parts.2 ∙ ap Some (index_injective c.cols parts.0 p within.1 at.0.1 parts.3) in
-      let inside = bounds_from_entry f.bounds f.labels p p own in
-      a.every p h (listed _ p (sym (entry_in-inside f.bounds f.labels p inside) ∙ own)) source;
+      let entry = label_entry f p parts.0 parts.2 in
+      let within = fit.labels tile f there entry.0 parts.0 entry.1 in
+      let own : parts.0 ≡ p = index_injective c.cols parts.0 p within.1 at.0.1 parts.3 in
+      a.every p h (listed entry.0 p (entry.1 ∙ ap Some own)) source;
 }
 
 -- the labels of a table are its places

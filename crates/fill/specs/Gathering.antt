@@ -4,21 +4,22 @@ use Rattle.std.specs.Int.{int_max}
 use Rattle.std.specs.List.{Contains}
 use Rattle.terrain.specs.Neighbours.{index_of, Touches, HasGapWhere}
 use Rattle.terrain.specs.declared.place.Place.{Place}
-use Rattle.tiles.specs.Cutting.{Cutting, IsWithin, tile_count, bounds_of}
-use Rattle.fill.specs.TileFlood.{Flood, LabelsInside}
+use Rattle.tiles.specs.Cutting.{Cutting, IsWithin, tile_count, tile_of_place, bounds_of}
+use Rattle.fill.specs.TileFlood.{Flood, LabelsInside, IsInner}
 use Rattle.fill.specs.Spills.{level_among, label_among}
 use Rattle.fill.specs.declared.spills.Join.{Join}
 use Rattle.fill.specs.declared.marks.Mark.{Mark}
 use Rattle.fill.specs.declared.sources.Source.{Source}
 use Rattle.floods.specs.declared.net.Spill.{Spill}
 
--- The floods are of this cutting's tiles, and their labels lie in the grid.
+-- The floods are of this cutting's tiles, and their labels lie in the grid, each in its own tile.
 pub record Fit (c : Cutting) (floods : List Flood) : Type 0 where
   pub count : length floods ≡ tile_count c
   pub bounds : (tile : ℕ) (f : Flood) → slice_get floods tile ≡ Some f → f.bounds ≡ bounds_of c tile
   pub labels : (tile : ℕ) (f : Flood) → slice_get floods tile ≡ Some f → LabelsInside c f
   pub sizes : (tile : ℕ) (f : Flood) → slice_get floods tile ≡ Some f → length f.labels ≡ f.bounds.rows * f.bounds.cols
   pub levels : (tile : ℕ) (f : Flood) → slice_get floods tile ≡ Some f → length f.levels ≡ f.bounds.rows * f.bounds.cols
+  pub own : (tile : ℕ) (f : Flood) (k : ℕ) (label : Place) → slice_get floods tile ≡ Some f → slice_index_or f.labels k None ≡ Some label → tile_of_place c label ≡ tile
 
 -- A cell's level with its label's number.
 abbrev pub mark_of : ℕ → Option ℤ → Option Place → Option Mark
@@ -74,30 +75,30 @@ pub record AddsCovered (old added new : List Join) : Type 0 where
 abbrev pub AddsNear : ℕ → Flood → List (Option ℤ) → Mark → ℕ → List Join → List Join → Type 0
 AddsNear cols f sources from near old new = AddsCovered old (joins_of sources from (mark_with cols f near)) new
 
--- The joins of a cell with the eight around it in rows of this width have been added.
-pub record AddsAround (cols : ℕ) (f : Flood) (sources : List (Option ℤ)) (from : Mark) (i width : ℕ) (old new : List Join) : Type 0 where
+-- The joins of a cell with the four around it that come after it in rows of this width have been added.
+pub record AddsAfter (cols : ℕ) (f : Flood) (sources : List (Option ℤ)) (from : Mark) (i width : ℕ) (old new : List Join) : Type 0 where
   pub after_first : List Join
   pub after_second : List Join
   pub after_third : List Join
-  pub after_fourth : List Join
-  pub after_fifth : List Join
-  pub after_sixth : List Join
-  pub after_seventh : List Join
-  pub north_west : AddsNear cols f sources from (i - width - 1) old after_first
-  pub north : AddsNear cols f sources from (i - width) after_first after_second
-  pub north_east : AddsNear cols f sources from (i - width + 1) after_second after_third
-  pub west : AddsNear cols f sources from (i - 1) after_third after_fourth
-  pub east : AddsNear cols f sources from (i + 1) after_fourth after_fifth
-  pub south_west : AddsNear cols f sources from (i + width - 1) after_fifth after_sixth
-  pub south : AddsNear cols f sources from (i + width) after_sixth after_seventh
-  pub south_east : AddsNear cols f sources from (i + width + 1) after_seventh new
+  pub east : AddsNear cols f sources from (i + 1) old after_first
+  pub south_west : AddsNear cols f sources from (i + width - 1) after_first after_second
+  pub south : AddsNear cols f sources from (i + width) after_second after_third
+  pub south_east : AddsNear cols f sources from (i + width + 1) after_third new
 
--- The joins of these places have been added, but for those that others cover, and no others. Joins may have
--- been lowered to added ones.
-pub record Adds (c : Cutting) (floods : List Flood) (sources : List (Option ℤ)) (places : Place → Type 0) (old new : List Join) : Type 0 where
+-- The second place comes after the first in row order.
+abbrev pub IsAfter : Place → Place → Type 0
+IsAfter p q = (p.row < q.row) ⊎ ((p.row ≡ q.row) × (p.col < q.col))
+
+-- The joins of these places of a tile have been added, but for those that others cover, and no others. Places that are
+-- not on the rim have theirs with the places after them alone. Joins may have been lowered to added ones.
+pub record Adds (c : Cutting) (floods : List Flood) (sources : List (Option ℤ)) (tile : ℕ) (places : Place → Type 0) (old new : List Join) : Type 0 where
   pub kept : (j : Join) → Contains old j → Covered new j
   pub only : (j : Join) → Contains new j → Contains old j ⊎ IsMeetingAt c floods sources places j
-  pub every : (p q : Place) (j : Join) → places p → Meets c floods sources p q j → Covered new j
+  pub every : (p q : Place) (j : Join) → places p → (IsInner (bounds_of c tile) p → IsAfter p q) → Meets c floods sources p q j → Covered new j
+
+-- The join from its other label.
+abbrev pub turned : Join → Join
+turned j = record { from = j.to; to = j.from; height = j.height }
 
 -- The first join has labels before those of the second.
 abbrev pub IsBefore : Join → Join → Type 0

@@ -1,9 +1,9 @@
 -- What the tiles add to the spill graph.
-use Rattle.std.specs.Prelude.{◌≡◌, ℕ, ◌*◌, ◌/◌, ◌%◌, ◌<◌, ℤ, List, [], map, length, Option, slice_index_or}
+use Rattle.std.specs.Prelude.{◌≡◌, ℕ, ◌*◌, ◌/◌, ◌%◌, ◌<◌, ◌⊎◌, ℤ, List, [], map, length, Option, slice_index_or}
 use Rattle.std.specs.List.{Contains, All, flat_map}
 use Rattle.tiles.specs.Cutting.{Cutting, IsInTile, tile_count, tile_of_place}
 use Rattle.fill.specs.TileFlood.{Flood}
-use Rattle.fill.specs.Gathering.{AreGathered, AreRising, AddsSources}
+use Rattle.fill.specs.Gathering.{AreGathered, AreRising, AddsSources, turned}
 use Rattle.fill.specs.Spills.{Graph}
 use Rattle.fill.specs.declared.spills.Join.{Join}
 use Rattle.fill.specs.declared.parts.Part.{Part}
@@ -46,6 +46,12 @@ pub record IsGraph (c : Cutting) (parts : List Part) (g : Graph) : Type 0 where
   pub count : length parts ≡ tile_count c
   pub sources : length g.sources ≡ g.nodes
   pub ends : All (λ j. (j.from < g.nodes) × (j.to < g.nodes)) g.joins
-  pub back : (j : Join) → Contains g.joins j → Contains g.joins (record { from = j.to; to = j.from; height = j.height })
+  pub back : (j : Join) → Contains g.joins j → Contains g.joins (turned j)
   pub rising : (tile : ℕ) → tile < length parts → AreRising (slice_index_or (joins_by_part parts) tile [])
   pub own : (tile : ℕ) (j : Join) → Contains (slice_index_or (joins_by_part parts) tile []) j → tile_of_node c j.from ≡ tile
+
+-- Joins whose second labels are of the tile have been added the other way round.
+pub record AddsTurned (c : Cutting) (tile : ℕ) (old new : List Join) : Type 0 where
+  pub kept : (j : Join) → Contains old j → Contains new j
+  pub back : (j : Join) → Contains old j → tile_of_node c j.to ≡ tile → Contains new (turned j)
+  pub only : (j : Join) → Contains new j → Contains old j ⊎ ((k : Join) × Contains old k × (tile_of_node c k.to ≡ tile) × (turned k ≡ j))

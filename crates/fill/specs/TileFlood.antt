@@ -6,7 +6,7 @@ use Rattle.terrain.specs.Neighbours.{height_at, IsDataCell, IsNeighbour, IsEnd}
 use Rattle.drainage.specs.Filled.{crest}
 use Rattle.terrain.specs.declared.place.Place.{Place}
 use Rattle.tiles.specs.declared.bounds.Bounds.{Bounds}
-use Rattle.floods.specs.Cells.{cells_around, last_of}
+use Rattle.floods.specs.Cells.{last_of}
 use Rattle.tiles.specs.Cutting.{Cutting, IsWithin, tile_of_place, bounds_of, is_on_rim, is_in_bounds, IsInTile, cell_count}
 
 -- A data cell on the rim of its tile, or an end cell.
@@ -52,9 +52,13 @@ label_in f p = entry_in f.bounds f.labels p
 abbrev pub IsInner : Bounds → Place → Type 0
 IsInner b p = (b.top < p.row) × (p.row + 1 < b.top + b.rows) × (b.left < p.col) × (p.col + 1 < b.left + b.cols)
 
--- The entry is equal to the eight around it in rows of this width.
-abbrev pub AreEqualAround : List ℕ → ℕ → ℕ → Type 0
-AreEqualAround xs i width = All (λ k. slice_index_or xs k 0 ≡ slice_index_or xs i 0) (cells_around width i)
+-- The four entries around this one that come after it in rows of this width.
+abbrev pub cells_after : ℕ → ℕ → List ℕ
+cells_after width i = (i + 1) ∷ (i + width - 1) ∷ (i + width) ∷ (i + width + 1) ∷ []
+
+-- The entry is equal to these four.
+abbrev pub AreEqualAfter : List ℕ → ℕ → ℕ → Type 0
+AreEqualAfter xs i width = All (λ k. slice_index_or xs k 0 ≡ slice_index_or xs i 0) (cells_after width i)
 
 -- What holds of every flood of a tile.
 pub record IsFlood (f : Flood) : Type 0 where

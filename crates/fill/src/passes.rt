@@ -1,10 +1,12 @@
 // Where the labels of neighbouring cells meet.
-ghost use Rattle.std.specs.Prelude.{◌≡◌, ◌+◌, ◌<◌, ◌≤◌, ◌∷◌, [], Some, MatchOption, IfOk, OnOk, length, IsTrue, ◌↔◌, None, is_some, slice_index_or};
+ghost use Rattle.std.specs.Prelude.{◌≡◌, ◌+◌, ◌*◌, ◌<◌, ◌≤◌, ◌∷◌, [], Some, MatchOption, IfOk, OnOk, length, IsTrue, ◌↔◌, None, is_some, slice_index_or};
 ghost use Rattle.std.specs.Bool.{OnTrue, OnFalse};
+ghost use Rattle.std.specs.List.{All};
 ghost use Rattle.terrain.specs.declared.place.Place.{Place};
 ghost use Rattle.tiles.specs.Cutting.{IsCutting, IsWithin, IsInTile, bounds_of, tile_count};
-ghost use Rattle.fill.specs.TileFlood.{LabelsInside, AreEqualAround, IsInner};
-ghost use Rattle.fill.specs.Gathering.{Fit, Adds, AddsCovered, AddsAround, AreLowest, are_settled, IsRepeat, joins_of, mark_with};
+ghost use Rattle.fill.specs.TileFlood.{LabelsInside, AreEqualAfter, IsInner};
+ghost use Rattle.fill.specs.Gathering.{Fit, Adds, AddsCovered, AddsAfter, AreGathered, AreLowest, are_settled, IsRepeat, joins_of, mark_with};
+ghost use Rattle.fill.specs.Parts.{AddsTurned, tile_of_node};
 
 use crate::marks::{Mark, mark_at, mark_of_entry};
 use crate::source_heights::SourceHeights;
@@ -192,7 +194,7 @@ fn push_rim_cell(
     requires tile { tile < tile_count tiling.now }
     requires place { IsWithin tiling.now place }
     requires lawful { IsCutting tiling.now }
-    ensures { OnOk result (Adds tiling.now floods.now sources.now (λ p. p ≡ place) table.old.joins.items table.new.joins.items) }
+    ensures { OnOk result (Adds tiling.now floods.now sources.now tile (λ p. p ≡ place) table.old.joins.items table.new.joins.items) }
 {
     let Some(from) = mark_at(tiling, floods, tile, place) else {
         return Ok(());
@@ -234,8 +236,8 @@ fn push_near(
     push_join(table, sources, from, mark_of_entry(tiling, flood, near))
 }
 
-/// Adds the joins of a cell with the eight around it, which are of the tile.
-fn push_around(
+/// Adds the joins of a cell with the four around it that come after it in row order. All are of the tile.
+fn push_after(
     table: &mut JoinTable,
     tiling: &Tiling,
     flood: &TileFlood,
@@ -245,18 +247,13 @@ fn push_around(
     width: usize,
 ) -> Result<(), AllocError>
     requires labels { LabelsInside tiling.now flood.now }
-    requires before { width + 1 ≤ index }
+    requires some { 0 < index }
     requires after { index + width + 1 < length flood.now.labels }
     requires few { length flood.now.labels ≤ 16777216 }
     requires from { mark_with tiling.now.cols flood.now index ≡ Some from }
-    ensures { OnOk result (AddsAround tiling.now.cols flood.now sources.now from index width table.old.joins.items table.new.joins.items) }
+    ensures { OnOk result (AddsAfter tiling.now.cols flood.now sources.now from index width table.old.joins.items table.new.joins.items) }
 {
-    let above = index - width;
     let below = index + width;
-    push_near(table, tiling, flood, sources, index, from, above - 1)?;
-    push_near(table, tiling, flood, sources, index, from, above)?;
-    push_near(table, tiling, flood, sources, index, from, above + 1)?;
-    push_near(table, tiling, flood, sources, index, from, index - 1)?;
     push_near(table, tiling, flood, sources, index, from, index + 1)?;
     push_near(table, tiling, flood, sources, index, from, below - 1)?;
     push_near(table, tiling, flood, sources, index, from, below)?;
@@ -264,28 +261,23 @@ fn push_around(
     Ok(())
 }
 
-/// Whether an entry is equal to the eight around it in rows of this width. All are compared, since a branch on which is
-/// the first that differs would seldom be foreseen.
+/// Whether an entry is equal to the four around it that come after it in rows of this width. All are compared, since a
+/// branch on which is the first that differs would seldom be foreseen.
 #[inline(always)]
-fn are_equal_around(labels: &[u32], index: usize, width: usize) -> bool
-    requires before { width + 1 ≤ index }
+fn are_equal_after(labels: &[u32], index: usize, width: usize) -> bool
+    requires some { 0 < index }
     requires after { index + width + 1 < length labels.now }
-    ensures { OnTrue result (AreEqualAround labels.now index width) }
+    ensures { OnTrue result (AreEqualAfter labels.now index width) }
 {
     let label = labels[index];
-    let above = index - width;
     let below = index + width;
-    (labels[index - 1] == label)
-        & (labels[index + 1] == label)
-        & (labels[above - 1] == label)
-        & (labels[above] == label)
-        & (labels[above + 1] == label)
+    (labels[index + 1] == label)
         & (labels[below - 1] == label)
         & (labels[below] == label)
         & (labels[below + 1] == label)
 }
 
-/// Adds the joins of a cell that is not on the rim of its tile. Most cells have one label around them, and none.
+/// Adds the joins of a cell that is not on the rim of its tile, with the cells after it. Most have one label, and none.
 #[inline(always)]
 fn push_inner_cell(
     table: &mut JoinTable,
@@ -295,22 +287,22 @@ fn push_inner_cell(
     index: usize,
 ) -> Result<(), AllocError>
     requires labels { LabelsInside tiling.now flood.now }
-    requires before { flood.now.bounds.cols + 1 ≤ index }
+    requires some { 0 < index }
     requires after { index + flood.now.bounds.cols + 1 < length flood.now.labels }
     ensures { OnOk result (MatchOption (mark_with tiling.now.cols flood.now index) (table.new.joins.items ≡ table.old.joins.items)
-        (λ from. AddsAround tiling.now.cols flood.now sources.now from index flood.now.bounds.cols table.old.joins.items table.new.joins.items)) }
+        (λ from. AddsAfter tiling.now.cols flood.now sources.now from index flood.now.bounds.cols table.old.joins.items table.new.joins.items)) }
 {
     let width = flood.bounds().cols as usize;
-    if are_equal_around(&flood.labels().cells, index, width) {
+    if are_equal_after(&flood.labels().cells, index, width) {
         return Ok(());
     }
     let Some(from) = mark_of_entry(tiling, flood, index) else {
         return Ok(());
     };
-    push_around(table, tiling, flood, sources, index, from, width)
+    push_after(table, tiling, flood, sources, index, from, width)
 }
 
-/// Adds the joins of the cells of one row of a tile that are not on its rim.
+/// Adds the joins of the cells of one row of a tile that are not on its rim, with the cells after them.
 fn push_inner_cells(
     table: &mut JoinTable,
     tiling: &Tiling,
@@ -324,7 +316,7 @@ fn push_inner_cells(
     requires lawful { IsCutting tiling.now }
     requires top { (bounds_of tiling.now tile).top < row }
     requires row { row + 1 < (bounds_of tiling.now tile).top + (bounds_of tiling.now tile).rows }
-    ensures { OnOk result (Adds tiling.now floods.now sources.now
+    ensures { OnOk result (Adds tiling.now floods.now sources.now tile
         (λ p. IsInner (bounds_of tiling.now tile) p × (p.row ≡ row)) table.old.joins.items table.new.joins.items) }
 {
     let flood = &floods[tile as usize];
@@ -350,7 +342,7 @@ fn push_rim_cells(
     requires tile { tile < tile_count tiling.now }
     requires top { (bounds_of tiling.now tile).top ≤ row }
     requires row { row < (bounds_of tiling.now tile).top + (bounds_of tiling.now tile).rows }
-    ensures { OnOk result (Adds tiling.now floods.now sources.now
+    ensures { OnOk result (Adds tiling.now floods.now sources.now tile
         (λ p. IsInTile tiling.now tile p × (p.row ≡ row)) table.old.joins.items table.new.joins.items) }
 {
     let Bounds { left, cols, .. } = tiling.bounds(tile);
@@ -360,7 +352,7 @@ fn push_rim_cells(
     Ok(())
 }
 
-/// Adds the joins of the cells of one row of a tile.
+/// Adds the joins of the cells of one row of a tile: those amid it have theirs with the cells before them found there.
 fn push_cells(
     table: &mut JoinTable,
     tiling: &Tiling,
@@ -373,7 +365,7 @@ fn push_cells(
     requires tile { tile < tile_count tiling.now }
     requires top { (bounds_of tiling.now tile).top ≤ row }
     requires row { row < (bounds_of tiling.now tile).top + (bounds_of tiling.now tile).rows }
-    ensures { OnOk result (Adds tiling.now floods.now sources.now
+    ensures { OnOk result (Adds tiling.now floods.now sources.now tile
         (λ p. IsInTile tiling.now tile p × (p.row ≡ row)) table.old.joins.items table.new.joins.items) }
 {
     let Bounds {
@@ -406,6 +398,26 @@ fn push_cells(
     Ok(())
 }
 
+/// Adds those joins the other way round too whose second labels are of the tile.
+fn add_turned(tiling: &Tiling, tile: u32, joins: &mut Vec<Join>) -> Result<(), AllocError>
+    requires lawful { IsCutting tiling.now }
+    requires nodes { All (λ j. j.to < tiling.now.cols * tiling.now.rows) joins.old.items }
+    ensures { OnOk result (AddsTurned tiling.now tile joins.old.items joins.new.items) }
+{
+    let cols = tiling.cols();
+    for index in 0..joins.len() {
+        let join = joins[index];
+        let label = Place {
+            row: join.to / cols,
+            col: join.to % cols,
+        };
+        if tiling.tile_of(label) == tile {
+            joins.push(join.turned())?;
+        }
+    }
+    Ok(())
+}
+
 /// The joins of the cells of a tile with those that touch them, but those of two of these sources.
 pub(crate) fn tile_joins(
     alloc: Global,
@@ -416,14 +428,15 @@ pub(crate) fn tile_joins(
 ) -> Result<Vec<Join>, AllocError>
     requires fit { Fit tiling.now floods.now }
     requires tile { tile < tile_count tiling.now }
-    ensures { IfOk result (λ v. Adds tiling.now floods.now sources.now (IsInTile tiling.now tile) [] v.items) }
+    ensures { IfOk result (λ v. AreGathered tiling.now floods.now (IsInTile tiling.now tile) sources.now v.items) }
 {
     let mut table = JoinTable::new(alloc)?;
     let Bounds { top, rows, .. } = tiling.bounds(tile);
     for row in top..top + rows {
         push_cells(&mut table, tiling, floods, sources, tile, row)?;
     }
-    let JoinTable { joins, .. } = table;
+    let JoinTable { mut joins, .. } = table;
+    add_turned(tiling, tile, &mut joins)?;
     Ok(joins)
 }
 

@@ -4,7 +4,7 @@ ghost use Rattle.terrain.specs.Raster.{Terrain};
 ghost use Rattle.fill.specs.Parts.{AreParts, graph_of_parts};
 ghost use Rattle.fill.specs.TileFlood.{Flood};
 ghost use Rattle.fill.specs.Spills.{AreFloods, IsGraphOf, AreLevelsOf};
-ghost use Rattle.fill.specs.Gathering.{AreRising, way_of};
+ghost use Rattle.fill.specs.Gathering.{AreRising, turned, way_of};
 ghost use Rattle.fill.specs.Numbers.{AreNumbered};
 
 use crate::numbering::Numbering;
@@ -25,6 +25,19 @@ pub struct Join {
     pub from: u32,
     pub to: u32,
     pub height: Height,
+}
+
+impl Join {
+    /// The same join, from its other label.
+    pub(crate) fn turned(self) -> Join
+        ensures { result ≡ turned self }
+    {
+        Join {
+            from: self.to,
+            to: self.from,
+            height: self.height,
+        }
+    }
 }
 
 /// The labels of all tiles as a net. A node's number is its label's place in row order of the grid. Two

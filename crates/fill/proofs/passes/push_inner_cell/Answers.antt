@@ -2,19 +2,19 @@ use Rattle.std.proofs.Common.{subst, ap, arith, length}
 use Rattle.std.proofs.lemmas.Bool.{OnTrue_at}
 use Rattle.std.proofs.lemmas.Nat.{mul-le}
 use Rattle.tiles.specs.declared.bounds.Bounds.{Bounds}
-use Rattle.fill.specs.TileFlood.{AreEqualAround}
-use Rattle.fill.proofs.CellMarks.{equal_around_adds}
+use Rattle.fill.specs.TileFlood.{AreEqualAfter}
+use Rattle.fill.proofs.CellMarks.{equal_after_adds}
 use Rattle.fill.proofs.LabelTables.{cells_size}
 use Rattle.fill.proofs.passes.push_inner_cell.Goals as goal
 
-pub push_around-requires-clause-few : goal.push_around-requires-clause-few
-push_around-requires-clause-few c =
+pub push_after-requires-clause-few : goal.push_after-requires-clause-few
+push_after-requires-clause-few c =
     let f = c.bounds-width.ensures.lawful in
     let b = c.args.flood.now.bounds in
     omega (arith, f.labels_size, mul-le b.rows b.cols 4096 4096 (omega (arith, f.few_rows)) (omega (arith, f.few_cols)))
 
-pub are_equal_around-requires-clause-after : goal.are_equal_around-requires-clause-after
-are_equal_around-requires-clause-after c =
+pub are_equal_after-requires-clause-after : goal.are_equal_after-requires-clause-after
+are_equal_after-requires-clause-after c =
     let lawful = c.labels.ensures.lawful in
     let width = ap (λ (b : Bounds). b.cols) c.bounds-width.ensures.value in
     omega (
@@ -27,13 +27,13 @@ are_equal_around-requires-clause-after c =
       cells_size c.args.flood.now c.labels.result.now.places.items c.labels.result.now.cells.items c.labels.ensures.labels lawful,
     )
 
-pub returns-then-are_equal_around : goal.returns-then-are_equal_around
-returns-then-are_equal_around c =
+pub returns-then-are_equal_after : goal.returns-then-are_equal_after
+returns-then-are_equal_after c =
     let f = c.args.flood.now in
     let cells = c.labels.result.now.cells.items in
     let lawful = c.labels.ensures.lawful in
     let size = cells_size f c.labels.result.now.places.items cells c.labels.ensures.labels lawful in
-    let equal = rw c.deref.ensures.value at (OnTrue_at {P = AreEqualAround c.deref.result.now c.args.index c.bounds-width.result.cols} c.if-are_equal_around.true c.are_equal_around.ensures) in
-    equal_around_adds c.args.tiling.now.cols f c.args.sources.now c.labels.result.now.places.items cells c.args.index f.bounds.cols c.args.table.now.joins.items c.labels.ensures.labels
+    let equal = rw c.deref.ensures.value at (OnTrue_at {P = AreEqualAfter c.deref.result.now c.args.index c.bounds-width.result.cols} c.if-are_equal_after.true c.are_equal_after.ensures) in
+    equal_after_adds c.args.tiling.now.cols f c.args.sources.now c.labels.result.now.places.items cells c.args.index f.bounds.cols c.args.table.now.joins.items c.labels.ensures.labels
     (omega (arith, size, lawful.levels_size, lawful.labels_size, c.requires.after))
-    (subst (λ (b : Bounds). AreEqualAround cells c.args.index b.cols) c.bounds-width.ensures.value equal)
+    (subst (λ (b : Bounds). AreEqualAfter cells c.args.index b.cols) c.bounds-width.ensures.value equal)

@@ -16,16 +16,8 @@ push_inner_cell-requires-clause-labels c =
     c.requires.fit.labels c.args.tile c.index-floods-tile.result
     (slice_get_read c.args.floods.now (length c.args.floods.now) c.args.tile c.index-floods-tile.result refl (omega (arith, c.requires.fit.count, c.requires.tile)) c.index-floods-tile.is)
 
-pub push_inner_cell-requires-clause-before : goal.push_inner_cell-requires-clause-before
-push_inner_cell-requires-clause-before c =
-    let f = c.index-floods-tile.result in
-    let b = c.bounds-top.result in
-    let top = ap (λ (z : Bounds). z.top) c.bounds-top.ensures.value in
-    let rows = ap (λ (z : Bounds). z.rows) c.bounds-top.ensures.value in
-    let cols = ap (λ (z : Bounds). z.cols) c.bounds-top.ensures.value in
-    let there = slice_get_read c.args.floods.now (length c.args.floods.now) c.args.tile f refl (omega (arith, c.requires.fit.count, c.requires.tile)) c.index-floods-tile.is in
-    let inside = inner_row_index b c.args.row c.loop-index.index (omega (arith, top, c.requires.top)) (omega (arith, top, rows, c.requires.row)) c.loop-index.auto.index (omega (arith, c.loop-index-test.true)) in
-    omega (arith, inside.0, cols, ap (λ (z : Bounds). z.cols) (c.requires.fit.bounds c.args.tile f there))
+pub push_inner_cell-requires-clause-some : goal.push_inner_cell-requires-clause-some
+push_inner_cell-requires-clause-some c = omega (arith, c.loop-index.auto.index)
 
 pub push_inner_cell-requires-clause-after : goal.push_inner_cell-requires-clause-after
 push_inner_cell-requires-clause-after c =
@@ -37,8 +29,8 @@ push_inner_cell-requires-clause-after c =
     let cells = ap (λ (z : Bounds). z.rows * z.cols) c.bounds-top.ensures.value in
     let there = slice_get_read c.args.floods.now (length c.args.floods.now) c.args.tile f refl (omega (arith, c.requires.fit.count, c.requires.tile)) c.index-floods-tile.is in
     let same = c.requires.fit.bounds c.args.tile f there in
-    let inside = inner_row_index b c.args.row c.loop-index.index (omega (arith, top, c.requires.top)) (omega (arith, top, rows, c.requires.row)) c.loop-index.auto.index (omega (arith, c.loop-index-test.true)) in
-    omega (arith, inside.1, cols, cells, ap (λ (z : Bounds). z.cols) same, ap (λ (z : Bounds). z.rows * z.cols) same, c.requires.fit.sizes c.args.tile f there)
+    let inside = inner_row_index b c.args.row c.loop-index.index (omega (arith, top, c.requires.top)) (omega (arith, top, rows, c.requires.row)) (omega (arith, c.loop-index-test.true)) in
+    omega (arith, inside, cols, cells, ap (λ (z : Bounds). z.cols) same, ap (λ (z : Bounds). z.rows * z.cols) same, c.requires.fit.sizes c.args.tile f there)
 
 pub loop-index-preserved : goal.loop-index-preserved
 loop-index-preserved c =
@@ -53,7 +45,7 @@ loop-index-preserved c =
     let last : index + 1 < start + b.cols = omega (arith, cols, c.loop-index-test.true) in
     let place : Place = record { row = c.args.row; col = b.left + (index - start) } in
     let inner : IsInner b place = (c.requires.top, c.requires.row, omega (arith, first), omega (arith, first, last)) in
-    adds_then c.args.tiling.now c.args.floods.now c.args.sources.now
+    adds_then c.args.tiling.now c.args.floods.now c.args.sources.now c.args.tile
     (λ p. IsInner b p × (p.row ≡ c.args.row) × (p.col + start < b.left + index))
     (λ p. p ≡ place)
     (λ p. IsInner b p × (p.row ≡ c.args.row) × (p.col + start < b.left + (index + 1))) _ _ _
@@ -66,7 +58,7 @@ returns c =
     let b : Bounds = bounds_of c.args.tiling.now c.args.tile in
     let start : ℕ = (c.args.row - c.bounds-top.result.top) * c.bounds-top.result.cols in
     let cols = ap (λ (z : Bounds). z.cols) c.bounds-top.ensures.value in
-    adds_as c.args.tiling.now c.args.floods.now c.args.sources.now
+    adds_as c.args.tiling.now c.args.floods.now c.args.sources.now c.args.tile
     (λ p. IsInner b p × (p.row ≡ c.args.row) × (p.col + start < b.left + c.loop-index.index))
     (λ p. IsInner b p × (p.row ≡ c.args.row)) _ _
     (λ p. (λ at. (at.0, at.1, omega (arith, at.0, cols, c.loop-index-test.false)), λ at. (at.0, at.1)))
