@@ -12,8 +12,8 @@ use Rattle.std.proofs.lemmas.List.Elements.{Contains-append_left, Contains-appen
 use Rattle.terrain.specs.Neighbours.{Touches}
 use Rattle.terrain.specs.declared.place.Place.{Place}
 use Rattle.terrain.proofs.Places.{same_place}
-use Rattle.tiles.specs.Cutting.{Cutting, bounds_of}
-use Rattle.fill.specs.TileFlood.{Flood, IsInner}
+use Rattle.tiles.specs.Cutting.{Cutting, IsInTile}
+use Rattle.fill.specs.TileFlood.{Flood}
 use Rattle.fill.specs.Gathering.{mark_among, are_settled, Meets, IsMeetingAt, joins_of, Adds, AddsCovered, Covered, IsAfter}
 use Rattle.fill.specs.declared.spills.Join.{Join}
 use Rattle.fill.specs.declared.marks.Mark.{Mark}
@@ -102,17 +102,22 @@ adds_settled sources now from to differ settled = subst (λ (z : List Join). Add
 abbrev pub way_to : Place → Place → ℕ
 way_to p q = (q.row + 1 - p.row) * 3 + (q.col + 1 - p.col)
 
--- the joins of a cell that have been added from one way on before another
-pub record HasAdded (c : Cutting) (floods : List Flood) (sources : List (Option ℤ)) (p : Place) (first way : ℕ) (old new : List Join) : Type 0 where
+-- a place after another stands on a later way than its own
+pub after_way : (p q : Place) → Touches p q → IsAfter p q → 4 < way_to p q
+after_way p q t (inl row) = omega (arith, row)
+after_way p q t (inr col) = omega (arith, col.0, col.1)
+
+-- the joins that a cell asks for have been added before a way
+pub record HasAdded (c : Cutting) (floods : List Flood) (sources : List (Option ℤ)) (tile : ℕ) (p : Place) (way : ℕ) (old new : List Join) : Type 0 where
   pub kept : (j : Join) → Contains old j → Covered new j
   pub only : (j : Join) → Contains new j → Contains old j ⊎ IsMeetingAt c floods sources (λ q. q ≡ p) j
-  pub every : (q : Place) (j : Join) → first ≤ way_to p q → way_to p q < way → Meets c floods sources p q j → Covered new j
+  pub every : (q : Place) (j : Join) → (IsInTile c tile q → IsAfter p q) → way_to p q < way → Meets c floods sources p q j → Covered new j
 
-pub none_added : (c : Cutting) (floods : List Flood) (sources : List (Option ℤ)) (p : Place) (first : ℕ) (old : List Join) → HasAdded c floods sources p first first old old
-none_added c floods sources p first old = record {
+pub none_added : (c : Cutting) (floods : List Flood) (sources : List (Option ℤ)) (tile : ℕ) (p : Place) (way : ℕ) (old : List Join) → ((q : Place) → Touches p q → (IsInTile c tile q → IsAfter p q) → way ≤ way_to p q) → HasAdded c floods sources tile p way old old
+none_added c floods sources tile p way old past = record {
   kept = λ j h. covered_itself old j h;
   only = λ j h. inl h;
-  every = λ q j from low m. absurd (omega (arith, from, low));
+  every = λ q j after low m. absurd (omega (arith, past q m.touches after, low));
 }
 
 -- the place on a way
@@ -122,8 +127,8 @@ way_place p q way t e =
     (omega (arith, both.0, t.row_up), omega (arith, both.1, t.col_left))
 
 -- the mark on the way was none, or its join was added
-pub added_more : (c : Cutting) (floods : List Flood) (sources : List (Option ℤ)) (p near : Place) (first way : ℕ) (from : Mark) (o : Option Mark) (old now new : List Join) → mark_among c floods p ≡ Some from → mark_among c floods near ≡ o → near.row + 1 ≡ p.row + way / 3 → near.col + 1 ≡ p.col + way % 3 → way < 9 → HasAdded c floods sources p first way old now → AddsCovered now (joins_of sources from o) new → HasAdded c floods sources p first (way + 1) old new
-added_more c floods sources p near first way from o old now new here there row col few s is = record {
+pub added_more : (c : Cutting) (floods : List Flood) (sources : List (Option ℤ)) (tile : ℕ) (p near : Place) (way : ℕ) (from : Mark) (o : Option Mark) (old now new : List Join) → mark_among c floods p ≡ Some from → mark_among c floods near ≡ o → near.row + 1 ≡ p.row + way / 3 → near.col + 1 ≡ p.col + way % 3 → way < 9 → HasAdded c floods sources tile p way old now → AddsCovered now (joins_of sources from o) new → HasAdded c floods sources tile p (way + 1) old new
+added_more c floods sources tile p near way from o old now new here there row col few s is = record {
   kept = λ j h. covered_still now new is.kept j (s.kept j h);
   only = λ j h. elim (is.only j h) [
     | inl was ↦ s.only j was
@@ -145,8 +150,8 @@ added_more c floods sources p near first way from o old now new here there row c
           }),
         )
   ];
-  every = λ q j above low m. elim (cases_eq (way_to p q) way) [
-    | inr other ↦ covered_still now new is.kept j (s.every q j above (omega (arith, low, other)) m)
+  every = λ q j after low m. elim (cases_eq (way_to p q) way) [
+    | inr other ↦ covered_still now new is.kept j (s.every q j after (omega (arith, low, other)) m)
     | inl same ↦
         let at = way_place p q way m.touches same in
         let q_is : q ≡ near = same_place q near (omega (arith, at.0, row)) (omega (arith, at.1, col)) in
@@ -169,31 +174,25 @@ added_more c floods sources p near first way from o old now new here there row c
   touch : Touches p near
   touch = record { row_down = omega (arith, rows, row); row_up = omega (arith, row); col_right = omega (arith, cols, col); col_left = omega (arith, col) }
 
--- there is no place on the way, or it is outside
-pub added_none : (c : Cutting) (floods : List Flood) (sources : List (Option ℤ)) (p : Place) (first way : ℕ) (old now : List Join) → HasAdded c floods sources p first way old now → (p.row + way / 3 ≡ 0) ⊎ (p.col + way % 3 ≡ 0) → HasAdded c floods sources p first (way + 1) old now
-added_none c floods sources p first way old now s out = record {
+-- no place on the way is asked for
+pub added_none : (c : Cutting) (floods : List Flood) (sources : List (Option ℤ)) (tile : ℕ) (p : Place) (way : ℕ) (old now : List Join) → HasAdded c floods sources tile p way old now → ((q : Place) → Touches p q → (q.row + 1 ≡ p.row + way / 3) × (q.col + 1 ≡ p.col + way % 3) → (IsInTile c tile q → IsAfter p q) → ⊥) → HasAdded c floods sources tile p (way + 1) old now
+added_none c floods sources tile p way old now s nowhere = record {
   kept = s.kept;
   only = s.only;
-  every = λ q j above low m. elim (cases_eq (way_to p q) way) [
-    | inr other ↦ s.every q j above (omega (arith, low, other)) m
-    | inl same ↦ absurd (nowhere q j m (way_place p q way m.touches same))
+  every = λ q j after low m. elim (cases_eq (way_to p q) way) [
+    | inr other ↦ s.every q j after (omega (arith, low, other)) m
+    | inl same ↦ absurd (nowhere q m.touches (way_place p q way m.touches same) after)
   ];
-} where
-  nowhere : (q : Place) (j : Join) → Meets c floods sources p q j → (q.row + 1 ≡ p.row + way / 3) × (q.col + 1 ≡ p.col + way % 3) → ⊥
-  nowhere q j m at = elim out [
-    | inl top ↦ omega (arith, at.0, top)
-    | inr left ↦ omega (arith, at.1, left)
-  ]
+}
 
--- with all ways from the first that is asked for, a cell's joins have been added
-pub all_added : (c : Cutting) (floods : List Flood) (sources : List (Option ℤ)) (tile : ℕ) (p : Place) (first : ℕ) (old new : List Join) → ((q : Place) → Touches p q → (IsInner (bounds_of c tile) p → IsAfter p q) → first ≤ way_to p q) → HasAdded c floods sources p first 9 old new → Adds c floods sources tile (λ q. q ≡ p) old new
-all_added c floods sources tile p first old new above s = record {
+pub all_added : (c : Cutting) (floods : List Flood) (sources : List (Option ℤ)) (tile : ℕ) (p : Place) (old new : List Join) → HasAdded c floods sources tile p 9 old new → Adds c floods sources tile (λ q. q ≡ p) old new
+all_added c floods sources tile p old new s = record {
   kept = s.kept;
   only = s.only;
   every = λ x q j same after m.
       let here = subst (λ (z : Place). Meets c floods sources z q j) same m in
       let t = here.touches in
-      s.every q j (above q t (subst (λ (z : Place). IsInner (bounds_of c tile) z → IsAfter z q) same after)) (omega (arith, t.row_down, t.col_right)) here;
+      s.every q j (subst (λ (z : Place). IsInTile c tile q → IsAfter z q) same after) (omega (arith, t.row_down, t.col_right)) here;
 }
 
 -- a cell with no mark has no joins

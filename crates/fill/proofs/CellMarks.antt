@@ -4,7 +4,7 @@ use Rattle.std.specs.Prelude.{slice_get, option_and_then, slice_index_or, MatchO
 use Rattle.std.proofs.lemmas.Bool.{cond-false, cases_Bool, cases_lt}
 use Rattle.std.proofs.lemmas.List.{get_or-map}
 use Rattle.std.proofs.lemmas.Option.{MatchOption-at_some, MatchOption-at_none, same_Some, slice_get_within}
-use Rattle.terrain.specs.Neighbours.{index_of, Touches}
+use Rattle.terrain.specs.Neighbours.{index_of}
 use Rattle.terrain.specs.declared.place.Place.{Place}
 use Rattle.terrain.proofs.Places.{same_place}
 use Rattle.tiles.specs.declared.bounds.Bounds.{Bounds}
@@ -12,12 +12,12 @@ use Rattle.tiles.specs.Cutting.{Cutting, IsCutting, IsWithin, IsInTile, IsInBoun
 use Rattle.tiles.proofs.Cut.{in_tile, in_bounds_parts}
 use Rattle.fill.specs.TileFlood.{Flood, level_in, label_in, AreEqualAfter, cells_after, IsInner}
 use Rattle.fill.specs.Labels.{labels_by}
-use Rattle.fill.specs.Gathering.{Fit, mark_of, mark_among, Adds, mark_with, joins_of, AddsAfter, AddsCovered, IsAfter}
+use Rattle.fill.specs.Gathering.{Fit, mark_of, mark_among, Adds, mark_with, joins_of, AddsAfter, AddsCovered}
 use Rattle.fill.specs.declared.spills.Join.{Join}
 use Rattle.fill.specs.declared.marks.Mark.{Mark}
 use Rattle.std.proofs.lemmas.Nat.{mul-le}
 use Rattle.floods.proofs.Steps.{seen}
-use Rattle.fill.proofs.Adding.{covered_itself, joins_of_is, HasAdded, way_to, none_added, added_more, all_added, no_mark_adds}
+use Rattle.fill.proofs.Adding.{covered_itself, joins_of_is, HasAdded, after_way, none_added, added_more, all_added, no_mark_adds}
 use Rattle.fill.proofs.TileWindows.{bounds_from_entry, entry_in-inside}
 
 -- a label is an entry
@@ -113,12 +113,12 @@ equal_after_adds cols f sources places cells i width now are inside e = elim (se
 -- the joins of a cell that is not on the rim with the four after it have been added
 pub inner_adds : (c : Cutting) (floods : List Flood) (sources : List (Option ℤ)) (tile : ℕ) (f : Flood) (p : Place) (i : ℕ) (from : Mark) (old new : List Join) → IsCutting c → tile < tile_count c → slice_get floods tile ≡ Some f → f.bounds ≡ bounds_of c tile → IsInner (bounds_of c tile) p → i ≡ (p.row - (bounds_of c tile).top) * (bounds_of c tile).cols + (p.col - (bounds_of c tile).left) → mark_with c.cols f i ≡ Some from → AddsAfter c.cols f sources from i (bounds_of c tile).cols old new → Adds c floods sources tile (λ q. q ≡ p) old new
 inner_adds c floods sources tile f p i from old new h below e bounds inner at is s =
-    all_added c floods sources tile p 5 old new after
+    all_added c floods sources tile p old new
     (step 8 south east _ _ _ (omega (arith, inner)) (omega (arith, inner)) (omega arith) (omega (arith, inner)) (omega (arith, inner)) (omega (arith, at, inner, down))
     (step 7 south p.col _ _ _ (omega (arith, inner)) (omega (arith, inner)) (omega arith) (omega (arith, inner)) (omega (arith, inner)) (omega (arith, at, inner, down))
     (step 6 south west _ _ _ (omega (arith, inner)) (omega (arith, inner)) (omega arith) (omega (arith, inner)) (omega (arith, inner)) (omega (arith, at, inner, down))
     (step 5 p.row east _ _ _ (omega (arith, inner)) (omega (arith, inner)) (omega arith) (omega (arith, inner)) (omega (arith, inner)) (omega (arith, at, inner))
-    (none_added c floods sources p 5 old) s.east) s.south_west) s.south) s.south_east) where
+    (none_added c floods sources tile p 5 old (λ q t after. after_way p q t (after (in_tile c tile q h below (omega (arith, inner, t.row_up), omega (arith, inner, t.row_down), omega (arith, inner, t.col_left), omega (arith, inner, t.col_right)))))) s.east) s.south_west) s.south) s.south_east) where
       b : Bounds
       b = bounds_of c tile
 
@@ -131,16 +131,13 @@ inner_adds c floods sources tile f p i from old new h below e bounds inner at is
       east : ℕ
       east = p.col + 1
 
-      after : (q : Place) → Touches p q → (IsInner b p → IsAfter p q) → 5 ≤ way_to p q
-      after q t is_after = elim (is_after inner) [ inl row ↦ omega (arith, row) | inr col ↦ omega (arith, col.0, col.1) ]
-
       down : (p.row + 1 - b.top) * b.cols ≡ (p.row - b.top) * b.cols + b.cols
       down = let more : p.row + 1 - b.top ≡ p.row - b.top + 1 = omega (arith, inner) in omega (arith, ap (λ n. n * b.cols) more)
 
-      step : (way row col j : ℕ) (now next : List Join) → row + 1 ≡ p.row + way / 3 → col + 1 ≡ p.col + way % 3 → way < 9 → (b.top ≤ row) × (row < b.top + b.rows) → (b.left ≤ col) × (col < b.left + b.cols) → j ≡ (row - b.top) * b.cols + (col - b.left) → HasAdded c floods sources p 5 way old now → AddsCovered now (joins_of sources from (mark_with c.cols f j)) next → HasAdded c floods sources p 5 (way + 1) old next
+      step : (way row col j : ℕ) (now next : List Join) → row + 1 ≡ p.row + way / 3 → col + 1 ≡ p.col + way % 3 → way < 9 → (b.top ≤ row) × (row < b.top + b.rows) → (b.left ≤ col) × (col < b.left + b.cols) → j ≡ (row - b.top) * b.cols + (col - b.left) → HasAdded c floods sources tile p way old now → AddsCovered now (joins_of sources from (mark_with c.cols f j)) next → HasAdded c floods sources tile p (way + 1) old next
       step way row col j now next same_row same_col few rows cols index s a =
           let near : Place = record { row = row; col = col } in
-          added_more c floods sources p near 5 way from (mark_with c.cols f j) old now next
+          added_more c floods sources tile p near way from (mark_with c.cols f j) old now next
           (entry_mark c floods tile f p i h below e bounds (omega (arith, inner), omega (arith, inner), omega (arith, inner), omega (arith, inner)) at ∙ is)
           (entry_mark c floods tile f near j h below e bounds (rows.0, rows.1, cols.0, cols.1) index)
           same_row same_col few s a

@@ -1,7 +1,7 @@
 -- The gathered joins and sources are those of the spill graph.
 use Rattle.std.proofs.Common.{◌≡◌, ◌≢◌, ℕ, ◌+◌, ◌-◌, ◌*◌, ◌/◌, ◌%◌, ◌<◌, ◌⊎◌, inl, inr, ◌&&◌, true, false, Bool, ℤ, ◌≤ℤ◌, List, [], length, get_or, Option, None, Some, is_some, ◌∙◌, sym, ap, subst, refl, arith}
 use Rattle.std.specs.List.{Contains, flat_map}
-use Rattle.std.proofs.lemmas.Bool.{cases_lt, cases_order, cases_Bool}
+use Rattle.std.proofs.lemmas.Bool.{cases_eq, cases_lt, cases_order, cases_Bool}
 use Rattle.std.proofs.lemmas.Nat.{div-mul-add, mod-mul-add, div-add-mod'}
 use Rattle.std.proofs.lemmas.Option.{MatchOption-at_some, MatchOption-at_none, same_Some, slice_get_within}
 use Rattle.std.proofs.lemmas.List.{get_or_default, get_or_past}
@@ -11,10 +11,10 @@ use Rattle.terrain.specs.Neighbours.{height_at, index_of, IsEdge, IsEnd, HasGapA
 use Rattle.terrain.specs.declared.place.Place.{Place}
 use Rattle.terrain.proofs.Places.{same_place, index_below, index_injective, gap_where}
 use Rattle.tiles.specs.Cutting.{Cutting, IsCutting, IsWithin, IsInTile, IsInBounds, bounds_of, tile_count, tile_of_place}
-use Rattle.tiles.proofs.Cut.{tile_of_place_below, in_bounds, in_tile}
+use Rattle.tiles.proofs.Cut.{tile_of_place_below, in_bounds}
 use Rattle.tiles.specs.declared.bounds.Bounds.{Bounds}
 use Rattle.tiles.proofs.TileOrder.{place_in, place_in_tile, index_in-place_in}
-use Rattle.fill.specs.TileFlood.{Flood, IsInner, IsTileFlood, label_in}
+use Rattle.fill.specs.TileFlood.{Flood, IsTileFlood, label_in}
 use Rattle.fill.specs.Spills.{AreFloods, level_among, label_among, Carries, IsPass, Graph, HasJoin, IsJoined, AreSpillSources, AreSourcesOf, IsGraphOf, IsOpenGraphOf}
 use Rattle.fill.specs.Gathering.{Fit, mark_among, Meets, Adds, IsAfter, IsBefore, AreRising, AreLowest, AreGathered, are_settled, turned, HasGapAmong, IsSpillSource, IsSourceEntry, AreSources, PutsSinks}
 use Rattle.fill.specs.Parts.{IsPart, AreParts, AddsTurned, IsGraph, joins_by_part, graph_of_parts, tile_of_node}
@@ -135,19 +135,6 @@ meets_turned c floods out p q j m = record {
   greater = max_comm m.to_level m.from_level ∙ m.greater;
 }
 
--- a place is amid a tile or not
-inner_cases : (b : Bounds) (p : Place) → IsInner b p ⊎ (IsInner b p → ⊥)
-inner_cases b p = elim (cases_lt b.top p.row) [
-  | inr beyond ↦ inr (λ at. omega (arith, beyond, at))
-  | inl top ↦ elim (cases_lt (p.row + 1) (b.top + b.rows)) [
-    | inr beyond ↦ inr (λ at. omega (arith, beyond, at))
-    | inl bottom ↦ elim (cases_lt b.left p.col) [
-      | inr beyond ↦ inr (λ at. omega (arith, beyond, at))
-      | inl left ↦ elim (cases_lt (p.col + 1) (b.left + b.cols)) [ inr beyond ↦ inr (λ at. omega (arith, beyond, at)) | inl right ↦ inl (top, bottom, left, right) ]
-    ]
-  ]
-]
-
 -- the one of two places comes after the other
 after_cases : (p q : Place) → p ≢ q → IsAfter p q ⊎ IsAfter q p
 after_cases p q differ = elim (cases_order p.row q.row) [
@@ -158,11 +145,11 @@ after_cases p q differ = elim (cases_order p.row q.row) [
   ]
 ]
 
--- so of two cells that touch the one asks for their join, or the other does, and both are of the tile
-asks_cases : (b : Bounds) (p q : Place) → p ≢ q → (IsInner b p → IsAfter p q) ⊎ (IsInner b p × IsAfter q p)
-asks_cases b p q differ = elim (inner_cases b p) [
-  | inr rim ↦ inl (λ inner. absurd (rim inner))
-  | inl inner ↦ elim (after_cases p q differ) [ inl after ↦ inl (λ _. after) | inr before ↦ inr (inner, before) ]
+-- of two cells the one asks for their join, or the other does and is of the tile
+asks_cases : (c : Cutting) (tile : ℕ) (p q : Place) → p ≢ q → (IsInTile c tile q → IsAfter p q) ⊎ ((tile_of_place c q ≡ tile) × IsAfter q p)
+asks_cases c tile p q differ = elim (cases_eq (tile_of_place c q) tile) [
+  | inr other ↦ inl (λ at. absurd (other at.1))
+  | inl own ↦ elim (after_cases p q differ) [ inl after ↦ inl (λ _. after) | inr before ↦ inr (own, before) ]
 ]
 
 meets_differ : (c : Cutting) (floods : List Flood) (out : List (Option ℤ)) (p q : Place) (j : Join) → Meets c floods out p q j → p ≢ q
@@ -178,8 +165,8 @@ met_below c floods tile out met h fit adds k d low = elim (adds.only (get_or met
 ]
 
 -- with those of the tile the other way round too, the joins are gathered
-pub turned_gathered : (c : Cutting) (floods : List Flood) (tile : ℕ) (out : List (Option ℤ)) (met joins : List Join) → IsCutting c → Fit c floods → tile < tile_count c → Adds c floods out tile (IsInTile c tile) [] met → AddsTurned c tile met joins → AreGathered c floods (IsInTile c tile) out joins
-turned_gathered c floods tile out met joins h fit below adds turns = record {
+pub turned_gathered : (c : Cutting) (floods : List Flood) (tile : ℕ) (out : List (Option ℤ)) (met joins : List Join) → IsCutting c → Fit c floods → Adds c floods out tile (IsInTile c tile) [] met → AddsTurned c tile met joins → AreGathered c floods (IsInTile c tile) out joins
+turned_gathered c floods tile out met joins h fit adds turns = record {
   only = λ j there. elim (turns.only j there) [
     | inl was ↦ meeting j was
     | inr turn ↦
@@ -187,11 +174,10 @@ turned_gathered c floods tile out met joins h fit below adds turns = record {
         let inside : IsInTile c tile m.1 = (marked_within c floods m.1 _ h fit m.3.to_is, sym (node_own c floods m.1 _ h fit m.3.to_is) ∙ turn.2) in
         (m.1, m.0, inside, subst (Meets c floods out m.1 m.0) turn.3 (meets_turned c floods out m.0 m.1 turn.0 m.3))
   ];
-  every = λ p q j at m. elim (asks_cases (bounds_of c tile) p q (meets_differ c floods out p q j m)) [
+  every = λ p q j at m. elim (asks_cases c tile p q (meets_differ c floods out p q j m)) [
     | inl asks ↦ let was = adds.every p q j at asks m in (was.0, turns.kept was.0 was.1, was.2, was.3, was.4)
     | inr back ↦
-        let t = m.touches in
-        let inside : IsInTile c tile q = in_tile c tile q h below (omega (arith, back.0, t.row_up), omega (arith, back.0, t.row_down), omega (arith, back.0, t.col_left), omega (arith, back.0, t.col_right)) in
+        let inside : IsInTile c tile q = (marked_within c floods q _ h fit m.to_is, back.0) in
         let was = adds.every q p (turned j) inside (λ _. back.1) (meets_turned c floods out p q j m) in
         let own : tile_of_node c was.0.to ≡ tile = ap (tile_of_node c) was.3 ∙ node_own c floods p _ h fit m.from_is ∙ at.1 in
         (turned was.0, turns.back was.0 was.1 own, was.3, was.2, was.4)

@@ -4,8 +4,8 @@ use Rattle.std.specs.Int.{int_max}
 use Rattle.std.specs.List.{Contains}
 use Rattle.terrain.specs.Neighbours.{index_of, Touches, HasGapWhere}
 use Rattle.terrain.specs.declared.place.Place.{Place}
-use Rattle.tiles.specs.Cutting.{Cutting, IsWithin, tile_count, tile_of_place, bounds_of}
-use Rattle.fill.specs.TileFlood.{Flood, LabelsInside, IsInner}
+use Rattle.tiles.specs.Cutting.{Cutting, IsWithin, IsInTile, tile_count, tile_of_place, bounds_of}
+use Rattle.fill.specs.TileFlood.{Flood, LabelsInside}
 use Rattle.fill.specs.Spills.{level_among, label_among}
 use Rattle.fill.specs.declared.spills.Join.{Join}
 use Rattle.fill.specs.declared.marks.Mark.{Mark}
@@ -89,12 +89,12 @@ pub record AddsAfter (cols : ℕ) (f : Flood) (sources : List (Option ℤ)) (fro
 abbrev pub IsAfter : Place → Place → Type 0
 IsAfter p q = (p.row < q.row) ⊎ ((p.row ≡ q.row) × (p.col < q.col))
 
--- The joins of these places of a tile have been added, but for those that others cover, and no others. Places that are
--- not on the rim have theirs with the places after them alone. Joins may have been lowered to added ones.
+-- The joins of these places of a tile have been added, but for those that others cover, and no others. Of those with
+-- places of the tile each is asked for by the place that comes first. Joins may have been lowered to added ones.
 pub record Adds (c : Cutting) (floods : List Flood) (sources : List (Option ℤ)) (tile : ℕ) (places : Place → Type 0) (old new : List Join) : Type 0 where
   pub kept : (j : Join) → Contains old j → Covered new j
   pub only : (j : Join) → Contains new j → Contains old j ⊎ IsMeetingAt c floods sources places j
-  pub every : (p q : Place) (j : Join) → places p → (IsInner (bounds_of c tile) p → IsAfter p q) → Meets c floods sources p q j → Covered new j
+  pub every : (p q : Place) (j : Join) → places p → (IsInTile c tile q → IsAfter p q) → Meets c floods sources p q j → Covered new j
 
 -- The join from its other label.
 abbrev pub turned : Join → Join

@@ -181,7 +181,8 @@ fn push_join(
     Ok(())
 }
 
-/// Adds the joins of a cell with those that touch it, whichever tiles they are of.
+/// Adds the joins of a cell with those that touch it: those of other tiles, and those of its own that come after it in
+/// row order.
 fn push_rim_cell(
     table: &mut JoinTable,
     tiling: &Tiling,
@@ -199,6 +200,7 @@ fn push_rim_cell(
     let Some(from) = mark_at(tiling, floods, tile, place) else {
         return Ok(());
     };
+    let flood = &floods[tile as usize];
     for way in 0..9 {
         let row = place.row + way / 3;
         let col = place.col + way % 3;
@@ -207,7 +209,9 @@ fn push_rim_cell(
                 row: row - 1,
                 col: col - 1,
             };
-            push_join(table, sources, from, mark_at(tiling, floods, tile, near))?;
+            if way > 4 || !flood.holds(near) {
+                push_join(table, sources, from, mark_at(tiling, floods, tile, near))?;
+            }
         }
     }
     Ok(())
@@ -329,7 +333,7 @@ fn push_inner_cells(
     Ok(())
 }
 
-/// Adds the joins of the cells of one row of a tile, whichever tiles those that touch them are of.
+/// Adds the joins of the cells of one row of a tile with those of other tiles and those after them.
 fn push_rim_cells(
     table: &mut JoinTable,
     tiling: &Tiling,
@@ -352,7 +356,7 @@ fn push_rim_cells(
     Ok(())
 }
 
-/// Adds the joins of the cells of one row of a tile: those amid it have theirs with the cells before them found there.
+/// Adds the joins of the cells of one row of a tile with those of other tiles and those after them.
 fn push_cells(
     table: &mut JoinTable,
     tiling: &Tiling,

@@ -31,7 +31,7 @@ add_turned-requires-clause-nodes c =
 
 pub returns : goal.returns
 returns c =
-    turned_gathered c.args.tiling.now c.args.floods.now c.args.tile c.args.sources.now c.loop-row.table.joins.items _ c.bounds-top.ensures.lawful c.requires.fit c.requires.tile
+    turned_gathered c.args.tiling.now c.args.floods.now c.args.tile c.args.sources.now c.loop-row.table.joins.items _ c.bounds-top.ensures.lawful c.requires.fit
     (adds_as c.args.tiling.now c.args.floods.now c.args.sources.now c.args.tile
     (λ p. IsInTile c.args.tiling.now c.args.tile p × (p.row < c.loop-row.row))
     (IsInTile c.args.tiling.now c.args.tile) _ _
