@@ -13,7 +13,7 @@ use Rattle.tiles.specs.declared.bounds.Bounds.{Bounds}
 use Rattle.tiles.specs.Cutting.{Cutting, IsCutting, IsWithin, IsInTile, IsInBounds, bounds_of, tile_of_place}
 use Rattle.tiles.proofs.Cut.{in_bounds, in_tile, tile_of_place_below}
 use Rattle.drain.specs.Rounds.{IsLent, IsWalked, AreCounting}
-use Rattle.drain.specs.Lowering.{count_of, counts_in, total, IsEvenInside, IsChange, IsLowered, IsTold, IsReached, IsEvenBut, IsEntered}
+use Rattle.drain.specs.Lowering.{count_of, counts_in, total, IsEvenInside, IsChange, IsLowered, IsTold, IsReached, IsEvenBut, IsEntered, IsAmong, MayGoOn}
 use Rattle.drain.specs.declared.changes.Change.{Change}
 use Rattle.drain.specs.Entering.{AreEntries, IsRun}
 use Rattle.drain.specs.declared.changes.Entry.{Entry}
@@ -54,7 +54,7 @@ module _ (t : Terrain) (c : Cutting) (tile : ℕ) (steps : List (Option ℕ)) wh
   at : Lowered → Place → ℕ
   at l p = counts_in c tile steps l (index_of c.cols p)
 
-  pub change_low : (f g : ℕ → ℕ) (x : Change) → ((k : ℕ) → g k ≤ f k) → IsChange t c tile steps f x → IsChange t c tile steps g x
+  change_low : (f g : ℕ → ℕ) (x : Change) → ((k : ℕ) → g k ≤ f k) → IsChange t c tile steps f x → IsChange t c tile steps g x
   change_low f g x low is = record { inside = is.inside; walked = is.walked; less = is.less; least = omega (arith, is.least, low (index_of c.cols x.place)) }
 
   -- what is told of a place stays told where its count stays
@@ -214,13 +214,36 @@ module _ (t : Terrain) (c : Cutting) (tile : ℕ) (steps : List (Option ℕ)) wh
   }
 
 -- of its own tile
-pub change_own : (t : Terrain) (c : Cutting) (tile : ℕ) (steps : List (Option ℕ)) (l : Lowered) (x : Change) → IsChange t c tile steps (counts_in c tile steps l) x →
+change_own : (t : Terrain) (c : Cutting) (tile : ℕ) (steps : List (Option ℕ)) (l : Lowered) (x : Change) → IsChange t c tile steps (counts_in c tile steps l) x →
     IsChange t c (tile_of_place c x.place) steps (counts_in c (tile_of_place c x.place) steps l) x
 change_own t c tile steps l x is = subst (λ (k : ℕ). IsChange t c k steps (counts_in c k steps l) x) (sym is.inside.1) is
 
 pub low_own : (c : Cutting) (tile : ℕ) (steps : List (Option ℕ)) (l : Lowered) (p : Place) → tile_of_place c p ≡ tile → ((k : ℕ) → counts_in c tile steps l k ≤ count_of steps k) →
     (k : ℕ) → counts_in c (tile_of_place c p) steps l k ≤ count_of steps k
 low_own c tile steps l p own low = subst (λ (i : ℕ). (k : ℕ) → counts_in c i steps l k ≤ count_of steps k) (sym own) low
+
+-- a search may go on from each of its changes
+pub ready_at : (t : Terrain) (c : Cutting) (tile : ℕ) (steps : List (Option ℕ)) (b : Bounds) (l : Lowered) (x : Change) → AreCounting t steps → b ≡ bounds_of c tile → length l.rows.items ≡ b.rows → IsLowered t c tile steps (counts_in c tile steps l) l.changes.items →
+    IsAmong l.changes.items x → MayGoOn t c steps b l x
+ready_at t c tile steps b l x counting bounds rows lowered among =
+    let change = lowered.each x among in
+    record {
+      counting = counting;
+      change = change_own t c tile steps l x change;
+      bounds = bounds ∙ ap (λ (k : ℕ). bounds_of c k) (sym change.inside.1);
+      rows = rows;
+      low = low_own c tile steps l x.place change.inside.1 lowered.low;
+    }
+
+-- and still may when it has gone on
+pub ready_still : (t : Terrain) (c : Cutting) (steps : List (Option ℕ)) (b : Bounds) (Done : Place → Type 0) (bound : ℕ) (old new : Lowered) (x : Change) → MayGoOn t c steps b old x → IsReached t c (tile_of_place c x.place) steps Done bound old new → MayGoOn t c steps b new x
+ready_still t c steps b Done bound old new x ready reached = record {
+  counting = ready.counting;
+  change = change_low t c (tile_of_place c x.place) steps _ _ x reached.low ready.change;
+  bounds = ready.bounds;
+  rows = reached.rows ∙ ready.rows;
+  low = λ k. omega (arith, reached.low k, ready.low k);
+}
 
 -- before the first entry
 pub begun : (t : Terrain) (c : Cutting) (tile : ℕ) (steps : List (Option ℕ)) (l : Lowered) → ((k : ℕ) (row : Vec ℕ Global) → slice_get l.rows.items k ≡ Some row → row.items ≡ []) → l.changes.items ≡ [] → IsEvenInside t c tile (count_of steps) →

@@ -4,8 +4,9 @@ use Rattle.std.specs.declared.alloc.Global.{Global}
 use Rattle.terrain.specs.Raster.{Terrain}
 use Rattle.terrain.specs.Neighbours.{height_at, index_of, IsNeighbour}
 use Rattle.terrain.specs.declared.place.Place.{Place}
-use Rattle.tiles.specs.Cutting.{Cutting, IsWithin, IsInTile, bounds_of, is_in_bounds}
-use Rattle.drain.specs.Rounds.{IsLent, IsWalked}
+use Rattle.tiles.specs.declared.bounds.Bounds.{Bounds}
+use Rattle.tiles.specs.Cutting.{Cutting, IsWithin, IsInTile, bounds_of, is_in_bounds, tile_of_place}
+use Rattle.drain.specs.Rounds.{IsLent, IsWalked, AreCounting}
 use Rattle.drain.specs.declared.changes.Change.{Change}
 use Rattle.drain.specs.declared.changes.Entry.{Entry}
 use Rattle.drain.specs.declared.lowering.Lowered.{Lowered}
@@ -57,6 +58,14 @@ pub record IsChange (t : Terrain) (c : Cutting) (tile : ℕ) (steps : List (Opti
   pub walked : IsWalked (IsLent t steps) t x.place x.count
   pub less : x.count < count_of steps (index_of c.cols x.place)
   pub least : counts (index_of c.cols x.place) ≤ x.count
+
+-- A search may go on from this change, in the bounds of its tile, over counts that are no more than it was lent.
+pub record MayGoOn (t : Terrain) (c : Cutting) (steps : List (Option ℕ)) (b : Bounds) (l : Lowered) (x : Change) : Type 0 where
+  pub counting : AreCounting t steps
+  pub change : IsChange t c (tile_of_place c x.place) steps (counts_in c (tile_of_place c x.place) steps l) x
+  pub bounds : b ≡ bounds_of c (tile_of_place c x.place)
+  pub rows : length l.rows.items ≡ b.rows
+  pub low : (k : ℕ) → counts_in c (tile_of_place c x.place) steps l k ≤ count_of steps k
 
 -- The counts differ from those that were lent by these changes alone.
 pub record IsLowered (t : Terrain) (c : Cutting) (tile : ℕ) (steps : List (Option ℕ)) (counts : ℕ → ℕ) (changes : List Change) : Type 0 where

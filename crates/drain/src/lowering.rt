@@ -8,7 +8,7 @@ ghost use Rattle.tiles.specs.Cutting.{IsWithin, IsInTile, bounds_of, tile_of_pla
 ghost use Rattle.drain.specs.declared.changes.Entry.{Entry};
 ghost use Rattle.drain.specs.Rounds.{IsLent, IsWalked, AreCounting};
 ghost use Rattle.drain.specs.Entering.{lent_terrain, AreEntries, IsRun};
-ghost use Rattle.drain.specs.Lowering.{IsChange, IsEvenInside, IsReached, IsTileAnswer, count_of, counts_in};
+ghost use Rattle.drain.specs.Lowering.{IsEvenInside, IsReached, IsTileAnswer, MayGoOn, count_of, counts_in};
 
 use crate::changes::{Change, Entry, Run};
 use crate::entering::Lent;
@@ -120,13 +120,8 @@ fn reach(
     from: Change,
     to: Place,
 ) -> Result<(), AllocError>
-    requires counting { let c = lent.now.tiling.now in AreCounting (lent_terrain c lent.now.levels.now) lent.now.steps.now }
-    requires from { let c = lent.now.tiling.now in IsChange (lent_terrain c lent.now.levels.now) c (tile_of_place c from.place) lent.now.steps.now
-        (counts_in c (tile_of_place c from.place) lent.now.steps.now lowered.old) from }
-    requires bounds { bounds ≡ bounds_of lent.now.tiling.now (tile_of_place lent.now.tiling.now from.place) }
-    requires rows { length lowered.old.rows.items ≡ bounds.rows }
+    requires ready { let c = lent.now.tiling.now in MayGoOn (lent_terrain c lent.now.levels.now) c lent.now.steps.now bounds lowered.old from }
     requires to { IsInTile lent.now.tiling.now (tile_of_place lent.now.tiling.now from.place) to × Touches from.place to }
-    requires low { let c = lent.now.tiling.now in (k : ℕ) → counts_in c (tile_of_place c from.place) lent.now.steps.now lowered.old k ≤ count_of lent.now.steps.now k }
     ensures { let c = lent.now.tiling.now in let t = lent_terrain c lent.now.levels.now in OnOk result (IsReached t c (tile_of_place c from.place) lent.now.steps.now
         (λ p. (p ≡ to) × (height_at t p ≡ height_at t from.place)) (from.count + 1) lowered.old lowered.new) }
 {
@@ -146,12 +141,8 @@ fn reach_along(
     from: Change,
     row: u32,
 ) -> Result<(), AllocError>
-    requires counting { let c = lent.now.tiling.now in AreCounting (lent_terrain c lent.now.levels.now) lent.now.steps.now }
-    requires from { let c = lent.now.tiling.now in IsChange (lent_terrain c lent.now.levels.now) c (tile_of_place c from.place) lent.now.steps.now (counts_in c (tile_of_place c from.place) lent.now.steps.now lowered.old) from }
-    requires bounds { bounds ≡ bounds_of lent.now.tiling.now (tile_of_place lent.now.tiling.now from.place) }
-    requires rows { length lowered.old.rows.items ≡ bounds.rows }
+    requires ready { let c = lent.now.tiling.now in MayGoOn (lent_terrain c lent.now.levels.now) c lent.now.steps.now bounds lowered.old from }
     requires row { (bounds.top ≤ row) × (row < bounds.top + bounds.rows) × (row ≤ from.place.row + 1) × (from.place.row ≤ row + 1) }
-    requires low { let c = lent.now.tiling.now in (k : ℕ) → counts_in c (tile_of_place c from.place) lent.now.steps.now lowered.old k ≤ count_of lent.now.steps.now k }
     ensures { let c = lent.now.tiling.now in let t = lent_terrain c lent.now.levels.now in OnOk result (IsReached t c (tile_of_place c from.place) lent.now.steps.now
         (λ p. IsInTile c (tile_of_place c from.place) p × Touches from.place p × (height_at t p ≡ height_at t from.place) × (p.row ≡ row)) (from.count + 1) lowered.old lowered.new) }
 {
@@ -170,11 +161,7 @@ fn spread(
     lowered: &mut Lowered,
     from: Change,
 ) -> Result<(), AllocError>
-    requires counting { let c = lent.now.tiling.now in AreCounting (lent_terrain c lent.now.levels.now) lent.now.steps.now }
-    requires from { let c = lent.now.tiling.now in IsChange (lent_terrain c lent.now.levels.now) c (tile_of_place c from.place) lent.now.steps.now (counts_in c (tile_of_place c from.place) lent.now.steps.now lowered.old) from }
-    requires bounds { bounds ≡ bounds_of lent.now.tiling.now (tile_of_place lent.now.tiling.now from.place) }
-    requires rows { length lowered.old.rows.items ≡ bounds.rows }
-    requires low { let c = lent.now.tiling.now in (k : ℕ) → counts_in c (tile_of_place c from.place) lent.now.steps.now lowered.old k ≤ count_of lent.now.steps.now k }
+    requires { let c = lent.now.tiling.now in MayGoOn (lent_terrain c lent.now.levels.now) c lent.now.steps.now bounds lowered.old from }
     ensures { let c = lent.now.tiling.now in let t = lent_terrain c lent.now.levels.now in OnOk result (IsReached t c (tile_of_place c from.place) lent.now.steps.now
         (λ p. IsInTile c (tile_of_place c from.place) p × Touches from.place p × (height_at t p ≡ height_at t from.place)) (from.count + 1) lowered.old lowered.new) }
 {

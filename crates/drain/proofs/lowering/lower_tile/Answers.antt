@@ -7,7 +7,7 @@ use Rattle.drain.specs.declared.changes.Entry.{Entry}
 use Rattle.drain.specs.declared.changes.Change.{Change}
 use Rattle.drain.specs.Entering.{lent_terrain}
 use Rattle.drain.specs.Lowering.{counts_in, IsTileAnswer}
-use Rattle.drain.proofs.Lowered.{begun, change_own, entered_more, entered_low, entry_own, low_own, run_begins, run_first, even_end, even_enter, even_spread, lowered_then, reached_all, reached_tile}
+use Rattle.drain.proofs.Lowered.{begun, entered_more, entered_low, entry_own, low_own, ready_at, run_begins, run_first, even_end, even_enter, even_spread, lowered_then, reached_all, reached_tile}
 use Rattle.drain.proofs.lowering.lower_tile.Goals as goal
 use Rattle.drain.proofs.lowering.lower_tile.Goals.{then-next-run, else-next-run+then-done-len, else-next-run-2-via-then-next-run-2+else-comes_first, else-next-run-2-via-else-next-run-2}
 
@@ -102,8 +102,8 @@ loop-next-smaller-then-comes_first c =
     let reached = reached_tile t v (tile_of_place v e.change.place) tile steps (λ p. p ≡ e.change.place) e.change.count c.loop-next.lowered c.lower.new.lowered own c.in_ok-lower.ensures in
     omega (arith, reached.left, reached.longer, c.loop-next.invariant.done, c.if-next-run-2.true)
 
-pub spread-requires-clause-from : goal.spread-requires-clause-from
-spread-requires-clause-from c =
+pub spread-requires : goal.spread-requires
+spread-requires c =
     let v = c.args.lent.now.tiling.now in
     let t = lent_terrain v c.args.lent.now.levels.now in
     let steps = c.args.lent.now.steps.now in
@@ -118,43 +118,7 @@ spread-requires-clause-from c =
     ] in
     let from = c.index-change.result.now in
     let here = slice_get_read changes.items (length changes.items) c.loop-next.done from refl below c.index-change.ensures in
-    let change = c.loop-next.invariant.lowered.each from (c.loop-next.done, here) in
-    change_own t v tile steps c.loop-next.lowered from change
-
-pub spread-requires-clause-bounds : goal.spread-requires-clause-bounds
-spread-requires-clause-bounds c =
-    let v = c.args.lent.now.tiling.now in
-    let changes = c.loop-next.lowered.changes in
-    let below : c.loop-next.done < length changes.items = elim c.else-next-run-2.branch [
-      | else-next-run-2-via-then-next-run-2+else-comes_first w ↦ (let few = OnFalse_at w.if-comes_first.false w.comes_first.ensures in omega (arith, few, ap (λ (xs : List Change). length xs) w.deref.ensures.value))
-      | else-next-run-2-via-else-next-run-2 w ↦ elim c.if-next-run.branch [
-        | then-next-run u ↦ absurd (omega (arith, u.if-next-run.true, w.if-next-run-2.false))
-        | else-next-run+then-done-len u ↦ omega (arith, u.if-done-len.true, u.len.ensures, changes.ok.0)
-      ]
-    ] in
-    let from = c.index-change.result.now in
-    let here = slice_get_read changes.items (length changes.items) c.loop-next.done from refl below c.index-change.ensures in
-    let change = c.loop-next.invariant.lowered.each from (c.loop-next.done, here) in
-    c.bounds-bounds.ensures.value ∙ ap (λ (k : ℕ). bounds_of v k) (sym change.inside.1)
-
-pub spread-requires-clause-low : goal.spread-requires-clause-low
-spread-requires-clause-low c =
-    let v = c.args.lent.now.tiling.now in
-    let t = lent_terrain v c.args.lent.now.levels.now in
-    let steps = c.args.lent.now.steps.now in
-    let tile = (run_first c.args.entries.now c.args.run.from).tile in
-    let changes = c.loop-next.lowered.changes in
-    let below : c.loop-next.done < length changes.items = elim c.else-next-run-2.branch [
-      | else-next-run-2-via-then-next-run-2+else-comes_first w ↦ (let few = OnFalse_at w.if-comes_first.false w.comes_first.ensures in omega (arith, few, ap (λ (xs : List Change). length xs) w.deref.ensures.value))
-      | else-next-run-2-via-else-next-run-2 w ↦ elim c.if-next-run.branch [
-        | then-next-run u ↦ absurd (omega (arith, u.if-next-run.true, w.if-next-run-2.false))
-        | else-next-run+then-done-len u ↦ omega (arith, u.if-done-len.true, u.len.ensures, changes.ok.0)
-      ]
-    ] in
-    let from = c.index-change.result.now in
-    let here = slice_get_read changes.items (length changes.items) c.loop-next.done from refl below c.index-change.ensures in
-    let change = c.loop-next.invariant.lowered.each from (c.loop-next.done, here) in
-    low_own v tile steps c.loop-next.lowered from.place change.inside.1 c.loop-next.invariant.lowered.low
+    ready_at t v tile steps c.bounds-bounds.result c.loop-next.lowered from c.requires.counting c.bounds-bounds.ensures.value c.loop-next.invariant.rows c.loop-next.invariant.lowered (c.loop-next.done, here)
 
 pub loop-next-preserved : goal.loop-next-preserved
 loop-next-preserved c =

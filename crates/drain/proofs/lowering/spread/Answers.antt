@@ -1,25 +1,15 @@
-use Rattle.std.proofs.Common.{◌-◌, ◌<◌, inl, inr, ◌∙◌, arith}
+use Rattle.std.proofs.Common.{◌-◌, ◌<◌, inl, inr, arith}
 use Rattle.std.proofs.lemmas.Bool.{cases_eq}
-use Rattle.tiles.specs.Cutting.{tile_of_place}
-use Rattle.drain.specs.Entering.{lent_terrain}
-use Rattle.drain.proofs.Lowered.{change_low, own_bounds, reached_none, reached_then, reached_all}
+use Rattle.drain.proofs.Lowered.{own_bounds, ready_still, reached_none, reached_then, reached_all}
 use Rattle.drain.proofs.lowering.spread.Goals as goal
 
-pub reach_along-requires-clause-from : goal.reach_along-requires-clause-from
-reach_along-requires-clause-from c =
-    let v = c.args.lent.now.tiling.now in
-    change_low (lent_terrain v c.args.lent.now.levels.now) v (tile_of_place v c.args.from.place) c.args.lent.now.steps.now _ _ c.args.from c.loop-row.invariant.low c.requires.from
+pub reach_along-requires-clause-ready : goal.reach_along-requires-clause-ready
+reach_along-requires-clause-ready c = ready_still _ _ _ _ _ _ _ _ c.args.from c.requires c.loop-row.invariant
 
 pub reach_along-requires-clause-row : goal.reach_along-requires-clause-row
 reach_along-requires-clause-row c =
-    let own = own_bounds c.args.lent.now.tiling.now c.args.from.place c.args.from.place c.args.bounds c.args.lent.now.lawful c.requires.bounds c.requires.from.inside in
+    let own = own_bounds c.args.lent.now.tiling.now c.args.from.place c.args.from.place c.args.bounds c.args.lent.now.lawful c.requires.bounds c.requires.change.inside in
     (omega (arith, own), omega (arith, own), omega (arith, own), omega (arith, own))
-
-pub reach_along-requires-clause-rows : goal.reach_along-requires-clause-rows
-reach_along-requires-clause-rows c = c.loop-row.invariant.rows ∙ c.requires.rows
-
-pub reach_along-requires-clause-low : goal.reach_along-requires-clause-low
-reach_along-requires-clause-low c = λ k. omega (arith, c.loop-row.invariant.low k, c.requires.low k)
 
 pub loop-row-init : goal.loop-row-init
 loop-row-init c =
@@ -44,5 +34,5 @@ returns c =
 
 pub overflow_add-bounds : goal.overflow_add-bounds
 overflow_add-bounds c =
-    let own = own_bounds c.args.lent.now.tiling.now c.args.from.place c.args.from.place c.args.bounds c.args.lent.now.lawful c.requires.bounds c.requires.from.inside in
-    omega (arith, own, c.requires.from.inside.0.0, c.args.lent.now.lawful.few_rows)
+    let own = own_bounds c.args.lent.now.tiling.now c.args.from.place c.args.from.place c.args.bounds c.args.lent.now.lawful c.requires.bounds c.requires.change.inside in
+    omega (arith, own, c.requires.change.inside.0.0, c.args.lent.now.lawful.few_rows)
