@@ -26,8 +26,8 @@ loop-way-preserved c =
           let there = slice_get_read floods (length floods) tile f refl (omega (arith, c.requires.fit.count, c.requires.tile)) c.index-floods-tile.is in
           let inside = held t floods tile f near c.requires.lawful c.requires.fit c.requires.tile there (sym w.holds.ensures ∙ w.if-not-holds.false) in
           rw w.table-is (added_none t floods sources tile p way _ _ c.loop-way.invariant (λ q touch at after.
-              let same : near ≡ q = same_place near q (omega (arith, at.0, w.if-row-gt0.true)) (omega (arith, at.1, w.if-col-gt0.true)) in
-              omega (arith, after_way p q touch (after (subst (IsInTile t tile) same inside)), at.0, at.1, w.if-way-gt4.false)))
+          let same : near ≡ q = same_place near q (omega (arith, at.0, w.if-row-gt0.true)) (omega (arith, at.1, w.if-col-gt0.true)) in
+          omega (arith, after_way p q touch (after (subst (IsInTile t tile) same inside)), at.0, at.1, w.if-way-gt4.false)))
       | else-row-gt0 w ↦
           rw w.table-is (elim w.else-row-gt0.branch [
             | else-row-gt0-via-then-row-gt0+else-col-gt0 v ↦ added_none t floods sources tile p way _ _ c.loop-way.invariant (λ q touch at after. omega (arith, at.1, v.if-col-gt0.false))
