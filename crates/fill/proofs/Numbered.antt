@@ -31,7 +31,7 @@ none_told n = record {
 }
 
 -- one more number
-pub number_more : (nodes numbers : List ℕ) (a : ℕ) → a < length numbers → length nodes < 4294967295 → get_or numbers a 0 ≡ 4294967295 → AreTold nodes numbers → AreTold (nodes ++ a ∷ []) (set numbers a (length nodes))
+number_more : (nodes numbers : List ℕ) (a : ℕ) → a < length numbers → length nodes < 4294967295 → get_or numbers a 0 ≡ 4294967295 → AreTold nodes numbers → AreTold (nodes ++ a ∷ []) (set numbers a (length nodes))
 number_more nodes numbers a below room none s = record {
   few = omega (arith, count, room);
   inside = λ n low. elim (cases_eq n (length nodes)) [
@@ -95,13 +95,15 @@ numbered_by g nodes numbers told size sources joined = record {
 -- one node more, which has a number or gets one
 pub has_told : (nodes numbers : List ℕ) (a : ℕ) → a < length numbers → get_or numbers a 0 ≢ 4294967295 → AreTold nodes numbers → Numbers (λ b. b ≡ a) nodes numbers nodes numbers
 has_told nodes numbers a below some told = record {
+  told = told;
   size = refl;
   kept = λ b has. has;
   every = λ b same. let e = ap (λ k. get_or numbers k 0) same in omega (arith, e, (told.node a below some).0);
 }
 
-pub one_told : (nodes numbers : List ℕ) (a : ℕ) → a < length numbers → length nodes < 4294967295 → get_or numbers a 0 ≡ 4294967295 → Numbers (λ b. b ≡ a) nodes numbers (nodes ++ a ∷ []) (set numbers a (length nodes))
-one_told nodes numbers a below room none = record {
+pub one_told : (nodes numbers : List ℕ) (a : ℕ) → a < length numbers → length nodes < 4294967295 → get_or numbers a 0 ≡ 4294967295 → AreTold nodes numbers → Numbers (λ b. b ≡ a) nodes numbers (nodes ++ a ∷ []) (set numbers a (length nodes))
+one_told nodes numbers a below room none told = record {
+  told = number_more nodes numbers a below room none told;
   size = length-set numbers a (length nodes);
   kept = λ b has. elim (cases_eq b a) [
     | inl same ↦ let e = ap (λ k. get_or numbers k 0) same in absurd (omega (arith, e, none, has, room))
@@ -114,13 +116,14 @@ one_told nodes numbers a below room none = record {
 pub then_told : (first second all : ℕ → Type 0) (nodes numbers nodes_now numbers_now nodes_after numbers_after : List ℕ) → ((a : ℕ) → all a → first a ⊎ second a) →
     Numbers first nodes numbers nodes_now numbers_now → Numbers second nodes_now numbers_now nodes_after numbers_after → Numbers all nodes numbers nodes_after numbers_after
 then_told first second all nodes numbers nodes_now numbers_now nodes_after numbers_after split s m = record {
+  told = m.told;
   size = m.size ∙ s.size;
   kept = λ a has. m.kept a (s.kept a has);
   every = λ a is. elim (split a is) [ inl early ↦ m.kept a (s.every a early) | inr late ↦ m.every a late ];
 }
 
 pub same_told : (some all : ℕ → Type 0) (nodes numbers nodes_after numbers_after : List ℕ) → ((a : ℕ) → all a → some a) → Numbers some nodes numbers nodes_after numbers_after → Numbers all nodes numbers nodes_after numbers_after
-same_told some all nodes numbers nodes_after numbers_after are s = record { size = s.size; kept = s.kept; every = λ a is. s.every a (are a is) }
+same_told some all nodes numbers nodes_after numbers_after are s = record { told = s.told; size = s.size; kept = s.kept; every = λ a is. s.every a (are a is) }
 
 -- The nodes at which the first joins begin.
 abbrev pub BeginsFirst : List Join → ℕ → ℕ → Type 0

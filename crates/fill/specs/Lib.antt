@@ -4,4 +4,5 @@ pub mod Gathering
 pub mod Parts
 pub mod Labels
 pub mod Numbers
+pub mod Pages
 pub mod RaisedTiles

@@ -25,8 +25,9 @@ pub record AreTold (nodes numbers : List ℕ) : Type 0 where
 abbrev pub HasNumber : List ℕ → List ℕ → ℕ → Type 0
 HasNumber nodes numbers a = number_of numbers a < length nodes
 
--- These nodes have numbers now, and so have those that had one before.
+-- These nodes have numbers now, and so have those that had one before. Nodes and numbers tell of each other.
 pub record Numbers (added : ℕ → Type 0) (nodes numbers nodes_after numbers_after : List ℕ) : Type 0 where
+  pub told : AreTold nodes_after numbers_after
   pub size : length numbers_after ≡ length numbers
   pub kept : (a : ℕ) → HasNumber nodes numbers a → HasNumber nodes_after numbers_after a
   pub every : (a : ℕ) → added a → HasNumber nodes_after numbers_after a

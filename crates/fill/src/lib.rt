@@ -4,6 +4,7 @@
 mod filling;
 mod labels;
 mod marks;
+mod number_table;
 mod numbering;
 mod parts;
 mod passes;

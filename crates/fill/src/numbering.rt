@@ -5,6 +5,7 @@ ghost use Rattle.fill.specs.Parts.{joins_by_part};
 ghost use Rattle.fill.specs.Numbers.{AreNumbered, AreTold, AreNumberLevels, BeginsOne, HasNumber, Numbers, way_to_number};
 ghost use Rattle.fill.specs.Spills.{AreLevelsOf};
 
+use crate::number_table::{NO_NUMBER, NumberTable};
 use crate::parts::Part;
 use crate::raising::SpillLevels;
 use crate::spills::{Join, SpillGraph};
@@ -14,18 +15,15 @@ use std::alloc::{AllocError, Global};
 use std::marker::Model;
 use terrain::{Height, NoMemory};
 
-/// What stands for the number of a label that has none: it is past all.
-pub(crate) const NO_NUMBER: u32 = u32::MAX;
-
 /// The levels of the labels in the spill graph.
 #[derive(Drop)]
 pub(crate) struct LabelLevels<'a> {
     graph: &'a SpillGraph,
-    /// For each place of the grid the number of its label, which is past all heights where it has none.
-    numbers: Vec<u32>,
+    /// The numbers of the labels, past all heights where one has none.
+    numbers: NumberTable,
     /// The levels by number.
     heights: Vec<Option<Height>>,
-    ghost sizes: { (length numbers.items ≡ graph.now.nodes) × (length graph.now.sources ≡ graph.now.nodes) },
+    ghost sizes: { (length numbers ≡ graph.now.nodes) × (length graph.now.sources ≡ graph.now.nodes) },
 }
 
 impl<'a> Model for LabelLevels<'a> {
@@ -34,7 +32,7 @@ impl<'a> Model for LabelLevels<'a> {
 
     ghost Value = { List (Option ℤ) };
 
-    ghost view = { λ l. levels_with l.heights.items l.numbers.items l.graph.now.sources };
+    ghost view = { λ l. levels_with l.heights.items l.numbers l.graph.now.sources };
 }
 
 /// Labels with numbers of their own.
@@ -42,63 +40,57 @@ impl<'a> Model for LabelLevels<'a> {
 pub(crate) struct Numbering {
     /// The labels in the order of their numbers.
     nodes: Vec<u32>,
-    /// For each place of the grid its label's number, or [`NO_NUMBER`].
-    numbers: Vec<u32>,
-    ghost told: { AreTold nodes.items numbers.items },
+    numbers: NumberTable,
+    ghost told: { AreTold nodes.items numbers },
+}
+
+/// Gives a label a number, if it has none.
+#[inline]
+fn add(nodes: &mut Vec<u32>, numbers: &mut NumberTable, node: u32) -> Result<(), AllocError>
+    requires told { AreTold nodes.old.items numbers.old }
+    requires node { node < length numbers.old }
+    ensures { OnOk result (Numbers (λ a. a ≡ node) nodes.old.items numbers.old nodes.new.items numbers.new) }
+{
+    if numbers.at(node) != NO_NUMBER {
+        return Ok(());
+    }
+    let count = nodes.len();
+    if count >= NO_NUMBER as usize {
+        return Err(AllocError);
+    }
+    nodes.push(node)?;
+    numbers.put(node, count as u32)
+}
+
+/// Numbers the first labels of these joins.
+fn add_joined(
+    nodes: &mut Vec<u32>,
+    numbers: &mut NumberTable,
+    joins: &[Join],
+) -> Result<(), AllocError>
+    requires told { AreTold nodes.old.items numbers.old }
+    requires joins { All (λ j. j.from < length numbers.old) joins.now }
+    ensures { OnOk result (Numbers (BeginsOne joins.now) nodes.old.items numbers.old nodes.new.items numbers.new) }
+{
+    for join in joins {
+        add(nodes, numbers, join.from)?;
+    }
+    Ok(())
 }
 
 impl Numbering {
-    /// For so many places, of which none has a number yet.
-    fn none(alloc: Global, places: usize) -> Result<Self, AllocError>
-        ensures { IfOk result (λ n. length n.numbers.items ≡ places) }
-    {
-        let numbers = vec![in alloc; NO_NUMBER; places]?;
-        Ok(Numbering {
-            nodes: Vec::new(alloc),
-            numbers,
-        })
-    }
-
-    /// Gives a label a number, if it has none.
-    #[inline]
-    fn add(&mut self, node: u32) -> Result<(), AllocError>
-        requires { node < length self.old.numbers.items }
-        ensures { OnOk result (Numbers (λ a. a ≡ node) self.old.nodes.items self.old.numbers.items self.new.nodes.items self.new.numbers.items) }
-    {
-        if self.numbers[node as usize] != NO_NUMBER {
-            return Ok(());
-        }
-        let count = self.nodes.len();
-        if count >= NO_NUMBER as usize {
-            return Err(AllocError);
-        }
-        self.nodes.push(node)?;
-        self.numbers[node as usize] = count as u32;
-        Ok(())
-    }
-
-    /// Numbers the first labels of these joins.
-    fn add_joined(&mut self, joins: &[Join]) -> Result<(), AllocError>
-        requires { All (λ j. j.from < length self.old.numbers.items) joins.now }
-        ensures { OnOk result (Numbers (BeginsOne joins.now) self.old.nodes.items self.old.numbers.items self.new.nodes.items self.new.numbers.items) }
-    {
-        for join in joins {
-            self.add(join.from)?;
-        }
-        Ok(())
-    }
-
     /// Numbers the labels that are joined in these parts of a graph with so many places.
     pub(crate) fn of_parts(alloc: Global, places: usize, parts: &[Part]) -> Result<Self, AllocError>
         requires { All (λ j. j.from < places) (flat_map (λ joins. joins) (joins_by_part parts.now)) }
-        ensures size { IfOk result (λ n. length n.numbers.items ≡ places) }
-        ensures joined { IfOk result (λ n. All (λ j. HasNumber n.nodes.items n.numbers.items j.from) (flat_map (λ joins. joins) (joins_by_part parts.now))) }
+        ensures size { IfOk result (λ n. length n.numbers ≡ places) }
+        ensures joined { IfOk result (λ n. All (λ j. HasNumber n.nodes.items n.numbers j.from) (flat_map (λ joins. joins) (joins_by_part parts.now))) }
     {
-        let mut numbering = Numbering::none(alloc, places)?;
+        let mut nodes = Vec::new(alloc);
+        let mut numbers = NumberTable::none(alloc, places)?;
         for part in parts {
-            numbering.add_joined(&part.joins)?;
+            add_joined(&mut nodes, &mut numbers, &part.joins)?;
         }
-        Ok(numbering)
+        Ok(Numbering { nodes, numbers })
     }
 }
 
@@ -107,23 +99,22 @@ impl Numbering {
 struct NumberedGraph<'a> {
     graph: &'a SpillGraph,
     numbering: &'a Numbering,
-    ghost are: { AreNumbered graph.now numbering.now.nodes.items numbering.now.numbers.items },
+    ghost are: { AreNumbered graph.now numbering.now.nodes.items numbering.now.numbers },
 }
 
 /// These ways, to the numbers of their nodes.
 fn ways_by_number(
     alloc: Global,
     ways: &[Spill],
-    numbers: &[u32],
+    numbers: &NumberTable,
 ) -> Result<SmallVec<Spill, 8>, AllocError>
     requires { All (λ way. way.to < length numbers.now) ways.now }
     ensures { IfOk result (λ v. v.items ≡ map (way_to_number numbers.now) ways.now) }
 {
     let mut numbered = SmallVec::new(alloc);
     for way in ways {
-        let to = numbers[way.to as usize];
         numbered.push(Spill {
-            to,
+            to: numbers.at(way.to),
             height: way.height,
         })?;
     }
@@ -172,7 +163,7 @@ fn number_levels(
     graph: &SpillGraph,
     numbering: &Numbering,
 ) -> Result<Vec<Option<Height>>, NoMemory>
-    requires { AreNumbered graph.now numbering.now.nodes.items numbering.now.numbers.items }
+    requires { AreNumbered graph.now numbering.now.nodes.items numbering.now.numbers }
     ensures { IfOk result (λ heights. AreNumberLevels graph.now numbering.now.nodes.items heights.items) }
 {
     let net = NumberedGraph { graph, numbering };
@@ -201,7 +192,7 @@ impl<'a> SpillLevels for LabelLevels<'a> {
 
     #[inline]
     fn level(&self, node: u32) -> Option<Height> {
-        let number = self.numbers[node as usize];
+        let number = self.numbers.at(node);
         match self.heights.get(number as usize) {
             Some(height) => *height,
             None => self.graph.source(node),

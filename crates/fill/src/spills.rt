@@ -197,7 +197,7 @@ impl SpillGraph {
 
     /// Numbers for the labels that are joined.
     pub(crate) fn numbering(&self, alloc: Global) -> Result<Numbering, AllocError>
-        ensures { IfOk result (λ n. AreNumbered self.now n.nodes.items n.numbers.items) }
+        ensures { IfOk result (λ n. AreNumbered self.now n.nodes.items n.numbers) }
     {
         let numbering = Numbering::of_parts(alloc, self.nodes() as usize, &self.parts)?;
         Ok(numbering)

@@ -7,4 +7,4 @@ invariant_of-result c = ((c.in_ok-numbering.ensures.size, c.in_ok-numbering.ensu
 pub returns : goal.returns
 returns c =
     let numbering = c.in_ok-numbering.numbering in
-    all_levels c.args.graph.now numbering.nodes.items numbering.numbers.items c.in_ok-heights.heights.items c.in_ok-numbering.ensures c.in_ok-heights.ensures
+    all_levels c.args.graph.now numbering.nodes.items numbering.numbers c.in_ok-heights.heights.items c.in_ok-numbering.ensures c.in_ok-heights.ensures

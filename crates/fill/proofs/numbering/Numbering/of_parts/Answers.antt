@@ -1,14 +1,15 @@
-use Rattle.std.proofs.Common.{◌<◌, ◌+◌, sym, subst, ◌∙◌, arith}
+use Rattle.std.proofs.Common.{◌<◌, ◌+◌, ℕ, length, sym, ap, subst, ◌∙◌, arith}
+use Rattle.std.proofs.lemmas.List.{length-replicate}
 use Rattle.std.specs.List.{All}
 use Rattle.fill.specs.Numbers.{BeginsOne}
 use Rattle.fill.specs.declared.spills.Join.{Join}
 use Rattle.fill.proofs.Numbered.{BeginsInFirst, part_inside, part_begins, all_numbered, then_told}
 use Rattle.fill.proofs.numbering.Numbering.of_parts.Goals as goal
 
-pub add_joined-requires : goal.add_joined-requires
-add_joined-requires c =
+pub add_joined-requires-clause-joins : goal.add_joined-requires-clause-joins
+add_joined-requires-clause-joins c =
     let parts = c.args.parts.now in
-    rw c.deref.ensures.value (subst (λ n. All (λ (j : Join). j.from < n) c.part-item.result.joins.items) (sym (c.loop-part.invariant.size ∙ c.in_ok-numbering.ensures))
+    rw c.deref.ensures.value (subst (λ n. All (λ (j : Join). j.from < n) c.part-item.result.joins.items) (sym (c.loop-part.invariant.size ∙ ap length c.in_ok-numbers.ensures ∙ length-replicate {A = ℕ} c.args.places 4294967295))
     (part_inside parts c.loop-part.part-index _ c.part-item.result c.requires c.loop-part-test.true c.part-item.is))
 
 pub loop-part-preserved : goal.loop-part-preserved
@@ -19,7 +20,7 @@ loop-part-preserved c =
     then_told (BeginsInFirst parts i) (BeginsOne x.joins.items) (BeginsInFirst parts (i + 1)) _ _ _ _ _ _ (λ a. part_begins parts i x a c.loop-part-test.true c.part-item.is) c.loop-part.invariant (rw c.deref.ensures.value at c.in_ok-add_joined.ensures)
 
 pub returns-clause-size : goal.returns-clause-size
-returns-clause-size c = c.loop-part.invariant.size ∙ c.in_ok-numbering.ensures
+returns-clause-size c = c.loop-part.invariant.size ∙ ap length c.in_ok-numbers.ensures ∙ length-replicate {A = ℕ} c.args.places 4294967295
 
 pub returns-clause-joined : goal.returns-clause-joined
 returns-clause-joined c = all_numbered c.args.parts.now c.loop-part.part-index _ _ _ _ (omega (arith, c.loop-part-test.false)) c.loop-part.invariant

@@ -21,5 +21,5 @@ returns c =
     let g = graph_of_parts c.self.inside.tiling c.self.inside.parts.items c.self.inside.sources in
     let n = c.in_ok-numbering.numbering in
     let nodes : g.nodes ≡ c.nodes.result = ap (λ (z : Graph). z.nodes) c.self.view_is ∙ sym c.nodes.ensures in
-    subst (λ (z : Graph). AreNumbered z n.nodes.items n.numbers.items) c.self.view_is
-    (numbered_by g n.nodes.items n.numbers.items n.told (c.in_ok-numbering.ensures.size ∙ sym nodes) c.self.invariant.1.sources (rw c.deref.ensures.value at c.in_ok-numbering.ensures.joined))
+    subst (λ (z : Graph). AreNumbered z n.nodes.items n.numbers) c.self.view_is
+    (numbered_by g n.nodes.items n.numbers n.told (c.in_ok-numbering.ensures.size ∙ sym nodes) c.self.invariant.1.sources (rw c.deref.ensures.value at c.in_ok-numbering.ensures.joined))

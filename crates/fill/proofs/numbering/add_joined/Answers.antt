@@ -1,7 +1,7 @@
 use Rattle.std.proofs.Common.{◌+◌, arith}
 use Rattle.fill.specs.Numbers.{BeginsOne}
 use Rattle.fill.proofs.Numbered.{BeginsFirst, begins_more, begins_all, then_told, same_told}
-use Rattle.fill.proofs.numbering.Numbering.add_joined.Goals as goal
+use Rattle.fill.proofs.numbering.add_joined.Goals as goal
 
 pub loop-join-preserved : goal.loop-join-preserved
 loop-join-preserved c =
