@@ -29,8 +29,9 @@ const MOST_LEVELS: usize = 512;
 /// Nodes for each level of the window at least, so that making the lists is little of a flood.
 const NODES_A_LEVEL: usize = 16;
 
-/// Nodes of a level for which there is room from the start, so that few lists grow.
-const FIRST_ROOM: usize = 64;
+/// Nodes of a level for which there is room from the start, so that few lists grow. It is more than a kilobyte: what is
+/// less may be kept for later by an allocator, and keep it from giving back the memory of all floods below.
+const FIRST_ROOM: usize = 80;
 
 /// Nodes that wait. Those at a level of the window, which begins at `base`, stand in the list of that level, and all
 /// others in the heap.
