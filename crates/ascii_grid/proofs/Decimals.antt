@@ -42,6 +42,20 @@ digit_before k n left at buffer e h d =
 pub few_digits : (n : ℕ) → n < 2 ^ 64 → length (decimal n) ≤ 20
 few_digits n h = length-decimal-le 20 n (omega arith) (omega arith) (omega arith)
 
+-- and no fewer than its size asks for
+pub many_digits : (n : ℕ) → n < 2 ^ 64 → (k : ℕ) → 10 ^ k ≤ n → k < length (decimal n)
+many_digits n h = decimal_by_steps (λ m ds. (k : ℕ) → 10 ^ k ≤ m → k < length ds) first next n h
+  where
+    first : (m : ℕ) → m < 10 → (k : ℕ) → 10 ^ k ≤ m → k < 1
+    first m below zero le = omega arith
+    first m below (suc k) le = absurd (omega (arith, below, le, pow-succ' 10 k, pow-le-pow_right {n = 10} (omega arith) {i = 0} {j = k} (omega arith)))
+
+    next : (m : ℕ) (ds : List ℕ) → 10 ≤ m → ((k : ℕ) → 10 ^ k ≤ m / 10 → k < length ds) → (k : ℕ) → 10 ^ k ≤ m → k < length (ds ++ (48 + m % 10) ∷ [])
+    next m ds more longer zero le = omega (arith, length-append ds ((48 + m % 10) ∷ []))
+    next m ds more longer (suc k) le =
+        let rest : 10 ^ k ≤ m / 10 = omega (arith, le, pow-succ' 10 k) in
+        omega (arith, length-append ds ((48 + m % 10) ∷ []), longer k rest)
+
 -- the text of a height below zero begins with its sign
 pub height_text-negative : (d : ℕ) (z : ℤ) → z <ℤ pos 0 → height_text d z ≡ 45 ∷ (decimal (unsigned_abs z / 10 ^ d) ++ decimals_text d (unsigned_abs z))
 height_text-negative d (pos n) h = absurd (grind (arith, h))

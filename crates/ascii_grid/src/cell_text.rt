@@ -1,13 +1,12 @@
 // The text of one value.
-ghost use Rattle.std.specs.Prelude.{◌≡◌, ◌+◌, ◌-◌, ◌/◌, ◌^◌, ◌≤◌, ◌++◌, ℕ, List, length, drop, decimal};
+ghost use Rattle.std.specs.Prelude.{◌≡◌, ◌+◌, ◌-◌, ◌/◌, ◌^◌, ◌<◌, ◌≤◌, ◌++◌, ℕ, List, length, drop, decimal};
 ghost use Rattle.ascii_grid.specs.Text.{last_digits, decimals_text, height_text};
 
 use crate::page::{PAGE, Page};
 use drainage::Code;
-use itoa::write_digits;
 use terrain::Height;
 
-/// Room for the longest text of a value, which is written from its end.
+/// Room for the longest text of a value.
 const ROOM: usize = 32;
 
 /// Writes the last digits at the end of the buffer, and answers the number before them.
@@ -28,35 +27,15 @@ fn write_last_digits(size: u64, count: usize, buffer: &mut [u8; ROOM]) -> u64
 /// Writes the decimals at the end of the buffer, and answers the whole part and where they start.
 #[inline(always)]
 fn write_decimals(size: u64, scale: usize, buffer: &mut [u8; ROOM]) -> (u64, usize)
-    requires { scale ≤ 6 }
+    requires { 0 < scale × (scale ≤ 6) }
     ensures left { result.0 ≡ size / 10 ^ scale }
     ensures within { 25 ≤ result.1 × (result.1 ≤ ROOM) }
     ensures written { drop result.1 buffer.new ≡ decimals_text scale size }
 {
-    if scale == 0 {
-        return (size, ROOM);
-    }
     let left = write_last_digits(size, scale, buffer);
     let point = ROOM - 1 - scale;
     buffer[point] = b'.';
     (left, point)
-}
-
-/// Writes a height at the end of the buffer, and answers where it starts.
-#[inline(always)]
-#[tactic(auto, using(crate::proofs::Decimals::few_digits))]
-fn write_height(height: Height, scale: u8, buffer: &mut [u8; ROOM]) -> usize
-    requires { scale ≤ 6 }
-    ensures within { result ≤ ROOM }
-    ensures written { drop result buffer.new ≡ height_text scale height }
-{
-    let (whole, end) = write_decimals(height.unsigned_abs(), scale as usize, buffer);
-    let start = write_digits(whole, buffer, end);
-    if height >= 0 {
-        return start;
-    }
-    buffer[start - 1] = b'-';
-    start - 1
 }
 
 /// A value that a cell of a grid text can have.
@@ -77,9 +56,18 @@ impl CellValue for Height {
 
     #[inline(always)]
     fn push_to(self, scale: u8, page: &mut Page) {
-        let mut buffer = [0; ROOM];
-        let start = write_height(self, scale, &mut buffer);
-        page.push(&buffer[start..]);
+        if self < 0 {
+            page.push_byte(b'-');
+        }
+        let size = self.unsigned_abs();
+        if scale == 0 {
+            page.push_number(size);
+            return;
+        }
+        let mut decimals = [0; ROOM];
+        let (whole, start) = write_decimals(size, scale as usize, &mut decimals);
+        page.push_number(whole);
+        page.push(&decimals[start..]);
     }
 }
 
@@ -89,9 +77,7 @@ impl CellValue for u32 {
     #[inline(always)]
     #[tactic(auto, using(crate::proofs::Decimals::few_digits))]
     fn push_to(self, _scale: u8, page: &mut Page) {
-        let mut buffer = [0; ROOM];
-        let start = write_digits(self as u64, &mut buffer, ROOM);
-        page.push(&buffer[start..]);
+        page.push_number(u64::from(self));
     }
 }
 

@@ -1,13 +1,17 @@
 // Bytes that are gathered on the stack, and those that wait for a device.
-ghost use Rattle.std.specs.Prelude.{◌≡◌, ◌↔◌, ◌+◌, ◌≤◌, ◌∷◌, ◌++◌, [], ℕ, List, length, take, IsTrue, ◌<◌, ◌-◌, ◌^◌};
+ghost use Rattle.std.specs.Prelude.{◌≡◌, ◌↔◌, ◌+◌, ◌≤◌, ◌∷◌, ◌++◌, [], ℕ, List, length, take, IsTrue, ◌<◌, ◌-◌, ◌^◌, decimal};
 ghost use Rattle.ascii_grid.specs.Device.{Writes};
 
 use crate::counted::{Counted, WriteFailed};
+use itoa::write_digits;
 use std::io::Write;
 use std::marker::Model;
 
 /// How many bytes a page holds.
 pub const PAGE: usize = 4096;
+
+/// The most digits of a number that is pushed.
+const MOST_DIGITS: usize = 19;
 
 /// Bytes that wait to be handed to a device together.
 pub type Page = Buffer<PAGE>;
@@ -56,7 +60,7 @@ impl<const N: usize> Buffer<N> {
         let end = self.len + bytes.len();
         let room = &mut self.bytes[..];
         room[self.len..end].copy_from_slice(bytes);
-        self.len = end;
+        self.len += bytes.len();
     }
 
     /// Adds a byte, for which there is room.
@@ -67,6 +71,19 @@ impl<const N: usize> Buffer<N> {
     {
         self.bytes[self.len] = byte;
         self.len += 1;
+    }
+
+    /// Adds the digits of a number, for which there is room.
+    #[inline(always)]
+    pub(crate) fn push_number(&mut self, number: u64)
+        requires small { number < 10 ^ 19 }
+        requires room { length self.old + MOST_DIGITS ≤ N }
+        ensures digits { self.new ≡ self.old ++ decimal number }
+        ensures short { length self.new ≤ length self.old + MOST_DIGITS }
+    {
+        let end = self.len + digit_count(number);
+        write_digits(number, &mut self.bytes, end);
+        self.len = end;
     }
 
     #[inline(always)]
@@ -91,4 +108,21 @@ impl<const N: usize> Buffer<N> {
     {
         self.len = 0;
     }
+}
+
+/// How many digits a number has.
+#[inline(always)]
+fn digit_count(number: u64) -> usize
+    requires { number < 10 ^ 19 }
+    ensures value { result ≡ length (decimal number) }
+    ensures few { result ≤ MOST_DIGITS }
+{
+    let mut limit = 10;
+    for count in 1..MOST_DIGITS {
+        if number < limit {
+            return count;
+        }
+        limit *= 10;
+    }
+    MOST_DIGITS
 }
