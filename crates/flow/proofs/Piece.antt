@@ -13,9 +13,8 @@ use Rattle.tiles.proofs.TileOrder.{place_in_tile, index_in-place_in, index_in_be
 use Rattle.drainage.specs.Following.{Directed, code_at}
 use Rattle.drainage.specs.Drained.{AllFlowEnds}
 use Rattle.flow.specs.Streams.{AreStreams, AreUpstream, AreEnds, end_of, total}
-use Rattle.flow.specs.Finding.{AreFound}
 use Rattle.flow.specs.TileFlow.{Flow, directed_by, entry_in, through_in, through_of, IsExitOf, IsFlow, IsTileExits, IsTileCounts}
-use Rattle.flow.specs.TileLinks.{place_in, index_in, link_by, AreTileCodes, IsSmall, links_by, weights_by, where_data, through_by, ends_by, exits_by, flow_by, AreFlowLists}
+use Rattle.flow.specs.TileLinks.{place_in, index_in, link_by, AreTileCodes, IsSmall, links_by, weights_by, where_data, through_by, ends_by, rim_ends_by, exits_by, flow_by, AreFlowLists}
 use Rattle.flow.proofs.Totals.{total_is}
 use Rattle.flow.proofs.Reaching.{IsEnding, ending_of}
 use Rattle.flow.proofs.Gathering.{all_gathered, gathered_few, through_is as gathered_through}
@@ -55,12 +54,17 @@ few_cells b rows cols =
     omega arith
 
 -- what the lists of a flow have together
-module _ (b : Bounds) (cells : List (Option ℕ)) (links came ends : List ℕ) (s : AreFlowLists b cells links came ends) where
+module _ (b : Bounds) (cells : List (Option ℕ)) (links came rim_ends : List ℕ) (s : AreFlowLists b cells links came rim_ends) where
   pub as_many_links : length links ≡ length cells
   as_many_links = ap length s.linked ∙ length-map-range_with_len (λ i. link_by b i (get_or cells i None)) 0 (b.rows * b.cols) ∙ sym s.lawful.codes_size
 
   pub end_listed : (i : ℕ) → i < length cells → end_of links i ≡ get_or (ends_by links) i 0
   end_listed i h = sym ((ends_are links).each i (omega (arith, h, as_many_links)))
+
+  -- where the links end of the flow that is seen
+  pub ends_seen : (f : Flow) → flow_by b cells came (ends_by links) ≡ f → (ends : List ℕ) → AreEnds (links_by f.bounds f.codes) ends → AreEnds links ends
+  ends_seen f seen ends are =
+      subst (λ (l : List ℕ). AreEnds l ends) (sym s.linked) (subst (λ (z : Flow). AreEnds (links_by z.bounds z.codes) ends) (sym seen) are)
 
 -- the lists of a tile
 pub record AreLists (v : View (Option ℕ)) (b : Bounds) (cells : List (Option ℕ)) (links weights : List ℕ) : Type 0 where
@@ -205,8 +209,8 @@ module _ (v : View (Option ℕ)) (b : Bounds) (cells : List (Option ℕ)) (links
           ]);
     }
 
-  pub lists_are : (came ends : List ℕ) → AreFound links ends → AreFlowLists b cells links came ends
-  lists_are came ends found = record { linked = s.made; lawful = flow_lawful (ends_by links) (ends_are links) came; streams = streams; found = found }
+  pub lists_are : (came rim_ends : List ℕ) → rim_ends ≡ rim_ends_by b links → AreFlowLists b cells links came rim_ends
+  lists_are came rim_ends rim = record { linked = s.made; lawful = flow_lawful (ends_by links) (ends_are links) came; streams = streams; rim = rim }
 
   pub counts_are : (came : List ℕ) → AreUpstream links weights came → (f : Flow) → f.bounds ≡ b → f.through ≡ through_by cells came → IsTileCounts (directed_by v) v.cutting v.tile f
   counts_are came up f same through = record {

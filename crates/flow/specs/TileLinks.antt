@@ -7,8 +7,8 @@ use Rattle.terrain.specs.declared.place.Place.{Place}
 use Rattle.tiles.specs.declared.bounds.Bounds.{Bounds}
 use Rattle.drainage.specs.Following.{Directed, code_at}
 use Rattle.flow.specs.Streams.{AreStreams, end_of}
-use Rattle.flow.specs.Finding.{AreFound}
 use Rattle.flow.specs.TileFlow.{Flow, IsFlow}
+use Rattle.flow.specs.RimNumbers.{stride, side_place}
 
 abbrev pub place_in : Bounds → ℕ → Place
 place_in b i = record { row = b.top + i / b.cols; col = b.left + i % b.cols }
@@ -63,6 +63,10 @@ through_by cells came = map (λ i. where_data (slice_index_or cells i None) (sli
 abbrev pub ends_by : List ℕ → List ℕ
 ends_by links = map (end_of links) (range_with_len 0 (length links))
 
+-- the same of each cell on the rim of a tile, by the numbers of its sides
+abbrev pub rim_ends_by : Bounds → List ℕ → List ℕ
+rim_ends_by b links = map (λ side. end_of links (index_in b (side_place b b side))) (range_with_len 0 (stride b))
+
 abbrev pub exits_by : Bounds → List (Option ℕ) → List ℕ → List (Option Place)
 exits_by b cells ends = map (λ i. where_data (slice_index_or cells i None) (place_in b (slice_index ends i))) (range_with_len 0 (length cells))
 
@@ -70,9 +74,9 @@ exits_by b cells ends = map (λ i. where_data (slice_index_or cells i None) (pla
 abbrev pub flow_by : Bounds → List (Option ℕ) → List ℕ → List ℕ → Flow
 flow_by b cells came ends = record { bounds = b; codes = cells; through = through_by cells came; exits = exits_by b cells ends }
 
--- What holds of these lists, where the ends of some paths have been found.
-pub record AreFlowLists (b : Bounds) (cells : List (Option ℕ)) (links came ends : List ℕ) : Type 0 where
+-- What holds of these lists together.
+pub record AreFlowLists (b : Bounds) (cells : List (Option ℕ)) (links came rim_ends : List ℕ) : Type 0 where
   pub linked : links ≡ links_by b cells
   pub lawful : IsFlow (flow_by b cells came (ends_by links))
   pub streams : AreStreams links
-  pub found : AreFound links ends
+  pub rim : rim_ends ≡ rim_ends_by b links

@@ -3,6 +3,7 @@ ghost use Rattle.std.specs.Prelude.{◌≡◌, ◌↔◌, IsTrue, if◌then◌el
 ghost use Rattle.terrain.specs.Ways.{place_of, place_toward};
 ghost use Rattle.tiles.specs.Cutting.{IsInBounds, bounds_of, is_in_bounds};
 ghost use Rattle.drainage.specs.CodeNumber.{IsCode};
+ghost use Rattle.flow.specs.Counts.{is_place};
 ghost use Rattle.flow.specs.TileFlow.{directed_by};
 ghost use Rattle.flow.specs.CodeSteps.{moved, leads_east, leads_south, leads_west, leads_north};
 ghost use Rattle.flow.specs.TileLinks.{AreTileCodes, IsAmid, IsSmall, place_in, index_in, link_by, first_links, links_by, weights_by};
@@ -144,6 +145,13 @@ pub(crate) fn place_at(bounds: Bounds, index: u32) -> Place
         row: bounds.top + index / bounds.cols,
         col: bounds.left + index % bounds.cols,
     }
+}
+
+#[inline(always)]
+pub(crate) fn is_place(place: Place, other: Place) -> bool
+    ensures { result ≡ is_place place other }
+{
+    place.row == other.row && place.col == other.col
 }
 
 /// The index of a place.

@@ -26,8 +26,8 @@ pub(crate) fn unknown_ends(alloc: Global, links: &[u32]) -> Result<Vec<u32>, All
     vec![in alloc; UNKNOWN; links.len()]
 }
 
-/// Finds where the path of each node ends.
-pub(crate) fn find_ends(links: &[u32], ends: &mut [u32])
+// Finds where the path of each node ends.
+fn find_ends(links: &[u32], ends: &mut [u32])
     requires streams { AreStreams links.now }
     requires few { length links.now ≤ 2 ^ 30 }
     requires found { AreFound links.now ends.old }
@@ -38,23 +38,43 @@ pub(crate) fn find_ends(links: &[u32], ends: &mut [u32])
     }
 }
 
-/// Finds where the path of a node ends, and so do those of the nodes along it.
-pub(crate) fn find_end(links: &[u32], ends: &mut [u32], node: usize)
+/// Where the path of a node ends, which is noted of all nodes along it.
+pub(crate) fn find_end(links: &[u32], ends: &mut [u32], node: usize) -> u32
     requires streams { AreStreams links.now }
     requires few { length links.now ≤ 2 ^ 30 }
     requires found { AreFound links.now ends.old }
     requires inside { node < length links.now }
+    ensures value { result ≡ end_of links.now node }
     ensures found { AreFound links.now ends.new }
     ensures kept { (i : ℕ) → IsKnown ends.old i → IsKnown ends.new i }
     ensures marked { IsKnown ends.new node }
 {
     let last = end_from(links, ends, node);
     mark_path(links, ends, node, last);
+    last
 }
 
-/// The end of a node's path, read off where the path meets a known one, or comes to it.
+/// Where the path of a node ends, where nothing is noted.
+pub(crate) fn end_of(links: &[u32], from: usize) -> u32
+    requires streams { AreStreams links.now }
+    requires few { length links.now ≤ 2 ^ 30 }
+    requires inside { from < length links.now }
+    ensures { result ≡ end_of links.now from }
+{
+    let mut node = from;
+    'path: for _ in 0..links.len() {
+        let next = links[node];
+        if next as usize == node {
+            return next;
+        }
+        node = next as usize;
+    }
+    node as u32
+}
+
+// The end of a node's path, read off where the path meets a known one, or comes to it.
 #[inline]
-pub(crate) fn end_from(links: &[u32], ends: &[u32], from: usize) -> u32
+fn end_from(links: &[u32], ends: &[u32], from: usize) -> u32
     requires streams { AreStreams links.now }
     requires few { length links.now ≤ 2 ^ 30 }
     requires found { AreFound links.now ends.now }

@@ -37,9 +37,7 @@ impl<'a> Work for FlowTiles<'a> {
     fn run(&self, alloc: Global, job: u32) -> Result<TileFlow, JobFault> {
         let view = self.tiling.view(self.codes, job);
         if !self.counted {
-            let mut flow = tile_exits(alloc, &view)?;
-            flow.find_exits();
-            return Ok(flow);
+            return Ok(tile_exits(alloc, &view)?);
         }
         let Ok(flow) = tile_flow(alloc, &view) else {
             return Err(JobFault::Memory);

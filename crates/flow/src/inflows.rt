@@ -11,9 +11,8 @@ ghost use Rattle.flow.specs.RimNumbers.{number_count};
 ghost use Rattle.flow.specs.RimGraph.{AreFlowsOf, rim_links_by, stands_for, targets_by};
 ghost use Rattle.flow.specs.Inflows.{AreEntering, AreInflows, adds, entering, inflow_by, inflow_in, rim_weight, rim_weights_by, sent_to, through_by};
 
-use crate::cells::index_of;
+use crate::cells::{index_of, is_place};
 use crate::crossings::{Crossings, stands_for};
-use crate::outlets::is_place;
 use crate::rim::{number_count, numbers_of, rim_number, rim_place};
 use crate::streams::{upstream, zeros};
 use crate::tile::TileFlow;

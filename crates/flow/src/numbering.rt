@@ -6,6 +6,8 @@ ghost use Rattle.tiles.specs.Cutting.{Cuts, IsWithin};
 ghost use Rattle.tile_jobs.specs.Fault.{RefusesWorkers};
 ghost use Rattle.drainage.specs.Drained.{directed_of};
 ghost use Rattle.flow.specs.Counts.{AreBasins};
+ghost use Rattle.flow.specs.Streams.{AreEnds};
+ghost use Rattle.flow.specs.TileLinks.{links_by};
 ghost use Rattle.flow.specs.RimGraph.{outlet_in};
 ghost use Rattle.flow.specs.Numbering.{AreReady, IsExitOfTile, number_at, label_by, labels_by, label_at, numbered_by};
 
@@ -49,8 +51,9 @@ impl<'a> TileMap for Numbering<'a> {
 
     fn tile(&self, alloc: Global, tile: u32) -> Result<Vec<Option<u32>>, NoMemory> {
         let flow = &self.flows[tile as usize];
-        let labels = self.exit_labels(alloc, flow)?;
-        let values = numbered(alloc, flow, &labels)?;
+        let ends = flow.ends(alloc)?;
+        let labels = self.exit_labels(alloc, flow, &ends)?;
+        let values = numbered(alloc, flow, &ends, &labels)?;
         Ok(values)
     }
 }
@@ -58,27 +61,34 @@ impl<'a> TileMap for Numbering<'a> {
 impl<'a> Numbering<'a> {
     // The number of the outlet of each exit, at its own index.
     #[tactic(auto, using(crate::proofs::Windows::mapped_next))]
-    fn exit_labels(&self, alloc: Global, flow: &TileFlow) -> Result<Vec<u32>, AllocError>
-        requires { (i : ℕ) → IfSome (slice_index_or flow.now.exits i None)
+    fn exit_labels(
+        &self,
+        alloc: Global,
+        flow: &TileFlow,
+        ends: &[u32],
+    ) -> Result<Vec<u32>, AllocError>
+        requires ends { AreEnds (links_by flow.now.bounds flow.now.codes) ends.now }
+        requires exits { (i : ℕ) → IfSome (slice_index_or flow.now.exits i None)
             (IsExitOfTile self.now.outlets self.now.flows.items self.now.numbers flow.now.bounds) }
         ensures { IfOk result (λ v. v.items ≡ labels_by self.now.outlets self.now.flows.items self.now.numbers flow.now) }
     {
         let mut labels = Vec::with_capacity(alloc, flow.cell_count())?;
         for index in 0..flow.cell_count() {
-            labels.push(self.label_of(flow, index))?;
+            labels.push(self.label_of(flow, ends, index))?;
         }
         Ok(labels)
     }
 
     #[inline(always)]
-    fn label_of(&self, flow: &TileFlow, index: usize) -> u32
+    fn label_of(&self, flow: &TileFlow, ends: &[u32], index: usize) -> u32
+        requires ends { AreEnds (links_by flow.now.bounds flow.now.codes) ends.now }
         requires index { index < length flow.now.exits }
         requires exit { IfSome (slice_index_or flow.now.exits index None)
             (IsExitOfTile self.now.outlets self.now.flows.items self.now.numbers flow.now.bounds) }
         ensures { result ≡ label_by self.now.outlets self.now.flows.items self.now.numbers flow.now.bounds index
             (slice_index_or flow.now.exits index None) }
     {
-        let Some(exit) = flow.exit_index(index) else {
+        let Some(exit) = flow.exit_index(ends, index) else {
             return 0;
         };
         if exit as usize != index {
@@ -140,24 +150,31 @@ pub fn basins<R: Threads + Wait + Sync, G: Gate + Sync>(
 
 // The label of each cell's exit.
 #[tactic(auto, using(crate::proofs::Windows::mapped_next))]
-fn numbered(alloc: Global, flow: &TileFlow, labels: &[u32]) -> Result<Vec<Option<u32>>, AllocError>
-    requires { length labels.now ≡ length flow.now.exits }
+fn numbered(
+    alloc: Global,
+    flow: &TileFlow,
+    ends: &[u32],
+    labels: &[u32],
+) -> Result<Vec<Option<u32>>, AllocError>
+    requires ends { AreEnds (links_by flow.now.bounds flow.now.codes) ends.now }
+    requires size { length labels.now ≡ length flow.now.exits }
     ensures { IfOk result (λ v. v.items ≡ numbered_by flow.now.bounds labels.now flow.now.exits) }
 {
     let mut values = Vec::with_capacity(alloc, labels.len())?;
     for index in 0..labels.len() {
-        values.push(label_at(flow, labels, index))?;
+        values.push(label_at(flow, ends, labels, index))?;
     }
     Ok(values)
 }
 
 #[inline(always)]
-fn label_at(flow: &TileFlow, labels: &[u32], index: usize) -> Option<u32>
+fn label_at(flow: &TileFlow, ends: &[u32], labels: &[u32], index: usize) -> Option<u32>
+    requires ends { AreEnds (links_by flow.now.bounds flow.now.codes) ends.now }
     requires size { length labels.now ≡ length flow.now.exits }
     requires index { index < length labels.now }
     ensures { result ≡ label_at flow.now.bounds labels.now (slice_index_or flow.now.exits index None) }
 {
-    match flow.exit_index(index) {
+    match flow.exit_index(ends, index) {
         Some(exit) => Some(labels[exit as usize]),
         None => None,
     }

@@ -2,10 +2,10 @@
 ghost use Rattle.std.specs.Prelude.{◌≡◌, ◌<◌, ◌≤◌, ℕ, length, slice_index, IfOk};
 ghost use Rattle.tiles.specs.Cutting.{IsCutting, IsWithin, tile_count};
 ghost use Rattle.drainage.specs.Following.{Directed};
-ghost use Rattle.flow.specs.Counts.{is_place};
 ghost use Rattle.flow.specs.RimNumbers.{number_count};
 ghost use Rattle.flow.specs.RimGraph.{code_in, AreFlowsOf, AreOutlets, target_by, targets_by, way_out_by, rim_link, rim_links_by, rim_outlet, rim_outlets_by, outlet_in, next_by, exit_by, stands_for};
 
+use crate::cells::is_place;
 use crate::crossings::{Crossings, code_of};
 use crate::ends::ends;
 use crate::rim::{number_count, rim_number, rim_place};
@@ -73,13 +73,6 @@ impl Outlets {
             None
         }
     }
-}
-
-#[inline(always)]
-pub(crate) fn is_place(place: Place, other: Place) -> bool
-    ensures { result ≡ is_place place other }
-{
-    place.row == other.row && place.col == other.col
 }
 
 #[inline(always)]

@@ -1,13 +1,13 @@
 // Numbers for the cells on the rims of all tiles.
 ghost use Rattle.std.specs.Prelude.{◌≡◌, ◌+◌, ◌*◌, ◌^◌, ◌<◌, ◌≤◌, length, IfOk};
 ghost use Rattle.tiles.specs.Cutting.{IsInBounds, IsWithin, bounds_of, tile_count};
-ghost use Rattle.flow.specs.Streams.{AreStreams};
+ghost use Rattle.flow.specs.Streams.{AreStreams, end_of};
 ghost use Rattle.flow.specs.Finding.{AreFound};
-ghost use Rattle.flow.specs.TileLinks.{IsSmall};
+ghost use Rattle.flow.specs.TileLinks.{IsSmall, index_in, rim_ends_by};
 ghost use Rattle.flow.specs.RimNumbers.{stride, side_number, side_place, number_count, rim_number, rim_place};
 
-use crate::cells::index_of;
-use crate::ends::{find_end, unknown_ends};
+use crate::cells::{index_of, is_place};
+use crate::ends::{end_of, find_end, unknown_ends};
 use std::alloc::{AllocError, Global};
 use terrain::Place;
 use tiles::{Bounds, Tiling};
@@ -52,32 +52,57 @@ pub(crate) fn rim_place(tiling: &Tiling, number: u32) -> Place
     side_place(largest, bounds, number % stride(largest))
 }
 
-/// Where the paths of the cells on the rim of a tile end in it; of the other cells, the ends of those that they meet.
+/// Where the path of each cell on the rim of a tile ends in it, by the numbers of its sides.
 pub(crate) fn rim_ends(alloc: Global, bounds: Bounds, links: &[u32]) -> Result<Vec<u32>, AllocError>
     requires small { IsSmall bounds }
     requires some_row { 1 ≤ bounds.rows }
     requires size { length links.now ≡ bounds.rows * bounds.cols }
     requires streams { AreStreams links.now }
     requires few { length links.now ≤ 2 ^ 30 }
-    ensures { IfOk result (λ v. AreFound links.now v.items) }
+    ensures { IfOk result (λ v. v.items ≡ rim_ends_by bounds links.now) }
 {
-    let mut ends = unknown_ends(alloc, links)?;
-    find_rim_ends(bounds, links, &mut ends);
-    Ok(ends)
+    let mut found = unknown_ends(alloc, links)?;
+    ends_of_sides(alloc, bounds, links, &mut found)
 }
 
-fn find_rim_ends(bounds: Bounds, links: &[u32], ends: &mut [u32])
+#[tactic(auto, using(crate::proofs::Windows::mapped_next))]
+fn ends_of_sides(
+    alloc: Global,
+    bounds: Bounds,
+    links: &[u32],
+    found: &mut [u32],
+) -> Result<Vec<u32>, AllocError>
     requires small { IsSmall bounds }
     requires some_row { 1 ≤ bounds.rows }
     requires size { length links.now ≡ bounds.rows * bounds.cols }
     requires streams { AreStreams links.now }
     requires few { length links.now ≤ 2 ^ 30 }
-    requires found { AreFound links.now ends.old }
-    ensures { AreFound links.now ends.new }
+    requires found { AreFound links.now found.old }
+    ensures { IfOk result (λ v. v.items ≡ rim_ends_by bounds links.now) }
 {
+    let mut ends = Vec::with_capacity(alloc, stride(bounds) as usize)?;
     for side in 0..stride(bounds) {
         let place = side_place(bounds, bounds, side);
-        find_end(links, ends, index_of(bounds, place));
+        ends.push(find_end(links, found, index_of(bounds, place)))?;
+    }
+    Ok(ends)
+}
+
+/// Where the path of a cell of a tile ends in it, read off where it lies on the rim.
+pub(crate) fn end_in(bounds: Bounds, links: &[u32], rim_ends: &[u32], place: Place) -> u32
+    requires small { IsSmall bounds }
+    requires inside { IsInBounds bounds place }
+    requires size { length links.now ≡ bounds.rows * bounds.cols }
+    requires streams { AreStreams links.now }
+    requires few { length links.now ≤ 2 ^ 30 }
+    requires rim { rim_ends.now ≡ rim_ends_by bounds links.now }
+    ensures { result ≡ end_of links.now (index_in bounds place) }
+{
+    let side = side_number(bounds, bounds, place);
+    if is_place(side_place(bounds, bounds, side), place) {
+        rim_ends[side as usize]
+    } else {
+        end_of(links, index_of(bounds, place))
     }
 }
 

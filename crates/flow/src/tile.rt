@@ -1,15 +1,17 @@
 // Flow inside one tile.
 ghost use Rattle.std.specs.Prelude.{◌≡◌, ◌<◌, length, slice_index_or, IfOk, IfSome, None};
 ghost use Rattle.std.specs.Option.{option_map};
+ghost use Rattle.tiles.specs.Cutting.{IsInBounds};
 ghost use Rattle.drainage.specs.Drained.{AllFlowEnds};
+ghost use Rattle.flow.specs.Streams.{AreEnds};
 ghost use Rattle.flow.specs.TileFlow.{directed_by, IsFlow, IsTileExits, IsTileFlow, entry_in, through_in, exit_in};
 ghost use Rattle.flow.specs.TileLinks.{index_in, where_data, links_by};
 ghost use Rattle.flow.specs.Whole.{is_outlet_code};
 ghost use Rattle.flow.specs.RimGraph.{way_out_in};
 
 use crate::cells::{index_of, place_at, tile_codes, tile_links, tile_weights};
-use crate::ends::{end_from, find_ends};
-use crate::rim::rim_ends;
+use crate::ends::ends;
+use crate::rim::{end_in, rim_ends};
 use crate::streams::upstream;
 use drainage::Code;
 use std::alloc::{AllocError, Global};
@@ -26,9 +28,9 @@ pub struct TileFlow {
     links: Vec<u32>,
     // What comes to each cell; empty where exits alone are asked for.
     came: Vec<u32>,
-    // The index of each cell's exit, as far as it has been found: the links lead to it from any other cell. A cell
-    // without data has no exit, and nothing comes to it.
-    ends: Vec<u32>,
+    // The index of the exit of each cell on the rim, by the numbers of the sides: the links lead to it from any other
+    // cell. A cell without data has no exit, and nothing comes to it.
+    rim_ends: Vec<u32>,
 }
 
 impl Model for TileFlow {
@@ -39,7 +41,7 @@ impl Model for TileFlow {
 
     ghost view = { λ f. flow_by f.bounds f.codes.items f.came.items (ends_by f.links.items) };
 
-    ghost invariant = { λ f. AreFlowLists f.bounds f.codes.items f.links.items f.came.items f.ends.items };
+    ghost invariant = { λ f. AreFlowLists f.bounds f.codes.items f.links.items f.came.items f.rim_ends.items };
 }
 
 impl TileFlow {
@@ -111,32 +113,35 @@ impl TileFlow {
         }
     }
 
-    // The exit of the cell with this index in the tile's row order.
+    // The exit of a place of the tile.
     #[inline(always)]
-    fn exit_at(&self, index: usize) -> Option<Place>
-        requires { index < length self.now.exits }
-        ensures { result ≡ slice_index_or self.now.exits index None }
+    fn exit_at(&self, place: Place) -> Option<Place>
+        requires { IsInBounds self.now.bounds place }
+        ensures { result ≡ slice_index_or self.now.exits (index_in self.now.bounds place) None }
     {
-        let end = end_from(&self.links, &self.ends, index);
-        where_data(self.codes[index], place_at(self.bounds, end))
+        let end = end_in(self.bounds, &self.links, &self.rim_ends, place);
+        where_data(
+            self.codes[index_of(self.bounds, place)],
+            place_at(self.bounds, end),
+        )
     }
 
-    // The index of the exit of the cell with this index.
+    // The index to which the links lead from each cell.
+    pub(crate) fn ends(&self, alloc: Global) -> Result<Vec<u32>, AllocError>
+        ensures { IfOk result (λ v. AreEnds (links_by self.now.bounds self.now.codes) v.items) }
+    {
+        ends(alloc, &self.links)
+    }
+
+    // The index of the exit of the cell with this index, by the indexes to which the links lead.
     #[inline(always)]
-    pub(crate) fn exit_index(&self, index: usize) -> Option<u32>
-        requires { index < length self.now.exits }
+    pub(crate) fn exit_index(&self, ends: &[u32], index: usize) -> Option<u32>
+        requires ends { AreEnds (links_by self.now.bounds self.now.codes) ends.now }
+        requires index { index < length self.now.exits }
         ensures value { result ≡ option_map (index_in self.now.bounds) (slice_index_or self.now.exits index None) }
         ensures below { IfSome result (λ exit. exit < length self.now.exits) }
     {
-        let end = end_from(&self.links, &self.ends, index);
-        where_data(self.codes[index], end)
-    }
-
-    // Finds the exits of all cells, to be asked for one by one.
-    pub(crate) fn find_exits(&mut self)
-        ensures { self.new ≡ self.old }
-    {
-        find_ends(&self.links, &mut self.ends);
+        where_data(self.codes[index], ends[index])
     }
 
     // Where water that enters the tile at a place leaves it again; None where it ends in the tile.
@@ -156,7 +161,7 @@ impl TileFlow {
         ensures { result ≡ exit_in self.now place }
     {
         if self.bounds.contains(place) {
-            self.exit_at(index_of(self.bounds, place))
+            self.exit_at(place)
         } else {
             None
         }
@@ -199,13 +204,13 @@ pub(crate) fn tile_exits(
     let bounds = codes.bounds();
     let cells = tile_codes(alloc, codes)?;
     let links = tile_links(alloc, bounds, &cells)?;
-    let ends = rim_ends(alloc, bounds, &links)?;
+    let rim_ends = rim_ends(alloc, bounds, &links)?;
     Ok(TileFlow {
         bounds,
         codes: cells,
         links,
         came: Vec::new(alloc),
-        ends,
+        rim_ends,
     })
 }
 

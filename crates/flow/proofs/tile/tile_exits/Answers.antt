@@ -1,6 +1,6 @@
 use Rattle.std.proofs.Common.{ℕ, List, length, subst, sym, ap, ◌∙◌, arith}
 use Rattle.flow.specs.Streams.{AreStreams}
-use Rattle.flow.specs.Finding.{AreFound}
+use Rattle.flow.specs.TileLinks.{rim_ends_by}
 use Rattle.flow.proofs.Piece.{lists_made, piece, streams, few, lists_are, ends_are, exits_are}
 use Rattle.flow.proofs.tile.tile_exits.Goals as goal
 
@@ -22,7 +22,7 @@ rim_ends-requires-clause-size c =
 pub invariant_of-result : goal.invariant_of-result
 invariant_of-result c =
     let s = lists_made _ _ _ _ _ c.requires c.bounds-bounds.ensures.value c.bounds-bounds.ensures.inside c.bounds-bounds.ensures.lawful c.in_ok-cells.ensures c.deref.ensures.value c.in_ok-links.ensures in
-    lists_are _ _ _ _ _ s _ _ (subst (λ (l : List ℕ). AreFound l c.in_ok-ends.ends.items) c.deref-2.ensures.value c.in_ok-ends.ensures)
+    lists_are _ _ _ _ _ s _ _ (c.in_ok-rim_ends.ensures ∙ ap (rim_ends_by c.bounds-bounds.result) c.deref-2.ensures.value)
 
 pub returns : goal.returns
 returns c =
