@@ -1,6 +1,6 @@
 -- A raised tile has its filled heights, and the tiles together give the filled grid.
-use Rattle.std.proofs.Common.{◌≡◌, ℕ, ◌+◌, ◌-◌, ◌*◌, ◌<◌, ◌≤◌, ◌⊎◌, inl, inr, ℤ, List, [], ◌∷◌, ◌++◌, length, get_or, map, Option, None, Some, is_some, ◌∙◌, sym, ap, subst, refl, arith, zero, suc, ◌/◌, ◌%◌, IfSome, MatchOption, mul_comm, pos}
-use Rattle.std.specs.Prelude.{slice_get, option_and_then, option_map}
+use Rattle.std.proofs.Common.{◌≡◌, ℕ, ◌+◌, ◌-◌, ◌*◌, ◌<◌, ◌≤◌, ◌⊎◌, inl, inr, ℤ, List, [], ◌∷◌, ◌++◌, length, get_or, map, Option, None, Some, is_some, ◌∙◌, sym, ap, subst, refl, arith, zero, suc, ◌/◌, ◌%◌, IfSome, MatchOption, mul_comm, pos, Vec, Global, vec_len}
+use Rattle.std.specs.Prelude.{slice_get, option_and_then, option_map, Result, Ok, Err, IfOk}
 use Rattle.std.specs.Int.{int_max}
 use Rattle.std.proofs.lemmas.Bool.{cases_lt, cases_eq}
 use Rattle.std.proofs.lemmas.List.{get_or-map, length-map, length_push, get_or_append_left, get_or_push}
@@ -31,6 +31,7 @@ use Rattle.std.specs.List.{Contains, All}
 use Rattle.std.proofs.lemmas.Option.{MatchOption-at_some, MatchOption-at_none, get_or_from_slice_get, slice_get-get_or, slice_get_within, same_Some}
 use Rattle.std.proofs.lemmas.List.Elements.{All-from_get_or}
 use Rattle.std.proofs.lemmas.Nat.{div-add-mod', mod_below, div_below}
+use Rattle.tile_jobs.specs.Answers.{AllGiven}
 use Rattle.tile_maps.specs.Maps.{IsMadeTile, IsMadeMap}
 use Rattle.tile_maps.proofs.Whole.{map_of_size}
 use Rattle.drainage.proofs.FilledTwice.{filled_twice}
@@ -229,15 +230,16 @@ flood_of_view t c job v cells sinks f cuts view same named flood =
     (subst (λ (x : View (Option ℤ)). IsTileFlood (with_sinks (terrain_of x) sinks) x.cutting x.tile f) view flood)
 
 -- the floods that the jobs gave
-pub floods_given : (t : Terrain) (c : Cutting) (outs : List Flood) → IsCutting c → Cuts c t → length outs ≡ tile_count c → ((j : ℕ) (d : Flood) → j < tile_count c → IsTileFlood t c j (get_or outs j d)) → AreFloods t c outs
-floods_given t c outs h cuts count given = record {
+pub floods_given : {E : Type 0} (t : Terrain) (c : Cutting) (r : Result (Vec Flood Global) E) (n : ℕ) → IsCutting c → Cuts c t → n ≡ tile_count c →
+    IfOk r (λ v. vec_len v ≡ n) → IfOk r (λ v. AllGiven (IsTileFlood t c) n v.items) → IfOk r (λ v. AreFloods t c v.items)
+floods_given t c (Ok v) n h cuts same len given = record {
   lawful = h;
   cuts = cuts;
-  count = count;
-  each = λ tile f e. subst (IsTileFlood t c tile) (get_or_from_slice_get outs tile f f e) (given tile f (omega (arith, count, slice_get_within outs tile f e)));
+  count = omega (arith, v.ok.0, len, same);
+  each = λ tile f e. subst (IsTileFlood t c tile) (get_or_from_slice_get v.items tile f f e) (given tile f (omega (arith, v.ok.0, len, slice_get_within v.items tile f e)));
 }
+floods_given t c (Err e) n h cuts same len given = len
 
--- each filled height is a height of the terrain
 pub filled_stand : (t : Terrain) (levels : List (Option ℤ)) → IsFilled t levels → All (λ c. IfSome c (λ h. Contains t.cells (Some h))) levels
 filled_stand t levels filled = All-from_get_or (λ c. IfSome c (λ h. Contains t.cells (Some h))) levels None (λ i below. each i below (seen (get_or levels i None))) where
   positive : (a b k : ℕ) → k < a * b → 0 < a

@@ -1,6 +1,7 @@
 // The filled heights of a grid, by tiles and workers.
 ghost use Rattle.std.specs.Prelude.{◌≡◌, ◌*◌, ◌<◌, ◌≤◌, length, IfOk};
-ghost use Rattle.drainage.specs.Filled.{IsFilledGrid};
+ghost use Rattle.terrain.specs.Raster.{Terrain};
+ghost use Rattle.drainage.specs.Filled.{IsFilled, IsFilledGrid};
 ghost use Rattle.tiles.specs.Cutting.{Cuts, IsCutting};
 ghost use Rattle.fill.specs.Spills.{AreFloods, IsOpenGraphOf};
 ghost use Rattle.tile_jobs.specs.Fault.{RefusesWorkers};
@@ -17,7 +18,7 @@ use drainage::Filled;
 use std::alloc::Global;
 use std::sync::Wait;
 use std::thread::Threads;
-use terrain::{Frame, Grid, Height};
+use terrain::{Frame, Grid, Height, NoMemory};
 use tile_jobs::{Gate, JobFault, Work};
 use tile_maps::{Crew, joined};
 use tiles::Tiling;
@@ -47,6 +48,19 @@ impl<'a> Work for FloodTiles<'a> {
         };
         Ok(flood)
     }
+}
+
+/// The flood of each tile, in tile order.
+fn tile_floods<R: Threads + Wait + Sync, G: Gate + Sync>(
+    crew: &Crew<'_, R, G>,
+    grid: &Grid,
+    tiling: &Tiling,
+) -> Result<Vec<TileFlood>, JobFault>
+    requires { Cuts tiling.now grid.now.terrain }
+    ensures floods { IfOk result (λ v. AreFloods grid.now.terrain tiling.now v.items) }
+    ensures workers { RefusesWorkers crew.now.workers result }
+{
+    crew.run(&FloodTiles { grid, tiling }, tiling.tiles())
 }
 
 /// Finds the sources among the labels of each tile.
@@ -124,6 +138,22 @@ fn spill_graph<R: Threads + Wait + Sync, G: Gate + Sync>(
     Ok(SpillGraph::of_parts(tiling, sources, parts))
 }
 
+/// The filled heights of all cells in row order, by the floods and their spill graph. They take the memory of its sources.
+fn filled_cells(
+    alloc: Global,
+    graph: SpillGraph,
+    tiling: &Tiling,
+    floods: &[TileFlood],
+) -> Result<Vec<Option<Height>>, NoMemory>
+    requires { (t : Terrain) × AreFloods t tiling.now floods.now × IsOpenGraphOf t tiling.now floods.now graph }
+    ensures { IfOk result (λ v. (t : Terrain) → AreFloods t tiling.now floods.now → IsOpenGraphOf t tiling.now floods.now graph → IsFilled t v.items) }
+{
+    let levels = LabelLevels::of_graph(alloc, &graph)?;
+    let tiles = raised_tiles(alloc, tiling, floods, &levels)?;
+    drop(levels);
+    Ok(raised_grid(graph.into_room(), tiling, floods, &tiles)?)
+}
+
 /// The grid with each height replaced by its filled height. Each tile is flooded in a job of its own, and adds
 /// to the spill graph in two more; then all are raised. The grid is taken over, so that the filled heights take the place of
 /// its own.
@@ -146,25 +176,12 @@ pub fn filled<R: Threads + Wait + Sync, G: Gate + Sync>(
         gate,
     };
     let tiling = joined(tiling);
-    let work = FloodTiles {
-        grid: &grid,
-        tiling: &tiling,
-    };
-    let floods = crew.run(&work, tiling.tiles())?;
-    drop(work);
+    let floods = tile_floods(&crew, &grid, &tiling)?;
     let (frame, room) = grid.into_parts();
     let graph = spill_graph(&crew, &frame, room, &tiling, &floods)?;
-    let Ok(levels) = LabelLevels::of_graph(alloc, &graph) else {
+    let Ok(cells) = filled_cells(alloc, graph, &tiling, &floods) else {
         return Err(JobFault::Memory);
     };
-    let Ok(tiles) = raised_tiles(alloc, &tiling, &floods, &levels) else {
-        return Err(JobFault::Memory);
-    };
-    drop(levels);
-    let Ok(cells) = raised_grid(graph.into_room(), &tiling, &floods, &tiles) else {
-        return Err(JobFault::Memory);
-    };
-    drop(tiles);
     drop(floods);
     Ok(Filled::from_grid(frame.with_cells(cells)))
 }
