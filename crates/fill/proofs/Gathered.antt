@@ -31,7 +31,7 @@ use Rattle.drainage.proofs.Uniqueness.{between}
 use Rattle.fill.proofs.Rims.{HasTileLevel, has_tile_level, level_has_data, label_has_data, label_in_tile, source_level, end_label, list_there, among_is}
 use Rattle.fill.proofs.CellMarks.{label_entry, mark_some, mark_parts, mark_outside}
 use Rattle.fill.proofs.Adding.{no_join}
-use Rattle.floods.proofs.Waits.{in_some_list, in_lists}
+use Rattle.floods.proofs.WaitLists.{in_some_list, in_lists}
 use Rattle.fill.proofs.GraphParts.{part_there, part_with}
 
 -- labels are settled or not, and so both ways

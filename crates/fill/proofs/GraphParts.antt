@@ -1,12 +1,12 @@
 -- The parts of a graph, one for each tile, and the ways of its nodes.
-use Rattle.std.proofs.Common.{◌≡◌, ℕ, ◌+◌, ◌<◌, inl, inr, List, [], ◌∷◌, ◌++◌, length, get_or, sym, ap, subst, ◌∙◌, arith, ◌≢◌, ◌-◌, ◌≤◌, map, take, drop, ℤ, Option, refl, length-drop}
+use Rattle.std.proofs.Common.{◌≡◌, ℕ, ◌+◌, ◌<◌, inl, inr, List, [], ◌∷◌, ◌++◌, length, get_or, sym, ap, subst, ◌∙◌, arith, ◌≢◌, ◌-◌, ◌≤◌, map, take, drop, ℤ, Option, refl, length-drop, ◌⊎◌, pos}
 use Rattle.std.specs.List.{Contains}
 use Rattle.std.proofs.lemmas.Bool.{cases_eq, cases_lt}
 use Rattle.std.proofs.lemmas.Option.{slice_get_cases}
-use Rattle.std.proofs.lemmas.List.{get_or_append_left, get_or_push, length_push, get_or-map, get_or_past, length-map, get_or-drop, get_or-take, map_more, length-take-le, get_or_default}
+use Rattle.std.proofs.lemmas.List.{get_or_append_left, get_or_push, length_push, get_or-map, get_or_past, length-map, get_or-drop, get_or-take, length-take-le, get_or_default}
 use Rattle.tiles.specs.Cutting.{Cutting, tile_count}
 use Rattle.fill.specs.TileFlood.{Flood}
-use Rattle.fill.specs.Parts.{IsPart, AreParts, joins_by_part, IsGraph, graph_of_parts, tile_of_node}
+use Rattle.fill.specs.Parts.{IsPart, AreParts, IsFirstOf, joins_by_part, IsGraph, graph_of_parts, tile_of_node}
 use Rattle.fill.specs.declared.spills.Join.{Join}
 use Rattle.fill.proofs.Adding.{no_join}
 use Rattle.fill.specs.declared.parts.Part.{Part}
@@ -15,7 +15,7 @@ use Rattle.floods.specs.declared.net.Spill.{Spill}
 use Rattle.floods.specs.Walk.{HasJust}
 use Rattle.fill.specs.Spills.{Graph, HasJoin}
 use Rattle.fill.specs.Gathering.{AreRising, IsBefore, way_of}
-use Rattle.floods.proofs.Waits.{in_some_list, in_lists}
+use Rattle.floods.proofs.WaitLists.{in_some_list, in_lists}
 use Rattle.floods.proofs.Heaps.{all_by_contains}
 
 -- What the first tiles gave, in tile order.
@@ -80,18 +80,23 @@ past_node joins node end e rise inside low differ k d above below =
     let far = above_more joins (node + 1) end e rise inside (omega (arith, low, differ)) k d above below in
     omega (arith, far)
 
--- one more way
-pub way_more : (joins : List Join) (start index : ℕ) (x : Join) (old new : List Spill) → start ≤ index → index < length joins → x ≡ get_or joins index x → old ≡ map way_of (take (index - start) (drop start joins)) → new ≡ old ++ way_of x ∷ [] → new ≡ map way_of (take (index + 1 - start) (drop start joins))
-way_more joins start index x old new above below at was is =
-    let inside : index - start < length (drop start joins) = omega (arith, length-drop start joins, above, below) in
-    let here : x ≡ get_or (drop start joins) (index - start) x = at ∙ ap (λ n. get_or joins n x) (back start index above) ∙ sym (get_or-drop start joins (index - start) x) in
-    let count : index + 1 - start ≡ index - start + 1 = omega (arith, above) in
-    is ∙ ap (λ (z : List Spill). z ++ way_of x ∷ []) was
-    ∙ ap (λ (z : Join). map way_of (take (index - start) (drop start joins)) ++ way_of z ∷ []) here
-    ∙ sym (map_more way_of (drop start joins) (index - start) x inside)
-    ∙ ap (λ n. map way_of (take n (drop start joins))) (sym count) where
-      back : (a b : ℕ) → a ≤ b → b ≡ a + (b - a)
-      back a b h = omega arith
+-- the first join that begins at a node
+pub first_is : (joins : List Join) (node index : ℕ) (e : Join) → AreRising joins → index < length joins → (get_or joins index e).from ≡ node → (index ≡ 0) ⊎ ((get_or joins (index - 1) e).from ≢ node) → IsFirstOf joins node index
+first_is joins node index e rise inside here first = record {
+  inside = inside;
+  from = λ d. ap (λ (j : Join). j.from) (get_or_default joins index d e inside) ∙ here;
+  begin = record {
+    few = omega (arith, inside);
+    below = λ k d less. elim first [
+      | inl zero ↦ absurd (omega (arith, less, zero))
+      | inr other ↦
+          let before : index - 1 < length joins = omega (arith, inside) in
+          let low : (get_or joins (index - 1) e).from < node = omega (arith, up joins rise (index - 1) index e (omega arith) inside, here, other) in
+          below_more joins node (index - 1) e rise before low k d (omega (arith, less))
+    ];
+    above = above_more joins node index e rise inside (omega (arith, here));
+  };
+}
 
 -- Of the joins of a graph these are the ones that begin at a node, and maybe others.
 pub record HasJoinsOf (g : Graph) (node : ℕ) (joins : List Join) : Type 0 where
@@ -109,6 +114,13 @@ part_joins c parts sources node i x is below tile at = record {
 } where
   list : get_or (joins_by_part parts) i [] ≡ x.joins.items
   list = joins_at parts i x (omega (arith, below, is.count)) at
+
+-- a part with a join that begins at a node is the part of the node's tile
+pub known_tile : (c : Cutting) (parts : List Part) (g : Graph) (node index i : ℕ) (x : Part) → IsGraph c parts g → i < tile_count c → x ≡ get_or parts i x → IsFirstOf x.joins.items node index → i ≡ tile_of_node c node
+known_tile c parts g node index i x is below at first =
+    let d : Join = record { from = 0; to = 0; height = pos 0 } in
+    let there = subst (λ (z : List Join). Contains z (get_or x.joins.items index d)) (sym (joins_at parts i x (omega (arith, below, is.count)) at)) (Contains-get_or x.joins.items index d first.inside) in
+    sym (is.own i (get_or x.joins.items index d) there) ∙ ap (tile_of_node c) (first.from d)
 
 pub part_rising : (c : Cutting) (parts : List Part) (g : Graph) (i : ℕ) (x : Part) → IsGraph c parts g → i < tile_count c → x ≡ get_or parts i x → AreRising x.joins.items
 part_rising c parts g i x is below at =

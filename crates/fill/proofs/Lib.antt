@@ -11,6 +11,7 @@ mod SourceCells
 pub mod Gathered
 mod GraphParts
 mod Pages
+mod MarkedLists
 mod Numbered
 -- raising, and the tiles together
 mod Rims

@@ -11,8 +11,10 @@ use Rattle.std.proofs.lemmas.List.Elements.{All-contains, Contains-get_or}
 use Rattle.floods.specs.declared.net.Spill.{Spill}
 use Rattle.floods.specs.Walk.{IsWalk, crest, end_of, IsLevel, HasNoWalk, IsFlooded, HasJust}
 use Rattle.floods.proofs.Heaps.{all_by_contains}
-use Rattle.floods.proofs.Waits.{in_some_list, in_lists}
+use Rattle.floods.proofs.WaitLists.{in_some_list, in_lists}
 use Rattle.floods.proofs.Steps.{seen, le_of_same, match_of, none_done}
+use mathlib.Core.List.{map-map}
+use Rattle.fill.specs.Gathering.{way_of}
 use Rattle.fill.specs.Spills.{Graph, HasJoin, source_in, AreLevelsOf}
 use Rattle.fill.specs.Numbers.{AreTold, AreNumbered, BeginsOne, AreNumberLevels, HasNumber, HasNumberJoin, Numbers, node_at, number_of, source_at, way_to_number, levels_with}
 use Rattle.fill.specs.Parts.{joins_by_part}
@@ -188,6 +190,12 @@ ways_numbered g nodes numbers n ways are below just = record {
 } where
   size : length (map (way_to_number numbers) ways) ≡ length ways
   size = length-map ways (way_to_number numbers)
+
+-- and so are the ways of these joins
+pub joins_numbered : (g : Graph) (nodes numbers : List ℕ) (n : ℕ) (joins : List Join) → AreNumbered g nodes numbers → n < length nodes → HasJust (HasJoin g (node_at nodes n)) (map way_of joins)
+    → HasJust (HasNumberJoin g nodes n) (map (λ j. way_to_number numbers (way_of j)) joins)
+joins_numbered g nodes numbers n joins are below just =
+    subst (HasJust (HasNumberJoin g nodes n)) (map-map (way_to_number numbers) way_of joins) (ways_numbered g nodes numbers n (map way_of joins) are below just)
 
 -- a walk from a node with a number is one of numbers
 walk_forth : (g : Graph) (nodes numbers : List ℕ) → AreNumbered g nodes numbers → (walk : List Spill) (a : ℕ) → a < g.nodes → number_of numbers a < length nodes → IsWalk (HasJoin g) (source_in g) a walk →

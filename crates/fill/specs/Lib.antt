@@ -5,4 +5,5 @@ pub mod Parts
 pub mod Labels
 pub mod Numbers
 pub mod Pages
+pub mod Marked
 pub mod RaisedTiles

@@ -1,5 +1,5 @@
 -- What the tiles add to the spill graph.
-use Rattle.std.specs.Prelude.{◌≡◌, ℕ, ◌*◌, ◌/◌, ◌%◌, ◌<◌, ◌⊎◌, ℤ, List, [], map, length, Option, slice_index_or}
+use Rattle.std.specs.Prelude.{◌≡◌, ℕ, ◌*◌, ◌/◌, ◌%◌, ◌<◌, ◌≤◌, ◌⊎◌, ℤ, List, [], map, length, Option, slice_index_or}
 use Rattle.std.specs.List.{Contains, All, flat_map}
 use Rattle.tiles.specs.Cutting.{Cutting, IsInTile, tile_count, tile_of_place}
 use Rattle.fill.specs.TileFlood.{Flood}
@@ -27,6 +27,18 @@ pub record IsPart (c : Cutting) (floods : List Flood) (sources : List (Option �
 pub record AreParts (c : Cutting) (floods : List Flood) (sources : List (Option ℤ)) (parts : List Part) : Type 0 where
   pub count : length parts ≡ tile_count c
   pub each : (tile : ℕ) (d : Part) → tile < tile_count c → IsPart c floods sources tile (slice_index_or parts tile d)
+
+-- The joins that begin at this node or a later one stand from here on.
+pub record BeginAt (joins : List Join) (node start : ℕ) : Type 0 where
+  pub few : start ≤ length joins
+  pub below : (k : ℕ) (d : Join) → k < start → (slice_index_or joins k d).from < node
+  pub above : (k : ℕ) (d : Join) → start ≤ k → k < length joins → node ≤ (slice_index_or joins k d).from
+
+-- The first of the joins that begin at this node stands here.
+pub record IsFirstOf (joins : List Join) (node index : ℕ) : Type 0 where
+  pub inside : index < length joins
+  pub from : (d : Join) → (slice_index_or joins index d).from ≡ node
+  pub begin : BeginAt joins node index
 
 -- The joins of each part.
 abbrev pub joins_by_part : List Part → List (List Join)

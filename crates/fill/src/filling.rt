@@ -126,7 +126,7 @@ fn spill_graph<R: Threads + Wait + Sync, G: Gate + Sync>(
     ensures workers { RefusesWorkers crew.now.workers result }
 {
     let lists = crew.run(&SourceTiles { tiling, floods }, tiling.tiles())?;
-    let sources = label_sources(room, tiling, floods, &lists, frame.sinks())?;
+    let sources = label_sources(crew.alloc, room, tiling, floods, &lists, frame.sinks())?;
     drop(lists);
     let work = PartTiles {
         tiling,

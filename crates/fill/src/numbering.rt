@@ -1,6 +1,8 @@
 // The labels of a spill graph that are joined, with numbers of their own.
 ghost use Rattle.std.specs.Prelude.{◌≡◌, ◌<◌, length, map, All, IfOk, OnOk};
 ghost use Rattle.std.specs.List.{flat_map};
+ghost use Rattle.floods.specs.Flood.{waiting_in, InOrder, AreNoted, Follows};
+ghost use Rattle.fill.specs.Gathering.{way_of};
 ghost use Rattle.fill.specs.Parts.{joins_by_part};
 ghost use Rattle.fill.specs.Numbers.{AreNumbered, AreTold, AreNumberLevels, BeginsOne, HasNumber, Numbers, way_to_number};
 ghost use Rattle.fill.specs.Spills.{AreLevelsOf};
@@ -8,8 +10,8 @@ ghost use Rattle.fill.specs.Spills.{AreLevelsOf};
 use crate::number_table::{NO_NUMBER, NumberTable};
 use crate::parts::Part;
 use crate::raising::SpillLevels;
-use crate::spills::{Join, SpillGraph};
-use floods::{Flooded, Net, Spill, flood};
+use crate::spills::{Join, JoinPlace, SpillGraph};
+use floods::{Flooded, HeightList, Net, NodeLabels, Spill, Waiting, Waits, flood, push_way};
 use smallvec::SmallVec;
 use std::alloc::{AllocError, Global};
 use std::marker::Model;
@@ -40,6 +42,8 @@ impl<'a> Model for LabelLevels<'a> {
 pub(crate) struct Numbering {
     /// The labels in the order of their numbers.
     nodes: Vec<u32>,
+    /// Where the first join of each stands: a graph looks there before it searches.
+    firsts: Vec<JoinPlace>,
     numbers: NumberTable,
     ghost told: { AreTold nodes.items numbers },
 }
@@ -62,18 +66,23 @@ fn add(nodes: &mut Vec<u32>, numbers: &mut NumberTable, node: u32) -> Result<(),
     numbers.put(node, count as u32)
 }
 
-/// Numbers the first labels of these joins.
+/// Numbers the first labels of the joins of a part.
 fn add_joined(
     nodes: &mut Vec<u32>,
+    firsts: &mut Vec<JoinPlace>,
     numbers: &mut NumberTable,
+    part: usize,
     joins: &[Join],
 ) -> Result<(), AllocError>
     requires told { AreTold nodes.old.items numbers.old }
     requires joins { All (λ j. j.from < length numbers.old) joins.now }
     ensures { OnOk result (Numbers (BeginsOne joins.now) nodes.old.items numbers.old nodes.new.items numbers.new) }
 {
-    for join in joins {
-        add(nodes, numbers, join.from)?;
+    for index in 0..joins.len() {
+        add(nodes, numbers, joins[index].from)?;
+        if firsts.len() < nodes.len() {
+            firsts.push(JoinPlace { part, index })?;
+        }
     }
     Ok(())
 }
@@ -86,11 +95,22 @@ impl Numbering {
         ensures joined { IfOk result (λ n. All (λ j. HasNumber n.nodes.items n.numbers j.from) (flat_map (λ joins. joins) (joins_by_part parts.now))) }
     {
         let mut nodes = Vec::new(alloc);
+        let mut firsts = Vec::new(alloc);
         let mut numbers = NumberTable::none(alloc, places)?;
-        for part in parts {
-            add_joined(&mut nodes, &mut numbers, &part.joins)?;
+        for part in 0..parts.len() {
+            add_joined(
+                &mut nodes,
+                &mut firsts,
+                &mut numbers,
+                part,
+                &parts[part].joins,
+            )?;
         }
-        Ok(Numbering { nodes, numbers })
+        Ok(Numbering {
+            nodes,
+            firsts,
+            numbers,
+        })
     }
 }
 
@@ -121,6 +141,32 @@ fn ways_by_number(
     Ok(numbered)
 }
 
+/// Makes the nodes at the other ends of these joins wait, by their numbers, that have no label yet and do not wait as low.
+#[inline]
+fn push_joins(
+    waits: &mut Waits,
+    joins: &[Join],
+    numbers: &NumberTable,
+    from: &Waiting,
+    labels: &NodeLabels,
+    levels: &mut HeightList,
+) -> Result<(), AllocError>
+    requires order { InOrder waits.old }
+    requires joins { All (λ j. j.to < length numbers.now) joins.now }
+    requires inside { All (λ way. way.to < length labels.now) (map (λ j. way_to_number numbers.now (way_of j)) joins.now) }
+    requires noted { AreNoted labels.now levels.old (waiting_in waits.old) }
+    ensures { OnOk result (Follows labels.now from.now (map (λ j. way_to_number numbers.now (way_of j)) joins.now) levels.old levels.new waits.old waits.new) }
+{
+    for join in joins {
+        let way = Spill {
+            to: numbers.at(join.to),
+            height: join.height,
+        };
+        push_way(waits, way, from, labels, levels)?;
+    }
+    Ok(())
+}
+
 impl<'a> Net for NumberedGraph<'a> {
     ghost use Rattle.std.specs.Prelude.{length};
     ghost use Rattle.fill.specs.Numbers.{HasNumberJoin, source_at};
@@ -149,6 +195,27 @@ impl<'a> Net for NumberedGraph<'a> {
             .graph
             .neighbours(alloc, self.numbering.nodes[node as usize])?;
         Ok(ways_by_number(alloc, ways.as_slice(), &self.numbering.numbers)?)
+    }
+
+    #[inline]
+    fn spread(
+        &self,
+        _alloc: Global,
+        waits: &mut Waits,
+        from: &Waiting,
+        labels: &NodeLabels,
+        levels: &mut HeightList,
+    ) -> Result<(), NoMemory> {
+        let Numbering {
+            nodes,
+            firsts,
+            numbers,
+            ..
+        } = self.numbering;
+        let at = from.node as usize;
+        let joins = self.graph.joins_at(firsts.get(at), nodes[at]);
+        push_joins(waits, joins, numbers, from, labels, levels)?;
+        Ok(())
     }
 
     #[inline]

@@ -153,7 +153,7 @@ impl JoinTable {
 fn are_settled(sources: &SourceHeights, from: u32, to: u32) -> bool
     ensures { result ≡ are_settled sources.now from to }
 {
-    sources.at(from).is_some() && sources.at(to).is_some()
+    sources.has(from) && sources.has(to)
 }
 
 /// Adds the join of two marks, where their labels differ and are not both among these sources.

@@ -116,6 +116,7 @@ fn put_sources(heights: &mut SourceHeights, sources: &[Source])
 
 /// The heights of the sources, in row order of the grid. Their list takes the memory of another one.
 fn gather_sources(
+    alloc: Global,
     room: Vec<Option<Height>>,
     tiling: &Tiling,
     lists: &[TileSources],
@@ -124,7 +125,7 @@ fn gather_sources(
     ensures { IfOk result (λ v. (floods : List Flood) → AreAllSources tiling.now floods lists.now → AreSources tiling.now floods v) }
 {
     let nodes = tiling.cols() * tiling.rows();
-    let mut heights = SourceHeights::none(room, nodes as usize)?;
+    let mut heights = SourceHeights::none(alloc, room, nodes as usize)?;
     for sources in lists {
         put_sources(&mut heights, &sources.list);
     }
@@ -153,6 +154,7 @@ fn put_sinks(
 
 /// The heights of the labels that are end cells, in row order of the grid. Their list takes the memory of another one.
 pub(crate) fn label_sources(
+    alloc: Global,
     room: Vec<Option<Height>>,
     tiling: &Tiling,
     floods: &[TileFlood],
@@ -164,6 +166,6 @@ pub(crate) fn label_sources(
     ensures size { IfOk result (λ v. length v ≡ tiling.now.cols * tiling.now.rows) }
     ensures right { IfOk result (λ v. (t : Terrain) → t.sinks ≡ sinks.now → AreFloods t tiling.now floods.now → AreSourcesOf t tiling.now floods.now v) }
 {
-    let edges = gather_sources(room, tiling, lists)?;
+    let edges = gather_sources(alloc, room, tiling, lists)?;
     Ok(put_sinks(edges, tiling, floods, sinks))
 }

@@ -1,9 +1,11 @@
 // The graph of the labels of all tiles.
-ghost use Rattle.std.specs.Prelude.{◌≡◌, ◌<◌, ◌≤◌, ◌*◌, ℕ, ℤ, List, Option, length, map, take, drop, ◌-◌, IfOk, slice_index_or};
+ghost use Rattle.std.specs.Prelude.{◌≡◌, ◌<◌, ◌≤◌, ◌*◌, ℕ, ℤ, List, Option, length, map, IfOk, IfSome, slice_index_or};
 ghost use Rattle.terrain.specs.Raster.{Terrain};
-ghost use Rattle.fill.specs.Parts.{AreParts, graph_of_parts};
+ghost use Rattle.std.specs.Bool.{OnTrue};
+ghost use Rattle.floods.specs.Walk.{HasJust};
+ghost use Rattle.fill.specs.Parts.{AreParts, BeginAt, IsFirstOf, graph_of_parts};
 ghost use Rattle.fill.specs.TileFlood.{Flood};
-ghost use Rattle.fill.specs.Spills.{AreFloods, IsGraphOf, AreLevelsOf};
+ghost use Rattle.fill.specs.Spills.{AreFloods, IsGraphOf, AreLevelsOf, HasJoin};
 ghost use Rattle.fill.specs.Gathering.{AreRising, turned, way_of};
 ghost use Rattle.fill.specs.Numbers.{AreNumbered};
 
@@ -40,6 +42,13 @@ impl Join {
     }
 }
 
+/// Where a join stands: in which part, and at which index there.
+#[derive(Clone, Copy)]
+pub(crate) struct JoinPlace {
+    pub(crate) part: usize,
+    pub(crate) index: usize,
+}
+
 /// The labels of all tiles as a net. A node's number is its label's place in row order of the grid. Two
 /// labels are joined where two neighbouring cells carry them, at the least of the greater levels of such
 /// cells, and a label that is an end cell is a source.
@@ -67,9 +76,7 @@ impl Model for SpillGraph {
 /// The first of the joins that begins at this node or a later one.
 fn first_from(joins: &[Join], node: u32) -> usize
     requires { AreRising joins.now }
-    ensures few { result ≤ length joins.now }
-    ensures below { (k : ℕ) (d : _) → k < result → (slice_index_or joins.now k d).from < node }
-    ensures above { (k : ℕ) (d : _) → result ≤ k → k < length joins.now → node ≤ (slice_index_or joins.now k d).from }
+    ensures { BeginAt joins.now node result }
 {
     let mut low = 0;
     let mut high = joins.len();
@@ -84,12 +91,22 @@ fn first_from(joins: &[Join], node: u32) -> usize
     low
 }
 
+/// Whether joins begin at this node, and this is the index of the first of them.
+#[inline(always)]
+fn is_first_of(joins: &[Join], index: usize, node: u32) -> bool
+    requires { AreRising joins.now }
+    ensures { OnTrue result (IsFirstOf joins.now node index) }
+{
+    if index >= joins.len() || joins[index].from != node {
+        return false;
+    }
+    index == 0 || joins[index - 1].from != node
+}
+
 /// The end of the joins that begin at this node, of which the one at `start` is the first.
 fn end_of(joins: &[Join], start: usize, node: u32) -> usize
     requires rising { AreRising joins.now }
-    requires few { start ≤ length joins.now }
-    requires below { (k : ℕ) (d : _) → k < start → (slice_index_or joins.now k d).from < node }
-    requires above { (k : ℕ) (d : _) → start ≤ k → k < length joins.now → node ≤ (slice_index_or joins.now k d).from }
+    requires begin { BeginAt joins.now node start }
     ensures from { start ≤ result }
     ensures few { result ≤ length joins.now }
     ensures below { (k : ℕ) (d : _) → k < result → (slice_index_or joins.now k d).from ≤ node }
@@ -102,24 +119,16 @@ fn end_of(joins: &[Join], start: usize, node: u32) -> usize
     end
 }
 
-/// The ways of the joins from `start` up to `end`.
-fn ways_between(
-    alloc: Global,
-    joins: &[Join],
-    start: usize,
-    end: usize,
-) -> Result<SmallVec<Spill, 8>, AllocError>
-    requires { (start ≤ end) × (end ≤ length joins.now) }
-    ensures { IfOk result (λ v. v.items ≡ map way_of (take (end - start) (drop start joins.now))) }
+/// The ways of these joins.
+fn ways_of(alloc: Global, joins: &[Join]) -> Result<SmallVec<Spill, 8>, AllocError>
+    ensures { IfOk result (λ v. v.items ≡ map way_of joins.now) }
 {
     let mut ways = SmallVec::new(alloc);
-    for index in start..end {
-        let join = joins[index];
-        let way = Spill {
+    for join in joins {
+        ways.push(Spill {
             to: join.to,
             height: join.height,
-        };
-        ways.push(way)?;
+        })?;
     }
     Ok(ways)
 }
@@ -143,15 +152,7 @@ impl Net for SpillGraph {
     }
 
     fn neighbours(&self, alloc: Global, node: u32) -> Result<SmallVec<Spill, 8>, NoMemory> {
-        let cols = self.tiling.cols();
-        let place = Place {
-            row: node / cols,
-            col: node % cols,
-        };
-        let part = &self.parts[self.tiling.tile_of(place) as usize];
-        let start = first_from(&part.joins, node);
-        let end = end_of(&part.joins, start, node);
-        Ok(ways_between(alloc, &part.joins, start, end)?)
+        Ok(ways_of(alloc, self.joins_from(node))?)
     }
 
     #[inline]
@@ -172,8 +173,8 @@ impl SpillGraph {
         ensures { IfOk result (λ g. (t : Terrain) → t.sinks ≡ sinks.now → AreFloods t tiling.now floods.now → IsGraphOf t tiling.now floods.now g) }
     {
         let lists = sources_by_tile(alloc, tiling, floods)?;
-        let sources = label_sources(Vec::new(alloc), tiling, floods, &lists, sinks)?;
-        let none = SourceHeights::none(Vec::new(alloc), 0)?;
+        let sources = label_sources(alloc, Vec::new(alloc), tiling, floods, &lists, sinks)?;
+        let none = SourceHeights::none(alloc, Vec::new(alloc), 0)?;
         let parts = tile_parts(alloc, tiling, floods, &none)?;
         Ok(SpillGraph::of_parts(tiling, sources, parts))
     }
@@ -188,6 +189,47 @@ impl SpillGraph {
             parts,
             sources,
         }
+    }
+
+    /// The joins that begin at a node.
+    fn joins_from(&self, node: u32) -> &[Join]
+        requires { node < self.now.nodes }
+        ensures { HasJust (HasJoin self.now node) (map way_of result.now) }
+    {
+        let cols = self.tiling.cols();
+        let place = Place {
+            row: node / cols,
+            col: node % cols,
+        };
+        let joins = &self.parts[self.tiling.tile_of(place) as usize].joins;
+        let start = first_from(joins, node);
+        &joins[start..end_of(joins, start, node)]
+    }
+
+    /// The same, with no search where the first of them stands at this place.
+    #[inline]
+    pub(crate) fn joins_at(&self, place: Option<&JoinPlace>, node: u32) -> &[Join]
+        requires { node < self.now.nodes }
+        ensures { HasJust (HasJoin self.now node) (map way_of result.now) }
+    {
+        match self.known_joins(place, node) {
+            Some(joins) => joins,
+            None => self.joins_from(node),
+        }
+    }
+
+    /// The joins that begin at a node, where the first of them stands at this place.
+    #[inline]
+    fn known_joins(&self, place: Option<&JoinPlace>, node: u32) -> Option<&[Join]>
+        requires { node < self.now.nodes }
+        ensures { IfSome result (λ joins. HasJust (HasJoin self.now node) (map way_of joins.now)) }
+    {
+        let place = place?;
+        let joins = &self.parts.get(place.part)?.joins;
+        if !is_first_of(joins, place.index, node) {
+            return None;
+        }
+        Some(&joins[place.index..end_of(joins, place.index, node)])
     }
 
     /// The memory of the sources' list, once the graph has served.

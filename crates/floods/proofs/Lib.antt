@@ -4,7 +4,7 @@ pub mod LabelNumbers
 -- the flood of a net
 pub mod Steps
 pub mod Heaps
-pub mod Waits
+pub mod WaitLists
 pub mod Noting
 -- a window of cells as a net
 pub mod CellWays

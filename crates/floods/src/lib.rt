@@ -15,4 +15,5 @@ pub use flooding::{Flooded, FloodedNet, flood, flood_net};
 pub use heights::HeightList;
 pub use net::{Net, Spill};
 pub use node_labels::{NodeLabels, label_of};
+pub use queue::{Waiting, Waits, push_way};
 pub use whole::filled_heights;

@@ -214,7 +214,7 @@ pub(crate) fn next_open(waits: &mut Waits, labels: &NodeLabels) -> Option<Waitin
 
 /// Makes one neighbour of a node wait, where it has no label yet and does not wait as low.
 #[inline(always)]
-pub(crate) fn push_way(
+pub fn push_way(
     waits: &mut Waits,
     way: Spill,
     from: &Waiting,

@@ -2,5 +2,5 @@ use Rattle.fill.specs.Numbers.{Numbers}
 use Rattle.fill.proofs.Numbered.{BeginsFirst}
 use Rattle.fill.proofs.numbering.add_joined.Given as goal
 
-abbrev pub invariant-loop-join : goal.invariant-loop-join
-invariant-loop-join l = Numbers (BeginsFirst l.joins l.join-index) l.initial.nodes.items l.initial.numbers l.nodes.items l.numbers
+abbrev pub invariant-loop-index : goal.invariant-loop-index
+invariant-loop-index l = Numbers (BeginsFirst l.joins l.index) l.initial.nodes.items l.initial.numbers l.nodes.items l.numbers

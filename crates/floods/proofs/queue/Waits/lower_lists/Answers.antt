@@ -4,7 +4,7 @@ use Rattle.std.proofs.lemmas.Int.{ints, to_z-of_z}
 use Rattle.std.proofs.lemmas.List.Elements.{All-weaker, at_read}
 use Rattle.terrain.proofs.Heights.{height_width}
 use Rattle.floods.specs.declared.queue.Waiting.{Waiting}
-use Rattle.floods.proofs.Waits.{above_top}
+use Rattle.floods.proofs.WaitLists.{above_top}
 use Rattle.floods.proofs.queue.Waits.lower_lists.Goals as goal
 
 pub returns-clause-lower : goal.returns-clause-lower

@@ -2,7 +2,7 @@ use Rattle.std.proofs.Common.{◌≤ℤ◌, ◌+ℤ◌, pos, sym, subst, arith}
 use Rattle.std.proofs.lemmas.List.Sorted.{IsPermutation-sym}
 use Rattle.floods.specs.declared.queue.Waiting.{Waiting}
 use Rattle.floods.specs.Flood.{entries_of}
-use Rattle.floods.proofs.Waits.{above_top, all_empty, put_in_heap, is_lowest, window_begun, where_none}
+use Rattle.floods.proofs.WaitLists.{above_top, all_empty, put_in_heap, is_lowest, window_begun, where_none}
 use Rattle.floods.proofs.queue.Waits.take_other.Goals as goal
 
 pub returns-in_err-waiting-clause-none : goal.returns-in_err-waiting-clause-none
