@@ -1,12 +1,12 @@
 // The text of one value.
-ghost use Rattle.std.specs.Prelude.{◌≡◌, ◌+◌, ◌-◌, ◌/◌, ◌^◌, ◌<◌, ◌≤◌, ◌++◌, ℕ, List, length, drop, decimal};
-ghost use Rattle.ascii_grid.specs.Text.{last_digits, decimals_text, height_text};
+ghost use Rattle.std.specs.Prelude.{◌≡◌, ◌+◌, ◌-◌, ◌/◌, ◌^◌, ◌≤◌, ◌∷◌, ◌++◌, [], ℕ, List, length, drop, decimal};
+ghost use Rattle.ascii_grid.specs.Text.{last_digits, height_text};
 
 use crate::page::{PAGE, Page};
 use drainage::Code;
 use terrain::Height;
 
-/// Room for the longest text of a value.
+/// Room for the longest text of a value, and the byte that ends it.
 const ROOM: usize = 32;
 
 /// Writes the last digits at the end of the buffer, and answers the number before them.
@@ -24,30 +24,16 @@ fn write_last_digits(size: u64, count: usize, buffer: &mut [u8; ROOM]) -> u64
     left
 }
 
-/// Writes the decimals at the end of the buffer, and answers the whole part and where they start.
-#[inline(always)]
-fn write_decimals(size: u64, scale: usize, buffer: &mut [u8; ROOM]) -> (u64, usize)
-    requires { 0 < scale × (scale ≤ 6) }
-    ensures left { result.0 ≡ size / 10 ^ scale }
-    ensures within { 25 ≤ result.1 × (result.1 ≤ ROOM) }
-    ensures written { drop result.1 buffer.new ≡ decimals_text scale size }
-{
-    let left = write_last_digits(size, scale, buffer);
-    let point = ROOM - 1 - scale;
-    buffer[point] = b'.';
-    (left, point)
-}
-
 /// A value that a cell of a grid text can have.
 pub(crate) trait CellValue: Copy {
     /// Its text in a grid of this scale.
     ghost text: { ℕ → Self → List ℕ };
 
-    /// Adds the text to the page.
-    fn push_to(self, scale: u8, page: &mut Page)
+    /// Adds the text to the page, and the byte that ends the cell.
+    fn push_to(self, scale: u8, end: u8, page: &mut Page)
         requires scale { scale ≤ 6 }
         requires room { length page.old + ROOM ≤ PAGE }
-        ensures text { page.new ≡ page.old ++ text scale self }
+        ensures text { page.new ≡ page.old ++ text scale self ++ end ∷ [] }
         ensures short { length page.new ≤ length page.old + ROOM };
 }
 
@@ -55,19 +41,20 @@ impl CellValue for Height {
     ghost text = { height_text };
 
     #[inline(always)]
-    fn push_to(self, scale: u8, page: &mut Page) {
+    fn push_to(self, scale: u8, end: u8, page: &mut Page) {
         if self < 0 {
             page.push_byte(b'-');
         }
         let size = self.unsigned_abs();
         if scale == 0 {
-            page.push_number(size);
+            page.push_number(size, end);
             return;
         }
         let mut decimals = [0; ROOM];
-        let (whole, start) = write_decimals(size, scale as usize, &mut decimals);
-        page.push_number(whole);
-        page.push(&decimals[start..]);
+        let whole = write_last_digits(size, scale as usize, &mut decimals);
+        page.push_number(whole, b'.');
+        page.push(&decimals[ROOM - scale as usize..]);
+        page.push_byte(end);
     }
 }
 
@@ -75,9 +62,8 @@ impl CellValue for u32 {
     ghost text = { λ _. decimal };
 
     #[inline(always)]
-    #[tactic(auto, using(crate::proofs::Decimals::few_digits))]
-    fn push_to(self, _scale: u8, page: &mut Page) {
-        page.push_number(u64::from(self));
+    fn push_to(self, _scale: u8, end: u8, page: &mut Page) {
+        page.push_number(u64::from(self), end);
     }
 }
 
@@ -85,7 +71,7 @@ impl CellValue for Code {
     ghost text = { λ _. decimal };
 
     #[inline(always)]
-    fn push_to(self, scale: u8, page: &mut Page) {
-        u32::from(self.number()).push_to(scale, page);
+    fn push_to(self, scale: u8, end: u8, page: &mut Page) {
+        u32::from(self.number()).push_to(scale, end, page);
     }
 }

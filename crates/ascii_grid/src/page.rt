@@ -73,17 +73,18 @@ impl<const N: usize> Buffer<N> {
         self.len += 1;
     }
 
-    /// Adds the digits of a number, for which there is room.
+    /// Adds the digits of a number and the byte after them, for which there is room.
     #[inline(always)]
-    pub(crate) fn push_number(&mut self, number: u64)
+    pub(crate) fn push_number(&mut self, number: u64, after: u8)
         requires small { number < 10 ^ 19 }
-        requires room { length self.old + MOST_DIGITS ≤ N }
-        ensures digits { self.new ≡ self.old ++ decimal number }
-        ensures short { length self.new ≤ length self.old + MOST_DIGITS }
+        requires room { length self.old + MOST_DIGITS < N }
+        ensures digits { self.new ≡ self.old ++ decimal number ++ after ∷ [] }
+        ensures short { length self.new ≤ length self.old + MOST_DIGITS + 1 }
     {
         let end = self.len + digit_count(number);
         write_digits(number, &mut self.bytes, end);
-        self.len = end;
+        self.bytes[end] = after;
+        self.len = end + 1;
     }
 
     #[inline(always)]

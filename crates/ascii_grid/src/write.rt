@@ -44,18 +44,20 @@ fn make_room<W: Write>(page: &mut Page, out: &mut Counted<W>) -> Result<(), Writ
     hand_on(page, out)
 }
 
-/// Adds a cell to the page.
+/// Adds a cell to the page, and the byte that ends it.
 #[inline(always)]
-fn push_cell<T: CellValue>(cell: Option<T>, scale: u8, nodata: &[u8], page: &mut Page)
+fn push_cell<T: CellValue>(cell: Option<T>, end: u8, scale: u8, nodata: &[u8], page: &mut Page)
     requires scale { scale ≤ 6 }
     requires short { length nodata.now ≤ MOST_WORD_BYTES }
-    requires room { length page.old + MOST_WORD_BYTES ≤ PAGE }
-    ensures text { page.new ≡ page.old ++ cell_text (T.text scale) nodata.now cell }
-    ensures short { length page.new ≤ length page.old + MOST_WORD_BYTES }
+    requires room { length page.old + ENTRY_ROOM ≤ PAGE }
+    ensures { page.new ≡ page.old ++ cell_text (T.text scale) nodata.now cell ++ end ∷ [] }
 {
     match cell {
-        Some(value) => value.push_to(scale, page),
-        None => page.push(nodata),
+        Some(value) => value.push_to(scale, end, page),
+        None => {
+            page.push(nodata);
+            page.push_byte(end);
+        }
     }
 }
 
@@ -76,8 +78,7 @@ fn write_cell<T: CellValue, W: Write>(
         (cell_text (T.text scale) nodata.now cell ++ end ∷ []) result }
 {
     make_room(page, out)?;
-    push_cell(cell, scale, nodata, page);
-    page.push_byte(end);
+    push_cell(cell, end, scale, nodata, page);
     Ok(())
 }
 
