@@ -29,7 +29,7 @@ const MOST_LEVELS: usize = 512;
 /// Nodes for each level of the window at least, so that making the lists is little of a flood.
 const NODES_A_LEVEL: usize = 16;
 
-/// Nodes of a level for which there is room from the start, so that few lists grow. It is more than a kilobyte: what is
+/// Nodes of a level, and of the heap, for which there is room from the start, so that few lists grow. It is more than a kilobyte: what is
 /// less may be kept for later by an allocator, and keep it from giving back the memory of all floods below.
 const FIRST_ROOM: usize = 80;
 
@@ -79,12 +79,13 @@ impl Waits {
         ensures none { IfOk result (λ w. HasNone (waiting_in w)) }
     {
         let lists = empty_lists(alloc, MOST_LEVELS.min(nodes / NODES_A_LEVEL))?;
+        let others = BinaryHeap::with_capacity(alloc, FIRST_ROOM)?;
         Ok(Waits {
             base: 0,
             first: lists.len(),
             end: 0,
             lists,
-            others: BinaryHeap::new(alloc),
+            others,
         })
     }
 
