@@ -1,5 +1,5 @@
 -- One more byte of a text, what it does to the ended words and to the word in progress, and the words of a written text.
-use Rattle.std.proofs.Common.{◌≡◌, ℕ, ◌+◌, ◌-◌, ◌≤◌, Bool, true, false, not, cond, List, [], ◌∷◌, ◌++◌, length, take, arith, refl, ap, sym, ◌∙◌, inl, inr, zero, suc, ◌*◌, ◌<◌, drop, map, Option}
+use Rattle.std.proofs.Common.{◌≡◌, ℕ, ◌+◌, ◌-◌, ◌≤◌, Bool, true, false, not, cond, List, [], ◌∷◌, ◌++◌, length, take, arith, refl, ap, sym, ◌∙◌, inl, inr, zero, suc, ◌*◌, ◌<◌, drop, map}
 use Rattle.std.specs.Prelude.{filter}
 use Rattle.std.specs.List.{slice_split, onto_first, before_last, suffix_len, prefix_len, All, list_any, filter, join_with_byte}
 use Rattle.std.proofs.lemmas.Bool.{cases_Bool, cond-true, cond-false, or_parts}
@@ -8,7 +8,7 @@ use Rattle.std.proofs.lemmas.List.Elements.{filter-append, All-head, All-tail, A
 use Rattle.std.proofs.lemmas.List.Splits.{slice_split-cons_yes, slice_split-cons_no, length-slice_split}
 use Rattle.terrain.specs.Words.{Word, is_word, is_separator, words, ended_words}
 use Rattle.ascii_grid.specs.Reading.{IsParted}
-use Rattle.ascii_grid.specs.Text.{cell_text, rows_text}
+use Rattle.ascii_grid.specs.Text.{rows_text}
 
 -- the parts of two texts, one after another: the last of the one and the first of the other are one part
 abbrev Continues : (ℕ → Bool) → List ℕ → List ℕ → Word → List Word → Type 0
@@ -117,13 +117,13 @@ words-row f (c ∷ d ∷ cells) rest h clean =
       regroup a b c d = simp append_assoc
 
 -- lines of words
-pub words-rows : {X : Type 0} (v : X → List ℕ) (nodata : List ℕ) (cols n : ℕ) (cells : List (Option X)) → 0 < cols → length cells ≡ n * cols → All (λ c. IsClean (cell_text v nodata c)) cells → words (rows_text v nodata cols n cells) ≡ map (cell_text v nodata) cells
-words-rows v nodata cols zero [] h size clean = refl
-words-rows v nodata cols zero (c ∷ cells) h size clean = absurd (omega arith)
-words-rows {X} v nodata cols (suc n) cells h size clean =
+pub words-rows : {X : Type 0} (f : X → List ℕ) (cols n : ℕ) (cells : List X) → 0 < cols → length cells ≡ n * cols → All (λ c. IsClean (f c)) cells → words (rows_text f cols n cells) ≡ map f cells
+words-rows f cols zero [] h size clean = refl
+words-rows f cols zero (c ∷ cells) h size clean = absurd (omega arith)
+words-rows {X} f cols (suc n) cells h size clean =
     let front : length (take cols cells) ≡ cols = length-take-le cols cells (omega (arith, size)) in
     let back : length (drop cols cells) ≡ n * cols = omega (arith, size, length-drop cols cells) in
-    words-row (cell_text v nodata) (take cols cells) (rows_text v nodata cols n (drop cols cells)) (omega (arith, front)) (All-take (λ c. IsClean (cell_text v nodata c)) cols cells clean)
-    ∙ ap (λ z. map (cell_text v nodata) (take cols cells) ++ z) (words-rows v nodata cols n (drop cols cells) h back (All-drop (λ c. IsClean (cell_text v nodata c)) cols cells clean))
-    ∙ sym (map-append (cell_text v nodata) (take cols cells) (drop cols cells))
-    ∙ ap (λ (z : List (Option X)). map (cell_text v nodata) z) (take-append-drop cols cells)
+    words-row f (take cols cells) (rows_text f cols n (drop cols cells)) (omega (arith, front)) (All-take (λ c. IsClean (f c)) cols cells clean)
+    ∙ ap (λ z. map f (take cols cells) ++ z) (words-rows f cols n (drop cols cells) h back (All-drop (λ c. IsClean (f c)) cols cells clean))
+    ∙ sym (map-append f (take cols cells) (drop cols cells))
+    ∙ ap (λ (z : List X). map f z) (take-append-drop cols cells)

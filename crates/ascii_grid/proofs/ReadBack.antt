@@ -155,9 +155,9 @@ all_read g h = λ k d within. reads_cell g.scale g.nodata (get_or g.terrain.cell
 -- the words of a grid's text
 words_are : (g : Raster) → IsLawful g → words (heights_text g) ≡ header_of g (map (cell_text (height_text g.scale) g.nodata) g.terrain.cells)
 words_are g h =
-    words-header g (rows_text (height_text g.scale) g.nodata g.terrain.cols g.terrain.rows g.terrain.cells) (values_written g h)
+    words-header g (rows_text (cell_text (height_text g.scale) g.nodata) g.terrain.cols g.terrain.rows g.terrain.cells) (values_written g h)
     ∙ ap (λ (ws : List Word). header_of g ws)
-    (words-rows (height_text g.scale) g.nodata g.terrain.cols g.terrain.rows g.terrain.cells (omega (arith, h.terrain.some_col)) (h.terrain.size ∙ mul_comm g.terrain.cols g.terrain.rows)
+    (words-rows (cell_text (height_text g.scale) g.nodata) g.terrain.cols g.terrain.rows g.terrain.cells (omega (arith, h.terrain.some_col)) (h.terrain.size ∙ mul_comm g.terrain.cols g.terrain.rows)
     (λ k d within. (all_read g h k d within).clean))
 
 -- the words of the cells are heights

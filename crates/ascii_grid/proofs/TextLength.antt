@@ -21,15 +21,15 @@ line_short f (c ∷ d ∷ cells) h short =
     let rest = line_short f (d ∷ cells) (omega arith) (All-tail (λ x. length (f x) ≤ 30) c (d ∷ cells) short) in
     omega (arith, here, rest, length-append (f c) (32 ∷ join_with_byte 32 (map f (d ∷ cells))))
 
-rows_short : {X : Type 0} (v : X → List ℕ) (nodata : List ℕ) (cols n : ℕ) (cells : List (Option X)) → 0 < cols → length cells ≡ n * cols → All (λ c. length (cell_text v nodata c) ≤ 30) cells → length (rows_text v nodata cols n cells) ≤ 31 * length cells
-rows_short v nodata cols zero cells h size short = omega arith
-rows_short v nodata cols (suc n) cells h size short =
+rows_short : {X : Type 0} (f : X → List ℕ) (cols n : ℕ) (cells : List X) → 0 < cols → length cells ≡ n * cols → All (λ c. length (f c) ≤ 30) cells → length (rows_text f cols n cells) ≤ 31 * length cells
+rows_short f cols zero cells h size short = omega arith
+rows_short f cols (suc n) cells h size short =
     let front : length (take cols cells) ≡ cols = length-take-le cols cells (omega (arith, size)) in
     let back : length (drop cols cells) ≡ n * cols = omega (arith, size, length-drop cols cells) in
-    let line = line_short (cell_text v nodata) (take cols cells) (omega (arith, front)) (All-take (λ c. length (cell_text v nodata c) ≤ 30) cols cells short) in
-    let rest = rows_short v nodata cols n (drop cols cells) h back (All-drop (λ c. length (cell_text v nodata c) ≤ 30) cols cells short) in
-    let row = length-append (join_with_byte 32 (map (cell_text v nodata) (take cols cells))) (10 ∷ []) in
-    let both = length-append (row_text v nodata (take cols cells)) (rows_text v nodata cols n (drop cols cells)) in
+    let line = line_short f (take cols cells) (omega (arith, front)) (All-take (λ c. length (f c) ≤ 30) cols cells short) in
+    let rest = rows_short f cols n (drop cols cells) h back (All-drop (λ c. length (f c) ≤ 30) cols cells short) in
+    let row = length-append (join_with_byte 32 (map f (take cols cells))) (10 ∷ []) in
+    let both = length-append (row_text f (take cols cells)) (rows_text f cols n (drop cols cells)) in
     omega (arith, size, front, back, line, rest, row, both)
 
 -- a line of the header
@@ -72,8 +72,8 @@ pub text_short : (g : Raster) → IsLawful g → length g.nodata ≤ 30 → leng
 text_short g h nodata =
     let some : 0 < g.terrain.cols = omega (arith, h.terrain.some_col) in
     let header = header_short g h in
-    let rows = rows_short (height_text g.scale) g.nodata g.terrain.cols g.terrain.rows g.terrain.cells some (h.terrain.size ∙ mul_comm g.terrain.cols g.terrain.rows) (cells_short g h nodata) in
+    let rows = rows_short (cell_text (height_text g.scale) g.nodata) g.terrain.cols g.terrain.rows g.terrain.cells some (h.terrain.size ∙ mul_comm g.terrain.cols g.terrain.rows) (cells_short g h nodata) in
     let few : g.terrain.cols * g.terrain.rows ≤ 4096 * 4096 = mul-le-mul h.terrain.few_cols h.terrain.few_rows in
-    sum (header_text g g.nodata) (rows_text (height_text g.scale) g.nodata g.terrain.cols g.terrain.rows g.terrain.cells) (length g.terrain.cells) header rows (omega (arith, few, h.terrain.size)) where
+    sum (header_text g g.nodata) (rows_text (cell_text (height_text g.scale) g.nodata) g.terrain.cols g.terrain.rows g.terrain.cells) (length g.terrain.cells) header rows (omega (arith, few, h.terrain.size)) where
       sum : (a b : List ℕ) (n : ℕ) → length a ≤ 400 → length b ≤ 31 * n → n ≤ 16777216 → length (a ++ b) ≤ most_bytes
       sum a b n i j k = omega (arith, i, j, k, length-append a b)

@@ -5,13 +5,13 @@ ghost use Rattle.ascii_grid.specs.GridText.{same_value};
 ghost use Rattle.ascii_grid.specs.Meaning.{meaning_of};
 
 use crate::decimal::scaled_value;
-use terrain::{HIGHEST, Height, LOWEST};
+use terrain::{Cell, HIGHEST, LOWEST};
 
 /// What a word among the heights stands for.
 #[derive(Clone, Copy)]
 pub(crate) enum Meaning {
     /// A cell, with its height or without data.
-    Cell(Option<Height>),
+    Cell(Cell),
     /// No cell.
     Nothing,
 }
@@ -22,7 +22,7 @@ pub(crate) fn cell(scale: u8, nodata: &[u8], nodata_value: Option<i64>, word: &[
 {
     match scaled_value(scale, word) {
         Some(value) => value_cell(value, nodata_value),
-        None if word == nodata => Meaning::Cell(None),
+        None if word == nodata => Meaning::Cell(Cell::no_data()),
         None => Meaning::Nothing,
     }
 }
@@ -34,10 +34,10 @@ pub(crate) fn value_cell(value: i64, nodata_value: Option<i64>) -> Meaning
         result ≡ meaning_of d nodata word }
 {
     if is_same_value(Some(value), nodata_value) {
-        return Meaning::Cell(None);
+        return Meaning::Cell(Cell::no_data());
     }
     if LOWEST <= value && value <= HIGHEST {
-        Meaning::Cell(Some(value))
+        Meaning::Cell(Cell::of(value))
     } else {
         Meaning::Nothing
     }

@@ -93,8 +93,7 @@ fn plain_size(scale: u8, bytes: &[u8]) -> Option<(usize, u64)>
     Some((len, number * unit(scale)))
 }
 
-// Digits as far as they go, not past the most that a height has, and their number. Over so many bytes the loop has a
-// fixed length, and is unrolled.
+// Digits as far as they go, not past the most that a height has, and their number.
 #[inline(always)]
 fn digits_in_front(bytes: &[u8]) -> (usize, u64)
     ensures within { (result.0 ≤ HEIGHT_DIGITS) × (result.0 ≤ length bytes.now) }
@@ -102,10 +101,7 @@ fn digits_in_front(bytes: &[u8]) -> (usize, u64)
     ensures number { result.1 ≡ number_of (take result.0 bytes.now) }
     ensures small { result.1 < 10 ^ result.0 }
 {
-    if bytes.len() < HEIGHT_DIGITS {
-        return leading_digits(bytes);
-    }
-    leading_digits(&bytes[..HEIGHT_DIGITS])
+    leading_digits(&bytes[..bytes.len().min(HEIGHT_DIGITS)])
 }
 
 #[inline(always)]

@@ -9,7 +9,7 @@ use crate::decimal::{is_above_zero, is_decimal, size};
 use crate::fault::{GridFault, Key};
 use crate::key::slot_of;
 use std::alloc::Global;
-use terrain::{Anchor, Grid, GridHeader, Height, MOST_WORD_BYTES, Word};
+use terrain::{Anchor, Cell, Grid, GridHeader, MOST_WORD_BYTES, Word};
 
 /// What a header has given so far.
 #[derive(Drop)]
@@ -108,13 +108,7 @@ impl Header {
     }
 
     /// The grid with these slots and cells.
-    pub(crate) fn into_grid(
-        self,
-        alloc: Global,
-        scale: u8,
-        nodata: Word,
-        cells: Vec<Option<Height>>,
-    ) -> Grid
+    pub(crate) fn into_grid(self, alloc: Global, scale: u8, nodata: Word, cells: Vec<Cell>) -> Grid
         requires whole { IsWhole self }
         requires lawful { IsLawful (raster_of self scale nodata cells.items) }
         ensures { result ≡ raster_of self scale nodata cells.items }

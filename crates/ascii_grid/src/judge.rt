@@ -13,7 +13,7 @@ use crate::fault::{GridFault, Key};
 use crate::header::Header;
 use crate::key::{begins_with_letter, names_centre};
 use std::alloc::Global;
-use terrain::{Grid, Height, MOST_WORD_BYTES, Word};
+use terrain::{Cell, Grid, MOST_WORD_BYTES, Word};
 
 /// What the next word is.
 #[derive(Clone, Copy)]
@@ -36,7 +36,7 @@ pub(crate) struct Judge {
     wanted: u32,
     nodata: Word,
     nodata_value: Option<i64>,
-    cells: Vec<Option<Height>>,
+    cells: Vec<Cell>,
 }
 
 impl Judge {

@@ -1,10 +1,10 @@
 // A grid as text.
-ghost use Rattle.std.specs.Prelude.{◌≡◌, ◌↔◌, ◌∷◌, ◌+◌, ◌++◌, ◌*◌, ◌/◌, ◌-◌, ◌^◌, ◌<◌, ◌≤◌, [], length, decimal, codes, OnOk};
+ghost use Rattle.std.specs.Prelude.{◌≡◌, ◌↔◌, ◌∷◌, ◌+◌, ◌++◌, ◌*◌, ◌/◌, ◌-◌, ◌^◌, ◌<◌, ◌≤◌, [], ℕ, List, length, decimal, codes, OnOk};
 ghost use Rattle.terrain.specs.Sinks.{raster_with_sinks};
 ghost use Rattle.ascii_grid.specs.Device.{Writes};
 ghost use Rattle.ascii_grid.specs.Gathers.{Gathers};
 ghost use Rattle.ascii_grid.specs.GridText.{IsGridText, most_bytes};
-ghost use Rattle.ascii_grid.specs.Text.{cell_text, row_text, rows_text, line_text, anchor_text, header_text, heights_text, counts_text, counts_nodata};
+ghost use Rattle.ascii_grid.specs.Text.{height_text, cell_text, row_text, rows_text, line_text, anchor_text, header_text, heights_text, counts_text, counts_nodata};
 
 use crate::cell_text::CellValue;
 use crate::counted::{Counted, WriteFailed};
@@ -12,7 +12,7 @@ use crate::page::{PAGE, Page};
 use drainage::Code;
 use itoa::Buffer;
 use std::io::Write;
-use terrain::{Anchor, Frame, Grid, MOST_WORD_BYTES};
+use terrain::{Anchor, Cell, Frame, Grid, MOST_WORD_BYTES};
 
 /// More bytes than a cell takes, or a line of the header, with the byte that ends it.
 const ENTRY_ROOM: usize = 80;
@@ -44,27 +44,47 @@ fn make_room<W: Write>(page: &mut Page, out: &mut Counted<W>) -> Result<(), Writ
     hand_on(page, out)
 }
 
-/// Adds a cell to the page, and the byte that ends it.
-#[inline(always)]
-fn push_cell<T: CellValue>(cell: Option<T>, end: u8, scale: u8, nodata: &[u8], page: &mut Page)
-    requires scale { scale ≤ 6 }
-    requires short { length nodata.now ≤ MOST_WORD_BYTES }
-    requires room { length page.old + ENTRY_ROOM ≤ PAGE }
-    ensures { page.new ≡ page.old ++ cell_text (T.text scale) nodata.now cell ++ end ∷ [] }
-{
-    match cell {
-        Some(value) => value.push_to(scale, end, page),
-        None => {
-            page.push(nodata);
-            page.push_byte(end);
+/// A cell that can be written.
+trait Entry: Copy {
+    /// Its text in a grid of this scale and NODATA word.
+    ghost text: { ℕ → List ℕ → Self → List ℕ };
+
+    /// Adds the text to the page, and the byte that ends the cell.
+    fn push_to(self, end: u8, scale: u8, nodata: &[u8], page: &mut Page)
+        requires scale { scale ≤ 6 }
+        requires short { length nodata.now ≤ MOST_WORD_BYTES }
+        requires room { length page.old + ENTRY_ROOM ≤ PAGE }
+        ensures { page.new ≡ page.old ++ text scale nodata.now self ++ end ∷ [] };
+}
+
+impl<T: CellValue> Entry for Option<T> {
+    ghost text = { λ scale. cell_text (T.text scale) };
+
+    #[inline(always)]
+    fn push_to(self, end: u8, scale: u8, nodata: &[u8], page: &mut Page) {
+        match self {
+            Some(value) => value.push_to(scale, end, page),
+            None => {
+                page.push(nodata);
+                page.push_byte(end);
+            }
         }
+    }
+}
+
+impl Entry for Cell {
+    ghost text = { λ scale. cell_text (height_text scale) };
+
+    #[inline(always)]
+    fn push_to(self, end: u8, scale: u8, nodata: &[u8], page: &mut Page) {
+        self.height().push_to(end, scale, nodata, page);
     }
 }
 
 /// Writes one cell, and the byte that ends it.
 #[inline(always)]
-fn write_cell<T: CellValue, W: Write>(
-    cell: Option<T>,
+fn write_cell<E: Entry, W: Write>(
+    cell: E,
     end: u8,
     scale: u8,
     nodata: &[u8],
@@ -75,16 +95,16 @@ fn write_cell<T: CellValue, W: Write>(
     requires scale { scale ≤ 6 }
     requires short { length nodata.now ≤ MOST_WORD_BYTES }
     ensures { Gathers W.contents out.old page.old out.new page.new
-        (cell_text (T.text scale) nodata.now cell ++ end ∷ []) result }
+        (E.text scale nodata.now cell ++ end ∷ []) result }
 {
     make_room(page, out)?;
-    push_cell(cell, end, scale, nodata, page);
+    cell.push_to(end, scale, nodata, page);
     Ok(())
 }
 
 /// Writes one line of cells.
-fn write_row<T: CellValue, W: Write>(
-    cells: &[Option<T>],
+fn write_row<E: Entry, W: Write>(
+    cells: &[E],
     scale: u8,
     nodata: &[u8],
     page: &mut Page,
@@ -95,7 +115,7 @@ fn write_row<T: CellValue, W: Write>(
     requires short { length nodata.now ≤ MOST_WORD_BYTES }
     requires some { 0 < length cells.now }
     ensures { Gathers W.contents out.old page.old out.new page.new
-        (row_text (T.text scale) nodata.now cells.now) result }
+        (row_text (E.text scale nodata.now) cells.now) result }
 {
     let last = cells.len() - 1;
     for index in 0..last {
@@ -105,8 +125,8 @@ fn write_row<T: CellValue, W: Write>(
 }
 
 /// Writes the lines of cells.
-fn write_rows<T: CellValue, W: Write>(
-    cells: &[Option<T>],
+fn write_rows<E: Entry, W: Write>(
+    cells: &[E],
     cols: usize,
     scale: u8,
     nodata: &[u8],
@@ -118,7 +138,7 @@ fn write_rows<T: CellValue, W: Write>(
     requires short { length nodata.now ≤ MOST_WORD_BYTES }
     requires some { 0 < cols }
     ensures { Gathers W.contents out.old page.old out.new page.new
-        (rows_text (T.text scale) nodata.now cols (length cells.now / cols) cells.now) result }
+        (rows_text (E.text scale nodata.now) cols (length cells.now / cols) cells.now) result }
 {
     for row in 0..cells.len() / cols {
         let line = &cells[row * cols..row * cols + cols];
@@ -180,9 +200,9 @@ fn header_page(frame: &Frame, nodata: &[u8]) -> Page
 }
 
 /// Writes a grid's header with this NODATA word, and these cells.
-fn write_cells<T: CellValue, W: Write>(
+fn write_cells<E: Entry, W: Write>(
     frame: &Frame,
-    cells: &[Option<T>],
+    cells: &[E],
     nodata: &[u8],
     out: &mut Counted<W>,
 ) -> Result<(), WriteFailed>
@@ -190,7 +210,7 @@ fn write_cells<T: CellValue, W: Write>(
     requires size { length cells.now ≡ frame.now.terrain.cols * frame.now.terrain.rows }
     requires short { length nodata.now ≤ MOST_WORD_BYTES }
     ensures { Writes W.contents out.old out.new (header_text frame.now nodata.now
-        ++ rows_text (T.text frame.now.scale) nodata.now frame.now.terrain.cols frame.now.terrain.rows cells.now)
+        ++ rows_text (E.text frame.now.scale nodata.now) frame.now.terrain.cols frame.now.terrain.rows cells.now)
         result }
 {
     let mut page = header_page(frame, nodata);

@@ -5,7 +5,7 @@ use crate::texts::{PIT, PIT_CELLS, expect_cells, grid_of};
 use std::alloc::Global;
 use std::process::Abort;
 use std::test::Fail;
-use terrain::{Anchor, Grid, Height, Place, SinkFault, Word};
+use terrain::{Anchor, Cell, Grid, Height, Place, SinkFault, Word};
 
 /// The place in the middle of three by three cells, and others in and beside them.
 const MIDDLE: Place = Place { row: 1, col: 1 };
@@ -63,7 +63,10 @@ fn filled(rt: &impl Abort, alloc: Global, grid: &Grid) -> Grid
     requires size { grid.now.terrain.cols * grid.now.terrain.rows ≡ 9 }
     requires high { Contains grid.now.terrain.cells (Some (pos 5)) }
 {
-    grid.with_cells(alloc, &FILLED).expect(rt, "memory")
+    let high = Cell::of(5);
+    let gap = Cell::no_data();
+    let cells = [high, high, high, high, high, high, high, high, gap];
+    grid.with_cells(alloc, &cells).expect(rt, "memory")
 }
 
 /// Whether a place of the grid is an end cell.

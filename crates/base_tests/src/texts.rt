@@ -1,10 +1,10 @@
 //! Texts of grids that several tests read.
-ghost use Rattle.std.specs.Prelude.{◌≡◌, ◌≤◌};
+ghost use Rattle.std.specs.Prelude.{◌≡◌, ◌≤◌, IsTrue};
 
 use ascii_grid::read_text;
 use std::alloc::Global;
 use std::process::Abort;
-use terrain::{Grid, Height};
+use terrain::{Cell, Grid, Height};
 
 /// A text of the lenient form, of two by two cells at scale 2: 12.50, -0.50, none and 7.00.
 pub const LENIENT: &[u8] =
@@ -29,6 +29,21 @@ pub const PIT_CELLS: [Option<Height>; 9] = [
     Some(9),
 ];
 
+/// Whether the cells have these heights.
+pub fn have_heights(cells: &[Cell], heights: &[Option<Height>]) -> bool
+    ensures { IsTrue result → cells.now ≡ heights.now }
+{
+    if cells.len() != heights.len() {
+        return false;
+    }
+    for index in 0..cells.len() {
+        if cells[index].height() != heights[index] {
+            return false;
+        }
+    }
+    true
+}
+
 /// The grid of a text, which spells these cells.
 pub fn grid_of(
     rt: &impl Abort,
@@ -41,12 +56,12 @@ pub fn grid_of(
     ensures { result.terrain.cells ≡ cells.now }
 {
     let grid = read_text(alloc, scale, text).expect(rt, "the text is a grid");
-    assert!(rt; grid.cells() == cells, "other cells");
+    assert!(rt; have_heights(grid.cells(), cells), "other cells");
     grid
 }
 
-pub fn expect_cells(rt: &impl Abort, found: &[Option<Height>], wanted: &[Option<Height>]) {
-    assert_eq!(rt; found, wanted);
+pub fn expect_cells(rt: &impl Abort, found: &[Cell], wanted: &[Option<Height>]) {
+    assert!(rt; have_heights(found, wanted), "{found:?} and {wanted:?}");
 }
 
 pub fn expect_numbers(rt: &impl Abort, found: &[u32], wanted: &[u32]) {

@@ -196,12 +196,12 @@ some_begun t =
 
 -- a round from these counts
 pub begun_round : (t : Terrain) (v : View (Option ℤ)) (c : Cutting) (tile : ℕ) (b : Bounds) (levels : List (Option ℤ)) (old new : List ℕ) (list begun : List (Option ℕ)) →
-    v ≡ record { cutting = c; tile = tile; cells = t.cells } → Cuts c t → IsCutting v.cutting → b ≡ bounds_of v.cutting v.tile → AreShown v.cutting.cols v.cutting.rows v.cells b levels →
+    v ≡ record { cutting = c; tile = tile; cells = t.cells } → Cuts c t → IsCutting v.cutting → b ≡ bounds_of v.cutting v.tile → AreShown v.cutting.cols v.cutting.rows v.cells None b levels →
     AreBegunSpots (DrainsAtOnce t) b old → AreBegun t begun → IsSettled b levels old new → AreMadeBelow b (IsHandedOut b new) (b.rows * b.cols) list →
     IsRound (IsLent (lent_terrain c t.cells) begun) (lent_terrain c t.cells) c tile begun list
 begun_round t v c tile b levels old new list begun e cuts lawful bounds shown are first settled out =
     let w : View (Option ℤ) = record { cutting = c; tile = tile; cells = t.cells } in
-    let here = subst (λ (z : View (Option ℤ)). IsCutting z.cutting × (b ≡ bounds_of z.cutting z.tile) × AreShown z.cutting.cols z.cutting.rows z.cells b levels) e (lawful, bounds, shown) in
+    let here = subst (λ (z : View (Option ℤ)). IsCutting z.cutting × (b ≡ bounds_of z.cutting z.tile) × AreShown z.cutting.cols z.cutting.rows z.cells None b levels) e (lawful, bounds, shown) in
     let lent = subst (λ (n : ℕ). AreLent n c.rows begun b old) (sym cuts.0) (subst (λ (n : ℕ). AreLent t.cols n begun b old) (sym cuts.1) (begun_window t b old begun are first)) in
     let walks = subst (λ (x : Terrain). AreWalked (IsLent x begun) x begun) (same_terrain t c.cols c.rows t.cells cuts.0 cuts.1 refl) (begun_counting t begun first).walked in
     round_from w (record { cutting = c; tile = tile; cells = begun }) b levels old new list here.0 here.1 here.2 lent walks settled out

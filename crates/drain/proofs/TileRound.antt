@@ -23,7 +23,7 @@ use Rattle.drain.proofs.Unique.{at_place}
 use Rattle.drain.proofs.Few.{data_on_level_walk}
 
 -- a spot that shows something shows a place
-is_on : {X : Type 0} (cols rows : ℕ) (entries : List (Option X)) (b : Bounds) (s : Place) (o : Option X) (x : X) → IsShown cols rows entries b s o → o ≡ Some x →
+is_on : {X : Type 0} (cols rows : ℕ) (entries : List (Option X)) (b : Bounds) (s : Place) (o : Option X) (x : X) → IsShown cols rows entries None b s o → o ≡ Some x →
     (p : Place) × Shows b s p × (entry_at cols rows entries p ≡ Some x)
 is_on {X = X} cols rows entries b s o x shown is =
     elim (cases_eq (b.top + s.row) 0) [
@@ -47,7 +47,7 @@ pub some_of_known : (o : Option ℕ) (n : ℕ) → n ≡ unwrap_or o no_count �
 some_of_known None n e less = absurd (omega arith)
 some_of_known (Some m) n e less = ap Some (sym e)
 
-sound_begin : (t : Terrain) (b : Bounds) (steps shown : List (Option ℕ)) → length shown ≡ area_of b → AreShown t.cols t.rows steps b shown → AreWalked (IsLent t steps) t steps → IsSound t steps b (known_counts shown)
+sound_begin : (t : Terrain) (b : Bounds) (steps shown : List (Option ℕ)) → length shown ≡ area_of b → AreShown t.cols t.rows steps None b shown → AreWalked (IsLent t steps) t steps → IsSound t steps b (known_counts shown)
 unfolding IsSound
 sound_begin t b steps shown size on walked = λ s spot less.
     let n = count_on b (known_counts shown) s in
@@ -73,7 +73,7 @@ apart_places b s r p q f g ne e =
 pub walked_on : (t : Terrain) (steps : List (Option ℕ)) (p q : Place) (m n : ℕ) → IsNeighbour t q p → height_at t p ≡ height_at t q → IsWalked (IsLent t steps) t p m → n ≡ m + 1 → n < 2 ^ 24 → IsWalked (IsLent t steps) t q n
 walked_on t steps p q m n next level walk is less = (less, p ∷ walk.1, (next, level, walk.2), omega (arith, walk.3, is))
 
-sound_moved : (t : Terrain) (steps : List (Option ℕ)) (b : Bounds) (levels : List (Option ℤ)) (some : List ℕ) (s r : Place) (n : ℕ) → AreShown t.cols t.rows t.cells b levels → IsSound t steps b some →
+sound_moved : (t : Terrain) (steps : List (Option ℕ)) (b : Bounds) (levels : List (Option ℤ)) (some : List ℕ) (s r : Place) (n : ℕ) → AreShown t.cols t.rows t.cells None b levels → IsSound t steps b some →
     IsSpot b s → IsSpot b r → Touches s r → s ≢ r → level_on b levels s ≡ level_on b levels r → n ≡ count_on b some s + 1 → n < no_count → (q : Place) × Shows b r q × IsWalked (IsLent t steps) t q n
 unfolding IsSound
 sound_moved t steps b levels some s r n on sound spot other touch differ level is less =
@@ -101,7 +101,7 @@ sound_set t steps b counts r n size spot sound moved_to = λ s inside less. elim
       (was.0, was.1, subst (λ m. IsWalked (IsLent t steps) t was.0 m) (sym at) was.2))
 ]
 
-sound_after : (t : Terrain) (steps : List (Option ℕ)) (b : Bounds) (levels : List (Option ℤ)) (old new : List ℕ) → AreShown t.cols t.rows t.cells b levels → length old ≡ area_of b → AreCounts old → IsSound t steps b old → IsSpread b levels old new → IsSound t steps b new
+sound_after : (t : Terrain) (steps : List (Option ℕ)) (b : Bounds) (levels : List (Option ℤ)) (old new : List ℕ) → AreShown t.cols t.rows t.cells None b levels → length old ≡ area_of b → AreCounts old → IsSound t steps b old → IsSpread b levels old new → IsSound t steps b new
 sound_after t steps b levels old new on size small sound same = sound
 sound_after t steps b levels old new on size small sound (moved counts some s r n before earlier spot other touch differ level from less) =
     sound_set t steps b counts r n (spread-length b levels old counts before ∙ size) other (sound_after t steps b levels old counts on size small sound before)
@@ -149,14 +149,14 @@ known-if n P h = elim (cases_lt n no_count) [
   | inr more ↦ subst (λ (o : Option ℕ). IfSome o P) (sym (known-none n more)) tt
 ]
 
-count_small : (t : Terrain) (b : Bounds) (s : Place) (steps : List (Option ℕ)) (o : Option ℕ) → IsShown t.cols t.rows steps b s o → AreWalked (IsLent t steps) t steps → unwrap_or o no_count ≤ no_count
+count_small : (t : Terrain) (b : Bounds) (s : Place) (steps : List (Option ℕ)) (o : Option ℕ) → IsShown t.cols t.rows steps None b s o → AreWalked (IsLent t steps) t steps → unwrap_or o no_count ≤ no_count
 count_small t b s steps None on walks = omega arith
 count_small t b s steps (Some n) on walks =
     let place = is_on t.cols t.rows steps b s (Some n) n on refl in
     let real = MatchOption-at_some _ _ n place.2 (walks place.0) in omega (arith, real.0)
 
 -- the counts that are seen are below the one for none
-pub counts_small : (t : Terrain) (b : Bounds) (steps shown : List (Option ℕ)) → length shown ≡ area_of b → AreShown t.cols t.rows steps b shown → AreWalked (IsLent t steps) t steps → AreCounts (known_counts shown)
+pub counts_small : (t : Terrain) (b : Bounds) (steps shown : List (Option ℕ)) → length shown ≡ area_of b → AreShown t.cols t.rows steps None b shown → AreWalked (IsLent t steps) t steps → AreCounts (known_counts shown)
 counts_small t b steps shown size seen walks k = elim (cases_lt k (area_of b)) [
   | inl less ↦ at_place (λ i. get_or (known_counts shown) i 0 ≤ no_count) (b.cols + 2) (b.rows + 2)
       (λ s row col. omega (arith, count-known b shown s size (row, col), count_small t b s steps (get_or shown (spot_index b s) None) (seen s (row, col)) walks)) k less
@@ -164,8 +164,8 @@ counts_small t b steps shown size seen walks k = elim (cases_lt k (area_of b)) [
 ]
 
 module _ (t : Terrain) (c : Cutting) (tile : ℕ) (b : Bounds) (steps shown : List (Option ℕ)) (levels : List (Option ℤ)) (new : List ℕ) (list : List (Option ℕ))
-    (cutting : IsCutting c) (bounds : b ≡ bounds_of c tile) (on : AreShown t.cols t.rows t.cells b levels) (size : length shown ≡ area_of b)
-    (seen : AreShown t.cols t.rows steps b shown) (walks : AreWalked (IsLent t steps) t steps) (settled : IsSettled b levels (known_counts shown) new)
+    (cutting : IsCutting c) (bounds : b ≡ bounds_of c tile) (on : AreShown t.cols t.rows t.cells None b levels) (size : length shown ≡ area_of b)
+    (seen : AreShown t.cols t.rows steps None b shown) (walks : AreWalked (IsLent t steps) t steps) (settled : IsSettled b levels (known_counts shown) new)
     (out : AreMadeBelow b (IsHandedOut b new) (b.rows * b.cols) list) where
   in_bounds_of : (p : Place) → IsInTile c tile p → IsInBounds b p
   in_bounds_of p i = subst (λ (z : Bounds). IsInBounds z p) (sym bounds) (in_bounds c tile p cutting i)
@@ -251,7 +251,7 @@ pub lent_small : (t : Terrain) (b : Bounds) (steps : List (Option ℕ)) (old : L
 lent_small t b steps old lent walks = subst (λ (xs : List ℕ). AreCounts xs) (sym lent.value) (counts_small t b steps lent.shown lent.size lent.seen walks)
 
 pub round_from : (v : View (Option ℤ)) (w : View (Option ℕ)) (b : Bounds) (levels : List (Option ℤ)) (old new : List ℕ) (list : List (Option ℕ)) →
-    IsCutting v.cutting → b ≡ bounds_of v.cutting v.tile → AreShown v.cutting.cols v.cutting.rows v.cells b levels → AreLent v.cutting.cols v.cutting.rows w.cells b old →
+    IsCutting v.cutting → b ≡ bounds_of v.cutting v.tile → AreShown v.cutting.cols v.cutting.rows v.cells None b levels → AreLent v.cutting.cols v.cutting.rows w.cells b old →
     AreWalked (IsLent (terrain_of v) w.cells) (terrain_of v) w.cells → IsSettled b levels old new → AreMadeBelow b (IsHandedOut b new) (b.rows * b.cols) list →
     IsRound (IsLent (terrain_of v) w.cells) (terrain_of v) v.cutting v.tile w.cells list
 round_from v w b levels old new list cutting bounds on lent walks settled out =

@@ -1,7 +1,7 @@
 -- A tile with the places around it, one row and one column more on each side: what the search for steps
 -- works on. A spot of it is a place counted from the row and the column before the tile's first.
 use Rattle.std.specs.Prelude.{◌≡◌, ◌≢◌, ℕ, ◌+◌, ◌*◌, ◌<◌, ◌≤◌, ◌⊎◌, ℤ, List, All, map, sum, length, Option, None, Some, slice_get, slice_index_or, slice_set, unwrap_or}
-use Rattle.terrain.specs.Neighbours.{entry_at, index_of, Touches}
+use Rattle.terrain.specs.Neighbours.{entry_or, index_of, Touches}
 use Rattle.terrain.specs.declared.place.Place.{Place}
 use Rattle.tiles.specs.declared.bounds.Bounds.{Bounds}
 use Rattle.tile_maps.specs.Maps.{AreMadeBelow}
@@ -32,9 +32,9 @@ Shows b s p = (b.top + s.row ≡ p.row + 1) × (b.left + s.col ≡ p.col + 1)
 abbrev pub IsOff : Bounds → Place → Type 0
 IsOff b s = (b.top + s.row ≡ 0) ⊎ (b.left + s.col ≡ 0)
 
--- What a list in row order has at the place of a spot; None off the grid.
-abbrev pub IsShown : {X : Type 0} → ℕ → ℕ → List (Option X) → Bounds → Place → Option X → Type 0
-IsShown cols rows entries b s x = ((p : Place) → Shows b s p → x ≡ entry_at cols rows entries p) × (IsOff b s → x ≡ None)
+-- What a list in row order has at the place of a spot; off the grid what stands for none.
+abbrev pub IsShown : {X : Type 0} → ℕ → ℕ → List X → X → Bounds → Place → X → Type 0
+IsShown cols rows entries none b s x = ((p : Place) → Shows b s p → x ≡ entry_or cols rows entries none p) × (IsOff b s → x ≡ none)
 
 abbrev pub level_on : Bounds → List (Option ℤ) → Place → Option ℤ
 level_on b levels s = slice_index_or levels (spot_index b s) None
@@ -98,8 +98,8 @@ pub record IsEven (b : Bounds) (levels : List (Option ℤ)) (counts : List ℕ) 
       count_on b counts r ≤ count_on b counts s + 1
 
 -- The list has what each spot shows.
-abbrev pub AreShown : {X : Type 0} → ℕ → ℕ → List (Option X) → Bounds → List (Option X) → Type 0
-AreShown cols rows entries b shown = (s : Place) → IsSpot b s → IsShown cols rows entries b s (slice_index_or shown (spot_index b s) None)
+abbrev pub AreShown : {X : Type 0} → ℕ → ℕ → List X → X → Bounds → List X → Type 0
+AreShown cols rows entries none b shown = (s : Place) → IsSpot b s → IsShown cols rows entries none b s (slice_index_or shown (spot_index b s) none)
 
 -- The list has something for each spot that stands before a place in row order, and nothing more.
 pub record AreMadeSpots {X : Type 0} (Has : Place → X → Type 0) (b : Bounds) (end : ℕ) (lack : X) (list : List X) : Type 0 where
@@ -107,8 +107,8 @@ pub record AreMadeSpots {X : Type 0} (Has : Place → X → Type 0) (b : Bounds)
   pub each : (s : Place) → IsSpot b s → spot_index b s < end → Has s (slice_index_or list (spot_index b s) lack)
 
 -- The list has what each spot shows that stands before a place in row order, and nothing more.
-abbrev pub AreShownBelow : {X : Type 0} → ℕ → ℕ → List (Option X) → Bounds → ℕ → List (Option X) → Type 0
-AreShownBelow cols rows entries b end shown = AreMadeSpots (IsShown cols rows entries b) b end None shown
+abbrev pub AreShownBelow : {X : Type 0} → ℕ → ℕ → List X → X → Bounds → ℕ → List X → Type 0
+AreShownBelow cols rows entries none b end shown = AreMadeSpots (IsShown cols rows entries none b) b end none shown
 
 -- The counts as numbers.
 abbrev pub known_counts : List (Option ℕ) → List ℕ
@@ -133,5 +133,5 @@ IsRoundOf b levels old list = (new : List ℕ) × IsSettled b levels old new × 
 pub record AreLent (cols rows : ℕ) (entries : List (Option ℕ)) (b : Bounds) (counts : List ℕ) : Type 0 where
   pub shown : List (Option ℕ)
   pub size : length shown ≡ area_of b
-  pub seen : AreShown cols rows entries b shown
+  pub seen : AreShown cols rows entries None b shown
   pub value : counts ≡ known_counts shown

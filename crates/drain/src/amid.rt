@@ -13,7 +13,7 @@ ghost use Rattle.drain.specs.declared.around.Around.{Around};
 
 use crate::steepness::steepest;
 use drainage::{Code, StepCount};
-use terrain::{Grid, Height, Place};
+use terrain::{Cell, Grid, Height, Place};
 
 /// Where the eight cells around one stand, in the order of the codes.
 #[inline(always)]
@@ -48,19 +48,19 @@ pub(crate) fn cells_around(grid: &Grid, place: Place) -> [usize; 8]
 
 /// The heights at these places.
 #[inline(always)]
-fn heights_at(cells: &[Option<Height>], at: &[usize; 8]) -> [Option<Height>; 8]
+fn heights_at(cells: &[Cell], at: &[usize; 8]) -> [Option<Height>; 8]
     requires { (way : ℕ) → way < 8 → slice_index_or at.now way 0 < length cells.now }
     ensures { (way : ℕ) → way < 8 → slice_index_or result way None ≡ slice_index_or cells.now (slice_index_or at.now way 0) None }
 {
     [
-        cells[at[0]],
-        cells[at[1]],
-        cells[at[2]],
-        cells[at[3]],
-        cells[at[4]],
-        cells[at[5]],
-        cells[at[6]],
-        cells[at[7]],
+        cells[at[0]].height(),
+        cells[at[1]].height(),
+        cells[at[2]].height(),
+        cells[at[3]].height(),
+        cells[at[4]].height(),
+        cells[at[5]].height(),
+        cells[at[6]].height(),
+        cells[at[7]].height(),
     ]
 }
 
@@ -77,13 +77,7 @@ fn leads_on(level: Height, own: u32, height: Option<Height>, steps: Option<u32>)
 
 /// The first way that leads on over the flat.
 #[inline(always)]
-fn onward(
-    cells: &[Option<Height>],
-    steps: &[StepCount],
-    at: &[usize; 8],
-    level: Height,
-    own: u32,
-) -> usize
+fn onward(cells: &[Cell], steps: &[StepCount], at: &[usize; 8], level: Height, own: u32) -> usize
     requires cells { (way : ℕ) → way < 8 → slice_index_or at.now way 0 < length cells.now }
     requires steps { (way : ℕ) → way < 8 → slice_index_or at.now way 0 < length steps.now }
     requires some { (a : Around) × StandAround a cells.now steps.now at.now level own × IsTrue (list_any (leads_on a) a.ways) }
@@ -92,7 +86,7 @@ fn onward(
 {
     for way in 0..8 {
         let index = at[way];
-        if leads_on(level, own, cells[index], steps[index].known()) {
+        if leads_on(level, own, cells[index].height(), steps[index].known()) {
             return way;
         }
     }

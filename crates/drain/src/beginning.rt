@@ -12,7 +12,7 @@ use crate::looking::{place_shown, spot_of};
 use crate::window::Ground;
 use drainage::NO_COUNT;
 use std::alloc::{AllocError, Global};
-use terrain::{Grid, Height, Place};
+use terrain::{Cell, Grid, Height, Place};
 use tiles::Bounds;
 
 /// Whether a cell has no data or is lower than this level.
@@ -28,7 +28,7 @@ fn is_gap_or_lower(level: Height, cell: Option<Height>) -> bool
 
 /// Whether one of these eight cells has no data or is lower than this level.
 #[inline(always)]
-fn any_gap_or_lower(cells: &[Option<Height>], at: &[usize; 8], level: Height) -> bool
+fn any_gap_or_lower(cells: &[Cell], at: &[usize; 8], level: Height) -> bool
     requires { (way : ℕ) → way < 8 → slice_index_or at.now way 0 < length cells.now }
     ensures { MatchBool result
         ((way : ℕ) × (way < 8) × IsGapOrLower level (slice_index_or cells.now (slice_index_or at.now way 0) None))
@@ -36,7 +36,7 @@ fn any_gap_or_lower(cells: &[Option<Height>], at: &[usize; 8], level: Height) ->
 {
     for way in 0..8 {
         let index = at[way];
-        if is_gap_or_lower(level, cells[index]) {
+        if is_gap_or_lower(level, cells[index].height()) {
             return true;
         }
     }

@@ -18,9 +18,10 @@ use crate::window::Ground;
 use crate::{looking, window};
 use drainage::{Directions, Filled, StepCount};
 use std::alloc::{AllocError, Global};
+use std::snapshot::Snapshot;
 use std::sync::Wait;
 use std::thread::Threads;
-use terrain::{Grid, Height, NoMemory};
+use terrain::{Cell, Grid, NoMemory};
 use tile_jobs::{Gate, JobFault};
 use tile_maps::{Crew, joined};
 use tiles::{TileView, Tiling};
@@ -45,7 +46,7 @@ pub(crate) fn round(
 /// affair: it lends 0 there. For want of memory nothing is handed out.
 pub fn flat_steps(
     alloc: Global,
-    levels: &TileView<'_, Option<Height>>,
+    levels: &TileView<'_, Cell>,
     steps: &TileView<'_, Option<u32>>,
 ) -> Result<Vec<Option<u32>>, NoMemory>
     ghost terrain: { Terrain }
@@ -105,10 +106,11 @@ pub fn directions<R: Threads + Wait + Sync, G: Gate + Sync>(
     let grid = filled.grid();
     let tiling = joined(tiling);
     let steps = counted(&crew, filled, &tiling)?;
+    let told = Snapshot::of(&steps);
     let codes = crew.made(Codes {
         grid,
-        steps: &steps,
+        steps,
         tiling: &tiling,
     })?;
-    Ok(Directions::new(grid, &steps, codes))
+    Ok(Directions::new(grid, told, codes))
 }

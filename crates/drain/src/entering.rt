@@ -11,14 +11,14 @@ ghost use Rattle.drain.specs.Entering.{lent_terrain, AreNoted, IsAmid};
 use crate::changes::{Change, Entry};
 use drainage::StepCount;
 use std::alloc::AllocError;
-use terrain::{Height, Place};
+use terrain::{Cell, Place};
 use tiles::{Bounds, Tiling};
 
 /// What a round is lent: the filled heights and the counts of a grid that is cut into tiles.
 #[derive(Clone, Copy)]
 pub(crate) struct Lent<'a> {
     pub(crate) tiling: &'a Tiling,
-    pub(crate) levels: &'a [Option<Height>],
+    pub(crate) levels: &'a [Cell],
     pub(crate) steps: &'a [StepCount],
     ghost lawful: { IsCutting tiling.now },
     ghost levels_size: { length levels.now ≡ tiling.now.cols * tiling.now.rows },
@@ -44,7 +44,7 @@ impl<'a> Lent<'a> {
         ensures { IsTrue result ↔ (height_at (lent_terrain self.now.tiling.now self.now.levels.now) other
             ≡ height_at (lent_terrain self.now.tiling.now self.now.levels.now) place) }
     {
-        self.levels[self.index(other)] == self.levels[self.index(place)]
+        self.levels[self.index(other)].is_level_with(self.levels[self.index(place)])
     }
 
     /// The count of a cell, by its index.

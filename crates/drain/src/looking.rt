@@ -8,7 +8,7 @@ ghost use Rattle.tile_maps.specs.Maps.{AreMadeBelow};
 use crate::window::Ground;
 use drainage::{NO_COUNT, StepCount};
 use std::alloc::{AllocError, Global};
-use terrain::{Height, Place};
+use terrain::{Cell, Place};
 use tiles::{Bounds, TileView};
 
 /// The place that a spot shows, None where that lies north or west of the grid.
@@ -54,96 +54,98 @@ pub(crate) fn spot_of(bounds: Bounds, place: Place) -> Option<Place>
     })
 }
 
-/// What a view has at the place of a spot, None off the grid.
+/// What a view has at the place of a spot; off the grid what stands for none.
 #[inline(always)]
-fn shown<T: Copy>(view: &TileView<'_, Option<T>>, bounds: Bounds, spot: Place) -> Option<T>
+fn shown<T: Copy>(view: &TileView<'_, T>, none: T, bounds: Bounds, spot: Place) -> T
     requires bounds { bounds ≡ bounds_of view.now.cutting view.now.tile }
     requires inside { AreBounds view.now.cutting bounds }
     requires lawful { IsCutting view.now.cutting }
     requires spot { IsSpot bounds spot }
-    ensures { IsShown view.now.cutting.cols view.now.cutting.rows view.now.cells bounds spot result }
+    ensures { IsShown view.now.cutting.cols view.now.cutting.rows view.now.cells none bounds spot result }
 {
-    let place = place_shown(bounds, spot)?;
-    view.at(place).copied().unwrap_or(None)
+    match place_shown(bounds, spot) {
+        Some(place) => view.at(place).copied().unwrap_or(none),
+        None => none,
+    }
 }
 
 /// Takes one row of spots, one by one.
 fn look_beside<T: Copy + Drop>(
-    view: &TileView<'_, Option<T>>,
+    view: &TileView<'_, T>,
+    none: T,
     bounds: Bounds,
     row: u32,
-    list: &mut Vec<Option<T>>,
+    list: &mut Vec<T>,
 ) -> Result<(), AllocError>
     requires bounds { bounds ≡ bounds_of view.now.cutting view.now.tile }
     requires inside { AreBounds view.now.cutting bounds }
     requires lawful { IsCutting view.now.cutting }
     requires row { row < bounds.rows + 2 }
-    requires list { AreShownBelow view.now.cutting.cols view.now.cutting.rows view.now.cells bounds (row * (bounds.cols + 2)) list.old.items }
-    ensures { OnOk result (AreShownBelow view.now.cutting.cols view.now.cutting.rows view.now.cells bounds ((row + 1) * (bounds.cols + 2)) list.new.items) }
+    requires list { AreShownBelow view.now.cutting.cols view.now.cutting.rows view.now.cells none bounds (row * (bounds.cols + 2)) list.old.items }
+    ensures { OnOk result (AreShownBelow view.now.cutting.cols view.now.cutting.rows view.now.cells none bounds ((row + 1) * (bounds.cols + 2)) list.new.items) }
 {
     for col in 0..bounds.cols + 2 {
-        list.push(shown(view, bounds, Place { row, col }))?;
+        list.push(shown(view, none, bounds, Place { row, col }))?;
     }
     Ok(())
 }
 
 /// Takes one row of spots that the tile lies in: its first, the tile's own row, and its last.
 fn look_across<T: Copy + Drop>(
-    view: &TileView<'_, Option<T>>,
+    view: &TileView<'_, T>,
+    none: T,
     bounds: Bounds,
     row: u32,
-    list: &mut Vec<Option<T>>,
+    list: &mut Vec<T>,
 ) -> Result<(), AllocError>
     requires bounds { bounds ≡ bounds_of view.now.cutting view.now.tile }
     requires inside { AreBounds view.now.cutting bounds }
     requires lawful { IsCutting view.now.cutting }
     requires row { (1 ≤ row) × (row ≤ bounds.rows) }
-    requires list { AreShownBelow view.now.cutting.cols view.now.cutting.rows view.now.cells bounds (row * (bounds.cols + 2)) list.old.items }
-    ensures { OnOk result (AreShownBelow view.now.cutting.cols view.now.cutting.rows view.now.cells bounds ((row + 1) * (bounds.cols + 2)) list.new.items) }
+    requires list { AreShownBelow view.now.cutting.cols view.now.cutting.rows view.now.cells none bounds (row * (bounds.cols + 2)) list.old.items }
+    ensures { OnOk result (AreShownBelow view.now.cutting.cols view.now.cutting.rows view.now.cells none bounds ((row + 1) * (bounds.cols + 2)) list.new.items) }
 {
-    let first = shown(view, bounds, Place { row, col: 0 });
+    let first = shown(view, none, bounds, Place { row, col: 0 });
     let col = bounds.cols + 1;
-    let last = shown(view, bounds, Place { row, col });
+    let last = shown(view, none, bounds, Place { row, col });
     list.push(first)?;
     list.extend_from_slice(view.row(row - 1))?;
     list.push(last)?;
     Ok(())
 }
 
-/// What a view has at each spot, in row order.
+/// What a view has at each spot, in row order; off the grid what stands for none.
 fn look<T: Copy + Drop>(
     alloc: Global,
-    view: &TileView<'_, Option<T>>,
-) -> Result<Vec<Option<T>>, AllocError>
+    view: &TileView<'_, T>,
+    none: T,
+) -> Result<Vec<T>, AllocError>
     ensures { IfOk result (λ v. (length v.items ≡ area_of (bounds_of view.now.cutting view.now.tile))
-        × AreShown view.now.cutting.cols view.now.cutting.rows view.now.cells (bounds_of view.now.cutting view.now.tile) v.items) }
+        × AreShown view.now.cutting.cols view.now.cutting.rows view.now.cells none (bounds_of view.now.cutting view.now.tile) v.items) }
 {
     let bounds = view.bounds();
     let mut list = Vec::with_capacity(
         alloc,
         (bounds.rows as usize + 2) * (bounds.cols as usize + 2),
     )?;
-    look_beside(view, bounds, 0, &mut list)?;
+    look_beside(view, none, bounds, 0, &mut list)?;
     for row in 1..bounds.rows + 1 {
-        look_across(view, bounds, row, &mut list)?;
+        look_across(view, none, bounds, row, &mut list)?;
     }
-    look_beside(view, bounds, bounds.rows + 1, &mut list)?;
+    look_beside(view, none, bounds, bounds.rows + 1, &mut list)?;
     Ok(list)
 }
 
 /// The filled heights of a tile and the places around it.
-pub(crate) fn ground(
-    alloc: Global,
-    levels: &TileView<'_, Option<Height>>,
-) -> Result<Ground, AllocError>
+pub(crate) fn ground(alloc: Global, levels: &TileView<'_, Cell>) -> Result<Ground, AllocError>
     ensures lawful { IfOk result (λ _. IsCutting levels.now.cutting) }
     ensures bounds { IfOk result (λ g. g.bounds ≡ bounds_of levels.now.cutting levels.now.tile) }
-    ensures shown { IfOk result (λ g. AreShown levels.now.cutting.cols levels.now.cutting.rows levels.now.cells g.bounds g.levels.items) }
+    ensures shown { IfOk result (λ g. AreShown levels.now.cutting.cols levels.now.cutting.rows levels.now.cells None g.bounds g.levels.items) }
 {
     let bounds = levels.bounds();
     Ok(Ground {
         bounds,
-        levels: look(alloc, levels)?,
+        levels: look(alloc, levels, Cell::no_data())?,
     })
 }
 
@@ -154,7 +156,7 @@ pub(crate) fn counts(
 ) -> Result<Vec<u32>, AllocError>
     ensures { IfOk result (λ v. AreLent steps.now.cutting.cols steps.now.cutting.rows steps.now.cells (bounds_of steps.now.cutting steps.now.tile) v.items) }
 {
-    let shown = look(alloc, steps)?;
+    let shown = look(alloc, steps, None)?;
     shown
         .iter()
         .map(|count| count.unwrap_or(NO_COUNT))

@@ -18,7 +18,7 @@ use std::alloc::{AllocError, Global};
 use std::marker::Model;
 use std::sync::Wait;
 use std::thread::Threads;
-use terrain::Height;
+use terrain::Cell;
 use tile_jobs::{Gate, JobFault, Work};
 use tile_maps::Crew;
 use tiles::Tiling;
@@ -27,7 +27,7 @@ use tiles::Tiling;
 #[derive(Drop)]
 struct Round<'a> {
     tiling: &'a Tiling,
-    levels: &'a [Option<Height>],
+    levels: &'a [Cell],
     steps: &'a [StepCount],
     entries: &'a [Entry],
     runs: &'a [Run],
@@ -179,7 +179,7 @@ fn answers_of<R: Threads + Wait + Sync, G: Gate + Sync>(
 #[derive(Drop)]
 struct Counting<'a> {
     tiling: &'a Tiling,
-    levels: &'a [Option<Height>],
+    levels: &'a [Cell],
     steps: Vec<StepCount>,
     entries: Vec<Entry>,
 }
@@ -225,7 +225,7 @@ impl<'a> Counting<'a> {
 pub(crate) fn settle<R: Threads + Wait + Sync, G: Gate + Sync>(
     crew: &Crew<'_, R, G>,
     tiling: &Tiling,
-    levels: &[Option<Height>],
+    levels: &[Cell],
     steps: Vec<StepCount>,
 ) -> Result<Vec<StepCount>, JobFault>
     requires size { length levels.now ≡ tiling.now.cols * tiling.now.rows }

@@ -7,11 +7,11 @@ use terrain::{Grid, NoMemory};
 use tile_maps::TileMap;
 use tiles::Tiling;
 
-/// The codes of all cells.
+/// The codes of all cells. The steps go with it.
 #[derive(Drop)]
 pub(crate) struct Codes<'a> {
     pub(crate) grid: &'a Grid,
-    pub(crate) steps: &'a [StepCount],
+    pub(crate) steps: Vec<StepCount>,
     pub(crate) tiling: &'a Tiling,
 }
 
@@ -20,9 +20,9 @@ impl<'a> Model for Codes<'a> {
 
     ghost Value = { SteppedTerrain };
 
-    ghost view = { λ m. record { terrain = m.grid.now.terrain; steps = m.steps.now; cutting = m.tiling.now } };
+    ghost view = { λ m. record { terrain = m.grid.now.terrain; steps = m.steps.items; cutting = m.tiling.now } };
 
-    ghost invariant = { λ m. IsSteppedTerrain (record { terrain = m.grid.now.terrain; steps = m.steps.now; cutting = m.tiling.now }) };
+    ghost invariant = { λ m. IsSteppedTerrain (record { terrain = m.grid.now.terrain; steps = m.steps.items; cutting = m.tiling.now }) };
 }
 
 impl<'a> TileMap for Codes<'a> {
@@ -41,7 +41,7 @@ impl<'a> TileMap for Codes<'a> {
     #[tactic(auto, using(crate::proofs::TileLists::part_of))]
     fn tile(&self, alloc: Global, tile: u32) -> Result<Vec<Option<Code>>, NoMemory> {
         let bounds = self.tiling.bounds(tile);
-        let codes = codes_of_tile(alloc, self.grid, self.steps, bounds)?;
+        let codes = codes_of_tile(alloc, self.grid, &self.steps, bounds)?;
         Ok(codes)
     }
 }

@@ -47,7 +47,7 @@ fn entry(
         return None;
     }
     let index = Place { row, col }.index_in(grid.cols());
-    match (grid.cells()[index], steps[index].known()) {
+    match (grid.cells()[index].height(), steps[index].known()) {
         (Some(height), Some(count)) => Some((height, count)),
         _ => None,
     }

@@ -5,14 +5,14 @@ ghost use Rattle.terrain.specs.declared.place.Place.{Place};
 ghost use Rattle.drain.specs.Window.{AreCounts, area_of, spot_index, IsSpot, IsInner, level_on, count_on, IsLeastAlong, IsSpread, IsNotAbove, IsNear, AreNoted, IsReached, IsEvenBut, IsEven, IsSettled};
 
 use std::alloc::{AllocError, Global};
-use terrain::{Height, Place};
+use terrain::{Cell, Place};
 use tiles::Bounds;
 
 /// Filled heights of a tile and the places around it, in row order: a row and a column more on each side.
 #[derive(Drop)]
 pub(crate) struct Ground {
     pub(crate) bounds: Bounds,
-    pub(crate) levels: Vec<Option<Height>>,
+    pub(crate) levels: Vec<Cell>,
     ghost small: { (bounds.rows ≤ 4096) × (bounds.cols ≤ 4096) },
     ghost size: { length levels.items ≡ area_of bounds },
 }
@@ -47,13 +47,13 @@ impl Ground {
         requires other { IsSpot self.now.bounds other }
         ensures { IsTrue result ↔ (level_on self.now.bounds self.now.levels.items spot ≡ level_on self.now.bounds self.now.levels.items other) }
     {
-        self.levels[self.index(spot)] == self.levels[self.index(other)]
+        self.levels[self.index(spot)].is_level_with(self.levels[self.index(other)])
     }
 }
 
 /// One more than the count of a spot, where it is on this level and that is less than the bound; else the bound.
 #[inline(always)]
-fn lesser(ground: &Ground, counts: &[u32], spot: Place, level: Option<Height>, bound: u32) -> u32
+fn lesser(ground: &Ground, counts: &[u32], spot: Place, level: Cell, bound: u32) -> u32
     requires size { length counts.now ≡ area_of ground.now.bounds }
     requires counts { AreCounts counts.now }
     requires spot { IsSpot ground.now.bounds spot }
@@ -67,7 +67,7 @@ fn lesser(ground: &Ground, counts: &[u32], spot: Place, level: Option<Height>, b
     if next >= bound {
         return bound;
     }
-    if ground.levels[index] == level {
+    if ground.levels[index].is_level_with(level) {
         next
     } else {
         bound
@@ -77,13 +77,7 @@ fn lesser(ground: &Ground, counts: &[u32], spot: Place, level: Option<Height>, b
 /// The least by that of three spots in a row.
 #[inline(always)]
 #[tactic(auto, using(crate::proofs::Least::least_of_none))]
-fn least_of_three(
-    ground: &Ground,
-    counts: &[u32],
-    from: Place,
-    level: Option<Height>,
-    bound: u32,
-) -> u32
+fn least_of_three(ground: &Ground, counts: &[u32], from: Place, level: Cell, bound: u32) -> u32
     requires size { length counts.now ≡ area_of ground.now.bounds }
     requires counts { AreCounts counts.now }
     requires from { (from.row < ground.now.bounds.rows + 2) × (from.col + 2 < ground.now.bounds.cols + 2) }

@@ -33,16 +33,17 @@ impl Model for Directions {
 }
 
 impl Directions {
-    /// Takes over the codes of a filled grid with its steps, row by row: the pair of height and steps falls along each code.
-    pub fn new(grid: &Grid, steps: &Vec<StepCount>, codes: Vec<Option<Code>>) -> Self
-        requires { IsDraining (record { terrain = grid.now.terrain; steps = steps.now.items; codes = codes.items }) }
-        ensures { result ≡ record { terrain = grid.now.terrain; steps = steps.now.items; codes = codes.items } }
+    /// Takes over the codes of a filled grid, row by row. Its steps are told, and may be gone by then: the pair of height and
+    /// steps falls along each code.
+    pub fn new(grid: &Grid, steps: Snapshot<Vec<StepCount>>, codes: Vec<Option<Code>>) -> Self
+        requires { IsDraining (record { terrain = grid.now.terrain; steps = steps.value.items; codes = codes.items }) }
+        ensures { result ≡ record { terrain = grid.now.terrain; steps = steps.value.items; codes = codes.items } }
     {
         Directions {
             cols: grid.cols(),
             codes,
             grid: Snapshot::of(grid),
-            steps: Snapshot::of(steps),
+            steps,
         }
     }
 

@@ -4,7 +4,9 @@ use Rattle.std.specs.Prelude.{slice_get, option_and_then, option_map, Result, Ok
 use Rattle.std.specs.Int.{int_max}
 use Rattle.std.proofs.lemmas.Bool.{cases_lt, cases_eq}
 use Rattle.std.proofs.lemmas.List.{get_or-map, length-map, length_push, get_or_append_left, get_or_push}
-use Rattle.terrain.specs.Raster.{Terrain, Raster}
+use Rattle.terrain.specs.Raster.{Terrain, IsTerrain, IsHeight, Raster}
+use Rattle.terrain.specs.StoredCells.{cell_of}
+use Rattle.terrain.specs.Stored.{stored_some}
 use Rattle.terrain.specs.Sinks.{with_sinks}
 use Rattle.terrain.specs.Neighbours.{height_at, index_of, entry_at, IsInside}
 use Rattle.drainage.specs.Filled.{IsFilledHeight, IsFilled, IsFilledGrid, IsOwnFilled}
@@ -29,7 +31,7 @@ use Rattle.fill.proofs.TileWindows.{entry_in-inside, entry_index}
 use Rattle.fill.proofs.Rims.{has_tile_level, among_is, rims, list_there}
 use Rattle.std.specs.List.{Contains, All}
 use Rattle.std.proofs.lemmas.Option.{MatchOption-at_some, MatchOption-at_none, get_or_from_slice_get, slice_get-get_or, slice_get_within, same_Some}
-use Rattle.std.proofs.lemmas.List.Elements.{All-from_get_or}
+use Rattle.std.proofs.lemmas.List.Elements.{All-contains, All-from_get_or}
 use Rattle.std.proofs.lemmas.Nat.{div-add-mod', mod_below, div_below}
 use Rattle.tile_jobs.specs.Answers.{AllGiven}
 use Rattle.tile_maps.specs.Maps.{IsMadeTile, IsMadeMap}
@@ -136,14 +138,14 @@ raised_tile c floods tile f levels raised h fit there is =
 pub raised_none : (c : Cutting) (floods : List Flood) (levels : List (Option ℤ)) → AreRaisedBelow c floods levels 0 []
 raised_none c floods levels = record { size = refl; each = λ p within low. absurd (omega (arith, low)) }
 
-pub raised_more : (c : Cutting) (floods : List Flood) (levels list : List (Option ℤ)) (p : Place) (n : ℕ) (x : Option ℤ) → IsWithin c p → n ≡ index_of c.cols p → x ≡ raised_among c floods levels p → AreRaisedBelow c floods levels n list → AreRaisedBelow c floods levels (n + 1) (list ++ x ∷ [])
+pub raised_more : (c : Cutting) (floods : List Flood) (levels list : List (Option ℤ)) (p : Place) (n : ℕ) (x : Option ℤ) → IsWithin c p → n ≡ index_of c.cols p → x ≡ cell_of (raised_among c floods levels p) → AreRaisedBelow c floods levels n list → AreRaisedBelow c floods levels (n + 1) (list ++ x ∷ [])
 raised_more c floods levels list p n x within at is below = record {
   size = length_push list x ∙ ap (λ k. k + 1) below.size;
   each = λ q inside low. elim (cases_lt (index_of c.cols q) n) [
     | inl before ↦ get_or_append_left list (x ∷ []) None (index_of c.cols q) (omega (arith, before, below.size)) ∙ below.each q inside before
     | inr past ↦
         let same : index_of c.cols q ≡ n = omega (arith, past, low) in
-        get_or_push list x None (index_of c.cols q) (below.size ∙ sym same) ∙ is ∙ ap (raised_among c floods levels) (index_injective c.cols p q within.1 inside.1 (sym at ∙ sym same))
+        get_or_push list x None (index_of c.cols q) (below.size ∙ sym same) ∙ is ∙ ap (λ r. cell_of (raised_among c floods levels r)) (index_injective c.cols p q within.1 inside.1 (sym at ∙ sym same))
   ];
 }
 
@@ -160,7 +162,7 @@ part_of_row c floods row col tile f b h fit low left is there e =
 
 -- one more cell of such a part
 pub part_more : (c : Cutting) (floods : List Flood) (levels list : List (Option ℤ)) (row start index tile : ℕ) (f : Flood) (b : Bounds) (x : Option ℤ) → IsCutting c → Fit c floods → tile < tile_count c → slice_get floods tile ≡ Some f → b ≡ bounds_of c tile
-    → b.top ≤ row → row < b.top + b.rows → start ≡ (row - b.top) * b.cols → start ≤ index → index < start + b.cols → x ≡ raised_by c levels (get_or f.levels index None) (get_or f.labels index None)
+    → b.top ≤ row → row < b.top + b.rows → start ≡ (row - b.top) * b.cols → start ≤ index → index < start + b.cols → x ≡ cell_of (raised_by c levels (get_or f.levels index None) (get_or f.labels index None))
     → AreRaisedBelow c floods levels (row * c.cols + (b.left + (index - start))) list → AreRaisedBelow c floods levels (row * c.cols + (b.left + (index + 1 - start))) (list ++ x ∷ [])
 part_more c floods levels list row start index tile f b x h fit below there same top bottom at from end is raised =
     let p = make_place row (b.left + (index - start)) in
@@ -169,10 +171,10 @@ part_more c floods levels list row start index tile f b x h fit below there same
     let k : index ≡ (p.row - b.top) * b.cols + (p.col - b.left) = omega (arith, at, from) in
     let own : index ≡ (p.row - (bounds_of c tile).top) * (bounds_of c tile).cols + (p.col - (bounds_of c tile).left) = k ∙ ap (λ (z : Bounds). (p.row - z.top) * z.cols + (p.col - z.left)) same in
     subst (λ n. AreRaisedBelow c floods levels n (list ++ x ∷ [])) (omega (arith, from))
-    (raised_more c floods levels list p _ x i.0 refl (is ∙ raised_here c floods tile index f levels p h fit there i own) raised)
+    (raised_more c floods levels list p _ x i.0 refl (is ∙ ap cell_of (raised_here c floods tile index f levels p h fit there i own)) raised)
 
 -- so all cells of the grid
-pub raised_map : (c : Cutting) (floods : List Flood) (levels list : List (Option ℤ)) (n : ℕ) → n ≡ c.rows * c.cols → AreRaisedBelow c floods levels n list → IsMadeMap c (λ p height. height ≡ raised_among c floods levels p) list
+pub raised_map : (c : Cutting) (floods : List Flood) (levels list : List (Option ℤ)) (n : ℕ) → n ≡ c.rows * c.cols → AreRaisedBelow c floods levels n list → IsMadeMap c (λ p cell. cell ≡ cell_of (raised_among c floods levels p)) list
 raised_map c floods levels list n all below = record {
   size = below.size ∙ all ∙ mul_comm c.rows c.cols;
   each = λ p within. entry-inside c.cols c.rows list p within.0 within.1 ∙ below.each p within (omega (arith, index_below c.cols c.rows p within.0 within.1, all, mul_comm c.rows c.cols));
@@ -209,14 +211,27 @@ filled_tile t c floods tile f levels raised are there spill is =
     let made = raised_tile c floods tile f levels raised are.lawful (fit_of t c floods are.lawful are) there is in
     record { size = made.size; each = λ p i. filled_at t c floods levels are spill p i.0 (tile_entry c tile raised p) (made.each p i) }
 
+-- a filled height is one of the grid's, and so a cell has it
+stands_in_cell : (t : Terrain) (p : Place) (level : ℤ) → IsTerrain t → IsFilledHeight t p level → cell_of (Some level) ≡ Some level
+stands_in_cell t p level lawful filled = stored_some level (All-contains (λ c. IfSome c IsHeight) t.cells (Some level) lawful.heights (filled_height_stands t p level filled)).1
+
+-- the same of a cell
+filled_cell : (t : Terrain) (c : Cutting) (floods : List Flood) (levels : List (Option ℤ)) → IsTerrain t → AreFloods t c floods → AreOpenLevels t c floods levels → (p : Place) → IsWithin c p →
+    (entry : Option ℤ) → entry ≡ cell_of (raised_among c floods levels p) → MatchOption (height_at t p) (entry ≡ None) (λ _. (level : ℤ) × (entry ≡ Some level) × IsFilledHeight t p level)
+filled_cell t c floods levels lawful are spill p within entry e =
+    let raised = filled_at t c floods levels are spill p within (raised_among c floods levels p) refl in
+    match_of (height_at t p) _ _
+    (λ none. e ∙ ap cell_of (MatchOption-at_none _ _ none raised))
+    (λ h some. let filled = MatchOption-at_some _ _ h some raised in (filled.0, e ∙ ap cell_of filled.1 ∙ stands_in_cell t p filled.0 lawful filled.2, filled.2))
+
 -- the whole grid, raised by such levels
-pub filled_map : (t : Terrain) (c : Cutting) (floods : List Flood) (levels whole : List (Option ℤ)) → AreFloods t c floods → AreOpenLevels t c floods levels →
-    IsMadeMap c (λ p height. height ≡ raised_among c floods levels p) whole → IsFilled t whole
-filled_map t c floods levels whole are spill made =
-    let all = map_of_size c t.cols t.rows (λ p height. height ≡ raised_among c floods levels p) whole are.cuts.0 are.cuts.1 made in
+pub filled_map : (t : Terrain) (c : Cutting) (floods : List Flood) (levels whole : List (Option ℤ)) → IsTerrain t → AreFloods t c floods → AreOpenLevels t c floods levels →
+    IsMadeMap c (λ p cell. cell ≡ cell_of (raised_among c floods levels p)) whole → IsFilled t whole
+filled_map t c floods levels whole lawful are spill made =
+    let all = map_of_size c t.cols t.rows (λ p cell. cell ≡ cell_of (raised_among c floods levels p)) whole are.cuts.0 are.cuts.1 made in
     record {
       size = all.0;
-      each = λ p inside. filled_at t c floods levels are spill p (omega (arith, inside, are.cuts), omega (arith, inside, are.cuts)) (entry_at t.cols t.rows whole p) (all.1 p inside);
+      each = λ p inside. filled_cell t c floods levels lawful are spill p (omega (arith, inside, are.cuts), omega (arith, inside, are.cuts)) (entry_at t.cols t.rows whole p) (all.1 p inside);
     }
 
 -- the flood of a view is that of its terrain

@@ -1,15 +1,14 @@
--- The entries of a list that are marked. No public clause cites this.
-use Rattle.std.specs.Prelude.{◌≡◌, ℕ, ℤ, Bool, true, false, if◌then◌else◌, List, map, length, Option, None, IsSome, slice_index_or}
+-- The numbers of those cells of a list that are marked. No public clause cites this.
+use Rattle.std.specs.Prelude.{ℕ, ℤ, Bool, false, if◌then◌else◌, List, map, length, Option, None, Some, slice_index_or, unwrap_or}
 use Rattle.std.specs.List.{range_with_len}
+use Rattle.terrain.specs.StoredCells.{no_data}
 
--- An entry where it is marked, None elsewhere.
+abbrev pub number_of : List (Option ℤ) → ℕ → ℤ
+number_of cells i = unwrap_or (slice_index_or cells i None) no_data
+
+-- A cell's number where it is marked, None elsewhere.
 abbrev pub entry_marked : List Bool → List (Option ℤ) → ℕ → Option ℤ
-entry_marked marks entries i = if slice_index_or marks i false then slice_index_or entries i None else None
+entry_marked marks cells i = if slice_index_or marks i false then Some (number_of cells i) else None
 
 abbrev pub entries_marked : List Bool → List (Option ℤ) → List (Option ℤ)
-entries_marked marks entries = map (entry_marked marks entries) (range_with_len 0 (length marks))
-
--- There are as many marks as entries, and something stands where there is one.
-pub record AreMarked (marks : List Bool) (entries : List (Option ℤ)) : Type 0 where
-  pub size : length entries ≡ length marks
-  pub some : (i : ℕ) → slice_index_or marks i false ≡ true → IsSome (slice_index_or entries i None)
+entries_marked marks cells = map (entry_marked marks cells) (range_with_len 0 (length marks))

@@ -3,6 +3,7 @@ use Rattle.std.specs.Prelude.{◌≡◌, ◌≢◌, ℕ, ◌*◌, ◌<◌, ℤ, 
 use Rattle.std.specs.Int.{int_max}
 use Rattle.std.specs.List.{Contains}
 use Rattle.terrain.specs.Raster.{Terrain}
+use Rattle.terrain.specs.StoredCells.{cell_of}
 use Rattle.terrain.specs.Neighbours.{height_at, index_of, IsNeighbour, IsEnd}
 use Rattle.drainage.specs.Filled.{IsFilledHeight}
 use Rattle.terrain.specs.declared.place.Place.{Place}
@@ -128,10 +129,10 @@ pub record IsRaised (c : Cutting) (f : Flood) (levels : List (Option ℤ)) (rais
 abbrev pub raised_among : Cutting → List Flood → List (Option ℤ) → Place → Option ℤ
 raised_among c floods levels p = raised_by c levels (level_among c floods p) (label_among c floods p)
 
--- So many places, the first in row order, have what they are raised to.
+-- So many cells, the first in row order, have what their places are raised to.
 pub record AreRaisedBelow (c : Cutting) (floods : List Flood) (levels : List (Option ℤ)) (count : ℕ) (raised : List (Option ℤ)) : Type 0 where
   pub size : length raised ≡ count
-  pub each : (p : Place) → IsWithin c p → index_of c.cols p < count → slice_index_or raised (index_of c.cols p) None ≡ raised_among c floods levels p
+  pub each : (p : Place) → IsWithin c p → index_of c.cols p < count → slice_index_or raised (index_of c.cols p) None ≡ cell_of (raised_among c floods levels p)
 
 -- The list has the filled heights of a tile's cells, in its row order.
 pub record IsFilledTile (t : Terrain) (c : Cutting) (tile : ℕ) (levels : List (Option ℤ)) : Type 0 where

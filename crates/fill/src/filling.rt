@@ -1,6 +1,6 @@
 // The filled heights of a grid, by tiles and workers.
-ghost use Rattle.std.specs.Prelude.{◌≡◌, ◌*◌, ◌<◌, ◌≤◌, length, IfOk};
-ghost use Rattle.terrain.specs.Raster.{Terrain};
+ghost use Rattle.std.specs.Prelude.{◌≡◌, ◌*◌, ◌<◌, ◌≤◌, length, IfOk, OnOk};
+ghost use Rattle.terrain.specs.Raster.{Terrain, IsTerrain};
 ghost use Rattle.drainage.specs.Filled.{IsFilled, IsFilledGrid};
 ghost use Rattle.tiles.specs.Cutting.{Cuts, IsCutting};
 ghost use Rattle.fill.specs.Spills.{AreFloods, IsOpenGraphOf};
@@ -18,7 +18,7 @@ use drainage::Filled;
 use std::alloc::Global;
 use std::sync::Wait;
 use std::thread::Threads;
-use terrain::{Frame, Grid, Height, NoMemory};
+use terrain::{Cell, Frame, Grid, NoMemory};
 use tile_jobs::{Gate, JobFault, Work};
 use tile_maps::{Crew, joined};
 use tiles::Tiling;
@@ -116,13 +116,14 @@ impl<'a> Work for PartTiles<'a> {
 fn spill_graph<R: Threads + Wait + Sync, G: Gate + Sync>(
     crew: &Crew<'_, R, G>,
     frame: &Frame,
-    room: Vec<Option<Height>>,
+    room: Vec<Cell>,
     tiling: &Tiling,
     floods: &[TileFlood],
 ) -> Result<SpillGraph, JobFault>
     requires floods { AreFloods frame.now.terrain tiling.now floods.now }
     requires workers { (0 < crew.now.workers) × (crew.now.workers ≤ 64) }
     ensures graph { IfOk result (IsOpenGraphOf frame.now.terrain tiling.now floods.now) }
+    ensures lawful { OnOk result (IsTerrain frame.now.terrain) }
     ensures workers { RefusesWorkers crew.now.workers result }
 {
     let lists = crew.run(&SourceTiles { tiling, floods }, tiling.tiles())?;
@@ -144,9 +145,9 @@ fn filled_cells(
     graph: SpillGraph,
     tiling: &Tiling,
     floods: &[TileFlood],
-) -> Result<Vec<Option<Height>>, NoMemory>
+) -> Result<Vec<Cell>, NoMemory>
     requires { (t : Terrain) × AreFloods t tiling.now floods.now × IsOpenGraphOf t tiling.now floods.now graph }
-    ensures { IfOk result (λ v. (t : Terrain) → AreFloods t tiling.now floods.now → IsOpenGraphOf t tiling.now floods.now graph → IsFilled t v.items) }
+    ensures { IfOk result (λ v. (t : Terrain) → IsTerrain t → AreFloods t tiling.now floods.now → IsOpenGraphOf t tiling.now floods.now graph → IsFilled t v.items) }
 {
     let levels = LabelLevels::of_graph(alloc, &graph)?;
     let tiles = raised_tiles(alloc, tiling, floods, &levels)?;

@@ -68,7 +68,7 @@ pub(crate) fn spills_of<L: SpillLevels>(
 
 /// The greater of a cell's level and its label's, None where it has no label.
 #[inline(always)]
-pub(crate) fn greater(height: Height, spill: Option<Height>) -> Option<Height>
+fn greater(height: Height, spill: Option<Height>) -> Option<Height>
     ensures { result ≡ greater_of (Some height) spill }
 {
     match spill {

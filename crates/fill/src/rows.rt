@@ -1,5 +1,6 @@
 // The filled heights of a grid, row by row over its tiles.
 ghost use Rattle.std.specs.Prelude.{◌≡◌, ℤ, List, Option, ◌+◌, ◌-◌, ◌*◌, ◌<◌, ◌≤◌, pos, length, slice_index_or, None, Some, All, IfOk, OnOk};
+ghost use Rattle.terrain.specs.StoredCells.{cell_of};
 ghost use Rattle.tiles.specs.Cutting.{IsCutting};
 ghost use Rattle.tile_maps.specs.Maps.{IsMadeMap};
 ghost use Rattle.fill.specs.TileFlood.{LabelsInside};
@@ -8,10 +9,10 @@ ghost use Rattle.fill.specs.Spills.{greater_of, raised_among};
 ghost use Rattle.fill.specs.RaisedTiles.{IsRaisedBy, AreRaisedTiles, Raises};
 
 use crate::numbering::LabelLevels;
-use crate::raising::{greater, spills_of};
+use crate::raising::spills_of;
 use crate::tile::TileFlood;
 use std::alloc::{AllocError, Global};
-use terrain::{Height, Place};
+use terrain::{Cell, Height, Place};
 use tiles::{Bounds, Tiling};
 
 /// A flood's levels, and the level in the spill graph of each label in its table.
@@ -45,14 +46,16 @@ impl<'a> RaisedTile<'a> {
 
     /// What the cell with this index in the tile's row order is raised to.
     #[inline(always)]
-    fn at(&self, index: usize) -> Option<Height>
+    fn at(&self, index: usize) -> Cell
         requires height { index < length self.now.heights.now }
         requires label { index < length self.now.labels.now }
         requires inside { All (λ k. k < length self.now.spills.items) self.now.labels.now }
-        ensures { result ≡ greater_of (Some (slice_index_or self.now.heights.now index (pos 0))) (slice_index_or self.now.spills.items (slice_index_or self.now.labels.now index 0) None) }
+        ensures { result ≡ cell_of (greater_of (Some (slice_index_or self.now.heights.now index (pos 0))) (slice_index_or self.now.spills.items (slice_index_or self.now.labels.now index 0) None)) }
     {
-        let spill = self.spills[self.labels[index] as usize];
-        greater(self.heights[index], spill)
+        match self.spills[self.labels[index] as usize] {
+            Some(spill) => Cell::of(self.heights[index].max(spill)),
+            None => Cell::no_data(),
+        }
     }
 }
 
@@ -77,7 +80,7 @@ pub(crate) fn raised_tiles<'a>(
 /// Adds the cells of a row from a column on that lie in one tile, and answers the column after them.
 #[inline]
 fn push_part(
-    cells: &mut Vec<Option<Height>>,
+    cells: &mut Vec<Cell>,
     tiling: &Tiling,
     floods: &[TileFlood],
     tiles: &[RaisedTile<'_>],
@@ -110,7 +113,7 @@ fn push_part(
 
 /// Adds the cells of a row.
 fn push_row(
-    cells: &mut Vec<Option<Height>>,
+    cells: &mut Vec<Cell>,
     tiling: &Tiling,
     floods: &[TileFlood],
     tiles: &[RaisedTile<'_>],
@@ -134,16 +137,16 @@ fn push_row(
 /// What all cells are raised to, in row order of the grid: by the floods of its tiles and the levels of their labels.
 /// The list takes the memory of another one, whose entries are let go.
 pub(crate) fn raised_grid(
-    room: Vec<Option<Height>>,
+    room: Vec<Cell>,
     tiling: &Tiling,
     floods: &[TileFlood],
     tiles: &[RaisedTile<'_>],
-) -> Result<Vec<Option<Height>>, AllocError>
+) -> Result<Vec<Cell>, AllocError>
     requires lawful { IsCutting tiling.now }
     requires fit { Fit tiling.now floods.now }
     requires tiles { (levels : List (Option ℤ)) × AreRaisedTiles tiling.now floods.now levels tiles.now }
     ensures { IfOk result (λ v. (levels : List (Option ℤ)) → AreRaisedTiles tiling.now floods.now levels tiles.now
-        → IsMadeMap tiling.now (λ p height. height ≡ raised_among tiling.now floods.now levels p) v.items) }
+        → IsMadeMap tiling.now (λ p cell. cell ≡ cell_of (raised_among tiling.now floods.now levels p)) v.items) }
 {
     let mut cells = room;
     cells.clear();

@@ -3,41 +3,37 @@ ghost use Rattle.std.specs.Prelude.{◌≡◌, ◌<◌, None, Some, IfOk, is_som
 
 use std::alloc::{AllocError, Global};
 use std::marker::Model;
-use terrain::Height;
+use terrain::{Cell, Height};
 
 /// The heights of those places of a grid that are sources, in its row order.
 #[derive(Drop)]
 pub(crate) struct SourceHeights {
     /// Whether each place is a source.
     marks: Vec<bool>,
-    /// The height of each source. At any other place stands whatever stood in the memory that was lent.
-    heights: Vec<Option<Height>>,
+    /// The number of each source's cell is its height. At any other place stands whatever stood in the memory that was lent.
+    cells: Vec<Cell>,
 }
 
 impl Model for SourceHeights {
-    ghost use Rattle.std.specs.Prelude.{ℤ, List, Option};
-    ghost use Rattle.fill.specs.Marked.{AreMarked, entries_marked};
+    ghost use Rattle.std.specs.Prelude.{◌≡◌, ℤ, List, Option, length};
+    ghost use Rattle.fill.specs.Marked.{entries_marked};
 
     ghost Value = { List (Option ℤ) };
 
-    ghost view = { λ s. entries_marked s.marks.items s.heights.items };
+    ghost view = { λ s. entries_marked s.marks.items s.cells.items };
 
-    ghost invariant = { λ s. AreMarked s.marks.items s.heights.items };
+    ghost invariant = { λ s. length s.cells.items ≡ length s.marks.items };
 }
 
 impl SourceHeights {
-    /// So many places, none of them a source. The list takes the memory of another one, whose entries are let go.
-    pub(crate) fn none(
-        alloc: Global,
-        room: Vec<Option<Height>>,
-        places: usize,
-    ) -> Result<Self, AllocError>
+    /// So many places, none of them a source. Their cells take the memory of another list, whose entries stand there unmarked.
+    pub(crate) fn none(alloc: Global, room: Vec<Cell>, places: usize) -> Result<Self, AllocError>
         ensures { IfOk result (λ s. s ≡ replicate places None) }
     {
-        let mut heights = room;
-        heights.resize(places, None)?;
+        let mut cells = room;
+        cells.resize(places, Cell::no_data())?;
         let marks = vec![in alloc; false; places]?;
-        Ok(SourceHeights { marks, heights })
+        Ok(SourceHeights { marks, cells })
     }
 
     /// Whether the place with this number is a source. There is none past the end.
@@ -57,7 +53,7 @@ impl SourceHeights {
         ensures { result ≡ slice_index_or self.now node None }
     {
         if self.has(node) {
-            self.heights[node as usize]
+            Some(self.cells[node as usize].number())
         } else {
             None
         }
@@ -70,11 +66,11 @@ impl SourceHeights {
         ensures { self.new ≡ set self.old node (Some height) }
     {
         self.marks[node as usize] = true;
-        self.heights[node as usize] = Some(height);
+        self.cells[node as usize] = Cell::of(height);
     }
 
     /// The memory of the list, whatever stands there.
-    pub(crate) fn into_room(self) -> Vec<Option<Height>> {
-        self.heights
+    pub(crate) fn into_room(self) -> Vec<Cell> {
+        self.cells
     }
 }

@@ -13,7 +13,7 @@ use crate::marks::{mark_at, node_of, source_at};
 use crate::source_heights::SourceHeights;
 use crate::tile::TileFlood;
 use std::alloc::{AllocError, Global};
-use terrain::{Height, Place};
+use terrain::{Cell, Height, Place};
 use tiles::Tiling;
 
 /// A label that is an edge cell: its number, and its height.
@@ -118,7 +118,7 @@ fn put_sources(heights: &mut SourceHeights, sources: &[Source])
 /// The heights of the sources, in row order of the grid. Their list takes the memory of another one.
 fn gather_sources(
     alloc: Global,
-    room: Vec<Option<Height>>,
+    room: Vec<Cell>,
     tiling: &Tiling,
     lists: &[TileSources],
 ) -> Result<SourceHeights, AllocError>
@@ -156,7 +156,7 @@ fn put_sinks(
 /// The heights of the labels that are end cells, in row order of the grid. Their list takes the memory of another one.
 pub(crate) fn label_sources(
     alloc: Global,
-    room: Vec<Option<Height>>,
+    room: Vec<Cell>,
     tiling: &Tiling,
     floods: &[TileFlood],
     lists: &[TileSources],

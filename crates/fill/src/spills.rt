@@ -18,7 +18,7 @@ use floods::{Flooded, Net, Spill, flood};
 use smallvec::SmallVec;
 use std::alloc::{AllocError, Global};
 use std::marker::Model;
-use terrain::{Height, NoMemory, Place};
+use terrain::{Cell, Height, NoMemory, Place};
 use tiles::Tiling;
 
 /// Two labels that are joined, and the height at which water passes from one to the other.
@@ -233,7 +233,7 @@ impl SpillGraph {
     }
 
     /// The memory of the sources' list, once the graph has served.
-    pub(crate) fn into_room(self) -> Vec<Option<Height>> {
+    pub(crate) fn into_room(self) -> Vec<Cell> {
         self.sources.into_room()
     }
 

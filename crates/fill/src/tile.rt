@@ -10,7 +10,7 @@ use crate::labels::{Labels, labels_of};
 use floods::{CellNet, FloodedNet, flood_net, without_border};
 use std::alloc::Global;
 use std::marker::Model;
-use terrain::{Height, NoMemory, Place};
+use terrain::{Cell, Height, NoMemory, Place};
 use tiles::{Bounds, TileView};
 
 /// The level of each cell of a tile, and the source that it drains to: the least crest of the paths that
@@ -144,7 +144,7 @@ impl TileFlood {
 /// sources.
 pub fn tile_flood(
     alloc: Global,
-    view: &TileView<'_, Option<Height>>,
+    view: &TileView<'_, Cell>,
     sinks: &[Place],
 ) -> Result<TileFlood, NoMemory>
     ensures { IfOk result (λ f.

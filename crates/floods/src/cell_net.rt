@@ -17,7 +17,7 @@ use smallvec::SmallVec;
 use std::alloc::{AllocError, Global};
 use std::cmp::Reverse;
 use std::marker::Model;
-use terrain::{Grid, Height, NoMemory, Place};
+use terrain::{Cell, Grid, Height, NoMemory, Place};
 use tiles::{Bounds, TileView};
 
 /// The cells of a rectangle with a border of cells without data around them, so that each cell of
@@ -252,19 +252,14 @@ impl Net for CellNet {
 
 /// The list with a row more, which has a cell without data at either end.
 #[inline]
-fn with_row(cells: HeightList, row: &[Option<Height>]) -> Result<HeightList, AllocError>
+fn with_row(cells: HeightList, row: &[Cell]) -> Result<HeightList, AllocError>
     ensures { IfOk result (λ list. list ≡ cells ++ (None ∷ row.now ++ None ∷ [])) }
 {
     cells.with_lacking(1)?.with(row)?.with_lacking(1)
 }
 
 /// The rows of a list in row order, with a border.
-fn bordered(
-    alloc: Global,
-    cells: &[Option<Height>],
-    cols: u32,
-    rows: u32,
-) -> Result<HeightList, AllocError>
+fn bordered(alloc: Global, cells: &[Cell], cols: u32, rows: u32) -> Result<HeightList, AllocError>
     requires size { length cells.now ≡ cols * rows }
     requires few_cols { cols ≤ 4096 }
     requires few_rows { rows ≤ 4096 }
@@ -282,10 +277,7 @@ fn bordered(
 }
 
 /// The rows of a tile, with a border.
-fn bordered_tile(
-    alloc: Global,
-    view: &TileView<'_, Option<Height>>,
-) -> Result<HeightList, AllocError>
+fn bordered_tile(alloc: Global, view: &TileView<'_, Cell>) -> Result<HeightList, AllocError>
     ensures { let b = bounds_of view.now.cutting view.now.tile in
         IfOk result (λ v. v ≡ bordered_rows (row_shown view.now) (b.cols + 2) b.rows) }
 {
@@ -322,7 +314,7 @@ impl CellNet {
     /// A tile as a net of its own, with those of these sinks that lie in it.
     pub fn of_view(
         alloc: Global,
-        view: &TileView<'_, Option<Height>>,
+        view: &TileView<'_, Cell>,
         sinks: &[Place],
     ) -> Result<CellNet, NoMemory>
         ensures { IfOk result (IsNetOf (with_sinks (terrain_of view.now) sinks.now) (bounds_of view.now.cutting view.now.tile)) }

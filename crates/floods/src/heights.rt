@@ -5,7 +5,7 @@ ghost use Rattle.floods.specs.Notes.{AreHeights, heights_where, height_or_lack, 
 
 use std::alloc::{AllocError, Global};
 use std::marker::Model;
-use terrain::Height;
+use terrain::{Cell, Height};
 
 /// Stands for a height that is lacking, so that one comparison tells most entries that are not above a height.
 const LACK: Height = Height::MAX;
@@ -56,17 +56,18 @@ impl HeightList {
         Ok(HeightList { heights, there })
     }
 
-    /// The list with these entries at its end.
-    pub(crate) fn with(self, entries: &[Option<Height>]) -> Result<Self, AllocError>
-        ensures { IfOk result (λ l. l ≡ self ++ entries.now) }
+    /// The list with the heights of these cells at its end.
+    pub(crate) fn with(self, cells: &[Cell]) -> Result<Self, AllocError>
+        ensures { IfOk result (λ l. l ≡ self ++ cells.now) }
     {
         let HeightList {
             mut heights,
             mut there,
         } = self;
-        for entry in entries {
-            heights.push(entry.unwrap_or(LACK))?;
-            there.push(entry.is_some())?;
+        for cell in cells {
+            let height = cell.height();
+            heights.push(height.unwrap_or(LACK))?;
+            there.push(height.is_some())?;
         }
         Ok(HeightList { heights, there })
     }

@@ -4,7 +4,7 @@ ghost use Rattle.terrain.specs.Raster.{Terrain};
 ghost use Rattle.fill.specs.Spills.{AreFloods};
 ghost use Rattle.tiles.specs.Cutting.{Cuts};
 
-use crate::ground::{cut, expect_cells, land};
+use crate::ground::{cut, expect_cells, expect_heights, land};
 use crate::refused::again;
 use crate::stages::leveled;
 use fill::{SpillGraph, TileFlood, tile_flood};
@@ -55,9 +55,9 @@ fn levels_of(alloc: Global, flood: &TileFlood) -> Result<Vec<Option<Height>>, Al
 fn expect_floods(rt: &impl Abort, alloc: Global, floods: &[TileFlood]) {
     assert_eq!(rt; floods.len(), 2);
     let first = levels_of(alloc, &floods[0]).expect(rt, "levels");
-    expect_cells(rt, alloc, &first, 3, 3, "9 9 9\n9 5 5\n9 9 9");
+    expect_heights(rt, alloc, &first, 3, 3, "9 9 9\n9 5 5\n9 9 9");
     let second = levels_of(alloc, &floods[1]).expect(rt, "levels");
-    expect_cells(rt, alloc, &second, 3, 3, "9 9 9\n4 4 6\n9 9 9");
+    expect_heights(rt, alloc, &second, 3, 3, "9 9 9\n4 4 6\n9 9 9");
     let west = Place { row: 1, col: 2 };
     let east = Place { row: 1, col: 3 };
     assert_eq!(rt; floods[0].label(Place { row: 1, col: 1 }), Some(west));

@@ -4,7 +4,7 @@ ghost use Rattle.tiles.specs.Cutting.{Cuts};
 use ascii_grid::read_text;
 use std::alloc::Global;
 use std::process::Abort;
-use terrain::{Grid, Height};
+use terrain::{Cell, Grid, Height};
 use tiles::Tiling;
 
 /// A pit along the diagonal of 4 by 4 cells, which spills at the height of the last cell.
@@ -26,15 +26,43 @@ pub(crate) fn cut(rt: &impl Abort, grid: &Grid, side: u32) -> Tiling
     Tiling::new(grid.cols(), grid.rows(), side).expect(rt, "a tiling")
 }
 
+/// The heights of these cells.
+pub(crate) fn heights_of(rt: &impl Abort, alloc: Global, cells: &[Cell]) -> Vec<Option<Height>> {
+    let mut heights = Vec::new(alloc);
+    for cell in cells {
+        heights.push(cell.height()).expect(rt, "heights");
+    }
+    heights
+}
+
 /// These are the whole heights, -9999 where there is no data.
-pub(crate) fn expect_cells(
+pub(crate) fn expect_heights(
     rt: &impl Abort,
     alloc: Global,
-    cells: &[Option<Height>],
+    found: &[Option<Height>],
     cols: u32,
     rows: u32,
     heights: &str,
 ) {
     let wanted = land(rt, alloc, cols, rows, heights);
-    assert_eq!(rt; cells, wanted.cells());
+    assert_eq!(rt; found, heights_of(rt, alloc, wanted.cells()).as_slice());
+}
+
+/// The cells have these whole heights, -9999 where there is no data.
+pub(crate) fn expect_cells(
+    rt: &impl Abort,
+    alloc: Global,
+    cells: &[Cell],
+    cols: u32,
+    rows: u32,
+    heights: &str,
+) {
+    expect_heights(
+        rt,
+        alloc,
+        &heights_of(rt, alloc, cells),
+        cols,
+        rows,
+        heights,
+    );
 }

@@ -1,5 +1,5 @@
 // The maps of the ways of water, by their rows.
-use crate::ground::{cut, expect_cells, land};
+use crate::ground::{cut, expect_cells, expect_heights, land};
 use crate::stages::{directed, leveled};
 use drain::Code;
 use fill::filled_heights;
@@ -41,7 +41,7 @@ pub(crate) fn agree(values: &[Option<u32>], wanted: &Grid) -> bool {
     let cells = wanted.cells();
     values.len() == cells.len()
         && values.iter().zip(cells.iter()).all(|(value, cell)| value.map(i64::from)
-            == cell.map(i64::from))
+            == cell.height().map(i64::from))
 }
 
 fn numbers(alloc: Global, codes: &[Option<Code>]) -> Result<Vec<Option<u32>>, NoMemory> {
@@ -60,7 +60,7 @@ impl Maps {
     pub(crate) fn expect<R: Abort + Threads + Wait + Sync>(&self, rt: &R, alloc: Global) {
         let land = land(rt, alloc, self.cols, self.rows, self.heights);
         let levels = filled_heights(alloc, &land).expect(rt, "filled heights");
-        expect_cells(rt, alloc, &levels, self.cols, self.rows, self.filled);
+        expect_heights(rt, alloc, &levels, self.cols, self.rows, self.filled);
         for (side, workers) in CUTS {
             self.expect_cut(rt, alloc, &land, side, workers);
         }

@@ -4,7 +4,7 @@ ghost use Rattle.fill.specs.Spills.{AreFloods};
 
 use crate::filling::{floods_of, label_levels};
 use crate::flows::{expect_links, flow_of, flows_of};
-use crate::ground::{PITS, cut, expect_cells, land};
+use crate::ground::{PITS, cut, expect_heights, land};
 use crate::refused::again;
 use crate::stages::{directed, leveled};
 use fill::{CellNet, TileFlood, flood, raise, tile_flood};
@@ -40,7 +40,7 @@ fn cells_of_tiles(rt: HostRuntime) {
         Vec::from_slice(alloc, &[Some(2), H, H, C]).expect(&rt, "a list"),
     ];
     let whole = again!(&rt, tiling.put_back(alloc, &lists));
-    expect_cells(&rt, alloc, &whole, 4, 4, PITS);
+    expect_heights(&rt, alloc, &whole, 4, 4, PITS);
 }
 
 #[test]
@@ -56,7 +56,7 @@ fn flood_of_the_grid(rt: HostRuntime) {
     let alloc = rt.alloc();
     let net = again!(&rt, CellNet::of_grid(alloc, &pits(&rt, alloc)));
     let flooded = again!(&rt, flood(alloc, &net));
-    expect_cells(&rt, alloc, &flooded.level, 6, 6, FILLED_IN_NET);
+    expect_heights(&rt, alloc, &flooded.level, 6, 6, FILLED_IN_NET);
     assert_eq!(rt; flooded.label.get(14), Some(&Some(28)));
 }
 
@@ -95,7 +95,7 @@ fn floods_of_tiles_and_their_graph(rt: HostRuntime) {
     let floods = floods_of(alloc, &pits, &tiling).expect(&rt, "floods");
     assert_eq!(rt; (floods.len(), tiling.tiles()), (4, 4));
     let levels = label_levels(&rt, alloc, &tiling, &floods);
-    expect_cells(
+    expect_heights(
         &rt,
         alloc,
         &levels,
@@ -105,7 +105,7 @@ fn floods_of_tiles_and_their_graph(rt: HostRuntime) {
     );
     assert!(rt; levels.len() == tiling.cols() as usize * tiling.rows() as usize);
     let raised = again!(&rt, raise_first(alloc, &pits, &tiling, &floods, &levels));
-    expect_cells(&rt, alloc, &raised, 2, 2, "9 9\n9 3");
+    expect_heights(&rt, alloc, &raised, 2, 2, "9 9\n9 3");
 }
 
 #[test]

@@ -1,9 +1,9 @@
 -- Heights are within their limits.
-use Rattle.std.proofs.Common.{arith, ◌≡◌, ℤ, length, Option, None, Some, IfSome, inl, inr, refl, sym, ◌∙◌, pos, FitsSigned, w64, to_z, of_z}
+use Rattle.std.proofs.Common.{arith, ◌≡◌, ℤ, length, List, ℕ, ◌<◌, get_or, Option, None, Some, IfSome, inl, inr, refl, sym, ◌∙◌, pos, FitsSigned, w64, to_z, of_z}
 use Rattle.std.specs.Prelude.{unwrap_or}
 use Rattle.std.proofs.lemmas.Int.{ints, to_z-of_z}
 use Rattle.std.proofs.lemmas.Bool.{cases_lt}
-use Rattle.std.proofs.lemmas.List.{get_or_past}
+use Rattle.std.proofs.lemmas.List.{get_or_past, get_or_default}
 use Rattle.std.proofs.lemmas.List.Elements.{All-get_or}
 use Rattle.terrain.specs.Raster.{Terrain, IsTerrain, IsHeight}
 use Rattle.terrain.specs.Neighbours.{height_at, index_of}
@@ -33,3 +33,8 @@ height_fits h is = omega (arith, ints, is)
 -- a height as it is passed on
 pub kept : (h : ℤ) → IsHeight h → IsHeight (to_z w64 (of_z w64 h))
 kept h is = rw (to_z-of_z w64 h (height_fits h is)) is
+
+-- a cell that was read by its index
+pub has_height : (cells : List (Option ℤ)) (index : ℕ) {cell height : Option ℤ} {h : ℤ} → cell ≡ get_or cells index cell → height ≡ cell → height ≡ Some h → index < length cells →
+    get_or cells index None ≡ Some h
+has_height cells index {cell = cell} read same is below = sym (read ∙ get_or_default cells index cell None below) ∙ sym same ∙ is

@@ -11,7 +11,7 @@ ghost use Rattle.sight.specs.Sweep.{lead_of, aside_of, ramp_of, level_ramp, IsFa
 
 use crate::tops::raised;
 use horizons::{Ramp, Target};
-use terrain::Height;
+use terrain::{Cell, Height};
 
 /// The coordinate that counts a family's lines: where the observer stands, how far apart neighbours along it
 /// stand in the list of cells, and whether the lines are counted toward its beginning.
@@ -84,11 +84,11 @@ pub(crate) fn passed() -> Ramp
 }
 
 #[inline(always)]
-pub(crate) fn height_at(cells: &[Option<Height>], index: usize) -> Option<Height>
+pub(crate) fn height_at(cells: &[Cell], index: usize) -> Option<Height>
     ensures { result ≡ slice_index_or cells.now index None }
 {
     match cells.get(index) {
-        Some(height) => *height,
+        Some(cell) => cell.height(),
         None => None,
     }
 }
@@ -182,7 +182,7 @@ impl Family {
     #[inline(always)]
     pub(crate) fn top_between(
         self,
-        cells: &[Option<Height>],
+        cells: &[Cell],
         line: u32,
         low: i32,
         high: i32,
@@ -211,7 +211,7 @@ impl Family {
 
     /// Whether a ramp is that of the ground between a cell of a line and the next one.
     #[inline(always)]
-    fn goes_on(self, cells: &[Option<Height>], line: u32, aside: i32, ramp: Ramp) -> bool
+    fn goes_on(self, cells: &[Cell], line: u32, aside: i32, ramp: Ramp) -> bool
         requires heights { AreHeights cells.now }
         requires family { IsFamily self }
         requires line { IsLine self line }
@@ -233,7 +233,7 @@ impl Family {
 
     /// The last cell of a line, from one on, up to the next one of which a ramp goes on.
     #[inline(always)]
-    fn last_of(self, cells: &[Option<Height>], line: u32, first: i32, ramp: Ramp) -> i32
+    fn last_of(self, cells: &[Cell], line: u32, first: i32, ramp: Ramp) -> i32
         requires heights { AreHeights cells.now }
         requires family { IsFamily self }
         requires line { IsLine self line }
@@ -250,7 +250,7 @@ impl Family {
 
     /// What the ray to a target meets on a line.
     #[inline(always)]
-    pub(crate) fn span(self, cells: &[Option<Height>], line: u32, target: Target) -> Span
+    pub(crate) fn span(self, cells: &[Cell], line: u32, target: Target) -> Span
         requires heights { AreHeights cells.now }
         requires family { IsFamily self }
         requires line { IsLine self line }

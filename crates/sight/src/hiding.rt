@@ -10,7 +10,7 @@ use crate::ranks::rank;
 use crate::window::Window;
 use horizons::Target;
 use std::alloc::{AllocError, Global};
-use terrain::Height;
+use terrain::Cell;
 
 impl Family {
     /// Takes the mark from the cell of a ray.
@@ -31,7 +31,7 @@ impl Family {
 /// Takes the marks from the marked cells of a window that the family hides. Targets stand `height` above their cells' ground.
 pub(crate) fn hide(
     alloc: Global,
-    cells: &[Option<Height>],
+    cells: &[Cell],
     family: Family,
     window: Window,
     height: u32,

@@ -11,7 +11,7 @@ use crate::passing::{BlockStrides, blocking_step_past_blocks};
 use crate::reach::is_in_reach;
 use crate::tops::blocks_in;
 use crate::walk::{Axis, Pace, Sightline, blocking_step, is_blocked};
-use terrain::{Grid, Height, Observer, Place};
+use terrain::{Cell, Grid, Height, Observer, Place};
 
 /// How high an eye or a target stands.
 #[inline(always)]
@@ -126,7 +126,7 @@ const NEARBY_CROSSINGS: u32 = 4;
 
 /// Whether one of so many crossings blocks, from a step on the way to the other end on.
 #[inline(always)]
-fn is_blocked_from(cells: &[Option<Height>], line: Sightline, first: u32, crossings: u32) -> bool
+fn is_blocked_from(cells: &[Cell], line: Sightline, first: u32, crossings: u32) -> bool
     requires heights { AreHeights cells.now }
     requires line { IsSightline line }
     requires over { IsOver cells.now line.lead line.side }
@@ -170,7 +170,7 @@ pub(crate) fn may_see(
 
 /// Whether one of the crossings about so many steps before the other end blocks.
 #[inline(always)]
-fn is_blocked_about(cells: &[Option<Height>], line: Sightline, left: u32) -> bool
+fn is_blocked_about(cells: &[Cell], line: Sightline, left: u32) -> bool
     requires heights { AreHeights cells.now }
     requires line { IsSightline line }
     requires over { IsOver cells.now line.lead line.side }
@@ -200,7 +200,7 @@ impl Blocker {
 
     /// Whether the crossing as far from the observer hides another target.
     #[inline(always)]
-    fn hides(self, cells: &[Option<Height>], lines: Sightlines) -> bool
+    fn hides(self, cells: &[Cell], lines: Sightlines) -> bool
         requires heights { AreHeights cells.now }
         requires columns { IsSightline lines.columns }
         requires rows { IsSightline lines.rows }

@@ -10,7 +10,7 @@ ghost use Rattle.sight.specs.Sweep.{IsBefore, AreBefore, IsFamily, IsLine, Passe
 use crate::family::{Family, Span, aside_at, passed};
 use horizons::{Cursor, Horizon, Piece, Ramp, Target, is_never_above, push_greater};
 use std::alloc::AllocError;
-use terrain::Height;
+use terrain::Cell;
 
 /// Whether the ray to a target passes a line before the cell so far aside.
 #[inline(always)]
@@ -115,7 +115,7 @@ fn was_laid_before(piece: Piece, line: u32) -> bool
 /// Whether a line is too low to rise above a piece of a horizon, from a target on.
 #[inline(always)]
 fn is_too_low(
-    cells: &[Option<Height>],
+    cells: &[Cell],
     family: Family,
     line: u32,
     targets: &[Target],
@@ -146,7 +146,7 @@ fn is_too_low(
 
 /// Raises a piece of a horizon to the ground of a line, from the extent on.
 fn raise_piece(
-    cells: &[Option<Height>],
+    cells: &[Cell],
     family: Family,
     line: u32,
     targets: &[Target],
@@ -180,7 +180,7 @@ fn raise_piece(
 
 /// Raises a horizon to the ground of a line.
 pub(crate) fn raise(
-    cells: &[Option<Height>],
+    cells: &[Cell],
     family: Family,
     line: u32,
     targets: &[Target],

@@ -12,7 +12,7 @@ use crate::family::Family;
 use crate::sweep::Sweep;
 use horizons::{Cursor, Target};
 use std::alloc::{AllocError, Global};
-use terrain::Height;
+use terrain::Cell;
 
 /// A cursor that has not gone past a rank: this one, unless it was asked about a later rank.
 #[inline(always)]
@@ -48,7 +48,7 @@ impl Look {
     /// Goes on to a line.
     pub(crate) fn go_to(
         &mut self,
-        cells: &[Option<Height>],
+        cells: &[Cell],
         family: Family,
         line: u32,
         targets: &[Target],

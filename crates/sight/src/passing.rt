@@ -6,7 +6,7 @@ ghost use Rattle.sight.specs.Blocks.{IsLow, IsPeak, AreTopsAlong, AreLowBetween}
 ghost use Rattle.terrain.specs.Raster.{IsHeight};
 
 use crate::walk::{Pace, Sightline, Step, blocking_step, weighed};
-use terrain::Height;
+use terrain::{Cell, Height};
 
 /// The side of a block, in cells.
 pub const BLOCK_SIDE: u32 = 16;
@@ -107,7 +107,7 @@ fn is_above_blocks(
 /// above the `peak`.
 #[inline(always)]
 pub(crate) fn blocking_step_past_blocks(
-    cells: &[Option<Height>],
+    cells: &[Cell],
     tops: &[Option<Height>],
     peak: Height,
     strides: BlockStrides,

@@ -9,12 +9,12 @@ ghost use Rattle.sight.specs.Hiding.{height_at, rise_at};
 
 use crate::family::{Family, height_at};
 use horizons::Target;
-use terrain::Height;
+use terrain::{Cell, Height};
 
 impl Family {
     /// The height of a target's cell, None where it has none.
     #[inline(always)]
-    fn height_of(self, cells: &[Option<Height>], target: Target) -> Option<Height>
+    fn height_of(self, cells: &[Cell], target: Target) -> Option<Height>
         requires heights { AreHeights cells.now }
         requires family { IsFamily self }
         requires line { IsLine self target.line }
@@ -31,7 +31,7 @@ impl Family {
     /// How much a target, so high above its cell's ground, is above the eye; where the cell has no data its ground
     /// counts as 0.
     #[inline(always)]
-    pub(crate) fn rise(self, cells: &[Option<Height>], target: Target, height: u32) -> i64
+    pub(crate) fn rise(self, cells: &[Cell], target: Target, height: u32) -> i64
         requires heights { AreHeights cells.now }
         requires family { IsFamily self }
         requires line { IsLine self target.line }

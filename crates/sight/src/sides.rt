@@ -16,7 +16,7 @@ use crate::line::level;
 use crate::tile::Viewing;
 use crate::window::{Run, Window};
 use std::alloc::{AllocError, Global};
-use terrain::{Height, Observer, Place};
+use terrain::{Cell, Observer, Place};
 use tiles::Bounds;
 
 impl Family {
@@ -39,7 +39,7 @@ impl Family {
 /// Takes the marks from the marked cells of a window that the lines on either side of the observer hide.
 fn hide_on_both_sides(
     alloc: Global,
-    cells: &[Option<Height>],
+    cells: &[Cell],
     family: Family,
     window: Window,
     height: u32,

@@ -10,7 +10,7 @@ use crate::line_ground::raise;
 use horizons::{Horizon, Ramp, Target};
 use std::alloc::{AllocError, Global};
 use std::mem;
-use terrain::Height;
+use terrain::Cell;
 
 /// The greatest ground of the lines so far over each target, and room for that of one line more.
 #[derive(Drop)]
@@ -36,7 +36,7 @@ impl Sweep {
     /// Past a line.
     fn pass(
         &mut self,
-        cells: &[Option<Height>],
+        cells: &[Cell],
         family: Family,
         line: u32,
         targets: &[Target],
@@ -56,7 +56,7 @@ impl Sweep {
     /// Past the lines from one on, and before another.
     pub(crate) fn pass_lines(
         &mut self,
-        cells: &[Option<Height>],
+        cells: &[Cell],
         family: Family,
         from: u32,
         to: u32,

@@ -5,7 +5,7 @@ ghost use Rattle.terrain.specs.Raster.{IsHeight};
 ghost use Rattle.sight.specs.Walk.{is_above, steps_of, whole_at, AreHeights, IsSightline, IsAt, IsOver, step_range_blocks, walk_blocks};
 ghost use Rattle.sight.specs.Pace.{IsPace, Gains};
 
-use terrain::Height;
+use terrain::{Cell, Height};
 
 /// One coordinate of a line of sight: its two ends, and how far apart neighbours along it stand
 /// in the list of cells.
@@ -146,7 +146,7 @@ pub(crate) fn weighed(height: Height, weight: u32) -> i64
 /// Whether the ground between a near cell and the far one beside it is above the sight.
 #[inline(always)]
 fn is_higher(
-    cells: &[Option<Height>],
+    cells: &[Cell],
     index: usize,
     beside: usize,
     near_weight: u32,
@@ -160,13 +160,13 @@ fn is_higher(
     ensures { result ≡ is_above (slice_index_or cells.now index None) near_weight
         (slice_index_or cells.now (index + beside) None) far_weight sight }
 {
-    let Some(near) = cells[index] else {
+    let Some(near) = cells[index].height() else {
         return false;
     };
     if far_weight == 0 {
         return weighed(near, near_weight) > sight;
     }
-    let Some(far) = cells[index + beside] else {
+    let Some(far) = cells[index + beside].height() else {
         return false;
     };
     weighed(near, near_weight) + weighed(far, far_weight) > sight
@@ -234,7 +234,7 @@ impl Pace {
 /// at `start` at the first. None where it is so at none of them.
 #[inline(always)]
 pub(crate) fn blocking_step(
-    cells: &[Option<Height>],
+    cells: &[Cell],
     line: Sightline,
     pace: Pace,
     start: Step,
@@ -274,7 +274,7 @@ pub(crate) fn blocking_step(
 
 /// Whether the ground is above the line at a step between its two ends.
 #[inline(always)]
-pub(crate) fn is_blocked(cells: &[Option<Height>], line: Sightline) -> bool
+pub(crate) fn is_blocked(cells: &[Cell], line: Sightline) -> bool
     requires heights { AreHeights cells.now }
     requires line { IsSightline line }
     requires over { IsOver cells.now line.lead line.side }

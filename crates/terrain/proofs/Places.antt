@@ -3,7 +3,7 @@ use Rattle.std.proofs.Common.{◌≡◌, ◌≢◌, ℕ, ◌+◌, ◌*◌, ◌/�
 use Rattle.std.proofs.lemmas.Bool.{cases_eq, cond-true, cond-false, lt-ltb, and_from, le-ltb, and_left, and_right, cases_lt}
 use Rattle.std.proofs.lemmas.Nat.{mul-add-lt, div-mul-add, mod-mul-add}
 use Rattle.terrain.specs.Raster.{Terrain}
-use Rattle.terrain.specs.Neighbours.{entry_at, index_of, height_at, Touches, HasGapWhere}
+use Rattle.terrain.specs.Neighbours.{entry_or, entry_at, index_of, height_at, Touches, HasGapWhere}
 use Rattle.terrain.specs.declared.place.Place.{Place}
 
 abbrev pub make_place : ℕ → ℕ → Place
@@ -22,8 +22,11 @@ cases_place p q =
     ]
 
 -- an entry inside
+pub entry_or-inside : {X : Type 0} (cols rows : ℕ) (xs : List X) (none : X) (p : Place) → p.row < rows → p.col < cols → entry_or cols rows xs none p ≡ get_or xs (index_of cols p) none
+entry_or-inside cols rows xs none p a b = cond-true _ _ _ (and_from _ _ (lt-ltb _ _ a) (lt-ltb _ _ b))
+
 pub entry-inside : {X : Type 0} (cols rows : ℕ) (xs : List (Option X)) (p : Place) → p.row < rows → p.col < cols → entry_at cols rows xs p ≡ get_or xs (index_of cols p) None
-entry-inside cols rows xs p a b = cond-true _ _ _ (and_from _ _ (lt-ltb _ _ a) (lt-ltb _ _ b))
+entry-inside cols rows xs p a b = entry_or-inside cols rows xs None p a b
 
 -- no entry outside
 pub entry-below : {X : Type 0} (cols rows : ℕ) (xs : List (Option X)) (p : Place) → rows ≤ p.row → entry_at cols rows xs p ≡ None

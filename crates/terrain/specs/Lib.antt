@@ -5,3 +5,5 @@ pub mod Neighbours
 pub mod Ways
 pub mod Parts
 pub mod Sinks
+pub mod StoredCells
+pub mod Stored

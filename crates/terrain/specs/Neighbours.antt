@@ -11,12 +11,15 @@ IsInside t p = (p.row < t.rows) × (p.col < t.cols)
 abbrev pub index_of : ℕ → Place → ℕ
 index_of cols p = p.row * cols + p.col
 
--- The entry at a place of a list in row order, None outside.
-abbrev pub entry_at : {X : Type 0} → ℕ → ℕ → List (Option X) → Place → Option X
-entry_at cols rows entries p =
+-- The entry at a place of a list in row order, and outside what stands for none.
+abbrev pub entry_or : {X : Type 0} → ℕ → ℕ → List X → X → Place → X
+entry_or cols rows entries none p =
     if nat_lt p.row rows && nat_lt p.col cols
-    then slice_index_or entries (index_of cols p) None
-    else None
+    then slice_index_or entries (index_of cols p) none
+    else none
+
+abbrev pub entry_at : {X : Type 0} → ℕ → ℕ → List (Option X) → Place → Option X
+entry_at cols rows entries p = entry_or cols rows entries None p
 
 -- The height at a place, None outside the grid and where there is no data.
 abbrev pub height_at : Terrain → Place → Option ℤ

@@ -4,6 +4,7 @@ ghost use Rattle.terrain.specs.Raster.{Raster, IsLawful};
 ghost use Rattle.terrain.specs.Neighbours.{IsInside, height_at, IsEdge, IsEnd, HasGapAround};
 ghost use Rattle.terrain.specs.Sinks.{RefusesSinks, raster_with_sinks, sinks_fault};
 
+use crate::cell::Cell;
 use crate::place::{Height, Place};
 use crate::sinks::{SinkFault, each_once, first_fault, is_one_of};
 use crate::word::Word;
@@ -75,7 +76,7 @@ pub struct Frame {
     header: GridHeader,
     scale: u8,
     sinks: Vec<Place>,
-    cells: Snapshot<Vec<Option<Height>>>,
+    cells: Snapshot<Vec<Cell>>,
 }
 
 impl Model for Frame {
@@ -93,7 +94,7 @@ impl Model for Frame {
 #[derive(Drop)]
 pub struct Grid {
     frame: Frame,
-    cells: Vec<Option<Height>>,
+    cells: Vec<Cell>,
 }
 
 impl Model for Grid {
@@ -134,7 +135,8 @@ impl Frame {
 
     /// The named sinks, each once, in the order of first naming.
     pub fn sinks(&self) -> &[Place]
-        ensures { result.now ≡ self.now.terrain.sinks }
+        ensures value { result.now ≡ self.now.terrain.sinks }
+        ensures lawful { IsLawful self.now }
     {
         &self.sinks
     }
@@ -171,7 +173,7 @@ impl Frame {
 
     /// The grid with these cells in place of those that were let go. Each height among them stood in the grid. It
     /// takes no memory.
-    pub fn with_cells(self, cells: Vec<Option<Height>>) -> Grid
+    pub fn with_cells(self, cells: Vec<Cell>) -> Grid
         requires size { length cells.items ≡ self.terrain.cols * self.terrain.rows }
         requires heights { All (λ c. IfSome c (λ h. Contains self.terrain.cells (Some h))) cells.items }
         ensures { result ≡ record self { terrain = record self.terrain { cells = cells.items } } }
@@ -189,12 +191,7 @@ impl Frame {
 impl Grid {
     ghost use Rattle.terrain.specs.Parts.{raster_with, raster_with_parts};
 
-    fn of_parts(
-        header: GridHeader,
-        scale: u8,
-        cells: Vec<Option<Height>>,
-        sinks: Vec<Place>,
-    ) -> Self
+    fn of_parts(header: GridHeader, scale: u8, cells: Vec<Cell>, sinks: Vec<Place>) -> Self
         requires { IsLawful (raster_with header scale cells.items sinks.items) }
         ensures { result ≡ raster_with header scale cells.items sinks.items }
     {
@@ -208,12 +205,7 @@ impl Grid {
     }
 
     /// The grid of a header, a scale and the cells in row order. It has no sinks.
-    pub fn from_parts(
-        alloc: Global,
-        header: GridHeader,
-        scale: u8,
-        cells: Vec<Option<Height>>,
-    ) -> Self
+    pub fn from_parts(alloc: Global, header: GridHeader, scale: u8, cells: Vec<Cell>) -> Self
         requires { IsLawful (raster_with header scale cells.items []) }
         ensures { result ≡ raster_with header scale cells.items [] }
     {
@@ -228,7 +220,7 @@ impl Grid {
     }
 
     /// The grid without its cells, and the cells.
-    pub fn into_parts(self) -> (Frame, Vec<Option<Height>>)
+    pub fn into_parts(self) -> (Frame, Vec<Cell>)
         ensures frame { result.0 ≡ self }
         ensures cells { result.1.items ≡ self.terrain.cells }
     {
@@ -268,8 +260,8 @@ impl Grid {
         self.frame.scale()
     }
 
-    /// The heights in row order, None where there is no data.
-    pub fn cells(&self) -> &[Option<Height>]
+    /// The cells in row order.
+    pub fn cells(&self) -> &[Cell]
         ensures value { result.now ≡ self.now.terrain.cells }
         ensures lawful { IsLawful self.now }
     {
@@ -289,7 +281,7 @@ impl Grid {
         requires { IsInside self.now.terrain place }
         ensures { result ≡ height_at self.now.terrain place }
     {
-        self.cells()[place.index_in(self.cols())]
+        self.cells()[place.index_in(self.cols())].height()
     }
 
     /// Whether the cell is an end cell: it has a height, and is a named sink or has a gap among the eight places
@@ -321,7 +313,7 @@ impl Grid {
     }
 
     /// The same grid with these cells, and the same sinks. Each height among them stands in the grid.
-    pub fn with_cells(&self, alloc: Global, cells: &[Option<Height>]) -> Result<Grid, NoMemory>
+    pub fn with_cells(&self, alloc: Global, cells: &[Cell]) -> Result<Grid, NoMemory>
         requires size { length cells.now ≡ self.now.terrain.cols * self.now.terrain.rows }
         requires heights { All (λ c. IfSome c (λ h. Contains self.now.terrain.cells (Some h))) cells.now }
         ensures { IfOk result (λ g. g ≡ record self.now { terrain = record self.now.terrain { cells = cells.now } }) }
@@ -330,7 +322,7 @@ impl Grid {
         Ok(self.with_parts(cells, Vec::from_slice(alloc, self.sinks())?))
     }
 
-    fn with_parts(&self, cells: Vec<Option<Height>>, sinks: Vec<Place>) -> Grid
+    fn with_parts(&self, cells: Vec<Cell>, sinks: Vec<Place>) -> Grid
         requires { IsLawful (raster_with_parts self.now cells.items sinks.items) }
         ensures { result ≡ raster_with_parts self.now cells.items sinks.items }
     {

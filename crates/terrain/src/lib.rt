@@ -1,6 +1,7 @@
 //! Terrain grids: heights in rows and columns, places, neighbours and edge cells, and the header that comes with them.
 #![tactic(auto)]
 
+pub mod cell;
 pub mod digits;
 pub mod grid;
 pub mod observer;
@@ -8,6 +9,7 @@ pub mod place;
 pub mod sinks;
 pub mod word;
 
+pub use cell::{Cell, NO_DATA};
 pub use digits::whole_number;
 pub use grid::{Anchor, Frame, Grid, GridHeader, LONGEST_AXIS, NoMemory};
 pub use observer::Observer;

@@ -13,9 +13,9 @@ tile_entry_is c tile b list p e i =
     tile_entry-in c tile list p i ∙ ap (λ (z : Bounds). get_or list (index_in z p) None) (sym e)
 
 -- what a row of a view has
-pub row_has : {X : Type 0} (v : View (Option X)) (b : Bounds) (i k : ℕ) → b ≡ bounds_of v.cutting v.tile → k < b.cols →
-    get_or (row_shown v i) k None ≡ get_or v.cells ((b.top + i) * v.cutting.cols + b.left + k) None
-row_has {X = X} v b i k e below =
-    ap (λ (z : Bounds). get_or (slice_range v.cells ((z.top + i) * v.cutting.cols + z.left) ((z.top + i) * v.cutting.cols + z.left + z.cols)) k None) (sym e)
-    ∙ get_or-take ((b.top + i) * v.cutting.cols + b.left + b.cols - ((b.top + i) * v.cutting.cols + b.left)) (drop ((b.top + i) * v.cutting.cols + b.left) v.cells) k None (omega arith)
-    ∙ get_or-drop ((b.top + i) * v.cutting.cols + b.left) v.cells k None
+pub row_has : {X : Type 0} (v : View X) (none : X) (b : Bounds) (i k : ℕ) → b ≡ bounds_of v.cutting v.tile → k < b.cols →
+    get_or (row_shown v i) k none ≡ get_or v.cells ((b.top + i) * v.cutting.cols + b.left + k) none
+row_has {X = X} v none b i k e below =
+    ap (λ (z : Bounds). get_or (slice_range v.cells ((z.top + i) * v.cutting.cols + z.left) ((z.top + i) * v.cutting.cols + z.left + z.cols)) k none) (sym e)
+    ∙ get_or-take ((b.top + i) * v.cutting.cols + b.left + b.cols - ((b.top + i) * v.cutting.cols + b.left)) (drop ((b.top + i) * v.cutting.cols + b.left) v.cells) k none (omega arith)
+    ∙ get_or-drop ((b.top + i) * v.cutting.cols + b.left) v.cells k none

@@ -1,6 +1,6 @@
-use Rattle.std.proofs.Common.{◌≡◌, ap, sym, ◌∙◌, Some, false, true, refl}
+use Rattle.std.proofs.Common.{arith, ◌≡◌, ap, sym, ◌∙◌, Some, false, true, refl}
 use Rattle.std.specs.Prelude.{int_le}
-use Rattle.std.proofs.lemmas.Int.{to_z-of_z}
+use Rattle.std.proofs.lemmas.Int.{ints, to_z-of_z}
 use mir.Val.{to_z, of_z}
 use Rattle.terrain.specs.Raster.{lowest, highest}
 use Rattle.terrain.proofs.Heights.{height_width}
@@ -16,4 +16,4 @@ returns-then-value-le-HIGHEST c = λ d nodata word e n.
     let low : int_le lowest c.args.value ≡ true = ap (int_le lowest) (sym same) ∙ c.if-value-ge-LOWEST.true in
     let high : int_le c.args.value highest ≡ true = ap (λ z. int_le z highest) (sym same) ∙ c.if-value-le-HIGHEST.true in
     let other : same_value (Some c.args.value) (scaled_value d nodata) ≡ false = ap (λ z. same_value (Some z) (scaled_value d nodata)) (sym same) ∙ ap (same_value (Some (to_z height_width (of_z height_width c.args.value)))) (sym n) ∙ sym c.is_same_value.ensures ∙ c.if-is_same_value.false in
-    ap (λ z. Cell (Some z)) same ∙ meaning_of_height d nodata word c.args.value e other (rw (low, high) refl)
+    ap Cell (c.of.ensures.height (omega (arith, ints, high)) ∙ ap Some same) ∙ meaning_of_height d nodata word c.args.value e other (rw (low, high) refl)

@@ -1,4 +1,4 @@
-use Rattle.std.proofs.Common.{ℕ, List, Option, sym, subst}
+use Rattle.std.proofs.Common.{sym, subst}
 use Rattle.terrain.specs.Raster.{Raster, IsTerrain}
 use Rattle.tiles.specs.Cutting.{Cuts}
 use Rattle.tile_maps.specs.Maps.{IsMadeMap}
@@ -15,17 +15,18 @@ invariant_of-made g c =
     let same = sym c.grid-grid.ensures.value in
     record {
       lawful = subst (λ (x : Raster). IsTerrain x.terrain) same c.in_ok-steps.ensures.lawful;
-      steps = subst (λ (x : Raster). AreSteps x.terrain c.deref.result.now) same (subst (λ (l : List (Option ℕ)). AreSteps c.args.filled.now.terrain l) (sym c.deref.ensures.value) c.in_ok-steps.ensures.steps);
+      steps = subst (λ (x : Raster). AreSteps x.terrain c.in_ok-steps.steps.items) same c.in_ok-steps.ensures.steps;
       cuts = subst (λ (x : Raster). Cuts c.joined-tiling.result x.terrain) same (c.joined-tiling.ensures c.args.filled.now.terrain c.requires);
     }
 
 pub new-requires : goal.new-requires
 new-requires g c =
     let t = c.args.filled.now.terrain in
-    let steps = c.in_ok-steps.steps.items in
+    let steps = c.of-told.result.value.items in
+    let stepped = subst (λ v. AreSteps t v.items) (sym c.of-told.ensures) c.in_ok-steps.ensures.steps in
     let codes = c.in_ok-codes.codes.items in
     let all = coded_map t c.joined-tiling.result codes (c.joined-tiling.ensures t c.requires) (subst (λ (x : Raster). IsMadeMap c.joined-tiling.result (IsCodeAt x.terrain) codes) c.grid-grid.ensures.value c.in_ok-codes.ensures.made) in
-    subst (λ (x : Raster). IsDraining (record { terrain = x.terrain; steps = steps; codes = codes })) (sym c.grid-grid.ensures.value) (are_draining t steps codes c.in_ok-steps.ensures.steps all)
+    subst (λ (x : Raster). IsDraining (record { terrain = x.terrain; steps = steps; codes = codes })) (sym c.grid-grid.ensures.value) (are_draining t steps codes stepped all)
 
 pub returns-clause-codes : goal.returns-clause-codes
 returns-clause-codes g c =
@@ -37,9 +38,10 @@ returns-clause-codes g c =
 pub returns-clause-ends : goal.returns-clause-ends
 returns-clause-ends g c =
     let t = c.args.filled.now.terrain in
-    let steps = c.in_ok-steps.steps.items in
+    let steps = c.of-told.result.value.items in
+    let stepped = subst (λ v. AreSteps t v.items) (sym c.of-told.ensures) c.in_ok-steps.ensures.steps in
     let codes = c.in_ok-codes.codes.items in
     let all = coded_map t c.joined-tiling.result codes (c.joined-tiling.ensures t c.requires) (subst (λ (x : Raster). IsMadeMap c.joined-tiling.result (IsCodeAt x.terrain) codes) c.grid-grid.ensures.value c.in_ok-codes.ensures.made) in
     let d : Drained = record { terrain = c.grid-grid.result.now.terrain; steps = steps; codes = codes } in
-    let draining = subst (λ (x : Raster). IsDraining (record { terrain = x.terrain; steps = steps; codes = codes })) (sym c.grid-grid.ensures.value) (are_draining t steps codes c.in_ok-steps.ensures.steps all) in
+    let draining = subst (λ (x : Raster). IsDraining (record { terrain = x.terrain; steps = steps; codes = codes })) (sym c.grid-grid.ensures.value) (are_draining t steps codes stepped all) in
     subst (λ (x : Drained). AllFlowEnds (directed_of x)) (sym c.new.ensures) (falling_ends d draining)

@@ -7,13 +7,15 @@ use Rattle.drain.proofs.looking.look.Goals as goal
 pub look_beside-requires-2-clause-list : goal.look_beside-requires-2-clause-list
 look_beside-requires-2-clause-list g c =
     let v = c.args.view.now in
+    let none = c.args.none in
     let b = c.bounds-bounds.result in
     let end : c.loop-row.row ≡ b.rows + 1 = omega arith in
-    subst (λ (n : ℕ). AreShownBelow {X = g.row.T.Denot} v.cutting.cols v.cutting.rows v.cells b (n * (b.cols + 2)) c.loop-row.list.items) end c.loop-row.invariant
+    subst (λ (n : ℕ). AreShownBelow {X = g.row.T.Denot} v.cutting.cols v.cutting.rows v.cells none b (n * (b.cols + 2)) c.loop-row.list.items) end c.loop-row.invariant
 
 pub returns : goal.returns
 returns g c =
     let v = c.args.view.now in
+    let none = c.args.none in
     let b = c.bounds-bounds.result in
-    shown_whole v.cutting.cols v.cutting.rows v.cells b (bounds_of v.cutting v.tile) ((b.rows + 1 + 1) * (b.cols + 2)) c.look_beside-2.new.list.items
+    shown_whole v.cutting.cols v.cutting.rows v.cells none b (bounds_of v.cutting v.tile) ((b.rows + 1 + 1) * (b.cols + 2)) c.look_beside-2.new.list.items
     c.bounds-bounds.ensures.value (omega arith) c.in_ok-look_beside-2.ensures

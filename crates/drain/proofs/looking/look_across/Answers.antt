@@ -1,4 +1,4 @@
-use Rattle.std.proofs.Common.{◌≡◌, ◌+◌, ◌*◌, ◌++◌, ◌∷◌, [], ℕ, List, Option, sym, ap, subst, ◌∙◌, arith}
+use Rattle.std.proofs.Common.{◌≡◌, ◌+◌, ◌*◌, ◌++◌, ◌∷◌, [], ℕ, List, sym, ap, subst, ◌∙◌, arith}
 use Rattle.terrain.proofs.Places.{make_place}
 use Rattle.tiles.specs.declared.bounds.Bounds.{Bounds}
 use Rattle.drain.specs.Window.{AreShownBelow, spot_index}
@@ -8,6 +8,7 @@ use Rattle.drain.proofs.looking.look_across.Goals as goal
 pub returns : goal.returns
 returns g c =
     let v = c.args.view.now in
+    let none = c.args.none in
     let b = c.args.bounds in
     let row = c.args.row in
     let old = c.args.list.now.items in
@@ -15,19 +16,19 @@ returns g c =
     let last = make_place row (b.cols + 1) in
     let entries = c.row.result.now in
     let start : spot_index b first ≡ row * (b.cols + 2) = omega arith in
-    let before = subst (λ (n : ℕ). AreShownBelow {X = g.row.T.Denot} v.cutting.cols v.cutting.rows v.cells b n old) (sym start) c.requires.list in
-    let one = shown_push v.cutting.cols v.cutting.rows v.cells b first old c.shown-first.result (omega (arith, c.requires.row), omega arith) before c.shown-first.ensures in
+    let before = subst (λ (n : ℕ). AreShownBelow {X = g.row.T.Denot} v.cutting.cols v.cutting.rows v.cells none b n old) (sym start) c.requires.list in
+    let one = shown_push v.cutting.cols v.cutting.rows v.cells none b first old c.shown-first.result (omega (arith, c.requires.row), omega arith) before c.shown-first.ensures in
     let next : spot_index b first + 1 ≡ row * (b.cols + 2) + 1 = omega arith in
-    let begun = subst (λ (n : ℕ). AreShownBelow {X = g.row.T.Denot} v.cutting.cols v.cutting.rows v.cells b n (old ++ c.shown-first.result ∷ [])) next one in
+    let begun = subst (λ (n : ℕ). AreShownBelow {X = g.row.T.Denot} v.cutting.cols v.cutting.rows v.cells none b n (old ++ c.shown-first.result ∷ [])) next one in
     let count = c.row.ensures.size ∙ ap (λ (z : Bounds). z.cols) (sym c.requires.bounds) in
-    let across = shown_row v b row (old ++ c.shown-first.result ∷ []) entries c.requires.bounds c.requires.inside c.requires.row.0 c.requires.row.1 c.row.ensures.value count begun in
+    let across = shown_row v none b row (old ++ c.shown-first.result ∷ []) entries c.requires.bounds c.requires.inside c.requires.row.0 c.requires.row.1 c.row.ensures.value count begun in
     let near : row * (b.cols + 2) + 1 + b.cols ≡ spot_index b last = omega arith in
-    let most = subst (λ (n : ℕ). AreShownBelow {X = g.row.T.Denot} v.cutting.cols v.cutting.rows v.cells b n ((old ++ c.shown-first.result ∷ []) ++ entries)) near across in
-    let all = shown_push v.cutting.cols v.cutting.rows v.cells b last ((old ++ c.shown-first.result ∷ []) ++ entries) c.shown-last.result (omega (arith, c.requires.row), omega arith) most c.shown-last.ensures in
+    let most = subst (λ (n : ℕ). AreShownBelow {X = g.row.T.Denot} v.cutting.cols v.cutting.rows v.cells none b n ((old ++ c.shown-first.result ∷ []) ++ entries)) near across in
+    let all = shown_push v.cutting.cols v.cutting.rows v.cells none b last ((old ++ c.shown-first.result ∷ []) ++ entries) c.shown-last.result (omega (arith, c.requires.row), omega arith) most c.shown-last.ensures in
     let end : spot_index b last + 1 ≡ (row + 1) * (b.cols + 2) = omega arith in
     let items : c.push-2.new.self.items ≡ ((old ++ c.shown-first.result ∷ []) ++ entries) ++ c.shown-last.result ∷ [] =
     c.in_ok-push-2.ensures.items
-    ∙ ap (λ (xs : List (Option g.row.T.Denot)). xs ++ c.shown-last.result ∷ [])
-    (c.in_ok-extend_from_slice.ensures.items ∙ ap (λ (xs : List (Option g.row.T.Denot)). xs ++ entries) c.in_ok-push.ensures.items) in
-    subst (λ (n : ℕ). AreShownBelow {X = g.row.T.Denot} v.cutting.cols v.cutting.rows v.cells b n c.push-2.new.self.items) end
-    (subst (λ (xs : List (Option g.row.T.Denot)). AreShownBelow v.cutting.cols v.cutting.rows v.cells b (spot_index b last + 1) xs) (sym items) all)
+    ∙ ap (λ (xs : List g.row.T.Denot). xs ++ c.shown-last.result ∷ [])
+    (c.in_ok-extend_from_slice.ensures.items ∙ ap (λ (xs : List g.row.T.Denot). xs ++ entries) c.in_ok-push.ensures.items) in
+    subst (λ (n : ℕ). AreShownBelow {X = g.row.T.Denot} v.cutting.cols v.cutting.rows v.cells none b n c.push-2.new.self.items) end
+    (subst (λ (xs : List g.row.T.Denot). AreShownBelow v.cutting.cols v.cutting.rows v.cells none b (spot_index b last + 1) xs) (sym items) all)

@@ -1,4 +1,4 @@
-use Rattle.std.proofs.Common.{◌≡◌, ◌+◌, ◌*◌, ℕ, List, Option, sym, subst, arith}
+use Rattle.std.proofs.Common.{◌≡◌, ◌+◌, ◌*◌, ℕ, List, sym, subst, arith}
 use Rattle.terrain.proofs.Places.{make_place}
 use Rattle.drain.specs.Window.{AreShownBelow, spot_index}
 use Rattle.drain.proofs.Spots.{shown_push}
@@ -7,10 +7,11 @@ use Rattle.drain.proofs.looking.look_beside.Goals as goal
 pub loop-col-preserved : goal.loop-col-preserved
 loop-col-preserved g c =
     let v = c.args.view.now in
+    let none = c.args.none in
     let b = c.args.bounds in
     let s = make_place c.args.row c.loop-col.col in
-    let more = shown_push v.cutting.cols v.cutting.rows v.cells b s c.loop-col.list.items c.shown.result
+    let more = shown_push v.cutting.cols v.cutting.rows v.cells none b s c.loop-col.list.items c.shown.result
     (c.requires.row, c.loop-col-test.true) c.loop-col.invariant c.shown.ensures in
     let next : spot_index b s + 1 ≡ c.args.row * (b.cols + 2) + (c.loop-col.col + 1) = omega arith in
-    subst (λ (n : ℕ). AreShownBelow {X = g.row.T.Denot} v.cutting.cols v.cutting.rows v.cells b n c.push.new.self.items) next
-    (subst (λ (xs : List (Option g.row.T.Denot)). AreShownBelow v.cutting.cols v.cutting.rows v.cells b (spot_index b s + 1) xs) (sym c.in_ok-push.ensures.items) more)
+    subst (λ (n : ℕ). AreShownBelow {X = g.row.T.Denot} v.cutting.cols v.cutting.rows v.cells none b n c.push.new.self.items) next
+    (subst (λ (xs : List g.row.T.Denot). AreShownBelow v.cutting.cols v.cutting.rows v.cells none b (spot_index b s + 1) xs) (sym c.in_ok-push.ensures.items) more)

@@ -42,4 +42,4 @@ returns-clause-graph g c =
       count = omega (arith, c.in_ok-parts.parts.ok.0, c.in_ok-parts.ensures.len, c.tiles-2.ensures.value);
       each = λ j d below. c.in_ok-parts.ensures.given j d (omega (arith, below, c.tiles-2.ensures.value));
     } in
-    rw c.of_parts.ensures (is_open_graph t k floods parts sources c.requires.floods.lawful c.requires.floods are (c.in_ok-sources.ensures.right t (sym c.sinks.ensures) c.requires.floods))
+    rw c.of_parts.ensures (is_open_graph t k floods parts sources c.requires.floods.lawful c.requires.floods are (c.in_ok-sources.ensures.right t (sym c.sinks.ensures.value) c.requires.floods))

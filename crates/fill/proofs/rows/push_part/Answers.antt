@@ -1,5 +1,6 @@
-use Rattle.std.proofs.Common.{◌+◌, ◌-◌, ◌*◌, ◌≤◌, ◌<◌, ◌∙◌, length, refl, subst, arith}
+use Rattle.std.proofs.Common.{◌+◌, ◌-◌, ◌*◌, ◌≤◌, ◌<◌, ◌∙◌, length, refl, ap, subst, arith}
 use Rattle.std.proofs.lemmas.Option.{slice_get_read}
+use Rattle.terrain.specs.StoredCells.{cell_of}
 use Rattle.fill.specs.Spills.{AreRaisedBelow}
 use Rattle.fill.proofs.Raised.{part_of_row, part_more}
 use Rattle.fill.proofs.rows.push_part.Goals as goal
@@ -70,7 +71,7 @@ loop-index-preserved c levels tiles before =
     let part = part_of_row c.args.tiling.now c.args.floods.now c.args.row c.args.col tile f c.bounds-top.result c.requires.lawful c.requires.fit c.requires.row c.requires.col c.tile_of-tile.ensures.number there c.bounds-top.ensures.value in
     let low : c.loop-index.index < length f.labels = omega (arith, part.3, c.loop-index-test.true) in
     rw c.in_ok-push.ensures.items (part_more c.args.tiling.now c.args.floods.now levels c.loop-index.cells.items c.args.row _ c.loop-index.index tile f c.bounds-top.result _ c.requires.lawful c.requires.fit c.tile_of-tile.ensures.below there part.0 part.1.0 part.1.1 refl
-    (omega (arith, c.loop-index.auto.index)) (omega (arith, c.loop-index-test.true)) (c.at.ensures ∙ by.each c.loop-index.index low) (c.loop-index.invariant levels tiles before))
+    (omega (arith, c.loop-index.auto.index)) (omega (arith, c.loop-index-test.true)) (c.at.ensures ∙ ap cell_of (by.each c.loop-index.index low)) (c.loop-index.invariant levels tiles before))
 
 pub returns-clause-more : goal.returns-clause-more
 returns-clause-more c =

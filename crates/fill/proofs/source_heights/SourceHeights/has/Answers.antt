@@ -8,12 +8,12 @@ returns-in-Some c =
     let s = c.self.inside in
     get_or_read c.deref.result.now c.args.node c.in-Some.mark.now c.in-Some.ensures.lookup.3.0 c.in-Some.ensures.lookup.1 false
     ∙ ap (λ (xs : List Bool). get_or xs c.args.node false) c.deref.ensures.value
-    ∙ sym (is_marked s.marks.items s.heights.items c.self.invariant c.args.node)
+    ∙ sym (is_marked s.marks.items s.cells.items c.args.node)
     ∙ ap (λ (xs : List (Option ℤ)). is_some (get_or xs c.args.node None)) c.self.view_is
 
 pub returns-in-None : goal.returns-in-None
 returns-in-None c =
     let s = c.self.inside in
     sym (get_or_past s.marks.items c.args.node false (rw c.deref.ensures.value at c.in-None.ensures.lookup.3))
-    ∙ sym (is_marked s.marks.items s.heights.items c.self.invariant c.args.node)
+    ∙ sym (is_marked s.marks.items s.cells.items c.args.node)
     ∙ ap (λ (xs : List (Option ℤ)). is_some (get_or xs c.args.node None)) c.self.view_is

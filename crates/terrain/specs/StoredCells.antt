@@ -1,0 +1,15 @@
+-- How a cell is stored.
+use Rattle.std.specs.Prelude.{ℤ, pos, Option, None, Some, if◌then◌else◌, option_and_then}
+use Rattle.std.specs.Ordering.{int_eq}
+
+-- Stands for a cell without data: above every height.
+abbrev pub no_data : ℤ
+no_data = pos 9223372036854775807
+
+-- The cell that is stored so.
+abbrev pub stored_cell : ℤ → Option ℤ
+stored_cell z = if int_eq z no_data then None else Some z
+
+-- The cell in which this height is stored, where there is one.
+abbrev pub cell_of : Option ℤ → Option ℤ
+cell_of height = option_and_then stored_cell height

@@ -1,0 +1,80 @@
+// The cells of a grid.
+ghost use Rattle.std.specs.Prelude.{◌≡◌, ◌↔◌, ◌≤ℤ◌, IsTrue, None, Some, unwrap_or};
+ghost use Rattle.terrain.specs.Raster.{highest};
+ghost use Rattle.terrain.specs.StoredCells.{stored_cell, no_data};
+
+use crate::place::Height;
+use std::marker::Model;
+
+/// Stands for the height of a cell without data: above every height.
+pub const NO_DATA: Height = Height::MAX;
+
+/// A cell of a grid: its height, or no data. It takes 8 bytes, where `Option<Height>` takes 16.
+#[derive(Clone, Copy, Debug, PartialEq, Eq)]
+pub struct Cell {
+    stored: Height,
+}
+
+impl Model for Cell {
+    ghost use Rattle.std.specs.Prelude.{ℤ, Option, unwrap_or};
+    ghost use Rattle.terrain.specs.StoredCells.{stored_cell, no_data};
+    ghost use Rattle.std.proofs.Common.{ap};
+    ghost use Rattle.terrain.specs.Stored.{stored_again};
+
+    ghost Value = { Option ℤ };
+
+    ghost view = { λ c. stored_cell c.stored };
+
+    ghost inverse = { λ o. record { stored = unwrap_or o no_data } };
+
+    ghost inverse_ok = { λ c _. ap (λ n. record { stored = n }) (stored_again c.stored) };
+}
+
+impl Cell {
+    /// A cell of this height; of [`NO_DATA`] it has no data.
+    #[inline(always)]
+    #[tactic(auto, using(crate::specs::Stored::stored_some))]
+    pub fn of(height: Height) -> Cell
+        ensures stored { result ≡ stored_cell height }
+        ensures height { height ≤ℤ highest → result ≡ Some height }
+    {
+        Cell { stored: height }
+    }
+
+    /// A cell without data.
+    #[inline(always)]
+    pub fn no_data() -> Cell
+        ensures { result ≡ None }
+    {
+        Cell { stored: NO_DATA }
+    }
+
+    /// The cell's height, None where it has no data.
+    #[inline(always)]
+    pub fn height(self) -> Option<Height>
+        ensures { result ≡ self }
+    {
+        if self.stored == NO_DATA {
+            None
+        } else {
+            Some(self.stored)
+        }
+    }
+
+    /// The cell's height, [`NO_DATA`] where it has no data.
+    #[inline(always)]
+    pub fn number(self) -> Height
+        ensures { result ≡ unwrap_or self no_data }
+    {
+        self.stored
+    }
+
+    /// Whether both cells have one height, or neither has data.
+    #[inline(always)]
+    #[tactic(auto, using(crate::specs::Stored::stored_injective))]
+    pub fn is_level_with(self, other: Cell) -> bool
+        ensures { IsTrue result ↔ (self ≡ other) }
+    {
+        other.stored == self.stored
+    }
+}
