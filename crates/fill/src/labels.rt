@@ -9,10 +9,6 @@ use std::alloc::{AllocError, Global};
 use terrain::Place;
 use tiles::Bounds;
 
-/// For so many entries there is room in a tile's lists from the start. It is more than a kilobyte: what is less may be
-/// kept for later by an allocator, and keep it from giving back the memory of all floods below.
-pub(crate) const FIRST_ROOM: usize = 128;
-
 /// The labels of the cells of a tile, each once, and for each cell which of them is its own.
 #[derive(Drop)]
 pub(crate) struct Labels {
@@ -81,7 +77,7 @@ fn index_of_label(
 fn empty_table(alloc: Global) -> Result<Vec<Option<Place>>, AllocError>
     ensures { IfOk result (λ v. v.items ≡ None ∷ []) }
 {
-    let mut places = Vec::with_capacity(alloc, FIRST_ROOM)?;
+    let mut places = Vec::new(alloc);
     places.push(None)?;
     Ok(places)
 }

@@ -8,7 +8,6 @@ ghost use Rattle.fill.specs.TileFlood.{LabelsInside, AreEqualAfter, IsInner};
 ghost use Rattle.fill.specs.Gathering.{Fit, Adds, AddsCovered, AddsAfter, AreGathered, AreLowest, are_settled, IsRepeat, joins_of, mark_with};
 ghost use Rattle.fill.specs.Parts.{AddsTurned, tile_of_node};
 
-use crate::labels::FIRST_ROOM;
 use crate::marks::{Mark, mark_at, mark_of_entry};
 use crate::source_heights::SourceHeights;
 use crate::spills::Join;
@@ -104,7 +103,7 @@ impl JoinTable {
         let slots = vec![in alloc; usize::MAX; FIRST_SLOTS]?;
         Ok(JoinTable {
             alloc,
-            joins: Vec::with_capacity(alloc, FIRST_ROOM)?,
+            joins: Vec::new(alloc),
             slots,
         })
     }
@@ -464,7 +463,7 @@ pub(crate) fn lowest_joins(alloc: Global, mut joins: Vec<Join>) -> Result<Vec<Jo
     ensures { IfOk result (λ v. AreLowest joins.items v.items) }
 {
     joins.sort_unstable();
-    let mut lowest = Vec::with_capacity(alloc, joins.len().max(FIRST_ROOM))?;
+    let mut lowest = Vec::with_capacity(alloc, joins.len())?;
     for index in 0..joins.len() {
         if is_repeat(&joins, index) {
             continue;

@@ -8,7 +8,6 @@ ghost use Rattle.fill.specs.Parts.{AreTileSources, AreAllSources};
 ghost use Rattle.terrain.specs.Raster.{Terrain};
 ghost use Rattle.fill.specs.Spills.{AreFloods, AreSourcesOf};
 
-use crate::labels::FIRST_ROOM;
 use crate::marks::{mark_at, node_of, source_at};
 use crate::source_heights::SourceHeights;
 use crate::tile::TileFlood;
@@ -82,7 +81,7 @@ pub(crate) fn tile_sources(
     requires tile { tile < tile_count tiling.now }
     ensures { IfOk result (λ sources. AreTileSources tiling.now floods.now tile sources) }
 {
-    let mut sources = Vec::with_capacity(alloc, FIRST_ROOM)?;
+    let mut sources = Vec::new(alloc);
     let labels = floods[tile as usize].labels();
     push_sources(&mut sources, tiling, floods, tile, &labels.places)?;
     Ok(TileSources { list: sources })

@@ -1,11 +1,10 @@
 -- Lists of heights, some of which are lacking.
-use Rattle.std.proofs.Common.{◌≡◌, ℕ, zero, suc, ◌+◌, ◌-◌, ◌<◌, ◌≤◌, ◌≤ℤ◌, ◌<ℤ◌, ℤ, pos, Bool, true, false, if◌then◌else◌, List, [], ◌∷◌, ◌++◌, length, get_or, map, set, take, drop, slice_range, ext_get_or, ◌⊎◌, replicate, unwrap_or, append_assoc, T, Option, None, Some, is_some, ◌∙◌, sym, ap, refl, arith, inl, inr, subst}
+use Rattle.std.proofs.Common.{◌≡◌, ℕ, zero, suc, ◌+◌, ◌-◌, ◌<◌, ◌≤◌, ◌≤ℤ◌, ◌<ℤ◌, ℤ, pos, Bool, true, false, if◌then◌else◌, List, [], ◌∷◌, length, get_or, map, set, drop, slice_range, ext_get_or, ◌⊎◌, replicate, T, Option, None, Some, IsSome, is_some, ◌∙◌, sym, ap, refl, arith, inl, inr, subst}
 use Rattle.std.specs.Int.Signed.{le_z, lt_z}
 use Rattle.std.proofs.lemmas.Int.{ints}
 use Rattle.std.proofs.lemmas.Float.{T_from_true}
-use Rattle.std.proofs.lemmas.Bool.{cases_eq, cases_lt}
 use Rattle.std.proofs.lemmas.Option.{same_Some}
-use Rattle.std.proofs.lemmas.List.{length-map, get_or-map, length-set, length_push, length-replicate, get_or-replicate, get_or-set_same, get_or-set_other, get_or_append_left, get_or_push, get_or-take, get_or-drop, length-take-le, length-drop, take_more, replicate-append-replicate}
+use Rattle.std.proofs.lemmas.List.{length-map, get_or-map, get_or-take, get_or-drop, length-take-le, length-drop}
 use Rattle.std.specs.List.{EachIndex}
 use Rattle.floods.specs.Notes.{AreHeights, heights_where, height_or_lack, lack, AreAllThere}
 
@@ -27,47 +26,9 @@ where-set (t ∷ there) [] i h e = absurd (omega (arith, e))
 where-set (t ∷ there) (x ∷ heights) zero h e = refl
 where-set (t ∷ there) (x ∷ heights) (suc i) h e = ap (λ z. (if t then Some x else None) ∷ z) (where-set there heights i h (omega (arith, e)))
 
-pub where-push : (there : List Bool) (heights : List ℤ) (t : Bool) (h : ℤ) → length there ≡ length heights → heights_where (there ++ t ∷ []) (heights ++ h ∷ []) ≡ heights_where there heights ++ (if t then Some h else None) ∷ []
-where-push [] [] t h e = refl
-where-push [] (x ∷ heights) t h e = absurd (omega (arith, e))
-where-push (b ∷ there) [] t h e = absurd (omega (arith, e))
-where-push (b ∷ there) (x ∷ heights) t h e = ap (λ z. (if b then Some x else None) ∷ z) (where-push there heights t h (omega (arith, e)))
-
 pub where-lacking : (n : ℕ) (h : ℤ) → heights_where (replicate n false) (replicate n h) ≡ replicate n None
 where-lacking zero h = refl
 where-lacking (suc n) h = ap (λ z. None ∷ z) (where-lacking n h)
-
-pub lacking_are : (n : ℕ) → AreHeights (replicate n lack) (replicate n false)
-lacking_are n = record {
-  size = length-replicate n false ∙ sym (length-replicate n lack);
-  lacks = λ i below _. get_or-replicate n i lack (pos 0) (omega (arith, below, length-replicate n lack));
-}
-
--- an entry put in the place of another
-pub put_are : (heights : List ℤ) (there : List Bool) (i : ℕ) (h : ℤ) → i < length heights → AreHeights heights there → AreHeights (set heights i h) (set there i true)
-put_are heights there i h inside are = record {
-  size = length-set there i true ∙ are.size ∙ sym (length-set heights i h);
-  lacks = λ k below none. elim (cases_eq k i) [
-    | inl same ↦
-        let is : get_or (set there i true) k false ≡ true = ap (λ n. get_or (set there i true) n false) same ∙ get_or-set_same there i true false (omega (arith, inside, are.size)) in
-        absurd (cc)
-    | inr other ↦ get_or-set_other heights i k h (pos 0) other ∙ are.lacks k (omega (arith, below, length-set heights i h)) (sym (get_or-set_other there i k true false other) ∙ none)
-  ];
-}
-
--- an entry at the end
-pub push_are : (heights : List ℤ) (there : List Bool) (t : Bool) (h : ℤ) → (t ≡ false → h ≡ lack) → AreHeights heights there → AreHeights (heights ++ h ∷ []) (there ++ t ∷ [])
-push_are heights there t h last are = record {
-  size = omega (arith, length_push there t, are.size, length_push heights h);
-  lacks = λ k below none. elim (cases_lt k (length heights)) [
-    | inl low ↦
-        get_or_append_left heights (h ∷ []) (pos 0) k low
-        ∙ are.lacks k low (sym (get_or_append_left there (t ∷ []) false k (omega (arith, low, are.size))) ∙ none)
-    | inr past ↦
-        let at : k ≡ length heights = omega (arith, past, below, length_push heights h) in
-        get_or_push heights h (pos 0) k (sym at) ∙ last (sym (get_or_push there t false k (are.size ∙ sym at)) ∙ none)
-  ];
-}
 
 -- what stands at an entry that is there, and at one that is not
 pub there_at : (heights : List ℤ) (there : List Bool) (i : ℕ) → AreHeights heights there → get_or there i false ≡ true → get_or (heights_where there heights) i None ≡ Some (get_or heights i (pos 0))
@@ -83,31 +44,25 @@ is_there false x = refl
 pub there_is : (heights : List ℤ) (there : List Bool) (i : ℕ) → AreHeights heights there → get_or there i false ≡ is_some (get_or (heights_where there heights) i None)
 there_is heights there i are = is_there (get_or there i false) (get_or heights i (pos 0)) ∙ ap is_some (sym (where-at there heights i are.size))
 
--- whether an entry of a part is there
-part_at : (there : List Bool) (heights : List ℤ) (seen : List (Option ℤ)) (first count index : ℕ) → AreHeights heights there → heights_where there heights ≡ seen → index < count → get_or (slice_range there first (first + count)) index false ≡ is_some (get_or seen (first + index) None)
-part_at there heights seen first count index are view below =
-    get_or-take (first + count - first) (drop first there) index false (omega (arith, below))
-    ∙ get_or-drop first there index false
-    ∙ there_is heights there (first + index) are
-    ∙ ap (λ (l : List (Option ℤ)). is_some (get_or l (first + index) None)) view
+-- an entry of a part
+part_at : (entries : List (Option ℤ)) (first count index : ℕ) → index < count → get_or (slice_range entries first (first + count)) index None ≡ get_or entries (first + index) None
+part_at entries first count index below = get_or-take (first + count - first) (drop first entries) index None (omega (arith, below)) ∙ get_or-drop first entries index None
 
-part_length : (there : List Bool) (first count : ℕ) → first + count ≤ length there → length (slice_range there first (first + count)) ≡ count
-part_length there first count inside =
-    length-take-le (first + count - first) (drop first there) (omega (arith, inside, length-drop first there)) ∙ omega arith
+part_length : (entries : List (Option ℤ)) (first count : ℕ) → first + count ≤ length entries → length (slice_range entries first (first + count)) ≡ count
+part_length entries first count inside =
+    length-take-le (first + count - first) (drop first entries) (omega (arith, inside, length-drop first entries)) ∙ omega arith
 
 -- a part all of whose entries are there
-pub part_there : (there : List Bool) (heights : List ℤ) (seen : List (Option ℤ)) (first count : ℕ) → AreHeights heights there → heights_where there heights ≡ seen → first + count ≤ length there → EachIndex (slice_range there first (first + count)) (λ k. get_or (slice_range there first (first + count)) k false ≡ true) → AreAllThere seen first (first + count)
-part_there there heights seen first count are view inside all index from below =
+pub part_there : (entries : List (Option ℤ)) (first count : ℕ) → first + count ≤ length entries → EachIndex (slice_range entries first (first + count)) (λ k. IsSome (get_or (slice_range entries first (first + count)) k None)) → AreAllThere entries first (first + count)
+part_there entries first count inside all index from below =
     let at : index ≡ first + (index - first) = omega (arith, from) in
-    let low : index - first < length (slice_range there first (first + count)) = omega (arith, from, below, part_length there first count inside) in
-    ap (λ k. is_some (get_or seen k None)) at
-    ∙ sym (part_at there heights seen first count (index - first) are view (omega (arith, from, below)))
-    ∙ all (index - first) low
+    let low : index - first < length (slice_range entries first (first + count)) = omega (arith, from, below, part_length entries first count inside) in
+    subst (λ (o : Option ℤ). IsSome o) (part_at entries first count (index - first) (omega (arith, from, below)) ∙ ap (λ k. get_or entries k None) (sym at)) (all (index - first) low)
 
-pub there_part : (there : List Bool) (heights : List ℤ) (seen : List (Option ℤ)) (first count : ℕ) → AreHeights heights there → heights_where there heights ≡ seen → first + count ≤ length there → AreAllThere seen first (first + count) → EachIndex (slice_range there first (first + count)) (λ k. get_or (slice_range there first (first + count)) k false ≡ true)
-there_part there heights seen first count are view inside all index below =
-    let low : index < count = omega (arith, below, part_length there first count inside) in
-    part_at there heights seen first count index are view low ∙ all (first + index) (omega arith) (omega (arith, low))
+pub there_part : (entries : List (Option ℤ)) (first count : ℕ) → first + count ≤ length entries → AreAllThere entries first (first + count) → EachIndex (slice_range entries first (first + count)) (λ k. IsSome (get_or (slice_range entries first (first + count)) k None))
+there_part entries first count inside all index below =
+    let low : index < count = omega (arith, below, part_length entries first count inside) in
+    subst (λ (o : Option ℤ). IsSome o) (sym (part_at entries first count index low)) (all (first + index) (omega arith) (omega (arith, low)))
 
 -- the number of an entry that is there
 from_some : (b : Bool) (x h : ℤ) → (if b then Some x else None) ≡ Some h → x ≡ h
@@ -148,33 +103,6 @@ pub below_no : (a b : ℤ) → lt_z a b ≡ true → b ≤ℤ a → ⊥
 below_no a b e h = omega (arith, ints, less, h) where
   less : a <ℤ b
   less = record { lt = T_from_true _ e }
-
-entry_back : (e : Option ℤ) (t : Bool) (h : ℤ) → t ≡ is_some e → h ≡ unwrap_or e lack → (if t then Some h else None) ≡ e
-entry_back None t h there value = ap (λ b. if b then Some h else None) there
-entry_back (Some x) t h there value = ap (λ b. if b then Some h else None) there ∙ ap Some value
-
-entry_lack : (e : Option ℤ) (t : Bool) (h : ℤ) → t ≡ is_some e → h ≡ unwrap_or e lack → t ≡ false → h ≡ lack
-entry_lack None t h there value lost = value
-entry_lack (Some x) t h there value lost = absurd (cc)
-
--- one more entry of a list
-pub one_more : (heights : List ℤ) (there : List Bool) (seen entries : List (Option ℤ)) (i : ℕ) (t : Bool) (h : ℤ) → i < length entries → AreHeights heights there → heights_where there heights ≡ seen ++ take i entries → t ≡ is_some (get_or entries i None) → h ≡ unwrap_or (get_or entries i None) lack
-    → AreHeights (heights ++ h ∷ []) (there ++ t ∷ []) × (heights_where (there ++ t ∷ []) (heights ++ h ∷ []) ≡ seen ++ take (i + 1) entries)
-one_more heights there seen entries i t h below are list is value = (
-  push_are heights there t h (entry_lack (get_or entries i None) t h is value) are,
-  where-push there heights t h are.size ∙ ap (λ (z : List (Option ℤ)). z ++ (if t then Some h else None) ∷ []) list
-      ∙ append_assoc seen (take i entries) ((if t then Some h else None) ∷ [])
-      ∙ ap (λ z. seen ++ z) (ap (λ z. take i entries ++ z ∷ []) (entry_back (get_or entries i None) t h is value) ∙ sym (take_more entries i None below)),
-)
-
--- one more that is lacking
-pub one_lacking : (heights : List ℤ) (there : List Bool) (seen : List (Option ℤ)) (i : ℕ) → AreHeights heights there → heights_where there heights ≡ seen ++ replicate i None
-    → AreHeights (heights ++ lack ∷ []) (there ++ false ∷ []) × (heights_where (there ++ false ∷ []) (heights ++ lack ∷ []) ≡ seen ++ replicate (i + 1) None)
-one_lacking heights there seen i are list = (
-  push_are heights there false lack (λ _. refl) are,
-  where-push there heights false lack are.size ∙ ap (λ (z : List (Option ℤ)). z ++ None ∷ []) list
-      ∙ append_assoc seen (replicate i None) (None ∷ []) ∙ ap (λ z. seen ++ z) (replicate-append-replicate i 1 None),
-)
 
 -- how all entries stand
 pub stand : (heights : List ℤ) (there : List Bool) → AreHeights heights there → heights ≡ map height_or_lack (heights_where there heights)

@@ -1,10 +1,11 @@
 // A rectangle of cells as a net.
-ghost use Rattle.std.specs.Prelude.{◌≡◌, None, ◌+◌, ◌-◌, ◌*◌, ◌^◌, ◌<◌, ◌≤◌, ◌∷◌, ◌++◌, [], ℕ, ℤ, length, All, IfOk, IfSome, OnOk, is_none, slice_index_or, replicate};
+ghost use Rattle.std.specs.Prelude.{◌≡◌, None, ◌+◌, ◌-◌, ◌*◌, ◌^◌, ◌<◌, ◌≤◌, ◌∷◌, ◌++◌, ◌↔◌, [], ℕ, ℤ, EachIndex, IsSome, IsTrue, length, All, IfOk, IfSome, OnOk, is_none, slice_index_or, replicate};
 ghost use Rattle.std.specs.List.{list_any, filter_map, cons_option};
 ghost use Rattle.std.specs.Bool.{OnTrue};
 ghost use Rattle.floods.specs.Walk.{HasNoSource};
 ghost use Rattle.floods.specs.Flood.{waiting_in, InOrder, Follows, AreNoted};
 ghost use Rattle.terrain.specs.Sinks.{with_sinks};
+ghost use Rattle.floods.specs.Notes.{AreAllThere};
 ghost use Rattle.floods.specs.Cells.{Cells, cells_around, way_to, whole, IsNetOf, IsCellJoin, source_of, bordered_rows, inner_rows, row_of};
 ghost use Rattle.tiles.specs.Cutting.{bounds_of, row_shown, terrain_of};
 
@@ -26,7 +27,7 @@ use tiles::{Bounds, TileView};
 #[derive(Drop)]
 pub struct CellNet {
     stride: u32,
-    cells: HeightList,
+    cells: Vec<Cell>,
     sinks: Vec<bool>,
 }
 
@@ -35,9 +36,9 @@ impl Model for CellNet {
 
     ghost Value = { Cells };
 
-    ghost view = { λ n. record { stride = n.stride; cells = n.cells; sinks = n.sinks.items } };
+    ghost view = { λ n. record { stride = n.stride; cells = n.cells.items; sinks = n.sinks.items } };
 
-    ghost invariant = { λ n. IsBordered (record { stride = n.stride; cells = n.cells; sinks = n.sinks.items }) };
+    ghost invariant = { λ n. IsBordered (record { stride = n.stride; cells = n.cells.items; sinks = n.sinks.items }) };
 }
 
 /// So many cells of a row at a time are passed over where they and all cells around them have data.
@@ -64,22 +65,31 @@ fn around(stride: u32, node: u32) -> [u32; 8]
     ]
 }
 
+/// Whether a cell has no data.
+#[inline(always)]
+fn is_gap(cells: &[Cell], node: u32) -> bool
+    requires { node < length cells.now }
+    ensures { result ≡ is_none (slice_index_or cells.now node None) }
+{
+    cells[node as usize].height().is_none()
+}
+
 /// Whether one of these cells has no data.
 #[inline(always)]
-fn any_gap(cells: &HeightList, around: &[u32; 8]) -> bool
+fn any_gap(cells: &[Cell], around: &[u32; 8]) -> bool
     requires { All (λ b. b < length cells.now) around.now }
     ensures { result ≡ list_any (λ b. is_none (slice_index_or cells.now b None)) around.now }
 {
-    around.iter().any(|&node| !cells.has(node))
+    around.iter().any(|&node| is_gap(cells, node))
 }
 
 /// The way from a cell of this height to another one, where that has data.
 #[inline(always)]
-fn way_to(cells: &HeightList, height: Height, to: u32) -> Option<Spill>
+fn way_to(cells: &[Cell], height: Height, to: u32) -> Option<Spill>
     requires { to < length cells.now }
     ensures { result ≡ way_to cells.now height to }
 {
-    let other = cells.at(to as usize)?;
+    let other = cells[to as usize].height()?;
     Some(Spill {
         to,
         height: other.max(height),
@@ -87,12 +97,7 @@ fn way_to(cells: &HeightList, height: Height, to: u32) -> Option<Spill>
 }
 
 /// The ways from a cell of this height to those of the cells around it that have data.
-fn ways_to(
-    alloc: Global,
-    cells: &HeightList,
-    height: Height,
-    around: [u32; 8],
-) -> SmallVec<Spill, 8>
+fn ways_to(alloc: Global, cells: &[Cell], height: Height, around: [u32; 8]) -> SmallVec<Spill, 8>
     requires { All (λ b. b < length cells.now) around }
     ensures { result.items ≡ filter_map (way_to cells.now height) around }
 {
@@ -109,7 +114,7 @@ fn ways_to(
 #[inline(always)]
 fn push_cell(
     waits: &mut Waits,
-    cells: &HeightList,
+    cells: &[Cell],
     to: u32,
     height: Height,
     from: &Waiting,
@@ -124,7 +129,8 @@ fn push_cell(
 {
     // Most cells around have been noted no higher, which needs no look at whether they have data.
     let Reverse(level) = from.height;
-    if levels.is_no_higher(to, cells.raised(to, height.max(level))) {
+    let crest = cells[to as usize].number().max(height.max(level));
+    if levels.is_no_higher(to, crest) {
         return Ok(());
     }
     let Some(way) = way_to(cells, height, to) else {
@@ -137,7 +143,7 @@ fn push_cell(
 #[inline(always)]
 fn push_around(
     waits: &mut Waits,
-    cells: &HeightList,
+    cells: &[Cell],
     around: [u32; 8],
     height: Height,
     from: &Waiting,
@@ -156,6 +162,23 @@ fn push_around(
     Ok(())
 }
 
+/// Whether all of these cells have data.
+#[inline(always)]
+fn have_data(cells: &[Cell]) -> bool
+    ensures { IsTrue result ↔ EachIndex cells.now (λ k. IsSome (slice_index_or cells.now k None)) }
+{
+    cells.iter().all(|cell| cell.height().is_some())
+}
+
+/// Whether so many cells from a first one on have data.
+#[inline(always)]
+fn are_there(cells: &[Cell], first: usize, count: usize) -> bool
+    requires { first + count ≤ length cells.now }
+    ensures { IsTrue result ↔ AreAllThere cells.now first (first + count) }
+{
+    have_data(&cells[first..first + count])
+}
+
 impl CellNet {
     /// Whether the cells of a run from this one on and all cells around them have data, in a net
     /// without sinks: then none of the run is a source.
@@ -171,9 +194,9 @@ impl CellNet {
         self.sinks.is_empty()
             && stride < first
             && first + stride + count <= self.cells.len() + 1
-            && self.cells.all_there(first - stride - 1, count)
-            && self.cells.all_there(first - 1, count)
-            && self.cells.all_there(first + stride - 1, count)
+            && are_there(&self.cells, first - stride - 1, count)
+            && are_there(&self.cells, first - 1, count)
+            && are_there(&self.cells, first + stride - 1, count)
     }
 }
 
@@ -199,7 +222,7 @@ impl Net for CellNet {
 
     #[inline]
     fn neighbours(&self, alloc: Global, node: u32) -> Result<SmallVec<Spill, 8>, NoMemory> {
-        let Some(height) = self.cells.at(node as usize) else {
+        let Some(height) = self.cells[node as usize].height() else {
             return Ok(SmallVec::new(alloc));
         };
         Ok(ways_to(alloc, &self.cells, height, around(self.stride, node)))
@@ -214,7 +237,7 @@ impl Net for CellNet {
         labels: &NodeLabels,
         levels: &mut HeightList,
     ) -> Result<(), NoMemory> {
-        let Some(height) = self.cells.at(from.node as usize) else {
+        let Some(height) = self.cells[from.node as usize].height() else {
             return Ok(());
         };
         push_around(
@@ -231,7 +254,7 @@ impl Net for CellNet {
 
     #[inline]
     fn source(&self, node: u32) -> Option<Height> {
-        let height = self.cells.at(node as usize)?;
+        let height = self.cells[node as usize].height()?;
         if any_gap(&self.cells, &around(self.stride, node)) || is_sink(&self.sinks, node) {
             Some(height)
         } else {
@@ -250,45 +273,60 @@ impl Net for CellNet {
     }
 }
 
-/// The list with a row more, which has a cell without data at either end.
-#[inline]
-fn with_row(cells: HeightList, row: &[Cell]) -> Result<HeightList, AllocError>
-    ensures { IfOk result (λ list. list ≡ cells ++ (None ∷ row.now ++ None ∷ [])) }
+/// Adds so many cells without data.
+fn push_gaps(list: &mut Vec<Cell>, count: usize) -> Result<(), AllocError>
+    ensures { OnOk result (list.new.items ≡ list.old.items ++ replicate count None) }
 {
-    cells.with_lacking(1)?.with(row)?.with_lacking(1)
+    for _ in 0..count {
+        list.push(Cell::no_data())?;
+    }
+    Ok(())
+}
+
+/// Adds a row, with a cell without data at either end.
+#[inline]
+fn push_row(list: &mut Vec<Cell>, row: &[Cell]) -> Result<(), AllocError>
+    ensures { OnOk result (list.new.items ≡ list.old.items ++ (None ∷ row.now ++ None ∷ [])) }
+{
+    list.push(Cell::no_data())?;
+    list.extend_from_slice(row)?;
+    list.push(Cell::no_data())?;
+    Ok(())
 }
 
 /// The rows of a list in row order, with a border.
-fn bordered(alloc: Global, cells: &[Cell], cols: u32, rows: u32) -> Result<HeightList, AllocError>
+fn bordered(alloc: Global, cells: &[Cell], cols: u32, rows: u32) -> Result<Vec<Cell>, AllocError>
     requires size { length cells.now ≡ cols * rows }
     requires few_cols { cols ≤ 4096 }
     requires few_rows { rows ≤ 4096 }
-    ensures { IfOk result (λ v. v ≡ bordered_rows (row_of cols cells.now) (cols + 2) rows) }
+    ensures { IfOk result (λ v. v.items ≡ bordered_rows (row_of cols cells.now) (cols + 2) rows) }
 {
     let width = cols as usize;
     let stride = width + 2;
-    let empty = HeightList::with_capacity(alloc, (rows as usize + 2) * stride)?;
-    let mut list = empty.with_lacking(stride)?;
+    let mut list = Vec::with_capacity(alloc, (rows as usize + 2) * stride)?;
+    push_gaps(&mut list, stride)?;
     for row in 0..rows {
         let start = row as usize * width;
-        list = with_row(list, &cells[start..start + width])?;
+        push_row(&mut list, &cells[start..start + width])?;
     }
-    list.with_lacking(stride)
+    push_gaps(&mut list, stride)?;
+    Ok(list)
 }
 
 /// The rows of a tile, with a border.
-fn bordered_tile(alloc: Global, view: &TileView<'_, Cell>) -> Result<HeightList, AllocError>
+fn bordered_tile(alloc: Global, view: &TileView<'_, Cell>) -> Result<Vec<Cell>, AllocError>
     ensures { let b = bounds_of view.now.cutting view.now.tile in
-        IfOk result (λ v. v ≡ bordered_rows (row_shown view.now) (b.cols + 2) b.rows) }
+        IfOk result (λ v. v.items ≡ bordered_rows (row_shown view.now) (b.cols + 2) b.rows) }
 {
     let Bounds { rows, cols, .. } = view.bounds();
     let stride = cols as usize + 2;
-    let empty = HeightList::with_capacity(alloc, (rows as usize + 2) * stride)?;
-    let mut list = empty.with_lacking(stride)?;
+    let mut list = Vec::with_capacity(alloc, (rows as usize + 2) * stride)?;
+    push_gaps(&mut list, stride)?;
     for row in 0..rows {
-        list = with_row(list, view.row(row))?;
+        push_row(&mut list, view.row(row))?;
     }
-    list.with_lacking(stride)
+    push_gaps(&mut list, stride)?;
+    Ok(list)
 }
 
 impl CellNet {

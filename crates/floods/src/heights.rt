@@ -1,11 +1,10 @@
 // Lists of heights, some of which are lacking.
-ghost use Rattle.std.specs.Prelude.{◌≡◌, ◌↔◌, ◌+◌, ◌<◌, ◌≤◌, ◌≤ℤ◌, ◌∷◌, [], ◌++◌, ℕ, ℤ, pos, IsTrue, EachIndex, false, true, IfOk, OnOk, None, Some, length, map, replicate, set, slice_index_or, is_some};
-ghost use Rattle.std.specs.Int.{int_max};
-ghost use Rattle.floods.specs.Notes.{AreHeights, heights_where, height_or_lack, AreAllThere};
+ghost use Rattle.std.specs.Prelude.{◌≡◌, ◌↔◌, ◌<◌, ◌≤ℤ◌, ℤ, IsTrue, IfOk, None, Some, length, map, replicate, set, slice_index_or};
+ghost use Rattle.floods.specs.Notes.{AreHeights, height_or_lack};
 
 use std::alloc::{AllocError, Global};
 use std::marker::Model;
-use terrain::{Cell, Height};
+use terrain::Height;
 
 /// Stands for a height that is lacking, so that one comparison tells most entries that are not above a height.
 const LACK: Height = Height::MAX;
@@ -29,24 +28,7 @@ impl Model for HeightList {
     ghost view = { λ l. heights_where l.there.items l.heights.items };
 }
 
-/// Whether all of a list are true.
-#[inline(always)]
-fn are_true(list: &[bool]) -> bool
-    ensures { IsTrue result ↔ EachIndex list.now (λ k. slice_index_or list.now k false ≡ true) }
-{
-    list.iter().all(|one| *one)
-}
-
 impl HeightList {
-    /// An empty list with room for so many entries.
-    pub(crate) fn with_capacity(alloc: Global, count: usize) -> Result<Self, AllocError>
-        ensures { IfOk result (λ l. l ≡ []) }
-    {
-        let heights = Vec::with_capacity(alloc, count)?;
-        let there = Vec::with_capacity(alloc, count)?;
-        Ok(HeightList { heights, there })
-    }
-
     /// So many entries, all of them lacking.
     pub(crate) fn lacking(alloc: Global, count: usize) -> Result<Self, AllocError>
         ensures { IfOk result (λ l. l ≡ replicate count None) }
@@ -56,60 +38,11 @@ impl HeightList {
         Ok(HeightList { heights, there })
     }
 
-    /// The list with the heights of these cells at its end.
-    pub(crate) fn with(self, cells: &[Cell]) -> Result<Self, AllocError>
-        ensures { IfOk result (λ l. l ≡ self ++ cells.now) }
-    {
-        let HeightList {
-            mut heights,
-            mut there,
-        } = self;
-        for cell in cells {
-            let height = cell.height();
-            heights.push(height.unwrap_or(LACK))?;
-            there.push(height.is_some())?;
-        }
-        Ok(HeightList { heights, there })
-    }
-
-    /// The list with so many entries at its end that are lacking.
-    pub(crate) fn with_lacking(self, count: usize) -> Result<Self, AllocError>
-        ensures { IfOk result (λ l. l ≡ self ++ replicate count None) }
-    {
-        let HeightList {
-            mut heights,
-            mut there,
-        } = self;
-        for _ in 0..count {
-            heights.push(LACK)?;
-            there.push(false)?;
-        }
-        Ok(HeightList { heights, there })
-    }
-
     #[inline(always)]
     pub(crate) fn len(&self) -> usize
         ensures { result ≡ length self.now }
     {
         self.heights.len()
-    }
-
-    /// Whether an entry is there.
-    #[inline(always)]
-    pub(crate) fn has(&self, index: u32) -> bool
-        requires { index < length self.now }
-        ensures { result ≡ is_some (slice_index_or self.now index None) }
-    {
-        self.there[index as usize]
-    }
-
-    /// Whether all of so many entries from a first one on are there.
-    #[inline(always)]
-    pub(crate) fn all_there(&self, first: usize, count: usize) -> bool
-        requires { first + count ≤ length self.now }
-        ensures { IsTrue result ↔ AreAllThere self.now first (first + count) }
-    {
-        are_true(&self.there[first..first + count])
     }
 
     /// An entry.
@@ -123,15 +56,6 @@ impl HeightList {
         } else {
             None
         }
-    }
-
-    /// The greater of an entry and a height. Of an entry that is lacking it tells nothing.
-    #[inline(always)]
-    pub(crate) fn raised(&self, index: u32, height: Height) -> Height
-        requires { index < length self.now }
-        ensures { (h : ℤ) → slice_index_or self.now index None ≡ Some h → result ≡ int_max h height }
-    {
-        self.heights[index as usize].max(height)
     }
 
     /// Whether an entry is there and not above a height.

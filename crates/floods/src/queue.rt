@@ -79,13 +79,12 @@ impl Waits {
         ensures none { IfOk result (λ w. HasNone (waiting_in w)) }
     {
         let lists = empty_lists(alloc, MOST_LEVELS.min(nodes / NODES_A_LEVEL))?;
-        let others = BinaryHeap::with_capacity(alloc, FIRST_ROOM)?;
         Ok(Waits {
             base: 0,
             first: lists.len(),
             end: 0,
             lists,
-            others,
+            others: BinaryHeap::new(alloc),
         })
     }
 

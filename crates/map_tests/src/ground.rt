@@ -57,12 +57,6 @@ pub(crate) fn expect_cells(
     rows: u32,
     heights: &str,
 ) {
-    expect_heights(
-        rt,
-        alloc,
-        &heights_of(rt, alloc, cells),
-        cols,
-        rows,
-        heights,
-    );
+    let wanted = land(rt, alloc, cols, rows, heights);
+    assert_eq!(rt; cells, wanted.cells());
 }

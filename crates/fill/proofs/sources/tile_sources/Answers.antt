@@ -19,4 +19,4 @@ returns c =
     let there = slice_get_read floods (length floods) c.args.tile f refl (omega (arith, c.requires.fit.count, c.requires.tile)) c.index-floods-tile.is in
     tile_listed c.args.tiling.now floods c.args.tile f labels.places.items _ _ c.requires.fit there
     (table_lists f labels.places.items labels.cells.items c.labels-labels.ensures.labels)
-    (rw (c.deref.ensures.value, c.in_ok-sources.ensures.items) at c.in_ok-push_sources.ensures)
+    (rw (c.deref.ensures.value, c.new-sources.ensures.items) at c.in_ok-push_sources.ensures)

@@ -3,4 +3,4 @@ use Rattle.floods.specs.Cells.{first_rows, row_of}
 use Rattle.floods.proofs.cell_net.bordered.Given as goal
 
 abbrev pub invariant-loop-row : goal.invariant-loop-row
-invariant-loop-row l = l.list ≡ first_rows (row_of l.cols l.cells) (l.cols + 2) l.row
+invariant-loop-row l = l.list.items ≡ first_rows (row_of l.cols l.cells) (l.cols + 2) l.row

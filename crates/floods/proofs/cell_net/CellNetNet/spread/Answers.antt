@@ -2,6 +2,7 @@ use Rattle.std.proofs.Common.{rules, ◌≡◌, ◌<◌, ◌∙◌, sym, ap, Som
 use Rattle.floods.specs.Cells.{Cells}
 use mir.Val.{SFits}
 use Rattle.std.proofs.lemmas.Int.{to_z-of_z}
+use Rattle.std.proofs.lemmas.List.{get_or_read}
 use Rattle.terrain.proofs.Heights.{height_width}
 use Rattle.floods.proofs.CellWays.{just_ways, no_ways}
 use Rattle.floods.proofs.Noting.{none_followed}
@@ -9,15 +10,15 @@ use Rattle.floods.proofs.cell_net.CellNetNet.spread.Goals as goal
 
 pub returns-in_default : goal.returns-in_default
 returns-in_default c =
-    let none : get_or c.args.self.now.cells c.args.from.now.node None ≡ None = ap (λ (n : Cells). get_or n.cells c.args.from.now.node None) (sym c.self.view_is) ∙ sym c.at.ensures ∙ c.in_default.is in
+    let none : get_or c.args.self.now.cells c.args.from.now.node None ≡ None = ap (λ (n : Cells). get_or n.cells c.args.from.now.node None) (sym c.self.view_is) ∙ sym (get_or_read c.self.inside.cells.items c.args.from.now.node c.index.result.now (search rules) c.index.ensures None) ∙ sym c.height.ensures ∙ c.in_default.is in
     ([], no_ways c.args.self.now c.args.from.now.node none, none_followed _ _ _ _ c.requires.order c.requires.noted)
 
 pub returns : goal.returns
 returns c =
     let fits : SFits height_width c.in-Some.height = search rules in
     let height = to_z-of_z height_width c.in-Some.height fits in
-    let n : Cells = record { stride = c.self.inside.stride; cells = c.self.inside.cells; sinks = c.self.inside.sinks.items } in
-    let here : get_or n.cells c.args.from.now.node None ≡ Some c.in-Some.height = sym c.at.ensures ∙ c.in-Some.is in
+    let n : Cells = record { stride = c.self.inside.stride; cells = c.self.inside.cells.items; sinks = c.self.inside.sinks.items } in
+    let here : get_or n.cells c.args.from.now.node None ≡ Some c.in-Some.height = sym (get_or_read n.cells c.args.from.now.node c.index.result.now (search rules) c.index.ensures None) ∙ sym c.height.ensures ∙ c.in-Some.is in
     let above : n.stride < c.args.from.now.node = search rules in
-    let waits = rw (height, c.around.ensures) at c.in_ok-push_around.ensures in
+    let waits = rw (height, c.around.ensures, c.deref.ensures.value) at c.in_ok-push_around.ensures in
     (_, rw (← c.self.view_is) (just_ways n c.args.from.now.node c.in-Some.height here above), waits)
