@@ -78,7 +78,7 @@ row_code : (v : View (Option ℕ)) (b : Bounds) (r k : ℕ) → b ≡ bounds_of 
 row_code v b r k e a below inside =
     let x = a.rows_inside in let y = a.cols_inside in
     let sum : (b.top + r) * v.cutting.cols + b.left + k ≡ (b.top + r) * v.cutting.cols + (b.left + k) = omega arith in
-    row_has v b r k e inside ∙ ap (λ n. get_or v.cells n None) sum
+    row_has v None b r k e inside ∙ ap (λ n. get_or v.cells n None) sum
     ∙ sym (entry-inside v.cutting.cols v.cutting.rows v.cells (make_place (b.top + r) (b.left + k)) (omega arith) (omega arith))
     ∙ ap (λ (p : Place). code_at (directed_by v) p) (sym (place_in_row b r k inside))
 
