@@ -1,5 +1,5 @@
--- How a cell is stored.
-use Rattle.std.specs.Prelude.{ℤ, pos, Option, None, Some, if◌then◌else◌, option_and_then}
+-- How a cell and a count are stored.
+use Rattle.std.specs.Prelude.{ℕ, ℤ, pos, ◌==◌, Option, None, Some, if◌then◌else◌, option_and_then}
 use Rattle.std.specs.Ordering.{int_eq}
 
 -- Stands for a cell without data: above every height.
@@ -13,3 +13,11 @@ stored_cell z = if int_eq z no_data then None else Some z
 -- The cell in which this height is stored, where there is one.
 abbrev pub cell_of : Option ℤ → Option ℤ
 cell_of height = option_and_then stored_cell height
+
+-- Stands for an entry without data: above every count.
+abbrev pub uncounted : ℕ
+uncounted = 4294967295
+
+-- The count that is stored so.
+abbrev pub stored_count : ℕ → Option ℕ
+stored_count n = if n == uncounted then None else Some n

@@ -2,6 +2,7 @@
 #![tactic(auto)]
 
 pub mod cell;
+pub mod count;
 pub mod digits;
 pub mod grid;
 pub mod observer;
@@ -10,6 +11,7 @@ pub mod sinks;
 pub mod word;
 
 pub use cell::{Cell, NO_DATA};
+pub use count::Count;
 pub use digits::whole_number;
 pub use grid::{Anchor, Frame, Grid, GridHeader, LONGEST_AXIS, NoMemory};
 pub use observer::Observer;

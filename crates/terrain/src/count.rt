@@ -1,0 +1,61 @@
+// The entries of maps of whole numbers.
+ghost use Rattle.std.specs.Prelude.{◌≡◌, ◌<◌, None, Some};
+ghost use Rattle.terrain.specs.StoredCells.{stored_count, uncounted};
+
+use std::marker::Model;
+
+/// Stands for no data: above every number of cells, of basins and of observers.
+const UNCOUNTED: u32 = u32::MAX;
+
+/// A whole number that a map has at a cell, or no data. It takes 4 bytes, where `Option<u32>` takes 8.
+#[derive(Clone, Copy, Debug, PartialEq, Eq)]
+pub struct Count {
+    stored: u32,
+}
+
+impl Model for Count {
+    ghost use Rattle.std.specs.Prelude.{ℕ, Option, unwrap_or};
+    ghost use Rattle.terrain.specs.StoredCells.{stored_count, uncounted};
+    ghost use Rattle.std.proofs.Common.{ap};
+    ghost use Rattle.terrain.specs.Stored.{stored_count_again};
+
+    ghost Value = { Option ℕ };
+
+    ghost view = { λ c. stored_count c.stored };
+
+    ghost inverse = { λ o. record { stored = unwrap_or o uncounted } };
+
+    ghost inverse_ok = { λ c _. ap (λ n. record { stored = n }) (stored_count_again c.stored) };
+}
+
+impl Count {
+    /// This number; the greatest of all stands for no data.
+    #[inline(always)]
+    #[tactic(auto, using(crate::specs::Stored::stored_count_some))]
+    pub fn of(number: u32) -> Count
+        ensures stored { result ≡ stored_count number }
+        ensures number { number < uncounted → result ≡ Some number }
+    {
+        Count { stored: number }
+    }
+
+    /// No data.
+    #[inline(always)]
+    pub fn no_data() -> Count
+        ensures { result ≡ None }
+    {
+        Count { stored: UNCOUNTED }
+    }
+
+    /// The number, None where there is no data.
+    #[inline(always)]
+    pub fn value(self) -> Option<u32>
+        ensures { result ≡ self }
+    {
+        if self.stored == UNCOUNTED {
+            None
+        } else {
+            Some(self.stored)
+        }
+    }
+}
