@@ -1,5 +1,5 @@
 -- Lists of a tile's entries, one entry more at a time.
-use Rattle.std.proofs.Common.{◌≡◌, ℕ, ◌+◌, ◌-◌, ◌*◌, ◌<◌, inl, inr, List, ◌∷◌, ◌++◌, [], length, get_or, Option, None, sym, ap, subst, ◌∙◌, arith}
+use Rattle.std.proofs.Common.{◌≡◌, ℕ, ◌+◌, ◌-◌, ◌*◌, ◌<◌, inl, inr, List, ◌∷◌, ◌++◌, [], get_or, Option, None, sym, ap, subst, ◌∙◌, arith}
 use Rattle.std.proofs.lemmas.Bool.{cases_eq}
 use Rattle.std.proofs.lemmas.List.{get_or_append_left, get_or_push, length_push}
 use Rattle.std.proofs.lemmas.Nat.{mul-add-lt}
@@ -10,6 +10,7 @@ use Rattle.tiles.specs.Cutting.{Cutting, IsCutting, IsInBounds, bounds_of}
 use Rattle.tiles.proofs.Cut.{in_bounds}
 use Rattle.tiles.proofs.TileRows.{tile_entry_is}
 use Rattle.tile_maps.specs.Maps.{index_within, AreMadeBelow, IsMadeTile}
+use Rattle.tile_maps.proofs.Whole.{tile_of_entries}
 
 -- two places that stand at one place of the bounds' row order are one
 pub within_injective : (b : Bounds) (p q : Place) → IsInBounds b p → IsInBounds b q → index_within b p ≡ index_within b q → p ≡ q
@@ -54,9 +55,7 @@ within_below b p i =
 -- a list of all places of a tile's bounds
 pub made_tile : {X : Type 0} (c : Cutting) (tile : ℕ) (b : Bounds) (Has : Place → Option X → Type 0) (list : List (Option X)) → IsCutting c → b ≡ bounds_of c tile →
     AreMadeBelow b Has (b.rows * b.cols) list → IsMadeTile c tile Has list
-made_tile {X} c tile b Has list lawful e made = record {
-  size = made.size ∙ ap (λ (z : Bounds). z.rows * z.cols) e;
-  each = λ p inside.
-      let within = subst (λ (z : Bounds). IsInBounds z p) (sym e) (in_bounds c tile p lawful inside) in
-      subst (λ (o : Option X). Has p o) (sym (tile_entry_is c tile b list p e inside)) (made.each p within (within_below b p within));
-}
+made_tile {X} c tile b Has list lawful e made = tile_of_entries c tile Has list (made.size ∙ ap (λ (z : Bounds). z.rows * z.cols) e)
+    (λ p inside.
+    let within = subst (λ (z : Bounds). IsInBounds z p) (sym e) (in_bounds c tile p lawful inside) in
+    subst (λ (o : Option X). Has p o) (sym (tile_entry_is c tile b list p e inside)) (made.each p within (within_below b p within)))

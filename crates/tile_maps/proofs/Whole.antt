@@ -1,20 +1,21 @@
 -- The tiles' lists put back into one.
-use Rattle.std.proofs.Common.{◌≡◌, ℕ, ◌*◌, ◌<◌, inl, inr, List, length, Option, Some, Vec, Global, vec_len, sym, ap, subst, refl, ◌∙◌, arith}
-use Rattle.std.specs.Prelude.{slice_get}
-use Rattle.std.proofs.lemmas.Option.{get_or_from_slice_get, slice_get_within, slice_get_cases}
-use Rattle.terrain.specs.Neighbours.{entry_at}
+use Rattle.std.proofs.Common.{◌≡◌, ℕ, ◌*◌, ◌<◌, inl, inr, List, length, get_or, Option, None, Some, Vec, Global, vec_len, sym, ap, subst, refl, ◌∙◌, arith}
+use Rattle.std.specs.Prelude.{slice_get, option_and_then}
+use Rattle.std.proofs.lemmas.Option.{get_or_from_slice_get, slice_get-get_or, slice_get_within, slice_get_cases}
+use Rattle.terrain.specs.Neighbours.{entry_at, index_of}
 use Rattle.terrain.specs.declared.place.Place.{Place}
+use Rattle.terrain.proofs.Places.{entry-inside, index_below}
 use Rattle.tile_jobs.specs.Answers.{AllGiven}
-use Rattle.tiles.specs.Cutting.{Cutting, IsCutting, AreTileLists, IsPutBack, tile_count, tile_of_place}
+use Rattle.tiles.specs.Cutting.{Cutting, IsCutting, IsInTile, IsWithin, AreTileLists, IsPutBack, cell_count, index_in_tile, tile_count, tile_entry, tile_of_place}
 use Rattle.tiles.proofs.Cut.{tile_of_place_below}
-use Rattle.tiles.proofs.PutBack.{entry_at-put_back}
+use Rattle.tiles.proofs.TileOrder.{index_in_tile_is, tile_entry-in}
 use Rattle.tile_maps.specs.Maps.{IsMadeTile, IsMadeMap}
 
-module _ {X : Type 0} (c : Cutting) (Has : Place → Option X → Type 0) (n : ℕ) (lists : Vec (Vec (Option X) Global) Global) (count : vec_len lists ≡ n) (all : n ≡ tile_count c)
-    (given : AllGiven (λ tile (list : Vec (Option X) Global). IsMadeTile c tile Has list.items) n lists.items) where
+module _ {X : Type 0} (c : Cutting) (Has : Place → X → Type 0) (n : ℕ) (lists : Vec (Vec X Global) Global) (count : vec_len lists ≡ n) (all : n ≡ tile_count c)
+    (given : AllGiven (λ tile (list : Vec X Global). IsMadeTile c tile Has list.items) n lists.items) where
   -- the list of a tile
-  made_at : (tile : ℕ) (list : Vec (Option X) Global) → slice_get lists.items tile ≡ Some list → IsMadeTile c tile Has list.items
-  made_at tile list e = subst (λ (v : Vec (Option X) Global). IsMadeTile c tile Has v.items) (get_or_from_slice_get lists.items tile list list e)
+  made_at : (tile : ℕ) (list : Vec X Global) → slice_get lists.items tile ≡ Some list → IsMadeTile c tile Has list.items
+  made_at tile list e = subst (λ (v : Vec X Global). IsMadeTile c tile Has v.items) (get_or_from_slice_get lists.items tile list list e)
       (given tile list (omega (arith, lists.ok.0, count, slice_get_within lists.items tile list e)))
 
   -- the jobs gave a list of each tile
@@ -22,17 +23,35 @@ module _ {X : Type 0} (c : Cutting) (Has : Place → Option X → Type 0) (n : �
   lists_of_tiles = record { count = omega (arith, lists.ok.0, count, all); each = λ tile list e. (made_at tile list e).size }
 
   -- each entry of the whole list is one that a tile's list has
-  pub made_whole : (whole : List (Option X)) → IsCutting c → IsPutBack c lists.items whole → IsMadeMap c Has whole
+  pub made_whole : (whole : List X) → IsCutting c → IsPutBack c lists.items whole → IsMadeMap c Has whole
   made_whole whole lawful put = record {
     size = put.size;
-    each = λ p within.
+    each = λ p within entry is.
         let tile = tile_of_place c p in
         elim (slice_get_cases lists.items tile).1 [
           | inr past ↦ absurd (omega (arith, past.0, lists_of_tiles.count, tile_of_place_below c p lawful within))
-          | inl list ↦ subst (λ (o : Option X). Has p o) (sym (entry_at-put_back c lists.items whole tile list.0 p put (within, refl) list.2))
-              ((made_at tile list.0 list.2).each p (within, refl))
+          | inl list ↦
+              let at : Option (Vec X Global) → Option X = λ o. option_and_then (λ (l : Vec X Global). slice_get l.items (index_in_tile c p)) o in
+              (made_at tile list.0 list.2).each p (within, refl) entry (sym (ap at list.2) ∙ sym (put.each p within) ∙ is)
         ];
   }
+
+-- a list with an entry that fits at each place of a tile
+pub tile_of_entries : {X : Type 0} (c : Cutting) (tile : ℕ) (Has : Place → Option X → Type 0) (list : List (Option X)) → length list ≡ cell_count c tile →
+    ((p : Place) → IsInTile c tile p → Has p (tile_entry c tile list p)) → IsMadeTile c tile Has list
+tile_of_entries {X} c tile Has list size each = record {
+  size = size;
+  each = λ p i entry is. subst (λ (o : Option X). Has p o)
+      (tile_entry-in c tile list p i ∙ ap (λ n. get_or list n None) (sym (index_in_tile_is c tile p i.1)) ∙ get_or_from_slice_get list (index_in_tile c p) entry None is)
+      (each p i);
+}
+
+-- what a map has at a place
+pub entry_of_map : {X : Type 0} (c : Cutting) (Has : Place → Option X → Type 0) (whole : List (Option X)) → IsMadeMap c Has whole → (p : Place) → IsWithin c p →
+    Has p (entry_at c.cols c.rows whole p)
+entry_of_map {X} c Has whole made p within = subst (λ (o : Option X). Has p o) (sym (entry-inside c.cols c.rows whole p within.0 within.1))
+    (made.each p within (get_or whole (index_of c.cols p) None)
+    (slice_get-get_or whole (index_of c.cols p) None (omega (arith, made.size, index_below c.cols c.rows p within.0 within.1))))
 
 -- a map, by the size of its grid
 pub map_of_size : {X : Type 0} (c : Cutting) (cols rows : ℕ) (Has : Place → Option X → Type 0) (whole : List (Option X)) → c.cols ≡ cols → c.rows ≡ rows → IsMadeMap c Has whole →
@@ -40,5 +59,5 @@ pub map_of_size : {X : Type 0} (c : Cutting) (cols rows : ℕ) (Has : Place → 
 map_of_size {X} c cols rows Has whole same_cols same_rows made = (
   made.size ∙ ap (λ n. n * c.rows) same_cols ∙ ap (λ n. cols * n) same_rows,
   λ p inside. subst (λ (o : Option X). Has p o) (ap (λ n. entry_at n c.rows whole p) same_cols ∙ ap (λ n. entry_at cols n whole p) same_rows)
-      (made.each p (omega (arith, inside, same_rows), omega (arith, inside, same_cols))),
+      (entry_of_map c Has whole made p (omega (arith, inside, same_rows), omega (arith, inside, same_cols))),
 )

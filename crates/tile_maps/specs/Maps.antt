@@ -1,9 +1,9 @@
 -- Maps with an entry for each place: of a part of a row order, of a tile, of a whole grid.
-use Rattle.std.specs.Prelude.{◌≡◌, ℕ, ◌+◌, ◌-◌, ◌*◌, ◌<◌, List, length, Option, None, slice_index_or}
-use Rattle.terrain.specs.Neighbours.{entry_at}
+use Rattle.std.specs.Prelude.{◌≡◌, ℕ, ◌+◌, ◌-◌, ◌*◌, ◌<◌, List, length, Option, None, Some, slice_get, slice_index_or}
+use Rattle.terrain.specs.Neighbours.{index_of}
 use Rattle.terrain.specs.declared.place.Place.{Place}
 use Rattle.tiles.specs.declared.bounds.Bounds.{Bounds}
-use Rattle.tiles.specs.Cutting.{Cutting, IsInBounds, IsInTile, IsWithin, cell_count, tile_entry}
+use Rattle.tiles.specs.Cutting.{Cutting, IsInBounds, IsInTile, IsWithin, cell_count, index_in_tile}
 
 -- Where a place of the bounds stands in their row order.
 abbrev pub index_within : Bounds → Place → ℕ
@@ -14,12 +14,12 @@ pub record AreMadeBelow {X : Type 0} (b : Bounds) (Has : Place → Option X → 
   pub size : length list ≡ end
   pub each : (p : Place) → IsInBounds b p → index_within b p < end → Has p (slice_index_or list (index_within b p) None)
 
--- The list has an entry that fits for each place of the tile, in its row order.
-pub record IsMadeTile {X : Type 0} (c : Cutting) (tile : ℕ) (Has : Place → Option X → Type 0) (list : List (Option X)) : Type 0 where
+-- The list has an entry for each place of the tile, in its row order, and each of them fits.
+pub record IsMadeTile {X : Type 0} (c : Cutting) (tile : ℕ) (Has : Place → X → Type 0) (list : List X) : Type 0 where
   pub size : length list ≡ cell_count c tile
-  pub each : (p : Place) → IsInTile c tile p → Has p (tile_entry c tile list p)
+  pub each : (p : Place) → IsInTile c tile p → (entry : X) → slice_get list (index_in_tile c p) ≡ Some entry → Has p entry
 
--- The list has an entry that fits for each place of the grid, in row order.
-pub record IsMadeMap {X : Type 0} (c : Cutting) (Has : Place → Option X → Type 0) (list : List (Option X)) : Type 0 where
+-- The list has an entry for each place of the grid, in row order, and each of them fits.
+pub record IsMadeMap {X : Type 0} (c : Cutting) (Has : Place → X → Type 0) (list : List X) : Type 0 where
   pub size : length list ≡ c.cols * c.rows
-  pub each : (p : Place) → IsWithin c p → Has p (entry_at c.cols c.rows list p)
+  pub each : (p : Place) → IsWithin c p → (entry : X) → slice_get list (index_of c.cols p) ≡ Some entry → Has p entry

@@ -33,13 +33,13 @@ impl<'a, M: TileMap> Work for TileJobs<'a, M> {
     ghost use Rattle.tiles.specs.Cutting.{tile_count};
     ghost use Rattle.tile_maps.specs.Maps.{IsMadeTile};
 
-    type Out = Vec<Option<M::Cell>>;
+    type Out = Vec<M::Entry>;
 
     ghost most = { λ w. tile_count (M.cutting w.map.now) };
 
     ghost gives = { λ w tile out. IsMadeTile (M.cutting w.map.now) tile (M.has w.map.now) out.items };
 
-    fn run(&self, alloc: Global, job: u32) -> Result<Vec<Option<M::Cell>>, JobFault> {
+    fn run(&self, alloc: Global, job: u32) -> Result<Vec<M::Entry>, JobFault> {
         match self.map.tile(alloc, job) {
             Ok(list) => Ok(list),
             Err(_) => Err(JobFault::Memory),
@@ -63,9 +63,9 @@ impl<'a, R: Threads + Wait + Sync, G: Gate + Sync> Crew<'a, R, G> {
 
     /// The map of the whole grid, in row order, made by one job for each tile. What the map was made of is let go
     /// before the tiles are put back.
-    pub fn made<M: TileMap + Sync + Drop>(&self, map: M) -> Result<Vec<Option<M::Cell>>, JobFault>
+    pub fn made<M: TileMap + Sync + Drop>(&self, map: M) -> Result<Vec<M::Entry>, JobFault>
     where
-        M::Cell: Copy + Send + Drop,
+        M::Entry: Copy + Send + Drop,
         ensures made { IfOk result (λ whole. IsMadeMap (M.cutting map) (M.has map) whole.items) }
         ensures workers { RefusesWorkers self.now.workers result }
     {

@@ -1,5 +1,5 @@
 //! What a map has in each tile.
-ghost use Rattle.std.specs.Prelude.{◌≡◌, ℕ, ◌<◌, Option, IfOk};
+ghost use Rattle.std.specs.Prelude.{◌≡◌, ℕ, ◌<◌, IfOk};
 ghost use Rattle.terrain.specs.declared.place.Place.{Place};
 ghost use Rattle.tiles.specs.Cutting.{Cutting, tile_count};
 ghost use Rattle.tile_maps.specs.Maps.{IsMadeTile};
@@ -10,21 +10,21 @@ use tiles::Tiling;
 
 /// A map of a grid's cells that is made tile by tile. Threads share it.
 pub trait TileMap {
-    /// What the map has at a cell; None where it has nothing.
-    type Cell;
+    /// What the map has at a cell.
+    type Entry;
 
     // How the grid is cut.
     ghost cutting: { Self → Cutting };
 
     // The entries that the map may have at a place.
-    ghost has: { Self → Place → Option Self.Cell → Type 0 };
+    ghost has: { Self → Place → Self.Entry → Type 0 };
 
     /// How the grid is cut.
     fn tiling(&self) -> Tiling
         ensures { result ≡ cutting self.now };
 
     /// What the map has at each place of a tile, in its row order. For want of memory nothing is handed out.
-    fn tile(&self, alloc: Global, tile: u32) -> Result<Vec<Option<Self::Cell>>, NoMemory>
+    fn tile(&self, alloc: Global, tile: u32) -> Result<Vec<Self::Entry>, NoMemory>
         requires { tile < tile_count (cutting self.now) }
         ensures { IfOk result (λ list. IsMadeTile (cutting self.now) tile (has self.now) list.items) };
 }
