@@ -12,7 +12,7 @@ use crate::page::{PAGE, Page};
 use drainage::Code;
 use itoa::Buffer;
 use std::io::Write;
-use terrain::{Anchor, Cell, Frame, Grid, MOST_WORD_BYTES};
+use terrain::{Anchor, Cell, Count, Frame, Grid, MOST_WORD_BYTES};
 
 /// More bytes than a cell takes, or a line of the header, with the byte that ends it.
 const ENTRY_ROOM: usize = 80;
@@ -78,6 +78,15 @@ impl Entry for Cell {
     #[inline(always)]
     fn push_to(self, end: u8, scale: u8, nodata: &[u8], page: &mut Page) {
         self.height().push_to(end, scale, nodata, page);
+    }
+}
+
+impl Entry for Count {
+    ghost text = { λ _. cell_text decimal };
+
+    #[inline(always)]
+    fn push_to(self, end: u8, scale: u8, nodata: &[u8], page: &mut Page) {
+        self.value().push_to(end, scale, nodata, page);
     }
 }
 
@@ -235,7 +244,7 @@ pub fn write_heights<W: Write>(grid: &Grid, out: &mut Counted<W>) -> Result<(), 
 /// Writes a map of whole numbers with the header of its grid. It takes no memory.
 pub fn write_counts<W: Write>(
     grid: &Grid,
-    values: &[Option<u32>],
+    values: &[Count],
     out: &mut Counted<W>,
 ) -> Result<(), WriteFailed>
     requires few { out.old.failures < 2 ^ 64 - 1 }
@@ -248,7 +257,7 @@ pub fn write_counts<W: Write>(
 /// As [`write_counts`], where the grid's cells may have been let go.
 pub fn write_framed_counts<W: Write>(
     frame: &Frame,
-    values: &[Option<u32>],
+    values: &[Count],
     out: &mut Counted<W>,
 ) -> Result<(), WriteFailed>
     requires few { out.old.failures < 2 ^ 64 - 1 }
