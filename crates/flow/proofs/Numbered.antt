@@ -1,10 +1,14 @@
 -- The numbers of outlets at the cells of a tile.
-use Rattle.std.proofs.Common.{◌≡◌, ℕ, ◌+◌, ◌*◌, ◌<◌, inl, inr, List, length, get_or, take, count_by, Option, None, Some, IfSome, slice_get, sym, ap, subst, refl, ◌∙◌, arith}
+use Rattle.std.proofs.Common.{◌≡◌, ℕ, ◌+◌, ◌*◌, ◌<◌, ◌≤◌, inl, inr, List, length, get_or, take, count_by, Option, None, Some, IfSome, slice_get, sym, ap, subst, refl, ◌∙◌, arith}
 use Rattle.std.proofs.lemmas.Bool.{cases_lt, cond-true, eq-eqb}
-use Rattle.std.proofs.lemmas.List.{get_or_past}
+use Rattle.std.proofs.Math.Nat.{mul-le-mul}
+use Rattle.std.proofs.lemmas.List.{get_or_past, length-take}
+use Rattle.std.proofs.lemmas.List.Sums.{count_by-le-length}
 use Rattle.std.proofs.lemmas.List.FromFn.{get_or-map-range_with_len}
 use Rattle.std.proofs.lemmas.Option.{slice_get_within, MatchOption-at_none, MatchOption-at_some}
 use Rattle.terrain.specs.Neighbours.{index_of}
+use Rattle.terrain.specs.StoredCells.{stored_count, uncounted}
+use Rattle.terrain.specs.Stored.{stored_count_some}
 use Rattle.terrain.specs.declared.place.Place.{Place}
 use Rattle.terrain.proofs.Places.{index_below}
 use Rattle.tiles.specs.declared.bounds.Bounds.{Bounds}
@@ -50,6 +54,14 @@ module _ (d : Directed) (t : Cutting) (flows : List Flow) (o : Outlets) (codes :
       let below : index_of o.cutting.cols (last_of d e) < length codes =
       omega (arith, index_below d.cols d.rows (last_of d e) w.0 w.1, s.size, ap (λ n. index_of n (last_of d e)) same_cols, ap length s.same_codes) in
       subst (λ (x : Option Place). IfSome x (λ q. index_of o.cutting.cols q < length codes)) (sym (s.are_outlets.outlets e cell)) below
+
+  -- each number stands for itself
+  basin_few : (p : Place) → basin d p < uncounted
+  basin_few p =
+      let before = take (index_of d.cols (last_of d p)) d.codes in
+      let cells : t.cols * t.rows ≤ 4096 * 4096 = mul-le-mul s.are_flows.cutting.few_cols s.are_flows.cutting.few_rows in
+      let same : d.cols * d.rows ≡ t.cols * t.rows = ap (λ n. n * d.rows) s.are_flows.of_tiles.size.0 ∙ ap (λ n. t.cols * n) s.are_flows.of_tiles.size.1 in
+      omega (arith, cells, same, s.size, count_by-le-length is_outlet_code before, length-take (index_of d.cols (last_of d p)) d.codes)
 
   module _ (tile : ℕ) (f : Flow) (there : slice_get flows tile ≡ Some f) where
     right : IsTileExits d t tile f
@@ -133,7 +145,8 @@ module _ (d : Directed) (t : Cutting) (flows : List Flow) (o : Outlets) (codes :
           | inl none ↦ match_none (code_at d p) _ _ none (entry ∙ ap (label_at f.bounds (labels_by o flows codes f)) (no_exit p i none))
           | inr is ↦
               let h = has_exit p i is in
-              match_some (code_at d p) _ _ is.code is.is (entry ∙ ap (label_at f.bounds (labels_by o flows codes f)) h.listed ∙ ap Some (label_is p is h))
+              match_some (code_at d p) _ _ is.code is.is (entry ∙ ap (label_at f.bounds (labels_by o flows codes f)) h.listed
+              ∙ ap stored_count (label_is p is h) ∙ stored_count_some (basin d p) (basin_few p))
         ]
 
   pub ready : AreReady t flows o codes

@@ -2,6 +2,7 @@
 use Rattle.std.specs.Prelude.{◌≡◌, ℕ, ◌+◌, ◌*◌, ◌<◌, ◌==◌, if◌then◌else◌, List, map, length, take, count_by, Option, None, Some, IfSome, slice_get, slice_index, slice_index_or}
 use Rattle.std.specs.List.{range_with_len}
 use Rattle.terrain.specs.Neighbours.{index_of}
+use Rattle.terrain.specs.StoredCells.{stored_count}
 use Rattle.terrain.specs.declared.place.Place.{Place}
 use Rattle.tiles.specs.declared.bounds.Bounds.{Bounds}
 use Rattle.tiles.specs.Cutting.{Cutting, IsInBounds, IsWithin, cell_count, tile_count}
@@ -59,7 +60,7 @@ labels_by outlets flows codes f =
 -- the label of a cell's exit
 abbrev pub label_at : Bounds → List ℕ → Option Place → Option ℕ
 label_at b labels None = None
-label_at b labels (Some e) = Some (slice_index labels (index_in b e))
+label_at b labels (Some e) = stored_count (slice_index labels (index_in b e))
 
 abbrev pub numbered_by : Bounds → List ℕ → List (Option Place) → List (Option ℕ)
 numbered_by b labels exits = map (λ i. label_at b labels (slice_index_or exits i None)) (range_with_len 0 (length exits))

@@ -14,12 +14,12 @@ use crate::crossings::Crossings;
 use crate::flowing::flow_tiles;
 use crate::inflows::Inflows;
 use crate::streams::upstream;
-use crate::tile::{TileFlow, where_data};
+use crate::tile::{TileFlow, count_where_data};
 use drainage::{Code, Directions};
 use std::alloc::{AllocError, Global};
 use std::sync::Wait;
 use std::thread::Threads;
-use terrain::NoMemory;
+use terrain::{Count, NoMemory};
 use tile_jobs::{Gate, JobFault};
 use tile_maps::{Crew, TileMap, joined};
 use tiles::Tiling;
@@ -36,7 +36,7 @@ struct Counting<'a> {
 impl<'a> TileMap for Counting<'a> {
     ghost use Rattle.flow.specs.Counting.{IsCountAt};
 
-    type Cell = u32;
+    type Entry = Count;
 
     ghost cutting = { λ m. m.tiling.now };
 
@@ -46,7 +46,7 @@ impl<'a> TileMap for Counting<'a> {
         *self.tiling
     }
 
-    fn tile(&self, alloc: Global, tile: u32) -> Result<Vec<Option<u32>>, NoMemory> {
+    fn tile(&self, alloc: Global, tile: u32) -> Result<Vec<Count>, NoMemory> {
         let flow = &self.flows[tile as usize];
         let counts = tile_counts(alloc, &self.inflows, tile, flow)?;
         Ok(counts)
@@ -62,7 +62,7 @@ pub fn accumulation<R: Threads + Wait + Sync, G: Gate + Sync>(
     tiling: &Tiling,
     workers: u32,
     gate: &G,
-) -> Result<Vec<Option<u32>>, JobFault>
+) -> Result<Vec<Count>, JobFault>
     requires { Cuts tiling.now d.now.terrain }
     ensures values { IfOk result (λ v. AreAccumulations (directed_of d.now) v.items) }
     ensures workers { RefusesWorkers workers result }
@@ -91,7 +91,7 @@ fn tile_counts(
     inflows: &Inflows,
     tile: u32,
     flow: &TileFlow,
-) -> Result<Vec<Option<u32>>, AllocError>
+) -> Result<Vec<Count>, AllocError>
     requires countable { IsCountable inflows.now tile flow.now }
     requires tile { tile < tile_count inflows.now.cutting }
     ensures { IfOk result (λ v. AreCounts inflows.now tile flow.now v.items) }
@@ -126,7 +126,7 @@ fn counts(
     cells: &[Option<Code>],
     weights: &[u32],
     came: &[u32],
-) -> Result<Vec<Option<u32>>, AllocError>
+) -> Result<Vec<Count>, AllocError>
     requires weights { length weights.now ≡ length cells.now }
     requires came { length came.now ≡ length cells.now }
     requires fits { (i : ℕ) → i < length cells.now → slice_index came.now i + slice_index weights.now i < 2 ^ 32 }
@@ -135,7 +135,7 @@ fn counts(
     let mut values = Vec::with_capacity(alloc, cells.len())?;
     for index in 0..cells.len() {
         let total = came[index] + weights[index];
-        values.push(where_data(cells[index], total.saturating_sub(1)))?;
+        values.push(count_where_data(cells[index], total.saturating_sub(1)))?;
     }
     Ok(values)
 }

@@ -21,7 +21,7 @@ use drainage::Directions;
 use std::alloc::{AllocError, Global};
 use std::sync::Wait;
 use std::thread::Threads;
-use terrain::{NoMemory, Place};
+use terrain::{Count, NoMemory, Place};
 use tile_jobs::{Gate, JobFault};
 use tile_maps::{Crew, TileMap, joined};
 use tiles::Tiling;
@@ -39,7 +39,7 @@ struct Numbering<'a> {
 impl<'a> TileMap for Numbering<'a> {
     ghost use Rattle.flow.specs.Numbering.{IsBasinAt};
 
-    type Cell = u32;
+    type Entry = Count;
 
     ghost cutting = { λ m. m.tiling.now };
 
@@ -49,7 +49,7 @@ impl<'a> TileMap for Numbering<'a> {
         *self.tiling
     }
 
-    fn tile(&self, alloc: Global, tile: u32) -> Result<Vec<Option<u32>>, NoMemory> {
+    fn tile(&self, alloc: Global, tile: u32) -> Result<Vec<Count>, NoMemory> {
         let flow = &self.flows[tile as usize];
         let ends = flow.ends(alloc)?;
         let labels = self.exit_labels(alloc, flow, &ends)?;
@@ -122,7 +122,7 @@ pub fn basins<R: Threads + Wait + Sync, G: Gate + Sync>(
     tiling: &Tiling,
     workers: u32,
     gate: &G,
-) -> Result<Vec<Option<u32>>, JobFault>
+) -> Result<Vec<Count>, JobFault>
     requires { Cuts tiling.now d.now.terrain }
     ensures values { IfOk result (λ v. AreBasins (directed_of d.now) v.items) }
     ensures workers { RefusesWorkers workers result }
@@ -155,7 +155,7 @@ fn numbered(
     flow: &TileFlow,
     ends: &[u32],
     labels: &[u32],
-) -> Result<Vec<Option<u32>>, AllocError>
+) -> Result<Vec<Count>, AllocError>
     requires ends { AreEnds (links_by flow.now.bounds flow.now.codes) ends.now }
     requires size { length labels.now ≡ length flow.now.exits }
     ensures { IfOk result (λ v. v.items ≡ numbered_by flow.now.bounds labels.now flow.now.exits) }
@@ -168,14 +168,14 @@ fn numbered(
 }
 
 #[inline(always)]
-fn label_at(flow: &TileFlow, ends: &[u32], labels: &[u32], index: usize) -> Option<u32>
+fn label_at(flow: &TileFlow, ends: &[u32], labels: &[u32], index: usize) -> Count
     requires ends { AreEnds (links_by flow.now.bounds flow.now.codes) ends.now }
     requires size { length labels.now ≡ length flow.now.exits }
     requires index { index < length labels.now }
     ensures { result ≡ label_at flow.now.bounds labels.now (slice_index_or flow.now.exits index None) }
 {
     match flow.exit_index(ends, index) {
-        Some(exit) => Some(labels[exit as usize]),
-        None => None,
+        Some(exit) => Count::of(labels[exit as usize]),
+        None => Count::no_data(),
     }
 }

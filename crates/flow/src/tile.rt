@@ -1,6 +1,7 @@
 // Flow inside one tile.
 ghost use Rattle.std.specs.Prelude.{◌≡◌, ◌<◌, length, slice_index_or, IfOk, IfSome, None};
 ghost use Rattle.std.specs.Option.{option_map};
+ghost use Rattle.terrain.specs.StoredCells.{uncounted};
 ghost use Rattle.tiles.specs.Cutting.{IsInBounds};
 ghost use Rattle.drainage.specs.Drained.{AllFlowEnds};
 ghost use Rattle.flow.specs.Streams.{AreEnds};
@@ -16,7 +17,7 @@ use crate::streams::upstream;
 use drainage::Code;
 use std::alloc::{AllocError, Global};
 use std::marker::Model;
-use terrain::{NoMemory, Place};
+use terrain::{Count, NoMemory, Place};
 use tiles::{Bounds, TileView};
 
 /// What flows through each cell of a tile from inside it, and where its water leaves.
@@ -222,5 +223,16 @@ pub(crate) fn where_data<X: Drop>(code: Option<Code>, value: X) -> Option<X>
     match code {
         Some(_) => Some(value),
         None => None,
+    }
+}
+
+/// A count where there is data.
+#[inline(always)]
+pub(crate) fn count_where_data(code: Option<Code>, number: u32) -> Count
+    ensures { number < uncounted → result ≡ where_data code number }
+{
+    match code {
+        Some(_) => Count::of(number),
+        None => Count::no_data(),
     }
 }

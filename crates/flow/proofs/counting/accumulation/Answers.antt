@@ -1,6 +1,7 @@
 use Rattle.std.proofs.Common.{ℕ, Option, Vec, Global, refl}
 use Rattle.std.proofs.lemmas.Result.{IfOk-weaker}
 use Rattle.tile_maps.specs.Maps.{IsMadeMap}
+use Rattle.tile_maps.proofs.Whole.{entry_of_map}
 use Rattle.drainage.specs.Drained.{directed_of}
 use Rattle.flow.specs.Counts.{accumulation, AreAccumulations}
 use Rattle.flow.specs.Counting.{IsCountAt}
@@ -25,5 +26,5 @@ returns-clause-values g c =
     let counting = counting_of t codes _ _ _ (grid_flow c.args.d.now t codes c.codes.ensures.draining (c.joined-tiling.ensures c.args.d.now.terrain c.requires) c.codes.ensures.value)
     c.in_ok-flows.ensures.flows (c.in_ok-flows.ensures.counts refl) c.deref-2.ensures.value c.in_ok-inflows.ensures.inflows in
     IfOk-weaker c.made.result (λ (v : Vec (Option ℕ) Global). IsMadeMap t (IsCountAt t c.in_ok-flows.flows.items c.in_ok-inflows.inflows) v.items) (λ (v : Vec (Option ℕ) Global). AreAccumulations (directed_of c.args.d.now) v.items)
-    (λ v made. whole_map c.args.d.now t codes (c.joined-tiling.ensures c.args.d.now.terrain c.requires) c.codes.ensures.value accumulation v.items made.size (λ p i. made.each p i codes counting))
+    (λ v made. whole_map c.args.d.now t codes (c.joined-tiling.ensures c.args.d.now.terrain c.requires) c.codes.ensures.value accumulation v.items made.size (λ p i. entry_of_map t (IsCountAt t c.in_ok-flows.flows.items c.in_ok-inflows.inflows) v.items made p i codes counting))
     c.made.ensures.made

@@ -2,6 +2,7 @@ use Rattle.std.proofs.Common.{arith, ◌*◌, ◌≤◌, ℕ, Option, Vec, Globa
 use Rattle.std.proofs.Math.Nat.{mul-le-mul}
 use Rattle.std.proofs.lemmas.Result.{IfOk-weaker}
 use Rattle.tile_maps.specs.Maps.{IsMadeMap}
+use Rattle.tile_maps.proofs.Whole.{entry_of_map}
 use Rattle.drainage.specs.Drained.{directed_of}
 use Rattle.flow.specs.Counts.{basin, AreBasins}
 use Rattle.flow.specs.Whole.{make_directed}
@@ -27,7 +28,7 @@ returns-clause-values g c =
     let numbering = numbering_of t codes _ _ _ _ (grid_flow c.args.d.now t codes c.codes-codes.ensures.draining (c.joined-tiling.ensures c.args.d.now.terrain c.requires) c.codes-codes.ensures.value)
     c.in_ok-flows.ensures.flows c.deref-2.ensures.value c.in_ok-outlets.ensures.cutting c.in_ok-outlets.ensures.outlets c.in_ok-numbers.ensures.codes in
     IfOk-weaker c.made.result (λ (v : Vec (Option ℕ) Global). IsMadeMap t (IsBasinAt t c.in_ok-flows.flows.items c.in_ok-outlets.outlets c.in_ok-numbers.numbers) v.items) (λ (v : Vec (Option ℕ) Global). AreBasins (directed_of c.args.d.now) v.items)
-    (λ v made. whole_map c.args.d.now t codes (c.joined-tiling.ensures c.args.d.now.terrain c.requires) c.codes-codes.ensures.value basin v.items made.size (λ p i. made.each p i (make_directed t.cols t.rows codes) numbering))
+    (λ v made. whole_map c.args.d.now t codes (c.joined-tiling.ensures c.args.d.now.terrain c.requires) c.codes-codes.ensures.value basin v.items made.size (λ p i. entry_of_map t (IsBasinAt t c.in_ok-flows.flows.items c.in_ok-outlets.outlets c.in_ok-numbers.numbers) v.items made p i (make_directed t.cols t.rows codes) numbering))
     c.made.ensures.made
 
 pub of_codes-requires-clause-few : goal.of_codes-requires-clause-few

@@ -1,6 +1,8 @@
 use Rattle.std.proofs.Common.{◌≡◌, length, Some, slice_get, refl, ap, ◌∙◌, arith}
 use Rattle.std.proofs.lemmas.Option.{slice_get_read}
 use Rattle.tiles.specs.Cutting.{Cutting, cell_count}
+use Rattle.tile_maps.proofs.Whole.{tile_of_entries}
+use Rattle.flow.specs.Counting.{IsCountAt}
 use Rattle.flow.proofs.Counted.{counts_size, entry_counted}
 use Rattle.flow.proofs.counting.CountingTileMap.tile.Goals as goal
 
@@ -15,7 +17,6 @@ returns c =
     let flow = c.index-flow.result.now in
     let there : slice_get m.flows.items c.args.tile ≡ Some flow = slice_get_read m.flows.items (length m.flows.items) c.args.tile flow refl (omega (arith, c.requires, m.countable.count)) c.index-flow.ensures in
     let counts = c.in_ok-counts.ensures in
-    record {
-      size = counts_size m.inflows c.args.tile flow c.in_ok-counts.counts.items counts ∙ (m.countable.each c.args.tile flow there).size ∙ ap (λ (x : Cutting). cell_count x c.args.tile) m.countable.same_cutting;
-      each = λ p i codes s. entry_counted m.tiling.now codes m.flows.items m.inflows s c.args.tile flow there c.in_ok-counts.counts.items counts p i;
-    }
+    let size = counts_size m.inflows c.args.tile flow c.in_ok-counts.counts.items counts ∙ (m.countable.each c.args.tile flow there).size ∙ ap (λ (x : Cutting). cell_count x c.args.tile) m.countable.same_cutting in
+    tile_of_entries m.tiling.now c.args.tile (IsCountAt m.tiling.now m.flows.items m.inflows) c.in_ok-counts.counts.items size
+    (λ p i codes s. entry_counted m.tiling.now codes m.flows.items m.inflows s c.args.tile flow there c.in_ok-counts.counts.items counts p i)

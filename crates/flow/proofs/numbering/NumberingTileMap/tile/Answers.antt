@@ -3,7 +3,8 @@ use Rattle.std.proofs.lemmas.Option.{slice_get_read}
 use Rattle.std.proofs.lemmas.List.FromFn.{length-map-range_with_len}
 use Rattle.flow.specs.Streams.{AreEnds}
 use Rattle.flow.specs.TileLinks.{links_by}
-use Rattle.flow.specs.Numbering.{label_by, label_at, numbered_by}
+use Rattle.tile_maps.proofs.Whole.{tile_of_entries}
+use Rattle.flow.specs.Numbering.{IsBasinAt, label_by, label_at, numbered_by}
 use Rattle.flow.proofs.Numbered.{entry_numbered}
 use Rattle.flow.proofs.numbering.NumberingTileMap.tile.Goals as goal
 
@@ -35,7 +36,6 @@ returns c =
     let f = c.index-flow.result.now in
     let there : slice_get m.flows.items c.args.tile ≡ Some f = slice_get_read m.flows.items (length m.flows.items) c.args.tile f refl (omega (arith, c.requires, m.ready.count)) c.index-flow.ensures in
     let made = c.in_ok-values.ensures ∙ ap (λ l. numbered_by f.bounds l f.exits) (c.deref-3.ensures.value ∙ c.in_ok-labels.ensures) in
-    record {
-      size = ap length c.in_ok-values.ensures ∙ length-map-range_with_len (λ i. label_at f.bounds c.deref-3.result.now (get_or f.exits i None)) 0 (length f.exits) ∙ (m.ready.each c.args.tile f there).size;
-      each = λ p i d s. entry_numbered d m.tiling.now m.flows.items m.outlets m.numbers s c.args.tile f there c.in_ok-values.values.items made p i;
-    }
+    let size = ap length c.in_ok-values.ensures ∙ length-map-range_with_len (λ i. label_at f.bounds c.deref-3.result.now (get_or f.exits i None)) 0 (length f.exits) ∙ (m.ready.each c.args.tile f there).size in
+    tile_of_entries m.tiling.now c.args.tile (IsBasinAt m.tiling.now m.flows.items m.outlets m.numbers) c.in_ok-values.values.items size
+    (λ p i d s. entry_numbered d m.tiling.now m.flows.items m.outlets m.numbers s c.args.tile f there c.in_ok-values.values.items made p i)
