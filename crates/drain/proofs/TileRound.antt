@@ -12,7 +12,7 @@ use Rattle.tiles.specs.Cutting.{Cutting, IsCutting, IsInBounds, IsInTile, bounds
 use Rattle.tiles.proofs.Cut.{in_bounds}
 use Rattle.drain.specs.Rounds.{IsLent, IsWalked, AreWalked, IsOneAbove, IsRound}
 use Rattle.tile_maps.specs.Maps.{AreMadeBelow, IsMadeTile}
-use Rattle.tile_maps.proofs.TileLists.{made_tile}
+use Rattle.tile_maps.proofs.TileLists.{made_tile, entry_of_tile}
 use Rattle.drainage.specs.StepCounts.{known, no_count}
 use Rattle.drainage.specs.ToldCounts.{known-some, known-none}
 use Rattle.drain.specs.Window.{AreCounts, spot_index, area_of, IsSpot, IsInner, Shows, IsShown, AreShown, level_on, count_on, IsSpread, same, moved, IsSettled, known_counts, IsHandedOut, AreLent}
@@ -178,7 +178,7 @@ module _ (t : Terrain) (c : Cutting) (tile : ℕ) (b : Bounds) (steps shown : Li
 
   -- what is handed out at a place of the tile
   entry_is : (p : Place) → IsInTile c tile p → tile_entry c tile list p ≡ known (count_on b new (spot_of b p))
-  entry_is p i = handed.each p i (spot_of b p) (spot_inner b p (in_bounds_of p i)).1
+  entry_is p i = entry_of_tile c tile (IsHandedOut b new) list cutting handed p i (spot_of b p) (spot_inner b p (in_bounds_of p i)).1
 
   -- what was lent at a place that a spot shows
   lent_is : (s q : Place) (m : ℕ) → IsSpot b s → Shows b s q → entry_at t.cols t.rows steps q ≡ Some m → count_on b (known_counts shown) s ≡ m

@@ -28,7 +28,7 @@ impl<'a> Model for Codes<'a> {
 impl<'a> TileMap for Codes<'a> {
     ghost use Rattle.drain.specs.Directions.{IsCodeAt};
 
-    type Cell = Code;
+    type Entry = Option<Code>;
 
     ghost cutting = { λ m. m.cutting };
 

@@ -122,17 +122,17 @@ raised_here c floods tile k f levels p h fit there i at =
 
 -- a raised tile has what its cells are raised to
 pub raised_tile : (c : Cutting) (floods : List Flood) (tile : ℕ) (f : Flood) (levels raised : List (Option ℤ)) → IsCutting c → Fit c floods → slice_get floods tile ≡ Some f → IsRaised c f levels raised →
-    IsMadeTile c tile (λ p height. height ≡ raised_among c floods levels p) raised
+    (length raised ≡ cell_count c tile) × ((p : Place) → IsInTile c tile p → tile_entry c tile raised p ≡ raised_among c floods levels p)
 raised_tile c floods tile f levels raised h fit there is =
     let area : length f.levels ≡ cell_count c tile = fit.levels tile f there ∙ ap (λ (x : Bounds). x.rows * x.cols) (fit.bounds tile f there) in
-    record {
-      size = is.size ∙ area;
-      each = λ p i.
+    (
+      is.size ∙ area,
+      λ p i.
           let b = bounds_of c tile in
           let k = (p.row - b.top) * b.cols + (p.col - b.left) in
           let low : k < length f.levels = omega (arith, entry_index b p (in_bounds c tile p h i), area) in
-          tile_entry-in c tile raised p i ∙ is.each k low ∙ raised_here c floods tile k f levels p h fit there i refl;
-    }
+          tile_entry-in c tile raised p i ∙ is.each k low ∙ raised_here c floods tile k f levels p h fit there i refl,
+    )
 
 -- no cell yet, and one more
 pub raised_none : (c : Cutting) (floods : List Flood) (levels : List (Option ℤ)) → AreRaisedBelow c floods levels 0 []
@@ -177,7 +177,7 @@ part_more c floods levels list row start index tile f b x h fit below there same
 pub raised_map : (c : Cutting) (floods : List Flood) (levels list : List (Option ℤ)) (n : ℕ) → n ≡ c.rows * c.cols → AreRaisedBelow c floods levels n list → IsMadeMap c (λ p cell. cell ≡ cell_of (raised_among c floods levels p)) list
 raised_map c floods levels list n all below = record {
   size = below.size ∙ all ∙ mul_comm c.rows c.cols;
-  each = λ p within. entry-inside c.cols c.rows list p within.0 within.1 ∙ below.each p within (omega (arith, index_below c.cols c.rows p within.0 within.1, all, mul_comm c.rows c.cols));
+  each = λ p within cell is. sym (get_or_from_slice_get list (index_of c.cols p) cell None is) ∙ below.each p within (omega (arith, index_below c.cols c.rows p within.0 within.1, all, mul_comm c.rows c.cols));
 }
 
 -- a graph with all joins is one in which some may be left out
@@ -209,7 +209,7 @@ filled_at t c floods levels are spill p within entry e =
 pub filled_tile : (t : Terrain) (c : Cutting) (floods : List Flood) (tile : ℕ) (f : Flood) (levels raised : List (Option ℤ)) → AreFloods t c floods → slice_get floods tile ≡ Some f → AreOpenLevels t c floods levels → IsRaised c f levels raised → IsFilledTile t c tile raised
 filled_tile t c floods tile f levels raised are there spill is =
     let made = raised_tile c floods tile f levels raised are.lawful (fit_of t c floods are.lawful are) there is in
-    record { size = made.size; each = λ p i. filled_at t c floods levels are spill p i.0 (tile_entry c tile raised p) (made.each p i) }
+    record { size = made.0; each = λ p i. filled_at t c floods levels are spill p i.0 (tile_entry c tile raised p) (made.1 p i) }
 
 -- a filled height is one of the grid's, and so a cell has it
 stands_in_cell : (t : Terrain) (p : Place) (level : ℤ) → IsTerrain t → IsFilledHeight t p level → cell_of (Some level) ≡ Some level

@@ -1,8 +1,9 @@
 -- The values of a tile, one observer more at a time.
-use Rattle.std.proofs.Common.{arith, refl, sym, ap, ◌∙◌, ◌≡◌, ◌+◌, ◌-◌, ◌*◌, ◌/◌, ◌%◌, ◌<◌, ℕ, ℤ, Bool, true, false, List, length, get_or, take, Option, None, Some, option_map, inl, inr}
+use Rattle.std.proofs.Common.{arith, refl, sym, ap, ◌∙◌, ◌≡◌, ◌+◌, ◌-◌, ◌*◌, ◌/◌, ◌%◌, ◌<◌, ℕ, ℤ, Bool, true, false, List, length, get_or, take, Option, None, Some, option_map, slice_get, inl, inr}
 use Rattle.std.proofs.lemmas.Bool.{cases_lt}
 use Rattle.std.proofs.lemmas.List.{get_or_past, length-take}
 use Rattle.std.proofs.lemmas.List.Sums.{count_by_more_yes, count_by_more_no, count_by-le-length}
+use Rattle.std.proofs.lemmas.Option.{get_or_from_slice_get, slice_get-get_or}
 use Rattle.std.proofs.lemmas.Nat.{div-add-mod', mod_below, div_below}
 use Rattle.terrain.specs.Raster.{Terrain}
 use Rattle.terrain.specs.Neighbours.{height_at}
@@ -36,9 +37,10 @@ pub looked : (t : Terrain) (os : List Observer) (target radius i : ℕ) (d : Obs
     → AreMadeBelow b (HasValue t (take (i + 1) os) target radius) (b.rows * b.cols) new
 looked t os target radius i d b old new seen less before marks size each = record {
   size = size ∙ before.size;
-  each = λ p inside below.
+  each = λ p inside below entry is.
       let k = index_within b p in
-      each k ∙ ap (λ v. counted v (get_or seen k false)) (before.each p inside below) ∙ ap (λ s. counted (value_at t (take i os) target radius p) s) (marks.each p inside below)
+      let had = before.each p inside below (get_or old k None) (slice_get-get_or old k None (omega (arith, below, before.size))) in
+      sym (get_or_from_slice_get new k entry None is) ∙ each k ∙ ap (λ v. counted v (get_or seen k false)) had ∙ ap (λ s. counted (value_at t (take i os) target radius p) s) (marks.each p inside below)
       ∙ value_counted t os target radius i d p (is_seen t (get_or os i d) p target radius) less refl;
 }
 
@@ -48,7 +50,7 @@ pub passed : (t : Terrain) (os : List Observer) (target radius i : ℕ) (d : Obs
     → AreMadeBelow b (HasValue t (take (i + 1) os) target radius) (b.rows * b.cols) values
 passed t os target radius i d b values less before none = record {
   size = before.size;
-  each = λ p inside below. before.each p inside below ∙ value_counted t os target radius i d p false less (none p inside);
+  each = λ p inside below entry is. before.each p inside below entry is ∙ value_counted t os target radius i d p false less (none p inside);
 }
 
 -- no value is above the number of observers
@@ -83,7 +85,7 @@ few t os target radius i b values made k n e = elim (cases_lt k (length values))
   | inl less ↦
       (let below : k < b.rows * b.cols = omega (arith, made.size) in
       let p = place b k below in
-      let here : get_or values k None ≡ value_at t (take i os) target radius p = ap (λ j. get_or values j None) (sym (at b k below)) ∙ made.each p (inside b k below) (omega (arith, at b k below)) in
+      let here : get_or values k None ≡ value_at t (take i os) target radius p = made.each p (inside b k below) (omega (arith, at b k below)) (get_or values k None) (ap (slice_get values) (at b k below) ∙ slice_get-get_or values k None less) in
       let is : n ≡ viewshed_value t (take i os) target radius p = value_few (height_at t p) n (viewshed_value t (take i os) target radius p) (sym here ∙ e) in
       omega (arith, count_by-le-length (λ (o : Observer). is_seen t o p target radius) (take i os), length-take i os))
   | inr past ↦ (let none = get_or_past values k None past in absurd (cc))

@@ -13,7 +13,7 @@ ghost use Rattle.sight.specs.Viewed.{value_at, HasValue, counted, AreAtMost, IsF
 
 use crate::reach::is_any_in_reach;
 use std::alloc::{AllocError, Global};
-use terrain::{Grid, Height, NoMemory, Observer, Place};
+use terrain::{Count, Grid, Height, NoMemory, Observer, Place};
 use tile_maps::TileMap;
 use tiles::{Bounds, Tiling};
 
@@ -36,18 +36,18 @@ pub struct Viewing<'a> {
 }
 
 /// A value with one observer more.
-fn one_more(value: Option<u32>) -> Option<u32>
+fn one_more(value: Count) -> Count
     requires { IfSome value (λ n. n < most_observers) }
     ensures { result ≡ option_map (λ n. n + 1) value }
 {
-    match value {
-        None => None,
-        Some(count) => Some(count + 1),
+    match value.value() {
+        None => Count::no_data(),
+        Some(number) => Count::of(number + 1),
     }
 }
 
 /// Counts an observer at each cell that it sees.
-fn count_seen(seen: &[bool], values: &mut [Option<u32>])
+fn count_seen(seen: &[bool], values: &mut [Count])
     requires size { length seen.now ≡ length values.old }
     requires few { AreAtMost 1023 values.old }
     ensures { (k : ℕ) → slice_index_or values.new k None
@@ -62,23 +62,18 @@ fn count_seen(seen: &[bool], values: &mut [Option<u32>])
 
 impl<'a> Viewing<'a> {
     /// The value of a cell before any observer, None where there is no data.
-    fn first_value(&self, place: Place) -> Option<u32>
+    fn first_value(&self, place: Place) -> Count
         requires { IsInside self.now.grid.now.terrain place }
         ensures { result ≡ value_at self.now.grid.now.terrain [] self.now.target_height self.now.radius place }
     {
         if self.grid.at(place).is_none() {
-            return None;
+            return Count::no_data();
         }
-        Some(0)
+        Count::of(0)
     }
 
     /// Appends the first values of a row of a tile.
-    fn push_row(
-        &self,
-        bounds: Bounds,
-        row: u32,
-        values: &mut Vec<Option<u32>>,
-    ) -> Result<(), AllocError>
+    fn push_row(&self, bounds: Bounds, row: u32, values: &mut Vec<Count>) -> Result<(), AllocError>
         requires lawful { IsCutting self.now.tiling.now }
         requires inside { AreBounds self.now.tiling.now bounds }
         requires row { (bounds.top ≤ row) × (row < bounds.top + bounds.rows) }
@@ -96,7 +91,7 @@ impl<'a> Viewing<'a> {
     }
 
     /// The values of a tile before any observer.
-    fn first_values(&self, alloc: Global, bounds: Bounds) -> Result<Vec<Option<u32>>, AllocError>
+    fn first_values(&self, alloc: Global, bounds: Bounds) -> Result<Vec<Count>, AllocError>
         requires lawful { IsCutting self.now.tiling.now }
         requires inside { AreBounds self.now.tiling.now bounds }
         ensures { IfOk result (λ v. AreMadeBelow bounds
@@ -131,7 +126,7 @@ impl<'a> Viewing<'a> {
         alloc: Global,
         bounds: Bounds,
         seen: &mut [bool],
-        values: &mut [Option<u32>],
+        values: &mut [Count],
     ) -> Result<(), AllocError>
         requires lawful { IsCutting self.now.tiling.now }
         requires inside { AreBounds self.now.tiling.now bounds }
@@ -156,7 +151,7 @@ impl<'a> Viewing<'a> {
 impl<'a> TileMap for Viewing<'a> {
     ghost use Rattle.sight.specs.Viewed.{HasValue};
 
-    type Cell = u32;
+    type Entry = Count;
 
     ghost cutting = { λ m. m.tiling.now };
 
@@ -166,7 +161,7 @@ impl<'a> TileMap for Viewing<'a> {
         *self.tiling
     }
 
-    fn tile(&self, alloc: Global, tile: u32) -> Result<Vec<Option<u32>>, NoMemory> {
+    fn tile(&self, alloc: Global, tile: u32) -> Result<Vec<Count>, NoMemory> {
         let bounds = self.tiling.bounds(tile);
         let mut values = self.first_values(alloc, bounds)?;
         let mut seen = vec![in alloc; false; values.len()]?;

@@ -11,7 +11,7 @@ use crate::tops::{block_tops, peak_of};
 use std::alloc::Global;
 use std::sync::Wait;
 use std::thread::Threads;
-use terrain::{Grid, Observer};
+use terrain::{Count, Grid, Observer};
 use tile_jobs::{Gate, JobFault, MOST_WORKERS};
 use tile_maps::Crew;
 use tiles::Tiling;
@@ -32,7 +32,7 @@ pub fn viewshed<R: Threads + Wait + Sync, G: Gate + Sync>(
     tiling: &Tiling,
     workers: u32,
     gate: &G,
-) -> Result<Vec<Option<u32>>, SightFault>
+) -> Result<Vec<Count>, SightFault>
     requires given { Cuts tiling.now grid.now.terrain }
     ensures values { IfOk result (λ v.
         IsViewshed grid.now.terrain observers.now target_height radius v.items) }

@@ -1,16 +1,17 @@
 -- Lists of a tile's entries, one entry more at a time.
-use Rattle.std.proofs.Common.{◌≡◌, ℕ, ◌+◌, ◌-◌, ◌*◌, ◌<◌, inl, inr, List, ◌∷◌, ◌++◌, [], get_or, Option, None, sym, ap, subst, ◌∙◌, arith}
+use Rattle.std.proofs.Common.{◌≡◌, ℕ, ◌+◌, ◌-◌, ◌*◌, ◌<◌, inl, inr, List, ◌∷◌, ◌++◌, [], get_or, Option, None, slice_get, sym, ap, subst, ◌∙◌, arith}
 use Rattle.std.proofs.lemmas.Bool.{cases_eq}
-use Rattle.std.proofs.lemmas.List.{get_or_append_left, get_or_push, length_push}
+use Rattle.std.proofs.lemmas.List.{length_push}
 use Rattle.std.proofs.lemmas.Nat.{mul-add-lt}
+use Rattle.std.proofs.lemmas.Option.{same_Some, slice_get-get_or}
 use Rattle.terrain.proofs.Places.{make_place, same_place, index_injective}
 use Rattle.terrain.specs.declared.place.Place.{Place}
 use Rattle.tiles.specs.declared.bounds.Bounds.{Bounds}
-use Rattle.tiles.specs.Cutting.{Cutting, IsCutting, IsInBounds, bounds_of}
+use Rattle.tiles.specs.Cutting.{Cutting, IsCutting, IsInBounds, IsInTile, bounds_of, index_in_tile, tile_entry}
 use Rattle.tiles.proofs.Cut.{in_bounds}
-use Rattle.tiles.proofs.TileRows.{tile_entry_is}
+use Rattle.tiles.proofs.SliceGet.{slice_get-append_left, slice_get-append_right}
+use Rattle.tiles.proofs.TileOrder.{index_in_tile_is, tile_entry-in}
 use Rattle.tile_maps.specs.Maps.{index_within, AreMadeBelow, IsMadeTile}
-use Rattle.tile_maps.proofs.Whole.{tile_of_entries}
 
 -- two places that stand at one place of the bounds' row order are one
 pub within_injective : (b : Bounds) (p q : Place) → IsInBounds b p → IsInBounds b q → index_within b p ≡ index_within b q → p ≡ q
@@ -21,22 +22,21 @@ within_injective b p q i j e =
     same_place p q (omega (arith, i.0, j.0)) (omega (arith, i.2, j.2))
 
 -- one entry more
-pub made_push : {X : Type 0} (b : Bounds) (Has : Place → Option X → Type 0) (p : Place) (list : List (Option X)) (x : Option X) → IsInBounds b p →
+pub made_push : {X : Type 0} (b : Bounds) (Has : Place → X → Type 0) (p : Place) (list : List X) (x : X) → IsInBounds b p →
     AreMadeBelow b Has (index_within b p) list → Has p x → AreMadeBelow b Has (index_within b p + 1) (list ++ x ∷ [])
 made_push {X} b Has p list x inside before here = record {
   size = length_push list x ∙ ap (λ n. n + 1) before.size;
-  each = λ q within below. elim (cases_eq (index_within b q) (index_within b p)) [
+  each = λ q within below entry is. elim (cases_eq (index_within b q) (index_within b p)) [
     | inl e ↦ (let one : p ≡ q = within_injective b p q inside within (sym e) in
-        subst (λ (r : Place). Has r (get_or (list ++ x ∷ []) (index_within b r) None)) one
-        (subst (λ (o : Option X). Has p o) (sym (get_or_push list x None (index_within b p) before.size)) here))
+        let same : x ≡ entry = same_Some x entry (sym (slice_get-append_right list (x ∷ []) (index_within b q) 0 (omega (arith, e, before.size))) ∙ is) in
+        subst (λ (r : Place). Has r entry) one (subst (λ (y : X). Has p y) same here))
     | inr ne ↦ (let lower : index_within b q < index_within b p = omega arith in
-        subst (λ (o : Option X). Has q o) (sym (get_or_append_left list (x ∷ []) None (index_within b q) (omega (arith, before.size))))
-        (before.each q within lower))
+        before.each q within lower entry (sym (slice_get-append_left list (x ∷ []) (index_within b q) (omega (arith, before.size))) ∙ is))
   ];
 }
 
 -- the entry of the next place of a row
-pub made_next : {X : Type 0} (b : Bounds) (Has : Place → Option X → Type 0) (row col : ℕ) (list : List (Option X)) (x : Option X) → row < b.rows → col < b.cols →
+pub made_next : {X : Type 0} (b : Bounds) (Has : Place → X → Type 0) (row col : ℕ) (list : List X) (x : X) → row < b.rows → col < b.cols →
     AreMadeBelow b Has (row * b.cols + col) list → Has (make_place (b.top + row) (b.left + col)) x → AreMadeBelow b Has (row * b.cols + (col + 1)) (list ++ x ∷ [])
 made_next {X} b Has row col list x below beside before here =
     let p = make_place (b.top + row) (b.left + col) in
@@ -53,9 +53,21 @@ within_below b p i =
     omega arith
 
 -- a list of all places of a tile's bounds
-pub made_tile : {X : Type 0} (c : Cutting) (tile : ℕ) (b : Bounds) (Has : Place → Option X → Type 0) (list : List (Option X)) → IsCutting c → b ≡ bounds_of c tile →
+pub made_tile : {X : Type 0} (c : Cutting) (tile : ℕ) (b : Bounds) (Has : Place → X → Type 0) (list : List X) → IsCutting c → b ≡ bounds_of c tile →
     AreMadeBelow b Has (b.rows * b.cols) list → IsMadeTile c tile Has list
-made_tile {X} c tile b Has list lawful e made = tile_of_entries c tile Has list (made.size ∙ ap (λ (z : Bounds). z.rows * z.cols) e)
-    (λ p inside.
-    let within = subst (λ (z : Bounds). IsInBounds z p) (sym e) (in_bounds c tile p lawful inside) in
-    subst (λ (o : Option X). Has p o) (sym (tile_entry_is c tile b list p e inside)) (made.each p within (within_below b p within)))
+made_tile c tile b Has list lawful e made = record {
+  size = made.size ∙ ap (λ (z : Bounds). z.rows * z.cols) e;
+  each = λ p inside entry is.
+      let within = subst (λ (z : Bounds). IsInBounds z p) (sym e) (in_bounds c tile p lawful inside) in
+      let at : index_within b p ≡ index_in_tile c p = ap (λ (z : Bounds). index_within z p) e ∙ sym (index_in_tile_is c tile p inside.1) in
+      made.each p within (within_below b p within) entry (ap (slice_get list) at ∙ is);
+}
+
+-- what a tile's list has at a place of it
+pub entry_of_tile : {X : Type 0} (c : Cutting) (tile : ℕ) (Has : Place → Option X → Type 0) (list : List (Option X)) → IsCutting c → IsMadeTile c tile Has list →
+    (p : Place) → IsInTile c tile p → Has p (tile_entry c tile list p)
+entry_of_tile {X} c tile Has list lawful made p inside =
+    let at = index_in_tile_is c tile p inside.1 in
+    let below = within_below (bounds_of c tile) p (in_bounds c tile p lawful inside) in
+    subst (λ (o : Option X). Has p o) (ap (λ n. get_or list n None) at ∙ sym (tile_entry-in c tile list p inside))
+    (made.each p inside (get_or list (index_in_tile c p) None) (slice_get-get_or list (index_in_tile c p) None (omega (arith, below, at, made.size))))

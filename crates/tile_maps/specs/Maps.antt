@@ -1,5 +1,5 @@
 -- Maps with an entry for each place: of a part of a row order, of a tile, of a whole grid.
-use Rattle.std.specs.Prelude.{◌≡◌, ℕ, ◌+◌, ◌-◌, ◌*◌, ◌<◌, List, length, Option, None, Some, slice_get, slice_index_or}
+use Rattle.std.specs.Prelude.{◌≡◌, ℕ, ◌+◌, ◌-◌, ◌*◌, ◌<◌, List, length, Some, slice_get}
 use Rattle.terrain.specs.Neighbours.{index_of}
 use Rattle.terrain.specs.declared.place.Place.{Place}
 use Rattle.tiles.specs.declared.bounds.Bounds.{Bounds}
@@ -9,10 +9,11 @@ use Rattle.tiles.specs.Cutting.{Cutting, IsInBounds, IsInTile, IsWithin, cell_co
 abbrev pub index_within : Bounds → Place → ℕ
 index_within b p = (p.row - b.top) * b.cols + (p.col - b.left)
 
--- The list has an entry that fits for each place of the bounds that stands before one in row order, and nothing more.
-pub record AreMadeBelow {X : Type 0} (b : Bounds) (Has : Place → Option X → Type 0) (end : ℕ) (list : List (Option X)) : Type 0 where
+-- The list has an entry for each place of the bounds that stands before one in row order, and nothing more; and each of
+-- them fits.
+pub record AreMadeBelow {X : Type 0} (b : Bounds) (Has : Place → X → Type 0) (end : ℕ) (list : List X) : Type 0 where
   pub size : length list ≡ end
-  pub each : (p : Place) → IsInBounds b p → index_within b p < end → Has p (slice_index_or list (index_within b p) None)
+  pub each : (p : Place) → IsInBounds b p → index_within b p < end → (entry : X) → slice_get list (index_within b p) ≡ Some entry → Has p entry
 
 -- The list has an entry for each place of the tile, in its row order, and each of them fits.
 pub record IsMadeTile {X : Type 0} (c : Cutting) (tile : ℕ) (Has : Place → X → Type 0) (list : List X) : Type 0 where
