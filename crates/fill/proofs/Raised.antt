@@ -34,7 +34,7 @@ use Rattle.std.proofs.lemmas.Option.{MatchOption-at_some, MatchOption-at_none, g
 use Rattle.std.proofs.lemmas.List.Elements.{All-contains, All-from_get_or}
 use Rattle.std.proofs.lemmas.Nat.{div-add-mod', mod_below, div_below}
 use Rattle.tile_jobs.specs.Answers.{AllGiven}
-use Rattle.tile_maps.specs.Maps.{IsMadeTile, IsMadeMap}
+use Rattle.tile_maps.specs.Maps.{IsMadeMap}
 use Rattle.tile_maps.proofs.Whole.{map_of_size}
 use Rattle.drainage.proofs.FilledTwice.{filled_twice}
 
@@ -124,8 +124,7 @@ raised_here c floods tile k f levels p h fit there i at =
 pub raised_tile : (c : Cutting) (floods : List Flood) (tile : ℕ) (f : Flood) (levels raised : List (Option ℤ)) → IsCutting c → Fit c floods → slice_get floods tile ≡ Some f → IsRaised c f levels raised →
     (length raised ≡ cell_count c tile) × ((p : Place) → IsInTile c tile p → tile_entry c tile raised p ≡ raised_among c floods levels p)
 raised_tile c floods tile f levels raised h fit there is =
-    let area : length f.levels ≡ cell_count c tile = fit.levels tile f there ∙ ap (λ (x : Bounds). x.rows * x.cols) (fit.bounds tile f there) in
-    (
+    let area : length f.levels ≡ cell_count c tile = fit.levels tile f there ∙ ap (λ (x : Bounds). x.rows * x.cols) (fit.bounds tile f there) in (
       is.size ∙ area,
       λ p i.
           let b = bounds_of c tile in
