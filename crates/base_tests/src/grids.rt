@@ -5,7 +5,7 @@ use crate::texts::{PIT, PIT_CELLS, expect_cells, grid_of};
 use std::alloc::Global;
 use std::process::Abort;
 use std::test::Fail;
-use terrain::{Anchor, Cell, Grid, Height, Place, SinkFault, Word};
+use terrain::{Anchor, Cell, Count, Grid, Height, Place, SinkFault, Word};
 
 /// The place in the middle of three by three cells, and others in and beside them.
 const MIDDLE: Place = Place { row: 1, col: 1 };
@@ -126,6 +126,15 @@ fn other_cells(rt: HostRuntime) {
     is_anchor(&rt, other.frame().xll(), true, b"100.5");
     is_word(&rt, other.frame().nodata(), b"-9999");
     assert_eq!(rt; grid.at(MIDDLE), Some(-1));
+}
+
+/// The greatest is a basin's number where each cell of the largest grid is a sink.
+#[test]
+fn counts(rt: HostRuntime) {
+    for number in [0, 1, 16_777_216] {
+        assert_eq!(rt; Count::of(number).value(), Some(number));
+    }
+    assert!(rt; Count::no_data().value().is_none());
 }
 
 #[test]

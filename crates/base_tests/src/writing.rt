@@ -8,7 +8,7 @@ use std::io;
 use std::io::Write;
 use std::process::Abort;
 use std::test::Fail;
-use terrain::{Grid, Height, Place};
+use terrain::{Count, Grid, Height, Place};
 
 /// More bytes than a test writes.
 const ALL: usize = 20_000;
@@ -160,7 +160,7 @@ fn lenient_flow(rt: HostRuntime) {
     let grid = lenient_grid(&rt, rt.alloc());
     let mut taker = Taker::new(rt.alloc(), ALL, ALL);
     let mut out = Counted::new(&mut taker);
-    let codes = [Some(1), Some(0), None, Some(64)];
+    let codes = [Count::of(1), Count::of(0), Count::no_data(), Count::of(64)];
     assert_eq!(rt; write_counts(&grid, &codes, &mut out), Ok(()));
     assert_eq!(rt; out.failures(), 0);
     assert_eq!(rt; taker.taken.as_slice(), LENIENT_FLOW);

@@ -4,11 +4,11 @@ use crate::stages::{directed, leveled};
 use drain::Code;
 use fill::filled_heights;
 use flow::{accumulation, basins};
-use std::alloc::Global;
+use std::alloc::{AllocError, Global};
 use std::process::Abort;
 use std::sync::Wait;
 use std::thread::Threads;
-use terrain::{Grid, NoMemory};
+use terrain::{Count, Grid, NoMemory};
 use tile_jobs::NoGate;
 
 /// Sides of tiles and numbers of workers.
@@ -55,6 +55,10 @@ fn numbers(alloc: Global, codes: &[Option<Code>]) -> Result<Vec<Option<u32>>, No
     Ok(numbers)
 }
 
+fn told(alloc: Global, counts: &[Count]) -> Result<Vec<Option<u32>>, AllocError> {
+    counts.iter().map(|count| count.value()).collect(alloc)
+}
+
 impl Maps {
     /// These are the maps, however the terrain is cut and whoever does the work.
     pub(crate) fn expect<R: Abort + Threads + Wait + Sync>(&self, rt: &R, alloc: Global) {
@@ -88,7 +92,9 @@ impl Maps {
         let ways = directed(rt, alloc, &level, &tiling, workers).expect(rt, "ways");
         let codes = numbers(alloc, ways.codes()).expect(rt, "codes");
         let counts = accumulation(rt, alloc, &ways, &tiling, workers, &NoGate).expect(rt, "counts");
+        let counts = told(alloc, &counts).expect(rt, "counts told");
         let numbers = basins(rt, alloc, &ways, &tiling, workers, &NoGate).expect(rt, "basins");
+        let numbers = told(alloc, &numbers).expect(rt, "basins told");
         let agreed = [
             self.agrees(rt, alloc, &codes, self.codes),
             self.agrees(rt, alloc, &counts, self.accumulation),

@@ -7,7 +7,7 @@ use std::alloc::{AllocError, Global};
 use std::process::Abort;
 use std::sync::Wait;
 use std::thread::Threads;
-use terrain::{Grid, Place};
+use terrain::{Count, Grid, Place};
 use tile_jobs::{JobFault, NoGate};
 
 const FARTHEST: u32 = 8_192;
@@ -24,8 +24,8 @@ fn observer(row: u32, col: u32, eye: u32) -> Observer
     Observer { row, col, eye }
 }
 
-/// Each value below 10 as its digit and None as a point, the rows parted by a space.
-fn drawn(alloc: Global, values: &[Option<u32>], cols: u32) -> Result<String, AllocError> {
+/// Each value below 10 as its digit and no data as a point, the rows parted by a space.
+fn drawn(alloc: Global, values: &[Count], cols: u32) -> Result<String, AllocError> {
     let mut text = String::new(alloc);
     let mut in_row = 0;
     for value in values {
@@ -33,9 +33,9 @@ fn drawn(alloc: Global, values: &[Option<u32>], cols: u32) -> Result<String, All
             text.push(' ')?;
             in_row = 0;
         }
-        text.push(match value {
+        text.push(match value.value() {
             None => '.',
-            Some(count) if *count < 10 => (b'0' + *count as u8) as char,
+            Some(number) if number < 10 => (b'0' + number as u8) as char,
             Some(_) => '+',
         })?;
         in_row = in_row.saturating_add(1);
@@ -224,7 +224,7 @@ fn push_plain_row(
     observer: &Observer,
     row: u32,
     target_height: u32,
-    values: &mut Vec<Option<u32>>,
+    values: &mut Vec<Count>,
 ) {
     assert!(rt; row < land.rows());
     assert!(rt; observer.row < land.rows());
@@ -234,9 +234,9 @@ fn push_plain_row(
     for col in 0..land.cols() {
         let place = Place { row, col };
         let value = if land.at(place).is_none() {
-            None
+            Count::no_data()
         } else {
-            Some(sees(land, observer, place, target_height, FARTHEST) as u32)
+            Count::of(sees(land, observer, place, target_height, FARTHEST) as u32)
         };
         values.push(value).expect(rt, "a value");
     }

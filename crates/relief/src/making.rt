@@ -18,7 +18,7 @@ use sight::viewshed;
 use std::alloc::Global;
 use std::sync::Wait;
 use std::thread::Threads;
-use terrain::{Frame, Grid};
+use terrain::{Count, Frame, Grid};
 use tile_jobs::{Gate, JobFault};
 use tiles::{Tiling, TilingFault};
 
@@ -27,7 +27,7 @@ use tiles::{Tiling, TilingFault};
 pub(crate) enum MadeMap {
     Heights(Grid),
     Codes(Frame, Directions),
-    Counts(Frame, Vec<Option<u32>>),
+    Counts(Frame, Vec<Count>),
 }
 
 /// The directions on a grid's filled heights, and the filled grid without its cells.
