@@ -1,9 +1,10 @@
 -- A line that passes over blocks: where it is between two of its steps, and that no crossing blocks there.
-use Rattle.std.proofs.Common.{arith, refl, ap, subst, ◌∙◌, ◌≡◌, ◌+◌, ◌-◌, ◌*◌, ◌/◌, ◌<◌, ◌≤◌, ℕ, ℤ, pos, ◌+ℤ◌, ◌*ℤ◌, ◌≤ℤ◌, false, int_lt, List, Option, None, Some, get_or, min, max, inl, inr}
+use Rattle.std.proofs.Common.{arith, refl, sym, ap, subst, ◌∙◌, ◌≡◌, ◌+◌, ◌-◌, ◌*◌, ◌/◌, ◌<◌, ◌≤◌, ℕ, ℤ, pos, ◌+ℤ◌, ◌*ℤ◌, ◌≤ℤ◌, false, int_lt, List, Option, None, Some, get_or, min, max, inl, inr}
 use borrow.Author.Differences.{up, down}
 use Rattle.std.proofs.lemmas.Int.{ints}
 use Rattle.std.proofs.lemmas.Bool.{cases_lt}
 use Rattle.std.proofs.lemmas.Nat.{mul-le, div-add-mod', mod_below, mul-add-lt}
+use Rattle.std.proofs.Math.Nat.{add-div_left}
 use Rattle.sight.specs.Sight.{toward, sight}
 use Rattle.sight.specs.Walk.{whole_at, part_at, index_at, is_above, step_blocks, steps_of, IsAt, over_columns, over_rows}
 use Rattle.sight.specs.Blocks.{IsTopOf, IsPeak, IsLow, AreTopsAlong, AreLowBetween, blocks_in, AreTops}
@@ -46,7 +47,7 @@ toward_between a b n i j k low high few =
     (omega (arith, is, one, two, three), omega (arith, is, one, two, three))
 
 -- a greater number has no smaller quotient
-div_le : (x y n : ℕ) → 0 < n → x ≤ y → x / n ≤ y / n
+pub div_le : (x y n : ℕ) → 0 < n → x ≤ y → x / n ≤ y / n
 div_le x y n some h =
     elim (cases_lt (y / n) (x / n)) [
       | inl past ↦ absurd (omega (arith, h, div-add-mod' x n, div-add-mod' y n, mod_below y n some, mul-le (y / n + 1) n (x / n) n (omega arith) (omega arith)))
@@ -136,11 +137,11 @@ low_more None n z w h low = tt
 low_more (Some m) n z w h low = omega (arith, ints, h, low)
 
 -- a line above the blocks that it meets between two steps is not blocked there
-pub step_passed : (cells tops : List (Option ℤ)) (line : Sightline) (s : BlockStrides) (i j k block : ℕ) (start end : Step)
-    → 0 < steps_of line → i ≤ k → k < j → j ≤ steps_of line → IsAt line i start → IsAt line j end → AreTopsAlong cells tops line s
-    → whole_at line.lead (steps_of line) k / 16 ≡ block → AreLowBetween tops s line block start end
+pub step_passed : (size : ℕ) (cells tops : List (Option ℤ)) (line : Sightline) (s : BlockStrides) (i j k block : ℕ) (start end : Step)
+    → 0 < steps_of line → i ≤ k → k < j → j ≤ steps_of line → IsAt line i start → IsAt line j end → AreTopsAlong size cells tops line s
+    → whole_at line.lead (steps_of line) k / size ≡ block → AreLowBetween size tops s line block start end
     → step_blocks cells line.lead line.side line.from_level line.to_level (steps_of line) k ≡ false
-step_passed cells tops line s i j k block start end some low high few at_start at_end is_top in_block is_low =
+step_passed size cells tops line s i j k block start end some low high few at_start at_end is_top in_block is_low =
     let n = steps_of line in
     let a = whole_at line.lead n k in
     let b = whole_at line.side n k in
@@ -156,8 +157,8 @@ step_passed cells tops line s i j k block start end some low high few at_start a
     let low_at : (cell : ℕ) → min start.whole end.whole ≤ cell → cell ≤ max start.whole end.whole + 1 → cell ≤ max line.side.from line.side.to
     → (h : ℤ) → get_or cells (a * line.lead.stride + cell * line.side.stride) None ≡ Some h → (pos ((n - m) + m) *ℤ h) ≤ℤ sight e f n k =
     λ cell above below inside h is.
-    let top = get_or tops (block * s.lead + cell / 16 * s.side) None in
-    let place : get_or tops (a / 16 * s.lead + cell / 16 * s.side) None ≡ top = ap (λ x. get_or tops (x * s.lead + cell / 16 * s.side) None) in_block in
+    let top = get_or tops (block * s.lead + cell / size * s.side) None in
+    let place : get_or tops (a / size * s.lead + cell / size * s.side) None ≡ top = ap (λ x. get_or tops (x * s.lead + cell / size * s.side) None) in_block in
     let P : Option ℤ → Type 0 = λ x. IsTopOf x h in
     let is_under : IsTopOf top h = subst P place (is_top.above a cell h a_in inside is) in
     let lows = is_low cell above below inside in
@@ -171,10 +172,10 @@ step_passed cells tops line s i j k block start end some low high few at_start a
     (whole_lt line.side n k some (omega arith) part) h (ap (λ x. get_or cells x None) beside ∙ is))
 
 -- nor is a line above the peak from one step on
-pub step_above : (cells tops : List (Option ℤ)) (line : Sightline) (s : BlockStrides) (peak : ℤ) (i k : ℕ) (start : Step)
-    → 0 < steps_of line → i ≤ k → k < steps_of line → IsAt line i start → AreTopsAlong cells tops line s → IsPeak tops peak → (pos (steps_of line) *ℤ peak) ≤ℤ start.sight → peak ≤ℤ line.to_level
+pub step_above : (size : ℕ) (cells tops : List (Option ℤ)) (line : Sightline) (s : BlockStrides) (peak : ℤ) (i k : ℕ) (start : Step)
+    → 0 < steps_of line → i ≤ k → k < steps_of line → IsAt line i start → AreTopsAlong size cells tops line s → IsPeak tops peak → (pos (steps_of line) *ℤ peak) ≤ℤ start.sight → peak ≤ℤ line.to_level
     → step_blocks cells line.lead line.side line.from_level line.to_level (steps_of line) k ≡ false
-step_above cells tops line s peak i k start some low high at_start is_top is_peak above ends =
+step_above size cells tops line s peak i k start some low high at_start is_top is_peak above ends =
     let n = steps_of line in
     let a = whole_at line.lead n k in
     let b = whole_at line.side n k in
@@ -190,7 +191,7 @@ step_above cells tops line s peak i k start some low high at_start is_top is_pea
     let end : (pos n *ℤ peak) ≤ℤ sight e f n n = rw none_left (at_end e f peak n ends) in
     let low_at : (cell : ℕ) → cell ≤ max line.side.from line.side.to → (h : ℤ) → get_or cells (a * line.lead.stride + cell * line.side.stride) None ≡ Some h → (pos ((n - m) + m) *ℤ h) ≤ℤ sight e f n k =
     λ cell inside h is.
-    let under = below_peak (get_or tops (a / 16 * s.lead + cell / 16 * s.side) None) peak h (is_top.above a cell h a_in inside is) (is_peak (a / 16 * s.lead + cell / 16 * s.side)) in
+    let under = below_peak (get_or tops (a / size * s.lead + cell / size * s.side) None) peak h (is_top.above a cell h a_in inside is) (is_peak (a / size * s.lead + cell / size * s.side)) in
     let lower = times_le n h peak under in
     rw all (sight_between e f (pos n *ℤ h) n i n k low (omega arith) (omega arith) (omega (arith, ints, lower, (rw at_start.sight at above))) (omega (arith, ints, lower, end))) in
     let beside : a * line.lead.stride + (b + 1) * line.side.stride ≡ index + line.side.stride = omega arith in
@@ -208,28 +209,36 @@ step_above cells tops line s peak i k start some low high at_start is_top is_pea
     below_peak None p h is all = absurd is
     below_peak (Some x) p h is all = omega (arith, ints, is, all x refl)
 
-pub block_below : (cols rows r c : ℕ) → r < rows → c < cols → r / 16 * blocks_in cols + c / 16 < blocks_in rows * blocks_in cols
-block_below cols rows r c a b = omega (arith, mul-add-lt (r / 16) (blocks_in cols) (c / 16) (blocks_in rows) (omega arith) (omega arith))
+-- a number below an end is in one of the blocks before it
+block_before : (size r rows : ℕ) → 0 < size → r < rows → r / size < blocks_in size rows
+block_before size r rows some below =
+    let next : (size + r) / size ≡ r / size + 1 = add-div_left r some in
+    let low = div_le (size + r) (rows + (size - 1)) size some (omega arith) in
+    omega (arith, next, low)
+
+pub block_below : (size cols rows r c : ℕ) → 0 < size → r < rows → c < cols → r / size * blocks_in size cols + c / size < blocks_in size rows * blocks_in size cols
+block_below size cols rows r c some a b =
+    omega (arith, mul-add-lt (r / size) (blocks_in size cols) (c / size) (blocks_in size rows) (block_before size r rows some a) (block_before size c cols some b))
 
 -- the top over a place, whose index in the list of tops is told
-top_at : (t : Terrain) (tops : List (Option ℤ)) (r c i j : ℕ) (h : ℤ) → AreTops t tops → r < t.rows → c < t.cols → i ≡ r * t.cols + c → j ≡ r / 16 * blocks_in t.cols + c / 16
+top_at : (size : ℕ) (t : Terrain) (tops : List (Option ℤ)) (r c i j : ℕ) (h : ℤ) → AreTops size t tops → r < t.rows → c < t.cols → i ≡ r * t.cols + c → j ≡ r / size * blocks_in size t.cols + c / size
     → get_or t.cells i None ≡ Some h → IsTopOf (get_or tops j None) h
-top_at t tops r c i j h are a b i_is j_is is =
+top_at size t tops r c i j h are a b i_is j_is is =
     let P : ℕ → Type 0 = λ n. IsTopOf (get_or tops n None) h in
-    subst P (omega arith) (are.above (record { row = r; col = c }) h (height_is t r c i a b i_is ∙ is))
+    subst P (sym j_is) (are.above (record { row = r; col = c }) h (height_is t r c i a b i_is ∙ is))
 
-pub along_columns : (t : Terrain) (tops : List (Option ℤ)) (p q : Place) (e f : ℤ) → AreTops t tops → IsInside t p → IsInside t q
-    → AreTopsAlong t.cells tops (over_columns t p q e f) (record { lead = 1; side = blocks_in t.cols })
-along_columns t tops p q e f are a b = record {
+pub tops_along_columns : (size : ℕ) (t : Terrain) (tops : List (Option ℤ)) (p q : Place) (e f : ℤ) → 0 < size → AreTops size t tops → IsInside t p → IsInside t q
+    → AreTopsAlong size t.cells tops (over_columns t p q e f) (record { lead = 1; side = blocks_in size t.cols })
+tops_along_columns size t tops p q e f some are a b = record {
   heights = are.heights;
-  over = omega (arith, are.size, block_below t.cols t.rows (max p.row q.row) (max p.col q.col) (omega arith) (omega arith));
-  above = λ col row h c_in r_in is. top_at t tops row col (col * 1 + row * t.cols) (col / 16 * 1 + row / 16 * blocks_in t.cols) h are (omega arith) (omega arith) (omega arith) (omega arith) is;
+  over = omega (arith, are.count, block_below size t.cols t.rows (max p.row q.row) (max p.col q.col) some (omega arith) (omega arith));
+  above = λ col row h c_in r_in is. top_at size t tops row col (col * 1 + row * t.cols) (col / size * 1 + row / size * blocks_in size t.cols) h are (omega arith) (omega arith) (omega arith) (omega arith) is;
 }
 
-pub along_rows : (t : Terrain) (tops : List (Option ℤ)) (p q : Place) (e f : ℤ) → AreTops t tops → IsInside t p → IsInside t q
-    → AreTopsAlong t.cells tops (over_rows t p q e f) (record { lead = blocks_in t.cols; side = 1 })
-along_rows t tops p q e f are a b = record {
+pub tops_along_rows : (size : ℕ) (t : Terrain) (tops : List (Option ℤ)) (p q : Place) (e f : ℤ) → 0 < size → AreTops size t tops → IsInside t p → IsInside t q
+    → AreTopsAlong size t.cells tops (over_rows t p q e f) (record { lead = blocks_in size t.cols; side = 1 })
+tops_along_rows size t tops p q e f some are a b = record {
   heights = are.heights;
-  over = omega (arith, are.size, block_below t.cols t.rows (max p.row q.row) (max p.col q.col) (omega arith) (omega arith));
-  above = λ row col h r_in c_in is. top_at t tops row col (row * t.cols + col * 1) (row / 16 * blocks_in t.cols + col / 16 * 1) h are (omega arith) (omega arith) (omega arith) (omega arith) is;
+  over = omega (arith, are.count, block_below size t.cols t.rows (max p.row q.row) (max p.col q.col) some (omega arith) (omega arith));
+  above = λ row col h r_in c_in is. top_at size t tops row col (row * t.cols + col * 1) (row / size * blocks_in size t.cols + col / size * 1) h are (omega arith) (omega arith) (omega arith) (omega arith) is;
 }

@@ -11,11 +11,11 @@ use Rattle.sight.specs.declared.walk.Pace.{Pace}
 use Rattle.sight.proofs.Toward.{toward_le, step_stays, step_passes, lead_whole, lead_part}
 
 -- the leading coordinate
-lead_step : (a : Axis) (n k ahead behind part : ℕ) → n ≡ abs_diff a.from a.to → 0 < n → k < n → Gains a n ahead behind part → whole_at a n (k + 1) + behind ≡ whole_at a n k + ahead
+lead_step : (a : Axis) (n k ahead behind part : ℕ) → n ≡ abs_diff a.from a.to → 0 < n → k < n → Gains a n 1 ahead behind part → whole_at a n (k + 1) + behind ≡ whole_at a n k + ahead
 lead_step a n k ahead behind part e some h gains =
-    let none : part ≡ 0 = lead_part a.from a.to n ahead behind part e gains.sum gains.below in
+    let none : part ≡ 0 = lead_part a.from a.to n ahead behind part e (omega (arith, gains.sum)) gains.below in
     let whole : toward a.from a.to n k % n ≡ 0 = lead_whole a.from a.to n k e some (omega arith) in
-    (step_stays a.from a.to n k ahead behind part h gains.sum (omega arith)).0
+    (step_stays a.from a.to n k 1 ahead behind part (omega arith) gains.sum (omega arith)).0
 
 -- what an index is, when both coordinates have moved on
 moved : (x y s t la lb sa sb x' y' one : ℕ) → x' + lb ≡ x + la → y' + sb ≡ y + sa + one → x' * s + y' * t + (lb * s + sb * t) ≡ x * s + y * t + (la * s + sa * t) + one * t
@@ -25,7 +25,7 @@ pub index_stays : (lead side : Axis) (n k : ℕ) (pace : Pace) → n ≡ abs_dif
     → (index_at lead side n (k + 1) + pace.behind ≡ index_at lead side n k + pace.ahead) × (part_at side n (k + 1) ≡ part_at side n k + pace.part)
 index_stays lead side n k pace e h p below =
     let one = lead_step lead n k p.lead_ahead p.lead_behind p.lead_part e (omega arith) h p.lead_gains in
-    let two = step_stays side.from side.to n k p.side_ahead p.side_behind pace.part h p.side_gains.sum below in
+    let two = step_stays side.from side.to n k 1 p.side_ahead p.side_behind pace.part (omega arith) p.side_gains.sum below in
     let both = moved (whole_at lead n k) (whole_at side n k) lead.stride side.stride p.lead_ahead p.lead_behind p.side_ahead p.side_behind (whole_at lead n (k + 1)) (whole_at side n (k + 1)) 0 one (omega (arith, two.0)) in
     (omega (arith, both, p.ahead, p.behind), two.1)
 
@@ -33,7 +33,7 @@ pub index_passes : (lead side : Axis) (n k : ℕ) (pace : Pace) → n ≡ abs_di
     → (index_at lead side n (k + 1) + pace.behind ≡ index_at lead side n k + pace.ahead + pace.beside) × (part_at side n (k + 1) + n ≡ part_at side n k + pace.part)
 index_passes lead side n k pace e h p passed =
     let one = lead_step lead n k p.lead_ahead p.lead_behind p.lead_part e (omega arith) h p.lead_gains in
-    let two = step_passes side.from side.to n k p.side_ahead p.side_behind pace.part h p.side_gains.sum p.side_gains.below passed in
+    let two = step_passes side.from side.to n k 1 p.side_ahead p.side_behind pace.part (omega arith) (omega arith) p.side_gains.sum p.side_gains.below passed in
     let both = moved (whole_at lead n k) (whole_at side n k) lead.stride side.stride p.lead_ahead p.lead_behind p.side_ahead p.side_behind (whole_at lead n (k + 1)) (whole_at side n (k + 1)) 1 one two.0 in
     (omega (arith, both, p.ahead, p.behind, p.beside), two.1)
 

@@ -17,14 +17,14 @@ quotient_is t x n m back e below =
     let t_is : t ≡ (x - back) * n + m = omega (arith, ap (λ z. z * n) split) in
     (rw t_is (rw (div-mul-add (x - back) n m below) (omega arith)), rw t_is (mod-mul-add (x - back) n m below))
 
-more : (a b k r : ℕ) → a * r + b * (k + 1) + a ≡ a * (r + 1) + b * k + b
-more a b k r = omega arith
+more : (a b k m r : ℕ) → a * r + b * (k + m) + m * a ≡ a * (r + m) + b * k + m * b
+more a b k m r = omega arith
 
 pub toward_none : (a b n : ℕ) → toward a b n 0 ≡ a * n + 0
 toward_none a b n = rw (sub-zero n) (omega arith)
 
-pub toward_more : (a b n k : ℕ) → k < n → toward a b n (k + 1) + a ≡ toward a b n k + b
-toward_more a b n k h = let e : n - k ≡ (n - (k + 1)) + 1 = omega arith in rw e (more a b k (n - (k + 1)))
+pub toward_more : (a b n k m : ℕ) → k + m ≤ n → toward a b n (k + m) + m * a ≡ toward a b n k + m * b
+toward_more a b n k m h = let e : n - k ≡ (n - (k + m)) + m = omega arith in rw e (more a b k m (n - (k + m)))
 
 within : (a b m k r : ℕ) → a ≤ m → b ≤ m → a * r + b * k ≤ m * (r + k)
 within a b m k r p q = omega (arith, mul-le a r m r p (omega arith), mul-le b k m k q (omega arith))
@@ -36,21 +36,21 @@ toward_le a b n k h =
     let fact : toward a b n k ≤ max a b * ((n - k) + k) = within a b (max a b) k (n - k) (omega arith) (omega arith) in
     omega (arith, ap (λ z. max a b * z) e)
 
--- the next step, where the parts stay below a whole and where they pass it
-pub step_stays : (a b n k ahead behind part : ℕ) → k < n → b + behind * n ≡ a + ahead * n + part → toward a b n k % n + part < n
-    → (toward a b n (k + 1) / n + behind ≡ toward a b n k / n + ahead) × (toward a b n (k + 1) % n ≡ toward a b n k % n + part)
-step_stays a b n k ahead behind part h gains below =
+-- m steps on, where the parts stay below a whole and where they pass it
+pub step_stays : (a b n k m ahead behind part : ℕ) → k + m ≤ n → m * b + behind * n ≡ m * a + ahead * n + part → toward a b n k % n + part < n
+    → (toward a b n (k + m) / n + behind ≡ toward a b n k / n + ahead) × (toward a b n (k + m) % n ≡ toward a b n k % n + part)
+step_stays a b n k m ahead behind part h gains below =
     let t = toward a b n k in
-    let e : toward a b n (k + 1) + behind * n ≡ (t / n + ahead) * n + (t % n + part) = omega (arith, toward_more a b n k h, div-add-mod' t n) in
-    quotient_is (toward a b n (k + 1)) (t / n + ahead) n (t % n + part) behind e below
+    let e : toward a b n (k + m) + behind * n ≡ (t / n + ahead) * n + (t % n + part) = omega (arith, toward_more a b n k m h, div-add-mod' t n) in
+    quotient_is (toward a b n (k + m)) (t / n + ahead) n (t % n + part) behind e below
 
-pub step_passes : (a b n k ahead behind part : ℕ) → k < n → b + behind * n ≡ a + ahead * n + part → part < n → n ≤ toward a b n k % n + part
-    → (toward a b n (k + 1) / n + behind ≡ toward a b n k / n + ahead + 1) × (toward a b n (k + 1) % n + n ≡ toward a b n k % n + part)
-step_passes a b n k ahead behind part h gains small passed =
+pub step_passes : (a b n k m ahead behind part : ℕ) → k + m ≤ n → 0 < n → m * b + behind * n ≡ m * a + ahead * n + part → part < n → n ≤ toward a b n k % n + part
+    → (toward a b n (k + m) / n + behind ≡ toward a b n k / n + ahead + 1) × (toward a b n (k + m) % n + n ≡ toward a b n k % n + part)
+step_passes a b n k m ahead behind part h some gains small passed =
     let t = toward a b n k in
-    let low : t % n < n = mod_below t n (omega arith) in
-    let e : toward a b n (k + 1) + behind * n ≡ (t / n + ahead + 1) * n + (t % n + part - n) = omega (arith, toward_more a b n k h, div-add-mod' t n) in
-    let both = quotient_is (toward a b n (k + 1)) (t / n + ahead + 1) n (t % n + part - n) behind e (omega arith) in
+    let low : t % n < n = mod_below t n some in
+    let e : toward a b n (k + m) + behind * n ≡ (t / n + ahead + 1) * n + (t % n + part - n) = omega (arith, toward_more a b n k m h, div-add-mod' t n) in
+    let both = quotient_is (toward a b n (k + m)) (t / n + ahead + 1) n (t % n + part - n) behind e (omega arith) in
     (both.0, omega (arith, both.1))
 
 up_by : (a k r : ℕ) → a * r + (a + (r + k)) * k ≡ (a + k) * (r + k) + 0

@@ -5,11 +5,11 @@ ghost use Rattle.terrain.specs.Neighbours.{IsInside};
 ghost use Rattle.sight.specs.Sight.{highest_eye, longest_radius, is_seen, place_of};
 ghost use Rattle.sight.specs.Walk.{AreHeights, IsLevel, IsSightline, IsOver, AreSightlines, walk_blocks};
 ghost use Rattle.sight.specs.Marks.{TellsSeenIfOpen};
-ghost use Rattle.sight.specs.Blocks.{AreTops, IsPeak};
+ghost use Rattle.sight.specs.Blocks.{IsTops, blocks_in};
 
-use crate::passing::{BlockStrides, blocking_step_past_blocks};
+use crate::passing::{BlockStrides, FAR_BLOCK, NEAR_BLOCK, blocking_step_past_blocks};
 use crate::reach::is_in_reach;
-use crate::tops::blocks_in;
+use crate::tops::{Tops, blocks_in};
 use crate::walk::{Axis, Pace, Sightline, blocking_step, is_blocked};
 use terrain::{Cell, Grid, Height, Observer, Place};
 
@@ -190,14 +190,6 @@ pub struct Blocker {
 }
 
 impl Blocker {
-    /// Of no target yet.
-    pub(crate) fn none() -> Self {
-        Blocker {
-            over_rows: false,
-            left: 0,
-        }
-    }
-
     /// Whether the crossing as far from the observer hides another target.
     #[inline(always)]
     fn hides(self, cells: &[Cell], lines: Sightlines) -> bool
@@ -216,22 +208,66 @@ impl Blocker {
     }
 }
 
-/// As `sees`, by passing over the blocks of cells that the line of sight is above. The blocks'
-/// greatest heights are `tops`, and none is above the `peak`. What hid the last target is asked first, since it
-/// often hides the next one too.
+/// What the walks to the targets so far met: the crossing that hid the last one that was hidden, and how many crossings
+/// were asked about.
+#[derive(Clone, Copy)]
+pub struct Walked {
+    last: Blocker,
+    pub asked: u32,
+}
+
+impl Walked {
+    /// Of no target yet.
+    pub(crate) fn none() -> Self {
+        Walked {
+            last: Blocker {
+                over_rows: false,
+                left: 0,
+            },
+            asked: 0,
+        }
+    }
+}
+
+/// How blocks of so many cells stand in their list, along a line over the columns of a grid.
+#[inline(always)]
+fn along_columns(size: u32, cols: u32) -> BlockStrides
+    requires size { (0 < size) × (size ≤ 4096) }
+    requires cols { cols ≤ 4096 }
+    ensures { result ≡ record { lead = 1; side = blocks_in size cols } }
+{
+    BlockStrides {
+        lead: 1,
+        side: blocks_in(size, cols),
+    }
+}
+
+/// The same along a line over the rows.
+#[inline(always)]
+fn along_rows(size: u32, cols: u32) -> BlockStrides
+    requires size { (0 < size) × (size ≤ 4096) }
+    requires cols { cols ≤ 4096 }
+    ensures { result ≡ record { lead = blocks_in size cols; side = 1 } }
+{
+    BlockStrides {
+        lead: blocks_in(size, cols),
+        side: 1,
+    }
+}
+
+/// As `sees`, by passing over the blocks of cells that the line of sight is above. What hid the last target is asked
+/// first, since it often hides the next one too.
 #[inline(always)]
 pub(crate) fn sees_past_blocks(
     grid: &Grid,
-    tops: &[Option<Height>],
-    peak: Height,
+    tops: &Tops,
     observer: &Observer,
     target: Place,
     target_height: u32,
     radius: u32,
-    last: &mut Blocker,
+    walked: &mut Walked,
 ) -> bool
-    requires tops { AreTops grid.now.terrain tops.now }
-    requires peak { IsHeight peak × IsPeak tops.now peak }
+    requires tops { IsTops grid.now.terrain tops.now }
     requires observer { IsInside grid.now.terrain (place_of observer.now) }
     requires target { IsInside grid.now.terrain target }
     requires eye { observer.now.eye ≤ highest_eye }
@@ -243,29 +279,27 @@ pub(crate) fn sees_past_blocks(
         return false;
     };
     let cells = grid.cells();
-    if last.hides(cells, lines) {
+    if walked.last.hides(cells, lines) {
         return false;
     }
-    let wide = blocks_in(grid.cols());
-    let along_columns = BlockStrides {
-        lead: 1,
-        side: wide,
-    };
-    let along_rows = BlockStrides {
-        lead: wide,
-        side: 1,
-    };
-    if let Some(step) = blocking_step_past_blocks(cells, tops, peak, along_columns, lines.columns) {
-        *last = Blocker {
+    let cols = grid.cols();
+    let near = along_columns(NEAR_BLOCK, cols);
+    let far = along_columns(FAR_BLOCK, cols);
+    let line = lines.columns;
+    if let Some(step) = blocking_step_past_blocks(cells, tops, near, far, line, &mut walked.asked) {
+        walked.last = Blocker {
             over_rows: false,
-            left: lines.columns.steps() - step,
+            left: line.steps() - step,
         };
         return false;
     }
-    if let Some(step) = blocking_step_past_blocks(cells, tops, peak, along_rows, lines.rows) {
-        *last = Blocker {
+    let near = along_rows(NEAR_BLOCK, cols);
+    let far = along_rows(FAR_BLOCK, cols);
+    let line = lines.rows;
+    if let Some(step) = blocking_step_past_blocks(cells, tops, near, far, line, &mut walked.asked) {
+        walked.last = Blocker {
             over_rows: true,
-            left: lines.rows.steps() - step,
+            left: line.steps() - step,
         };
         return false;
     }

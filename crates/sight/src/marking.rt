@@ -5,7 +5,7 @@ ghost use Rattle.tiles.specs.Cutting.{AreBounds, IsCutting};
 ghost use Rattle.sight.specs.Sight.{highest_eye, place_of};
 ghost use Rattle.sight.specs.Marks.{AreMarkedBelow, AreMarked, TellsSeen, Tells};
 
-use crate::line::{Blocker, may_see, sees_past_blocks};
+use crate::line::{Walked, may_see, sees_past_blocks};
 use crate::tile::Viewing;
 use std::alloc::{AllocError, Global};
 use terrain::{Observer, Place};
@@ -14,7 +14,10 @@ use tiles::Bounds;
 /// How many cells of a tile are asked before it is looked at.
 const SAMPLES: u32 = 64;
 
-/// A tile with shorter sides is swept only where all of the sample is seen.
+/// How many crossings for each of them are too many in a tile of 256 squared.
+const MOST_ASKED: u32 = 50;
+
+/// A tile with shorter sides is not swept for less.
 const SWEPT_SIDE: u32 = 64;
 
 /// What is asked of a line of sight: all of it, or its crossings beside the target alone.
@@ -41,7 +44,7 @@ impl<'a> Viewing<'a> {
         ensures { OnOk result (AreMarked bounds
             (TellsSeen self.now.grid.now.terrain observer.now self.now.target_height self.now.radius) seen.new) }
     {
-        if !self.sees_many(observer, bounds) {
+        if !self.is_long_walked(observer, bounds) {
             self.mark(Asked::Whole, observer, bounds, seen);
             return Ok(());
         }
@@ -49,30 +52,24 @@ impl<'a> Viewing<'a> {
         self.hide_blocked(alloc, observer, bounds, seen)
     }
 
-    /// Whether of a sample of a tile's cells many are seen that are below the highest ground. The walk to such a cell is
-    /// long, and one sweep over all cells costs less than many of them: a quarter is enough in a tile of 256 squared, and
-    /// more where fewer cells share the sweep.
-    fn sees_many(&self, observer: &Observer, bounds: Bounds) -> bool
+    /// Whether walks to a sample of a tile's cells ask about so many crossings that one sweep over all cells costs less:
+    /// the more, the fewer cells share the sweep.
+    fn is_long_walked(&self, observer: &Observer, bounds: Bounds) -> bool
         requires lawful { IsCutting self.now.tiling.now }
         requires inside { AreBounds self.now.tiling.now bounds }
         requires observer { IsInside self.now.grid.now.terrain (place_of observer.now) }
         requires eye { observer.now.eye ≤ highest_eye }
     {
-        let mut last = Blocker::none();
-        let mut seen = 0;
+        let mut walked = Walked::none();
         for step in 0..SAMPLES {
             let place = Place {
                 row: bounds.top + step * 37 % bounds.rows,
                 col: bounds.left + step * 61 % bounds.cols,
             };
-            if self.mark_of(Asked::Whole, observer, place, &mut last)
-                && self.grid.at(place) < Some(self.peak)
-            {
-                seen += 1;
-            }
+            self.mark_of(Asked::Whole, observer, place, &mut walked);
         }
         let side = bounds.rows.min(bounds.cols).max(SWEPT_SIDE);
-        seen * side >= SAMPLES * SWEPT_SIDE
+        walked.asked / SAMPLES >= MOST_ASKED * 256 / side
     }
 
     /// Marks the cells of a tile by what is asked of the line of sight to each.
@@ -85,9 +82,9 @@ impl<'a> Viewing<'a> {
         ensures { AreMarked bounds
             (Tells asked self.now.grid.now.terrain observer.now self.now.target_height self.now.radius) marks.new }
     {
-        let mut last = Blocker::none();
+        let mut walked = Walked::none();
         for row in bounds.top..bounds.top + bounds.rows {
-            self.mark_along(asked, observer, bounds, row, &mut last, marks);
+            self.mark_along(asked, observer, bounds, row, &mut walked, marks);
         }
     }
 
@@ -98,7 +95,7 @@ impl<'a> Viewing<'a> {
         observer: &Observer,
         bounds: Bounds,
         row: u32,
-        last: &mut Blocker,
+        walked: &mut Walked,
         marks: &mut [bool],
     )
         requires lawful { IsCutting self.now.tiling.now }
@@ -119,14 +116,14 @@ impl<'a> Viewing<'a> {
                 asked,
                 observer,
                 Place { row, col },
-                last,
+                walked,
             );
         }
     }
 
     /// The mark of one cell.
     #[inline(always)]
-    fn mark_of(&self, asked: Asked, observer: &Observer, place: Place, last: &mut Blocker) -> bool
+    fn mark_of(&self, asked: Asked, observer: &Observer, place: Place, walked: &mut Walked) -> bool
         requires observer { IsInside self.now.grid.now.terrain (place_of observer.now) }
         requires eye { observer.now.eye ≤ highest_eye }
         requires place { IsInside self.now.grid.now.terrain place }
@@ -136,12 +133,11 @@ impl<'a> Viewing<'a> {
             Asked::Whole => sees_past_blocks(
                 self.grid,
                 self.tops,
-                self.peak,
                 observer,
                 place,
                 self.target_height,
                 self.radius,
-                last,
+                walked,
             ),
             Asked::FirstCrossings => may_see(
                 self.grid,

@@ -6,14 +6,14 @@ ghost use Rattle.terrain.specs.declared.place.Place.{Place};
 ghost use Rattle.tiles.specs.Cutting.{AreBounds, IsInBounds, Cuts, IsCutting};
 ghost use Rattle.tile_maps.specs.Maps.{AreMadeBelow};
 ghost use Rattle.std.proofs.Props.{props};
-ghost use Rattle.sight.specs.Blocks.{AreTops, IsPeak};
-ghost use Rattle.terrain.specs.Raster.{IsHeight};
+ghost use Rattle.sight.specs.Blocks.{IsTops};
 ghost use Rattle.sight.specs.Sight.{is_seen, most_observers, place_of};
 ghost use Rattle.sight.specs.Viewed.{value_at, HasValue, counted, AreAtMost, IsFaultless};
 
 use crate::reach::is_any_in_reach;
+use crate::tops::Tops;
 use std::alloc::{AllocError, Global};
-use terrain::{Count, Grid, Height, NoMemory, Observer, Place};
+use terrain::{Count, Grid, NoMemory, Observer, Place};
 use tile_maps::TileMap;
 use tiles::{Bounds, Tiling};
 
@@ -21,17 +21,13 @@ use tiles::{Bounds, Tiling};
 #[derive(Drop)]
 pub struct Viewing<'a> {
     pub grid: &'a Grid,
-    /// The greatest heights of the grid's blocks.
-    pub tops: &'a [Option<Height>],
-    /// The greatest of all.
-    pub peak: Height,
+    pub tops: &'a Tops,
     pub observers: &'a [Observer],
     pub target_height: u32,
     pub radius: u32,
     pub tiling: &'a Tiling,
     ghost cut: { Cuts tiling.now grid.now.terrain },
-    ghost topped: { AreTops grid.now.terrain tops.now } by { Prim.hlevel props },
-    ghost peaked: { IsHeight peak × IsPeak tops.now peak } by { Prim.hlevel props },
+    ghost topped: { IsTops grid.now.terrain tops.now } by { Prim.hlevel props },
     ghost faultless: { IsFaultless grid.now.terrain observers.now target_height radius },
 }
 

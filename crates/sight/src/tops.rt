@@ -1,21 +1,31 @@
-// The greatest height of each block of cells.
+// The greatest heights of blocks of cells.
 ghost use Rattle.std.specs.Prelude.{◌≡◌, ◌⊎◌, ℕ, ℤ, ◌*◌, ◌<◌, ◌≤◌, length, slice_index_or, None, Some, IfOk};
 ghost use Rattle.terrain.specs.Neighbours.{height_at};
 ghost use Rattle.sight.specs.Walk.{AreHeights};
-ghost use Rattle.sight.specs.Blocks.{blocks_in, block_of, IsTopOf, IsPeak, AreTops};
+ghost use Rattle.sight.specs.Blocks.{blocks_in, block_of, IsTopOf, IsPeak, AreTops, IsTops};
 ghost use Rattle.terrain.specs.Raster.{IsHeight};
 
-use crate::passing::BLOCK_SIDE;
+use crate::passing::{FAR_BLOCK, NEAR_BLOCK};
 use std::alloc::{AllocError, Global};
 use terrain::{Grid, Height, LOWEST, Place};
 
-/// How many blocks side by side hold so many cells.
+/// How high the ground of a grid reaches at most: in each of its blocks, in row order, None where a block has no data, and
+/// in all of it.
+#[derive(Drop)]
+pub struct Tops {
+    pub near: Vec<Option<Height>>,
+    pub far: Vec<Option<Height>>,
+    pub peak: Height,
+}
+
+/// How many blocks of so many cells side by side hold so many cells.
 #[inline(always)]
-pub(crate) fn blocks_in(cells: u32) -> usize
-    requires { cells ≤ 4096 }
-    ensures { result ≡ blocks_in cells }
+pub(crate) fn blocks_in(size: u32, cells: u32) -> usize
+    requires size { (0 < size) × (size ≤ 4096) }
+    requires cells { cells ≤ 4096 }
+    ensures { result ≡ blocks_in size cells }
 {
-    ((cells + BLOCK_SIDE - 1) / BLOCK_SIDE) as usize
+    ((cells + (size - 1)) / size) as usize
 }
 
 /// The greater of a height so far and the height of a cell.
@@ -35,38 +45,42 @@ pub(crate) fn raised(top: Option<Height>, height: Option<Height>) -> Option<Heig
 }
 
 /// Raises the heights of the blocks that a row of the grid crosses to those of its cells.
-fn raise_row(grid: &Grid, row: u32, tops: &mut [Option<Height>])
+#[inline(always)]
+fn raise_row(grid: &Grid, size: u32, row: u32, tops: &mut [Option<Height>])
+    requires size { (0 < size) × (size ≤ 4096) }
     requires row { row < grid.now.terrain.rows }
-    requires size { length tops.old ≡ blocks_in grid.now.terrain.rows * blocks_in grid.now.terrain.cols }
+    requires count { length tops.old ≡ blocks_in size grid.now.terrain.rows * blocks_in size grid.now.terrain.cols }
     requires heights { AreHeights tops.old }
     ensures heights { AreHeights tops.new }
     ensures kept { (i : ℕ) (h : ℤ) → IsTopOf (slice_index_or tops.old i None) h
         → IsTopOf (slice_index_or tops.new i None) h }
     ensures raised { (col : ℕ) (h : ℤ) → col < grid.now.terrain.cols
         → height_at grid.now.terrain (record { row = row; col = col }) ≡ Some h
-        → IsTopOf (slice_index_or tops.new (block_of grid.now.terrain (record { row = row; col = col })) None) h }
+        → IsTopOf (slice_index_or tops.new (block_of size grid.now.terrain (record { row = row; col = col })) None) h }
 {
-    let first = (row / BLOCK_SIDE) as usize * blocks_in(grid.cols());
+    let first = (row / size) as usize * blocks_in(size, grid.cols());
     for col in 0..grid.cols() {
-        let block = first + (col / BLOCK_SIDE) as usize;
+        let block = first + (col / size) as usize;
         tops[block] = raised(tops[block], grid.at(Place { row, col }));
     }
 }
 
-/// The greatest height of each block of the grid, in row order, and None where a block has no data.
-pub(crate) fn block_tops(alloc: Global, grid: &Grid) -> Result<Vec<Option<Height>>, AllocError>
-    ensures { IfOk result (λ v. AreTops grid.now.terrain v.items) }
+/// The greatest height of each block of so many cells each way.
+#[inline(always)]
+fn block_tops(alloc: Global, grid: &Grid, size: u32) -> Result<Vec<Option<Height>>, AllocError>
+    requires size { (0 < size) × (size ≤ 4096) }
+    ensures { IfOk result (λ v. AreTops size grid.now.terrain v.items) }
 {
-    let blocks = blocks_in(grid.rows()) * blocks_in(grid.cols());
+    let blocks = blocks_in(size, grid.rows()) * blocks_in(size, grid.cols());
     let mut tops = vec![in alloc; None; blocks]?;
     for row in 0..grid.rows() {
-        raise_row(grid, row, &mut tops);
+        raise_row(grid, size, row, &mut tops);
     }
     Ok(tops)
 }
 
 /// The greatest height of all blocks, or the lowest that there can be where none has one.
-pub(crate) fn peak_of(tops: &[Option<Height>]) -> Height
+fn peak_of(tops: &[Option<Height>]) -> Height
     requires heights { AreHeights tops.now }
     ensures height { IsHeight result }
     ensures peak { IsPeak tops.now result }
@@ -76,4 +90,16 @@ pub(crate) fn peak_of(tops: &[Option<Height>]) -> Height
         peak = raised(peak, tops[index]);
     }
     peak.unwrap_or(LOWEST)
+}
+
+impl Tops {
+    /// Of a grid.
+    pub(crate) fn of(alloc: Global, grid: &Grid) -> Result<Self, AllocError>
+        ensures { IfOk result (λ t. IsTops grid.now.terrain t) }
+    {
+        let near = block_tops(alloc, grid, NEAR_BLOCK)?;
+        let far = block_tops(alloc, grid, FAR_BLOCK)?;
+        let peak = peak_of(&far);
+        Ok(Tops { near, far, peak })
+    }
 }

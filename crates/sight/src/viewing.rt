@@ -7,7 +7,7 @@ ghost use Rattle.sight.specs.Refusals.{RefusesSight, observers_fault};
 use crate::fault::SightFault;
 use crate::judging::first_fault;
 use crate::tile::Viewing;
-use crate::tops::{block_tops, peak_of};
+use crate::tops::Tops;
 use std::alloc::Global;
 use std::sync::Wait;
 use std::thread::Threads;
@@ -45,8 +45,7 @@ pub fn viewshed<R: Threads + Wait + Sync, G: Gate + Sync>(
     if workers == 0 || workers > MOST_WORKERS {
         return Err(SightFault::Jobs(JobFault::BadWorkers));
     }
-    let tops = block_tops(alloc, grid).map_err(JobFault::from)?;
-    let peak = peak_of(&tops);
+    let tops = Tops::of(alloc, grid).map_err(JobFault::from)?;
     let crew = Crew {
         rt,
         alloc,
@@ -56,7 +55,6 @@ pub fn viewshed<R: Threads + Wait + Sync, G: Gate + Sync>(
     let values = crew.made(Viewing {
         grid,
         tops: &tops,
-        peak,
         observers,
         target_height,
         radius,

@@ -3,7 +3,7 @@ ghost use Rattle.std.specs.Prelude.{◌≡◌, ◌^◌, ◌+◌, ◌-◌, ◌*�
 ghost use Rattle.std.specs.Int.{abs_diff};
 ghost use Rattle.terrain.specs.Raster.{IsHeight};
 ghost use Rattle.sight.specs.Walk.{is_above, steps_of, whole_at, AreHeights, IsSightline, IsAt, IsOver, step_range_blocks, walk_blocks};
-ghost use Rattle.sight.specs.Pace.{IsPace, Gains};
+ghost use Rattle.sight.specs.Pace.{IsPace, IsLeap, Gains};
 
 use terrain::{Cell, Height};
 
@@ -78,7 +78,7 @@ impl Sightline {
     }
 }
 
-/// What a coordinate gains at each of a number of equal steps: whole cells ahead or behind, and then
+/// What a coordinate gains in some of a number of equal steps: whole cells ahead or behind, and then
 /// some parts of a cell. As many parts as there are steps make a cell.
 #[derive(Clone, Copy)]
 struct Gain {
@@ -91,7 +91,7 @@ impl Axis {
     /// In as many steps as there are cells between the two ends.
     fn whole_gain(self) -> Gain
         requires { 0 < abs_diff self.from self.to }
-        ensures { Gains self (abs_diff self.from self.to) result.ahead result.behind result.part }
+        ensures { Gains self (abs_diff self.from self.to) 1 result.ahead result.behind result.part }
     {
         if self.from < self.to {
             Gain {
@@ -108,26 +108,84 @@ impl Axis {
         }
     }
 
-    fn gain(self, steps: u32) -> Gain
-        requires steps { 0 < steps }
+    /// In so many of a number of steps.
+    fn gain(self, steps: u32, count: u32) -> Gain
+        requires steps { (0 < steps) × (steps ≤ 4096) }
+        requires count { count ≤ 4096 }
         requires ends { (self.from < 4096) × (self.to < 4096) }
-        ensures { Gains self steps result.ahead result.behind result.part }
+        ensures { Gains self steps count result.ahead result.behind result.part }
     {
         if self.from <= self.to {
-            let rise = self.to - self.from;
+            let rise = (self.to - self.from) * count;
             Gain {
                 ahead: rise / steps,
                 behind: 0,
                 part: rise % steps,
             }
         } else {
-            let fall = self.from - self.to;
+            let fall = (self.from - self.to) * count;
             let behind = fall.div_ceil(steps);
             Gain {
                 ahead: 0,
                 behind,
                 part: behind * steps - fall,
             }
+        }
+    }
+}
+
+/// How far a line gets in some of its steps: whole cells ahead or behind at the side and some parts of a cell, and how
+/// much the sight rises.
+#[derive(Clone, Copy)]
+pub struct Leap {
+    ahead: u32,
+    behind: u32,
+    part: u32,
+    rise: i64,
+}
+
+impl Leap {
+    /// In so many steps.
+    #[inline(always)]
+    pub(crate) fn new(line: Sightline, count: u32) -> Self
+        requires line { IsSightline line }
+        requires some { 0 < steps_of line }
+        requires count { count < 4096 }
+        ensures { IsLeap line count result }
+    {
+        let aside = line.side.gain(line.steps(), count);
+        Leap {
+            ahead: aside.ahead,
+            behind: aside.behind,
+            part: aside.part,
+            rise: line.to_level * count as i64 - line.from_level * count as i64,
+        }
+    }
+
+    /// Where a line is after it, from one of its steps on.
+    #[inline(always)]
+    pub(crate) fn from(self, line: Sightline, count: u32, first: u32, start: Step) -> Step
+        requires line { IsSightline line }
+        requires leap { IsLeap line count self }
+        requires range { first + count ≤ steps_of line }
+        requires start { IsAt line first start }
+        ensures { IsAt line (first + count) result }
+    {
+        let steps = line.steps();
+        let whole = start.whole + self.ahead;
+        let part = start.part + self.part;
+        let sight = start.sight + self.rise;
+        if part < steps {
+            return Step {
+                whole: whole - self.behind,
+                part,
+                sight,
+            };
+        }
+        Step {
+            whole: whole + 1 - self.behind,
+            part: part - steps,
+            sight,
         }
     }
 }
@@ -193,7 +251,7 @@ impl Pace {
     {
         let steps = line.steps();
         let along = line.lead.whole_gain();
-        let across = line.side.gain(steps);
+        let across = line.side.gain(steps, 1);
         Pace {
             steps,
             ahead: along.ahead as usize * line.lead.stride

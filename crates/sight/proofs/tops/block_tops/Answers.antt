@@ -19,16 +19,17 @@ loop-row-preserved c =
     let t = c.args.grid.now.terrain in
     let new = c.raise_row.new.tops in
     let row = c.loop-row.row in
-    let size : length new ≡ blocks_in t.rows * blocks_in t.cols = omega (arith, c.raise_row.auto.tops, ap length c.deref_mut.ensures.value, c.loop-row.invariant.size) in
+    let size = c.args.size in
+    let count : length new ≡ blocks_in size t.rows * blocks_in size t.cols = omega (arith, c.raise_row.auto.tops, ap length c.deref_mut.ensures.value, c.loop-row.invariant.count) in
     let len : length new ≡ c.loop-row.tops.len = c.raise_row.auto.tops ∙ c.deref_mut.ensures.len in
-    let above : (p : Place) (h : ℤ) → p.row < row + 1 → height_at t p ≡ Some h → IsTopOf (get_or new (block_of t p) None) h =
+    let above : (p : Place) (h : ℤ) → p.row < row + 1 → height_at t p ≡ Some h → IsTopOf (get_or new (block_of size t p) None) h =
     λ p h below is. elim (cases_lt p.row row) [
-      | inl before ↦ c.raise_row.ensures.kept (block_of t p) h (rw c.deref_mut.ensures.value (c.loop-row.invariant.above p h before is))
+      | inl before ↦ c.raise_row.ensures.kept (block_of size t p) h (rw c.deref_mut.ensures.value (c.loop-row.invariant.above p h before is))
       | inr last ↦
           let here : p.row ≡ row = omega arith in
           let inside = inside_from_entry t.cols t.rows t.cells p h is in
-          let P : ℕ → Type 0 = λ r. IsTopOf (get_or new (block_of t (record { row = r; col = p.col })) None) h in
+          let P : ℕ → Type 0 = λ r. IsTopOf (get_or new (block_of size t (record { row = r; col = p.col })) None) h in
           let Q : ℕ → Type 0 = λ r. height_at t (record { row = r; col = p.col }) ≡ Some h in
           subst P (sym here) (c.raise_row.ensures.raised p.col h inside.1 (subst Q here is))
     ] in
-    rw (written_back c.loop-row.tops.len new c.loop-row.tops.items len) (record { size = size; heights = c.raise_row.ensures.heights; above = above })
+    rw (written_back c.loop-row.tops.len new c.loop-row.tops.items len) (record { count = count; heights = c.raise_row.ensures.heights; above = above })

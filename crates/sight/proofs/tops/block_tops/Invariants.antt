@@ -9,7 +9,7 @@ abbrev pub invariant-loop-row : goal.invariant-loop-row
 invariant-loop-row l =
     let t = l.grid.terrain in
     record {
-      size : length l.tops.items ≡ blocks_in t.rows * blocks_in t.cols;
+      count : length l.tops.items ≡ blocks_in l.fn.size t.rows * blocks_in l.fn.size t.cols;
       heights : AreHeights l.tops.items;
-      above : (p : Place) (h : ℤ) → p.row < l.row → height_at t p ≡ Some h → IsTopOf (slice_index_or l.tops.items (block_of t p) None) h;
+      above : (p : Place) (h : ℤ) → p.row < l.row → height_at t p ≡ Some h → IsTopOf (slice_index_or l.tops.items (block_of l.fn.size t p) None) h;
     }

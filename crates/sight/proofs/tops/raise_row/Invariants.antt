@@ -11,5 +11,5 @@ invariant-loop-col l =
       heights : AreHeights l.tops;
       kept : (i : ℕ) (h : ℤ) → IsTopOf (slice_index_or l.initial.tops i None) h → IsTopOf (slice_index_or l.tops i None) h;
       raised : (col : ℕ) (h : ℤ) → col < l.col → height_at t (record { row = l.row; col = col }) ≡ Some h
-          → IsTopOf (slice_index_or l.tops (block_of t (record { row = l.row; col = col })) None) h;
+          → IsTopOf (slice_index_or l.tops (block_of l.fn.size t (record { row = l.row; col = col })) None) h;
     }

@@ -1,5 +1,4 @@
-use Rattle.std.proofs.Common.{rules, ◌≡◌, Some}
-use Rattle.sight.specs.Blocks.{AreTops}
+use Rattle.std.proofs.Common.{◌≡◌, Some}
 use Rattle.sight.specs.Refusals.{observers_fault}
 use Rattle.sight.proofs.Refused.{not_jobs, refuses}
 use Rattle.sight.proofs.Uniqueness.{whole_viewed}
@@ -16,8 +15,3 @@ returns-in-Some-clause-refusals g c =
 pub returns-clause-values : goal.returns-clause-values
 returns-clause-values g c =
     whole_viewed c.args.tiling.now c.args.grid.now.terrain c.args.observers.now c.args.target_height c.args.radius c.in_ok-values.values.items c.requires.given c.in_ok-values.ensures.made
-
-pub peak_of-peak-requires : goal.peak_of-peak-requires
-peak_of-peak-requires g c =
-    let tops : AreTops c.args.grid.now.terrain c.in_ok-tops.tops.items = search rules in
-    rw c.deref.ensures.value (record { heights = tops.heights })
