@@ -14,10 +14,10 @@ use tiles::Bounds;
 /// How many cells of a tile are asked before it is looked at.
 const SAMPLES: u32 = 64;
 
-/// How many crossings for each of them are too many in a tile of 256 squared.
-const MOST_ASKED: u32 = 50;
+/// A tile is swept where walks to its cells ask about more crossings than this, each on average, if it is of 256 squared.
+const MOST_ASKED: u32 = 128;
 
-/// A tile with shorter sides is not swept for less.
+/// A tile with shorter sides is swept as one of this side is.
 const SWEPT_SIDE: u32 = 64;
 
 /// What is asked of a line of sight: all of it, or its crossings beside the target alone.
