@@ -1,5 +1,5 @@
 // A walk along a line of sight that passes over blocks of cells below it.
-ghost use Rattle.std.specs.Prelude.{◌≡◌, ℕ, ◌+◌, ◌-◌, ◌*◌, ◌/◌, ◌<◌, ◌≤◌, length, slice_index_or, None, IfSome, is_some, max};
+ghost use Rattle.std.specs.Prelude.{◌≡◌, ℕ, ◌+◌, ◌-◌, ◌*◌, ◌/◌, ◌<◌, ◌≤◌, length, slice_index_or, None, IfSome, is_some, max, pos, ◌*ℤ◌, ◌≤ℤ◌};
 ghost use Rattle.std.specs.Bool.{OnTrue};
 ghost use Rattle.sight.specs.Pace.{IsPace, IsLeap};
 ghost use Rattle.sight.specs.Walk.{steps_of, whole_at, AreHeights, IsSightline, IsAt, IsOver, walk_blocks, step_range_blocks};
@@ -172,9 +172,20 @@ fn blocking_step_past_near_blocks(
     None
 }
 
-/// The first step between the two ends at which the ground is above the line, by passing over the steps at which the
-/// line is above the far blocks that it meets, or above the near ones, and over all that are left once it stays
-/// above the peak. How many crossings are asked about is added to `asked`.
+/// Whether a line stays above a peak that no ground is above, from one of its steps on.
+#[inline(always)]
+fn is_clear(peak: Height, line: Sightline, here: Step) -> bool
+    requires line { IsSightline line }
+    requires peak { IsHeight peak }
+    ensures { OnTrue result ((peak ≤ℤ line.to_level) × ((pos (steps_of line) *ℤ peak) ≤ℤ here.sight)) }
+{
+    peak <= line.to_level && weighed(peak, line.steps()) <= here.sight
+}
+
+/// The first step between the two ends at which the ground is above the line. Past the block of its beginning, which is
+/// seldom below it, the walk passes over the steps at which the line is above the far blocks that it meets, or above
+/// the near ones, and over all that are left once it stays above the peak. How many crossings are asked about is added
+/// to `asked`.
 #[inline(always)]
 pub(crate) fn blocking_step_past_blocks(
     cells: &[Cell],
@@ -199,20 +210,27 @@ pub(crate) fn blocking_step_past_blocks(
     if steps < 2 {
         return None;
     }
+    let begin = line.at(1);
+    if is_clear(tops.peak, line, begin) {
+        return None;
+    }
     let pace = Pace::new(line);
+    let mut first = block_end(line, NEAR_BLOCK, 1, steps);
+    *asked = asked.saturating_add(first);
+    if let Some(step) = blocking_step(cells, line, pace, begin, 1, first) {
+        return Some(step);
+    }
     let leap = Leap::new(line, NEAR_BLOCK);
-    let ends_above = tops.peak <= line.to_level;
-    let clear = weighed(tops.peak, steps);
-    let mut first = 1;
-    let mut start = line.at(1);
+    let mut start = line.at(first);
     while first < steps {
-        if ends_above && clear <= start.sight {
+        if is_clear(tops.peak, line, start) {
             return None;
         }
         let end = block_end(line, FAR_BLOCK, first, steps);
         let next = line.at(end);
         let block = line.lead_at(first) / FAR_BLOCK;
-        if !is_above_blocks(&tops.far, FAR_BLOCK, far, line, block, start, next) {
+        let is_whole = end - first == FAR_BLOCK;
+        if !is_whole || !is_above_blocks(&tops.far, FAR_BLOCK, far, line, block, start, next) {
             if let Some(step) = blocking_step_past_near_blocks(
                 cells, &tops.near, near, line, pace, leap, start, first, end, asked,
             ) {

@@ -1,12 +1,49 @@
-use Rattle.std.proofs.Common.{arith, rules, w64, FitsSigned, pos, ◌*ℤ◌, ◌≤ℤ◌, sym, ap, ◌∙◌, ◌≡◌, ◌+◌, ◌-◌, ◌/◌, is_some}
+use Rattle.std.proofs.Common.{arith, sym, ap, ◌∙◌, ◌≡◌, ◌+◌, ◌-◌, ◌/◌, ◌*ℤ◌, ◌≤ℤ◌, ◌<◌, ◌≤◌, ℕ, ℤ, pos, List, Option, false, is_some}
+use Rattle.std.specs.Int.{w64}
 use Rattle.std.proofs.lemmas.Bool.{OnTrue_at}
-use Rattle.std.proofs.lemmas.Int.{ints, to_z-of_z}
-use Rattle.sight.specs.Walk.{steps_of, step_blocks, whole_at}
+use Rattle.std.proofs.lemmas.Int.{to_z-of_z}
+use Rattle.sight.specs.Walk.{steps_of, step_blocks, step_range_blocks, whole_at, IsAt}
+use Rattle.sight.specs.Blocks.{AreTopsAlong, IsPeak}
+use Rattle.sight.specs.declared.passing.BlockStrides.{BlockStrides}
+use Rattle.sight.specs.declared.walk.Sightline.{Sightline}
+use Rattle.sight.specs.declared.walk.Step.{Step}
+use Rattle.sight.proofs.Heights.{height_fits}
 use Rattle.sight.proofs.Steps.{whole_le}
 use Rattle.sight.proofs.Ranges.{none_from, none_joined, any_within}
-use Rattle.sight.proofs.Heights.{height_fits}
 use Rattle.sight.proofs.LowBlocks.{step_above, step_passed}
 use Rattle.sight.proofs.passing.blocking_step_past_blocks.Goals as goal
+
+-- where the line stays above the peak, no step that is left blocks
+none_above : (cells tops : List (Option ℤ)) (line : Sightline) (s : BlockStrides) (peak : ℤ) (k : ℕ) (here : Step) → 0 < steps_of line → k ≤ steps_of line → IsAt line k here → AreTopsAlong 128 cells tops line s → IsPeak tops peak
+    → (peak ≤ℤ line.to_level) × ((pos (steps_of line) *ℤ peak) ≤ℤ here.sight) → step_range_blocks cells line k (steps_of line - k) ≡ false
+none_above cells tops line s peak k here some within at are is_peak clear =
+    none_from (step_blocks cells line.lead line.side line.from_level line.to_level (steps_of line)) k (steps_of line - k) (λ j low high. step_above 128 cells tops line s peak k j here some low (omega arith) at are is_peak clear.1 clear.0)
+
+pub returns-then-is_clear-clause-answer : goal.returns-then-is_clear-clause-answer
+returns-then-is_clear-clause-answer c =
+    let tops = c.args.tops.now in
+    let peak_is = to_z-of_z w64 tops.peak (height_fits tops.peak c.requires.peak.0) in
+    sym (none_above c.args.cells.now tops.far.items c.args.line c.args.far tops.peak 1 c.at-begin.result (omega arith) (omega arith) c.at-begin.ensures c.requires.far_tops c.requires.peak.1 (rw peak_is at (OnTrue_at c.if-is_clear.true c.is_clear.ensures)))
+
+pub returns-in-Some-clause-answer : goal.returns-in-Some-clause-answer
+returns-in-Some-clause-answer c =
+    let line = c.args.line in
+    let first = c.block_end-first.result in
+    let p = step_blocks c.args.cells.now line.lead line.side line.from_level line.to_level (steps_of line) in
+    sym (any_within p 1 (steps_of line - 1) 1 (first - 1) (omega arith) (omega arith) (sym c.blocking_step.ensures.answer ∙ ap is_some c.in-Some.is))
+
+pub returns-then-is_clear-2-clause-answer : goal.returns-then-is_clear-2-clause-answer
+returns-then-is_clear-2-clause-answer c =
+    let line = c.args.line in
+    let n = steps_of line in
+    let first = c.loop-first.first in
+    let tops = c.args.tops.now in
+    let p = step_blocks c.args.cells.now line.lead line.side line.from_level line.to_level n in
+    let all : n - 1 ≡ (first - 1) + (n - first) = omega arith in
+    let peak_is = to_z-of_z w64 tops.peak (height_fits tops.peak c.requires.peak.0) in
+    let none = none_above c.args.cells.now tops.far.items line c.args.far tops.peak first c.loop-first.start (omega arith) (omega arith) c.loop-first.invariant.start c.requires.far_tops c.requires.peak.1
+    (rw peak_is at (OnTrue_at c.if-is_clear-2.true c.is_clear-in-loop-first.ensures)) in
+    sym (rw all (none_joined p 1 (first - 1) first (n - first) (omega arith) c.loop-first.invariant.clear none))
 
 pub is_above_blocks-requires-clause-heights : goal.is_above_blocks-requires-clause-heights
 is_above_blocks-requires-clause-heights c = rw c.deref.ensures.value c.requires.far_tops.heights
@@ -26,38 +63,19 @@ is_above_blocks-requires-clause-end c =
     let line = c.args.line in
     omega (arith, c.at-next.ensures.whole, whole_le line.side (steps_of line) c.block_end-end.result (omega arith) (omega arith))
 
-pub returns-then-clear-start-clause-answer : goal.returns-then-clear-start-clause-answer
-returns-then-clear-start-clause-answer c =
-    let line = c.args.line in
-    let n = steps_of line in
-    let first = c.loop-first.first in
-    let peak = c.args.tops.now.peak in
-    let p = step_blocks c.args.cells.now line.lead line.side line.from_level line.to_level n in
-    let all : n - 1 ≡ (first - 1) + (n - first) = omega arith in
-    let sight_fits : FitsSigned w64 c.loop-first.start.sight = search rules in
-    let sight_is = to_z-of_z w64 c.loop-first.start.sight sight_fits in
-    let end_fits : FitsSigned w64 line.to_level = search rules in
-    let end_is = to_z-of_z w64 line.to_level end_fits in
-    let peak_is = to_z-of_z w64 peak (height_fits peak c.requires.peak.0) in
-    let clear_fits : FitsSigned w64 c.weighed-clear.result = search rules in
-    let clear_is = to_z-of_z w64 c.weighed-clear.result clear_fits in
-    let clear : c.weighed-clear.result ≡ pos n *ℤ peak = rw (c.steps-steps.ensures, peak_is) at c.weighed-clear.ensures.value in
-    let above : (pos n *ℤ peak) ≤ℤ c.loop-first.start.sight = omega (arith, ints, clear, (rw (clear_is, sight_is) at c.if-clear-start.true)) in
-    let ends : peak ≤ℤ line.to_level = omega (arith, ints, (rw (peak_is, end_is) at c.if-ends_above.true)) in
-    let none = none_from p first (n - first) (λ k low high. step_above 128 c.args.cells.now c.args.tops.now.far.items line c.args.far peak first k c.loop-first.start
-    (omega arith) low (omega arith) c.loop-first.invariant.start c.requires.far_tops c.requires.peak.1 above ends) in
-    sym (rw all (none_joined p 1 (first - 1) first (n - first) (omega arith) c.loop-first.invariant.clear none))
-
-pub returns-in-Some-clause-answer : goal.returns-in-Some-clause-answer
-returns-in-Some-clause-answer c =
+pub returns-in-Some-blocking_step_past_near_blocks-clause-answer :
+    goal.returns-in-Some-blocking_step_past_near_blocks-clause-answer
+returns-in-Some-blocking_step_past_near_blocks-clause-answer c =
     let line = c.args.line in
     let first = c.loop-first.first in
     let end = c.block_end-end.result in
     let p = step_blocks c.args.cells.now line.lead line.side line.from_level line.to_level (steps_of line) in
-    sym (any_within p 1 (steps_of line - 1) first (end - first) (omega arith) (omega arith) (sym c.blocking_step_past_near_blocks.ensures.answer ∙ ap is_some c.in-Some.is))
+    sym (any_within p 1 (steps_of line - 1) first (end - first) (omega arith) (omega arith)
+    (sym c.blocking_step_past_near_blocks.ensures.answer ∙ ap is_some c.in-Some-blocking_step_past_near_blocks.is))
 
-pub loop-first-preserved-in_default : goal.loop-first-preserved-in_default
-loop-first-preserved-in_default c =
+pub loop-first-preserved-in_default-blocking_step_past_near_blocks :
+    goal.loop-first-preserved-in_default-blocking_step_past_near_blocks
+loop-first-preserved-in_default-blocking_step_past_near_blocks c =
     let line = c.args.line in
     let first = c.loop-first.first in
     let end = c.block_end-end.result in
@@ -67,7 +85,8 @@ loop-first-preserved-in_default c =
       begun = omega arith;
       within = omega arith;
       start = c.at-next.ensures;
-      clear = rw all (none_joined p 1 (first - 1) first (end - first) (omega arith) c.loop-first.invariant.clear (sym c.blocking_step_past_near_blocks.ensures.answer ∙ ap is_some c.in_default.is));
+      clear = rw all (none_joined p 1 (first - 1) first (end - first) (omega arith) c.loop-first.invariant.clear
+          (sym c.blocking_step_past_near_blocks.ensures.answer ∙ ap is_some c.in_default-blocking_step_past_near_blocks.is));
     }
 
 pub loop-first-preserved : goal.loop-first-preserved
