@@ -186,7 +186,7 @@ fn is_clear(peak: Height, line: Sightline, here: Step) -> bool
 /// seldom below it, the walk passes over the steps at which the line is above the far blocks that it meets, or above
 /// the near ones, and over all that are left once it stays above the peak. How many crossings are asked about is added
 /// to `asked`.
-#[inline(always)]
+#[inline(never)]
 pub(crate) fn blocking_step_past_blocks(
     cells: &[Cell],
     tops: &Tops,

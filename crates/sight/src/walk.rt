@@ -117,6 +117,13 @@ impl Axis {
     {
         if self.from <= self.to {
             let rise = (self.to - self.from) * count;
+            if rise < steps {
+                return Gain {
+                    ahead: 0,
+                    behind: 0,
+                    part: rise,
+                };
+            }
             Gain {
                 ahead: rise / steps,
                 behind: 0,
