@@ -185,7 +185,7 @@ fn is_clear(peak: Height, line: Sightline, here: Step) -> bool
 /// The first step between the two ends at which the ground is above the line. Past the block of its beginning, which is
 /// seldom below it, the walk passes over the steps at which the line is above the far blocks that it meets, or above
 /// the near ones, and over all that are left once it stays above the peak. How many crossings are asked about is added
-/// to `asked`.
+/// to `asked`. It stands apart, so that what is asked of each target first stays short.
 #[inline(never)]
 pub(crate) fn blocking_step_past_blocks(
     cells: &[Cell],
