@@ -1,5 +1,5 @@
 -- What the floods say of cells, and the joins of cells amid a tile.
-use Rattle.std.proofs.Common.{◌≡◌, ◌↔◌, ◌⊎◌, ℕ, ◌+◌, ◌-◌, ◌*◌, ◌<◌, ◌≤◌, inl, inr, ℤ, true, List, length, get_or, Option, None, Some, ◌∙◌, sym, ap, subst, refl, arith, ◌/◌, ◌%◌}
+use Rattle.std.proofs.Common.{◌≡◌, ◌↔◌, Bool, IsTrue, is_none, ◌⊎◌, ℕ, ◌+◌, ◌-◌, ◌*◌, ◌<◌, ◌≤◌, inl, inr, ℤ, true, List, length, get_or, Option, None, Some, ◌∙◌, sym, ap, subst, refl, arith, ◌/◌, ◌%◌}
 use Rattle.std.specs.Prelude.{slice_get, option_and_then, slice_index_or, MatchOption}
 use Rattle.std.proofs.lemmas.Bool.{cond-false, cases_Bool, cases_lt}
 use Rattle.std.proofs.lemmas.List.{get_or-map}
@@ -38,6 +38,13 @@ mark_parts cols (Some level) None m e = absurd (cc)
 mark_parts cols (Some level) (Some label) m e =
     let same = same_Some _ m e in
     (label, ap (λ (z : Mark). Some z.level) same, refl, ap (λ (z : Mark). z.node) same)
+
+-- a cell with neither level nor label has no mark, and one with both has one
+pub gap_mark : (cols : ℕ) (o : Option ℤ) (l : Option Place) (b : Bool) → b ≡ is_none o → b ≡ is_none l → IsTrue b ↔ (mark_of cols o l ≡ None)
+gap_mark cols None None b level label = (λ _. refl, λ _. level)
+gap_mark cols None (Some place) b level label = absurd (cc)
+gap_mark cols (Some height) None b level label = absurd (cc)
+gap_mark cols (Some height) (Some place) b level label = (λ gap. absurd (cc), λ none. absurd (cc))
 
 -- the mark of a cell of a tile
 pub mark_from_tile : (c : Cutting) (floods : List Flood) (tile : ℕ) (f : Flood) (p : Place) → slice_get floods tile ≡ Some f → tile_of_place c p ≡ tile → mark_of c.cols (level_in f p) (label_in f p) ≡ mark_among c floods p

@@ -1,6 +1,6 @@
 // What the floods of all tiles say of a cell.
-ghost use Rattle.std.specs.Prelude.{◌≡◌, ◌*◌, ◌<◌, ℤ, ◌↔◌, IsTrue, Some, None, length, IfSome, IfNone};
-ghost use Rattle.tiles.specs.Cutting.{IsWithin, tile_count};
+ghost use Rattle.std.specs.Prelude.{◌≡◌, ◌*◌, ◌<◌, ℤ, ◌↔◌, IsTrue, Some, None, length, slice_get, IfSome, IfNone};
+ghost use Rattle.tiles.specs.Cutting.{IsCutting, IsWithin, tile_count, tile_of_place};
 ghost use Rattle.terrain.specs.Neighbours.{index_of};
 ghost use Rattle.fill.specs.TileFlood.{LabelsInside, level_in, label_in};
 ghost use Rattle.fill.specs.Gathering.{Fit, mark_of, mark_with, mark_among, HasGapAmong, IsSpillSource};
@@ -50,6 +50,22 @@ fn mark_in(tiling: &Tiling, flood: &TileFlood, place: Place) -> Option<Mark>
     mark_of_entry(tiling, flood, index)
 }
 
+/// The flood of the tile in which a place of the grid lies: most often this tile's.
+#[inline(always)]
+fn flood_at<'a>(tiling: &Tiling, floods: &'a [TileFlood], tile: u32, place: Place) -> &'a TileFlood
+    requires fit { Fit tiling.now floods.now }
+    requires lawful { IsCutting tiling.now }
+    requires tile { tile < tile_count tiling.now }
+    requires place { IsWithin tiling.now place }
+    ensures { slice_get floods.now (tile_of_place tiling.now place) ≡ Some result.now }
+{
+    let flood = &floods[tile as usize];
+    if flood.holds(place) {
+        return flood;
+    }
+    &floods[tiling.tile_of(place) as usize]
+}
+
 /// What the flood of its own tile says of a cell in or next to this tile, None outside the grid and
 /// where there is no data.
 #[inline]
@@ -65,14 +81,22 @@ pub(crate) fn mark_at(
 {
     let rows = tiling.rows();
     let cols = tiling.cols();
-    let flood = &floods[tile as usize];
-    if flood.holds(place) {
-        return mark_in(tiling, flood, place);
+    if place.row >= rows || place.col >= cols {
+        return None;
     }
-    if place.row < rows && place.col < cols {
-        return mark_in(tiling, &floods[tiling.tile_of(place) as usize], place);
-    }
-    None
+    mark_in(tiling, flood_at(tiling, floods, tile, place), place)
+}
+
+/// Whether a place of the grid has no data.
+#[inline(always)]
+fn is_gap(tiling: &Tiling, floods: &[TileFlood], tile: u32, place: Place) -> bool
+    requires fit { Fit tiling.now floods.now }
+    requires lawful { IsCutting tiling.now }
+    requires tile { tile < tile_count tiling.now }
+    requires place { IsWithin tiling.now place }
+    ensures { IsTrue result ↔ (mark_among tiling.now floods.now place ≡ None) }
+{
+    flood_at(tiling, floods, tile, place).is_gap(place)
 }
 
 /// Whether a place next to this one is outside the grid or has no data.
@@ -89,7 +113,7 @@ fn has_gap(tiling: &Tiling, floods: &[TileFlood], tile: u32, place: Place) -> bo
     }
     for row in place.row - 1..place.row + 2 {
         for col in place.col - 1..place.col + 2 {
-            if mark_at(tiling, floods, tile, Place { row, col }).is_none() {
+            if is_gap(tiling, floods, tile, Place { row, col }) {
                 return true;
             }
         }

@@ -1,5 +1,5 @@
 // Flooding of one tile.
-ghost use Rattle.std.specs.Prelude.{◌≡◌, ◌≤◌, ◌+◌, IfOk, IfSome, length, true, false, MatchOption, None, slice_index_or, ◌*◌, ◌-◌, ◌<◌};
+ghost use Rattle.std.specs.Prelude.{◌≡◌, ◌≤◌, ◌+◌, IfOk, IfSome, length, true, false, MatchOption, None, is_none, slice_index_or, ◌*◌, ◌-◌, ◌<◌};
 ghost use Rattle.std.specs.Bool.{OnTrue};
 ghost use Rattle.terrain.specs.Sinks.{with_sinks};
 ghost use Rattle.tiles.specs.Cutting.{terrain_of, is_in_bounds};
@@ -101,6 +101,18 @@ impl TileFlood {
         ensures { result ≡ slice_index_or self.now.labels index None }
     {
         self.labels.at(index)
+    }
+
+    /// Whether a place lies outside the tile or has no data: then it has neither level nor label.
+    #[inline(always)]
+    pub(crate) fn is_gap(&self, place: Place) -> bool
+        ensures level { result ≡ is_none (level_in self.now place) }
+        ensures label { result ≡ is_none (label_in self.now place) }
+    {
+        match self.index_of(place) {
+            Some(index) => self.labels.at(index).is_none(),
+            None => true,
+        }
     }
 
     /// The levels of the tile's cells that have a label, in its row order.

@@ -1,0 +1,10 @@
+use Rattle.std.proofs.Common.{◌≡◌, ◌↔◌, IsTrue, None, Option, refl, subst}
+use Rattle.fill.specs.declared.marks.Mark.{Mark}
+use Rattle.fill.proofs.CellMarks.{gap_mark, mark_from_tile}
+use Rattle.fill.proofs.marks.is_gap.Goals as goal
+
+pub returns : goal.returns
+returns c =
+    subst (λ (o : Option Mark). IsTrue c.is_gap.result ↔ (o ≡ None))
+    (mark_from_tile c.args.tiling.now c.args.floods.now _ c.flood_at.result.now c.args.place c.flood_at.ensures refl)
+    (gap_mark c.args.tiling.now.cols _ _ c.is_gap.result c.is_gap.ensures.level c.is_gap.ensures.label)
