@@ -1,19 +1,19 @@
 -- Lists of what is noted of nodes, each entry of which may be lacking.
-use Rattle.std.specs.Prelude.{◌≡◌, ℕ, ◌<◌, ◌≤◌, ℤ, pos, Bool, false, ◌==◌, List, [], ◌∷◌, map, length, Option, None, Some, IsSome, if◌then◌else◌, slice_index_or, unwrap_or}
-
--- The heights of those entries that are there.
-abbrev pub heights_where : List Bool → List ℤ → List (Option ℤ)
-heights_where [] heights = []
-heights_where (there ∷ rest) [] = []
-heights_where (there ∷ rest) (height ∷ heights) = (if there then Some height else None) ∷ heights_where rest heights
+use Rattle.std.specs.Prelude.{ℕ, ◌<◌, ◌≤◌, ℤ, pos, Bool, ◌==◌, List, [], ◌∷◌, map, Option, None, Some, IsSome, if◌then◌else◌, slice_index_or, unwrap_or}
+use Rattle.std.specs.Ordering.{int_eq}
 
 -- The greatest number of 64 bits, which stands for a height that is lacking.
 abbrev pub lack : ℤ
 lack = pos 9223372036854775807
 
-pub record AreHeights (heights : List ℤ) (there : List Bool) : Type 0 where
-  pub size : length there ≡ length heights
-  pub lacks : (index : ℕ) → index < length heights → slice_index_or there index false ≡ false → slice_index_or heights index (pos 0) ≡ lack
+-- What is noted by a number: what stands for a lack is a height where it is marked.
+abbrev pub noted : Bool → ℤ → Option ℤ
+noted marked height = if marked then Some height else (if int_eq height lack then None else Some height)
+
+abbrev pub heights_where : List Bool → List ℤ → List (Option ℤ)
+heights_where [] heights = []
+heights_where (marked ∷ rest) [] = []
+heights_where (marked ∷ rest) (height ∷ heights) = noted marked height ∷ heights_where rest heights
 
 -- Each entry from a first one on and before an end is there.
 abbrev pub AreAllThere : List (Option ℤ) → ℕ → ℕ → Type 0

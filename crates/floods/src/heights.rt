@@ -1,6 +1,7 @@
 // Lists of heights, some of which are lacking.
 ghost use Rattle.std.specs.Prelude.{◌≡◌, ◌↔◌, ◌<◌, ◌≤ℤ◌, ℤ, IsTrue, IfOk, None, Some, length, map, replicate, set, slice_index_or};
-ghost use Rattle.floods.specs.Notes.{AreHeights, height_or_lack};
+ghost use Rattle.floods.specs.Notes.{height_or_lack, lack};
+ghost use Rattle.std.specs.Ordering.{int_eq};
 
 use std::alloc::{AllocError, Global};
 use std::marker::Model;
@@ -14,9 +15,9 @@ const LACK: Height = Height::MAX;
 pub struct HeightList {
     /// A height that is lacking stands as [`LACK`].
     heights: Vec<Height>,
-    /// Whether a height is there.
-    there: Vec<bool>,
-    ghost are: { AreHeights heights.items there.items },
+    /// Whether what stands as [`LACK`] is a height all the same. No other entry is looked up here, or written.
+    greatest: Vec<bool>,
+    ghost size: { length greatest.items ≡ length heights.items },
 }
 
 impl Model for HeightList {
@@ -25,7 +26,15 @@ impl Model for HeightList {
 
     ghost Value = { List (Option ℤ) };
 
-    ghost view = { λ l. heights_where l.there.items l.heights.items };
+    ghost view = { λ l. heights_where l.greatest.items l.heights.items };
+}
+
+/// Whether a number stands for a height that is lacking.
+#[inline(always)]
+fn is_lack(height: Height) -> bool
+    ensures { result ≡ int_eq height lack }
+{
+    height == LACK
 }
 
 impl HeightList {
@@ -34,8 +43,8 @@ impl HeightList {
         ensures { IfOk result (λ l. l ≡ replicate count None) }
     {
         let heights = vec![in alloc; LACK; count]?;
-        let there = vec![in alloc; false; count]?;
-        Ok(HeightList { heights, there })
+        let greatest = vec![in alloc; false; count]?;
+        Ok(HeightList { heights, greatest })
     }
 
     #[inline(always)]
@@ -51,8 +60,9 @@ impl HeightList {
         requires { index < length self.now }
         ensures { result ≡ slice_index_or self.now index None }
     {
-        if self.there[index] {
-            Some(self.heights[index])
+        let height = self.heights[index];
+        if !is_lack(height) || self.greatest[index] {
+            Some(height)
         } else {
             None
         }
@@ -64,7 +74,8 @@ impl HeightList {
         requires { index < length self.now }
         ensures { IsTrue result ↔ (h : ℤ) × (slice_index_or self.now index None ≡ Some h) × (h ≤ℤ height) }
     {
-        self.heights[index as usize] <= height && (height < LACK || self.there[index as usize])
+        let noted = self.heights[index as usize];
+        noted <= height && (!is_lack(noted) || self.greatest[index as usize])
     }
 
     /// Puts a height in the place of an entry.
@@ -74,7 +85,9 @@ impl HeightList {
         ensures { self.new ≡ set self.old index (Some height) }
     {
         self.heights[index as usize] = height;
-        self.there[index as usize] = true;
+        if is_lack(height) {
+            self.greatest[index as usize] = true;
+        }
     }
 
     /// The heights as they stand: one that is lacking is the greatest number of 64 bits.

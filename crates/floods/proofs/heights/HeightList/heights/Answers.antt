@@ -4,4 +4,4 @@ use Rattle.floods.proofs.HeightLists.{stand}
 use Rattle.floods.proofs.heights.HeightList.heights.Goals as goal
 
 pub returns : goal.returns
-returns c = c.deref.ensures.value ∙ stand _ _ c.self.inside.are ∙ ap (map height_or_lack) c.self.view_is
+returns c = c.deref.ensures.value ∙ stand _ _ c.self.inside.size ∙ ap (map height_or_lack) c.self.view_is
