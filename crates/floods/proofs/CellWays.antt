@@ -13,8 +13,9 @@ use Rattle.std.specs.Prelude.{◌≤ℤ◌}
 use Rattle.std.proofs.lemmas.Int.{ints, clamps}
 use Rattle.drainage.proofs.Heights.{trans}
 use Rattle.floods.specs.declared.queue.Waiting.{Waiting}
-use Rattle.floods.specs.Flood.{entry_of, MakesWait, AreNoted}
-use Rattle.floods.proofs.Noting.{passed_low}
+use Rattle.floods.specs.Flood.{entry_of, MakesWait, AreNoted, Follows}
+use Rattle.floods.specs.declared.queue.Waits.{Waits}
+use Rattle.floods.proofs.Noting.{passed_low, more_followed}
 use Rattle.floods.proofs.Noting.{no_ways as no_ways_yet}
 use Rattle.floods.proofs.Steps.{seen, le_of_same}
 use Rattle.floods.proofs.Heaps.{cons_head, cons_tail, cons_cases, all_by_contains}
@@ -49,6 +50,12 @@ Contains-from_filter_map f (z ∷ zs) y h = elim (put_cases (f z) (filter_map f 
 -- one more item
 pub filter_map_more : {X Y : Type 0} (f : X → Option Y) (xs : List X) (i : ℕ) (d : X) → i < length xs → filter_map f (take (i + 1) xs) ≡ filter_map f (take i xs) ++ cons_option (f (get_or xs i d)) []
 filter_map_more f xs i d below = ap (filter_map f) (take_more xs i d below) ∙ filter_map-append f (take i xs) (get_or xs i d ∷ [])
+
+-- the ways to some cells have been followed, and then those to others
+pub more_cells : (f : ℕ → Option Spill) (labels : List (Option ℕ)) (from : Waiting) (xs ys : List ℕ) (levels between after : List (Option ℤ)) (old now new : Waits)
+    → Follows labels from (filter_map f xs) levels between old now → Follows labels from (filter_map f ys) between after now new → Follows labels from (filter_map f (xs ++ ys)) levels after old new
+more_cells f labels from xs ys levels between after old now new s t =
+    subst (λ (ways : List Spill). Follows labels from ways levels after old new) (sym (filter_map-append f xs ys)) (more_followed labels from (filter_map f xs) (filter_map f ys) levels between after old now new s t)
 
 pub way_some : (cells : List (Option ℤ)) (height : ℤ) (b : ℕ) (other : ℤ) → get_or cells b None ≡ Some other → way_to cells height b ≡ Some (record { to = b; height = int_max other height })
 way_some cells height b other e = ap (λ (o : Option ℤ). elim o as (λ _. Option Spill) [ None ↦ None | Some x ↦ Some (record { to = b; height = int_max x height }) ]) e

@@ -139,26 +139,56 @@ fn push_cell(
     push_way(waits, way, from, labels, levels)
 }
 
-/// Makes those of the cells around a cell of this height wait that have data and no label yet and do not wait as low.
+/// Makes those of three cells side by side wait that have data and no label yet and do not wait as low.
 #[inline(always)]
-fn push_around(
+fn push_three(
     waits: &mut Waits,
     cells: &[Cell],
-    around: [u32; 8],
+    middle: u32,
     height: Height,
     from: &Waiting,
     labels: &NodeLabels,
     levels: &mut HeightList,
 ) -> Result<(), AllocError>
     requires order { InOrder waits.old }
-    requires cells { All (λ b. b < length cells.now) around }
+    requires some { 0 < middle }
+    requires cells { middle + 1 < length cells.now }
+    requires inside { length labels.now ≡ length cells.now }
+    requires few { length cells.now < 2 ^ 32 }
+    requires noted { AreNoted labels.now levels.old (waiting_in waits.old) }
+    ensures { OnOk result (Follows labels.now from.now (filter_map (way_to cells.now height) ((middle - 1) ∷ middle ∷ (middle + 1) ∷ [])) levels.old levels.new waits.old waits.new) }
+{
+    push_cell(waits, cells, middle - 1, height, from, labels, levels)?;
+    push_cell(waits, cells, middle, height, from, labels, levels)?;
+    push_cell(waits, cells, middle + 1, height, from, labels, levels)?;
+    Ok(())
+}
+
+/// Makes those of the cells around a cell of this height wait that have data and no label yet and do not wait as low. No loop
+/// goes over them, since each has a test of its own then, which a processor foresees better.
+#[inline(always)]
+fn push_around(
+    waits: &mut Waits,
+    cells: &[Cell],
+    stride: u32,
+    height: Height,
+    from: &Waiting,
+    labels: &NodeLabels,
+    levels: &mut HeightList,
+) -> Result<(), AllocError>
+    requires order { InOrder waits.old }
+    requires above { stride < from.now.node }
+    requires below { from.now.node + stride + 1 < length cells.now }
+    requires few { length cells.now < 2 ^ 32 }
     requires inside { length labels.now ≡ length cells.now }
     requires noted { AreNoted labels.now levels.old (waiting_in waits.old) }
-    ensures { OnOk result (Follows labels.now from.now (filter_map (way_to cells.now height) around) levels.old levels.new waits.old waits.new) }
+    ensures { OnOk result (Follows labels.now from.now (filter_map (way_to cells.now height) (cells_around stride from.now.node)) levels.old levels.new waits.old waits.new) }
 {
-    for to in around {
-        push_cell(waits, cells, to, height, from, labels, levels)?;
-    }
+    let node = from.node;
+    push_three(waits, cells, node - stride, height, from, labels, levels)?;
+    push_cell(waits, cells, node - 1, height, from, labels, levels)?;
+    push_cell(waits, cells, node + 1, height, from, labels, levels)?;
+    push_three(waits, cells, node + stride, height, from, labels, levels)?;
     Ok(())
 }
 
@@ -243,7 +273,7 @@ impl Net for CellNet {
         push_around(
             waits,
             &self.cells,
-            around(self.stride, from.node),
+            self.stride,
             height,
             from,
             labels,

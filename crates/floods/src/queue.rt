@@ -196,6 +196,7 @@ impl Waits {
 }
 
 /// Takes the lowest node that has no label yet.
+#[inline(always)]
 pub(crate) fn next_open(waits: &mut Waits, labels: &NodeLabels) -> Option<Waiting>
     requires order { InOrder waits.old }
     requires inside { All (λ w. w.node < length labels.now) (waiting_in waits.old) }

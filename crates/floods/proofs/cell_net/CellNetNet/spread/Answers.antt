@@ -1,5 +1,8 @@
 use Rattle.std.proofs.Common.{rules, ◌≡◌, ◌<◌, ◌∙◌, sym, ap, Some, None, get_or, []}
-use Rattle.floods.specs.Cells.{Cells}
+use Rattle.std.proofs.Common.{subst, ℤ, List, Option}
+use Rattle.std.specs.List.{filter_map}
+use Rattle.floods.specs.Flood.{Follows}
+use Rattle.floods.specs.Cells.{Cells, cells_around, way_to}
 use mir.Val.{SFits}
 use Rattle.std.proofs.lemmas.Int.{to_z-of_z}
 use Rattle.std.proofs.lemmas.List.{get_or_read}
@@ -20,5 +23,6 @@ returns c =
     let n : Cells = record { stride = c.self.inside.stride; cells = c.self.inside.cells.items; sinks = c.self.inside.sinks.items } in
     let here : get_or n.cells c.args.from.now.node None ≡ Some c.in-Some.height = sym (get_or_read n.cells c.args.from.now.node c.index.result.now (search rules) c.index.ensures None) ∙ sym c.height.ensures ∙ c.in-Some.is in
     let above : n.stride < c.args.from.now.node = search rules in
-    let waits = rw (height, c.around.ensures, c.deref.ensures.value) at c.in_ok-push_around.ensures in
+    let follows = λ (cells : List (Option ℤ)) (h : ℤ). Follows c.args.labels.now c.args.from.now (filter_map (way_to cells h) (cells_around n.stride c.args.from.now.node)) c.args.levels.now c.push_around.new.levels c.args.waits.now c.push_around.new.waits in
+    let waits = subst (λ cells. follows cells c.in-Some.height) c.deref.ensures.value (subst (λ h. follows c.deref.result.now h) height c.in_ok-push_around.ensures) in
     (_, rw (← c.self.view_is) (just_ways n c.args.from.now.node c.in-Some.height here above), waits)
