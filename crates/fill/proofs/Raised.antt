@@ -2,10 +2,14 @@
 use Rattle.std.proofs.Common.{◌≡◌, ℕ, ◌+◌, ◌-◌, ◌*◌, ◌<◌, ◌≤◌, ◌⊎◌, inl, inr, ℤ, List, [], ◌∷◌, ◌++◌, length, get_or, map, Option, None, Some, is_some, ◌∙◌, sym, ap, subst, refl, arith, zero, suc, ◌/◌, ◌%◌, IfSome, MatchOption, mul_comm, pos, Vec, Global, vec_len}
 use Rattle.std.specs.Prelude.{slice_get, option_and_then, option_map, Result, Ok, Err, IfOk}
 use Rattle.std.specs.Int.{int_max}
-use Rattle.std.proofs.lemmas.Bool.{cases_lt, cases_eq}
+use Rattle.std.specs.Ordering.{int_eq}
+use Rattle.std.specs.Prelude.{◌≤ℤ◌}
+use Rattle.std.proofs.lemmas.Int.{ints, clamps}
+use Rattle.std.proofs.lemmas.Bool.Decides.{Decides-int_eq}
+use Rattle.std.proofs.lemmas.Bool.{cases_lt, cases_eq, cases_Bool, cond-true, cond-false}
 use Rattle.std.proofs.lemmas.List.{get_or-map, length-map, length_push, get_or_append_left, get_or_push}
 use Rattle.terrain.specs.Raster.{Terrain, IsTerrain, IsHeight, Raster}
-use Rattle.terrain.specs.StoredCells.{cell_of}
+use Rattle.terrain.specs.StoredCells.{cell_of, stored_cell, no_data}
 use Rattle.terrain.specs.Stored.{stored_some}
 use Rattle.terrain.specs.Sinks.{with_sinks}
 use Rattle.terrain.specs.Neighbours.{height_at, index_of, entry_at, IsInside}
@@ -20,7 +24,7 @@ use Rattle.tiles.proofs.PutBack.{row_in_list}
 use Rattle.tiles.proofs.TileOrder.{tile_entry-in}
 use Rattle.fill.specs.TileFlood.{Flood, level_in, label_in, IsTileFlood, levels_where}
 use Rattle.fill.specs.Spills.{AreFloods, level_among, AreSpillLevels, AreOpenLevels, spill_of, greater_of, raised_by, AreGreater, IsRaised, raised_among, AreRaisedBelow, IsFilledTile}
-use Rattle.fill.specs.RaisedTiles.{IsRaisedBy}
+use Rattle.fill.specs.RaisedTiles.{IsRaisedBy, IsRaisedTile}
 use Rattle.fill.specs.declared.rows.RaisedTile.{RaisedTile}
 use Rattle.fill.specs.Gathering.{Fit}
 use Rattle.fill.specs.Labels.{labels_by, IsTable}
@@ -80,12 +84,37 @@ raised_by_table c f places cells heights levels spills raised are table where_is
       each = λ i low. s.each i (omega (arith, low, same, by.heights_size)) ∙ by.each i (omega (arith, low, same));
     }
 
+-- what a cell is raised to, where the level of its label stands as a cell
+greater_stored : (h : ℤ) (spill : Option ℤ) → h ≤ℤ no_data → cell_of (greater_of (Some h) (cell_of spill)) ≡ cell_of (greater_of (Some h) spill)
+greater_stored h None low = refl
+greater_stored h (Some z) low = elim (cases_Bool (int_eq z no_data)) [
+  | inl lacks ↦
+      let is : z ≡ no_data = (Decides-int_eq z no_data).0 lacks in
+      let most : int_max h z ≡ no_data = omega (arith, ints, clamps, low, is) in
+      ap (λ (o : Option ℤ). cell_of (greater_of (Some h) o)) (cond-true _ _ _ lacks) ∙ sym (ap stored_cell most)
+  | inr other ↦ ap (λ (o : Option ℤ). cell_of (greater_of (Some h) o)) (cond-false _ _ _ other)
+]
+
+pub raised_stored : (c : Cutting) (f : Flood) (levels : List (Option ℤ)) (x : RaisedTile) (i : ℕ) → IsRaisedTile c f levels x → i < length f.labels → get_or x.heights.now i (pos 0) ≤ℤ no_data
+    → cell_of (greater_of (Some (get_or x.heights.now i (pos 0))) (get_or x.spills.items (get_or x.labels.now i 0) None)) ≡ cell_of (raised_by c levels (get_or f.levels i None) (get_or f.labels i None))
+raised_stored c f levels x i tile below low =
+    let by = tile.1 in
+    let h = get_or x.heights.now i (pos 0) in
+    let k = get_or x.labels.now i 0 in
+    let stored : get_or x.spills.items k None ≡ cell_of (get_or tile.0 k None) =
+    ap (λ (z : List (Option ℤ)). get_or z k None) tile.2 ∙ get_or-map cell_of tile.0 k None None (by.inside i 0 (omega (arith, below, by.labels_size))) in
+    ap (λ o. cell_of (greater_of (Some h) o)) stored ∙ greater_stored h (get_or tile.0 k None) low ∙ ap cell_of (by.each i below)
+
+-- the entries of labels are indexes into it
+pub stored_inside : (c : Cutting) (f : Flood) (levels : List (Option ℤ)) (x : RaisedTile) → IsRaisedTile c f levels x → All (λ k. k < length x.spills.items) x.labels.now
+stored_inside c f levels x tile i d below = omega (arith, tile.1.inside i d below, ap length tile.2, length-map tile.0 cell_of)
+
 -- Such a tile for each of the first floods.
 pub record AreFirstRaised (c : Cutting) (floods : List Flood) (levels : List (Option ℤ)) (count : ℕ) (tiles : List RaisedTile) : Type 0 where
   pub size : length tiles ≡ count
-  pub each : (tile : ℕ) (f : Flood) (x : RaisedTile) → tile < count → slice_get floods tile ≡ Some f → slice_get tiles tile ≡ Some x → IsRaisedBy c f levels x.heights.now x.labels.now x.spills.items
+  pub each : (tile : ℕ) (f : Flood) (x : RaisedTile) → tile < count → slice_get floods tile ≡ Some f → slice_get tiles tile ≡ Some x → IsRaisedTile c f levels x
 
-pub raised_one : (c : Cutting) (floods : List Flood) (levels : List (Option ℤ)) (i : ℕ) (f : Flood) (x : RaisedTile) (tiles : List RaisedTile) → i < length floods → f ≡ get_or floods i f → IsRaisedBy c f levels x.heights.now x.labels.now x.spills.items
+pub raised_one : (c : Cutting) (floods : List Flood) (levels : List (Option ℤ)) (i : ℕ) (f : Flood) (x : RaisedTile) (tiles : List RaisedTile) → i < length floods → f ≡ get_or floods i f → IsRaisedTile c f levels x
     → AreFirstRaised c floods levels i tiles → AreFirstRaised c floods levels (i + 1) (tiles ++ x ∷ [])
 raised_one c floods levels i f x tiles below is by s = record {
   size = length_push tiles x ∙ ap (λ n. n + 1) s.size;
@@ -96,7 +125,7 @@ raised_one c floods levels i f x tiles below is by s = record {
     | inl same ↦
         let f_is : f ≡ g = is ∙ sym (ap (λ n. get_or floods n f) same) ∙ get_or_from_slice_get floods k g f there in
         let x_is : x ≡ y = sym (get_or_push tiles x y k (s.size ∙ sym same)) ∙ get_or_from_slice_get (tiles ++ x ∷ []) k y y tile in
-        subst (λ (z : RaisedTile). IsRaisedBy c g levels z.heights.now z.labels.now z.spills.items) x_is (subst (λ (h : Flood). IsRaisedBy c h levels x.heights.now x.labels.now x.spills.items) f_is by)
+        subst (λ (z : RaisedTile). IsRaisedTile c g levels z) x_is (subst (λ (h : Flood). IsRaisedTile c h levels x) f_is by)
   ];
 }
 

@@ -1,12 +1,12 @@
 // The filled heights of a grid, row by row over its tiles.
-ghost use Rattle.std.specs.Prelude.{◌≡◌, ℤ, List, Option, ◌+◌, ◌-◌, ◌*◌, ◌<◌, ◌≤◌, pos, length, slice_index_or, None, Some, All, IfOk, OnOk};
-ghost use Rattle.terrain.specs.StoredCells.{cell_of};
+ghost use Rattle.std.specs.Prelude.{◌≡◌, ℤ, List, Option, ◌+◌, ◌-◌, ◌*◌, ◌<◌, ◌≤◌, ◌≤ℤ◌, pos, length, map, slice_index_or, None, Some, All, IfOk, OnOk};
+ghost use Rattle.terrain.specs.StoredCells.{cell_of, no_data};
 ghost use Rattle.tiles.specs.Cutting.{IsCutting};
 ghost use Rattle.tile_maps.specs.Maps.{IsMadeMap};
 ghost use Rattle.fill.specs.TileFlood.{LabelsInside};
 ghost use Rattle.fill.specs.Gathering.{Fit};
 ghost use Rattle.fill.specs.Spills.{greater_of, raised_among};
-ghost use Rattle.fill.specs.RaisedTiles.{IsRaisedBy, AreRaisedTiles, Raises};
+ghost use Rattle.fill.specs.RaisedTiles.{IsRaisedTile, AreRaisedTiles, Raises};
 
 use crate::numbering::LabelLevels;
 use crate::raising::spills_of;
@@ -20,7 +20,30 @@ use tiles::{Bounds, Tiling};
 pub(crate) struct RaisedTile<'a> {
     heights: &'a [Height],
     labels: &'a [u32],
-    spills: Vec<Option<Height>>,
+    /// A level as a cell of this height, and no level as one without data.
+    spills: Vec<Cell>,
+}
+
+/// The cell of this height, where there is one.
+#[inline(always)]
+fn cell(height: Option<Height>) -> Cell
+    ensures { result ≡ cell_of height }
+{
+    match height {
+        Some(height) => Cell::of(height),
+        None => Cell::no_data(),
+    }
+}
+
+/// The cells of these heights.
+fn cells_of(alloc: Global, heights: &[Option<Height>]) -> Result<Vec<Cell>, AllocError>
+    ensures { IfOk result (λ v. v.items ≡ map cell_of heights.now) }
+{
+    let mut cells = Vec::with_capacity(alloc, heights.len())?;
+    for height in heights {
+        cells.push(cell(*height))?;
+    }
+    Ok(cells)
 }
 
 impl<'a> RaisedTile<'a> {
@@ -33,14 +56,14 @@ impl<'a> RaisedTile<'a> {
     ) -> Result<Self, AllocError>
         requires size { length levels.now ≡ tiling.now.cols * tiling.now.rows }
         requires labels { LabelsInside tiling.now flood.now }
-        ensures { IfOk result (λ tile. IsRaisedBy tiling.now flood.now levels.now tile.heights.now tile.labels.now tile.spills.items) }
+        ensures { IfOk result (IsRaisedTile tiling.now flood.now levels.now) }
     {
         let labels = flood.labels();
         let spills = spills_of(alloc, tiling, &labels.places, levels)?;
         Ok(RaisedTile {
             heights: flood.heights(),
             labels: &labels.cells,
-            spills,
+            spills: cells_of(alloc, &spills)?,
         })
     }
 
@@ -50,12 +73,12 @@ impl<'a> RaisedTile<'a> {
         requires height { index < length self.now.heights.now }
         requires label { index < length self.now.labels.now }
         requires inside { All (λ k. k < length self.now.spills.items) self.now.labels.now }
-        ensures { result ≡ cell_of (greater_of (Some (slice_index_or self.now.heights.now index (pos 0))) (slice_index_or self.now.spills.items (slice_index_or self.now.labels.now index 0) None)) }
+        ensures low { slice_index_or self.now.heights.now index (pos 0) ≤ℤ no_data }
+        ensures value { result ≡ cell_of (greater_of (Some (slice_index_or self.now.heights.now index (pos 0))) (slice_index_or self.now.spills.items (slice_index_or self.now.labels.now index 0) None)) }
     {
-        match self.spills[self.labels[index] as usize] {
-            Some(spill) => Cell::of(self.heights[index].max(spill)),
-            None => Cell::no_data(),
-        }
+        // What stands for no data is above every height, so it stays.
+        let spill = self.spills[self.labels[index] as usize];
+        Cell::of(self.heights[index].max(spill.number()))
     }
 }
 

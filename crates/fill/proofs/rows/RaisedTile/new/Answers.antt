@@ -12,5 +12,6 @@ returns c =
     let labels = c.labels-labels.result.now in
     let is = c.labels-labels.ensures in
     let table : length c.args.flood.now.labels ≡ length labels.cells.items = ap length is.labels ∙ length-map labels.cells.items (λ k. get_or labels.places.items k None) in
-    rw c.deref-2.ensures.value (by_table c.args.tiling.now c.args.flood.now labels.places.items labels.cells.items c.heights.result.now _ c.in_ok-spills.spills.items is.labels labels.table
-    c.heights.ensures.levels (sym table ∙ sym c.heights.ensures.size) (rw c.deref.ensures.value at c.in_ok-spills.ensures))
+    let by = by_table c.args.tiling.now c.args.flood.now labels.places.items labels.cells.items c.heights.result.now _ c.in_ok-spills.spills.items is.labels labels.table
+    c.heights.ensures.levels (sym table ∙ sym c.heights.ensures.size) (rw c.deref.ensures.value at c.in_ok-spills.ensures) in
+    (c.in_ok-spills.spills.items, rw c.deref-2.ensures.value by, rw c.deref-3.ensures.value at c.in_ok-cells_of.ensures)
