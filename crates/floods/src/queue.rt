@@ -160,7 +160,7 @@ impl Waits {
     }
 
     /// Takes a lowest one.
-    #[inline]
+    #[inline(always)]
     fn take(&mut self) -> Option<Waiting>
         requires { InOrder self.old }
         ensures order { InOrder self.new }
