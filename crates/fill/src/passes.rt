@@ -16,8 +16,9 @@ use std::alloc::{AllocError, Global};
 use terrain::Place;
 use tiles::{Bounds, Tiling};
 
-/// How many slots a [`JoinTable`] has at first: few, since they are cleared for each tile.
-const FIRST_SLOTS: usize = 256;
+/// How many slots a [`JoinTable`] has at first for each row and column of its tile: as many as are mostly taken, since a cell on the
+/// rim is joined with three of the next tile, and no more, since they are cleared for each tile.
+const SLOTS_A_LINE: usize = 16;
 
 /// How many slots are looked at for a join.
 const MOST_PROBES: usize = 16;
@@ -97,10 +98,13 @@ fn lowers(joins: &mut Vec<Join>, at: usize, join: Join) -> bool
 }
 
 impl JoinTable {
-    fn new(alloc: Global) -> Result<Self, AllocError>
+    /// For a tile of so many rows and columns.
+    fn new(alloc: Global, lines: u32) -> Result<Self, AllocError>
+        requires { lines ≤ 8192 }
         ensures { IfOk result (λ table. table.joins.items ≡ []) }
     {
-        let slots = vec![in alloc; usize::MAX; FIRST_SLOTS]?;
+        let count = (lines as usize * SLOTS_A_LINE).next_power_of_two();
+        let slots = vec![in alloc; usize::MAX; count]?;
         Ok(JoinTable {
             alloc,
             joins: Vec::new(alloc),
@@ -434,8 +438,13 @@ pub(crate) fn tile_joins(
     requires tile { tile < tile_count tiling.now }
     ensures { IfOk result (λ v. AreGathered tiling.now floods.now (IsInTile tiling.now tile) sources.now v.items) }
 {
-    let mut table = JoinTable::new(alloc)?;
-    let Bounds { top, rows, .. } = tiling.bounds(tile);
+    let Bounds {
+        top,
+        rows,
+        cols,
+        ..
+    } = tiling.bounds(tile);
+    let mut table = JoinTable::new(alloc, rows + cols)?;
     for row in top..top + rows {
         push_cells(&mut table, tiling, floods, sources, tile, row)?;
     }
