@@ -110,30 +110,25 @@ fn ways_to(alloc: Global, cells: &[Cell], height: Height, around: [u32; 8]) -> S
     ways
 }
 
-/// Makes one of the cells around a cell of this height wait, where it has data and no label yet and does not wait as low.
+/// Makes the cell at the end of a way wait, where it has no label yet and does not wait as low. It stands apart, so that what is
+/// asked of each of the eight cells around stays short.
 #[inline(never)]
-fn push_way_to(
+fn push_way_apart(
     waits: &mut Waits,
-    cells: &[Cell],
-    to: u32,
-    height: Height,
+    way: Spill,
     from: &Waiting,
     labels: &NodeLabels,
     levels: &mut HeightList,
 ) -> Result<(), AllocError>
     requires order { InOrder waits.old }
-    requires cell { to < length cells.now }
-    requires inside { to < length labels.now }
+    requires inside { way.to < length labels.now }
     requires noted { AreNoted labels.now levels.old (waiting_in waits.old) }
-    ensures { OnOk result (Follows labels.now from.now (cons_option (way_to cells.now height to) []) levels.old levels.new waits.old waits.new) }
+    ensures { OnOk result (Follows labels.now from.now (way ∷ []) levels.old levels.new waits.old waits.new) }
 {
-    let Some(way) = way_to(cells, height, to) else {
-        return Ok(());
-    };
     push_way(waits, way, from, labels, levels)
 }
 
-/// The same, with a test before it that most cells end with: those noted no higher.
+/// Makes one of the cells around a cell of this height wait, where it has data and no label yet and does not wait as low.
 #[inline(always)]
 fn push_cell(
     waits: &mut Waits,
@@ -150,12 +145,16 @@ fn push_cell(
     requires noted { AreNoted labels.now levels.old (waiting_in waits.old) }
     ensures { OnOk result (Follows labels.now from.now (cons_option (way_to cells.now height to) []) levels.old levels.new waits.old waits.new) }
 {
+    // Most cells around have been noted no higher, which needs no look at whether they have data.
     let Reverse(level) = from.height;
     let crest = cells[to as usize].number().max(height.max(level));
     if levels.is_no_higher(to, crest) {
         return Ok(());
     }
-    push_way_to(waits, cells, to, height, from, labels, levels)
+    let Some(way) = way_to(cells, height, to) else {
+        return Ok(());
+    };
+    push_way_apart(waits, way, from, labels, levels)
 }
 
 /// Makes those of three cells side by side wait that have data and no label yet and do not wait as low.
