@@ -181,8 +181,7 @@ fn is_blocked_about(cells: &[Cell], line: Sightline, left: u32) -> bool
     is_blocked_from(cells, line, first, NEARBY_CROSSINGS)
 }
 
-/// Which crossing hid the target that was hidden last: on which of the two lines of sight, and how many steps before
-/// the observer.
+/// Which crossing hides a target: on which of the two lines of sight, and how many steps before the observer.
 #[derive(Clone, Copy)]
 pub struct Blocker {
     over_rows: bool,
@@ -206,13 +205,30 @@ impl Blocker {
             is_blocked_about(cells, lines.columns, self.left)
         }
     }
+
+    /// The same. It stands apart, so that what is asked of each target first stays short.
+    #[inline(never)]
+    fn hides_apart(self, cells: &[Cell], lines: Sightlines) -> bool
+        requires heights { AreHeights cells.now }
+        requires columns { IsSightline lines.columns }
+        requires rows { IsSightline lines.rows }
+        requires over_columns { IsOver cells.now lines.columns.lead lines.columns.side }
+        requires over_rows { IsOver cells.now lines.rows.lead lines.rows.side }
+        ensures { result ≡ true → (not (walk_blocks cells.now lines.columns) && not (walk_blocks cells.now lines.rows)) ≡ false }
+    {
+        self.hides(cells, lines)
+    }
 }
 
-/// What the walks to the targets so far met: the crossing that hid the last one that was hidden, and how many crossings
-/// were asked about.
+/// Of how many columns it is kept what hid the target above; columns as far apart share an entry.
+const COLUMNS: usize = 256;
+
+/// What the walks to the targets so far met: the crossing that hid the last one that was hidden, those that hid the last
+/// ones of each column, None where it was seen, and how many crossings were asked about.
 #[derive(Clone, Copy)]
 pub struct Walked {
     last: Blocker,
+    above: [Option<Blocker>; COLUMNS],
     pub asked: u32,
 }
 
@@ -224,8 +240,24 @@ impl Walked {
                 over_rows: false,
                 left: 0,
             },
+            above: [None; COLUMNS],
             asked: 0,
         }
+    }
+
+    /// What hid the last target in a column.
+    #[inline(always)]
+    fn above(&self, col: u32) -> Option<Blocker> {
+        self.above[col as usize % COLUMNS]
+    }
+
+    /// Keeps what hides a target in a column, or that nothing does.
+    #[inline(always)]
+    fn keep(&mut self, col: u32, blocker: Option<Blocker>) {
+        if let Some(blocker) = blocker {
+            self.last = blocker;
+        }
+        self.above[col as usize % COLUMNS] = blocker;
     }
 }
 
@@ -255,8 +287,8 @@ fn along_rows(size: u32, cols: u32) -> BlockStrides
     }
 }
 
-/// As `sees`, by passing over the blocks of cells that the line of sight is above. What hid the last target is asked
-/// first, since it often hides the next one too.
+/// As `sees`, by passing over the blocks of cells that the line of sight is above. What hid the last target and the one
+/// above this is asked first, since it often hides the next one too.
 #[inline(always)]
 pub(crate) fn sees_past_blocks(
     grid: &Grid,
@@ -279,29 +311,40 @@ pub(crate) fn sees_past_blocks(
         return false;
     };
     let cells = grid.cells();
-    if walked.last.hides(cells, lines) {
+    let last = walked.last;
+    if last.hides(cells, lines) {
+        walked.keep(target.col, Some(last));
         return false;
+    }
+    if let Some(above) = walked.above(target.col) {
+        if above.hides_apart(cells, lines) {
+            walked.last = above;
+            return false;
+        }
     }
     let cols = grid.cols();
     let near = along_columns(NEAR_BLOCK, cols);
     let far = along_columns(FAR_BLOCK, cols);
     let line = lines.columns;
     if let Some(step) = blocking_step_past_blocks(cells, tops, near, far, line, &mut walked.asked) {
-        walked.last = Blocker {
+        let blocker = Blocker {
             over_rows: false,
             left: line.steps() - step,
         };
+        walked.keep(target.col, Some(blocker));
         return false;
     }
     let near = along_rows(NEAR_BLOCK, cols);
     let far = along_rows(FAR_BLOCK, cols);
     let line = lines.rows;
     if let Some(step) = blocking_step_past_blocks(cells, tops, near, far, line, &mut walked.asked) {
-        walked.last = Blocker {
+        let blocker = Blocker {
             over_rows: true,
             left: line.steps() - step,
         };
+        walked.keep(target.col, Some(blocker));
         return false;
     }
+    walked.keep(target.col, None);
     true
 }
