@@ -210,7 +210,7 @@ step_above size cells tops line s peak i k start some low high at_start is_top i
     below_peak (Some x) p h is all = omega (arith, ints, is, all x refl)
 
 -- a number below an end is in one of the blocks before it
-block_before : (size r rows : ℕ) → 0 < size → r < rows → r / size < blocks_in size rows
+pub block_before : (size r rows : ℕ) → 0 < size → r < rows → r / size < blocks_in size rows
 block_before size r rows some below =
     let next : (size + r) / size ≡ r / size + 1 = add-div_left r some in
     let low = div_le (size + r) (rows + (size - 1)) size some (omega arith) in

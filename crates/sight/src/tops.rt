@@ -3,7 +3,7 @@ ghost use Rattle.std.specs.Prelude.{◌≡◌, ◌⊎◌, ℕ, ℤ, ◌*◌, ◌
 ghost use Rattle.terrain.specs.Neighbours.{height_at};
 ghost use Rattle.sight.specs.Walk.{AreHeights};
 ghost use Rattle.sight.specs.Blocks.{blocks_in, block_of, IsTopOf, IsPeak, AreTops, IsTops};
-ghost use Rattle.terrain.specs.Raster.{IsHeight};
+ghost use Rattle.terrain.specs.Raster.{IsHeight, IsLawful};
 
 use crate::passing::{FAR_BLOCK, NEAR_BLOCK};
 use std::alloc::{AllocError, Global};
@@ -44,6 +44,23 @@ pub(crate) fn raised(top: Option<Height>, height: Option<Height>) -> Option<Heig
     }
 }
 
+/// The greatest height of a row's cells from a column on and before another, None where they have no data.
+#[inline(always)]
+fn top_of_run(grid: &Grid, row: u32, from: u32, to: u32) -> Option<Height>
+    requires lawful { IsLawful grid.now }
+    requires row { row < grid.now.terrain.rows }
+    requires to { to ≤ grid.now.terrain.cols }
+    ensures top { (col : ℕ) (h : ℤ) → from ≤ col → col < to
+        → height_at grid.now.terrain (record { row = row; col = col }) ≡ Some h → IsTopOf result h }
+    ensures height { (h : ℤ) → result ≡ Some h → IsHeight h }
+{
+    let mut top = None;
+    for col in from..to {
+        top = raised(top, grid.at(Place { row, col }));
+    }
+    top
+}
+
 /// Raises the heights of the blocks that a row of the grid crosses to those of its cells.
 #[inline(always)]
 fn raise_row(grid: &Grid, size: u32, row: u32, tops: &mut [Option<Height>])
@@ -58,10 +75,13 @@ fn raise_row(grid: &Grid, size: u32, row: u32, tops: &mut [Option<Height>])
         → height_at grid.now.terrain (record { row = row; col = col }) ≡ Some h
         → IsTopOf (slice_index_or tops.new (block_of size grid.now.terrain (record { row = row; col = col })) None) h }
 {
-    let first = (row / size) as usize * blocks_in(size, grid.cols());
-    for col in 0..grid.cols() {
-        let block = first + (col / size) as usize;
-        tops[block] = raised(tops[block], grid.at(Place { row, col }));
+    let cols = grid.cols();
+    let wide = blocks_in(size, cols);
+    let first = (row / size) as usize * wide;
+    for block in 0..wide {
+        let from = block as u32 * size;
+        let run = top_of_run(grid, row, from, cols.min(from + size));
+        tops[first + block] = raised(tops[first + block], run);
     }
 }
 
