@@ -6,15 +6,15 @@ ghost use Rattle.relief.specs.Runs.{Runs};
 
 use crate::fault::RunFault;
 use crate::making::{MadeMap, make_map, prepare};
-use ascii_grid::{
-    Counted, WriteFailed, read_grid, write_codes, write_framed_counts, write_heights,
-};
+use ascii_grid::{Counted, WriteFailed};
 use request::Options;
 use std::alloc::Global;
 use std::io::{Read, Write};
 use std::sync::Wait;
 use std::thread::Threads;
+use text_jobs::{read_grid, write_codes, write_framed_counts, write_heights};
 use tile_jobs::{Gate, NoGate};
+use tile_maps::Crew;
 
 /// Reads a grid, and writes the map that is asked for: what is written is the map of the grid that the
 /// bytes read spell, with the sinks asked for, for every tile size, number of workers and schedule. Nothing is written before the
@@ -36,7 +36,7 @@ pub fn run<H: Threads + Wait + Sync, R: Read, W: Write>(
     run_gated(rt, alloc, options, reader, writer, &NoGate)
 }
 
-/// The same, where a gate is told of each job.
+/// The same, where a gate is told of each job of a tile.
 pub fn run_gated<H: Threads + Wait + Sync, R: Read, W: Write, G: Gate + Sync>(
     rt: &H,
     alloc: Global,
@@ -49,22 +49,32 @@ pub fn run_gated<H: Threads + Wait + Sync, R: Read, W: Write, G: Gate + Sync>(
     requires writer { writer.old.failures < 2 ^ 64 - 1 }
     ensures { Runs R.remaining W.contents options.now reader.old reader.new writer.old writer.new result }
 {
-    let grid = read_grid(alloc, options.scale(), reader)?;
+    let crew = Crew {
+        rt,
+        alloc,
+        workers: options.workers(),
+        gate: &NoGate,
+    };
+    let grid = read_grid(&crew, options.scale(), reader)?;
     let (grid, tiling) = prepare(alloc, options, grid)?;
     let made = make_map(rt, alloc, options, grid, &tiling, gate)?;
-    write_map(&made, writer)?;
+    write_map(&crew, &made, writer)?;
     Ok(())
 }
 
-/// Writes a map with the header of its grid. It takes no memory.
-fn write_map<W: Write>(made: &MadeMap, writer: &mut Counted<W>) -> Result<(), WriteFailed>
+/// Writes a map with the header of its grid. From the first byte on it takes no memory.
+fn write_map<H: Threads + Wait + Sync, W: Write>(
+    crew: &Crew<H, NoGate>,
+    made: &MadeMap,
+    writer: &mut Counted<W>,
+) -> Result<(), WriteFailed>
     requires few { writer.old.failures < 2 ^ 64 - 1 }
     requires size { FitsGrid made.now }
     ensures { Writes W.contents writer.old writer.new (made_text made.now) result }
 {
     match made {
-        MadeMap::Heights(grid) => write_heights(grid, writer),
-        MadeMap::Codes(frame, directions) => write_codes(frame, directions.codes(), writer),
-        MadeMap::Counts(frame, values) => write_framed_counts(frame, values, writer),
+        MadeMap::Heights(grid) => write_heights(crew, grid, writer),
+        MadeMap::Codes(frame, directions) => write_codes(crew, frame, directions.codes(), writer),
+        MadeMap::Counts(frame, values) => write_framed_counts(crew, frame, values, writer),
     }
 }
