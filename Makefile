@@ -12,6 +12,7 @@ test:
 	rt ci
 	cp crates/relief_program/out/relief_program relief
 	tests/run ./relief
+	tests/texts ./relief
 	tests/pictures
 	tests/refusals ./relief crates/*/out/*_tests
 
