@@ -13,6 +13,7 @@ pub mod Crossings
 pub mod Seen
 -- blocks of cells below the line
 pub mod LowBlocks
+pub mod BlockLists
 -- rays, and the ramps of the ground that they meet
 pub mod Products
 pub mod Rays

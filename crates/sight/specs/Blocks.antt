@@ -4,6 +4,7 @@ use Rattle.std.specs.Prelude.{◌≡◌, ℕ, ◌+◌, ◌-◌, ◌*◌, ◌/◌
 use Rattle.terrain.specs.Raster.{Terrain, IsHeight}
 use Rattle.terrain.specs.Neighbours.{height_at}
 use Rattle.terrain.specs.declared.place.Place.{Place}
+use Rattle.tiles.specs.Cutting.{Cutting, IsCutting}
 use Rattle.sight.specs.Walk.{steps_of, AreHeights}
 use Rattle.sight.specs.declared.walk.Sightline.{Sightline}
 use Rattle.sight.specs.declared.walk.Step.{Step}
@@ -27,6 +28,21 @@ pub record AreTops (size : ℕ) (t : Terrain) (tops : List (Option ℤ)) : Type 
   pub count : length tops ≡ blocks_in size t.rows * blocks_in size t.cols
   pub heights : AreHeights tops
   pub above : (p : Place) (h : ℤ) → height_at t p ≡ Some h → IsTopOf (slice_index_or tops (block_of size t p) None) h
+
+-- A block of the terrain, as its place among the blocks.
+abbrev pub IsBlock : ℕ → Terrain → Place → Type 0
+IsBlock size t block = (block.row < blocks_in size t.rows) × (block.col < blocks_in size t.cols)
+
+-- The greatest height of a block.
+pub record IsBlockTop (size : ℕ) (t : Terrain) (block : Place) (top : Option ℤ) : Type 0 where
+  pub height : (h : ℤ) → top ≡ Some h → IsHeight h
+  pub above : (p : Place) (h : ℤ) → p.row / size ≡ block.row → p.col / size ≡ block.col → height_at t p ≡ Some h → IsTopOf top h
+
+-- A cutting of the blocks of a terrain.
+pub record CutsBlocks (size : ℕ) (c : Cutting) (t : Terrain) : Type 0 where
+  pub cutting : IsCutting c
+  pub cols : c.cols ≡ blocks_in size t.cols
+  pub rows : c.rows ≡ blocks_in size t.rows
 
 -- No block's height is above a peak.
 abbrev pub IsPeak : List (Option ℤ) → ℤ → Type 0

@@ -5,6 +5,7 @@
 //! centres. Earth's curvature and refraction are left out.
 #![tactic(auto)]
 
+mod by_place;
 mod family;
 pub mod fault;
 mod gathering;

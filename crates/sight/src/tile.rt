@@ -10,6 +10,7 @@ ghost use Rattle.sight.specs.Blocks.{IsTops};
 ghost use Rattle.sight.specs.Sight.{is_seen, most_observers, place_of};
 ghost use Rattle.sight.specs.Viewed.{value_at, HasValue, counted, AreAtMost, IsFaultless};
 
+use crate::by_place::{Placed, entries};
 use crate::reach::is_any_in_reach;
 use crate::tops::Tops;
 use std::alloc::{AllocError, Global};
@@ -57,50 +58,6 @@ fn count_seen(seen: &[bool], values: &mut [Count])
 }
 
 impl<'a> Viewing<'a> {
-    /// The value of a cell before any observer, None where there is no data.
-    fn first_value(&self, place: Place) -> Count
-        requires { IsInside self.now.grid.now.terrain place }
-        ensures { result ≡ value_at self.now.grid.now.terrain [] self.now.target_height self.now.radius place }
-    {
-        if self.grid.at(place).is_none() {
-            return Count::no_data();
-        }
-        Count::of(0)
-    }
-
-    /// Appends the first values of a row of a tile.
-    fn push_row(&self, bounds: Bounds, row: u32, values: &mut Vec<Count>) -> Result<(), AllocError>
-        requires lawful { IsCutting self.now.tiling.now }
-        requires inside { AreBounds self.now.tiling.now bounds }
-        requires row { (bounds.top ≤ row) × (row < bounds.top + bounds.rows) }
-        requires values { AreMadeBelow bounds
-            (HasValue self.now.grid.now.terrain [] self.now.target_height self.now.radius)
-            ((row - bounds.top) * bounds.cols) values.old.items }
-        ensures { OnOk result (AreMadeBelow bounds
-            (HasValue self.now.grid.now.terrain [] self.now.target_height self.now.radius)
-            ((row + 1 - bounds.top) * bounds.cols) values.new.items) }
-    {
-        for col in bounds.left..bounds.left + bounds.cols {
-            values.push(self.first_value(Place { row, col }))?;
-        }
-        Ok(())
-    }
-
-    /// The values of a tile before any observer.
-    fn first_values(&self, alloc: Global, bounds: Bounds) -> Result<Vec<Count>, AllocError>
-        requires lawful { IsCutting self.now.tiling.now }
-        requires inside { AreBounds self.now.tiling.now bounds }
-        ensures { IfOk result (λ v. AreMadeBelow bounds
-            (HasValue self.now.grid.now.terrain [] self.now.target_height self.now.radius)
-            (bounds.rows * bounds.cols) v.items) }
-    {
-        let mut values = Vec::with_capacity(alloc, bounds.rows as usize * bounds.cols as usize)?;
-        for row in bounds.top..bounds.top + bounds.rows {
-            self.push_row(bounds, row, &mut values)?;
-        }
-        Ok(values)
-    }
-
     /// Whether an observer has a place of a tile in reach.
     fn reaches(&self, observer: &Observer, bounds: Bounds) -> bool
         requires lawful { IsCutting self.now.tiling.now }
@@ -144,6 +101,26 @@ impl<'a> Viewing<'a> {
     }
 }
 
+// The values before any observer.
+impl<'a> Placed for Viewing<'a> {
+    ghost use Rattle.terrain.specs.Neighbours.{IsInside};
+    ghost use Rattle.sight.specs.Viewed.{HasValue};
+    ghost use Rattle.std.specs.Prelude.{[]};
+
+    type Entry = Count;
+
+    ghost inside = { λ m. IsInside m.grid.now.terrain };
+
+    ghost has = { λ m. HasValue m.grid.now.terrain [] m.target_height m.radius };
+
+    fn entry(&self, place: Place) -> Count {
+        if self.grid.at(place).is_none() {
+            return Count::no_data();
+        }
+        Count::of(0)
+    }
+}
+
 impl<'a> TileMap for Viewing<'a> {
     ghost use Rattle.sight.specs.Viewed.{HasValue};
 
@@ -159,7 +136,7 @@ impl<'a> TileMap for Viewing<'a> {
 
     fn tile(&self, alloc: Global, tile: u32) -> Result<Vec<Count>, NoMemory> {
         let bounds = self.tiling.bounds(tile);
-        let mut values = self.first_values(alloc, bounds)?;
+        let mut values = entries(self, alloc, bounds)?;
         let mut seen = vec![in alloc; false; values.len()]?;
         self.count_observers(alloc, bounds, &mut seen, &mut values)?;
         Ok(values)

@@ -2,12 +2,22 @@
 ghost use Rattle.std.specs.Prelude.{◌≡◌, ◌⊎◌, ℕ, ℤ, ◌*◌, ◌<◌, ◌≤◌, length, slice_index_or, None, Some, IfOk};
 ghost use Rattle.terrain.specs.Neighbours.{height_at};
 ghost use Rattle.sight.specs.Walk.{AreHeights};
-ghost use Rattle.sight.specs.Blocks.{blocks_in, block_of, IsTopOf, IsPeak, AreTops, IsTops};
+ghost use Rattle.tile_jobs.specs.Fault.{RefusesWorkers};
+ghost use Rattle.sight.specs.Blocks.{blocks_in, IsTopOf, IsPeak, AreTops, IsTops, CutsBlocks};
 ghost use Rattle.terrain.specs.Raster.{IsHeight, IsLawful};
 
+use crate::by_place::{Placed, entries};
 use crate::passing::{FAR_BLOCK, NEAR_BLOCK};
-use std::alloc::{AllocError, Global};
-use terrain::{Grid, Height, LOWEST, Place};
+use std::alloc::Global;
+use std::sync::Wait;
+use std::thread::Threads;
+use terrain::{Grid, Height, LOWEST, NoMemory, Place};
+use tile_jobs::{JobFault, NoGate};
+use tile_maps::{Crew, TileMap};
+use tiles::{Tiling, TilingFault};
+
+/// How many blocks stand along the side of those of one job.
+const JOB_SIDE: u32 = 16;
 
 /// How high the ground of a grid reaches at most: in each of its blocks, in row order, None where a block has no data, and
 /// in all of it.
@@ -61,42 +71,83 @@ fn top_of_run(grid: &Grid, row: u32, from: u32, to: u32) -> Option<Height>
     top
 }
 
-/// Raises the heights of the blocks that a row of the grid crosses to those of its cells.
-#[inline(always)]
-fn raise_row(grid: &Grid, size: u32, row: u32, tops: &mut [Option<Height>])
+/// The greatest heights of the blocks of so many cells each way, None where a block has no data: a map of the blocks.
+#[derive(Drop)]
+struct BlockTops<'a> {
+    grid: &'a Grid,
+    size: u32,
+    tiling: Tiling,
+    ghost sized: { (0 < size) × (size ≤ 4096) },
+    ghost cut: { CutsBlocks size tiling grid.now.terrain },
+}
+
+impl<'a> Placed for BlockTops<'a> {
+    ghost use Rattle.sight.specs.Blocks.{IsBlock, IsBlockTop};
+
+    type Entry = Option<Height>;
+
+    ghost inside = { λ m. IsBlock m.size m.grid.now.terrain };
+
+    ghost has = { λ m. IsBlockTop m.size m.grid.now.terrain };
+
+    #[inline(always)]
+    fn entry(&self, block: Place) -> Option<Height> {
+        let from = block.col * self.size;
+        let to = self.grid.cols().min(from + self.size);
+        let first = block.row * self.size;
+        let mut top = None;
+        for row in first..self.grid.rows().min(first + self.size) {
+            top = raised(top, top_of_run(self.grid, row, from, to));
+        }
+        top
+    }
+}
+
+impl<'a> TileMap for BlockTops<'a> {
+    ghost use Rattle.sight.specs.Blocks.{IsBlockTop};
+
+    type Entry = Option<Height>;
+
+    ghost cutting = { λ m. m.tiling };
+
+    ghost has = { λ m. IsBlockTop m.size m.grid.now.terrain };
+
+    fn tiling(&self) -> Tiling {
+        self.tiling
+    }
+
+    fn tile(&self, alloc: Global, tile: u32) -> Result<Vec<Option<Height>>, NoMemory> {
+        let tops = entries(self, alloc, self.tiling.bounds(tile))?;
+        Ok(tops)
+    }
+}
+
+/// The blocks of a grid, as many to a job as hold some ten thousand cells.
+fn cut_blocks(grid: &Grid, size: u32) -> Tiling
     requires size { (0 < size) × (size ≤ 4096) }
-    requires row { row < grid.now.terrain.rows }
-    requires count { length tops.old ≡ blocks_in size grid.now.terrain.rows * blocks_in size grid.now.terrain.cols }
-    requires heights { AreHeights tops.old }
-    ensures heights { AreHeights tops.new }
-    ensures kept { (i : ℕ) (h : ℤ) → IsTopOf (slice_index_or tops.old i None) h
-        → IsTopOf (slice_index_or tops.new i None) h }
-    ensures raised { (col : ℕ) (h : ℤ) → col < grid.now.terrain.cols
-        → height_at grid.now.terrain (record { row = row; col = col }) ≡ Some h
-        → IsTopOf (slice_index_or tops.new (block_of size grid.now.terrain (record { row = row; col = col })) None) h }
+    ensures { CutsBlocks size result grid.now.terrain }
 {
-    let cols = grid.cols();
-    let wide = blocks_in(size, cols);
-    let first = (row / size) as usize * wide;
-    for block in 0..wide {
-        let from = block as u32 * size;
-        let run = top_of_run(grid, row, from, cols.min(from + size));
-        tops[first + block] = raised(tops[first + block], run);
+    let cols = blocks_in(size, grid.cols()) as u32;
+    let rows = blocks_in(size, grid.rows()) as u32;
+    match Tiling::new(cols, rows, JOB_SIDE) {
+        Ok(tiling) => tiling,
+        Err(TilingFault::BadSide) => unreachable!(),
+        Err(TilingFault::TooManyTiles) => unreachable!(),
     }
 }
 
 /// The greatest height of each block of so many cells each way.
-#[inline(always)]
-fn block_tops(alloc: Global, grid: &Grid, size: u32) -> Result<Vec<Option<Height>>, AllocError>
+fn block_tops<R: Threads + Wait + Sync>(
+    crew: &Crew<R, NoGate>,
+    grid: &Grid,
+    size: u32,
+) -> Result<Vec<Option<Height>>, JobFault>
     requires size { (0 < size) × (size ≤ 4096) }
-    ensures { IfOk result (λ v. AreTops size grid.now.terrain v.items) }
+    ensures tops { IfOk result (λ v. AreTops size grid.now.terrain v.items) }
+    ensures workers { RefusesWorkers crew.now.workers result }
 {
-    let blocks = blocks_in(size, grid.rows()) * blocks_in(size, grid.cols());
-    let mut tops = vec![in alloc; None; blocks]?;
-    for row in 0..grid.rows() {
-        raise_row(grid, size, row, &mut tops);
-    }
-    Ok(tops)
+    let tiling = cut_blocks(grid, size);
+    crew.made(BlockTops { grid, size, tiling })
 }
 
 /// The greatest height of all blocks, or the lowest that there can be where none has one.
@@ -113,12 +164,16 @@ fn peak_of(tops: &[Option<Height>]) -> Height
 }
 
 impl Tops {
-    /// Of a grid.
-    pub(crate) fn of(alloc: Global, grid: &Grid) -> Result<Self, AllocError>
-        ensures { IfOk result (λ t. IsTops grid.now.terrain t) }
+    /// Of a grid, by workers who share its blocks.
+    pub(crate) fn of<R: Threads + Wait + Sync>(
+        crew: &Crew<R, NoGate>,
+        grid: &Grid,
+    ) -> Result<Self, JobFault>
+        ensures tops { IfOk result (λ t. IsTops grid.now.terrain t) }
+        ensures workers { RefusesWorkers crew.now.workers result }
     {
-        let near = block_tops(alloc, grid, NEAR_BLOCK)?;
-        let far = block_tops(alloc, grid, FAR_BLOCK)?;
+        let near = block_tops(crew, grid, NEAR_BLOCK)?;
+        let far = block_tops(crew, grid, FAR_BLOCK)?;
         let peak = peak_of(&far);
         Ok(Tops { near, far, peak })
     }

@@ -12,7 +12,7 @@ use std::alloc::Global;
 use std::sync::Wait;
 use std::thread::Threads;
 use terrain::{Count, Grid, Observer};
-use tile_jobs::{Gate, JobFault, MOST_WORKERS};
+use tile_jobs::{Gate, JobFault, MOST_WORKERS, NoGate};
 use tile_maps::Crew;
 use tiles::Tiling;
 
@@ -45,7 +45,15 @@ pub fn viewshed<R: Threads + Wait + Sync, G: Gate + Sync>(
     if workers == 0 || workers > MOST_WORKERS {
         return Err(SightFault::Jobs(JobFault::BadWorkers));
     }
-    let tops = Tops::of(alloc, grid).map_err(JobFault::from)?;
+    let tops = Tops::of(
+        &Crew {
+            rt,
+            alloc,
+            workers,
+            gate: &NoGate,
+        },
+        grid,
+    )?;
     let crew = Crew {
         rt,
         alloc,

@@ -1,0 +1,65 @@
+// What stands at each place of some bounds, as a list in row order.
+ghost use Rattle.std.specs.Prelude.{ℕ, ◌+◌, ◌-◌, ◌*◌, ◌<◌, ◌≤◌, IfOk, OnOk};
+ghost use Rattle.terrain.specs.declared.place.Place.{Place};
+ghost use Rattle.tiles.specs.Cutting.{IsInBounds};
+ghost use Rattle.tile_maps.specs.Maps.{AreMadeBelow};
+
+use std::alloc::{AllocError, Global};
+use terrain::Place;
+use tiles::Bounds;
+
+/// What stands at each place.
+pub(crate) trait Placed {
+    type Entry;
+
+    // The places that have an entry.
+    ghost inside: { Self → Place → Type 0 };
+
+    // What stands there.
+    ghost has: { Self → Place → Self.Entry → Type 0 };
+
+    fn entry(&self, place: Place) -> Self::Entry
+        requires { inside self.now place }
+        ensures { has self.now place result };
+}
+
+/// Appends what stands in a row of the bounds.
+#[inline(always)]
+fn push_row<M: Placed>(
+    map: &M,
+    bounds: Bounds,
+    row: u32,
+    list: &mut Vec<M::Entry>,
+) -> Result<(), AllocError>
+where
+    M::Entry: Drop,
+    requires small { bounds.left + bounds.cols ≤ 4096 }
+    requires inside { (p : Place) → IsInBounds bounds p → M.inside map.now p }
+    requires row { (bounds.top ≤ row) × (row < bounds.top + bounds.rows) }
+    requires list { AreMadeBelow bounds (M.has map.now) ((row - bounds.top) * bounds.cols) list.old.items }
+    ensures { OnOk result (AreMadeBelow bounds (M.has map.now) ((row + 1 - bounds.top) * bounds.cols) list.new.items) }
+{
+    for col in bounds.left..bounds.left + bounds.cols {
+        list.push(map.entry(Place { row, col }))?;
+    }
+    Ok(())
+}
+
+/// What stands at each place of the bounds, in row order.
+pub(crate) fn entries<M: Placed>(
+    map: &M,
+    alloc: Global,
+    bounds: Bounds,
+) -> Result<Vec<M::Entry>, AllocError>
+where
+    M::Entry: Drop,
+    requires small { (bounds.top + bounds.rows ≤ 4096) × (bounds.left + bounds.cols ≤ 4096) }
+    requires inside { (p : Place) → IsInBounds bounds p → M.inside map.now p }
+    ensures { IfOk result (λ v. AreMadeBelow bounds (M.has map.now) (bounds.rows * bounds.cols) v.items) }
+{
+    let mut list = Vec::with_capacity(alloc, bounds.rows as usize * bounds.cols as usize)?;
+    for row in bounds.top..bounds.top + bounds.rows {
+        push_row(map, bounds, row, &mut list)?;
+    }
+    Ok(list)
+}
