@@ -240,18 +240,18 @@ top_at size t tops r c i j h are a b i_is j_is is =
     let P : ℕ → Type 0 = λ n. IsTopOf (get_or tops n None) h in
     subst P (sym j_is) (are.above (record { row = r; col = c }) h (height_is t r c i a b i_is ∙ is))
 
-pub tops_along_columns : (size : ℕ) (t : Terrain) (tops : List (Option ℤ)) (p q : Place) (e f : ℤ) → 0 < size → AreTops size t tops → IsInside t p → IsInside t q
-    → AreTopsAlong size t.cells tops (over_columns t p q e f) (record { lead = 1; side = blocks_in size t.cols })
-tops_along_columns size t tops p q e f some are a b = record {
+pub tops_along_columns : (size : ℕ) {t : Terrain} {tops : List (Option ℤ)} {p q : Place} {e f : ℤ} {line : Sightline} → line ≡ over_columns t p q e f → 0 < size → AreTops size t tops → IsInside t p → IsInside t q
+    → AreTopsAlong size t.cells tops line (record { lead = 1; side = blocks_in size t.cols })
+tops_along_columns size {t} {tops} {p} {q} is some are a b = subst (λ (l : Sightline). AreTopsAlong size t.cells tops l (record { lead = 1; side = blocks_in size t.cols })) (sym is) (record {
   heights = are.heights;
   over = omega (arith, are.count, block_below size t.cols t.rows (max p.row q.row) (max p.col q.col) some (omega arith) (omega arith));
   above = λ col row h c_in r_in is. top_at size t tops row col (col * 1 + row * t.cols) (col / size * 1 + row / size * blocks_in size t.cols) h are (omega arith) (omega arith) (omega arith) (omega arith) is;
-}
+})
 
-pub tops_along_rows : (size : ℕ) (t : Terrain) (tops : List (Option ℤ)) (p q : Place) (e f : ℤ) → 0 < size → AreTops size t tops → IsInside t p → IsInside t q
-    → AreTopsAlong size t.cells tops (over_rows t p q e f) (record { lead = blocks_in size t.cols; side = 1 })
-tops_along_rows size t tops p q e f some are a b = record {
+pub tops_along_rows : (size : ℕ) {t : Terrain} {tops : List (Option ℤ)} {p q : Place} {e f : ℤ} {line : Sightline} → line ≡ over_rows t p q e f → 0 < size → AreTops size t tops → IsInside t p → IsInside t q
+    → AreTopsAlong size t.cells tops line (record { lead = blocks_in size t.cols; side = 1 })
+tops_along_rows size {t} {tops} {p} {q} is some are a b = subst (λ (l : Sightline). AreTopsAlong size t.cells tops l (record { lead = blocks_in size t.cols; side = 1 })) (sym is) (record {
   heights = are.heights;
   over = omega (arith, are.count, block_below size t.cols t.rows (max p.row q.row) (max p.col q.col) some (omega arith) (omega arith));
   above = λ row col h r_in c_in is. top_at size t tops row col (row * t.cols + col * 1) (row / size * blocks_in size t.cols + col / size * 1) h are (omega arith) (omega arith) (omega arith) (omega arith) is;
-}
+})

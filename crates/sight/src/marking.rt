@@ -14,7 +14,10 @@ use tiles::Bounds;
 /// How many cells of a tile are asked before it is looked at.
 const SAMPLES: u32 = 64;
 
-/// A tile is swept where walks to its cells ask about more crossings than this, each on average, if it is of 256 squared.
+/// Cells along the side of a usual tile.
+const USUAL_SIDE: u32 = 256;
+
+/// A usual tile is swept where walks to its cells ask about more crossings than this, each on average.
 const MOST_ASKED: u32 = 128;
 
 /// A tile with shorter sides is swept as one of this side is.
@@ -44,7 +47,7 @@ impl<'a> Viewing<'a> {
         ensures { OnOk result (AreMarked bounds
             (TellsSeen self.now.grid.now.terrain observer.now self.now.target_height self.now.radius) seen.new) }
     {
-        if !self.is_long_walked(observer, bounds) {
+        if !self.walks_are_long(observer, bounds) {
             self.mark(Asked::Whole, observer, bounds, seen);
             return Ok(());
         }
@@ -54,7 +57,7 @@ impl<'a> Viewing<'a> {
 
     /// Whether walks to a sample of a tile's cells ask about so many crossings that one sweep over all cells costs less:
     /// the more, the fewer cells share the sweep.
-    fn is_long_walked(&self, observer: &Observer, bounds: Bounds) -> bool
+    fn walks_are_long(&self, observer: &Observer, bounds: Bounds) -> bool
         requires lawful { IsCutting self.now.tiling.now }
         requires inside { AreBounds self.now.tiling.now bounds }
         requires observer { IsInside self.now.grid.now.terrain (place_of observer.now) }
@@ -69,7 +72,7 @@ impl<'a> Viewing<'a> {
             self.mark_of(Asked::Whole, observer, place, &mut walked);
         }
         let side = bounds.rows.min(bounds.cols).max(SWEPT_SIDE);
-        walked.asked / SAMPLES >= MOST_ASKED * 256 / side
+        walked.asked / SAMPLES >= MOST_ASKED * USUAL_SIDE / side
     }
 
     /// Marks the cells of a tile by what is asked of the line of sight to each.

@@ -128,7 +128,7 @@ fn at_end(line: Sightline, leap: Leap, first: u32, start: Step, end: u32) -> Ste
 }
 
 /// As [`blocking_step`], by passing over the steps at which the line is above the blocks of cells whose greatest heights are
-/// `tops`. How many crossings it is asked about counts as `asked`.
+/// `tops`. How many crossings are asked about is added to `asked`.
 #[inline(always)]
 fn blocking_step_past_near_blocks(
     cells: &[Cell],
@@ -216,7 +216,7 @@ pub(crate) fn blocking_step_past_blocks(
     }
     let pace = Pace::new(line);
     let mut first = block_end(line, NEAR_BLOCK, 1, steps);
-    *asked = asked.saturating_add(first);
+    *asked = asked.saturating_add(first - 1);
     if let Some(step) = blocking_step(cells, line, pace, begin, 1, first) {
         return Some(step);
     }
