@@ -50,14 +50,7 @@ fn block_end(line: Sightline, size: u32, step: u32, last: u32) -> u32
 /// Whether all of some blocks in a row are below the sight, when their heights are taken `weight`
 /// times.
 #[inline(always)]
-fn are_low(
-    tops: &[Option<Height>],
-    first: usize,
-    stride: usize,
-    count: u32,
-    weight: u32,
-    sight: i64,
-) -> bool
+fn are_low(tops: &[Cell], first: usize, stride: usize, count: u32, weight: u32, sight: i64) -> bool
     requires heights { AreHeights tops.now }
     requires room { (i : ℕ) → i < count → first + i * stride < length tops.now }
     requires weight { weight ≤ 4096 }
@@ -66,7 +59,7 @@ fn are_low(
 {
     for i in 0..count {
         let top = tops[first + i as usize * stride];
-        if let Some(height) = top {
+        if let Some(height) = top.height() {
             if weighed(height, weight) > sight {
                 return false;
             }
@@ -79,7 +72,7 @@ fn are_low(
 /// of blocks.
 #[inline(always)]
 fn is_above_blocks(
-    tops: &[Option<Height>],
+    tops: &[Cell],
     size: u32,
     strides: BlockStrides,
     line: Sightline,
@@ -132,7 +125,7 @@ fn at_end(line: Sightline, leap: Leap, first: u32, start: Step, end: u32) -> Ste
 #[inline(always)]
 fn blocking_step_past_near_blocks(
     cells: &[Cell],
-    tops: &[Option<Height>],
+    tops: &[Cell],
     strides: BlockStrides,
     line: Sightline,
     pace: Pace,

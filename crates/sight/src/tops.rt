@@ -1,17 +1,17 @@
 // The greatest heights of blocks of cells.
 ghost use Rattle.std.specs.Prelude.{◌≡◌, ◌⊎◌, ℕ, ℤ, ◌*◌, ◌<◌, ◌≤◌, length, slice_index_or, None, Some, IfOk};
-ghost use Rattle.terrain.specs.Neighbours.{height_at};
 ghost use Rattle.sight.specs.Walk.{AreHeights};
 ghost use Rattle.tile_jobs.specs.Fault.{RefusesWorkers};
-ghost use Rattle.sight.specs.Blocks.{blocks_in, IsTopOf, IsPeak, AreTops, IsTops, CutsBlocks};
-ghost use Rattle.terrain.specs.Raster.{IsHeight, IsLawful};
+ghost use Rattle.sight.specs.Blocks.{blocks_in, IsTopOf, AreTops, IsTops, CutsBlocks, ground_of, IsGround};
+ghost use Rattle.terrain.specs.Raster.{IsHeight};
 
 use crate::by_place::{Placed, entries};
+use crate::family::height_at;
 use crate::passing::{FAR_BLOCK, NEAR_BLOCK};
 use std::alloc::Global;
 use std::sync::Wait;
 use std::thread::Threads;
-use terrain::{Grid, Height, LOWEST, NoMemory, Place};
+use terrain::{Cell, Grid, Height, LOWEST, NoMemory, Place};
 use tile_jobs::{JobFault, NoGate};
 use tile_maps::{Crew, TileMap};
 use tiles::{Tiling, TilingFault};
@@ -19,12 +19,12 @@ use tiles::{Tiling, TilingFault};
 /// How many blocks stand along the side of those of one job.
 const JOB_SIDE: u32 = 16;
 
-/// How high the ground of a grid reaches at most: in each of its blocks, in row order, None where a block has no data, and
-/// in all of it.
+/// How high the ground of a grid reaches at most: in each of its blocks, in row order, and in all of it. A
+/// block is a cell of a coarser ground: it has no data where none of its cells has any.
 #[derive(Drop)]
 pub struct Tops {
-    pub near: Vec<Option<Height>>,
-    pub far: Vec<Option<Height>>,
+    pub near: Vec<Cell>,
+    pub far: Vec<Cell>,
     pub peak: Height,
 }
 
@@ -54,82 +54,98 @@ pub(crate) fn raised(top: Option<Height>, height: Option<Height>) -> Option<Heig
     }
 }
 
-/// The greatest height of a row's cells from a column on and before another, None where they have no data.
+/// The greatest height of some cells, None where they have no data.
 #[inline(always)]
-fn top_of_run(grid: &Grid, row: u32, from: u32, to: u32) -> Option<Height>
-    requires lawful { IsLawful grid.now }
-    requires row { row < grid.now.terrain.rows }
-    requires to { to ≤ grid.now.terrain.cols }
-    ensures top { (col : ℕ) (h : ℤ) → from ≤ col → col < to
-        → height_at grid.now.terrain (record { row = row; col = col }) ≡ Some h → IsTopOf result h }
+fn top_of(cells: &[Cell]) -> Option<Height>
+    requires { AreHeights cells.now }
+    ensures top { (i : ℕ) (h : ℤ) → slice_index_or cells.now i None ≡ Some h → IsTopOf result h }
     ensures height { (h : ℤ) → result ≡ Some h → IsHeight h }
 {
     let mut top = None;
-    for col in from..to {
-        top = raised(top, grid.at(Place { row, col }));
+    for index in 0..cells.len() {
+        top = raised(top, height_at(cells, index));
     }
     top
 }
 
-/// The greatest heights of the blocks of so many cells each way, None where a block has no data: a map of the blocks.
+/// The greatest heights of the blocks of so many cells each way of a ground: a map of the blocks.
 #[derive(Drop)]
 struct BlockTops<'a> {
-    grid: &'a Grid,
+    cells: &'a [Cell],
+    cols: u32,
+    rows: u32,
     size: u32,
     tiling: Tiling,
     ghost sized: { (0 < size) × (size ≤ 4096) },
-    ghost cut: { CutsBlocks size tiling grid.now.terrain },
+    ghost ground: { IsGround cols rows cells.now },
+    ghost cut: { CutsBlocks size cols rows tiling },
 }
 
 impl<'a> Placed for BlockTops<'a> {
-    ghost use Rattle.sight.specs.Blocks.{IsBlock, IsBlockTop};
+    ghost use Rattle.sight.specs.Blocks.{ground_of, IsBlock, IsBlockTop};
 
-    type Entry = Option<Height>;
+    type Entry = Cell;
 
-    ghost inside = { λ m. IsBlock m.size m.grid.now.terrain };
+    ghost inside = { λ m. IsBlock m.size (ground_of m.cols m.rows m.cells.now) };
 
-    ghost has = { λ m. IsBlockTop m.size m.grid.now.terrain };
+    ghost has = { λ m. IsBlockTop m.size (ground_of m.cols m.rows m.cells.now) };
 
     #[inline(always)]
-    fn entry(&self, block: Place) -> Option<Height> {
+    fn entry(&self, block: Place) -> Cell {
         let from = block.col * self.size;
-        let to = self.grid.cols().min(from + self.size);
+        let to = self.cols.min(from + self.size);
         let first = block.row * self.size;
         let mut top = None;
-        for row in first..self.grid.rows().min(first + self.size) {
-            top = raised(top, top_of_run(self.grid, row, from, to));
+        for row in first..self.rows.min(first + self.size) {
+            let line = row as usize * self.cols as usize;
+            let run = &self.cells[line + from as usize..line + to as usize];
+            top = raised(top, top_of(run));
         }
-        top
+        cell_of(top)
     }
 }
 
 impl<'a> TileMap for BlockTops<'a> {
-    ghost use Rattle.sight.specs.Blocks.{IsBlockTop};
+    ghost use Rattle.sight.specs.Blocks.{ground_of, IsBlockTop};
 
-    type Entry = Option<Height>;
+    type Entry = Cell;
 
     ghost cutting = { λ m. m.tiling };
 
-    ghost has = { λ m. IsBlockTop m.size m.grid.now.terrain };
+    ghost has = { λ m. IsBlockTop m.size (ground_of m.cols m.rows m.cells.now) };
 
     fn tiling(&self) -> Tiling {
         self.tiling
     }
 
-    fn tile(&self, alloc: Global, tile: u32) -> Result<Vec<Option<Height>>, NoMemory> {
+    fn tile(&self, alloc: Global, tile: u32) -> Result<Vec<Cell>, NoMemory> {
         let tops = entries(self, alloc, self.tiling.bounds(tile))?;
         Ok(tops)
     }
 }
 
-/// The blocks of a grid, as many to a job as hold some ten thousand cells.
-fn cut_blocks(grid: &Grid, size: u32) -> Tiling
-    requires size { (0 < size) × (size ≤ 4096) }
-    ensures { CutsBlocks size result grid.now.terrain }
+/// The cell of a greatest height, if there is one.
+#[inline(always)]
+fn cell_of(top: Option<Height>) -> Cell
+    requires { (h : ℤ) → top ≡ Some h → IsHeight h }
+    ensures { result ≡ top }
 {
-    let cols = blocks_in(size, grid.cols()) as u32;
-    let rows = blocks_in(size, grid.rows()) as u32;
-    match Tiling::new(cols, rows, JOB_SIDE) {
+    match top {
+        Some(height) => Cell::of(height),
+        None => Cell::no_data(),
+    }
+}
+
+/// The blocks of so many columns and rows, cut into those of each job.
+fn cut_blocks(cols: u32, rows: u32, size: u32) -> Tiling
+    requires cols { (1 ≤ cols) × (cols ≤ 4096) }
+    requires rows { (1 ≤ rows) × (rows ≤ 4096) }
+    requires size { (0 < size) × (size ≤ 4096) }
+    ensures { CutsBlocks size cols rows result }
+{
+    let wide = blocks_in(size, cols) as u32;
+    let high = blocks_in(size, rows) as u32;
+    match Tiling::new(wide, high, JOB_SIDE) {
         Ok(tiling) => tiling,
         Err(TilingFault::BadSide) => unreachable!(),
         Err(TilingFault::TooManyTiles) => unreachable!(),
@@ -139,28 +155,24 @@ fn cut_blocks(grid: &Grid, size: u32) -> Tiling
 /// The greatest height of each block of so many cells each way.
 fn block_tops<R: Threads + Wait + Sync>(
     crew: &Crew<R, NoGate>,
-    grid: &Grid,
+    cells: &[Cell],
+    cols: u32,
+    rows: u32,
     size: u32,
-) -> Result<Vec<Option<Height>>, JobFault>
+) -> Result<Vec<Cell>, JobFault>
+    requires ground { IsGround cols rows cells.now }
     requires size { (0 < size) × (size ≤ 4096) }
-    ensures tops { IfOk result (λ v. AreTops size grid.now.terrain v.items) }
+    ensures tops { IfOk result (λ v. AreTops size (ground_of cols rows cells.now) v.items) }
     ensures workers { RefusesWorkers crew.now.workers result }
 {
-    let tiling = cut_blocks(grid, size);
-    crew.made(BlockTops { grid, size, tiling })
-}
-
-/// The greatest height of all blocks, or the lowest that there can be where none has one.
-fn peak_of(tops: &[Option<Height>]) -> Height
-    requires heights { AreHeights tops.now }
-    ensures height { IsHeight result }
-    ensures peak { IsPeak tops.now result }
-{
-    let mut peak = None;
-    for index in 0..tops.len() {
-        peak = raised(peak, tops[index]);
-    }
-    peak.unwrap_or(LOWEST)
+    let tiling = cut_blocks(cols, rows, size);
+    crew.made(BlockTops {
+        cells,
+        cols,
+        rows,
+        size,
+        tiling,
+    })
 }
 
 impl Tops {
@@ -172,9 +184,12 @@ impl Tops {
         ensures tops { IfOk result (λ t. IsTops grid.now.terrain t) }
         ensures workers { RefusesWorkers crew.now.workers result }
     {
-        let near = block_tops(crew, grid, NEAR_BLOCK)?;
-        let far = block_tops(crew, grid, FAR_BLOCK)?;
-        let peak = peak_of(&far);
+        let (cols, rows) = (grid.cols(), grid.rows());
+        let near = block_tops(crew, grid.cells(), cols, rows, NEAR_BLOCK)?;
+        let wide = blocks_in(NEAR_BLOCK, cols) as u32;
+        let high = blocks_in(NEAR_BLOCK, rows) as u32;
+        let far = block_tops(crew, &near, wide, high, FAR_BLOCK / NEAR_BLOCK)?;
+        let peak = top_of(&far).unwrap_or(LOWEST);
         Ok(Tops { near, far, peak })
     }
 }
