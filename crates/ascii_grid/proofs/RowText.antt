@@ -1,7 +1,7 @@
 -- A line of cells, cell by cell, and the lines of a grid, line by line.
 use Rattle.std.proofs.Common.{◌≡◌, ℕ, zero, suc, ◌+◌, ◌-◌, ◌*◌, ◌<◌, List, [], ◌∷◌, ◌++◌, length, take, drop, map, get_or, sym, ap, refl, ◌∙◌, arith, zero-add, zero-mul}
 use Rattle.std.specs.List.{join_with_byte, flat_map}
-use Rattle.std.proofs.lemmas.List.{append_assoc, append-nil, take_more, drop_more, drop_all, drop-drop}
+use Rattle.std.proofs.lemmas.List.{append_assoc, append-nil, take_more, drop_more, drop_all, drop-drop, drop-take, take-append-drop, take-take}
 use Rattle.std.proofs.lemmas.Grind.{flat_map-append}
 use Rattle.ascii_grid.specs.Text.{row_text, rows_text}
 
@@ -21,9 +21,20 @@ row_split f (c ∷ d ∷ cells) (suc i) h =
       regroup : (a b c : List ℕ) → (a ++ 32 ∷ b) ++ c ≡ (a ++ 32 ∷ []) ++ (b ++ c)
       regroup a b c = simp append_assoc
 
+-- one piece more
+pub pieces_more : {X : Type 0} (f : X → List ℕ) (pieces : List X) (x : X) (i : ℕ) → i < length pieces → x ≡ get_or pieces i x → flat_map f (take (i + 1) pieces) ≡ flat_map f (take i pieces) ++ f x
+pieces_more f pieces x i h e = rw (take_more pieces i x h, ← e, flat_map-append, append-nil) refl
+
+-- the pieces before one, it, and those after it
+pub pieces_split : {X : Type 0} (f : X → List ℕ) (pieces : List X) (x : X) (i : ℕ) → i < length pieces → x ≡ get_or pieces i x → flat_map f pieces ≡ (flat_map f (take i pieces) ++ f x) ++ flat_map f (drop (i + 1) pieces)
+pieces_split {X} f pieces x i h e =
+    ap (λ (z : List X). flat_map f z) (sym (take-append-drop (i + 1) pieces))
+    ∙ flat_map-append f (take (i + 1) pieces) (drop (i + 1) pieces)
+    ∙ ap (λ z. z ++ flat_map f (drop (i + 1) pieces)) (pieces_more f pieces x i h e)
+
 -- one cell more
 pub spaced_more : {X : Type 0} (f : X → List ℕ) (cells : List X) (c : X) (i : ℕ) → i < length cells → c ≡ get_or cells i c → spaced f (take (i + 1) cells) ≡ spaced f (take i cells) ++ (f c ++ 32 ∷ [])
-spaced_more f cells c i h e = rw (take_more cells i c h, ← e, flat_map-append, append-nil) refl
+spaced_more f cells c i h e = pieces_more (λ d. f d ++ 32 ∷ []) cells c i h e
 
 -- the last one
 pub row_last : {X : Type 0} (f : X → List ℕ) (cells : List X) (c : X) (i : ℕ) → i + 1 ≡ length cells → c ≡ get_or cells i c → row_text f cells ≡ spaced f (take i cells) ++ (f c ++ 10 ∷ [])
@@ -48,3 +59,14 @@ rows_split f cols rows n cells h =
     ap (λ k. rows_text f cols k cells) (let e : rows ≡ (n + 1) + (rows - (n + 1)) = omega arith in e)
     ∙ rows_text-add f cols (n + 1) (rows - (n + 1)) cells
     ∙ ap (λ z. z ++ rows_text f cols (rows - (n + 1)) (drop ((n + 1) * cols) cells)) (rows_more f cols n cells)
+
+-- the rows' own cells are enough
+pub rows_take : {X : Type 0} (f : X → List ℕ) (cols n : ℕ) (cells : List X) → rows_text f cols n (take (n * cols) cells) ≡ rows_text f cols n cells
+rows_take f cols zero cells = refl
+rows_take {X} f cols (suc n) cells =
+    let size : suc n * cols ≡ cols + n * cols = omega arith in
+    let front : take cols (take (suc n * cols) cells) ≡ take cols cells = take-take cols (suc n * cols) cells (omega arith) in
+    let back : drop cols (take (suc n * cols) cells) ≡ take (n * cols) (drop cols cells) = ap (λ k. drop cols (take k cells)) size ∙ drop-take cols (n * cols) cells in
+    ap (λ (z : List X). row_text f z ++ rows_text f cols n (drop cols (take (suc n * cols) cells))) front
+    ∙ ap (λ (z : List X). row_text f (take cols cells) ++ rows_text f cols n z) back
+    ∙ ap (λ z. row_text f (take cols cells) ++ z) (rows_take f cols n (drop cols cells))

@@ -1,5 +1,6 @@
 // A grid as text.
-ghost use Rattle.std.specs.Prelude.{◌≡◌, ◌↔◌, ◌∷◌, ◌+◌, ◌++◌, ◌*◌, ◌/◌, ◌-◌, ◌^◌, ◌<◌, ◌≤◌, [], ℕ, List, length, decimal, codes, OnOk};
+ghost use Rattle.std.specs.Prelude.{◌≡◌, ◌↔◌, ◌∷◌, ◌+◌, ◌++◌, ◌*◌, ◌/◌, ◌-◌, ◌^◌, ◌<◌, ◌≤◌, [], ℕ, List, length, decimal, codes, OnOk, IfOk};
+ghost use Rattle.std.specs.List.{flat_map};
 ghost use Rattle.terrain.specs.Sinks.{raster_with_sinks};
 ghost use Rattle.ascii_grid.specs.Device.{Writes};
 ghost use Rattle.ascii_grid.specs.Gathers.{Gathers};
@@ -11,14 +12,18 @@ use crate::counted::{Counted, WriteFailed};
 use crate::page::{PAGE, Page};
 use drainage::Code;
 use itoa::Buffer;
+use std::alloc::Global;
 use std::io::Write;
-use terrain::{Anchor, Cell, Count, Frame, Grid, MOST_WORD_BYTES};
+use terrain::{Anchor, Cell, Count, Frame, Grid, MOST_WORD_BYTES, NoMemory};
 
 /// More bytes than a cell takes, or a line of the header, with the byte that ends it.
-const ENTRY_ROOM: usize = 80;
+pub const ENTRY_ROOM: usize = 80;
 
 /// The NODATA word of the maps of whole numbers.
-const COUNTS_NODATA: &[u8] = b"-9999";
+pub const COUNTS_NODATA: &[u8] = b"-9999";
+
+/// How many bytes a cell takes in usual texts.
+const USUAL_BYTES: usize = 6;
 
 #[inline(never)]
 fn hand_on<W: Write>(page: &mut Page, out: &mut Counted<W>) -> Result<(), WriteFailed>
@@ -45,7 +50,7 @@ fn make_room<W: Write>(page: &mut Page, out: &mut Counted<W>) -> Result<(), Writ
 }
 
 /// A cell that can be written.
-trait Entry: Copy {
+pub trait Entry: Copy {
     /// Its text in a grid of this scale and NODATA word.
     ghost text: { ℕ → List ℕ → Self → List ℕ };
 
@@ -156,6 +161,26 @@ fn write_rows<E: Entry, W: Write>(
     Ok(())
 }
 
+/// Writes what a page holds, and the lines of cells behind it.
+fn write_behind<E: Entry, W: Write>(
+    page: &mut Page,
+    cells: &[E],
+    cols: usize,
+    scale: u8,
+    nodata: &[u8],
+    out: &mut Counted<W>,
+) -> Result<(), WriteFailed>
+    requires few { out.old.failures < 2 ^ 64 - 1 }
+    requires scale { scale ≤ 6 }
+    requires short { length nodata.now ≤ MOST_WORD_BYTES }
+    requires some { 0 < cols }
+    ensures { Writes W.contents out.old out.new (page.old
+        ++ rows_text (E.text scale nodata.now) cols (length cells.now / cols) cells.now) result }
+{
+    write_rows(cells, cols, scale, nodata, page, out)?;
+    page.write_to(out)
+}
+
 /// Adds a line of the header.
 fn push_line(key: &[u8], value: &[u8], page: &mut Page)
     requires key { length key.now ≤ 14 }
@@ -208,8 +233,8 @@ fn header_page(frame: &Frame, nodata: &[u8]) -> Page
     page
 }
 
-/// Writes a grid's header with this NODATA word, and these cells.
-fn write_cells<E: Entry, W: Write>(
+/// Writes a map with the header of its grid and this NODATA word. It takes no memory.
+pub fn write_cells<E: Entry, W: Write>(
     frame: &Frame,
     cells: &[E],
     nodata: &[u8],
@@ -224,9 +249,57 @@ fn write_cells<E: Entry, W: Write>(
 {
     let mut page = header_page(frame, nodata);
     let cols = frame.cols() as usize;
-    let scale = frame.scale();
-    write_rows(cells, cols, scale, nodata, &mut page, out)?;
-    page.write_to(out)
+    write_behind(&mut page, cells, cols, frame.scale(), nodata, out)
+}
+
+/// The lines of cells, in memory.
+pub fn lines<E: Entry>(
+    alloc: Global,
+    cells: &[E],
+    cols: usize,
+    scale: u8,
+    nodata: &[u8],
+) -> Result<Vec<u8>, NoMemory>
+    requires scale { scale ≤ 6 }
+    requires short { length nodata.now ≤ MOST_WORD_BYTES }
+    requires some { 0 < cols }
+    ensures { IfOk result (λ text. text.items
+        ≡ rows_text (E.text scale nodata.now) cols (length cells.now / cols) cells.now) }
+{
+    let room = cells.len().saturating_mul(USUAL_BYTES);
+    let mut out = Counted::new(Vec::with_capacity(alloc, room)?);
+    match write_behind(&mut Page::new(), cells, cols, scale, nodata, &mut out) {
+        Ok(()) => Ok(out.into_device()),
+        Err(WriteFailed) => Err(NoMemory),
+    }
+}
+
+/// Writes texts one after another.
+fn write_texts<W: Write>(texts: &[Vec<u8>], out: &mut Counted<W>) -> Result<(), WriteFailed>
+    requires { out.old.failures < 2 ^ 64 - 1 }
+    ensures { Writes W.contents out.old out.new (flat_map (λ text. text.items) texts.now) result }
+{
+    for text in texts {
+        out.write_all(text)?;
+    }
+    Ok(())
+}
+
+/// Writes a map whose lines are made, as [`lines`] makes them from one part of its rows after another. It takes no memory.
+pub fn write_lines<W: Write>(
+    frame: &Frame,
+    nodata: &[u8],
+    texts: &[Vec<u8>],
+    out: &mut Counted<W>,
+) -> Result<(), WriteFailed>
+    requires few { out.old.failures < 2 ^ 64 - 1 }
+    requires short { length nodata.now ≤ MOST_WORD_BYTES }
+    ensures { Writes W.contents out.old out.new
+        (header_text frame.now nodata.now ++ flat_map (λ text. text.items) texts.now) result }
+{
+    out.write_all(header_page(frame, nodata).as_bytes())?;
+    write_texts(texts, out)?;
+    out.flush()
 }
 
 /// Writes the grid and its heights; named sinks are not written. It takes no memory.
