@@ -1,5 +1,6 @@
 -- A line of cells, cell by cell, and the lines of a grid, line by line.
-use Rattle.std.proofs.Common.{◌≡◌, ℕ, zero, suc, ◌+◌, ◌-◌, ◌*◌, ◌<◌, List, [], ◌∷◌, ◌++◌, length, take, drop, map, get_or, sym, ap, refl, ◌∙◌, arith, zero-add, zero-mul}
+use Rattle.std.proofs.Common.{◌≡◌, ℕ, zero, suc, ◌+◌, ◌-◌, ◌*◌, ◌/◌, ◌<◌, ◌≤◌, List, [], ◌∷◌, ◌++◌, length, take, drop, map, get_or, sym, ap, refl, ◌∙◌, arith, zero-add, zero-mul}
+use Rattle.std.proofs.Math.Nat.{mul-div_cancel_left}
 use Rattle.std.specs.List.{join_with_byte, flat_map}
 use Rattle.std.proofs.lemmas.List.{append_assoc, append-nil, take_more, drop_more, drop_all, drop-drop, drop-take, take-append-drop, take-take}
 use Rattle.std.proofs.lemmas.Grind.{flat_map-append}
@@ -59,6 +60,10 @@ rows_split f cols rows n cells h =
     ap (λ k. rows_text f cols k cells) (let e : rows ≡ (n + 1) + (rows - (n + 1)) = omega arith in e)
     ∙ rows_text-add f cols (n + 1) (rows - (n + 1)) cells
     ∙ ap (λ z. z ++ rows_text f cols (rows - (n + 1)) (drop ((n + 1) * cols) cells)) (rows_more f cols n cells)
+
+-- how many rows a whole grid has
+pub whole_rows : (n cols rows : ℕ) → n ≡ cols * rows → 1 ≤ cols → n / cols ≡ rows
+whole_rows n cols rows size some = ap (λ m. m / cols) size ∙ mul-div_cancel_left rows (omega (arith, some))
 
 -- the rows' own cells are enough
 pub rows_take : {X : Type 0} (f : X → List ℕ) (cols n : ℕ) (cells : List X) → rows_text f cols n (take (n * cols) cells) ≡ rows_text f cols n cells

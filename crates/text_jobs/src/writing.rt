@@ -1,16 +1,113 @@
 //! Maps as text, by several workers.
-ghost use Rattle.std.specs.Prelude.{◌≡◌, ◌*◌, ◌-◌, ◌^◌, ◌<◌, length};
+ghost use Rattle.std.specs.Prelude.{◌≡◌, ◌++◌, ◌*◌, ◌-◌, ◌/◌, ◌^◌, ◌<◌, ◌≤◌, length, IfSome};
+ghost use Rattle.std.specs.List.{flat_map};
+ghost use Rattle.terrain.specs.declared.word.TheConstants.{MOST_WORD_BYTES};
 ghost use Rattle.ascii_grid.specs.Device.{Writes};
-ghost use Rattle.ascii_grid.specs.Text.{heights_text, counts_text};
+ghost use Rattle.ascii_grid.specs.Text.{header_text, rows_text, heights_text, counts_text};
 
+use ascii_grid::write::{COUNTS_NODATA, Entry, lines, write_cells, write_lines};
 use ascii_grid::{Counted, WriteFailed};
 use drainage::Code;
+use std::alloc::Global;
 use std::io::Write;
 use std::sync::Wait;
 use std::thread::Threads;
-use terrain::{Count, Frame, Grid};
-use tile_jobs::Gate;
+use terrain::{Count, Frame, Grid, MOST_WORD_BYTES};
+use tile_jobs::{Gate, JobFault, Work};
 use tile_maps::Crew;
+
+/// How many cells a job makes the text of, unless one row has more.
+const JOB_CELLS: usize = 65_536;
+
+/// Makes the lines of a map, of so many rows in each job.
+#[derive(Drop)]
+struct LineJobs<'a, E> {
+    cells: &'a [E],
+    cols: usize,
+    rows_each: usize,
+    scale: u8,
+    nodata: &'a [u8],
+    ghost some_col: { 0 < cols },
+    ghost some_row: { 0 < rows_each },
+    ghost scale_fits: { scale ≤ 6 },
+    ghost short: { length nodata.now ≤ MOST_WORD_BYTES },
+}
+
+impl<'a, E: Entry> Work for LineJobs<'a, E> {
+    ghost use Rattle.std.specs.Int.{div_ceil};
+    ghost use Rattle.text_jobs.specs.Parts.{part_text};
+
+    type Out = Vec<u8>;
+
+    ghost most = { λ w. div_ceil (length w.cells.now / w.cols) w.rows_each };
+
+    ghost gives = { λ w job out. out.items
+        ≡ part_text (E.text w.scale w.nodata.now) w.cols w.rows_each w.cells.now job };
+
+    fn run(&self, alloc: Global, job: u32) -> Result<Vec<u8>, JobFault> {
+        let rows = self.cells.len() / self.cols;
+        let first = job as usize * self.rows_each;
+        let end = first + self.rows_each.min(rows - first);
+        let part = &self.cells[first * self.cols..end * self.cols];
+        match lines(alloc, part, self.cols, self.scale, self.nodata) {
+            Ok(text) => Ok(text),
+            Err(_) => Err(JobFault::Memory),
+        }
+    }
+}
+
+/// The lines of a map as several workers make them, each text's behind those of the one before. Where there is one worker,
+/// or where they could not make them, nothing.
+fn made_lines<T: Threads + Wait + Sync, G: Gate + Sync, E: Entry + Sync>(
+    crew: &Crew<T, G>,
+    frame: &Frame,
+    cells: &[E],
+    nodata: &[u8],
+) -> Option<Vec<Vec<u8>>>
+    requires size { length cells.now ≡ frame.now.terrain.cols * frame.now.terrain.rows }
+    requires short { length nodata.now ≤ MOST_WORD_BYTES }
+    ensures { IfSome result (λ texts. flat_map (λ text. text.items) texts.items
+        ≡ rows_text (E.text frame.now.scale nodata.now) frame.now.terrain.cols frame.now.terrain.rows cells.now) }
+{
+    if crew.workers == 1 {
+        return None;
+    }
+    let cols = frame.cols() as usize;
+    let rows = frame.rows() as usize;
+    let rows_each = (JOB_CELLS / cols).max(1);
+    let work = LineJobs {
+        cells,
+        cols,
+        rows_each,
+        scale: frame.scale(),
+        nodata,
+    };
+    match crew.run(&work, rows.div_ceil(rows_each) as u32) {
+        Ok(texts) => Some(texts),
+        Err(_) => None,
+    }
+}
+
+/// Writes a map, whose lines a crew of several workers makes before its first byte is written.
+fn write_map<T: Threads + Wait + Sync, G: Gate + Sync, E: Entry + Sync, W: Write>(
+    crew: &Crew<T, G>,
+    frame: &Frame,
+    cells: &[E],
+    nodata: &[u8],
+    out: &mut Counted<W>,
+) -> Result<(), WriteFailed>
+    requires few { out.old.failures < 2 ^ 64 - 1 }
+    requires size { length cells.now ≡ frame.now.terrain.cols * frame.now.terrain.rows }
+    requires short { length nodata.now ≤ MOST_WORD_BYTES }
+    ensures { Writes W.contents out.old out.new (header_text frame.now nodata.now
+        ++ rows_text (E.text frame.now.scale nodata.now) frame.now.terrain.cols frame.now.terrain.rows cells.now)
+        result }
+{
+    match made_lines(crew, frame, cells, nodata) {
+        Some(texts) => write_lines(frame, nodata, &texts, out),
+        None => write_cells(frame, cells, nodata, out),
+    }
+}
 
 /// Writes the grid and its heights, as [`ascii_grid::write_heights`] does. From the first byte on it takes no memory.
 pub fn write_heights<T: Threads + Wait + Sync, G: Gate + Sync, W: Write>(
@@ -21,7 +118,8 @@ pub fn write_heights<T: Threads + Wait + Sync, G: Gate + Sync, W: Write>(
     requires { out.old.failures < 2 ^ 64 - 1 }
     ensures { Writes W.contents out.old out.new (heights_text grid.now) result }
 {
-    ascii_grid::write_heights(grid, out)
+    let frame = grid.frame();
+    write_map(crew, frame, grid.cells(), frame.nodata().as_bytes(), out)
 }
 
 /// Writes a map of whole numbers, as [`ascii_grid::write_framed_counts`] does. From the first byte on it takes no memory.
@@ -35,7 +133,7 @@ pub fn write_framed_counts<T: Threads + Wait + Sync, G: Gate + Sync, W: Write>(
     requires size { length values.now ≡ frame.now.terrain.cols * frame.now.terrain.rows }
     ensures { Writes W.contents out.old out.new (counts_text frame.now values.now) result }
 {
-    ascii_grid::write_framed_counts(frame, values, out)
+    write_map(crew, frame, values, COUNTS_NODATA, out)
 }
 
 /// Writes a map of directions, as [`ascii_grid::write_codes`] does. From the first byte on it takes no memory.
@@ -49,5 +147,5 @@ pub fn write_codes<T: Threads + Wait + Sync, G: Gate + Sync, W: Write>(
     requires size { length codes.now ≡ frame.now.terrain.cols * frame.now.terrain.rows }
     ensures { Writes W.contents out.old out.new (counts_text frame.now codes.now) result }
 {
-    ascii_grid::write_codes(frame, codes, out)
+    write_map(crew, frame, codes, COUNTS_NODATA, out)
 }

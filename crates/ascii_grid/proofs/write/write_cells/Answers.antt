@@ -1,9 +1,6 @@
-use Rattle.std.proofs.Common.{arith, ℕ, ◌≡◌, ◌≤◌, ◌*◌, ◌/◌, length, ap, ◌∙◌}
-use Rattle.std.proofs.Math.Nat.{mul-div_cancel_left}
+use Rattle.std.proofs.Common.{length}
+use Rattle.ascii_grid.proofs.RowText.{whole_rows}
 use Rattle.ascii_grid.proofs.write.write_cells.Goals as goal
-
-whole_rows : (n cols rows : ℕ) → n ≡ cols * rows → 1 ≤ cols → n / cols ≡ rows
-whole_rows n cols rows size some = ap (λ m. m / cols) size ∙ mul-div_cancel_left rows (omega (arith, some))
 
 pub returns : goal.returns
 returns g c =

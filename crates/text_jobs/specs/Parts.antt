@@ -1,0 +1,8 @@
+-- The text of a map's rows, cut into parts.
+use Rattle.std.specs.Prelude.{ℕ, ◌-◌, ◌*◌, ◌/◌, min, List, length, drop}
+use Rattle.ascii_grid.specs.Text.{rows_text}
+
+-- The lines of one part of the rows: it has `each` of them, or those that are left.
+abbrev pub part_text : {X : Type 0} → (X → List ℕ) → ℕ → ℕ → List X → ℕ → List ℕ
+part_text text cols each cells part =
+    rows_text text cols (min each (length cells / cols - part * each)) (drop (part * each * cols) cells)
