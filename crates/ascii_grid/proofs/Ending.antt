@@ -33,7 +33,7 @@ kept_full w front b e h = e ∙ sym (take-append-le 65 w (b ∷ []) (omega (arit
 
 -- ---- the end of a word
 
-filter-word : (w : Word) → 0 < length w → filter is_word (w ∷ []) ≡ w ∷ []
+pub filter-word : (w : Word) → 0 < length w → filter is_word (w ∷ []) ≡ w ∷ []
 filter-word [] h = absurd (omega arith)
 filter-word (b ∷ bs) h = refl
 
@@ -104,16 +104,20 @@ IsParted-bytes text ws w (b ∷ more) h none =
     subst (λ t. IsParted t ws (w ++ b ∷ more)) (append_assoc text (b ∷ []) more) (subst (λ z. IsParted ((text ++ b ∷ []) ++ more) ws z) (append_assoc w (b ∷ []) more) next)
 
 -- a word whole in a piece, with the separator behind it
-parted_plain : (p : Progress) (text bytes : List ℕ) (len b : ℕ) (h : HasWords p text) → p.word ≡ [] → list_any is_separator (take len bytes) ≡ false → 0 < len → len < length bytes → b ≡ get_or bytes len 0 → is_separator b ≡ true → IsParted (text ++ take (len + 1) bytes) (h.ended ++ take len bytes ∷ []) []
-parted_plain p text bytes len b h e none some inside at ends =
+pub parted_word : (text bytes : List ℕ) (ws : List Word) (len b : ℕ) → IsParted text ws [] → list_any is_separator (take len bytes) ≡ false → 0 < len → len < length bytes → b ≡ get_or bytes len 0 → is_separator b ≡ true → IsParted (text ++ take (len + 1) bytes) (ws ++ take len bytes ∷ []) []
+parted_word text bytes ws len b begun none some inside at ends =
     let w = take len bytes in
     let more : 0 < length w = omega (arith, length-take len bytes) in
-    let last : h.last ≡ [] = nil_from_length h.last (omega (arith, ap length (sym h.front ∙ e), length-take 65 h.last)) in
-    let begun = subst (λ z. IsParted text h.ended z) last h.parted in
-    let whole = IsParted-bytes text h.ended [] w begun none in
-    let all : words (text ++ w) ≡ h.ended ++ w ∷ [] = words-parted (text ++ w) h.ended w whole ∙ ap (λ z. h.ended ++ z) (filter-word w more) in
+    let whole = IsParted-bytes text ws [] w begun none in
+    let all : words (text ++ w) ≡ ws ++ w ∷ [] = words-parted (text ++ w) ws w whole ∙ ap (λ z. ws ++ z) (filter-word w more) in
     let bytes_are : (text ++ w) ++ b ∷ [] ≡ text ++ take (len + 1) bytes = more_bytes text bytes len b inside at in
-    subst (λ t. IsParted t (h.ended ++ w ∷ []) []) bytes_are (subst (λ ws. IsParted ((text ++ w) ++ b ∷ []) ws []) all (IsParted-separator (text ++ w) h.ended w b whole ends))
+    subst (λ t. IsParted t (ws ++ w ∷ []) []) bytes_are (subst (λ z. IsParted ((text ++ w) ++ b ∷ []) z []) all (IsParted-separator (text ++ w) ws w b whole ends))
+
+-- where no word is in progress, all words have ended
+pub parted_ended : (p : Progress) (text : List ℕ) (h : HasWords p text) → p.word ≡ [] → IsParted text h.ended []
+parted_ended p text h e =
+    let last : h.last ≡ [] = nil_from_length h.last (omega (arith, ap length (sym h.front ∙ e), length-take 65 h.last)) in
+    subst (λ z. IsParted text h.ended z) last h.parted
 
 -- a plain height, whole in a piece, with the separator behind it
 pub plain_word : {T : Type 0} (p : Progress) (j : Judge) (text bytes : List ℕ) (len b : ℕ) (value : ℤ) (r : Result T GridFault) → HasWords p text → p.word ≡ [] → p.judge.stage ≡ AtHeights → IsPlain p.judge.scale bytes len value → len < length bytes → b ≡ get_or bytes len 0 → is_separator b ≡ true → j.header ≡ p.judge.header → j.stage ≡ p.judge.stage
@@ -123,7 +127,7 @@ plain_word p j text bytes len b value r h none stage plain inside at ends header
     let w = take len bytes in
     let short : length w ≤ 64 = omega (arith, plain.short, length-take len bytes) in
     let there = at_heights p.judge h.ended h.judged stage in
-    let parted = parted_plain p text bytes len b h none plain.whole plain.some inside at ends in
+    let parted = parted_word text bytes h.ended len b (parted_ended p text h none) plain.whole plain.some inside at ends in
     let ps = h.judged.pairs in
     let hs = h.judged.rest in
     MatchResult-weaker r

@@ -13,6 +13,7 @@ pub mod Ending
 pub mod Spelled
 pub mod Feeding
 pub mod Taking
+pub mod HeightLists
 -- the written text, and its length
 pub mod Writing
 pub mod Decimals

@@ -1,6 +1,7 @@
 pub mod Device
 pub mod GridText
 pub mod Header
+pub mod HeightList
 pub mod Meaning
 pub mod Reader
 pub mod Reading

@@ -123,8 +123,9 @@ impl Progress {
     }
 }
 
+/// Whether the byte parts words: a space, a tab, a line feed or a carriage return.
 #[inline(always)]
-fn is_separator(byte: u8) -> bool
+pub fn is_separator(byte: u8) -> bool
     ensures { result ≡ is_separator byte }
 {
     byte == b' ' || byte == b'\t' || byte == b'\n' || byte == b'\r'

@@ -1,8 +1,7 @@
 // A text that comes in pieces.
-ghost use Rattle.std.specs.Prelude.{◌≡◌, ◌≤◌, ◌++◌, [], ℕ, List, None, Some, Err, IfOk, IfErr, OnOk};
-ghost use Rattle.std.specs.Result.{result_err};
-ghost use Rattle.ascii_grid.specs.GridText.{IsGridText, IsRefusal, IsRefusalSoFar, fault_so_far};
-ghost use Rattle.ascii_grid.specs.Reader.{HasTaken};
+ghost use Rattle.std.specs.Prelude.{◌≡◌, ◌≤◌, [], ℕ, List, None, Some, Err, IfOk, IfErr};
+ghost use Rattle.ascii_grid.specs.GridText.{IsGridText, IsRefusal};
+ghost use Rattle.ascii_grid.specs.Reader.{HasTaken, Feeds};
 
 use crate::fault::GridFault;
 use crate::progress::Progress;
@@ -60,14 +59,7 @@ impl GridReader {
     /// Takes the next piece of the text. The fault of a word is answered once a separator has ended that word, and again for
     /// each later piece.
     pub fn feed(&mut self, piece: &[u8]) -> Result<(), GridFault>
-        ensures scale { self.new.scale ≡ self.old.scale }
-        ensures taken { (text : List ℕ) → HasTaken self.old text → HasTaken self.new (text ++ piece.now) }
-        ensures ok { (text : List ℕ) → HasTaken self.old text →
-            OnOk result (fault_so_far self.old.scale (text ++ piece.now) ≡ None) }
-        ensures err { (text : List ℕ) → HasTaken self.old text →
-            IfErr result (λ f. IsRefusalSoFar self.old.scale (text ++ piece.now) f) }
-        ensures fault { self.new.fault ≡ result_err result }
-        ensures again { (f : GridFault) → self.old.fault ≡ Some f → result ≡ Err f }
+        ensures { Feeds self.old self.new piece.now result }
     {
         if let Some(fault) = self.fault {
             return Err(fault);
