@@ -17,7 +17,7 @@ use Rattle.ascii_grid.specs.declared.judge.Judge.{Judge}
 use Rattle.ascii_grid.specs.declared.judge.Stage.TheVariants.{AtHeights}
 use Rattle.ascii_grid.specs.declared.progress.Progress.{Progress}
 use Rattle.ascii_grid.proofs.Parting.{words-parted, IsParted-byte, IsParted-separator}
-use Rattle.ascii_grid.proofs.Judging.{Pairs, HasBegun-push}
+use Rattle.ascii_grid.proofs.Judging.{Pairs, HasBegun-more}
 use Rattle.ascii_grid.proofs.JudgedWords.{at_heights, is_memory, word_fault, long_fault, height_word}
 
 -- ---- the bytes kept
@@ -131,7 +131,7 @@ plain_word p j text bytes len b value r h none stage plain inside at ends header
     let ps = h.judged.pairs in
     let hs = h.judged.rest in
     MatchResult-weaker r
-    (height_word p.judge j h.ended ps hs w r h.judged.header h.judged.words (HasBegun-push hs w there.0) there.1 short header (same ∙ stage) (judged ps hs w there.1 short plain.scaled))
+    (height_word p.judge j h.ended ps hs w r h.judged.header h.judged.words (HasBegun-more hs (w ∷ []) there.0) there.1 short header (same ∙ stage) (judged ps hs w there.1 short plain.scaled))
     (λ _ more. record { ended = h.ended ++ w ∷ []; last = []; parted = parted; judged = more; front = none })
     (λ f fault. (len + 1, omega arith, subst (λ ws. IsWordFault p.judge.scale ws f) (sym parted.ended) fault))
 

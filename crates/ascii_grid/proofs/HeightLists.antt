@@ -1,19 +1,26 @@
 -- Cells that are read apart from the rest of a text: one more word, and what a judge keeps of them.
-use Rattle.std.proofs.Common.{◌≡◌, ℕ, ◌+◌, ◌<◌, ◌≤◌, ℤ, true, false, List, [], ◌∷◌, ◌++◌, length, take, get_or, map, Option, Some, Bool, zero, suc, arith, refl, ap, sym, ◌∙◌, subst}
+use Rattle.std.proofs.Common.{◌≡◌, ℕ, ◌+◌, ◌<◌, ◌≤◌, ℤ, true, false, List, [], ◌∷◌, ◌++◌, length, take, get_or, map, Option, None, Some, Bool, zero, suc, inl, inr, arith, refl, ap, sym, ◌∙◌, subst}
 use Rattle.std.specs.Prelude.{filter}
+use Rattle.std.specs.Option.{option_or}
 use Rattle.std.specs.List.{All, list_any, position}
-use Rattle.std.proofs.lemmas.List.{append-nil, length-append, length-take, map_push, nil_from_length}
-use Rattle.std.proofs.lemmas.List.Elements.{All-push}
+use Rattle.std.proofs.lemmas.Bool.{cases_Bool}
+use Rattle.std.proofs.lemmas.List.{append-nil, append_assoc, length-append, length-take, length-map, map_push, map-append, nil_from_length}
+use Rattle.std.proofs.lemmas.List.Elements.{All-push, All-head, All-tail}
 use Rattle.std.proofs.lemmas.List.Folds.{list_any_more}
 use Rattle.std.proofs.lemmas.List.Quantifiers.{position-Some}
 use Rattle.terrain.specs.Words.{Word, is_word, is_separator, words, ended_words}
-use Rattle.ascii_grid.specs.GridText.{is_cell, cell_of}
+use Rattle.ascii_grid.specs.Header.{nodata_for, header_words, missing_fault}
+use Rattle.ascii_grid.specs.GridText.{is_cell, cell_of, cells_wanted, heights_fault}
 use Rattle.ascii_grid.specs.HeightList.{Form, IsHeightWord, AreCells, IsEndedWord}
-use Rattle.ascii_grid.specs.Reading.{IsParted}
-use Rattle.ascii_grid.proofs.Parting.{words-parted, IsParted-none, IsParted-separator}
+use Rattle.ascii_grid.specs.Reading.{flat, IsParted, HasWords, AreHeights}
+use Rattle.ascii_grid.specs.declared.judge.Judge.{Judge}
+use Rattle.ascii_grid.specs.declared.judge.Stage.TheVariants.{AtHeights}
+use Rattle.ascii_grid.specs.declared.progress.Progress.{Progress}
+use Rattle.ascii_grid.proofs.Parting.{words-parted, IsParted-none, IsParted-byte, IsParted-separator}
+use Rattle.ascii_grid.proofs.Judging.{Pairs, HasBegun-more, heights_fault-append}
+use Rattle.ascii_grid.proofs.JudgedWords.{at_heights, judged-heights, words-after, height_fault-none, place_of}
 use Rattle.ascii_grid.proofs.Stays.{parted}
-use Rattle.ascii_grid.proofs.Ending.{parted_word}
-use Rattle.ascii_grid.proofs.JudgedWords.{is_short}
+use Rattle.ascii_grid.proofs.Ending.{parted_word, parted_ended}
 
 -- ---- bytes whose words have all ended
 
@@ -21,13 +28,20 @@ no_word : (w : Word) → filter is_word (w ∷ []) ≡ [] → w ≡ []
 no_word [] e = refl
 no_word (b ∷ bs) e = cc
 
+none_left : (bytes : List ℕ) (ws : List Word) (w : Word) → IsParted bytes ws w → ended_words bytes ≡ words bytes → (ws ≡ words bytes) × (w ≡ [])
+none_left bytes ws w h e =
+    let all : words bytes ≡ ws ++ filter is_word (w ∷ []) = words-parted bytes ws w h in
+    let same : ws ≡ words bytes = sym h.ended ∙ e in
+    let none : filter is_word (w ∷ []) ≡ [] = nil_from_length (filter is_word (w ∷ [])) (omega (arith, ap length all, ap length same, length-append ws (filter is_word (w ∷ [])))) in
+    (same, no_word w none)
+
+only_ended : (text bytes : List ℕ) (vs ws : List Word) (w : Word) → IsParted bytes ws w → ended_words bytes ≡ words bytes → IsParted text (vs ++ ws) w → IsParted text (vs ++ words bytes) []
+only_ended text bytes vs ws w h e k =
+    let are = none_left bytes ws w h e in
+    subst (λ z. IsParted text (vs ++ words bytes) z) are.1 (subst (λ z. IsParted text (vs ++ z) w) are.0 k)
+
 pub IsParted-ended : (bytes : List ℕ) → ended_words bytes ≡ words bytes → IsParted bytes (words bytes) []
-IsParted-ended bytes e =
-    let at = parted bytes in
-    let all : words bytes ≡ at.0 ++ filter is_word (at.1 ∷ []) = words-parted bytes at.0 at.1 at.2 in
-    let same : at.0 ≡ words bytes = sym at.2.ended ∙ e in
-    let none : filter is_word (at.1 ∷ []) ≡ [] = nil_from_length (filter is_word (at.1 ∷ [])) (omega (arith, ap length all, ap length same, length-append at.0 (filter is_word (at.1 ∷ [])))) in
-    subst (λ w. IsParted bytes (words bytes) w) (no_word at.1 none) (subst (λ ws. IsParted bytes ws at.1) same at.2)
+IsParted-ended bytes e = let at = parted bytes in only_ended bytes bytes [] at.0 at.1 at.2 e at.2
 
 -- all words of such bytes
 pub words-ended : (bytes : List ℕ) (ws : List Word) → IsParted bytes ws [] → words bytes ≡ ws
@@ -56,7 +70,7 @@ AreCells-word form bytes rest cells len cell word is value h =
     let w = take len rest in
     AreCells-parted form (bytes ++ take (len + 1) rest) (words bytes ++ w ∷ []) (cells ++ cell ∷ [])
     (parted_word bytes rest (words bytes) len (get_or rest len 0) (IsParted-ended bytes h.ended) word.whole word.some word.within refl word.ends)
-    (All-push (IsHeightWord form) (words bytes) w h.heights (record { short = is_short w (omega (arith, word.short, length-take len rest)); cell = is }))
+    (All-push (IsHeightWord form) (words bytes) w h.heights (record { short = omega (arith, word.short, length-take len rest); cell = is }))
     (ap (λ z. z ++ cell ∷ []) h.are ∙ ap (λ x. map (cell_of form.scale form.nodata) (words bytes) ++ x ∷ []) (sym value) ∙ sym (map_push (cell_of form.scale form.nodata) (words bytes) w))
 
 -- ---- a word in front of the first separator
@@ -78,3 +92,72 @@ IsEndedWord-position bytes len e some short =
       whole = none_in_front is_separator bytes len 0 (omega (arith, at.0)) at.2;
       ends = at.1;
     }
+
+-- ---- the words of two texts, where the first has no word in progress
+
+abbrev Beside : List ℕ → List Word → List ℕ → Type 0
+Beside text ws piece = (vs : List Word) × (w : Word) × IsParted piece vs w × IsParted (text ++ piece) (ws ++ vs) w
+
+beside : (text : List ℕ) (ws : List Word) (front : List ℕ) (vs : List Word) (w : Word) (more : List ℕ) → IsParted front vs w → IsParted (text ++ front) (ws ++ vs) w → Beside text ws (front ++ more)
+beside text ws front vs w [] h k = subst (Beside text ws) (sym (append-nil front)) (vs, w, h, k)
+beside text ws front vs w (b ∷ more) h k =
+    subst (Beside text ws) (append_assoc front (b ∷ []) more)
+    (elim (cases_Bool (is_separator b)) [
+      | inl ends ↦
+          let all : words (text ++ front) ≡ ws ++ words front = words-parted (text ++ front) (ws ++ vs) w k ∙ append_assoc ws vs (filter is_word (w ∷ [])) ∙ ap (λ z. ws ++ z) (sym (words-parted front vs w h)) in
+          beside text ws (front ++ b ∷ []) (words front) [] more (IsParted-separator front vs w b h ends)
+          (subst (λ t. IsParted t (ws ++ words front) []) (append_assoc text front (b ∷ [])) (subst (λ z. IsParted ((text ++ front) ++ b ∷ []) z []) all (IsParted-separator (text ++ front) (ws ++ vs) w b k ends)))
+      | inr stays ↦
+          beside text ws (front ++ b ∷ []) vs (w ++ b ∷ []) more (IsParted-byte front vs w b h stays)
+          (subst (λ t. IsParted t (ws ++ vs) (w ++ b ∷ [])) (append_assoc text front (b ∷ [])) (IsParted-byte (text ++ front) (ws ++ vs) w b k stays))
+    ])
+
+pub IsParted-more : (text piece : List ℕ) (ws : List Word) → IsParted text ws [] → ended_words piece ≡ words piece → IsParted (text ++ piece) (ws ++ words piece) []
+IsParted-more text piece ws h e =
+    let begun = subst (λ t. IsParted t (ws ++ []) []) (sym (append-nil text)) (subst (λ z. IsParted text z []) (sym (append-nil ws)) h) in
+    let at = beside text ws [] [] [] piece IsParted-none begun in
+    only_ended (text ++ piece) piece ws at.0 at.1 at.2 e at.3
+
+-- ---- what a judge keeps of them
+
+heights_none : (form : Form) (d : ℕ) (header : List Word) (place : ℕ) (more : List Word) → form.scale ≡ d → form.nodata ≡ nodata_for header → missing_fault header ≡ None → place + length more ≤ cells_wanted header → All (IsHeightWord form) more → heights_fault d header place more ≡ None
+heights_none form d header place [] scale nodata whole room h = refl
+heights_none form d header place (w ∷ more) scale nodata whole room h =
+    let first = All-head (IsHeightWord form) w more h in
+    let is : is_cell d (nodata_for header) w ≡ true = subst (λ n. is_cell d n w ≡ true) nodata (subst (λ x. is_cell x form.nodata w ≡ true) scale first.cell) in
+    ap (λ o. option_or o (heights_fault d header (place + 1) more)) (height_fault-none d header place w first.short whole (omega (arith, room)) is)
+    ∙ heights_none form d header (place + 1) more scale nodata whole (omega (arith, room)) (All-tail (IsHeightWord form) w more h)
+
+pub AreHeights-more : (j j' : Judge) (ps : Pairs) (hs more : List Word) (form : Form) (cells : List (Option ℤ)) → AreHeights j ps hs → form.scale ≡ j.scale → form.nodata ≡ j.nodata → All (IsHeightWord form) more → cells ≡ map (cell_of form.scale form.nodata) more → length j.cells.items + length cells ≤ j.wanted → j'.wanted ≡ j.wanted → j'.nodata ≡ j.nodata → j'.nodata_value ≡ j.nodata_value → j'.scale ≡ j.scale → j'.cells.items ≡ j.cells.items ++ cells → AreHeights j' ps (hs ++ more)
+AreHeights-more j j' ps hs more form cells h same_scale same_nodata heights are room wanted nodata value scale all =
+    let size = ap length are ∙ length-map more (cell_of form.scale form.nodata) in
+    let known : cells ≡ map (cell_of j.scale j.nodata) more = subst (λ n. cells ≡ map (cell_of j.scale n) more) same_nodata (subst (λ x. cells ≡ map (cell_of x form.nodata) more) same_scale are) in
+    record {
+      whole = h.whole;
+      wanted = wanted ∙ h.wanted;
+      nodata = nodata ∙ h.nodata;
+      value = value ∙ h.value ∙ rw (scale, nodata) refl;
+      faultless = rw scale (heights_fault-append j.scale (flat ps) 0 hs more ∙ ap (λ o. option_or o (heights_fault j.scale (flat ps) (0 + length hs) more)) h.faultless ∙ heights_none form j.scale (flat ps) (0 + length hs) more same_scale (same_nodata ∙ h.nodata) h.whole (omega (arith, place_of j ps hs h, h.wanted, room, size)) heights);
+      cells = all ∙ rw (scale, nodata) (ap (λ z. z ++ cells) h.cells ∙ ap (λ z. map (cell_of j.scale j.nodata) hs ++ z) known ∙ sym (map-append (cell_of j.scale j.nodata) hs more));
+    }
+
+-- the cells of more bytes, where no word is in progress
+pub HasWords-more : (p p' : Progress) (text piece : List ℕ) (form : Form) (cells : List (Option ℤ)) → HasWords p text → p.word ≡ [] → p.judge.stage ≡ AtHeights → AreCells form piece cells → p'.word ≡ p.word → p'.judge.header ≡ p.judge.header → p'.judge.stage ≡ p.judge.stage → ((ps : Pairs) (hs more : List Word) → AreHeights p.judge ps hs → All (IsHeightWord form) more → cells ≡ map (cell_of form.scale form.nodata) more → AreHeights p'.judge ps (hs ++ more)) → HasWords p' (text ++ piece)
+HasWords-more p p' text piece form cells h none stage k word header same judged =
+    let there = at_heights p.judge h.ended h.judged stage in
+    let ps = h.judged.pairs in
+    let hs = h.judged.rest in
+    record {
+      ended = h.ended ++ words piece;
+      last = [];
+      parted = IsParted-more text piece h.ended (parted_ended p text h none) k.ended;
+      judged = judged-heights p.judge p'.judge h.ended ps hs (words piece) h.judged.header h.judged.words (HasBegun-more hs (words piece) there.0) (judged ps hs (words piece) there.1 k.heights k.are) header (same ∙ stage);
+      front = word ∙ none;
+    }
+
+-- what the heights have to be known by is what the header says
+pub form_told : (p : Progress) (text : List ℕ) → HasWords p text → p.judge.stage ≡ AtHeights → p.judge.nodata ≡ nodata_for (header_words (ended_words text))
+form_told p text h stage =
+    let there = at_heights p.judge h.ended h.judged stage in
+    let header = (words-after p.judge.header h.judged.pairs h.judged.rest h.judged.header there.0).0 in
+    there.1.nodata ∙ ap nodata_for (sym (ap header_words (h.parted.ended ∙ h.judged.words) ∙ header))

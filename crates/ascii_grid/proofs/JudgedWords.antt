@@ -18,7 +18,7 @@ use Rattle.ascii_grid.specs.declared.header.Header.{Header}
 use Rattle.ascii_grid.specs.declared.judge.Stage.{Stage}
 use Rattle.ascii_grid.specs.declared.judge.Stage.TheVariants.{AtKey, AtValue, AtHeights}
 use Rattle.ascii_grid.specs.declared.judge.Judge.{Judge}
-use Rattle.ascii_grid.proofs.Judging.{Pairs, or_none, then_none, words-flat, key_left-flat, flat-push, are_keys-push, header_fault-flat, list_any-keys_before, is_given-slots_of, with_value-slots_of, words_fault-flat, words_fault-key, words_fault-value, words_fault-heights, words-begun, heights_fault-push, HasBegun-push}
+use Rattle.ascii_grid.proofs.Judging.{Pairs, or_none, then_none, words-flat, key_left-flat, flat-push, are_keys-push, header_fault-flat, list_any-keys_before, is_given-slots_of, with_value-slots_of, words_fault-flat, words_fault-key, words_fault-value, words_fault-heights, words-begun, heights_fault-push, HasBegun-more}
 use Rattle.std.proofs.lemmas.Result.{MatchResult-weaker}
 use Rattle.ascii_grid.specs.declared.fault.Key.TheVariants.{Ncols}
 
@@ -143,14 +143,14 @@ first_short : (d : ℕ) (header hs : List Word) (w : Word) → length w ≤ 64 �
 first_short d header [] w short none = rw (is_short w short) refl
 first_short d header (x ∷ hs) w short none = rw (then_none (is_long x) TooLong _ (or_none (height_fault d header 0 x) _ none).0).0 refl
 
--- the words after a header, one more height among them
-pub judged-height : (j j' : Judge) (ws : List Word) (ps : Pairs) (hs : List Word) (w : Word) → IsHeaderOf j.header ps → ws ≡ flat ps ++ hs → HasBegun (hs ++ w ∷ []) → AreHeights j' ps (hs ++ w ∷ []) → j'.header ≡ j.header → j'.stage ≡ AtHeights → HasJudged j' (ws ++ w ∷ [])
-judged-height j j' ws ps hs w k e begun heights same stage = record {
+-- the words after a header, more heights among them
+pub judged-heights : (j j' : Judge) (ws : List Word) (ps : Pairs) (hs more : List Word) → IsHeaderOf j.header ps → ws ≡ flat ps ++ hs → HasBegun (hs ++ more) → AreHeights j' ps (hs ++ more) → j'.header ≡ j.header → j'.stage ≡ AtHeights → HasJudged j' (ws ++ more)
+judged-heights j j' ws ps hs more k e begun heights same stage = record {
   pairs = ps;
-  rest = hs ++ w ∷ [];
-  words = ap (λ z. z ++ w ∷ []) e ∙ append_assoc (flat ps) hs (w ∷ []);
+  rest = hs ++ more;
+  words = ap (λ z. z ++ more) e ∙ append_assoc (flat ps) hs more;
   header = same_header j.header j'.header ps same k;
-  at = subst (IsAt j' ps (hs ++ w ∷ [])) (sym stage) (begun, heights);
+  at = subst (IsAt j' ps (hs ++ more)) (sym stage) (begun, heights);
 }
 
 -- the fault of one more height
@@ -274,12 +274,12 @@ long_fault j ws w h far = by_stage j.stage refl
     by_stage (AtValue slot centre) e = next-value j ws w slot centre h e ∙ rw long refl
     by_stage AtHeights e =
         let there = at_heights j ws h e in
-        next-height j.scale ws h.pairs h.rest w j.header h.header h.words (HasBegun-push h.rest w there.0) there.1.faultless ∙ rw long refl
+        next-height j.scale ws h.pairs h.rest w j.header h.header h.words (HasBegun-more h.rest (w ∷ []) there.0) there.1.faultless ∙ rw long refl
 
 -- a height, the first or a further one
 pub height_word : {T : Type 0} (j j' : Judge) (ws : List Word) (ps : Pairs) (hs : List Word) (w : Word) (r : Result T GridFault) → IsHeaderOf j.header ps → ws ≡ flat ps ++ hs → HasBegun (hs ++ w ∷ []) → AreHeights j ps hs → length w ≤ 64 → j'.header ≡ j.header → j'.stage ≡ AtHeights → MatchResult r (λ _. AreHeights j' ps (hs ++ w ∷ [])) (λ f. (f ≡ Memory) ⊎ (height_fault j.scale (flat ps) (length hs) w ≡ Some f)) → MatchResult r (λ _. HasJudged j' (ws ++ w ∷ [])) (IsWordFault j.scale (ws ++ w ∷ []))
 height_word j j' ws ps hs w r k e begun heights short same stage m =
-    MatchResult-weaker r m (λ _ more. judged-height j j' ws ps hs w k e begun more same stage)
+    MatchResult-weaker r m (λ _ more. judged-heights j j' ws ps hs (w ∷ []) k e begun more same stage)
     (λ f why. elim why [
       | inl lack ↦ memory_fault j.scale (ws ++ w ∷ []) f lack (memory-height j ws ps hs w j.header k e begun heights.whole heights.faultless short)
       | inr fault ↦ word_fault j.scale (ws ++ w ∷ []) f (ap is_memory (sym fault) ∙ told_height j.scale (flat ps) (length hs) w) (next-height j.scale ws ps hs w j.header k e begun heights.faultless ∙ fault)

@@ -166,9 +166,9 @@ words-begun [] h = absurd h
 words-begun (x ∷ []) h = (rw h refl, rw h refl)
 words-begun (x ∷ y ∷ hs) h = (rw h refl, rw h refl)
 
-pub HasBegun-push : (hs : List Word) (w : Word) → HasBegun hs → HasBegun (hs ++ w ∷ [])
-HasBegun-push [] w h = absurd h
-HasBegun-push (x ∷ hs) w h = h
+pub HasBegun-more : (hs more : List Word) → HasBegun hs → HasBegun (hs ++ more)
+HasBegun-more [] more h = absurd h
+HasBegun-more (x ∷ hs) more h = h
 
 -- heights
 pub words_fault-heights : (d : ℕ) (ps : Pairs) (hs : List Word) → are_keys ps ≡ true → header_fault [] (flat ps) ≡ None → HasBegun hs → words_fault d (flat ps ++ hs) ≡ heights_fault d (flat ps) 0 hs
@@ -176,10 +176,14 @@ words_fault-heights d ps hs keys none h =
     words_fault-flat d ps hs [] hs keys none (words-begun hs h).0 (words-begun hs h).1
     ∙ ap (λ z. heights_fault d z 0 hs) (append-nil (flat ps))
 
+pub heights_fault-append : (d : ℕ) (header : List Word) (place : ℕ) (hs more : List Word) → heights_fault d header place (hs ++ more) ≡ option_or (heights_fault d header place hs) (heights_fault d header (place + length hs) more)
+heights_fault-append d header place [] more = ap (λ n. heights_fault d header n more) (omega arith)
+heights_fault-append d header place (x ∷ hs) more =
+    ap (option_or (height_fault d header place x)) (heights_fault-append d header (place + 1) hs more)
+    ∙ sym (option_or-assoc (height_fault d header place x) (heights_fault d header (place + 1) hs) (heights_fault d header (place + 1 + length hs) more))
+    ∙ ap (λ n. option_or (option_or (height_fault d header place x) (heights_fault d header (place + 1) hs)) (heights_fault d header n more)) (omega arith)
+
 pub heights_fault-push : (d : ℕ) (header : List Word) (place : ℕ) (hs : List Word) (w : Word) → heights_fault d header place (hs ++ w ∷ []) ≡ option_or (heights_fault d header place hs) (height_fault d header (place + length hs) w)
-heights_fault-push d header place [] w =
-    option_or-none (height_fault d header place w) ∙ ap (λ n. height_fault d header n w) (omega arith)
-heights_fault-push d header place (x ∷ hs) w =
-    ap (option_or (height_fault d header place x)) (heights_fault-push d header (place + 1) hs w)
-    ∙ sym (option_or-assoc (height_fault d header place x) (heights_fault d header (place + 1) hs) (height_fault d header (place + 1 + length hs) w))
-    ∙ ap (λ n. option_or (option_or (height_fault d header place x) (heights_fault d header (place + 1) hs)) (height_fault d header n w)) (omega arith)
+heights_fault-push d header place hs w =
+    heights_fault-append d header place hs (w ∷ [])
+    ∙ ap (option_or (heights_fault d header place hs)) (option_or-none (height_fault d header (place + length hs) w))

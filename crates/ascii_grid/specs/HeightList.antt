@@ -2,7 +2,6 @@
 use Rattle.std.specs.Prelude.{◌≡◌, ℕ, ◌<◌, ◌≤◌, ℤ, true, false, List, map, length, take, get_or, Option}
 use Rattle.std.specs.List.{All, list_any}
 use Rattle.terrain.specs.Words.{Word, is_separator, words, ended_words}
-use Rattle.ascii_grid.specs.Header.{is_long}
 use Rattle.ascii_grid.specs.GridText.{is_cell, cell_of}
 
 -- What a word among the heights has to be known by: the scale and the NODATA word.
@@ -12,7 +11,7 @@ pub record Form : Type 0 where
 
 -- The word stands for a cell.
 pub record IsHeightWord (form : Form) (w : Word) : Type 0 where
-  pub short : is_long w ≡ false
+  pub short : length w ≤ 64
   pub cell : is_cell form.scale form.nodata w ≡ true
 
 -- A separator ends each word of these bytes, each word stands for a cell, and these are the cells.

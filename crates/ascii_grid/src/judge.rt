@@ -1,9 +1,11 @@
 // The words of a text, judged one after another.
-ghost use Rattle.std.specs.Prelude.{◌↔◌, IsTrue, ◌≡◌, ◌≤◌, ◌<◌, ◌⊎◌, ◌++◌, [], ◌∷◌, List, length, true, false, Option, Some, None, Err, IfOk, IfErr, MatchResult};
+ghost use Rattle.std.specs.Prelude.{◌↔◌, IsTrue, ◌≡◌, ◌≤◌, ◌<◌, ◌⊎◌, ◌++◌, [], ◌∷◌, List, map, length, true, false, Option, Some, None, Err, IfOk, IfErr, MatchResult};
 ghost use Rattle.terrain.specs.Words.{Word};
 ghost use Rattle.terrain.specs.Decimal.{scaled_value};
 ghost use Rattle.ascii_grid.specs.Header.{begins_with_letter, missing_fault};
-ghost use Rattle.ascii_grid.specs.GridText.{height_fault, end_fault, grid_of};
+ghost use Rattle.ascii_grid.specs.HeightList.{IsHeightWord};
+ghost use Rattle.std.specs.List.{All};
+ghost use Rattle.ascii_grid.specs.GridText.{cell_of, height_fault, end_fault, grid_of};
 ghost use Rattle.ascii_grid.specs.Meaning.{meaning_of};
 ghost use Rattle.ascii_grid.specs.Reading.{flat, IsHeaderOf, AreHeights, HasJudged, IsWordFault, IsEndFault};
 
@@ -11,6 +13,7 @@ use crate::cell::{Meaning, cell, value_cell};
 use crate::decimal::scaled_value;
 use crate::fault::{GridFault, Key};
 use crate::header::Header;
+use crate::heights::HeightForm;
 use crate::key::{begins_with_letter, names_centre};
 use std::alloc::Global;
 use terrain::{Cell, Grid, MOST_WORD_BYTES, Word};
@@ -202,6 +205,33 @@ impl Judge {
             return Err(GridFault::Memory);
         }
         Ok(())
+    }
+
+    /// What a height is known by.
+    pub(crate) fn height_form(&self) -> HeightForm
+        requires { self.now.scale ≤ 6 }
+        ensures { result ≡ record { scale = self.now.scale; nodata = self.now.nodata } }
+    {
+        HeightForm::new(self.scale, self.nodata.copy())
+    }
+
+    /// Adds the cells of the next heights, where heights are known by this here and so many are wanted. Else it adds none.
+    pub(crate) fn add_cells(&mut self, form: &HeightForm, cells: &[Cell]) -> bool
+        ensures kept { self.new ≡ record self.old { cells = self.new.cells } }
+        ensures refused { result ≡ false → self.new ≡ self.old }
+        ensures added { (ps : List (Word × Word)) (hs more : List Word) → AreHeights self.old ps hs →
+            All (IsHeightWord form.now) more → cells.now ≡ map (cell_of form.now.scale form.now.nodata) more →
+            IsTrue result → AreHeights self.new ps (hs ++ more) }
+    {
+        let most = (self.wanted as usize).min(self.cells.capacity());
+        let place = self.cells.len();
+        if place > most || cells.len() > most - place {
+            return false;
+        }
+        if !form.is_of(self.scale, self.nodata.as_bytes()) {
+            return false;
+        }
+        self.cells.extend_from_slice(cells).is_ok()
     }
 
     #[inline(always)]

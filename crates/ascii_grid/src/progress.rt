@@ -1,14 +1,17 @@
 // The words of a text, parted byte by byte and judged where a separator ends them.
-ghost use Rattle.std.specs.Prelude.{◌≡◌, ℕ, ◌≤◌, ◌++◌, [], ◌∷◌, ◌<◌, List, length, take, IfOk, MatchResult};
+ghost use Rattle.std.specs.Prelude.{◌≡◌, ℕ, ◌≤◌, ◌++◌, [], ◌∷◌, ◌<◌, List, length, take, IfOk, IfSome, IsTrue, ◌↔◌, false, MatchResult};
 ghost use Rattle.terrain.specs.Words.{is_separator, words, ended_words};
+ghost use Rattle.ascii_grid.specs.Header.{header_words, nodata_for};
+ghost use Rattle.ascii_grid.specs.HeightList.{AreCells};
 ghost use Rattle.ascii_grid.specs.Reading.{HasJudged, HasWords, IsWordFault};
 
 use crate::decimal::plain_number;
 use crate::fault::GridFault;
-use crate::judge::Judge;
+use crate::heights::HeightForm;
+use crate::judge::{Judge, Stage};
 use crate::page::Buffer;
 use std::alloc::Global;
-use terrain::MOST_WORD_BYTES;
+use terrain::{Cell, MOST_WORD_BYTES};
 
 /// Of a word in progress its front is kept, with one byte more than a word may have.
 const KEPT_BYTES: usize = MOST_WORD_BYTES + 1;
@@ -78,7 +81,7 @@ impl Progress {
             (λ f. (n : ℕ) × (n ≤ length rest.now)
             × IsWordFault self.old.judge.scale (ended_words (text ++ take n rest.now)) f) }
     {
-        if !self.judge.is_at_heights() || !self.word.as_bytes().is_empty() {
+        if !self.is_between_heights() {
             return Ok(0);
         }
         let Some((len, value)) = plain_number(self.judge.scale, rest) else {
@@ -105,6 +108,41 @@ impl Progress {
             self.word.push_byte(byte);
         }
         Ok(())
+    }
+
+    /// What the next word is known by, where it is a height and none of its bytes was taken.
+    pub(crate) fn height_form(&self) -> Option<HeightForm>
+        requires { self.now.judge.scale ≤ 6 }
+        ensures scale { IfSome result (λ form. form.scale ≡ self.now.judge.scale) }
+        ensures nodata { (text : List ℕ) → HasWords self.now text →
+            IfSome result (λ form. form.nodata ≡ nodata_for (header_words (ended_words text))) }
+    {
+        if self.is_between_heights() {
+            Some(self.judge.height_form())
+        } else {
+            None
+        }
+    }
+
+    /// Takes bytes by their cells, where they can be taken so. Else it takes none.
+    pub(crate) fn take_cells(&mut self, form: &HeightForm, cells: &[Cell]) -> bool
+        ensures scale { self.new.judge.scale ≡ self.old.judge.scale }
+        ensures refused { result ≡ false → self.new ≡ self.old }
+        ensures words { (text piece : List ℕ) → HasWords self.old text → AreCells form.now piece cells.now →
+            IsTrue result → HasWords self.new (text ++ piece) }
+    {
+        if !self.is_between_heights() {
+            return false;
+        }
+        self.judge.add_cells(form, cells)
+    }
+
+    // Whether the next word is a height, of which no byte was taken.
+    #[inline(always)]
+    fn is_between_heights(&self) -> bool
+        ensures { IsTrue result ↔ ((self.now.judge.stage ≡ Stage.AtHeights) × (self.now.word ≡ [])) }
+    {
+        self.judge.is_at_heights() && self.word.as_bytes().is_empty()
     }
 
     /// Judges the word in progress, where there is one.

@@ -3,7 +3,7 @@ use Rattle.std.proofs.lemmas.Result.{err_from_is_err_and}
 use Rattle.std.proofs.lemmas.List.{append-nil}
 use Rattle.ascii_grid.specs.Reading.{flat, HasJudged, IsWordFault}
 use Rattle.ascii_grid.specs.declared.judge.Judge.{Judge}
-use Rattle.ascii_grid.proofs.Judging.{HasBegun-push}
+use Rattle.ascii_grid.proofs.Judging.{HasBegun-more}
 use Rattle.ascii_grid.proofs.JudgedWords.{long_fault, height_word, no_first_height, at_key, at_heights, same_header}
 use Rattle.ascii_grid.proofs.judge.Judge.judge.Goals as goal
 
@@ -20,7 +20,7 @@ pub returns-in-AtHeights-clause-word : goal.returns-in-AtHeights-clause-word
 returns-in-AtHeights-clause-word c = λ ws h.
     let there = at_heights c.args.self.now ws h c.in-AtHeights.is in
     let kept = c.judge_height.ensures.kept in
-    height_word c.args.self.now c.judge_height.new.self ws h.pairs h.rest c.args.word.now c.judge_height.result h.header h.words (HasBegun-push h.rest c.args.word.now there.0) there.1 (omega arith)
+    height_word c.args.self.now c.judge_height.new.self ws h.pairs h.rest c.args.word.now c.judge_height.result h.header h.words (HasBegun-more h.rest (c.args.word.now ∷ []) there.0) there.1 (omega arith)
     (ap (λ (j : Judge). j.header) kept) (ap (λ (j : Judge). j.stage) kept ∙ c.in-AtHeights.is) (c.judge_height.ensures.word h.pairs h.rest there.1)
 
 pub returns-in_ok-begin_heights-in-AtKey-clause-word : goal.returns-in_ok-begin_heights-in-AtKey-clause-word
