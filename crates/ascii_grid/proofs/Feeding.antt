@@ -198,16 +198,21 @@ fed_long r p text piece within cut none h over next =
     ∙ ap (λ o. option_or o (Some TooLong)) (ap (λ z. words_fault p.judge.scale (ended_words z)) in_time ∙ read_none p (text ++ take within piece) (next text k.words_of))
 
 -- a piece that has no fault
-pub fed_whole : (r r' : Reader) (text piece : List ℕ) (within : ℕ) → within ≡ min (length piece) (most_bytes - r.count) → r.fault ≡ None → HasTaken r text → length piece ≤ within → ((t : List ℕ) → HasWords r.words t → HasWords r'.words (t ++ take within piece)) → r'.words.judge.scale ≡ r'.scale → r'.count ≡ r.count + within → IsReading r' (text ++ piece)
-fed_whole r r' text piece within cut none h all next scale count =
+pub fed_all : (r r' : Reader) (text piece : List ℕ) → r.fault ≡ None → HasTaken r text → length piece ≤ most_bytes - r.count → ((t : List ℕ) → HasWords r.words t → HasWords r'.words (t ++ piece)) → r'.words.judge.scale ≡ r'.scale → r'.count ≡ r.count + length piece → IsReading r' (text ++ piece)
+fed_all r r' text piece none h few next scale count =
     let k = reading r text none h in
     let size : length (text ++ piece) ≡ length text + length piece = length-append text piece in
     record {
-      words_of = subst (λ z. HasWords r'.words (text ++ z)) (take_all within piece all) (next text k.words_of);
+      words_of = next text k.words_of;
       same_scale = scale;
-      size = omega (arith, cut, size, count, k.size, all);
-      short = omega (arith, cut, size, k.size, k.short, all);
+      size = omega (arith, size, count, k.size);
+      short = omega (arith, size, k.size, k.short, few);
     }
+
+-- one that is short enough
+pub fed_whole : (r r' : Reader) (text piece : List ℕ) (within : ℕ) → within ≡ min (length piece) (most_bytes - r.count) → r.fault ≡ None → HasTaken r text → length piece ≤ within → ((t : List ℕ) → HasWords r.words t → HasWords r'.words (t ++ take within piece)) → r'.words.judge.scale ≡ r'.scale → r'.count ≡ r.count + within → IsReading r' (text ++ piece)
+fed_whole r r' text piece within cut none h all next scale count =
+    fed_all r r' text piece none h (omega (arith, cut, all)) (λ t was. subst (λ z. HasWords r'.words (t ++ z)) (take_all within piece all) (next t was)) scale (omega (arith, cut, all, count))
 
 -- what a reader keeps has no fault so far
 pub faultless : (r : Reader) (text : List ℕ) → IsReading r text → fault_so_far r.scale text ≡ None

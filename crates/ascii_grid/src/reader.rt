@@ -1,13 +1,17 @@
 // A text that comes in pieces.
-ghost use Rattle.std.specs.Prelude.{◌≡◌, ◌≤◌, [], ℕ, List, None, Some, Err, IfOk, IfErr};
+ghost use Rattle.std.specs.Prelude.{◌≡◌, ◌≤◌, [], ℕ, List, None, Some, Ok, Err, IfOk, IfErr, IfSome, IsTrue, false};
+ghost use Rattle.terrain.specs.Words.{ended_words};
+ghost use Rattle.ascii_grid.specs.Header.{header_words, nodata_for};
 ghost use Rattle.ascii_grid.specs.GridText.{IsGridText, IsRefusal};
+ghost use Rattle.ascii_grid.specs.HeightList.{AreCells};
 ghost use Rattle.ascii_grid.specs.Reader.{HasTaken, Feeds};
 
 use crate::fault::GridFault;
+use crate::heights::HeightForm;
 use crate::progress::Progress;
 use std::alloc::Global;
 use std::marker::Model;
-use terrain::Grid;
+use terrain::{Cell, Grid};
 
 /// The most bytes that a text may have: 2^29.
 pub const MOST_TEXT_BYTES: usize = 536_870_912;
@@ -75,6 +79,51 @@ impl GridReader {
             return Err(GridFault::TooLong);
         }
         Ok(())
+    }
+
+    /// What the next word is known by, where it is a height and none of its bytes was fed.
+    pub fn height_form(&self) -> Option<HeightForm>
+        ensures scale { IfSome result (λ form. form.scale ≡ self.now.scale) }
+        ensures nodata { (text : List ℕ) → HasTaken self.now text →
+            IfSome result (λ form. form.nodata ≡ nodata_for (header_words (ended_words text))) }
+    {
+        if let Some(_) = self.fault {
+            return None;
+        }
+        self.words.height_form()
+    }
+
+    /// [`feed`](Self::feed) of a piece whose cells are known. They are taken as they stand where they are known by the form of
+    /// the heights here, and fit; else the piece is read.
+    pub fn feed_cells(
+        &mut self,
+        form: &HeightForm,
+        piece: &[u8],
+        cells: &[Cell],
+    ) -> Result<(), GridFault>
+        requires { AreCells form.now piece.now cells.now }
+        ensures { Feeds self.old self.new piece.now result }
+    {
+        if self.take_cells(form, piece, cells) {
+            return Ok(());
+        }
+        self.feed(piece)
+    }
+
+    // Takes a piece by its cells, where that can be. Else it takes nothing.
+    fn take_cells(&mut self, form: &HeightForm, piece: &[u8], cells: &[Cell]) -> bool
+        requires { AreCells form.now piece.now cells.now }
+        ensures taken { IsTrue result → Feeds self.old self.new piece.now (Ok (tt {0})) }
+        ensures refused { result ≡ false → self.new ≡ self.old }
+    {
+        if let Some(_) = self.fault {
+            return false;
+        }
+        if piece.len() > MOST_TEXT_BYTES - self.taken || !self.words.take_cells(form, cells) {
+            return false;
+        }
+        self.taken += piece.len();
+        true
     }
 
     /// The grid that the pieces spell together, or the text's fault.
