@@ -114,7 +114,10 @@ impl HeightForm {
             return None;
         }
         let word = &rest[..len];
-        Some((len, cell(self.scale, self.nodata.as_bytes(), nodata_value, word)))
+        Some((
+            len,
+            cell(self.scale, self.nodata.as_bytes(), nodata_value, word),
+        ))
     }
 }
 

@@ -1,7 +1,7 @@
 // A grid from a reader, piece by piece.
 ghost use Rattle.std.specs.Prelude.{◌≡◌, ◌≢◌, ◌≤◌, ◌+◌, ◌-◌, ◌^◌, ◌<◌, ℕ, List, length, Some, None, Err, IfOk};
 ghost use Rattle.std.specs.Io.KnownBytes.{Consumes};
-ghost use Rattle.ascii_grid.specs.Reader.{HasTaken};
+ghost use Rattle.ascii_grid.specs.Reader.{HasTaken, Feeds};
 ghost use Rattle.ascii_grid.specs.GridText.{IsGridText, IsRefusal, fault_so_far, most_bytes};
 
 use crate::counted::Counted;
@@ -21,6 +21,22 @@ pub enum InputFault {
     Grid(GridFault),
     /// The reader failed: its count has risen by one.
     Read,
+}
+
+/// Who hands the pieces of a text to its reader.
+pub trait Feed {
+    /// Hands on the next piece, as [`GridReader::feed`] does.
+    fn feed(&self, reader: &mut GridReader, piece: &[u8]) -> Result<(), GridFault>
+        ensures { Feeds reader.old reader.new piece.now result };
+}
+
+// The caller's thread.
+struct Alone;
+
+impl Feed for Alone {
+    fn feed(&self, reader: &mut GridReader, piece: &[u8]) -> Result<(), GridFault> {
+        reader.feed(piece)
+    }
 }
 
 /// The grid that a reader's bytes spell, its heights in units of 10^-scale. No text is kept whole, and
@@ -43,18 +59,42 @@ pub fn read_grid<R: Read>(
         × (length taken ≤ most_bytes + 1)
         × (result ≡ Err InputFault.Read → fault_so_far scale taken ≡ None) }
 {
+    let mut buffer = [0; PIECE];
+    read_grid_by(alloc, scale, reader, &mut buffer, &Alone)
+}
+
+/// [`read_grid`] by way of a buffer, whose length is that of the longest piece. The pieces are handed on by `feed`.
+pub fn read_grid_by<R: Read, F: Feed>(
+    alloc: Global,
+    scale: u8,
+    reader: &mut Counted<R>,
+    buffer: &mut [u8],
+    feed: &F,
+) -> Result<Grid, InputFault>
+    requires scale { scale ≤ 6 }
+    requires few { reader.old.failures < 2 ^ 64 - 1 }
+    requires room { 0 < length buffer.old }
+    ensures grid { (text : List ℕ) → R.remaining reader.old.device ≡ Some text →
+        IfOk result (λ g. IsGridText scale text g) }
+    ensures fault { (text : List ℕ) (f : _) → R.remaining reader.old.device ≡ Some text →
+        result ≡ Err (InputFault.Grid f) → IsRefusal scale text f }
+    ensures read { result ≡ Err InputFault.Read → reader.new.failures ≡ reader.old.failures + 1 }
+    ensures sound { result ≢ Err InputFault.Read → reader.new.failures ≡ reader.old.failures }
+    ensures taken { (taken : List ℕ) × Consumes (R.remaining reader.old.device) (R.remaining reader.new.device) taken
+        × (length taken ≤ most_bytes + 1)
+        × (result ≡ Err InputFault.Read → fault_so_far scale taken ≡ None) }
+{
     let mut grid_reader = GridReader::new(alloc, scale);
-    let mut piece = [0; PIECE];
     let mut taken = 0;
     loop {
-        let room = PIECE.min(MOST_TEXT_BYTES + 1 - taken);
-        let Ok(count) = reader.read(&mut piece[..room]) else {
+        let room = buffer.len().min(MOST_TEXT_BYTES + 1 - taken);
+        let Ok(count) = reader.read(&mut buffer[..room]) else {
             return Err(InputFault::Read);
         };
         if count == 0 {
             return finished(grid_reader);
         }
-        if let Err(fault) = grid_reader.feed(&piece[..count]) {
+        if let Err(fault) = feed.feed(&mut grid_reader, &buffer[..count]) {
             return Err(InputFault::Grid(fault));
         }
         taken += count;

@@ -9,17 +9,17 @@ use Rattle.ascii_grid.specs.declared.input.InputFault.{InputFault}
 use Rattle.ascii_grid.specs.declared.input.InputFault.TheVariants as input
 use Rattle.ascii_grid.proofs.Taking.{Consumes-more, Consumes-kept, not_too_long, consumed_front, consumed_all}
 use Rattle.ascii_grid.proofs.Feeding.{stays}
-use Rattle.ascii_grid.proofs.input.read_grid.Goals as goal
+use Rattle.ascii_grid.proofs.input.read_grid_by.Goals as goal
 
 same_grid_fault : (f g : GridFault) → ◌≡◌ {A = Result Raster InputFault} (Err (input.Grid f)) (Err (input.Grid g)) → f ≡ g
 same_grid_fault f g e = cc
 
 pub returns-then-count-eq0 : goal.returns-then-count-eq0
 returns-then-count-eq0 g c =
-    let held = c.loop-count.invariant in
+    let held = c.loop-count.invariant.taking in
     let none : take c.in-Ok.count c.read.new.buffer ≡ [] = ap (λ n. take n c.read.new.buffer) c.if-count-eq0.true in
-    let full : length c.loop-count.piece ≡ 65536 = search rules in
-    let cut = length-take c.min-room.result c.loop-count.piece in
+    let full = c.loop-count.invariant.some in
+    let cut = length-take c.min-room.result c.loop-count.buffer in
     let room : 0 < length c.read.new.buffer = omega (arith, held.room, c.min-room.ensures, c.read.auto.buffer, full, cut) in
     let last = rw none at (c.in-Ok.ensures.bytes).0 in
     let all : (text : List ℕ) → g.R.Read.remaining c.args.reader.now.device ≡ Some text → HasTaken c.loop-count.grid_reader text = λ text told.
@@ -34,13 +34,13 @@ returns-then-count-eq0 g c =
 
 pub returns-in-Err : goal.returns-in-Err
 returns-in-Err g c =
-    let held = c.loop-count.invariant in
+    let held = c.loop-count.invariant.taking in
     let front : List ℕ = take c.in-Ok.count c.read.new.buffer in
-    let full : length c.loop-count.piece ≡ 65536 = search rules in
-    let cut = length-take c.min-room.result c.loop-count.piece in
+    let full = c.loop-count.invariant.some in
+    let cut = length-take c.min-room.result c.loop-count.buffer in
     let within : c.in-Ok.count ≤ length c.read.new.buffer = search (rules, c.in-Ok.ensures.bound) in
     let read = length-take-le c.in-Ok.count c.read.new.buffer within in
-    let piece : take c.in-Ok.count (c.read.new.buffer ++ drop c.min-room.result c.loop-count.piece) ≡ front = take-append-le _ _ _ within in
+    let piece : take c.in-Ok.count (c.read.new.buffer ++ drop c.min-room.result c.loop-count.buffer) ≡ front = take-append-le _ _ _ within in
     let shown = subst (λ (z : List ℕ). IsRefusalSoFar c.loop-count.grid_reader.scale (held.text ++ z) c.in-Err.fault) piece (c.in-Err.ensures.err held.text held.fed) in
     let bytes = Consumes-more _ _ _ _ _ held.bytes (c.in-Ok.ensures.bytes).0 in
     let sizes = length-append held.text front in
@@ -57,32 +57,35 @@ returns-in-Err g c =
 
 pub loop-count-preserved : goal.loop-count-preserved
 loop-count-preserved g c =
-    let held = c.loop-count.invariant in
+    let held = c.loop-count.invariant.taking in
     let front : List ℕ = take c.in-Ok.count c.read.new.buffer in
-    let full : length c.loop-count.piece ≡ 65536 = search rules in
-    let cut = length-take c.min-room.result c.loop-count.piece in
+    let full = c.loop-count.invariant.some in
+    let cut = length-take c.min-room.result c.loop-count.buffer in
     let within : c.in-Ok.count ≤ length c.read.new.buffer = search (rules, c.in-Ok.ensures.bound) in
     let read = length-take-le c.in-Ok.count c.read.new.buffer within in
-    let piece : take c.in-Ok.count (c.read.new.buffer ++ drop c.min-room.result c.loop-count.piece) ≡ front = take-append-le _ _ _ within in
-    let fed : HasTaken c.feed.new.self (held.text ++ front) = subst (λ (z : List ℕ). HasTaken c.feed.new.self (held.text ++ z)) piece (c.feed.ensures.taken held.text held.fed) in
+    let piece : take c.in-Ok.count (c.read.new.buffer ++ drop c.min-room.result c.loop-count.buffer) ≡ front = take-append-le _ _ _ within in
+    let fed : HasTaken c.feed.new.reader (held.text ++ front) = subst (λ (z : List ℕ). HasTaken c.feed.new.reader (held.text ++ z)) piece (c.feed.ensures.taken held.text held.fed) in
     let shown = subst (λ (z : List ℕ). fault_so_far c.loop-count.grid_reader.scale (held.text ++ z) ≡ None) piece (c.in_default-feed.ensures.ok held.text held.fed) in
     let faultless = subst (λ (d : ℕ). fault_so_far d (held.text ++ front) ≡ None) held.scale_kept shown in
     let short = not_too_long _ (held.text ++ front) faultless in
     let sizes = length-append held.text front in
     record {
-      text = held.text ++ front;
-      fed = fed;
-      faultless = faultless;
-      scale_kept = c.feed.ensures.scale ∙ held.scale_kept;
-      size = omega (arith, sizes, read, held.size);
-      room = omega (arith, sizes, read, held.size, short);
-      count = c.in-Ok.ensures.count.ok ∙ held.count;
-      bytes = Consumes-more _ _ _ _ _ held.bytes (c.in-Ok.ensures.bytes).0;
+      taking = record {
+        text = held.text ++ front;
+        fed = fed;
+        faultless = faultless;
+        scale_kept = c.feed.ensures.scale ∙ held.scale_kept;
+        size = omega (arith, sizes, read, held.size);
+        room = omega (arith, sizes, read, held.size, short);
+        count = c.in-Ok.ensures.count.ok ∙ held.count;
+        bytes = Consumes-more _ _ _ _ _ held.bytes (c.in-Ok.ensures.bytes).0;
+      };
+      some = search (rules, c.in-Ok.ensures.bound);
     }
 
 pub returns-in_default-clause-taken : goal.returns-in_default-clause-taken
 returns-in_default-clause-taken g c =
-    let held = c.loop-count.invariant in (
+    let held = c.loop-count.invariant.taking in (
       held.text,
       Consumes-kept _ _ _ held.text held.bytes c.in_default.ensures.bytes,
       omega (arith, held.size, held.room),
