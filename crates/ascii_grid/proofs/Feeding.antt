@@ -1,6 +1,6 @@
 -- What a piece and the end of the text make of a reader, and that a fault stays when the text goes on.
-use Rattle.std.proofs.Common.{◌≡◌, ℕ, ◌+◌, ◌-◌, ◌<◌, ◌≤◌, cond, nat_le, List, [], ◌++◌, length, take, drop, min, None, Some, arith, refl, ap, sym, ◌∙◌, subst, inl, inr, Result, MatchResult}
-use Rattle.std.specs.Prelude.{MatchOption}
+use Rattle.std.proofs.Common.{◌≡◌, ℕ, ◌+◌, ◌-◌, ◌<◌, ◌≤◌, cond, nat_le, List, [], ◌++◌, length, take, drop, min, None, Some, arith, refl, ap, sym, ◌∙◌, subst, inl, inr, Result, MatchResult, Ok, Err}
+use Rattle.std.specs.Prelude.{MatchOption, OnOk, IfErr}
 use Rattle.std.specs.Option.{option_or}
 use Rattle.std.proofs.lemmas.Bool.{cases_lt, le-leb, lt-leb}
 use Rattle.std.proofs.lemmas.Option.{MatchOption-at_none, MatchOption-at_some}
@@ -10,7 +10,7 @@ use Rattle.std.proofs.Math.Seq.{take-append-add}
 use Rattle.terrain.specs.Words.{Word, words, ended_words}
 use Rattle.terrain.specs.Raster.{Raster, IsLawful}
 use Rattle.ascii_grid.specs.GridText.{most_bytes, words_fault, end_fault, fault_so_far, text_fault, judged_words, grid_of, AsksForCells, AsksAtHeight, AsksInText, IsGridText, IsRefusal, IsRefusalSoFar}
-use Rattle.ascii_grid.specs.Reader.{Reader, IsReading, HasTaken}
+use Rattle.ascii_grid.specs.Reader.{Reader, IsReading, HasTaken, Feeds}
 use Rattle.ascii_grid.specs.Reading.{HasWords, IsWordFault, IsEndFault}
 use Rattle.ascii_grid.specs.declared.fault.GridFault.{GridFault}
 use Rattle.ascii_grid.specs.declared.fault.GridFault.TheVariants.{TooLong}
@@ -217,3 +217,36 @@ fed_whole r r' text piece within cut none h all next scale count =
 -- what a reader keeps has no fault so far
 pub faultless : (r : Reader) (text : List ℕ) → IsReading r text → fault_so_far r.scale text ≡ None
 faultless r text h = rw (← h.same_scale) (few_so_far r.words.judge.scale text h.short ∙ read_none r.words text h.words_of)
+
+-- ---- one piece after another
+
+pub Feeds-none : (r : Reader) → r.fault ≡ None → Feeds r r [] (Ok (tt {0}))
+Feeds-none r none = record {
+  scale = refl;
+  taken = λ text h. subst (HasTaken r) (sym (append-nil text)) h;
+  ok = λ text h. subst (λ t. fault_so_far r.scale t ≡ None) (sym (append-nil text)) (faultless r text (reading r text none h));
+  err = λ text h. tt;
+  fault = none;
+  again = λ f e. absurd (let no : None ≡ Some f = sym none ∙ e in cc);
+}
+
+pub Feeds-more : {T : Type 0} (a b c : Reader) (front piece : List ℕ) (r : Result T GridFault) → Feeds a b front (Ok (tt {0})) → Feeds b c piece r → Feeds a c (front ++ piece) r
+Feeds-more a b c front piece r h k = record {
+  scale = k.scale ∙ h.scale;
+  taken = λ text was. subst (HasTaken c) (append_assoc text front piece) (k.taken (text ++ front) (h.taken text was));
+  ok = λ text was. subst (λ d. OnOk r (fault_so_far d (text ++ (front ++ piece)) ≡ None)) h.scale (subst (λ t. OnOk r (fault_so_far b.scale t ≡ None)) (append_assoc text front piece) (k.ok (text ++ front) (h.taken text was)));
+  err = λ text was. subst (λ d. IfErr r (λ f. IsRefusalSoFar d (text ++ (front ++ piece)) f)) h.scale (subst (λ t. IfErr r (λ f. IsRefusalSoFar b.scale t f)) (append_assoc text front piece) (k.err (text ++ front) (h.taken text was)));
+  fault = k.fault;
+  again = λ f e. absurd (let no = h.again f e in cc);
+}
+
+-- after a fault, what follows is not looked at
+pub Feeds-stopped : {T : Type 0} (a b : Reader) (front more : List ℕ) (f : GridFault) → Feeds {T = T} a b front (Err f) → Feeds {T = T} a b (front ++ more) (Err f)
+Feeds-stopped a b front more f h = record {
+  scale = h.scale;
+  taken = λ text was. subst (HasTaken b) (append_assoc text front more) (answered_more b (text ++ front) more f h.fault (h.taken text was));
+  ok = λ text was. tt;
+  err = λ text was. subst (λ t. IsRefusalSoFar a.scale t f) (append_assoc text front more) (refusal_stays a.scale (text ++ front) more f (h.err text was));
+  fault = h.fault;
+  again = h.again;
+}

@@ -1,5 +1,5 @@
 // A text that comes in pieces.
-ghost use Rattle.std.specs.Prelude.{◌≡◌, ◌≤◌, [], ℕ, List, None, Some, Ok, Err, IfOk, IfErr, IfSome, IsTrue, false};
+ghost use Rattle.std.specs.Prelude.{◌≡◌, ◌≤◌, [], ℕ, List, None, Some, Ok, Err, IfOk, IfErr, IfSome, OnSome, IsTrue, false};
 ghost use Rattle.terrain.specs.Words.{ended_words};
 ghost use Rattle.ascii_grid.specs.Header.{header_words, nodata_for};
 ghost use Rattle.ascii_grid.specs.GridText.{IsGridText, IsRefusal};
@@ -83,6 +83,7 @@ impl GridReader {
 
     /// What the next word is known by, where it is a height and none of its bytes was fed.
     pub fn height_form(&self) -> Option<HeightForm>
+        ensures sound { OnSome result (self.now.fault ≡ None) }
         ensures scale { IfSome result (λ form. form.scale ≡ self.now.scale) }
         ensures nodata { (text : List ℕ) → HasTaken self.now text →
             IfSome result (λ form. form.nodata ≡ nodata_for (header_words (ended_words text))) }
