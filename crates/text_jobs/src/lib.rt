@@ -2,6 +2,7 @@
 #![tactic(auto)]
 
 mod reading;
+mod runs;
 mod writing;
 
 pub use reading::read_grid;

@@ -1,0 +1,111 @@
+//! Runs of a piece of a text, and the jobs that read their heights.
+ghost use Rattle.std.specs.Prelude.{◌≡◌, ◌<◌, ◌≤◌, ℕ, [], List, map, length, slice_index_or, IfOk, IfSome, None};
+ghost use Rattle.std.specs.List.{concat};
+ghost use Rattle.ascii_grid.specs.HeightList.{AreCells};
+ghost use Rattle.ascii_grid.specs.Reader.{Feeds};
+ghost use Rattle.text_jobs.specs.Runs.{HasRun};
+
+use ascii_grid::heights::HeightForm;
+use ascii_grid::progress::is_separator;
+use ascii_grid::{GridFault, GridReader};
+use std::alloc::{AllocError, Global};
+use terrain::Cell;
+use tile_jobs::{JobFault, Work};
+
+/// A run has so many bytes, and those up to the next separator behind them.
+pub(crate) const RUN: usize = 65_536;
+
+/// The piece, cut into runs: each but the last ends with a separator, or has no separator behind its first [`RUN`] bytes.
+pub(crate) fn runs_of(alloc: Global, piece: &[u8]) -> Result<Vec<&[u8]>, AllocError>
+    ensures { IfOk result (λ runs. concat (map (λ run. run.now) runs.items) ≡ piece.now) }
+{
+    let mut runs = Vec::with_capacity(alloc, piece.len() / RUN + 2)?;
+    let mut rest = piece;
+    while rest.len() > RUN {
+        let (run, more) = rest.split_at(behind_separator(rest, RUN));
+        runs.push(run)?;
+        rest = more;
+    }
+    let (run, last) = rest.split_at(behind_last_separator(rest));
+    runs.push(run)?;
+    runs.push(last)?;
+    Ok(runs)
+}
+
+/// The place behind the first separator at or after a place, or the end.
+pub(crate) fn behind_separator(bytes: &[u8], from: usize) -> usize
+    requires { from < length bytes.now }
+    ensures { (from < result) × (result ≤ length bytes.now) }
+{
+    match bytes[from..].iter().position(|b| is_separator(*b)) {
+        Some(more) => from + more + 1,
+        None => bytes.len(),
+    }
+}
+
+// The place behind the last separator, or the start.
+fn behind_last_separator(bytes: &[u8]) -> usize
+    ensures { result ≤ length bytes.now }
+{
+    let mut end = bytes.len();
+    while end > 0 && !is_separator(bytes[end - 1]) {
+        end -= 1;
+    }
+    end
+}
+
+/// One job for each run, which answers its cells.
+#[derive(Drop)]
+pub(crate) struct RunJobs<'a> {
+    pub form: &'a HeightForm,
+    pub runs: &'a [&'a [u8]],
+}
+
+impl<'a> Work for RunJobs<'a> {
+    ghost use Rattle.std.specs.Prelude.{map, length, IfSome};
+    ghost use Rattle.text_jobs.specs.Runs.{HasRun};
+
+    type Out = Option<Vec<Cell>>;
+
+    ghost most = { λ w. length w.runs.now };
+
+    ghost gives = { λ w job out. IfSome out (λ cells. HasRun w.form.now (map (λ run. run.now) w.runs.now) job cells.items) };
+
+    fn run(&self, alloc: Global, job: u32) -> Result<Option<Vec<Cell>>, JobFault> {
+        Ok(self.form.cells(alloc, self.runs[job as usize]))
+    }
+}
+
+/// Feeds a reader run by run, with the cells of each where they are known.
+pub(crate) fn feed_runs(
+    reader: &mut GridReader,
+    form: &HeightForm,
+    runs: &[&[u8]],
+    lists: &[Option<Vec<Cell>>],
+) -> Result<(), GridFault>
+    requires sound { reader.old.fault ≡ None }
+    requires len { length lists.now ≡ length runs.now }
+    requires cells { (job : ℕ) → job < length runs.now →
+        IfSome (slice_index_or lists.now job None) (λ cells. HasRun form.now (map (λ run. run.now) runs.now) job cells.items) }
+    ensures { Feeds reader.old reader.new (concat (map (λ run. run.now) runs.now)) result }
+{
+    for job in 0..runs.len() {
+        feed_run(reader, form, runs[job], &lists[job])?;
+    }
+    Ok(())
+}
+
+fn feed_run(
+    reader: &mut GridReader,
+    form: &HeightForm,
+    run: &[u8],
+    cells: &Option<Vec<Cell>>,
+) -> Result<(), GridFault>
+    requires { IfSome cells.now (λ cells. AreCells form.now run.now cells.items) }
+    ensures { Feeds reader.old reader.new run.now result }
+{
+    match cells {
+        Some(cells) => reader.feed_cells(form, run, cells),
+        None => reader.feed(run),
+    }
+}
