@@ -23,22 +23,6 @@ pub enum InputFault {
     Read,
 }
 
-/// Who hands the pieces of a text to its reader.
-pub trait Feed {
-    /// Hands on the next piece, as [`GridReader::feed`] does.
-    fn feed(&self, reader: &mut GridReader, piece: &[u8]) -> Result<(), GridFault>
-        ensures { Feeds reader.old reader.new piece.now result };
-}
-
-// The caller's thread.
-struct Alone;
-
-impl Feed for Alone {
-    fn feed(&self, reader: &mut GridReader, piece: &[u8]) -> Result<(), GridFault> {
-        reader.feed(piece)
-    }
-}
-
 /// The grid that a reader's bytes spell, its heights in units of 10^-scale. No text is kept whole, and
 /// at most 2^29 + 1 bytes are taken. Where the reader fails, a fault of a word that was ended before
 /// goes first.
@@ -60,20 +44,31 @@ pub fn read_grid<R: Read>(
         × (result ≡ Err InputFault.Read → fault_so_far scale taken ≡ None) }
 {
     let mut buffer = [0; PIECE];
-    read_grid_by(alloc, scale, reader, &mut buffer, &Alone)
+    read_grid_by(
+        alloc,
+        scale,
+        reader,
+        &mut buffer,
+        |grid_reader: &mut GridReader, piece: &[u8]|
+            ensures { Feeds grid_reader.old grid_reader.new piece.now result }
+        { grid_reader.feed(piece) },
+    )
 }
 
 /// [`read_grid`] by way of a buffer, whose length is that of the longest piece. The pieces are handed on by `feed`.
-pub fn read_grid_by<R: Read, F: Feed>(
+pub fn read_grid_by<R: Read, F: Fn(&mut GridReader, &[u8]) -> Result<(), GridFault>>(
     alloc: Global,
     scale: u8,
     reader: &mut Counted<R>,
     buffer: &mut [u8],
-    feed: &F,
+    feed: F,
 ) -> Result<Grid, InputFault>
     requires scale { scale ≤ 6 }
     requires few { reader.old.failures < 2 ^ 64 - 1 }
     requires room { 0 < length buffer.old }
+    requires callable { F.IsAlwaysCallable feed }
+    requires feeds { (before : _) (piece : _) (r : _) (after : _) →
+        F.post feed before piece r after → Feeds before.now after.now piece.now r }
     ensures grid { (text : List ℕ) → R.remaining reader.old.device ≡ Some text →
         IfOk result (λ g. IsGridText scale text g) }
     ensures fault { (text : List ℕ) (f : _) → R.remaining reader.old.device ≡ Some text →
@@ -94,7 +89,7 @@ pub fn read_grid_by<R: Read, F: Feed>(
         if count == 0 {
             return finished(grid_reader);
         }
-        if let Err(fault) = feed.feed(&mut grid_reader, &buffer[..count]) {
+        if let Err(fault) = feed(&mut grid_reader, &buffer[..count]) {
             return Err(InputFault::Grid(fault));
         }
         taken += count;

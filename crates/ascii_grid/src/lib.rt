@@ -21,7 +21,7 @@ pub mod write;
 pub use counted::{Counted, ReadFailed, WriteFailed};
 pub use fault::{GridFault, Key};
 pub use heights::HeightForm;
-pub use input::{Feed, InputFault, read_grid, read_grid_by};
+pub use input::{InputFault, read_grid, read_grid_by};
 pub use page::Page;
 pub use progress::is_separator;
 pub use read::read_text;
