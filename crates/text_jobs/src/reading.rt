@@ -5,7 +5,7 @@ ghost use Rattle.ascii_grid.specs.Reader.{Feeds};
 ghost use Rattle.ascii_grid.specs.GridText.{IsGridText, IsRefusal, fault_so_far, most_bytes};
 
 use crate::runs::{RUN, RunJobs, behind_separator, feed_runs, runs_of};
-use ascii_grid::{Counted, Feed, GridFault, GridReader, InputFault, read_grid_by};
+use ascii_grid::{Counted, GridFault, GridReader, InputFault, read_grid_by};
 use std::io::Read;
 use std::sync::Wait;
 use std::thread::Threads;
@@ -19,45 +19,46 @@ const PIECE: usize = 4_194_304;
 // So much of a piece is read first, with the header or a word begun before.
 const FRONT: usize = 4096;
 
-// The workers share each long piece.
-#[derive(Drop)]
-struct Shared<'a, T, G> {
-    crew: &'a Crew<'a, T, G>,
-}
-
-impl<'a, T: Threads + Wait + Sync, G: Gate + Sync> Feed for Shared<'a, T, G> {
-    fn feed(&self, reader: &mut GridReader, piece: &[u8]) -> Result<(), GridFault> {
-        if piece.len() < 2 * RUN {
-            return reader.feed(piece);
-        }
-        let (front, rest) = piece.split_at(behind_separator(piece, FRONT));
-        reader.feed(front)?;
-        self.feed_heights(reader, rest)
+// Hands on a piece, which the workers share where it is long.
+fn feed_shared<T: Threads + Wait + Sync, G: Gate + Sync>(
+    crew: &Crew<T, G>,
+    reader: &mut GridReader,
+    piece: &[u8],
+) -> Result<(), GridFault>
+    ensures { Feeds reader.old reader.new piece.now result }
+{
+    if piece.len() < 2 * RUN {
+        return reader.feed(piece);
     }
+    let (front, rest) = piece.split_at(behind_separator(piece, FRONT));
+    reader.feed(front)?;
+    feed_heights(crew, reader, rest)
 }
 
-impl<'a, T: Threads + Wait + Sync, G: Gate + Sync> Shared<'a, T, G> {
-    // Hands on a piece whose heights the workers read, where it has nothing else. What they did not read the reader does.
-    fn feed_heights(&self, reader: &mut GridReader, piece: &[u8]) -> Result<(), GridFault>
-        ensures { Feeds reader.old reader.new piece.now result }
-    {
-        let Some(form) = reader.height_form() else {
-            return reader.feed(piece);
-        };
-        let Ok(runs) = runs_of(self.crew.alloc, piece) else {
-            return reader.feed(piece);
-        };
-        if runs.len() > MOST_JOBS as usize {
-            return reader.feed(piece);
-        }
-        let jobs = RunJobs {
-            form: &form,
-            runs: &runs,
-        };
-        match self.crew.run(&jobs, runs.len() as u32) {
-            Ok(lists) => feed_runs(reader, &form, &runs, &lists),
-            Err(_) => reader.feed(piece),
-        }
+// Hands on a piece, whose heights the workers read where it has nothing else. What they did not read the reader does.
+fn feed_heights<T: Threads + Wait + Sync, G: Gate + Sync>(
+    crew: &Crew<T, G>,
+    reader: &mut GridReader,
+    piece: &[u8],
+) -> Result<(), GridFault>
+    ensures { Feeds reader.old reader.new piece.now result }
+{
+    let Some(form) = reader.height_form() else {
+        return reader.feed(piece);
+    };
+    let Ok(runs) = runs_of(crew.alloc, piece) else {
+        return reader.feed(piece);
+    };
+    if runs.len() > MOST_JOBS as usize {
+        return reader.feed(piece);
+    }
+    let jobs = RunJobs {
+        form: &form,
+        runs: &runs,
+    };
+    match crew.run(&jobs, runs.len() as u32) {
+        Ok(lists) => feed_runs(reader, &form, &runs, &lists),
+        Err(_) => reader.feed(piece),
     }
 }
 
@@ -83,7 +84,15 @@ pub fn read_grid<T: Threads + Wait + Sync, R: Read, G: Gate + Sync>(
 {
     if crew.workers > 1 {
         if let Ok(mut buffer) = vec![in crew.alloc; 0; PIECE] {
-            return read_grid_by(crew.alloc, scale, reader, &mut buffer, &Shared { crew });
+            return read_grid_by(
+                crew.alloc,
+                scale,
+                reader,
+                &mut buffer,
+                |grid_reader: &mut GridReader, piece: &[u8]|
+                    ensures { Feeds grid_reader.old grid_reader.new piece.now result }
+                { feed_shared(crew, grid_reader, piece) },
+            );
         }
     }
     ascii_grid::read_grid(crew.alloc, scale, reader)
