@@ -13,7 +13,7 @@ mod judge;
 mod key;
 pub mod laws;
 pub mod page;
-pub mod progress;
+mod progress;
 pub mod read;
 pub mod reader;
 pub mod write;

@@ -5,9 +5,7 @@ ghost use Rattle.ascii_grid.specs.HeightList.{AreCells};
 ghost use Rattle.ascii_grid.specs.Reader.{Feeds};
 ghost use Rattle.text_jobs.specs.Runs.{HasRun};
 
-use ascii_grid::heights::HeightForm;
-use ascii_grid::progress::is_separator;
-use ascii_grid::{GridFault, GridReader};
+use ascii_grid::{GridFault, GridReader, HeightForm, is_separator};
 use std::alloc::{AllocError, Global};
 use terrain::Cell;
 use tile_jobs::{JobFault, Work};
@@ -15,7 +13,8 @@ use tile_jobs::{JobFault, Work};
 /// A run has so many bytes, and those up to the next separator behind them.
 pub(crate) const RUN: usize = 65_536;
 
-/// The piece, cut into runs: each but the last ends with a separator, or has no separator behind its first [`RUN`] bytes.
+/// The piece, cut into runs of [`RUN`] bytes and those up to the next separator. What stands behind the last separator is a
+/// run of its own.
 pub(crate) fn runs_of(alloc: Global, piece: &[u8]) -> Result<Vec<&[u8]>, AllocError>
     ensures { IfOk result (λ runs. concat (map (λ run. run.now) runs.items) ≡ piece.now) }
 {
