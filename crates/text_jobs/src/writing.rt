@@ -56,8 +56,8 @@ impl<'a, E: Entry> Work for LineJobs<'a, E> {
     }
 }
 
-/// The lines of a map as several workers make them, each text's behind those of the one before. Nothing, where there is one worker
-/// or work for one alone, or where they could not make them.
+/// The lines of a map as several workers make them, each text's behind those of the one before. Where there is one worker
+/// or the lines are one job's, or where the workers could not make them, nothing.
 fn made_lines<T: Threads + Wait + Sync, G: Gate + Sync, E: Entry + Sync>(
     crew: &Crew<T, G>,
     frame: &Frame,
@@ -69,12 +69,12 @@ fn made_lines<T: Threads + Wait + Sync, G: Gate + Sync, E: Entry + Sync>(
     ensures { IfSome result (λ texts. flat_map (λ text. text.items) texts.items
         ≡ rows_text (E.text frame.now.scale nodata.now) frame.now.terrain.cols frame.now.terrain.rows cells.now) }
 {
-    if crew.workers == 1 || cells.len() <= JOB_CELLS {
-        return None;
-    }
     let cols = frame.cols() as usize;
     let rows = frame.rows() as usize;
     let rows_each = (JOB_CELLS / cols).max(1);
+    if crew.workers == 1 || rows <= rows_each {
+        return None;
+    }
     let work = LineJobs {
         cells,
         cols,
