@@ -1,8 +1,8 @@
 // A grid from a reader, piece by piece.
-ghost use Rattle.std.specs.Prelude.{◌≡◌, ◌≢◌, ◌≤◌, ◌+◌, ◌-◌, ◌^◌, ◌<◌, ℕ, List, length, Some, None, Err, IfOk};
-ghost use Rattle.std.specs.Io.KnownBytes.{Consumes};
+ghost use Rattle.std.specs.Prelude.{◌≡◌, ◌≢◌, ◌≤◌, ◌-◌, ◌^◌, ◌<◌, ℕ, List, length, Some, Err, IfOk};
+ghost use Rattle.ascii_grid.specs.Input.{ReadsGrid};
 ghost use Rattle.ascii_grid.specs.Reader.{HasTaken, Feeds};
-ghost use Rattle.ascii_grid.specs.GridText.{IsGridText, IsRefusal, fault_so_far, most_bytes};
+ghost use Rattle.ascii_grid.specs.GridText.{IsGridText, IsRefusal};
 
 use crate::counted::Counted;
 use crate::fault::GridFault;
@@ -33,15 +33,7 @@ pub fn read_grid<R: Read>(
 ) -> Result<Grid, InputFault>
     requires scale { scale ≤ 6 }
     requires few { reader.old.failures < 2 ^ 64 - 1 }
-    ensures grid { (text : List ℕ) → R.remaining reader.old.device ≡ Some text →
-        IfOk result (λ g. IsGridText scale text g) }
-    ensures fault { (text : List ℕ) (f : _) → R.remaining reader.old.device ≡ Some text →
-        result ≡ Err (InputFault.Grid f) → IsRefusal scale text f }
-    ensures read { result ≡ Err InputFault.Read → reader.new.failures ≡ reader.old.failures + 1 }
-    ensures sound { result ≢ Err InputFault.Read → reader.new.failures ≡ reader.old.failures }
-    ensures taken { (taken : List ℕ) × Consumes (R.remaining reader.old.device) (R.remaining reader.new.device) taken
-        × (length taken ≤ most_bytes + 1)
-        × (result ≡ Err InputFault.Read → fault_so_far scale taken ≡ None) }
+    ensures { ReadsGrid R.remaining scale reader.old reader.new result }
 {
     let mut buffer = [0; PIECE];
     read_grid_by(
@@ -69,15 +61,7 @@ pub fn read_grid_by<R: Read, F: Fn(&mut GridReader, &[u8]) -> Result<(), GridFau
     requires callable { F.IsAlwaysCallable feed }
     requires feeds { (before : _) (piece : _) (r : _) (after : _) →
         F.post feed before piece r after → Feeds before.now after.now piece.now r }
-    ensures grid { (text : List ℕ) → R.remaining reader.old.device ≡ Some text →
-        IfOk result (λ g. IsGridText scale text g) }
-    ensures fault { (text : List ℕ) (f : _) → R.remaining reader.old.device ≡ Some text →
-        result ≡ Err (InputFault.Grid f) → IsRefusal scale text f }
-    ensures read { result ≡ Err InputFault.Read → reader.new.failures ≡ reader.old.failures + 1 }
-    ensures sound { result ≢ Err InputFault.Read → reader.new.failures ≡ reader.old.failures }
-    ensures taken { (taken : List ℕ) × Consumes (R.remaining reader.old.device) (R.remaining reader.new.device) taken
-        × (length taken ≤ most_bytes + 1)
-        × (result ≡ Err InputFault.Read → fault_so_far scale taken ≡ None) }
+    ensures { ReadsGrid R.remaining scale reader.old reader.new result }
 {
     let mut grid_reader = GridReader::new(alloc, scale);
     let mut taken = 0;

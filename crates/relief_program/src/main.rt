@@ -3,6 +3,7 @@
 
 use ascii_grid::Counted;
 use relief::run_words;
+use std::alloc::Global;
 use std::env;
 use std::io::{self, ErrorKind};
 use std::process::ExitCode;
@@ -11,6 +12,9 @@ use std::rt::Env;
 const WORDS_REFUSED: u8 = 1;
 
 const NO_MEMORY: u8 = 3;
+
+// With the allocator's own words a page less than 32 MiB, of which it keeps none.
+const LONGEST_KEPT: usize = (1 << 25) - (1 << 13);
 
 fn status_of(error: &io::Error) -> u8 {
     if error.kind() == ErrorKind::OutOfMemory {
@@ -25,7 +29,14 @@ fn read_words(rt: &(impl Env + AllocGlobal)) -> io::Result<Vec<String>> {
     Ok(words)
 }
 
+// The C library's allocator gives a long list that is let go back to the system, but for those no longer than one that it has seen let
+// go: they are kept for lists to come. A map of millions of cells meets a third fewer new pages of memory then.
+fn keep_lists_let_go(alloc: Global) {
+    drop(Vec::<u8>::with_capacity(alloc, LONGEST_KEPT));
+}
+
 fn main(rt: HostRuntime) -> ExitCode {
+    keep_lists_let_go(rt.alloc());
     let words = match read_words(&rt) {
         Ok(words) => words,
         Err(error) => return ExitCode::from(status_of(&error)),

@@ -1,8 +1,7 @@
 //! A grid from a reader, by several workers.
-ghost use Rattle.std.specs.Prelude.{◌≡◌, ◌≢◌, ◌≤◌, ◌+◌, ◌-◌, ◌^◌, ◌<◌, ℕ, List, length, Some, None, Err, IfOk};
-ghost use Rattle.std.specs.Io.KnownBytes.{Consumes};
+ghost use Rattle.std.specs.Prelude.{◌-◌, ◌^◌, ◌<◌, ◌≤◌};
+ghost use Rattle.ascii_grid.specs.Input.{ReadsGrid};
 ghost use Rattle.ascii_grid.specs.Reader.{Feeds};
-ghost use Rattle.ascii_grid.specs.GridText.{IsGridText, IsRefusal, fault_so_far, most_bytes};
 
 use crate::runs::{RUN, RunJobs, behind_separator, feed_runs, runs_of};
 use ascii_grid::{Counted, GridFault, GridReader, InputFault, read_grid_by};
@@ -72,15 +71,7 @@ pub fn read_grid<T: Threads + Wait + Sync, R: Read, G: Gate + Sync>(
 ) -> Result<Grid, InputFault>
     requires scale { scale ≤ 6 }
     requires few { reader.old.failures < 2 ^ 64 - 1 }
-    ensures grid { (text : List ℕ) → R.remaining reader.old.device ≡ Some text →
-        IfOk result (λ g. IsGridText scale text g) }
-    ensures fault { (text : List ℕ) (f : _) → R.remaining reader.old.device ≡ Some text →
-        result ≡ Err (InputFault.Grid f) → IsRefusal scale text f }
-    ensures read { result ≡ Err InputFault.Read → reader.new.failures ≡ reader.old.failures + 1 }
-    ensures sound { result ≢ Err InputFault.Read → reader.new.failures ≡ reader.old.failures }
-    ensures taken { (taken : List ℕ) × Consumes (R.remaining reader.old.device) (R.remaining reader.new.device) taken
-        × (length taken ≤ most_bytes + 1)
-        × (result ≡ Err InputFault.Read → fault_so_far scale taken ≡ None) }
+    ensures { ReadsGrid R.remaining scale reader.old reader.new result }
 {
     if crew.workers > 1 {
         if let Ok(mut buffer) = vec![in crew.alloc; 0; PIECE] {

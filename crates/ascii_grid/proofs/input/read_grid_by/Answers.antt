@@ -85,11 +85,13 @@ loop-count-preserved g c =
       some = search (rules, c.in-Ok.ensures.bound);
     }
 
-pub returns-in_default-clause-taken : goal.returns-in_default-clause-taken
-returns-in_default-clause-taken g c =
-    let held = c.loop-count.invariant.taking in (
-      held.text,
-      Consumes-kept _ _ _ held.text held.bytes c.in_default.ensures.bytes,
-      omega (arith, held.size, held.room),
-      λ failed. held.faultless,
-    )
+pub returns-in_default : goal.returns-in_default
+returns-in_default g c =
+    let held = c.loop-count.invariant.taking in
+    record {
+      grid = search rules;
+      fault = search rules;
+      read = search rules;
+      sound = search rules;
+      taken = (held.text, Consumes-kept _ _ _ held.text held.bytes c.in_default.ensures.bytes, omega (arith, held.size, held.room), λ failed. held.faultless);
+    }
