@@ -30,7 +30,7 @@ pub const PIT_CELLS: [Option<Height>; 9] = [
 ];
 
 /// Whether the cells have these heights.
-pub fn have_heights(cells: &[Cell], heights: &[Option<Height>]) -> bool
+pub(crate) fn have_heights(cells: &[Cell], heights: &[Option<Height>]) -> bool
     ensures { IsTrue result → cells.now ≡ heights.now }
 {
     if cells.len() != heights.len() {
@@ -45,7 +45,7 @@ pub fn have_heights(cells: &[Cell], heights: &[Option<Height>]) -> bool
 }
 
 /// The grid of a text, which spells these cells.
-pub fn grid_of(
+pub(crate) fn grid_of(
     rt: &impl Abort,
     alloc: Global,
     scale: u8,
@@ -60,10 +60,10 @@ pub fn grid_of(
     grid
 }
 
-pub fn expect_cells(rt: &impl Abort, found: &[Cell], wanted: &[Option<Height>]) {
+pub(crate) fn expect_cells(rt: &impl Abort, found: &[Cell], wanted: &[Option<Height>]) {
     assert!(rt; have_heights(found, wanted), "{found:?} and {wanted:?}");
 }
 
-pub fn expect_numbers(rt: &impl Abort, found: &[u32], wanted: &[u32]) {
+pub(crate) fn expect_numbers(rt: &impl Abort, found: &[u32], wanted: &[u32]) {
     assert_eq!(rt; found, wanted);
 }

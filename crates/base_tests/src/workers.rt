@@ -364,6 +364,19 @@ fn run_capped<R: Threads + Wait + Sync>(
     run_jobs_capped(rt, alloc, visits, 5, workers, visits, starts)
 }
 
+/// Runs so few jobs on four workers with so many starts of threads.
+fn run_few<R: Threads + Wait + Sync>(
+    rt: &R,
+    alloc: Global,
+    jobs: u32,
+    starts: u32,
+) -> Result<Vec<u32>, JobFault>
+    requires { jobs ≤ 65536 }
+{
+    let visits = Visits::new(alloc, jobs)?;
+    run_jobs_capped(rt, alloc, &visits, jobs, 4, &visits, starts)
+}
+
 /// Each job entered once, and ran once after it was let in.
 fn have_run_once(rt: &impl Abort, visits: &Visits, workers: u32) {
     for (job, visit) in visits.visits.iter().enumerate() {
@@ -414,6 +427,17 @@ fn threads_that_cannot_be_started(rt: HostRuntime) -> Result<(), Fail> {
     let visits = Visits::new(rt.alloc(), 5)?;
     let answers = run_capped(&rt, rt.alloc(), &visits, 1, 0)?;
     expect_numbers(&rt, &answers, &[0, 1, 2, 3, 4]);
+    Ok(())
+}
+
+/// No more threads are started than there are jobs, and none for one job.
+#[test]
+fn few_jobs_start_few_threads(rt: HostRuntime) -> Result<(), Fail> {
+    let alloc = rt.alloc();
+    expect_numbers(&rt, &run_few(&rt, alloc, 0, 0)?, &[]);
+    expect_numbers(&rt, &run_few(&rt, alloc, 1, 0)?, &[0]);
+    expect_numbers(&rt, &run_few(&rt, alloc, 2, 2)?, &[0, 1]);
+    assert!(&rt; matches!(run_few(&rt, alloc, 2, 1), Err(JobFault::NoThread)));
     Ok(())
 }
 

@@ -1,5 +1,5 @@
 // Rounds of counting after the first, until nothing changes: over the tiles into which a count comes.
-ghost use Rattle.std.specs.Prelude.{◌≡◌, ◌≢◌, ℕ, ◌*◌, ◌<◌, ◌≤◌, [], Some, Vec, length, vec_len, OnOk, IfOk, slice_get};
+ghost use Rattle.std.specs.Prelude.{◌≡◌, ◌≢◌, ℕ, ◌*◌, ◌<◌, ◌≤◌, [], Vec, length, vec_len, OnOk, IfOk};
 ghost use Rattle.tile_jobs.specs.Fault.{RefusesWorkers};
 ghost use Rattle.tiles.specs.Cutting.{IsCutting, IsWithin, tile_of_place};
 ghost use Rattle.std.specs.declared.alloc.Global.{Global};
@@ -130,27 +130,6 @@ fn entries_of_changed(
     Ok(entries)
 }
 
-/// What the jobs of a round answer. No more workers are started than there are jobs.
-fn answers<R: Threads + Wait + Sync, G: Gate + Sync>(
-    crew: &Crew<'_, R, G>,
-    round: &Round<'_>,
-) -> Result<Vec<Vec<Change>>, JobFault>
-    requires jobs { (1 ≤ length round.now.runs) × (length round.now.runs ≤ 65536) }
-    requires workers { (1 ≤ crew.now.workers) × (crew.now.workers ≤ 64) }
-    ensures len { IfOk result (λ v. vec_len v ≡ length round.now.runs) }
-    ensures answered { IfOk result (λ v. (job : ℕ) (list : Vec Change Global) → slice_get v.items job ≡ Some list → IsAnswer round.now job list.items) }
-    ensures workers { RefusesWorkers crew.now.workers result }
-{
-    let jobs = round.runs.len() as u32;
-    let few = Crew {
-        rt: crew.rt,
-        alloc: crew.alloc,
-        workers: crew.workers.min(jobs),
-        gate: crew.gate,
-    };
-    few.run(round, jobs)
-}
-
 /// What the jobs of a round answer, one for each tile into which something comes.
 fn answers_of<R: Threads + Wait + Sync, G: Gate + Sync>(
     crew: &Crew<'_, R, G>,
@@ -158,7 +137,6 @@ fn answers_of<R: Threads + Wait + Sync, G: Gate + Sync>(
     entries: &[Entry],
 ) -> Result<Vec<Vec<Change>>, JobFault>
     requires rounding { IsRounding (record { cutting = lent.now.tiling.now; levels = lent.now.levels.now; steps = lent.now.steps.now; entries = entries.now }) }
-    requires some { 0 < length entries.now }
     requires workers { (1 ≤ crew.now.workers) × (crew.now.workers ≤ 64) }
     ensures answered { IfOk result (λ v. AreAnswered (record { cutting = lent.now.tiling.now; levels = lent.now.levels.now; steps = lent.now.steps.now; entries = entries.now }) v.items) }
     ensures workers { RefusesWorkers crew.now.workers result }
@@ -171,7 +149,7 @@ fn answers_of<R: Threads + Wait + Sync, G: Gate + Sync>(
         entries,
         runs: &runs,
     };
-    let outs = answers(crew, &round)?;
+    let outs = crew.run(&round, runs.len() as u32)?;
     Ok(outs)
 }
 

@@ -152,7 +152,7 @@ fn cut_blocks(cols: u32, rows: u32, size: u32) -> Tiling
     }
 }
 
-/// The greatest height of each block of so many cells each way. No more workers are started than there are jobs.
+/// The greatest height of each block of so many cells each way.
 fn block_tops<R: Threads + Wait + Sync>(
     crew: &Crew<R, NoGate>,
     cells: &[Cell],
@@ -162,18 +162,11 @@ fn block_tops<R: Threads + Wait + Sync>(
 ) -> Result<Vec<Cell>, JobFault>
     requires ground { IsGround cols rows cells.now }
     requires size { (0 < size) × (size ≤ 4096) }
-    requires workers { (1 ≤ crew.now.workers) × (crew.now.workers ≤ 64) }
     ensures tops { IfOk result (λ v. AreTops size (ground_of cols rows cells.now) v.items) }
     ensures workers { RefusesWorkers crew.now.workers result }
 {
     let tiling = cut_blocks(cols, rows, size);
-    let few = Crew {
-        rt: crew.rt,
-        alloc: crew.alloc,
-        workers: crew.workers.min(tiling.tiles()),
-        gate: crew.gate,
-    };
-    few.made(BlockTops {
+    crew.made(BlockTops {
         cells,
         cols,
         rows,
@@ -188,7 +181,6 @@ impl Tops {
         crew: &Crew<R, NoGate>,
         grid: &Grid,
     ) -> Result<Self, JobFault>
-        requires workers { (1 ≤ crew.now.workers) × (crew.now.workers ≤ 64) }
         ensures tops { IfOk result (λ t. IsTops grid.now.terrain t) }
         ensures workers { RefusesWorkers crew.now.workers result }
     {

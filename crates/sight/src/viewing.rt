@@ -12,7 +12,7 @@ use std::alloc::Global;
 use std::sync::Wait;
 use std::thread::Threads;
 use terrain::{Count, Grid, Observer};
-use tile_jobs::{Gate, JobFault, MOST_WORKERS, NoGate};
+use tile_jobs::{Gate, NoGate};
 use tile_maps::Crew;
 use tiles::Tiling;
 
@@ -41,9 +41,6 @@ pub fn viewshed<R: Threads + Wait + Sync, G: Gate + Sync>(
 {
     if let Some(fault) = first_fault(grid, observers, target_height, radius) {
         return Err(fault);
-    }
-    if workers == 0 || workers > MOST_WORKERS {
-        return Err(SightFault::Jobs(JobFault::BadWorkers));
     }
     let tops = Tops::of(
         &Crew {

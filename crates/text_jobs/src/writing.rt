@@ -56,8 +56,8 @@ impl<'a, E: Entry> Work for LineJobs<'a, E> {
     }
 }
 
-/// The lines of a map as several workers make them, each text's behind those of the one before. Where there is one worker
-/// or the lines are one job's, or where the workers could not make them, nothing.
+/// The lines of a map as several workers make them, each text's behind those of the one before. Where there is one worker,
+/// or where the workers could not make them, nothing.
 fn made_lines<T: Threads + Wait + Sync, G: Gate + Sync, E: Entry + Sync>(
     crew: &Crew<T, G>,
     frame: &Frame,
@@ -72,7 +72,7 @@ fn made_lines<T: Threads + Wait + Sync, G: Gate + Sync, E: Entry + Sync>(
     let cols = frame.cols() as usize;
     let rows = frame.rows() as usize;
     let rows_each = (JOB_CELLS / cols).max(1);
-    if crew.workers == 1 || rows <= rows_each {
+    if crew.workers == 1 {
         return None;
     }
     let work = LineJobs {

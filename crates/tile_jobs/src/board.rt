@@ -10,7 +10,7 @@ use crate::dealing::{deal_all, seat_all};
 use crate::ends::{Other, Own};
 use crate::room::put;
 use crate::seat::Seat;
-use crate::{JobFault, MOST_JOBS, MOST_WORKERS};
+use crate::{JobFault, MOST_JOBS, MOST_WORKERS, judge};
 use std::alloc::Global;
 
 /// Takes back every end of deque `v`.
@@ -103,9 +103,7 @@ impl Board {
         ensures bad { (result ≡ Err JobFault.BadWorkers) ↔ ((seats ≡ 0) ⊎ (MOST_WORKERS < seats)) }
         ensures faults { IfErr result (λ e. (e ≡ JobFault.BadWorkers) ⊎ (e ≡ JobFault.Memory)) }
     {
-        if seats == 0 || seats > MOST_WORKERS {
-            return Err(JobFault::BadWorkers);
-        }
+        judge(seats)?;
         let ends = deal_all(alloc, jobs, seats)?;
         Ok(seat_all(alloc, jobs, ends)?)
     }

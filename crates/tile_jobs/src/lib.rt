@@ -9,6 +9,8 @@
 //! its own deque and then steals those of the others, with no lock and no waiting.
 #![tactic(auto)]
 
+ghost use Rattle.std.specs.Prelude.{◌≡◌, ◌<◌, ◌≤◌, ◌⊎◌, ◌↔◌, Err, IfErr, OnOk};
+
 mod board;
 mod closing;
 mod crew;
@@ -46,6 +48,18 @@ pub enum JobFault {
     BadWorkers,
     /// A thread could not be started.
     NoThread,
+}
+
+/// Refuses a number of workers, or of seats, that no board has.
+fn judge(workers: u32) -> Result<(), JobFault>
+    ensures fit { OnOk result ((0 < workers) × (workers ≤ MOST_WORKERS)) }
+    ensures bad { (result ≡ Err JobFault.BadWorkers) ↔ ((workers ≡ 0) ⊎ (MOST_WORKERS < workers)) }
+    ensures fault { IfErr result (λ e. e ≡ JobFault.BadWorkers) }
+{
+    if workers == 0 || workers > MOST_WORKERS {
+        return Err(JobFault::BadWorkers);
+    }
+    Ok(())
 }
 
 impl From<AllocError> for JobFault {

@@ -1,9 +1,10 @@
-use Rattle.std.proofs.Common.{ℕ, ◌<◌, List, length, sym, ap, subst, arith}
-use Rattle.std.proofs.lemmas.Option.{slice_get_within}
+use Rattle.std.proofs.Common.{ℕ, ◌<◌, List, Vec, Global, sym, subst, arith}
+use Rattle.std.proofs.lemmas.Option.{slice_get_within, get_or_from_slice_get}
 use Rattle.tiles.specs.Cutting.{tile_count}
 use Rattle.tiles.proofs.Cut.{tile_of_place_below}
 use Rattle.drain.specs.Lowering.{IsAmong}
-use Rattle.drain.specs.Rounding.{AreCovered}
+use Rattle.drain.specs.Rounding.{Rounding, AreCovered, IsAnswer}
+use Rattle.drain.specs.declared.changes.Change.{Change}
 use Rattle.drain.specs.declared.changes.Run.{Run}
 use Rattle.drain.proofs.RoundLemmas.{few_of}
 use Rattle.drain.proofs.rounds.answers_of.Goals as goal
@@ -20,17 +21,15 @@ invariant_of-round g c = record {
   runs = λ run among. c.in_ok-runs.ensures.runs run (subst (λ (xs : List Run). IsAmong xs run) c.deref.ensures.value among);
 }
 
-pub answers-requires-clause-jobs : goal.answers-requires-clause-jobs
-answers-requires-clause-jobs g c κs within =
-    let size = ap (λ (xs : List Run). length xs) c.deref.ensures.value in
-    let first = c.in_ok-runs.ensures.covered 0 c.requires.some in
-    (omega (arith, size, slice_get_within c.in_ok-runs.runs.items first.0 first.1 first.2), omega (arith, size, c.in_ok-runs.ensures.few))
-
 pub returns-clause-answered : goal.returns-clause-answered
 returns-clause-answered g c = record {
   runs = c.deref.result.now;
   right = λ run among. c.in_ok-runs.ensures.runs run (subst (λ (xs : List Run). IsAmong xs run) c.deref.ensures.value among);
   covered = subst (λ (xs : List Run). AreCovered c.args.entries.now xs) (sym c.deref.ensures.value) c.in_ok-runs.ensures.covered;
-  count = omega (arith, c.in_ok-outs.ensures.len, c.in_ok-outs.outs.ok.0);
-  each = c.in_ok-outs.ensures.answered;
+  count = omega (arith, c.in_ok-outs.ensures.len, c.in_ok-outs.outs.ok.0, c.len.ensures);
+  each = λ job list is.
+      let lent = c.args.lent.now in
+      let rounding : Rounding = record { cutting = lent.tiling.now; levels = lent.levels.now; steps = lent.steps.now; entries = c.args.entries.now } in
+      let below : job < c.len.result = omega (arith, slice_get_within c.in_ok-outs.outs.items job list is, c.in_ok-outs.ensures.len, c.in_ok-outs.outs.ok.0) in
+      subst (λ (v : Vec Change Global). IsAnswer (record { rounding = rounding; runs = c.deref.result.now }) job v.items) (get_or_from_slice_get c.in_ok-outs.outs.items job list list is) (c.in_ok-outs.ensures.given job list below);
 }
