@@ -160,6 +160,44 @@ fn rim_of_one_cell_ends(rt: HostRuntime) {
     assert_eq!(rt; rim.next(), None);
 }
 
+/// A cell on the rim of its tile has this number.
+fn has_rim_number(rt: &impl Abort, tiling: &Tiling, row: u32, col: u32, number: u32) {
+    let place = place_in(rt, tiling, row, col);
+    assert_eq!(rt; tiling.rim_number(place), number, "row {row}, column {col}");
+    assert!(rt; number < tiling.number_count());
+    assert_eq!(rt; tiling.rim_place(number), place, "number {number}");
+}
+
+#[test]
+fn rim_cells_numbered_tile_by_tile(rt: HostRuntime) {
+    let tiling = cut(&rt, 5, 4, 3);
+    assert_eq!(rt; tiling.number_count(), 48);
+    assert_eq!(rt; tiling.numbers_of(3), (36, 12));
+    for (row, col, number) in [
+        (0, 1, 1),
+        (2, 1, 4),
+        (1, 0, 7),
+        (1, 2, 10),
+        (1, 4, 22),
+        (3, 4, 37),
+    ] {
+        has_rim_number(&rt, &tiling, row, col, number);
+    }
+}
+
+#[test]
+fn cells_of_bounds_in_row_order(rt: HostRuntime) {
+    let bounds = Bounds {
+        top: 1,
+        left: 2,
+        rows: 3,
+        cols: 4,
+    };
+    assert_eq!(rt; bounds.index_of(place(2, 5)), 7);
+    assert_eq!(rt; bounds.place_at(7), place(2, 5));
+    assert_eq!(rt; bounds.side_count(), 14);
+}
+
 /// These places lie beside one of five by three cells, in other tiles.
 fn has_outer(rt: &impl Abort, alloc: Global, side: u32, row: u32, col: u32, outer: &str) {
     let tiling = cut(rt, 5, 3, side);

@@ -8,7 +8,7 @@ use Rattle.terrain.specs.Neighbours.{index_of}
 use Rattle.terrain.specs.declared.place.Place.{Place}
 use Rattle.terrain.proofs.Places.{same_place}
 use Rattle.tiles.specs.declared.bounds.Bounds.{Bounds}
-use Rattle.tiles.specs.Cutting.{Cutting, IsCutting, IsWithin, IsInTile, IsInBounds, tile_count, tile_of_place, bounds_of, is_in_bounds}
+use Rattle.tiles.specs.Cutting.{Cutting, IsCutting, IsWithin, IsInTile, IsInBounds, tile_count, tile_of_place, bounds_of, is_in_bounds, index_in}
 use Rattle.tiles.proofs.Cut.{in_tile, in_bounds_parts}
 use Rattle.fill.specs.TileFlood.{Flood, level_in, label_in, AreEqualAfter, cells_after, IsInner}
 use Rattle.fill.specs.Labels.{labels_by}
@@ -18,13 +18,13 @@ use Rattle.fill.specs.declared.marks.Mark.{Mark}
 use Rattle.std.proofs.lemmas.Nat.{mul-le}
 use Rattle.floods.proofs.Steps.{seen}
 use Rattle.fill.proofs.Adding.{covered_itself, joins_of_is, HasAdded, after_way, none_added, added_more, all_added, no_mark_adds}
-use Rattle.fill.proofs.TileWindows.{bounds_from_entry, entry_in-inside}
+use Rattle.tiles.proofs.TileOrder.{bounds_from_entry, entry_in-inside}
 
 -- a label is an entry
 pub label_entry : (f : Flood) (p label : Place) → label_in f p ≡ Some label → (k : ℕ) × (get_or f.labels k None ≡ Some label)
 label_entry f p label e =
     let i = bounds_from_entry f.bounds f.labels p label e in
-    ((p.row - f.bounds.top) * f.bounds.cols + (p.col - f.bounds.left), sym (entry_in-inside f.bounds f.labels p i) ∙ e)
+    (index_in f.bounds p, sym (entry_in-inside f.bounds f.labels p i) ∙ e)
 
 pub mark_some : (cols : ℕ) (o : Option ℤ) (l : Option Place) (level : ℤ) (label : Place) (node : ℕ) → o ≡ Some level → l ≡ Some label → node ≡ index_of cols label → mark_of cols o l ≡ Some (record { level = level; node = node })
 mark_some cols o l level label node a b c = rw (a, b, c) refl
@@ -73,13 +73,13 @@ pub held : (c : Cutting) (floods : List Flood) (tile : ℕ) (f : Flood) (p : Pla
 held c floods tile f p h fit below e inside = in_tile c tile p h below (subst (λ b. IsInBounds b p) (fit.bounds tile f e) (in_bounds_parts f.bounds p inside))
 
 -- an entry of a flood is the mark of its cell
-pub entry_mark : (c : Cutting) (floods : List Flood) (tile : ℕ) (f : Flood) (q : Place) (i : ℕ) → IsCutting c → tile < tile_count c → slice_get floods tile ≡ Some f → f.bounds ≡ bounds_of c tile → IsInBounds (bounds_of c tile) q → i ≡ (q.row - (bounds_of c tile).top) * (bounds_of c tile).cols + (q.col - (bounds_of c tile).left) → mark_among c floods q ≡ mark_with c.cols f i
+pub entry_mark : (c : Cutting) (floods : List Flood) (tile : ℕ) (f : Flood) (q : Place) (i : ℕ) → IsCutting c → tile < tile_count c → slice_get floods tile ≡ Some f → f.bounds ≡ bounds_of c tile → IsInBounds (bounds_of c tile) q → i ≡ index_in (bounds_of c tile) q → mark_among c floods q ≡ mark_with c.cols f i
 entry_mark c floods tile f q i h below e bounds inside at =
     let here = subst (λ (b : Bounds). IsInBounds b q) (sym bounds) inside in
-    let index : (q.row - f.bounds.top) * f.bounds.cols + (q.col - f.bounds.left) ≡ i = ap (λ (b : Bounds). (q.row - b.top) * b.cols + (q.col - b.left)) bounds ∙ sym at in
+    let index : index_in f.bounds q ≡ i = ap (λ (b : Bounds). index_in b q) bounds ∙ sym at in
     sym (mark_from_tile c floods tile f q e (in_tile c tile q h below inside).1)
     ∙ ap (λ o. mark_of c.cols o (label_in f q)) (entry_in-inside f.bounds f.levels q here)
-    ∙ ap (λ o. mark_of c.cols (get_or f.levels ((q.row - f.bounds.top) * f.bounds.cols + (q.col - f.bounds.left)) None) o) (entry_in-inside f.bounds f.labels q here)
+    ∙ ap (λ o. mark_of c.cols (get_or f.levels (index_in f.bounds q) None) o) (entry_in-inside f.bounds f.labels q here)
     ∙ ap (λ n. mark_with c.cols f n) index
 
 -- a cell with the same label gives no join
@@ -118,7 +118,7 @@ equal_after_adds cols f sources places cells i width now are inside e = elim (se
       same_label_adds cols f sources i j from now is (label i (omega (arith, inside)) ∙ ap (λ n. get_or places n None) (sym (e way 0 few)) ∙ sym (label j low))
 
 -- the joins of a cell that is not on the rim with the four after it have been added
-pub inner_adds : (c : Cutting) (floods : List Flood) (sources : List (Option ℤ)) (tile : ℕ) (f : Flood) (p : Place) (i : ℕ) (from : Mark) (old new : List Join) → IsCutting c → tile < tile_count c → slice_get floods tile ≡ Some f → f.bounds ≡ bounds_of c tile → IsInner (bounds_of c tile) p → i ≡ (p.row - (bounds_of c tile).top) * (bounds_of c tile).cols + (p.col - (bounds_of c tile).left) → mark_with c.cols f i ≡ Some from → AddsAfter c.cols f sources from i (bounds_of c tile).cols old new → Adds c floods sources tile (λ q. q ≡ p) old new
+pub inner_adds : (c : Cutting) (floods : List Flood) (sources : List (Option ℤ)) (tile : ℕ) (f : Flood) (p : Place) (i : ℕ) (from : Mark) (old new : List Join) → IsCutting c → tile < tile_count c → slice_get floods tile ≡ Some f → f.bounds ≡ bounds_of c tile → IsInner (bounds_of c tile) p → i ≡ index_in (bounds_of c tile) p → mark_with c.cols f i ≡ Some from → AddsAfter c.cols f sources from i (bounds_of c tile).cols old new → Adds c floods sources tile (λ q. q ≡ p) old new
 inner_adds c floods sources tile f p i from old new h below e bounds inner at is s =
     all_added c floods sources tile p old new
     (step 8 south east _ _ _ (omega (arith, inner)) (omega (arith, inner)) (omega arith) (omega (arith, inner)) (omega (arith, inner)) (omega (arith, at, inner, down))
@@ -150,7 +150,7 @@ inner_adds c floods sources tile f p i from old new h below e bounds inner at is
           same_row same_col few s a
 
 -- a cell that is not on the rim has its joins added, where it has a mark
-pub inner_cell_adds : (c : Cutting) (floods : List Flood) (sources : List (Option ℤ)) (tile : ℕ) (f : Flood) (p : Place) (i : ℕ) (old new : List Join) → IsCutting c → tile < tile_count c → slice_get floods tile ≡ Some f → f.bounds ≡ bounds_of c tile → IsInner (bounds_of c tile) p → i ≡ (p.row - (bounds_of c tile).top) * (bounds_of c tile).cols + (p.col - (bounds_of c tile).left) → MatchOption (mark_with c.cols f i) (new ≡ old) (λ from. AddsAfter c.cols f sources from i f.bounds.cols old new) → Adds c floods sources tile (λ q. q ≡ p) old new
+pub inner_cell_adds : (c : Cutting) (floods : List Flood) (sources : List (Option ℤ)) (tile : ℕ) (f : Flood) (p : Place) (i : ℕ) (old new : List Join) → IsCutting c → tile < tile_count c → slice_get floods tile ≡ Some f → f.bounds ≡ bounds_of c tile → IsInner (bounds_of c tile) p → i ≡ index_in (bounds_of c tile) p → MatchOption (mark_with c.cols f i) (new ≡ old) (λ from. AddsAfter c.cols f sources from i f.bounds.cols old new) → Adds c floods sources tile (λ q. q ≡ p) old new
 inner_cell_adds c floods sources tile f p i old new h below e bounds inner at s = elim (seen (mark_with c.cols f i)) [
   | inl none ↦
       let same = MatchOption-at_none _ _ none s in

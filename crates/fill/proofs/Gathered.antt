@@ -1,5 +1,5 @@
 -- The gathered joins and sources are those of the spill graph.
-use Rattle.std.proofs.Common.{◌≡◌, ◌≢◌, ℕ, ◌+◌, ◌-◌, ◌*◌, ◌/◌, ◌%◌, ◌<◌, ◌⊎◌, inl, inr, ◌&&◌, true, false, Bool, ℤ, ◌≤ℤ◌, List, [], length, get_or, Option, None, Some, is_some, ◌∙◌, sym, ap, subst, refl, arith}
+use Rattle.std.proofs.Common.{◌≡◌, ◌≢◌, ℕ, ◌-◌, ◌*◌, ◌/◌, ◌%◌, ◌<◌, ◌⊎◌, inl, inr, ◌&&◌, true, false, Bool, ℤ, ◌≤ℤ◌, List, [], length, get_or, Option, None, Some, is_some, ◌∙◌, sym, ap, subst, refl, arith}
 use Rattle.std.specs.List.{Contains, flat_map}
 use Rattle.std.proofs.lemmas.Bool.{cases_eq, cases_lt, cases_order, cases_Bool}
 use Rattle.std.proofs.lemmas.Nat.{div-mul-add, mod-mul-add, div-add-mod'}
@@ -10,10 +10,10 @@ use Rattle.terrain.specs.Raster.{Terrain}
 use Rattle.terrain.specs.Neighbours.{height_at, index_of, IsEdge, IsEnd, HasGapAround}
 use Rattle.terrain.specs.declared.place.Place.{Place}
 use Rattle.terrain.proofs.Places.{same_place, index_below, index_injective, gap_where}
-use Rattle.tiles.specs.Cutting.{Cutting, IsCutting, IsWithin, IsInTile, IsInBounds, bounds_of, tile_count, tile_of_place}
+use Rattle.tiles.specs.Cutting.{Cutting, IsCutting, IsWithin, IsInTile, IsInBounds, bounds_of, tile_count, tile_of_place, place_in, index_in}
 use Rattle.tiles.proofs.Cut.{tile_of_place_below, in_bounds}
 use Rattle.tiles.specs.declared.bounds.Bounds.{Bounds}
-use Rattle.tiles.proofs.TileOrder.{place_in, place_in_tile, index_in-place_in}
+use Rattle.tiles.proofs.TileOrder.{place_in_tile, index_in-place_in, entry_in-inside}
 use Rattle.fill.specs.TileFlood.{Flood, IsTileFlood, label_in}
 use Rattle.fill.specs.Spills.{AreFloods, level_among, label_among, Carries, IsPass, Graph, HasJoin, IsJoined, AreSpillSources, AreSourcesOf, IsGraphOf, IsOpenGraphOf}
 use Rattle.fill.specs.Gathering.{Fit, mark_among, Meets, Adds, IsAfter, IsBefore, AreRising, AreLowest, AreGathered, are_settled, turned, HasGapAmong, IsSpillSource, IsSourceEntry, AreSources, PutsSinks}
@@ -25,7 +25,7 @@ use Rattle.floods.proofs.Steps.{seen, none_some, none_done}
 use Rattle.floods.specs.CellJoins.{max_comm}
 use Rattle.floods.proofs.Heaps.{all_by_contains, not_some}
 use Rattle.floods.proofs.Windows.{data_is, height_is}
-use Rattle.fill.proofs.TileWindows.{data_within, entry_in-inside}
+use Rattle.fill.proofs.TileWindows.{data_within}
 use Rattle.drainage.proofs.Heights.{first_is_data, trans}
 use Rattle.drainage.proofs.Uniqueness.{between}
 use Rattle.fill.proofs.Rims.{HasTileLevel, has_tile_level, level_has_data, label_has_data, label_in_tile, source_level, end_label, list_there, among_is}
@@ -220,7 +220,7 @@ fit_labels t c tile f h below cuts flood k label e = elim (cases_lt k (length f.
       let i = place_in_tile c tile k h below (omega (arith, low, flood.labels_size)) in
       let at : label_in f p ≡ Some label =
       entry_in-inside f.bounds f.labels p (subst (λ b. IsInBounds b p) (sym flood.bounds) (in_bounds c tile p h i))
-      ∙ ap (λ (b : Bounds). get_or f.labels ((p.row - b.top) * b.cols + (p.col - b.left)) None) flood.bounds
+      ∙ ap (λ (b : Bounds). get_or f.labels (index_in b p) None) flood.bounds
       ∙ ap (λ n. get_or f.labels n None) (index_in-place_in (bounds_of c tile) k) ∙ e in
       elim (seen (height_at t p)) [
         | inl none ↦ none_some (label_in f p) label (MatchOption-at_none _ _ none (flood.each p i)).1 at

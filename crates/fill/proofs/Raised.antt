@@ -18,10 +18,10 @@ use Rattle.terrain.specs.declared.place.Place.{Place}
 use Rattle.terrain.proofs.Places.{make_place, entry-inside, index_injective, index_below}
 use Rattle.drainage.proofs.Heights.{filled_height_stands}
 use Rattle.tiles.specs.declared.bounds.Bounds.{Bounds}
-use Rattle.tiles.specs.Cutting.{Cutting, IsCutting, IsInBounds, IsInTile, IsWithin, bounds_of, cell_count, tile_count, tile_entry, tile_of_place, Cuts, View, terrain_of}
+use Rattle.tiles.specs.Cutting.{Cutting, IsCutting, IsInBounds, IsInTile, IsWithin, bounds_of, cell_count, tile_count, tile_entry, tile_of_place, Cuts, View, terrain_of, index_in}
 use Rattle.tiles.proofs.Cut.{in_bounds, in_tile, bounds_inside, tile_of_place_below}
 use Rattle.tiles.proofs.PutBack.{row_in_list}
-use Rattle.tiles.proofs.TileOrder.{tile_entry-in}
+use Rattle.tiles.proofs.TileOrder.{tile_entry-in, entry_in-inside, index_in_below}
 use Rattle.fill.specs.TileFlood.{Flood, level_in, label_in, IsTileFlood, levels_where}
 use Rattle.fill.specs.Spills.{AreFloods, level_among, AreSpillLevels, AreOpenLevels, spill_of, greater_of, raised_by, AreGreater, IsRaised, raised_among, AreRaisedBelow, IsFilledTile}
 use Rattle.fill.specs.RaisedTiles.{IsRaisedBy, IsRaisedTile}
@@ -31,7 +31,6 @@ use Rattle.fill.specs.Labels.{labels_by, IsTable}
 use Rattle.fill.proofs.Where.{levels_where-length, levels_where-at}
 use Rattle.fill.proofs.Gathered.{fit_of}
 use Rattle.floods.proofs.Steps.{seen, match_of, none_some}
-use Rattle.fill.proofs.TileWindows.{entry_in-inside, entry_index}
 use Rattle.fill.proofs.Rims.{has_tile_level, among_is, rims, list_there}
 use Rattle.std.specs.List.{Contains, All}
 use Rattle.std.proofs.lemmas.Option.{MatchOption-at_some, MatchOption-at_none, get_or_from_slice_get, slice_get-get_or, slice_get_within, same_Some}
@@ -137,11 +136,11 @@ raised_from_none c levels o l a = rw a refl
 
 -- what a flood and its tile's index say of a place of the tile
 pub raised_here : (c : Cutting) (floods : List Flood) (tile k : ℕ) (f : Flood) (levels : List (Option ℤ)) (p : Place) → IsCutting c → Fit c floods → slice_get floods tile ≡ Some f → IsInTile c tile p
-    → k ≡ (p.row - (bounds_of c tile).top) * (bounds_of c tile).cols + (p.col - (bounds_of c tile).left) → raised_by c levels (get_or f.levels k None) (get_or f.labels k None) ≡ raised_among c floods levels p
+    → k ≡ index_in (bounds_of c tile) p → raised_by c levels (get_or f.levels k None) (get_or f.labels k None) ≡ raised_among c floods levels p
 raised_here c floods tile k f levels p h fit there i at =
     let bounds = fit.bounds tile f there in
     let held : IsInBounds f.bounds p = subst (λ x. IsInBounds x p) (sym bounds) (in_bounds c tile p h i) in
-    let index : (p.row - f.bounds.top) * f.bounds.cols + (p.col - f.bounds.left) ≡ k = ap (λ (x : Bounds). (p.row - x.top) * x.cols + (p.col - x.left)) bounds ∙ sym at in
+    let index : index_in f.bounds p ≡ k = ap (λ (x : Bounds). index_in x p) bounds ∙ sym at in
     let level : level_in f p ≡ get_or f.levels k None = entry_in-inside f.bounds f.levels p held ∙ ap (λ n. get_or f.levels n None) index in
     let label : label_in f p ≡ get_or f.labels k None = entry_in-inside f.bounds f.labels p held ∙ ap (λ n. get_or f.labels n None) index in
     let own : slice_get floods (tile_of_place c p) ≡ Some f = ap (slice_get floods) i.1 ∙ there in
@@ -157,8 +156,8 @@ raised_tile c floods tile f levels raised h fit there is =
       is.size ∙ area,
       λ p i.
           let b = bounds_of c tile in
-          let k = (p.row - b.top) * b.cols + (p.col - b.left) in
-          let low : k < length f.levels = omega (arith, entry_index b p (in_bounds c tile p h i), area) in
+          let k = index_in b p in
+          let low : k < length f.levels = omega (arith, index_in_below b p (in_bounds c tile p h i), area) in
           tile_entry-in c tile raised p i ∙ is.each k low ∙ raised_here c floods tile k f levels p h fit there i refl,
     )
 
@@ -196,8 +195,8 @@ part_more c floods levels list row start index tile f b x h fit below there same
     let p = make_place row (b.left + (index - start)) in
     let inside : IsInBounds b p = (top, bottom, omega arith, omega (arith, from, end)) in
     let i = in_tile c tile p h below (subst (λ (z : Bounds). IsInBounds z p) same inside) in
-    let k : index ≡ (p.row - b.top) * b.cols + (p.col - b.left) = omega (arith, at, from) in
-    let own : index ≡ (p.row - (bounds_of c tile).top) * (bounds_of c tile).cols + (p.col - (bounds_of c tile).left) = k ∙ ap (λ (z : Bounds). (p.row - z.top) * z.cols + (p.col - z.left)) same in
+    let k : index ≡ index_in b p = omega (arith, at, from) in
+    let own : index ≡ index_in (bounds_of c tile) p = k ∙ ap (λ (z : Bounds). index_in z p) same in
     subst (λ n. AreRaisedBelow c floods levels n (list ++ x ∷ [])) (omega (arith, from))
     (raised_more c floods levels list p _ x i.0 refl (is ∙ ap cell_of (raised_here c floods tile index f levels p h fit there i own)) raised)
 

@@ -1,6 +1,6 @@
 -- Floods of the net of a tile.
 use Rattle.std.proofs.Common.{◌≡◌, ℕ, ◌+◌, ◌-◌, ◌*◌, ◌<◌, inl, inr, ℤ, List, [], ◌∷◌, length, get_or, Option, None, is_some, ◌∙◌, sym, ap, arith, true, map, Some, subst, refl, take, zero, suc}
-use Rattle.std.proofs.lemmas.Bool.{or_cases, or_left, or_right, cond-true, cond-false, eqb-true, eq-eqb, cases_Bool, cases_lt}
+use Rattle.std.proofs.lemmas.Bool.{or_cases, or_left, or_right, eqb-true, eq-eqb, cases_lt}
 use Rattle.std.proofs.lemmas.Nat.{mul-add-lt, div-mul-add, mod-mul-add}
 use Rattle.std.proofs.lemmas.List.{get_or-map, length-map, get_or_past, get_or_append_left, get_or-append_right, get_or-drop, get_or-take, length-take}
 use Rattle.std.proofs.lemmas.Slice.{between_is}
@@ -9,7 +9,7 @@ use Rattle.terrain.specs.Neighbours.{height_at, IsDataCell}
 use Rattle.terrain.specs.declared.place.Place.{Place}
 use Rattle.terrain.proofs.Places.{same_place}
 use Rattle.drainage.proofs.Reach.{data_inside}
-use Rattle.tiles.specs.Cutting.{IsInBounds, Cutting, IsCutting, AreBounds, IsInTile, IsWithin, tile_count, bounds_of, is_on_rim, is_first_or_last, is_in_bounds}
+use Rattle.tiles.specs.Cutting.{IsInBounds, Cutting, IsCutting, AreBounds, IsInTile, IsWithin, tile_count, bounds_of, is_on_rim, is_first_or_last, entry_in}
 use Rattle.floods.specs.Walk.{IsFlooded, IsWalk, end_of}
 use Rattle.floods.specs.Cells.{Cells, node_at, IsNetOf, IsCellJoin, source_of, inner_rows, place_of_node}
 use Rattle.floods.proofs.Steps.{seen, match_of, none_some}
@@ -18,24 +18,12 @@ use Rattle.floods.specs.Notes.{height_or_lack, label_of, numbered_labels}
 use Rattle.floods.proofs.Windows.{IsOnRim, IsWindowSource, IsWindowPath, IsWindowLevel, end_is_source, window_level, window_none}
 use Rattle.std.proofs.lemmas.Option.{MatchOption-at_some, MatchOption-at_none, same_Some}
 use Rattle.tiles.specs.declared.bounds.Bounds.{Bounds}
-use Rattle.tiles.proofs.Cut.{in_bounds_parts, in_bounds_from, in_bounds, in_tile, bounds_inside}
+use Rattle.tiles.proofs.Cut.{in_bounds, in_tile, bounds_inside}
+use Rattle.tiles.proofs.TileOrder.{index_in_below, entry_in-inside}
 use Rattle.floods.specs.declared.net.Spill.{Spill}
 use Rattle.floods.specs.CellJoins.{join_inside}
 use Rattle.fill.specs.Labels.{label_of_node, AreNodesBelow}
-use Rattle.fill.specs.TileFlood.{IsTileSource, IsTilePath, IsTileLevel, Flood, entry_in, IsFlood, IsTileFlood}
-
--- what lists in the row order of bounds have there
-pub entry_in-inside : {X : Type 0} (b : Bounds) (xs : List (Option X)) (p : Place) → IsInBounds b p → entry_in b xs p ≡ get_or xs ((p.row - b.top) * b.cols + (p.col - b.left)) None
-entry_in-inside b xs p h = cond-true _ _ _ (in_bounds_from b p h)
-
-pub bounds_from_entry : {X : Type 0} (b : Bounds) (xs : List (Option X)) (p : Place) (x : X) → entry_in b xs p ≡ Some x → IsInBounds b p
-bounds_from_entry b xs p x e = elim (cases_Bool (is_in_bounds b p)) [
-  | inl inside ↦ in_bounds_parts b p inside
-  | inr outside ↦ none_some _ x (cond-false _ _ _ outside) e
-]
-
-pub entry_index : (b : Bounds) (p : Place) → IsInBounds b p → (p.row - b.top) * b.cols + (p.col - b.left) < b.rows * b.cols
-entry_index b p h = omega (arith, mul-add-lt (p.row - b.top) b.cols (p.col - b.left) b.rows (omega (arith, h)) (omega (arith, h)))
+use Rattle.fill.specs.TileFlood.{IsTileSource, IsTilePath, IsTileLevel, Flood, IsFlood, IsTileFlood}
 
 pub rim_of_tile : (c : Cutting) (tile : ℕ) (p : Place) → IsInTile c tile p → IsOnRim (bounds_of c tile) p → is_on_rim c p ≡ true
 rim_of_tile c tile p i rim = subst (λ n. is_first_or_last (bounds_of c n) p ≡ true) (sym i.1) (at rim) where
@@ -111,7 +99,7 @@ inner_entry b list p size i =
 mapped_entry : (b : Bounds) (xs : List (Option ℕ)) (p : Place) → length xs ≡ b.rows * b.cols → IsInBounds b p → entry_in b (map (label_of_node b) xs) p ≡ label_of_node b (entry_in b xs p)
 mapped_entry b xs p size i =
     entry_in-inside b (map (label_of_node b) xs) p i
-    ∙ get_or-map (label_of_node b) xs _ None None (omega (arith, size, entry_index b p i))
+    ∙ get_or-map (label_of_node b) xs _ None None (omega (arith, size, index_in_below b p i))
     ∙ ap (label_of_node b) (sym (entry_in-inside b xs p i))
 
 -- The lists of a flood of a tile, from those of its net.

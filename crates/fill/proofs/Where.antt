@@ -1,15 +1,13 @@
 -- Levels stand where labels do.
-use Rattle.std.proofs.Common.{◌≡◌, ℕ, zero, suc, ◌+◌, ◌-◌, ◌*◌, ◌/◌, ◌%◌, ◌<◌, inl, inr, ℤ, pos, List, [], ◌∷◌, map, length, get_or, Option, None, Some, is_some, option_map, sym, ap, subst, ◌∙◌, refl, arith}
+use Rattle.std.proofs.Common.{◌≡◌, ℕ, zero, suc, ◌+◌, ◌-◌, ◌*◌, ◌<◌, inl, inr, ℤ, pos, List, [], ◌∷◌, map, length, get_or, Option, None, Some, is_some, option_map, sym, ap, subst, ◌∙◌, refl, arith}
 use Rattle.std.proofs.lemmas.Bool.{cases_lt}
 use Rattle.std.proofs.lemmas.List.{get_or_past, length-map}
-use Rattle.std.proofs.lemmas.Nat.{div-add-mod', mod_below, div_below}
 use Rattle.std.proofs.lemmas.Option.{MatchOption-at_some, MatchOption-at_none}
 use Rattle.terrain.specs.Raster.{Terrain}
 use Rattle.terrain.specs.Neighbours.{height_at}
 use Rattle.terrain.specs.declared.place.Place.{Place}
-use Rattle.terrain.proofs.Places.{make_place}
 use Rattle.tiles.specs.declared.bounds.Bounds.{Bounds}
-use Rattle.tiles.specs.Cutting.{Cutting, IsCutting, IsInBounds, tile_count}
+use Rattle.tiles.specs.Cutting.{Cutting, IsCutting, IsInBounds, tile_count, index_in, place_in}
 use Rattle.tiles.proofs.Cut.{in_tile}
 use Rattle.floods.specs.Cells.{inner_rows}
 use Rattle.floods.proofs.Steps.{seen}
@@ -17,7 +15,7 @@ use Rattle.floods.proofs.Nets.{length-inner_rows}
 use Rattle.fill.specs.Labels.{labels_by, label_of_node}
 use Rattle.fill.specs.TileFlood.{Flood, IsFlood, IsTileFlood, level_in, label_in, levels_where}
 use Rattle.floods.specs.Notes.{height_or_lack}
-use Rattle.fill.proofs.TileWindows.{entry_in-inside}
+use Rattle.tiles.proofs.TileOrder.{entry_in-inside, place_in_bounds, index_in-place_in}
 
 pub levels_where-length : (labels : List (Option Place)) (heights : List ℤ) → length labels ≡ length heights → length (levels_where labels heights) ≡ length labels
 levels_where-length [] heights e = refl
@@ -61,16 +59,9 @@ both_stand t c tile f h l is sound i = elim (cases_lt i (f.bounds.rows * f.bound
     within : (b : Bounds) → b ≡ f.bounds → i < b.rows * b.cols → is_some (get_or f.labels i None) ≡ is_some (get_or f.levels i None)
     within b e low =
         let wide : 0 < b.cols = some_below i b.rows b.cols low in
-        let col = mod_below i b.cols wide in
-        let split = div-add-mod' i b.cols in
-        let row = div_below i b.cols b.rows wide low in
-        let p = make_place (b.top + i / b.cols) (b.left + i % b.cols) in
-        let inside : IsInBounds b p = (omega arith, omega (arith, row), omega arith, omega (arith, col)) in
-        let row_is : p.row - b.top ≡ i / b.cols = omega arith in
-        let col_is : p.col - b.left ≡ i % b.cols = omega arith in
-        let index : (p.row - b.top) * b.cols + (p.col - b.left) ≡ i = ap (λ n. n * b.cols + (p.col - b.left)) row_is ∙ omega (arith, split, col_is) in
-        let held = subst (λ (x : Bounds). IsInBounds x p) e inside in
-        let there : (p.row - f.bounds.top) * f.bounds.cols + (p.col - f.bounds.left) ≡ i = ap (λ (x : Bounds). (p.row - x.top) * x.cols + (p.col - x.left)) (sym e) ∙ index in
+        let p = place_in b i in
+        let held = subst (λ (x : Bounds). IsInBounds x p) e (place_in_bounds b i wide low) in
+        let there : index_in f.bounds p ≡ i = ap (λ (x : Bounds). index_in x p) (sym e) ∙ index_in-place_in b i in
         let label : label_in f p ≡ get_or f.labels i None = entry_in-inside f.bounds f.labels p held ∙ ap (λ n. get_or f.labels n None) there in
         let level : level_in f p ≡ get_or f.levels i None = entry_in-inside f.bounds f.levels p held ∙ ap (λ n. get_or f.levels n None) there in
         let each = is.each p (in_tile c tile p h l (subst (λ (x : Bounds). IsInBounds x p) is.bounds held)) in

@@ -1,5 +1,5 @@
 -- Levels and labels inside one tile.
-use Rattle.std.specs.Prelude.{◌≡◌, ℕ, ◌+◌, ◌-◌, ◌*◌, ◌≤◌, ◌<◌, ◌⊎◌, ℤ, ◌≤ℤ◌, if◌then◌else◌, List, [], ◌∷◌, length, Option, None, Some, IsTrue, MatchOption, option_map, slice_index_or}
+use Rattle.std.specs.Prelude.{◌≡◌, ℕ, ◌+◌, ◌-◌, ◌*◌, ◌≤◌, ◌<◌, ◌⊎◌, ℤ, ◌≤ℤ◌, List, [], ◌∷◌, length, Option, None, Some, IsTrue, MatchOption, option_map, slice_index_or}
 use Rattle.std.specs.List.{All}
 use Rattle.terrain.specs.Raster.{Terrain}
 use Rattle.terrain.specs.Neighbours.{height_at, IsDataCell, IsNeighbour, IsEnd}
@@ -7,7 +7,7 @@ use Rattle.drainage.specs.Filled.{crest}
 use Rattle.terrain.specs.declared.place.Place.{Place}
 use Rattle.tiles.specs.declared.bounds.Bounds.{Bounds}
 use Rattle.floods.specs.Cells.{last_of}
-use Rattle.tiles.specs.Cutting.{Cutting, IsWithin, tile_of_place, bounds_of, is_on_rim, is_in_bounds, IsInTile, cell_count}
+use Rattle.tiles.specs.Cutting.{Cutting, IsWithin, tile_of_place, bounds_of, is_on_rim, entry_in, IsInTile, cell_count}
 
 -- A data cell on the rim of its tile, or an end cell.
 abbrev pub IsTileSource : Terrain → Cutting → Place → Type 0
@@ -36,11 +36,6 @@ abbrev pub levels_where : List (Option Place) → List ℤ → List (Option ℤ)
 levels_where [] heights = []
 levels_where (label ∷ labels) [] = []
 levels_where (label ∷ labels) (height ∷ heights) = option_map (λ _. height) label ∷ levels_where labels heights
-
--- The entry of a place in a list in the row order of these bounds, None outside.
-abbrev pub entry_in : {X : Type 0} → Bounds → List (Option X) → Place → Option X
-entry_in b entries p =
-    if is_in_bounds b p then slice_index_or entries ((p.row - b.top) * b.cols + (p.col - b.left)) None else None
 
 abbrev pub level_in : Flood → Place → Option ℤ
 level_in f p = entry_in f.bounds f.levels p

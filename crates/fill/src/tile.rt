@@ -1,8 +1,8 @@
 // Flooding of one tile.
-ghost use Rattle.std.specs.Prelude.{◌≡◌, ◌≤◌, ◌+◌, IfOk, IfSome, length, true, false, MatchOption, None, is_none, slice_index_or, ◌*◌, ◌-◌, ◌<◌};
+ghost use Rattle.std.specs.Prelude.{◌≡◌, IfOk, length, true, false, MatchOption, None, is_none, slice_index_or, ◌-◌, ◌<◌};
 ghost use Rattle.std.specs.Bool.{OnTrue};
 ghost use Rattle.terrain.specs.Sinks.{with_sinks};
-ghost use Rattle.tiles.specs.Cutting.{terrain_of, is_in_bounds};
+ghost use Rattle.tiles.specs.Cutting.{terrain_of, is_in_bounds, index_in};
 ghost use Rattle.fill.specs.Labels.{labels_by};
 ghost use Rattle.fill.specs.TileFlood.{IsFlood, IsTileFlood, level_in, label_in, levels_where};
 
@@ -67,18 +67,13 @@ impl TileFlood {
     #[inline(always)]
     pub(crate) fn index_of(&self, place: Place) -> Option<usize>
         ensures { MatchOption result (is_in_bounds self.now.bounds place ≡ false) (λ index. (is_in_bounds self.now.bounds place ≡ true)
-            × (index ≡ (place.row - self.now.bounds.top) * self.now.bounds.cols + (place.col - self.now.bounds.left)) × (index < length self.now.labels)) }
+            × (index ≡ index_in self.now.bounds place) × (index < length self.now.labels)) }
     {
-        if !self.bounds.contains(place) {
-            return None;
+        if self.bounds.contains(place) {
+            Some(self.bounds.index_of(place))
+        } else {
+            None
         }
-        let Bounds {
-            top,
-            left,
-            cols,
-            ..
-        } = self.bounds;
-        Some((place.row - top) as usize * cols as usize + (place.col - left) as usize)
     }
 
     /// The level of the cell with this index in the tile's row order.

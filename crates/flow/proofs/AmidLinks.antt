@@ -6,11 +6,11 @@ use Rattle.terrain.specs.Ways.{place_toward}
 use Rattle.terrain.specs.declared.place.Place.{Place}
 use Rattle.terrain.proofs.Places.{make_place, same_place}
 use Rattle.tiles.specs.declared.bounds.Bounds.{Bounds}
-use Rattle.tiles.specs.Cutting.{IsInBounds, is_in_bounds}
+use Rattle.tiles.specs.Cutting.{IsInBounds, is_in_bounds, index_in, place_in}
 use Rattle.tiles.proofs.Cut.{in_bounds_from}
 use Rattle.drainage.specs.CodeNumber.{IsCode}
 use Rattle.flow.specs.CodeSteps.{leads_east, leads_south, leads_west, leads_north}
-use Rattle.flow.specs.TileLinks.{IsAmid, index_in, link_by, place_in}
+use Rattle.flow.specs.TileLinks.{IsAmid, link_by}
 use Rattle.flow.proofs.CodeMasks.{cases_code}
 use Rattle.flow.proofs.Listed.{place_in_row}
 

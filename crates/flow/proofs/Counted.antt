@@ -7,14 +7,14 @@ use Rattle.std.proofs.lemmas.Option.{slice_get_within}
 use Rattle.std.proofs.lemmas.List.FromFn.{get_or-map-range_with_len, length-map-range_with_len}
 use Rattle.terrain.specs.declared.place.Place.{Place}
 use Rattle.tiles.specs.declared.bounds.Bounds.{Bounds}
-use Rattle.tiles.specs.Cutting.{Cutting, IsInBounds, IsInTile, AreBounds, tile_count, cell_count, bounds_of, tile_entry}
+use Rattle.tiles.specs.Cutting.{Cutting, IsInBounds, IsInTile, AreBounds, tile_count, cell_count, bounds_of, tile_entry, place_in, index_in}
 use Rattle.tiles.proofs.Cut.{in_bounds, bounds_inside}
 use Rattle.tiles.proofs.TileOrder.{index_in_below, index_in-place_in, place_in-index_in, tile_entry-in}
 use Rattle.drainage.specs.Following.{Directed, code_at}
 use Rattle.flow.specs.Counts.{accumulation, IsValueAt}
 use Rattle.flow.specs.Streams.{AreStreams, AreUpstream, total}
 use Rattle.flow.specs.TileFlow.{Flow, IsTileExits, AreTileCounts}
-use Rattle.flow.specs.TileLinks.{AreTileCodes, place_in, index_in, links_by, weights_by, where_data}
+use Rattle.flow.specs.TileLinks.{AreTileCodes, links_by, weights_by, where_data}
 use Rattle.flow.specs.Whole.{IsGridFlow, make_directed}
 use Rattle.flow.specs.Inflows.{Inflows, AreInflows, inflow_in}
 use Rattle.flow.specs.RimGraph.{AreFlowsOf}

@@ -5,14 +5,13 @@ use Rattle.std.proofs.lemmas.Bool.{and_from, and_left, and_right, eq-eqb, cond-t
 use Rattle.terrain.specs.Ways.{places}
 use Rattle.std.specs.List.{sum_by, list_any, range_with_len}
 use Rattle.terrain.specs.declared.place.Place.{Place}
-use Rattle.tiles.specs.Cutting.{Cutting, tile_of_place}
+use Rattle.tiles.specs.Cutting.{Cutting, tile_of_place, place_in, index_in}
 use Rattle.tiles.proofs.TileOrder.{index_in-place_in}
 use Rattle.drainage.specs.Following.{Directed, code_at, follow, moves}
 use Rattle.terrain.proofs.Listed.{is_place_from, place_is}
 use Rattle.flow.specs.Counts.{is_place, drains_through, accumulation}
 use Rattle.flow.specs.Streams.{sum_below}
 use Rattle.flow.specs.TileFlow.{stays, reaches_inside, through_of, inflow_of}
-use Rattle.flow.specs.TileLinks.{place_in, index_in}
 use Rattle.flow.proofs.Sums.{bit_le, sum_below-except, sum_below-few}
 use Rattle.flow.proofs.Windows.{any_in_range, all_in_range, whole_bounds, sum_of_cells}
 use Rattle.flow.proofs.Coded.{IsCoded}

@@ -5,14 +5,13 @@ use Rattle.std.proofs.lemmas.Bool.{cases_eq, cases_Bool, cond-true, cond-false, 
 use Rattle.std.proofs.Math.Nat.{mul-le-mul}
 use Rattle.terrain.specs.declared.place.Place.{Place}
 use Rattle.tiles.specs.declared.bounds.Bounds.{Bounds}
-use Rattle.tiles.specs.Cutting.{Cutting, IsCutting, IsWithin, IsInTile, IsInBounds, AreBounds, tile_of_place, is_in_bounds}
+use Rattle.tiles.specs.Cutting.{Cutting, IsCutting, IsWithin, IsInTile, IsInBounds, AreBounds, tile_of_place, is_in_bounds, place_in, index_in}
 use Rattle.tiles.proofs.TileOrder.{place_in_bounds, index_in_below, index_in-place_in, place_in-index_in}
 use Rattle.drainage.specs.Following.{Directed, code_at, next, follow, moves, last_of}
 use Rattle.drainage.specs.Drained.{AllFlowEnds}
 use Rattle.tiles.proofs.Cut.{in_bounds_parts, in_bounds_from}
 use Rattle.flow.specs.Streams.{AreStreams, onward, node_after, end_of}
 use Rattle.flow.specs.TileFlow.{stays, IsExitOf}
-use Rattle.flow.specs.TileLinks.{place_in, index_in}
 use Rattle.flow.proofs.Ending.{IsStop, inside_along, streams_from, early_end, node_stays}
 use Rattle.flow.proofs.Coded.{IsCoded, cases_coded, none_stays, outlet_stays, coded_inside, coded_along, outlet_from_stays}
 use Rattle.flow.proofs.Windows.{all_in_range}

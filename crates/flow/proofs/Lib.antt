@@ -19,7 +19,6 @@ pub mod Listed
 pub mod CodeMasks
 pub mod AmidLinks
 -- from tile to tile over the rims
-pub mod RimNumbered
 pub mod RimFlows
 pub mod RimTotals
 pub mod RimInflows

@@ -10,13 +10,13 @@ use Rattle.terrain.specs.declared.place.Place.{Place}
 use Rattle.tiles.specs.declared.bounds.Bounds.{Bounds}
 use Rattle.tiles.proofs.TileOrder.{index_in-place_in, place_in-index_in}
 use Rattle.flow.specs.TileFlow.{Flow, directed_by}
-use Rattle.flow.specs.TileLinks.{place_in, index_in, where_data, through_by, exits_by}
+use Rattle.flow.specs.TileLinks.{where_data, through_by, exits_by}
 use Rattle.flow.specs.RimGraph.{Outlets, outlet_in}
 use Rattle.flow.specs.Numbering.{IsExitOfTile, number_at, label_by}
 use Rattle.std.proofs.Math.Nat.{suc-mul}
 use Rattle.std.proofs.lemmas.Nat.{div-mul-add, mod-mul-add}
 use Rattle.terrain.proofs.Places.{make_place, same_place, entry-inside}
-use Rattle.tiles.specs.Cutting.{View, AreBounds, bounds_of, row_shown}
+use Rattle.tiles.specs.Cutting.{View, AreBounds, bounds_of, row_shown, place_in, index_in}
 use Rattle.drainage.specs.Following.{code_at}
 use Rattle.tiles.proofs.TileRows.{row_has}
 

@@ -12,13 +12,12 @@ use Rattle.terrain.specs.Stored.{stored_count_some}
 use Rattle.terrain.specs.declared.place.Place.{Place}
 use Rattle.terrain.proofs.Places.{index_below}
 use Rattle.tiles.specs.declared.bounds.Bounds.{Bounds}
-use Rattle.tiles.specs.Cutting.{Cutting, IsInBounds, IsInTile, IsWithin, tile_count, cell_count, tile_entry}
+use Rattle.tiles.specs.Cutting.{Cutting, IsInBounds, IsInTile, IsWithin, tile_count, cell_count, tile_entry, place_in, index_in}
 use Rattle.tiles.proofs.Cut.{in_bounds, in_bounds_from}
 use Rattle.tiles.proofs.TileOrder.{place_in_tile, index_in-place_in, index_in_below, tile_entry-in}
 use Rattle.drainage.specs.Following.{Directed, code_at, last_of}
 use Rattle.flow.specs.Counts.{basin, IsValueAt}
 use Rattle.flow.specs.TileFlow.{Flow, exit_in, IsTileExits, IsExitOf, IsExitCell}
-use Rattle.flow.specs.TileLinks.{place_in, index_in}
 use Rattle.flow.specs.Whole.{IsGridFlow, is_outlet_code, make_directed}
 use Rattle.flow.specs.RimGraph.{AreFlowsOf, AreOutlets, Outlets, outlet_in}
 use Rattle.flow.specs.Numbering.{IsNumbering, IsReady, AreReady, IsExitOfTile, number_at, label_by, labels_by, label_at, numbered_by}

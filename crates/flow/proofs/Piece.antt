@@ -7,14 +7,14 @@ use Rattle.std.proofs.lemmas.List.{get_or-map}
 use Rattle.std.proofs.lemmas.List.FromFn.{get_or-map-range_with_len, length-map-range_with_len}
 use Rattle.terrain.specs.declared.place.Place.{Place}
 use Rattle.tiles.specs.declared.bounds.Bounds.{Bounds}
-use Rattle.tiles.specs.Cutting.{Cutting, IsCutting, longest_axis, View, IsView, AreBounds, IsInBounds, bounds_of, tile_count}
+use Rattle.tiles.specs.Cutting.{Cutting, IsCutting, longest_axis, View, IsView, AreBounds, IsInBounds, bounds_of, tile_count, place_in, index_in, entry_in}
 use Rattle.tiles.proofs.Cut.{places_from_value, in_bounds, bounds_inside, in_bounds_from}
-use Rattle.tiles.proofs.TileOrder.{place_in_tile, index_in-place_in, index_in_below, place_in-index_in}
+use Rattle.tiles.proofs.TileOrder.{place_in_tile, index_in-place_in, index_in_below, place_in-index_in, entry_in-inside}
 use Rattle.drainage.specs.Following.{Directed, code_at}
 use Rattle.drainage.specs.Drained.{AllFlowEnds}
 use Rattle.flow.specs.Streams.{AreStreams, AreUpstream, AreEnds, end_of, total}
-use Rattle.flow.specs.TileFlow.{Flow, directed_by, entry_in, through_in, through_of, IsExitOf, IsFlow, IsTileExits, IsTileCounts}
-use Rattle.flow.specs.TileLinks.{place_in, index_in, link_by, AreTileCodes, IsSmall, links_by, weights_by, where_data, through_by, ends_by, rim_ends_by, exits_by, flow_by, AreFlowLists}
+use Rattle.flow.specs.TileFlow.{Flow, directed_by, through_in, through_of, IsExitOf, IsFlow, IsTileExits, IsTileCounts}
+use Rattle.flow.specs.TileLinks.{link_by, AreTileCodes, IsSmall, links_by, weights_by, where_data, through_by, ends_by, rim_ends_by, exits_by, flow_by, AreFlowLists}
 use Rattle.flow.proofs.Totals.{total_is}
 use Rattle.flow.proofs.Reaching.{IsEnding, ending_of}
 use Rattle.flow.proofs.Gathering.{all_gathered, gathered_few, through_is as gathered_through}
@@ -22,10 +22,8 @@ use Rattle.flow.proofs.Coded.{IsCoded, cases_coded}
 use Rattle.flow.proofs.InTile.{AreTileLinks, AreTileWeights, IsPiece, tile_streams, exit_is}
 use Rattle.flow.proofs.TileTotals.{own_totals}
 
-pub small_from : {X : Type 0} (v : View X) (b : Bounds) → AreBounds v.cutting b → IsView v → IsSmall b
-small_from v b a w =
-    let r = w.cutting.few_rows in let k = w.cutting.few_cols in let s = a.rows_inside in let t = a.cols_inside in
-    record { some_col = a.some_col; few_rows = omega arith; few_cols = omega arith }
+pub small_bounds : (t : Cutting) (b : Bounds) → IsCutting t → AreBounds t b → IsSmall b
+small_bounds t b h a = record { some_col = a.some_col; few_rows = omega (arith, h.few_rows, a.rows_inside); few_cols = omega (arith, h.few_cols, a.cols_inside) }
 
 pub links_from : (d : Directed) (b : Bounds) (cells : List (Option ℕ)) → AreTileCodes d b cells → AreTileLinks d b (links_by b cells)
 links_from d b cells codes = record {
@@ -118,7 +116,7 @@ module _ (v : View (Option ℕ)) (b : Bounds) (cells : List (Option ℕ)) (links
   streams = tile_streams (directed_by v) v.cutting v.tile b links piece
 
   pub few : length links ≤ 2 ^ 24
-  few = let small = small_from v b s.inside s.lawful in omega (arith, piece.made.size, few_cells b small.few_rows small.few_cols)
+  few = let small = small_bounds v.cutting b s.lawful.cutting s.inside in omega (arith, piece.made.size, few_cells b small.few_rows small.few_cols)
 
   ending : IsEnding (directed_by v)
   ending = ending_of (directed_by v) v.cutting s.ends s.lawful.cutting (refl, refl)
@@ -132,9 +130,6 @@ module _ (v : View (Option ℕ)) (b : Bounds) (cells : List (Option ℕ)) (links
   pub sizes : length links ≡ length cells
   sizes = piece.made.size ∙ sym s.codes.size
 
-  pub entry_is : {X : Type 0} (entries : List (Option X)) (p : Place) → IsInBounds b p → entry_in b entries p ≡ get_or entries (index_in b p) None
-  entry_is entries p h = cond-true _ _ _ (in_bounds_from b p h)
-
   in_cells : (p : Place) → IsInBounds b p → index_in b p < length cells
   in_cells p h = omega (arith, index_in_below b p h, s.codes.size)
 
@@ -147,7 +142,7 @@ module _ (v : View (Option ℕ)) (b : Bounds) (cells : List (Option ℕ)) (links
 
     pub through_is : (p : Place) → IsInBounds b p → entry_in b (through_by cells came) p ≡ where_data (code_at (directed_by v) p) (get_or came (index_in b p) 0)
     through_is p h =
-        entry_is (through_by cells came) p h
+        entry_in-inside b (through_by cells came) p h
         ∙ get_or-map-range_with_len (λ i. where_data (get_or cells i None) (get_or came i 0)) 0 (length came) (index_in b p) (index_in b p) None (omega (arith, in_cells p h, came_size)) (omega arith)
         ∙ ap (λ o. where_data o (get_or came (index_in b p) 0)) (code_is p h)
 
@@ -169,7 +164,7 @@ module _ (v : View (Option ℕ)) (b : Bounds) (cells : List (Option ℕ)) (links
   module _ (ends : List ℕ) (last : AreEnds links ends) where
     exit_entry : (p : Place) → IsInBounds b p → entry_in b (exits_by b cells ends) p ≡ where_data (code_at (directed_by v) p) (place_in b (get_or ends (index_in b p) 0))
     exit_entry p h =
-        entry_is (exits_by b cells ends) p h
+        entry_in-inside b (exits_by b cells ends) p h
         ∙ get_or-map-range_with_len (λ i. where_data (get_or cells i None) (place_in b (get_or ends i 0))) 0 (length cells) (index_in b p) (index_in b p) None (in_cells p h) (omega arith)
         ∙ ap (λ o. where_data o (place_in b (get_or ends (index_in b p) 0))) (code_is p h)
 
@@ -184,7 +179,7 @@ module _ (v : View (Option ℕ)) (b : Bounds) (cells : List (Option ℕ)) (links
 
     pub flow_lawful : (came : List ℕ) → IsFlow (flow_by b cells came ends)
     flow_lawful came =
-        let small = small_from v b s.inside s.lawful in
+        let small = small_bounds v.cutting b s.lawful.cutting s.inside in
         record {
           some_col = small.some_col;
           few_rows = small.few_rows;
@@ -197,7 +192,7 @@ module _ (v : View (Option ℕ)) (b : Bounds) (cells : List (Option ℕ)) (links
     exits_are came = record {
       bounds = s.bounds;
       lawful = flow_lawful came;
-      same_codes = λ p i. (let h = (piece.places p).0 i in entry_is cells p h ∙ code_is p h);
+      same_codes = λ p i. (let h = (piece.places p).0 i in entry_in-inside b cells p h ∙ code_is p h);
       each = λ p i. (let h = (piece.places p).0 i in
           elim (cases_coded (directed_by v) p) [
             | inl none ↦ match_none (code_at (directed_by v) p) _ _ none (exit_entry p h ∙ ap (λ o. where_data o (place_in b (get_or ends (index_in b p) 0))) none)

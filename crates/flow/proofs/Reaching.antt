@@ -5,14 +5,13 @@ use Rattle.std.proofs.lemmas.Bool.{cases_eq, cases_lt, cases_order, and_from, an
 use Rattle.terrain.specs.Neighbours.{index_of}
 use Rattle.terrain.specs.declared.place.Place.{Place}
 use Rattle.terrain.proofs.Places.{index_below, index_injective}
-use Rattle.tiles.specs.Cutting.{Cutting, IsCutting, IsInBounds, tile_of_place}
+use Rattle.tiles.specs.Cutting.{Cutting, IsCutting, IsInBounds, tile_of_place, place_in, index_in}
 use Rattle.tiles.proofs.TileOrder.{place_in-index_in, index_in_below}
 use Rattle.drainage.specs.Following.{Directed, next, follow, moves, last_of}
 use Rattle.drainage.specs.Drained.{AllFlowEnds}
 use Rattle.terrain.proofs.Listed.{place_is, is_place_from}
 use Rattle.flow.specs.Counts.{is_place, drains_through}
 use Rattle.flow.specs.TileFlow.{stays}
-use Rattle.flow.specs.TileLinks.{place_in, index_in}
 use Rattle.flow.proofs.Windows.{whole_bounds, some_in_range, any_in_range, every_in_range, all_in_range}
 use Rattle.flow.proofs.Ending.{early_stop}
 use Rattle.flow.proofs.Coded.{IsCoded, coded_along, coded_inside, outlet_stays, follow_stays, follow_more, StopsAt, cycle_stops}

@@ -3,19 +3,18 @@ use Rattle.std.proofs.Common.{◌≡◌, ℕ, ◌+◌, ◌*◌, ◌^◌, ◌<◌
 use Rattle.std.proofs.lemmas.Bool.{cases_Bool, and_from, and_parts, and_left, and_right, eq-eqb, ne_eqb, eqb-true, lt-ltb, cond-true, cond-false, false_from_ne_true, false≢true}
 use Rattle.terrain.specs.declared.place.Place.{Place}
 use Rattle.tiles.specs.declared.bounds.Bounds.{Bounds}
-use Rattle.tiles.specs.Cutting.{Cutting, IsCutting, IsWithin, is_within, IsInTile, IsInBounds, AreBounds, bounds_of, tile_count, tile_of_place, is_in_bounds}
+use Rattle.tiles.specs.Cutting.{Cutting, IsCutting, IsWithin, is_within, IsInTile, IsInBounds, AreBounds, bounds_of, tile_count, tile_of_place, is_in_bounds, place_in, index_in}
 use Rattle.tiles.proofs.Cut.{in_bounds, in_tile, in_bounds_parts, in_bounds_from}
 use Rattle.tiles.proofs.TileOrder.{index_in_below, place_in-index_in}
 use Rattle.terrain.proofs.Listed.{is_place_from, place_is}
 use Rattle.flow.specs.Counts.{is_place}
 use Rattle.flow.specs.Streams.{sum_below}
-use Rattle.flow.specs.TileLinks.{place_in, index_in, IsSmall}
-use Rattle.flow.specs.RimNumbers.{stride, side_number, rim_number, rim_place}
+use Rattle.tiles.specs.RimNumbers.{stride, side_number, rim_number, rim_place}
 use Rattle.flow.specs.RimGraph.{stands_for}
 use Rattle.flow.specs.Inflows.{adds, inflow_by}
 use Rattle.flow.proofs.Sums.{sum_more, sum_below-part, one_term}
 use Rattle.flow.proofs.Sending.{added_at}
-use Rattle.flow.proofs.RimNumbered.{side_below, no_wider, no_higher}
+use Rattle.tiles.proofs.RimNumbered.{side_below, no_wider, no_higher}
 
 adds_off : (t : Cutting) (listed : List ℕ) (k : ℕ) (p : Place) → (is_place (rim_place t k) p && eqb (rim_number t p) k) ≡ false → adds t listed k p ≡ 0
 adds_off t listed k p f = cond-false {A = ℕ} _ (get_or listed k 0) 0 f
@@ -73,9 +72,6 @@ module _ (t : Cutting) (h : IsCutting t) (listed : List ℕ) where
   pub adds_part : (tile : ℕ) (p : Place) → IsInTile t tile p → (m : ℕ) → m ≤ stride (bounds_of t 0) →
       sum_below (λ k. adds t listed (tile * stride (bounds_of t 0) + k) p) m ≤ inflow_by t listed p
   adds_part tile p i m le = omega (arith, adds_sum tile p i, sum_below-part (λ k. adds t listed (tile * stride (bounds_of t 0) + k) p) m (stride (bounds_of t 0)) le)
-
-pub small_bounds : (t : Cutting) (b : Bounds) → IsCutting t → AreBounds t b → IsSmall b
-small_bounds t b h a = record { some_col = a.some_col; few_rows = omega (arith, h.few_rows, a.rows_inside); few_cols = omega (arith, h.few_cols, a.cols_inside) }
 
 module _ (t : Cutting) (h : IsCutting t) (listed : List ℕ) (tile : ℕ) (below : tile < tile_count t) (old : List ℕ) where
   -- the weights after some of the numbers

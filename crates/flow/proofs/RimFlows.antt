@@ -8,21 +8,21 @@ use Rattle.std.proofs.lemmas.Option.{slice_get_cases, MatchOption-at_none, Match
 use Rattle.terrain.specs.Neighbours.{Touches}
 use Rattle.terrain.specs.Ways.{place_toward, place_on, way_of, ways_from}
 use Rattle.terrain.specs.declared.place.Place.{Place}
-use Rattle.tiles.specs.Cutting.{Cutting, IsWithin, IsInBounds, is_within, bounds_of, tile_of_place, is_in_bounds}
+use Rattle.tiles.specs.Cutting.{Cutting, IsWithin, IsInBounds, is_within, bounds_of, tile_of_place, is_in_bounds, entry_in}
 use Rattle.tiles.proofs.Cut.{in_bounds, in_tile, tile_of_place_below, in_bounds_parts, in_bounds_from}
 use Rattle.tiles.proofs.Members.{Touches-from_ways}
 use Rattle.drainage.specs.Following.{Directed, code_at, next, follow, moves, last_of, IsOutlet}
 use Rattle.terrain.proofs.Listed.{is_place_from, place_is}
 use Rattle.flow.specs.Counts.{is_place}
 use Rattle.flow.specs.Streams.{AreStreams, AreEnds, onward, node_after, end_of}
-use Rattle.flow.specs.TileFlow.{Flow, stays, entry_in, exit_in, IsTileExits, IsExitOf, IsExitCell}
+use Rattle.flow.specs.TileFlow.{Flow, stays, exit_in, IsTileExits, IsExitOf, IsExitCell}
 use Rattle.flow.specs.Whole.{is_outlet_code}
-use Rattle.flow.specs.RimNumbers.{number_count, rim_number, rim_place}
+use Rattle.tiles.specs.RimNumbers.{number_count, rim_number, rim_place}
 use Rattle.flow.specs.RimGraph.{code_in, AreFlowsOf, next_by, exit_by, target_by, targets_by, way_out_in, way_out_by, number_or, rim_link, rim_links_by, rim_outlet, rim_outlets_by, outlet_by, AreOutlets}
 use Rattle.flow.proofs.Windows.{every_in_range}
 use Rattle.flow.proofs.Ending.{IsStop, streams_from, node_after-first, node_after-inside}
 use Rattle.flow.proofs.Coded.{IsCoded, cases_option, cases_coded, coded_along, coded_inside, coded_from_some, none_stays, outlet_stays, follow_stays, follow_more, follow_first, StopsAt, stops_sooner, cycle_stops}
-use Rattle.flow.proofs.RimNumbered.{IsSide, number_below, number_back}
+use Rattle.tiles.proofs.RimNumbered.{IsSide, number_below, number_back}
 
 pub outlet_from_code : (o : Option ℕ) → is_outlet_code o ≡ true → o ≡ Some 0
 outlet_from_code None h = cc

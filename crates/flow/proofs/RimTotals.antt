@@ -11,7 +11,7 @@ use Rattle.terrain.proofs.Listed.{is_place_from, place_is}
 use Rattle.flow.specs.Counts.{is_place, drains_through}
 use Rattle.flow.specs.Streams.{onward, leads_to, upstream_sum, sum_below, total, total_within}
 use Rattle.flow.specs.TileFlow.{Flow, AreTileCounts, stays, reaches_inside, IsExitOf, through_in}
-use Rattle.flow.specs.RimNumbers.{number_count, rim_number, rim_place}
+use Rattle.tiles.specs.RimNumbers.{number_count, rim_number, rim_place}
 use Rattle.flow.specs.RimGraph.{AreFlowsOf, target_by, way_out_by, number_or, rim_links_by}
 use Rattle.flow.specs.Inflows.{rim_weight, rim_weights_by, weight_or, through_by}
 use Rattle.flow.proofs.Sums.{cond_same, sum_below-same, sum_below-add, sum_below-none, exchange, one_term, cond-sum}

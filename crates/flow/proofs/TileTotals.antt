@@ -4,14 +4,13 @@ use Rattle.std.proofs.lemmas.Bool.{cases_eq, cases_Bool, and_from, and_parts, co
 use Rattle.terrain.specs.declared.place.Place.{Place}
 use Rattle.terrain.proofs.Places.{cases_place}
 use Rattle.tiles.specs.declared.bounds.Bounds.{Bounds}
-use Rattle.tiles.specs.Cutting.{Cutting, IsInBounds, tile_of_place}
+use Rattle.tiles.specs.Cutting.{Cutting, IsInBounds, tile_of_place, place_in, index_in}
 use Rattle.tiles.proofs.TileOrder.{index_in_below, index_in-place_in, place_in-index_in}
 use Rattle.drainage.specs.Following.{Directed, code_at, next, follow, moves}
 use Rattle.terrain.proofs.Listed.{is_place_from, place_is}
 use Rattle.flow.specs.Counts.{is_place, drains_through}
 use Rattle.flow.specs.Streams.{onward, leads_to, upstream_sum, sum_below}
 use Rattle.flow.specs.TileFlow.{stays, reaches_inside, inflow_of}
-use Rattle.flow.specs.TileLinks.{place_in, index_in}
 use Rattle.flow.proofs.Sums.{cond_same, sum_below-same, sum_below-add, sum_below-none, exchange, one_term, cond-sum}
 use Rattle.flow.proofs.Windows.{whole_bounds, some_in_range, any_in_range}
 use Rattle.flow.proofs.Totals.{AreTotals, leads_parts, leads_from}

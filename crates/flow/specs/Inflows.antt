@@ -7,7 +7,7 @@ use Rattle.drainage.specs.Following.{Directed}
 use Rattle.flow.specs.Counts.{is_place}
 use Rattle.flow.specs.Streams.{sum_below}
 use Rattle.flow.specs.TileFlow.{Flow, through_in, inflow_of}
-use Rattle.flow.specs.RimNumbers.{number_count, rim_number, rim_place}
+use Rattle.tiles.specs.RimNumbers.{number_count, rim_number, rim_place}
 use Rattle.flow.specs.RimGraph.{target_by}
 
 -- how many other cells of its tile flow through a place

@@ -6,7 +6,6 @@ pub mod Sending
 pub mod Finding
 pub mod TileLinks
 pub mod Whole
-pub mod RimNumbers
 pub mod RimGraph
 pub mod OutletRuns
 pub mod Numbering

@@ -5,11 +5,10 @@ use Rattle.terrain.specs.Neighbours.{index_of}
 use Rattle.terrain.specs.StoredCells.{stored_count}
 use Rattle.terrain.specs.declared.place.Place.{Place}
 use Rattle.tiles.specs.declared.bounds.Bounds.{Bounds}
-use Rattle.tiles.specs.Cutting.{Cutting, IsInBounds, IsWithin, cell_count, tile_count}
+use Rattle.tiles.specs.Cutting.{Cutting, IsInBounds, IsWithin, cell_count, tile_count, index_in}
 use Rattle.drainage.specs.Following.{Directed}
 use Rattle.flow.specs.Counts.{basin, IsValueAt}
 use Rattle.flow.specs.TileFlow.{Flow}
-use Rattle.flow.specs.TileLinks.{index_in}
 use Rattle.flow.specs.Whole.{is_outlet_code}
 use Rattle.flow.specs.RimGraph.{AreFlowsOf, Outlets, AreOutlets, outlet_in}
 

@@ -3,13 +3,13 @@ use Rattle.std.specs.Prelude.{◌≡◌, ℕ, Bool, true, not, ◌&&◌, ◌==�
 use Rattle.std.specs.List.{range_with_len}
 use Rattle.terrain.specs.Ways.{place_toward}
 use Rattle.terrain.specs.declared.place.Place.{Place}
-use Rattle.tiles.specs.Cutting.{Cutting, IsCutting, IsWithin, is_within, bounds_of, tile_of_place, is_in_bounds}
+use Rattle.tiles.specs.Cutting.{Cutting, IsCutting, IsWithin, is_within, bounds_of, tile_of_place, is_in_bounds, entry_in}
 use Rattle.drainage.specs.Following.{Directed, last_of}
 use Rattle.drainage.specs.Drained.{AllFlowEnds}
 use Rattle.flow.specs.Counts.{is_place}
-use Rattle.flow.specs.TileFlow.{Flow, entry_in, exit_in, IsTileExits, IsTileCounts, AreTileExits, IsExitCell}
+use Rattle.flow.specs.TileFlow.{Flow, exit_in, IsTileExits, IsTileCounts, AreTileExits, IsExitCell}
 use Rattle.flow.specs.Whole.{is_outlet_code}
-use Rattle.flow.specs.RimNumbers.{number_count, rim_number, rim_place}
+use Rattle.tiles.specs.RimNumbers.{number_count, rim_number, rim_place}
 
 -- The flow that is found for a tile, with its counts where they are asked for.
 abbrev pub IsFound : Directed → Cutting → Bool → ℕ → Flow → Type 0

@@ -1,10 +1,10 @@
 -- Flow inside one tile, and over its rim.
-use Rattle.std.specs.Prelude.{◌*◌, ◌≤◌, if◌then◌else◌, slice_index_or, ◌≡◌, ◌≢◌, ℕ, ◌+◌, ◌-◌, ◌<◌, ◌⊎◌, Bool, not, ◌&&◌, ◌==◌, List, length, count_by, Option, None, Some, is_some, IsSome, MatchOption, slice_get, IsTrue}
+use Rattle.std.specs.Prelude.{◌*◌, ◌≤◌, ◌≡◌, ◌≢◌, ℕ, ◌+◌, ◌-◌, ◌<◌, ◌⊎◌, Bool, not, ◌&&◌, ◌==◌, List, length, count_by, Option, None, Some, is_some, IsSome, MatchOption, slice_get, IsTrue}
 use Rattle.std.specs.List.{list_any, list_all, range_with_len}
 use Rattle.terrain.specs.Ways.{places}
 use Rattle.terrain.specs.declared.place.Place.{Place}
 use Rattle.tiles.specs.declared.bounds.Bounds.{Bounds}
-use Rattle.tiles.specs.Cutting.{Cutting, View, longest_axis, tile_of_place, tile_count, IsInTile, bounds_of, is_in_bounds}
+use Rattle.tiles.specs.Cutting.{Cutting, View, longest_axis, tile_of_place, tile_count, IsInTile, bounds_of, entry_in}
 use Rattle.drainage.specs.Following.{Directed, code_at, next, follow, moves, IsOutlet}
 use Rattle.flow.specs.Counts.{is_place}
 
@@ -48,11 +48,6 @@ pub record Flow : Type 0 where
   pub codes : List (Option ℕ)
   pub through : List (Option ℕ)
   pub exits : List (Option Place)
-
--- The entry of a place in a list in the row order of these bounds, None outside.
-abbrev pub entry_in : {X : Type 0} → Bounds → List (Option X) → Place → Option X
-entry_in b entries p =
-    if is_in_bounds b p then slice_index_or entries ((p.row - b.top) * b.cols + (p.col - b.left)) None else None
 
 abbrev pub through_in : Flow → Place → Option ℕ
 through_in f p = entry_in f.bounds f.through p

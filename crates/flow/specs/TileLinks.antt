@@ -1,20 +1,14 @@
 -- The directions of a tile as links between its cells, which are numbered in its row order. Only the contracts of private functions and the view of a flow speak of it.
-use Rattle.std.specs.Prelude.{◌≡◌, ℕ, ◌+◌, ◌-◌, ◌*◌, ◌/◌, ◌%◌, ◌<◌, ◌≤◌, if◌then◌else◌, is_some, List, map, length, Option, None, Some, slice_index, slice_index_or, unwrap_or, option_and_then}
+use Rattle.std.specs.Prelude.{◌≡◌, ℕ, ◌+◌, ◌*◌, ◌<◌, ◌≤◌, if◌then◌else◌, is_some, List, map, length, Option, None, Some, slice_index, slice_index_or, unwrap_or, option_and_then}
 use Rattle.std.specs.List.{range_with_len}
 use Rattle.terrain.specs.Ways.{place_toward}
-use Rattle.tiles.specs.Cutting.{longest_axis, is_in_bounds}
+use Rattle.tiles.specs.Cutting.{longest_axis, is_in_bounds, index_in, place_in}
 use Rattle.terrain.specs.declared.place.Place.{Place}
 use Rattle.tiles.specs.declared.bounds.Bounds.{Bounds}
 use Rattle.drainage.specs.Following.{Directed, code_at}
 use Rattle.flow.specs.Streams.{AreStreams, end_of}
 use Rattle.flow.specs.TileFlow.{Flow, IsFlow}
-use Rattle.flow.specs.RimNumbers.{stride, side_place}
-
-abbrev pub place_in : Bounds → ℕ → Place
-place_in b i = record { row = b.top + i / b.cols; col = b.left + i % b.cols }
-
-abbrev pub index_in : Bounds → Place → ℕ
-index_in b p = (p.row - b.top) * b.cols + (p.col - b.left)
+use Rattle.tiles.specs.RimNumbers.{stride, side_place}
 
 -- What holds of the bounds of a tile: they have a cell, and lie in a grid within the limits.
 pub record IsSmall (b : Bounds) : Type 0 where

@@ -1,12 +1,12 @@
 // The cells of a tile, numbered in its row order, and the cells to which their water goes on.
 ghost use Rattle.std.specs.Prelude.{◌≡◌, ◌↔◌, IsTrue, if◌then◌else◌, ◌+◌, ◌-◌, ◌*◌, ◌^◌, ◌<◌, length, Some, IfOk, OnOk, unwrap_or, option_and_then};
 ghost use Rattle.terrain.specs.Ways.{place_of, place_toward};
-ghost use Rattle.tiles.specs.Cutting.{IsInBounds, bounds_of, is_in_bounds};
+ghost use Rattle.tiles.specs.Cutting.{IsInBounds, bounds_of, place_in};
 ghost use Rattle.drainage.specs.CodeNumber.{IsCode};
 ghost use Rattle.flow.specs.Counts.{is_place};
 ghost use Rattle.flow.specs.TileFlow.{directed_by};
 ghost use Rattle.flow.specs.CodeSteps.{moved, leads_east, leads_south, leads_west, leads_north};
-ghost use Rattle.flow.specs.TileLinks.{AreTileCodes, IsAmid, IsSmall, place_in, index_in, link_by, first_links, links_by, weights_by};
+ghost use Rattle.flow.specs.TileLinks.{AreTileCodes, IsAmid, IsSmall, link_by, first_links, links_by, weights_by};
 
 use drainage::Code;
 use std::alloc::{AllocError, Global};
@@ -133,36 +133,11 @@ pub(crate) fn tile_weights(alloc: Global, cells: &[Option<Code>]) -> Result<Vec<
         .collect(alloc)
 }
 
-/// The place of an index.
-#[inline(always)]
-pub(crate) fn place_at(bounds: Bounds, index: u32) -> Place
-    requires small { IsSmall bounds }
-    requires given { index < bounds.rows * bounds.cols }
-    ensures value { result ≡ place_in bounds index }
-    ensures inside { IsInBounds bounds result }
-{
-    Place {
-        row: bounds.top + index / bounds.cols,
-        col: bounds.left + index % bounds.cols,
-    }
-}
-
 #[inline(always)]
 pub(crate) fn is_place(place: Place, other: Place) -> bool
     ensures { result ≡ is_place place other }
 {
     place.row == other.row && place.col == other.col
-}
-
-/// The index of a place.
-#[inline(always)]
-pub(crate) fn index_of(bounds: Bounds, place: Place) -> usize
-    requires small { IsSmall bounds }
-    requires given { IsInBounds bounds place }
-    ensures value { result ≡ index_in bounds place }
-    ensures below { result < bounds.rows * bounds.cols }
-{
-    (place.row - bounds.top) as usize * bounds.cols as usize + (place.col - bounds.left) as usize
 }
 
 #[inline(always)]
@@ -174,7 +149,7 @@ fn link_of(bounds: Bounds, index: u32, place: Place, code: Option<Code>) -> u32
 {
     let next = next_of(code, place);
     if bounds.contains(next) {
-        (next.row - bounds.top) * bounds.cols + (next.col - bounds.left)
+        bounds.index_of(next) as u32
     } else {
         index
     }

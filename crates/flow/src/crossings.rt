@@ -2,11 +2,10 @@
 ghost use Rattle.std.specs.Prelude.{◌≡◌, ◌<◌, length, IfOk};
 ghost use Rattle.tiles.specs.Cutting.{IsCutting, IsWithin, tile_count};
 ghost use Rattle.drainage.specs.Following.{Directed};
-ghost use Rattle.flow.specs.RimNumbers.{number_count};
+ghost use Rattle.tiles.specs.RimNumbers.{number_count};
 ghost use Rattle.flow.specs.RimGraph.{code_in, AreFlowsOf, target_by, targets_by, way_out_by, rim_link, rim_links_by, next_by, stands_for};
 
 use crate::cells::next_of;
-use crate::rim::{number_count, rim_number, rim_place};
 use crate::tile::TileFlow;
 use drainage::Code;
 use std::alloc::{AllocError, Global};
@@ -43,7 +42,7 @@ impl Crossings {
 pub(crate) fn stands_for(tiling: &Tiling, place: Place, number: u32) -> bool
     ensures { result ≡ stands_for tiling.now place number }
 {
-    place.row < tiling.rows() && place.col < tiling.cols() && rim_number(tiling, place) == number
+    place.row < tiling.rows() && place.col < tiling.cols() && tiling.rim_number(place) == number
 }
 
 // Where the water of a place goes on.
@@ -81,7 +80,7 @@ fn target_of(tiling: &Tiling, flows: &[TileFlow], number: u32) -> Option<Place>
     requires number { number < number_count tiling.now }
     ensures { result ≡ target_by tiling.now flows.now number }
 {
-    let place = rim_place(tiling, number);
+    let place = tiling.rim_place(number);
     if !stands_for(tiling, place, number) {
         return None;
     }
@@ -103,7 +102,7 @@ fn rim_targets(
     requires { (d : Directed) × AreFlowsOf d tiling.now flows.now }
     ensures { IfOk result (λ v. v.items ≡ targets_by tiling.now flows.now) }
 {
-    let count = number_count(tiling);
+    let count = tiling.number_count();
     let mut targets = Vec::with_capacity(alloc, count as usize)?;
     for number in 0..count {
         targets.push(target_of(tiling, flows, number))?;
@@ -122,7 +121,7 @@ fn link_of(tiling: &Tiling, flows: &[TileFlow], targets: &[Option<Place>], numbe
         return number;
     };
     match way_out(tiling, flows, entry) {
-        Some(exit) => rim_number(tiling, exit),
+        Some(exit) => tiling.rim_number(exit),
         None => number,
     }
 }
@@ -138,7 +137,7 @@ fn rim_links(
     requires targets { targets.now ≡ targets_by tiling.now flows.now }
     ensures { IfOk result (λ v. v.items ≡ rim_links_by tiling.now flows.now) }
 {
-    let count = number_count(tiling);
+    let count = tiling.number_count();
     let mut links = Vec::with_capacity(alloc, count as usize)?;
     for number in 0..count {
         links.push(link_of(tiling, flows, targets, number))?;

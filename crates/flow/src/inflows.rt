@@ -1,19 +1,18 @@
 // What flows into tiles over their rims.
 ghost use Rattle.std.specs.Prelude.{◌≡◌, ◌+◌, ◌*◌, ◌^◌, ◌<◌, ◌&&◌, ℕ, None, length, slice_index, slice_index_or, IfOk, IfSome};
 ghost use Rattle.terrain.specs.declared.place.Place.{Place as AtPlace};
-ghost use Rattle.tiles.specs.Cutting.{AreBounds, IsInBounds, IsWithin, bounds_of, cell_count, tile_count, is_in_bounds};
+ghost use Rattle.tiles.specs.Cutting.{AreBounds, IsInBounds, IsWithin, bounds_of, cell_count, tile_count, is_in_bounds, index_in};
 ghost use Rattle.drainage.specs.Following.{Directed};
 ghost use Rattle.flow.specs.Streams.{sum_below};
 ghost use Rattle.flow.specs.Sending.{AreNone};
 ghost use Rattle.flow.specs.TileFlow.{AreTileCounts};
-ghost use Rattle.flow.specs.TileLinks.{IsSmall, index_in};
-ghost use Rattle.flow.specs.RimNumbers.{number_count};
+ghost use Rattle.flow.specs.TileLinks.{IsSmall};
+ghost use Rattle.tiles.specs.RimNumbers.{number_count};
 ghost use Rattle.flow.specs.RimGraph.{AreFlowsOf, rim_links_by, stands_for, targets_by};
 ghost use Rattle.flow.specs.Inflows.{AreEntering, AreInflows, adds, entering, inflow_by, inflow_in, rim_weight, rim_weights_by, sent_to, through_by};
 
-use crate::cells::{index_of, is_place};
+use crate::cells::is_place;
 use crate::crossings::{Crossings, stands_for};
-use crate::rim::{number_count, numbers_of, rim_number, rim_place};
 use crate::streams::{upstream, zeros};
 use crate::tile::TileFlow;
 use std::alloc::{AllocError, Global};
@@ -31,7 +30,7 @@ pub struct Inflows {
 
 impl Model for Inflows {
     ghost use Rattle.std.specs.Prelude.{◌≡◌, length};
-    ghost use Rattle.flow.specs.RimNumbers.{number_count};
+    ghost use Rattle.tiles.specs.RimNumbers.{number_count};
     ghost use Rattle.flow.specs.Inflows.{Inflows};
 
     ghost Value = { Inflows };
@@ -71,8 +70,8 @@ impl Inflows {
         requires { IsWithin self.now.cutting place }
         ensures { result ≡ inflow_in self.now place }
     {
-        let number = rim_number(&self.tiling, place);
-        if is_place(rim_place(&self.tiling, number), place) {
+        let number = self.tiling.rim_number(place);
+        if is_place(self.tiling.rim_place(number), place) {
             self.listed[number as usize]
         } else {
             0
@@ -107,7 +106,7 @@ fn add_all(tiling: &Tiling, listed: &[u32], tile: u32, weights: &mut [u32])
         ≡ slice_index weights.old (index_in (bounds_of tiling.now tile) p) + inflow_by tiling.now listed.now p }
 {
     let bounds = tiling.bounds(tile);
-    let (first, count) = numbers_of(tiling, tile);
+    let (first, count) = tiling.numbers_of(tile);
     for side in 0..count {
         add_one(tiling, listed, bounds, first + side, weights);
     }
@@ -126,9 +125,9 @@ fn add_one(tiling: &Tiling, listed: &[u32], bounds: Bounds, number: u32, weights
     ensures each { (p : AtPlace) → IsInBounds bounds p →
         slice_index weights.new (index_in bounds p) ≡ slice_index weights.old (index_in bounds p) + adds tiling.now listed.now number p }
 {
-    let place = rim_place(tiling, number);
+    let place = tiling.rim_place(number);
     if stands_in(tiling, bounds, place, number) {
-        weights[index_of(bounds, place)] += listed[number as usize];
+        weights[bounds.index_of(place)] += listed[number as usize];
     }
 }
 
@@ -160,7 +159,7 @@ fn weight_of(tiling: &Tiling, flows: &[TileFlow], targets: &[Option<Place>], num
     let Some(_) = targets[number as usize] else {
         return 0;
     };
-    through_at(tiling, flows, rim_place(tiling, number)).unwrap_or(0) + 1
+    through_at(tiling, flows, tiling.rim_place(number)).unwrap_or(0) + 1
 }
 
 #[tactic(auto, using(crate::proofs::Windows::mapped_next))]
@@ -174,7 +173,7 @@ fn rim_weights(
     requires flows { (d : Directed) × AreFlowsOf d tiling.now flows.now × AreTileCounts d tiling.now flows.now }
     ensures { IfOk result (λ v. v.items ≡ rim_weights_by tiling.now flows.now) }
 {
-    let count = number_count(tiling);
+    let count = tiling.number_count();
     let mut weights = Vec::with_capacity(alloc, count as usize)?;
     for number in 0..count {
         weights.push(weight_of(tiling, flows, targets, number))?;
@@ -198,7 +197,7 @@ fn all_entering(
     requires few { (k : ℕ) → sum_below (entering tiling.now targets.now weights.now came.now k) (number_count tiling.now) < 2 ^ 32 }
     ensures { IfOk result (λ v. AreEntering tiling.now targets.now weights.now came.now v.items) }
 {
-    let mut listed = zeros(alloc, number_count(tiling) as usize)?;
+    let mut listed = zeros(alloc, tiling.number_count() as usize)?;
     send_all(tiling, targets, weights, came, &mut listed);
     Ok(listed)
 }
@@ -219,7 +218,7 @@ fn send_all(
     requires none { AreNone (number_count tiling.now) listed.old }
     ensures { AreEntering tiling.now targets.now weights.now came.now listed.new }
 {
-    for number in 0..number_count(tiling) {
+    for number in 0..tiling.number_count() {
         let amount = came[number as usize] + weights[number as usize];
         send(tiling, targets[number as usize], amount, listed);
     }
@@ -237,5 +236,5 @@ fn send(tiling: &Tiling, target: Option<Place>, amount: u32, listed: &mut [u32])
     let Some(entry) = target else {
         return;
     };
-    listed[rim_number(tiling, entry) as usize] += amount;
+    listed[tiling.rim_number(entry) as usize] += amount;
 }

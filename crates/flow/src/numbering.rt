@@ -11,7 +11,6 @@ ghost use Rattle.flow.specs.TileLinks.{links_by};
 ghost use Rattle.flow.specs.RimGraph.{outlet_in};
 ghost use Rattle.flow.specs.Numbering.{AreReady, IsExitOfTile, number_at, label_by, labels_by, label_at, numbered_by};
 
-use crate::cells::place_at;
 use crate::crossings::Crossings;
 use crate::flowing::flow_tiles;
 use crate::outlet_numbers::OutletNumbers;
@@ -94,7 +93,7 @@ impl<'a> Numbering<'a> {
         if exit as usize != index {
             return 0;
         }
-        self.number_of(place_at(flow.bounds(), exit))
+        self.number_of(flow.bounds().place_at(exit))
     }
 
     // The number of the outlet of an exit.

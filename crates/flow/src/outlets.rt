@@ -1,14 +1,13 @@
 // Where the water of the exits of all tiles ends.
-ghost use Rattle.std.specs.Prelude.{◌≡◌, ◌<◌, ◌≤◌, ℕ, length, slice_index, IfOk};
-ghost use Rattle.tiles.specs.Cutting.{IsCutting, IsWithin, tile_count};
+ghost use Rattle.std.specs.Prelude.{◌≡◌, ◌<◌, ℕ, length, slice_index, IfOk};
+ghost use Rattle.tiles.specs.Cutting.{IsWithin, tile_count};
 ghost use Rattle.drainage.specs.Following.{Directed};
-ghost use Rattle.flow.specs.RimNumbers.{number_count};
-ghost use Rattle.flow.specs.RimGraph.{code_in, AreFlowsOf, AreOutlets, target_by, targets_by, way_out_by, rim_link, rim_links_by, rim_outlet, rim_outlets_by, outlet_in, next_by, exit_by, stands_for};
+ghost use Rattle.tiles.specs.RimNumbers.{number_count};
+ghost use Rattle.flow.specs.RimGraph.{AreFlowsOf, AreOutlets, targets_by, rim_links_by, rim_outlet, rim_outlets_by, outlet_in, exit_by};
 
 use crate::cells::is_place;
 use crate::crossings::{Crossings, code_of};
 use crate::ends::ends;
-use crate::rim::{number_count, rim_number, rim_place};
 use crate::tile::{TileFlow, is_outlet};
 use std::alloc::{AllocError, Global};
 use std::marker::Model;
@@ -25,7 +24,7 @@ pub struct Outlets {
 
 impl Model for Outlets {
     ghost use Rattle.std.specs.Prelude.{◌≡◌, length};
-    ghost use Rattle.flow.specs.RimNumbers.{number_count};
+    ghost use Rattle.tiles.specs.RimNumbers.{number_count};
     ghost use Rattle.flow.specs.RimGraph.{Outlets};
 
     ghost Value = { Outlets };
@@ -66,8 +65,8 @@ impl Outlets {
         if is_outlet(code_of(&self.tiling, flows, exit)) {
             return Some(exit);
         }
-        let number = rim_number(&self.tiling, exit);
-        if is_place(rim_place(&self.tiling, number), exit) {
+        let number = self.tiling.rim_number(exit);
+        if is_place(self.tiling.rim_place(number), exit) {
             self.outlets[number as usize]
         } else {
             None
@@ -122,7 +121,7 @@ fn rim_outlets(
     requires inside { (i : ℕ) → i < number_count tiling.now → slice_index ends.now i < number_count tiling.now }
     ensures { IfOk result (λ v. v.items ≡ rim_outlets_by tiling.now flows.now ends.now) }
 {
-    let count = number_count(tiling);
+    let count = tiling.number_count();
     let mut outlets = Vec::with_capacity(alloc, count as usize)?;
     for number in 0..count {
         outlets.push(outlet_of(tiling, flows, targets, ends, number))?;

@@ -2,15 +2,15 @@
 ghost use Rattle.std.specs.Prelude.{◌≡◌, ◌<◌, length, slice_index_or, IfOk, IfSome, None};
 ghost use Rattle.std.specs.Option.{option_map};
 ghost use Rattle.terrain.specs.StoredCells.{uncounted};
-ghost use Rattle.tiles.specs.Cutting.{IsInBounds};
+ghost use Rattle.tiles.specs.Cutting.{IsInBounds, index_in, entry_in};
 ghost use Rattle.drainage.specs.Drained.{AllFlowEnds};
 ghost use Rattle.flow.specs.Streams.{AreEnds};
-ghost use Rattle.flow.specs.TileFlow.{directed_by, IsFlow, IsTileExits, IsTileFlow, entry_in, through_in, exit_in};
-ghost use Rattle.flow.specs.TileLinks.{index_in, where_data, links_by};
+ghost use Rattle.flow.specs.TileFlow.{directed_by, IsFlow, IsTileExits, IsTileFlow, through_in, exit_in};
+ghost use Rattle.flow.specs.TileLinks.{where_data, links_by};
 ghost use Rattle.flow.specs.Whole.{is_outlet_code};
 ghost use Rattle.flow.specs.RimGraph.{way_out_in};
 
-use crate::cells::{index_of, place_at, tile_codes, tile_links, tile_weights};
+use crate::cells::{tile_codes, tile_links, tile_weights};
 use crate::ends::ends;
 use crate::rim::{end_in, rim_ends};
 use crate::streams::upstream;
@@ -51,7 +51,7 @@ impl TileFlow {
         ensures { result ≡ through_in self.now place }
     {
         if self.bounds.contains(place) {
-            self.count_at(index_of(self.bounds, place))
+            self.count_at(self.bounds.index_of(place))
         } else {
             None
         }
@@ -62,7 +62,7 @@ impl TileFlow {
         ensures { result ≡ entry_in self.now.bounds self.now.codes place }
     {
         if self.bounds.contains(place) {
-            self.codes[index_of(self.bounds, place)]
+            self.codes[self.bounds.index_of(place)]
         } else {
             None
         }
@@ -122,8 +122,8 @@ impl TileFlow {
     {
         let end = end_in(self.bounds, &self.links, &self.rim_ends, place);
         where_data(
-            self.codes[index_of(self.bounds, place)],
-            place_at(self.bounds, end),
+            self.codes[self.bounds.index_of(place)],
+            self.bounds.place_at(end),
         )
     }
 

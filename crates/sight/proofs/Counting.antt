@@ -10,8 +10,8 @@ use Rattle.terrain.specs.Neighbours.{height_at}
 use Rattle.terrain.specs.declared.place.Place.{Place}
 use Rattle.terrain.proofs.Places.{make_place}
 use Rattle.tiles.specs.declared.bounds.Bounds.{Bounds}
-use Rattle.tiles.specs.Cutting.{IsInBounds}
-use Rattle.tile_maps.specs.Maps.{index_within, AreMadeBelow}
+use Rattle.tiles.specs.Cutting.{IsInBounds, index_in}
+use Rattle.tile_maps.specs.Maps.{AreMadeBelow}
 use Rattle.sight.specs.Sight.{is_seen, viewshed_value}
 use Rattle.sight.specs.Viewed.{value_at, HasValue, counted, AreAtMost}
 use Rattle.sight.specs.Marks.{AreMarked, TellsSeen}
@@ -38,7 +38,7 @@ pub looked : (t : Terrain) (os : List Observer) (target radius i : ℕ) (d : Obs
 looked t os target radius i d b old new seen less before marks size each = record {
   size = size ∙ before.size;
   each = λ p inside below entry is.
-      let k = index_within b p in
+      let k = index_in b p in
       let had = before.each p inside below (get_or old k None) (slice_get-get_or old k None (omega (arith, below, before.size))) in
       sym (get_or_from_slice_get new k entry None is) ∙ each k ∙ ap (λ v. counted v (get_or seen k false)) had ∙ ap (λ s. counted (value_at t (take i os) target radius p) s) (marks.each p inside below)
       ∙ value_counted t os target radius i d p (is_seen t (get_or os i d) p target radius) less refl;
@@ -72,7 +72,7 @@ module _ (b : Bounds) (k : ℕ) (below : k < b.rows * b.cols) where
   unfolding place
   inside = (omega arith, omega (arith, div_below k b.cols b.rows some_cols (omega (arith, below))), omega arith, omega (arith, mod_below k b.cols some_cols))
 
-  at : index_within b place ≡ k
+  at : index_in b place ≡ k
   unfolding place
   at =
       let row : b.top + k / b.cols - b.top ≡ k / b.cols = omega arith in

@@ -5,24 +5,24 @@ use Rattle.std.proofs.lemmas.List.{length-set, get_or-set_same, get_or-set_other
 use Rattle.terrain.specs.Raster.{Terrain}
 use Rattle.terrain.specs.declared.place.Place.{Place}
 use Rattle.tiles.specs.declared.bounds.Bounds.{Bounds}
-use Rattle.tiles.specs.Cutting.{IsInBounds}
-use Rattle.tile_maps.specs.Maps.{index_within}
-use Rattle.tile_maps.proofs.TileLists.{within_injective, within_below}
+use Rattle.tiles.specs.Cutting.{IsInBounds, index_in}
+use Rattle.tiles.proofs.TileOrder.{index_in_below}
+use Rattle.tile_maps.proofs.TileLists.{within_injective}
 use Rattle.sight.specs.Walk.{is_open}
 use Rattle.sight.specs.Marks.{AreMarkedBelow, AreMarked, AreLeft, TellsSeen, TellsSeenIfOpen}
 use Rattle.terrain.specs.declared.observer.Observer.{Observer}
 
-pub marked_more : (b : Bounds) (Says : Place → Bool → Type 0) (p : Place) (marks : List Bool) (i : ℕ) (x : Bool) → IsInBounds b p → i ≡ index_within b p → AreMarkedBelow b Says i marks → Says p x
+pub marked_more : (b : Bounds) (Says : Place → Bool → Type 0) (p : Place) (marks : List Bool) (i : ℕ) (x : Bool) → IsInBounds b p → i ≡ index_in b p → AreMarkedBelow b Says i marks → Says p x
     → AreMarkedBelow b Says (i + 1) (set marks i x)
 marked_more b Says p marks i x inside at before is = record {
   size = length-set marks i x ∙ before.size;
-  each = λ q within below. elim (cases_eq (index_within b q) i) [
+  each = λ q within below. elim (cases_eq (index_in b q) i) [
     | inl e ↦
         let one : p ≡ q = within_injective b p q inside within (sym at ∙ sym e) in
-        let room : i < length marks = omega (arith, within_below b p inside, before.size) in
-        let here : get_or (set marks i x) (index_within b q) false ≡ x = ap (λ k. get_or (set marks i x) k false) e ∙ get_or-set_same marks i x false room in
+        let room : i < length marks = omega (arith, index_in_below b p inside, before.size) in
+        let here : get_or (set marks i x) (index_in b q) false ≡ x = ap (λ k. get_or (set marks i x) k false) e ∙ get_or-set_same marks i x false room in
         subst (Says q) (sym here) (subst (λ (r : Place). Says r x) one is)
-    | inr ne ↦ subst (Says q) (sym (get_or-set_other marks i (index_within b q) x false ne)) (before.each q within (omega arith))
+    | inr ne ↦ subst (Says q) (sym (get_or-set_other marks i (index_in b q) x false ne)) (before.each q within (omega arith))
   ];
 }
 

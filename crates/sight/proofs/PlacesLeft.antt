@@ -5,7 +5,7 @@ use Rattle.terrain.specs.Raster.{Terrain, IsTerrain}
 use Rattle.terrain.specs.Neighbours.{IsInside, height_of}
 use Rattle.terrain.specs.declared.place.Place.{Place}
 use Rattle.tiles.specs.declared.bounds.Bounds.{Bounds}
-use Rattle.tile_maps.specs.Maps.{index_within}
+use Rattle.tiles.specs.Cutting.{index_in}
 use Rattle.sight.specs.Sight.{column_blocks, row_blocks}
 use Rattle.sight.specs.Walk.{columns_of, rows_of, walk_blocks}
 use Rattle.sight.specs.Hiding.{IsWindow}
@@ -78,14 +78,14 @@ module _ (t : Terrain) (p : Place) (b : Bounds) (e : ℤ) (target : ℕ) (old ne
   pub columns_left : AreOpen t.cells (columns_from t b p e) (by_columns b) target old new → AreLeft b (λ (q : Place). not (column_blocks t p q e (height_of t q +ℤ pos target))) old new
   columns_left are = record {
     size = are.size;
-    each = λ q inside. told new old ((q.col - b.left) * 1 + (q.row - b.top) * b.cols) (index_within b q) _ _ (omega arith) (column_told q (omega (arith, inside.1, rows), omega (arith, inside.3, cols)))
+    each = λ q inside. told new old ((q.col - b.left) * 1 + (q.row - b.top) * b.cols) (index_in b q) _ _ (omega arith) (column_told q (omega (arith, inside.1, rows), omega (arith, inside.3, cols)))
         (are.each q.col q.row (inside.2, inside.3) (inside.0, inside.1));
   }
 
   pub rows_left : AreOpen t.cells (rows_from t b p e) (by_rows b) target old new → AreLeft b (λ (q : Place). not (row_blocks t p q e (height_of t q +ℤ pos target))) old new
   rows_left are = record {
     size = are.size;
-    each = λ q inside. told new old ((q.row - b.top) * b.cols + (q.col - b.left) * 1) (index_within b q) _ _ (omega arith) (row_told q (omega (arith, inside.1, rows), omega (arith, inside.3, cols)))
+    each = λ q inside. told new old ((q.row - b.top) * b.cols + (q.col - b.left) * 1) (index_in b q) _ _ (omega arith) (row_told q (omega (arith, inside.1, rows), omega (arith, inside.3, cols)))
         (are.each q.row q.col (inside.0, inside.1) (inside.2, inside.3));
   }
 

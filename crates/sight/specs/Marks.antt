@@ -3,8 +3,7 @@ use Rattle.std.specs.Prelude.{◌≡◌, ℕ, ◌*◌, ◌<◌, Bool, false, ◌
 use Rattle.terrain.specs.Raster.{Terrain}
 use Rattle.terrain.specs.declared.place.Place.{Place}
 use Rattle.tiles.specs.declared.bounds.Bounds.{Bounds}
-use Rattle.tiles.specs.Cutting.{IsInBounds}
-use Rattle.tile_maps.specs.Maps.{index_within}
+use Rattle.tiles.specs.Cutting.{IsInBounds, index_in}
 use Rattle.sight.specs.Sight.{is_seen}
 use Rattle.sight.specs.Walk.{is_open}
 use Rattle.terrain.specs.declared.observer.Observer.{Observer}
@@ -13,12 +12,12 @@ use Rattle.sight.specs.declared.marking.Asked.TheVariants.{Whole, FirstCrossings
 
 -- The mark of a place.
 abbrev pub mark_at : Bounds → List Bool → Place → Bool
-mark_at b marks p = slice_index_or marks (index_within b p) false
+mark_at b marks p = slice_index_or marks (index_in b p) false
 
 -- There is a mark for each place of the bounds, and those before one in row order say of their places what they should.
 pub record AreMarkedBelow (b : Bounds) (Says : Place → Bool → Type 0) (end : ℕ) (marks : List Bool) : Type 0 where
   pub size : length marks ≡ b.rows * b.cols
-  pub each : (p : Place) → IsInBounds b p → index_within b p < end → Says p (mark_at b marks p)
+  pub each : (p : Place) → IsInBounds b p → index_in b p < end → Says p (mark_at b marks p)
 
 -- All of them do.
 abbrev pub AreMarked : Bounds → (Place → Bool → Type 0) → List Bool → Type 0

@@ -1,19 +1,15 @@
 -- Maps with an entry for each place: of a part of a row order, of a tile, of a whole grid.
-use Rattle.std.specs.Prelude.{◌≡◌, ℕ, ◌+◌, ◌-◌, ◌*◌, ◌<◌, List, length, Some, slice_get}
+use Rattle.std.specs.Prelude.{◌≡◌, ℕ, ◌*◌, ◌<◌, List, length, Some, slice_get}
 use Rattle.terrain.specs.Neighbours.{index_of}
 use Rattle.terrain.specs.declared.place.Place.{Place}
 use Rattle.tiles.specs.declared.bounds.Bounds.{Bounds}
-use Rattle.tiles.specs.Cutting.{Cutting, IsInBounds, IsInTile, IsWithin, cell_count, index_in_tile}
-
--- Where a place of the bounds stands in their row order.
-abbrev pub index_within : Bounds → Place → ℕ
-index_within b p = (p.row - b.top) * b.cols + (p.col - b.left)
+use Rattle.tiles.specs.Cutting.{Cutting, index_in, IsInBounds, IsInTile, IsWithin, cell_count, index_in_tile}
 
 -- The list has an entry for each place of the bounds that stands before one in row order, and nothing more; and each of
 -- them fits.
 pub record AreMadeBelow {X : Type 0} (b : Bounds) (Has : Place → X → Type 0) (end : ℕ) (list : List X) : Type 0 where
   pub size : length list ≡ end
-  pub each : (p : Place) → IsInBounds b p → index_within b p < end → (entry : X) → slice_get list (index_within b p) ≡ Some entry → Has p entry
+  pub each : (p : Place) → IsInBounds b p → index_in b p < end → (entry : X) → slice_get list (index_in b p) ≡ Some entry → Has p entry
 
 -- The list has an entry for each place of the tile, in its row order, and each of them fits.
 pub record IsMadeTile {X : Type 0} (c : Cutting) (tile : ℕ) (Has : Place → X → Type 0) (list : List X) : Type 0 where

@@ -6,6 +6,7 @@ pub mod TileOrder
 pub mod RimSteps
 pub mod Outer
 pub mod Members
+pub mod RimNumbered
 -- views and putting back
 pub mod SliceGet
 pub mod Shown

@@ -12,11 +12,11 @@ use Rattle.terrain.specs.Neighbours.{index_of, entry_at}
 use Rattle.terrain.proofs.Places.{entry-inside}
 use Rattle.terrain.specs.declared.place.Place.{Place}
 use Rattle.tiles.specs.declared.bounds.Bounds.{Bounds}
-use Rattle.tiles.specs.Cutting.{Cutting, IsCutting, IsWithin, IsInBounds, AreTileLists, IsPutBack, across, down, tile_count, tile_of_place, bounds_of, listed_at, IsInTile, tile_entry}
+use Rattle.tiles.specs.Cutting.{Cutting, IsCutting, IsWithin, IsInBounds, AreTileLists, IsPutBack, across, down, tile_count, tile_of_place, bounds_of, listed_at, IsInTile, tile_entry, index_in}
 use Rattle.tiles.specs.PuttingBack.{IsPutBackBelow, IsRowOf}
 use Rattle.tiles.proofs.Quotients.{piece_begins, piece_of, piece_is, piece_from}
 use Rattle.tiles.proofs.Cut.{in_tile}
-use Rattle.tiles.proofs.TileOrder.{index_in, tile_entry-in}
+use Rattle.tiles.proofs.TileOrder.{tile_entry-in}
 use Rattle.tiles.proofs.SliceGet.{slice_get-range, slice_get-append_left, slice_get-append_right}
 
 -- a row of a tile ends in the tile's list
@@ -41,7 +41,7 @@ row_is t lists tile row list part from h l a s top bottom e f =
       each = λ p w r left right.
           let bounds : IsInBounds b p = (omega (arith, top, r), omega (arith, bottom, r), left, right) in
           let i = in_tile t tile p h l bounds in
-          let at : (p.row - b.top) * b.cols + (p.col - b.left) ≡ from + (p.col - b.left) =
+          let at : index_in b p ≡ from + (p.col - b.left) =
           ap (λ n. (n - b.top) * b.cols + (p.col - b.left)) r ∙ ap (λ n. n + (p.col - b.left)) (sym e) in
           ap (λ xs. slice_get xs (p.col - b.left)) f
           ∙ slice_get-range list.items from (from + b.cols) (p.col - b.left) (from + (p.col - b.left)) (omega (arith, left, right)) refl

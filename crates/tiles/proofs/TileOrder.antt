@@ -1,20 +1,14 @@
 -- The row order of a tile: which place stands at an index, and at which index a place stands.
-use Rattle.std.proofs.Common.{◌≡◌, ℕ, ◌+◌, ◌-◌, ◌*◌, ◌/◌, ◌%◌, ◌<◌, ◌≤◌, List, get_or, Option, None, ap, ◌∙◌, arith, mul_comm}
-use Rattle.std.proofs.lemmas.Bool.{cond-true, and_from, lt-ltb}
+use Rattle.std.proofs.Common.{◌≡◌, ℕ, ◌+◌, ◌-◌, ◌*◌, ◌/◌, ◌%◌, ◌<◌, ◌≤◌, List, get_or, Option, None, Some, inl, inr, sym, ap, ◌∙◌, arith, mul_comm}
+use Rattle.std.proofs.lemmas.Bool.{cases_Bool, cond-true, cond-false, and_from, lt-ltb}
 use Rattle.std.proofs.lemmas.Bool.Decides.{nat_tests}
+use Rattle.std.proofs.lemmas.Option.{none-some}
 use Rattle.std.proofs.lemmas.Nat.{div-mul-add, mod-mul-add, div-add-mod', div_below, mod_below, mul-add-lt}
 use Rattle.terrain.specs.declared.place.Place.{Place}
 use Rattle.terrain.proofs.Places.{same_place}
 use Rattle.tiles.specs.declared.bounds.Bounds.{Bounds}
-use Rattle.tiles.specs.Cutting.{Cutting, IsCutting, IsInTile, IsInBounds, tile_count, cell_count, tile_of_place, bounds_of, index_in_tile, tile_entry}
-use Rattle.tiles.proofs.Cut.{bounds_inside, in_tile}
-
--- the place at an index of the row order of bounds, and the index of a place
-abbrev pub place_in : Bounds → ℕ → Place
-place_in b i = record { row = b.top + i / b.cols; col = b.left + i % b.cols }
-
-abbrev pub index_in : Bounds → Place → ℕ
-index_in b p = (p.row - b.top) * b.cols + (p.col - b.left)
+use Rattle.tiles.specs.Cutting.{Cutting, IsCutting, IsInTile, IsInBounds, tile_count, cell_count, tile_of_place, bounds_of, is_in_bounds, index_in, place_in, entry_in, index_in_tile, tile_entry}
+use Rattle.tiles.proofs.Cut.{bounds_inside, in_bounds_parts, in_bounds_from, in_tile}
 
 pub place_in_bounds : (b : Bounds) (i : ℕ) → 1 ≤ b.cols → i < b.rows * b.cols → IsInBounds b (place_in b i)
 place_in_bounds b i c h =
@@ -36,6 +30,16 @@ place_in-index_in b p h =
     same_place (place_in b (index_in b p)) p
     (ap (λ n. b.top + n) (div-mul-add (p.row - b.top) b.cols (p.col - b.left) c) ∙ omega arith)
     (ap (λ n. b.left + n) (mod-mul-add (p.row - b.top) b.cols (p.col - b.left) c) ∙ omega arith)
+
+-- what a list in the row order of bounds has at a place of them; it has nothing at any other
+pub entry_in-inside : {X : Type 0} (b : Bounds) (entries : List (Option X)) (p : Place) → IsInBounds b p → entry_in b entries p ≡ get_or entries (index_in b p) None
+entry_in-inside b entries p h = cond-true _ _ _ (in_bounds_from b p h)
+
+pub bounds_from_entry : {X : Type 0} (b : Bounds) (entries : List (Option X)) (p : Place) (x : X) → entry_in b entries p ≡ Some x → IsInBounds b p
+bounds_from_entry b entries p x e = elim (cases_Bool (is_in_bounds b p)) [
+  | inl inside ↦ in_bounds_parts b p inside
+  | inr outside ↦ absurd (none-some x (sym (cond-false _ _ _ outside) ∙ e))
+]
 
 -- the same of a tile
 pub place_in_tile : (t : Cutting) (tile i : ℕ) → IsCutting t → tile < tile_count t → i < cell_count t tile → IsInTile t tile (place_in (bounds_of t tile) i)

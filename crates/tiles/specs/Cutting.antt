@@ -79,6 +79,10 @@ IsInBounds b p = (b.top ≤ p.row) × (p.row < b.top + b.rows) × (b.left ≤ p.
 abbrev pub is_in_bounds : Bounds → Place → Bool
 is_in_bounds b p = nat_le b.top p.row && nat_lt p.row (b.top + b.rows) && nat_le b.left p.col && nat_lt p.col (b.left + b.cols)
 
+-- The bounds lie in a grid within the limits.
+abbrev pub IsWithinLimits : Bounds → Type 0
+IsWithinLimits b = (b.top + b.rows ≤ longest_axis) × (b.left + b.cols ≤ longest_axis)
+
 -- What holds of the bounds of a tile: they have a cell, and lie in the grid.
 pub record AreBounds (t : Cutting) (b : Bounds) : Type 0 where
   pub some_row : 1 ≤ b.rows
@@ -99,6 +103,17 @@ is_on_rim t p = is_first_or_last (bounds_of t (tile_of_place t p)) p
 -- The places in bounds, in row order.
 abbrev pub places_in : Bounds → List Place
 places_in b = flat_map (λ r. map (λ c. record { row = r; col = c }) (range_with_len b.left b.cols)) (range_with_len b.top b.rows)
+
+-- Where a place of bounds stands in their row order, and the place that stands there.
+abbrev pub index_in : Bounds → Place → ℕ
+index_in b p = (p.row - b.top) * b.cols + (p.col - b.left)
+
+abbrev pub place_in : Bounds → ℕ → Place
+place_in b i = record { row = b.top + i / b.cols; col = b.left + i % b.cols }
+
+-- The entry of a place in a list in the row order of bounds, None outside them.
+abbrev pub entry_in : {X : Type 0} → Bounds → List (Option X) → Place → Option X
+entry_in b entries p = if is_in_bounds b p then slice_index_or entries (index_in b p) None else None
 
 -- The places of a tile's rim, in row order.
 abbrev pub rim_places : Cutting → ℕ → List Place
@@ -143,8 +158,7 @@ row_shown v i =
 
 -- Where a place stands in the row order of its tile.
 abbrev pub index_in_tile : Cutting → Place → ℕ
-index_in_tile t p =
-    let b = bounds_of t (tile_of_place t p) in (p.row - b.top) * b.cols + (p.col - b.left)
+index_in_tile t p = index_in (bounds_of t (tile_of_place t p)) p
 
 -- One list for each tile, of the tile's length.
 pub record AreTileLists {X : Type 0} (t : Cutting) (lists : List (Vec X Global)) : Type 0 where

@@ -1,3 +1,4 @@
 pub mod Cutting
 pub mod RimLeft
+pub mod RimNumbers
 pub mod PuttingBack

@@ -1,5 +1,5 @@
-ghost use Rattle.std.specs.Prelude.{◌≡◌, ◌+◌, ◌≤◌};
-ghost use Rattle.tiles.specs.Cutting.{is_first_or_last, IsInBounds, is_in_bounds, longest_axis};
+ghost use Rattle.std.specs.Prelude.{◌≡◌, ◌*◌, ◌<◌};
+ghost use Rattle.tiles.specs.Cutting.{is_first_or_last, index_in, place_in, IsInBounds, IsWithinLimits, is_in_bounds};
 
 use terrain::Place;
 
@@ -16,13 +16,38 @@ impl Bounds {
     /// Whether a place lies in these bounds.
     #[inline(always)]
     pub fn contains(self, place: Place) -> bool
-        requires { (self.top + self.rows ≤ longest_axis) × (self.left + self.cols ≤ longest_axis) }
+        requires { IsWithinLimits self }
         ensures { result ≡ is_in_bounds self place }
     {
         self.top <= place.row
             && place.row < self.top + self.rows
             && self.left <= place.col
             && place.col < self.left + self.cols
+    }
+
+    /// Where a place of these bounds stands in their row order.
+    #[inline(always)]
+    pub fn index_of(self, place: Place) -> usize
+        requires limits { IsWithinLimits self }
+        requires inside { IsInBounds self place }
+        ensures value { result ≡ index_in self place }
+        ensures below { result < self.rows * self.cols }
+    {
+        (place.row - self.top) as usize * self.cols as usize + (place.col - self.left) as usize
+    }
+
+    /// The place that stands at an index of their row order.
+    #[inline(always)]
+    pub fn place_at(self, index: u32) -> Place
+        requires limits { IsWithinLimits self }
+        requires below { index < self.rows * self.cols }
+        ensures value { result ≡ place_in self index }
+        ensures inside { IsInBounds self result }
+    {
+        Place {
+            row: self.top + index / self.cols,
+            col: self.left + index % self.cols,
+        }
     }
 
     // Whether a place of these bounds lies in their first or last row or column.

@@ -4,6 +4,7 @@
 pub mod bounds;
 mod neighbours;
 pub mod rim;
+mod rim_numbers;
 mod slices;
 pub mod tiling;
 pub mod view;

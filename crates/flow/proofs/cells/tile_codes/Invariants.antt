@@ -1,8 +1,7 @@
 use Rattle.std.proofs.Common.{◌≡◌, ℕ, ◌*◌, ◌<◌, length, get_or, None}
-use Rattle.tiles.specs.Cutting.{bounds_of}
+use Rattle.tiles.specs.Cutting.{bounds_of, place_in}
 use Rattle.drainage.specs.Following.{code_at}
 use Rattle.flow.specs.TileFlow.{directed_by}
-use Rattle.flow.specs.TileLinks.{place_in}
 use Rattle.flow.proofs.cells.tile_codes.Given as goal
 
 abbrev pub invariant-loop-row : goal.invariant-loop-row

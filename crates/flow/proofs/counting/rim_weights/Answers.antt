@@ -1,7 +1,6 @@
 use Rattle.std.proofs.Common.{◌≡◌, ℕ, ◌+◌, ◌++◌, List, drop, length, get_or, take, subst, sym, ap, ◌∙◌, arith}
 use Rattle.std.proofs.lemmas.List.{take_at}
-use Rattle.tiles.specs.Cutting.{bounds_of}
-use Rattle.flow.specs.TileLinks.{index_in}
+use Rattle.tiles.specs.Cutting.{bounds_of, index_in}
 use Rattle.flow.specs.Inflows.{inflow_in}
 use Rattle.flow.specs.Counting.{AreRimWeights}
 use Rattle.flow.proofs.Counted.{weights_le, weights_size}

@@ -1,5 +1,6 @@
 use Rattle.std.proofs.Common.{◌∙◌, arith}
-use Rattle.flow.proofs.RimAdded.{small_bounds, adds_fit, adds_more, adds_done}
+use Rattle.flow.proofs.Piece.{small_bounds}
+use Rattle.flow.proofs.RimAdded.{adds_fit, adds_more, adds_done}
 use Rattle.flow.proofs.inflows.add_all.Goals as goal
 
 pub add_one-requires-clause-small : goal.add_one-requires-clause-small

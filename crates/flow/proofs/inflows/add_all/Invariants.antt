@@ -1,9 +1,8 @@
 use Rattle.std.proofs.Common.{◌≡◌, ◌+◌, ◌*◌, length, get_or}
 use Rattle.terrain.specs.declared.place.Place.{Place}
-use Rattle.tiles.specs.Cutting.{IsInBounds, bounds_of}
+use Rattle.tiles.specs.Cutting.{IsInBounds, bounds_of, index_in}
 use Rattle.flow.specs.Streams.{sum_below}
-use Rattle.flow.specs.TileLinks.{index_in}
-use Rattle.flow.specs.RimNumbers.{stride}
+use Rattle.tiles.specs.RimNumbers.{stride}
 use Rattle.flow.specs.Inflows.{adds}
 use Rattle.flow.proofs.inflows.add_all.Given as goal
 

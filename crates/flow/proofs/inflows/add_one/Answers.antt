@@ -2,15 +2,14 @@ use Rattle.std.proofs.Common.{◌≡◌, ◌+◌, ◌^◌, ◌<◌, ◌&&◌, tr
 use Rattle.std.proofs.lemmas.Bool.{and_parts}
 use Rattle.terrain.specs.declared.place.Place.{Place}
 use Rattle.tiles.proofs.Cut.{in_bounds_parts}
-use Rattle.tiles.specs.Cutting.{is_in_bounds}
-use Rattle.flow.specs.TileLinks.{index_in}
-use Rattle.flow.specs.RimNumbers.{rim_place}
+use Rattle.tiles.specs.Cutting.{is_in_bounds, index_in}
+use Rattle.tiles.specs.RimNumbers.{rim_place}
 use Rattle.flow.specs.RimGraph.{stands_for}
 use Rattle.flow.proofs.RimAdded.{added, unadded, own_adds}
 use Rattle.flow.proofs.inflows.add_one.Goals as goal
 
-pub index_of-requires-clause-given : goal.index_of-requires-clause-given
-index_of-requires-clause-given c = in_bounds_parts c.args.bounds c.rim_place-place.result (and_parts _ _ (sym c.if-stands_in.ensures)).1
+pub index_of-requires-clause-inside : goal.index_of-requires-clause-inside
+index_of-requires-clause-inside c = in_bounds_parts c.args.bounds c.rim_place-place.result (and_parts _ _ (sym c.if-stands_in.ensures)).1
 
 pub overflow_add-weights : goal.overflow_add-weights
 overflow_add-weights c =

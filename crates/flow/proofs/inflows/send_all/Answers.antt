@@ -1,6 +1,6 @@
 use Rattle.std.proofs.Common.{◌≡◌, ◌+◌, ap, ◌∙◌, arith}
 use Rattle.flow.specs.Streams.{sum_below}
-use Rattle.flow.specs.RimNumbers.{number_count}
+use Rattle.tiles.specs.RimNumbers.{number_count}
 use Rattle.flow.specs.Inflows.{entering}
 use Rattle.flow.proofs.Sums.{sum_more, sum_below-part}
 use Rattle.flow.proofs.inflows.send_all.Goals as goal

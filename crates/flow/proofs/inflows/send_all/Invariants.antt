@@ -1,6 +1,6 @@
 use Rattle.std.proofs.Common.{◌≡◌, ℕ, ◌<◌, length, get_or}
 use Rattle.flow.specs.Streams.{sum_below}
-use Rattle.flow.specs.RimNumbers.{number_count}
+use Rattle.tiles.specs.RimNumbers.{number_count}
 use Rattle.flow.specs.Inflows.{entering}
 use Rattle.flow.proofs.inflows.send_all.Given as goal
 

@@ -1,7 +1,7 @@
 use Rattle.std.proofs.Common.{◌≡◌, ◌+◌, ◌^◌, ◌<◌, sym, ap, ◌∙◌, arith, rules, unwrap_or, Option, ℕ, subst}
 use Rattle.terrain.specs.declared.place.Place.{Place}
 use Rattle.tiles.specs.Cutting.{IsWithin}
-use Rattle.flow.specs.RimNumbers.{rim_place}
+use Rattle.tiles.specs.RimNumbers.{rim_place}
 use Rattle.flow.specs.Inflows.{rim_weight, weight_or, through_by}
 use Rattle.flow.proofs.RimFlows.{target_listed, targets_size, target_from, within_of}
 use Rattle.flow.proofs.RimTotals.{weight_few}

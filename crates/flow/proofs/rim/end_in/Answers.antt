@@ -3,9 +3,9 @@ use Rattle.std.proofs.lemmas.List.FromFn.{get_or-map-range_with_len, length-map-
 use Rattle.terrain.specs.declared.place.Place.{Place}
 use Rattle.terrain.proofs.Listed.{place_is}
 use Rattle.flow.specs.Streams.{end_of}
-use Rattle.flow.specs.TileLinks.{index_in}
-use Rattle.flow.specs.RimNumbers.{stride, side_place}
-use Rattle.flow.proofs.RimNumbered.{side_below}
+use Rattle.tiles.specs.Cutting.{index_in}
+use Rattle.tiles.specs.RimNumbers.{stride, side_place}
+use Rattle.tiles.proofs.RimNumbered.{side_below}
 use Rattle.flow.proofs.rim.end_in.Goals as goal
 
 pub bounds-rim_ends-side : goal.bounds-rim_ends-side

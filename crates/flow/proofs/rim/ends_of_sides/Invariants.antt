@@ -2,8 +2,8 @@ use Rattle.std.proofs.Common.{◌≡◌, map}
 use Rattle.std.specs.List.{range_with_len}
 use Rattle.flow.specs.Streams.{end_of}
 use Rattle.flow.specs.Finding.{AreFound}
-use Rattle.flow.specs.TileLinks.{index_in}
-use Rattle.flow.specs.RimNumbers.{side_place}
+use Rattle.tiles.specs.Cutting.{index_in}
+use Rattle.tiles.specs.RimNumbers.{side_place}
 use Rattle.flow.proofs.rim.ends_of_sides.Given as goal
 
 abbrev pub invariant-loop-side : goal.invariant-loop-side

@@ -1,6 +1,7 @@
 use Rattle.std.proofs.Common.{◌≡◌, ◌+◌, ◌-◌, ◌*◌, ℕ, ◌++◌, ◌∷◌, [], ap, subst, arith}
 use Rattle.terrain.proofs.Places.{make_place}
-use Rattle.tile_maps.specs.Maps.{index_within, AreMadeBelow}
+use Rattle.tiles.specs.Cutting.{index_in}
+use Rattle.tile_maps.specs.Maps.{AreMadeBelow}
 use Rattle.tile_maps.proofs.TileLists.{made_push}
 use Rattle.sight.proofs.by_place.push_row.Goals as goal
 
@@ -9,7 +10,7 @@ loop-col-preserved g c =
     let b = c.args.bounds in
     let Has = g.M.Placed.has c.args.map.now in
     let p = make_place c.args.row c.loop-col.col in
-    let next : index_within b p + 1 ≡ (c.args.row - b.top) * b.cols + (c.loop-col.col + 1 - b.left) = omega arith in
+    let next : index_in b p + 1 ≡ (c.args.row - b.top) * b.cols + (c.loop-col.col + 1 - b.left) = omega arith in
     let more = made_push b Has p c.loop-col.list.items c.entry.result (omega (arith, c.requires.row), omega (arith, c.requires.row), omega arith, omega arith) c.loop-col.invariant c.entry.ensures in
     rw c.in_ok-push.ensures.items (subst (λ (n : ℕ). AreMadeBelow b Has n (c.loop-col.list.items ++ c.entry.result ∷ [])) next more)
 

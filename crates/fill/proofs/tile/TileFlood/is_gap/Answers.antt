@@ -5,7 +5,7 @@ use Rattle.terrain.specs.declared.place.Place.{Place}
 use Rattle.tiles.proofs.Cut.{in_bounds_parts}
 use Rattle.fill.specs.Labels.{labels_by}
 use Rattle.fill.specs.TileFlood.{Flood}
-use Rattle.fill.proofs.TileWindows.{entry_in-inside}
+use Rattle.tiles.proofs.TileOrder.{entry_in-inside}
 use Rattle.fill.proofs.Where.{level_shown}
 use Rattle.fill.proofs.tile.TileFlood.is_gap.Goals as goal
 

@@ -2,9 +2,9 @@ use Rattle.std.proofs.Common.{ℕ, List, length, get_or, Option, IfSome, subst, 
 use Rattle.terrain.specs.declared.place.Place.{Place}
 use Rattle.tiles.specs.Cutting.{IsWithin}
 use Rattle.flow.specs.Streams.{AreUpstream, sum_below}
-use Rattle.flow.specs.RimNumbers.{number_count}
+use Rattle.tiles.specs.RimNumbers.{number_count}
 use Rattle.flow.specs.Inflows.{AreEntering, entering}
-use Rattle.flow.proofs.RimNumbered.{few_numbers}
+use Rattle.tiles.proofs.RimNumbered.{few_numbers}
 use Rattle.flow.proofs.RimFlows.{links_size, rim_streams, target_listed, targets_size, targets_within}
 use Rattle.flow.proofs.RimTotals.{weights_size, total_few}
 use Rattle.flow.proofs.RimInflows.{entering_few, inflows_are}

@@ -1,7 +1,7 @@
 use Rattle.std.proofs.Common.{get_or, None, ap, ◌∙◌}
 use Rattle.terrain.specs.declared.place.Place.{Place}
 use Rattle.tiles.specs.declared.bounds.Bounds.{Bounds}
-use Rattle.flow.specs.TileLinks.{place_in}
+use Rattle.tiles.specs.Cutting.{place_in}
 use Rattle.flow.specs.RimGraph.{outlet_in}
 use Rattle.flow.specs.Numbering.{number_at}
 use Rattle.flow.proofs.Listed.{exit_placed, label_own}

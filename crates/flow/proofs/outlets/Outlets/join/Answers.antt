@@ -1,9 +1,9 @@
 use Rattle.std.proofs.Common.{ℕ, ◌<◌, List, length, get_or, ap, ◌∙◌, arith}
 use Rattle.std.proofs.lemmas.List.FromFn.{length-map-range_with_len}
-use Rattle.flow.specs.RimNumbers.{number_count}
+use Rattle.tiles.specs.RimNumbers.{number_count}
 use Rattle.flow.specs.RimGraph.{rim_outlet, rim_outlets_by}
 use Rattle.flow.proofs.Ending.{end-inside}
-use Rattle.flow.proofs.RimNumbered.{few_numbers}
+use Rattle.tiles.proofs.RimNumbered.{few_numbers}
 use Rattle.flow.proofs.RimFlows.{links_size, rim_streams, outlets_are}
 use Rattle.flow.proofs.outlets.Outlets.join.Goals as goal
 

@@ -3,7 +3,7 @@ use Rattle.std.proofs.lemmas.List.{get_or_default}
 use Rattle.terrain.specs.declared.place.Place.{Place}
 use Rattle.flow.specs.Counts.{is_place}
 use Rattle.flow.specs.Whole.{is_outlet_code}
-use Rattle.flow.specs.RimNumbers.{rim_number, rim_place}
+use Rattle.tiles.specs.RimNumbers.{rim_number, rim_place}
 use Rattle.flow.specs.RimGraph.{code_in, Outlets, outlet_in}
 use Rattle.flow.proofs.RimFlows.{outlet_listed, outlet_unlisted}
 use Rattle.flow.proofs.outlets.Outlets.outlet.Goals as goal

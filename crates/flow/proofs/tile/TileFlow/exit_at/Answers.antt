@@ -1,9 +1,9 @@
 use Rattle.std.proofs.Common.{◌≡◌, ℕ, ◌<◌, length, get_or, None, sym, ap, subst, ◌∙◌, arith}
-use Rattle.tiles.specs.Cutting.{IsInBounds}
+use Rattle.tiles.specs.Cutting.{IsInBounds, place_in, index_in}
 use Rattle.tiles.proofs.TileOrder.{index_in_below}
 use Rattle.flow.specs.Streams.{end_of}
 use Rattle.flow.specs.TileFlow.{Flow}
-use Rattle.flow.specs.TileLinks.{ends_by, place_in, index_in}
+use Rattle.flow.specs.TileLinks.{ends_by}
 use Rattle.flow.proofs.Listed.{made_at}
 use Rattle.flow.proofs.Piece.{end_listed}
 use Rattle.flow.proofs.tile.TileFlow.exit_at.Goals as goal

@@ -2,7 +2,8 @@ use Rattle.std.proofs.Common.{◌≡◌, ◌<◌, length, get_or, None, ap, subs
 use Rattle.std.specs.Option.{option_map}
 use Rattle.std.proofs.lemmas.List.{get_or_default}
 use Rattle.flow.specs.TileFlow.{Flow}
-use Rattle.flow.specs.TileLinks.{ends_by, where_data, index_in}
+use Rattle.tiles.specs.Cutting.{index_in}
+use Rattle.flow.specs.TileLinks.{ends_by, where_data}
 use Rattle.flow.proofs.Listed.{exits_size, exit_index_is}
 use Rattle.flow.proofs.Piece.{as_many_links, end_listed, ends_seen}
 use Rattle.flow.proofs.tile.TileFlow.exit_index.Goals as goal

@@ -8,7 +8,7 @@ use Rattle.terrain.proofs.Places.{make_place, same_place}
 use Rattle.tiles.specs.declared.bounds.Bounds.{Bounds}
 use Rattle.tiles.specs.Cutting.{Cutting, IsCutting, IsWithin, IsInBounds, across, tile_count, tile_of_place, bounds_of}
 use Rattle.tiles.proofs.Cut.{in_bounds, tile_of_place_below}
-use Rattle.flow.specs.RimNumbers.{stride, side_number, side_place, number_count, rim_number, rim_place}
+use Rattle.tiles.specs.RimNumbers.{stride, side_number, side_place, number_count, rim_number, rim_place}
 
 -- the cell lies in the first or last row or column, the last column last
 abbrev pub IsSide : Bounds → Place → Type 0

@@ -1,4 +1,4 @@
--- Numbers for the cells on the rims of all tiles. Only the contracts of private functions speak of it.
+-- Numbers for the cells on the rims of all tiles.
 use Rattle.std.specs.Prelude.{ℕ, ◌+◌, ◌-◌, ◌*◌, ◌/◌, ◌%◌, ◌==◌, nat_lt, if◌then◌else◌}
 use Rattle.terrain.specs.declared.place.Place.{Place}
 use Rattle.tiles.specs.declared.bounds.Bounds.{Bounds}

@@ -1,0 +1,117 @@
+//! Numbers for the cells on the rims of all tiles.
+ghost use Rattle.std.specs.Prelude.{◌≡◌, ◌+◌, ◌*◌, ◌^◌, ◌<◌, ◌≤◌};
+ghost use Rattle.tiles.specs.Cutting.{IsInBounds, IsWithin, IsWithinLimits, bounds_of, tile_count};
+ghost use Rattle.tiles.specs.RimNumbers.{stride, side_number, side_place, number_count, rim_number, rim_place};
+
+use crate::bounds::Bounds;
+use crate::tiling::Tiling;
+use terrain::Place;
+
+impl Tiling {
+    /// How many numbers there are: for each tile as many as two rows and two columns of the first have cells.
+    pub fn number_count(&self) -> u32
+        ensures value { result ≡ number_count self.now }
+        ensures few { result ≤ 2 ^ 30 }
+    {
+        self.tiles() * self.bounds(0).side_count()
+    }
+
+    /// The first number of a tile, and how many it has.
+    pub fn numbers_of(&self, tile: u32) -> (u32, u32)
+        requires { tile < tile_count self.now }
+        ensures first { result.0 ≡ tile * stride (bounds_of self.now 0) }
+        ensures count { result.1 ≡ stride (bounds_of self.now 0) }
+        ensures below { result.0 + result.1 ≤ number_count self.now }
+    {
+        let count = self.bounds(0).side_count();
+        (tile * count, count)
+    }
+
+    /// The number of a rim cell. A cell that is on no rim has that of another.
+    pub fn rim_number(&self, place: Place) -> u32
+        requires { IsWithin self.now place }
+        ensures value { result ≡ rim_number self.now place }
+        ensures below { result < number_count self.now }
+    {
+        let tile = self.tile_of(place);
+        let largest = self.bounds(0);
+        tile * largest.side_count() + self.bounds(tile).side_number(largest, place)
+    }
+
+    /// The cell of a number. Some numbers stand for no cell of a rim.
+    pub fn rim_place(&self, number: u32) -> Place
+        requires { number < number_count self.now }
+        ensures { result ≡ rim_place self.now number }
+    {
+        let largest = self.bounds(0);
+        let bounds = self.bounds(number / largest.side_count());
+        bounds.side_place(largest, number % largest.side_count())
+    }
+}
+
+impl Bounds {
+    /// How many numbers the cells of the first and last row and column have, where no bounds are larger than these.
+    pub fn side_count(self) -> u32
+        requires { IsWithinLimits self }
+        ensures value { result ≡ stride self }
+        ensures few { result ≤ 2 ^ 14 }
+    {
+        2 * self.cols + 2 * self.rows
+    }
+
+    /// The number of a cell along the first row, the last row, the first column and the last column, where no bounds are
+    /// larger than the largest.
+    pub fn side_number(self, largest: Bounds, place: Place) -> u32
+        requires largest { IsWithinLimits largest }
+        requires limits { IsWithinLimits self }
+        requires inside { IsInBounds self place }
+        ensures { result ≡ side_number largest self place }
+    {
+        if place.row == self.top {
+            place.col - self.left
+        } else if place.row + 1 == self.top + self.rows {
+            largest.cols + (place.col - self.left)
+        } else if place.col == self.left {
+            2 * largest.cols + (place.row - self.top)
+        } else {
+            2 * largest.cols + largest.rows + (place.row - self.top)
+        }
+    }
+
+    /// The cell of a number along the first row, the last row, the first column and the last column.
+    pub fn side_place(self, largest: Bounds, number: u32) -> Place
+        requires largest { IsWithinLimits largest }
+        requires limits { IsWithinLimits self }
+        requires some { (1 ≤ self.rows) × (1 ≤ self.cols) }
+        requires number { number < stride largest }
+        ensures { result ≡ side_place largest self number }
+    {
+        let Bounds {
+            top,
+            left,
+            rows,
+            cols,
+        } = self;
+        if number < largest.cols {
+            Place {
+                row: top,
+                col: left + number,
+            }
+        } else if number < 2 * largest.cols {
+            Place {
+                row: top + rows - 1,
+                col: left + (number - largest.cols),
+            }
+        } else if number < 2 * largest.cols + largest.rows {
+            Place {
+                row: top + (number - 2 * largest.cols),
+                col: left,
+            }
+        } else {
+            Place {
+                row: top + (number - (2 * largest.cols + largest.rows)),
+                col: left + cols - 1,
+            }
+        }
+    }
+}
