@@ -1,12 +1,12 @@
 -- The digits of a number, written and read again.
-use Rattle.std.proofs.Common.{◌≡◌, ℕ, zero, suc, ◌+◌, ◌*◌, ◌/◌, ◌%◌, ◌^◌, ◌<◌, ◌≤◌, ◌-◌, List, [], ◌∷◌, ◌++◌, length, drop, set, sym, ap, refl, ◌∙◌, arith, add-one, false, true, leb}
-use Rattle.std.specs.Prelude.{decimal, ℤ, pos, negsuc, ◌<ℤ◌, unsigned_abs}
+use Rattle.std.proofs.Common.{◌≡◌, ℕ, zero, suc, ◌+◌, ◌*◌, ◌/◌, ◌%◌, ◌^◌, ◌<◌, ◌≤◌, ◌-◌, List, [], ◌∷◌, ◌++◌, length, drop, set, sym, ap, refl, ◌∙◌, arith, add-one, true, leb}
+use Rattle.std.specs.Prelude.{decimal}
 use Rattle.std.proofs.Math.Nat.{div-div-eq-div-mul, pow-succ', div-one, pow-le-pow_right}
 use Rattle.std.proofs.lemmas.Nat.{mul-le, pow-add}
 use lib.Signed.{le_z}
-use Rattle.std.proofs.lemmas.Fmt.{length-decimal-le, decimal_by_steps, decimal_nonempty}
+use Rattle.std.proofs.lemmas.Fmt.{decimal_by_steps, decimal_nonempty}
 use Rattle.std.proofs.lemmas.Grind.{drop-set_at}
-use Rattle.ascii_grid.specs.Text.{last_digits, decimals_text, height_text}
+use Rattle.ascii_grid.specs.Text.{last_digits}
 use Rattle.std.specs.List.{list_all}
 use Rattle.std.specs.Char.{is_ascii_digit}
 use Rattle.std.proofs.lemmas.Bool.{and_from, le-leb}
@@ -38,10 +38,6 @@ digit_before k n left at buffer e h d =
     ∙ ap (λ m. (48 + m % 10) ∷ last_digits k n) e
     ∙ sym (rw add-one (last_digits-front k n))
 
--- a number of 64 bits has at most twenty digits
-pub few_digits : (n : ℕ) → n < 2 ^ 64 → length (decimal n) ≤ 20
-few_digits n h = length-decimal-le 20 n (omega arith) (omega arith) (omega arith)
-
 -- and no fewer than its size asks for
 pub many_digits : (n : ℕ) → n < 2 ^ 64 → (k : ℕ) → 10 ^ k ≤ n → k < length (decimal n)
 many_digits n h = decimal_by_steps (λ m ds. (k : ℕ) → 10 ^ k ≤ m → k < length ds) first next n h
@@ -55,26 +51,6 @@ many_digits n h = decimal_by_steps (λ m ds. (k : ℕ) → 10 ^ k ≤ m → k < 
     next m ds more longer (suc k) le =
         let rest : 10 ^ k ≤ m / 10 = omega (arith, le, pow-succ' 10 k) in
         omega (arith, length-append ds ((48 + m % 10) ∷ []), longer k rest)
-
--- the text of a height below zero begins with its sign
-pub height_text-negative : (d : ℕ) (z : ℤ) → z <ℤ pos 0 → height_text d z ≡ 45 ∷ (decimal (unsigned_abs z / 10 ^ d) ++ decimals_text d (unsigned_abs z))
-height_text-negative d (pos n) h = absurd (grind (arith, h))
-height_text-negative d (negsuc n) h = refl
-
--- a height's text, once its sign is put before the rest
-pub signed_text : (d size whole start end : ℕ) (z : ℤ) (buffer decimals : List ℕ) →
-    le_z (pos 0) z ≡ false → size ≡ unsigned_abs z → whole ≡ size / 10 ^ d →
-    0 < start → start ≤ length buffer → drop start buffer ≡ decimal whole ++ decimals → decimals ≡ decimals_text d size →
-    drop (start - 1) (set buffer (start - 1) 45) ≡ height_text d z
-signed_text d size whole start end z buffer decimals below is_size is_whole some within written is_decimals =
-    let at : start - 1 + 1 ≡ start = omega arith in
-    drop-set_at buffer (start - 1) (start - 1) 45 refl (omega arith)
-    ∙ ap (λ n. 45 ∷ drop n buffer) at
-    ∙ ap (λ ds. 45 ∷ ds) written
-    ∙ ap (λ ds. 45 ∷ (decimal whole ++ ds)) is_decimals
-    ∙ ap (λ n. 45 ∷ (decimal n ++ decimals_text d size)) is_whole
-    ∙ ap (λ n. 45 ∷ (decimal (n / 10 ^ d) ++ decimals_text d n)) is_size
-    ∙ sym (height_text-negative d z (grind (arith, below)))
 
 -- one digit more
 pub number_of-push : (ds : List ℕ) (b : ℕ) → number_of (ds ++ b ∷ []) ≡ 10 * number_of ds + (b - 48)

@@ -58,9 +58,6 @@ AreCells-parted form bytes ws cells h heights are =
 
 -- ---- more bytes
 
-pub AreCells-none : (form : Form) → AreCells form [] []
-AreCells-none form = AreCells-parted form [] [] [] IsParted-none (λ k d below. absurd (omega arith)) refl
-
 pub AreCells-separator : (form : Form) (bytes : List ℕ) (cells : List (Option ℤ)) (b : ℕ) → is_separator b ≡ true → AreCells form bytes cells → AreCells form (bytes ++ b ∷ []) cells
 AreCells-separator form bytes cells b e h =
     AreCells-parted form (bytes ++ b ∷ []) (words bytes) cells (IsParted-separator bytes (words bytes) [] b (IsParted-ended bytes h.ended) e) h.heights h.are

@@ -1,5 +1,5 @@
 // Heights that are read apart from the rest of their text.
-ghost use Rattle.std.specs.Prelude.{◌≡◌, ◌↔◌, IsTrue, ℕ, ◌<◌, ◌≤◌, ◌++◌, List, length, take, IfSome};
+ghost use Rattle.std.specs.Prelude.{◌≡◌, IsTrue, ℕ, ◌<◌, ◌≤◌, ◌++◌, List, length, take, IfSome};
 ghost use Rattle.std.specs.List.{position};
 ghost use Rattle.terrain.specs.Words.{is_separator};
 ghost use Rattle.terrain.specs.Decimal.{scaled_value};

@@ -1,5 +1,5 @@
 // A grid from a reader, piece by piece.
-ghost use Rattle.std.specs.Prelude.{◌≡◌, ◌≢◌, ◌≤◌, ◌-◌, ◌^◌, ◌<◌, ℕ, List, length, Some, Err, IfOk};
+ghost use Rattle.std.specs.Prelude.{◌≡◌, ◌≢◌, ◌≤◌, ◌-◌, ◌^◌, ◌<◌, ℕ, List, length, Err, IfOk};
 ghost use Rattle.ascii_grid.specs.Input.{ReadsGrid};
 ghost use Rattle.ascii_grid.specs.Reader.{HasTaken, Feeds};
 ghost use Rattle.ascii_grid.specs.GridText.{IsGridText, IsRefusal};

@@ -3,19 +3,19 @@
 
 mod cell;
 mod cell_text;
-pub mod counted;
-pub mod decimal;
-pub mod fault;
+mod counted;
+mod decimal;
+mod fault;
 mod header;
-pub mod heights;
-pub mod input;
+mod heights;
+mod input;
 mod judge;
 mod key;
 pub mod laws;
-pub mod page;
+mod page;
 mod progress;
-pub mod read;
-pub mod reader;
+mod read;
+mod reader;
 pub mod write;
 
 pub use counted::{Counted, ReadFailed, WriteFailed};
@@ -25,6 +25,6 @@ pub use input::{InputFault, read_grid, read_grid_by};
 pub use page::Page;
 pub use progress::is_separator;
 pub use read::read_text;
-pub use reader::GridReader;
+pub use reader::{GridReader, MOST_TEXT_BYTES};
 pub use terrain::{Frame, Grid, HIGHEST, Height, LOWEST, NoMemory, Place};
 pub use write::{write_codes, write_counts, write_framed_counts, write_heights};

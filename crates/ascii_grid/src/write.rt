@@ -1,11 +1,11 @@
 // A grid as text.
-ghost use Rattle.std.specs.Prelude.{◌≡◌, ◌↔◌, ◌∷◌, ◌+◌, ◌++◌, ◌*◌, ◌/◌, ◌-◌, ◌^◌, ◌<◌, ◌≤◌, [], ℕ, List, length, decimal, codes, OnOk, IfOk};
+ghost use Rattle.std.specs.Prelude.{◌≡◌, ◌∷◌, ◌+◌, ◌++◌, ◌*◌, ◌/◌, ◌-◌, ◌^◌, ◌<◌, ◌≤◌, [], ℕ, List, length, decimal, codes, OnOk, IfOk};
 ghost use Rattle.std.specs.List.{flat_map};
 ghost use Rattle.terrain.specs.Sinks.{raster_with_sinks};
 ghost use Rattle.ascii_grid.specs.Device.{Writes};
 ghost use Rattle.ascii_grid.specs.Gathers.{Gathers};
 ghost use Rattle.ascii_grid.specs.GridText.{IsGridText, most_bytes};
-ghost use Rattle.ascii_grid.specs.Text.{height_text, cell_text, row_text, rows_text, line_text, anchor_text, header_text, heights_text, counts_text, counts_nodata};
+ghost use Rattle.ascii_grid.specs.Text.{height_text, cell_text, row_text, rows_text, line_text, anchor_text, header_text, heights_text, counts_text};
 
 use crate::cell_text::CellValue;
 use crate::counted::{Counted, WriteFailed};

@@ -51,12 +51,12 @@ kept_none c tile l none k =
       | inr outside ↦ kept_outside c tile l k outside
     ]
 
-slice_get-set_here : {X : Type 0} (xs : List X) (i : ℕ) (x : X) → i < length xs → slice_get (slice_set xs i x) i ≡ Some x
+pub slice_get-set_here : {X : Type 0} (xs : List X) (i : ℕ) (x : X) → i < length xs → slice_get (slice_set xs i x) i ≡ Some x
 slice_get-set_here [] i x below = absurd (omega arith)
 slice_get-set_here (y ∷ ys) zero x below = refl
 slice_get-set_here (y ∷ ys) (suc i) x below = slice_get-set_here ys i x (omega arith)
 
-slice_get-set_other : {X : Type 0} (xs : List X) (i j : ℕ) (x : X) → j ≢ i → slice_get (slice_set xs i x) j ≡ slice_get xs j
+pub slice_get-set_other : {X : Type 0} (xs : List X) (i j : ℕ) (x : X) → j ≢ i → slice_get (slice_set xs i x) j ≡ slice_get xs j
 slice_get-set_other [] i j x other = refl
 slice_get-set_other (y ∷ ys) zero zero x other = absurd (other refl)
 slice_get-set_other (y ∷ ys) zero (suc j) x other = refl

@@ -2,10 +2,10 @@
 #![tactic(auto)]
 
 mod amid;
-pub mod around;
+mod around;
 mod beginning;
 mod changes;
-pub mod draining;
+mod draining;
 mod entering;
 mod first;
 pub mod laws;
@@ -14,7 +14,7 @@ mod lowering;
 mod rounds;
 mod runs;
 mod stages;
-pub mod steepness;
+mod steepness;
 mod surroundings;
 mod window;
 

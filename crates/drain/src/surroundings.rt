@@ -89,7 +89,7 @@ fn around(grid: &Grid, steps: &[StepCount], place: Place, level: Height, own: u3
 
 /// The code of a data cell of the first or last row or column.
 #[inline(never)]
-#[tactic(auto, using(crate::proofs::Laid::fitting, crate::proofs::Laid::code_by_direction))]
+#[tactic(auto, using(crate::proofs::Laid::fitting))]
 fn code_outermost(grid: &Grid, steps: &[StepCount], place: Place, level: Height, own: u32) -> Code
     requires lawful { IsTerrain grid.now.terrain }
     requires steps { AreSteps grid.now.terrain steps.now }
@@ -121,7 +121,6 @@ fn code_at(grid: &Grid, steps: &[StepCount], place: Place) -> Option<Code>
 }
 
 /// The codes of one row of a tile.
-#[tactic(auto, using(crate::proofs::TileLists::coded_next))]
 fn codes_along(
     grid: &Grid,
     steps: &[StepCount],

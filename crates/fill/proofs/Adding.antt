@@ -113,6 +113,14 @@ pub record HasAdded (c : Cutting) (floods : List Flood) (sources : List (Option 
   pub only : (j : Join) → Contains new j → Contains old j ⊎ IsMeetingAt c floods sources (λ q. q ≡ p) j
   pub every : (q : Place) (j : Join) → (IsInTile c tile q → IsAfter p q) → way_to p q < way → Meets c floods sources p q j → Covered new j
 
+-- no place adds nothing
+pub adds_none : (c : Cutting) (floods : List Flood) (sources : List (Option ℤ)) (tile : ℕ) (places : Place → Type 0) (old new : List Join) → new ≡ old → ((p : Place) → places p → ⊥) → Adds c floods sources tile places old new
+adds_none c floods sources tile places old new same none = subst (Adds c floods sources tile places old) (sym same) (record {
+  kept = λ j h. covered_itself old j h;
+  only = λ j h. inl h;
+  every = λ p q j at. absurd (none p at);
+})
+
 pub none_added : (c : Cutting) (floods : List Flood) (sources : List (Option ℤ)) (tile : ℕ) (p : Place) (way : ℕ) (old : List Join) → ((q : Place) → Touches p q → (IsInTile c tile q → IsAfter p q) → way ≤ way_to p q) → HasAdded c floods sources tile p way old old
 none_added c floods sources tile p way old past = record {
   kept = λ j h. covered_itself old j h;

@@ -67,6 +67,10 @@ cell_label index label old new cells more table at is =
     ∙ ap (λ z. z ++ get_or new index None ∷ []) (labels_kept old new cells table.inside (listed_kept index label old new at))
     ∙ ap (λ z. labels_by old cells ++ z ∷ []) at.is
 
+-- one more entry of a list by another
+pub mapped_more : {X Y : Type 0} (f : X → Y) (xs : List X) (i : ℕ) (d : X) (now next : List Y) (y : Y) → i < length xs → now ≡ map f (take i xs) → next ≡ now ++ y ∷ [] → y ≡ f (get_or xs i d) → next ≡ map f (take (i + 1) xs)
+mapped_more f xs i d now next y low is more here = more ∙ ap (λ z. z ++ y ∷ []) is ∙ ap (λ z. map f (take i xs) ++ z ∷ []) here ∙ sym (map_more f xs i d low)
+
 pub labels_more : (b : Bounds) (now next : List (Option Place)) (nodes : List (Option ℕ)) (i : ℕ) → i < length nodes → now ≡ map (label_of_node b) (take i nodes) → next ≡ now ++ label_of_node b (get_or nodes i None) ∷ [] → next ≡ map (label_of_node b) (take (i + 1) nodes)
 labels_more b now next nodes i low is more = more ∙ ap (λ z. z ++ label_of_node b (get_or nodes i None) ∷ []) is ∙ sym (map_more (label_of_node b) nodes i None low)
 

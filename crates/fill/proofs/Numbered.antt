@@ -1,12 +1,12 @@
 -- The levels of a spill graph, by numbers of those of its nodes that are joined.
-use Rattle.std.proofs.Common.{◌≡◌, ◌≢◌, ℕ, zero, suc, replicate, ◌+◌, ◌<◌, ◌≤◌, ◌⊎◌, inl, inr, ℤ, pos, ◌≤ℤ◌, List, [], ◌∷◌, ◌++◌, map, length, get_or, set, Option, None, Some, unwrap_or, ◌∙◌, sym, ap, subst, refl, arith}
+use Rattle.std.proofs.Common.{◌≡◌, ℕ, zero, suc, ◌+◌, ◌<◌, ◌≤◌, ◌⊎◌, inl, inr, ℤ, pos, ◌≤ℤ◌, List, [], ◌∷◌, map, length, get_or, Option, None, Some, unwrap_or, ◌∙◌, sym, ap, subst, refl, arith}
 use Rattle.std.specs.Prelude.{IsSome, is_some, MatchOption, slice_get}
 use Rattle.std.specs.Int.{int_max}
 use Rattle.std.specs.Option.{option_map}
 use Rattle.std.specs.List.{Contains, All, flat_map}
 use Rattle.std.proofs.lemmas.Bool.{cases_eq, cases_lt}
 use Rattle.std.proofs.lemmas.Option.{MatchOption-at_some, MatchOption-at_none, slice_get-get_or, unwrap_or-slice_get}
-use Rattle.std.proofs.lemmas.List.{length-set, length-map, length-replicate, length_push, get_or-map, get_or-replicate, get_or-set_same, get_or-set_other, get_or_append_left, get_or_push, get_or_past, get_or_default}
+use Rattle.std.proofs.lemmas.List.{length-map, get_or-map, get_or_past, get_or_default}
 use Rattle.std.proofs.lemmas.List.Elements.{All-contains, Contains-get_or}
 use Rattle.floods.specs.declared.net.Spill.{Spill}
 use Rattle.floods.specs.Walk.{IsWalk, crest, end_of, IsLevel, HasNoWalk, IsFlooded, HasJust}
@@ -23,66 +23,6 @@ use Rattle.fill.specs.declared.parts.Part.{Part}
 use Rattle.fill.proofs.Adding.{no_join}
 use Rattle.fill.proofs.GraphParts.{joins_at}
 
--- no number yet
-pub none_told : (n : ℕ) → AreTold [] (replicate n 4294967295)
-none_told n = record {
-  few = omega arith;
-  inside = λ k low. absurd (omega (arith, low));
-  number = λ k low. absurd (omega (arith, low));
-  node = λ a low some. absurd (some (get_or-replicate n a 4294967295 0 (omega (arith, low, length-replicate {A = ℕ} n 4294967295))));
-}
-
--- one more number
-number_more : (nodes numbers : List ℕ) (a : ℕ) → a < length numbers → length nodes < 4294967295 → get_or numbers a 0 ≡ 4294967295 → AreTold nodes numbers → AreTold (nodes ++ a ∷ []) (set numbers a (length nodes))
-number_more nodes numbers a below room none s = record {
-  few = omega (arith, count, room);
-  inside = λ n low. elim (cases_eq n (length nodes)) [
-    | inl last ↦ omega (arith, pushed n last, below, size)
-    | inr early ↦
-        let under : n < length nodes = omega (arith, low, early, count) in
-        omega (arith, kept n under, s.inside n under, size)
-  ];
-  number = λ n low. elim (cases_eq n (length nodes)) [
-    | inl last ↦ ap (λ b. get_or new b 0) (pushed n last) ∙ here ∙ sym last
-    | inr early ↦
-        let under : n < length nodes = omega (arith, low, early, count) in
-        let was = s.number n under in
-        ap (λ b. get_or new b 0) (kept n under) ∙ still (get_or nodes n 0) (λ e. let again = ap (λ b. get_or numbers b 0) e in omega (arith, again, was, none, under, s.few)) ∙ was
-  ];
-  node = λ b low some. elim (cases_eq b a) [
-    | inl same ↦
-        let e = ap (λ k. get_or new k 0) same ∙ here in
-        (omega (arith, e, count), ap (λ k. get_or more k 0) e ∙ pushed (length nodes) refl ∙ sym same)
-    | inr other ↦
-        let e = still b other in
-        let has = s.node b (omega (arith, low, size)) (λ none_here. some (e ∙ none_here)) in
-        (omega (arith, e, has.0, count), ap (λ k. get_or more k 0) e ∙ kept (get_or numbers b 0) has.0 ∙ has.1)
-  ];
-} where
-  more : List ℕ
-  more = nodes ++ a ∷ []
-
-  new : List ℕ
-  new = set numbers a (length nodes)
-
-  count : length more ≡ length nodes + 1
-  count = length_push nodes a
-
-  size : length new ≡ length numbers
-  size = length-set numbers a (length nodes)
-
-  pushed : (n : ℕ) → n ≡ length nodes → get_or more n 0 ≡ a
-  pushed n last = get_or_push nodes a 0 n (sym last)
-
-  kept : (n : ℕ) → n < length nodes → get_or more n 0 ≡ get_or nodes n 0
-  kept n under = get_or_append_left nodes (a ∷ []) 0 n under
-
-  here : get_or new a 0 ≡ length nodes
-  here = get_or-set_same numbers a (length nodes) 0 below
-
-  still : (b : ℕ) → b ≢ a → get_or new b 0 ≡ get_or numbers b 0
-  still b other = get_or-set_other numbers a b (length nodes) 0 other
-
 pub numbered_by : (g : Graph) (nodes numbers : List ℕ) → AreTold nodes numbers → length numbers ≡ g.nodes → length g.sources ≡ g.nodes → All (λ j. HasNumber nodes numbers j.from) g.joins → AreNumbered g nodes numbers
 numbered_by g nodes numbers told size sources joined = record {
   size = size;
@@ -92,26 +32,6 @@ numbered_by g nodes numbers told size sources joined = record {
   number = told.number;
   node = λ a below has. (told.node a (omega (arith, below, size)) (λ none. omega (arith, none, has, told.few))).1;
   joined = λ j held. All-contains (λ (k : Join). HasNumber nodes numbers k.from) g.joins j joined held;
-}
-
--- one node more, which has a number or gets one
-pub has_told : (nodes numbers : List ℕ) (a : ℕ) → a < length numbers → get_or numbers a 0 ≢ 4294967295 → AreTold nodes numbers → Numbers (λ b. b ≡ a) nodes numbers nodes numbers
-has_told nodes numbers a below some told = record {
-  told = told;
-  size = refl;
-  kept = λ b has. has;
-  every = λ b same. let e = ap (λ k. get_or numbers k 0) same in omega (arith, e, (told.node a below some).0);
-}
-
-pub one_told : (nodes numbers : List ℕ) (a : ℕ) → a < length numbers → length nodes < 4294967295 → get_or numbers a 0 ≡ 4294967295 → AreTold nodes numbers → Numbers (λ b. b ≡ a) nodes numbers (nodes ++ a ∷ []) (set numbers a (length nodes))
-one_told nodes numbers a below room none told = record {
-  told = number_more nodes numbers a below room none told;
-  size = length-set numbers a (length nodes);
-  kept = λ b has. elim (cases_eq b a) [
-    | inl same ↦ let e = ap (λ k. get_or numbers k 0) same in absurd (omega (arith, e, none, has, room))
-    | inr other ↦ let e = get_or-set_other numbers a b (length nodes) 0 other in omega (arith, e, has, length_push nodes a)
-  ];
-  every = λ b same. let e = ap (λ k. get_or (set numbers a (length nodes)) k 0) same ∙ get_or-set_same numbers a (length nodes) 0 below in omega (arith, e, length_push nodes a);
 }
 
 -- one after the other

@@ -1,6 +1,6 @@
 -- Numbers in pages.
 use Rattle.std.proofs.Common.{◌≡◌, ◌≢◌, ℕ, ◌+◌, ◌-◌, ◌/◌, ◌%◌, ◌<◌, ◌≤◌, ◌⊎◌, inl, inr, List, [], ◌++◌, replicate, length, get_or, set, ◌∙◌, sym, ap, refl, arith}
-use Rattle.std.proofs.lemmas.Bool.{cases_eq, cases_lt}
+use Rattle.std.proofs.lemmas.Bool.{cases_eq}
 use Rattle.std.proofs.lemmas.List.{ext_get_or, length-set, length-replicate, get_or-replicate, get_or-set_same, get_or-set_other, get_or_append_left, get_or-append_right, get_or_past, length-append}
 use Rattle.std.proofs.lemmas.List.FromFn.{length-map-range_with_len, get_or-map-range_with_len}
 use Rattle.fill.specs.Pages.{ArePages, begin_at, entry_at, numbers_by}
@@ -21,23 +21,6 @@ numbers_same places begins entries begins_was entries_were same =
 -- a page has entries or none
 page_cases : (begins entries : List ℕ) (i : ℕ) → ArePages begins entries → (begin_at begins i ≡ 4294967295) ⊎ ((begin_at begins i + 16 ≤ length entries) × (begin_at begins i % 16 ≡ 0))
 page_cases begins entries i pages = elim (cases_eq (begin_at begins i) 4294967295) [ inl none ↦ inl none | inr has ↦ inr (pages.each i has) ]
-
--- without entries no place has a number
-pub none_paged : (pages : ℕ) → ArePages (replicate pages 4294967295) []
-none_paged pages = record {
-  few = omega arith;
-  whole = refl;
-  each = λ i has. absurd (has (empty i));
-  apart = λ i j has same. absurd (has (empty i));
-} where
-  begins : List ℕ
-  begins = replicate pages 4294967295
-
-  empty : (i : ℕ) → begin_at begins i ≡ 4294967295
-  empty i = elim (cases_lt i (length begins)) [
-    | inl low ↦ get_or-replicate pages i 4294967295 4294967295 (omega (arith, low, length-replicate {A = ℕ} pages 4294967295))
-    | inr past ↦ get_or_past begins i 4294967295 past
-  ]
 
 pub none_numbers : (places : ℕ) (begins : List ℕ) → numbers_by places begins [] ≡ replicate places 4294967295
 none_numbers places begins =
@@ -103,17 +86,6 @@ module _ (begins entries : List ℕ) (page : ℕ) (pages : ArePages begins entri
           | inr is ↦ get_or_append_left entries (replicate 16 4294967295) 4294967295 (begin_at begins (a / 16) + a % 16) (omega (arith, is.0))
         ]
   ]
-
--- a number that is put in its page
-pub pages_put : (begins entries : List ℕ) (k n : ℕ) → ArePages begins entries → ArePages begins (set entries k n)
-pages_put begins entries k n pages =
-    let size = length-set entries k n in
-    record {
-      few = omega (arith, size, pages.few);
-      whole = omega (arith, size, pages.whole);
-      each = λ i has. let is = pages.each i has in (omega (arith, is.0, size), is.1);
-      apart = pages.apart;
-    }
 
 pub numbers_put : (places : ℕ) (begins entries : List ℕ) (a begin n : ℕ) → ArePages begins entries → a < places → begin_at begins (a / 16) ≡ begin → begin + 16 ≤ length entries → numbers_by places begins (set entries (begin + a % 16) n) ≡ set (numbers_by places begins entries) a n
 numbers_put places begins entries a begin n pages below at has =

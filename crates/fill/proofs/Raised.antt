@@ -46,6 +46,19 @@ pub record AreFirstGreater (heights : List ℤ) (labels : List ℕ) (spills : Li
   pub size : length raised ≡ count
   pub each : (i : ℕ) → i < count → get_or raised i None ≡ greater_of (Some (get_or heights i (pos 0))) (get_or spills (get_or labels i 0) None)
 
+pub greater_one : (heights : List ℤ) (labels : List ℕ) (spills : List (Option ℤ)) (i : ℕ) (now next : List (Option ℤ)) (x : Option ℤ) → next ≡ now ++ x ∷ [] → x ≡ greater_of (Some (get_or heights i (pos 0))) (get_or spills (get_or labels i 0) None)
+    → AreFirstGreater heights labels spills i now → AreFirstGreater heights labels spills (i + 1) next
+greater_one heights labels spills i now next x more is s = subst (AreFirstGreater heights labels spills (i + 1)) (sym more) (record {
+  size = length_push now x ∙ ap (λ n. n + 1) s.size;
+  each = λ k low. elim (cases_eq k i) [
+    | inl same ↦ get_or_push now x None k (s.size ∙ sym same) ∙ subst (λ n. x ≡ greater_of (Some (get_or heights n (pos 0))) (get_or spills (get_or labels n 0) None)) (sym same) is
+    | inr other ↦ get_or_append_left now (x ∷ []) None k (omega (arith, low, other, s.size)) ∙ s.each k (omega (arith, low, other))
+  ];
+})
+
+pub all_greater : (heights : List ℤ) (labels : List ℕ) (spills : List (Option ℤ)) (i : ℕ) (raised : List (Option ℤ)) → i ≤ length heights → length heights ≤ i → AreFirstGreater heights labels spills i raised → AreGreater heights labels spills raised
+all_greater heights labels spills i raised below past s = record { size = omega (arith, s.size); each = λ k low. s.each k (omega arith) }
+
 -- a level stands where a label does, and only there a cell is raised
 raised_where : (c : Cutting) (levels : List (Option ℤ)) (height : ℤ) (label : Option Place) → greater_of (Some height) (spill_of c levels label) ≡ raised_by c levels (option_map (λ _. height) label) label
 raised_where c levels height None = refl
@@ -112,6 +125,9 @@ stored_inside c f levels x tile i d below = omega (arith, tile.1.inside i d belo
 pub record AreFirstRaised (c : Cutting) (floods : List Flood) (levels : List (Option ℤ)) (count : ℕ) (tiles : List RaisedTile) : Type 0 where
   pub size : length tiles ≡ count
   pub each : (tile : ℕ) (f : Flood) (x : RaisedTile) → tile < count → slice_get floods tile ≡ Some f → slice_get tiles tile ≡ Some x → IsRaisedTile c f levels x
+
+pub none_raised : (c : Cutting) (floods : List Flood) (levels : List (Option ℤ)) (tiles : List RaisedTile) → tiles ≡ [] → AreFirstRaised c floods levels 0 tiles
+none_raised c floods levels tiles none = record { size = ap length none; each = λ k g x low. absurd (omega (arith, low)) }
 
 pub raised_one : (c : Cutting) (floods : List Flood) (levels : List (Option ℤ)) (i : ℕ) (f : Flood) (x : RaisedTile) (tiles : List RaisedTile) → i < length floods → f ≡ get_or floods i f → IsRaisedTile c f levels x
     → AreFirstRaised c floods levels i tiles → AreFirstRaised c floods levels (i + 1) (tiles ++ x ∷ [])

@@ -1,5 +1,5 @@
 -- Floods of the net of a tile.
-use Rattle.std.proofs.Common.{◌≡◌, ℕ, ◌+◌, ◌-◌, ◌*◌, ◌<◌, inl, inr, ℤ, List, [], ◌∷◌, length, get_or, Option, None, is_some, ◌∙◌, sym, ap, arith, true, map, Some, subst, refl, take, zero, suc}
+use Rattle.std.proofs.Common.{◌≡◌, ℕ, ◌+◌, ◌-◌, ◌*◌, ◌<◌, ◌≤◌, inl, inr, ℤ, List, [], ◌∷◌, length, get_or, Option, None, is_some, ◌∙◌, sym, ap, arith, true, map, Some, subst, refl, take, zero, suc}
 use Rattle.std.proofs.lemmas.Bool.{or_cases, or_left, or_right, eqb-true, eq-eqb, cases_lt}
 use Rattle.std.proofs.lemmas.Nat.{mul-add-lt, div-mul-add, mod-mul-add}
 use Rattle.std.proofs.lemmas.List.{get_or-map, length-map, get_or_past, get_or_append_left, get_or-append_right, get_or-drop, get_or-take, length-take}
@@ -200,3 +200,7 @@ inner_lists b levels labels raw heights numbers nodes raw_is labels_are heights_
   heights_are ∙ ap (λ z. inner_rows z b.cols b.rows) raw_is ∙ inner_rows-map height_or_lack levels b.cols b.rows,
   ap numbered_labels nodes_are ∙ sym (inner_rows-map label_of numbers b.cols b.rows) ∙ ap (λ z. inner_rows z b.cols b.rows) (sym labels_are),
 )
+
+-- a tile is small, and ends within the longest grid
+pub bounds_few : (t : Cutting) (b : Bounds) → IsCutting t → AreBounds t b → (b.top + b.rows ≤ 4096) × (b.left + b.cols ≤ 4096) × (b.cols ≤ 4096) × (b.rows ≤ 4096)
+bounds_few t b h inside = (omega arith, omega arith, omega arith, omega arith)

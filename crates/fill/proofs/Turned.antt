@@ -1,5 +1,5 @@
 -- Joins that are added the other way round.
-use Rattle.std.proofs.Common.{◌≡◌, ◌≢◌, ℕ, ◌+◌, ◌<◌, ◌≤◌, ◌⊎◌, inl, inr, List, [], ◌∷◌, ◌++◌, length, get_or, ◌∙◌, sym, ap, subst, refl, arith}
+use Rattle.std.proofs.Common.{◌≡◌, ◌≢◌, ℕ, ◌+◌, ◌<◌, ◌≤◌, ◌⊎◌, inl, inr, List, [], ◌∷◌, ◌++◌, length, get_or, ◌∙◌, sym, ap, subst, arith}
 use Rattle.std.specs.List.{Contains}
 use Rattle.std.proofs.lemmas.Bool.{cases_eq}
 use Rattle.std.proofs.lemmas.List.{get_or_append_left, length_push, get_or_default}
@@ -15,14 +15,6 @@ pub record HasTurned (c : Cutting) (tile : ℕ) (old : List Join) (count : ℕ) 
   pub first : (k : ℕ) (d : Join) → k < length old → get_or now k d ≡ get_or old k d
   pub back : (k : ℕ) (d : Join) → k < count → tile_of_node c (get_or old k d).to ≡ tile → Contains now (turned (get_or old k d))
   pub only : (j : Join) → Contains now j → Contains old j ⊎ ((k : Join) × Contains old k × (tile_of_node c k.to ≡ tile) × (turned k ≡ j))
-
-pub none_turned : (c : Cutting) (tile : ℕ) (old : List Join) → HasTurned c tile old 0 old
-none_turned c tile old = record {
-  size = omega arith;
-  first = λ k d low. refl;
-  back = λ k d none. absurd (omega (arith, none));
-  only = λ j there. inl there;
-}
 
 -- one of another tile is passed over
 pub turned_past : (c : Cutting) (tile : ℕ) (old : List Join) (i : ℕ) (x : Join) (now : List Join) → i < length old → x ≡ get_or old i x → tile_of_node c x.to ≢ tile → HasTurned c tile old i now → HasTurned c tile old (i + 1) now

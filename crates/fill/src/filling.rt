@@ -1,8 +1,8 @@
 // The filled heights of a grid, by tiles and workers.
-ghost use Rattle.std.specs.Prelude.{◌≡◌, ◌*◌, ◌<◌, ◌≤◌, length, IfOk, OnOk};
+ghost use Rattle.std.specs.Prelude.{◌<◌, ◌≤◌, IfOk, OnOk};
 ghost use Rattle.terrain.specs.Raster.{Terrain, IsTerrain};
 ghost use Rattle.drainage.specs.Filled.{IsFilled, IsFilledGrid};
-ghost use Rattle.tiles.specs.Cutting.{Cuts, IsCutting};
+ghost use Rattle.tiles.specs.Cutting.{Cuts};
 ghost use Rattle.fill.specs.Spills.{AreFloods, IsOpenGraphOf};
 ghost use Rattle.tile_jobs.specs.Fault.{RefusesWorkers};
 ghost use Rattle.fill.specs.Gathering.{Fit};

@@ -1,12 +1,12 @@
 // Where the labels of neighbouring cells meet.
-ghost use Rattle.std.specs.Prelude.{◌≡◌, ◌+◌, ◌*◌, ◌<◌, ◌≤◌, ◌∷◌, [], Some, MatchOption, IfOk, OnOk, length, IsTrue, ◌↔◌, None, is_some, slice_index_or};
+ghost use Rattle.std.specs.Prelude.{◌≡◌, ◌+◌, ◌*◌, ◌<◌, ◌≤◌, ◌∷◌, [], Some, MatchOption, IfOk, OnOk, length, IsTrue, ◌↔◌};
 ghost use Rattle.std.specs.Bool.{OnTrue, OnFalse};
 ghost use Rattle.std.specs.List.{All};
 ghost use Rattle.terrain.specs.declared.place.Place.{Place};
 ghost use Rattle.tiles.specs.Cutting.{IsCutting, IsWithin, IsInTile, bounds_of, tile_count};
 ghost use Rattle.fill.specs.TileFlood.{LabelsInside, AreEqualAfter, IsInner};
 ghost use Rattle.fill.specs.Gathering.{Fit, Adds, AddsCovered, AddsAfter, AreGathered, AreLowest, are_settled, IsRepeat, joins_of, mark_with};
-ghost use Rattle.fill.specs.Parts.{AddsTurned, tile_of_node};
+ghost use Rattle.fill.specs.Parts.{AddsTurned};
 
 use crate::marks::{Mark, mark_at, mark_of_entry};
 use crate::source_heights::SourceHeights;

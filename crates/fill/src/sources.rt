@@ -1,7 +1,7 @@
 // The sources of the spill graph.
 ghost use Rattle.std.specs.Prelude.{◌≡◌, ◌*◌, ◌<◌, List, Some, length, IfOk, IfSome, OnOk};
 ghost use Rattle.std.specs.List.{All, Contains};
-ghost use Rattle.tiles.specs.Cutting.{IsCutting, IsInTile, IsWithin, tile_count};
+ghost use Rattle.tiles.specs.Cutting.{IsCutting, IsWithin, tile_count};
 ghost use Rattle.fill.specs.TileFlood.{Flood};
 ghost use Rattle.fill.specs.Gathering.{Fit, AddsSources, AreSources, PutsSinks, PutsSources};
 ghost use Rattle.fill.specs.Parts.{AreTileSources, AreAllSources};

@@ -1,5 +1,5 @@
 -- Where the cells of bordered rows stand.
-use Rattle.std.proofs.Common.{◌≡◌, ℕ, zero, suc, ◌+◌, ◌-◌, ◌*◌, ◌<◌, ◌≤◌, inl, inr, ℤ, Bool, List, [], ◌∷◌, ◌++◌, length, get_or, take, replicate, Option, None, Some, ◌∙◌, sym, ap, refl, arith, length-append}
+use Rattle.std.proofs.Common.{◌≡◌, ℕ, zero, suc, ◌+◌, ◌-◌, ◌*◌, ◌<◌, ◌≤◌, inl, inr, ℤ, Bool, List, [], ◌∷◌, ◌++◌, length, get_or, take, replicate, Option, None, Some, ◌∙◌, sym, ap, refl, arith, length-append, add-one}
 use Rattle.std.proofs.Math.Nat.{add-sub_cancel_left}
 use Rattle.std.proofs.lemmas.Bool.{cases_lt, cases_eq}
 use Rattle.std.proofs.lemmas.Slice.{between_is}
@@ -20,6 +20,15 @@ AreRows row cols count = (r : ℕ) → r < count → length (row r) ≡ cols
 
 fewer : (row : ℕ → List (Option ℤ)) (cols count : ℕ) → AreRows row cols (suc count) → AreRows row cols count
 fewer row cols count h r below = h r (omega arith)
+
+-- a row more, and all rows
+pub row_more : (row : ℕ → List (Option ℤ)) (stride count : ℕ) (cells now next : List (Option ℤ)) → now ≡ first_rows row stride count → next ≡ now ++ (None ∷ cells ++ None ∷ []) → cells ≡ row count → next ≡ first_rows row stride (count + 1)
+row_more row stride count cells now next is more here =
+    more ∙ ap (λ z. z ++ (None ∷ cells ++ None ∷ [])) is ∙ ap (λ (z : List (Option ℤ)). first_rows row stride count ++ (None ∷ z ++ None ∷ [])) here ∙ ap (first_rows row stride) (sym (add-one count))
+
+pub all_rows : (row : ℕ → List (Option ℤ)) (width stride count rows : ℕ) (now next : List (Option ℤ)) → now ≡ first_rows row stride count → next ≡ now ++ replicate width None → width ≡ stride → count ≡ rows → next ≡ bordered_rows row stride rows
+all_rows row width stride count rows now next is more same all =
+    more ∙ ap (λ z. z ++ replicate width None) is ∙ ap (λ n. first_rows row stride count ++ replicate n None) same ∙ ap (bordered_rows row stride) all
 
 pub length-first_rows : (row : ℕ → List (Option ℤ)) (cols count : ℕ) → AreRows row cols count → length (first_rows row (cols + 2) count) ≡ (count + 1) * (cols + 2)
 length-first_rows row cols zero h = length-replicate (cols + 2) None ∙ omega arith

@@ -127,14 +127,6 @@ no_ways n a none = record {
   every = λ b h j. let some = j.from_cell in absurd (cc);
 }
 
--- eight numbers that all give something
-read_eight : (xs : List ℕ) → length xs ≡ 8 → xs ≡ get_or xs 0 0 ∷ get_or xs 1 0 ∷ get_or xs 2 0 ∷ get_or xs 3 0 ∷ get_or xs 4 0 ∷ get_or xs 5 0 ∷ get_or xs 6 0 ∷ get_or xs 7 0 ∷ []
-read_eight xs eight = grind (arith, elements)
-
-pub eight_given : {Y : Type 0} (f : ℕ → Option Y) (xs : List ℕ) (a b c d e g h i : Y) → length xs ≡ 8 → f (get_or xs 0 0) ≡ Some a → f (get_or xs 1 0) ≡ Some b → f (get_or xs 2 0) ≡ Some c → f (get_or xs 3 0) ≡ Some d → f (get_or xs 4 0) ≡ Some e → f (get_or xs 5 0) ≡ Some g → f (get_or xs 6 0) ≡ Some h → f (get_or xs 7 0) ≡ Some i → a ∷ b ∷ c ∷ d ∷ e ∷ g ∷ h ∷ i ∷ [] ≡ filter_map f xs
-eight_given f xs a b c d e g h i eight first second third fourth fifth sixth seventh eighth =
-    rw (read_eight xs eight) (rw (first, second, third, fourth, fifth, sixth, seventh, eighth) refl)
-
 -- the crest by a way, of the two heights and the level
 pub crest_by : (other height level : ℤ) → int_max other (int_max height level) ≡ int_max (int_max other height) level
 crest_by other height level = omega (arith, ints, clamps)

@@ -2,7 +2,7 @@
 use Rattle.std.proofs.Common.{◌⊎◌, ◌≡◌, ℕ, zero, suc, ◌+◌, ◌-◌, ◌*◌, ◌<◌, ◌≤◌, inl, inr, ℤ, Bool, List, [], ◌∷◌, length, map, ◌++◌, refl, get_or, take, drop, Option, None, is_some, ◌∙◌, sym, ap, arith, length-append, length-drop, length-take-le, subst}
 use Rattle.std.proofs.Math.Nat.{add-sub_cancel_left}
 use Rattle.std.proofs.lemmas.Bool.{cases_eq}
-use Rattle.std.proofs.lemmas.Nat.{mul-add-lt}
+use Rattle.std.proofs.lemmas.Nat.{mul-add-lt, mul-le}
 use Rattle.std.proofs.lemmas.List.{take-map, drop-map, map-append, get_or_append_left, get_or-append_right, get_or-drop, get_or-take}
 use Rattle.std.proofs.lemmas.Slice.{between_is}
 use Rattle.std.specs.Prelude.{slice_range}
@@ -22,6 +22,13 @@ use Rattle.tiles.specs.declared.bounds.Bounds.{Bounds}
 use Rattle.tiles.proofs.Cut.{bounds_inside}
 use Rattle.tiles.proofs.Shown.{row_end, get_or-row_shown}
 use Rattle.floods.proofs.Borders.{AreRows, ShowRows, net_of_rows}
+
+-- the entries of a row inside the border end within the list, and the list is short
+pub inner_row_ends : (rows cols row len : ℕ) → len ≡ (rows + 2) * (cols + 2) → cols ≤ 4096 → rows ≤ 4096 → row < rows → ((row + 1) * (cols + 2) + 1 + cols ≤ len) × (len ≤ 16793604)
+inner_row_ends rows cols row len size few_cols few_rows below = (
+  omega (arith, mul-le (row + 2) (cols + 2) (rows + 2) (cols + 2) (omega arith) (omega arith), size),
+  omega (arith, mul-le (rows + 2) (cols + 2) 4098 4098 (omega arith) (omega arith), size),
+)
 
 -- the entries inside the border
 pub length-inner_rows : {X : Type 0} (list : List X) (cols count : ℕ) → (count + 1) * (cols + 2) ≤ length list → length (inner_rows list cols count) ≡ count * cols

@@ -1,5 +1,5 @@
 // A rectangle of cells as a net.
-ghost use Rattle.std.specs.Prelude.{◌≡◌, None, ◌+◌, ◌-◌, ◌*◌, ◌^◌, ◌<◌, ◌≤◌, ◌∷◌, ◌++◌, ◌↔◌, [], ℕ, ℤ, EachIndex, IsSome, IsTrue, length, All, IfOk, IfSome, OnOk, is_none, slice_index_or, replicate};
+ghost use Rattle.std.specs.Prelude.{◌≡◌, None, ◌+◌, ◌-◌, ◌*◌, ◌^◌, ◌<◌, ◌≤◌, ◌∷◌, ◌++◌, ◌↔◌, [], EachIndex, IsSome, IsTrue, length, All, IfOk, OnOk, is_none, slice_index_or, replicate};
 ghost use Rattle.std.specs.List.{list_any, filter_map, cons_option};
 ghost use Rattle.std.specs.Bool.{OnTrue};
 ghost use Rattle.floods.specs.Walk.{HasNoSource};

@@ -1,5 +1,5 @@
 // The labels of the nodes of a net.
-ghost use Rattle.std.specs.Prelude.{◌≡◌, ◌<◌, ◌-◌, ◌^◌, IfOk, None, Some, length, replicate, set, slice_index_or, is_some};
+ghost use Rattle.std.specs.Prelude.{◌≡◌, ◌<◌, ◌-◌, IfOk, None, Some, length, replicate, set, slice_index_or, is_some};
 ghost use Rattle.floods.specs.Notes.{label_of, numbered_labels};
 
 use std::alloc::{AllocError, Global};

@@ -1,5 +1,5 @@
 // Which cells of a window are sinks.
-ghost use Rattle.std.specs.Prelude.{◌≡◌, ◌≤◌, ◌<◌, ◌+◌, ◌*◌, false, IfOk, slice_index_or};
+ghost use Rattle.std.specs.Prelude.{◌≡◌, ◌≤◌, ◌<◌, ◌+◌, ◌*◌, false, IfOk};
 ghost use Rattle.std.specs.List.{list_any};
 ghost use Rattle.tiles.specs.Cutting.{IsInBounds, is_in_bounds};
 ghost use Rattle.floods.specs.Cells.{HasSinks, is_sink, node_at};

@@ -2,7 +2,7 @@
 use Rattle.std.proofs.Common.{◌≡◌, ℕ, ◌<◌, ◌≤◌, List, length, get_or, map, Option, None, Some, IfSome, sym, ap, subst, refl, ◌∙◌, arith, ◌+◌, ◌-◌, ◌*◌, inl, inr, ◌++◌}
 use Rattle.std.specs.List.{range_with_len}
 use Rattle.std.specs.Option.{option_map}
-use Rattle.std.proofs.lemmas.Bool.{cond-true, eq-eqb, cases_lt}
+use Rattle.std.proofs.lemmas.Bool.{cond-true, cond-false, eq-eqb, ne_eqb, cases_lt}
 use Rattle.std.proofs.lemmas.Option.{none-some, same_Some}
 use Rattle.std.proofs.lemmas.List.{get_or_default, get_or_past, length-append, get_or_append_left, get_or-append_right}
 use Rattle.std.proofs.lemmas.List.FromFn.{get_or-map-range_with_len, length-map-range_with_len}
@@ -61,6 +61,15 @@ module _ (o : Outlets) (flows : List Flow) (codes : List (Option ℕ)) (b : Boun
       let at : exit ≡ index_in b e = same_Some exit (index_in b e) some in
       ap (λ (p : Place). number_at o.cutting.cols codes (outlet_in o flows p)) (ap (place_in b) at ∙ place_in-index_in b e is.inside)
       ∙ sym (cond-true {A = ℕ} _ (number_at o.cutting.cols codes (outlet_in o flows e)) 0 (eq-eqb (index_in b e) i (sym at ∙ own)))
+
+  pub label_none : (i : ℕ) (x : Option Place) → None ≡ option_map (index_in b) x → 0 ≡ label_by o flows codes b i x
+  label_none i None none = refl
+  label_none i (Some e) none = absurd (none-some (index_in b e) none)
+
+  pub label_other : (i exit : ℕ) (x : Option Place) → Some exit ≡ option_map (index_in b) x → (exit ≡ i → ⊥) → 0 ≡ label_by o flows codes b i x
+  label_other i exit None some other = refl
+  label_other i exit (Some e) some other =
+      sym (cond-false {A = ℕ} _ (number_at o.cutting.cols codes (outlet_in o flows e)) 0 (ne_eqb (index_in b e) i (λ own. other (same_Some exit (index_in b e) some ∙ own))))
 
 -- the place of an index, by its row and column
 pub place_in_row : (b : Bounds) (r k : ℕ) → k < b.cols → place_in b (r * b.cols + k) ≡ make_place (b.top + r) (b.left + k)

@@ -4,11 +4,12 @@ use Rattle.std.specs.Option.{option_and_then}
 use Rattle.std.proofs.lemmas.Bool.{cases_eq, cases_lt, cases_Bool, and_from, and_parts, eq-eqb, eqb-true, lt-ltb, ltb-true, cond-true, cond-false, not_from_false, not-true, false_from_ne_true, false≢true}
 use Rattle.std.proofs.lemmas.List.{get_or_default, get_or_past}
 use Rattle.std.proofs.lemmas.List.FromFn.{get_or-map-range_with_len, length-map-range_with_len}
-use Rattle.std.proofs.lemmas.Option.{slice_get_cases, MatchOption-at_none, MatchOption-at_some, none-some, same_Some}
+use Rattle.std.proofs.lemmas.Option.{slice_get_cases, slice_get_read, MatchOption-at_none, MatchOption-at_some, none-some, same_Some}
 use Rattle.terrain.specs.Neighbours.{Touches}
 use Rattle.terrain.specs.Ways.{place_toward, place_on, way_of, ways_from}
 use Rattle.terrain.specs.declared.place.Place.{Place}
-use Rattle.tiles.specs.Cutting.{Cutting, IsWithin, IsInBounds, is_within, bounds_of, tile_of_place, is_in_bounds, entry_in}
+use Rattle.tiles.specs.declared.bounds.Bounds.{Bounds}
+use Rattle.tiles.specs.Cutting.{Cutting, IsWithin, IsInBounds, is_within, tile_count, bounds_of, tile_of_place, is_in_bounds, entry_in}
 use Rattle.tiles.proofs.Cut.{in_bounds, in_tile, tile_of_place_below, in_bounds_parts, in_bounds_from}
 use Rattle.tiles.proofs.Members.{Touches-from_ways}
 use Rattle.drainage.specs.Following.{Directed, code_at, next, follow, moves, last_of, IsOutlet}
@@ -18,7 +19,7 @@ use Rattle.flow.specs.Streams.{AreStreams, AreEnds, onward, node_after, end_of}
 use Rattle.flow.specs.TileFlow.{Flow, stays, exit_in, IsTileExits, IsExitOf, IsExitCell}
 use Rattle.flow.specs.Whole.{is_outlet_code}
 use Rattle.tiles.specs.RimNumbers.{number_count, rim_number, rim_place}
-use Rattle.flow.specs.RimGraph.{code_in, AreFlowsOf, next_by, exit_by, target_by, targets_by, way_out_in, way_out_by, number_or, rim_link, rim_links_by, rim_outlet, rim_outlets_by, outlet_by, AreOutlets}
+use Rattle.flow.specs.RimGraph.{code_in, AreFlowsOf, stands_for, next_by, exit_by, target_by, targets_by, way_out_in, way_out_by, number_or, rim_link, rim_links_by, rim_outlet, rim_outlets_by, outlet_by, AreOutlets}
 use Rattle.flow.proofs.Windows.{every_in_range}
 use Rattle.flow.proofs.Ending.{IsStop, streams_from, node_after-first, node_after-inside}
 use Rattle.flow.proofs.Coded.{IsCoded, cases_option, cases_coded, coded_along, coded_inside, coded_from_some, none_stays, outlet_stays, follow_stays, follow_more, follow_first, StopsAt, stops_sooner, cycle_stops}
@@ -27,6 +28,21 @@ use Rattle.tiles.proofs.RimNumbered.{IsSide, number_below, number_back}
 pub outlet_from_code : (o : Option ℕ) → is_outlet_code o ≡ true → o ≡ Some 0
 outlet_from_code None h = cc
 outlet_from_code (Some n) h = ap Some (eqb-true _ _ h)
+
+-- what was read of the flow of a place's tile
+pub read_of_tile : {X : Type 0} (read : Flow → Option X) (t : Cutting) (flows : List Flow) (p : Place) (tile : ℕ) (flow : Flow) (x : Option X) →
+    length flows ≡ tile_count t → tile ≡ tile_of_place t p → tile < tile_count t → flow ≡ get_or flows tile flow → x ≡ read flow → x ≡ option_and_then read (slice_get flows (tile_of_place t p))
+read_of_tile read t flows p tile flow x count at below is value =
+    value ∙ ap (option_and_then read) (sym (slice_get_read flows (length flows) tile flow refl (omega (arith, below, count)) is) ∙ ap (slice_get flows) at)
+
+pub target_read : (t : Cutting) (flows : List Flow) (i tile : ℕ) (p q : Place) (b : Bounds) → p ≡ rim_place t i → tile ≡ tile_of_place t p → b ≡ bounds_of t tile → q ≡ next_by t flows p →
+    target_by t flows i ≡ cond (stands_for t p i && not (is_in_bounds b q)) (Some q) None
+target_read t flows i tile p q b at of bounds next = cc
+
+pub stands_within : (t : Cutting) (p : Place) (i : ℕ) → true ≡ stands_for t p i → IsWithin t p
+stands_within t p i stands =
+    let within = and_parts _ _ (and_parts _ _ (sym stands)).0 in
+    (ltb-true _ _ within.0, ltb-true _ _ within.1)
 
 -- a code points to a place beside
 toward_touches : (p q : Place) (code : ℕ) → place_toward code p ≡ Some q → Touches p q

@@ -1,5 +1,7 @@
 -- Sums over the cells of a grid; some and all of the numbers of a range, and lists that are made of its numbers.
-use Rattle.std.proofs.Common.{◌≡◌, ℕ, zero, suc, ◌+◌, ◌*◌, ◌≤◌, map, sym, ap, refl, ◌∙◌, arith, add-one, zero-mul, ◌<◌, Bool, true, [], ◌∷◌, ◌++◌, get_or}
+use borrow.Author.Count.{below_more}
+use Rattle.std.proofs.Common.{◌≡◌, ℕ, zero, suc, ◌+◌, ◌*◌, ◌≤◌, List, length, map, sym, ap, refl, ◌∙◌, arith, add-one, zero-mul, ◌<◌, Bool, true, [], ◌∷◌, ◌++◌, get_or}
+use Rattle.std.proofs.lemmas.List.{length-append, get_or_append_left, get_or_push}
 use Rattle.std.proofs.lemmas.List.Sums.{sum_by-append, AllPass-from_list_all, list_all-from_AllPass}
 use Rattle.std.proofs.lemmas.List.FromFn.{sum_by-map-range_with_len_more, length-range_with_len, get_or-range_with_len, map-range_with_len_more}
 use Rattle.std.proofs.lemmas.Nat.{div-mul-add, mod-mul-add}
@@ -71,3 +73,16 @@ all_in_range f n h = list_all-from_AllPass f (range_with_len 0 n)
 -- one more entry of a list that is made from a function
 pub mapped_next : {X : Type 0} (f : ℕ → X) (n : ℕ) → map f (range_with_len 0 (n + 1)) ≡ map f (range_with_len 0 n) ++ f n ∷ []
 mapped_next f n = map-range_with_len_more f 0 n n (omega arith)
+
+pub mapped_pushed : {X : Type 0} (f : ℕ → X) (n : ℕ) (xs ys : List X) (x : X) → xs ≡ map f (range_with_len 0 n) → x ≡ f n → ys ≡ xs ++ x ∷ [] → ys ≡ map f (range_with_len 0 (n + 1))
+mapped_pushed f n xs ys x made here pushed = pushed ∙ ap (λ l. l ++ x ∷ []) made ∙ ap (λ y. map f (range_with_len 0 n) ++ y ∷ []) here ∙ sym (mapped_next f n)
+
+pub mapped_all : {X : Type 0} (f : ℕ → X) (n m : ℕ) (xs : List X) → xs ≡ map f (range_with_len 0 n) → n ≡ m → xs ≡ map f (range_with_len 0 m)
+mapped_all f n m xs made all = made ∙ ap (λ k. map f (range_with_len 0 k)) all
+
+-- the same of numbers that are read one by one
+pub each_pushed : (f : ℕ → ℕ) (n : ℕ) (xs ys : List ℕ) (x : ℕ) → length xs ≡ n → ((k : ℕ) → k < length xs → get_or xs k 0 ≡ f k) → x ≡ f n → ys ≡ xs ++ x ∷ [] → (k : ℕ) → k < length ys → get_or ys k 0 ≡ f k
+each_pushed f n xs ys x size each here pushed k h =
+    below_more (λ i. get_or ys i 0 ≡ f i) n
+    (λ i below. ap (λ l. get_or l i 0) pushed ∙ get_or_append_left xs (x ∷ []) 0 i (omega (arith, below, size)) ∙ each i (omega (arith, below, size)))
+    (ap (λ l. get_or l n 0) pushed ∙ get_or_push xs x 0 n size ∙ here) k (omega (arith, h, ap length pushed, length-append xs (x ∷ []), size))

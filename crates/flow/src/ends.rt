@@ -1,5 +1,5 @@
 // Where the paths along links end: at the nodes that are linked to themselves.
-ghost use Rattle.std.specs.Prelude.{◌≡◌, ◌+◌, ◌^◌, ◌<◌, ◌≤◌, ℕ, length, slice_index, IfOk};
+ghost use Rattle.std.specs.Prelude.{◌≡◌, ◌^◌, ◌<◌, ◌≤◌, ℕ, length, IfOk};
 ghost use Rattle.flow.specs.Streams.{AreStreams, AreEnds, end_of};
 ghost use Rattle.flow.specs.Finding.{AreFound, IsKnown};
 

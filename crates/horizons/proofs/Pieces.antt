@@ -129,11 +129,3 @@ lengthened ps k p q last e h same = record {
   kept = λ i. longer_kept ps k p q i last e h same;
   added = λ i. longer_new ps k p q i last e;
 }
-
--- what ends no further is left out
-pub left_out : (ps : List Piece) (end : ℕ) (r : Ramp) → end ≤ extent ps → IsPushed ps end r ps
-left_out ps end r h = record {
-  reach = omega arith;
-  kept = λ i less. refl;
-  added = λ i past less. absurd (omega arith);
-}

@@ -1,5 +1,5 @@
 // Horizons as pieces of ramps.
-ghost use Rattle.std.specs.Prelude.{◌≡◌, ℕ, ◌+◌, ◌<◌, ◌≤◌, ℤ, List, [], length, Some, OnOk, OnErr, slice_get};
+ghost use Rattle.std.specs.Prelude.{◌≡◌, ℕ, ◌+◌, ◌<◌, ◌≤◌, List, [], length, Some, OnOk, OnErr, slice_get};
 ghost use Rattle.horizons.specs.declared.horizon.Piece.{Piece};
 ghost use Rattle.horizons.specs.declared.ramp.Ramp.{Ramp};
 ghost use Rattle.horizons.specs.Horizons.{IsTarget, IsRampAt, IsPushed, IsUpTo, AreUpTo, ramp_at, extent, hides};

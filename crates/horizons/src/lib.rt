@@ -5,10 +5,10 @@
 //! numbers, at the slopes of targets alone.
 #![tactic(auto)]
 
-pub mod horizon;
-pub mod merging;
-pub mod ramp;
-pub mod target;
+mod horizon;
+mod merging;
+mod ramp;
+mod target;
 
 pub use horizon::{Cursor, Horizon, Piece};
 pub use merging::{is_never_above, push_greater};

@@ -1,12 +1,12 @@
 //! Maps of terrain grids, from bytes to bytes, and the words of the program `relief`.
 #![tactic(auto)]
 
-pub mod command;
-pub mod fault;
+mod command;
+mod fault;
 pub mod laws;
 mod making;
-pub mod running;
-pub mod telling;
+mod running;
+mod telling;
 
 pub use command::run_words;
 pub use fault::RunFault;

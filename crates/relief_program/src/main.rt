@@ -13,7 +13,7 @@ const WORDS_REFUSED: u8 = 1;
 
 const NO_MEMORY: u8 = 3;
 
-// The longest list that the C library's allocator keeps: with its own words in front, the last whole page below 32 MiB.
+/// The longest list that the C library's allocator keeps, in bytes: with its own words in front, the last whole page below 32 MiB.
 const LONGEST_KEPT: usize = (1 << 25) - (1 << 13);
 
 fn status_of(error: &io::Error) -> u8 {
@@ -29,8 +29,8 @@ fn read_words(rt: &(impl Env + AllocGlobal)) -> io::Result<Vec<String>> {
     Ok(words)
 }
 
-// That allocator gives a long list that is let go back to the system, but for those no longer than one that it has seen let
-// go: they are kept for lists to come. A map of millions of cells meets a third fewer new pages of memory then.
+// The C library's allocator gives a long list that is let go back to the system, but for those no longer than one that it has
+// seen let go: they are kept for lists to come. A map of millions of cells meets a third fewer new pages of memory then.
 fn keep_lists_let_go(alloc: Global) {
     drop(Vec::<u8>::with_capacity(alloc, LONGEST_KEPT));
 }

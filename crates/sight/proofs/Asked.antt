@@ -1,8 +1,9 @@
 -- Cells of a window lose their marks, ray by ray.
-use Rattle.std.proofs.Common.{arith, refl, sym, ap, subst, ◌∙◌, ◌≡◌, ◌≢◌, ℕ, ◌+◌, ◌-◌, ◌*◌, ◌<◌, ◌≤◌, Bool, true, false, not, ◌&&◌, ℤ, pos, List, length, get_or, set, Option, Some, inl, inr}
+use Rattle.std.proofs.Common.{arith, refl, sym, ap, subst, ◌∙◌, ◌≡◌, ◌≢◌, ℕ, ◌+◌, ◌-◌, ◌*◌, ◌<◌, ◌≤◌, Bool, true, false, not, ◌&&◌, ℤ, pos, ◌+ℤ◌, unsigned_abs, to_z, of_z, w32, List, length, get_or, set, Option, Some, inl, inr}
 use Rattle.std.specs.Prelude.{slice_get, if◌then◌else◌}
 use Rattle.std.proofs.lemmas.Bool.{cases_lt, cases_eq, cases_Bool, and_left, and_right}
-use Rattle.std.proofs.lemmas.Int.{ints}
+use Rattle.std.proofs.lemmas.Int.{ints, to_z_pos}
+use Rattle.horizons.proofs.Sizes.{back_short}
 use Rattle.std.proofs.lemmas.List.{get_or-set_same, get_or-set_other, length-set}
 use Rattle.std.proofs.lemmas.Nat.{mul-le}
 use Rattle.std.proofs.lemmas.Option.{same_Some, slice_get_within, slice_get-get_or, slice_get_read, get_or_from_slice_get}
@@ -195,3 +196,10 @@ all_asked cells f w height rays old new are asked = record {
   ];
   kept = asked.kept;
 }
+
+-- the cell of a ray, as it is reckoned
+pub cell_back : (f : Family) (y : ℕ) (ray : Target) → IsFamily f → StandsAt f y ray → unsigned_abs (to_z w32 (of_z w32 (to_z w32 f.side.at +ℤ to_z w32 (of_z w32 ray.aside)))) ≡ y
+cell_back f y ray is stands =
+    let sum : pos f.side.at +ℤ ray.aside ≡ pos y = omega (arith, ints, stands.aside) in
+    let aside = back_short ray.aside (omega (arith, ints, stands.aside, stands.side, is)) in
+    rw (to_z_pos w32 f.side.at (omega (arith, is)), aside, sum, back_short (pos y) (omega (arith, stands.side, is))) refl

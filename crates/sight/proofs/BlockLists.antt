@@ -1,7 +1,7 @@
 -- The list of a map of blocks, and the blocks of a grid that is cut.
-use Rattle.std.proofs.Common.{arith, refl, sym, ap, subst, ◌∙◌, ◌≡◌, ◌+◌, ◌-◌, ◌*◌, ◌/◌, ◌%◌, ◌<◌, ◌≤◌, ℕ, ℤ, List, length, get_or, get_or-take, get_or-drop, drop, slice_range, ◌≤ℤ◌, Option, None, Some, inl, inr}
+use Rattle.std.proofs.Common.{arith, refl, ap, subst, ◌∙◌, ◌≡◌, ◌+◌, ◌-◌, ◌*◌, ◌/◌, ◌%◌, ◌<◌, ◌≤◌, ℕ, ℤ, List, length, get_or, get_or-take, get_or-drop, drop, slice_range, ◌≤ℤ◌, Option, None, Some, inl, inr}
 use Rattle.std.proofs.lemmas.Bool.{cases_lt}
-use Rattle.std.proofs.lemmas.List.{get_or_past, length-take}
+use Rattle.std.proofs.lemmas.List.{get_or_past}
 use Rattle.std.proofs.lemmas.Int.{ints}
 use Rattle.std.proofs.lemmas.Nat.{div-add-mod', mod_below, div_below, mul-le}
 use Rattle.std.proofs.lemmas.Option.{slice_get-get_or}
@@ -13,7 +13,6 @@ use Rattle.terrain.proofs.Places.{make_place, inside_from_entry, entry-inside, i
 use Rattle.tiles.specs.Cutting.{Cutting}
 use Rattle.tile_maps.specs.Maps.{IsMadeMap}
 use Rattle.sight.specs.Blocks.{blocks_in, block_of, ground_of, IsGround, IsTopOf, IsBlockTop, CutsBlocks, AreTops}
-use Rattle.sight.specs.Walk.{AreHeights}
 use Rattle.sight.proofs.LowBlocks.{block_before}
 
 swapped : (a b : ℕ) → a * b ≡ b * a
@@ -28,12 +27,6 @@ top_over (Some m) (Some r) h over is = let above : m ≤ℤ r = over m refl in o
 -- a run of a list
 pub run_at : (cells : List (Option ℤ)) (a b i : ℕ) → i < b - a → get_or (slice_range cells a b) i None ≡ get_or cells (a + i) None
 run_at cells a b i below = get_or-take (b - a) (drop a cells) i None below ∙ get_or-drop a cells i None
-
-pub run_heights : (cells : List (Option ℤ)) (a b : ℕ) → AreHeights cells → AreHeights (slice_range cells a b)
-run_heights cells a b are i h is = elim (cases_lt i (b - a)) [
-  | inl below ↦ are (a + i) h (sym (run_at cells a b i below) ∙ is)
-  | inr past ↦ let none = get_or_past (slice_range cells a b) i None (omega (arith, past, length-take (b - a) (drop a cells))) in absurd (cc)
-]
 
 -- there are not more blocks than cells
 few_blocks : (size cells : ℕ) → 0 < size → blocks_in size cells ≤ cells

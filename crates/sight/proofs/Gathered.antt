@@ -11,28 +11,6 @@ use Rattle.sight.specs.declared.family.Family.{Family}
 use Rattle.sight.specs.declared.window.Window.{Window}
 use Rattle.sight.proofs.Ranking.{slice_get-front, slice_get-last}
 
-pub none_gathered : (f : Family) (w : Window) (marks : List Bool) (n : ℕ) (rays : List Target) → rays ≡ [] → ((m : ℕ) → Crosses f w m → n ≤ m) → AreRays f w marks n 0 rays
-none_gathered f w marks n rays e first = rw e (record {
-  few = omega arith;
-  each = λ u t at. absurd (omega (arith, slice_get_within [] u t at));
-  sorted = λ u v s t le at at'. absurd (omega (arith, slice_get_within [] u s at));
-  whole = λ m y before crosses in_run marked. elim before [
-    | inl h ↦ absurd (omega (arith, first m crosses))
-    | inr h ↦ absurd (omega (arith, h.1))
-  ];
-})
-
-pub line_begun : (f : Family) (w : Window) (marks : List Bool) (n : ℕ) (rays : List Target) → AreRays f w marks n 0 rays → AreRays f w marks n w.side.first rays
-line_begun f w marks n rays are = record {
-  few = omega (arith, are.few);
-  each = are.each;
-  sorted = are.sorted;
-  whole = λ m y before crosses in_run marked. elim before [
-    | inl h ↦ are.whole m y (inl h) crosses in_run marked
-    | inr h ↦ absurd (omega (arith, h.1, in_run))
-  ];
-}
-
 pub line_ended : (f : Family) (w : Window) (marks : List Bool) (n c : ℕ) (rays : List Target) → w.side.first + w.side.cells ≤ c → c ≤ 4096 → AreRays f w marks n c rays → AreRays f w marks (n + 1) 0 rays
 line_ended f w marks n c rays all few are = record {
   few = omega (arith, are.few);

@@ -1,7 +1,7 @@
 -- Heights are within their limits.
-use Rattle.std.proofs.Common.{arith, ◌≡◌, ℤ, length, List, ℕ, ◌<◌, get_or, Option, None, Some, IfSome, inl, inr, refl, sym, ◌∙◌, pos, FitsSigned, w64, to_z, of_z}
+use Rattle.std.proofs.Common.{arith, ◌≡◌, ◌^◌, ℤ, length, List, ℕ, ◌<◌, ◌≤◌, ◌*ℤ◌, get_or, Option, None, Some, IfSome, inl, inr, refl, sym, ◌∙◌, pos, FitsSigned, w64, to_z, of_z}
 use Rattle.std.specs.Prelude.{unwrap_or}
-use Rattle.std.proofs.lemmas.Int.{ints, to_z-of_z}
+use Rattle.std.proofs.lemmas.Int.{ints, to_z-of_z, to_z_pos, fits_signed_mul}
 use Rattle.std.proofs.lemmas.Bool.{cases_lt}
 use Rattle.std.proofs.lemmas.List.{get_or_past, get_or_default}
 use Rattle.std.proofs.lemmas.List.Elements.{All-get_or}
@@ -38,3 +38,9 @@ kept h is = rw (to_z-of_z w64 h (height_fits h is)) is
 pub has_height : (cells : List (Option ℤ)) (index : ℕ) {cell height : Option ℤ} {h : ℤ} → cell ≡ get_or cells index cell → height ≡ cell → height ≡ Some h → index < length cells →
     get_or cells index None ≡ Some h
 has_height cells index {cell = cell} read same is below = sym (read ∙ get_or_default cells index cell None below) ∙ sym same ∙ is
+
+-- a height as it is weighed
+pub weighed_is : (h : ℤ) (n : ℕ) → n ≤ 4096 → IsHeight h → let z = to_z w64 n *ℤ to_z w64 (of_z w64 h) in FitsSigned w64 z × (to_z w64 (of_z w64 z) ≡ pos n *ℤ h)
+weighed_is h n few is =
+    let fits = fits_signed_mul w64 (pos n) h 4096 (10 ^ 15) few (omega (arith, ints, is)) (omega arith) in
+    rw (to_z_pos w64 n (omega arith), to_z-of_z w64 h (height_fits h is)) (fits, to_z-of_z w64 (pos n *ℤ h) fits)

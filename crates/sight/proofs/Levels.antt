@@ -48,6 +48,10 @@ sight_fits e f n k p q h l = fits (sight e f n k) (sight_bounded e f n k p q h l
 pub scaled_fits : (e : ℤ) (n : ℕ) → IsLevel e → n ≤ 4096 → FitsSigned w64 (e *ℤ pos n)
 scaled_fits e n p h = rw (← sight_none e e n) (sight_fits e e n 0 p p (omega arith) h)
 
+-- the same, as it is reckoned
+pub scaled_as_reckoned : (e : ℤ) (n : ℕ) → IsLevel e → n ≤ 4096 → FitsSigned w64 (to_z w64 (of_z w64 e) *ℤ to_z w64 n)
+scaled_as_reckoned e n p h = rw (to_z-of_z w64 e (level_fits e p), to_z_pos w64 n (omega arith)) (scaled_fits e n p h)
+
 pub rise_fits : (e f : ℤ) → IsLevel e → IsLevel f → FitsSigned w64 (f -ℤ e)
 rise_fits e f p q = omega (arith, ints)
 

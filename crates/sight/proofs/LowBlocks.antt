@@ -224,11 +224,6 @@ in_block size r block some is =
     let begun : r / size * size ≡ block * size = ap (λ n. n * size) is in
     (omega (arith, parts, begun), omega (arith, parts, begun, small))
 
--- a block begins before the end
-pub block_begins : (size cells block : ℕ) → 0 < size → block < blocks_in size cells → block * size < cells
-block_begins size cells block some below =
-    omega (arith, div-add-mod' (cells + (size - 1)) size, mul-le (block + 1) size (blocks_in size cells) size (omega arith) (omega arith))
-
 pub block_below : (size cols rows r c : ℕ) → 0 < size → r < rows → c < cols → r / size * blocks_in size cols + c / size < blocks_in size rows * blocks_in size cols
 block_below size cols rows r c some a b =
     omega (arith, mul-add-lt (r / size) (blocks_in size cols) (c / size) (blocks_in size rows) (block_before size r rows some a) (block_before size c cols some b))

@@ -1,5 +1,5 @@
 -- What is seen, by the two lines from the target to the observer.
-use Rattle.std.proofs.Common.{arith, refl, sym, ap, ◌∙◌, ◌≡◌, ℤ, pos, ◌+ℤ◌, ℕ, Bool, true, false, not, ◌&&◌, Some}
+use Rattle.std.proofs.Common.{arith, refl, sym, ap, ◌∙◌, ◌≡◌, ℤ, pos, ◌+ℤ◌, ℕ, Bool, true, false, not, ◌&&◌, Some, is_some}
 use Rattle.terrain.specs.Raster.{Terrain, IsTerrain}
 use Rattle.terrain.specs.Neighbours.{IsInside, height_at}
 use Rattle.terrain.specs.declared.place.Place.{Place}
@@ -22,6 +22,15 @@ seen_is t o q target radius from to a b from_is to_is near =
     let back_columns = walk_back t.cells (over_columns t p q e f) in
     let back_rows = walk_back t.cells (over_rows t p q e f) in
     rw (from_is, to_is, near, cs, rs, back_columns, back_rows) refl
+
+-- no place out of reach is seen
+out_of_reach : (a b c d : Bool) → (a && b && false && c && d) ≡ false
+out_of_reach false b c d = refl
+out_of_reach true true c d = refl
+out_of_reach true false c d = refl
+
+pub unseen : (t : Terrain) (o : Observer) (q : Place) (target radius : ℕ) → is_near (place_of o) q radius ≡ false → is_seen t o q target radius ≡ false
+unseen t o q target radius far = rw far (out_of_reach (is_some (height_at t (place_of o))) (is_some (height_at t q)) _ _)
 
 reached_is : (t : Terrain) (o : Observer) (q : Place) (target radius : ℕ) (from to : ℤ) → height_at t (place_of o) ≡ Some from → height_at t q ≡ Some to → is_near (place_of o) q radius ≡ true
     → is_seen t o q target radius ≡ is_open t o q target

@@ -1,7 +1,7 @@
 -- Where a line is along an axis, step by step.
 use Rattle.std.proofs.Common.{arith, sym, ap, ◌∙◌, ◌≡◌, ◌+◌, ◌-◌, ◌*◌, ◌/◌, ◌%◌, ◌<◌, ◌≤◌, ℕ, max, inl, inr}
 use Rattle.std.specs.Int.{abs_diff}
-use Rattle.std.proofs.Math.Nat.{sub-zero, zero-mod}
+use Rattle.std.proofs.Math.Nat.{zero-mod}
 use Rattle.std.proofs.lemmas.Bool.{cases_lt, lt-ltb, le-ltb}
 use Rattle.std.proofs.lemmas.Nat.{div-mul-add, mod-mul-add, div-add-mod', mul-le, mod_below}
 use Rattle.sight.specs.Sight.{toward, onward}
@@ -19,9 +19,6 @@ quotient_is t x n m back e below =
 
 more : (a b k m r : ℕ) → a * r + b * (k + m) + m * a ≡ a * (r + m) + b * k + m * b
 more a b k m r = omega arith
-
-pub toward_none : (a b n : ℕ) → toward a b n 0 ≡ a * n + 0
-toward_none a b n = rw (sub-zero n) (omega arith)
 
 pub toward_more : (a b n k m : ℕ) → k + m ≤ n → toward a b n (k + m) + m * a ≡ toward a b n k + m * b
 toward_more a b n k m h = let e : n - k ≡ (n - (k + m)) + m = omega arith in rw e (more a b k m (n - (k + m)))

@@ -7,12 +7,12 @@
 
 mod by_place;
 mod family;
-pub mod fault;
+mod fault;
 mod gathering;
 mod hiding;
 mod judging;
 pub mod laws;
-pub mod line;
+mod line;
 mod line_ground;
 mod looking;
 mod marking;
@@ -24,7 +24,7 @@ mod sides;
 mod sweep;
 mod tile;
 mod tops;
-pub mod viewing;
+mod viewing;
 mod walk;
 mod window;
 

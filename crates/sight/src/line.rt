@@ -27,7 +27,7 @@ pub(crate) fn level(height: Height, above: u32) -> i64
 /// The two lines of sight of an observer and a target: over the columns between them, and over the
 /// rows.
 #[derive(Clone, Copy)]
-pub struct Sightlines {
+pub(crate) struct Sightlines {
     pub columns: Sightline,
     pub rows: Sightline,
 }
@@ -183,7 +183,7 @@ fn is_blocked_about(cells: &[Cell], line: Sightline, left: u32) -> bool
 
 /// Which crossing hides a target: on which of the two lines of sight, and how many steps before the observer.
 #[derive(Clone, Copy)]
-pub struct Blocker {
+pub(crate) struct Blocker {
     over_rows: bool,
     left: u32,
 }
@@ -226,7 +226,7 @@ const COLUMNS: usize = 256;
 /// What the walks to the targets so far met: the crossing that hid the last one that was hidden, those that hid the last
 /// ones of each column, None where it was seen, and how many crossings were asked about.
 #[derive(Clone, Copy)]
-pub struct Walked {
+pub(crate) struct Walked {
     last: Blocker,
     above: [Option<Blocker>; COLUMNS],
     pub asked: u32,

@@ -1,5 +1,5 @@
 // Looks from line to line at what stands before the targets.
-ghost use Rattle.std.specs.Prelude.{◌≡◌, ◌<◌, ◌≤◌, ℤ, ℕ, List, Option, Some, IfOk, OnOk};
+ghost use Rattle.std.specs.Prelude.{◌≡◌, ◌<◌, ◌≤◌, ℤ, List, Option, Some, IfOk, OnOk};
 ghost use Rattle.horizons.specs.declared.horizon.Piece.{Piece};
 ghost use Rattle.horizons.specs.declared.ramp.Ramp.{Ramp};
 ghost use Rattle.horizons.specs.Horizons.{AreTargets, IsTarget, IsRampAt, IsUpTo, extent, hides, ramp_at};

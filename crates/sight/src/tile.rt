@@ -1,5 +1,5 @@
 // The viewshed of one tile, observer by observer.
-ghost use Rattle.std.specs.Prelude.{◌≡◌, ℕ, ◌+◌, ◌-◌, ◌*◌, ◌<◌, ◌≤◌, [], length, None, IfSome, IfOk, OnOk, option_map, slice_index_or, false};
+ghost use Rattle.std.specs.Prelude.{◌≡◌, ℕ, ◌+◌, ◌-◌, ◌*◌, ◌<◌, [], length, None, IfSome, OnOk, option_map, slice_index_or, false};
 ghost use Rattle.std.specs.Bool.{OnFalse};
 ghost use Rattle.terrain.specs.Neighbours.{IsInside};
 ghost use Rattle.terrain.specs.declared.place.Place.{Place};
@@ -8,7 +8,7 @@ ghost use Rattle.tile_maps.specs.Maps.{AreMadeBelow};
 ghost use Rattle.std.proofs.Props.{props};
 ghost use Rattle.sight.specs.Blocks.{IsTops};
 ghost use Rattle.sight.specs.Sight.{is_seen, most_observers, place_of};
-ghost use Rattle.sight.specs.Viewed.{value_at, HasValue, counted, AreAtMost, IsFaultless};
+ghost use Rattle.sight.specs.Viewed.{HasValue, counted, AreAtMost, IsFaultless};
 
 use crate::by_place::{Placed, entries};
 use crate::reach::is_any_in_reach;

@@ -1,5 +1,5 @@
 // The greatest heights of blocks of cells.
-ghost use Rattle.std.specs.Prelude.{◌≡◌, ◌⊎◌, ℕ, ℤ, ◌*◌, ◌<◌, ◌≤◌, length, slice_index_or, None, Some, IfOk};
+ghost use Rattle.std.specs.Prelude.{◌≡◌, ◌⊎◌, ℕ, ℤ, ◌*◌, ◌<◌, ◌≤◌, slice_index_or, None, Some, IfOk};
 ghost use Rattle.sight.specs.Walk.{AreHeights};
 ghost use Rattle.tile_jobs.specs.Fault.{RefusesWorkers};
 ghost use Rattle.sight.specs.Blocks.{blocks_in, IsTopOf, AreTops, IsTops, CutsBlocks, ground_of, IsGround};

@@ -1,5 +1,5 @@
 // A viewshed, by tiles and workers.
-ghost use Rattle.std.specs.Prelude.{◌≡◌, IfOk};
+ghost use Rattle.std.specs.Prelude.{IfOk};
 ghost use Rattle.tiles.specs.Cutting.{Cuts};
 ghost use Rattle.sight.specs.Sight.{IsViewshed};
 ghost use Rattle.sight.specs.Refusals.{RefusesSight, observers_fault};

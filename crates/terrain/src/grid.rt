@@ -1,7 +1,7 @@
 // A grid, seen as its size, its header words, its scale, its cells and its sinks.
-ghost use Rattle.std.specs.Prelude.{◌≡◌, ◌↔◌, ◌+◌, ◌*◌, ◌<◌, ◌≤◌, ℕ, List, [], length, All, Any, Contains, IfSome, IfOk, IsTrue, Some};
+ghost use Rattle.std.specs.Prelude.{◌≡◌, ◌↔◌, ◌+◌, ◌*◌, ◌<◌, [], length, All, Contains, IfSome, IfOk, IsTrue, Some};
 ghost use Rattle.terrain.specs.Raster.{Raster, IsLawful};
-ghost use Rattle.terrain.specs.Neighbours.{IsInside, height_at, IsEdge, IsEnd, HasGapAround};
+ghost use Rattle.terrain.specs.Neighbours.{IsInside, height_at, IsEnd, HasGapAround};
 ghost use Rattle.terrain.specs.Sinks.{RefusesSinks, raster_with_sinks, sinks_fault};
 
 use crate::cell::Cell;

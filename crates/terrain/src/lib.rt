@@ -1,14 +1,14 @@
 //! Terrain grids: heights in rows and columns, places, neighbours and edge cells, and the header that comes with them.
 #![tactic(auto)]
 
-pub mod cell;
-pub mod count;
+mod cell;
+mod count;
 pub mod digits;
-pub mod grid;
-pub mod observer;
-pub mod place;
-pub mod sinks;
-pub mod word;
+mod grid;
+mod observer;
+mod place;
+mod sinks;
+mod word;
 
 pub use cell::{Cell, NO_DATA};
 pub use count::Count;

@@ -1,5 +1,5 @@
 //! Runs of a piece of a text, and the jobs that read their heights.
-ghost use Rattle.std.specs.Prelude.{◌≡◌, ◌<◌, ◌≤◌, ℕ, [], List, map, length, slice_index_or, IfOk, IfSome, None};
+ghost use Rattle.std.specs.Prelude.{◌≡◌, ◌<◌, ◌≤◌, ℕ, List, map, length, slice_index_or, IfOk, IfSome, None};
 ghost use Rattle.std.specs.List.{concat};
 ghost use Rattle.ascii_grid.specs.HeightList.{AreCells};
 ghost use Rattle.ascii_grid.specs.Reader.{Feeds};

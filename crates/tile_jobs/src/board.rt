@@ -1,5 +1,5 @@
 //! The board: jobs in deques, dealt to seats and gathered again.
-ghost use Rattle.std.specs.Prelude.{◌≡◌, ◌≢◌, ℕ, ◌+◌, ◌<◌, ◌≤◌, ◌==◌, ◌⊎◌, ◌↔◌, cond, true, List, [], ◌++◌, length, drop, vec_len, vec_capacity, slice_index_or, IfOk, IfErr, OnOk, Err};
+ghost use Rattle.std.specs.Prelude.{◌≡◌, ℕ, ◌+◌, ◌<◌, ◌≤◌, ◌==◌, ◌⊎◌, ◌↔◌, cond, true, List, [], ◌++◌, length, vec_len, vec_capacity, slice_index_or, IfOk, IfErr, OnOk, Err};
 ghost use Rattle.tile_jobs.specs.Board.{deal as deal_list, times, sum_to};
 ghost use Rattle.tile_jobs.specs.Closed.{IsClosed};
 ghost use Rattle.tile_jobs.specs.Ends.{EndState, SeatState, IsBoard, IsDeal, IsSeat, IsNew};

@@ -1,5 +1,5 @@
 //! What a map has in each tile.
-ghost use Rattle.std.specs.Prelude.{◌≡◌, ℕ, ◌<◌, IfOk};
+ghost use Rattle.std.specs.Prelude.{◌≡◌, ◌<◌, IfOk};
 ghost use Rattle.terrain.specs.declared.place.Place.{Place};
 ghost use Rattle.tiles.specs.Cutting.{Cutting, tile_count};
 ghost use Rattle.tile_maps.specs.Maps.{IsMadeTile};

@@ -1,16 +1,8 @@
 -- What the rows of a tile have, and the list of the tile.
-use Rattle.std.proofs.Common.{◌≡◌, ℕ, ◌+◌, ◌-◌, ◌*◌, ◌<◌, List, get_or, drop, slice_range, Option, None, sym, ap, ◌∙◌, arith}
+use Rattle.std.proofs.Common.{◌≡◌, ℕ, ◌+◌, ◌-◌, ◌*◌, ◌<◌, List, get_or, drop, slice_range, sym, ap, ◌∙◌, arith}
 use Rattle.std.proofs.lemmas.List.{get_or-take, get_or-drop}
-use Rattle.terrain.specs.declared.place.Place.{Place}
 use Rattle.tiles.specs.declared.bounds.Bounds.{Bounds}
-use Rattle.tiles.specs.Cutting.{Cutting, View, IsInTile, bounds_of, row_shown, tile_entry, index_in}
-use Rattle.tiles.proofs.TileOrder.{tile_entry-in}
-
--- what a list in the row order of the tile has at a place of it
-pub tile_entry_is : {X : Type 0} (c : Cutting) (tile : ℕ) (b : Bounds) (list : List (Option X)) (p : Place) → b ≡ bounds_of c tile → IsInTile c tile p →
-    tile_entry c tile list p ≡ get_or list (index_in b p) None
-tile_entry_is c tile b list p e i =
-    tile_entry-in c tile list p i ∙ ap (λ (z : Bounds). get_or list (index_in z p) None) (sym e)
+use Rattle.tiles.specs.Cutting.{View, bounds_of, row_shown}
 
 -- what a row of a view has
 pub row_has : {X : Type 0} (v : View X) (none : X) (b : Bounds) (i k : ℕ) → b ≡ bounds_of v.cutting v.tile → k < b.cols →

@@ -1,13 +1,13 @@
 //! A grid cut into square tiles, lent views of the tiles, and the whole list put back from theirs.
 #![tactic(auto)]
 
-pub mod bounds;
+mod bounds;
 mod neighbours;
-pub mod rim;
+mod rim;
 mod rim_numbers;
 mod slices;
-pub mod tiling;
-pub mod view;
+mod tiling;
+mod view;
 
 pub use bounds::Bounds;
 pub use rim::Rim;

@@ -25,3 +25,9 @@ returns-clause-steps g c =
     settled_is_steps v t first.0 steps c.requires (subst (λ (x : Raster). IsTerrain x.terrain) c.grid-grid.ensures.value c.cells.ensures.lawful.terrain) c.grid-grid.ensures.own
     (subst (λ (x : Raster). AreBegun x.terrain first.0) c.grid-grid.ensures.value first.1)
     (subst (λ (x : Terrain). AreSettled v x first.0 steps) (sym same) settled)
+
+pub settle-requires-clause-counting : goal.settle-requires-clause-counting
+settle-requires-clause-counting g c = rw c.cells.ensures.value (λ κs alive. c.in_ok-first.ensures.counting)
+
+pub settle-requires-clause-even : goal.settle-requires-clause-even
+settle-requires-clause-even g c = rw c.cells.ensures.value (λ κs alive. c.in_ok-first.ensures.even)

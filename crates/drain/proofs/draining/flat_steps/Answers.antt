@@ -1,4 +1,5 @@
-use Rattle.std.proofs.Common.{◌≡◌, [], ◌∷◌, map, ℕ, ℤ, List, Option, sym, ap, subst, refl, ◌∙◌}
+use Rattle.std.proofs.Common.{◌≡◌, [], ◌∷◌, map, ℕ, ℤ, List, Option, length, sym, ap, subst, refl, ◌∙◌}
+use Rattle.std.proofs.lemmas.List.{length-map}
 use Rattle.std.proofs.lemmas.Option.{MatchOption-at_some}
 use Rattle.terrain.specs.Raster.{Terrain}
 use Rattle.terrain.specs.Sinks.{with_sinks}
@@ -48,3 +49,11 @@ returns g c =
     (round_to (IsLent t w.cells) (DrainsAtOnce t) (with_sinks t []) t.sinks v.cutting v.tile w.cells list
     (λ p lent. let walk = MatchOption-at_some _ _ 0 lent.1 (c.requires.1.1.1.1 p) in ended (DrainsAtOnce t) t p walk.1 walk.2 walk.3)
     (subst (λ (x : Terrain). IsRound (IsLent x w.cells) x v.cutting v.tile w.cells list) c.requires.0 made))
+
+pub round-requires-clause-size : goal.round-requires-clause-size
+round-requires-clause-size g c =
+    let v = c.args.levels.now in
+    let w = c.args.steps.now in
+    let lent = lent_to v w c.in_ok-ground.ground.bounds c.in_ok-old.old.items c.requires.1.0 c.requires.1.1.0 c.in_ok-ground.ensures.bounds c.in_ok-old.ensures in
+    let size = simp length-map at (ap (λ (xs : List ℕ). length xs) (c.deref.ensures.value ∙ lent.value)) in
+    size ∙ lent.size

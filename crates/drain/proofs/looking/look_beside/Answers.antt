@@ -15,3 +15,17 @@ loop-col-preserved g c =
     let next : spot_index b s + 1 ≡ c.args.row * (b.cols + 2) + (c.loop-col.col + 1) = omega arith in
     subst (λ (n : ℕ). AreShownBelow {X = g.row.T.Denot} v.cutting.cols v.cutting.rows v.cells none b n c.push.new.self.items) next
     (subst (λ (xs : List g.row.T.Denot). AreShownBelow v.cutting.cols v.cutting.rows v.cells none b (spot_index b s + 1) xs) (sym c.in_ok-push.ensures.items) more)
+
+pub loop-col-init : goal.loop-col-init
+loop-col-init g c =
+    let v = c.args.view.now in
+    let b = c.args.bounds in
+    let start : c.args.row * (b.cols + 2) ≡ c.args.row * (b.cols + 2) + 0 = omega arith in
+    subst (λ (n : ℕ). AreShownBelow {X = g.row.T.Denot} v.cutting.cols v.cutting.rows v.cells c.args.none b n c.args.list.now.items) start c.requires.list
+
+pub returns : goal.returns
+returns g c =
+    let v = c.args.view.now in
+    let b = c.args.bounds in
+    let end : c.args.row * (b.cols + 2) + c.loop-col.col ≡ (c.args.row + 1) * (b.cols + 2) = omega arith in
+    subst (λ (n : ℕ). AreShownBelow {X = g.row.T.Denot} v.cutting.cols v.cutting.rows v.cells c.args.none b n c.loop-col.list.items) end c.loop-col.invariant

@@ -28,3 +28,15 @@ returns-clause-settled g c =
     let entries = c.loop-counting.counting.entries in
     let none = eqb-true _ _ (sym c.loop-counting-test.ensures) in
     settled_at (rounding_of c.loop-counting.counting) c.args.tiling.now c.args.levels.now c.args.steps.items inv.tiling inv.levels inv.rounding (omega (arith, none, entries.ok.0)) inv.same_lent
+
+pub loop-counting-preserved : goal.loop-counting-preserved
+loop-counting-preserved g c =
+    let inv = c.loop-counting.invariant in
+    let round = c.in_ok-one_round.ensures in
+    let same = rw (inv.tiling, inv.levels) at round.next.same_lent in
+    record {
+      tiling = rw round.ground.0 inv.tiling;
+      levels = rw round.ground.1 inv.levels;
+      rounding = round.next.rounding;
+      same_lent = λ p. (λ lent. (same p).0 ((inv.same_lent p).0 lent), λ lent. (inv.same_lent p).1 ((same p).1 lent));
+    }

@@ -1,7 +1,8 @@
-use Rattle.std.proofs.Common.{◌≡◌, ◌+◌, ◌<◌, arith, inl, inr}
+use Rattle.std.proofs.Common.{◌≡◌, ◌+◌, ◌<◌, ◌≤◌, arith, inl, inr, subst}
 use Rattle.std.proofs.lemmas.Bool.{cases_lt}
+use Rattle.tiles.specs.declared.bounds.Bounds.{Bounds}
 use Rattle.tiles.specs.Cutting.{IsInTile}
-use Rattle.fill.proofs.Adding.{adds_then, adds_as}
+use Rattle.fill.proofs.Adding.{adds_none, adds_then, adds_as}
 use Rattle.fill.proofs.Gathered.{turned_gathered, met_below}
 use Rattle.fill.proofs.passes.tile_joins.Goals as goal
 
@@ -38,3 +39,15 @@ returns c =
     (λ p. (λ at. let inside = (c.bounds-top.ensures.places p).0 at in (at, omega (arith, inside.1, c.loop-row-test.false)), λ at. at.0))
     c.loop-row.invariant)
     c.in_ok-add_turned.ensures
+
+pub loop-row-init : goal.loop-row-init
+loop-row-init c =
+    adds_none c.args.tiling.now c.args.floods.now c.args.sources.now c.args.tile
+    (λ p. IsInTile c.args.tiling.now c.args.tile p × (p.row < c.bounds-top.result.top)) _ _ c.in_ok-table.ensures
+    (λ p at. let inside = (c.bounds-top.ensures.places p).0 at.0 in omega (arith, inside.0, at.1))
+
+pub push_cells-requires-clause-top : goal.push_cells-requires-clause-top
+push_cells-requires-clause-top c = subst (λ (b : Bounds). b.top ≤ c.loop-row.row) c.bounds-top.ensures.value c.loop-row.auto.row
+
+pub push_cells-requires-clause-row : goal.push_cells-requires-clause-row
+push_cells-requires-clause-row c = subst (λ (b : Bounds). c.loop-row.row < b.top + b.rows) c.bounds-top.ensures.value c.loop-row-test.true

@@ -2,9 +2,9 @@ use Rattle.std.proofs.Common.{◌≡◌, ◌+◌, ◌*◌, refl, sym, ap, subst,
 use Rattle.terrain.specs.Sinks.{with_sinks}
 use Rattle.tiles.specs.declared.bounds.Bounds.{Bounds}
 use Rattle.tiles.specs.Cutting.{terrain_of}
-use Rattle.floods.specs.Notes.{label_of}
+use Rattle.floods.specs.Notes.{label_of, height_or_lack}
 use Rattle.fill.proofs.Where.{flood_where, heights_whole}
-use Rattle.fill.proofs.TileWindows.{tile_flood_is, inner_labels, inner_lists}
+use Rattle.fill.proofs.TileWindows.{tile_flood_is, inner_labels, inner_lists, bounds_few}
 use Rattle.std.proofs.lemmas.List.{length-map}
 use Rattle.fill.proofs.tile.tile_flood.Goals as goal
 
@@ -59,3 +59,23 @@ returns c =
     (tile_flood_is t cutting tile c.in_ok-net.net c.bounds-bounds.result
     c.in_ok-levels.field-0.levels _ c.in_ok-levels.field-0.labels _
     lawful.cutting lawful.tile (refl, refl) c.in_ok-net.ensures c.in_ok-levels.ensures c.bounds-bounds.ensures.value refl labels)).0
+
+pub without_border-requires : goal.without_border-requires
+without_border-requires c =
+    let b = c.bounds-bounds.result in
+    let size : length c.in_ok-net.net.cells ≡ (b.rows + 2) * (b.cols + 2) = subst (λ (x : Bounds). length c.in_ok-net.net.cells ≡ (x.rows + 2) * (x.cols + 2)) (sym c.bounds-bounds.ensures.value) c.in_ok-net.ensures.size in
+    let few = bounds_few c.args.view.now.cutting b c.bounds-bounds.ensures.lawful.cutting c.bounds-bounds.ensures.inside in
+    record { size = ap length c.heights.ensures ∙ length-map c.in_ok-levels.field-0.levels height_or_lack ∙ c.in_ok-levels.ensures.levels_size ∙ size; few_cols = few.2; few_rows = few.3 }
+
+pub without_border-requires-2 : goal.without_border-requires-2
+without_border-requires-2 c =
+    let b = c.bounds-bounds.result in
+    let size : length c.in_ok-net.net.cells ≡ (b.rows + 2) * (b.cols + 2) = subst (λ (x : Bounds). length c.in_ok-net.net.cells ≡ (x.rows + 2) * (x.cols + 2)) (sym c.bounds-bounds.ensures.value) c.in_ok-net.ensures.size in
+    let few = bounds_few c.args.view.now.cutting b c.bounds-bounds.ensures.lawful.cutting c.bounds-bounds.ensures.inside in
+    record { size = sym (length-map c.numbers.result.now label_of) ∙ sym (ap length c.numbers.ensures) ∙ c.in_ok-levels.ensures.labels_size ∙ size; few_cols = few.2; few_rows = few.3 }
+
+pub labels_of-requires-clause-few_rows : goal.labels_of-requires-clause-few_rows
+labels_of-requires-clause-few_rows c = (bounds_few c.args.view.now.cutting _ c.bounds-bounds.ensures.lawful.cutting c.bounds-bounds.ensures.inside).0
+
+pub labels_of-requires-clause-few_cols : goal.labels_of-requires-clause-few_cols
+labels_of-requires-clause-few_cols c = (bounds_few c.args.view.now.cutting _ c.bounds-bounds.ensures.lawful.cutting c.bounds-bounds.ensures.inside).1

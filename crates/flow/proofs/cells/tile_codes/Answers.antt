@@ -1,4 +1,4 @@
-use Rattle.std.proofs.Common.{◌≡◌, ◌++◌, subst, ap, refl, rules, arith}
+use Rattle.std.proofs.Common.{◌≡◌, ◌*◌, ◌++◌, ◌∙◌, subst, ap, refl, rules, arith}
 use Rattle.tiles.specs.declared.bounds.Bounds.{Bounds}
 use Rattle.tiles.specs.Cutting.{AreBounds, bounds_of}
 use Rattle.flow.proofs.Listed.{AreFirstRows, row_added}
@@ -16,3 +16,9 @@ loop-row-preserved c =
     let more = row_added v (bounds_of v.cutting v.tile) c.loop-row.row c.loop-row.cells.items c.row.result.now c.extend_from_slice.new.self.items refl inside
     (omega (arith, c.loop-row-test.true, rows)) c.row.ensures.value c.row.ensures.size made so_far in
     record { size = more.size; each = more.each }
+
+pub returns : goal.returns
+returns c =
+    let b = bounds_of c.args.codes.now.cutting c.args.codes.now.tile in
+    let all : c.loop-row.row * b.cols ≡ b.rows * b.cols = ap (λ n. n * b.cols) (omega (arith, c.loop-row-test.false, c.loop-row.auto.row-end, ap (λ (b : Bounds). b.rows) c.bounds-bounds.ensures.value)) in
+    record { size = c.loop-row.invariant.size ∙ all; each = λ i h. c.loop-row.invariant.each i (omega (arith, h, all)) }

@@ -17,3 +17,9 @@ loop-leap-preserved c =
       leap = (omega arith, omega arith);
       before = before_to targets c.args.line next c.args.aside _ c.requires.targets at (told.0 c.if-not-is_before.false);
     })
+
+pub returns-then-not-is_before-clause-before : goal.returns-then-not-is_before-clause-before
+returns-then-not-is_before-clause-before c = rw (back_short c.args.aside (omega (arith, c.requires.aside))) at c.halved.ensures.before
+
+pub returns-clause-before : goal.returns-clause-before
+returns-clause-before c = rw (back_short c.args.aside (omega (arith, c.requires.aside))) at c.halved-2.ensures.before

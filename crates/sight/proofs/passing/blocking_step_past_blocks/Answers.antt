@@ -108,3 +108,42 @@ loop-first-preserved c =
       start = c.at-next.ensures;
       clear = rw all (none_joined p 1 (first - 1) first (end - first) (omega arith) c.loop-first.invariant.clear none);
     }
+
+pub is_above_blocks-requires-clause-over : goal.is_above_blocks-requires-clause-over
+is_above_blocks-requires-clause-over c = rw c.deref.ensures.value c.requires.far_tops.over
+
+pub blocking_step-requires : goal.blocking_step-requires
+blocking_step-requires c = record {
+  heights = c.requires.heights;
+  line = c.requires.line;
+  over = c.requires.over;
+  pace = c.new-pace.ensures;
+  start = c.at-begin.ensures;
+  range = (c.block_end-first.ensures.after, omega arith);
+}
+
+pub blocking_step_past_near_blocks-requires : goal.blocking_step_past_near_blocks-requires
+blocking_step_past_near_blocks-requires c = record {
+  heights = c.requires.heights;
+  line = c.requires.line;
+  over = c.requires.over;
+  pace = c.new-pace.ensures;
+  leap = c.new-leap.ensures;
+  strides = c.requires.near;
+  tops = rw c.deref-then-not-is_whole.ensures.value c.requires.near_tops;
+  start = c.loop-first.invariant.start;
+  range = (c.block_end-end.ensures.after, omega arith);
+}
+
+pub loop-first-init : goal.loop-first-init
+loop-first-init c = record {
+  begun = omega arith;
+  within = omega arith;
+  start = c.at-start.ensures;
+  clear = sym c.blocking_step.ensures.answer ∙ ap is_some c.in_default.is;
+}
+
+pub returns-clause-answer : goal.returns-clause-answer
+returns-clause-answer c =
+    let all : c.loop-first.first ≡ steps_of c.args.line = omega arith in
+    sym (rw all at c.loop-first.invariant.clear)

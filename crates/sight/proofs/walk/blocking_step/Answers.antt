@@ -1,8 +1,9 @@
-use Rattle.std.proofs.Common.{arith, refl, sym, ap, ◌∙◌, ◌≡◌, ◌+◌, ◌-◌}
+use Rattle.std.proofs.Common.{arith, rules, refl, sym, ap, ◌∙◌, ◌≡◌, ◌<◌, ◌+◌, ◌-◌, w64}
 use Rattle.std.proofs.lemmas.Nat.{mul-le}
+use Rattle.std.proofs.lemmas.Int.{to_z-of_z}
 use Rattle.sight.specs.Walk.{step_blocks, steps_of}
 use Rattle.sight.proofs.Steps.{index_stays, index_passes, near_inside, far_inside, room, next_is, whole_le}
-use Rattle.sight.proofs.Levels.{next_level}
+use Rattle.sight.proofs.Levels.{next_level, level_fits, rise_fits}
 use Rattle.sight.proofs.Ranges.{any_more, any_at}
 use Rattle.sight.proofs.walk.blocking_step.Goals as goal
 
@@ -81,3 +82,33 @@ loop-step-preserved c =
       sight = level.1;
       clear = rw more (any_more p first (k - first) c.loop-step.invariant.clear (ap p at ∙ sym told ∙ c.if-is_higher.false));
     }
+
+pub loop-step-init : goal.loop-step-init
+loop-step-init c =
+    let none : c.args.first - c.args.first ≡ 0 = omega arith in
+    record {
+      index = rw (c.lead_at.ensures, c.requires.start.whole) refl;
+      part = c.requires.start.part;
+      sight = to_z-of_z w64 c.args.start.sight (search rules) ∙ c.requires.start.sight;
+      clear = rw none refl;
+    }
+
+pub overflow_sub-rise : goal.overflow_sub-rise
+overflow_sub-rise c =
+    let line = c.args.line in
+    let from = to_z-of_z w64 line.from_level (level_fits line.from_level c.requires.line.from_level) in
+    let to = to_z-of_z w64 line.to_level (level_fits line.to_level c.requires.line.to_level) in
+    rw (from, to) (rise_fits line.from_level line.to_level c.requires.line.from_level c.requires.line.to_level)
+
+pub overflow_sub-pace : goal.overflow_sub-pace
+overflow_sub-pace c = omega (arith, c.loop-step.invariant.part, c.requires.pace.steps)
+
+pub is_higher-requires-clause-weights : goal.is_higher-requires-clause-weights
+is_higher-requires-clause-weights c =
+    let below : c.loop-step.part < c.args.pace.steps = omega (arith, c.loop-step.invariant.part, c.requires.pace.steps) in
+    (omega arith, omega (arith, c.requires.line.ends, c.requires.pace.steps))
+
+pub returns-clause-answer : goal.returns-clause-answer
+returns-clause-answer c =
+    let all : c.loop-step.step ≡ c.args.end = omega arith in
+    sym (rw all at c.loop-step.invariant.clear)

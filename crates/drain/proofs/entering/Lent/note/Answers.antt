@@ -4,6 +4,7 @@ use Rattle.terrain.specs.declared.place.Place.{Place}
 use Rattle.drain.specs.declared.changes.Entry.{Entry}
 use Rattle.drain.specs.Entering.{lent_terrain}
 use Rattle.drain.specs.Lowering.{count_of}
+use Rattle.drain.proofs.Lowered.{small}
 use Rattle.drain.proofs.Noting.{noted_push, entry_from}
 use Rattle.drain.proofs.entering.Lent.note.Goals as goal
 
@@ -20,3 +21,8 @@ returns c =
     (entry_from v c.args.self.now.levels.now steps from to c.tile_of-tile.result c.requires.counting c.requires.from c.requires.count c.requires.to.0 c.requires.to.1 (c.is_level.ensures.0 c.if-not-is_level.false) (omega (arith, own, c.if-own-count.false))
     c.tile_of-tile.ensures.number)
     (λ p q done side. (sym done.0, omega (arith, c.requires.count, ap (λ (r : Place). count_of steps (index_of v.cols r)) done.1)))
+
+pub overflow_add-count : goal.overflow_add-count
+overflow_add-count c =
+    let v = c.args.self.now.tiling.now in
+    omega (arith, c.requires.count, small (lent_terrain v c.args.self.now.levels.now) c.args.self.now.steps.now (index_of v.cols c.args.from.place) c.requires.counting)

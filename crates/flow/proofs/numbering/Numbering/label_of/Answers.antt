@@ -1,11 +1,17 @@
-use Rattle.std.proofs.Common.{get_or, None, ap, ◌∙◌}
+use Rattle.std.proofs.Common.{get_or, None, sym, ap, ◌∙◌}
 use Rattle.terrain.specs.declared.place.Place.{Place}
 use Rattle.tiles.specs.declared.bounds.Bounds.{Bounds}
 use Rattle.tiles.specs.Cutting.{place_in}
 use Rattle.flow.specs.RimGraph.{outlet_in}
 use Rattle.flow.specs.Numbering.{number_at}
-use Rattle.flow.proofs.Listed.{exit_placed, label_own}
+use Rattle.flow.proofs.Listed.{exit_placed, label_own, label_none, label_other}
 use Rattle.flow.proofs.numbering.Numbering.label_of.Goals as goal
+
+pub returns-in_default : goal.returns-in_default
+returns-in_default c = label_none c.args.self.now.outlets c.args.self.now.flows.items c.args.self.now.numbers c.args.flow.now.bounds c.args.index _ (sym c.in_default.is ∙ c.exit_index.ensures.value)
+
+pub returns-then-exit-index : goal.returns-then-exit-index
+returns-then-exit-index c = label_other c.args.self.now.outlets c.args.self.now.flows.items c.args.self.now.numbers c.args.flow.now.bounds c.args.index _ _ c.in-Some.ensures.value c.if-exit-index.true
 
 pub number_of-requires-clause-within : goal.number_of-requires-clause-within
 number_of-requires-clause-within c =

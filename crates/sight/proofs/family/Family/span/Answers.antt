@@ -1,32 +1,38 @@
 use Rattle.std.proofs.Common.{arith, rules, refl, sym, ap, ◌∙◌, ◌≡◌, ℕ, ◌+◌, ◌≤◌, pos, ◌+ℤ◌, ◌*ℤ◌, ◌<ℤ◌, get_or, None, Some, w64, FitsSigned}
 use Rattle.std.proofs.lemmas.Int.{ints, to_z-of_z, by_lt_z}
+use Rattle.std.proofs.lemmas.Nat.{mul-le}
 use Rattle.horizons.specs.Horizons.{hides_by}
 use Rattle.horizons.proofs.Sizes.{back_short}
-use Rattle.sight.specs.Sweep.{IsCell, ramp_of}
+use Rattle.sight.specs.Sweep.{lead_of, IsCell, ramp_of}
 use Rattle.sight.proofs.Below.{among_shows, passes_one}
 use Rattle.sight.proofs.Heights.{kept}
 use Rattle.sight.proofs.Rays.{past_onward}
 use Rattle.sight.proofs.Spans.{near_index, none_outside, nothing_near, nothing_far, shows_ramp, shows_centre}
 use Rattle.sight.proofs.family.Family.span.Goals as goal
 
-pub returns-in_default-clause-shows : goal.returns-in_default-clause-shows
-returns-in_default-clause-shows c =
+pub returns-in_default : goal.returns-in_default
+returns-in_default c =
     let f = c.args.self in
     let k = c.args.line in
     let aside = c.aside_at-aside.result in
     let back = back_short aside (omega (arith, c.aside_at-aside.ensures.small)) in
     let out : (n : ℕ) → pos n ≡ pos f.side.at +ℤ aside → f.side.cells ≤ n = rw back at c.in_default.ensures in
-    rw back (λ t is_t slope among alone.
-    let passes = passes_one k aside t among in
-    record {
-      at = c.nothing.ensures.at t is_t;
-      hides = λ y rise stands later is.
-          let cell = none_outside f k y aside t c.requires.family stands later passes in
-          absurd (omega (arith, out cell.0 cell.1, cell.2));
+    rw back (record {
+      passes = c.aside_at-aside.ensures.passes;
+      small = c.aside_at-aside.ensures.small;
+      last = (omega (arith, ints), c.aside_at-aside.ensures.small);
+      shows = λ t is_t slope among alone.
+          let passes = passes_one k aside t among in
+          record {
+            at = c.nothing.ensures.at t is_t;
+            hides = λ y rise stands later is.
+                let cell = none_outside f k y aside t c.requires.family stands later passes in
+                absurd (omega (arith, out cell.0 cell.1, cell.2));
+          };
     })
 
-pub returns-in_default-height_at-clause-shows : goal.returns-in_default-height_at-clause-shows
-returns-in_default-height_at-clause-shows c =
+pub returns-in_default-height_at : goal.returns-in_default-height_at
+returns-in_default-height_at c =
     let f = c.args.self in
     let k = c.args.line in
     let cells = c.args.cells.now in
@@ -34,15 +40,20 @@ returns-in_default-height_at-clause-shows c =
     let back = back_short aside (omega (arith, c.aside_at-aside.ensures.small)) in
     let cell : IsCell f k aside c.in-Some.index = rw back at c.in-Some.ensures in
     let none : get_or cells (near_index f k cell.0) None ≡ None = ap (λ n. get_or cells n None) (sym cell.3) ∙ sym c.height_at.ensures ∙ c.in_default-height_at.is in
-    rw back (λ t is_t slope among alone.
-    let passes = passes_one k aside t among in
-    record {
-      at = c.nothing.ensures.at t is_t;
-      hides = λ y rise stands later is. c.nothing.ensures.below t rise is_t is ∙ sym (nothing_near cells f k cell.0 y aside rise t stands later passes cell.2 none);
+    rw back (record {
+      passes = c.aside_at-aside.ensures.passes;
+      small = c.aside_at-aside.ensures.small;
+      last = (omega (arith, ints), c.aside_at-aside.ensures.small);
+      shows = λ t is_t slope among alone.
+          let passes = passes_one k aside t among in
+          record {
+            at = c.nothing.ensures.at t is_t;
+            hides = λ y rise stands later is. c.nothing.ensures.below t rise is_t is ∙ sym (nothing_near cells f k cell.0 y aside rise t stands later passes cell.2 none);
+          };
     })
 
-pub returns-in-Some-height_at-2-clause-shows : goal.returns-in-Some-height_at-2-clause-shows
-returns-in-Some-height_at-2-clause-shows c =
+pub returns-in-Some-height_at-2 : goal.returns-in-Some-height_at-2
+returns-in-Some-height_at-2 c =
     let f = c.args.self in
     let k = c.args.line in
     let cells = c.args.cells.now in
@@ -62,16 +73,22 @@ returns-in-Some-height_at-2-clause-shows c =
     let last = c.last_of.result in
     let last_back = back_short last (omega (arith, ints, c.last_of.ensures.range, c.aside_at-aside.ensures.small)) in
     let onward = rw back at c.last_of.ensures.shows in
-    rw (back, last_back) (λ t is_t slope among alone.
-    among_shows cells f k aside last c.ramp-ramp.result t is_t.line.0 among
-    (λ passes. record {
-      at = at t is_t passes;
-      hides = λ y rise stands later is. ap (λ r. hides_by r t rise) ramp ∙ shows_ramp cells f k cell.0 y aside near far rise t stands later passes cell.2 here next;
+    let range = rw back at c.last_of.ensures.range in
+    rw (back, last_back) (record {
+      passes = c.aside_at-aside.ensures.passes;
+      small = c.aside_at-aside.ensures.small;
+      last = (range.0, omega (arith, ints, range, c.aside_at-aside.ensures.small));
+      shows = λ t is_t slope among alone.
+          among_shows cells f k aside last c.ramp-ramp.result t is_t.line.0 among
+          (λ passes. record {
+            at = at t is_t passes;
+            hides = λ y rise stands later is. ap (λ r. hides_by r t rise) ramp ∙ shows_ramp cells f k cell.0 y aside near far rise t stands later passes cell.2 here next;
+          })
+          (λ b past below passes. onward b t past below is_t passes);
     })
-    (λ b past below passes. onward b t past below is_t passes))
 
-pub returns-then-not-is_at_centre-clause-shows : goal.returns-then-not-is_at_centre-clause-shows
-returns-then-not-is_at_centre-clause-shows c =
+pub returns-then-not-is_at_centre : goal.returns-then-not-is_at_centre
+returns-then-not-is_at_centre c =
     let f = c.args.self in
     let k = c.args.line in
     let cells = c.args.cells.now in
@@ -89,13 +106,18 @@ returns-then-not-is_at_centre-clause-shows c =
     let yes = centre.1 centred in
     let no = c.if-not-is_at_centre.true in
     absurd (cc)) in
-    rw back (λ t is_t slope among alone.
-    let passes = passes_one k aside t among in
-    record {
-      at = c.nothing.ensures.at t is_t;
-      hides = λ y rise stands later is.
-          let past = past_onward aside target.aside t.aside target.line t.line k is_t.line.0 slope beyond in
-          c.nothing.ensures.below t rise is_t is ∙ sym (nothing_far cells f k cell.0 y aside rise near t stands later passes cell.2 here next past);
+    rw back (record {
+      passes = c.aside_at-aside.ensures.passes;
+      small = c.aside_at-aside.ensures.small;
+      last = (omega (arith, ints), c.aside_at-aside.ensures.small);
+      shows = λ t is_t slope among alone.
+          let passes = passes_one k aside t among in
+          record {
+            at = c.nothing.ensures.at t is_t;
+            hides = λ y rise stands later is.
+                let past = past_onward aside target.aside t.aside target.line t.line k is_t.line.0 slope beyond in
+                c.nothing.ensures.below t rise is_t is ∙ sym (nothing_far cells f k cell.0 y aside rise near t stands later passes cell.2 here next past);
+          };
     })
 
 pub ramp-ramp-requires-clause-heights : goal.ramp-ramp-requires-clause-heights
@@ -125,8 +147,8 @@ ramp-requires-clause-aside c =
     let cell : IsCell f c.args.line aside c.in-Some.index = rw back at c.in-Some.ensures in
     rw back (omega (arith, ints, cell.1, cell.2, c.requires.family))
 
-pub returns-clause-shows : goal.returns-clause-shows
-returns-clause-shows c =
+pub returns : goal.returns
+returns c =
     let f = c.args.self in
     let k = c.args.line in
     let cells = c.args.cells.now in
@@ -142,10 +164,24 @@ returns-clause-shows c =
     let at = rw back at c.ramp.ensures.at in
     let centre = rw back at c.is_at_centre.ensures in
     let centred : (target.aside *ℤ pos k) ≡ aside *ℤ pos target.line = centre.0 c.if-not-is_at_centre.false in
-    rw back (λ t is_t slope among alone.
-    let passes = passes_one k aside t among in
-    let same : t ≡ target = alone refl in
-    record {
-      at = at t is_t passes;
-      hides = λ y rise stands later is. ap (λ r. hides_by r t rise) ramp ∙ shows_centre cells f k cell.0 y aside near rise t stands later (ap (λ u. u.aside *ℤ pos k) same ∙ centred ∙ ap (λ u. aside *ℤ pos u.line) (sym same)) cell.2 here;
+    rw back (record {
+      passes = c.aside_at-aside.ensures.passes;
+      small = c.aside_at-aside.ensures.small;
+      last = (omega (arith, ints), c.aside_at-aside.ensures.small);
+      shows = λ t is_t slope among alone.
+          let passes = passes_one k aside t among in
+          let same : t ≡ target = alone refl in
+          record {
+            at = at t is_t passes;
+            hides = λ y rise stands later is. ap (λ r. hides_by r t rise) ramp ∙ shows_centre cells f k cell.0 y aside near rise t stands later (ap (λ u. u.aside *ℤ pos k) same ∙ centred ∙ ap (λ u. aside *ℤ pos u.line) (sym same)) cell.2 here;
+          };
     })
+
+pub overflow_add-index : goal.overflow_add-index
+overflow_add-index c =
+    let f = c.args.self in
+    let cell = c.in-Some.ensures in
+    let lead : lead_of f c.args.line ≤ 8192 = grind arith in
+    let lines = mul-le (lead_of f c.args.line) f.lines.stride 8192 4096 lead (omega (arith, c.requires.family.strides)) in
+    let side = mul-le cell.0 f.side.stride 4096 4096 (omega (arith, cell.1, c.requires.family.cells)) (omega (arith, c.requires.family.strides)) in
+    omega (arith, cell.3, lines, side, c.requires.family.strides)

@@ -2,6 +2,11 @@ use Rattle.std.proofs.Common.{◌≡◌, ◌-◌, ◌*◌, ℕ, subst, arith}
 use Rattle.sight.specs.Marks.{AreMarkedBelow, Tells}
 use Rattle.sight.proofs.tile.Viewing.mark.Goals as goal
 
+pub loop-row-init : goal.loop-row-init
+loop-row-init c =
+    let none : c.args.bounds.top - c.args.bounds.top ≡ 0 = omega arith in
+    rw none (record { size = c.requires.size; each = λ p inside below. absurd (omega arith) })
+
 pub returns : goal.returns
 returns c =
     let self = c.args.self.now in
