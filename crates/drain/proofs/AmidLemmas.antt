@@ -1,17 +1,18 @@
 -- What stands around a cell amid the grid, by places in row order.
-use Rattle.std.proofs.Common.{◌≡◌, ◌≢◌, ℕ, ◌+◌, ◌-◌, ◌*◌, ◌<◌, ◌≤◌, ◌⊎◌, inl, inr, true, false, max, fold, List, get_or, Option, None, Some, is_some, IfSome, ℤ, sym, ap, subst, refl, ◌∙◌, arith}
+use Rattle.std.proofs.Common.{◌≡◌, ◌≢◌, ℕ, ◌+◌, ◌-◌, ◌*◌, ◌<◌, ◌≤◌, inl, inr, true, false, max, fold, List, get_or, Option, None, Some, is_some, IfSome, ℤ, sym, ap, subst, refl, ◌∙◌, arith}
 use Rattle.std.specs.Prelude.{option_map}
 use Rattle.std.specs.List.{list_any, position}
 use Rattle.std.specs.Option.{option_zip, option_and_then}
 use Rattle.std.proofs.Math.Nat.{mul-le-mul_right}
 use Rattle.std.proofs.lemmas.Bool.{cases_eq}
-use Rattle.terrain.proofs.Places.{make_place, entry-inside, index_below}
+use Rattle.terrain.proofs.Places.{entry-inside, index_below}
 use Rattle.terrain.proofs.Heights.{height_in}
+use Rattle.terrain.proofs.EightWays.{on_ways}
 use Rattle.terrain.specs.Raster.{Terrain, IsTerrain, IsHeight}
 use Rattle.terrain.specs.Neighbours.{IsInside, height_at, entry_at, index_of, Touches}
-use Rattle.terrain.specs.Ways.{place_on, place_of, before, entry_on, code_of}
+use Rattle.terrain.specs.Ways.{around_index, place_on, entry_on, code_of}
 use Rattle.terrain.specs.declared.place.Place.{Place}
-use Rattle.drain.specs.Amid.{around_index, drop_by, drop_on, HasHeights, IsSteepestWay, StandAround}
+use Rattle.drain.specs.Amid.{drop_by, drop_on, HasHeights, IsSteepestWay, StandAround}
 use Rattle.drain.specs.Beginning.{IsOutermost}
 use Rattle.drain.specs.Directions.{IsCodeAt}
 use Rattle.drain.specs.Fitting.{IsLaidAround}
@@ -22,7 +23,6 @@ use Rattle.drain.proofs.AroundLemmas.{shown_on, around_with, laid_with, steps_at
 use Rattle.drain.proofs.Nearby.{cases_option}
 use Rattle.drain.proofs.Laid.{with_steps, without_steps, leads as leads_by_steps, is_down, is_outlet, is_onward, code_is}
 use Rattle.drain.proofs.Quiet.{if_some}
-use Rattle.drain.proofs.Ways.{eight, before-is}
 
 -- how far a way leads down, by its height
 pub drop_is : (a : Around) (level : ℤ) (heights : List (Option ℤ)) (way : ℕ) → HasHeights a level heights → way < 8 → drop_on level heights way ≡ drop_to a.level (get_or a.ways way None)
@@ -33,58 +33,6 @@ drop_is a level heights way has below =
     without_steps level None = refl
     without_steps level (Some w) = refl
 
--- The place on a way from another lies in the grid, and stands where the list of the places around says.
-pub record IsOnWay (t : Terrain) (p : Place) (way : ℕ) (q : Place) : Type 0 where
-  pub on : place_on way p ≡ Some q
-  pub inside : IsInside t q
-  pub index : index_of t.cols q ≡ get_or (around_index t.cols (index_of t.cols p)) way 0
-  pub touches : Touches p q
-  pub different : p ≢ q
-
-apart : (p : Place) (row col : ℕ) → (p.row ≢ row) ⊎ (p.col ≢ col) → p ≢ make_place row col
-apart p row col (inl ne) e = ne (ap (λ (q : Place). q.row) e)
-apart p row col (inr ne) e = ne (ap (λ (q : Place). q.col) e)
-
-module _ (t : Terrain) (p : Place) (r c : ℕ) (row : p.row ≡ r + 1) (col : p.col ≡ c + 1) (rows : r + 2 < t.rows) (cols : c + 2 < t.cols) where
-  found : (way y x : ℕ) → place_on way p ≡ Some (make_place y x) → (r ≤ y) × (y ≤ r + 2) → (c ≤ x) × (x ≤ c + 2) → (p.row ≢ y) ⊎ (p.col ≢ x)
-      → y * t.cols + x ≡ get_or (around_index t.cols (index_of t.cols p)) way 0 → (q : Place) × IsOnWay t p way q
-  found way y x on y_in x_in ne index = (
-    make_place y x,
-    record {
-      on = on;
-      inside = (omega (arith, y_in.1), omega (arith, x_in.1));
-      index = index;
-      touches = record { row_down = omega (arith, y_in.1); row_up = omega (arith, y_in.0); col_right = omega (arith, x_in.1); col_left = omega (arith, x_in.0) };
-      different = apart p y x ne;
-    },
-  )
-
-  north : before p.row ≡ Some r
-  north = before-is p.row r row
-
-  west : before p.col ≡ Some c
-  west = before-is p.col c col
-
-  at_is : index_of t.cols p ≡ r * t.cols + t.cols + c + 1
-  at_is = ap (λ (n : ℕ). n * t.cols + p.col) row ∙ omega (arith, col)
-
-  below_is : (p.row + 1) * t.cols ≡ r * t.cols + t.cols + t.cols
-  below_is = ap (λ (n : ℕ). (n + 1) * t.cols) row ∙ omega arith
-
-  amid_is : p.row * t.cols ≡ r * t.cols + t.cols
-  amid_is = ap (λ (n : ℕ). n * t.cols) row ∙ omega arith
-
-  on_ways : (way : ℕ) → way < 8 → (q : Place) × IsOnWay t p way q
-  on_ways = eight (λ way. (q : Place) × IsOnWay t p way q)
-      (found 0 p.row (p.col + 1) refl (omega arith, omega arith) (omega arith, omega arith) (inr (λ e. omega arith)) (omega (arith, at_is, amid_is)))
-      (found 1 (p.row + 1) (p.col + 1) refl (omega arith, omega arith) (omega arith, omega arith) (inl (λ e. omega arith)) (omega (arith, at_is, below_is)))
-      (found 2 (p.row + 1) p.col refl (omega arith, omega arith) (omega arith, omega arith) (inl (λ e. omega arith)) (omega (arith, at_is, below_is)))
-      (found 3 (p.row + 1) c (ap (λ (o : Option ℕ). place_of (Some (p.row + 1)) o) west) (omega arith, omega arith) (omega arith, omega arith) (inl (λ e. omega arith)) (omega (arith, at_is, below_is)))
-      (found 4 p.row c (ap (λ (o : Option ℕ). place_of (Some p.row) o) west) (omega arith, omega arith) (omega arith, omega arith) (inr (λ e. omega arith)) (omega (arith, at_is, amid_is)))
-      (found 5 r c (ap (λ (o : Option ℕ). place_of o (before p.col)) north ∙ ap (λ (o : Option ℕ). place_of (Some r) o) west) (omega arith, omega arith) (omega arith, omega arith) (inl (λ e. omega arith)) (omega (arith, at_is)))
-      (found 6 r p.col (ap (λ (o : Option ℕ). place_of o (Some p.col)) north) (omega arith, omega arith) (omega arith, omega arith) (inl (λ e. omega arith)) (omega (arith, at_is)))
-      (found 7 r (p.col + 1) (ap (λ (o : Option ℕ). place_of o (Some (p.col + 1))) north) (omega arith, omega arith) (omega arith, omega arith) (inl (λ e. omega arith)) (omega (arith, at_is)))
-
 -- a cell amid the grid
 amid_parts : (t : Terrain) (p : Place) → IsInside t p → (IsOutermost t p → ⊥) → (1 ≤ p.row) × (1 ≤ p.col) × (p.row + 1 < t.rows) × (p.col + 1 < t.cols)
 amid_parts t p inside amid = (
@@ -94,10 +42,29 @@ amid_parts t p inside amid = (
   elim (cases_eq p.col (t.cols - 1)) [ inl e ↦ absurd (amid (inr (inr (inr e)))) | inr ne ↦ omega (arith, inside.1) ],
 )
 
+-- The place on a way from another lies in the grid, and stands where the list of the places around says.
+pub record IsOnWay (t : Terrain) (p : Place) (way : ℕ) (q : Place) : Type 0 where
+  pub on : place_on way p ≡ Some q
+  pub inside : IsInside t q
+  pub index : index_of t.cols q ≡ get_or (around_index t.cols (index_of t.cols p)) way 0
+  pub touches : Touches p q
+  pub different : p ≢ q
+
 pub on_way_amid : (t : Terrain) (p : Place) → IsInside t p → (IsOutermost t p → ⊥) → (way : ℕ) → way < 8 → (q : Place) × IsOnWay t p way q
-on_way_amid t p inside amid =
+on_way_amid t p inside amid way below =
     let part = amid_parts t p inside amid in
-    on_ways t p (p.row - 1) (p.col - 1) (omega (arith, part.0)) (omega (arith, part.1)) (omega (arith, part.0, part.2)) (omega (arith, part.1, part.3))
+    let from_first : (q : Place) → (q.row - 0) * t.cols + (q.col - 0) ≡ index_of t.cols q =
+    λ q. let row : q.row - 0 ≡ q.row = omega arith in omega (arith, ap (λ (n : ℕ). n * t.cols) row) in
+    let q = on_ways 0 0 t.cols (index_of t.cols p) p (p.row - 1) (p.col - 1) (omega (arith, part.0)) (omega (arith, part.1)) (omega arith) (omega arith) (sym (from_first p)) way below in (
+      q.0,
+      record {
+        on = q.1.on;
+        inside = (omega (arith, part.2, q.1.touches.row_down), omega (arith, part.3, q.1.touches.col_right));
+        index = sym (from_first q.0) ∙ q.1.index;
+        touches = q.1.touches;
+        different = q.1.different;
+      },
+    )
 
 -- a row stands before a cell amid the grid
 pub row_before : (t : Terrain) (p : Place) → IsInside t p → (IsOutermost t p → ⊥) → t.cols < index_of t.cols p

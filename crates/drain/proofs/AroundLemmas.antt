@@ -16,7 +16,7 @@ use Rattle.drain.specs.Fitting.{IsLaidAround}
 use Rattle.drain.specs.declared.around.Around.{Around}
 use Rattle.drain.proofs.Counted.{height_is}
 use Rattle.drainage.proofs.Reach.{data_inside}
-use Rattle.drain.proofs.Ways.{eight, zip_some}
+use Rattle.terrain.proofs.EightWays.{eight, zip_some}
 
 -- what stands on a way is a neighbour's
 pub on_way : (t : Terrain) (steps : List (Option ℕ)) (p : Place) (a : Around) (way : ℕ) (w : ℤ × ℕ) → IsLaidAround t steps p a → way < 8 → get_or a.ways way None ≡ Some w →

@@ -8,10 +8,10 @@ use Rattle.terrain.proofs.Places.{make_place, entry-below, entry-beside}
 use Rattle.terrain.specs.Raster.{Terrain}
 use Rattle.terrain.specs.Neighbours.{IsInside, height_at, index_of, Touches, IsEdge, HasGapAround, height_of}
 use Rattle.terrain.specs.declared.place.Place.{Place}
-use Rattle.drain.specs.Amid.{around_index}
+use Rattle.terrain.specs.Ways.{around_index}
 use Rattle.drain.specs.Beginning.{DrainsAnyway, IsGapOrLower, IsOutermost}
 use Rattle.drain.proofs.AmidLemmas.{cell_on_way}
-use Rattle.drain.proofs.Ways.{way_to}
+use Rattle.terrain.proofs.EightWays.{way_to}
 
 height_of_is : (t : Terrain) (p : Place) (h : ℤ) → height_at t p ≡ Some h → height_of t p ≡ h
 height_of_is t p h e = ap (λ (o : Option ℤ). unwrap_or o (pos 0)) e

@@ -26,7 +26,7 @@ use Rattle.drain.proofs.Local.{one_number_of_steps}
 use Rattle.drain.proofs.Nearby.{drains_at_once}
 use Rattle.drain.proofs.Pointing.{way_toward, codes_rise, next_on_way}
 use Rattle.drain.proofs.Quiet.{if_some, ended}
-use Rattle.drain.proofs.Ways.{along, way_to, toward-code}
+use Rattle.terrain.proofs.EightWays.{along, way_to, toward-code}
 use Rattle.drain.proofs.Weights.{length-weights, get_or-weights, drop_from_weight, direction_down}
 
 module _ (t : Terrain) (steps : List (Option ℕ)) (p : Place) (a : Around) (are : AreSteps t steps) (laid : IsLaidAround t steps p a) where

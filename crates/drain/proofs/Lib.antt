@@ -25,7 +25,6 @@ pub mod RoundLemmas
 pub mod Entered
 -- the direction of a cell
 pub mod Block
-pub mod Ways
 pub mod AroundLemmas
 pub mod Greatest
 pub mod Weights

@@ -10,14 +10,13 @@ use Rattle.terrain.specs.Raster.{Terrain}
 use Rattle.terrain.specs.Neighbours.{IsDataCell, IsNeighbour, IsEnd}
 use Rattle.terrain.specs.Ways.{way_codes, ways_from, way_of, code_of, place_on, place_toward}
 use Rattle.terrain.specs.declared.place.Place.{Place}
-use Rattle.tiles.proofs.Members.{Touches-from_ways}
+use Rattle.terrain.proofs.EightWays.{eight, Touches-from_ways}
 use Rattle.drain.specs.Steps.{HasLower, DrainsAtOnce, AreSteps}
 use Rattle.drain.specs.Directions.{IsSteepest, IsOnward, PointsToFirst, IsDirection}
 use Rattle.drainage.specs.Drained.{Falls}
 use Rattle.drain.proofs.Local.{one_number_of_steps}
 use Rattle.drain.proofs.Nearby.{cases_option, has_lower, end_cell}
 use Rattle.drain.proofs.AroundLemmas.{steps_at}
-use Rattle.drain.proofs.Ways.{eight}
 
 -- what a code points to lies on the way whose code it is
 pub way_toward : (p q : Place) (code : ℕ) → place_toward code p ≡ Some q → (way : ℕ) × (way < 8) × (code ≡ code_of (Some way)) × (place_on way p ≡ Some q)

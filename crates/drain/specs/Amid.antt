@@ -1,13 +1,8 @@
 -- The code of a cell that has eight cells of the grid around it, by their places in row order.
-use Rattle.std.specs.Prelude.{◌≡◌, ℕ, ◌+◌, ◌-◌, ◌%◌, ◌<◌, ◌≤◌, ◌*◌, ◌⊎◌, ◌==◌, max, ℤ, ◌-ℤ◌, ◌≤ℤ◌, List, [], ◌∷◌, length, fold, Option, None, Some, option_map, unwrap_or, position, slice_index_or}
+use Rattle.std.specs.Prelude.{◌≡◌, ℕ, ◌+◌, ◌%◌, ◌<◌, ◌≤◌, ◌*◌, ◌⊎◌, ◌==◌, max, ℤ, ◌-ℤ◌, ◌≤ℤ◌, List, length, fold, Option, None, Some, option_map, unwrap_or, position, slice_index_or}
 use Rattle.std.specs.Option.{option_zip}
 use Rattle.drain.specs.Steepness.{positive_part, weights}
 use Rattle.drain.specs.declared.around.Around.{Around}
-
--- Where the cells around one stand, in the order of the codes.
-abbrev pub around_index : ℕ → ℕ → List ℕ
-around_index cols index =
-    (index + 1) ∷ (index + cols + 1) ∷ (index + cols) ∷ (index + cols - 1) ∷ (index - 1) ∷ (index - cols - 1) ∷ (index - cols) ∷ (index - cols + 1) ∷ []
 
 -- How far a height lies below this level; 0 where it doesn't, and where there is none.
 abbrev pub drop_by : ℤ → Option ℤ → ℕ

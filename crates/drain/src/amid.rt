@@ -1,10 +1,11 @@
 // The code of a cell that has eight cells of the grid around it, by their places in row order.
-ghost use Rattle.std.specs.Prelude.{◌≡◌, ℕ, ◌+◌, ◌*◌, ◌^◌, ◌<◌, IsTrue, Some, None, length, position, slice_index_or};
+ghost use Rattle.std.specs.Prelude.{◌≡◌, ℕ, ◌*◌, ◌<◌, IsTrue, Some, None, length, position, slice_index_or};
 ghost use Rattle.std.specs.List.{list_any};
 ghost use Rattle.std.specs.Option.{option_zip};
 ghost use Rattle.terrain.specs.Raster.{IsTerrain};
 ghost use Rattle.terrain.specs.Neighbours.{IsInside, height_at, entry_at, index_of};
-ghost use Rattle.drain.specs.Amid.{around_index, StandAround};
+ghost use Rattle.drain.specs.Amid.{StandAround};
+ghost use Rattle.terrain.specs.Ways.{around_index};
 ghost use Rattle.drain.specs.Beginning.{IsOutermost};
 ghost use Rattle.drain.specs.Directions.{IsCodeAt};
 ghost use Rattle.drain.specs.Steepness.{leads_on};
@@ -13,26 +14,7 @@ ghost use Rattle.drain.specs.declared.around.Around.{Around};
 
 use crate::steepness::steepest;
 use drainage::{Code, StepCount};
-use terrain::{Cell, Grid, Height, Place};
-
-/// Where the eight cells around one stand, in the order of the codes.
-#[inline(always)]
-fn around_index(cols: usize, index: usize) -> [usize; 8]
-    requires before { cols < index }
-    requires after { index + cols + 1 < 2 ^ 64 }
-    ensures { result ≡ around_index cols index }
-{
-    [
-        index + 1,
-        index + cols + 1,
-        index + cols,
-        index + cols - 1,
-        index - 1,
-        index - cols - 1,
-        index - cols,
-        index - cols + 1,
-    ]
-}
+use terrain::{Cell, Grid, Height, Place, around_index};
 
 /// Where the eight cells around one that is not outermost stand in the grid's lists, in the order of the codes.
 #[inline(always)]

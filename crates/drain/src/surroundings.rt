@@ -1,9 +1,9 @@
 // What stands around each cell, and the codes of a tile.
-ghost use Rattle.std.specs.Prelude.{◌≡◌, ◌+◌, ◌*◌, ◌<◌, Some, None, length, OnOk, IfOk, option_and_then};
+ghost use Rattle.std.specs.Prelude.{◌≡◌, ◌+◌, ◌*◌, ◌<◌, Some, None, length, OnOk, IfOk};
 ghost use Rattle.std.specs.Option.{option_zip};
 ghost use Rattle.terrain.specs.Raster.{IsTerrain};
 ghost use Rattle.terrain.specs.Neighbours.{IsInside, height_at, entry_at};
-ghost use Rattle.terrain.specs.Ways.{place_of, before};
+ghost use Rattle.terrain.specs.Ways.{entry_on};
 ghost use Rattle.drain.specs.Steps.{AreSteps};
 ghost use Rattle.drain.specs.Directions.{IsCodeAt};
 ghost use Rattle.drain.specs.Beginning.{IsOutermost, IsPartOf};
@@ -16,37 +16,24 @@ use crate::beginning::is_outermost;
 use crate::steepness::direction;
 use drainage::{Code, StepCount};
 use std::alloc::{AllocError, Global};
-use terrain::{Grid, Height, Place};
+use terrain::{Grid, Height, Place, place_on};
 use tiles::Bounds;
 
-/// The row or column before this one, None before the first.
+/// Filled height and steps of the cell that lies one way from a place, where that is one of the grid's with data.
 #[inline(always)]
-fn before(index: u32) -> Option<u32>
-    ensures { result ≡ before index }
-{
-    if index == 0 { None } else { Some(index - 1) }
-}
-
-/// Filled height and steps at a place, where it is one of the grid's with data.
-#[inline(always)]
-fn entry(
-    grid: &Grid,
-    steps: &[StepCount],
-    row: Option<u32>,
-    col: Option<u32>,
-) -> Option<(Height, u32)>
-    requires { length steps.now ≡ grid.now.terrain.cols * grid.now.terrain.rows }
+fn entry_on(grid: &Grid, steps: &[StepCount], way: usize, place: Place) -> Option<(Height, u32)>
+    requires size { length steps.now ≡ grid.now.terrain.cols * grid.now.terrain.rows }
+    requires lawful { IsTerrain grid.now.terrain }
+    requires inside { IsInside grid.now.terrain place }
     ensures { result ≡ option_zip
-        (option_and_then (λ q. height_at grid.now.terrain q) (place_of row col))
-        (option_and_then (λ q. entry_at grid.now.terrain.cols grid.now.terrain.rows steps.now q) (place_of row col)) }
+        (entry_on grid.now.terrain.cols grid.now.terrain.rows grid.now.terrain.cells way place)
+        (entry_on grid.now.terrain.cols grid.now.terrain.rows steps.now way place) }
 {
-    let (Some(row), Some(col)) = (row, col) else {
-        return None;
-    };
-    if row >= grid.rows() || col >= grid.cols() {
+    let next = place_on(way, place)?;
+    if next.row >= grid.rows() || next.col >= grid.cols() {
         return None;
     }
-    let index = Place { row, col }.index_in(grid.cols());
+    let index = next.index_in(grid.cols());
     match (grid.cells()[index].height(), steps[index].known()) {
         (Some(height), Some(count)) => Some((height, count)),
         _ => None,
@@ -64,25 +51,19 @@ fn around(grid: &Grid, steps: &[StepCount], place: Place, level: Height, own: u3
     requires own { entry_at grid.now.terrain.cols grid.now.terrain.rows steps.now place ≡ Some own }
     ensures { IsAround grid.now.terrain steps.now place result }
 {
-    let row = Some(place.row);
-    let col = Some(place.col);
-    let east = Some(place.col + 1);
-    let south = Some(place.row + 1);
-    let west = before(place.col);
-    let north = before(place.row);
     Around {
         level,
         steps: own,
         edge: true,
         ways: [
-            entry(grid, steps, row, east),
-            entry(grid, steps, south, east),
-            entry(grid, steps, south, col),
-            entry(grid, steps, south, west),
-            entry(grid, steps, row, west),
-            entry(grid, steps, north, west),
-            entry(grid, steps, north, col),
-            entry(grid, steps, north, east),
+            entry_on(grid, steps, 0, place),
+            entry_on(grid, steps, 1, place),
+            entry_on(grid, steps, 2, place),
+            entry_on(grid, steps, 3, place),
+            entry_on(grid, steps, 4, place),
+            entry_on(grid, steps, 5, place),
+            entry_on(grid, steps, 6, place),
+            entry_on(grid, steps, 7, place),
         ],
     }
 }

@@ -4,6 +4,8 @@ pub mod Heights
 pub mod FilledTwice
 pub mod Reach
 pub mod FilledExists
+-- codes and their ways
+pub mod Codes
 -- flow paths end
 pub mod Pigeonhole
 pub mod Ends

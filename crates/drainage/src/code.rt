@@ -1,6 +1,6 @@
 // The code of a direction.
-ghost use Rattle.std.specs.Prelude.{◌≡◌, ◌<◌, Some};
-ghost use Rattle.terrain.specs.Ways.{code_of};
+ghost use Rattle.std.specs.Prelude.{◌≡◌, ◌<◌, IfSome, Some};
+ghost use Rattle.terrain.specs.Ways.{code_of, way_of};
 ghost use Rattle.drainage.specs.CodeNumber.{IsCode};
 
 use std::marker::Model;
@@ -45,6 +45,18 @@ impl Code {
         Code {
             number: WAY_CODES[way],
         }
+    }
+
+    /// The way whose code this is, counted from 0 in the order of the codes. None of an outlet.
+    #[inline(always)]
+    pub fn way(&self) -> Option<usize>
+        ensures value { result ≡ way_of self.now }
+        ensures few { IfSome result (λ way. way < 8) }
+    {
+        if self.number == 0 {
+            return None;
+        }
+        Some(self.number.trailing_zeros() as usize)
     }
 
     #[inline(always)]

@@ -16,7 +16,6 @@ pub mod Gathering
 pub mod InTile
 pub mod Piece
 pub mod Listed
-pub mod CodeMasks
 pub mod AmidLinks
 -- from tile to tile over the rims
 pub mod RimFlows

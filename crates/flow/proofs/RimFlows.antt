@@ -11,7 +11,7 @@ use Rattle.terrain.specs.declared.place.Place.{Place}
 use Rattle.tiles.specs.declared.bounds.Bounds.{Bounds}
 use Rattle.tiles.specs.Cutting.{Cutting, IsWithin, IsInBounds, is_within, tile_count, bounds_of, tile_of_place, is_in_bounds, entry_in}
 use Rattle.tiles.proofs.Cut.{in_bounds, in_tile, tile_of_place_below, in_bounds_parts, in_bounds_from}
-use Rattle.tiles.proofs.Members.{Touches-from_ways}
+use Rattle.terrain.proofs.EightWays.{Touches-from_ways}
 use Rattle.drainage.specs.Following.{Directed, code_at, next, follow, moves, last_of, IsOutlet}
 use Rattle.terrain.proofs.Listed.{is_place_from, place_is}
 use Rattle.flow.specs.Counts.{is_place}

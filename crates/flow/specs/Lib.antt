@@ -11,4 +11,3 @@ pub mod OutletRuns
 pub mod Numbering
 pub mod Inflows
 pub mod Counting
-pub mod CodeSteps

@@ -1,16 +1,14 @@
 // The cells of a tile, numbered in its row order, and the cells to which their water goes on.
-ghost use Rattle.std.specs.Prelude.{◌≡◌, ◌↔◌, IsTrue, if◌then◌else◌, ◌+◌, ◌-◌, ◌*◌, ◌^◌, ◌<◌, length, Some, IfOk, OnOk, unwrap_or, option_and_then};
-ghost use Rattle.terrain.specs.Ways.{place_of, place_toward};
+ghost use Rattle.std.specs.Prelude.{◌≡◌, ◌↔◌, IsTrue, ◌+◌, ◌-◌, ◌*◌, ◌^◌, ◌<◌, length, Some, IfOk, OnOk, unwrap_or, option_and_then};
+ghost use Rattle.terrain.specs.Ways.{place_toward};
 ghost use Rattle.tiles.specs.Cutting.{IsInBounds, bounds_of, place_in};
-ghost use Rattle.drainage.specs.CodeNumber.{IsCode};
 ghost use Rattle.flow.specs.Counts.{is_place};
 ghost use Rattle.flow.specs.TileFlow.{directed_by};
-ghost use Rattle.flow.specs.CodeSteps.{moved, leads_east, leads_south, leads_west, leads_north};
 ghost use Rattle.flow.specs.TileLinks.{AreTileCodes, IsAmid, IsSmall, link_by, first_links, links_by, weights_by};
 
 use drainage::Code;
 use std::alloc::{AllocError, Global};
-use terrain::Place;
+use terrain::{Place, around_index, place_on};
 use tiles::{Bounds, TileView};
 
 /// The codes of a tile in its row order.
@@ -109,18 +107,10 @@ fn link_amid(bounds: Bounds, row: u32, col: u32, code: Option<Code>) -> u32
     let Some(code) = code else {
         return index;
     };
-    let number = code.number();
-    let on = move_by(bounds.cols, leads_south(number)) + move_by(1, leads_east(number));
-    let back = move_by(bounds.cols, leads_north(number)) + move_by(1, leads_west(number));
-    index + on - back
-}
-
-/// So many cells where a code leads there, and none elsewhere.
-#[inline(always)]
-fn move_by(cells: u32, leads: bool) -> u32
-    ensures { result ≡ if leads then cells else 0 }
-{
-    if leads { cells } else { 0 }
+    match code.way() {
+        Some(way) => around_index(bounds.cols as usize, index as usize)[way] as u32,
+        None => index,
+    }
 }
 
 /// 1 for each data cell, and 0 for each without data.
@@ -168,75 +158,12 @@ pub(crate) fn next_of(code: Option<Code>, place: Place) -> Place
     }
 }
 
-// The place to which a code points.
+/// The place to which a code points, None of an outlet.
 #[inline(always)]
 fn toward(code: Code, place: Place) -> Option<Place>
     requires row { place.row < 2 ^ 32 - 1 }
     requires col { place.col < 2 ^ 32 - 1 }
     ensures { result ≡ place_toward code place }
 {
-    let number = code.number();
-    if number == 0 {
-        return None;
-    }
-    let row = moved(place.row, leads_south(number), leads_north(number));
-    let col = moved(place.col, leads_east(number), leads_west(number));
-    place_of(row, col)
-}
-
-#[inline(always)]
-fn place_of(row: Option<u32>, col: Option<u32>) -> Option<Place>
-    ensures { result ≡ place_of row col }
-{
-    match (row, col) {
-        (Some(row), Some(col)) => Some(Place { row, col }),
-        _ => None,
-    }
-}
-
-// By sums and masks alone, since a branch on the code would seldom be foreseen.
-#[inline(always)]
-fn moved(index: u32, on: bool, back: bool) -> Option<u32>
-    requires { index < 2 ^ 32 - 1 }
-    ensures { result ≡ moved index on back }
-{
-    let sum = index + u32::from(on);
-    let less = u32::from(back);
-    if sum < less { None } else { Some(sum - less) }
-}
-
-#[inline(always)]
-#[tactic(auto, using(crate::proofs::CodeMasks::masks_east))]
-fn leads_east(number: u8) -> bool
-    requires { IsCode number }
-    ensures { result ≡ leads_east number }
-{
-    number & 0b1000_0011 != 0
-}
-
-#[inline(always)]
-#[tactic(auto, using(crate::proofs::CodeMasks::masks_south))]
-fn leads_south(number: u8) -> bool
-    requires { IsCode number }
-    ensures { result ≡ leads_south number }
-{
-    number & 0b0000_1110 != 0
-}
-
-#[inline(always)]
-#[tactic(auto, using(crate::proofs::CodeMasks::masks_west))]
-fn leads_west(number: u8) -> bool
-    requires { IsCode number }
-    ensures { result ≡ leads_west number }
-{
-    number & 0b0011_1000 != 0
-}
-
-#[inline(always)]
-#[tactic(auto, using(crate::proofs::CodeMasks::masks_north))]
-fn leads_north(number: u8) -> bool
-    requires { IsCode number }
-    ensures { result ≡ leads_north number }
-{
-    number & 0b1110_0000 != 0
+    place_on(code.way()?, place)
 }

@@ -1,5 +1,7 @@
 -- places of a grid
 pub mod Places
+-- ways from a place
+pub mod EightWays
 -- places of a list
 pub mod Listed
 -- named sinks

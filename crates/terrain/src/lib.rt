@@ -8,6 +8,7 @@ mod grid;
 mod observer;
 mod place;
 mod sinks;
+mod ways;
 mod word;
 
 pub use cell::{Cell, NO_DATA};
@@ -17,4 +18,5 @@ pub use grid::{Anchor, Frame, Grid, GridHeader, LONGEST_AXIS, NoMemory};
 pub use observer::Observer;
 pub use place::{GREATEST_DROP, HIGHEST, Height, LOWEST, Place};
 pub use sinks::{MOST_SINKS, SinkFault};
+pub use ways::{around_index, place_on};
 pub use word::{MOST_WORD_BYTES, Word};

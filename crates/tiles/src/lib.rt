@@ -2,7 +2,6 @@
 #![tactic(auto)]
 
 mod bounds;
-mod neighbours;
 mod rim;
 mod rim_numbers;
 mod slices;

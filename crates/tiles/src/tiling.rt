@@ -8,14 +8,13 @@ ghost use Rattle.tiles.specs.Cutting.{Cutting, IsCutting, IsWithin, IsInTile, lo
 ghost use Rattle.tiles.specs.PuttingBack.{IsPutBackBelow, IsRowOf};
 
 use crate::bounds::Bounds;
-use crate::neighbours::place_on;
 use crate::rim::Rim;
 use crate::slices::part;
 use crate::view::TileView;
 use smallvec::SmallVec;
 use std::alloc::{AllocError, Global};
 use std::marker::Model;
-use terrain::{NoMemory, Place};
+use terrain::{NoMemory, Place, place_on};
 
 const LONGEST_SIDE: u32 = 4_096;
 

@@ -1,6 +1,6 @@
 use Rattle.std.proofs.Common.{◌∙◌, ◌*◌, ◌<◌, ℕ, List, get_or, sym, ap, subst, arith}
 use Rattle.terrain.specs.Neighbours.{index_of}
-use Rattle.drain.specs.Amid.{around_index}
+use Rattle.terrain.specs.Ways.{around_index}
 use Rattle.drain.proofs.AmidLemmas.{row_before, around_below}
 use Rattle.drain.proofs.amid.cells_around.Goals as goal
 

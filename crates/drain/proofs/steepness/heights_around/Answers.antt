@@ -1,5 +1,5 @@
 use Rattle.std.proofs.Common.{◌≡◌, ℕ, None, ◌∷◌, [], option_map, get_or, refl, arith}
-use Rattle.drain.proofs.Ways.{eight}
+use Rattle.terrain.proofs.EightWays.{eight}
 use Rattle.drain.proofs.steepness.heights_around.Goals as goal
 
 pub returns : goal.returns

@@ -1,0 +1,48 @@
+// The eight ways from a place, in the order of their codes: E, SE, S, SW, W, NW, N, NE.
+ghost use Rattle.std.specs.Prelude.{◌≡◌, ◌+◌, ◌-◌, ◌^◌, ◌<◌};
+ghost use Rattle.terrain.specs.Ways.{around_index, place_on};
+
+use crate::place::Place;
+
+/// The place that lies one way, counted from 0 in the order of the codes. None north of the first row and west of the
+/// first column, and for a way past the eight.
+#[inline(always)]
+pub fn place_on(way: usize, place: Place) -> Option<Place>
+    requires rows { place.row < 2 ^ 32 - 1 }
+    requires cols { place.col < 2 ^ 32 - 1 }
+    ensures { result ≡ place_on way place }
+{
+    let Place { row, col } = place;
+    let (row, col) = match way {
+        0 => (row, col + 1),
+        1 => (row + 1, col + 1),
+        2 => (row + 1, col),
+        3 => (row + 1, col.checked_sub(1)?),
+        4 => (row, col.checked_sub(1)?),
+        5 => (row.checked_sub(1)?, col.checked_sub(1)?),
+        6 => (row.checked_sub(1)?, col),
+        7 => (row.checked_sub(1)?, col + 1),
+        _ => return None,
+    };
+    Some(Place { row, col })
+}
+
+/// The same by indices in row order, where a row has so many columns: where the cells on the eight ways stand around one
+/// that is in no first or last row or column.
+#[inline(always)]
+pub fn around_index(cols: usize, index: usize) -> [usize; 8]
+    requires before { cols < index }
+    requires after { index + cols + 1 < 2 ^ 64 }
+    ensures { result ≡ around_index cols index }
+{
+    [
+        index + 1,
+        index + cols + 1,
+        index + cols,
+        index + cols - 1,
+        index - 1,
+        index - cols - 1,
+        index - cols,
+        index - cols + 1,
+    ]
+}
