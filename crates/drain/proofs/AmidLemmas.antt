@@ -20,7 +20,7 @@ use Rattle.drain.specs.Steepness.{weights, drop_to, leads_on}
 use Rattle.drain.specs.Steps.{DrainsAtOnce, AreSteps}
 use Rattle.drain.specs.declared.around.Around.{Around}
 use Rattle.drain.proofs.AroundLemmas.{shown_on, around_with, laid_with, steps_at}
-use Rattle.drain.proofs.Nearby.{cases_option}
+use Rattle.terrain.proofs.Options.{cases_option}
 use Rattle.drain.proofs.Laid.{with_steps, without_steps, leads as leads_by_steps, is_down, is_outlet, is_onward, code_is}
 use Rattle.drain.proofs.Quiet.{if_some}
 

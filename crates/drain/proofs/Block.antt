@@ -12,9 +12,7 @@ use Rattle.terrain.specs.Ways.{around_index}
 use Rattle.drain.specs.Beginning.{DrainsAnyway, IsGapOrLower, IsOutermost}
 use Rattle.drain.proofs.AmidLemmas.{cell_on_way}
 use Rattle.terrain.proofs.EightWays.{way_to}
-
-height_of_is : (t : Terrain) (p : Place) (h : ℤ) → height_at t p ≡ Some h → height_of t p ≡ h
-height_of_is t p h e = ap (λ (o : Option ℤ). unwrap_or o (pos 0)) e
+use Rattle.terrain.proofs.Heights.{height_is}
 
 drains_from : (t : Terrain) (p q : Place) (level : ℤ) (o : Option ℤ) → height_at t p ≡ Some level → Touches p q → height_at t q ≡ o → IsGapOrLower level o → DrainsAnyway t p
 drains_from t p q level None is touch there gap = inr (ap is_some is, inr (inr (q, touch, ap is_some there)))
@@ -22,7 +20,7 @@ drains_from t p q level (Some h) is touch there lower =
     inl (q, (record { different = differ; touches = touch; from_data = ap is_some is; to_data = ap is_some there }, below))
   where
     below : height_of t q <ℤ height_of t p
-    below = subst (λ z. z <ℤ height_of t p) (sym (height_of_is t q h there)) (subst (λ z. h <ℤ z) (sym (height_of_is t p level is)) lower)
+    below = subst (λ z. z <ℤ height_of t p) (sym (height_is t q h there)) (subst (λ z. h <ℤ z) (sym (height_is t p level is)) lower)
 
     differ : p ≢ q
     differ e = let same : height_of t p ≡ height_of t q = ap (λ (r : Place). height_of t r) e in let less = below in omega (arith, ints)
@@ -37,7 +35,7 @@ module _ (t : Terrain) (p : Place) (level : ℤ) (cells : List (Option ℤ)) (at
 
   lower_at : (q : Place) (o : Option ℤ) → height_at t q ≡ o → height_of t q <ℤ height_of t p → IsGapOrLower level o
   lower_at q None e less = tt
-  lower_at q (Some h) e less = subst (λ z. z <ℤ level) (height_of_is t q h e) (subst (λ z. height_of t q <ℤ z) (height_of_is t p level is) less)
+  lower_at q (Some h) e less = subst (λ z. z <ℤ level) (height_is t q h e) (subst (λ z. height_of t q <ℤ z) (height_is t p level is) less)
 
   gap_at : (o : Option ℤ) → is_some o ≡ false → IsGapOrLower level o
   gap_at None e = tt

@@ -11,7 +11,7 @@ use Rattle.drain.specs.Steps.{IsSteps, AreSteps}
 use Rattle.drain.specs.Directions.{IsDirection, AreDirections}
 use Rattle.drainage.specs.Drained.{IsDraining}
 use Rattle.drain.proofs.Pointing.{direction_leads}
-use Rattle.drain.proofs.Nearby.{cases_option}
+use Rattle.terrain.proofs.Options.{cases_option}
 
 -- what holds at each place inside, and is the same outside, is the same everywhere
 everywhere : {X Y : Type 0} (cols rows : ℕ) (xs : List (Option X)) (ys : List (Option Y)) → ((p : Place) → p.row < rows → p.col < cols → is_some (entry_at cols rows xs p) ≡ is_some (entry_at cols rows ys p)) →

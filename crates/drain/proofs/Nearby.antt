@@ -18,10 +18,6 @@ Decided P = P ⊎ (P → ⊥)
 decided : {P : Type 0} (b : Bool) → Decides b P → Decided P
 decided b d = elim (cases_Bool b) [ inl holds ↦ inl (d.0 holds) | inr fails ↦ inr (not_from_Decides b d fails) ]
 
-pub cases_option : {X : Type 0} (o : Option X) → (o ≡ None) ⊎ ((x : X) × (o ≡ Some x))
-cases_option None = inl refl
-cases_option (Some x) = inr (x, refl)
-
 -- whether something holds of a neighbour
 beside : (t : Terrain) (test : Place → Bool) (P : Place → Type 0) (p : Place) → ((q : Place) → IsNeighbour t p q → Decides (test q) (P q)) →
     Decides (list_any (λ q. is_next t p q && test q) (field t)) ((q : Place) × IsNeighbour t p q × P q)

@@ -15,7 +15,8 @@ use Rattle.drain.specs.Steps.{HasLower, DrainsAtOnce, AreSteps}
 use Rattle.drain.specs.Directions.{IsSteepest, IsOnward, PointsToFirst, IsDirection}
 use Rattle.drainage.specs.Drained.{Falls}
 use Rattle.drain.proofs.Local.{one_number_of_steps}
-use Rattle.drain.proofs.Nearby.{cases_option, has_lower, end_cell}
+use Rattle.terrain.proofs.Options.{cases_option}
+use Rattle.drain.proofs.Nearby.{has_lower, end_cell}
 use Rattle.drain.proofs.AroundLemmas.{steps_at}
 
 -- what a code points to lies on the way whose code it is

@@ -14,7 +14,7 @@ use Rattle.drain.specs.Steps.{DrainsAtOnce, IsLevelWalk, IsFlatWalk, IsSteps, Ar
 use Rattle.drain.specs.Rounds.{IsLent, IsWalked, AreWalked, IsOneAbove, IsRound, AreCounting, AreSettled}
 use Rattle.drain.proofs.Counted.{has_steps}
 use Rattle.drainage.proofs.Reach.{data_inside}
-use Rattle.drain.proofs.Nearby.{cases_option}
+use Rattle.terrain.proofs.Options.{cases_option}
 use Rattle.drain.proofs.Few.{steps_are_few, drains_data, data_on_walk}
 use Rattle.tiles.proofs.Cut.{tile_of_place_below}
 

@@ -13,7 +13,7 @@ use Rattle.terrain.specs.declared.place.Place.{Place}
 use Rattle.drain.specs.Lowering.{place_at}
 use Rattle.drain.specs.Directions.{AreDirections, IsDirection}
 use Rattle.drain.proofs.Pointing.{one_direction}
-use Rattle.drain.proofs.Nearby.{cases_option}
+use Rattle.terrain.proofs.Options.{cases_option}
 use Rattle.std.proofs.lemmas.List.FromFn.{length-range_with_len, get_or-map-range_with_len}
 use Rattle.std.specs.List.{range_with_len}
 use Rattle.drainage.specs.Filled.{IsFilled}

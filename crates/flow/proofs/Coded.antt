@@ -4,6 +4,7 @@ use Rattle.std.specs.Option.{option_and_then}
 use Rattle.std.proofs.lemmas.Bool.{cases_lt}
 use Rattle.std.proofs.lemmas.Option.{none-some}
 use Rattle.terrain.specs.Ways.{place_toward}
+use Rattle.terrain.proofs.Options.{cases_option}
 use Rattle.terrain.specs.declared.place.Place.{Place}
 use Rattle.terrain.proofs.Places.{inside_from_entry}
 use Rattle.drainage.specs.Following.{Directed, code_at, next, follow, moves, last_of, IsOutlet}
@@ -13,10 +14,6 @@ use Rattle.flow.proofs.Ending.{stays_from}
 pub record IsCoded (d : Directed) (p : Place) : Type 0 where
   pub code : ℕ
   pub is : code_at d p ≡ Some code
-
-pub cases_option : {X : Type 0} (o : Option X) → (o ≡ None) ⊎ ((x : X) × (o ≡ Some x))
-cases_option None = inl refl
-cases_option (Some x) = inr (x, refl)
 
 pub cases_coded : (d : Directed) (p : Place) → (code_at d p ≡ None) ⊎ IsCoded d p
 cases_coded d p = elim (cases_option (code_at d p)) [

@@ -22,7 +22,8 @@ use Rattle.tiles.specs.RimNumbers.{number_count, rim_number, rim_place}
 use Rattle.flow.specs.RimGraph.{code_in, AreFlowsOf, stands_for, next_by, exit_by, target_by, targets_by, way_out_in, way_out_by, number_or, rim_link, rim_links_by, rim_outlet, rim_outlets_by, outlet_by, AreOutlets}
 use Rattle.flow.proofs.Windows.{every_in_range}
 use Rattle.flow.proofs.Ending.{IsStop, streams_from, node_after-first, node_after-inside}
-use Rattle.flow.proofs.Coded.{IsCoded, cases_option, cases_coded, coded_along, coded_inside, coded_from_some, none_stays, outlet_stays, follow_stays, follow_more, follow_first, StopsAt, stops_sooner, cycle_stops}
+use Rattle.terrain.proofs.Options.{cases_option}
+use Rattle.flow.proofs.Coded.{IsCoded, cases_coded, coded_along, coded_inside, coded_from_some, none_stays, outlet_stays, follow_stays, follow_more, follow_first, StopsAt, stops_sooner, cycle_stops}
 use Rattle.tiles.proofs.RimNumbered.{IsSide, number_below, number_back}
 
 pub outlet_from_code : (o : Option ℕ) → is_outlet_code o ≡ true → o ≡ Some 0

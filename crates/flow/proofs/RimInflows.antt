@@ -14,7 +14,8 @@ use Rattle.tiles.specs.RimNumbers.{number_count, rim_number, rim_place}
 use Rattle.flow.specs.RimGraph.{AreFlowsOf, target_by, targets_by, rim_links_by}
 use Rattle.flow.specs.Inflows.{rim_weights_by, sent_to, entering, AreEntering, inflow_by, AreInflows}
 use Rattle.flow.proofs.Sums.{sum_below-same, sum_below-none, exchange, one_term, cond-sum}
-use Rattle.flow.proofs.Coded.{IsCoded, cases_option, coded_along, coded_from_some}
+use Rattle.terrain.proofs.Options.{cases_option}
+use Rattle.flow.proofs.Coded.{IsCoded, coded_along, coded_from_some}
 use Rattle.tiles.proofs.RimNumbered.{IsSide, number_below, number_back}
 use Rattle.flow.proofs.RimFlows.{Crosses, within_of, touching, back, target_on, target_from, to_below, links_size, target_listed}
 use Rattle.flow.proofs.Reaching.{drains_at, drains_from, comes_once, one_move, enters, enters_from, enters_at}

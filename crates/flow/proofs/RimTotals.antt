@@ -17,7 +17,8 @@ use Rattle.flow.specs.Inflows.{rim_weight, rim_weights_by, weight_or, through_by
 use Rattle.flow.proofs.Sums.{cond_same, sum_below-same, sum_below-add, sum_below-none, exchange, one_term, cond-sum}
 use Rattle.flow.proofs.Windows.{some_in_range, any_in_range, every_in_range}
 use Rattle.flow.proofs.Totals.{each_downstream, totals_are, sums_same, leads_parts, leads_from}
-use Rattle.flow.proofs.Coded.{IsCoded, cases_option, coded_along, coded_from_some, outlet_stays, follow_stays, follow_more, follow_first}
+use Rattle.terrain.proofs.Options.{cases_option}
+use Rattle.flow.proofs.Coded.{IsCoded, coded_along, coded_from_some, outlet_stays, follow_stays, follow_more, follow_first}
 use Rattle.flow.proofs.RimFlows.{Crosses, Goes, flow_of, within_of, back, target_on, target_from, exit_here, not_outlet, to_below, targets_on, untargeted, links_size, link_at, rim_streams}
 use Rattle.flow.proofs.Reaching.{IsEnding, ending_of, still_at, still_from, reached_early, drains_at, drains_from, Comes, cases_comes, comes_never, comes_once}
 use Rattle.flow.proofs.Gathering.{cell, drained, all_drained, drained_few, gathered, all_gathered, gathered_few, through_is, counted_on, counted_off, counted_none}

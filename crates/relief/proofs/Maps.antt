@@ -10,7 +10,7 @@ use Rattle.terrain.specs.declared.place.Place.{Place}
 use Rattle.drainage.proofs.Uniqueness.{one_filled_height}
 use Rattle.drainage.specs.Following.{Directed, code_at}
 use Rattle.drain.specs.Directions.{AreDirections}
-use Rattle.drain.proofs.Nearby.{cases_option}
+use Rattle.terrain.proofs.Options.{cases_option}
 use Rattle.drain.proofs.Unique.{same_entries, one_list_of_directions}
 use Rattle.flow.specs.Counts.{IsMapOf, accumulation, basin}
 use Rattle.sight.proofs.Uniqueness.{viewsheds_are_one}

@@ -1,5 +1,5 @@
 -- What stands in a terrain are heights, and heights fit their type.
-use Rattle.std.proofs.Common.{◌≡◌, ℕ, ◌<◌, ◌≤◌, ◌^◌, ℤ, pos, negsuc, true, List, length, get_or, Option, None, Some, IfSome, sym, ◌∙◌, arith}
+use Rattle.std.proofs.Common.{◌≡◌, ℕ, ◌<◌, ◌≤◌, ◌^◌, ℤ, pos, negsuc, true, List, length, get_or, Option, None, Some, IfSome, unwrap_or, sym, ap, ◌∙◌, arith}
 use Rattle.std.specs.Prelude.{int_le, unsigned_abs}
 use Rattle.std.proofs.lemmas.Int.{fits_signed_from_abs}
 use Rattle.std.proofs.lemmas.Bool.{leb-true}
@@ -9,7 +9,7 @@ use Rattle.std.specs.List.{All}
 use Rattle.std.proofs.lemmas.List.Elements.{All-get_or}
 use Rattle.std.proofs.lemmas.Option.{MatchOption-at_some}
 use Rattle.terrain.specs.Raster.{Terrain, IsTerrain, IsHeight, lowest, highest}
-use Rattle.terrain.specs.Neighbours.{height_at, index_of}
+use Rattle.terrain.specs.Neighbours.{height_at, height_of, index_of}
 use Rattle.terrain.specs.declared.place.Place.{Place}
 use Rattle.terrain.proofs.Places.{inside_from_entry, entry-inside, index_below}
 
@@ -24,6 +24,10 @@ height_abs (negsuc n) low high = let k = leb-true n 999999999999999 low in omega
 -- a height fits
 pub height_fits : (z : ℤ) → int_le lowest z ≡ true → int_le z highest ≡ true → SFits height_width z
 height_fits z low high = fits_signed_from_abs height_width z (omega (arith, height_abs z low high))
+
+-- the height of a data cell
+pub height_is : (t : Terrain) (p : Place) (h : ℤ) → height_at t p ≡ Some h → height_of t p ≡ h
+height_is t p h e = ap (λ (o : Option ℤ). unwrap_or o (pos 0)) e
 
 -- what stands in a list of heights
 pub listed_height : (cells : List (Option ℤ)) (i : ℕ) (h : ℤ) → All (λ c. IfSome c IsHeight) cells → i < length cells → get_or cells i None ≡ Some h → IsHeight h

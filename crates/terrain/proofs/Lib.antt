@@ -1,3 +1,5 @@
+-- options
+pub mod Options
 -- places of a grid
 pub mod Places
 -- ways from a place
