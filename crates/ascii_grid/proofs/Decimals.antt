@@ -2,8 +2,6 @@
 use Rattle.std.proofs.Common.{◌≡◌, ℕ, zero, suc, ◌+◌, ◌*◌, ◌/◌, ◌%◌, ◌^◌, ◌<◌, ◌≤◌, ◌-◌, List, [], ◌∷◌, ◌++◌, length, drop, set, sym, ap, refl, ◌∙◌, arith, add-one, true, leb}
 use Rattle.std.specs.Prelude.{decimal}
 use Rattle.std.proofs.Math.Nat.{div-div-eq-div-mul, pow-succ', div-one, pow-le-pow_right}
-use Rattle.std.proofs.lemmas.Nat.{mul-le, pow-add}
-use lib.Signed.{le_z}
 use Rattle.std.proofs.lemmas.Fmt.{decimal_by_steps, decimal_nonempty}
 use Rattle.std.proofs.lemmas.Grind.{drop-set_at}
 use Rattle.ascii_grid.specs.Text.{last_digits}
@@ -110,13 +108,3 @@ scaled_digits (suc d) n h =
     ∙ number_of-push (decimal (n / 10 ^ suc d) ++ last_digits d (n / 10)) (48 + n % 10)
     ∙ ap (λ m. 10 * number_of (decimal m ++ last_digits d (n / 10)) + (48 + n % 10 - 48)) (sym (div_pow n d))
     ∙ last_value n (number_of (decimal (n / 10 / 10 ^ d) ++ last_digits d (n / 10))) (scaled_digits d (n / 10) small)
-
--- a number of few digits is small, and still is with zeros behind it
-pub below_power : (n k m : ℕ) → n < 10 ^ k → k ≤ m → n < 10 ^ m
-below_power n k m h le = omega (arith, h, pow-le-pow_right {n = 10} (omega arith) {i = k} {j = m} le)
-
-pub padded_small : (n len d unit : ℕ) → n < 10 ^ len → unit ≡ 10 ^ d → len + d ≤ 16 → n * unit ≤ 10 ^ 16
-padded_small n len d unit h is few =
-    let most : n * 10 ^ d ≤ 10 ^ len * 10 ^ d = mul-le n (10 ^ d) (10 ^ len) (10 ^ d) (omega (arith, h)) (omega arith) in
-    let power = pow-le-pow_right {n = 10} (omega arith) {i = len + d} {j = 16} few in
-    rw is (omega (arith, most, pow-add 10 len d, power))

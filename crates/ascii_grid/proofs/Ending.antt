@@ -10,7 +10,7 @@ use Rattle.terrain.specs.Words.{Word, is_word, is_separator, words, ended_words}
 use Rattle.terrain.specs.Decimal.{scaled_value}
 use Rattle.ascii_grid.specs.GridText.{words_fault, height_fault}
 use Rattle.ascii_grid.specs.Reading.{flat, IsParted, HasWords, HasJudged, AreHeights, IsWordFault}
-use Rattle.ascii_grid.specs.Plain.{IsPlain}
+use Rattle.decimals.specs.Plain.{IsPlain}
 use Rattle.ascii_grid.specs.declared.fault.GridFault.{GridFault}
 use Rattle.ascii_grid.specs.declared.fault.GridFault.TheVariants.{TooLong, Memory}
 use Rattle.ascii_grid.specs.declared.judge.Judge.{Judge}

@@ -2,7 +2,6 @@
 mod Rows
 -- words of a text, and what they are worth
 pub mod Parting
-pub mod Scaled
 pub mod Cells
 -- one more word: the header, the heights, the first fault
 pub mod Judging

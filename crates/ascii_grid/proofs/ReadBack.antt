@@ -4,9 +4,9 @@ use Rattle.std.specs.Prelude.{codes, decimal}
 use Rattle.std.specs.Option.{option_or}
 use Rattle.std.proofs.lemmas.Bool.{and_from, le-leb, le-ltb}
 use Rattle.terrain.specs.Words.{Word, words}
-use Rattle.terrain.specs.Decimal.{number_of, are_digits, is_decimal, is_above_zero}
+use Rattle.terrain.specs.Decimal.{number_of, are_digits, is_decimal, is_above_zero, is_size}
 use Rattle.terrain.specs.Raster.{Raster, IsLawful, IsHeaderWord}
-use Rattle.ascii_grid.specs.Header.{header_words, height_words, size_for, anchor_for, word_for, nodata_for, is_long, is_value, bad_value, header_fault, missing_fault, no_value_fault, is_size}
+use Rattle.ascii_grid.specs.Header.{header_words, height_words, size_for, anchor_for, word_for, nodata_for, is_long, is_value, bad_value, header_fault, missing_fault, no_value_fault}
 use Rattle.ascii_grid.specs.declared.fault.Key.{Key}
 use Rattle.ascii_grid.specs.declared.fault.Key.TheVariants.{Ncols, Nrows, Xll, Yll, Cellsize, Nodata}
 use Rattle.ascii_grid.specs.declared.fault.GridFault.{GridFault}

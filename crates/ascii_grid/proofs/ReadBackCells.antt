@@ -24,7 +24,7 @@ use Rattle.std.proofs.lemmas.List.Folds.{list_any-append}
 use Rattle.std.proofs.lemmas.Nat.{pow-add}
 use Rattle.std.proofs.Math.Nat.{div-le_self, div-lt_iff_lt-mul, one-le-pow}
 use Rattle.std.proofs.lemmas.Fmt.{decimal_nonempty, length-decimal-le}
-use Rattle.ascii_grid.proofs.Scaled.{are_digits_joined, before_first-none, scaled_value-digits, any-digits, no_exponent, no_point, after_first-none, bare_digits}
+use Rattle.decimals.proofs.Scaled.{are_digits_joined, before_first-none, scaled_value-digits, any-digits, no_exponent, no_point, after_first-none, bare_digits}
 use Rattle.ascii_grid.proofs.Decimals.{decimal_digits, last_digits_digits, length-last_digits, scaled_digits}
 
 -- the text of a height without its sign

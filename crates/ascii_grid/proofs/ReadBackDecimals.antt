@@ -9,7 +9,7 @@ use Rattle.std.proofs.lemmas.List.Sums.{split_at_first, passes_at_first}
 use Rattle.terrain.specs.Words.{is_separator, is_word}
 use Rattle.terrain.specs.Decimal.{without_sign, is_point, is_exponent_mark, mantissa, whole_part, fraction, has_exponent, are_digits, is_decimal}
 use Rattle.ascii_grid.specs.Header.{begins_with_letter}
-use Rattle.ascii_grid.proofs.Scaled.{PassesNoDigit, no_separator, any-digits, after_first-none}
+use Rattle.decimals.proofs.Scaled.{PassesNoDigit, no_separator, any-digits, after_first-none}
 use Rattle.ascii_grid.proofs.Parting.{IsClean}
 
 -- `+` or `-`

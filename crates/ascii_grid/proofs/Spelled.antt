@@ -11,9 +11,9 @@ use Rattle.std.proofs.lemmas.List.{length-map}
 use Rattle.std.proofs.lemmas.List.Elements.{All-cons}
 use Rattle.std.proofs.Math.Nat.{one-le-mul}
 use Rattle.terrain.specs.Words.{Word}
-use Rattle.terrain.specs.Decimal.{number_of, scaled_value, is_decimal, is_above_zero}
+use Rattle.terrain.specs.Decimal.{number_of, scaled_value, is_decimal, is_above_zero, is_size}
 use Rattle.terrain.specs.Raster.{lowest, highest, IsHeight, is_height, IsHeaderWord, IsLawful}
-use Rattle.ascii_grid.specs.Header.{fills, slot_of, slot_number, header_words, height_words, pairs, key_left, pair_for, value_for, word_for, nodata_for, is_long, is_size, is_value, bad_value, key_fault, value_fault, header_fault, missing_fault, no_value_fault}
+use Rattle.ascii_grid.specs.Header.{fills, slot_of, slot_number, header_words, height_words, pairs, key_left, pair_for, value_for, word_for, nodata_for, is_long, is_value, bad_value, key_fault, value_fault, header_fault, missing_fault, no_value_fault}
 use Rattle.ascii_grid.specs.GridText.{AsksForCells, same_value, is_nodata, is_cell, cell_of, cells_wanted, height_fault, heights_fault, words_fault, end_fault, grid_of}
 use Rattle.ascii_grid.specs.Slots.{anchor_at, is_given, is_centre, IsWhole, raster_of}
 use Rattle.ascii_grid.specs.Reading.{flat, given, slots_of, AreHeights, HasJudged, IsEndFault}

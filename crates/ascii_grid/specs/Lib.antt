@@ -8,5 +8,4 @@ pub mod Reader
 pub mod Reading
 pub mod Slots
 pub mod Text
-pub mod Plain
 pub mod Gathers

@@ -4,7 +4,7 @@ ghost use Rattle.terrain.specs.Decimal.{scaled_value};
 ghost use Rattle.ascii_grid.specs.GridText.{same_value};
 ghost use Rattle.ascii_grid.specs.Meaning.{meaning_of};
 
-use crate::decimal::scaled_value;
+use decimals::scaled_value;
 use terrain::{Cell, HIGHEST, LOWEST};
 
 /// What a word among the heights stands for.

@@ -5,9 +5,9 @@ ghost use Rattle.ascii_grid.specs.Header.{is_value, bad_value, slot_of};
 ghost use Rattle.ascii_grid.specs.Slots.{no_slots, is_given, with_value, missing_of, wanted_of, IsWhole, raster_of};
 ghost use Rattle.terrain.specs.Raster.{IsLawful};
 
-use crate::decimal::{is_above_zero, is_decimal, size};
 use crate::fault::{GridFault, Key};
 use crate::key::slot_of;
+use decimals::{is_above_zero, is_decimal, size};
 use std::alloc::Global;
 use terrain::{Anchor, Cell, Grid, GridHeader, MOST_WORD_BYTES, Word};
 

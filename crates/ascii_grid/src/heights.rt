@@ -7,8 +7,8 @@ ghost use Rattle.ascii_grid.specs.Meaning.{meaning_of};
 ghost use Rattle.ascii_grid.specs.HeightList.{AreCells, IsEndedWord};
 
 use crate::cell::{Meaning, cell, value_cell};
-use crate::decimal::{plain_number, scaled_value};
 use crate::progress::is_separator;
+use decimals::{plain_number, scaled_value};
 use std::alloc::Global;
 use std::marker::Model;
 use terrain::{Cell, MOST_WORD_BYTES, Word};

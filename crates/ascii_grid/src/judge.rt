@@ -10,11 +10,11 @@ ghost use Rattle.ascii_grid.specs.Meaning.{meaning_of};
 ghost use Rattle.ascii_grid.specs.Reading.{flat, IsHeaderOf, AreHeights, HasJudged, IsWordFault, IsEndFault};
 
 use crate::cell::{Meaning, cell, value_cell};
-use crate::decimal::scaled_value;
 use crate::fault::{GridFault, Key};
 use crate::header::Header;
 use crate::heights::HeightForm;
 use crate::key::{begins_with_letter, names_centre};
+use decimals::scaled_value;
 use std::alloc::Global;
 use terrain::{Cell, Grid, MOST_WORD_BYTES, Word};
 

@@ -4,7 +4,6 @@
 mod cell;
 mod cell_text;
 mod counted;
-mod decimal;
 mod fault;
 mod header;
 mod heights;

@@ -5,11 +5,11 @@ ghost use Rattle.ascii_grid.specs.Header.{header_words, nodata_for};
 ghost use Rattle.ascii_grid.specs.HeightList.{AreCells};
 ghost use Rattle.ascii_grid.specs.Reading.{HasJudged, HasWords, IsWordFault};
 
-use crate::decimal::plain_number;
 use crate::fault::GridFault;
 use crate::heights::HeightForm;
 use crate::judge::{Judge, Stage};
 use crate::page::Buffer;
+use decimals::plain_number;
 use std::alloc::Global;
 use terrain::{Cell, MOST_WORD_BYTES};
 

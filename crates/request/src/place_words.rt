@@ -4,7 +4,8 @@ ghost use Rattle.std.specs.List.{slice_split, position};
 ghost use Rattle.terrain.specs.Decimal.{number_of};
 ghost use Rattle.request.specs.PlaceWords.{is_number, observer_of, sink_of};
 
-use terrain::{Observer, Place, whole_number};
+use decimals::whole_number;
+use terrain::{Observer, Place};
 
 // The most digits of a number.
 const MOST_DIGITS: usize = 10;

@@ -3,7 +3,6 @@
 
 mod cell;
 mod count;
-pub mod digits;
 mod grid;
 mod observer;
 mod place;
@@ -13,7 +12,6 @@ mod word;
 
 pub use cell::{Cell, NO_DATA};
 pub use count::Count;
-pub use digits::whole_number;
 pub use grid::{Anchor, Frame, Grid, GridHeader, LONGEST_AXIS, NoMemory};
 pub use observer::Observer;
 pub use place::{GREATEST_DROP, HIGHEST, Height, LOWEST, Place};

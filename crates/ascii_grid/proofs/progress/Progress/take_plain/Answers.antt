@@ -3,7 +3,7 @@ use Rattle.std.proofs.lemmas.Result.{err_from_is_err_and}
 use Rattle.std.proofs.lemmas.Int.{to_z-of_z}
 use mir.Val.{SFits}
 use mir.Syntax.{w64}
-use Rattle.ascii_grid.specs.Plain.{IsPlain}
+use Rattle.decimals.specs.Plain.{IsPlain}
 use Rattle.ascii_grid.specs.declared.judge.Judge.{Judge}
 use Rattle.ascii_grid.proofs.Ending.{plain_word}
 use Rattle.ascii_grid.proofs.progress.Progress.take_plain.Goals as goal

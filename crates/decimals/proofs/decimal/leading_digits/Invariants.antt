@@ -2,7 +2,7 @@ use Rattle.std.proofs.Common.{◌≡◌, ◌<◌, ◌^◌, take, true}
 use Rattle.std.specs.List.{list_all}
 use Rattle.std.specs.Char.{is_ascii_digit}
 use Rattle.terrain.specs.Decimal.{number_of}
-use Rattle.ascii_grid.proofs.decimal.leading_digits.Given as goal
+use Rattle.decimals.proofs.decimal.leading_digits.Given as goal
 
 abbrev pub invariant-loop-at : goal.invariant-loop-at
 invariant-loop-at l = record {

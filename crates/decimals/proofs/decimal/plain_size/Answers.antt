@@ -1,6 +1,6 @@
 use Rattle.std.proofs.Common.{arith, rules}
-use Rattle.ascii_grid.proofs.Decimals.{padded_small}
-use Rattle.ascii_grid.proofs.decimal.plain_size.Goals as goal
+use Rattle.decimals.proofs.Scaled.{padded_small}
+use Rattle.decimals.proofs.decimal.plain_size.Goals as goal
 
 pub overflow_mul-result : goal.overflow_mul-result
 overflow_mul-result c =

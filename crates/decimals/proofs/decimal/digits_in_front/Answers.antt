@@ -3,7 +3,7 @@ use Rattle.std.specs.List.{list_all}
 use Rattle.std.specs.Char.{is_ascii_digit}
 use Rattle.std.proofs.lemmas.List.{take-take, length-take}
 use Rattle.terrain.specs.Decimal.{number_of}
-use Rattle.ascii_grid.proofs.decimal.digits_in_front.Goals as goal
+use Rattle.decimals.proofs.decimal.digits_in_front.Goals as goal
 
 pub returns-clause-digits : goal.returns-clause-digits
 returns-clause-digits c =

@@ -2,8 +2,8 @@ use Rattle.std.proofs.Common.{arith, ◌≡◌, ◌∙◌, ap, sym, take, drop, 
 use Rattle.std.specs.List.{list_all}
 use Rattle.std.proofs.lemmas.List.{take_rest, drop_min, take_min}
 use Rattle.terrain.specs.Decimal.{number_of}
-use Rattle.ascii_grid.proofs.Scaled.{number_of-padded, size-kept}
-use Rattle.ascii_grid.proofs.decimal.scaled_size.Goals as goal
+use Rattle.decimals.proofs.Scaled.{number_of-padded, size-kept}
+use Rattle.decimals.proofs.decimal.scaled_size.Goals as goal
 
 pub returns-then-not-only_zeros-clause-value : goal.returns-then-not-only_zeros-clause-value
 returns-then-not-only_zeros-clause-value c =

@@ -1,6 +1,6 @@
 use Rattle.std.proofs.Common.{arith, rules}
-use Rattle.ascii_grid.proofs.Decimals.{below_power}
-use Rattle.ascii_grid.proofs.decimal.leading_digits.Goals as goal
+use Rattle.decimals.proofs.Scaled.{below_power}
+use Rattle.decimals.proofs.decimal.leading_digits.Goals as goal
 
 pub overflow_mul-number : goal.overflow_mul-number
 overflow_mul-number c =

@@ -10,8 +10,9 @@ use Rattle.std.specs.Option.{option_map}
 use Rattle.std.specs.Bool.{then_some}
 use Rattle.terrain.specs.Words.{Word, is_separator}
 use Rattle.terrain.specs.Decimal.{without_sign, is_negative, is_point, is_exponent_mark, mantissa, whole_part, fraction, has_exponent, are_digits, number_of, scaled_value}
-use Rattle.std.proofs.Math.Nat.{pow-suc}
-use Rattle.ascii_grid.specs.Plain.{IsPlain}
+use Rattle.std.proofs.Math.Nat.{pow-suc, pow-le-pow_right}
+use Rattle.std.proofs.lemmas.Nat.{mul-le, pow-add}
+use Rattle.decimals.specs.Plain.{IsPlain}
 
 -- digits in two parts, the first with one at least
 pub are_digits_joined : (a b : List ℕ) → 0 < length a → are_digits (a ++ b) ≡ (list_all is_ascii_digit a && list_all is_ascii_digit b)
@@ -169,3 +170,13 @@ IsPlain-negative d (b ∷ bs) rest len sign e some short within digits small =
       scaled = ap (scaled_value d) at ∙ scaled_value-plain d (45 ∷ xs) xs refl marks more digits small;
       whole = ap (list_any is_separator) at ∙ any-digits is_separator xs no_separator digits;
     }
+
+-- a number of few digits is small, and still is with zeros behind it
+pub below_power : (n k m : ℕ) → n < 10 ^ k → k ≤ m → n < 10 ^ m
+below_power n k m h le = omega (arith, h, pow-le-pow_right {n = 10} (omega arith) {i = k} {j = m} le)
+
+pub padded_small : (n len d unit : ℕ) → n < 10 ^ len → unit ≡ 10 ^ d → len + d ≤ 16 → n * unit ≤ 10 ^ 16
+padded_small n len d unit h is few =
+    let most : n * 10 ^ d ≤ 10 ^ len * 10 ^ d = mul-le n (10 ^ d) (10 ^ len) (10 ^ d) (omega (arith, h)) (omega arith) in
+    let power = pow-le-pow_right {n = 10} (omega arith) {i = len + d} {j = 16} few in
+    rw is (omega (arith, most, pow-add 10 len d, power))

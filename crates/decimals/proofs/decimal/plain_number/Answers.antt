@@ -3,9 +3,9 @@ use Rattle.std.proofs.lemmas.Int.{to_z-of_z}
 use Rattle.std.proofs.lemmas.List.{take_rest}
 use mir.Val.{SFits}
 use mir.Syntax.{w64}
-use Rattle.ascii_grid.specs.Plain.{IsPlain}
-use Rattle.ascii_grid.proofs.Scaled.{IsPlain-positive, IsPlain-negative}
-use Rattle.ascii_grid.proofs.decimal.plain_number.Goals as goal
+use Rattle.decimals.specs.Plain.{IsPlain}
+use Rattle.decimals.proofs.Scaled.{IsPlain-positive, IsPlain-negative}
+use Rattle.decimals.proofs.decimal.plain_number.Goals as goal
 
 pub returns-then-is_negative : goal.returns-then-is_negative
 returns-then-is_negative c =

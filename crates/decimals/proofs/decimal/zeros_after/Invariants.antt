@@ -1,5 +1,5 @@
 use Rattle.std.proofs.Common.{◌≡◌, ℕ, ◌+◌, ◌*◌, ◌-◌, ◌≤◌, replicate, min, fold}
-use Rattle.ascii_grid.proofs.decimal.zeros_after.Given as goal
+use Rattle.decimals.proofs.decimal.zeros_after.Given as goal
 
 abbrev pub invariant-loop : goal.invariant-loop
 invariant-loop l = record {

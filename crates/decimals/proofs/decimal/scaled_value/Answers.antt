@@ -2,8 +2,8 @@ use Rattle.std.proofs.Common.{rules, ◌∙◌, sym, ap, Some, cond, pos, neg_�
 use mir.Val.{SFits}
 use mir.Syntax.{w64}
 use Rattle.std.proofs.lemmas.Int.{to_z-of_z}
-use Rattle.ascii_grid.proofs.Scaled.{scaled_value-not_digits, scaled_value-digits}
-use Rattle.ascii_grid.proofs.decimal.scaled_value.Goals as goal
+use Rattle.decimals.proofs.Scaled.{scaled_value-not_digits, scaled_value-digits}
+use Rattle.decimals.proofs.decimal.scaled_value.Goals as goal
 
 pub returns-then-not-are_digits_in_all : goal.returns-then-not-are_digits_in_all
 returns-then-not-are_digits_in_all c =

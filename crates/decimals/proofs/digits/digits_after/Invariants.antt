@@ -1,5 +1,5 @@
 use Rattle.std.proofs.Common.{◌≡◌, ℕ, ◌+◌, ◌*◌, ◌-◌, ◌≤◌, take, min, fold}
-use Rattle.terrain.proofs.digits.digits_after.Given as goal
+use Rattle.decimals.proofs.digits.digits_after.Given as goal
 
 abbrev pub invariant-loop-b : goal.invariant-loop-b
 invariant-loop-b l = record {

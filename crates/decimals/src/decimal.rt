@@ -3,17 +3,16 @@ ghost use Rattle.std.specs.Prelude.{◌<◌, true, length, ◌≡◌, IfSome, po
 ghost use Rattle.std.specs.List.{before_first, after_first, position, list_all, list_any};
 ghost use Rattle.std.specs.Char.{is_ascii_digit};
 ghost use Rattle.terrain.specs.Decimal.{without_sign, is_negative, is_point, is_exponent_mark, has_exponent, are_digits, is_decimal, is_above_zero, number_of, scaled_value};
-ghost use Rattle.ascii_grid.specs.Header.{is_size};
-ghost use Rattle.ascii_grid.specs.Plain.{IsPlain};
+ghost use Rattle.decimals.specs.Plain.{IsPlain};
 
-use terrain::LONGEST_AXIS;
-use terrain::digits::{OVER, all_digits, are_digits, digits_after};
+use crate::digits::{OVER, all_digits, are_digits, digits_after};
 
 /// The most digits of a height in scaled units.
 const HEIGHT_DIGITS: usize = 16;
 
-/// Whether the word is a decimal text.
-pub(crate) fn is_decimal(word: &[u8]) -> bool
+/// Whether the word is a decimal text: a sign or none, digits with at most one point among, before or
+/// after them, and an exponent or none.
+pub fn is_decimal(word: &[u8]) -> bool
     ensures { result ≡ is_decimal word.now }
 {
     let (mantissa, _) = split_at_exponent(without_sign(word));
@@ -23,8 +22,8 @@ pub(crate) fn is_decimal(word: &[u8]) -> bool
         && (!has_exponent(word) || are_digits(without_sign(exponent)))
 }
 
-/// Whether a decimal text is above zero.
-pub(crate) fn is_above_zero(word: &[u8]) -> bool
+/// Whether a decimal text is above zero: it has no `-`, and of its digits before the exponent one is not 0.
+pub fn is_above_zero(word: &[u8]) -> bool
     ensures { result ≡ is_above_zero word.now }
 {
     let (mantissa, _) = split_at_exponent(without_sign(word));
@@ -32,23 +31,9 @@ pub(crate) fn is_above_zero(word: &[u8]) -> bool
     !is_negative(word) && (has_other_than_zero(whole) || has_other_than_zero(fraction))
 }
 
-/// A number of columns or rows: digits, from 1 to [`LONGEST_AXIS`].
-pub(crate) fn size(word: &[u8]) -> Option<u16>
-    ensures { result ≡ (if is_size word.now then Some (number_of word.now) else None) }
-{
-    if !are_digits(word) {
-        return None;
-    }
-    let number = digits_after(0, word);
-    if 1 <= number && number <= u64::from(LONGEST_AXIS) {
-        Some(number as u16)
-    } else {
-        None
-    }
-}
-
-/// The word times 10^scale, where it is a whole number from -10^18 to 10^18.
-pub(crate) fn scaled_value(scale: u8, word: &[u8]) -> Option<i64>
+/// The word times 10^scale. None where it is no decimal text or has an exponent, where a digit other than 0
+/// stands past the scale, and where the number is not from -10^18 to 10^18.
+pub fn scaled_value(scale: u8, word: &[u8]) -> Option<i64>
     ensures { result ≡ scaled_value scale word.now }
 {
     if has_exponent(word) {
@@ -63,9 +48,10 @@ pub(crate) fn scaled_value(scale: u8, word: &[u8]) -> Option<i64>
 }
 
 /// A whole number of few digits, with `-` or without, at the front of the bytes, times 10^scale. It comes
-/// with its length. What follows it isn't looked at.
+/// with its length. What follows it isn't looked at. None where no digit stands in front, or too many for a
+/// height at the scale; [`scaled_value`] takes those too.
 #[inline(always)]
-pub(crate) fn plain_number(scale: u8, bytes: &[u8]) -> Option<(usize, i64)>
+pub fn plain_number(scale: u8, bytes: &[u8]) -> Option<(usize, i64)>
     requires { scale ≤ 6 }
     ensures { IfSome result (λ r. IsPlain scale bytes.now r.0 r.1) }
 {
