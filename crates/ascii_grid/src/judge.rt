@@ -1,8 +1,8 @@
 // The words of a text, judged one after another.
-ghost use Rattle.std.specs.Prelude.{◌↔◌, IsTrue, ◌≡◌, ◌≤◌, ◌<◌, ◌⊎◌, ◌++◌, [], ◌∷◌, List, map, length, true, false, Option, Some, None, Err, IfOk, MatchResult};
+ghost use Rattle.std.specs.Prelude.{◌↔◌, IsTrue, ◌≡◌, ◌≤◌, ◌<◌, ◌⊎◌, ◌++◌, [], ◌∷◌, List, map, length, false, Option, Some, None, Err, IfOk, MatchResult};
 ghost use Rattle.terrain.specs.Words.{Word};
 ghost use Rattle.terrain.specs.Decimal.{scaled_value};
-ghost use Rattle.ascii_grid.specs.Header.{begins_with_letter, missing_fault};
+ghost use Rattle.ascii_grid.specs.Header.{missing_fault};
 ghost use Rattle.ascii_grid.specs.HeightList.{IsHeightWord};
 ghost use Rattle.std.specs.List.{All};
 ghost use Rattle.ascii_grid.specs.GridText.{cell_of, height_fault, end_fault, grid_of};
@@ -72,10 +72,17 @@ impl Judge {
         }
         match self.stage {
             Stage::AtHeights => self.judge_height(word),
-            Stage::AtValue { key, centre } => self.judge_value(key, centre, word),
+            Stage::AtValue { key, centre } => {
+                self.header.put(key, centre, word)?;
+                self.stage = Stage::AtKey;
+                Ok(())
+            }
             Stage::AtKey => {
                 if begins_with_letter(word) {
-                    return self.judge_key(word);
+                    let key = self.header.slot_for(word)?;
+                    let centre = names_centre(word);
+                    self.stage = Stage::AtValue { key, centre };
+                    return Ok(());
                 }
                 self.begin_heights()?;
                 self.judge_height(word)
@@ -107,34 +114,6 @@ impl Judge {
                 )
             }
         }
-    }
-
-    fn judge_key(&mut self, word: &[u8]) -> Result<(), GridFault>
-        requires short { length word.now ≤ MOST_WORD_BYTES }
-        requires letter { begins_with_letter word.now ≡ true }
-        requires stage { self.old.stage ≡ Stage.AtKey }
-        ensures scale { self.new.scale ≡ self.old.scale }
-        ensures word { (ws : List Word) → HasJudged self.old ws → MatchResult result
-            (λ _. HasJudged self.new (ws ++ word.now ∷ []))
-            (IsWordFault self.old.scale (ws ++ word.now ∷ [])) }
-    {
-        let key = self.header.slot_for(word)?;
-        let centre = names_centre(word);
-        self.stage = Stage::AtValue { key, centre };
-        Ok(())
-    }
-
-    fn judge_value(&mut self, key: Key, centre: bool, word: &[u8]) -> Result<(), GridFault>
-        requires short { length word.now ≤ MOST_WORD_BYTES }
-        requires stage { self.old.stage ≡ Stage.AtValue key centre }
-        ensures scale { self.new.scale ≡ self.old.scale }
-        ensures word { (ws : List Word) → HasJudged self.old ws → MatchResult result
-            (λ _. HasJudged self.new (ws ++ word.now ∷ []))
-            (IsWordFault self.old.scale (ws ++ word.now ∷ [])) }
-    {
-        self.header.put(key, centre, word)?;
-        self.stage = Stage::AtKey;
-        Ok(())
     }
 
     // Asks for the memory of the cells.
