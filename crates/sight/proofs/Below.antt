@@ -10,7 +10,7 @@ use Rattle.horizons.specs.declared.target.Target.{Target}
 use Rattle.horizons.specs.declared.ramp.Ramp.{Ramp}
 use Rattle.horizons.specs.Horizons.{AreTargets, IsSlopeUpTo, hides_by, value_at}
 use Rattle.horizons.proofs.Straight.{slope_up}
-use Rattle.sight.specs.Blocks.{IsTopOf}
+use Rattle.sightlines.specs.Blocks.{IsTopOf}
 use Rattle.sight.specs.Hiding.{height_at}
 use Rattle.sight.specs.Sweep.{aside_of, level_ramp, line_blocks, ramp_of, IsFamily, Passes, PassesAmong, Shows, StandsAt}
 use Rattle.sight.specs.declared.family.Family.{Family}

@@ -12,8 +12,9 @@ use Rattle.terrain.specs.Neighbours.{index_of}
 use Rattle.terrain.proofs.Places.{make_place, inside_from_entry, entry-inside, index_below}
 use Rattle.tiles.specs.Cutting.{Cutting}
 use Rattle.tile_maps.specs.Maps.{IsMadeMap}
-use Rattle.sight.specs.Blocks.{blocks_in, block_of, ground_of, IsGround, IsTopOf, IsBlockTop, CutsBlocks, AreTops}
-use Rattle.sight.proofs.LowBlocks.{block_before}
+use Rattle.sightlines.specs.Blocks.{blocks_in, block_of, IsTopOf, AreTops}
+use Rattle.sight.specs.BlockTops.{ground_of, IsGround, IsBlockTop, CutsBlocks}
+use Rattle.sightlines.proofs.LowBlocks.{block_before}
 
 swapped : (a b : ℕ) → a * b ≡ b * a
 swapped a b = omega arith
@@ -27,6 +28,14 @@ top_over (Some m) (Some r) h over is = let above : m ≤ℤ r = over m refl in o
 -- a run of a list
 pub run_at : (cells : List (Option ℤ)) (a b i : ℕ) → i < b - a → get_or (slice_range cells a b) i None ≡ get_or cells (a + i) None
 run_at cells a b i below = get_or-take (b - a) (drop a cells) i None below ∙ get_or-drop a cells i None
+
+-- a cell of a block stands behind its beginning and before its end
+pub in_block : (size r block : ℕ) → 0 < size → r / size ≡ block → (block * size ≤ r) × (r < block * size + size)
+in_block size r block some is =
+    let parts = div-add-mod' r size in
+    let small = mod_below r size some in
+    let begun : r / size * size ≡ block * size = ap (λ n. n * size) is in
+    (omega (arith, parts, begun), omega (arith, parts, begun, small))
 
 -- there are not more blocks than cells
 few_blocks : (size cells : ℕ) → 0 < size → blocks_in size cells ≤ cells

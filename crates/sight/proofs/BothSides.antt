@@ -5,12 +5,12 @@ use Rattle.std.specs.List.{list_any, range_with_len}
 use Rattle.std.proofs.lemmas.Bool.{cases_lt}
 use Rattle.std.proofs.lemmas.Int.{ints}
 use Rattle.sight.specs.Sweep.{lead_of, is_blocked_before}
-use Rattle.sight.specs.Walk.{step_blocks, steps_of, walk_blocks}
+use Rattle.sightlines.specs.Walk.{step_blocks, steps_of, walk_blocks}
 use Rattle.sight.specs.Hiding.{mark_at, rise_at, AreHidden, Crosses}
 use Rattle.sight.specs.Sides.{facing, sightline_to, AreOpen}
 use Rattle.sight.specs.declared.family.Family.{Family}
-use Rattle.sight.specs.declared.walk.Axis.{Axis}
-use Rattle.sight.specs.declared.walk.Sightline.{Sightline}
+use Rattle.sightlines.specs.declared.walk.Axis.{Axis}
+use Rattle.sightlines.specs.declared.walk.Sightline.{Sightline}
 use Rattle.sight.specs.declared.window.Window.{Window}
 use Rattle.sight.proofs.Families.{walk_is_blocked}
 

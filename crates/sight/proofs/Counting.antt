@@ -12,7 +12,8 @@ use Rattle.terrain.proofs.Places.{make_place}
 use Rattle.tiles.specs.declared.bounds.Bounds.{Bounds}
 use Rattle.tiles.specs.Cutting.{IsInBounds, index_in}
 use Rattle.tile_maps.specs.Maps.{AreMadeBelow}
-use Rattle.sight.specs.Sight.{is_seen, viewshed_value}
+use Rattle.sightlines.specs.Sight.{is_seen}
+use Rattle.sight.specs.Viewshed.{viewshed_value}
 use Rattle.sight.specs.Viewed.{value_at, HasValue, counted, AreAtMost}
 use Rattle.sight.specs.Marks.{AreMarked, TellsSeen}
 use Rattle.terrain.specs.declared.observer.Observer.{Observer}

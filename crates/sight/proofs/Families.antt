@@ -1,10 +1,10 @@
 -- What a family blocks is what the walk along the line of sight meets.
 use Rattle.std.proofs.Common.{ap, ◌∙◌, ◌≡◌, ℕ, ◌-◌, ℤ, ◌+ℤ◌, List, Option}
 use Rattle.std.specs.List.{list_any, range_with_len}
-use Rattle.sight.specs.Walk.{step_blocks, steps_of, walk_blocks}
+use Rattle.sightlines.specs.Walk.{step_blocks, steps_of, walk_blocks}
 use Rattle.sight.specs.Sweep.{lead_axis, side_axis, is_blocked_before}
 use Rattle.sight.specs.declared.family.Family.{Family}
-use Rattle.sight.specs.declared.walk.Sightline.{Sightline}
+use Rattle.sightlines.specs.declared.walk.Sightline.{Sightline}
 
 pub walk_is_blocked : (cells : List (Option ℤ)) (f : Family) (n y : ℕ) (rise : ℤ) (l : Sightline) → l.lead ≡ lead_axis f n → l.side ≡ side_axis f y → l.from_level ≡ f.eye → l.to_level ≡ f.eye +ℤ rise → steps_of l ≡ n
     → walk_blocks cells l ≡ is_blocked_before cells f n y rise n

@@ -6,7 +6,7 @@ use Rattle.std.proofs.lemmas.Nat.{mul-le}
 use Rattle.terrain.specs.declared.place.Place.{Place}
 use Rattle.tiles.specs.declared.bounds.Bounds.{Bounds}
 use Rattle.tiles.specs.Cutting.{IsInBounds}
-use Rattle.sight.specs.Sight.{is_near}
+use Rattle.sightlines.specs.Sight.{is_near}
 
 -- no place of a row of places is nearer than the one to which a number is brought
 nearest : (a from count x : ℕ) → from ≤ x → x < from + count → abs_diff a (max from (min a (from + count - 1))) ≤ abs_diff a x

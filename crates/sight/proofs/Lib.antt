@@ -1,18 +1,6 @@
 -- worked rows
 mod Rows
--- a line of sight, step by step
-pub mod Ground
-pub mod Toward
-pub mod OnTheLine
-pub mod Heights
-pub mod Levels
-pub mod Steps
-pub mod Ranges
--- its crossings, from either end
-pub mod Crossings
-pub mod Seen
--- blocks of cells below the line
-pub mod LowBlocks
+-- the greatest heights of blocks of cells
 pub mod BlockLists
 -- rays, and the ramps of the ground that they meet
 pub mod Products

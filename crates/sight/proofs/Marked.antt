@@ -8,7 +8,7 @@ use Rattle.tiles.specs.declared.bounds.Bounds.{Bounds}
 use Rattle.tiles.specs.Cutting.{IsInBounds, index_in}
 use Rattle.tiles.proofs.TileOrder.{index_in_below}
 use Rattle.tile_maps.proofs.TileLists.{within_injective}
-use Rattle.sight.specs.Walk.{is_open}
+use Rattle.sightlines.specs.Sight.{is_open}
 use Rattle.sight.specs.Marks.{AreMarkedBelow, AreMarked, AreLeft, TellsSeen, TellsSeenIfOpen}
 use Rattle.terrain.specs.declared.observer.Observer.{Observer}
 

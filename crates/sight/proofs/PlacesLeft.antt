@@ -6,15 +6,15 @@ use Rattle.terrain.specs.Neighbours.{IsInside, height_of}
 use Rattle.terrain.specs.declared.place.Place.{Place}
 use Rattle.tiles.specs.declared.bounds.Bounds.{Bounds}
 use Rattle.tiles.specs.Cutting.{index_in}
-use Rattle.sight.specs.Sight.{column_blocks, row_blocks}
-use Rattle.sight.specs.Walk.{columns_of, rows_of, walk_blocks}
+use Rattle.sightlines.specs.Sight.{column_blocks, row_blocks}
+use Rattle.sightlines.specs.Walk.{columns_of, rows_of, walk_blocks}
 use Rattle.sight.specs.Hiding.{IsWindow}
 use Rattle.sight.specs.Marks.{mark_at, AreLeft}
 use Rattle.sight.specs.Sides.{sightline_to, AreOpen}
 use Rattle.sight.specs.declared.family.Family.{Family}
-use Rattle.sight.specs.declared.walk.Sightline.{Sightline}
+use Rattle.sightlines.specs.declared.walk.Sightline.{Sightline}
 use Rattle.sight.specs.declared.window.Window.{Window}
-use Rattle.sight.proofs.Crossings.{height_is, column_blocks-walk, row_blocks-walk}
+use Rattle.sightlines.proofs.Crossings.{height_is, column_blocks-walk, row_blocks-walk}
 
 -- the lines of an observer, and the window of a tile along them
 abbrev pub columns_from : Terrain → Bounds → Place → ℤ → Family

@@ -4,9 +4,9 @@ use borrow.Author.Differences.{up, down}
 use Rattle.std.proofs.lemmas.Int.{ints}
 use Rattle.std.proofs.lemmas.Bool.{cases_lt}
 use Rattle.std.proofs.lemmas.Nat.{div-mul-add, mod-mul-add, mul-le}
-use Rattle.sight.specs.Sight.{toward, sight}
-use Rattle.sight.specs.Walk.{is_above}
-use Rattle.sight.proofs.Ground.{above_both, weighed_height-some}
+use Rattle.sightlines.specs.Sight.{toward, sight}
+use Rattle.sightlines.specs.Walk.{is_above}
+use Rattle.sightlines.proofs.Ground.{above_both, weighed_height-some}
 use Rattle.sight.proofs.Products.{sum_times, rest_times, times_between}
 
 -- both sides of a comparison moved by as much

@@ -6,7 +6,7 @@ use Rattle.terrain.specs.Raster.{Terrain}
 use Rattle.terrain.specs.Neighbours.{height_at, IsInside}
 use Rattle.tile_jobs.specs.declared.JobFault.{JobFault}
 use Rattle.tile_jobs.specs.declared.JobFault.TheVariants.{NoThread}
-use Rattle.sight.specs.Sight.{place_of}
+use Rattle.sightlines.specs.Sight.{place_of}
 use Rattle.sight.specs.Refusals.{is_high, is_outside, place_fault_of, place_fault, observers_fault, RefusesSight}
 use Rattle.terrain.specs.declared.observer.Observer.{Observer}
 use Rattle.sight.specs.declared.fault.SightFault.{SightFault}

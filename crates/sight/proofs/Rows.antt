@@ -1,19 +1,13 @@
 -- What the definitions say of small grids, by computation.
-use Rattle.std.proofs.Common.{◌≡◌, ℕ, List, [], ◌∷◌, map, Option, None, Some, ℤ, pos, negsuc, refl}
+use Rattle.std.proofs.Common.{◌≡◌, ℕ, List, [], ◌∷◌, map, Option, None, Some, negsuc, refl}
 use Rattle.terrain.specs.Raster.{Terrain}
 use Rattle.terrain.specs.Ways.{places}
-use Rattle.terrain.specs.declared.place.Place.{Place}
-use Rattle.sight.specs.Sight.{viewshed_value, row_crossing, ground, sight, column_blocks}
+use Rattle.sightlines.proofs.Rows.{land, up, hidden}
+use Rattle.sight.specs.Viewshed.{viewshed_value}
 use Rattle.sight.specs.Refusals.{observers_fault}
 use Rattle.terrain.specs.declared.observer.Observer.{Observer}
 use Rattle.sight.specs.declared.fault.SightFault.{SightFault}
 use Rattle.sight.specs.declared.fault.SightFault.TheVariants.{Outside, OnNodata, BadEye, BadRadius}
-
-abbrev pub land : ℕ → ℕ → List (Option ℤ) → Terrain
-land cols rows cells = record { cols = cols; rows = rows; cells = cells; sinks = [] }
-
-abbrev pub at : ℕ → ℕ → Place
-at r c = record { row = r; col = c }
 
 abbrev pub corner : List Observer
 corner = record { row = 0; col = 0; eye = 0 } ∷ []
@@ -21,9 +15,6 @@ corner = record { row = 0; col = 0; eye = 0 } ∷ []
 -- the values at all places, a NODATA cell's as 0
 abbrev pub values_from_corner : Terrain → List ℕ
 values_from_corner t = map (viewshed_value t corner 0 8192) (places t.cols t.rows)
-
-abbrev pub up : ℕ → Option ℤ
-up n = Some (pos n)
 
 -- a terrain, and the values of its places
 abbrev pub ValueRow : Type 0
@@ -42,21 +33,8 @@ small_grids : HaveValues (
     ∷ [])
 small_grids = refl
 
-abbrev pub hidden : Terrain
-hidden = land 4 3 (up 0 ∷ Some (negsuc 8) ∷ up 0 ∷ up 0 ∷ up 0 ∷ up 4 ∷ up 1 ∷ up 0 ∷ up 0 ∷ up 0 ∷ Some (negsuc 8) ∷ up 0 ∷ [])
-
 hidden_by_a_row : values_from_corner hidden ≡ 1 ∷ 1 ∷ 1 ∷ 1 ∷ 1 ∷ 1 ∷ 1 ∷ 0 ∷ 1 ∷ 0 ∷ 0 ∷ 0 ∷ []
 hidden_by_a_row = refl
-
--- (2,3) is hidden by its row crossing alone: ground 5, sight 0
-hidden-columns : column_blocks hidden (at 0 0) (at 2 3) (pos 0) (pos 0) ≡ mathlib.Core.Bool.false
-hidden-columns = refl
-
-hidden-ground : ground hidden (row_crossing (at 0 0) (at 2 3) 2 1) ≡ Some (pos 5)
-hidden-ground = refl
-
-hidden-sight : sight (pos 0) (pos 0) 2 1 ≡ pos 0
-hidden-sight = refl
 
 -- an observer named twice counts twice, and the radius ends the view
 abbrev pub flat : Terrain

@@ -8,13 +8,13 @@ use Rattle.std.proofs.lemmas.Nat.{mul-le, div-add-mod', mod_below}
 use Rattle.terrain.specs.Raster.{IsHeight}
 use Rattle.horizons.specs.declared.target.Target.{Target}
 use Rattle.horizons.specs.Horizons.{IsTarget, IsRampAt, hides_by, value_at}
-use Rattle.sight.specs.Sight.{sight}
-use Rattle.sight.specs.Walk.{is_above, whole_at, IsLevel}
+use Rattle.sightlines.specs.Sight.{sight}
+use Rattle.sightlines.specs.Walk.{is_above, whole_at, IsLevel}
 use Rattle.sight.specs.Sweep.{lead_of, lead_axis, line_blocks, ramp_of, IsFamily, IsLine, Passes, StandsAt}
 use Rattle.sight.specs.declared.family.Family.{Family}
 use Rattle.sight.proofs.Products.{sum_times, rest_times}
-use Rattle.sight.proofs.Levels.{times_small, between_small}
-use Rattle.sight.proofs.Toward.{lead_up_is, lead_down_is}
+use Rattle.sightlines.proofs.Levels.{times_small, between_small}
+use Rattle.sightlines.proofs.Toward.{lead_up_is, lead_down_is}
 use Rattle.sight.proofs.Rays.{ramp_gains, shown_between, not_shown_near, not_shown_far, cell_is, stays_inside}
 
 -- the quotient of `div_euclid` is rounded down

@@ -7,7 +7,7 @@ use Rattle.terrain.specs.Raster.{Terrain}
 use Rattle.terrain.specs.Neighbours.{height_at, entry_at, index_of}
 use Rattle.terrain.specs.declared.place.Place.{Place}
 use Rattle.terrain.proofs.Places.{entry-inside}
-use Rattle.sight.specs.Sight.{viewshed_value, IsViewshed}
+use Rattle.sight.specs.Viewshed.{viewshed_value, IsViewshed}
 use Rattle.sight.specs.Viewed.{value_at, HasValue}
 use Rattle.terrain.specs.declared.observer.Observer.{Observer}
 use Rattle.tiles.specs.Cutting.{Cutting, Cuts}

@@ -1,7 +1,5 @@
-pub mod Sight
-pub mod Walk
-pub mod Pace
-pub mod Blocks
+pub mod Viewshed
+pub mod BlockTops
 pub mod Sweep
 pub mod Ranks
 pub mod Hiding

@@ -4,8 +4,7 @@ use Rattle.terrain.specs.Raster.{Terrain}
 use Rattle.terrain.specs.declared.place.Place.{Place}
 use Rattle.tiles.specs.declared.bounds.Bounds.{Bounds}
 use Rattle.tiles.specs.Cutting.{IsInBounds, index_in}
-use Rattle.sight.specs.Sight.{is_seen}
-use Rattle.sight.specs.Walk.{is_open}
+use Rattle.sightlines.specs.Sight.{is_seen, is_open}
 use Rattle.terrain.specs.declared.observer.Observer.{Observer}
 use Rattle.sight.specs.declared.marking.Asked.{Asked}
 use Rattle.sight.specs.declared.marking.Asked.TheVariants.{Whole, FirstCrossings}

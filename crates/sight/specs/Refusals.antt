@@ -4,7 +4,8 @@ use Rattle.std.specs.Option.{option_or}
 use Rattle.std.specs.List.{position_from}
 use Rattle.terrain.specs.Raster.{Terrain}
 use Rattle.terrain.specs.Neighbours.{height_at}
-use Rattle.sight.specs.Sight.{most_observers, highest_eye, longest_radius, place_of}
+use Rattle.sightlines.specs.Sight.{highest_eye, longest_radius, place_of}
+use Rattle.sight.specs.Viewshed.{most_observers}
 use Rattle.terrain.specs.declared.observer.Observer.{Observer}
 use Rattle.sight.specs.declared.fault.SightFault.{SightFault}
 use Rattle.sight.specs.declared.fault.SightFault.TheVariants.{Outside, OnNodata, TooManyObservers, BadEye, BadRadius, Jobs}

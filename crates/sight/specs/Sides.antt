@@ -2,9 +2,9 @@
 use Rattle.std.specs.Prelude.{◌≡◌, ℕ, ◌+◌, ◌*◌, Bool, not, ◌&&◌, ℤ, pos, ◌+ℤ◌, List, length, Option, None, unwrap_or, slice_index_or}
 use Rattle.sight.specs.Hiding.{IsInRun, mark_at}
 use Rattle.sight.specs.Sweep.{side_axis}
-use Rattle.sight.specs.Walk.{walk_blocks}
+use Rattle.sightlines.specs.Walk.{walk_blocks}
 use Rattle.sight.specs.declared.family.Family.{Family}
-use Rattle.sight.specs.declared.walk.Sightline.{Sightline}
+use Rattle.sightlines.specs.declared.walk.Sightline.{Sightline}
 use Rattle.sight.specs.declared.window.Window.{Window}
 
 -- A family's lines, counted toward their beginning or away from it.

@@ -6,8 +6,8 @@ use Rattle.horizons.specs.declared.target.Target.{Target}
 use Rattle.horizons.specs.declared.ramp.Ramp.{Ramp}
 use Rattle.horizons.specs.declared.horizon.Piece.{Piece}
 use Rattle.horizons.specs.Horizons.{IsRampAt, IsOver, hides_by, hides, ramp_at}
-use Rattle.sight.specs.Walk.{IsLevel, step_blocks}
-use Rattle.sight.specs.declared.walk.Axis.{Axis}
+use Rattle.sightlines.specs.Walk.{IsLevel, step_blocks}
+use Rattle.sightlines.specs.declared.walk.Axis.{Axis}
 use Rattle.sight.specs.declared.family.Family.{Family}
 
 -- Where a line stands.

@@ -4,7 +4,7 @@ use Rattle.std.specs.Prelude.{◌≡◌, ℕ, ◌+◌, ◌≤◌, Bool, if◌the
 use Rattle.terrain.specs.Raster.{Terrain}
 use Rattle.terrain.specs.Neighbours.{height_at}
 use Rattle.terrain.specs.declared.place.Place.{Place}
-use Rattle.sight.specs.Sight.{viewshed_value}
+use Rattle.sight.specs.Viewshed.{viewshed_value}
 use Rattle.sight.specs.Refusals.{observers_fault}
 use Rattle.terrain.specs.declared.observer.Observer.{Observer}
 

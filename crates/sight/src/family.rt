@@ -1,15 +1,15 @@
 // The lines of a family of crossings, and the ground that rays meet there.
-ghost use Rattle.std.specs.Prelude.{◌≡◌, ◌↔◌, ℕ, ◌^◌, ◌≤◌, IsTrue, true, pos, ◌+ℤ◌, ◌-ℤ◌, ◌*ℤ◌, ◌≤ℤ◌, ◌<ℤ◌, ◌<◌, ℤ, None, Some, MatchOption, slice_index_or, unsigned_abs};
+ghost use Rattle.std.specs.Prelude.{◌≡◌, ◌↔◌, ℕ, ◌^◌, ◌≤◌, IsTrue, true, pos, ◌+ℤ◌, ◌-ℤ◌, ◌*ℤ◌, ◌≤ℤ◌, ◌<ℤ◌, ◌<◌, ℤ, None, Some, MatchOption, unsigned_abs};
 ghost use Rattle.std.specs.Bool.{OnTrue};
 ghost use Rattle.horizons.specs.declared.target.Target.{Target};
 ghost use Rattle.horizons.specs.Horizons.{IsTarget, IsRampAt, IsSlopeUpTo};
 ghost use Rattle.terrain.specs.Raster.{IsHeight};
-ghost use Rattle.sight.specs.Walk.{AreHeights};
-ghost use Rattle.sight.specs.Blocks.{IsTopOf};
+ghost use Rattle.sightlines.specs.Walk.{AreHeights};
+ghost use Rattle.sightlines.specs.Blocks.{IsTopOf};
 ghost use Rattle.sight.specs.Hiding.{height_at};
 ghost use Rattle.sight.specs.Sweep.{lead_of, aside_of, ramp_of, level_ramp, IsFamily, IsLine, IsCell, Passes, PassesAmong, Shows};
 
-use crate::tops::raised;
+use crate::heights::{height_at, raised};
 use horizons::{Ramp, Target};
 use terrain::{Cell, Height};
 
@@ -80,16 +80,6 @@ pub(crate) fn passed() -> Ramp
         gain: 0,
         level: 1 << 51,
         lines: 1,
-    }
-}
-
-#[inline(always)]
-pub(crate) fn height_at(cells: &[Cell], index: usize) -> Option<Height>
-    ensures { result ≡ slice_index_or cells.now index None }
-{
-    match cells.get(index) {
-        Some(cell) => cell.height(),
-        None => None,
     }
 }
 

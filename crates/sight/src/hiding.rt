@@ -1,6 +1,6 @@
 // Which marked cells of a window a family hides.
 ghost use Rattle.std.specs.Prelude.{◌≡◌, ℕ, ◌≤◌, false, OnOk, slice_set};
-ghost use Rattle.sight.specs.Walk.{AreHeights};
+ghost use Rattle.sightlines.specs.Walk.{AreHeights};
 ghost use Rattle.sight.specs.Sweep.{IsFamily, StandsAt, lead_of};
 ghost use Rattle.sight.specs.Hiding.{mark_index, AreHidden, IsApart, IsRay, IsWindow};
 

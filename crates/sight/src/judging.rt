@@ -1,7 +1,7 @@
 // Which fault of a list of observers is told.
 ghost use Rattle.std.specs.Prelude.{◌≡◌, ◌<◌, ◌≤◌, length, IfSome};
 ghost use Rattle.std.specs.List.{position_from};
-ghost use Rattle.sight.specs.Sight.{most_observers};
+ghost use Rattle.sight.specs.Viewshed.{most_observers};
 ghost use Rattle.sight.specs.Refusals.{is_high, place_fault, place_fault_of, observers_fault};
 
 use crate::fault::SightFault;

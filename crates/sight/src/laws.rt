@@ -1,18 +1,11 @@
 // Facts of the definitions alone.
 ghost use Rattle.std.specs.Prelude.{◌≡◌, ℕ, List, Option};
 ghost use Rattle.terrain.specs.Raster.{Terrain};
-ghost use Rattle.sight.specs.Sight.{CrossingsAreOnTheLine, IsViewshed};
+ghost use Rattle.sight.specs.Viewshed.{IsViewshed};
 ghost use Rattle.terrain.specs.declared.observer.Observer.{Observer};
 
 /// However a grid is cut and whoever does the work, there is one viewshed.
 pub fn viewsheds_are_one()
     ensures { (t : Terrain) (observers : List Observer) (target radius : ℕ) (values others : List (Option ℕ)) →
         IsViewshed t observers target radius values → IsViewshed t observers target radius others → values ≡ others }
-{}
-
-/// Where a line of sight is at a crossing, told without negative numbers, is the quotient rounded
-/// down of what it has gone, and the remainder.
-#[tactic(auto, using(crate::proofs::OnTheLine::crossings_are_on_the_line))]
-pub fn crossings_are_on_the_line()
-    ensures { CrossingsAreOnTheLine }
 {}

@@ -4,7 +4,7 @@ ghost use Rattle.std.specs.Bool.{OnTrue};
 ghost use Rattle.horizons.specs.declared.target.Target.{Target};
 ghost use Rattle.horizons.specs.Horizons.{IsTarget, AreTargets, IsOver, extent, ramp_at};
 ghost use Rattle.horizons.specs.Merging.{IsRampOn};
-ghost use Rattle.sight.specs.Walk.{AreHeights};
+ghost use Rattle.sightlines.specs.Walk.{AreHeights};
 ghost use Rattle.sight.specs.Sweep.{IsBefore, AreBefore, IsFamily, IsLine, Passes, PassesAmong, IsHiddenOn, RaisesBelow};
 
 use crate::family::{Family, Span, aside_at, passed};

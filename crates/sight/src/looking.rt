@@ -3,7 +3,7 @@ ghost use Rattle.std.specs.Prelude.{◌≡◌, ◌<◌, ◌≤◌, ℤ, List, Op
 ghost use Rattle.horizons.specs.declared.horizon.Piece.{Piece};
 ghost use Rattle.horizons.specs.declared.ramp.Ramp.{Ramp};
 ghost use Rattle.horizons.specs.Horizons.{AreTargets, IsTarget, IsRampAt, IsUpTo, extent, hides, ramp_at};
-ghost use Rattle.sight.specs.Walk.{AreHeights};
+ghost use Rattle.sightlines.specs.Walk.{AreHeights};
 ghost use Rattle.sight.specs.Sweep.{IsFamily, IsLine};
 ghost use Rattle.sight.specs.Looking.{LooksFrom};
 ghost use Rattle.sight.specs.declared.family.Family.{Family};

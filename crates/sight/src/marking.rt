@@ -2,11 +2,11 @@
 ghost use Rattle.std.specs.Prelude.{◌≡◌, ◌+◌, ◌-◌, ◌*◌, ◌<◌, ◌≤◌, length, OnOk};
 ghost use Rattle.terrain.specs.Neighbours.{IsInside};
 ghost use Rattle.tiles.specs.Cutting.{AreBounds, IsCutting};
-ghost use Rattle.sight.specs.Sight.{highest_eye, place_of};
+ghost use Rattle.sightlines.specs.Sight.{highest_eye, place_of};
 ghost use Rattle.sight.specs.Marks.{AreMarkedBelow, AreMarked, TellsSeen, Tells};
 
-use crate::line::{Walked, may_see, sees_past_blocks};
 use crate::tile::Viewing;
+use sightlines::{Walked, may_see, sees_past_blocks};
 use std::alloc::{AllocError, Global};
 use terrain::{Observer, Place};
 use tiles::Bounds;

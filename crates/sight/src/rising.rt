@@ -3,11 +3,12 @@ ghost use Rattle.std.specs.Prelude.{◌≡◌, ℕ, ◌≤◌, ℤ, Some};
 ghost use Rattle.horizons.specs.Horizons.{IsTarget};
 ghost use Rattle.horizons.specs.declared.target.Target.{Target};
 ghost use Rattle.terrain.specs.Raster.{IsHeight};
-ghost use Rattle.sight.specs.Walk.{AreHeights};
+ghost use Rattle.sightlines.specs.Walk.{AreHeights};
 ghost use Rattle.sight.specs.Sweep.{IsFamily, IsLine, IsRise, StandsAt};
 ghost use Rattle.sight.specs.Hiding.{height_at, rise_at};
 
-use crate::family::{Family, height_at};
+use crate::family::Family;
+use crate::heights::height_at;
 use horizons::Target;
 use terrain::{Cell, Height};
 

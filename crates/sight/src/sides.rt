@@ -3,18 +3,19 @@ ghost use Rattle.std.specs.Prelude.{◌≡◌, ◌*◌, ◌≤◌, not, pos, ◌
 ghost use Rattle.terrain.specs.Neighbours.{IsInside, height_of};
 ghost use Rattle.terrain.specs.declared.place.Place.{Place};
 ghost use Rattle.tiles.specs.Cutting.{AreBounds, IsCutting};
-ghost use Rattle.sight.specs.Sight.{column_blocks, highest_eye, place_of, row_blocks};
-ghost use Rattle.sight.specs.Walk.{AreHeights, IsLevel, is_open};
+ghost use Rattle.sightlines.specs.Sight.{column_blocks, highest_eye, place_of, row_blocks, is_open};
+ghost use Rattle.sightlines.specs.Walk.{AreHeights, IsLevel};
 ghost use Rattle.sight.specs.Sweep.{IsFamily};
 ghost use Rattle.sight.specs.Hiding.{IsApart, IsWindow};
 ghost use Rattle.sight.specs.Sides.{AreOpen, facing};
 ghost use Rattle.sight.specs.Marks.{AreLeft};
 
-use crate::family::{Family, Lines, Side, height_at};
+use crate::family::{Family, Lines, Side};
+use crate::heights::height_at;
 use crate::hiding::hide;
-use crate::line::level;
 use crate::tile::Viewing;
 use crate::window::{Run, Window};
+use sightlines::level;
 use std::alloc::{AllocError, Global};
 use terrain::{Cell, Observer, Place};
 use tiles::Bounds;

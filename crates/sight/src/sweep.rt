@@ -1,7 +1,7 @@
 // A horizon that rises line by line, as an observer looks outward.
 ghost use Rattle.std.specs.Prelude.{◌+◌, ◌≤◌, ℤ, List, Option, IfOk, OnOk};
 ghost use Rattle.horizons.specs.Horizons.{AreTargets};
-ghost use Rattle.sight.specs.Walk.{AreHeights};
+ghost use Rattle.sightlines.specs.Walk.{AreHeights};
 ghost use Rattle.sight.specs.Sweep.{IsFamily, IsLine, HidesBefore};
 ghost use Rattle.sight.specs.declared.family.Family.{Family};
 

@@ -6,13 +6,14 @@ ghost use Rattle.terrain.specs.declared.place.Place.{Place};
 ghost use Rattle.tiles.specs.Cutting.{AreBounds, IsInBounds, Cuts, IsCutting};
 ghost use Rattle.tile_maps.specs.Maps.{AreMadeBelow};
 ghost use Rattle.std.proofs.Props.{props};
-ghost use Rattle.sight.specs.Blocks.{IsTops};
-ghost use Rattle.sight.specs.Sight.{is_seen, most_observers, place_of};
+ghost use Rattle.sightlines.specs.Blocks.{IsTops};
+ghost use Rattle.sightlines.specs.Sight.{is_seen, place_of};
+ghost use Rattle.sight.specs.Viewshed.{most_observers};
 ghost use Rattle.sight.specs.Viewed.{HasValue, counted, AreAtMost, IsFaultless};
 
 use crate::by_place::{Placed, entries};
 use crate::reach::is_any_in_reach;
-use crate::tops::Tops;
+use sightlines::Tops;
 use std::alloc::{AllocError, Global};
 use terrain::{Count, Grid, NoMemory, Observer, Place};
 use tile_maps::TileMap;

@@ -1,13 +1,14 @@
-// The greatest heights of blocks of cells.
-ghost use Rattle.std.specs.Prelude.{◌≡◌, ◌⊎◌, ℕ, ℤ, ◌*◌, ◌<◌, ◌≤◌, slice_index_or, None, Some, IfOk};
-ghost use Rattle.sight.specs.Walk.{AreHeights};
+// The greatest heights of blocks of cells, as maps of the blocks.
+ghost use Rattle.std.specs.Prelude.{◌≡◌, ℕ, ℤ, ◌*◌, ◌<◌, ◌≤◌, slice_index_or, None, Some, IfOk};
+ghost use Rattle.sightlines.specs.Walk.{AreHeights};
 ghost use Rattle.tile_jobs.specs.Fault.{RefusesWorkers};
-ghost use Rattle.sight.specs.Blocks.{blocks_in, IsTopOf, AreTops, IsTops, CutsBlocks, ground_of, IsGround};
+ghost use Rattle.sightlines.specs.Blocks.{blocks_in, IsTopOf, AreTops, IsTops};
+ghost use Rattle.sight.specs.BlockTops.{CutsBlocks, ground_of, IsGround};
 ghost use Rattle.terrain.specs.Raster.{IsHeight};
 
 use crate::by_place::{Placed, entries};
-use crate::family::height_at;
-use crate::passing::{FAR_BLOCK, NEAR_BLOCK};
+use crate::heights::{height_at, raised};
+use sightlines::{FAR_BLOCK, NEAR_BLOCK, Tops, blocks_in};
 use std::alloc::Global;
 use std::sync::Wait;
 use std::thread::Threads;
@@ -18,41 +19,6 @@ use tiles::{Tiling, TilingFault};
 
 /// How many blocks stand along the side of those of one job.
 const JOB_SIDE: u32 = 16;
-
-/// How high the ground of a grid reaches at most: in each of its blocks, in row order, and in all of it. A
-/// block is a cell of a coarser ground: it has no data where none of its cells has any.
-#[derive(Drop)]
-pub struct Tops {
-    pub near: Vec<Cell>,
-    pub far: Vec<Cell>,
-    pub peak: Height,
-}
-
-/// How many blocks of so many cells side by side hold so many cells.
-#[inline(always)]
-pub(crate) fn blocks_in(size: u32, cells: u32) -> usize
-    requires size { (0 < size) × (size ≤ 4096) }
-    requires cells { cells ≤ 4096 }
-    ensures { result ≡ blocks_in size cells }
-{
-    ((cells + (size - 1)) / size) as usize
-}
-
-/// The greater of a height so far and the height of a cell.
-#[inline(always)]
-pub(crate) fn raised(top: Option<Height>, height: Option<Height>) -> Option<Height>
-    ensures kept { (h : ℤ) → IsTopOf top h → IsTopOf result h }
-    ensures raised { (h : ℤ) → height ≡ Some h → IsTopOf result h }
-    ensures one { (result ≡ top) ⊎ (result ≡ height) }
-{
-    let Some(height) = height else {
-        return top;
-    };
-    match top {
-        None => Some(height),
-        Some(top) => Some(top.max(height)),
-    }
-}
 
 /// The greatest height of some cells, None where they have no data.
 #[inline(always)]
@@ -82,7 +48,7 @@ struct BlockTops<'a> {
 }
 
 impl<'a> Placed for BlockTops<'a> {
-    ghost use Rattle.sight.specs.Blocks.{ground_of, IsBlock, IsBlockTop};
+    ghost use Rattle.sight.specs.BlockTops.{ground_of, IsBlock, IsBlockTop};
 
     type Entry = Cell;
 
@@ -106,7 +72,7 @@ impl<'a> Placed for BlockTops<'a> {
 }
 
 impl<'a> TileMap for BlockTops<'a> {
-    ghost use Rattle.sight.specs.Blocks.{ground_of, IsBlockTop};
+    ghost use Rattle.sight.specs.BlockTops.{ground_of, IsBlockTop};
 
     type Entry = Cell;
 
@@ -175,21 +141,19 @@ fn block_tops<R: Threads + Wait + Sync>(
     })
 }
 
-impl Tops {
-    /// Of a grid, by workers who share its blocks.
-    pub(crate) fn of<R: Threads + Wait + Sync>(
-        crew: &Crew<R, NoGate>,
-        grid: &Grid,
-    ) -> Result<Self, JobFault>
-        ensures tops { IfOk result (λ t. IsTops grid.now.terrain t) }
-        ensures workers { RefusesWorkers crew.now.workers result }
-    {
-        let (cols, rows) = (grid.cols(), grid.rows());
-        let near = block_tops(crew, grid.cells(), cols, rows, NEAR_BLOCK)?;
-        let wide = blocks_in(NEAR_BLOCK, cols) as u32;
-        let high = blocks_in(NEAR_BLOCK, rows) as u32;
-        let far = block_tops(crew, &near, wide, high, FAR_BLOCK / NEAR_BLOCK)?;
-        let peak = top_of(&far).unwrap_or(LOWEST);
-        Ok(Tops { near, far, peak })
-    }
+/// The greatest heights of a grid's blocks, by workers who share these.
+pub(crate) fn tops_of<R: Threads + Wait + Sync>(
+    crew: &Crew<R, NoGate>,
+    grid: &Grid,
+) -> Result<Tops, JobFault>
+    ensures tops { IfOk result (λ t. IsTops grid.now.terrain t) }
+    ensures workers { RefusesWorkers crew.now.workers result }
+{
+    let (cols, rows) = (grid.cols(), grid.rows());
+    let near = block_tops(crew, grid.cells(), cols, rows, NEAR_BLOCK)?;
+    let wide = blocks_in(NEAR_BLOCK, cols) as u32;
+    let high = blocks_in(NEAR_BLOCK, rows) as u32;
+    let far = block_tops(crew, &near, wide, high, FAR_BLOCK / NEAR_BLOCK)?;
+    let peak = top_of(&far).unwrap_or(LOWEST);
+    Ok(Tops { near, far, peak })
 }

@@ -1,13 +1,13 @@
 // A viewshed, by tiles and workers.
 ghost use Rattle.std.specs.Prelude.{IfOk};
 ghost use Rattle.tiles.specs.Cutting.{Cuts};
-ghost use Rattle.sight.specs.Sight.{IsViewshed};
+ghost use Rattle.sight.specs.Viewshed.{IsViewshed};
 ghost use Rattle.sight.specs.Refusals.{RefusesSight, observers_fault};
 
 use crate::fault::SightFault;
 use crate::judging::first_fault;
 use crate::tile::Viewing;
-use crate::tops::Tops;
+use crate::tops::tops_of;
 use std::alloc::Global;
 use std::sync::Wait;
 use std::thread::Threads;
@@ -42,7 +42,7 @@ pub fn viewshed<R: Threads + Wait + Sync, G: Gate + Sync>(
     if let Some(fault) = first_fault(grid, observers, target_height, radius) {
         return Err(fault);
     }
-    let tops = Tops::of(
+    let tops = tops_of(
         &Crew {
             rt,
             alloc,

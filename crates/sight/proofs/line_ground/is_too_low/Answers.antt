@@ -7,7 +7,7 @@ use Rattle.horizons.proofs.Hiding.{hides_if_not_above}
 use Rattle.horizons.proofs.Sizes.{back_short}
 use Rattle.sight.specs.Sweep.{IsHiddenOn, level_ramp}
 use Rattle.sight.proofs.Below.{passes_between, none_blocks, top_blocks, IsTopNear}
-use Rattle.sight.proofs.Heights.{kept, height_fits}
+use Rattle.sightlines.proofs.Heights.{kept, height_fits}
 use Rattle.sight.proofs.line_ground.is_too_low.Goals as goal
 
 pub aside_at-low-requires-clause-target : goal.aside_at-low-requires-clause-target

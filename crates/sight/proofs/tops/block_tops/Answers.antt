@@ -1,5 +1,5 @@
 use Rattle.std.proofs.lemmas.Result.{IfOk-weaker}
-use Rattle.sight.specs.Blocks.{ground_of}
+use Rattle.sight.specs.BlockTops.{ground_of}
 use Rattle.sight.proofs.BlockLists.{tops_of_blocks}
 use Rattle.sight.proofs.tops.block_tops.Goals as goal
 

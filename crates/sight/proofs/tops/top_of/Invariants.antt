@@ -1,6 +1,6 @@
 use Rattle.std.proofs.Common.{◌<◌, ℕ, ℤ, ◌≡◌, None, Some, slice_index_or}
 use Rattle.terrain.specs.Raster.{IsHeight}
-use Rattle.sight.specs.Blocks.{IsTopOf}
+use Rattle.sightlines.specs.Blocks.{IsTopOf}
 use Rattle.sight.proofs.tops.top_of.Given as goal
 
 abbrev pub invariant-loop-index : goal.invariant-loop-index

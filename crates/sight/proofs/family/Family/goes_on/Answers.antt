@@ -6,7 +6,7 @@ use Rattle.horizons.specs.declared.ramp.Ramp.{Ramp}
 use Rattle.horizons.specs.Horizons.{IsTarget, hides_by}
 use Rattle.horizons.proofs.Sizes.{back_short}
 use Rattle.sight.specs.Sweep.{IsCell, Passes, Shows, ramp_of}
-use Rattle.sight.proofs.Heights.{kept}
+use Rattle.sightlines.proofs.Heights.{kept}
 use Rattle.sight.proofs.Spans.{near_index, shows_ramp}
 use Rattle.sight.proofs.family.Family.goes_on.Goals as goal
 

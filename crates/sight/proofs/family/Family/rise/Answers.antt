@@ -3,7 +3,7 @@ use Rattle.std.specs.Prelude.{unwrap_or}
 use Rattle.std.proofs.lemmas.Int.{ints}
 use Rattle.terrain.specs.Raster.{IsHeight}
 use Rattle.sight.specs.Hiding.{height_at}
-use Rattle.sight.proofs.Heights.{ground_is_height}
+use Rattle.sightlines.proofs.Heights.{ground_is_height}
 use Rattle.sight.proofs.family.Family.rise.Goals as goal
 
 pub overflow_add-result : goal.overflow_add-result

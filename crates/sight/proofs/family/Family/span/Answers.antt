@@ -5,7 +5,7 @@ use Rattle.horizons.specs.Horizons.{hides_by}
 use Rattle.horizons.proofs.Sizes.{back_short}
 use Rattle.sight.specs.Sweep.{lead_of, IsCell, ramp_of}
 use Rattle.sight.proofs.Below.{among_shows, passes_one}
-use Rattle.sight.proofs.Heights.{kept}
+use Rattle.sightlines.proofs.Heights.{kept}
 use Rattle.sight.proofs.Rays.{past_onward}
 use Rattle.sight.proofs.Spans.{near_index, none_outside, nothing_near, nothing_far, shows_ramp, shows_centre}
 use Rattle.sight.proofs.family.Family.span.Goals as goal

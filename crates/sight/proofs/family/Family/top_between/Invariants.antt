@@ -1,6 +1,6 @@
 use Rattle.std.proofs.Common.{◌≡◌, ◌<◌, ◌≤◌, ℕ, ℤ, Some}
 use Rattle.terrain.specs.Raster.{IsHeight}
-use Rattle.sight.specs.Blocks.{IsTopOf}
+use Rattle.sightlines.specs.Blocks.{IsTopOf}
 use Rattle.sight.specs.Hiding.{height_at}
 use Rattle.sight.proofs.family.Family.top_between.Given as goal
 

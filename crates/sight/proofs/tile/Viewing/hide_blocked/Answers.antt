@@ -4,11 +4,11 @@ use Rattle.std.proofs.lemmas.Int.{to_z-of_z}
 use Rattle.std.proofs.lemmas.Result.{on_ok_weaker}
 use Rattle.terrain.specs.Neighbours.{height_at, height_of}
 use Rattle.terrain.specs.declared.place.Place.{Place}
-use Rattle.sight.specs.Sight.{column_blocks, row_blocks, place_of}
+use Rattle.sightlines.specs.Sight.{column_blocks, row_blocks, place_of}
 use Rattle.sight.specs.Marks.{AreLeft}
-use Rattle.sight.proofs.Heights.{are_heights, ground_is_height, kept}
-use Rattle.sight.specs.Walk.{AreHeights}
-use Rattle.sight.proofs.Crossings.{height_is}
+use Rattle.sightlines.proofs.Heights.{are_heights, ground_is_height, kept}
+use Rattle.sightlines.specs.Walk.{AreHeights}
+use Rattle.sightlines.proofs.Crossings.{height_is}
 use Rattle.sight.proofs.PlacesLeft.{left_both}
 use Rattle.sight.proofs.tile.Viewing.hide_blocked.Goals as goal
 

@@ -2,10 +2,10 @@ use Rattle.std.proofs.Common.{rules, arith}
 use Rattle.std.specs.Int.{w64}
 use Rattle.std.proofs.lemmas.Int.{to_z-of_z}
 use Rattle.std.proofs.lemmas.Result.{on_ok_weaker}
-use Rattle.sight.specs.Sight.{place_of}
+use Rattle.sightlines.specs.Sight.{place_of}
 use Rattle.sight.specs.Sides.{AreOpen}
 use Rattle.sight.proofs.PlacesLeft.{rows_from, by_rows, rows_window, rows_left}
-use Rattle.sight.proofs.Heights.{are_heights}
+use Rattle.sightlines.proofs.Heights.{are_heights}
 use Rattle.sight.proofs.tile.Viewing.hide_over_rows.Goals as goal
 
 pub hide_on_both_sides-requires-clause-window :

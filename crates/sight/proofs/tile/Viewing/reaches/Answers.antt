@@ -1,5 +1,5 @@
 use Rattle.std.proofs.lemmas.Bool.{OnFalse_at, OnFalse_from}
-use Rattle.sight.proofs.Seen.{unseen}
+use Rattle.sightlines.proofs.Seen.{unseen}
 use Rattle.sight.proofs.tile.Viewing.reaches.Goals as goal
 
 pub returns : goal.returns

@@ -1,9 +1,8 @@
 use Rattle.std.proofs.Common.{arith, sym, ap, ◌∙◌, ◌≡◌, ◌+◌, ◌-◌, ◌*◌, None, get_or, inl, inr}
 use Rattle.std.proofs.lemmas.Bool.{cases_lt}
 use Rattle.terrain.proofs.Places.{inside_from_entry, entry-inside}
-use Rattle.sight.specs.Blocks.{ground_of}
-use Rattle.sight.proofs.LowBlocks.{in_block}
-use Rattle.sight.proofs.BlockLists.{top_over, run_at}
+use Rattle.sight.specs.BlockTops.{ground_of}
+use Rattle.sight.proofs.BlockLists.{top_over, run_at, in_block}
 use Rattle.sight.proofs.tops.BlockTopsPlaced.entry.Goals as goal
 
 pub loop-row-preserved : goal.loop-row-preserved

@@ -2,7 +2,8 @@ use Rattle.std.proofs.Common.{◌≡◌, ◌<◌, ◌/◌, ℤ, Some}
 use Rattle.terrain.specs.Neighbours.{height_at}
 use Rattle.terrain.specs.Raster.{IsHeight}
 use Rattle.terrain.specs.declared.place.Place.{Place}
-use Rattle.sight.specs.Blocks.{IsTopOf, ground_of}
+use Rattle.sightlines.specs.Blocks.{IsTopOf}
+use Rattle.sight.specs.BlockTops.{ground_of}
 use Rattle.sight.proofs.tops.BlockTopsPlaced.entry.Given as goal
 
 abbrev pub invariant-loop-row : goal.invariant-loop-row

@@ -1,5 +1,5 @@
 use Rattle.tile_maps.proofs.TileLists.{made_tile}
-use Rattle.sight.specs.Blocks.{ground_of, IsBlockTop}
+use Rattle.sight.specs.BlockTops.{ground_of, IsBlockTop}
 use Rattle.sight.proofs.tops.BlockTopsTileMap.tile.Goals as goal
 
 pub returns : goal.returns

@@ -1,0 +1,15 @@
+-- worked rows
+pub mod Rows
+-- a line of sight, step by step
+pub mod Ground
+pub mod Toward
+mod OnTheLine
+pub mod Heights
+pub mod Levels
+mod Steps
+mod Ranges
+-- its crossings, from either end
+pub mod Crossings
+pub mod Seen
+-- blocks of cells below the line
+pub mod LowBlocks

@@ -1,0 +1,40 @@
+use Rattle.std.proofs.Common.{rules, sym, ◌∙◌, ◌≡◌, pos, ◌+ℤ◌, FitsSigned, Some, true}
+use Rattle.std.specs.Int.{w64}
+use Rattle.std.proofs.lemmas.Int.{to_z-of_z}
+use Rattle.terrain.specs.Neighbours.{height_at}
+use Rattle.sightlines.specs.Sight.{is_near, place_of}
+use Rattle.sightlines.specs.Walk.{IsLevel}
+use Rattle.sightlines.proofs.Heights.{kept, height_is_height}
+use Rattle.sightlines.proofs.Seen.{lines_are}
+use Rattle.sightlines.proofs.line.lines_of_sight.Goals as goal
+
+pub level-eye_level-requires-clause-height : goal.level-eye_level-requires-clause-height
+level-eye_level-requires-clause-height c =
+    let ground = c.in_ok-eye_ground.eye_ground in
+    kept ground (height_is_height c.args.grid.now.terrain (place_of c.args.observer.now) ground c.cols-stride.ensures.lawful.terrain (sym c.at.ensures ∙ c.in_ok-eye_ground.was))
+
+pub level-target_level-requires-clause-height : goal.level-target_level-requires-clause-height
+level-target_level-requires-clause-height c =
+    let ground = c.in_ok-target_ground.target_ground in
+    kept ground (height_is_height c.args.grid.now.terrain c.args.target ground c.cols-stride.ensures.lawful.terrain (sym c.at-2.ensures ∙ c.in_ok-target_ground.was))
+
+pub returns : goal.returns
+returns c =
+    let t = c.args.grid.now.terrain in
+    let o = c.args.observer.now in
+    let q = c.args.target in
+    let eye = c.in_ok-eye_ground.eye_ground in
+    let ground = c.in_ok-target_ground.target_ground in
+    let eye_fits : FitsSigned w64 eye = search rules in
+    let ground_fits : FitsSigned w64 ground = search rules in
+    let eye_level : c.level-eye_level.result ≡ eye +ℤ pos o.eye = rw (to_z-of_z w64 eye eye_fits) at c.level-eye_level.ensures.value in
+    let target_level : c.level-target_level.result ≡ ground +ℤ pos c.args.target_height = rw (to_z-of_z w64 ground ground_fits) at c.level-target_level.ensures.value in
+    let eye_back = to_z-of_z w64 c.level-eye_level.result (search rules) in
+    let target_back = to_z-of_z w64 c.level-target_level.result (search rules) in
+    let near : is_near (place_of o) q c.args.radius ≡ true = sym c.is_in_reach.ensures ∙ c.if-not-is_in_reach.false in
+    let eye_is : height_at t (place_of o) ≡ Some eye = sym c.at.ensures ∙ c.in_ok-eye_ground.was in
+    let ground_is : height_at t q ≡ Some ground = sym c.at-2.ensures ∙ c.in_ok-target_ground.was in
+    let e_level : IsLevel (eye +ℤ pos o.eye) = rw eye_level at c.level-eye_level.ensures.small in
+    let f_level : IsLevel (ground +ℤ pos c.args.target_height) = rw target_level at c.level-target_level.ensures.small in
+    rw (c.cols-stride.ensures.value, eye_back, target_back, eye_level, target_level)
+    (lines_are t o q c.args.target_height c.args.radius eye ground c.cols-stride.ensures.lawful.terrain c.requires.observer c.requires.target eye_is ground_is near e_level f_level)

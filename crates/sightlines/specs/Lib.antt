@@ -1,0 +1,4 @@
+pub mod Sight
+pub mod Walk
+pub mod Pace
+pub mod Blocks

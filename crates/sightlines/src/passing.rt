@@ -1,0 +1,231 @@
+// A walk along a line of sight that passes over blocks of cells below it.
+ghost use Rattle.std.specs.Prelude.{◌≡◌, ℕ, ◌+◌, ◌-◌, ◌*◌, ◌/◌, ◌<◌, ◌≤◌, length, slice_index_or, None, IfSome, is_some, max, pos, ◌*ℤ◌, ◌≤ℤ◌};
+ghost use Rattle.std.specs.Bool.{OnTrue};
+ghost use Rattle.sightlines.specs.Pace.{IsPace, IsLeap};
+ghost use Rattle.sightlines.specs.Walk.{steps_of, whole_at, AreHeights, IsSightline, IsAt, IsOver, walk_blocks, step_range_blocks};
+ghost use Rattle.sightlines.specs.Blocks.{IsLow, IsPeak, AreTopsAlong, AreLowBetween};
+ghost use Rattle.terrain.specs.Raster.{IsHeight};
+
+use crate::tops::{FAR_BLOCK, NEAR_BLOCK, Tops};
+use crate::walk::{Leap, Pace, Sightline, Step, blocking_step, weighed};
+use terrain::{Cell, Height};
+
+/// Where a run of steps meets more blocks than this, they are not looked at.
+const MOST_BLOCKS: u32 = 5;
+
+/// How far apart neighbouring blocks stand in the list of blocks, along a line's leading coordinate
+/// and along the one at its side.
+#[derive(Clone, Copy)]
+pub struct BlockStrides {
+    pub lead: usize,
+    pub side: usize,
+}
+
+/// The step at which the leading coordinate leaves its block of so many cells, or `last`.
+#[inline(always)]
+fn block_end(line: Sightline, size: u32, step: u32, last: u32) -> u32
+    requires line { IsSightline line }
+    requires size { (0 < size) × (size ≤ 4096) }
+    requires range { (step < last) × (last ≤ steps_of line) }
+    ensures after { step < result }
+    ensures within { result ≤ last }
+    ensures same { (k : ℕ) → step ≤ k → k < result
+        → whole_at line.lead (steps_of line) k / size ≡ whole_at line.lead (steps_of line) step / size }
+{
+    let in_block = line.lead_at(step) % size;
+    let left = if line.lead.from <= line.lead.to {
+        size - in_block
+    } else {
+        in_block + 1
+    };
+    last.min(step + left)
+}
+
+/// Whether all of some blocks in a row are below the sight, when their heights are taken `weight`
+/// times.
+#[inline(always)]
+fn are_low(tops: &[Cell], first: usize, stride: usize, count: u32, weight: u32, sight: i64) -> bool
+    requires heights { AreHeights tops.now }
+    requires room { (i : ℕ) → i < count → first + i * stride < length tops.now }
+    requires weight { weight ≤ 4096 }
+    ensures { OnTrue result ((i : ℕ) → i < count
+        → IsLow (slice_index_or tops.now (first + i * stride) None) weight sight) }
+{
+    for i in 0..count {
+        let top = tops[first + i as usize * stride];
+        if let Some(height) = top.height() {
+            if weighed(height, weight) > sight {
+                return false;
+            }
+        }
+    }
+    true
+}
+
+/// Whether a line is above all blocks that it can meet between two of its steps, both in one row
+/// of blocks.
+#[inline(always)]
+fn is_above_blocks(
+    tops: &[Cell],
+    size: u32,
+    strides: BlockStrides,
+    line: Sightline,
+    lead_block: u32,
+    start: Step,
+    end: Step,
+) -> bool
+    requires line { IsSightline line }
+    requires size { 0 < size }
+    requires heights { AreHeights tops.now }
+    requires strides { (strides.lead ≤ 4096) × (strides.side ≤ 4096) }
+    requires lead { lead_block ≤ max line.lead.from line.lead.to / size }
+    requires over { max line.lead.from line.lead.to / size * strides.lead
+        + max line.side.from line.side.to / size * strides.side < length tops.now }
+    requires start { start.whole ≤ max line.side.from line.side.to }
+    requires end { end.whole ≤ max line.side.from line.side.to }
+    ensures { OnTrue result (AreLowBetween size tops.now strides line lead_block start end) }
+{
+    let farthest = line.side.from.max(line.side.to);
+    let low = start.whole.min(end.whole) / size;
+    let high = farthest.min(start.whole.max(end.whole) + 1) / size;
+    let count = high - low + 1;
+    if count > MOST_BLOCKS {
+        return false;
+    }
+    let first = lead_block as usize * strides.lead + low as usize * strides.side;
+    let sight = start.sight.min(end.sight);
+    are_low(tops, first, strides.side, count, line.steps(), sight)
+}
+
+/// Where a line is at the end of a run of steps, of which a whole block is passed in one leap.
+#[inline(always)]
+fn at_end(line: Sightline, leap: Leap, first: u32, start: Step, end: u32) -> Step
+    requires line { IsSightline line }
+    requires some { 0 < steps_of line }
+    requires leap { IsLeap line 16 leap }
+    requires start { IsAt line first start }
+    requires range { (first ≤ end) × (end ≤ steps_of line) }
+    ensures { IsAt line end result }
+{
+    if end - first == NEAR_BLOCK {
+        leap.from(line, NEAR_BLOCK, first, start)
+    } else {
+        line.at(end)
+    }
+}
+
+/// As [`blocking_step`], by passing over the steps at which the line is above the blocks of cells whose greatest heights are
+/// `tops`. How many crossings are asked about is added to `asked`.
+#[inline(always)]
+fn blocking_step_past_near_blocks(
+    cells: &[Cell],
+    tops: &[Cell],
+    strides: BlockStrides,
+    line: Sightline,
+    pace: Pace,
+    leap: Leap,
+    start: Step,
+    first: u32,
+    end: u32,
+    asked: &mut u32,
+) -> Option<u32>
+    requires heights { AreHeights cells.now }
+    requires line { IsSightline line }
+    requires over { IsOver cells.now line.lead line.side }
+    requires pace { IsPace line.lead line.side (steps_of line) pace }
+    requires leap { IsLeap line 16 leap }
+    requires strides { (strides.lead ≤ 4096) × (strides.side ≤ 4096) }
+    requires tops { AreTopsAlong 16 cells.now tops.now line strides }
+    requires start { IsAt line first start }
+    requires range { (first < end) × (end ≤ steps_of line) }
+    ensures answer { is_some result ≡ step_range_blocks cells.now line first (end - first) }
+    ensures range { IfSome result (λ k. (first ≤ k) × (k < end)) }
+{
+    let mut step = first;
+    let mut here = start;
+    while step < end {
+        let past = block_end(line, NEAR_BLOCK, step, end);
+        let next = at_end(line, leap, step, here, past);
+        let block = line.lead_at(step) / NEAR_BLOCK;
+        if !is_above_blocks(tops, NEAR_BLOCK, strides, line, block, here, next) {
+            *asked = asked.saturating_add(past - step);
+            if let Some(blocking) = blocking_step(cells, line, pace, here, step, past) {
+                return Some(blocking);
+            }
+        }
+        step = past;
+        here = next;
+    }
+    None
+}
+
+/// Whether a line stays above a peak that no ground is above, from one of its steps on.
+#[inline(always)]
+fn is_clear(peak: Height, line: Sightline, here: Step) -> bool
+    requires line { IsSightline line }
+    requires peak { IsHeight peak }
+    ensures { OnTrue result ((peak ≤ℤ line.to_level) × ((pos (steps_of line) *ℤ peak) ≤ℤ here.sight)) }
+{
+    peak <= line.to_level && weighed(peak, line.steps()) <= here.sight
+}
+
+/// The first step between the two ends at which the ground is above the line. Past the block of its beginning, which is
+/// seldom below it, the walk passes over the steps at which the line is above the far blocks that it meets, or above
+/// the near ones, and over all that are left once it stays above the peak. How many crossings are asked about is added
+/// to `asked`. It stands apart, so that what is asked of each target first stays short.
+#[inline(never)]
+pub(crate) fn blocking_step_past_blocks(
+    cells: &[Cell],
+    tops: &Tops,
+    near: BlockStrides,
+    far: BlockStrides,
+    line: Sightline,
+    asked: &mut u32,
+) -> Option<u32>
+    requires heights { AreHeights cells.now }
+    requires line { IsSightline line }
+    requires over { IsOver cells.now line.lead line.side }
+    requires near { (near.lead ≤ 4096) × (near.side ≤ 4096) }
+    requires far { (far.lead ≤ 4096) × (far.side ≤ 4096) }
+    requires near_tops { AreTopsAlong 16 cells.now tops.now.near.items line near }
+    requires far_tops { AreTopsAlong 128 cells.now tops.now.far.items line far }
+    requires peak { IsHeight tops.now.peak × IsPeak tops.now.far.items tops.now.peak }
+    ensures answer { is_some result ≡ walk_blocks cells.now line }
+    ensures range { IfSome result (λ k. k < steps_of line) }
+{
+    let steps = line.steps();
+    if steps < 2 {
+        return None;
+    }
+    let begin = line.at(1);
+    if is_clear(tops.peak, line, begin) {
+        return None;
+    }
+    let pace = Pace::new(line);
+    let mut first = block_end(line, NEAR_BLOCK, 1, steps);
+    *asked = asked.saturating_add(first - 1);
+    if let Some(step) = blocking_step(cells, line, pace, begin, 1, first) {
+        return Some(step);
+    }
+    let leap = Leap::new(line, NEAR_BLOCK);
+    let mut start = line.at(first);
+    while first < steps {
+        if is_clear(tops.peak, line, start) {
+            return None;
+        }
+        let end = block_end(line, FAR_BLOCK, first, steps);
+        let next = line.at(end);
+        let block = line.lead_at(first) / FAR_BLOCK;
+        let is_whole = end - first == FAR_BLOCK;
+        if !is_whole || !is_above_blocks(&tops.far, FAR_BLOCK, far, line, block, start, next) {
+            if let Some(step) = blocking_step_past_near_blocks(
+                cells, &tops.near, near, line, pace, leap, start, first, end, asked,
+            ) {
+                return Some(step);
+            }
+        }
+        first = end;
+        start = next;
+    }
+    None
+}

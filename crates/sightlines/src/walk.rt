@@ -1,0 +1,353 @@
+// A walk along a line of sight, from crossing to crossing.
+ghost use Rattle.std.specs.Prelude.{◌≡◌, ◌^◌, ◌+◌, ◌-◌, ◌*◌, ◌<◌, ◌≤◌, ℤ, pos, unsigned_abs, ◌*ℤ◌, length, slice_index_or, None, IfSome, is_some, if◌then◌else◌};
+ghost use Rattle.std.specs.Int.{abs_diff};
+ghost use Rattle.terrain.specs.Raster.{IsHeight};
+ghost use Rattle.sightlines.specs.Walk.{is_above, steps_of, whole_at, AreHeights, IsSightline, IsAt, IsOver, step_range_blocks, walk_blocks};
+ghost use Rattle.sightlines.specs.Pace.{IsPace, IsLeap, Gains};
+
+use terrain::{Cell, Height};
+
+/// One coordinate of a line of sight: its two ends, and how far apart neighbours along it stand
+/// in the list of cells.
+#[derive(Clone, Copy)]
+pub struct Axis {
+    pub from: u32,
+    pub to: u32,
+    pub stride: usize,
+}
+
+/// A line of sight from one level to another, along two coordinates: a leading one, at whose whole
+/// steps the line is tested, and the one at its side.
+#[derive(Clone, Copy)]
+pub struct Sightline {
+    pub lead: Axis,
+    pub side: Axis,
+    pub from_level: i64,
+    pub to_level: i64,
+}
+
+/// Where a line is at one of its steps: its whole cell at the side, the part of a cell past it, and
+/// how high the sight is there. As many parts as the line has steps make a cell.
+#[derive(Clone, Copy)]
+pub struct Step {
+    pub whole: u32,
+    pub part: u32,
+    pub sight: i64,
+}
+
+impl Sightline {
+    /// From one end to the other.
+    #[inline(always)]
+    pub(crate) fn steps(self) -> u32
+        ensures { result ≡ steps_of self }
+    {
+        self.lead.from.abs_diff(self.lead.to)
+    }
+
+    /// The cell of the leading coordinate at a step.
+    #[inline(always)]
+    pub(crate) fn lead_at(self, step: u32) -> u32
+        requires line { IsSightline self }
+        requires some { 0 < steps_of self }
+        requires step { step ≤ steps_of self }
+        ensures { result ≡ whole_at self.lead (steps_of self) step }
+    {
+        if self.lead.from <= self.lead.to {
+            self.lead.from + step
+        } else {
+            self.lead.from - step
+        }
+    }
+
+    /// Where the line is at a step.
+    #[inline(always)]
+    pub(crate) fn at(self, step: u32) -> Step
+        requires line { IsSightline self }
+        requires some { 0 < steps_of self }
+        requires step { step ≤ steps_of self }
+        ensures { IsAt self step result }
+    {
+        let steps = self.steps();
+        let left = steps - step;
+        let parts = self.side.from * left + self.side.to * step;
+        Step {
+            whole: parts / steps,
+            part: parts % steps,
+            sight: self.from_level * left as i64 + self.to_level * step as i64,
+        }
+    }
+}
+
+/// What a coordinate gains in some of a number of equal steps: whole cells ahead or behind, and then
+/// some parts of a cell. As many parts as there are steps make a cell.
+#[derive(Clone, Copy)]
+struct Gain {
+    ahead: u32,
+    behind: u32,
+    part: u32,
+}
+
+impl Axis {
+    /// In as many steps as there are cells between the two ends.
+    fn whole_gain(self) -> Gain
+        requires { 0 < abs_diff self.from self.to }
+        ensures { Gains self (abs_diff self.from self.to) 1 result.ahead result.behind result.part }
+    {
+        if self.from < self.to {
+            Gain {
+                ahead: 1,
+                behind: 0,
+                part: 0,
+            }
+        } else {
+            Gain {
+                ahead: 0,
+                behind: 1,
+                part: 0,
+            }
+        }
+    }
+
+    /// In so many of a number of steps.
+    fn gain(self, steps: u32, count: u32) -> Gain
+        requires steps { (0 < steps) × (steps ≤ 4096) }
+        requires count { count ≤ 4096 }
+        requires ends { (self.from < 4096) × (self.to < 4096) }
+        ensures { Gains self steps count result.ahead result.behind result.part }
+    {
+        if self.from <= self.to {
+            let rise = (self.to - self.from) * count;
+            if rise < steps {
+                return Gain {
+                    ahead: 0,
+                    behind: 0,
+                    part: rise,
+                };
+            }
+            Gain {
+                ahead: rise / steps,
+                behind: 0,
+                part: rise % steps,
+            }
+        } else {
+            let fall = (self.from - self.to) * count;
+            let behind = fall.div_ceil(steps);
+            Gain {
+                ahead: 0,
+                behind,
+                part: behind * steps - fall,
+            }
+        }
+    }
+}
+
+/// How far a line gets in some of its steps: whole cells ahead or behind at the side and some parts of a cell, and how
+/// much the sight rises.
+#[derive(Clone, Copy)]
+pub struct Leap {
+    ahead: u32,
+    behind: u32,
+    part: u32,
+    rise: i64,
+}
+
+impl Leap {
+    /// In so many steps.
+    #[inline(always)]
+    pub(crate) fn new(line: Sightline, count: u32) -> Self
+        requires line { IsSightline line }
+        requires some { 0 < steps_of line }
+        requires count { count < 4096 }
+        ensures { IsLeap line count result }
+    {
+        let aside = line.side.gain(line.steps(), count);
+        Leap {
+            ahead: aside.ahead,
+            behind: aside.behind,
+            part: aside.part,
+            rise: line.to_level * count as i64 - line.from_level * count as i64,
+        }
+    }
+
+    /// Where a line is after it, from one of its steps on.
+    #[inline(always)]
+    pub(crate) fn from(self, line: Sightline, count: u32, first: u32, start: Step) -> Step
+        requires line { IsSightline line }
+        requires leap { IsLeap line count self }
+        requires range { first + count ≤ steps_of line }
+        requires start { IsAt line first start }
+        ensures { IsAt line (first + count) result }
+    {
+        let steps = line.steps();
+        let whole = start.whole + self.ahead;
+        let part = start.part + self.part;
+        let sight = start.sight + self.rise;
+        if part < steps {
+            return Step {
+                whole: whole - self.behind,
+                part,
+                sight,
+            };
+        }
+        Step {
+            whole: whole + 1 - self.behind,
+            part: part - steps,
+            sight,
+        }
+    }
+}
+
+/// At most 4,096 * 10^15 either way, so that two of them can be added.
+#[inline(always)]
+pub(crate) fn weighed(height: Height, weight: u32) -> i64
+    requires weight { weight ≤ 4096 }
+    requires height { IsHeight height }
+    ensures value { result ≡ pos weight *ℤ height }
+    ensures small { unsigned_abs result ≤ 4096 * 10 ^ 15 }
+{
+    weight as i64 * height
+}
+
+/// Whether the ground between a near cell and the far one beside it is above the sight.
+#[inline(always)]
+fn is_higher(
+    cells: &[Cell],
+    index: usize,
+    beside: usize,
+    near_weight: u32,
+    far_weight: u32,
+    sight: i64,
+) -> bool
+    requires heights { AreHeights cells.now }
+    requires near { index < length cells.now }
+    requires far { 0 < far_weight → index + beside < length cells.now }
+    requires weights { (0 < near_weight) × (near_weight + far_weight ≤ 4096) }
+    ensures { result ≡ is_above (slice_index_or cells.now index None) near_weight
+        (slice_index_or cells.now (index + beside) None) far_weight sight }
+{
+    let Some(near) = cells[index].height() else {
+        return false;
+    };
+    if far_weight == 0 {
+        return weighed(near, near_weight) > sight;
+    }
+    let Some(far) = cells[index + beside].height() else {
+        return false;
+    };
+    weighed(near, near_weight) + weighed(far, far_weight) > sight
+}
+
+/// How a walk goes on: by how much the index of the near cell and the part past it grow at each of
+/// its steps.
+#[derive(Clone, Copy)]
+pub struct Pace {
+    steps: u32,
+    ahead: usize,
+    behind: usize,
+    beside: usize,
+    part: u32,
+}
+
+impl Pace {
+    /// Of a walk along a line.
+    #[inline(always)]
+    pub(crate) fn new(line: Sightline) -> Self
+        requires line { IsSightline line }
+        requires some { 0 < steps_of line }
+        ensures { IsPace line.lead line.side (steps_of line) result }
+    {
+        let steps = line.steps();
+        let along = line.lead.whole_gain();
+        let across = line.side.gain(steps, 1);
+        Pace {
+            steps,
+            ahead: along.ahead as usize * line.lead.stride
+                + across.ahead as usize * line.side.stride,
+            behind: along.behind as usize * line.lead.stride
+                + across.behind as usize * line.side.stride,
+            beside: line.side.stride,
+            part: across.part,
+        }
+    }
+
+    /// The index and the part at the next crossing.
+    #[inline(always)]
+    fn next(self, index: usize, part: u32) -> (usize, u32)
+        requires parts { (part < self.steps) × (self.part < self.steps) × (self.steps ≤ 4096) }
+        requires room { index + self.ahead + self.beside < 2 ^ 64 }
+        requires stays { part + self.part < self.steps → self.behind ≤ index + self.ahead }
+        requires passes { self.steps ≤ part + self.part → self.behind ≤ index + self.ahead + self.beside }
+        ensures stays { part + self.part < self.steps
+            → (result.0 + self.behind ≡ index + self.ahead) × (result.1 ≡ part + self.part) }
+        ensures passes { self.steps ≤ part + self.part
+            → (result.0 + self.behind ≡ index + self.ahead + self.beside)
+            × (result.1 + self.steps ≡ part + self.part) }
+    {
+        let sum = part + self.part;
+        if sum < self.steps {
+            (index + self.ahead - self.behind, sum)
+        } else {
+            (
+                index + self.ahead + self.beside - self.behind,
+                sum - self.steps,
+            )
+        }
+    }
+}
+
+/// The first step from `first` on and before `end` at which the ground is above the line, where the line is
+/// at `start` at the first. None where it is so at none of them.
+#[inline(always)]
+pub(crate) fn blocking_step(
+    cells: &[Cell],
+    line: Sightline,
+    pace: Pace,
+    start: Step,
+    first: u32,
+    end: u32,
+) -> Option<u32>
+    requires heights { AreHeights cells.now }
+    requires line { IsSightline line }
+    requires over { IsOver cells.now line.lead line.side }
+    requires pace { IsPace line.lead line.side (steps_of line) pace }
+    requires start { IsAt line first start }
+    requires range { (first < end) × (end ≤ steps_of line) }
+    ensures answer { is_some result ≡ step_range_blocks cells.now line first (end - first) }
+    ensures range { IfSome result (λ k. (first ≤ k) × (k < end)) }
+{
+    let rise = line.to_level - line.from_level;
+    let mut index = line.lead_at(first) as usize * line.lead.stride
+        + start.whole as usize * line.side.stride;
+    let mut part = start.part;
+    let mut sight = start.sight;
+    for step in first..end {
+        if is_higher(
+            cells,
+            index,
+            line.side.stride,
+            pace.steps - part,
+            part,
+            sight,
+        ) {
+            return Some(step);
+        }
+        (index, part) = pace.next(index, part);
+        sight += rise;
+    }
+    None
+}
+
+/// Whether the ground is above the line at a step between its two ends.
+#[inline(always)]
+pub(crate) fn is_blocked(cells: &[Cell], line: Sightline) -> bool
+    requires heights { AreHeights cells.now }
+    requires line { IsSightline line }
+    requires over { IsOver cells.now line.lead line.side }
+    ensures { result ≡ walk_blocks cells.now line }
+{
+    let steps = line.steps();
+    if steps < 2 {
+        return false;
+    }
+    blocking_step(cells, line, Pace::new(line), line.at(1), 1, steps).is_some()
+}
