@@ -97,23 +97,6 @@ fn is_above_blocks(
     are_low(tops, first, strides.side, count, line.steps(), sight)
 }
 
-/// Where a line is at the end of a run of steps, of which a whole block is passed in one leap.
-#[inline(always)]
-fn at_end(line: Sightline, leap: Leap, first: u32, start: Step, end: u32) -> Step
-    requires line { IsSightline line }
-    requires some { 0 < steps_of line }
-    requires leap { IsLeap line 16 leap }
-    requires start { IsAt line first start }
-    requires range { (first ≤ end) × (end ≤ steps_of line) }
-    ensures { IsAt line end result }
-{
-    if end - first == NEAR_BLOCK {
-        leap.from(line, NEAR_BLOCK, first, start)
-    } else {
-        line.at(end)
-    }
-}
-
 /// As [`blocking_step`], by passing over the steps at which the line is above the blocks of cells whose greatest heights are
 /// `tops`. How many crossings are asked about is added to `asked`.
 #[inline(always)]
@@ -145,7 +128,7 @@ fn blocking_step_past_near_blocks(
     let mut here = start;
     while step < end {
         let past = block_end(line, NEAR_BLOCK, step, end);
-        let next = at_end(line, leap, step, here, past);
+        let next = leap.to(line, step, here, past);
         let block = line.lead_at(step) / NEAR_BLOCK;
         if !is_above_blocks(tops, NEAR_BLOCK, strides, line, block, here, next) {
             *asked = asked.saturating_add(past - step);
@@ -207,7 +190,7 @@ pub(crate) fn blocking_step_past_blocks(
     if let Some(step) = blocking_step(cells, line, pace, begin, 1, first) {
         return Some(step);
     }
-    let leap = Leap::new(line, NEAR_BLOCK);
+    let leap = Leap::new(line);
     let mut start = line.at(first);
     while first < steps {
         if is_clear(tops.peak, line, start) {

@@ -5,6 +5,7 @@ ghost use Rattle.terrain.specs.Raster.{IsHeight};
 ghost use Rattle.sightlines.specs.Walk.{is_above, steps_of, whole_at, AreHeights, IsSightline, IsAt, IsOver, step_range_blocks, walk_blocks};
 ghost use Rattle.sightlines.specs.Pace.{IsPace, IsLeap, Gains};
 
+use crate::tops::NEAR_BLOCK;
 use terrain::{Cell, Height};
 
 /// One coordinate of a line of sight: its two ends, and how far apart neighbours along it stand
@@ -141,8 +142,8 @@ impl Axis {
     }
 }
 
-/// How far a line gets in some of its steps: whole cells ahead or behind at the side and some parts of a cell, and how
-/// much the sight rises.
+/// How far a line gets in as many steps as a near block has cells: whole cells ahead or behind at the side and some parts
+/// of a cell, and how much the sight rises.
 #[derive(Clone, Copy)]
 pub struct Leap {
     ahead: u32,
@@ -152,32 +153,35 @@ pub struct Leap {
 }
 
 impl Leap {
-    /// In so many steps.
+    /// Along a line.
     #[inline(always)]
-    pub(crate) fn new(line: Sightline, count: u32) -> Self
+    pub(crate) fn new(line: Sightline) -> Self
         requires line { IsSightline line }
         requires some { 0 < steps_of line }
-        requires count { count < 4096 }
-        ensures { IsLeap line count result }
+        ensures { IsLeap line 16 result }
     {
-        let aside = line.side.gain(line.steps(), count);
+        let aside = line.side.gain(line.steps(), NEAR_BLOCK);
         Leap {
             ahead: aside.ahead,
             behind: aside.behind,
             part: aside.part,
-            rise: line.to_level * count as i64 - line.from_level * count as i64,
+            rise: line.to_level * NEAR_BLOCK as i64 - line.from_level * NEAR_BLOCK as i64,
         }
     }
 
-    /// Where a line is after it, from one of its steps on.
+    /// Where a line is at the end of a run of steps. Over a whole near block it takes additions alone.
     #[inline(always)]
-    pub(crate) fn from(self, line: Sightline, count: u32, first: u32, start: Step) -> Step
+    pub(crate) fn to(self, line: Sightline, first: u32, start: Step, end: u32) -> Step
         requires line { IsSightline line }
-        requires leap { IsLeap line count self }
-        requires range { first + count ≤ steps_of line }
+        requires some { 0 < steps_of line }
+        requires leap { IsLeap line 16 self }
         requires start { IsAt line first start }
-        ensures { IsAt line (first + count) result }
+        requires range { (first ≤ end) × (end ≤ steps_of line) }
+        ensures { IsAt line end result }
     {
+        if end - first != NEAR_BLOCK {
+            return line.at(end);
+        }
         let steps = line.steps();
         let whole = start.whole + self.ahead;
         let part = start.part + self.part;

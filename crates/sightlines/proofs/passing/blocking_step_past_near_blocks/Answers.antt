@@ -19,7 +19,7 @@ is_above_blocks-requires-clause-start c =
 pub is_above_blocks-requires-clause-end : goal.is_above_blocks-requires-clause-end
 is_above_blocks-requires-clause-end c =
     let line = c.args.line in
-    omega (arith, c.at_end-next.ensures.whole, whole_le line.side (steps_of line) c.block_end-past.result (omega arith) (omega arith))
+    omega (arith, c.to-next.ensures.whole, whole_le line.side (steps_of line) c.block_end-past.result (omega arith) (omega arith))
 
 pub returns-in-Some-clause-answer : goal.returns-in-Some-clause-answer
 returns-in-Some-clause-answer c =
@@ -40,7 +40,7 @@ loop-step-preserved-in_default c =
     record {
       begun = omega arith;
       within = omega arith;
-      start = c.at_end-next.ensures;
+      start = c.to-next.ensures;
       clear = rw all (none_joined p first (step - first) step (past - step) (omega arith) c.loop-step.invariant.clear (sym c.blocking_step.ensures.answer ∙ ap is_some c.in_default.is));
     }
 
@@ -55,12 +55,12 @@ loop-step-preserved c =
     let all : past - first ≡ (step - first) + (past - step) = omega arith in
     let here : whole_at line.lead (steps_of line) step / 16 ≡ block = ap (λ x. x / 16) (sym c.lead_at-block.ensures) in
     let low = OnTrue_at c.if-not-is_above_blocks.false c.is_above_blocks.ensures in
-    let none = none_from p step (past - step) (λ k above below. step_passed 16 c.args.cells.now c.args.tops.now line c.args.strides step past k block c.loop-step.here c.at_end-next.result
-    (omega arith) above (omega arith) (omega arith) c.loop-step.invariant.start c.at_end-next.ensures c.requires.tops
+    let none = none_from p step (past - step) (λ k above below. step_passed 16 c.args.cells.now c.args.tops.now line c.args.strides step past k block c.loop-step.here c.to-next.result
+    (omega arith) above (omega arith) (omega arith) c.loop-step.invariant.start c.to-next.ensures c.requires.tops
     (c.block_end-past.ensures.same k above (omega arith) ∙ here) low) in
     record {
       begun = omega arith;
       within = omega arith;
-      start = c.at_end-next.ensures;
+      start = c.to-next.ensures;
       clear = rw all (none_joined p first (step - first) step (past - step) (omega arith) c.loop-step.invariant.clear none);
     }

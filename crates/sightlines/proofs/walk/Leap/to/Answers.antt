@@ -1,0 +1,66 @@
+use Rattle.std.proofs.Common.{arith, ◌≡◌, ◌+◌}
+use Rattle.sightlines.specs.Walk.{steps_of}
+use Rattle.sightlines.proofs.Levels.{leapt_level}
+use Rattle.sightlines.proofs.Steps.{whole_le}
+use Rattle.sightlines.proofs.Toward.{step_stays, step_passes}
+use Rattle.sightlines.proofs.walk.Leap.to.Goals as goal
+
+pub overflow_add-whole : goal.overflow_add-whole
+overflow_add-whole c =
+    let line = c.args.line in
+    omega (arith, c.requires.leap.gains.few_ahead, c.requires.start.whole, whole_le line.side (steps_of line) c.args.first (omega arith) (omega arith))
+
+pub overflow_add-sight : goal.overflow_add-sight
+overflow_add-sight c =
+    let line = c.args.line in
+    (leapt_level line.from_level line.to_level c.args.start.sight c.args.self.rise (steps_of line) c.args.first 16
+    c.requires.line.from_level c.requires.line.to_level (omega arith) (omega arith) c.requires.start.sight c.requires.leap.rise).0
+
+pub overflow_sub-result : goal.overflow_sub-result
+overflow_sub-result c =
+    let line = c.args.line in
+    let is = step_stays line.side.from line.side.to (steps_of line) c.args.first 16 c.args.self.ahead c.args.self.behind c.args.self.part (omega arith) c.requires.leap.gains.sum
+    (omega (arith, c.requires.start.part)) in
+    omega (arith, is.0, c.requires.start.whole)
+
+pub returns-then-part-steps : goal.returns-then-part-steps
+returns-then-part-steps c =
+    let line = c.args.line in
+    let end : c.args.first + 16 ≡ c.args.end = omega arith in
+    let is = rw end at (step_stays line.side.from line.side.to (steps_of line) c.args.first 16 c.args.self.ahead c.args.self.behind c.args.self.part (omega arith) c.requires.leap.gains.sum
+    (omega (arith, c.requires.start.part))) in
+    let level = rw end at (leapt_level line.from_level line.to_level c.args.start.sight c.args.self.rise (steps_of line) c.args.first 16
+    c.requires.line.from_level c.requires.line.to_level (omega arith) (omega arith) c.requires.start.sight c.requires.leap.rise) in
+    record {
+      whole = omega (arith, is.0, c.requires.start.whole);
+      part = omega (arith, is.1, c.requires.start.part);
+      sight = level.1;
+    }
+
+pub overflow_add-result : goal.overflow_add-result
+overflow_add-result c =
+    let line = c.args.line in
+    omega (arith, c.requires.leap.gains.few_ahead, c.requires.start.whole, whole_le line.side (steps_of line) c.args.first (omega arith) (omega arith))
+
+pub overflow_sub-result-2 : goal.overflow_sub-result-2
+overflow_sub-result-2 c =
+    let line = c.args.line in
+    let gains = c.requires.leap.gains in
+    let is = step_passes line.side.from line.side.to (steps_of line) c.args.first 16 c.args.self.ahead c.args.self.behind c.args.self.part (omega arith) (omega arith) gains.sum gains.below
+    (omega (arith, c.requires.start.part)) in
+    omega (arith, is.0, c.requires.start.whole)
+
+pub returns : goal.returns
+returns c =
+    let line = c.args.line in
+    let gains = c.requires.leap.gains in
+    let end : c.args.first + 16 ≡ c.args.end = omega arith in
+    let is = rw end at (step_passes line.side.from line.side.to (steps_of line) c.args.first 16 c.args.self.ahead c.args.self.behind c.args.self.part (omega arith) (omega arith) gains.sum gains.below
+    (omega (arith, c.requires.start.part))) in
+    let level = rw end at (leapt_level line.from_level line.to_level c.args.start.sight c.args.self.rise (steps_of line) c.args.first 16
+    c.requires.line.from_level c.requires.line.to_level (omega arith) (omega arith) c.requires.start.sight c.requires.leap.rise) in
+    record {
+      whole = omega (arith, is.0, c.requires.start.whole);
+      part = omega (arith, is.1, c.requires.start.part);
+      sight = level.1;
+    }
