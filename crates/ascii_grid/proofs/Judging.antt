@@ -6,6 +6,7 @@ use Rattle.std.specs.List.{list_any, list_all}
 use Rattle.std.proofs.lemmas.Bool.{and_parts, eq-eqb}
 use Rattle.std.proofs.lemmas.List.{append-nil}
 use Rattle.std.proofs.lemmas.List.Folds.{find-append, list_all-append}
+use Rattle.terrain.proofs.Options.{none_from_is_some}
 use Rattle.terrain.specs.Words.{Word}
 use Rattle.terrain.specs.Decimal.{number_of}
 use Rattle.ascii_grid.specs.Header.{fills, slot_of, slot_number, begins_with_letter, header_words, height_words, pairs, key_left, header_fault, key_fault, value_fault, missing_fault}
@@ -34,10 +35,6 @@ option_or-assoc (Some x) p q = refl
 pub is_some-option_map : {X Y : Type 0} (f : X → Y) (o : Option X) → is_some (option_map f o) ≡ is_some o
 is_some-option_map f None = refl
 is_some-option_map f (Some x) = refl
-
-pub none_from_is_some : {X : Type 0} (o : Option X) → is_some o ≡ false → o ≡ None
-none_from_is_some None h = refl
-none_from_is_some (Some x) h = cc
 
 -- where no fault is chosen
 pub or_none : {X : Type 0} (o p : Option X) → option_or o p ≡ None → (o ≡ None) × (p ≡ None)

@@ -17,11 +17,6 @@ are_heights t is i h at = elim (cases_lt i (length t.cells)) [
   | inr past ↦ let none = get_or_past t.cells i None past in absurd (cc)
 ]
 
-pub height_is_height : (t : Terrain) (p : Place) (h : ℤ) → IsTerrain t → height_at t p ≡ Some h → IsHeight h
-height_is_height t p h is at =
-    let inside = inside_from_entry t.cols t.rows t.cells p h at in
-    are_heights t is (index_of t.cols p) h (sym (entry-inside t.cols t.rows t.cells p inside.0 inside.1) ∙ at)
-
 -- the ground of a cell, 0 where it has none
 pub ground_is_height : (height : Option ℤ) → ((h : ℤ) → height ≡ Some h → IsHeight h) → IsHeight (unwrap_or height (pos 0))
 ground_is_height None are = (omega (arith, ints), omega (arith, ints))

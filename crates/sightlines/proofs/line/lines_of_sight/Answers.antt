@@ -4,19 +4,20 @@ use Rattle.std.proofs.lemmas.Int.{to_z-of_z}
 use Rattle.terrain.specs.Neighbours.{height_at}
 use Rattle.sightlines.specs.Sight.{is_near, place_of}
 use Rattle.sightlines.specs.Walk.{IsLevel}
-use Rattle.sightlines.proofs.Heights.{kept, height_is_height}
+use Rattle.terrain.proofs.Heights.{height_in}
+use Rattle.sightlines.proofs.Heights.{kept}
 use Rattle.sightlines.proofs.Seen.{lines_are}
 use Rattle.sightlines.proofs.line.lines_of_sight.Goals as goal
 
 pub level-eye_level-requires-clause-height : goal.level-eye_level-requires-clause-height
 level-eye_level-requires-clause-height c =
     let ground = c.in_ok-eye_ground.eye_ground in
-    kept ground (height_is_height c.args.grid.now.terrain (place_of c.args.observer.now) ground c.cols-stride.ensures.lawful.terrain (sym c.at.ensures ∙ c.in_ok-eye_ground.was))
+    kept ground (height_in c.args.grid.now.terrain (place_of c.args.observer.now) ground c.cols-stride.ensures.lawful.terrain (sym c.at.ensures ∙ c.in_ok-eye_ground.was))
 
 pub level-target_level-requires-clause-height : goal.level-target_level-requires-clause-height
 level-target_level-requires-clause-height c =
     let ground = c.in_ok-target_ground.target_ground in
-    kept ground (height_is_height c.args.grid.now.terrain c.args.target ground c.cols-stride.ensures.lawful.terrain (sym c.at-2.ensures ∙ c.in_ok-target_ground.was))
+    kept ground (height_in c.args.grid.now.terrain c.args.target ground c.cols-stride.ensures.lawful.terrain (sym c.at-2.ensures ∙ c.in_ok-target_ground.was))
 
 pub returns : goal.returns
 returns c =

@@ -1,5 +1,5 @@
 use Rattle.std.proofs.Common.{arith, rules, refl, sym, ap, ◌∙◌, ◌≡◌, ◌+◌, pos, ◌≤ℤ◌, get_or, None, Some, w64, FitsSigned, subst, true, false, Bool, ◌&&◌, ℕ, ℤ, int_eq, eqb}
-use Rattle.std.proofs.lemmas.Bool.{OnTrue_from, eqb-true}
+use Rattle.std.proofs.lemmas.Bool.{OnTrue_from, and_parts, eqb-true}
 use Rattle.std.proofs.lemmas.Int.{ints, to_z-of_z}
 use Rattle.horizons.specs.declared.target.Target.{Target}
 use Rattle.horizons.specs.declared.ramp.Ramp.{Ramp}
@@ -23,17 +23,13 @@ returns-clause-inside c =
     let cell : IsCell c.args.self c.args.line aside c.in-Some.index = rw back at c.in-Some.ensures in
     OnTrue_from c.eq.result (aside ≤ℤ pos 4096) (λ yes. omega (arith, ints, cell.1, cell.2, c.requires.family))
 
-both : (a b : Bool) → (a && b) ≡ true → (a ≡ true) × (b ≡ true)
-both true b e = (refl, e)
-both false b e = cc
-
 ramp_is : (a b c d : ℤ) (m n : ℕ) → a ≡ b → c ≡ d → m ≡ n → (let r : Ramp = record { gain = a; level = c; lines = m } in r) ≡ record { gain = b; level = d; lines = n }
 ramp_is a b c d m n p q r = rw (p, q, r) refl
 
 same_ramp : (r s : Ramp) → (int_eq r.gain s.gain && (int_eq r.level s.level && eqb r.lines s.lines)) ≡ true → r ≡ s
 same_ramp r s e =
-    let first = both (int_eq r.gain s.gain) (int_eq r.level s.level && eqb r.lines s.lines) e in
-    let rest = both (int_eq r.level s.level) (eqb r.lines s.lines) first.1 in
+    let first = and_parts (int_eq r.gain s.gain) (int_eq r.level s.level && eqb r.lines s.lines) e in
+    let rest = and_parts (int_eq r.level s.level) (eqb r.lines s.lines) first.1 in
     ramp_is r.gain s.gain r.level s.level r.lines s.lines (int_same r.gain s.gain first.0) (int_same r.level s.level rest.0) (eqb-true r.lines s.lines rest.1)
   where
     int_same : (x y : ℤ) → int_eq x y ≡ true → x ≡ y
