@@ -1,8 +1,10 @@
 -- What the floods say of cells, and the joins of cells amid a tile.
-use Rattle.std.proofs.Common.{◌≡◌, ◌↔◌, Bool, IsTrue, is_none, ◌⊎◌, ℕ, ◌+◌, ◌-◌, ◌*◌, ◌<◌, ◌≤◌, inl, inr, ℤ, true, List, length, get_or, Option, None, Some, ◌∙◌, sym, ap, subst, refl, arith, ◌/◌, ◌%◌}
-use Rattle.std.specs.Prelude.{slice_get, option_and_then, slice_index_or, MatchOption}
-use Rattle.std.proofs.lemmas.Bool.{cond-false, cases_Bool, cases_lt}
-use Rattle.std.proofs.lemmas.List.{get_or-map}
+use Rattle.std.proofs.Common.{◌≡◌, ◌==◌, ◌↔◌, Bool, IsTrue, is_none, ◌⊎◌, ℕ, ◌+◌, ◌-◌, ◌*◌, ◌<◌, ◌≤◌, inl, inr, ℤ, true, List, length, get_or, Option, None, Some, ◌∙◌, sym, ap, subst, refl, arith, ◌/◌, ◌%◌}
+use Rattle.std.specs.Prelude.{slice_get, option_and_then, slice_index_or, MatchOption, IfSome}
+use Rattle.std.specs.List.{All}
+use Rattle.std.proofs.lemmas.Bool.{cond-false, cases_Bool, cases_lt, eqb-true}
+use Rattle.std.proofs.lemmas.List.{get_or-map, get_or_default, length-map}
+use Rattle.std.proofs.lemmas.List.Folds.{Any-from_list_any}
 use Rattle.std.proofs.lemmas.Option.{MatchOption-at_some, MatchOption-at_none, same_Some, slice_get_within}
 use Rattle.terrain.specs.Neighbours.{index_of}
 use Rattle.terrain.specs.declared.place.Place.{Place}
@@ -10,15 +12,42 @@ use Rattle.terrain.proofs.Places.{same_place}
 use Rattle.tiles.specs.declared.bounds.Bounds.{Bounds}
 use Rattle.tiles.specs.Cutting.{Cutting, IsCutting, IsWithin, IsInTile, IsInBounds, tile_count, tile_of_place, bounds_of, is_in_bounds, index_in}
 use Rattle.tiles.proofs.Cut.{in_tile, in_bounds_parts}
-use Rattle.fill.specs.TileFlood.{Flood, level_in, label_in, AreEqualAfter, cells_after, IsInner}
-use Rattle.fill.specs.Labels.{labels_by}
-use Rattle.fill.specs.Gathering.{Fit, mark_of, mark_among, Adds, mark_with, joins_of, AddsAfter, AddsCovered}
+use Rattle.cell_floods.specs.TileFlood.{Flood, IsFlood, level_in, label_in}
+use Rattle.cell_floods.specs.Labels.{labels_by, IsTable}
+use Rattle.fill.specs.Gathering.{Fit, LabelsInside, IsInner, cells_after, AreEqualAfter, mark_of, mark_among, Adds, mark_with, joins_of, AddsAfter, AddsCovered}
 use Rattle.fill.specs.declared.spills.Join.{Join}
 use Rattle.fill.specs.declared.marks.Mark.{Mark}
 use Rattle.std.proofs.lemmas.Nat.{mul-le}
 use Rattle.floods.proofs.Steps.{seen}
 use Rattle.fill.proofs.Adding.{covered_itself, joins_of_is, HasAdded, after_way, none_added, added_more, all_added, no_mark_adds}
 use Rattle.tiles.proofs.TileOrder.{bounds_from_entry, entry_in-inside}
+
+-- each place of the table of a flood whose labels lie in the grid lies in it
+pub places_within : (c : Cutting) (f : Flood) (places : List (Option Place)) (cells : List ℕ) → f.labels ≡ labels_by places cells → IsTable places cells → LabelsInside c f → (k : ℕ) (p : Place) → get_or places k None ≡ Some p → IsWithin c p
+places_within c f places cells are table inside k p e =
+    let held = Any-from_list_any (λ n. n == k) cells (table.used k p e) in
+    inside held.0 p (
+    ap (λ (z : List (Option Place)). get_or z held.0 None) are
+    ∙ get_or-map (λ n. get_or places n None) cells held.0 held.1 None held.2 ∙ ap (λ n. get_or places n None) (held.3 ∙ eqb-true _ _ held.4) ∙ e
+    )
+
+pub all_within : (c : Cutting) (f : Flood) (places : List (Option Place)) (cells : List ℕ) → f.labels ≡ labels_by places cells → IsTable places cells → LabelsInside c f → All (λ (o : Option Place). IfSome o (IsWithin c)) places
+all_within c f places cells are table inside k d low =
+    subst (λ (o : Option Place). IfSome o (IsWithin c)) (sym (get_or_default places k d None low)) (elim (seen (get_or places k None)) [
+      | inl none ↦ subst (λ (o : Option Place). IfSome o (IsWithin c)) (sym none) tt
+      | inr found ↦ subst (λ (o : Option Place). IfSome o (IsWithin c)) (sym found.1) (places_within c f places cells are table inside k found.0 found.1)
+    ])
+
+-- there are as many entries as levels
+pub cells_size : (f : Flood) (places : List (Option Place)) (cells : List ℕ) → f.labels ≡ labels_by places cells → IsFlood f → length cells ≡ length f.levels
+cells_size f places cells are lawful =
+    sym (length-map cells (λ k. get_or places k None)) ∙ ap length (sym are) ∙ lawful.labels_size ∙ sym lawful.levels_size
+
+-- cells with one index have one label
+pub same_label : (f : Flood) (places : List (Option Place)) (cells : List ℕ) (i j : ℕ) → f.labels ≡ labels_by places cells → i < length cells → j < length cells → get_or cells i 0 ≡ get_or cells j 0 → get_or f.labels i None ≡ get_or f.labels j None
+same_label f places cells i j are i_low j_low same = label i i_low ∙ ap (λ n. get_or places n None) same ∙ sym (label j j_low) where
+  label : (k : ℕ) → k < length cells → get_or f.labels k None ≡ get_or places (get_or cells k 0) None
+  label k low = ap (λ (z : List (Option Place)). get_or z k None) are ∙ get_or-map (λ n. get_or places n None) cells k 0 None low
 
 -- a label is an entry
 pub label_entry : (f : Flood) (p label : Place) → label_in f p ≡ Some label → (k : ℕ) × (get_or f.labels k None ≡ Some label)
@@ -68,9 +97,9 @@ mark_outside c floods p h fit outside = elim (seen (slice_get floods (tile_of_pl
     | inr out ↦ cond-false _ _ _ out
   ]
 
--- a place that a flood holds is of its tile
-pub held : (c : Cutting) (floods : List Flood) (tile : ℕ) (f : Flood) (p : Place) → IsCutting c → Fit c floods → tile < tile_count c → slice_get floods tile ≡ Some f → is_in_bounds f.bounds p ≡ true → IsInTile c tile p
-held c floods tile f p h fit below e inside = in_tile c tile p h below (subst (λ b. IsInBounds b p) (fit.bounds tile f e) (in_bounds_parts f.bounds p inside))
+-- a place in the bounds of a flood is of its tile
+pub held : (c : Cutting) (floods : List Flood) (tile : ℕ) (f : Flood) (p : Place) (b : Bounds) → IsCutting c → Fit c floods → tile < tile_count c → slice_get floods tile ≡ Some f → b ≡ f.bounds → is_in_bounds b p ≡ true → IsInTile c tile p
+held c floods tile f p b h fit below e same inside = in_tile c tile p h below (subst (λ b. IsInBounds b p) (same ∙ fit.bounds tile f e) (in_bounds_parts b p inside))
 
 -- an entry of a flood is the mark of its cell
 pub entry_mark : (c : Cutting) (floods : List Flood) (tile : ℕ) (f : Flood) (q : Place) (i : ℕ) → IsCutting c → tile < tile_count c → slice_get floods tile ≡ Some f → f.bounds ≡ bounds_of c tile → IsInBounds (bounds_of c tile) q → i ≡ index_in (bounds_of c tile) q → mark_among c floods q ≡ mark_with c.cols f i
@@ -109,13 +138,10 @@ equal_after_adds cols f sources places cells i width now are inside e = elim (se
     south_east = near found.0 found.1 3 (omega arith) (omega arith);
   })
 ] where
-  label : (k : ℕ) → k < length cells → get_or f.labels k None ≡ get_or places (get_or cells k 0) None
-  label k low = ap (λ (z : List (Option Place)). get_or z k None) are ∙ get_or-map (λ n. get_or places n None) cells k 0 None low
-
   near : (from : Mark) → mark_with cols f i ≡ Some from → (way : ℕ) → way < 4 → get_or (cells_after width i) way 0 < length cells → AddsCovered now (joins_of sources from (mark_with cols f (get_or (cells_after width i) way 0))) now
   near from is way few low =
       let j = get_or (cells_after width i) way 0 in
-      same_label_adds cols f sources i j from now is (label i (omega (arith, inside)) ∙ ap (λ n. get_or places n None) (sym (e way 0 few)) ∙ sym (label j low))
+      same_label_adds cols f sources i j from now is (same_label f places cells i j are (omega (arith, inside)) low (sym (e way 0 few)))
 
 -- the joins of a cell that is not on the rim with the four after it have been added
 pub inner_adds : (c : Cutting) (floods : List Flood) (sources : List (Option ℤ)) (tile : ℕ) (f : Flood) (p : Place) (i : ℕ) (from : Mark) (old new : List Join) → IsCutting c → tile < tile_count c → slice_get floods tile ≡ Some f → f.bounds ≡ bounds_of c tile → IsInner (bounds_of c tile) p → i ≡ index_in (bounds_of c tile) p → mark_with c.cols f i ≡ Some from → AddsAfter c.cols f sources from i (bounds_of c tile).cols old new → Adds c floods sources tile (λ q. q ≡ p) old new

@@ -14,7 +14,7 @@ use Rattle.tiles.specs.Cutting.{Cutting, IsCutting, IsWithin, IsInTile, IsInBoun
 use Rattle.tiles.proofs.Cut.{tile_of_place_below, in_bounds}
 use Rattle.tiles.specs.declared.bounds.Bounds.{Bounds}
 use Rattle.tiles.proofs.TileOrder.{place_in_tile, index_in-place_in, entry_in-inside}
-use Rattle.fill.specs.TileFlood.{Flood, IsTileFlood, label_in}
+use Rattle.cell_floods.specs.TileFlood.{Flood, IsTileFlood, label_in}
 use Rattle.fill.specs.Spills.{AreFloods, level_among, label_among, Carries, IsPass, Graph, HasJoin, IsJoined, AreSpillSources, AreSourcesOf, IsGraphOf, IsOpenGraphOf}
 use Rattle.fill.specs.Gathering.{Fit, mark_among, Meets, Adds, IsAfter, IsBefore, AreRising, AreLowest, AreGathered, are_settled, turned, HasGapAmong, IsSpillSource, IsSourceEntry, AreSources, PutsSinks}
 use Rattle.fill.specs.Parts.{IsPart, AreParts, AddsTurned, IsGraph, joins_by_part, graph_of_parts, tile_of_node}
@@ -22,10 +22,10 @@ use Rattle.fill.specs.declared.parts.Part.{Part}
 use Rattle.fill.specs.declared.spills.Join.{Join}
 use Rattle.fill.specs.declared.marks.Mark.{Mark}
 use Rattle.floods.proofs.Steps.{seen, none_some, none_done}
-use Rattle.floods.specs.CellJoins.{max_comm}
+use Rattle.cell_floods.specs.CellJoins.{max_comm}
 use Rattle.floods.proofs.Heaps.{all_by_contains, not_some}
-use Rattle.floods.proofs.Windows.{data_is, height_is}
-use Rattle.fill.proofs.TileWindows.{data_within}
+use Rattle.cell_floods.proofs.Windows.{data_is, height_is}
+use Rattle.cell_floods.proofs.TileWindows.{data_within}
 use Rattle.drainage.proofs.Heights.{first_is_data, trans}
 use Rattle.drainage.proofs.Uniqueness.{between}
 use Rattle.fill.proofs.Rims.{HasTileLevel, has_tile_level, level_has_data, label_has_data, label_in_tile, source_level, end_label, list_there, among_is}

@@ -5,7 +5,7 @@ use Rattle.std.proofs.lemmas.Bool.{cases_eq, cases_lt}
 use Rattle.std.proofs.lemmas.Option.{slice_get_cases}
 use Rattle.std.proofs.lemmas.List.{get_or_append_left, get_or_push, length_push, get_or-map, get_or_past, length-map, get_or-drop, get_or-take, length-take-le, get_or_default}
 use Rattle.tiles.specs.Cutting.{Cutting, tile_count}
-use Rattle.fill.specs.TileFlood.{Flood}
+use Rattle.cell_floods.specs.TileFlood.{Flood}
 use Rattle.fill.specs.Parts.{IsPart, AreParts, IsFirstOf, joins_by_part, IsGraph, graph_of_parts, tile_of_node}
 use Rattle.fill.specs.declared.spills.Join.{Join}
 use Rattle.fill.proofs.Adding.{no_join}

@@ -1,7 +1,4 @@
--- the flood of a tile
-mod LabelTables
-mod TileWindows
-pub mod Where
+-- what the floods of tiles say of a cell
 mod CellMarks
 -- the spill graph
 mod Adding

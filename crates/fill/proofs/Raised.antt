@@ -22,13 +22,13 @@ use Rattle.tiles.specs.Cutting.{Cutting, IsCutting, IsInBounds, IsInTile, IsWith
 use Rattle.tiles.proofs.Cut.{in_bounds, in_tile, bounds_inside, tile_of_place_below}
 use Rattle.tiles.proofs.PutBack.{row_in_list}
 use Rattle.tiles.proofs.TileOrder.{tile_entry-in, entry_in-inside, index_in_below}
-use Rattle.fill.specs.TileFlood.{Flood, level_in, label_in, IsTileFlood, levels_where}
+use Rattle.cell_floods.specs.TileFlood.{Flood, level_in, label_in, IsTileFlood, levels_where}
 use Rattle.fill.specs.Spills.{AreFloods, level_among, AreSpillLevels, AreOpenLevels, spill_of, greater_of, raised_by, AreGreater, IsRaised, raised_among, AreRaisedBelow, IsFilledTile}
 use Rattle.fill.specs.RaisedTiles.{IsRaisedBy, IsRaisedTile}
 use Rattle.fill.specs.declared.rows.RaisedTile.{RaisedTile}
 use Rattle.fill.specs.Gathering.{Fit}
-use Rattle.fill.specs.Labels.{labels_by, IsTable}
-use Rattle.fill.proofs.Where.{levels_where-length, levels_where-at}
+use Rattle.cell_floods.specs.Labels.{labels_by, IsTable}
+use Rattle.cell_floods.proofs.Where.{levels_where-length, levels_where-at}
 use Rattle.fill.proofs.Gathered.{fit_of}
 use Rattle.floods.proofs.Steps.{seen, match_of, none_some}
 use Rattle.fill.proofs.Rims.{has_tile_level, among_is, rims, list_there}

@@ -18,12 +18,12 @@ use Rattle.tiles.specs.Cutting.{Cutting, IsCutting, IsWithin, tile_of_place, bou
 use Rattle.tiles.proofs.Cut.{in_bounds, tile_of_place_below}
 use Rattle.floods.specs.declared.net.Spill.{Spill}
 use Rattle.floods.specs.Walk.{IsWalk, crest as walk_crest, IsFlooded}
-use Rattle.fill.specs.TileFlood.{IsTileSource, IsTilePath, IsTileLevel, Flood, level_in, label_in}
-use Rattle.floods.specs.Cells.{last_of}
+use Rattle.cell_floods.specs.TileFlood.{IsTileSource, IsTilePath, IsTileLevel, Flood, level_in, label_in}
+use Rattle.cell_floods.specs.Cells.{last_of}
 use Rattle.fill.specs.Spills.{AreFloods, level_among, label_among, Carries, IsPass, Graph, HasJoin, source_in, IsOpenGraphOf}
 use Rattle.floods.proofs.Steps.{seen, none_some, le_of_same}
-use Rattle.floods.proofs.Windows.{data_is, height_is, path_in_window}
-use Rattle.fill.proofs.TileWindows.{data_within, tile_path}
+use Rattle.cell_floods.proofs.Windows.{data_is, height_is, path_in_window}
+use Rattle.cell_floods.proofs.TileWindows.{data_within, tile_path}
 
 -- The level and the label of a cell among the floods.
 pub record HasTileLevel (t : Terrain) (c : Cutting) (floods : List Flood) (p : Place) : Type 0 where

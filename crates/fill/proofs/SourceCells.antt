@@ -12,8 +12,8 @@ use Rattle.terrain.specs.declared.place.Place.{Place}
 use Rattle.terrain.proofs.Places.{index_injective, index_below}
 use Rattle.tiles.specs.Cutting.{Cutting, IsCutting, IsWithin, IsInTile, tile_count, tile_of_place}
 use Rattle.tiles.proofs.Cut.{tile_of_place_below}
-use Rattle.fill.specs.Labels.{labels_by}
-use Rattle.fill.specs.TileFlood.{Flood}
+use Rattle.cell_floods.specs.Labels.{labels_by}
+use Rattle.cell_floods.specs.TileFlood.{Flood}
 use Rattle.fill.specs.Gathering.{Fit, IsSpillSource, IsSourceEntry, IsSourceNode, AddsSources, PutsSources, AreSources, mark_among, IsSinkNode}
 use Rattle.fill.specs.declared.marks.Mark.{Mark}
 use Rattle.fill.specs.declared.sources.Source.{Source}
@@ -23,7 +23,7 @@ use Rattle.floods.proofs.Steps.{seen, none_some, none_done}
 use Rattle.fill.proofs.CellMarks.{label_entry, mark_parts, mark_from_tile}
 use Rattle.floods.proofs.Heaps.{all_by_contains}
 use Rattle.fill.specs.Spills.{level_among, label_among}
-use Rattle.floods.proofs.Windows.{data_is}
+use Rattle.cell_floods.proofs.Windows.{data_is}
 use Rattle.fill.proofs.Gathered.{marked_within}
 
 -- a place has one height as a source

@@ -1,16 +1,21 @@
 -- How the joins of a spill graph are gathered from the floods of the tiles.
 use Rattle.std.specs.Prelude.{◌≡◌, ◌≢◌, ℕ, ◌+◌, ◌-◌, ◌*◌, ◌/◌, ◌%◌, ◌<◌, ◌⊎◌, ◌==◌, ◌&&◌, false, if◌then◌else◌, is_some, Bool, ℤ, ◌≤ℤ◌, List, [], ◌∷◌, length, Option, None, Some, IsSome, MatchOption, slice_get, slice_index_or}
 use Rattle.std.specs.Int.{int_max}
-use Rattle.std.specs.List.{Contains}
+use Rattle.std.specs.List.{All, Contains}
 use Rattle.terrain.specs.Neighbours.{index_of, Touches, HasGapWhere}
 use Rattle.terrain.specs.declared.place.Place.{Place}
+use Rattle.tiles.specs.declared.bounds.Bounds.{Bounds}
 use Rattle.tiles.specs.Cutting.{Cutting, IsWithin, IsInTile, tile_count, tile_of_place, bounds_of}
-use Rattle.fill.specs.TileFlood.{Flood, LabelsInside}
+use Rattle.cell_floods.specs.TileFlood.{Flood}
 use Rattle.fill.specs.Spills.{level_among, label_among}
 use Rattle.fill.specs.declared.spills.Join.{Join}
 use Rattle.fill.specs.declared.marks.Mark.{Mark}
 use Rattle.fill.specs.declared.sources.Source.{Source}
 use Rattle.floods.specs.declared.net.Spill.{Spill}
+
+-- The labels are places of the grid.
+abbrev pub LabelsInside : Cutting → Flood → Type 0
+LabelsInside c f = (i : ℕ) (label : Place) → slice_index_or f.labels i None ≡ Some label → IsWithin c label
 
 -- The floods are of this cutting's tiles, and their labels lie in the grid, each in its own tile.
 pub record Fit (c : Cutting) (floods : List Flood) : Type 0 where
@@ -70,6 +75,18 @@ pub record AddsCovered (old added new : List Join) : Type 0 where
   pub kept : (j : Join) → Contains old j → Covered new j
   pub only : (j : Join) → Contains new j → Contains old j ⊎ Contains added j
   pub every : (j : Join) → Contains added j → Covered new j
+
+-- The place lies inside these bounds and not on their rim.
+abbrev pub IsInner : Bounds → Place → Type 0
+IsInner b p = (b.top < p.row) × (p.row + 1 < b.top + b.rows) × (b.left < p.col) × (p.col + 1 < b.left + b.cols)
+
+-- The four entries around this one that come after it in rows of this width.
+abbrev pub cells_after : ℕ → ℕ → List ℕ
+cells_after width i = (i + 1) ∷ (i + width - 1) ∷ (i + width) ∷ (i + width + 1) ∷ []
+
+-- The entry is equal to these four.
+abbrev pub AreEqualAfter : List ℕ → ℕ → ℕ → Type 0
+AreEqualAfter xs i width = All (λ k. slice_index_or xs k 0 ≡ slice_index_or xs i 0) (cells_after width i)
 
 -- The join of a cell with the one at an index has been added, where there is one.
 abbrev pub AddsNear : ℕ → Flood → List (Option ℤ) → Mark → ℕ → List Join → List Join → Type 0

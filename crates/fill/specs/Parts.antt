@@ -2,7 +2,7 @@
 use Rattle.std.specs.Prelude.{◌≡◌, ℕ, ◌*◌, ◌/◌, ◌%◌, ◌<◌, ◌≤◌, ◌⊎◌, ℤ, List, [], map, length, Option, slice_index_or}
 use Rattle.std.specs.List.{Contains, All, flat_map}
 use Rattle.tiles.specs.Cutting.{Cutting, IsInTile, tile_count, tile_of_place}
-use Rattle.fill.specs.TileFlood.{Flood}
+use Rattle.cell_floods.specs.TileFlood.{Flood}
 use Rattle.fill.specs.Gathering.{AreGathered, AreRising, AddsSources, turned}
 use Rattle.fill.specs.Spills.{Graph}
 use Rattle.fill.specs.declared.spills.Join.{Join}

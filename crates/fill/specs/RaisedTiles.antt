@@ -3,7 +3,7 @@ use Rattle.std.specs.Prelude.{◌≡◌, ℕ, ◌<◌, ℤ, pos, List, length, m
 use Rattle.std.specs.List.{All}
 use Rattle.terrain.specs.StoredCells.{cell_of}
 use Rattle.tiles.specs.Cutting.{Cutting}
-use Rattle.fill.specs.TileFlood.{Flood}
+use Rattle.cell_floods.specs.TileFlood.{Flood}
 use Rattle.fill.specs.Spills.{greater_of, raised_by, AreRaisedBelow}
 use Rattle.fill.specs.declared.rows.RaisedTile.{RaisedTile}
 

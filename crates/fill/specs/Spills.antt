@@ -8,7 +8,7 @@ use Rattle.terrain.specs.Neighbours.{height_at, index_of, IsNeighbour, IsEnd}
 use Rattle.drainage.specs.Filled.{IsFilledHeight}
 use Rattle.terrain.specs.declared.place.Place.{Place}
 use Rattle.tiles.specs.Cutting.{Cutting, IsCutting, IsWithin, Cuts, tile_count, tile_of_place, IsInTile, tile_entry, cell_count}
-use Rattle.fill.specs.TileFlood.{Flood, IsTileFlood, level_in, label_in}
+use Rattle.cell_floods.specs.TileFlood.{Flood, IsTileFlood, level_in, label_in}
 use Rattle.floods.specs.Walk.{IsFlooded}
 use Rattle.fill.specs.declared.spills.Join.{Join}
 

@@ -13,7 +13,7 @@ use crate::rows::{raised_grid, raised_tiles};
 use crate::source_heights::SourceHeights;
 use crate::sources::{TileSources, label_sources, tile_sources};
 use crate::spills::SpillGraph;
-use crate::tile::{TileFlood, tile_flood};
+use cell_floods::{TileFlood, tile_flood};
 use drainage::Filled;
 use std::alloc::Global;
 use std::sync::Wait;
@@ -35,7 +35,7 @@ impl<'a> Work for FloodTiles<'a> {
     type Out = TileFlood;
 
     ghost use Rattle.tiles.specs.Cutting.{tile_count};
-    ghost use Rattle.fill.specs.TileFlood.{IsTileFlood};
+    ghost use Rattle.cell_floods.specs.TileFlood.{IsTileFlood};
 
     ghost most = { λ w. tile_count w.tiling.now };
 

@@ -1,8 +1,7 @@
-//! Filled heights: the floods of tiles, the spill graph that joins them, and raising.
+//! Filled heights: the spill graph that joins the floods of tiles, and raising.
 #![tactic(auto)]
 
 mod filling;
-mod labels;
 mod marks;
 mod number_table;
 mod numbering;
@@ -13,12 +12,11 @@ mod rows;
 mod source_heights;
 mod sources;
 mod spills;
-mod tile;
 
+pub use cell_floods::{CellNet, TileFlood, filled_heights, tile_flood};
 pub use drainage::Filled;
 pub use filling::filled;
-pub use floods::{CellNet, Flooded, Net, Spill, filled_heights, flood};
+pub use floods::{Flooded, Net, Spill, flood};
 pub use parts::Part;
 pub use raising::raise;
 pub use spills::{Join, SpillGraph};
-pub use tile::{TileFlood, tile_flood};

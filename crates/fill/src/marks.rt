@@ -2,10 +2,10 @@
 ghost use Rattle.std.specs.Prelude.{◌≡◌, ◌*◌, ◌<◌, ℤ, ◌↔◌, IsTrue, Some, None, length, slice_get, IfSome, IfNone};
 ghost use Rattle.tiles.specs.Cutting.{IsCutting, IsWithin, tile_count, tile_of_place};
 ghost use Rattle.terrain.specs.Neighbours.{index_of};
-ghost use Rattle.fill.specs.TileFlood.{LabelsInside, level_in, label_in};
-ghost use Rattle.fill.specs.Gathering.{Fit, mark_of, mark_with, mark_among, HasGapAmong, IsSpillSource};
+ghost use Rattle.cell_floods.specs.TileFlood.{level_in, label_in};
+ghost use Rattle.fill.specs.Gathering.{Fit, LabelsInside, mark_of, mark_with, mark_among, HasGapAmong, IsSpillSource};
 
-use crate::tile::TileFlood;
+use cell_floods::TileFlood;
 use terrain::{Height, Place};
 use tiles::Tiling;
 
@@ -60,7 +60,7 @@ fn flood_at<'a>(tiling: &Tiling, floods: &'a [TileFlood], tile: u32, place: Plac
     ensures { slice_get floods.now (tile_of_place tiling.now place) ≡ Some result.now }
 {
     let flood = &floods[tile as usize];
-    if flood.holds(place) {
+    if flood.bounds().contains(place) {
         return flood;
     }
     &floods[tiling.tile_of(place) as usize]
@@ -96,7 +96,7 @@ fn is_gap(tiling: &Tiling, floods: &[TileFlood], tile: u32, place: Place) -> boo
     requires place { IsWithin tiling.now place }
     ensures { IsTrue result ↔ (mark_among tiling.now floods.now place ≡ None) }
 {
-    flood_at(tiling, floods, tile, place).is_gap(place)
+    flood_at(tiling, floods, tile, place).label(place).is_none()
 }
 
 /// Whether a place next to this one is outside the grid or has no data.

@@ -1,17 +1,16 @@
 // Where the labels of neighbouring cells meet.
-ghost use Rattle.std.specs.Prelude.{◌≡◌, ◌+◌, ◌*◌, ◌<◌, ◌≤◌, ◌∷◌, [], Some, MatchOption, IfOk, OnOk, length, IsTrue, ◌↔◌};
+ghost use Rattle.std.specs.Prelude.{◌≡◌, ◌+◌, ◌*◌, ◌<◌, ◌≤◌, ◌∷◌, [], None, Some, slice_index_or, MatchOption, IfOk, OnOk, length, IsTrue, ◌↔◌};
 ghost use Rattle.std.specs.Bool.{OnTrue, OnFalse};
 ghost use Rattle.std.specs.List.{All};
 ghost use Rattle.terrain.specs.declared.place.Place.{Place};
 ghost use Rattle.tiles.specs.Cutting.{IsCutting, IsWithin, IsInTile, bounds_of, tile_count};
-ghost use Rattle.fill.specs.TileFlood.{LabelsInside, AreEqualAfter, IsInner};
-ghost use Rattle.fill.specs.Gathering.{Fit, Adds, AddsCovered, AddsAfter, AreGathered, AreLowest, are_settled, IsRepeat, joins_of, mark_with};
+ghost use Rattle.fill.specs.Gathering.{Fit, LabelsInside, IsInner, AreEqualAfter, Adds, AddsCovered, AddsAfter, AreGathered, AreLowest, are_settled, IsRepeat, joins_of, mark_with};
 ghost use Rattle.fill.specs.Parts.{AddsTurned};
 
 use crate::marks::{Mark, mark_at, mark_of_entry};
 use crate::source_heights::SourceHeights;
 use crate::spills::Join;
-use crate::tile::TileFlood;
+use cell_floods::TileFlood;
 use std::alloc::{AllocError, Global};
 use terrain::Place;
 use tiles::{Bounds, Tiling};
@@ -213,12 +212,23 @@ fn push_rim_cell(
                 row: row - 1,
                 col: col - 1,
             };
-            if way > 4 || !flood.holds(near) {
+            if way > 4 || !flood.bounds().contains(near) {
                 push_join(table, sources, from, mark_at(tiling, floods, tile, near))?;
             }
         }
     }
     Ok(())
+}
+
+/// Whether two cells with these indices in the tile's row order have one label, or neither any.
+#[inline(always)]
+fn has_same_label(flood: &TileFlood, first: usize, second: usize) -> bool
+    requires first { first < length flood.now.labels }
+    requires second { second < length flood.now.labels }
+    ensures { OnTrue result (slice_index_or flood.now.labels first None ≡ slice_index_or flood.now.labels second None) }
+{
+    let indexes = flood.labels().indexes();
+    indexes[first] == indexes[second]
 }
 
 /// Adds the join of two cells of a tile with these indices, where their labels differ.
@@ -238,7 +248,7 @@ fn push_near(
     requires from { mark_with tiling.now.cols flood.now index ≡ Some from }
     ensures { OnOk result (AddsCovered table.old.joins.items (joins_of sources.now from (mark_with tiling.now.cols flood.now near)) table.new.joins.items) }
 {
-    if flood.has_same_label(index, near) {
+    if has_same_label(flood, index, near) {
         return Ok(());
     }
     push_join(table, sources, from, mark_of_entry(tiling, flood, near))
@@ -301,7 +311,7 @@ fn push_inner_cell(
         (λ from. AddsAfter tiling.now.cols flood.now sources.now from index flood.now.bounds.cols table.old.joins.items table.new.joins.items)) }
 {
     let width = flood.bounds().cols as usize;
-    if are_equal_after(&flood.labels().cells, index, width) {
+    if are_equal_after(flood.labels().indexes(), index, width) {
         return Ok(());
     }
     let Some(from) = mark_of_entry(tiling, flood, index) else {

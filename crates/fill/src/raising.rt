@@ -3,11 +3,12 @@ ghost use Rattle.std.specs.Prelude.{◌≡◌, ◌*◌, ◌<◌, ℕ, ℤ, List,
 ghost use Rattle.std.specs.List.{All};
 ghost use Rattle.terrain.specs.Raster.{Terrain};
 ghost use Rattle.tiles.specs.Cutting.{IsWithin};
-ghost use Rattle.fill.specs.TileFlood.{Flood, LabelsInside};
+ghost use Rattle.cell_floods.specs.TileFlood.{Flood};
+ghost use Rattle.fill.specs.Gathering.{LabelsInside};
 ghost use Rattle.fill.specs.Spills.{AreFloods, AreSpillLevels, IsRaised, IsFilledTile, AreGreater, greater_of, spill_of};
 
 use crate::marks::node_of;
-use crate::tile::TileFlood;
+use cell_floods::TileFlood;
 use std::alloc::{AllocError, Global};
 use terrain::{Height, NoMemory, Place};
 use tiles::Tiling;
@@ -109,8 +110,8 @@ pub(crate) fn raised_by<L: SpillLevels>(
     ensures { IfOk result (λ v. IsRaised tiling.now flood.now (L.list levels.now) v.items) }
 {
     let labels = flood.labels();
-    let spills = spills_of(alloc, tiling, &labels.places, levels)?;
-    Ok(greater_levels(alloc, flood.heights(), &labels.cells, &spills)?)
+    let spills = spills_of(alloc, tiling, labels.places(), levels)?;
+    Ok(greater_levels(alloc, flood.heights(), labels.indexes(), &spills)?)
 }
 
 /// The filled heights of a tile in its row order, of its flood and the levels of the graph in which it

@@ -3,14 +3,13 @@ ghost use Rattle.std.specs.Prelude.{◌≡◌, ℤ, List, Option, ◌+◌, ◌-�
 ghost use Rattle.terrain.specs.StoredCells.{cell_of, no_data};
 ghost use Rattle.tiles.specs.Cutting.{IsCutting};
 ghost use Rattle.tile_maps.specs.Maps.{IsMadeMap};
-ghost use Rattle.fill.specs.TileFlood.{LabelsInside};
-ghost use Rattle.fill.specs.Gathering.{Fit};
+ghost use Rattle.fill.specs.Gathering.{Fit, LabelsInside};
 ghost use Rattle.fill.specs.Spills.{greater_of, raised_among};
 ghost use Rattle.fill.specs.RaisedTiles.{IsRaisedTile, AreRaisedTiles, Raises};
 
 use crate::numbering::LabelLevels;
 use crate::raising::spills_of;
-use crate::tile::TileFlood;
+use cell_floods::TileFlood;
 use std::alloc::{AllocError, Global};
 use terrain::{Cell, Height, Place};
 use tiles::{Bounds, Tiling};
@@ -59,10 +58,10 @@ impl<'a> RaisedTile<'a> {
         ensures { IfOk result (IsRaisedTile tiling.now flood.now levels.now) }
     {
         let labels = flood.labels();
-        let spills = spills_of(alloc, tiling, &labels.places, levels)?;
+        let spills = spills_of(alloc, tiling, labels.places(), levels)?;
         Ok(RaisedTile {
             heights: flood.heights(),
-            labels: &labels.cells,
+            labels: labels.indexes(),
             spills: cells_of(alloc, &spills)?,
         })
     }

@@ -2,7 +2,7 @@
 ghost use Rattle.std.specs.Prelude.{◌≡◌, ◌*◌, ◌<◌, List, Some, length, IfOk, IfSome, OnOk};
 ghost use Rattle.std.specs.List.{All, Contains};
 ghost use Rattle.tiles.specs.Cutting.{IsCutting, IsWithin, tile_count};
-ghost use Rattle.fill.specs.TileFlood.{Flood};
+ghost use Rattle.cell_floods.specs.TileFlood.{Flood};
 ghost use Rattle.fill.specs.Gathering.{Fit, AddsSources, AreSources, PutsSinks, PutsSources};
 ghost use Rattle.fill.specs.Parts.{AreTileSources, AreAllSources};
 ghost use Rattle.terrain.specs.Raster.{Terrain};
@@ -10,7 +10,7 @@ ghost use Rattle.fill.specs.Spills.{AreFloods, AreSourcesOf};
 
 use crate::marks::{mark_at, node_of, source_at};
 use crate::source_heights::SourceHeights;
-use crate::tile::TileFlood;
+use cell_floods::TileFlood;
 use std::alloc::{AllocError, Global};
 use terrain::{Cell, Height, Place};
 use tiles::Tiling;
@@ -83,7 +83,7 @@ pub(crate) fn tile_sources(
 {
     let mut sources = Vec::new(alloc);
     let labels = floods[tile as usize].labels();
-    push_sources(&mut sources, tiling, floods, tile, &labels.places)?;
+    push_sources(&mut sources, tiling, floods, tile, labels.places())?;
     Ok(TileSources { list: sources })
 }
 

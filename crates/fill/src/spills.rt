@@ -4,7 +4,7 @@ ghost use Rattle.terrain.specs.Raster.{Terrain};
 ghost use Rattle.std.specs.Bool.{OnTrue};
 ghost use Rattle.floods.specs.Walk.{HasJust};
 ghost use Rattle.fill.specs.Parts.{AreParts, BeginAt, IsFirstOf, graph_of_parts};
-ghost use Rattle.fill.specs.TileFlood.{Flood};
+ghost use Rattle.cell_floods.specs.TileFlood.{Flood};
 ghost use Rattle.fill.specs.Spills.{AreFloods, IsGraphOf, AreLevelsOf, HasJoin};
 ghost use Rattle.fill.specs.Gathering.{AreRising, turned, way_of};
 ghost use Rattle.fill.specs.Numbers.{AreNumbered};

@@ -1,15 +1,13 @@
 -- Lists of heights, some of which are lacking.
-use Rattle.std.proofs.Common.{◌≡◌, ℕ, zero, suc, ◌+◌, ◌-◌, ◌<◌, ◌≤◌, ◌≤ℤ◌, ℤ, Bool, true, false, List, [], ◌∷◌, length, get_or, map, set, drop, slice_range, replicate, T, Option, None, Some, IsSome, is_some, ◌∙◌, sym, ap, refl, arith, inl, inr, subst}
+use Rattle.std.proofs.Common.{◌≡◌, ℕ, zero, suc, ◌≤ℤ◌, ℤ, Bool, true, false, List, [], ◌∷◌, length, get_or, map, set, replicate, T, Option, None, Some, is_some, ◌∙◌, sym, ap, refl, arith, inl, inr, subst}
 use Rattle.std.specs.Int.Signed.{le_z}
 use Rattle.std.proofs.lemmas.Float.{T_from_true}
 use Rattle.std.proofs.lemmas.Option.{same_Some}
-use Rattle.std.proofs.lemmas.List.{get_or-take, get_or-drop, length-take-le, length-drop}
-use Rattle.std.specs.List.{EachIndex}
 use Rattle.std.specs.Ordering.{int_eq}
 use Rattle.std.proofs.lemmas.Bool.{cases_Bool, cond-true, cond-false}
 use Rattle.std.proofs.lemmas.Bool.Decides.{Decides-int_eq}
 use Rattle.floods.proofs.Steps.{none_some}
-use Rattle.floods.specs.Notes.{noted, heights_where, height_or_lack, lack, AreAllThere}
+use Rattle.floods.specs.Notes.{noted, heights_where, height_or_lack, lack}
 
 pub length-where : (marks : List Bool) (heights : List ℤ) → length marks ≡ length heights → length (heights_where marks heights) ≡ length heights
 length-where [] [] e = refl
@@ -56,26 +54,6 @@ where-set (m ∷ marks) (x ∷ heights) (suc i) h e other = ap (λ z. noted m x 
 pub where-lacking : (n : ℕ) → heights_where (replicate n false) (replicate n lack) ≡ replicate n None
 where-lacking zero = refl
 where-lacking (suc n) = ap (λ z. None ∷ z) (where-lacking n)
-
--- an entry of a part
-part_at : (entries : List (Option ℤ)) (first count index : ℕ) → index < count → get_or (slice_range entries first (first + count)) index None ≡ get_or entries (first + index) None
-part_at entries first count index below = get_or-take (first + count - first) (drop first entries) index None (omega (arith, below)) ∙ get_or-drop first entries index None
-
-part_length : (entries : List (Option ℤ)) (first count : ℕ) → first + count ≤ length entries → length (slice_range entries first (first + count)) ≡ count
-part_length entries first count inside =
-    length-take-le (first + count - first) (drop first entries) (omega (arith, inside, length-drop first entries)) ∙ omega arith
-
--- a part all of whose entries are there
-pub part_there : (entries : List (Option ℤ)) (first count : ℕ) → first + count ≤ length entries → EachIndex (slice_range entries first (first + count)) (λ k. IsSome (get_or (slice_range entries first (first + count)) k None)) → AreAllThere entries first (first + count)
-part_there entries first count inside all index from below =
-    let at : index ≡ first + (index - first) = omega (arith, from) in
-    let low : index - first < length (slice_range entries first (first + count)) = omega (arith, from, below, part_length entries first count inside) in
-    subst (λ (o : Option ℤ). IsSome o) (part_at entries first count (index - first) (omega (arith, from, below)) ∙ ap (λ k. get_or entries k None) (sym at)) (all (index - first) low)
-
-pub there_part : (entries : List (Option ℤ)) (first count : ℕ) → first + count ≤ length entries → AreAllThere entries first (first + count) → EachIndex (slice_range entries first (first + count)) (λ k. IsSome (get_or (slice_range entries first (first + count)) k None))
-there_part entries first count inside all index below =
-    let low : index < count = omega (arith, below, part_length entries first count inside) in
-    subst (λ (o : Option ℤ). IsSome o) (sym (part_at entries first count index low)) (all (first + index) (omega arith) (omega (arith, low)))
 
 -- tests of a machine, and what they tell
 tells : (b : Bool) → T b → b ≡ true

@@ -1,15 +1,14 @@
 -- Ways followed one by one, and what is noted of the nodes that they lead to.
-use Rattle.std.proofs.Common.{◌≡◌, ℕ, ◌<◌, List, [], ◌∷◌, ◌++◌, length, set, take, drop, ℤ, ◌≤ℤ◌, Option, None, Some, IsSome, sym, subst, refl, ◌∙◌, arith, ◌⊎◌, inl, inr, to_z, of_z}
+use Rattle.std.proofs.Common.{◌≡◌, ℕ, ◌<◌, List, [], ◌∷◌, ◌++◌, length, get_or, set, map, take, drop, ℤ, ◌≤ℤ◌, Option, None, Some, IsSome, ◌+◌, sym, ap, subst, refl, ◌∙◌, arith, ◌⊎◌, inl, inr, to_z, of_z}
 use Rattle.std.specs.Int.{int_max}
 use Rattle.std.specs.Int.Signed.{≤ℤ_refl}
 use Rattle.terrain.proofs.Heights.{height_width}
-use Rattle.drainage.proofs.Heights.{trans}
 use Rattle.std.specs.List.{Contains}
 use Rattle.std.proofs.lemmas.Int.{ints, to_z-of_z}
 use Rattle.std.proofs.lemmas.Int.{by_lt_z}
 use mir.Val.{SFits}
 use Rattle.std.proofs.lemmas.Bool.{cases_eq}
-use Rattle.std.proofs.lemmas.List.{length-set, get_or-set_same, get_or-set_other}
+use Rattle.std.proofs.lemmas.List.{length-set, get_or-set_same, get_or-set_other, map_more}
 use Rattle.std.proofs.lemmas.List.Elements.{All-contains, All-contains_itself, Contains-append_left, Contains-append_right, Contains-append_cases}
 use Rattle.std.proofs.Math.Seq.{take-append_seam}
 use Rattle.std.proofs.lemmas.Option.{same_Some}
@@ -19,7 +18,7 @@ use Rattle.floods.specs.declared.queue.Waits.{Waits}
 use Rattle.floods.specs.Walk.{Sources}
 use Rattle.floods.specs.Flood.{AreOwn, InOrder, PutsIn, waiting_in, entry_of, SomeWaits, ComesBy, waiting_by, MakesWait, AreNoted, KeepsDone, Follows}
 use Rattle.floods.proofs.Heaps.{all_by_contains, cons_head, cons_tail, held_in, held_cases, one_held}
-use Rattle.floods.proofs.Steps.{none_done, le_of_same}
+use Rattle.floods.proofs.Steps.{none_done, le_of_same, trans}
 
 -- a way that is not followed, since nothing is won by it
 pub passed : (labels : List (Option ℕ)) (from : Waiting) (way : Spill) (waiting : List Waiting) → (entry_of labels way.to ≡ None → SomeWaits waiting way.to (int_max way.height from.height.0)) → MakesWait labels from (way ∷ []) waiting waiting
@@ -155,3 +154,7 @@ more_followed labels from ways last levels between after old now new s t = recor
 -- a slice of a whole list, written back
 pub written_back : {X : Type 0} (n : ℕ) (xs items : List X) → length xs ≡ n → take n (xs ++ drop (length xs) items) ≡ xs
 written_back n xs items e = subst (λ k. take k (xs ++ drop (length xs) items) ≡ xs) e (take-append_seam xs (drop (length xs) items))
+
+-- one more entry of a list by another
+pub mapped_more : {X Y : Type 0} (f : X → Y) (xs : List X) (i : ℕ) (d : X) (now next : List Y) (y : Y) → i < length xs → now ≡ map f (take i xs) → next ≡ now ++ y ∷ [] → y ≡ f (get_or xs i d) → next ≡ map f (take (i + 1) xs)
+mapped_more f xs i d now next y low is more here = more ∙ ap (λ z. z ++ y ∷ []) is ∙ ap (λ z. map f (take i xs) ++ z ∷ []) here ∙ sym (map_more f xs i d low)

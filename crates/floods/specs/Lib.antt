@@ -1,5 +1,3 @@
 pub mod Walk
 pub mod Flood
 pub mod Notes
-pub mod Cells
-pub mod CellJoins

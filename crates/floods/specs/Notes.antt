@@ -1,5 +1,5 @@
 -- Lists of what is noted of nodes, each entry of which may be lacking.
-use Rattle.std.specs.Prelude.{ℕ, ◌<◌, ◌≤◌, ℤ, pos, Bool, ◌==◌, List, [], ◌∷◌, map, Option, None, Some, IsSome, if◌then◌else◌, slice_index_or, unwrap_or}
+use Rattle.std.specs.Prelude.{ℕ, ℤ, pos, Bool, ◌==◌, List, [], ◌∷◌, map, Option, None, Some, if◌then◌else◌, unwrap_or}
 use Rattle.std.specs.Ordering.{int_eq}
 
 -- The greatest number of 64 bits, which stands for a height that is lacking.
@@ -14,10 +14,6 @@ abbrev pub heights_where : List Bool → List ℤ → List (Option ℤ)
 heights_where [] heights = []
 heights_where (marked ∷ rest) [] = []
 heights_where (marked ∷ rest) (height ∷ heights) = noted marked height ∷ heights_where rest heights
-
--- Each entry from a first one on and before an end is there.
-abbrev pub AreAllThere : List (Option ℤ) → ℕ → ℕ → Type 0
-AreAllThere entries first end = (index : ℕ) → first ≤ index → index < end → IsSome (slice_index_or entries index None)
 
 -- How an entry stands.
 abbrev pub height_or_lack : Option ℤ → ℤ

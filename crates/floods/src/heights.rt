@@ -70,7 +70,7 @@ impl HeightList {
 
     /// Whether an entry is there and not above a height.
     #[inline(always)]
-    pub(crate) fn is_no_higher(&self, index: u32, height: Height) -> bool
+    pub fn is_no_higher(&self, index: u32, height: Height) -> bool
         requires { index < length self.now }
         ensures { IsTrue result ↔ (h : ℤ) × (slice_index_or self.now index None ≡ Some h) × (h ≤ℤ height) }
     {

@@ -4,7 +4,7 @@ use Rattle.terrain.specs.declared.place.Place.{Place}
 use Rattle.terrain.proofs.Places.{same_place}
 use Rattle.tiles.specs.declared.bounds.Bounds.{Bounds}
 use Rattle.tiles.specs.Cutting.{Cutting, IsInTile, IsInBounds}
-use Rattle.fill.specs.TileFlood.{IsInner}
+use Rattle.fill.specs.Gathering.{IsInner}
 use Rattle.fill.proofs.Adding.{adds_then}
 use Rattle.fill.proofs.passes.push_cells.Goals as goal
 

@@ -2,16 +2,15 @@ use Rattle.std.proofs.Common.{subst, ap, arith, length}
 use Rattle.std.proofs.lemmas.Bool.{OnTrue_at}
 use Rattle.std.proofs.lemmas.Nat.{mul-le}
 use Rattle.tiles.specs.declared.bounds.Bounds.{Bounds}
-use Rattle.fill.specs.TileFlood.{AreEqualAfter}
-use Rattle.fill.proofs.CellMarks.{equal_after_adds}
-use Rattle.fill.proofs.LabelTables.{cells_size}
+use Rattle.fill.specs.Gathering.{AreEqualAfter}
+use Rattle.fill.proofs.CellMarks.{equal_after_adds, cells_size}
 use Rattle.fill.proofs.passes.push_inner_cell.Goals as goal
 
 pub push_after-requires-clause-few : goal.push_after-requires-clause-few
 push_after-requires-clause-few c =
     let f = c.bounds-width.ensures.lawful in
     let b = c.args.flood.now.bounds in
-    omega (arith, f.labels_size, mul-le b.rows b.cols 4096 4096 (omega (arith, f.few_rows)) (omega (arith, f.few_cols)))
+    omega (arith, f.labels_size, mul-le b.rows b.cols 4096 4096 (omega (arith, f.limits)) (omega (arith, f.limits)))
 
 pub are_equal_after-requires-clause-after : goal.are_equal_after-requires-clause-after
 are_equal_after-requires-clause-after c =
@@ -20,20 +19,20 @@ are_equal_after-requires-clause-after c =
     omega (
       arith,
       width,
-      ap length c.deref.ensures.value,
+      ap length c.indexes.ensures,
       lawful.levels_size,
       lawful.labels_size,
       c.requires.after,
-      cells_size c.args.flood.now c.labels.result.now.places.items c.labels.result.now.cells.items c.labels.ensures.labels lawful,
+      cells_size c.args.flood.now c.labels.result.now.places c.labels.result.now.indexes c.labels.ensures.labels lawful,
     )
 
 pub returns-then-are_equal_after : goal.returns-then-are_equal_after
 returns-then-are_equal_after c =
     let f = c.args.flood.now in
-    let cells = c.labels.result.now.cells.items in
+    let cells = c.labels.result.now.indexes in
     let lawful = c.labels.ensures.lawful in
-    let size = cells_size f c.labels.result.now.places.items cells c.labels.ensures.labels lawful in
-    let equal = rw c.deref.ensures.value at (OnTrue_at {P = AreEqualAfter c.deref.result.now c.args.index c.bounds-width.result.cols} c.if-are_equal_after.true c.are_equal_after.ensures) in
-    equal_after_adds c.args.tiling.now.cols f c.args.sources.now c.labels.result.now.places.items cells c.args.index f.bounds.cols c.args.table.now.joins.items c.labels.ensures.labels
+    let size = cells_size f c.labels.result.now.places cells c.labels.ensures.labels lawful in
+    let equal = rw c.indexes.ensures at (OnTrue_at {P = AreEqualAfter c.indexes.result.now c.args.index c.bounds-width.result.cols} c.if-are_equal_after.true c.are_equal_after.ensures) in
+    equal_after_adds c.args.tiling.now.cols f c.args.sources.now c.labels.result.now.places cells c.args.index f.bounds.cols c.args.table.now.joins.items c.labels.ensures.labels
     (omega (arith, size, lawful.levels_size, lawful.labels_size, c.requires.after))
     (subst (λ (b : Bounds). AreEqualAfter cells c.args.index b.cols) c.bounds-width.ensures.value equal)

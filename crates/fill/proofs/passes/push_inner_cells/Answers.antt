@@ -3,7 +3,7 @@ use Rattle.std.proofs.lemmas.Option.{slice_get_read}
 use Rattle.terrain.specs.declared.place.Place.{Place}
 use Rattle.tiles.specs.declared.bounds.Bounds.{Bounds}
 use Rattle.tiles.specs.Cutting.{bounds_of}
-use Rattle.fill.specs.TileFlood.{IsInner}
+use Rattle.fill.specs.Gathering.{IsInner}
 use Rattle.fill.proofs.Adding.{adds_then, adds_as}
 use Rattle.fill.proofs.CellMarks.{inner_cell_adds, inner_row_index, inner_so_far}
 use Rattle.fill.proofs.passes.push_inner_cells.Goals as goal

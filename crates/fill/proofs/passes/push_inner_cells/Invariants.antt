@@ -1,7 +1,6 @@
 use Rattle.std.proofs.Common.{◌≡◌, ◌+◌, ◌<◌}
 use Rattle.tiles.specs.Cutting.{bounds_of}
-use Rattle.fill.specs.TileFlood.{IsInner}
-use Rattle.fill.specs.Gathering.{Adds}
+use Rattle.fill.specs.Gathering.{IsInner, Adds}
 use Rattle.fill.proofs.passes.push_inner_cells.Given as goal
 
 abbrev pub invariant-loop-index : goal.invariant-loop-index

@@ -6,7 +6,7 @@ use Rattle.tiles.specs.Cutting.{IsInTile}
 use Rattle.fill.proofs.Adding.{after_way, added_more, added_none, all_added, HasAdded}
 use Rattle.fill.proofs.CellMarks.{held}
 use Rattle.fill.proofs.passes.push_rim_cell.Goals as goal
-use Rattle.fill.proofs.passes.push_rim_cell.Goals.{then-row-gt0+then-col-gt0+then-way-gt4+in_ok-push_join, then-row-gt0+then-col-gt0+else-way-gt4+else-not-holds, else-row-gt0, else-row-gt0-via-then-row-gt0+else-col-gt0, else-row-gt0-via-else-row-gt0}
+use Rattle.fill.proofs.passes.push_rim_cell.Goals.{then-row-gt0+then-col-gt0+then-way-gt4+in_ok-push_join, then-row-gt0+then-col-gt0+else-way-gt4+else-not-contains, else-row-gt0, else-row-gt0-via-then-row-gt0+else-col-gt0, else-row-gt0-via-else-row-gt0}
 
 pub loop-way-preserved : goal.loop-way-preserved
 loop-way-preserved c =
@@ -21,10 +21,10 @@ loop-way-preserved c =
       | then-row-gt0+then-col-gt0+then-way-gt4+in_ok-push_join w ↦
           rw w.table-is (added_more t floods sources tile p near way c.in-Some.from _ _ _ _
           (sym c.mark_at.ensures ∙ c.in-Some.is) (sym w.mark_at-then-way-gt4.ensures) (omega (arith, w.if-row-gt0.true)) (omega (arith, w.if-col-gt0.true)) c.loop-way-test.true c.loop-way.invariant w.in_ok-push_join.ensures)
-      | then-row-gt0+then-col-gt0+else-way-gt4+else-not-holds w ↦
+      | then-row-gt0+then-col-gt0+else-way-gt4+else-not-contains w ↦
           let f = c.index-floods-tile.result in
           let there = slice_get_read floods (length floods) tile f refl (omega (arith, c.requires.fit.count, c.requires.tile)) c.index-floods-tile.is in
-          let inside = held t floods tile f near c.requires.lawful c.requires.fit c.requires.tile there (sym w.holds.ensures ∙ w.if-not-holds.false) in
+          let inside = held t floods tile f near w.bounds.result c.requires.lawful c.requires.fit c.requires.tile there w.bounds.ensures.value (sym w.contains.ensures ∙ w.if-not-contains.false) in
           rw w.table-is (added_none t floods sources tile p way _ _ c.loop-way.invariant (λ q touch at after.
           let same : near ≡ q = same_place near q (omega (arith, at.0, w.if-row-gt0.true)) (omega (arith, at.1, w.if-col-gt0.true)) in
           omega (arith, after_way p q touch (after (subst (IsInTile t tile) same inside)), at.0, at.1, w.if-way-gt4.false)))

@@ -2,7 +2,7 @@ use Rattle.std.proofs.Common.{◌≡◌, ℕ, ℤ, List, Option, Some, Vec, Glob
 use Rattle.std.specs.Prelude.{slice_get}
 use Rattle.std.proofs.lemmas.Result.{IfOk-weaker}
 use Rattle.terrain.specs.Raster.{Terrain}
-use Rattle.fill.specs.TileFlood.{Flood}
+use Rattle.cell_floods.specs.TileFlood.{Flood}
 use Rattle.fill.specs.Spills.{AreFloods, AreSpillLevels, IsRaised, IsFilledTile}
 use Rattle.fill.proofs.Raised.{filled_tile, open_levels}
 use Rattle.fill.proofs.raising.raise.Goals as goal

@@ -1,23 +1,23 @@
 use Rattle.std.proofs.Common.{◌≡◌, length, get_or, None, sym, ap, ◌∙◌}
 use Rattle.std.proofs.lemmas.List.{length-map}
-use Rattle.fill.proofs.LabelTables.{all_within}
+use Rattle.fill.proofs.CellMarks.{all_within}
 use Rattle.fill.proofs.Raised.{raised_by_table}
 use Rattle.fill.proofs.raising.raised_by.Goals as goal
 
 pub spills_of-requires-clause-labels : goal.spills_of-requires-clause-labels
-spills_of-requires-clause-labels g c = rw c.deref.ensures.value (all_within c.args.tiling.now c.args.flood.now _ _ c.labels-labels.ensures.labels c.labels-labels.result.now.table c.requires.labels)
+spills_of-requires-clause-labels g c = rw c.places.ensures.value (all_within c.args.tiling.now c.args.flood.now _ _ c.labels-labels.ensures.labels c.places.ensures.table c.requires.labels)
 
 pub greater_levels-requires-clause-size : goal.greater_levels-requires-clause-size
 greater_levels-requires-clause-size g c =
     let labels = c.labels-labels.result.now in
-    let table : length c.args.flood.now.labels ≡ length labels.cells.items = ap length c.labels-labels.ensures.labels ∙ length-map labels.cells.items (λ k. get_or labels.places.items k None) in
-    rw c.deref-2.ensures.value (sym table ∙ sym c.heights.ensures.size)
+    let table : length c.args.flood.now.labels ≡ length labels.indexes = ap length c.labels-labels.ensures.labels ∙ length-map labels.indexes (λ k. get_or labels.places k None) in
+    rw c.indexes.ensures (sym table ∙ sym c.heights.ensures.size)
 
 pub returns : goal.returns
 returns g c =
     let labels = c.labels-labels.result.now in
     let is = c.labels-labels.ensures in
-    let table : length c.args.flood.now.labels ≡ length labels.cells.items = ap length is.labels ∙ length-map labels.cells.items (λ k. get_or labels.places.items k None) in
-    raised_by_table c.args.tiling.now c.args.flood.now labels.places.items labels.cells.items c.heights.result.now _ c.in_ok-spills.spills.items _ is.labels labels.table
-    c.heights.ensures.levels (sym table ∙ sym c.heights.ensures.size) (rw c.deref.ensures.value at c.in_ok-spills.ensures)
-    (rw (c.deref-2.ensures.value, c.deref-3.ensures.value) at c.in_ok-greater_levels.ensures)
+    let table : length c.args.flood.now.labels ≡ length labels.indexes = ap length is.labels ∙ length-map labels.indexes (λ k. get_or labels.places k None) in
+    raised_by_table c.args.tiling.now c.args.flood.now labels.places labels.indexes c.heights.result.now _ c.in_ok-spills.spills.items _ is.labels c.places.ensures.table
+    c.heights.ensures.levels (sym table ∙ sym c.heights.ensures.size) (rw c.places.ensures.value at c.in_ok-spills.ensures)
+    (rw (c.indexes.ensures, c.deref.ensures.value) at c.in_ok-greater_levels.ensures)

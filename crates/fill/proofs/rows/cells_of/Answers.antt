@@ -1,7 +1,7 @@
 use Rattle.std.proofs.Common.{None, map, ap, ◌∙◌}
 use Rattle.std.proofs.lemmas.List.{take_all}
 use Rattle.terrain.specs.StoredCells.{cell_of}
-use Rattle.fill.proofs.LabelTables.{mapped_more}
+use Rattle.floods.proofs.Noting.{mapped_more}
 use Rattle.fill.proofs.rows.cells_of.Goals as goal
 
 pub loop-height-preserved : goal.loop-height-preserved

@@ -1,6 +1,6 @@
 use Rattle.std.proofs.Common.{◌<◌, List}
 use Rattle.tiles.specs.Cutting.{IsWithin, tile_of_place}
-use Rattle.fill.specs.TileFlood.{Flood}
+use Rattle.cell_floods.specs.TileFlood.{Flood}
 use Rattle.fill.specs.Parts.{AreAllSources}
 use Rattle.fill.proofs.SourceCells.{HaveSources}
 use Rattle.fill.proofs.sources.gather_sources.Given as goal

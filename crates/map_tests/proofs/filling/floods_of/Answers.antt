@@ -1,5 +1,5 @@
 use Rattle.std.proofs.Common.{◌≡◌, [], ◌∷◌, ◌++◌, rules}
-use Rattle.fill.specs.TileFlood.{IsTileFlood}
+use Rattle.cell_floods.specs.TileFlood.{IsTileFlood}
 use Rattle.fill.proofs.Raised.{flood_of_view}
 use Rattle.map_tests.proofs.Pushing.{each_more, pushed_size}
 use Rattle.map_tests.proofs.filling.floods_of.Goals as goal

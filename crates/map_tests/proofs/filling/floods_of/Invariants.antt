@@ -1,5 +1,5 @@
 use Rattle.std.proofs.Common.{◌≡◌, ℕ, length, Some, slice_get}
-use Rattle.fill.specs.TileFlood.{Flood, IsTileFlood}
+use Rattle.cell_floods.specs.TileFlood.{Flood, IsTileFlood}
 use Rattle.map_tests.proofs.filling.floods_of.Given as goal
 
 abbrev pub invariant-loop-tile : goal.invariant-loop-tile

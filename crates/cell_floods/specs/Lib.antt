@@ -1,0 +1,4 @@
+pub mod Cells
+pub mod CellJoins
+pub mod TileFlood
+pub mod Labels

@@ -1,0 +1,435 @@
+// A rectangle of cells as a net.
+ghost use Rattle.std.specs.Prelude.{◌≡◌, None, ◌+◌, ◌-◌, ◌*◌, ◌^◌, ◌<◌, ◌≤◌, ◌∷◌, ◌++◌, ◌↔◌, [], EachIndex, IsSome, IsTrue, length, All, IfOk, OnOk, is_none, slice_index_or, replicate};
+ghost use Rattle.std.specs.List.{list_any, filter_map, cons_option};
+ghost use Rattle.std.specs.Bool.{OnTrue};
+ghost use Rattle.floods.specs.Walk.{HasNoSource};
+ghost use Rattle.floods.specs.Flood.{waiting_in, InOrder, Follows, AreNoted};
+ghost use Rattle.terrain.specs.Sinks.{with_sinks};
+ghost use Rattle.cell_floods.specs.Cells.{Cells, cells_around, way_to, whole, IsNetOf, IsCellJoin, source_of, AreAllThere, bordered_rows, inner_rows, row_of};
+ghost use Rattle.tiles.specs.Cutting.{bounds_of, row_shown, terrain_of};
+
+use crate::sinks::{is_sink, window_sinks};
+use floods::{HeightList, Net, NodeLabels, Spill, Waiting, Waits, push_way};
+use smallvec::SmallVec;
+use std::alloc::{AllocError, Global};
+use std::cmp::Reverse;
+use std::marker::Model;
+use terrain::{Cell, Grid, Height, NoMemory, Place};
+use tiles::{Bounds, TileView};
+
+/// The cells of a rectangle with a border of cells without data around them, so that each cell of
+/// the rectangle has eight around it. Data cells beside each other are joined at the greater of
+/// their heights, and a data cell that has a gap around it or is a sink is a source.
+#[derive(Drop)]
+pub struct CellNet {
+    stride: u32,
+    cells: Vec<Cell>,
+    sinks: Vec<bool>,
+}
+
+impl Model for CellNet {
+    ghost use Rattle.cell_floods.specs.Cells.{Cells, IsBordered};
+
+    ghost Value = { Cells };
+
+    ghost view = { λ n. record { stride = n.stride; cells = n.cells.items; sinks = n.sinks.items } };
+
+    ghost invariant = { λ n. IsBordered (record { stride = n.stride; cells = n.cells.items; sinks = n.sinks.items }) };
+}
+
+/// So many cells of a row at a time are passed over where they and all cells around them have data.
+const RUN: u32 = 16;
+
+/// The eight cells around one that is not on the border.
+#[inline(always)]
+fn around(stride: u32, node: u32) -> [u32; 8]
+    requires above { stride < node }
+    requires below { node + stride + 1 < 2 ^ 32 }
+    ensures { result ≡ cells_around stride node }
+{
+    let above = node - stride;
+    let below = node + stride;
+    [
+        above - 1,
+        above,
+        above + 1,
+        node - 1,
+        node + 1,
+        below - 1,
+        below,
+        below + 1,
+    ]
+}
+
+/// Whether a cell has no data.
+#[inline(always)]
+fn is_gap(cells: &[Cell], node: u32) -> bool
+    requires { node < length cells.now }
+    ensures { result ≡ is_none (slice_index_or cells.now node None) }
+{
+    cells[node as usize].height().is_none()
+}
+
+/// Whether one of these cells has no data.
+#[inline(always)]
+fn any_gap(cells: &[Cell], around: &[u32; 8]) -> bool
+    requires { All (λ b. b < length cells.now) around.now }
+    ensures { result ≡ list_any (λ b. is_none (slice_index_or cells.now b None)) around.now }
+{
+    around.iter().any(|&node| is_gap(cells, node))
+}
+
+/// The way from a cell of this height to another one, where that has data.
+#[inline(always)]
+fn way_to(cells: &[Cell], height: Height, to: u32) -> Option<Spill>
+    requires { to < length cells.now }
+    ensures { result ≡ way_to cells.now height to }
+{
+    let other = cells[to as usize].height()?;
+    Some(Spill {
+        to,
+        height: other.max(height),
+    })
+}
+
+/// The ways from a cell of this height to those of the cells around it that have data.
+fn ways_to(alloc: Global, cells: &[Cell], height: Height, around: [u32; 8]) -> SmallVec<Spill, 8>
+    requires { All (λ b. b < length cells.now) around }
+    ensures { result.items ≡ filter_map (way_to cells.now height) around }
+{
+    let mut ways = SmallVec::new(alloc);
+    for to in around {
+        if let Some(way) = way_to(cells, height, to) {
+            ways.push_reserved(way);
+        }
+    }
+    ways
+}
+
+/// Makes the cell at the end of a way wait, where it has no label yet and does not wait as low. It stands apart, so that what is
+/// asked of each of the eight cells around stays short.
+#[inline(never)]
+fn push_way_apart(
+    waits: &mut Waits,
+    way: Spill,
+    from: &Waiting,
+    labels: &NodeLabels,
+    levels: &mut HeightList,
+) -> Result<(), AllocError>
+    requires order { InOrder waits.old }
+    requires inside { way.to < length labels.now }
+    requires noted { AreNoted labels.now levels.old (waiting_in waits.old) }
+    ensures { OnOk result (Follows labels.now from.now (way ∷ []) levels.old levels.new waits.old waits.new) }
+{
+    push_way(waits, way, from, labels, levels)
+}
+
+/// Makes one of the cells around a cell of this height wait, where it has data and no label yet and does not wait as low.
+#[inline(always)]
+fn push_cell(
+    waits: &mut Waits,
+    cells: &[Cell],
+    to: u32,
+    height: Height,
+    from: &Waiting,
+    labels: &NodeLabels,
+    levels: &mut HeightList,
+) -> Result<(), AllocError>
+    requires order { InOrder waits.old }
+    requires cell { to < length cells.now }
+    requires inside { to < length labels.now }
+    requires noted { AreNoted labels.now levels.old (waiting_in waits.old) }
+    ensures { OnOk result (Follows labels.now from.now (cons_option (way_to cells.now height to) []) levels.old levels.new waits.old waits.new) }
+{
+    // Most cells around have been noted no higher, which needs no look at whether they have data.
+    let Reverse(level) = from.height;
+    let crest = cells[to as usize].number().max(height.max(level));
+    if levels.is_no_higher(to, crest) {
+        return Ok(());
+    }
+    let Some(way) = way_to(cells, height, to) else {
+        return Ok(());
+    };
+    push_way_apart(waits, way, from, labels, levels)
+}
+
+/// Makes those of three cells side by side wait that have data and no label yet and do not wait as low.
+#[inline(always)]
+fn push_three(
+    waits: &mut Waits,
+    cells: &[Cell],
+    middle: u32,
+    height: Height,
+    from: &Waiting,
+    labels: &NodeLabels,
+    levels: &mut HeightList,
+) -> Result<(), AllocError>
+    requires order { InOrder waits.old }
+    requires some { 0 < middle }
+    requires cells { middle + 1 < length cells.now }
+    requires inside { length labels.now ≡ length cells.now }
+    requires few { length cells.now < 2 ^ 32 }
+    requires noted { AreNoted labels.now levels.old (waiting_in waits.old) }
+    ensures { OnOk result (Follows labels.now from.now (filter_map (way_to cells.now height) ((middle - 1) ∷ middle ∷ (middle + 1) ∷ [])) levels.old levels.new waits.old waits.new) }
+{
+    push_cell(waits, cells, middle - 1, height, from, labels, levels)?;
+    push_cell(waits, cells, middle, height, from, labels, levels)?;
+    push_cell(waits, cells, middle + 1, height, from, labels, levels)?;
+    Ok(())
+}
+
+/// Makes those of the cells around a cell of this height wait that have data and no label yet and do not wait as low. No loop
+/// goes over them, since each has a test of its own then, which a processor foresees better.
+#[inline(always)]
+fn push_around(
+    waits: &mut Waits,
+    cells: &[Cell],
+    stride: u32,
+    height: Height,
+    from: &Waiting,
+    labels: &NodeLabels,
+    levels: &mut HeightList,
+) -> Result<(), AllocError>
+    requires order { InOrder waits.old }
+    requires above { stride < from.now.node }
+    requires below { from.now.node + stride + 1 < length cells.now }
+    requires few { length cells.now < 2 ^ 32 }
+    requires inside { length labels.now ≡ length cells.now }
+    requires noted { AreNoted labels.now levels.old (waiting_in waits.old) }
+    ensures { OnOk result (Follows labels.now from.now (filter_map (way_to cells.now height) (cells_around stride from.now.node)) levels.old levels.new waits.old waits.new) }
+{
+    let node = from.node;
+    push_three(waits, cells, node - stride, height, from, labels, levels)?;
+    push_cell(waits, cells, node - 1, height, from, labels, levels)?;
+    push_cell(waits, cells, node + 1, height, from, labels, levels)?;
+    push_three(waits, cells, node + stride, height, from, labels, levels)?;
+    Ok(())
+}
+
+/// Whether all of these cells have data.
+#[inline(always)]
+fn have_data(cells: &[Cell]) -> bool
+    ensures { IsTrue result ↔ EachIndex cells.now (λ k. IsSome (slice_index_or cells.now k None)) }
+{
+    cells.iter().all(|cell| cell.height().is_some())
+}
+
+/// Whether so many cells from a first one on have data.
+#[inline(always)]
+fn are_there(cells: &[Cell], first: usize, count: usize) -> bool
+    requires { first + count ≤ length cells.now }
+    ensures { IsTrue result ↔ AreAllThere cells.now first (first + count) }
+{
+    have_data(&cells[first..first + count])
+}
+
+impl CellNet {
+    /// Whether the cells of a run from this one on and all cells around them have data, in a net
+    /// without sinks: then none of the run is a source.
+    #[inline]
+    fn is_filled_run(&self, node: u32) -> bool
+        ensures few { length self.now.cells < 2 ^ 32 }
+        ensures inside { OnTrue result (node + RUN ≤ length self.now.cells) }
+        ensures none { OnTrue result (HasNoSource (source_of self.now) node (node + RUN)) }
+    {
+        let first = node as usize;
+        let stride = self.stride as usize;
+        let count = RUN as usize + 2;
+        self.sinks.is_empty()
+            && stride < first
+            && first + stride + count <= self.cells.len() + 1
+            && are_there(&self.cells, first - stride - 1, count)
+            && are_there(&self.cells, first - 1, count)
+            && are_there(&self.cells, first + stride - 1, count)
+    }
+}
+
+impl Net for CellNet {
+    ghost use Rattle.std.specs.Prelude.{length};
+    ghost use Rattle.cell_floods.specs.Cells.{IsCellJoin, source_of};
+    ghost use Rattle.cell_floods.specs.CellJoins.{join_inside, join_back};
+
+    ghost node_count = { λ n. length n.cells };
+
+    ghost joins = { IsCellJoin };
+
+    ghost source_height = { source_of };
+
+    ghost joined_inside = { join_inside };
+
+    ghost joined_back = { join_back };
+
+    #[inline]
+    fn nodes(&self) -> u32 {
+        self.cells.len() as u32
+    }
+
+    #[inline]
+    fn neighbours(&self, alloc: Global, node: u32) -> Result<SmallVec<Spill, 8>, NoMemory> {
+        let Some(height) = self.cells[node as usize].height() else {
+            return Ok(SmallVec::new(alloc));
+        };
+        Ok(ways_to(alloc, &self.cells, height, around(self.stride, node)))
+    }
+
+    #[inline]
+    fn spread(
+        &self,
+        _alloc: Global,
+        waits: &mut Waits,
+        from: &Waiting,
+        labels: &NodeLabels,
+        levels: &mut HeightList,
+    ) -> Result<(), NoMemory> {
+        let Some(height) = self.cells[from.node as usize].height() else {
+            return Ok(());
+        };
+        push_around(
+            waits,
+            &self.cells,
+            self.stride,
+            height,
+            from,
+            labels,
+            levels,
+        )?;
+        Ok(())
+    }
+
+    #[inline]
+    fn source(&self, node: u32) -> Option<Height> {
+        let height = self.cells[node as usize].height()?;
+        if any_gap(&self.cells, &around(self.stride, node)) || is_sink(&self.sinks, node) {
+            Some(height)
+        } else {
+            None
+        }
+    }
+
+    // Runs begin at each RUN-th node alone: so a gap is not met again from each node before it.
+    #[inline]
+    fn next_candidate(&self, from: u32) -> u32 {
+        let mut node = from;
+        while node % RUN == 0 && self.is_filled_run(node) {
+            node += RUN;
+        }
+        node
+    }
+}
+
+/// Adds so many cells without data.
+fn push_gaps(list: &mut Vec<Cell>, count: usize) -> Result<(), AllocError>
+    ensures { OnOk result (list.new.items ≡ list.old.items ++ replicate count None) }
+{
+    for _ in 0..count {
+        list.push(Cell::no_data())?;
+    }
+    Ok(())
+}
+
+/// Adds a row, with a cell without data at either end.
+#[inline]
+fn push_row(list: &mut Vec<Cell>, row: &[Cell]) -> Result<(), AllocError>
+    ensures { OnOk result (list.new.items ≡ list.old.items ++ (None ∷ row.now ++ None ∷ [])) }
+{
+    list.push(Cell::no_data())?;
+    list.extend_from_slice(row)?;
+    list.push(Cell::no_data())?;
+    Ok(())
+}
+
+/// The rows of a list in row order, with a border.
+fn bordered(alloc: Global, cells: &[Cell], cols: u32, rows: u32) -> Result<Vec<Cell>, AllocError>
+    requires size { length cells.now ≡ cols * rows }
+    requires few_cols { cols ≤ 4096 }
+    requires few_rows { rows ≤ 4096 }
+    ensures { IfOk result (λ v. v.items ≡ bordered_rows (row_of cols cells.now) (cols + 2) rows) }
+{
+    let width = cols as usize;
+    let stride = width + 2;
+    let mut list = Vec::with_capacity(alloc, (rows as usize + 2) * stride)?;
+    push_gaps(&mut list, stride)?;
+    for row in 0..rows {
+        let start = row as usize * width;
+        push_row(&mut list, &cells[start..start + width])?;
+    }
+    push_gaps(&mut list, stride)?;
+    Ok(list)
+}
+
+/// The rows of a tile, with a border.
+fn bordered_tile(alloc: Global, view: &TileView<'_, Cell>) -> Result<Vec<Cell>, AllocError>
+    ensures { let b = bounds_of view.now.cutting view.now.tile in
+        IfOk result (λ v. v.items ≡ bordered_rows (row_shown view.now) (b.cols + 2) b.rows) }
+{
+    let Bounds { rows, cols, .. } = view.bounds();
+    let stride = cols as usize + 2;
+    let mut list = Vec::with_capacity(alloc, (rows as usize + 2) * stride)?;
+    push_gaps(&mut list, stride)?;
+    for row in 0..rows {
+        push_row(&mut list, view.row(row))?;
+    }
+    push_gaps(&mut list, stride)?;
+    Ok(list)
+}
+
+impl CellNet {
+    /// The whole grid as a net.
+    pub fn of_grid(alloc: Global, grid: &Grid) -> Result<CellNet, NoMemory>
+        ensures { IfOk result (IsNetOf grid.now.terrain (whole grid.now.terrain)) }
+    {
+        let bounds = Bounds {
+            top: 0,
+            left: 0,
+            rows: grid.rows(),
+            cols: grid.cols(),
+        };
+        let cells = bordered(alloc, grid.cells(), bounds.cols, bounds.rows)?;
+        let sinks = window_sinks(alloc, bounds, grid.sinks())?;
+        Ok(CellNet {
+            stride: bounds.cols + 2,
+            cells,
+            sinks,
+        })
+    }
+
+    /// A tile as a net of its own, with those of these sinks that lie in it.
+    pub fn of_view(
+        alloc: Global,
+        view: &TileView<'_, Cell>,
+        sinks: &[Place],
+    ) -> Result<CellNet, NoMemory>
+        ensures { IfOk result (IsNetOf (with_sinks (terrain_of view.now) sinks.now) (bounds_of view.now.cutting view.now.tile)) }
+    {
+        let bounds = view.bounds();
+        let cells = bordered_tile(alloc, view)?;
+        let sinks = window_sinks(alloc, bounds, sinks)?;
+        Ok(CellNet {
+            stride: bounds.cols + 2,
+            cells,
+            sinks,
+        })
+    }
+}
+
+/// The entries of a [`CellNet`] inside its border of gaps, in row order: those of its `rows` times `cols` cells.
+pub(crate) fn without_border<T: Copy>(
+    alloc: Global,
+    list: &[T],
+    cols: u32,
+    rows: u32,
+) -> Result<Vec<T>, AllocError>
+    requires size { length list.now ≡ (rows + 2) * (cols + 2) }
+    requires few_cols { cols ≤ 4096 }
+    requires few_rows { rows ≤ 4096 }
+    ensures { IfOk result (λ v. v.items ≡ inner_rows list.now cols rows) }
+{
+    let width = cols as usize;
+    let stride = width + 2;
+    let mut inner = Vec::with_capacity(alloc, rows as usize * width)?;
+    for row in 0..rows {
+        let start = (row as usize + 1) * stride + 1;
+        inner.extend_from_slice(&list[start..start + width])?;
+    }
+    Ok(inner)
+}

@@ -1,0 +1,126 @@
+// The labels of a tile's cells, by a table of their places.
+ghost use Rattle.std.specs.Prelude.{◌≡◌, ◌+◌, ◌*◌, ◌^◌, ◌<◌, ◌≤◌, ◌∷◌, [], None, map, length, slice_index_or, IfOk, IfSome, OnOk};
+ghost use Rattle.tiles.specs.Cutting.{IsWithinLimits};
+ghost use Rattle.cell_floods.specs.Cells.{place_of_node};
+ghost use Rattle.floods.specs.Notes.{numbered_labels};
+ghost use Rattle.cell_floods.specs.Labels.{IsTable, AreMet, AreNodesBelow, IsListedAt, label_of_node, labels_by};
+
+use floods::label_of;
+use std::alloc::{AllocError, Global};
+use std::marker::Model;
+use terrain::Place;
+use tiles::Bounds;
+
+/// The labels of the cells of a tile, each once, and for each cell which of them is its own.
+#[derive(Drop)]
+pub struct Labels {
+    places: Vec<Option<Place>>,
+    indexes: Vec<u32>,
+    ghost table: { IsTable places.items indexes.items },
+}
+
+impl Model for Labels {
+    ghost use Rattle.cell_floods.specs.Labels.{LabelTable};
+
+    ghost Value = { LabelTable };
+
+    ghost view = { λ l. record { places = l.places.items; indexes = l.indexes.items } };
+}
+
+impl Labels {
+    /// The labels that cells of the tile have, each once. The first entry is None, for the cells without data.
+    #[inline(always)]
+    pub fn places(&self) -> &[Option<Place>]
+        ensures value { result.now ≡ self.now.places }
+        ensures table { IsTable self.now.places self.now.indexes }
+    {
+        &self.places
+    }
+
+    /// The index of each cell's label among the places, in the tile's row order.
+    #[inline(always)]
+    pub fn indexes(&self) -> &[u32]
+        ensures { result.now ≡ self.now.indexes }
+    {
+        &self.indexes
+    }
+
+    /// The label of the cell with this index in the tile's row order.
+    #[inline(always)]
+    pub(crate) fn at(&self, index: usize) -> Option<Place>
+        requires { index < length self.now.indexes }
+        ensures { result ≡ slice_index_or (labels_by self.now.places self.now.indexes) index None }
+    {
+        self.places[self.indexes[index] as usize]
+    }
+}
+
+/// The place of a node of the tile's net.
+#[inline(always)]
+fn place_of(bounds: Bounds, node: u32) -> Place
+    requires { (bounds.top ≤ 4096) × (bounds.left ≤ 4096) × (bounds.cols ≤ 4096) }
+    ensures { result ≡ place_of_node bounds.top bounds.left bounds.cols node }
+{
+    let stride = bounds.cols + 2;
+    Place {
+        row: (bounds.top + node / stride).saturating_sub(1),
+        col: (bounds.left + node % stride).saturating_sub(1),
+    }
+}
+
+/// Where the place of a node stands in the table; it is added when the node is met first. `met` has this
+/// index for each node that was met, and 0 for the others.
+#[inline(always)]
+fn index_of_label(
+    places: &mut Vec<Option<Place>>,
+    met: &mut [u32],
+    bounds: Bounds,
+    node: Option<u32>,
+) -> Result<u32, AllocError>
+    requires bounds { (bounds.top ≤ 4096) × (bounds.left ≤ 4096) × (bounds.cols ≤ 4096) }
+    requires few { length places.old.items < 2 ^ 32 }
+    requires node { IfSome node (λ a. a < length met.old) }
+    requires first { slice_index_or places.old.items 0 None ≡ None }
+    requires met { AreMet bounds met.old places.old.items }
+    ensures index { IfOk result (λ index. IsListedAt index (label_of_node bounds node) places.old.items places.new.items) }
+    ensures met { OnOk result (AreMet bounds met.new places.new.items) }
+{
+    let Some(node) = node else {
+        return Ok(0);
+    };
+    let index = met[node as usize];
+    if index != 0 {
+        return Ok(index);
+    }
+    let index = places.len() as u32;
+    places.push(Some(place_of(bounds, node)))?;
+    met[node as usize] = index;
+    Ok(index)
+}
+
+/// A table of labels with no place yet.
+fn empty_table(alloc: Global) -> Result<Vec<Option<Place>>, AllocError>
+    ensures { IfOk result (λ v. v.items ≡ None ∷ []) }
+{
+    let mut places = Vec::new(alloc);
+    places.push(None)?;
+    Ok(places)
+}
+
+/// The labels of a tile's cells, of the nodes that they have as labels in its net, as numbers.
+pub(crate) fn labels_of(alloc: Global, bounds: Bounds, nodes: &[u32]) -> Result<Labels, AllocError>
+    requires limits { IsWithinLimits bounds }
+    requires size { length nodes.now ≡ bounds.rows * bounds.cols }
+    requires nodes { AreNodesBelow ((bounds.rows + 2) * (bounds.cols + 2)) (numbered_labels nodes.now) }
+    ensures { IfOk result (λ labels. labels_by labels.places labels.indexes ≡ map (label_of_node bounds) (numbered_labels nodes.now)) }
+{
+    let count = (bounds.rows as usize + 2) * (bounds.cols as usize + 2);
+    let mut met = vec![in alloc; 0u32; count]?;
+    let mut places = empty_table(alloc)?;
+    let mut indexes = Vec::with_capacity(alloc, nodes.len())?;
+    for node in nodes {
+        let index = index_of_label(&mut places, &mut met, bounds, label_of(*node))?;
+        indexes.push(index)?;
+    }
+    Ok(Labels { places, indexes })
+}

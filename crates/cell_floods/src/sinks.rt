@@ -1,0 +1,59 @@
+// Which cells of a window are sinks.
+ghost use Rattle.std.specs.Prelude.{◌≡◌, ◌<◌, ◌+◌, ◌*◌, false, IfOk};
+ghost use Rattle.std.specs.List.{list_any};
+ghost use Rattle.tiles.specs.Cutting.{IsInBounds, IsWithinLimits, is_in_bounds};
+ghost use Rattle.cell_floods.specs.Cells.{HasSinks, is_sink, node_at};
+
+use std::alloc::{AllocError, Global};
+use terrain::Place;
+use tiles::Bounds;
+
+/// Whether a node is a sink, of those of [`window_sinks`].
+#[inline(always)]
+pub(crate) fn is_sink(sinks: &[bool], node: u32) -> bool
+    ensures { result ≡ is_sink sinks.now node }
+{
+    sinks.get(node as usize).copied().unwrap_or(false)
+}
+
+/// Whether one of these places lies in the bounds.
+fn is_any_in(bounds: Bounds, places: &[Place]) -> bool
+    requires { IsWithinLimits bounds }
+    ensures { result ≡ list_any (is_in_bounds bounds) places.now }
+{
+    places.iter().any(|&place| bounds.contains(place))
+}
+
+/// The number of the node of a place, among the cells of the bounds and their border.
+fn node_in(bounds: Bounds, place: Place) -> usize
+    requires limits { IsWithinLimits bounds }
+    requires inside { IsInBounds bounds place }
+    ensures value { result ≡ node_at bounds place }
+    ensures below { result < (bounds.rows + 2) * (bounds.cols + 2) }
+{
+    let row = (place.row - bounds.top) as usize + 1;
+    let col = (place.col - bounds.left) as usize + 1;
+    row * (bounds.cols as usize + 2) + col
+}
+
+/// For each cell of the bounds and their border whether it is one of these places, or an empty list where none is.
+pub(crate) fn window_sinks(
+    alloc: Global,
+    bounds: Bounds,
+    places: &[Place],
+) -> Result<Vec<bool>, AllocError>
+    requires { IsWithinLimits bounds }
+    ensures { IfOk result (λ v. HasSinks bounds places.now v.items) }
+{
+    if !is_any_in(bounds, places) {
+        return Ok(Vec::new(alloc));
+    }
+    let nodes = (bounds.rows as usize + 2) * (bounds.cols as usize + 2);
+    let mut sinks = vec![in alloc; false; nodes]?;
+    for place in places {
+        if bounds.contains(*place) {
+            sinks[node_in(bounds, *place)] = true;
+        }
+    }
+    Ok(sinks)
+}

@@ -1,0 +1,17 @@
+// The filled heights of a grid by one flood.
+ghost use Rattle.std.specs.Prelude.{IfOk};
+ghost use Rattle.drainage.specs.Filled.{IsFilled};
+
+use crate::cell_net::{CellNet, without_border};
+use floods::flood;
+use std::alloc::Global;
+use terrain::{Grid, Height, NoMemory};
+
+/// The filled height of each cell of the grid, in row order.
+pub fn filled_heights(alloc: Global, grid: &Grid) -> Result<Vec<Option<Height>>, NoMemory>
+    ensures { IfOk result (λ v. IsFilled grid.now.terrain v.items) }
+{
+    let net = CellNet::of_grid(alloc, grid)?;
+    let flooded = flood(alloc, &net)?;
+    Ok(without_border(alloc, &flooded.level, grid.cols(), grid.rows())?)
+}

@@ -1,6 +1,0 @@
-use Rattle.std.proofs.Common.{◌≡◌}
-use Rattle.floods.specs.Cells.{inner_rows}
-use Rattle.floods.proofs.cell_net.without_border.Given as goal
-
-abbrev pub invariant-loop-row : goal.invariant-loop-row
-invariant-loop-row g l = l.inner.items ≡ inner_rows l.list l.cols l.row

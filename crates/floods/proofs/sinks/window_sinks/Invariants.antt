@@ -1,5 +1,0 @@
-use Rattle.floods.proofs.Windows.{HasFirstSinks}
-use Rattle.floods.proofs.sinks.window_sinks.Given as goal
-
-abbrev pub invariant-loop-place : goal.invariant-loop-place
-invariant-loop-place l = HasFirstSinks l.bounds l.places l.place-index l.sinks.items
