@@ -7,7 +7,7 @@ ghost use Rattle.fill.specs.Parts.{IsPart, AreParts};
 use crate::passes::{lowest_joins, tile_joins};
 use crate::source_heights::SourceHeights;
 use crate::spills::Join;
-use crate::tile::TileFlood;
+use cell_floods::TileFlood;
 use std::alloc::{AllocError, Global};
 use tiles::Tiling;
 

@@ -13,7 +13,7 @@ use crate::numbering::Numbering;
 use crate::parts::{Part, tile_parts};
 use crate::source_heights::SourceHeights;
 use crate::sources::{label_sources, sources_by_tile};
-use crate::tile::TileFlood;
+use cell_floods::TileFlood;
 use floods::{Flooded, Net, Spill, flood};
 use smallvec::SmallVec;
 use std::alloc::{AllocError, Global};
