@@ -23,7 +23,7 @@ use Rattle.fill.proofs.Adding.{covered_itself, joins_of_is, HasAdded, after_way,
 use Rattle.tiles.proofs.TileOrder.{bounds_from_entry, entry_in-inside}
 
 -- each place of the table of a flood whose labels lie in the grid lies in it
-pub places_within : (c : Cutting) (f : Flood) (places : List (Option Place)) (cells : List ℕ) → f.labels ≡ labels_by places cells → IsTable places cells → LabelsInside c f → (k : ℕ) (p : Place) → get_or places k None ≡ Some p → IsWithin c p
+places_within : (c : Cutting) (f : Flood) (places : List (Option Place)) (cells : List ℕ) → f.labels ≡ labels_by places cells → IsTable places cells → LabelsInside c f → (k : ℕ) (p : Place) → get_or places k None ≡ Some p → IsWithin c p
 places_within c f places cells are table inside k p e =
     let held = Any-from_list_any (λ n. n == k) cells (table.used k p e) in
     inside held.0 p (
@@ -42,12 +42,6 @@ all_within c f places cells are table inside k d low =
 pub cells_size : (f : Flood) (places : List (Option Place)) (cells : List ℕ) → f.labels ≡ labels_by places cells → IsFlood f → length cells ≡ length f.levels
 cells_size f places cells are lawful =
     sym (length-map cells (λ k. get_or places k None)) ∙ ap length (sym are) ∙ lawful.labels_size ∙ sym lawful.levels_size
-
--- cells with one index have one label
-pub same_label : (f : Flood) (places : List (Option Place)) (cells : List ℕ) (i j : ℕ) → f.labels ≡ labels_by places cells → i < length cells → j < length cells → get_or cells i 0 ≡ get_or cells j 0 → get_or f.labels i None ≡ get_or f.labels j None
-same_label f places cells i j are i_low j_low same = label i i_low ∙ ap (λ n. get_or places n None) same ∙ sym (label j j_low) where
-  label : (k : ℕ) → k < length cells → get_or f.labels k None ≡ get_or places (get_or cells k 0) None
-  label k low = ap (λ (z : List (Option Place)). get_or z k None) are ∙ get_or-map (λ n. get_or places n None) cells k 0 None low
 
 -- a label is an entry
 pub label_entry : (f : Flood) (p label : Place) → label_in f p ≡ Some label → (k : ℕ) × (get_or f.labels k None ≡ Some label)
@@ -138,10 +132,13 @@ equal_after_adds cols f sources places cells i width now are inside e = elim (se
     south_east = near found.0 found.1 3 (omega arith) (omega arith);
   })
 ] where
+  label : (k : ℕ) → k < length cells → get_or f.labels k None ≡ get_or places (get_or cells k 0) None
+  label k low = ap (λ (z : List (Option Place)). get_or z k None) are ∙ get_or-map (λ n. get_or places n None) cells k 0 None low
+
   near : (from : Mark) → mark_with cols f i ≡ Some from → (way : ℕ) → way < 4 → get_or (cells_after width i) way 0 < length cells → AddsCovered now (joins_of sources from (mark_with cols f (get_or (cells_after width i) way 0))) now
   near from is way few low =
       let j = get_or (cells_after width i) way 0 in
-      same_label_adds cols f sources i j from now is (same_label f places cells i j are (omega (arith, inside)) low (sym (e way 0 few)))
+      same_label_adds cols f sources i j from now is (label i (omega (arith, inside)) ∙ ap (λ n. get_or places n None) (sym (e way 0 few)) ∙ sym (label j low))
 
 -- the joins of a cell that is not on the rim with the four after it have been added
 pub inner_adds : (c : Cutting) (floods : List Flood) (sources : List (Option ℤ)) (tile : ℕ) (f : Flood) (p : Place) (i : ℕ) (from : Mark) (old new : List Join) → IsCutting c → tile < tile_count c → slice_get floods tile ≡ Some f → f.bounds ≡ bounds_of c tile → IsInner (bounds_of c tile) p → i ≡ index_in (bounds_of c tile) p → mark_with c.cols f i ≡ Some from → AddsAfter c.cols f sources from i (bounds_of c tile).cols old new → Adds c floods sources tile (λ q. q ≡ p) old new
