@@ -11,7 +11,7 @@ use Rattle.terrain.specs.declared.place.Place.{Place}
 use Rattle.tiles.specs.declared.bounds.Bounds.{Bounds}
 use Rattle.cell_floods.specs.Cells.{Cells, node_at, IsNetOf, HasSinks, IsBordered, first_rows, bordered_rows, row_of, whole}
 use Rattle.terrain.proofs.Places.{same_place, entry-inside}
-use Rattle.floods.proofs.Steps.{seen, none_some, none_done}
+use Rattle.terrain.proofs.Options.{cases_option, none_some, none_done}
 use Rattle.floods.proofs.Heaps.{replicated}
 
 -- each row has this many cells
@@ -120,7 +120,7 @@ net_of_rows t w row are show sinks has = record {
       bordered_rows_at row w.cols w.rows are (p.row - w.top) (p.col - w.left) r c
       ∙ show (p.row - w.top) (p.col - w.left) r c
       ∙ ap (height_at t) (same_place _ p (omega (arith, h.0)) (omega (arith, h.2)));
-  only = λ a some. elim (seen (get_or (bordered_rows row (w.cols + 2) w.rows) a None)) [
+  only = λ a some. elim (cases_option (get_or (bordered_rows row (w.cols + 2) w.rows) a None)) [
     | inl none ↦ none_done _ none some
     | inr found ↦
         let at = bordered_rows_only row w.cols w.rows are a found.0 found.1 in (

@@ -16,7 +16,8 @@ use Rattle.floods.specs.Flood.{entry_of, MakesWait, AreNoted, Follows}
 use Rattle.floods.specs.declared.queue.Waits.{Waits}
 use Rattle.floods.proofs.Noting.{passed_low, more_followed}
 use Rattle.floods.proofs.Noting.{no_ways as no_ways_yet}
-use Rattle.floods.proofs.Steps.{seen, le_of_same}
+use Rattle.terrain.proofs.Options.{cases_option}
+use Rattle.floods.proofs.Steps.{le_of_same}
 use Rattle.floods.proofs.Heaps.{cons_head, cons_tail, cons_cases, all_by_contains}
 
 -- what a list gives, and from what
@@ -93,7 +94,7 @@ beside_around s a b h (inr (inr (inr (inr e)))) = (0, omega arith, omega arith)
 
 -- a way that is there leads to a data cell
 way_found : (cells : List (Option ℤ)) (x : ℤ) (b : ℕ) (way : Spill) → way_to cells x b ≡ Some way → (y : ℤ) × (get_or cells b None ≡ Some y) × (record { to = b; height = int_max y x } ≡ way)
-way_found cells x b way e = elim (seen (get_or cells b None)) [
+way_found cells x b way e = elim (cases_option (get_or cells b None)) [
   | inl none ↦ let no = way_none cells x b none in absurd (cc)
   | inr found ↦ (found.0, found.1, same_Some _ way (sym (way_some cells x b found.0 found.1) ∙ e))
 ]
@@ -132,7 +133,7 @@ crest_by other height level = omega (arith, ints, clamps)
 
 -- a cell that has been noted as low needs no way
 pub no_higher_way : (cells : List (Option ℤ)) (labels : List (Option ℕ)) (levels : List (Option ℤ)) (from : Waiting) (to : ℕ) (height crest : ℤ) (waiting : List Waiting) → AreNoted labels levels waiting → ((h : ℤ) → get_or cells to None ≡ Some h → crest ≡ int_max h (int_max height from.height.0)) → (l : ℤ) × (entry_of levels to ≡ Some l) × (l ≤ℤ crest) → MakesWait labels from (cons_option (way_to cells height to) []) waiting waiting
-no_higher_way cells labels levels from to height crest waiting noted is low = elim (seen (get_or cells to None)) [
+no_higher_way cells labels levels from to height crest waiting noted is low = elim (cases_option (get_or cells to None)) [
   | inl none ↦ subst (λ o. MakesWait labels from (cons_option o []) waiting waiting) (sym (way_none cells height to none)) (no_ways_yet labels from waiting)
   | inr found ↦ subst (λ o. MakesWait labels from (cons_option o []) waiting waiting) (sym (way_some cells height to found.0 found.1))
       (passed_low labels levels from (record { to = to; height = int_max found.0 height }) waiting low.0 noted low.1 (trans _ _ _ low.2 (le_of_same _ _ (is found.0 found.1 ∙ crest_by found.0 height from.height.0))))

@@ -5,9 +5,9 @@ use Rattle.std.proofs.lemmas.Bool.{cases_eq, cases_lt, eq-eqb, or_left}
 use Rattle.std.proofs.lemmas.List.{map-append, get_or_past, get_or_append_left, get_or_push, length_push}
 use Rattle.std.proofs.lemmas.List.Elements.{All-push}
 use Rattle.std.proofs.lemmas.List.Folds.{list_any-append, list_any_at}
+use Rattle.terrain.proofs.Options.{none_some}
 use Rattle.terrain.specs.declared.place.Place.{Place}
 use Rattle.cell_floods.specs.Labels.{labels_by, IsTable, IsListedAt}
-use Rattle.floods.proofs.Steps.{none_some}
 
 -- a table that keeps its entries keeps the labels
 labels_kept : (old new : List (Option Place)) (cells : List ℕ) → All (λ k. k < length old) cells → ((k : ℕ) → k < length old → get_or new k None ≡ get_or old k None) → labels_by new cells ≡ labels_by old cells

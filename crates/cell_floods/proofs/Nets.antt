@@ -6,6 +6,7 @@ use Rattle.std.proofs.lemmas.Nat.{mul-add-lt, mul-le}
 use Rattle.std.proofs.lemmas.List.{take-map, drop-map, map-append, get_or_append_left, get_or-append_right, get_or-drop, get_or-take}
 use Rattle.std.proofs.lemmas.Slice.{between_is}
 use Rattle.std.specs.Prelude.{slice_range}
+use Rattle.terrain.proofs.Options.{match_of}
 use Rattle.terrain.specs.Raster.{Terrain}
 use Rattle.terrain.specs.Sinks.{with_sinks}
 use Rattle.terrain.specs.Neighbours.{height_at, entry_at, IsDataCell, IsEnd}
@@ -16,7 +17,6 @@ use Rattle.drainage.proofs.Reach.{data_inside}
 use Rattle.tiles.specs.Cutting.{IsInBounds, View, IsView, bounds_of, row_shown, terrain_of}
 use Rattle.floods.specs.Walk.{IsFlooded}
 use Rattle.cell_floods.specs.Cells.{Cells, node_at, IsNetOf, HasSinks, IsCellJoin, source_of, whole, inner_rows, bordered_rows}
-use Rattle.floods.proofs.Steps.{match_of}
 use Rattle.cell_floods.proofs.Windows.{IsOnRim, IsWindowSource, IsWindowPath, IsWindowLevel, end_is_source, window_level, window_none}
 use Rattle.tiles.specs.declared.bounds.Bounds.{Bounds}
 use Rattle.tiles.proofs.Cut.{bounds_inside}

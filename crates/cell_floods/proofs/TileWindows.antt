@@ -12,7 +12,7 @@ use Rattle.drainage.proofs.Reach.{data_inside}
 use Rattle.tiles.specs.Cutting.{IsInBounds, IsWithinLimits, Cutting, IsCutting, AreBounds, IsInTile, IsWithin, tile_count, bounds_of, is_on_rim, is_first_or_last, entry_in}
 use Rattle.floods.specs.Walk.{IsFlooded, IsWalk, end_of}
 use Rattle.cell_floods.specs.Cells.{Cells, node_at, IsNetOf, IsCellJoin, source_of, inner_rows, place_of_node}
-use Rattle.floods.proofs.Steps.{seen, match_of, none_some}
+use Rattle.terrain.proofs.Options.{cases_option, match_of, none_some}
 use Rattle.cell_floods.proofs.Nets.{length-inner_rows, inner_rows-map, inner_rows_at}
 use Rattle.floods.specs.Notes.{height_or_lack, label_of, numbered_labels}
 use Rattle.cell_floods.proofs.Windows.{IsOnRim, IsWindowSource, IsWindowPath, IsWindowLevel, end_is_source, window_level, window_none}
@@ -161,7 +161,7 @@ walk_end_below n a (step ∷ rest) low walk = walk_end_below n step.to rest (joi
 labels_below : (n : Cells) (levels : List (Option ℤ)) (labels : List (Option ℕ)) → IsFlooded (IsCellJoin n) (source_of n) (length n.cells) levels labels → AreNodesBelow (length labels) labels
 labels_below n levels labels flooded k node e = elim (cases_lt k (length labels)) [
   | inr past ↦ none_some _ node (get_or_past labels k None past) e
-  | inl low ↦ elim (seen (get_or levels k None)) [
+  | inl low ↦ elim (cases_option (get_or levels k None)) [
     | inl none ↦ none_some _ node (MatchOption-at_none _ _ none (flooded.each k (omega (arith, low, flooded.labels_size)))).1 e
     | inr found ↦
         let here = MatchOption-at_some _ _ found.0 found.1 (flooded.each k (omega (arith, low, flooded.labels_size))) in

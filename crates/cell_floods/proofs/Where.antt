@@ -10,7 +10,7 @@ use Rattle.tiles.specs.declared.bounds.Bounds.{Bounds}
 use Rattle.tiles.specs.Cutting.{Cutting, IsCutting, IsInBounds, tile_count, index_in, place_in}
 use Rattle.tiles.proofs.Cut.{in_tile}
 use Rattle.cell_floods.specs.Cells.{inner_rows}
-use Rattle.floods.proofs.Steps.{seen}
+use Rattle.terrain.proofs.Options.{cases_option}
 use Rattle.cell_floods.proofs.Nets.{length-inner_rows}
 use Rattle.cell_floods.specs.Labels.{labels_by, label_of_node}
 use Rattle.cell_floods.specs.TileFlood.{Flood, IsFlood, IsTileFlood, level_in, label_in, levels_where}
@@ -65,7 +65,7 @@ both_stand t c tile f h l is sound i = elim (cases_lt i (f.bounds.rows * f.bound
         let label : label_in f p ≡ get_or f.labels i None = entry_in-inside f.bounds f.labels p held ∙ ap (λ n. get_or f.labels n None) there in
         let level : level_in f p ≡ get_or f.levels i None = entry_in-inside f.bounds f.levels p held ∙ ap (λ n. get_or f.levels n None) there in
         let each = is.each p (in_tile c tile p h l (subst (λ (x : Bounds). IsInBounds x p) is.bounds held)) in
-        let both : is_some (label_in f p) ≡ is_some (level_in f p) = elim (seen (height_at t p)) [
+        let both : is_some (label_in f p) ≡ is_some (level_in f p) = elim (cases_option (height_at t p)) [
           | inl none ↦ let neither = MatchOption-at_none _ _ none each in ap is_some neither.1 ∙ sym (ap is_some neither.0)
           | inr found ↦ let here = MatchOption-at_some _ _ found.0 found.1 each in ap is_some here.3 ∙ sym (ap is_some here.2)
         ] in

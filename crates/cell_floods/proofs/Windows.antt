@@ -8,6 +8,7 @@ use Rattle.std.proofs.lemmas.Bool.{cases_eq, cases_order, or_cases, or_left, or_
 use Rattle.std.proofs.lemmas.Nat.{same_from_place}
 use Rattle.std.proofs.lemmas.List.Elements.{All-contains}
 use Rattle.std.proofs.lemmas.List.Folds.{Any-from_list_any, list_any_at}
+use Rattle.terrain.proofs.Heights.{height_is}
 use Rattle.terrain.specs.Raster.{Terrain}
 use Rattle.terrain.specs.Neighbours.{height_at, IsDataCell, Touches, IsNeighbour, HasGapAround, IsEnd, IsSink, height_of}
 use Rattle.terrain.specs.declared.place.Place.{Place}
@@ -21,7 +22,7 @@ use Rattle.floods.specs.declared.net.Spill.{Spill}
 use Rattle.floods.specs.Walk.{IsWalk, crest as walk_crest, end_of, IsFlooded}
 use Rattle.cell_floods.specs.Cells.{Cells, cell_of, node_at, IsNetOf, IsAfter, IsBeside, IsCellJoin, cells_around, has_gap_around, is_sink, source_of, last_of}
 use Rattle.cell_floods.specs.CellJoins.{some_inside}
-use Rattle.floods.proofs.Steps.{seen, none_some, none_done}
+use Rattle.terrain.proofs.Options.{cases_option, none_some, none_done}
 use Rattle.floods.proofs.Heaps.{not_some}
 use Rattle.cell_floods.proofs.CellWays.{all_beside, beside_around}
 use Rattle.cell_floods.proofs.Borders.{above_row}
@@ -172,7 +173,7 @@ node_of_place w r c a b =
 
 -- a number of the border has no data
 border_none : (t : Terrain) (w : Bounds) (n : Cells) → IsNetOf t w n → (r c : ℕ) → c < w.cols + 2 → ((1 ≤ r) → (r ≤ w.rows) → (1 ≤ c) → (c ≤ w.cols) → ⊥) → cell_of n (r * (w.cols + 2) + c) ≡ None
-border_none t w n net r c narrow outside = elim (seen (cell_of n (r * (w.cols + 2) + c))) [
+border_none t w n net r c narrow outside = elim (cases_option (cell_of n (r * (w.cols + 2) + c))) [
   | inl none ↦ none
   | inr found ↦
       let p = net.only (r * (w.cols + 2) + c) (ap is_some found.1) in
@@ -260,9 +261,6 @@ pub path_end : (t : Terrain) (w : Bounds) (p : Place) (rest : List Place) → Is
 path_end t w p [] inside path = inside
 path_end t w p (q ∷ rest) inside path = path_end t w q rest path.1 path.2
 
-pub height_is : (t : Terrain) (p : Place) (h : ℤ) → height_at t p ≡ Some h → height_of t p ≡ h
-height_is t p h e = ap (λ (o : Option ℤ). unwrap_or o (pos 0)) e
-
 joined_crest : (h k c : ℤ) → k ≤ℤ c → int_max (int_max k h) c ≡ int_max h c
 joined_crest h k c low = omega (arith, ints, clamps)
 
@@ -343,7 +341,7 @@ pub window_level : (t : Terrain) (w : Bounds) (n : Cells) (levels : List (Option
 window_level t w n levels labels net flooded p inside some =
     let a = node_at w p in
     let below = some_inside n.cells a (data_is (height_at t p) some).0 (net.inside p inside ∙ (data_is (height_at t p) some).1) in
-    elim (seen (get_or levels a None)) [
+    elim (cases_option (get_or levels a None)) [
       | inl none ↦
           let edge = (filled_height t p some).1.reached in
           let path = path_in_window t w p edge.0 inside edge.1 in
@@ -373,7 +371,7 @@ window_level t w n levels labels net flooded p inside some =
 -- a cell without data has neither
 pub window_none : (t : Terrain) (w : Bounds) (n : Cells) (levels : List (Option ℤ)) (labels : List (Option ℕ)) → IsNetOf t w n → IsFlooded (IsCellJoin n) (source_of n) (length n.cells) levels labels → (p : Place) → IsInBounds w p → height_at t p ≡ None → node_at w p < length n.cells → (get_or levels (node_at w p) None ≡ None) × (get_or labels (node_at w p) None ≡ None)
 window_none t w n levels labels net flooded p inside none below =
-    elim (seen (get_or levels (node_at w p) None)) [
+    elim (cases_option (get_or levels (node_at w p) None)) [
       | inl no_level ↦ (no_level, (MatchOption-at_none _ _ no_level (flooded.each (node_at w p) below)).1)
       | inr found ↦
           let here = MatchOption-at_some _ _ found.0 found.1 (flooded.each (node_at w p) below) in

@@ -9,6 +9,7 @@ use Rattle.std.proofs.lemmas.Nat.{same_from_place, mod_below, div-add-mod'}
 use Rattle.std.proofs.lemmas.Option.{same_Some}
 use Rattle.std.proofs.lemmas.List.{length-set, get_or-set_same, get_or-set_other, get_or_default}
 use Rattle.std.proofs.lemmas.List.Elements.{Contains-append_left, Contains-append_right, Contains-append_cases}
+use Rattle.terrain.proofs.Options.{none_some}
 use Rattle.terrain.specs.Neighbours.{Touches}
 use Rattle.terrain.specs.declared.place.Place.{Place}
 use Rattle.terrain.proofs.Places.{same_place}
@@ -17,7 +18,6 @@ use Rattle.cell_floods.specs.TileFlood.{Flood}
 use Rattle.fill.specs.Gathering.{mark_among, are_settled, Meets, IsMeetingAt, joins_of, Adds, AddsCovered, Covered, IsAfter}
 use Rattle.fill.specs.declared.spills.Join.{Join}
 use Rattle.fill.specs.declared.marks.Mark.{Mark}
-use Rattle.floods.proofs.Steps.{none_some}
 use Rattle.floods.proofs.Heaps.{cons_head, cons_cases, one_held}
 
 abbrev join_between : Mark → Mark → Join

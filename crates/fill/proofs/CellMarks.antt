@@ -18,7 +18,7 @@ use Rattle.fill.specs.Gathering.{Fit, LabelsInside, IsInner, cells_after, AreEqu
 use Rattle.fill.specs.declared.spills.Join.{Join}
 use Rattle.fill.specs.declared.marks.Mark.{Mark}
 use Rattle.std.proofs.lemmas.Nat.{mul-le}
-use Rattle.floods.proofs.Steps.{seen}
+use Rattle.terrain.proofs.Options.{cases_option}
 use Rattle.fill.proofs.Adding.{covered_itself, joins_of_is, HasAdded, after_way, none_added, added_more, all_added, no_mark_adds}
 use Rattle.tiles.proofs.TileOrder.{bounds_from_entry, entry_in-inside}
 
@@ -33,7 +33,7 @@ places_within c f places cells are table inside k p e =
 
 pub all_within : (c : Cutting) (f : Flood) (places : List (Option Place)) (cells : List ℕ) → f.labels ≡ labels_by places cells → IsTable places cells → LabelsInside c f → All (λ (o : Option Place). IfSome o (IsWithin c)) places
 all_within c f places cells are table inside k d low =
-    subst (λ (o : Option Place). IfSome o (IsWithin c)) (sym (get_or_default places k d None low)) (elim (seen (get_or places k None)) [
+    subst (λ (o : Option Place). IfSome o (IsWithin c)) (sym (get_or_default places k d None low)) (elim (cases_option (get_or places k None)) [
       | inl none ↦ subst (λ (o : Option Place). IfSome o (IsWithin c)) (sym none) tt
       | inr found ↦ subst (λ (o : Option Place). IfSome o (IsWithin c)) (sym found.1) (places_within c f places cells are table inside k found.0 found.1)
     ])
@@ -77,7 +77,7 @@ mark_from_tile c floods tile f p e same =
 
 -- outside the grid there are none
 pub mark_outside : (c : Cutting) (floods : List Flood) (p : Place) → IsCutting c → Fit c floods → (IsWithin c p → ⊥) → mark_among c floods p ≡ None
-mark_outside c floods p h fit outside = elim (seen (slice_get floods (tile_of_place c p))) [
+mark_outside c floods p h fit outside = elim (cases_option (slice_get floods (tile_of_place c p))) [
   | inl none ↦ ap (λ (o : Option Flood). mark_of c.cols (option_and_then (λ f. level_in f p) o) (option_and_then (λ f. label_in f p) o)) none
   | inr found ↦
       let tile = tile_of_place c p in
@@ -120,7 +120,7 @@ same_label_adds cols f sources i j from now is same = record {
 
 -- a cell whose entry is equal to the four after it gives no joins with them
 pub equal_after_adds : (cols : ℕ) (f : Flood) (sources : List (Option ℤ)) (places : List (Option Place)) (cells : List ℕ) (i width : ℕ) (now : List Join) → f.labels ≡ labels_by places cells → i + width + 1 < length cells → AreEqualAfter cells i width → MatchOption (mark_with cols f i) (now ≡ now) (λ from. AddsAfter cols f sources from i width now now)
-equal_after_adds cols f sources places cells i width now are inside e = elim (seen (mark_with cols f i)) [
+equal_after_adds cols f sources places cells i width now are inside e = elim (cases_option (mark_with cols f i)) [
   | inl none ↦ subst (λ (o : Option Mark). MatchOption o (now ≡ now) (λ from. AddsAfter cols f sources from i width now now)) (sym none) refl
   | inr found ↦ subst (λ (o : Option Mark). MatchOption o (now ≡ now) (λ from. AddsAfter cols f sources from i width now now)) (sym found.1) (record {
     after_first = now;
@@ -174,7 +174,7 @@ inner_adds c floods sources tile f p i from old new h below e bounds inner at is
 
 -- a cell that is not on the rim has its joins added, where it has a mark
 pub inner_cell_adds : (c : Cutting) (floods : List Flood) (sources : List (Option ℤ)) (tile : ℕ) (f : Flood) (p : Place) (i : ℕ) (old new : List Join) → IsCutting c → tile < tile_count c → slice_get floods tile ≡ Some f → f.bounds ≡ bounds_of c tile → IsInner (bounds_of c tile) p → i ≡ index_in (bounds_of c tile) p → MatchOption (mark_with c.cols f i) (new ≡ old) (λ from. AddsAfter c.cols f sources from i f.bounds.cols old new) → Adds c floods sources tile (λ q. q ≡ p) old new
-inner_cell_adds c floods sources tile f p i old new h below e bounds inner at s = elim (seen (mark_with c.cols f i)) [
+inner_cell_adds c floods sources tile f p i old new h below e bounds inner at s = elim (cases_option (mark_with c.cols f i)) [
   | inl none ↦
       let same = MatchOption-at_none _ _ none s in
       let inside : IsInBounds (bounds_of c tile) p = (omega (arith, inner), omega (arith, inner), omega (arith, inner), omega (arith, inner)) in

@@ -1,7 +1,7 @@
 -- The gathered joins and sources are those of the spill graph.
 use Rattle.std.proofs.Common.{◌≡◌, ◌≢◌, ℕ, ◌*◌, ◌/◌, ◌%◌, ◌<◌, ◌⊎◌, inl, inr, ◌&&◌, true, false, Bool, ℤ, ◌≤ℤ◌, List, [], length, get_or, Option, None, Some, is_some, ◌∙◌, sym, ap, subst, refl, arith}
 use Rattle.std.specs.List.{Contains, flat_map}
-use Rattle.std.proofs.lemmas.Bool.{cases_eq, cases_lt, cases_order, cases_Bool}
+use Rattle.std.proofs.lemmas.Bool.{and_parts, cases_eq, cases_lt, cases_order, cases_Bool}
 use Rattle.std.proofs.lemmas.Nat.{div-mul-add, mod-mul-add, div-add-mod'}
 use Rattle.std.proofs.lemmas.Option.{MatchOption-at_some, MatchOption-at_none, same_Some, slice_get_within}
 use Rattle.std.proofs.lemmas.List.{get_or_default, get_or_past}
@@ -21,10 +21,11 @@ use Rattle.fill.specs.Parts.{IsPart, AreParts, AddsTurned, IsGraph, joins_by_par
 use Rattle.fill.specs.declared.parts.Part.{Part}
 use Rattle.fill.specs.declared.spills.Join.{Join}
 use Rattle.fill.specs.declared.marks.Mark.{Mark}
-use Rattle.floods.proofs.Steps.{seen, none_some, none_done}
+use Rattle.terrain.proofs.Options.{cases_option, none_some, none_done}
 use Rattle.cell_floods.specs.CellJoins.{max_comm}
 use Rattle.floods.proofs.Heaps.{all_by_contains, not_some}
-use Rattle.cell_floods.proofs.Windows.{data_is, height_is}
+use Rattle.terrain.proofs.Heights.{height_is}
+use Rattle.cell_floods.proofs.Windows.{data_is}
 use Rattle.cell_floods.proofs.TileWindows.{data_within}
 use Rattle.drainage.proofs.Heights.{first_is_data, trans}
 use Rattle.drainage.proofs.Uniqueness.{between}
@@ -40,11 +41,6 @@ and_turned true true = refl
 and_turned true false = refl
 and_turned false true = refl
 and_turned false false = refl
-
-and_both : (a b : Bool) → (a && b) ≡ true → (a ≡ true) × (b ≡ true)
-and_both true true e = (refl, refl)
-and_both true false e = absurd (cc)
-and_both false b e = absurd (cc)
 
 -- the lowest joins of a tile
 pub tile_gathered : (c : Cutting) (floods : List Flood) (tile : ℕ) (out : List (Option ℤ)) (met lowest : List Join) → AreGathered c floods (IsInTile c tile) out met → AreLowest met lowest → AreGathered c floods (IsInTile c tile) out lowest
@@ -222,7 +218,7 @@ fit_labels t c tile f h below cuts flood k label e = elim (cases_lt k (length f.
       entry_in-inside f.bounds f.labels p (subst (λ b. IsInBounds b p) (sym flood.bounds) (in_bounds c tile p h i))
       ∙ ap (λ (b : Bounds). get_or f.labels (index_in b p) None) flood.bounds
       ∙ ap (λ n. get_or f.labels n None) (index_in-place_in (bounds_of c tile) k) ∙ e in
-      elim (seen (height_at t p)) [
+      elim (cases_option (height_at t p)) [
         | inl none ↦ none_some (label_in f p) label (MatchOption-at_none _ _ none (flood.each p i)).1 at
         | inr height ↦
             let here = MatchOption-at_some _ _ height.0 height.1 (flood.each p i) in
@@ -280,7 +276,7 @@ meets_pass t c floods out p q j h are m =
 
 -- gaps among the marks are gaps in the data
 gap_of : (t : Terrain) (c : Cutting) (floods : List Flood) (p : Place) → IsCutting c → AreFloods t c floods → HasGapAround t p → HasGapAmong c floods p
-gap_of t c floods p h are gap = gap_where p (λ q _ none. elim (seen (mark_among c floods q)) [
+gap_of t c floods p h are gap = gap_where p (λ q _ none. elim (cases_option (mark_among c floods q)) [
   | inl no_mark ↦ no_mark
   | inr found ↦
       let within = marked_within c floods q found.0 h (fit_of t c floods h are) found.1 in
@@ -289,7 +285,7 @@ gap_of t c floods p h are gap = gap_where p (λ q _ none. elim (seen (mark_among
 ]) gap
 
 gap_back : (t : Terrain) (c : Cutting) (floods : List Flood) (p : Place) → IsCutting c → AreFloods t c floods → HasGapAmong c floods p → HasGapAround t p
-gap_back t c floods p h are gap = gap_where p (λ q _ none. elim (seen (height_at t q)) [
+gap_back t c floods p h are gap = gap_where p (λ q _ none. elim (cases_option (height_at t q)) [
   | inl no_height ↦ ap is_some no_height
   | inr found ↦ none_some _ _ none (mark_is t c floods q (has_tile_level t c floods h are q (ap is_some found.1)) _ refl)
 ]) gap
@@ -320,7 +316,7 @@ edge_source t c floods sources p z h are s edge height =
     let within = data_within t c p are.cuts edge.0 in
     let here : IsSpillSource c floods p z = record { mark = end_mark t c floods p z h are (inl edge) height; gap = gap_of t c floods p h are edge.1 } in
     let entry = subst (λ q. IsSourceEntry c floods q (get_or sources (index_of c.cols p) None)) (source_place c p within) (s.each (index_of c.cols p) (index_below c.cols c.rows p within.0 within.1)) in
-    elim (seen (get_or sources (index_of c.cols p) None)) [
+    elim (cases_option (get_or sources (index_of c.cols p) None)) [
       | inl none ↦ absurd (MatchOption-at_none _ _ none entry z here)
       | inr found ↦
           let other = MatchOption-at_some _ _ found.0 found.1 entry in
@@ -454,7 +450,7 @@ pub is_open_graph : (t : Terrain) (c : Cutting) (floods : List Flood) (parts : L
 is_open_graph t c floods parts sources h are s srcs = record {
   count = refl;
   joined = λ a b z differ pass. elim (cases_Bool (are_settled sources a b)) [
-    | inl settled ↦ inl (and_both (is_some (get_or sources a None)) (is_some (get_or sources b None)) settled)
+    | inl settled ↦ inl (and_parts (is_some (get_or sources a None)) (is_some (get_or sources b None)) settled)
     | inr apart ↦ inr (is_joined t c floods sources parts sources h are s srcs.size a b z differ apart pass)
   ];
   joined_only = is_joined_only t c floods sources parts sources h are s;

@@ -12,7 +12,8 @@ use Rattle.floods.specs.declared.net.Spill.{Spill}
 use Rattle.floods.specs.Walk.{IsWalk, crest, end_of, IsLevel, HasNoWalk, IsFlooded, HasJust}
 use Rattle.floods.proofs.Heaps.{all_by_contains}
 use Rattle.floods.proofs.WaitLists.{in_some_list, in_lists}
-use Rattle.floods.proofs.Steps.{seen, le_of_same, match_of, none_done}
+use Rattle.terrain.proofs.Options.{cases_option, match_of, none_done}
+use Rattle.floods.proofs.Steps.{le_of_same}
 use mathlib.Core.List.{map-map}
 use Rattle.fill.specs.Gathering.{way_of}
 use Rattle.fill.specs.Spills.{Graph, HasJoin, source_in, AreLevelsOf}
@@ -270,7 +271,7 @@ all_levels g nodes numbers heights are s = (
     | inr past ↦
         let alone = unnumbered g nodes numbers a are past in
         rw (with_past heights k (get_or g.sources a None) (omega (arith, past, s.1.levels_size)), with_past labels k (get_or own a None) (omega (arith, past, many)), own_at 0 a g.sources a (omega arith))
-        (elim (seen (get_or g.sources a None)) [
+        (elim (cases_option (get_or g.sources a None)) [
           | inl none ↦ rw none (alone_none g a alone none, refl)
           | inr some ↦ rw some.1 (alone_level g a some.0 alone some.1)
         ])

@@ -30,7 +30,7 @@ use Rattle.fill.specs.Gathering.{Fit}
 use Rattle.cell_floods.specs.Labels.{labels_by, IsTable}
 use Rattle.cell_floods.proofs.Where.{levels_where-length, levels_where-at}
 use Rattle.fill.proofs.Gathered.{fit_of}
-use Rattle.floods.proofs.Steps.{seen, match_of, none_some}
+use Rattle.terrain.proofs.Options.{cases_option, match_of, none_some}
 use Rattle.fill.proofs.Rims.{has_tile_level, among_is, rims, list_there}
 use Rattle.std.specs.List.{Contains, All}
 use Rattle.std.proofs.lemmas.Option.{MatchOption-at_some, MatchOption-at_none, get_or_from_slice_get, slice_get-get_or, slice_get_within, same_Some}
@@ -299,7 +299,7 @@ floods_given t c (Ok v) n h cuts same len given = record {
 floods_given t c (Err e) n h cuts same len given = len
 
 pub filled_stand : (t : Terrain) (levels : List (Option ℤ)) → IsFilled t levels → All (λ c. IfSome c (λ h. Contains t.cells (Some h))) levels
-filled_stand t levels filled = All-from_get_or (λ c. IfSome c (λ h. Contains t.cells (Some h))) levels None (λ i below. each i below (seen (get_or levels i None))) where
+filled_stand t levels filled = All-from_get_or (λ c. IfSome c (λ h. Contains t.cells (Some h))) levels None (λ i below. each i below (cases_option (get_or levels i None))) where
   positive : (a b k : ℕ) → k < a * b → 0 < a
   positive zero b k h = absurd (omega (arith, h))
   positive (suc a) b k h = omega arith
@@ -312,7 +312,7 @@ filled_stand t levels filled = All-from_get_or (λ c. IfSome c (λ h. Contains t
       let p : Place = record { row = i / t.cols; col = i % t.cols } in
       let inside : IsInside t p = (div_below i t.cols t.rows some_cols (omega (arith, count, mul_comm t.cols t.rows)), mod_below i t.cols some_cols) in
       let entry : entry_at t.cols t.rows levels p ≡ Some found.0 = entry-inside t.cols t.rows levels p inside.0 inside.1 ∙ ap (λ n. get_or levels n None) (div-add-mod' i t.cols) ∙ found.1 in
-      subst (λ (c : Option ℤ). IfSome c (λ h. Contains t.cells (Some h))) (sym found.1) (elim (seen (height_at t p)) [
+      subst (λ (c : Option ℤ). IfSome c (λ h. Contains t.cells (Some h))) (sym found.1) (elim (cases_option (height_at t p)) [
         | inl none ↦ none_some (entry_at t.cols t.rows levels p) found.0 (MatchOption-at_none _ _ none (filled.each p inside)) entry
         | inr height ↦
             let level = MatchOption-at_some _ _ height.0 height.1 (filled.each p inside) in

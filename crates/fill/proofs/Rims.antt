@@ -21,8 +21,10 @@ use Rattle.floods.specs.Walk.{IsWalk, crest as walk_crest, IsFlooded}
 use Rattle.cell_floods.specs.TileFlood.{IsTileSource, IsTilePath, IsTileLevel, Flood, level_in, label_in}
 use Rattle.cell_floods.specs.Cells.{last_of}
 use Rattle.fill.specs.Spills.{AreFloods, level_among, label_among, Carries, IsPass, Graph, HasJoin, source_in, IsOpenGraphOf}
-use Rattle.floods.proofs.Steps.{seen, none_some, le_of_same}
-use Rattle.cell_floods.proofs.Windows.{data_is, height_is, path_in_window}
+use Rattle.terrain.proofs.Options.{cases_option, none_some}
+use Rattle.floods.proofs.Steps.{le_of_same}
+use Rattle.terrain.proofs.Heights.{height_is}
+use Rattle.cell_floods.proofs.Windows.{data_is, path_in_window}
 use Rattle.cell_floods.proofs.TileWindows.{data_within, tile_path}
 
 -- The level and the label of a cell among the floods.
@@ -59,7 +61,7 @@ has_tile_level t c floods h are p some =
 
 -- a cell with a level has data
 pub level_has_data : (t : Terrain) (c : Cutting) (floods : List Flood) → IsCutting c → AreFloods t c floods → (p : Place) (l : ℤ) → IsWithin c p → level_among c floods p ≡ Some l → IsDataCell t p
-level_has_data t c floods h are p l within e = elim (seen (height_at t p)) [
+level_has_data t c floods h are p l within e = elim (cases_option (height_at t p)) [
   | inr found ↦ ap is_some found.1
   | inl none ↦
       let tile = tile_of_place c p in
@@ -238,7 +240,7 @@ rims t c floods g levels labels h are graph flooded p l some =
     let below : a < g.nodes = omega (arith, graph.count, index_below c.cols c.rows l.label label_within.0 label_within.1) in
     let any = (filled_height t p some).1.reached in
     let any_walk = path_walk t c floods g h are graph p l any.0 any.1 in
-    elim (seen (get_or levels a None)) [
+    elim (cases_option (get_or levels a None)) [
       | inl none ↦ absurd ((MatchOption-at_none _ _ none (flooded.each a below)).0 any_walk.0 any_walk.1)
       | inr found ↦
           let level = (MatchOption-at_some _ _ found.0 found.1 (flooded.each a below)).2 in

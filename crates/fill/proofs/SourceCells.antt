@@ -19,7 +19,7 @@ use Rattle.fill.specs.declared.marks.Mark.{Mark}
 use Rattle.fill.specs.declared.sources.Source.{Source}
 use Rattle.fill.specs.declared.sources.TileSources.{TileSources}
 use Rattle.fill.specs.Parts.{AreTileSources, AreAllSources}
-use Rattle.floods.proofs.Steps.{seen, none_some, none_done}
+use Rattle.terrain.proofs.Options.{cases_option, none_some, none_done}
 use Rattle.fill.proofs.CellMarks.{label_entry, mark_parts, mark_from_tile}
 use Rattle.floods.proofs.Heaps.{all_by_contains}
 use Rattle.fill.specs.Spills.{level_among, label_among}
@@ -201,7 +201,7 @@ all_sources c floods heights h s = record { size = s.size; each = entry } where
   within k below = (div_below k c.cols c.rows h.some_col (omega (arith, below)), mod_below k c.cols h.some_col)
 
   entry : (k : ℕ) → k < c.cols * c.rows → IsSourceEntry c floods (at k) (get_or heights k None)
-  entry k below = elim (seen (get_or heights k None)) [
+  entry k below = elim (cases_option (get_or heights k None)) [
     | inl none ↦ subst (IsSourceEntry c floods (at k)) (sym none) (λ z source.
         let some = s.every (at k) z (within k below, tile_of_place_below c (at k) h (within k below)) source in
         absurd (cc (some, ap is_some (ap (λ n. get_or heights n None) (node k) ∙ none))))

@@ -181,7 +181,3 @@ noted_more source n h levels inside s is = record {
   ];
   rest = λ a past. get_or-set_other levels n a (Some h) None (λ same. omega (arith, same, past)) ∙ s.rest a (omega (arith, past));
 }
-
-pub not_some : {X : Type 0} (o : Option X) → is_some o ≡ false → o ≡ None
-not_some None e = refl
-not_some (Some x) e = absurd (cc)

@@ -1,4 +1,5 @@
 -- Lists of heights, some of which are lacking.
+use Rattle.terrain.proofs.Options.{none_some}
 use Rattle.std.proofs.Common.{◌≡◌, ℕ, zero, suc, ◌≤ℤ◌, ℤ, Bool, true, false, List, [], ◌∷◌, length, get_or, map, set, replicate, T, Option, None, Some, is_some, ◌∙◌, sym, ap, refl, arith, inl, inr, subst}
 use Rattle.std.specs.Int.Signed.{le_z}
 use Rattle.std.proofs.lemmas.Float.{T_from_true}
@@ -6,7 +7,6 @@ use Rattle.std.proofs.lemmas.Option.{same_Some}
 use Rattle.std.specs.Ordering.{int_eq}
 use Rattle.std.proofs.lemmas.Bool.{cases_Bool, cond-true, cond-false}
 use Rattle.std.proofs.lemmas.Bool.Decides.{Decides-int_eq}
-use Rattle.floods.proofs.Steps.{none_some}
 use Rattle.floods.specs.Notes.{noted, heights_where, height_or_lack, lack}
 
 pub length-where : (marks : List Bool) (heights : List ℤ) → length marks ≡ length heights → length (heights_where marks heights) ≡ length heights

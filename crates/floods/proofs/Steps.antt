@@ -7,27 +7,12 @@ use Rattle.std.proofs.lemmas.List.{length-set, get_or-set_same, get_or-set_other
 use Rattle.std.proofs.lemmas.List.Elements.{All-contains}
 use Rattle.std.proofs.lemmas.Option.{same_Some}
 use Rattle.std.proofs.lemmas.Bool.{cases_eq, cases_lt}
+use Rattle.terrain.proofs.Options.{cases_option, none_some, none_done, match_of}
 use Rattle.floods.specs.declared.net.Spill.{Spill}
 use Rattle.floods.specs.declared.queue.Waiting.{Waiting}
 use Rattle.floods.specs.Walk.{Joins, Sources, IsWalk, crest, end_of, IsLevel, HasNoWalk, IsFlooded, HasJust}
 use Rattle.floods.specs.Flood.{entry_of, IsDone, TakesLowest, waiting_by, SourcesWait, HasSourcesNoted, AreOwn, SomeWaits, ComesBy, MakesWait, AreNoted, KeepsDone}
 use Rattle.floods.proofs.Heaps.{HasWalk, IsFlooding, all_by_contains, replicated}
-
--- what an entry is, as a case to split on
-pub seen : {X : Type 0} (o : Option X) → (o ≡ None) ⊎ ((x : X) × (o ≡ Some x))
-seen None = inl refl
-seen (Some x) = inr (x, refl)
-
-pub none_some : {X P : Type 0} (o : Option X) (x : X) → o ≡ None → o ≡ Some x → P
-none_some o x e f = absurd (cc)
-
-pub none_done : {X P : Type 0} (o : Option X) → o ≡ None → IsSome o → P
-none_done None e h = absurd (cc)
-none_done (Some x) e h = absurd (cc)
-
-pub match_of : {X : Type 0} (o : Option X) (P : Type 0) (Q : X → Type 0) → (o ≡ None → P) → ((x : X) → o ≡ Some x → Q x) → MatchOption o P Q
-match_of None P Q none some = none refl
-match_of (Some x) P Q none some = some x refl
 
 pub le_of_same : (x y : ℤ) → x ≡ y → x ≤ℤ y
 le_of_same x y e = omega (arith, ints)
@@ -44,7 +29,7 @@ max_below h x y e = omega (arith, ints, clamps)
 -- on a walk from a node that is not done, some node that is not done waits at no more than the crest
 pub open_walk : (joins : Joins) (source : Sources) (nodes : ℕ) (levels : List (Option ℤ)) (labels : List (Option ℕ)) (waiting : List Waiting) → ((a b : ℕ) (h : ℤ) → joins a b h → b < nodes) → IsFlooding joins source nodes levels labels waiting → (walk : List Spill) (a : ℕ) → a < nodes → entry_of labels a ≡ None → IsWalk joins source a walk → (w : Waiting) × Contains waiting w × (entry_of labels w.node ≡ None) × (w.height.0 ≤ℤ crest source a walk)
 open_walk joins source nodes levels labels waiting inside s [] a below none walk =
-    elim (seen (source a)) [
+    elim (cases_option (source a)) [
       | inl none_here ↦ none_done (source a) none_here walk
       | inr found ↦
           let w = s.sources a found.0 below found.1 none in
@@ -52,7 +37,7 @@ open_walk joins source nodes levels labels waiting inside s [] a below none walk
     ]
 open_walk joins source nodes levels labels waiting inside s (step ∷ rest) a below none walk =
     let next = inside a step.to step.height walk.0 in
-    elim (seen (entry_of labels step.to)) [
+    elim (cases_option (entry_of labels step.to)) [
       | inl open_next ↦
           let w = open_walk joins source nodes levels labels waiting inside s rest step.to next open_next walk.1 in
           (w.0, w.1, w.2, trans _ _ _ w.3 (max_right step.height (crest source step.to rest)))
@@ -80,7 +65,7 @@ no_walk joins source nodes levels labels waiting inside s all a below none walk 
 
 -- where all that wait are done, any other node has no level noted
 pub none_left : (labels : List (Option ℕ)) (levels : List (Option ℤ)) (waiting : List Waiting) (a : ℕ) → AreNoted labels levels waiting → All (IsDone labels) waiting → entry_of labels a ≡ None → entry_of levels a ≡ None
-none_left labels levels waiting a s all none = elim (seen (entry_of levels a)) [
+none_left labels levels waiting a s all none = elim (cases_option (entry_of levels a)) [
   | inl unnoted ↦ unnoted
   | inr some ↦
       let w = s.waits a some.0 none some.1 in
@@ -92,7 +77,7 @@ pub flooded : (joins : Joins) (source : Sources) (nodes : ℕ) (levels : List (O
 flooded joins source nodes levels labels waiting inside s noted all = record {
   levels_size = s.levels_size;
   labels_size = s.labels_size;
-  each = λ a below. elim (seen (entry_of labels a)) [
+  each = λ a below. elim (cases_option (entry_of labels a)) [
     | inl none ↦ rw (none_left labels levels waiting a noted all none) (no_walk joins source nodes levels labels waiting inside s all a below none, none)
     | inr some ↦
         let level = s.settled a some.0 some.1 in

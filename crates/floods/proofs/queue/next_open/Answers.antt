@@ -3,7 +3,8 @@ use Rattle.std.specs.List.{Contains}
 use Rattle.std.proofs.lemmas.List.Elements.{All-contains}
 use Rattle.std.proofs.lemmas.List.Sorted.{length_permutation}
 use Rattle.floods.specs.Flood.{entry_of, waiting_in}
-use Rattle.floods.proofs.Heaps.{cons_head, held_in, nothing_left, one_left, first_open, all_done, not_some}
+use Rattle.floods.proofs.Heaps.{cons_head, held_in, nothing_left, one_left, first_open, all_done}
+use Rattle.terrain.proofs.Options.{none_from_is_some}
 use Rattle.floods.proofs.queue.next_open.Goals as goal
 
 pub loop-waiting-init : goal.loop-waiting-init
@@ -12,7 +13,7 @@ loop-waiting-init c = record { order = c.requires.order; done = nothing_left _ _
 pub returns-then-not-has-clause-some : goal.returns-then-not-has-clause-some
 returns-then-not-has-clause-some c =
     first_open _ _ _ _ _ c.loop-waiting.invariant.done c.in-Some.ensures.taken c.in-Some.ensures.lowest
-    (not_some (entry_of c.args.labels.now c.in-Some.waiting.node) (sym c.has.ensures ∙ c.if-not-has.true))
+    (none_from_is_some (entry_of c.args.labels.now c.in-Some.waiting.node) (sym c.has.ensures ∙ c.if-not-has.true))
 
 pub loop-waiting-preserved : goal.loop-waiting-preserved
 loop-waiting-preserved c = record {

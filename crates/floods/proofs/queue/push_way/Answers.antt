@@ -1,6 +1,6 @@
 use Rattle.std.proofs.Common.{rules, ◌≡◌, sym, ◌∙◌, is_some, true, Option, IsSome}
 use Rattle.floods.specs.Flood.{entry_of}
-use Rattle.floods.proofs.Heaps.{not_some}
+use Rattle.terrain.proofs.Options.{none_from_is_some}
 use Rattle.floods.proofs.Noting.{passed_low, passed_done, stays, followed, noted, keeps_done, own_by_way, kept_crest}
 use Rattle.floods.proofs.Steps.{le_of_same, trans}
 use Rattle.floods.proofs.queue.push_way.Goals as goal
@@ -23,7 +23,7 @@ pub returns : goal.returns
 returns c =
     let value = kept_crest c.args.way.height c.args.from.now.height.0 c.max-crest.result (search rules) (search rules) (search rules) c.max-crest.ensures.value in
     let pushed = rw value at c.in_ok-put.ensures.puts in
-    let none = not_some (entry_of c.args.labels.now c.args.way.to) (sym c.has.ensures ∙ c.if-has.false) in
+    let none = none_from_is_some (entry_of c.args.labels.now c.args.way.to) (sym c.has.ensures ∙ c.if-has.false) in
     rw (c.put-2.ensures, value) (record {
       order = c.in_ok-put.ensures.order;
       noted = noted c.args.labels.now _ c.args.from.now c.args.way _ _ c.requires.inside c.requires.noted pushed;
