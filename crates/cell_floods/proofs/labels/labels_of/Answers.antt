@@ -19,7 +19,7 @@ loop-node-preserved c =
       met = rw written c.in_ok-index.ensures.met;
       size = rw written (c.index_of_label.auto.met ∙ ap length c.deref_mut.ensures.value ∙ before.size);
       labels = mapped_more (label_of_node c.args.bounds) (numbered_labels c.args.nodes.now) c.loop-node.node-index None _ _ _ low before.labels (cell_label _ _ _ _ _ _ before.table at c.in_ok-push.ensures.items)
-      (ap (label_of_node c.args.bounds) (sym (get_or-map label_of c.args.nodes.now c.loop-node.node-index 0 None c.loop-node-test.true ∙ sym c.label_of.ensures)));
+          (ap (label_of_node c.args.bounds) (sym (get_or-map label_of c.args.nodes.now c.loop-node.node-index 0 None c.loop-node-test.true ∙ sym c.label_of.ensures)));
     }
 
 pub index_of_label-requires-clause-node : goal.index_of_label-requires-clause-node
