@@ -1,61 +1,31 @@
 -- The marks of places that crossings with columns and with rows leave.
-use Rattle.std.proofs.Common.{arith, sym, ap, ◌∙◌, ◌≡◌, ◌+◌, ◌-◌, ◌*◌, ◌≤◌, ℕ, ℤ, pos, ◌+ℤ◌, Bool, true, false, not, ◌&&◌, List, length, Option, get_or, unwrap_or, min, max}
+use Rattle.std.proofs.Common.{arith, sym, ap, ◌∙◌, ◌≡◌, ◌+◌, ◌-◌, ◌*◌, ◌<◌, ◌≤◌, ℕ, ℤ, pos, ◌+ℤ◌, Bool, true, false, not, ◌&&◌, List, Option, get_or, unwrap_or}
 use Rattle.std.proofs.lemmas.Nat.{mul-add-lt}
-use Rattle.terrain.specs.Raster.{Terrain, IsTerrain}
+use Rattle.terrain.specs.Raster.{Terrain}
 use Rattle.terrain.specs.Neighbours.{IsInside, height_of}
 use Rattle.terrain.specs.declared.place.Place.{Place}
 use Rattle.tiles.specs.declared.bounds.Bounds.{Bounds}
 use Rattle.tiles.specs.Cutting.{index_in}
 use Rattle.sightlines.specs.Sight.{column_blocks, row_blocks}
 use Rattle.sightlines.specs.Walk.{columns_of, rows_of, walk_blocks}
-use Rattle.sight.specs.Hiding.{IsWindow}
 use Rattle.sight.specs.Marks.{mark_at, AreLeft}
-use Rattle.sight.specs.Sides.{sightline_to, AreOpen}
-use Rattle.sight.specs.declared.family.Family.{Family}
+use Rattle.sight.specs.Sides.{sightline_to, AreOpen, family_of, window_of}
+use Rattle.sight.specs.declared.sides.Coordinate.{Coordinate}
 use Rattle.sightlines.specs.declared.walk.Sightline.{Sightline}
-use Rattle.sight.specs.declared.window.Window.{Window}
 use Rattle.sightlines.proofs.Crossings.{height_is, column_blocks-walk, row_blocks-walk}
 
--- the lines of an observer, and the window of a tile along them
-abbrev pub columns_from : Terrain → Bounds → Place → ℤ → Family
-columns_from t b p e = record {
-  lines = record { at = p.col; stride = 1; back = false };
-  side = record { at = p.row; stride = t.cols; first = min p.row b.top; cells = max (p.row + 1) (b.top + b.rows) };
-  eye = e;
-}
+-- the coordinates of an observer who looks at a tile
+abbrev pub columns_at : Bounds → Place → Coordinate
+columns_at b p = record { at = p.col; stride = 1; tile = record { first = b.left; cells = b.cols; stride = 1 } }
 
-abbrev pub rows_from : Terrain → Bounds → Place → ℤ → Family
-rows_from t b p e = record {
-  lines = record { at = p.row; stride = t.cols; back = false };
-  side = record { at = p.col; stride = 1; first = min p.col b.left; cells = max (p.col + 1) (b.left + b.cols) };
-  eye = e;
-}
+abbrev pub rows_at : Terrain → Bounds → Place → Coordinate
+rows_at t b p = record { at = p.row; stride = t.cols; tile = record { first = b.top; cells = b.rows; stride = b.cols } }
 
-abbrev pub by_columns : Bounds → Window
-by_columns b = record { lines = record { first = b.left; cells = b.cols; stride = 1 }; side = record { first = b.top; cells = b.rows; stride = b.cols } }
+pub column_marks : (b : Bounds) (x y n : ℕ) → n ≡ b.rows * b.cols → x < b.cols → y < b.rows → x * 1 + y * b.cols < n
+column_marks b x y n size in_x in_y = omega (arith, size, mul-add-lt y b.cols x b.rows in_y in_x)
 
-abbrev pub by_rows : Bounds → Window
-by_rows b = record { lines = record { first = b.top; cells = b.rows; stride = b.cols }; side = record { first = b.left; cells = b.cols; stride = 1 } }
-
-pub columns_window : (t : Terrain) (p : Place) (e : ℤ) (b : Bounds) (marks : List Bool) → IsTerrain t → b.top + b.rows ≤ t.rows → b.left + b.cols ≤ t.cols → length marks ≡ b.rows * b.cols
-    → IsWindow (columns_from t b p e) (by_columns b) marks
-columns_window t p e b marks is rows cols size = record {
-  lines = omega (arith, cols, is.few_cols);
-  first = omega arith;
-  side = omega arith;
-  strides = (omega arith, omega (arith, cols, is.few_cols));
-  inside = λ x y in_x in_y. omega (arith, size, mul-add-lt y b.cols x b.rows in_y in_x);
-}
-
-pub rows_window : (t : Terrain) (p : Place) (e : ℤ) (b : Bounds) (marks : List Bool) → IsTerrain t → b.top + b.rows ≤ t.rows → b.left + b.cols ≤ t.cols → length marks ≡ b.rows * b.cols
-    → IsWindow (rows_from t b p e) (by_rows b) marks
-rows_window t p e b marks is rows cols size = record {
-  lines = omega (arith, rows, is.few_rows);
-  first = omega arith;
-  side = omega arith;
-  strides = (omega (arith, cols, is.few_cols), omega arith);
-  inside = λ x y in_x in_y. omega (arith, size, mul-add-lt x b.cols y b.rows in_x in_y);
-}
+pub row_marks : (b : Bounds) (x y n : ℕ) → n ≡ b.rows * b.cols → x < b.rows → y < b.cols → x * b.cols + y * 1 < n
+row_marks b x y n size in_x in_y = omega (arith, size, mul-add-lt x b.cols y b.rows in_x in_y)
 
 -- a mark that is told at another index, with another walk
 told : (new old : List Bool) (i j : ℕ) (walked blocked : Bool) → i ≡ j → walked ≡ blocked → get_or new i false ≡ (get_or old i false && not walked) → get_or new j false ≡ (get_or old j false && not blocked)
@@ -63,26 +33,26 @@ told new old i j walked blocked at same is =
     ap (λ k. get_or new k false) (sym at) ∙ is ∙ ap (λ k. get_or old k false && not walked) at ∙ ap (λ b. get_or old j false && not b) same
 
 module _ (t : Terrain) (p : Place) (b : Bounds) (e : ℤ) (target : ℕ) (old new : List Bool) (observer : IsInside t p) (rows : b.top + b.rows ≤ t.rows) (cols : b.left + b.cols ≤ t.cols) where
-  column_told : (q : Place) → IsInside t q → walk_blocks t.cells (sightline_to t.cells (columns_from t b p e) target q.col q.row) ≡ column_blocks t p q e (height_of t q +ℤ pos target)
+  column_told : (q : Place) → IsInside t q → walk_blocks t.cells (sightline_to t.cells (family_of (columns_at b p) (rows_at t b p) e) target q.col q.row) ≡ column_blocks t p q e (height_of t q +ℤ pos target)
   column_told q inside =
       let height = height_is t q.row q.col (q.col * 1 + q.row * t.cols) inside.0 inside.1 (omega arith) in
       let line : Option ℤ → Sightline = λ h. record { lead = columns_of p q; side = rows_of t p q; from_level = e; to_level = unwrap_or h (pos 0) +ℤ pos target } in
       ap (λ h. walk_blocks t.cells (line h)) (sym height) ∙ sym (column_blocks-walk t p q e (height_of t q +ℤ pos target) observer inside)
 
-  row_told : (q : Place) → IsInside t q → walk_blocks t.cells (sightline_to t.cells (rows_from t b p e) target q.row q.col) ≡ row_blocks t p q e (height_of t q +ℤ pos target)
+  row_told : (q : Place) → IsInside t q → walk_blocks t.cells (sightline_to t.cells (family_of (rows_at t b p) (columns_at b p) e) target q.row q.col) ≡ row_blocks t p q e (height_of t q +ℤ pos target)
   row_told q inside =
       let height = height_is t q.row q.col (q.row * t.cols + q.col * 1) inside.0 inside.1 (omega arith) in
       let line : Option ℤ → Sightline = λ h. record { lead = rows_of t p q; side = columns_of p q; from_level = e; to_level = unwrap_or h (pos 0) +ℤ pos target } in
       ap (λ h. walk_blocks t.cells (line h)) (sym height) ∙ sym (row_blocks-walk t p q e (height_of t q +ℤ pos target) observer inside)
 
-  pub columns_left : AreOpen t.cells (columns_from t b p e) (by_columns b) target old new → AreLeft b (λ (q : Place). not (column_blocks t p q e (height_of t q +ℤ pos target))) old new
+  pub columns_left : AreOpen t.cells (family_of (columns_at b p) (rows_at t b p) e) (window_of (columns_at b p) (rows_at t b p)) target old new → AreLeft b (λ (q : Place). not (column_blocks t p q e (height_of t q +ℤ pos target))) old new
   columns_left are = record {
     size = are.size;
     each = λ q inside. told new old ((q.col - b.left) * 1 + (q.row - b.top) * b.cols) (index_in b q) _ _ (omega arith) (column_told q (omega (arith, inside.1, rows), omega (arith, inside.3, cols)))
         (are.each q.col q.row (inside.2, inside.3) (inside.0, inside.1));
   }
 
-  pub rows_left : AreOpen t.cells (rows_from t b p e) (by_rows b) target old new → AreLeft b (λ (q : Place). not (row_blocks t p q e (height_of t q +ℤ pos target))) old new
+  pub rows_left : AreOpen t.cells (family_of (rows_at t b p) (columns_at b p) e) (window_of (rows_at t b p) (columns_at b p)) target old new → AreLeft b (λ (q : Place). not (row_blocks t p q e (height_of t q +ℤ pos target))) old new
   rows_left are = record {
     size = are.size;
     each = λ q inside. told new old ((q.row - b.top) * b.cols + (q.col - b.left) * 1) (index_in b q) _ _ (omega arith) (row_told q (omega (arith, inside.1, rows), omega (arith, inside.3, cols)))

@@ -1,11 +1,29 @@
 -- The lines of sight to the cells of a window, and which marks they leave. No public clause cites it.
-use Rattle.std.specs.Prelude.{◌≡◌, ℕ, ◌+◌, ◌*◌, Bool, not, ◌&&◌, ℤ, pos, ◌+ℤ◌, List, length, Option, None, unwrap_or, slice_index_or}
+use Rattle.std.specs.Prelude.{◌≡◌, ℕ, ◌+◌, ◌*◌, ◌<◌, ◌≤◌, Bool, false, not, ◌&&◌, ℤ, pos, ◌+ℤ◌, List, length, Option, None, unwrap_or, slice_index_or, min, max}
 use Rattle.sight.specs.Hiding.{IsInRun, mark_at}
 use Rattle.sight.specs.Sweep.{side_axis}
 use Rattle.sightlines.specs.Walk.{walk_blocks}
 use Rattle.sight.specs.declared.family.Family.{Family}
+use Rattle.sight.specs.declared.sides.Coordinate.{Coordinate}
 use Rattle.sightlines.specs.declared.walk.Sightline.{Sightline}
 use Rattle.sight.specs.declared.window.Window.{Window}
+
+-- The numbers of a coordinate are small enough to reckon with.
+pub record IsCoordinate (c : Coordinate) : Type 0 where
+  pub at : c.at < 4096
+  pub tile : c.tile.first + c.tile.cells ≤ 4096
+  pub strides : (c.stride ≤ 4096) × (c.tile.stride ≤ 4096)
+
+-- The crossings with the lines that one coordinate counts, and the tile along both.
+abbrev pub family_of : Coordinate → Coordinate → ℤ → Family
+family_of lines side eye = record {
+  lines = record { at = lines.at; stride = lines.stride; back = false };
+  side = record { at = side.at; stride = side.stride; first = min side.at side.tile.first; cells = max (side.at + 1) (side.tile.first + side.tile.cells) };
+  eye = eye;
+}
+
+abbrev pub window_of : Coordinate → Coordinate → Window
+window_of lines side = record { lines = lines.tile; side = side.tile }
 
 -- A family's lines, counted toward their beginning or away from it.
 abbrev pub facing : Family → Bool → Family
