@@ -32,8 +32,8 @@ module _ (b : Bounds) (r k : ℕ) (amid : IsAmid b r k) where
   pub goes_on_way : (n way : ℕ) → way_of n ≡ Some way → way < 8 → get_or (around_index b.cols (r * b.cols + k)) way 0 ≡ link_by b (r * b.cols + k) (Some n)
   goes_on_way n way is below =
       let q = on_ways b.top b.left b.cols (r * b.cols + k) here (b.top + r - 1) (b.left + k - 1)
-          (omega (arith, amid.first_row)) (omega (arith, amid.first_col)) (omega (arith, amid.first_row)) (omega (arith, amid.first_col)) at_here way below in
+      (omega (arith, amid.first_row)) (omega (arith, amid.first_col)) (omega (arith, amid.first_row)) (omega (arith, amid.first_col)) at_here way below in
       sym q.1.index
       ∙ linked (Some n) q.0
-          (ap (λ (o : Option ℕ). unwrap_or (option_and_then (λ way. place_on way here) o) here) is ∙ ap (λ (o : Option Place). unwrap_or o here) q.1.on)
-          (omega (arith, amid.first_row, q.1.touches.row_up), omega (arith, amid.last_row, q.1.touches.row_down), omega (arith, amid.first_col, q.1.touches.col_left), omega (arith, amid.last_col, q.1.touches.col_right))
+      (ap (λ (o : Option ℕ). unwrap_or (option_and_then (λ way. place_on way here) o) here) is ∙ ap (λ (o : Option Place). unwrap_or o here) q.1.on)
+      (omega (arith, amid.first_row, q.1.touches.row_up), omega (arith, amid.last_row, q.1.touches.row_down), omega (arith, amid.first_col, q.1.touches.col_left), omega (arith, amid.last_col, q.1.touches.col_right))
