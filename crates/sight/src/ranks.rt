@@ -7,6 +7,9 @@ ghost use Rattle.sight.specs.Ranks.{slope_of, AreNumbered, IsRanked};
 use horizons::Target;
 use std::alloc::{AllocError, Global};
 
+/// No target is aside by more cells.
+const FURTHEST_ASIDE: i64 = 4_096;
+
 /// The slope of a ray and its number among the rays.
 #[derive(Clone, Copy)]
 pub struct Numbered {
@@ -27,7 +30,7 @@ fn slope_of(target: Target) -> u64
     requires { IsTarget target }
     ensures { result ≡ slope_of target }
 {
-    let shifted = target.aside as i64 + 4096 * target.line as i64;
+    let shifted = target.aside as i64 + FURTHEST_ASIDE * target.line as i64;
     (shifted as u64) * (1 << 24) / target.line as u64
 }
 
