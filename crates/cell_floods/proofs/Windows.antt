@@ -22,8 +22,7 @@ use Rattle.floods.specs.declared.net.Spill.{Spill}
 use Rattle.floods.specs.Walk.{IsWalk, crest as walk_crest, end_of, IsFlooded}
 use Rattle.cell_floods.specs.Cells.{Cells, cell_of, node_at, IsNetOf, IsAfter, IsBeside, IsCellJoin, cells_around, has_gap_around, is_sink, source_of, last_of}
 use Rattle.cell_floods.specs.CellJoins.{some_inside}
-use Rattle.terrain.proofs.Options.{cases_option, none_some, none_done}
-use Rattle.floods.proofs.Heaps.{not_some}
+use Rattle.terrain.proofs.Options.{cases_option, none_some, none_done, none_from_is_some}
 use Rattle.cell_floods.proofs.CellWays.{all_beside, beside_around}
 use Rattle.cell_floods.proofs.Borders.{above_row}
 use Rattle.std.specs.List.{Contains}
@@ -216,7 +215,7 @@ source_gap t w n net p a source = elim source.1 [
     | inl north ↦ rim_gap t w n net p a (inl (omega (arith, a)))
     | inr other ↦ elim other [
       | inl west ↦ rim_gap t w n net p a (inr (inr (inl (omega (arith, a)))))
-      | inr some_gap ↦ at some_gap.0 some_gap.1 (not_some _ some_gap.2)
+      | inr some_gap ↦ at some_gap.0 some_gap.1 (none_from_is_some _ some_gap.2)
     ]
   ]
 ] where

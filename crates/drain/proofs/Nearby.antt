@@ -1,5 +1,5 @@
 -- What can be decided around a cell: neighbours, cells that drain at once, and walks of so many moves.
-use Rattle.std.proofs.Common.{◌≡◌, ℕ, zero, suc, ◌<ℤ◌, Bool, Decides, ◌&&◌, ◌||◌, ◌⊎◌, inl, inr, List, [], ◌∷◌, length, Option, None, Some, unwrap_or, ℤ, pos, int_lt, sym, ap, refl, ◌∙◌, arith}
+use Rattle.std.proofs.Common.{◌≡◌, ℕ, zero, suc, ◌<ℤ◌, Bool, Decides, ◌&&◌, ◌||◌, ◌⊎◌, inl, inr, List, [], ◌∷◌, length, Option, Some, unwrap_or, ℤ, pos, int_lt, sym, ap, refl, ◌∙◌, arith}
 use Rattle.std.specs.List.{list_any}
 use Rattle.std.specs.Ordering.{int_eq}
 use Rattle.std.proofs.lemmas.Bool.{cases_Bool, and_parts, and_from}

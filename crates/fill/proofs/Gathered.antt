@@ -21,9 +21,9 @@ use Rattle.fill.specs.Parts.{IsPart, AreParts, AddsTurned, IsGraph, joins_by_par
 use Rattle.fill.specs.declared.parts.Part.{Part}
 use Rattle.fill.specs.declared.spills.Join.{Join}
 use Rattle.fill.specs.declared.marks.Mark.{Mark}
-use Rattle.terrain.proofs.Options.{cases_option, none_some, none_done}
+use Rattle.terrain.proofs.Options.{cases_option, none_some, none_done, none_from_is_some}
 use Rattle.cell_floods.specs.CellJoins.{max_comm}
-use Rattle.floods.proofs.Heaps.{all_by_contains, not_some}
+use Rattle.floods.proofs.Heaps.{all_by_contains}
 use Rattle.terrain.proofs.Heights.{height_is}
 use Rattle.cell_floods.proofs.Windows.{data_is}
 use Rattle.cell_floods.proofs.TileWindows.{data_within}
@@ -281,7 +281,7 @@ gap_of t c floods p h are gap = gap_where p (λ q _ none. elim (cases_option (ma
   | inr found ↦
       let within = marked_within c floods q found.0 h (fit_of t c floods h are) found.1 in
       let parts = mark_parts c.cols (level_among c floods q) (label_among c floods q) found.0 found.1 in
-      none_done (height_at t q) (not_some _ none) (level_has_data t c floods h are q found.0.level within parts.1)
+      none_done (height_at t q) (none_from_is_some _ none) (level_has_data t c floods h are q found.0.level within parts.1)
 ]) gap
 
 gap_back : (t : Terrain) (c : Cutting) (floods : List Flood) (p : Place) → IsCutting c → AreFloods t c floods → HasGapAmong c floods p → HasGapAround t p

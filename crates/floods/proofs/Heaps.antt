@@ -1,5 +1,5 @@
 -- The state of a flood, and what a heap of waiting nodes has after each pop and push.
-use Rattle.std.proofs.Common.{[], ◌≡◌, ℕ, ◌<◌, ◌≤◌, ◌⊎◌, ℤ, List, length, Option, None, Some, IsSome, zero, suc, ◌+◌, false, ◌∷◌, get_or, set, replicate, ◌≤ℤ◌, is_some, sym, ap, subst, refl, ◌∙◌, arith, inl, inr}
+use Rattle.std.proofs.Common.{[], ◌≡◌, ℕ, ◌<◌, ◌≤◌, ◌⊎◌, ℤ, List, length, Option, None, Some, IsSome, zero, suc, ◌+◌, ◌∷◌, get_or, set, replicate, ◌≤ℤ◌, sym, ap, subst, refl, ◌∙◌, arith, inl, inr}
 use Rattle.std.specs.Int.{int_max}
 use Rattle.std.specs.List.{Contains, All}
 use Rattle.floods.specs.Walk.{Joins, Sources, HasNoSource, IsWalk, crest, end_of, IsLevel}

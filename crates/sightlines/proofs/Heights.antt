@@ -6,9 +6,6 @@ use Rattle.std.proofs.lemmas.Bool.{cases_lt}
 use Rattle.std.proofs.lemmas.List.{get_or_past, get_or_default}
 use Rattle.std.proofs.lemmas.List.Elements.{All-get_or}
 use Rattle.terrain.specs.Raster.{Terrain, IsTerrain, IsHeight}
-use Rattle.terrain.specs.Neighbours.{height_at, index_of}
-use Rattle.terrain.specs.declared.place.Place.{Place}
-use Rattle.terrain.proofs.Places.{inside_from_entry, entry-inside}
 use Rattle.sightlines.specs.Walk.{AreHeights}
 
 pub are_heights : (t : Terrain) → IsTerrain t → AreHeights t.cells

@@ -1,13 +1,10 @@
 -- Which places stand on a rim, and which touch a place.
-use Rattle.std.proofs.Common.{◌≡◌, ◌≢◌, ◌⊎◌, ℕ, zero, suc, ◌+◌, ◌<◌, ◌≤◌, Bool, true, List, [], ◌∷◌, length, map, filter, Contains, Option, None, Some, slice_index_or, sym, ap, subst, refl, ◌∙◌, arith, inl, inr, lit<}
+use Rattle.std.proofs.Common.{◌≡◌, ◌≢◌, ◌⊎◌, ℕ, zero, suc, ◌+◌, ◌<◌, ◌≤◌, Bool, true, List, [], ◌∷◌, length, map, filter, Contains, slice_index_or, sym, ap, subst, refl, ◌∙◌, arith, inl, inr}
 use Rattle.std.specs.List.{range_with_len, flat_map}
-use Rattle.std.proofs.lemmas.Bool.{cases_Bool, cases_eq, cases_order, cond-true, cond-false}
+use Rattle.std.proofs.lemmas.Bool.{cases_Bool, cases_eq, cond-true, cond-false}
 use Rattle.std.proofs.lemmas.List.Elements.{Contains-append_left, Contains-append_right, Contains-append_cases}
-use Rattle.std.proofs.lemmas.Option.{none-some, same_Some}
-use Rattle.terrain.specs.Neighbours.{Touches}
-use Rattle.terrain.specs.Ways.{before, place_of, ways_from}
 use Rattle.terrain.specs.declared.place.Place.{Place}
-use Rattle.terrain.proofs.Places.{make_place, same_place}
+use Rattle.terrain.proofs.Places.{make_place}
 use Rattle.tiles.specs.declared.bounds.Bounds.{Bounds}
 use Rattle.tiles.specs.Cutting.{Cutting, IsCutting, IsInTile, IsInBounds, tile_count, bounds_of, is_first_or_last, is_on_rim, places_in, rim_places}
 use Rattle.tiles.proofs.Cut.{in_bounds, in_tile}

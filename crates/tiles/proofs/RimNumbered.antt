@@ -1,18 +1,27 @@
 -- A cell of a rim and its number.
-use Rattle.std.proofs.Common.{◌≡◌, ◌≢◌, ℕ, ◌+◌, ◌-◌, ◌*◌, ◌/◌, ◌%◌, ◌^◌, ◌<◌, ◌≤◌, inl, inr, ap, ◌∙◌, arith, mul_comm, zero-mul}
+use Rattle.std.proofs.Common.{◌≡◌, ◌≢◌, ℕ, ◌+◌, ◌-◌, ◌*◌, ◌/◌, ◌%◌, ◌^◌, ◌<◌, ◌≤◌, true, inl, inr, ap, ◌∙◌, arith, mul_comm, zero-mul}
 use Rattle.std.proofs.Math.Nat.{zero-div, zero-mod, mul-le-mul}
-use Rattle.std.proofs.lemmas.Bool.{cases_eq, eq-eqb, ne_eqb, lt-ltb, le-ltb, cond-true, cond-false}
+use Rattle.std.proofs.lemmas.Bool.{cases_eq, or_cases, eqb-true, eq-eqb, ne_eqb, lt-ltb, le-ltb, cond-true, cond-false}
 use Rattle.std.proofs.lemmas.Nat.{div-mul-add, mod-mul-add, mul-add-lt}
 use Rattle.terrain.specs.declared.place.Place.{Place}
 use Rattle.terrain.proofs.Places.{make_place, same_place}
 use Rattle.tiles.specs.declared.bounds.Bounds.{Bounds}
-use Rattle.tiles.specs.Cutting.{Cutting, IsCutting, IsWithin, IsInBounds, across, tile_count, tile_of_place, bounds_of}
+use Rattle.tiles.specs.Cutting.{Cutting, IsCutting, IsWithin, IsInBounds, across, tile_count, tile_of_place, bounds_of, is_first_or_last, is_on_rim}
 use Rattle.tiles.proofs.Cut.{in_bounds, tile_of_place_below}
 use Rattle.tiles.specs.RimNumbers.{stride, side_number, side_place, number_count, rim_number, rim_place}
 
 -- the cell lies in the first or last row or column, the last column last
 abbrev pub IsSide : Bounds → Place → Type 0
 IsSide b p = p.row ≢ b.top → p.row + 1 ≢ b.top + b.rows → p.col ≢ b.left → p.col + 1 ≡ b.left + b.cols
+
+side_of_rim : (b : Bounds) (p : Place) → is_first_or_last b p ≡ true → IsSide b p
+side_of_rim b p on a c d = elim (or_cases _ _ on) [
+  | inr right ↦ eqb-true _ _ right
+  | inl three ↦ elim (or_cases _ _ three) [
+    | inr left ↦ absurd (d (eqb-true _ _ left))
+    | inl two ↦ elim (or_cases _ _ two) [ inl top ↦ absurd (a (eqb-true _ _ top)) | inr bottom ↦ absurd (c (eqb-true _ _ bottom)) ]
+  ]
+]
 
 module _ (l b : Bounds) (p : Place) (cols : b.cols ≤ l.cols) (rows : b.rows ≤ l.rows) (h : IsInBounds b p) where
   on_top : p.row ≡ b.top → side_number l b p ≡ p.col - b.left
@@ -101,6 +110,9 @@ module _ (t : Cutting) (h : IsCutting t) where
       ∙ ap (λ k. side_place (bounds_of t 0) (bounds_of t (tile_of_place t p)) k)
       (mod-mul-add (tile_of_place t p) (stride (bounds_of t 0)) (side_number (bounds_of t 0) (bounds_of t (tile_of_place t p)) p) below)
       ∙ side_back (bounds_of t 0) (bounds_of t (tile_of_place t p)) p (no_wider tile) (no_higher tile) i side
+
+  pub rim_back : (p : Place) → IsWithin t p → is_on_rim t p ≡ true → rim_place t (rim_number t p) ≡ p
+  rim_back p w on = number_back p w (side_of_rim (bounds_of t (tile_of_place t p)) p on)
 
   pub few_numbers : number_count t ≤ 2 ^ 30
   few_numbers =

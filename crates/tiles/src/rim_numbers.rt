@@ -1,6 +1,6 @@
 //! Numbers for the cells on the rims of all tiles.
-ghost use Rattle.std.specs.Prelude.{◌≡◌, ◌+◌, ◌*◌, ◌^◌, ◌<◌, ◌≤◌};
-ghost use Rattle.tiles.specs.Cutting.{IsInBounds, IsWithin, IsWithinLimits, bounds_of, tile_count};
+ghost use Rattle.std.specs.Prelude.{◌≡◌, ◌+◌, ◌*◌, ◌^◌, ◌<◌, ◌≤◌, true};
+ghost use Rattle.tiles.specs.Cutting.{IsInBounds, IsWithin, IsWithinLimits, bounds_of, is_on_rim, tile_count};
 ghost use Rattle.tiles.specs.RimNumbers.{stride, side_number, side_place, number_count, rim_number, rim_place};
 
 use crate::bounds::Bounds;
@@ -27,10 +27,11 @@ impl Tiling {
         (tile * count, count)
     }
 
-    /// The number of a rim cell. A cell that is on no rim has that of another.
+    /// The number of a rim cell, which leads back to it. A cell that is on no rim has that of another.
     pub fn rim_number(&self, place: Place) -> u32
         requires { IsWithin self.now place }
         ensures value { result ≡ rim_number self.now place }
+        ensures back { is_on_rim self.now place ≡ true → rim_place self.now result ≡ place }
         ensures below { result < number_count self.now }
     {
         let tile = self.tile_of(place);

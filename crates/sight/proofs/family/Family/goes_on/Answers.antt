@@ -1,4 +1,4 @@
-use Rattle.std.proofs.Common.{arith, rules, refl, sym, ap, ◌∙◌, ◌≡◌, ◌+◌, pos, ◌≤ℤ◌, get_or, None, Some, w64, FitsSigned, subst, true, false, Bool, ◌&&◌, ℕ, ℤ, int_eq, eqb}
+use Rattle.std.proofs.Common.{arith, rules, refl, sym, ap, ◌∙◌, ◌≡◌, ◌+◌, pos, ◌≤ℤ◌, get_or, None, Some, w64, FitsSigned, subst, true, ◌&&◌, ℕ, ℤ, int_eq, eqb}
 use Rattle.std.proofs.lemmas.Bool.{OnTrue_from, and_parts, eqb-true}
 use Rattle.std.proofs.lemmas.Int.{ints, to_z-of_z}
 use Rattle.horizons.specs.declared.target.Target.{Target}
