@@ -10,14 +10,13 @@ use Rattle.floods.specs.Walk.{HasJust}
 use Rattle.cell_floods.specs.Cells.{Cells, cell_of, IsBeside, IsCellJoin, cells_around, way_to}
 use Rattle.std.specs.Prelude.{◌≤ℤ◌}
 use Rattle.std.proofs.lemmas.Int.{ints, clamps}
-use Rattle.drainage.proofs.Heights.{trans}
 use Rattle.floods.specs.declared.queue.Waiting.{Waiting}
 use Rattle.floods.specs.Flood.{entry_of, MakesWait, AreNoted, Follows}
 use Rattle.floods.specs.declared.queue.Waits.{Waits}
 use Rattle.floods.proofs.Noting.{passed_low, more_followed}
 use Rattle.floods.proofs.Noting.{no_ways as no_ways_yet}
+use Rattle.terrain.proofs.Orders.{trans, le_of_same}
 use Rattle.terrain.proofs.Options.{cases_option}
-use Rattle.floods.proofs.Steps.{le_of_same}
 use Rattle.floods.proofs.Heaps.{cons_head, cons_tail, cons_cases, all_by_contains}
 
 -- what a list gives, and from what

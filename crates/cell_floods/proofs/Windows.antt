@@ -8,13 +8,14 @@ use Rattle.std.proofs.lemmas.Bool.{cases_eq, cases_order, or_cases, or_left, or_
 use Rattle.std.proofs.lemmas.Nat.{same_from_place}
 use Rattle.std.proofs.lemmas.List.Elements.{All-contains}
 use Rattle.std.proofs.lemmas.List.Folds.{Any-from_list_any, list_any_at}
+use Rattle.terrain.proofs.Orders.{max_left, max_right, max_least, trans}
 use Rattle.terrain.proofs.Heights.{height_is}
 use Rattle.terrain.specs.Raster.{Terrain}
 use Rattle.terrain.specs.Neighbours.{height_at, IsDataCell, Touches, IsNeighbour, HasGapAround, IsEnd, IsSink, height_of}
 use Rattle.terrain.specs.declared.place.Place.{Place}
 use Rattle.terrain.proofs.Places.{same_place}
 use Rattle.drainage.specs.Filled.{IsPath, crest}
-use Rattle.drainage.proofs.Heights.{max_left, max_right, max_least, height_below_crest, trans}
+use Rattle.drainage.proofs.Heights.{height_below_crest}
 use Rattle.drainage.proofs.FilledExists.{filled_height}
 use Rattle.tiles.specs.declared.bounds.Bounds.{Bounds}
 use Rattle.tiles.specs.Cutting.{IsInBounds, is_in_bounds}

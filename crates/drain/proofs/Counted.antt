@@ -3,13 +3,14 @@ use Rattle.std.proofs.Common.{◌≡◌, ℕ, zero, suc, ◌+◌, ◌<◌, ◌�
 use Rattle.std.proofs.lemmas.Int.{by_lt_z, ints}
 use Rattle.std.proofs.lemmas.Bool.{cases_eq, cases_lt}
 use Rattle.std.proofs.lemmas.Option.{MatchOption-at_some}
+use Rattle.terrain.proofs.Orders.{max_right, trans}
 use Rattle.terrain.proofs.Places.{inside_from_entry}
 use Rattle.terrain.specs.Raster.{Terrain}
 use Rattle.terrain.specs.Neighbours.{height_at, IsDataCell, height_of}
 use Rattle.drainage.specs.Filled.{IsPath, crest, IsFilled, IsFilledHeight}
 use Rattle.terrain.specs.declared.place.Place.{Place}
 use Rattle.drain.specs.Steps.{IsFlatWalk, IsSteps}
-use Rattle.drainage.proofs.Heights.{known, max_right, height_below_crest, trans}
+use Rattle.drainage.proofs.Heights.{known, height_below_crest}
 use Rattle.drainage.proofs.Uniqueness.{between}
 use Rattle.drain.proofs.Nearby.{WalksIn, walks_in}
 

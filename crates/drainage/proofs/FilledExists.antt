@@ -5,12 +5,13 @@ use Rattle.std.specs.List.{list_any}
 use Rattle.std.proofs.lemmas.Bool.{cases_Bool, cases_lt, and_from, or_cases, not_from_false, both_ways}
 use Rattle.std.proofs.lemmas.List.Sums.{count_by-le-length, sum_by-cons}
 use Rattle.std.proofs.lemmas.Int.{ints}
+use Rattle.terrain.proofs.Orders.{trans}
 use Rattle.terrain.specs.Raster.{Terrain}
 use Rattle.terrain.specs.Neighbours.{IsDataCell, Touches, IsNeighbour, height_of}
 use Rattle.drainage.specs.Filled.{IsPath, crest, IsFilledHeight}
 use Rattle.terrain.specs.declared.place.Place.{Place}
 use Rattle.terrain.proofs.Places.{make_place}
-use Rattle.drainage.proofs.Heights.{first_is_data, height_below_crest, trans}
+use Rattle.drainage.proofs.Heights.{first_is_data, height_below_crest}
 use Rattle.drainage.proofs.Reach.{field, any_place, data_inside, is_data, reaches, IsStable, HasLowPath, reaches_true, reaches_more, true_reaches}
 
 -- one that passes the first test passes the second

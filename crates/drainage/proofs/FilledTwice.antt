@@ -3,13 +3,14 @@ use Rattle.std.proofs.Common.{◌≡◌, List, [], ◌∷◌, Option, None, Some
 use Rattle.std.specs.Prelude.{unwrap_or, IsSome, MatchOption}
 use Rattle.std.proofs.lemmas.Bool.{cases_lt}
 use Rattle.std.proofs.lemmas.Option.{MatchOption-at_some, MatchOption-at_none}
+use Rattle.terrain.proofs.Orders.{max_right, max_least, trans}
 use Rattle.terrain.specs.Raster.{Terrain}
 use Rattle.terrain.specs.Neighbours.{height_at, entry_at, HasGapAround, height_of}
 use Rattle.drainage.specs.Filled.{IsPath, crest, IsFilledHeight, IsFilled}
 use Rattle.terrain.specs.declared.place.Place.{Place}
 use Rattle.terrain.proofs.Places.{entry-below, entry-beside, inside_from_entry, gap_where}
 use Rattle.drainage.proofs.Uniqueness.{between}
-use Rattle.drainage.proofs.Heights.{known, max_right, max_least, first_is_data, height_below_crest, trans}
+use Rattle.drainage.proofs.Heights.{known, first_is_data, height_below_crest}
 
 -- the terrain of the filled heights
 abbrev pub refilled : Terrain → List (Option ℤ) → Terrain

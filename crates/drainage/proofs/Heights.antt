@@ -5,22 +5,14 @@ use Rattle.std.specs.Int.{int_max}
 use Rattle.std.proofs.lemmas.Bool.{cases_lt, cases_Bool, cond-true, cond-false}
 use Rattle.std.proofs.lemmas.Int.{ints, clamps}
 use Rattle.std.proofs.lemmas.List.{get_or_past, get_or_default}
+use Rattle.terrain.proofs.Orders.{max_left}
 use Rattle.terrain.specs.Raster.{Terrain}
 use Rattle.terrain.specs.Neighbours.{height_at, IsDataCell, index_of, height_of}
 use Rattle.drainage.specs.Filled.{IsPath, crest, IsFilledHeight}
 use Rattle.terrain.specs.declared.place.Place.{Place}
 use Rattle.terrain.proofs.Places.{entry-inside, inside_from_entry}
 
--- the greater of two is one of them, and below neither
-pub max_left : (x y : ℤ) → x ≤ℤ int_max x y
-max_left x y = omega (arith, ints, clamps)
-
-pub max_right : (x y : ℤ) → y ≤ℤ int_max x y
-max_right x y = omega (arith, ints, clamps)
-
-pub max_least : (x y z : ℤ) → x ≤ℤ z → y ≤ℤ z → int_max x y ≤ℤ z
-max_least x y z a b = omega (arith, ints, clamps, a, b)
-
+-- the greater of two is one of them
 max_cases : (x y : ℤ) → (int_max x y ≡ x) ⊎ (int_max x y ≡ y)
 max_cases x y = elim (cases_Bool (int_lt y x)) [
   | inl t ↦ inl (cond-true (int_lt y x) x y t)
@@ -67,6 +59,3 @@ filled_height_stands t p level h = subst (λ l. Contains t.cells (Some l)) h.rea
 pub height_below_crest : (t : Terrain) (p : Place) (rest : List Place) → height_of t p ≤ℤ crest t p rest
 height_below_crest t p [] = omega (arith, ints)
 height_below_crest t p (q ∷ rest) = max_left (height_of t p) (crest t q rest)
-
-pub trans : (x y z : ℤ) → x ≤ℤ y → y ≤ℤ z → x ≤ℤ z
-trans x y z a b = omega (arith, ints, a, b)

@@ -7,6 +7,7 @@ use Rattle.std.proofs.lemmas.Bool.Decides.{nat_tests}
 use Rattle.std.proofs.lemmas.List.Folds.{list_any_at, Any-from_list_any, list_any-from_Any}
 use Rattle.std.proofs.lemmas.List.FromFn.{length-map-range_with_len, get_or-map-range_with_len}
 use Rattle.std.proofs.lemmas.Nat.{div-mul-add, mod-mul-add}
+use Rattle.terrain.proofs.Orders.{max_left, max_right, max_least, trans}
 use Rattle.terrain.specs.Raster.{Terrain}
 use Rattle.terrain.specs.Neighbours.{height_at, index_of, IsDataCell, Touches, IsNeighbour, HasGapAround, IsEnd, height_of}
 use Rattle.terrain.specs.Sinks.{is_place}
@@ -14,7 +15,7 @@ use Rattle.drainage.specs.Filled.{IsPath, crest}
 use Rattle.terrain.specs.declared.place.Place.{Place}
 use Rattle.terrain.proofs.Places.{make_place, same_place, index_below, inside_from_entry}
 use Rattle.terrain.proofs.Listed.{place_is, is_place_from, listed_from_any, any_from_listed}
-use Rattle.drainage.proofs.Heights.{known, first_is_data, max_left, max_right, max_least, trans}
+use Rattle.drainage.proofs.Heights.{known, first_is_data}
 
 -- the places of a field
 abbrev pub place_at : ℕ → ℕ → Place

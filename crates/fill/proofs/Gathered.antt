@@ -6,6 +6,7 @@ use Rattle.std.proofs.lemmas.Nat.{div-mul-add, mod-mul-add, div-add-mod'}
 use Rattle.std.proofs.lemmas.Option.{MatchOption-at_some, MatchOption-at_none, same_Some, slice_get_within}
 use Rattle.std.proofs.lemmas.List.{get_or_default, get_or_past}
 use Rattle.std.proofs.lemmas.List.Elements.{All-contains, Contains-get_or}
+use Rattle.terrain.proofs.Orders.{trans}
 use Rattle.terrain.specs.Raster.{Terrain}
 use Rattle.terrain.specs.Neighbours.{height_at, index_of, IsEdge, IsEnd, HasGapAround}
 use Rattle.terrain.specs.declared.place.Place.{Place}
@@ -27,7 +28,7 @@ use Rattle.floods.proofs.Heaps.{all_by_contains}
 use Rattle.terrain.proofs.Heights.{height_is}
 use Rattle.cell_floods.proofs.Windows.{data_is}
 use Rattle.cell_floods.proofs.TileWindows.{data_within}
-use Rattle.drainage.proofs.Heights.{first_is_data, trans}
+use Rattle.drainage.proofs.Heights.{first_is_data}
 use Rattle.drainage.proofs.Uniqueness.{between}
 use Rattle.fill.proofs.Rims.{HasTileLevel, has_tile_level, level_has_data, label_has_data, label_in_tile, source_level, end_label, list_there, among_is}
 use Rattle.fill.proofs.CellMarks.{label_entry, mark_some, mark_parts, mark_outside}

@@ -12,8 +12,8 @@ use Rattle.floods.specs.declared.net.Spill.{Spill}
 use Rattle.floods.specs.Walk.{IsWalk, crest, end_of, IsLevel, HasNoWalk, IsFlooded, HasJust}
 use Rattle.floods.proofs.Heaps.{all_by_contains}
 use Rattle.floods.proofs.WaitLists.{in_some_list, in_lists}
+use Rattle.terrain.proofs.Orders.{le_of_same}
 use Rattle.terrain.proofs.Options.{cases_option, match_of, none_done}
-use Rattle.floods.proofs.Steps.{le_of_same}
 use mathlib.Core.List.{map-map}
 use Rattle.fill.specs.Gathering.{way_of}
 use Rattle.fill.specs.Spills.{Graph, HasJoin, source_in, AreLevelsOf}

@@ -5,12 +5,13 @@ use Rattle.std.specs.Int.Signed.{≤ℤ_refl}
 use Rattle.std.specs.Int.{int_max}
 use Rattle.std.proofs.lemmas.Bool.{cases_eq}
 use Rattle.std.proofs.lemmas.Option.{MatchOption-at_some, MatchOption-at_none, same_Some, slice_get_cases}
+use Rattle.terrain.proofs.Orders.{max_left, max_right, max_least, trans, le_of_same}
 use Rattle.terrain.specs.Raster.{Terrain}
 use Rattle.terrain.specs.Neighbours.{height_at, index_of, IsDataCell, IsNeighbour, IsEnd, height_of}
 use Rattle.terrain.specs.declared.place.Place.{Place}
 use Rattle.terrain.proofs.Places.{index_injective, index_below}
 use Rattle.drainage.specs.Filled.{IsPath, crest, IsFilledHeight}
-use Rattle.drainage.proofs.Heights.{max_left, max_right, max_least, first_is_data, height_below_crest, trans}
+use Rattle.drainage.proofs.Heights.{first_is_data, height_below_crest}
 use Rattle.drainage.proofs.Uniqueness.{between}
 use Rattle.drainage.proofs.FilledExists.{filled_height}
 use Rattle.drainage.proofs.Reach.{HasLowPath}
@@ -22,7 +23,6 @@ use Rattle.cell_floods.specs.TileFlood.{IsTileSource, IsTilePath, IsTileLevel, F
 use Rattle.cell_floods.specs.Cells.{last_of}
 use Rattle.fill.specs.Spills.{AreFloods, level_among, label_among, Carries, IsPass, Graph, HasJoin, source_in, IsOpenGraphOf}
 use Rattle.terrain.proofs.Options.{cases_option, none_some}
-use Rattle.floods.proofs.Steps.{le_of_same}
 use Rattle.terrain.proofs.Heights.{height_is}
 use Rattle.cell_floods.proofs.Windows.{data_is, path_in_window}
 use Rattle.cell_floods.proofs.TileWindows.{data_within, tile_path}

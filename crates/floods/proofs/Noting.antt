@@ -2,6 +2,7 @@
 use Rattle.std.proofs.Common.{◌≡◌, ℕ, ◌<◌, List, [], ◌∷◌, ◌++◌, length, get_or, set, map, take, drop, ℤ, ◌≤ℤ◌, Option, None, Some, IsSome, ◌+◌, sym, ap, subst, refl, ◌∙◌, arith, ◌⊎◌, inl, inr, to_z, of_z}
 use Rattle.std.specs.Int.{int_max}
 use Rattle.std.specs.Int.Signed.{≤ℤ_refl}
+use Rattle.terrain.proofs.Orders.{trans, le_of_same}
 use Rattle.terrain.proofs.Options.{none_done}
 use Rattle.terrain.proofs.Heights.{height_width}
 use Rattle.std.specs.List.{Contains}
@@ -19,7 +20,6 @@ use Rattle.floods.specs.declared.queue.Waits.{Waits}
 use Rattle.floods.specs.Walk.{Sources}
 use Rattle.floods.specs.Flood.{AreOwn, InOrder, PutsIn, waiting_in, entry_of, SomeWaits, ComesBy, waiting_by, MakesWait, AreNoted, KeepsDone, Follows}
 use Rattle.floods.proofs.Heaps.{all_by_contains, cons_head, cons_tail, held_in, held_cases, one_held}
-use Rattle.floods.proofs.Steps.{le_of_same, trans}
 
 -- a way that is not followed, since nothing is won by it
 pub passed : (labels : List (Option ℕ)) (from : Waiting) (way : Spill) (waiting : List Waiting) → (entry_of labels way.to ≡ None → SomeWaits waiting way.to (int_max way.height from.height.0)) → MakesWait labels from (way ∷ []) waiting waiting

@@ -7,21 +7,13 @@ use Rattle.std.proofs.lemmas.List.{length-set, get_or-set_same, get_or-set_other
 use Rattle.std.proofs.lemmas.List.Elements.{All-contains}
 use Rattle.std.proofs.lemmas.Option.{same_Some}
 use Rattle.std.proofs.lemmas.Bool.{cases_eq, cases_lt}
+use Rattle.terrain.proofs.Orders.{max_right, trans, le_of_same}
 use Rattle.terrain.proofs.Options.{cases_option, none_some, none_done}
 use Rattle.floods.specs.declared.net.Spill.{Spill}
 use Rattle.floods.specs.declared.queue.Waiting.{Waiting}
 use Rattle.floods.specs.Walk.{Joins, Sources, IsWalk, crest, end_of, IsLevel, HasNoWalk, IsFlooded, HasJust}
 use Rattle.floods.specs.Flood.{entry_of, IsDone, TakesLowest, waiting_by, SourcesWait, HasSourcesNoted, AreOwn, SomeWaits, ComesBy, MakesWait, AreNoted, KeepsDone}
 use Rattle.floods.proofs.Heaps.{HasWalk, IsFlooding, all_by_contains, replicated}
-
-pub le_of_same : (x y : ℤ) → x ≡ y → x ≤ℤ y
-le_of_same x y e = omega (arith, ints)
-
-pub trans : (x y z : ℤ) → x ≤ℤ y → y ≤ℤ z → x ≤ℤ z
-trans x y z a b = omega (arith, ints, a, b)
-
-max_right : (x y : ℤ) → y ≤ℤ int_max x y
-max_right x y = omega (arith, ints, clamps)
 
 max_below : (h x y : ℤ) → x ≤ℤ y → int_max h x ≤ℤ int_max h y
 max_below h x y e = omega (arith, ints, clamps)

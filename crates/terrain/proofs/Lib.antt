@@ -1,5 +1,6 @@
--- options
+-- options, and whole numbers in their order
 pub mod Options
+pub mod Orders
 -- places of a grid
 pub mod Places
 -- ways from a place

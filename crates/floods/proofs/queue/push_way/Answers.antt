@@ -1,8 +1,8 @@
 use Rattle.std.proofs.Common.{rules, ◌≡◌, sym, ◌∙◌, is_some, true, Option, IsSome}
 use Rattle.floods.specs.Flood.{entry_of}
+use Rattle.terrain.proofs.Orders.{trans, le_of_same}
 use Rattle.terrain.proofs.Options.{none_from_is_some}
 use Rattle.floods.proofs.Noting.{passed_low, passed_done, stays, followed, noted, keeps_done, own_by_way, kept_crest}
-use Rattle.floods.proofs.Steps.{le_of_same, trans}
 use Rattle.floods.proofs.queue.push_way.Goals as goal
 
 pub returns-then-is_no_higher : goal.returns-then-is_no_higher
