@@ -229,7 +229,7 @@ const COLUMNS: usize = 256;
 pub struct Walked {
     last: Blocker,
     above: [Option<Blocker>; COLUMNS],
-    /// About how many crossings was asked, at most 2^32 - 1.
+    /// How many crossings were asked about; at most 2^32 - 1 are counted.
     pub asked: u32,
 }
 

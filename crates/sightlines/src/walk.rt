@@ -1,5 +1,5 @@
 // A walk along a line of sight, from crossing to crossing.
-ghost use Rattle.std.specs.Prelude.{◌≡◌, ◌^◌, ◌+◌, ◌-◌, ◌*◌, ◌<◌, ◌≤◌, ℤ, pos, unsigned_abs, ◌*ℤ◌, length, slice_index_or, None, IfSome, is_some, if◌then◌else◌};
+ghost use Rattle.std.specs.Prelude.{◌≡◌, ◌^◌, ◌+◌, ◌-◌, ◌*◌, ◌<◌, ◌≤◌, ℤ, pos, unsigned_abs, ◌*ℤ◌, length, slice_index_or, None, IfSome, is_some};
 ghost use Rattle.std.specs.Int.{abs_diff};
 ghost use Rattle.terrain.specs.Raster.{IsHeight};
 ghost use Rattle.sightlines.specs.Walk.{is_above, steps_of, whole_at, AreHeights, IsSightline, IsAt, IsOver, step_range_blocks, walk_blocks};
