@@ -227,7 +227,7 @@ impl CellNet {
     /// Whether the cells of a run from this one on and all cells around them have data, in a net
     /// without sinks: then none of the run is a source.
     #[inline]
-    fn is_filled_run(&self, node: u32) -> bool
+    fn is_run_with_data(&self, node: u32) -> bool
         ensures few { length self.now.cells < 2 ^ 32 }
         ensures inside { OnTrue result (node + RUN ≤ length self.now.cells) }
         ensures none { OnTrue result (HasNoSource (source_of self.now) node (node + RUN)) }
@@ -310,7 +310,7 @@ impl Net for CellNet {
     #[inline]
     fn next_candidate(&self, from: u32) -> u32 {
         let mut node = from;
-        while node % RUN == 0 && self.is_filled_run(node) {
+        while node % RUN == 0 && self.is_run_with_data(node) {
             node += RUN;
         }
         node

@@ -107,7 +107,8 @@ fn empty_table(alloc: Global) -> Result<Vec<Option<Place>>, AllocError>
     Ok(places)
 }
 
-/// The labels of a tile's cells, of the nodes that they have as labels in its net, as numbers.
+/// The table of a tile's labels. `nodes` has for each cell the node that is its label in the tile's net, or what stands for none
+/// ([`label_of`]).
 pub(crate) fn labels_of(alloc: Global, bounds: Bounds, nodes: &[u32]) -> Result<Labels, AllocError>
     requires limits { IsWithinLimits bounds }
     requires size { length nodes.now ≡ bounds.rows * bounds.cols }

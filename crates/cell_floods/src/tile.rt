@@ -13,8 +13,8 @@ use std::marker::Model;
 use terrain::{Cell, Height, NoMemory, Place};
 use tiles::{Bounds, TileView};
 
-/// The level of each cell of a tile, and the source that it drains to: the least crest of the paths that
-/// stay in the tile and end on its rim or at an end cell. Both are in the tile's row order.
+/// The level of each cell of a tile, which is the least crest of the paths that stay in the tile and end on its rim or at an
+/// end cell, and its label, the place where such a path ends. Both are in the tile's row order.
 #[derive(Drop)]
 pub struct TileFlood {
     bounds: Bounds,
@@ -119,8 +119,8 @@ impl TileFlood {
     }
 }
 
-/// The least crest of each cell's paths in the tile, and a source that has it. Of these sinks those in the tile are
-/// sources.
+/// The least crest of each cell's paths in the tile, and where a path of that crest ends: on the rim, at an edge cell, or at one
+/// of these sinks.
 pub fn tile_flood(
     alloc: Global,
     view: &TileView<'_, Cell>,

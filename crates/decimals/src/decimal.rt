@@ -47,9 +47,9 @@ pub fn scaled_value(scale: u8, word: &[u8]) -> Option<i64>
     Some(signed(is_negative(word), size))
 }
 
-/// A whole number of few digits, with `-` or without, at the front of the bytes, times 10^scale. It comes
-/// with its length. What follows it isn't looked at. None where no digit stands in front, or too many for a
-/// height at the scale; [`scaled_value`] takes those too.
+/// The digits at the front of the bytes, as far as they go but at most 16, with `-` before them or without, as a word of their
+/// own: how many bytes these are, and their number times 10^scale. The text's word may go on behind them. None where no digit
+/// stands in front, or where these are more than a height at the scale can have.
 #[inline(always)]
 pub fn plain_number(scale: u8, bytes: &[u8]) -> Option<(usize, i64)>
     requires { scale ≤ 6 }
@@ -235,7 +235,7 @@ fn signed(negative: bool, size: u64) -> i64
     if negative { -value } else { value }
 }
 
-// The same with so many zeros behind it.
+// A number with so many zeros behind it, not above [`OVER`].
 fn zeros_after(number: u64, zeros: usize) -> u64
     requires { number ≤ OVER }
     ensures small { result ≤ OVER }

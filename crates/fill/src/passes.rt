@@ -204,15 +204,15 @@ fn push_rim_cell(
         return Ok(());
     };
     let flood = &floods[tile as usize];
-    for way in 0..9 {
-        let row = place.row + way / 3;
-        let col = place.col + way % 3;
+    for spot in 0..9 {
+        let row = place.row + spot / 3;
+        let col = place.col + spot % 3;
         if row > 0 && col > 0 {
             let near = Place {
                 row: row - 1,
                 col: col - 1,
             };
-            if way > 4 || !flood.bounds().contains(near) {
+            if spot > 4 || !flood.bounds().contains(near) {
                 push_join(table, sources, from, mark_at(tiling, floods, tile, near))?;
             }
         }

@@ -11,14 +11,14 @@ use std::alloc::{AllocError, Global};
 use std::cmp::Reverse;
 use terrain::{Height, NoMemory};
 
-/// The level of each node, and the source that it drains to.
+/// The level of each node, which is the least crest of its walks to a source, and its label, a source at which such a walk ends.
 #[derive(Drop)]
 pub struct Flooded {
     pub level: Vec<Option<Height>>,
     pub label: Vec<Option<u32>>,
 }
 
-/// The same in less memory.
+/// The same in 9 bytes for a level and 4 for a label, in place of 16 and 8.
 #[derive(Drop)]
 pub struct FloodedNet {
     pub levels: HeightList,

@@ -117,7 +117,7 @@ pub fn sees(
     !is_blocked(cells, lines.rows)
 }
 
-/// How many crossings beside a target are tested before a sweep.
+/// How many crossings beside a target `may_see` tests, on each of the two lines.
 const FIRST_CROSSINGS: u32 = 2;
 
 /// How many crossings are tested about the one that hid the last target.
@@ -140,8 +140,8 @@ fn is_blocked_from(cells: &[Cell], line: Sightline, first: u32, crossings: u32) 
     blocking_step(cells, line, Pace::new(line), line.at(first), first, end).is_some()
 }
 
-/// Whether an observer sees a place unless a crossing blocks the line of sight. Of the crossings those beside the place alone
-/// are tested, which hide the most.
+/// False only where the observer does not see the place: one of both has no data, it is out of reach, or one of the first
+/// crossings beside it blocks the line of sight. Those hide the most, and no other is tested.
 #[inline(always)]
 pub fn may_see(
     grid: &Grid,

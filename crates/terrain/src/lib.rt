@@ -1,4 +1,5 @@
-//! Terrain grids: heights in rows and columns, places, neighbours and edge cells, and the header that comes with them.
+//! Terrain grids: heights in rows and columns, the header that comes with them, places and the ways between them, edge cells
+//! and named sinks, observers, and the counts that maps have.
 #![tactic(auto)]
 
 mod cell;

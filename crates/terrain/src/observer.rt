@@ -5,6 +5,6 @@ pub struct Observer {
     pub row: u32,
     /// Counts from 0 at the west.
     pub col: u32,
-    /// Above the ground, in scaled units: at most 1,000,000.
+    /// Above the ground, in scaled units. Views refuse more than 1,000,000.
     pub eye: u32,
 }

@@ -5,7 +5,7 @@ ghost use Rattle.terrain.specs.Ways.{around_index, place_on};
 use crate::place::Place;
 
 /// The place that lies one way, counted from 0 in the order of the codes. None north of the first row and west of the
-/// first column, and for a way past the eight.
+/// first column, and for a way past the eight. To the south and the east it knows no end: that place may lie outside the grid.
 #[inline(always)]
 pub fn place_on(way: usize, place: Place) -> Option<Place>
     requires rows { place.row < 2 ^ 32 - 1 }
@@ -27,8 +27,8 @@ pub fn place_on(way: usize, place: Place) -> Option<Place>
     Some(Place { row, col })
 }
 
-/// The same by indices in row order, where a row has so many columns: where the cells on the eight ways stand around one
-/// that is in no first or last row or column.
+/// Where the cells on the eight ways stand in row order, of so many columns, around a cell that is in no first or last row
+/// or column.
 #[inline(always)]
 pub fn around_index(cols: usize, index: usize) -> [usize; 8]
     requires before { cols < index }
