@@ -1,4 +1,4 @@
-// What can be wrong with a grid text.
+//! What can be wrong with a grid text.
 
 /// A slot of the header.
 #[derive(Clone, Copy, Debug, PartialEq, Eq)]

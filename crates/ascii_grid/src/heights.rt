@@ -1,4 +1,4 @@
-// Heights that are read apart from the rest of their text.
+//! Heights that are read apart from the rest of their text.
 ghost use Rattle.std.specs.Prelude.{◌≡◌, IsTrue, ℕ, ◌<◌, ◌≤◌, ◌++◌, List, length, take, IfSome};
 ghost use Rattle.std.specs.List.{position};
 ghost use Rattle.terrain.specs.Words.{is_separator};
@@ -60,7 +60,7 @@ impl HeightForm {
         Some(cells)
     }
 
-    // Takes a separator, or a word with the separator behind it, whose cell is added.
+    /// Takes a separator, or a word with the separator behind it, whose cell is added.
     #[inline(always)]
     fn add_next(
         &self,
@@ -87,7 +87,7 @@ impl HeightForm {
         Some(len + 1)
     }
 
-    // The length of the word in front of the first separator, and what it stands for.
+    /// The length of the word in front of the first separator, and what it stands for.
     #[inline(always)]
     fn front_word(&self, nodata_value: Option<i64>, rest: &[u8]) -> Option<(usize, Meaning)>
         requires { nodata_value ≡ scaled_value self.now.scale self.now.nodata }
@@ -102,7 +102,7 @@ impl HeightForm {
         self.other_word(nodata_value, rest)
     }
 
-    // The same of any word.
+    /// The same of any word.
     #[inline(never)]
     fn other_word(&self, nodata_value: Option<i64>, rest: &[u8]) -> Option<(usize, Meaning)>
         requires { nodata_value ≡ scaled_value self.now.scale self.now.nodata }

@@ -1,4 +1,4 @@
-// A grid from a reader, piece by piece.
+//! A grid from a reader, piece by piece.
 ghost use Rattle.std.specs.Prelude.{◌≡◌, ◌≢◌, ◌≤◌, ◌-◌, ◌^◌, ◌<◌, ℕ, List, length, Err, IfOk};
 ghost use Rattle.ascii_grid.specs.Input.{ReadsGrid};
 ghost use Rattle.ascii_grid.specs.Reader.{HasTaken, Feeds};
@@ -11,7 +11,7 @@ use std::alloc::Global;
 use std::io::Read;
 use terrain::Grid;
 
-// One system call reads this much.
+/// One system call reads this much.
 const PIECE: usize = 65_536;
 
 /// Why no grid was read.

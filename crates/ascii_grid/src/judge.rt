@@ -1,4 +1,4 @@
-// The words of a text, judged one after another.
+//! The words of a text, judged one after another.
 ghost use Rattle.std.specs.Prelude.{◌↔◌, IsTrue, ◌≡◌, ◌≤◌, ◌<◌, ◌⊎◌, ◌++◌, [], ◌∷◌, List, map, length, false, Option, Some, None, Err, IfOk, MatchResult};
 ghost use Rattle.terrain.specs.Words.{Word};
 ghost use Rattle.terrain.specs.Decimal.{scaled_value};
@@ -116,7 +116,7 @@ impl Judge {
         }
     }
 
-    // Asks for the memory of the cells.
+    /// Asks for the memory of the cells.
     fn begin_heights(&mut self) -> Result<(), GridFault>
         ensures kept { self.new ≡ record self.old { stage = self.new.stage; wanted = self.new.wanted; nodata = self.new.nodata; nodata_value = self.new.nodata_value; cells = self.new.cells } }
         ensures stage { IfOk result (λ _. self.new.stage ≡ Stage.AtHeights) }
@@ -163,7 +163,7 @@ impl Judge {
         self.add_cell(meaning)
     }
 
-    // Adds the cell of the next height, where it has one.
+    /// Adds the cell of the next height, where it has one.
     #[inline(always)]
     fn add_cell(&mut self, meaning: Meaning) -> Result<(), GridFault>
         ensures kept { self.new ≡ record self.old { cells = self.new.cells } }

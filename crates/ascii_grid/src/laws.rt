@@ -1,4 +1,4 @@
-// Facts of the definitions alone.
+//! Facts of the definitions alone.
 ghost use Rattle.std.specs.Prelude.{◌≡◌, ℕ, ◌≤◌, ◌++◌, List, [], length, Some};
 ghost use Rattle.terrain.specs.Raster.{Raster, IsLawful};
 ghost use Rattle.terrain.specs.Sinks.{raster_with_sinks};

@@ -1,4 +1,4 @@
-// Bytes that are gathered on the stack, and those that wait for a device.
+//! Bytes that are gathered on the stack, and those that wait for a device.
 ghost use Rattle.std.specs.Prelude.{◌≡◌, ◌↔◌, ◌+◌, ◌≤◌, ◌∷◌, ◌++◌, [], ℕ, List, length, take, IsTrue, ◌<◌, ◌-◌, ◌^◌, decimal};
 ghost use Rattle.ascii_grid.specs.Device.{Writes};
 

@@ -1,4 +1,4 @@
-// The words of a text, parted byte by byte and judged where a separator ends them.
+//! The words of a text, parted byte by byte and judged where a separator ends them.
 ghost use Rattle.std.specs.Prelude.{◌≡◌, ℕ, ◌≤◌, ◌++◌, [], ◌∷◌, ◌<◌, List, length, take, IfOk, IfSome, IsTrue, ◌↔◌, false, MatchResult};
 ghost use Rattle.terrain.specs.Words.{is_separator, words, ended_words};
 ghost use Rattle.ascii_grid.specs.Header.{header_words, nodata_for};
@@ -50,7 +50,7 @@ impl Progress {
         Ok(())
     }
 
-    // Takes a plain height with the separator behind it, or one byte.
+    /// Takes a plain height with the separator behind it, or one byte.
     #[inline(always)]
     fn take_some(&mut self, rest: &[u8]) -> Result<usize, GridFault>
         requires some { 0 < length rest.now }
@@ -70,7 +70,7 @@ impl Progress {
         Ok(1)
     }
 
-    // Takes a plain height and the separator behind it, where they are next. Else it takes nothing.
+    /// Takes a plain height and the separator behind it, where they are next. Else it takes nothing.
     #[inline(always)]
     fn take_plain(&mut self, rest: &[u8]) -> Result<usize, GridFault>
         requires { self.old.judge.scale ≤ 6 }
@@ -137,7 +137,7 @@ impl Progress {
         self.judge.add_cells(form, cells)
     }
 
-    // Whether the next word is a height, of which no byte was taken.
+    /// Whether the next word is a height, of which no byte was taken.
     #[inline(always)]
     fn is_between_heights(&self) -> bool
         ensures { IsTrue result ↔ ((self.now.judge.stage ≡ Stage.AtHeights) × (self.now.word ≡ [])) }

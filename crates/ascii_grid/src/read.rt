@@ -1,4 +1,4 @@
-// A whole text.
+//! A whole text.
 ghost use Rattle.std.specs.Prelude.{◌≤◌, IfOk, IfErr};
 ghost use Rattle.ascii_grid.specs.GridText.{IsGridText, IsRefusal};
 

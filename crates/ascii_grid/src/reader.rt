@@ -1,4 +1,4 @@
-// A text that comes in pieces.
+//! A text that comes in pieces.
 ghost use Rattle.std.specs.Prelude.{◌≡◌, ◌≤◌, [], ℕ, List, None, Some, Ok, Err, IfOk, IfErr, IfSome, OnSome, IsTrue, false};
 ghost use Rattle.terrain.specs.Words.{ended_words};
 ghost use Rattle.ascii_grid.specs.Header.{header_words, nodata_for};
@@ -111,7 +111,7 @@ impl GridReader {
         self.feed(piece)
     }
 
-    // Takes a piece by its cells, where that can be. Else it takes nothing.
+    /// Takes a piece by its cells, where that can be. Else it takes nothing.
     fn take_cells(&mut self, form: &HeightForm, piece: &[u8], cells: &[Cell]) -> bool
         requires { AreCells form.now piece.now cells.now }
         ensures taken { IsTrue result → Feeds self.old self.new piece.now (Ok (tt {0})) }

@@ -9,7 +9,7 @@ use std::io::Read;
 use std::process::Abort;
 use terrain::{Grid, Height};
 
-// Two columns and one row, with the lower left corner at 0 0.
+/// Two columns and one row, with the lower left corner at 0 0.
 const HEADER: &[u8] = b"ncols 2 nrows 1 xllcorner 0 yllcorner 0 cellsize 1";
 
 fn read_in_pieces(alloc: Global, scale: u8, text: &[u8], piece: usize) -> Result<Grid, GridFault>
@@ -23,7 +23,7 @@ fn read_in_pieces(alloc: Global, scale: u8, text: &[u8], piece: usize) -> Result
     reader.finish()
 }
 
-// Reads the text whole and cut in pieces: it spells these cells.
+/// Reads the text whole and cut in pieces: it spells these cells.
 fn spells(rt: &impl Abort, alloc: Global, scale: u8, text: &[u8], cells: &[Option<Height>])
     requires { scale ≤ 6 }
 {
@@ -38,7 +38,7 @@ fn spells(rt: &impl Abort, alloc: Global, scale: u8, text: &[u8], cells: &[Optio
     }
 }
 
-// Reads the text whole and cut in pieces: it is refused with this fault.
+/// Reads the text whole and cut in pieces: it is refused with this fault.
 fn refuses(rt: &impl Abort, alloc: Global, text: &[u8], fault: GridFault) {
     assert_eq!(rt; read_text(alloc, 0, text).err(), Some(fault));
     for piece in [1, 2, 3, 7] {

@@ -1,4 +1,4 @@
-// A rectangle of cells as a net.
+//! A rectangle of cells as a net.
 ghost use Rattle.std.specs.Prelude.{◌≡◌, None, ◌+◌, ◌-◌, ◌*◌, ◌^◌, ◌<◌, ◌≤◌, ◌∷◌, ◌++◌, ◌↔◌, [], EachIndex, IsSome, IsTrue, length, All, IfOk, OnOk, is_none, slice_index_or, replicate};
 ghost use Rattle.std.specs.List.{list_any, filter_map, cons_option};
 ghost use Rattle.std.specs.Bool.{OnTrue};
@@ -306,7 +306,7 @@ impl Net for CellNet {
         }
     }
 
-    // Runs begin at each RUN-th node alone: so a gap is not met again from each node before it.
+    /// Runs begin at each RUN-th node alone: so a gap is not met again from each node before it.
     #[inline]
     fn next_candidate(&self, from: u32) -> u32 {
         let mut node = from;

@@ -1,4 +1,4 @@
-// The filled heights of a grid by one flood.
+//! The filled heights of a grid by one flood.
 ghost use Rattle.std.specs.Prelude.{IfOk};
 ghost use Rattle.drainage.specs.Filled.{IsFilled};
 

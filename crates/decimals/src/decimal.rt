@@ -1,4 +1,4 @@
-// Decimal texts, and the whole numbers that they stand for at a scale.
+//! Decimal texts, and the whole numbers that they stand for at a scale.
 ghost use Rattle.std.specs.Prelude.{◌<◌, true, length, ◌≡◌, IfSome, pos, neg_ℤ, ◌≤◌, not, ℕ, ◌+◌, ◌*◌, ◌-◌, ◌^◌, ◌++◌, ◌&&◌, ◌==◌, nat_le, take, drop, replicate, min, fold, if◌then◌else◌, Option, Some, None};
 ghost use Rattle.std.specs.List.{before_first, after_first, position, list_all, list_any};
 ghost use Rattle.std.specs.Char.{is_ascii_digit};
@@ -63,7 +63,7 @@ pub fn plain_number(scale: u8, bytes: &[u8]) -> Option<(usize, i64)>
     Some((len, signed(false, size)))
 }
 
-// The digits at the front, times 10^scale. With more digits in all than a height can have they are left alone.
+/// The digits at the front, times 10^scale. With more digits in all than a height can have they are left alone.
 #[inline(always)]
 fn plain_size(scale: u8, bytes: &[u8]) -> Option<(usize, u64)>
     requires { scale ≤ 6 }
@@ -79,7 +79,7 @@ fn plain_size(scale: u8, bytes: &[u8]) -> Option<(usize, u64)>
     Some((len, number * unit(scale)))
 }
 
-// Digits as far as they go, not past the most that a height has, and their number.
+/// Digits as far as they go, not past the most that a height has, and their number.
 #[inline(always)]
 fn digits_in_front(bytes: &[u8]) -> (usize, u64)
     ensures within { (result.0 ≤ HEIGHT_DIGITS) × (result.0 ≤ length bytes.now) }
@@ -153,7 +153,7 @@ fn has_exponent(word: &[u8]) -> bool
     word.iter().any(|b| is_exponent_mark(*b))
 }
 
-// What stands before and after the first mark of an exponent.
+/// What stands before and after the first mark of an exponent.
 fn split_at_exponent(word: &[u8]) -> (&[u8], &[u8])
     ensures before { result.0.now ≡ before_first is_exponent_mark word.now }
     ensures after { result.1.now ≡ after_first is_exponent_mark word.now }
@@ -170,7 +170,7 @@ fn exponent_at(word: &[u8]) -> Option<usize>
     word.iter().position(|b| is_exponent_mark(*b))
 }
 
-// What stands before and after the first point.
+/// What stands before and after the first point.
 fn split_at_point(word: &[u8]) -> (&[u8], &[u8])
     ensures before { result.0.now ≡ before_first is_point word.now }
     ensures after { result.1.now ≡ after_first is_point word.now }
@@ -210,7 +210,7 @@ fn has_other_than_zero(bytes: &[u8]) -> bool
     bytes.iter().any(|b| *b != b'0')
 }
 
-// The digits that count at the scale, as a number of at most 10^18. Behind them only 0 may stand.
+/// The digits that count at the scale, as a number of at most 10^18. Behind them only 0 may stand.
 fn scaled_size(scale: u8, whole: &[u8], fraction: &[u8]) -> Option<u64>
     ensures small { IfSome result (λ size. size ≤ 10 ^ 18) }
     ensures value { result ≡ (if list_all (λ b. b == 48) (drop scale fraction.now)
@@ -235,7 +235,7 @@ fn signed(negative: bool, size: u64) -> i64
     if negative { -value } else { value }
 }
 
-// A number with so many zeros behind it, not above [`OVER`].
+/// A number with so many zeros behind it, not above [`OVER`].
 fn zeros_after(number: u64, zeros: usize) -> u64
     requires { number ≤ OVER }
     ensures small { result ≤ OVER }

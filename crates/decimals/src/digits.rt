@@ -1,4 +1,4 @@
-// Decimal digits, and the whole numbers that they spell.
+//! Decimal digits, and the whole numbers that they spell.
 ghost use Rattle.std.specs.Prelude.{nat_lt, ◌≡◌, ◌≤◌, ℕ, ◌+◌, ◌*◌, ◌-◌, ◌^◌, ◌&&◌, min, fold, if◌then◌else◌, Some, None};
 ghost use Rattle.std.specs.List.{list_all};
 ghost use Rattle.std.specs.Char.{is_ascii_digit};

@@ -1,4 +1,4 @@
-// The counts that the first round begins with: 0 at each cell that drains at once, named sinks last.
+//! The counts that the first round begins with: 0 at each cell that drains at once, named sinks last.
 ghost use Rattle.std.specs.Prelude.{◌≡◌, ℕ, ◌+◌, ◌*◌, ◌<◌, ◌≤◌, ◌↔◌, Some, None, length, IsTrue, OnOk, IfOk, slice_index_or};
 ghost use Rattle.std.specs.Bool.{MatchBool};
 ghost use Rattle.terrain.specs.Neighbours.{IsInside, height_at};

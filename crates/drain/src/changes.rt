@@ -1,4 +1,4 @@
-// Counts that become less, and those of them that come from one tile into another.
+//! Counts that become less, and those of them that come from one tile into another.
 
 use terrain::Place;
 

@@ -1,4 +1,4 @@
-// A tile and the places around it, taken out of the lists of the whole grid, and put back.
+//! A tile and the places around it, taken out of the lists of the whole grid, and put back.
 ghost use Rattle.std.specs.Prelude.{◌≡◌, ◌+◌, ◌-◌, ◌*◌, ◌<◌, ◌≤◌, length, map, MatchOption, None, OnOk, IfOk};
 ghost use Rattle.terrain.specs.declared.place.Place.{Place};
 ghost use Rattle.tiles.specs.Cutting.{IsCutting, AreBounds, bounds_of};

@@ -1,4 +1,4 @@
-// The direction of one cell.
+//! The direction of one cell.
 ghost use Rattle.std.specs.Prelude.{◌≡◌, ◌*◌, ◌<◌, ◌≤◌, ◌<ℤ◌, ◌≤ℤ◌, ℕ, IfSome, IsTrue, Some, None, option_map, slice_index_or, position};
 ghost use Rattle.std.specs.Bool.{MatchBool};
 ghost use Rattle.std.specs.List.{list_any};

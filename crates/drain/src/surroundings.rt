@@ -1,4 +1,4 @@
-// What stands around each cell, and the codes of a tile.
+//! What stands around each cell, and the codes of a tile.
 ghost use Rattle.std.specs.Prelude.{◌≡◌, ◌+◌, ◌*◌, ◌<◌, Some, None, length, OnOk, IfOk};
 ghost use Rattle.std.specs.Option.{option_zip};
 ghost use Rattle.terrain.specs.Raster.{IsTerrain};

@@ -1,4 +1,4 @@
-// The code of a direction.
+//! The code of a direction.
 ghost use Rattle.std.specs.Prelude.{◌≡◌, ◌<◌, IfSome, Some};
 ghost use Rattle.terrain.specs.Ways.{code_of, way_of};
 ghost use Rattle.drainage.specs.CodeNumber.{IsCode};

@@ -1,4 +1,4 @@
-// Facts of the definitions alone.
+//! Facts of the definitions alone.
 ghost use Rattle.std.specs.Prelude.{◌≡◌, ℤ, List, Option, Some, Contains};
 ghost use Rattle.terrain.specs.Raster.{Terrain, IsTerrain};
 ghost use Rattle.terrain.specs.Neighbours.{IsDataCell};

@@ -1,4 +1,4 @@
-// Numbers of steps, some of which are not known.
+//! Numbers of steps, some of which are not known.
 ghost use Rattle.std.specs.Prelude.{◌≡◌, ◌≤◌, unwrap_or};
 ghost use Rattle.drainage.specs.StepCounts.{known, no_count};
 

@@ -1,4 +1,4 @@
-// The filled heights of a grid, by tiles and workers.
+//! The filled heights of a grid, by tiles and workers.
 ghost use Rattle.std.specs.Prelude.{◌<◌, ◌≤◌, IfOk, OnOk};
 ghost use Rattle.terrain.specs.Raster.{Terrain, IsTerrain};
 ghost use Rattle.drainage.specs.Filled.{IsFilled, IsFilledGrid};

@@ -1,4 +1,4 @@
-// What the floods of all tiles say of a cell.
+//! What the floods of all tiles say of a cell.
 ghost use Rattle.std.specs.Prelude.{◌≡◌, ◌*◌, ◌<◌, ℤ, ◌↔◌, IsTrue, Some, None, length, slice_get, IfSome, IfNone};
 ghost use Rattle.tiles.specs.Cutting.{IsCutting, IsWithin, tile_count, tile_of_place};
 ghost use Rattle.terrain.specs.Neighbours.{index_of};

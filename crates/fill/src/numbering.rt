@@ -1,4 +1,4 @@
-// The labels of a spill graph that are joined, with numbers of their own.
+//! The labels of a spill graph that are joined, with numbers of their own.
 ghost use Rattle.std.specs.Prelude.{◌≡◌, ◌<◌, length, map, All, IfOk, OnOk};
 ghost use Rattle.std.specs.List.{flat_map};
 ghost use Rattle.floods.specs.Flood.{waiting_in, InOrder, AreNoted, Follows};

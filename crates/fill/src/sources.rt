@@ -1,4 +1,4 @@
-// The sources of the spill graph.
+//! The sources of the spill graph.
 ghost use Rattle.std.specs.Prelude.{◌≡◌, ◌*◌, ◌<◌, List, Some, length, IfOk, IfSome, OnOk};
 ghost use Rattle.std.specs.List.{All, Contains};
 ghost use Rattle.tiles.specs.Cutting.{IsCutting, IsWithin, tile_count};

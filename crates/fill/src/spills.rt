@@ -1,4 +1,4 @@
-// The graph of the labels of all tiles.
+//! The graph of the labels of all tiles.
 ghost use Rattle.std.specs.Prelude.{◌≡◌, ◌<◌, ◌≤◌, ◌*◌, ℕ, ℤ, List, Option, length, map, IfOk, IfSome, slice_index_or};
 ghost use Rattle.terrain.specs.Raster.{Terrain};
 ghost use Rattle.std.specs.Bool.{OnTrue};

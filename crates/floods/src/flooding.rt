@@ -1,4 +1,4 @@
-// The least crests of a net's nodes, and the sources that have them.
+//! The least crests of a net's nodes, and the sources that have them.
 ghost use Rattle.std.specs.Prelude.{◌≡◌, IfOk, length, replicate, None};
 ghost use Rattle.floods.specs.Walk.{IsFlooded};
 ghost use Rattle.floods.specs.Flood.{waiting_in, InOrder, SourcesWait, HasSourcesNoted};

@@ -1,4 +1,4 @@
-// A net of nodes that are joined at spill heights.
+//! A net of nodes that are joined at spill heights.
 ghost use Rattle.std.specs.Prelude.{◌≡◌, ◌<◌, ◌≤◌, ℕ, ℤ, Option, IfOk, OnOk, length};
 ghost use Rattle.floods.specs.Walk.{HasJust, HasNoSource};
 ghost use Rattle.floods.specs.Flood.{waiting_in, InOrder, Spreads, AreNoted};

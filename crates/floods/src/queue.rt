@@ -1,4 +1,4 @@
-// Nodes that wait while a net is flooded, the lowest first.
+//! Nodes that wait while a net is flooded, the lowest first.
 ghost use Rattle.std.specs.Prelude.{◌≡◌, ◌<◌, ◌≤◌, pos, ◌+ℤ◌, ◌≤ℤ◌, ◌∷◌, [], ℕ, ℤ, IfOk, OnOk, IfSome, IfNone, length, All, replicate, slice_index_or};
 ghost use Rattle.std.specs.BinaryHeap.{heap_items, heap_len};
 ghost use Rattle.floods.specs.Flood.{entries_of, waiting_in, InOrder, PutsIn, HasNone, IsDone, TakesLowest, Follows, AreNoted};

@@ -1,4 +1,4 @@
-// The cells of a tile, numbered in its row order, and the cells to which their water goes on.
+//! The cells of a tile, numbered in its row order, and the cells to which their water goes on.
 ghost use Rattle.std.specs.Prelude.{◌≡◌, ◌↔◌, IsTrue, ◌+◌, ◌-◌, ◌*◌, ◌^◌, ◌<◌, length, Some, IfOk, OnOk, unwrap_or, option_and_then};
 ghost use Rattle.terrain.specs.Ways.{place_toward};
 ghost use Rattle.tiles.specs.Cutting.{IsInBounds, bounds_of, place_in};
@@ -44,7 +44,7 @@ pub(crate) fn tile_links(
     Ok(links)
 }
 
-// Adds the links of a row of the tile.
+/// Adds the links of a row of the tile.
 #[inline(always)]
 fn push_links(
     links: &mut Vec<u32>,

@@ -1,4 +1,4 @@
-// Accumulations of a map of directions, tile by tile.
+//! Accumulations of a map of directions, tile by tile.
 ghost use Rattle.std.proofs.Props.{props};
 ghost use Rattle.std.specs.Prelude.{◌≡◌, ◌+◌, ◌^◌, ◌<◌, ℕ, length, slice_index, IfOk};
 ghost use Rattle.tiles.specs.Cutting.{Cuts, IsInBounds, bounds_of, cell_count, tile_count};
@@ -85,7 +85,7 @@ pub fn accumulation<R: Threads + Wait + Sync, G: Gate + Sync>(
     })
 }
 
-// The accumulations of a tile's cells.
+/// The accumulations of a tile's cells.
 fn tile_counts(
     alloc: Global,
     inflows: &Inflows,
@@ -102,7 +102,7 @@ fn tile_counts(
     counts(alloc, codes, &weights, &came)
 }
 
-// 1 for each data cell, and what flows in.
+/// 1 for each data cell, and what flows in.
 fn rim_weights(
     alloc: Global,
     inflows: &Inflows,
@@ -119,7 +119,7 @@ fn rim_weights(
     Ok(weights)
 }
 
-// The total of each data cell, itself left out; that of a cell without data is 0.
+/// The total of each data cell, itself left out; that of a cell without data is 0.
 #[tactic(auto, using(crate::proofs::Windows::mapped_next))]
 fn counts(
     alloc: Global,

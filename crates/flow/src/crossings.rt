@@ -1,4 +1,4 @@
-// Where water crosses the rims of tiles.
+//! Where water crosses the rims of tiles.
 ghost use Rattle.std.specs.Prelude.{◌≡◌, ◌<◌, length, IfOk};
 ghost use Rattle.tiles.specs.Cutting.{IsCutting, IsWithin, tile_count};
 ghost use Rattle.drainage.specs.Following.{Directed};
@@ -37,7 +37,7 @@ impl Crossings {
     }
 }
 
-// Whether a place is in the grid and has this number.
+/// Whether a place is in the grid and has this number.
 #[inline(always)]
 pub(crate) fn stands_for(tiling: &Tiling, place: Place, number: u32) -> bool
     ensures { result ≡ stands_for tiling.now place number }
@@ -45,7 +45,7 @@ pub(crate) fn stands_for(tiling: &Tiling, place: Place, number: u32) -> bool
     place.row < tiling.rows() && place.col < tiling.cols() && tiling.rim_number(place) == number
 }
 
-// Where the water of a place goes on.
+/// Where the water of a place goes on.
 #[inline(always)]
 fn next_from(tiling: &Tiling, flows: &[TileFlow], place: Place) -> Place
     requires count { length flows.now ≡ tile_count tiling.now }
@@ -74,7 +74,7 @@ fn way_out(tiling: &Tiling, flows: &[TileFlow], entry: Place) -> Option<Place>
     flows[tiling.tile_of(entry) as usize].way_out(entry)
 }
 
-// Where the water of a number's cell enters another tile; None for a number that stands for no such cell.
+/// Where the water of a number's cell enters another tile; None for a number that stands for no such cell.
 fn target_of(tiling: &Tiling, flows: &[TileFlow], number: u32) -> Option<Place>
     requires count { length flows.now ≡ tile_count tiling.now }
     requires number { number < number_count tiling.now }
@@ -92,7 +92,7 @@ fn target_of(tiling: &Tiling, flows: &[TileFlow], number: u32) -> Option<Place>
     }
 }
 
-// Where the water of each number's cell enters another tile.
+/// Where the water of each number's cell enters another tile.
 #[tactic(auto, using(crate::proofs::Windows::mapped_next))]
 fn rim_targets(
     alloc: Global,
@@ -110,7 +110,7 @@ fn rim_targets(
     Ok(targets)
 }
 
-// The number to which a number is linked: that of the exit over which its water leaves the next tile.
+/// The number to which a number is linked: that of the exit over which its water leaves the next tile.
 fn link_of(tiling: &Tiling, flows: &[TileFlow], targets: &[Option<Place>], number: u32) -> u32
     requires flows { (d : Directed) × AreFlowsOf d tiling.now flows.now }
     requires targets { targets.now ≡ targets_by tiling.now flows.now }

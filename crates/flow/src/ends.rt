@@ -1,11 +1,11 @@
-// Where the paths along links end: at the nodes that are linked to themselves.
+//! Where the paths along links end: at the nodes that are linked to themselves.
 ghost use Rattle.std.specs.Prelude.{◌≡◌, ◌^◌, ◌<◌, ◌≤◌, ℕ, length, IfOk};
 ghost use Rattle.flow.specs.Streams.{AreStreams, AreEnds, end_of};
 ghost use Rattle.flow.specs.Finding.{AreFound, IsKnown};
 
 use std::alloc::{AllocError, Global};
 
-// The entry of a node whose end is not found yet.
+/// The entry of a node whose end is not found yet.
 const UNKNOWN: u32 = u32::MAX;
 
 /// Where the path of each node ends.
@@ -26,7 +26,7 @@ pub(crate) fn unknown_ends(alloc: Global, links: &[u32]) -> Result<Vec<u32>, All
     vec![in alloc; UNKNOWN; links.len()]
 }
 
-// Finds where the path of each node ends.
+/// Finds where the path of each node ends.
 fn find_ends(links: &[u32], ends: &mut [u32])
     requires streams { AreStreams links.now }
     requires few { length links.now ≤ 2 ^ 30 }
@@ -72,7 +72,7 @@ pub(crate) fn end_of(links: &[u32], from: usize) -> u32
     node as u32
 }
 
-// The end of a node's path, read off where the path meets a known one, or comes to it.
+/// The end of a node's path, read off where the path meets a known one, or comes to it.
 #[inline]
 fn end_from(links: &[u32], ends: &[u32], from: usize) -> u32
     requires streams { AreStreams links.now }
@@ -95,7 +95,7 @@ fn end_from(links: &[u32], ends: &[u32], from: usize) -> u32
     node as u32
 }
 
-// Marks the nodes of a path with its end, up to the first that is known.
+/// Marks the nodes of a path with its end, up to the first that is known.
 fn mark_path(links: &[u32], ends: &mut [u32], from: usize, last: u32)
     requires streams { AreStreams links.now }
     requires few { length links.now ≤ 2 ^ 30 }

@@ -1,4 +1,4 @@
-// What flows into tiles over their rims.
+//! What flows into tiles over their rims.
 ghost use Rattle.std.specs.Prelude.{◌≡◌, ◌+◌, ◌*◌, ◌^◌, ◌<◌, ◌&&◌, ℕ, None, length, slice_index, slice_index_or, IfOk, IfSome};
 ghost use Rattle.terrain.specs.declared.place.Place.{Place as AtPlace};
 ghost use Rattle.tiles.specs.Cutting.{AreBounds, IsInBounds, IsWithin, bounds_of, cell_count, tile_count, is_in_bounds, index_in};
@@ -93,7 +93,7 @@ impl Inflows {
     }
 }
 
-// Adds what the numbers of a tile add to the weights of its cells.
+/// Adds what the numbers of a tile add to the weights of its cells.
 fn add_all(tiling: &Tiling, listed: &[u32], tile: u32, weights: &mut [u32])
     requires tile { tile < tile_count tiling.now }
     requires listed { length listed.now ≡ number_count tiling.now }
@@ -112,7 +112,7 @@ fn add_all(tiling: &Tiling, listed: &[u32], tile: u32, weights: &mut [u32])
     }
 }
 
-// Adds what a number adds to the weight of its cell.
+/// Adds what a number adds to the weight of its cell.
 fn add_one(tiling: &Tiling, listed: &[u32], bounds: Bounds, number: u32, weights: &mut [u32])
     requires number { number < number_count tiling.now }
     requires listed { length listed.now ≡ number_count tiling.now }
@@ -139,7 +139,7 @@ fn stands_in(tiling: &Tiling, bounds: Bounds, place: Place, number: u32) -> bool
     stands_for(tiling, place, number) && bounds.contains(place)
 }
 
-// How many cells of its tile flow through the place, itself left out.
+/// How many cells of its tile flow through the place, itself left out.
 #[inline(always)]
 fn through_at(tiling: &Tiling, flows: &[TileFlow], place: Place) -> Option<u32>
     requires count { length flows.now ≡ tile_count tiling.now }
@@ -149,7 +149,7 @@ fn through_at(tiling: &Tiling, flows: &[TileFlow], place: Place) -> Option<u32>
     flows[tiling.tile_of(place) as usize].through(place)
 }
 
-// How many cells of its tile flow through an exit that leads into another tile; 0 for any other number.
+/// How many cells of its tile flow through an exit that leads into another tile; 0 for any other number.
 fn weight_of(tiling: &Tiling, flows: &[TileFlow], targets: &[Option<Place>], number: u32) -> u32
     requires flows { (d : Directed) × AreFlowsOf d tiling.now flows.now × AreTileCounts d tiling.now flows.now }
     requires targets { targets.now ≡ targets_by tiling.now flows.now }
@@ -181,7 +181,7 @@ fn rim_weights(
     Ok(weights)
 }
 
-// What enters at the place of each number.
+/// What enters at the place of each number.
 fn all_entering(
     alloc: Global,
     tiling: &Tiling,
@@ -224,7 +224,7 @@ fn send_all(
     }
 }
 
-// Adds what enters at a place to what its number has.
+/// Adds what enters at a place to what its number has.
 fn send(tiling: &Tiling, target: Option<Place>, amount: u32, listed: &mut [u32])
     requires within { IfSome target (IsWithin tiling.now) }
     requires size { length listed.old ≡ number_count tiling.now }

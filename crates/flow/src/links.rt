@@ -1,4 +1,4 @@
-// Flow over the rims of all tiles.
+//! Flow over the rims of all tiles.
 ghost use Rattle.std.specs.Prelude.{◌≡◌, IfOk};
 ghost use Rattle.tiles.specs.Cutting.{IsWithin};
 ghost use Rattle.drainage.specs.Drained.{AllFlowEnds};

@@ -1,4 +1,4 @@
-// The basins of a map of directions, tile by tile.
+//! The basins of a map of directions, tile by tile.
 ghost use Rattle.std.proofs.Props.{props};
 ghost use Rattle.std.specs.Prelude.{◌≡◌, ◌<◌, ℕ, length, slice_index_or, None, IfOk, IfSome};
 ghost use Rattle.terrain.specs.Neighbours.{index_of};
@@ -58,7 +58,7 @@ impl<'a> TileMap for Numbering<'a> {
 }
 
 impl<'a> Numbering<'a> {
-    // The number of the outlet of each exit, at its own index.
+    /// The number of the outlet of each exit, at its own index.
     #[tactic(auto, using(crate::proofs::Windows::mapped_next))]
     fn exit_labels(
         &self,
@@ -96,7 +96,7 @@ impl<'a> Numbering<'a> {
         self.number_of(flow.bounds().place_at(exit))
     }
 
-    // The number of the outlet of an exit.
+    /// The number of the outlet of an exit.
     fn number_of(&self, exit: Place) -> u32
         requires within { IsWithin self.now.outlets.cutting exit }
         requires numbered { IfSome (outlet_in self.now.outlets self.now.flows.items exit)
@@ -147,7 +147,7 @@ pub fn basins<R: Threads + Wait + Sync, G: Gate + Sync>(
     })
 }
 
-// The label of each cell's exit.
+/// The label of each cell's exit.
 #[tactic(auto, using(crate::proofs::Windows::mapped_next))]
 fn numbered(
     alloc: Global,

@@ -1,4 +1,4 @@
-// The numbers of outlets in the row order of the grid.
+//! The numbers of outlets in the row order of the grid.
 ghost use Rattle.std.specs.Prelude.{◌≡◌, ℕ, ◌+◌, ◌-◌, ◌^◌, ◌<◌, ◌≤◌, length, take, count_by, IfOk};
 ghost use Rattle.std.specs.List.{sum_by};
 ghost use Rattle.tile_jobs.specs.Fault.{RefusesWorkers};
@@ -68,7 +68,7 @@ impl<'a> OutletNumbers<'a> {
     }
 }
 
-// How many outlets stand before each run.
+/// How many outlets stand before each run.
 fn sums_before(alloc: Global, runs: &[RunCounts]) -> Result<Vec<u32>, AllocError>
     requires { sum_by (λ r. r.total) runs.now < 2 ^ 32 }
     ensures { IfOk result (λ v. AreSumsBefore runs.now v.items) }

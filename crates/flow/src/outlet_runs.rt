@@ -1,4 +1,4 @@
-// The outlets of a list of codes, counted run by run.
+//! The outlets of a list of codes, counted run by run.
 ghost use Rattle.std.specs.Prelude.{◌≡◌, ◌-◌, ◌*◌, ◌^◌, ◌<◌, ◌≤◌, length, take, count_by, IfOk, if◌then◌else◌};
 ghost use Rattle.flow.specs.Whole.{is_outlet_code};
 ghost use Rattle.flow.specs.OutletRuns.{AreCodeRuns, IsRunCounted, run_share, run_start, run_codes};
@@ -9,7 +9,7 @@ use std::alloc::{AllocError, Global};
 use std::marker::Model;
 use tile_jobs::{JobFault, Work};
 
-// How many codes have one count: a number for each code would take 4 bytes a cell of the grid.
+/// How many codes have one count: a number for each code would take 4 bytes a cell of the grid.
 const BLOCK: usize = 16;
 
 /// A list of codes, cut into runs of one length. The last codes may fill less than a run, and behind them
@@ -135,7 +135,7 @@ impl<'a> Work for CountRuns<'a> {
     }
 }
 
-// The outlets before the second index, of those before the first.
+/// The outlets before the second index, of those before the first.
 #[inline(always)]
 fn count_on(codes: &[Option<Code>], from: usize, to: usize, before: u32) -> u32
     requires few { length codes.now < 2 ^ 32 - 1 }

@@ -1,4 +1,4 @@
-// Where the water of the exits of all tiles ends.
+//! Where the water of the exits of all tiles ends.
 ghost use Rattle.std.specs.Prelude.{◌≡◌, ◌<◌, ℕ, length, slice_index, IfOk};
 ghost use Rattle.tiles.specs.Cutting.{IsWithin, tile_count};
 ghost use Rattle.drainage.specs.Following.{Directed};
@@ -83,7 +83,7 @@ fn exit_of(tiling: &Tiling, flows: &[TileFlow], place: Place) -> Option<Place>
     flows[tiling.tile_of(place) as usize].exit(place)
 }
 
-// The exit of the place that the last of a number's links enters.
+/// The exit of the place that the last of a number's links enters.
 fn outlet_of(
     tiling: &Tiling,
     flows: &[TileFlow],

@@ -1,11 +1,11 @@
-// Weights that are sent along links. A node that is linked to itself is an end.
+//! Weights that are sent along links. A node that is linked to itself is an end.
 ghost use Rattle.std.specs.Prelude.{◌≡◌, ◌≢◌, ◌+◌, ◌^◌, ◌<◌, ◌≤◌, ℕ, length, slice_index, IfOk};
 ghost use Rattle.flow.specs.Streams.{AreStreams, AreUpstream, total};
 ghost use Rattle.flow.specs.Sending.{IsSending, AreDonorCounts, AreNone};
 
 use std::alloc::{AllocError, Global};
 
-// The count of a node that has sent.
+/// The count of a node that has sent.
 const SENT: u32 = u32::MAX;
 
 /// So many zeros.
@@ -15,7 +15,7 @@ pub(crate) fn zeros(alloc: Global, len: usize) -> Result<Vec<u32>, AllocError>
     vec![in alloc; 0; len]
 }
 
-// Counts how many nodes are linked to each node, itself left out.
+/// Counts how many nodes are linked to each node, itself left out.
 fn count_donors(links: &[u32], counts: &mut [u32])
     requires streams { AreStreams links.now }
     requires few { length links.now ≤ 2 ^ 30 }
@@ -49,7 +49,7 @@ pub(crate) fn upstream(
     Ok(came)
 }
 
-// Sends from each node in turn, once it waits for none.
+/// Sends from each node in turn, once it waits for none.
 fn send_all(links: &[u32], weights: &[u32], waits: &mut [u32], came: &mut [u32])
     requires streams { AreStreams links.now }
     requires few { length links.now ≤ 2 ^ 30 }
@@ -64,7 +64,7 @@ fn send_all(links: &[u32], weights: &[u32], waits: &mut [u32], came: &mut [u32])
     }
 }
 
-// Sends what came to a node that waits for none, and so on downstream up to one that waits.
+/// Sends what came to a node that waits for none, and so on downstream up to one that waits.
 fn send_on(links: &[u32], weights: &[u32], waits: &mut [u32], came: &mut [u32], from: usize)
     requires streams { AreStreams links.now }
     requires few { length links.now ≤ 2 ^ 30 }

@@ -1,4 +1,4 @@
-// Flow inside one tile.
+//! Flow inside one tile.
 ghost use Rattle.std.specs.Prelude.{◌≡◌, ◌<◌, length, slice_index_or, IfOk, IfSome, None};
 ghost use Rattle.std.specs.Option.{option_map};
 ghost use Rattle.terrain.specs.StoredCells.{uncounted};
@@ -57,7 +57,7 @@ impl TileFlow {
         }
     }
 
-    // The code of the place, None outside.
+    /// The code of the place, None outside.
     pub(crate) fn code(&self, place: Place) -> Option<Code>
         ensures { result ≡ entry_in self.now.bounds self.now.codes place }
     {
@@ -68,7 +68,7 @@ impl TileFlow {
         }
     }
 
-    // The tile's first row and column, and its size.
+    /// The tile's first row and column, and its size.
     #[inline(always)]
     pub(crate) fn bounds(&self) -> Bounds
         ensures value { result ≡ self.now.bounds }
@@ -77,7 +77,7 @@ impl TileFlow {
         self.bounds
     }
 
-    // The codes of the tile's cells in its row order.
+    /// The codes of the tile's cells in its row order.
     #[inline(always)]
     pub(crate) fn codes(&self) -> &[Option<Code>]
         ensures { result.now ≡ self.now.codes }
@@ -85,7 +85,7 @@ impl TileFlow {
         &self.codes
     }
 
-    // The links of the tile's cells.
+    /// The links of the tile's cells.
     #[inline(always)]
     pub(crate) fn links(&self) -> &[u32]
         ensures { result.now ≡ links_by self.now.bounds self.now.codes }
@@ -93,7 +93,7 @@ impl TileFlow {
         &self.links
     }
 
-    // How many cells the tile has.
+    /// How many cells the tile has.
     #[inline(always)]
     pub(crate) fn cell_count(&self) -> usize
         ensures { result ≡ length self.now.exits }
@@ -101,7 +101,7 @@ impl TileFlow {
         self.codes.len()
     }
 
-    // The count of the cell with this index in the tile's row order.
+    /// The count of the cell with this index in the tile's row order.
     #[inline(always)]
     fn count_at(&self, index: usize) -> Option<u32>
         requires { index < length self.now.codes }
@@ -114,7 +114,7 @@ impl TileFlow {
         }
     }
 
-    // The exit of a place of the tile.
+    /// The exit of a place of the tile.
     #[inline(always)]
     fn exit_at(&self, place: Place) -> Option<Place>
         requires { IsInBounds self.now.bounds place }
@@ -127,14 +127,14 @@ impl TileFlow {
         )
     }
 
-    // The index to which the links lead from each cell.
+    /// The index to which the links lead from each cell.
     pub(crate) fn ends(&self, alloc: Global) -> Result<Vec<u32>, AllocError>
         ensures { IfOk result (λ v. AreEnds (links_by self.now.bounds self.now.codes) v.items) }
     {
         ends(alloc, &self.links)
     }
 
-    // The index of the exit of the cell with this index, by the indexes to which the links lead.
+    /// The index of the exit of the cell with this index, by the indexes to which the links lead.
     #[inline(always)]
     pub(crate) fn exit_index(&self, ends: &[u32], index: usize) -> Option<u32>
         requires ends { AreEnds (links_by self.now.bounds self.now.codes) ends.now }
@@ -145,7 +145,7 @@ impl TileFlow {
         where_data(self.codes[index], ends[index])
     }
 
-    // Where water that enters the tile at a place leaves it again; None where it ends in the tile.
+    /// Where water that enters the tile at a place leaves it again; None where it ends in the tile.
     pub(crate) fn way_out(&self, entry: Place) -> Option<Place>
         ensures { result ≡ way_out_in self.now entry }
     {

@@ -1,4 +1,4 @@
-// Floods of tiles, the graph that joins them, and want of memory.
+//! Floods of tiles, the graph that joins them, and want of memory.
 ghost use Rattle.std.specs.Prelude.{IfOk};
 ghost use Rattle.terrain.specs.Raster.{Terrain};
 ghost use Rattle.fill.specs.Spills.{AreFloods};
@@ -107,14 +107,14 @@ fn expect_filled_or_refused<R: Abort + Threads + Wait + Sync>(rt: &R, alloc: Glo
     }
 }
 
-// The label of the two low cells of the first tile meets ten others, more than a node's list of ways
-// holds in place.
+/// The label of the two low cells of the first tile meets ten others, more than a node's list of ways
+/// holds in place.
 #[test]
 fn refused_memory_is_told(rt: HostRuntime) {
     expect_filled_or_refused(&rt, rt.alloc(), 3);
 }
 
-// Each cell is its own label: no joins are listed.
+/// Each cell is its own label: no joins are listed.
 #[test]
 fn refused_memory_of_single_cells_is_told(rt: HostRuntime) {
     expect_filled_or_refused(&rt, rt.alloc(), 1);

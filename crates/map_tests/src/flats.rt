@@ -1,4 +1,4 @@
-// One round of counting steps over a tile, from the counts that the rounds begin with.
+//! One round of counting steps over a tile, from the counts that the rounds begin with.
 ghost use Rattle.std.specs.Prelude.{◌≡◌, ◌*◌, ◌<◌, ◌↔◌, IfOk, IsTrue};
 ghost use Rattle.terrain.specs.Raster.{Terrain};
 ghost use Rattle.terrain.specs.Neighbours.{IsInside, Touches, index_of};
@@ -146,7 +146,7 @@ fn hole_among_nines(rt: HostRuntime) {
     assert!(rt; agree(&first_round(&rt, alloc, &grid, 7, 0), &wanted));
 }
 
-// Only the lowest cell is neither an edge cell nor has a lower neighbour.
+/// Only the lowest cell is neither an edge cell nor has a lower neighbour.
 #[test]
 fn pits_as_read(rt: HostRuntime) {
     let alloc = rt.alloc();

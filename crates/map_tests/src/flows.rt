@@ -1,4 +1,4 @@
-// Flow inside tiles, and over their rims.
+//! Flow inside tiles, and over their rims.
 ghost use Rattle.std.specs.Prelude.{◌≡◌, ◌<◌, IfOk};
 ghost use Rattle.drainage.specs.Drained.{AllFlowEnds, directed_of};
 ghost use Rattle.flow.specs.TileFlow.{IsTileFlow, AreTileFlows};

@@ -1,4 +1,4 @@
-// Small grids, and how they are cut.
+//! Small grids, and how they are cut.
 ghost use Rattle.tiles.specs.Cutting.{Cuts};
 
 use ascii_grid::read_text;

@@ -1,4 +1,4 @@
-// Lines of sight and viewsheds.
+//! Lines of sight and viewsheds.
 ghost use Rattle.std.specs.Prelude.{◌≡◌};
 
 use crate::ground::{cut, land};
@@ -179,7 +179,7 @@ const HEIGHTS: &str = "-5 -8 -9999 2 7 -7 -7 8 -2\n\
     3 2 -9999 -4 6 -9999 -5 0 6\n\
     5 5 4 -1 2 3 -5 -5 -2";
 
-// The values are those of a separate program that follows the rule with signed quotients.
+/// The values are those of a separate program that follows the rule with signed quotients.
 #[test]
 fn rough_land(rt: HostRuntime) {
     let rough = land(&rt, rt.alloc(), 9, 7, HEIGHTS);

@@ -1,4 +1,4 @@
-// The calls that drain a grid, without a gate.
+//! The calls that drain a grid, without a gate.
 ghost use Rattle.std.specs.Prelude.{IfOk};
 ghost use Rattle.drainage.specs.Drained.{AllFlowEnds, directed_of};
 ghost use Rattle.tiles.specs.Cutting.{Cuts};

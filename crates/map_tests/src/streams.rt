@@ -1,5 +1,5 @@
-// Filled heights, codes, accumulations and basins of small terrains. Those that no worked example has
-// are those of a separate program that follows the definitions.
+//! Filled heights, codes, accumulations and basins of small terrains. Those that no worked example has
+//! are those of a separate program that follows the definitions.
 use crate::ground::land;
 use crate::maps::Maps;
 
@@ -31,7 +31,7 @@ fn spills_over_the_least_crest(rt: HostRuntime) {
     maps.expect(&rt, rt.alloc());
 }
 
-// The corners of tiles of side 1 and 2 lie in the valley.
+/// The corners of tiles of side 1 and 2 lie in the valley.
 #[test]
 fn valley_across_tiles(rt: HostRuntime) {
     let maps = Maps {
@@ -77,7 +77,7 @@ fn hole_without_data(rt: HostRuntime) {
     maps.expect(&rt, rt.alloc());
 }
 
-// East of the middle the south east is lower: by more, and by enough more for the longer way.
+/// East of the middle the south east is lower: by more, and by enough more for the longer way.
 #[test]
 fn sides_against_corners(rt: HostRuntime) {
     let side = "20 20 20\n20 20 15\n20 20 13";
@@ -119,7 +119,7 @@ fn slope(rt: HostRuntime) {
     maps.expect(&rt, rt.alloc());
 }
 
-// In tiles of side 3, 4 and 7 it leaves the first by the first row, and comes back by the last.
+/// In tiles of side 3, 4 and 7 it leaves the first by the first row, and comes back by the last.
 #[test]
 fn river_that_comes_back(rt: HostRuntime) {
     let river = "24 23 22 21 20 19 18 17\n30 30 30 30 30 30 30 16\n8 9 10 11 12 13 14 15";
@@ -151,7 +151,7 @@ fn greatest_drops(rt: HostRuntime) {
     maps.expect(&rt, rt.alloc());
 }
 
-// Of two drops, one along a row and one across a diagonal, the squares differ by a fiftieth.
+/// Of two drops, one along a row and one across a diagonal, the squares differ by a fiftieth.
 #[test]
 fn great_drops_compared(rt: HostRuntime) {
     let slope =
@@ -182,8 +182,8 @@ fn level_ground(rt: HostRuntime) {
     maps.expect(&rt, rt.alloc());
 }
 
-// More outlets than a run of codes has, and then a river to the end of the first row, a ridge and a
-// row in pairs, the second of which is an outlet: no outlet is among the first codes.
+/// More outlets than a run of codes has, and then a river to the end of the first row, a ridge and a
+/// row in pairs, the second of which is an outlet: no outlet is among the first codes.
 #[test]
 fn outlets_of_several_runs(rt: HostRuntime) {
     let fives =

@@ -1,4 +1,4 @@
-// Facts of the definitions alone.
+//! Facts of the definitions alone.
 ghost use Rattle.std.specs.Prelude.{◌≡◌, ℕ, List};
 ghost use Rattle.terrain.specs.declared.place.Place.{Place};
 ghost use Rattle.request.specs.Laws.{AreSame};

@@ -1,4 +1,4 @@
-// A map of a grid.
+//! A map of a grid.
 ghost use Rattle.std.specs.Prelude.{◌≡◌, ◌<◌, ◌≤◌, ◌*◌, None, IfOk, IfErr, OnOk, option_map};
 ghost use Rattle.tiles.specs.Cutting.{Cuts, longest_side, most_tiles};
 ghost use Rattle.tile_jobs.specs.Fault.{RefusesWorkers};

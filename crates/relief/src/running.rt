@@ -1,4 +1,4 @@
-// The whole way from bytes to bytes.
+//! The whole way from bytes to bytes.
 ghost use Rattle.std.specs.Prelude.{◌<◌, ◌-◌, ◌^◌};
 ghost use Rattle.ascii_grid.specs.Device.{Writes};
 ghost use Rattle.relief.specs.MadeMap.{made_text, FitsGrid};

@@ -29,8 +29,8 @@ fn read_words(rt: &(impl Env + AllocGlobal)) -> io::Result<Vec<String>> {
     Ok(words)
 }
 
-// The C library's allocator gives a long list that is let go back to the system, but for those no longer than one that it has
-// seen let go: they are kept for lists to come. A map of millions of cells meets a third fewer new pages of memory then.
+/// The C library's allocator gives a long list that is let go back to the system, but for those no longer than one that it has
+/// seen let go: they are kept for lists to come. A map of millions of cells meets a third fewer new pages of memory then.
 fn keep_lists_let_go(alloc: Global) {
     drop(Vec::<u8>::with_capacity(alloc, LONGEST_KEPT));
 }

@@ -1,4 +1,4 @@
-// The texts of `--help`. `clap` wraps nothing here, so lines are broken by hand.
+//! The texts of `--help`. `clap` wraps nothing here, so lines are broken by hand.
 
 /// What is said of a map: in a line, at length, and how it is called.
 #[derive(Clone, Copy)]

@@ -1,4 +1,4 @@
-// Facts of the definitions alone.
+//! Facts of the definitions alone.
 ghost use Rattle.request.specs.Laws.{BasinsOfSinks, FillAlone, HelpOfView, NoSideOfZero, VersionAlone, ViewWithRadius, WishesAreAccepted, WishesAreOne};
 
 /// Words have at most one wish.

@@ -1,4 +1,4 @@
-// What the caller asks for.
+//! What the caller asks for.
 ghost use Rattle.std.specs.Prelude.{◌≡◌, [], IfSome, IfNone, IfOk, IfErr};
 ghost use Rattle.request.specs.Wish.{AreLimits, IsView};
 

@@ -1,4 +1,4 @@
-// Observers and sinks as words of the command line.
+//! Observers and sinks as words of the command line.
 ghost use Rattle.std.specs.Prelude.{◌≡◌, ◌==◌, ◌∷◌, [], Some, None, IfSome, IfNone, if◌then◌else◌};
 ghost use Rattle.std.specs.List.{slice_split, position};
 ghost use Rattle.terrain.specs.Decimal.{number_of};
@@ -7,7 +7,7 @@ ghost use Rattle.request.specs.PlaceWords.{is_number, observer_of, sink_of};
 use decimals::whole_number;
 use terrain::{Observer, Place};
 
-// The most digits of a number.
+/// The most digits of a number.
 const MOST_DIGITS: usize = 10;
 
 fn comma_at(bytes: &[u8]) -> Option<usize>

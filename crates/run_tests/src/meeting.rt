@@ -1,4 +1,4 @@
-// Two tiles in work at once, at each stage of each map.
+//! Two tiles in work at once, at each stage of each map.
 ghost use Rattle.tiles.specs.Cutting.{Cuts};
 
 use ascii_grid::{Counted, read_text};
@@ -128,7 +128,7 @@ fn tiles_meet_at_each_stage(rt: HostRuntime) {
     gate.expect(&rt, 3, 4, "basins");
 }
 
-// Tiles with inner cells have the same stages.
+/// Tiles with inner cells have the same stages.
 #[test]
 fn tiles_with_inner_cells_meet(rt: HostRuntime) {
     let alloc = rt.alloc();
@@ -139,7 +139,7 @@ fn tiles_with_inner_cells_meet(rt: HostRuntime) {
     gate.expect(&rt, 3, 2, "filled");
 }
 
-// After the first round, a round has a job for each tile into which a count comes; then come codes.
+/// After the first round, a round has a job for each tile into which a count comes; then come codes.
 #[test]
 fn tiles_meet_in_each_round(rt: HostRuntime) {
     let alloc = rt.alloc();
@@ -150,7 +150,7 @@ fn tiles_meet_in_each_round(rt: HostRuntime) {
     gate.expect(&rt, 3, 2, "directions");
 }
 
-// The steps of the pit come into the first of four tiles alone, once.
+/// The steps of the pit come into the first of four tiles alone, once.
 #[test]
 fn one_job_for_one_tile(rt: HostRuntime) {
     let alloc = rt.alloc();
@@ -164,7 +164,7 @@ fn one_job_for_one_tile(rt: HostRuntime) {
     assert_eq!(rt; gate.all.load(Ordering::SeqCst), 9);
 }
 
-// Each of three tiles has one job at each of three stages, also where one worker does them in turn.
+/// Each of three tiles has one job at each of three stages, also where one worker does them in turn.
 #[test]
 fn three_stages_of_three_jobs(rt: HostRuntime) {
     let alloc = rt.alloc();
@@ -204,7 +204,7 @@ fn met_rows<R: Abort + Threads + Wait + Sync>(
     out
 }
 
-// The stages of a run are those of all its calls.
+/// The stages of a run are those of all its calls.
 #[test]
 fn tiles_meet(rt: HostRuntime) {
     let mut observers = Vec::new(rt.alloc());

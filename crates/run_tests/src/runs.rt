@@ -1,4 +1,4 @@
-// Whole runs, from bytes to bytes.
+//! Whole runs, from bytes to bytes.
 use ascii_grid::{Counted, GridFault, Key};
 use relief::{Map, Options, RunFault, run};
 use std::alloc::Global;
@@ -210,7 +210,7 @@ fn run_of_sevens(
     Ok(result)
 }
 
-// The bowl has 69 bytes: ten reads, and one that finds the end.
+/// The bowl has 69 bytes: ten reads, and one that finds the end.
 #[test]
 fn a_reader_that_fails_once(rt: HostRuntime) -> Result<(), Fail> {
     let alloc = rt.alloc();

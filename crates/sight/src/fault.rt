@@ -1,4 +1,4 @@
-// Why nothing is seen.
+//! Why nothing is seen.
 use tile_jobs::JobFault;
 
 /// Why a viewshed is refused.

@@ -1,4 +1,4 @@
-// Heights of a list of cells.
+//! Heights of a list of cells.
 ghost use Rattle.std.specs.Prelude.{◌≡◌, ◌⊎◌, ℤ, None, Some, slice_index_or};
 ghost use Rattle.sightlines.specs.Blocks.{IsTopOf};
 

@@ -1,4 +1,4 @@
-// Which fault of a list of observers is told.
+//! Which fault of a list of observers is told.
 ghost use Rattle.std.specs.Prelude.{◌≡◌, ◌<◌, ◌≤◌, length, IfSome};
 ghost use Rattle.std.specs.List.{position_from};
 ghost use Rattle.sight.specs.Viewshed.{most_observers};
@@ -9,10 +9,10 @@ use terrain::{Grid, Observer, Place};
 
 const MOST_OBSERVERS: usize = 1_024;
 
-// Of an eye and of the target, in scaled units.
+/// Of an eye and of the target, in scaled units.
 const HIGHEST_EYE: u32 = 1_000_000;
 
-// In cells.
+/// In cells.
 const LONGEST_RADIUS: u32 = 8_192;
 
 /// The first observer whose eye is too high.

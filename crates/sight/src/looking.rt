@@ -1,4 +1,4 @@
-// Looks from line to line at what stands before the targets.
+//! Looks from line to line at what stands before the targets.
 ghost use Rattle.std.specs.Prelude.{◌≡◌, ◌<◌, ◌≤◌, ℤ, List, Option, Some, IfOk, OnOk};
 ghost use Rattle.horizons.specs.declared.horizon.Piece.{Piece};
 ghost use Rattle.horizons.specs.declared.ramp.Ramp.{Ramp};

@@ -1,4 +1,4 @@
-// What the ground hides of a tile, on all sides of an observer.
+//! What the ground hides of a tile, on all sides of an observer.
 ghost use Rattle.std.specs.Prelude.{◌≡◌, ℕ, ◌+◌, ◌*◌, ◌<◌, ◌≤◌, true, length, OnOk};
 ghost use Rattle.terrain.specs.Neighbours.{IsInside};
 ghost use Rattle.terrain.specs.declared.place.Place.{Place};

@@ -1,4 +1,4 @@
-// The greatest heights of blocks of cells, as maps of the blocks.
+//! The greatest heights of blocks of cells, as maps of the blocks.
 ghost use Rattle.std.specs.Prelude.{◌≡◌, ℕ, ℤ, ◌*◌, ◌<◌, ◌≤◌, slice_index_or, None, Some, IfOk};
 ghost use Rattle.sightlines.specs.Walk.{AreHeights};
 ghost use Rattle.tile_jobs.specs.Fault.{RefusesWorkers};

@@ -1,4 +1,4 @@
-// Parts of the grid whose cells have marks.
+//! Parts of the grid whose cells have marks.
 ghost use Rattle.std.specs.Prelude.{◌↔◌, ◌+◌, ◌<◌, ◌^◌, IsTrue};
 ghost use Rattle.sight.specs.Hiding.{IsInRun};
 

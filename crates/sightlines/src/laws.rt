@@ -1,4 +1,4 @@
-// Facts of the definitions alone.
+//! Facts of the definitions alone.
 ghost use Rattle.sightlines.specs.Sight.{CrossingsAreOnTheLine};
 
 /// Where a line of sight is at a crossing, told without negative numbers, is the quotient rounded

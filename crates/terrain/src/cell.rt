@@ -1,4 +1,4 @@
-// The cells of a grid.
+//! The cells of a grid.
 ghost use Rattle.std.specs.Prelude.{◌≡◌, ◌↔◌, ◌≤ℤ◌, IsTrue, None, Some, unwrap_or};
 ghost use Rattle.terrain.specs.Raster.{highest};
 ghost use Rattle.terrain.specs.StoredCells.{stored_cell, no_data};

@@ -1,4 +1,4 @@
-// The entries of maps of whole numbers.
+//! The entries of maps of whole numbers.
 ghost use Rattle.std.specs.Prelude.{◌≡◌, ◌<◌, None, Some};
 ghost use Rattle.terrain.specs.StoredCells.{stored_count, uncounted};
 

@@ -1,4 +1,4 @@
-// A grid, seen as its size, its header words, its scale, its cells and its sinks.
+//! A grid, seen as its size, its header words, its scale, its cells and its sinks.
 ghost use Rattle.std.specs.Prelude.{◌≡◌, ◌↔◌, ◌+◌, ◌*◌, ◌<◌, [], length, All, Contains, IfSome, IfOk, IsTrue, Some};
 ghost use Rattle.terrain.specs.Raster.{Raster, IsLawful};
 ghost use Rattle.terrain.specs.Neighbours.{IsInside, height_at, IsEnd, HasGapAround};

@@ -1,4 +1,4 @@
-// Places and heights.
+//! Places and heights.
 ghost use Rattle.std.specs.Prelude.{◌≡◌};
 ghost use Rattle.terrain.specs.Neighbours.{index_of};
 

@@ -1,4 +1,4 @@
-// Named sinks, judged and counted once.
+//! Named sinks, judged and counted once.
 ghost use Rattle.std.specs.Prelude.{◌≡◌, ◌<◌, ◌≤◌, length, IfOk};
 ghost use Rattle.std.specs.List.{list_any};
 ghost use Rattle.terrain.specs.declared.sinks.SinkFault.TheVariants.{Memory};

@@ -1,4 +1,4 @@
-// The eight ways from a place, in the order of their codes: E, SE, S, SW, W, NW, N, NE.
+//! The eight ways from a place, in the order of their codes: E, SE, S, SW, W, NW, N, NE.
 ghost use Rattle.std.specs.Prelude.{◌≡◌, ◌+◌, ◌-◌, ◌^◌, ◌<◌};
 ghost use Rattle.terrain.specs.Ways.{around_index, place_on};
 

@@ -12,13 +12,13 @@ use terrain::Grid;
 use tile_jobs::{Gate, MOST_JOBS};
 use tile_maps::Crew;
 
-// One read takes so much where several workers share it.
+/// One read takes so much where several workers share it.
 const PIECE: usize = 4_194_304;
 
-// So much of a piece is read first, with the header or a word begun before.
+/// So much of a piece is read first, with the header or a word begun before.
 const FRONT: usize = 4096;
 
-// Hands on a piece, which the workers share where it is long.
+/// Hands on a piece, which the workers share where it is long.
 fn feed_shared<T: Threads + Wait + Sync, G: Gate + Sync>(
     crew: &Crew<T, G>,
     reader: &mut GridReader,
@@ -34,7 +34,7 @@ fn feed_shared<T: Threads + Wait + Sync, G: Gate + Sync>(
     feed_heights(crew, reader, rest)
 }
 
-// Hands on a piece, whose heights the workers read where it has nothing else. What they did not read the reader does.
+/// Hands on a piece, whose heights the workers read where it has nothing else. What they did not read the reader does.
 fn feed_heights<T: Threads + Wait + Sync, G: Gate + Sync>(
     crew: &Crew<T, G>,
     reader: &mut GridReader,

@@ -42,7 +42,7 @@ pub(crate) fn behind_separator(bytes: &[u8], from: usize) -> usize
     }
 }
 
-// The place behind the last separator, or the start.
+/// The place behind the last separator, or the start.
 fn behind_last_separator(bytes: &[u8]) -> usize
     ensures { result ≤ length bytes.now }
 {

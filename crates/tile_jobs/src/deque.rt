@@ -17,7 +17,7 @@ pub enum Entry {
     End,
 }
 
-// What a pass knows of its deque. No value of it is made.
+/// What a pass knows of its deque. No value of it is made.
 pub struct Log {
     // which deque of which board
     pub jobs: u64,

@@ -23,7 +23,7 @@ pub struct Crew<'a, R, G> {
     pub gate: &'a G,
 }
 
-// One job for each tile of a map.
+/// One job for each tile of a map.
 #[derive(Drop)]
 struct TileJobs<'a, M> {
     map: &'a M,

@@ -50,7 +50,7 @@ impl Bounds {
         }
     }
 
-    // Whether a place of these bounds lies in their first or last row or column.
+    /// Whether a place of these bounds lies in their first or last row or column.
     #[inline(always)]
     pub(crate) fn is_first_or_last(self, place: Place) -> bool
         requires { IsInBounds self place }

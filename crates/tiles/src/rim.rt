@@ -29,7 +29,7 @@ impl Model for Rim {
 }
 
 impl Rim {
-    // The rim of a tile with these bounds.
+    /// The rim of a tile with these bounds.
     #[tactic(auto, using(crate::proofs::RimSteps::rim_start))]
     pub(crate) fn of_bounds(bounds: Bounds) -> Self
         requires rows { (1 ≤ bounds.rows) × (bounds.top + bounds.rows ≤ longest_axis) }
@@ -64,7 +64,7 @@ impl Iterator for Rim {
     }
 }
 
-// The place of the rim after this one, in row order.
+/// The place of the rim after this one, in row order.
 #[inline(always)]
 fn next_on_rim(bounds: Bounds, place: Place) -> Place
     requires state { IsRimState bounds place }

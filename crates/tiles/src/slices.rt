@@ -1,4 +1,4 @@
-// Parts and elements of slices whose bounds are known.
+//! Parts and elements of slices whose bounds are known.
 ghost use Rattle.std.specs.Prelude.{◌≡◌, ◌+◌, ◌<◌, ◌≤◌, length, Some, slice_get, slice_range};
 
 #[inline(always)]

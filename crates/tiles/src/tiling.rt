@@ -1,4 +1,4 @@
-// The cutting of a grid.
+//! The cutting of a grid.
 ghost use Rattle.std.specs.Prelude.{◌≡◌, ◌↔◌, ◌⊎◌, ◌+◌, ◌*◌, ◌/◌, ◌<◌, ◌≤◌, ◌++◌, filter, length, IfOk, OnOk, Err};
 ghost use Rattle.std.specs.Option.{option_to_list};
 ghost use Rattle.smallvec.specs.SmallVec.{HasRoomFor, small_vec_len};
@@ -122,7 +122,7 @@ impl Tiling {
         place.row / self.side * self.across + place.col / self.side
     }
 
-    // How many tiles stand in a row of tiles.
+    /// How many tiles stand in a row of tiles.
     #[inline(always)]
     fn across(&self) -> u32
         ensures value { result ≡ across self.now }
@@ -131,7 +131,7 @@ impl Tiling {
         self.across
     }
 
-    // The first of the tiles that a row crosses.
+    /// The first of the tiles that a row crosses.
     #[inline(always)]
     fn first_tile(&self, row: u32) -> u32
         requires { row < self.now.rows }
@@ -249,7 +249,7 @@ impl Tiling {
         Ok(whole)
     }
 
-    // One row of the grid, of the rows of the tiles that it crosses.
+    /// One row of the grid, of the rows of the tiles that it crosses.
     fn push_row<T: Copy + Drop>(
         &self,
         results: &[Vec<T>],
@@ -268,7 +268,7 @@ impl Tiling {
         Ok(())
     }
 
-    // A row of the grid, as far as it lies in a tile.
+    /// A row of the grid, as far as it lies in a tile.
     #[inline(always)]
     fn row_of<'a, T>(&self, results: &'a [Vec<T>], tile: u32, row: u32) -> &'a [T]
         requires lists { AreTileLists self.now results.now }
