@@ -103,7 +103,8 @@ Examples:
   relief basins 120,340 < dem.asc > basins.asc
   relief view --scale 2 --radius 500 --target 150 120,340,2000 < dem.asc > view.asc
 
-`relief fill --help` tells what goes in and comes out, the units and limits, and the exit status.
+Without < the program waits for a grid from the terminal. `relief fill --help` tells what goes in and comes out,
+the units and limits, and the exit status.
 
 A fault is one line on standard error, and no map. What each means, and what to do:
 relief: bad sink word K
