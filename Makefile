@@ -51,6 +51,7 @@ pictures:
 PREFIX ?= /usr/local
 BIN = $(DESTDIR)$(PREFIX)/bin
 SHARE = $(DESTDIR)$(PREFIX)/share
+MAN = $(SHARE)/man/man1
 BASH = $(SHARE)/bash-completion/completions
 ZSH = $(SHARE)/zsh/$(if $(filter /usr,$(PREFIX)),vendor-completions,site-functions)
 # The tools are installed as relief-NAME.
@@ -58,19 +59,21 @@ TOOLS = catchments cells holes picture
 
 install:
 	$(BUILT)
-	install -d "$(BIN)" "$(SHARE)/man/man1" "$(SHARE)/relief" "$(BASH)" "$(ZSH)"
+	install -d "$(BIN)" "$(MAN)" "$(SHARE)/relief" "$(BASH)" "$(ZSH)"
 	install -m 755 relief "$(BIN)/relief"
-	install -m 644 docs/relief.1 "$(SHARE)/man/man1/relief.1"
+	install -m 644 docs/relief.1 "$(MAN)/relief.1"
 	install -m 755 $(TOOLS:%=tools/%) "$(SHARE)/relief"
 	install -m 644 tools/grid_text.py "$(SHARE)/relief"
-	for tool in $(TOOLS); do ln -sf "../share/relief/$$tool" "$(BIN)/relief-$$tool"; done
+	for tool in $(TOOLS); do \
+	  ln -sf "../share/relief/$$tool" "$(BIN)/relief-$$tool" && ln -sf relief.1 "$(MAN)/relief-$$tool.1" || exit 1; done
 	install -m 644 tools/completion/relief.bash "$(BASH)/relief"
 	install -m 644 tools/completion/_relief "$(ZSH)/_relief"
-	tools/linked_pages README.md | while read -r page; do \
+	pages=$$(tools/linked_pages README.md) && for page in $$pages; do \
 	  install -D -m 644 "$$page" "$(SHARE)/doc/relief/$$page" || exit 1; done
 
 uninstall:
-	rm -f "$(BIN)/relief" $(TOOLS:%="$(BIN)/relief-%") "$(SHARE)/man/man1/relief.1" "$(BASH)/relief" "$(ZSH)/_relief"
+	rm -f "$(BIN)/relief" $(TOOLS:%="$(BIN)/relief-%") "$(MAN)/relief.1" $(TOOLS:%="$(MAN)/relief-%.1")
+	rm -f "$(BASH)/relief" "$(ZSH)/_relief"
 	rm -rf "$(SHARE)/relief" "$(SHARE)/doc/relief"
 
 # A Debian package of the built program and its tools, below out/.
