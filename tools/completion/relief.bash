@@ -5,7 +5,7 @@ _relief() {
     for it in "${COMP_WORDS[@]:1:COMP_CWORD - 1}"; do
         [[ $it == [a-z]* ]] && { map=$it; break; }
     done
-    help=$("$1" $map --help 2> /dev/null) || return
+    help=$("$1" $map -h 2> /dev/null) || return
     # The value of an option is a number.
     [[ $before == --* && $help == *"$before <"* ]] && return
     [[ $map ]] || found=$(sed -n '/^Commands:/,/^$/s/^  \([a-z-]*\) .*/\1/p' <<< "$help")
