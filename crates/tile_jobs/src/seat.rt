@@ -1,6 +1,6 @@
 //! Seats, each of which takes jobs from every deque of its board.
 ghost use Rattle.std.specs.Prelude.{◌≡◌, ◌≤◌, [], vec_capacity, IfOk};
-ghost use Rattle.tile_jobs.specs.Ends.{SeatState, seat_of, IsSeat, SameSeat, MarksStay};
+ghost use Rattle.tile_jobs.specs.Ends.{SeatState, seat_of, IsSeat, SameSeat, MarksStay, HasAllMarks};
 ghost use Rattle.tile_jobs.specs.Take.{MatchTake, TakesJob, MeetsTaker, FindsNone};
 
 use crate::ends::{Other, Own, Stolen, steal_round};
@@ -88,6 +88,7 @@ impl Seat {
     pub fn try_take(&mut self) -> Take
         ensures same { SameSeat self.old self.new }
         ensures stay { MarksStay self.old self.new }
+        ensures over { HasAllMarks self.old → result ≡ Take.Empty }
         ensures took { MatchTake result (λ j. TakesJob self.old j self.new) (MeetsTaker self.old self.new) (FindsNone self.old self.new) }
     {
         if let Some(job) = self.own.take() {
