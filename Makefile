@@ -9,6 +9,7 @@ relief:
 
 # `rt ci` proves all from nothing and leaves the program that it has built.
 test:
+	tests/documents
 	rt ci
 	cp crates/relief_program/out/relief_program relief
 	tests/run ./relief
