@@ -56,7 +56,7 @@ some_number gauges p a = let u = position_of (is_place p) 1 gauges a in omega (a
 
 -- a gauge that no other gauge drains through
 module _ (d : Directed) (s : IsEnding d) (gauges : List Place) (g : Place) (is : IsCoded d g) (named : list_any (is_place g) gauges ≡ true)
-  (alone : (h : Place) → list_any (is_place h) gauges ≡ true → h ≢ g → drains_through d g h ≡ false) where
+    (alone : (h : Place) → list_any (is_place h) gauges ≡ true → h ≢ g → drains_through d g h ≡ false) where
   abbrev is_gauge : Place → Bool
   is_gauge q = list_any (is_place q) gauges
 
@@ -68,16 +68,16 @@ module _ (d : Directed) (s : IsEnding d) (gauges : List Place) (g : Place) (is :
       elim (cases_first is_gauge (follow d q) (moves d)) [
         | inr w ↦ absurd (false≢true (sym (w.fails m.0 m.1) ∙ there))
         | inl w ↦ elim (cases_place (follow d q w.at) g) [
-            | inl same ↦ ap (λ (o : Option Place). option_map_or (gauge_number gauges) o 0) w.found ∙ ap (gauge_number gauges) same
-            | inr apart ↦ elim (cases_lt m.0 w.at) [
-                | inl early ↦ absurd (false≢true (sym (w.before m.0 early) ∙ there))
-                | inr late ↦
-                    let on : w.at + (m.0 - w.at) ≡ m.0 = omega (arith, late) in
-                    let reaches = follow_more d q w.at (m.0 - w.at) ∙ ap (follow d q) on ∙ m.3 in
-                    absurd (false≢true (sym (alone (follow d q w.at) w.passes apart)
-                    ∙ drains_at d s (follow d q w.at) g (coded_along d s.ends q coded w.at) (m.0 - w.at) reaches))
-              ]
+          | inl same ↦ ap (λ (o : Option Place). option_map_or (gauge_number gauges) o 0) w.found ∙ ap (gauge_number gauges) same
+          | inr apart ↦ elim (cases_lt m.0 w.at) [
+            | inl early ↦ absurd (false≢true (sym (w.before m.0 early) ∙ there))
+            | inr late ↦
+                let on : w.at + (m.0 - w.at) ≡ m.0 = omega (arith, late) in
+                let reaches = follow_more d q w.at (m.0 - w.at) ∙ ap (follow d q) on ∙ m.3 in
+                absurd (false≢true (sym (alone (follow d q w.at) w.passes apart)
+                ∙ drains_at d s (follow d q w.at) g (coded_along d s.ends q coded w.at) (m.0 - w.at) reaches))
           ]
+        ]
       ]
 
   drains_if : (q : Place) → IsCoded d q → catchment d gauges q ≡ gauge_number gauges g → drains_through d g q ≡ true

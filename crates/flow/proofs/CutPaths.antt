@@ -46,28 +46,28 @@ module _ {X : Type 0} (test : X → Bool) (f : ℕ → X) where
   cases_first zero = inr (record { fails = λ j below. absurd (omega (arith, below)); found = refl })
   cases_first (suc n) = elim (cases_first n) [
     | inl first ↦ inl (record {
-        at = first.at;
-        below = omega (arith, first.below);
-        passes = first.passes;
-        before = first.before;
-        found = found_next n ∙ ap (λ (o : Option X). option_or o (cond (test (f n)) (Some (f n)) None)) first.found;
-      })
+      at = first.at;
+      below = omega (arith, first.below);
+      passes = first.passes;
+      before = first.before;
+      found = found_next n ∙ ap (λ (o : Option X). option_or o (cond (test (f n)) (Some (f n)) None)) first.found;
+    })
     | inr absent ↦ elim (cases_Bool (test (f n))) [
-        | inl here ↦ inl (record {
-            at = n;
-            below = omega arith;
-            passes = here;
-            before = absent.fails;
-            found = found_next n ∙ ap (λ (o : Option X). option_or o (cond (test (f n)) (Some (f n)) None)) absent.found ∙ cond-true (test (f n)) (Some (f n)) None here;
-          })
-        | inr not_here ↦ inr (record {
-            fails = λ j below. elim (cases_lt j n) [
-              | inl early ↦ absent.fails j early
-              | inr late ↦ (let same : n ≡ j = omega (arith, late, below) in subst (λ (k : ℕ). test (f k) ≡ false) same not_here)
-            ];
-            found = found_next n ∙ ap (λ (o : Option X). option_or o (cond (test (f n)) (Some (f n)) None)) absent.found ∙ cond-false (test (f n)) (Some (f n)) None not_here;
-          })
-      ]
+      | inl here ↦ inl (record {
+        at = n;
+        below = omega arith;
+        passes = here;
+        before = absent.fails;
+        found = found_next n ∙ ap (λ (o : Option X). option_or o (cond (test (f n)) (Some (f n)) None)) absent.found ∙ cond-true (test (f n)) (Some (f n)) None here;
+      })
+      | inr not_here ↦ inr (record {
+        fails = λ j below. elim (cases_lt j n) [
+          | inl early ↦ absent.fails j early
+          | inr late ↦ (let same : n ≡ j = omega (arith, late, below) in subst (λ (k : ℕ). test (f k) ≡ false) same not_here)
+        ];
+        found = found_next n ∙ ap (λ (o : Option X). option_or o (cond (test (f n)) (Some (f n)) None)) absent.found ∙ cond-false (test (f n)) (Some (f n)) None not_here;
+      })
+    ]
   ]
 
 -- the first index that passes: one entry more, none that passes, two tests that agree, a bound
@@ -185,8 +185,8 @@ module _ (d : Directed) (s : IsEnding d) (gauges : List Place) (codes : List (Op
   numbered_at : (q : Place) → IsCoded d q → unwrap_or (number_of_index d.cols gauges (index_of d.cols q)) 0 ≡ gauge_number gauges q
   numbered_at q is = ap (λ (o : Option ℕ). unwrap_or o 0) (position_same (λ (g : Place). index_of d.cols g == index_of d.cols q) (is_place q) 1 gauges
       (λ k g below.
-        let there = get_or gauges k g in
-        agree q there is (coded_gauge there (list_any_at (is_place there) gauges k g below (is_place_from there there refl)))))
+      let there = get_or gauges k g in
+      agree q there is (coded_gauge there (list_any_at (is_place there) gauges k g below (is_place_from there there refl)))))
 
   -- the numbers of the ends are the catchments
   pub catchments_are : (n : EndNumbers) → ((i : ℕ) → n.number i ≡ unwrap_or (number_of_index d.cols gauges i) 0) → (values : List (Option ℕ)) →
@@ -195,15 +195,15 @@ module _ (d : Directed) (s : IsEnding d) (gauges : List Place) (codes : List (Op
     size = made.size;
     each = λ p inside. elim (cases_coded d p) [
       | inl none ↦ match_none (code_at d p) _ _ none (elim (cases_coded cut_d p) [
-          | inl none_cut ↦ MatchOption-at_none _ _ none_cut (made.each p inside)
-          | inr is ↦ (let here = coded_from_cut p is in absurd (none-some here.code (sym none ∙ here.is)))
-        ])
+        | inl none_cut ↦ MatchOption-at_none _ _ none_cut (made.each p inside)
+        | inr is ↦ (let here = coded_from_cut p is in absurd (none-some here.code (sym none ∙ here.is)))
+      ])
       | inr is ↦
           let there = coded_to_cut p is in
           let last = coded_from_cut (last_of cut_d p) (coded_along cut_d cut_ends p there (moves cut_d)) in
           match_some (code_at d p) _ _ is.code is.is (
-            MatchOption-at_some _ _ there.code there.is (made.each p inside)
-            ∙ ap Some (numbers (index_of d.cols (last_of cut_d p)) ∙ numbered_at (last_of cut_d p) last ∙ caught p is)
+          MatchOption-at_some _ _ there.code there.is (made.each p inside)
+          ∙ ap Some (numbers (index_of d.cols (last_of cut_d p)) ∙ numbered_at (last_of cut_d p) last ∙ caught p is)
           )
     ];
   }

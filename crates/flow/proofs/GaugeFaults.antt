@@ -1,5 +1,5 @@
 -- What is wrong with a gauge, by the codes of its grid.
-use Rattle.std.proofs.Common.{◌≡◌, ℕ, ◌<◌, Bool, true, false, not, ◌&&◌, List, length, get_or, Option, None, Some, is_some, is_none, sym, ap, refl, ◌∙◌, subst, arith}
+use Rattle.std.proofs.Common.{◌≡◌, ℕ, ◌<◌, ◌≤◌, Bool, true, false, not, ◌&&◌, List, length, get_or, Option, None, Some, is_some, is_none, sym, ap, refl, ◌∙◌, subst, arith}
 use Rattle.std.specs.Prelude.{nat_lt, if◌then◌else◌, option_map}
 use Rattle.std.specs.List.{All, list_any}
 use Rattle.std.proofs.lemmas.Bool.{and_from, lt-ltb, ltb-false}
@@ -11,6 +11,7 @@ use Rattle.terrain.specs.declared.sinks.SinkFault.{SinkFault}
 use Rattle.terrain.specs.declared.sinks.SinkFault.TheVariants.{Outside, OnNodata}
 use Rattle.terrain.proofs.Listed.{listed_from_any}
 use Rattle.terrain.proofs.Naming.{IsSound, sinks_sound, few_sinks}
+use Rattle.tiles.specs.Cutting.{Cutting, Cuts}
 use Rattle.drainage.specs.Following.{code_at}
 use Rattle.drainage.specs.Drained.{Drained, IsDraining, directed_of}
 use Rattle.flow.specs.Catchments.{fault_of_gauge, gauges_fault}
@@ -52,8 +53,11 @@ module _ (d : Drained) (draining : IsDraining d) (gauges : List Place) (none : g
   pub few_gauges : length gauges ≤ most_sinks
   few_gauges = ltb-false most_sinks (length gauges) (few_sinks d.terrain gauges no_fault)
 
-  pub have_codes : HaveCodes d.terrain.cols d.terrain.rows d.codes gauges
+  have_codes : HaveCodes d.terrain.cols d.terrain.rows d.codes gauges
   have_codes p named =
       let there = listed_from_any p gauges named in
       subst (λ (q : Place). is_some (code_at (directed_of d) q) ≡ true) there.2
       (draining.same_data (get_or gauges there.0 p) ∙ (all_sound there.0 p there.1).1)
+
+  pub have_codes_in : (t : Cutting) (codes : List (Option ℕ)) → Cuts t d.terrain → codes ≡ d.codes → HaveCodes t.cols t.rows codes gauges
+  have_codes_in t codes cuts same p named = rw (same, cuts.0, cuts.1) (have_codes p named)

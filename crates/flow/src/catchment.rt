@@ -1,6 +1,6 @@
 //! The catchments of gauges on a map of directions.
-ghost use Rattle.std.specs.Prelude.{◌≡◌, ◌*◌, length, IfOk};
-ghost use Rattle.tiles.specs.Cutting.{Cuts};
+ghost use Rattle.std.specs.Prelude.{◌≡◌, ◌*◌, length, IfOk, OnOk};
+ghost use Rattle.tiles.specs.Cutting.{Cuts, IsCutting};
 ghost use Rattle.drainage.specs.Drained.{directed_of};
 ghost use Rattle.flow.specs.Catchments.{AreCatchments, RefusesGauges, gauges_fault};
 ghost use Rattle.flow.specs.CutCodes.{AreCutCodes, HaveCodes};
@@ -12,7 +12,7 @@ use std::alloc::{AllocError, Global};
 use std::sync::Wait;
 use std::thread::Threads;
 use terrain::{Count, Place};
-use tile_jobs::Gate;
+use tile_jobs::{Gate, check_workers};
 use tile_maps::Crew;
 use tiles::Tiling;
 
@@ -25,12 +25,14 @@ fn cut_codes(
 ) -> Result<Vec<Option<Code>>, AllocError>
     requires size { length codes.now ≡ tiling.now.cols * tiling.now.rows }
     requires coded { HaveCodes tiling.now.cols tiling.now.rows codes.now gauges.now }
-    ensures { IfOk result (λ v. AreCutCodes tiling.now.cols tiling.now.rows codes.now gauges.now v.items) }
+    ensures cut { IfOk result (λ v. AreCutCodes tiling.now.cols tiling.now.rows codes.now gauges.now v.items) }
+    ensures cutting { OnOk result (IsCutting tiling.now) }
 {
+    let cols = tiling.cols();
     let mut cut = Vec::with_capacity(alloc, codes.len())?;
     cut.extend_from_slice(codes)?;
     for gauge in gauges {
-        cut[gauge.index_in(tiling.cols())] = Some(Code::outlet());
+        cut[gauge.index_in(cols)] = Some(Code::outlet());
     }
     Ok(cut)
 }
@@ -62,6 +64,7 @@ pub fn catchments<R: Threads + Wait + Sync, G: Gate + Sync>(
     if let Some(fault) = first_fault(d, tiling, gauges) {
         return Err(fault);
     }
+    check_workers(workers)?;
     let crew = Crew {
         rt,
         alloc,

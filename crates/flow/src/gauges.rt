@@ -55,12 +55,7 @@ impl From<AllocError> for GaugeFault {
 }
 
 /// The fault of the gauge that stands at `index`.
-fn gauge_fault_at(
-    d: &Directions,
-    tiling: &Tiling,
-    gauge: Place,
-    index: u32,
-) -> Option<GaugeFault>
+fn gauge_fault_at(d: &Directions, tiling: &Tiling, gauge: Place, index: u32) -> Option<GaugeFault>
     requires { Cuts tiling.now d.now.terrain }
     ensures { result ≡ option_map fault_of_gauge (sink_fault_of d.now.terrain index gauge) }
 {
@@ -89,11 +84,7 @@ fn first_bad_gauge(d: &Directions, tiling: &Tiling, gauges: &[Place]) -> Option<
 }
 
 /// The first fault of gauges over a map of directions.
-pub(crate) fn first_fault(
-    d: &Directions,
-    tiling: &Tiling,
-    gauges: &[Place],
-) -> Option<GaugeFault>
+pub(crate) fn first_fault(d: &Directions, tiling: &Tiling, gauges: &[Place]) -> Option<GaugeFault>
     requires { Cuts tiling.now d.now.terrain }
     ensures { result ≡ gauges_fault d.now.terrain gauges.now }
 {
@@ -126,9 +117,8 @@ impl GaugeNumbers {
     {
         let mut numbers = HashMap::new(alloc);
         for (index, gauge) in gauges.iter().enumerate() {
-            numbers
-                .entry(gauge.index_in(tiling.cols()))?
-                .or_insert(index as u32 + 1);
+            let cell = gauge.index_in(tiling.cols());
+            numbers.entry(cell)?.or_insert(index as u32 + 1);
         }
         Ok(GaugeNumbers {
             cells: tiling.cols() as usize * tiling.rows() as usize,

@@ -15,9 +15,9 @@ pub fn highest_gauges_have_all_upstream_cells()
         → IsDataCell d.terrain g → Contains gauges g
         → ((h : Place) → Contains gauges h → h ≢ g → drains_through (directed_of d) g h ≡ false)
         → count_by
-            (λ p. is_some (code_at (directed_of d) p) && catchment (directed_of d) gauges p == gauge_number gauges g)
-            (places d.terrain.cols d.terrain.rows)
-            ≡ accumulation (directed_of d) g + 1 }
+        (λ p. is_some (code_at (directed_of d) p) && catchment (directed_of d) gauges p == gauge_number gauges g)
+        (places d.terrain.cols d.terrain.rows)
+        ≡ accumulation (directed_of d) g + 1 }
 {}
 
 /// With all outlets as gauges, in row order, catchments are basins.

@@ -56,7 +56,6 @@ impl<'a> OutletNumbers<'a> {
             before,
         })
     }
-
 }
 
 impl<'a> EndNumbering for OutletNumbers<'a> {
