@@ -1,4 +1,6 @@
 //! Boards of jobs, and what their seats take.
+//!
+//! In order, by stealing, in threads, and after a `close` that was refused memory.
 ghost use Rattle.std.specs.Prelude.{◌≡◌, ◌<◌, ◌≤◌, ◌⊎◌, vec_len, IfOk, IfErr, IfSome};
 ghost use Rattle.tile_jobs.specs.Ends.{IsBoard, SameSeat};
 

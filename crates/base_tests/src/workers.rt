@@ -1,4 +1,4 @@
-//! Jobs run by workers, and what their gates are told.
+//! Jobs run by workers: results, faults, refused threads, and what gates see.
 ghost use Rattle.std.specs.Prelude.{◌≤◌};
 
 use crate::texts::expect_numbers;

@@ -1,4 +1,4 @@
-//! Counts that become less, and those of them that come from one tile into another.
+//! A shorter count for a cell, and one that is offered from an adjacent tile.
 
 use terrain::Place;
 

@@ -1,4 +1,4 @@
-//! Steps and directions of a filled grid, by tiles and workers.
+//! Steps and directions of a filled grid, by tiles and workers: [`directions`].
 ghost use Rattle.std.specs.Prelude.{◌≡◌, [], IfOk, OnOk, length};
 ghost use Rattle.terrain.specs.Raster.{Terrain, IsTerrain};
 ghost use Rattle.terrain.specs.Sinks.{with_sinks};

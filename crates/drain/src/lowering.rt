@@ -1,4 +1,6 @@
-//! The search that goes on from what comes into a tile, over counts that others share.
+//! The search of a later round, over counts that all jobs share.
+//!
+//! It begins at what enters the tile, and returns the changes alone.
 ghost use Rattle.std.specs.Prelude.{◌≡◌, ℕ, ◌+◌, ◌*◌, ◌<◌, ◌≤◌, ◌≢◌, true, [], Vec, length, OnOk, IfOk, Some, slice_get, unwrap_or};
 ghost use Rattle.std.specs.Bool.{OnFalse};
 ghost use Rattle.std.specs.declared.alloc.Global.{Global};

@@ -1,4 +1,4 @@
-//! The entries of each tile, one run for each.
+//! Entries sorted by their tiles, and the run of each tile.
 ghost use Rattle.std.specs.Prelude.{◌≡◌, ◌≢◌, ℕ, ◌<◌, ◌≤◌, length, OnOk, IfOk, Some, slice_get};
 ghost use Rattle.std.specs.List.Sorted.{IsNonDecreasingBy, IsPermutation};
 ghost use Rattle.drain.specs.declared.changes.Entry.{Entry};

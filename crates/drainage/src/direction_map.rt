@@ -1,4 +1,6 @@
-//! A map of directions.
+//! A map of directions: the code of each cell.
+//!
+//! Its filled heights and steps, along which each flow path falls, are ghosts.
 ghost use Rattle.std.specs.Prelude.{◌≡◌};
 ghost use Rattle.terrain.specs.Neighbours.{IsInside};
 ghost use Rattle.drainage.specs.Drained.{IsDraining, directed_of};

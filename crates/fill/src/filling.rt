@@ -1,4 +1,7 @@
-//! The filled heights of a grid, by tiles and workers.
+//! The filled heights of a grid, by tiles and workers: [`filled`].
+//!
+//! Jobs flood each tile, find its sources and its joins. The caller's thread floods the spill graph
+//! and raises the cells.
 ghost use Rattle.std.specs.Prelude.{◌<◌, ◌≤◌, IfOk, OnOk};
 ghost use Rattle.terrain.specs.Raster.{Terrain, IsTerrain};
 ghost use Rattle.drainage.specs.Filled.{IsFilled, IsFilledGrid};

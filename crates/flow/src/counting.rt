@@ -1,4 +1,6 @@
-//! Accumulations of a map of directions, tile by tile.
+//! Accumulations of a map of directions: [`accumulation`].
+//!
+//! One job finds each tile's flow, `inflows` what enters it, and another job counts.
 ghost use Rattle.std.proofs.Props.{props};
 ghost use Rattle.std.specs.Prelude.{◌≡◌, ◌+◌, ◌^◌, ◌<◌, ℕ, length, slice_index, IfOk};
 ghost use Rattle.tiles.specs.Cutting.{Cuts, IsInBounds, bounds_of, cell_count, tile_count};

@@ -1,4 +1,24 @@
-//! Accumulations and basins.
+//! Flow accumulation and catchments over a map of directions.
+//!
+//! Begin with [`accumulation`] and [`basins`]. [`tile_flow`] and [`RimLinks`] are their stages for
+//! callers with tiles of their own. Depends on `drainage` and `tile_maps`.
+//!
+//! Modules, from what is called to what it depends on:
+//!
+//! - `counting`: `accumulation`
+//! - `numbering`: `basins`
+//! - `flowing`: each tile's flow
+//! - `tile`: the flow of one tile
+//! - `cells`: codes, links and weights of a tile
+//! - `streams`: totals along links
+//! - `ends`: where links end
+//! - `rim`: exits of a tile's rim
+//! - `crossings`: flow from tile to tile
+//! - `inflows`: what enters each tile
+//! - `outlets`: where exits end
+//! - `links`: inflows and outlets together, for callers
+//! - `outlet_numbers`: numbers of outlets
+//! - `outlet_runs`: outlets counted by runs
 #![tactic(auto)]
 
 mod basin;

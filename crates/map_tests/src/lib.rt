@@ -1,4 +1,20 @@
 //! Tests of the maps, over their public calls.
+//!
+//! Modules:
+//!
+//! - `streams`: small terrains
+//! - `maps`: all maps of a terrain
+//! - `stages`: the calls without a gate
+//! - `ground`: small grids
+//! - `nodes`: floods of four nodes
+//! - `filling`: floods of tiles
+//! - `lowering`: against plain lowering
+//! - `flats`: one round of steps
+//! - `draining`: the rule at one cell
+//! - `flows`: flow in tiles
+//! - `seeing`: sight
+//! - `pits`: refused memory
+//! - `refused`: calls made again
 #![tactic(auto)]
 
 #[cfg(test)]

@@ -1,4 +1,4 @@
-//! The maps of the ways of water, by their rows.
+//! Compares all maps of a terrain with what is wanted, by tiles and workers.
 use crate::ground::{cut, expect_cells, expect_heights, land};
 use crate::stages::{directed, leveled};
 use drain::Code;

@@ -1,4 +1,7 @@
 //! The board: jobs in deques, dealt to seats and gathered again.
+//!
+//! [`Board::deal`] and [`Board::close`] are its two calls; `dealing` and `closing` do them deque by
+//! deque.
 ghost use Rattle.std.specs.Prelude.{◌≡◌, ℕ, ◌+◌, ◌<◌, ◌≤◌, ◌==◌, ◌⊎◌, ◌↔◌, cond, true, List, [], ◌++◌, length, vec_len, vec_capacity, slice_index_or, IfOk, IfErr, OnOk, Err};
 ghost use Rattle.tile_jobs.specs.Board.{deal as deal_list, times, sum_to};
 ghost use Rattle.tile_jobs.specs.Closed.{IsClosed};

@@ -1,4 +1,6 @@
-//! Seats, each of which takes jobs from every deque of its board.
+//! A seat: one worker's place at every deque of its board.
+//!
+//! [`Seat::try_take`] takes its own next job, or tries one steal from each other deque.
 ghost use Rattle.std.specs.Prelude.{◌≡◌, ◌≤◌, [], vec_capacity, IfOk};
 ghost use Rattle.tile_jobs.specs.Ends.{SeatState, seat_of, IsSeat, SameSeat, MarksStay, HasAllMarks};
 ghost use Rattle.tile_jobs.specs.Take.{MatchTake, TakesJob, MeetsTaker, FindsNone};
