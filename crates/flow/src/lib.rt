@@ -1,12 +1,16 @@
 //! Flow accumulation and catchments over a map of directions.
 //!
-//! Begin with [`accumulation`] and [`basins`]. [`tile_flow`] and [`RimLinks`] are their stages for
-//! callers with tiles of their own. Depends on `drainage` and `tile_maps`.
+//! Begin with [`accumulation`], [`basins`] and [`catchments`]. [`tile_flow`] and [`RimLinks`] are
+//! their stages for callers with tiles of their own. Depends on `drainage` and `tile_maps`.
 //!
 //! Modules, from what is called to what it depends on:
 //!
 //! - `counting`: `accumulation`
-//! - `numbering`: `basins`
+//! - `basin`: `basins`
+//! - `catchment`: `catchments`
+//! - `gauges`: faults and numbers of gauges
+//! - `numbering`: cells numbered by the ends of their flow paths
+//! - `end_numbers`: numbers of these ends
 //! - `flowing`: each tile's flow
 //! - `tile`: the flow of one tile
 //! - `cells`: codes, links and weights of a tile
@@ -19,6 +23,7 @@
 //! - `links`: inflows and outlets together, for callers
 //! - `outlet_numbers`: numbers of outlets
 //! - `outlet_runs`: outlets counted by runs
+//! - `laws`: facts of the definitions alone
 #![tactic(auto)]
 
 mod basin;
