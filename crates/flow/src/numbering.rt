@@ -22,7 +22,7 @@ use std::sync::Wait;
 use std::thread::Threads;
 use terrain::{Count, NoMemory, Place};
 use tile_jobs::{Gate, JobFault};
-use tile_maps::{Crew, TileMap, joined};
+use tile_maps::{Crew, TileMap};
 use tiles::Tiling;
 
 /// The basins, of the exits of all tiles, their outlets and the outlets' numbers.
@@ -133,14 +133,13 @@ pub fn basins<R: Threads + Wait + Sync, G: Gate + Sync>(
         gate,
     };
     let codes = d.codes();
-    let tiling = joined(tiling);
-    let flows = flow_tiles(&crew, codes, &tiling, false)?;
-    let crossings = Crossings::of(alloc, &tiling, &flows)?;
-    let outlets = Outlets::join(alloc, &tiling, &flows, &crossings)?;
+    let flows = flow_tiles(&crew, codes, tiling, false)?;
+    let crossings = Crossings::of(alloc, tiling, &flows)?;
+    let outlets = Outlets::join(alloc, tiling, &flows, &crossings)?;
     drop(crossings);
     let numbers = OutletNumbers::of_codes(&crew, codes, tiling.tiles())?;
     crew.made(Numbering {
-        tiling: &tiling,
+        tiling,
         flows,
         outlets,
         numbers,
