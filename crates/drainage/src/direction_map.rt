@@ -53,7 +53,8 @@ impl Directions {
     #[inline(always)]
     pub fn code(&self, place: Place) -> Option<Code>
         requires { IsInside self.now.terrain place }
-        ensures { result ≡ code_at (directed_of self.now) place }
+        ensures value { result ≡ code_at (directed_of self.now) place }
+        ensures draining { IsDraining self.now }
     {
         self.codes[place.index_in(self.cols)]
     }

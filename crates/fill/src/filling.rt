@@ -23,7 +23,7 @@ use std::sync::Wait;
 use std::thread::Threads;
 use terrain::{Cell, Frame, Grid, NoMemory};
 use tile_jobs::{Gate, JobFault, Work};
-use tile_maps::{Crew, joined};
+use tile_maps::Crew;
 use tiles::Tiling;
 
 /// Floods each tile.
@@ -179,11 +179,10 @@ pub fn filled<R: Threads + Wait + Sync, G: Gate + Sync>(
         workers,
         gate,
     };
-    let tiling = joined(tiling);
-    let floods = tile_floods(&crew, &grid, &tiling)?;
+    let floods = tile_floods(&crew, &grid, tiling)?;
     let (frame, room) = grid.into_parts();
-    let graph = spill_graph(&crew, &frame, room, &tiling, &floods)?;
-    let Ok(cells) = filled_cells(alloc, graph, &tiling, &floods) else {
+    let graph = spill_graph(&crew, &frame, room, tiling, &floods)?;
+    let Ok(cells) = filled_cells(alloc, graph, tiling, &floods) else {
         return Err(JobFault::Memory);
     };
     drop(floods);

@@ -12,6 +12,7 @@
 //! - `flats`: one round of steps
 //! - `draining`: the rule at one cell
 //! - `flows`: flow in tiles
+//! - `gauges`: catchments of gauges
 //! - `seeing`: sight
 //! - `pits`: refused memory
 //! - `refused`: calls made again
@@ -25,6 +26,8 @@ mod filling;
 mod flats;
 #[cfg(test)]
 mod flows;
+#[cfg(test)]
+mod gauges;
 #[cfg(test)]
 mod ground;
 #[cfg(test)]

@@ -55,7 +55,8 @@ fn numbers(alloc: Global, codes: &[Option<Code>]) -> Result<Vec<Option<u32>>, No
     Ok(numbers)
 }
 
-fn told(alloc: Global, counts: &[Count]) -> Result<Vec<Option<u32>>, AllocError> {
+/// The values of counts.
+pub(crate) fn told(alloc: Global, counts: &[Count]) -> Result<Vec<Option<u32>>, AllocError> {
     counts.iter().map(|count| count.value()).collect(alloc)
 }
 

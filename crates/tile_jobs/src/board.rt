@@ -13,7 +13,7 @@ use crate::dealing::{deal_all, seat_all};
 use crate::ends::{Other, Own};
 use crate::room::put;
 use crate::seat::Seat;
-use crate::{JobFault, MOST_JOBS, MOST_WORKERS, judge};
+use crate::{JobFault, MOST_JOBS, MOST_WORKERS, check_workers};
 use std::alloc::Global;
 
 /// Takes back every end of deque `v`.
@@ -106,7 +106,7 @@ impl Board {
         ensures bad { (result ≡ Err JobFault.BadWorkers) ↔ ((seats ≡ 0) ⊎ (MOST_WORKERS < seats)) }
         ensures faults { IfErr result (λ e. (e ≡ JobFault.BadWorkers) ⊎ (e ≡ JobFault.Memory)) }
     {
-        judge(seats)?;
+        check_workers(seats)?;
         let ends = deal_all(alloc, jobs, seats)?;
         Ok(seat_all(alloc, jobs, ends)?)
     }

@@ -65,8 +65,8 @@ pub enum JobFault {
     NoThread,
 }
 
-/// Refuses a number of workers, or of seats, that no board has.
-fn judge(workers: u32) -> Result<(), JobFault>
+/// Refuses a number of workers, or of seats, that is 0 or above [`MOST_WORKERS`].
+pub fn check_workers(workers: u32) -> Result<(), JobFault>
     ensures fit { OnOk result ((0 < workers) × (workers ≤ MOST_WORKERS)) }
     ensures bad { (result ≡ Err JobFault.BadWorkers) ↔ ((workers ≡ 0) ⊎ (MOST_WORKERS < workers)) }
     ensures fault { IfErr result (λ e. e ≡ JobFault.BadWorkers) }

@@ -10,9 +10,7 @@
 #![tactic(auto)]
 
 mod crew;
-mod joining;
 mod map;
 
 pub use crew::Crew;
-pub use joining::joined;
 pub use map::TileMap;

@@ -3,7 +3,7 @@ use Rattle.std.proofs.lemmas.Option.{slice_get_read}
 use Rattle.flow.specs.Whole.{is_outlet_code}
 use Rattle.flow.specs.OutletRuns.{IsRunCounted}
 use Rattle.flow.proofs.RunsCounted.{run_below, counted_here}
-use Rattle.flow.proofs.outlet_numbers.OutletNumbers.number.Goals as goal
+use Rattle.flow.proofs.outlet_numbers.OutletNumbersEndNumbering.number.Goals as goal
 
 pub count_before-counted-requires-clause-counted :
     goal.count_before-counted-requires-clause-counted
