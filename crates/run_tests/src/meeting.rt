@@ -221,8 +221,7 @@ fn expect_map(rt: &impl Abort, alloc: Global, map: &[u8], cols: u32, rows: u32, 
     assert_eq!(rt; map, wanted.as_bytes());
 }
 
-/// Two tiles of each map are in work at once. `flow` fills, and has three rounds or more with the codes;
-/// the maps after it have one stage more at least.
+/// At each stage of each map the first two of four tiles are in work at once. A map has so many stages at least.
 #[test]
 fn tiles_meet(rt: HostRuntime) {
     let alloc = rt.alloc();
