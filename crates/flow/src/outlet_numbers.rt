@@ -1,4 +1,7 @@
-//! The numbers of outlets in the row order of the grid.
+//! The numbers of outlets, from 1 in row order.
+//!
+//! An outlet's number is one more than the outlets before it: those of earlier runs, and those in
+//! its own.
 ghost use Rattle.std.specs.Prelude.{◌≡◌, ℕ, ◌+◌, ◌-◌, ◌^◌, ◌<◌, ◌≤◌, length, take, count_by, IfOk};
 ghost use Rattle.std.specs.List.{sum_by};
 ghost use Rattle.tile_jobs.specs.Fault.{RefusesWorkers};
