@@ -284,16 +284,17 @@ def _write(job: Job, array: np.ndarray, nodata: Optional[float], unit: str, fram
         raster = names(job.target)
         write_geotiff(raster, array, frame, nodata, unit, DESCRIPTIONS[job.map], metadata, styles.color_table(job.map))
         if style is not None:
-            with open(names(_style_path(job.target)), "w", encoding="utf-8") as file:
+            with open(names(style_path(job.target)), "w", encoding="utf-8") as file:
                 file.write(style)
         if job.snapped is not None and gauges is not None:
             write_points(names(job.snapped), gauges[0], gauges[1], frame)
     remove_sidecars(job.target)
-    if style is None and os.path.exists(_style_path(job.target)):
-        os.remove(_style_path(job.target))
+    if style is None and os.path.exists(style_path(job.target)):
+        os.remove(style_path(job.target))
 
 
-def _style_path(target: str) -> str:
+def style_path(target: str) -> str:
+    """Where the QGIS style of a map lies."""
     return os.path.splitext(target)[0] + ".qml"
 
 

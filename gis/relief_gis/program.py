@@ -145,13 +145,12 @@ def _output_of(path: str, word: str) -> str:
 
 
 def _refusal(status: int, lines: Sequence[str], subjects: Sequence[str]) -> ReliefError:
-    """The error that a program's last line and status stand for."""
-    last = lines[-1] if lines else ""
+    """The error that a program's lines and status stand for."""
     if status < 0:
         return ReliefError(None, f"ended by signal {-status}", None, 3)
-    fault = FAULT.fullmatch(last)
+    fault = next(filter(None, map(FAULT.fullmatch, lines)), None)
     if fault is None:
-        return ReliefError(None, last or f"status {status}", None, status)
+        return ReliefError(None, lines[0] if lines else f"status {status}", None, status)
     number = int(fault[1]) if fault[1] else None
     place = int(fault[3]) if fault[3] else None
     is_named = number is not None and number >= 41 and place is not None and place < len(subjects)

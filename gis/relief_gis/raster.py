@@ -216,7 +216,7 @@ def _read(band: gdal.Band, whole: Frame, window: Window) -> Terrain:
     shown = band.GetMaskBand().ReadAsArray(left, top, cols, rows) != 0
     if is_masked:
         unmasked = shown
-    valid = shown
+    valid = shown.copy()
     if nodata is not None:
         valid &= values != values.dtype.type(nodata) if _fits(nodata, values.dtype) else True
     if values.dtype.kind == "f":
