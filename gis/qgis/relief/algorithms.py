@@ -20,6 +20,11 @@ from .library import errors, job, points, program, units
 
 HERE = os.path.dirname(__file__)
 VOIDS = ["refuse them", "let water drain off there", "fill them by interpolation"]
+# The options of the command that errors name, by their labels in the dialogue.
+LABELS = {"--voids fill": f"'Holes inside the land: {VOIDS[2]}'", "--voids drain": f"'Holes inside the land: {VOIDS[1]}'",
+          "--decimals": "Decimals", "--window COL,ROW,COLS,ROWS": "Extent", "--bounds WEST,SOUTH,EAST,NORTH": "Extent",
+          "--workers": "Threads", "--snap": "Move gauges", "--at X,Y": "a click", "--points LAYER": "a layer of points",
+          "--eye-field": "a field with the height of each eye", "--eye": "Height of the eyes"}
 # Shares of the bar: reading and the text before the program runs, and the writing behind it.
 BEFORE, AFTER = 20.0, 90.0
 
@@ -114,7 +119,7 @@ class MapAlgorithm(QgsProcessingAlgorithm):
         except errors.Cancelled:
             return {}
         except errors.GisError as error:
-            raise QgsProcessingException(str(error)) from None
+            raise QgsProcessingException(in_labels(str(error))) from None
         feedback.setProgress(100)
         self._ask_for_style(target, context)
         return self.results(asked)
@@ -309,6 +314,13 @@ COMMON_HELP = ("Cells have to be square, in metres and not in degrees, at most 4
                "stays: sinks are the lowest cells of a quarry, a sinkhole or a lake. The program relief makes the map: "
                "docs/rules.md of relief says what each cell means.")
 ALGORITHMS: List[Type[MapAlgorithm]] = [Fill, Depth, Flow, Accumulate, Area, Streams, Basins, Catchments, View]
+
+
+def in_labels(text: str) -> str:
+    """An error's text with the labels of the dialogue in place of the command's options."""
+    for option, label in LABELS.items():
+        text = text.replace(option, label)
+    return text
 
 
 def tr(text: str) -> str:
