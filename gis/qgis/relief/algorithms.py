@@ -32,9 +32,13 @@ BEFORE, AFTER = 20.0, 90.0
 class Style(QgsProcessingLayerPostProcessorInterface):
     """Gives a new layer the style that was written beside it."""
 
+    # Processing holds no reference of its own, and the algorithm is gone when the layer is loaded.
+    kept: Dict[str, "Style"] = {}
+
     def __init__(self, path: str) -> None:
         super().__init__()
         self.path = path
+        self.kept[path] = self
 
     def postProcessLayer(self, layer: Any, context: Any, feedback: Any) -> None:  # noqa: N802
         """Loads the style, where there is one."""
@@ -54,10 +58,6 @@ class MapAlgorithm(QgsProcessingAlgorithm):
     about = ""
     kind = "Sinks"
     output = "Map"
-
-    def __init__(self) -> None:
-        super().__init__()
-        self.style: Optional[Style] = None
 
     def createInstance(self) -> "MapAlgorithm":  # noqa: N802
         """A new algorithm of the same map."""
@@ -188,9 +188,7 @@ class MapAlgorithm(QgsProcessingAlgorithm):
 
     def _ask_for_style(self, target: str, context: QgsProcessingContext) -> None:
         if context.willLoadLayerOnCompletion(target):
-            # Processing keeps no reference of its own.
-            self.style = Style(job.style_path(target))
-            context.layerToLoadOnCompletionDetails(target).setPostProcessor(self.style)
+            context.layerToLoadOnCompletionDetails(target).setPostProcessor(Style(job.style_path(target)))
 
 
 class Fill(MapAlgorithm):
