@@ -113,6 +113,7 @@ def run(job: Job, program: Program, caller: Caller) -> None:
     request, gauges = _request(job, terrain.frame, heights, program, caller)
     found = make(request, heights, program, caller.progress, caller.is_cancelled)
     array, nodata, unit = _result(job, terrain, heights, found)
+    _tell_sizes(job, request, terrain.frame, found, caller.say)
     _write(job, array, nodata, unit, terrain.frame, heights, request, program, gauges)
 
 
@@ -231,6 +232,18 @@ def _snapped(places: Sequence[Place], counts: np.ndarray, cells: int, frame: Fra
         say(f"{before.name} moved to {plain(Decimal(repr(x)))},{plain(Decimal(repr(y)))}: {counts[after.row, after.col]:,} "
             f"other cells drain through it, {counts[before.row, before.col]:,} before")
     return moved
+
+
+def _tell_sizes(job: Job, request: Request, frame: Frame, found: np.ndarray, say: Say) -> None:
+    """Says how large each gauge's catchment is, and what the threshold of streams is as an area."""
+    cell_area = frame.cell * frame.cell
+    if job.map == "streams":
+        threshold = job.threshold or 0
+        say(f"streams: more than {threshold:,} other cells, {plain(threshold * cell_area)} square units, drain through them")
+    if job.map == "catchments":
+        sizes = np.bincount(found[found > 0], minlength=len(request.places) + 1)
+        for number, gauge in enumerate(request.places, 1):
+            say(f"{number}, {gauge.name}: {sizes[number]:,} cells that meet no other gauge before")
 
 
 def _result(job: Job, terrain: Terrain, heights: Heights,

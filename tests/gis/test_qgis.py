@@ -33,7 +33,9 @@ def setUpModule():
 def qgis(*words, program=RELIEF, folder=None):
     """Runs `qgis_process` in the profile."""
     environment = {**os.environ, "HOME": str(ROOM), "XDG_RUNTIME_DIR": str(ROOM / "run"), "QT_QPA_PLATFORM": "offscreen",
-                   "QGIS_PLUGINPATH": str(ROOM / "plugins"), "RELIEF": program, "RELIEF_PLAIN": RELIEF, "LC_ALL": "C.UTF-8"}
+                   "QGIS_PLUGINPATH": str(ROOM / "plugins"), "RELIEF": program,
+                   # QGIS takes its modules from the first python3: that has to be the distribution's.
+                   "PATH": f"/usr/bin:/bin:{os.environ['PATH']}", "RELIEF_PLAIN": RELIEF, "LC_ALL": "C.UTF-8"}
     environment.pop("PYTHONPATH", None)
     return subprocess.run([QGIS, *words], capture_output=True, text=True, timeout=300, env=environment, cwd=folder)
 
