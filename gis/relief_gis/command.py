@@ -11,7 +11,7 @@ from typing import List, NoReturn, Optional, Sequence
 
 from . import __version__
 from .errors import GisError, UsageError
-from .job import SOURCES, VOIDS, Caller, Job, bounds_of, run
+from .job import VOIDS, Caller, Job, bounds_of, run
 from .points import Layer, point_of_word
 from .program import Program
 from .units import MOST_DECIMALS, decimal_of
@@ -91,7 +91,8 @@ def _add_common(parser: argparse.ArgumentParser) -> None:
 
 def _add_places(parser: argparse.ArgumentParser, name: str) -> None:
     kind = {"view": "observer", "catchments": "gauge"}.get(name, "sink")
-    parser.add_argument("--at", action="append", default=[], metavar="X,Y", help=f"a {kind}, by coordinates; again and again")
+    parser.add_argument("--at", action="append", default=[], metavar="X,Y",
+                        help=f"a {kind}, by coordinates; again and again")
     parser.add_argument("--points", action="append", default=[], metavar="LAYER",
                         help=f"{kind}s: points of a file, or of one of its layers by FILE|layername=NAME")
 
@@ -99,7 +100,8 @@ def _add_places(parser: argparse.ArgumentParser, name: str) -> None:
 def _add_view(parser: argparse.ArgumentParser) -> None:
     parser.add_argument("--eye", metavar="H", help="height of the eyes above the ground")
     parser.add_argument("--eye-field", metavar="FIELD", help="field of the points with the height of each eye")
-    parser.add_argument("--target", dest="above", default="0", metavar="H", help="height of the targets above the ground")
+    parser.add_argument("--target", dest="above", default="0", metavar="H",
+                        help="height of the targets above the ground")
     parser.add_argument("--radius", metavar="R", help="how far is seen, rounded down to whole cells")
 
 

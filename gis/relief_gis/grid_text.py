@@ -6,7 +6,7 @@ for many cells at once.
 """
 from __future__ import annotations
 
-from typing import BinaryIO, Optional
+from typing import IO, Dict, Optional
 
 import numpy as np
 
@@ -18,7 +18,7 @@ CELLS_AT_ONCE = 1 << 16
 NARROW_DIGITS = 9
 
 
-def write_grid(units: np.ndarray, valid: Optional[np.ndarray], file: BinaryIO) -> None:
+def write_grid(units: np.ndarray, valid: Optional[np.ndarray], file: IO[bytes]) -> None:
     """Writes heights as a grid text, with cells of size 1 at the origin.
 
     Args:
@@ -56,7 +56,7 @@ def _words(units: np.ndarray, digits: int) -> np.ndarray:
     return text
 
 
-def read_grid(file: BinaryIO) -> np.ndarray:
+def read_grid(file: IO[bytes]) -> np.ndarray:
     """Reads the numbers of a grid text that `relief` wrote with a scale of 0.
 
     Args:
@@ -68,7 +68,10 @@ def read_grid(file: BinaryIO) -> np.ndarray:
     Raises:
         InputError: the text is cut off.
     """
-    header = dict(file.readline().split() for _ in range(HEADER_LINES))
+    header: Dict[bytes, bytes] = {}
+    for _ in range(HEADER_LINES):
+        key, value = file.readline().split()
+        header[key] = value
     shape = int(header[b"nrows"]), int(header[b"ncols"])
     values = np.fromstring(file.read(), dtype=np.int64, sep=" ")
     if values.size != shape[0] * shape[1]:

@@ -19,7 +19,7 @@ from .points import Layer, Point, places_of, points_of, snap, write_points
 from .program import Program, Progress, Question
 from .raster import (Bounds, Frame, Terrain, Window, fill_holes, nodata_for, read_terrain, remove_sidecars,
                      write_geotiff)
-from .units import plain, radius_in_cells, rounded_up, whole_units
+from .units import fraction_of, plain, radius_in_cells, rounded_up, whole_units
 from .voids import Holes, find_holes
 
 # The map of the program from which each map of the command comes.
@@ -132,9 +132,11 @@ def _check_targets(job: Job) -> None:
 def _tell_units(terrain: Terrain, job: Job, say: Say) -> None:
     """Says which units are not metres, where that matters."""
     reference = terrain.frame.spatial_reference()
-    lengths = job.radius is not None or job.map == "area"
-    if reference is not None and lengths and abs(reference.GetLinearUnits() - 1) > 1e-9:
-        say(f"the projection's unit is {reference.GetLinearUnitsName()}: radius and area are in it, not in metres")
+    if reference is not None and (job.radius is not None or job.map == "area"):
+        if abs(reference.GetLinearUnits() - 1) > 1e-9:
+            say(f"the projection's unit is {reference.GetLinearUnitsName()}: radius and area are in it, not in metres")
+        if "mercator" in (reference.GetAttrValue("PROJECTION") or "").lower().replace("transverse_mercator", ""):
+            say("a Mercator projection stretches lengths away from the equator: radius and area are stretched too")
     if job.map == "view" and terrain.unit.lower() not in METRES:
         say(f"heights are in {terrain.unit}: eyes and targets are in it, not in metres")
 
@@ -220,16 +222,19 @@ def _tell_sinks(sinks: Sequence[Place], frame: Frame, heights: Heights, say: Say
     for sink in sinks:
         lower = lower_neighbour(heights, sink)
         if lower is not None:
-            x, y = frame.centre(*lower)
-            say(f"{sink.name} has a lower cell beside it, at {plain(Decimal(repr(x)))},{plain(Decimal(repr(y)))}, and "
-                "may pass its water on: name the lowest cell")
+            say(f"{sink.name} has a lower cell beside it, at {_coordinates(frame, *lower)}, and may pass its water on: "
+                "name the lowest cell")
+
+
+def _coordinates(frame: Frame, row: int, col: int) -> str:
+    """The centre of a cell as the words X,Y."""
+    return ",".join(plain(fraction_of(number)) for number in frame.centre(row, col))
 
 
 def _snapped(places: Sequence[Place], counts: np.ndarray, cells: int, frame: Frame, say: Say) -> List[Place]:
     moved = snap(places, counts, cells)
     for before, after in zip(places, moved):
-        x, y = frame.centre(after.row, after.col)
-        say(f"{before.name} moved to {plain(Decimal(repr(x)))},{plain(Decimal(repr(y)))}: {counts[after.row, after.col]:,} "
+        say(f"{before.name} moved to {_coordinates(frame, after.row, after.col)}: {counts[after.row, after.col]:,} "
             f"other cells drain through it, {counts[before.row, before.col]:,} before")
     return moved
 
@@ -239,7 +244,8 @@ def _tell_sizes(job: Job, request: Request, frame: Frame, found: np.ndarray, say
     cell_area = frame.cell * frame.cell
     if job.map == "streams":
         threshold = job.threshold or 0
-        say(f"streams: more than {threshold:,} other cells, {plain(threshold * cell_area)} square units, drain through them")
+        say(f"streams: more than {threshold:,} other cells, {plain(threshold * cell_area)} square units, drain through "
+            "them")
     if job.map == "catchments":
         sizes = np.bincount(found[found > 0], minlength=len(request.places) + 1)
         for number, gauge in enumerate(request.places, 1):

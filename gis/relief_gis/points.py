@@ -79,7 +79,8 @@ def _points_of_layer(source: Layer, frame: Frame, notes: List[str]) -> List[Poin
     path, _, name = source.path.partition(LAYER_MARK)
     try:
         with raised_errors():
-            dataset = gdal.OpenEx(path, gdal.OF_VECTOR, open_options=CSV_OPTIONS if path.lower().endswith(".csv") else [])
+            options = CSV_OPTIONS if path.lower().endswith(".csv") else []
+            dataset = gdal.OpenEx(path, gdal.OF_VECTOR, open_options=options)
             layer = _layer_of(dataset, path, name)
             if source.eye_field and layer.GetLayerDefn().GetFieldIndex(source.eye_field) < 0:
                 raise UsageError(f"{path} has no field {source.eye_field}")

@@ -8,7 +8,7 @@ import subprocess
 import tempfile
 import threading
 from dataclasses import dataclass
-from typing import BinaryIO, Callable, List, Optional, Sequence, Tuple
+from typing import IO, Callable, List, Optional, Sequence, Tuple
 
 import numpy as np
 
@@ -42,7 +42,8 @@ class Program:
         wanted = path or os.environ.get(VARIABLE) or "relief"
         found = shutil.which(wanted)
         if found is None:
-            raise MissingError(f"there is no program {wanted}: install the package relief, or set {VARIABLE} to its path")
+            raise MissingError(f"there is no program {wanted}: install the package relief, or set {VARIABLE} to its "
+                               "path")
         version = _output_of(found, "--version").strip()
         if not re.fullmatch(r"relief \d+\.\d+\.\d+", version):
             raise MissingError(f"{found} is not the relief that makes maps: set {VARIABLE} to its path")
@@ -95,7 +96,7 @@ class Program:
                 raise
             raise DeviceError(f"a temporary file below {tempfile.gettempdir()} failed: {error.strerror}") from error
 
-    def _run(self, words: Sequence[str], source: BinaryIO, target: BinaryIO, on_progress: Optional[Progress],
+    def _run(self, words: Sequence[str], source: IO[bytes], target: IO[bytes], on_progress: Optional[Progress],
              is_cancelled: Optional[Question]) -> Tuple[int, List[str]]:
         """Runs the program over two open files; its status and the lines of its errors without progress."""
         lines: List[str] = []

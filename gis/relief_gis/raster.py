@@ -5,7 +5,7 @@ import math
 import os
 from dataclasses import dataclass
 from fractions import Fraction
-from typing import Dict, Mapping, Optional, Tuple
+from typing import Any, Dict, Mapping, Optional, Tuple, cast
 
 import numpy as np
 from osgeo import gdal, osr
@@ -21,6 +21,7 @@ METRES_OF_DEGREE = 111_320
 SIDECARS = (".aux.xml", ".ovr", ".msk")
 LAYOUT = ["TILED=YES", "COMPRESS=DEFLATE", "BIGTIFF=IF_SAFER"]
 
+Geotransform = Tuple[float, float, float, float, float, float]
 Window = Tuple[int, int, int, int]
 Bounds = Tuple[Fraction, Fraction, Fraction, Fraction]
 Color = Tuple[int, int, int, int]
@@ -30,7 +31,7 @@ Color = Tuple[int, int, int, int]
 class Frame:
     """Where a raster lies: its geotransform and projection (WKT, empty: none), columns and rows."""
 
-    geotransform: Tuple[float, float, float, float, float, float]
+    geotransform: Geotransform
     projection: str
     cols: int
     rows: int
@@ -143,7 +144,7 @@ def _frame_of(dataset: gdal.Dataset, path: str, projection: Optional[str]) -> Fr
     if projection is not None:
         words = reference_of(projection).ExportToWkt()
     is_point = dataset.GetMetadataItem("AREA_OR_POINT") == "Point"
-    return Frame(tuple(placed), words, dataset.RasterXSize, dataset.RasterYSize, is_point)
+    return Frame(cast(Geotransform, tuple(placed)), words, dataset.RasterXSize, dataset.RasterYSize, is_point)
 
 
 def _check_frame(frame: Frame, path: str, needs_projection: bool) -> None:
@@ -193,7 +194,8 @@ def _window_of(frame: Frame, window: Optional[Window], bounds: Optional[Bounds])
         return 0, 0, frame.cols, frame.rows
     left, top, cols, rows = window
     if min(left, top) < 0 or min(cols, rows) < 1 or left + cols > frame.cols or top + rows > frame.rows:
-        raise UsageError(f"--window {left},{top},{cols},{rows} is not within {frame.cols} columns and {frame.rows} rows")
+        raise UsageError(f"--window {left},{top},{cols},{rows} is not within {frame.cols} columns and "
+                         f"{frame.rows} rows")
     return window
 
 
@@ -234,10 +236,10 @@ def _moved(start: float, cells: int, step: float) -> float:
 
 def _fits(value: float, dtype: np.dtype) -> bool:
     """Whether a type has a value."""
+    least, most = _limits(dtype)
     if dtype.kind == "f":
-        return True
-    limits = np.iinfo(dtype)
-    return float(value).is_integer() and limits.min <= value <= limits.max
+        return math.isnan(value) or least <= value <= most
+    return float(value).is_integer() and least <= value <= most
 
 
 def nodata_for(dtype: np.dtype, wanted: Optional[float], data: np.ndarray) -> Optional[float]:
@@ -248,21 +250,17 @@ def nodata_for(dtype: np.dtype, wanted: Optional[float], data: np.ndarray) -> Op
         wanted: the NODATA value of the raster that was read, or None.
         data: the values that are data, of that type.
     """
-    limits = np.iinfo(dtype) if dtype.kind in "iu" else np.finfo(dtype)
-    for value in (wanted, -9999.0, float(limits.min), float(limits.max)):
-        if value is None or not (math.isnan(value) and dtype.kind == "f" or _fits_range(value, dtype)):
-            continue
-        if math.isnan(value) or not np.any(data == dtype.type(value)):
+    least, most = _limits(dtype)
+    for value in (wanted, -9999.0, least, most):
+        # No datum is NaN.
+        if value is not None and _fits(value, dtype) and not np.any(data == dtype.type(value)):
             return value
     return None
 
 
-def _fits_range(value: float, dtype: np.dtype) -> bool:
-    if math.isnan(value):
-        return False
-    if dtype.kind == "f":
-        return abs(value) <= float(np.finfo(dtype).max)
-    return _fits(value, dtype)
+def _limits(dtype: np.dtype) -> Tuple[float, float]:
+    limits: Any = np.iinfo(dtype) if dtype.kind in "iu" else np.finfo(dtype)
+    return float(limits.min), float(limits.max)
 
 
 def write_geotiff(path: str, array: np.ndarray, frame: Frame, nodata: Optional[float], unit: str, description: str,
@@ -341,10 +339,7 @@ def fill_holes(values: np.ndarray, valid: np.ndarray, holes: np.ndarray, reach: 
     Args:
         values: (rows, cols) integers or floats.
         valid, holes: (rows, cols) bool.
-        reach: how far GDAL looks for data, in cells.
-
-    Raises:
-        InputError: a hole was out of reach.
+        reach: how far GDAL looks for data, in cells: further than the holes are wide.
     """
     rows, cols = values.shape
     with raised_errors():
@@ -357,5 +352,3 @@ def fill_holes(values: np.ndarray, valid: np.ndarray, holes: np.ndarray, reach: 
     if values.dtype.kind in "iu":
         filled = np.rint(filled)
     return np.where(holes, filled, values).astype(values.dtype)
-
-

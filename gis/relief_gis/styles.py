@@ -46,7 +46,9 @@ def style(name: str, values: np.ndarray, decimals: int = 0) -> Optional[str]:
         return _palette([(1, (8, 81, 156, 255), "stream")])
     if name in ("basins", "catchments"):
         numbers = [int(number) for number in np.unique(values) if number > 0]
-        return _palette([(it, _hue(it * GOLDEN_TURN), str(it)) for it in numbers]) if len(numbers) <= MOST_CLASSES else None
+        if len(numbers) > MOST_CLASSES:
+            return None
+        return _palette([(it, _hue(it * GOLDEN_TURN), str(it)) for it in numbers])
     most = float(values.max())
     if name == "view":
         return _palette(_seen(int(most)))
@@ -82,7 +84,8 @@ def _steps_of_counts(most: float) -> List[Entry]:
         limits.append(limit)
         limit *= 10
     limits.append(max(most, 1.0))
-    return [(it, CLEAR if at == 0 else _blue((at + 1) / len(limits)), f"up to {it:,.0f}") for at, it in enumerate(limits)]
+    return [(it, CLEAR if at == 0 else _blue((at + 1) / len(limits)), f"up to {it:,.0f}")
+            for at, it in enumerate(limits)]
 
 
 def _palette(entries: Iterable[Entry]) -> str:

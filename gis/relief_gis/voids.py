@@ -43,13 +43,14 @@ def find_holes(empty: np.ndarray, masked: np.ndarray) -> Holes:
     rows, cols = empty.shape
     runs = _runs_of(empty)
     labels = _components(len(runs.row), *_joins(runs, cols))
-    masked_before = np.concatenate(([0], np.cumsum(masked.ravel(), dtype=np.int64)))
+    masked_before = np.zeros(masked.size + 1, np.int64)
+    np.cumsum(masked.ravel(), out=masked_before[1:])
     has_mask = masked_before[runs.row * cols + runs.end] > masked_before[runs.row * cols + runs.start]
     is_open = (runs.row == 0) | (runs.row == rows - 1) | (runs.start == 0) | (runs.end == cols) | has_mask
     in_hole = ~np.isin(labels, labels[is_open])
     inner = _Runs(runs.row[in_hole], runs.start[in_hole], runs.end[in_hole])
     names, hole = np.unique(labels[in_hole], return_inverse=True)
-    cells = _cells_of(inner, empty.shape)
+    cells = _cells_of(inner, rows, cols)
     return Holes(cells, len(names), int(np.count_nonzero(cells)), _longest_side(inner, hole, len(names)))
 
 
@@ -89,8 +90,8 @@ def _roots(labels: np.ndarray) -> np.ndarray:
     return labels
 
 
-def _cells_of(runs: _Runs, shape: Tuple[int, int]) -> np.ndarray:
-    steps = np.zeros((shape[0], shape[1] + 1), np.int8)
+def _cells_of(runs: _Runs, rows: int, cols: int) -> np.ndarray:
+    steps = np.zeros((rows, cols + 1), np.int8)
     np.add.at(steps, (runs.row, runs.start), 1)
     np.add.at(steps, (runs.row, runs.end), -1)
     return np.cumsum(steps, axis=1, dtype=np.int8)[:, :-1].astype(bool)

@@ -5,12 +5,14 @@ from decimal import Decimal
 import numpy as np
 from osgeo import gdal, osr
 
-from fixtures import (FLOAT_NODATA, PLACED, UTM, Case, at, by_hand, centre, hills, info, make_raster, nodata_of,
+from fixtures import (FLOAT_NODATA, PLACED, UTM, Case, at, by_hand, hills, info, make_raster, nodata_of,
                       read)
 
 DRAINAGE = ("fill", "flow", "accumulate", "basins")
-TYPE_OF = {"flow": "Byte", "accumulate": "Int32", "basins": "Int32", "view": "Int32", "streams": "Byte", "area": "Float64"}
-NODATA_OF = {"flow": 255, "accumulate": -9999, "basins": -9999, "view": -9999, "depth": -9999, "streams": 255, "area": -9999}
+TYPE_OF = {"flow": "Byte", "accumulate": "Int32", "basins": "Int32", "view": "Int32", "streams": "Byte",
+           "area": "Float64"}
+NODATA_OF = {"flow": 255, "accumulate": -9999, "basins": -9999, "view": -9999, "depth": -9999, "streams": 255,
+             "area": -9999}
 
 
 def reference_of(information):
@@ -54,6 +56,10 @@ class MapCase(Case):
             nodata = nodata_of(target)
             self.assertTrue(np.all(found[~valid] == found.dtype.type(nodata)))
             self.assertFalse(np.any(found[valid] == found.dtype.type(nodata)))
+
+    def same_in_info(self, one, other, key):
+        """Compares what `gdalinfo -json` says of two files."""
+        self.assertEqual(info(self.folder / one)[key], info(self.folder / other)[key])
 
 
 class FloatMetres(MapCase):
@@ -200,6 +206,11 @@ class OtherRasters(MapCase):
         make_raster(self.folder / "dem.tif", hills().astype(np.float32), projection="EPSG:2263")
         self.assertIn("US survey foot", self.make("area", "dem.tif", "area.tif"))
 
+    def test_a_stretched_projection_is_told(self):
+        for code, told in (("EPSG:3857", True), ("EPSG:3395", True), ("EPSG:32632", False), ("EPSG:3035", False)):
+            make_raster(self.folder / "dem.tif", hills().astype(np.float32), projection=code)
+            self.assertEqual("stretches lengths" in self.make("area", "dem.tif", "area.tif"), told, code)
+
     def test_a_mask_and_nan(self):
         heights = hills().astype(np.float32)
         valid = np.ones(heights.shape, bool)
@@ -240,13 +251,13 @@ class OtherRasters(MapCase):
         for words in (["--window", "7,11,30,20"], ["--bounds", bounds]):
             self.make("accumulate", "dem.tif", "out.tif", *words)
             np.testing.assert_array_equal(read(self.folder / "out.tif").astype(str), expected)
-            self.assertEqual(info(self.folder / "out.tif")["geoTransform"], info(self.folder / "part.tif")["geoTransform"])
+            self.same_in_info("out.tif", "part.tif", "geoTransform")
 
     def test_a_raster_without_projection_is_told_one(self):
         make_raster(self.folder / "bare.tif", hills().astype(np.float32), projection=None)
         make_raster(self.folder / "dem.tif", hills().astype(np.float32))
         self.make("flow", "bare.tif", "flow.tif", "--projection", UTM)
-        self.assertEqual(info(self.folder / "flow.tif")["coordinateSystem"], info(self.folder / "dem.tif")["coordinateSystem"])
+        self.same_in_info("flow.tif", "dem.tif", "coordinateSystem")
         self.make("flow", "bare.tif", "flow.tif", "--no-projection")
         self.assertNotIn("coordinateSystem", info(self.folder / "flow.tif"))
 
@@ -275,7 +286,8 @@ class Voids(MapCase):
 
     def test_filled(self):
         lines = self.make("fill", "dem.tif", "out.tif", "--voids", "fill")
-        self.assertIn(f"interpolated; {np.count_nonzero(self.sea)} cells at the border or a mask stay without data", lines)
+        left = np.count_nonzero(self.sea)
+        self.assertIn(f"interpolated; {left} cells at the border or a mask stay without data", lines)
         found = read(self.folder / "out.tif")
         np.testing.assert_array_equal(found == np.float32(-9999), self.sea)
         gdal.Translate(str(self.folder / "whole.tif"), str(self.folder / "dem.tif"))

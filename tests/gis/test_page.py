@@ -28,8 +28,9 @@ class Page(Case):
             commands = block["commands"]
             with self.subTest(line=page.count("\n", 0, block.start()) + 1):
                 self.pass_over(commands)
-                done = subprocess.run(["bash", "-e", "-o", "pipefail", "-c", commands], cwd=self.folder, env=environment,
-                                      stdout=subprocess.PIPE, stderr=subprocess.STDOUT, text=True, timeout=300)
+                done = subprocess.run(["bash", "-e", "-o", "pipefail", "-c", commands], cwd=self.folder,
+                                      env=environment, stdout=subprocess.PIPE, stderr=subprocess.STDOUT, text=True,
+                                      timeout=300)
                 self.assertEqual((done.returncode, done.stdout), (0, block["output"] or ""))
 
     def pass_over(self, commands):

@@ -171,13 +171,15 @@ class NoGauges(Case):
 
     def test_one_line(self):
         make_raster(self.folder / "dem.tif", hills().astype(np.float32))
-        line = self.refuse(5, "has no catchments: install a newer relief", "catchments", "dem.tif", "out.tif", *at(3, 3))
+        line = self.refuse(5, "has no catchments: install a newer relief", "catchments", "dem.tif", "out.tif",
+                           *at(3, 3))
         self.assertEqual(line.count("\n"), 1)
 
     @unittest.skipIf(HAS_PROGRESS, "this relief has --progress")
     def test_no_progress(self):
         make_raster(self.folder / "dem.tif", hills().astype(np.float32))
-        self.assertRegex(self.make("fill", "dem.tif", "out.tif", "--progress"), r"^relief-gis: relief \S+ reports no progress\n$")
+        lines = self.make("fill", "dem.tif", "out.tif", "--progress")
+        self.assertRegex(lines, r"^relief-gis: relief \S+ reports no progress\n$")
 
 
 if __name__ == "__main__":

@@ -32,8 +32,8 @@ def setUpModule():
 
 def qgis(*words, program=RELIEF, folder=None):
     """Runs `qgis_process` in the profile."""
-    environment = {**os.environ, "HOME": str(ROOM), "XDG_RUNTIME_DIR": str(ROOM / "run"), "QT_QPA_PLATFORM": "offscreen",
-                   "QGIS_PLUGINPATH": str(ROOM / "plugins"), "RELIEF": program,
+    environment = {**os.environ, "HOME": str(ROOM), "XDG_RUNTIME_DIR": str(ROOM / "run"),
+                   "QT_QPA_PLATFORM": "offscreen", "QGIS_PLUGINPATH": str(ROOM / "plugins"), "RELIEF": program,
                    # QGIS takes its modules from the first python3: that has to be the distribution's.
                    "PATH": f"/usr/bin:/bin:{os.environ['PATH']}", "RELIEF_PLAIN": RELIEF, "LC_ALL": "C.UTF-8"}
     environment.pop("PYTHONPATH", None)
@@ -71,14 +71,16 @@ class Algorithms(Case):
         stand_in = str(HERE / "with_catchments")
         click = "{},{}".format(*centre(10, 20))
         layer = ["--points", "places.gpkg"]
-        cases = [(name, self.points, layer, RELIEF) for name in ("fill", "flow", "accumulate", "basins", "depth", "area")]
+        cases = [(name, self.points, layer, RELIEF)
+                 for name in ("fill", "flow", "accumulate", "basins", "depth", "area")]
         cases += [
             ("streams", ["--THRESHOLD=20"], ["--threshold", "20"], RELIEF),
-            ("view", [*self.points, "--EYE_FIELD=height", f"--AT={click} [{UTM}]", "--EYE=1.5", "--TARGET=1", "--RADIUS=400",
-                      "--VOIDS=1", "--DECIMALS=2"],
-             ["--at", click, *layer, "--eye-field", "height", "--eye", "1.5", "--target", "1", "--radius", "400"], RELIEF),
-            ("catchments", [*self.points, "--SNAP=3", f"--SNAPPED={self.folder / 'moved.gpkg'}"], [*layer, "--snap", "3"],
-             stand_in),
+            ("view", [*self.points, "--EYE_FIELD=height", f"--AT={click} [{UTM}]", "--EYE=1.5", "--TARGET=1",
+                      "--RADIUS=400", "--VOIDS=1", "--DECIMALS=2"],
+             ["--at", click, *layer, "--eye-field", "height", "--eye", "1.5", "--target", "1", "--radius", "400"],
+             RELIEF),
+            ("catchments", [*self.points, "--SNAP=3", f"--SNAPPED={self.folder / 'moved.gpkg'}"],
+             [*layer, "--snap", "3"], stand_in),
         ]
         os.environ["RELIEF_PLAIN"] = RELIEF
         for name, _, command, program in cases:

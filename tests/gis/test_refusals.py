@@ -10,6 +10,8 @@ import numpy as np
 from osgeo import gdal
 
 from fixtures import GIS, PLACED, Case, at, environment, hills, make_points, make_raster
+from relief_gis.errors import Cancelled
+from relief_gis.program import Program
 
 
 class Rasters(Case):
@@ -107,9 +109,10 @@ class Words(Case):
         make_raster(self.folder / "dem.tif", hills().astype(np.float32))
 
     def test_words_without_meaning(self):
-        for words in (["--decimals", "7"], ["--decimals", "x"], ["--voids", "keep"], ["--band", "2"], ["--window", "1,2,3"],
-                      ["--window", "0,0,41,3"], ["--window", "0.5,0,4,3"], ["--bounds", "1,2,3"], ["--bounds", "1,2,3,4"],
-                      ["--at", "500000"], ["--at", "a,b"], ["--eye", "3"], ["--wrong"]):
+        for words in (["--decimals", "7"], ["--decimals", "x"], ["--voids", "keep"], ["--band", "2"],
+                      ["--window", "1,2,3"], ["--window", "0,0,41,3"], ["--window", "0.5,0,4,3"],
+                      ["--bounds", "1,2,3"], ["--bounds", "1,2,3,4"], ["--at", "500000"],
+                      ["--at", "a,b"], ["--eye", "3"], ["--wrong"]):
             self.refuse(1, "relief-gis", "fill", "dem.tif", "out.tif", *words)
         self.refuse(1, "MAP", "wrong", "dem.tif", "out.tif")
         self.refuse(1, "--threshold", "streams", "dem.tif", "out.tif")
@@ -161,7 +164,8 @@ class Points(Case):
     def test_eyes_of_a_field(self):
         make_points(self.folder / "masts.gpkg", [(500400.0, 5199800.0, 1.005)], fields=["height"])
         self.view(1, "has no field eye", "--points", "masts.gpkg", "--eye-field", "eye")
-        self.view(1, "feature 1 of masts.gpkg, 1.005 is no whole number", "--points", "masts.gpkg", "--eye-field", "height")
+        self.view(1, "feature 1 of masts.gpkg, 1.005 is no whole number", "--points", "masts.gpkg", "--eye-field",
+                  "height")
         make_points(self.folder / "masts.gpkg", [(500400.0, 5199800.0)], fields=["height"])
         self.view(2, "has no value in its field height", "--points", "masts.gpkg", "--eye-field", "height")
 
@@ -199,12 +203,13 @@ class Ends(Case):
 
     def test_a_place_is_told_by_its_name(self):
         program = self.program("echo 'relief: 46 SinkOutside 1' >&2; exit 2")
-        self.refuse(2, "46 SinkOutside 1: point 2 (500105, 5199895): the sink lies outside", "fill", "dem.tif", "out.tif",
-                    *at(2, 2), *at(3, 3), program=program)
+        self.refuse(2, "46 SinkOutside 1: point 2 (500105, 5199895): the sink lies outside", "fill", "dem.tif",
+                    "out.tif", *at(2, 2), *at(3, 3), program=program)
 
     def test_an_older_map_stays_where_the_new_one_is_refused(self):
         (self.folder / "out.tif").write_text("older")
-        self.refuse(3, "Memory", "fill", "dem.tif", "out.tif", program=self.program("echo 'relief: 12 Memory' >&2; exit 3"))
+        program = self.program("echo 'relief: 12 Memory' >&2; exit 3")
+        self.refuse(3, "Memory", "fill", "dem.tif", "out.tif", program=program)
         self.assertEqual((self.folder / "out.tif").read_text(), "older")
 
     def test_what_tools_left_of_an_older_map_goes(self):
@@ -217,16 +222,25 @@ class Ends(Case):
         for number, status in ((signal.SIGTERM, 143), (signal.SIGINT, 130)):
             program = self.program("exec sleep 60")
             before = sorted(os.listdir(self.folder))
-            with subprocess.Popen([sys.executable, str(GIS / "relief-gis"), "fill", "dem.tif", "out.tif"], cwd=self.folder,
-                                  env=environment(program), stderr=subprocess.PIPE, text=True) as process:
+            words = [sys.executable, str(GIS / "relief-gis"), "fill", "dem.tif", "out.tif"]
+            with subprocess.Popen(words, cwd=self.folder, env=environment(program), stderr=subprocess.PIPE,
+                                  text=True) as process:
                 time.sleep(2)
                 process.send_signal(number)
                 self.assertEqual(process.wait(30), status)
             self.assertEqual(sorted(os.listdir(self.folder)), before)
 
     def test_no_program(self):
-        self.refuse(5, "there is no program /none: install the package relief", "fill", "dem.tif", "out.tif", program="/none")
-        self.refuse(5, "is not the relief that makes maps", "fill", "dem.tif", "out.tif", program="/bin/true")
+        words = "fill", "dem.tif", "out.tif"
+        self.refuse(5, "there is no program /none: install the package relief", *words, program="/none")
+        self.refuse(5, "is not the relief that makes maps", *words, program="/bin/true")
+
+    def test_a_run_that_is_cancelled_ends_the_program(self):
+        program = Program.find(self.program("exec sleep 60"))
+        began = time.monotonic()
+        with self.assertRaises(Cancelled):
+            program.run(["fill"], np.zeros((2, 2), np.int64), None, is_cancelled=lambda: True)
+        self.assertLess(time.monotonic() - began, 20)
 
     def test_a_python_without_the_modules(self):
         (self.folder / "numpy").mkdir()

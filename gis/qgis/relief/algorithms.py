@@ -21,8 +21,9 @@ from .library import errors, job, points, program, units
 HERE = os.path.dirname(__file__)
 VOIDS = ["refuse them", "let water drain off there", "fill them by interpolation"]
 # The options of the command that errors name, by their labels in the dialogue.
-LABELS = {"--voids fill": f"'Holes inside the land: {VOIDS[2]}'", "--voids drain": f"'Holes inside the land: {VOIDS[1]}'",
-          "--decimals": "Decimals", "--window COL,ROW,COLS,ROWS": "Extent", "--bounds WEST,SOUTH,EAST,NORTH": "Extent",
+LABELS = {"--voids fill": f"'Holes inside the land: {VOIDS[2]}'",
+          "--voids drain": f"'Holes inside the land: {VOIDS[1]}'", "--decimals": "Decimals",
+          "--window COL,ROW,COLS,ROWS": "Extent", "--bounds WEST,SOUTH,EAST,NORTH": "Extent",
           "--workers": "Threads", "--snap": "Move gauges", "--at X,Y": "a click", "--points LAYER": "a layer of points",
           "--eye-field": "a field with the height of each eye", "--eye": "Height of the eyes"}
 # Shares of the bar: reading and the text before the program runs, and the writing behind it.
@@ -113,7 +114,8 @@ class MapAlgorithm(QgsProcessingAlgorithm):
         target = self.parameterAsOutputLayer(parameters, self.OUTPUT, context)
         try:
             asked = job.Job(**self.job_words(parameters, context, layer, target))
-            caller = job.Caller(feedback.pushInfo, lambda share: feedback.setProgress(BEFORE + share * (AFTER - BEFORE)),
+            caller = job.Caller(feedback.pushInfo,
+                                lambda share: feedback.setProgress(BEFORE + share * (AFTER - BEFORE)),
                                 feedback.isCanceled)
             job.run(asked, program.Program.find(), caller)
         except errors.Cancelled:
@@ -236,15 +238,16 @@ class Streams(MapAlgorithm):
 
 class Basins(MapAlgorithm):
     map, title, output = "basins", "Basins", "Basins"
-    about = ("The number of the outlet to which each cell drains. Outlets lie where the data ends, and are numbered from "
-             "the north-west. For what drains to a gauge take <i>Catchments of gauges</i>.")
+    about = ("The number of the outlet to which each cell drains. Outlets lie where the data ends, and are numbered "
+             "from the north-west. For what drains to a gauge take <i>Catchments of gauges</i>.")
 
 
 class Catchments(MapAlgorithm):
     SNAP, SNAPPED, SINKS = "SNAP", "SNAPPED", "SINKS"
     map, title, output, kind = "catchments", "Catchments of gauges", "Catchments", "Gauges"
     about = ("Which gauge the water of each cell meets first, by the gauge's place in the list; 0: none. Nested gauges "
-             "divide the land. A gauge beside the stream has a small catchment: let it move to the greatest accumulation.")
+             "divide the land. A gauge beside the stream has a small catchment: let it move to the greatest "
+             "accumulation.")
 
     def add_places(self) -> None:
         """Adds sinks and the way of gauges to the stream."""
@@ -273,8 +276,8 @@ class Catchments(MapAlgorithm):
 class View(MapAlgorithm):
     EYE, EYE_FIELD, TARGET, RADIUS = "EYE", "EYE_FIELD", "TARGET", "RADIUS"
     map, title, output, kind = "view", "Viewshed", "Viewshed", "Observers"
-    about = ("How many of the observers see each cell. Lines of sight are straight and exact, and the earth is taken for "
-             "flat: at 10 km a target stands 7.8 m too high.")
+    about = ("How many of the observers see each cell. Lines of sight are straight and exact, and the earth is taken "
+             "for flat: at 10 km a target stands 7.8 m too high.")
 
     def add_places(self) -> None:
         """Adds eyes, targets and radius."""
@@ -285,7 +288,8 @@ class View(MapAlgorithm):
         self.addParameter(QgsProcessingParameterField(
             self.EYE_FIELD, tr("Field with the height of each eye"), None, self.POINTS,
             QgsProcessingParameterField.Numeric, False, True))
-        self.addParameter(number(self.TARGET, tr("Height of the targets above the ground"), number.Double, 0.0, False, 0))
+        self.addParameter(number(self.TARGET, tr("Height of the targets above the ground"), number.Double, 0.0, False,
+                                 0))
         self.addParameter(QgsProcessingParameterDistance(
             self.RADIUS, tr("Radius (empty: over the whole raster)"), None, self.INPUT, True, 0))
 
@@ -307,9 +311,9 @@ class View(MapAlgorithm):
         return units.decimal_of(self.parameterAsDouble(parameters, name, context))
 
 
-COMMON_HELP = ("Cells have to be square, in metres and not in degrees, at most 4,096 by 4,096 of them. Water also drains "
-               "off where the data ends, so leave a margin round what you want, and name only holes in which water "
-               "stays: sinks are the lowest cells of a quarry, a sinkhole or a lake. The program relief makes the map: "
+COMMON_HELP = ("Cells have to be square, in metres and not in degrees, at most 4,096 by 4,096 of them. Water also "
+               "drains off where the data ends, so leave a margin round what you want, and name only holes in which "
+               "water stays: sinks are the lowest cells of a quarry, a sinkhole or a lake. The program relief makes the map: "
                "docs/rules.md of relief says what each cell means.")
 ALGORITHMS: List[Type[MapAlgorithm]] = [Fill, Depth, Flow, Accumulate, Area, Streams, Basins, Catchments, View]
 
