@@ -332,9 +332,12 @@ def _beside(target: str) -> Iterator[Callable[[str], str]]:
         yield name_for
         for temporary, path in sorted(made, key=lambda pair: pair[1] == target):
             os.replace(temporary, path)
+    except DeviceError as error:
+        text = str(error)
+        for temporary, path in made:
+            text = text.replace(temporary, path)
+        raise DeviceError(text) from error
     except OSError as error:
-        if isinstance(error, DeviceError):
-            raise
         raise DeviceError(f"{target} could not be written: {error.strerror}") from error
     finally:
         for temporary, _ in made:

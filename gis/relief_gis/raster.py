@@ -3,6 +3,7 @@ from __future__ import annotations
 
 import math
 import os
+import uuid
 from dataclasses import dataclass
 from fractions import Fraction
 from typing import Any, Dict, Mapping, Optional, Tuple, cast
@@ -277,25 +278,46 @@ def write_geotiff(path: str, array: np.ndarray, frame: Frame, nodata: Optional[f
         colors: of bytes, the colour of each value.
 
     Raises:
-        DeviceError: the file could not be written.
+        DeviceError, OSError: the file could not be written.
     """
-    predictor = "PREDICTOR=3" if array.dtype.kind == "f" else "PREDICTOR=2"
+    # GDAL writes to memory and Python to the disk: a disk that is full is one error, and not one of a destructor.
+    memory = f"/vsimem/{uuid.uuid4().hex}.tif"
     try:
         with raised_errors():
-            code = _gdal_type(array.dtype)
-            driver = gdal.GetDriverByName("GTiff")
-            dataset = driver.Create(path, frame.cols, frame.rows, 1, code, LAYOUT + [predictor, "NUM_THREADS=ALL_CPUS"])
-            dataset.SetGeoTransform(frame.geotransform)
-            if frame.projection:
-                dataset.SetProjection(frame.projection)
-            _describe(dataset, nodata, unit, description, metadata, frame.is_point)
-            if colors is not None:
-                dataset.GetRasterBand(1).SetColorTable(_color_table(colors))
-            dataset.GetRasterBand(1).WriteArray(array)
-            dataset.FlushCache()
-            del dataset
+            _write_dataset(memory, array, frame, nodata, unit, description, metadata, colors)
+            data = _bytes_of(memory)
     except RuntimeError as error:
         raise DeviceError(f"{path} could not be written: {error}") from error
+    finally:
+        gdal.Unlink(memory)
+    with open(path, "wb") as file:
+        file.write(data)
+
+
+def _write_dataset(path: str, array: np.ndarray, frame: Frame, nodata: Optional[float], unit: str, description: str,
+                   metadata: Mapping[str, str], colors: Optional[Mapping[int, Color]]) -> None:
+    predictor = "PREDICTOR=3" if array.dtype.kind == "f" else "PREDICTOR=2"
+    options = [*LAYOUT, predictor, "NUM_THREADS=ALL_CPUS"]
+    driver = gdal.GetDriverByName("GTiff")
+    dataset = driver.Create(path, frame.cols, frame.rows, 1, _gdal_type(array.dtype), options)
+    dataset.SetGeoTransform(frame.geotransform)
+    if frame.projection:
+        dataset.SetProjection(frame.projection)
+    _describe(dataset, nodata, unit, description, metadata, frame.is_point)
+    if colors is not None:
+        dataset.GetRasterBand(1).SetColorTable(_color_table(colors))
+    dataset.GetRasterBand(1).WriteArray(array)
+    dataset.FlushCache()
+
+
+def _bytes_of(path: str) -> bytes:
+    """The bytes of a file that GDAL holds in memory."""
+    size = gdal.VSIStatL(path).size
+    file = gdal.VSIFOpenL(path, "rb")
+    try:
+        return bytes(gdal.VSIFReadL(1, size, file))
+    finally:
+        gdal.VSIFCloseL(file)
 
 
 def _describe(dataset: gdal.Dataset, nodata: Optional[float], unit: str, description: str,

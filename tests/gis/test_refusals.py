@@ -1,5 +1,6 @@
 """What `relief` cannot see, and bad words: one line that says what to do, a status, and no file."""
 import os
+import resource
 import signal
 import subprocess
 import sys
@@ -229,6 +230,17 @@ class Ends(Case):
                 process.send_signal(number)
                 self.assertEqual(process.wait(30), status)
             self.assertEqual(sorted(os.listdir(self.folder)), before)
+
+    def test_a_full_disk(self):
+        def limit():
+            signal.signal(signal.SIGXFSZ, signal.SIG_IGN)
+            resource.setrlimit(resource.RLIMIT_FSIZE, (3000, 3000))
+
+        done = subprocess.run([sys.executable, str(GIS / "relief-gis"), "fill", "dem.tif", "out.tif"], cwd=self.folder,
+                              env=environment(), stderr=subprocess.PIPE, text=True, preexec_fn=limit)
+        self.assertEqual((done.returncode, done.stderr.count("\n")), (4, 1), done.stderr)
+        self.assertIn("a temporary file below", done.stderr)
+        self.assertEqual(os.listdir(self.folder), ["dem.tif"])
 
     def test_no_program(self):
         words = "fill", "dem.tif", "out.tif"
