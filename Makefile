@@ -19,6 +19,7 @@ test:
 	tests/install ./relief
 	tests/refusals ./relief crates/*/out/*_tests
 	tools/recipes ./relief
+	tests/gis/run ./relief
 
 # The rest takes the program that `make` has built.
 BUILT = @test -x relief || { echo "There is no ./relief: run make first." >&2; exit 1; }

@@ -149,8 +149,7 @@ def _without_holes(terrain: Terrain, job: Job, say: Say) -> Terrain:
     found = (f"voids: {holes.cell_count:,} cells without data in {holes.count:,} "
              f"{'hole' if holes.count == 1 else 'holes'} inside the land")
     if job.voids == "refuse":
-        raise InputError(f"{found}, at each of which water would drain off: --voids fill interpolates them, "
-                         "--voids drain leaves them")
+        raise InputError(f"{found} would drain water: --voids fill or drain")
     if job.voids == "drain":
         say(f"{found}, left as they are")
         return terrain
