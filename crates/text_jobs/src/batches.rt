@@ -7,7 +7,7 @@ use std::io::Read;
 
 /// The most pieces of a batch.
 ///
-/// With a word that began before them, at most 1 MiB of the text waits for its cells.
+/// One less than 1 MiB holds: a word that began before them waits for its cell too.
 const BATCH_PIECES: usize = 255;
 
 /// The most bytes of a batch.

@@ -13,17 +13,18 @@ use terrain::Grid;
 use tile_jobs::{Gate, MOST_JOBS};
 use tile_maps::Crew;
 
-/// How much of a batch the caller's thread reads, with the header or a word that began before.
+/// The bytes of a batch that the caller's thread parses: the header, or a word that began before.
 const FRONT: usize = 4096;
 
-/// Reads a grid from a device, its heights in units of 10^-scale, with the outcome of [`ascii_grid::read_grid`].
+/// Reads a grid from a device, by several workers.
 ///
-/// With more than one worker the caller's thread reads batches of at most 1 MiB, and jobs read
-/// their heights. What no thread or no memory is there for, the caller's thread reads.
+/// Heights are in units of 10^-scale. With more than one worker the caller's thread reads batches
+/// of at most 1 MiB, and jobs parse their heights. Where a thread or memory is refused, the
+/// caller's thread parses them.
 ///
 /// # Errors
 ///
-/// The text's first fault, or [`InputFault::Read`].
+/// Those of [`ascii_grid::read_grid`], in the same order.
 pub fn read_grid<T: Threads + Wait + Sync, R: Read, G: Gate + Sync>(
     crew: &Crew<T, G>,
     scale: u8,
@@ -76,7 +77,7 @@ fn read_shared<T: Threads + Wait + Sync, R: Read, G: Gate + Sync>(
     }
 }
 
-/// Feeds a batch, whose heights the workers read where it is long.
+/// Feeds a batch to the reader; the workers parse the heights of a long one.
 fn feed_shared<T: Threads + Wait + Sync, G: Gate + Sync>(
     crew: &Crew<T, G>,
     reader: &mut GridReader,
@@ -92,7 +93,7 @@ fn feed_shared<T: Threads + Wait + Sync, G: Gate + Sync>(
     feed_heights(crew, reader, rest)
 }
 
-/// Feeds bytes, which the workers read where they are heights alone; else the reader reads them.
+/// Feeds bytes to the reader; the workers parse those that are heights alone.
 fn feed_heights<T: Threads + Wait + Sync, G: Gate + Sync>(
     crew: &Crew<T, G>,
     reader: &mut GridReader,
