@@ -4,6 +4,8 @@
 #[cfg(test)]
 mod meeting;
 #[cfg(test)]
+mod reading;
+#[cfg(test)]
 mod runs;
 #[cfg(test)]
 mod words;
