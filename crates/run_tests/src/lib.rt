@@ -10,6 +10,8 @@
 #[cfg(test)]
 mod meeting;
 #[cfg(test)]
+mod reading;
+#[cfg(test)]
 mod runs;
 #[cfg(test)]
 mod words;
