@@ -1,4 +1,4 @@
-//! The parts of a grid, and its sinks.
+//! The parts of a grid, its cells by place, and its sinks.
 ghost use Rattle.std.specs.Prelude.{◌≡◌, ◌*◌, ◌∷◌, [], pos, negsuc, None, Some, Contains};
 
 use crate::texts::{PIT, PIT_CELLS, expect_cells, grid_of};

@@ -1,4 +1,4 @@
-//! Texts read whole, in pieces and from a reader that is interrupted.
+//! Texts read whole, in pieces, cut short, and from an interrupted reader.
 ghost use Rattle.std.specs.Prelude.{◌≤◌, ◌<◌};
 
 use crate::texts::{LENIENT, LENIENT_CELLS, expect_cells, grid_of, have_heights};

@@ -1,4 +1,4 @@
-//! Tilings, rims, views and what is put back.
+//! Tilings, rims, views and lists put back.
 ghost use Rattle.std.specs.Prelude.{◌≡◌, IfOk};
 ghost use Rattle.tiles.specs.Cutting.{IsWithin};
 

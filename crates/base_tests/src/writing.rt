@@ -1,4 +1,4 @@
-//! Grids and maps as they are written.
+//! Grids and maps as they are written, also to devices that fail.
 ghost use Rattle.std.specs.Prelude.{◌≡◌, ◌*◌, ◌≤◌};
 
 use crate::texts::{LENIENT, LENIENT_CELLS, PIT, PIT_CELLS, grid_of};

@@ -1,4 +1,4 @@
-//! One round of counting steps over a tile, from the counts that the rounds begin with.
+//! One round of counting steps over a tile, from the first counts.
 ghost use Rattle.std.specs.Prelude.{◌≡◌, ◌*◌, ◌<◌, ◌↔◌, IfOk, IsTrue};
 ghost use Rattle.terrain.specs.Raster.{Terrain};
 ghost use Rattle.terrain.specs.Neighbours.{IsInside, Touches, index_of};

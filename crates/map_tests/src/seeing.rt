@@ -1,4 +1,4 @@
-//! Lines of sight and viewsheds.
+//! Lines of sight and viewsheds, against the plain rule.
 ghost use Rattle.std.specs.Prelude.{◌≡◌};
 
 use crate::ground::{cut, land};

@@ -1,4 +1,10 @@
-//! Tests of whole runs, and of the stages that they are made of, over their public calls.
+//! Tests of whole runs, and of their stages, over their public calls.
+//!
+//! Modules:
+//!
+//! - `runs`: from bytes to bytes
+//! - `meeting`: tiles at once
+//! - `words`: command line and faults
 #![tactic(auto)]
 
 #[cfg(test)]

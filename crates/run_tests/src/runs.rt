@@ -1,4 +1,4 @@
-//! Whole runs, from bytes to bytes.
+//! Whole runs from bytes to bytes, also on devices that fail or have no end.
 use ascii_grid::{Counted, GridFault, Key};
 use relief::{Map, Options, RunFault, run};
 use std::alloc::Global;

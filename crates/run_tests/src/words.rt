@@ -1,4 +1,4 @@
-//! The words of the command line, and the lines and numbers of faults.
+//! The command line, and the lines and numbers of faults.
 use ascii_grid::{Counted, GridFault, Key};
 use relief::{Map, Options, RunFault, VERSION, parse_observer, run_words, tell};
 use sight::{Observer, SightFault};

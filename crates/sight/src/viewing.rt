@@ -1,4 +1,4 @@
-//! A viewshed, by tiles and workers.
+//! A viewshed, by tiles and workers: [`viewshed`].
 ghost use Rattle.std.specs.Prelude.{IfOk};
 ghost use Rattle.tiles.specs.Cutting.{Cuts};
 ghost use Rattle.sight.specs.Viewshed.{IsViewshed};

@@ -1,0 +1,97 @@
+"""The maps: what `relief` is asked for, and of which numpy type its answer is."""
+from __future__ import annotations
+
+from dataclasses import dataclass
+from typing import List, Optional, Sequence, Tuple
+
+import numpy as np
+
+from .heights import Heights
+from .program import Program, Progress, Question
+
+NODATA_CODE = 255
+NODATA_COUNT = -9999
+DRAINAGE = ("fill", "flow", "accumulate", "basins", "catchments")
+
+
+@dataclass(frozen=True)
+class Place:
+    """A sink, a gauge or an observer: its name in messages, its row and column from 0, the eye in units."""
+
+    name: str
+    row: int
+    col: int
+    eye: Optional[int] = None
+
+    @property
+    def word(self) -> str:
+        """The place as the program takes it."""
+        numbers = (self.row, self.col) if self.eye is None else (self.row, self.col, self.eye)
+        return ",".join(str(number) for number in numbers)
+
+
+@dataclass(frozen=True)
+class Request:
+    """One map of the program.
+
+    Attributes:
+        map: fill, flow, accumulate, basins, catchments or view.
+        places: sinks; of `catchments` gauges; of `view` observers.
+        sinks: sinks of `catchments`.
+        target: height of the targets of `view`, in units.
+        radius: how far is seen in `view`, in cells; None: over the whole grid.
+        workers: threads, 1 to 64.
+        tile: side of the tiles in cells; None: the program's own.
+    """
+
+    map: str
+    places: Sequence[Place] = ()
+    sinks: Sequence[Place] = ()
+    target: int = 0
+    radius: Optional[int] = None
+    workers: int = 1
+    tile: Optional[int] = None
+
+    def words(self) -> List[str]:
+        """The words of the program's command line."""
+        words = [self.map, "--workers", str(self.workers)]
+        if self.tile is not None:
+            words += ["--tile", str(self.tile)]
+        if self.map == "view":
+            words += ["--target", str(self.target)]
+            words += ["--radius", str(self.radius)] if self.radius is not None else []
+        for sink in self.sinks:
+            words += ["--sink", sink.word]
+        return words + [place.word for place in self.places]
+
+
+def make(request: Request, heights: Heights, program: Program, on_progress: Optional[Progress] = None,
+         is_cancelled: Optional[Question] = None) -> np.ndarray:
+    """Makes a map with the program.
+
+    Returns:
+        (rows, cols): of `fill` int64 in units, any number where there is no data; of `flow` uint8 with NODATA_CODE;
+        of the others int32 with NODATA_COUNT.
+
+    Raises:
+        MissingError, ReliefError, DeviceError, Cancelled.
+    """
+    if request.map == "catchments":
+        program.require("catchments")
+    names = [place.name for place in request.places]
+    found = program.run(request.words(), heights.units, heights.valid, names, on_progress, is_cancelled)
+    if request.map == "fill":
+        return found
+    if request.map == "flow":
+        return np.where(heights.valid, found, NODATA_CODE).astype(np.uint8)
+    return found.astype(np.int32)
+
+
+def lower_neighbour(heights: Heights, place: Place) -> Optional[Tuple[int, int]]:
+    """The lowest cell beside a sink that lies below it; None: there is none, and the sink keeps its water."""
+    best, found = int(heights.units[place.row, place.col]), None
+    for row in range(max(place.row - 1, 0), min(place.row + 2, heights.units.shape[0])):
+        for col in range(max(place.col - 1, 0), min(place.col + 2, heights.units.shape[1])):
+            if heights.valid[row, col] and heights.units[row, col] < best:
+                best, found = int(heights.units[row, col]), (row, col)
+    return found

@@ -1,0 +1,87 @@
+"""Exact decimals: heights of eyes and targets in units of 10^-D, lengths in cells."""
+from __future__ import annotations
+
+import math
+from decimal import Decimal, InvalidOperation, ROUND_UP
+from fractions import Fraction
+from typing import Union
+
+from .errors import UsageError
+
+Number = Union[int, float, str, Decimal]
+
+# The program's limits.
+MOST_DECIMALS = 6
+MOST_EYE_UNITS = 1_000_000
+MOST_HEIGHT_UNITS = 10**15
+MOST_RADIUS_CELLS = 8192
+
+
+def decimal_of(value: Number, what: str = "number") -> Decimal:
+    """The decimal that a word or number stands for; a float stands for its shortest decimal text.
+
+    Raises:
+        UsageError: it is no finite number.
+    """
+    try:
+        number = Decimal(repr(float(value)) if isinstance(value, float) else str(value).strip())
+    except InvalidOperation:
+        number = Decimal("nan")
+    if not number.is_finite():
+        raise UsageError(f"{what} {value} is no number")
+    return number
+
+
+def decimals_of(value: Decimal) -> int:
+    """The least number of decimals with which a number can be written."""
+    return max(0, -int(value.normalize().as_tuple().exponent))
+
+
+def whole_units(value: Decimal, decimals: int, what: str) -> int:
+    """A height above ground in units of 10^-decimals.
+
+    Raises:
+        UsageError: it is below 0, above 1,000,000 units, or no whole number of units.
+    """
+    scaled = value.scaleb(decimals)
+    if scaled < 0:
+        raise UsageError(f"{what} {value} is below 0")
+    if scaled != scaled.to_integral_value():
+        need = decimals_of(value)
+        cure = f"--decimals {need} would do" if need <= MOST_DECIMALS else "give it with at most 6 decimals"
+        raise UsageError(f"{what} {value} is no whole number of units of {Decimal(1).scaleb(-decimals):f}: {cure}")
+    if scaled > MOST_EYE_UNITS:
+        most = Decimal(MOST_EYE_UNITS).scaleb(-decimals).normalize()
+        raise UsageError(f"{what} {value} is above {most:f}, the most with {decimals} decimals: give fewer --decimals")
+    return int(scaled)
+
+
+def radius_in_cells(radius: Decimal, cell: Fraction) -> int:
+    """How many whole cells fit into a radius, at most 8,192, which reaches over any grid.
+
+    Raises:
+        UsageError: not even one cell fits.
+    """
+    cells = math.floor(Fraction(radius) / cell)
+    if cells < 1:
+        raise UsageError(f"the radius {radius} is less than a cell of {plain(cell)}")
+    return min(cells, MOST_RADIUS_CELLS)
+
+
+def fraction_of(value: float) -> Fraction:
+    """The number whose shortest decimal text is that of a float, as in the header of a raster."""
+    return Fraction(Decimal(repr(float(value))))
+
+
+def plain(value: Union[Fraction, Decimal, int]) -> str:
+    """A number as people write it: without exponent, with at most 10 digits behind the point."""
+    if isinstance(value, Fraction):
+        value = Decimal(value.numerator) / Decimal(value.denominator)
+    text = f"{Decimal(value):.10f}"
+    return text.rstrip("0").rstrip(".")
+
+
+def rounded_up(value: float) -> str:
+    """A length above 0 with two significant digits, never less than it is."""
+    exact = Decimal(value)
+    return f"{exact.quantize(Decimal(1).scaleb(exact.adjusted() - 1), ROUND_UP):f}"

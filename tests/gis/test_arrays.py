@@ -1,0 +1,78 @@
+"""The functions of the package: numpy arrays in and out."""
+import inspect
+import os
+import unittest
+import unittest.mock
+
+import numpy as np
+
+import fixtures
+import relief_gis
+from fixtures import Case, by_hand, hills, make_raster
+
+
+class Arrays(Case):
+    """Each function against `relief` run by hand on a raster of the array."""
+
+    def setUp(self):
+        super().setUp()
+        patch = unittest.mock.patch.dict(os.environ, RELIEF=fixtures.RELIEF)
+        patch.start()
+        self.addCleanup(patch.stop)
+        self.heights = hills()
+        self.heights[:4, :5] = np.nan
+        self.valid = ~np.isnan(self.heights)
+        make_raster(self.folder / "dem.tif", np.where(self.valid, self.heights, -9999), -9999.0)
+
+    def expected(self, *words):
+        return by_hand(words, self.folder / "dem.tif", 2).astype(float)
+
+    def test_fill(self):
+        found = relief_gis.fill(self.heights, scale=2)
+        self.assertEqual(found.dtype, np.float64)
+        np.testing.assert_array_equal(np.isnan(found), ~self.valid)
+        np.testing.assert_array_equal(found[self.valid], self.expected("fill")[self.valid])
+
+    def test_integers_keep_their_type(self):
+        heights = np.rint(np.where(self.valid, self.heights, -1)).astype(np.int16)
+        found = relief_gis.fill(heights, nodata=-1)
+        self.assertEqual(found.dtype, np.int16)
+        np.testing.assert_array_equal(found == -1, ~self.valid)
+        make_raster(self.folder / "dem.tif", heights, -1)
+        np.testing.assert_array_equal(found, by_hand(["fill"], self.folder / "dem.tif").astype(int))
+
+    def test_codes_and_counts(self):
+        for name, dtype, nodata in (("flow", np.uint8, relief_gis.NODATA_CODE), ("accumulate", np.int32, -9999),
+                                    ("basins", np.int32, -9999)):
+            found = getattr(relief_gis, name)(self.heights, scale=2, sinks=[(12, 20)], workers=2)
+            self.assertEqual(found.dtype, dtype)
+            self.assertTrue(np.all(found[~self.valid] == nodata))
+            np.testing.assert_array_equal(found[self.valid], self.expected(name, "12,20")[self.valid])
+
+    def test_view(self):
+        found = relief_gis.view(self.heights, [(12, 20, 1.1), (3, 30, "2.25")], scale=2, target=1, radius=9)
+        expected = self.expected("view", "--target", "100", "--radius", "9", "12,20,110", "3,30,225")
+        np.testing.assert_array_equal(found, expected)
+
+    def test_refusals(self):
+        with self.assertRaises(relief_gis.ReliefError) as caught:
+            relief_gis.fill(self.heights, sinks=[(1, 8), (99, 0)])
+        error = caught.exception
+        self.assertEqual((error.number, error.name, error.place, error.status), (46, "SinkOutside", 1, 2))
+        self.assertIn("sink 1", str(error))
+        with self.assertRaises(relief_gis.InputError):
+            relief_gis.fill(np.zeros(3))
+        with self.assertRaises(relief_gis.UsageError):
+            relief_gis.view(self.heights, [(12, 20, 1.115)])
+
+    def test_every_public_function_is_typed_and_told(self):
+        for name in ("fill", "flow", "accumulate", "basins", "catchments", "view"):
+            function = getattr(relief_gis, name)
+            self.assertIn("Returns:", function.__doc__)
+            self.assertIn("Raises:", function.__doc__)
+            for parameter in inspect.signature(function).parameters.values():
+                self.assertIsNot(parameter.annotation, inspect.Parameter.empty, f"{name}: {parameter}")
+
+
+if __name__ == "__main__":
+    unittest.main()
