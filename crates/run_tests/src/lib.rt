@@ -3,6 +3,7 @@
 //! Modules:
 //!
 //! - `runs`: from bytes to bytes
+//! - `reading`: long texts in short pieces
 //! - `meeting`: tiles at once
 //! - `words`: command line and faults
 #![tactic(auto)]
