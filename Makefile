@@ -9,12 +9,17 @@ relief:
 
 # `rt ci` proves all from nothing and leaves the program that it has built.
 test:
+	tests/documents
 	rt ci
 	cp crates/relief_program/out/relief_program relief
 	tests/run ./relief
 	tests/texts ./relief
 	tests/pictures
+	tests/tools ./relief
+	tests/install ./relief
 	tests/refusals ./relief crates/*/out/*_tests
+	tools/recipes ./relief
+	tests/gis/run ./relief
 
 # The rest takes the program that `make` has built.
 BUILT = @test -x relief || { echo "There is no ./relief: run make first." >&2; exit 1; }
@@ -22,10 +27,11 @@ BUILT = @test -x relief || { echo "There is no ./relief: run make first." >&2; e
 # Times against a plain Rust twin: make bench SIZES="1024 2048" MAPS="fill flow" CORES="1 4" REPEAT=3 TERRAINS="hills cone"
 bench:
 	$(BUILT)
+	@command -v rustc > /dev/null || { echo "make bench takes rustc, which builds the twin." >&2; exit 1; }
 	bench/run ./relief $(if $(SIZES),--sizes $(SIZES)) $(if $(MAPS),--maps $(MAPS)) \
 	  $(if $(CORES),--workers $(CORES)) $(if $(REPEAT),--repeat $(REPEAT)) $(if $(TERRAINS),--terrains $(TERRAINS))
 
-# Runs the commands of docs/recipes.md whose tools are installed.
+# Runs the commands of the documents whose tools are installed, and checks what they print.
 recipes:
 	$(BUILT)
 	tools/recipes
@@ -33,9 +39,10 @@ recipes:
 # Draws a map: make picture IN=view.asc OUT=seen.png KIND=view OVER=dem.asc MARK="100,3 40,90" UNIT=m SIDE=1024
 OUT = $(basename $(IN)).png
 picture:
-	@test -n "$(IN)" || { echo "make picture IN=grid.asc [OUT=grid.png] [KIND=heights|flow|accumulate|basins|view]" \
+	@test -n "$(IN)" || { echo "make picture IN=grid.asc [OUT=grid.png]" \
+	  "[KIND=heights|fill|flow|accumulate|basins|catchments|view]" \
 	  "[OVER=terrain.asc] [MARK=\"ROW,COL ..\"] [UNIT=m] [SIDE=1024]" >&2; exit 1; }
-	@tools/picture "$(IN)" "$(OUT)" $(if $(KIND),--as "$(KIND)") $(if $(OVER),--over "$(OVER)") \
+	@tools/picture "$(IN)" "$(OUT)" $(if $(KIND),--kind "$(KIND)") $(if $(OVER),--over "$(OVER)") \
 	  $(if $(MARK),--mark $(MARK)) $(if $(UNIT),--unit "$(UNIT)") $(if $(SIDE),--side "$(SIDE)")
 
 # The pictures in docs/, of the maps of examples/coast.asc.
@@ -45,23 +52,33 @@ pictures:
 
 PREFIX ?= /usr/local
 BIN = $(DESTDIR)$(PREFIX)/bin
-MAN = $(DESTDIR)$(PREFIX)/share/man/man1
-DOC = $(DESTDIR)$(PREFIX)/share/doc/relief
-PAGES = recipes.md rules.md grid-text.md
+SHARE = $(DESTDIR)$(PREFIX)/share
+MAN = $(SHARE)/man/man1
+BASH = $(SHARE)/bash-completion/completions
+ZSH = $(SHARE)/zsh/$(if $(filter /usr,$(PREFIX)),vendor-completions,site-functions)
+# The tools are installed as relief-NAME.
+TOOLS = catchments cells holes picture
 
 install:
 	$(BUILT)
-	install -d "$(BIN)" "$(MAN)" "$(DOC)/docs"
+	install -d "$(BIN)" "$(MAN)" "$(SHARE)/relief" "$(BASH)" "$(ZSH)"
 	install -m 755 relief "$(BIN)/relief"
 	install -m 644 docs/relief.1 "$(MAN)/relief.1"
-	install -m 644 README.md CHANGELOG.md "$(DOC)"
-	install -m 644 $(PAGES:%=docs/%) "$(DOC)/docs"
+	install -m 755 $(TOOLS:%=tools/%) "$(SHARE)/relief"
+	install -m 644 tools/grid_text.py "$(SHARE)/relief"
+	for tool in $(TOOLS); do \
+	  ln -sf "../share/relief/$$tool" "$(BIN)/relief-$$tool" && ln -sf relief.1 "$(MAN)/relief-$$tool.1" || exit 1; done
+	install -m 644 tools/completion/relief.bash "$(BASH)/relief"
+	install -m 644 tools/completion/_relief "$(ZSH)/_relief"
+	pages=$$(tools/linked_pages README.md) && for page in $$pages; do \
+	  install -D -m 644 "$$page" "$(SHARE)/doc/relief/$$page" || exit 1; done
 
 uninstall:
-	rm -f "$(BIN)/relief" "$(MAN)/relief.1" "$(DOC)/README.md" "$(DOC)/CHANGELOG.md" $(PAGES:%="$(DOC)/docs/%")
-	rmdir "$(DOC)/docs" "$(DOC)" 2> /dev/null || true
+	rm -f "$(BIN)/relief" $(TOOLS:%="$(BIN)/relief-%") "$(MAN)/relief.1" $(TOOLS:%="$(MAN)/relief-%.1")
+	rm -f "$(BASH)/relief" "$(ZSH)/_relief"
+	rm -rf "$(SHARE)/relief" "$(SHARE)/doc/relief"
 
-# A Debian package of the built program, below out/.
+# A Debian package of the built program and its tools, below out/.
 package:
 	$(BUILT)
 	tools/package

@@ -1,4 +1,4 @@
-//! The cell that a word among the heights stands for.
+//! The cell that a word among the heights spells: a height, NODATA or neither.
 ghost use Rattle.std.specs.Prelude.{◌≡◌, ℕ, List, Option, Some, None};
 ghost use Rattle.terrain.specs.Decimal.{scaled_value};
 ghost use Rattle.ascii_grid.specs.GridText.{same_value};

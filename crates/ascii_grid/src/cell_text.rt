@@ -1,4 +1,4 @@
-//! The text of one value.
+//! The text of one value of a map, with the byte that ends it.
 ghost use Rattle.std.specs.Prelude.{◌≡◌, ◌+◌, ◌-◌, ◌/◌, ◌^◌, ◌≤◌, ◌∷◌, ◌++◌, [], ℕ, List, length, drop, decimal};
 ghost use Rattle.ascii_grid.specs.Text.{last_digits, height_text};
 

@@ -1,4 +1,4 @@
-//! What can be wrong with a grid text.
+//! The faults of a grid text, numbers 1 to 12.
 
 /// A slot of the header.
 #[derive(Clone, Copy, Debug, PartialEq, Eq)]

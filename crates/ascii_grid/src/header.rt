@@ -1,4 +1,6 @@
-//! The slots of a header.
+//! The slots of a header: which are given, and which are missing.
+//!
+//! `Header::slot_for` takes a key, `put` its value, and `into_grid` makes the grid of all slots.
 ghost use Rattle.std.specs.Prelude.{◌≡◌, ◌≤◌, ◌*◌, length, true, false, Option, Some, None, IfOk, IfErr, MatchOption, unwrap_or, codes, if◌then◌else◌};
 ghost use Rattle.terrain.specs.Decimal.{is_decimal};
 ghost use Rattle.ascii_grid.specs.Header.{is_value, bad_value, slot_of};

@@ -1,4 +1,6 @@
-//! Heights that are read apart from the rest of their text.
+//! Parses heights apart from their text, for jobs.
+//!
+//! [`HeightForm`] has what is needed: the scale and the NODATA word. [`HeightForm::cells`] parses.
 ghost use Rattle.std.specs.Prelude.{◌≡◌, IsTrue, ℕ, ◌<◌, ◌≤◌, ◌++◌, List, length, take, IfSome};
 ghost use Rattle.std.specs.List.{position};
 ghost use Rattle.terrain.specs.Words.{is_separator};

@@ -1,4 +1,7 @@
-//! The words of a text, judged one after another.
+//! Judges the words of a text in their order: keys, values, heights.
+//!
+//! `Judge::judge` fills a slot of the header, adds a cell or reports the fault. Depends on `key`,
+//! `header` and `cell`.
 ghost use Rattle.std.specs.Prelude.{◌↔◌, IsTrue, ◌≡◌, ◌≤◌, ◌<◌, ◌⊎◌, ◌++◌, [], ◌∷◌, List, map, length, false, Option, Some, None, Err, IfOk, MatchResult};
 ghost use Rattle.terrain.specs.Words.{Word};
 ghost use Rattle.terrain.specs.Decimal.{scaled_value};

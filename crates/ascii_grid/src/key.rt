@@ -1,4 +1,4 @@
-//! Words in a key's place.
+//! Keys of the header: which slot a word names, whatever the case of its letters.
 ghost use Rattle.std.specs.Prelude.{◌≡◌, map};
 ghost use Rattle.std.specs.Char.{to_ascii_lowercase};
 ghost use Rattle.ascii_grid.specs.Header.{is_key, slot_of, begins_with_letter};

@@ -1,4 +1,4 @@
-//! Bytes that are gathered on the stack, and those that wait for a device.
+//! A page of bytes on the stack, written to its device when it is full.
 ghost use Rattle.std.specs.Prelude.{◌≡◌, ◌↔◌, ◌+◌, ◌≤◌, ◌∷◌, ◌++◌, [], ℕ, List, length, take, IsTrue, ◌<◌, ◌-◌, ◌^◌, decimal};
 ghost use Rattle.ascii_grid.specs.Device.{Writes};
 

@@ -1,4 +1,7 @@
-//! The words of a text, parted byte by byte and judged where a separator ends them.
+//! Splits a text into words, byte by byte.
+//!
+//! A word is judged where a separator ends it, so the cutting into pieces cannot matter. Depends on
+//! `judge`.
 ghost use Rattle.std.specs.Prelude.{◌≡◌, ℕ, ◌≤◌, ◌++◌, [], ◌∷◌, ◌<◌, List, length, take, IfOk, IfSome, IsTrue, ◌↔◌, false, MatchResult};
 ghost use Rattle.terrain.specs.Words.{is_separator, words, ended_words};
 ghost use Rattle.ascii_grid.specs.Header.{header_words, nodata_for};

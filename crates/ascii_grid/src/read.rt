@@ -1,4 +1,4 @@
-//! A whole text.
+//! Reads a whole text by one piece: [`read_text`].
 ghost use Rattle.std.specs.Prelude.{◌≤◌, IfOk, IfErr};
 ghost use Rattle.ascii_grid.specs.GridText.{IsGridText, IsRefusal};
 

@@ -1,4 +1,7 @@
-//! A text that comes in pieces.
+//! Reads a text in pieces: [`GridReader`].
+//!
+//! A fault is reported once its word has ended, and again by every later call. The words are split
+//! by `progress`.
 ghost use Rattle.std.specs.Prelude.{◌≡◌, ◌≤◌, [], ℕ, List, None, Some, Ok, Err, IfOk, IfErr, IfSome, OnSome, IsTrue, false};
 ghost use Rattle.terrain.specs.Words.{ended_words};
 ghost use Rattle.ascii_grid.specs.Header.{header_words, nodata_for};

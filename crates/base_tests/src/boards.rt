@@ -1,5 +1,7 @@
 //! Boards of jobs, and what their seats take.
-ghost use Rattle.std.specs.Prelude.{◌≡◌, ◌<◌, ◌≤◌, ◌⊎◌, vec_len, IfOk, IfErr};
+//!
+//! In order, by stealing, in threads, and after a `close` that was refused memory.
+ghost use Rattle.std.specs.Prelude.{◌≡◌, ◌<◌, ◌≤◌, ◌⊎◌, vec_len, IfOk, IfErr, IfSome};
 ghost use Rattle.tile_jobs.specs.Ends.{IsBoard, SameSeat};
 
 use std::alloc::{AllocError, Global};
@@ -66,11 +68,12 @@ fn closed(alloc: Global, seats: Vec<Seat>) -> Result<Closed, Fail>
     Ok(closed)
 }
 
-/// What two seats took, and what is left.
-fn are_parts(rt: &impl Abort, closed: &Closed, first: &[u32], second: &[u32], left: &[u32]) {
-    assert_eq!(rt; closed.taken.len(), 2);
-    assert_eq!(rt; closed.taken[0].as_slice(), first);
-    assert_eq!(rt; closed.taken[1].as_slice(), second);
+/// What each seat took, and what is left.
+fn are_parts(rt: &impl Abort, closed: &Closed, taken: &[&[u32]], left: &[u32]) {
+    assert_eq!(rt; closed.taken.len(), taken.len());
+    for (list, want) in closed.taken.iter().zip(taken.iter()) {
+        assert_eq!(rt; list.as_slice(), *want);
+    }
     assert_eq!(rt; closed.left.as_slice(), left);
 }
 
@@ -102,16 +105,30 @@ fn own_jobs_then_round_the_seats(rt: HostRuntime) -> Result<(), Fail> {
     Ok(())
 }
 
+/// Two seats take all of five jobs: the second one steals a job of the first.
+fn take_five(rt: &impl Abort, seats: &mut Vec<Seat>)
+    requires len { vec_len seats.old ≡ 2 }
+    requires board { IsBoard (vec_len seats.old) seats.old.items }
+    ensures board { IsBoard (vec_len seats.new) seats.new.items }
+{
+    gets_at(rt, seats, 1, Take::Job(1));
+    gets_at(rt, seats, 1, Take::Job(3));
+    gets_at(rt, seats, 1, Take::Job(0));
+    gets_at(rt, seats, 0, Take::Job(2));
+    gets_at(rt, seats, 0, Take::Job(4));
+    gets_at(rt, seats, 0, Take::Empty);
+}
+
 #[test]
 fn five_jobs_for_two_seats(rt: HostRuntime) -> Result<(), Fail> {
     let mut seats = dealt(rt.alloc(), 5, 2)?;
-    gets_at(&rt, &mut seats, 1, Take::Job(1));
-    gets_at(&rt, &mut seats, 1, Take::Job(3));
-    gets_at(&rt, &mut seats, 1, Take::Job(0));
-    gets_at(&rt, &mut seats, 0, Take::Job(2));
-    gets_at(&rt, &mut seats, 0, Take::Job(4));
-    gets_at(&rt, &mut seats, 0, Take::Empty);
-    are_parts(&rt, &closed(rt.alloc(), seats)?, &[2, 4], &[1, 3, 0], &[]);
+    take_five(&rt, &mut seats);
+    are_parts(
+        &rt,
+        &closed(rt.alloc(), seats)?,
+        &[&[2, 4], &[1, 3, 0]],
+        &[],
+    );
     Ok(())
 }
 
@@ -121,7 +138,38 @@ fn jobs_that_no_seat_took_are_left(rt: HostRuntime) -> Result<(), Fail> {
     gets_at(&rt, &mut seats, 1, Take::Job(1));
     gets_at(&rt, &mut seats, 1, Take::Job(3));
     gets_at(&rt, &mut seats, 1, Take::Job(0));
-    are_parts(&rt, &closed(rt.alloc(), seats)?, &[], &[1, 3, 0], &[2, 4]);
+    are_parts(
+        &rt,
+        &closed(rt.alloc(), seats)?,
+        &[&[], &[1, 3, 0]],
+        &[2, 4],
+    );
+    Ok(())
+}
+
+#[test]
+fn one_of_three_seats_takes_all(rt: HostRuntime) -> Result<(), Fail> {
+    let mut seats = dealt(rt.alloc(), 7, 3)?;
+    gets_at(&rt, &mut seats, 2, Take::Job(2));
+    gets_at(&rt, &mut seats, 2, Take::Job(5));
+    gets_at(&rt, &mut seats, 2, Take::Job(0));
+    gets_at(&rt, &mut seats, 2, Take::Job(3));
+    gets_at(&rt, &mut seats, 2, Take::Job(6));
+    gets_at(&rt, &mut seats, 2, Take::Job(1));
+    gets_at(&rt, &mut seats, 2, Take::Job(4));
+    gets_at(&rt, &mut seats, 2, Take::Empty);
+    gets_at(&rt, &mut seats, 0, Take::Empty);
+    gets_at(&rt, &mut seats, 1, Take::Empty);
+    let all = [2, 5, 0, 3, 6, 1, 4];
+    are_parts(&rt, &closed(rt.alloc(), seats)?, &[&[], &[], &all], &[]);
+    Ok(())
+}
+
+#[test]
+fn no_jobs_for_two_seats(rt: HostRuntime) -> Result<(), Fail> {
+    let mut seats = dealt(rt.alloc(), 0, 2)?;
+    gets_at(&rt, &mut seats, 0, Take::Empty);
+    gets_at(&rt, &mut seats, 1, Take::Empty);
     Ok(())
 }
 
@@ -150,7 +198,7 @@ fn most_jobs(rt: HostRuntime) -> Result<(), Fail> {
 }
 
 fn refuses_seats(rt: &impl Abort, alloc: Global, seats: u32) {
-    let refused = dealt(alloc, 5, seats);
+    let refused = dealt(alloc, 3, seats);
     assert!(rt;
         matches!(refused, Err(JobFault::BadWorkers)),
         "{seats} seats"
@@ -176,20 +224,42 @@ fn closed_at_last(alloc: Global, seats: Vec<Seat>) -> Result<Closed, Fail>
     }
 }
 
+/// Five jobs dealt to two seats, or `None` where memory runs out.
+fn five_dealt(rt: &impl Abort, alloc: Global) -> Option<Vec<Seat>>
+    ensures len { IfSome result (λ v. vec_len v ≡ 2) }
+    ensures board { IfSome result (λ v. IsBoard (vec_len v) v.items) }
+{
+    match dealt(alloc, 5, 2) {
+        Ok(seats) => Some(seats),
+        Err(fault) => {
+            assert_eq!(rt; fault, JobFault::Memory);
+            None
+        }
+    }
+}
+
 /// With ample memory the first try closes the board. With `--fail-alloc` either no board is dealt
 /// or the second try closes it.
 #[test]
 fn refused_close_gives_seats_back(rt: HostRuntime) -> Result<(), Fail> {
-    let mut seats = match dealt(rt.alloc(), 5, 2) {
-        Ok(seats) => seats,
-        Err(fault) => {
-            assert_eq!(rt; fault, JobFault::Memory);
-            return Ok(());
-        }
+    let Some(mut seats) = five_dealt(&rt, rt.alloc()) else {
+        return Ok(());
+    };
+    take_five(&rt, &mut seats);
+    let closed = closed_at_last(rt.alloc(), seats)?;
+    are_parts(&rt, &closed, &[&[2, 4], &[1, 3, 0]], &[]);
+    Ok(())
+}
+
+/// With `--fail-alloc` either no board is dealt or the second try closes it.
+#[test]
+fn refused_close_keeps_what_is_left(rt: HostRuntime) -> Result<(), Fail> {
+    let Some(mut seats) = five_dealt(&rt, rt.alloc()) else {
+        return Ok(());
     };
     gets_at(&rt, &mut seats, 1, Take::Job(1));
     let closed = closed_at_last(rt.alloc(), seats)?;
-    are_parts(&rt, &closed, &[], &[1], &[0, 2, 4, 3]);
+    are_parts(&rt, &closed, &[&[], &[1]], &[0, 2, 4, 3]);
     Ok(())
 }
 

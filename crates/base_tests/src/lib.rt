@@ -1,4 +1,14 @@
-//! Tests of grids, tiles and jobs, over their public calls.
+//! Tests of grids, texts, tiles and jobs, over their public calls.
+//!
+//! Modules:
+//!
+//! - `boards`: jobs dealt to seats
+//! - `grids`: grids and sinks
+//! - `reading`: texts read
+//! - `texts`: shared texts
+//! - `tilings`: cutting and rims
+//! - `workers`: jobs on threads
+//! - `writing`: maps written
 #![tactic(auto)]
 
 #[cfg(test)]

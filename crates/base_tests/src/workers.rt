@@ -1,4 +1,4 @@
-//! Jobs run by workers, and what their gates are told.
+//! Jobs run by workers: results, faults, refused threads, and what gates see.
 ghost use Rattle.std.specs.Prelude.{◌≤◌};
 
 use crate::texts::expect_numbers;
@@ -165,6 +165,15 @@ fn answers_come_in_job_order(rt: HostRuntime) -> Result<(), Fail> {
 }
 
 #[test]
+fn five_squares_by_three_workers(rt: HostRuntime) -> Result<(), Fail> {
+    let squares = run_squares(&rt, rt.alloc(), 5, 5, 3)?;
+    expect_numbers(&rt, &squares, &[0, 1, 4, 9, 16]);
+    let none = run_squares(&rt, rt.alloc(), 5, 0, 3)?;
+    expect_numbers(&rt, &none, &[]);
+    Ok(())
+}
+
+#[test]
 fn fewer_jobs_than_may_be_run(rt: HostRuntime) -> Result<(), Fail> {
     for workers in [1, 4] {
         let none = run_squares(&rt, rt.alloc(), 10, 0, workers)?;
@@ -186,7 +195,7 @@ fn most_jobs(rt: HostRuntime) -> Result<(), Fail> {
 #[test]
 fn bad_workers(rt: HostRuntime) {
     for workers in [0, 65] {
-        let refused = run_squares(&rt, rt.alloc(), 10, 10, workers);
+        let refused = run_squares(&rt, rt.alloc(), 5, 5, workers);
         assert!(rt;
             matches!(refused, Err(JobFault::BadWorkers)),
             "{workers} workers"
@@ -353,28 +362,18 @@ impl Visit {
     }
 }
 
-/// Runs five jobs with so many starts of threads.
+/// Runs the jobs with at most `starts` threads started.
 fn run_capped<R: Threads + Wait + Sync>(
     rt: &R,
     alloc: Global,
     visits: &Visits,
-    workers: u32,
-    starts: u32,
-) -> Result<Vec<u32>, JobFault> {
-    run_jobs_capped(rt, alloc, visits, 5, workers, visits, starts)
-}
-
-/// Runs so few jobs on four workers with so many starts of threads.
-fn run_few<R: Threads + Wait + Sync>(
-    rt: &R,
-    alloc: Global,
     jobs: u32,
+    workers: u32,
     starts: u32,
 ) -> Result<Vec<u32>, JobFault>
     requires { jobs ≤ 65536 }
 {
-    let visits = Visits::new(alloc, jobs)?;
-    run_jobs_capped(rt, alloc, &visits, jobs, 4, &visits, starts)
+    run_jobs_capped(rt, alloc, visits, jobs, workers, visits, starts)
 }
 
 /// Each job entered once, and ran once after it was let in.
@@ -396,48 +395,42 @@ fn each_job_enters_once_and_then_runs_once(rt: HostRuntime) -> Result<(), Fail> 
 }
 
 /// No job ran twice.
-fn have_run_at_most_once(rt: &impl Abort, visits: &Visits, starts: u32) {
+fn have_run_at_most_once(rt: &impl Abort, visits: &Visits) {
     for (job, visit) in visits.visits.iter().enumerate() {
-        assert!(rt; visit.times().1 <= 1, "job {job}, {starts} starts");
+        assert!(rt; visit.times().1 <= 1, "job {job}");
     }
 }
 
-/// With four workers and so many starts there is no answer.
+/// Four workers of whom not all start return no results.
 fn refuses_starts<R: Abort + Threads + Wait + Sync>(
     rt: &R,
     alloc: Global,
+    jobs: u32,
     starts: u32,
-) -> Result<(), AllocError> {
-    let visits = Visits::new(alloc, 5)?;
-    let refused = run_capped(rt, alloc, &visits, 4, starts);
+) -> Result<(), AllocError>
+    requires { jobs ≤ 65536 }
+{
+    let visits = Visits::new(alloc, jobs)?;
+    let refused = run_capped(rt, alloc, &visits, jobs, 4, starts);
     assert!(rt;
         matches!(refused, Err(JobFault::NoThread)),
-        "{starts} starts"
+        "{jobs} jobs, {starts} starts"
     );
-    have_run_at_most_once(rt, &visits, starts);
+    have_run_at_most_once(rt, &visits);
     Ok(())
 }
 
-/// Of four workers not all start, so there is no answer; one worker needs no thread.
+/// Four workers need four threads, however few the jobs; one worker needs none.
 #[test]
 fn threads_that_cannot_be_started(rt: HostRuntime) -> Result<(), Fail> {
-    for starts in 0..4u32 {
-        refuses_starts(&rt, rt.alloc(), starts)?;
+    for jobs in [5, 0, 1, 2] {
+        for starts in 0..4u32 {
+            refuses_starts(&rt, rt.alloc(), jobs, starts)?;
+        }
     }
     let visits = Visits::new(rt.alloc(), 5)?;
-    let answers = run_capped(&rt, rt.alloc(), &visits, 1, 0)?;
+    let answers = run_capped(&rt, rt.alloc(), &visits, 5, 1, 0)?;
     expect_numbers(&rt, &answers, &[0, 1, 2, 3, 4]);
-    Ok(())
-}
-
-/// No more threads are started than there are jobs, and none for one job.
-#[test]
-fn few_jobs_start_few_threads(rt: HostRuntime) -> Result<(), Fail> {
-    let alloc = rt.alloc();
-    expect_numbers(&rt, &run_few(&rt, alloc, 0, 0)?, &[]);
-    expect_numbers(&rt, &run_few(&rt, alloc, 1, 0)?, &[0]);
-    expect_numbers(&rt, &run_few(&rt, alloc, 2, 2)?, &[0, 1]);
-    assert!(&rt; matches!(run_few(&rt, alloc, 2, 1), Err(JobFault::NoThread)));
     Ok(())
 }
 

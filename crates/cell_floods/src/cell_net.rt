@@ -1,4 +1,7 @@
-//! A rectangle of cells as a net.
+//! A rectangle of cells as a net: [`CellNet`].
+//!
+//! A border of gaps gives each cell eight cells around it. A cell with a gap around it is a source,
+//! as edge cells and rim cells are.
 ghost use Rattle.std.specs.Prelude.{◌≡◌, None, ◌+◌, ◌-◌, ◌*◌, ◌^◌, ◌<◌, ◌≤◌, ◌∷◌, ◌++◌, ◌↔◌, [], EachIndex, IsSome, IsTrue, length, All, IfOk, OnOk, is_none, slice_index_or, replicate};
 ghost use Rattle.std.specs.List.{list_any, filter_map, cons_option};
 ghost use Rattle.std.specs.Bool.{OnTrue};

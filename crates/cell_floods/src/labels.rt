@@ -1,4 +1,4 @@
-//! The labels of a tile's cells, by a table of their places.
+//! The labels of a tile's cells: a table of places, and an index for each cell.
 ghost use Rattle.std.specs.Prelude.{◌≡◌, ◌+◌, ◌*◌, ◌^◌, ◌<◌, ◌≤◌, ◌∷◌, [], None, map, length, slice_index_or, IfOk, IfSome, OnOk};
 ghost use Rattle.tiles.specs.Cutting.{IsWithinLimits};
 ghost use Rattle.cell_floods.specs.Cells.{place_of_node};

@@ -1,4 +1,15 @@
-//! Cells of a grid or a tile as a net, the flood of a whole grid, and the flood of one tile.
+//! Cells of a grid or a tile as a net, and their floods.
+//!
+//! [`tile_flood`] floods one tile, [`filled_heights`] a whole grid at once. Depends on `floods` and
+//! `tiles`.
+//!
+//! Modules, from what is called to what it depends on:
+//!
+//! - `tile`: the flood of one tile
+//! - `whole`: the flood of a whole grid
+//! - `cell_net`: a rectangle of cells as a net
+//! - `sinks`: sinks of a window
+//! - `labels`: a tile's table of labels
 #![tactic(auto)]
 
 mod cell_net;

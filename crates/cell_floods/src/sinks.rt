@@ -1,4 +1,4 @@
-//! Which cells of a window are sinks.
+//! Which cells of a window are named sinks.
 ghost use Rattle.std.specs.Prelude.{◌≡◌, ◌<◌, ◌+◌, ◌*◌, false, IfOk};
 ghost use Rattle.std.specs.List.{list_any};
 ghost use Rattle.tiles.specs.Cutting.{IsInBounds, IsWithinLimits, is_in_bounds};

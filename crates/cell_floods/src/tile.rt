@@ -1,4 +1,7 @@
-//! Flooding of one tile.
+//! The flood of one tile: [`tile_flood`].
+//!
+//! A cell's level is the least crest of its paths inside the tile, and its label where such a path
+//! ends: at an end cell or on the rim.
 ghost use Rattle.std.specs.Prelude.{◌≡◌, IfOk, length, true, false, MatchOption, None, is_none, slice_index_or, ◌<◌};
 ghost use Rattle.terrain.specs.Sinks.{with_sinks};
 ghost use Rattle.tiles.specs.Cutting.{terrain_of, is_in_bounds, index_in};

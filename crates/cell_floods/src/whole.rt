@@ -1,4 +1,6 @@
-//! The filled heights of a grid by one flood.
+//! The filled heights of a grid by one flood: [`filled_heights`].
+//!
+//! Tests compare the tiles with it.
 ghost use Rattle.std.specs.Prelude.{IfOk};
 ghost use Rattle.drainage.specs.Filled.{IsFilled};
 

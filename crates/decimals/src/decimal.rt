@@ -1,4 +1,6 @@
-//! Decimal texts, and the whole numbers that they stand for at a scale.
+//! Decimal texts, and the whole numbers that they spell at a scale.
+//!
+//! [`scaled_value`] reads a whole word, [`plain_number`] the digits at the front of a text.
 ghost use Rattle.std.specs.Prelude.{◌<◌, true, length, ◌≡◌, IfSome, pos, neg_ℤ, ◌≤◌, not, ℕ, ◌+◌, ◌*◌, ◌-◌, ◌^◌, ◌++◌, ◌&&◌, ◌==◌, nat_le, take, drop, replicate, min, fold, if◌then◌else◌, Option, Some, None};
 ghost use Rattle.std.specs.List.{before_first, after_first, position, list_all, list_any};
 ghost use Rattle.std.specs.Char.{is_ascii_digit};

@@ -1,4 +1,6 @@
-//! Decimal digits, and the whole numbers that they spell.
+//! Whole numbers by their digits.
+//!
+//! [`whole_number`] takes 32 bits, [`size`] a number of columns or rows.
 ghost use Rattle.std.specs.Prelude.{nat_lt, ◌≡◌, ◌≤◌, ℕ, ◌+◌, ◌*◌, ◌-◌, ◌^◌, ◌&&◌, min, fold, if◌then◌else◌, Some, None};
 ghost use Rattle.std.specs.List.{list_all};
 ghost use Rattle.std.specs.Char.{is_ascii_digit};

@@ -1,4 +1,12 @@
-//! Decimal texts and digits, and the whole numbers that they stand for.
+//! Decimal texts and digits, and the whole numbers that they spell.
+//!
+//! Begin with [`scaled_value`] for heights and [`whole_number`] for command-line words. Its
+//! definitions are in `terrain`'s `Decimal` and `Words`.
+//!
+//! Modules, from what is called to what it depends on:
+//!
+//! - `decimal`: decimal texts and their numbers at a scale
+//! - `digits`: whole numbers by their digits
 #![tactic(auto)]
 
 mod decimal;

@@ -1,9 +1,9 @@
 -- A search within a tile: how far it has come, one change more at a time.
-use Rattle.std.proofs.Common.{◌≡◌, ◌≢◌, ℕ, zero, suc, ◌+◌, ◌*◌, ◌^◌, ◌<◌, ◌≤◌, ◌⊎◌, inl, inr, List, [], ◌∷◌, ◌++◌, length, get_or, Vec, Global, Option, Some, None, unwrap_or, IfSome, sym, ap, subst, refl, ◌∙◌, arith}
+use Rattle.std.proofs.Common.{◌≡◌, ◌≢◌, ℕ, zero, suc, ◌+◌, ◌*◌, ◌^◌, ◌<◌, ◌≤◌, ◌⊎◌, inl, inr, List, [], ◌∷◌, ◌++◌, length, Vec, Global, Option, Some, None, unwrap_or, IfSome, sym, ap, subst, refl, ◌∙◌, arith}
 use Rattle.std.specs.Prelude.{slice_get}
 use Rattle.std.proofs.lemmas.Bool.{cases_eq, cases_lt}
 use Rattle.std.proofs.lemmas.List.{length_push, get_or_past}
-use Rattle.std.proofs.lemmas.Option.{slice_get-get_or, slice_get_within, same_Some}
+use Rattle.std.proofs.lemmas.Option.{slice_get_within, same_Some}
 use Rattle.tiles.proofs.SliceGet.{slice_get-append_left, slice_get-append_right}
 use Rattle.terrain.proofs.Places.{cases_place, entry-inside, index_injective, index_below}
 use Rattle.terrain.specs.Raster.{Terrain}
@@ -271,17 +271,10 @@ pub reached_tile : (t : Terrain) (c : Cutting) (tile other : ℕ) (steps : List 
     IsReached t c tile steps Done bound old new → IsReached t c other steps Done bound old new
 reached_tile t c tile other steps Done bound old new e f = subst (λ (k : ℕ). IsReached t c k steps Done bound old new) e f
 
--- the tile of a run of entries, which begins at a place in their list
-abbrev pub run_first : List Entry → ℕ → Entry
-run_first entries from = get_or entries from (record { tile = 0; change = record { place = record { row = 0; col = 0 }; count = 0 } })
-
-pub run_begins : (entries : List Entry) (run : Run) → IsRun entries run → slice_get entries run.from ≡ Some (run_first entries run.from)
-run_begins entries run is = slice_get-get_or entries run.from _ (omega (arith, is.some, is.below))
-
 -- an entry of a run is into its tile
 pub entry_own : (t : Terrain) (c : Cutting) (steps : List (Option ℕ)) (entries : List Entry) (run : Run) (k : ℕ) (e : Entry) → AreEntries t c steps entries → IsRun entries run → run.from ≤ k → k < run.end → slice_get entries k ≡ Some e →
-    tile_of_place c e.change.place ≡ (run_first entries run.from).tile
-entry_own t c steps entries run k e are is past below at = (are e (k, at)).inside.1 ∙ is.one k e (run_first entries run.from) past below at (run_begins entries run is)
+    tile_of_place c e.change.place ≡ run.tile
+entry_own t c steps entries run k e are is past below at = (are e (k, at)).inside.1 ∙ is.own k e past below at
 
 -- entries that came in stay so
 pub entered_low : (c : Cutting) (entries : List Entry) (from end : ℕ) (f g : ℕ → ℕ) → ((k : ℕ) → g k ≤ f k) → IsEntered c entries from end f → IsEntered c entries from end g

@@ -12,9 +12,9 @@ use Rattle.tiles.proofs.Cut.{tile_of_place_below}
 use Rattle.tiles.proofs.PutBack.{entry_at-put_back}
 use Rattle.drainage.proofs.Reach.{data_inside}
 use Rattle.drain.specs.Rounds.{IsLent, LendSame, IsWalked, IsOneAbove, IsRound, AreCounting, AreSettled}
-use Rattle.drain.specs.Lowering.{AreLevel, IsEvenInside, IsTileAnswer, count_of, total}
+use Rattle.drain.specs.Lowering.{AreLevel, IsAmong, IsEvenInside, IsTileAnswer, count_of, total}
 use Rattle.drain.specs.Entering.{lent_terrain, AreNoted}
-use Rattle.drain.specs.Rounding.{Rounding, IsRounding, levels_of, AreAnswered, IsGiven, ArePut, IsNext}
+use Rattle.drain.specs.Rounding.{Rounding, IsRounding, levels_of, AreAnswered, IsRunAnswer, IsGiven, ArePut, IsNext}
 use Rattle.drain.specs.declared.changes.Change.{Change}
 use Rattle.drain.specs.declared.changes.Entry.{Entry}
 use Rattle.drain.specs.declared.changes.Run.{Run}
@@ -82,21 +82,39 @@ settled_from r lent rounding none same =
       };
     }
 
--- the jobs of a round that were run
+-- what nothing comes into, answered at once
+pub idle_answer : (r : Rounding) (run : Run) (changes : List Change) → IsRounding r → run.from ≡ run.end → changes ≡ [] → IsRunAnswer r run changes
+idle_answer r run changes rounding idle none =
+    let nobody : (x : Change) → IsAmong changes x → ⊥ = λ x among. omega (arith, slice_get_within changes among.0 x among.1, ap (λ (xs : List Change). length xs) none) in
+    record {
+      counts = count_of r.steps;
+      lowered = record { low = λ k. omega arith; told = λ p within. inl refl; each = λ x among. absurd (nobody x among) };
+      even = rounding.even run.tile;
+      entered = record { each = λ k e past below at. absurd (omega (arith, past, below, idle)) };
+    }
+
+-- the answers of a round
 module _ (r : Rounding) (outs : List (Vec Change Global)) (answered : AreAnswered r outs) where
-  -- what a job that was run answered
-  pub answer_of : (j : ℕ) (list : Vec Change Global) → slice_get outs j ≡ Some list → (run : Run) × (first : Entry) × (slice_get answered.runs j ≡ Some run)
-      × IsTileAnswer (levels_of r) r.cutting first.tile r.steps r.entries run.from run.end list.items
-  answer_of j list at =
-      let run = get_or answered.runs j (record { from = 0; end = 0 }) in
-      let here : slice_get answered.runs j ≡ Some run = slice_get-get_or answered.runs j (record { from = 0; end = 0 }) (omega (arith, answered.count, slice_get_within outs j list at)) in
-      let is = answered.right run (j, here) in
-      let none : Entry = record { tile = 0; change = record { place = record { row = 0; col = 0 }; count = 0 } } in
-      let start = slice_get-get_or r.entries run.from none (omega (arith, is.some, is.below)) in
-      (run, get_or r.entries run.from none, here, answered.each j list at run (get_or r.entries run.from none) here start)
+  pub answer_of : (j : ℕ) (list : Vec Change Global) → slice_get outs j ≡ Some list → (run : Run) × IsRunAnswer r run list.items
+  answer_of j list at = answered.each list (j, at)
 
   pub given_within : (x : Change) → IsGiven outs x → IsWithin r.cutting x.place
-  given_within x given = ((answer_of given.0 given.1 given.2).3.lowered.each x given.3).inside.0
+  given_within x given = ((answer_of given.0 given.1 given.2).1.lowered.each x given.3).inside.0
+
+  -- where something comes in, something changes
+  pub entry_given : (k : ℕ) (e : Entry) → IsRounding r → slice_get r.entries k ≡ Some e → (x : Change) × IsGiven outs x
+  entry_given k e rounding at =
+      let told = answered.covered k (slice_get_within r.entries k e at) in
+      let entry = rounding.entries e (k, at) in
+      elim (told.5.lowered.told e.change.place entry.inside.0) [
+        | inl same ↦ absurd (omega (arith, same, told.5.entered.each k e told.3 told.4 at, entry.less))
+        | inr among ↦ (record { place = e.change.place; count = told.5.counts (index_of r.cutting.cols e.change.place) }, (told.1.0, told.0, told.1.1, among))
+      ]
+
+  pub some_given : IsRounding r → 0 < length r.entries → (x : Change) × IsGiven outs x
+  some_given rounding some =
+      let none : Entry = record { tile = 0; change = record { place = record { row = 0; col = 0 }; count = 0 } } in
+      entry_given 0 (get_or r.entries 0 none) rounding (slice_get-get_or r.entries 0 none some)
 
 -- what a round leaves
 module _ (r : Rounding) (outs : List (Vec Change Global)) (new : List (Option ℕ)) (rounding : IsRounding r) (answered : AreAnswered r outs)
@@ -113,7 +131,7 @@ module _ (r : Rounding) (outs : List (Vec Change Global)) (new : List (Option �
   place_of : (x : Change) (p : Place) → IsGiven outs x → IsWithin r.cutting p → index_of r.cutting.cols x.place ≡ index_of r.cutting.cols p → x.place ≡ p
   place_of x p given within same =
       let a = answer_of r outs answered given.0 given.1 given.2 in
-      index_injective r.cutting.cols x.place p (a.3.lowered.each x given.3).inside.0.1 within.1 same
+      index_injective r.cutting.cols x.place p (a.1.lowered.each x given.3).inside.0.1 within.1 same
 
   pub put_carried : AreCarried (levels_of r) r.steps new
   put_carried = record {
@@ -140,7 +158,7 @@ module _ (r : Rounding) (outs : List (Vec Change Global)) (new : List (Option �
           | inr told ↦
               (let x = told.0 in
               let a = answer_of r outs answered told.1.0 told.1.1 told.1.2 in
-              let walk = (a.3.lowered.each x told.1.3).walked in
+              let walk = (a.1.lowered.each x told.1.3).walked in
               let place = place_of x p told.1 within told.2 in
               let same : x.count ≡ n = same_Some x.count n (sym told.3 ∙ sym here ∙ e) in
               subst (λ (k : ℕ). IsWalked (IsLent (levels_of r) r.steps) (levels_of r) p k) same (subst (λ (q : Place). IsWalked (IsLent (levels_of r) r.steps) (levels_of r) q x.count) place walk))
@@ -156,44 +174,34 @@ module _ (r : Rounding) (outs : List (Vec Change Global)) (new : List (Option �
       | inr told ↦
           (let x = told.0 in
           let a = answer_of r outs answered told.1.0 told.1.1 told.1.2 in
-          let change = a.3.lowered.each x told.1.3 in
+          let change = a.1.lowered.each x told.1.3 in
           let place = place_of x q told.1 j.0 told.2 in
-          let own : a.1.tile ≡ tile = sym change.inside.1 ∙ ap (λ (z : Place). tile_of_place r.cutting z) place ∙ j.1 in
-          let even = a.3.even.within p q (i.0, i.1 ∙ sym own) (j.0, j.1 ∙ sym own) side in
-          let least : a.3.counts (index_of r.cutting.cols q) ≤ x.count = subst (λ (k : ℕ). a.3.counts k ≤ x.count) told.2 change.least in
+          let own : a.0.tile ≡ tile = sym change.inside.1 ∙ ap (λ (z : Place). tile_of_place r.cutting z) place ∙ j.1 in
+          let even = a.1.even.within p q (i.0, i.1 ∙ sym own) (j.0, j.1 ∙ sym own) side in
+          let least : a.1.counts (index_of r.cutting.cols q) ≤ x.count = subst (λ (k : ℕ). a.1.counts k ≤ x.count) told.2 change.least in
           let is = ap (λ (o : Option ℕ). unwrap_or o (2 ^ 24)) told.3 in
-          omega (arith, even, least, is, put_below a.1.tile a.0.from a.0.end told.1.0 told.1.1 told.1.2 a.3 p i.0))
+          omega (arith, even, least, is, put_below a.0.tile a.0.from a.0.end told.1.0 told.1.1 told.1.2 a.1 p i.0))
     ];
   }
 
   -- an entry came in
   put_entered : (k : ℕ) (e : Entry) → slice_get r.entries k ≡ Some e → count_of new (index_of r.cutting.cols e.change.place) ≤ e.change.count
   put_entered k e at =
-      let job = answered.covered k (slice_get_within r.entries k e at) in
-      elim (slice_get_cases outs job.0).1 [
-        | inr past ↦ absurd (omega (arith, past.0, answered.count, slice_get_within answered.runs job.0 job.1 job.2))
-        | inl list ↦
-            (let a = answer_of r outs answered job.0 list.0 list.2 in
-            let one : job.1 ≡ a.0 = same_Some job.1 a.0 (sym job.2 ∙ a.2) in
-            let from = ap (λ (z : Run). z.from) one in
-            let end = ap (λ (z : Run). z.end) one in
-            let within = (rounding.entries e (k, at)).inside.0 in
-            omega (arith, a.3.entered.each k e (omega (arith, from, job.3)) (omega (arith, end, job.4)) at, put_below a.1.tile a.0.from a.0.end job.0 list.0 list.2 a.3 e.change.place within))
-      ]
+      let told = answered.covered k (slice_get_within r.entries k e at) in
+      let within = (rounding.entries e (k, at)).inside.0 in
+      omega (arith, told.5.entered.each k e told.3 told.4 at, put_below told.2.tile told.2.from told.2.end told.1.0 told.0 told.1.1 told.5 e.change.place within)
 
-  put_less : 0 < length r.entries → total (r.cutting.cols * r.cutting.rows) (count_of new) < total (r.cutting.cols * r.cutting.rows) (count_of r.steps)
-  put_less some =
-      let none : Entry = record { tile = 0; change = record { place = record { row = 0; col = 0 }; count = 0 } } in
-      let e = get_or r.entries 0 none in
-      let at = slice_get-get_or r.entries 0 none some in
-      let entry = rounding.entries e (0, at) in
-      total_less (r.cutting.cols * r.cutting.rows) (count_of r.steps) (count_of new) put.low (index_of r.cutting.cols e.change.place)
-      (index_below r.cutting.cols r.cutting.rows e.change.place entry.inside.0.0 entry.inside.0.1) (omega (arith, put_entered 0 e at, entry.less))
+  pub put_less : (x : Change) → IsGiven outs x → total (r.cutting.cols * r.cutting.rows) (count_of new) < total (r.cutting.cols * r.cutting.rows) (count_of r.steps)
+  put_less x given =
+      let a = answer_of r outs answered given.0 given.1 given.2 in
+      let change = a.1.lowered.each x given.3 in
+      total_less (r.cutting.cols * r.cutting.rows) (count_of r.steps) (count_of new) put.low (index_of r.cutting.cols x.place)
+      (index_below r.cutting.cols r.cutting.rows x.place change.inside.0.0 change.inside.0.1) (omega (arith, put.done x given, change.less))
 
-  pub next_round : (noted entries : List Entry) → 0 < length r.entries → IsPermutation noted entries → IsNonDecreasingBy (λ e. e.tile) entries →
+  pub next_round : (noted entries : List Entry) (x : Change) → IsGiven outs x → IsPermutation noted entries → IsNonDecreasingBy (λ e. e.tile) entries →
       AreNoted (levels_of r) r.cutting new (λ p q. (x : Change) × IsGiven outs x × (x.place ≡ q) × (tile_of_place r.cutting p ≢ tile_of_place r.cutting q)) [] noted →
       IsNext r (record { cutting = r.cutting; levels = r.levels; steps = new; entries = entries })
-  next_round noted entries some same sorted notes =
+  next_round noted entries x given same sorted notes =
       let all = noted_in_order (levels_of r) r.cutting new _ noted entries same notes in
       record {
         rounding = record {
@@ -214,13 +222,11 @@ module _ (r : Rounding) (outs : List (Vec Change Global)) (new : List (Option �
             | inr told ↦ (let there = data_inside (levels_of r) q side.next.to_data in all.1 p q (told.0, told.1, place_of told.0 q told.1 there told.2, differ) side)
           ];
         };
+        same_cutting = refl;
+        same_levels = refl;
         same_lent = carried_lend_same (levels_of r) r.steps new put_carried;
-        less = put_less some;
+        low = (let less = put_less x given in omega (arith, less));
       }
-
--- a number below one that is within the limit
-pub few_of : (n m : ℕ) → n < m → m ≤ 65536 → n < 65536
-few_of n m less few = omega arith
 
 few_none : (n k : ℕ) → n ≤ k → k < n → ⊥
 few_none n k le less = omega arith
@@ -275,6 +281,27 @@ module _ (c : Cutting) (levels : List (Option ℤ)) (old : List (Option ℕ)) (l
         ((round_at tile list.0 own).within p q i j side.next side.level) in
         omega (arith, le, at_p, at_q);
   }
+
+-- rounds after rounds
+pub next_none : (r : Rounding) → IsRounding r → IsNext r r
+next_none r rounding = record { rounding = rounding; same_cutting = refl; same_levels = refl; same_lent = λ p. (λ lent. lent, λ lent. lent); low = omega arith }
+
+-- the cells that are lent 0, by the names of the heights at first
+lend_on : (first second : Rounding) (third : List (Option ℕ)) → second.cutting ≡ first.cutting → second.levels ≡ first.levels → LendSame (levels_of first) first.steps second.steps →
+    LendSame (levels_of second) second.steps third → LendSame (levels_of first) first.steps third
+lend_on first second third e f one next =
+    let same : LendSame (levels_of first) second.steps third = subst (λ (c : Cutting). LendSame (lent_terrain c first.levels) second.steps third) e
+    (subst (λ (xs : List (Option ℤ)). LendSame (lent_terrain second.cutting xs) second.steps third) f next) in
+    λ p. (λ lent. (same p).0 ((one p).0 lent), λ lent. (one p).1 ((same p).1 lent))
+
+pub next_then : (first second third : Rounding) → IsNext first second → IsNext second third → IsNext first third
+next_then first second third one next = record {
+  rounding = next.rounding;
+  same_cutting = next.same_cutting ∙ one.same_cutting;
+  same_levels = next.same_levels ∙ one.same_levels;
+  same_lent = lend_on first second third.steps one.same_cutting one.same_levels one.same_lent next.same_lent;
+  low = (let a = one.low in let b = next.low in omega (arith, a, b));
+}
 
 -- what comes out of all tiles after the first round
 pub first_rounding : (r : Rounding) (noted : List Entry) → IsCutting r.cutting → length r.levels ≡ r.cutting.cols * r.cutting.rows → AreCounting (levels_of r) r.steps →

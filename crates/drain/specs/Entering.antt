@@ -38,8 +38,14 @@ pub record AreNoted (t : Terrain) (c : Cutting) (steps : List (Option ℕ)) (Don
   pub each : AreEntries t c steps old → AreEntries t c steps new
   pub done : (p q : Place) → Done p q → AreLevel t p q → IsEvenOrEntered c steps new p q
 
--- The entries of a run are into one tile.
+-- The entries of a run are into its tile.
 pub record IsRun (entries : List Entry) (run : Run) : Type 0 where
-  pub some : run.from < run.end
+  pub ordered : run.from ≤ run.end
   pub below : run.end ≤ length entries
-  pub one : (k : ℕ) (e f : Entry) → run.from ≤ k → k < run.end → slice_get entries k ≡ Some e → slice_get entries run.from ≡ Some f → e.tile ≡ f.tile
+  pub own : (k : ℕ) (e : Entry) → run.from ≤ k → k < run.end → slice_get entries k ≡ Some e → e.tile ≡ run.tile
+
+-- The runs of all tiles, in the order of the tiles. Each entry is in one.
+pub record AreRuns (entries : List Entry) (tiles : ℕ) (runs : List Run) : Type 0 where
+  pub size : length runs ≡ tiles
+  pub each : (k : ℕ) (run : Run) → slice_get runs k ≡ Some run → (run.tile ≡ k) × IsRun entries run
+  pub covered : (k : ℕ) → k < length entries → (run : Run) × IsAmong runs run × (run.from ≤ k) × (k < run.end)

@@ -1,14 +1,14 @@
--- Rounds after the first: the jobs of those tiles into which a count comes, and what they leave.
+-- Rounds after the first: the jobs of the tiles, what they answer and what they leave.
 use Rattle.std.specs.Prelude.{◌≡◌, ◌≢◌, ℕ, ◌*◌, ◌<◌, ◌≤◌, ◌⊎◌, ℤ, List, length, Option, None, Some, Vec, slice_get, slice_index_or}
 use Rattle.std.specs.declared.alloc.Global.{Global}
 use Rattle.std.specs.List.Sorted.{IsNonDecreasingBy}
 use Rattle.terrain.specs.Raster.{Terrain}
 use Rattle.terrain.specs.Neighbours.{index_of}
 use Rattle.terrain.specs.declared.place.Place.{Place}
-use Rattle.tiles.specs.Cutting.{Cutting, IsCutting, tile_of_place}
+use Rattle.tiles.specs.Cutting.{Cutting, IsCutting, tile_count, tile_of_place}
 use Rattle.drain.specs.Rounds.{LendSame, AreCounting}
 use Rattle.drain.specs.Lowering.{AreLevel, IsAmong, IsEvenInside, IsTileAnswer, count_of, total}
-use Rattle.drain.specs.Entering.{lent_terrain, AreEntries, IsEvenOrEntered, IsRun}
+use Rattle.drain.specs.Entering.{lent_terrain, AreEntries, AreRuns, IsEvenOrEntered}
 use Rattle.drain.specs.declared.changes.Change.{Change}
 use Rattle.drain.specs.declared.changes.Entry.{Entry}
 use Rattle.drain.specs.declared.changes.Run.{Run}
@@ -37,31 +37,31 @@ pub record IsRounding (r : Rounding) : Type 0 where
   pub sorted : IsNonDecreasingBy (λ e. e.tile) r.entries
   pub entered : (p q : Place) → AreLevel (levels_of r) p q → tile_of_place r.cutting p ≢ tile_of_place r.cutting q → IsEvenOrEntered r.cutting r.steps r.entries p q
 
--- A round has one job for each run of entries.
+-- A round has a job for each tile, with the tile's number: a run of entries, which may be none.
 pub record Jobs : Type 0 where
   pub rounding : Rounding
   pub runs : List Run
 
 pub record AreJobs (j : Jobs) : Type 0 where
   pub rounding : IsRounding j.rounding
-  pub runs : (run : Run) → IsAmong j.runs run → IsRun j.rounding.entries run
+  pub runs : AreRuns j.rounding.entries (tile_count j.rounding.cutting) j.runs
 
--- What a job answers of the tile of its run.
+-- What is answered of the tile of a run.
+abbrev pub IsRunAnswer : Rounding → Run → List Change → Type 0
+IsRunAnswer r run changes = IsTileAnswer (levels_of r) r.cutting run.tile r.steps r.entries run.from run.end changes
+
+-- What a job answers.
 abbrev pub IsAnswer : Jobs → ℕ → List Change → Type 0
-IsAnswer j job changes = (run : Run) (first : Entry) → slice_get j.runs job ≡ Some run → slice_get j.rounding.entries run.from ≡ Some first →
-    IsTileAnswer (levels_of j.rounding) j.rounding.cutting first.tile j.rounding.steps j.rounding.entries run.from run.end changes
+IsAnswer j job changes = (run : Run) → slice_get j.runs job ≡ Some run → IsRunAnswer j.rounding run changes
 
--- Each entry is in a run.
-abbrev pub AreCovered : List Entry → List Run → Type 0
-AreCovered entries runs = (k : ℕ) → k < length entries → (j : ℕ) × (run : Run) × (slice_get runs j ≡ Some run) × (run.from ≤ k) × (k < run.end)
+-- The entry at this place is in a run that has its answer.
+abbrev pub IsAnsweredAt : Rounding → List (Vec Change Global) → ℕ → Type 0
+IsAnsweredAt r outs k = (list : Vec Change Global) × IsAmong outs list × (run : Run) × (run.from ≤ k) × (k < run.end) × IsRunAnswer r run list.items
 
--- The answers of the jobs of a round, whichever runs these had.
+-- The answers of a round, whoever made them: each is of a run, and each entry has one.
 pub record AreAnswered (r : Rounding) (outs : List (Vec Change Global)) : Type 0 where
-  pub runs : List Run
-  pub right : (run : Run) → IsAmong runs run → IsRun r.entries run
-  pub covered : AreCovered r.entries runs
-  pub count : length outs ≡ length runs
-  pub each : (job : ℕ) (list : Vec Change Global) → slice_get outs job ≡ Some list → IsAnswer (record { rounding = r; runs = runs }) job list.items
+  pub each : (list : Vec Change Global) → IsAmong outs list → (run : Run) × IsRunAnswer r run list.items
+  pub covered : (k : ℕ) → k < length r.entries → IsAnsweredAt r outs k
 
 -- The change is one that a job answered.
 abbrev pub IsGiven : List (Vec Change Global) → Change → Type 0
@@ -75,8 +75,14 @@ pub record ArePut (cols : ℕ) (old new : List (Option ℕ)) (Given : Change →
   pub told : (k : ℕ) → (slice_index_or new k None ≡ slice_index_or old k None)
       ⊎ ((x : Change) × Given x × (index_of cols x.place ≡ k) × (slice_index_or new k None ≡ Some x.count))
 
--- What a round leaves.
+-- All counts, added up.
+abbrev pub left_in : Rounding → ℕ
+left_in r = total (r.cutting.cols * r.cutting.rows) (count_of r.steps)
+
+-- What rounds leave.
 pub record IsNext (old new : Rounding) : Type 0 where
   pub rounding : IsRounding new
+  pub same_cutting : new.cutting ≡ old.cutting
+  pub same_levels : new.levels ≡ old.levels
   pub same_lent : LendSame (levels_of old) old.steps new.steps
-  pub less : total (old.cutting.cols * old.cutting.rows) (count_of new.steps) < total (old.cutting.cols * old.cutting.rows) (count_of old.steps)
+  pub low : left_in new ≤ left_in old

@@ -1,4 +1,4 @@
-//! The code of a cell that has eight cells of the grid around it, by their places in row order.
+//! The code of a cell inside the grid, straight from the lists.
 ghost use Rattle.std.specs.Prelude.{◌≡◌, ℕ, ◌*◌, ◌<◌, IsTrue, Some, None, length, position, slice_index_or};
 ghost use Rattle.std.specs.List.{list_any};
 ghost use Rattle.std.specs.Option.{option_zip};

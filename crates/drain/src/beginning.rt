@@ -1,4 +1,6 @@
-//! The counts that the first round begins with: 0 at each cell that drains at once, named sinks last.
+//! The counts that the first round begins with: 0 where a cell drains at once.
+//!
+//! A cell does at the grid's end, with a gap or a lower cell around it, or as a named sink.
 ghost use Rattle.std.specs.Prelude.{◌≡◌, ℕ, ◌+◌, ◌*◌, ◌<◌, ◌≤◌, ◌↔◌, Some, None, length, IsTrue, OnOk, IfOk, slice_index_or};
 ghost use Rattle.std.specs.Bool.{MatchBool};
 ghost use Rattle.terrain.specs.Neighbours.{IsInside, height_at};

@@ -1,4 +1,4 @@
-//! Counts that become less, and those of them that come from one tile into another.
+//! A shorter count for a cell, and one that is offered from an adjacent tile.
 
 use terrain::Place;
 
@@ -16,9 +16,10 @@ pub(crate) struct Entry {
     pub(crate) change: Change,
 }
 
-/// The entries into one tile: those from one place in the list of all up to another.
+/// The entries into one tile: those from one place in the list of all up to another, or none.
 #[derive(Clone, Copy)]
 pub(crate) struct Run {
+    pub(crate) tile: u32,
     pub(crate) from: usize,
     pub(crate) end: usize,
 }

@@ -1,4 +1,4 @@
-//! Steps and directions of a filled grid, by tiles and workers.
+//! Steps and directions of a filled grid, by tiles and workers: [`directions`].
 ghost use Rattle.std.specs.Prelude.{◌≡◌, [], IfOk, OnOk, length};
 ghost use Rattle.terrain.specs.Raster.{Terrain, IsTerrain};
 ghost use Rattle.terrain.specs.Sinks.{with_sinks};
@@ -23,7 +23,7 @@ use std::sync::Wait;
 use std::thread::Threads;
 use terrain::{Cell, Grid, NoMemory};
 use tile_jobs::{Gate, JobFault};
-use tile_maps::{Crew, joined};
+use tile_maps::Crew;
 use tiles::{TileView, Tiling};
 
 /// One round over one tile, as far as it can go, from the counts of the tile and the places around it.
@@ -104,13 +104,12 @@ pub fn directions<R: Threads + Wait + Sync, G: Gate + Sync>(
         gate,
     };
     let grid = filled.grid();
-    let tiling = joined(tiling);
-    let steps = counted(&crew, filled, &tiling)?;
+    let steps = counted(&crew, filled, tiling)?;
     let told = Snapshot::of(&steps);
     let codes = crew.made(Codes {
         grid,
         steps,
-        tiling: &tiling,
+        tiling,
     })?;
     Ok(Directions::new(grid, told, codes))
 }

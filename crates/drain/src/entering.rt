@@ -1,4 +1,4 @@
-//! What comes into tiles from other tiles.
+//! Shorter steps that enter a tile from the tiles around it.
 ghost use Rattle.std.specs.Prelude.{◌≡◌, ◌≢◌, ◌+◌, ◌*◌, ◌<◌, ◌≤◌, ◌↔◌, length, Some, IsTrue, OnOk};
 ghost use Rattle.terrain.specs.declared.place.Place.{Place};
 ghost use Rattle.drain.specs.declared.changes.Change.{Change};

@@ -1,4 +1,7 @@
-//! The first round, over all tiles.
+//! The first round: each tile counts steps on its own.
+//!
+//! It begins at the cells that drain at once, in the tile and around it (`beginning`), and searches
+//! by `window`.
 ghost use Rattle.std.specs.Prelude.{ℕ, List, Option, IfOk};
 ghost use Rattle.tile_jobs.specs.Fault.{RefusesWorkers};
 ghost use Rattle.tiles.specs.Cutting.{Cuts, IsCutting};

@@ -1,4 +1,4 @@
-//! A tile and the places around it, taken out of the lists of the whole grid, and put back.
+//! Copies a tile with the places around it, and a tile's counts back.
 ghost use Rattle.std.specs.Prelude.{◌≡◌, ◌+◌, ◌-◌, ◌*◌, ◌<◌, ◌≤◌, length, map, MatchOption, None, OnOk, IfOk};
 ghost use Rattle.terrain.specs.declared.place.Place.{Place};
 ghost use Rattle.tiles.specs.Cutting.{IsCutting, AreBounds, bounds_of};

@@ -1,10 +1,12 @@
-//! The search that goes on from what comes into a tile, over counts that others share.
+//! The search of a later round, over counts that all jobs share.
+//!
+//! It begins at what enters the tile, and returns the changes alone.
 ghost use Rattle.std.specs.Prelude.{◌≡◌, ℕ, ◌+◌, ◌*◌, ◌<◌, ◌≤◌, ◌≢◌, true, [], Vec, length, OnOk, IfOk, Some, slice_get, unwrap_or};
 ghost use Rattle.std.specs.Bool.{OnFalse};
 ghost use Rattle.std.specs.declared.alloc.Global.{Global};
 ghost use Rattle.terrain.specs.declared.place.Place.{Place};
 ghost use Rattle.terrain.specs.Neighbours.{height_at, index_of, Touches};
-ghost use Rattle.tiles.specs.Cutting.{IsWithin, IsInTile, bounds_of, tile_of_place};
+ghost use Rattle.tiles.specs.Cutting.{IsWithin, IsInTile, bounds_of, tile_count, tile_of_place};
 ghost use Rattle.drain.specs.declared.changes.Entry.{Entry};
 ghost use Rattle.drain.specs.Rounds.{IsLent, IsWalked, AreCounting};
 ghost use Rattle.drain.specs.Entering.{lent_terrain, AreEntries, IsRun};
@@ -185,7 +187,7 @@ fn comes_first(entry: Entry, changes: &[Change], done: usize) -> bool
     }
 }
 
-/// What the job of a tile answers.
+/// What becomes less in a tile by the entries of its run.
 pub(crate) fn lower_tile(
     alloc: Global,
     lent: &Lent<'_>,
@@ -194,13 +196,13 @@ pub(crate) fn lower_tile(
 ) -> Result<Vec<Change>, AllocError>
     requires counting { let c = lent.now.tiling.now in AreCounting (lent_terrain c lent.now.levels.now) lent.now.steps.now }
     requires run { IsRun entries.now run }
+    requires tile { run.tile < tile_count lent.now.tiling.now }
     requires entries { let c = lent.now.tiling.now in AreEntries (lent_terrain c lent.now.levels.now) c lent.now.steps.now entries.now }
     requires even { let c = lent.now.tiling.now in (tile : ℕ) → IsEvenInside (lent_terrain c lent.now.levels.now) c tile (count_of lent.now.steps.now) }
-    ensures { let c = lent.now.tiling.now in IfOk result (λ v. (first : Entry) → slice_get entries.now run.from ≡ Some first →
-        IsTileAnswer (lent_terrain c lent.now.levels.now) c first.tile lent.now.steps.now entries.now run.from run.end v.items) }
+    ensures { let c = lent.now.tiling.now in IfOk result (λ v. IsTileAnswer (lent_terrain c lent.now.levels.now) c run.tile lent.now.steps.now
+        entries.now run.from run.end v.items) }
 {
-    let first = entries[run.from];
-    let bounds = lent.tiling.bounds(first.tile);
+    let bounds = lent.tiling.bounds(run.tile);
     let rows = rows_before(alloc, bounds.rows)?;
     let mut lowered = Lowered {
         rows,

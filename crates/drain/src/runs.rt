@@ -1,11 +1,9 @@
-//! The entries of each tile, one run for each.
+//! Entries sorted by their tiles, and the run of each tile.
 ghost use Rattle.std.specs.Prelude.{◌≡◌, ◌≢◌, ℕ, ◌<◌, ◌≤◌, length, OnOk, IfOk, Some, slice_get};
 ghost use Rattle.std.specs.List.Sorted.{IsNonDecreasingBy, IsPermutation};
 ghost use Rattle.drain.specs.declared.changes.Entry.{Entry};
-ghost use Rattle.drain.specs.declared.changes.Run.{Run};
 ghost use Rattle.drain.specs.Lowering.{IsAmong};
-ghost use Rattle.drain.specs.Entering.{IsRun};
-ghost use Rattle.drain.specs.Rounding.{AreCovered};
+ghost use Rattle.drain.specs.Entering.{AreRuns};
 
 use crate::changes::{Entry, Run};
 use std::alloc::{AllocError, Global};
@@ -20,15 +18,14 @@ pub(crate) fn sort(entries: &mut Vec<Entry>) -> Result<(), AllocError>
     Ok(())
 }
 
-/// Where the entries of one tile end.
-fn run_end(entries: &[Entry], from: usize) -> usize
-    requires { from < length entries.now }
-    ensures some { (from < result) × (result ≤ length entries.now) }
-    ensures one { (k : ℕ) (e f : Entry) → from ≤ k → k < result → slice_get entries.now k ≡ Some e → slice_get entries.now from ≡ Some f → e.tile ≡ f.tile }
-    ensures other { (e f : Entry) → slice_get entries.now result ≡ Some e → slice_get entries.now from ≡ Some f → e.tile ≢ f.tile }
+/// The end of the entries of a tile that begin at a place in the list.
+pub(crate) fn run_end(entries: &[Entry], tile: u32, from: usize) -> usize
+    requires { from ≤ length entries.now }
+    ensures ordered { (from ≤ result) × (result ≤ length entries.now) }
+    ensures own { (k : ℕ) (e : Entry) → from ≤ k → k < result → slice_get entries.now k ≡ Some e → e.tile ≡ tile }
+    ensures other { (e : Entry) → slice_get entries.now result ≡ Some e → e.tile ≢ tile }
 {
-    let tile = entries[from].tile;
-    for k in from + 1..entries.len() {
+    for k in from..entries.len() {
         if entries[k].tile != tile {
             return k;
         }
@@ -36,19 +33,17 @@ fn run_end(entries: &[Entry], from: usize) -> usize
     entries.len()
 }
 
-/// The runs of entries that are in the order of their tiles.
-pub(crate) fn runs_of(alloc: Global, entries: &[Entry]) -> Result<Vec<Run>, AllocError>
+/// The runs of all tiles, in the order of the tiles. Most are empty where entries are few.
+pub(crate) fn runs_of(alloc: Global, entries: &[Entry], tiles: u32) -> Result<Vec<Run>, AllocError>
     requires sorted { IsNonDecreasingBy (λ e. e.tile) entries.now }
-    requires tiles { (e : Entry) → IsAmong entries.now e → e.tile < 65536 }
-    ensures runs { IfOk result (λ v. (run : Run) → IsAmong v.items run → IsRun entries.now run) }
-    ensures covered { IfOk result (λ v. AreCovered entries.now v.items) }
-    ensures few { IfOk result (λ v. length v.items ≤ 65536) }
+    requires tiles { (e : Entry) → IsAmong entries.now e → e.tile < tiles }
+    ensures { IfOk result (λ v. AreRuns entries.now tiles v.items) }
 {
-    let mut runs = Vec::new(alloc);
+    let mut runs = Vec::with_capacity(alloc, tiles as usize)?;
     let mut from = 0;
-    while from < entries.len() {
-        let end = run_end(entries, from);
-        runs.push(Run { from, end })?;
+    for tile in 0..tiles {
+        let end = run_end(entries, tile, from);
+        runs.push(Run { tile, from, end })?;
         from = end;
     }
     Ok(runs)

@@ -1,4 +1,4 @@
-//! The map of codes, by tiles.
+//! The map of codes, one job for each tile.
 use crate::surroundings::codes_of_tile;
 use drainage::{Code, StepCount};
 use std::alloc::Global;

@@ -1,4 +1,7 @@
-//! The direction of one cell.
+//! The direction of one cell: the steepest drop, or one step fewer.
+//!
+//! Among equals the smallest code counts. [`direction`] is the rule; `steepest` compares drops
+//! exactly.
 ghost use Rattle.std.specs.Prelude.{◌≡◌, ◌*◌, ◌<◌, ◌≤◌, ◌<ℤ◌, ◌≤ℤ◌, ℕ, IfSome, IsTrue, Some, None, option_map, slice_index_or, position};
 ghost use Rattle.std.specs.Bool.{MatchBool};
 ghost use Rattle.std.specs.List.{list_any};

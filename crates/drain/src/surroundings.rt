@@ -1,4 +1,6 @@
-//! What stands around each cell, and the codes of a tile.
+//! The codes of a tile's cells.
+//!
+//! The grid's outermost cells take theirs by [`Around`](crate::Around), the others by `amid`.
 ghost use Rattle.std.specs.Prelude.{◌≡◌, ◌+◌, ◌*◌, ◌<◌, Some, None, length, OnOk, IfOk};
 ghost use Rattle.std.specs.Option.{option_zip};
 ghost use Rattle.terrain.specs.Raster.{IsTerrain};

@@ -1,4 +1,4 @@
-//! The code of a direction.
+//! One of the nine codes: a direction or an outlet.
 ghost use Rattle.std.specs.Prelude.{◌≡◌, ◌<◌, IfSome, Some};
 ghost use Rattle.terrain.specs.Ways.{code_of, way_of};
 ghost use Rattle.drainage.specs.CodeNumber.{IsCode};

@@ -1,4 +1,6 @@
-//! A map of directions.
+//! A map of directions: the code of each cell.
+//!
+//! Its filled heights and steps, along which each flow path falls, are ghosts.
 ghost use Rattle.std.specs.Prelude.{◌≡◌};
 ghost use Rattle.terrain.specs.Neighbours.{IsInside};
 ghost use Rattle.drainage.specs.Drained.{IsDraining, directed_of};
@@ -51,7 +53,8 @@ impl Directions {
     #[inline(always)]
     pub fn code(&self, place: Place) -> Option<Code>
         requires { IsInside self.now.terrain place }
-        ensures { result ≡ code_at (directed_of self.now) place }
+        ensures value { result ≡ code_at (directed_of self.now) place }
+        ensures draining { IsDraining self.now }
     {
         self.codes[place.index_in(self.cols)]
     }

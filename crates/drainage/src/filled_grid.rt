@@ -1,4 +1,4 @@
-//! A grid that needs no filling.
+//! A grid that needs no filling: [`Filled`].
 ghost use Rattle.std.specs.Prelude.{◌≡◌};
 ghost use Rattle.drainage.specs.Filled.{IsOwnFilled};
 

@@ -1,4 +1,4 @@
-//! Numbers of steps, some of which are not known.
+//! A number of steps of a flat, or none yet, in 4 bytes.
 ghost use Rattle.std.specs.Prelude.{◌≡◌, ◌≤◌, unwrap_or};
 ghost use Rattle.drainage.specs.StepCounts.{known, no_count};
 

@@ -1,4 +1,7 @@
-//! The filled heights of a grid, by tiles and workers.
+//! The filled heights of a grid, by tiles and workers: [`filled`].
+//!
+//! Jobs flood each tile, find its sources and its joins. The caller's thread floods the spill graph
+//! and raises the cells.
 ghost use Rattle.std.specs.Prelude.{◌<◌, ◌≤◌, IfOk, OnOk};
 ghost use Rattle.terrain.specs.Raster.{Terrain, IsTerrain};
 ghost use Rattle.drainage.specs.Filled.{IsFilled, IsFilledGrid};
@@ -20,7 +23,7 @@ use std::sync::Wait;
 use std::thread::Threads;
 use terrain::{Cell, Frame, Grid, NoMemory};
 use tile_jobs::{Gate, JobFault, Work};
-use tile_maps::{Crew, joined};
+use tile_maps::Crew;
 use tiles::Tiling;
 
 /// Floods each tile.
@@ -176,11 +179,10 @@ pub fn filled<R: Threads + Wait + Sync, G: Gate + Sync>(
         workers,
         gate,
     };
-    let tiling = joined(tiling);
-    let floods = tile_floods(&crew, &grid, &tiling)?;
+    let floods = tile_floods(&crew, &grid, tiling)?;
     let (frame, room) = grid.into_parts();
-    let graph = spill_graph(&crew, &frame, room, &tiling, &floods)?;
-    let Ok(cells) = filled_cells(alloc, graph, &tiling, &floods) else {
+    let graph = spill_graph(&crew, &frame, room, tiling, &floods)?;
+    let Ok(cells) = filled_cells(alloc, graph, tiling, &floods) else {
         return Err(JobFault::Memory);
     };
     drop(floods);

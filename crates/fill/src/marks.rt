@@ -1,4 +1,4 @@
-//! What the floods of all tiles say of a cell.
+//! The level and the label of any cell, from the floods of all tiles.
 ghost use Rattle.std.specs.Prelude.{◌≡◌, ◌*◌, ◌<◌, ℤ, ◌↔◌, IsTrue, Some, None, length, slice_get, IfSome, IfNone};
 ghost use Rattle.tiles.specs.Cutting.{IsCutting, IsWithin, tile_count, tile_of_place};
 ghost use Rattle.terrain.specs.Neighbours.{index_of};

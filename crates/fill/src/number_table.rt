@@ -1,4 +1,4 @@
-//! Numbers of a few of the places of a grid.
+//! Numbers for a few of a grid's places, in pages of sixteen.
 ghost use Rattle.std.specs.Prelude.{◌≡◌, ◌+◌, ◌*◌, ◌<◌, ◌≤◌, ℕ, IfOk, OnOk, length, replicate, set, slice_index_or};
 ghost use Rattle.fill.specs.Pages.{ArePages, begin_at, entry_at};
 

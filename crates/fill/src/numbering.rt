@@ -1,4 +1,6 @@
-//! The labels of a spill graph that are joined, with numbers of their own.
+//! The joined labels of a spill graph as a net of their own, numbered without gaps.
+//!
+//! `LabelLevels` floods it: `filled` takes its levels from there.
 ghost use Rattle.std.specs.Prelude.{◌≡◌, ◌<◌, length, map, All, IfOk, OnOk};
 ghost use Rattle.std.specs.List.{flat_map};
 ghost use Rattle.floods.specs.Flood.{waiting_in, InOrder, AreNoted, Follows};

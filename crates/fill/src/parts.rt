@@ -1,4 +1,4 @@
-//! What each tile adds to the spill graph.
+//! What each tile adds to the spill graph: the joins of its cells (`tile_part`).
 ghost use Rattle.std.specs.Prelude.{◌<◌, IfOk};
 ghost use Rattle.tiles.specs.Cutting.{tile_count};
 ghost use Rattle.fill.specs.Gathering.{Fit};

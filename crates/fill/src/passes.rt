@@ -1,4 +1,6 @@
-//! Where the labels of neighbouring cells meet.
+//! The joins of a tile: where two labels touch, and the lowest pass between them.
+//!
+//! `tile_joins` looks at each two neighbouring cells once, and `lowest_joins` keeps the lowest.
 ghost use Rattle.std.specs.Prelude.{◌≡◌, ◌+◌, ◌*◌, ◌<◌, ◌≤◌, ◌∷◌, [], None, Some, slice_index_or, MatchOption, IfOk, OnOk, length, IsTrue, ◌↔◌};
 ghost use Rattle.std.specs.Bool.{OnTrue, OnFalse};
 ghost use Rattle.std.specs.List.{All};

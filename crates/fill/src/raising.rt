@@ -1,4 +1,6 @@
-//! The filled heights of a tile.
+//! The filled heights of a tile: [`raise`].
+//!
+//! A cell's is the greater of its own level and its label's level in the spill graph.
 ghost use Rattle.std.specs.Prelude.{◌≡◌, ◌*◌, ◌<◌, ℕ, ℤ, List, Option, None, Some, length, map, slice_get, slice_index_or, IfOk, IfSome};
 ghost use Rattle.std.specs.List.{All};
 ghost use Rattle.terrain.specs.Raster.{Terrain};

@@ -1,4 +1,4 @@
-//! The filled heights of a grid, row by row over its tiles.
+//! The filled heights of a grid, row by row, in the memory of its cells.
 ghost use Rattle.std.specs.Prelude.{◌≡◌, ℤ, List, Option, ◌+◌, ◌-◌, ◌*◌, ◌<◌, ◌≤◌, ◌≤ℤ◌, pos, length, map, slice_index_or, None, Some, All, IfOk, OnOk};
 ghost use Rattle.terrain.specs.StoredCells.{cell_of, no_data};
 ghost use Rattle.tiles.specs.Cutting.{IsCutting};

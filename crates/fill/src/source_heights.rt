@@ -1,4 +1,4 @@
-//! The heights of the sources of a spill graph.
+//! The heights of the spill graph's sources, in the memory of the grid's cells.
 ghost use Rattle.std.specs.Prelude.{◌≡◌, ◌<◌, None, Some, IfOk, is_some, length, replicate, set, slice_index_or};
 
 use std::alloc::{AllocError, Global};

@@ -1,4 +1,6 @@
-//! The sources of the spill graph.
+//! The sources of the spill graph: labels that are end cells.
+//!
+//! `tile_sources` finds a tile's, `label_sources` puts all into one list.
 ghost use Rattle.std.specs.Prelude.{◌≡◌, ◌*◌, ◌<◌, List, Some, length, IfOk, IfSome, OnOk};
 ghost use Rattle.std.specs.List.{All, Contains};
 ghost use Rattle.tiles.specs.Cutting.{IsCutting, IsWithin, tile_count};

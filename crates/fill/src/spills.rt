@@ -1,4 +1,6 @@
-//! The graph of the labels of all tiles.
+//! The spill graph: the labels of all tiles as a net.
+//!
+//! [`SpillGraph::gather`] makes it of all floods, and [`SpillGraph::levels`] floods it.
 ghost use Rattle.std.specs.Prelude.{◌≡◌, ◌<◌, ◌≤◌, ◌*◌, ℕ, ℤ, List, Option, length, map, IfOk, IfSome, slice_index_or};
 ghost use Rattle.terrain.specs.Raster.{Terrain};
 ghost use Rattle.std.specs.Bool.{OnTrue};

@@ -1,4 +1,6 @@
-//! The least crests of a net's nodes, and the sources that have them.
+//! The flood: levels and labels of a net's nodes, from the lowest source upward.
+//!
+//! [`flood_net`] takes nodes from a `queue` and lets the net spread each.
 ghost use Rattle.std.specs.Prelude.{◌≡◌, IfOk, length, replicate, None};
 ghost use Rattle.floods.specs.Walk.{IsFlooded};
 ghost use Rattle.floods.specs.Flood.{waiting_in, InOrder, SourcesWait, HasSourcesNoted};

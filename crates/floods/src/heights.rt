@@ -1,4 +1,4 @@
-//! Lists of heights, some of which are lacking.
+//! Lists of heights, some of them missing, in 9 bytes an entry.
 ghost use Rattle.std.specs.Prelude.{◌≡◌, ◌↔◌, ◌<◌, ◌≤ℤ◌, ℤ, IsTrue, IfOk, None, Some, length, map, replicate, set, slice_index_or};
 ghost use Rattle.floods.specs.Notes.{height_or_lack, lack};
 ghost use Rattle.std.specs.Ordering.{int_eq};

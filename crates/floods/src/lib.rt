@@ -1,4 +1,15 @@
-//! Floods over nets of joined nodes, of any kind: the least crest from each node, and a source that has it.
+//! Floods over nets of joined nodes: least crests, and the sources that have them.
+//!
+//! Begin with [`flood`] over any [`Net`]; [`flood_net`] returns the same in shorter lists. Depends
+//! on `terrain` for heights.
+//!
+//! Modules, from what is called to what it depends on:
+//!
+//! - `flooding`: the flood
+//! - `net`: nodes, joins and sources
+//! - `queue`: nodes that wait
+//! - `heights`: lists of heights or none
+//! - `node_labels`: the label of each node
 #![tactic(auto)]
 
 mod flooding;

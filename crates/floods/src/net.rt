@@ -1,4 +1,6 @@
-//! A net of nodes that are joined at spill heights.
+//! A net of nodes that are joined at spill heights: [`Net`].
+//!
+//! A net may spread without a list of neighbours, and skip nodes that are no sources.
 ghost use Rattle.std.specs.Prelude.{◌≡◌, ◌<◌, ◌≤◌, ℕ, ℤ, Option, IfOk, OnOk, length};
 ghost use Rattle.floods.specs.Walk.{HasJust, HasNoSource};
 ghost use Rattle.floods.specs.Flood.{waiting_in, InOrder, Spreads, AreNoted};

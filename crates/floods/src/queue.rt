@@ -1,4 +1,7 @@
-//! Nodes that wait while a net is flooded, the lowest first.
+//! The queue of a flood: the lowest node first.
+//!
+//! Levels of a window have a list each, other nodes wait in a heap. [`push_way`] queues a node
+//! again only at a lower crest.
 ghost use Rattle.std.specs.Prelude.{◌≡◌, ◌<◌, ◌≤◌, pos, ◌+ℤ◌, ◌≤ℤ◌, ◌∷◌, [], ℕ, ℤ, IfOk, OnOk, IfSome, IfNone, length, All, replicate, slice_index_or};
 ghost use Rattle.std.specs.BinaryHeap.{heap_items, heap_len};
 ghost use Rattle.floods.specs.Flood.{entries_of, waiting_in, InOrder, PutsIn, HasNone, IsDone, TakesLowest, Follows, AreNoted};

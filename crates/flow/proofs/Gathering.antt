@@ -61,7 +61,7 @@ module _ (d : Directed) (s : IsEnding d) where
   other_cell p is j ne e = ne (sym (index_in-place_in (whole_bounds d.cols d.rows) j) ∙ ap (index_in (whole_bounds d.cols d.rows)) e)
 
   -- a sum that counts one cell more
-  one_more : (f g : Place → ℕ) (p : Place) → IsCoded d p → ((q : Place) → q ≢ p → f q ≡ g q) → f p ≡ 1 → g p ≡ 0 →
+  pub one_more : (f g : Place → ℕ) (p : Place) → IsCoded d p → ((q : Place) → q ≢ p → f q ≡ g q) → f p ≡ 1 → g p ≡ 0 →
       sum_below (λ j. f (cell d j)) (d.rows * d.cols) ≡ sum_by g (places d.cols d.rows) + 1
   one_more f g p is same one none =
       let change = sum_below-except (λ j. f (cell d j)) (λ j. g (cell d j)) (d.rows * d.cols) (index_in (whole_bounds d.cols d.rows) p) (cell_below d s p is)
@@ -70,7 +70,7 @@ module _ (d : Directed) (s : IsEnding d) where
       let there : g (cell d (index_in (whole_bounds d.cols d.rows) p)) ≡ 0 = ap g (cell_back d s p is) ∙ none in
       omega (arith, change, here, there, sum_of_cells g d.cols d.rows)
 
-  other_test : (p q : Place) → q ≢ p → is_place p q ≡ false
+  pub other_test : (p q : Place) → q ≢ p → is_place p q ≡ false
   other_test p q ne = false_from_ne_true _ (λ y. ne (sym (place_is p q y)))
 
   pub drains_itself : (p : Place) → drains_through d p p ≡ true

@@ -30,3 +30,9 @@ pub mod Together
 -- the numbers of outlets
 pub mod RunsCounted
 pub mod Numbered
+-- gauges
+pub mod GaugeFaults
+pub mod CutPaths
+pub mod CutLists
+pub mod CatchmentLaws
+pub mod OutletGauges

@@ -12,7 +12,7 @@ use Rattle.tiles.proofs.TileOrder.{index_in-place_in, place_in-index_in}
 use Rattle.flow.specs.TileFlow.{Flow, directed_by}
 use Rattle.flow.specs.TileLinks.{where_data, through_by, exits_by}
 use Rattle.flow.specs.RimGraph.{Outlets, outlet_in}
-use Rattle.flow.specs.Numbering.{IsExitOfTile, number_at, label_by}
+use Rattle.flow.specs.Numbering.{EndNumbers, IsExitOfTile, number_at, label_by}
 use Rattle.std.proofs.Math.Nat.{suc-mul}
 use Rattle.std.proofs.lemmas.Nat.{div-mul-add, mod-mul-add}
 use Rattle.terrain.proofs.Places.{make_place, same_place, entry-inside}
@@ -47,29 +47,29 @@ pub exit_index_is : (b : Bounds) (cells : List (Option ℕ)) (ends : List ℕ) (
     where_data (get_or cells i None) (get_or ends i 0) ≡ option_map (index_in b) (get_or (exits_by b cells ends) i None)
 exit_index_is b cells ends i h = index_of_placed b (get_or cells i None) (get_or ends i 0) ∙ ap (option_map (index_in b)) (sym (exit_at b cells ends i h))
 
-module _ (o : Outlets) (flows : List Flow) (codes : List (Option ℕ)) (b : Bounds) where
+module _ (o : Outlets) (flows : List Flow) (n : EndNumbers) (b : Bounds) where
   -- the exit of which the index is given
-  pub exit_placed : (exit : ℕ) (x : Option Place) (q : Place) → q ≡ place_in b exit → Some exit ≡ option_map (index_in b) x → IfSome x (IsExitOfTile o flows codes b) → IsExitOfTile o flows codes b q
+  pub exit_placed : (exit : ℕ) (x : Option Place) (q : Place) → q ≡ place_in b exit → Some exit ≡ option_map (index_in b) x → IfSome x (IsExitOfTile o flows n b) → IsExitOfTile o flows n b q
   exit_placed exit None q at some is = absurd (none-some exit (sym some))
   exit_placed exit (Some e) q at some is =
-      subst (λ (p : Place). IsExitOfTile o flows codes b p) (sym (place_in-index_in b e is.inside) ∙ ap (place_in b) (sym (same_Some exit (index_in b e) some)) ∙ sym at) is
+      subst (λ (p : Place). IsExitOfTile o flows n b p) (sym (place_in-index_in b e is.inside) ∙ ap (place_in b) (sym (same_Some exit (index_in b e) some)) ∙ sym at) is
 
-  pub label_own : (i exit : ℕ) (x : Option Place) → Some exit ≡ option_map (index_in b) x → exit ≡ i → IfSome x (IsExitOfTile o flows codes b) →
-      number_at o.cutting.cols codes (outlet_in o flows (place_in b exit)) ≡ label_by o flows codes b i x
+  pub label_own : (i exit : ℕ) (x : Option Place) → Some exit ≡ option_map (index_in b) x → exit ≡ i → IfSome x (IsExitOfTile o flows n b) →
+      number_at o.cutting.cols n (outlet_in o flows (place_in b exit)) ≡ label_by o flows n b i x
   label_own i exit None some own is = absurd (none-some exit (sym some))
   label_own i exit (Some e) some own is =
       let at : exit ≡ index_in b e = same_Some exit (index_in b e) some in
-      ap (λ (p : Place). number_at o.cutting.cols codes (outlet_in o flows p)) (ap (place_in b) at ∙ place_in-index_in b e is.inside)
-      ∙ sym (cond-true {A = ℕ} _ (number_at o.cutting.cols codes (outlet_in o flows e)) 0 (eq-eqb (index_in b e) i (sym at ∙ own)))
+      ap (λ (p : Place). number_at o.cutting.cols n (outlet_in o flows p)) (ap (place_in b) at ∙ place_in-index_in b e is.inside)
+      ∙ sym (cond-true {A = ℕ} _ (number_at o.cutting.cols n (outlet_in o flows e)) 0 (eq-eqb (index_in b e) i (sym at ∙ own)))
 
-  pub label_none : (i : ℕ) (x : Option Place) → None ≡ option_map (index_in b) x → 0 ≡ label_by o flows codes b i x
+  pub label_none : (i : ℕ) (x : Option Place) → None ≡ option_map (index_in b) x → 0 ≡ label_by o flows n b i x
   label_none i None none = refl
   label_none i (Some e) none = absurd (none-some (index_in b e) none)
 
-  pub label_other : (i exit : ℕ) (x : Option Place) → Some exit ≡ option_map (index_in b) x → (exit ≡ i → ⊥) → 0 ≡ label_by o flows codes b i x
+  pub label_other : (i exit : ℕ) (x : Option Place) → Some exit ≡ option_map (index_in b) x → (exit ≡ i → ⊥) → 0 ≡ label_by o flows n b i x
   label_other i exit None some other = refl
   label_other i exit (Some e) some other =
-      sym (cond-false {A = ℕ} _ (number_at o.cutting.cols codes (outlet_in o flows e)) 0 (ne_eqb (index_in b e) i (λ own. other (same_Some exit (index_in b e) some ∙ own))))
+      sym (cond-false {A = ℕ} _ (number_at o.cutting.cols n (outlet_in o flows e)) 0 (ne_eqb (index_in b e) i (λ own. other (same_Some exit (index_in b e) some ∙ own))))
 
 -- the place of an index, by its row and column
 pub place_in_row : (b : Bounds) (r k : ℕ) → k < b.cols → place_in b (r * b.cols + k) ≡ make_place (b.top + r) (b.left + k)

@@ -16,51 +16,55 @@ use Rattle.tiles.specs.Cutting.{Cutting, IsInBounds, IsInTile, IsWithin, tile_co
 use Rattle.tiles.proofs.Cut.{in_bounds, in_bounds_from}
 use Rattle.tiles.proofs.TileOrder.{place_in_tile, index_in-place_in, index_in_below, tile_entry-in}
 use Rattle.drainage.specs.Following.{Directed, code_at, last_of}
-use Rattle.flow.specs.Counts.{basin, IsValueAt}
+use Rattle.flow.specs.Counts.{IsValueAt}
 use Rattle.flow.specs.TileFlow.{Flow, exit_in, IsTileExits, IsExitOf, IsExitCell}
-use Rattle.flow.specs.Whole.{IsGridFlow, is_outlet_code, make_directed}
+use Rattle.flow.specs.Whole.{is_outlet_code, make_directed}
 use Rattle.flow.specs.RimGraph.{AreFlowsOf, AreOutlets, Outlets, outlet_in}
-use Rattle.flow.specs.Numbering.{IsNumbering, IsReady, AreReady, IsExitOfTile, number_at, label_by, labels_by, label_at, numbered_by}
+use Rattle.flow.specs.Numbering.{EndNumbers, end_number, outlet_numbers, IsNumbering, IsReady, AreReady, IsExitOfTile, number_at, label_by, labels_by, label_at, numbered_by}
 use Rattle.flow.proofs.Coded.{IsCoded, cases_coded, coded_along, coded_inside}
 use Rattle.flow.proofs.Piece.{match_none, match_some}
 use Rattle.flow.proofs.RimFlows.{within_of, last_same, exit_in_tile, exit_of_exit}
 
--- the numbering of a grid's directions, where these lists are the flows
-pub numbering_of : (t : Cutting) (codes : List (Option ℕ)) (flows joined : List Flow) (o : Outlets) (numbers : List (Option ℕ)) → IsGridFlow t.cols t.rows codes →
-    AreFlowsOf (make_directed t.cols t.rows codes) t flows → joined ≡ flows → o.cutting ≡ t → ((d : Directed) → AreFlowsOf d t joined → AreOutlets d t joined o) → numbers ≡ codes →
-    IsNumbering (make_directed t.cols t.rows codes) t flows o numbers
-numbering_of t codes flows joined o numbers grid are same cutting outlets counted = record {
+-- the numbers of outlets stand for themselves
+pub outlet_number_few : (codes : List (Option ℕ)) → length codes ≤ 4096 * 4096 → (i : ℕ) → (outlet_numbers codes).number i < uncounted
+outlet_number_few codes few i =
+    let before = take i codes in
+    omega (arith, few, count_by-le-length is_outlet_code before, length-take i codes)
+
+-- the numbering of the ends of a grid's flow paths, where these lists are the flows
+pub numbering_of : (t : Cutting) (codes : List (Option ℕ)) (flows joined : List Flow) (o : Outlets) (n : EndNumbers) →
+    AreFlowsOf (make_directed t.cols t.rows codes) t flows → joined ≡ flows → o.cutting ≡ t → ((d : Directed) → AreFlowsOf d t joined → AreOutlets d t joined o) →
+    n.cells ≡ t.cols * t.rows → ((i : ℕ) → i < n.cells → n.number i < uncounted) → IsNumbering (make_directed t.cols t.rows codes) t flows o n
+numbering_of t codes flows joined o n are same cutting outlets size few = record {
   are_flows = are;
   are_outlets = subst (λ (x : List Flow). AreFlowsOf (make_directed t.cols t.rows codes) t x → AreOutlets (make_directed t.cols t.rows codes) t x o) same (outlets (make_directed t.cols t.rows codes)) are;
   same_cutting = cutting;
-  same_codes = counted;
-  size = grid.size;
+  size = size;
+  few = few;
 }
 
-module _ (d : Directed) (t : Cutting) (flows : List Flow) (o : Outlets) (codes : List (Option ℕ)) (s : IsNumbering d t flows o codes) where
+module _ (d : Directed) (t : Cutting) (flows : List Flow) (o : Outlets) (n : EndNumbers) (s : IsNumbering d t flows o n) where
   same_cols : o.cutting.cols ≡ d.cols
   same_cols = ap (λ (c : Cutting). c.cols) s.same_cutting ∙ sym s.are_flows.of_tiles.size.0
 
   -- the number of an outlet
-  number_of_last : (p : Place) → number_at o.cutting.cols codes (Some (last_of d p)) ≡ basin d p
-  number_of_last p =
-      ap (λ n. 1 + count_by is_outlet_code (take (index_of n (last_of d p)) codes)) same_cols
-      ∙ ap (λ (l : List (Option ℕ)). 1 + count_by is_outlet_code (take (index_of d.cols (last_of d p)) l)) s.same_codes
+  number_of_last : (p : Place) → number_at o.cutting.cols n (Some (last_of d p)) ≡ end_number d n p
+  number_of_last p = ap (λ cols. n.number (index_of cols (last_of d p))) same_cols
 
-  numbered_last : (e : Place) → IsExitCell d t e → IsCoded d e → IfSome (outlet_in o flows e) (λ q. index_of o.cutting.cols q < length codes)
+  last_below : (p : Place) → IsCoded d p → index_of d.cols (last_of d p) < n.cells
+  last_below p is =
+      let w = coded_inside d (last_of d p) (coded_along d s.are_flows.ends p is (d.cols * d.rows)) in
+      omega (arith, index_below d.cols d.rows (last_of d p) w.0 w.1, s.size)
+
+  numbered_last : (e : Place) → IsExitCell d t e → IsCoded d e → IfSome (outlet_in o flows e) (λ q. index_of o.cutting.cols q < n.cells)
   numbered_last e cell is =
-      let w = coded_inside d (last_of d e) (coded_along d s.are_flows.ends e is (d.cols * d.rows)) in
-      let below : index_of o.cutting.cols (last_of d e) < length codes =
-      omega (arith, index_below d.cols d.rows (last_of d e) w.0 w.1, s.size, ap (λ n. index_of n (last_of d e)) same_cols, ap length s.same_codes) in
-      subst (λ (x : Option Place). IfSome x (λ q. index_of o.cutting.cols q < length codes)) (sym (s.are_outlets.outlets e cell)) below
+      let below : index_of o.cutting.cols (last_of d e) < n.cells =
+      omega (arith, last_below e is, ap (λ cols. index_of cols (last_of d e)) same_cols) in
+      subst (λ (x : Option Place). IfSome x (λ q. index_of o.cutting.cols q < n.cells)) (sym (s.are_outlets.outlets e cell)) below
 
   -- each number stands for itself
-  basin_few : (p : Place) → basin d p < uncounted
-  basin_few p =
-      let before = take (index_of d.cols (last_of d p)) d.codes in
-      let cells : t.cols * t.rows ≤ 4096 * 4096 = mul-le-mul s.are_flows.cutting.few_cols s.are_flows.cutting.few_rows in
-      let same : d.cols * d.rows ≡ t.cols * t.rows = ap (λ n. n * d.rows) s.are_flows.of_tiles.size.0 ∙ ap (λ n. t.cols * n) s.are_flows.of_tiles.size.1 in
-      omega (arith, cells, same, s.size, count_by-le-length is_outlet_code before, length-take (index_of d.cols (last_of d p)) d.codes)
+  number_few : (p : Place) → IsCoded d p → end_number d n p < uncounted
+  number_few p is = s.few (index_of d.cols (last_of d p)) (last_below p is)
 
   module _ (tile : ℕ) (f : Flow) (there : slice_get flows tile ≡ Some f) where
     right : IsTileExits d t tile f
@@ -96,57 +100,57 @@ module _ (d : Directed) (t : Cutting) (flows : List Flow) (o : Outlets) (codes :
     no_exit p i none = exit_entry p i ∙ MatchOption-at_none _ _ none (right.each p i)
 
     -- each entry is an exit of the tile
-    exit_of_tile : (p : Place) → IsInTile t tile p → IfSome (get_or f.exits (index_in f.bounds p) None) (IsExitOfTile o flows codes f.bounds)
+    exit_of_tile : (p : Place) → IsInTile t tile p → IfSome (get_or f.exits (index_in f.bounds p) None) (IsExitOfTile o flows n f.bounds)
     exit_of_tile p i = elim (cases_coded d p) [
-      | inl none ↦ subst (λ (x : Option Place). IfSome x (IsExitOfTile o flows codes f.bounds)) (sym (no_exit p i none)) tt
+      | inl none ↦ subst (λ (x : Option Place). IfSome x (IsExitOfTile o flows n f.bounds)) (sym (no_exit p i none)) tt
       | inr is ↦
           let h = has_exit p i is in
-          subst (λ (x : Option Place). IfSome x (IsExitOfTile o flows codes f.bounds)) (sym h.listed) (record {
+          subst (λ (x : Option Place). IfSome x (IsExitOfTile o flows n f.bounds)) (sym h.listed) (record {
             inside = in_flow h.exit h.inside;
             within = subst (λ (c : Cutting). IsWithin c h.exit) (sym s.same_cutting) h.inside.0;
             numbered = numbered_last h.exit (h.leads).4 h.coded;
           })
     ]
 
-    tile_ready : IsReady t flows o codes tile f
+    tile_ready : IsReady t flows o n tile f
     tile_ready = record {
       size = cell_size;
       exits = λ i. elim (cases_lt i (length f.exits)) [
-        | inr far ↦ subst (λ (x : Option Place). IfSome x (IsExitOfTile o flows codes f.bounds)) (sym (get_or_past f.exits i None far)) tt
+        | inr far ↦ subst (λ (x : Option Place). IfSome x (IsExitOfTile o flows n f.bounds)) (sym (get_or_past f.exits i None far)) tt
         | inl below ↦
             let tile_below : tile < tile_count t = omega (arith, slice_get_within flows tile f there, s.are_flows.of_tiles.count) in
             let inside = subst (λ (b : Bounds). IsInTile t tile (place_in b i)) (sym right.bounds) (place_in_tile t tile i s.are_flows.cutting tile_below (omega (arith, below, cell_size))) in
-            subst (λ n. IfSome (get_or f.exits n None) (IsExitOfTile o flows codes f.bounds)) (index_in-place_in f.bounds i) (exit_of_tile (place_in f.bounds i) inside)
+            subst (λ k. IfSome (get_or f.exits k None) (IsExitOfTile o flows n f.bounds)) (index_in-place_in f.bounds i) (exit_of_tile (place_in f.bounds i) inside)
       ];
     }
 
     -- the label of an exit
-    label_is : (p : Place) → IsCoded d p → (h : Has p) → get_or (labels_by o flows codes f) (index_in f.bounds h.exit) 0 ≡ basin d p
+    label_is : (p : Place) → IsCoded d p → (h : Has p) → get_or (labels_by o flows n f) (index_in f.bounds h.exit) 0 ≡ end_number d n p
     label_is p is h =
         let own = has_exit h.exit h.inside h.coded in
         let listed : get_or f.exits (index_in f.bounds h.exit) None ≡ Some h.exit = own.listed ∙ ap Some (exit_of_exit d t flows s.are_flows h.exit own.exit (h.leads).4 own.leads) in
-        get_or-map-range_with_len (λ i. label_by o flows codes f.bounds i (get_or f.exits i None)) 0 (length f.exits) (index_in f.bounds h.exit) (index_in f.bounds h.exit) 0 (index_few h.exit h.inside) (omega arith)
-        ∙ ap (label_by o flows codes f.bounds (index_in f.bounds h.exit)) listed
-        ∙ cond-true {A = ℕ} _ (number_at o.cutting.cols codes (outlet_in o flows h.exit)) 0 (eq-eqb _ _ refl)
-        ∙ ap (number_at o.cutting.cols codes) (s.are_outlets.outlets h.exit (h.leads).4)
+        get_or-map-range_with_len (λ i. label_by o flows n f.bounds i (get_or f.exits i None)) 0 (length f.exits) (index_in f.bounds h.exit) (index_in f.bounds h.exit) 0 (index_few h.exit h.inside) (omega arith)
+        ∙ ap (label_by o flows n f.bounds (index_in f.bounds h.exit)) listed
+        ∙ cond-true {A = ℕ} _ (number_at o.cutting.cols n (outlet_in o flows h.exit)) 0 (eq-eqb _ _ refl)
+        ∙ ap (number_at o.cutting.cols n) (s.are_outlets.outlets h.exit (h.leads).4)
         ∙ number_of_last h.exit
-        ∙ ap (λ (q : Place). 1 + count_by is_outlet_code (take (index_of d.cols q) d.codes)) (last_same d t flows s.are_flows p h.exit (h.leads).0 is (h.leads).3)
+        ∙ ap (λ (q : Place). n.number (index_of d.cols q)) (last_same d t flows s.are_flows p h.exit (h.leads).0 is (h.leads).3)
 
     -- what the numbers have at a place
-    pub entry_numbered : (values : List (Option ℕ)) → values ≡ numbered_by f.bounds (labels_by o flows codes f) f.exits → (p : Place) → IsInTile t tile p → IsValueAt d (basin d) p (tile_entry t tile values p)
+    pub entry_numbered : (values : List (Option ℕ)) → values ≡ numbered_by f.bounds (labels_by o flows n f) f.exits → (p : Place) → IsInTile t tile p → IsValueAt d (end_number d n) p (tile_entry t tile values p)
     entry_numbered values made p i =
-        let entry : tile_entry t tile values p ≡ label_at f.bounds (labels_by o flows codes f) (get_or f.exits (index_in f.bounds p) None) =
+        let entry : tile_entry t tile values p ≡ label_at f.bounds (labels_by o flows n f) (get_or f.exits (index_in f.bounds p) None) =
         tile_entry-in t tile values p i
         ∙ ap (λ (b : Bounds). get_or values (index_in b p) None) (sym right.bounds)
         ∙ ap (λ (l : List (Option ℕ)). get_or l (index_in f.bounds p) None) made
-        ∙ get_or-map-range_with_len (λ i. label_at f.bounds (labels_by o flows codes f) (get_or f.exits i None)) 0 (length f.exits) (index_in f.bounds p) (index_in f.bounds p) None (index_few p i) (omega arith) in
+        ∙ get_or-map-range_with_len (λ i. label_at f.bounds (labels_by o flows n f) (get_or f.exits i None)) 0 (length f.exits) (index_in f.bounds p) (index_in f.bounds p) None (index_few p i) (omega arith) in
         elim (cases_coded d p) [
-          | inl none ↦ match_none (code_at d p) _ _ none (entry ∙ ap (label_at f.bounds (labels_by o flows codes f)) (no_exit p i none))
+          | inl none ↦ match_none (code_at d p) _ _ none (entry ∙ ap (label_at f.bounds (labels_by o flows n f)) (no_exit p i none))
           | inr is ↦
               let h = has_exit p i is in
-              match_some (code_at d p) _ _ is.code is.is (entry ∙ ap (label_at f.bounds (labels_by o flows codes f)) h.listed
-              ∙ ap stored_count (label_is p is h) ∙ stored_count_some (basin d p) (basin_few p))
+              match_some (code_at d p) _ _ is.code is.is (entry ∙ ap (label_at f.bounds (labels_by o flows n f)) h.listed
+              ∙ ap stored_count (label_is p is h) ∙ stored_count_some (end_number d n p) (number_few p is))
         ]
 
-  pub ready : AreReady t flows o codes
+  pub ready : AreReady t flows o n
   ready = record { same_cutting = s.same_cutting; count = s.are_flows.of_tiles.count; each = tile_ready }

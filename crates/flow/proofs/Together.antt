@@ -6,11 +6,14 @@ use Rattle.tiles.specs.Cutting.{Cutting, Cuts, IsWithin}
 use Rattle.drainage.specs.Following.{Directed}
 use Rattle.drainage.specs.Drained.{Drained, IsDraining, AllFlowEnds, directed_of}
 use Rattle.drainage.proofs.Ends.{falling_ends}
-use Rattle.terrain.specs.Neighbours.{entry_at}
+use Rattle.terrain.specs.Neighbours.{entry_at, IsDataCell}
+use Rattle.terrain.specs.Raster.{IsTerrain}
 use Rattle.terrain.specs.declared.place.Place.{Place}
 use Rattle.tile_jobs.specs.Answers.{AllGiven}
 use Rattle.flow.specs.Whole.{make_directed, IsGridFlow}
 use Rattle.flow.specs.Counts.{IsMapOf, IsValueAt}
+use Rattle.flow.proofs.Coded.{IsCoded, coded_from_some}
+use Rattle.flow.proofs.Reaching.{IsEnding}
 
 pub directed_same : (d : Drained) (t : Cutting) (codes : List (Option ℕ)) → Cuts t d.terrain → codes ≡ d.codes → make_directed t.cols t.rows codes ≡ directed_of d
 directed_same d t codes cuts e =
@@ -21,6 +24,19 @@ grid_flow d t codes draining cuts e = record {
   size = ap length e ∙ draining.codes_size ∙ sym (ap (λ n. n * t.rows) cuts.0 ∙ ap (λ n. d.terrain.cols * n) cuts.1);
   ends = subst (λ (x : Directed). AllFlowEnds x) (sym (directed_same d t codes cuts e)) (falling_ends d draining);
 }
+
+-- the flow paths of a drained terrain end, and its data cells have codes
+pub drained_ending : (d : Drained) → IsTerrain d.terrain → IsDraining d → IsEnding (directed_of d)
+drained_ending d terrain draining = record {
+  ends = falling_ends d draining;
+  some_col = terrain.some_col;
+  some_row = terrain.some_row;
+  few_cols = terrain.few_cols;
+  few_rows = terrain.few_rows;
+}
+
+pub drained_coded : (d : Drained) → IsDraining d → (p : Place) → IsDataCell d.terrain p → IsCoded (directed_of d) p
+drained_coded d draining p is = coded_from_some (directed_of d) p (draining.same_data p ∙ is)
 
 -- what the jobs gave, one answer for each
 pub jobs_gave : {X E : Type 0} (P : ℕ → X → Type 0) (r : Result (Vec X Global) E) (n m : ℕ) (Q : List X → Type 0) → n ≡ m →

@@ -11,3 +11,5 @@ pub mod OutletRuns
 pub mod Numbering
 pub mod Inflows
 pub mod Counting
+pub mod CutCodes
+pub mod Catchments

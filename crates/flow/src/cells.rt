@@ -1,4 +1,4 @@
-//! The cells of a tile, numbered in its row order, and the cells to which their water goes on.
+//! The cells of a tile in row order, with their codes, links and weights.
 ghost use Rattle.std.specs.Prelude.{◌≡◌, ◌↔◌, IsTrue, ◌+◌, ◌-◌, ◌*◌, ◌^◌, ◌<◌, length, Some, IfOk, OnOk, unwrap_or, option_and_then};
 ghost use Rattle.terrain.specs.Ways.{place_toward};
 ghost use Rattle.tiles.specs.Cutting.{IsInBounds, bounds_of, place_in};

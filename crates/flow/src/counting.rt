@@ -1,4 +1,6 @@
-//! Accumulations of a map of directions, tile by tile.
+//! Accumulations of a map of directions: [`accumulation`].
+//!
+//! One job finds each tile's flow, `inflows` what enters it, and another job counts.
 ghost use Rattle.std.proofs.Props.{props};
 ghost use Rattle.std.specs.Prelude.{◌≡◌, ◌+◌, ◌^◌, ◌<◌, ℕ, length, slice_index, IfOk};
 ghost use Rattle.tiles.specs.Cutting.{Cuts, IsInBounds, bounds_of, cell_count, tile_count};
@@ -21,7 +23,7 @@ use std::sync::Wait;
 use std::thread::Threads;
 use terrain::{Count, NoMemory};
 use tile_jobs::{Gate, JobFault};
-use tile_maps::{Crew, TileMap, joined};
+use tile_maps::{Crew, TileMap};
 use tiles::Tiling;
 
 /// The accumulations, of the flows of all tiles and what flows into them.
@@ -73,13 +75,12 @@ pub fn accumulation<R: Threads + Wait + Sync, G: Gate + Sync>(
         workers,
         gate,
     };
-    let tiling = joined(tiling);
-    let flows = flow_tiles(&crew, d.codes(), &tiling, true)?;
-    let crossings = Crossings::of(alloc, &tiling, &flows)?;
-    let inflows = Inflows::join(alloc, &tiling, &flows, &crossings)?;
+    let flows = flow_tiles(&crew, d.codes(), tiling, true)?;
+    let crossings = Crossings::of(alloc, tiling, &flows)?;
+    let inflows = Inflows::join(alloc, tiling, &flows, &crossings)?;
     drop(crossings);
     crew.made(Counting {
-        tiling: &tiling,
+        tiling,
         flows,
         inflows,
     })

@@ -1,4 +1,7 @@
-//! Where water crosses the rims of tiles.
+//! Where water crosses from tile to tile.
+//!
+//! For each rim cell: the place of another tile that its water enters, and the exit by which it
+//! leaves that tile.
 ghost use Rattle.std.specs.Prelude.{◌≡◌, ◌<◌, length, IfOk};
 ghost use Rattle.tiles.specs.Cutting.{IsCutting, IsWithin, tile_count};
 ghost use Rattle.drainage.specs.Following.{Directed};

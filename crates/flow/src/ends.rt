@@ -1,4 +1,4 @@
-//! Where the paths along links end: at the nodes that are linked to themselves.
+//! Where paths along links end: at nodes that are linked to themselves.
 ghost use Rattle.std.specs.Prelude.{◌≡◌, ◌^◌, ◌<◌, ◌≤◌, ℕ, length, IfOk};
 ghost use Rattle.flow.specs.Streams.{AreStreams, AreEnds, end_of};
 ghost use Rattle.flow.specs.Finding.{AreFound, IsKnown};

@@ -1,4 +1,4 @@
-//! The flow of each tile, in a job of its own.
+//! The flow of every tile, one job each.
 ghost use Rattle.std.specs.Prelude.{◌≡◌, true, IfOk};
 ghost use Rattle.tile_jobs.specs.Fault.{RefusesWorkers};
 ghost use Rattle.flow.specs.TileFlow.{AreTileCounts};

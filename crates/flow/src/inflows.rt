@@ -1,4 +1,4 @@
-//! What flows into tiles over their rims.
+//! How many cells' water enters each tile, at which rim cell.
 ghost use Rattle.std.specs.Prelude.{◌≡◌, ◌+◌, ◌*◌, ◌^◌, ◌<◌, ◌&&◌, ℕ, None, length, slice_index, slice_index_or, IfOk, IfSome};
 ghost use Rattle.terrain.specs.declared.place.Place.{Place as AtPlace};
 ghost use Rattle.tiles.specs.Cutting.{AreBounds, IsInBounds, IsWithin, bounds_of, cell_count, tile_count, is_in_bounds, index_in};

@@ -1,4 +1,6 @@
-//! Flow over the rims of all tiles.
+//! Flow over the rims of all tiles: [`RimLinks`].
+//!
+//! For callers of [`tile_flow`](crate::tile_flow), by `inflows` and `outlets`.
 ghost use Rattle.std.specs.Prelude.{◌≡◌, IfOk};
 ghost use Rattle.tiles.specs.Cutting.{IsWithin};
 ghost use Rattle.drainage.specs.Drained.{AllFlowEnds};

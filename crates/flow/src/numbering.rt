@@ -1,48 +1,49 @@
-//! The basins of a map of directions, tile by tile.
+//! Numbers of cells by the ends of their flow paths, tile by tile: [`number_cells`].
 ghost use Rattle.std.proofs.Props.{props};
-ghost use Rattle.std.specs.Prelude.{◌≡◌, ◌<◌, ℕ, length, slice_index_or, None, IfOk, IfSome};
+ghost use Rattle.std.specs.Prelude.{◌≡◌, ◌*◌, ◌<◌, ℕ, length, slice_index_or, None, IfOk, IfSome};
 ghost use Rattle.terrain.specs.Neighbours.{index_of};
-ghost use Rattle.tiles.specs.Cutting.{Cuts, IsWithin};
+ghost use Rattle.terrain.specs.StoredCells.{uncounted};
+ghost use Rattle.tiles.specs.Cutting.{IsWithin};
 ghost use Rattle.tile_jobs.specs.Fault.{RefusesWorkers};
-ghost use Rattle.drainage.specs.Drained.{directed_of};
-ghost use Rattle.flow.specs.Counts.{AreBasins};
+ghost use Rattle.flow.specs.Counts.{IsMapOf};
 ghost use Rattle.flow.specs.Streams.{AreEnds};
+ghost use Rattle.flow.specs.Whole.{IsGridFlow, make_directed};
 ghost use Rattle.flow.specs.TileLinks.{links_by};
 ghost use Rattle.flow.specs.RimGraph.{outlet_in};
-ghost use Rattle.flow.specs.Numbering.{AreReady, IsExitOfTile, number_at, label_by, labels_by, label_at, numbered_by};
+ghost use Rattle.flow.specs.Numbering.{AreReady, IsExitOfTile, end_number, number_at, label_by, labels_by, label_at, numbered_by};
 
 use crate::crossings::Crossings;
+use crate::end_numbers::EndNumbering;
 use crate::flowing::flow_tiles;
-use crate::outlet_numbers::OutletNumbers;
 use crate::outlets::Outlets;
 use crate::tile::TileFlow;
-use drainage::Directions;
+use drainage::Code;
 use std::alloc::{AllocError, Global};
 use std::sync::Wait;
 use std::thread::Threads;
 use terrain::{Count, NoMemory, Place};
 use tile_jobs::{Gate, JobFault};
-use tile_maps::{Crew, TileMap, joined};
+use tile_maps::{Crew, TileMap};
 use tiles::Tiling;
 
-/// The basins, of the exits of all tiles, their outlets and the outlets' numbers.
+/// The numbers of cells, by the exits of all tiles, their outlets and the outlets' numbers.
 #[derive(Drop)]
-struct Numbering<'a> {
+struct Numbering<'a, N: EndNumbering> {
     tiling: &'a Tiling,
     flows: Vec<TileFlow>,
     outlets: Outlets,
-    numbers: OutletNumbers<'a>,
-    ghost ready: { AreReady tiling.now flows.items outlets numbers } by { Prim.hlevel props },
+    numbers: N,
+    ghost ready: { AreReady tiling.now flows.items outlets (N.numbers numbers) } by { Prim.hlevel props },
 }
 
-impl<'a> TileMap for Numbering<'a> {
-    ghost use Rattle.flow.specs.Numbering.{IsBasinAt};
+impl<'a, N: EndNumbering> TileMap for Numbering<'a, N> {
+    ghost use Rattle.flow.specs.Numbering.{IsEndNumberAt};
 
     type Entry = Count;
 
     ghost cutting = { λ m. m.tiling.now };
 
-    ghost has = { λ m. IsBasinAt m.tiling.now m.flows.items m.outlets m.numbers };
+    ghost has = { λ m. IsEndNumberAt m.tiling.now m.flows.items m.outlets (N.numbers m.numbers) };
 
     fn tiling(&self) -> Tiling {
         *self.tiling
@@ -57,7 +58,7 @@ impl<'a> TileMap for Numbering<'a> {
     }
 }
 
-impl<'a> Numbering<'a> {
+impl<'a, N: EndNumbering> Numbering<'a, N> {
     /// The number of the outlet of each exit, at its own index.
     #[tactic(auto, using(crate::proofs::Windows::mapped_next))]
     fn exit_labels(
@@ -68,8 +69,8 @@ impl<'a> Numbering<'a> {
     ) -> Result<Vec<u32>, AllocError>
         requires ends { AreEnds (links_by flow.now.bounds flow.now.codes) ends.now }
         requires exits { (i : ℕ) → IfSome (slice_index_or flow.now.exits i None)
-            (IsExitOfTile self.now.outlets self.now.flows.items self.now.numbers flow.now.bounds) }
-        ensures { IfOk result (λ v. v.items ≡ labels_by self.now.outlets self.now.flows.items self.now.numbers flow.now) }
+            (IsExitOfTile self.now.outlets self.now.flows.items (N.numbers self.now.numbers) flow.now.bounds) }
+        ensures { IfOk result (λ v. v.items ≡ labels_by self.now.outlets self.now.flows.items (N.numbers self.now.numbers) flow.now) }
     {
         let mut labels = Vec::with_capacity(alloc, flow.cell_count())?;
         for index in 0..flow.cell_count() {
@@ -83,8 +84,8 @@ impl<'a> Numbering<'a> {
         requires ends { AreEnds (links_by flow.now.bounds flow.now.codes) ends.now }
         requires index { index < length flow.now.exits }
         requires exit { IfSome (slice_index_or flow.now.exits index None)
-            (IsExitOfTile self.now.outlets self.now.flows.items self.now.numbers flow.now.bounds) }
-        ensures { result ≡ label_by self.now.outlets self.now.flows.items self.now.numbers flow.now.bounds index
+            (IsExitOfTile self.now.outlets self.now.flows.items (N.numbers self.now.numbers) flow.now.bounds) }
+        ensures { result ≡ label_by self.now.outlets self.now.flows.items (N.numbers self.now.numbers) flow.now.bounds index
             (slice_index_or flow.now.exits index None) }
     {
         let Some(exit) = flow.exit_index(ends, index) else {
@@ -100,8 +101,8 @@ impl<'a> Numbering<'a> {
     fn number_of(&self, exit: Place) -> u32
         requires within { IsWithin self.now.outlets.cutting exit }
         requires numbered { IfSome (outlet_in self.now.outlets self.now.flows.items exit)
-            (λ o. index_of self.now.outlets.cutting.cols o < length self.now.numbers) }
-        ensures { result ≡ number_at self.now.outlets.cutting.cols self.now.numbers
+            (λ o. index_of self.now.outlets.cutting.cols o < (N.numbers self.now.numbers).cells) }
+        ensures { result ≡ number_at self.now.outlets.cutting.cols (N.numbers self.now.numbers)
             (outlet_in self.now.outlets self.now.flows.items exit) }
     {
         match self.outlets.outlet(&self.flows, exit) {
@@ -111,36 +112,28 @@ impl<'a> Numbering<'a> {
     }
 }
 
-/// The number of the outlet that ends each cell's flow path. The exits of each tile are found in a job
-/// of their own, the outlets are counted in as many jobs, each a run of the codes, and the cells of each
-/// tile are numbered in another.
-pub fn basins<R: Threads + Wait + Sync, G: Gate + Sync>(
-    rt: &R,
-    alloc: Global,
-    d: &Directions,
+/// Numbers each cell of a grid of codes by the end of its flow path.
+///
+/// The exits of each tile are found in one job of it, and its cells are numbered in another.
+pub(crate) fn number_cells<R: Threads + Wait + Sync, G: Gate + Sync, N: EndNumbering + Sync + Drop>(
+    crew: &Crew<'_, R, G>,
+    codes: &[Option<Code>],
     tiling: &Tiling,
-    workers: u32,
-    gate: &G,
+    numbers: N,
 ) -> Result<Vec<Count>, JobFault>
-    requires { Cuts tiling.now d.now.terrain }
-    ensures values { IfOk result (λ v. AreBasins (directed_of d.now) v.items) }
-    ensures workers { RefusesWorkers workers result }
+    requires grid { IsGridFlow tiling.now.cols tiling.now.rows codes.now }
+    requires size { (N.numbers numbers).cells ≡ tiling.now.cols * tiling.now.rows }
+    requires few { (i : ℕ) → i < (N.numbers numbers).cells → (N.numbers numbers).number i < uncounted }
+    ensures values { let d = make_directed tiling.now.cols tiling.now.rows codes.now in
+        IfOk result (λ v. IsMapOf d (end_number d (N.numbers numbers)) v.items) }
+    ensures workers { RefusesWorkers crew.now.workers result }
 {
-    let crew = Crew {
-        rt,
-        alloc,
-        workers,
-        gate,
-    };
-    let codes = d.codes();
-    let tiling = joined(tiling);
-    let flows = flow_tiles(&crew, codes, &tiling, false)?;
-    let crossings = Crossings::of(alloc, &tiling, &flows)?;
-    let outlets = Outlets::join(alloc, &tiling, &flows, &crossings)?;
+    let flows = flow_tiles(crew, codes, tiling, false)?;
+    let crossings = Crossings::of(crew.alloc, tiling, &flows)?;
+    let outlets = Outlets::join(crew.alloc, tiling, &flows, &crossings)?;
     drop(crossings);
-    let numbers = OutletNumbers::of_codes(&crew, codes, tiling.tiles())?;
     crew.made(Numbering {
-        tiling: &tiling,
+        tiling,
         flows,
         outlets,
         numbers,

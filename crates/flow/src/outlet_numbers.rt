@@ -1,10 +1,14 @@
-//! The numbers of outlets in the row order of the grid.
+//! The numbers of outlets, from 1 in row order.
+//!
+//! An outlet's number is one more than the outlets before it: those of earlier runs, and those in
+//! its own.
 ghost use Rattle.std.specs.Prelude.{◌≡◌, ℕ, ◌+◌, ◌-◌, ◌^◌, ◌<◌, ◌≤◌, length, take, count_by, IfOk};
 ghost use Rattle.std.specs.List.{sum_by};
 ghost use Rattle.tile_jobs.specs.Fault.{RefusesWorkers};
 ghost use Rattle.flow.specs.Whole.{is_outlet_code};
 ghost use Rattle.flow.specs.OutletRuns.{AreSumsBefore};
 
+use crate::end_numbers::EndNumbering;
 use crate::outlet_runs::{CountRuns, RunCounts, Runs};
 use drainage::Code;
 use std::alloc::{AllocError, Global};
@@ -55,12 +59,15 @@ impl<'a> OutletNumbers<'a> {
             before,
         })
     }
+}
+
+impl<'a> EndNumbering for OutletNumbers<'a> {
+    ghost use Rattle.flow.specs.Numbering.{outlet_numbers};
+
+    ghost numbers = { λ n. outlet_numbers n };
 
     /// One more than the outlets that stand before an index.
-    pub(crate) fn number(&self, index: usize) -> u32
-        requires { index < length self.now }
-        ensures { result ≡ 1 + count_by is_outlet_code (take index self.now) }
-    {
+    fn number(&self, index: usize) -> u32 {
         let run = index / self.runs.length();
         let inside = index - run * self.runs.length();
         let counted = self.counts[run].count_before(self.runs.codes(run as u32), inside);

@@ -1,4 +1,4 @@
-//! The outlets of a list of codes, counted run by run.
+//! The outlets of a list of codes, counted by runs and by blocks of 16.
 ghost use Rattle.std.specs.Prelude.{◌≡◌, ◌-◌, ◌*◌, ◌^◌, ◌<◌, ◌≤◌, length, take, count_by, IfOk, if◌then◌else◌};
 ghost use Rattle.flow.specs.Whole.{is_outlet_code};
 ghost use Rattle.flow.specs.OutletRuns.{AreCodeRuns, IsRunCounted, run_share, run_start, run_codes};

@@ -1,4 +1,4 @@
-//! Where the water of the exits of all tiles ends.
+//! The outlet to which the water of each exit flows.
 ghost use Rattle.std.specs.Prelude.{◌≡◌, ◌<◌, ℕ, length, slice_index, IfOk};
 ghost use Rattle.tiles.specs.Cutting.{IsWithin, tile_count};
 ghost use Rattle.drainage.specs.Following.{Directed};

@@ -1,4 +1,4 @@
-//! Where the paths of the cells on the rim of a tile end.
+//! Where the paths of a tile's rim cells end inside it.
 ghost use Rattle.std.specs.Prelude.{◌≡◌, ◌*◌, ◌^◌, ◌≤◌, length, IfOk};
 ghost use Rattle.tiles.specs.Cutting.{IsInBounds, index_in};
 ghost use Rattle.flow.specs.Streams.{AreStreams, end_of};

@@ -1,4 +1,6 @@
-//! Weights that are sent along links. A node that is linked to itself is an end.
+//! Totals along links: each node adds its weight to every node downstream.
+//!
+//! A node that is linked to itself is an end.
 ghost use Rattle.std.specs.Prelude.{◌≡◌, ◌≢◌, ◌+◌, ◌^◌, ◌<◌, ◌≤◌, ℕ, length, slice_index, IfOk};
 ghost use Rattle.flow.specs.Streams.{AreStreams, AreUpstream, total};
 ghost use Rattle.flow.specs.Sending.{IsSending, AreDonorCounts, AreNone};

@@ -1,4 +1,6 @@
-//! Flow inside one tile.
+//! The flow inside one tile: [`tile_flow`].
+//!
+//! Each cell's link to the cell downstream, the cells upstream of it, and the exits of the rim.
 ghost use Rattle.std.specs.Prelude.{◌≡◌, ◌<◌, length, slice_index_or, IfOk, IfSome, None};
 ghost use Rattle.std.specs.Option.{option_map};
 ghost use Rattle.terrain.specs.StoredCells.{uncounted};

@@ -1,4 +1,6 @@
-//! Horizons as pieces of ramps.
+//! A horizon as pieces of ramps: [`Horizon`].
+//!
+//! A [`Cursor`] looks up indexes that rise.
 ghost use Rattle.std.specs.Prelude.{◌≡◌, ℕ, ◌+◌, ◌<◌, ◌≤◌, List, [], length, Some, OnOk, OnErr, slice_get};
 ghost use Rattle.horizons.specs.declared.horizon.Piece.{Piece};
 ghost use Rattle.horizons.specs.declared.ramp.Ramp.{Ramp};

@@ -1,8 +1,15 @@
-//! Horizons: how high the ground stands before each of many targets, as an observer sees it.
+//! Horizons: how high the ground is before each of many targets.
 //!
-//! The targets are sorted by the slopes of the rays to them, and a horizon is a function of a target's
-//! index, kept as pieces of straight lines of the slope. The greater of two of these is found in whole
-//! numbers, at the slopes of targets alone.
+//! The targets are sorted by the slopes of the rays to them. A horizon is a function of a target's
+//! index, kept as pieces of straight lines over the slope ([`Horizon`]). [`push_greater`] takes the
+//! greater of two lines in whole numbers, at the slopes of targets alone. Depends on nothing.
+//!
+//! Modules, from what is called to what it depends on:
+//!
+//! - `merging`: the greater of two lines
+//! - `horizon`: pieces of ramps
+//! - `ramp`: a straight line over slopes
+//! - `target`: a cell by line and offset
 #![tactic(auto)]
 
 mod horizon;

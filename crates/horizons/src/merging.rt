@@ -1,4 +1,6 @@
-//! The greater of two ramps, and where neither is above the other.
+//! The greater of two ramps over a run of targets: [`push_greater`].
+//!
+//! Two ramps cross once at most, and halving finds where.
 ghost use Rattle.std.specs.Prelude.{◌≡◌, ◌+◌, ◌<◌, ◌≤◌, not, Bool, false, length, Some, OnOk, slice_get};
 ghost use Rattle.std.specs.Bool.{OnTrue};
 ghost use Rattle.horizons.specs.declared.target.Target.{Target};

@@ -1,4 +1,4 @@
-//! Straight lines over slopes.
+//! A ramp: a straight line over the slopes of rays.
 ghost use Rattle.std.specs.Prelude.{◌≡◌, ℤ, ◌^◌, ◌≤◌, false, unsigned_abs};
 ghost use Rattle.horizons.specs.declared.target.Target.{Target};
 ghost use Rattle.horizons.specs.Horizons.{IsTarget, IsRampAt, value_at, hides_by, is_above};

@@ -1,4 +1,4 @@
-//! Directions of single cells by what stands around them, and refused numbers of workers.
+//! Directions of single cells, and refused numbers of workers.
 ghost use Rattle.drain.specs.Fitting.{IsFitting};
 
 use crate::ground::{cut, land};

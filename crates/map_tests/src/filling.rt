@@ -1,4 +1,4 @@
-//! Floods of tiles, the graph that joins them, and want of memory.
+//! Floods of tiles, the spill graph that joins them, and want of memory.
 ghost use Rattle.std.specs.Prelude.{IfOk};
 ghost use Rattle.terrain.specs.Raster.{Terrain};
 ghost use Rattle.fill.specs.Spills.{AreFloods};

@@ -1,4 +1,4 @@
-//! Filled heights of grids that look random, beside another way to find them.
+//! Filled heights of rough ground, against plain lowering cell by cell.
 use crate::ground::heights_of;
 use ascii_grid::read_text;
 use fill::filled_heights;

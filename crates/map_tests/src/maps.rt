@@ -1,4 +1,4 @@
-//! The maps of the ways of water, by their rows.
+//! Compares all maps of a terrain with what is wanted, by tiles and workers.
 use crate::ground::{cut, expect_cells, expect_heights, land};
 use crate::stages::{directed, leveled};
 use drain::Code;
@@ -55,7 +55,8 @@ fn numbers(alloc: Global, codes: &[Option<Code>]) -> Result<Vec<Option<u32>>, No
     Ok(numbers)
 }
 
-fn told(alloc: Global, counts: &[Count]) -> Result<Vec<Option<u32>>, AllocError> {
+/// The values of counts.
+pub(crate) fn told(alloc: Global, counts: &[Count]) -> Result<Vec<Option<u32>>, AllocError> {
     counts.iter().map(|count| count.value()).collect(alloc)
 }
 

@@ -1,4 +1,6 @@
-//! Floods of nodes 0 to 3: 0 and 1 are joined at 5, 1 and 2 at 3, 0 and 2 at 7, and 3 stands alone.
+//! Floods of four nodes.
+//!
+//! 0 and 1 are joined at 5, 1 and 2 at 3, 0 and 2 at 7; 3 is alone.
 ghost use Rattle.std.specs.Prelude.{◌≡◌, ◌∷◌, []};
 
 use fill::{Flooded, Net, Spill, flood};

@@ -1,4 +1,4 @@
-//! Calls that take memory, on a small grid of pits. One that is refused is made once more, with memory.
+//! Calls that take memory, refused it and made again, on a grid of pits.
 ghost use Rattle.std.specs.Prelude.{◌≡◌, ◌<◌, ◌*◌, length};
 ghost use Rattle.fill.specs.Spills.{AreFloods};
 

@@ -1,4 +1,4 @@
-//! Calls that are made once more where they were refused memory.
+//! Makes a call again where it was refused memory.
 
 /// What a call answers, or where it was refused memory what it answers the second time.
 macro_rules! again {

@@ -1,5 +1,6 @@
-//! Filled heights, codes, accumulations and basins of small terrains. Those that no worked example has
-//! are those of a separate program that follows the definitions.
+//! Filled heights, codes, accumulations and basins of small terrains.
+//!
+//! Those that no worked example has are those of a separate program that follows the definitions.
 use crate::ground::land;
 use crate::maps::Maps;
 

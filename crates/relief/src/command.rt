@@ -1,4 +1,4 @@
-//! The program, from its words to its status.
+//! The program, from its words to its status: [`run_words`].
 ghost use Rattle.std.specs.Prelude.{◌≡◌, ◌≤◌, ◌<◌, ◌-◌, ◌^◌, ◌⊎◌, ℕ, List, map};
 ghost use Rattle.ascii_grid.specs.Device.{Writes};
 ghost use Rattle.clap.specs.Words.{kind_of};

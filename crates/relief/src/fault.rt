@@ -1,4 +1,4 @@
-//! Why a run was refused.
+//! The faults of a run, with their numbers, names and statuses.
 ghost use Rattle.std.specs.Prelude.{◌≡◌, ◌≤◌, length, option_map};
 ghost use Rattle.relief.specs.FaultLine.{telling, grid_telling, tiling_telling, jobs_telling, sight_telling, sinks_telling, fault_status, status_of, plain, detailed, slot_text, detail_text};
 ghost use Rattle.relief.specs.declared.fault.RunFault.TheVariants.{Tiling, Jobs, Write};

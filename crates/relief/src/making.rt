@@ -1,4 +1,4 @@
-//! A map of a grid.
+//! Cuts a grid, names its sinks (`prepare`), and makes one map of it (`make_map`).
 ghost use Rattle.std.specs.Prelude.{◌≡◌, ◌<◌, ◌≤◌, ◌*◌, None, IfOk, IfErr, OnOk, option_map};
 ghost use Rattle.tiles.specs.Cutting.{Cuts, longest_side, most_tiles};
 ghost use Rattle.tile_jobs.specs.Fault.{RefusesWorkers};

@@ -1,4 +1,7 @@
-//! The whole way from bytes to bytes.
+//! The whole way from bytes to bytes: [`run`], and [`run_gated`] with a gate.
+//!
+//! Reads, cuts, makes the map, writes: in this order, so nothing is written before the map is
+//! whole.
 ghost use Rattle.std.specs.Prelude.{◌<◌, ◌-◌, ◌^◌};
 ghost use Rattle.ascii_grid.specs.Device.{Writes};
 ghost use Rattle.relief.specs.MadeMap.{made_text, FitsGrid};

@@ -1,4 +1,4 @@
-//! A fault as a line.
+//! Writes a fault as its line: [`tell`].
 ghost use Rattle.std.specs.Prelude.{◌≡◌, ◌<◌, ◌≤◌, ◌+◌, ◌-◌, ◌^◌, ◌++◌, [], length, codes, decimal, option_map};
 ghost use Rattle.std.specs.Option.{option_map_or};
 ghost use Rattle.ascii_grid.specs.Device.{Writes};

@@ -1,4 +1,4 @@
-//! The program `relief`: the words, standard input, standard output and standard error of a process.
+//! The program `relief`: passes the process's words and streams to `run_words`.
 #![tactic(auto)]
 
 use ascii_grid::Counted;

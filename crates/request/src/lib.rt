@@ -1,4 +1,17 @@
-//! What a user asks for: a map and its options, and the words of the command line that spell them.
+//! What a user asks for: a map with its options, by the command line.
+//!
+//! [`parse`] reads the command line into [`Options`]; `clap` reads its words. Depends on `terrain`
+//! and `decimals` alone.
+//!
+//! Modules, from what is called to what it depends on:
+//!
+//! - `words`: the command line
+//! - `program`: subcommands and options
+//! - `help`: the texts of help
+//! - `options`: a map with its limits
+//! - `map`: the five maps
+//! - `place_words`: observer and sink words
+//! - `laws`: facts of the definitions
 #![tactic(auto)]
 
 mod help;

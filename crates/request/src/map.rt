@@ -1,3 +1,4 @@
+//! The five maps.
 use terrain::Observer;
 
 /// Which map is asked for.

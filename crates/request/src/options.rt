@@ -1,4 +1,4 @@
-//! What the caller asks for.
+//! A map and its options, each within its limits: [`Options`].
 ghost use Rattle.std.specs.Prelude.{◌≡◌, [], IfSome, IfNone, IfOk, IfErr};
 ghost use Rattle.request.specs.Wish.{AreLimits, IsView};
 

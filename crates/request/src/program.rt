@@ -1,4 +1,4 @@
-//! The subcommands and options of the program.
+//! The subcommands and options of the program, as a command of `clap`.
 ghost use Rattle.std.specs.Prelude.{◌≡◌, IfOk};
 ghost use Rattle.clap.specs.Words.{app_of, with_subcommand};
 ghost use Rattle.request.specs.CommandLine.{drainage_shape, map_shape, number_rule, observers_rule, program_app, radius_rule, scale_rule, sinks_rule, target_rule, tile_rule, view_shape, workers_rule};

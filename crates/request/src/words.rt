@@ -1,4 +1,4 @@
-//! The words of the command line.
+//! Reads the command line: [`parse`].
 ghost use Rattle.std.specs.Prelude.{◌≡◌, ℕ, [], map, codes, IfOk, IfErr, IfSome, IfNone};
 ghost use Rattle.clap.specs.Words.{found_of, rows_of};
 ghost use Rattle.request.specs.CommandLine.{HasNumber, HasOptions, IsFirstBad, Names, Spell, WishFor, sink_words, words_given};

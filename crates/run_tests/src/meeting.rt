@@ -25,8 +25,8 @@ const PITS: &[u8] =
 const VALLEY: &[u8] =
     b"ncols 6\nnrows 3\nxllcorner 0\nyllcorner 0\ncellsize 1\n9 9 9 9 9 9\n9 1 5 4 1 6\n9 9 9 9 9 9\n";
 
-/// Two corridors through two tiles of side 5, each with its way out in another one: into each tile comes a count
-/// of the other.
+/// Two corridors through two tiles of side 5, each with its outlet in another one: each tile gets a count from the
+/// other.
 const CORRIDORS: &[u8] = b"ncols 10\nnrows 5\nxllcorner 0\nyllcorner 0\ncellsize 1
 9 9 9 9 9 9 1 9 9 9
 9 9 9 1 1 1 1 9 9 9
@@ -79,7 +79,15 @@ impl Meeting {
         }
     }
 
-    /// At so many stages each tile entered once, and the first two were in work at once.
+    /// Asserts that the first two jobs entered so often at least, and were in work at once each time.
+    fn expect_met(&self, rt: &impl Abort, least: u64, map: &str) {
+        for entered in &self.entered {
+            assert!(rt; least <= entered.load(Ordering::SeqCst), "{map}");
+        }
+        assert_eq!(rt; self.missed.load(Ordering::SeqCst), 0, "{map}");
+    }
+
+    /// Asserts that at so many stages each tile's job entered once, and the first two were in work at once.
     fn expect(&self, rt: &impl Abort, stages: u64, tiles: u64, map: &str) {
         let first = self.entered[0].load(Ordering::SeqCst);
         let second = self.entered[1].load(Ordering::SeqCst);
@@ -108,6 +116,9 @@ fn cut(rt: &impl Abort, alloc: Global, text: &[u8], side: u32) -> (Grid, Tiling)
     (grid, tiling)
 }
 
+/// Each stage has one job for each tile. `viewshed` has one stage for the greatest heights of blocks and one for the
+/// values; `filled` floods tiles, finds the sources among their labels and joins their labels; `accumulation` finds
+/// the flow of each tile and counts its cells; `basins` counts the outlets between these two.
 #[test]
 fn tiles_meet_at_each_stage(rt: HostRuntime) {
     let alloc = rt.alloc();
@@ -115,7 +126,7 @@ fn tiles_meet_at_each_stage(rt: HostRuntime) {
     let gate = Meeting::new();
     let seen = viewshed(&rt, alloc, &pit, &[CORNER], 0, 9, &tiling, 2, &gate);
     assert!(rt; seen.is_ok());
-    gate.expect(&rt, 1, 4, "viewshed");
+    gate.expect(&rt, 2, 4, "viewshed");
     let gate = Meeting::new();
     let level = filled(&rt, alloc, pit, &tiling, 2, &gate).expect(&rt, "levels");
     gate.expect(&rt, 3, 4, "filled");
@@ -139,7 +150,8 @@ fn tiles_with_inner_cells_meet(rt: HostRuntime) {
     gate.expect(&rt, 3, 2, "filled");
 }
 
-/// After the first round, a round has a job for each tile into which a count comes; then come codes.
+/// The first round counts within each tile. In the second each corridor's counts go on in the other tile, and end
+/// there. The third changes nothing, and then each tile gets its codes.
 #[test]
 fn tiles_meet_in_each_round(rt: HostRuntime) {
     let alloc = rt.alloc();
@@ -147,21 +159,18 @@ fn tiles_meet_in_each_round(rt: HostRuntime) {
     let level = filled(&rt, alloc, corridors, &tiling, 1, &NoGate).expect(&rt, "levels");
     let gate = Meeting::new();
     assert!(rt; directions(&rt, alloc, &level, &tiling, 2, &gate).is_ok());
-    gate.expect(&rt, 3, 2, "directions");
+    gate.expect(&rt, 4, 2, "directions");
 }
 
-/// The steps of the pit come into the first of four tiles alone, once.
+/// A round has a job for each of four tiles, though a count comes into the first alone.
 #[test]
-fn one_job_for_one_tile(rt: HostRuntime) {
+fn idle_tiles_have_a_job_in_each_round(rt: HostRuntime) {
     let alloc = rt.alloc();
     let (pit, tiling) = cut(&rt, alloc, PITS, 2);
     let level = filled(&rt, alloc, pit, &tiling, 1, &NoGate).expect(&rt, "levels");
-    let gate = Meeting {
-        looks: 0,
-        ..Meeting::new()
-    };
+    let gate = Meeting::new();
     assert!(rt; directions(&rt, alloc, &level, &tiling, 2, &gate).is_ok());
-    assert_eq!(rt; gate.all.load(Ordering::SeqCst), 9);
+    gate.expect(&rt, 4, 4, "directions");
 }
 
 /// Each of three tiles has one job at each of three stages, also where one worker does them in turn.
@@ -184,30 +193,74 @@ fn three_stages_of_three_jobs(rt: HostRuntime) {
     assert_eq!(rt; gate.all.load(Ordering::SeqCst), 9);
 }
 
-/// What a run over the corridors in tiles of side 5 by two workers writes.
-fn met_rows<R: Abort + Threads + Wait + Sync>(
+/// The map that two workers write of a text in tiles of this side, whose jobs enter at a gate.
+fn gated_map<R: Abort + Threads + Wait + Sync>(
     rt: &R,
     alloc: Global,
+    text: &[u8],
+    side: u32,
     map: Map,
-    stages: u64,
-    name: &str,
+    gate: &Meeting,
 ) -> Vec<u8> {
-    let options = Options::new(map, 5, 2, 0).expect(rt, "options");
-    let gate = Meeting::new();
+    let options = Options::new(map, side, 2, 0).expect(rt, "options");
     let mut out = Vec::new(alloc);
-    let mut reader = Counted::new(CORRIDORS);
+    let mut reader = Counted::new(text);
     let mut writer = Counted::new(&mut out);
-    let result = run_gated(rt, alloc, &options, &mut reader, &mut writer, &gate);
+    let result = run_gated(rt, alloc, &options, &mut reader, &mut writer, gate);
     drop(writer);
-    assert_eq!(rt; result, Ok(()), "{name}");
-    gate.expect(rt, stages, 2, name);
+    assert_eq!(rt; result, Ok(()));
     out
 }
 
-/// The stages of a run are those of all its calls.
+/// Asserts that a written map has these columns and rows, and these lines of values.
+fn expect_map(rt: &impl Abort, alloc: Global, map: &[u8], cols: u32, rows: u32, lines: &str) {
+    let wanted = format!(in alloc;
+        "ncols         {cols}\nnrows         {rows}\nxllcorner     0\nyllcorner     0\ncellsize      1\nNODATA_value  -9999{lines}"
+    );
+    let wanted = wanted.expect(rt, "a text");
+    assert_eq!(rt; map, wanted.as_bytes());
+}
+
+/// At each stage of each map the first two of four tiles are in work at once. A map has so many stages at least.
 #[test]
 fn tiles_meet(rt: HostRuntime) {
-    let mut observers = Vec::new(rt.alloc());
+    let alloc = rt.alloc();
+    let mut observers = Vec::new(alloc);
+    let corner = Observer {
+        row: 3,
+        col: 3,
+        eye: 0,
+    };
+    observers.push(corner).expect(&rt, "an observer");
+    let view = Map::View {
+        observers,
+        target: 0,
+        radius: 8192,
+    };
+    for (map, least, lines) in [
+        (Map::Fill, 2, "\n9 9 9 9\n9 3 9 9\n9 9 3 9\n9 9 9 3\n"),
+        (Map::Flow, 3, "\n2 4 8 0\n1 2 4 8\n128 1 2 4\n0 128 1 0\n"),
+        (
+            Map::Accumulate,
+            4,
+            "\n0 0 0 0\n0 5 0 0\n0 0 10 0\n0 0 0 13\n",
+        ),
+        (Map::Basins, 4, "\n3 3 3 1\n3 3 3 3\n3 3 3 3\n2 3 3 3\n"),
+        (view, 1, "\n1 1 0 0\n1 1 1 0\n0 1 1 1\n0 0 1 1\n"),
+    ] {
+        let gate = Meeting::new();
+        let out = gated_map(&rt, alloc, PITS, 2, map, &gate);
+        gate.expect_met(&rt, least, lines);
+        expect_map(&rt, alloc, &out, 4, 4, lines);
+    }
+}
+
+/// The stages of a run are those of all its calls: three of `filled`, four of `directions`, two of
+/// `accumulation`, three of `basins`, two of `viewshed`.
+#[test]
+fn tiles_meet_over_corridors(rt: HostRuntime) {
+    let alloc = rt.alloc();
+    let mut observers = Vec::new(alloc);
     for at in [0, 0, 3] {
         let observer = Observer {
             row: at,
@@ -235,7 +288,7 @@ fn tiles_meet(rt: HostRuntime) {
         ),
         (
             Map::Flow,
-            6,
+            7,
             "
 0 0 2 4 4 1 0 16 0 0
 0 1 1 1 1 128 64 16 1 0
@@ -246,7 +299,7 @@ fn tiles_meet(rt: HostRuntime) {
         ),
         (
             Map::Accumulate,
-            8,
+            9,
             "
 0 0 0 0 0 0 12 0 0 0
 0 0 1 4 6 7 1 0 0 1
@@ -257,7 +310,7 @@ fn tiles_meet(rt: HostRuntime) {
         ),
         (
             Map::Basins,
-            9,
+            10,
             "
 1 2 3 3 3 3 3 3 4 5
 6 3 3 3 3 3 3 3 7 7
@@ -268,7 +321,7 @@ fn tiles_meet(rt: HostRuntime) {
         ),
         (
             view,
-            1,
+            2,
             "
 2 2 2 0 0 0 0 0 0 0
 2 2 0 1 0 0 0 0 0 0
@@ -278,11 +331,9 @@ fn tiles_meet(rt: HostRuntime) {
 ",
         ),
     ] {
-        let out = met_rows(&rt, rt.alloc(), map, stages, rows);
-        let wanted = format!(in rt.alloc();
-            "ncols         10\nnrows         5\nxllcorner     0\nyllcorner     0\ncellsize      1\nNODATA_value  -9999{rows}"
-        );
-        let wanted = wanted.expect(&rt, "a text");
-        assert_eq!(rt; out.as_slice(), wanted.as_bytes());
+        let gate = Meeting::new();
+        let out = gated_map(&rt, alloc, CORRIDORS, 5, map, &gate);
+        gate.expect(&rt, stages, 2, rows);
+        expect_map(&rt, alloc, &out, 10, 5, rows);
     }
 }

@@ -1,4 +1,4 @@
-//! What stands at each place of some bounds, as a list in row order.
+//! Lists of what is at each place of some bounds, in row order.
 ghost use Rattle.std.specs.Prelude.{◌+◌, ◌-◌, ◌*◌, ◌<◌, ◌≤◌, IfOk, OnOk};
 ghost use Rattle.terrain.specs.declared.place.Place.{Place};
 ghost use Rattle.tiles.specs.Cutting.{IsInBounds};

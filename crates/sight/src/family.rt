@@ -1,4 +1,6 @@
-//! The lines of a family of crossings, and the ground that rays meet there.
+//! A family of crossings: the lines on one side of an observer.
+//!
+//! `Family::span` returns the ground that a ray meets on a line.
 ghost use Rattle.std.specs.Prelude.{◌≡◌, ◌↔◌, ℕ, ◌^◌, ◌≤◌, IsTrue, true, pos, ◌+ℤ◌, ◌-ℤ◌, ◌*ℤ◌, ◌≤ℤ◌, ◌<ℤ◌, ◌<◌, ℤ, None, Some, MatchOption, unsigned_abs};
 ghost use Rattle.std.specs.Bool.{OnTrue};
 ghost use Rattle.horizons.specs.declared.target.Target.{Target};

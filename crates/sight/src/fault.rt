@@ -1,4 +1,4 @@
-//! Why nothing is seen.
+//! The faults of a viewshed, numbers 41 to 45, and those of its jobs.
 use tile_jobs::JobFault;
 
 /// Why a viewshed is refused.

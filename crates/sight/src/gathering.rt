@@ -1,4 +1,4 @@
-//! Rays to the marked cells of a window, in the order of their lines.
+//! Rays to the marked cells of a window, line by line.
 ghost use Rattle.std.specs.Prelude.{◌≡◌, ℕ, ◌+◌, ◌-◌, ◌*◌, ◌^◌, ◌<◌, ◌≤◌, length, IfOk, OnOk};
 ghost use Rattle.sight.specs.Sweep.{IsFamily, IsLine};
 ghost use Rattle.sight.specs.Hiding.{target_at, AreRays, Crosses, IsWindow};

@@ -1,4 +1,4 @@
-//! Which marked cells of a window a family hides.
+//! Which marked cells the crossings of one family hide, line by line (`hide`).
 ghost use Rattle.std.specs.Prelude.{◌≡◌, ℕ, ◌≤◌, false, OnOk, slice_set};
 ghost use Rattle.sightlines.specs.Walk.{AreHeights};
 ghost use Rattle.sight.specs.Sweep.{IsFamily, StandsAt, lead_of};

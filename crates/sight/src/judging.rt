@@ -1,4 +1,4 @@
-//! Which fault of a list of observers is told.
+//! The first fault of observers, target height and radius.
 ghost use Rattle.std.specs.Prelude.{◌≡◌, ◌<◌, ◌≤◌, length, IfSome};
 ghost use Rattle.std.specs.List.{position_from};
 ghost use Rattle.sight.specs.Viewshed.{most_observers};

@@ -1,4 +1,6 @@
-//! How the ground of a line raises what stands before many targets.
+//! Raises a horizon to the ground of one line (`raise`).
+//!
+//! A piece of the horizon that is nowhere below the line stays, and no target there is looked at.
 ghost use Rattle.std.specs.Prelude.{◌≡◌, ℕ, ◌+◌, ◌^◌, ◌<◌, ◌≤◌, IsTrue, true, ◌↔◌, pos, ◌-ℤ◌, ◌≤ℤ◌, length, Some, OnOk, slice_get, unsigned_abs};
 ghost use Rattle.std.specs.Bool.{OnTrue};
 ghost use Rattle.horizons.specs.declared.target.Target.{Target};

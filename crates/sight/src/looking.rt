@@ -1,4 +1,4 @@
-//! Looks from line to line at what stands before the targets.
+//! Looks up what hides the targets of a line, as the sweep goes outward.
 ghost use Rattle.std.specs.Prelude.{◌≡◌, ◌<◌, ◌≤◌, ℤ, List, Option, Some, IfOk, OnOk};
 ghost use Rattle.horizons.specs.declared.horizon.Piece.{Piece};
 ghost use Rattle.horizons.specs.declared.ramp.Ramp.{Ramp};

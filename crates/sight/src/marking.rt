@@ -1,4 +1,7 @@
-//! Which cells of a tile an observer sees.
+//! Marks the cells of a tile that one observer sees (`look`).
+//!
+//! By walks or by a sweep. A sample of cells decides: a sweep costs the same on all ground, walks
+//! are long on open ground.
 ghost use Rattle.std.specs.Prelude.{◌≡◌, ◌+◌, ◌-◌, ◌*◌, ◌<◌, ◌≤◌, length, OnOk};
 ghost use Rattle.terrain.specs.Neighbours.{IsInside};
 ghost use Rattle.tiles.specs.Cutting.{AreBounds, IsCutting};

@@ -1,4 +1,4 @@
-//! Rays in the order of their slopes.
+//! Rays sorted by their slopes, in whole numbers.
 ghost use Rattle.std.specs.Prelude.{◌≡◌, ℕ, ◌^◌, ◌≤◌, length, Some, IfOk, slice_get};
 ghost use Rattle.horizons.specs.declared.target.Target.{Target};
 ghost use Rattle.horizons.specs.Horizons.{IsTarget};

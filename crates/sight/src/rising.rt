@@ -1,4 +1,4 @@
-//! How much targets rise above the eye.
+//! How far a target rises above the eye.
 ghost use Rattle.std.specs.Prelude.{◌≡◌, ℕ, ◌≤◌, ℤ, Some};
 ghost use Rattle.horizons.specs.Horizons.{IsTarget};
 ghost use Rattle.horizons.specs.declared.target.Target.{Target};

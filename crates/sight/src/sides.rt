@@ -1,4 +1,6 @@
-//! What the ground hides of a tile, on all sides of an observer.
+//! The sweep over a tile: removes the marks of cells that a crossing hides.
+//!
+//! One family of crossings after another, on all four sides of the observer.
 ghost use Rattle.std.specs.Prelude.{◌≡◌, ℕ, ◌+◌, ◌*◌, ◌<◌, ◌≤◌, true, length, OnOk};
 ghost use Rattle.terrain.specs.Neighbours.{IsInside};
 ghost use Rattle.terrain.specs.declared.place.Place.{Place};

@@ -1,4 +1,4 @@
-//! A horizon that rises line by line, as an observer looks outward.
+//! The horizon before all targets, raised line by line.
 ghost use Rattle.std.specs.Prelude.{◌+◌, ◌≤◌, ℤ, List, Option, IfOk, OnOk};
 ghost use Rattle.horizons.specs.Horizons.{AreTargets};
 ghost use Rattle.sightlines.specs.Walk.{AreHeights};

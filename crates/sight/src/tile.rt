@@ -1,4 +1,4 @@
-//! The viewshed of one tile, observer by observer.
+//! The values of one tile, observer by observer.
 ghost use Rattle.std.specs.Prelude.{◌≡◌, ℕ, ◌+◌, ◌-◌, ◌*◌, ◌<◌, [], length, None, IfSome, OnOk, option_map, slice_index_or, false};
 ghost use Rattle.std.specs.Bool.{OnFalse};
 ghost use Rattle.terrain.specs.Neighbours.{IsInside};

@@ -1,4 +1,6 @@
-//! One line of sight.
+//! Whether an observer sees a place: [`sees`], [`sees_past_blocks`].
+//!
+//! The second keeps what hid the last target in [`Walked`], and tests that first.
 ghost use Rattle.std.specs.Prelude.{◌≡◌, ◌<◌, ◌≤◌, pos, ◌+ℤ◌, true, false, not, ◌&&◌, MatchOption};
 ghost use Rattle.terrain.specs.Raster.{IsHeight};
 ghost use Rattle.terrain.specs.Neighbours.{IsInside};

@@ -1,4 +1,4 @@
-//! A walk along a line of sight that passes over blocks of cells below it.
+//! A walk along a line of sight that skips blocks of cells below it.
 ghost use Rattle.std.specs.Prelude.{◌≡◌, ℕ, ◌+◌, ◌-◌, ◌*◌, ◌/◌, ◌<◌, ◌≤◌, length, slice_index_or, None, IfSome, is_some, max, pos, ◌*ℤ◌, ◌≤ℤ◌};
 ghost use Rattle.std.specs.Bool.{OnTrue};
 ghost use Rattle.sightlines.specs.Pace.{IsPace, IsLeap};

@@ -1,4 +1,4 @@
-//! What lies within a radius.
+//! Whether a place is within a radius, in cells.
 ghost use Rattle.std.specs.Prelude.{◌≡◌, ◌<◌, ◌≤◌};
 ghost use Rattle.sightlines.specs.Sight.{longest_radius, is_near};
 

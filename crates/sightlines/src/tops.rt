@@ -1,4 +1,4 @@
-//! The greatest heights of blocks of cells.
+//! The greatest heights of blocks of 16 and of 128 cells: [`Tops`].
 ghost use Rattle.std.specs.Prelude.{◌≡◌, ◌<◌, ◌≤◌};
 ghost use Rattle.sightlines.specs.Blocks.{blocks_in};
 

@@ -1,4 +1,4 @@
-//! A walk along a line of sight, from crossing to crossing.
+//! A walk along a line of sight, from crossing to crossing, by additions.
 ghost use Rattle.std.specs.Prelude.{◌≡◌, ◌^◌, ◌+◌, ◌-◌, ◌*◌, ◌<◌, ◌≤◌, ℤ, pos, unsigned_abs, ◌*ℤ◌, length, slice_index_or, None, IfSome, is_some};
 ghost use Rattle.std.specs.Int.{abs_diff};
 ghost use Rattle.terrain.specs.Raster.{IsHeight};

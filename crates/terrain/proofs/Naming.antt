@@ -1,12 +1,12 @@
--- Named sinks lie in the grid.
-use Rattle.std.proofs.Common.{◌≡◌, ◌+◌, ℕ, zero, suc, not, ◌&&◌, List, [], ◌∷◌, length, Option, None, Some, fold, refl, sym, ap, subst, ◌∙◌, inl, inr, arith, is_none}
+-- Named places without a fault lie in the grid and have data.
+use Rattle.std.proofs.Common.{◌≡◌, ◌+◌, ℕ, ℤ, zero, suc, true, false, not, ◌&&◌, List, [], ◌∷◌, length, Option, None, Some, fold, refl, sym, ap, subst, ◌∙◌, inl, inr, arith, is_none, is_some}
 use Rattle.std.specs.Prelude.{nat_lt, if◌then◌else◌}
 use Rattle.std.specs.List.{All, list_any}
 use Rattle.std.specs.Option.{option_or}
 use Rattle.std.proofs.lemmas.Bool.{and_parts, cases_Bool, cond-true, cond-false, ltb-true}
 use Rattle.std.proofs.lemmas.List.Elements.{All-append}
 use Rattle.terrain.specs.Raster.{Terrain, Raster, IsLawful}
-use Rattle.terrain.specs.Neighbours.{IsInside, height_at}
+use Rattle.terrain.specs.Neighbours.{IsInside, IsDataCell, height_at}
 use Rattle.terrain.specs.Sinks.{is_place, named_once, each_once, sink_fault_of, first_sink_fault, sinks_fault, most_sinks, raster_with_sinks}
 use Rattle.terrain.specs.declared.place.Place.{Place}
 use Rattle.terrain.specs.declared.sinks.SinkFault.{SinkFault}
@@ -16,20 +16,42 @@ none_of_both : (a b : Option SinkFault) → option_or a b ≡ None → (a ≡ No
 none_of_both None b h = (refl, h)
 none_of_both (Some f) b h = absurd (cc)
 
-inside : (t : Terrain) (i : ℕ) (p : Place) → sink_fault_of t i p ≡ None → IsInside t p
-inside t i p h = elim (cases_Bool (nat_lt p.row t.rows && nat_lt p.col t.cols)) [
-  | inl is ↦ let both = and_parts (nat_lt p.row t.rows) (nat_lt p.col t.cols) is in (ltb-true _ _ both.0, ltb-true _ _ both.1)
+-- the place is in the grid and has data
+abbrev pub IsSound : Terrain → Place → Type 0
+IsSound t p = IsInside t p × IsDataCell t p
+
+has_data : (h : Option ℤ) (i : ℕ) → (if is_none h then Some (OnNodata i) else None) ≡ None → is_some h ≡ true
+has_data None i fault = absurd (cc)
+has_data (Some z) i fault = refl
+
+pub sound : (t : Terrain) (i : ℕ) (p : Place) → sink_fault_of t i p ≡ None → IsSound t p
+sound t i p h = elim (cases_Bool (nat_lt p.row t.rows && nat_lt p.col t.cols)) [
+  | inl is ↦
+      let both = and_parts (nat_lt p.row t.rows) (nat_lt p.col t.cols) is in
+      let rest : (if is_none (height_at t p) then Some (OnNodata i) else None) ≡ None =
+      sym (ap (λ b. if not b then Some (Outside i) else if is_none (height_at t p) then Some (OnNodata i) else None) is) ∙ h in
+      ((ltb-true _ _ both.0, ltb-true _ _ both.1), has_data (height_at t p) i rest)
   | inr isnt ↦
       let fault : sink_fault_of t i p ≡ Some (Outside i) =
       ap (λ b. if not b then Some (Outside i) else if is_none (height_at t p) then Some (OnNodata i) else None) isnt in
       absurd (cc)
 ]
 
-all_inside : (t : Terrain) (i : ℕ) (places : List Place) → first_sink_fault t i places ≡ None → All (IsInside t) places
-all_inside t i [] h k d below = absurd (omega (arith, below))
-all_inside t i (p ∷ rest) h zero d below = inside t i p (none_of_both (sink_fault_of t i p) (first_sink_fault t (i + 1) rest) h).0
-all_inside t i (p ∷ rest) h (suc k) d below =
-    all_inside t (i + 1) rest (none_of_both (sink_fault_of t i p) (first_sink_fault t (i + 1) rest) h).1 k d (omega (arith, below))
+all_sound : (t : Terrain) (i : ℕ) (places : List Place) → first_sink_fault t i places ≡ None → All (IsSound t) places
+all_sound t i [] h k d below = absurd (omega (arith, below))
+all_sound t i (p ∷ rest) h zero d below = sound t i p (none_of_both (sink_fault_of t i p) (first_sink_fault t (i + 1) rest) h).0
+all_sound t i (p ∷ rest) h (suc k) d below =
+    all_sound t (i + 1) rest (none_of_both (sink_fault_of t i p) (first_sink_fault t (i + 1) rest) h).1 k d (omega (arith, below))
+
+pub few_sinks : (t : Terrain) (sinks : List Place) → sinks_fault t sinks ≡ None → nat_lt most_sinks (length sinks) ≡ false
+few_sinks t sinks h = elim (cases_Bool (nat_lt most_sinks (length sinks))) [
+  | inl many ↦ let fault : sinks_fault t sinks ≡ Some TooManySinks = cond-true _ _ _ many in absurd (cc)
+  | inr few ↦ few
+]
+
+-- without a fault all are sound
+pub sinks_sound : (t : Terrain) (sinks : List Place) → sinks_fault t sinks ≡ None → All (IsSound t) sinks
+sinks_sound t sinks h = all_sound t 0 sinks (sym (cond-false _ _ _ (few_sinks t sinks h)) ∙ h)
 
 named : (P : Place → Type 0) (places : List Place) (p : Place) → All P places → P p → All P (named_once places p)
 named P places p all one = elim (cases_Bool (list_any (is_place p) places)) [
@@ -46,11 +68,8 @@ all_named P places (p ∷ rest) all more =
     all_named P (named_once places p) rest (named P places p all (more 0 p (omega arith))) (λ k d below. more (suc k) d (omega (arith, below)))
 
 sinks_inside : (t : Terrain) (sinks : List Place) → sinks_fault t sinks ≡ None → All (IsInside t) (each_once sinks)
-sinks_inside t sinks h = all_named (IsInside t) [] sinks (λ k d below. absurd (omega (arith, below))) (all_inside t 0 sinks
-    (elim (cases_Bool (nat_lt most_sinks (length sinks))) [
-      | inl many ↦ let fault : sinks_fault t sinks ≡ Some TooManySinks = cond-true _ _ _ many in absurd (cc)
-      | inr few ↦ sym (cond-false _ _ _ few) ∙ h
-    ]))
+sinks_inside t sinks h =
+    all_named (IsInside t) [] sinks (λ k d below. absurd (omega (arith, below))) (λ k d below. (sinks_sound t sinks h k d below).0)
 
 pub lawful_with_sinks : (g : Raster) (sinks : List Place) → IsLawful g → sinks_fault g.terrain sinks ≡ None → IsLawful (raster_with_sinks g sinks)
 lawful_with_sinks g sinks lawful fault =

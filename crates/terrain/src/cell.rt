@@ -1,4 +1,6 @@
-//! The cells of a grid.
+//! A cell: its height or no data, in 8 bytes.
+//!
+//! Contracts see it as an option. [`Cell::of`] and [`Cell::height`] convert.
 ghost use Rattle.std.specs.Prelude.{◌≡◌, ◌↔◌, ◌≤ℤ◌, IsTrue, None, Some, unwrap_or};
 ghost use Rattle.terrain.specs.Raster.{highest};
 ghost use Rattle.terrain.specs.StoredCells.{stored_cell, no_data};

@@ -1,4 +1,6 @@
-//! The entries of maps of whole numbers.
+//! An entry of a map of whole numbers, or no data, in 4 bytes.
+//!
+//! Contracts see it as an option. [`Count::of`] and [`Count::value`] convert.
 ghost use Rattle.std.specs.Prelude.{◌≡◌, ◌<◌, None, Some};
 ghost use Rattle.terrain.specs.StoredCells.{stored_count, uncounted};
 

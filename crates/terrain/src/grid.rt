@@ -1,4 +1,7 @@
-//! A grid, seen as its size, its header words, its scale, its cells and its sinks.
+//! A grid and its frame: the header, the scale and the sinks without the cells.
+//!
+//! [`Grid::from_parts`] makes a grid, [`Grid::with_sinks`] names its sinks, and
+//! [`Grid::into_parts`] frees its list of cells for use again.
 ghost use Rattle.std.specs.Prelude.{◌≡◌, ◌↔◌, ◌+◌, ◌*◌, ◌<◌, [], length, All, Contains, IfSome, IfOk, IsTrue, Some};
 ghost use Rattle.terrain.specs.Raster.{Raster, IsLawful};
 ghost use Rattle.terrain.specs.Neighbours.{IsInside, height_at, IsEnd, HasGapAround};

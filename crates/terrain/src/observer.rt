@@ -1,3 +1,4 @@
+//! An observer's cell and eye height.
 /// Where somebody stands, and how high the eye is.
 #[derive(Clone, Copy, Debug, PartialEq, Eq)]
 pub struct Observer {

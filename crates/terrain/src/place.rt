@@ -1,4 +1,4 @@
-//! Places and heights.
+//! Places in a grid, and heights with their limits.
 ghost use Rattle.std.specs.Prelude.{◌≡◌};
 ghost use Rattle.terrain.specs.Neighbours.{index_of};
 

@@ -1,4 +1,6 @@
-//! Named sinks, judged and counted once.
+//! Named sinks: the first fault of a list, and its places each once.
+//!
+//! [`Grid::with_sinks`](crate::Grid::with_sinks) uses both.
 ghost use Rattle.std.specs.Prelude.{◌≡◌, ◌<◌, ◌≤◌, length, IfOk};
 ghost use Rattle.std.specs.List.{list_any};
 ghost use Rattle.terrain.specs.declared.sinks.SinkFault.TheVariants.{Memory};

@@ -1,4 +1,7 @@
-//! The eight ways from a place, in the order of their codes: E, SE, S, SW, W, NW, N, NE.
+//! The eight directions from a place.
+//!
+//! In the order of their codes: E, SE, S, SW, W, NW, N, NE. [`place_on`] goes by places,
+//! [`around_index`] by indexes in row order.
 ghost use Rattle.std.specs.Prelude.{◌≡◌, ◌+◌, ◌-◌, ◌^◌, ◌<◌};
 ghost use Rattle.terrain.specs.Ways.{around_index, place_on};
 

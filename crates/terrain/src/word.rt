@@ -1,4 +1,4 @@
-//! A word of the header, kept in place.
+//! A word of the header, of at most 64 bytes, kept in place.
 ghost use Rattle.std.specs.Prelude.{◌≡◌, ◌≤◌, ℕ, List, length, take};
 ghost use Rattle.terrain.specs.declared.word.TheConstants.{MOST_WORD_BYTES};
 

@@ -1,6 +1,18 @@
-//! A grid's text read and written by several workers. What is read and written is what one of them would read and write.
+//! Reads and writes the text of a grid by several workers.
+//!
+//! [`read_grid`] and the three writers keep the promises of `ascii_grid`, bytes and faults alike.
+//! What the jobs cannot do, for want of memory or threads or at a fault, the caller's thread does
+//! by the calls of `ascii_grid`.
+//!
+//! Modules, from what is called to what it depends on:
+//!
+//! - `reading`: a grid from a device
+//! - `batches`: pieces read one after another
+//! - `runs`: runs of heights and their jobs
+//! - `writing`: maps as text
 #![tactic(auto)]
 
+mod batches;
 mod reading;
 mod runs;
 mod writing;

@@ -1,4 +1,4 @@
-//! Runs of a piece of a text, and the jobs that read their heights.
+//! Runs of a text, cut at separators, and the jobs that parse their heights.
 ghost use Rattle.std.specs.Prelude.{◌≡◌, ◌<◌, ◌≤◌, ℕ, List, map, length, slice_index_or, IfOk, IfSome, None};
 ghost use Rattle.std.specs.List.{concat};
 ghost use Rattle.ascii_grid.specs.HeightList.{AreCells};

@@ -1,4 +1,6 @@
-//! Maps as text, by several workers.
+//! Writes maps by several workers.
+//!
+//! Jobs make all lines before the first byte is written, so that no memory is taken after it.
 ghost use Rattle.std.specs.Prelude.{◌≡◌, ◌++◌, ◌*◌, ◌-◌, ◌/◌, ◌^◌, ◌<◌, ◌≤◌, length, IfSome};
 ghost use Rattle.std.specs.List.{flat_map};
 ghost use Rattle.terrain.specs.declared.word.TheConstants.{MOST_WORD_BYTES};

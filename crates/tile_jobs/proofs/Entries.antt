@@ -1,11 +1,13 @@
 -- The feed, its parts, and counts of lists.
-use Rattle.std.proofs.Common.{◌≡◌, ℕ, zero, suc, ◌+◌, ◌%◌, ◌<◌, ◌≤◌, true, false, cond, ◌==◌, List, [], ◌∷◌, ◌++◌, length, take, drop, get_or, add-one, add-zero, replicate, sym, refl, ap, ◌∙◌, subst, arith, eq-eqb, inl, inr}
+use Rattle.std.proofs.Common.{◌≡◌, ℕ, zero, suc, ◌+◌, ◌%◌, ◌<◌, ◌≤◌, true, false, cond, ◌==◌, List, [], ◌∷◌, ◌++◌, length, take, drop, get_or, add-one, add-zero, replicate, All, sym, refl, ap, ◌∙◌, subst, arith, eq-eqb, inl, inr}
 use Rattle.std.proofs.lemmas.Bool.Decides.{nat_tests}
 use Rattle.std.proofs.lemmas.Bool.{cases_eq, ne_eqb}
-use Rattle.std.proofs.lemmas.List.{append-nil, length-drop, get_or-drop, take_more, drop-drop, take-append-drop}
+use Rattle.std.proofs.lemmas.List.{append-nil, length-drop, get_or-drop, get_or-append-add, take_more, drop-drop, take-append-drop}
+use Rattle.std.proofs.lemmas.List.Quantifiers.{all_pairs_push}
+use lib.ListN.{length-append}
 use Rattle.tile_jobs.specs.declared.deque.Entry.{Entry}
 use Rattle.tile_jobs.specs.declared.deque.Entry.TheVariants.{Job, End}
-use Rattle.tile_jobs.specs.Board.{deal, feed, jobs_in, jobs_of, ends_of, times}
+use Rattle.tile_jobs.specs.Board.{deal, feed, jobs_in, jobs_of, ends_of, times, IsRising}
 
 module _ {A : Type 0} where
   -- the first of the rest stands at the cut
@@ -120,11 +122,57 @@ pub feed_late : (jobs seats v t : ℕ) → 0 < ends_of (take t (feed jobs seats 
 unfolding feed
 feed_late jobs seats v t h = mark_late (deal jobs seats v) seats t h
 
+-- what stands in a list is counted
+times_at : (xs : List ℕ) (k d : ℕ) → k < length xs → 0 < times (get_or xs k d) xs
+times_at [] k d low = absurd (omega arith)
+times_at (x ∷ xs) zero d low = let one = times_self x in omega arith
+times_at (x ∷ xs) (suc k) d low = let h = times_at xs k d (omega arith) in omega arith
+
+-- where all that is counted in a list is less than j, each of its numbers is
+pub all_below : (xs : List ℕ) (j : ℕ) → ((x : ℕ) → 0 < times x xs → x < j) → All (λ x. x < j) xs
+all_below xs j less k d low = less (get_or xs k d) (times_at xs k d low)
+
+deal_rises : (jobs seats v : ℕ) → IsRising (deal jobs seats v)
+deal_rises zero seats v = λ i k d l low. absurd (omega arith)
+deal_rises (suc j) seats v =
+    let was = deal_rises j seats v in
+    let less = all_below (deal j seats v) j (λ x n. (deal_is j seats v x n).0) in
+    elim (j % seats == v) as (λ b. IsRising (cond b (deal j seats v ++ j ∷ []) (deal j seats v))) [
+      | true ↦ all_pairs_push (λ x y. x < y) (deal j seats v) j was less
+      | false ↦ was
+    ]
+
+-- what stands before j in a rising list is less than j
+rising_before : (xs ys : List ℕ) (j x : ℕ) → IsRising (xs ++ j ∷ ys) → 0 < times x xs → x < j
+rising_before [] ys j x is n = absurd (omega arith)
+rising_before (z ∷ xs) ys j x is n =
+    elim (cases_eq z x) [
+      | inl e ↦
+          let size = length-append xs (j ∷ ys) in
+          let less = is 0 (suc (length xs + 0)) j (omega arith) (omega arith) in
+          rw (← e) (rw (get_or-append-add xs (j ∷ ys) 0 j) at less)
+      | inr far ↦
+          let t = ne_eqb z x far in
+          rising_before xs ys j x (λ i k d l low. is (suc i) (suc k) d (omega arith) (omega arith)) (let m = rw t at n in omega arith)
+    ]
+
+-- the jobs of the feed before and behind a place where a job stands
+feed_parts : (jobs seats v t j : ℕ) (rest : List Entry) → Job j ∷ rest ≡ drop t (feed jobs seats v)
+    → jobs_of (take t (feed jobs seats v)) ++ (j ∷ jobs_of rest) ≡ deal jobs seats v
+feed_parts jobs seats v t j rest e =
+    let all = feed jobs seats v in
+    sym (jobs_append (take t all) (Job j ∷ rest)) ∙ ap (λ l. jobs_of (take t all ++ l)) e ∙ ap jobs_of (take-append-drop t all) ∙ feed_jobs jobs seats v
+
 -- a job among the entries is one of the deal
 pub feed_is : (jobs seats v t j : ℕ) (rest : List Entry) → Job j ∷ rest ≡ drop t (feed jobs seats v) → (j < jobs) × (j % seats ≡ v)
 feed_is jobs seats v t j rest e =
-    let all = feed jobs seats v in
-    let parts : jobs_of (take t all) ++ (j ∷ jobs_of rest) ≡ deal jobs seats v = sym (jobs_append (take t all) (Job j ∷ rest)) ∙ ap (λ l. jobs_of (take t all ++ l)) e ∙ ap jobs_of (take-append-drop t all) ∙ feed_jobs jobs seats v in
-    let counts = times_append j (jobs_of (take t all)) (j ∷ jobs_of rest) in
+    let before = jobs_of (take t (feed jobs seats v)) in
+    let counts = times_append j before (j ∷ jobs_of rest) in
     let one = times_self j in
-    deal_is jobs seats v j (subst (λ l. 0 < times j l) parts (omega arith))
+    deal_is jobs seats v j (subst (λ l. 0 < times j l) (feed_parts jobs seats v t j rest e) (omega arith))
+
+-- and greater than each before it
+pub feed_rises : (jobs seats v t j : ℕ) (rest : List Entry) → Job j ∷ rest ≡ drop t (feed jobs seats v)
+    → (x : ℕ) → 0 < times x (jobs_of (take t (feed jobs seats v))) → x < j
+feed_rises jobs seats v t j rest e x n =
+    rising_before (jobs_of (take t (feed jobs seats v))) (jobs_of rest) j x (subst IsRising (sym (feed_parts jobs seats v t j rest e)) (deal_rises jobs seats v)) n

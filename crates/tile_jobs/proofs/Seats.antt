@@ -1,5 +1,5 @@
 -- What a take leaves of a seat.
-use Rattle.std.proofs.Common.{◌≡◌, ◌≢◌, ℕ, zero, suc, ◌-◌, ◌%◌, ◌<◌, ◌≤◌, inl, inr, cond, ◌==◌, List, [], ◌∷◌, ◌++◌, length, get_or, set, sym, refl, ap, ◌∙◌, arith}
+use Rattle.std.proofs.Common.{◌≡◌, ◌≢◌, ℕ, zero, suc, ◌-◌, ◌%◌, ◌<◌, ◌≤◌, inl, inr, Bool, true, false, true≢false, cond, ◌==◌, List, All, [], ◌∷◌, ◌++◌, length, get_or, set, sym, refl, ap, ◌∙◌, arith}
 use Rattle.std.proofs.lemmas.Bool.Decides.{nat_tests}
 use Rattle.std.proofs.lemmas.Bool.{cases_eq, cases_lt, eq-eqb, ne_eqb, lt-ltb, le-ltb}
 use Rattle.std.proofs.lemmas.List.{get_or-set_same, get_or-set_other}
@@ -11,8 +11,21 @@ use Rattle.tile_jobs.proofs.Residues.{of_here, of_else, room_left}
 pub same_trans : (a b c : EndState) → SameEnd a b → SameEnd b c → SameEnd a c
 same_trans a b c x y = (y.0 ∙ x.0, y.1 ∙ x.1, y.2 ∙ x.2, y.3 ∙ x.3)
 
+-- what has no mark had none
+unmarked_before : (a b : Bool) → (a ≡ true → b ≡ true) → b ≡ false → a ≡ false
+unmarked_before true b stays e = absurd (true≢false (sym (stays refl) ∙ e))
+unmarked_before false b stays e = refl
+
 kept_took : (a b c : EndState) (j : ℕ) → Kept a b → TookJob b j c → TookJob a j c
-kept_took a b c j x y = (same_trans a b c x.0 y.0, y.1 ∙ ap (λ l. l ++ j ∷ []) x.1, rw (← x.0.1) y.2, rw (← x.0.2, ← x.0.3) y.3, rw (← x.0.1, ← x.0.2, ← x.0.3) y.4, λ m. y.5 (x.2 m))
+kept_took a b c j x y = record {
+  same = same_trans a b c x.0 y.same;
+  unmarked = unmarked_before a.marked b.marked x.2 y.unmarked;
+  took = y.took ∙ ap (λ l. l ++ j ∷ []) x.1;
+  rises = rw (← x.1) y.rises;
+  below = rw (← x.0.1) y.below;
+  of_deque = rw (← x.0.2, ← x.0.3) y.of_deque;
+  fits = rw (← x.0.1, ← x.0.2, ← x.0.3) y.fits;
+}
 
 pub took_among : (es fs : List EndState) (k j : ℕ) (e : EndState) → AllKept es fs → length fs ≡ length es → k < length es → ((d : EndState) → TookJob (get_or fs k d) j e) → TookAmong es j (set fs k e)
 took_among es fs k j e kept len low took = (
@@ -61,20 +74,20 @@ skip_below n k m low below = grind (arith, nat_tests)
 
 pub own_took : (s : SeatState) (j : ℕ) (o : EndState) → IsSeat s → TookJob s.own j o → IsSeat (record s { own = o; taken = s.taken ++ j ∷ [] })
 own_took s j o h t =
-    let is : j % s.own.seats ≡ s.number = t.3 ∙ h.own_is.2 in
-    let took : o.took ≡ of s.number s.own.seats (s.taken ++ j ∷ []) = t.1 ∙ ap (λ l. l ++ j ∷ []) h.own_is.3 ∙ sym (of_here s.number s.own.seats s.taken j is) in
-    let length_is : length o.took ≤ length (deal s.own.jobs s.own.seats s.number) = rw h.own_is.2 at t.4 in
+    let is : j % s.own.seats ≡ s.number = t.of_deque ∙ h.own_is.2 in
+    let took : o.took ≡ of s.number s.own.seats (s.taken ++ j ∷ []) = t.took ∙ ap (λ l. l ++ j ∷ []) h.own_is.3 ∙ sym (of_here s.number s.own.seats s.taken j is) in
+    let length_is : length o.took ≤ length (deal s.own.jobs s.own.seats s.number) = rw h.own_is.2 at t.fits in
     record {
-      below = rw t.0.2 h.below;
-      count = h.count ∙ sym t.0.2;
-      own_is = rw (t.0.1, t.0.2) (refl, refl, t.0.3 ∙ h.own_is.2, took, length_is);
-      others_are = rw (t.0.1, t.0.2) (λ k d low. let was = h.others_are k d low in (was.0, was.1, was.2, was.3 ∙ sym (of_else (skip s.number k) s.own.seats s.taken j (λ e. skip_far s.number k (sym e ∙ is))), was.4));
+      below = rw t.same.2 h.below;
+      count = h.count ∙ sym t.same.2;
+      own_is = rw (t.same.1, t.same.2) (refl, refl, t.same.3 ∙ h.own_is.2, took, length_is);
+      others_are = rw (t.same.1, t.same.2) (λ k d low. let was = h.others_are k d low in (was.0, was.1, was.2, was.3 ∙ sym (of_else (skip s.number k) s.own.seats s.taken j (λ e. skip_far s.number k (sym e ∙ is))), was.4));
     }
 
 pub own_room : (s : SeatState) (j : ℕ) (o : EndState) → IsSeat s → TookJob s.own j o → length s.taken < s.own.jobs
 own_room s j o h t =
     let l = length-append s.own.took (j ∷ []) in
-    let less : length s.own.took < length (deal s.own.jobs s.own.seats s.own.deque) = (let a = ap length t.1 in let b = t.4 in omega arith) in
+    let less : length s.own.took < length (deal s.own.jobs s.own.seats s.own.deque) = (let a = ap length t.took in let b = t.fits in omega arith) in
     let less' : length (of s.number s.own.seats s.taken) < length (deal s.own.jobs s.own.seats s.number) = rw (h.own_is.3, h.own_is.2) at less in
     room_left s.own.seats s.own.jobs s.taken s.number h.below (bounded s h) less'
 
@@ -85,13 +98,13 @@ others_took_at s j fs h t i d low =
       | inl e ↦
           let was = h.others_are t.0 d t.1 in
           let now = t.2 d in
-          let rem : j % s.own.seats ≡ skip s.number t.0 = rw (was.1, was.2) at now.3 in
-          let took : (get_or fs t.0 d).took ≡ of (skip s.number t.0) s.own.seats (s.taken ++ j ∷ []) = now.1 ∙ ap (λ l. l ++ j ∷ []) was.3 ∙ sym (of_here (skip s.number t.0) s.own.seats s.taken j rem) in
-          let length_is : length (get_or fs t.0 d).took ≤ length (deal s.own.jobs s.own.seats (skip s.number t.0)) = rw (was.0, was.1, was.2) at now.4 in
-          rw e (now.0.1 ∙ was.0, now.0.2 ∙ was.1, now.0.3 ∙ was.2, took, length_is)
+          let rem : j % s.own.seats ≡ skip s.number t.0 = rw (was.1, was.2) at now.of_deque in
+          let took : (get_or fs t.0 d).took ≡ of (skip s.number t.0) s.own.seats (s.taken ++ j ∷ []) = now.took ∙ ap (λ l. l ++ j ∷ []) was.3 ∙ sym (of_here (skip s.number t.0) s.own.seats s.taken j rem) in
+          let length_is : length (get_or fs t.0 d).took ≤ length (deal s.own.jobs s.own.seats (skip s.number t.0)) = rw (was.0, was.1, was.2) at now.fits in
+          rw e (now.same.1 ∙ was.0, now.same.2 ∙ was.1, now.same.3 ∙ was.2, took, length_is)
       | inr far ↦
           let stole = h.others_are t.0 d t.1 in
-          let rem : j % s.own.seats ≡ skip s.number t.0 = (let now = t.2 d in rw (stole.1, stole.2) at now.3) in
+          let rem : j % s.own.seats ≡ skip s.number t.0 = (let now = t.2 d in rw (stole.1, stole.2) at now.of_deque) in
           let was = h.others_are i d low in
           let now = t.3 i d far low in
           (now.0.1 ∙ was.0, now.0.2 ∙ was.1, now.0.3 ∙ was.2, now.1 ∙ was.3 ∙ sym (of_else (skip s.number i) s.own.seats s.taken j (λ e. far (skip_apart s.number i t.0 (sym e ∙ rem)))), rw now.1 was.4)
@@ -100,7 +113,7 @@ others_took_at s j fs h t i d low =
 pub others_took : (s : SeatState) (j : ℕ) (fs : List EndState) → IsSeat s → TookAmong s.others j fs → length fs ≡ length s.others → IsSeat (record s { others = fs; taken = s.taken ++ j ∷ [] })
 others_took s j fs h t len =
     let stole = h.others_are t.0 s.own t.1 in
-    let rem : j % s.own.seats ≡ skip s.number t.0 = (let now = t.2 s.own in rw (stole.1, stole.2) at now.3) in
+    let rem : j % s.own.seats ≡ skip s.number t.0 = (let now = t.2 s.own in rw (stole.1, stole.2) at now.of_deque) in
     record {
       below = h.below;
       count = ap suc len ∙ h.count;
@@ -108,13 +121,22 @@ others_took s j fs h t len =
       others_are = λ i d low. others_took_at s j fs h t i d (omega arith);
     }
 
+-- a stolen job is greater than those of its deque that the seat took before
+pub others_rise : (s : SeatState) (j : ℕ) (fs : List EndState) → IsSeat s → TookAmong s.others j fs
+    → All (λ x. x < j) (of (j % s.own.seats) s.own.seats s.taken)
+others_rise s j fs h t =
+    let was = h.others_are t.0 s.own t.1 in
+    let now = t.2 s.own in
+    let is : j % s.own.seats ≡ skip s.number t.0 = rw (was.1, was.2) at now.of_deque in
+    rw (is, ← was.3) now.rises
+
 pub others_room : (s : SeatState) (j : ℕ) (fs : List EndState) → IsSeat s → TookAmong s.others j fs → length s.taken < s.own.jobs
 others_room s j fs h t =
     let was = h.others_are t.0 s.own t.1 in
     let now = t.2 s.own in
     let e : EndState = get_or s.others t.0 s.own in
     let l = length-append e.took (j ∷ []) in
-    let less : length e.took < length (deal e.jobs e.seats e.deque) = (let a = ap length now.1 in let b = now.4 in omega arith) in
+    let less : length e.took < length (deal e.jobs e.seats e.deque) = (let a = ap length now.took in let b = now.fits in omega arith) in
     let less' : length (of (skip s.number t.0) s.own.seats s.taken) < length (deal s.own.jobs s.own.seats (skip s.number t.0)) = rw (was.3, was.0, was.1, was.2) at less in
     let low : skip s.number t.0 < s.own.seats = skip_below s.number t.0 s.own.seats (let c = h.count in let k = t.1 in omega arith) h.below in
     room_left s.own.seats s.own.jobs s.taken (skip s.number t.0) low (bounded s h) less'

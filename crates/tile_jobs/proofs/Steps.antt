@@ -1,7 +1,9 @@
 -- Each step keeps the rule of a deque.
-use Rattle.std.proofs.Common.{◌≡◌, ◌≢◌, ℕ, zero, suc, ◌+◌, ◌-◌, ◌<◌, ◌≤◌, inl, inr, ⊎_elim, true, true≢false, List, [], ◌∷◌, ◌++◌, length, take, drop, set, sym, refl, ap, ◌∙◌, subst, arith}
+use Rattle.std.proofs.Common.{◌≡◌, ◌≢◌, ℕ, zero, suc, ◌+◌, ◌-◌, ◌<◌, ◌≤◌, inl, inr, ⊎_elim, true, true≢false, List, [], ◌∷◌, ◌++◌, length, take, drop, set, All, sym, refl, ap, ◌∙◌, subst, arith}
 use Rattle.std.specs.List.{concat}
 use Rattle.std.proofs.lemmas.List.{append_assoc, take_all}
+use Rattle.std.proofs.lemmas.List.Elements.{All-cons, All-head, All-tail, All-append}
+use Rattle.std.proofs.lemmas.List.Quantifiers.{all_pairs_push}
 use Rattle.std.proofs.lemmas.List.Folds.{concat-append}
 use mathlib.Core.Option.{some, some-ne-none}
 use lib.ListN.{get_elem?, length-append}
@@ -10,10 +12,14 @@ use Rattle.crossbeam_deque.proofs.Lists.{at_set, at_snoc}
 use Rattle.tile_jobs.specs.declared.deque.Entry.{Entry}
 use Rattle.tile_jobs.specs.declared.deque.Entry.TheVariants.{Job, End}
 use Rattle.tile_jobs.specs.declared.deque.Log.{Log}
-use Rattle.tile_jobs.specs.Board.{deal, feed, jobs_of, ends_of, times}
+use Rattle.tile_jobs.specs.Board.{deal, feed, jobs_of, ends_of, times, IsRising}
 use Rattle.tile_jobs.specs.Rule.{total, all_taken, taken, share, blank, spent, once, dealing, IsOf, Lawful, CanTake, Took, lent, lending, taken_back, TookNext}
 use Rattle.tile_jobs.proofs.Totals.{total_set, total_at, total_snoc, total_plus, total_alone}
-use Rattle.tile_jobs.proofs.Entries.{cut_take, cut_drop, cut_below, cut_past, times_append, jobs_append, ends_append, feed_ends, feed_early, feed_late, feed_is}
+use Rattle.tile_jobs.proofs.Entries.{cut_take, cut_drop, cut_below, cut_past, times_append, jobs_append, ends_append, feed_ends, feed_early, feed_late, feed_is, feed_rises, all_below}
+
+-- a view that took nothing
+no_list : All IsRising ([] ∷ [])
+no_list = All-cons IsRising [] [] (λ i k d l low. absurd (omega arith)) (λ k d low. absurd (omega arith))
 
 -- what a pass that may take knows of the deque
 pub names : (items : List Entry) (views : List Log) (h : Lawful items views) (port : ℕ) (u : Log) → get_elem? views port ≡ some u → CanTake u → (u.jobs ≡ h.jobs) × (u.seats ≡ h.seats) × (u.deque ≡ h.v)
@@ -77,12 +83,16 @@ takes_job j items views h port u at can =
     let l1 = length-append u.took (j ∷ []) in
     let l2 = length-append (u.took ++ j ∷ []) (concat u.gathered) in
     let l3 = length-append u.took (concat u.gathered) in
-    let j_is = feed_is h.jobs h.seats h.v t j items held in (
+    let j_is = feed_is h.jobs h.seats h.v t j items held in
+    let rises : All (λ x. x < j) u.took = all_below u.took j (λ x n. feed_rises h.jobs h.seats h.v t j items held x
+    (let a = times_append x u.took (concat u.gathered) in let b = total_at (λ (v : Log). times x (all_taken v)) views port u at in let c = h.each x in omega arith)) in
+    let rising : All IsRising (w.took ∷ w.gathered) = All-cons IsRising w.took u.gathered
+    (all_pairs_push (λ x y. x < y) u.took j (All-head IsRising u.took u.gathered mine.rising) rises) (All-tail IsRising u.took u.gathered mine.rising) in (
       after (Job j) items views h port u w at can (omega arith) refl
           (λ y. (let a = times_append y (u.took ++ j ∷ []) (concat u.gathered) in let b = times_append y u.took (j ∷ []) in let c = times_append y u.took (concat u.gathered) in omega arith))
           (omega arith)
-          (record { named = mine.named; owns = mine.owns; ready = mine.ready; idle = λ z. absurd (omega arith) }),
-      (refl, rw n.0 j_is.0, rw (n.1, n.2) j_is.1, rw (n.0, n.1, n.2) (omega arith), no_marks),
+          (record { named = mine.named; owns = mine.owns; ready = mine.ready; idle = λ z. absurd (omega arith); rising = rising }),
+      record { view = refl; below = rw n.0 j_is.0; of_deque = rw (n.1, n.2) j_is.1; rises = rises; fits = rw (n.0, n.1, n.2) (omega arith); unmarked = no_marks },
     )
 
 takes_mark : (items : List Entry) (views : List Log) (h : Lawful (End ∷ items) views) (port : ℕ) (u : Log) → get_elem? views port ≡ some u → CanTake u
@@ -92,7 +102,7 @@ takes_mark items views h port u at can =
     let w : Log = record u { marks = suc u.marks; leaves = u.leaves - 1 } in
     let some_leave : 0 < u.leaves = can.0 in (
       after End items views h port u w at can (omega arith) (omega arith) (λ y. omega arith) (omega arith)
-          (record { named = λ _. mine.named (inr (omega arith)); owns = mine.owns; ready = λ r. ((mine.ready r).0, omega arith); idle = λ z. absurd (omega arith) }),
+          (record { named = λ _. mine.named (inr (omega arith)); owns = mine.owns; ready = λ r. ((mine.ready r).0, omega arith); idle = λ z. absurd (omega arith); rising = mine.rising }),
       refl,
     )
 
@@ -133,8 +143,8 @@ forks port u owns all two items views h at =
     let l : Log = lending u in
     let r : Log = lent u in
     let vs : List Log = set views port l in
-    let left_is : IsOf h.jobs h.seats h.v h.pushed h.owner port l = record { named = λ _. n; owns = mine.owns; ready = λ q. ((mine.ready q).0, omega arith); idle = λ z. absurd (omega arith) } in
-    let right_is : (j : ℕ) → IsOf h.jobs h.seats h.v h.pushed h.owner j r = λ j. record { named = λ _. n; owns = λ o. absurd (true≢false (sym o)); ready = λ q. (whole, omega arith); idle = λ z. absurd (omega arith) } in
+    let left_is : IsOf h.jobs h.seats h.v h.pushed h.owner port l = record { named = λ _. n; owns = mine.owns; ready = λ q. ((mine.ready q).0, omega arith); idle = λ z. absurd (omega arith); rising = mine.rising } in
+    let right_is : (j : ℕ) → IsOf h.jobs h.seats h.v h.pushed h.owner j r = λ j. record { named = λ _. n; owns = λ o. absurd (true≢false (sym o)); ready = λ q. (whole, omega arith); idle = λ z. absurd (omega arith); rising = no_list } in
     let same : total taken (vs ++ r ∷ []) ≡ total taken views = (let s = total_set taken views port u l at in let k = total_snoc taken vs r in omega arith) in
     record {
       jobs = h.jobs;
@@ -169,8 +179,8 @@ merges port u other w owns items views h at two at' =
     let joins : all_taken both ≡ all_taken u ++ all_taken w = back_all u w in
     let sizes : length (all_taken both) ≡ length (all_taken u) + length (all_taken w) = ap length joins ∙ length-append (all_taken u) (all_taken w) in
     let idle : share both ≡ 0 → all_taken both ≡ [] = λ z. joins ∙ rw (mine.idle (omega arith), theirs.idle (omega arith)) in
-    let both_is : IsOf h.jobs h.seats h.v h.pushed h.owner port both = record { named = λ _. n; owns = mine.owns; ready = λ q. let k = (mine.ready q).1 in ((mine.ready q).0, omega arith); idle = idle } in
-    let spent_is : IsOf h.jobs h.seats h.v h.pushed h.owner other spent = record { named = elim [ inl o ↦ absurd (true≢false (sym o)) | inr z ↦ absurd (omega arith) ]; owns = λ o. absurd (true≢false (sym o)); ready = λ q. absurd (true≢false (sym q)); idle = λ _. refl } in
+    let both_is : IsOf h.jobs h.seats h.v h.pushed h.owner port both = record { named = λ _. n; owns = mine.owns; ready = λ q. let k = (mine.ready q).1 in ((mine.ready q).0, omega arith); idle = idle; rising = All-append IsRising (u.took ∷ u.gathered) (w.took ∷ w.gathered) mine.rising theirs.rising } in
+    let spent_is : IsOf h.jobs h.seats h.v h.pushed h.owner other spent = record { named = elim [ inl o ↦ absurd (true≢false (sym o)) | inr z ↦ absurd (omega arith) ]; owns = λ o. absurd (true≢false (sym o)); ready = λ q. absurd (true≢false (sym q)); idle = λ _. refl; rising = no_list } in
     let same : total taken (set vs other spent) ≡ total taken views = (let s = total_set taken views port u both at in let k = total_set taken vs other w spent at' in omega arith) in
     record {
       jobs = h.jobs;
@@ -210,7 +220,7 @@ whole_learns port u is items views h at y =
 
 first_is : (port : ℕ) (u : Log) → get_elem? (blank ∷ []) port ≡ some u → IsOf 0 0 0 0 0 port u
 first_is zero u e = let is : blank ≡ u = cc in
-    subst (IsOf 0 0 0 0 0 0) is (record { named = λ _. (refl, refl, refl); owns = λ _. (refl, refl); ready = λ q. absurd (true≢false (sym q)); idle = λ _. refl })
+    subst (IsOf 0 0 0 0 0 0) is (record { named = λ _. (refl, refl, refl); owns = λ _. (refl, refl); ready = λ q. absurd (true≢false (sym q)); idle = λ _. refl; rising = no_list })
 first_is (suc port) u e = absurd (some-ne-none u (sym e))
 
 pub begins : Lawful [] (blank ∷ [])
@@ -240,7 +250,7 @@ pushed_after J S V n e rest items views h port at next none held shares others =
     let w : Log = dealing J S V (suc n) in
     let low = cut_below all n e rest next in
     let t' : total taken (set views port w) ≡ 0 = (let s = total_set taken views port u w at in omega arith) in
-    let w_is : IsOf J S V (suc n) port port w = record { named = λ _. (refl, refl, refl); owns = λ _. (refl, refl); ready = λ q. absurd (true≢false (sym q)); idle = λ _. refl } in
+    let w_is : IsOf J S V (suc n) port port w = record { named = λ _. (refl, refl, refl); owns = λ _. (refl, refl); ready = λ q. absurd (true≢false (sym q)); idle = λ _. refl; rising = no_list } in
     record {
       jobs = J;
       seats = S;
@@ -279,6 +289,7 @@ pushes J S V zero port e rest next items views h at =
       owns = λ q. absurd (far ((theirs.owns q).0 ∙ sym o.0));
       ready = λ q. (let some_share = (theirs.ready q).1 in absurd (omega arith));
       idle = theirs.idle;
+      rising = theirs.rising;
     } in
     (dealing J S V 1, pushed_after J S V 0 e rest items views h port at next none held (omega arith) others, refl)
 pushes J S V (suc m) port e rest next items views h at =
@@ -297,6 +308,7 @@ pushes J S V (suc m) port e rest next items views h at =
       owns = λ q. absurd (far ((theirs.owns q).0 ∙ sym o.0));
       ready = λ q. (let late = (theirs.ready q).0 in absurd (omega arith));
       idle = theirs.idle;
+      rising = theirs.rising;
     } in
     (dealing J S V (suc (suc m)), pushed_after J S V (suc m) e rest items views h port at next none held (omega arith) others, refl)
 

@@ -1,5 +1,5 @@
 -- What is dealt to the deques of a board, and counts over it. Source: this project's own.
-use Rattle.std.specs.Prelude.{ℕ, zero, suc, ◌+◌, ◌%◌, List, [], ◌∷◌, ◌++◌, map, replicate, cond, ◌==◌}
+use Rattle.std.specs.Prelude.{ℕ, zero, suc, ◌+◌, ◌%◌, ◌<◌, List, [], ◌∷◌, ◌++◌, map, replicate, cond, ◌==◌, AllPairs}
 use Rattle.tile_jobs.specs.declared.deque.Entry.{Entry}
 use Rattle.tile_jobs.specs.declared.deque.Entry.TheVariants.{Job, End}
 
@@ -32,6 +32,10 @@ ends_of (End ∷ es) = suc (ends_of es)
 abbrev pub times : ℕ → List ℕ → ℕ
 times x [] = 0
 times x (y ∷ ys) = cond (y == x) 1 0 + times x ys
+
+-- each number is less than all after it
+abbrev pub IsRising : List ℕ → Type 0
+IsRising xs = AllPairs (λ x y. x < y) xs
 
 -- f of each number below n, added up
 abbrev pub sum_to : ℕ → (ℕ → ℕ) → ℕ

@@ -1,5 +1,5 @@
 -- A seat, and the ends by which it takes from the deques of its board. Source: this project's own.
-use Rattle.std.specs.Prelude.{◌≡◌, ◌≢◌, ℕ, zero, suc, ◌%◌, ◌<◌, ◌≤◌, ◌⊎◌, Bool, true, false, cond, nat_lt, ◌==◌, List, [], ◌∷◌, ◌++◌, length, get_or, drop}
+use Rattle.std.specs.Prelude.{◌≡◌, ◌≢◌, ℕ, zero, suc, ◌%◌, ◌<◌, ◌≤◌, ◌⊎◌, Bool, true, false, cond, nat_lt, ◌==◌, List, [], ◌∷◌, ◌++◌, length, get_or, drop, All}
 use Rattle.std.specs.List.{concat}
 use Rattle.std.specs.declared.alloc.Global.{Global}
 use Rattle.atomic_blocks.specs.Lent.{RowsId}
@@ -41,13 +41,21 @@ SameEnd e f = (f.id ≡ e.id) × (f.jobs ≡ e.jobs) × (f.seats ≡ e.seats) ×
 abbrev pub Kept : EndState → EndState → Type 0
 Kept e f = SameEnd e f × (f.took ≡ e.took) × (e.marked ≡ true → f.marked ≡ true) × (f.marked ≡ false → e.seen ≤ f.seen)
 
--- a job of this end's deque was taken
-abbrev pub TookJob : EndState → ℕ → EndState → Type 0
-TookJob e j f = SameEnd e f × (f.took ≡ e.took ++ j ∷ []) × (j < e.jobs) × (j % e.seats ≡ e.deque) × (length f.took ≤ length (deal e.jobs e.seats e.deque)) × (e.marked ≡ true → f.marked ≡ true)
+-- job j of this end's deque was taken, before the deque's mark, and goes to the end of the end's list
+pub record TookJob (e : EndState) (j : ℕ) (f : EndState) : Type 0 where
+  pub same : SameEnd e f
+  pub unmarked : e.marked ≡ false
+  pub took : f.took ≡ e.took ++ j ∷ []
+  -- it is greater than all before it there
+  pub rises : All (λ x. x < j) e.took
+  pub below : j < e.jobs
+  pub of_deque : j % e.seats ≡ e.deque
+  pub fits : length f.took ≤ length (deal e.jobs e.seats e.deque)
 
--- nothing was taken through this end, and more entries are seen gone from its deque than before: another taker was met
+-- nothing was taken through this end, which has no mark, and more entries are seen gone from its
+-- deque than before: another taker was met
 abbrev pub MetTaker : EndState → EndState → Type 0
-MetTaker e f = (f ≡ record e { seen = f.seen }) × (e.seen < f.seen)
+MetTaker e f = (f ≡ record e { seen = f.seen }) × (e.seen < f.seen) × (e.marked ≡ false)
 
 abbrev pub AllKept : List EndState → List EndState → Type 0
 AllKept es fs = (i : ℕ) (d : EndState) → i < length es → Kept (get_or es i d) (get_or fs i d)

@@ -4,14 +4,14 @@
 -- or a steal by `Took`. Before the first take the dealer lends each other seat the leave to take one mark
 -- (`lending`, `lent`), and where the board is closed the lists, marks and leaves come back (`taken_back`).
 -- Source: this project's own.
-use Rattle.std.specs.Prelude.{◌≡◌, ℕ, zero, suc, ◌+◌, ◌-◌, ◌%◌, ◌<◌, ◌≤◌, ◌⊎◌, true, false, List, [], ◌∷◌, ◌++◌, length, take, drop}
+use Rattle.std.specs.Prelude.{◌≡◌, ℕ, zero, suc, ◌+◌, ◌-◌, ◌%◌, ◌<◌, ◌≤◌, ◌⊎◌, true, false, List, [], ◌∷◌, ◌++◌, length, take, drop, All}
 use Rattle.std.specs.List.{concat}
 use mathlib.Core.Option.{some}
 use lib.ListN.{get_elem?}
 use Rattle.tile_jobs.specs.declared.deque.Entry.{Entry}
 use Rattle.tile_jobs.specs.declared.deque.Entry.TheVariants.{Job, End}
 use Rattle.tile_jobs.specs.declared.deque.Log.{Log}
-use Rattle.tile_jobs.specs.Board.{deal, feed, jobs_of, ends_of, times}
+use Rattle.tile_jobs.specs.Board.{deal, feed, jobs_of, ends_of, times, IsRising}
 
 -- f of each view, added up
 abbrev pub total : (Log → ℕ) → List Log → ℕ
@@ -53,6 +53,8 @@ pub record IsOf (jobs seats v pushed owner : ℕ) (port : ℕ) (u : Log) : Type 
   pub owns : u.owns ≡ true → (port ≡ owner) × (u.pushed ≡ pushed)
   pub ready : u.ready ≡ true → (pushed ≡ length (feed jobs seats v)) × (0 < share u)
   pub idle : share u ≡ 0 → all_taken u ≡ []
+  -- its own list is rising, and so is each that came back to it
+  pub rising : All IsRising (u.took ∷ u.gathered)
 
 -- a lawful deque: what it holds, and the views of all who may act on it
 pub record Lawful (items : List Entry) (views : List Log) : Type 0 where
@@ -77,10 +79,20 @@ pub record Lawful (items : List Entry) (views : List Log) : Type 0 where
 abbrev pub CanTake : Log → Type 0
 CanTake u = (0 < u.leaves) × ((u.ready ≡ true) ⊎ ((u.owns ≡ true) × (u.pushed ≡ length (feed u.jobs u.seats u.deque))))
 
+-- job j of this deque was taken, and goes to the end of the view's list
+pub record AddsJob (u : Log) (j : ℕ) (w : Log) : Type 0 where
+  pub view : w ≡ record u { took = u.took ++ j ∷ [] }
+  pub below : j < u.jobs
+  pub of_deque : j % u.seats ≡ u.deque
+  -- it is greater than all before it there
+  pub rises : All (λ x. x < j) u.took
+  pub fits : length w.took ≤ length (deal u.jobs u.seats u.deque)
+  pub unmarked : u.marks ≡ 0
+
 -- one entry was taken
 abbrev pub Took : Log → List Entry → Log → Type 0
 Took u [] w = ⊥
-Took u (Job j ∷ []) w = (w ≡ record u { took = u.took ++ j ∷ [] }) × (j < u.jobs) × (j % u.seats ≡ u.deque) × (length w.took ≤ length (deal u.jobs u.seats u.deque)) × (u.marks ≡ 0)
+Took u (Job j ∷ []) w = AddsJob u j w
 Took u (End ∷ []) w = (w ≡ record u { marks = suc u.marks; leaves = u.leaves - 1 })
 Took u (_ ∷ _ ∷ _) w = ⊥
 

@@ -1,4 +1,7 @@
 //! The board: jobs in deques, dealt to seats and gathered again.
+//!
+//! [`Board::deal`] and [`Board::close`] are its two calls; `dealing` and `closing` do them deque by
+//! deque.
 ghost use Rattle.std.specs.Prelude.{◌≡◌, ℕ, ◌+◌, ◌<◌, ◌≤◌, ◌==◌, ◌⊎◌, ◌↔◌, cond, true, List, [], ◌++◌, length, vec_len, vec_capacity, slice_index_or, IfOk, IfErr, OnOk, Err};
 ghost use Rattle.tile_jobs.specs.Board.{deal as deal_list, times, sum_to};
 ghost use Rattle.tile_jobs.specs.Closed.{IsClosed};
@@ -10,7 +13,7 @@ use crate::dealing::{deal_all, seat_all};
 use crate::ends::{Other, Own};
 use crate::room::put;
 use crate::seat::Seat;
-use crate::{JobFault, MOST_JOBS, MOST_WORKERS, judge};
+use crate::{JobFault, MOST_JOBS, MOST_WORKERS, check_workers};
 use std::alloc::Global;
 
 /// Takes back every end of deque `v`.
@@ -103,7 +106,7 @@ impl Board {
         ensures bad { (result ≡ Err JobFault.BadWorkers) ↔ ((seats ≡ 0) ⊎ (MOST_WORKERS < seats)) }
         ensures faults { IfErr result (λ e. (e ≡ JobFault.BadWorkers) ⊎ (e ≡ JobFault.Memory)) }
     {
-        judge(seats)?;
+        check_workers(seats)?;
         let ends = deal_all(alloc, jobs, seats)?;
         Ok(seat_all(alloc, jobs, ends)?)
     }

@@ -1,4 +1,4 @@
-//! A deque that is being closed.
+//! A deque that is being closed: its ends are gathered, and its jobs listed.
 ghost use Rattle.std.specs.Prelude.{◌≡◌, ℕ, ◌+◌, ◌-◌, ◌<◌, ◌≤◌, true, false, List, [], ◌++◌, length, drop, vec_len, vec_capacity, MatchOption};
 ghost use Rattle.crossbeam_deque.specs.Handles.{worker_deque, worker_view, worker_flavor};
 ghost use Rattle.tile_jobs.specs.Board.{times};

@@ -4,6 +4,7 @@ ghost use Rattle.tile_jobs.specs.Workers.{AreNew, AreOutcomes};
 
 use crate::JobFault;
 use crate::gate::Gate;
+use crate::room::put;
 use crate::seat::Seat;
 use crate::work::Work;
 use crate::worker::{Duty, Shift, work_seat};
@@ -11,10 +12,19 @@ use std::alloc::{AllocError, Global};
 use std::snapshot::Snapshot;
 use std::sync::Wait;
 use std::thread;
-use std::thread::{Scope, Threads};
+use std::thread::{Promise, PromisedHandle, Scope, Threads};
 
-/// Moves each seat into a thread of its own, and joins them. A thread after the first `starts` is
-/// not tried, and counts as one that could not be started.
+/// Joins each thread and drops its result.
+fn join_all<R: Threads, T: Drop, P: Promise<T>>(rt: &R, children: Vec<PromisedHandle<T, P>>) {
+    for child in children {
+        child.join(rt);
+    }
+}
+
+/// Moves each seat into a thread of its own, and joins them all.
+///
+/// A thread after the first `starts` counts as one that cannot be started. At an error too, every
+/// started thread is joined before the call returns.
 pub(crate) fn work_apart<'s, E, R: Threads + Wait + Sync, W: Work + Sync, G: Gate + Sync>(
     rt: &'s R,
     alloc: Global,
@@ -34,6 +44,7 @@ where
     let mut children = Vec::with_capacity(alloc, seats.len())?;
     for seat in seats {
         if children.len() >= starts as usize {
+            join_all(rt, children);
             return Err(JobFault::NoThread);
         }
         let duty = Duty {
@@ -41,13 +52,19 @@ where
             seat: Snapshot::of(&seat),
         };
         match scope.spawn_with(duty, move || work_seat(rt, alloc, work, gate, seat)) {
-            Ok(child) => children.push(child).map_err(AllocError::from)?,
-            Err(_) => return Err(JobFault::NoThread),
+            Ok(child) => put(&mut children, child),
+            Err(_) => {
+                join_all(rt, children);
+                return Err(JobFault::NoThread);
+            }
         }
     }
     match thread::join_promised(rt, children) {
         Ok(results) => Ok(results),
-        Err(_) => Err(JobFault::Memory),
+        Err(refused) => {
+            join_all(rt, refused.value);
+            Err(JobFault::Memory)
+        }
     }
 }
 

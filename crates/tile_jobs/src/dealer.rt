@@ -1,4 +1,4 @@
-//! The dealer of one deque.
+//! The dealer of one deque: pushes its jobs and marks, and makes its ends.
 ghost use Rattle.std.specs.Prelude.{◌≡◌, ◌+◌, ◌-◌, ◌%◌, ◌<◌, ◌≤◌, length, IfOk};
 ghost use Rattle.crossbeam_deque.specs.Handles.{worker_deque, worker_view, worker_flavor, worker_index, worker_capacity, SameWorker};
 ghost use Rattle.tile_jobs.specs.Board.{deal};

@@ -1,4 +1,4 @@
-//! Dealing jobs to deques, and seating the ends.
+//! Deals the jobs to all deques, and gives each seat its ends.
 ghost use Rattle.std.specs.Prelude.{◌≡◌, ℕ, ◌++◌, ◌∷◌, [], ◌<◌, ◌≤◌, ◌==◌, cond, vec_len, slice_index_or, IfOk, OnOk};
 ghost use Rattle.tile_jobs.specs.Ends.{EndState, SeatState, seat_of, fresh, without, AllFresh};
 

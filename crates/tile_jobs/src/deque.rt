@@ -1,4 +1,6 @@
 //! One deque of the board: its rule, and the steps on it.
+//!
+//! A push, a pop and a steal each change the view of one pass alone. Depends on `crossbeam_deque`.
 ghost use Rattle.std.specs.Prelude.{◌≡◌, ℕ, suc, ◌<◌, true, [], ◌∷◌, drop, IfNone, MatchOption};
 ghost use Rattle.crossbeam_deque.specs.Handles.{taken, view, IsPassOf, stealer_deque, worker_view, worker_flavor, stealer_flavor, worker_index, worker_capacity, SameWorker, SamePass};
 ghost use Rattle.tile_jobs.specs.Board.{deal, feed};

@@ -1,4 +1,6 @@
-//! A look at the jobs as they begin.
+//! A gate that is called once before each job: [`Gate`].
+//!
+//! On the thread that runs the job. It may block that thread; tests use it to hold jobs.
 
 /// Is told of each job once, just before it is run, by the thread that runs it. It may hold that
 /// thread back.

@@ -1,12 +1,27 @@
-//! Numbered jobs, run by workers on threads of their own, whose answers come back in the order of
-//! the jobs' numbers.
+//! Numbered jobs, run by workers on threads, with results in job order.
 //!
-//! What a job does and answers is told by [`Work`], and how many there are by a number: the jobs
-//! are 0, 1, 2 and so on. [`run_jobs`] hands back an answer to each of them, whichever worker it
-//! falls to.
+//! [`Work`] says what a job does and returns; the jobs are 0, 1, 2 and so on. [`run_jobs`] returns
+//! the result of each, whichever worker ran it.
 //!
-//! Below it stands a [`Board`]: jobs dealt to the deques of its seats. Each [`Seat`] takes the jobs of
-//! its own deque and then steals those of the others, with no lock and no waiting.
+//! Below it is a [`Board`]: jobs dealt to the deques of its seats. Each [`Seat`] takes the jobs of
+//! its own deque and then steals from the others, without locks and without waiting.
+//!
+//! Modules, from what is called to what it depends on:
+//!
+//! - `running`: `run_jobs`, on so many workers
+//! - `crew`: the threads of the workers
+//! - `worker`: one worker at its seat
+//! - `board`: jobs in deques
+//! - `seat`: one worker's place, which takes jobs
+//! - `ends`: a seat's ends of the deques
+//! - `deque`: the rule of one deque
+//! - `dealer`: fills one deque with jobs and marks
+//! - `dealing`: fills all deques
+//! - `closing`: empties one deque and lists its jobs
+//! - `slots`: results in job order
+//! - `room`: lists made with room for everything
+//! - `work`: what a job does
+//! - `gate`: called before each job
 #![tactic(auto)]
 
 ghost use Rattle.std.specs.Prelude.{◌≡◌, ◌<◌, ◌≤◌, ◌⊎◌, ◌↔◌, Err, IfErr, OnOk};
@@ -50,8 +65,8 @@ pub enum JobFault {
     NoThread,
 }
 
-/// Refuses a number of workers, or of seats, that no board has.
-fn judge(workers: u32) -> Result<(), JobFault>
+/// Refuses a number of workers, or of seats, that is 0 or above [`MOST_WORKERS`].
+pub fn check_workers(workers: u32) -> Result<(), JobFault>
     ensures fit { OnOk result ((0 < workers) × (workers ≤ MOST_WORKERS)) }
     ensures bad { (result ≡ Err JobFault.BadWorkers) ↔ ((workers ≡ 0) ⊎ (MOST_WORKERS < workers)) }
     ensures fault { IfErr result (λ e. e ≡ JobFault.BadWorkers) }

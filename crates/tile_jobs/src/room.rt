@@ -1,4 +1,4 @@
-//! Lists that were made with room for all that will stand in them.
+//! Lists that were made with room for all that they will hold.
 ghost use Rattle.std.specs.Prelude.{◌≡◌, suc, ◌<◌, ◌≤◌, [], ◌∷◌, ◌++◌, vec_len, vec_capacity};
 
 /// Puts an element at the end of a list that has room for it. It takes no memory.

@@ -1,6 +1,8 @@
-//! Seats, each of which takes jobs from every deque of its board.
+//! A seat: one worker's place at every deque of its board.
+//!
+//! [`Seat::try_take`] takes its own next job, or tries one steal from each other deque.
 ghost use Rattle.std.specs.Prelude.{◌≡◌, ◌≤◌, [], vec_capacity, IfOk};
-ghost use Rattle.tile_jobs.specs.Ends.{SeatState, seat_of, IsSeat, SameSeat, MarksStay};
+ghost use Rattle.tile_jobs.specs.Ends.{SeatState, seat_of, IsSeat, SameSeat, MarksStay, HasAllMarks};
 ghost use Rattle.tile_jobs.specs.Take.{MatchTake, TakesJob, MeetsTaker, FindsNone};
 
 use crate::ends::{Other, Own, Stolen, steal_round};
@@ -79,15 +81,18 @@ impl Seat {
         (own, others, taken)
     }
 
-    /// Takes the first job of its own deque. Where that has none, it tries one steal from each
-    /// other deque that may have one, beginning with the next seat's and going round.
+    /// Takes the first job of the seat's own deque, or else steals one.
     ///
-    /// It takes no memory and waits for nobody. `Empty` comes once this seat has seen the end of
-    /// every deque, and `Again` only where a steal of this call met another taker: some other deque
-    /// was seen to lose an entry to another seat.
+    /// It tries one steal from each other deque that may have a job, from the next seat's on and
+    /// round. The jobs of each deque come in rising order. It allocates nothing and never waits.
+    ///
+    /// `Empty` comes once this seat has seen the end of every deque, and from then on. `Again` comes
+    /// only where a steal of this call met another taker: some other deque was seen to lose an
+    /// entry to another seat.
     pub fn try_take(&mut self) -> Take
         ensures same { SameSeat self.old self.new }
         ensures stay { MarksStay self.old self.new }
+        ensures over { HasAllMarks self.old → result ≡ Take.Empty }
         ensures took { MatchTake result (λ j. TakesJob self.old j self.new) (MeetsTaker self.old self.new) (FindsNone self.old self.new) }
     {
         if let Some(job) = self.own.take() {

@@ -1,4 +1,4 @@
-//! What is done for each job.
+//! What a job does and returns: [`Work`].
 ghost use Rattle.std.specs.Prelude.{◌≡◌, ℕ, ◌<◌, IfOk, IfErr};
 
 use crate::JobFault;

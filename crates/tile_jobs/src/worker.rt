@@ -1,4 +1,4 @@
-//! A worker at its seat.
+//! One worker at its seat: takes jobs until no deque has one.
 ghost use Rattle.std.specs.Prelude.{◌≤◌};
 ghost use Rattle.tile_jobs.specs.Ends.{IsNew};
 ghost use Rattle.tile_jobs.specs.Workers.{IsOutcome};

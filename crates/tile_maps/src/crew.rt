@@ -1,4 +1,6 @@
-//! Workers, and the maps that they make.
+//! What a stage needs to run jobs: runtime, allocator, number of workers and gate.
+//!
+//! [`Crew::run`] runs any jobs, [`Crew::made`] makes a map.
 ghost use Rattle.std.specs.Prelude.{◌≡◌, ◌≤◌, vec_len, IfOk};
 ghost use Rattle.tile_jobs.specs.Answers.{AllGiven};
 ghost use Rattle.tile_jobs.specs.Fault.{RefusesWorkers};

@@ -1,12 +1,16 @@
-//! Maps of a grid's cells, made tile by tile: one job for each tile, whose lists are put back into one.
+//! Maps of a grid's cells, made tile by tile, one job for each tile.
 //!
-//! What a map has at each place is told by [`TileMap`], and who does the jobs by a [`Crew`].
+//! [`TileMap`] says what a map has at each place, and [`Crew`] what a stage needs to run jobs.
+//! [`Crew::made`] makes the whole map. Depends on `tiles` and `tile_jobs`.
+//!
+//! Modules, from what is called to what it depends on:
+//!
+//! - `crew`: runtime, allocator, workers and gate of a stage
+//! - `map`: what a map has in each tile
 #![tactic(auto)]
 
 mod crew;
-mod joining;
 mod map;
 
 pub use crew::Crew;
-pub use joining::joined;
 pub use map::TileMap;

@@ -1,4 +1,4 @@
-//! What a map has in each tile.
+//! What a map has in each tile: [`TileMap`].
 ghost use Rattle.std.specs.Prelude.{◌≡◌, ◌<◌, IfOk};
 ghost use Rattle.terrain.specs.declared.place.Place.{Place};
 ghost use Rattle.tiles.specs.Cutting.{Cutting, tile_count};

@@ -1,3 +1,4 @@
+//! Where a tile lies, how large it is, and where a place is in its row order.
 ghost use Rattle.std.specs.Prelude.{◌≡◌, ◌*◌, ◌<◌};
 ghost use Rattle.tiles.specs.Cutting.{is_first_or_last, index_in, place_in, IsInBounds, IsWithinLimits, is_in_bounds};
 

@@ -1,4 +1,16 @@
-//! A grid cut into square tiles, lent views of the tiles, and the whole list put back from theirs.
+//! Cuts a grid into square tiles, and puts the tiles' lists back into one.
+//!
+//! Begin with [`Tiling`]: [`Tiling::bounds`], [`Tiling::view`] and [`Tiling::put_back`]. Tiles are
+//! numbered in row order.
+//!
+//! Modules, from what is called to what it depends on:
+//!
+//! - `tiling`: the cutting, and lists put back
+//! - `bounds`: where a tile lies
+//! - `rim`: a tile's outermost cells
+//! - `rim_numbers`: numbers for all rim cells
+//! - `view`: a borrowed view of a tile
+//! - `slices`: parts of slices
 #![tactic(auto)]
 
 mod bounds;

@@ -1,4 +1,7 @@
-//! Numbers for the cells on the rims of all tiles.
+//! Numbers for the cells on the rims of all tiles, without a table.
+//!
+//! Each tile has as many as the largest tile's rim; some stand for no cell. `flow` links rim cells
+//! by them.
 ghost use Rattle.std.specs.Prelude.{◌≡◌, ◌+◌, ◌*◌, ◌^◌, ◌<◌, ◌≤◌, true};
 ghost use Rattle.tiles.specs.Cutting.{IsInBounds, IsWithin, IsWithinLimits, bounds_of, is_on_rim, tile_count};
 ghost use Rattle.tiles.specs.RimNumbers.{stride, side_number, side_place, number_count, rim_number, rim_place};

@@ -1,4 +1,7 @@
-//! The cutting of a grid.
+//! The cutting of a grid: each place has one tile.
+//!
+//! [`Tiling::new`] refuses a bad side or too many tiles; [`Tiling::put_back`] joins the tiles'
+//! lists.
 ghost use Rattle.std.specs.Prelude.{◌≡◌, ◌↔◌, ◌⊎◌, ◌+◌, ◌*◌, ◌/◌, ◌<◌, ◌≤◌, ◌++◌, filter, length, IfOk, OnOk, Err};
 ghost use Rattle.std.specs.Option.{option_to_list};
 ghost use Rattle.smallvec.specs.SmallVec.{HasRoomFor, small_vec_len};

@@ -1,3 +1,4 @@
+//! A borrowed view of a tile and the places around it.
 ghost use Rattle.std.specs.Prelude.{◌≡◌, ◌<◌, length, option_copied};
 ghost use Rattle.tiles.specs.Cutting.{View, IsView, AreBounds, bounds_of, is_shown, cell_shown, row_shown};
 

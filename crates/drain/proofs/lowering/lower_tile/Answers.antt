@@ -1,31 +1,24 @@
-use Rattle.std.proofs.Common.{◌≡◌, ℕ, ◌+◌, ◌<◌, List, [], length, get_or, sym, ap, refl, ◌∙◌, subst, arith}
+use Rattle.std.proofs.Common.{◌≡◌, ℕ, ◌+◌, ◌<◌, List, length, get_or, sym, ap, refl, ◌∙◌, arith}
 use Rattle.std.proofs.lemmas.Bool.{OnFalse_at}
-use Rattle.std.proofs.lemmas.Option.{slice_get-get_or, slice_get_read, same_Some}
-use Rattle.tiles.specs.Cutting.{bounds_of, tile_count, tile_of_place}
-use Rattle.tiles.proofs.Cut.{tile_of_place_below}
+use Rattle.std.proofs.lemmas.Option.{slice_get-get_or, slice_get_read}
+use Rattle.tiles.specs.Cutting.{bounds_of, tile_of_place}
 use Rattle.drain.specs.declared.changes.Entry.{Entry}
 use Rattle.drain.specs.declared.changes.Change.{Change}
 use Rattle.drain.specs.Entering.{lent_terrain}
-use Rattle.drain.specs.Lowering.{counts_in, IsTileAnswer}
-use Rattle.drain.proofs.Lowered.{begun, entered_more, entered_low, entry_own, low_own, ready_at, run_begins, run_first, even_end, even_enter, even_spread, lowered_then, reached_all, reached_tile}
+use Rattle.drain.specs.Lowering.{counts_in}
+use Rattle.drain.proofs.Lowered.{begun, entered_more, entered_low, entry_own, low_own, ready_at, even_end, even_enter, even_spread, lowered_then, reached_all, reached_tile}
 use Rattle.drain.proofs.lowering.lower_tile.Goals as goal
 use Rattle.drain.proofs.lowering.lower_tile.Goals.{then-next-run, else-next-run+then-done-len, else-next-run-2-via-then-next-run-2+else-comes_first, else-next-run-2-via-else-next-run-2}
 
 abbrev none : Entry
-none = run_first [] 0
-
-pub bounds-bounds-requires : goal.bounds-bounds-requires
-bounds-bounds-requires c =
-    let v = c.args.lent.now.tiling.now in
-    let entry = c.requires.entries _ (c.args.run.from, run_begins c.args.entries.now c.args.run c.requires.run) in
-    subst (λ (k : ℕ). k < tile_count v) entry.inside.1 (tile_of_place_below v _ c.args.lent.now.lawful entry.inside.0)
+none = record { tile = 0; change = record { place = record { row = 0; col = 0 }; count = 0 } }
 
 pub loop-next-init : goal.loop-next-init
 loop-next-init c =
     let v = c.args.lent.now.tiling.now in
     let t = lent_terrain v c.args.lent.now.levels.now in
     let steps = c.args.lent.now.steps.now in
-    let tile = (run_first c.args.entries.now c.args.run.from).tile in
+    let tile = c.args.run.tile in
     let first = begun t v tile steps (record { rows = c.in_ok-rows.rows; changes = c.new.result }) c.in_ok-rows.ensures.empty c.new.ensures.items (c.requires.even tile) in
     record {
       lowered = first.0;
@@ -34,7 +27,7 @@ loop-next-init c =
       rows = c.in_ok-rows.ensures.size;
       done = omega arith;
       after = omega arith;
-      next = omega (arith, c.requires.run.some);
+      next = c.requires.run.ordered;
     }
 
 pub lower-requires-clause-within : goal.lower-requires-clause-within
@@ -47,7 +40,7 @@ lower-requires-clause-bounds c =
     let v = c.args.lent.now.tiling.now in
     let t = lent_terrain v c.args.lent.now.levels.now in
     let steps = c.args.lent.now.steps.now in
-    let tile = (run_first c.args.entries.now c.args.run.from).tile in
+    let tile = c.args.run.tile in
     let e = get_or c.args.entries.now c.loop-next.next none in
     let at = slice_get-get_or c.args.entries.now c.loop-next.next none (omega (arith, c.if-next-run-2.true, c.requires.run.below)) in
     let own = entry_own t v steps c.args.entries.now c.args.run c.loop-next.next e c.requires.entries c.requires.run c.loop-next.invariant.after c.if-next-run-2.true at in
@@ -63,7 +56,7 @@ lower-requires-clause-low c =
     let v = c.args.lent.now.tiling.now in
     let t = lent_terrain v c.args.lent.now.levels.now in
     let steps = c.args.lent.now.steps.now in
-    let tile = (run_first c.args.entries.now c.args.run.from).tile in
+    let tile = c.args.run.tile in
     let e = get_or c.args.entries.now c.loop-next.next none in
     let at = slice_get-get_or c.args.entries.now c.loop-next.next none (omega (arith, c.if-next-run-2.true, c.requires.run.below)) in
     let own = entry_own t v steps c.args.entries.now c.args.run c.loop-next.next e c.requires.entries c.requires.run c.loop-next.invariant.after c.if-next-run-2.true at in
@@ -74,7 +67,7 @@ loop-next-preserved-then-comes_first c =
     let v = c.args.lent.now.tiling.now in
     let t = lent_terrain v c.args.lent.now.levels.now in
     let steps = c.args.lent.now.steps.now in
-    let tile = (run_first c.args.entries.now c.args.run.from).tile in
+    let tile = c.args.run.tile in
     let e = get_or c.args.entries.now c.loop-next.next none in
     let at = slice_get-get_or c.args.entries.now c.loop-next.next none (omega (arith, c.if-next-run-2.true, c.requires.run.below)) in
     let own = entry_own t v steps c.args.entries.now c.args.run c.loop-next.next e c.requires.entries c.requires.run c.loop-next.invariant.after c.if-next-run-2.true at in
@@ -95,7 +88,7 @@ loop-next-smaller-then-comes_first c =
     let v = c.args.lent.now.tiling.now in
     let t = lent_terrain v c.args.lent.now.levels.now in
     let steps = c.args.lent.now.steps.now in
-    let tile = (run_first c.args.entries.now c.args.run.from).tile in
+    let tile = c.args.run.tile in
     let e = get_or c.args.entries.now c.loop-next.next none in
     let at = slice_get-get_or c.args.entries.now c.loop-next.next none (omega (arith, c.if-next-run-2.true, c.requires.run.below)) in
     let own = entry_own t v steps c.args.entries.now c.args.run c.loop-next.next e c.requires.entries c.requires.run c.loop-next.invariant.after c.if-next-run-2.true at in
@@ -107,7 +100,7 @@ spread-requires c =
     let v = c.args.lent.now.tiling.now in
     let t = lent_terrain v c.args.lent.now.levels.now in
     let steps = c.args.lent.now.steps.now in
-    let tile = (run_first c.args.entries.now c.args.run.from).tile in
+    let tile = c.args.run.tile in
     let changes = c.loop-next.lowered.changes in
     let below : c.loop-next.done < length changes.items = elim c.else-next-run-2.branch [
       | else-next-run-2-via-then-next-run-2+else-comes_first w ↦ (let few = OnFalse_at w.if-comes_first.false w.comes_first.ensures in omega (arith, few, ap (λ (xs : List Change). length xs) w.deref.ensures.value))
@@ -125,7 +118,7 @@ loop-next-preserved c =
     let v = c.args.lent.now.tiling.now in
     let t = lent_terrain v c.args.lent.now.levels.now in
     let steps = c.args.lent.now.steps.now in
-    let tile = (run_first c.args.entries.now c.args.run.from).tile in
+    let tile = c.args.run.tile in
     let changes = c.loop-next.lowered.changes in
     let below : c.loop-next.done < length changes.items = elim c.else-next-run-2.branch [
       | else-next-run-2-via-then-next-run-2+else-comes_first w ↦ (let few = OnFalse_at w.if-comes_first.false w.comes_first.ensures in omega (arith, few, ap (λ (xs : List Change). length xs) w.deref.ensures.value))
@@ -154,7 +147,7 @@ loop-next-smaller c =
     let v = c.args.lent.now.tiling.now in
     let t = lent_terrain v c.args.lent.now.levels.now in
     let steps = c.args.lent.now.steps.now in
-    let tile = (run_first c.args.entries.now c.args.run.from).tile in
+    let tile = c.args.run.tile in
     let changes = c.loop-next.lowered.changes in
     let below : c.loop-next.done < length changes.items = elim c.else-next-run-2.branch [
       | else-next-run-2-via-then-next-run-2+else-comes_first w ↦ (let few = OnFalse_at w.if-comes_first.false w.comes_first.ensures in omega (arith, few, ap (λ (xs : List Change). length xs) w.deref.ensures.value))
@@ -174,13 +167,11 @@ returns c =
     let v = c.args.lent.now.tiling.now in
     let t = lent_terrain v c.args.lent.now.levels.now in
     let steps = c.args.lent.now.steps.now in
-    let tile = (run_first c.args.entries.now c.args.run.from).tile in
+    let tile = c.args.run.tile in
     let l = c.loop-next.lowered in
-    λ first at.
-    subst (λ (e : Entry). IsTileAnswer t v e.tile steps c.args.entries.now c.args.run.from c.args.run.end l.changes.items) (same_Some _ first (sym (run_begins c.args.entries.now c.args.run c.requires.run) ∙ at))
-    (record {
+    record {
       counts = counts_in v tile steps l;
       lowered = c.loop-next.invariant.lowered;
       even = even_end t v tile steps l c.loop-next.done (omega (arith, c.if-done-len.false, c.len.ensures, l.changes.ok.0)) c.loop-next.invariant.even;
       entered = record { each = λ k e past below here. c.loop-next.invariant.entered.each k e past (omega (arith, below, c.if-next-run.false)) here };
-    })
+    }

@@ -1,14 +1,13 @@
 use Rattle.std.proofs.Common.{◌≡◌, ◌≤◌, ◌+◌, ◌-◌, ◌*◌, length}
 use Rattle.drain.specs.Entering.{lent_terrain}
 use Rattle.drain.specs.Lowering.{IsLowered, IsEvenBut, IsEntered, counts_in, total}
-use Rattle.drain.proofs.Lowered.{run_first}
 use Rattle.drain.proofs.lowering.lower_tile.Given as goal
 
 abbrev pub invariant-loop-next : goal.invariant-loop-next
 invariant-loop-next l =
     let c = l.lent.tiling.now in
     let t = lent_terrain c l.lent.levels.now in
-    let tile = (run_first l.entries l.run.from).tile in
+    let tile = l.run.tile in
     record {
       lowered : IsLowered t c tile l.lent.steps.now (counts_in c tile l.lent.steps.now l.lowered) l.lowered.changes.items;
       even : IsEvenBut t c tile l.lent.steps.now l.lowered l.done;
@@ -22,5 +21,5 @@ invariant-loop-next l =
 abbrev pub decreases-loop-next : goal.decreases-loop-next
 decreases-loop-next l =
     let c = l.lent.tiling.now in
-    let tile = (run_first l.entries l.run.from).tile in
+    let tile = l.run.tile in
     (l.run.end - l.next) + ((length l.lowered.changes.items - l.done) + total (c.cols * c.rows) (counts_in c tile l.lent.steps.now l.lowered))

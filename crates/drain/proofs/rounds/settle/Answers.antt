@@ -1,7 +1,6 @@
-use Rattle.std.proofs.Common.{ℕ, List, Option, length, sym, ap, refl, ◌∙◌, arith}
-use Rattle.std.proofs.lemmas.Bool.{eqb-true}
+use Rattle.std.proofs.Common.{ℕ, List, Option, length, ap, refl, ◌∙◌, arith}
 use Rattle.drain.specs.Rounding.{rounding_of}
-use Rattle.drain.proofs.RoundLemmas.{first_rounding, settled_at}
+use Rattle.drain.proofs.RoundLemmas.{first_rounding, next_then, settled_at}
 use Rattle.drain.proofs.rounds.settle.Goals as goal
 
 pub invariant_of-entries_of_all : goal.invariant_of-entries_of_all
@@ -25,18 +24,22 @@ loop-counting-init g c =
 pub returns-clause-settled : goal.returns-clause-settled
 returns-clause-settled g c =
     let inv = c.loop-counting.invariant in
-    let entries = c.loop-counting.counting.entries in
-    let none = eqb-true _ _ (sym c.loop-counting-test.ensures) in
-    settled_at (rounding_of c.loop-counting.counting) c.args.tiling.now c.args.levels.now c.args.steps.items inv.tiling inv.levels inv.rounding (omega (arith, none, entries.ok.0)) inv.same_lent
+    let next = c.in_ok-full_round.ensures.next in
+    let same = rw (inv.tiling, inv.levels) at next.same_lent in
+    settled_at (rounding_of c.full_round.new.self) c.args.tiling.now c.args.levels.now c.args.steps.items (next.same_cutting ∙ inv.tiling) (next.same_levels ∙ inv.levels) next.rounding
+    (c.in_ok-full_round.ensures.last c.if-branch.false) (λ p. (λ lent. (same p).0 ((inv.same_lent p).0 lent), λ lent. (inv.same_lent p).1 ((same p).1 lent)))
 
 pub loop-counting-preserved : goal.loop-counting-preserved
 loop-counting-preserved g c =
     let inv = c.loop-counting.invariant in
-    let round = c.in_ok-one_round.ensures in
-    let same = rw (inv.tiling, inv.levels) at round.next.same_lent in
+    let next = next_then _ _ _ c.in_ok-full_round.ensures.next c.in_ok-settle_few.ensures in
+    let same = rw (inv.tiling, inv.levels) at next.same_lent in
     record {
-      tiling = rw round.ground.0 inv.tiling;
-      levels = rw round.ground.1 inv.levels;
-      rounding = round.next.rounding;
+      tiling = next.same_cutting ∙ inv.tiling;
+      levels = next.same_levels ∙ inv.levels;
+      rounding = next.rounding;
       same_lent = λ p. (λ lent. (same p).0 ((inv.same_lent p).0 lent), λ lent. (inv.same_lent p).1 ((same p).1 lent));
     }
+
+pub loop-counting-smaller : goal.loop-counting-smaller
+loop-counting-smaller g c = (let less = c.in_ok-full_round.ensures.less c.if-branch.true in let low = c.in_ok-settle_few.ensures.low in omega (arith, less, low))

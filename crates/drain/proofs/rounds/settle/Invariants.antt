@@ -1,8 +1,7 @@
-use Rattle.std.proofs.Common.{◌≡◌, ◌*◌}
+use Rattle.std.proofs.Common.{◌≡◌}
 use Rattle.drain.specs.Rounds.{LendSame}
 use Rattle.drain.specs.Entering.{lent_terrain}
-use Rattle.drain.specs.Lowering.{count_of, total}
-use Rattle.drain.specs.Rounding.{IsRounding, rounding_of}
+use Rattle.drain.specs.Rounding.{IsRounding, left_in, rounding_of}
 use Rattle.drain.proofs.rounds.settle.Given as goal
 
 abbrev pub invariant-loop-counting : goal.invariant-loop-counting
@@ -14,4 +13,4 @@ invariant-loop-counting g l = record {
 }
 
 abbrev pub decreases-loop-counting : goal.decreases-loop-counting
-decreases-loop-counting g l = total (l.tiling.cols * l.tiling.rows) (count_of l.counting.steps.items)
+decreases-loop-counting g l = left_in (rounding_of l.counting)

@@ -17,14 +17,15 @@ loop-seat-preserved g c =
     let held : seat ∷ rest ≡ drop n all = sym step ∙ inv.rest in
     let was = c.loop-seat.children.items in
     let child = c.in-Ok.child in
-    let items : c.push.new.self.items ≡ was ++ child ∷ [] = grind (arith, common_steps) in
+    let items : c.put.new.list.items ≡ was ++ child ∷ [] = c.put.ensures.items in
     let size : length was ≡ n = search rules in
-    let len : vec_len c.push.new.self ≡ suc n = grind (arith, common_steps) in
+    let len : vec_len c.put.new.list ≡ suc n = c.put.ensures.len in
     let same_work : child.promise.work.now ≡ c.args.work.now = grind (arith, common_steps) in
     let same_seat : child.promise.seat.value ≡ seat = grind (arith, common_steps) in
     record {
       rest = rw len (cut_drop all n seat rest held);
       count = omega (arith, inv.count, ap length step, len);
       started = omega (arith, len);
+      room = omega (arith, inv.room, c.put.ensures.room);
       each = λ s h d low. rw items (get_snoc (λ j x. (d : SeatState) → (x.promise.work.now ≡ c.args.work.now) × (x.promise.seat.value ≡ get_or all j d)) was child (λ j x l e. inv.each j x e (omega (arith, size))) (λ e. (same_work, rw size (same_seat ∙ get_drop all n seat e rest held))) s h (omega (arith, size, len)) d);
     }

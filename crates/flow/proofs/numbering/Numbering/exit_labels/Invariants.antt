@@ -4,5 +4,5 @@ use Rattle.flow.specs.Numbering.{label_by}
 use Rattle.flow.proofs.numbering.Numbering.exit_labels.Given as goal
 
 abbrev pub invariant-loop-index : goal.invariant-loop-index
-invariant-loop-index l =
-    l.labels.items ≡ map (λ i. label_by l.self.outlets l.self.flows.items l.self.numbers l.flow.bounds i (get_or l.flow.exits i None)) (range_with_len 0 l.index)
+invariant-loop-index g l =
+    l.labels.items ≡ map (λ i. label_by l.self.outlets l.self.flows.items (g.N.EndNumbering.numbers l.self.numbers) l.flow.bounds i (get_or l.flow.exits i None)) (range_with_len 0 l.index)

@@ -8,25 +8,25 @@ use Rattle.flow.proofs.Listed.{exit_placed, label_own, label_none, label_other}
 use Rattle.flow.proofs.numbering.Numbering.label_of.Goals as goal
 
 pub returns-in_default : goal.returns-in_default
-returns-in_default c = label_none c.args.self.now.outlets c.args.self.now.flows.items c.args.self.now.numbers c.args.flow.now.bounds c.args.index _ (sym c.in_default.is ∙ c.exit_index.ensures.value)
+returns-in_default g c = label_none c.args.self.now.outlets c.args.self.now.flows.items (g.N.EndNumbering.numbers c.args.self.now.numbers) c.args.flow.now.bounds c.args.index _ (sym c.in_default.is ∙ c.exit_index.ensures.value)
 
 pub returns-then-exit-index : goal.returns-then-exit-index
-returns-then-exit-index c = label_other c.args.self.now.outlets c.args.self.now.flows.items c.args.self.now.numbers c.args.flow.now.bounds c.args.index _ _ c.in-Some.ensures.value c.if-exit-index.true
+returns-then-exit-index g c = label_other c.args.self.now.outlets c.args.self.now.flows.items (g.N.EndNumbering.numbers c.args.self.now.numbers) c.args.flow.now.bounds c.args.index _ _ c.in-Some.ensures.value c.if-exit-index.true
 
 pub number_of-requires-clause-within : goal.number_of-requires-clause-within
-number_of-requires-clause-within c =
-    (exit_placed c.args.self.now.outlets c.args.self.now.flows.items c.args.self.now.numbers c.args.flow.now.bounds c.in-Some.exit _ c.place_at.result
+number_of-requires-clause-within g c =
+    (exit_placed c.args.self.now.outlets c.args.self.now.flows.items (g.N.EndNumbering.numbers c.args.self.now.numbers) c.args.flow.now.bounds c.in-Some.exit _ c.place_at.result
     (c.place_at.ensures.value ∙ ap (λ (b : Bounds). place_in b c.in-Some.exit) c.bounds.ensures.value) c.in-Some.ensures.value c.requires.exit).within
 
 pub number_of-requires-clause-numbered : goal.number_of-requires-clause-numbered
-number_of-requires-clause-numbered c =
-    (exit_placed c.args.self.now.outlets c.args.self.now.flows.items c.args.self.now.numbers c.args.flow.now.bounds c.in-Some.exit _ c.place_at.result
+number_of-requires-clause-numbered g c =
+    (exit_placed c.args.self.now.outlets c.args.self.now.flows.items (g.N.EndNumbering.numbers c.args.self.now.numbers) c.args.flow.now.bounds c.in-Some.exit _ c.place_at.result
     (c.place_at.ensures.value ∙ ap (λ (b : Bounds). place_in b c.in-Some.exit) c.bounds.ensures.value) c.in-Some.ensures.value c.requires.exit).numbered
 
 pub returns : goal.returns
-returns c =
+returns g c =
     let m = c.args.self.now in
     c.number_of.ensures
-    ∙ ap (λ (p : Place). number_at m.outlets.cutting.cols m.numbers (outlet_in m.outlets m.flows.items p))
+    ∙ ap (λ (p : Place). number_at m.outlets.cutting.cols (g.N.EndNumbering.numbers m.numbers) (outlet_in m.outlets m.flows.items p))
     (c.place_at.ensures.value ∙ ap (λ (b : Bounds). place_in b c.in-Some.exit) c.bounds.ensures.value)
-    ∙ label_own m.outlets m.flows.items m.numbers c.args.flow.now.bounds c.args.index c.in-Some.exit (get_or c.args.flow.now.exits c.args.index None) c.in-Some.ensures.value c.if-exit-index.false c.requires.exit
+    ∙ label_own m.outlets m.flows.items (g.N.EndNumbering.numbers m.numbers) c.args.flow.now.bounds c.args.index c.in-Some.exit (get_or c.args.flow.now.exits c.args.index None) c.in-Some.ensures.value c.if-exit-index.false c.requires.exit

@@ -11,10 +11,10 @@ returns-in-Job c =
     let u : Log = worker_view c.self.inside.worker in
     let j = c.in-Job.job in
     let t : TookNext u (Job j ∷ []) (worker_view c.pop_next.new.worker) = c.in-Job.ensures.took in
-    let none : u.marks ≡ 0 = t.0.4 in
+    let none : u.marks ≡ 0 = t.0.unmarked in
     let at : taken u ≡ length (all_taken u) = omega (arith, none) in
     let next = feed_job_at u.jobs u.seats u.deque (length (all_taken u)) j t.1.0 (rw at at t.1.1) in
-    rw (← c.self.view_is, t.0.0, c.pop_next.ensures.same.0) (refl, none, next)
+    rw (← c.self.view_is, t.0.view, c.pop_next.ensures.same.0) (refl, none, next)
 
 pub returns-in-End : goal.returns-in-End
 returns-in-End c =

@@ -1,0 +1,141 @@
+//! Gauges: what is wrong with a list of them, and their numbers by the cells that they name.
+ghost use Rattle.std.specs.Prelude.{◌≡◌, ℕ, ◌*◌, ◌≤◌, length, nat_eq, IfOk, option_map};
+ghost use Rattle.std.specs.HashMap as hash;
+ghost use Rattle.terrain.specs.Sinks.{first_sink_fault, most_sinks, sink_fault_of};
+ghost use Rattle.std.specs.List.{All};
+ghost use Rattle.tiles.specs.Cutting.{Cuts, IsWithin};
+ghost use Rattle.flow.specs.Catchments.{fault_of_gauge, gauges_fault};
+ghost use Rattle.flow.specs.CutCodes.{number_of_index};
+
+use crate::end_numbers::EndNumbering;
+use drainage::Directions;
+use std::alloc::{AllocError, Global};
+use std::collections::HashMap;
+use terrain::Place;
+use tile_jobs::JobFault;
+use tiles::Tiling;
+
+/// The most entries of a list of gauges, repeats counted.
+pub const MOST_GAUGES: usize = 1_024;
+
+/// Why catchments are refused; an index is a place in the list of gauges, from 0.
+#[derive(Clone, Copy, Debug, PartialEq, Eq)]
+pub enum GaugeFault {
+    /// The gauge at this index lies outside the grid.
+    Outside(u32),
+    /// The gauge at this index has no data.
+    OnNodata(u32),
+    /// The list has more than [`MOST_GAUGES`] entries.
+    TooManyGauges,
+    /// The jobs were not run to their end.
+    Jobs(JobFault),
+}
+
+impl From<JobFault> for GaugeFault {
+    ghost use Rattle.std.specs.Prelude.{◌≡◌};
+    ghost use Rattle.flow.specs.declared.gauges.GaugeFault.TheVariants.{Jobs};
+
+    ghost from_gives = { λ fault r. r ≡ Jobs fault };
+
+    fn from(fault: JobFault) -> GaugeFault {
+        GaugeFault::Jobs(fault)
+    }
+}
+
+impl From<AllocError> for GaugeFault {
+    ghost use Rattle.std.specs.Prelude.{◌≡◌};
+    ghost use Rattle.tile_jobs.specs.declared.JobFault.TheVariants.{Memory};
+    ghost use Rattle.flow.specs.declared.gauges.GaugeFault.TheVariants.{Jobs};
+
+    ghost from_gives = { λ _ fault. fault ≡ Jobs Memory };
+
+    fn from(_error: AllocError) -> GaugeFault {
+        GaugeFault::Jobs(JobFault::Memory)
+    }
+}
+
+/// The fault of the gauge that stands at `index`.
+fn gauge_fault_at(d: &Directions, tiling: &Tiling, gauge: Place, index: u32) -> Option<GaugeFault>
+    requires { Cuts tiling.now d.now.terrain }
+    ensures { result ≡ option_map fault_of_gauge (sink_fault_of d.now.terrain index gauge) }
+{
+    if gauge.row >= tiling.rows() || gauge.col >= tiling.cols() {
+        return Some(GaugeFault::Outside(index));
+    }
+    if d.code(gauge).is_none() {
+        return Some(GaugeFault::OnNodata(index));
+    }
+    None
+}
+
+/// The fault of the first gauge that lies outside the grid or has no data.
+fn first_bad_gauge(d: &Directions, tiling: &Tiling, gauges: &[Place]) -> Option<GaugeFault>
+    requires cuts { Cuts tiling.now d.now.terrain }
+    requires few { length gauges.now ≤ most_sinks }
+    ensures { result ≡ option_map fault_of_gauge (first_sink_fault d.now.terrain 0 gauges.now) }
+{
+    for (index, gauge) in gauges.iter().enumerate() {
+        let fault = gauge_fault_at(d, tiling, *gauge, index as u32);
+        if fault.is_some() {
+            return fault;
+        }
+    }
+    None
+}
+
+/// The first fault of gauges over a map of directions.
+pub(crate) fn first_fault(d: &Directions, tiling: &Tiling, gauges: &[Place]) -> Option<GaugeFault>
+    requires { Cuts tiling.now d.now.terrain }
+    ensures { result ≡ gauges_fault d.now.terrain gauges.now }
+{
+    if gauges.len() > MOST_GAUGES {
+        return Some(GaugeFault::TooManyGauges);
+    }
+    first_bad_gauge(d, tiling, gauges)
+}
+
+/// The numbers of gauges, by the cells that they name. Any other cell has 0.
+#[derive(Drop)]
+pub struct GaugeNumbers {
+    cells: usize,
+    // By the index of a cell in row order.
+    numbers: HashMap<usize, u32>,
+}
+
+impl GaugeNumbers {
+    /// The numbers of gauges of a grid: their places in the list, from 1. Of entries that name one
+    /// cell the first counts.
+    pub(crate) fn of_gauges(
+        alloc: Global,
+        tiling: &Tiling,
+        gauges: &[Place],
+    ) -> Result<GaugeNumbers, AllocError>
+        requires few { length gauges.now ≤ most_sinks }
+        requires within { All (IsWithin tiling.now) gauges.now }
+        ensures cells { IfOk result (λ n. n.cells ≡ tiling.now.cols * tiling.now.rows) }
+        ensures numbers { IfOk result (λ n. (i : ℕ) → hash.get nat_eq n.numbers i ≡ number_of_index tiling.now.cols gauges.now i) }
+    {
+        let mut numbers = HashMap::new(alloc);
+        for (index, gauge) in gauges.iter().enumerate() {
+            let cell = gauge.index_in(tiling.cols());
+            numbers.entry(cell)?.or_insert(index as u32 + 1);
+        }
+        Ok(GaugeNumbers {
+            cells: tiling.cols() as usize * tiling.rows() as usize,
+            numbers,
+        })
+    }
+}
+
+impl EndNumbering for GaugeNumbers {
+    ghost use Rattle.flow.specs.CutCodes.{gauge_numbers};
+
+    ghost numbers = { λ n. gauge_numbers n.cells n.numbers };
+
+    fn number(&self, index: usize) -> u32 {
+        match self.numbers.get(&index) {
+            Some(number) => *number,
+            None => 0,
+        }
+    }
+}
