@@ -146,10 +146,10 @@ def _without_holes(terrain: Terrain, job: Job, say: Say) -> Terrain:
     holes = find_holes(~terrain.valid, terrain.masked)
     if not holes.count:
         return terrain
-    found = (f"voids: {holes.cell_count:,} cells without data in {holes.count:,} "
-             f"{'hole' if holes.count == 1 else 'holes'} inside the land")
+    found = (f"voids: {holes.cell_count:,} cells in {holes.count:,} {'hole' if holes.count == 1 else 'holes'} "
+             "inside the land")
     if job.voids == "refuse":
-        raise InputError(f"{found} would drain water: --voids fill or drain")
+        raise InputError(f"{found}: --voids fill interpolates, --voids drain lets water out")
     if job.voids == "drain":
         say(f"{found}, left as they are")
         return terrain
@@ -277,7 +277,8 @@ def _result(job: Job, terrain: Terrain, heights: Heights,
 def _height_type(terrain: Terrain, heights: Heights) -> np.dtype:
     """The type of filled heights: the raster's own where it has all units, else the least that has."""
     own = terrain.values.dtype
-    if own.kind in "iu" and heights.decimals == 0:
+    # Few tools read integers of 64 bits.
+    if own.kind in "iu" and own.itemsize < 8 and heights.decimals == 0:
         return own
     if own == np.float64 and heights.decimals > 0:
         return own

@@ -152,6 +152,14 @@ class OtherRasters(MapCase):
         band = info(self.folder / "fill.tif")["bands"][0]
         self.assertEqual((band["type"], band["noDataValue"]), ("Int16", -32768))
 
+    @unittest.skipUnless(hasattr(gdal, "GDT_Int64"), "this GDAL has no integers of 64 bits")
+    def test_wide_integers(self):
+        for factor, kind in ((1, "Int32"), (10**12, "Float64")):
+            heights = np.rint(hills()).astype(np.int64) * factor
+            make_raster(self.folder / "dem.tif", heights, -5)
+            self.all_maps(np.ones(heights.shape, bool), 0)
+            self.assertEqual(info(self.folder / "fill.tif")["bands"][0]["type"], kind)
+
     def test_no_nodata(self):
         make_raster(self.folder / "dem.tif", np.rint(hills()).astype(np.uint16))
         self.all_maps(np.ones((30, 40), bool), 0)
@@ -278,11 +286,11 @@ class Voids(MapCase):
         make_raster(self.folder / "dem.tif", array, -9999.0)
 
     def test_refused(self):
-        self.refuse(2, "voids: 6 cells without data in 2 holes inside the land", "fill", "dem.tif", "out.tif")
+        self.refuse(2, "voids: 6 cells in 2 holes inside the land", "fill", "dem.tif", "out.tif")
 
     def test_left(self):
         lines = self.compare("basins", ["--voids", "drain"], [], ~(self.sea | self.hole), 2)
-        self.assertIn("6 cells without data in 2 holes inside the land, left as they are", lines)
+        self.assertIn("6 cells in 2 holes inside the land, left as they are", lines)
 
     def test_filled(self):
         lines = self.make("fill", "dem.tif", "out.tif", "--voids", "fill")
@@ -307,7 +315,7 @@ class Voids(MapCase):
         array = np.where(self.hole, np.float32(np.nan), self.heights)
         make_raster(self.folder / "dem.tif", array, mask=mask)
         lines = self.make("fill", "dem.tif", "out.tif", "--voids", "fill")
-        self.assertIn("voids: 1 cells without data in 1 hole", lines)
+        self.assertIn("voids: 1 cells in 1 hole", lines)
         self.assertIn("13 cells at the border or a mask stay without data", lines)
 
 
