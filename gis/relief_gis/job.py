@@ -146,11 +146,10 @@ def _without_holes(terrain: Terrain, job: Job, say: Say) -> Terrain:
     holes = find_holes(~terrain.valid, terrain.masked)
     if not holes.count:
         return terrain
-    found = (f"voids: {holes.cell_count:,} cells without data in {holes.count:,} "
-             f"{'hole' if holes.count == 1 else 'holes'} inside the land")
+    found = (f"voids: {holes.cell_count:,} cells in {holes.count:,} {'hole' if holes.count == 1 else 'holes'} "
+             "inside the land")
     if job.voids == "refuse":
-        raise InputError(f"{found}, at each of which water would drain off: --voids fill interpolates them, "
-                         "--voids drain leaves them")
+        raise InputError(f"{found}: --voids fill interpolates, --voids drain lets water out")
     if job.voids == "drain":
         say(f"{found}, left as they are")
         return terrain

@@ -2,6 +2,7 @@
 from __future__ import annotations
 
 import os
+import queue
 import re
 import shutil
 import subprocess
@@ -100,6 +101,7 @@ class Program:
              is_cancelled: Optional[Question]) -> Tuple[int, List[str]]:
         """Runs the program over two open files; its status and the lines of its errors without progress."""
         lines: List[str] = []
+        shares: queue.SimpleQueue[float] = queue.SimpleQueue()
 
         def listen() -> None:
             assert process.stderr is not None
@@ -107,31 +109,40 @@ class Program:
                 share = PERCENT.search(line)
                 if share is None:
                     lines.append(line.rstrip("\n"))
-                elif on_progress is not None:
-                    on_progress(min(int(share[1]), 100) / 100)
+                else:
+                    shares.put(min(int(share[1]), 100) / 100)
+
+        def report() -> None:
+            """Tells the caller on the thread that called: feedback of QGIS wants that."""
+            while not shares.empty():
+                share = shares.get()
+                if on_progress is not None:
+                    on_progress(share)
 
         with subprocess.Popen([self.path, *words], stdin=source, stdout=target, stderr=subprocess.PIPE,
                               text=True, errors="replace") as process:
             listener = threading.Thread(target=listen, daemon=True)
             listener.start()
             try:
-                _wait(process, is_cancelled)
+                _wait(process, report, is_cancelled)
             except BaseException:
                 process.kill()
                 raise
             finally:
                 process.wait()
                 listener.join()
+        report()
         return process.returncode, lines
 
 
-def _wait(process: "subprocess.Popen[str]", is_cancelled: Optional[Question]) -> None:
-    """Waits for the end of a process; raises Cancelled where the caller asks for it."""
+def _wait(process: "subprocess.Popen[str]", report: Callable[[], None], is_cancelled: Optional[Question]) -> None:
+    """Waits for the end of a process and reports meanwhile; raises Cancelled where the caller asks for the end."""
     while True:
         try:
             process.wait(SECONDS_BETWEEN_LOOKS)
             return
         except subprocess.TimeoutExpired:
+            report()
             if is_cancelled is not None and is_cancelled():
                 raise Cancelled("cancelled") from None
 

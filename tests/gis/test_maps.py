@@ -278,11 +278,11 @@ class Voids(MapCase):
         make_raster(self.folder / "dem.tif", array, -9999.0)
 
     def test_refused(self):
-        self.refuse(2, "voids: 6 cells without data in 2 holes inside the land", "fill", "dem.tif", "out.tif")
+        self.refuse(2, "voids: 6 cells in 2 holes inside the land", "fill", "dem.tif", "out.tif")
 
     def test_left(self):
         lines = self.compare("basins", ["--voids", "drain"], [], ~(self.sea | self.hole), 2)
-        self.assertIn("6 cells without data in 2 holes inside the land, left as they are", lines)
+        self.assertIn("6 cells in 2 holes inside the land, left as they are", lines)
 
     def test_filled(self):
         lines = self.make("fill", "dem.tif", "out.tif", "--voids", "fill")
@@ -307,7 +307,7 @@ class Voids(MapCase):
         array = np.where(self.hole, np.float32(np.nan), self.heights)
         make_raster(self.folder / "dem.tif", array, mask=mask)
         lines = self.make("fill", "dem.tif", "out.tif", "--voids", "fill")
-        self.assertIn("voids: 1 cells without data in 1 hole", lines)
+        self.assertIn("voids: 1 cells in 1 hole", lines)
         self.assertIn("13 cells at the border or a mask stay without data", lines)
 
 

@@ -4,6 +4,7 @@ import pathlib
 import shutil
 import subprocess
 import tempfile
+import time
 import unittest
 from concurrent.futures import ThreadPoolExecutor
 
@@ -30,14 +31,14 @@ def setUpModule():
         raise RuntimeError(done.stdout + done.stderr)
 
 
-def qgis(*words, program=RELIEF, folder=None):
-    """Runs `qgis_process` in the profile."""
+def qgis(*words, program=RELIEF, command=None):
+    """Runs `qgis_process`, or another command, in the profile."""
     environment = {**os.environ, "HOME": str(ROOM), "XDG_RUNTIME_DIR": str(ROOM / "run"),
                    "QT_QPA_PLATFORM": "offscreen", "QGIS_PLUGINPATH": str(ROOM / "plugins"), "RELIEF": program,
                    # QGIS takes its modules from the first python3: that has to be the distribution's.
                    "PATH": f"/usr/bin:/bin:{os.environ['PATH']}", "RELIEF_PLAIN": RELIEF, "LC_ALL": "C.UTF-8"}
     environment.pop("PYTHONPATH", None)
-    return subprocess.run([QGIS, *words], capture_output=True, text=True, timeout=300, env=environment, cwd=folder)
+    return subprocess.run([*(command or [QGIS]), *words], capture_output=True, text=True, timeout=300, env=environment)
 
 
 class Algorithms(Case):
@@ -97,11 +98,33 @@ class Algorithms(Case):
         done = self.run_algorithm("fill")
         self.assertNotEqual(done.returncode, 0)
         said = done.stdout + done.stderr
-        self.assertIn("1 cells without data in 1 hole inside the land", said)
+        self.assertIn("1 cells in 1 hole inside the land", said)
         self.assertIn("Holes inside the land", said)
         self.assertNotIn("--voids", said)
         self.assertNotIn("Traceback", said)
         self.assertFalse((self.folder / "qgis_fill.tif").exists())
+
+    def feedback(self, program, *words):
+        """The lines of a run within QGIS: its progress, and how it ended."""
+        done = qgis(str(ROOM / "plugins"), str(self.folder / "dem.tif"), str(self.folder / "out.tif"), *words,
+                    program=program, command=["/usr/bin/python3", str(HERE / "feedback_in_qgis.py")])
+        self.assertEqual(done.returncode, 0, done.stderr)
+        return done.stdout.splitlines()
+
+    def test_the_bar_moves_where_the_program_reports(self):
+        shares, end = self.feedback(str(HERE / "with_catchments"))
+        # From 20 to 90 by tenths, and 100 when the map is written.
+        self.assertEqual((shares, end), ("27 34 41 48 55 62 69 76 83 90 100", "done"))
+
+    def test_cancel_ends_the_program_and_leaves_no_map(self):
+        program = self.folder / "relief"
+        program.write_text("#!/bin/sh\n"
+                           "case $1 in --version) echo relief 9.9.9;; --help) echo;; *) exec sleep 250;; esac\n")
+        program.chmod(0o755)
+        began = time.monotonic()
+        self.assertEqual(self.feedback(str(program), "cancel")[-1], "cancelled")
+        self.assertLess(time.monotonic() - began, 200)
+        self.assertEqual([name for name in os.listdir(self.folder) if "out" in name], [])
 
     def test_an_extent(self):
         west, north = centre(0, 0)[0] - 15, centre(0, 0)[1] + 15
