@@ -3,6 +3,7 @@ from __future__ import annotations
 
 import argparse
 import os
+import re
 import shlex
 import signal
 import sys
@@ -17,6 +18,7 @@ from .program import Program
 from .units import MOST_DECIMALS, decimal_of
 
 NAME = "relief-gis"
+NEGATIVE = re.compile(r"-[\d.]")
 BAR_CELLS = 40
 MOST_WORKERS = 64
 ABOUT = {
@@ -165,6 +167,17 @@ def _say(line: str) -> None:
     print(f"{NAME}: {line}", file=sys.stderr)
 
 
+def _joined(words: Sequence[str]) -> List[str]:
+    """The words, each option joined to a number below 0 behind it, which argparse takes for an option."""
+    found: List[str] = []
+    for word in words:
+        if NEGATIVE.match(word) and found and found[-1].startswith("--") and "=" not in found[-1]:
+            found[-1] += f"={word}"
+        else:
+            found.append(word)
+    return found
+
+
 class _Bar:
     """A bar on a terminal, written anew in place; elsewhere a line at each tenth."""
 
@@ -206,7 +219,7 @@ def main(words: Optional[Sequence[str]] = None) -> int:
     words = sys.argv[1:] if words is None else words
     # An end by a signal goes the way of an exception, so that no temporary file is left.
     signal.signal(signal.SIGTERM, lambda number, frame: sys.exit(128 + number))
-    asked = _parser().parse_args(words)
+    asked = _parser().parse_args(_joined(words))
     try:
         _run(words, asked)
     except GisError as error:

@@ -62,6 +62,15 @@ class Layers(Case):
         make_points(self.folder / "masts.gpkg", near, fields=["height"])
         self.check("--points", "masts.gpkg", "--eye-field", "height")
 
+    def test_coordinates_below_zero(self):
+        placed = (-2000000.0, 30.0, 0.0, -100.0, 0.0, -30.0)
+        make_raster(self.folder / "west.tif", hills().astype(np.float32), placed=placed, projection="EPSG:5070")
+        x, y = centre(10, 20, placed)
+        bounds = f"{placed[0]},{placed[3] - 900},{placed[0] + 1200},{placed[3]}"
+        self.make("view", "west.tif", "view.tif", "--at", f"{x},{y}", "--eye", "12.5", "--bounds", bounds)
+        expected = by_hand(["view", "10,20,1250"], self.folder / "west.tif", 2)
+        np.testing.assert_array_equal(read(self.folder / "view.tif").astype(str), expected)
+
     def test_sinks_of_a_layer(self):
         make_points(self.folder / "sinks.gpkg", [centre(7, 8), centre(12, 30)])
         self.make("basins", "dem.tif", "basins.tif", "--points", "sinks.gpkg")
@@ -142,7 +151,7 @@ class Gauges(Case):
         self.refuse(1, "needs gauges", "catchments", "dem.tif", "out.tif", program=self.PROGRAM)
         self.refuse(1, "give --snap CELLS", "catchments", "dem.tif", "out.tif", *at(3, 3), "--snapped", "x.gpkg",
                     program=self.PROGRAM)
-        self.refuse(1, "--snap -1 is below 0", "catchments", "dem.tif", "out.tif", *at(3, 3), "--snap=-1",
+        self.refuse(1, "--snap -1 is below 0", "catchments", "dem.tif", "out.tif", *at(3, 3), "--snap", "-1",
                     program=self.PROGRAM)
 
     def test_progress(self):

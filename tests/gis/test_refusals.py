@@ -123,7 +123,7 @@ class Words(Case):
         for text, words in (("needs observers", ["--eye", "3"]),
                             ("has no eye: give --eye", place),
                             ("no whole number of units of 0.01: --decimals 3 would do", [*place, "--eye", "1.555"]),
-                            ("is below 0", [*place, "--eye=-1"]),
+                            ("is below 0", [*place, "--eye", "-1"]),
                             ("above 10000, the most with 2 decimals", [*place, "--eye", "10001"]),
                             ("the target 0.001 is no whole number", [*place, "--eye", "1", "--target", "0.001"]),
                             ("the radius 29 is less than a cell of 30", [*place, "--eye", "1", "--radius", "29"]),

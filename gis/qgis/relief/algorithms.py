@@ -313,8 +313,8 @@ class View(MapAlgorithm):
 
 COMMON_HELP = ("Cells have to be square, in metres and not in degrees, at most 4,096 by 4,096 of them. Water also "
                "drains off where the data ends, so leave a margin round what you want, and name only holes in which "
-               "water stays: sinks are the lowest cells of a quarry, a sinkhole or a lake. The program relief makes the "
-               "map: docs/rules.md of relief says what each cell means.")
+               "water stays: sinks are the lowest cells of a quarry, a sinkhole or a lake. The program relief makes "
+               "the map: docs/rules.md of relief says what each cell means.")
 ALGORITHMS: List[Type[MapAlgorithm]] = [Fill, Depth, Flow, Accumulate, Area, Streams, Basins, Catchments, View]
 
 
