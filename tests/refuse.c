@@ -32,7 +32,7 @@
 #include <sys/mman.h>
 #include <unistd.h>
 
-enum { MOST_EVENTS = 1 << 16 };
+enum { MOST_EVENTS = 1 << 20 };
 
 // The C library's own names. Looking up the usual ones would take memory.
 void *__libc_malloc(size_t size);
@@ -177,8 +177,9 @@ int pthread_create(pthread_t *thread, const pthread_attr_t *attributes, void *(*
 }
 
 int pthread_join(pthread_t thread, void **result) {
-    note('j');
-    return join_thread(thread, result);
+    int error = join_thread(thread, result);
+    note(error ? 'J' : 'j');
+    return error;
 }
 
 int pthread_detach(pthread_t thread) {

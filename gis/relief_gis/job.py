@@ -277,7 +277,8 @@ def _result(job: Job, terrain: Terrain, heights: Heights,
 def _height_type(terrain: Terrain, heights: Heights) -> np.dtype:
     """The type of filled heights: the raster's own where it has all units, else the least that has."""
     own = terrain.values.dtype
-    if own.kind in "iu" and heights.decimals == 0:
+    # Few tools read integers of 64 bits.
+    if own.kind in "iu" and own.itemsize < 8 and heights.decimals == 0:
         return own
     if own == np.float64 and heights.decimals > 0:
         return own

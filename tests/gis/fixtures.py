@@ -26,6 +26,8 @@ PLACED = (500000.0, 30.0, 0.0, 5200000.0, 0.0, -30.0)
 FLOAT_NODATA = -3.4028234663852886e38
 TYPES = {"uint8": gdal.GDT_Byte, "int16": gdal.GDT_Int16, "uint16": gdal.GDT_UInt16, "int32": gdal.GDT_Int32,
          "float32": gdal.GDT_Float32, "float64": gdal.GDT_Float64}
+if hasattr(gdal, "GDT_Int64"):
+    TYPES["int64"] = gdal.GDT_Int64
 gdal.UseExceptions()
 ogr.UseExceptions()
 osr.UseExceptions()

@@ -152,6 +152,14 @@ class OtherRasters(MapCase):
         band = info(self.folder / "fill.tif")["bands"][0]
         self.assertEqual((band["type"], band["noDataValue"]), ("Int16", -32768))
 
+    @unittest.skipUnless(hasattr(gdal, "GDT_Int64"), "this GDAL has no integers of 64 bits")
+    def test_wide_integers(self):
+        for factor, kind in ((1, "Int32"), (10**12, "Float64")):
+            heights = np.rint(hills()).astype(np.int64) * factor
+            make_raster(self.folder / "dem.tif", heights, -5)
+            self.all_maps(np.ones(heights.shape, bool), 0)
+            self.assertEqual(info(self.folder / "fill.tif")["bands"][0]["type"], kind)
+
     def test_no_nodata(self):
         make_raster(self.folder / "dem.tif", np.rint(hills()).astype(np.uint16))
         self.all_maps(np.ones((30, 40), bool), 0)

@@ -12,6 +12,7 @@ pub mod Ending
 pub mod Spelled
 pub mod Feeding
 pub mod Taking
+pub mod Pieces
 pub mod HeightLists
 -- the written text, and its length
 pub mod Writing

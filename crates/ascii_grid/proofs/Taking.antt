@@ -18,12 +18,11 @@ Consumes-more (Some a) None c x y h k = absurd h
 Consumes-more (Some a) (Some b) None x y h k = absurd k
 Consumes-more (Some a) (Some b) (Some c) x y h k = h ∙ ap (λ z. x ++ z) k ∙ sym (append_assoc x y c)
 
--- bytes, and then a read that gave nothing
-pub Consumes-kept : (a b c : Option (List ℕ)) (x : List ℕ) → Consumes a b x → Keeps b c → Consumes a c x
-Consumes-kept None b c x h k = tt
-Consumes-kept (Some a) None c x h k = absurd h
-Consumes-kept (Some a) (Some b) None x h k = absurd k
-Consumes-kept (Some a) (Some b) (Some c) x h k = h ∙ ap (λ z. x ++ z) (sym k)
+-- a read that gave nothing
+pub Consumes-none : (a b : Option (List ℕ)) → Keeps a b → Consumes a b []
+Consumes-none None b h = tt
+Consumes-none (Some a) None h = absurd h
+Consumes-none (Some a) (Some b) h = sym h
 
 -- so much was taken of a reader's bytes and fed, with no fault so far
 pub record IsTaking {R : Type 0} (remaining : R → Option (List ℕ)) (first now : Device R) (scale : ℕ) (r : Reader) (taken : ℕ) : Type 0 where
@@ -51,9 +50,8 @@ consumed_front (Some xs) None text front e h = absurd h
 consumed_front (Some xs) (Some ys) text front e h = (ys, sym (same_Some xs text e) ∙ h)
 
 -- and all of them at the end
-pub consumed_all : (a b c : Option (List ℕ)) (text front : List ℕ) → a ≡ Some text → Consumes a b front → Consumes b c [] → IsAtEnd c → front ≡ text
-consumed_all None b c text front e h k end = absurd (cc)
-consumed_all (Some xs) None c text front e h k end = absurd h
-consumed_all (Some xs) (Some ys) None text front e h k end = absurd k
-consumed_all (Some xs) (Some ys) (Some zs) text front e h k end =
-    sym (sym (same_Some xs text e) ∙ h ∙ ap (λ z. front ++ z) (k ∙ end) ∙ append-nil front)
+pub consumed_end : (a b : Option (List ℕ)) (text front : List ℕ) → a ≡ Some text → Consumes a b front → IsAtEnd b → front ≡ text
+consumed_end None b text front e h end = absurd (cc)
+consumed_end (Some xs) None text front e h end = absurd h
+consumed_end (Some xs) (Some ys) text front e h end =
+    sym (sym (same_Some xs text e) ∙ h ∙ ap (λ z. front ++ z) end ∙ append-nil front)

@@ -1,7 +1,7 @@
 //! A grid from a reader, piece by piece.
-ghost use Rattle.std.specs.Prelude.{◌≡◌, ◌≢◌, ◌≤◌, ◌-◌, ◌^◌, ◌<◌, ℕ, List, length, Err, IfOk};
-ghost use Rattle.ascii_grid.specs.Input.{ReadsGrid};
-ghost use Rattle.ascii_grid.specs.Reader.{HasTaken, Feeds};
+ghost use Rattle.std.specs.Prelude.{◌≡◌, ◌≢◌, ◌≤◌, ◌-◌, ◌^◌, ◌<◌, ℕ, List, length, None, Err, IfOk};
+ghost use Rattle.ascii_grid.specs.Input.{ReadsGrid, ReadsPiece, CanRead};
+ghost use Rattle.ascii_grid.specs.Reader.{HasTaken};
 ghost use Rattle.ascii_grid.specs.GridText.{IsGridText, IsRefusal};
 
 use crate::counted::Counted;
@@ -11,8 +11,8 @@ use std::alloc::Global;
 use std::io::Read;
 use terrain::Grid;
 
-/// One system call reads this much.
-const PIECE: usize = 65_536;
+/// The most bytes that one read asks for.
+pub const PIECE_BYTES: usize = 4_096;
 
 /// Why no grid was read.
 #[derive(Clone, Copy, Debug, PartialEq, Eq)]
@@ -23,9 +23,15 @@ pub enum InputFault {
     Read,
 }
 
-/// The grid that a reader's bytes spell, its heights in units of 10^-scale. No text is kept whole, and
-/// at most 2^29 + 1 bytes are taken. Where the reader fails, a fault of a word that was ended before
-/// goes first.
+/// Reads a grid from a device, its heights in units of 10^-scale.
+///
+/// The text is read into an array of [`PIECE_BYTES`] bytes and never held whole. At most 2^29 + 1
+/// bytes are read.
+///
+/// # Errors
+///
+/// The text's first fault, or [`InputFault::Read`]. Where the reader fails, a fault of a word that
+/// ended before goes first.
 pub fn read_grid<R: Read>(
     alloc: Global,
     scale: u8,
@@ -35,53 +41,79 @@ pub fn read_grid<R: Read>(
     requires few { reader.old.failures < 2 ^ 64 - 1 }
     ensures { ReadsGrid R.remaining scale reader.old reader.new result }
 {
-    let mut buffer = [0; PIECE];
+    let mut piece = [0; PIECE_BYTES];
     read_grid_by(
         alloc,
         scale,
         reader,
-        &mut buffer,
-        |grid_reader: &mut GridReader, piece: &[u8]|
-            ensures { Feeds grid_reader.old grid_reader.new piece.now result }
-        { grid_reader.feed(piece) },
+        &mut piece,
+        |grid_reader: &mut GridReader, reader: &mut Counted<R>, piece: &mut [u8]|
+            requires { CanRead grid_reader.now reader.now piece.now }
+            ensures { ReadsPiece R.remaining reader.old reader.new grid_reader.old grid_reader.new
+                (length piece.old) result }
+        { read_piece(grid_reader, reader, piece) },
     )
 }
 
-/// [`read_grid`] by way of a buffer, whose length is that of the longest piece. The pieces are handed on by `feed`.
-pub fn read_grid_by<R: Read, F: Fn(&mut GridReader, &[u8]) -> Result<(), GridFault>>(
+/// [`read_grid`] through a buffer, by a function that reads bytes into it and feeds them.
+///
+/// The function returns how many bytes it fed, or None at the end of the text.
+pub fn read_grid_by<
+    R: Read,
+    F: Fn(&mut GridReader, &mut Counted<R>, &mut [u8]) -> Result<Option<usize>, InputFault>,
+>(
     alloc: Global,
     scale: u8,
     reader: &mut Counted<R>,
     buffer: &mut [u8],
-    feed: F,
+    read_next: F,
 ) -> Result<Grid, InputFault>
     requires scale { scale ≤ 6 }
     requires few { reader.old.failures < 2 ^ 64 - 1 }
     requires room { 0 < length buffer.old }
-    requires callable { F.IsAlwaysCallable feed }
-    requires feeds { (before : _) (piece : _) (r : _) (after : _) →
-        F.post feed before piece r after → Feeds before.now after.now piece.now r }
+    requires callable { (before : _) (device : _) (piece : _) →
+        CanRead before.now device.now piece.now → F.pre read_next before device piece }
+    requires reads { (before : _) (device : _) (piece : _) (r : _) (after : _) (left : _) (full : _) →
+        F.post read_next before device piece r after left full →
+        ReadsPiece R.remaining device.now left.now before.now after.now (length piece.now) r }
     ensures { ReadsGrid R.remaining scale reader.old reader.new result }
 {
     let mut grid_reader = GridReader::new(alloc, scale);
     let mut taken = 0;
     loop {
         let room = buffer.len().min(MOST_TEXT_BYTES + 1 - taken);
-        let Ok(count) = reader.read(&mut buffer[..room]) else {
-            return Err(InputFault::Read);
-        };
-        if count == 0 {
-            return finished(grid_reader);
+        match read_next(&mut grid_reader, reader, &mut buffer[..room]) {
+            Ok(Some(count)) => taken += count,
+            Ok(None) => return finish_grid(grid_reader),
+            Err(fault) => return Err(fault),
         }
-        if let Err(fault) = feed(&mut grid_reader, &buffer[..count]) {
-            return Err(InputFault::Grid(fault));
-        }
-        taken += count;
     }
 }
 
-/// The grid of the pieces that were fed, or what the reader has to say of them.
-fn finished(grid_reader: GridReader) -> Result<Grid, InputFault>
+/// Reads a piece and feeds it: returns its length, or None at the end of the text.
+fn read_piece<R: Read>(
+    grid_reader: &mut GridReader,
+    reader: &mut Counted<R>,
+    piece: &mut [u8],
+) -> Result<Option<usize>, InputFault>
+    requires { CanRead grid_reader.old reader.old piece.old }
+    ensures { ReadsPiece R.remaining reader.old reader.new grid_reader.old grid_reader.new
+        (length piece.old) result }
+{
+    let Ok(count) = reader.read(piece) else {
+        return Err(InputFault::Read);
+    };
+    if let Err(fault) = grid_reader.feed(&piece[..count]) {
+        return Err(InputFault::Grid(fault));
+    }
+    if count == 0 {
+        return Ok(None);
+    }
+    Ok(Some(count))
+}
+
+/// The grid of the pieces that were fed, or the fault of their text.
+fn finish_grid(grid_reader: GridReader) -> Result<Grid, InputFault>
     ensures grid { (text : List ℕ) → HasTaken grid_reader text →
         IfOk result (λ g. IsGridText grid_reader.scale text g) }
     ensures fault { (text : List ℕ) (f : _) → HasTaken grid_reader text →

@@ -38,13 +38,17 @@ mod read;
 mod reader;
 pub mod write;
 
-pub use counted::{Counted, ReadFailed, WriteFailed};
+pub use counted::{Counted, ReadFailed, UncountedFailure, WriteFailed};
+pub use drainage::Code;
 pub use fault::{GridFault, Key};
 pub use heights::HeightForm;
-pub use input::{InputFault, read_grid, read_grid_by};
+pub use input::{InputFault, PIECE_BYTES, read_grid, read_grid_by};
 pub use page::Page;
 pub use progress::is_separator;
 pub use read::read_text;
 pub use reader::{GridReader, MOST_TEXT_BYTES};
-pub use terrain::{Frame, Grid, HIGHEST, Height, LOWEST, NoMemory, Place};
+pub use terrain::{
+    Anchor, Cell, Count, Frame, Grid, GridHeader, HIGHEST, Height, LOWEST, NoMemory, Place,
+    SinkFault, Word,
+};
 pub use write::{write_codes, write_counts, write_framed_counts, write_heights};

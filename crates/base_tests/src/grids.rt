@@ -2,10 +2,10 @@
 ghost use Rattle.std.specs.Prelude.{◌≡◌, ◌*◌, ◌∷◌, [], pos, negsuc, None, Some, Contains};
 
 use crate::texts::{PIT, PIT_CELLS, expect_cells, grid_of};
+use ascii_grid::{Anchor, Cell, Count, Grid, Height, NoMemory, Place, SinkFault, Word};
 use std::alloc::Global;
 use std::process::Abort;
 use std::test::Fail;
-use terrain::{Anchor, Cell, Count, Grid, Height, Place, SinkFault, Word};
 
 /// The place in the middle of three by three cells, and others in and beside them.
 const MIDDLE: Place = Place { row: 1, col: 1 };
@@ -126,6 +126,25 @@ fn other_cells(rt: HostRuntime) {
     is_anchor(&rt, other.frame().xll(), true, b"100.5");
     is_word(&rt, other.frame().nodata(), b"-9999");
     assert_eq!(rt; grid.at(MIDDLE), Some(-1));
+}
+
+/// A pit of nines filled to its rim: the cells change, and nothing else does.
+#[test]
+fn nine_nines(rt: HostRuntime) -> Result<(), NoMemory> {
+    let pit = grid_of(&rt, rt.alloc(), 0, PIT, &PIT_CELLS);
+    assert!(rt; pit.cols() == 3);
+    assert!(rt; pit.rows() == 3);
+    let nine = Cell::of(9);
+    let cells = [nine, nine, nine, nine, nine, nine, nine, nine, nine];
+    let nines = pit.with_cells(rt.alloc(), &cells)?;
+    expect_cells(&rt, nines.cells(), &[Some(9); 9]);
+    assert_eq!(rt; (nines.cols(), nines.rows(), nines.scale()), (3, 3, 0));
+    is_anchor(&rt, nines.frame().xll(), false, b"0");
+    is_anchor(&rt, nines.frame().yll(), false, b"0");
+    is_word(&rt, nines.frame().cellsize(), b"1");
+    is_word(&rt, nines.frame().nodata(), b"-9999");
+    has_sinks(&rt, &nines, &[]);
+    Ok(())
 }
 
 /// The greatest is a basin's number where each cell of the largest grid is a sink.

@@ -2,24 +2,28 @@
 ghost use Rattle.std.specs.Prelude.{◌≤◌, ◌<◌};
 
 use crate::texts::{LENIENT, LENIENT_CELLS, expect_cells, grid_of, have_heights};
-use ascii_grid::{Counted, GridFault, GridReader, InputFault, Key, read_grid, read_text};
+use ascii_grid::{
+    Counted, Grid, GridFault, GridReader, Height, InputFault, Key, read_grid, read_text,
+};
 use std::alloc::Global;
 use std::io;
 use std::io::Read;
 use std::process::Abort;
-use terrain::{Grid, Height};
 
 /// Two columns and one row, with the lower left corner at 0 0.
 const HEADER: &[u8] = b"ncols 2 nrows 1 xllcorner 0 yllcorner 0 cellsize 1";
 
+/// Reads the text in pieces of this length, with an empty piece before each and at the end.
 fn read_in_pieces(alloc: Global, scale: u8, text: &[u8], piece: usize) -> Result<Grid, GridFault>
     requires scale { scale ≤ 6 }
     requires piece { 0 < piece }
 {
     let mut reader = GridReader::new(alloc, scale);
     for part in text.chunks(piece) {
+        reader.feed(b"")?;
         reader.feed(part)?;
     }
+    reader.feed(b"")?;
     reader.finish()
 }
 
@@ -76,6 +80,18 @@ fn heights(rt: HostRuntime) {
         rt.alloc(),
         b" 3 1000000001",
         &[Some(3), Some(1_000_000_001)],
+    );
+    spells_after_header(
+        &rt,
+        rt.alloc(),
+        b" 3 -1000000000",
+        &[Some(3), Some(-1_000_000_000)],
+    );
+    spells_after_header(
+        &rt,
+        rt.alloc(),
+        b" 3 -1000000000000000",
+        &[Some(3), Some(-1_000_000_000_000_000)],
     );
     spells_after_header(
         &rt,
@@ -355,6 +371,17 @@ fn answers(rt: &impl Abort, reader: &mut GridReader, piece: &[u8], answer: Resul
 
 #[test]
 fn fault_stays(rt: HostRuntime) {
+    let fault = GridFault::UnknownKey;
+    for piece in [b"".as_slice(), b" ", b"ncols 0 ", HEADER] {
+        let mut reader = GridReader::new(rt.alloc(), 0);
+        answers(&rt, &mut reader, b"bogus ", Err(fault));
+        answers(&rt, &mut reader, piece, Err(fault));
+        assert_eq!(rt; reader.finish().err(), Some(fault));
+    }
+}
+
+#[test]
+fn fault_of_a_word_once_it_has_ended(rt: HostRuntime) {
     let mut reader = GridReader::new(rt.alloc(), 0);
     let fault = GridFault::BadSize(Key::Ncols);
     answers(&rt, &mut reader, b"ncols 0", Ok(()));

@@ -1,10 +1,9 @@
 //! Texts of grids that several tests read.
 ghost use Rattle.std.specs.Prelude.{◌≡◌, ◌≤◌, IsTrue};
 
-use ascii_grid::read_text;
+use ascii_grid::{Cell, Grid, Height, read_text};
 use std::alloc::Global;
 use std::process::Abort;
-use terrain::{Cell, Grid, Height};
 
 /// A text of the lenient form, of two by two cells at scale 2: 12.50, -0.50, none and 7.00.
 pub const LENIENT: &[u8] =

@@ -143,8 +143,10 @@ fn has_rim(rt: &impl Abort, alloc: Global, tiling: &Tiling, tile: u32, rim: &str
 #[test]
 fn rims_in_row_order(rt: HostRuntime) {
     let alloc = rt.alloc();
-    let tiling = cut(&rt, 5, 4, 3);
     let first = "(0,0)(0,1)(0,2)(1,0)(1,2)(2,0)(2,1)(2,2)";
+    let alone = cut(&rt, 3, 3, 3);
+    has_rim(&rt, alloc, &alone, 0, first);
+    let tiling = cut(&rt, 5, 4, 3);
     has_rim(&rt, alloc, &tiling, 0, first);
     has_rim(&rt, alloc, &tiling, 1, "(0,3)(0,4)(1,3)(1,4)(2,3)(2,4)");
     has_rim(&rt, alloc, &tiling, 2, "(3,0)(3,1)(3,2)");
@@ -247,6 +249,19 @@ fn view_of_a_tile_and_around(rt: HostRuntime) {
     ] {
         shows(&rt, &view, row, col, cell);
     }
+}
+
+#[test]
+fn two_lists_put_back(rt: HostRuntime) -> Result<(), Fail> {
+    let tiling = cut(&rt, 3, 1, 2);
+    let alloc = rt.alloc();
+    let lists = [
+        Vec::from_slice(alloc, &[7, 8])?,
+        Vec::from_slice(alloc, &[9])?,
+    ];
+    let whole = tiling.put_back(alloc, &lists)?;
+    expect_numbers(&rt, &whole, &[7, 8, 9]);
+    Ok(())
 }
 
 #[test]

@@ -2,13 +2,12 @@
 ghost use Rattle.std.specs.Prelude.{◌≡◌, ◌*◌, ◌≤◌};
 
 use crate::texts::{LENIENT, LENIENT_CELLS, PIT, PIT_CELLS, grid_of};
-use ascii_grid::{Counted, WriteFailed, write_counts, write_heights};
+use ascii_grid::{Count, Counted, Grid, Height, Place, WriteFailed, write_counts, write_heights};
 use std::alloc::Global;
 use std::io;
 use std::io::Write;
 use std::process::Abort;
 use std::test::Fail;
-use terrain::{Count, Grid, Height, Place};
 
 /// More bytes than a test writes.
 const ALL: usize = 20_000;
@@ -71,6 +70,15 @@ const LENIENT_WRITTEN: &[u8] =
 
 const LENIENT_FLOW: &[u8] =
     b"ncols         2\nnrows         2\nxllcenter     100.5\nyllcorner     -2E1\ncellsize      30.0\nNODATA_value  -9999\n1 0\n-9999 64\n";
+
+/// A header in another order and in both cases, with a corner, a centre and no line breaks.
+const MIXED: &[u8] = b"CELLSIZE 1 NROWS 1 yllCenter +.5 NCOLS 2 XLLCORNER 0 7 8";
+
+const MIXED_WRITTEN: &[u8] =
+    b"ncols         2\nnrows         1\nxllcorner     0\nyllcenter     +.5\ncellsize      1\nNODATA_value  -9999\n7 8\n";
+
+const MIXED_COUNTS: &[u8] =
+    b"ncols         2\nnrows         1\nxllcorner     0\nyllcenter     +.5\ncellsize      1\nNODATA_value  -9999\n12 -9999\n";
 
 const HALVES: &[u8] =
     b"ncols         2\nnrows         2\nxllcorner     0\nyllcenter     0\ncellsize      1\nNODATA_value  -9999\n0.5 -0.5\n0.0 7.0\n";
@@ -164,6 +172,20 @@ fn lenient_flow(rt: HostRuntime) {
     assert_eq!(rt; write_counts(&grid, &codes, &mut out), Ok(()));
     assert_eq!(rt; out.failures(), 0);
     assert_eq!(rt; taker.taken.as_slice(), LENIENT_FLOW);
+}
+
+#[test]
+fn header_in_any_order(rt: HostRuntime) {
+    let grid = grid_of(&rt, rt.alloc(), 0, MIXED, &[Some(7), Some(8)]);
+    writes(&rt, &grid, Taker::new(rt.alloc(), ALL, ALL), MIXED_WRITTEN);
+    assert!(rt; grid.cols() == 2);
+    assert!(rt; grid.rows() == 1);
+    let mut taker = Taker::new(rt.alloc(), ALL, ALL);
+    let mut out = Counted::new(&mut taker);
+    let counts = [Count::of(12), Count::no_data()];
+    assert_eq!(rt; write_counts(&grid, &counts, &mut out), Ok(()));
+    assert_eq!(rt; out.failures(), 0);
+    assert_eq!(rt; taker.taken.as_slice(), MIXED_COUNTS);
 }
 
 #[test]

@@ -113,6 +113,14 @@ fn first_round(
 }
 
 #[test]
+fn three_by_three_nines(rt: HostRuntime) {
+    let alloc = rt.alloc();
+    let nines = land(&rt, alloc, 3, 3, "9 9 9\n9 9 9\n9 9 9");
+    let wanted = land(&rt, alloc, 3, 3, "0 0 0\n0 1 0\n0 0 0");
+    assert!(rt; agree(&first_round(&rt, alloc, &nines, 3, 0), &wanted));
+}
+
+#[test]
 fn rings_of_nines(rt: HostRuntime) {
     let alloc = rt.alloc();
     let nines = "9 9 9 9 9\n9 9 9 9 9\n9 9 9 9 9\n9 9 9 9 9\n9 9 9 9 9";
@@ -123,6 +131,19 @@ fn rings_of_nines(rt: HostRuntime) {
     // The counts of the fifth row and column come in over the rim of the middle tile.
     let wanted = land(&rt, alloc, 2, 2, "2 1\n1 1");
     assert!(rt; agree(&first_round(&rt, alloc, &grid, 2, 4), &wanted));
+}
+
+/// A round over one tile goes as far as it can: the first cell of the flat is thirteen steps from the outlet.
+#[test]
+fn flat_through_ten_tiles(rt: HostRuntime) {
+    let alloc = rt.alloc();
+    let winding =
+        "9 9 9 9 9 9 9\n9 1 1 1 1 1 9\n9 9 9 9 9 1 9\n9 1 1 1 1 1 9\n9 1 9 9 9 9 9\n9 1 1 1 1 1 1\n9 9 9 9 9 9 9";
+    let grid = land(&rt, alloc, 7, 7, winding);
+    let steps =
+        "0 0 0 0 0 0 0\n0 13 12 11 10 10 0\n0 0 0 0 0 9 0\n0 6 6 7 8 9 0\n0 5 0 0 0 0 0\n0 5 4 3 2 1 0\n0 0 0 0 0 0 0";
+    let wanted = land(&rt, alloc, 7, 7, steps);
+    assert!(rt; agree(&first_round(&rt, alloc, &grid, 7, 0), &wanted));
 }
 
 #[test]

@@ -334,6 +334,32 @@ fn refused_observers(rt: HostRuntime) {
     assert_eq!(rt; told, Some(SightFault::OnNodata(0)));
 }
 
+/// A target height above the limit is the fault, however many observers there are.
+#[test]
+fn target_too_high_for_any_number(rt: HostRuntime) {
+    let bowl = land(&rt, rt.alloc(), 3, 3, "9 9 9\n9 1 9\n9 9 9");
+    let tiling = cut(&rt, &bowl, 256);
+    let observers = [CORNER; 1024];
+    for count in 1..1025 {
+        let seen = viewshed(
+            &rt,
+            rt.alloc(),
+            &bowl,
+            &observers[..count],
+            1_000_001,
+            FARTHEST,
+            &tiling,
+            1,
+            &NoGate,
+        );
+        assert_eq!(rt;
+            seen.err(),
+            Some(SightFault::BadEye(None)),
+            "{count} observers"
+        );
+    }
+}
+
 #[test]
 fn refusals_in_order(rt: HostRuntime) {
     let bad = observer(9, 9, 1_000_001);

@@ -1,6 +1,5 @@
 //! Whole runs from bytes to bytes, also on devices that fail or have no end.
-use ascii_grid::{Counted, GridFault, Key};
-use relief::{Map, Options, RunFault, run};
+use relief::{Counted, GridFault, Key, Map, Options, RunFault, run};
 use std::alloc::Global;
 use std::io;
 use std::io::{Read, Write};
@@ -225,10 +224,34 @@ fn a_reader_that_fails_once(rt: HostRuntime) -> Result<(), Fail> {
     Ok(())
 }
 
+/// Runs on a reader of these bytes that then fails: the run has this fault, and counts a failure that it reports.
+fn expect_refused(
+    rt: &(impl Abort + Threads + Wait + Sync),
+    alloc: Global,
+    workers: u32,
+    bytes: &[u8],
+    fault: RunFault,
+) -> Result<(), Fail> {
+    let options = Options::new(Map::Fill, 256, workers, 0).ok_or("options")?;
+    let mut out = Vec::new(alloc);
+    let mut reader = Counted::new(Broken { bytes });
+    let mut writer = Counted::new(&mut out);
+    let result = run(rt, alloc, &options, &mut reader, &mut writer);
+    assert_eq!(rt; result, Err(fault), "after {bytes:?}, {workers} workers");
+    let failures = if fault == RunFault::Read { 1 } else { 0 };
+    assert_eq!(rt;
+        reader.failures(),
+        failures,
+        "after {bytes:?}, {workers} workers"
+    );
+    drop(writer);
+    assert!(rt; out.is_empty());
+    Ok(())
+}
+
+/// A word that a separator has ended is judged before the failure, a word in progress is not.
 #[test]
 fn a_reader_that_fails(rt: HostRuntime) -> Result<(), Fail> {
-    let options = Options::new(Map::Fill, 256, 1, 0).ok_or("options")?;
-    // A word that a separator has ended is judged before the failure, a word in progress is not.
     for (bytes, fault) in [
         (b"".as_slice(), RunFault::Read),
         (b"ncols 4097".as_slice(), RunFault::Read),
@@ -240,15 +263,9 @@ fn a_reader_that_fails(rt: HostRuntime) -> Result<(), Fail> {
             RunFault::Grid(GridFault::BadSize(Key::Ncols)),
         ),
     ] {
-        let mut out = Vec::new(rt.alloc());
-        let mut reader = Counted::new(Broken { bytes });
-        let mut writer = Counted::new(&mut out);
-        let result = run(&rt, rt.alloc(), &options, &mut reader, &mut writer);
-        assert_eq!(rt; result, Err(fault), "after {bytes:?}");
-        let failures = if fault == RunFault::Read { 1 } else { 0 };
-        assert_eq!(rt; reader.failures(), failures, "after {bytes:?}");
-        drop(writer);
-        assert!(rt; out.is_empty());
+        for workers in [1, 2, 8] {
+            expect_refused(&rt, rt.alloc(), workers, bytes, fault)?;
+        }
     }
     assert_eq!(rt; RunFault::Read.number(), 51);
     Ok(())

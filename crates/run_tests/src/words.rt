@@ -1,13 +1,12 @@
 //! The command line, and the lines and numbers of faults.
-use ascii_grid::{Counted, GridFault, Key};
-use relief::{Map, Options, RunFault, VERSION, parse_observer, run_words, tell};
-use sight::{Observer, SightFault};
+use relief::{
+    Counted, GridFault, JobFault, Key, Map, Observer, Options, Place, RunFault, SightFault,
+    SinkFault, TilingFault, VERSION, WriteFailed, parse_observer, parse_sink, run_words, tell,
+};
 use std::alloc::Global;
 use std::sync::Wait;
 use std::test::Fail;
 use std::thread::Threads;
-use tile_jobs::JobFault;
-use tiles::TilingFault;
 
 const BOWL: &[u8] =
     b"ncols 3\nnrows 3\nxllcorner 0\nyllcorner 0\ncellsize 1\n9 9 9\n9 1 9\n9 9 9\n";
@@ -132,6 +131,27 @@ fn observer_words(rt: HostRuntime) {
 }
 
 #[test]
+fn sink_words(rt: HostRuntime) {
+    let place = Place {
+        row: 4_294_967_295,
+        col: 2,
+    };
+    assert_eq!(rt; parse_sink("4294967295,0000000002"), Some(place));
+    for word in [
+        "",
+        ",",
+        "1",
+        "1,2,3",
+        "+1,2",
+        "1,2 ",
+        "4294967296,2",
+        "1,00000000002",
+    ] {
+        assert_eq!(rt; parse_sink(word), None, "{word:?}");
+    }
+}
+
+#[test]
 fn fault_lines(rt: HostRuntime) -> Result<(), Fail> {
     for (fault, line) in [
         (
@@ -162,11 +182,16 @@ fn fault_lines(rt: HostRuntime) -> Result<(), Fail> {
             RunFault::Sight(SightFault::BadEye(Some(7))),
             b"relief: 44 BadEye 7\n".as_slice(),
         ),
+        (
+            RunFault::Sinks(SinkFault::OnNodata(1)),
+            b"relief: 47 SinkOnNodata 1\n".as_slice(),
+        ),
         (RunFault::Read, b"relief: 51 Read\n".as_slice()),
     ] {
         let mut out = Vec::new(rt.alloc());
         let mut writer = Counted::new(&mut out);
-        assert!(rt; tell(&fault, &mut writer).is_ok());
+        let told: Result<(), WriteFailed> = tell(&fault, &mut writer);
+        assert_eq!(rt; told, Ok(()));
         drop(writer);
         assert_eq!(rt; out.as_slice(), line);
     }

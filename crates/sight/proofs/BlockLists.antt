@@ -1,22 +1,18 @@
 -- The list of a map of blocks, and the blocks of a grid that is cut.
-use Rattle.std.proofs.Common.{arith, refl, ap, subst, ◌∙◌, ◌≡◌, ◌+◌, ◌-◌, ◌*◌, ◌/◌, ◌%◌, ◌<◌, ◌≤◌, ℕ, ℤ, List, length, get_or, get_or-take, get_or-drop, drop, slice_range, ◌≤ℤ◌, Option, None, Some, inl, inr}
+use Rattle.std.proofs.Common.{arith, refl, sym, ap, subst, ◌∙◌, ◌≡◌, ◌+◌, ◌-◌, ◌*◌, ◌/◌, ◌%◌, ◌<◌, ◌≤◌, ℕ, ℤ, List, [], ◌∷◌, ◌++◌, length, length-append, get_or, get_or-take, get_or-drop, drop, slice_range, ◌≤ℤ◌, Option, None, Some, inl, inr}
 use Rattle.std.proofs.lemmas.Bool.{cases_lt}
 use Rattle.std.proofs.lemmas.List.{get_or_past}
 use Rattle.std.proofs.lemmas.Int.{ints}
-use Rattle.std.proofs.lemmas.Nat.{div-add-mod', mod_below, div_below, mul-le}
-use Rattle.std.proofs.lemmas.Option.{slice_get-get_or}
-use Rattle.std.specs.Int.{div_ceil}
-use Rattle.std.proofs.lemmas.Grind.{div_ceil_times}
+use Rattle.std.proofs.lemmas.Nat.{div-add-mod', mod_below, mul-le, div-mul-add, mod-mul-add, mul-add-lt}
+use Rattle.std.proofs.Math.ListN.{get_or-append}
+use Rattle.std.proofs.Math.Seq.{get_or-append_right}
 use Rattle.terrain.specs.Raster.{Terrain}
-use Rattle.terrain.specs.Neighbours.{index_of}
-use Rattle.terrain.proofs.Places.{make_place, inside_from_entry, entry-inside, index_below}
-use Rattle.tiles.specs.Cutting.{Cutting}
-use Rattle.tile_maps.specs.Maps.{IsMadeMap}
+use Rattle.terrain.proofs.Places.{make_place, inside_from_entry, entry-inside}
 use Rattle.sightlines.specs.Blocks.{blocks_in, block_of, IsTopOf, AreTops}
-use Rattle.sight.specs.BlockTops.{ground_of, IsGround, IsBlockTop, CutsBlocks}
+use Rattle.sight.specs.BlockTops.{ground_of, IsGround, IsBlockTop, block_count, AreTopsBetween}
 use Rattle.sightlines.proofs.LowBlocks.{block_before}
 
-swapped : (a b : ℕ) → a * b ≡ b * a
+pub swapped : (a b : ℕ) → a * b ≡ b * a
 swapped a b = omega arith
 
 -- a height that is above a top is above what the top is above
@@ -38,19 +34,11 @@ in_block size r block some is =
     (omega (arith, parts, begun), omega (arith, parts, begun, small))
 
 -- there are not more blocks than cells
-few_blocks : (size cells : ℕ) → 0 < size → blocks_in size cells ≤ cells
+pub few_blocks : (size cells : ℕ) → 0 < size → blocks_in size cells ≤ cells
 few_blocks size cells some = elim (cases_lt cells (blocks_in size cells)) [
   | inl more ↦ absurd (omega (arith, more, div-add-mod' (cells + (size - 1)) size, mul-le (cells + 1) size (blocks_in size cells) size (omega arith) (omega arith), mul-le cells 1 cells size (omega arith) (omega arith)))
   | inr few ↦ few
 ]
-
--- tiles of blocks are few
-pub few_tiles : (size cols rows : ℕ) → 0 < size → cols ≤ 4096 → rows ≤ 4096 → div_ceil (blocks_in size cols) 16 * div_ceil (blocks_in size rows) 16 ≤ 65536
-few_tiles size cols rows some few_cols few_rows =
-    mul-le (div_ceil (blocks_in size cols) 16) (div_ceil (blocks_in size rows) 16) 256 256 (few cols few_cols) (few rows few_rows)
-  where
-    few : (cells : ℕ) → cells ≤ 4096 → div_ceil (blocks_in size cells) 16 ≤ 256
-    few cells short = omega (arith, div_ceil_times (blocks_in size cells) 16 (omega arith), few_blocks size cells some, short)
 
 -- blocks are a ground of their own
 pub ground_of_tops : (size : ℕ) (t : Terrain) (tops : List (Option ℤ)) → 0 < size → (1 ≤ t.cols) × (t.cols ≤ 4096) → (1 ≤ t.rows) × (t.rows ≤ 4096) → AreTops size t tops
@@ -90,28 +78,72 @@ tops_of_tops t near far low high = record {
       top_over (get_or near (block_of 16 t p) None) (get_or far (block_of 128 t p) None) h over (low.above p h is);
 }
 
-pub tops_of_blocks : (size : ℕ) (t : Terrain) (c : Cutting) (tops : List (Option ℤ)) → 0 < size → CutsBlocks size t.cols t.rows c → IsMadeMap c (IsBlockTop size t) tops → AreTops size t tops
-tops_of_blocks size t c tops some cut made = record {
-  count = made.size ∙ ap (λ n. n * c.rows) cut.cols_are ∙ ap (λ n. blocks_in size t.cols * n) cut.rows_are ∙ swapped (blocks_in size t.cols) (blocks_in size t.rows);
-  heights = λ i h is. elim (cases_lt i (length tops)) [
-    | inl within ↦
-        let size_is : length tops ≡ c.cols * c.rows = made.size in
-        let some_col : 0 < c.cols = omega (arith, cut.cutting.some_col) in
-        let p = make_place (i / c.cols) (i % c.cols) in
-        let row : p.row < c.rows = div_below i c.cols c.rows some_col (omega (arith, within, size_is)) in
-        let at : index_of c.cols p ≡ i = div-add-mod' i c.cols in
-        let entry = slice_get-get_or tops (index_of c.cols p) None (omega (arith, at, within)) in
-        let there : get_or tops (index_of c.cols p) None ≡ Some h = ap (λ n. get_or tops n None) at ∙ is in
-        (made.each p (row, mod_below i c.cols some_col) (get_or tops (index_of c.cols p) None) entry).height h there
-    | inr past ↦ let none = get_or_past tops i None past in absurd (cc)
+-- from a block up to itself there is none
+pub no_tops : (size : ℕ) (t : Terrain) (from : ℕ) → AreTopsBetween size t from from []
+no_tops size t from = record {
+  count = omega arith;
+  heights = λ i h is. let none = get_or_past {X = Option ℤ} [] i None (omega arith) in absurd (cc);
+  above = λ p h low high is. absurd (omega arith);
+}
+
+-- the height of one block, as the list of that one
+pub one_top : (size k : ℕ) (t : Terrain) (top : Option ℤ) → 0 < size
+    → IsBlockTop size t (make_place (k / blocks_in size t.cols) (k % blocks_in size t.cols)) top
+    → AreTopsBetween size t k (k + 1) (top ∷ [])
+one_top size k t top some is = record {
+  count = omega arith;
+  heights = λ i h at. elim (cases_lt i 1) [
+    | inl first ↦
+        let zero : i ≡ 0 = omega arith in
+        is.height h (ap (λ n. get_or (top ∷ []) n None) (sym zero) ∙ at)
+    | inr past ↦ let none = get_or_past (top ∷ []) i None past in absurd (cc)
   ];
+  above = λ p h low high there.
+      let wide = blocks_in size t.cols in
+      let inside = inside_from_entry t.cols t.rows t.cells p h there in
+      let col : p.col / size < wide = block_before size p.col t.cols some inside.1 in
+      let at : p.row / size * wide + p.col / size ≡ k = omega arith in
+      let row_is : p.row / size ≡ k / wide =
+      sym (div-mul-add (p.row / size) wide (p.col / size) col) ∙ ap (λ n. n / wide) at in
+      let col_is : p.col / size ≡ k % wide =
+      sym (mod-mul-add (p.row / size) wide (p.col / size) col) ∙ ap (λ n. n % wide) at in
+      let zero : 0 ≡ block_of size t p - k = omega arith in
+      subst (λ n. IsTopOf (get_or (top ∷ []) n None) h) zero (is.above p h row_is col_is there);
+}
+
+-- two lists one behind the other
+pub joined_tops : (size : ℕ) (t : Terrain) (from between to : ℕ) (first next : List (Option ℤ))
+    → AreTopsBetween size t from between first → AreTopsBetween size t between to next
+    → AreTopsBetween size t from to (first ++ next)
+joined_tops size t from between to first next left right = record {
+  count = omega (arith, length-append first next);
+  heights = λ i h is. elim (cases_lt i (length first)) [
+    | inl low ↦ left.heights i h (sym (get_or-append first next None i low) ∙ is)
+    | inr high ↦ right.heights (i - length first) h (sym (get_or-append_right first next i None high) ∙ is)
+  ];
+  above = λ p h low high is. elim (cases_lt (block_of size t p) between) [
+    | inl before ↦
+        let at = get_or-append first next None (block_of size t p - from) (omega arith) in
+        rw at (left.above p h low before is)
+    | inr behind ↦
+        let at = get_or-append_right first next (block_of size t p - from) None (omega arith) in
+        let place : block_of size t p - from - length first ≡ block_of size t p - between = omega arith in
+        rw (at, place) (right.above p h behind high is)
+  ];
+}
+
+-- the list of all blocks
+pub all_tops : (size : ℕ) (t : Terrain) (tops : List (Option ℤ)) → 0 < size
+    → AreTopsBetween size t 0 (block_count size t) tops → AreTops size t tops
+all_tops size t tops some are = record {
+  count = omega (arith, are.count);
+  heights = are.heights;
   above = λ p h is.
       let inside = inside_from_entry t.cols t.rows t.cells p h is in
-      let b = make_place (p.row / size) (p.col / size) in
-      let row : b.row < c.rows = rw cut.rows_are (block_before size p.row t.rows some inside.0) in
-      let col : b.col < c.cols = rw cut.cols_are (block_before size p.col t.cols some inside.1) in
-      let at : index_of c.cols b ≡ block_of size t p = ap (λ n. p.row / size * n + p.col / size) cut.cols_are in
-      let within : index_of c.cols b < length tops = omega (arith, made.size, index_below c.cols c.rows b row col) in
-      let entry = slice_get-get_or tops (index_of c.cols b) None within in
-      subst (λ n. IsTopOf (get_or tops n None) h) at ((made.each b (row, col) (get_or tops (index_of c.cols b) None) entry).above p h refl refl is);
+      let row = block_before size p.row t.rows some inside.0 in
+      let col = block_before size p.col t.cols some inside.1 in
+      let below = mul-add-lt (p.row / size) (blocks_in size t.cols) (p.col / size) (blocks_in size t.rows) row col in
+      let own : block_of size t p - 0 ≡ block_of size t p = omega arith in
+      subst (λ n. IsTopOf (get_or tops n None) h) own
+      (are.above p h (omega arith) (omega (arith, below, swapped (blocks_in size t.rows) (blocks_in size t.cols))) is);
 }

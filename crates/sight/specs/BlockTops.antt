@@ -1,11 +1,10 @@
--- The greatest heights of blocks of cells as a map of the blocks. No public clause cites it.
-use Rattle.std.specs.Prelude.{◌≡◌, ℕ, ◌*◌, ◌/◌, ◌<◌, ◌≤◌, ℤ, List, [], length, Option, Some}
+-- The greatest heights of blocks of cells, in row order. No public clause cites it.
+use Rattle.std.specs.Prelude.{◌≡◌, ℕ, ◌+◌, ◌-◌, ◌*◌, ◌/◌, ◌<◌, ◌≤◌, ℤ, List, [], length, min, Option, None, Some, slice_index_or}
 use Rattle.terrain.specs.Raster.{Terrain, IsHeight}
 use Rattle.terrain.specs.Neighbours.{height_at}
 use Rattle.terrain.specs.declared.place.Place.{Place}
-use Rattle.tiles.specs.Cutting.{Cutting, IsCutting}
 use Rattle.sightlines.specs.Walk.{AreHeights}
-use Rattle.sightlines.specs.Blocks.{blocks_in, IsTopOf}
+use Rattle.sightlines.specs.Blocks.{blocks_in, block_of, IsTopOf}
 
 -- A list of cells in row order as a terrain without sinks.
 abbrev pub ground_of : ℕ → ℕ → List (Option ℤ) → Terrain
@@ -27,8 +26,23 @@ pub record IsBlockTop (size : ℕ) (t : Terrain) (block : Place) (top : Option �
   pub height : (h : ℤ) → top ≡ Some h → IsHeight h
   pub above : (p : Place) (h : ℤ) → p.row / size ≡ block.row → p.col / size ≡ block.col → height_at t p ≡ Some h → IsTopOf top h
 
--- A cutting of the blocks of so many columns and rows.
-pub record CutsBlocks (size cols rows : ℕ) (c : Cutting) : Type 0 where
-  pub cutting : IsCutting c
-  pub cols_are : c.cols ≡ blocks_in size cols
-  pub rows_are : c.rows ≡ blocks_in size rows
+-- How many blocks there are.
+abbrev pub block_count : ℕ → Terrain → ℕ
+block_count size t = blocks_in size t.rows * blocks_in size t.cols
+
+-- The list has, from one block up to another in row order, a height for each that none of the
+-- block's heights is above.
+pub record AreTopsBetween (size : ℕ) (t : Terrain) (from to : ℕ) (tops : List (Option ℤ)) : Type 0 where
+  pub count : from + length tops ≡ to
+  pub heights : AreHeights tops
+  pub above : (p : Place) (h : ℤ) → from ≤ block_of size t p → block_of size t p < to
+      → height_at t p ≡ Some h → IsTopOf (slice_index_or tops (block_of size t p - from) None) h
+
+-- Where the share of a job begins, of so many blocks each.
+abbrev pub share_start : ℕ → ℕ → ℕ → ℕ
+share_start count share job = min count (job * share)
+
+-- The heights of a job's share of the blocks.
+abbrev pub AreTopsOfShare : ℕ → Terrain → ℕ → ℕ → List (Option ℤ) → Type 0
+AreTopsOfShare size t share job =
+    let start = share_start (block_count size t) share in AreTopsBetween size t (start job) (start (job + 1))

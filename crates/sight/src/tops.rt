@@ -1,24 +1,19 @@
-//! The greatest heights of blocks of cells, as maps of the blocks.
-ghost use Rattle.std.specs.Prelude.{◌≡◌, ℕ, ℤ, ◌*◌, ◌<◌, ◌≤◌, slice_index_or, None, Some, IfOk};
+//! The greatest heights of blocks of cells.
+ghost use Rattle.std.specs.Prelude.{◌≡◌, ℕ, ℤ, ◌<◌, ◌≤◌, slice_index_or, None, Some, IfOk};
 ghost use Rattle.sightlines.specs.Walk.{AreHeights};
 ghost use Rattle.tile_jobs.specs.Fault.{RefusesWorkers};
-ghost use Rattle.sightlines.specs.Blocks.{blocks_in, IsTopOf, AreTops, IsTops};
-ghost use Rattle.sight.specs.BlockTops.{CutsBlocks, ground_of, IsGround};
+ghost use Rattle.sightlines.specs.Blocks.{IsTopOf, AreTops, IsTops};
+ghost use Rattle.sight.specs.BlockTops.{ground_of, IsGround, IsBlock, IsBlockTop, block_count, AreTopsBetween};
 ghost use Rattle.terrain.specs.Raster.{IsHeight};
 
-use crate::by_place::{Placed, entries};
 use crate::heights::{height_at, raised};
 use sightlines::{FAR_BLOCK, NEAR_BLOCK, Tops, blocks_in};
-use std::alloc::Global;
+use std::alloc::{AllocError, Global};
 use std::sync::Wait;
 use std::thread::Threads;
-use terrain::{Cell, Grid, Height, LOWEST, NoMemory, Place};
-use tile_jobs::{JobFault, NoGate};
-use tile_maps::{Crew, TileMap};
-use tiles::{Tiling, TilingFault};
-
-/// How many blocks stand along the side of those of one job.
-const JOB_SIDE: u32 = 16;
+use terrain::{Cell, Grid, Height, LOWEST, Place};
+use tile_jobs::{Gate, JobFault, Work};
+use tile_maps::Crew;
 
 /// The greatest height of some cells, None where they have no data.
 #[inline(always)]
@@ -34,62 +29,6 @@ fn top_of(cells: &[Cell]) -> Option<Height>
     top
 }
 
-/// The greatest heights of the blocks of so many cells each way of a ground: a map of the blocks.
-#[derive(Drop)]
-struct BlockTops<'a> {
-    cells: &'a [Cell],
-    cols: u32,
-    rows: u32,
-    size: u32,
-    tiling: Tiling,
-    ghost sized: { (0 < size) × (size ≤ 4096) },
-    ghost ground: { IsGround cols rows cells.now },
-    ghost cut: { CutsBlocks size cols rows tiling },
-}
-
-impl<'a> Placed for BlockTops<'a> {
-    ghost use Rattle.sight.specs.BlockTops.{ground_of, IsBlock, IsBlockTop};
-
-    type Entry = Cell;
-
-    ghost inside = { λ m. IsBlock m.size (ground_of m.cols m.rows m.cells.now) };
-
-    ghost has = { λ m. IsBlockTop m.size (ground_of m.cols m.rows m.cells.now) };
-
-    #[inline(always)]
-    fn entry(&self, block: Place) -> Cell {
-        let from = block.col * self.size;
-        let to = self.cols.min(from + self.size);
-        let first = block.row * self.size;
-        let mut top = None;
-        for row in first..self.rows.min(first + self.size) {
-            let line = row as usize * self.cols as usize;
-            let run = &self.cells[line + from as usize..line + to as usize];
-            top = raised(top, top_of(run));
-        }
-        cell_of(top)
-    }
-}
-
-impl<'a> TileMap for BlockTops<'a> {
-    ghost use Rattle.sight.specs.BlockTops.{ground_of, IsBlockTop};
-
-    type Entry = Cell;
-
-    ghost cutting = { λ m. m.tiling };
-
-    ghost has = { λ m. IsBlockTop m.size (ground_of m.cols m.rows m.cells.now) };
-
-    fn tiling(&self) -> Tiling {
-        self.tiling
-    }
-
-    fn tile(&self, alloc: Global, tile: u32) -> Result<Vec<Cell>, NoMemory> {
-        let tops = entries(self, alloc, self.tiling.bounds(tile))?;
-        Ok(tops)
-    }
-}
-
 /// The cell of a greatest height, if there is one.
 #[inline(always)]
 fn cell_of(top: Option<Height>) -> Cell
@@ -102,58 +41,144 @@ fn cell_of(top: Option<Height>) -> Cell
     }
 }
 
-/// The blocks of so many columns and rows, cut into those of each job.
-fn cut_blocks(cols: u32, rows: u32, size: u32) -> Tiling
-    requires cols { (1 ≤ cols) × (cols ≤ 4096) }
-    requires rows { (1 ≤ rows) × (rows ≤ 4096) }
-    requires size { (0 < size) × (size ≤ 4096) }
-    ensures { CutsBlocks size cols rows result }
-{
-    let wide = blocks_in(size, cols) as u32;
-    let high = blocks_in(size, rows) as u32;
-    match Tiling::new(wide, high, JOB_SIDE) {
-        Ok(tiling) => tiling,
-        Err(TilingFault::BadSide) => unreachable!(),
-        Err(TilingFault::TooManyTiles) => unreachable!(),
-    }
-}
-
-/// The greatest height of each block of so many cells each way.
-fn block_tops<R: Threads + Wait + Sync>(
-    crew: &Crew<R, NoGate>,
-    cells: &[Cell],
+/// A ground whose cells are taken together in blocks of `size` cells each way.
+#[derive(Drop)]
+struct Blocks<'a> {
+    cells: &'a [Cell],
     cols: u32,
     rows: u32,
     size: u32,
-) -> Result<Vec<Cell>, JobFault>
-    requires ground { IsGround cols rows cells.now }
-    requires size { (0 < size) × (size ≤ 4096) }
-    ensures tops { IfOk result (λ v. AreTops size (ground_of cols rows cells.now) v.items) }
-    ensures workers { RefusesWorkers crew.now.workers result }
-{
-    let tiling = cut_blocks(cols, rows, size);
-    crew.made(BlockTops {
-        cells,
-        cols,
-        rows,
-        size,
-        tiling,
-    })
+    ghost sized: { (0 < size) × (size ≤ 4096) },
+    ghost ground: { IsGround cols rows cells.now },
 }
 
-/// The greatest heights of a grid's blocks, by workers who share these.
-pub(crate) fn tops_of<R: Threads + Wait + Sync>(
-    crew: &Crew<R, NoGate>,
+impl<'a> Blocks<'a> {
+    /// The number of blocks.
+    fn count(&self) -> usize
+        ensures value { result ≡ block_count self.now.size
+            (ground_of self.now.cols self.now.rows self.now.cells.now) }
+        ensures few { result ≤ 16777216 }
+    {
+        blocks_in(self.size, self.rows) * blocks_in(self.size, self.cols)
+    }
+
+    /// The greatest height of a block.
+    #[inline(always)]
+    fn top(&self, block: Place) -> Cell
+        requires { IsBlock self.now.size
+            (ground_of self.now.cols self.now.rows self.now.cells.now) block }
+        ensures { IsBlockTop self.now.size
+            (ground_of self.now.cols self.now.rows self.now.cells.now) block result }
+    {
+        let from = block.col * self.size;
+        let to = self.cols.min(from + self.size);
+        let first = block.row * self.size;
+        let mut top = None;
+        for row in first..self.rows.min(first + self.size) {
+            let line = row as usize * self.cols as usize;
+            let run = &self.cells[line + from as usize..line + to as usize];
+            top = raised(top, top_of(run));
+        }
+        cell_of(top)
+    }
+
+    /// The greatest heights of the blocks from one number up to another, in row order.
+    fn tops(&self, alloc: Global, from: usize, to: usize) -> Result<Vec<Cell>, AllocError>
+        requires order { from ≤ to }
+        requires inside { to ≤ block_count self.now.size
+            (ground_of self.now.cols self.now.rows self.now.cells.now) }
+        ensures { IfOk result (λ v.
+            AreTopsBetween self.now.size
+            (ground_of self.now.cols self.now.rows self.now.cells.now) from to v.items) }
+    {
+        let wide = blocks_in(self.size, self.cols);
+        let mut tops = Vec::with_capacity(alloc, to - from)?;
+        for block in from..to {
+            let row = (block / wide) as u32;
+            let col = (block % wide) as u32;
+            tops.push(self.top(Place { row, col }))?;
+        }
+        Ok(tops)
+    }
+}
+
+/// One job for each share of the blocks in row order.
+#[derive(Drop)]
+struct BlockShares<'a> {
+    blocks: &'a Blocks<'a>,
+    share: usize,
+    ghost small: { share ≤ 16777216 },
+}
+
+impl<'a> Work for BlockShares<'a> {
+    ghost use Rattle.sight.specs.BlockTops.{ground_of, AreTopsOfShare};
+
+    type Out = Vec<Cell>;
+
+    ghost most = { λ w. 65536 };
+
+    ghost gives = { λ w job out.
+        AreTopsOfShare w.blocks.now.size
+        (ground_of w.blocks.now.cols w.blocks.now.rows w.blocks.now.cells.now) w.share job out.items };
+
+    fn run(&self, alloc: Global, job: u32) -> Result<Vec<Cell>, JobFault> {
+        let count = self.blocks.count();
+        let from = count.min(job as usize * self.share);
+        let to = count.min(from + self.share);
+        let tops = self.blocks.tops(alloc, from, to)?;
+        Ok(tops)
+    }
+}
+
+/// The greatest heights of all blocks, by so many jobs that share them evenly.
+fn shared_tops<R: Threads + Wait + Sync, G: Gate + Sync>(
+    crew: &Crew<R, G>,
+    blocks: &Blocks,
+    jobs: u32,
+) -> Result<Vec<Cell>, JobFault>
+    requires jobs { (1 ≤ jobs) × (jobs ≤ 65536) }
+    ensures tops { IfOk result (λ v.
+        AreTops blocks.now.size
+        (ground_of blocks.now.cols blocks.now.rows blocks.now.cells.now) v.items) }
+    ensures workers { RefusesWorkers crew.now.workers result }
+{
+    let count = blocks.count();
+    let share = count.div_ceil(jobs as usize);
+    let lists = crew.run(&BlockShares { blocks, share }, jobs)?;
+    let mut tops = Vec::with_capacity(crew.alloc, count)?;
+    for list in &lists {
+        tops.extend_from_slice(list)?;
+    }
+    Ok(tops)
+}
+
+/// The greatest heights of a grid's near blocks, by so many jobs, and those of its far ones.
+pub(crate) fn tops_of<R: Threads + Wait + Sync, G: Gate + Sync>(
+    crew: &Crew<R, G>,
     grid: &Grid,
+    jobs: u32,
 ) -> Result<Tops, JobFault>
+    requires jobs { (1 ≤ jobs) × (jobs ≤ 65536) }
     ensures tops { IfOk result (λ t. IsTops grid.now.terrain t) }
     ensures workers { RefusesWorkers crew.now.workers result }
 {
     let (cols, rows) = (grid.cols(), grid.rows());
-    let near = block_tops(crew, grid.cells(), cols, rows, NEAR_BLOCK)?;
+    let cells = Blocks {
+        cells: grid.cells(),
+        cols,
+        rows,
+        size: NEAR_BLOCK,
+    };
+    let near = shared_tops(crew, &cells, jobs)?;
     let wide = blocks_in(NEAR_BLOCK, cols) as u32;
     let high = blocks_in(NEAR_BLOCK, rows) as u32;
-    let far = block_tops(crew, &near, wide, high, FAR_BLOCK / NEAR_BLOCK)?;
+    let near_blocks = Blocks {
+        cells: &near,
+        cols: wide,
+        rows: high,
+        size: FAR_BLOCK / NEAR_BLOCK,
+    };
+    let far = near_blocks.tops(crew.alloc, 0, near_blocks.count())?;
     let peak = top_of(&far).unwrap_or(LOWEST);
     Ok(Tops { near, far, peak })
 }

@@ -12,12 +12,15 @@ use std::alloc::Global;
 use std::sync::Wait;
 use std::thread::Threads;
 use terrain::{Count, Grid, Observer};
-use tile_jobs::{Gate, NoGate};
+use tile_jobs::Gate;
 use tile_maps::Crew;
 use tiles::Tiling;
 
-/// How many entries of the list of observers see each cell, in row order, and None where there is
-/// no data. Each tile is one job, and `workers` threads share them.
+/// Returns how many entries of the list of observers see each cell, in row order, and None where
+/// there is no data.
+///
+/// Two stages run on `workers` threads, each with one job for each tile: the greatest heights of
+/// blocks of cells, since a line of sight passes over a low block in one step, and the values.
 ///
 /// It refuses more than 1,024 observers, then a target height or an eye above 1,000,000, a radius
 /// that is not from 1 to 8,192, and the first observer outside the grid or on no data, in this
@@ -42,21 +45,13 @@ pub fn viewshed<R: Threads + Wait + Sync, G: Gate + Sync>(
     if let Some(fault) = first_fault(grid, observers, target_height, radius) {
         return Err(fault);
     }
-    let tops = tops_of(
-        &Crew {
-            rt,
-            alloc,
-            workers,
-            gate: &NoGate,
-        },
-        grid,
-    )?;
     let crew = Crew {
         rt,
         alloc,
         workers,
         gate,
     };
+    let tops = tops_of(&crew, grid, tiling.tiles())?;
     let values = crew.made(Viewing {
         grid,
         tops: &tops,

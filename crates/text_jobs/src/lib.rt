@@ -12,6 +12,7 @@
 //! - `writing`: maps as text
 #![tactic(auto)]
 
+mod batches;
 mod reading;
 mod runs;
 mod writing;

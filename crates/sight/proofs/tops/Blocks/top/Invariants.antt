@@ -4,7 +4,7 @@ use Rattle.terrain.specs.Raster.{IsHeight}
 use Rattle.terrain.specs.declared.place.Place.{Place}
 use Rattle.sightlines.specs.Blocks.{IsTopOf}
 use Rattle.sight.specs.BlockTops.{ground_of}
-use Rattle.sight.proofs.tops.BlockTopsPlaced.entry.Given as goal
+use Rattle.sight.proofs.tops.Blocks.top.Given as goal
 
 abbrev pub invariant-loop-row : goal.invariant-loop-row
 invariant-loop-row l = record {

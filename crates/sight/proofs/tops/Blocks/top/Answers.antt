@@ -3,7 +3,7 @@ use Rattle.std.proofs.lemmas.Bool.{cases_lt}
 use Rattle.terrain.proofs.Places.{inside_from_entry, entry-inside}
 use Rattle.sight.specs.BlockTops.{ground_of}
 use Rattle.sight.proofs.BlockLists.{top_over, run_at, in_block}
-use Rattle.sight.proofs.tops.BlockTopsPlaced.entry.Goals as goal
+use Rattle.sight.proofs.tops.Blocks.top.Goals as goal
 
 pub loop-row-preserved : goal.loop-row-preserved
 loop-row-preserved c =

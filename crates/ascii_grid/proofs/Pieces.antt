@@ -1,0 +1,102 @@
+-- One piece after another, from the device to the reader.
+use Rattle.std.proofs.Common.{arith, ◌≡◌, ◌≢◌, ◌≤◌, ◌-◌, ◌+◌, ◌++◌, ℕ, List, Option, None, Some, Ok, Err, Result, refl, sym, subst, ◌∙◌}
+use Rattle.std.specs.Prelude.{IfOk}
+use Rattle.std.proofs.lemmas.List.{length-append}
+use Rattle.terrain.specs.Raster.{Raster}
+use Rattle.ascii_grid.specs.Device.{Device}
+use Rattle.ascii_grid.specs.GridText.{IsGridText, IsRefusal, fault_so_far}
+use Rattle.ascii_grid.specs.Input.{ReadsGrid, ReadsPiece}
+use Rattle.ascii_grid.specs.Reader.{Reader, HasTaken, Feeds}
+use Rattle.ascii_grid.specs.declared.fault.GridFault.{GridFault}
+use Rattle.ascii_grid.specs.declared.input.InputFault.{InputFault}
+use Rattle.ascii_grid.specs.declared.input.InputFault.TheVariants.{Grid, Read}
+use Rattle.ascii_grid.proofs.Feeding.{stays}
+use Rattle.ascii_grid.proofs.Taking.{IsTaking, Consumes-more, not_too_long, consumed_front, consumed_end}
+
+same_grid_fault : (f g : GridFault) → ◌≡◌ {A = Result Raster InputFault} (Err (Grid f)) (Err (Grid g)) → f ≡ g
+same_grid_fault f g e = cc
+
+-- a piece that was fed without a fault leaves a text that shows none
+still_faultless : {R : Type 0} (remaining : R → Option (List ℕ)) (first old : Device R) (scale taken : ℕ) (r r' : Reader) (bytes : List ℕ) (held : IsTaking remaining first old scale r taken) → Feeds r r' bytes (Ok (tt {0})) → fault_so_far scale (held.text ++ bytes) ≡ None
+still_faultless remaining first old scale taken r r' bytes held feeds =
+    subst (λ (d : ℕ). fault_so_far d (held.text ++ bytes) ≡ None) held.scale_kept (feeds.ok held.text held.fed)
+
+-- more of the text
+pub piece_taken : {R : Type 0} (remaining : R → Option (List ℕ)) (first old new : Device R) (scale taken room n : ℕ) (r r' : Reader) → IsTaking remaining first old scale r taken → ReadsPiece remaining old new r r' room (Ok (Some n)) → IsTaking remaining first new scale r' (taken + n)
+piece_taken remaining first old new scale taken room n r r' held step =
+    let feeds = subst (λ (z : Result (Unit {0}) GridFault). Feeds r r' step.bytes z) step.answered.0 step.feeds in
+    let text : List ℕ = held.text ++ step.bytes in
+    let faultless = still_faultless remaining first old scale taken r r' step.bytes held feeds in
+    let short = not_too_long scale text faultless in
+    let sizes = length-append held.text step.bytes in
+    record {
+      text = text;
+      fed = feeds.taken held.text held.fed;
+      faultless = faultless;
+      scale_kept = feeds.scale ∙ held.scale_kept;
+      size = omega (arith, sizes, held.size, step.answered.2);
+      room = omega (arith, sizes, held.size, step.answered.2, short);
+      count = step.answered.1 ∙ held.count;
+      bytes = Consumes-more _ _ _ _ _ held.bytes step.consumes;
+    }
+
+-- and the reader has answered no fault
+pub piece_sound : {R : Type 0} (remaining : R → Option (List ℕ)) (old new : Device R) (room n : ℕ) (r r' : Reader) → ReadsPiece remaining old new r r' room (Ok (Some n)) → r'.fault ≡ None
+piece_sound remaining old new room n r r' step =
+    (subst (λ (z : Result (Unit {0}) GridFault). Feeds r r' step.bytes z) step.answered.0 step.feeds).fault
+
+-- the end of the text, and what the reader makes of it
+pub pieces_ended : {R : Type 0} (remaining : R → Option (List ℕ)) (first old new : Device R) (scale taken room : ℕ) (r r' : Reader) (result : Result Raster InputFault) → IsTaking remaining first old scale r taken → ReadsPiece remaining old new r r' room (Ok None) → room ≤ 536870913 - taken → ((text : List ℕ) → HasTaken r' text → IfOk result (λ g. IsGridText r'.scale text g)) → ((text : List ℕ) (f : GridFault) → HasTaken r' text → result ≡ Err (Grid f) → IsRefusal r'.scale text f) → result ≢ Err Read → ReadsGrid remaining scale first new result
+pieces_ended remaining first old new scale taken room r r' result held step fits grid fault sound =
+    let feeds = subst (λ (z : Result (Unit {0}) GridFault). Feeds r r' step.bytes z) step.answered.0 step.feeds in
+    let front : List ℕ = held.text ++ step.bytes in
+    let bytes = Consumes-more _ _ _ _ _ held.bytes step.consumes in
+    let scale_kept : r'.scale ≡ scale = feeds.scale ∙ held.scale_kept in
+    let all = λ (text : List ℕ) (told : remaining first.device ≡ Some text).
+    subst (λ (z : List ℕ). HasTaken r' z) (consumed_end _ _ text front told bytes step.answered.2) (feeds.taken held.text held.fed) in
+    record {
+      grid = λ text told. rw scale_kept at (grid text (all text told));
+      fault = λ text f told is. rw scale_kept at (fault text f (all text told) is);
+      read = λ bad. absurd (sound bad);
+      sound = λ not. step.answered.1 ∙ held.count;
+      taken = (front, bytes, omega (arith, length-append held.text step.bytes, held.size, held.room, step.within, fits), λ bad. absurd (sound bad));
+    }
+
+-- a fault of a word that ended
+pub piece_refused : {R : Type 0} (remaining : R → Option (List ℕ)) (first old new : Device R) (scale taken room : ℕ) (r r' : Reader) (f : GridFault) → IsTaking remaining first old scale r taken → ReadsPiece remaining old new r r' room (Err (Grid f)) → room ≤ 536870913 - taken → ReadsGrid remaining scale first new (Err (Grid f))
+piece_refused remaining first old new scale taken room r r' f held step fits =
+    let feeds = subst (λ (z : Result (Unit {0}) GridFault). Feeds r r' step.bytes z) step.answered.0 step.feeds in
+    let front : List ℕ = held.text ++ step.bytes in
+    let bytes = Consumes-more _ _ _ _ _ held.bytes step.consumes in
+    record {
+      grid = λ text told. tt;
+      fault = λ text g told is.
+          let more = consumed_front _ _ text front told bytes in
+          let whole = subst (λ (z : List ℕ). IsRefusal r.scale z f) (sym more.1) (stays _ front more.0 f (feeds.err held.text held.fed)) in
+          rw (held.scale_kept, same_grid_fault _ _ is) at whole;
+      read = λ bad. absurd (cc);
+      sound = λ not. step.answered.1 ∙ held.count;
+      taken = (front, bytes, omega (arith, length-append held.text step.bytes, held.size, held.room, step.within, fits), λ bad. absurd (cc));
+    }
+
+-- a failed read
+pub piece_failed : {R : Type 0} (remaining : R → Option (List ℕ)) (first old new : Device R) (scale taken room : ℕ) (r r' : Reader) → IsTaking remaining first old scale r taken → ReadsPiece remaining old new r r' room (Err Read) → room ≤ 536870913 - taken → ReadsGrid remaining scale first new (Err Read)
+piece_failed remaining first old new scale taken room r r' held step fits =
+    let feeds = subst (λ (z : Result (Unit {0}) GridFault). Feeds r r' step.bytes z) step.answered.0 step.feeds in
+    let front : List ℕ = held.text ++ step.bytes in
+    record {
+      grid = λ text told. tt;
+      fault = λ text g told is. absurd (cc);
+      read = λ bad. omega (arith, step.answered.1, held.count);
+      sound = λ not. absurd (not refl);
+      taken = (
+        front,
+        Consumes-more _ _ _ _ _ held.bytes step.consumes,
+        omega (arith, length-append held.text step.bytes, held.size, held.room, step.within, fits),
+        λ bad. still_faultless remaining first old scale taken r r' step.bytes held feeds,
+      );
+    }
+
+pub piece_stopped : {R : Type 0} (remaining : R → Option (List ℕ)) (first old new : Device R) (scale taken room : ℕ) (r r' : Reader) (e : InputFault) → IsTaking remaining first old scale r taken → ReadsPiece remaining old new r r' room (Err e) → room ≤ 536870913 - taken → ReadsGrid remaining scale first new (Err e)
+piece_stopped remaining first old new scale taken room r r' (Grid f) held step fits = piece_refused remaining first old new scale taken room r r' f held step fits
+piece_stopped remaining first old new scale taken room r r' Read held step fits = piece_failed remaining first old new scale taken room r r' held step fits

@@ -1,0 +1,71 @@
+//! Pieces of a text that are read one behind the other, for several workers to share.
+ghost use Rattle.std.specs.Prelude.{◌≡◌, ◌≤◌, ◌<◌, length, take};
+ghost use Rattle.std.specs.Io.KnownBytes.{Consumes, IsAtEnd};
+
+use ascii_grid::{Counted, PIECE_BYTES, UncountedFailure};
+use std::io::Read;
+
+/// The most pieces of a batch.
+///
+/// One less than 1 MiB holds: a word that began before them waits for its cell too.
+const BATCH_PIECES: usize = 255;
+
+/// The most bytes of a batch.
+pub(crate) const BATCH_BYTES: usize = BATCH_PIECES * PIECE_BYTES;
+
+/// What ended a batch.
+#[derive(Drop)]
+pub(crate) enum BatchEnd {
+    /// The batch is full.
+    Full,
+    /// The text has no more bytes.
+    Text,
+    /// A read failed.
+    Failure(UncountedFailure),
+}
+
+/// The length of a batch, and what ended it.
+#[derive(Drop)]
+pub(crate) struct Batch {
+    pub len: usize,
+    pub end: BatchEnd,
+}
+
+/// Reads pieces of at most [`PIECE_BYTES`] bytes, and copies them one behind the other.
+pub(crate) fn read_batch<R: Read>(reader: &mut Counted<R>, bytes: &mut [u8]) -> Batch
+    ensures len { result.len ≤ length bytes.old }
+    ensures full { 0 < length bytes.old → result.end ≡ BatchEnd.Full → 0 < result.len }
+    ensures text { result.end ≡ BatchEnd.Text → IsAtEnd (R.remaining reader.new.device) }
+    ensures count { reader.new.failures ≡ reader.old.failures }
+    ensures consumed { Consumes (R.remaining reader.old.device) (R.remaining reader.new.device)
+        (take result.len bytes.new) }
+{
+    let mut piece = [0; PIECE_BYTES];
+    let mut len = 0;
+    let mut pieces = 0;
+    while pieces < BATCH_PIECES && len < bytes.len() {
+        let room = PIECE_BYTES.min(bytes.len() - len);
+        let count = match reader.read_ahead(&mut piece[..room]) {
+            Ok(count) => count,
+            Err(failure) => {
+                return Batch {
+                    len,
+                    end: BatchEnd::Failure(failure),
+                };
+            }
+        };
+        if count == 0 {
+            return Batch {
+                len,
+                end: BatchEnd::Text,
+            };
+        }
+        bytes[len..len + count].copy_from_slice(&piece[..count]);
+        len += count;
+        pieces += 1;
+    }
+    Batch {
+        len,
+        end: BatchEnd::Full,
+    }
+}
