@@ -1,5 +1,5 @@
 # `make` proves and builds the program and maps an example; `make test` passes all tests.
-.PHONY: all relief test bench recipes picture pictures install uninstall package
+.PHONY: all relief test bench recipes picture pictures install uninstall package qgis-plugin
 
 all: relief
 	./relief fill < examples/valley.asc
@@ -35,6 +35,7 @@ bench:
 recipes:
 	$(BUILT)
 	tools/recipes
+	tests/gis/run ./relief test_page.py
 
 # Draws a map: make picture IN=view.asc OUT=seen.png KIND=view OVER=dem.asc MARK="100,3 40,90" UNIT=m SIDE=1024
 OUT = $(basename $(IN)).png
@@ -72,13 +73,20 @@ install:
 	install -m 644 tools/completion/_relief "$(ZSH)/_relief"
 	pages=$$(tools/linked_pages README.md) && for page in $$pages; do \
 	  install -D -m 644 "$$page" "$(SHARE)/doc/relief/$$page" || exit 1; done
+	@[ -n "$(DESTDIR)" ] || ! command -v qgis > /dev/null || gis/install "$(PREFIX)"
 
 uninstall:
 	rm -f "$(BIN)/relief" $(TOOLS:%="$(BIN)/relief-%") "$(MAN)/relief.1" $(TOOLS:%="$(MAN)/relief-%.1")
 	rm -f "$(BASH)/relief" "$(ZSH)/_relief"
 	rm -rf "$(SHARE)/relief" "$(SHARE)/doc/relief"
+	@[ -n "$(DESTDIR)" ] || gis/install --remove "$(PREFIX)"
 
-# A Debian package of the built program and its tools, below out/.
+# Debian packages of the built program and its tools, and of relief-gis, below out/.
 package:
 	$(BUILT)
 	tools/package
+	gis/package
+
+# The archive that QGIS's plugin manager installs, below out/.
+qgis-plugin:
+	gis/qgis-plugin
