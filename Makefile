@@ -7,7 +7,7 @@ all: relief
 relief:
 	tools/build
 
-# `rt ci` proves all from nothing and leaves the program that it has built.
+# `rt ci` proves what no earlier run on the machine has proved, and leaves the program that it has built.
 test:
 	tests/documents
 	rt ci
