@@ -172,8 +172,8 @@ fn gauges_are_refused_in_their_order(rt: HostRuntime) {
     for _ in 0..MOST_GAUGES {
         many.push(place(0, 1)).expect(&rt, "gauges");
     }
-    let most = caught(&rt, alloc, &gap, &many, 1, 1);
-    assert!(rt; most.is_ok());
+    let most = caught(&rt, alloc, &gap, &many, 1, 1).expect(&rt, "as many gauges as may be");
+    assert!(rt; most.len() == 2);
     many.push(place(1, 0)).expect(&rt, "gauges");
     let too_many = caught(&rt, alloc, &gap, &many, 1, 65);
     assert!(rt; matches!(too_many, Err(GaugeFault::TooManyGauges)));
