@@ -16,6 +16,7 @@ use crate::reach::is_any_in_reach;
 use sightlines::Tops;
 use std::alloc::{AllocError, Global};
 use terrain::{Count, Grid, NoMemory, Observer, Place};
+use tile_jobs::Gate;
 use tile_maps::TileMap;
 use tiles::{Bounds, Tiling};
 
@@ -74,10 +75,12 @@ impl<'a> Viewing<'a> {
         is_any_in_reach(eye, bounds, self.radius)
     }
 
-    /// Counts each observer at the cells of a tile that it sees. What `seen` has before is written over.
-    fn count_observers(
+    /// Counts each observer at the cells of a tile that it sees; for the gate it is a part of the
+    /// tile's job. What `seen` has before is written over.
+    fn count_observers<G: Gate>(
         &self,
         alloc: Global,
+        gate: &G,
         bounds: Bounds,
         seen: &mut [bool],
         values: &mut [Count],
@@ -97,6 +100,7 @@ impl<'a> Viewing<'a> {
                 self.look(alloc, observer, bounds, seen)?;
                 count_seen(seen, values);
             }
+            gate.finish_part(self.observers.len());
         }
         Ok(())
     }
@@ -122,24 +126,32 @@ impl<'a> Placed for Viewing<'a> {
     }
 }
 
-impl<'a> TileMap for Viewing<'a> {
+/// A viewshed whose gate is called after each observer of a tile.
+#[derive(Drop)]
+pub struct GatedViewing<'a, 'g, G> {
+    pub viewing: Viewing<'a>,
+    pub gate: &'g G,
+}
+
+impl<'a, 'g, G: Gate> TileMap for GatedViewing<'a, 'g, G> {
     ghost use Rattle.sight.specs.Viewed.{HasValue};
 
     type Entry = Count;
 
-    ghost cutting = { λ m. m.tiling.now };
+    ghost cutting = { λ m. m.viewing.tiling.now };
 
-    ghost has = { λ m. HasValue m.grid.now.terrain m.observers.now m.target_height m.radius };
+    ghost has = { λ m. HasValue m.viewing.grid.now.terrain m.viewing.observers.now m.viewing.target_height m.viewing.radius };
 
     fn tiling(&self) -> Tiling {
-        *self.tiling
+        *self.viewing.tiling
     }
 
     fn tile(&self, alloc: Global, tile: u32) -> Result<Vec<Count>, NoMemory> {
-        let bounds = self.tiling.bounds(tile);
-        let mut values = entries(self, alloc, bounds)?;
+        let viewing = &self.viewing;
+        let bounds = viewing.tiling.bounds(tile);
+        let mut values = entries(viewing, alloc, bounds)?;
         let mut seen = vec![in alloc; false; values.len()]?;
-        self.count_observers(alloc, bounds, &mut seen, &mut values)?;
+        viewing.count_observers(alloc, self.gate, bounds, &mut seen, &mut values)?;
         Ok(values)
     }
 }

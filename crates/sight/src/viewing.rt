@@ -6,7 +6,7 @@ ghost use Rattle.sight.specs.Refusals.{RefusesSight, observers_fault};
 
 use crate::fault::SightFault;
 use crate::judging::first_fault;
-use crate::tile::Viewing;
+use crate::tile::{GatedViewing, Viewing};
 use crate::tops::tops_of;
 use std::alloc::Global;
 use std::sync::Wait;
@@ -52,13 +52,14 @@ pub fn viewshed<R: Threads + Wait + Sync, G: Gate + Sync>(
         gate,
     };
     let tops = tops_of(&crew, grid, tiling.tiles())?;
-    let values = crew.made(Viewing {
+    let viewing = Viewing {
         grid,
         tops: &tops,
         observers,
         target_height,
         radius,
         tiling,
-    })?;
+    };
+    let values = crew.made(GatedViewing { viewing, gate })?;
     Ok(values)
 }

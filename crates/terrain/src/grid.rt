@@ -9,7 +9,7 @@ ghost use Rattle.terrain.specs.Sinks.{RefusesSinks, raster_with_sinks, sinks_fau
 
 use crate::cell::Cell;
 use crate::place::{Height, Place};
-use crate::sinks::{SinkFault, each_once, first_fault, is_one_of};
+use crate::sinks::{SinkFault, each_once, is_one_of, sinks_fault};
 use crate::word::Word;
 use std::alloc::{AllocError, Global};
 use std::marker::Model;
@@ -341,7 +341,7 @@ impl Grid {
         ensures grid { IfOk result (λ g. g ≡ raster_with_sinks self.now sinks.now) }
         ensures fault { RefusesSinks (sinks_fault self.now.terrain sinks.now) result }
     {
-        if let Some(fault) = first_fault(self, sinks) {
+        if let Some(fault) = sinks_fault(self, sinks) {
             return Err(fault);
         }
         let sinks = each_once(alloc, sinks)?;

@@ -61,8 +61,9 @@ fn first_bad_sink(grid: &Grid, sinks: &[Place]) -> Option<SinkFault>
     None
 }
 
-/// The first fault of sinks over a grid.
-pub(crate) fn first_fault(grid: &Grid, sinks: &[Place]) -> Option<SinkFault>
+/// Returns why places of a grid cannot be named as sinks: more than [`MOST_SINKS`], repeats counted;
+/// then the first that lies outside the grid or has no data. None where they can.
+pub fn sinks_fault(grid: &Grid, sinks: &[Place]) -> Option<SinkFault>
     ensures { result ≡ sinks_fault grid.now.terrain sinks.now }
 {
     if sinks.len() > MOST_SINKS {

@@ -1,11 +1,20 @@
-//! A gate that is called once before each job: [`Gate`].
+//! A gate that is called as jobs begin and end: [`Gate`].
 //!
-//! On the thread that runs the job. It may block that thread; tests use it to hold jobs.
+//! Tests use it to hold jobs, and the program to report how far a run is.
 
-/// Is told of each job once, just before it is run, by the thread that runs it. It may hold that
-/// thread back.
+/// Observes the jobs of a run, stage by stage. Only `enter` has to be written.
 pub trait Gate {
+    /// Called once before each job, on the thread that runs it; may block.
     fn enter(&self, job: u32);
+
+    /// Called on the caller's thread before a stage of so many jobs.
+    fn begin_stage(&self, _jobs: u32) {}
+
+    /// Called after each job that succeeds, on the thread that ran it.
+    fn leave(&self, _job: u32) {}
+
+    /// Called after each of the `parts` equal parts of a job, by jobs that have parts.
+    fn finish_part(&self, _parts: usize) {}
 }
 
 /// A gate that lets each job in at once.

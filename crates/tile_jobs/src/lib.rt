@@ -21,7 +21,7 @@
 //! - `slots`: results in job order
 //! - `room`: lists made with room for everything
 //! - `work`: what a job does
-//! - `gate`: called before each job
+//! - `gate`: called as jobs begin and end
 #![tactic(auto)]
 
 ghost use Rattle.std.specs.Prelude.{◌≡◌, ◌<◌, ◌≤◌, ◌⊎◌, ◌↔◌, Err, IfErr, OnOk};

@@ -41,6 +41,7 @@ where
             Take::Job(job) => {
                 gate.enter(job);
                 let out = work.run(alloc, job)?;
+                gate.leave(job);
                 answers.push(Answer { job, out }).map_err(AllocError::from)?;
             }
             Take::Again => thread::yield_now(),

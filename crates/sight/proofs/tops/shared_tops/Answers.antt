@@ -1,4 +1,4 @@
-use Rattle.std.proofs.Common.{arith, ℕ, ℤ, ◌≡◌, ◌+◌, ◌*◌, ◌<◌, ◌≤◌, ◌∙◌, List, [], Option, Vec, Global, min, get_or, sym, ap, subst}
+use Rattle.std.proofs.Common.{arith, ℕ, ℤ, ◌≡◌, ◌+◌, ◌*◌, ◌<◌, ◌≤◌, ◌∙◌, List, [], Option, Vec, Global, get_or, sym, ap, subst}
 use Rattle.std.specs.Int.{div_ceil}
 use Rattle.std.proofs.lemmas.Grind.{div_ceil_times}
 use Rattle.sight.specs.BlockTops.{ground_of, AreTopsBetween, AreTopsOfShare, block_count, share_start}

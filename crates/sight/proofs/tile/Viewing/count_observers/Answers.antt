@@ -10,29 +10,29 @@ use Rattle.sight.proofs.tile.Viewing.count_observers.Goals as goal
 use Rattle.sight.proofs.tile.Viewing.count_observers.Goals.{then-reaches+in_ok-look, else-reaches}
 
 pub reaches-requires-clause-observer : goal.reaches-requires-clause-observer
-reaches-requires-clause-observer c =
+reaches-requires-clause-observer g c =
     let self = c.args.self.now in
     (lawful_from self.grid.now.terrain self.observers.now self.target_height self.radius self.faultless).inside c.loop-observer.observer-index _ c.loop-observer-test.true
 
 pub look-requires-clause-observer : goal.look-requires-clause-observer
-look-requires-clause-observer c =
+look-requires-clause-observer g c =
     let self = c.args.self.now in
     (lawful_from self.grid.now.terrain self.observers.now self.target_height self.radius self.faultless).inside c.loop-observer.observer-index _ c.loop-observer-test.true
 
 pub look-requires-clause-eye : goal.look-requires-clause-eye
-look-requires-clause-eye c =
+look-requires-clause-eye g c =
     let self = c.args.self.now in
     (lawful_from self.grid.now.terrain self.observers.now self.target_height self.radius self.faultless).eyes_low c.loop-observer.observer-index _ c.loop-observer-test.true
 
 pub count_seen-requires-clause-few : goal.count_seen-requires-clause-few
-count_seen-requires-clause-few c k n e =
+count_seen-requires-clause-few g c k n e =
     let self = c.args.self.now in
     let lawful = lawful_from self.grid.now.terrain self.observers.now self.target_height self.radius self.faultless in
     let before = few self.grid.now.terrain self.observers.now self.target_height self.radius c.loop-observer.observer-index c.args.bounds c.loop-observer.values c.loop-observer.invariant k n e in
     omega (arith, before, lawful.few)
 
 pub loop-observer-preserved : goal.loop-observer-preserved
-loop-observer-preserved c =
+loop-observer-preserved g c =
     let self = c.args.self.now in
     let t = self.grid.now.terrain in
     let i = c.loop-observer.observer-index in
@@ -48,7 +48,7 @@ loop-observer-preserved c =
     ]
 
 pub returns : goal.returns
-returns c =
+returns g c =
     let self = c.args.self.now in
     let b = c.args.bounds in
     let all : take c.loop-observer.observer-index self.observers.now ≡ self.observers.now = take_all c.loop-observer.observer-index self.observers.now (omega arith) in

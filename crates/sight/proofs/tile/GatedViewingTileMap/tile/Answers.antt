@@ -3,11 +3,11 @@ use Rattle.std.proofs.lemmas.List.{with_items_is}
 use Rattle.tile_maps.specs.Maps.{IsMadeTile}
 use Rattle.tile_maps.proofs.TileLists.{made_tile}
 use Rattle.sight.specs.Viewed.{HasValue}
-use Rattle.sight.proofs.tile.ViewingTileMap.tile.Goals as goal
+use Rattle.sight.proofs.tile.GatedViewingTileMap.tile.Goals as goal
 
 pub returns : goal.returns
-returns c =
-    let self = c.args.self.now in
+returns g c =
+    let self = c.args.self.now.viewing in
     let b = c.bounds-bounds.result in
     let Has = HasValue self.grid.now.terrain self.observers.now self.target_height self.radius in
     let old = c.in_ok-values.values in
