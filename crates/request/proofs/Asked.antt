@@ -1,5 +1,5 @@
 -- What words ask for, by the subcommand that `clap` finds in them.
-use Rattle.std.proofs.Common.{◌≡◌, ℕ, List, [], ◌∷◌, length, map, eqb, Option, Some, None, true, false, sym, ap, ap₂, subst, refl, inl, ◌∙◌, Bor, Box}
+use Rattle.std.proofs.Common.{◌≡◌, ℕ, List, [], ◌∷◌, length, map, eqb, Option, Some, None, true, false, slice_index, codes, arith, sym, ap, ap₂, subst, refl, inl, ◌∙◌, Bor, Box}
 use Rattle.std.specs.Prelude.{option_map}
 use Rattle.std.specs.Box.{box_value}
 use Rattle.std.proofs.lemmas.Option.{none-some, same_Some}
@@ -10,15 +10,15 @@ use Rattle.clap.specs.declared.parser.matches.ArgMatches.{ArgMatches}
 use Rattle.clap.specs.declared.parser.matches.ArgMatches.TheViews.{out-SubCommand}
 use Rattle.clap.specs.declared.parser.matches.SubCommand.{SubCommand}
 use Rattle.clap.proofs.OnLiterals.{clap_on_literals}
-use Rattle.request.specs.CommandLine.{HasBadObserver, HasBadSink, HasOptions, IsFirstBad, Names, Spell, WishFor, program_app, sink_words, words_given}
+use Rattle.request.specs.CommandLine.{HasBadGauge, HasBadObserver, HasBadSink, HasOptions, IsFirstBad, Names, Spell, WishFor, is_given, program_app, sink_words, words_given}
 use Rattle.request.specs.PlaceWords.{sink_of}
 use Rattle.request.specs.Wish.{AreLimits, IsView, Wish}
-use Rattle.request.specs.WordsFaults.{IsBadAfter, IsFaultBy, IsFaultOf, IsNoMap}
+use Rattle.request.specs.WordsFaults.{IsBadAfter, IsBadGaugeAfter, IsFaultBy, IsFaultOf, IsMapFault}
 use Rattle.request.specs.declared.words.WordsFault.{WordsFault}
-use Rattle.request.specs.declared.words.WordsFault.TheVariants.{Clap, BadObserver, BadSink, NoMap}
+use Rattle.request.specs.declared.words.WordsFault.TheVariants.{Clap, BadObserver, BadGauge, BadSink, NoMap}
 use Rattle.request.specs.declared.map.Map.{Map}
 use Rattle.terrain.specs.declared.place.Place.{Place}
-use Rattle.request.proofs.Given.{map_without_bad, none_bad}
+use Rattle.request.proofs.Given.{map_without_bad, map_without_bad_gauge, none_bad}
 
 program_simple : is_simple program_app ≡ true
 unfolding clap_on_literals
@@ -53,6 +53,7 @@ module _ (words : List Text) (accepted : fault_of program_app words ≡ []) wher
     λ wish w. none-some _ (sym none ∙ w.command.found),
     λ place bad. none-some _ (sym none ∙ bad.command.found),
     λ place bad. none-some _ (sym none ∙ bad.command.found),
+    λ place bad. none-some _ (sym none ∙ bad.command.found),
   )
 
   module _ (n : Text) (rs : List Row) (found : subcommand_of program_app words ≡ Some (n, rs)) where
@@ -65,24 +66,33 @@ module _ (words : List Text) (accepted : fault_of program_app words ≡ []) wher
     bad_after : (place : ℕ) → HasBadObserver words place → IsBadAfter n rs place
     bad_after place bad = subst (λ (p : Text × List Row). IsBadAfter p.0 p.1 place) (same_found _ bad.command.found) (refl, bad.first)
 
+    bad_gauge_after : (place : ℕ) → HasBadGauge words place → IsBadGaugeAfter n rs place
+    bad_gauge_after place bad = subst (λ (p : Text × List Row). IsBadGaugeAfter p.0 p.1 place) (same_found _ bad.command.found) (refl, bad.first)
+
     pub wished : (map : Map) (wish : Wish) → Names n rs map → wish.map ≡ map → Spell sink_of (sink_words n rs) wish.sinks → HasOptions rs wish.tile wish.workers wish.scale → AreLimits wish.tile wish.workers wish.scale
-        → (IsView wish.map → wish.sinks ≡ []) → WishFor words wish
-    wished map wish named same spelled options limits view = record {
+        → wish.progress ≡ is_given (codes "progress") rs → (IsView wish.map → wish.sinks ≡ []) → WishFor words wish
+    wished map wish named same spelled options limits progress view = record {
       name = n;
       rows = rs;
       command = record { accepted = accepted; found = found };
       map = subst (Names n rs) (sym same) named;
       sinks = spelled;
       options = options;
+      progress = progress;
       limits = record { in_limits = limits; view = view };
     }
 
     named_of_bad : (place : ℕ) (bad : HasBadSink words place) → Names n rs bad.map
     named_of_bad place bad = subst (λ (p : Text × List Row). Names p.0 p.1 bad.map) (same_found _ bad.command.found) bad.named
 
-    pub map_refused : (f : WordsFault) → IsFaultBy (IsBadAfter n rs) (λ _. ⊥) (IsNoMap n rs) f → IsFaultOf words f
+    pub map_refused : (f : WordsFault) → IsMapFault n rs f → IsFaultOf words f
     map_refused (Clap e) h = inl h
     map_refused (BadObserver place) h = record {
+      rows = rs;
+      command = record { accepted = accepted; found = found ∙ ap (λ name. Some (name, rs)) h.0 };
+      first = h.1;
+    }
+    map_refused (BadGauge place) h = record {
       rows = rs;
       command = record { accepted = accepted; found = found ∙ ap (λ name. Some (name, rs)) h.0 };
       first = h.1;
@@ -93,14 +103,16 @@ module _ (words : List Text) (accepted : fault_of program_app words ≡ []) wher
       λ wish w. h.0 wish.map (map_of_wish wish w),
       λ place bad. h.1 place (bad_after place bad),
       λ place bad. h.0 bad.map (named_of_bad place bad),
+      λ place bad. h.2 place (bad_gauge_after place bad),
     )
 
     words_of_bad : (place : ℕ) → HasBadSink words place → IsFirstBad sink_of (sink_words n rs) place
     words_of_bad place bad = subst (λ (p : Text × List Row). IsFirstBad sink_of (sink_words p.0 p.1) place) (same_found _ bad.command.found) bad.first
 
-    pub sinks_refused : (map : Map) → Names n rs map → (f : WordsFault) → IsFaultBy (λ _. ⊥) (IsFirstBad sink_of (sink_words n rs)) ⊥ f → IsFaultOf words f
+    pub sinks_refused : (map : Map) → Names n rs map → (f : WordsFault) → IsFaultBy (λ _. ⊥) (λ _. ⊥) (IsFirstBad sink_of (sink_words n rs)) ⊥ f → IsFaultOf words f
     sinks_refused map named (Clap e) h = inl h
     sinks_refused map named (BadObserver place) h = absurd h
+    sinks_refused map named (BadGauge place) h = absurd h
     sinks_refused map named (BadSink place) h = record {
       name = n;
       rows = rs;
@@ -118,10 +130,14 @@ module _ (words : List Text) (accepted : fault_of program_app words ≡ []) wher
       λ wish w. never wish.tile wish.workers wish.scale w.limits.in_limits (subst (λ (p : Text × List Row). HasOptions p.1 wish.tile wish.workers wish.scale) (same_found _ w.command.found) w.options),
       λ place bad. map_without_bad n rs map place named (bad_after place bad),
       λ place bad. none_bad sink_of _ sinks place spelled (words_of_bad place bad),
+      λ place bad. map_without_bad_gauge n rs map place named (bad_gauge_after place bad),
     )
 
     pub bad_wishes_none : (place : ℕ) → HasBadObserver words place → (wish : Wish) → ¬ WishFor words wish
     bad_wishes_none place bad wish w = map_without_bad n rs wish.map place (map_of_wish wish w) (bad_after place bad)
+
+    pub bad_gauge_wishes_none : (place : ℕ) → HasBadGauge words place → (wish : Wish) → ¬ WishFor words wish
+    bad_gauge_wishes_none place bad wish w = map_without_bad_gauge n rs wish.map place (map_of_wish wish w) (bad_gauge_after place bad)
 
     pub bad_sink_wishes_none : (place : ℕ) → HasBadSink words place → (wish : Wish) → ¬ WishFor words wish
     bad_sink_wishes_none place bad wish w =
@@ -135,6 +151,19 @@ module _ (words : List Text) (accepted : fault_of program_app words ≡ []) wher
     -- a view has no bad sink word, and no other map has a bad observer word
     pub bad_alone : (place other : ℕ) → HasBadObserver words place → HasBadSink words other → ⊥
     bad_alone place other bad b = map_without_bad n rs b.map place (named_of_bad other b) (bad_after place bad)
+
+    -- where sink words are bad the gauge words are good, and there is no bad gauge word in a view
+    pub bad_gauge_alone : (place other : ℕ) → HasBadGauge words place → HasBadSink words other → ⊥
+    bad_gauge_alone place other bad b = map_without_bad_gauge n rs b.map place (named_of_bad other b) (bad_gauge_after place bad)
+
+    pub no_gauge_observed : (place other : ℕ) → HasBadGauge words place → HasBadObserver words other → ⊥
+    no_gauge_observed place other bad b =
+        let same : ◌≡◌ {A = ℕ} 99 118 = ap (λ (t : Text). slice_index t 0) (sym (bad_gauge_after place bad).0 ∙ (bad_after other b).0) in
+        absurd (omega arith)
+
+    pub one_bad_gauge : (place other : ℕ) → HasBadGauge words place → HasBadGauge words other → place ≡ other
+    one_bad_gauge place other bad b =
+        same_Some _ _ (sym (bad_gauge_after place bad).1 ∙ (bad_gauge_after other b).1)
 
     pub one_bad : (place other : ℕ) → HasBadObserver words place → HasBadObserver words other → place ≡ other
     one_bad place other bad b =

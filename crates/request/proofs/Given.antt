@@ -18,11 +18,11 @@ use Rattle.terrain.specs.declared.observer.Observer.{Observer}
 use Rattle.request.specs.CommandLine.{HasNumber, HasObservers, IsFirstBad, Names, Spell, sink_words, words_of}
 use Rattle.request.specs.PlaceWords.{observer_of, sink_of}
 use Rattle.request.specs.Wish.{IsView}
-use Rattle.request.specs.WordsFaults.{IsBadAfter, IsFaultBy}
+use Rattle.request.specs.WordsFaults.{IsBadAfter, IsBadGaugeAfter, IsFaultBy}
 use Rattle.request.specs.declared.words.WordsFault.{WordsFault}
-use Rattle.request.specs.declared.words.WordsFault.TheVariants.{Clap, BadObserver, BadSink, NoMap}
+use Rattle.request.specs.declared.words.WordsFault.TheVariants.{Clap, BadObserver, BadGauge, BadSink, NoMap}
 use Rattle.request.specs.declared.map.Map.{Map}
-use Rattle.request.specs.declared.map.Map.TheVariants.{Fill, Flow, Accumulate, Basins, View}
+use Rattle.request.specs.declared.map.Map.TheVariants.{Fill, Flow, Accumulate, Basins, Catchments, View}
 
 -- an option spells one number at most
 pub same_number : (rows : List Row) (id : Text) (m n : ℕ) → HasNumber rows id m → HasNumber rows id n → m ≡ n
@@ -68,6 +68,7 @@ only_view rows never Fill e = let bad : ◌≡◌ {A = ℕ} 118 102 = ap (λ (t 
 only_view rows never Flow e = let bad : ◌≡◌ {A = ℕ} 118 102 = ap (λ (t : Text). slice_index t 0) e in absurd (omega arith)
 only_view rows never Accumulate e = let bad : ◌≡◌ {A = ℕ} 118 97 = ap (λ (t : Text). slice_index t 0) e in absurd (omega arith)
 only_view rows never Basins e = let bad : ◌≡◌ {A = ℕ} 118 98 = ap (λ (t : Text). slice_index t 0) e in absurd (omega arith)
+only_view rows never (Catchments gauges) e = let bad : ◌≡◌ {A = ℕ} 118 99 = ap (λ (t : Text). slice_index t 0) e.0 in absurd (omega arith)
 only_view rows never (View os t r) n = never os.items t r n.1 n.2 n.3
 
 module _ {X : Type 0} (of : Text → Option X) where
@@ -108,7 +109,24 @@ map_without_bad name rows Fill place n bad = let no : ◌≡◌ {A = ℕ} 118 10
 map_without_bad name rows Flow place n bad = let no : ◌≡◌ {A = ℕ} 118 102 = ap (λ (t : Text). slice_index t 0) (sym bad.0 ∙ n) in absurd (omega arith)
 map_without_bad name rows Accumulate place n bad = let no : ◌≡◌ {A = ℕ} 118 97 = ap (λ (t : Text). slice_index t 0) (sym bad.0 ∙ n) in absurd (omega arith)
 map_without_bad name rows Basins place n bad = let no : ◌≡◌ {A = ℕ} 118 98 = ap (λ (t : Text). slice_index t 0) (sym bad.0 ∙ n) in absurd (omega arith)
+map_without_bad name rows (Catchments gauges) place n bad = let no : ◌≡◌ {A = ℕ} 118 99 = ap (λ (t : Text). slice_index t 0) (sym bad.0 ∙ n.0) in absurd (omega arith)
 map_without_bad name rows (View os t r) place n bad = no_bad name rows os.items place n.1 bad
+
+-- the name of catchments is no other map's
+named_catchments : (name : Text) (letter : ℕ) → name ≡ codes "catchments" → slice_index name 0 ≡ letter → ◌≡◌ {A = ℕ} 99 letter
+named_catchments name letter is first = ap (λ (t : Text). slice_index t 0) (sym is) ∙ first
+
+pub view_without_gauges : (rows : List Row) (place : ℕ) → ¬ IsBadGaugeAfter (codes "view") rows place
+view_without_gauges rows place bad = let no = named_catchments (codes "view") 118 bad.0 refl in absurd (omega arith)
+
+-- a map has no bad gauge word
+pub map_without_bad_gauge : (name : Text) (rows : List Row) (m : Map) (place : ℕ) → Names name rows m → ¬ IsBadGaugeAfter name rows place
+map_without_bad_gauge name rows Fill place n bad = let no = named_catchments name 102 bad.0 (ap (λ (t : Text). slice_index t 0) n) in absurd (omega arith)
+map_without_bad_gauge name rows Flow place n bad = let no = named_catchments name 102 bad.0 (ap (λ (t : Text). slice_index t 0) n) in absurd (omega arith)
+map_without_bad_gauge name rows Accumulate place n bad = let no = named_catchments name 97 bad.0 (ap (λ (t : Text). slice_index t 0) n) in absurd (omega arith)
+map_without_bad_gauge name rows Basins place n bad = let no = named_catchments name 98 bad.0 (ap (λ (t : Text). slice_index t 0) n) in absurd (omega arith)
+map_without_bad_gauge name rows (Catchments gauges) place n bad = none_bad sink_of _ gauges.items place n.1 bad.1
+map_without_bad_gauge name rows (View os t r) place n bad = let no = named_catchments name 118 bad.0 (ap (λ (t : Text). slice_index t 0) n.0) in absurd (omega arith)
 
 -- a viewshed takes no sinks
 pub view_without_sinks : (name : Text) (rows : List Row) (m : Map) → Names name rows m → IsView m → Spell sink_of (sink_words name rows) []
@@ -116,10 +134,14 @@ view_without_sinks name rows Fill named view = absurd view
 view_without_sinks name rows Flow named view = absurd view
 view_without_sinks name rows Accumulate named view = absurd view
 view_without_sinks name rows Basins named view = absurd view
+view_without_sinks name rows (Catchments gauges) named view = absurd view
 view_without_sinks name rows (View os t r) named view = subst (λ (n : Text). Spell sink_of (sink_words n rows) []) (sym named.0) refl
 
-pub fault_weaker : {P Q : ℕ → Type 0} {M N : Type 0} (f : WordsFault) → ((place : ℕ) → P place → Q place) → (M → N) → IsFaultBy P (λ _. ⊥) M f → IsFaultBy Q (λ _. ⊥) N f
-fault_weaker (Clap e) bad missing h = h
-fault_weaker (BadObserver place) bad missing h = bad place h
-fault_weaker (BadSink place) bad missing h = h
-fault_weaker NoMap bad missing h = missing h
+module _ {Observer Gauge Bad WrongGauge : ℕ → Type 0} {Missing NoMapThen : Type 0} where
+  pub fault_weaker : (f : WordsFault) → ((place : ℕ) → Observer place → Bad place) → ((place : ℕ) → Gauge place → WrongGauge place) → (Missing → NoMapThen)
+      → IsFaultBy Observer Gauge (λ _. ⊥) Missing f → IsFaultBy Bad WrongGauge (λ _. ⊥) NoMapThen f
+  fault_weaker (Clap e) observer gauge missing h = h
+  fault_weaker (BadObserver place) observer gauge missing h = observer place h
+  fault_weaker (BadGauge place) observer gauge missing h = gauge place h
+  fault_weaker (BadSink place) observer gauge missing h = h
+  fault_weaker NoMap observer gauge missing h = missing h

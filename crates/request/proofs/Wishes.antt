@@ -10,12 +10,13 @@ use Rattle.clap.specs.declared.error.kind.ErrorKind.{ErrorKind}
 use Rattle.clap.specs.declared.error.kind.ErrorKind.TheVariants as kind
 use Rattle.clap.proofs.OnLiterals.{clap_on_literals}
 use Rattle.terrain.specs.declared.observer.Observer.{Observer}
-use Rattle.request.specs.CommandLine.{AreRefused, AskForHelp, HasNumber, HasOptions, IsHelp, Names, Spell, WishFor, program_app, sink_words}
-use Rattle.request.specs.Laws.{AreSame, BasinsOfSinks, FillAlone, HelpOfView, NoSideOfZero, VersionAlone, ViewWithRadius}
+use Rattle.terrain.specs.declared.place.Place.{Place}
+use Rattle.request.specs.CommandLine.{AreRefused, AskForHelp, HasNumber, HasOptions, IsHelp, Names, Spell, WishFor, is_given, program_app, sink_words}
+use Rattle.request.specs.Laws.{AreSame, BasinsOfSinks, CatchmentsOfAGauge, FillAlone, HelpOfView, NoSideOfZero, VersionAlone, ViewWithRadius}
 use Rattle.request.specs.PlaceWords.{sink_of}
 use Rattle.request.specs.Wish.{Wish}
 use Rattle.request.specs.declared.map.Map.{Map}
-use Rattle.request.specs.declared.map.Map.TheVariants.{Fill, Flow, Accumulate, Basins, View}
+use Rattle.request.specs.declared.map.Map.TheVariants.{Fill, Flow, Accumulate, Basins, Catchments, View}
 use Rattle.request.proofs.Given.{same_number}
 
 -- the third letter of a map's name tells the map
@@ -24,6 +25,7 @@ letter Fill = 108
 letter Flow = 111
 letter Accumulate = 99
 letter Basins = 115
+letter (Catchments gauges) = 116
 letter (View observers target radius) = 101
 
 name_letter : (name : Text) (rows : List Row) (m : Map) → Names name rows m → slice_index name 2 ≡ letter m
@@ -31,6 +33,7 @@ name_letter name rows Fill n = ap (λ (t : Text). slice_index t 2) n
 name_letter name rows Flow n = ap (λ (t : Text). slice_index t 2) n
 name_letter name rows Accumulate n = ap (λ (t : Text). slice_index t 2) n
 name_letter name rows Basins n = ap (λ (t : Text). slice_index t 2) n
+name_letter name rows (Catchments gauges) n = ap (λ (t : Text). slice_index t 2) n.0
 name_letter name rows (View observers target radius) n = ap (λ (t : Text). slice_index t 2) n.0
 
 same_somes : {X : Type 0} (xs ys : List X) → map Some xs ≡ map Some ys → xs ≡ ys
@@ -44,31 +47,44 @@ one_letter name rows Fill Fill a b e = refl
 one_letter name rows Fill Flow a b e = absurd (omega arith)
 one_letter name rows Fill Accumulate a b e = absurd (omega arith)
 one_letter name rows Fill Basins a b e = absurd (omega arith)
+one_letter name rows Fill (Catchments gauges) a b e = absurd (omega arith)
 one_letter name rows Fill (View observers target radius) a b e = absurd (omega arith)
 one_letter name rows Flow Fill a b e = absurd (omega arith)
 one_letter name rows Flow Flow a b e = refl
 one_letter name rows Flow Accumulate a b e = absurd (omega arith)
 one_letter name rows Flow Basins a b e = absurd (omega arith)
+one_letter name rows Flow (Catchments gauges) a b e = absurd (omega arith)
 one_letter name rows Flow (View observers target radius) a b e = absurd (omega arith)
 one_letter name rows Accumulate Fill a b e = absurd (omega arith)
 one_letter name rows Accumulate Flow a b e = absurd (omega arith)
 one_letter name rows Accumulate Accumulate a b e = refl
 one_letter name rows Accumulate Basins a b e = absurd (omega arith)
+one_letter name rows Accumulate (Catchments gauges) a b e = absurd (omega arith)
 one_letter name rows Accumulate (View observers target radius) a b e = absurd (omega arith)
 one_letter name rows Basins Fill a b e = absurd (omega arith)
 one_letter name rows Basins Flow a b e = absurd (omega arith)
 one_letter name rows Basins Accumulate a b e = absurd (omega arith)
 one_letter name rows Basins Basins a b e = refl
+one_letter name rows Basins (Catchments gauges) a b e = absurd (omega arith)
 one_letter name rows Basins (View observers target radius) a b e = absurd (omega arith)
+one_letter name rows (Catchments gauges) Fill a b e = absurd (omega arith)
+one_letter name rows (Catchments gauges) Flow a b e = absurd (omega arith)
+one_letter name rows (Catchments gauges) Accumulate a b e = absurd (omega arith)
+one_letter name rows (Catchments gauges) Basins a b e = absurd (omega arith)
+one_letter name rows (Catchments gauges) (Catchments others) a b e =
+    same_somes gauges.items others.items (sym a.1 ∙ b.1)
+one_letter name rows (Catchments gauges) (View observers target radius) a b e = absurd (omega arith)
 one_letter name rows (View observers target radius) Fill a b e = absurd (omega arith)
 one_letter name rows (View observers target radius) Flow a b e = absurd (omega arith)
 one_letter name rows (View observers target radius) Accumulate a b e = absurd (omega arith)
 one_letter name rows (View observers target radius) Basins a b e = absurd (omega arith)
+one_letter name rows (View observers target radius) (Catchments gauges) a b e = absurd (omega arith)
 one_letter name rows (View observers target radius) (View others height reach) a b e =
     (same_somes observers.items others.items (sym a.1 ∙ b.1), same_number rows (codes "target") target height a.2 b.2, same_number rows (codes "radius") radius reach a.3 b.3)
 
 pub one_wish : (words : List Text) (wish other : Wish) → WishFor words wish → WishFor words other →
-    AreSame wish.map other.map × (wish.tile ≡ other.tile) × (wish.workers ≡ other.workers) × (wish.scale ≡ other.scale) × (wish.sinks ≡ other.sinks)
+    AreSame wish.map other.map × (wish.tile ≡ other.tile) × (wish.workers ≡ other.workers)
+    × (wish.scale ≡ other.scale) × (wish.sinks ≡ other.sinks) × (wish.progress ≡ other.progress)
 one_wish words wish other a b =
     let command = same_Some _ _ (sym b.command.found ∙ a.command.found) in
     let map = subst (λ (p : Text × List Row). Names p.0 p.1 other.map) command b.map in
@@ -78,6 +94,7 @@ one_wish words wish other a b =
       same_number a.rows (codes "workers") _ _ a.options.1 options.1,
       same_number a.rows (codes "scale") _ _ a.options.2 options.2,
       same_somes wish.sinks other.sinks (sym a.sinks ∙ subst (λ (p : Text × List Row). Spell sink_of (sink_words p.0 p.1) other.sinks) command b.sinks),
+      a.progress ∙ ap (λ (p : Text × List Row). is_given (codes "progress") p.1) (sym command) ∙ sym b.progress,
     )
 
 none_any : (P : ErrorKind → Type 0) (ks : Kinds) → ks ≡ [] → Any P ks → ⊥
@@ -117,6 +134,7 @@ fill_alone = record {
   map = refl;
   sinks = refl;
   options = default_options (rows_in fill_words) refl refl refl;
+  progress = refl;
   limits = record { in_limits = search rules; view = λ v. absurd v };
 }
 
@@ -132,6 +150,24 @@ basins_of_sinks = record {
   map = refl;
   sinks = refl;
   options = default_options (rows_in basins_words) refl refl refl;
+  progress = refl;
+  limits = record { in_limits = search rules; view = λ v. absurd v };
+}
+
+abbrev catchments_words : List Text
+catchments_words = codes "relief" ∷ codes "catchments" ∷ codes "--progress" ∷ codes "--sink" ∷ codes "1,2"
+    ∷ codes "--sink" ∷ codes "0,3" ∷ codes "4,5" ∷ []
+
+pub catchments_of_a_gauge : CatchmentsOfAGauge
+unfolding clap_on_literals
+catchments_of_a_gauge gauges one = record {
+  name = codes "catchments";
+  rows = rows_in catchments_words;
+  command = record { accepted = refl; found = refl };
+  map = (refl, ap (λ (ps : List Place). map Some ps) (sym one));
+  sinks = refl;
+  options = default_options (rows_in catchments_words) refl refl refl;
+  progress = refl;
   limits = record { in_limits = search rules; view = λ v. absurd v };
 }
 
@@ -152,6 +188,7 @@ view_with_radius observers one = record {
   );
   sinks = refl;
   options = default_options (rows_in view_words) refl refl refl;
+  progress = refl;
   limits = record { in_limits = search rules; view = λ v. refl };
 }
 

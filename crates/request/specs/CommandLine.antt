@@ -1,20 +1,22 @@
 -- The words of the command line, as `clap` reads them.
-use Rattle.std.specs.Prelude.{◌≡◌, ◌⊎◌, ℕ, ◌<◌, ◌^◌, pos, true, false, List, [], ◌∷◌, map, Option, Some, codes, Any, is_none, unwrap_or, if◌then◌else◌}
+use Rattle.std.specs.Prelude.{◌≡◌, ◌⊎◌, ℕ, Bool, ◌<◌, ◌^◌, pos, true, false, List, [], ◌∷◌, map, Option, Some, codes, Any, is_none, unwrap_or, if◌then◌else◌}
 use Rattle.std.specs.List.{position}
+use Rattle.std.specs.Option.{option_map_or}
 use Rattle.std.specs.Str.{bytes_eq}
 use Rattle.std.specs.Str.Parse.{IsNumeral, digits_value, without_leading_plus}
 use Rattle.clap.specs.Lexer.{usize_max}
-use Rattle.clap.specs.Words.{App, Row, Rule, Shape, Text, all_of, new_rule, one_of, subcommand_of}
+use Rattle.clap.specs.Words.{App, Row, Rule, Shape, Text, all_of, first_of, new_rule, one_of, subcommand_of}
 use Rattle.clap.specs.Simple.{new_shape}
 use Rattle.clap.specs.Faults.{fault_of}
-use Rattle.clap.specs.declared.builder.action.ArgAction.TheVariants.{Append}
+use Rattle.clap.specs.declared.builder.action.ArgAction.TheVariants.{Append, SetTrue}
 use Rattle.clap.specs.declared.builder.value_parser.ValueParser.{ValueParser}
 use Rattle.clap.specs.declared.builder.value_parser.ValueParser.TheVariants.{Signed}
 use Rattle.clap.specs.declared.error.kind.ErrorKind.{ErrorKind}
 use Rattle.clap.specs.declared.error.kind.ErrorKind.TheVariants.{DisplayHelp, DisplayVersion}
 use Rattle.terrain.specs.declared.observer.Observer.{Observer}
+use Rattle.terrain.specs.declared.place.Place.{Place}
 use Rattle.request.specs.declared.map.Map.{Map}
-use Rattle.request.specs.declared.map.Map.TheVariants.{Fill, Flow, Accumulate, Basins, View}
+use Rattle.request.specs.declared.map.Map.TheVariants.{Fill, Flow, Accumulate, Basins, Catchments, View}
 use Rattle.request.specs.PlaceWords.{observer_of, sink_of}
 use Rattle.request.specs.Wish.{Wish, IsWish}
 
@@ -42,6 +44,13 @@ workers_rule = number_rule (codes "workers") (from_to 1 64) (codes "1")
 abbrev pub scale_rule : Rule
 scale_rule = number_rule (codes "scale") (from_to 0 6) (codes "0")
 
+-- A flag, which takes no value.
+abbrev pub progress_rule : Rule
+progress_rule = record (new_rule (codes "progress")) {
+  long = Some (codes "progress");
+  action = Some SetTrue;
+}
+
 abbrev pub target_rule : Rule
 target_rule = number_rule (codes "target") (from_to 0 4294967295) (codes "0")
 
@@ -49,12 +58,26 @@ abbrev pub radius_rule : Rule
 radius_rule = number_rule (codes "radius") (from_to 0 4294967295) (codes "8192")
 
 -- One word or more.
-abbrev pub observers_rule : Rule
-observers_rule = record (new_rule (codes "observers")) {
+abbrev pub words_rule : Text → Rule
+words_rule name = record (new_rule name) {
   action = Some Append;
   range = Some (record { start_inclusive = 1; end_inclusive = usize_max });
   value_names = 1;
   required = true;
+}
+
+abbrev pub observers_rule : Rule
+observers_rule = words_rule (codes "observers")
+
+abbrev pub gauges_rule : Rule
+gauges_rule = words_rule (codes "gauges")
+
+-- An option with one word, which may be given again and again.
+abbrev pub sink_rule : Rule
+sink_rule = record (new_rule (codes "sinks")) {
+  long = Some (codes "sink");
+  action = Some Append;
+  value_names = 1;
 }
 
 -- Any number of words.
@@ -67,15 +90,23 @@ sinks_rule = record (new_rule (codes "sinks")) {
 
 -- A map's name and the options that each map has.
 abbrev pub map_shape : Text → Shape
-map_shape name = record (new_shape name) { rules = tile_rule ∷ workers_rule ∷ scale_rule ∷ [] }
+map_shape name = record (new_shape name) { rules = tile_rule ∷ workers_rule ∷ scale_rule ∷ progress_rule ∷ [] }
 
 -- The maps of drainage take sinks.
 abbrev pub drainage_shape : Text → Shape
-drainage_shape name = record (new_shape name) { rules = tile_rule ∷ workers_rule ∷ scale_rule ∷ sinks_rule ∷ [] }
+drainage_shape name = record (new_shape name) {
+  rules = tile_rule ∷ workers_rule ∷ scale_rule ∷ progress_rule ∷ sinks_rule ∷ [];
+}
+
+abbrev pub catchments_shape : Shape
+catchments_shape = record (new_shape (codes "catchments")) {
+  rules = tile_rule ∷ workers_rule ∷ scale_rule ∷ progress_rule ∷ sink_rule ∷ gauges_rule ∷ [];
+}
 
 abbrev pub view_shape : Shape
 view_shape = record (new_shape (codes "view")) {
-  rules = tile_rule ∷ workers_rule ∷ scale_rule ∷ target_rule ∷ radius_rule ∷ observers_rule ∷ [];
+  rules = tile_rule ∷ workers_rule ∷ scale_rule ∷ progress_rule ∷ target_rule ∷ radius_rule
+      ∷ observers_rule ∷ [];
 }
 
 -- The program, which has a version and wants one of its subcommands.
@@ -83,7 +114,7 @@ abbrev pub program_app : App
 program_app = record {
   top = record (new_shape (codes "relief")) { disable_help_subcommand = true; has_version = true; subcommand_required = true; is_leaf = false };
   subs = drainage_shape (codes "fill") ∷ drainage_shape (codes "flow") ∷ drainage_shape (codes "accumulate")
-      ∷ drainage_shape (codes "basins") ∷ view_shape ∷ [];
+      ∷ drainage_shape (codes "basins") ∷ catchments_shape ∷ view_shape ∷ [];
 }
 
 -- ---- what words say
@@ -108,6 +139,10 @@ pub record HasNumber (rows : List Row) (id : Text) (n : ℕ) : Type 0 where
   pub spelled : digits_value 10 (without_leading_plus text) ≡ n
   pub small : n < 2 ^ 32
 
+-- The flag was given.
+abbrev pub is_given : Text → List Row → Bool
+is_given id rows = option_map_or (λ text. bytes_eq text (codes "true")) (first_of id rows) false
+
 -- The words that are given for an argument.
 abbrev pub words_of : Text → List Row → List Text
 words_of id rows = unwrap_or (all_of id rows) []
@@ -124,16 +159,21 @@ IsFirstBad spelled words place = position (λ word. is_none (spelled word)) word
 abbrev pub HasObservers : List Row → List Observer → Type 0
 HasObservers rows observers = Spell observer_of (words_of (codes "observers") rows) observers
 
+-- The words after `catchments` are these gauges.
+abbrev pub HasGauges : List Row → List Place → Type 0
+HasGauges rows gauges = Spell sink_of (words_of (codes "gauges") rows) gauges
+
 -- The subcommand of this name, with these values, is this map.
 abbrev pub Names : Text → List Row → Map → Type 0
 Names name rows Fill = name ≡ codes "fill"
 Names name rows Flow = name ≡ codes "flow"
 Names name rows Accumulate = name ≡ codes "accumulate"
 Names name rows Basins = name ≡ codes "basins"
+Names name rows (Catchments gauges) = (name ≡ codes "catchments") × HasGauges rows gauges.items
 Names name rows (View observers target radius) = (name ≡ codes "view") × HasObservers rows observers.items
     × HasNumber rows (codes "target") target × HasNumber rows (codes "radius") radius
 
--- The words after the options of a map of drainage; a viewshed takes no sinks.
+-- The words that are given for sinks; a viewshed takes none.
 abbrev pub sink_words : Text → List Row → List Text
 sink_words name rows = if bytes_eq name (codes "view") then [] else words_of (codes "sinks") rows
 
@@ -150,6 +190,7 @@ pub record WishFor (words : List Text) (wish : Wish) : Type 0 where
   pub map : Names name rows wish.map
   pub sinks : Spell sink_of (sink_words name rows) wish.sinks
   pub options : HasOptions rows wish.tile wish.workers wish.scale
+  pub progress : wish.progress ≡ is_given (codes "progress") rows
   pub limits : IsWish wish
 
 -- `clap` refuses the words, or accepts them where they wish for no map.
@@ -163,7 +204,13 @@ pub record HasBadObserver (words : List Text) (place : ℕ) : Type 0 where
   pub command : AreCommand words (codes "view") rows
   pub first : IsFirstBad observer_of (words_of (codes "observers") rows) place
 
--- The same of the words after the options of a map of drainage, and of sinks.
+-- The first of the words after `catchments` that is no gauge stands at this place from 0.
+pub record HasBadGauge (words : List Text) (place : ℕ) : Type 0 where
+  pub rows : List Row
+  pub command : AreCommand words (codes "catchments") rows
+  pub first : IsFirstBad sink_of (words_of (codes "gauges") rows) place
+
+-- The first of the words for sinks that is none stands at this place from 0.
 pub record HasBadSink (words : List Text) (place : ℕ) : Type 0 where
   pub name : Text
   pub rows : List Row

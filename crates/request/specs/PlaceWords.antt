@@ -1,4 +1,4 @@
--- Observers and sinks as words of the command line.
+-- Observers, gauges and sinks as words of the command line.
 use Rattle.std.specs.Prelude.{ℕ, ◌^◌, Bool, ◌&&◌, ◌==◌, nat_lt, nat_le, if◌then◌else◌, List, [], ◌∷◌, length, Option, None, Some}
 use Rattle.std.specs.List.{slice_split}
 use Rattle.terrain.specs.Decimal.{are_digits, number_of}
@@ -25,6 +25,6 @@ sink_of_parts (row ∷ col ∷ []) =
     if is_number row && is_number col then Some (record { row = number_of row; col = number_of col }) else None
 sink_of_parts parts = None
 
--- Two whole numbers joined by a comma.
+-- Two whole numbers joined by a comma: a gauge or a sink.
 abbrev pub sink_of : List ℕ → Option Place
 sink_of word = sink_of_parts (slice_split (λ b. b == 44) word)

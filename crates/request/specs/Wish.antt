@@ -1,16 +1,18 @@
 -- What the caller asks for.
-use Rattle.std.specs.Prelude.{◌≡◌, ℕ, ◌≤◌, ⊤, List, []}
+use Rattle.std.specs.Prelude.{◌≡◌, ℕ, ◌≤◌, ⊤, Bool, List, []}
 use Rattle.terrain.specs.declared.place.Place.{Place}
 use Rattle.request.specs.declared.map.Map.{Map}
 use Rattle.request.specs.declared.map.Map.TheVariants.{View}
 
--- A map, a tile's side, a number of workers, a scale and the sinks into which water flows.
+-- A map, a tile's side, a number of workers, a scale, the sinks into which water flows, and whether
+-- progress is to be reported.
 pub record Wish : Type 0 where
   pub map : Map
   pub tile : ℕ
   pub workers : ℕ
   pub scale : ℕ
   pub sinks : List Place
+  pub progress : Bool
 
 -- Tile, workers and scale are in their limits.
 abbrev pub AreLimits : ℕ → ℕ → ℕ → Type 0

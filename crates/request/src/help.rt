@@ -14,6 +14,7 @@ map of it in the same form to standard output. It writes nothing before the map 
 
 pub(crate) const USAGE: &str = "\
 relief fill|flow|accumulate|basins [OPTIONS] [ROW,COL...] < dem.asc > map.asc
+       relief catchments [OPTIONS] ROW,COL... < dem.asc > map.asc
        relief view [OPTIONS] ROW,COL,EYE... < dem.asc > map.asc";
 
 pub(crate) const FILL: MapHelp = MapHelp {
@@ -56,6 +57,17 @@ relief basins 120,340 < dem.asc > basins.asc",
     usage: "relief basins [OPTIONS] [ROW,COL...] < dem.asc > map.asc",
 };
 
+pub(crate) const CATCHMENTS: MapHelp = MapHelp {
+    about: "Catchments of gauges: the number of the first gauge through which each cell drains",
+    details: "Catchments of gauges: the number of the first gauge through which each cell drains, the gauge's own cell\n\
+included. Gauges are numbered from 1 in the order of the command line. A gauge lets its water pass, so nested\n\
+gauges divide the land: all that drains through a gauge has its number or that of a gauge above it.\n\n\
+Out: whole numbers from 0, 0 where the water passes no gauge; -9999 for NODATA.\n\n\
+Example, with a gauge at row 170 and column 102 and one above it:\n  \
+relief catchments 170,102 120,88 < dem.asc > catchments.asc",
+    usage: "relief catchments [OPTIONS] ROW,COL... < dem.asc > map.asc",
+};
+
 pub(crate) const VIEW: MapHelp = MapHelp {
     about: "Viewshed: how many of the observers see each cell",
     details: "Viewshed: how many of the observers see each cell, on the heights as read. Lines of sight are straight and\n\
@@ -72,6 +84,10 @@ Named sinks, up to 1024, each two whole numbers: the row from 0 at the north, th
 A sink keeps the water that reaches it where no neighbour lies below: name the lowest cell of a pit, as of a
 quarry, and the pit does not fill up. Where a neighbour lies below, the water flows on and the map is the same
 as without the sink. A gauge is no sink";
+
+pub(crate) const GAUGE_WORDS: &str = "\
+Gauges, 1 to 1024, each two whole numbers: the row from 0 at the north, the column from 0 at the west. Of
+gauges in one cell the first counts";
 
 pub(crate) const VIEW_WORDS: &str = "\
 Observers, 1 to 1024, each three whole numbers: the row from 0 at the north, the column from 0 at the west,
@@ -90,7 +106,7 @@ tiles.\n\n\
 Exit status:\n  \
 0  the map was written, or help or the version\n  \
 1  a word of the command line was refused\n  \
-2  the text, the tiles, a sink or an observer was refused\n  \
+2  the text, the tiles, a sink, a gauge or an observer was refused\n  \
 3  memory or a thread was refused\n  \
 4  reading or writing failed\n\
 A fault is one line on standard error: relief: NUMBER NAME [DETAIL]\n\
@@ -101,6 +117,7 @@ Examples:
   relief fill < dem.asc > filled.asc
   relief accumulate --scale 2 --workers 4 < dem.asc > accumulation.asc
   relief basins 120,340 < dem.asc > basins.asc
+  relief catchments 170,102 120,88 < dem.asc > catchments.asc
   relief view --scale 2 --radius 500 --target 150 120,340,2000 < dem.asc > view.asc
 
 Without < the program waits for a grid from the terminal. `relief fill --help` tells what goes in and comes out,
@@ -110,6 +127,9 @@ A fault is one line on standard error, and no map. What each means, and what to 
 relief: bad sink word K
       A file name stands where sinks belong: give the grid by <, as in relief fill < dem.asc. Or the word is not
       two whole numbers ROW,COL, as 120,340: it has decimals, one number or three.
+relief: bad gauge word K
+      A file name stands where gauges belong: give the grid by <. Or the word is not two whole numbers ROW,COL,
+      as 170,102: it has decimals, one number or three.
 relief: bad observer word K
       A file name stands where observers belong: give the grid by <. Or the word is not three whole numbers
       ROW,COL,EYE, as 120,340,2000: it has decimals, two numbers or four.
@@ -144,6 +164,9 @@ relief: NUMBER NAME [DETAIL]
   48 TooManySinks      more than 1024: name fewer
   51 Read              standard input failed
   52 Write             standard output failed: a full disk, a closed pipe
+  61 GaugeOutside PLACE this gauge is not in the grid: give ROW,COL in cells, not coordinates
+  62 GaugeOnNodata PLACE this gauge is on a cell without data: move it
+  63 TooManyGauges     more than 1024: make several maps
 KEY is a header word. PLACE and K count from 0: cells in row order, so PLACE is row PLACE / ncols, rounded down,
-and column PLACE % ncols; observers and sinks in the order of the command line. `relief-cells` turns coordinates
+and column PLACE % ncols; observers, gauges and sinks in the order of the command line. `relief-cells` turns coordinates
 into ROW,COL and ROW,COL,EYE.";

@@ -1,5 +1,5 @@
 //! Facts of the definitions alone.
-ghost use Rattle.request.specs.Laws.{BasinsOfSinks, FillAlone, HelpOfView, NoSideOfZero, VersionAlone, ViewWithRadius, WishesAreAccepted, WishesAreOne};
+ghost use Rattle.request.specs.Laws.{BasinsOfSinks, CatchmentsOfAGauge, FillAlone, HelpOfView, NoSideOfZero, VersionAlone, ViewWithRadius, WishesAreAccepted, WishesAreOne};
 
 /// Words have at most one wish.
 pub fn wishes_are_one()
@@ -21,6 +21,12 @@ pub fn fill_alone()
 #[tactic(auto, using(crate::proofs::Wishes::basins_of_sinks))]
 pub fn basins_of_sinks()
     ensures { BasinsOfSinks }
+{}
+
+/// `relief catchments --progress --sink 1,2 --sink 0,3 4,5` has two sinks and one gauge.
+#[tactic(auto, using(crate::proofs::Wishes::catchments_of_a_gauge))]
+pub fn catchments_of_a_gauge()
+    ensures { CatchmentsOfAGauge }
 {}
 
 /// `relief view --radius 5 1,2,3` wishes for what the observer at row 1 and column 2 sees from height 3.

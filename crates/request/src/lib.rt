@@ -9,8 +9,8 @@
 //! - `program`: subcommands and options
 //! - `help`: the texts of help
 //! - `options`: a map with its limits
-//! - `map`: the five maps
-//! - `place_words`: observer and sink words
+//! - `map`: the six maps
+//! - `place_words`: observer, gauge and sink words
 //! - `laws`: facts of the definitions
 #![tactic(auto)]
 

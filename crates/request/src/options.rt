@@ -1,5 +1,5 @@
 //! A map and its options, each within its limits: [`Options`].
-ghost use Rattle.std.specs.Prelude.{◌≡◌, [], IfSome, IfNone, IfOk, IfErr};
+ghost use Rattle.std.specs.Prelude.{◌≡◌, [], false, IfSome, IfNone, IfOk, IfErr};
 ghost use Rattle.request.specs.Wish.{AreLimits, IsView};
 
 use crate::map::Map;
@@ -15,8 +15,8 @@ pub(crate) const MOST_WORKERS: u32 = 64;
 /// Greatest scale.
 pub(crate) const MOST_DECIMALS: u8 = 6;
 
-/// A map, a tile's side in cells, a number of workers and a scale, each in its limits, and the sinks into
-/// which water flows.
+/// A map, a tile's side in cells, a number of workers and a scale, each in its limits, the sinks into
+/// which water flows, and whether progress is to be reported.
 #[derive(Drop)]
 pub struct Options {
     map: Map,
@@ -24,6 +24,7 @@ pub struct Options {
     workers: u32,
     scale: u8,
     sinks: Option<Vec<Place>>,
+    progress: bool,
 }
 
 impl Model for Options {
@@ -33,16 +34,16 @@ impl Model for Options {
 
     ghost Value = { Wish };
 
-    ghost view = { λ o. record { map = o.map; tile = o.tile; workers = o.workers; scale = o.scale; sinks = option_map_or (λ v. v.items) o.sinks [] } };
+    ghost view = { λ o. record { map = o.map; tile = o.tile; workers = o.workers; scale = o.scale; sinks = option_map_or (λ v. v.items) o.sinks []; progress = o.progress } };
 
-    ghost invariant = { λ o. IsWish (record { map = o.map; tile = o.tile; workers = o.workers; scale = o.scale; sinks = option_map_or (λ v. v.items) o.sinks [] }) };
+    ghost invariant = { λ o. IsWish (record { map = o.map; tile = o.tile; workers = o.workers; scale = o.scale; sinks = option_map_or (λ v. v.items) o.sinks []; progress = o.progress }) };
 }
 
 impl Options {
-    /// Options without sinks. None exactly where the tile's side (1 to 4,096), the workers (1 to 64) or the
+    /// Options without sinks and without progress. None exactly where the tile's side (1 to 4,096), the workers (1 to 64) or the
     /// scale (0 to 6) is outside its limits.
     pub fn new(map: Map, tile: u32, workers: u32, scale: u8) -> Option<Self>
-        ensures some { IfSome result (λ o. o ≡ record { map = map; tile = tile; workers = workers; scale = scale; sinks = [] }) }
+        ensures some { IfSome result (λ o. o ≡ record { map = map; tile = tile; workers = workers; scale = scale; sinks = []; progress = false }) }
         ensures limits { IfSome result (λ _. AreLimits tile workers scale) }
         ensures none { IfNone result (AreLimits tile workers scale → ⊥) }
     {
@@ -56,6 +57,7 @@ impl Options {
                 workers,
                 scale,
                 sinks: None,
+                progress: false,
             })
         } else {
             None
@@ -77,7 +79,22 @@ impl Options {
             workers: self.workers,
             scale: self.scale,
             sinks: Some(sinks),
+            progress: self.progress,
         })
+    }
+
+    /// The same options, with or without a report of progress.
+    pub fn with_progress(self, progress: bool) -> Self
+        ensures { result ≡ record self { progress = progress } }
+    {
+        Options { progress, ..self }
+    }
+
+    /// Whether progress is to be reported.
+    pub fn progress(&self) -> bool
+        ensures { result ≡ self.now.progress }
+    {
+        self.progress
     }
 
     /// The map that is asked for.

@@ -1,11 +1,40 @@
 //! Observers and sinks as words: [`parse_observer`], [`parse_sink`].
-ghost use Rattle.std.specs.Prelude.{◌≡◌, ◌==◌, ◌∷◌, [], Some, None, IfSome, IfNone, if◌then◌else◌};
+ghost use Rattle.std.specs.Prelude.{◌≡◌, ◌==◌, ◌∷◌, [], ℕ, List, Option, Some, None, IfSome, IfNone, if◌then◌else◌};
 ghost use Rattle.std.specs.List.{slice_split, position};
 ghost use Rattle.terrain.specs.Decimal.{number_of};
 ghost use Rattle.request.specs.PlaceWords.{is_number, observer_of, sink_of};
 
 use decimals::whole_number;
 use terrain::{Observer, Place};
+
+/// What a word of the command line spells.
+pub(crate) trait FromWord: Sized {
+    // What a word spells; None where it spells nothing.
+    ghost spelled: { List ℕ → Option Self };
+
+    fn from_word(word: &str) -> Option<Self>
+        ensures { result ≡ spelled word.now };
+}
+
+impl FromWord for Observer {
+    ghost use Rattle.request.specs.PlaceWords.{observer_of};
+
+    ghost spelled = { observer_of };
+
+    fn from_word(word: &str) -> Option<Self> {
+        parse_observer(word)
+    }
+}
+
+impl FromWord for Place {
+    ghost use Rattle.request.specs.PlaceWords.{sink_of};
+
+    ghost spelled = { sink_of };
+
+    fn from_word(word: &str) -> Option<Self> {
+        parse_sink(word)
+    }
+}
 
 /// The most digits of a number.
 const MOST_DIGITS: usize = 10;
@@ -51,8 +80,8 @@ pub fn parse_observer(word: &str) -> Option<Observer>
     Some(Observer { row, col, eye })
 }
 
-/// The place of two whole numbers of 1 to 10 digits that fit 32 bits, joined by a comma: row and
-/// column. None for any other word.
+/// The place, of a sink or a gauge, of two whole numbers of 1 to 10 digits that fit 32 bits, joined by
+/// a comma: row and column. None for any other word.
 pub fn parse_sink(word: &str) -> Option<Place>
     ensures { result ≡ sink_of word.now }
 {

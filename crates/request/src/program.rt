@@ -1,13 +1,13 @@
 //! The subcommands and options of the program, as a command of `clap`.
 ghost use Rattle.std.specs.Prelude.{◌≡◌, IfOk};
 ghost use Rattle.clap.specs.Words.{app_of, with_subcommand};
-ghost use Rattle.request.specs.CommandLine.{drainage_shape, map_shape, number_rule, observers_rule, program_app, radius_rule, scale_rule, sinks_rule, target_rule, tile_rule, view_shape, workers_rule};
+ghost use Rattle.request.specs.CommandLine.{catchments_shape, drainage_shape, map_shape, number_rule, program_app, progress_rule, radius_rule, scale_rule, sink_rule, sinks_rule, target_rule, tile_rule, view_shape, words_rule, workers_rule};
 ghost use Rattle.request.specs.Commands.{IsArg, IsLeaf, bare_app};
 
 use crate::VERSION;
 use crate::help::{
-    ABOUT, ACCUMULATE, BASINS, COMMON, EXAMPLES_AND_FAULTS, FILL, FLOW, MapHelp, SINK_WORDS, USAGE,
-    VIEW, VIEW_WORDS,
+    ABOUT, ACCUMULATE, BASINS, CATCHMENTS, COMMON, EXAMPLES_AND_FAULTS, FILL, FLOW, GAUGE_WORDS,
+    MapHelp, SINK_WORDS, USAGE, VIEW, VIEW_WORDS,
 };
 use crate::options::{LONGEST_SIDE, MOST_DECIMALS, MOST_WORKERS};
 use clap::builder::ValueParser;
@@ -57,6 +57,15 @@ fn scale_option<'a>(alloc: Global) -> Arg<'a>
     number_option(alloc, "scale", "D", scales, "0", help)
 }
 
+fn progress_flag<'a>(alloc: Global) -> Arg<'a>
+    ensures { IsArg progress_rule result }
+{
+    Arg::new(alloc, "progress")
+        .long("progress")
+        .action(ArgAction::SetTrue)
+        .help("Report on standard error how far the run is, in tenths of each stage")
+}
+
 fn target_option<'a>(alloc: Global) -> Arg<'a>
     ensures { IsArg target_rule result }
 {
@@ -71,16 +80,27 @@ fn radius_option<'a>(alloc: Global) -> Arg<'a>
     number_option(alloc, "radius", "N", value_parser!(u32), "8192", help)
 }
 
-/// The words after `view`.
-fn observer_words<'a>(alloc: Global) -> Arg<'a>
-    ensures { IsArg observers_rule result }
+/// The words after the options of a map that takes one at least, which help calls `value`.
+fn place_words<'a>(alloc: Global, name: &'a str, value: &'a str, help: &'a str) -> Arg<'a>
+    ensures { IsArg (words_rule name.entry.now) result }
 {
-    Arg::new(alloc, "observers")
-        .value_name("ROW,COL,EYE")
+    Arg::new(alloc, name)
+        .value_name(value)
         .required(true)
         .action(ArgAction::Append)
         .num_args(1..)
-        .help(VIEW_WORDS)
+        .help(help)
+}
+
+/// The option of a map whose words are no sinks.
+fn sink_option<'a>(alloc: Global) -> Arg<'a>
+    ensures { IsArg sink_rule result }
+{
+    Arg::new(alloc, "sinks")
+        .long("sink")
+        .value_name("ROW,COL")
+        .action(ArgAction::Append)
+        .help(SINK_WORDS)
 }
 
 /// The words after the options of a map of drainage.
@@ -105,7 +125,8 @@ fn map_command<'a>(alloc: Global, name: &'a str, help: MapHelp) -> Result<Comman
         .after_help(COMMON)
         .arg(tile_option(alloc))?
         .arg(workers_option(alloc))?
-        .arg(scale_option(alloc))
+        .arg(scale_option(alloc))?
+        .arg(progress_flag(alloc))
 }
 
 fn drainage_command<'a>(
@@ -130,13 +151,21 @@ fn with_drainage<'a>(
     program.subcommand(drainage_command(alloc, name, help)?)
 }
 
+fn catchments_command<'a>(alloc: Global) -> Result<Command<'a>, AllocError>
+    ensures { IfOk result (IsLeaf catchments_shape) }
+{
+    map_command(alloc, "catchments", CATCHMENTS)?
+        .arg(sink_option(alloc))?
+        .arg(place_words(alloc, "gauges", "ROW,COL", GAUGE_WORDS))
+}
+
 fn view_command<'a>(alloc: Global) -> Result<Command<'a>, AllocError>
     ensures { IfOk result (IsLeaf view_shape) }
 {
     map_command(alloc, "view", VIEW)?
         .arg(target_option(alloc))?
         .arg(radius_option(alloc))?
-        .arg(observer_words(alloc))
+        .arg(place_words(alloc, "observers", "ROW,COL,EYE", VIEW_WORDS))
 }
 
 /// The program without its subcommands.
@@ -160,5 +189,6 @@ pub(crate) fn program<'a>(alloc: Global) -> Result<Command<'a>, AllocError>
     let program = with_drainage(alloc, program, "flow", FLOW)?;
     let program = with_drainage(alloc, program, "accumulate", ACCUMULATE)?;
     let program = with_drainage(alloc, program, "basins", BASINS)?;
+    let program = program.subcommand(catchments_command(alloc)?)?;
     program.subcommand(view_command(alloc)?)
 }

@@ -1,15 +1,16 @@
 //! Reads the command line: [`parse`].
 ghost use Rattle.std.specs.Prelude.{◌≡◌, ℕ, [], map, codes, IfOk, IfErr, IfSome, IfNone};
 ghost use Rattle.clap.specs.Words.{found_of, rows_of};
-ghost use Rattle.request.specs.CommandLine.{HasNumber, HasOptions, IsFirstBad, Names, Spell, WishFor, sink_words, words_given};
+ghost use Rattle.request.specs.CommandLine.{HasNumber, HasOptions, IsFirstBad, Names, Spell, WishFor, is_given, sink_words, words_given};
 ghost use Rattle.request.specs.PlaceWords.{observer_of, sink_of};
 ghost use Rattle.request.specs.Wish.{AreLimits};
-ghost use Rattle.request.specs.WordsFaults.{IsBadAfter, IsFaultBy, IsFaultOf, IsNoMap, IsWant};
+ghost use Rattle.request.specs.WordsFaults.{IsBadWord, IsFaultBy, IsFaultOf, IsMapFault, IsWant};
+ghost use Rattle.request.specs.declared.words.BadWord.TheVariants.{NoMemory};
 ghost use Rattle.request.specs.declared.words.WordsFault.TheVariants.{Clap};
 
 use crate::map::Map;
 use crate::options::Options;
-use crate::place_words::{parse_observer, parse_sink};
+use crate::place_words::FromWord;
 use crate::program::program;
 use clap::{ArgMatches, Error};
 use std::alloc::{AllocError, Global};
@@ -24,6 +25,8 @@ pub enum WordsFault {
     Clap(Error),
     /// The observer word at this place from 0 is none.
     BadObserver(usize),
+    /// The gauge word at this place from 0 is none.
+    BadGauge(usize),
     /// The sink word at this place from 0 is none.
     BadSink(usize),
     /// They name no map, which `clap` refuses before.
@@ -54,41 +57,77 @@ fn number_given(found: &ArgMatches<'_>, id: &str) -> Option<u32>
     found.get_one::<u32>(id)
 }
 
-/// The observers that these words are.
-fn observers_of(alloc: Global, words: &[&str]) -> Result<Vec<Observer>, WordsFault>
-    ensures some { IfOk result (λ v. Spell observer_of (map (λ w. w.now) words.now) v.items) }
-    ensures none { IfErr result (IsFaultBy (IsFirstBad observer_of (map (λ w. w.now) words.now)) (λ _. ⊥) ⊥) }
-{
-    let mut observers = Vec::new(alloc);
-    for place in 0..words.len() {
-        let Some(observer) = parse_observer(words[place]) else {
-            return Err(WordsFault::BadObserver(place));
-        };
-        observers.push(observer).map_err(AllocError::from)?;
-    }
-    Ok(observers)
+/// Why words do not spell a list of observers or places.
+#[derive(Drop)]
+pub(crate) enum BadWord {
+    /// The word at this place from 0 spells none.
+    At(usize),
+    NoMemory(AllocError),
 }
 
-/// The sinks that these words are.
+impl From<AllocError> for BadWord {
+    ghost from_gives = { λ error bad. bad ≡ NoMemory error };
+
+    fn from(error: AllocError) -> Self {
+        BadWord::NoMemory(error)
+    }
+}
+
+/// Reads each of the words.
+fn read_words<T: FromWord + Drop>(alloc: Global, words: &[&str]) -> Result<Vec<T>, BadWord>
+    ensures some { IfOk result (λ v. Spell T.spelled (map (λ w. w.now) words.now) v.items) }
+    ensures bad { IfErr result (IsBadWord (IsFirstBad T.spelled (map (λ w. w.now) words.now))) }
+{
+    let mut items = Vec::new(alloc);
+    for place in 0..words.len() {
+        let Some(item) = T::from_word(words[place]) else {
+            return Err(BadWord::At(place));
+        };
+        items.push(item).map_err(AllocError::from)?;
+    }
+    Ok(items)
+}
+
+/// Reads observers.
+fn observers_of(alloc: Global, words: &[&str]) -> Result<Vec<Observer>, WordsFault>
+    ensures some { IfOk result (λ v. Spell observer_of (map (λ w. w.now) words.now) v.items) }
+    ensures none { IfErr result (IsFaultBy (IsFirstBad observer_of (map (λ w. w.now) words.now)) (λ _. ⊥) (λ _. ⊥) ⊥) }
+{
+    match read_words(alloc, words) {
+        Ok(observers) => Ok(observers),
+        Err(BadWord::At(place)) => Err(WordsFault::BadObserver(place)),
+        Err(BadWord::NoMemory(error)) => Err(WordsFault::from(error)),
+    }
+}
+
+/// Reads gauges.
+fn gauges_of(alloc: Global, words: &[&str]) -> Result<Vec<Place>, WordsFault>
+    ensures some { IfOk result (λ v. Spell sink_of (map (λ w. w.now) words.now) v.items) }
+    ensures none { IfErr result (IsFaultBy (λ _. ⊥) (IsFirstBad sink_of (map (λ w. w.now) words.now)) (λ _. ⊥) ⊥) }
+{
+    match read_words(alloc, words) {
+        Ok(gauges) => Ok(gauges),
+        Err(BadWord::At(place)) => Err(WordsFault::BadGauge(place)),
+        Err(BadWord::NoMemory(error)) => Err(WordsFault::from(error)),
+    }
+}
+
+/// Reads sinks.
 fn sinks_of(alloc: Global, words: &[&str]) -> Result<Vec<Place>, WordsFault>
     ensures some { IfOk result (λ v. Spell sink_of (map (λ w. w.now) words.now) v.items) }
-    ensures none { IfErr result (IsFaultBy (λ _. ⊥) (IsFirstBad sink_of (map (λ w. w.now) words.now)) ⊥) }
+    ensures none { IfErr result (IsFaultBy (λ _. ⊥) (λ _. ⊥) (IsFirstBad sink_of (map (λ w. w.now) words.now)) ⊥) }
 {
-    let mut sinks = Vec::new(alloc);
-    for place in 0..words.len() {
-        let Some(sink) = parse_sink(words[place]) else {
-            return Err(WordsFault::BadSink(place));
-        };
-        sinks.push(sink).map_err(AllocError::from)?;
+    match read_words(alloc, words) {
+        Ok(sinks) => Ok(sinks),
+        Err(BadWord::At(place)) => Err(WordsFault::BadSink(place)),
+        Err(BadWord::NoMemory(error)) => Err(WordsFault::from(error)),
     }
-    Ok(sinks)
 }
 
 /// The viewshed that is asked for.
 fn view_of(alloc: Global, found: &ArgMatches<'_>) -> Result<Map, WordsFault>
     ensures some { IfOk result (Names (codes "view") (rows_of (found_of found.now))) }
-    ensures none { IfErr result (IsFaultBy (IsBadAfter (codes "view") (rows_of (found_of found.now))) (λ _. ⊥)
-        (IsNoMap (codes "view") (rows_of (found_of found.now)))) }
+    ensures none { IfErr result (IsMapFault (codes "view") (rows_of (found_of found.now))) }
 {
     let words: &[&str] = found.get_strs("observers").unwrap_or(&[]);
     let observers = observers_of(alloc, words)?;
@@ -105,17 +144,27 @@ fn view_of(alloc: Global, found: &ArgMatches<'_>) -> Result<Map, WordsFault>
     })
 }
 
+/// The catchments that are asked for.
+fn catchments_of(alloc: Global, found: &ArgMatches<'_>) -> Result<Map, WordsFault>
+    ensures some { IfOk result (Names (codes "catchments") (rows_of (found_of found.now))) }
+    ensures none { IfErr result (IsMapFault (codes "catchments") (rows_of (found_of found.now))) }
+{
+    let words: &[&str] = found.get_strs("gauges").unwrap_or(&[]);
+    let gauges = gauges_of(alloc, words)?;
+    Ok(Map::Catchments { gauges })
+}
+
 /// The map of this name.
 fn map_of(alloc: Global, name: &str, found: &ArgMatches<'_>) -> Result<Map, WordsFault>
     ensures some { IfOk result (Names name.now (rows_of (found_of found.now))) }
-    ensures none { IfErr result (IsFaultBy (IsBadAfter name.now (rows_of (found_of found.now))) (λ _. ⊥)
-        (IsNoMap name.now (rows_of (found_of found.now)))) }
+    ensures none { IfErr result (IsMapFault name.now (rows_of (found_of found.now))) }
 {
     match name {
         "fill" => Ok(Map::Fill),
         "flow" => Ok(Map::Flow),
         "accumulate" => Ok(Map::Accumulate),
         "basins" => Ok(Map::Basins),
+        "catchments" => catchments_of(alloc, found),
         "view" => view_of(alloc, found),
         _ => Err(WordsFault::NoMap),
     }
@@ -124,7 +173,7 @@ fn map_of(alloc: Global, name: &str, found: &ArgMatches<'_>) -> Result<Map, Word
 /// The sinks that are given for the map of this name; a viewshed has none.
 fn sinks_given(alloc: Global, name: &str, found: &ArgMatches<'_>) -> Result<Vec<Place>, WordsFault>
     ensures some { IfOk result (λ v. Spell sink_of (sink_words name.now (rows_of (found_of found.now))) v.items) }
-    ensures none { IfErr result (IsFaultBy (λ _. ⊥) (IsFirstBad sink_of (sink_words name.now (rows_of (found_of found.now)))) ⊥) }
+    ensures none { IfErr result (IsFaultBy (λ _. ⊥) (λ _. ⊥) (IsFirstBad sink_of (sink_words name.now (rows_of (found_of found.now)))) ⊥) }
 {
     if name == "view" {
         return Ok(Vec::new(alloc));
@@ -133,9 +182,20 @@ fn sinks_given(alloc: Global, name: &str, found: &ArgMatches<'_>) -> Result<Vec<
     sinks_of(alloc, words)
 }
 
+/// Whether `--progress` is given.
+fn progress_given(found: &ArgMatches<'_>) -> bool
+    ensures { result ≡ is_given (codes "progress") (rows_of (found_of found.now)) }
+{
+    match found.get_str("progress") {
+        Some(text) => text == "true",
+        None => false,
+    }
+}
+
 /// A map with the options given; None where one of them is not in its limits.
 fn with_options(map: Map, found: &ArgMatches<'_>) -> Option<Options>
     ensures some { IfSome result (λ o. (o.map ≡ map) × (o.sinks ≡ []) × HasOptions (rows_of (found_of found.now)) o.tile o.workers o.scale) }
+    ensures progress { IfSome result (λ o. o.progress ≡ is_given (codes "progress") (rows_of (found_of found.now))) }
     ensures limits { IfSome result (λ o. AreLimits o.tile o.workers o.scale) }
     ensures none { IfNone result ((tile workers scale : ℕ) → AreLimits tile workers scale →
         HasOptions (rows_of (found_of found.now)) tile workers scale → ⊥) }
@@ -146,7 +206,8 @@ fn with_options(map: Map, found: &ArgMatches<'_>) -> Option<Options>
     let Ok(scale) = u8::try_from(scale) else {
         return None;
     };
-    Options::new(map, tile, workers, scale)
+    let options = Options::new(map, tile, workers, scale)?;
+    Some(options.with_progress(progress_given(found)))
 }
 
 fn options_asked<'a>(alloc: Global, words: &'a [&'a str]) -> Result<Options, WordsFault>

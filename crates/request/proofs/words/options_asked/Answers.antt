@@ -56,7 +56,7 @@ returns-in-Ok-clause-wish c =
     let given = c.in-Some-with_options.ensures in
     subst (WishFor words) (sym c.in-Ok.ensures.some.0)
     (wished words (accepted _ words c.in_ok-command.ensures c.in_ok-matches.ensures.kinds) _ _ found c.in_ok-map.map (record c.in-Some-with_options.options { sinks = c.in_ok-sinks.sinks.items })
-    c.in_ok-map.ensures.some given.some.0 c.in_ok-sinks.ensures.some given.some.2 given.limits (λ view. absurd (c.in-Ok.ensures.some.1 view)))
+    c.in_ok-map.ensures.some given.some.0 c.in_ok-sinks.ensures.some given.some.2 given.limits given.progress (λ view. absurd (c.in-Ok.ensures.some.1 view)))
 
 pub returns-clause-wish : goal.returns-clause-wish
 returns-clause-wish c =
@@ -67,4 +67,4 @@ returns-clause-wish c =
     let none = view_without_sinks _ (rows_of (found_of c.in-Some.found.now)) c.in_ok-map.map c.in_ok-map.ensures.some (subst IsView given.some.0 c.in-Err.ensures.view.1) in
     subst (WishFor words) (sym c.in-Err.ensures.view.0)
     (wished words (accepted _ words c.in_ok-command.ensures c.in_ok-matches.ensures.kinds) _ _ found c.in_ok-map.map c.in-Some-with_options.options
-    c.in_ok-map.ensures.some given.some.0 (subst (Spell sink_of _) (sym given.some.1) none) given.some.2 given.limits (λ view. given.some.1))
+    c.in_ok-map.ensures.some given.some.0 (subst (Spell sink_of _) (sym given.some.1) none) given.some.2 given.limits given.progress (λ view. given.some.1))

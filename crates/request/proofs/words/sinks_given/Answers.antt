@@ -18,4 +18,4 @@ pub returns-clause-some : goal.returns-clause-some
 returns-clause-some c = subst (λ (words : List Text). IfOk c.sinks_of.result (λ v. Spell sink_of words v.items)) (same c) c.sinks_of.ensures.some
 
 pub returns-clause-none : goal.returns-clause-none
-returns-clause-none c = subst (λ (words : List Text). IfErr c.sinks_of.result (IsFaultBy (λ _. ⊥) (IsFirstBad sink_of words) ⊥)) (same c) c.sinks_of.ensures.none
+returns-clause-none c = subst (λ (words : List Text). IfErr c.sinks_of.result (IsFaultBy (λ _. ⊥) (λ _. ⊥) (IsFirstBad sink_of words) ⊥)) (same c) c.sinks_of.ensures.none

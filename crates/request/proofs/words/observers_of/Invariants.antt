@@ -1,7 +1,0 @@
-use Rattle.std.proofs.Common.{map, take}
-use Rattle.request.specs.CommandLine.{Spell}
-use Rattle.request.specs.PlaceWords.{observer_of}
-use Rattle.request.proofs.words.observers_of.Given as goal
-
-abbrev pub invariant-loop-place : goal.invariant-loop-place
-invariant-loop-place l = Spell observer_of (map (λ w. w.now) (take l.place l.words)) l.observers.items
