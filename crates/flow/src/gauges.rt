@@ -11,7 +11,7 @@ use crate::end_numbers::EndNumbering;
 use drainage::Directions;
 use std::alloc::{AllocError, Global};
 use std::collections::HashMap;
-use terrain::Place;
+use terrain::{Grid, Place, SinkFault, sinks_fault};
 use tile_jobs::JobFault;
 use tiles::Tiling;
 
@@ -51,6 +51,29 @@ impl From<AllocError> for GaugeFault {
 
     fn from(_error: AllocError) -> GaugeFault {
         GaugeFault::Jobs(JobFault::Memory)
+    }
+}
+
+/// The fault of a gauge where a sink at its place has this fault.
+fn fault_of_gauge(fault: SinkFault) -> GaugeFault
+    ensures { result ≡ fault_of_gauge fault }
+{
+    match fault {
+        SinkFault::Outside(index) => GaugeFault::Outside(index),
+        SinkFault::OnNodata(index) => GaugeFault::OnNodata(index),
+        SinkFault::TooManySinks => GaugeFault::TooManyGauges,
+        SinkFault::Memory => GaugeFault::Jobs(JobFault::Memory),
+    }
+}
+
+/// Returns the fault of gauges on a grid: more than [`MOST_GAUGES`], repeats counted; then the first
+/// that lies outside the grid or has no data. None where they have none.
+pub fn gauges_fault(grid: &Grid, gauges: &[Place]) -> Option<GaugeFault>
+    ensures { result ≡ gauges_fault grid.now.terrain gauges.now }
+{
+    match sinks_fault(grid, gauges) {
+        Some(fault) => Some(fault_of_gauge(fault)),
+        None => None,
     }
 }
 

@@ -49,6 +49,6 @@ mod tile;
 pub use basin::basins;
 pub use catchment::catchments;
 pub use counting::accumulation;
-pub use gauges::{GaugeFault, MOST_GAUGES};
+pub use gauges::{GaugeFault, MOST_GAUGES, gauges_fault};
 pub use links::RimLinks;
 pub use tile::{TileFlow, tile_flow};
