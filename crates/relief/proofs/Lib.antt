@@ -1,4 +1,5 @@
 mod Draining
+mod Gauging
 mod Ran
 mod Viewing
 mod Maps

@@ -13,9 +13,10 @@ use Rattle.drain.specs.Directions.{AreDirections}
 use Rattle.terrain.proofs.Options.{cases_option}
 use Rattle.drain.proofs.Unique.{same_entries, one_list_of_directions}
 use Rattle.flow.specs.Counts.{IsMapOf, accumulation, basin}
+use Rattle.flow.specs.Catchments.{AreCatchments, catchment}
 use Rattle.sight.proofs.Uniqueness.{viewsheds_are_one}
 use Rattle.request.specs.declared.map.Map.{Map}
-use Rattle.request.specs.declared.map.Map.TheVariants.{Fill, Flow, Accumulate, Basins, View}
+use Rattle.request.specs.declared.map.Map.TheVariants.{Fill, Flow, Accumulate, Basins, Catchments, View}
 use Rattle.request.specs.Laws.{AreSame}
 use Rattle.relief.specs.MapText.{IsDrainage, IsMapText, IsMapOfText}
 
@@ -60,18 +61,23 @@ one_drainage g d e a b =
     ∙ ap (λ rows. directed e.cols rows d.codes) (a.same_size.1 ∙ sym b.same_size.1)
     ∙ ap (λ cs. directed e.cols e.rows cs) codes
 
+-- the text has this value at each cell of the grid's directions
+abbrev HasValues : Raster → (Directed → Place → ℕ) → List ℕ → Type 0
+HasValues g value text = (d : Directed) × (values : List (Option ℕ)) × IsDrainage g d × IsMapOf d (value d) values × (text ≡ counts_text g values)
+
+one_map_of_values : (g : Raster) (value : Directed → Place → ℕ) (text other : List ℕ) → HasValues g value text → HasValues g value other → text ≡ other
+one_map_of_values g value text other a b =
+    let same : a.0 ≡ b.0 = one_drainage g a.0 b.0 a.2 b.2 in
+    let values : a.1 ≡ b.1 = one_list_of_values b.0 (value b.0) a.1 b.1 (subst (λ (d : Directed). IsMapOf d (value d) a.1) same a.3) b.3 in
+    a.4 ∙ ap (λ vs. counts_text g vs) values ∙ sym b.4
+
 one_map_of_grid : (g : Raster) (m : Map) (text other : List ℕ) → IsMapText g m text → IsMapText g m other → text ≡ other
 one_map_of_grid g Fill text other a b = a.2 ∙ ap heights_text (one_filled_grid g a.0 b.0 a.1 b.1) ∙ sym b.2
 one_map_of_grid g Flow text other a b =
     a.2 ∙ ap (λ (d : Directed). counts_text g d.codes) (one_drainage g a.0 b.0 a.1 b.1) ∙ sym b.2
-one_map_of_grid g Accumulate text other a b =
-    let same : a.0 ≡ b.0 = one_drainage g a.0 b.0 a.2 b.2 in
-    let values : a.1 ≡ b.1 = one_list_of_values b.0 (accumulation b.0) a.1 b.1 (subst (λ (d : Directed). IsMapOf d (accumulation d) a.1) same a.3) b.3 in
-    a.4 ∙ ap (λ vs. counts_text g vs) values ∙ sym b.4
-one_map_of_grid g Basins text other a b =
-    let same : a.0 ≡ b.0 = one_drainage g a.0 b.0 a.2 b.2 in
-    let values : a.1 ≡ b.1 = one_list_of_values b.0 (basin b.0) a.1 b.1 (subst (λ (d : Directed). IsMapOf d (basin d) a.1) same a.3) b.3 in
-    a.4 ∙ ap (λ vs. counts_text g vs) values ∙ sym b.4
+one_map_of_grid g Accumulate text other a b = one_map_of_values g (λ d. accumulation d) text other a b
+one_map_of_grid g Basins text other a b = one_map_of_values g (λ d. basin d) text other a b
+one_map_of_grid g (Catchments gauges) text other a b = one_map_of_values g (λ d. catchment d gauges.items) text other a b
 one_map_of_grid g (View observers target radius) text other a b =
     a.2 ∙ ap (λ vs. counts_text g vs) (viewsheds_are_one g.terrain observers.items target radius a.0 b.0 a.1 b.1) ∙ sym b.2
 
@@ -81,10 +87,18 @@ same_text g Fill n text same h = subst (λ (k : Map). IsMapText g k text) (sym s
 same_text g Flow n text same h = subst (λ (k : Map). IsMapText g k text) (sym same) h
 same_text g Accumulate n text same h = subst (λ (k : Map). IsMapText g k text) (sym same) h
 same_text g Basins n text same h = subst (λ (k : Map). IsMapText g k text) (sym same) h
+same_text g (Catchments gauges) Fill text same h = subst (λ (k : Map). IsMapText g k text) (sym same) h
+same_text g (Catchments gauges) Flow text same h = subst (λ (k : Map). IsMapText g k text) (sym same) h
+same_text g (Catchments gauges) Accumulate text same h = subst (λ (k : Map). IsMapText g k text) (sym same) h
+same_text g (Catchments gauges) Basins text same h = subst (λ (k : Map). IsMapText g k text) (sym same) h
+same_text g (Catchments gauges) (Catchments others) text same h =
+    (h.0, h.1, h.2, subst (λ (places : List Place). AreCatchments h.0 places h.1) (sym same) h.3, h.4)
+same_text g (Catchments gauges) (View observers target radius) text same h = subst (λ (k : Map). IsMapText g k text) (sym same) h
 same_text g (View observers target radius) Fill text same h = subst (λ (k : Map). IsMapText g k text) (sym same) h
 same_text g (View observers target radius) Flow text same h = subst (λ (k : Map). IsMapText g k text) (sym same) h
 same_text g (View observers target radius) Accumulate text same h = subst (λ (k : Map). IsMapText g k text) (sym same) h
 same_text g (View observers target radius) Basins text same h = subst (λ (k : Map). IsMapText g k text) (sym same) h
+same_text g (View observers target radius) (Catchments gauges) text same h = subst (λ (k : Map). IsMapText g k text) (sym same) h
 same_text g (View observers target radius) (View others height reach) text same h = (h.0, rw (same.0, same.1, same.2) h.1, h.2)
 
 pub one_map : (scale : ℕ) (m n : Map) (sinks : List Place) (input text other : List ℕ) → AreSame m n → IsMapOfText scale m sinks input text → IsMapOfText scale n sinks input other → text ≡ other

@@ -8,11 +8,11 @@ use Rattle.clap.specs.declared.error.Error.{Error}
 use Rattle.clap.specs.declared.error.kind.ErrorKind.{ErrorKind}
 use Rattle.clap.specs.declared.error.kind.ErrorKind.TheVariants.{OutOfMemory}
 use Rattle.ascii_grid.specs.Device.{Device}
-use Rattle.request.specs.CommandLine.{HasBadObserver, HasBadSink, IsHelp, program_app}
+use Rattle.request.specs.CommandLine.{HasBadGauge, HasBadObserver, HasBadSink, IsHelp, program_app}
 use Rattle.relief.specs.Ends.{EndsLine, EndsShowing, EndsUnread, IsRefusalText, Tells}
 use Rattle.request.specs.WordsFaults.{IsFaultOf}
 use Rattle.request.specs.declared.words.WordsFault.TheVariants.{NoMap}
-use Rattle.request.proofs.Asked.{bad_alone, bad_sink_wishes_none, bad_wishes_none, one_bad, one_bad_sink}
+use Rattle.request.proofs.Asked.{bad_alone, bad_gauge_alone, bad_gauge_wishes_none, bad_sink_wishes_none, bad_wishes_none, no_gauge_observed, one_bad, one_bad_gauge, one_bad_sink}
 
 any_among : (P : ErrorKind → Type 0) (k : ErrorKind) (ks : Kinds) → P k → IsAmong k ks → Any P ks
 any_among P k [] p among = absurd among
@@ -46,6 +46,7 @@ module _ {R W E : Type 0} (contents : W → Option (List ℕ)) (lines : E → Op
     refused = inl (any_among (λ kind. ¬ IsHelp kind) (kind_of e) _ refused.0.0 among);
     line = refused.1.1;
     bad_observer = λ place bad. absurd (none_among (kind_of e) _ bad.command.accepted among);
+    bad_gauge = λ place bad. absurd (none_among (kind_of e) _ bad.command.accepted among);
     bad_sink = λ place bad. absurd (none_among (kind_of e) _ bad.command.accepted among);
   }) refused.1.2 refused.3 refused.2
   shown e (inr (inr want)) kind = record { unread = refl; reason = inr (inr want) }
@@ -59,7 +60,17 @@ module _ (words : List Text) where
     refused = inr (bad.command.accepted, bad_wishes_none words bad.command.accepted _ _ bad.command.found place bad);
     line = ends_line (codes "relief: bad observer word ") place;
     bad_observer = λ other b. ap (λ k. codes "relief: bad observer word " ++ decimal k ++ codes "\n") (one_bad words bad.command.accepted _ _ bad.command.found place other bad b);
+    bad_gauge = λ other b. absurd (no_gauge_observed words bad.command.accepted _ _ bad.command.found other place b bad);
     bad_sink = λ other b. absurd (bad_alone words bad.command.accepted _ _ bad.command.found place other bad b);
+  }
+
+  pub bad_gauge_refused : (place : ℕ) → HasBadGauge words place → IsRefusalText words (codes "relief: bad gauge word " ++ decimal place ++ codes "\n")
+  bad_gauge_refused place bad = record {
+    refused = inr (bad.command.accepted, bad_gauge_wishes_none words bad.command.accepted _ _ bad.command.found place bad);
+    line = ends_line (codes "relief: bad gauge word ") place;
+    bad_observer = λ other b. absurd (no_gauge_observed words bad.command.accepted _ _ bad.command.found place other bad b);
+    bad_gauge = λ other b. ap (λ k. codes "relief: bad gauge word " ++ decimal k ++ codes "\n") (one_bad_gauge words bad.command.accepted _ _ bad.command.found place other bad b);
+    bad_sink = λ other b. absurd (bad_gauge_alone words bad.command.accepted _ _ bad.command.found place other bad b);
   }
 
   pub bad_sink_refused : (place : ℕ) → HasBadSink words place → IsRefusalText words (codes "relief: bad sink word " ++ decimal place ++ codes "\n")
@@ -67,6 +78,7 @@ module _ (words : List Text) where
     refused = inr (bad.command.accepted, bad_sink_wishes_none words bad.command.accepted _ _ bad.command.found place bad);
     line = ends_line (codes "relief: bad sink word ") place;
     bad_observer = λ other b. absurd (bad_alone words bad.command.accepted _ _ bad.command.found other place b bad);
+    bad_gauge = λ other b. absurd (bad_gauge_alone words bad.command.accepted _ _ bad.command.found other place b bad);
     bad_sink = λ other b. ap (λ k. codes "relief: bad sink word " ++ decimal k ++ codes "\n") (one_bad_sink words bad.command.accepted _ _ bad.command.found place other bad b);
   }
 
@@ -75,5 +87,6 @@ module _ (words : List Text) where
     refused = inr (fault.0, fault.1);
     line = line;
     bad_observer = λ place bad. absurd (fault.2 place bad);
+    bad_gauge = λ place bad. absurd (fault.4 place bad);
     bad_sink = λ place bad. absurd (fault.3 place bad);
   }

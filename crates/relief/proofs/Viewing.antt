@@ -1,5 +1,5 @@
 -- Refusals of the work as refusals of the run, and what a viewshed's answer says of the wish.
-use Rattle.std.proofs.Common.{◌≡◌, ◌⊎◌, ℕ, ◌≤◌, Option, None, Some, Ok, Err, sym, ap, subst, refl, ◌∙◌, arith, inl, inr, Bool, true, false, cond, List}
+use Rattle.std.proofs.Common.{◌≡◌, ◌⊎◌, ℕ, ◌<◌, ◌≤◌, Option, None, Some, Ok, Err, sym, ap, subst, refl, ◌∙◌, arith, inl, inr, Bool, true, false, cond, List}
 use Rattle.std.specs.Option.{option_map, option_or}
 use Rattle.terrain.specs.Raster.{Raster}
 use Rattle.tile_jobs.specs.declared.JobFault.{JobFault}
@@ -7,13 +7,13 @@ use Rattle.tile_jobs.specs.declared.JobFault.TheVariants as jobs
 use Rattle.sight.specs.declared.fault.SightFault.{SightFault}
 use Rattle.sight.specs.declared.fault.SightFault.TheVariants as sight
 use Rattle.sight.specs.Refusals.{RefusesSight}
-use Rattle.sight.proofs.Refused.{not_jobs}
-use Rattle.request.specs.declared.map.Map.{Map}
-use Rattle.request.specs.declared.map.Map.TheVariants.{Fill, Flow, Accumulate, Basins, View}
-use Rattle.relief.specs.declared.fault.RunFault.TheVariants.{Sight, Grid, Tiling, Jobs, Sinks, Read, Write}
-use Rattle.relief.specs.Faults.{of_sight}
+use Rattle.relief.specs.declared.fault.RunFault.TheVariants.{Sight, Grid, Tiling, Jobs, Sinks, Gauges, Read, Write}
+use Rattle.flow.specs.Catchments.{RefusesGauges}
+use Rattle.flow.specs.declared.gauges.GaugeFault.{GaugeFault}
+use Rattle.flow.specs.declared.gauges.GaugeFault.TheVariants as gauges
+use Rattle.relief.specs.Faults.{of_gauges, of_sight}
 use Rattle.request.specs.Wish.{Wish}
-use Rattle.relief.specs.Refusals.{map_fault, wish_fault, IsWorkRefusal, tiles_of, IsRunRefusal}
+use Rattle.relief.specs.Refusals.{gauge_fault, map_fault, place_fault, wish_fault, IsWorkRefusal, tiles_of, IsRunRefusal}
 use Rattle.std.specs.Prelude.{⊤, nat_lt}
 use Rattle.terrain.specs.Sinks.{sinks_fault}
 use Rattle.terrain.specs.declared.sinks.SinkFault.{SinkFault}
@@ -27,14 +27,6 @@ pub no_fault : {T : Type 0} (fault : Option SightFault) (workers : ℕ) (x : T) 
 no_fault None workers x h = refl
 no_fault (Some f) workers x h = let bad = h.told f refl in absurd (cc)
 
--- observers are never refused for their work
-map_is_no_work : (g : Raster) (m : Map) (x : JobFault) → map_fault g m ≡ Some (sight.Jobs x) → ⊥
-map_is_no_work g Fill x e = cc
-map_is_no_work g Flow x e = cc
-map_is_no_work g Accumulate x e = cc
-map_is_no_work g Basins x e = cc
-map_is_no_work g (View observers target radius) x e = not_jobs x g.terrain observers.items target radius e
-
 -- a fault of the observers is told as one of the wish
 told_fault : (w : Wish) (g : Raster) (f : SightFault) → ((x : JobFault) → f ≡ sight.Jobs x → ⊥) → wish_fault w g ≡ Some (Sight f) → IsWorkRefusal w g (of_sight f)
 told_fault w g (sight.Outside i) other h = h
@@ -44,33 +36,43 @@ told_fault w g (sight.BadEye i) other h = h
 told_fault w g sight.BadRadius other h = h
 told_fault w g (sight.Jobs x) other h = absurd (other x refl)
 
+-- want of memory or of a thread where nothing else forbids
+module _ (w : Wish) (g : Raster) (some : 1 ≤ w.workers) (few : w.workers ≤ 64) (ready : wish_fault w g ≡ None) where
+  pub job_refused : (x : JobFault) → (x ≡ jobs.BadWorkers → (w.workers ≡ 0) ⊎ (64 < w.workers)) → (x ≡ jobs.NoThread → 1 < w.workers) → IsWorkRefusal w g (Jobs x)
+  job_refused jobs.Memory bad_workers no_thread = ready
+  job_refused jobs.BadWorkers bad_workers no_thread =
+      absurd (elim (bad_workers refl) [ inl none ↦ omega arith | inr many ↦ omega arith ])
+  job_refused jobs.NoThread bad_workers no_thread = (ready, no_thread refl)
+
 -- a refused viewshed as a refusal of the work
-pub view_refused : {T : Type 0} (w : Wish) (g : Raster) (f : SightFault) → 1 ≤ w.workers → w.workers ≤ 64 → wish_fault w g ≡ option_map Sight (map_fault g w.map) → RefusesSight {T = T} (map_fault g w.map) w.workers (Err f) → IsWorkRefusal w g (of_sight f)
-view_refused {T} w g f some few is h = go (map_fault g w.map) refl h where
-  work : (k : SightFault) → map_fault g w.map ≡ None → (k ≡ sight.Jobs jobs.Memory) ⊎ (k ≡ sight.Jobs jobs.BadWorkers) ⊎ (k ≡ sight.Jobs jobs.NoThread) → k ≡ f → IsWorkRefusal w g (of_sight k)
-  work k none told same = elim told [
-    | inl memory ↦ subst (λ (s : SightFault). IsWorkRefusal w g (of_sight s)) (sym memory) (is ∙ ap (λ o. option_map Sight o) none)
-    | inr rest ↦ elim rest [
-      | inl workers ↦
-          let bad = (h.bad_workers none).0 (ap Err (sym same ∙ workers)) in
-          absurd (elim bad [ inl zero_workers ↦ omega arith | inr many ↦ omega arith ])
-      | inr thread ↦
-          subst (λ (s : SightFault). IsWorkRefusal w g (of_sight s)) (sym thread)
-          (is ∙ ap (λ o. option_map Sight o) none, h.no_thread (ap Err (sym same ∙ thread)))
-    ]
-  ]
+pub view_refused : {T : Type 0} (w : Wish) (g : Raster) (fault : Option SightFault) (f : SightFault) → 1 ≤ w.workers → w.workers ≤ 64 → ((x : JobFault) → fault ≡ Some (sight.Jobs x) → ⊥)
+    → wish_fault w g ≡ option_map Sight fault → RefusesSight {T = T} fault w.workers (Err f) → IsWorkRefusal w g (of_sight f)
+view_refused w g None f some few other is h =
+    let work : (k : SightFault) → (k ≡ sight.Jobs jobs.Memory) ⊎ (k ≡ sight.Jobs jobs.BadWorkers) ⊎ (k ≡ sight.Jobs jobs.NoThread) → (x : JobFault) × (k ≡ sight.Jobs x) =
+    λ k told. elim told [ inl e ↦ (jobs.Memory, e) | inr rest ↦ elim rest [ inl e ↦ (jobs.BadWorkers, e) | inr e ↦ (jobs.NoThread, e) ] ] in
+    let told = work f (h.jobs refl f refl) in
+    subst (λ (s : SightFault). IsWorkRefusal w g (of_sight s)) (sym told.1)
+    (job_refused w g some few is told.0 (λ e. (h.bad_workers refl).0 (ap Err (told.1 ∙ ap sight.Jobs e))) (λ e. h.no_thread (ap Err (told.1 ∙ ap sight.Jobs e))))
+view_refused w g (Some k) f some few other is h =
+    let same : k ≡ f = let told = h.told k refl in cc in
+    told_fault w g f (λ x bad. other x (ap Some (same ∙ bad))) (is ∙ ap (λ (s : SightFault). Some (Sight s)) same)
 
-  go : (o : Option SightFault) → map_fault g w.map ≡ o → RefusesSight {T = T} o w.workers (Err f) → IsWorkRefusal w g (of_sight f)
-  go None e r = work f e (r.jobs refl f refl) refl
-  go (Some k) e r =
-      let same : k ≡ f = let told = r.told k refl in cc in
-      told_fault w g f (λ x bad. map_is_no_work g w.map x (e ∙ ap Some (same ∙ bad))) (is ∙ ap (λ o. option_map Sight o) e ∙ ap (λ (s : SightFault). Some (Sight s)) same)
+-- refused catchments of sound gauges as a refusal of the work
+pub catchments_refused : {T : Type 0} (w : Wish) (g : Raster) (fault : Option GaugeFault) (f : GaugeFault) → 1 ≤ w.workers → w.workers ≤ 64 → fault ≡ None
+    → wish_fault w g ≡ None → RefusesGauges {T = T} fault w.workers (Err f) → IsWorkRefusal w g (of_gauges f)
+catchments_refused w g fault f some few sound is h =
+    let work : (k : GaugeFault) → (k ≡ gauges.Jobs jobs.Memory) ⊎ (k ≡ gauges.Jobs jobs.BadWorkers) ⊎ (k ≡ gauges.Jobs jobs.NoThread) → (x : JobFault) × (k ≡ gauges.Jobs x) =
+    λ k told. elim told [ inl e ↦ (jobs.Memory, e) | inr rest ↦ elim rest [ inl e ↦ (jobs.BadWorkers, e) | inr e ↦ (jobs.NoThread, e) ] ] in
+    let told = work f (h.jobs sound f refl) in
+    subst (λ (k : GaugeFault). IsWorkRefusal w g (of_gauges k)) (sym told.1)
+    (job_refused w g some few is told.0 (λ e. (h.bad_workers sound).0 (ap Err (told.1 ∙ ap gauges.Jobs e))) (λ e. h.no_thread (ap Err (told.1 ∙ ap gauges.Jobs e))))
 
--- a wish is forbidden by too many tiles, by its sinks or by its observers
+-- a wish is forbidden by too many tiles, by its sinks, by its gauges or by its observers
 abbrev pub Forbids : RunFault → Type 0
 Forbids (Tiling fault) = ⊤
 Forbids (Sight fault) = ⊤
 Forbids (Sinks fault) = ⊤
+Forbids (Gauges fault) = ⊤
 Forbids fault = ⊥
 
 pub wish_forbids : (w : Wish) (g : Raster) (f : RunFault) → wish_fault w g ≡ Some f → Forbids f
@@ -79,13 +81,28 @@ wish_forbids w g f e = go (nat_lt most_tiles (tiles_of g w.tile)) e where
   sights None h = absurd (cc)
   sights (Some s) h = let same : Sight s ≡ f = cc in subst Forbids same tt
 
-  sinks : (o : Option SinkFault) → option_or (option_map Sinks o) (option_map Sight (map_fault g w.map)) ≡ Some f → Forbids f
-  sinks None h = sights (map_fault g w.map) h
+  of_gauge : (o : Option GaugeFault) → option_or (option_map Gauges o) (option_map Sight (map_fault g w.map)) ≡ Some f → Forbids f
+  of_gauge None h = sights (map_fault g w.map) h
+  of_gauge (Some s) h = let same : Gauges s ≡ f = cc in subst Forbids same tt
+
+  sinks : (o : Option SinkFault) → option_or (option_or (option_map Sinks o) (option_map Gauges (gauge_fault g w.map))) (option_map Sight (map_fault g w.map)) ≡ Some f → Forbids f
+  sinks None h = of_gauge (gauge_fault g w.map) h
   sinks (Some s) h = let same : Sinks s ≡ f = cc in subst Forbids same tt
 
-  go : (t : Bool) → cond t (Some (Tiling TooManyTiles)) (option_or (option_map Sinks (sinks_fault g.terrain w.sinks)) (option_map Sight (map_fault g w.map))) ≡ Some f → Forbids f
+  go : (t : Bool) → cond t (Some (Tiling TooManyTiles)) (option_or (place_fault w g) (option_map Sight (map_fault g w.map))) ≡ Some f → Forbids f
   go true h = let same : Tiling TooManyTiles ≡ f = cc in subst Forbids same tt
   go false h = sinks (sinks_fault g.terrain w.sinks) h
+
+-- what forbids a wish is a refusal of the work
+pub forbidden : (w : Wish) (g : Raster) (f : RunFault) → wish_fault w g ≡ Some f → IsWorkRefusal w g f
+forbidden w g (Jobs fault) h = absurd (wish_forbids w g _ h)
+forbidden w g (Tiling fault) h = h
+forbidden w g (Sight fault) h = h
+forbidden w g (Sinks fault) h = h
+forbidden w g (Gauges fault) h = h
+forbidden w g (Grid fault) h = h
+forbidden w g Read h = h
+forbidden w g Write h = h
 
 -- a refusal of the work at a text's grid is one at the text
 pub work_refused : (w : Wish) (text : List ℕ) (g : Raster) (f : RunFault) → IsGridText w.scale text g → IsWorkRefusal w g f → IsRunRefusal w text f
@@ -93,6 +110,7 @@ work_refused w text g (Jobs fault) is h = (g, is, h)
 work_refused w text g (Tiling fault) is h = (g, is, h)
 work_refused w text g (Sight fault) is h = (g, is, h)
 work_refused w text g (Sinks fault) is h = (g, is, h)
+work_refused w text g (Gauges fault) is h = (g, is, h)
 work_refused w text g (Grid fault) is h = absurd (wish_forbids w g _ h)
 work_refused w text g Read is h = tt
 work_refused w text g Write is h = absurd (wish_forbids w g _ h)
@@ -103,6 +121,7 @@ work_is_no_device w g (Jobs fault) h = (λ e. cc, λ e. cc)
 work_is_no_device w g (Tiling fault) h = (λ e. cc, λ e. cc)
 work_is_no_device w g (Sight fault) h = (λ e. cc, λ e. cc)
 work_is_no_device w g (Sinks fault) h = (λ e. cc, λ e. cc)
+work_is_no_device w g (Gauges fault) h = (λ e. cc, λ e. cc)
 work_is_no_device w g (Grid fault) h = (λ e. cc, λ e. cc)
 work_is_no_device w g Read h = absurd (wish_forbids w g _ h)
 work_is_no_device w g Write h = absurd (wish_forbids w g _ h)

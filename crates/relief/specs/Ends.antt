@@ -9,7 +9,7 @@ use Rattle.relief.specs.declared.fault.RunFault.{RunFault}
 use Rattle.relief.specs.FaultLine.{fault_line, fault_status}
 use Rattle.request.specs.Wish.{Wish}
 use Rattle.relief.specs.Runs.{Runs}
-use Rattle.request.specs.CommandLine.{AskForHelp, AreRefused, HasBadObserver, HasBadSink, IsHelp}
+use Rattle.request.specs.CommandLine.{AskForHelp, AreRefused, HasBadGauge, HasBadObserver, HasBadSink, IsHelp}
 
 -- The text was written, or a front part of it where the device has failed once more.
 abbrev pub Tells : {D : Type 0} → (D → Option (List ℕ)) → Device D → Device D → List ℕ → Type 0
@@ -31,12 +31,15 @@ pub record EndsRun {R W E : Type 0} (remaining : R → Option (List ℕ)) (conte
 abbrev pub EndsLine : List ℕ → Type 0
 EndsLine text = (front : List ℕ) × (text ≡ front ++ codes "\n")
 
--- What is told of refused words: of a bad observer or sink word its place, and of others what `clap` has to say.
+-- What is told of refused words: of a bad observer, gauge or sink word its place, and of others what
+-- `clap` has to say.
 pub record IsRefusalText (words : List Text) (text : List ℕ) : Type 0 where
   pub refused : AreRefused words
   pub line : EndsLine text
   pub bad_observer : (place : ℕ) → HasBadObserver words place →
       text ≡ codes "relief: bad observer word " ++ decimal place ++ codes "\n"
+  pub bad_gauge : (place : ℕ) → HasBadGauge words place →
+      text ≡ codes "relief: bad gauge word " ++ decimal place ++ codes "\n"
   pub bad_sink : (place : ℕ) → HasBadSink words place → text ≡ codes "relief: bad sink word " ++ decimal place ++ codes "\n"
 
 -- Nothing was read: the words ask for help or the version, which goes to the writer, or they are refused, which goes to the

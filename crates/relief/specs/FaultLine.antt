@@ -14,7 +14,9 @@ use Rattle.sight.specs.declared.fault.SightFault.TheVariants as sight
 use Rattle.terrain.specs.declared.sinks.SinkFault.{SinkFault}
 use Rattle.terrain.specs.declared.sinks.SinkFault.TheVariants as sinks
 use Rattle.relief.specs.declared.fault.RunFault.{RunFault}
-use Rattle.relief.specs.declared.fault.RunFault.TheVariants.{Grid, Tiling, Jobs, Sight, Sinks, Read, Write}
+use Rattle.flow.specs.declared.gauges.GaugeFault.{GaugeFault}
+use Rattle.flow.specs.declared.gauges.GaugeFault.TheVariants as gauges
+use Rattle.relief.specs.declared.fault.RunFault.TheVariants.{Grid, Tiling, Jobs, Sight, Sinks, Gauges, Read, Write}
 use Rattle.relief.specs.declared.fault.Detail.{Detail}
 use Rattle.relief.specs.declared.fault.Detail.TheVariants.{Slot, Count}
 
@@ -82,12 +84,19 @@ sinks_telling (sinks.OnNodata i) = detailed 47 (codes "SinkOnNodata") (decimal i
 sinks_telling sinks.TooManySinks = plain 48 (codes "TooManySinks")
 sinks_telling sinks.Memory = jobs_telling jobs.Memory
 
+abbrev pub gauges_telling : GaugeFault → Telling
+gauges_telling (gauges.Outside i) = detailed 61 (codes "GaugeOutside") (decimal i)
+gauges_telling (gauges.OnNodata i) = detailed 62 (codes "GaugeOnNodata") (decimal i)
+gauges_telling gauges.TooManyGauges = plain 63 (codes "TooManyGauges")
+gauges_telling (gauges.Jobs fault) = jobs_telling fault
+
 abbrev pub telling : RunFault → Telling
 telling (Grid fault) = grid_telling fault
 telling (Tiling fault) = tiling_telling fault
 telling (Jobs fault) = jobs_telling fault
 telling (Sight fault) = sight_telling fault
 telling (Sinks fault) = sinks_telling fault
+telling (Gauges fault) = gauges_telling fault
 telling Read = plain 51 (codes "Read")
 telling Write = plain 52 (codes "Write")
 

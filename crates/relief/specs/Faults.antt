@@ -5,9 +5,11 @@ use Rattle.sight.specs.declared.fault.SightFault.{SightFault}
 use Rattle.sight.specs.declared.fault.SightFault.TheVariants as sight
 use Rattle.terrain.specs.declared.sinks.SinkFault.{SinkFault}
 use Rattle.terrain.specs.declared.sinks.SinkFault.TheVariants as sinks
+use Rattle.flow.specs.declared.gauges.GaugeFault.{GaugeFault}
+use Rattle.flow.specs.declared.gauges.GaugeFault.TheVariants as gauges
 use Rattle.tile_jobs.specs.declared.JobFault.TheVariants as jobs
 use Rattle.relief.specs.declared.fault.RunFault.{RunFault}
-use Rattle.relief.specs.declared.fault.RunFault.TheVariants.{Grid, Jobs, Sight, Sinks, Read}
+use Rattle.relief.specs.declared.fault.RunFault.TheVariants.{Grid, Jobs, Sight, Sinks, Gauges, Read}
 
 abbrev pub of_input : InputFault → RunFault
 of_input (input.Grid fault) = Grid fault
@@ -21,3 +23,7 @@ of_sight fault = Sight fault
 abbrev pub of_sinks : SinkFault → RunFault
 of_sinks sinks.Memory = Jobs jobs.Memory
 of_sinks fault = Sinks fault
+
+abbrev pub of_gauges : GaugeFault → RunFault
+of_gauges (gauges.Jobs fault) = Jobs fault
+of_gauges fault = Gauges fault

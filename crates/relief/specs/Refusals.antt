@@ -1,5 +1,5 @@
--- Which refusals a run may answer, and in which order: the text's fault, too many tiles, the sinks' or the observers'
--- fault, the work's want of memory or of a thread, a failed write.
+-- Which refusals a run may answer, and in which order: the text's fault, too many tiles, the sinks'
+-- fault, the gauges' or the observers' fault, the work's want of memory or of a thread, a failed write.
 use Rattle.std.specs.Prelude.{◌≡◌, ℕ, ◌<◌, nat_lt, ⊤, if◌then◌else◌, List, Option, None, Some, option_map}
 use Rattle.std.specs.Option.{option_or}
 use Rattle.terrain.specs.Raster.{Raster}
@@ -8,12 +8,14 @@ use Rattle.ascii_grid.specs.GridText.{IsGridText, IsRefusal}
 use Rattle.tiles.specs.Cutting.{tile_count, most_tiles}
 use Rattle.tiles.specs.declared.tiling.TilingFault.TheVariants.{TooManyTiles}
 use Rattle.tile_jobs.specs.declared.JobFault.TheVariants as jobs
+use Rattle.flow.specs.Catchments.{gauges_fault}
+use Rattle.flow.specs.declared.gauges.GaugeFault.{GaugeFault}
 use Rattle.sight.specs.declared.fault.SightFault.{SightFault}
 use Rattle.sight.specs.Refusals.{observers_fault}
 use Rattle.request.specs.declared.map.Map.{Map}
-use Rattle.request.specs.declared.map.Map.TheVariants.{View}
+use Rattle.request.specs.declared.map.Map.TheVariants.{Catchments, View}
 use Rattle.relief.specs.declared.fault.RunFault.{RunFault}
-use Rattle.relief.specs.declared.fault.RunFault.TheVariants.{Grid, Tiling, Jobs, Sight, Sinks, Read, Write}
+use Rattle.relief.specs.declared.fault.RunFault.TheVariants.{Grid, Tiling, Jobs, Sight, Sinks, Gauges, Read, Write}
 use Rattle.request.specs.Wish.{Wish}
 
 -- How many tiles of this side a grid has.
@@ -25,11 +27,21 @@ abbrev pub map_fault : Raster → Map → Option SightFault
 map_fault g (View observers target radius) = observers_fault g.terrain observers.items target radius
 map_fault g map = None
 
+-- The gauges' fault; the other maps have no gauges.
+abbrev pub gauge_fault : Raster → Map → Option GaugeFault
+gauge_fault g (Catchments gauges) = gauges_fault g.terrain gauges.items
+gauge_fault g map = None
+
+-- The fault of the places that are named: of the sinks, and then of the gauges.
+abbrev pub place_fault : Wish → Raster → Option RunFault
+place_fault w g =
+    option_or (option_map Sinks (sinks_fault g.terrain w.sinks)) (option_map Gauges (gauge_fault g w.map))
+
 -- What forbids to map a grid, None where only the work is left.
 abbrev pub wish_fault : Wish → Raster → Option RunFault
 wish_fault w g =
     if nat_lt most_tiles (tiles_of g w.tile) then Some (Tiling TooManyTiles)
-    else option_or (option_map Sinks (sinks_fault g.terrain w.sinks)) (option_map Sight (map_fault g w.map))
+    else option_or (place_fault w g) (option_map Sight (map_fault g w.map))
 
 -- The refusal comes rightly for this grid: want of memory or of a thread where only the work is left.
 abbrev pub IsWorkRefusal : Wish → Raster → RunFault → Type 0

@@ -5,10 +5,11 @@ ghost use Rattle.clap.specs.Words.{kind_of};
 ghost use Rattle.request.specs.CommandLine.{WishFor, words_given};
 ghost use Rattle.relief.specs.Ends.{EndsLine, EndsRun, EndsShowing, EndsUnread, Tells};
 ghost use Rattle.relief.specs.FaultLine.{fault_line, fault_status};
+ghost use Rattle.relief.specs.Runs.{Runs};
 ghost use Rattle.request.specs.Wish.{Wish};
 
 use crate::fault::RunFault;
-use crate::running::run;
+use crate::running::{run, run_gated};
 use crate::telling::{tell, tell_bad_word};
 use ascii_grid::{Counted, WriteFailed};
 use clap::Error;
@@ -18,6 +19,17 @@ use std::alloc::Global;
 use std::io::{Read, Write};
 use std::sync::Wait;
 use std::thread::Threads;
+use tile_jobs::{Gate, NoGate};
+
+/// A gate that reports how far a run is.
+pub trait Progress: Gate {
+    /// Called when the run has ended, before its fault is told.
+    fn finish(&self);
+}
+
+impl Progress for NoGate {
+    fn finish(&self) {}
+}
 
 const DONE: u8 = 0;
 
@@ -70,9 +82,9 @@ fn show_error<W: Write, E: Write>(
 }
 
 /// Runs the program on its words, its name first, and answers the status with which it ends: 0 done,
-/// 1 words refused, 2 the text, the tiles, a sink or an observer refused, 3 no memory or no thread, 4 a device
+/// 1 words refused, 2 the text, the tiles, a sink, a gauge or an observer refused, 3 no memory or no thread, 4 a device
 /// failed. An empty list of words is taken for the name alone. Help and the version go to `writer`. What is
-/// refused is told on `errors`: a fault in its line, the first bad observer or sink word by its place, and of
+/// refused is told on `errors`: a fault in its line, the first bad observer, gauge or sink word by its place, and of
 /// other words what `clap` says. Where no fault or refusal is told `errors` stays as it is. That a device does not
 /// take what is told changes no status.
 pub fn run_words<H: Threads + Wait + Sync, R: Read, W: Write, E: Write>(
@@ -91,11 +103,42 @@ pub fn run_words<H: Threads + Wait + Sync, R: Read, W: Write, E: Write>(
         ⊎ ((wish : Wish) × WishFor (words_given (map (λ w. w.now) words.now)) wish
         × EndsRun R.remaining W.contents E.contents wish reader.old reader.new writer.old writer.new errors.old errors.new result) }
 {
+    run_words_reported(rt, alloc, words, reader, writer, errors, &NoGate)
+}
+
+/// [`run_words`] that calls `progress` where the words ask for a report of progress, and else not.
+pub fn run_words_reported<
+    H: Threads + Wait + Sync,
+    R: Read,
+    W: Write,
+    E: Write,
+    P: Progress + Sync,
+>(
+    rt: &H,
+    alloc: Global,
+    words: &[&str],
+    reader: &mut Counted<R>,
+    writer: &mut Counted<W>,
+    errors: &mut Counted<E>,
+    progress: &P,
+) -> u8
+    requires reader { reader.old.failures < 2 ^ 64 - 1 }
+    requires writer { writer.old.failures < 2 ^ 64 - 1 }
+    requires errors { errors.old.failures < 2 ^ 64 - 1 }
+    ensures small { result ≤ 4 }
+    ensures ends { EndsUnread W.contents E.contents (words_given (map (λ w. w.now) words.now)) reader.old reader.new writer.old writer.new errors.old errors.new result
+        ⊎ ((wish : Wish) × WishFor (words_given (map (λ w. w.now) words.now)) wish
+        × EndsRun R.remaining W.contents E.contents wish reader.old reader.new writer.old writer.new errors.old errors.new result) }
+{
     match parse(alloc, words) {
-        Ok(options) => run_options(rt, alloc, &options, reader, writer, errors),
+        Ok(options) => { run_options(rt, alloc, &options, reader, writer, errors, progress) },
         Err(WordsFault::Clap(error)) => show_error(alloc, &error, writer, errors),
         Err(WordsFault::BadObserver(place)) => {
             let _ = tell_bad_word(b"relief: bad observer word ", place, errors);
+            WORDS_REFUSED
+        }
+        Err(WordsFault::BadGauge(place)) => {
+            let _ = tell_bad_word(b"relief: bad gauge word ", place, errors);
             WORDS_REFUSED
         }
         Err(WordsFault::BadSink(place)) => {
@@ -106,13 +149,35 @@ pub fn run_words<H: Threads + Wait + Sync, R: Read, W: Write, E: Write>(
     }
 }
 
-fn run_options<H: Threads + Wait + Sync, R: Read, W: Write, E: Write>(
+/// Runs a map, with a report of progress where the options ask for it.
+fn run_reported<H: Threads + Wait + Sync, R: Read, W: Write, P: Progress + Sync>(
+    rt: &H,
+    alloc: Global,
+    options: &Options,
+    reader: &mut Counted<R>,
+    writer: &mut Counted<W>,
+    progress: &P,
+) -> Result<(), RunFault>
+    requires reader { reader.old.failures < 2 ^ 64 - 1 }
+    requires writer { writer.old.failures < 2 ^ 64 - 1 }
+    ensures { Runs R.remaining W.contents options.now reader.old reader.new writer.old writer.new result }
+{
+    if !options.progress() {
+        return run(rt, alloc, options, reader, writer);
+    }
+    let result = run_gated(rt, alloc, options, reader, writer, progress);
+    progress.finish();
+    result
+}
+
+fn run_options<H: Threads + Wait + Sync, R: Read, W: Write, E: Write, P: Progress + Sync>(
     rt: &H,
     alloc: Global,
     options: &Options,
     reader: &mut Counted<R>,
     writer: &mut Counted<W>,
     errors: &mut Counted<E>,
+    progress: &P,
 ) -> u8
     requires reader { reader.old.failures < 2 ^ 64 - 1 }
     requires writer { writer.old.failures < 2 ^ 64 - 1 }
@@ -120,7 +185,7 @@ fn run_options<H: Threads + Wait + Sync, R: Read, W: Write, E: Write>(
     ensures small { result ≤ 4 }
     ensures ends { EndsRun R.remaining W.contents E.contents options.now reader.old reader.new writer.old writer.new errors.old errors.new result }
 {
-    match run(rt, alloc, options, reader, writer) {
+    match run_reported(rt, alloc, options, reader, writer, progress) {
         Ok(()) => DONE,
         Err(fault) => end_with(&fault, errors),
     }

@@ -1,10 +1,11 @@
 //! The faults of a run, with their numbers, names and statuses.
 ghost use Rattle.std.specs.Prelude.{◌≡◌, ◌≤◌, length, option_map};
-ghost use Rattle.relief.specs.FaultLine.{telling, grid_telling, tiling_telling, jobs_telling, sight_telling, sinks_telling, fault_status, status_of, plain, detailed, slot_text, detail_text};
+ghost use Rattle.relief.specs.FaultLine.{telling, grid_telling, tiling_telling, jobs_telling, sight_telling, sinks_telling, gauges_telling, fault_status, status_of, plain, detailed, slot_text, detail_text};
 ghost use Rattle.relief.specs.declared.fault.RunFault.TheVariants.{Tiling, Jobs, Write};
-ghost use Rattle.relief.specs.Faults.{of_input, of_sight, of_sinks};
+ghost use Rattle.relief.specs.Faults.{of_gauges, of_input, of_sight, of_sinks};
 
 use ascii_grid::{GridFault, InputFault, Key, WriteFailed};
+use flow::GaugeFault;
 use sight::SightFault;
 use std::marker::Model;
 use terrain::SinkFault;
@@ -24,6 +25,8 @@ pub enum RunFault {
     Sight(SightFault),
     /// A named sink is at fault.
     Sinks(SinkFault),
+    /// A gauge is at fault.
+    Gauges(GaugeFault),
     /// The reader failed.
     Read,
     /// The writer failed.
@@ -80,6 +83,17 @@ impl From<SinkFault> for RunFault {
     }
 }
 
+impl From<GaugeFault> for RunFault {
+    ghost from_gives = { λ fault told. told ≡ of_gauges fault };
+
+    fn from(fault: GaugeFault) -> Self {
+        match fault {
+            GaugeFault::Jobs(fault) => RunFault::Jobs(fault),
+            fault => RunFault::Gauges(fault),
+        }
+    }
+}
+
 impl From<WriteFailed> for RunFault {
     ghost from_gives = { λ _ told. told ≡ Write };
 
@@ -115,7 +129,7 @@ impl Model for Notice {
 }
 
 impl RunFault {
-    /// The fault's number, from 1 to 52.
+    /// The fault's number, from 1 to 63.
     pub fn number(&self) -> u8
         ensures { result ≡ (telling self.now).number }
     {
@@ -140,6 +154,7 @@ impl RunFault {
             RunFault::Jobs(fault) => jobs_notice(fault),
             RunFault::Sight(fault) => sight_notice(fault),
             RunFault::Sinks(fault) => sinks_notice(fault),
+            RunFault::Gauges(fault) => gauges_notice(fault),
             RunFault::Read => plain(51, b"Read"),
             RunFault::Write => plain(52, b"Write"),
         }
@@ -238,6 +253,17 @@ fn sinks_notice(fault: &SinkFault) -> Notice
         SinkFault::OnNodata(place) => detailed(47, b"SinkOnNodata", Detail::Count(*place)),
         SinkFault::TooManySinks => plain(48, b"TooManySinks"),
         SinkFault::Memory => jobs_notice(&JobFault::Memory),
+    }
+}
+
+fn gauges_notice(fault: &GaugeFault) -> Notice
+    ensures { result ≡ gauges_telling fault.now }
+{
+    match fault {
+        GaugeFault::Outside(place) => detailed(61, b"GaugeOutside", Detail::Count(*place)),
+        GaugeFault::OnNodata(place) => detailed(62, b"GaugeOnNodata", Detail::Count(*place)),
+        GaugeFault::TooManyGauges => plain(63, b"TooManyGauges"),
+        GaugeFault::Jobs(fault) => jobs_notice(fault),
     }
 }
 

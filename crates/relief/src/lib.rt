@@ -21,8 +21,9 @@ mod running;
 mod telling;
 
 pub use ascii_grid::{Counted, GridFault, Key, Place, SinkFault, WriteFailed};
-pub use command::run_words;
+pub use command::{Progress, run_words, run_words_reported};
 pub use fault::RunFault;
+pub use flow::GaugeFault;
 pub use request::{Map, Options, VERSION, parse_observer, parse_sink};
 pub use running::{run, run_gated};
 pub use sight::{Observer, SightFault};

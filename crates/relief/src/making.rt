@@ -1,24 +1,26 @@
 //! Cuts a grid, names its sinks (`prepare`), and makes one map of it (`make_map`).
-ghost use Rattle.std.specs.Prelude.{◌≡◌, ◌<◌, ◌≤◌, ◌*◌, None, IfOk, IfErr, OnOk, option_map};
+ghost use Rattle.std.specs.Prelude.{◌≡◌, ◌<◌, ◌≤◌, ◌*◌, List, None, IfOk, IfErr, OnOk, option_map};
+ghost use Rattle.terrain.specs.declared.place.Place.{Place};
 ghost use Rattle.tiles.specs.Cutting.{Cuts, longest_side, most_tiles};
 ghost use Rattle.tile_jobs.specs.Fault.{RefusesWorkers};
 ghost use Rattle.drainage.specs.Drained.{directed_of};
 ghost use Rattle.drainage.specs.Filled.{IsFilledGrid};
+ghost use Rattle.flow.specs.Catchments.{gauges_fault};
 ghost use Rattle.relief.specs.MadeMap.{drained_into, made_text, FitsGrid};
 ghost use Rattle.relief.specs.MapText.{IsMapText, IsDrainage};
-ghost use Rattle.relief.specs.Refusals.{IsWorkRefusal, map_fault, wish_fault, tiles_of};
+ghost use Rattle.relief.specs.Refusals.{IsWorkRefusal, gauge_fault, map_fault, place_fault, wish_fault, tiles_of};
 
 use crate::fault::RunFault;
 use drain::directions;
 use drainage::Directions;
 use fill::filled;
-use flow::{accumulation, basins};
+use flow::{accumulation, basins, catchments, gauges_fault};
 use request::{Map, Options};
 use sight::viewshed;
 use std::alloc::Global;
 use std::sync::Wait;
 use std::thread::Threads;
-use terrain::{Count, Frame, Grid};
+use terrain::{Count, Frame, Grid, sinks_fault};
 use tile_jobs::{Gate, JobFault};
 use tiles::{Tiling, TilingFault};
 
@@ -43,6 +45,8 @@ fn drained<H: Threads + Wait + Sync, G: Gate + Sync>(
     ensures filled { IfOk result (λ r. IsFilledGrid grid r.0) }
     ensures drainage { IfOk result (λ r. IsDrainage grid (directed_of r.1)) }
     ensures size { IfOk result (λ r. Cuts tiling.now r.1.terrain) }
+    ensures gauges { IfOk result (λ r. (gauges : List Place)
+        → gauges_fault r.1.terrain gauges ≡ gauges_fault grid.terrain gauges) }
     ensures workers { RefusesWorkers workers result }
 {
     let filled = filled(rt, alloc, grid, tiling, workers, gate)?;
@@ -61,7 +65,23 @@ fn cut(grid: &Grid, side: u32) -> Result<Tiling, TilingFault>
     Tiling::new(grid.cols(), grid.rows(), side)
 }
 
-/// Cuts a grid into tiles, and gives it the sinks asked for. Without sinks it is not copied.
+/// The fault of the sinks, or else of the gauges, that are asked for.
+fn place_fault(options: &Options, grid: &Grid) -> Option<RunFault>
+    ensures { result ≡ place_fault options.now grid.now }
+{
+    if let Some(fault) = sinks_fault(grid, options.sinks()) {
+        return Some(RunFault::Sinks(fault));
+    }
+    if let Map::Catchments { gauges } = options.map() {
+        if let Some(fault) = gauges_fault(grid, gauges) {
+            return Some(RunFault::Gauges(fault));
+        }
+    }
+    None
+}
+
+/// Cuts a grid into tiles, judges the sinks and gauges, and gives it the sinks asked for. Without
+/// sinks it is not copied.
 pub(crate) fn prepare(
     alloc: Global,
     options: &Options,
@@ -70,9 +90,13 @@ pub(crate) fn prepare(
     ensures grid { IfOk result (λ p. p.0 ≡ drained_into options.now.sinks grid) }
     ensures cuts { IfOk result (λ p. Cuts p.1 p.0.terrain) }
     ensures sound { IfOk result (λ p. wish_fault options.now p.0 ≡ option_map RunFault.Sight (map_fault p.0 options.now.map)) }
+    ensures gauges { IfOk result (λ p. gauge_fault p.0 options.now.map ≡ None) }
     ensures fault { IfErr result (λ f. IsWorkRefusal options.now grid f) }
 {
     let tiling = cut(&grid, options.tile())?;
+    if let Some(fault) = place_fault(options, &grid) {
+        return Err(fault);
+    }
     let sinks = options.sinks();
     if sinks.is_empty() {
         return Ok((grid, tiling));
@@ -92,6 +116,7 @@ pub(crate) fn make_map<H: Threads + Wait + Sync, G: Gate + Sync>(
 ) -> Result<MadeMap, RunFault>
     requires cuts { Cuts tiling.now grid.terrain }
     requires sound { wish_fault options.now grid ≡ option_map RunFault.Sight (map_fault grid options.now.map) }
+    requires gauges { gauge_fault grid options.now.map ≡ None }
     ensures map { IfOk result (λ m. IsMapText grid options.now.map (made_text m)) }
     ensures size { IfOk result (λ m. FitsGrid m) }
     ensures ready { OnOk result (wish_fault options.now grid ≡ None) }
@@ -115,6 +140,11 @@ pub(crate) fn make_map<H: Threads + Wait + Sync, G: Gate + Sync>(
         Map::Basins => {
             let (frame, directions) = drained(rt, alloc, grid, tiling, workers, gate)?;
             let numbers = basins(rt, alloc, &directions, tiling, workers, gate)?;
+            Ok(MadeMap::Counts(frame, numbers))
+        }
+        Map::Catchments { gauges } => {
+            let (frame, directions) = drained(rt, alloc, grid, tiling, workers, gate)?;
+            let numbers = catchments(rt, alloc, &directions, gauges, tiling, workers, gate)?;
             Ok(MadeMap::Counts(frame, numbers))
         }
         Map::View {

@@ -23,8 +23,8 @@ use tile_maps::Crew;
 /// bytes read spell, with the sinks asked for, for every tile size, number of workers and schedule. Nothing is written before the
 /// map is whole, and from the first byte on only [`RunFault::Write`] can come and no memory is taken.
 ///
-/// Refusals in their order: a fault of the text, or a failed read; too many tiles; the sinks' or the
-/// observers' fault; want of memory or of a thread; a failed write.
+/// Refusals in their order: a fault of the text, or a failed read; too many tiles; the sinks' fault;
+/// the gauges' or the observers' fault; want of memory or of a thread; a failed write.
 pub fn run<H: Threads + Wait + Sync, R: Read, W: Write>(
     rt: &H,
     alloc: Global,

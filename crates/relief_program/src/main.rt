@@ -1,8 +1,11 @@
-//! The program `relief`: passes the process's words and streams to `run_words`.
+//! The program `relief`: passes the process's words and streams to `run_words_reported`.
 #![tactic(auto)]
 
+mod progress;
+
 use ascii_grid::Counted;
-use relief::run_words;
+use progress::ProgressReport;
+use relief::run_words_reported;
 use std::alloc::Global;
 use std::env;
 use std::io::{self, ErrorKind};
@@ -51,12 +54,14 @@ fn main(rt: HostRuntime) -> ExitCode {
     let mut reader = Counted::new(rt.stdin());
     let mut writer = Counted::new(rt.stdout());
     let mut errors = Counted::new(rt.stderr());
-    ExitCode::from(run_words(
+    let progress = ProgressReport::new(&rt, rt.alloc(), rt.stderr());
+    ExitCode::from(run_words_reported(
         &rt,
         rt.alloc(),
         &words,
         &mut reader,
         &mut writer,
         &mut errors,
+        &progress,
     ))
 }

@@ -5,7 +5,7 @@ use ascii_grid::{Counted, read_text};
 use drain::directions;
 use fill::filled;
 use flow::{accumulation, basins};
-use relief::{Map, Options, run_gated};
+use relief::{Map, Options, Place, run_gated};
 use sight::{Observer, viewshed};
 use std::alloc::Global;
 use std::process::Abort;
@@ -253,6 +253,19 @@ fn tiles_meet(rt: HostRuntime) {
         gate.expect_met(&rt, least, lines);
         expect_map(&rt, alloc, &out, 4, 4, lines);
     }
+}
+
+/// Of catchments too the first two of four tiles are in work at once, at each stage.
+#[test]
+fn tiles_of_catchments_meet(rt: HostRuntime) {
+    let alloc = rt.alloc();
+    let mut gauges = Vec::new(alloc);
+    gauges.push(Place { row: 2, col: 2 }).expect(&rt, "a gauge");
+    let gate = Meeting::new();
+    let out = gated_map(&rt, alloc, PITS, 2, Map::Catchments { gauges }, &gate);
+    gate.expect_met(&rt, 4, "catchments");
+    let lines = "\n1 1 1 0\n1 1 1 1\n1 1 1 0\n0 1 0 0\n";
+    expect_map(&rt, alloc, &out, 4, 4, lines);
 }
 
 /// The stages of a run are those of all its calls: three of `filled`, four of `directions`, two of

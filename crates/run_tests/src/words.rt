@@ -1,10 +1,12 @@
 //! The command line, and the lines and numbers of faults.
 use relief::{
-    Counted, GridFault, JobFault, Key, Map, Observer, Options, Place, RunFault, SightFault,
-    SinkFault, TilingFault, VERSION, WriteFailed, parse_observer, parse_sink, run_words, tell,
+    Counted, Gate, GaugeFault, GridFault, JobFault, Key, Map, Observer, Options, Place, Progress,
+    RunFault, SightFault, SinkFault, TilingFault, VERSION, WriteFailed, parse_observer, parse_sink,
+    run_words, run_words_reported, tell,
 };
 use std::alloc::Global;
 use std::sync::Wait;
+use std::sync::atomic::{AtomicU64, Ordering};
 use std::test::Fail;
 use std::thread::Threads;
 
@@ -49,6 +51,21 @@ fn words_and_statuses(rt: HostRuntime) {
             1,
             b"relief: bad observer word 1\n".as_slice(),
         ),
+        (
+            ["relief", "catchments", "0,0", "0,3"].as_slice(),
+            2,
+            b"relief: 61 GaugeOutside 1\n".as_slice(),
+        ),
+        (
+            ["relief", "catchments", "--sink", "3,0", "3,0"].as_slice(),
+            2,
+            b"relief: 46 SinkOutside 0\n".as_slice(),
+        ),
+        (
+            ["relief", "catchments", "0,0", "0"].as_slice(),
+            1,
+            b"relief: bad gauge word 1\n".as_slice(),
+        ),
         (["relief", "--help"].as_slice(), 0, b"".as_slice()),
     ] {
         let told = told_by(&rt, rt.alloc(), words);
@@ -71,12 +88,13 @@ fn no_words_and_refused_words(rt: HostRuntime) {
     assert!(rt; are_refused(&rt, alloc, &["relief", "fill", "--tile", "0"]));
     assert!(rt; are_refused(&rt, alloc, &["relief", "fill", "--workers", "65"]));
     assert!(rt; are_refused(&rt, alloc, &["relief", "help"]));
+    assert!(rt; are_refused(&rt, alloc, &["relief", "catchments"]));
 }
 
 /// The help of a map says what goes in and comes out, and names its defaults, limits and statuses.
 #[test]
 fn help_of_each_map(rt: HostRuntime) -> Result<(), Fail> {
-    for name in ["fill", "flow", "accumulate", "basins", "view"] {
+    for name in ["fill", "flow", "accumulate", "basins", "catchments", "view"] {
         let told = told_by(&rt, rt.alloc(), ["relief", name, "--help"].as_slice());
         assert_eq!(rt; told.status, 0, "{name}");
         assert!(rt; told.errors.is_empty(), "{name}");
@@ -186,6 +204,14 @@ fn fault_lines(rt: HostRuntime) -> Result<(), Fail> {
             RunFault::Sinks(SinkFault::OnNodata(1)),
             b"relief: 47 SinkOnNodata 1\n".as_slice(),
         ),
+        (
+            RunFault::Gauges(GaugeFault::OnNodata(1)),
+            b"relief: 62 GaugeOnNodata 1\n".as_slice(),
+        ),
+        (
+            RunFault::Gauges(GaugeFault::TooManyGauges),
+            b"relief: 63 TooManyGauges\n".as_slice(),
+        ),
         (RunFault::Read, b"relief: 51 Read\n".as_slice()),
     ] {
         let mut out = Vec::new(rt.alloc());
@@ -215,4 +241,86 @@ fn options_in_their_limits(rt: HostRuntime) {
             "{tile} {workers} {scale}"
         );
     }
+}
+
+/// Counts what a run reports to a gate.
+#[derive(Drop)]
+struct Tally {
+    stages: AtomicU64,
+    jobs: AtomicU64,
+    parts: AtomicU64,
+    ends: AtomicU64,
+}
+
+impl Gate for Tally {
+    fn enter(&self, _job: u32) {}
+
+    fn begin_stage(&self, _jobs: u32) {
+        self.stages.fetch_add(1, Ordering::SeqCst);
+    }
+
+    fn leave(&self, _job: u32) {
+        self.jobs.fetch_add(1, Ordering::SeqCst);
+    }
+
+    fn finish_part(&self, _parts: usize) {
+        self.parts.fetch_add(1, Ordering::SeqCst);
+    }
+}
+
+impl Progress for Tally {
+    fn finish(&self) {
+        self.ends.fetch_add(1, Ordering::SeqCst);
+    }
+}
+
+/// Stages, jobs, parts and ends that the words report over the bowl of four tiles of side 2.
+fn reported<R: Threads + Wait + Sync>(rt: &R, alloc: Global, words: &[&str]) -> [u64; 4] {
+    let tally = Tally {
+        stages: AtomicU64::new(0),
+        jobs: AtomicU64::new(0),
+        parts: AtomicU64::new(0),
+        ends: AtomicU64::new(0),
+    };
+    let mut out = Vec::new(alloc);
+    let mut errors = Vec::new(alloc);
+    let mut reader = Counted::new(BOWL);
+    let mut writer = Counted::new(&mut out);
+    let mut lines = Counted::new(&mut errors);
+    run_words_reported(
+        rt,
+        alloc,
+        words,
+        &mut reader,
+        &mut writer,
+        &mut lines,
+        &tally,
+    );
+    [
+        tally.stages.load(Ordering::SeqCst),
+        tally.jobs.load(Ordering::SeqCst),
+        tally.parts.load(Ordering::SeqCst),
+        tally.ends.load(Ordering::SeqCst),
+    ]
+}
+
+/// A viewshed has two stages of four jobs, and a job of the second a part for each observer.
+#[test]
+fn progress_where_asked_for(rt: HostRuntime) {
+    let alloc = rt.alloc();
+    let asked = [
+        "relief",
+        "view",
+        "--tile=2",
+        "--workers=2",
+        "--progress",
+        "0,0,0",
+        "1,1,0",
+        "2,2,0",
+    ];
+    assert_eq!(rt; reported(&rt, alloc, asked.as_slice()), [2, 8, 12, 1]);
+    let refused = ["relief", "view", "--tile=2", "--progress", "3,0,0"];
+    assert_eq!(rt; reported(&rt, alloc, refused.as_slice()), [0, 0, 0, 1]);
+    let silent = ["relief", "view", "--tile=2", "0,0,0"];
+    assert_eq!(rt; reported(&rt, alloc, silent.as_slice()), [0, 0, 0, 0]);
 }

@@ -1,15 +1,18 @@
-use Rattle.std.proofs.Common.{◌≡◌, ℕ, List, Option, ap, refl, subst, sym, ◌∙◌}
+use Rattle.std.proofs.Common.{◌≡◌, ℕ, List, Option, None, ap, refl, subst, sym, ◌∙◌}
 use Rattle.std.specs.Option.{option_map}
 use Rattle.std.proofs.lemmas.Result.{err_from_is_err_and}
 use Rattle.relief.specs.declared.fault.RunFault.TheVariants.{Sight}
-use Rattle.relief.specs.Refusals.{map_fault}
+use Rattle.relief.specs.Refusals.{gauge_fault, map_fault}
 use Rattle.sight.specs.Refusals.{observers_fault}
-use Rattle.relief.proofs.Viewing.{no_fault, view_refused}
+use Rattle.sight.proofs.Refused.{not_jobs}
+use Rattle.relief.proofs.Viewing.{catchments_refused, no_fault, view_refused}
 use Rattle.terrain.specs.Raster.{Raster}
 use Rattle.ascii_grid.specs.Text.{counts_text, heights_text}
 use Rattle.drainage.specs.Drained.{directed_of}
 use Rattle.drainage.specs.Filled.{IsFilledGrid}
 use Rattle.request.specs.declared.map.Map.{Map}
+use Rattle.request.specs.declared.map.Map.TheVariants.{Catchments}
+use Rattle.flow.specs.Catchments.{gauges_fault}
 use Rattle.relief.specs.MapText.{IsMapText}
 use Rattle.relief.proofs.making.make_map.Goals as goal
 
@@ -43,11 +46,32 @@ returns-in_ok-numbers-in-Basins-clause-map g c =
     subst (λ (m : Map). IsMapText c.args.grid m (counts_text grid values)) (sym (sym c.map.ensures ∙ c.in-Basins.is))
     (directed_of c.in_ok-frame-in-Basins.directions, values, c.in_ok-frame-in-Basins.ensures.drainage, c.in_ok-numbers-in-Basins.ensures.values, same_text c.args.grid grid values c.in_ok-frame-in-Basins.ensures.filled)
 
+pub returns-in_ok-numbers-in-Catchments-clause-map : goal.returns-in_ok-numbers-in-Catchments-clause-map
+returns-in_ok-numbers-in-Catchments-clause-map g c =
+    let grid = c.in_ok-frame-in-Catchments.frame in
+    let values = c.in_ok-numbers-in-Catchments.numbers.items in
+    subst (λ (m : Map). IsMapText c.args.grid m (counts_text grid values)) (sym (sym c.map.ensures ∙ c.in-Catchments.is))
+    (directed_of c.in_ok-frame-in-Catchments.directions, values, c.in_ok-frame-in-Catchments.ensures.drainage, rw c.deref.ensures.value at c.in_ok-numbers-in-Catchments.ensures.values, same_text c.args.grid grid values c.in_ok-frame-in-Catchments.ensures.filled)
+
+pub returns-in_err-numbers-in-Catchments-clause-fault : goal.returns-in_err-numbers-in-Catchments-clause-fault
+returns-in_err-numbers-in-Catchments-clause-fault g c =
+    let p = err_from_is_err_and c.from_residual-in_err-numbers-in-Catchments.result c.from_residual-in_err-numbers-in-Catchments.ensures.1 in
+    let w = c.args.options.now in
+    let grid = c.args.grid in
+    let gauges = c.in-Catchments.gauges.items in
+    let is : w.map ≡ Catchments c.in-Catchments.gauges = sym c.map.ensures ∙ c.in-Catchments.is in
+    let asked : gauge_fault grid w.map ≡ gauges_fault grid.terrain gauges = ap (λ m. gauge_fault grid m) is in
+    let unseen : map_fault grid w.map ≡ None = ap (λ m. map_fault grid m) is in
+    let sound = c.in_ok-frame-in-Catchments.ensures.gauges gauges ∙ sym asked ∙ c.requires.gauges in
+    let refusals = rw (c.deref.ensures.value, c.workers-workers.ensures.value) at c.in_err-numbers-in-Catchments.ensures.refusals in
+    rw (p.1, p.2) (catchments_refused w grid _ c.in_err-numbers-in-Catchments.field-0.0 c.workers-workers.ensures.limits.2 c.workers-workers.ensures.limits.3 sound
+    (c.requires.sound ∙ ap (λ o. option_map Sight o) unseen) refusals)
+
 pub returns-in_ok-counts-in-View-clause-map : goal.returns-in_ok-counts-in-View-clause-map
 returns-in_ok-counts-in-View-clause-map g c =
     let values = c.in_ok-counts-in-View.counts.items in
     subst (λ (m : Map). IsMapText c.args.grid m (counts_text c.into_frame.result values)) (sym (sym c.map.ensures ∙ c.in-View.is))
-    (values, rw c.deref.ensures.value at c.in_ok-counts-in-View.ensures.values, ap (λ (r : Raster). counts_text r values) c.into_frame.ensures)
+    (values, rw c.deref-in-View.ensures.value at c.in_ok-counts-in-View.ensures.values, ap (λ (r : Raster). counts_text r values) c.into_frame.ensures)
 
 pub returns-in_err-counts-in-View-clause-fault : goal.returns-in_err-counts-in-View-clause-fault
 returns-in_err-counts-in-View-clause-fault g c =
@@ -55,13 +79,14 @@ returns-in_err-counts-in-View-clause-fault g c =
     let w = c.args.options.now in
     let grid = c.args.grid in
     let asked : map_fault grid w.map ≡ observers_fault grid.terrain c.in-View.observers.items c.in-View.target c.in-View.radius = ap (λ m. map_fault grid m) (sym c.map.ensures ∙ c.in-View.is) in
-    let refusals = rw (c.deref.ensures.value, c.workers-workers.ensures.value) at c.in_err-counts-in-View.ensures.refusals in
-    let told = rw (← asked) at refusals in
-    rw (p.1, p.2) (view_refused w grid c.in_err-counts-in-View.field-0.0 c.workers-workers.ensures.limits.2 c.workers-workers.ensures.limits.3 c.requires.sound told)
+    let refusals = rw (c.deref-in-View.ensures.value, c.workers-workers.ensures.value) at c.in_err-counts-in-View.ensures.refusals in
+    rw (p.1, p.2) (view_refused w grid _ c.in_err-counts-in-View.field-0.0 c.workers-workers.ensures.limits.2 c.workers-workers.ensures.limits.3
+    (λ x. not_jobs x grid.terrain c.in-View.observers.items c.in-View.target c.in-View.radius)
+    (c.requires.sound ∙ ap (λ o. option_map Sight o) asked) refusals)
 
 pub returns-in_ok-counts-in-View-clause-ready : goal.returns-in_ok-counts-in-View-clause-ready
 returns-in_ok-counts-in-View-clause-ready g c =
     let w = c.args.options.now in
     let grid = c.args.grid in
     let asked : map_fault grid w.map ≡ observers_fault grid.terrain c.in-View.observers.items c.in-View.target c.in-View.radius = ap (λ m. map_fault grid m) (sym c.map.ensures ∙ c.in-View.is) in
-    c.requires.sound ∙ ap (λ o. option_map Sight o) (asked ∙ no_fault _ _ _ (rw c.deref.ensures.value at c.in_ok-counts-in-View.ensures.refusals))
+    c.requires.sound ∙ ap (λ o. option_map Sight o) (asked ∙ no_fault _ _ _ (rw c.deref-in-View.ensures.value at c.in_ok-counts-in-View.ensures.refusals))

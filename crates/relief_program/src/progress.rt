@@ -1,0 +1,146 @@
+//! Reports on standard error how far a run is: [`ProgressReport`].
+use relief::{Gate, Progress};
+use std::alloc::Global;
+use std::io::{IsTerminal, Stderr, Write};
+use std::sync::{Mutex, Wait};
+use std::time::{Clock, Instant};
+
+/// The least time between two reports on a terminal, in milliseconds.
+const LEAST_PAUSE: u128 = 100;
+
+/// The bytes that go to the line's begin and clear it.
+const CLEAR_LINE: &[u8] = b"\r\x1b[K";
+
+/// How far a stage is, and where that is reported.
+#[derive(Drop)]
+struct Stage {
+    errors: Stderr,
+    number: u32,
+    jobs: u64,
+    finished_jobs: u64,
+    // of all jobs, and how many a job has: 0 where jobs have none
+    finished_parts: u64,
+    parts: u64,
+    reported_tenths: u64,
+    last_report: Option<Instant>,
+}
+
+impl Stage {
+    /// How much of the stage is finished, from 0 to 100.
+    fn percent(&self) -> u64 {
+        let (finished, due) = if self.parts > 0 {
+            (self.finished_parts, self.jobs.saturating_mul(self.parts))
+        } else {
+            (self.finished_jobs, self.jobs)
+        };
+        finished
+            .saturating_mul(100)
+            .checked_div(due)
+            .unwrap_or(100)
+            .min(100)
+    }
+
+    /// Writes a line in the place of the last one, unless that was written just now.
+    fn report_in_place(&mut self, alloc: Global, clock: &impl Clock) {
+        let Ok(now) = Instant::now(clock) else {
+            return;
+        };
+        if let Some(last) = self.last_report {
+            if now.duration_since(last).as_millis() < LEAST_PAUSE {
+                return;
+            }
+        }
+        self.last_report = Some(now);
+        let percent = self.percent();
+        if let Ok(line) = format!(in alloc; "\r\x1b[Krelief: stage {}: {percent} %", self.number) {
+            let _ = self.errors.write_all(line.as_bytes());
+        }
+    }
+
+    /// Writes a line where a further tenth is finished.
+    fn report_tenths(&mut self, alloc: Global) {
+        let tenths = self.percent() / 10;
+        if tenths <= self.reported_tenths {
+            return;
+        }
+        self.reported_tenths = tenths;
+        if let Ok(line) = format!(in alloc; "relief: stage {}: {tenths}0 %\n", self.number) {
+            let _ = self.errors.write_all(line.as_bytes());
+        }
+    }
+}
+
+/// A gate that reports how far each stage of a run is: on a terminal in one line, written anew in
+/// place at most ten times a second, and elsewhere in a line for each tenth.
+///
+/// What the errors do not take is lost. No memory for a line is no fault: the line is left out.
+#[derive(Drop)]
+pub struct ProgressReport<'a, R> {
+    rt: &'a R,
+    alloc: Global,
+    is_in_place: bool,
+    stage: Mutex<Stage>,
+}
+
+impl<'a, R: Clock + Wait> ProgressReport<'a, R> {
+    pub fn new(rt: &'a R, alloc: Global, errors: Stderr) -> Self {
+        ProgressReport {
+            rt,
+            alloc,
+            is_in_place: errors.is_terminal(),
+            stage: Mutex::new(Stage {
+                errors,
+                number: 0,
+                jobs: 0,
+                finished_jobs: 0,
+                finished_parts: 0,
+                parts: 0,
+                reported_tenths: 0,
+                last_report: None,
+            }),
+        }
+    }
+
+    fn report(&self, stage: &mut Stage) {
+        if self.is_in_place {
+            stage.report_in_place(self.alloc, self.rt);
+        } else {
+            stage.report_tenths(self.alloc);
+        }
+    }
+}
+
+impl<'a, R: Clock + Wait> Gate for ProgressReport<'a, R> {
+    fn enter(&self, _job: u32) {}
+
+    fn begin_stage(&self, jobs: u32) {
+        let mut stage = self.stage.lock(self.rt);
+        stage.number = stage.number.saturating_add(1);
+        stage.jobs = u64::from(jobs);
+        stage.finished_jobs = 0;
+        stage.finished_parts = 0;
+        stage.parts = 0;
+        stage.reported_tenths = 0;
+    }
+
+    fn leave(&self, _job: u32) {
+        let mut stage = self.stage.lock(self.rt);
+        stage.finished_jobs = stage.finished_jobs.saturating_add(1);
+        self.report(&mut stage);
+    }
+
+    fn finish_part(&self, parts: usize) {
+        let mut stage = self.stage.lock(self.rt);
+        stage.parts = parts as u64;
+        stage.finished_parts = stage.finished_parts.saturating_add(1);
+        self.report(&mut stage);
+    }
+}
+
+impl<'a, R: Clock + Wait> Progress for ProgressReport<'a, R> {
+    fn finish(&self) {
+        if self.is_in_place {
+            let _ = self.stage.lock(self.rt).errors.write_all(CLEAR_LINE);
+        }
+    }
+}
