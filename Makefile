@@ -14,6 +14,10 @@ test:
 	cp crates/relief_program/out/relief_program relief
 	tests/run ./relief
 	tests/texts ./relief
+	tests/catchments ./relief
+	tests/progress ./relief
+	tests/sights ./relief
+	tests/limits ./relief
 	tests/pictures
 	tests/tools ./relief
 	tests/install ./relief
