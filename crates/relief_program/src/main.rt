@@ -8,7 +8,7 @@ use progress::ProgressReport;
 use relief::run_words_reported;
 use std::alloc::Global;
 use std::env;
-use std::io::{self, ErrorKind};
+use std::io::{self, ErrorKind, Write};
 use std::process::ExitCode;
 use std::rt::Env;
 
@@ -19,12 +19,13 @@ const NO_MEMORY: u8 = 3;
 /// The longest list that the C library's allocator keeps, in bytes: with its own words in front, the last whole page below 32 MiB.
 const LONGEST_KEPT: usize = (1 << 25) - (1 << 13);
 
-fn status_of(error: &io::Error) -> u8 {
+/// Reports why the words cannot be read; returns the status.
+fn refuse_words(error: &io::Error, errors: &mut impl Write) -> u8 {
     if error.kind() == ErrorKind::OutOfMemory {
-        NO_MEMORY
-    } else {
-        WORDS_REFUSED
+        return NO_MEMORY;
     }
+    let _ = errors.write_all(b"relief: a word is not UTF-8\n");
+    WORDS_REFUSED
 }
 
 fn read_words(rt: &(impl Env + AllocGlobal)) -> io::Result<Vec<String>> {
@@ -42,7 +43,7 @@ fn main(rt: HostRuntime) -> ExitCode {
     keep_lists_let_go(rt.alloc());
     let words = match read_words(&rt) {
         Ok(words) => words,
-        Err(error) => return ExitCode::from(status_of(&error)),
+        Err(error) => return ExitCode::from(refuse_words(&error, &mut rt.stderr())),
     };
     let Ok(words) = words
         .iter()

@@ -4,10 +4,13 @@
 //!
 //! - `runs`: from bytes to bytes
 //! - `reading`: long texts in short pieces
-//! - `meeting`: tiles at once
+//! - `meeting`: two tiles at once
+//! - `crowding`: as many tiles at once as workers
 //! - `words`: command line and faults
 #![tactic(auto)]
 
+#[cfg(test)]
+mod crowding;
 #[cfg(test)]
 mod meeting;
 #[cfg(test)]

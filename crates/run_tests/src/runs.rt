@@ -92,26 +92,34 @@ impl Write for Short {
     }
 }
 
+/// Numbers of workers, of which each way of reading and writing has one.
+const WORKERS: [u32; 3] = [1, 2, 8];
+
 /// Runs `fill` on the bowl into a writer, which then has this much of the map and fails as often.
 fn expect_written(
     rt: &(impl Abort + Threads + Wait + Sync),
     alloc: Global,
+    workers: u32,
     mut short: Short,
     length: usize,
     failures: u64,
 ) -> Result<(), Fail> {
-    let options = Options::new(Map::Fill, 256, 1, 0).ok_or("options")?;
+    let options = Options::new(Map::Fill, 256, workers, 0).ok_or("options")?;
     let mut reader = Counted::new(BOWL);
     let mut writer = Counted::new(&mut short);
     let result = run(rt, alloc, &options, &mut reader, &mut writer);
-    assert_eq!(rt; writer.failures(), failures, "{length} bytes");
+    assert_eq!(rt;
+        writer.failures(),
+        failures,
+        "{length} bytes, {workers} workers"
+    );
     drop(writer);
     let wanted = if failures == 0 {
         Ok(())
     } else {
         Err(RunFault::Write)
     };
-    assert_eq!(rt; result, wanted, "{length} bytes");
+    assert_eq!(rt; result, wanted, "{length} bytes, {workers} workers");
     assert_eq!(rt; short.taken.len(), length);
     assert!(rt; FILLED.starts_with(&short.taken), "{length} bytes");
     Ok(())
@@ -135,16 +143,15 @@ fn bowl_of_nines(rt: HostRuntime) -> Result<(), Fail> {
 #[test]
 fn a_writer_that_fails(rt: HostRuntime) -> Result<(), Fail> {
     let alloc = rt.alloc();
-    for room in 0..FILLED.len() {
-        expect_written(&rt, alloc, Short::new(alloc, ALL, room), room, 1)?;
+    let length = FILLED.len();
+    for workers in WORKERS {
+        let step = if workers == 1 { 1 } else { 9 };
+        for room in (0..length).step_by(step) {
+            expect_written(&rt, alloc, workers, Short::new(alloc, ALL, room), room, 1)?;
+        }
+        let roomy = Short::new(alloc, ALL, length);
+        expect_written(&rt, alloc, workers, roomy, length, 0)?;
     }
-    expect_written(
-        &rt,
-        alloc,
-        Short::new(alloc, ALL, FILLED.len()),
-        FILLED.len(),
-        0,
-    )?;
     assert_eq!(rt; RunFault::Write.number(), 52);
     assert_eq!(rt; RunFault::Write.status(), 4);
     Ok(())
@@ -153,18 +160,25 @@ fn a_writer_that_fails(rt: HostRuntime) -> Result<(), Fail> {
 #[test]
 fn a_writer_of_single_bytes(rt: HostRuntime) -> Result<(), Fail> {
     let alloc = rt.alloc();
-    expect_written(&rt, alloc, Short::new(alloc, 1, ALL), FILLED.len(), 0)?;
-    let mut stuck = Short::new(alloc, 1, 2);
-    stuck.stuck = true;
-    expect_written(&rt, alloc, stuck, 2, 1)
+    for workers in WORKERS {
+        let single = Short::new(alloc, 1, ALL);
+        expect_written(&rt, alloc, workers, single, FILLED.len(), 0)?;
+        let mut stuck = Short::new(alloc, 1, 2);
+        stuck.stuck = true;
+        expect_written(&rt, alloc, workers, stuck, 2, 1)?;
+    }
+    Ok(())
 }
 
 #[test]
 fn a_flush_that_fails(rt: HostRuntime) -> Result<(), Fail> {
     let alloc = rt.alloc();
-    let mut short = Short::new(alloc, ALL, ALL);
-    short.flushes = false;
-    expect_written(&rt, alloc, short, FILLED.len(), 1)
+    for workers in WORKERS {
+        let mut short = Short::new(alloc, ALL, ALL);
+        short.flushes = false;
+        expect_written(&rt, alloc, workers, short, FILLED.len(), 1)?;
+    }
+    Ok(())
 }
 
 /// A reader of seven bytes a call that fails at this one.
@@ -191,10 +205,11 @@ impl Read for Sevens<'_> {
 fn run_of_sevens(
     rt: &(impl Abort + Threads + Wait + Sync),
     alloc: Global,
+    workers: u32,
     calls: u32,
     kind: io::ErrorKind,
 ) -> Result<Result<(), RunFault>, Fail> {
-    let options = Options::new(Map::Fill, 256, 1, 0).ok_or("options")?;
+    let options = Options::new(Map::Fill, 256, workers, 0).ok_or("options")?;
     let mut out = Vec::new(alloc);
     let mut reader = Counted::new(Sevens {
         bytes: BOWL,
@@ -213,14 +228,20 @@ fn run_of_sevens(
 #[test]
 fn a_reader_that_fails_once(rt: HostRuntime) -> Result<(), Fail> {
     let alloc = rt.alloc();
-    for calls in 0..11 {
-        let result = run_of_sevens(&rt, alloc, calls, io::ErrorKind::Other)?;
-        assert_eq!(rt; result, Err(RunFault::Read), "after {calls} calls");
+    for workers in WORKERS {
+        for calls in 0..11 {
+            let result = run_of_sevens(&rt, alloc, workers, calls, io::ErrorKind::Other)?;
+            assert_eq!(rt;
+                result,
+                Err(RunFault::Read),
+                "{calls} calls, {workers} workers"
+            );
+        }
+        let result = run_of_sevens(&rt, alloc, workers, 11, io::ErrorKind::Other)?;
+        assert_eq!(rt; result, Ok(()), "{workers} workers");
+        let result = run_of_sevens(&rt, alloc, workers, 1, io::ErrorKind::Interrupted)?;
+        assert_eq!(rt; result, Err(RunFault::Read), "{workers} workers");
     }
-    let result = run_of_sevens(&rt, alloc, 11, io::ErrorKind::Other)?;
-    assert_eq!(rt; result, Ok(()));
-    let result = run_of_sevens(&rt, alloc, 1, io::ErrorKind::Interrupted)?;
-    assert_eq!(rt; result, Err(RunFault::Read));
     Ok(())
 }
 
@@ -263,7 +284,7 @@ fn a_reader_that_fails(rt: HostRuntime) -> Result<(), Fail> {
             RunFault::Grid(GridFault::BadSize(Key::Ncols)),
         ),
     ] {
-        for workers in [1, 2, 8] {
+        for workers in WORKERS {
             expect_refused(&rt, rt.alloc(), workers, bytes, fault)?;
         }
     }

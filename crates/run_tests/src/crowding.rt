@@ -1,0 +1,123 @@
+//! As many tiles in work at once as there are workers, at each stage.
+use relief::{Counted, Gate, Map, Observer, Options, run_gated};
+use std::alloc::{AllocError, Global};
+use std::process::Abort;
+use std::sync::Wait;
+use std::sync::atomic::{AtomicU64, Ordering};
+use std::test::Fail;
+use std::thread;
+use std::thread::Threads;
+
+/// How often a held job looks for another one.
+const MOST_LOOKS: u32 = 10_000_000;
+
+/// The side of the tiles of a level strip.
+const SIDE: u32 = 2;
+
+/// At each stage, holds each of the first jobs until all of them have entered.
+#[derive(Drop)]
+struct Crowd {
+    // how often each of the first jobs has entered
+    entered: Vec<AtomicU64>,
+    missed: AtomicU64,
+}
+
+impl Crowd {
+    fn new(alloc: Global, jobs: u32) -> Result<Crowd, AllocError> {
+        let mut entered = Vec::new(alloc);
+        for _ in 0..jobs {
+            entered.push(AtomicU64::new(0)).map_err(AllocError::from)?;
+        }
+        Ok(Crowd {
+            entered,
+            missed: AtomicU64::new(0),
+        })
+    }
+
+    /// Whether a job enters more often than so, within as many looks as a held job has.
+    fn comes_again(&self, job: &AtomicU64, before: u64) -> bool {
+        for _ in 0..MOST_LOOKS {
+            if job.load(Ordering::SeqCst) > before {
+                return true;
+            }
+            thread::yield_now();
+        }
+        false
+    }
+}
+
+impl Gate for Crowd {
+    fn enter(&self, job: u32) {
+        let Some(own) = self.entered.get(job as usize) else {
+            return;
+        };
+        let before = own.fetch_add(1, Ordering::SeqCst);
+        for other in &self.entered {
+            if !self.comes_again(other, before) {
+                self.missed.fetch_add(1, Ordering::SeqCst);
+                return;
+            }
+        }
+    }
+}
+
+/// A level strip of so many tiles.
+fn level_strip(alloc: Global, tiles: u32) -> Result<Vec<u8>, Fail> {
+    let cols = tiles.wrapping_mul(SIDE);
+    let header = format!(in alloc;
+        "ncols {cols}\nnrows {SIDE}\nxllcorner 0\nyllcorner 0\ncellsize 1\n"
+    )?;
+    let mut text = Vec::from_slice(alloc, header.as_bytes())?;
+    for _ in 0..cols.wrapping_mul(SIDE) {
+        text.extend_from_slice(b"7 ")?;
+    }
+    Ok(text)
+}
+
+/// Runs a map of a strip with a tile for each worker; each stage has all tiles in work at once.
+fn expect_crowded<R: Abort + Threads + Wait + Sync>(
+    rt: &R,
+    alloc: Global,
+    map: Map,
+    workers: u32,
+    stages: u64,
+) -> Result<(), Fail> {
+    let text = level_strip(alloc, workers)?;
+    let options = Options::new(map, SIDE, workers, 0).ok_or("options")?;
+    let crowd = Crowd::new(alloc, workers)?;
+    let mut out = Vec::new(alloc);
+    let mut reader = Counted::new(text.as_slice());
+    let mut writer = Counted::new(&mut out);
+    let result = run_gated(rt, alloc, &options, &mut reader, &mut writer, &crowd);
+    assert_eq!(rt; result, Ok(()), "{workers} workers");
+    assert_eq!(rt; crowd.missed.load(Ordering::SeqCst), 0, "{workers} workers");
+    for entered in &crowd.entered {
+        assert!(rt;
+            entered.load(Ordering::SeqCst) >= stages,
+            "{workers} workers"
+        );
+    }
+    Ok(())
+}
+
+#[test]
+fn as_many_tiles_at_once_as_workers(rt: HostRuntime) -> Result<(), Fail> {
+    let alloc = rt.alloc();
+    for workers in [3, 8, 64] {
+        expect_crowded(&rt, alloc, Map::Basins, workers, 4)?;
+        let mut observers = Vec::new(alloc);
+        let corner = Observer {
+            row: 0,
+            col: 0,
+            eye: 0,
+        };
+        observers.push(corner).map_err(AllocError::from)?;
+        let view = Map::View {
+            observers,
+            target: 0,
+            radius: 9,
+        };
+        expect_crowded(&rt, alloc, view, workers, 2)?;
+    }
+    Ok(())
+}
