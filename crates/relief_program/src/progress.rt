@@ -8,8 +8,8 @@ use std::time::{Clock, Instant};
 /// The least time between two reports on a terminal, in milliseconds.
 const LEAST_PAUSE: u128 = 100;
 
-/// The bytes that go to the line's begin and clear it.
-const CLEAR_LINE: &[u8] = b"\r\x1b[K";
+/// What clears a terminal's line, from its begin.
+const CLEAR_LINE: &str = "\r\x1b[K";
 
 /// How far a stage is, and where that is reported.
 #[derive(Drop)]
@@ -18,7 +18,7 @@ struct Stage {
     number: u32,
     jobs: u64,
     finished_jobs: u64,
-    // of all jobs, and how many a job has: 0 where jobs have none
+    // of all jobs; `parts` is how many a job has, 0 where jobs have none
     finished_parts: u64,
     parts: u64,
     reported_tenths: u64,
@@ -52,7 +52,10 @@ impl Stage {
         }
         self.last_report = Some(now);
         let percent = self.percent();
-        if let Ok(line) = format!(in alloc; "\r\x1b[Krelief: stage {}: {percent} %", self.number) {
+        if let Ok(line) = format!(in alloc;
+            "{CLEAR_LINE}relief: stage {}: {percent} %",
+            self.number
+        ) {
             let _ = self.errors.write_all(line.as_bytes());
         }
     }
@@ -140,7 +143,8 @@ impl<'a, R: Clock + Wait> Gate for ProgressReport<'a, R> {
 impl<'a, R: Clock + Wait> Progress for ProgressReport<'a, R> {
     fn finish(&self) {
         if self.is_in_place {
-            let _ = self.stage.lock(self.rt).errors.write_all(CLEAR_LINE);
+            let mut stage = self.stage.lock(self.rt);
+            let _ = stage.errors.write_all(CLEAR_LINE.as_bytes());
         }
     }
 }
