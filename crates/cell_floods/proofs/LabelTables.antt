@@ -45,6 +45,7 @@ pub cell_listed : (index : ℕ) (label : Option Place) (old new : List (Option P
 cell_listed index label old new cells more some table at is =
     let long = listed_length index label old new at in
     subst (IsTable new) (sym is) (record {
+      few = omega (arith, long, table.few, length_push cells index);
       first = listed_kept index label old new at 0 some ∙ table.first;
       inside = All-push (λ k. k < length new) cells index (λ k d low. omega (arith, long, table.inside k d low)) at.inside;
       used = λ k p e. elim (cases_eq k index) [

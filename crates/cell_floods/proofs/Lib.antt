@@ -9,3 +9,5 @@ mod Nets
 mod LabelTables
 pub mod TileWindows
 pub mod Where
+-- end cells among its labels
+mod EndCells

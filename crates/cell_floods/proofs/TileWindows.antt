@@ -1,5 +1,6 @@
 -- Floods of the net of a tile.
 use Rattle.std.proofs.Common.{◌≡◌, ℕ, ◌+◌, ◌-◌, ◌*◌, ◌<◌, inl, inr, ℤ, List, [], ◌∷◌, length, get_or, Option, None, is_some, ◌∙◌, sym, ap, arith, true, map, Some, subst, refl, take, zero, suc}
+use Rattle.std.specs.Prelude.{MatchOption}
 use Rattle.std.proofs.lemmas.Bool.{or_cases, or_left, or_right, eqb-true, eq-eqb, cases_lt}
 use Rattle.std.proofs.lemmas.Nat.{mul-add-lt, div-mul-add, mod-mul-add}
 use Rattle.std.proofs.lemmas.List.{get_or-map, length-map, get_or_past, get_or_append_left, get_or-append_right, get_or-drop, get_or-take, length-take}
@@ -23,7 +24,7 @@ use Rattle.tiles.proofs.TileOrder.{index_in_below, entry_in-inside}
 use Rattle.floods.specs.declared.net.Spill.{Spill}
 use Rattle.cell_floods.specs.CellJoins.{join_inside}
 use Rattle.cell_floods.specs.Labels.{label_of_node, AreNodesBelow}
-use Rattle.cell_floods.specs.TileFlood.{IsTileSource, IsTilePath, IsTileLevel, Flood, IsFlood, IsTileFlood}
+use Rattle.cell_floods.specs.TileFlood.{IsTileSource, IsTilePath, IsTileLevel}
 
 pub rim_of_tile : (c : Cutting) (tile : ℕ) (p : Place) → IsInTile c tile p → IsOnRim (bounds_of c tile) p → is_on_rim c p ≡ true
 rim_of_tile c tile p i rim = subst (λ n. is_first_or_last (bounds_of c n) p ≡ true) (sym i.1) (at rim) where
@@ -102,35 +103,30 @@ mapped_entry b xs p size i =
     ∙ get_or-map (label_of_node b) xs _ None None (omega (arith, size, index_in_below b p i))
     ∙ ap (label_of_node b) (sym (entry_in-inside b xs p i))
 
--- The lists of a flood of a tile, from those of its net.
-abbrev pub FloodLists : Bounds → List (Option ℤ) → List (Option ℕ) → Flood
-FloodLists b levels labels = record {
-  bounds = b;
-  levels = inner_rows levels b.cols b.rows;
-  labels = map (label_of_node b) (inner_rows labels b.cols b.rows);
-}
+-- What the levels and labels in a tile's row order say of its cells.
+pub record AreTileLevels (t : Terrain) (c : Cutting) (tile : ℕ) (b : Bounds) (levels : List (Option ℤ)) (labels : List (Option Place)) : Type 0 where
+  pub bounds : b ≡ bounds_of c tile
+  pub limits : IsWithinLimits b
+  pub levels_size : length levels ≡ b.rows * b.cols
+  pub labels_size : length labels ≡ b.rows * b.cols
+  pub each : (p : Place) → IsInTile c tile p →
+      MatchOption (height_at t p) ((entry_in b levels p ≡ None) × (entry_in b labels p ≡ None))
+      (λ _. (level : ℤ) × (label : Place) × (entry_in b levels p ≡ Some level) × (entry_in b labels p ≡ Some label) × IsTileLevel t c p level label)
 
 -- a tile is small, and ends within the longest grid
 pub bounds_limits : (t : Cutting) (b : Bounds) → IsCutting t → AreBounds t b → IsWithinLimits b
 bounds_limits t b h inside = (omega arith, omega arith)
 
-pub flood_lists_sound : (c : Cutting) (b : Bounds) (levels : List (Option ℤ)) (labels : List (Option ℕ)) → IsCutting c → AreBounds c b → length levels ≡ (b.rows + 2) * (b.cols + 2) → length labels ≡ (b.rows + 2) * (b.cols + 2) → IsFlood (FloodLists b levels labels)
-flood_lists_sound c b levels labels h all a d = record {
-  limits = bounds_limits c b h all;
-  levels_size = length-inner_rows levels b.cols b.rows (omega (arith, a));
-  labels_size = length-map (inner_rows labels b.cols b.rows) (label_of_node b) ∙ length-inner_rows labels b.cols b.rows (omega (arith, d));
-}
-
-pub tile_flooded : (t : Terrain) (c : Cutting) (tile : ℕ) (n : Cells) (levels : List (Option ℤ)) (labels : List (Option ℕ)) → IsCutting c → tile < tile_count c → (c.cols ≡ t.cols) × (c.rows ≡ t.rows) → IsNetOf t (bounds_of c tile) n → IsFlooded (IsCellJoin n) (source_of n) (length n.cells) levels labels → IsTileFlood t c tile (FloodLists (bounds_of c tile) levels labels)
+pub tile_flooded : (t : Terrain) (c : Cutting) (tile : ℕ) (n : Cells) (levels : List (Option ℤ)) (labels : List (Option ℕ)) → IsCutting c → tile < tile_count c → (c.cols ≡ t.cols) × (c.rows ≡ t.rows) → IsNetOf t (bounds_of c tile) n → IsFlooded (IsCellJoin n) (source_of n) (length n.cells) levels labels → AreTileLevels t c tile (bounds_of c tile) (inner_rows levels (bounds_of c tile).cols (bounds_of c tile).rows) (map (label_of_node (bounds_of c tile)) (inner_rows labels (bounds_of c tile).cols (bounds_of c tile).rows))
 tile_flooded t c tile n levels labels h l cuts net flooded =
     let b = bounds_of c tile in
     let size : length levels ≡ (b.rows + 2) * (b.cols + 2) = flooded.levels_size ∙ net.size in
     let labels_long : length labels ≡ (b.rows + 2) * (b.cols + 2) = flooded.labels_size ∙ net.size in
-    let sound = flood_lists_sound c b levels labels h (bounds_inside c tile h l) size labels_long in
     record {
       bounds = refl;
-      levels_size = sound.levels_size;
-      labels_size = sound.labels_size;
+      limits = bounds_limits c b h (bounds_inside c tile h l);
+      levels_size = length-inner_rows levels b.cols b.rows (omega (arith, size));
+      labels_size = length-map (inner_rows labels b.cols b.rows) (label_of_node b) ∙ length-inner_rows labels b.cols b.rows (omega (arith, labels_long));
       each = λ p i.
           let inside = in_bounds c tile p h i in
           let level = inner_entry b levels p size inside in
@@ -146,12 +142,9 @@ tile_flooded t c tile n levels labels h l cuts net flooded =
           (here.level, here.label, level ∙ here.level_is, label_is, tile_level t c tile h l cuts p here.label here.level i here.right));
     }
 
-pub tile_flood_is : (t : Terrain) (c : Cutting) (tile : ℕ) (n : Cells) (b : Bounds) (levels levels_in : List (Option ℤ)) (labels : List (Option ℕ)) (labels_in : List (Option Place)) → IsCutting c → tile < tile_count c → (c.cols ≡ t.cols) × (c.rows ≡ t.rows) → IsNetOf t (bounds_of c tile) n → IsFlooded (IsCellJoin n) (source_of n) (length n.cells) levels labels → b ≡ bounds_of c tile → levels_in ≡ inner_rows levels b.cols b.rows → labels_in ≡ map (label_of_node b) (inner_rows labels b.cols b.rows) → IsTileFlood t c tile (record { bounds = b; levels = levels_in; labels = labels_in }) × IsFlood (record { bounds = b; levels = levels_in; labels = labels_in })
+pub tile_flood_is : (t : Terrain) (c : Cutting) (tile : ℕ) (n : Cells) (b : Bounds) (levels levels_in : List (Option ℤ)) (labels : List (Option ℕ)) (labels_in : List (Option Place)) → IsCutting c → tile < tile_count c → (c.cols ≡ t.cols) × (c.rows ≡ t.rows) → IsNetOf t (bounds_of c tile) n → IsFlooded (IsCellJoin n) (source_of n) (length n.cells) levels labels → b ≡ bounds_of c tile → levels_in ≡ inner_rows levels b.cols b.rows → labels_in ≡ map (label_of_node b) (inner_rows labels b.cols b.rows) → AreTileLevels t c tile b levels_in labels_in
 tile_flood_is t c tile n b levels levels_in labels labels_in h l cuts net flooded same x y =
-    rw (y, x, same) (
-      tile_flooded t c tile n levels labels h l cuts net flooded,
-      flood_lists_sound c (bounds_of c tile) levels labels h (bounds_inside c tile h l) (flooded.levels_size ∙ net.size) (flooded.labels_size ∙ net.size),
-    )
+    rw (y, x, same) (tile_flooded t c tile n levels labels h l cuts net flooded)
 
 -- a label of a net's flood is a node of the net
 walk_end_below : (n : Cells) (a : ℕ) (walk : List Spill) → a < length n.cells → IsWalk (IsCellJoin n) (source_of n) a walk → end_of a walk < length n.cells

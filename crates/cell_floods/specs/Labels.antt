@@ -1,5 +1,5 @@
 -- The labels of a tile's cells, by a table of their places.
-use Rattle.std.specs.Prelude.{◌≡◌, ℕ, ◌<◌, ◌⊎◌, ◌==◌, true, List, [], ◌∷◌, ◌++◌, map, length, Option, None, Some, slice_index_or}
+use Rattle.std.specs.Prelude.{◌≡◌, ℕ, ◌+◌, ◌<◌, ◌≤◌, ◌⊎◌, ◌==◌, true, List, [], ◌∷◌, ◌++◌, map, length, Option, None, Some, slice_index_or}
 use Rattle.std.specs.Option.{option_map}
 use Rattle.std.specs.List.{All, list_any}
 use Rattle.terrain.specs.declared.place.Place.{Place}
@@ -17,6 +17,7 @@ labels_by places cells = map (λ k. slice_index_or places k None) cells
 
 -- The table begins with None, each cell's entry is an index into it, and each of its places is a cell's label.
 pub record IsTable (places : List (Option Place)) (cells : List ℕ) : Type 0 where
+  pub few : length places ≤ length cells + 1
   pub first : slice_index_or places 0 None ≡ None
   pub inside : All (λ k. k < length places) cells
   pub used : (k : ℕ) (p : Place) → slice_index_or places k None ≡ Some p → list_any (λ n. n == k) cells ≡ true

@@ -1,11 +1,12 @@
 -- Levels and labels inside one tile.
-use Rattle.std.specs.Prelude.{◌≡◌, ℕ, ◌*◌, ◌⊎◌, ℤ, ◌≤ℤ◌, List, [], ◌∷◌, length, Option, None, Some, IsTrue, MatchOption, option_map}
+use Rattle.std.specs.Prelude.{◌≡◌, ℕ, ◌*◌, ◌⊎◌, ℤ, ◌≤ℤ◌, List, [], ◌∷◌, length, Option, None, Some, IsTrue, MatchOption, option_map, slice_index_or}
 use Rattle.terrain.specs.Raster.{Terrain}
 use Rattle.terrain.specs.Neighbours.{height_at, IsDataCell, IsNeighbour, IsEnd}
 use Rattle.drainage.specs.Filled.{crest}
 use Rattle.terrain.specs.declared.place.Place.{Place}
 use Rattle.tiles.specs.declared.bounds.Bounds.{Bounds}
 use Rattle.cell_floods.specs.Cells.{last_of}
+use Rattle.cell_floods.specs.Labels.{LabelTable, IsTable, labels_by}
 use Rattle.tiles.specs.Cutting.{Cutting, IsWithinLimits, tile_of_place, bounds_of, is_on_rim, entry_in, IsInTile, cell_count}
 
 -- A data cell on the rim of its tile, or an end cell.
@@ -24,17 +25,44 @@ pub record IsTileLevel (t : Terrain) (c : Cutting) (p : Place) (level : ℤ) (la
   pub least : (rest : List Place) → IsTilePath t c p rest → level ≤ℤ crest t p rest
   pub own : IsTileSource t c p → height_at t p ≡ Some level → label ≡ p
 
--- The bounds of a tile, and its levels and labels in its row order.
+-- The height where the place is an end cell, and None where it is none.
+abbrev pub IsEndHeight : Terrain → Place → Option ℤ → Type 0
+IsEndHeight t p end = MatchOption end (IsEnd t p → ⊥) (λ h. IsEnd t p × (height_at t p ≡ Some h))
+
+-- For each entry of a table of labels its height, where the entry is a place and that an end cell.
+pub record AreEndHeights (t : Terrain) (places : List (Option Place)) (ends : List (Option ℤ))
+    : Type 0 where
+  pub size : length ends ≡ length places
+  pub none : (k : ℕ) → slice_index_or places k None ≡ None → slice_index_or ends k None ≡ None
+  pub each : (k : ℕ) (p : Place)
+      → slice_index_or places k None ≡ Some p → IsEndHeight t p (slice_index_or ends k None)
+
+-- The bounds of a tile, its levels and labels in its row order, the table of its labels, and the
+-- heights of those that are end cells.
 pub record Flood : Type 0 where
   pub bounds : Bounds
   pub levels : List (Option ℤ)
   pub labels : List (Option Place)
+  pub table : LabelTable
+  pub ends : List (Option ℤ)
 
 -- The levels of cells, of their labels and heights: a cell without a label has none.
 abbrev pub levels_where : List (Option Place) → List ℤ → List (Option ℤ)
 levels_where [] heights = []
 levels_where (label ∷ labels) [] = []
 levels_where (label ∷ labels) (height ∷ heights) = option_map (λ _. height) label ∷ levels_where labels heights
+
+-- The flood with these heights, labels and heights of end cells.
+abbrev pub flood_of : Bounds → List ℤ → LabelTable → List (Option ℤ) → Flood
+flood_of b heights table ends =
+    let labels = labels_by table.places table.indexes in
+    record {
+      bounds = b;
+      levels = levels_where labels heights;
+      labels = labels;
+      table = table;
+      ends = ends;
+    }
 
 abbrev pub level_in : Flood → Place → Option ℤ
 level_in f p = entry_in f.bounds f.levels p
@@ -44,6 +72,8 @@ label_in f p = entry_in f.bounds f.labels p
 
 -- What holds of every flood of a tile.
 pub record IsFlood (f : Flood) : Type 0 where
+  pub labels : f.labels ≡ labels_by f.table.places f.table.indexes
+  pub table : IsTable f.table.places f.table.indexes
   pub limits : IsWithinLimits f.bounds
   pub levels_size : length f.levels ≡ f.bounds.rows * f.bounds.cols
   pub labels_size : length f.labels ≡ f.bounds.rows * f.bounds.cols
@@ -56,3 +86,4 @@ pub record IsTileFlood (t : Terrain) (c : Cutting) (tile : ℕ) (f : Flood) : Ty
   pub each : (p : Place) → IsInTile c tile p →
       MatchOption (height_at t p) ((level_in f p ≡ None) × (label_in f p ≡ None))
       (λ _. (level : ℤ) × (label : Place) × (level_in f p ≡ Some level) × (label_in f p ≡ Some label) × IsTileLevel t c p level label)
+  pub ends : AreEndHeights t f.table.places f.ends

@@ -415,6 +415,15 @@ impl CellNet {
     }
 }
 
+impl CellNet {
+    /// Which cells are sinks, once the net has been flooded.
+    pub(crate) fn into_sinks(self) -> Vec<bool>
+        ensures { result.items ≡ self.sinks }
+    {
+        self.sinks
+    }
+}
+
 /// The entries of a [`CellNet`] inside its border of gaps, in row order: those of its `rows` times `cols` cells.
 pub(crate) fn without_border<T: Copy>(
     alloc: Global,

@@ -113,7 +113,9 @@ pub(crate) fn labels_of(alloc: Global, bounds: Bounds, nodes: &[u32]) -> Result<
     requires limits { IsWithinLimits bounds }
     requires size { length nodes.now ≡ bounds.rows * bounds.cols }
     requires nodes { AreNodesBelow ((bounds.rows + 2) * (bounds.cols + 2)) (numbered_labels nodes.now) }
-    ensures { IfOk result (λ labels. labels_by labels.places labels.indexes ≡ map (label_of_node bounds) (numbered_labels nodes.now)) }
+    ensures labels { IfOk result (λ labels.
+        labels_by labels.places labels.indexes ≡ map (label_of_node bounds) (numbered_labels nodes.now)) }
+    ensures table { IfOk result (λ labels. IsTable labels.places labels.indexes) }
 {
     let count = (bounds.rows as usize + 2) * (bounds.cols as usize + 2);
     let mut met = vec![in alloc; 0u32; count]?;

@@ -10,9 +10,11 @@
 //! - `cell_net`: a rectangle of cells as a net
 //! - `sinks`: sinks of a window
 //! - `labels`: a tile's table of labels
+//! - `ends`: which labels are end cells
 #![tactic(auto)]
 
 mod cell_net;
+mod ends;
 mod labels;
 mod sinks;
 mod tile;

@@ -25,7 +25,7 @@ fn is_any_in(bounds: Bounds, places: &[Place]) -> bool
 }
 
 /// The number of the node of a place, among the cells of the bounds and their border.
-fn node_in(bounds: Bounds, place: Place) -> usize
+pub(crate) fn node_in(bounds: Bounds, place: Place) -> usize
     requires limits { IsWithinLimits bounds }
     requires inside { IsInBounds bounds place }
     ensures value { result ≡ node_at bounds place }

@@ -9,6 +9,7 @@ ghost use Rattle.cell_floods.specs.Labels.{labels_by};
 ghost use Rattle.cell_floods.specs.TileFlood.{IsFlood, IsTileFlood, level_in, label_in, levels_where};
 
 use crate::cell_net::{CellNet, without_border};
+use crate::ends::end_heights;
 use crate::labels::{Labels, labels_of};
 use floods::{FloodedNet, flood_net};
 use std::alloc::Global;
@@ -24,18 +25,19 @@ pub struct TileFlood {
     /// The level of each cell that has a label.
     heights: Vec<Height>,
     labels: Labels,
+    /// The height of each label that is an end cell, and no data for any other label.
+    ends: Vec<Cell>,
     ghost whole: { length heights.items ≡ length labels.indexes },
 }
 
 impl Model for TileFlood {
-    ghost use Rattle.cell_floods.specs.TileFlood.{Flood, IsFlood, levels_where};
-    ghost use Rattle.cell_floods.specs.Labels.{labels_by};
+    ghost use Rattle.cell_floods.specs.TileFlood.{Flood, IsFlood, flood_of};
 
     ghost Value = { Flood };
 
-    ghost view = { λ f. record { bounds = f.bounds; levels = levels_where (labels_by f.labels.places f.labels.indexes) f.heights.items; labels = labels_by f.labels.places f.labels.indexes } };
+    ghost view = { λ f. flood_of f.bounds f.heights.items f.labels f.ends.items };
 
-    ghost invariant = { λ f. IsFlood (record { bounds = f.bounds; levels = levels_where (labels_by f.labels.places f.labels.indexes) f.heights.items; labels = labels_by f.labels.places f.labels.indexes }) };
+    ghost invariant = { λ f. IsFlood (flood_of f.bounds f.heights.items f.labels f.ends.items) };
 }
 
 impl TileFlood {
@@ -115,10 +117,21 @@ impl TileFlood {
     /// The labels of the tile's cells, by a table.
     #[inline(always)]
     pub fn labels(&self) -> &Labels
+        ensures value { result.now ≡ self.now.table }
         ensures labels { self.now.labels ≡ labels_by result.now.places result.now.indexes }
         ensures lawful { IsFlood self.now }
     {
         &self.labels
+    }
+
+    /// The height of each label that is an end cell, and no data for any other, in the order of the
+    /// table.
+    #[inline(always)]
+    pub fn ends(&self) -> &[Cell]
+        ensures value { result.now ≡ self.now.ends }
+        ensures lawful { IsFlood self.now }
+    {
+        &self.ends
     }
 }
 
@@ -135,14 +148,16 @@ pub fn tile_flood(
     let bounds = view.bounds();
     let net = CellNet::of_view(alloc, view, sinks)?;
     let FloodedNet { levels, labels } = flood_net(alloc, &net)?;
-    drop(net);
+    let sinks = net.into_sinks();
     let heights = without_border(alloc, levels.heights(), bounds.cols, bounds.rows)?;
     drop(levels);
     let nodes = without_border(alloc, labels.numbers(), bounds.cols, bounds.rows)?;
     let labels = labels_of(alloc, bounds, &nodes)?;
+    let ends = end_heights(alloc, view, &sinks, labels.places())?;
     Ok(TileFlood {
         bounds,
         heights,
         labels,
+        ends,
     })
 }

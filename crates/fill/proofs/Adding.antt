@@ -24,13 +24,13 @@ abbrev join_between : Mark → Mark → Join
 join_between from to = record { from = from.node; to = to.node; height = int_max from.level to.level }
 
 -- the join of two marks
-joins_of_apart : (sources : List (Option ℤ)) (from to : Mark) → from.node ≢ to.node → are_settled sources from.node to.node ≡ false → joins_of sources from (Some to) ≡ join_between from to ∷ []
+pub joins_of_apart : (sources : List (Option ℤ)) (from to : Mark) → from.node ≢ to.node → are_settled sources from.node to.node ≡ false → joins_of sources from (Some to) ≡ join_between from to ∷ []
 joins_of_apart sources from to differ apart = elim (cases_Bool (from.node == to.node)) [
   | inl same ↦ absurd (differ (eqb-true _ _ same))
   | inr other ↦ cond-false _ _ _ other ∙ cond-false _ _ _ apart
 ]
 
-joins_of_settled : (sources : List (Option ℤ)) (from to : Mark) → from.node ≢ to.node → are_settled sources from.node to.node ≡ true → joins_of sources from (Some to) ≡ []
+pub joins_of_settled : (sources : List (Option ℤ)) (from to : Mark) → from.node ≢ to.node → are_settled sources from.node to.node ≡ true → joins_of sources from (Some to) ≡ []
 joins_of_settled sources from to differ settled = elim (cases_Bool (from.node == to.node)) [
   | inl same ↦ absurd (differ (eqb-true _ _ same))
   | inr other ↦ cond-false _ _ _ other ∙ cond-true _ _ _ settled

@@ -1,16 +1,16 @@
 -- What the floods say of cells, and the joins of cells amid a tile.
-use Rattle.std.proofs.Common.{◌≡◌, ◌==◌, ◌↔◌, Bool, IsTrue, is_none, ◌⊎◌, ℕ, ◌+◌, ◌-◌, ◌*◌, ◌<◌, ◌≤◌, inl, inr, ℤ, true, List, length, get_or, Option, None, Some, ◌∙◌, sym, ap, subst, refl, arith, ◌/◌, ◌%◌}
+use Rattle.std.proofs.Common.{◌≡◌, ◌↔◌, Bool, IsTrue, is_none, ◌⊎◌, ℕ, ◌+◌, ◌-◌, ◌*◌, ◌<◌, ◌≤◌, inl, inr, ℤ, true, List, length, get_or, Option, None, Some, ◌∙◌, sym, ap, subst, refl, arith, ◌/◌, ◌%◌}
 use Rattle.std.specs.Prelude.{slice_get, option_and_then, slice_index_or, MatchOption, IfSome}
 use Rattle.std.specs.List.{All}
-use Rattle.std.proofs.lemmas.Bool.{cond-false, cases_Bool, cases_lt, eqb-true}
-use Rattle.std.proofs.lemmas.List.{get_or-map, get_or_default, length-map}
-use Rattle.std.proofs.lemmas.List.Folds.{Any-from_list_any}
+use Rattle.std.proofs.lemmas.Bool.{cond-false, cases_Bool, cases_lt}
+use Rattle.std.proofs.lemmas.List.{get_or-map, length-map}
 use Rattle.std.proofs.lemmas.Option.{MatchOption-at_some, MatchOption-at_none, same_Some, slice_get_within}
 use Rattle.terrain.specs.Neighbours.{index_of}
 use Rattle.terrain.specs.declared.place.Place.{Place}
 use Rattle.terrain.proofs.Places.{same_place}
 use Rattle.tiles.specs.declared.bounds.Bounds.{Bounds}
 use Rattle.tiles.specs.Cutting.{Cutting, IsCutting, IsWithin, IsInTile, IsInBounds, tile_count, tile_of_place, bounds_of, is_in_bounds, index_in}
+use Rattle.cell_floods.proofs.Where.{all_inside, table_inside}
 use Rattle.tiles.proofs.Cut.{in_tile, in_bounds_parts}
 use Rattle.cell_floods.specs.TileFlood.{Flood, IsFlood, level_in, label_in}
 use Rattle.cell_floods.specs.Labels.{labels_by, IsTable}
@@ -23,20 +23,8 @@ use Rattle.fill.proofs.Adding.{covered_itself, joins_of_is, HasAdded, after_way,
 use Rattle.tiles.proofs.TileOrder.{bounds_from_entry, entry_in-inside}
 
 -- each place of the table of a flood whose labels lie in the grid lies in it
-places_within : (c : Cutting) (f : Flood) (places : List (Option Place)) (cells : List ℕ) → f.labels ≡ labels_by places cells → IsTable places cells → LabelsInside c f → (k : ℕ) (p : Place) → get_or places k None ≡ Some p → IsWithin c p
-places_within c f places cells are table inside k p e =
-    let held = Any-from_list_any (λ n. n == k) cells (table.used k p e) in
-    inside held.0 p (
-    ap (λ (z : List (Option Place)). get_or z held.0 None) are
-    ∙ get_or-map (λ n. get_or places n None) cells held.0 held.1 None held.2 ∙ ap (λ n. get_or places n None) (held.3 ∙ eqb-true _ _ held.4) ∙ e
-    )
-
 pub all_within : (c : Cutting) (f : Flood) (places : List (Option Place)) (cells : List ℕ) → f.labels ≡ labels_by places cells → IsTable places cells → LabelsInside c f → All (λ (o : Option Place). IfSome o (IsWithin c)) places
-all_within c f places cells are table inside k d low =
-    subst (λ (o : Option Place). IfSome o (IsWithin c)) (sym (get_or_default places k d None low)) (elim (cases_option (get_or places k None)) [
-      | inl none ↦ subst (λ (o : Option Place). IfSome o (IsWithin c)) (sym none) tt
-      | inr found ↦ subst (λ (o : Option Place). IfSome o (IsWithin c)) (sym found.1) (places_within c f places cells are table inside k found.0 found.1)
-    ])
+all_within c f places cells are table inside = all_inside (IsWithin c) places (table_inside (IsWithin c) f.labels places cells are table inside)
 
 -- there are as many entries as levels
 pub cells_size : (f : Flood) (places : List (Option Place)) (cells : List ℕ) → f.labels ≡ labels_by places cells → IsFlood f → length cells ≡ length f.levels

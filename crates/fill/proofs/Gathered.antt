@@ -2,35 +2,32 @@
 use Rattle.std.proofs.Common.{◌≡◌, ◌≢◌, ℕ, ◌*◌, ◌/◌, ◌%◌, ◌<◌, ◌⊎◌, inl, inr, ◌&&◌, true, false, Bool, ℤ, ◌≤ℤ◌, List, [], length, get_or, Option, None, Some, is_some, ◌∙◌, sym, ap, subst, refl, arith}
 use Rattle.std.specs.List.{Contains, flat_map}
 use Rattle.std.proofs.lemmas.Bool.{and_parts, cases_eq, cases_lt, cases_order, cases_Bool}
-use Rattle.std.proofs.lemmas.Nat.{div-mul-add, mod-mul-add, div-add-mod'}
-use Rattle.std.proofs.lemmas.Option.{MatchOption-at_some, MatchOption-at_none, same_Some, slice_get_within}
+use Rattle.std.proofs.lemmas.Nat.{div-mul-add, mod-mul-add}
+use Rattle.std.proofs.lemmas.Option.{same_Some, slice_get_within}
 use Rattle.std.proofs.lemmas.List.{get_or_default, get_or_past}
 use Rattle.std.proofs.lemmas.List.Elements.{All-contains, Contains-get_or}
 use Rattle.terrain.proofs.Orders.{trans}
 use Rattle.terrain.specs.Raster.{Terrain}
-use Rattle.terrain.specs.Neighbours.{height_at, index_of, IsEdge, IsEnd, HasGapAround}
+use Rattle.terrain.specs.Neighbours.{index_of}
 use Rattle.terrain.specs.declared.place.Place.{Place}
-use Rattle.terrain.proofs.Places.{same_place, index_below, index_injective, gap_where}
-use Rattle.tiles.specs.Cutting.{Cutting, IsCutting, IsWithin, IsInTile, IsInBounds, bounds_of, tile_count, tile_of_place, place_in, index_in}
-use Rattle.tiles.proofs.Cut.{tile_of_place_below, in_bounds}
+use Rattle.terrain.proofs.Places.{same_place, index_below}
+use Rattle.tiles.specs.Cutting.{Cutting, IsCutting, IsWithin, IsInTile, IsWithinLimits, Cuts, bounds_of, tile_count, tile_of_place}
+use Rattle.tiles.proofs.Cut.{tile_of_place_below, bounds_inside}
 use Rattle.tiles.specs.declared.bounds.Bounds.{Bounds}
-use Rattle.tiles.proofs.TileOrder.{place_in_tile, index_in-place_in, entry_in-inside}
 use Rattle.cell_floods.specs.TileFlood.{Flood, IsTileFlood, label_in}
-use Rattle.fill.specs.Spills.{AreFloods, level_among, label_among, Carries, IsPass, Graph, HasJoin, IsJoined, AreSpillSources, AreSourcesOf, IsGraphOf, IsOpenGraphOf}
-use Rattle.fill.specs.Gathering.{Fit, mark_among, Meets, Adds, IsAfter, IsBefore, AreRising, AreLowest, AreGathered, are_settled, turned, HasGapAmong, IsSpillSource, IsSourceEntry, AreSources, PutsSinks}
+use Rattle.fill.specs.Spills.{AreFloods, level_among, label_among, IsPass, HasJoin, IsJoined, AreSourcesOf, IsGraphOf, IsOpenGraphOf}
+use Rattle.fill.specs.Gathering.{Fit, mark_among, Meets, Adds, IsAfter, IsBefore, AreRising, AreLowest, AreGathered, are_settled, turned}
 use Rattle.fill.specs.Parts.{IsPart, AreParts, AddsTurned, IsGraph, joins_by_part, graph_of_parts, tile_of_node}
 use Rattle.fill.specs.declared.parts.Part.{Part}
 use Rattle.fill.specs.declared.spills.Join.{Join}
 use Rattle.fill.specs.declared.marks.Mark.{Mark}
-use Rattle.terrain.proofs.Options.{cases_option, none_some, none_done, none_from_is_some}
+use Rattle.terrain.proofs.Options.{none_some}
 use Rattle.cell_floods.specs.CellJoins.{max_comm}
 use Rattle.floods.proofs.Heaps.{all_by_contains}
-use Rattle.terrain.proofs.Heights.{height_is}
-use Rattle.cell_floods.proofs.Windows.{data_is}
-use Rattle.cell_floods.proofs.TileWindows.{data_within}
-use Rattle.drainage.proofs.Heights.{first_is_data}
+use Rattle.cell_floods.proofs.TileWindows.{bounds_limits}
+use Rattle.cell_floods.proofs.Where.{labels_inside}
 use Rattle.drainage.proofs.Uniqueness.{between}
-use Rattle.fill.proofs.Rims.{HasTileLevel, has_tile_level, level_has_data, label_has_data, label_in_tile, source_level, end_label, list_there, among_is}
+use Rattle.fill.proofs.Rims.{HasTileLevel, level_has_data, list_there, among_is}
 use Rattle.fill.proofs.CellMarks.{label_entry, mark_some, mark_parts, mark_outside}
 use Rattle.fill.proofs.Adding.{no_join}
 use Rattle.floods.proofs.WaitLists.{in_some_list, in_lists}
@@ -209,24 +206,14 @@ join_back c floods out joins h fit s once j there =
       same_join x y a b e = ap (λ n. record { from = n; to = x.to; height = x.height }) a ∙ ap (λ n. record { from = y.from; to = n; height = x.height }) b ∙ ap (λ n. record { from = y.from; to = y.to; height = n }) e
 
 -- floods of tiles fit
-fit_labels : (t : Terrain) (c : Cutting) (tile : ℕ) (f : Flood) → IsCutting c → tile < tile_count c → (c.cols ≡ t.cols) × (c.rows ≡ t.rows) → IsTileFlood t c tile f → (k : ℕ) (label : Place) → get_or f.labels k None ≡ Some label → IsInTile c tile label
-fit_labels t c tile f h below cuts flood k label e = elim (cases_lt k (length f.labels)) [
-  | inr past ↦ none_some _ label (get_or_past f.labels k None past) e
-  | inl low ↦
-      let p = place_in (bounds_of c tile) k in
-      let i = place_in_tile c tile k h below (omega (arith, low, flood.labels_size)) in
-      let at : label_in f p ≡ Some label =
-      entry_in-inside f.bounds f.labels p (subst (λ b. IsInBounds b p) (sym flood.bounds) (in_bounds c tile p h i))
-      ∙ ap (λ (b : Bounds). get_or f.labels (index_in b p) None) flood.bounds
-      ∙ ap (λ n. get_or f.labels n None) (index_in-place_in (bounds_of c tile) k) ∙ e in
-      elim (cases_option (height_at t p)) [
-        | inl none ↦ none_some (label_in f p) label (MatchOption-at_none _ _ none (flood.each p i)).1 at
-        | inr height ↦
-            let here = MatchOption-at_some _ _ height.0 height.1 (flood.each p i) in
-            let same = same_Some here.1 label (sym here.3 ∙ at) in
-            subst (IsInTile c tile) same (data_within t c here.1 cuts (label_has_data t c p here.1 here.0 here.4), label_in_tile t c p here.1 here.0 here.4 ∙ i.1)
-      ]
-]
+fit_labels : (t : Terrain) (c : Cutting) (tile : ℕ) (f : Flood) → IsCutting c → tile < tile_count c → Cuts c t → IsTileFlood t c tile f → (k : ℕ) (label : Place) → get_or f.labels k None ≡ Some label → IsInTile c tile label
+fit_labels t c tile f h below cuts flood = labels_inside t c tile f.bounds f.levels f.labels h below cuts (record {
+  bounds = flood.bounds;
+  limits = subst IsWithinLimits (sym flood.bounds) (bounds_limits c (bounds_of c tile) h (bounds_inside c tile h below));
+  levels_size = flood.levels_size ∙ ap (λ (b : Bounds). b.rows * b.cols) (sym flood.bounds);
+  labels_size = flood.labels_size ∙ ap (λ (b : Bounds). b.rows * b.cols) (sym flood.bounds);
+  each = flood.each;
+})
 
 pub fit_of : (t : Terrain) (c : Cutting) (floods : List Flood) → IsCutting c → AreFloods t c floods → Fit c floods
 fit_of t c floods h are = record {
@@ -274,101 +261,6 @@ meets_pass t c floods out p q j h are m =
       to_is = y.1;
       greater = m.greater;
     }
-
--- gaps among the marks are gaps in the data
-gap_of : (t : Terrain) (c : Cutting) (floods : List Flood) (p : Place) → IsCutting c → AreFloods t c floods → HasGapAround t p → HasGapAmong c floods p
-gap_of t c floods p h are gap = gap_where p (λ q _ none. elim (cases_option (mark_among c floods q)) [
-  | inl no_mark ↦ no_mark
-  | inr found ↦
-      let within = marked_within c floods q found.0 h (fit_of t c floods h are) found.1 in
-      let parts = mark_parts c.cols (level_among c floods q) (label_among c floods q) found.0 found.1 in
-      none_done (height_at t q) (none_from_is_some _ none) (level_has_data t c floods h are q found.0.level within parts.1)
-]) gap
-
-gap_back : (t : Terrain) (c : Cutting) (floods : List Flood) (p : Place) → IsCutting c → AreFloods t c floods → HasGapAmong c floods p → HasGapAround t p
-gap_back t c floods p h are gap = gap_where p (λ q _ none. elim (cases_option (height_at t q)) [
-  | inl no_height ↦ ap is_some no_height
-  | inr found ↦ none_some _ _ none (mark_is t c floods q (has_tile_level t c floods h are q (ap is_some found.1)) _ refl)
-]) gap
-
--- the mark of an end cell
-end_mark : (t : Terrain) (c : Cutting) (floods : List Flood) (p : Place) (z : ℤ) → IsCutting c → AreFloods t c floods → IsEnd t p → height_at t p ≡ Some z → mark_among c floods p ≡ Some (record { level = z; node = index_of c.cols p })
-end_mark t c floods p z h are end height =
-    let l = has_tile_level t c floods h are p (ap is_some height) in
-    let own = end_label t c p l.label l.level l.right end in
-    let level : l.level ≡ z = source_level t c p l.label l.level l.right (inr end) ∙ height_is t p z height in
-    mark_is t c floods p l (index_of c.cols p) (ap (index_of c.cols) (sym own)) ∙ ap (λ n. Some (record { level = n; node = index_of c.cols p })) level
-
--- An end cell that is a label has this number and this height.
-abbrev IsEndNode : Terrain → Cutting → List Flood → ℕ → ℤ → Type 0
-IsEndNode t c floods a h = (p : Place) × (index_of c.cols p ≡ a) × Carries c floods p a × IsEnd t p × (height_at t p ≡ Some h)
-
-end_node : (t : Terrain) (c : Cutting) (floods : List Flood) (p : Place) (m : Mark) (a : ℕ) → IsCutting c → AreFloods t c floods → IsEnd t p → mark_among c floods p ≡ Some m → index_of c.cols p ≡ a → IsEndNode t c floods a m.level
-end_node t c floods p m a h are end marked at =
-    let height = data_is (height_at t p) (first_is_data t p [] end) in
-    let mark = end_mark t c floods p height.0 h are end height.1 in
-    let parts = mark_parts c.cols (level_among c floods p) (label_among c floods p) _ mark in
-    let same = same_Some (record { level = height.0; node = index_of c.cols p }) m (sym mark ∙ marked) in
-    (p, at, (parts.0, parts.2, parts.3 ∙ at), end, height.1 ∙ ap (λ (n : Mark). Some n.level) same)
-
--- the edge cells have their heights as sources
-edge_source : (t : Terrain) (c : Cutting) (floods : List Flood) (sources : List (Option ℤ)) (p : Place) (z : ℤ) → IsCutting c → AreFloods t c floods → AreSources c floods sources → IsEdge t p → height_at t p ≡ Some z → get_or sources (index_of c.cols p) None ≡ Some z
-edge_source t c floods sources p z h are s edge height =
-    let within = data_within t c p are.cuts edge.0 in
-    let here : IsSpillSource c floods p z = record { mark = end_mark t c floods p z h are (inl edge) height; gap = gap_of t c floods p h are edge.1 } in
-    let entry = subst (λ q. IsSourceEntry c floods q (get_or sources (index_of c.cols p) None)) (source_place c p within) (s.each (index_of c.cols p) (index_below c.cols c.rows p within.0 within.1)) in
-    elim (cases_option (get_or sources (index_of c.cols p) None)) [
-      | inl none ↦ absurd (MatchOption-at_none _ _ none entry z here)
-      | inr found ↦
-          let other = MatchOption-at_some _ _ found.0 found.1 entry in
-          let same = same_Some (record { level = found.0; node = index_of c.cols p }) (record { level = z; node = index_of c.cols p }) (sym other.mark ∙ here.mark) in
-          found.1 ∙ ap Some (ap (λ (m : Mark). m.level) same)
-    ]
-
-edge_only : (t : Terrain) (c : Cutting) (floods : List Flood) (sources : List (Option ℤ)) (a : ℕ) (z : ℤ) → IsCutting c → AreFloods t c floods → AreSources c floods sources → get_or sources a None ≡ Some z → IsEndNode t c floods a z
-edge_only t c floods sources a z h are s e = elim (cases_lt a (length sources)) [
-  | inr past ↦ none_some (get_or sources a None) z (get_or_past sources a None past) e
-  | inl below ↦
-      let p : Place = record { row = a / c.cols; col = a % c.cols } in
-      let here = MatchOption-at_some _ _ z e (s.each a (omega (arith, below, s.size))) in
-      let parts = mark_parts c.cols (level_among c floods p) (label_among c floods p) _ here.mark in
-      let has_data = level_has_data t c floods h are p z (marked_within c floods p _ h (fit_of t c floods h are) here.mark) parts.1 in
-      end_node t c floods p _ a h are (inl (has_data, gap_back t c floods p h are here.gap)) here.mark (div-add-mod' a c.cols)
-]
-
--- with the levels of the sinks at their nodes, the sources are the end cells
-spill_sources : (t : Terrain) (c : Cutting) (floods : List Flood) (sinks : List Place) (sources : List (Option ℤ)) (g : Graph) → IsCutting c → AreFloods t c floods → t.sinks ≡ sinks → AreSources c floods sources → PutsSinks c floods sinks sources g.sources → AreSpillSources t c floods g
-spill_sources t c floods sinks sources g h are named s puts = record {
-  each = λ p z carries end height.
-      let mark = end_mark t c floods p z h are end height in
-      let level = (mark_parts c.cols (level_among c floods p) (label_among c floods p) _ mark).1 in
-      elim end [
-        | inr sink ↦ puts.every p (subst (λ places. Contains places p) named sink.1) (ap is_some mark) ∙ level
-        | inl edge ↦ elim (puts.only (index_of c.cols p)) [
-          | inl kept ↦ kept ∙ edge_source t c floods sources p z h are s edge height
-          | inr put ↦
-              let found = data_is (mark_among c floods put.place) put.has in
-              let same = index_injective c.cols put.place p (marked_within c floods put.place found.0 h (fit_of t c floods h are) found.1).1 (data_within t c p are.cuts edge.0).1 put.number in
-              put.is ∙ ap (level_among c floods) same ∙ level
-        ]
-      ];
-  only = λ a z e. elim (puts.only a) [
-    | inl kept ↦ edge_only t c floods sources a z h are s (sym kept ∙ e)
-    | inr put ↦
-        let found = data_is (mark_among c floods put.place) put.has in
-        let parts = mark_parts c.cols (level_among c floods put.place) (label_among c floods put.place) found.0 found.1 in
-        let has_data = level_has_data t c floods h are put.place found.0.level (marked_within c floods put.place found.0 h (fit_of t c floods h are) found.1) parts.1 in
-        let level = same_Some found.0.level z (sym parts.1 ∙ sym put.is ∙ e) in
-        subst (IsEndNode t c floods a) level (end_node t c floods put.place found.0 a h are (inr (has_data, subst (λ places. Contains places put.place) (sym named) put.named)) found.1 put.number)
-  ];
-}
-
--- so the levels of the sinks make them the sources of the graph
-pub sources_of : (t : Terrain) (c : Cutting) (floods : List Flood) (sinks : List Place) (old sources : List (Option ℤ)) → IsCutting c → AreFloods t c floods → t.sinks ≡ sinks → AreSources c floods old → PutsSinks c floods sinks old sources → AreSourcesOf t c floods sources
-sources_of t c floods sinks old sources h are named s puts = record {
-  size = puts.size ∙ s.size;
-  right = λ g same. spill_sources t c floods sinks old g h are named s (subst (PutsSinks c floods sinks old) (sym same) puts);
-}
 
 -- a join is of the part of its first label's tile
 own_join : (c : Cutting) (floods : List Flood) (out : List (Option ℤ)) (tile : ℕ) (x : Part) (j : Join) → IsCutting c → Fit c floods → IsPart c floods out tile x → Contains x.joins.items j → tile_of_node c j.from ≡ tile

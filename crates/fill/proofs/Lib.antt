@@ -4,8 +4,8 @@ mod CellMarks
 mod Adding
 mod Turned
 mod Lowest
-mod SourceCells
 pub mod Gathered
+mod EndSources
 mod GraphParts
 mod Pages
 mod MarkedLists

@@ -26,6 +26,7 @@ use Rattle.terrain.proofs.Options.{cases_option, none_some}
 use Rattle.terrain.proofs.Heights.{height_is}
 use Rattle.cell_floods.proofs.Windows.{data_is, path_in_window}
 use Rattle.cell_floods.proofs.TileWindows.{data_within, tile_path}
+use Rattle.cell_floods.proofs.Where.{label_has_data}
 
 -- The level and the label of a cell among the floods.
 pub record HasTileLevel (t : Terrain) (c : Cutting) (floods : List Flood) (p : Place) : Type 0 where
@@ -109,22 +110,6 @@ low_from_label t c p label level m l le way =
 
 pub level_high : (t : Terrain) (c : Cutting) (p label : Place) (level : ℤ) → IsTileLevel t c p level label → height_of t p ≤ℤ level
 level_high t c p label level l = subst (λ z. height_of t p ≤ℤ z) l.reached.2 (height_below_crest t p l.reached.0)
-
--- the label is a data cell
-label_data : (t : Terrain) (c : Cutting) (p : Place) (rest : List Place) → IsTilePath t c p rest → IsDataCell t (last_of p rest)
-label_data t c p [] path = elim path [ inl rim ↦ rim.0 | inr end ↦ first_is_data t p [] end ]
-label_data t c p (q ∷ rest) path = label_data t c q rest path.2
-
-pub label_has_data : (t : Terrain) (c : Cutting) (p label : Place) (level : ℤ) → IsTileLevel t c p level label → IsDataCell t label
-label_has_data t c p label level l = subst (IsDataCell t) l.reached.3 (label_data t c p l.reached.0 l.reached.1)
-
--- and lies in the cell's tile
-last_in_tile : (t : Terrain) (c : Cutting) (p : Place) (rest : List Place) → IsTilePath t c p rest → tile_of_place c (last_of p rest) ≡ tile_of_place c p
-last_in_tile t c p [] path = refl
-last_in_tile t c p (q ∷ rest) path = last_in_tile t c q rest path.2 ∙ path.1
-
-pub label_in_tile : (t : Terrain) (c : Cutting) (p label : Place) (level : ℤ) → IsTileLevel t c p level label → tile_of_place c label ≡ tile_of_place c p
-label_in_tile t c p label level l = subst (λ (q : Place). tile_of_place c q ≡ tile_of_place c p) l.reached.3 (last_in_tile t c p l.reached.0 l.reached.1)
 
 -- a level is at most the crest of each path
 level_low : (t : Terrain) (c : Cutting) (floods : List Flood) → IsCutting c → AreFloods t c floods → (p : Place) (l : HasTileLevel t c floods p) (rest : List Place) → IsPath t p rest → l.level ≤ℤ crest t p rest

@@ -1,8 +1,8 @@
 -- How the joins of a spill graph are gathered from the floods of the tiles.
-use Rattle.std.specs.Prelude.{◌≡◌, ◌≢◌, ℕ, ◌+◌, ◌-◌, ◌*◌, ◌/◌, ◌%◌, ◌<◌, ◌⊎◌, ◌==◌, ◌&&◌, false, if◌then◌else◌, is_some, Bool, ℤ, ◌≤ℤ◌, List, [], ◌∷◌, length, Option, None, Some, IsSome, MatchOption, slice_get, slice_index_or}
+use Rattle.std.specs.Prelude.{◌≡◌, ◌≢◌, ℕ, ◌+◌, ◌-◌, ◌*◌, ◌<◌, ◌⊎◌, ◌==◌, ◌&&◌, false, if◌then◌else◌, is_some, Bool, ℤ, ◌≤ℤ◌, List, [], ◌∷◌, length, Option, None, Some, slice_get, slice_index_or}
 use Rattle.std.specs.Int.{int_max}
 use Rattle.std.specs.List.{All, Contains}
-use Rattle.terrain.specs.Neighbours.{index_of, Touches, HasGapWhere}
+use Rattle.terrain.specs.Neighbours.{index_of, Touches}
 use Rattle.terrain.specs.declared.place.Place.{Place}
 use Rattle.tiles.specs.declared.bounds.Bounds.{Bounds}
 use Rattle.tiles.specs.Cutting.{Cutting, IsWithin, IsInTile, tile_count, tile_of_place, bounds_of}
@@ -10,7 +10,6 @@ use Rattle.cell_floods.specs.TileFlood.{Flood}
 use Rattle.fill.specs.Spills.{level_among, label_among}
 use Rattle.fill.specs.declared.spills.Join.{Join}
 use Rattle.fill.specs.declared.marks.Mark.{Mark}
-use Rattle.fill.specs.declared.sources.Source.{Source}
 use Rattle.floods.specs.declared.net.Spill.{Spill}
 
 -- The labels are places of the grid.
@@ -136,60 +135,9 @@ pub record AreGathered (c : Cutting) (floods : List Flood) (places : Place → T
   pub only : (j : Join) → Contains joins j → IsMeetingAt c floods sources places j
   pub every : (p q : Place) (j : Join) → places p → Meets c floods sources p q j → Covered joins j
 
--- A place outside or without data touches the place.
-abbrev pub HasGapAmong : Cutting → List Flood → Place → Type 0
-HasGapAmong c floods p = HasGapWhere (λ q. mark_among c floods q ≡ None) p
-
--- The place is its own label, with a gap around it.
-pub record IsSpillSource (c : Cutting) (floods : List Flood) (p : Place) (height : ℤ) : Type 0 where
-  pub mark : mark_among c floods p ≡ Some (record { level = height; node = index_of c.cols p })
-  pub gap : HasGapAmong c floods p
-
-abbrev pub IsSourceEntry : Cutting → List Flood → Place → Option ℤ → Type 0
-IsSourceEntry c floods p o = MatchOption o ((h : ℤ) → IsSpillSource c floods p h → ⊥) (λ h. IsSpillSource c floods p h)
-
 -- The join before this one is of the same labels.
 abbrev pub IsRepeat : List Join → ℕ → Type 0
 IsRepeat joins i = (0 < i) × ((d : Join) → ((slice_index_or joins (i - 1) d).from ≡ (slice_index_or joins i d).from) × ((slice_index_or joins (i - 1) d).to ≡ (slice_index_or joins i d).to))
-
--- The entries in row order, each its place's height where that is a source.
-pub record AreSources (c : Cutting) (floods : List Flood) (heights : List (Option ℤ)) : Type 0 where
-  pub size : length heights ≡ c.cols * c.rows
-  pub each : (k : ℕ) → k < c.cols * c.rows → IsSourceEntry c floods (record { row = k / c.cols; col = k % c.cols }) (slice_index_or heights k None)
-
--- A place of the grid with this number is a source, at this height.
-pub record IsSourceNode (c : Cutting) (floods : List Flood) (s : Source) : Type 0 where
-  pub place : Place
-  pub within : IsWithin c place
-  pub node : index_of c.cols place ≡ s.node
-  pub source : IsSpillSource c floods place s.height
-
--- The sources among these places have been added, and no others.
-pub record AddsSources (c : Cutting) (floods : List Flood) (places : Place → Type 0) (old new : List Source) : Type 0 where
-  pub kept : (s : Source) → Contains old s → Contains new s
-  pub only : (s : Source) → Contains new s → Contains old s ⊎ IsSourceNode c floods s
-  pub every : (p : Place) (h : ℤ) → places p → IsSpillSource c floods p h → Contains new (record { node = index_of c.cols p; height = h })
-
--- The heights of the sources have been put at their nodes.
-pub record PutsSources (sources : List Source) (old new : List (Option ℤ)) : Type 0 where
-  pub size : length new ≡ length old
-  pub kept : (k : ℕ) → IsSome (slice_index_or old k None) → IsSome (slice_index_or new k None)
-  pub only : (k : ℕ) (h : ℤ) → slice_index_or new k None ≡ Some h → (slice_index_or old k None ≡ Some h) ⊎ Contains sources (record { node = k; height = h })
-  pub every : (s : Source) → Contains sources s → IsSome (slice_index_or new s.node None)
-
--- A sink has this number, and this level in its tile.
-pub record IsSinkNode (c : Cutting) (floods : List Flood) (sinks : List Place) (node : ℕ) (level : Option ℤ) : Type 0 where
-  pub place : Place
-  pub named : Contains sinks place
-  pub number : index_of c.cols place ≡ node
-  pub has : IsSome (mark_among c floods place)
-  pub is : level ≡ level_among c floods place
-
--- The levels of the sinks have been put at their nodes.
-pub record PutsSinks (c : Cutting) (floods : List Flood) (sinks : List Place) (old new : List (Option ℤ)) : Type 0 where
-  pub size : length new ≡ length old
-  pub only : (k : ℕ) → (slice_index_or new k None ≡ slice_index_or old k None) ⊎ IsSinkNode c floods sinks k (slice_index_or new k None)
-  pub every : (p : Place) → Contains sinks p → IsSome (mark_among c floods p) → slice_index_or new (index_of c.cols p) None ≡ level_among c floods p
 
 -- The way from the first label of a join.
 abbrev pub way_of : Join → Spill

@@ -1,5 +1,6 @@
 pub mod Spills
 pub mod Gathering
+pub mod Ends
 pub mod Parts
 pub mod Numbers
 pub mod Pages

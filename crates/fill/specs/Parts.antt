@@ -3,20 +3,10 @@ use Rattle.std.specs.Prelude.{◌≡◌, ℕ, ◌*◌, ◌/◌, ◌%◌, ◌<◌
 use Rattle.std.specs.List.{Contains, All, flat_map}
 use Rattle.tiles.specs.Cutting.{Cutting, IsInTile, tile_count, tile_of_place}
 use Rattle.cell_floods.specs.TileFlood.{Flood}
-use Rattle.fill.specs.Gathering.{AreGathered, AreRising, AddsSources, turned}
+use Rattle.fill.specs.Gathering.{AreGathered, AreRising, turned}
 use Rattle.fill.specs.Spills.{Graph}
 use Rattle.fill.specs.declared.spills.Join.{Join}
 use Rattle.fill.specs.declared.parts.Part.{Part}
-use Rattle.fill.specs.declared.sources.TileSources.{TileSources}
-
--- The sources among the cells of a tile.
-abbrev pub AreTileSources : Cutting → List Flood → ℕ → TileSources → Type 0
-AreTileSources c floods tile sources = AddsSources c floods (IsInTile c tile) [] sources.list.items
-
--- The sources of each tile, in tile order.
-pub record AreAllSources (c : Cutting) (floods : List Flood) (lists : List TileSources) : Type 0 where
-  pub count : length lists ≡ tile_count c
-  pub each : (tile : ℕ) (d : TileSources) → tile < tile_count c → AreTileSources c floods tile (slice_index_or lists tile d)
 
 -- The joins of the cells of a tile but those of two of these sources. They rise by their labels.
 pub record IsPart (c : Cutting) (floods : List Flood) (sources : List (Option ℤ)) (tile : ℕ) (part : Part) : Type 0 where

@@ -1,7 +1,7 @@
 //! The filled heights of a grid, by tiles and workers: [`filled`].
 //!
-//! Jobs flood each tile, find its sources and its joins. The caller's thread floods the spill graph
-//! and raises the cells.
+//! Jobs flood each tile, and then find its joins. The caller's thread floods the spill graph and
+//! raises the cells.
 ghost use Rattle.std.specs.Prelude.{◌<◌, ◌≤◌, IfOk, OnOk};
 ghost use Rattle.terrain.specs.Raster.{Terrain, IsTerrain};
 ghost use Rattle.drainage.specs.Filled.{IsFilled, IsFilledGrid};
@@ -14,7 +14,7 @@ use crate::numbering::LabelLevels;
 use crate::parts::{Part, tile_part};
 use crate::rows::{raised_grid, raised_tiles};
 use crate::source_heights::SourceHeights;
-use crate::sources::{TileSources, label_sources, tile_sources};
+use crate::sources::label_sources;
 use crate::spills::SpillGraph;
 use cell_floods::{TileFlood, tile_flood};
 use drainage::Filled;
@@ -66,30 +66,6 @@ fn tile_floods<R: Threads + Wait + Sync, G: Gate + Sync>(
     crew.run(&FloodTiles { grid, tiling }, tiling.tiles())
 }
 
-/// Finds the sources among the labels of each tile.
-#[derive(Drop)]
-struct SourceTiles<'a> {
-    tiling: &'a Tiling,
-    floods: &'a [TileFlood],
-    ghost fit: { Fit tiling.now floods.now },
-}
-
-impl<'a> Work for SourceTiles<'a> {
-    type Out = TileSources;
-
-    ghost use Rattle.tiles.specs.Cutting.{tile_count};
-    ghost use Rattle.fill.specs.Parts.{AreTileSources};
-
-    ghost most = { λ w. tile_count w.tiling.now };
-
-    ghost gives = { λ w job out. AreTileSources w.tiling.now w.floods.now job out };
-
-    fn run(&self, alloc: Global, job: u32) -> Result<TileSources, JobFault> {
-        let sources = tile_sources(alloc, self.tiling, self.floods, job)?;
-        Ok(sources)
-    }
-}
-
 /// Finds what each tile adds to the spill graph, but joins of two sources.
 #[derive(Drop)]
 struct PartTiles<'a> {
@@ -115,7 +91,7 @@ impl<'a> Work for PartTiles<'a> {
     }
 }
 
-/// The spill graph of the floods, but for joins of two sources. The list of its sources takes the memory of another one.
+/// The spill graph of the floods, but for joins of two sources. Reuses the allocation of `room`.
 fn spill_graph<R: Threads + Wait + Sync, G: Gate + Sync>(
     crew: &Crew<'_, R, G>,
     frame: &Frame,
@@ -129,9 +105,9 @@ fn spill_graph<R: Threads + Wait + Sync, G: Gate + Sync>(
     ensures lawful { OnOk result (IsTerrain frame.now.terrain) }
     ensures workers { RefusesWorkers crew.now.workers result }
 {
-    let lists = crew.run(&SourceTiles { tiling, floods }, tiling.tiles())?;
-    let sources = label_sources(crew.alloc, room, tiling, floods, &lists, frame.sinks())?;
-    drop(lists);
+    // Any look at a frame brings its law, that heights are heights, on which raising relies.
+    let _ = frame.sinks();
+    let sources = label_sources(crew.alloc, room, tiling, floods)?;
     let work = PartTiles {
         tiling,
         floods,
@@ -158,9 +134,14 @@ fn filled_cells(
     Ok(raised_grid(graph.into_room(), tiling, floods, &tiles)?)
 }
 
-/// The grid with each height replaced by its filled height. Each tile is flooded in a job of its own, and adds
-/// to the spill graph in two more; then all are raised. The grid is taken over, so that the filled heights take the place of
-/// its own.
+/// The grid with each height replaced by its filled height.
+///
+/// Each tile is flooded in a job of its own, and adds to the spill graph in another. Then the caller's
+/// thread raises all cells.
+///
+/// # Memory
+///
+/// The filled heights take the memory of the grid's own.
 pub fn filled<R: Threads + Wait + Sync, G: Gate + Sync>(
     rt: &R,
     alloc: Global,

@@ -3,7 +3,7 @@ ghost use Rattle.std.specs.Prelude.{◌≡◌, ◌*◌, ◌<◌, ℤ, ◌↔◌,
 ghost use Rattle.tiles.specs.Cutting.{IsCutting, IsWithin, tile_count, tile_of_place};
 ghost use Rattle.terrain.specs.Neighbours.{index_of};
 ghost use Rattle.cell_floods.specs.TileFlood.{level_in, label_in};
-ghost use Rattle.fill.specs.Gathering.{Fit, LabelsInside, mark_of, mark_with, mark_among, HasGapAmong, IsSpillSource};
+ghost use Rattle.fill.specs.Gathering.{Fit, LabelsInside, mark_of, mark_with, mark_among};
 
 use cell_floods::TileFlood;
 use terrain::{Height, Place};
@@ -41,8 +41,9 @@ pub(crate) fn mark_of_entry(tiling: &Tiling, flood: &TileFlood, index: usize) ->
     })
 }
 
+/// What a flood says of a cell, None outside the tile and where there is no data.
 #[inline]
-fn mark_in(tiling: &Tiling, flood: &TileFlood, place: Place) -> Option<Mark>
+pub(crate) fn mark_in(tiling: &Tiling, flood: &TileFlood, place: Place) -> Option<Mark>
     requires { LabelsInside tiling.now flood.now }
     ensures { result ≡ mark_of tiling.now.cols (level_in flood.now place) (label_in flood.now place) }
 {
@@ -85,59 +86,4 @@ pub(crate) fn mark_at(
         return None;
     }
     mark_in(tiling, flood_at(tiling, floods, tile, place), place)
-}
-
-/// Whether a place of the grid has no data.
-#[inline(always)]
-fn is_gap(tiling: &Tiling, floods: &[TileFlood], tile: u32, place: Place) -> bool
-    requires fit { Fit tiling.now floods.now }
-    requires lawful { IsCutting tiling.now }
-    requires tile { tile < tile_count tiling.now }
-    requires place { IsWithin tiling.now place }
-    ensures { IsTrue result ↔ (mark_among tiling.now floods.now place ≡ None) }
-{
-    flood_at(tiling, floods, tile, place).label(place).is_none()
-}
-
-/// Whether a place next to this one is outside the grid or has no data.
-fn has_gap(tiling: &Tiling, floods: &[TileFlood], tile: u32, place: Place) -> bool
-    requires fit { Fit tiling.now floods.now }
-    requires tile { tile < tile_count tiling.now }
-    requires place { IsWithin tiling.now place }
-    ensures { IsTrue result ↔ HasGapAmong tiling.now floods.now place }
-{
-    let rows = tiling.rows();
-    let cols = tiling.cols();
-    if place.row == 0 || place.col == 0 || place.row + 1 == rows || place.col + 1 == cols {
-        return true;
-    }
-    for row in place.row - 1..place.row + 2 {
-        for col in place.col - 1..place.col + 2 {
-            if is_gap(tiling, floods, tile, Place { row, col }) {
-                return true;
-            }
-        }
-    }
-    false
-}
-
-/// The height of a label that is an edge cell: its own label, with a gap around it.
-pub(crate) fn source_at(
-    tiling: &Tiling,
-    floods: &[TileFlood],
-    tile: u32,
-    place: Place,
-) -> Option<Height>
-    requires fit { Fit tiling.now floods.now }
-    requires tile { tile < tile_count tiling.now }
-    requires place { IsWithin tiling.now place }
-    ensures some { IfSome result (λ h. IsSpillSource tiling.now floods.now place h) }
-    ensures none { IfNone result ((h : ℤ) → IsSpillSource tiling.now floods.now place h → ⊥) }
-{
-    let mark = mark_at(tiling, floods, tile, place)?;
-    if mark.node == node_of(tiling, place) && has_gap(tiling, floods, tile, place) {
-        Some(mark.level)
-    } else {
-        None
-    }
 }

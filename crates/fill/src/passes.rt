@@ -3,13 +3,14 @@
 //! `tile_joins` looks at each two neighbouring cells once, and `lowest_joins` keeps the lowest.
 ghost use Rattle.std.specs.Prelude.{◌≡◌, ◌+◌, ◌*◌, ◌<◌, ◌≤◌, ◌∷◌, [], None, Some, slice_index_or, MatchOption, IfOk, OnOk, length, IsTrue, ◌↔◌};
 ghost use Rattle.std.specs.Bool.{OnTrue, OnFalse};
+ghost use Rattle.std.specs.Option.{option_to_list};
 ghost use Rattle.std.specs.List.{All};
 ghost use Rattle.terrain.specs.declared.place.Place.{Place};
 ghost use Rattle.tiles.specs.Cutting.{IsCutting, IsWithin, IsInTile, bounds_of, tile_count};
 ghost use Rattle.fill.specs.Gathering.{Fit, LabelsInside, IsInner, AreEqualAfter, Adds, AddsCovered, AddsAfter, AreGathered, AreLowest, are_settled, IsRepeat, joins_of, mark_with};
 ghost use Rattle.fill.specs.Parts.{AddsTurned};
 
-use crate::marks::{Mark, mark_at, mark_of_entry};
+use crate::marks::{Mark, mark_at, mark_in, mark_of_entry};
 use crate::source_heights::SourceHeights;
 use crate::spills::Join;
 use cell_floods::TileFlood;
@@ -17,8 +18,9 @@ use std::alloc::{AllocError, Global};
 use terrain::Place;
 use tiles::{Bounds, Tiling};
 
-/// How many slots a [`JoinTable`] has at first for each row and column of its tile: as many as are mostly taken, since a cell on the
-/// rim is joined with three of the next tile, and no more, since they are cleared for each tile.
+/// How many slots a [`JoinTable`] has at first for each row and column of its tile.
+///
+/// As many as are mostly taken, and no more, since they are cleared for each tile.
 const SLOTS_A_LINE: usize = 16;
 
 /// How many slots are looked at for a join.
@@ -161,7 +163,26 @@ fn are_settled(sources: &SourceHeights, from: u32, to: u32) -> bool
     sources.has(from) && sources.has(to)
 }
 
-/// Adds the join of two marks, where their labels differ and are not both among these sources.
+/// The join of two marks, where their labels differ and are not both among these sources.
+#[inline(always)]
+fn join_of(sources: &SourceHeights, from: Mark, to: Option<Mark>) -> Option<Join>
+    ensures { joins_of sources.now from to ≡ option_to_list result }
+{
+    let to = to?;
+    if from.node == to.node {
+        return None;
+    }
+    if are_settled(sources, from.node, to.node) {
+        return None;
+    }
+    Some(Join {
+        from: from.node,
+        to: to.node,
+        height: from.level.max(to.level),
+    })
+}
+
+/// Adds the join of two cells of a tile, or makes one of the same labels as low.
 #[inline(always)]
 fn push_join(
     table: &mut JoinTable,
@@ -169,20 +190,33 @@ fn push_join(
     from: Mark,
     to: Option<Mark>,
 ) -> Result<(), AllocError>
-    ensures { OnOk result (AddsCovered table.old.joins.items (joins_of sources.now from to) table.new.joins.items) }
+    ensures { OnOk result
+        (AddsCovered table.old.joins.items (joins_of sources.now from to) table.new.joins.items) }
 {
-    let Some(to) = to else { return Ok(()) };
-    if from.node == to.node {
+    let Some(join) = join_of(sources, from, to) else {
         return Ok(());
-    }
-    if are_settled(sources, from.node, to.node) {
+    };
+    table.add(join)?;
+    Ok(())
+}
+
+/// Adds the join of a cell with one of another tile, without a look at the table.
+///
+/// Cells on a rim are their own labels, so labels of two tiles meet once.
+#[inline(always)]
+fn push_outer(
+    table: &mut JoinTable,
+    sources: &SourceHeights,
+    from: Mark,
+    to: Option<Mark>,
+) -> Result<(), AllocError>
+    ensures { OnOk result
+        (AddsCovered table.old.joins.items (joins_of sources.now from to) table.new.joins.items) }
+{
+    let Some(join) = join_of(sources, from, to) else {
         return Ok(());
-    }
-    table.add(Join {
-        from: from.node,
-        to: to.node,
-        height: from.level.max(to.level),
-    })?;
+    };
+    table.joins.push(join)?;
     Ok(())
 }
 
@@ -214,8 +248,10 @@ fn push_rim_cell(
                 row: row - 1,
                 col: col - 1,
             };
-            if spot > 4 || !flood.bounds().contains(near) {
-                push_join(table, sources, from, mark_at(tiling, floods, tile, near))?;
+            if !flood.bounds().contains(near) {
+                push_outer(table, sources, from, mark_at(tiling, floods, tile, near))?;
+            } else if spot > 4 {
+                push_join(table, sources, from, mark_in(tiling, flood, near))?;
             }
         }
     }

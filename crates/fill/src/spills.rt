@@ -14,7 +14,7 @@ ghost use Rattle.fill.specs.Numbers.{AreNumbered};
 use crate::numbering::Numbering;
 use crate::parts::{Part, tile_parts};
 use crate::source_heights::SourceHeights;
-use crate::sources::{label_sources, sources_by_tile};
+use crate::sources::label_sources;
 use cell_floods::TileFlood;
 use floods::{Flooded, Net, Spill, flood};
 use smallvec::SmallVec;
@@ -164,18 +164,17 @@ impl Net for SpillGraph {
 }
 
 impl SpillGraph {
-    /// The graph of one flood for each tile, in tile order, and of these sinks.
+    /// The graph of one flood for each tile, in tile order.
     pub fn gather(
         alloc: Global,
         tiling: &Tiling,
         floods: &[TileFlood],
-        sinks: &[Place],
     ) -> Result<SpillGraph, NoMemory>
         requires { (t : Terrain) × AreFloods t tiling.now floods.now }
-        ensures { IfOk result (λ g. (t : Terrain) → t.sinks ≡ sinks.now → AreFloods t tiling.now floods.now → IsGraphOf t tiling.now floods.now g) }
+        ensures { IfOk result (λ g. (t : Terrain)
+            → AreFloods t tiling.now floods.now → IsGraphOf t tiling.now floods.now g) }
     {
-        let lists = sources_by_tile(alloc, tiling, floods)?;
-        let sources = label_sources(alloc, Vec::new(alloc), tiling, floods, &lists, sinks)?;
+        let sources = label_sources(alloc, Vec::new(alloc), tiling, floods)?;
         let none = SourceHeights::none(alloc, Vec::new(alloc), 0)?;
         let parts = tile_parts(alloc, tiling, floods, &none)?;
         Ok(SpillGraph::of_parts(tiling, sources, parts))

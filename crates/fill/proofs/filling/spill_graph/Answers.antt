@@ -1,22 +1,13 @@
-use Rattle.std.proofs.Common.{arith, sym}
+use Rattle.std.proofs.Common.{arith}
 use Rattle.fill.specs.Parts.{AreParts}
 use Rattle.fill.proofs.Gathered.{fit_of, is_open_graph}
 use Rattle.fill.proofs.filling.spill_graph.Goals as goal
 
-pub invariant_of-run : goal.invariant_of-run
-invariant_of-run g c = record { fit = fit_of c.args.frame.now.terrain c.args.tiling.now c.args.floods.now c.requires.floods.lawful c.requires.floods }
-
 pub invariant_of-work : goal.invariant_of-work
 invariant_of-work g c = record { fit = fit_of c.args.frame.now.terrain c.args.tiling.now c.args.floods.now c.requires.floods.lawful c.requires.floods }
 
-pub label_sources-requires-clause-floods : goal.label_sources-requires-clause-floods
-label_sources-requires-clause-floods g c = (c.args.frame.now.terrain, c.requires.floods)
-
-pub label_sources-requires-clause-lists : goal.label_sources-requires-clause-lists
-label_sources-requires-clause-lists g c = rw c.deref.ensures.value (record {
-  count = omega (arith, c.in_ok-lists.lists.ok.0, c.in_ok-lists.ensures.len, c.tiles.ensures.value);
-  each = λ j d below. c.in_ok-lists.ensures.given j d (omega (arith, below, c.tiles.ensures.value));
-})
+pub label_sources-requires : goal.label_sources-requires
+label_sources-requires g c = (c.args.frame.now.terrain, c.requires.floods)
 
 pub of_parts-requires : goal.of_parts-requires
 of_parts-requires g c = (
@@ -26,8 +17,8 @@ of_parts-requires g c = (
   c.requires.floods,
   c.in_ok-sources.ensures.size,
   record {
-    count = omega (arith, c.in_ok-parts.parts.ok.0, c.in_ok-parts.ensures.len, c.tiles-2.ensures.value);
-    each = λ j d below. c.in_ok-parts.ensures.given j d (omega (arith, below, c.tiles-2.ensures.value));
+    count = omega (arith, c.in_ok-parts.parts.ok.0, c.in_ok-parts.ensures.len, c.tiles.ensures.value);
+    each = λ j d below. c.in_ok-parts.ensures.given j d (omega (arith, below, c.tiles.ensures.value));
   },
 )
 
@@ -39,7 +30,7 @@ returns-clause-graph g c =
     let sources = c.in_ok-sources.sources in
     let parts = c.in_ok-parts.parts.items in
     let are : AreParts k floods sources parts = record {
-      count = omega (arith, c.in_ok-parts.parts.ok.0, c.in_ok-parts.ensures.len, c.tiles-2.ensures.value);
-      each = λ j d below. c.in_ok-parts.ensures.given j d (omega (arith, below, c.tiles-2.ensures.value));
+      count = omega (arith, c.in_ok-parts.parts.ok.0, c.in_ok-parts.ensures.len, c.tiles.ensures.value);
+      each = λ j d below. c.in_ok-parts.ensures.given j d (omega (arith, below, c.tiles.ensures.value));
     } in
-    rw c.of_parts.ensures (is_open_graph t k floods parts sources c.requires.floods.lawful c.requires.floods are (c.in_ok-sources.ensures.right t (sym c.sinks.ensures.value) c.requires.floods))
+    rw c.of_parts.ensures (is_open_graph t k floods parts sources c.requires.floods.lawful c.requires.floods are (c.in_ok-sources.ensures.right t c.requires.floods))

@@ -1,22 +1,29 @@
-use Rattle.std.proofs.Common.{◌∙◌}
-use Rattle.fill.proofs.Gathered.{fit_of, sources_of}
+use Rattle.std.proofs.Common.{length, refl, ◌∙◌}
+use Rattle.std.proofs.lemmas.Option.{slice_get_read}
+use Rattle.fill.proofs.Gathered.{fit_of}
+use Rattle.fill.proofs.EndSources.{one_tile, all_tiles}
 use Rattle.fill.proofs.sources.label_sources.Goals as goal
 
-pub gather_sources-requires : goal.gather_sources-requires
-gather_sources-requires c = (c.args.floods.now, c.requires.lists)
+pub put_ends-requires-clause-labels : goal.put_ends-requires-clause-labels
+put_ends-requires-clause-labels c =
+    let floods = c.args.floods.now in
+    let there = slice_get_read floods (length floods) c.loop-flood.flood-index c.flood-item.result refl c.loop-flood-test.true c.flood-item.is in
+    (fit_of c.requires.0 c.args.tiling.now floods c.requires.1.lawful c.requires.1).labels c.loop-flood.flood-index c.flood-item.result there
 
-pub put_sinks-requires-clause-lawful : goal.put_sinks-requires-clause-lawful
-put_sinks-requires-clause-lawful c = c.requires.floods.1.lawful
+pub put_ends-requires-clause-ends : goal.put_ends-requires-clause-ends
+put_ends-requires-clause-ends c =
+    let floods = c.args.floods.now in
+    let there = slice_get_read floods (length floods) c.loop-flood.flood-index c.flood-item.result refl c.loop-flood-test.true c.flood-item.is in
+    (c.requires.1.each c.loop-flood.flood-index c.flood-item.result there).ends.size
 
-pub put_sinks-requires-clause-fit : goal.put_sinks-requires-clause-fit
-put_sinks-requires-clause-fit c = fit_of c.requires.floods.0 c.args.tiling.now c.args.floods.now c.requires.floods.1.lawful c.requires.floods.1
-
-pub put_sinks-requires-clause-size : goal.put_sinks-requires-clause-size
-put_sinks-requires-clause-size c = (c.in_ok-edges.ensures c.args.floods.now c.requires.lists).size
-
-pub returns-clause-size : goal.returns-clause-size
-returns-clause-size c = c.put_sinks.ensures.size ∙ (c.in_ok-edges.ensures c.args.floods.now c.requires.lists).size
+pub loop-flood-preserved : goal.loop-flood-preserved
+loop-flood-preserved c =
+    let floods = c.args.floods.now in
+    let there = slice_get_read floods (length floods) c.loop-flood.flood-index c.flood-item.result refl c.loop-flood-test.true c.flood-item.is in
+    record {
+      size = c.put_ends.ensures.puts.size ∙ c.loop-flood.invariant.size;
+      have = λ t are. one_tile t c.args.tiling.now floods c.loop-flood.flood-index c.flood-item.result _ _ are there c.put_ends.ensures.lawful c.put_ends.ensures.puts (c.loop-flood.invariant.have t are);
+    }
 
 pub returns-clause-right : goal.returns-clause-right
-returns-clause-right c t named are =
-    sources_of t c.args.tiling.now c.args.floods.now c.args.sinks.now c.in_ok-edges.edges c.put_sinks.result are.lawful are named (c.in_ok-edges.ensures c.args.floods.now c.requires.lists) c.put_sinks.ensures
+returns-clause-right c t are = all_tiles t c.args.tiling.now c.args.floods.now c.loop-flood.flood-index c.loop-flood.heights are c.loop-flood-test.false (c.loop-flood.invariant.have t are)

@@ -1,0 +1,109 @@
+-- Which labels of a tile are end cells.
+use Rattle.std.proofs.Common.{◌≡◌, ℕ, ◌<◌, ◌≤◌, ◌+◌, inl, inr, true, false, ℤ, List, [], ◌∷◌, ◌++◌, length, get_or, Option, None, Some, IsNone, is_some, ◌∙◌, sym, ap, subst, refl, arith, unwrap_or}
+use Rattle.std.specs.Prelude.{Bool, IsTrue, not, ◌↔◌, ◌⊎◌, Contains}
+use Rattle.std.proofs.lemmas.Bool.{cases_Bool, cases_eq, cases_lt, cond-true, cond-false, and_from, lt-ltb, le-leb, false≢true}
+use Rattle.std.proofs.lemmas.Option.{unwrap_or-slice_get}
+use Rattle.std.proofs.lemmas.List.{get_or_append_left, get_or_push, length_push, get_or_past}
+use Rattle.terrain.specs.Raster.{Terrain}
+use Rattle.terrain.specs.Neighbours.{height_at, Touches, IsDataCell, IsEnd, HasGapAround}
+use Rattle.terrain.specs.declared.place.Place.{Place}
+use Rattle.terrain.proofs.Places.{entry-inside, entry-below, entry-beside}
+use Rattle.terrain.proofs.Options.{none_some, none_done}
+use Rattle.tiles.specs.Cutting.{View, IsWithin, IsInBounds, bounds_of, cell_shown, is_shown, terrain_of}
+use Rattle.tiles.proofs.Shown.{shown_within}
+use Rattle.cell_floods.specs.TileFlood.{AreEndHeights, IsEndHeight}
+
+-- a view shows the grid's cell at each place next to one of the tile
+pub near_shown : (v : View (Option ℤ)) (p q : Place) → IsInBounds (bounds_of v.cutting v.tile) p
+    → Touches p q → height_at (terrain_of v) q ≡ unwrap_or (cell_shown v q) None
+near_shown v p q inside near = elim (cases_lt q.row v.cutting.rows) [
+  | inr below ↦ entry-below _ _ _ q below ∙ hidden (λ w. omega (arith, w.0, below))
+  | inl row ↦ elim (cases_lt q.col v.cutting.cols) [
+    | inr beside ↦ entry-beside _ _ _ q beside ∙ hidden (λ w. omega (arith, w.1, beside))
+    | inl col ↦
+        entry-inside _ _ v.cells q row col ∙ sym (unwrap_or-slice_get v.cells _ None)
+        ∙ sym (ap (λ (o : Option (Option ℤ)). unwrap_or o None) (cond-true _ _ _ (shown row col)))
+  ]
+] where
+  shown : q.row < v.cutting.rows → q.col < v.cutting.cols → is_shown v.cutting v.tile q ≡ true
+  shown row col =
+      and_from _ _ (and_from _ _ (and_from _ _ (and_from _ _ (and_from _ _ (lt-ltb _ _ row) (lt-ltb _ _ col))
+      (le-leb _ _ (omega (arith, inside, near.row_up)))) (le-leb _ _ (omega (arith, inside, near.row_down))))
+      (le-leb _ _ (omega (arith, inside, near.col_left)))) (le-leb _ _ (omega (arith, inside, near.col_right)))
+
+  hidden : (IsWithin v.cutting q → ⊥) → None ≡ unwrap_or (cell_shown v q) None
+  hidden out = elim (cases_Bool (is_shown v.cutting v.tile q)) [
+    | inl seen ↦ absurd (out (shown_within v.cutting v.tile q seen))
+    | inr unseen ↦ sym (ap (λ (o : Option (Option ℤ)). unwrap_or o None) (cond-false _ _ _ unseen))
+  ]
+
+-- For the first entries of a table their heights, where they are end cells.
+pub record AreFirstEnds (t : Terrain) (places : List (Option Place)) (count : ℕ) (ends : List (Option ℤ)) : Type 0 where
+  pub size : length ends ≡ count
+  pub none : (k : ℕ) → k < count → get_or places k None ≡ None → get_or ends k None ≡ None
+  pub each : (k : ℕ) (p : Place) → k < count → get_or places k None ≡ Some p → IsEndHeight t p (get_or ends k None)
+
+pub no_ends : (t : Terrain) (places : List (Option Place)) (ends : List (Option ℤ)) → ends ≡ []
+    → AreFirstEnds t places 0 ends
+no_ends t places ends is = record { size = ap length is; none = λ k low. absurd (omega (arith, low)); each = λ k p low. absurd (omega (arith, low)) }
+
+pub one_end : (t : Terrain) (places : List (Option Place)) (count : ℕ) (ends new : List (Option ℤ)) (x : Option ℤ)
+    → new ≡ ends ++ x ∷ [] → (get_or places count None ≡ None → x ≡ None) → ((p : Place)
+    → get_or places count None ≡ Some p → IsEndHeight t p x)
+    → AreFirstEnds t places count ends → AreFirstEnds t places (count + 1) new
+one_end t places count ends new x is lacks has s = subst (AreFirstEnds t places (count + 1)) (sym is) (record {
+  size = length_push ends x ∙ ap (λ n. n + 1) s.size;
+  none = λ k low e. elim (cases_eq k count) [
+    | inl same ↦ get_or_push ends x None k (s.size ∙ sym same) ∙ lacks (ap (λ n. get_or places n None) (sym same) ∙ e)
+    | inr other ↦ get_or_append_left ends (x ∷ []) None k (omega (arith, low, other, s.size)) ∙ s.none k (omega (arith, low, other)) e
+  ];
+  each = λ k p low e. elim (cases_eq k count) [
+    | inl same ↦ subst (IsEndHeight t p) (sym (get_or_push ends x None k (s.size ∙ sym same))) (has p (ap (λ n. get_or places n None) (sym same) ∙ e))
+    | inr other ↦ subst (IsEndHeight t p) (sym (get_or_append_left ends (x ∷ []) None k (omega (arith, low, other, s.size)))) (s.each k p (omega (arith, low, other)) e)
+  ];
+})
+
+pub all_ends : (t : Terrain) (places : List (Option Place)) (count : ℕ) (ends : List (Option ℤ))
+    → count ≤ length places → length places ≤ count → AreFirstEnds t places count ends
+    → AreEndHeights t places ends
+all_ends t places count ends below above s = record {
+  size = omega (arith, s.size, below, above);
+  none = λ k e. elim (cases_lt k count) [
+    | inl low ↦ s.none k low e
+    | inr past ↦ get_or_past ends k None (omega (arith, past, s.size))
+  ];
+  each = λ k p e. elim (cases_lt k count) [
+    | inl low ↦ s.each k p low e
+    | inr past ↦ none_some _ p (get_or_past places k None (omega (arith, past, above))) e
+  ];
+}
+
+-- a cell that is an end cell or not
+pub end_found : (t : Terrain) (p : Place) (end : Bool) (cell : Option ℤ) → height_at t p ≡ cell
+    → (IsTrue end → HasGapAround t p ⊎ Contains t.sinks p) → end ≡ true → IsEndHeight t p cell
+end_found t p end None is found holds = λ is_end. none_done (height_at t p) is (has_data is_end) where
+  has_data : IsEnd t p → IsDataCell t p
+  has_data (inl edge) = edge.0
+  has_data (inr sink) = sink.0
+end_found t p end (Some h) is found holds = (elim (found holds) [ inl gap ↦ inl (ap is_some is, gap) | inr sink ↦ inr (ap is_some is, sink) ], is)
+
+pub end_missed : (t : Terrain) (p : Place) (end : Bool) → (HasGapAround t p ⊎ Contains t.sinks p
+    → IsTrue end) → end ≡ false → IsEndHeight t p None
+end_missed t p end missed fails (inl edge) = false≢true (sym fails ∙ missed (inl edge.1))
+end_missed t p end missed fails (inr sink) = false≢true (sym fails ∙ missed (inr sink.1))
+
+pub touches_itself : (p : Place) → Touches p p
+touches_itself p = record { row_down = omega arith; row_up = omega arith; col_right = omega arith; col_left = omega arith }
+
+-- a cell seen without data is a gap
+pub gap_shown : (height seen : Option ℤ) (gap : Bool) → height ≡ seen → is_some seen ≡ not gap
+    → IsTrue gap ↔ IsNone height
+gap_shown height seen gap is test = (λ holds. ap is_some is ∙ test ∙ ap not holds, λ none. from gap (sym test ∙ ap is_some (sym is) ∙ none)) where
+  from : (b : Bool) → not b ≡ false → b ≡ true
+  from true e = refl
+  from false e = absurd (cc)
+
+-- a place without data is no end cell
+pub no_data_ends : (t : Terrain) (p : Place) → height_at t p ≡ None → IsEndHeight t p None
+no_data_ends t p none (inl edge) = none_done (height_at t p) none edge.0
+no_data_ends t p none (inr sink) = none_done (height_at t p) none sink.0

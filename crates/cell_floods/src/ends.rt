@@ -1,0 +1,105 @@
+//! Which labels of a tile are end cells: edge cells and named sinks.
+//!
+//! A tile's view shows the cells around its rim, so no other tile is asked.
+ghost use Rattle.std.specs.Prelude.{◌≡◌, ◌↔◌, ◌⊎◌, ◌<◌, IsNone, IsTrue, IfOk, IfSome, List, None, Some, Contains};
+ghost use Rattle.std.specs.List.{All};
+ghost use Rattle.terrain.specs.Neighbours.{HasGapAround, Touches, height_at};
+ghost use Rattle.terrain.specs.Sinks.{with_sinks};
+ghost use Rattle.terrain.specs.declared.place.Place.{Place};
+ghost use Rattle.tiles.specs.Cutting.{IsInBounds, bounds_of, terrain_of};
+ghost use Rattle.cell_floods.specs.Cells.{HasSinks};
+ghost use Rattle.cell_floods.specs.TileFlood.{AreEndHeights, IsEndHeight};
+
+use crate::sinks::{is_sink, node_in};
+use std::alloc::{AllocError, Global};
+use terrain::{Cell, Place};
+use tiles::TileView;
+
+/// Whether a place next to a cell of the tile is off the grid or has no data.
+#[inline(always)]
+fn is_gap(view: &TileView<'_, Cell>, cell: Place, place: Place) -> bool
+    requires cell { IsInBounds (bounds_of view.now.cutting view.now.tile) cell }
+    requires near { Touches cell place }
+    ensures { IsTrue result ↔ IsNone (height_at (terrain_of view.now) place) }
+{
+    match view.at(place) {
+        Some(cell) => cell.height().is_none(),
+        None => true,
+    }
+}
+
+/// Whether one of the eight places around a cell of the tile is off the grid or has no data.
+fn has_gap(view: &TileView<'_, Cell>, cell: Place) -> bool
+    requires cell { IsInBounds (bounds_of view.now.cutting view.now.tile) cell }
+    requires few { (cell.row < 4096) × (cell.col < 4096) }
+    ensures { IsTrue result ↔ HasGapAround (terrain_of view.now) cell }
+{
+    if cell.row == 0 || cell.col == 0 {
+        return true;
+    }
+    for row in cell.row - 1..cell.row + 2 {
+        for col in cell.col - 1..cell.col + 2 {
+            if is_gap(view, cell, Place { row, col }) {
+                return true;
+            }
+        }
+    }
+    false
+}
+
+/// Whether a place of the tile has a gap around it or is a sink.
+#[inline]
+fn is_end(view: &TileView<'_, Cell>, sinks: &[bool], place: Place) -> bool
+    requires { IsInBounds (bounds_of view.now.cutting view.now.tile) place }
+    ensures { (named : List Place)
+        → HasSinks (bounds_of view.now.cutting view.now.tile) named sinks.now
+        → (IsTrue result ↔ (HasGapAround (terrain_of view.now) place ⊎ Contains named place)) }
+{
+    let node = node_in(view.bounds(), place);
+    if has_gap(view, place) {
+        return true;
+    }
+    is_sink(sinks, node as u32)
+}
+
+/// The cell of a label that is an end cell, and one without data for any other label.
+#[inline]
+fn end_height(view: &TileView<'_, Cell>, sinks: &[bool], label: Option<Place>) -> Cell
+    requires { IfSome label (IsInBounds (bounds_of view.now.cutting view.now.tile)) }
+    ensures none { label ≡ None → result ≡ None }
+    ensures some { (named : List Place) (p : Place)
+        → HasSinks (bounds_of view.now.cutting view.now.tile) named sinks.now
+        → label ≡ Some p → IsEndHeight (with_sinks (terrain_of view.now) named) p result }
+{
+    let Some(place) = label else {
+        return Cell::no_data();
+    };
+    let Some(cell) = view.at(place) else {
+        return Cell::no_data();
+    };
+    if is_end(view, sinks, place) {
+        *cell
+    } else {
+        Cell::no_data()
+    }
+}
+
+/// The height of each label that is an end cell, in the order of the labels' table.
+pub(crate) fn end_heights(
+    alloc: Global,
+    view: &TileView<'_, Cell>,
+    sinks: &[bool],
+    places: &[Option<Place>],
+) -> Result<Vec<Cell>, AllocError>
+    requires { All (λ label. IfSome label (IsInBounds (bounds_of view.now.cutting view.now.tile)))
+        places.now }
+    ensures { IfOk result (λ v. (named : List Place)
+        → HasSinks (bounds_of view.now.cutting view.now.tile) named sinks.now
+        → AreEndHeights (with_sinks (terrain_of view.now) named) places.now v.items) }
+{
+    let mut heights = Vec::with_capacity(alloc, places.len())?;
+    for place in places {
+        heights.push(end_height(view, sinks, *place))?;
+    }
+    Ok(heights)
+}
