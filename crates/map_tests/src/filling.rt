@@ -74,7 +74,7 @@ pub(crate) fn label_levels(
 ) -> Vec<Option<Height>>
     requires { (t : Terrain) × AreFloods t tiling.now floods.now }
 {
-    let graph = again!(rt, SpillGraph::gather(alloc, tiling, floods, &[]));
+    let graph = again!(rt, SpillGraph::gather(alloc, tiling, floods));
     again!(rt, graph.levels(alloc))
 }
 

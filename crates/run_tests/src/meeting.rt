@@ -116,9 +116,9 @@ fn cut(rt: &impl Abort, alloc: Global, text: &[u8], side: u32) -> (Grid, Tiling)
     (grid, tiling)
 }
 
-/// Each stage has one job for each tile. `viewshed` has one stage for the greatest heights of blocks and one for the
-/// values; `filled` floods tiles, finds the sources among their labels and joins their labels; `accumulation` finds
-/// the flow of each tile and counts its cells; `basins` counts the outlets between these two.
+/// Each stage has one job for each tile. `viewshed` has one stage for the greatest heights of blocks
+/// and one for the values; `filled` floods tiles and joins their labels; `accumulation` finds the flow
+/// of each tile and counts its cells; `basins` counts the outlets between these two.
 #[test]
 fn tiles_meet_at_each_stage(rt: HostRuntime) {
     let alloc = rt.alloc();
@@ -129,7 +129,7 @@ fn tiles_meet_at_each_stage(rt: HostRuntime) {
     gate.expect(&rt, 2, 4, "viewshed");
     let gate = Meeting::new();
     let level = filled(&rt, alloc, pit, &tiling, 2, &gate).expect(&rt, "levels");
-    gate.expect(&rt, 3, 4, "filled");
+    gate.expect(&rt, 2, 4, "filled");
     let ways = directions(&rt, alloc, &level, &tiling, 2, &NoGate).expect(&rt, "ways");
     let gate = Meeting::new();
     assert!(rt; accumulation(&rt, alloc, &ways, &tiling, 2, &gate).is_ok());
@@ -147,7 +147,7 @@ fn tiles_with_inner_cells_meet(rt: HostRuntime) {
     let gate = Meeting::new();
     let level = filled(&rt, alloc, valley, &tiling, 2, &gate);
     assert!(rt; level.is_ok());
-    gate.expect(&rt, 3, 2, "filled");
+    gate.expect(&rt, 2, 2, "filled");
 }
 
 /// The first round counts within each tile. In the second each corridor's counts go on in the other tile, and end
@@ -268,7 +268,7 @@ fn tiles_of_catchments_meet(rt: HostRuntime) {
     expect_map(&rt, alloc, &out, 4, 4, lines);
 }
 
-/// The stages of a run are those of all its calls: three of `filled`, four of `directions`, two of
+/// The stages of a run are those of all its calls: two of `filled`, four of `directions`, two of
 /// `accumulation`, three of `basins`, two of `viewshed`.
 #[test]
 fn tiles_meet_over_corridors(rt: HostRuntime) {
@@ -290,7 +290,7 @@ fn tiles_meet_over_corridors(rt: HostRuntime) {
     for (map, stages, rows) in [
         (
             Map::Fill,
-            3,
+            2,
             "
 9 9 9 9 9 9 1 9 9 9
 9 9 9 1 1 1 1 9 9 9
@@ -301,7 +301,7 @@ fn tiles_meet_over_corridors(rt: HostRuntime) {
         ),
         (
             Map::Flow,
-            7,
+            6,
             "
 0 0 2 4 4 1 0 16 0 0
 0 1 1 1 1 128 64 16 1 0
@@ -312,7 +312,7 @@ fn tiles_meet_over_corridors(rt: HostRuntime) {
         ),
         (
             Map::Accumulate,
-            9,
+            8,
             "
 0 0 0 0 0 0 12 0 0 0
 0 0 1 4 6 7 1 0 0 1
@@ -323,7 +323,7 @@ fn tiles_meet_over_corridors(rt: HostRuntime) {
         ),
         (
             Map::Basins,
-            10,
+            9,
             "
 1 2 3 3 3 3 3 3 4 5
 6 3 3 3 3 3 3 3 7 7
