@@ -17,11 +17,26 @@ from .errors import Cancelled, DeviceError, MissingError, ReliefError
 from .grid_text import read_grid, write_grid
 
 FAULT = re.compile(r"relief: (?:(\d+) )?(\S.*?)(?: (\d+))?")
-PERCENT = re.compile(r"(\d{1,3}) ?%")
+STAGE = re.compile(r"relief: stage (\d+): (\d{1,3}) %")
+# The numbers of faults whose detail is the place of a sink.
+SINK_FAULTS = range(46, 49)
 SECONDS_BETWEEN_LOOKS = 0.1
 VARIABLE = "RELIEF"
 
-Progress = Callable[[float], None]
+
+@dataclass(frozen=True)
+class Progress:
+    """How far a run of the program is: its map, the stage from 1, and the share of the stage that is done, 0 to 1.
+
+    How many stages there will be is not known before the run ends.
+    """
+
+    map: str
+    stage: int
+    share: float
+
+
+Report = Callable[[Progress], None]
 Question = Callable[[], bool]
 
 
@@ -50,17 +65,22 @@ class Program:
             raise MissingError(f"{found} is not the relief that makes maps: set {VARIABLE} to its path")
         return cls(found, version.split()[1], _output_of(found, "--help"))
 
-    def offers(self, word: str) -> bool:
-        """Whether this version has a map or an option."""
-        return re.search(rf"(?<![\w-]){re.escape(word)}(?![\w-])", self.help) is not None
+    def has_map(self, name: str) -> bool:
+        """Whether this version has a map."""
+        return re.search(rf"^ +{name} ", self.help, re.MULTILINE) is not None
 
-    def require(self, word: str) -> None:
-        """Raises MissingError where this version lacks a map or an option."""
-        if not self.offers(word):
-            raise MissingError(f"relief {self.version} has no {word}: install a newer relief")
+    @property
+    def has_progress(self) -> bool:
+        """Whether this version has the option --progress, which came with the map catchments."""
+        return self.has_map("catchments")
+
+    def require(self, name: str) -> None:
+        """Raises MissingError where this version lacks a map."""
+        if not self.has_map(name):
+            raise MissingError(f"relief {self.version} has no {name}: install a newer relief")
 
     def run(self, words: Sequence[str], units: np.ndarray, valid: Optional[np.ndarray],
-            subjects: Sequence[str] = (), on_progress: Optional[Progress] = None,
+            subjects: Sequence[str] = (), sinks: Sequence[str] = (), on_progress: Optional[Report] = None,
             is_cancelled: Optional[Question] = None) -> np.ndarray:
         """Makes a map of heights.
 
@@ -69,7 +89,8 @@ class Program:
             units: (rows, cols) int64, heights in units.
             valid: (rows, cols) bool, where there is data; None: everywhere.
             subjects: the names of the places among the words, for the text of a refusal.
-            on_progress: called with 0 to 1 where the program reports how far it is.
+            sinks: the names of the sinks that are given by options, likewise.
+            on_progress: called at each tenth of each stage, where the program reports how far it is.
             is_cancelled: asked ten times a second; the run ends when it says so.
 
         Returns:
@@ -80,7 +101,7 @@ class Program:
             DeviceError: a temporary file could not be written or read.
             Cancelled: the caller asked for the end.
         """
-        if on_progress is not None and self.offers("--progress"):
+        if on_progress is not None and self.has_progress:
             words = [words[0], "--progress", *words[1:]]
         try:
             # Both files have no name, so none is left whatever happens; from a file several workers read.
@@ -89,7 +110,7 @@ class Program:
                 source.seek(0)
                 status, lines = self._run(words, source, target, on_progress, is_cancelled)
                 if status != 0:
-                    raise _refusal(status, lines, subjects)
+                    raise _refusal(status, lines, subjects, sinks or subjects)
                 target.seek(0)
                 return read_grid(target)
         except OSError as error:
@@ -97,27 +118,27 @@ class Program:
                 raise
             raise DeviceError(f"a temporary file below {tempfile.gettempdir()} failed: {error.strerror}") from error
 
-    def _run(self, words: Sequence[str], source: IO[bytes], target: IO[bytes], on_progress: Optional[Progress],
+    def _run(self, words: Sequence[str], source: IO[bytes], target: IO[bytes], on_progress: Optional[Report],
              is_cancelled: Optional[Question]) -> Tuple[int, List[str]]:
         """Runs the program over two open files; its status and the lines of its errors without progress."""
         lines: List[str] = []
-        shares: queue.SimpleQueue[float] = queue.SimpleQueue()
+        steps: queue.SimpleQueue[Progress] = queue.SimpleQueue()
 
         def listen() -> None:
             assert process.stderr is not None
             for line in process.stderr:
-                share = PERCENT.search(line)
-                if share is None:
+                stage = STAGE.fullmatch(line.rstrip("\n"))
+                if stage is None:
                     lines.append(line.rstrip("\n"))
                 else:
-                    shares.put(min(int(share[1]), 100) / 100)
+                    steps.put(Progress(words[0], int(stage[1]), min(int(stage[2]), 100) / 100))
 
         def report() -> None:
             """Tells the caller on the thread that called: feedback of QGIS wants that."""
-            while not shares.empty():
-                share = shares.get()
+            while not steps.empty():
+                step = steps.get()
                 if on_progress is not None:
-                    on_progress(share)
+                    on_progress(step)
 
         with subprocess.Popen([self.path, *words], stdin=source, stdout=target, stderr=subprocess.PIPE,
                               text=True, errors="replace") as process:
@@ -156,7 +177,7 @@ def _output_of(path: str, word: str) -> str:
     return done.stdout
 
 
-def _refusal(status: int, lines: Sequence[str], subjects: Sequence[str]) -> ReliefError:
+def _refusal(status: int, lines: Sequence[str], subjects: Sequence[str], sinks: Sequence[str]) -> ReliefError:
     """The error that a program's lines and status stand for."""
     if status < 0:
         return ReliefError(None, f"ended by signal {-status}", None, 3)
@@ -165,5 +186,6 @@ def _refusal(status: int, lines: Sequence[str], subjects: Sequence[str]) -> Reli
         return ReliefError(None, lines[0] if lines else f"status {status}", None, status)
     number = int(fault[1]) if fault[1] else None
     place = int(fault[3]) if fault[3] else None
-    is_named = number is not None and number >= 41 and place is not None and place < len(subjects)
-    return ReliefError(number, fault[2], place, status, subjects[place] if is_named and place is not None else "")
+    named = sinks if number in SINK_FAULTS else subjects
+    is_named = number is not None and number >= 41 and place is not None and place < len(named)
+    return ReliefError(number, fault[2], place, status, named[place] if is_named and place is not None else "")

@@ -26,8 +26,6 @@ LABELS = {"--voids fill": f"'Holes inside the land: {VOIDS[2]}'",
           "--window COL,ROW,COLS,ROWS": "Extent", "--bounds WEST,SOUTH,EAST,NORTH": "Extent",
           "--workers": "Threads", "--snap": "Move gauges", "--at X,Y": "a click", "--points LAYER": "a layer of points",
           "--eye-field": "a field with the height of each eye", "--eye": "Height of the eyes"}
-# Shares of the bar: reading and the text before the program runs, and the writing behind it.
-BEFORE, AFTER = 20.0, 90.0
 
 
 class Style(QgsProcessingLayerPostProcessorInterface):
@@ -46,6 +44,21 @@ class Style(QgsProcessingLayerPostProcessorInterface):
         if os.path.exists(self.path):
             layer.loadNamedStyle(self.path)
             layer.triggerRepaint()
+
+
+class Bar:
+    """Shows how far the program is: the bar runs once for each stage, whose number stands beside it."""
+
+    def __init__(self, feedback: QgsProcessingFeedback) -> None:
+        self.feedback = feedback
+        self.label = ""
+
+    def __call__(self, step: Any) -> None:
+        label = f"relief {step.map}, stage {step.stage}"
+        if label != self.label:
+            self.label = label
+            self.feedback.setProgressText(label)
+        self.feedback.setProgress(100 * step.share)
 
 
 class MapAlgorithm(QgsProcessingAlgorithm):
@@ -114,10 +127,7 @@ class MapAlgorithm(QgsProcessingAlgorithm):
         target = self.parameterAsOutputLayer(parameters, self.OUTPUT, context)
         try:
             asked = job.Job(**self.job_words(parameters, context, layer, target))
-            caller = job.Caller(feedback.pushInfo,
-                                lambda share: feedback.setProgress(BEFORE + share * (AFTER - BEFORE)),
-                                feedback.isCanceled)
-            job.run(asked, program.Program.find(), caller)
+            job.run(asked, program.Program.find(), job.Caller(feedback.pushInfo, Bar(feedback), feedback.isCanceled))
         except errors.Cancelled:
             return {}
         except errors.GisError as error:
