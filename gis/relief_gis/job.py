@@ -280,8 +280,10 @@ def _tell_catchments(gauges: Sequence[Place], valid: np.ndarray, found: np.ndarr
         if same != number:
             say(f"{number}, {gauge.name}: lies in the cell of {same}, and no cell has its number")
             continue
-        rest = f"; {cut[number]:,} of them lie where the data ends, and land beyond may drain in" if cut[number] else ""
-        say(f"{number}, {gauge.name}: {sizes[number]:,} cells that meet no other gauge before{rest}")
+        rest = f", {cut[number]:,} of them where the data ends" if cut[number] else ""
+        say(f"{number}, {gauge.name}: {sizes[number]:,} cells drain to it first{rest}")
+    if cut.any():
+        say("where the data ends, land beyond it may drain in, and the catchment is larger then")
 
 
 def _result(job: Job, terrain: Terrain, heights: Heights,
