@@ -34,7 +34,7 @@ ABOUT = {
     "streams": "1 where more than so many cells drain through a cell, else 0",
 }
 EPILOG = """\
-IN is any raster that GDAL opens, OUT a GeoTIFF. Heights, eyes and targets are in the unit of the raster's heights,
+IN is any raster that GDAL opens, OUT a GeoTIFF, NAME.tif. Heights, eyes and targets are in the unit of the raster's heights,
 radius and coordinates in the unit of its projection: usually metres.
 
 Exit status: 0 the map was written; 1 words were refused; 2 the raster, a layer or a point was refused; 3 no memory or
@@ -72,7 +72,7 @@ def _parser() -> argparse.ArgumentParser:
 def _add_common(parser: argparse.ArgumentParser) -> None:
     add = parser.add_argument
     add("source", metavar="IN", help="raster of heights")
-    add("target", metavar="OUT", help="GeoTIFF of the map")
+    add("target", metavar="OUT", help="GeoTIFF of the map, NAME.tif")
     add("--band", type=int, default=1, metavar="N", help="band of IN, from 1")
     add("--decimals", type=int, choices=range(MOST_DECIMALS + 1), metavar="D",
         help="decimals of heights that are kept, 0 to 6 (of integers 0, of floats 2)")
@@ -113,7 +113,7 @@ def _add_gauges(parser: argparse.ArgumentParser) -> None:
     parser.add_argument("--sinks", action="append", default=[], metavar="LAYER", help="sinks: points of a file")
     parser.add_argument("--snap", type=int, metavar="CELLS",
                         help="move each gauge to the greatest accumulation within so many rows and columns")
-    parser.add_argument("--snapped", metavar="OUT", help="GeoPackage of the gauges where they were moved to")
+    parser.add_argument("--snapped", metavar="OUT", help="GeoPackage of the gauges where they were moved to, NAME.gpkg")
 
 
 def _numbers(word: str, names: str) -> List[Decimal]:

@@ -9,10 +9,13 @@ from fixtures import (FLOAT_NODATA, PLACED, UTM, Case, at, by_hand, hills, info,
                       read)
 
 DRAINAGE = ("fill", "flow", "accumulate", "basins")
-TYPE_OF = {"flow": "Byte", "accumulate": "Int32", "basins": "Int32", "view": "Int32", "streams": "Byte",
-           "area": "Float64"}
-NODATA_OF = {"flow": 255, "accumulate": -9999, "basins": -9999, "view": -9999, "depth": -9999, "streams": 255,
-             "area": -9999}
+TYPE_OF = {"flow": "Byte", "accumulate": "Int32", "basins": "Int32", "catchments": "Int32", "view": "Int32",
+           "streams": "Byte", "area": "Float64"}
+NODATA_OF = {"flow": 255, "accumulate": -9999, "basins": -9999, "catchments": -9999, "view": -9999, "depth": -9999,
+             "streams": 255, "area": -9999}
+# Two gauges, as the command and as the program take them.
+GAUGES = [*at(9, 20), *at(18, 33)]
+GAUGE_WORDS = ["9,20", "18,33"]
 
 
 def reference_of(information):
@@ -77,6 +80,7 @@ class FloatMetres(MapCase):
     def test_drainage(self):
         for name in DRAINAGE:
             self.assertEqual(self.compare(name, [], [], self.valid, 2), "")
+        self.compare("catchments", GAUGES, GAUGE_WORDS, self.valid, 2)
         self.assertEqual(info(self.folder / "fill.tif")["bands"][0]["type"], "Float32")
 
     def test_what_was_not_raised_keeps_its_bytes(self):
@@ -142,6 +146,7 @@ class OtherRasters(MapCase):
     def all_maps(self, valid, decimals, **more):
         for name in DRAINAGE:
             self.compare(name, [], [], valid, decimals, **more)
+        self.compare("catchments", GAUGES, GAUGE_WORDS, valid, decimals, **more)
 
     def test_integers(self):
         heights = np.rint(hills()).astype(np.int16)
