@@ -34,8 +34,8 @@ ABOUT = {
     "streams": "1 where more than so many cells drain through a cell, else 0",
 }
 EPILOG = """\
-IN is any raster that GDAL opens, OUT a GeoTIFF, NAME.tif. Heights, eyes and targets are in the unit of the raster's heights,
-radius and coordinates in the unit of its projection: usually metres.
+IN is any raster that GDAL opens, OUT a GeoTIFF, NAME.tif. Heights, eyes and targets are in the unit of the raster's
+heights, radius and coordinates in the unit of its projection: usually metres.
 
 Exit status: 0 the map was written; 1 words were refused; 2 the raster, a layer or a point was refused; 3 no memory or
 thread; 4 reading or writing failed; 5 a program or module is missing; 130 interrupted.

@@ -142,9 +142,8 @@ class Terminal(ProgressCase):
         status, got = self.on_terminal("catchments", "dem.tif", "out.tif", *at(20, 30), "--snap", "1", "--progress",
                                        program=self.program("echo 'relief: 12 Memory' >&2; exit 3"))
         self.assertEqual(status, 3)
-        lines = self.shown(got)
-        self.assertEqual(lines, ["relief-gis: relief: 12 Memory: out of memory: take a smaller grid, or free some memory",
-                                 ""])
+        line = "relief-gis: relief: 12 Memory: out of memory: take a smaller grid, or free some memory"
+        self.assertEqual(self.shown(got), [line, ""])
 
 
 if __name__ == "__main__":

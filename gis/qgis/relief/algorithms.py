@@ -92,7 +92,7 @@ class MapAlgorithm(QgsProcessingAlgorithm):
     def shortHelpString(self) -> str:  # noqa: N802
         """The help beside the dialogue, with the picture of an example where it was installed."""
         picture = os.path.join(HERE, "help", f"{self.map}.png")
-        image = f'<p><img src="file://{picture}" width="280"></p>' if os.path.exists(picture) else ""
+        image = f'<p><img src="file://{picture}" width="200"></p>' if os.path.exists(picture) else ""
         return f"<p>{tr(self.about)}</p>{image}<p>{tr(COMMON_HELP)}</p>"
 
     def initAlgorithm(self, configuration: Optional[Dict[str, Any]] = None) -> None:  # noqa: N802
