@@ -38,6 +38,8 @@ RASTERS = (".tif", ".tiff")
 VECTORS = (".gpkg",)
 # A float32 tells apart all whole numbers of units up to this one.
 MOST_FLOAT32_UNITS = 1 << 23
+# Numbers that rasters use for "no data", and that are no heights on land.
+USUAL_NODATA = (-32768, -32767, -9999, -99999, 9999, 32767, 65535, 99999)
 METRES = ("", "m", "metre", "meter", "metres", "meters")
 
 Say = Callable[[str], None]
@@ -116,6 +118,7 @@ def run(job: Job, program: Program, caller: Caller) -> None:
     _check_targets(job)
     terrain = read_terrain(job.source, job.band, job.window, job.bounds, job.projection, job.needs_projection)
     _tell_units(terrain, job, caller.say)
+    _tell_doubtful_heights(terrain, job, caller.say)
     terrain = _without_holes(terrain, job, caller.say)
     heights = _heights(terrain, job, caller.say)
     request, gauges = _request(job, terrain.frame, heights, program, caller)
@@ -152,6 +155,15 @@ def _tell_units(terrain: Terrain, job: Job, say: Say) -> None:
             say("a Mercator projection stretches lengths away from the equator: radius and area are stretched too")
     if job.map == "view" and terrain.unit.lower() not in METRES:
         say(f"heights are in {terrain.unit}: eyes and targets are in it, not in metres")
+
+
+def _tell_doubtful_heights(terrain: Terrain, job: Job, say: Say) -> None:
+    """Says that the least or the greatest height looks as if it meant that there is no data."""
+    data = terrain.values[terrain.valid]
+    for number in (data.min(), data.max()) if data.size else ():
+        if number in USUAL_NODATA:
+            say(f"{np.count_nonzero(data == number):,} cells have the height {number:g}, which often means no data, and "
+                f"are taken for terrain: if it does, gdal_edit.py -a_nodata {number:g} {job.source}")
 
 
 def _without_holes(terrain: Terrain, job: Job, say: Say) -> Terrain:

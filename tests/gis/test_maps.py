@@ -1,4 +1,5 @@
 """Each map of GeoTIFFs of many kinds, cell by cell against `relief` run by hand, with its georeferencing."""
+import subprocess
 import unittest
 from decimal import Decimal
 
@@ -177,6 +178,18 @@ class OtherRasters(MapCase):
         make_raster(self.folder / "dem.tif", heights, -1)
         self.all_maps(np.ones((30, 40), bool), 0)
         self.assertEqual(read(self.folder / "fill.tif")[0, 0], -9999)
+
+    def test_a_height_that_looks_like_no_data_is_told(self):
+        for number, dtype in ((-9999, np.float32), (-32768, np.int16), (65535, np.uint16)):
+            heights = np.rint(hills()).astype(dtype)
+            heights[:2, :3] = number
+            make_raster(self.folder / "dem.tif", heights)
+            lines = self.make("fill", "dem.tif", "out.tif")
+            self.assertIn(f"6 cells have the height {number}, which often means no data, and are taken for terrain", lines)
+            command = lines.split("if it does, ")[1].split()
+            subprocess.run(command, cwd=self.folder, check=True, stdout=subprocess.DEVNULL)
+            self.assertEqual(self.make("fill", "dem.tif", "out.tif"), "")
+            self.assertEqual(nodata_of(self.folder / "out.tif"), number)
 
     def test_doubles_below_zero(self):
         heights = hills() - 330
