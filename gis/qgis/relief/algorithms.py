@@ -257,7 +257,8 @@ class Catchments(MapAlgorithm):
     map, title, output, kind = "catchments", "Catchments of gauges", "Catchments", "Gauges"
     about = ("Which gauge the water of each cell meets first, by the gauge's place in the list; 0: none. Nested gauges "
              "divide the land. A gauge beside the stream has a small catchment: let it move to the greatest "
-             "accumulation.")
+             "accumulation. The log counts the cells that drain to each gauge first, and those of them that lie where "
+             "the data ends: land beyond may drain in there.")
 
     def add_places(self) -> None:
         """Adds sinks and the way of gauges to the stream."""
