@@ -121,6 +121,8 @@ class Algorithms(Case):
             self.assertEqual(label, f"relief accumulate, stage {number}")
             shares = list(map(int, shares.split()))
             self.assertEqual((shares, shares[-1]), (sorted(shares), 100))
+            # The bar begins at 0, so that the first stage need not put it there.
+            self.assertTrue(number == 1 or shares[0] == 0)
 
     def test_cancel_ends_the_program_and_leaves_no_map(self):
         # Minutes of work: each of many observers looks over the whole raster.
@@ -131,7 +133,6 @@ class Algorithms(Case):
         self.assertEqual(lines[-1], "cancelled")
         self.assertLess(time.monotonic() - began, 100)
         self.assertEqual([name for name in os.listdir(self.folder) if "out" in name], [])
-        self.assertNotIn("100", " ".join(lines[-2:]).split())
 
     def test_an_extent(self):
         west, north = centre(0, 0)[0] - 15, centre(0, 0)[1] + 15

@@ -58,6 +58,7 @@ class Bar:
         if label != self.label:
             self.label = label
             self.feedback.setProgressText(label)
+            self.feedback.setProgress(0)
         self.feedback.setProgress(100 * step.share)
 
 
