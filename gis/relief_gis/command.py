@@ -221,7 +221,7 @@ def _run(words: Sequence[str], asked: argparse.Namespace) -> None:
         return run(job, program, Caller(_say))
     bar = _Bar()
     try:
-        return run(job, program, Caller(bar.say, bar))
+        return run(job, program, Caller(bar.say, bar, by_percent=bar.is_terminal))
     finally:
         bar.clear()
 

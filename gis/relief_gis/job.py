@@ -93,13 +93,19 @@ class Caller:
 
     Attributes:
         say: takes a line for the user.
-        progress: takes how far the program is, at each tenth of each of its stages; None: not asked for.
+        progress: takes how far the program is in each of its stages; None: not asked for.
         is_cancelled: asked ten times a second while the program runs, and before the map is written.
+        by_percent: whether progress comes at each percent, at most ten times a second, and not at each tenth.
     """
 
     say: Say
     progress: Optional[Report] = None
     is_cancelled: Optional[Question] = None
+    by_percent: bool = False
+
+    def make(self, request: Request, heights: Heights, program: Program) -> np.ndarray:
+        """Makes a map, and tells of its progress."""
+        return make(request, heights, program, self.progress, self.is_cancelled, self.by_percent)
 
     def check(self) -> None:
         """Raises Cancelled where the run was cancelled."""
@@ -122,7 +128,7 @@ def run(job: Job, program: Program, caller: Caller) -> None:
     terrain = _without_holes(terrain, job, caller.say)
     heights = _heights(terrain, job, caller.say)
     request, gauges = _request(job, terrain.frame, heights, program, caller)
-    found = make(request, heights, program, caller.progress, caller.is_cancelled)
+    found = caller.make(request, heights, program)
     array, nodata, unit = _result(job, terrain, heights, found)
     _tell_sizes(job, request, terrain.frame, heights.valid, found, caller.say)
     caller.check()
@@ -226,7 +232,7 @@ def _request(job: Job, frame: Frame, heights: Heights, program: Program,
     gauges = None
     if job.snap is not None:
         request = Request("accumulate", sinks, workers=job.workers, tile=job.tile)
-        counts = make(request, heights, program, caller.progress, caller.is_cancelled)
+        counts = caller.make(request, heights, program)
         places = _snapped(places, counts, job.snap, frame, caller.say)
         gauges = places, counts
     return Request("catchments", places, sinks, workers=job.workers, tile=job.tile), gauges

@@ -66,8 +66,8 @@ class Request:
 
 
 def make(request: Request, heights: Heights, program: Program, on_progress: Optional[Report] = None,
-         is_cancelled: Optional[Question] = None) -> np.ndarray:
-    """Makes a map with the program.
+         is_cancelled: Optional[Question] = None, by_percent: bool = False) -> np.ndarray:
+    """Makes a map with the program, which reports its progress and is cancelled as in `Program.run`.
 
     Returns:
         (rows, cols): of `fill` int64 in units, any number where there is no data; of `flow` uint8 with NODATA_CODE;
@@ -79,7 +79,8 @@ def make(request: Request, heights: Heights, program: Program, on_progress: Opti
     if request.map == "catchments":
         program.require("catchments")
     names, sinks = ([place.name for place in places] for places in (request.places, request.sinks))
-    found = program.run(request.words(), heights.units, heights.valid, names, sinks, on_progress, is_cancelled)
+    found = program.run(request.words(), heights.units, heights.valid, names, sinks, on_progress, is_cancelled,
+                        by_percent)
     if request.map == "fill":
         return found
     if request.map == "flow":

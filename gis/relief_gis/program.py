@@ -9,7 +9,7 @@ import subprocess
 import tempfile
 import threading
 from dataclasses import dataclass
-from typing import IO, Callable, List, Optional, Sequence, Tuple
+from typing import IO, Callable, Iterator, List, Optional, Sequence, Tuple
 
 import numpy as np
 
@@ -18,6 +18,9 @@ from .grid_text import read_grid, write_grid
 
 FAULT = re.compile(r"relief: (?:(\d+) )?(\S.*?)(?: (\d+))?")
 STAGE = re.compile(r"relief: stage (\d+): (\d{1,3}) %")
+LINE_ENDS = re.compile(r"[\r\n]+")
+# What the program writes to a terminal before it writes a line anew.
+CLEARED = "\x1b[K"
 # The numbers of faults whose detail is the place of a sink.
 SINK_FAULTS = range(46, 49)
 SECONDS_BETWEEN_LOOKS = 0.1
@@ -81,7 +84,7 @@ class Program:
 
     def run(self, words: Sequence[str], units: np.ndarray, valid: Optional[np.ndarray],
             subjects: Sequence[str] = (), sinks: Sequence[str] = (), on_progress: Optional[Report] = None,
-            is_cancelled: Optional[Question] = None) -> np.ndarray:
+            is_cancelled: Optional[Question] = None, by_percent: bool = False) -> np.ndarray:
         """Makes a map of heights.
 
         Args:
@@ -92,6 +95,7 @@ class Program:
             sinks: the names of the sinks that are given by options, likewise.
             on_progress: called at each tenth of each stage, where the program reports how far it is.
             is_cancelled: asked ten times a second; the run ends when it says so.
+            by_percent: call on_progress at each percent, where a tenth of a second has passed, and not at tenths.
 
         Returns:
             (rows, cols) int64, the map as the program wrote it.
@@ -108,7 +112,7 @@ class Program:
             with tempfile.TemporaryFile() as source, tempfile.TemporaryFile() as target:
                 write_grid(units, valid, source)
                 source.seek(0)
-                status, lines = self._run(words, source, target, on_progress, is_cancelled)
+                status, lines = self._run(words, source, target, on_progress, is_cancelled, by_percent)
                 if status != 0:
                     raise _refusal(status, lines, subjects, sinks or subjects)
                 target.seek(0)
@@ -119,17 +123,17 @@ class Program:
             raise DeviceError(f"a temporary file below {tempfile.gettempdir()} failed: {error.strerror}") from error
 
     def _run(self, words: Sequence[str], source: IO[bytes], target: IO[bytes], on_progress: Optional[Report],
-             is_cancelled: Optional[Question]) -> Tuple[int, List[str]]:
+             is_cancelled: Optional[Question], by_percent: bool) -> Tuple[int, List[str]]:
         """Runs the program over two open files; its status and the lines of its errors without progress."""
+        ours, errors = _errors_of(by_percent and on_progress is not None)
         lines: List[str] = []
         steps: queue.SimpleQueue[Progress] = queue.SimpleQueue()
 
         def listen() -> None:
-            assert process.stderr is not None
-            for line in process.stderr:
-                stage = STAGE.fullmatch(line.rstrip("\n"))
+            for line in _lines_of(ours):
+                stage = STAGE.fullmatch(line)
                 if stage is None:
-                    lines.append(line.rstrip("\n"))
+                    lines.append(line)
                 else:
                     steps.put(Progress(words[0], int(stage[1]), min(int(stage[2]), 100) / 100))
 
@@ -140,9 +144,12 @@ class Program:
                 if on_progress is not None:
                     on_progress(step)
 
-        with subprocess.Popen([self.path, *words], stdin=source, stdout=target, stderr=subprocess.PIPE,
-                              text=True, errors="replace") as process:
-            listener = threading.Thread(target=listen, daemon=True)
+        listener = threading.Thread(target=listen, daemon=True)
+        try:
+            try:
+                process = subprocess.Popen([self.path, *words], stdin=source, stdout=target, stderr=errors)
+            finally:
+                os.close(errors)
             listener.start()
             try:
                 _wait(process, report, is_cancelled)
@@ -152,11 +159,44 @@ class Program:
             finally:
                 process.wait()
                 listener.join()
+        finally:
+            os.close(ours)
         report()
         return process.returncode, lines
 
 
-def _wait(process: "subprocess.Popen[str]", report: Callable[[], None], is_cancelled: Optional[Question]) -> None:
+def _errors_of(is_terminal: bool) -> Tuple[int, int]:
+    """Where the program's errors are read, and where it writes them: on a terminal it reports each percent."""
+    if is_terminal:
+        try:
+            return os.openpty()
+        except OSError:
+            # Where the system has no terminal left, each tenth does.
+            pass
+    return os.pipe()
+
+
+def _lines_of(errors: int) -> Iterator[str]:
+    """The lines that come from a pipe or a terminal until its other end is closed, without empty ones."""
+    text = ""
+    while True:
+        try:
+            part = os.read(errors, 4096)
+        except OSError:
+            # So a terminal ends.
+            part = b""
+        if not part:
+            break
+        *lines, text = LINE_ENDS.split((text + part.decode(errors="replace")).replace(CLEARED, ""))
+        # A terminal's line ends where the next one begins.
+        if STAGE.fullmatch(text):
+            lines, text = [*lines, text], ""
+        yield from filter(None, lines)
+    if text:
+        yield text
+
+
+def _wait(process: "subprocess.Popen[bytes]", report: Callable[[], None], is_cancelled: Optional[Question]) -> None:
     """Waits for the end of a process and reports meanwhile; raises Cancelled where the caller asks for the end."""
     while True:
         try:

@@ -9,6 +9,7 @@ import unittest
 import numpy as np
 
 from fixtures import GIS, RELIEF, Case, at, environment, hills, make_raster, read
+from relief_gis.errors import ReliefError
 from relief_gis.heights import heights_of
 from relief_gis.maps import Place, Request, make
 from relief_gis.program import Program
@@ -91,6 +92,24 @@ class Lines(ProgressCase):
         last = {step.stage: step.share for step in steps}
         self.assertEqual(set(last.values()), {1.0})
         self.assertEqual([step.stage for step in steps], sorted(step.stage for step in steps))
+
+
+    def test_each_percent_in_python(self):
+        heights = heights_of(np.rint(hills(700, 700)).astype(int), np.ones((700, 700), bool), 0)
+        places = [Place("mast", 30 * at, 33 * at, 30) for at in range(20)] * 4
+        found = []
+        for by_percent in (False, True):
+            steps = []
+            found.append(make(Request("view", places), heights, Program.find(RELIEF), steps.append,
+                              by_percent=by_percent))
+            self.assertEqual(steps, sorted(steps, key=lambda step: (step.stage, step.share)))
+            last = {step.share for step in steps if step.stage == steps[-1].stage}
+            self.assertEqual(len(last) > 10, by_percent)
+        np.testing.assert_array_equal(*found)
+        with self.assertRaises(ReliefError) as caught:
+            make(Request("view", [Place("mast", 700, 0, 30)]), heights, Program.find(RELIEF), steps.append,
+                 by_percent=True)
+        self.assertEqual((caught.exception.number, caught.exception.place), (41, 0))
 
 
 class Terminal(ProgressCase):

@@ -112,17 +112,20 @@ class Algorithms(Case):
         return done.stdout.splitlines()
 
     def test_the_bar_runs_once_for_each_stage(self):
-        make_raster(self.folder / "dem.tif", hills(200, 200).astype(np.float32))
-        begin, *stages, end = self.feedback("accumulate", WORKERS=1)
+        make_raster(self.folder / "dem.tif", hills(700, 700).astype(np.float32))
+        masts = make_points(self.folder / "masts.gpkg", [centre(30 * at, 33 * at) for at in range(20)] * 4)
+        begin, *stages, end = self.feedback("view", POINTS=str(masts), EYE=30, WORKERS=1)
         self.assertEqual((begin, end), ("begin:", "done"))
-        self.assertGreater(len(stages), 1)
-        for number, line in enumerate(stages, 1):
+        found = []
+        for line in stages:
             label, _, shares = line.partition(": ")
-            self.assertEqual(label, f"relief accumulate, stage {number}")
+            found.append(int(label.removeprefix("relief view, stage ")))
             shares = list(map(int, shares.split()))
-            self.assertEqual((shares, shares[-1]), (sorted(shares), 100))
-            # The bar begins at 0, so that the first stage need not put it there.
-            self.assertTrue(number == 1 or shares[0] == 0)
+            self.assertEqual(shares, sorted(shares))
+        self.assertEqual(found, sorted(set(found)))
+        # The last stage takes nearly all time, and the bar moves all the while.
+        self.assertGreater(len(shares), 12)
+        self.assertEqual(shares[-1], 100)
 
     def test_cancel_ends_the_program_and_leaves_no_map(self):
         # Minutes of work: each of many observers looks over the whole raster.

@@ -128,7 +128,8 @@ class MapAlgorithm(QgsProcessingAlgorithm):
         target = self.parameterAsOutputLayer(parameters, self.OUTPUT, context)
         try:
             asked = job.Job(**self.job_words(parameters, context, layer, target))
-            job.run(asked, program.Program.find(), job.Caller(feedback.pushInfo, Bar(feedback), feedback.isCanceled))
+            caller = job.Caller(feedback.pushInfo, Bar(feedback), feedback.isCanceled, by_percent=True)
+            job.run(asked, program.Program.find(), caller)
         except errors.Cancelled:
             return {}
         except errors.GisError as error:
