@@ -19,7 +19,7 @@ test:
 	tests/sights ./relief
 	tests/limits ./relief
 	tests/pictures
-	tests/tools ./relief
+	tests/tools
 	tests/install ./relief
 	tests/refusals ./relief crates/*/out/*_tests
 	tools/recipes ./relief
@@ -62,7 +62,7 @@ MAN = $(SHARE)/man/man1
 BASH = $(SHARE)/bash-completion/completions
 ZSH = $(SHARE)/zsh/$(if $(filter /usr,$(PREFIX)),vendor-completions,site-functions)
 # The tools are installed as relief-NAME.
-TOOLS = catchments cells holes picture
+TOOLS = cells holes picture
 
 install:
 	$(BUILT)
@@ -77,7 +77,7 @@ install:
 	install -m 644 tools/completion/_relief "$(ZSH)/_relief"
 	pages=$$(tools/linked_pages README.md) && for page in $$pages; do \
 	  install -D -m 644 "$$page" "$(SHARE)/doc/relief/$$page" || exit 1; done
-	@[ -n "$(DESTDIR)" ] || ! command -v qgis > /dev/null || gis/install "$(PREFIX)"
+	@[ -n "$(DESTDIR)" ] || gis/install "$(PREFIX)"
 
 uninstall:
 	rm -f "$(BIN)/relief" $(TOOLS:%="$(BIN)/relief-%") "$(MAN)/relief.1" $(TOOLS:%="$(MAN)/relief-%.1")

@@ -5,6 +5,7 @@ import argparse
 import os
 import re
 import shlex
+import shutil
 import signal
 import sys
 from decimal import Decimal
@@ -14,12 +15,12 @@ from . import __version__
 from .errors import GisError, UsageError
 from .job import VOIDS, Caller, Job, bounds_of, run
 from .points import Layer, point_of_word
-from .program import Program
+from .program import Program, Progress
 from .units import MOST_DECIMALS, decimal_of
 
 NAME = "relief-gis"
 NEGATIVE = re.compile(r"-[\d.]")
-BAR_CELLS = 40
+MOST_BAR_CELLS = 40
 MOST_WORKERS = 64
 ABOUT = {
     "fill": "filled heights",
@@ -33,8 +34,8 @@ ABOUT = {
     "streams": "1 where more than so many cells drain through a cell, else 0",
 }
 EPILOG = """\
-IN is any raster that GDAL opens, OUT a GeoTIFF. Heights, eyes and targets are in the unit of the raster's heights,
-radius and coordinates in the unit of its projection: usually metres.
+IN is any raster that GDAL opens, OUT a GeoTIFF, NAME.tif. Heights, eyes and targets are in the unit of the raster's
+heights, radius and coordinates in the unit of its projection: usually metres.
 
 Exit status: 0 the map was written; 1 words were refused; 2 the raster, a layer or a point was refused; 3 no memory or
 thread; 4 reading or writing failed; 5 a program or module is missing; 130 interrupted.
@@ -71,7 +72,7 @@ def _parser() -> argparse.ArgumentParser:
 def _add_common(parser: argparse.ArgumentParser) -> None:
     add = parser.add_argument
     add("source", metavar="IN", help="raster of heights")
-    add("target", metavar="OUT", help="GeoTIFF of the map")
+    add("target", metavar="OUT", help="GeoTIFF of the map, NAME.tif")
     add("--band", type=int, default=1, metavar="N", help="band of IN, from 1")
     add("--decimals", type=int, choices=range(MOST_DECIMALS + 1), metavar="D",
         help="decimals of heights that are kept, 0 to 6 (of integers 0, of floats 2)")
@@ -112,7 +113,7 @@ def _add_gauges(parser: argparse.ArgumentParser) -> None:
     parser.add_argument("--sinks", action="append", default=[], metavar="LAYER", help="sinks: points of a file")
     parser.add_argument("--snap", type=int, metavar="CELLS",
                         help="move each gauge to the greatest accumulation within so many rows and columns")
-    parser.add_argument("--snapped", metavar="OUT", help="GeoPackage of the gauges where they were moved to")
+    parser.add_argument("--snapped", metavar="OUT", help="GeoPackage of the gauges where they were moved to, NAME.gpkg")
 
 
 def _numbers(word: str, names: str) -> List[Decimal]:
@@ -179,24 +180,35 @@ def _joined(words: Sequence[str]) -> List[str]:
 
 
 class _Bar:
-    """A bar on a terminal, written anew in place; elsewhere a line at each tenth."""
+    """A bar for each stage on a terminal, written anew in place; elsewhere a line at each tenth of a stage."""
 
     def __init__(self) -> None:
         self.is_terminal = sys.stderr.isatty()
-        self.tenth = 0
+        self.width = 0
 
-    def __call__(self, share: float) -> None:
-        if self.is_terminal:
-            done = round(share * BAR_CELLS)
-            print(f"\r{'#' * done}{'.' * (BAR_CELLS - done)} {share:4.0%}", end="", file=sys.stderr, flush=True)
-        elif int(share * 10) > self.tenth:
-            self.tenth = int(share * 10)
-            _say(f"{self.tenth}0 %")
+    def __call__(self, step: Progress) -> None:
+        label = f"{step.map}, stage {step.stage}"
+        if not self.is_terminal:
+            return _say(f"{label}: {step.share:.0%}".replace("%", " %"))
+        percent = f" {step.share:4.0%}"
+        # One column is left free: a full line would begin a new one.
+        most = shutil.get_terminal_size().columns - len(label) - len(percent) - 2
+        cells = max(0, min(MOST_BAR_CELLS, most))
+        done = round(step.share * cells)
+        line = f"{label} {'#' * done}{'.' * (cells - done)}{percent}"
+        print(f"\r{line:{self.width}}", end="", file=sys.stderr, flush=True)
+        self.width = len(line)
+
+    def say(self, line: str) -> None:
+        """Says a line in the place of the bar."""
+        self.clear()
+        _say(line)
 
     def clear(self) -> None:
         """Takes the bar off the terminal."""
-        if self.is_terminal:
-            print(f"\r{' ' * (BAR_CELLS + 5)}\r", end="", file=sys.stderr, flush=True)
+        if self.width:
+            print(f"\r{'':{self.width}}\r", end="", file=sys.stderr, flush=True)
+            self.width = 0
 
 
 def _run(words: Sequence[str], asked: argparse.Namespace) -> None:
@@ -204,12 +216,12 @@ def _run(words: Sequence[str], asked: argparse.Namespace) -> None:
     job = _job(words, asked)
     if not asked.progress:
         return run(job, program, Caller(_say))
-    if not program.offers("--progress"):
+    if not program.has_progress:
         _say(f"relief {program.version} reports no progress")
         return run(job, program, Caller(_say))
     bar = _Bar()
     try:
-        return run(job, program, Caller(_say, bar))
+        return run(job, program, Caller(bar.say, bar, by_percent=bar.is_terminal))
     finally:
         bar.clear()
 

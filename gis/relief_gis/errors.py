@@ -19,7 +19,7 @@ MEANINGS = {
     51: "the heights could not be read: is the disk for temporary files full?",
     52: "the map could not be written: is the disk for temporary files full?",
     61: "the gauge lies outside the grid: move it, or take a larger window",
-    62: "the gauge stands where there is no data: move it, or give --snap",
+    62: "the gauge stands where there is no data: move it",
     63: "more than 1,024 gauges: name fewer",
 }
 UNEXPECTED = "relief-gis wrote what relief refuses: please report it, with the command"

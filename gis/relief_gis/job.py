@@ -7,16 +7,16 @@ from contextlib import contextmanager
 from dataclasses import dataclass
 from decimal import Decimal
 from fractions import Fraction
-from typing import Callable, Iterator, List, Optional, Sequence, Tuple, Union
+from typing import Callable, Dict, Iterator, List, Optional, Sequence, Tuple, Union
 
 import numpy as np
 
 from . import styles
-from .errors import DeviceError, InputError, UsageError
+from .errors import Cancelled, DeviceError, InputError, UsageError
 from .heights import Heights, default_decimals, heights_of, scaled_integers
-from .maps import NODATA_CODE, NODATA_COUNT, Place, Request, lower_neighbour, make
+from .maps import NODATA_CODE, NODATA_COUNT, Place, Request, edge_cells, lower_neighbour, make
 from .points import Layer, Point, places_of, points_of, snap, write_points
-from .program import Program, Progress, Question
+from .program import Program, Question, Report
 from .raster import (Bounds, Frame, Terrain, Window, fill_holes, nodata_for, read_terrain, remove_sidecars,
                      write_geotiff)
 from .units import fraction_of, plain, radius_in_cells, rounded_up, whole_units
@@ -33,8 +33,13 @@ DESCRIPTIONS = {
     "streams": "1: a stream",
 }
 VOIDS = ("refuse", "drain", "fill")
+# How the names of written files end.
+RASTERS = (".tif", ".tiff")
+VECTORS = (".gpkg",)
 # A float32 tells apart all whole numbers of units up to this one.
 MOST_FLOAT32_UNITS = 1 << 23
+# Numbers that rasters use for "no data", and that are no heights on land.
+USUAL_NODATA = (-32768, -32767, -9999, -99999, 9999, 32767, 65535, 99999)
 METRES = ("", "m", "metre", "meter", "metres", "meters")
 
 Say = Callable[[str], None]
@@ -88,13 +93,24 @@ class Caller:
 
     Attributes:
         say: takes a line for the user.
-        progress: takes 0 to 1, how far the program is, where it reports that; None: not asked for.
-        is_cancelled: asked ten times a second while the program runs.
+        progress: takes how far the program is in each of its stages; None: not asked for.
+        is_cancelled: asked ten times a second while the program runs, and before the map is written.
+        by_percent: whether progress comes at each percent, at most ten times a second, and not at each tenth.
     """
 
     say: Say
-    progress: Optional[Progress] = None
+    progress: Optional[Report] = None
     is_cancelled: Optional[Question] = None
+    by_percent: bool = False
+
+    def make(self, request: Request, heights: Heights, program: Program) -> np.ndarray:
+        """Makes a map, and tells of its progress."""
+        return make(request, heights, program, self.progress, self.is_cancelled, self.by_percent)
+
+    def check(self) -> None:
+        """Raises Cancelled where the run was cancelled."""
+        if self.is_cancelled is not None and self.is_cancelled():
+            raise Cancelled("cancelled")
 
 
 def run(job: Job, program: Program, caller: Caller) -> None:
@@ -108,18 +124,22 @@ def run(job: Job, program: Program, caller: Caller) -> None:
     _check_targets(job)
     terrain = read_terrain(job.source, job.band, job.window, job.bounds, job.projection, job.needs_projection)
     _tell_units(terrain, job, caller.say)
+    _tell_doubtful_heights(terrain, job, caller.say)
     terrain = _without_holes(terrain, job, caller.say)
     heights = _heights(terrain, job, caller.say)
     request, gauges = _request(job, terrain.frame, heights, program, caller)
-    found = make(request, heights, program, caller.progress, caller.is_cancelled)
+    found = caller.make(request, heights, program)
     array, nodata, unit = _result(job, terrain, heights, found)
-    _tell_sizes(job, request, terrain.frame, found, caller.say)
+    _tell_sizes(job, request, terrain.frame, heights.valid, found, caller.say)
+    caller.check()
     _write(job, array, nodata, unit, terrain.frame, heights, request, program, gauges)
 
 
 def _check_targets(job: Job) -> None:
     """Refuses targets that cannot be, before anything is computed."""
-    for path in filter(None, (job.target, job.snapped)):
+    for path, kind, endings in ((job.target, "a GeoTIFF", RASTERS), (job.snapped, "a GeoPackage", VECTORS)):
+        if path is None:
+            continue
         folder = os.path.dirname(os.path.abspath(path))
         if not os.path.isdir(folder) or not os.access(folder, os.W_OK):
             raise DeviceError(f"{path} cannot be written: no folder {folder} that you may write to")
@@ -127,6 +147,8 @@ def _check_targets(job: Job) -> None:
             raise DeviceError(f"{path} cannot be written: it is a folder")
         if os.path.exists(path) and os.path.exists(job.source) and os.path.samefile(path, job.source):
             raise UsageError(f"{path} is the raster that is read: give the map a name of its own")
+        if not path.lower().endswith(endings):
+            raise UsageError(f"{path} would be {kind}: give it a name that ends with {endings[0]}")
 
 
 def _tell_units(terrain: Terrain, job: Job, say: Say) -> None:
@@ -139,6 +161,15 @@ def _tell_units(terrain: Terrain, job: Job, say: Say) -> None:
             say("a Mercator projection stretches lengths away from the equator: radius and area are stretched too")
     if job.map == "view" and terrain.unit.lower() not in METRES:
         say(f"heights are in {terrain.unit}: eyes and targets are in it, not in metres")
+
+
+def _tell_doubtful_heights(terrain: Terrain, job: Job, say: Say) -> None:
+    """Says that the least or the greatest height looks as if it meant that there is no data."""
+    data = terrain.values[terrain.valid]
+    for number in (data.min(), data.max()) if data.size else ():
+        if number in USUAL_NODATA:
+            say(f"{np.count_nonzero(data == number):,} cells have the height {number:g}, which often means no data, and "
+                f"are taken for terrain: if it does, gdal_edit.py -a_nodata {number:g} {job.source}")
 
 
 def _without_holes(terrain: Terrain, job: Job, say: Say) -> Terrain:
@@ -201,7 +232,7 @@ def _request(job: Job, frame: Frame, heights: Heights, program: Program,
     gauges = None
     if job.snap is not None:
         request = Request("accumulate", sinks, workers=job.workers, tile=job.tile)
-        counts = make(request, heights, program, None, caller.is_cancelled)
+        counts = caller.make(request, heights, program)
         places = _snapped(places, counts, job.snap, frame, caller.say)
         gauges = places, counts
     return Request("catchments", places, sinks, workers=job.workers, tile=job.tile), gauges
@@ -233,12 +264,17 @@ def _coordinates(frame: Frame, row: int, col: int) -> str:
 def _snapped(places: Sequence[Place], counts: np.ndarray, cells: int, frame: Frame, say: Say) -> List[Place]:
     moved = snap(places, counts, cells)
     for before, after in zip(places, moved):
-        say(f"{before.name} moved to {_coordinates(frame, after.row, after.col)}: {counts[after.row, after.col]:,} "
-            f"other cells drain through it, {counts[before.row, before.col]:,} before")
+        if (before.row, before.col) == (after.row, after.col):
+            say(f"{before.name} stays: {counts[after.row, after.col]:,} other cells drain through its cell, the most "
+                "there")
+        else:
+            say(f"{before.name} moved to {_coordinates(frame, after.row, after.col)}: "
+                f"{counts[after.row, after.col]:,} other cells drain through it, "
+                f"{counts[before.row, before.col]:,} before")
     return moved
 
 
-def _tell_sizes(job: Job, request: Request, frame: Frame, found: np.ndarray, say: Say) -> None:
+def _tell_sizes(job: Job, request: Request, frame: Frame, valid: np.ndarray, found: np.ndarray, say: Say) -> None:
     """Says how large each gauge's catchment is, and what the threshold of streams is as an area."""
     cell_area = frame.cell * frame.cell
     if job.map == "streams":
@@ -246,9 +282,26 @@ def _tell_sizes(job: Job, request: Request, frame: Frame, found: np.ndarray, say
         say(f"streams: more than {threshold:,} other cells, {plain(threshold * cell_area)} square units, drain through "
             "them")
     if job.map == "catchments":
-        sizes = np.bincount(found[found > 0], minlength=len(request.places) + 1)
-        for number, gauge in enumerate(request.places, 1):
-            say(f"{number}, {gauge.name}: {sizes[number]:,} cells that meet no other gauge before")
+        _tell_catchments(request.places, valid, found, say)
+
+
+def _tell_catchments(gauges: Sequence[Place], valid: np.ndarray, found: np.ndarray, say: Say) -> None:
+    """Says how many cells have each gauge's number, and how many of these lie where the data ends."""
+    edges = edge_cells(valid)
+    for gauge in gauges:
+        # Where the data ends at the gauge itself, its water runs out and none runs in.
+        edges[gauge.row, gauge.col] = False
+    sizes, cut = (np.bincount(numbers[numbers > 0], minlength=len(gauges) + 1) for numbers in (found, found[edges]))
+    first: Dict[Tuple[int, int], int] = {}
+    for number, gauge in enumerate(gauges, 1):
+        same = first.setdefault((gauge.row, gauge.col), number)
+        if same != number:
+            say(f"{number}, {gauge.name}: lies in the cell of {same}, and no cell has its number")
+            continue
+        rest = f", {cut[number]:,} of them where the data ends" if cut[number] else ""
+        say(f"{number}, {gauge.name}: {sizes[number]:,} cells drain to it first{rest}")
+    if cut.any():
+        say("where the data ends, land beyond it may drain in, and the catchment is larger then")
 
 
 def _result(job: Job, terrain: Terrain, heights: Heights,

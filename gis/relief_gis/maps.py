@@ -7,7 +7,7 @@ from typing import List, Optional, Sequence, Tuple
 import numpy as np
 
 from .heights import Heights
-from .program import Program, Progress, Question
+from .program import Program, Question, Report
 
 NODATA_CODE = 255
 NODATA_COUNT = -9999
@@ -65,9 +65,9 @@ class Request:
         return words + [place.word for place in self.places]
 
 
-def make(request: Request, heights: Heights, program: Program, on_progress: Optional[Progress] = None,
-         is_cancelled: Optional[Question] = None) -> np.ndarray:
-    """Makes a map with the program.
+def make(request: Request, heights: Heights, program: Program, on_progress: Optional[Report] = None,
+         is_cancelled: Optional[Question] = None, by_percent: bool = False) -> np.ndarray:
+    """Makes a map with the program, which reports its progress and is cancelled as in `Program.run`.
 
     Returns:
         (rows, cols): of `fill` int64 in units, any number where there is no data; of `flow` uint8 with NODATA_CODE;
@@ -78,13 +78,32 @@ def make(request: Request, heights: Heights, program: Program, on_progress: Opti
     """
     if request.map == "catchments":
         program.require("catchments")
-    names = [place.name for place in request.places]
-    found = program.run(request.words(), heights.units, heights.valid, names, on_progress, is_cancelled)
+    names, sinks = ([place.name for place in places] for places in (request.places, request.sinks))
+    found = program.run(request.words(), heights.units, heights.valid, names, sinks, on_progress, is_cancelled,
+                        by_percent)
     if request.map == "fill":
         return found
     if request.map == "flow":
         return np.where(heights.valid, found, NODATA_CODE).astype(np.uint8)
     return found.astype(np.int32)
+
+
+def edge_cells(valid: np.ndarray) -> np.ndarray:
+    """Where the data ends: the data cells with a place outside the grid or without data among the eight around them.
+
+    Args:
+        valid: (rows, cols) bool, where there is data.
+
+    Returns:
+        (rows, cols) bool.
+    """
+    rows, cols = valid.shape
+    around = np.pad(valid, 1)
+    inside = valid.copy()
+    for down in range(3):
+        for right in range(3):
+            inside &= around[down:down + rows, right:right + cols]
+    return valid & ~inside
 
 
 def lower_neighbour(heights: Heights, place: Place) -> Optional[Tuple[int, int]]:

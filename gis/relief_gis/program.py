@@ -9,7 +9,7 @@ import subprocess
 import tempfile
 import threading
 from dataclasses import dataclass
-from typing import IO, Callable, List, Optional, Sequence, Tuple
+from typing import IO, Callable, Iterator, List, Optional, Sequence, Tuple
 
 import numpy as np
 
@@ -17,11 +17,29 @@ from .errors import Cancelled, DeviceError, MissingError, ReliefError
 from .grid_text import read_grid, write_grid
 
 FAULT = re.compile(r"relief: (?:(\d+) )?(\S.*?)(?: (\d+))?")
-PERCENT = re.compile(r"(\d{1,3}) ?%")
+STAGE = re.compile(r"relief: stage (\d+): (\d{1,3}) %")
+LINE_ENDS = re.compile(r"[\r\n]+")
+# What the program writes to a terminal before it writes a line anew.
+CLEARED = "\x1b[K"
+# The numbers of faults whose detail is the place of a sink.
+SINK_FAULTS = range(46, 49)
 SECONDS_BETWEEN_LOOKS = 0.1
 VARIABLE = "RELIEF"
 
-Progress = Callable[[float], None]
+
+@dataclass(frozen=True)
+class Progress:
+    """How far a run of the program is: its map, the stage from 1, and the share of the stage that is done, 0 to 1.
+
+    How many stages there will be is not known before the run ends.
+    """
+
+    map: str
+    stage: int
+    share: float
+
+
+Report = Callable[[Progress], None]
 Question = Callable[[], bool]
 
 
@@ -50,18 +68,23 @@ class Program:
             raise MissingError(f"{found} is not the relief that makes maps: set {VARIABLE} to its path")
         return cls(found, version.split()[1], _output_of(found, "--help"))
 
-    def offers(self, word: str) -> bool:
-        """Whether this version has a map or an option."""
-        return re.search(rf"(?<![\w-]){re.escape(word)}(?![\w-])", self.help) is not None
+    def has_map(self, name: str) -> bool:
+        """Whether this version has a map."""
+        return re.search(rf"^ +{name} ", self.help, re.MULTILINE) is not None
 
-    def require(self, word: str) -> None:
-        """Raises MissingError where this version lacks a map or an option."""
-        if not self.offers(word):
-            raise MissingError(f"relief {self.version} has no {word}: install a newer relief")
+    @property
+    def has_progress(self) -> bool:
+        """Whether this version has the option --progress, which came with the map catchments."""
+        return self.has_map("catchments")
+
+    def require(self, name: str) -> None:
+        """Raises MissingError where this version lacks a map."""
+        if not self.has_map(name):
+            raise MissingError(f"relief {self.version} has no {name}: install a newer relief")
 
     def run(self, words: Sequence[str], units: np.ndarray, valid: Optional[np.ndarray],
-            subjects: Sequence[str] = (), on_progress: Optional[Progress] = None,
-            is_cancelled: Optional[Question] = None) -> np.ndarray:
+            subjects: Sequence[str] = (), sinks: Sequence[str] = (), on_progress: Optional[Report] = None,
+            is_cancelled: Optional[Question] = None, by_percent: bool = False) -> np.ndarray:
         """Makes a map of heights.
 
         Args:
@@ -69,8 +92,10 @@ class Program:
             units: (rows, cols) int64, heights in units.
             valid: (rows, cols) bool, where there is data; None: everywhere.
             subjects: the names of the places among the words, for the text of a refusal.
-            on_progress: called with 0 to 1 where the program reports how far it is.
+            sinks: the names of the sinks that are given by options, likewise.
+            on_progress: called at each tenth of each stage, where the program reports how far it is.
             is_cancelled: asked ten times a second; the run ends when it says so.
+            by_percent: call on_progress at each percent, where a tenth of a second has passed, and not at tenths.
 
         Returns:
             (rows, cols) int64, the map as the program wrote it.
@@ -80,16 +105,16 @@ class Program:
             DeviceError: a temporary file could not be written or read.
             Cancelled: the caller asked for the end.
         """
-        if on_progress is not None and self.offers("--progress"):
+        if on_progress is not None and self.has_progress:
             words = [words[0], "--progress", *words[1:]]
         try:
             # Both files have no name, so none is left whatever happens; from a file several workers read.
             with tempfile.TemporaryFile() as source, tempfile.TemporaryFile() as target:
                 write_grid(units, valid, source)
                 source.seek(0)
-                status, lines = self._run(words, source, target, on_progress, is_cancelled)
+                status, lines = self._run(words, source, target, on_progress, is_cancelled, by_percent)
                 if status != 0:
-                    raise _refusal(status, lines, subjects)
+                    raise _refusal(status, lines, subjects, sinks or subjects)
                 target.seek(0)
                 return read_grid(target)
         except OSError as error:
@@ -97,31 +122,34 @@ class Program:
                 raise
             raise DeviceError(f"a temporary file below {tempfile.gettempdir()} failed: {error.strerror}") from error
 
-    def _run(self, words: Sequence[str], source: IO[bytes], target: IO[bytes], on_progress: Optional[Progress],
-             is_cancelled: Optional[Question]) -> Tuple[int, List[str]]:
+    def _run(self, words: Sequence[str], source: IO[bytes], target: IO[bytes], on_progress: Optional[Report],
+             is_cancelled: Optional[Question], by_percent: bool) -> Tuple[int, List[str]]:
         """Runs the program over two open files; its status and the lines of its errors without progress."""
+        ours, errors = _errors_of(by_percent and on_progress is not None)
         lines: List[str] = []
-        shares: queue.SimpleQueue[float] = queue.SimpleQueue()
+        steps: queue.SimpleQueue[Progress] = queue.SimpleQueue()
 
         def listen() -> None:
-            assert process.stderr is not None
-            for line in process.stderr:
-                share = PERCENT.search(line)
-                if share is None:
-                    lines.append(line.rstrip("\n"))
+            for line in _lines_of(ours):
+                stage = STAGE.fullmatch(line)
+                if stage is None:
+                    lines.append(line)
                 else:
-                    shares.put(min(int(share[1]), 100) / 100)
+                    steps.put(Progress(words[0], int(stage[1]), min(int(stage[2]), 100) / 100))
 
         def report() -> None:
             """Tells the caller on the thread that called: feedback of QGIS wants that."""
-            while not shares.empty():
-                share = shares.get()
+            while not steps.empty():
+                step = steps.get()
                 if on_progress is not None:
-                    on_progress(share)
+                    on_progress(step)
 
-        with subprocess.Popen([self.path, *words], stdin=source, stdout=target, stderr=subprocess.PIPE,
-                              text=True, errors="replace") as process:
-            listener = threading.Thread(target=listen, daemon=True)
+        listener = threading.Thread(target=listen, daemon=True)
+        try:
+            try:
+                process = subprocess.Popen([self.path, *words], stdin=source, stdout=target, stderr=errors)
+            finally:
+                os.close(errors)
             listener.start()
             try:
                 _wait(process, report, is_cancelled)
@@ -131,11 +159,44 @@ class Program:
             finally:
                 process.wait()
                 listener.join()
+        finally:
+            os.close(ours)
         report()
         return process.returncode, lines
 
 
-def _wait(process: "subprocess.Popen[str]", report: Callable[[], None], is_cancelled: Optional[Question]) -> None:
+def _errors_of(is_terminal: bool) -> Tuple[int, int]:
+    """Where the program's errors are read, and where it writes them: on a terminal it reports each percent."""
+    if is_terminal:
+        try:
+            return os.openpty()
+        except OSError:
+            # Where the system has no terminal left, each tenth does.
+            pass
+    return os.pipe()
+
+
+def _lines_of(errors: int) -> Iterator[str]:
+    """The lines that come from a pipe or a terminal until its other end is closed, without empty ones."""
+    text = ""
+    while True:
+        try:
+            part = os.read(errors, 4096)
+        except OSError:
+            # So a terminal ends.
+            part = b""
+        if not part:
+            break
+        *lines, text = LINE_ENDS.split((text + part.decode(errors="replace")).replace(CLEARED, ""))
+        # A terminal's line ends where the next one begins.
+        if STAGE.fullmatch(text):
+            lines, text = [*lines, text], ""
+        yield from filter(None, lines)
+    if text:
+        yield text
+
+
+def _wait(process: "subprocess.Popen[bytes]", report: Callable[[], None], is_cancelled: Optional[Question]) -> None:
     """Waits for the end of a process and reports meanwhile; raises Cancelled where the caller asks for the end."""
     while True:
         try:
@@ -156,7 +217,7 @@ def _output_of(path: str, word: str) -> str:
     return done.stdout
 
 
-def _refusal(status: int, lines: Sequence[str], subjects: Sequence[str]) -> ReliefError:
+def _refusal(status: int, lines: Sequence[str], subjects: Sequence[str], sinks: Sequence[str]) -> ReliefError:
     """The error that a program's lines and status stand for."""
     if status < 0:
         return ReliefError(None, f"ended by signal {-status}", None, 3)
@@ -165,5 +226,6 @@ def _refusal(status: int, lines: Sequence[str], subjects: Sequence[str]) -> Reli
         return ReliefError(None, lines[0] if lines else f"status {status}", None, status)
     number = int(fault[1]) if fault[1] else None
     place = int(fault[3]) if fault[3] else None
-    is_named = number is not None and number >= 41 and place is not None and place < len(subjects)
-    return ReliefError(number, fault[2], place, status, subjects[place] if is_named and place is not None else "")
+    named = sinks if number in SINK_FAULTS else subjects
+    is_named = number is not None and number >= 41 and place is not None and place < len(named)
+    return ReliefError(number, fault[2], place, status, named[place] if is_named and place is not None else "")

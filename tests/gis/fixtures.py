@@ -125,7 +125,8 @@ def by_hand(words, raster, decimals=0):
     with tempfile.TemporaryDirectory() as folder:
         text = os.path.join(folder, "dem.asc")
         digits = ["-co", f"DECIMAL_PRECISION={decimals}"] if decimals else []
-        subprocess.run(["gdal_translate", "-q", "-of", "AAIGrid", *digits, str(raster), text], check=True)
+        subprocess.run(["gdal_translate", "-q", "-of", "AAIGrid", *digits, str(raster), text], check=True,
+                       capture_output=True)
         with open(text, "rb") as file:
             done = subprocess.run([RELIEF, words[0], "--scale", str(decimals), *words[1:]], stdin=file,
                                   capture_output=True, text=True, check=True)

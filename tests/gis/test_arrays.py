@@ -54,6 +54,34 @@ class Arrays(Case):
         expected = self.expected("view", "--target", "100", "--radius", "9", "12,20,110", "3,30,225")
         np.testing.assert_array_equal(found, expected)
 
+    def test_catchments(self):
+        gauges, sinks = [(20, 30), (12, 20), (20, 30)], [(7, 9)]
+        found = relief_gis.catchments(self.heights, gauges, scale=2, sinks=sinks, workers=2)
+        self.assertEqual(found.dtype, np.int32)
+        self.assertTrue(np.all(found[~self.valid] == relief_gis.NODATA_COUNT))
+        expected = self.expected("catchments", "--sink", "7,9", "20,30", "12,20", "20,30")
+        np.testing.assert_array_equal(found, expected)
+
+    def test_catchments_of_an_example(self):
+        heights = np.array([[9, 9, 9, 9], [9, 1, 9, 9], [9, 9, 2, 9], [9, 9, 9, 3]])
+        for gauges, expected in (([(2, 2)], [[1, 1, 1, 0], [1, 1, 1, 1], [1, 1, 1, 0], [0, 1, 0, 0]]),
+                                 ([(3, 3), (1, 1), (2, 2)],
+                                  [[2, 2, 2, 0], [2, 2, 3, 3], [2, 3, 3, 1], [0, 3, 1, 1]])):
+            self.assertEqual(relief_gis.catchments(heights, gauges).tolist(), expected)
+
+    def test_refused_gauges_and_sinks(self):
+        for gauges, sinks, number, name, place, told in (
+                ([(1, 8), (0, 0)], [], 62, "GaugeOnNodata", 1, "gauge 1: the gauge stands where there is no data"),
+                ([(99, 0)], [(1, 8)], 61, "GaugeOutside", 0, "gauge 0: the gauge lies outside the grid"),
+                ([(1, 8)] * 1025, [], 63, "TooManyGauges", None, "more than 1,024 gauges"),
+                # Sinks are judged before gauges.
+                ([(99, 0)], [(1, 8), (99, 0)], 46, "SinkOutside", 1, "sink 1: the sink lies outside the grid")):
+            with self.assertRaises(relief_gis.ReliefError) as caught:
+                relief_gis.catchments(self.heights, gauges, sinks=sinks)
+            error = caught.exception
+            self.assertEqual((error.number, error.name, error.place, error.status), (number, name, place, 2))
+            self.assertIn(told, str(error))
+
     def test_refusals(self):
         with self.assertRaises(relief_gis.ReliefError) as caught:
             relief_gis.fill(self.heights, sinks=[(1, 8), (99, 0)])

@@ -1,4 +1,5 @@
 """Each map of GeoTIFFs of many kinds, cell by cell against `relief` run by hand, with its georeferencing."""
+import subprocess
 import unittest
 from decimal import Decimal
 
@@ -9,10 +10,13 @@ from fixtures import (FLOAT_NODATA, PLACED, UTM, Case, at, by_hand, hills, info,
                       read)
 
 DRAINAGE = ("fill", "flow", "accumulate", "basins")
-TYPE_OF = {"flow": "Byte", "accumulate": "Int32", "basins": "Int32", "view": "Int32", "streams": "Byte",
-           "area": "Float64"}
-NODATA_OF = {"flow": 255, "accumulate": -9999, "basins": -9999, "view": -9999, "depth": -9999, "streams": 255,
-             "area": -9999}
+TYPE_OF = {"flow": "Byte", "accumulate": "Int32", "basins": "Int32", "catchments": "Int32", "view": "Int32",
+           "streams": "Byte", "area": "Float64"}
+NODATA_OF = {"flow": 255, "accumulate": -9999, "basins": -9999, "catchments": -9999, "view": -9999, "depth": -9999,
+             "streams": 255, "area": -9999}
+# Two gauges, as the command and as the program take them.
+GAUGES = [*at(9, 20), *at(18, 33)]
+GAUGE_WORDS = ["9,20", "18,33"]
 
 
 def reference_of(information):
@@ -77,6 +81,7 @@ class FloatMetres(MapCase):
     def test_drainage(self):
         for name in DRAINAGE:
             self.assertEqual(self.compare(name, [], [], self.valid, 2), "")
+        self.compare("catchments", GAUGES, GAUGE_WORDS, self.valid, 2)
         self.assertEqual(info(self.folder / "fill.tif")["bands"][0]["type"], "Float32")
 
     def test_what_was_not_raised_keeps_its_bytes(self):
@@ -142,6 +147,7 @@ class OtherRasters(MapCase):
     def all_maps(self, valid, decimals, **more):
         for name in DRAINAGE:
             self.compare(name, [], [], valid, decimals, **more)
+        self.compare("catchments", GAUGES, GAUGE_WORDS, valid, decimals, **more)
 
     def test_integers(self):
         heights = np.rint(hills()).astype(np.int16)
@@ -172,6 +178,18 @@ class OtherRasters(MapCase):
         make_raster(self.folder / "dem.tif", heights, -1)
         self.all_maps(np.ones((30, 40), bool), 0)
         self.assertEqual(read(self.folder / "fill.tif")[0, 0], -9999)
+
+    def test_a_height_that_looks_like_no_data_is_told(self):
+        for number, dtype in ((-9999, np.float32), (-32768, np.int16), (65535, np.uint16)):
+            heights = np.rint(hills()).astype(dtype)
+            heights[:2, :3] = number
+            make_raster(self.folder / "dem.tif", heights)
+            lines = self.make("fill", "dem.tif", "out.tif")
+            self.assertIn(f"6 cells have the height {number}, which often means no data, and are taken for terrain", lines)
+            command = lines.split("if it does, ")[1].split()
+            subprocess.run(command, cwd=self.folder, check=True, stdout=subprocess.DEVNULL)
+            self.assertEqual(self.make("fill", "dem.tif", "out.tif"), "")
+            self.assertEqual(nodata_of(self.folder / "out.tif"), number)
 
     def test_doubles_below_zero(self):
         heights = hills() - 330

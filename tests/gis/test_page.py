@@ -8,7 +8,6 @@ import tempfile
 import unittest
 
 from fixtures import GIS, RELIEF, TOP
-from relief_gis.program import Program
 
 PAGE = (TOP / "docs" / "gis.md").read_text()
 BLOCK = re.compile(r"```sh\n(?P<commands>.*?)```\n(?:\n```text\n(?P<output>.*?)```\n)?", re.DOTALL)
@@ -37,8 +36,6 @@ class Page(unittest.TestCase):
         cls.environment.pop("RELIEF", None)
 
     def run_block(self, commands, output):
-        if "relief-gis catchments" in commands and not Program.find(RELIEF).offers("catchments"):
-            self.skipTest("this relief has no catchments")
         for tool in TOOLS:
             if tool in commands and shutil.which(tool) is None:
                 self.skipTest(f"no {tool}")

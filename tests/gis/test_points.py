@@ -1,19 +1,12 @@
 """Places by coordinates and layers, gauges that move to the stream, and catchments."""
-import os
 import unittest
-import unittest.mock
 
 import numpy as np
 from osgeo import gdal, osr
 
-from fixtures import (HERE, RELIEF, UTM, Case, at, by_hand, centre, hills, make_points, make_raster, read)
+from fixtures import UTM, Case, at, by_hand, centre, hills, info, make_points, make_raster, read
 from relief_gis.maps import Place
 from relief_gis.points import snap
-from relief_gis.program import Program
-
-STAND_IN = str(HERE / "with_catchments")
-HAS_CATCHMENTS = Program.find(RELIEF).offers("catchments")
-HAS_PROGRESS = Program.find(RELIEF).offers("--progress")
 
 
 class Layers(Case):
@@ -106,20 +99,35 @@ class Snap(unittest.TestCase):
 
 
 class Gauges(Case):
-    """Catchments by a stand-in for a `relief` that has them, so that the command's part is tested with each version."""
-
-    PROGRAM = STAND_IN
+    """Catchments of gauges, against the definition and against `relief` run by hand."""
 
     def setUp(self):
         super().setUp()
-        patch = unittest.mock.patch.dict(os.environ, RELIEF_PLAIN=RELIEF)
-        patch.start()
-        self.addCleanup(patch.stop)
-        make_raster(self.folder / "dem.tif", hills().astype(np.float32))
+        self.heights = hills()
+        make_raster(self.folder / "dem.tif", self.heights.astype(np.float32))
         self.counts = by_hand(["accumulate"], self.folder / "dem.tif", 2).astype(int)
+        self.codes = by_hand(["flow"], self.folder / "dem.tif", 2).astype(int)
 
     def catchments(self, *words):
-        return self.make("catchments", "dem.tif", "out.tif", *words, program=self.PROGRAM)
+        return self.make("catchments", "dem.tif", "out.tif", *words)
+
+    def places(self):
+        """Cells of streams, which lie above each other."""
+        return list(zip(*np.nonzero(self.counts > 30)))[::5]
+
+    def words(self, places):
+        return [word for place in places for word in at(*place)]
+
+    def test_the_definition(self):
+        self.assertGreater(len(self.places()), 5)
+        self.catchments(*self.words(self.places()))
+        np.testing.assert_array_equal(read(self.folder / "out.tif"), catchments_of(self.codes, self.places()))
+
+    def test_the_program_by_hand(self):
+        self.catchments(*self.words(self.places()), "--workers", "3", "--tile", "8")
+        words = [f"{row},{col}" for row, col in self.places()]
+        expected = by_hand(["catchments", *words], self.folder / "dem.tif", 2)
+        np.testing.assert_array_equal(read(self.folder / "out.tif").astype(str), expected)
 
     def test_a_gauge_has_one_cell_more_than_drain_to_it(self):
         for place in list(zip(*np.nonzero(self.counts > 60)))[:3]:
@@ -128,13 +136,25 @@ class Gauges(Case):
             self.assertEqual(np.count_nonzero(found == 1), self.counts[place] + 1)
             self.assertEqual(found[place], 1)
 
+    def test_the_file(self):
+        array = np.where(np.arange(40) < 4, np.float32(-9999), self.heights.astype(np.float32))
+        make_raster(self.folder / "dem.tif", array, -9999.0)
+        self.catchments(*at(20, 30))
+        band = info(self.folder / "out.tif")["bands"][0]
+        self.assertEqual((band["type"], band["noDataValue"]), ("Int32", -9999))
+        np.testing.assert_array_equal(read(self.folder / "out.tif") == -9999, array == -9999)
+        self.assertIn('value="1"', (self.folder / "out.qml").read_text())
+
     def test_snapped(self):
         row, col = np.unravel_index(np.argmax(self.counts), self.counts.shape)
-        make_points(self.folder / "gauges.gpkg", [centre(row, max(col - 2, 0))])
+        make_points(self.folder / "gauges.gpkg", [centre(row, max(col - 2, 0)), centre(row, col)])
         lines = self.catchments("--points", "gauges.gpkg", "--snap", "3", "--snapped", "moved.gpkg")
         self.assertIn(f"{self.counts[row, col]:,} other cells drain through it", lines)
+        self.assertRegex(lines, r"feature 2 of gauges\.gpkg \([\d., ]+\) stays: ")
+        self.assertRegex(lines, r": 2, feature 2 of gauges\.gpkg \([\d., ]+\): lies in the cell of 1, and no cell has")
         self.assertEqual(np.count_nonzero(read(self.folder / "out.tif") == 1), self.counts[row, col] + 1)
         moved = gdal.OpenEx(str(self.folder / "moved.gpkg"))
+        self.assertEqual(moved.GetLayer(0).GetFeatureCount(), 2)
         feature = moved.GetLayer(0).GetNextFeature()
         self.assertEqual((feature["row"], feature["col"], feature["accumulation"]), (row, col, self.counts[row, col]))
         geometry = feature.GetGeometryRef()
@@ -143,52 +163,80 @@ class Gauges(Case):
         del geometry, feature, moved
 
     def test_sinks_beside_gauges(self):
-        row, col = np.unravel_index(np.argmax(self.counts), self.counts.shape)
-        self.catchments(*at(row, col), "--sink-at", "{},{}".format(*centre(7, 8)))
-        self.assertGreater(np.count_nonzero(read(self.folder / "out.tif") == 1), 0)
+        filled = by_hand(["fill"], self.folder / "dem.tif", 2).astype(float)
+        sink = np.unravel_index(np.argmax(filled - self.heights), self.heights.shape)
+        places = self.words(self.places())
+        self.catchments(*places)
+        without = read(self.folder / "out.tif")
+        make_points(self.folder / "sinks.gpkg", [centre(*sink)])
+        words = [f"{row},{col}" for row, col in self.places()]
+        expected = by_hand(["catchments", "--sink", "{},{}".format(*sink), *words], self.folder / "dem.tif", 2)
+        for option in (["--sink-at", "{},{}".format(*centre(*sink))], ["--sinks", "sinks.gpkg"]):
+            self.catchments(*places, *option)
+            np.testing.assert_array_equal(read(self.folder / "out.tif").astype(str), expected)
+        self.assertFalse(np.array_equal(read(self.folder / "out.tif"), without))
+
+    def test_a_catchment_that_the_edge_cuts_is_told(self):
+        # A valley that falls to the east: nine cells of the border in the west, three in the north and in the south.
+        row, col = np.mgrid[0:9, 0:9]
+        valley = 20 - col + abs(row - 4)
+        self.check_cut(valley, (4, 7), 15)
+        # A dam with a gap in the east, and lower land around it: the data ends at the gauge alone.
+        from_middle = np.maximum(abs(row - 4), abs(col - 4))
+        dam = np.where(from_middle == 4, 0, np.where(from_middle == 3, 99, valley))
+        dam[4, 7] = 5
+        self.check_cut(dam, (4, 8), 0)
+
+    def check_cut(self, array, gauge, count):
+        """Maps the catchment of a gauge, of which so many cells lie at the border."""
+        make_raster(self.folder / "dem.tif", array.astype(np.int16))
+        lines = self.catchments(*at(*gauge))
+        border = np.ones(array.shape, bool)
+        border[1:-1, 1:-1] = False
+        border[gauge] = False
+        self.assertEqual(np.count_nonzero((read(self.folder / "out.tif") == 1) & border), count)
+        self.assertEqual(f", {count} of them where the data ends\n" in lines, count > 0)
+        self.assertEqual("where the data ends, land beyond it may drain in" in lines, count > 0)
+        self.assertGreater(np.count_nonzero(read(self.folder / "out.tif") == 1), 20)
 
     def test_words(self):
-        self.refuse(1, "needs gauges", "catchments", "dem.tif", "out.tif", program=self.PROGRAM)
-        self.refuse(1, "give --snap CELLS", "catchments", "dem.tif", "out.tif", *at(3, 3), "--snapped", "x.gpkg",
-                    program=self.PROGRAM)
-        self.refuse(1, "--snap -1 is below 0", "catchments", "dem.tif", "out.tif", *at(3, 3), "--snap", "-1",
-                    program=self.PROGRAM)
+        self.refuse(1, "needs gauges", "catchments", "dem.tif", "out.tif")
+        self.refuse(1, "give --snap CELLS", "catchments", "dem.tif", "out.tif", *at(3, 3), "--snapped", "x.gpkg")
+        self.refuse(1, "--snap -1 is below 0", "catchments", "dem.tif", "out.tif", *at(3, 3), "--snap", "-1")
+        self.refuse(1, "x.shp would be a GeoPackage: give it a name that ends with .gpkg", "catchments", "dem.tif",
+                    "out.tif", *at(3, 3), "--snap", "1", "--snapped", "x.shp")
+        self.refuse(2, "point 1 (400000, 5199800) lies outside the raster", "catchments", "dem.tif", "out.tif", "--at",
+                    "400000,5199800")
 
-    def test_progress(self):
-        lines = self.make("fill", "dem.tif", "out.tif", "--progress", program=self.PROGRAM)
-        self.assertEqual(lines.splitlines(), [f"relief-gis: {tenth}0 %" for tenth in range(1, 11)])
+    def test_more_gauges_than_the_program_takes(self):
+        self.refuse(2, "63 TooManyGauges: more than 1,024 gauges: name fewer", "catchments", "dem.tif", "out.tif",
+                    *self.words([(3, 3)] * 1025))
 
-
-@unittest.skipUnless(HAS_CATCHMENTS and HAS_PROGRESS, "this relief has no catchments, or no --progress")
-class GaugesByRelief(Gauges):
-    """Catchments by the program itself, and the same as by the definition."""
-
-    PROGRAM = RELIEF
-
-    def test_the_definition(self):
-        places = list(zip(*np.nonzero(self.counts > 30)))[::5]
-        words = [word for place in places for word in at(*place)]
-        self.catchments(*words)
-        by_program = read(self.folder / "out.tif")
-        self.make("catchments", "dem.tif", "out.tif", *words, program=STAND_IN)
-        np.testing.assert_array_equal(by_program, read(self.folder / "out.tif"))
-
-
-@unittest.skipIf(HAS_CATCHMENTS, "this relief has catchments")
-class NoGauges(Case):
-    """A program that lacks catchments or progress."""
-
-    def test_one_line(self):
-        make_raster(self.folder / "dem.tif", hills().astype(np.float32))
-        line = self.refuse(5, "has no catchments: install a newer relief", "catchments", "dem.tif", "out.tif",
-                           *at(3, 3))
+    def test_an_older_program(self):
+        program = self.folder / "relief"
+        program.write_text("#!/bin/sh\ncase $1 in --version) echo relief 0.1.0;; *) echo '  fill  heights';; esac\n")
+        program.chmod(0o755)
+        line = self.refuse(5, "relief 0.1.0 has no catchments: install a newer relief", "catchments", "dem.tif",
+                           "out.tif", *at(3, 3), program=str(program))
         self.assertEqual(line.count("\n"), 1)
 
-    @unittest.skipIf(HAS_PROGRESS, "this relief has --progress")
-    def test_no_progress(self):
-        make_raster(self.folder / "dem.tif", hills().astype(np.float32))
-        lines = self.make("fill", "dem.tif", "out.tif", "--progress")
-        self.assertRegex(lines, r"^relief-gis: relief \S+ reports no progress\n$")
+
+def catchments_of(codes, gauges):
+    """The definition: for each cell the place in the list of the first gauge that its flow path meets, from 1; else 0.
+
+    Args:
+        codes: (rows, cols) of `relief flow`, without cells that have no data.
+        gauges: (row, col).
+    """
+    ways = {1: (0, 1), 2: (1, 1), 4: (1, 0), 8: (1, -1), 16: (0, -1), 32: (-1, -1), 64: (-1, 0), 128: (-1, 1)}
+    found = np.zeros(codes.shape, int)
+    for start in np.ndindex(codes.shape):
+        cell = start
+        while cell not in gauges and codes[cell]:
+            down, right = ways[int(codes[cell])]
+            cell = cell[0] + down, cell[1] + right
+        found[start] = gauges.index(cell) + 1 if cell in gauges else 0
+    return found
 
 
 if __name__ == "__main__":

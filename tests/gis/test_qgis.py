@@ -1,4 +1,5 @@
 """The QGIS provider, headless: every algorithm by `qgis_process`, and errors in plain words."""
+import json
 import os
 import pathlib
 import shutil
@@ -31,12 +32,12 @@ def setUpModule():
         raise RuntimeError(done.stdout + done.stderr)
 
 
-def qgis(*words, program=RELIEF, command=None):
+def qgis(*words, command=None):
     """Runs `qgis_process`, or another command, in the profile."""
     environment = {**os.environ, "HOME": str(ROOM), "XDG_RUNTIME_DIR": str(ROOM / "run"),
-                   "QT_QPA_PLATFORM": "offscreen", "QGIS_PLUGINPATH": str(ROOM / "plugins"), "RELIEF": program,
+                   "QT_QPA_PLATFORM": "offscreen", "QGIS_PLUGINPATH": str(ROOM / "plugins"), "RELIEF": RELIEF,
                    # QGIS takes its modules from the first python3: that has to be the distribution's.
-                   "PATH": f"/usr/bin:/bin:{os.environ['PATH']}", "RELIEF_PLAIN": RELIEF, "LC_ALL": "C.UTF-8"}
+                   "PATH": f"/usr/bin:/bin:{os.environ['PATH']}", "LC_ALL": "C.UTF-8"}
     environment.pop("PYTHONPATH", None)
     return subprocess.run([*(command or [QGIS]), *words], capture_output=True, text=True, timeout=300, env=environment)
 
@@ -50,14 +51,14 @@ class Algorithms(Case):
         make_points(self.folder / "places.gpkg", [(*centre(10, 20), 12.5), (*centre(25, 33), 3.0)], fields=["height"])
         self.points = [f"--POINTS={self.folder / 'places.gpkg'}"]
 
-    def run_algorithm(self, name, *words, program=RELIEF):
+    def run_algorithm(self, name, *words):
         return qgis("run", f"relief:{name}", f"--INPUT={self.folder / 'dem.tif'}",
-                    f"--OUTPUT={self.folder / f'qgis_{name}.tif'}", *words, program=program)
+                    f"--OUTPUT={self.folder / f'qgis_{name}.tif'}", *words)
 
     def check(self, case):
         """Runs one algorithm, and compares what it wrote with what the command wrote."""
-        name, words, _, program = case
-        done = self.run_algorithm(name, *words, program=program)
+        name, words, _ = case
+        done = self.run_algorithm(name, *words)
         if done.returncode != 0:
             return f"{name}: {done.stdout}{done.stderr}"
         ours, theirs = self.folder / f"qgis_{name}.tif", self.folder / f"{name}.tif"
@@ -69,23 +70,21 @@ class Algorithms(Case):
         return None
 
     def test_every_algorithm(self):
-        stand_in = str(HERE / "with_catchments")
         click = "{},{}".format(*centre(10, 20))
         layer = ["--points", "places.gpkg"]
-        cases = [(name, self.points, layer, RELIEF)
-                 for name in ("fill", "flow", "accumulate", "basins", "depth", "area")]
+        sinks = make_points(self.folder / "sinks.gpkg", [centre(7, 9)])
+        cases = [(name, self.points, layer) for name in ("fill", "flow", "accumulate", "basins", "depth", "area")]
         cases += [
-            ("streams", ["--THRESHOLD=20"], ["--threshold", "20"], RELIEF),
+            ("streams", ["--THRESHOLD=20"], ["--threshold", "20"]),
             ("view", [*self.points, "--EYE_FIELD=height", f"--AT={click} [{UTM}]", "--EYE=1.5", "--TARGET=1",
                       "--RADIUS=400", "--VOIDS=1", "--DECIMALS=2"],
-             ["--at", click, *layer, "--eye-field", "height", "--eye", "1.5", "--target", "1", "--radius", "400"],
-             RELIEF),
-            ("catchments", [*self.points, "--SNAP=3", f"--SNAPPED={self.folder / 'moved.gpkg'}"],
-             [*layer, "--snap", "3"], stand_in),
+             ["--at", click, *layer, "--eye-field", "height", "--eye", "1.5", "--target", "1", "--radius", "400"]),
+            ("catchments", [*self.points, f"--AT={click} [{UTM}]", "--SNAP=3", f"--SINKS={sinks}",
+                            f"--SNAPPED={self.folder / 'moved.gpkg'}"],
+             ["--at", click, *layer, "--snap", "3", "--sinks", "sinks.gpkg"]),
         ]
-        os.environ["RELIEF_PLAIN"] = RELIEF
-        for name, _, command, program in cases:
-            self.make(name, "dem.tif", f"{name}.tif", *command, program=program)
+        for name, _, command in cases:
+            self.make(name, "dem.tif", f"{name}.tif", *command)
         with ThreadPoolExecutor(PARALLEL) as pool:
             wrong = [fault for fault in pool.map(self.check, cases) if fault is not None]
         self.assertEqual(wrong, [])
@@ -104,26 +103,38 @@ class Algorithms(Case):
         self.assertNotIn("Traceback", said)
         self.assertFalse((self.folder / "qgis_fill.tif").exists())
 
-    def feedback(self, program, *words):
+    def feedback(self, name, *words, **parameters):
         """The lines of a run within QGIS: its progress, and how it ended."""
-        done = qgis(str(ROOM / "plugins"), str(self.folder / "dem.tif"), str(self.folder / "out.tif"), *words,
-                    program=program, command=["/usr/bin/python3", str(HERE / "feedback_in_qgis.py")])
+        parameters = {"INPUT": str(self.folder / "dem.tif"), "OUTPUT": str(self.folder / "out.tif"), **parameters}
+        done = qgis(str(ROOM / "plugins"), name, json.dumps(parameters), *words,
+                    command=["/usr/bin/python3", str(HERE / "feedback_in_qgis.py")])
         self.assertEqual(done.returncode, 0, done.stderr)
         return done.stdout.splitlines()
 
-    def test_the_bar_moves_where_the_program_reports(self):
-        shares, end = self.feedback(str(HERE / "with_catchments"))
-        # From 20 to 90 by tenths, and 100 when the map is written.
-        self.assertEqual((shares, end), ("27 34 41 48 55 62 69 76 83 90 100", "done"))
+    def test_the_bar_runs_once_for_each_stage(self):
+        make_raster(self.folder / "dem.tif", hills(700, 700).astype(np.float32))
+        masts = make_points(self.folder / "masts.gpkg", [centre(30 * at, 33 * at) for at in range(20)] * 4)
+        begin, *stages, end = self.feedback("view", POINTS=str(masts), EYE=30, WORKERS=1)
+        self.assertEqual((begin, end), ("begin:", "done"))
+        found = []
+        for line in stages:
+            label, _, shares = line.partition(": ")
+            found.append(int(label.removeprefix("relief view, stage ")))
+            shares = list(map(int, shares.split()))
+            self.assertEqual(shares, sorted(shares))
+        self.assertEqual(found, sorted(set(found)))
+        # The last stage takes nearly all time, and the bar moves all the while.
+        self.assertGreater(len(shares), 12)
+        self.assertEqual(shares[-1], 100)
 
     def test_cancel_ends_the_program_and_leaves_no_map(self):
-        program = self.folder / "relief"
-        program.write_text("#!/bin/sh\n"
-                           "case $1 in --version) echo relief 9.9.9;; --help) echo;; *) exec sleep 250;; esac\n")
-        program.chmod(0o755)
+        # Minutes of work: each of many observers looks over the whole raster.
+        make_raster(self.folder / "dem.tif", hills(1500, 1500).astype(np.float32))
+        masts = make_points(self.folder / "masts.gpkg", [centre(40 * at, 45 * at) for at in range(33)] * 30)
         began = time.monotonic()
-        self.assertEqual(self.feedback(str(program), "cancel")[-1], "cancelled")
-        self.assertLess(time.monotonic() - began, 200)
+        lines = self.feedback("view", "cancel", POINTS=str(masts), EYE=30, WORKERS=1)
+        self.assertEqual(lines[-1], "cancelled")
+        self.assertLess(time.monotonic() - began, 100)
         self.assertEqual([name for name in os.listdir(self.folder) if "out" in name], [])
 
     def test_an_extent(self):

@@ -138,6 +138,9 @@ class Words(Case):
 
     def test_targets_that_cannot_be(self):
         self.refuse(4, "no folder", "fill", "dem.tif", "none/out.tif")
+        for name in ("out.asc", "out", "out.tif.gz"):
+            self.refuse(1, f"{name} would be a GeoTIFF: give it a name that ends with .tif", "fill", "dem.tif", name)
+        self.make("fill", "dem.tif", "OUT.TIFF")
         (self.folder / "folder").mkdir()
         self.refuse(4, "it is a folder", "fill", "dem.tif", "folder")
 

@@ -6,7 +6,7 @@ _relief() {
         [[ $it == [a-z]* ]] && { map=$it; break; }
     done
     help=$("$1" $map -h 2> /dev/null) || return
-    # The value of an option is a number.
+    # The value of an option is a number, or a cell.
     [[ $before == --* && $help == *"$before <"* ]] && return
     [[ $map ]] || found=$(sed -n '/^Commands:/,/^$/s/^  \([a-z-]*\) .*/\1/p' <<< "$help")
     found+=" $(sed -n 's/^ *\(-., \)\?\(--[a-z-]*\).*/\2/p' <<< "$help")"

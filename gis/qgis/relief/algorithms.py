@@ -26,8 +26,6 @@ LABELS = {"--voids fill": f"'Holes inside the land: {VOIDS[2]}'",
           "--window COL,ROW,COLS,ROWS": "Extent", "--bounds WEST,SOUTH,EAST,NORTH": "Extent",
           "--workers": "Threads", "--snap": "Move gauges", "--at X,Y": "a click", "--points LAYER": "a layer of points",
           "--eye-field": "a field with the height of each eye", "--eye": "Height of the eyes"}
-# Shares of the bar: reading and the text before the program runs, and the writing behind it.
-BEFORE, AFTER = 20.0, 90.0
 
 
 class Style(QgsProcessingLayerPostProcessorInterface):
@@ -46,6 +44,22 @@ class Style(QgsProcessingLayerPostProcessorInterface):
         if os.path.exists(self.path):
             layer.loadNamedStyle(self.path)
             layer.triggerRepaint()
+
+
+class Bar:
+    """Shows how far the program is: the bar runs once for each stage, whose number stands beside it."""
+
+    def __init__(self, feedback: QgsProcessingFeedback) -> None:
+        self.feedback = feedback
+        self.label = ""
+
+    def __call__(self, step: Any) -> None:
+        label = f"relief {step.map}, stage {step.stage}"
+        if label != self.label:
+            self.label = label
+            self.feedback.setProgressText(label)
+            self.feedback.setProgress(0)
+        self.feedback.setProgress(100 * step.share)
 
 
 class MapAlgorithm(QgsProcessingAlgorithm):
@@ -79,7 +93,7 @@ class MapAlgorithm(QgsProcessingAlgorithm):
     def shortHelpString(self) -> str:  # noqa: N802
         """The help beside the dialogue, with the picture of an example where it was installed."""
         picture = os.path.join(HERE, "help", f"{self.map}.png")
-        image = f'<p><img src="file://{picture}" width="280"></p>' if os.path.exists(picture) else ""
+        image = f'<p><img src="file://{picture}" width="200"></p>' if os.path.exists(picture) else ""
         return f"<p>{tr(self.about)}</p>{image}<p>{tr(COMMON_HELP)}</p>"
 
     def initAlgorithm(self, configuration: Optional[Dict[str, Any]] = None) -> None:  # noqa: N802
@@ -114,9 +128,7 @@ class MapAlgorithm(QgsProcessingAlgorithm):
         target = self.parameterAsOutputLayer(parameters, self.OUTPUT, context)
         try:
             asked = job.Job(**self.job_words(parameters, context, layer, target))
-            caller = job.Caller(feedback.pushInfo,
-                                lambda share: feedback.setProgress(BEFORE + share * (AFTER - BEFORE)),
-                                feedback.isCanceled)
+            caller = job.Caller(feedback.pushInfo, Bar(feedback), feedback.isCanceled, by_percent=True)
             job.run(asked, program.Program.find(), caller)
         except errors.Cancelled:
             return {}
@@ -247,7 +259,8 @@ class Catchments(MapAlgorithm):
     map, title, output, kind = "catchments", "Catchments of gauges", "Catchments", "Gauges"
     about = ("Which gauge the water of each cell meets first, by the gauge's place in the list; 0: none. Nested gauges "
              "divide the land. A gauge beside the stream has a small catchment: let it move to the greatest "
-             "accumulation.")
+             "accumulation. The log counts the cells that drain to each gauge first, and those of them that lie where "
+             "the data ends: land beyond may drain in there.")
 
     def add_places(self) -> None:
         """Adds sinks and the way of gauges to the stream."""

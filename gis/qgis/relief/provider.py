@@ -2,6 +2,7 @@
 from __future__ import annotations
 
 import os
+from typing import List
 
 from qgis.core import QgsProcessingProvider
 from qgis.PyQt.QtGui import QIcon
@@ -25,6 +26,14 @@ class ReliefProvider(QgsProcessingProvider):
     def icon(self) -> QIcon:
         """The picture in the toolbox."""
         return QIcon(ICON)
+
+    def supportedOutputRasterLayerExtensions(self) -> List[str]:  # noqa: N802
+        """What maps are written as: GeoTIFFs."""
+        return ["tif", "tiff"]
+
+    def supportedOutputVectorLayerExtensions(self) -> List[str]:  # noqa: N802
+        """What moved gauges are written as: GeoPackages."""
+        return ["gpkg"]
 
     def loadAlgorithms(self) -> None:  # noqa: N802
         """Adds the algorithms."""
