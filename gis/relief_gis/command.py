@@ -109,8 +109,10 @@ def _add_view(parser: argparse.ArgumentParser) -> None:
 
 
 def _add_gauges(parser: argparse.ArgumentParser) -> None:
-    parser.add_argument("--sink-at", action="append", default=[], metavar="X,Y", help="a sink, by coordinates")
-    parser.add_argument("--sinks", action="append", default=[], metavar="LAYER", help="sinks: points of a file")
+    parser.add_argument("--sink-at", action="append", default=[], metavar="X,Y",
+                        help="a sink, by coordinates; again and again")
+    parser.add_argument("--sinks", action="append", default=[], metavar="LAYER",
+                        help="sinks: points of a file, or of one of its layers by FILE|layername=NAME")
     parser.add_argument("--snap", type=int, metavar="CELLS",
                         help="move each gauge to the greatest accumulation within so many rows and columns")
     parser.add_argument("--snapped", metavar="OUT", help="GeoPackage of the gauges where they were moved to, NAME.gpkg")
@@ -145,12 +147,12 @@ def _job(words: Sequence[str], asked: argparse.Namespace) -> Job:
         raise UsageError("--snapped is where --snap writes the gauges to: give --snap CELLS")
     if snap is not None and snap < 0:
         raise UsageError(f"--snap {snap} is below 0")
-    sinks = [point_of_word(word, at) for at, word in enumerate(getattr(asked, "sink_at", []), 1)]
+    sinks = [point_of_word(word, f"sink {at}") for at, word in enumerate(getattr(asked, "sink_at", []), 1)]
     return Job(
         map=asked.map, source=asked.source, target=asked.target, band=asked.band, window=asked.window,
         bounds=asked.bounds, projection=asked.projection, needs_projection=not asked.no_projection,
         decimals=asked.decimals, voids=asked.voids,
-        places=[point_of_word(word, at) for at, word in enumerate(asked.at, 1)]
+        places=[point_of_word(word, f"point {at}") for at, word in enumerate(asked.at, 1)]
         + [Layer(path, eye_field) for path in asked.points],
         sinks=sinks + [Layer(path) for path in getattr(asked, "sinks", [])],
         eye=_optional(getattr(asked, "eye", None), "the eye"), above=above,
@@ -180,7 +182,7 @@ def _joined(words: Sequence[str]) -> List[str]:
 
 
 class _Bar:
-    """A bar for each stage on a terminal, written anew in place; elsewhere a line at each tenth of a stage."""
+    """A bar for each stage on a terminal, written anew in place; elsewhere a line for each tenth that is reported."""
 
     def __init__(self) -> None:
         self.is_terminal = sys.stderr.isatty()

@@ -38,6 +38,8 @@ RASTERS = (".tif", ".tiff")
 VECTORS = (".gpkg",)
 # A float32 tells apart all whole numbers of units up to this one.
 MOST_FLOAT32_UNITS = 1 << 23
+# The maps that need places, and what these are.
+NEEDED_PLACES = {"catchments": "gauges", "view": "observers"}
 # Numbers that rasters use for "no data", and that are no heights on land.
 USUAL_NODATA = (-32768, -32767, -9999, -99999, 9999, 32767, 65535, 99999)
 METRES = ("", "m", "metre", "meter", "metres", "meters")
@@ -121,6 +123,7 @@ def run(job: Job, program: Program, caller: Caller) -> None:
     """
     if job.map == "catchments":
         program.require("catchments")
+    _check_count(job, job.places)
     _check_targets(job)
     terrain = read_terrain(job.source, job.band, job.window, job.bounds, job.projection, job.needs_projection)
     _tell_units(terrain, job, caller.say)
@@ -133,6 +136,12 @@ def run(job: Job, program: Program, caller: Caller) -> None:
     _tell_sizes(job, request, terrain.frame, heights.valid, found, caller.say)
     caller.check()
     _write(job, array, nodata, unit, terrain.frame, heights, request, program, gauges)
+
+
+def _check_count(job: Job, places: Sequence[object]) -> None:
+    """Refuses a map without the gauges or observers that it takes."""
+    if job.map in NEEDED_PLACES and not places:
+        raise UsageError(f"{job.map} needs {NEEDED_PLACES[job.map]}: give --at X,Y or --points LAYER")
 
 
 def _check_targets(job: Job) -> None:
@@ -213,9 +222,9 @@ def _request(job: Job, frame: Frame, heights: Heights, program: Program,
              caller: Caller) -> Tuple[Request, Optional[Tuple[List[Place], np.ndarray]]]:
     """What the program is asked for, and of snapped gauges their places and the accumulation."""
     places = _places(job, job.places, frame, heights, caller.say)
+    # A layer may have no points.
+    _check_count(job, places)
     if job.map == "view":
-        if not places:
-            raise UsageError("view needs observers: give --at X,Y or --points LAYER")
         radius = None
         if job.radius is not None:
             radius = radius_in_cells(job.radius, frame.cell)
@@ -225,8 +234,6 @@ def _request(job: Job, frame: Frame, heights: Heights, program: Program,
     if job.map != "catchments":
         _tell_sinks(places, frame, heights, caller.say)
         return Request(SOURCES[job.map], places, workers=job.workers, tile=job.tile), None
-    if not places:
-        raise UsageError("catchments needs gauges: give --at X,Y or --points LAYER")
     sinks = _places(job, job.sinks, frame, heights, caller.say)
     _tell_sinks(sinks, frame, heights, caller.say)
     gauges = None

@@ -42,8 +42,8 @@ class Layer:
     eye_field: Optional[str] = None
 
 
-def point_of_word(word: str, number: int) -> Point:
-    """The point that a word X,Y stands for.
+def point_of_word(word: str, name: str) -> Point:
+    """The point that a word X,Y stands for, by its name in messages.
 
     Raises:
         UsageError: it is not two numbers joined by a comma.
@@ -51,7 +51,7 @@ def point_of_word(word: str, number: int) -> Point:
     parts = word.split(",")
     if len(parts) != 2:
         raise UsageError(f"{word} is not X,Y: two coordinates in the projection of the raster")
-    return Point(f"point {number}", decimal_of(parts[0], "x"), decimal_of(parts[1], "y"))
+    return Point(name, decimal_of(parts[0], "x"), decimal_of(parts[1], "y"))
 
 
 def points_of(sources: Sequence[Union[Point, Layer]], frame: Frame) -> Tuple[List[Point], List[str]]:

@@ -93,7 +93,7 @@ class Program:
             valid: (rows, cols) bool, where there is data; None: everywhere.
             subjects: the names of the places among the words, for the text of a refusal.
             sinks: the names of the sinks that are given by options, likewise.
-            on_progress: called at each tenth of each stage, where the program reports how far it is.
+            on_progress: called at most once for each tenth of each stage, where the program reports how far it is.
             is_cancelled: asked ten times a second; the run ends when it says so.
             by_percent: call on_progress at each percent, where a tenth of a second has passed, and not at tenths.
 

@@ -37,7 +37,13 @@ class Packages(Case):
 
     def test_installed_and_removed(self):
         prefix = str(self.folder / "usr")
-        self.assertEqual(run([str(GIS / "install"), prefix]).returncode, 0)
+        done = run([str(GIS / "install"), prefix])
+        self.assertEqual(done.returncode, 0)
+        modules = f"{prefix}/lib/python3/dist-packages"
+        self.assertIn(f"find relief_gis with PYTHONPATH={modules}.", done.stdout)
+        words = [sys.executable, "-c", "import relief_gis; print(relief_gis.__file__)"]
+        found = run(words, cwd=self.folder, env={**self.clean(), "PYTHONPATH": modules}).stdout
+        self.assertEqual(found, f"{modules}/relief_gis/__init__.py\n")
         self.make_a_map([f"{prefix}/bin/relief-gis"])
         self.assertEqual(run([str(GIS / "install"), "--remove", prefix]).returncode, 0)
         left = [name for _, _, names in os.walk(prefix) for name in names]

@@ -201,12 +201,17 @@ class Gauges(Case):
 
     def test_words(self):
         self.refuse(1, "needs gauges", "catchments", "dem.tif", "out.tif")
+        self.refuse(1, "needs gauges", "catchments", "missing.tif", "out.tif")
+        make_points(self.folder / "none.gpkg", [])
+        self.refuse(1, "needs gauges", "catchments", "dem.tif", "out.tif", "--points", "none.gpkg")
         self.refuse(1, "give --snap CELLS", "catchments", "dem.tif", "out.tif", *at(3, 3), "--snapped", "x.gpkg")
         self.refuse(1, "--snap -1 is below 0", "catchments", "dem.tif", "out.tif", *at(3, 3), "--snap", "-1")
         self.refuse(1, "x.shp would be a GeoPackage: give it a name that ends with .gpkg", "catchments", "dem.tif",
                     "out.tif", *at(3, 3), "--snap", "1", "--snapped", "x.shp")
         self.refuse(2, "point 1 (400000, 5199800) lies outside the raster", "catchments", "dem.tif", "out.tif", "--at",
                     "400000,5199800")
+        self.refuse(2, "sink 1 (400000, 5199800) lies outside the raster", "catchments", "dem.tif", "out.tif",
+                    *at(3, 3), "--sink-at", "400000,5199800")
 
     def test_more_gauges_than_the_program_takes(self):
         self.refuse(2, "63 TooManyGauges: more than 1,024 gauges: name fewer", "catchments", "dem.tif", "out.tif",

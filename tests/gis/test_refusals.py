@@ -120,6 +120,7 @@ class Words(Case):
 
     def test_words_of_view(self):
         place = at(10, 20)
+        self.refuse(1, "view needs observers", "view", "missing.tif", "out.tif", "--eye", "3")
         for text, words in (("needs observers", ["--eye", "3"]),
                             ("has no eye: give --eye", place),
                             ("no whole number of units of 0.01: --decimals 3 would do", [*place, "--eye", "1.555"]),

@@ -260,7 +260,7 @@ class Catchments(MapAlgorithm):
     about = ("Which gauge the water of each cell meets first, by the gauge's place in the list; 0: none. Nested gauges "
              "divide the land. A gauge beside the stream has a small catchment: let it move to the greatest "
              "accumulation. The log counts the cells that drain to each gauge first, and those of them that lie where "
-             "the data ends: land beyond may drain in there.")
+             "the data ends: land beyond may drain in there, also to the gauges below.")
 
     def add_places(self) -> None:
         """Adds sinks and the way of gauges to the stream."""
