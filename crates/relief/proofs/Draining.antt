@@ -18,7 +18,7 @@ use Rattle.relief.specs.declared.fault.RunFault.TheVariants.{Tiling, Sight, Sink
 use Rattle.relief.specs.Faults.{of_sinks}
 use Rattle.relief.specs.MadeMap.{drained_into}
 use Rattle.relief.specs.MapText.{IsMapOfText, IsMapText}
-use Rattle.relief.specs.Refusals.{tiles_of, gauge_fault, map_fault, place_fault, wish_fault, IsWorkRefusal}
+use Rattle.relief.specs.Refusals.{tiles_of, gauge_fault, observer_fault, named_place_fault, wish_fault, IsWorkRefusal}
 use Rattle.relief.proofs.Viewing.{forbidden}
 
 -- a read grid has no sinks but those that it is given
@@ -46,23 +46,23 @@ pub wish_of_many : (w : Wish) (g : Raster) → most_tiles < tiles_of g w.tile �
 wish_of_many w g many = cond-true _ _ _ (lt-ltb _ _ many)
 
 -- with few tiles and sound places only the observers can forbid
-pub wish_of_few : (w : Wish) (g : Raster) → tiles_of g w.tile ≤ most_tiles → wish_fault w g ≡ option_or (place_fault w g) (option_map Sight (map_fault g w.map))
+pub wish_of_few : (w : Wish) (g : Raster) → tiles_of g w.tile ≤ most_tiles → wish_fault w g ≡ option_or (named_place_fault w g) (option_map Sight (observer_fault g w.map))
 wish_of_few w g few = cond-false _ _ _ (le-ltb _ _ few)
 
-pub wish_of_sound : (w : Wish) (g : Raster) → tiles_of g w.tile ≤ most_tiles → place_fault w g ≡ None → wish_fault w g ≡ option_map Sight (map_fault g w.map)
-wish_of_sound w g few sound = wish_of_few w g few ∙ ap (λ o. option_or o (option_map Sight (map_fault g w.map))) sound
+pub wish_of_sound : (w : Wish) (g : Raster) → tiles_of g w.tile ≤ most_tiles → named_place_fault w g ≡ None → wish_fault w g ≡ option_map Sight (observer_fault g w.map)
+wish_of_sound w g few sound = wish_of_few w g few ∙ ap (λ o. option_or o (option_map Sight (observer_fault g w.map))) sound
 
 -- places at fault forbid
-pub place_refused : (w : Wish) (g : Raster) (f : RunFault) → tiles_of g w.tile ≤ most_tiles → place_fault w g ≡ Some f → IsWorkRefusal w g f
+pub place_refused : (w : Wish) (g : Raster) (f : RunFault) → tiles_of g w.tile ≤ most_tiles → named_place_fault w g ≡ Some f → IsWorkRefusal w g f
 place_refused w g f few at_fault =
-    forbidden w g f (wish_of_few w g few ∙ ap (λ o. option_or o (option_map Sight (map_fault g w.map))) at_fault)
+    forbidden w g f (wish_of_few w g few ∙ ap (λ o. option_or o (option_map Sight (observer_fault g w.map))) at_fault)
 
 -- places without a fault are sinks and gauges without one
 no_sinks : (a : Option SinkFault) (b : Option RunFault) → option_or (option_map Sinks a) b ≡ None → a ≡ None
 no_sinks None b e = refl
 no_sinks (Some f) b e = absurd (cc)
 
-pub sound_sinks : (w : Wish) (g : Raster) → place_fault w g ≡ None → sinks_fault g.terrain w.sinks ≡ None
+pub sound_sinks : (w : Wish) (g : Raster) → named_place_fault w g ≡ None → sinks_fault g.terrain w.sinks ≡ None
 sound_sinks w g sound = no_sinks (sinks_fault g.terrain w.sinks) (option_map Gauges (gauge_fault g w.map)) sound
 
 no_gauges : (a : Option SinkFault) (b : Option GaugeFault) → option_or (option_map Sinks a) (option_map Gauges b) ≡ None → b ≡ None
@@ -70,18 +70,18 @@ no_gauges None None e = refl
 no_gauges None (Some f) e = absurd (cc)
 no_gauges (Some f) b e = absurd (cc)
 
-pub sound_gauges : (w : Wish) (g : Raster) → place_fault w g ≡ None → gauge_fault g w.map ≡ None
+pub sound_gauges : (w : Wish) (g : Raster) → named_place_fault w g ≡ None → gauge_fault g w.map ≡ None
 sound_gauges w g sound = no_gauges (sinks_fault g.terrain w.sinks) (gauge_fault g w.map) sound
 
 -- the fault of places is that of the sinks, and where they have none that of the gauges
-pub fault_of_sinks : (w : Wish) (g : Raster) (f : SinkFault) → sinks_fault g.terrain w.sinks ≡ Some f → place_fault w g ≡ Some (Sinks f)
+pub fault_of_sinks : (w : Wish) (g : Raster) (f : SinkFault) → sinks_fault g.terrain w.sinks ≡ Some f → named_place_fault w g ≡ Some (Sinks f)
 fault_of_sinks w g f e = ap (λ o. option_or (option_map Sinks o) (option_map Gauges (gauge_fault g w.map))) e
 
-pub fault_of_gauges : (w : Wish) (g : Raster) → sinks_fault g.terrain w.sinks ≡ None → place_fault w g ≡ option_map Gauges (gauge_fault g w.map)
+pub fault_of_gauges : (w : Wish) (g : Raster) → sinks_fault g.terrain w.sinks ≡ None → named_place_fault w g ≡ option_map Gauges (gauge_fault g w.map)
 fault_of_gauges w g e = ap (λ o. option_or (option_map Sinks o) (option_map Gauges (gauge_fault g w.map))) e
 
 -- only a viewshed has observers
-unseen : (g : Raster) (m : Map) → ¬ IsView m → map_fault g m ≡ None
+unseen : (g : Raster) (m : Map) → ¬ IsView m → observer_fault g m ≡ None
 unseen g Fill drains = refl
 unseen g Flow drains = refl
 unseen g Accumulate drains = refl
@@ -90,7 +90,7 @@ unseen g (Catchments gauges) drains = refl
 unseen g (View observers target radius) drains = absurd (drains tt)
 
 -- sound sinks are refused for want of memory alone, which is a refusal of the work
-pub sinks_refused : {T : Type 0} (w : Wish) (g : Raster) (f : SinkFault) → (IsView w.map → w.sinks ≡ []) → eqb (length w.sinks) 0 ≡ false → tiles_of g w.tile ≤ most_tiles → place_fault w g ≡ None → RefusesSinks {T = T} (sinks_fault g.terrain w.sinks) (Err f) → IsWorkRefusal w g (of_sinks f)
+pub sinks_refused : {T : Type 0} (w : Wish) (g : Raster) (f : SinkFault) → (IsView w.map → w.sinks ≡ []) → eqb (length w.sinks) 0 ≡ false → tiles_of g w.tile ≤ most_tiles → named_place_fault w g ≡ None → RefusesSinks {T = T} (sinks_fault g.terrain w.sinks) (Err f) → IsWorkRefusal w g (of_sinks f)
 sinks_refused w g f none some few sound h =
     let drains : ¬ IsView w.map = λ view. (let empty : eqb (length w.sinks) 0 ≡ true = ap (λ (ps : List Place). eqb (length ps) 0) (none view) in cc) in
     subst (λ (k : SinkFault). IsWorkRefusal w g (of_sinks k)) (sym (h.memory (sound_sinks w g sound) f refl))

@@ -13,7 +13,7 @@ use Rattle.flow.specs.declared.gauges.GaugeFault.{GaugeFault}
 use Rattle.flow.specs.declared.gauges.GaugeFault.TheVariants as gauges
 use Rattle.relief.specs.Faults.{of_gauges, of_sight}
 use Rattle.request.specs.Wish.{Wish}
-use Rattle.relief.specs.Refusals.{gauge_fault, map_fault, place_fault, wish_fault, IsWorkRefusal, tiles_of, IsRunRefusal}
+use Rattle.relief.specs.Refusals.{gauge_fault, observer_fault, named_place_fault, wish_fault, IsWorkRefusal, tiles_of, IsRunRefusal}
 use Rattle.std.specs.Prelude.{⊤, nat_lt}
 use Rattle.terrain.specs.Sinks.{sinks_fault}
 use Rattle.terrain.specs.declared.sinks.SinkFault.{SinkFault}
@@ -81,15 +81,15 @@ wish_forbids w g f e = go (nat_lt most_tiles (tiles_of g w.tile)) e where
   sights None h = absurd (cc)
   sights (Some s) h = let same : Sight s ≡ f = cc in subst Forbids same tt
 
-  of_gauge : (o : Option GaugeFault) → option_or (option_map Gauges o) (option_map Sight (map_fault g w.map)) ≡ Some f → Forbids f
-  of_gauge None h = sights (map_fault g w.map) h
+  of_gauge : (o : Option GaugeFault) → option_or (option_map Gauges o) (option_map Sight (observer_fault g w.map)) ≡ Some f → Forbids f
+  of_gauge None h = sights (observer_fault g w.map) h
   of_gauge (Some s) h = let same : Gauges s ≡ f = cc in subst Forbids same tt
 
-  sinks : (o : Option SinkFault) → option_or (option_or (option_map Sinks o) (option_map Gauges (gauge_fault g w.map))) (option_map Sight (map_fault g w.map)) ≡ Some f → Forbids f
+  sinks : (o : Option SinkFault) → option_or (option_or (option_map Sinks o) (option_map Gauges (gauge_fault g w.map))) (option_map Sight (observer_fault g w.map)) ≡ Some f → Forbids f
   sinks None h = of_gauge (gauge_fault g w.map) h
   sinks (Some s) h = let same : Sinks s ≡ f = cc in subst Forbids same tt
 
-  go : (t : Bool) → cond t (Some (Tiling TooManyTiles)) (option_or (place_fault w g) (option_map Sight (map_fault g w.map))) ≡ Some f → Forbids f
+  go : (t : Bool) → cond t (Some (Tiling TooManyTiles)) (option_or (named_place_fault w g) (option_map Sight (observer_fault g w.map))) ≡ Some f → Forbids f
   go true h = let same : Tiling TooManyTiles ≡ f = cc in subst Forbids same tt
   go false h = sinks (sinks_fault g.terrain w.sinks) h
 

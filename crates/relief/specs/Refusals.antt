@@ -23,9 +23,9 @@ abbrev pub tiles_of : Raster → ℕ → ℕ
 tiles_of g side = tile_count (record { cols = g.terrain.cols; rows = g.terrain.rows; side = side })
 
 -- The observers' fault; the other maps have no observers.
-abbrev pub map_fault : Raster → Map → Option SightFault
-map_fault g (View observers target radius) = observers_fault g.terrain observers.items target radius
-map_fault g map = None
+abbrev pub observer_fault : Raster → Map → Option SightFault
+observer_fault g (View observers target radius) = observers_fault g.terrain observers.items target radius
+observer_fault g map = None
 
 -- The gauges' fault; the other maps have no gauges.
 abbrev pub gauge_fault : Raster → Map → Option GaugeFault
@@ -33,15 +33,15 @@ gauge_fault g (Catchments gauges) = gauges_fault g.terrain gauges.items
 gauge_fault g map = None
 
 -- The fault of the places that are named: of the sinks, and then of the gauges.
-abbrev pub place_fault : Wish → Raster → Option RunFault
-place_fault w g =
+abbrev pub named_place_fault : Wish → Raster → Option RunFault
+named_place_fault w g =
     option_or (option_map Sinks (sinks_fault g.terrain w.sinks)) (option_map Gauges (gauge_fault g w.map))
 
 -- What forbids to map a grid, None where only the work is left.
 abbrev pub wish_fault : Wish → Raster → Option RunFault
 wish_fault w g =
     if nat_lt most_tiles (tiles_of g w.tile) then Some (Tiling TooManyTiles)
-    else option_or (place_fault w g) (option_map Sight (map_fault g w.map))
+    else option_or (named_place_fault w g) (option_map Sight (observer_fault g w.map))
 
 -- The refusal comes rightly for this grid: want of memory or of a thread where only the work is left.
 abbrev pub IsWorkRefusal : Wish → Raster → RunFault → Type 0

@@ -86,7 +86,7 @@ fn show_error<W: Write, E: Write>(
 /// failed. An empty list of words is taken for the name alone. Help and the version go to `writer`. What is
 /// refused is told on `errors`: a fault in its line, the first bad observer, gauge or sink word by its place, and of
 /// other words what `clap` says. Where no fault or refusal is told `errors` stays as it is. That a device does not
-/// take what is told changes no status.
+/// take what is told changes no status. `--progress` reports nothing here; see [`run_words_reported`].
 pub fn run_words<H: Threads + Wait + Sync, R: Read, W: Write, E: Write>(
     rt: &H,
     alloc: Global,
@@ -106,7 +106,7 @@ pub fn run_words<H: Threads + Wait + Sync, R: Read, W: Write, E: Write>(
     run_words_reported(rt, alloc, words, reader, writer, errors, &NoGate)
 }
 
-/// [`run_words`] that calls `progress` where the words ask for a report of progress, and else not.
+/// Like [`run_words`]; calls `progress` only where the words ask for it.
 pub fn run_words_reported<
     H: Threads + Wait + Sync,
     R: Read,

@@ -8,7 +8,7 @@ ghost use Rattle.drainage.specs.Filled.{IsFilledGrid};
 ghost use Rattle.flow.specs.Catchments.{gauges_fault};
 ghost use Rattle.relief.specs.MadeMap.{drained_into, made_text, FitsGrid};
 ghost use Rattle.relief.specs.MapText.{IsMapText, IsDrainage};
-ghost use Rattle.relief.specs.Refusals.{IsWorkRefusal, gauge_fault, map_fault, place_fault, wish_fault, tiles_of};
+ghost use Rattle.relief.specs.Refusals.{IsWorkRefusal, gauge_fault, observer_fault, named_place_fault, wish_fault, tiles_of};
 
 use crate::fault::RunFault;
 use drain::directions;
@@ -66,8 +66,8 @@ fn cut(grid: &Grid, side: u32) -> Result<Tiling, TilingFault>
 }
 
 /// The fault of the sinks, or else of the gauges, that are asked for.
-fn place_fault(options: &Options, grid: &Grid) -> Option<RunFault>
-    ensures { result ≡ place_fault options.now grid.now }
+fn named_place_fault(options: &Options, grid: &Grid) -> Option<RunFault>
+    ensures { result ≡ named_place_fault options.now grid.now }
 {
     if let Some(fault) = sinks_fault(grid, options.sinks()) {
         return Some(RunFault::Sinks(fault));
@@ -89,12 +89,12 @@ pub(crate) fn prepare(
 ) -> Result<(Grid, Tiling), RunFault>
     ensures grid { IfOk result (λ p. p.0 ≡ drained_into options.now.sinks grid) }
     ensures cuts { IfOk result (λ p. Cuts p.1 p.0.terrain) }
-    ensures sound { IfOk result (λ p. wish_fault options.now p.0 ≡ option_map RunFault.Sight (map_fault p.0 options.now.map)) }
+    ensures sound { IfOk result (λ p. wish_fault options.now p.0 ≡ option_map RunFault.Sight (observer_fault p.0 options.now.map)) }
     ensures gauges { IfOk result (λ p. gauge_fault p.0 options.now.map ≡ None) }
     ensures fault { IfErr result (λ f. IsWorkRefusal options.now grid f) }
 {
     let tiling = cut(&grid, options.tile())?;
-    if let Some(fault) = place_fault(options, &grid) {
+    if let Some(fault) = named_place_fault(options, &grid) {
         return Err(fault);
     }
     let sinks = options.sinks();
@@ -115,7 +115,7 @@ pub(crate) fn make_map<H: Threads + Wait + Sync, G: Gate + Sync>(
     gate: &G,
 ) -> Result<MadeMap, RunFault>
     requires cuts { Cuts tiling.now grid.terrain }
-    requires sound { wish_fault options.now grid ≡ option_map RunFault.Sight (map_fault grid options.now.map) }
+    requires sound { wish_fault options.now grid ≡ option_map RunFault.Sight (observer_fault grid options.now.map) }
     requires gauges { gauge_fault grid options.now.map ≡ None }
     ensures map { IfOk result (λ m. IsMapText grid options.now.map (made_text m)) }
     ensures size { IfOk result (λ m. FitsGrid m) }

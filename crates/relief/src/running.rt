@@ -39,7 +39,7 @@ pub fn run<H: Threads + Wait + Sync, R: Read, W: Write>(
     run_gated(rt, alloc, options, reader, writer, &NoGate)
 }
 
-/// The same, where a gate is told of each job of a tile.
+/// [`run`] with a gate that is called at each stage and job of the map.
 pub fn run_gated<H: Threads + Wait + Sync, R: Read, W: Write, G: Gate + Sync>(
     rt: &H,
     alloc: Global,

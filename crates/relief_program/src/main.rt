@@ -19,7 +19,7 @@ const NO_MEMORY: u8 = 3;
 /// The longest list that the C library's allocator keeps, in bytes: with its own words in front, the last whole page below 32 MiB.
 const LONGEST_KEPT: usize = (1 << 25) - (1 << 13);
 
-/// Reports why the words cannot be read; returns the status.
+/// Returns the status of words that cannot be read; a word that is not UTF-8 gets a line.
 fn refuse_words(error: &io::Error, errors: &mut impl Write) -> u8 {
     if error.kind() == ErrorKind::OutOfMemory {
         return NO_MEMORY;

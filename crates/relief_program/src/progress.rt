@@ -5,10 +5,10 @@ use std::io::{IsTerminal, Stderr, Write};
 use std::sync::{Mutex, Wait};
 use std::time::{Clock, Instant};
 
-/// The least time between two reports on a terminal, in milliseconds.
-const LEAST_PAUSE: u128 = 100;
+/// The least time between two reports on a terminal.
+const LEAST_PAUSE_MS: u128 = 100;
 
-/// What clears a terminal's line, from its begin.
+/// Moves to the start of a terminal's line and clears it.
 const CLEAR_LINE: &str = "\r\x1b[K";
 
 /// How far a stage is, and where that is reported.
@@ -18,11 +18,14 @@ struct Stage {
     number: u32,
     jobs: u64,
     finished_jobs: u64,
-    // of all jobs; `parts` is how many a job has, 0 where jobs have none
+    /// Of all jobs.
     finished_parts: u64,
+    /// Of each job; 0 where jobs have none.
     parts: u64,
     reported_tenths: u64,
     last_report: Option<Instant>,
+    /// Whether a line stands on the terminal.
+    is_shown: bool,
 }
 
 impl Stage {
@@ -46,17 +49,26 @@ impl Stage {
             return;
         };
         if let Some(last) = self.last_report {
-            if now.duration_since(last).as_millis() < LEAST_PAUSE {
+            if now.duration_since(last).as_millis() < LEAST_PAUSE_MS {
                 return;
             }
         }
         self.last_report = Some(now);
+        self.is_shown = true;
         let percent = self.percent();
         if let Ok(line) = format!(in alloc;
             "{CLEAR_LINE}relief: stage {}: {percent} %",
             self.number
         ) {
             let _ = self.errors.write_all(line.as_bytes());
+        }
+    }
+
+    /// Clears the line that stands on the terminal.
+    fn clear(&mut self) {
+        if self.is_shown {
+            self.is_shown = false;
+            let _ = self.errors.write_all(CLEAR_LINE.as_bytes());
         }
     }
 
@@ -74,9 +86,10 @@ impl Stage {
 }
 
 /// A gate that reports how far each stage of a run is: on a terminal in one line, written anew in
-/// place at most ten times a second, and elsewhere in a line for each tenth.
+/// place at most ten times a second and cleared as the stage ends, so that the map may follow on the
+/// same terminal; elsewhere in a line for each tenth.
 ///
-/// What the errors do not take is lost. No memory for a line is no fault: the line is left out.
+/// A line that cannot be written or allocated is dropped.
 #[derive(Drop)]
 pub struct ProgressReport<'a, R> {
     rt: &'a R,
@@ -100,6 +113,7 @@ impl<'a, R: Clock + Wait> ProgressReport<'a, R> {
                 parts: 0,
                 reported_tenths: 0,
                 last_report: None,
+                is_shown: false,
             }),
         }
     }
@@ -130,6 +144,9 @@ impl<'a, R: Clock + Wait> Gate for ProgressReport<'a, R> {
         let mut stage = self.stage.lock(self.rt);
         stage.finished_jobs = stage.finished_jobs.saturating_add(1);
         self.report(&mut stage);
+        if stage.finished_jobs == stage.jobs {
+            stage.clear();
+        }
     }
 
     fn finish_part(&self, parts: usize) {
@@ -142,9 +159,6 @@ impl<'a, R: Clock + Wait> Gate for ProgressReport<'a, R> {
 
 impl<'a, R: Clock + Wait> Progress for ProgressReport<'a, R> {
     fn finish(&self) {
-        if self.is_in_place {
-            let mut stage = self.stage.lock(self.rt);
-            let _ = stage.errors.write_all(CLEAR_LINE.as_bytes());
-        }
+        self.stage.lock(self.rt).clear();
     }
 }

@@ -13,7 +13,7 @@ use Rattle.clap.proofs.OnLiterals.{clap_on_literals}
 use Rattle.request.specs.CommandLine.{HasBadGauge, HasBadObserver, HasBadSink, HasOptions, IsFirstBad, Names, Spell, WishFor, is_given, program_app, sink_words, words_given}
 use Rattle.request.specs.PlaceWords.{sink_of}
 use Rattle.request.specs.Wish.{AreLimits, IsView, Wish}
-use Rattle.request.specs.WordsFaults.{IsBadAfter, IsBadGaugeAfter, IsFaultBy, IsFaultOf, IsMapFault}
+use Rattle.request.specs.WordsFaults.{IsBadObserverAfter, IsBadGaugeAfter, IsFaultBy, IsFaultOf, IsMapFault}
 use Rattle.request.specs.declared.words.WordsFault.{WordsFault}
 use Rattle.request.specs.declared.words.WordsFault.TheVariants.{Clap, BadObserver, BadGauge, BadSink, NoMap}
 use Rattle.request.specs.declared.map.Map.{Map}
@@ -63,8 +63,8 @@ module _ (words : List Text) (accepted : fault_of program_app words ≡ []) wher
     map_of_wish : (wish : Wish) → WishFor words wish → Names n rs wish.map
     map_of_wish wish w = subst (λ (p : Text × List Row). Names p.0 p.1 wish.map) (same_found _ w.command.found) w.map
 
-    bad_after : (place : ℕ) → HasBadObserver words place → IsBadAfter n rs place
-    bad_after place bad = subst (λ (p : Text × List Row). IsBadAfter p.0 p.1 place) (same_found _ bad.command.found) (refl, bad.first)
+    bad_after : (place : ℕ) → HasBadObserver words place → IsBadObserverAfter n rs place
+    bad_after place bad = subst (λ (p : Text × List Row). IsBadObserverAfter p.0 p.1 place) (same_found _ bad.command.found) (refl, bad.first)
 
     bad_gauge_after : (place : ℕ) → HasBadGauge words place → IsBadGaugeAfter n rs place
     bad_gauge_after place bad = subst (λ (p : Text × List Row). IsBadGaugeAfter p.0 p.1 place) (same_found _ bad.command.found) (refl, bad.first)

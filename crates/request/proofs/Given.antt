@@ -18,7 +18,7 @@ use Rattle.terrain.specs.declared.observer.Observer.{Observer}
 use Rattle.request.specs.CommandLine.{HasNumber, HasObservers, IsFirstBad, Names, Spell, sink_words, words_of}
 use Rattle.request.specs.PlaceWords.{observer_of, sink_of}
 use Rattle.request.specs.Wish.{IsView}
-use Rattle.request.specs.WordsFaults.{IsBadAfter, IsBadGaugeAfter, IsFaultBy}
+use Rattle.request.specs.WordsFaults.{IsBadObserverAfter, IsBadGaugeAfter, IsFaultBy}
 use Rattle.request.specs.declared.words.WordsFault.{WordsFault}
 use Rattle.request.specs.declared.words.WordsFault.TheVariants.{Clap, BadObserver, BadGauge, BadSink, NoMap}
 use Rattle.request.specs.declared.map.Map.{Map}
@@ -99,12 +99,12 @@ module _ {X : Type 0} (of : Text → Option X) where
       rw (at, lt-ltb k (length texts) (omega (arith, size))) refl
 
 -- the words of a viewshed are all observers
-pub no_bad : (name : Text) (rows : List Row) (os : List Observer) (place : ℕ) → HasObservers rows os → ¬ IsBadAfter name rows place
+pub no_bad : (name : Text) (rows : List Row) (os : List Observer) (place : ℕ) → HasObservers rows os → ¬ IsBadObserverAfter name rows place
 no_bad name rows os place has bad =
     none_bad observer_of _ os place has bad.1
 
 -- a map has no bad observer word
-pub map_without_bad : (name : Text) (rows : List Row) (m : Map) (place : ℕ) → Names name rows m → ¬ IsBadAfter name rows place
+pub map_without_bad : (name : Text) (rows : List Row) (m : Map) (place : ℕ) → Names name rows m → ¬ IsBadObserverAfter name rows place
 map_without_bad name rows Fill place n bad = let no : ◌≡◌ {A = ℕ} 118 102 = ap (λ (t : Text). slice_index t 0) (sym bad.0 ∙ n) in absurd (omega arith)
 map_without_bad name rows Flow place n bad = let no : ◌≡◌ {A = ℕ} 118 102 = ap (λ (t : Text). slice_index t 0) (sym bad.0 ∙ n) in absurd (omega arith)
 map_without_bad name rows Accumulate place n bad = let no : ◌≡◌ {A = ℕ} 118 97 = ap (λ (t : Text). slice_index t 0) (sym bad.0 ∙ n) in absurd (omega arith)

@@ -139,7 +139,7 @@ pub record HasNumber (rows : List Row) (id : Text) (n : ℕ) : Type 0 where
   pub spelled : digits_value 10 (without_leading_plus text) ≡ n
   pub small : n < 2 ^ 32
 
--- The flag was given.
+-- The value that `clap` keeps for a flag is `true`, as it is where the flag was given.
 abbrev pub is_given : Text → List Row → Bool
 is_given id rows = option_map_or (λ text. bytes_eq text (codes "true")) (first_of id rows) false
 

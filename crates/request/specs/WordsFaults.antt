@@ -31,8 +31,8 @@ abbrev pub IsWant : WordsFault → Type 0
 IsWant fault = IsFaultBy (λ _. ⊥) (λ _. ⊥) (λ _. ⊥) ⊥ fault
 
 -- The first of the words after `view` that is no observer stands at this place.
-abbrev pub IsBadAfter : Text → List Row → ℕ → Type 0
-IsBadAfter name rows place = (name ≡ codes "view") × IsFirstBad observer_of (words_of (codes "observers") rows) place
+abbrev pub IsBadObserverAfter : Text → List Row → ℕ → Type 0
+IsBadObserverAfter name rows place = (name ≡ codes "view") × IsFirstBad observer_of (words_of (codes "observers") rows) place
 
 -- The first of the words after `catchments` that is no gauge stands at this place.
 abbrev pub IsBadGaugeAfter : Text → List Row → ℕ → Type 0
@@ -42,11 +42,11 @@ IsBadGaugeAfter name rows place =
 -- The subcommand is no map with these values, though no word after it is bad.
 abbrev pub IsNoMap : Text → List Row → Type 0
 IsNoMap name rows = ((map : Map) → ¬ Names name rows map)
-    × ((place : ℕ) → ¬ IsBadAfter name rows place) × ((place : ℕ) → ¬ IsBadGaugeAfter name rows place)
+    × ((place : ℕ) → ¬ IsBadObserverAfter name rows place) × ((place : ℕ) → ¬ IsBadGaugeAfter name rows place)
 
 -- The words of a map have this fault.
 abbrev pub IsMapFault : Text → List Row → WordsFault → Type 0
-IsMapFault name rows = IsFaultBy (IsBadAfter name rows) (IsBadGaugeAfter name rows) (λ _. ⊥) (IsNoMap name rows)
+IsMapFault name rows = IsFaultBy (IsBadObserverAfter name rows) (IsBadGaugeAfter name rows) (λ _. ⊥) (IsNoMap name rows)
 
 -- The fault is that of the words.
 abbrev pub IsFaultOf : List Text → WordsFault → Type 0

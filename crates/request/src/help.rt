@@ -85,6 +85,10 @@ A sink keeps the water that reaches it where no neighbour lies below: name the l
 quarry, and the pit does not fill up. Where a neighbour lies below, the water flows on and the map is the same
 as without the sink. A gauge is no sink";
 
+pub(crate) const SINK_OPTION: &str = "\
+A named sink, two whole numbers; give the option again for each, up to 1024. Words without it are gauges. A sink
+keeps the water that reaches it where no neighbour lies below";
+
 pub(crate) const GAUGE_WORDS: &str = "\
 Gauges, 1 to 1024, each two whole numbers: the row from 0 at the north, the column from 0 at the west. Of
 gauges in one cell the first counts";
@@ -126,47 +130,47 @@ the units and limits, and the exit status.
 A fault is one line on standard error, and no map. What each means, and what to do:
 relief: bad sink word K
       A file name stands where sinks belong: give the grid by <, as in relief fill < dem.asc. Or the word is not
-      two whole numbers ROW,COL, as 120,340: it has decimals, one number or three.
+      two whole numbers ROW,COL, as 120,340: it has decimals, a sign, a number too large, one number or three.
 relief: bad gauge word K
       A file name stands where gauges belong: give the grid by <. Or the word is not two whole numbers ROW,COL,
-      as 170,102: it has decimals, one number or three.
+      as 170,102: it has decimals, a sign, a number too large, one number or three.
 relief: bad observer word K
       A file name stands where observers belong: give the grid by <. Or the word is not three whole numbers
-      ROW,COL,EYE, as 120,340,2000: it has decimals, two numbers or four.
+      ROW,COL,EYE, as 120,340,2000: it has decimals, a sign, a number too large, two or four.
 relief: NUMBER NAME [DETAIL]
-   1 UnknownKey        a header word that is none of the six (dx, north:), a cut header, a height that is a word
-                       (nan), or a GeoTIFF: write a grid text with square cells (gdal_translate -of AAIGrid)
-   2 RepeatedKey KEY   a header word given twice, or both corner and centre of an axis: take one out
-   3 MissingKey KEY    the heights begin and KEY was not given: add it; for ncols also an empty file, a byte
-                       order mark, UTF-16 or gzip: save it as plain text, or gunzip it
-   4 BadSize KEY       columns or rows are not 1 to 4096: cut a part out, or make the cells larger
-   5 BadPlace KEY      a position or the cell size is no number, or the cell size not above 0: mend the header
-   6 BadNodata         the NODATA word is no number, as nan: gdalwarp -dstnodata -9999
-   7 BadHeight PLACE   digits past the scale: --scale 2, and gdal_translate -co DECIMAL_PRECISION=2; or past 10^15
-                       units, or no number (a decimal comma, an exponent): look at this cell
-   8 TooFew COUNT      the text ended after COUNT heights: it was cut off, or the header gives another size
-   9 TooMany           words follow the last height: the header gives another size, or take them out
-  10 NoValue KEY       the text ended after a header word: it was cut off
-  11 TooLong           a word past 64 bytes: take out the line of a projection, write fewer decimals; or a text
-                       past 2^29 bytes: write fewer decimals, or cut a part out
-  12 Memory            out of memory: a smaller grid, or more memory
-  21 BadSide           the side of tiles is not 1 to 4096: the command line refuses this before
-  22 TooManyTiles      more than 65536: a larger --tile
-  31 BadWorkers        the number of workers is not 1 to 64: the command line refuses this before
-  32 NoThread          the system started no further thread: fewer --workers
-  41 Outside PLACE     this observer is not in the grid: give ROW,COL,EYE in cells, not coordinates
-  42 OnNodata PLACE    this observer is on a cell without data: move it
-  43 TooManyObservers  more than 1024: make several maps and add them
-  44 BadEye [PLACE]    this eye, or without PLACE the target, is above 1000000 units: units are 10^-D
-  45 BadRadius         not 1 to 8192 cells
-  46 SinkOutside PLACE this sink is not in the grid: give ROW,COL in cells, not coordinates
-  47 SinkOnNodata PLACE this sink is on a cell without data, which drains already: take it out
-  48 TooManySinks      more than 1024: name fewer
-  51 Read              standard input failed
-  52 Write             standard output failed: a full disk, a closed pipe
-  61 GaugeOutside PLACE this gauge is not in the grid: give ROW,COL in cells, not coordinates
+   1 UnknownKey          a header word that is none of the six (dx, north:), a cut header, a height that is a word
+                         (nan), or a GeoTIFF: write a grid text with square cells (gdal_translate -of AAIGrid)
+   2 RepeatedKey KEY     a header word given twice, or both corner and centre of an axis: take one out
+   3 MissingKey KEY      the heights begin and KEY was not given: add it; for ncols also an empty file, a byte
+                         order mark, UTF-16 or gzip: save it as plain text, or gunzip it
+   4 BadSize KEY         columns or rows are not 1 to 4096: cut a part out, or make the cells larger
+   5 BadPlace KEY        a position or the cell size is no number, or the cell size not above 0: mend the header
+   6 BadNodata           the NODATA word is no number, as nan: gdalwarp -dstnodata -9999
+   7 BadHeight PLACE     digits past the scale: --scale 2, and gdal_translate -co DECIMAL_PRECISION=2; or past 10^15
+                         units, or no number (a decimal comma, an exponent): look at this cell
+   8 TooFew COUNT        the text ended after COUNT heights: it was cut off, or the header gives another size
+   9 TooMany             words follow the last height: the header gives another size, or take them out
+  10 NoValue KEY         the text ended after a header word: it was cut off
+  11 TooLong             a word past 64 bytes: take out the line of a projection, write fewer decimals; or a text
+                         past 2^29 bytes: write fewer decimals, or cut a part out
+  12 Memory              out of memory: a smaller grid, or more memory
+  21 BadSide             the side of tiles is not 1 to 4096: the command line refuses this before
+  22 TooManyTiles        more than 65536: a larger --tile
+  31 BadWorkers          the number of workers is not 1 to 64: the command line refuses this before
+  32 NoThread            the system started no further thread: fewer --workers
+  41 Outside PLACE       this observer is not in the grid: give ROW,COL,EYE in cells, not coordinates
+  42 OnNodata PLACE      this observer is on a cell without data: move it
+  43 TooManyObservers    more than 1024: make several maps and add them
+  44 BadEye [PLACE]      this eye, or without PLACE the target, is above 1000000 units: units are 10^-D
+  45 BadRadius           not 1 to 8192 cells
+  46 SinkOutside PLACE   this sink is not in the grid: give ROW,COL in cells, not coordinates
+  47 SinkOnNodata PLACE  this sink is on a cell without data, which drains already: take it out
+  48 TooManySinks        more than 1024: name fewer
+  51 Read                standard input failed
+  52 Write               standard output failed: a full disk, a closed pipe
+  61 GaugeOutside PLACE  this gauge is not in the grid: give ROW,COL in cells, not coordinates
   62 GaugeOnNodata PLACE this gauge is on a cell without data: move it
-  63 TooManyGauges     more than 1024: make several maps
+  63 TooManyGauges       more than 1024: make several maps
 KEY is a header word. PLACE and K count from 0: cells in row order, so PLACE is row PLACE / ncols, rounded down,
-and column PLACE % ncols; observers, gauges and sinks in the order of the command line. `relief-cells` turns coordinates
-into ROW,COL and ROW,COL,EYE.";
+and column PLACE % ncols; observers, gauges and sinks in the order of the command line. `relief-cells` turns
+coordinates into ROW,COL and ROW,COL,EYE.";

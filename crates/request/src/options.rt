@@ -74,12 +74,8 @@ impl Options {
             return Err(self);
         }
         Ok(Options {
-            map: self.map,
-            tile: self.tile,
-            workers: self.workers,
-            scale: self.scale,
             sinks: Some(sinks),
-            progress: self.progress,
+            ..self
         })
     }
 

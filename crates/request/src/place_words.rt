@@ -1,4 +1,4 @@
-//! Observers and sinks as words: [`parse_observer`], [`parse_sink`].
+//! Observers, gauges and sinks as words: [`parse_observer`], [`parse_sink`].
 ghost use Rattle.std.specs.Prelude.{◌≡◌, ◌==◌, ◌∷◌, [], ℕ, List, Option, Some, None, IfSome, IfNone, if◌then◌else◌};
 ghost use Rattle.std.specs.List.{slice_split, position};
 ghost use Rattle.terrain.specs.Decimal.{number_of};

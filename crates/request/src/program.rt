@@ -7,7 +7,7 @@ ghost use Rattle.request.specs.Commands.{IsArg, IsLeaf, bare_app};
 use crate::VERSION;
 use crate::help::{
     ABOUT, ACCUMULATE, BASINS, CATCHMENTS, COMMON, EXAMPLES_AND_FAULTS, FILL, FLOW, GAUGE_WORDS,
-    MapHelp, SINK_WORDS, USAGE, VIEW, VIEW_WORDS,
+    MapHelp, SINK_OPTION, SINK_WORDS, USAGE, VIEW, VIEW_WORDS,
 };
 use crate::options::{LONGEST_SIDE, MOST_DECIMALS, MOST_WORKERS};
 use clap::builder::ValueParser;
@@ -80,8 +80,8 @@ fn radius_option<'a>(alloc: Global) -> Arg<'a>
     number_option(alloc, "radius", "N", value_parser!(u32), "8192", help)
 }
 
-/// The words after the options of a map that takes one at least, which help calls `value`.
-fn place_words<'a>(alloc: Global, name: &'a str, value: &'a str, help: &'a str) -> Arg<'a>
+/// The positional words of a map that needs one; help calls each `value`.
+fn required_words<'a>(alloc: Global, name: &'a str, value: &'a str, help: &'a str) -> Arg<'a>
     ensures { IsArg (words_rule name.entry.now) result }
 {
     Arg::new(alloc, name)
@@ -92,7 +92,7 @@ fn place_words<'a>(alloc: Global, name: &'a str, value: &'a str, help: &'a str) 
         .help(help)
 }
 
-/// The option of a map whose words are no sinks.
+/// `--sink ROW,COL`, of a map whose positional words are gauges.
 fn sink_option<'a>(alloc: Global) -> Arg<'a>
     ensures { IsArg sink_rule result }
 {
@@ -100,7 +100,7 @@ fn sink_option<'a>(alloc: Global) -> Arg<'a>
         .long("sink")
         .value_name("ROW,COL")
         .action(ArgAction::Append)
-        .help(SINK_WORDS)
+        .help(SINK_OPTION)
 }
 
 /// The words after the options of a map of drainage.
@@ -156,7 +156,7 @@ fn catchments_command<'a>(alloc: Global) -> Result<Command<'a>, AllocError>
 {
     map_command(alloc, "catchments", CATCHMENTS)?
         .arg(sink_option(alloc))?
-        .arg(place_words(alloc, "gauges", "ROW,COL", GAUGE_WORDS))
+        .arg(required_words(alloc, "gauges", "ROW,COL", GAUGE_WORDS))
 }
 
 fn view_command<'a>(alloc: Global) -> Result<Command<'a>, AllocError>
@@ -165,7 +165,7 @@ fn view_command<'a>(alloc: Global) -> Result<Command<'a>, AllocError>
     map_command(alloc, "view", VIEW)?
         .arg(target_option(alloc))?
         .arg(radius_option(alloc))?
-        .arg(place_words(alloc, "observers", "ROW,COL,EYE", VIEW_WORDS))
+        .arg(required_words(alloc, "observers", "ROW,COL,EYE", VIEW_WORDS))
 }
 
 /// The program without its subcommands.

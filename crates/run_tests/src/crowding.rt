@@ -1,5 +1,5 @@
 //! As many tiles in work at once as there are workers, at each stage.
-use relief::{Counted, Gate, Map, Observer, Options, run_gated};
+use relief::{Counted, Gate, Map, Observer, Options, Place, run_gated};
 use std::alloc::{AllocError, Global};
 use std::process::Abort;
 use std::sync::Wait;
@@ -74,7 +74,7 @@ fn level_strip(alloc: Global, tiles: u32) -> Result<Vec<u8>, Fail> {
     Ok(text)
 }
 
-/// Runs a map of a strip with a tile for each worker; each stage has all tiles in work at once.
+/// Runs a map of a strip with a tile for each worker: each of so many stages has all tiles at once.
 fn expect_crowded<R: Abort + Threads + Wait + Sync>(
     rt: &R,
     alloc: Global,
@@ -92,10 +92,7 @@ fn expect_crowded<R: Abort + Threads + Wait + Sync>(
     assert_eq!(rt; result, Ok(()), "{workers} workers");
     assert_eq!(rt; crowd.missed.load(Ordering::SeqCst), 0, "{workers} workers");
     for entered in &crowd.entered {
-        assert!(rt;
-            entered.load(Ordering::SeqCst) >= stages,
-            "{workers} workers"
-        );
+        assert_eq!(rt; entered.load(Ordering::SeqCst), stages, "{workers} workers");
     }
     Ok(())
 }
@@ -104,7 +101,12 @@ fn expect_crowded<R: Abort + Threads + Wait + Sync>(
 fn as_many_tiles_at_once_as_workers(rt: HostRuntime) -> Result<(), Fail> {
     let alloc = rt.alloc();
     for workers in [3, 8, 64] {
-        expect_crowded(&rt, alloc, Map::Basins, workers, 4)?;
+        expect_crowded(&rt, alloc, Map::Basins, workers, 8)?;
+        let mut gauges = Vec::new(alloc);
+        gauges
+            .push(Place { row: 0, col: 0 })
+            .map_err(AllocError::from)?;
+        expect_crowded(&rt, alloc, Map::Catchments { gauges }, workers, 7)?;
         let mut observers = Vec::new(alloc);
         let corner = Observer {
             row: 0,

@@ -4,7 +4,7 @@ ghost use Rattle.tiles.specs.Cutting.{Cuts};
 use ascii_grid::{Counted, read_text};
 use drain::directions;
 use fill::filled;
-use flow::{accumulation, basins};
+use flow::{accumulation, basins, catchments};
 use relief::{Map, Options, Place, run_gated};
 use sight::{Observer, viewshed};
 use std::alloc::Global;
@@ -118,7 +118,8 @@ fn cut(rt: &impl Abort, alloc: Global, text: &[u8], side: u32) -> (Grid, Tiling)
 
 /// Each stage has one job for each tile. `viewshed` has one stage for the greatest heights of blocks
 /// and one for the values; `filled` floods tiles and joins their labels; `accumulation` finds the flow
-/// of each tile and counts its cells; `basins` counts the outlets between these two.
+/// of each tile and counts its cells; `basins` counts the outlets between these two; `catchments` has
+/// these two alone.
 #[test]
 fn tiles_meet_at_each_stage(rt: HostRuntime) {
     let alloc = rt.alloc();
@@ -137,6 +138,10 @@ fn tiles_meet_at_each_stage(rt: HostRuntime) {
     let gate = Meeting::new();
     assert!(rt; basins(&rt, alloc, &ways, &tiling, 2, &gate).is_ok());
     gate.expect(&rt, 3, 4, "basins");
+    let gate = Meeting::new();
+    let gauge = Place { row: 2, col: 2 };
+    assert!(rt; catchments(&rt, alloc, &ways, &[gauge], &tiling, 2, &gate).is_ok());
+    gate.expect(&rt, 2, 4, "catchments");
 }
 
 /// Tiles with inner cells have the same stages.
@@ -263,7 +268,7 @@ fn tiles_of_catchments_meet(rt: HostRuntime) {
     gauges.push(Place { row: 2, col: 2 }).expect(&rt, "a gauge");
     let gate = Meeting::new();
     let out = gated_map(&rt, alloc, PITS, 2, Map::Catchments { gauges }, &gate);
-    gate.expect_met(&rt, 4, "catchments");
+    gate.expect_met(&rt, 8, "catchments");
     let lines = "\n1 1 1 0\n1 1 1 1\n1 1 1 0\n0 1 0 0\n";
     expect_map(&rt, alloc, &out, 4, 4, lines);
 }

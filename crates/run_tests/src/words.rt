@@ -243,28 +243,46 @@ fn options_in_their_limits(rt: HostRuntime) {
     }
 }
 
-/// Counts what a run reports to a gate.
+/// Adds up what a run reports to a gate.
 #[derive(Drop)]
 struct Tally {
     stages: AtomicU64,
+    due_jobs: AtomicU64,
     jobs: AtomicU64,
+    job_numbers: AtomicU64,
     parts: AtomicU64,
+    due_parts: AtomicU64,
+    /// Jobs that left before all their parts, where one worker does them.
+    early: AtomicU64,
     ends: AtomicU64,
 }
+
+/// Observers of each report.
+const OBSERVERS: u64 = 3;
+
+/// Tiles of the bowl, of side 2.
+const TILES: u64 = 4;
 
 impl Gate for Tally {
     fn enter(&self, _job: u32) {}
 
-    fn begin_stage(&self, _jobs: u32) {
+    fn begin_stage(&self, jobs: u32) {
         self.stages.fetch_add(1, Ordering::SeqCst);
+        self.due_jobs.fetch_add(u64::from(jobs), Ordering::SeqCst);
     }
 
-    fn leave(&self, _job: u32) {
-        self.jobs.fetch_add(1, Ordering::SeqCst);
+    fn leave(&self, job: u32) {
+        let before = self.jobs.fetch_add(1, Ordering::SeqCst);
+        self.job_numbers.fetch_add(u64::from(job), Ordering::SeqCst);
+        let viewed = before.saturating_add(1).saturating_sub(TILES);
+        if self.parts.load(Ordering::SeqCst) != viewed.wrapping_mul(OBSERVERS) {
+            self.early.fetch_add(1, Ordering::SeqCst);
+        }
     }
 
-    fn finish_part(&self, _parts: usize) {
+    fn finish_part(&self, parts: usize) {
         self.parts.fetch_add(1, Ordering::SeqCst);
+        self.due_parts.fetch_add(parts as u64, Ordering::SeqCst);
     }
 }
 
@@ -274,12 +292,16 @@ impl Progress for Tally {
     }
 }
 
-/// Stages, jobs, parts and ends that the words report over the bowl of four tiles of side 2.
-fn reported<R: Threads + Wait + Sync>(rt: &R, alloc: Global, words: &[&str]) -> [u64; 4] {
+/// What the words report over the bowl, in tiles of side 2.
+fn reported<R: Threads + Wait + Sync>(rt: &R, alloc: Global, words: &[&str]) -> Tally {
     let tally = Tally {
         stages: AtomicU64::new(0),
+        due_jobs: AtomicU64::new(0),
         jobs: AtomicU64::new(0),
+        job_numbers: AtomicU64::new(0),
         parts: AtomicU64::new(0),
+        due_parts: AtomicU64::new(0),
+        early: AtomicU64::new(0),
         ends: AtomicU64::new(0),
     };
     let mut out = Vec::new(alloc);
@@ -296,31 +318,47 @@ fn reported<R: Threads + Wait + Sync>(rt: &R, alloc: Global, words: &[&str]) -> 
         &mut lines,
         &tally,
     );
-    [
-        tally.stages.load(Ordering::SeqCst),
-        tally.jobs.load(Ordering::SeqCst),
-        tally.parts.load(Ordering::SeqCst),
-        tally.ends.load(Ordering::SeqCst),
-    ]
+    tally
 }
 
-/// A viewshed has two stages of four jobs, and a job of the second a part for each observer.
+/// A viewshed of three observers has two stages of four jobs, and a job of the second three parts.
+#[test]
+fn progress_of_a_view(rt: HostRuntime) {
+    for workers in ["--workers=1", "--workers=2"] {
+        let words = [
+            "relief",
+            "view",
+            "--tile=2",
+            workers,
+            "--progress",
+            "0,0,0",
+            "1,1,0",
+            "2,2,0",
+        ];
+        let tally = reported(&rt, rt.alloc(), words.as_slice());
+        assert_eq!(rt; tally.stages.load(Ordering::SeqCst), 2);
+        assert_eq!(rt; tally.due_jobs.load(Ordering::SeqCst), 8);
+        assert_eq!(rt; tally.jobs.load(Ordering::SeqCst), 8);
+        assert_eq!(rt; tally.job_numbers.load(Ordering::SeqCst), 12);
+        assert_eq!(rt; tally.parts.load(Ordering::SeqCst), 12);
+        assert_eq!(rt; tally.due_parts.load(Ordering::SeqCst), 36);
+        assert_eq!(rt; tally.ends.load(Ordering::SeqCst), 1);
+        if workers == "--workers=1" {
+            assert_eq!(rt; tally.early.load(Ordering::SeqCst), 0);
+        }
+    }
+}
+
 #[test]
 fn progress_where_asked_for(rt: HostRuntime) {
     let alloc = rt.alloc();
-    let asked = [
-        "relief",
-        "view",
-        "--tile=2",
-        "--workers=2",
-        "--progress",
-        "0,0,0",
-        "1,1,0",
-        "2,2,0",
-    ];
-    assert_eq!(rt; reported(&rt, alloc, asked.as_slice()), [2, 8, 12, 1]);
     let refused = ["relief", "view", "--tile=2", "--progress", "3,0,0"];
-    assert_eq!(rt; reported(&rt, alloc, refused.as_slice()), [0, 0, 0, 1]);
+    let tally = reported(&rt, alloc, refused.as_slice());
+    assert_eq!(rt; tally.stages.load(Ordering::SeqCst), 0);
+    assert_eq!(rt; tally.ends.load(Ordering::SeqCst), 1);
     let silent = ["relief", "view", "--tile=2", "0,0,0"];
-    assert_eq!(rt; reported(&rt, alloc, silent.as_slice()), [0, 0, 0, 0]);
+    let tally = reported(&rt, alloc, silent.as_slice());
+    assert_eq!(rt; tally.stages.load(Ordering::SeqCst), 0);
+    assert_eq!(rt; tally.jobs.load(Ordering::SeqCst), 0);
+    assert_eq!(rt; tally.ends.load(Ordering::SeqCst), 0);
 }

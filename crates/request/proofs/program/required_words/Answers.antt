@@ -3,7 +3,7 @@ use Rattle.clap.specs.Lexer.{usize_max}
 use Rattle.clap.specs.Words.{Rule}
 use Rattle.clap.specs.declared.builder.range.ValueRange.{ValueRange}
 use Rattle.clap.specs.declared.builder.action.ArgAction.TheVariants.{Append}
-use Rattle.request.proofs.program.place_words.Goals as goal
+use Rattle.request.proofs.program.required_words.Goals as goal
 
 pub returns : goal.returns
 returns c =
