@@ -224,12 +224,16 @@ class Ends(Case):
         self.assertEqual(sorted(os.listdir(self.folder)), ["dem.tif", "out.tif"])
 
     def test_a_signal_leaves_no_file(self):
+        def heed():
+            # A job in the background of a shell ignores interrupts.
+            signal.signal(signal.SIGINT, signal.SIG_DFL)
+
         for number, status in ((signal.SIGTERM, 143), (signal.SIGINT, 130)):
             program = self.program("exec sleep 60")
             before = sorted(os.listdir(self.folder))
             words = [sys.executable, str(GIS / "relief-gis"), "fill", "dem.tif", "out.tif"]
             with subprocess.Popen(words, cwd=self.folder, env=environment(program), stderr=subprocess.PIPE,
-                                  text=True) as process:
+                                  text=True, preexec_fn=heed) as process:
                 time.sleep(2)
                 process.send_signal(number)
                 self.assertEqual(process.wait(30), status)
