@@ -7,7 +7,7 @@ use Rattle.std.proofs.lemmas.List.{take_more}
 use Rattle.std.proofs.lemmas.List.Elements.{filter_map-append, All-cons, All-nil, All-contains}
 use Rattle.floods.specs.declared.net.Spill.{Spill}
 use Rattle.floods.specs.Walk.{HasJust}
-use Rattle.cell_floods.specs.Cells.{Cells, cell_of, IsBeside, IsCellJoin, cells_around, way_to}
+use Rattle.cell_floods.specs.Cells.{Cells, cell_at, IsBeside, IsCellJoin, cells_around, way_to}
 use Rattle.std.specs.Prelude.{◌≤ℤ◌}
 use Rattle.std.proofs.lemmas.Int.{ints, clamps}
 use Rattle.floods.specs.declared.queue.Waiting.{Waiting}
@@ -99,7 +99,7 @@ way_found cells x b way e = elim (cases_option (get_or cells b None)) [
 ]
 
 -- the ways of a cell are its joins
-pub just_ways : (n : Cells) (a : ℕ) (x : ℤ) → cell_of n a ≡ Some x → n.stride < a → HasJust (IsCellJoin n a) (filter_map (way_to n.cells x) (cells_around n.stride a))
+pub just_ways : (n : Cells) (a : ℕ) (x : ℤ) → cell_at n a ≡ Some x → n.stride < a → HasJust (IsCellJoin n a) (filter_map (way_to n.cells x) (cells_around n.stride a))
 just_ways n a x here above = record {
   only = all_by_contains (λ way. IsCellJoin n a way.to way.height) _ (λ way h.
       let from = Contains-from_filter_map (way_to n.cells x) (cells_around n.stride a) way h in
@@ -120,7 +120,7 @@ just_ways n a x here above = record {
 }
 
 -- a cell with no data has no joins
-pub no_ways : (n : Cells) (a : ℕ) → cell_of n a ≡ None → HasJust (IsCellJoin n a) []
+pub no_ways : (n : Cells) (a : ℕ) → cell_at n a ≡ None → HasJust (IsCellJoin n a) []
 no_ways n a none = record {
   only = All-nil (λ way. IsCellJoin n a way.to way.height);
   every = λ b h j. let some = j.from_cell in absurd (cc);

@@ -22,7 +22,7 @@ use Rattle.tiles.specs.declared.bounds.Bounds.{Bounds}
 use Rattle.tiles.proofs.Cut.{in_bounds, in_tile, bounds_inside}
 use Rattle.tiles.proofs.TileOrder.{index_in_below, entry_in-inside}
 use Rattle.floods.specs.declared.net.Spill.{Spill}
-use Rattle.cell_floods.specs.CellJoins.{join_inside}
+use Rattle.terrain.proofs.Options.{some_inside}
 use Rattle.cell_floods.specs.Labels.{label_of_node, AreNodesBelow}
 use Rattle.cell_floods.specs.TileFlood.{IsTileSource, IsTilePath, IsTileLevel}
 
@@ -149,7 +149,7 @@ tile_flood_is t c tile n b levels levels_in labels labels_in h l cuts net floode
 -- a label of a net's flood is a node of the net
 walk_end_below : (n : Cells) (a : ℕ) (walk : List Spill) → a < length n.cells → IsWalk (IsCellJoin n) (source_of n) a walk → end_of a walk < length n.cells
 walk_end_below n a [] low walk = low
-walk_end_below n a (step ∷ rest) low walk = walk_end_below n step.to rest (join_inside n a step.to step.height walk.0) walk.1
+walk_end_below n a (step ∷ rest) low walk = walk_end_below n step.to rest (some_inside n.cells step.to walk.0.to_height walk.0.to_cell) walk.1
 
 labels_below : (n : Cells) (levels : List (Option ℤ)) (labels : List (Option ℕ)) → IsFlooded (IsCellJoin n) (source_of n) (length n.cells) levels labels → AreNodesBelow (length labels) labels
 labels_below n levels labels flooded k node e = elim (cases_lt k (length labels)) [

@@ -21,8 +21,8 @@ use Rattle.tiles.specs.declared.bounds.Bounds.{Bounds}
 use Rattle.tiles.specs.Cutting.{IsInBounds, is_in_bounds}
 use Rattle.floods.specs.declared.net.Spill.{Spill}
 use Rattle.floods.specs.Walk.{IsWalk, crest as walk_crest, end_of, IsFlooded}
-use Rattle.cell_floods.specs.Cells.{Cells, cell_of, node_at, IsNetOf, IsAfter, IsBeside, IsCellJoin, cells_around, has_gap_around, is_sink, source_of, last_of}
-use Rattle.cell_floods.specs.CellJoins.{some_inside}
+use Rattle.cell_floods.specs.Cells.{Cells, cell_at, node_at, IsNetOf, IsAfter, IsBeside, IsCellJoin, cells_around, has_gap_around, is_sink, source_of, last_of}
+use Rattle.terrain.proofs.Options.{some_inside}
 use Rattle.terrain.proofs.Options.{cases_option, none_some, none_done, none_from_is_some}
 use Rattle.cell_floods.proofs.CellWays.{all_beside, beside_around}
 use Rattle.cell_floods.proofs.Borders.{above_row}
@@ -172,8 +172,8 @@ node_of_place w r c a b =
       back x y h = omega arith
 
 -- a number of the border has no data
-border_none : (t : Terrain) (w : Bounds) (n : Cells) → IsNetOf t w n → (r c : ℕ) → c < w.cols + 2 → ((1 ≤ r) → (r ≤ w.rows) → (1 ≤ c) → (c ≤ w.cols) → ⊥) → cell_of n (r * (w.cols + 2) + c) ≡ None
-border_none t w n net r c narrow outside = elim (cases_option (cell_of n (r * (w.cols + 2) + c))) [
+border_none : (t : Terrain) (w : Bounds) (n : Cells) → IsNetOf t w n → (r c : ℕ) → c < w.cols + 2 → ((1 ≤ r) → (r ≤ w.rows) → (1 ≤ c) → (c ≤ w.cols) → ⊥) → cell_at n (r * (w.cols + 2) + c) ≡ None
+border_none t w n net r c narrow outside = elim (cases_option (cell_at n (r * (w.cols + 2) + c))) [
   | inl none ↦ none
   | inr found ↦
       let p = net.only (r * (w.cols + 2) + c) (ap is_some found.1) in
@@ -182,7 +182,7 @@ border_none t w n net r c narrow outside = elim (cases_option (cell_of n (r * (w
 ]
 
 -- a gap beside a cell of the window makes it a source of the window
-pub gap_is_source : (t : Terrain) (w : Bounds) (n : Cells) → IsNetOf t w n → (p : Place) → IsInBounds w p → IsDataCell t p → (b : ℕ) → IsBeside (w.cols + 2) (node_at w p) b → cell_of n b ≡ None → IsGapSource t w p
+pub gap_is_source : (t : Terrain) (w : Bounds) (n : Cells) → IsNetOf t w n → (p : Place) → IsInBounds w p → IsDataCell t p → (b : ℕ) → IsBeside (w.cols + 2) (node_at w p) b → cell_at n b ≡ None → IsGapSource t w p
 gap_is_source t w n net p a some b beside none = (
   some,
   elim (cases_rim w p a) [
@@ -193,12 +193,12 @@ gap_is_source t w n net p a some b beside none = (
         let in_window : IsInBounds w q = (omega (arith, near, inner, a), omega (arith, near, inner, a), omega (arith, near, inner, a), omega (arith, near, inner, a)) in
         let touches : Touches p q = record { row_down = omega (arith, near, inner, a); row_up = omega (arith, near, inner, a); col_right = omega (arith, near, inner, a); col_left = omega (arith, near, inner, a) } in
         let here : node_at w q ≡ b = node_of_place w near.0 near.1 (omega (arith, near, inner, a)) (omega (arith, near, inner, a)) ∙ sym near.6 in
-        inr (inr (inr (q, touches, ap is_some (sym (net.inside q in_window) ∙ ap (cell_of n) here ∙ none))))
+        inr (inr (inr (q, touches, ap is_some (sym (net.inside q in_window) ∙ ap (cell_at n) here ∙ none))))
   ],
 )
 
 -- such a source of the window has a gap beside it
-rim_gap : (t : Terrain) (w : Bounds) (n : Cells) → IsNetOf t w n → (p : Place) → IsInBounds w p → IsOnRim w p → (b : ℕ) × IsBeside (w.cols + 2) (node_at w p) b × (cell_of n b ≡ None)
+rim_gap : (t : Terrain) (w : Bounds) (n : Cells) → IsNetOf t w n → (p : Place) → IsInBounds w p → IsOnRim w p → (b : ℕ) × IsBeside (w.cols + 2) (node_at w p) b × (cell_at n b ≡ None)
 rim_gap t w n net p a (inl e) =
     let first : row_in w p ≡ 1 = omega (arith, e, a) in
     (0 * (w.cols + 2) + col_in w p, inr (inr (inr (inl (ap (λ r. r * (w.cols + 2) + col_in w p) first ∙ omega arith)))), border_none t w n net 0 (col_in w p) (omega (arith, a)) (λ one _ _ _. omega arith))
@@ -209,7 +209,7 @@ rim_gap t w n net p a (inr (inr (inl e))) =
 rim_gap t w n net p a (inr (inr (inr e))) =
     (row_in w p * (w.cols + 2) + (col_in w p + 1), inl (inl (omega arith)), border_none t w n net (row_in w p) (col_in w p + 1) (omega (arith, a)) (λ _ _ _ low. omega (arith, e, a)))
 
-pub source_gap : (t : Terrain) (w : Bounds) (n : Cells) → IsNetOf t w n → (p : Place) → IsInBounds w p → IsGapSource t w p → (b : ℕ) × IsBeside (w.cols + 2) (node_at w p) b × (cell_of n b ≡ None)
+pub source_gap : (t : Terrain) (w : Bounds) (n : Cells) → IsNetOf t w n → (p : Place) → IsInBounds w p → IsGapSource t w p → (b : ℕ) × IsBeside (w.cols + 2) (node_at w p) b × (cell_at n b ≡ None)
 source_gap t w n net p a source = elim source.1 [
   | inl rim ↦ rim_gap t w n net p a rim
   | inr gap ↦ elim gap [
@@ -220,7 +220,7 @@ source_gap t w n net p a source = elim source.1 [
     ]
   ]
 ] where
-  at : (q : Place) → Touches p q → height_at t q ≡ None → (b : ℕ) × IsBeside (w.cols + 2) (node_at w p) b × (cell_of n b ≡ None)
+  at : (q : Place) → Touches p q → height_at t q ≡ None → (b : ℕ) × IsBeside (w.cols + 2) (node_at w p) b × (cell_at n b ≡ None)
   at q touches none = elim (beyond w p q a touches) [
     | inl rim ↦ rim_gap t w n net p a rim
     | inr in_window ↦ (node_at w q, touch_beside w p q a in_window touches (λ e. none_done (height_at t q) none (subst (IsDataCell t) e source.0)), net.inside q in_window ∙ none)
@@ -234,7 +234,7 @@ source_there t w n net p a (inl source) =
     let beside = subst (λ s. IsBeside s (node_at w p) gap.0) (sym net.stride) gap.1 in
     let above : n.stride < node_at w p = subst (λ s. s < node_at w p) (sym net.stride) (above_row w p) in
     let at = beside_around n.stride (node_at w p) gap.0 above beside in
-    let found = list_any_at (λ b. is_none (cell_of n b)) (cells_around n.stride (node_at w p)) at.0 gap.0 at.1 (ap (λ b. is_none (cell_of n b)) at.2 ∙ ap is_none gap.2) in
+    let found = list_any_at (λ b. is_none (cell_at n b)) (cells_around n.stride (node_at w p)) at.0 gap.0 at.1 (ap (λ b. is_none (cell_at n b)) at.2 ∙ ap is_none gap.2) in
     cond-true _ _ _ (or_left _ (is_sink n.sinks (node_at w p)) found) ∙ net.inside p a
 
 pub source_back : (t : Terrain) (w : Bounds) (n : Cells) → IsNetOf t w n → (p : Place) → IsInBounds w p → (h : ℤ) → source_of n (node_at w p) ≡ Some h → IsWindowSource t w p × (height_at t p ≡ Some h)
@@ -243,7 +243,7 @@ source_back t w n net p a h e = elim (cases_Bool (has_gap_around n (node_at w p)
       let height : height_at t p ≡ Some h = sym (net.inside p a) ∙ sym (cond-true _ _ _ either) ∙ e in
       elim (or_cases (has_gap_around n (node_at w p)) (is_sink n.sinks (node_at w p)) either) [
         | inl gap ↦
-            let found = Any-from_list_any (λ b. is_none (cell_of n b)) (cells_around n.stride (node_at w p)) gap in
+            let found = Any-from_list_any (λ b. is_none (cell_at n b)) (cells_around n.stride (node_at w p)) gap in
             let above : n.stride < node_at w p = subst (λ s. s < node_at w p) (sym net.stride) (above_row w p) in
             let beside = All-contains (IsBeside n.stride (node_at w p)) (cells_around n.stride (node_at w p)) found.1 (all_beside n.stride (node_at w p) above) (found.0, found.2, found.3) in
             (inl (gap_is_source t w n net p a (ap is_some height) found.1 (subst (λ s. IsBeside s (node_at w p) found.1) net.stride beside) (none_is _ found.4)), height)
@@ -299,7 +299,7 @@ path_of t w n net (step ∷ steps) p inside walk =
     let q = net.only step.to (ap is_some join.to_cell) in
     let further = path_of t w n net steps q.0 q.1 (subst (λ a. IsWalk (IsCellJoin n) (source_of n) a steps) (sym q.2) walk.1) in
     let from : height_at t p ≡ Some join.from_height = sym (net.inside p inside) ∙ join.from_cell in
-    let to : height_at t q.0 ≡ Some join.to_height = sym (net.inside q.0 q.1) ∙ ap (cell_of n) q.2 ∙ join.to_cell in
+    let to : height_at t q.0 ≡ Some join.to_height = sym (net.inside q.0 q.1) ∙ ap (cell_at n) q.2 ∙ join.to_cell in
     let near = beside_touch w p q.0 inside q.1 (subst (λ s. IsBeside s (node_at w p) (node_at w q.0)) net.stride (subst (λ a. IsBeside n.stride (node_at w p) a) (sym q.2) join.beside)) in
     let next : IsNeighbour t p q.0 = record { different = near.1; touches = near.0; from_data = ap is_some from; to_data = ap is_some to } in
     let high : join.to_height ≤ℤ crest t q.0 further.0 = subst (λ z. z ≤ℤ crest t q.0 further.0) (height_is t q.0 join.to_height to) (height_below_crest t q.0 further.0) in (

@@ -17,8 +17,8 @@ pub record Cells : Type 0 where
   pub cells : List (Option ℤ)
   pub sinks : List Bool
 
-abbrev pub cell_of : Cells → ℕ → Option ℤ
-cell_of n a = slice_index_or n.cells a None
+abbrev pub cell_at : Cells → ℕ → Option ℤ
+cell_at n a = slice_index_or n.cells a None
 
 -- The second cell comes next in the first cell's row, or lies in the row below and touches it.
 abbrev pub IsAfter : ℕ → ℕ → ℕ → Type 0
@@ -32,8 +32,8 @@ pub record IsCellJoin (n : Cells) (a b : ℕ) (height : ℤ) : Type 0 where
   pub beside : IsBeside n.stride a b
   pub from_height : ℤ
   pub to_height : ℤ
-  pub from_cell : cell_of n a ≡ Some from_height
-  pub to_cell : cell_of n b ≡ Some to_height
+  pub from_cell : cell_at n a ≡ Some from_height
+  pub to_cell : cell_at n b ≡ Some to_height
   pub greater : int_max to_height from_height ≡ height
 
 -- The eight cells around one that is not on the border.
@@ -43,20 +43,20 @@ cells_around stride a =
 
 -- A cell around has no data.
 abbrev pub has_gap_around : Cells → ℕ → Bool
-has_gap_around n a = list_any (λ b. is_none (cell_of n b)) (cells_around n.stride a)
+has_gap_around n a = list_any (λ b. is_none (cell_at n b)) (cells_around n.stride a)
 
 abbrev pub is_sink : List Bool → ℕ → Bool
 is_sink sinks a = slice_index_or sinks a false
 
 -- A data cell that has a gap around it or is a sink is a source, at its height.
 abbrev pub source_of : Cells → ℕ → Option ℤ
-source_of n a = if has_gap_around n a || is_sink n.sinks a then cell_of n a else None
+source_of n a = if has_gap_around n a || is_sink n.sinks a then cell_at n a else None
 
 -- What holds of every such list.
 pub record IsBordered (n : Cells) : Type 0 where
   pub narrow : n.stride ≤ 4098
   pub few : length n.cells ≤ 16793604
-  pub border : (a : ℕ) → IsSome (cell_of n a) → (n.stride < a) × (a + n.stride + 1 < length n.cells)
+  pub border : (a : ℕ) → IsSome (cell_at n a) → (n.stride < a) × (a + n.stride + 1 < length n.cells)
 
 -- Each cell from a first one on and before an end has data.
 abbrev pub AreAllThere : List (Option ℤ) → ℕ → ℕ → Type 0
@@ -80,8 +80,8 @@ HasSinks w places sinks = (p : Place) → IsInBounds w p → (is_sink sinks (nod
 -- The net has the cells and the sinks of this window of the terrain.
 pub record IsNetOf (t : Terrain) (w : Bounds) (n : Cells) : Type 0 where
   pub stride : n.stride ≡ w.cols + 2
-  pub inside : (p : Place) → IsInBounds w p → cell_of n (node_at w p) ≡ height_at t p
-  pub only : (a : ℕ) → IsSome (cell_of n a) → (p : Place) × IsInBounds w p × (node_at w p ≡ a)
+  pub inside : (p : Place) → IsInBounds w p → cell_at n (node_at w p) ≡ height_at t p
+  pub only : (a : ℕ) → IsSome (cell_at n a) → (p : Place) × IsInBounds w p × (node_at w p ≡ a)
   pub size : length n.cells ≡ (w.rows + 2) * (w.cols + 2)
   pub sinks : HasSinks w t.sinks n.sinks
 

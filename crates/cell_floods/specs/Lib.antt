@@ -1,4 +1,3 @@
 pub mod Cells
-pub mod CellJoins
 pub mod TileFlood
 pub mod Labels

@@ -249,8 +249,10 @@ impl CellNet {
 
 impl Net for CellNet {
     ghost use Rattle.std.specs.Prelude.{length};
+    ghost use Rattle.std.proofs.Common.{inl, inr, ◌∙◌};
+    ghost use Rattle.terrain.proofs.Options.{some_inside};
+    ghost use Rattle.terrain.proofs.Orders.{max_comm};
     ghost use Rattle.cell_floods.specs.Cells.{IsCellJoin, source_of};
-    ghost use Rattle.cell_floods.specs.CellJoins.{join_inside, join_back};
 
     ghost node_count = { λ n. length n.cells };
 
@@ -258,9 +260,16 @@ impl Net for CellNet {
 
     ghost source_height = { source_of };
 
-    ghost joined_inside = { join_inside };
+    ghost joined_inside = { λ n a b h j. some_inside n.cells b j.to_height j.to_cell };
 
-    ghost joined_back = { join_back };
+    ghost joined_back = { λ n a b h j. record {
+      beside = elim j.beside [ inl after ↦ inr after | inr before ↦ inl before ];
+      from_height = j.to_height;
+      to_height = j.from_height;
+      from_cell = j.to_cell;
+      to_cell = j.from_cell;
+      greater = max_comm j.from_height j.to_height ∙ j.greater;
+    } };
 
     #[inline]
     fn nodes(&self) -> u32 {

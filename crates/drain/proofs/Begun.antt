@@ -13,7 +13,7 @@ use Rattle.tiles.specs.declared.bounds.Bounds.{Bounds}
 use Rattle.tiles.specs.Cutting.{Cutting, IsCutting, Cuts, View, bounds_of}
 use Rattle.tile_maps.specs.Maps.{AreMadeBelow}
 use Rattle.drainage.specs.StepCounts.{known, no_count}
-use Rattle.drainage.specs.ToldCounts.{known_number}
+use Rattle.drainage.proofs.ToldCounts.{known_number}
 use Rattle.drainage.proofs.Reach.{data_inside}
 use Rattle.drain.specs.Beginning.{DrainsAnyway, IsBegun, IsBegunSpot, AreBegun, AreBegunSpots}
 use Rattle.drain.specs.Entering.{lent_terrain}

@@ -4,6 +4,8 @@ pub mod Heights
 pub mod FilledTwice
 pub mod Reach
 pub mod FilledExists
+-- what a stored number of steps gives back
+pub mod ToldCounts
 -- codes and their ways
 pub mod Codes
 -- flow paths end

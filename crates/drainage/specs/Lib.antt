@@ -3,4 +3,3 @@ pub mod CodeNumber
 pub mod Following
 pub mod Drained
 pub mod StepCounts
-pub mod ToldCounts

@@ -16,9 +16,10 @@ pub struct StepCount {
 
 impl Model for StepCount {
     ghost use Rattle.std.specs.Prelude.{ℕ, Option, ◌≤◌, unwrap_or};
-    ghost use Rattle.std.proofs.Common.{ap};
+    ghost use Rattle.std.proofs.Common.{inl, inr, ap, ◌∙◌};
+    ghost use Rattle.std.proofs.Math.Nat.{le_antisymm};
+    ghost use Rattle.std.proofs.lemmas.Bool.{cases_lt, cond-true, cond-false, lt-ltb, le-ltb};
     ghost use Rattle.drainage.specs.StepCounts.{known, no_count};
-    ghost use Rattle.drainage.specs.ToldCounts.{known_number};
 
     ghost Value = { Option ℕ };
 
@@ -28,7 +29,11 @@ impl Model for StepCount {
 
     ghost inverse = { λ o. record { number = unwrap_or o no_count } };
 
-    ghost inverse_ok = { λ s few. ap (λ n. record { number = n }) (known_number s.number few) };
+    ghost inverse_ok = { λ s few. ap (λ n. record { number = n }) (elim (cases_lt s.number no_count) [
+      | inl less ↦ ap (λ o. unwrap_or o no_count) (cond-true _ _ _ (lt-ltb _ _ less))
+      | inr more ↦
+          ap (λ o. unwrap_or o no_count) (cond-false _ _ _ (le-ltb _ _ more)) ∙ le_antisymm more few
+    ]) };
 }
 
 impl StepCount {

@@ -22,7 +22,7 @@ use Rattle.fill.specs.declared.parts.Part.{Part}
 use Rattle.fill.specs.declared.spills.Join.{Join}
 use Rattle.fill.specs.declared.marks.Mark.{Mark}
 use Rattle.terrain.proofs.Options.{none_some}
-use Rattle.cell_floods.specs.CellJoins.{max_comm}
+use Rattle.terrain.proofs.Orders.{max_comm}
 use Rattle.floods.proofs.Heaps.{all_by_contains}
 use Rattle.cell_floods.proofs.TileWindows.{bounds_limits}
 use Rattle.cell_floods.proofs.Where.{labels_inside}

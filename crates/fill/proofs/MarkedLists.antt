@@ -4,7 +4,7 @@ use Rattle.std.proofs.lemmas.Bool.{cases_eq, cases_lt, cond-true, cond-false}
 use Rattle.std.proofs.lemmas.List.{ext_get_or, length-set, length-replicate, get_or-replicate, get_or-set_same, get_or-set_other, get_or_past}
 use Rattle.std.proofs.lemmas.List.FromFn.{length-map-range_with_len, get_or-map-range_with_len}
 use Rattle.terrain.specs.StoredCells.{no_data, stored_cell}
-use Rattle.terrain.specs.Stored.{stored_again}
+use Rattle.terrain.proofs.Stored.{stored_again}
 use Rattle.fill.specs.Marked.{number_of, entry_marked, entries_marked}
 
 pub marked_size : (marks : List Bool) (entries : List (Option ℤ)) → length (entries_marked marks entries) ≡ length marks

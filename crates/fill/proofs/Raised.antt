@@ -10,7 +10,7 @@ use Rattle.std.proofs.lemmas.Bool.{cases_lt, cases_eq, cases_Bool, cond-true, co
 use Rattle.std.proofs.lemmas.List.{get_or-map, length-map, length_push, get_or_append_left, get_or_push}
 use Rattle.terrain.specs.Raster.{Terrain, IsTerrain, IsHeight, Raster}
 use Rattle.terrain.specs.StoredCells.{cell_of, stored_cell, no_data}
-use Rattle.terrain.specs.Stored.{stored_some}
+use Rattle.terrain.proofs.Stored.{stored_some}
 use Rattle.terrain.specs.Sinks.{with_sinks}
 use Rattle.terrain.specs.Neighbours.{height_at, index_of, entry_at, IsInside}
 use Rattle.drainage.specs.Filled.{IsFilledHeight, IsFilled, IsFilledGrid, IsOwnFilled}

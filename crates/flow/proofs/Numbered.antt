@@ -8,7 +8,7 @@ use Rattle.std.proofs.lemmas.List.FromFn.{get_or-map-range_with_len}
 use Rattle.std.proofs.lemmas.Option.{slice_get_within, MatchOption-at_none, MatchOption-at_some}
 use Rattle.terrain.specs.Neighbours.{index_of}
 use Rattle.terrain.specs.StoredCells.{stored_count, uncounted}
-use Rattle.terrain.specs.Stored.{stored_count_some}
+use Rattle.terrain.proofs.Stored.{stored_count_some}
 use Rattle.terrain.specs.declared.place.Place.{Place}
 use Rattle.terrain.proofs.Places.{index_below}
 use Rattle.tiles.specs.declared.bounds.Bounds.{Bounds}

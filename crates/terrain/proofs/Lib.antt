@@ -1,6 +1,8 @@
 -- options, and whole numbers in their order
 pub mod Options
 pub mod Orders
+-- what a stored cell or count gives back
+pub mod Stored
 -- places of a grid
 pub mod Places
 -- ways from a place

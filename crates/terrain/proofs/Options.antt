@@ -1,6 +1,7 @@
--- What an option is.
-use Rattle.std.proofs.Common.{◌≡◌, ◌⊎◌, inl, inr, false, Option, None, Some, IsSome, MatchOption, is_some, sym, refl}
-use Rattle.std.proofs.lemmas.Bool.{false≢true}
+-- What an option is, and one in a list.
+use Rattle.std.proofs.Common.{◌≡◌, ◌⊎◌, inl, inr, ℕ, ◌<◌, List, length, get_or, false, Option, None, Some, IsSome, MatchOption, is_some, sym, refl}
+use Rattle.std.proofs.lemmas.Bool.{false≢true, cases_lt}
+use Rattle.std.proofs.lemmas.List.{get_or_past}
 
 pub cases_option : {X : Type 0} (o : Option X) → (o ≡ None) ⊎ ((x : X) × (o ≡ Some x))
 cases_option None = inl refl
@@ -20,3 +21,9 @@ none_done (Some x) e h = absurd (cc)
 pub match_of : {X : Type 0} (o : Option X) (P : Type 0) (Q : X → Type 0) → (o ≡ None → P) → ((x : X) → o ≡ Some x → Q x) → MatchOption o P Q
 match_of None P Q none some = none refl
 match_of (Some x) P Q none some = some x refl
+
+pub some_inside : {X : Type 0} (xs : List (Option X)) (a : ℕ) (x : X) → get_or xs a None ≡ Some x → a < length xs
+some_inside xs a x e = elim (cases_lt a (length xs)) [
+  | inl below ↦ below
+  | inr past ↦ none_some (get_or xs a None) x (get_or_past xs a None past) e
+]

@@ -9,6 +9,9 @@ le_of_same x y e = omega (arith, ints)
 pub trans : (x y z : ℤ) → x ≤ℤ y → y ≤ℤ z → x ≤ℤ z
 trans x y z a b = omega (arith, ints, a, b)
 
+pub max_comm : (x y : ℤ) → int_max x y ≡ int_max y x
+max_comm x y = omega (arith, ints, clamps)
+
 -- the greater of two is below neither, and no greater than what neither is above
 pub max_left : (x y : ℤ) → x ≤ℤ int_max x y
 max_left x y = omega (arith, ints, clamps)

@@ -6,4 +6,3 @@ pub mod Ways
 pub mod Parts
 pub mod Sinks
 pub mod StoredCells
-pub mod Stored

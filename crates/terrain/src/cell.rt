@@ -20,8 +20,10 @@ pub struct Cell {
 impl Model for Cell {
     ghost use Rattle.std.specs.Prelude.{ℤ, Option, unwrap_or};
     ghost use Rattle.terrain.specs.StoredCells.{stored_cell, no_data};
-    ghost use Rattle.std.proofs.Common.{ap};
-    ghost use Rattle.terrain.specs.Stored.{stored_again};
+    ghost use Rattle.std.specs.Ordering.{int_eq};
+    ghost use Rattle.std.proofs.Common.{inl, inr, ap, sym, ◌∙◌};
+    ghost use Rattle.std.proofs.lemmas.Bool.{cases_Bool, cond-true, cond-false};
+    ghost use Rattle.std.proofs.lemmas.Bool.Decides.{Decides-int_eq};
 
     ghost Value = { Option ℤ };
 
@@ -29,13 +31,18 @@ impl Model for Cell {
 
     ghost inverse = { λ o. record { stored = unwrap_or o no_data } };
 
-    ghost inverse_ok = { λ c _. ap (λ n. record { stored = n }) (stored_again c.stored) };
+    ghost inverse_ok = { λ c _. ap (λ n. record { stored = n }) (elim (cases_Bool (int_eq c.stored no_data)) [
+      | inl same ↦
+          ap (λ o. unwrap_or o no_data) (cond-true _ _ _ same)
+          ∙ sym ((Decides-int_eq c.stored no_data).0 same)
+      | inr other ↦ ap (λ o. unwrap_or o no_data) (cond-false _ _ _ other)
+    ]) };
 }
 
 impl Cell {
     /// A cell of this height; of [`NO_DATA`] it has no data.
     #[inline(always)]
-    #[tactic(auto, using(crate::specs::Stored::stored_some))]
+    #[tactic(auto, using(crate::proofs::Stored::stored_some))]
     pub fn of(height: Height) -> Cell
         ensures stored { result ≡ stored_cell height }
         ensures height { height ≤ℤ highest → result ≡ Some height }
@@ -73,7 +80,7 @@ impl Cell {
 
     /// Whether both cells have one height, or neither has data.
     #[inline(always)]
-    #[tactic(auto, using(crate::specs::Stored::stored_injective))]
+    #[tactic(auto, using(crate::proofs::Stored::stored_injective))]
     pub fn is_level_with(self, other: Cell) -> bool
         ensures { IsTrue result ↔ (self ≡ other) }
     {

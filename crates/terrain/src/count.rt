@@ -18,8 +18,8 @@ pub struct Count {
 impl Model for Count {
     ghost use Rattle.std.specs.Prelude.{ℕ, Option, unwrap_or};
     ghost use Rattle.terrain.specs.StoredCells.{stored_count, uncounted};
-    ghost use Rattle.std.proofs.Common.{ap};
-    ghost use Rattle.terrain.specs.Stored.{stored_count_again};
+    ghost use Rattle.std.proofs.Common.{inl, inr, ap, sym, ◌∙◌};
+    ghost use Rattle.std.proofs.lemmas.Bool.{cases_eq, cond-true, cond-false, eq-eqb, ne_eqb};
 
     ghost Value = { Option ℕ };
 
@@ -27,13 +27,18 @@ impl Model for Count {
 
     ghost inverse = { λ o. record { stored = unwrap_or o uncounted } };
 
-    ghost inverse_ok = { λ c _. ap (λ n. record { stored = n }) (stored_count_again c.stored) };
+    ghost inverse_ok = { λ c _. ap (λ n. record { stored = n }) (elim (cases_eq c.stored uncounted) [
+      | inl same ↦
+          ap (λ o. unwrap_or o uncounted) (cond-true _ _ _ (eq-eqb _ _ same)) ∙ sym same
+      | inr other ↦
+          ap (λ o. unwrap_or o uncounted) (cond-false _ _ _ (ne_eqb _ _ other))
+    ]) };
 }
 
 impl Count {
     /// This number; the greatest of all stands for no data.
     #[inline(always)]
-    #[tactic(auto, using(crate::specs::Stored::stored_count_some))]
+    #[tactic(auto, using(crate::proofs::Stored::stored_count_some))]
     pub fn of(number: u32) -> Count
         ensures stored { result ≡ stored_count number }
         ensures number { number < uncounted → result ≡ Some number }

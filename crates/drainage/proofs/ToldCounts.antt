@@ -1,0 +1,15 @@
+-- What a stored number of steps gives back.
+use Rattle.std.proofs.Common.{◌≡◌, ℕ, ◌≤◌, ◌<◌, None, Some, unwrap_or, ap}
+use Rattle.std.proofs.lemmas.Bool.{cond-true, cond-false, lt-ltb, le-ltb}
+use Rattle.drainage.specs.StepCounts.{known, no_count}
+use Rattle.drainage.proofs.step_count.StepCount.TheLaws.{the_inverse_ok}
+
+pub known-some : (n : ℕ) → n < no_count → known n ≡ Some n
+known-some n less = cond-true _ _ _ (lt-ltb _ _ less)
+
+pub known-none : (n : ℕ) → no_count ≤ n → known n ≡ None
+known-none n more = cond-false _ _ _ (le-ltb _ _ more)
+
+-- the law of `StepCount`'s view
+pub known_number : (n : ℕ) → n ≤ no_count → unwrap_or (known n) no_count ≡ n
+known_number n few = ap (λ c. c.number) (the_inverse_ok (record { number = n }) few)
