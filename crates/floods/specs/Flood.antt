@@ -27,9 +27,6 @@ all_entries lists others = flat_map (λ entries. entries) lists ++ others
 abbrev pub waiting_in : Waits → List Waiting
 waiting_in w = all_entries (entries_of w.lists.items) (heap_items w.others)
 
-abbrev pub waiting_count : Waits → ℕ
-waiting_count w = length (waiting_in w)
-
 -- The entry of a list is at that list's level, and the list is one from the first on and before the end.
 pub record IsListed (base : ℤ) (first end k : ℕ) (w : Waiting) : Type 0 where
   pub level : w.height.0 ≡ base +ℤ pos k

@@ -1,4 +1,5 @@
-use Rattle.floods.specs.Flood.{InOrder, waiting_in, waiting_count}
+use Rattle.std.proofs.Common.{length}
+use Rattle.floods.specs.Flood.{InOrder, waiting_in}
 use Rattle.floods.proofs.Heaps.{OnlyDoneLeft}
 use Rattle.floods.proofs.queue.next_open.Given as goal
 
@@ -9,4 +10,4 @@ invariant-loop-waiting l = record {
 }
 
 abbrev pub decreases-loop-waiting : goal.decreases-loop-waiting
-decreases-loop-waiting l = waiting_count l.waits
+decreases-loop-waiting l = length (waiting_in l.waits)
