@@ -9,8 +9,7 @@ use Rattle.std.proofs.lemmas.List.FromFn.{length-map-range_with_len, get_or-map-
 use Rattle.std.proofs.lemmas.Nat.{div-mul-add, mod-mul-add}
 use Rattle.terrain.proofs.Orders.{max_left, max_right, max_least, trans}
 use Rattle.terrain.specs.Raster.{Terrain}
-use Rattle.terrain.specs.Neighbours.{height_at, index_of, IsDataCell, Touches, IsNeighbour, HasGapAround, IsEnd, height_of}
-use Rattle.terrain.specs.Sinks.{is_place}
+use Rattle.terrain.specs.Neighbours.{height_at, index_of, IsDataCell, Touches, IsNeighbour, HasGapAround, IsEnd, height_of, is_place}
 use Rattle.drainage.specs.Filled.{IsPath, crest}
 use Rattle.terrain.specs.declared.place.Place.{Place}
 use Rattle.terrain.proofs.Places.{make_place, same_place, index_below, inside_from_entry}

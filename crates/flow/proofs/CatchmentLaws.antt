@@ -6,7 +6,7 @@ use Rattle.std.specs.List.{find, list_any, position_from, range_with_len}
 use Rattle.std.proofs.lemmas.Bool.{cases_Bool, cases_lt, cond-true, cond-false, eq-eqb, ne_eqb, and_left, and_right, and_from, eqb-true, false≢true, not_from_true, not_from_false, or_parts}
 use Rattle.std.proofs.lemmas.List.Folds.{list_any-append}
 use Rattle.std.proofs.lemmas.Option.{none-some, same_Some}
-use Rattle.terrain.specs.Sinks.{is_place}
+use Rattle.terrain.specs.Neighbours.{is_place}
 use Rattle.terrain.specs.Ways.{places}
 use Rattle.terrain.specs.declared.place.Place.{Place}
 use Rattle.terrain.proofs.Places.{cases_place}

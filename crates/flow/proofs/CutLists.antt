@@ -7,8 +7,7 @@ use Rattle.std.proofs.lemmas.Bool.{cases_Bool, cases_lt, or_left, or_right, or_p
 use Rattle.std.proofs.lemmas.List.{get_or_default, get_or-set_other, length-set, length-take, take_more}
 use Rattle.std.proofs.lemmas.List.Folds.{list_any_at, list_any_more}
 use Rattle.std.proofs.lemmas.Grind.{get_or-set_at}
-use Rattle.terrain.specs.Neighbours.{entry_at, index_of}
-use Rattle.terrain.specs.Sinks.{is_place}
+use Rattle.terrain.specs.Neighbours.{entry_at, index_of, is_place}
 use Rattle.terrain.specs.declared.place.Place.{Place}
 use Rattle.terrain.proofs.Listed.{place_is, is_place_from}
 use Rattle.terrain.proofs.Places.{cases_place, entry-inside, entry-below, entry-beside, inside_from_entry, index_below, index_injective}

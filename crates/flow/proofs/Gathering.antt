@@ -9,7 +9,8 @@ use Rattle.tiles.specs.Cutting.{Cutting, tile_of_place, place_in, index_in}
 use Rattle.tiles.proofs.TileOrder.{index_in-place_in}
 use Rattle.drainage.specs.Following.{Directed, code_at, follow, moves}
 use Rattle.terrain.proofs.Listed.{is_place_from, place_is}
-use Rattle.flow.specs.Counts.{is_place, drains_through, accumulation}
+use Rattle.terrain.specs.Neighbours.{is_place}
+use Rattle.flow.specs.Counts.{drains_through, accumulation}
 use Rattle.flow.specs.Streams.{sum_below}
 use Rattle.flow.specs.TileFlow.{stays, reaches_inside, through_of, inflow_of}
 use Rattle.flow.proofs.Sums.{bit_le, sum_below-except, sum_below-few}

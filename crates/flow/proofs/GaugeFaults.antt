@@ -4,8 +4,8 @@ use Rattle.std.specs.Prelude.{nat_lt, if◌then◌else◌, option_map}
 use Rattle.std.specs.List.{All, list_any}
 use Rattle.std.proofs.lemmas.Bool.{and_from, lt-ltb, ltb-false}
 use Rattle.terrain.specs.Raster.{Terrain}
-use Rattle.terrain.specs.Neighbours.{height_at}
-use Rattle.terrain.specs.Sinks.{is_place, sink_fault_of, sinks_fault, most_sinks}
+use Rattle.terrain.specs.Neighbours.{height_at, is_place}
+use Rattle.terrain.specs.Sinks.{sink_fault_of, sinks_fault, most_sinks}
 use Rattle.terrain.specs.declared.place.Place.{Place}
 use Rattle.terrain.specs.declared.sinks.SinkFault.{SinkFault}
 use Rattle.terrain.specs.declared.sinks.SinkFault.TheVariants.{Outside, OnNodata}

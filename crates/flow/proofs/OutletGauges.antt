@@ -8,8 +8,7 @@ use Rattle.std.proofs.lemmas.List.FromFn.{map-range_with_len_more}
 use Rattle.std.proofs.lemmas.List.Sums.{sum_by_more}
 use Rattle.std.proofs.lemmas.Nat.{div-mul-add, mod-mul-add}
 use Rattle.std.proofs.lemmas.Option.{same_Some}
-use Rattle.terrain.specs.Neighbours.{index_of}
-use Rattle.terrain.specs.Sinks.{is_place}
+use Rattle.terrain.specs.Neighbours.{index_of, is_place}
 use Rattle.terrain.specs.Ways.{places}
 use Rattle.terrain.specs.declared.place.Place.{Place}
 use Rattle.terrain.proofs.Listed.{place_is, is_place_from}

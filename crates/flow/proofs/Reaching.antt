@@ -2,7 +2,7 @@
 use Rattle.std.proofs.Common.{◌≡◌, ◌≢◌, ℕ, zero, suc, ◌+◌, ◌-◌, ◌*◌, ◌<◌, ◌≤◌, ◌⊎◌, Bool, true, ◌&&◌, not, eqb, inl, inr, sym, ap, subst, ◌∙◌, arith}
 use Rattle.std.specs.List.{list_any, range_with_len}
 use Rattle.std.proofs.lemmas.Bool.{cases_eq, cases_lt, cases_order, and_from, and_parts, eq-eqb, ne_eqb, eqb-true, not-true, not_from_false, false≢true}
-use Rattle.terrain.specs.Neighbours.{index_of}
+use Rattle.terrain.specs.Neighbours.{index_of, is_place}
 use Rattle.terrain.specs.declared.place.Place.{Place}
 use Rattle.terrain.proofs.Places.{index_below, index_injective}
 use Rattle.tiles.specs.Cutting.{Cutting, IsCutting, IsInBounds, tile_of_place, place_in, index_in}
@@ -10,7 +10,7 @@ use Rattle.tiles.proofs.TileOrder.{place_in-index_in, index_in_below}
 use Rattle.drainage.specs.Following.{Directed, next, follow, moves, last_of}
 use Rattle.drainage.specs.Drained.{AllFlowEnds}
 use Rattle.terrain.proofs.Listed.{place_is, is_place_from}
-use Rattle.flow.specs.Counts.{is_place, drains_through}
+use Rattle.flow.specs.Counts.{drains_through}
 use Rattle.flow.specs.TileFlow.{stays}
 use Rattle.flow.proofs.Windows.{whole_bounds, some_in_range, any_in_range, every_in_range, all_in_range}
 use Rattle.flow.proofs.Ending.{early_stop}

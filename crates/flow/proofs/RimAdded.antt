@@ -7,7 +7,7 @@ use Rattle.tiles.specs.Cutting.{Cutting, IsCutting, IsWithin, is_within, IsInTil
 use Rattle.tiles.proofs.Cut.{in_bounds, in_tile, in_bounds_parts, in_bounds_from}
 use Rattle.tiles.proofs.TileOrder.{index_in_below, place_in-index_in}
 use Rattle.terrain.proofs.Listed.{is_place_from, place_is}
-use Rattle.flow.specs.Counts.{is_place}
+use Rattle.terrain.specs.Neighbours.{is_place}
 use Rattle.flow.specs.Streams.{sum_below}
 use Rattle.tiles.specs.RimNumbers.{stride, side_number, rim_number, rim_place}
 use Rattle.flow.specs.RimGraph.{stands_for}

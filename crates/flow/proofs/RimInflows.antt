@@ -7,7 +7,8 @@ use Rattle.tiles.specs.Cutting.{Cutting, IsWithin, bounds_of, tile_of_place}
 use Rattle.tiles.proofs.Cut.{in_bounds, in_tile, tile_of_place_below}
 use Rattle.drainage.specs.Following.{Directed, code_at, next, follow, moves}
 use Rattle.terrain.proofs.Listed.{is_place_from, place_is}
-use Rattle.flow.specs.Counts.{is_place, drains_through}
+use Rattle.terrain.specs.Neighbours.{is_place}
+use Rattle.flow.specs.Counts.{drains_through}
 use Rattle.flow.specs.Streams.{AreUpstream, sum_below}
 use Rattle.flow.specs.TileFlow.{Flow, AreTileCounts, inflow_of}
 use Rattle.tiles.specs.RimNumbers.{number_count, rim_number, rim_place}

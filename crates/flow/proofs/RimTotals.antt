@@ -8,7 +8,8 @@ use Rattle.terrain.specs.declared.place.Place.{Place}
 use Rattle.tiles.specs.Cutting.{Cutting, tile_of_place}
 use Rattle.drainage.specs.Following.{Directed, code_at, next, follow, moves}
 use Rattle.terrain.proofs.Listed.{is_place_from, place_is}
-use Rattle.flow.specs.Counts.{is_place, drains_through}
+use Rattle.terrain.specs.Neighbours.{is_place}
+use Rattle.flow.specs.Counts.{drains_through}
 use Rattle.flow.specs.Streams.{onward, leads_to, upstream_sum, sum_below, total, total_within}
 use Rattle.flow.specs.TileFlow.{Flow, AreTileCounts, stays, reaches_inside, IsExitOf, through_in}
 use Rattle.tiles.specs.RimNumbers.{number_count, rim_number, rim_place}

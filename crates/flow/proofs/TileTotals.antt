@@ -8,7 +8,8 @@ use Rattle.tiles.specs.Cutting.{Cutting, IsInBounds, tile_of_place, place_in, in
 use Rattle.tiles.proofs.TileOrder.{index_in_below, index_in-place_in, place_in-index_in}
 use Rattle.drainage.specs.Following.{Directed, code_at, next, follow, moves}
 use Rattle.terrain.proofs.Listed.{is_place_from, place_is}
-use Rattle.flow.specs.Counts.{is_place, drains_through}
+use Rattle.terrain.specs.Neighbours.{is_place}
+use Rattle.flow.specs.Counts.{drains_through}
 use Rattle.flow.specs.Streams.{onward, leads_to, upstream_sum, sum_below}
 use Rattle.flow.specs.TileFlow.{stays, reaches_inside, inflow_of}
 use Rattle.flow.proofs.Sums.{cond_same, sum_below-same, sum_below-add, sum_below-none, exchange, one_term, cond-sum}

@@ -3,7 +3,8 @@ use Rattle.std.specs.Prelude.{◌≡◌, ◌↔◌, ◌⊎◌, ℕ, ◌<◌, ◌
 use Rattle.std.specs.List.{filter, find, list_any, position_from, range_with_len}
 use Rattle.std.specs.Option.{option_map_or}
 use Rattle.terrain.specs.Raster.{Terrain}
-use Rattle.terrain.specs.Sinks.{is_place, sinks_fault}
+use Rattle.terrain.specs.Neighbours.{is_place}
+use Rattle.terrain.specs.Sinks.{sinks_fault}
 use Rattle.terrain.specs.Ways.{places}
 use Rattle.terrain.specs.declared.place.Place.{Place}
 use Rattle.terrain.specs.declared.sinks.SinkFault.{SinkFault}

@@ -3,8 +3,7 @@ use Rattle.std.specs.Prelude.{◌≡◌, ℕ, ◌==◌, nat_eq, true, false, Lis
 use Rattle.std.specs.HashMap as hash
 use Rattle.std.specs.HashMap.{HashMap}
 use Rattle.std.specs.List.{list_any, position_from}
-use Rattle.terrain.specs.Neighbours.{entry_at, index_of}
-use Rattle.terrain.specs.Sinks.{is_place}
+use Rattle.terrain.specs.Neighbours.{entry_at, index_of, is_place}
 use Rattle.terrain.specs.declared.place.Place.{Place}
 use Rattle.flow.specs.Numbering.{EndNumbers}
 

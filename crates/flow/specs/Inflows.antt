@@ -4,7 +4,7 @@ use Rattle.std.specs.List.{range_with_len}
 use Rattle.terrain.specs.declared.place.Place.{Place}
 use Rattle.tiles.specs.Cutting.{Cutting, IsWithin, tile_of_place}
 use Rattle.drainage.specs.Following.{Directed}
-use Rattle.flow.specs.Counts.{is_place}
+use Rattle.terrain.specs.Neighbours.{is_place}
 use Rattle.flow.specs.Streams.{sum_below}
 use Rattle.flow.specs.TileFlow.{Flow, through_in, inflow_of}
 use Rattle.tiles.specs.RimNumbers.{number_count, rim_number, rim_place}

@@ -6,7 +6,7 @@ use Rattle.terrain.specs.declared.place.Place.{Place}
 use Rattle.tiles.specs.Cutting.{Cutting, IsCutting, IsWithin, is_within, bounds_of, tile_of_place, is_in_bounds, entry_in}
 use Rattle.drainage.specs.Following.{Directed, last_of}
 use Rattle.drainage.specs.Drained.{AllFlowEnds}
-use Rattle.flow.specs.Counts.{is_place}
+use Rattle.terrain.specs.Neighbours.{is_place}
 use Rattle.flow.specs.TileFlow.{Flow, exit_in, IsTileExits, IsTileCounts, AreTileExits, IsExitCell}
 use Rattle.flow.specs.Whole.{is_outlet_code}
 use Rattle.tiles.specs.RimNumbers.{number_count, rim_number, rim_place}

@@ -6,7 +6,7 @@ use Rattle.terrain.specs.declared.place.Place.{Place}
 use Rattle.tiles.specs.declared.bounds.Bounds.{Bounds}
 use Rattle.tiles.specs.Cutting.{Cutting, View, longest_axis, tile_of_place, tile_count, IsInTile, bounds_of, entry_in}
 use Rattle.drainage.specs.Following.{Directed, code_at, next, follow, moves, IsOutlet}
-use Rattle.flow.specs.Counts.{is_place}
+use Rattle.terrain.specs.Neighbours.{is_place}
 
 -- The map of directions of which a view shows a tile.
 abbrev pub directed_by : View (Option ℕ) → Directed

@@ -2,7 +2,7 @@
 ghost use Rattle.std.specs.Prelude.{◌≡◌, ◌↔◌, IsTrue, ◌+◌, ◌-◌, ◌*◌, ◌^◌, ◌<◌, length, Some, IfOk, OnOk, unwrap_or, option_and_then};
 ghost use Rattle.terrain.specs.Ways.{place_toward};
 ghost use Rattle.tiles.specs.Cutting.{IsInBounds, bounds_of, place_in};
-ghost use Rattle.flow.specs.Counts.{is_place};
+ghost use Rattle.terrain.specs.Neighbours.{is_place};
 ghost use Rattle.flow.specs.TileFlow.{directed_by};
 ghost use Rattle.flow.specs.TileLinks.{AreTileCodes, IsAmid, IsSmall, link_by, first_links, links_by, weights_by};
 

@@ -4,7 +4,7 @@ use Rattle.std.specs.Prelude.{◌==◌}
 use Rattle.std.specs.List.{list_any, Contains}
 use Rattle.std.proofs.lemmas.Bool.{and_parts, and_from, or_left, or_right, eq-eqb, eqb-true}
 use Rattle.std.proofs.lemmas.Map.Views.{Contains-from_any}
-use Rattle.terrain.specs.Sinks.{is_place}
+use Rattle.terrain.specs.Neighbours.{is_place}
 use Rattle.terrain.specs.declared.place.Place.{Place}
 use Rattle.terrain.proofs.Places.{same_place}
 

@@ -6,8 +6,8 @@ use Rattle.std.specs.Option.{option_or}
 use Rattle.std.proofs.lemmas.Bool.{and_parts, cases_Bool, cond-true, cond-false, ltb-true}
 use Rattle.std.proofs.lemmas.List.Elements.{All-append}
 use Rattle.terrain.specs.Raster.{Terrain, Raster, IsLawful}
-use Rattle.terrain.specs.Neighbours.{IsInside, IsDataCell, height_at}
-use Rattle.terrain.specs.Sinks.{is_place, named_once, each_once, sink_fault_of, first_sink_fault, sinks_fault, most_sinks, raster_with_sinks}
+use Rattle.terrain.specs.Neighbours.{IsInside, IsDataCell, height_at, is_place}
+use Rattle.terrain.specs.Sinks.{named_once, each_once, sink_fault_of, first_sink_fault, sinks_fault, most_sinks, raster_with_sinks}
 use Rattle.terrain.specs.declared.place.Place.{Place}
 use Rattle.terrain.specs.declared.sinks.SinkFault.{SinkFault}
 use Rattle.terrain.specs.declared.sinks.SinkFault.TheVariants.{Outside, OnNodata, TooManySinks}

@@ -1,7 +1,11 @@
 -- Which cells are next to each other, and which drain off the data.
-use Rattle.std.specs.Prelude.{◌≡◌, ◌≢◌, ℕ, ◌+◌, ◌*◌, ◌<◌, ◌≤◌, ℤ, pos, List, Option, None, IsSome, IsNone, ◌&&◌, nat_lt, if◌then◌else◌, slice_index_or, unwrap_or, ◌⊎◌, Contains}
+use Rattle.std.specs.Prelude.{◌≡◌, ◌≢◌, ℕ, ◌+◌, ◌*◌, ◌<◌, ◌≤◌, ℤ, pos, Bool, List, Option, None, IsSome, IsNone, ◌&&◌, ◌==◌, nat_lt, if◌then◌else◌, slice_index_or, unwrap_or, ◌⊎◌, Contains}
 use Rattle.terrain.specs.Raster.{Terrain}
 use Rattle.terrain.specs.declared.place.Place.{Place}
+
+-- Both are one place.
+abbrev pub is_place : Place → Place → Bool
+is_place p q = p.row == q.row && p.col == q.col
 
 -- The place is one of the grid.
 abbrev pub IsInside : Terrain → Place → Type 0

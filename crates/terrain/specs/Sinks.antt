@@ -1,18 +1,15 @@
 -- Named sinks: what is wrong with a list of them, and which of them count. Source: this project.
-use Rattle.std.specs.Prelude.{◌≡◌, ℕ, ◌+◌, Bool, ◌&&◌, ◌==◌, not, nat_lt, is_none, if◌then◌else◌, List, [], ◌∷◌, ◌++◌, length, Option, None, Some, Result, Err}
+use Rattle.std.specs.Prelude.{◌≡◌, ℕ, ◌+◌, ◌&&◌, not, nat_lt, is_none, if◌then◌else◌, List, [], ◌∷◌, ◌++◌, length, Option, None, Some, Result, Err}
 use Rattle.std.specs.List.{fold, list_any}
 use Rattle.std.specs.Option.{option_or}
 use Rattle.terrain.specs.Raster.{Terrain, Raster}
-use Rattle.terrain.specs.Neighbours.{height_at}
+use Rattle.terrain.specs.Neighbours.{height_at, is_place}
 use Rattle.terrain.specs.declared.place.Place.{Place}
 use Rattle.terrain.specs.declared.sinks.SinkFault.{SinkFault}
 use Rattle.terrain.specs.declared.sinks.SinkFault.TheVariants.{Outside, OnNodata, TooManySinks, Memory}
 
 abbrev pub most_sinks : ℕ
 most_sinks = 1024
-
-abbrev pub is_place : Place → Place → Bool
-is_place p q = p.row == q.row && p.col == q.col
 
 -- The place comes last, unless it stands in the list.
 abbrev pub named_once : List Place → Place → List Place

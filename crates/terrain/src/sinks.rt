@@ -4,7 +4,8 @@
 ghost use Rattle.std.specs.Prelude.{◌≡◌, ◌<◌, ◌≤◌, length, IfOk};
 ghost use Rattle.std.specs.List.{list_any};
 ghost use Rattle.terrain.specs.declared.sinks.SinkFault.TheVariants.{Memory};
-ghost use Rattle.terrain.specs.Sinks.{each_once, first_sink_fault, is_place, most_sinks, sink_fault_of, sinks_fault};
+ghost use Rattle.terrain.specs.Neighbours.{is_place};
+ghost use Rattle.terrain.specs.Sinks.{each_once, first_sink_fault, most_sinks, sink_fault_of, sinks_fault};
 
 use crate::grid::Grid;
 use crate::place::Place;

@@ -1,7 +1,7 @@
 use Rattle.std.proofs.Common.{◌≡◌, ◌<◌, true, false, length, get_or, None, subst, sym, ap, ◌∙◌, arith}
 use Rattle.std.proofs.lemmas.List.{get_or_default}
 use Rattle.terrain.specs.declared.place.Place.{Place}
-use Rattle.flow.specs.Counts.{is_place}
+use Rattle.terrain.specs.Neighbours.{is_place}
 use Rattle.flow.specs.Whole.{is_outlet_code}
 use Rattle.tiles.specs.RimNumbers.{rim_number, rim_place}
 use Rattle.flow.specs.RimGraph.{code_in, Outlets, outlet_in}

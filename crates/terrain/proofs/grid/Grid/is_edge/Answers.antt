@@ -1,7 +1,6 @@
 use Rattle.std.proofs.Common.{inl, inr, ◌≡◌, true, sym, ◌∙◌, ap}
 use Rattle.std.specs.List.{list_any}
-use Rattle.terrain.specs.Neighbours.{IsDataCell}
-use Rattle.terrain.specs.Sinks.{is_place}
+use Rattle.terrain.specs.Neighbours.{IsDataCell, is_place}
 use Rattle.terrain.proofs.Listed.{listed_from_any, any_from_listed}
 use Rattle.terrain.proofs.grid.Grid.is_edge.Goals as goal
 
