@@ -6,7 +6,7 @@ use Rattle.std.proofs.lemmas.List.{get_or_default}
 use Rattle.std.proofs.lemmas.Option.{none-some, same_Some, some_pair_parts}
 use Rattle.std.specs.Option.{option_zip, option_and_then}
 use Rattle.terrain.specs.Neighbours.{Touches}
-use Rattle.terrain.specs.Ways.{before, place_at, ways_from, place_on, place_toward, code_of, around_index}
+use Rattle.terrain.specs.Ways.{before, place_if_both, ways_from, place_on, place_toward, code_of, around_index}
 use Rattle.terrain.specs.declared.place.Place.{Place}
 use Rattle.terrain.proofs.Places.{make_place, same_place}
 
@@ -15,14 +15,14 @@ before_is : (n m : ℕ) → m + 1 ≡ n → before n ≡ Some m
 before_is zero m e = absurd (omega (arith, e))
 before_is (suc n) m e = ap (λ k. Some k) (omega (arith, e))
 
-place_is : (row col : Option ℕ) (q : Place) → row ≡ Some q.row → col ≡ Some q.col → place_at row col ≡ Some q
-place_is row col q e f = ap (λ r. place_at r col) e ∙ ap (λ c. place_at (Some q.row) c) f
+place_is : (row col : Option ℕ) (q : Place) → row ≡ Some q.row → col ≡ Some q.col → place_if_both row col ≡ Some q
+place_is row col q e f = ap (λ r. place_if_both r col) e ∙ ap (λ c. place_if_both (Some q.row) c) f
 
 before_parts : (n m : ℕ) → before n ≡ Some m → m + 1 ≡ n
 before_parts zero m e = absurd (none-some m e)
 before_parts (suc n) m e = let s = same_Some n m e in omega (arith, s)
 
-place_parts : (row col : Option ℕ) (q : Place) → place_at row col ≡ Some q → (row ≡ Some q.row) × (col ≡ Some q.col)
+place_parts : (row col : Option ℕ) (q : Place) → place_if_both row col ≡ Some q → (row ≡ Some q.row) × (col ≡ Some q.col)
 place_parts None col q e = absurd (none-some q e)
 place_parts (Some r) None q e = absurd (none-some q e)
 place_parts (Some r) (Some c) q e =
@@ -191,8 +191,8 @@ module _ (top left cols at : ℕ) (p : Place) (r c : ℕ) (row : p.row ≡ r + 1
       (found 0 p.row (p.col + 1) refl (omega (arith, row), omega (arith, row)) (omega (arith, col), omega (arith, col)) (inr (λ e. omega arith)) (omega (arith, at_is, amid_is, col, right)))
       (found 1 (p.row + 1) (p.col + 1) refl (omega (arith, row), omega (arith, row)) (omega (arith, col), omega (arith, col)) (inl (λ e. omega arith)) (omega (arith, at_is, amid_is, below_is, col, right)))
       (found 2 (p.row + 1) p.col refl (omega (arith, row), omega (arith, row)) (omega (arith, col), omega (arith, col)) (inl (λ e. omega arith)) (omega (arith, at_is, amid_is, below_is, col, right)))
-      (found 3 (p.row + 1) c (ap (λ (o : Option ℕ). place_at (Some (p.row + 1)) o) west) (omega (arith, row), omega (arith, row)) (omega arith, omega arith) (inl (λ e. omega arith)) (omega (arith, at_is, amid_is, below_is, col, right)))
-      (found 4 p.row c (ap (λ (o : Option ℕ). place_at (Some p.row) o) west) (omega (arith, row), omega (arith, row)) (omega arith, omega arith) (inr (λ e. omega (arith, col))) (omega (arith, at_is, amid_is, col, right)))
-      (found 5 r c (ap (λ (o : Option ℕ). place_at o (before p.col)) north ∙ ap (λ (o : Option ℕ). place_at (Some r) o) west) (omega arith, omega arith) (omega arith, omega arith) (inl (λ e. omega (arith, row))) (omega (arith, at_is, amid_is, col, right)))
-      (found 6 r p.col (ap (λ (o : Option ℕ). place_at o (Some p.col)) north) (omega arith, omega arith) (omega (arith, col), omega (arith, col)) (inl (λ e. omega (arith, row))) (omega (arith, at_is, amid_is, col, right)))
-      (found 7 r (p.col + 1) (ap (λ (o : Option ℕ). place_at o (Some (p.col + 1))) north) (omega arith, omega arith) (omega (arith, col), omega (arith, col)) (inl (λ e. omega (arith, row))) (omega (arith, at_is, amid_is, col, right)))
+      (found 3 (p.row + 1) c (ap (λ (o : Option ℕ). place_if_both (Some (p.row + 1)) o) west) (omega (arith, row), omega (arith, row)) (omega arith, omega arith) (inl (λ e. omega arith)) (omega (arith, at_is, amid_is, below_is, col, right)))
+      (found 4 p.row c (ap (λ (o : Option ℕ). place_if_both (Some p.row) o) west) (omega (arith, row), omega (arith, row)) (omega arith, omega arith) (inr (λ e. omega (arith, col))) (omega (arith, at_is, amid_is, col, right)))
+      (found 5 r c (ap (λ (o : Option ℕ). place_if_both o (before p.col)) north ∙ ap (λ (o : Option ℕ). place_if_both (Some r) o) west) (omega arith, omega arith) (omega arith, omega arith) (inl (λ e. omega (arith, row))) (omega (arith, at_is, amid_is, col, right)))
+      (found 6 r p.col (ap (λ (o : Option ℕ). place_if_both o (Some p.col)) north) (omega arith, omega arith) (omega (arith, col), omega (arith, col)) (inl (λ e. omega (arith, row))) (omega (arith, at_is, amid_is, col, right)))
+      (found 7 r (p.col + 1) (ap (λ (o : Option ℕ). place_if_both o (Some (p.col + 1))) north) (omega arith, omega arith) (omega (arith, col), omega (arith, col)) (inl (λ e. omega (arith, row))) (omega (arith, at_is, amid_is, col, right)))

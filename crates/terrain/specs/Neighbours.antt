@@ -1,15 +1,15 @@
 -- Which cells are next to each other, and which drain off the data.
-use Rattle.std.specs.Prelude.{◌≡◌, ◌≢◌, ℕ, ◌+◌, ◌*◌, ◌<◌, ◌≤◌, ℤ, pos, Bool, List, Option, None, IsSome, IsNone, ◌&&◌, ◌==◌, nat_lt, if◌then◌else◌, slice_index_or, unwrap_or, ◌⊎◌, Contains}
-use Rattle.terrain.specs.Raster.{Terrain}
+use Rattle.std.specs.Prelude.{◌≡◌, ◌≢◌, ℕ, ◌+◌, ◌*◌, ◌≤◌, ℤ, pos, Bool, List, Option, None, IsSome, IsNone, ◌&&◌, ◌==◌, if◌then◌else◌, slice_index_or, unwrap_or, ◌⊎◌, Contains}
+use Rattle.terrain.specs.Raster.{Terrain, IsInGrid, is_in_grid}
 use Rattle.terrain.specs.declared.place.Place.{Place}
 
 -- Both are one place.
 abbrev pub is_place : Place → Place → Bool
 is_place p q = p.row == q.row && p.col == q.col
 
--- The place is one of the grid.
+-- The place is one of the terrain's.
 abbrev pub IsInside : Terrain → Place → Type 0
-IsInside t p = (p.row < t.rows) × (p.col < t.cols)
+IsInside t p = IsInGrid t.cols t.rows p
 
 -- Where the cell of a place stands in row order.
 abbrev pub index_of : ℕ → Place → ℕ
@@ -18,9 +18,7 @@ index_of cols p = p.row * cols + p.col
 -- The entry at a place of a list in row order, and outside what stands for none.
 abbrev pub entry_or : {X : Type 0} → ℕ → ℕ → List X → X → Place → X
 entry_or cols rows entries none p =
-    if nat_lt p.row rows && nat_lt p.col cols
-    then slice_index_or entries (index_of cols p) none
-    else none
+    if is_in_grid cols rows p then slice_index_or entries (index_of cols p) none else none
 
 abbrev pub entry_at : {X : Type 0} → ℕ → ℕ → List (Option X) → Place → Option X
 entry_at cols rows entries p = entry_or cols rows entries None p

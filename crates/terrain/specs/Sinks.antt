@@ -1,8 +1,8 @@
 -- Named sinks: what is wrong with a list of them, and which of them count. Source: this project.
-use Rattle.std.specs.Prelude.{◌≡◌, ℕ, ◌+◌, ◌&&◌, not, nat_lt, is_none, if◌then◌else◌, List, [], ◌∷◌, ◌++◌, length, Option, None, Some, Result, Err}
+use Rattle.std.specs.Prelude.{◌≡◌, ℕ, ◌+◌, not, nat_lt, is_none, if◌then◌else◌, List, [], ◌∷◌, ◌++◌, length, Option, None, Some, Result, Err}
 use Rattle.std.specs.List.{fold, list_any}
 use Rattle.std.specs.Option.{option_or}
-use Rattle.terrain.specs.Raster.{Terrain, Raster}
+use Rattle.terrain.specs.Raster.{Terrain, Raster, is_in_grid}
 use Rattle.terrain.specs.Neighbours.{height_at, is_place}
 use Rattle.terrain.specs.declared.place.Place.{Place}
 use Rattle.terrain.specs.declared.sinks.SinkFault.{SinkFault}
@@ -22,7 +22,7 @@ each_once places = fold named_once [] places
 -- What is wrong with the sink at this place of the list.
 abbrev pub sink_fault_of : Terrain → ℕ → Place → Option SinkFault
 sink_fault_of t index p =
-    if not (nat_lt p.row t.rows && nat_lt p.col t.cols) then Some (Outside index)
+    if not (is_in_grid t.cols t.rows p) then Some (Outside index)
     else if is_none (height_at t p) then Some (OnNodata index)
     else None
 

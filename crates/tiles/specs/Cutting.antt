@@ -6,7 +6,7 @@ use Rattle.std.specs.declared.alloc.Global.{Global}
 use Rattle.std.specs.Int.{div_ceil}
 use Rattle.std.specs.List.{range_with_len, flat_map}
 use Rattle.terrain.specs.Neighbours.{index_of}
-use Rattle.terrain.specs.Raster.{Terrain}
+use Rattle.terrain.specs.Raster.{Terrain, IsInGrid, is_in_grid}
 use Rattle.terrain.specs.Ways.{places_around}
 use Rattle.terrain.specs.declared.place.Place.{Place}
 use Rattle.tiles.specs.declared.bounds.Bounds.{Bounds}
@@ -49,10 +49,10 @@ pub record IsCutting (t : Cutting) : Type 0 where
 
 -- The place is in the grid.
 abbrev pub is_within : Cutting → Place → Bool
-is_within t p = nat_lt p.row t.rows && nat_lt p.col t.cols
+is_within t p = is_in_grid t.cols t.rows p
 
 abbrev pub IsWithin : Cutting → Place → Type 0
-IsWithin t p = (p.row < t.rows) × (p.col < t.cols)
+IsWithin t p = IsInGrid t.cols t.rows p
 
 -- The tile in which a place lies.
 abbrev pub tile_of_place : Cutting → Place → ℕ
