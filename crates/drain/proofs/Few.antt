@@ -17,9 +17,9 @@ cell_on p [] (suc i) = p
 cell_on p (q ∷ rest) (suc i) = cell_on q rest i
 
 -- a walk whose ends have data begins where there is data
-pub data_on_level_walk : (IsEnd : Place → Type 0) (t : Terrain) → ((p : Place) → IsEnd p → IsDataCell t p) → (p : Place) (rest : List Place) → IsLevelWalk IsEnd t p rest → IsDataCell t p
-data_on_level_walk IsEnd t end_data p [] w = end_data p w
-data_on_level_walk IsEnd t end_data p (q ∷ rest) w = w.0.from_data
+pub data_on_level_walk : (Ends : Place → Type 0) (t : Terrain) → ((p : Place) → Ends p → IsDataCell t p) → (p : Place) (rest : List Place) → IsLevelWalk Ends t p rest → IsDataCell t p
+data_on_level_walk Ends t end_data p [] w = end_data p w
+data_on_level_walk Ends t end_data p (q ∷ rest) w = w.0.from_data
 
 pub drains_data : (t : Terrain) (p : Place) → DrainsAtOnce t p → IsDataCell t p
 drains_data t p (inl lower) = lower.1.0.from_data

@@ -13,7 +13,7 @@ use Rattle.tiles.specs.declared.bounds.Bounds.{Bounds}
 use Rattle.tiles.specs.Cutting.{Cutting, IsCutting, IsWithin, IsInTile, IsInBounds, bounds_of, tile_of_place}
 use Rattle.tiles.proofs.Cut.{in_bounds, in_tile, tile_of_place_below}
 use Rattle.drain.specs.Rounds.{IsLent, IsWalked, AreCounting}
-use Rattle.drain.specs.Lowering.{count_of, counts_in, total, IsEvenInside, IsChange, IsLowered, IsTold, IsReached, IsEvenBut, IsEntered, IsAmong, MayGoOn}
+use Rattle.drain.specs.Lowering.{count_of, counts_in, total, AreLevel, IsEvenInside, IsChange, IsLowered, IsTold, IsReached, IsEntered, IsAmong, MayGoOn}
 use Rattle.drain.specs.declared.changes.Change.{Change}
 use Rattle.drain.specs.Entering.{AreEntries, IsRun}
 use Rattle.drain.specs.declared.changes.Entry.{Entry}
@@ -37,10 +37,15 @@ total_less (suc n) f g low j below less = elim (cases_eq j n) [
   | inr ne ↦ omega (arith, low n, total_less n f g low j (omega arith) less)
 ]
 
+-- inside the tile no count would be made less by a neighbour's, but where that stands in the list from a place on
+pub record IsEvenButTold (t : Terrain) (c : Cutting) (tile : ℕ) (steps : List (Option ℕ)) (l : Lowered) (from : ℕ) : Type 0 where
+  pub within : (p q : Place) → IsInTile c tile p → IsInTile c tile q → AreLevel t p q →
+      (counts_in c tile steps l (index_of c.cols p) ≤ counts_in c tile steps l (index_of c.cols q) + 1) ⊎ IsTold c tile steps l from q
+
 -- no count is above the one that stands for none
-small_walk : (IsEnd : Place → Type 0) (t : Terrain) (p : Place) (o : Option ℕ) → IfSome o (IsWalked IsEnd t p) → unwrap_or o (2 ^ 24) ≤ 2 ^ 24
-small_walk IsEnd t p None walked = omega arith
-small_walk IsEnd t p (Some n) walked = omega (arith, walked.0)
+small_walk : (Ends : Place → Type 0) (t : Terrain) (p : Place) (o : Option ℕ) → IfSome o (IsWalked Ends t p) → unwrap_or o (2 ^ 24) ≤ 2 ^ 24
+small_walk Ends t p None walked = omega arith
+small_walk Ends t p (Some n) walked = omega (arith, walked.0)
 
 pub small : (t : Terrain) (steps : List (Option ℕ)) (k : ℕ) → AreCounting t steps → count_of steps k ≤ 2 ^ 24
 small t steps k counting = elim (cases_lt k (t.cols * t.rows)) [
@@ -172,8 +177,8 @@ module _ (t : Terrain) (c : Cutting) (tile : ℕ) (steps : List (Option ℕ)) wh
   }
 
   -- after an entry
-  pub even_enter : (Done : Place → Type 0) (bound : ℕ) (old new : Lowered) (done : ℕ) → done ≤ length old.changes.items → IsEvenBut t c tile steps old done → IsReached t c tile steps Done bound old new →
-      IsEvenBut t c tile steps new done
+  pub even_enter : (Done : Place → Type 0) (bound : ℕ) (old new : Lowered) (done : ℕ) → done ≤ length old.changes.items → IsEvenButTold t c tile steps old done → IsReached t c tile steps Done bound old new →
+      IsEvenButTold t c tile steps new done
   even_enter Done bound old new done few even g = record {
     within = λ p q i j side. elim (g.told q j.0) [
       | inr told ↦ inr (told.0, omega (arith, told.1), told.2)
@@ -185,8 +190,8 @@ module _ (t : Terrain) (c : Cutting) (tile : ℕ) (steps : List (Option ℕ)) wh
   }
 
   -- after one was spread from
-  pub even_spread : (old new : Lowered) (done : ℕ) (from : Change) → slice_get old.changes.items done ≡ Some from → IsEvenBut t c tile steps old done →
-      IsReached t c tile steps (λ p. IsInTile c tile p × Touches from.place p × (height_at t p ≡ height_at t from.place)) (from.count + 1) old new → IsEvenBut t c tile steps new (done + 1)
+  pub even_spread : (old new : Lowered) (done : ℕ) (from : Change) → slice_get old.changes.items done ≡ Some from → IsEvenButTold t c tile steps old done →
+      IsReached t c tile steps (λ p. IsInTile c tile p × Touches from.place p × (height_at t p ≡ height_at t from.place)) (from.count + 1) old new → IsEvenButTold t c tile steps new (done + 1)
   even_spread old new done from here even g = record {
     within = λ p q i j side. elim (g.told q j.0) [
       | inr told ↦ inr (told.0, omega (arith, told.1, slice_get_within old.changes.items done from here), told.2)
@@ -205,7 +210,7 @@ module _ (t : Terrain) (c : Cutting) (tile : ℕ) (steps : List (Option ℕ)) wh
   }
 
   -- none is left
-  pub even_end : (l : Lowered) (done : ℕ) → length l.changes.items ≤ done → IsEvenBut t c tile steps l done → IsEvenInside t c tile (counts_in c tile steps l)
+  pub even_end : (l : Lowered) (done : ℕ) → length l.changes.items ≤ done → IsEvenButTold t c tile steps l done → IsEvenInside t c tile (counts_in c tile steps l)
   even_end l done all even = record {
     within = λ p q i j side. elim (even.within p q i j side) [
       | inl le ↦ le
@@ -247,7 +252,7 @@ ready_still t c steps b Done bound old new x ready reached = record {
 
 -- before the first entry
 pub begun : (t : Terrain) (c : Cutting) (tile : ℕ) (steps : List (Option ℕ)) (l : Lowered) → ((k : ℕ) (row : Vec ℕ Global) → slice_get l.rows.items k ≡ Some row → row.items ≡ []) → l.changes.items ≡ [] → IsEvenInside t c tile (count_of steps) →
-    IsLowered t c tile steps (counts_in c tile steps l) l.changes.items × IsEvenBut t c tile steps l 0
+    IsLowered t c tile steps (counts_in c tile steps l) l.changes.items × IsEvenButTold t c tile steps l 0
 begun t c tile steps l none empty even =
     let same : (k : ℕ) → counts_in c tile steps l k ≡ count_of steps k = λ k. ap (λ (o : Option ℕ). unwrap_or o (count_of steps k)) (kept_none c tile l none k) in (
       record {

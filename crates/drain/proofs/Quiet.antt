@@ -27,9 +27,9 @@ match_from None p q = p refl
 match_from (Some x) p q = q x refl
 
 -- a walk of no moves ends where it begins
-pub ended : (IsEnd : Place → Type 0) (t : Terrain) (p : Place) (rest : List Place) → IsLevelWalk IsEnd t p rest → length rest ≡ 0 → IsEnd p
-ended IsEnd t p [] walk none = walk
-ended IsEnd t p (q ∷ rest) walk none = absurd (omega (arith, none))
+pub ended : (Ends : Place → Type 0) (t : Terrain) (p : Place) (rest : List Place) → IsLevelWalk Ends t p rest → length rest ≡ 0 → Ends p
+ended Ends t p [] walk none = walk
+ended Ends t p (q ∷ rest) walk none = absurd (omega (arith, none))
 
 -- neighbours are neighbours whichever sinks are named
 next_with : (t : Terrain) (sinks : List Place) (p q : Place) → IsNeighbour t p q → IsNeighbour (with_sinks t sinks) p q
@@ -96,8 +96,8 @@ lent_drains : (t : Terrain) (counts : List (Option ℕ)) → AreBegun t counts �
 lent_drains t counts begun p lent = ((begun.each p (data_inside t p lent.0)).only 0 lent.1).0
 
 -- each count to begin with is 0, of a walk of no moves
-pub begun_walked : (IsEnd : Place → Type 0) (t : Terrain) (counts : List (Option ℕ)) → AreBegun t counts → ((p : Place) → DrainsAtOnce t p → IsEnd p) → AreWalked IsEnd t counts
-begun_walked IsEnd t counts begun to p = if_some (entry_at t.cols t.rows counts p) (IsWalked IsEnd t p) (λ n e.
+pub begun_walked : (Ends : Place → Type 0) (t : Terrain) (counts : List (Option ℕ)) → AreBegun t counts → ((p : Place) → DrainsAtOnce t p → Ends p) → AreWalked Ends t counts
+begun_walked Ends t counts begun to p = if_some (entry_at t.cols t.rows counts p) (IsWalked Ends t p) (λ n e.
     let at = (begun.each p (inside_from_entry t.cols t.rows counts p n e)).only n e in
     (omega (arith, at.1), [], to p at.0, sym at.1))
 

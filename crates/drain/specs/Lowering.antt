@@ -91,11 +91,6 @@ pub record IsReached (t : Terrain) (c : Cutting) (tile : ℕ) (steps : List (Opt
   -- each that was added took something off the counts
   pub left : length new.changes.items + total (c.cols * c.rows) (counts_in c tile steps new) ≤ length old.changes.items + total (c.cols * c.rows) (counts_in c tile steps old)
 
--- Inside the tile no count would be made less by a neighbour's, but where that stands in the list from a place on.
-pub record IsEvenBut (t : Terrain) (c : Cutting) (tile : ℕ) (steps : List (Option ℕ)) (l : Lowered) (from : ℕ) : Type 0 where
-  pub within : (p q : Place) → IsInTile c tile p → IsInTile c tile q → AreLevel t p q →
-      (counts_in c tile steps l (index_of c.cols p) ≤ counts_in c tile steps l (index_of c.cols q) + 1) ⊎ IsTold c tile steps l from q
-
 -- Nothing of the tile has more than these entries bring.
 pub record IsEntered (c : Cutting) (entries : List Entry) (from end : ℕ) (counts : ℕ → ℕ) : Type 0 where
   pub each : (k : ℕ) (e : Entry) → from ≤ k → k < end → slice_get entries k ≡ Some e → counts (index_of c.cols e.change.place) ≤ e.change.count

@@ -17,20 +17,20 @@ LendSame t old new = (p : Place) → IsLent t old p ↔ IsLent t new p
 
 -- The count is below 2^24 and the length of a walk over level ground to an end.
 abbrev pub IsWalked : (Place → Type 0) → Terrain → Place → ℕ → Type 0
-IsWalked IsEnd t p n = (n < 2 ^ 24) × (rest : List Place) × IsLevelWalk IsEnd t p rest × (length rest ≡ n)
+IsWalked Ends t p n = (n < 2 ^ 24) × (rest : List Place) × IsLevelWalk Ends t p rest × (length rest ≡ n)
 
 -- Each count of a list in row order is of a walk from its cell.
 abbrev pub AreWalked : (Place → Type 0) → Terrain → List (Option ℕ) → Type 0
-AreWalked IsEnd t steps = (p : Place) → IfSome (entry_at t.cols t.rows steps p) (IsWalked IsEnd t p)
+AreWalked Ends t steps = (p : Place) → IfSome (entry_at t.cols t.rows steps p) (IsWalked Ends t p)
 
 -- A count is at most one above another, where that is known and not the greatest.
 abbrev pub IsOneAbove : Option ℕ → Option ℕ → Type 0
 IsOneAbove count other = (m : ℕ) → other ≡ Some m → m < 2 ^ 24 - 1 → (n : ℕ) × (count ≡ Some n) × (n ≤ m + 1)
 
 -- What a round leaves of a tile, in its row order.
-pub record IsRound (IsEnd : Place → Type 0) (t : Terrain) (c : Cutting) (tile : ℕ) (old new : List (Option ℕ)) : Type 0 where
+pub record IsRound (Ends : Place → Type 0) (t : Terrain) (c : Cutting) (tile : ℕ) (old new : List (Option ℕ)) : Type 0 where
   pub size : length new ≡ cell_count c tile
-  pub walked : (p : Place) → IsInTile c tile p → IfSome (tile_entry c tile new p) (IsWalked IsEnd t p)
+  pub walked : (p : Place) → IsInTile c tile p → IfSome (tile_entry c tile new p) (IsWalked Ends t p)
   -- a count is at most one above what a neighbour on the flat had
   pub near : (p q : Place) → IsInTile c tile p → IsNeighbour t p q → height_at t q ≡ height_at t p →
       IsOneAbove (tile_entry c tile new p) (entry_at t.cols t.rows old q)

@@ -1,6 +1,7 @@
 use Rattle.std.proofs.Common.{◌≡◌, ◌≤◌, ◌+◌, ◌-◌, ◌*◌, length}
 use Rattle.drain.specs.Entering.{lent_terrain}
-use Rattle.drain.specs.Lowering.{IsLowered, IsEvenBut, IsEntered, counts_in, total}
+use Rattle.drain.specs.Lowering.{IsLowered, IsEntered, counts_in, total}
+use Rattle.drain.proofs.Lowered.{IsEvenButTold}
 use Rattle.drain.proofs.lowering.lower_tile.Given as goal
 
 abbrev pub invariant-loop-next : goal.invariant-loop-next
@@ -10,7 +11,7 @@ invariant-loop-next l =
     let tile = l.run.tile in
     record {
       lowered : IsLowered t c tile l.lent.steps.now (counts_in c tile l.lent.steps.now l.lowered) l.lowered.changes.items;
-      even : IsEvenBut t c tile l.lent.steps.now l.lowered l.done;
+      even : IsEvenButTold t c tile l.lent.steps.now l.lowered l.done;
       entered : IsEntered c l.entries l.run.from l.next (counts_in c tile l.lent.steps.now l.lowered);
       rows : length l.lowered.rows.items ≡ l.bounds.rows;
       done : l.done ≤ length l.lowered.changes.items;
