@@ -1,11 +1,10 @@
 -- Laws of catchments.
-use Rattle.std.proofs.Common.{◌≡◌, ◌≢◌, ℕ, zero, suc, ◌+◌, ◌-◌, ◌*◌, ◌<◌, ◌≤◌, ◌⊎◌, inl, inr, Bool, true, false, cond, not, ◌&&◌, ◌||◌, List, [], ◌∷◌, ◌++◌, length, map, get_or, count_by, Option, None, Some, is_some, unwrap_or, sym, ap, subst, refl, ◌∙◌, arith}
+use Rattle.std.proofs.Common.{◌≡◌, ◌≢◌, ℕ, zero, suc, ◌+◌, ◌-◌, ◌<◌, ◌≤◌, inl, inr, Bool, true, false, cond, not, ◌&&◌, ◌||◌, List, [], ◌∷◌, ◌++◌, length, map, get_or, count_by, Option, None, Some, is_some, unwrap_or, sym, ap, refl, ◌∙◌, arith}
 use Rattle.std.specs.Prelude.{◌==◌}
 use Rattle.std.specs.Option.{option_or, option_map_or}
 use Rattle.std.specs.List.{find, list_any, position_from, range_with_len}
-use Rattle.std.proofs.lemmas.Bool.{cases_Bool, cases_lt, cond-true, cond-false, eq-eqb, ne_eqb, and_left, and_right, and_from, eqb-true, false≢true, not_from_true, not_from_false, or_parts}
+use Rattle.std.proofs.lemmas.Bool.{cases_Bool, cases_lt, cond-true, cond-false, eq-eqb, ne_eqb, and_left, and_right, false≢true, not_from_true, not_from_false}
 use Rattle.std.proofs.lemmas.List.Folds.{list_any-append}
-use Rattle.std.proofs.lemmas.Option.{none-some, same_Some}
 use Rattle.terrain.specs.Neighbours.{is_place}
 use Rattle.terrain.specs.Ways.{places}
 use Rattle.terrain.specs.declared.place.Place.{Place}
@@ -14,9 +13,9 @@ use Rattle.terrain.proofs.Listed.{place_is, is_place_from}
 use Rattle.drainage.specs.Following.{Directed, code_at, follow, moves}
 use Rattle.flow.specs.Counts.{accumulation, drains_through}
 use Rattle.flow.specs.Catchments.{gauge_number, catchment}
-use Rattle.flow.proofs.CutPaths.{IsFirst, IsAbsent, cases_first, found_next, position_push}
+use Rattle.flow.proofs.CutPaths.{cases_first, found_next, position_push}
 use Rattle.flow.proofs.Coded.{IsCoded, cases_coded, coded_along, follow_more}
-use Rattle.flow.proofs.Gathering.{one_more, counted_on, counted_off, counted_none, drains_itself, other_test}
+use Rattle.flow.proofs.Gathering.{one_more, counted_on, drains_itself, other_test}
 use Rattle.flow.proofs.Reaching.{IsEnding, reached_early, drains_at, drains_from}
 use Rattle.flow.proofs.Sending.{and_on}
 use Rattle.flow.proofs.Windows.{any_in_range, sum_of_cells}

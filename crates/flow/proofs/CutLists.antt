@@ -1,9 +1,9 @@
 -- Codes that are cut at one gauge after the other, and the numbers of gauges one after the other.
-use Rattle.std.proofs.Common.{◌≡◌, ◌≢◌, ℕ, ◌+◌, ◌*◌, ◌<◌, ◌≤◌, inl, inr, Bool, true, false, cond, ◌||◌, List, ◌++◌, [], ◌∷◌, length, get_or, set, take, Option, None, Some, is_some, sym, ap, subst, refl, ◌∙◌, arith}
+use Rattle.std.proofs.Common.{◌≡◌, ◌≢◌, ℕ, ◌+◌, ◌*◌, ◌<◌, inl, inr, true, cond, ◌||◌, List, length, get_or, set, take, Option, None, Some, is_some, sym, ap, refl, ◌∙◌, arith}
 use Rattle.std.specs.Prelude.{◌==◌}
 use Rattle.std.specs.Option.{option_or}
 use Rattle.std.specs.List.{list_any}
-use Rattle.std.proofs.lemmas.Bool.{cases_Bool, cases_lt, or_left, or_right, or_parts, false≢true}
+use Rattle.std.proofs.lemmas.Bool.{cases_Bool, cases_lt, or_parts, false≢true}
 use Rattle.std.proofs.lemmas.List.{get_or_default, get_or-set_other, length-set, length-take, take_more}
 use Rattle.std.proofs.lemmas.List.Folds.{list_any_at, list_any_more}
 use Rattle.std.proofs.lemmas.Grind.{get_or-set_at}

@@ -1,20 +1,20 @@
 -- Gauges as outlets: where flow paths end that gauges cut, and the numbers of gauges.
-use Rattle.std.proofs.Common.{◌≡◌, ℕ, zero, suc, ◌+◌, ◌*◌, ◌<◌, ◌≤◌, ◌⊎◌, inl, inr, Bool, true, false, cond, List, [], ◌∷◌, ◌++◌, length, map, get_or, take, Option, None, Some, IsSome, IfSome, unwrap_or, sym, ap, subst, refl, ◌∙◌, arith, add-one}
+use Rattle.std.proofs.Common.{◌≡◌, ℕ, zero, suc, ◌+◌, ◌<◌, ◌≤◌, ◌⊎◌, inl, inr, Bool, true, false, cond, List, [], ◌∷◌, ◌++◌, length, map, get_or, Option, None, Some, IsSome, unwrap_or, sym, ap, subst, refl, ◌∙◌, arith, add-one}
 use Rattle.std.specs.Prelude.{◌==◌}
 use Rattle.std.specs.Option.{option_and_then, option_or, option_map_or}
 use Rattle.std.specs.List.{find, list_any, position_from, range_with_len, All}
 use Rattle.std.proofs.lemmas.Bool.{cases_Bool, cases_lt, cond-true, cond-false, eq-eqb, ne_eqb, or_parts, false≢true}
 use Rattle.std.proofs.lemmas.List.Folds.{find-append, list_any_at}
 use Rattle.std.proofs.lemmas.Option.{none-some, MatchOption-at_none, MatchOption-at_some}
-use Rattle.terrain.specs.Neighbours.{entry_at, index_of, is_place}
+use Rattle.terrain.specs.Neighbours.{index_of, is_place}
 use Rattle.terrain.specs.Ways.{place_toward}
 use Rattle.terrain.specs.declared.place.Place.{Place}
 use Rattle.terrain.proofs.Places.{index_injective}
 use Rattle.terrain.proofs.Listed.{place_is, is_place_from}
-use Rattle.drainage.specs.Following.{Directed, code_at, next, follow, moves, last_of, IsOutlet}
+use Rattle.drainage.specs.Following.{Directed, code_at, next, follow, moves, last_of}
 use Rattle.drainage.specs.Drained.{AllFlowEnds}
-use Rattle.flow.specs.Counts.{IsMapOf, IsValueAt}
-use Rattle.flow.specs.Catchments.{gauge_number, flow_path, catchment}
+use Rattle.flow.specs.Counts.{IsMapOf}
+use Rattle.flow.specs.Catchments.{gauge_number, catchment}
 use Rattle.flow.specs.CutCodes.{HaveCodes, AreCutCodes, number_of_index}
 use Rattle.flow.specs.Numbering.{EndNumbers, end_number}
 use Rattle.flow.specs.Whole.{make_directed}

@@ -1,10 +1,10 @@
 -- What is wrong with a gauge, by the codes of its grid.
-use Rattle.std.proofs.Common.{◌≡◌, ℕ, ◌<◌, ◌≤◌, Bool, true, false, not, ◌&&◌, List, length, get_or, Option, None, Some, is_some, is_none, sym, ap, refl, ◌∙◌, subst, arith}
+use Rattle.std.proofs.Common.{◌≡◌, ℕ, ◌<◌, ◌≤◌, Bool, true, false, not, List, length, get_or, Option, None, Some, is_some, is_none, sym, ap, refl, ◌∙◌, subst}
 use Rattle.std.specs.Prelude.{nat_lt, if◌then◌else◌, option_map}
-use Rattle.std.specs.List.{All, list_any}
+use Rattle.std.specs.List.{All}
 use Rattle.std.proofs.lemmas.Bool.{and_from, lt-ltb, ltb-false}
 use Rattle.terrain.specs.Raster.{Terrain}
-use Rattle.terrain.specs.Neighbours.{height_at, is_place}
+use Rattle.terrain.specs.Neighbours.{height_at}
 use Rattle.terrain.specs.Sinks.{sink_fault_of, sinks_fault, most_sinks}
 use Rattle.terrain.specs.declared.place.Place.{Place}
 use Rattle.terrain.specs.declared.sinks.SinkFault.{SinkFault}
@@ -16,7 +16,6 @@ use Rattle.drainage.specs.Following.{code_at}
 use Rattle.drainage.specs.Drained.{Drained, IsDraining, directed_of}
 use Rattle.flow.specs.Catchments.{fault_of_gauge, gauges_fault}
 use Rattle.flow.specs.CutCodes.{HaveCodes}
-use Rattle.flow.specs.declared.gauges.GaugeFault.{GaugeFault}
 
 -- a place in the grid is at fault where it has no data
 pub fault_inside : (t : Terrain) (i : ℕ) (p : Place) → p.row < t.rows → p.col < t.cols → sink_fault_of t i p ≡ (if is_none (height_at t p) then Some (OnNodata i) else None)

@@ -1,13 +1,11 @@
 -- With all outlets as gauges, in row order, catchments are basins.
-use Rattle.std.proofs.Common.{◌≡◌, ◌≢◌, ℕ, zero, suc, ◌+◌, ◌-◌, ◌*◌, ◌/◌, ◌%◌, ◌<◌, ◌≤◌, inl, inr, Bool, true, false, cond, ◌||◌, List, [], ◌∷◌, ◌++◌, length, map, take, get_or, count_by, Option, None, Some, is_some, unwrap_or, sym, ap, subst, refl, ◌∙◌, arith, add-one, zero-mul}
+use Rattle.std.proofs.Common.{◌≡◌, ℕ, zero, suc, ◌+◌, ◌-◌, ◌*◌, ◌<◌, ◌≤◌, inl, inr, Bool, true, false, cond, ◌||◌, List, [], ◌∷◌, ◌++◌, length, map, take, get_or, count_by, Option, None, Some, unwrap_or, sym, ap, refl, ◌∙◌, arith, add-one, zero-mul}
 use Rattle.std.specs.Option.{option_map_or}
 use Rattle.std.specs.List.{filter, flat_map, list_any, position_from, range_with_len}
-use Rattle.std.proofs.Math.Nat.{mul-le-mul}
-use Rattle.std.proofs.lemmas.Bool.{cases_Bool, cases_lt, cases_eq, cond-true, cond-false, eqb-true, false≢true, false_from_ne_true}
+use Rattle.std.proofs.lemmas.Bool.{cases_Bool, cases_eq, cond-true, cond-false, eqb-true, false≢true, false_from_ne_true}
 use Rattle.std.proofs.lemmas.List.FromFn.{map-range_with_len_more}
 use Rattle.std.proofs.lemmas.List.Sums.{sum_by_more}
 use Rattle.std.proofs.lemmas.Nat.{div-mul-add, mod-mul-add}
-use Rattle.std.proofs.lemmas.Option.{same_Some}
 use Rattle.terrain.specs.Neighbours.{index_of, is_place}
 use Rattle.terrain.specs.Ways.{places}
 use Rattle.terrain.specs.declared.place.Place.{Place}
@@ -21,9 +19,9 @@ use Rattle.flow.specs.Catchments.{catchment, gauge_number, outlets}
 use Rattle.flow.specs.Streams.{sum_below}
 use Rattle.flow.specs.Whole.{is_outlet_code}
 use Rattle.flow.proofs.CutPaths.{cases_first, position_none}
-use Rattle.flow.proofs.Coded.{IsCoded, coded_along, coded_inside, outlet_stays, follow_stays}
+use Rattle.flow.proofs.Coded.{IsCoded, outlet_stays, follow_stays}
 use Rattle.flow.proofs.Gathering.{cell}
-use Rattle.flow.proofs.Reaching.{IsEnding, cell_back, cell_below, in_grid, reached_early}
+use Rattle.flow.proofs.Reaching.{IsEnding, cell_back, cell_below, reached_early}
 use Rattle.flow.proofs.Sums.{sum_more}
 use Rattle.flow.proofs.Windows.{whole_bounds}
 

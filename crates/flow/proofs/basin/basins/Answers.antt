@@ -1,4 +1,4 @@
-use Rattle.std.proofs.Common.{◌≡◌, ◌∙◌, arith, ap, sym, subst, ◌*◌, ◌≤◌, ℕ, List, Option, Vec, Global, length}
+use Rattle.std.proofs.Common.{◌∙◌, arith, ap, subst, ◌*◌, ◌≤◌, ℕ, List, Option, Vec, Global, length}
 use Rattle.std.proofs.Math.Nat.{mul-le-mul}
 use Rattle.std.proofs.lemmas.Result.{IfOk-weaker}
 use Rattle.drainage.specs.Drained.{directed_of}

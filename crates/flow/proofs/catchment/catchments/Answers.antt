@@ -1,12 +1,10 @@
-use Rattle.std.proofs.Common.{◌≡◌, ◌∙◌, ◌≤◌, ◌*◌, ℕ, List, Option, None, length, unwrap_or, sym, ap, subst, refl, arith}
+use Rattle.std.proofs.Common.{◌∙◌, ℕ, List, Option, unwrap_or, sym, ap, subst, refl, arith}
 use Rattle.std.specs.Prelude.{◌==◌}
-use Rattle.std.proofs.Math.Nat.{mul-le-mul}
 use Rattle.terrain.specs.Neighbours.{index_of}
 use Rattle.terrain.specs.declared.place.Place.{Place}
-use Rattle.drainage.specs.Drained.{directed_of}
 use Rattle.drainage.specs.Following.{Directed}
-use Rattle.flow.specs.Catchments.{AreCatchments, gauges_fault}
-use Rattle.flow.specs.CutCodes.{HaveCodes, gauge_numbers}
+use Rattle.flow.specs.Catchments.{AreCatchments}
+use Rattle.flow.specs.CutCodes.{gauge_numbers}
 use Rattle.flow.specs.Whole.{IsGridFlow, make_directed}
 use Rattle.flow.specs.Numbering.{end_number}
 use Rattle.flow.specs.Counts.{IsMapOf}

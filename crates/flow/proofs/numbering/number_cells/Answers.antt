@@ -1,4 +1,4 @@
-use Rattle.std.proofs.Common.{ℕ, Option, Vec, Global, List}
+use Rattle.std.proofs.Common.{ℕ, Option, Vec, Global}
 use Rattle.std.proofs.lemmas.Result.{IfOk-weaker}
 use Rattle.tile_maps.specs.Maps.{IsMadeMap}
 use Rattle.tile_maps.proofs.Whole.{entry_of_map}
