@@ -1,5 +1,5 @@
 -- Cells of a window lose their marks, ray by ray.
-use Rattle.std.proofs.Common.{arith, refl, sym, ap, subst, ◌∙◌, ◌≡◌, ◌≢◌, ℕ, ◌+◌, ◌-◌, ◌*◌, ◌<◌, ◌≤◌, Bool, true, false, not, ◌&&◌, ℤ, pos, ◌+ℤ◌, unsigned_abs, to_z, of_z, w32, List, length, get_or, set, Option, Some, inl, inr}
+use Rattle.std.proofs.Common.{arith, refl, sym, ap, subst, ◌∙◌, ◌≡◌, ◌≢◌, ◌⊎◌, ℕ, ◌+◌, ◌-◌, ◌*◌, ◌<◌, ◌≤◌, Bool, true, false, not, ◌&&◌, ℤ, pos, ◌+ℤ◌, unsigned_abs, to_z, of_z, w32, List, length, get_or, set, Option, Some, inl, inr}
 use Rattle.std.specs.Prelude.{slice_get, if◌then◌else◌}
 use Rattle.std.proofs.lemmas.Bool.{cases_lt, cases_eq, cases_Bool, and_left, and_right}
 use Rattle.std.proofs.lemmas.Int.{ints, to_z_pos}
@@ -12,7 +12,7 @@ use Rattle.horizons.specs.Horizons.{IsTarget, IsUpTo}
 use Rattle.sight.specs.Sweep.{lead_of, is_blocked_before, HidesBefore, IsFamily, StandsAt}
 use Rattle.sight.specs.Ranks.{IsRanked}
 use Rattle.sight.specs.Looking.{LooksFrom}
-use Rattle.sight.specs.Hiding.{mark_at, mark_index, mark_left, rise_at, target_at, AreHidden, AreHiddenBelow, AreRays, Crosses, IsApart, IsInRun, IsRay, IsWindow}
+use Rattle.sight.specs.Hiding.{mark_at, mark_index, mark_left, rise_at, target_at, AreHidden, AreRays, Crosses, IsApart, IsInRun, IsRay, IsWindow}
 use Rattle.sight.specs.declared.family.Family.{Family}
 use Rattle.sight.specs.declared.window.Window.{Window}
 use Rattle.sight.specs.declared.sweep.Sweep.{Sweep}
@@ -114,6 +114,15 @@ left_open cells f w height old n y is = and_true (mark_at w (lead_of f n) y old)
 -- the cell of a target of the family
 same_target : (f : Family) (t : Target) (m z y : ℕ) → StandsAt f y t → t ≡ target_at f m z → (m ≡ t.line) × (z ≡ y)
 same_target f t m z y stands e = (ap (λ q. q.line) (sym e), omega (arith, ints, stands.aside, ap (λ q. q.aside) e))
+
+-- so far the cells of the first rays were asked
+pub record AreHiddenBelow (cells : List (Option ℤ)) (f : Family) (w : Window) (height : ℕ) (rays : List Target) (end : ℕ) (old new : List Bool) : Type 0 where
+  pub size : length new ≡ length old
+  pub asked : (u n y : ℕ) → u < end → slice_get rays u ≡ Some (target_at f n y) → Crosses f w n → IsInRun w.side y
+      → mark_at w (lead_of f n) y new ≡ mark_left cells f w height old n y
+  pub crossed : (n y : ℕ) → Crosses f w n → IsInRun w.side y
+      → (mark_at w (lead_of f n) y new ≡ mark_at w (lead_of f n) y old) ⊎ (mark_at w (lead_of f n) y new ≡ mark_left cells f w height old n y)
+  pub kept : (x y : ℕ) → IsInRun w.lines x → IsInRun w.side y → ((n : ℕ) → Crosses f w n → lead_of f n ≡ x → ⊥) → mark_at w x y new ≡ mark_at w x y old
 
 pub none_asked : (cells : List (Option ℤ)) (f : Family) (w : Window) (height : ℕ) (rays : List Target) (marks : List Bool) → AreHiddenBelow cells f w height rays 0 marks marks
 none_asked cells f w height rays marks = record {

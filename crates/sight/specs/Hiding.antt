@@ -73,12 +73,3 @@ pub record AreHidden (cells : List (Option ℤ)) (f : Family) (w : Window) (heig
   pub size : length new ≡ length old
   pub crossed : (n y : ℕ) → Crosses f w n → IsInRun w.side y → mark_at w (lead_of f n) y new ≡ mark_left cells f w height old n y
   pub kept : (x y : ℕ) → IsInRun w.lines x → IsInRun w.side y → ((n : ℕ) → Crosses f w n → lead_of f n ≡ x → ⊥) → mark_at w x y new ≡ mark_at w x y old
-
--- So far the cells of the first rays were asked.
-pub record AreHiddenBelow (cells : List (Option ℤ)) (f : Family) (w : Window) (height : ℕ) (rays : List Target) (end : ℕ) (old new : List Bool) : Type 0 where
-  pub size : length new ≡ length old
-  pub asked : (u n y : ℕ) → u < end → slice_get rays u ≡ Some (target_at f n y) → Crosses f w n → IsInRun w.side y
-      → mark_at w (lead_of f n) y new ≡ mark_left cells f w height old n y
-  pub crossed : (n y : ℕ) → Crosses f w n → IsInRun w.side y
-      → (mark_at w (lead_of f n) y new ≡ mark_at w (lead_of f n) y old) ⊎ (mark_at w (lead_of f n) y new ≡ mark_left cells f w height old n y)
-  pub kept : (x y : ℕ) → IsInRun w.lines x → IsInRun w.side y → ((n : ℕ) → Crosses f w n → lead_of f n ≡ x → ⊥) → mark_at w x y new ≡ mark_at w x y old

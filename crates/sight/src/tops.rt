@@ -31,7 +31,7 @@ fn top_of(cells: &[Cell]) -> Option<Height>
 
 /// The cell of a greatest height, if there is one.
 #[inline(always)]
-fn cell_of(top: Option<Height>) -> Cell
+fn top_cell(top: Option<Height>) -> Cell
     requires { (h : ℤ) → top ≡ Some h → IsHeight h }
     ensures { result ≡ top }
 {
@@ -79,7 +79,7 @@ impl<'a> Blocks<'a> {
             let run = &self.cells[line + from as usize..line + to as usize];
             top = raised(top, top_of(run));
         }
-        cell_of(top)
+        top_cell(top)
     }
 
     /// The greatest heights of the blocks from one number up to another, in row order.

@@ -5,8 +5,8 @@ use Rattle.std.proofs.lemmas.Option.{slice_get-get_or, slice_get_within}
 use Rattle.horizons.specs.declared.target.Target.{Target}
 use Rattle.sight.specs.Sweep.{is_blocked_before}
 use Rattle.sight.specs.Looking.{LooksFrom}
-use Rattle.sight.specs.Hiding.{rise_at, AreHiddenBelow, AreRays}
-use Rattle.sight.proofs.Asked.{ray_at, rank_at, ray_is_target, window_kept, looked_on, none_asked, blocked_asked, open_asked, all_asked}
+use Rattle.sight.specs.Hiding.{rise_at, AreRays}
+use Rattle.sight.proofs.Asked.{AreHiddenBelow, ray_at, rank_at, ray_is_target, window_kept, looked_on, none_asked, blocked_asked, open_asked, all_asked}
 use Rattle.sight.proofs.hiding.hide.Goals as goal
 use Rattle.sight.proofs.hiding.hide.Goals.{then-hides, else-hides}
 

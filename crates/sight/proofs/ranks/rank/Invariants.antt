@@ -1,5 +1,5 @@
 use Rattle.std.proofs.Common.{◌≡◌, length}
-use Rattle.sight.specs.Ranks.{AreRanksBelow, AreTaken}
+use Rattle.sight.proofs.Ranking.{AreRanksBelow, AreTaken}
 use Rattle.sight.proofs.ranks.rank.Given as goal
 
 abbrev pub invariant-loop-rank : goal.invariant-loop-rank

@@ -33,7 +33,7 @@ pub returns : goal.returns
 returns c =
     let self = c.args.self.now in
     let t = ground_of self.cols self.rows self.cells.now in
-    rw c.cell_of.ensures (record {
+    rw c.top_cell.ensures (record {
       height = c.loop-row.invariant.height;
       above = λ p h row col is.
           let inside = inside_from_entry t.cols t.rows t.cells p h is in
