@@ -56,7 +56,7 @@ impl HeightList {
 
     /// An entry.
     #[inline(always)]
-    pub(crate) fn at(&self, index: usize) -> Option<Height>
+    pub fn at(&self, index: usize) -> Option<Height>
         requires { index < length self.now }
         ensures { result ≡ slice_index_or self.now index None }
     {
