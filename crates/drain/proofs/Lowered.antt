@@ -13,7 +13,7 @@ use Rattle.tiles.specs.declared.bounds.Bounds.{Bounds}
 use Rattle.tiles.specs.Cutting.{Cutting, IsCutting, IsWithin, IsInTile, IsInBounds, bounds_of, tile_of_place}
 use Rattle.tiles.proofs.Cut.{in_bounds, in_tile, tile_of_place_below}
 use Rattle.drain.specs.Rounds.{IsLent, IsWalked, AreCounting}
-use Rattle.drain.specs.Lowering.{count_of, counts_in, total, AreLevel, IsEvenInside, IsChange, IsLowered, IsTold, IsReached, IsEntered, IsAmong, MayGoOn}
+use Rattle.drain.specs.Lowering.{count_of, counts_in, total, AreLevel, IsEvenInside, IsChange, IsLowered, IsTold, IsLoweredTo, IsEntered, IsAmong, MayGoOn}
 use Rattle.drain.specs.declared.changes.Change.{Change}
 use Rattle.drain.specs.Entering.{AreEntries, IsRun}
 use Rattle.drain.specs.declared.changes.Entry.{Entry}
@@ -72,7 +72,7 @@ module _ (t : Terrain) (c : Cutting) (tile : ℕ) (steps : List (Option ℕ)) wh
   )
 
   -- nothing is changed
-  pub reached_same : (Done : Place → Type 0) (bound : ℕ) (l : Lowered) → ((p : Place) → Done p → counts_in c tile steps l (index_of c.cols p) ≤ bound) → IsReached t c tile steps Done bound l l
+  pub reached_same : (Done : Place → Type 0) (bound : ℕ) (l : Lowered) → ((p : Place) → Done p → counts_in c tile steps l (index_of c.cols p) ≤ bound) → IsLoweredTo t c tile steps Done bound l l
   reached_same Done bound l near = record {
     low = λ k. omega arith;
     near = near;
@@ -84,15 +84,15 @@ module _ (t : Terrain) (c : Cutting) (tile : ℕ) (steps : List (Option ℕ)) wh
     left = omega arith;
   }
 
-  pub reached_none : (Done : Place → Type 0) (bound : ℕ) (l : Lowered) → ((p : Place) → Done p → ⊥) → IsReached t c tile steps Done bound l l
+  pub reached_none : (Done : Place → Type 0) (bound : ℕ) (l : Lowered) → ((p : Place) → Done p → ⊥) → IsLoweredTo t c tile steps Done bound l l
   reached_none Done bound l none = reached_same Done bound l (λ p done. absurd (none p done))
 
-  pub reached_all : (First Done : Place → Type 0) (bound : ℕ) (old new : Lowered) → ((p : Place) → Done p → First p) → IsReached t c tile steps First bound old new → IsReached t c tile steps Done bound old new
+  pub reached_all : (First Done : Place → Type 0) (bound : ℕ) (old new : Lowered) → ((p : Place) → Done p → First p) → IsLoweredTo t c tile steps First bound old new → IsLoweredTo t c tile steps Done bound old new
   reached_all First Done bound old new each f = record { low = f.low; near = λ p done. f.near p (each p done); rows = f.rows; longer = f.longer; kept = f.kept; told = f.told; added = f.added; left = f.left }
 
   -- some places after others
   pub reached_then : (First Next Done : Place → Type 0) (bound : ℕ) (old mid new : Lowered) → ((p : Place) → Done p → First p ⊎ Next p) →
-      IsReached t c tile steps First bound old mid → IsReached t c tile steps Next bound mid new → IsReached t c tile steps Done bound old new
+      IsLoweredTo t c tile steps First bound old mid → IsLoweredTo t c tile steps Next bound mid new → IsLoweredTo t c tile steps Done bound old new
   reached_then First Next Done bound old mid new each f g = record {
     low = λ k. omega (arith, f.low k, g.low k);
     near = λ p done. elim (each p done) [
@@ -120,7 +120,7 @@ module _ (t : Terrain) (c : Cutting) (tile : ℕ) (steps : List (Option ℕ)) wh
   pub reached_put : (old new : Lowered) (x : Change) → IsInTile c tile x.place → IsWalked (IsLent t steps) t x.place x.count → x.count < counts_in c tile steps old (index_of c.cols x.place) →
       ((k : ℕ) → counts_in c tile steps old k ≤ count_of steps k) →
       counts_in c tile steps new (index_of c.cols x.place) ≡ x.count → ((k : ℕ) → k ≢ index_of c.cols x.place → counts_in c tile steps new k ≡ counts_in c tile steps old k) →
-      length new.rows.items ≡ length old.rows.items → new.changes.items ≡ old.changes.items ++ x ∷ [] → IsReached t c tile steps (λ p. p ≡ x.place) x.count old new
+      length new.rows.items ≡ length old.rows.items → new.changes.items ≡ old.changes.items ++ x ∷ [] → IsLoweredTo t c tile steps (λ p. p ≡ x.place) x.count old new
   reached_put old new x inside walked less_old low_old here other rows pushed =
       let i = index_of c.cols x.place in
       let low : (k : ℕ) → counts_in c tile steps new k ≤ counts_in c tile steps old k = λ k. elim (cases_eq k i) [
@@ -159,7 +159,7 @@ module _ (t : Terrain) (c : Cutting) (tile : ℕ) (steps : List (Option ℕ)) wh
       }
 
   -- what a search has come to, after it came further
-  pub lowered_then : (Done : Place → Type 0) (bound : ℕ) (old new : Lowered) → IsLowered t c tile steps (counts_in c tile steps old) old.changes.items → IsReached t c tile steps Done bound old new →
+  pub lowered_then : (Done : Place → Type 0) (bound : ℕ) (old new : Lowered) → IsLowered t c tile steps (counts_in c tile steps old) old.changes.items → IsLoweredTo t c tile steps Done bound old new →
       IsLowered t c tile steps (counts_in c tile steps new) new.changes.items
   lowered_then Done bound old new f g = record {
     low = λ k. omega (arith, f.low k, g.low k);
@@ -177,7 +177,7 @@ module _ (t : Terrain) (c : Cutting) (tile : ℕ) (steps : List (Option ℕ)) wh
   }
 
   -- after an entry
-  pub even_enter : (Done : Place → Type 0) (bound : ℕ) (old new : Lowered) (done : ℕ) → done ≤ length old.changes.items → IsEvenButTold t c tile steps old done → IsReached t c tile steps Done bound old new →
+  pub even_enter : (Done : Place → Type 0) (bound : ℕ) (old new : Lowered) (done : ℕ) → done ≤ length old.changes.items → IsEvenButTold t c tile steps old done → IsLoweredTo t c tile steps Done bound old new →
       IsEvenButTold t c tile steps new done
   even_enter Done bound old new done few even g = record {
     within = λ p q i j side. elim (g.told q j.0) [
@@ -191,7 +191,7 @@ module _ (t : Terrain) (c : Cutting) (tile : ℕ) (steps : List (Option ℕ)) wh
 
   -- after one was spread from
   pub even_spread : (old new : Lowered) (done : ℕ) (from : Change) → slice_get old.changes.items done ≡ Some from → IsEvenButTold t c tile steps old done →
-      IsReached t c tile steps (λ p. IsInTile c tile p × Touches from.place p × (height_at t p ≡ height_at t from.place)) (from.count + 1) old new → IsEvenButTold t c tile steps new (done + 1)
+      IsLoweredTo t c tile steps (λ p. IsInTile c tile p × Touches from.place p × (height_at t p ≡ height_at t from.place)) (from.count + 1) old new → IsEvenButTold t c tile steps new (done + 1)
   even_spread old new done from here even g = record {
     within = λ p q i j side. elim (g.told q j.0) [
       | inr told ↦ inr (told.0, omega (arith, told.1, slice_get_within old.changes.items done from here), told.2)
@@ -241,7 +241,7 @@ ready_at t c tile steps b l x counting bounds rows lowered among =
     }
 
 -- and still may when it has gone on
-pub ready_still : (t : Terrain) (c : Cutting) (steps : List (Option ℕ)) (b : Bounds) (Done : Place → Type 0) (bound : ℕ) (old new : Lowered) (x : Change) → MayGoOn t c steps b old x → IsReached t c (tile_of_place c x.place) steps Done bound old new → MayGoOn t c steps b new x
+pub ready_still : (t : Terrain) (c : Cutting) (steps : List (Option ℕ)) (b : Bounds) (Done : Place → Type 0) (bound : ℕ) (old new : Lowered) (x : Change) → MayGoOn t c steps b old x → IsLoweredTo t c (tile_of_place c x.place) steps Done bound old new → MayGoOn t c steps b new x
 ready_still t c steps b Done bound old new x ready reached = record {
   counting = ready.counting;
   change = change_low t c (tile_of_place c x.place) steps _ _ x reached.low ready.change;
@@ -273,8 +273,8 @@ own_bounds c p q b lawful e inside = subst (λ (x : Bounds). IsInBounds x q) (sy
 
 -- by another name of the tile
 pub reached_tile : (t : Terrain) (c : Cutting) (tile other : ℕ) (steps : List (Option ℕ)) (Done : Place → Type 0) (bound : ℕ) (old new : Lowered) → tile ≡ other →
-    IsReached t c tile steps Done bound old new → IsReached t c other steps Done bound old new
-reached_tile t c tile other steps Done bound old new e f = subst (λ (k : ℕ). IsReached t c k steps Done bound old new) e f
+    IsLoweredTo t c tile steps Done bound old new → IsLoweredTo t c other steps Done bound old new
+reached_tile t c tile other steps Done bound old new e f = subst (λ (k : ℕ). IsLoweredTo t c k steps Done bound old new) e f
 
 -- an entry of a run is into its tile
 pub entry_own : (t : Terrain) (c : Cutting) (steps : List (Option ℕ)) (entries : List Entry) (run : Run) (k : ℕ) (e : Entry) → AreEntries t c steps entries → IsRun entries run → run.from ≤ k → k < run.end → slice_get entries k ≡ Some e →

@@ -17,7 +17,7 @@ use Rattle.drain.proofs.Lowered.{small}
 use Rattle.terrain.specs.declared.place.Place.{Place}
 use Rattle.tiles.specs.Cutting.{Cutting, IsWithin, tile_of_place}
 use Rattle.drain.specs.Lowering.{AreLevel, IsAmong, count_of}
-use Rattle.drain.specs.Entering.{lent_terrain, IsEntry, AreEntries, IsEvenOrEntered, AreNoted}
+use Rattle.drain.specs.Entering.{lent_terrain, IsEntry, AreEntries, IsEvenOrEntered, AreEntered}
 use Rattle.drain.specs.declared.changes.Change.{Change}
 use Rattle.drain.specs.declared.changes.Entry.{Entry}
 
@@ -28,15 +28,15 @@ module _ (t : Terrain) (c : Cutting) (steps : List (Option ℕ)) where
   entered_still old new p q kept (inr told) = inr (told.0, kept told.0 told.1, told.2, told.3)
 
   -- nothing is noted
-  pub noted_same : (Done : Place → Place → Type 0) (entries : List Entry) → ((p q : Place) → Done p q → AreLevel t p q → IsEvenOrEntered c steps entries p q) → AreNoted t c steps Done entries entries
+  pub noted_same : (Done : Place → Place → Type 0) (entries : List Entry) → ((p q : Place) → Done p q → AreLevel t p q → IsEvenOrEntered c steps entries p q) → AreEntered t c steps Done entries entries
   noted_same Done entries done = record { kept = λ e among. among; each = λ all. all; done = done }
 
-  pub noted_none : (Done : Place → Place → Type 0) (entries : List Entry) → ((p q : Place) → Done p q → ⊥) → AreNoted t c steps Done entries entries
+  pub noted_none : (Done : Place → Place → Type 0) (entries : List Entry) → ((p q : Place) → Done p q → ⊥) → AreEntered t c steps Done entries entries
   noted_none Done entries none = noted_same Done entries (λ p q done side. absurd (none p q done))
 
   -- some after others
   pub noted_then : (First Next Done : Place → Place → Type 0) (old mid new : List Entry) → ((p q : Place) → Done p q → AreLevel t p q → First p q ⊎ Next p q) →
-      AreNoted t c steps First old mid → AreNoted t c steps Next mid new → AreNoted t c steps Done old new
+      AreEntered t c steps First old mid → AreEntered t c steps Next mid new → AreEntered t c steps Done old new
   noted_then First Next Done old mid new each f g = record {
     kept = λ e among. g.kept e (f.kept e among);
     each = λ all. g.each (f.each all);
@@ -46,12 +46,12 @@ module _ (t : Terrain) (c : Cutting) (steps : List (Option ℕ)) where
     ];
   }
 
-  pub noted_all : (First Done : Place → Place → Type 0) (old new : List Entry) → ((p q : Place) → Done p q → AreLevel t p q → First p q) → AreNoted t c steps First old new → AreNoted t c steps Done old new
+  pub noted_all : (First Done : Place → Place → Type 0) (old new : List Entry) → ((p q : Place) → Done p q → AreLevel t p q → First p q) → AreEntered t c steps First old new → AreEntered t c steps Done old new
   noted_all First Done old new each f = record { kept = f.kept; each = f.each; done = λ p q done side. f.done p q (each p q done side) side }
 
   -- one is noted
   pub noted_push : (Done : Place → Place → Type 0) (old new : List Entry) (e : Entry) → new ≡ old ++ e ∷ [] → IsEntry t c steps e →
-      ((p q : Place) → Done p q → AreLevel t p q → (e.change.place ≡ p) × (e.change.count ≤ count_of steps (index_of c.cols q) + 1)) → AreNoted t c steps Done old new
+      ((p q : Place) → Done p q → AreLevel t p q → (e.change.place ≡ p) × (e.change.count ≤ count_of steps (index_of c.cols q) + 1)) → AreEntered t c steps Done old new
   noted_push Done old new e pushed entry told =
       let last : slice_get new (length old) ≡ Some e = ap (λ (xs : List Entry). slice_get xs (length old)) pushed ∙ slice_get-append_right old (e ∷ []) (length old) 0 (omega arith) in
       let size : length new ≡ length old + 1 = ap (λ (xs : List Entry). length xs) pushed ∙ length_push old e in
@@ -76,7 +76,7 @@ contains_from xs x among = (among.0, slice_get_within xs among.0 x among.1, get_
 pub among_in_order : {X : Type 0} (xs ys : List X) (x : X) → IsPermutation xs ys → IsAmong xs x → IsAmong ys x
 among_in_order xs ys x same among = among_from ys x (Contains-permutation xs ys x same (contains_from xs x among))
 
-pub noted_in_order : (t : Terrain) (c : Cutting) (steps : List (Option ℕ)) (Done : Place → Place → Type 0) (new ys : List Entry) → IsPermutation new ys → AreNoted t c steps Done [] new →
+pub noted_in_order : (t : Terrain) (c : Cutting) (steps : List (Option ℕ)) (Done : Place → Place → Type 0) (new ys : List Entry) → IsPermutation new ys → AreEntered t c steps Done [] new →
     AreEntries t c steps ys × ((p q : Place) → Done p q → AreLevel t p q → IsEvenOrEntered c steps ys p q)
 noted_in_order t c steps Done new ys same noted = (
   λ e among. noted.each (λ d none. absurd (omega (arith, slice_get_within [] none.0 d none.1))) e (among_in_order ys new e (IsPermutation-sym new ys same) among),

@@ -13,7 +13,7 @@ use Rattle.tiles.proofs.PutBack.{entry_at-put_back}
 use Rattle.drainage.proofs.Reach.{data_inside}
 use Rattle.drain.specs.Rounds.{IsLent, LendSame, IsWalked, IsOneAbove, IsRound, AreCounting, AreSettled}
 use Rattle.drain.specs.Lowering.{AreLevel, IsAmong, IsEvenInside, IsTileAnswer, count_of, total}
-use Rattle.drain.specs.Entering.{lent_terrain, AreNoted}
+use Rattle.drain.specs.Entering.{lent_terrain, AreEntered}
 use Rattle.drain.specs.Rounding.{Rounding, IsRounding, levels_of, AreAnswered, IsRunAnswer, IsGiven, ArePut, IsNext}
 use Rattle.drain.specs.declared.changes.Change.{Change}
 use Rattle.drain.specs.declared.changes.Entry.{Entry}
@@ -199,7 +199,7 @@ module _ (r : Rounding) (outs : List (Vec Change Global)) (new : List (Option �
       (index_below r.cutting.cols r.cutting.rows x.place change.inside.0.0 change.inside.0.1) (omega (arith, put.done x given, change.less))
 
   pub next_round : (noted entries : List Entry) (x : Change) → IsGiven outs x → IsPermutation noted entries → IsNonDecreasingBy (λ e. e.tile) entries →
-      AreNoted (levels_of r) r.cutting new (λ p q. (x : Change) × IsGiven outs x × (x.place ≡ q) × (tile_of_place r.cutting p ≢ tile_of_place r.cutting q)) [] noted →
+      AreEntered (levels_of r) r.cutting new (λ p q. (x : Change) × IsGiven outs x × (x.place ≡ q) × (tile_of_place r.cutting p ≢ tile_of_place r.cutting q)) [] noted →
       IsNext r (record { cutting = r.cutting; levels = r.levels; steps = new; entries = entries })
   next_round noted entries x given same sorted notes =
       let all = noted_in_order (levels_of r) r.cutting new _ noted entries same notes in
@@ -306,7 +306,7 @@ next_then first second third one next = record {
 -- what comes out of all tiles after the first round
 pub first_rounding : (r : Rounding) (noted : List Entry) → IsCutting r.cutting → length r.levels ≡ r.cutting.cols * r.cutting.rows → AreCounting (levels_of r) r.steps →
     ((tile : ℕ) → IsEvenInside (levels_of r) r.cutting tile (count_of r.steps)) → IsPermutation noted r.entries → IsNonDecreasingBy (λ e. e.tile) r.entries →
-    AreNoted (levels_of r) r.cutting r.steps (λ p q. IsWithin r.cutting q × (tile_of_place r.cutting p ≢ tile_of_place r.cutting q)) [] noted → IsRounding r
+    AreEntered (levels_of r) r.cutting r.steps (λ p q. IsWithin r.cutting q × (tile_of_place r.cutting p ≢ tile_of_place r.cutting q)) [] noted → IsRounding r
 first_rounding r noted lawful size counting even same sorted notes =
     let all = noted_in_order (levels_of r) r.cutting r.steps _ noted r.entries same notes in
     record {

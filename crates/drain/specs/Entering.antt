@@ -33,7 +33,7 @@ IsEvenOrEntered c steps entries p q = (count_of steps (index_of c.cols p) ≤ co
     ⊎ ((e : Entry) × IsAmong entries e × (e.change.place ≡ p) × (e.change.count ≤ count_of steps (index_of c.cols q) + 1))
 
 -- A list of entries has grown, and tells of all neighbours in a relation.
-pub record AreNoted (t : Terrain) (c : Cutting) (steps : List (Option ℕ)) (Done : Place → Place → Type 0) (old new : List Entry) : Type 0 where
+pub record AreEntered (t : Terrain) (c : Cutting) (steps : List (Option ℕ)) (Done : Place → Place → Type 0) (old new : List Entry) : Type 0 where
   pub kept : (e : Entry) → IsAmong old e → IsAmong new e
   pub each : AreEntries t c steps old → AreEntries t c steps new
   pub done : (p q : Place) → Done p q → AreLevel t p q → IsEvenOrEntered c steps new p q

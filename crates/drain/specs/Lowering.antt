@@ -79,7 +79,7 @@ abbrev pub IsTold : Cutting → ℕ → List (Option ℕ) → Lowered → ℕ �
 IsTold c tile steps l from p = (k : ℕ) × (from ≤ k) × (slice_get l.changes.items k ≡ Some (record { place = p; count = counts_in c tile steps l (index_of c.cols p) }))
 
 -- How far a search has come: some places have at most a bound, and the changes since are told.
-pub record IsReached (t : Terrain) (c : Cutting) (tile : ℕ) (steps : List (Option ℕ)) (Done : Place → Type 0) (bound : ℕ) (old new : Lowered) : Type 0 where
+pub record IsLoweredTo (t : Terrain) (c : Cutting) (tile : ℕ) (steps : List (Option ℕ)) (Done : Place → Type 0) (bound : ℕ) (old new : Lowered) : Type 0 where
   pub low : (k : ℕ) → counts_in c tile steps new k ≤ counts_in c tile steps old k
   pub near : (p : Place) → Done p → counts_in c tile steps new (index_of c.cols p) ≤ bound
   pub rows : length new.rows.items ≡ length old.rows.items

@@ -6,7 +6,7 @@ ghost use Rattle.terrain.specs.Neighbours.{height_at, index_of, Touches};
 ghost use Rattle.tiles.specs.Cutting.{IsCutting, AreBounds, IsWithin, IsInTile, tile_count, tile_of_place};
 ghost use Rattle.drain.specs.Rounds.{AreCounting};
 ghost use Rattle.drain.specs.Lowering.{IsAmong, count_of};
-ghost use Rattle.drain.specs.Entering.{lent_terrain, AreNoted, IsAmid};
+ghost use Rattle.drain.specs.Entering.{lent_terrain, AreEntered, IsAmid};
 
 use crate::changes::{Change, Entry};
 use drainage::StepCount;
@@ -63,7 +63,7 @@ impl<'a> Lent<'a> {
         requires from { IsWithin self.now.tiling.now from.place }
         requires count { from.count ≡ count_of self.now.steps.now (index_of self.now.tiling.now.cols from.place) }
         requires to { IsWithin self.now.tiling.now to × Touches to from.place }
-        ensures { OnOk result (AreNoted (lent_terrain self.now.tiling.now self.now.levels.now) self.now.tiling.now self.now.steps.now
+        ensures { OnOk result (AreEntered (lent_terrain self.now.tiling.now self.now.levels.now) self.now.tiling.now self.now.steps.now
             (λ p q. (p ≡ to) × (q ≡ from.place)) entries.old.items entries.new.items) }
     {
         let count = from.count + 1;
@@ -87,7 +87,7 @@ impl<'a> Lent<'a> {
         requires from { IsWithin self.now.tiling.now from.place }
         requires count { from.count ≡ count_of self.now.steps.now (index_of self.now.tiling.now.cols from.place) }
         requires row { (row < self.now.tiling.now.rows) × (row ≤ from.place.row + 1) × (from.place.row ≤ row + 1) }
-        ensures { OnOk result (AreNoted (lent_terrain self.now.tiling.now self.now.levels.now) self.now.tiling.now self.now.steps.now
+        ensures { OnOk result (AreEntered (lent_terrain self.now.tiling.now self.now.levels.now) self.now.tiling.now self.now.steps.now
             (λ p q. (p.row ≡ row) × (q ≡ from.place)) entries.old.items entries.new.items) }
     {
         let first = from.place.col.max(1) - 1;
@@ -106,7 +106,7 @@ impl<'a> Lent<'a> {
     ) -> Result<(), AllocError>
         requires counting { AreCounting (lent_terrain self.now.tiling.now self.now.levels.now) self.now.steps.now }
         requires place { IsWithin self.now.tiling.now place }
-        ensures { OnOk result (AreNoted (lent_terrain self.now.tiling.now self.now.levels.now) self.now.tiling.now self.now.steps.now
+        ensures { OnOk result (AreEntered (lent_terrain self.now.tiling.now self.now.levels.now) self.now.tiling.now self.now.steps.now
             (λ p q. q ≡ place) entries.old.items entries.new.items) }
     {
         let from = Change {
@@ -125,7 +125,7 @@ impl<'a> Lent<'a> {
     pub(crate) fn note_rim(&self, tile: u32, entries: &mut Vec<Entry>) -> Result<(), AllocError>
         requires counting { AreCounting (lent_terrain self.now.tiling.now self.now.levels.now) self.now.steps.now }
         requires tile { tile < tile_count self.now.tiling.now }
-        ensures { OnOk result (AreNoted (lent_terrain self.now.tiling.now self.now.levels.now) self.now.tiling.now self.now.steps.now
+        ensures { OnOk result (AreEntered (lent_terrain self.now.tiling.now self.now.levels.now) self.now.tiling.now self.now.steps.now
             (λ p q. IsInTile self.now.tiling.now tile q × (tile_of_place self.now.tiling.now p ≢ tile)) entries.old.items entries.new.items) }
     {
         for place in self.tiling.rim(tile) {
@@ -155,7 +155,7 @@ impl<'a> Lent<'a> {
     ) -> Result<(), AllocError>
         requires counting { AreCounting (lent_terrain self.now.tiling.now self.now.levels.now) self.now.steps.now }
         requires changes { (x : Change) → IsAmong changes.now x → IsWithin self.now.tiling.now x.place }
-        ensures { OnOk result (AreNoted (lent_terrain self.now.tiling.now self.now.levels.now) self.now.tiling.now self.now.steps.now
+        ensures { OnOk result (AreEntered (lent_terrain self.now.tiling.now self.now.levels.now) self.now.tiling.now self.now.steps.now
             (λ p q. (x : Change) × IsAmong changes.now x × (x.place ≡ q) × (tile_of_place self.now.tiling.now p ≢ tile_of_place self.now.tiling.now q))
             entries.old.items entries.new.items) }
     {

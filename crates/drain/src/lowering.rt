@@ -10,7 +10,7 @@ ghost use Rattle.tiles.specs.Cutting.{IsWithin, IsInTile, bounds_of, tile_count,
 ghost use Rattle.drain.specs.declared.changes.Entry.{Entry};
 ghost use Rattle.drain.specs.Rounds.{IsLent, IsWalked, AreCounting};
 ghost use Rattle.drain.specs.Entering.{lent_terrain, AreEntries, IsRun};
-ghost use Rattle.drain.specs.Lowering.{IsEvenInside, IsReached, IsTileAnswer, MayGoOn, count_of, counts_in};
+ghost use Rattle.drain.specs.Lowering.{IsEvenInside, IsLoweredTo, IsTileAnswer, MayGoOn, count_of, counts_in};
 
 use crate::changes::{Change, Entry, Run};
 use crate::entering::Lent;
@@ -90,7 +90,7 @@ fn lower(
     requires walked { let c = lent.now.tiling.now in let t = lent_terrain c lent.now.levels.now in
         change.count < counts_in c (tile_of_place c change.place) lent.now.steps.now lowered.old (index_of c.cols change.place) → IsWalked (IsLent t lent.now.steps.now) t change.place change.count }
     requires low { let c = lent.now.tiling.now in (k : ℕ) → counts_in c (tile_of_place c change.place) lent.now.steps.now lowered.old k ≤ count_of lent.now.steps.now k }
-    ensures { let c = lent.now.tiling.now in OnOk result (IsReached (lent_terrain c lent.now.levels.now) c (tile_of_place c change.place) lent.now.steps.now
+    ensures { let c = lent.now.tiling.now in OnOk result (IsLoweredTo (lent_terrain c lent.now.levels.now) c (tile_of_place c change.place) lent.now.steps.now
         (λ p. p ≡ change.place) change.count lowered.old lowered.new) }
 {
     let Place { row, col } = change.place;
@@ -124,7 +124,7 @@ fn reach(
 ) -> Result<(), AllocError>
     requires ready { let c = lent.now.tiling.now in MayGoOn (lent_terrain c lent.now.levels.now) c lent.now.steps.now bounds lowered.old from }
     requires to { IsInTile lent.now.tiling.now (tile_of_place lent.now.tiling.now from.place) to × Touches from.place to }
-    ensures { let c = lent.now.tiling.now in let t = lent_terrain c lent.now.levels.now in OnOk result (IsReached t c (tile_of_place c from.place) lent.now.steps.now
+    ensures { let c = lent.now.tiling.now in let t = lent_terrain c lent.now.levels.now in OnOk result (IsLoweredTo t c (tile_of_place c from.place) lent.now.steps.now
         (λ p. (p ≡ to) × (height_at t p ≡ height_at t from.place)) (from.count + 1) lowered.old lowered.new) }
 {
     if lent.is_level(from.place, to) {
@@ -145,7 +145,7 @@ fn reach_along(
 ) -> Result<(), AllocError>
     requires ready { let c = lent.now.tiling.now in MayGoOn (lent_terrain c lent.now.levels.now) c lent.now.steps.now bounds lowered.old from }
     requires row { (bounds.top ≤ row) × (row < bounds.top + bounds.rows) × (row ≤ from.place.row + 1) × (from.place.row ≤ row + 1) }
-    ensures { let c = lent.now.tiling.now in let t = lent_terrain c lent.now.levels.now in OnOk result (IsReached t c (tile_of_place c from.place) lent.now.steps.now
+    ensures { let c = lent.now.tiling.now in let t = lent_terrain c lent.now.levels.now in OnOk result (IsLoweredTo t c (tile_of_place c from.place) lent.now.steps.now
         (λ p. IsInTile c (tile_of_place c from.place) p × Touches from.place p × (height_at t p ≡ height_at t from.place) × (p.row ≡ row)) (from.count + 1) lowered.old lowered.new) }
 {
     let first = from.place.col.max(bounds.left + 1) - 1;
@@ -164,7 +164,7 @@ fn spread(
     from: Change,
 ) -> Result<(), AllocError>
     requires { let c = lent.now.tiling.now in MayGoOn (lent_terrain c lent.now.levels.now) c lent.now.steps.now bounds lowered.old from }
-    ensures { let c = lent.now.tiling.now in let t = lent_terrain c lent.now.levels.now in OnOk result (IsReached t c (tile_of_place c from.place) lent.now.steps.now
+    ensures { let c = lent.now.tiling.now in let t = lent_terrain c lent.now.levels.now in OnOk result (IsLoweredTo t c (tile_of_place c from.place) lent.now.steps.now
         (λ p. IsInTile c (tile_of_place c from.place) p × Touches from.place p × (height_at t p ≡ height_at t from.place)) (from.count + 1) lowered.old lowered.new) }
 {
     let first = from.place.row.max(bounds.top + 1) - 1;

@@ -8,7 +8,7 @@ ghost use Rattle.std.specs.declared.alloc.Global.{Global};
 ghost use Rattle.drain.specs.declared.changes.Change.{Change};
 ghost use Rattle.drain.specs.Rounds.{AreCounting, AreSettled};
 ghost use Rattle.drain.specs.Lowering.{IsAmong, IsEvenInside, count_of};
-ghost use Rattle.drain.specs.Entering.{lent_terrain, AreNoted};
+ghost use Rattle.drain.specs.Entering.{lent_terrain, AreEntered};
 ghost use Rattle.drain.specs.Rounding.{AreAnswered, ArePut, IsGiven, IsRounding, IsNext, IsAnswer, left_in};
 
 use crate::changes::{Change, Entry, Run};
@@ -114,7 +114,7 @@ fn put_all(tiling: &Tiling, steps: &mut [StepCount], outs: &[Vec<Change>])
 /// What comes out of all tiles.
 fn entries_of_all(alloc: Global, lent: &Lent<'_>) -> Result<Vec<Entry>, AllocError>
     requires { AreCounting (lent_terrain lent.now.tiling.now lent.now.levels.now) lent.now.steps.now }
-    ensures { IfOk result (λ v. AreNoted (lent_terrain lent.now.tiling.now lent.now.levels.now) lent.now.tiling.now lent.now.steps.now
+    ensures { IfOk result (λ v. AreEntered (lent_terrain lent.now.tiling.now lent.now.levels.now) lent.now.tiling.now lent.now.steps.now
         (λ p q. IsWithin lent.now.tiling.now q × (tile_of_place lent.now.tiling.now p ≢ tile_of_place lent.now.tiling.now q)) [] v.items) }
 {
     let mut entries = Vec::new(alloc);
@@ -132,7 +132,7 @@ fn entries_of_changed(
 ) -> Result<Vec<Entry>, AllocError>
     requires counting { AreCounting (lent_terrain lent.now.tiling.now lent.now.levels.now) lent.now.steps.now }
     requires changes { (x : Change) → IsGiven outs.now x → IsWithin lent.now.tiling.now x.place }
-    ensures { IfOk result (λ v. AreNoted (lent_terrain lent.now.tiling.now lent.now.levels.now) lent.now.tiling.now lent.now.steps.now
+    ensures { IfOk result (λ v. AreEntered (lent_terrain lent.now.tiling.now lent.now.levels.now) lent.now.tiling.now lent.now.steps.now
         (λ p q. (x : Change) × IsGiven outs.now x × (x.place ≡ q) × (tile_of_place lent.now.tiling.now p ≢ tile_of_place lent.now.tiling.now q)) [] v.items) }
 {
     let mut entries = Vec::new(alloc);

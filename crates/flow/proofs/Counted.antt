@@ -16,7 +16,7 @@ use Rattle.flow.specs.Streams.{AreStreams, AreUpstream, total}
 use Rattle.flow.specs.TileFlow.{Flow, IsTileExits, AreTileCounts}
 use Rattle.flow.specs.TileLinks.{AreTileCodes, links_by, weights_by, where_data}
 use Rattle.flow.specs.Whole.{IsGridFlow, make_directed}
-use Rattle.flow.specs.Inflows.{Inflows, AreInflows, inflow_in}
+use Rattle.flow.specs.Inflows.{Inflows, AreInflows, listed_inflow}
 use Rattle.flow.specs.RimGraph.{AreFlowsOf}
 use Rattle.flow.specs.Counting.{IsCounting, IsCountable, AreCountable, AreRimWeights, AreCounts, counts_by}
 use Rattle.flow.proofs.Coded.{IsCoded}
@@ -69,7 +69,7 @@ module _ (t : Cutting) (codes : List (Option ℕ)) (flows : List Flow) (inflows 
     within_tile : (p : Place) → IsInBounds (bounds_of t tile) p → (p.row < t.rows) × (p.col < t.cols)
     within_tile p h = (omega (arith, h, around.rows_inside), omega (arith, h, around.cols_inside))
 
-    pub inflow_few : (p : Place) → IsInBounds (bounds_of t tile) p → inflow_in inflows p ≤ 16777216
+    pub inflow_few : (p : Place) → IsInBounds (bounds_of t tile) p → listed_inflow inflows p ≤ 16777216
     inflow_few p h = omega (
       arith,
       s.are_inflows.each p (within_tile p h),

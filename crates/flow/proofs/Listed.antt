@@ -10,8 +10,8 @@ use Rattle.terrain.specs.declared.place.Place.{Place}
 use Rattle.tiles.specs.declared.bounds.Bounds.{Bounds}
 use Rattle.tiles.proofs.TileOrder.{index_in-place_in, place_in-index_in}
 use Rattle.flow.specs.TileFlow.{Flow, directed_by}
-use Rattle.flow.specs.TileLinks.{where_data, through_by, exits_by}
-use Rattle.flow.specs.RimGraph.{Outlets, outlet_in}
+use Rattle.flow.specs.TileLinks.{where_data, through_list, exits_by}
+use Rattle.flow.specs.RimGraph.{Outlets, listed_outlet}
 use Rattle.flow.specs.Numbering.{EndNumbers, IsExitOfTile, number_at, label_by}
 use Rattle.std.proofs.Math.Nat.{suc-mul}
 use Rattle.std.proofs.lemmas.Nat.{div-mul-add, mod-mul-add}
@@ -27,9 +27,9 @@ made_at cells value n i code x inside h read same =
     ap (λ o. where_data o x) (read ∙ get_or_default cells i code None inside) ∙ ap (where_data (get_or cells i None)) same
     ∙ sym (get_or-map-range_with_len (λ i. where_data (get_or cells i None) (value i)) 0 n i i None h (omega arith))
 
-pub through_past : (cells : List (Option ℕ)) (came : List ℕ) (i : ℕ) → length came ≤ i → get_or (through_by cells came) i None ≡ None
+pub through_past : (cells : List (Option ℕ)) (came : List ℕ) (i : ℕ) → length came ≤ i → get_or (through_list cells came) i None ≡ None
 through_past cells came i past =
-    get_or_past (through_by cells came) i None (omega (arith, past, length-map-range_with_len (λ i. where_data (get_or cells i None) (get_or came i 0)) 0 (length came)))
+    get_or_past (through_list cells came) i None (omega (arith, past, length-map-range_with_len (λ i. where_data (get_or cells i None) (get_or came i 0)) 0 (length came)))
 
 pub exits_size : (b : Bounds) (cells : List (Option ℕ)) (ends : List ℕ) → length (exits_by b cells ends) ≡ length cells
 exits_size b cells ends = length-map-range_with_len (λ i. where_data (get_or cells i None) (place_in b (get_or ends i 0))) 0 (length cells)
@@ -55,12 +55,12 @@ module _ (o : Outlets) (flows : List Flow) (n : EndNumbers) (b : Bounds) where
       subst (λ (p : Place). IsExitOfTile o flows n b p) (sym (place_in-index_in b e is.inside) ∙ ap (place_in b) (sym (same_Some exit (index_in b e) some)) ∙ sym at) is
 
   pub label_own : (i exit : ℕ) (x : Option Place) → Some exit ≡ option_map (index_in b) x → exit ≡ i → IfSome x (IsExitOfTile o flows n b) →
-      number_at o.cutting.cols n (outlet_in o flows (place_in b exit)) ≡ label_by o flows n b i x
+      number_at o.cutting.cols n (listed_outlet o flows (place_in b exit)) ≡ label_by o flows n b i x
   label_own i exit None some own is = absurd (none-some exit (sym some))
   label_own i exit (Some e) some own is =
       let at : exit ≡ index_in b e = same_Some exit (index_in b e) some in
-      ap (λ (p : Place). number_at o.cutting.cols n (outlet_in o flows p)) (ap (place_in b) at ∙ place_in-index_in b e is.inside)
-      ∙ sym (cond-true {A = ℕ} _ (number_at o.cutting.cols n (outlet_in o flows e)) 0 (eq-eqb (index_in b e) i (sym at ∙ own)))
+      ap (λ (p : Place). number_at o.cutting.cols n (listed_outlet o flows p)) (ap (place_in b) at ∙ place_in-index_in b e is.inside)
+      ∙ sym (cond-true {A = ℕ} _ (number_at o.cutting.cols n (listed_outlet o flows e)) 0 (eq-eqb (index_in b e) i (sym at ∙ own)))
 
   pub label_none : (i : ℕ) (x : Option Place) → None ≡ option_map (index_in b) x → 0 ≡ label_by o flows n b i x
   label_none i None none = refl
@@ -69,7 +69,7 @@ module _ (o : Outlets) (flows : List Flow) (n : EndNumbers) (b : Bounds) where
   pub label_other : (i exit : ℕ) (x : Option Place) → Some exit ≡ option_map (index_in b) x → (exit ≡ i → ⊥) → 0 ≡ label_by o flows n b i x
   label_other i exit None some other = refl
   label_other i exit (Some e) some other =
-      sym (cond-false {A = ℕ} _ (number_at o.cutting.cols n (outlet_in o flows e)) 0 (ne_eqb (index_in b e) i (λ own. other (same_Some exit (index_in b e) some ∙ own))))
+      sym (cond-false {A = ℕ} _ (number_at o.cutting.cols n (listed_outlet o flows e)) 0 (ne_eqb (index_in b e) i (λ own. other (same_Some exit (index_in b e) some ∙ own))))
 
 -- the place of an index, by its row and column
 pub place_in_row : (b : Bounds) (r k : ℕ) → k < b.cols → place_in b (r * b.cols + k) ≡ make_place (b.top + r) (b.left + k)

@@ -18,7 +18,7 @@ use Rattle.drainage.specs.Following.{Directed, code_at, last_of}
 use Rattle.flow.specs.Counts.{IsValueAt}
 use Rattle.flow.specs.TileFlow.{Flow, exit_in, IsTileExits, IsExitOf, IsExitCell}
 use Rattle.flow.specs.Whole.{is_outlet_code, make_directed}
-use Rattle.flow.specs.RimGraph.{AreFlowsOf, AreOutlets, Outlets, outlet_in}
+use Rattle.flow.specs.RimGraph.{AreFlowsOf, AreOutlets, Outlets, listed_outlet}
 use Rattle.flow.specs.Numbering.{EndNumbers, end_number, outlet_numbers, IsNumbering, IsReady, AreReady, IsExitOfTile, number_at, label_by, labels_by, label_at, numbered_by}
 use Rattle.flow.proofs.Coded.{IsCoded, cases_coded, coded_along, coded_inside}
 use Rattle.flow.proofs.Piece.{match_none, match_some}
@@ -55,7 +55,7 @@ module _ (d : Directed) (t : Cutting) (flows : List Flow) (o : Outlets) (n : End
       let w = coded_inside d (last_of d p) (coded_along d s.are_flows.ends p is (d.cols * d.rows)) in
       omega (arith, index_below d.cols d.rows (last_of d p) w.0 w.1, s.size)
 
-  numbered_last : (e : Place) → IsExitCell d t e → IsCoded d e → IfSome (outlet_in o flows e) (λ q. index_of o.cutting.cols q < n.cells)
+  numbered_last : (e : Place) → IsExitCell d t e → IsCoded d e → IfSome (listed_outlet o flows e) (λ q. index_of o.cutting.cols q < n.cells)
   numbered_last e cell is =
       let below : index_of o.cutting.cols (last_of d e) < n.cells =
       omega (arith, last_below e is, ap (λ cols. index_of cols (last_of d e)) same_cols) in
@@ -130,7 +130,7 @@ module _ (d : Directed) (t : Cutting) (flows : List Flow) (o : Outlets) (n : End
         let listed : get_or f.exits (index_in f.bounds h.exit) None ≡ Some h.exit = own.listed ∙ ap Some (exit_of_exit d t flows s.are_flows h.exit own.exit (h.leads).4 own.leads) in
         get_or-map-range_with_len (λ i. label_by o flows n f.bounds i (get_or f.exits i None)) 0 (length f.exits) (index_in f.bounds h.exit) (index_in f.bounds h.exit) 0 (index_few h.exit h.inside) (omega arith)
         ∙ ap (label_by o flows n f.bounds (index_in f.bounds h.exit)) listed
-        ∙ cond-true {A = ℕ} _ (number_at o.cutting.cols n (outlet_in o flows h.exit)) 0 (eq-eqb _ _ refl)
+        ∙ cond-true {A = ℕ} _ (number_at o.cutting.cols n (listed_outlet o flows h.exit)) 0 (eq-eqb _ _ refl)
         ∙ ap (number_at o.cutting.cols n) (s.are_outlets.outlets h.exit (h.leads).4)
         ∙ number_of_last h.exit
         ∙ ap (λ (q : Place). n.number (index_of d.cols q)) (last_same d t flows s.are_flows p h.exit (h.leads).0 is (h.leads).3)

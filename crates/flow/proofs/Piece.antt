@@ -14,7 +14,7 @@ use Rattle.drainage.specs.Following.{Directed, code_at}
 use Rattle.drainage.specs.Drained.{AllFlowEnds}
 use Rattle.flow.specs.Streams.{AreStreams, AreUpstream, AreEnds, end_of, total}
 use Rattle.flow.specs.TileFlow.{Flow, directed_by, through_in, through_of, IsExitOf, IsFlow, IsTileExits, IsTileCounts}
-use Rattle.flow.specs.TileLinks.{link_by, AreTileCodes, IsSmall, links_by, weights_by, where_data, through_by, ends_by, rim_ends_by, exits_by, flow_by, AreFlowLists}
+use Rattle.flow.specs.TileLinks.{link_by, AreTileCodes, IsSmall, links_by, weights_by, where_data, through_list, ends_by, rim_ends_by, exits_by, flow_by, AreFlowLists}
 use Rattle.flow.proofs.Totals.{total_is}
 use Rattle.flow.proofs.Reaching.{IsEnding, ending_of}
 use Rattle.flow.proofs.Gathering.{all_gathered, gathered_few, through_is as gathered_through}
@@ -140,9 +140,9 @@ module _ (v : View (Option ℕ)) (b : Bounds) (cells : List (Option ℕ)) (links
     pub came_size : length came ≡ length cells
     came_size = up.size ∙ sizes
 
-    pub through_is : (p : Place) → IsInBounds b p → entry_in b (through_by cells came) p ≡ where_data (code_at (directed_by v) p) (get_or came (index_in b p) 0)
+    pub through_is : (p : Place) → IsInBounds b p → entry_in b (through_list cells came) p ≡ where_data (code_at (directed_by v) p) (get_or came (index_in b p) 0)
     through_is p h =
-        entry_in-inside b (through_by cells came) p h
+        entry_in-inside b (through_list cells came) p h
         ∙ get_or-map-range_with_len (λ i. where_data (get_or cells i None) (get_or came i 0)) 0 (length came) (index_in b p) (index_in b p) None (omega (arith, in_cells p h, came_size)) (omega arith)
         ∙ ap (λ o. where_data o (get_or came (index_in b p) 0)) (code_is p h)
 
@@ -207,11 +207,11 @@ module _ (v : View (Option ℕ)) (b : Bounds) (cells : List (Option ℕ)) (links
   pub lists_are : (came rim_ends : List ℕ) → rim_ends ≡ rim_ends_by b links → AreFlowLists b cells links came rim_ends
   lists_are came rim_ends rim = record { linked = s.made; lawful = flow_lawful (ends_by links) (ends_are links) came; streams = streams; rim = rim }
 
-  pub counts_are : (came : List ℕ) → AreUpstream links weights came → (f : Flow) → f.bounds ≡ b → f.through ≡ through_by cells came → IsTileCounts (directed_by v) v.cutting v.tile f
+  pub counts_are : (came : List ℕ) → AreUpstream links weights came → (f : Flow) → f.bounds ≡ b → f.through ≡ through_list cells came → IsTileCounts (directed_by v) v.cutting v.tile f
   counts_are came up f same through = record {
     size = ap length through ∙ length-map-range_with_len (λ i. where_data (get_or cells i None) (get_or came i 0)) 0 (length came) ∙ came_size came up ∙ s.codes.size ∙ sym (ap (λ (z : Bounds). z.rows * z.cols) same);
     each = λ p i. (let h = (piece.places p).0 i in
-        let entry : through_in f p ≡ entry_in b (through_by cells came) p = ap (λ (z : Bounds). entry_in z f.through p) same ∙ ap (λ (l : List (Option ℕ)). entry_in b l p) through in
+        let entry : through_in f p ≡ entry_in b (through_list cells came) p = ap (λ (z : Bounds). entry_in z f.through p) same ∙ ap (λ (l : List (Option ℕ)). entry_in b l p) through in
         match_data (code_at (directed_by v) p) _ _ _ (entry ∙ through_is came up p h) (λ code is. count_of came up p h (record { code = code; is = is })));
   }
 

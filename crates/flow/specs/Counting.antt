@@ -10,7 +10,7 @@ use Rattle.flow.specs.TileFlow.{Flow}
 use Rattle.flow.specs.TileLinks.{links_by, weights_by, where_data}
 use Rattle.flow.specs.RimGraph.{AreFlowsOf}
 use Rattle.flow.specs.Whole.{IsGridFlow, make_directed}
-use Rattle.flow.specs.Inflows.{Inflows, inflow_in, AreInflows}
+use Rattle.flow.specs.Inflows.{Inflows, listed_inflow, AreInflows}
 
 -- The exits of the flows and the inflows are those of the map of directions with these codes.
 pub record IsCounting (t : Cutting) (codes : List (Option ℕ)) (flows : List Flow) (inflows : Inflows) : Type 0 where
@@ -27,7 +27,7 @@ IsCountAt t flows inflows p entry = (codes : List (Option ℕ)) → IsCounting t
 pub record AreRimWeights (inflows : Inflows) (b : Bounds) (cells : List (Option ℕ)) (weights : List ℕ) : Type 0 where
   pub size : length weights ≡ length cells
   pub each : (p : Place) → IsInBounds b p →
-      slice_index weights (index_in b p) ≡ slice_index (weights_by cells) (index_in b p) + inflow_in inflows p
+      slice_index weights (index_in b p) ≡ slice_index (weights_by cells) (index_in b p) + listed_inflow inflows p
 
 -- what the job of a tile may rely on
 pub record IsCountable (inflows : Inflows) (tile : ℕ) (f : Flow) : Type 0 where
@@ -36,7 +36,7 @@ pub record IsCountable (inflows : Inflows) (tile : ℕ) (f : Flow) : Type 0 wher
   pub linked : length (links_by f.bounds f.codes) ≡ length f.codes
   pub few : length f.codes ≤ 2 ^ 24
   pub streams : AreStreams (links_by f.bounds f.codes)
-  pub few_enter : (p : Place) → IsInBounds (bounds_of inflows.cutting tile) p → inflow_in inflows p < 2 ^ 31
+  pub few_enter : (p : Place) → IsInBounds (bounds_of inflows.cutting tile) p → listed_inflow inflows p < 2 ^ 31
   pub few_come : (weights : List ℕ) → AreRimWeights inflows (bounds_of inflows.cutting tile) f.codes weights →
       (i : ℕ) → i < length f.codes → total (links_by f.bounds f.codes) weights i < 2 ^ 32
 

@@ -46,13 +46,13 @@ pub record Inflows : Type 0 where
 abbrev pub inflow_by : Cutting → List ℕ → Place → ℕ
 inflow_by t listed p = if is_place (rim_place t (rim_number t p)) p then slice_index listed (rim_number t p) else 0
 
-abbrev pub inflow_in : Inflows → Place → ℕ
-inflow_in l p = inflow_by l.cutting l.listed p
+abbrev pub listed_inflow : Inflows → Place → ℕ
+listed_inflow l p = inflow_by l.cutting l.listed p
 
 pub record AreInflows (d : Directed) (t : Cutting) (l : Inflows) : Type 0 where
   pub cutting : l.cutting ≡ t
   pub size : length l.listed ≡ number_count t
-  pub each : (p : Place) → IsWithin t p → inflow_in l p ≡ inflow_of d t p
+  pub each : (p : Place) → IsWithin t p → listed_inflow l p ≡ inflow_of d t p
 
 -- what a number adds to what flows in at a place
 abbrev pub adds : Cutting → List ℕ → ℕ → Place → ℕ

@@ -11,7 +11,7 @@ use Rattle.drainage.specs.Following.{Directed, last_of}
 use Rattle.flow.specs.Counts.{IsValueAt}
 use Rattle.flow.specs.TileFlow.{Flow}
 use Rattle.flow.specs.Whole.{is_outlet_code}
-use Rattle.flow.specs.RimGraph.{AreFlowsOf, Outlets, AreOutlets, outlet_in}
+use Rattle.flow.specs.RimGraph.{AreFlowsOf, Outlets, AreOutlets, listed_outlet}
 
 -- The number of each cell at which a flow path may end, by the cell's index in row order.
 pub record EndNumbers : Type 0 where
@@ -44,7 +44,7 @@ IsEndNumberAt t flows outlets n p entry =
 pub record IsExitOfTile (outlets : Outlets) (flows : List Flow) (n : EndNumbers) (b : Bounds) (e : Place) : Type 0 where
   pub inside : IsInBounds b e
   pub within : IsWithin outlets.cutting e
-  pub numbered : IfSome (outlet_in outlets flows e) (λ q. index_of outlets.cutting.cols q < n.cells)
+  pub numbered : IfSome (listed_outlet outlets flows e) (λ q. index_of outlets.cutting.cols q < n.cells)
 
 -- what the job of a tile may rely on
 pub record IsReady (t : Cutting) (flows : List Flow) (outlets : Outlets) (n : EndNumbers) (tile : ℕ) (f : Flow) : Type 0 where
@@ -66,7 +66,7 @@ number_at cols n (Some outlet) = n.number (index_of cols outlet)
 abbrev pub label_by : Outlets → List Flow → EndNumbers → Bounds → ℕ → Option Place → ℕ
 label_by outlets flows n b i None = 0
 label_by outlets flows n b i (Some e) =
-    if index_in b e == i then number_at outlets.cutting.cols n (outlet_in outlets flows e) else 0
+    if index_in b e == i then number_at outlets.cutting.cols n (listed_outlet outlets flows e) else 0
 
 abbrev pub labels_by : Outlets → List Flow → EndNumbers → Flow → List ℕ
 labels_by outlets flows n f =

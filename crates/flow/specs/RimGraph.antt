@@ -83,9 +83,9 @@ pub record Outlets : Type 0 where
   pub cutting : Cutting
   pub listed : List (Option Place)
 
-abbrev pub outlet_in : Outlets → List Flow → Place → Option Place
-outlet_in o flows p = outlet_by o.cutting flows o.listed p
+abbrev pub listed_outlet : Outlets → List Flow → Place → Option Place
+listed_outlet o flows p = outlet_by o.cutting flows o.listed p
 
 pub record AreOutlets (d : Directed) (t : Cutting) (flows : List Flow) (o : Outlets) : Type 0 where
-  pub outlets : (p : Place) → IsExitCell d t p → outlet_in o flows p ≡ Some (last_of d p)
-  pub no_outlets : (p : Place) → IsWithin t p → (IsExitCell d t p → ⊥) → outlet_in o flows p ≡ None
+  pub outlets : (p : Place) → IsExitCell d t p → listed_outlet o flows p ≡ Some (last_of d p)
+  pub no_outlets : (p : Place) → IsWithin t p → (IsExitCell d t p → ⊥) → listed_outlet o flows p ≡ None

@@ -50,8 +50,8 @@ abbrev pub where_data : {X : Type 0} → Option ℕ → X → Option X
 where_data None x = None
 where_data (Some code) x = Some x
 
-abbrev pub through_by : List (Option ℕ) → List ℕ → List (Option ℕ)
-through_by cells came = map (λ i. where_data (slice_index_or cells i None) (slice_index came i)) (range_with_len 0 (length came))
+abbrev pub through_list : List (Option ℕ) → List ℕ → List (Option ℕ)
+through_list cells came = map (λ i. where_data (slice_index_or cells i None) (slice_index came i)) (range_with_len 0 (length came))
 
 -- where the path of each cell along links ends
 abbrev pub ends_by : List ℕ → List ℕ
@@ -66,7 +66,7 @@ exits_by b cells ends = map (λ i. where_data (slice_index_or cells i None) (pla
 
 -- The flow of a tile, of the codes of its cells, what comes to each cell and where its links end.
 abbrev pub flow_by : Bounds → List (Option ℕ) → List ℕ → List ℕ → Flow
-flow_by b cells came ends = record { bounds = b; codes = cells; through = through_by cells came; exits = exits_by b cells ends }
+flow_by b cells came ends = record { bounds = b; codes = cells; through = through_list cells came; exits = exits_by b cells ends }
 
 -- What holds of these lists together.
 pub record AreFlowLists (b : Bounds) (cells : List (Option ℕ)) (links came rim_ends : List ℕ) : Type 0 where

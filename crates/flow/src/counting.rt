@@ -8,7 +8,7 @@ ghost use Rattle.tile_jobs.specs.Fault.{RefusesWorkers};
 ghost use Rattle.drainage.specs.Drained.{directed_of};
 ghost use Rattle.flow.specs.Counts.{AreAccumulations};
 ghost use Rattle.flow.specs.Counting.{IsCountable, AreCountable, AreRimWeights, AreCounts, counts_by};
-ghost use Rattle.flow.specs.Inflows.{inflow_in};
+ghost use Rattle.flow.specs.Inflows.{listed_inflow};
 ghost use Rattle.terrain.specs.declared.place.Place.{Place as AtPlace};
 
 use crate::cells::tile_weights;
@@ -112,7 +112,7 @@ fn rim_weights(
 ) -> Result<Vec<u32>, AllocError>
     requires tile { tile < tile_count inflows.now.cutting }
     requires size { length cells.now ≡ cell_count inflows.now.cutting tile }
-    requires fits { (p : AtPlace) → IsInBounds (bounds_of inflows.now.cutting tile) p → inflow_in inflows.now p < 2 ^ 31 }
+    requires fits { (p : AtPlace) → IsInBounds (bounds_of inflows.now.cutting tile) p → listed_inflow inflows.now p < 2 ^ 31 }
     ensures { IfOk result (λ v. AreRimWeights inflows.now (bounds_of inflows.now.cutting tile) cells.now v.items) }
 {
     let mut weights = tile_weights(alloc, cells)?;

@@ -9,7 +9,7 @@ ghost use Rattle.flow.specs.TileFlow.{AreTileCounts};
 ghost use Rattle.flow.specs.TileLinks.{IsSmall};
 ghost use Rattle.tiles.specs.RimNumbers.{number_count};
 ghost use Rattle.flow.specs.RimGraph.{AreFlowsOf, rim_links_by, stands_for, targets_by};
-ghost use Rattle.flow.specs.Inflows.{AreEntering, AreInflows, adds, entering, inflow_by, inflow_in, rim_weight, rim_weights_by, sent_to, through_by};
+ghost use Rattle.flow.specs.Inflows.{AreEntering, AreInflows, adds, entering, inflow_by, listed_inflow, rim_weight, rim_weights_by, sent_to, through_by};
 
 use crate::cells::is_place;
 use crate::crossings::{Crossings, stands_for};
@@ -68,7 +68,7 @@ impl Inflows {
     /// How many cells' flow paths hold the place right after a cell of another tile.
     pub(crate) fn inflow(&self, place: Place) -> u32
         requires { IsWithin self.now.cutting place }
-        ensures { result ≡ inflow_in self.now place }
+        ensures { result ≡ listed_inflow self.now place }
     {
         let number = self.tiling.rim_number(place);
         if is_place(self.tiling.rim_place(number), place) {
@@ -83,11 +83,11 @@ impl Inflows {
         requires tile { tile < tile_count self.now.cutting }
         requires size { length weights.old ≡ cell_count self.now.cutting tile }
         requires fits { (p : AtPlace) → IsInBounds (bounds_of self.now.cutting tile) p →
-            slice_index weights.old (index_in (bounds_of self.now.cutting tile) p) + inflow_in self.now p < 2 ^ 32 }
+            slice_index weights.old (index_in (bounds_of self.now.cutting tile) p) + listed_inflow self.now p < 2 ^ 32 }
         ensures size { length weights.new ≡ length weights.old }
         ensures each { (p : AtPlace) → IsInBounds (bounds_of self.now.cutting tile) p →
             slice_index weights.new (index_in (bounds_of self.now.cutting tile) p)
-            ≡ slice_index weights.old (index_in (bounds_of self.now.cutting tile) p) + inflow_in self.now p }
+            ≡ slice_index weights.old (index_in (bounds_of self.now.cutting tile) p) + listed_inflow self.now p }
     {
         add_all(&self.tiling, &self.listed, tile, weights);
     }

@@ -9,7 +9,7 @@ ghost use Rattle.flow.specs.Counts.{IsMapOf};
 ghost use Rattle.flow.specs.Streams.{AreEnds};
 ghost use Rattle.flow.specs.Whole.{IsGridFlow, make_directed};
 ghost use Rattle.flow.specs.TileLinks.{links_by};
-ghost use Rattle.flow.specs.RimGraph.{outlet_in};
+ghost use Rattle.flow.specs.RimGraph.{listed_outlet};
 ghost use Rattle.flow.specs.Numbering.{AreReady, IsExitOfTile, end_number, number_at, label_by, labels_by, label_at, numbered_by};
 
 use crate::crossings::Crossings;
@@ -100,10 +100,10 @@ impl<'a, N: EndNumbering> Numbering<'a, N> {
     /// The number of the outlet of an exit.
     fn number_of(&self, exit: Place) -> u32
         requires within { IsWithin self.now.outlets.cutting exit }
-        requires numbered { IfSome (outlet_in self.now.outlets self.now.flows.items exit)
+        requires numbered { IfSome (listed_outlet self.now.outlets self.now.flows.items exit)
             (λ o. index_of self.now.outlets.cutting.cols o < (N.numbers self.now.numbers).cells) }
         ensures { result ≡ number_at self.now.outlets.cutting.cols (N.numbers self.now.numbers)
-            (outlet_in self.now.outlets self.now.flows.items exit) }
+            (listed_outlet self.now.outlets self.now.flows.items exit) }
     {
         match self.outlets.outlet(&self.flows, exit) {
             Some(outlet) => self.numbers.number(outlet.index_in(self.tiling.cols())),

@@ -3,7 +3,7 @@ ghost use Rattle.std.specs.Prelude.{◌≡◌, ◌<◌, ℕ, length, slice_index
 ghost use Rattle.tiles.specs.Cutting.{IsWithin, tile_count};
 ghost use Rattle.drainage.specs.Following.{Directed};
 ghost use Rattle.tiles.specs.RimNumbers.{number_count};
-ghost use Rattle.flow.specs.RimGraph.{AreFlowsOf, AreOutlets, targets_by, rim_links_by, rim_outlet, rim_outlets_by, outlet_in, exit_by};
+ghost use Rattle.flow.specs.RimGraph.{AreFlowsOf, AreOutlets, targets_by, rim_links_by, rim_outlet, rim_outlets_by, listed_outlet, exit_by};
 
 use crate::cells::is_place;
 use crate::crossings::{Crossings, code_of};
@@ -60,7 +60,7 @@ impl Outlets {
     pub(crate) fn outlet(&self, flows: &[TileFlow], exit: Place) -> Option<Place>
         requires count { length flows.now ≡ tile_count self.now.cutting }
         requires within { IsWithin self.now.cutting exit }
-        ensures { result ≡ outlet_in self.now flows.now exit }
+        ensures { result ≡ listed_outlet self.now flows.now exit }
     {
         if is_outlet(code_of(&self.tiling, flows, exit)) {
             return Some(exit);

@@ -12,7 +12,7 @@ use Rattle.horizons.specs.Horizons.{IsTarget, IsUpTo}
 use Rattle.sight.specs.Sweep.{lead_of, is_blocked_before, HidesBefore, IsFamily, StandsAt}
 use Rattle.sight.specs.Ranks.{IsRanked}
 use Rattle.sight.specs.Looking.{LooksFrom}
-use Rattle.sight.specs.Hiding.{mark_at, mark_index, mark_left, rise_at, target_at, AreHidden, AreRays, Crosses, IsApart, IsInRun, IsRay, IsWindow}
+use Rattle.sight.specs.Hiding.{mark_in_window, mark_index, mark_left, rise_at, target_at, AreHidden, AreRays, Crosses, IsApart, IsInRun, IsRay, IsWindow}
 use Rattle.sight.specs.declared.family.Family.{Family}
 use Rattle.sight.specs.declared.window.Window.{Window}
 use Rattle.sight.specs.declared.sweep.Sweep.{Sweep}
@@ -105,11 +105,11 @@ and_true false b h = refl
 
 -- what is left to a cell that is blocked, and to one that is not
 left_blocked : (cells : List (Option ℤ)) (f : Family) (w : Window) (height : ℕ) (old : List Bool) (n y : ℕ) → is_blocked_before cells f n y (rise_at cells f height n y) n ≡ true → mark_left cells f w height old n y ≡ false
-left_blocked cells f w height old n y is = and_right (mark_at w (lead_of f n) y old) _ (ap not is)
+left_blocked cells f w height old n y is = and_right (mark_in_window w (lead_of f n) y old) _ (ap not is)
 
 left_open : (cells : List (Option ℤ)) (f : Family) (w : Window) (height : ℕ) (old : List Bool) (n y : ℕ) → is_blocked_before cells f n y (rise_at cells f height n y) n ≡ false
-    → mark_left cells f w height old n y ≡ mark_at w (lead_of f n) y old
-left_open cells f w height old n y is = and_true (mark_at w (lead_of f n) y old) _ (ap not is)
+    → mark_left cells f w height old n y ≡ mark_in_window w (lead_of f n) y old
+left_open cells f w height old n y is = and_true (mark_in_window w (lead_of f n) y old) _ (ap not is)
 
 -- the cell of a target of the family
 same_target : (f : Family) (t : Target) (m z y : ℕ) → StandsAt f y t → t ≡ target_at f m z → (m ≡ t.line) × (z ≡ y)
@@ -119,10 +119,10 @@ same_target f t m z y stands e = (ap (λ q. q.line) (sym e), omega (arith, ints,
 pub record AreHiddenBelow (cells : List (Option ℤ)) (f : Family) (w : Window) (height : ℕ) (rays : List Target) (end : ℕ) (old new : List Bool) : Type 0 where
   pub size : length new ≡ length old
   pub asked : (u n y : ℕ) → u < end → slice_get rays u ≡ Some (target_at f n y) → Crosses f w n → IsInRun w.side y
-      → mark_at w (lead_of f n) y new ≡ mark_left cells f w height old n y
+      → mark_in_window w (lead_of f n) y new ≡ mark_left cells f w height old n y
   pub crossed : (n y : ℕ) → Crosses f w n → IsInRun w.side y
-      → (mark_at w (lead_of f n) y new ≡ mark_at w (lead_of f n) y old) ⊎ (mark_at w (lead_of f n) y new ≡ mark_left cells f w height old n y)
-  pub kept : (x y : ℕ) → IsInRun w.lines x → IsInRun w.side y → ((n : ℕ) → Crosses f w n → lead_of f n ≡ x → ⊥) → mark_at w x y new ≡ mark_at w x y old
+      → (mark_in_window w (lead_of f n) y new ≡ mark_in_window w (lead_of f n) y old) ⊎ (mark_in_window w (lead_of f n) y new ≡ mark_left cells f w height old n y)
+  pub kept : (x y : ℕ) → IsInRun w.lines x → IsInRun w.side y → ((n : ℕ) → Crosses f w n → lead_of f n ≡ x → ⊥) → mark_in_window w x y new ≡ mark_in_window w x y old
 
 pub none_asked : (cells : List (Option ℤ)) (f : Family) (w : Window) (height : ℕ) (rays : List Target) (marks : List Bool) → AreHiddenBelow cells f w height rays 0 marks marks
 none_asked cells f w height rays marks = record {
@@ -139,11 +139,11 @@ blocked_asked cells f w height rays n old marks t y apart is_w at_t stands in_y 
     let i = mark_index w (lead_of f t.line) y in
     let new = set marks i false in
     let within : i < length marks = is_w.inside (lead_of f t.line - w.lines.first) (y - w.side.first) (omega (arith, crosses.within)) (omega (arith, in_y)) in
-    let here : (m z : ℕ) → m ≡ t.line → z ≡ y → mark_at w (lead_of f m) z new ≡ mark_left cells f w height old m z = λ m z m_is z_is.
+    let here : (m z : ℕ) → m ≡ t.line → z ≡ y → mark_in_window w (lead_of f m) z new ≡ mark_left cells f w height old m z = λ m z m_is z_is.
     let index : mark_index w (lead_of f m) z ≡ i = ap (λ k. mark_index w (lead_of f k) z) m_is ∙ ap (λ k. mark_index w (lead_of f t.line) k) z_is in
     let left : mark_left cells f w height old m z ≡ false = ap (λ k. mark_left cells f w height old k z) m_is ∙ ap (λ k. mark_left cells f w height old t.line k) z_is ∙ left_blocked cells f w height old t.line y blocked in
     ap (λ k. get_or new k false) index ∙ get_or-set_same marks i false false within ∙ sym left in
-    let there : (x z : ℕ) → mark_index w x z ≢ i → mark_at w x z new ≡ mark_at w x z marks = λ x z other. get_or-set_other marks i (mark_index w x z) false false other in
+    let there : (x z : ℕ) → mark_index w x z ≢ i → mark_in_window w x z new ≡ mark_in_window w x z marks = λ x z other. get_or-set_other marks i (mark_index w x z) false false other in
     let met : (m z : ℕ) → Crosses f w m → IsInRun w.side z → mark_index w (lead_of f m) z ≡ i → (m ≡ t.line) × (z ≡ y) = λ m z crossed in_z same.
     let cell = same_cell w (lead_of f m) z (lead_of f t.line) y apart crossed.within in_z crosses.within in_y same in
     (line_from f.lines.back f.lines.at m t.line crossed.line.2 crosses.line.2 cell.0, cell.1) in
@@ -172,7 +172,7 @@ blocked_asked cells f w height rays n old marks t y apart is_w at_t stands in_y 
 pub open_asked : (cells : List (Option ℤ)) (f : Family) (w : Window) (height : ℕ) (rays : List Target) (n : ℕ) (old marks : List Bool) (t : Target) (y : ℕ) → slice_get rays n ≡ Some t → StandsAt f y t
     → is_blocked_before cells f t.line y (rise_at cells f height t.line y) t.line ≡ false → AreHiddenBelow cells f w height rays n old marks → AreHiddenBelow cells f w height rays (n + 1) old marks
 open_asked cells f w height rays n old marks t y at_t stands not_blocked were =
-    let here : (m z : ℕ) → m ≡ t.line → z ≡ y → mark_left cells f w height old m z ≡ mark_at w (lead_of f m) z old = λ m z m_is z_is.
+    let here : (m z : ℕ) → m ≡ t.line → z ≡ y → mark_left cells f w height old m z ≡ mark_in_window w (lead_of f m) z old = λ m z m_is z_is.
     left_open cells f w height old m z (ap (λ k. is_blocked_before cells f k z (rise_at cells f height k z) k) m_is ∙ ap (λ k. is_blocked_before cells f t.line k (rise_at cells f height t.line k) t.line) z_is ∙ not_blocked) in
     record {
       size = were.size;
@@ -194,12 +194,12 @@ pub all_asked : (cells : List (Option ℤ)) (f : Family) (w : Window) (height : 
     → AreHidden cells f w height old new
 all_asked cells f w height rays old new are asked = record {
   size = asked.size;
-  crossed = λ n y crosses in_y. elim (cases_Bool (mark_at w (lead_of f n) y old)) [
+  crossed = λ n y crosses in_y. elim (cases_Bool (mark_in_window w (lead_of f n) y old)) [
     | inl marked ↦
         let ray = are.whole n y (inl (omega (arith, crosses.line.1))) crosses in_y marked in
         asked.asked ray.0 n y (slice_get_within rays ray.0 (target_at f n y) ray.1) ray.1 crosses in_y
     | inr unmarked ↦ elim (asked.crossed n y crosses in_y) [
-      | inl e ↦ e ∙ unmarked ∙ sym (and_left (mark_at w (lead_of f n) y old) _ unmarked)
+      | inl e ↦ e ∙ unmarked ∙ sym (and_left (mark_in_window w (lead_of f n) y old) _ unmarked)
       | inr e ↦ e
     ]
   ];

@@ -6,7 +6,7 @@ use Rattle.std.proofs.lemmas.Bool.{cases_lt}
 use Rattle.std.proofs.lemmas.Int.{ints}
 use Rattle.sight.specs.Sweep.{lead_of, is_blocked_before}
 use Rattle.sightlines.specs.Walk.{step_blocks, steps_of, walk_blocks}
-use Rattle.sight.specs.Hiding.{mark_at, rise_at, AreHidden, Crosses}
+use Rattle.sight.specs.Hiding.{mark_in_window, rise_at, AreHidden, Crosses}
 use Rattle.sight.specs.Sides.{facing, sightline_to, AreOpen}
 use Rattle.sight.specs.declared.family.Family.{Family}
 use Rattle.sightlines.specs.declared.walk.Axis.{Axis}
@@ -52,9 +52,9 @@ both_sides cells f w height old mid new few inside one two = record {
               within = (omega arith, omega arith);
             } in
             two.kept x y in_lines in_side (λ m c e. omega (arith, e, c.later))
-            ∙ ap (λ z. mark_at w z y mid) (sym at) ∙ one.crossed n y crosses in_side
-            ∙ ap (λ b. mark_at w (f.lines.at + n) y old && not b) (sym (lines_block cells (facing f false) height n x y at (omega arith)))
-            ∙ ap (λ z. mark_at w z y old && not (walk_blocks cells (sightline_to cells f height x y))) at
+            ∙ ap (λ z. mark_in_window w z y mid) (sym at) ∙ one.crossed n y crosses in_side
+            ∙ ap (λ b. mark_in_window w (f.lines.at + n) y old && not b) (sym (lines_block cells (facing f false) height n x y at (omega arith)))
+            ∙ ap (λ z. mark_in_window w z y old && not (walk_blocks cells (sightline_to cells f height x y))) at
         | inr not_ahead ↦ elim (cases_lt (x + 1) f.lines.at) [
           | inl behind ↦
               let n = f.lines.at - x in
@@ -64,15 +64,15 @@ both_sides cells f w height old mid new few inside one two = record {
                 line = (omega arith, omega arith, λ e. omega arith);
                 within = (omega arith, omega arith);
               } in
-              let before : mark_at w x y mid ≡ mark_at w x y old = one.kept x y in_lines in_side (λ m c e. omega (arith, e, c.later)) in
-              ap (λ z. mark_at w z y new) (sym at) ∙ two.crossed n y crosses in_side
-              ∙ ap (λ b. mark_at w (f.lines.at - n) y mid && not b) (sym (lines_block cells (facing f true) height n x y at (omega arith)))
-              ∙ ap (λ z. mark_at w z y mid && not (walk_blocks cells (sightline_to cells f height x y))) at
+              let before : mark_in_window w x y mid ≡ mark_in_window w x y old = one.kept x y in_lines in_side (λ m c e. omega (arith, e, c.later)) in
+              ap (λ z. mark_in_window w z y new) (sym at) ∙ two.crossed n y crosses in_side
+              ∙ ap (λ b. mark_in_window w (f.lines.at - n) y mid && not b) (sym (lines_block cells (facing f true) height n x y at (omega arith)))
+              ∙ ap (λ z. mark_in_window w z y mid && not (walk_blocks cells (sightline_to cells f height x y))) at
               ∙ ap (λ m. m && not (walk_blocks cells (sightline_to cells f height x y))) before
           | inr beside ↦
               two.kept x y in_lines in_side (λ m c e. omega (arith, e, c.later, c.line.2 refl))
               ∙ one.kept x y in_lines in_side (λ m c e. omega (arith, e, c.later))
-              ∙ unchanged (mark_at w x y old) (walk_blocks cells (sightline_to cells f height x y)) (none_between cells (sightline_to cells f height x y) (omega arith))
+              ∙ unchanged (mark_in_window w x y old) (walk_blocks cells (sightline_to cells f height x y)) (none_between cells (sightline_to cells f height x y) (omega arith))
         ]
       ];
 }

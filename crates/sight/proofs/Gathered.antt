@@ -6,7 +6,7 @@ use Rattle.std.proofs.lemmas.List.{length-append}
 use Rattle.std.proofs.lemmas.Option.{same_Some, slice_get_within}
 use Rattle.horizons.specs.declared.target.Target.{Target}
 use Rattle.sight.specs.Sweep.{lead_of, StandsAt, IsFamily}
-use Rattle.sight.specs.Hiding.{target_at, mark_at, AreRays, Crosses, IsInRun, IsRay, IsWindow}
+use Rattle.sight.specs.Hiding.{target_at, mark_in_window, AreRays, Crosses, IsInRun, IsRay, IsWindow}
 use Rattle.sight.specs.declared.family.Family.{Family}
 use Rattle.sight.specs.declared.window.Window.{Window}
 use Rattle.sight.proofs.Ranking.{slice_get-front, slice_get-last}
@@ -42,7 +42,7 @@ line_passed f w marks n rays not_there are = record {
   ];
 }
 
-pub cell_passed : (f : Family) (w : Window) (marks : List Bool) (n c : ℕ) (rays : List Target) → mark_at w (lead_of f n) c marks ≡ false → AreRays f w marks n c rays → AreRays f w marks n (c + 1) rays
+pub cell_passed : (f : Family) (w : Window) (marks : List Bool) (n c : ℕ) (rays : List Target) → mark_in_window w (lead_of f n) c marks ≡ false → AreRays f w marks n c rays → AreRays f w marks n (c + 1) rays
 cell_passed f w marks n c rays unmarked are = record {
   few = omega (arith, are.few);
   each = are.each;
@@ -53,7 +53,7 @@ cell_passed f w marks n c rays unmarked are = record {
       | inl less ↦ are.whole m y (inr (h.0, less)) crosses in_run marked
       | inr not ↦
           let y_is : y ≡ c = omega (arith, h.1) in
-          let here : mark_at w (lead_of f m) y marks ≡ mark_at w (lead_of f n) c marks = ap (λ k. mark_at w (lead_of f k) y marks) h.0 ∙ ap (λ k. mark_at w (lead_of f n) k marks) y_is in
+          let here : mark_in_window w (lead_of f m) y marks ≡ mark_in_window w (lead_of f n) c marks = ap (λ k. mark_in_window w (lead_of f k) y marks) h.0 ∙ ap (λ k. mark_in_window w (lead_of f n) k marks) y_is in
           absurd (cc)
     ]
   ];

@@ -34,8 +34,8 @@ abbrev pub mark_index : Window → ℕ → ℕ → ℕ
 mark_index w x y = (x - w.lines.first) * w.lines.stride + (y - w.side.first) * w.side.stride
 
 -- Whether the cell at x and y is marked.
-abbrev pub mark_at : Window → ℕ → ℕ → List Bool → Bool
-mark_at w x y marks = slice_index_or marks (mark_index w x y) false
+abbrev pub mark_in_window : Window → ℕ → ℕ → List Bool → Bool
+mark_in_window w x y marks = slice_index_or marks (mark_index w x y) false
 
 -- The target is a cell of the window, on a line that crosses it.
 pub record IsRay (f : Family) (w : Window) (t : Target) : Type 0 where
@@ -52,7 +52,7 @@ pub record AreRays (f : Family) (w : Window) (marks : List Bool) (n c : ℕ) (ra
   pub few : length rays ≤ n * 4096 + (c - w.side.first)
   pub each : (u : ℕ) (t : Target) → slice_get rays u ≡ Some t → IsRay f w t × (t.line ≤ n)
   pub sorted : (u v : ℕ) (s t : Target) → u ≤ v → slice_get rays u ≡ Some s → slice_get rays v ≡ Some t → s.line ≤ t.line
-  pub whole : (m y : ℕ) → (m < n) ⊎ ((m ≡ n) × (y < c)) → Crosses f w m → IsInRun w.side y → mark_at w (lead_of f m) y marks ≡ true
+  pub whole : (m y : ℕ) → (m < n) ⊎ ((m ≡ n) × (y < c)) → Crosses f w m → IsInRun w.side y → mark_in_window w (lead_of f m) y marks ≡ true
       → (u : ℕ) × (slice_get rays u ≡ Some (target_at f m y))
 
 -- The height of cell y of line n, None where it has none.
@@ -65,11 +65,11 @@ rise_at cells f height n y = (unwrap_or (height_at cells f n y) (pos 0) +ℤ pos
 
 -- The mark that is left to cell y of line n: its old one, unless a line before line n blocks the cell.
 abbrev pub mark_left : List (Option ℤ) → Family → Window → ℕ → List Bool → ℕ → ℕ → Bool
-mark_left cells f w height old n y = mark_at w (lead_of f n) y old && not (is_blocked_before cells f n y (rise_at cells f height n y) n)
+mark_left cells f w height old n y = mark_in_window w (lead_of f n) y old && not (is_blocked_before cells f n y (rise_at cells f height n y) n)
 
 -- A family has hidden marked cells of a window: on each line from the second on, a cell keeps its mark where no line
 -- before its own blocks it; all other marks stay.
 pub record AreHidden (cells : List (Option ℤ)) (f : Family) (w : Window) (height : ℕ) (old new : List Bool) : Type 0 where
   pub size : length new ≡ length old
-  pub crossed : (n y : ℕ) → Crosses f w n → IsInRun w.side y → mark_at w (lead_of f n) y new ≡ mark_left cells f w height old n y
-  pub kept : (x y : ℕ) → IsInRun w.lines x → IsInRun w.side y → ((n : ℕ) → Crosses f w n → lead_of f n ≡ x → ⊥) → mark_at w x y new ≡ mark_at w x y old
+  pub crossed : (n y : ℕ) → Crosses f w n → IsInRun w.side y → mark_in_window w (lead_of f n) y new ≡ mark_left cells f w height old n y
+  pub kept : (x y : ℕ) → IsInRun w.lines x → IsInRun w.side y → ((n : ℕ) → Crosses f w n → lead_of f n ≡ x → ⊥) → mark_in_window w x y new ≡ mark_in_window w x y old

@@ -1,6 +1,6 @@
 -- The lines of sight to the cells of a window, and which marks they leave. No public clause cites it.
 use Rattle.std.specs.Prelude.{◌≡◌, ℕ, ◌+◌, ◌*◌, ◌<◌, ◌≤◌, Bool, false, not, ◌&&◌, ℤ, pos, ◌+ℤ◌, List, length, Option, None, unwrap_or, slice_index_or, min, max}
-use Rattle.sight.specs.Hiding.{IsInRun, mark_at}
+use Rattle.sight.specs.Hiding.{IsInRun, mark_in_window}
 use Rattle.sight.specs.Sweep.{side_axis}
 use Rattle.sightlines.specs.Walk.{walk_blocks}
 use Rattle.sight.specs.declared.family.Family.{Family}
@@ -42,4 +42,4 @@ sightline_to cells f height x y = record {
 pub record AreOpen (cells : List (Option ℤ)) (f : Family) (w : Window) (height : ℕ) (old new : List Bool) : Type 0 where
   pub size : length new ≡ length old
   pub each : (x y : ℕ) → IsInRun w.lines x → IsInRun w.side y
-      → mark_at w x y new ≡ (mark_at w x y old && not (walk_blocks cells (sightline_to cells f height x y)))
+      → mark_in_window w x y new ≡ (mark_in_window w x y old && not (walk_blocks cells (sightline_to cells f height x y)))

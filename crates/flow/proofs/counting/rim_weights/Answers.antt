@@ -1,7 +1,7 @@
 use Rattle.std.proofs.Common.{◌≡◌, ℕ, ◌+◌, ◌++◌, List, drop, length, get_or, take, subst, sym, ap, ◌∙◌, arith}
 use Rattle.std.proofs.lemmas.List.{take_at}
 use Rattle.tiles.specs.Cutting.{bounds_of, index_in}
-use Rattle.flow.specs.Inflows.{inflow_in}
+use Rattle.flow.specs.Inflows.{listed_inflow}
 use Rattle.flow.specs.Counting.{AreRimWeights}
 use Rattle.flow.proofs.Counted.{weights_le, weights_size}
 use Rattle.flow.proofs.counting.rim_weights.Goals as goal
@@ -26,5 +26,5 @@ returns c =
     subst (λ (w : List ℕ). AreRimWeights c.args.inflows.now (bounds_of c.args.inflows.now.cutting c.args.tile) c.args.cells.now w) (sym same) (record {
       size = c.add_to.ensures.size ∙ ap length (c.deref_mut.ensures.value ∙ c.in_ok-weights.ensures) ∙ weights_size c.args.cells.now;
       each = λ p h. c.add_to.ensures.each p h
-          ∙ ap (λ (l : List ℕ). get_or l (index_in (bounds_of c.args.inflows.now.cutting c.args.tile) p) 0 + inflow_in c.args.inflows.now p) (c.deref_mut.ensures.value ∙ c.in_ok-weights.ensures);
+          ∙ ap (λ (l : List ℕ). get_or l (index_in (bounds_of c.args.inflows.now.cutting c.args.tile) p) 0 + listed_inflow c.args.inflows.now p) (c.deref_mut.ensures.value ∙ c.in_ok-weights.ensures);
     })

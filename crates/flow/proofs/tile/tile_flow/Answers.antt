@@ -1,7 +1,7 @@
 use Rattle.std.proofs.Common.{◌≡◌, ℕ, ◌^◌, ◌<◌, List, length, subst, sym, ap, refl, ◌∙◌, arith}
 use Rattle.flow.specs.Streams.{AreStreams, AreUpstream, total}
 use Rattle.flow.specs.TileFlow.{Flow, IsTileExits, directed_by}
-use Rattle.flow.specs.TileLinks.{weights_by, through_by, ends_by, flow_by}
+use Rattle.flow.specs.TileLinks.{weights_by, through_list, ends_by, flow_by}
 use Rattle.flow.proofs.Piece.{lists_seen, streams, few, fits, counts_are, exits_kept}
 use Rattle.flow.proofs.tile.tile_flow.Goals as goal
 
@@ -34,7 +34,7 @@ returns c =
     subst (λ (l : List ℕ). AreUpstream l (weights_by x.codes.items) c.in_ok-flow-inside.field-0.items) c.deref-2.ensures.value
     (subst (λ (w : List ℕ). AreUpstream c.deref-2.result.now w c.in_ok-flow-inside.field-0.items) (c.deref-3.ensures.value ∙ weighed) c.in_ok-flow-inside.ensures) in
     record {
-      exits = exits_kept (directed_by v) v.cutting v.tile _ (through_by x.codes.items came)
+      exits = exits_kept (directed_by v) v.cutting v.tile _ (through_list x.codes.items came)
           (subst (λ (z : Flow). IsTileExits (directed_by v) v.cutting v.tile z) (sym c.flow.view_is) c.in_ok-flow.ensures);
       counts = counts_are _ _ _ _ _ s came up (flow_by x.bounds x.codes.items came (ends_by x.links.items)) refl refl;
     }

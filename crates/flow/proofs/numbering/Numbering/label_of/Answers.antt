@@ -2,7 +2,7 @@ use Rattle.std.proofs.Common.{get_or, None, sym, ap, ◌∙◌}
 use Rattle.terrain.specs.declared.place.Place.{Place}
 use Rattle.tiles.specs.declared.bounds.Bounds.{Bounds}
 use Rattle.tiles.specs.Cutting.{place_in}
-use Rattle.flow.specs.RimGraph.{outlet_in}
+use Rattle.flow.specs.RimGraph.{listed_outlet}
 use Rattle.flow.specs.Numbering.{number_at}
 use Rattle.flow.proofs.Listed.{exit_placed, label_own, label_none, label_other}
 use Rattle.flow.proofs.numbering.Numbering.label_of.Goals as goal
@@ -27,6 +27,6 @@ pub returns : goal.returns
 returns g c =
     let m = c.args.self.now in
     c.number_of.ensures
-    ∙ ap (λ (p : Place). number_at m.outlets.cutting.cols (g.N.EndNumbering.numbers m.numbers) (outlet_in m.outlets m.flows.items p))
+    ∙ ap (λ (p : Place). number_at m.outlets.cutting.cols (g.N.EndNumbering.numbers m.numbers) (listed_outlet m.outlets m.flows.items p))
     (c.place_at.ensures.value ∙ ap (λ (b : Bounds). place_in b c.in-Some.exit) c.bounds.ensures.value)
     ∙ label_own m.outlets m.flows.items (g.N.EndNumbering.numbers m.numbers) c.args.flow.now.bounds c.args.index c.in-Some.exit (get_or c.args.flow.now.exits c.args.index None) c.in-Some.ensures.value c.if-exit-index.false c.requires.exit

@@ -2,7 +2,7 @@ use Rattle.std.proofs.Common.{arith, sym, ap, subst, ◌∙◌, ◌≡◌, ℕ, 
 use Rattle.std.proofs.lemmas.Bool.{both_ways}
 use Rattle.horizons.specs.declared.target.Target.{Target}
 use Rattle.sight.specs.Sweep.{lead_of}
-use Rattle.sight.specs.Hiding.{target_at, AreRays, Crosses, IsInRun, mark_at}
+use Rattle.sight.specs.Hiding.{target_at, AreRays, Crosses, IsInRun, mark_in_window}
 use Rattle.sight.proofs.Gathered.{cell_passed, cell_taken, line_passed, line_ended}
 use Rattle.sight.proofs.family.Family.gather_line.Goals as goal
 use Rattle.sight.proofs.family.Family.gather_line.Goals.{then-marks-row+in_ok-push, else-marks-row}
@@ -24,7 +24,7 @@ loop-cell-preserved c =
           let items : c.if-marks-row.rays.items ≡ old ++ target_at f n cell ∷ [] = ap (λ v. v.items) w.rays-is ∙ w.in_ok-push.ensures.items ∙ ap (λ t. old ++ t ∷ []) w.target_at.ensures in
           subst P (sym items) (cell_taken f window marks n cell old c.requires.family c.requires.window crosses (omega arith, omega arith) c.loop-cell.invariant)
       | else-marks-row w ↦
-          let unmarked : mark_at window (lead_of f n) cell marks ≡ false =
+          let unmarked : mark_in_window window (lead_of f n) cell marks ≡ false =
           ap (λ x. get_or marks ((x - window.lines.first) * window.lines.stride + (cell - window.side.first) * window.side.stride) false) (sym lead) ∙ w.if-marks-row.false in
           subst P (ap (λ v. v.items) (sym w.rays-is)) (cell_passed f window marks n cell old unmarked c.loop-cell.invariant)
     ]
