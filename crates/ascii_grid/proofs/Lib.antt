@@ -11,6 +11,7 @@ pub mod Stays
 pub mod Ending
 pub mod Spelled
 pub mod Feeding
+pub mod Moved
 pub mod Taking
 pub mod Pieces
 pub mod HeightLists
