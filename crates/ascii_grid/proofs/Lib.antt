@@ -4,6 +4,7 @@ mod Rows
 pub mod Parting
 pub mod Cells
 -- one more word: the header, the heights, the first fault
+pub mod Keys
 pub mod Judging
 pub mod JudgedWords
 pub mod Stays
