@@ -8,7 +8,7 @@ use Rattle.std.proofs.lemmas.Slice.Eq.{bytes_eq-Decides}
 use Rattle.terrain.specs.Raster.{is_height}
 use Rattle.terrain.specs.Words.{Word}
 use Rattle.terrain.specs.Decimal.{scaled_value}
-use Rattle.ascii_grid.specs.GridText.{same_value, is_nodata, is_cell, cell_of}
+use Rattle.ascii_grid.specs.GridText.{same_value, is_nodata, is_cell, spelled_cell}
 use Rattle.ascii_grid.specs.Meaning.{meaning_of}
 use Rattle.ascii_grid.specs.declared.cell.Meaning.TheVariants.{Cell, Nothing}
 
@@ -31,7 +31,7 @@ pub meaning_of_height : (d : ℕ) (nodata w : Word) (z : ℤ) → scaled_value d
 meaning_of_height d nodata w z e other high =
     let is : is_nodata d nodata w ≡ false = nodata_by_value d nodata w z e ∙ other in
     let cell : is_cell d nodata w ≡ true = rw (is, e) high in
-    let value : cell_of d nodata w ≡ Some z = rw (is, e) refl in
+    let value : spelled_cell d nodata w ≡ Some z = rw (is, e) refl in
     rw (cell, value) refl
 
 -- a meaning tells whether the word is a cell's

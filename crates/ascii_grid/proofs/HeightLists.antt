@@ -10,7 +10,7 @@ use Rattle.std.proofs.lemmas.List.Folds.{list_any_more}
 use Rattle.std.proofs.lemmas.List.Quantifiers.{position-Some}
 use Rattle.terrain.specs.Words.{Word, is_word, is_separator, words, ended_words}
 use Rattle.ascii_grid.specs.Header.{nodata_for, header_words, missing_fault}
-use Rattle.ascii_grid.specs.GridText.{is_cell, cell_of, cells_wanted, heights_fault}
+use Rattle.ascii_grid.specs.GridText.{is_cell, spelled_cell, cells_wanted, heights_fault}
 use Rattle.ascii_grid.specs.HeightList.{Form, IsHeightWord, AreCells, IsEndedWord}
 use Rattle.ascii_grid.specs.Reading.{flat, IsParted, HasWords, AreHeights}
 use Rattle.ascii_grid.specs.declared.judge.Judge.{Judge}
@@ -47,13 +47,13 @@ IsParted-ended bytes e = let at = parted bytes in only_ended bytes bytes [] at.0
 pub words-ended : (bytes : List ℕ) (ws : List Word) → IsParted bytes ws [] → words bytes ≡ ws
 words-ended bytes ws h = words-parted bytes ws [] h ∙ append-nil ws
 
-AreCells-parted : (form : Form) (bytes : List ℕ) (ws : List Word) (cells : List (Option ℤ)) → IsParted bytes ws [] → All (IsHeightWord form) ws → cells ≡ map (cell_of form.scale form.nodata) ws → AreCells form bytes cells
+AreCells-parted : (form : Form) (bytes : List ℕ) (ws : List Word) (cells : List (Option ℤ)) → IsParted bytes ws [] → All (IsHeightWord form) ws → cells ≡ map (spelled_cell form.scale form.nodata) ws → AreCells form bytes cells
 AreCells-parted form bytes ws cells h heights are =
     let all = words-ended bytes ws h in
     record {
       ended = h.ended ∙ sym all;
       heights = subst (All (IsHeightWord form)) (sym all) heights;
-      are = are ∙ ap (map (cell_of form.scale form.nodata)) (sym all);
+      are = are ∙ ap (map (spelled_cell form.scale form.nodata)) (sym all);
     }
 
 -- ---- more bytes
@@ -62,13 +62,13 @@ pub AreCells-separator : (form : Form) (bytes : List ℕ) (cells : List (Option 
 AreCells-separator form bytes cells b e h =
     AreCells-parted form (bytes ++ b ∷ []) (words bytes) cells (IsParted-separator bytes (words bytes) [] b (IsParted-ended bytes h.ended) e) h.heights h.are
 
-pub AreCells-word : (form : Form) (bytes rest : List ℕ) (cells : List (Option ℤ)) (len : ℕ) (cell : Option ℤ) → IsEndedWord rest len → is_cell form.scale form.nodata (take len rest) ≡ true → cell_of form.scale form.nodata (take len rest) ≡ cell → AreCells form bytes cells → AreCells form (bytes ++ take (len + 1) rest) (cells ++ cell ∷ [])
+pub AreCells-word : (form : Form) (bytes rest : List ℕ) (cells : List (Option ℤ)) (len : ℕ) (cell : Option ℤ) → IsEndedWord rest len → is_cell form.scale form.nodata (take len rest) ≡ true → spelled_cell form.scale form.nodata (take len rest) ≡ cell → AreCells form bytes cells → AreCells form (bytes ++ take (len + 1) rest) (cells ++ cell ∷ [])
 AreCells-word form bytes rest cells len cell word is value h =
     let w = take len rest in
     AreCells-parted form (bytes ++ take (len + 1) rest) (words bytes ++ w ∷ []) (cells ++ cell ∷ [])
     (parted_word bytes rest (words bytes) len (get_or rest len 0) (IsParted-ended bytes h.ended) word.whole word.some word.within refl word.ends)
     (All-push (IsHeightWord form) (words bytes) w h.heights (record { short = omega (arith, word.short, length-take len rest); cell = is }))
-    (ap (λ z. z ++ cell ∷ []) h.are ∙ ap (λ x. map (cell_of form.scale form.nodata) (words bytes) ++ x ∷ []) (sym value) ∙ sym (map_push (cell_of form.scale form.nodata) (words bytes) w))
+    (ap (λ z. z ++ cell ∷ []) h.are ∙ ap (λ x. map (spelled_cell form.scale form.nodata) (words bytes) ++ x ∷ []) (sym value) ∙ sym (map_push (spelled_cell form.scale form.nodata) (words bytes) w))
 
 -- ---- a word in front of the first separator
 
@@ -125,21 +125,21 @@ heights_none form d header place (w ∷ more) scale nodata whole room h =
     ap (λ o. option_or o (heights_fault d header (place + 1) more)) (height_fault-none d header place w first.short whole (omega (arith, room)) is)
     ∙ heights_none form d header (place + 1) more scale nodata whole (omega (arith, room)) (All-tail (IsHeightWord form) w more h)
 
-pub AreHeights-more : (j j' : Judge) (ps : Pairs) (hs more : List Word) (form : Form) (cells : List (Option ℤ)) → AreHeights j ps hs → form.scale ≡ j.scale → form.nodata ≡ j.nodata → All (IsHeightWord form) more → cells ≡ map (cell_of form.scale form.nodata) more → length j.cells.items + length cells ≤ j.wanted → j'.wanted ≡ j.wanted → j'.nodata ≡ j.nodata → j'.nodata_value ≡ j.nodata_value → j'.scale ≡ j.scale → j'.cells.items ≡ j.cells.items ++ cells → AreHeights j' ps (hs ++ more)
+pub AreHeights-more : (j j' : Judge) (ps : Pairs) (hs more : List Word) (form : Form) (cells : List (Option ℤ)) → AreHeights j ps hs → form.scale ≡ j.scale → form.nodata ≡ j.nodata → All (IsHeightWord form) more → cells ≡ map (spelled_cell form.scale form.nodata) more → length j.cells.items + length cells ≤ j.wanted → j'.wanted ≡ j.wanted → j'.nodata ≡ j.nodata → j'.nodata_value ≡ j.nodata_value → j'.scale ≡ j.scale → j'.cells.items ≡ j.cells.items ++ cells → AreHeights j' ps (hs ++ more)
 AreHeights-more j j' ps hs more form cells h same_scale same_nodata heights are room wanted nodata value scale all =
-    let size = ap length are ∙ length-map more (cell_of form.scale form.nodata) in
-    let known : cells ≡ map (cell_of j.scale j.nodata) more = subst (λ n. cells ≡ map (cell_of j.scale n) more) same_nodata (subst (λ x. cells ≡ map (cell_of x form.nodata) more) same_scale are) in
+    let size = ap length are ∙ length-map more (spelled_cell form.scale form.nodata) in
+    let known : cells ≡ map (spelled_cell j.scale j.nodata) more = subst (λ n. cells ≡ map (spelled_cell j.scale n) more) same_nodata (subst (λ x. cells ≡ map (spelled_cell x form.nodata) more) same_scale are) in
     record {
       whole = h.whole;
       wanted = wanted ∙ h.wanted;
       nodata = nodata ∙ h.nodata;
       value = value ∙ h.value ∙ rw (scale, nodata) refl;
       faultless = rw scale (heights_fault-append j.scale (flat ps) 0 hs more ∙ ap (λ o. option_or o (heights_fault j.scale (flat ps) (0 + length hs) more)) h.faultless ∙ heights_none form j.scale (flat ps) (0 + length hs) more same_scale (same_nodata ∙ h.nodata) h.whole (omega (arith, place_of j ps hs h, h.wanted, room, size)) heights);
-      cells = all ∙ rw (scale, nodata) (ap (λ z. z ++ cells) h.cells ∙ ap (λ z. map (cell_of j.scale j.nodata) hs ++ z) known ∙ sym (map-append (cell_of j.scale j.nodata) hs more));
+      cells = all ∙ rw (scale, nodata) (ap (λ z. z ++ cells) h.cells ∙ ap (λ z. map (spelled_cell j.scale j.nodata) hs ++ z) known ∙ sym (map-append (spelled_cell j.scale j.nodata) hs more));
     }
 
 -- the cells of more bytes, where no word is in progress
-pub HasWords-more : (p p' : Progress) (text piece : List ℕ) (form : Form) (cells : List (Option ℤ)) → HasWords p text → p.word ≡ [] → p.judge.stage ≡ AtHeights → AreCells form piece cells → p'.word ≡ p.word → p'.judge.header ≡ p.judge.header → p'.judge.stage ≡ p.judge.stage → ((ps : Pairs) (hs more : List Word) → AreHeights p.judge ps hs → All (IsHeightWord form) more → cells ≡ map (cell_of form.scale form.nodata) more → AreHeights p'.judge ps (hs ++ more)) → HasWords p' (text ++ piece)
+pub HasWords-more : (p p' : Progress) (text piece : List ℕ) (form : Form) (cells : List (Option ℤ)) → HasWords p text → p.word ≡ [] → p.judge.stage ≡ AtHeights → AreCells form piece cells → p'.word ≡ p.word → p'.judge.header ≡ p.judge.header → p'.judge.stage ≡ p.judge.stage → ((ps : Pairs) (hs more : List Word) → AreHeights p.judge ps hs → All (IsHeightWord form) more → cells ≡ map (spelled_cell form.scale form.nodata) more → AreHeights p'.judge ps (hs ++ more)) → HasWords p' (text ++ piece)
 HasWords-more p p' text piece form cells h none stage k word header same judged =
     let there = at_heights p.judge h.ended h.judged stage in
     let ps = h.judged.pairs in

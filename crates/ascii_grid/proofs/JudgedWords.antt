@@ -8,7 +8,7 @@ use Rattle.std.proofs.lemmas.Bool.{cases_Bool, lt-ltb, le-ltb}
 use Rattle.std.proofs.lemmas.List.{append-nil, append_assoc, length-append, map_push, length-map}
 use Rattle.terrain.specs.Words.{Word}
 use Rattle.ascii_grid.specs.Header.{fills, slot_of, is_long, is_value, bad_value, begins_with_letter, header_words, height_words, key_left, nodata_for, header_fault, key_fault, value_fault, missing_fault}
-use Rattle.ascii_grid.specs.GridText.{AsksForCells, is_cell, cell_of, cells_wanted, words_fault, heights_fault, height_fault, AsksAtHeight, IsTold}
+use Rattle.ascii_grid.specs.GridText.{AsksForCells, is_cell, spelled_cell, cells_wanted, words_fault, heights_fault, height_fault, AsksAtHeight, IsTold}
 use Rattle.ascii_grid.specs.Slots.{is_given, is_centre, with_value}
 use Rattle.ascii_grid.specs.Reading.{flat, slots_of, keys_before, IsHeaderOf, AwaitsValue, HasBegun, AreHeights, IsAt, HasJudged, IsWordFault}
 use Rattle.ascii_grid.specs.declared.fault.Key.{Key}
@@ -175,17 +175,17 @@ height_fault-none d header place w short whole room ok = rw (is_short w short, w
 
 -- how many heights there are
 pub place_of : (j : Judge) (ps : Pairs) (hs : List Word) → AreHeights j ps hs → length j.cells.items ≡ length hs
-place_of j ps hs h = ap length h.cells ∙ length-map hs (cell_of j.scale j.nodata)
+place_of j ps hs h = ap length h.cells ∙ length-map hs (spelled_cell j.scale j.nodata)
 
 -- one more height
-pub AreHeights-push : (j j' : Judge) (ps : Pairs) (hs : List Word) (w : Word) → AreHeights j ps hs → length w ≤ 64 → length j.cells.items < j.wanted → is_cell j.scale j.nodata w ≡ true → j'.wanted ≡ j.wanted → j'.nodata ≡ j.nodata → j'.nodata_value ≡ j.nodata_value → j'.scale ≡ j.scale → j'.cells.items ≡ j.cells.items ++ cell_of j.scale j.nodata w ∷ [] → AreHeights j' ps (hs ++ w ∷ [])
+pub AreHeights-push : (j j' : Judge) (ps : Pairs) (hs : List Word) (w : Word) → AreHeights j ps hs → length w ≤ 64 → length j.cells.items < j.wanted → is_cell j.scale j.nodata w ≡ true → j'.wanted ≡ j.wanted → j'.nodata ≡ j.nodata → j'.nodata_value ≡ j.nodata_value → j'.scale ≡ j.scale → j'.cells.items ≡ j.cells.items ++ spelled_cell j.scale j.nodata w ∷ [] → AreHeights j' ps (hs ++ w ∷ [])
 AreHeights-push j j' ps hs w h short room ok wanted nodata value scale cells = record {
   whole = h.whole;
   wanted = wanted ∙ h.wanted;
   nodata = nodata ∙ h.nodata;
   value = value ∙ h.value ∙ rw (scale, nodata) refl;
   faultless = rw scale (heights_fault-push j.scale (flat ps) 0 hs w ∙ ap (λ o. option_or o (height_fault j.scale (flat ps) (0 + length hs) w)) h.faultless ∙ height_fault-none j.scale (flat ps) (0 + length hs) w short h.whole (omega (arith, place_of j ps hs h, h.wanted, room)) (ap (λ n. is_cell j.scale n w) (sym h.nodata) ∙ ok));
-  cells = cells ∙ rw (scale, nodata) (ap (λ z. z ++ cell_of j.scale j.nodata w ∷ []) h.cells ∙ sym (map_push (cell_of j.scale j.nodata) hs w));
+  cells = cells ∙ rw (scale, nodata) (ap (λ z. z ++ spelled_cell j.scale j.nodata w ∷ []) h.cells ∙ sym (map_push (spelled_cell j.scale j.nodata) hs w));
 }
 
 -- words that were judged have no fault

@@ -1,20 +1,21 @@
 -- One more word of a text: what it does to the header, the heights and the first fault.
-use Rattle.std.proofs.Common.{◌≡◌, ℕ, ◌+◌, Bool, true, false, ◌||◌, cond, ◌==◌, List, [], ◌∷◌, ◌++◌, length, Option, None, Some, arith, refl, ap, sym, ◌∙◌}
+use Rattle.std.proofs.Common.{◌≡◌, ℕ, ◌+◌, Bool, true, false, ◌||◌, cond, List, [], ◌∷◌, ◌++◌, length, Option, None, Some, arith, refl, ap, sym, ◌∙◌}
 use Rattle.std.specs.Prelude.{find, is_some, unwrap_or, option_map}
-use Rattle.std.specs.Option.{option_or, option_map_or}
+use Rattle.std.specs.Option.{option_or}
 use Rattle.std.specs.List.{list_any, list_all}
-use Rattle.std.proofs.lemmas.Bool.{and_parts, eq-eqb}
+use Rattle.std.proofs.lemmas.Bool.{and_parts}
 use Rattle.std.proofs.lemmas.List.{append-nil}
 use Rattle.std.proofs.lemmas.List.Folds.{find-append, list_all-append}
 use Rattle.terrain.proofs.Options.{none_from_is_some}
 use Rattle.terrain.specs.Words.{Word}
 use Rattle.terrain.specs.Decimal.{number_of}
-use Rattle.ascii_grid.specs.Header.{fills, slot_of, slot_number, begins_with_letter, header_words, height_words, pairs, key_left, header_fault, key_fault, value_fault, missing_fault}
+use Rattle.ascii_grid.specs.Header.{fills, slot_of, begins_with_letter, header_words, height_words, pairs, key_left, header_fault, key_fault, value_fault, missing_fault}
 use Rattle.ascii_grid.specs.GridText.{cells_wanted, words_fault, heights_fault, height_fault}
 use Rattle.ascii_grid.specs.Slots.{is_given, is_centre, with_value, missing_of, wanted_of}
 use Rattle.ascii_grid.specs.Reading.{flat, given, slots_of, keys_before, HasBegun}
 use Rattle.ascii_grid.specs.declared.fault.Key.{Key}
 use Rattle.ascii_grid.specs.declared.fault.Key.TheVariants.{Ncols, Nrows, Xll, Yll, Cellsize, Nodata}
+use Rattle.ascii_grid.proofs.Keys.{fills_slot, fills_none_else}
 
 abbrev pub Pairs : Type 0
 Pairs = List (Word × Word)
@@ -109,31 +110,28 @@ number-of_pair (Some p) = refl
 pub wanted_of-slots_of : (ps : Pairs) → wanted_of (slots_of ps) ≡ cells_wanted (flat ps)
 wanted_of-slots_of ps = rw (pairs-flat ps, number-of_pair (given Ncols ps), number-of_pair (given Nrows ps)) refl
 
--- a pair for another slot, or the first for this one
-given-push : (s slot : Key) (ps : Pairs) (k v : Word) → slot_of k ≡ Some slot → given s (ps ++ (k, v) ∷ []) ≡ option_or (given s ps) (cond (slot_number slot == slot_number s) (Some (k, v)) None)
-given-push s slot ps k v h =
-    find-append (λ (p : Word × Word). fills s p.0) ps ((k, v) ∷ [])
-    ∙ ap (λ (o : Option Key). option_or (given s ps) (cond (option_map_or (λ t. slot_number t == slot_number s) o false) (Some (k, v)) None)) h
+given-push : (s : Key) (ps : Pairs) (k v : Word) → given s (ps ++ (k, v) ∷ []) ≡ option_or (given s ps) (cond (fills s k) (Some (k, v)) None)
+given-push s ps k v = find-append (λ (p : Word × Word). fills s p.0) ps ((k, v) ∷ [])
 
 -- the slots of pairs that are the same but for this slot
 abbrev FilledAt : Key → Word × Word → Pairs → Pairs → Type 0
-FilledAt slot p ps qs = (given slot qs ≡ Some p) × ((s : Key) → (slot_number slot == slot_number s) ≡ false → given s qs ≡ given s ps)
+FilledAt slot p ps qs = (given slot qs ≡ Some p) × ((s : Key) → (s ≡ slot → ⊥) → given s qs ≡ given s ps)
 
 with_value-at : (slot : Key) (p : Word × Word) (ps qs : Pairs) → FilledAt slot p ps qs → with_value (slots_of ps) slot (is_centre p.0) p.1 ≡ slots_of qs
-with_value-at Ncols p ps qs h = rw (h.0, h.1 Nrows refl, h.1 Xll refl, h.1 Yll refl, h.1 Cellsize refl, h.1 Nodata refl) refl
-with_value-at Nrows p ps qs h = rw (h.0, h.1 Ncols refl, h.1 Xll refl, h.1 Yll refl, h.1 Cellsize refl, h.1 Nodata refl) refl
-with_value-at Xll p ps qs h = rw (h.0, h.1 Ncols refl, h.1 Nrows refl, h.1 Yll refl, h.1 Cellsize refl, h.1 Nodata refl) refl
-with_value-at Yll p ps qs h = rw (h.0, h.1 Ncols refl, h.1 Nrows refl, h.1 Xll refl, h.1 Cellsize refl, h.1 Nodata refl) refl
-with_value-at Cellsize p ps qs h = rw (h.0, h.1 Ncols refl, h.1 Nrows refl, h.1 Xll refl, h.1 Yll refl, h.1 Nodata refl) refl
-with_value-at Nodata p ps qs h = rw (h.0, h.1 Ncols refl, h.1 Nrows refl, h.1 Xll refl, h.1 Yll refl, h.1 Cellsize refl) refl
+with_value-at Ncols p ps qs h = rw (h.0, h.1 Nrows (λ e. cc), h.1 Xll (λ e. cc), h.1 Yll (λ e. cc), h.1 Cellsize (λ e. cc), h.1 Nodata (λ e. cc)) refl
+with_value-at Nrows p ps qs h = rw (h.0, h.1 Ncols (λ e. cc), h.1 Xll (λ e. cc), h.1 Yll (λ e. cc), h.1 Cellsize (λ e. cc), h.1 Nodata (λ e. cc)) refl
+with_value-at Xll p ps qs h = rw (h.0, h.1 Ncols (λ e. cc), h.1 Nrows (λ e. cc), h.1 Yll (λ e. cc), h.1 Cellsize (λ e. cc), h.1 Nodata (λ e. cc)) refl
+with_value-at Yll p ps qs h = rw (h.0, h.1 Ncols (λ e. cc), h.1 Nrows (λ e. cc), h.1 Xll (λ e. cc), h.1 Cellsize (λ e. cc), h.1 Nodata (λ e. cc)) refl
+with_value-at Cellsize p ps qs h = rw (h.0, h.1 Ncols (λ e. cc), h.1 Nrows (λ e. cc), h.1 Xll (λ e. cc), h.1 Yll (λ e. cc), h.1 Nodata (λ e. cc)) refl
+with_value-at Nodata p ps qs h = rw (h.0, h.1 Ncols (λ e. cc), h.1 Nrows (λ e. cc), h.1 Xll (λ e. cc), h.1 Yll (λ e. cc), h.1 Cellsize (λ e. cc)) refl
 
 -- one more pair fills its slot
 pub with_value-slots_of : (slot : Key) (ps : Pairs) (k v : Word) → slot_of k ≡ Some slot → is_given (slots_of ps) slot ≡ false → with_value (slots_of ps) slot (is_centre k) v ≡ slots_of (ps ++ (k, v) ∷ [])
 with_value-slots_of slot ps k v h free =
     let none = none_from_is_some (given slot ps) (sym (is_given-slots_of slot ps) ∙ free) in
     with_value-at slot (k, v) ps (ps ++ (k, v) ∷ []) (
-      given-push slot slot ps k v h ∙ rw (none, eq-eqb (slot_number slot) (slot_number slot) refl) refl,
-      λ s other. given-push s slot ps k v h ∙ rw other (option_or-none (given s ps)),
+      given-push slot ps k v ∙ rw (none, fills_slot k slot h) refl,
+      λ s other. given-push s ps k v ∙ rw (fills_none_else k slot s h other) (option_or-none (given s ps)),
     )
 
 -- ---- the first fault of the words after pairs

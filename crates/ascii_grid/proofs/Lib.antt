@@ -4,6 +4,7 @@ mod Rows
 pub mod Parting
 pub mod Cells
 -- one more word: the header, the heights, the first fault
+pub mod Keys
 pub mod Judging
 pub mod JudgedWords
 pub mod Stays
@@ -11,6 +12,7 @@ pub mod Stays
 pub mod Ending
 pub mod Spelled
 pub mod Feeding
+pub mod Moved
 pub mod Taking
 pub mod Pieces
 pub mod HeightLists

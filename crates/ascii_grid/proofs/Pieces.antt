@@ -2,16 +2,18 @@
 use Rattle.std.proofs.Common.{arith, ◌≡◌, ◌≢◌, ◌≤◌, ◌-◌, ◌+◌, ◌++◌, ℕ, List, Option, None, Some, Ok, Err, Result, refl, sym, subst, ◌∙◌}
 use Rattle.std.specs.Prelude.{IfOk}
 use Rattle.std.proofs.lemmas.List.{length-append}
+use Rattle.std.proofs.lemmas.Result.{IfOk-weaker}
 use Rattle.terrain.specs.Raster.{Raster}
 use Rattle.ascii_grid.specs.Device.{Device}
 use Rattle.ascii_grid.specs.GridText.{IsGridText, IsRefusal, fault_so_far}
-use Rattle.ascii_grid.specs.Input.{ReadsGrid, ReadsPiece}
+use Rattle.ascii_grid.specs.Input.{ReadsGrid, ReadsPiece, Takes}
 use Rattle.ascii_grid.specs.Reader.{Reader, HasTaken, Feeds}
 use Rattle.ascii_grid.specs.declared.fault.GridFault.{GridFault}
 use Rattle.ascii_grid.specs.declared.input.InputFault.{InputFault}
 use Rattle.ascii_grid.specs.declared.input.InputFault.TheVariants.{Grid, Read}
 use Rattle.ascii_grid.proofs.Feeding.{stays}
-use Rattle.ascii_grid.proofs.Taking.{IsTaking, Consumes-more, not_too_long, consumed_front, consumed_end}
+use Rattle.ascii_grid.proofs.Moved.{read_more}
+use Rattle.ascii_grid.proofs.Taking.{IsTaking, not_too_long, consumed_front, consumed_end}
 
 same_grid_fault : (f g : GridFault) → ◌≡◌ {A = Result Raster InputFault} (Err (Grid f)) (Err (Grid g)) → f ≡ g
 same_grid_fault f g e = cc
@@ -37,7 +39,7 @@ piece_taken remaining first old new scale taken room n r r' held step =
       size = omega (arith, sizes, held.size, step.answered.2);
       room = omega (arith, sizes, held.size, step.answered.2, short);
       count = step.answered.1 ∙ held.count;
-      bytes = Consumes-more _ _ _ _ _ held.bytes step.consumes;
+      read = read_more _ _ _ _ _ _ held.read step.read;
     }
 
 -- and the reader has answered no fault
@@ -45,56 +47,61 @@ pub piece_sound : {R : Type 0} (remaining : R → Option (List ℕ)) (old new : 
 piece_sound remaining old new room n r r' step =
     (subst (λ (z : Result (Unit {0}) GridFault). Feeds r r' step.bytes z) step.answered.0 step.feeds).fault
 
+-- what was taken, with the last piece
+abbrev takes : {R : Type 0} (remaining : R → Option (List ℕ)) (first old new : Device R) (scale taken room : ℕ) (r r' : Reader) (result : Result (Option ℕ) InputFault) → IsTaking remaining first old scale r taken → ReadsPiece remaining old new r r' room result → room ≤ 536870913 - taken → Takes remaining first new
+takes remaining first old new scale taken room r r' result held step fits = record {
+  bytes = held.text ++ step.bytes;
+  read = read_more remaining first old new held.text step.bytes held.read step.read;
+  few = omega (arith, length-append held.text step.bytes, held.size, held.room, step.within, fits);
+}
+
 -- the end of the text, and what the reader makes of it
 pub pieces_ended : {R : Type 0} (remaining : R → Option (List ℕ)) (first old new : Device R) (scale taken room : ℕ) (r r' : Reader) (result : Result Raster InputFault) → IsTaking remaining first old scale r taken → ReadsPiece remaining old new r r' room (Ok None) → room ≤ 536870913 - taken → ((text : List ℕ) → HasTaken r' text → IfOk result (λ g. IsGridText r'.scale text g)) → ((text : List ℕ) (f : GridFault) → HasTaken r' text → result ≡ Err (Grid f) → IsRefusal r'.scale text f) → result ≢ Err Read → ReadsGrid remaining scale first new result
 pieces_ended remaining first old new scale taken room r r' result held step fits grid fault sound =
     let feeds = subst (λ (z : Result (Unit {0}) GridFault). Feeds r r' step.bytes z) step.answered.0 step.feeds in
-    let front : List ℕ = held.text ++ step.bytes in
-    let bytes = Consumes-more _ _ _ _ _ held.bytes step.consumes in
+    let took = takes remaining first old new scale taken room r r' (Ok None) held step fits in
     let scale_kept : r'.scale ≡ scale = feeds.scale ∙ held.scale_kept in
-    let all = λ (text : List ℕ) (told : remaining first.device ≡ Some text).
-    subst (λ (z : List ℕ). HasTaken r' z) (consumed_end _ _ text front told bytes step.answered.2) (feeds.taken held.text held.fed) in
+    let all : HasTaken r' took.bytes = feeds.taken held.text held.fed in
+    let made : IfOk result (λ g. IsGridText scale took.bytes g) = rw scale_kept at (grid took.bytes all) in
     record {
-      grid = λ text told. rw scale_kept at (grid text (all text told));
-      fault = λ text f told is. rw scale_kept at (fault text f (all text told) is);
+      taken = took;
+      grid = IfOk-weaker result (λ g. IsGridText scale took.bytes g) _ (λ g is. (is, step.answered.2)) made;
+      fault = λ text f told is.
+          let whole = subst (λ (z : List ℕ). HasTaken r' z) (consumed_end _ _ text took.bytes told took.read.known step.answered.2) all in
+          rw scale_kept at (fault text f whole is);
       read = λ bad. absurd (sound bad);
       sound = λ not. step.answered.1 ∙ held.count;
-      taken = (front, bytes, omega (arith, length-append held.text step.bytes, held.size, held.room, step.within, fits), λ bad. absurd (sound bad));
+      clean = λ bad. absurd (sound bad);
     }
 
 -- a fault of a word that ended
 pub piece_refused : {R : Type 0} (remaining : R → Option (List ℕ)) (first old new : Device R) (scale taken room : ℕ) (r r' : Reader) (f : GridFault) → IsTaking remaining first old scale r taken → ReadsPiece remaining old new r r' room (Err (Grid f)) → room ≤ 536870913 - taken → ReadsGrid remaining scale first new (Err (Grid f))
 piece_refused remaining first old new scale taken room r r' f held step fits =
     let feeds = subst (λ (z : Result (Unit {0}) GridFault). Feeds r r' step.bytes z) step.answered.0 step.feeds in
-    let front : List ℕ = held.text ++ step.bytes in
-    let bytes = Consumes-more _ _ _ _ _ held.bytes step.consumes in
+    let took = takes remaining first old new scale taken room r r' (Err (Grid f)) held step fits in
     record {
-      grid = λ text told. tt;
+      taken = took;
+      grid = tt;
       fault = λ text g told is.
-          let more = consumed_front _ _ text front told bytes in
-          let whole = subst (λ (z : List ℕ). IsRefusal r.scale z f) (sym more.1) (stays _ front more.0 f (feeds.err held.text held.fed)) in
+          let more = consumed_front _ _ text took.bytes told took.read.known in
+          let whole = subst (λ (z : List ℕ). IsRefusal r.scale z f) (sym more.1) (stays _ took.bytes more.0 f (feeds.err held.text held.fed)) in
           rw (held.scale_kept, same_grid_fault _ _ is) at whole;
       read = λ bad. absurd (cc);
       sound = λ not. step.answered.1 ∙ held.count;
-      taken = (front, bytes, omega (arith, length-append held.text step.bytes, held.size, held.room, step.within, fits), λ bad. absurd (cc));
+      clean = λ bad. absurd (cc);
     }
 
 -- a failed read
 pub piece_failed : {R : Type 0} (remaining : R → Option (List ℕ)) (first old new : Device R) (scale taken room : ℕ) (r r' : Reader) → IsTaking remaining first old scale r taken → ReadsPiece remaining old new r r' room (Err Read) → room ≤ 536870913 - taken → ReadsGrid remaining scale first new (Err Read)
 piece_failed remaining first old new scale taken room r r' held step fits =
     let feeds = subst (λ (z : Result (Unit {0}) GridFault). Feeds r r' step.bytes z) step.answered.0 step.feeds in
-    let front : List ℕ = held.text ++ step.bytes in
     record {
-      grid = λ text told. tt;
+      taken = takes remaining first old new scale taken room r r' (Err Read) held step fits;
+      grid = tt;
       fault = λ text g told is. absurd (cc);
       read = λ bad. omega (arith, step.answered.1, held.count);
       sound = λ not. absurd (not refl);
-      taken = (
-        front,
-        Consumes-more _ _ _ _ _ held.bytes step.consumes,
-        omega (arith, length-append held.text step.bytes, held.size, held.room, step.within, fits),
-        λ bad. still_faultless remaining first old scale taken r r' step.bytes held feeds,
-      );
+      clean = λ bad. still_faultless remaining first old scale taken r r' step.bytes held feeds;
     }
 
 pub piece_stopped : {R : Type 0} (remaining : R → Option (List ℕ)) (first old new : Device R) (scale taken room : ℕ) (r r' : Reader) (e : InputFault) → IsTaking remaining first old scale r taken → ReadsPiece remaining old new r r' room (Err e) → room ≤ 536870913 - taken → ReadsGrid remaining scale first new (Err e)

@@ -18,7 +18,7 @@ use Rattle.std.proofs.lemmas.List.Elements.{All-head}
 use Rattle.std.proofs.Math.Nat.{mul_comm, le_of_eq}
 use Rattle.std.proofs.lemmas.Fmt.{length-decimal-le}
 use Rattle.terrain.specs.Sinks.{raster_with_sinks}
-use Rattle.ascii_grid.specs.GridText.{IsGridText, most_bytes, words_fault, end_fault, heights_fault, cells_wanted, grid_of, cell_of}
+use Rattle.ascii_grid.specs.GridText.{IsGridText, most_bytes, words_fault, end_fault, heights_fault, cells_wanted, grid_of, spelled_cell}
 use Rattle.ascii_grid.specs.Text.{line_text, anchor_text, header_text, rows_text, cell_text, height_text, heights_text}
 use Rattle.ascii_grid.proofs.ReadBackDecimals.{decimal_clean, digits_clean}
 use Rattle.ascii_grid.proofs.Decimals.{decimal_value, decimal_are_digits, decimal_word, decimal_digits}
@@ -173,7 +173,7 @@ no_words_fault d ws header heights p q none clean = rw (p, q, none) clean
 no_end_fault : (ws header heights : List Word) → header_words ws ≡ header → height_words ws ≡ heights → no_value_fault header ≡ None → missing_fault header ≡ None → ltb (length heights) (cells_wanted header) ≡ false → end_fault ws ≡ None
 no_end_fault ws header heights p q paired whole enough = rw (p, q, paired, whole, enough) refl
 
-same_grid : (d : ℕ) (ws header heights : List Word) (g : Raster) → header_words ws ≡ header → height_words ws ≡ heights → size_for Ncols header ≡ g.terrain.cols → size_for Nrows header ≡ g.terrain.rows → map (cell_of d (nodata_for header)) heights ≡ g.terrain.cells → anchor_for Xll header ≡ g.xll → anchor_for Yll header ≡ g.yll → word_for Cellsize header ≡ g.cellsize → nodata_for header ≡ g.nodata → d ≡ g.scale → grid_of d ws ≡ raster_with_sinks g []
+same_grid : (d : ℕ) (ws header heights : List Word) (g : Raster) → header_words ws ≡ header → height_words ws ≡ heights → size_for Ncols header ≡ g.terrain.cols → size_for Nrows header ≡ g.terrain.rows → map (spelled_cell d (nodata_for header)) heights ≡ g.terrain.cells → anchor_for Xll header ≡ g.xll → anchor_for Yll header ≡ g.yll → word_for Cellsize header ≡ g.cellsize → nodata_for header ≡ g.nodata → d ≡ g.scale → grid_of d ws ≡ raster_with_sinks g []
 same_grid d ws header heights g p q cols rows cells xll yll cellsize nodata scale = rw (p, q, cols, rows, cells, xll, yll, cellsize, nodata, scale) refl
 
 -- a text of a lawful grid is that grid
@@ -190,7 +190,7 @@ read_back g h short =
     let wanted : length g.terrain.cells ≡ cells_wanted (header_of g []) = h.terrain.size ∙ sym (ap (λ n. n * size_for Nrows (header_of g [])) cols ∙ ap (λ n. g.terrain.cols * n) rows) in
     let enough = le-ltb (length cells) (cells_wanted (header_of g [])) (le_of_eq (sym wanted ∙ sym (length-map g.terrain.cells (cell_text (height_text g.scale) g.nodata)))) in
     let clean = no_heights_fault g.scale (header_of g []) g.nodata 0 g.terrain.cells gives.whole gives.nodata (zero-add (length g.terrain.cells) ∙ wanted) reads in
-    let again = ap (λ w. map (cell_of g.scale w) cells) gives.nodata ∙ cells_again g.scale g.nodata g.terrain.cells reads in
+    let again = ap (λ w. map (spelled_cell g.scale w) cells) gives.nodata ∙ cells_again g.scale g.nodata g.terrain.cells reads in
     record {
       faultless =
           few_fault g.scale (heights_text g) short

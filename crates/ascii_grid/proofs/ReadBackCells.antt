@@ -13,7 +13,7 @@ use Rattle.terrain.specs.Words.{Word}
 use Rattle.terrain.specs.Decimal.{scaled_value, without_sign, is_negative, is_point, is_exponent_mark, has_exponent, is_decimal, has_scaled_value}
 use Rattle.terrain.specs.Raster.{lowest, highest, IsHeight, is_height, IsHeaderWord}
 use Rattle.ascii_grid.specs.Header.{begins_with_letter, is_long, nodata_for, missing_fault}
-use Rattle.ascii_grid.specs.GridText.{same_value, is_nodata, cell_of, is_cell, cells_wanted, heights_fault}
+use Rattle.ascii_grid.specs.GridText.{same_value, is_nodata, spelled_cell, is_cell, cells_wanted, heights_fault}
 use Rattle.ascii_grid.specs.Text.{height_text, cell_text, last_digits, decimals_text}
 use Rattle.ascii_grid.proofs.Cells.{nodata_by_value}
 use Rattle.ascii_grid.proofs.JudgedWords.{is_short, height_fault-none}
@@ -126,7 +126,7 @@ pub record ReadsAs (d : ℕ) (nodata : Word) (c : Option ℤ) (w : Word) : Type 
   pub begins : begins_with_letter w ≡ false
   pub short : is_long w ≡ false
   pub is : is_cell d nodata w ≡ true
-  pub value : cell_of d nodata w ≡ c
+  pub value : spelled_cell d nodata w ≡ c
 
 pub size_of_height : (z : ℤ) → IsHeight z → unsigned_abs z ≤ 10 ^ 15
 size_of_height (pos n) h = grind (arith, h.1)
@@ -174,10 +174,10 @@ no_heights_fault d header nodata place (c ∷ cells) whole same size reads =
     ap (λ o. option_or o (heights_fault d header (place + 1) (map (cell_text (height_text d) nodata) cells))) none
     ∙ no_heights_fault d header nodata (place + 1) cells whole same (omega (arith, size)) rest
 
-pub cells_again : (d : ℕ) (nodata : Word) (cells : List (Option ℤ)) → All (λ c. ReadsAs d nodata c (cell_text (height_text d) nodata c)) cells → map (cell_of d nodata) (map (cell_text (height_text d) nodata) cells) ≡ cells
+pub cells_again : (d : ℕ) (nodata : Word) (cells : List (Option ℤ)) → All (λ c. ReadsAs d nodata c (cell_text (height_text d) nodata c)) cells → map (spelled_cell d nodata) (map (cell_text (height_text d) nodata) cells) ≡ cells
 cells_again d nodata [] reads = refl
 cells_again d nodata (c ∷ cells) reads =
     let here = All-head (λ c. ReadsAs d nodata c (cell_text (height_text d) nodata c)) c cells reads in
     let rest = All-tail (λ c. ReadsAs d nodata c (cell_text (height_text d) nodata c)) c cells reads in
-    ap (λ (x : Option ℤ). x ∷ map (cell_of d nodata) (map (cell_text (height_text d) nodata) cells)) here.value
+    ap (λ (x : Option ℤ). x ∷ map (spelled_cell d nodata) (map (cell_text (height_text d) nodata) cells)) here.value
     ∙ ap (λ (xs : List (Option ℤ)). c ∷ xs) (cells_again d nodata cells rest)

@@ -1,11 +1,11 @@
 -- What the end of a text tells, and that the grid which its words spell is lawful.
-use Rattle.std.proofs.Common.{◌≡◌, ◌≢◌, ℕ, ◌+◌, ◌<◌, ◌≤◌, Bool, true, false, not, cond, nat_lt, nat_le, ◌==◌, List, [], ◌∷◌, ◌++◌, length, map, Option, None, Some, ℤ, arith, lit≤, refl, ap, sym, ◌∙◌, subst, inl, inr}
+use Rattle.std.proofs.Common.{◌≡◌, ◌≢◌, ℕ, ◌+◌, ◌<◌, ◌≤◌, Bool, true, false, not, cond, nat_lt, nat_le, List, [], ◌∷◌, ◌++◌, length, map, Option, None, Some, ℤ, arith, lit≤, refl, ap, sym, ◌∙◌, subst, inl, inr}
 use Rattle.std.specs.Prelude.{is_some, All, IfSome, unwrap_or, option_map, int_le, codes}
 use Rattle.std.specs.Option.{option_map_or}
 use Rattle.std.specs.Str.{bytes_eq}
 use Rattle.std.specs.Ordering.{int_eq}
 use Rattle.std.proofs.lemmas.Bool.Decides.{Decides-int_eq}
-use Rattle.std.proofs.lemmas.Bool.{cases_Bool, cond-false, and_parts, or_parts, lt-ltb, le-ltb, ltb-true, ltb-false, leb-true, eqb-true}
+use Rattle.std.proofs.lemmas.Bool.{cases_Bool, cond-false, and_parts, or_parts, lt-ltb, le-ltb, ltb-true, ltb-false, leb-true}
 use Rattle.std.proofs.lemmas.Int.{ints}
 use Rattle.std.proofs.lemmas.List.{length-map}
 use Rattle.std.proofs.lemmas.List.Elements.{All-cons}
@@ -13,8 +13,8 @@ use Rattle.std.proofs.Math.Nat.{one-le-mul}
 use Rattle.terrain.specs.Words.{Word}
 use Rattle.terrain.specs.Decimal.{number_of, scaled_value, is_decimal, is_above_zero, is_size}
 use Rattle.terrain.specs.Raster.{lowest, highest, IsHeight, is_height, IsHeaderWord, IsLawful}
-use Rattle.ascii_grid.specs.Header.{fills, slot_of, slot_number, header_words, height_words, pairs, key_left, pair_for, value_for, word_for, nodata_for, is_long, is_value, bad_value, key_fault, value_fault, header_fault, missing_fault, no_value_fault}
-use Rattle.ascii_grid.specs.GridText.{AsksForCells, same_value, is_nodata, is_cell, cell_of, cells_wanted, height_fault, heights_fault, words_fault, end_fault, grid_of}
+use Rattle.ascii_grid.specs.Header.{fills, header_words, height_words, pairs, key_left, pair_for, value_for, word_for, nodata_for, is_long, is_value, bad_value, key_fault, value_fault, header_fault, missing_fault, no_value_fault}
+use Rattle.ascii_grid.specs.GridText.{AsksForCells, same_value, is_nodata, is_cell, spelled_cell, cells_wanted, height_fault, heights_fault, words_fault, end_fault, grid_of}
 use Rattle.ascii_grid.specs.Slots.{anchor_at, is_given, is_centre, IsWhole, raster_of}
 use Rattle.ascii_grid.specs.Reading.{flat, given, slots_of, AreHeights, HasJudged, IsEndFault}
 use Rattle.ascii_grid.specs.declared.fault.Key.{Key}
@@ -24,23 +24,11 @@ use Rattle.ascii_grid.specs.declared.fault.GridFault.TheVariants.{MissingKey, Ba
 use Rattle.terrain.specs.declared.grid.Anchor.{Anchor}
 use Rattle.ascii_grid.specs.declared.judge.Judge.{Judge}
 use Rattle.ascii_grid.specs.declared.judge.Stage.TheVariants.{AtKey, AtValue, AtHeights}
+use Rattle.ascii_grid.proofs.Keys.{slot_filled}
 use Rattle.ascii_grid.proofs.Judging.{Pairs, or_none, then_none, else_none, pairs-flat, words-flat, words-whole, key_left-flat, is_given-slots_of, missing_of-slots_of, number-of_pair}
 use Rattle.ascii_grid.proofs.JudgedWords.{at_key, at_value, at_heights, place_of, words-after, paired, judged_none, is_memory, told, told_missing}
 
 -- ---- a header whose words have no fault
-
-slot_at : ℕ → Key
-slot_at n = cond (n == 0) Ncols (cond (n == 1) Nrows (cond (n == 2) Xll (cond (n == 3) Yll (cond (n == 4) Cellsize Nodata))))
-
-slot_at-number : (slot : Key) → slot_at (slot_number slot) ≡ slot
-unfolding slot_at
-slot_at-number Ncols = refl
-slot_at-number slot = refl
-
-fills-slot : (o : Option Key) (slot : Key) → option_map_or (λ s. slot_number s == slot_number slot) o false ≡ true → o ≡ Some slot
-fills-slot None slot h = cc
-fills-slot (Some s) slot h =
-    ap Some (sym (slot_at-number s) ∙ ap slot_at (eqb-true (slot_number s) (slot_number slot) h) ∙ slot_at-number slot)
 
 abbrev IsShortValue : Key → Word → Type 0
 IsShortValue slot w = (is_value slot w ≡ true) × (length w ≤ 64)
@@ -48,7 +36,7 @@ IsShortValue slot w = (is_value slot w ≡ true) × (length w ≤ 64)
 value_ok : (k v : Word) (slot : Key) → fills slot k ≡ true → value_fault k v ≡ None → IsShortValue slot v
 value_ok k v slot h e =
     let short = then_none (is_long v) TooLong _ e in
-    let ok = else_none (is_value slot v) None (bad_value slot) (rw (fills-slot (slot_of k) slot h) at short.1) in
+    let ok = else_none (is_value slot v) None (bad_value slot) (rw (slot_filled k slot h) at short.1) in
     (ok.0, ltb-false 64 (length v) short.0)
 
 -- the value given for a slot is one
@@ -102,20 +90,20 @@ height_from z h =
     let parts = and_parts (int_le lowest z) (int_le z highest) h in
     (grind (arith, ints, parts.0), grind (arith, ints, parts.1))
 
-some_ok : (d : ℕ) (nodata w : Word) (o : Option ℤ) → scaled_value d w ≡ o → is_nodata d nodata w ≡ false → is_cell d nodata w ≡ true → IfSome (cell_of d nodata w) IsHeight × IfSome (cell_of d nodata w) (λ h. scaled_value d nodata ≢ Some h)
+some_ok : (d : ℕ) (nodata w : Word) (o : Option ℤ) → scaled_value d w ≡ o → is_nodata d nodata w ≡ false → is_cell d nodata w ≡ true → IfSome (spelled_cell d nodata w) IsHeight × IfSome (spelled_cell d nodata w) (λ h. scaled_value d nodata ≢ Some h)
 some_ok d nodata w None e n h = let clash : is_cell d nodata w ≡ false = rw (n, e) refl in absurd (cc)
 some_ok d nodata w (Some z) e n h =
     let high : is_cell d nodata w ≡ is_height z = rw (n, e) refl in
     let apart = (or_parts (bytes_eq w nodata) (same_value (scaled_value d w) (scaled_value d nodata)) n).1 in
     let own : int_eq z z ≡ true = (Decides-int_eq z z).1 refl in
-    let cell : cell_of d nodata w ≡ Some z = rw (n, e) refl in
+    let cell : spelled_cell d nodata w ≡ Some z = rw (n, e) refl in
     rw cell (height_from z (sym high ∙ h), λ k. let same : same_value (scaled_value d w) (scaled_value d nodata) ≡ int_eq z z = rw (e, k) refl in cc)
 
 -- a word that stands for a cell has a height, apart from NODATA's value, or none
-cell_ok : (d : ℕ) (nodata w : Word) → is_cell d nodata w ≡ true → IfSome (cell_of d nodata w) IsHeight × IfSome (cell_of d nodata w) (λ h. scaled_value d nodata ≢ Some h)
+cell_ok : (d : ℕ) (nodata w : Word) → is_cell d nodata w ≡ true → IfSome (spelled_cell d nodata w) IsHeight × IfSome (spelled_cell d nodata w) (λ h. scaled_value d nodata ≢ Some h)
 cell_ok d nodata w h =
     elim (cases_Bool (is_nodata d nodata w)) [
-      | inl none ↦ let cell : cell_of d nodata w ≡ None = rw none refl in rw cell (tt, tt)
+      | inl none ↦ let cell : spelled_cell d nodata w ≡ None = rw none refl in rw cell (tt, tt)
       | inr some ↦ some_ok d nodata w (scaled_value d w) refl some h
     ]
 
@@ -128,7 +116,7 @@ height_ok d header place w h =
     let ok = else_none (is_cell d (nodata_for header) w) None (BadHeight place) room.1 in
     (ltb-true place (cells_wanted header) room.0, ok.0)
 
-cells_ok : (d : ℕ) (header : List Word) (place : ℕ) (hs : List Word) → place ≤ cells_wanted header → heights_fault d header place hs ≡ None → (place + length hs ≤ cells_wanted header) × (All (λ c. IfSome c IsHeight) (map (cell_of d (nodata_for header)) hs) × All (λ c. IfSome c (λ h. scaled_value d (nodata_for header) ≢ Some h)) (map (cell_of d (nodata_for header)) hs))
+cells_ok : (d : ℕ) (header : List Word) (place : ℕ) (hs : List Word) → place ≤ cells_wanted header → heights_fault d header place hs ≡ None → (place + length hs ≤ cells_wanted header) × (All (λ c. IfSome c IsHeight) (map (spelled_cell d (nodata_for header)) hs) × All (λ c. IfSome c (λ h. scaled_value d (nodata_for header) ≢ Some h)) (map (spelled_cell d (nodata_for header)) hs))
 cells_ok d header place [] h none = (omega arith, (λ k x below. absurd (omega arith), λ k x below. absurd (omega arith)))
 cells_ok d header place (w ∷ hs) h none =
     let parts = or_none (height_fault d header place w) (heights_fault d header (place + 1) hs) none in
@@ -136,7 +124,7 @@ cells_ok d header place (w ∷ hs) h none =
     let first = height_ok d header place w parts.0 in
     let cell = cell_ok d nodata w first.1 in
     let rest = cells_ok d header (place + 1) hs (omega (arith, first.0)) parts.1 in
-    (omega (arith, rest.0), (All-cons (λ c. IfSome c IsHeight) (cell_of d nodata w) (map (cell_of d nodata) hs) cell.0 rest.1.0, All-cons (λ c. IfSome c (λ z. scaled_value d nodata ≢ Some z)) (cell_of d nodata w) (map (cell_of d nodata) hs) cell.1 rest.1.1))
+    (omega (arith, rest.0), (All-cons (λ c. IfSome c IsHeight) (spelled_cell d nodata w) (map (spelled_cell d nodata) hs) cell.0 rest.1.0, All-cons (λ c. IfSome c (λ z. scaled_value d nodata ≢ Some z)) (spelled_cell d nodata w) (map (spelled_cell d nodata) hs) cell.1 rest.1.1))
 
 -- ---- the fault at the end
 
@@ -197,7 +185,7 @@ word_of None = refl
 word_of (Some p) = refl
 
 -- the grid of the slots is the one that the words spell
-raster_of-grid_of : (d : ℕ) (ps : Pairs) (ws hs : List Word) → header_words ws ≡ flat ps → height_words ws ≡ hs → raster_of (slots_of ps) d (nodata_for (flat ps)) (map (cell_of d (nodata_for (flat ps))) hs) ≡ grid_of d ws
+raster_of-grid_of : (d : ℕ) (ps : Pairs) (ws hs : List Word) → header_words ws ≡ flat ps → height_words ws ≡ hs → raster_of (slots_of ps) d (nodata_for (flat ps)) (map (spelled_cell d (nodata_for (flat ps))) hs) ≡ grid_of d ws
 raster_of-grid_of d ps ws hs header heights =
     rw (header, heights, pairs-flat ps, number-of_pair (given Ncols ps), number-of_pair (given Nrows ps), centre_of (given Xll ps), word_of (given Xll ps), centre_of (given Yll ps), word_of (given Yll ps)) refl
 
@@ -231,7 +219,7 @@ lawful_words d ws few faultless end =
         some_row = rows.0;
         few_cols = cols.1;
         few_rows = rows.1;
-        size = length-map heights (cell_of d (nodata_for header)) ∙ size;
+        size = length-map heights (spelled_cell d (nodata_for header)) ∙ size;
         heights = cells.1.0;
         sinks = λ k d below. absurd (omega (arith, below));
       };
@@ -254,7 +242,7 @@ spelled-grid j ws h e =
     let are = words-after j.header h.pairs h.rest h.header there.0 in
     ap (λ x. raster_of x j.scale j.nodata j.cells.items) h.header.slots
     ∙ ap (raster_of (slots_of h.pairs) j.scale j.nodata) there.1.cells
-    ∙ ap (λ n. raster_of (slots_of h.pairs) j.scale n (map (cell_of j.scale n) h.rest)) there.1.nodata
+    ∙ ap (λ n. raster_of (slots_of h.pairs) j.scale n (map (spelled_cell j.scale n) h.rest)) there.1.nodata
     ∙ raster_of-grid_of j.scale h.pairs ws h.rest (ap header_words h.words ∙ are.0) (ap height_words h.words ∙ are.1)
 
 pub lawful-grid : (j : Judge) (ws : List Word) → HasJudged j ws → j.stage ≡ AtHeights → j.scale ≤ 6 → j.wanted ≤ length j.cells.items → IsLawful (raster_of j.header j.scale j.nodata j.cells.items)

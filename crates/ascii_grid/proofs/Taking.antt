@@ -1,28 +1,16 @@
--- One read after another, and a grid that is read piece by piece.
-use Rattle.std.proofs.Common.{ℕ, List, [], ◌++◌, Option, None, Some, sym, ap, ◌∙◌, ◌≡◌, ◌≤◌, length, take, inl, inr}
-use Rattle.std.specs.Io.KnownBytes.{Consumes, Keeps, IsAtEnd}
-use Rattle.std.proofs.lemmas.List.{append_assoc, append-nil}
+-- A grid that is read piece by piece.
+use Rattle.std.proofs.Common.{ℕ, List, ◌++◌, Option, None, Some, sym, ap, ◌∙◌, ◌≡◌, ◌≤◌, length, take, inl, inr}
+use Rattle.std.specs.Io.KnownBytes.{Consumes, IsAtEnd}
+use Rattle.std.proofs.lemmas.List.{append-nil}
 use Rattle.std.proofs.lemmas.Bool.{cases_lt}
 use Rattle.std.proofs.lemmas.Option.{same_Some}
 use Rattle.terrain.specs.Words.{ended_words}
-use Rattle.ascii_grid.specs.Device.{Device}
+use Rattle.ascii_grid.specs.Device.{Device, HasRead}
 use Rattle.ascii_grid.specs.GridText.{fault_so_far, words_fault, most_bytes}
 use Rattle.ascii_grid.specs.Reader.{Reader, HasTaken}
 use Rattle.ascii_grid.specs.declared.fault.GridFault.TheVariants.{TooLong}
 use Rattle.ascii_grid.proofs.Judging.{or_none}
 use Rattle.ascii_grid.proofs.Feeding.{many_so_far}
-
-pub Consumes-more : (a b c : Option (List ℕ)) (x y : List ℕ) → Consumes a b x → Consumes b c y → Consumes a c (x ++ y)
-Consumes-more None b c x y h k = tt
-Consumes-more (Some a) None c x y h k = absurd h
-Consumes-more (Some a) (Some b) None x y h k = absurd k
-Consumes-more (Some a) (Some b) (Some c) x y h k = h ∙ ap (λ z. x ++ z) k ∙ sym (append_assoc x y c)
-
--- a read that gave nothing
-pub Consumes-none : (a b : Option (List ℕ)) → Keeps a b → Consumes a b []
-Consumes-none None b h = tt
-Consumes-none (Some a) None h = absurd h
-Consumes-none (Some a) (Some b) h = sym h
 
 -- so much was taken of a reader's bytes and fed, with no fault so far
 pub record IsTaking {R : Type 0} (remaining : R → Option (List ℕ)) (first now : Device R) (scale : ℕ) (r : Reader) (taken : ℕ) : Type 0 where
@@ -33,7 +21,7 @@ pub record IsTaking {R : Type 0} (remaining : R → Option (List ℕ)) (first no
   pub size : length text ≡ taken
   pub room : taken ≤ 536870912
   pub count : now.failures ≡ first.failures
-  pub bytes : Consumes (remaining first.device) (remaining now.device) text
+  pub read : HasRead remaining first now text
 
 -- a text that has shown no fault is not too long
 pub not_too_long : (d : ℕ) (text : List ℕ) → fault_so_far d text ≡ None → length text ≤ most_bytes

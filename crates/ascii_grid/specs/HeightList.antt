@@ -2,7 +2,7 @@
 use Rattle.std.specs.Prelude.{◌≡◌, ℕ, ◌<◌, ◌≤◌, ℤ, true, false, List, map, length, take, get_or, Option}
 use Rattle.std.specs.List.{All, list_any}
 use Rattle.terrain.specs.Words.{Word, is_separator, words, ended_words}
-use Rattle.ascii_grid.specs.GridText.{is_cell, cell_of}
+use Rattle.ascii_grid.specs.GridText.{is_cell, spelled_cell}
 
 -- What a word among the heights has to be known by: the scale and the NODATA word.
 pub record Form : Type 0 where
@@ -18,7 +18,7 @@ pub record IsHeightWord (form : Form) (w : Word) : Type 0 where
 pub record AreCells (form : Form) (bytes : List ℕ) (cells : List (Option ℤ)) : Type 0 where
   pub ended : ended_words bytes ≡ words bytes
   pub heights : All (IsHeightWord form) (words bytes)
-  pub are : cells ≡ map (cell_of form.scale form.nodata) (words bytes)
+  pub are : cells ≡ map (spelled_cell form.scale form.nodata) (words bytes)
 
 -- The first bytes are a short word, and a separator ends it.
 pub record IsEndedWord (bytes : List ℕ) (len : ℕ) : Type 0 where

@@ -1,25 +1,31 @@
 -- What a call that reads a grid from a device answers and leaves. Source: this project.
 use Rattle.std.specs.Prelude.{◌≡◌, ◌≢◌, ◌≤◌, ◌<◌, ◌+◌, ◌-◌, ◌^◌, ℕ, List, length, Option, None, Some, Result, Ok, Err, IfOk}
-use Rattle.std.specs.Io.KnownBytes.{Consumes, IsAtEnd}
+use Rattle.std.specs.Io.KnownBytes.{IsAtEnd}
 use Rattle.terrain.specs.Raster.{Raster}
-use Rattle.ascii_grid.specs.Device.{Device}
+use Rattle.ascii_grid.specs.Device.{Device, HasRead}
 use Rattle.ascii_grid.specs.GridText.{IsGridText, IsRefusal, fault_so_far, most_bytes}
 use Rattle.ascii_grid.specs.Reader.{Reader, Feeds}
 use Rattle.ascii_grid.specs.declared.fault.GridFault.{GridFault}
 use Rattle.ascii_grid.specs.declared.input.InputFault.{InputFault}
 use Rattle.ascii_grid.specs.declared.input.InputFault.TheVariants.{Grid, Read}
 
+-- The reader gave these bytes, no more than tell that a text is too long.
+pub record Takes {R : Type 0} (remaining : R → Option (List ℕ)) (old new : Device R) : Type 0 where
+  pub bytes : List ℕ
+  pub read : HasRead remaining old new bytes
+  pub few : length bytes ≤ most_bytes + 1
+
 -- The device's bytes to come are told by `remaining`, where they are known.
 pub record ReadsGrid {R : Type 0} (remaining : R → Option (List ℕ)) (scale : ℕ) (old new : Device R) (result : Result Raster InputFault) : Type 0 where
-  -- The grid is the one that the bytes spell, and a fault is one that they have.
-  pub grid : (text : List ℕ) → remaining old.device ≡ Some text → IfOk result (λ g. IsGridText scale text g)
+  pub taken : Takes remaining old new
+  -- The grid is the one that the bytes taken spell, which were all, and a fault is one that all bytes have.
+  pub grid : IfOk result (λ g. IsGridText scale taken.bytes g × IsAtEnd (remaining new.device))
   pub fault : (text : List ℕ) (f : GridFault) → remaining old.device ≡ Some text → result ≡ Err (Grid f) → IsRefusal scale text f
   -- The count rises by one where a read failed, and stays else.
   pub read : result ≡ Err Read → new.failures ≡ old.failures + 1
   pub sound : result ≢ Err Read → new.failures ≡ old.failures
-  -- No more bytes are taken than tell that the text is too long; where a read failed, no word ended before has a fault.
-  pub taken : (taken : List ℕ) × Consumes (remaining old.device) (remaining new.device) taken
-      × (length taken ≤ most_bytes + 1) × (result ≡ Err Read → fault_so_far scale taken ≡ None)
+  -- Where a read failed, no word that ended before has a fault.
+  pub clean : result ≡ Err Read → fault_so_far scale taken.bytes ≡ None
 
 -- A reader that has answered no fault, a device that can count one more failure, and room for bytes.
 pub record CanRead {R : Type 0} (reader : Reader) (device : Device R) (piece : List ℕ) : Type 0 where
@@ -40,6 +46,6 @@ pub record ReadsPiece {R : Type 0} (remaining : R → Option (List ℕ)) (old ne
   pub bytes : List ℕ
   pub fed : Result (Unit {0}) GridFault
   pub feeds : Feeds before after bytes fed
-  pub consumes : Consumes (remaining old.device) (remaining new.device) bytes
+  pub read : HasRead remaining old new bytes
   pub within : length bytes ≤ room
   pub answered : IsAnswered (length bytes) (remaining new.device) fed old.failures new.failures result

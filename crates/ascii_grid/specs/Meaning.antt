@@ -1,9 +1,9 @@
 -- What a word among the heights stands for, for the reader's own steps.
 use Rattle.std.specs.Prelude.{ℕ, if◌then◌else◌}
 use Rattle.terrain.specs.Words.{Word}
-use Rattle.ascii_grid.specs.GridText.{is_cell, cell_of}
+use Rattle.ascii_grid.specs.GridText.{is_cell, spelled_cell}
 use Rattle.ascii_grid.specs.declared.cell.Meaning.{Meaning}
 use Rattle.ascii_grid.specs.declared.cell.Meaning.TheVariants.{Cell, Nothing}
 
 abbrev pub meaning_of : ℕ → Word → Word → Meaning
-meaning_of d nodata w = if is_cell d nodata w then Cell (cell_of d nodata w) else Nothing
+meaning_of d nodata w = if is_cell d nodata w then Cell (spelled_cell d nodata w) else Nothing

@@ -4,7 +4,7 @@ use Rattle.std.specs.List.{slice_split, list_all}
 use Rattle.terrain.specs.Words.{Word, is_word, is_separator, ended_words}
 use Rattle.terrain.specs.Decimal.{number_of, scaled_value}
 use Rattle.ascii_grid.specs.Header.{fills, slot_of, begins_with_letter, header_fault, key_fault, missing_fault, nodata_for}
-use Rattle.ascii_grid.specs.GridText.{AsksForCells, AsksAtHeight, IsTold, cell_of, cells_wanted, words_fault, heights_fault, end_fault}
+use Rattle.ascii_grid.specs.GridText.{AsksForCells, AsksAtHeight, IsTold, spelled_cell, cells_wanted, words_fault, heights_fault, end_fault}
 use Rattle.ascii_grid.specs.Slots.{anchor_at, is_given, is_centre}
 use Rattle.ascii_grid.specs.declared.fault.Key.{Key}
 use Rattle.ascii_grid.specs.declared.fault.Key.TheVariants.{Ncols, Nrows, Xll, Yll, Cellsize, Nodata}
@@ -67,7 +67,7 @@ pub record AreHeights (j : Judge) (ps : List (Word × Word)) (hs : List Word) : 
   pub nodata : j.nodata ≡ nodata_for (flat ps)
   pub value : j.nodata_value ≡ scaled_value j.scale j.nodata
   pub faultless : heights_fault j.scale (flat ps) 0 hs ≡ None
-  pub cells : j.cells.items ≡ map (cell_of j.scale j.nodata) hs
+  pub cells : j.cells.items ≡ map (spelled_cell j.scale j.nodata) hs
 
 -- The words after the pairs of the header.
 abbrev pub IsAt : Judge → List (Word × Word) → List Word → Stage → Type 0

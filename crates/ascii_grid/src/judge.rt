@@ -8,7 +8,7 @@ ghost use Rattle.terrain.specs.Decimal.{scaled_value};
 ghost use Rattle.ascii_grid.specs.Header.{missing_fault};
 ghost use Rattle.ascii_grid.specs.HeightList.{IsHeightWord};
 ghost use Rattle.std.specs.List.{All};
-ghost use Rattle.ascii_grid.specs.GridText.{cell_of, height_fault, end_fault, grid_of};
+ghost use Rattle.ascii_grid.specs.GridText.{spelled_cell, height_fault, end_fault, grid_of};
 ghost use Rattle.ascii_grid.specs.Meaning.{meaning_of};
 ghost use Rattle.ascii_grid.specs.Reading.{flat, IsHeaderOf, AreHeights, HasJudged, IsWordFault, IsEndFault};
 
@@ -202,7 +202,7 @@ impl Judge {
         ensures kept { self.new ≡ record self.old { cells = self.new.cells } }
         ensures refused { result ≡ false → self.new ≡ self.old }
         ensures added { (ps : List (Word × Word)) (hs more : List Word) → AreHeights self.old ps hs →
-            All (IsHeightWord form.now) more → cells.now ≡ map (cell_of form.now.scale form.now.nodata) more →
+            All (IsHeightWord form.now) more → cells.now ≡ map (spelled_cell form.now.scale form.now.nodata) more →
             IsTrue result → AreHeights self.new ps (hs ++ more) }
     {
         let most = (self.wanted as usize).min(self.cells.capacity());

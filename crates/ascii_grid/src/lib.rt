@@ -18,7 +18,7 @@
 //! - `cell_text`: the text of one value
 //! - `page`: bytes gathered on the stack
 //! - `fault`: the faults of a text
-//! - `counted`: devices that count their failures
+//! - `counted`: devices that count their bytes and failures
 //! - `laws`: facts of the definitions
 #![tactic(auto)]
 

@@ -44,13 +44,17 @@ module _ (w : Wish) (g : Raster) (some : 1 ≤ w.workers) (few : w.workers ≤ 6
       absurd (elim (bad_workers refl) [ inl none ↦ omega arith | inr many ↦ omega arith ])
   job_refused jobs.NoThread bad_workers no_thread = (ready, no_thread refl)
 
+-- one of the three faults of jobs
+of_jobs : {F : Type 0} (fault : JobFault → F) (f : F) → (f ≡ fault jobs.Memory) ⊎ (f ≡ fault jobs.BadWorkers) ⊎ (f ≡ fault jobs.NoThread) → (x : JobFault) × (f ≡ fault x)
+of_jobs fault f (inl e) = (jobs.Memory, e)
+of_jobs fault f (inr (inl e)) = (jobs.BadWorkers, e)
+of_jobs fault f (inr (inr e)) = (jobs.NoThread, e)
+
 -- a refused viewshed as a refusal of the work
 pub view_refused : {T : Type 0} (w : Wish) (g : Raster) (fault : Option SightFault) (f : SightFault) → 1 ≤ w.workers → w.workers ≤ 64 → ((x : JobFault) → fault ≡ Some (sight.Jobs x) → ⊥)
     → wish_fault w g ≡ option_map Sight fault → RefusesSight {T = T} fault w.workers (Err f) → IsWorkRefusal w g (of_sight f)
 view_refused w g None f some few other is h =
-    let work : (k : SightFault) → (k ≡ sight.Jobs jobs.Memory) ⊎ (k ≡ sight.Jobs jobs.BadWorkers) ⊎ (k ≡ sight.Jobs jobs.NoThread) → (x : JobFault) × (k ≡ sight.Jobs x) =
-    λ k told. elim told [ inl e ↦ (jobs.Memory, e) | inr rest ↦ elim rest [ inl e ↦ (jobs.BadWorkers, e) | inr e ↦ (jobs.NoThread, e) ] ] in
-    let told = work f (h.jobs refl f refl) in
+    let told = of_jobs sight.Jobs f (h.jobs refl f refl) in
     subst (λ (s : SightFault). IsWorkRefusal w g (of_sight s)) (sym told.1)
     (job_refused w g some few is told.0 (λ e. (h.bad_workers refl).0 (ap Err (told.1 ∙ ap sight.Jobs e))) (λ e. h.no_thread (ap Err (told.1 ∙ ap sight.Jobs e))))
 view_refused w g (Some k) f some few other is h =
@@ -61,9 +65,7 @@ view_refused w g (Some k) f some few other is h =
 pub catchments_refused : {T : Type 0} (w : Wish) (g : Raster) (fault : Option GaugeFault) (f : GaugeFault) → 1 ≤ w.workers → w.workers ≤ 64 → fault ≡ None
     → wish_fault w g ≡ None → RefusesGauges {T = T} fault w.workers (Err f) → IsWorkRefusal w g (of_gauges f)
 catchments_refused w g fault f some few sound is h =
-    let work : (k : GaugeFault) → (k ≡ gauges.Jobs jobs.Memory) ⊎ (k ≡ gauges.Jobs jobs.BadWorkers) ⊎ (k ≡ gauges.Jobs jobs.NoThread) → (x : JobFault) × (k ≡ gauges.Jobs x) =
-    λ k told. elim told [ inl e ↦ (jobs.Memory, e) | inr rest ↦ elim rest [ inl e ↦ (jobs.BadWorkers, e) | inr e ↦ (jobs.NoThread, e) ] ] in
-    let told = work f (h.jobs sound f refl) in
+    let told = of_jobs gauges.Jobs f (h.jobs sound f refl) in
     subst (λ (k : GaugeFault). IsWorkRefusal w g (of_gauges k)) (sym told.1)
     (job_refused w g some few is told.0 (λ e. (h.bad_workers sound).0 (ap Err (told.1 ∙ ap gauges.Jobs e))) (λ e. h.no_thread (ap Err (told.1 ∙ ap gauges.Jobs e))))
 

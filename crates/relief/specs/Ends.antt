@@ -9,7 +9,7 @@ use Rattle.relief.specs.declared.fault.RunFault.{RunFault}
 use Rattle.relief.specs.FaultLine.{fault_line, fault_status}
 use Rattle.request.specs.Wish.{Wish}
 use Rattle.relief.specs.Runs.{Runs}
-use Rattle.request.specs.CommandLine.{AskForHelp, AreRefused, HasBadGauge, HasBadObserver, HasBadSink, IsHelp}
+use Rattle.request.specs.CommandLine.{AskForHelp, AreRefused, HasBadGauge, HasBadObserver, HasBadSink, IsHelp, WishFor}
 
 -- The text was written, or a front part of it where the device has failed once more.
 abbrev pub Tells : {D : Type 0} → (D → Option (List ℕ)) → Device D → Device D → List ℕ → Type 0
@@ -49,6 +49,13 @@ pub record EndsUnread {R W E : Type 0} (contents : W → Option (List ℕ)) (lin
   pub reason : (AskForHelp words × (status ≡ 0) × ((text : List ℕ) × EndsLine text × Tells contents writer grown text) × (told ≡ errors))
       ⊎ (((text : List ℕ) × IsRefusalText words text × Tells lines errors told text) × (status ≡ 1) × (grown ≡ writer))
       ⊎ ((status ≡ 3) × (grown ≡ writer) × (told ≡ errors))
+
+-- The program ended on its words: nothing was read, or the map that they wish for was run.
+abbrev pub EndsProgram : {R W E : Type 0} → (R → Option (List ℕ)) → (W → Option (List ℕ)) → (E → Option (List ℕ)) → List Text → Device R → Device R → Device W → Device W → Device E → Device E → ℕ → Type 0
+EndsProgram remaining contents lines words reader left writer grown errors told status =
+    EndsUnread contents lines words reader left writer grown errors told status
+    ⊎ ((wish : Wish) × WishFor words wish
+    × EndsRun remaining contents lines wish reader left writer grown errors told status)
 
 -- What an error of `clap` of this kind leaves of the devices, and its status. Only a private function's contract speaks of it.
 abbrev pub EndsShowing : {W E : Type 0} → (W → Option (List ℕ)) → (E → Option (List ℕ)) → ErrorKind → Device W → Device W → Device E → Device E → ℕ → Type 0

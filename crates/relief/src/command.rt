@@ -1,12 +1,11 @@
 //! The program, from its words to its status: [`run_words`].
-ghost use Rattle.std.specs.Prelude.{◌≡◌, ◌≤◌, ◌<◌, ◌-◌, ◌^◌, ◌⊎◌, ℕ, List, map};
+ghost use Rattle.std.specs.Prelude.{◌≡◌, ◌≤◌, ◌<◌, ◌-◌, ◌^◌, ℕ, List, map};
 ghost use Rattle.ascii_grid.specs.Device.{Writes};
 ghost use Rattle.clap.specs.Words.{kind_of};
-ghost use Rattle.request.specs.CommandLine.{WishFor, words_given};
-ghost use Rattle.relief.specs.Ends.{EndsLine, EndsRun, EndsShowing, EndsUnread, Tells};
+ghost use Rattle.request.specs.CommandLine.{words_given};
+ghost use Rattle.relief.specs.Ends.{EndsLine, EndsProgram, EndsRun, EndsShowing, Tells};
 ghost use Rattle.relief.specs.FaultLine.{fault_line, fault_status};
 ghost use Rattle.relief.specs.Runs.{Runs};
-ghost use Rattle.request.specs.Wish.{Wish};
 
 use crate::fault::RunFault;
 use crate::running::{run, run_gated};
@@ -99,9 +98,8 @@ pub fn run_words<H: Threads + Wait + Sync, R: Read, W: Write, E: Write>(
     requires writer { writer.old.failures < 2 ^ 64 - 1 }
     requires errors { errors.old.failures < 2 ^ 64 - 1 }
     ensures small { result ≤ 4 }
-    ensures ends { EndsUnread W.contents E.contents (words_given (map (λ w. w.now) words.now)) reader.old reader.new writer.old writer.new errors.old errors.new result
-        ⊎ ((wish : Wish) × WishFor (words_given (map (λ w. w.now) words.now)) wish
-        × EndsRun R.remaining W.contents E.contents wish reader.old reader.new writer.old writer.new errors.old errors.new result) }
+    ensures ends { EndsProgram R.remaining W.contents E.contents (words_given (map (λ w. w.now) words.now))
+        reader.old reader.new writer.old writer.new errors.old errors.new result }
 {
     run_words_reported(rt, alloc, words, reader, writer, errors, &NoGate)
 }
@@ -126,9 +124,8 @@ pub fn run_words_reported<
     requires writer { writer.old.failures < 2 ^ 64 - 1 }
     requires errors { errors.old.failures < 2 ^ 64 - 1 }
     ensures small { result ≤ 4 }
-    ensures ends { EndsUnread W.contents E.contents (words_given (map (λ w. w.now) words.now)) reader.old reader.new writer.old writer.new errors.old errors.new result
-        ⊎ ((wish : Wish) × WishFor (words_given (map (λ w. w.now) words.now)) wish
-        × EndsRun R.remaining W.contents E.contents wish reader.old reader.new writer.old writer.new errors.old errors.new result) }
+    ensures ends { EndsProgram R.remaining W.contents E.contents (words_given (map (λ w. w.now) words.now))
+        reader.old reader.new writer.old writer.new errors.old errors.new result }
 {
     match parse(alloc, words) {
         Ok(options) => { run_options(rt, alloc, &options, reader, writer, errors, progress) },

@@ -21,7 +21,11 @@ use tile_maps::Crew;
 
 /// Reads a grid, and writes the map that is asked for: what is written is the map of the grid that the
 /// bytes read spell, with the sinks asked for, for every tile size, number of workers and schedule. Nothing is written before the
-/// map is whole, and from the first byte on only [`RunFault::Write`] can come and no memory is taken.
+/// map is whole, and from the first byte on only [`RunFault::Write`] can come and no memory is taken. At most
+/// 2^29 + 1 bytes are read.
+///
+/// No contract knows which bytes standard input and output hold. Of such streams this says where they failed, how many
+/// bytes were moved, and that the writer stays as it is until the map is whole.
 ///
 /// Refusals in their order: a fault of the text, or a failed read; too many tiles; the sinks' fault;
 /// the gauges' or the observers' fault; want of memory or of a thread; a failed write.

@@ -72,10 +72,12 @@ fn bytes_given(
     let result = run(rt, alloc, &options, &mut reader, &mut writer);
     assert_eq!(rt; result, Err(fault), "{workers} workers");
     assert_eq!(rt; reader.failures(), failures, "{workers} workers");
+    let moved = reader.moved();
     drop(reader);
     drop(writer);
     assert!(rt; out.is_empty());
     assert!(rt; watched.longest <= MOST_ASKED, "{} bytes", watched.longest);
+    assert_eq!(rt; watched.given as u64, moved);
     Ok(watched.given)
 }
 

@@ -113,6 +113,7 @@ fn expect_written(
         failures,
         "{length} bytes, {workers} workers"
     );
+    assert_eq!(rt; writer.moved(), length as u64);
     drop(writer);
     let wanted = if failures == 0 {
         Ok(())
@@ -301,7 +302,10 @@ fn a_reader_without_end(rt: HostRuntime) -> Result<(), Fail> {
     let mut writer = Counted::new(&mut out);
     let result = run(&rt, rt.alloc(), &options, &mut reader, &mut writer);
     assert_eq!(rt; result, Err(RunFault::Grid(GridFault::TooLong)));
+    let moved = reader.moved();
+    assert!(rt; moved <= 536_870_913, "{moved} bytes");
+    assert_eq!(rt; writer.moved(), 0);
     drop(reader);
-    assert!(rt; endless.given <= 536_870_913, "{} bytes", endless.given);
+    assert_eq!(rt; endless.given, moved);
     Ok(())
 }

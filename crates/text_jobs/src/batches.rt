@@ -1,6 +1,7 @@
 //! Pieces of a text that are read one behind the other, for several workers to share.
 ghost use Rattle.std.specs.Prelude.{◌≡◌, ◌≤◌, ◌<◌, length, take};
-ghost use Rattle.std.specs.Io.KnownBytes.{Consumes, IsAtEnd};
+ghost use Rattle.std.specs.Io.KnownBytes.{IsAtEnd};
+ghost use Rattle.ascii_grid.specs.Device.{HasRead};
 
 use ascii_grid::{Counted, PIECE_BYTES, UncountedFailure};
 use std::io::Read;
@@ -37,8 +38,7 @@ pub(crate) fn read_batch<R: Read>(reader: &mut Counted<R>, bytes: &mut [u8]) -> 
     ensures full { 0 < length bytes.old → result.end ≡ BatchEnd.Full → 0 < result.len }
     ensures text { result.end ≡ BatchEnd.Text → IsAtEnd (R.remaining reader.new.device) }
     ensures count { reader.new.failures ≡ reader.old.failures }
-    ensures consumed { Consumes (R.remaining reader.old.device) (R.remaining reader.new.device)
-        (take result.len bytes.new) }
+    ensures read { HasRead R.remaining reader.old reader.new (take result.len bytes.new) }
 {
     let mut piece = [0; PIECE_BYTES];
     let mut len = 0;

@@ -1,4 +1,4 @@
-use Rattle.std.proofs.Common.{◌≡◌, ap, subst, None, Err}
+use Rattle.std.proofs.Common.{◌≡◌, subst, None}
 use Rattle.std.proofs.lemmas.Result.{err_from_is_err_and}
 use Rattle.terrain.specs.Raster.{Raster}
 use Rattle.relief.specs.MadeMap.{made_text}
@@ -11,53 +11,36 @@ use Rattle.relief.proofs.running.run_gated.Goals as goal
 pub returns-in_err-grid : goal.returns-in_err-grid
 returns-in_err-grid g c =
     let p = err_from_is_err_and c.from_residual.result c.from_residual.ensures.1 in
-    let took = rw c.scale.ensures.value at c.in_err-grid.ensures.taken in
-    let read = c.in_err-grid.ensures in
-    rw (p.1, p.2) (reading_refused g.R.Read.remaining g.W.Write.contents c.args.options.now c.args.reader.now c.read_grid.new.reader c.args.writer.now c.in_err-grid.field-0.0
-    (λ text f told same. rw c.scale.ensures.value at (read.fault text f told (ap Err same)))
-    (λ same. read.read (ap Err same))
-    (λ other. read.sound (λ bad. other (cc)))
-    (record { bytes = took.0; consumed = took.1; few = took.2; clean = λ same. took.3 (ap Err same) }))
+    let reads = rw c.scale.ensures.value at c.in_err-grid.ensures in
+    rw (p.1, p.2) (reading_refused g.R.Read.remaining g.W.Write.contents c.args.options.now c.args.reader.now c.read_grid.new.reader c.args.writer.now c.in_err-grid.field-0.0 reads)
 
 pub returns-in_err-grid-2 : goal.returns-in_err-grid-2
 returns-in_err-grid-2 g c =
     let p = err_from_is_err_and c.from_residual-in_err-grid-2.result c.from_residual-in_err-grid-2.ensures.1 in
-    let took = c.in_ok-grid.ensures.taken in
-    rw (p.1, p.2) (making_refused g.R.Read.remaining g.W.Write.contents c.args.options.now c.args.reader.now c.read_grid.new.reader c.args.writer.now c.in_ok-grid.grid c.in_err-grid-2.field-0.0
-    (λ text told. rw c.scale.ensures.value at (c.in_ok-grid.ensures.grid text told))
-    (c.in_ok-grid.ensures.sound (λ bad. cc))
-    (record { bytes = took.0; consumed = took.1; few = took.2; clean = λ no_read. absurd no_read })
+    let reads = rw c.scale.ensures.value at c.in_ok-grid.ensures in
+    rw (p.1, p.2) (making_refused g.R.Read.remaining g.W.Write.contents c.args.options.now c.args.reader.now c.read_grid.new.reader c.args.writer.now c.args.writer.now c.in_ok-grid.grid reads c.in_err-grid-2.field-0.0
     c.in_err-grid-2.ensures.fault)
 
 pub returns-in_err-made : goal.returns-in_err-made
 returns-in_err-made g c =
     let p = err_from_is_err_and c.from_residual-in_err-made.result c.from_residual-in_err-made.ensures.1 in
-    let took = c.in_ok-grid.ensures.taken in
+    let reads = rw c.scale.ensures.value at c.in_ok-grid.ensures in
     let w = c.args.options.now in
-    rw (p.1, p.2) (making_refused g.R.Read.remaining g.W.Write.contents w c.args.reader.now c.read_grid.new.reader c.args.writer.now c.in_ok-grid.grid c.in_err-made.field-0.0
-    (λ text told. rw c.scale.ensures.value at (c.in_ok-grid.ensures.grid text told))
-    (c.in_ok-grid.ensures.sound (λ bad. cc))
-    (record { bytes = took.0; consumed = took.1; few = took.2; clean = λ no_read. absurd no_read })
+    rw (p.1, p.2) (making_refused g.R.Read.remaining g.W.Write.contents w c.args.reader.now c.read_grid.new.reader c.args.writer.now c.args.writer.now c.in_ok-grid.grid reads c.in_err-made.field-0.0
     (refusal_without w c.in_ok-grid.grid _ w.sinks (subst (λ (r : Raster). IsWorkRefusal w r c.in_err-made.field-0.0) c.in_ok-grid-2.ensures.grid c.in_err-made.ensures.fault)))
 
 pub returns-in_err-write_map : goal.returns-in_err-write_map
 returns-in_err-write_map g c =
     let p = err_from_is_err_and c.from_residual-in_err-write_map.result c.from_residual-in_err-write_map.ensures.1 in
-    let took = c.in_ok-grid.ensures.taken in
+    let reads = rw c.scale.ensures.value at c.in_ok-grid.ensures in
     let w = c.args.options.now in
-    rw (p.1, p.2) (writing_failed g.R.Read.remaining g.W.Write.contents w c.args.reader.now c.read_grid.new.reader c.args.writer.now c.write_map.new.writer c.in_ok-grid.grid _ _
-    (λ text told. rw c.scale.ensures.value at (c.in_ok-grid.ensures.grid text told))
-    (c.in_ok-grid.ensures.sound (λ bad. cc))
-    (record { bytes = took.0; consumed = took.1; few = took.2; clean = λ no_read. absurd no_read })
-    (subst (λ (r : Raster). wish_fault w r ≡ None) c.in_ok-grid-2.ensures.grid c.in_ok-made.ensures.ready)
-    (subst (λ (r : Raster). IsMapText r w.map (made_text c.in_ok-made.made)) c.in_ok-grid-2.ensures.grid c.in_ok-made.ensures.map) c.in_err-write_map.ensures)
+    rw (p.1, p.2) (writing_failed g.R.Read.remaining g.W.Write.contents w c.args.reader.now c.read_grid.new.reader c.args.writer.now c.write_map.new.writer c.in_ok-grid.grid reads _
+    (subst (λ (r : Raster). IsMapText r w.map (made_text c.in_ok-made.made)) c.in_ok-grid-2.ensures.grid c.in_ok-made.ensures.map) _
+    (subst (λ (r : Raster). wish_fault w r ≡ None) c.in_ok-grid-2.ensures.grid c.in_ok-made.ensures.ready) c.in_err-write_map.ensures)
 
 pub returns : goal.returns
 returns g c =
-    let took = c.in_ok-grid.ensures.taken in
+    let reads = rw c.scale.ensures.value at c.in_ok-grid.ensures in
     let w = c.args.options.now in
-    ran g.R.Read.remaining g.W.Write.contents w c.args.reader.now c.read_grid.new.reader c.args.writer.now c.write_map.new.writer c.in_ok-grid.grid _
-    (λ text told. rw c.scale.ensures.value at (c.in_ok-grid.ensures.grid text told))
-    (c.in_ok-grid.ensures.sound (λ bad. cc))
-    (record { bytes = took.0; consumed = took.1; few = took.2; clean = λ no_read. absurd no_read })
+    ran g.R.Read.remaining g.W.Write.contents w c.args.reader.now c.read_grid.new.reader c.args.writer.now c.write_map.new.writer c.in_ok-grid.grid reads _
     (subst (λ (r : Raster). IsMapText r w.map (made_text c.in_ok-made.made)) c.in_ok-grid-2.ensures.grid c.in_ok-made.ensures.map) c.in_ok-write_map.ensures

@@ -1,6 +1,6 @@
 use Rattle.std.proofs.Common.{◌≡◌, ◌<◌, ◌≤◌, ◌++◌, ◌∷◌, [], length, arith, rules, ap, refl, sym, ◌∙◌, inr}
 use Rattle.std.proofs.lemmas.Bool.{lt-ltb, le-ltb}
-use Rattle.ascii_grid.specs.GridText.{is_cell, cell_of, cells_wanted}
+use Rattle.ascii_grid.specs.GridText.{is_cell, spelled_cell, cells_wanted}
 use Rattle.ascii_grid.specs.Reading.{flat}
 use Rattle.ascii_grid.proofs.Cells.{meaning_cell, meaning_nothing}
 use Rattle.ascii_grid.proofs.JudgedWords.{AreHeights-push, is_short, place_of}
@@ -20,7 +20,7 @@ returns-in_default-clause-word c = λ ps hs word h short e.
 
 pub returns-clause-word : goal.returns-clause-word
 returns-clause-word c = λ ps hs word h short e.
-    let cell = meaning_cell (is_cell c.args.self.now.scale c.args.self.now.nodata word) (cell_of c.args.self.now.scale c.args.self.now.nodata word) c.in-Cell.cell (sym e ∙ c.in-Cell.is) in
+    let cell = meaning_cell (is_cell c.args.self.now.scale c.args.self.now.nodata word) (spelled_cell c.args.self.now.scale c.args.self.now.nodata word) c.in-Cell.cell (sym e ∙ c.in-Cell.is) in
     let room : length c.args.self.now.cells.items < c.args.self.now.wanted = omega (arith, c.args.self.now.cells.ok.0) in
     let pushed : c.push.new.self.items ≡ c.args.self.now.cells.items ++ c.in-Cell.cell ∷ [] = search rules in
     AreHeights-push c.args.self.now _ ps hs word h short room cell.0 refl refl refl refl (pushed ∙ ap (λ x. c.args.self.now.cells.items ++ x ∷ []) (sym cell.1))
