@@ -13,7 +13,7 @@ use Rattle.terrain.proofs.Options.{none_some}
 use Rattle.terrain.specs.Neighbours.{Touches}
 use Rattle.terrain.specs.declared.place.Place.{Place}
 use Rattle.terrain.proofs.Places.{same_place}
-use Rattle.tiles.specs.Cutting.{Cutting, IsInTile}
+use Rattle.tiles.specs.Cutting.{Cutting}
 use Rattle.cell_floods.specs.TileFlood.{Flood}
 use Rattle.fill.specs.Gathering.{mark_among, are_settled, Meets, IsMeetingAt, joins_of, Adds, AddsCovered, Covered, IsAfter}
 use Rattle.fill.specs.declared.spills.Join.{Join}
@@ -108,21 +108,21 @@ after_way p q t (inl row) = omega (arith, row)
 after_way p q t (inr col) = omega (arith, col.0, col.1)
 
 -- the joins that a cell asks for have been added before a way
-pub record HasAdded (c : Cutting) (floods : List Flood) (sources : List (Option ℤ)) (tile : ℕ) (p : Place) (way : ℕ) (old new : List Join) : Type 0 where
+pub record HasAdded (c : Cutting) (floods : List Flood) (sources : List (Option ℤ)) (p : Place) (way : ℕ) (old new : List Join) : Type 0 where
   pub kept : (j : Join) → Contains old j → Covered new j
   pub only : (j : Join) → Contains new j → Contains old j ⊎ IsMeetingAt c floods sources (λ q. q ≡ p) j
-  pub every : (q : Place) (j : Join) → (IsInTile c tile q → IsAfter p q) → way_to p q < way → Meets c floods sources p q j → Covered new j
+  pub every : (q : Place) (j : Join) → IsAfter p q → way_to p q < way → Meets c floods sources p q j → Covered new j
 
 -- no place adds nothing
-pub adds_none : (c : Cutting) (floods : List Flood) (sources : List (Option ℤ)) (tile : ℕ) (places : Place → Type 0) (old new : List Join) → new ≡ old → ((p : Place) → places p → ⊥) → Adds c floods sources tile places old new
-adds_none c floods sources tile places old new same none = subst (Adds c floods sources tile places old) (sym same) (record {
+pub adds_none : (c : Cutting) (floods : List Flood) (sources : List (Option ℤ)) (places : Place → Type 0) (old new : List Join) → new ≡ old → ((p : Place) → places p → ⊥) → Adds c floods sources places old new
+adds_none c floods sources places old new same none = subst (Adds c floods sources places old) (sym same) (record {
   kept = λ j h. covered_itself old j h;
   only = λ j h. inl h;
   every = λ p q j at. absurd (none p at);
 })
 
-pub none_added : (c : Cutting) (floods : List Flood) (sources : List (Option ℤ)) (tile : ℕ) (p : Place) (way : ℕ) (old : List Join) → ((q : Place) → Touches p q → (IsInTile c tile q → IsAfter p q) → way ≤ way_to p q) → HasAdded c floods sources tile p way old old
-none_added c floods sources tile p way old past = record {
+pub none_added : (c : Cutting) (floods : List Flood) (sources : List (Option ℤ)) (p : Place) (way : ℕ) (old : List Join) → ((q : Place) → Touches p q → IsAfter p q → way ≤ way_to p q) → HasAdded c floods sources p way old old
+none_added c floods sources p way old past = record {
   kept = λ j h. covered_itself old j h;
   only = λ j h. inl h;
   every = λ q j after low m. absurd (omega (arith, past q m.touches after, low));
@@ -135,8 +135,8 @@ way_place p q way t e =
     (omega (arith, both.0, t.row_up), omega (arith, both.1, t.col_left))
 
 -- the mark on the way was none, or its join was added
-pub added_more : (c : Cutting) (floods : List Flood) (sources : List (Option ℤ)) (tile : ℕ) (p near : Place) (way : ℕ) (from : Mark) (o : Option Mark) (old now new : List Join) → mark_among c floods p ≡ Some from → mark_among c floods near ≡ o → near.row + 1 ≡ p.row + way / 3 → near.col + 1 ≡ p.col + way % 3 → way < 9 → HasAdded c floods sources tile p way old now → AddsCovered now (joins_of sources from o) new → HasAdded c floods sources tile p (way + 1) old new
-added_more c floods sources tile p near way from o old now new here there row col few s is = record {
+pub added_more : (c : Cutting) (floods : List Flood) (sources : List (Option ℤ)) (p near : Place) (way : ℕ) (from : Mark) (o : Option Mark) (old now new : List Join) → mark_among c floods p ≡ Some from → mark_among c floods near ≡ o → near.row + 1 ≡ p.row + way / 3 → near.col + 1 ≡ p.col + way % 3 → way < 9 → HasAdded c floods sources p way old now → AddsCovered now (joins_of sources from o) new → HasAdded c floods sources p (way + 1) old new
+added_more c floods sources p near way from o old now new here there row col few s is = record {
   kept = λ j h. covered_still now new is.kept j (s.kept j h);
   only = λ j h. elim (is.only j h) [
     | inl was ↦ s.only j was
@@ -183,8 +183,8 @@ added_more c floods sources tile p near way from o old now new here there row co
   touch = record { row_down = omega (arith, rows, row); row_up = omega (arith, row); col_right = omega (arith, cols, col); col_left = omega (arith, col) }
 
 -- no place on the way is asked for
-pub added_none : (c : Cutting) (floods : List Flood) (sources : List (Option ℤ)) (tile : ℕ) (p : Place) (way : ℕ) (old now : List Join) → HasAdded c floods sources tile p way old now → ((q : Place) → Touches p q → (q.row + 1 ≡ p.row + way / 3) × (q.col + 1 ≡ p.col + way % 3) → (IsInTile c tile q → IsAfter p q) → ⊥) → HasAdded c floods sources tile p (way + 1) old now
-added_none c floods sources tile p way old now s nowhere = record {
+pub added_none : (c : Cutting) (floods : List Flood) (sources : List (Option ℤ)) (p : Place) (way : ℕ) (old now : List Join) → HasAdded c floods sources p way old now → ((q : Place) → Touches p q → (q.row + 1 ≡ p.row + way / 3) × (q.col + 1 ≡ p.col + way % 3) → IsAfter p q → ⊥) → HasAdded c floods sources p (way + 1) old now
+added_none c floods sources p way old now s nowhere = record {
   kept = s.kept;
   only = s.only;
   every = λ q j after low m. elim (cases_eq (way_to p q) way) [
@@ -193,27 +193,27 @@ added_none c floods sources tile p way old now s nowhere = record {
   ];
 }
 
-pub all_added : (c : Cutting) (floods : List Flood) (sources : List (Option ℤ)) (tile : ℕ) (p : Place) (old new : List Join) → HasAdded c floods sources tile p 9 old new → Adds c floods sources tile (λ q. q ≡ p) old new
-all_added c floods sources tile p old new s = record {
+pub all_added : (c : Cutting) (floods : List Flood) (sources : List (Option ℤ)) (p : Place) (old new : List Join) → HasAdded c floods sources p 9 old new → Adds c floods sources (λ q. q ≡ p) old new
+all_added c floods sources p old new s = record {
   kept = s.kept;
   only = s.only;
   every = λ x q j same after m.
       let here = subst (λ (z : Place). Meets c floods sources z q j) same m in
       let t = here.touches in
-      s.every q j (subst (λ (z : Place). IsInTile c tile q → IsAfter z q) same after) (omega (arith, t.row_down, t.col_right)) here;
+      s.every q j (subst (λ (z : Place). IsAfter z q) same after) (omega (arith, t.row_down, t.col_right)) here;
 }
 
 -- a cell with no mark has no joins
-pub no_mark_adds : (c : Cutting) (floods : List Flood) (sources : List (Option ℤ)) (tile : ℕ) (p : Place) (old : List Join) → mark_among c floods p ≡ None → Adds c floods sources tile (λ q. q ≡ p) old old
-no_mark_adds c floods sources tile p old none = record {
+pub no_mark_adds : (c : Cutting) (floods : List Flood) (sources : List (Option ℤ)) (p : Place) (old : List Join) → mark_among c floods p ≡ None → Adds c floods sources (λ q. q ≡ p) old old
+no_mark_adds c floods sources p old none = record {
   kept = λ j h. covered_itself old j h;
   only = λ j h. inl h;
   every = λ x q j same after m. none_some _ (record { level = m.from_level; node = j.from }) (ap (mark_among c floods) same ∙ none) m.from_is;
 }
 
 -- one after another
-pub adds_then : (c : Cutting) (floods : List Flood) (sources : List (Option ℤ)) (tile : ℕ) (first later both : Place → Type 0) (old now new : List Join) → ((p : Place) → both p ↔ (first p ⊎ later p)) → Adds c floods sources tile first old now → Adds c floods sources tile later now new → Adds c floods sources tile both old new
-adds_then c floods sources tile first later both old now new split a b = record {
+pub adds_then : (c : Cutting) (floods : List Flood) (sources : List (Option ℤ)) (first later both : Place → Type 0) (old now new : List Join) → ((p : Place) → both p ↔ (first p ⊎ later p)) → Adds c floods sources first old now → Adds c floods sources later now new → Adds c floods sources both old new
+adds_then c floods sources first later both old now new split a b = record {
   kept = λ j h. covered_still now new b.kept j (a.kept j h);
   only = λ j h. elim (b.only j h) [
     | inr late ↦ inr (late.0, late.1, (split late.0).1 (inr late.2), late.3)
@@ -222,8 +222,8 @@ adds_then c floods sources tile first later both old now new split a b = record 
   every = λ p q j at after m. elim ((split p).0 at) [ inl early ↦ covered_still now new b.kept j (a.every p q j early after m) | inr late ↦ b.every p q j late after m ];
 }
 
-pub adds_as : (c : Cutting) (floods : List Flood) (sources : List (Option ℤ)) (tile : ℕ) (first both : Place → Type 0) (old new : List Join) → ((p : Place) → both p ↔ first p) → Adds c floods sources tile first old new → Adds c floods sources tile both old new
-adds_as c floods sources tile first both old new same a = record {
+pub adds_as : (c : Cutting) (floods : List Flood) (sources : List (Option ℤ)) (first both : Place → Type 0) (old new : List Join) → ((p : Place) → both p ↔ first p) → Adds c floods sources first old new → Adds c floods sources both old new
+adds_as c floods sources first both old new same a = record {
   kept = a.kept;
   only = λ j h. elim (a.only j h) [ inl was ↦ inl was | inr made ↦ inr (made.0, made.1, (same made.0).1 made.2, made.3) ];
   every = λ p q j at after m. a.every p q j ((same p).0 at) after m;

@@ -1,37 +1,37 @@
--- The gathered joins and sources are those of the spill graph.
-use Rattle.std.proofs.Common.{◌≡◌, ◌≢◌, ℕ, ◌*◌, ◌/◌, ◌%◌, ◌<◌, ◌⊎◌, inl, inr, ◌&&◌, true, false, Bool, ℤ, ◌≤ℤ◌, List, [], length, get_or, Option, None, Some, is_some, ◌∙◌, sym, ap, subst, refl, arith}
-use Rattle.std.specs.List.{Contains, flat_map}
-use Rattle.std.proofs.lemmas.Bool.{and_parts, cases_eq, cases_lt, cases_order, cases_Bool}
-use Rattle.std.proofs.lemmas.Nat.{div-mul-add, mod-mul-add}
+-- The gathered joins are those of the spill graph, by number and by place.
+use Rattle.std.proofs.Common.{◌≡◌, ◌≢◌, ℕ, ◌*◌, ◌<◌, ◌≤◌, ◌⊎◌, inl, inr, ◌&&◌, true, false, Bool, ℤ, ◌≤ℤ◌, List, [], length, get_or, map, Option, None, Some, is_some, ◌∙◌, sym, ap, subst, refl, arith}
+use Rattle.std.specs.Prelude.{slice_get, IsSome}
+use Rattle.std.specs.List.{All, Contains}
+use Rattle.std.proofs.lemmas.Bool.{and_parts, cases_lt, cases_order, cases_Bool}
 use Rattle.std.proofs.lemmas.Option.{same_Some, slice_get_within}
-use Rattle.std.proofs.lemmas.List.{get_or_default, get_or_past}
-use Rattle.std.proofs.lemmas.List.Elements.{All-contains, Contains-get_or}
-use Rattle.terrain.proofs.Orders.{trans}
+use Rattle.std.proofs.lemmas.List.{get_or_default, get_or_past, get_or-map}
 use Rattle.terrain.specs.Raster.{Terrain}
-use Rattle.terrain.specs.Neighbours.{index_of}
+use Rattle.terrain.specs.Neighbours.{index_of, IsDataCell}
 use Rattle.terrain.specs.declared.place.Place.{Place}
 use Rattle.terrain.proofs.Places.{same_place, index_below}
 use Rattle.tiles.specs.Cutting.{Cutting, IsCutting, IsWithin, IsInTile, IsWithinLimits, Cuts, bounds_of, tile_count, tile_of_place}
 use Rattle.tiles.proofs.Cut.{tile_of_place_below, bounds_inside}
 use Rattle.tiles.specs.declared.bounds.Bounds.{Bounds}
 use Rattle.cell_floods.specs.TileFlood.{Flood, IsTileFlood, label_in}
-use Rattle.fill.specs.Spills.{AreFloods, level_among, label_among, IsPass, HasJoin, IsJoined, AreSourcesOf, IsGraphOf, IsOpenGraphOf}
-use Rattle.fill.specs.Gathering.{Fit, mark_among, Meets, Adds, IsAfter, IsBefore, AreRising, AreLowest, AreGathered, are_settled, turned}
-use Rattle.fill.specs.Parts.{IsPart, AreParts, AddsTurned, IsGraph, joins_by_part, graph_of_parts, tile_of_node}
-use Rattle.fill.specs.declared.parts.Part.{Part}
+use Rattle.terrain.proofs.Orders.{max_comm, trans}
+use Rattle.cell_floods.proofs.TileWindows.{bounds_limits, data_within}
+use Rattle.cell_floods.proofs.Where.{labels_inside}
+use Rattle.floods.proofs.Heaps.{all_by_contains}
+use Rattle.floods.specs.declared.net.Spill.{Spill}
+use Rattle.drainage.proofs.Uniqueness.{between}
+use Rattle.fill.specs.Gathering.{Fit, LabelsInside, mark_among, Meets, Covered, IsAfter, IsBefore, AreRising, AreLowest, AreGathered, are_settled, turned}
+use Rattle.fill.specs.LabelNet.{HasWay, HasWaysOf, IsJoinOf, IsNumberPass, IsNumberGraph, source_number}
+use Rattle.fill.specs.Numbers.{places_of, ends_of, nodes_of, node_of_label}
+use Rattle.fill.specs.Parts.{IsGraph, graph_with}
+use Rattle.fill.specs.Placing.{AddsPlaced, IsPlacedOf, join_at}
+use Rattle.fill.specs.Spills.{AreFloods, level_among, label_among, Carries, IsPass, Graph, HasJoin, IsJoined, AreSourcesOf, IsGraphOf}
 use Rattle.fill.specs.declared.spills.Join.{Join}
 use Rattle.fill.specs.declared.marks.Mark.{Mark}
-use Rattle.terrain.proofs.Options.{none_some}
-use Rattle.terrain.proofs.Orders.{max_comm}
-use Rattle.floods.proofs.Heaps.{all_by_contains}
-use Rattle.cell_floods.proofs.TileWindows.{bounds_limits}
-use Rattle.cell_floods.proofs.Where.{labels_inside}
-use Rattle.drainage.proofs.Uniqueness.{between}
-use Rattle.fill.proofs.Rims.{HasTileLevel, level_has_data, list_there, among_is}
-use Rattle.fill.proofs.CellMarks.{label_entry, mark_some, mark_parts, mark_outside}
 use Rattle.fill.proofs.Adding.{no_join}
-use Rattle.floods.proofs.WaitLists.{in_some_list, in_lists}
-use Rattle.fill.proofs.GraphParts.{part_there, part_with}
+use Rattle.fill.proofs.CellMarks.{label_entry, marked_within}
+use Rattle.fill.proofs.LabelGraphs.{leads_back}
+use Rattle.fill.proofs.Numbered.{AreLawful, IsNumbered, numbered, number_below, number_label, has_mark, ends_length}
+use Rattle.fill.proofs.Rims.{level_has_data, list_there, among_is}
 
 -- labels are settled or not, and so both ways
 and_turned : (a b : Bool) → (a && b) ≡ (b && a)
@@ -39,31 +39,6 @@ and_turned true true = refl
 and_turned true false = refl
 and_turned false true = refl
 and_turned false false = refl
-
--- the lowest joins of a tile
-pub tile_gathered : (c : Cutting) (floods : List Flood) (tile : ℕ) (out : List (Option ℤ)) (met lowest : List Join) → AreGathered c floods (IsInTile c tile) out met → AreLowest met lowest → AreGathered c floods (IsInTile c tile) out lowest
-tile_gathered c floods tile out met lowest gathered low = record {
-  only = λ j made. gathered.only j (low.only j made);
-  every = λ p q j at m.
-      let was = gathered.every p q j at m in
-      let made = low.every was.0 was.1 in
-      (made.0, made.1, made.2 ∙ was.2, made.3 ∙ was.3, trans _ _ _ made.4 was.4);
-}
-
--- the joins of all parts
-pub parts_gathered : (c : Cutting) (floods : List Flood) (out : List (Option ℤ)) (parts : List Part) → IsCutting c → AreParts c floods out parts → AreGathered c floods (IsWithin c) out (flat_map (λ joins. joins) (joins_by_part parts))
-parts_gathered c floods out parts h are = record {
-  only = λ j there.
-      let at = in_some_list (joins_by_part parts) j there in
-      let x = part_with c floods out parts at.0 j are at.1 in
-      let m = x.1.joins.only j (subst (λ (z : List Join). Contains z j) x.2 at.1) in
-      (m.0, m.1, m.2.0, m.3);
-  every = λ p q j within m.
-      let tile = tile_of_place c p in
-      let x = part_there c floods out parts tile are (omega (arith, are.count, tile_of_place_below c p h within)) in
-      let made = x.1.joins.every p q j (within, refl) m in
-      (made.0, in_lists (joins_by_part parts) tile made.0 (subst (λ (z : List Join). Contains z made.0) (sym x.2) made.1), made.2, made.3, made.4);
-}
 
 -- joins that rise have each two labels once
 one_join : (joins : List Join) → AreRising joins → (j k : Join) → Contains joins j → Contains joins k → j.from ≡ k.from → j.to ≡ k.to → j ≡ k
@@ -83,39 +58,6 @@ one_join joins rise j k a b e f = elim (cases_order a.0 b.0) [
   apart : (x y u v : Join) → x ≡ u → y ≡ v → u.from ≡ v.from → u.to ≡ v.to → IsBefore x y → ⊥
   apart x y u v p q g h (inl a) = let s = ap (λ (z : Join). z.from) p in let t = ap (λ (z : Join). z.from) q in omega (arith, a, g, s, t)
   apart x y u v p q g h (inr a) = let s = ap (λ (z : Join). z.to) p in let t = ap (λ (z : Join). z.to) q in omega (arith, a.1, h, s, t)
-
--- a meeting has its cells in the grid, and its labels too
-pub marked_within : (c : Cutting) (floods : List Flood) (p : Place) (m : Mark) → IsCutting c → Fit c floods → mark_among c floods p ≡ Some m → IsWithin c p
-marked_within c floods p m h fit e = elim (cases_lt p.row c.rows) [
-  | inr below ↦ none_some _ m (mark_outside c floods p h fit (λ w. omega (arith, w.0, below))) e
-  | inl row ↦ elim (cases_lt p.col c.cols) [
-    | inr beside ↦ none_some _ m (mark_outside c floods p h fit (λ w. omega (arith, w.1, beside))) e
-    | inl col ↦ (row, col)
-  ]
-]
-
--- the place with a place's number
-source_place : (c : Cutting) (p : Place) → IsWithin c p → record { row = index_of c.cols p / c.cols; col = index_of c.cols p % c.cols } ≡ p
-source_place c p within = same_place _ p (div-mul-add p.row c.cols p.col within.1) (mod-mul-add p.row c.cols p.col within.1)
-
--- a label lies in the grid, in the cell's tile
-node_place : (c : Cutting) (floods : List Flood) (p : Place) (m : Mark) → IsCutting c → Fit c floods → mark_among c floods p ≡ Some m → (label : Place) × (index_of c.cols label ≡ m.node) × IsWithin c label × (tile_of_place c label ≡ tile_of_place c p)
-node_place c floods p m h fit e =
-    let parts = mark_parts c.cols (level_among c floods p) (label_among c floods p) m e in
-    let tile = tile_of_place c p in
-    let f = list_there floods tile (omega (arith, fit.count, tile_of_place_below c p h (marked_within c floods p m h fit e))) in
-    let entry = label_entry f.0 p parts.0 (sym (among_is (λ f. label_in f p) floods tile f.0 f.1) ∙ parts.2) in
-    (parts.0, parts.3, fit.labels tile f.0 f.1 entry.0 parts.0 entry.1, fit.own tile f.0 entry.0 parts.0 f.1 entry.1)
-
-pub node_below : (c : Cutting) (floods : List Flood) (p : Place) (m : Mark) → IsCutting c → Fit c floods → mark_among c floods p ≡ Some m → m.node < c.cols * c.rows
-node_below c floods p m h fit e =
-    let at = node_place c floods p m h fit e in
-    omega (arith, index_below c.cols c.rows at.0 at.2.0 at.2.1, at.1)
-
-node_own : (c : Cutting) (floods : List Flood) (p : Place) (m : Mark) → IsCutting c → Fit c floods → mark_among c floods p ≡ Some m → tile_of_node c m.node ≡ tile_of_place c p
-node_own c floods p m h fit e =
-    let at = node_place c floods p m h fit e in
-    ap (tile_of_node c) (sym at.1) ∙ ap (tile_of_place c) (source_place c at.0 at.2) ∙ at.3
 
 meets_turned : (c : Cutting) (floods : List Flood) (out : List (Option ℤ)) (p q : Place) (j : Join) → Meets c floods out p q j → Meets c floods out q p (turned j)
 meets_turned c floods out p q j m = record {
@@ -139,71 +81,10 @@ after_cases p q differ = elim (cases_order p.row q.row) [
   ]
 ]
 
--- of two cells the one asks for their join, or the other does and is of the tile
-asks_cases : (c : Cutting) (tile : ℕ) (p q : Place) → p ≢ q → (IsInTile c tile q → IsAfter p q) ⊎ ((tile_of_place c q ≡ tile) × IsAfter q p)
-asks_cases c tile p q differ = elim (cases_eq (tile_of_place c q) tile) [
-  | inr other ↦ inl (λ at. absurd (other at.1))
-  | inl own ↦ elim (after_cases p q differ) [ inl after ↦ inl (λ _. after) | inr before ↦ inr (own, before) ]
-]
-
 meets_differ : (c : Cutting) (floods : List Flood) (out : List (Option ℤ)) (p q : Place) (j : Join) → Meets c floods out p q j → p ≢ q
 meets_differ c floods out p q j m e =
     let same = same_Some (record { level = m.from_level; node = j.from }) (record { level = m.to_level; node = j.to }) (sym m.from_is ∙ ap (mark_among c floods) e ∙ m.to_is) in
     m.different (ap (λ (z : Mark). z.node) same)
-
--- the joins of a tile lead to labels in the grid
-pub met_below : (c : Cutting) (floods : List Flood) (tile : ℕ) (out : List (Option ℤ)) (met : List Join) → IsCutting c → Fit c floods → Adds c floods out tile (IsInTile c tile) [] met → (k : ℕ) (d : Join) → k < length met → (get_or met k d).to < c.cols * c.rows
-met_below c floods tile out met h fit adds k d low = elim (adds.only (get_or met k d) (Contains-get_or met k d low)) [
-  | inl none ↦ absurd (no_join _ none)
-  | inr m ↦ node_below c floods m.1 _ h fit m.3.to_is
-]
-
--- with those of the tile the other way round too, the joins are gathered
-pub turned_gathered : (c : Cutting) (floods : List Flood) (tile : ℕ) (out : List (Option ℤ)) (met joins : List Join) → IsCutting c → Fit c floods → Adds c floods out tile (IsInTile c tile) [] met → AddsTurned c tile met joins → AreGathered c floods (IsInTile c tile) out joins
-turned_gathered c floods tile out met joins h fit adds turns = record {
-  only = λ j there. elim (turns.only j there) [
-    | inl was ↦ meeting j was
-    | inr turn ↦
-        let m = meeting turn.0 turn.1 in
-        let inside : IsInTile c tile m.1 = (marked_within c floods m.1 _ h fit m.3.to_is, sym (node_own c floods m.1 _ h fit m.3.to_is) ∙ turn.2) in
-        (m.1, m.0, inside, subst (Meets c floods out m.1 m.0) turn.3 (meets_turned c floods out m.0 m.1 turn.0 m.3))
-  ];
-  every = λ p q j at m. elim (asks_cases c tile p q (meets_differ c floods out p q j m)) [
-    | inl asks ↦ let was = adds.every p q j at asks m in (was.0, turns.kept was.0 was.1, was.2, was.3, was.4)
-    | inr back ↦
-        let inside : IsInTile c tile q = (marked_within c floods q _ h fit m.to_is, back.0) in
-        let was = adds.every q p (turned j) inside (λ _. back.1) (meets_turned c floods out p q j m) in
-        let own : tile_of_node c was.0.to ≡ tile = ap (tile_of_node c) was.3 ∙ node_own c floods p _ h fit m.from_is ∙ at.1 in
-        (turned was.0, turns.back was.0 was.1 own, was.3, was.2, was.4)
-  ];
-} where
-  meeting : (j : Join) → Contains met j → (p q : Place) × IsInTile c tile p × Meets c floods out p q j
-  meeting j there = elim (adds.only j there) [ inl none ↦ absurd (no_join j none) | inr meets ↦ meets ]
-
--- Each two labels have one join at most.
-abbrev AreOnce : List Join → Type 0
-AreOnce joins = (j k : Join) → Contains joins j → Contains joins k → j.from ≡ k.from → j.to ≡ k.to → j ≡ k
-
--- a gathered join is as low as each meeting of its labels
-low_as : (c : Cutting) (floods : List Flood) (out : List (Option ℤ)) (joins : List Join) → IsCutting c → Fit c floods → AreGathered c floods (IsWithin c) out joins → AreOnce joins → (j k : Join) (p q : Place) → Contains joins j → Meets c floods out p q k → j.from ≡ k.from → j.to ≡ k.to → j.height ≤ℤ k.height
-low_as c floods out joins h fit s once j k p q there m e f =
-    let cover = s.every p q k (marked_within c floods p _ h fit m.from_is) m in
-    let same = once j cover.0 there cover.1 (e ∙ sym cover.2) (f ∙ sym cover.3) in
-    subst (λ (z : Join). z.height ≤ℤ k.height) (sym same) cover.4
-
--- a gathered join stands there both ways
-join_back : (c : Cutting) (floods : List Flood) (out : List (Option ℤ)) (joins : List Join) → IsCutting c → Fit c floods → AreGathered c floods (IsWithin c) out joins → AreOnce joins → (j : Join) → Contains joins j → Contains joins (turned j)
-join_back c floods out joins h fit s once j there =
-    let meet = s.only j there in
-    let back = meets_turned c floods out meet.0 meet.1 j meet.3 in
-    let cover = s.every meet.1 meet.0 (turned j) (marked_within c floods meet.1 _ h fit back.from_is) back in
-    let other = s.only cover.0 cover.1 in
-    let again = meets_turned c floods out other.0 other.1 cover.0 other.3 in
-    let low = low_as c floods out joins h fit s once j (turned cover.0) other.1 other.0 there again (sym cover.3) (sym cover.2) in
-    let height : cover.0.height ≡ j.height = between _ _ cover.4 low in
-    subst (Contains joins) (same_join cover.0 (turned j) cover.2 cover.3 height) cover.1 where
-      same_join : (x y : Join) → x.from ≡ y.from → x.to ≡ y.to → x.height ≡ y.height → x ≡ y
-      same_join x y a b e = ap (λ n. record { from = n; to = x.to; height = x.height }) a ∙ ap (λ n. record { from = y.from; to = n; height = x.height }) b ∙ ap (λ n. record { from = y.from; to = y.to; height = n }) e
 
 -- floods of tiles fit
 fit_labels : (t : Terrain) (c : Cutting) (tile : ℕ) (f : Flood) → IsCutting c → tile < tile_count c → Cuts c t → IsTileFlood t c tile f → (k : ℕ) (label : Place) → get_or f.labels k None ≡ Some label → IsInTile c tile label
@@ -215,137 +96,262 @@ fit_labels t c tile f h below cuts flood = labels_inside t c tile f.bounds f.lev
   each = flood.each;
 })
 
-pub fit_of : (t : Terrain) (c : Cutting) (floods : List Flood) → IsCutting c → AreFloods t c floods → Fit c floods
-fit_of t c floods h are = record {
-  count = are.count;
-  bounds = λ tile f e. (are.each tile f e).bounds;
-  labels = λ tile f e k label at. (fit_labels t c tile f h (omega (arith, are.count, slice_get_within floods tile f e)) are.cuts (are.each tile f e) k label at).0;
-  own = λ tile f k label e at. (fit_labels t c tile f h (omega (arith, are.count, slice_get_within floods tile f e)) are.cuts (are.each tile f e) k label at).1;
-  sizes = λ tile f e. (are.each tile f e).labels_size ∙ ap (λ (b : Bounds). b.rows * b.cols) (sym (are.each tile f e).bounds);
-  levels = λ tile f e. (are.each tile f e).levels_size ∙ ap (λ (b : Bounds). b.rows * b.cols) (sym (are.each tile f e).bounds);
-}
-
--- marks and levels
-mark_is : (t : Terrain) (c : Cutting) (floods : List Flood) (p : Place) (l : HasTileLevel t c floods p) (node : ℕ) → node ≡ index_of c.cols l.label → mark_among c floods p ≡ Some (record { level = l.level; node = node })
-mark_is t c floods p l node e = mark_some c.cols (level_among c floods p) (label_among c floods p) l.level l.label node l.level_is l.label_is e
-
--- a pass is a meeting, and back
-pass_meets : (t : Terrain) (c : Cutting) (floods : List Flood) (out : List (Option ℤ)) (a b : ℕ) (h : ℤ) → a ≢ b → are_settled out a b ≡ false → (x : IsPass t c floods a b h) → Meets c floods out x.from x.to (record { from = a; to = b; height = h })
-pass_meets t c floods out a b h differ apart x = record {
-  touches = x.neighbours.touches;
-  from_level = x.from_level;
-  to_level = x.to_level;
-  from_is = mark_some c.cols _ _ x.from_level x.from_label.0 a x.from_is x.from_label.1 (sym x.from_label.2);
-  to_is = mark_some c.cols _ _ x.to_level x.to_label.0 b x.to_is x.to_label.1 (sym x.to_label.2);
-  different = differ;
-  apart = apart;
-  greater = x.greater;
-}
-
-meets_pass : (t : Terrain) (c : Cutting) (floods : List Flood) (out : List (Option ℤ)) (p q : Place) (j : Join) → IsCutting c → AreFloods t c floods → Meets c floods out p q j → IsPass t c floods j.from j.to j.height
-meets_pass t c floods out p q j h are m =
-    let fit = fit_of t c floods h are in
-    let x = mark_parts c.cols (level_among c floods p) (label_among c floods p) _ m.from_is in
-    let y = mark_parts c.cols (level_among c floods q) (label_among c floods q) _ m.to_is in
-    let p_data = level_has_data t c floods h are p m.from_level (marked_within c floods p _ h fit m.from_is) x.1 in
-    let q_data = level_has_data t c floods h are q m.to_level (marked_within c floods q _ h fit m.to_is) y.1 in
-    record {
-      from = p;
-      to = q;
-      from_level = m.from_level;
-      to_level = m.to_level;
-      neighbours = record { different = meets_differ c floods out p q j m; touches = m.touches; from_data = p_data; to_data = q_data };
-      from_label = (x.0, x.2, x.3);
-      to_label = (y.0, y.2, y.3);
-      from_is = x.1;
-      to_is = y.1;
-      greater = m.greater;
-    }
-
--- a join is of the part of its first label's tile
-own_join : (c : Cutting) (floods : List Flood) (out : List (Option ℤ)) (tile : ℕ) (x : Part) (j : Join) → IsCutting c → Fit c floods → IsPart c floods out tile x → Contains x.joins.items j → tile_of_node c j.from ≡ tile
-own_join c floods out tile x j h fit part there =
-    let m = part.joins.only j there in
-    node_own c floods m.0 _ h fit m.3.from_is ∙ m.2.1
-
-own_joins : (t : Terrain) (c : Cutting) (floods : List Flood) (out : List (Option ℤ)) (parts : List Part) → IsCutting c → AreFloods t c floods → AreParts c floods out parts → (tile : ℕ) (j : Join) → Contains (get_or (joins_by_part parts) tile []) j → tile_of_node c j.from ≡ tile
-own_joins t c floods out parts h are s tile j there =
-    let x = part_with c floods out parts tile j s there in
-    own_join c floods out tile x.0 j h (fit_of t c floods h are) x.1 (subst (λ (z : List Join). Contains z j) x.2 there)
-
-parts_once : (t : Terrain) (c : Cutting) (floods : List Flood) (out : List (Option ℤ)) (parts : List Part) → IsCutting c → AreFloods t c floods → AreParts c floods out parts → AreOnce (flat_map (λ joins. joins) (joins_by_part parts))
-parts_once t c floods out parts h are s j k a b e f =
-    let lists = joins_by_part parts in
-    let x = in_some_list lists j a in
-    let y = in_some_list lists k b in
-    let same : y.0 ≡ x.0 = sym (own_joins t c floods out parts h are s y.0 k y.1) ∙ ap (tile_of_node c) (sym e) ∙ own_joins t c floods out parts h are s x.0 j x.1 in
-    let part = part_with c floods out parts x.0 j s x.1 in
-    one_join (get_or lists x.0 []) (subst AreRising (sym part.2) part.1.rising) j k x.1 (subst (λ n. Contains (get_or lists n []) k) same y.1) e f
-
--- what holds of the graph of the parts
-pub is_graph : (t : Terrain) (c : Cutting) (floods : List Flood) (out : List (Option ℤ)) (parts : List Part) (sources : List (Option ℤ)) → IsCutting c → AreFloods t c floods → AreParts c floods out parts → length sources ≡ c.cols * c.rows → IsGraph c parts (graph_of_parts c parts sources)
-is_graph t c floods out parts sources h are s size =
-    let fit = fit_of t c floods h are in
-    let joins = flat_map (λ joins. joins) (joins_by_part parts) in
-    let gathered = parts_gathered c floods out parts h s in
-    record {
-      count = s.count;
-      sources = size;
-      ends = all_by_contains (λ (j : Join). (j.from < c.cols * c.rows) × (j.to < c.cols * c.rows)) joins (λ j there.
-          let meet = gathered.only j there in
-          (node_below c floods meet.0 _ h fit meet.3.from_is, node_below c floods meet.1 _ h fit meet.3.to_is));
-      back = join_back c floods out joins h fit gathered (parts_once t c floods out parts h are s);
-      rising = λ tile below. let x = part_there c floods out parts tile s below in subst AreRising (sym x.2) x.1.rising;
-      own = own_joins t c floods out parts h are s;
-    }
-
--- two labels that meet are joined in it, where they are not settled
-is_joined : (t : Terrain) (c : Cutting) (floods : List Flood) (out : List (Option ℤ)) (parts : List Part) (sources : List (Option ℤ)) → IsCutting c → AreFloods t c floods → AreParts c floods out parts → length sources ≡ c.cols * c.rows → (a b : ℕ) (z : ℤ) → a ≢ b → are_settled out a b ≡ false → IsPass t c floods a b z → (least : ℤ) × HasJoin (graph_of_parts c parts sources) a b least
-is_joined t c floods out parts sources h are s size a b z differ apart pass =
-    let fit = fit_of t c floods h are in
-    let graph = is_graph t c floods out parts sources h are s size in
-    let joins = flat_map (λ joins. joins) (joins_by_part parts) in
-    let m = pass_meets t c floods out a b z differ apart pass in
-    let cover = (parts_gathered c floods out parts h s).every pass.from pass.to (record { from = a; to = b; height = z }) (marked_within c floods pass.from _ h fit m.from_is) m in
-    let there : Contains joins (record { from = a; to = b; height = cover.0.height }) = subst (Contains joins) (ap (λ n. record { from = n; to = cover.0.to; height = cover.0.height }) cover.2 ∙ ap (λ n. record { from = a; to = n; height = cover.0.height }) cover.3) cover.1 in
-    let ends = All-contains (λ (j : Join). (j.from < c.cols * c.rows) × (j.to < c.cols * c.rows)) joins (record { from = a; to = b; height = cover.0.height }) graph.ends there in
-    (cover.0.height, record { from_node = ends.0; to_node = ends.1; there = there; back = graph.back _ there })
-
--- and no others
-is_joined_only : (t : Terrain) (c : Cutting) (floods : List Flood) (out : List (Option ℤ)) (parts : List Part) (sources : List (Option ℤ)) → IsCutting c → AreFloods t c floods → AreParts c floods out parts → (a b : ℕ) (z : ℤ) → HasJoin (graph_of_parts c parts sources) a b z → IsJoined t c floods a b z
-is_joined_only t c floods out parts sources h are s a b z join =
-    let fit = fit_of t c floods h are in
-    let joins = flat_map (λ joins. joins) (joins_by_part parts) in
-    let gathered = parts_gathered c floods out parts h s in
-    let meet = gathered.only (record { from = a; to = b; height = z }) join.there in
-    record {
-      different = meet.3.different;
-      pass = meets_pass t c floods out meet.0 meet.1 (record { from = a; to = b; height = z }) h are meet.3;
-      least = λ other pass. low_as c floods out joins h fit gathered (parts_once t c floods out parts h are s) (record { from = a; to = b; height = z }) (record { from = a; to = b; height = other }) pass.from pass.to join.there (pass_meets t c floods out a b other meet.3.different meet.3.apart pass) refl refl;
-    }
-
 none_settled : (a b : ℕ) → are_settled [] a b ≡ false
 none_settled a b =
     let none : List (Option ℤ) = [] in
     ap (λ (o : Option ℤ). is_some o && is_some (get_or none b None)) (get_or_past none a None (omega arith))
 
--- where none are left out, the graph is that of the floods
-pub is_graph_of : (t : Terrain) (c : Cutting) (floods : List Flood) (parts : List Part) (sources : List (Option ℤ)) → IsCutting c → AreFloods t c floods → AreParts c floods [] parts → AreSourcesOf t c floods sources → IsGraphOf t c floods (graph_of_parts c parts sources)
-is_graph_of t c floods parts sources h are s srcs = record {
-  count = refl;
-  joined = λ a b z differ pass. is_joined t c floods [] parts sources h are s srcs.size a b z differ (none_settled a b) pass;
-  joined_only = is_joined_only t c floods [] parts sources h are s;
-  sources = srcs.right (graph_of_parts c parts sources) refl;
+-- labels of a tile's flood lie in the grid
+pub labels_within : (t : Terrain) (c : Cutting) (floods : List Flood) (tile : ℕ) (f : Flood) → AreFloods t c floods → slice_get floods tile ≡ Some f → LabelsInside c f
+labels_within t c floods tile f are there k label at = (fit_labels t c tile f are.lawful (omega (arith, are.count, slice_get_within floods tile f there)) are.cuts (are.each tile f there) k label at).0
+
+pub fit_of : (t : Terrain) (c : Cutting) (floods : List Flood) → AreFloods t c floods → Fit c floods
+fit_of t c floods are = record {
+  count = are.count;
+  bounds = λ tile f e. (are.each tile f e).bounds;
+  sizes = λ tile f e. (are.each tile f e).labels_size ∙ ap (λ (b : Bounds). b.rows * b.cols) (sym (are.each tile f e).bounds);
+  levels = λ tile f e. (are.each tile f e).levels_size ∙ ap (λ (b : Bounds). b.rows * b.cols) (sym (are.each tile f e).bounds);
 }
 
--- where joins of two sources are left out, it is such a graph still
-pub is_open_graph : (t : Terrain) (c : Cutting) (floods : List Flood) (parts : List Part) (sources : List (Option ℤ)) → IsCutting c → AreFloods t c floods → AreParts c floods sources parts → AreSourcesOf t c floods sources → IsOpenGraphOf t c floods (graph_of_parts c parts sources)
-is_open_graph t c floods parts sources h are s srcs = record {
-  count = refl;
-  joined = λ a b z differ pass. elim (cases_Bool (are_settled sources a b)) [
-    | inl settled ↦ inl (and_parts (is_some (get_or sources a None)) (is_some (get_or sources b None)) settled)
-    | inr apart ↦ inr (is_joined t c floods sources parts sources h are s srcs.size a b z differ apart pass)
-  ];
-  joined_only = is_joined_only t c floods sources parts sources h are s;
-  sources = srcs.right (graph_of_parts c parts sources) refl;
-}
+module _ (t : Terrain) (c : Cutting) (floods : List Flood) (are : AreFloods t c floods) (lawful : AreLawful floods) where
+  fit : Fit c floods
+  fit = fit_of t c floods are
+
+  mark_data : (p : Place) (m : Mark) (x : IsNumbered c floods p m) → mark_among c floods p ≡ Some m → IsDataCell t p
+  mark_data p m x e = level_has_data t c floods are.lawful are p m.level (marked_within c floods p m are.lawful fit e) x.level_is
+
+  -- a meeting is a pass of numbers
+  meets_number : (out : List (Option ℤ)) (p q : Place) (j : Join) → Meets c floods out p q j → IsNumberPass t c floods j.from j.to j.height
+  meets_number out p q j m =
+      let x = numbered c floods p _ lawful m.from_is in
+      let y = numbered c floods q _ lawful m.to_is in
+      record {
+        from = p;
+        to = q;
+        from_level = m.from_level;
+        to_level = m.to_level;
+        neighbours = record { different = meets_differ c floods out p q j m; touches = m.touches; from_data = mark_data p _ x m.from_is; to_data = mark_data q _ y m.to_is };
+        from_is = m.from_is;
+        to_is = m.to_is;
+        greater = m.greater;
+      }
+
+  -- and back, where the labels are not settled
+  number_meets : (out : List (Option ℤ)) (a b : ℕ) (h : ℤ) → a ≢ b → are_settled out a b ≡ false → (x : IsNumberPass t c floods a b h) → Meets c floods out x.from x.to (record { from = a; to = b; height = h })
+  number_meets out a b h differ apart x = record {
+    touches = x.neighbours.touches;
+    from_level = x.from_level;
+    to_level = x.to_level;
+    from_is = x.from_is;
+    to_is = x.to_is;
+    different = differ;
+    apart = apart;
+    greater = x.greater;
+  }
+
+  -- labels that meet are joined as low, in this or the other order
+  number_cover : (out : List (Option ℤ)) (joins : List Join) → AreGathered c floods out joins → (a b : ℕ) (h : ℤ) → a ≢ b → are_settled out a b ≡ false → IsNumberPass t c floods a b h → (low : ℤ) × IsJoinOf joins a b low × (low ≤ℤ h)
+  number_cover out joins s a b h differ apart x =
+      let m = number_meets out a b h differ apart x in
+      elim (after_cases x.from x.to x.neighbours.different) [
+        | inl after ↦
+            let k = s.every x.from x.to _ (marked_within c floods x.from _ are.lawful fit x.from_is) after m in
+            (k.0.height, inl (subst (Contains joins) (same_join k.0 a b k.2 k.3) k.1), k.4)
+        | inr before ↦
+            let k = s.every x.to x.from _ (marked_within c floods x.to _ are.lawful fit x.to_is) before (meets_turned c floods out x.from x.to _ m) in
+            (k.0.height, inr (subst (Contains joins) (same_join k.0 b a k.2 k.3) k.1), k.4)
+      ] where
+        same_join : (k : Join) (a b : ℕ) → k.from ≡ a → k.to ≡ b → k ≡ record { from = a; to = b; height = k.height }
+        same_join k a b e f = ap (λ n. record { from = n; to = k.to; height = k.height }) e ∙ ap (λ n. record { from = a; to = n; height = k.height }) f
+
+  number_turned : (a b : ℕ) (h : ℤ) → IsNumberPass t c floods a b h → IsNumberPass t c floods b a h
+  number_turned a b h x = record {
+    from = x.to;
+    to = x.from;
+    from_level = x.to_level;
+    to_level = x.from_level;
+    neighbours = record {
+      different = λ e. x.neighbours.different (sym e);
+      touches = record { row_down = x.neighbours.touches.row_up; row_up = x.neighbours.touches.row_down; col_right = x.neighbours.touches.col_left; col_left = x.neighbours.touches.col_right };
+      from_data = x.neighbours.to_data;
+      to_data = x.neighbours.from_data;
+    };
+    from_is = x.to_is;
+    to_is = x.from_is;
+    greater = max_comm x.to_level x.from_level ∙ x.greater;
+  }
+
+  -- the joins are passes of numbers
+  joins_pass : (out : List (Option ℤ)) (joins : List Join) → AreGathered c floods out joins → (j : Join) → Contains joins j → IsNumberPass t c floods j.from j.to j.height
+  joins_pass out joins s j there = let m = s.only j there in meets_number out m.0 m.1 j m.3
+
+  pub joins_below : (out : List (Option ℤ)) (joins : List Join) → AreGathered c floods out joins → All (λ j. (j.from < length (places_of floods)) × (j.to < length (places_of floods))) joins
+  joins_below out joins s = all_by_contains (λ (j : Join). (j.from < length (places_of floods)) × (j.to < length (places_of floods))) joins (λ j there.
+      let x = joins_pass out joins s j there in
+      (number_below c floods x.from _ lawful x.from_is, number_below c floods x.to _ lawful x.to_is))
+
+  -- the graph by number
+  pub is_number_graph : (sources : List (Option ℤ)) (joins : List Join) (ways : List (List Spill)) → AreGathered c floods sources joins → sources ≡ ends_of floods → length ways ≡ length sources → HasWaysOf joins ways → IsNumberGraph t c floods ways sources
+  is_number_graph sources joins ways s is size has = record {
+    count = size ∙ ap length is ∙ ends_length t c floods are;
+    ends = is;
+    joined = λ a b h differ pass. elim (cases_Bool (are_settled sources a b)) [
+      | inl settled ↦ inl (and_parts (is_some (get_or sources a None)) (is_some (get_or sources b None)) settled)
+      | inr apart ↦ let low = number_cover sources joins s a b h differ apart pass in inr (low.0, leads_back joins ways has a b low.0 ((has a b low.0).1 low.1), low.2)
+    ];
+    joined_only = λ a b h way. elim ((has a b h).0 way.there) [
+      | inl there ↦ joins_pass sources joins s _ there
+      | inr back ↦ number_turned b a h (joins_pass sources joins s _ back)
+    ];
+  }
+
+  -- the place of a label by its number
+  node_is : (p : Place) (m : Mark) (x : IsNumbered c floods p m) → get_or (nodes_of c.cols floods) m.node 0 ≡ index_of c.cols x.label
+  node_is p m x = get_or-map (node_of_label c.cols) (places_of floods) m.node None 0 (number_below_of p m x) ∙ ap (node_of_label c.cols) (number_label c floods p m x) where
+    number_below_of : (p : Place) (m : Mark) → IsNumbered c floods p m → m.node < length (places_of floods)
+    number_below_of p m x = elim (cases_lt m.node (length (places_of floods))) [
+      | inl low ↦ low
+      | inr past ↦ absurd (cc (number_label c floods p m x, get_or_past (places_of floods) m.node None past))
+    ]
+
+  label_node_below : (p : Place) (m : Mark) (x : IsNumbered c floods p m) → index_of c.cols x.label < c.cols * c.rows
+  label_node_below p m x =
+      let y = label_entry x.flood p x.label (sym (among_is (λ f. label_in f p) floods (tile_of_place c p) x.flood x.there) ∙ x.label_is) in
+      let within = labels_within t c floods (tile_of_place c p) x.flood are x.there y.0 x.label y.1 in
+      index_below c.cols c.rows x.label within.0 within.1
+
+  -- a pass of numbers is one of places
+  place_pass : (nodes : List ℕ) (j : Join) → nodes ≡ nodes_of c.cols floods → IsNumberPass t c floods j.from j.to j.height → IsPass t c floods (join_at nodes j).from (join_at nodes j).to j.height
+  place_pass nodes j is pass =
+      let x = numbered c floods pass.from _ lawful pass.from_is in
+      let y = numbered c floods pass.to _ lawful pass.to_is in
+      record {
+        from = pass.from;
+        to = pass.to;
+        from_level = pass.from_level;
+        to_level = pass.to_level;
+        neighbours = pass.neighbours;
+        from_label = (x.label, x.label_is, sym (ap (λ (z : List ℕ). get_or z j.from 0) is ∙ node_is pass.from _ x));
+        to_label = (y.label, y.label_is, sym (ap (λ (z : List ℕ). get_or z j.to 0) is ∙ node_is pass.to _ y));
+        from_is = x.level_is;
+        to_is = y.level_is;
+        greater = pass.greater;
+      }
+
+  pass_turned : (a b : ℕ) (h : ℤ) → IsPass t c floods a b h → IsPass t c floods b a h
+  pass_turned a b h x = record {
+    from = x.to;
+    to = x.from;
+    from_level = x.to_level;
+    to_level = x.from_level;
+    neighbours = record {
+      different = λ e. x.neighbours.different (sym e);
+      touches = record { row_down = x.neighbours.touches.row_up; row_up = x.neighbours.touches.row_down; col_right = x.neighbours.touches.col_left; col_left = x.neighbours.touches.col_right };
+      from_data = x.neighbours.to_data;
+      to_data = x.neighbours.from_data;
+    };
+    from_label = x.to_label;
+    to_label = x.from_label;
+    from_is = x.to_is;
+    to_is = x.from_is;
+    greater = max_comm x.to_level x.from_level ∙ x.greater;
+  }
+
+  -- the number of a label that a cell carries
+  carried : (p : Place) (a : ℕ) (level : ℤ) → Carries c floods p a → level_among c floods p ≡ Some level → IsWithin c p → (n : ℕ) × (mark_among c floods p ≡ Some (record { level = level; node = n })) × (get_or (nodes_of c.cols floods) n 0 ≡ a)
+  carried p a level carries level_is within =
+      let f = list_there floods (tile_of_place c p) (omega (arith, are.count, tile_of_place_below c p are.lawful within)) in
+      let m = has_mark c floods p level carries.0 f.0 f.1 level_is carries.1 in
+      let x = numbered c floods p _ lawful m.1 in
+      (m.0, m.1, node_is p _ x ∙ ap (index_of c.cols) (same_Some x.label carries.0 (sym x.label_is ∙ carries.1)) ∙ carries.2)
+
+  module _ (nodes : List ℕ) (joins placed lowest : List Join) (s : AreGathered c floods [] joins) (is : nodes ≡ nodes_of c.cols floods) (adds : AddsPlaced nodes joins [] placed) (low : AreLowest placed lowest) where
+    placed_pass : (j : Join) → Contains lowest j → (j.from ≢ j.to) × IsPass t c floods j.from j.to j.height
+    placed_pass j there = elim (adds.only j (low.only j there)) [
+      | inl none ↦ absurd (no_join j none)
+      | inr from ↦
+          let pass = place_pass nodes from.0 is (joins_pass [] joins s from.0 from.1) in
+          elim from.3 [
+            | inl same ↦ subst (λ (x : Join). (x.from ≢ x.to) × IsPass t c floods x.from x.to x.height) (sym same) (from.2, pass)
+            | inr turn ↦ subst (λ (x : Join). (x.from ≢ x.to) × IsPass t c floods x.from x.to x.height) (sym turn) ((λ e. from.2 (sym e)), pass_turned _ _ _ pass)
+          ]
+    ]
+
+    pass_cover : (a b : ℕ) (h : ℤ) → a ≢ b → IsPass t c floods a b h → Covered lowest (record { from = a; to = b; height = h })
+    pass_cover a b h differ x =
+        let from_within = data_within t c x.from are.cuts x.neighbours.from_data in
+        let to_within = data_within t c x.to are.cuts x.neighbours.to_data in
+        let m = carried x.from a x.from_level x.from_label x.from_is from_within in
+        let n = carried x.to b x.to_level x.to_label x.to_is to_within in
+        let number : IsNumberPass t c floods m.0 n.0 h = record {
+          from = x.from;
+          to = x.to;
+          from_level = x.from_level;
+          to_level = x.to_level;
+          neighbours = x.neighbours;
+          from_is = m.1;
+          to_is = n.1;
+          greater = x.greater;
+        } in
+        let apart : m.0 ≢ n.0 = λ e. differ (sym m.2 ∙ ap (λ k. get_or (nodes_of c.cols floods) k 0) e ∙ n.2) in
+        let cover = number_cover [] joins s m.0 n.0 h apart (none_settled m.0 n.0) number in
+        let from_is : get_or nodes m.0 0 ≡ a = ap (λ (z : List ℕ). get_or z m.0 0) is ∙ m.2 in
+        let to_is : get_or nodes n.0 0 ≡ b = ap (λ (z : List ℕ). get_or z n.0 0) is ∙ n.2 in
+        let made : Join = record { from = a; to = b; height = cover.0 } in
+        let there : Contains placed made = elim cover.1 [
+          | inl forth ↦ adds.every made (_, forth, (λ e. differ (sym from_is ∙ e ∙ to_is)), inl (sym (ap (λ k. record { from = k; to = get_or nodes n.0 0; height = cover.0 }) from_is ∙ ap (λ k. record { from = a; to = k; height = cover.0 }) to_is)))
+          | inr back ↦ adds.every made (_, back, (λ e. differ (sym from_is ∙ sym e ∙ to_is)), inr (sym (ap (λ k. record { from = k; to = get_or nodes n.0 0; height = cover.0 }) from_is ∙ ap (λ k. record { from = a; to = k; height = cover.0 }) to_is)))
+        ] in
+        let k = low.every made there in
+        (k.0, k.1, k.2, k.3, trans _ _ _ k.4 cover.2)
+
+    low_as : (j : Join) (h : ℤ) → Contains lowest j → IsPass t c floods j.from j.to h → j.height ≤ℤ h
+    low_as j h there pass =
+        let k = pass_cover j.from j.to h (placed_pass j there).0 pass in
+        let same = one_join lowest low.rising j k.0 there k.1 (sym k.2) (sym k.3) in
+        subst (λ (z : Join). z.height ≤ℤ h) (sym same) k.4
+
+    join_back : (j : Join) → Contains lowest j → Contains lowest (turned j)
+    join_back j there =
+        let x = placed_pass j there in
+        let k = pass_cover j.to j.from j.height (λ e. x.0 (sym e)) (pass_turned _ _ _ x.1) in
+        let pass = (placed_pass k.0 k.1).1 in
+        let again : IsPass t c floods j.from j.to k.0.height = pass_turned _ _ _ (subst (λ n. IsPass t c floods n j.from k.0.height) k.2 (subst (λ n. IsPass t c floods k.0.from n k.0.height) k.3 pass)) in
+        let height : k.0.height ≡ j.height = between _ _ k.4 (low_as j k.0.height there again) in
+        subst (Contains lowest) (same_join k.0 (turned j) k.2 k.3 height) k.1 where
+          same_join : (x y : Join) → x.from ≡ y.from → x.to ≡ y.to → x.height ≡ y.height → x ≡ y
+          same_join x y a b e = ap (λ n. record { from = n; to = x.to; height = x.height }) a ∙ ap (λ n. record { from = y.from; to = n; height = x.height }) b ∙ ap (λ n. record { from = y.from; to = y.to; height = n }) e
+
+    pass_below : (a b : ℕ) (h : ℤ) → IsPass t c floods a b h → a < c.cols * c.rows
+    pass_below a b h x =
+        let m = carried x.from a x.from_level x.from_label x.from_is (data_within t c x.from are.cuts x.neighbours.from_data) in
+        let y = numbered c floods x.from _ lawful m.1 in
+        let below = label_node_below x.from _ y in
+        omega (arith, below, node_is x.from _ y, m.2)
+
+    -- what holds of the graph by places
+    pub is_graph : (sources : List (Option ℤ)) → length sources ≡ c.cols * c.rows → IsGraph (graph_with c lowest sources)
+    is_graph sources size = record {
+      sources = size;
+      ends = all_by_contains (λ (j : Join). (j.from < c.cols * c.rows) × (j.to < c.cols * c.rows)) lowest (λ j there.
+          let x = placed_pass j there in
+          (pass_below j.from j.to j.height x.1, pass_below j.to j.from j.height (pass_turned _ _ _ x.1)));
+      back = join_back;
+      rising = low.rising;
+    }
+
+    -- it is the graph of the floods
+    pub is_graph_of : (sources : List (Option ℤ)) → AreSourcesOf t c floods sources → IsGraphOf t c floods (graph_with c lowest sources)
+    is_graph_of sources srcs = record {
+      count = refl;
+      joined = λ a b h differ pass.
+          let k = pass_cover a b h differ pass in
+          let there : Contains lowest (record { from = a; to = b; height = k.0.height }) = subst (Contains lowest) (ap (λ n. record { from = n; to = k.0.to; height = k.0.height }) k.2 ∙ ap (λ n. record { from = a; to = n; height = k.0.height }) k.3) k.1 in
+          (k.0.height, record { from_node = pass_below a b h pass; to_node = pass_below b a h (pass_turned a b h pass); there = there; back = join_back _ there });
+      joined_only = λ a b h join. record {
+        different = (placed_pass (record { from = a; to = b; height = h }) join.there).0;
+        pass = (placed_pass (record { from = a; to = b; height = h }) join.there).1;
+        least = λ other pass. low_as (record { from = a; to = b; height = h }) other join.there pass;
+      };
+      sources = srcs.right (graph_with c lowest sources) refl;
+    }

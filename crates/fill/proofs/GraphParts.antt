@@ -1,12 +1,14 @@
--- The parts of a graph, one for each tile, and the ways of its nodes.
-use Rattle.std.proofs.Common.{◌≡◌, ℕ, ◌+◌, ◌<◌, inl, inr, List, [], ◌∷◌, ◌++◌, length, get_or, sym, ap, subst, ◌∙◌, arith, ◌≢◌, ◌-◌, ◌≤◌, map, take, drop, ℤ, Option, refl, length-drop, ◌⊎◌, pos}
-use Rattle.std.specs.List.{Contains}
+-- The parts of the tiles, and the joins of all of them.
+use Rattle.std.proofs.Common.{◌≡◌, ℕ, ◌+◌, ◌<◌, ◌⊎◌, inl, inr, List, [], ◌∷◌, ◌++◌, length, get_or, sym, ap, subst, ◌∙◌, arith, ◌≢◌, ◌-◌, ◌≤◌, map, take, drop, ℤ, Option, refl, length-drop}
+use Rattle.std.specs.List.{All, Contains, flat_map}
+use Rattle.std.proofs.lemmas.Grind.{flat_map-append}
 use Rattle.std.proofs.lemmas.Bool.{cases_eq, cases_lt}
 use Rattle.std.proofs.lemmas.Option.{slice_get_cases}
-use Rattle.std.proofs.lemmas.List.{get_or_append_left, get_or_push, length_push, get_or-map, get_or_past, length-map, get_or-drop, get_or-take, length-take-le, get_or_default}
-use Rattle.tiles.specs.Cutting.{Cutting, tile_count}
+use Rattle.std.proofs.lemmas.List.{append-nil, map-append, take_more, get_or_append_left, get_or_push, length_push, get_or-map, get_or_past, length-map, get_or-drop, get_or-take, length-take-le, get_or_default}
+use Rattle.tiles.specs.Cutting.{Cutting, IsCutting, IsWithin, tile_count, tile_of_place}
+use Rattle.tiles.proofs.Cut.{tile_of_place_below}
 use Rattle.cell_floods.specs.TileFlood.{Flood}
-use Rattle.fill.specs.Parts.{IsPart, AreParts, IsFirstOf, joins_by_part, IsGraph, graph_of_parts, tile_of_node}
+use Rattle.fill.specs.Parts.{IsPart, AreParts, joins_by_part, all_joins, IsGraph}
 use Rattle.fill.specs.declared.spills.Join.{Join}
 use Rattle.fill.proofs.Adding.{no_join}
 use Rattle.fill.specs.declared.parts.Part.{Part}
@@ -14,7 +16,7 @@ use Rattle.std.proofs.lemmas.List.Elements.{All-contains, Contains-get_or}
 use Rattle.floods.specs.declared.net.Spill.{Spill}
 use Rattle.floods.specs.Walk.{HasJust}
 use Rattle.fill.specs.Spills.{Graph, HasJoin}
-use Rattle.fill.specs.Gathering.{AreRising, IsBefore, way_of}
+use Rattle.fill.specs.Gathering.{AreGathered, AreRising, IsBefore, way_of}
 use Rattle.floods.proofs.WaitLists.{in_some_list, in_lists}
 use Rattle.floods.proofs.Heaps.{all_by_contains}
 
@@ -53,6 +55,36 @@ part_with c floods out parts i j are h = elim (cases_lt i (length parts)) [
   | inr past ↦ absurd (no_join j (subst (λ (z : List Join). Contains z j) (get_or_past (joins_by_part parts) i [] (omega (arith, past, length-map parts (λ (part : Part). part.joins.items)))) h))
 ]
 
+-- the joins of one more part
+pub joins_more : (parts : List Part) (i : ℕ) (x : Part) → i < length parts → x ≡ get_or parts i x → all_joins (take (i + 1) parts) ≡ all_joins (take i parts) ++ x.joins.items
+joins_more parts i x below is =
+    ap (λ (z : List Part). all_joins z) (take_more parts i x below)
+    ∙ ap (flat_map (λ (joins : List Join). joins)) (map-append (λ (part : Part). part.joins.items) (take i parts) (get_or parts i x ∷ []))
+    ∙ flat_map-append (λ (joins : List Join). joins) (joins_by_part (take i parts)) ((get_or parts i x).joins.items ∷ [])
+    ∙ ap (λ z. all_joins (take i parts) ++ z) (append-nil (get_or parts i x).joins.items ∙ ap (λ (part : Part). part.joins.items) (sym is))
+
+pub part_below : (parts : List Part) (i count : ℕ) (x : Part) → All (λ j. (j.from < count) × (j.to < count)) (all_joins parts) → i < length parts → x ≡ get_or parts i x → All (λ (j : Join). (j.from < count) × (j.to < count)) x.joins.items
+part_below parts i count x all below is = all_by_contains (λ (j : Join). (j.from < count) × (j.to < count)) x.joins.items (λ j held.
+    All-contains (λ (j : Join). (j.from < count) × (j.to < count)) (all_joins parts) j all
+    (in_lists (joins_by_part parts) i j (subst (λ (z : List Join). Contains z j) (sym (joins_at parts i x below is)) held)))
+
+-- the joins of all parts
+pub parts_gathered : (c : Cutting) (floods : List Flood) (out : List (Option ℤ)) (parts : List Part) → IsCutting c → AreParts c floods out parts → AreGathered c floods out (all_joins parts)
+parts_gathered c floods out parts h are = record {
+  only = λ j there.
+      let at = in_some_list (joins_by_part parts) j there in
+      let x = part_with c floods out parts at.0 j are at.1 in
+      elim (x.1.only j (subst (λ (z : List Join). Contains z j) x.2 at.1)) [
+        | inl none ↦ absurd (no_join j none)
+        | inr m ↦ (m.0, m.1, m.2.0, m.3)
+      ];
+  every = λ p q j within after m.
+      let tile = tile_of_place c p in
+      let x = part_there c floods out parts tile are (omega (arith, are.count, tile_of_place_below c p h within)) in
+      let made = x.1.every p q j (within, refl) after m in
+      (made.0, in_lists (joins_by_part parts) tile made.0 (subst (λ (z : List Join). Contains z made.0) (sym x.2) made.1), made.2, made.3, made.4);
+}
+
 -- the first labels of joins that rise
 up : (joins : List Join) → AreRising joins → (m n : ℕ) (d : Join) → m ≤ n → n < length joins → (get_or joins m d).from ≤ (get_or joins n d).from
 up joins rise m n d low below = elim (cases_eq m n) [
@@ -80,65 +112,18 @@ past_node joins node end e rise inside low differ k d above below =
     let far = above_more joins (node + 1) end e rise inside (omega (arith, low, differ)) k d above below in
     omega (arith, far)
 
--- the first join that begins at a node
-pub first_is : (joins : List Join) (node index : ℕ) (e : Join) → AreRising joins → index < length joins → (get_or joins index e).from ≡ node → (index ≡ 0) ⊎ ((get_or joins (index - 1) e).from ≢ node) → IsFirstOf joins node index
-first_is joins node index e rise inside here first = record {
-  inside = inside;
-  from = λ d. ap (λ (j : Join). j.from) (get_or_default joins index d e inside) ∙ here;
-  begin = record {
-    few = omega (arith, inside);
-    below = λ k d less. elim first [
-      | inl zero ↦ absurd (omega (arith, less, zero))
-      | inr other ↦
-          let before : index - 1 < length joins = omega (arith, inside) in
-          let low : (get_or joins (index - 1) e).from < node = omega (arith, up joins rise (index - 1) index e (omega arith) inside, here, other) in
-          below_more joins node (index - 1) e rise before low k d (omega (arith, less))
-    ];
-    above = above_more joins node index e rise inside (omega (arith, here));
-  };
-}
-
--- Of the joins of a graph these are the ones that begin at a node, and maybe others.
-pub record HasJoinsOf (g : Graph) (node : ℕ) (joins : List Join) : Type 0 where
-  pub only : (j : Join) → Contains joins j → Contains g.joins j
-  pub every : (j : Join) → Contains g.joins j → j.from ≡ node → Contains joins j
-
--- the joins of the part of a node's tile are such
-pub part_joins : (c : Cutting) (parts : List Part) (sources : List (Option ℤ)) (node i : ℕ) (x : Part) → IsGraph c parts (graph_of_parts c parts sources) → i < tile_count c → i ≡ tile_of_node c node → x ≡ get_or parts i x → HasJoinsOf (graph_of_parts c parts sources) node x.joins.items
-part_joins c parts sources node i x is below tile at = record {
-  only = λ j h. in_lists (joins_by_part parts) i j (subst (λ (z : List Join). Contains z j) (sym list) h);
-  every = λ j h same.
-      let there = in_some_list (joins_by_part parts) j h in
-      let own : there.0 ≡ i = sym (is.own there.0 j there.1) ∙ ap (tile_of_node c) same ∙ sym tile in
-      subst (λ (z : List Join). Contains z j) (ap (λ n. get_or (joins_by_part parts) n []) own ∙ list) there.1;
-} where
-  list : get_or (joins_by_part parts) i [] ≡ x.joins.items
-  list = joins_at parts i x (omega (arith, below, is.count)) at
-
--- a part with a join that begins at a node is the part of the node's tile
-pub known_tile : (c : Cutting) (parts : List Part) (g : Graph) (node index i : ℕ) (x : Part) → IsGraph c parts g → i < tile_count c → x ≡ get_or parts i x → IsFirstOf x.joins.items node index → i ≡ tile_of_node c node
-known_tile c parts g node index i x is below at first =
-    let d : Join = record { from = 0; to = 0; height = pos 0 } in
-    let there = subst (λ (z : List Join). Contains z (get_or x.joins.items index d)) (sym (joins_at parts i x (omega (arith, below, is.count)) at)) (Contains-get_or x.joins.items index d first.inside) in
-    sym (is.own i (get_or x.joins.items index d) there) ∙ ap (tile_of_node c) (first.from d)
-
-pub part_rising : (c : Cutting) (parts : List Part) (g : Graph) (i : ℕ) (x : Part) → IsGraph c parts g → i < tile_count c → x ≡ get_or parts i x → AreRising x.joins.items
-part_rising c parts g i x is below at =
-    let low : i < length parts = omega (arith, below, is.count) in
-    subst AreRising (joins_at parts i x low at) (is.rising i low)
-
 -- the ways between are those of the node
-pub just_node : (c : Cutting) (parts : List Part) (g : Graph) (joins : List Join) (node start end : ℕ) → IsGraph c parts g → HasJoinsOf g node joins → start ≤ end → end ≤ length joins
+pub just_node : (g : Graph) (joins : List Join) (node start end : ℕ) → IsGraph g → joins ≡ g.joins → start ≤ end → end ≤ length joins
     → ((k : ℕ) (d : Join) → k < start → (get_or joins k d).from < node) → ((k : ℕ) (d : Join) → start ≤ k → k < length joins → node ≤ (get_or joins k d).from)
     → ((k : ℕ) (d : Join) → k < end → (get_or joins k d).from ≤ node) → ((k : ℕ) (d : Join) → end ≤ k → k < length joins → node < (get_or joins k d).from)
     → HasJust (HasJoin g node) (map way_of (take (end - start) (drop start joins)))
-just_node c parts g joins node start end is has order inside before from upto after = record {
+just_node g joins node start end is same order inside before from upto after = record {
   only = all_by_contains (λ way. HasJoin g node way.to way.height) ways (λ way h.
       let k = h.0 in
       let low : k < end - start = omega (arith, h.1, count) in
       let d : Join = record { from = node; to = way.to; height = way.height } in
       let j : Join = get_or joins (start + k) d in
-      let there : Contains g.joins j = has.only j (Contains-get_or joins (start + k) d (omega (arith, low, order, inside))) in
+      let there : Contains g.joins j = subst (λ (z : List Join). Contains z j) same (Contains-get_or joins (start + k) d (omega (arith, low, order, inside))) in
       let low_end = upto (start + k) d (omega (arith, low, order)) in
       let high_end = from (start + k) d (omega arith) (omega (arith, low, order, inside)) in
       let node_is : j.from ≡ node = omega (arith, low_end, high_end) in
@@ -150,7 +135,7 @@ just_node c parts g joins node start end is has order inside before from upto af
       record { from_node = both.0; to_node = both.1; there = at; back = is.back d at });
   every = λ b z join.
       let d : Join = record { from = node; to = b; height = z } in
-      let held = has.every d join.there refl in
+      let held = subst (λ (z : List Join). Contains z d) (sym same) join.there in
       let k = held.0 in
       let here : get_or joins k d ≡ d = held.2 in
       let node_is : (get_or joins k d).from ≡ node = ap (λ (x : Join). x.from) here in

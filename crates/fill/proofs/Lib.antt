@@ -1,15 +1,18 @@
 -- what the floods of tiles say of a cell
 mod CellMarks
--- the spill graph
+-- raising by the levels of any net of labels
+mod Rims
+-- the spill graph by number
 mod Adding
-mod Turned
+mod Firsts
+mod Numbered
+mod Chains
+mod LabelGraphs
+mod GraphParts
+-- and by place
 mod Lowest
+mod Placed
 pub mod Gathered
 mod EndSources
-mod GraphParts
-mod Pages
-mod MarkedLists
-mod Numbered
 -- raising, and the tiles together
-mod Rims
 pub mod Raised

@@ -12,7 +12,7 @@ use Rattle.terrain.specs.Raster.{Terrain, IsTerrain, IsHeight, Raster}
 use Rattle.terrain.specs.StoredCells.{cell_of, stored_cell, no_data}
 use Rattle.terrain.proofs.Stored.{stored_some}
 use Rattle.terrain.specs.Sinks.{with_sinks}
-use Rattle.terrain.specs.Neighbours.{height_at, index_of, entry_at, IsInside}
+use Rattle.terrain.specs.Neighbours.{height_at, index_of, entry_at, IsDataCell, IsInside}
 use Rattle.drainage.specs.Filled.{IsFilledHeight, IsFilled, IsFilledGrid, IsOwnFilled}
 use Rattle.terrain.specs.declared.place.Place.{Place}
 use Rattle.terrain.proofs.Places.{make_place, entry-inside, index_injective, index_below}
@@ -23,15 +23,22 @@ use Rattle.tiles.proofs.Cut.{in_bounds, in_tile, bounds_inside, tile_of_place_be
 use Rattle.tiles.proofs.PutBack.{row_in_list}
 use Rattle.tiles.proofs.TileOrder.{tile_entry-in, entry_in-inside, index_in_below}
 use Rattle.cell_floods.specs.TileFlood.{Flood, level_in, label_in, IsTileFlood, levels_where}
-use Rattle.fill.specs.Spills.{AreFloods, level_among, AreSpillLevels, AreOpenLevels, spill_of, greater_of, raised_by, AreGreater, IsRaised, raised_among, AreRaisedBelow, IsFilledTile}
-use Rattle.fill.specs.RaisedTiles.{IsRaisedBy, IsRaisedTile}
+use Rattle.fill.specs.Spills.{AreFloods, level_among, label_among, AreSpillLevels, spill_of, greater_of, raised_by, AreGreater, IsRaised, IsFilledTile, IsGraphOf, IsPass, Graph, HasJoin, source_in}
+use Rattle.fill.specs.RaisedTiles.{IsRaisedTile, AreRaisedBelow, raised_among, spill_with, spill_at}
+use Rattle.fill.specs.LabelNet.{HasWay, source_number, IsNumberGraph, AreNumberLevels}
+use Rattle.fill.specs.Numbers.{first_of}
+use Rattle.fill.specs.declared.marks.Mark.{Mark}
+use Rattle.floods.specs.declared.net.Spill.{Spill}
+use Rattle.fill.proofs.CellMarks.{entry_mark, label_entry}
+use Rattle.fill.proofs.Numbered.{AreLawful, has_mark, number_below, number_among, number_net}
 use Rattle.fill.specs.declared.rows.RaisedTile.{RaisedTile}
-use Rattle.fill.specs.Gathering.{Fit}
+use Rattle.fill.specs.Gathering.{Fit, mark_among, mark_of, mark_with}
 use Rattle.cell_floods.specs.Labels.{labels_by, IsTable}
 use Rattle.cell_floods.proofs.Where.{levels_where-length, levels_where-at}
-use Rattle.fill.proofs.Gathered.{fit_of}
+use Rattle.fill.proofs.Gathered.{fit_of, labels_within}
+use Rattle.cell_floods.proofs.TileWindows.{data_within}
 use Rattle.terrain.proofs.Options.{cases_option, match_of, none_some}
-use Rattle.fill.proofs.Rims.{has_tile_level, among_is, rims, list_there}
+use Rattle.fill.proofs.Rims.{HasTileLevel, IsLabelNet, has_tile_level, among_is, rims, list_there}
 use Rattle.std.specs.List.{Contains, All}
 use Rattle.std.proofs.lemmas.Option.{MatchOption-at_some, MatchOption-at_none, get_or_from_slice_get, slice_get-get_or, slice_get_within, same_Some}
 use Rattle.std.proofs.lemmas.List.Elements.{All-contains, All-from_get_or}
@@ -64,8 +71,16 @@ raised_where : (c : Cutting) (levels : List (Option ℤ)) (height : ℤ) (label 
 raised_where c levels height None = refl
 raised_where c levels height (Some p) = refl
 
+-- The heights, the labels' indexes and the levels of these raise each cell as its flood and these levels of all labels do.
+pub record IsRaisedBy (c : Cutting) (f : Flood) (levels : List (Option ℤ)) (heights : List ℤ) (labels : List ℕ) (spills : List (Option ℤ)) : Type 0 where
+  pub heights_size : length heights ≡ length f.labels
+  pub labels_size : length labels ≡ length f.labels
+  pub inside : All (λ k. k < length spills) labels
+  pub each : (i : ℕ) → i < length f.labels → greater_of (Some (get_or heights i (pos 0))) (get_or spills (get_or labels i 0) None)
+      ≡ raised_by c levels (get_or f.levels i None) (get_or f.labels i None)
+
 -- by the levels of the labels of its table a tile is raised
-pub by_table : (c : Cutting) (f : Flood) (places : List (Option Place)) (cells : List ℕ) (heights : List ℤ) (levels spills : List (Option ℤ)) → f.labels ≡ labels_by places cells → IsTable places cells
+by_table : (c : Cutting) (f : Flood) (places : List (Option Place)) (cells : List ℕ) (heights : List ℤ) (levels spills : List (Option ℤ)) → f.labels ≡ labels_by places cells → IsTable places cells
     → f.levels ≡ levels_where f.labels heights → length cells ≡ length heights → spills ≡ map (spill_of c levels) places → IsRaisedBy c f levels heights cells spills
 by_table c f places cells heights levels spills are table where_is long is = record {
   heights_size = sym fit;
@@ -107,52 +122,83 @@ greater_stored h (Some z) low = elim (cases_Bool (int_eq z no_data)) [
   | inr other ↦ ap (λ (o : Option ℤ). cell_of (greater_of (Some h) o)) (cond-false _ _ _ other)
 ]
 
-pub raised_stored : (c : Cutting) (f : Flood) (levels : List (Option ℤ)) (x : RaisedTile) (i : ℕ) → IsRaisedTile c f levels x → i < length f.labels → get_or x.heights.now i (pos 0) ≤ℤ no_data
-    → cell_of (greater_of (Some (get_or x.heights.now i (pos 0))) (get_or x.spills.items (get_or x.labels.now i 0) None)) ≡ cell_of (raised_by c levels (get_or f.levels i None) (get_or f.labels i None))
-raised_stored c f levels x i tile below low =
-    let by = tile.1 in
+-- what a tile raises a cell to
+pub raised_stored : (first : ℕ) (f : Flood) (levels : List (Option ℤ)) (x : RaisedTile) (i : ℕ) → IsRaisedTile first f levels x → i < length f.labels → get_or x.heights.now i (pos 0) ≤ℤ no_data
+    → cell_of (greater_of (Some (get_or x.heights.now i (pos 0))) (get_or x.spills.items (get_or x.labels.now i 0) None)) ≡ cell_of (greater_of (get_or f.levels i None) (spill_with levels (mark_with first f i)))
+raised_stored first f levels x i tile below low =
     let h = get_or x.heights.now i (pos 0) in
-    let k = get_or x.labels.now i 0 in
-    let stored : get_or x.spills.items k None ≡ cell_of (get_or tile.0 k None) =
-    ap (λ (z : List (Option ℤ)). get_or z k None) tile.2 ∙ get_or-map cell_of tile.0 k None None (by.inside i 0 (omega (arith, below, by.labels_size))) in
-    ap (λ o. cell_of (greater_of (Some h) o)) stored ∙ greater_stored h (get_or tile.0 k None) low ∙ ap cell_of (by.each i below)
+    let k = get_or f.table.indexes i 0 in
+    let entry : get_or x.labels.now i 0 ≡ k = ap (λ (z : List ℕ). get_or z i 0) tile.labels in
+    let inside : i < length f.table.indexes = omega (arith, below, table_size) in
+    let listed : get_or f.labels i None ≡ get_or f.table.places k None = ap (λ (z : List (Option Place)). get_or z i None) tile.lawful.labels ∙ get_or-map (λ n. get_or f.table.places n None) f.table.indexes i 0 None inside in
+    let stored : get_or x.spills.items k None ≡ cell_of (spill_at levels first f.table.places k) = tile.spills.each k (tile.lawful.table.inside i 0 inside) in
+    let level : get_or f.levels i None ≡ option_map (λ _. h) (get_or f.labels i None) = ap (λ (z : List (Option ℤ)). get_or z i None) tile.heights ∙ levels_where-at f.labels x.heights.now i (sym tile.size) in
+    ap (λ n. cell_of (greater_of (Some h) (get_or x.spills.items n None))) entry
+    ∙ ap (λ o. cell_of (greater_of (Some h) o)) stored ∙ greater_stored h (spill_at levels first f.table.places k) low
+    ∙ ap (λ o. cell_of o) (spill_by (get_or f.labels i None) (get_or f.levels i None) h k listed level)
+  where
+    table_size : length f.labels ≡ length f.table.indexes
+    table_size = ap length tile.lawful.labels ∙ length-map f.table.indexes (λ n. get_or f.table.places n None)
+
+    spill_by : (label : Option Place) (level : Option ℤ) (h : ℤ) (k : ℕ) → label ≡ get_or f.table.places k None → level ≡ option_map (λ _. h) label
+        → greater_of (Some h) (spill_at levels first f.table.places k) ≡ greater_of level (spill_with levels (mark_of (first + k) level label))
+    spill_by None level h k listed is = rw (← listed, is) refl
+    spill_by (Some p) level h k listed is = rw (← listed, is) refl
 
 -- the entries of labels are indexes into it
-pub stored_inside : (c : Cutting) (f : Flood) (levels : List (Option ℤ)) (x : RaisedTile) → IsRaisedTile c f levels x → All (λ k. k < length x.spills.items) x.labels.now
-stored_inside c f levels x tile i d below = omega (arith, tile.1.inside i d below, ap length tile.2, length-map tile.0 cell_of)
+pub stored_inside : (first : ℕ) (f : Flood) (levels : List (Option ℤ)) (x : RaisedTile) → IsRaisedTile first f levels x → All (λ k. k < length x.spills.items) x.labels.now
+stored_inside first f levels x tile i d below =
+    let at : i < length f.table.indexes = omega (arith, below, ap length tile.labels) in
+    omega (arith, tile.lawful.table.inside i d at, ap (λ (z : List ℕ). get_or z i d) tile.labels, tile.spills.size)
+
+-- The levels of the first labels, as cells.
+pub record AreFirstSpills (levels : List (Option ℤ)) (first : ℕ) (places : List (Option Place)) (count : ℕ) (cells : List (Option ℤ)) : Type 0 where
+  pub size : length cells ≡ count
+  pub each : (k : ℕ) → k < count → get_or cells k None ≡ cell_of (spill_at levels first places k)
+
+pub no_spill : (levels : List (Option ℤ)) (first : ℕ) (places : List (Option Place)) (cells : List (Option ℤ)) → cells ≡ [] → AreFirstSpills levels first places 0 cells
+no_spill levels first places cells none = record { size = ap length none; each = λ k low. absurd (omega (arith, low)) }
+
+pub one_spill : (levels : List (Option ℤ)) (first : ℕ) (places : List (Option Place)) (i : ℕ) (cells new : List (Option ℤ)) (x : Option ℤ) → new ≡ cells ++ x ∷ [] → x ≡ cell_of (spill_at levels first places i)
+    → AreFirstSpills levels first places i cells → AreFirstSpills levels first places (i + 1) new
+one_spill levels first places i cells new x more is s = subst (AreFirstSpills levels first places (i + 1)) (sym more) (record {
+  size = length_push cells x ∙ ap (λ n. n + 1) s.size;
+  each = λ k low. elim (cases_eq k i) [
+    | inl same ↦ get_or_push cells x None k (s.size ∙ sym same) ∙ is ∙ ap (λ n. cell_of (spill_at levels first places n)) (sym same)
+    | inr other ↦ get_or_append_left cells (x ∷ []) None k (omega (arith, low, other, s.size)) ∙ s.each k (omega (arith, low, other))
+  ];
+})
 
 -- Such a tile for each of the first floods.
-pub record AreFirstRaised (c : Cutting) (floods : List Flood) (levels : List (Option ℤ)) (count : ℕ) (tiles : List RaisedTile) : Type 0 where
+pub record AreFirstRaised (floods : List Flood) (levels : List (Option ℤ)) (count : ℕ) (tiles : List RaisedTile) : Type 0 where
   pub size : length tiles ≡ count
-  pub each : (tile : ℕ) (f : Flood) (x : RaisedTile) → tile < count → slice_get floods tile ≡ Some f → slice_get tiles tile ≡ Some x → IsRaisedTile c f levels x
+  pub each : (tile : ℕ) (f : Flood) (x : RaisedTile) → tile < count → slice_get floods tile ≡ Some f → slice_get tiles tile ≡ Some x → IsRaisedTile (first_of floods tile) f levels x
 
-pub none_raised : (c : Cutting) (floods : List Flood) (levels : List (Option ℤ)) (tiles : List RaisedTile) → tiles ≡ [] → AreFirstRaised c floods levels 0 tiles
-none_raised c floods levels tiles none = record { size = ap length none; each = λ k g x low. absurd (omega (arith, low)) }
+pub none_raised : (floods : List Flood) (levels : List (Option ℤ)) (tiles : List RaisedTile) → tiles ≡ [] → AreFirstRaised floods levels 0 tiles
+none_raised floods levels tiles none = record { size = ap length none; each = λ k g x low. absurd (omega (arith, low)) }
 
-pub raised_one : (c : Cutting) (floods : List Flood) (levels : List (Option ℤ)) (i : ℕ) (f : Flood) (x : RaisedTile) (tiles : List RaisedTile) → i < length floods → f ≡ get_or floods i f → IsRaisedTile c f levels x
-    → AreFirstRaised c floods levels i tiles → AreFirstRaised c floods levels (i + 1) (tiles ++ x ∷ [])
-raised_one c floods levels i f x tiles below is by s = record {
+pub raised_one : (floods : List Flood) (levels : List (Option ℤ)) (i : ℕ) (f : Flood) (x : RaisedTile) (tiles : List RaisedTile) → i < length floods → slice_get floods i ≡ Some f → IsRaisedTile (first_of floods i) f levels x
+    → AreFirstRaised floods levels i tiles → AreFirstRaised floods levels (i + 1) (tiles ++ x ∷ [])
+raised_one floods levels i f x tiles below is by s = record {
   size = length_push tiles x ∙ ap (λ n. n + 1) s.size;
   each = λ k g y low there tile. elim (cases_eq k i) [
     | inr other ↦
         let early : k < length tiles = omega (arith, low, other, s.size) in
         s.each k g y (omega (arith, low, other)) there (slice_get-get_or tiles k y early ∙ ap Some (sym (get_or_append_left tiles (x ∷ []) y k early) ∙ get_or_from_slice_get (tiles ++ x ∷ []) k y y tile))
     | inl same ↦
-        let f_is : f ≡ g = is ∙ sym (ap (λ n. get_or floods n f) same) ∙ get_or_from_slice_get floods k g f there in
+        let f_is : f ≡ g = same_Some f g (sym is ∙ ap (slice_get floods) (sym same) ∙ there) in
         let x_is : x ≡ y = sym (get_or_push tiles x y k (s.size ∙ sym same)) ∙ get_or_from_slice_get (tiles ++ x ∷ []) k y y tile in
-        subst (λ (z : RaisedTile). IsRaisedTile c g levels z) x_is (subst (λ (h : Flood). IsRaisedTile c h levels x) f_is by)
+        subst (λ n. IsRaisedTile (first_of floods n) g levels y) (sym same) (subst (λ (z : RaisedTile). IsRaisedTile (first_of floods i) g levels z) x_is (subst (λ (h : Flood). IsRaisedTile (first_of floods i) h levels x) f_is by))
   ];
 }
 
-raised_from : (c : Cutting) (levels : List (Option ℤ)) (o : Option ℤ) (l : Option Place) (level n : ℤ) (label : Place) → o ≡ Some level → l ≡ Some label → get_or levels (index_of c.cols label) None ≡ Some n → raised_by c levels o l ≡ Some (int_max level n)
-raised_from c levels o l level n label a b e = rw (a, b) (ap (option_and_then (λ z. Some (int_max level z))) e)
-
-raised_from_none : (c : Cutting) (levels : List (Option ℤ)) (o : Option ℤ) (l : Option Place) → o ≡ None → raised_by c levels o l ≡ None
-raised_from_none c levels o l a = rw a refl
+-- What the flood of its tile and the levels of labels by place raise a cell to.
+abbrev placed_among : Cutting → List Flood → List (Option ℤ) → Place → Option ℤ
+placed_among c floods levels p = raised_by c levels (level_among c floods p) (label_among c floods p)
 
 -- what a flood and its tile's index say of a place of the tile
 pub raised_here : (c : Cutting) (floods : List Flood) (tile k : ℕ) (f : Flood) (levels : List (Option ℤ)) (p : Place) → IsCutting c → Fit c floods → slice_get floods tile ≡ Some f → IsInTile c tile p
-    → k ≡ index_in (bounds_of c tile) p → raised_by c levels (get_or f.levels k None) (get_or f.labels k None) ≡ raised_among c floods levels p
+    → k ≡ index_in (bounds_of c tile) p → raised_by c levels (get_or f.levels k None) (get_or f.labels k None) ≡ placed_among c floods levels p
 raised_here c floods tile k f levels p h fit there i at =
     let bounds = fit.bounds tile f there in
     let held : IsInBounds f.bounds p = subst (λ x. IsInBounds x p) (sym bounds) (in_bounds c tile p h i) in
@@ -164,9 +210,23 @@ raised_here c floods tile k f levels p h fit there i at =
     let own_label = among_is (λ g. label_in g p) floods (tile_of_place c p) f own ∙ label in
     sym (ap (λ z. raised_by c levels z (get_or f.labels k None)) own_level) ∙ sym (ap (raised_by c levels (level_among c floods p)) own_label)
 
+-- the same by number
+number_here : (c : Cutting) (floods : List Flood) (tile k : ℕ) (f : Flood) (levels : List (Option ℤ)) (p : Place) → IsCutting c → Fit c floods → slice_get floods tile ≡ Some f → IsInTile c tile p
+    → k ≡ index_in (bounds_of c tile) p → greater_of (get_or f.levels k None) (spill_with levels (mark_with (first_of floods tile) f k)) ≡ raised_among c floods levels p
+number_here c floods tile k f levels p h fit there i at =
+    let bounds = fit.bounds tile f there in
+    let inside = in_bounds c tile p h i in
+    let held : IsInBounds f.bounds p = subst (λ x. IsInBounds x p) (sym bounds) inside in
+    let index : index_in f.bounds p ≡ k = ap (λ (x : Bounds). index_in x p) bounds ∙ sym at in
+    let own : slice_get floods (tile_of_place c p) ≡ Some f = ap (slice_get floods) i.1 ∙ there in
+    let below : tile < tile_count c = omega (arith, fit.count, slice_get_within floods tile f there) in
+    let level = among_is (λ g. level_in g p) floods (tile_of_place c p) f own ∙ entry_in-inside f.bounds f.levels p held ∙ ap (λ n. get_or f.levels n None) index in
+    let mark = entry_mark c floods tile f p k h below there bounds inside at in
+    sym (ap (λ z. greater_of z (spill_with levels (mark_with (first_of floods tile) f k))) level) ∙ sym (ap (λ z. greater_of (level_among c floods p) (spill_with levels z)) mark)
+
 -- a raised tile has what its cells are raised to
 pub raised_tile : (c : Cutting) (floods : List Flood) (tile : ℕ) (f : Flood) (levels raised : List (Option ℤ)) → IsCutting c → Fit c floods → slice_get floods tile ≡ Some f → IsRaised c f levels raised →
-    (length raised ≡ cell_count c tile) × ((p : Place) → IsInTile c tile p → tile_entry c tile raised p ≡ raised_among c floods levels p)
+    (length raised ≡ cell_count c tile) × ((p : Place) → IsInTile c tile p → tile_entry c tile raised p ≡ placed_among c floods levels p)
 raised_tile c floods tile f levels raised h fit there is =
     let area : length f.levels ≡ cell_count c tile = fit.levels tile f there ∙ ap (λ (x : Bounds). x.rows * x.cols) (fit.bounds tile f there) in (
       is.size ∙ area,
@@ -205,7 +265,7 @@ part_of_row c floods row col tile f b h fit low left is there e =
 
 -- one more cell of such a part
 pub part_more : (c : Cutting) (floods : List Flood) (levels list : List (Option ℤ)) (row start index tile : ℕ) (f : Flood) (b : Bounds) (x : Option ℤ) → IsCutting c → Fit c floods → tile < tile_count c → slice_get floods tile ≡ Some f → b ≡ bounds_of c tile
-    → b.top ≤ row → row < b.top + b.rows → start ≡ (row - b.top) * b.cols → start ≤ index → index < start + b.cols → x ≡ cell_of (raised_by c levels (get_or f.levels index None) (get_or f.labels index None))
+    → b.top ≤ row → row < b.top + b.rows → start ≡ (row - b.top) * b.cols → start ≤ index → index < start + b.cols → x ≡ cell_of (greater_of (get_or f.levels index None) (spill_with levels (mark_with (first_of floods tile) f index)))
     → AreRaisedBelow c floods levels (row * c.cols + (b.left + (index - start))) list → AreRaisedBelow c floods levels (row * c.cols + (b.left + (index + 1 - start))) (list ++ x ∷ [])
 part_more c floods levels list row start index tile f b x h fit below there same top bottom at from end is raised =
     let p = make_place row (b.left + (index - start)) in
@@ -214,7 +274,7 @@ part_more c floods levels list row start index tile f b x h fit below there same
     let k : index ≡ index_in b p = omega (arith, at, from) in
     let own : index ≡ index_in (bounds_of c tile) p = k ∙ ap (λ (z : Bounds). index_in z p) same in
     subst (λ n. AreRaisedBelow c floods levels n (list ++ x ∷ [])) (omega (arith, from))
-    (raised_more c floods levels list p _ x i.0 refl (is ∙ ap cell_of (raised_here c floods tile index f levels p h fit there i own)) raised)
+    (raised_more c floods levels list p _ x i.0 refl (is ∙ ap cell_of (number_here c floods tile index f levels p h fit there i own)) raised)
 
 -- so all cells of the grid
 pub raised_map : (c : Cutting) (floods : List Flood) (levels list : List (Option ℤ)) (n : ℕ) → n ≡ c.rows * c.cols → AreRaisedBelow c floods levels n list → IsMadeMap c (λ p cell. cell ≡ cell_of (raised_among c floods levels p)) list
@@ -223,58 +283,137 @@ raised_map c floods levels list n all below = record {
   each = λ p within cell is. sym (get_or_from_slice_get list (index_of c.cols p) cell None is) ∙ below.each p within (omega (arith, index_below c.cols c.rows p within.0 within.1, all, mul_comm c.rows c.cols));
 }
 
--- a graph with all joins is one in which some may be left out
-pub open_levels : (t : Terrain) (c : Cutting) (floods : List Flood) (levels : List (Option ℤ)) → AreSpillLevels t c floods levels → AreOpenLevels t c floods levels
-open_levels t c floods levels s = (
-  s.0,
-  record {
-    count = s.1.count;
-    joined = λ a b h differ pass. inr (s.1.joined a b h differ pass);
-    joined_only = s.1.joined_only;
-    sources = s.1.sources;
-  },
-  s.2,
-)
+-- a label lies in the grid
+label_inside : (t : Terrain) (c : Cutting) (floods : List Flood) (p label : Place) → AreFloods t c floods → label_among c floods p ≡ Some label → IsWithin c label
+label_inside t c floods p label are e = elim (cases_option (slice_get floods (tile_of_place c p))) [
+  | inl none ↦ none_some (label_among c floods p) label (ap (option_and_then (λ (g : Flood). label_in g p)) none) e
+  | inr f ↦
+      let entry = label_entry f.0 p label (sym (among_is (λ g. label_in g p) floods (tile_of_place c p) f.0 f.1) ∙ e) in
+      labels_within t c floods (tile_of_place c p) f.0 are f.1 entry.0 label entry.1
+]
 
--- the levels of the spill graph raise a place to its filled height
-filled_at : (t : Terrain) (c : Cutting) (floods : List Flood) (levels : List (Option ℤ)) → AreFloods t c floods → AreOpenLevels t c floods levels → (p : Place) → IsWithin c p →
-    (entry : Option ℤ) → entry ≡ raised_among c floods levels p → MatchOption (height_at t p) (entry ≡ None) (λ _. (level : ℤ) × (entry ≡ Some level) × IsFilledHeight t p level)
-filled_at t c floods levels are spill p within entry e =
+-- the spill graph is what raising asks for
+place_net : (t : Terrain) (c : Cutting) (floods : List Flood) (g : Graph) → AreFloods t c floods → IsGraphOf t c floods g → IsLabelNet t c floods (λ p. option_map (index_of c.cols) (label_among c floods p)) (HasJoin g) (source_in g)
+place_net t c floods g are graph = record {
+  some = λ p has. let l = has_tile_level t c floods are.lawful are p has in (index_of c.cols l.label, ap (option_map (index_of c.cols)) l.label_is);
+  one = λ p q a p_is q_is.
+      let x = label_of p a p_is in
+      let y = label_of q a q_is in
+      x.1 ∙ ap Some (index_injective c.cols x.0 y.0 x.3.1 y.3.1 (x.2 ∙ sym y.2)) ∙ sym y.1;
+  joined = λ a b h differ meet.
+      let x = label_of meet.from a meet.from_number in
+      let y = label_of meet.to b meet.to_number in
+      let pass : IsPass t c floods a b h = record {
+        from = meet.from;
+        to = meet.to;
+        from_level = meet.from_level;
+        to_level = meet.to_level;
+        neighbours = meet.neighbours;
+        from_label = (x.0, x.1, x.2);
+        to_label = (y.0, y.1, y.2);
+        from_is = meet.from_is;
+        to_is = meet.to_is;
+        greater = meet.greater;
+      } in
+      let join = graph.joined a b h differ pass in
+      inr (join.0, join.1, (graph.joined_only a b join.0 join.1).least h pass);
+  joined_only = λ a b h join.
+      let pass = (graph.joined_only a b h join).pass in
+      record {
+        from = pass.from;
+        to = pass.to;
+        from_level = pass.from_level;
+        to_level = pass.to_level;
+        neighbours = pass.neighbours;
+        from_number = ap (option_map (index_of c.cols)) pass.from_label.1 ∙ ap Some pass.from_label.2;
+        to_number = ap (option_map (index_of c.cols)) pass.to_label.1 ∙ ap Some pass.to_label.2;
+        from_is = pass.from_is;
+        to_is = pass.to_is;
+        greater = pass.greater;
+      };
+  end_source = λ p a h end own is height.
+      let x = label_of p a is in
+      let same = same_Some x.0 p (sym x.1 ∙ own) in
+      let at : index_of c.cols p ≡ a = ap (index_of c.cols) (sym same) ∙ x.2 in
+      subst (λ n. source_in g n ≡ Some h) at (graph.sources.each p h (p, own, refl) end height);
+  source_end = λ p a h has is source.
+      let x = label_of p a is in
+      let end = graph.sources.only a h source in
+      let within = data_within t c end.0 are.cuts (ap is_some end.4) in
+      let same = index_injective c.cols end.0 x.0 within.1 x.3.1 (end.1 ∙ sym x.2) in
+      (end.0, x.1 ∙ ap Some (sym same), end.3, end.4);
+} where
+  from_option : (o : Option Place) (a : ℕ) → option_map (index_of c.cols) o ≡ Some a → (label : Place) × (o ≡ Some label) × (index_of c.cols label ≡ a)
+  from_option None a e = absurd (cc)
+  from_option (Some label) a e = (label, refl, same_Some _ a e)
+
+  label_of : (p : Place) (a : ℕ) → option_map (index_of c.cols) (label_among c floods p) ≡ Some a → (label : Place) × (label_among c floods p ≡ Some label) × (index_of c.cols label ≡ a) × IsWithin c label
+  label_of p a e =
+      let x = from_option (label_among c floods p) a e in
+      (x.0, x.1, x.2, label_inside t c floods p x.0 are x.1)
+
+-- a cell is raised to its filled height, where it has a label's level in such a net
+raised_filled : (t : Terrain) (c : Cutting) (floods : List Flood) (p : Place) → AreFloods t c floods → IsWithin c p → (spill : Option ℤ)
+    → ((l : HasTileLevel t c floods p) → IsDataCell t p → (n : ℤ) × (spill ≡ Some n) × IsFilledHeight t p (int_max l.level n))
+    → MatchOption (height_at t p) (greater_of (level_among c floods p) spill ≡ None) (λ _. (level : ℤ) × (greater_of (level_among c floods p) spill ≡ Some level) × IsFilledHeight t p level)
+raised_filled t c floods p are within spill has =
     let tile = tile_of_place c p in
     let f = list_there floods tile (omega (arith, are.count, tile_of_place_below c p are.lawful within)) in
     match_of (height_at t p) _ _
-    (λ none. e ∙ raised_from_none c levels _ _ (among_is (λ g. level_in g p) floods tile f.0 f.1 ∙ (MatchOption-at_none _ _ none ((are.each tile f.0 f.1).each p (within, refl))).0))
+    (λ none. no_level (among_is (λ g. level_in g p) floods tile f.0 f.1 ∙ (MatchOption-at_none _ _ none ((are.each tile f.0 f.1).each p (within, refl))).0))
     (λ h some.
     let l = has_tile_level t c floods are.lawful are p (ap is_some some) in
-    let filled = rims t c floods spill.0 levels spill.2.0 are.lawful are spill.1 spill.2.1 p l (ap is_some some) in
-    (int_max l.level filled.0, e ∙ raised_from c levels _ _ l.level filled.0 l.label l.level_is l.label_is filled.1, filled.2))
+    let filled = has l (ap is_some some) in
+    (int_max l.level filled.0, both l.level filled.0 l.level_is filled.1, filled.2)) where
+      no_level : level_among c floods p ≡ None → greater_of (level_among c floods p) spill ≡ None
+      no_level none = rw none refl
 
-pub filled_tile : (t : Terrain) (c : Cutting) (floods : List Flood) (tile : ℕ) (f : Flood) (levels raised : List (Option ℤ)) → AreFloods t c floods → slice_get floods tile ≡ Some f → AreOpenLevels t c floods levels → IsRaised c f levels raised → IsFilledTile t c tile raised
+      both : (x n : ℤ) → level_among c floods p ≡ Some x → spill ≡ Some n → greater_of (level_among c floods p) spill ≡ Some (int_max x n)
+      both x n a b = rw (a, b) refl
+
+pub filled_tile : (t : Terrain) (c : Cutting) (floods : List Flood) (tile : ℕ) (f : Flood) (levels raised : List (Option ℤ)) → AreFloods t c floods → slice_get floods tile ≡ Some f → AreSpillLevels t c floods levels → IsRaised c f levels raised → IsFilledTile t c tile raised
 filled_tile t c floods tile f levels raised are there spill is =
-    let made = raised_tile c floods tile f levels raised are.lawful (fit_of t c floods are.lawful are) there is in
-    record { size = made.0; each = λ p i. filled_at t c floods levels are spill p i.0 (tile_entry c tile raised p) (made.1 p i) }
+    let made = raised_tile c floods tile f levels raised are.lawful (fit_of t c floods are) there is in
+    let g = spill.0 in
+    record {
+      size = made.0;
+      each = λ p i.
+          subst (λ (o : Option ℤ). MatchOption (height_at t p) (o ≡ None) (λ _. (level : ℤ) × (o ≡ Some level) × IsFilledHeight t p level)) (sym (made.1 p i))
+          (raised_filled t c floods p are i.0 (spill_of c levels (label_among c floods p)) (λ l data_is.
+          let within = label_inside t c floods p l.label are l.label_is in
+          let below : index_of c.cols l.label < g.nodes = omega (arith, spill.1.count, index_below c.cols c.rows l.label within.0 within.1) in
+          let filled = rims t c floods are.lawful are (λ q. option_map (index_of c.cols) (label_among c floods q)) (HasJoin g) (source_in g) (place_net t c floods g are spill.1)
+          g.nodes levels spill.2.0 spill.2.1 p (index_of c.cols l.label) l data_is (ap (option_map (index_of c.cols)) l.label_is) below in
+          (filled.0, ap (spill_of c levels) l.label_is ∙ filled.1, filled.2)));
+    }
 
 -- a filled height is one of the grid's, and so a cell has it
 stands_in_cell : (t : Terrain) (p : Place) (level : ℤ) → IsTerrain t → IsFilledHeight t p level → cell_of (Some level) ≡ Some level
 stands_in_cell t p level lawful filled = stored_some level (All-contains (λ c. IfSome c IsHeight) t.cells (Some level) lawful.heights (filled_height_stands t p level filled)).1
 
--- the same of a cell
-filled_cell : (t : Terrain) (c : Cutting) (floods : List Flood) (levels : List (Option ℤ)) → IsTerrain t → AreFloods t c floods → AreOpenLevels t c floods levels → (p : Place) → IsWithin c p →
+-- the same of a cell, by the graph by numbers
+filled_cell : (t : Terrain) (c : Cutting) (floods : List Flood) (ways : List (List Spill)) (sources levels : List (Option ℤ)) → IsTerrain t → AreFloods t c floods → AreLawful floods → IsNumberGraph t c floods ways sources → AreNumberLevels ways sources levels → (p : Place) → IsWithin c p →
     (entry : Option ℤ) → entry ≡ cell_of (raised_among c floods levels p) → MatchOption (height_at t p) (entry ≡ None) (λ _. (level : ℤ) × (entry ≡ Some level) × IsFilledHeight t p level)
-filled_cell t c floods levels lawful are spill p within entry e =
-    let raised = filled_at t c floods levels are spill p within (raised_among c floods levels p) refl in
+filled_cell t c floods ways sources levels heights are lawful graph spill p within entry e =
+    let raised = raised_filled t c floods p are within (spill_with levels (mark_among c floods p)) (λ l data_is.
+    let f = list_there floods (tile_of_place c p) (omega (arith, are.count, tile_of_place_below c p are.lawful within)) in
+    let m = has_mark c floods p l.level l.label f.0 f.1 l.level_is l.label_is in
+    let below = number_below c floods p _ lawful m.1 in
+    let filled = rims t c floods are.lawful are (number_among c floods) (HasWay ways) (source_number sources) (number_net t c floods are lawful ways sources graph)
+    (length ways) levels spill.0 spill.1 p m.0 l data_is (ap (option_map (λ (x : Mark). x.node)) m.1) (omega (arith, below, graph.count)) in
+    (filled.0, ap (spill_with levels) m.1 ∙ filled.1, filled.2)) in
     match_of (height_at t p) _ _
     (λ none. e ∙ ap cell_of (MatchOption-at_none _ _ none raised))
-    (λ h some. let filled = MatchOption-at_some _ _ h some raised in (filled.0, e ∙ ap cell_of filled.1 ∙ stands_in_cell t p filled.0 lawful filled.2, filled.2))
+    (λ h some. let filled = MatchOption-at_some _ _ h some raised in (filled.0, e ∙ ap cell_of filled.1 ∙ stands_in_cell t p filled.0 heights filled.2, filled.2))
 
 -- the whole grid, raised by such levels
-pub filled_map : (t : Terrain) (c : Cutting) (floods : List Flood) (levels whole : List (Option ℤ)) → IsTerrain t → AreFloods t c floods → AreOpenLevels t c floods levels →
+pub filled_map : (t : Terrain) (c : Cutting) (floods : List Flood) (ways : List (List Spill)) (sources levels whole : List (Option ℤ)) → IsTerrain t → AreFloods t c floods → AreLawful floods → IsNumberGraph t c floods ways sources → AreNumberLevels ways sources levels →
     IsMadeMap c (λ p cell. cell ≡ cell_of (raised_among c floods levels p)) whole → IsFilled t whole
-filled_map t c floods levels whole lawful are spill made =
+filled_map t c floods ways sources levels whole heights are lawful graph spill made =
     let all = map_of_size c t.cols t.rows (λ p cell. cell ≡ cell_of (raised_among c floods levels p)) whole are.cuts.0 are.cuts.1 made in
     record {
       size = all.0;
-      each = λ p inside. filled_cell t c floods levels lawful are spill p (omega (arith, inside, are.cuts), omega (arith, inside, are.cuts)) (entry_at t.cols t.rows whole p) (all.1 p inside);
+      each = λ p inside. filled_cell t c floods ways sources levels heights are lawful graph spill p (omega (arith, inside, are.cuts), omega (arith, inside, are.cuts)) (entry_at t.cols t.rows whole p) (all.1 p inside);
     }
 
 -- the flood of a view is that of its terrain

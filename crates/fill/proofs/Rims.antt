@@ -1,15 +1,14 @@
 -- The levels of the spill graph raise each tile's levels to the filled heights.
 use Rattle.std.proofs.Common.{◌≡◌, ℕ, ◌<◌, inl, inr, ℤ, pos, ◌≤ℤ◌, List, [], ◌∷◌, length, get_or, Option, None, Some, is_some, unwrap_or, ◌∙◌, sym, ap, subst, refl, arith}
-use Rattle.std.specs.Prelude.{slice_get, option_and_then, IsSome}
+use Rattle.std.specs.Prelude.{slice_get, option_and_then, IsSome, ◌≢◌, ◌⊎◌}
 use Rattle.std.specs.Int.Signed.{≤ℤ_refl}
 use Rattle.std.specs.Int.{int_max}
 use Rattle.std.proofs.lemmas.Bool.{cases_eq}
 use Rattle.std.proofs.lemmas.Option.{MatchOption-at_some, MatchOption-at_none, same_Some, slice_get_cases}
 use Rattle.terrain.proofs.Orders.{max_left, max_right, max_least, trans, le_of_same}
 use Rattle.terrain.specs.Raster.{Terrain}
-use Rattle.terrain.specs.Neighbours.{height_at, index_of, IsDataCell, IsNeighbour, IsEnd, height_of}
+use Rattle.terrain.specs.Neighbours.{height_at, IsDataCell, IsNeighbour, IsEnd, height_of}
 use Rattle.terrain.specs.declared.place.Place.{Place}
-use Rattle.terrain.proofs.Places.{index_injective, index_below}
 use Rattle.drainage.specs.Filled.{IsPath, crest, IsFilledHeight}
 use Rattle.drainage.proofs.Heights.{first_is_data, height_below_crest}
 use Rattle.drainage.proofs.Uniqueness.{between}
@@ -18,15 +17,14 @@ use Rattle.drainage.proofs.Reach.{HasLowPath}
 use Rattle.tiles.specs.Cutting.{Cutting, IsCutting, IsWithin, tile_of_place, bounds_of}
 use Rattle.tiles.proofs.Cut.{in_bounds, tile_of_place_below}
 use Rattle.floods.specs.declared.net.Spill.{Spill}
-use Rattle.floods.specs.Walk.{IsWalk, crest as walk_crest, IsFlooded}
+use Rattle.floods.specs.Walk.{Joins, Sources, IsWalk, crest as walk_crest, IsFlooded}
 use Rattle.cell_floods.specs.TileFlood.{IsTileSource, IsTilePath, IsTileLevel, Flood, level_in, label_in}
 use Rattle.cell_floods.specs.Cells.{last_of}
-use Rattle.fill.specs.Spills.{AreFloods, level_among, label_among, Carries, IsPass, Graph, HasJoin, source_in, IsOpenGraphOf}
+use Rattle.fill.specs.Spills.{AreFloods, level_among, label_among}
 use Rattle.terrain.proofs.Options.{cases_option, none_some}
 use Rattle.terrain.proofs.Heights.{height_is}
 use Rattle.cell_floods.proofs.Windows.{data_is, path_in_window}
 use Rattle.cell_floods.proofs.TileWindows.{data_within, tile_path}
-use Rattle.cell_floods.proofs.Where.{label_has_data}
 
 -- The level and the label of a cell among the floods.
 pub record HasTileLevel (t : Terrain) (c : Cutting) (floods : List Flood) (p : Place) : Type 0 where
@@ -134,112 +132,121 @@ last_low : (t : Terrain) (p : Place) (rest : List Place) → height_of t (last_o
 last_low t p [] = ≤ℤ_refl (height_of t p)
 last_low t p (q ∷ rest) = trans _ _ _ (last_low t q rest) (max_right (height_of t p) (crest t q rest))
 
--- a label that is a source has a walk of no steps
-source_walk : (t : Terrain) (c : Cutting) (floods : List Flood) (g : Graph) → AreFloods t c floods → IsOpenGraphOf t c floods g → (p : Place) (l : HasTileLevel t c floods p) (m : ℤ) → l.level ≤ℤ m → IsSome (source_in g (index_of c.cols l.label)) → (walk : List Spill) × IsWalk (HasJoin g) (source_in g) (index_of c.cols l.label) walk × (walk_crest (source_in g) (index_of c.cols l.label) walk ≤ℤ m)
-source_walk t c floods g are graph p l m low some =
-    let z = data_is (source_in g (index_of c.cols l.label)) some in
-    let end = graph.sources.only (index_of c.cols l.label) z.0 z.1 in
-    let label_within = data_within t c l.label are.cuts (label_has_data t c p l.label l.level l.right) in
-    let same = index_injective c.cols end.0 l.label (data_within t c end.0 are.cuts (first_is_data t end.0 [] end.3)).1 label_within.1 end.1 in
-    let height : height_of t l.label ≡ z.0 = subst (λ y. height_of t y ≡ z.0) same (height_is t end.0 z.0 end.4) in
-    let label_low : height_of t l.label ≤ℤ l.level = subst (λ n. height_of t l.label ≤ℤ n) l.right.reached.2 (subst (λ q. height_of t q ≤ℤ crest t p l.right.reached.0) l.right.reached.3 (last_low t p l.right.reached.0)) in
-    ([], some, trans _ _ _ (le_of_same _ _ (ap (λ (o : Option ℤ). unwrap_or o (pos 0)) z.1 ∙ sym height)) (trans _ _ _ label_low low))
+-- Two neighbouring cells have these numbers, and the greater of their levels is this height.
+pub record AreMeeting (t : Terrain) (c : Cutting) (floods : List Flood) (number : Place → Option ℕ) (a b : ℕ) (height : ℤ) : Type 0 where
+  pub from : Place
+  pub to : Place
+  pub from_level : ℤ
+  pub to_level : ℤ
+  pub neighbours : IsNeighbour t from to
+  pub from_number : number from ≡ Some a
+  pub to_number : number to ≡ Some b
+  pub from_is : level_among c floods from ≡ Some from_level
+  pub to_is : level_among c floods to ≡ Some to_level
+  pub greater : int_max from_level to_level ≡ height
 
--- a path from a cell gives a walk from its label at no greater crest
-pub path_walk : (t : Terrain) (c : Cutting) (floods : List Flood) (g : Graph) → IsCutting c → AreFloods t c floods → IsOpenGraphOf t c floods g → (p : Place) (l : HasTileLevel t c floods p) (rest : List Place) → IsPath t p rest → (walk : List Spill) × IsWalk (HasJoin g) (source_in g) (index_of c.cols l.label) walk × (walk_crest (source_in g) (index_of c.cols l.label) walk ≤ℤ crest t p rest)
-path_walk t c floods g h are graph p l [] path =
-    let same = end_label t c p l.label l.level l.right path in
-    let height = data_is (height_at t p) (first_is_data t p [] path) in
-    let carries : Carries c floods p (index_of c.cols p) = (p, l.label_is ∙ ap Some same, refl) in
-    let source : source_in g (index_of c.cols l.label) ≡ Some height.0 = ap (λ z. source_in g (index_of c.cols z)) same ∙ graph.sources.each p height.0 carries path height.1 in
-    ([], ap is_some source, le_of_same _ _ (ap (λ (o : Option ℤ). unwrap_or o (pos 0)) source ∙ sym (height_is t p height.0 height.1)))
-path_walk t c floods g h are graph p l (q ∷ rest) path =
-    let k = has_tile_level t c floods h are q path.0.to_data in
-    let further = path_walk t c floods g h are graph q k rest path.1 in
-    let low = trans _ _ _ further.2 (max_right (height_of t p) (crest t q rest)) in
-    elim (cases_eq (index_of c.cols k.label) (index_of c.cols l.label)) [
-      | inl same ↦ (further.0, subst (λ a. IsWalk (HasJoin g) (source_in g) a further.0) same further.1, subst (λ a. walk_crest (source_in g) a further.0 ≤ℤ crest t p (q ∷ rest)) same low)
-      | inr differ ↦
-          let pass : IsPass t c floods (index_of c.cols l.label) (index_of c.cols k.label) (int_max l.level k.level) = record {
-            from = p;
-            to = q;
-            from_level = l.level;
-            to_level = k.level;
-            neighbours = path.0;
-            from_label = (l.label, l.label_is, refl);
-            to_label = (k.label, k.label_is, refl);
-            from_is = l.level_is;
-            to_is = k.level_is;
-            greater = refl;
-          } in
-          elim (graph.joined (index_of c.cols l.label) (index_of c.cols k.label) (int_max l.level k.level) (λ e. differ (sym e)) pass) [
-            | inl both ↦ source_walk t c floods g are graph p l (crest t p (q ∷ rest)) (level_low t c floods h are p l (q ∷ rest) path) both.0
-            | inr join ↦
-                let least = (graph.joined_only (index_of c.cols l.label) (index_of c.cols k.label) join.0 join.1).least (int_max l.level k.level) pass in
-                let levels : int_max l.level k.level ≤ℤ crest t p (q ∷ rest) = max_least _ _ _ (level_low t c floods h are p l (q ∷ rest) path) (trans _ _ _ (level_low t c floods h are q k rest path.1) (max_right (height_of t p) (crest t q rest))) in
-                (record { to = index_of c.cols k.label; height = join.0 } ∷ further.0, (join.1, further.1), max_least _ _ _ (trans _ _ _ least levels) low)
-          ]
-    ]
+-- The nodes of a net are numbers of the cells' labels. Cells that meet are joined no higher than they meet, unless
+-- both labels are sources, each join is that of cells that meet, and the sources are the labels that are end cells.
+pub record IsLabelNet (t : Terrain) (c : Cutting) (floods : List Flood) (number : Place → Option ℕ) (joins : Joins) (source : Sources) : Type 0 where
+  pub some : (p : Place) → IsDataCell t p → (a : ℕ) × (number p ≡ Some a)
+  pub one : (p q : Place) (a : ℕ) → number p ≡ Some a → number q ≡ Some a → label_among c floods p ≡ label_among c floods q
+  pub joined : (a b : ℕ) (h : ℤ) → a ≢ b → AreMeeting t c floods number a b h → (IsSome (source a) × IsSome (source b)) ⊎ ((low : ℤ) × joins a b low × (low ≤ℤ h))
+  pub joined_only : (a b : ℕ) (h : ℤ) → joins a b h → AreMeeting t c floods number a b h
+  pub end_source : (p : Place) (a : ℕ) (h : ℤ) → IsEnd t p → label_among c floods p ≡ Some p → number p ≡ Some a → height_at t p ≡ Some h → source a ≡ Some h
+  pub source_end : (p : Place) (a : ℕ) (h : ℤ) → IsDataCell t p → number p ≡ Some a → source a ≡ Some h → (e : Place) × (label_among c floods p ≡ Some e) × IsEnd t e × (height_at t e ≡ Some h)
 
--- a cell's level and label, from what it carries
-carried : (t : Terrain) (c : Cutting) (floods : List Flood) → IsCutting c → AreFloods t c floods → (x : Place) (a : ℕ) (m : ℤ) → IsDataCell t x → Carries c floods x a → level_among c floods x ≡ Some m → (label : Place) × (index_of c.cols label ≡ a) × IsTileLevel t c x m label
-carried t c floods h are x a m some carries level =
-    let l = has_tile_level t c floods h are x some in
-    let same = same_Some l.label carries.0 (sym l.label_is ∙ carries.1) in
-    let same_level = same_Some l.level m (sym l.level_is ∙ level) in
-    (l.label, ap (index_of c.cols) same ∙ carries.2, subst (λ z. IsTileLevel t c x z l.label) same_level l.right)
+module _ (t : Terrain) (c : Cutting) (floods : List Flood) (h : IsCutting c) (are : AreFloods t c floods) (number : Place → Option ℕ) (joins : Joins) (source : Sources) (net : IsLabelNet t c floods number joins source) where
+  -- a label that is a source has a walk of no steps
+  source_walk : (p : Place) (a : ℕ) (l : HasTileLevel t c floods p) (m : ℤ) → IsDataCell t p → number p ≡ Some a → l.level ≤ℤ m → IsSome (source a) → (walk : List Spill) × IsWalk joins source a walk × (walk_crest source a walk ≤ℤ m)
+  source_walk p a l m has is low some =
+      let z = data_is (source a) some in
+      let end = net.source_end p a z.0 has is z.1 in
+      let same = same_Some end.0 l.label (sym end.1 ∙ l.label_is) in
+      let height : height_of t l.label ≡ z.0 = subst (λ y. height_of t y ≡ z.0) same (height_is t end.0 z.0 end.3) in
+      let label_low : height_of t l.label ≤ℤ l.level = subst (λ n. height_of t l.label ≤ℤ n) l.right.reached.2 (subst (λ q. height_of t q ≤ℤ crest t p l.right.reached.0) l.right.reached.3 (last_low t p l.right.reached.0)) in
+      ([], some, trans _ _ _ (le_of_same _ _ (ap (λ (o : Option ℤ). unwrap_or o (pos 0)) z.1 ∙ sym height)) (trans _ _ _ label_low low))
 
--- a walk from a label's node gives a path from the label at no greater crest
-pub walk_path : (t : Terrain) (c : Cutting) (floods : List Flood) (g : Graph) → IsCutting c → AreFloods t c floods → IsOpenGraphOf t c floods g → (walk : List Spill) (p : Place) → IsWithin c p → IsWalk (HasJoin g) (source_in g) (index_of c.cols p) walk → HasLowPath t (walk_crest (source_in g) (index_of c.cols p) walk) p
-walk_path t c floods g h are graph [] p within walk =
-    let height = data_is (source_in g (index_of c.cols p)) walk in
-    let source = graph.sources.only (index_of c.cols p) height.0 height.1 in
-    let same = index_injective c.cols source.0 p (data_within t c source.0 are.cuts (first_is_data t source.0 [] source.3)).1 within.1 source.1 in (
-      [],
-      subst (IsEnd t) same source.3,
-      le_of_same _ _ (subst (λ z. height_of t z ≡ height.0) same (height_is t source.0 height.0 source.4) ∙ sym (ap (λ (o : Option ℤ). unwrap_or o (pos 0)) height.1)),
-    )
-walk_path t c floods g h are graph (step ∷ steps) p within walk =
-    let pass = (graph.joined_only (index_of c.cols p) step.to step.height walk.0).pass in
-    let x = carried t c floods h are pass.from (index_of c.cols p) pass.from_level pass.neighbours.from_data pass.from_label pass.from_is in
-    let y = carried t c floods h are pass.to step.to pass.to_level pass.neighbours.to_data pass.to_label pass.to_is in
-    let x_within = data_within t c x.0 are.cuts (label_has_data t c pass.from x.0 pass.from_level x.2) in
-    let y_within = data_within t c y.0 are.cuts (label_has_data t c pass.to y.0 pass.to_level y.2) in
-    let same = index_injective c.cols x.0 p x_within.1 within.1 x.1 in
-    let later : ℤ = walk_crest (source_in g) step.to steps in
-    let total : ℤ = int_max step.height later in
-    let further = walk_path t c floods g h are graph steps y.0 y_within (subst (λ a. IsWalk (HasJoin g) (source_in g) a steps) (sym y.1) walk.1) in
-    let onward : HasLowPath t total y.0 = low_below t later total y.0 (max_right step.height later) (subst (λ a. HasLowPath t (walk_crest (source_in g) a steps) y.0) y.1 further) in
-    let high : int_max pass.from_level pass.to_level ≤ℤ total = trans _ _ _ (le_of_same _ _ pass.greater) (max_left step.height later) in
-    let from_low : pass.from_level ≤ℤ total = trans _ _ _ (max_left pass.from_level pass.to_level) high in
-    let to_low : pass.to_level ≤ℤ total = trans _ _ _ (max_right pass.from_level pass.to_level) high in
-    let from_height : height_of t pass.from ≤ℤ total = trans _ _ _ (level_high t c pass.from x.0 pass.from_level x.2) from_low in
-    let across = low_step t total pass.from pass.to pass.neighbours from_height (low_from_label t c pass.to y.0 pass.to_level total y.2 to_low onward) in
-    subst (HasLowPath t total) same (low_at_label t c pass.from x.0 pass.from_level total x.2 from_low across)
+  -- a path from a cell gives a walk from its label at no greater crest
+  path_walk : (p : Place) (a : ℕ) (l : HasTileLevel t c floods p) (rest : List Place) → number p ≡ Some a → IsPath t p rest → (walk : List Spill) × IsWalk joins source a walk × (walk_crest source a walk ≤ℤ crest t p rest)
+  path_walk p a l [] is path =
+      let same = end_label t c p l.label l.level l.right path in
+      let height = data_is (height_at t p) (first_is_data t p [] path) in
+      let own : source a ≡ Some height.0 = net.end_source p a height.0 path (l.label_is ∙ ap Some same) is height.1 in
+      ([], ap is_some own, le_of_same _ _ (ap (λ (o : Option ℤ). unwrap_or o (pos 0)) own ∙ sym (height_is t p height.0 height.1)))
+  path_walk p a l (q ∷ rest) is path =
+      let k = has_tile_level t c floods h are q path.0.to_data in
+      let b = net.some q path.0.to_data in
+      let further = path_walk q b.0 k rest b.1 path.1 in
+      let low = trans _ _ _ further.2 (max_right (height_of t p) (crest t q rest)) in
+      elim (cases_eq b.0 a) [
+        | inl same ↦ (further.0, subst (λ n. IsWalk joins source n further.0) same further.1, subst (λ n. walk_crest source n further.0 ≤ℤ crest t p (q ∷ rest)) same low)
+        | inr differ ↦ elim (net.joined a b.0 (int_max l.level k.level) (λ e. differ (sym e)) (record {
+          from = p;
+          to = q;
+          from_level = l.level;
+          to_level = k.level;
+          neighbours = path.0;
+          from_number = is;
+          to_number = b.1;
+          from_is = l.level_is;
+          to_is = k.level_is;
+          greater = refl;
+        })) [
+          | inl both ↦ source_walk p a l (crest t p (q ∷ rest)) path.0.from_data is (level_low t c floods h are p l (q ∷ rest) path) both.0
+          | inr join ↦
+              let levels : int_max l.level k.level ≤ℤ crest t p (q ∷ rest) = max_least _ _ _ (level_low t c floods h are p l (q ∷ rest) path) (trans _ _ _ (level_low t c floods h are q k rest path.1) (max_right (height_of t p) (crest t q rest))) in
+              (record { to = b.0; height = join.0 } ∷ further.0, (join.1, further.1), max_least _ _ _ (trans _ _ _ join.2 levels) low)
+        ]
+      ]
 
--- the filled height of a cell is the greater of its level and its label's level
-pub rims : (t : Terrain) (c : Cutting) (floods : List Flood) (g : Graph) (levels : List (Option ℤ)) (labels : List (Option ℕ)) → IsCutting c → AreFloods t c floods → IsOpenGraphOf t c floods g → IsFlooded (HasJoin g) (source_in g) g.nodes levels labels → (p : Place) (l : HasTileLevel t c floods p) → IsDataCell t p → (n : ℤ) × (get_or levels (index_of c.cols l.label) None ≡ Some n) × IsFilledHeight t p (int_max l.level n)
-rims t c floods g levels labels h are graph flooded p l some =
-    let a = index_of c.cols l.label in
-    let label_within = data_within t c l.label are.cuts (label_has_data t c p l.label l.level l.right) in
-    let below : a < g.nodes = omega (arith, graph.count, index_below c.cols c.rows l.label label_within.0 label_within.1) in
-    let any = (filled_height t p some).1.reached in
-    let any_walk = path_walk t c floods g h are graph p l any.0 any.1 in
-    elim (cases_option (get_or levels a None)) [
-      | inl none ↦ absurd ((MatchOption-at_none _ _ none (flooded.each a below)).0 any_walk.0 any_walk.1)
-      | inr found ↦
-          let level = (MatchOption-at_some _ _ found.0 found.1 (flooded.each a below)).2 in
-          let total : ℤ = int_max l.level found.0 in
-          let way = subst (λ m. HasLowPath t m l.label) level.reached.2 (walk_path t c floods g h are graph level.reached.0 l.label label_within level.reached.1) in
-          let path = low_from_label t c p l.label l.level total l.right (max_left l.level found.0) (low_below t found.0 total l.label (max_right l.level found.0) way) in
-          let least : (rest : List Place) → IsPath t p rest → total ≤ℤ crest t p rest = λ rest is_path.
-          let walk = path_walk t c floods g h are graph p l rest is_path in
-          max_least l.level found.0 (crest t p rest) (level_low t c floods h are p l rest is_path) (trans found.0 (walk_crest (source_in g) a walk.0) (crest t p rest) (level.least walk.0 walk.1) walk.2) in (
-            found.0,
-            found.1,
-            record {
-              reached = (path.0, path.1, between (crest t p path.0) total path.2 (least path.0 path.1));
-              least = least;
-            },
-          )
-    ]
+  -- a walk from a cell's number gives a path from its label at no greater crest
+  walk_path : (walk : List Spill) (p label : Place) (a : ℕ) → IsDataCell t p → number p ≡ Some a → label_among c floods p ≡ Some label → IsWalk joins source a walk → HasLowPath t (walk_crest source a walk) label
+  walk_path [] p label a has is at walk =
+      let height = data_is (source a) walk in
+      let end = net.source_end p a height.0 has is height.1 in
+      let same = same_Some end.0 label (sym end.1 ∙ at) in (
+        [],
+        subst (IsEnd t) same end.2,
+        le_of_same _ _ (subst (λ z. height_of t z ≡ height.0) same (height_is t end.0 height.0 end.3) ∙ sym (ap (λ (o : Option ℤ). unwrap_or o (pos 0)) height.1)),
+      )
+  walk_path (step ∷ steps) p label a has is at walk =
+      let pass = net.joined_only a step.to step.height walk.0 in
+      let x = has_tile_level t c floods h are pass.from pass.neighbours.from_data in
+      let y = has_tile_level t c floods h are pass.to pass.neighbours.to_data in
+      let same : x.label ≡ label = same_Some x.label label (sym x.label_is ∙ net.one pass.from p a pass.from_number is ∙ at) in
+      let from_level : x.level ≡ pass.from_level = same_Some x.level pass.from_level (sym x.level_is ∙ pass.from_is) in
+      let to_level : y.level ≡ pass.to_level = same_Some y.level pass.to_level (sym y.level_is ∙ pass.to_is) in
+      let later : ℤ = walk_crest source step.to steps in
+      let total : ℤ = int_max step.height later in
+      let further = walk_path steps pass.to y.label step.to pass.neighbours.to_data pass.to_number y.label_is walk.1 in
+      let onward : HasLowPath t total y.label = low_below t later total y.label (max_right step.height later) further in
+      let high : int_max pass.from_level pass.to_level ≤ℤ total = trans _ _ _ (le_of_same _ _ pass.greater) (max_left step.height later) in
+      let from_low : x.level ≤ℤ total = subst (λ z. z ≤ℤ total) (sym from_level) (trans _ _ _ (max_left pass.from_level pass.to_level) high) in
+      let to_low : y.level ≤ℤ total = subst (λ z. z ≤ℤ total) (sym to_level) (trans _ _ _ (max_right pass.from_level pass.to_level) high) in
+      let from_height : height_of t pass.from ≤ℤ total = trans _ _ _ (level_high t c pass.from x.label x.level x.right) from_low in
+      let across = low_step t total pass.from pass.to pass.neighbours from_height (low_from_label t c pass.to y.label y.level total y.right to_low onward) in
+      subst (HasLowPath t total) same (low_at_label t c pass.from x.label x.level total x.right from_low across)
+
+  -- the filled height of a cell is the greater of its level and its label's level
+  pub rims : (nodes : ℕ) (levels : List (Option ℤ)) (labels : List (Option ℕ)) → IsFlooded joins source nodes levels labels → (p : Place) (a : ℕ) (l : HasTileLevel t c floods p) → IsDataCell t p → number p ≡ Some a → a < nodes → (n : ℤ) × (get_or levels a None ≡ Some n) × IsFilledHeight t p (int_max l.level n)
+  rims nodes levels labels flooded p a l some is below =
+      let any = (filled_height t p some).1.reached in
+      let any_walk = path_walk p a l any.0 is any.1 in
+      elim (cases_option (get_or levels a None)) [
+        | inl none ↦ absurd ((MatchOption-at_none _ _ none (flooded.each a below)).0 any_walk.0 any_walk.1)
+        | inr found ↦
+            let level = (MatchOption-at_some _ _ found.0 found.1 (flooded.each a below)).2 in
+            let total : ℤ = int_max l.level found.0 in
+            let way = subst (λ m. HasLowPath t m l.label) level.reached.2 (walk_path level.reached.0 p l.label a some is l.label_is level.reached.1) in
+            let path = low_from_label t c p l.label l.level total l.right (max_left l.level found.0) (low_below t found.0 total l.label (max_right l.level found.0) way) in
+            let least : (rest : List Place) → IsPath t p rest → total ≤ℤ crest t p rest = λ rest is_path.
+            let walk = path_walk p a l rest is is_path in
+            max_least l.level found.0 (crest t p rest) (level_low t c floods h are p l rest is_path) (trans found.0 (walk_crest source a walk.0) (crest t p rest) (level.least walk.0 walk.1) walk.2) in (
+              found.0,
+              found.1,
+              record {
+                reached = (path.0, path.1, between (crest t p path.0) total path.2 (least path.0 path.1));
+                least = least;
+              },
+            )
+      ]

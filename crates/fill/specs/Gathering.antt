@@ -1,13 +1,13 @@
 -- How the joins of a spill graph are gathered from the floods of the tiles.
-use Rattle.std.specs.Prelude.{◌≡◌, ◌≢◌, ℕ, ◌+◌, ◌-◌, ◌*◌, ◌<◌, ◌⊎◌, ◌==◌, ◌&&◌, false, if◌then◌else◌, is_some, Bool, ℤ, ◌≤ℤ◌, List, [], ◌∷◌, length, Option, None, Some, slice_get, slice_index_or}
+use Rattle.std.specs.Prelude.{◌≡◌, ◌≢◌, ℕ, ◌+◌, ◌-◌, ◌*◌, ◌<◌, ◌⊎◌, ◌==◌, ◌&&◌, false, if◌then◌else◌, is_some, Bool, ℤ, ◌≤ℤ◌, List, [], ◌∷◌, length, Option, None, Some, slice_get, slice_index_or, option_and_then}
 use Rattle.std.specs.Int.{int_max}
 use Rattle.std.specs.List.{All, Contains}
-use Rattle.terrain.specs.Neighbours.{index_of, Touches}
+use Rattle.terrain.specs.Neighbours.{Touches}
 use Rattle.terrain.specs.declared.place.Place.{Place}
 use Rattle.tiles.specs.declared.bounds.Bounds.{Bounds}
-use Rattle.tiles.specs.Cutting.{Cutting, IsWithin, IsInTile, tile_count, tile_of_place, bounds_of}
+use Rattle.tiles.specs.Cutting.{Cutting, IsWithin, tile_count, tile_of_place, bounds_of, is_in_bounds, index_in}
 use Rattle.cell_floods.specs.TileFlood.{Flood}
-use Rattle.fill.specs.Spills.{level_among, label_among}
+use Rattle.fill.specs.Numbers.{first_of}
 use Rattle.fill.specs.declared.spills.Join.{Join}
 use Rattle.fill.specs.declared.marks.Mark.{Mark}
 use Rattle.floods.specs.declared.net.Spill.{Spill}
@@ -16,27 +16,30 @@ use Rattle.floods.specs.declared.net.Spill.{Spill}
 abbrev pub LabelsInside : Cutting → Flood → Type 0
 LabelsInside c f = (i : ℕ) (label : Place) → slice_index_or f.labels i None ≡ Some label → IsWithin c label
 
--- The floods are of this cutting's tiles, and their labels lie in the grid, each in its own tile.
+-- The floods are of this cutting's tiles.
 pub record Fit (c : Cutting) (floods : List Flood) : Type 0 where
   pub count : length floods ≡ tile_count c
   pub bounds : (tile : ℕ) (f : Flood) → slice_get floods tile ≡ Some f → f.bounds ≡ bounds_of c tile
-  pub labels : (tile : ℕ) (f : Flood) → slice_get floods tile ≡ Some f → LabelsInside c f
   pub sizes : (tile : ℕ) (f : Flood) → slice_get floods tile ≡ Some f → length f.labels ≡ f.bounds.rows * f.bounds.cols
   pub levels : (tile : ℕ) (f : Flood) → slice_get floods tile ≡ Some f → length f.levels ≡ f.bounds.rows * f.bounds.cols
-  pub own : (tile : ℕ) (f : Flood) (k : ℕ) (label : Place) → slice_get floods tile ≡ Some f → slice_index_or f.labels k None ≡ Some label → tile_of_place c label ≡ tile
 
 -- A cell's level with its label's number.
 abbrev pub mark_of : ℕ → Option ℤ → Option Place → Option Mark
-mark_of cols (Some level) (Some label) = Some (record { level = level; node = index_of cols label })
-mark_of cols (Some level) None = None
-mark_of cols None label = None
+mark_of node (Some level) (Some label) = Some (record { level = level; node = node })
+mark_of node (Some level) None = None
+mark_of node None label = None
 
-abbrev pub mark_among : Cutting → List Flood → Place → Option Mark
-mark_among c floods p = mark_of c.cols (level_among c floods p) (label_among c floods p)
-
--- What a flood says of the cell with this index in its tile's row order.
+-- What a flood says of the cell with this index in its tile's row order. Its first label has this number.
 abbrev pub mark_with : ℕ → Flood → ℕ → Option Mark
-mark_with cols f index = mark_of cols (slice_index_or f.levels index None) (slice_index_or f.labels index None)
+mark_with first f index = mark_of (first + slice_index_or f.table.indexes index 0) (slice_index_or f.levels index None) (slice_index_or f.labels index None)
+
+-- What it says of a place, None outside its tile.
+abbrev pub mark_in : ℕ → Flood → Place → Option Mark
+mark_in first f p = if is_in_bounds f.bounds p then mark_with first f (index_in f.bounds p) else None
+
+-- What the flood of its tile says of a place.
+abbrev pub mark_among : Cutting → List Flood → Place → Option Mark
+mark_among c floods p = option_and_then (λ f. mark_in (first_of floods (tile_of_place c p)) f p) (slice_get floods (tile_of_place c p))
 
 -- Both labels are among these sources. The join of two sources lowers the level of neither.
 abbrev pub are_settled : List (Option ℤ) → ℕ → ℕ → Bool
@@ -89,28 +92,28 @@ AreEqualAfter xs i width = All (λ k. slice_index_or xs k 0 ≡ slice_index_or x
 
 -- The join of a cell with the one at an index has been added, where there is one.
 abbrev pub AddsNear : ℕ → Flood → List (Option ℤ) → Mark → ℕ → List Join → List Join → Type 0
-AddsNear cols f sources from near old new = AddsCovered old (joins_of sources from (mark_with cols f near)) new
+AddsNear first f sources from near old new = AddsCovered old (joins_of sources from (mark_with first f near)) new
 
 -- The joins of a cell with the four around it that come after it in rows of this width have been added.
-pub record AddsAfter (cols : ℕ) (f : Flood) (sources : List (Option ℤ)) (from : Mark) (i width : ℕ) (old new : List Join) : Type 0 where
+pub record AddsAfter (first : ℕ) (f : Flood) (sources : List (Option ℤ)) (from : Mark) (i width : ℕ) (old new : List Join) : Type 0 where
   pub after_first : List Join
   pub after_second : List Join
   pub after_third : List Join
-  pub east : AddsNear cols f sources from (i + 1) old after_first
-  pub south_west : AddsNear cols f sources from (i + width - 1) after_first after_second
-  pub south : AddsNear cols f sources from (i + width) after_second after_third
-  pub south_east : AddsNear cols f sources from (i + width + 1) after_third new
+  pub east : AddsNear first f sources from (i + 1) old after_first
+  pub south_west : AddsNear first f sources from (i + width - 1) after_first after_second
+  pub south : AddsNear first f sources from (i + width) after_second after_third
+  pub south_east : AddsNear first f sources from (i + width + 1) after_third new
 
 -- The second place comes after the first in row order.
 abbrev pub IsAfter : Place → Place → Type 0
 IsAfter p q = (p.row < q.row) ⊎ ((p.row ≡ q.row) × (p.col < q.col))
 
--- The joins of these places of a tile have been added, but for those that others cover, and no others. Of those with
--- places of the tile each is asked for by the place that comes first. Joins may have been lowered to added ones.
-pub record Adds (c : Cutting) (floods : List Flood) (sources : List (Option ℤ)) (tile : ℕ) (places : Place → Type 0) (old new : List Join) : Type 0 where
+-- The joins of these places with those after them have been added, but for those that others cover, and no others.
+-- Joins may have been lowered to added ones.
+pub record Adds (c : Cutting) (floods : List Flood) (sources : List (Option ℤ)) (places : Place → Type 0) (old new : List Join) : Type 0 where
   pub kept : (j : Join) → Contains old j → Covered new j
   pub only : (j : Join) → Contains new j → Contains old j ⊎ IsMeetingAt c floods sources places j
-  pub every : (p q : Place) (j : Join) → places p → (IsInTile c tile q → IsAfter p q) → Meets c floods sources p q j → Covered new j
+  pub every : (p q : Place) (j : Join) → places p → IsAfter p q → Meets c floods sources p q j → Covered new j
 
 -- The join from its other label.
 abbrev pub turned : Join → Join
@@ -130,10 +133,10 @@ pub record AreLowest (joins lowest : List Join) : Type 0 where
   pub every : (j : Join) → Contains joins j → Covered lowest j
   pub rising : AreRising lowest
 
--- The joins of these places but those of two of these sources, each as low as those that were met.
-pub record AreGathered (c : Cutting) (floods : List Flood) (places : Place → Type 0) (sources : List (Option ℤ)) (joins : List Join) : Type 0 where
-  pub only : (j : Join) → Contains joins j → IsMeetingAt c floods sources places j
-  pub every : (p q : Place) (j : Join) → places p → Meets c floods sources p q j → Covered joins j
+-- The joins of all cells with those after them but those of two of these sources, each as low as those that were met.
+pub record AreGathered (c : Cutting) (floods : List Flood) (sources : List (Option ℤ)) (joins : List Join) : Type 0 where
+  pub only : (j : Join) → Contains joins j → IsMeetingAt c floods sources (IsWithin c) j
+  pub every : (p q : Place) (j : Join) → IsWithin c p → IsAfter p q → Meets c floods sources p q j → Covered joins j
 
 -- The join before this one is of the same labels.
 abbrev pub IsRepeat : List Join → ℕ → Type 0

@@ -1,8 +1,9 @@
 pub mod Spills
+pub mod Numbers
 pub mod Gathering
 pub mod Ends
 pub mod Parts
-pub mod Numbers
-pub mod Pages
-pub mod Marked
+pub mod Placing
+pub mod Ways
+pub mod LabelNet
 pub mod RaisedTiles

@@ -1,9 +1,8 @@
 -- The spill graph: how the labels of all tiles are joined, and the levels that it gives them.
-use Rattle.std.specs.Prelude.{◌≡◌, ◌≢◌, ℕ, ◌*◌, ◌<◌, ℤ, pos, ◌≤ℤ◌, List, length, Option, None, Some, IsSome, ◌⊎◌, MatchOption, slice_get, slice_index_or, option_and_then}
+use Rattle.std.specs.Prelude.{◌≡◌, ◌≢◌, ℕ, ◌*◌, ◌<◌, ℤ, pos, ◌≤ℤ◌, List, length, Option, None, Some, IsSome, MatchOption, slice_get, slice_index_or, option_and_then}
 use Rattle.std.specs.Int.{int_max}
 use Rattle.std.specs.List.{Contains}
 use Rattle.terrain.specs.Raster.{Terrain}
-use Rattle.terrain.specs.StoredCells.{cell_of}
 use Rattle.terrain.specs.Neighbours.{height_at, index_of, IsNeighbour, IsEnd}
 use Rattle.drainage.specs.Filled.{IsFilledHeight}
 use Rattle.terrain.specs.declared.place.Place.{Place}
@@ -82,13 +81,6 @@ pub record IsGraphOf (t : Terrain) (c : Cutting) (floods : List Flood) (g : Grap
   pub joined_only : (a b : ℕ) (h : ℤ) → HasJoin g a b h → IsJoined t c floods a b h
   pub sources : AreSpillSources t c floods g
 
--- Such a graph, in which two labels that are both end cells may stand without their join.
-pub record IsOpenGraphOf (t : Terrain) (c : Cutting) (floods : List Flood) (g : Graph) : Type 0 where
-  pub count : g.nodes ≡ c.cols * c.rows
-  pub joined : (a b : ℕ) (h : ℤ) → a ≢ b → IsPass t c floods a b h → (IsSome (source_in g a) × IsSome (source_in g b)) ⊎ ((least : ℤ) × HasJoin g a b least)
-  pub joined_only : (a b : ℕ) (h : ℤ) → HasJoin g a b h → IsJoined t c floods a b h
-  pub sources : AreSpillSources t c floods g
-
 -- The least crest from each node of the graph.
 abbrev pub AreLevelsOf : Graph → List (Option ℤ) → Type 0
 AreLevelsOf g levels = (labels : List (Option ℕ)) × IsFlooded (HasJoin g) (source_in g) g.nodes levels labels
@@ -96,9 +88,6 @@ AreLevelsOf g levels = (labels : List (Option ℕ)) × IsFlooded (HasJoin g) (so
 -- The levels of the graph of these floods.
 abbrev pub AreSpillLevels : Terrain → Cutting → List Flood → List (Option ℤ) → Type 0
 AreSpillLevels t c floods levels = (g : Graph) × IsGraphOf t c floods g × AreLevelsOf g levels
-
-abbrev pub AreOpenLevels : Terrain → Cutting → List Flood → List (Option ℤ) → Type 0
-AreOpenLevels t c floods levels = (g : Graph) × IsOpenGraphOf t c floods g × AreLevelsOf g levels
 
 -- The level of a label in the graph.
 abbrev pub spill_of : Cutting → List (Option ℤ) → Option Place → Option ℤ
@@ -124,15 +113,6 @@ pub record IsRaised (c : Cutting) (f : Flood) (levels : List (Option ℤ)) (rais
   pub size : length raised ≡ length f.levels
   pub each : (i : ℕ) → i < length f.levels →
       slice_index_or raised i None ≡ raised_by c levels (slice_index_or f.levels i None) (slice_index_or f.labels i None)
-
--- What the flood of its tile and these levels of the labels raise a cell to.
-abbrev pub raised_among : Cutting → List Flood → List (Option ℤ) → Place → Option ℤ
-raised_among c floods levels p = raised_by c levels (level_among c floods p) (label_among c floods p)
-
--- So many cells, the first in row order, have what their places are raised to.
-pub record AreRaisedBelow (c : Cutting) (floods : List Flood) (levels : List (Option ℤ)) (count : ℕ) (raised : List (Option ℤ)) : Type 0 where
-  pub size : length raised ≡ count
-  pub each : (p : Place) → IsWithin c p → index_of c.cols p < count → slice_index_or raised (index_of c.cols p) None ≡ cell_of (raised_among c floods levels p)
 
 -- The list has the filled heights of a tile's cells, in its row order.
 pub record IsFilledTile (t : Terrain) (c : Cutting) (tile : ℕ) (levels : List (Option ℤ)) : Type 0 where

@@ -6,22 +6,21 @@ ghost use Rattle.std.specs.Prelude.{◌<◌, ◌≤◌, IfOk, OnOk};
 ghost use Rattle.terrain.specs.Raster.{Terrain, IsTerrain};
 ghost use Rattle.drainage.specs.Filled.{IsFilled, IsFilledGrid};
 ghost use Rattle.tiles.specs.Cutting.{Cuts};
-ghost use Rattle.fill.specs.Spills.{AreFloods, IsOpenGraphOf};
+ghost use Rattle.fill.specs.Spills.{AreFloods};
+ghost use Rattle.fill.specs.LabelNet.{IsNumberGraph};
 ghost use Rattle.tile_jobs.specs.Fault.{RefusesWorkers};
-ghost use Rattle.fill.specs.Gathering.{Fit};
 
-use crate::numbering::LabelLevels;
+use crate::label_graph::LabelGraph;
+use crate::marks::NumberedFloods;
+use crate::numbers::{first_numbers, label_ends};
 use crate::parts::{Part, tile_part};
 use crate::rows::{raised_grid, raised_tiles};
-use crate::source_heights::SourceHeights;
-use crate::sources::label_sources;
-use crate::spills::SpillGraph;
 use cell_floods::{TileFlood, tile_flood};
 use drainage::Filled;
 use std::alloc::Global;
 use std::sync::Wait;
 use std::thread::Threads;
-use terrain::{Cell, Frame, Grid, NoMemory};
+use terrain::{Cell, Grid, NoMemory};
 use tile_jobs::{Gate, JobFault, Work};
 use tile_maps::Crew;
 use tiles::Tiling;
@@ -69,10 +68,8 @@ fn tile_floods<R: Threads + Wait + Sync, G: Gate + Sync>(
 /// Finds what each tile adds to the spill graph, but joins of two sources.
 #[derive(Drop)]
 struct PartTiles<'a> {
-    tiling: &'a Tiling,
-    floods: &'a [TileFlood],
-    sources: &'a SourceHeights,
-    ghost fit: { Fit tiling.now floods.now },
+    tiles: &'a NumberedFloods<'a>,
+    sources: &'a [Cell],
 }
 
 impl<'a> Work for PartTiles<'a> {
@@ -81,57 +78,57 @@ impl<'a> Work for PartTiles<'a> {
     ghost use Rattle.tiles.specs.Cutting.{tile_count};
     ghost use Rattle.fill.specs.Parts.{IsPart};
 
-    ghost most = { λ w. tile_count w.tiling.now };
+    ghost most = { λ w. tile_count w.tiles.now.tiling.now };
 
-    ghost gives = { λ w job out. IsPart w.tiling.now w.floods.now w.sources.now job out };
+    ghost gives = { λ w job out. IsPart w.tiles.now.tiling.now w.tiles.now.floods.now w.sources.now job out };
 
     fn run(&self, alloc: Global, job: u32) -> Result<Part, JobFault> {
-        let part = tile_part(alloc, self.tiling, self.floods, self.sources, job)?;
+        let part = tile_part(alloc, self.tiles, self.sources, job)?;
         Ok(part)
     }
 }
 
-/// The spill graph of the floods, but for joins of two sources. Reuses the allocation of `room`.
+/// The spill graph of the floods, but for joins of two sources.
 fn spill_graph<R: Threads + Wait + Sync, G: Gate + Sync>(
     crew: &Crew<'_, R, G>,
-    frame: &Frame,
-    room: Vec<Cell>,
-    tiling: &Tiling,
-    floods: &[TileFlood],
-) -> Result<SpillGraph, JobFault>
-    requires floods { AreFloods frame.now.terrain tiling.now floods.now }
+    tiles: &NumberedFloods<'_>,
+) -> Result<LabelGraph, JobFault>
+    requires floods { (t : Terrain) × AreFloods t tiles.now.tiling.now tiles.now.floods.now }
     requires workers { (0 < crew.now.workers) × (crew.now.workers ≤ 64) }
-    ensures graph { IfOk result (IsOpenGraphOf frame.now.terrain tiling.now floods.now) }
-    ensures lawful { OnOk result (IsTerrain frame.now.terrain) }
+    ensures graph { IfOk result (λ g. (t : Terrain)
+        → AreFloods t tiles.now.tiling.now tiles.now.floods.now
+        → IsNumberGraph t tiles.now.tiling.now tiles.now.floods.now g.ways g.sources) }
     ensures workers { RefusesWorkers crew.now.workers result }
 {
-    // Any look at a frame brings its law, that heights are heights, on which raising relies.
-    let _ = frame.sinks();
-    let sources = label_sources(crew.alloc, room, tiling, floods)?;
+    let sources = label_ends(crew.alloc, tiles.floods)?;
     let work = PartTiles {
-        tiling,
-        floods,
+        tiles,
         sources: &sources,
     };
-    let parts = crew.run(&work, tiling.tiles())?;
+    let parts = crew.run(&work, tiles.tiling.tiles())?;
     drop(work);
-    Ok(SpillGraph::of_parts(tiling, sources, parts))
+    Ok(LabelGraph::of_parts(crew.alloc, sources, &parts)?)
 }
 
-/// The filled heights of all cells in row order, by the floods and their spill graph. They take the memory of its sources.
+/// The filled heights of all cells in row order, by the floods and their spill graph. They take the
+/// memory of `room`.
 fn filled_cells(
     alloc: Global,
-    graph: SpillGraph,
-    tiling: &Tiling,
-    floods: &[TileFlood],
+    room: Vec<Cell>,
+    graph: LabelGraph,
+    tiles: &NumberedFloods<'_>,
 ) -> Result<Vec<Cell>, NoMemory>
-    requires { (t : Terrain) × AreFloods t tiling.now floods.now × IsOpenGraphOf t tiling.now floods.now graph }
-    ensures { IfOk result (λ v. (t : Terrain) → IsTerrain t → AreFloods t tiling.now floods.now → IsOpenGraphOf t tiling.now floods.now graph → IsFilled t v.items) }
+    requires { (t : Terrain) × AreFloods t tiles.now.tiling.now tiles.now.floods.now
+        × IsNumberGraph t tiles.now.tiling.now tiles.now.floods.now graph.ways graph.sources }
+    ensures { IfOk result (λ v. (t : Terrain) → IsTerrain t
+        → AreFloods t tiles.now.tiling.now tiles.now.floods.now
+        → IsNumberGraph t tiles.now.tiling.now tiles.now.floods.now graph.ways graph.sources
+        → IsFilled t v.items) }
 {
-    let levels = LabelLevels::of_graph(alloc, &graph)?;
-    let tiles = raised_tiles(alloc, tiling, floods, &levels)?;
+    let levels = graph.levels(alloc)?;
+    let raised = raised_tiles(alloc, tiles.floods, tiles.firsts, &levels)?;
     drop(levels);
-    Ok(raised_grid(graph.into_room(), tiling, floods, &tiles)?)
+    Ok(raised_grid(room, tiles.tiling, tiles.floods, &raised)?)
 }
 
 /// The grid with each height replaced by its filled height.
@@ -161,11 +158,21 @@ pub fn filled<R: Threads + Wait + Sync, G: Gate + Sync>(
         gate,
     };
     let floods = tile_floods(&crew, &grid, tiling)?;
+    // Any look at a grid brings its law, that heights are heights, on which raising relies.
+    let _ = grid.sinks();
     let (frame, room) = grid.into_parts();
-    let graph = spill_graph(&crew, &frame, room, tiling, &floods)?;
-    let Ok(cells) = filled_cells(alloc, graph, tiling, &floods) else {
+    let firsts = first_numbers(alloc, &floods)?;
+    let tiles = NumberedFloods {
+        tiling,
+        floods: &floods,
+        firsts: &firsts,
+    };
+    let graph = spill_graph(&crew, &tiles)?;
+    let Ok(cells) = filled_cells(alloc, room, graph, &tiles) else {
         return Err(JobFault::Memory);
     };
+    drop(tiles);
+    drop(firsts);
     drop(floods);
     Ok(Filled::from_grid(frame.with_cells(cells)))
 }

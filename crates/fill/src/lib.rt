@@ -6,29 +6,31 @@
 //! Modules, from what is called to what it depends on:
 //!
 //! - `filling`: `filled`, which runs all stages
-//! - `sources`: labels that are end cells
-//! - `source_heights`: their heights
-//! - `parts`: what a tile adds to the graph
-//! - `passes`: joins of touching cells
+//! - `numbers`: labels by number, and those that are end cells
 //! - `marks`: level and label of a cell
-//! - `spills`: the graph
-//! - `numbering`: joined labels by number
-//! - `number_table`: numbers in pages
-//! - `raising`: the filled heights of a tile
+//! - `passes`: joins of touching cells
+//! - `parts`: what a tile adds to the graph
+//! - `ways`: lists of ways that share their memory
+//! - `label_graph`: the graph by numbers, and its levels
 //! - `rows`: the filled heights of a grid
+//! - `placing`: joins by the places of their labels
+//! - `sources`: end cells by place
+//! - `spills`: the graph by places
+//! - `raising`: the filled heights of a tile
 #![tactic(auto)]
 
 mod filling;
+mod label_graph;
 mod marks;
-mod number_table;
-mod numbering;
+mod numbers;
 mod parts;
 mod passes;
+mod placing;
 mod raising;
 mod rows;
-mod source_heights;
 mod sources;
 mod spills;
+mod ways;
 
 pub use cell_floods::{CellNet, TileFlood, filled_heights, tile_flood};
 pub use drainage::Filled;

@@ -1,15 +1,15 @@
 //! The level and the label of any cell, from the floods of all tiles.
-ghost use Rattle.std.specs.Prelude.{◌≡◌, ◌*◌, ◌<◌, ℤ, ◌↔◌, IsTrue, Some, None, length, slice_get, IfSome, IfNone};
+ghost use Rattle.std.specs.Prelude.{◌≡◌, ◌+◌, ◌*◌, ◌<◌, ◌≤◌, length};
 ghost use Rattle.tiles.specs.Cutting.{IsCutting, IsWithin, tile_count, tile_of_place};
 ghost use Rattle.terrain.specs.Neighbours.{index_of};
-ghost use Rattle.cell_floods.specs.TileFlood.{level_in, label_in};
-ghost use Rattle.fill.specs.Gathering.{Fit, LabelsInside, mark_of, mark_with, mark_among};
+ghost use Rattle.fill.specs.Numbers.{AreFirsts};
+ghost use Rattle.fill.specs.Gathering.{Fit, mark_among, mark_in, mark_with};
 
 use cell_floods::TileFlood;
 use terrain::{Height, Place};
 use tiles::Tiling;
 
-/// A cell's level, and the number of its label: its place in row order of the whole grid.
+/// A cell's level, and the number of its label.
 #[derive(Clone, Copy, Debug, PartialEq, Eq)]
 pub struct Mark {
     pub level: Height,
@@ -26,64 +26,68 @@ pub(crate) fn node_of(tiling: &Tiling, place: Place) -> u32
     place.row * tiling.cols() + place.col
 }
 
-/// What a flood says of the cell with this index in its tile's row order.
+/// The floods of all tiles, and the number of each tile's first label.
+#[derive(Drop)]
+pub(crate) struct NumberedFloods<'a> {
+    pub(crate) tiling: &'a Tiling,
+    pub(crate) floods: &'a [TileFlood],
+    pub(crate) firsts: &'a [u32],
+    ghost fit: { Fit tiling.now floods.now },
+    ghost numbers: { AreFirsts floods.now firsts.now },
+}
+
+/// What a flood says of the cell with this index in its tile's row order. The tile's first label
+/// has this number.
 #[inline(always)]
-pub(crate) fn mark_of_entry(tiling: &Tiling, flood: &TileFlood, index: usize) -> Option<Mark>
-    requires labels { LabelsInside tiling.now flood.now }
+pub(crate) fn mark_of_entry(flood: &TileFlood, first: u32, index: usize) -> Option<Mark>
     requires index { index < length flood.now.labels }
-    ensures { result ≡ mark_with tiling.now.cols flood.now index }
+    requires few { first + length flood.now.table.places ≤ 4294967295 }
+    ensures { result ≡ mark_with first flood.now index }
 {
+    flood.label_at(index)?;
     let level = flood.level_at(index)?;
-    let label = flood.label_at(index)?;
     Some(Mark {
         level,
-        node: node_of(tiling, label),
+        node: first + flood.labels().indexes()[index],
     })
 }
 
 /// What a flood says of a cell, None outside the tile and where there is no data.
 #[inline]
-pub(crate) fn mark_in(tiling: &Tiling, flood: &TileFlood, place: Place) -> Option<Mark>
-    requires { LabelsInside tiling.now flood.now }
-    ensures { result ≡ mark_of tiling.now.cols (level_in flood.now place) (label_in flood.now place) }
+pub(crate) fn mark_in(flood: &TileFlood, first: u32, place: Place) -> Option<Mark>
+    requires few { first + length flood.now.table.places ≤ 4294967295 }
+    ensures { result ≡ mark_in first flood.now place }
 {
     let index = flood.index_of(place)?;
-    mark_of_entry(tiling, flood, index)
+    mark_of_entry(flood, first, index)
 }
 
-/// The flood of the tile in which a place of the grid lies: most often this tile's.
-#[inline(always)]
-fn flood_at<'a>(tiling: &Tiling, floods: &'a [TileFlood], tile: u32, place: Place) -> &'a TileFlood
-    requires fit { Fit tiling.now floods.now }
-    requires lawful { IsCutting tiling.now }
-    requires tile { tile < tile_count tiling.now }
-    requires place { IsWithin tiling.now place }
-    ensures { slice_get floods.now (tile_of_place tiling.now place) ≡ Some result.now }
-{
-    let flood = &floods[tile as usize];
-    if flood.bounds().contains(place) {
-        return flood;
+impl<'a> NumberedFloods<'a> {
+    /// The tile in which a place of the grid lies: most often this one.
+    #[inline(always)]
+    fn tile_of(&self, tile: u32, place: Place) -> u32
+        requires tile { tile < tile_count self.now.tiling.now }
+        requires place { IsWithin self.now.tiling.now place }
+        requires lawful { IsCutting self.now.tiling.now }
+        ensures { result ≡ tile_of_place self.now.tiling.now place }
+    {
+        if self.floods[tile as usize].bounds().contains(place) {
+            return tile;
+        }
+        self.tiling.tile_of(place)
     }
-    &floods[tiling.tile_of(place) as usize]
-}
 
-/// What the flood of its own tile says of a cell in or next to this tile, None outside the grid and
-/// where there is no data.
-#[inline]
-pub(crate) fn mark_at(
-    tiling: &Tiling,
-    floods: &[TileFlood],
-    tile: u32,
-    place: Place,
-) -> Option<Mark>
-    requires fit { Fit tiling.now floods.now }
-    requires tile { tile < tile_count tiling.now }
-    ensures { result ≡ mark_among tiling.now floods.now place }
-{
-    let rows = tiling.rows();
-    let cols = tiling.cols();
-    if place.row >= rows || place.col >= cols {
-        return None;
+    /// What the flood of its own tile says of a cell in or next to this tile, None outside the grid
+    /// and where there is no data.
+    #[inline]
+    pub(crate) fn mark_at(&self, tile: u32, place: Place) -> Option<Mark>
+        requires { tile < tile_count self.now.tiling.now }
+        ensures { result ≡ mark_among self.now.tiling.now self.now.floods.now place }
+    {
+        if place.row >= self.tiling.rows() || place.col >= self.tiling.cols() {
+            return None;
+        }
+        let own = self.tile_of(tile, place) as usize;
+        mark_in(&self.floods[own], self.firsts[own], place)
     }
-    mark_in(tiling, flood_at(tiling, floods, tile, place), place)
 }

@@ -1,22 +1,21 @@
 //! The joins of a tile: where two labels touch, and the lowest pass between them.
 //!
-//! `tile_joins` looks at each two neighbouring cells once, and `lowest_joins` keeps the lowest.
-ghost use Rattle.std.specs.Prelude.{◌≡◌, ◌+◌, ◌*◌, ◌<◌, ◌≤◌, ◌∷◌, [], None, Some, slice_index_or, MatchOption, IfOk, OnOk, length, IsTrue, ◌↔◌};
+//! `tile_joins` looks at each two neighbouring cells once, from the first of them in row order, and
+//! `lowest_joins` keeps the lowest.
+ghost use Rattle.std.specs.Prelude.{◌≡◌, ◌+◌, ◌*◌, ◌<◌, ◌≤◌, ◌∷◌, [], None, Some, slice_index_or, MatchOption, IfOk, OnOk, length, is_some, IsTrue, ◌↔◌};
 ghost use Rattle.std.specs.Bool.{OnTrue, OnFalse};
 ghost use Rattle.std.specs.Option.{option_to_list};
 ghost use Rattle.std.specs.List.{All};
 ghost use Rattle.terrain.specs.declared.place.Place.{Place};
 ghost use Rattle.tiles.specs.Cutting.{IsCutting, IsWithin, IsInTile, bounds_of, tile_count};
-ghost use Rattle.fill.specs.Gathering.{Fit, LabelsInside, IsInner, AreEqualAfter, Adds, AddsCovered, AddsAfter, AreGathered, AreLowest, are_settled, IsRepeat, joins_of, mark_with};
-ghost use Rattle.fill.specs.Parts.{AddsTurned};
+ghost use Rattle.fill.specs.Gathering.{IsInner, AreEqualAfter, Adds, AddsCovered, AddsAfter, AreLowest, are_settled, IsRepeat, joins_of, mark_with};
 
-use crate::marks::{Mark, mark_at, mark_in, mark_of_entry};
-use crate::source_heights::SourceHeights;
+use crate::marks::{Mark, NumberedFloods, mark_in, mark_of_entry};
 use crate::spills::Join;
 use cell_floods::TileFlood;
 use std::alloc::{AllocError, Global};
-use terrain::Place;
-use tiles::{Bounds, Tiling};
+use terrain::{Cell, Place};
+use tiles::Bounds;
 
 /// How many slots a [`JoinTable`] has at first for each row and column of its tile.
 ///
@@ -155,17 +154,28 @@ impl JoinTable {
     }
 }
 
+/// Whether a label is among these sources. There is none past their end.
+#[inline(always)]
+fn is_source(sources: &[Cell], node: u32) -> bool
+    ensures { result ≡ is_some (slice_index_or sources.now node None) }
+{
+    match sources.get(node as usize) {
+        Some(cell) => cell.height().is_some(),
+        None => false,
+    }
+}
+
 /// Whether both labels are among these sources.
 #[inline(always)]
-fn are_settled(sources: &SourceHeights, from: u32, to: u32) -> bool
+fn are_settled(sources: &[Cell], from: u32, to: u32) -> bool
     ensures { result ≡ are_settled sources.now from to }
 {
-    sources.has(from) && sources.has(to)
+    is_source(sources, from) && is_source(sources, to)
 }
 
 /// The join of two marks, where their labels differ and are not both among these sources.
 #[inline(always)]
-fn join_of(sources: &SourceHeights, from: Mark, to: Option<Mark>) -> Option<Join>
+fn join_of(sources: &[Cell], from: Mark, to: Option<Mark>) -> Option<Join>
     ensures { joins_of sources.now from to ≡ option_to_list result }
 {
     let to = to?;
@@ -186,7 +196,7 @@ fn join_of(sources: &SourceHeights, from: Mark, to: Option<Mark>) -> Option<Join
 #[inline(always)]
 fn push_join(
     table: &mut JoinTable,
-    sources: &SourceHeights,
+    sources: &[Cell],
     from: Mark,
     to: Option<Mark>,
 ) -> Result<(), AllocError>
@@ -206,7 +216,7 @@ fn push_join(
 #[inline(always)]
 fn push_outer(
     table: &mut JoinTable,
-    sources: &SourceHeights,
+    sources: &[Cell],
     from: Mark,
     to: Option<Mark>,
 ) -> Result<(), AllocError>
@@ -220,27 +230,27 @@ fn push_outer(
     Ok(())
 }
 
-/// Adds the joins of a cell with those that touch it: those of other tiles, and those of its own that come after it in
-/// row order.
+/// Adds the joins of a cell with those around it that come after it in row order, of its own tile
+/// and of others.
 fn push_rim_cell(
     table: &mut JoinTable,
-    tiling: &Tiling,
-    floods: &[TileFlood],
-    sources: &SourceHeights,
+    tiles: &NumberedFloods<'_>,
+    sources: &[Cell],
     tile: u32,
     place: Place,
 ) -> Result<(), AllocError>
-    requires fit { Fit tiling.now floods.now }
-    requires tile { tile < tile_count tiling.now }
-    requires place { IsWithin tiling.now place }
-    requires lawful { IsCutting tiling.now }
-    ensures { OnOk result (Adds tiling.now floods.now sources.now tile (λ p. p ≡ place) table.old.joins.items table.new.joins.items) }
+    requires tile { tile < tile_count tiles.now.tiling.now }
+    requires place { IsWithin tiles.now.tiling.now place }
+    requires lawful { IsCutting tiles.now.tiling.now }
+    ensures { OnOk result (Adds tiles.now.tiling.now tiles.now.floods.now sources.now
+        (λ p. p ≡ place) table.old.joins.items table.new.joins.items) }
 {
-    let Some(from) = mark_at(tiling, floods, tile, place) else {
+    let Some(from) = tiles.mark_at(tile, place) else {
         return Ok(());
     };
-    let flood = &floods[tile as usize];
-    for spot in 0..9 {
+    let flood = &tiles.floods[tile as usize];
+    let first = tiles.firsts[tile as usize];
+    for spot in 5..9 {
         let row = place.row + spot / 3;
         let col = place.col + spot % 3;
         if row > 0 && col > 0 {
@@ -248,10 +258,10 @@ fn push_rim_cell(
                 row: row - 1,
                 col: col - 1,
             };
-            if !flood.bounds().contains(near) {
-                push_outer(table, sources, from, mark_at(tiling, floods, tile, near))?;
-            } else if spot > 4 {
-                push_join(table, sources, from, mark_in(tiling, flood, near))?;
+            if flood.bounds().contains(near) {
+                push_join(table, sources, from, mark_in(flood, first, near))?;
+            } else {
+                push_outer(table, sources, from, tiles.mark_at(tile, near))?;
             }
         }
     }
@@ -263,7 +273,8 @@ fn push_rim_cell(
 fn has_same_label(flood: &TileFlood, first: usize, second: usize) -> bool
     requires first { first < length flood.now.labels }
     requires second { second < length flood.now.labels }
-    ensures { OnTrue result (slice_index_or flood.now.labels first None ≡ slice_index_or flood.now.labels second None) }
+    ensures { OnTrue result (slice_index_or flood.now.table.indexes first 0
+        ≡ slice_index_or flood.now.table.indexes second 0) }
 {
     let indexes = flood.labels().indexes();
     indexes[first] == indexes[second]
@@ -273,47 +284,50 @@ fn has_same_label(flood: &TileFlood, first: usize, second: usize) -> bool
 #[inline(always)]
 fn push_near(
     table: &mut JoinTable,
-    tiling: &Tiling,
     flood: &TileFlood,
-    sources: &SourceHeights,
+    first: u32,
+    sources: &[Cell],
     index: usize,
     from: Mark,
     near: usize,
 ) -> Result<(), AllocError>
-    requires labels { LabelsInside tiling.now flood.now }
+    requires few { first + length flood.now.table.places ≤ 4294967295 }
     requires index { index < length flood.now.labels }
     requires near { near < length flood.now.labels }
-    requires from { mark_with tiling.now.cols flood.now index ≡ Some from }
-    ensures { OnOk result (AddsCovered table.old.joins.items (joins_of sources.now from (mark_with tiling.now.cols flood.now near)) table.new.joins.items) }
+    requires from { mark_with first flood.now index ≡ Some from }
+    ensures { OnOk result (AddsCovered table.old.joins.items
+        (joins_of sources.now from (mark_with first flood.now near)) table.new.joins.items) }
 {
     if has_same_label(flood, index, near) {
         return Ok(());
     }
-    push_join(table, sources, from, mark_of_entry(tiling, flood, near))
+    push_join(table, sources, from, mark_of_entry(flood, first, near))
 }
 
-/// Adds the joins of a cell with the four around it that come after it in row order. All are of the tile.
+/// Adds the joins of a cell with the four around it that come after it in row order. All are of
+/// the tile.
 fn push_after(
     table: &mut JoinTable,
-    tiling: &Tiling,
     flood: &TileFlood,
-    sources: &SourceHeights,
+    first: u32,
+    sources: &[Cell],
     index: usize,
     from: Mark,
     width: usize,
 ) -> Result<(), AllocError>
-    requires labels { LabelsInside tiling.now flood.now }
+    requires labels { first + length flood.now.table.places ≤ 4294967295 }
     requires some { 0 < index }
     requires after { index + width + 1 < length flood.now.labels }
     requires few { length flood.now.labels ≤ 16777216 }
-    requires from { mark_with tiling.now.cols flood.now index ≡ Some from }
-    ensures { OnOk result (AddsAfter tiling.now.cols flood.now sources.now from index width table.old.joins.items table.new.joins.items) }
+    requires from { mark_with first flood.now index ≡ Some from }
+    ensures { OnOk result (AddsAfter first flood.now sources.now from index width
+        table.old.joins.items table.new.joins.items) }
 {
     let below = index + width;
-    push_near(table, tiling, flood, sources, index, from, index + 1)?;
-    push_near(table, tiling, flood, sources, index, from, below - 1)?;
-    push_near(table, tiling, flood, sources, index, from, below)?;
-    push_near(table, tiling, flood, sources, index, from, below + 1)?;
+    push_near(table, flood, first, sources, index, from, index + 1)?;
+    push_near(table, flood, first, sources, index, from, below - 1)?;
+    push_near(table, flood, first, sources, index, from, below)?;
+    push_near(table, flood, first, sources, index, from, below + 1)?;
     Ok(())
 }
 
@@ -333,171 +347,142 @@ fn are_equal_after(labels: &[u32], index: usize, width: usize) -> bool
         & (labels[below + 1] == label)
 }
 
-/// Adds the joins of a cell that is not on the rim of its tile, with the cells after it. Most have one label, and none.
+/// Adds the joins of a cell that is not on the rim of its tile, with the cells after it. Most have
+/// one label, and none.
 #[inline(always)]
 fn push_inner_cell(
     table: &mut JoinTable,
-    tiling: &Tiling,
     flood: &TileFlood,
-    sources: &SourceHeights,
+    first: u32,
+    sources: &[Cell],
     index: usize,
 ) -> Result<(), AllocError>
-    requires labels { LabelsInside tiling.now flood.now }
+    requires labels { first + length flood.now.table.places ≤ 4294967295 }
     requires some { 0 < index }
     requires after { index + flood.now.bounds.cols + 1 < length flood.now.labels }
-    ensures { OnOk result (MatchOption (mark_with tiling.now.cols flood.now index) (table.new.joins.items ≡ table.old.joins.items)
-        (λ from. AddsAfter tiling.now.cols flood.now sources.now from index flood.now.bounds.cols table.old.joins.items table.new.joins.items)) }
+    ensures { OnOk result (MatchOption (mark_with first flood.now index)
+        (table.new.joins.items ≡ table.old.joins.items)
+        (λ from. AddsAfter first flood.now sources.now from index flood.now.bounds.cols
+        table.old.joins.items table.new.joins.items)) }
 {
     let width = flood.bounds().cols as usize;
     if are_equal_after(flood.labels().indexes(), index, width) {
         return Ok(());
     }
-    let Some(from) = mark_of_entry(tiling, flood, index) else {
+    let Some(from) = mark_of_entry(flood, first, index) else {
         return Ok(());
     };
-    push_after(table, tiling, flood, sources, index, from, width)
+    push_after(table, flood, first, sources, index, from, width)
 }
 
-/// Adds the joins of the cells of one row of a tile that are not on its rim, with the cells after them.
+/// Adds the joins of the cells of one row of a tile that are not on its rim, with the cells after
+/// them.
 fn push_inner_cells(
     table: &mut JoinTable,
-    tiling: &Tiling,
-    floods: &[TileFlood],
-    sources: &SourceHeights,
+    tiles: &NumberedFloods<'_>,
+    sources: &[Cell],
     tile: u32,
     row: u32,
 ) -> Result<(), AllocError>
-    requires fit { Fit tiling.now floods.now }
-    requires tile { tile < tile_count tiling.now }
-    requires lawful { IsCutting tiling.now }
-    requires top { (bounds_of tiling.now tile).top < row }
-    requires row { row + 1 < (bounds_of tiling.now tile).top + (bounds_of tiling.now tile).rows }
-    ensures { OnOk result (Adds tiling.now floods.now sources.now tile
-        (λ p. IsInner (bounds_of tiling.now tile) p × (p.row ≡ row)) table.old.joins.items table.new.joins.items) }
+    requires tile { tile < tile_count tiles.now.tiling.now }
+    requires lawful { IsCutting tiles.now.tiling.now }
+    requires top { (bounds_of tiles.now.tiling.now tile).top < row }
+    requires row { row + 1 < (bounds_of tiles.now.tiling.now tile).top
+        + (bounds_of tiles.now.tiling.now tile).rows }
+    ensures { OnOk result (Adds tiles.now.tiling.now tiles.now.floods.now sources.now
+        (λ p. IsInner (bounds_of tiles.now.tiling.now tile) p × (p.row ≡ row))
+        table.old.joins.items table.new.joins.items) }
 {
-    let flood = &floods[tile as usize];
-    let Bounds { top, cols, .. } = tiling.bounds(tile);
+    let flood = &tiles.floods[tile as usize];
+    let first = tiles.firsts[tile as usize];
+    let Bounds { top, cols, .. } = tiles.tiling.bounds(tile);
     let width = cols as usize;
     let start = (row - top) as usize * width;
     for index in start + 1..start + width - 1 {
-        push_inner_cell(table, tiling, flood, sources, index)?;
+        push_inner_cell(table, flood, first, sources, index)?;
     }
     Ok(())
 }
 
-/// Adds the joins of the cells of one row of a tile with those of other tiles and those after them.
+/// Adds the joins of the cells of one row of a tile with those after them, of its own tile and of
+/// others.
 fn push_rim_cells(
     table: &mut JoinTable,
-    tiling: &Tiling,
-    floods: &[TileFlood],
-    sources: &SourceHeights,
+    tiles: &NumberedFloods<'_>,
+    sources: &[Cell],
     tile: u32,
     row: u32,
 ) -> Result<(), AllocError>
-    requires fit { Fit tiling.now floods.now }
-    requires tile { tile < tile_count tiling.now }
-    requires top { (bounds_of tiling.now tile).top ≤ row }
-    requires row { row < (bounds_of tiling.now tile).top + (bounds_of tiling.now tile).rows }
-    ensures { OnOk result (Adds tiling.now floods.now sources.now tile
-        (λ p. IsInTile tiling.now tile p × (p.row ≡ row)) table.old.joins.items table.new.joins.items) }
+    requires tile { tile < tile_count tiles.now.tiling.now }
+    requires top { (bounds_of tiles.now.tiling.now tile).top ≤ row }
+    requires row { row < (bounds_of tiles.now.tiling.now tile).top
+        + (bounds_of tiles.now.tiling.now tile).rows }
+    ensures { OnOk result (Adds tiles.now.tiling.now tiles.now.floods.now sources.now
+        (λ p. IsInTile tiles.now.tiling.now tile p × (p.row ≡ row))
+        table.old.joins.items table.new.joins.items) }
 {
-    let Bounds { left, cols, .. } = tiling.bounds(tile);
+    let Bounds { left, cols, .. } = tiles.tiling.bounds(tile);
     for col in left..left + cols {
-        push_rim_cell(table, tiling, floods, sources, tile, Place { row, col })?;
+        push_rim_cell(table, tiles, sources, tile, Place { row, col })?;
     }
     Ok(())
 }
 
-/// Adds the joins of the cells of one row of a tile with those of other tiles and those after them.
+/// Adds the joins of the cells of one row of a tile with those after them, of its own tile and of
+/// others.
 fn push_cells(
     table: &mut JoinTable,
-    tiling: &Tiling,
-    floods: &[TileFlood],
-    sources: &SourceHeights,
+    tiles: &NumberedFloods<'_>,
+    sources: &[Cell],
     tile: u32,
     row: u32,
 ) -> Result<(), AllocError>
-    requires fit { Fit tiling.now floods.now }
-    requires tile { tile < tile_count tiling.now }
-    requires top { (bounds_of tiling.now tile).top ≤ row }
-    requires row { row < (bounds_of tiling.now tile).top + (bounds_of tiling.now tile).rows }
-    ensures { OnOk result (Adds tiling.now floods.now sources.now tile
-        (λ p. IsInTile tiling.now tile p × (p.row ≡ row)) table.old.joins.items table.new.joins.items) }
+    requires tile { tile < tile_count tiles.now.tiling.now }
+    requires top { (bounds_of tiles.now.tiling.now tile).top ≤ row }
+    requires row { row < (bounds_of tiles.now.tiling.now tile).top
+        + (bounds_of tiles.now.tiling.now tile).rows }
+    ensures { OnOk result (Adds tiles.now.tiling.now tiles.now.floods.now sources.now
+        (λ p. IsInTile tiles.now.tiling.now tile p × (p.row ≡ row))
+        table.old.joins.items table.new.joins.items) }
 {
     let Bounds {
         top,
         left,
         rows,
         cols,
-    } = tiling.bounds(tile);
+    } = tiles.tiling.bounds(tile);
     if row == top || row + 1 == top + rows {
-        return push_rim_cells(table, tiling, floods, sources, tile, row);
+        return push_rim_cells(table, tiles, sources, tile, row);
     }
     let last = left + cols - 1;
-    push_rim_cell(
-        table,
-        tiling,
-        floods,
-        sources,
-        tile,
-        Place { row, col: left },
-    )?;
-    push_inner_cells(table, tiling, floods, sources, tile, row)?;
-    push_rim_cell(
-        table,
-        tiling,
-        floods,
-        sources,
-        tile,
-        Place { row, col: last },
-    )?;
+    push_rim_cell(table, tiles, sources, tile, Place { row, col: left })?;
+    push_inner_cells(table, tiles, sources, tile, row)?;
+    push_rim_cell(table, tiles, sources, tile, Place { row, col: last })?;
     Ok(())
 }
 
-/// Adds those joins the other way round too whose second labels are of the tile.
-fn add_turned(tiling: &Tiling, tile: u32, joins: &mut Vec<Join>) -> Result<(), AllocError>
-    requires lawful { IsCutting tiling.now }
-    requires nodes { All (λ j. j.to < tiling.now.cols * tiling.now.rows) joins.old.items }
-    ensures { OnOk result (AddsTurned tiling.now tile joins.old.items joins.new.items) }
-{
-    let cols = tiling.cols();
-    for index in 0..joins.len() {
-        let join = joins[index];
-        let label = Place {
-            row: join.to / cols,
-            col: join.to % cols,
-        };
-        if tiling.tile_of(label) == tile {
-            joins.push(join.turned())?;
-        }
-    }
-    Ok(())
-}
-
-/// The joins of the cells of a tile with those that touch them, but those of two of these sources.
+/// The joins of the cells of a tile with those after them, but those of two of these sources.
 pub(crate) fn tile_joins(
     alloc: Global,
-    tiling: &Tiling,
-    floods: &[TileFlood],
-    sources: &SourceHeights,
+    tiles: &NumberedFloods<'_>,
+    sources: &[Cell],
     tile: u32,
 ) -> Result<Vec<Join>, AllocError>
-    requires fit { Fit tiling.now floods.now }
-    requires tile { tile < tile_count tiling.now }
-    ensures { IfOk result (λ v. AreGathered tiling.now floods.now (IsInTile tiling.now tile) sources.now v.items) }
+    requires { tile < tile_count tiles.now.tiling.now }
+    ensures { IfOk result (λ v. Adds tiles.now.tiling.now tiles.now.floods.now sources.now
+        (IsInTile tiles.now.tiling.now tile) [] v.items) }
 {
     let Bounds {
         top,
         rows,
         cols,
         ..
-    } = tiling.bounds(tile);
+    } = tiles.tiling.bounds(tile);
     let mut table = JoinTable::new(alloc, rows + cols)?;
     for row in top..top + rows {
-        push_cells(&mut table, tiling, floods, sources, tile, row)?;
+        push_cells(&mut table, tiles, sources, tile, row)?;
     }
-    let JoinTable { mut joins, .. } = table;
-    add_turned(tiling, tile, &mut joins)?;
+    let JoinTable { joins, .. } = table;
     Ok(joins)
 }
 

@@ -15,52 +15,27 @@ use std::alloc::{AllocError, Global};
 use terrain::{Height, NoMemory, Place};
 use tiles::Tiling;
 
-/// The levels of the labels in a spill graph.
-pub(crate) trait SpillLevels {
-    // By the labels' numbers: their places in row order of the grid.
-    ghost list: { Self → List (Option ℤ) };
-
-    fn level(&self, node: u32) -> Option<Height>
-        requires { node < length (list self.now) }
-        ensures { result ≡ slice_index_or (list self.now) node None };
-}
-
-/// Such levels for every place of the grid.
-#[derive(Drop)]
-struct WholeLevels<'a> {
-    list: &'a [Option<Height>],
-}
-
-impl<'a> SpillLevels for WholeLevels<'a> {
-    ghost list = { λ levels. levels.list.now };
-
-    #[inline(always)]
-    fn level(&self, node: u32) -> Option<Height> {
-        self.list[node as usize]
-    }
-}
-
 /// The level of a label in the graph, None where there is no label.
 #[inline(always)]
-fn spill<L: SpillLevels>(tiling: &Tiling, levels: &L, label: Option<Place>) -> Option<Height>
-    requires size { length (L.list levels.now) ≡ tiling.now.cols * tiling.now.rows }
+fn spill(tiling: &Tiling, levels: &[Option<Height>], label: Option<Place>) -> Option<Height>
+    requires size { length levels.now ≡ tiling.now.cols * tiling.now.rows }
     requires label { IfSome label (IsWithin tiling.now) }
-    ensures { result ≡ spill_of tiling.now (L.list levels.now) label }
+    ensures { result ≡ spill_of tiling.now levels.now label }
 {
     let label = label?;
-    levels.level(node_of(tiling, label))
+    levels[node_of(tiling, label) as usize]
 }
 
 /// The levels of labels in the graph.
-pub(crate) fn spills_of<L: SpillLevels>(
+fn spills_of(
     alloc: Global,
     tiling: &Tiling,
     labels: &[Option<Place>],
-    levels: &L,
+    levels: &[Option<Height>],
 ) -> Result<Vec<Option<Height>>, AllocError>
-    requires size { length (L.list levels.now) ≡ tiling.now.cols * tiling.now.rows }
+    requires size { length levels.now ≡ tiling.now.cols * tiling.now.rows }
     requires labels { All (λ label. IfSome label (IsWithin tiling.now)) labels.now }
-    ensures { IfOk result (λ v. v.items ≡ map (spill_of tiling.now (L.list levels.now)) labels.now) }
+    ensures { IfOk result (λ v. v.items ≡ map (spill_of tiling.now levels.now) labels.now) }
 {
     let mut spills = Vec::with_capacity(alloc, labels.len())?;
     for label in labels {
@@ -101,15 +76,15 @@ fn greater_levels(
 }
 
 /// The heights of a tile in its row order, of its flood and such levels.
-pub(crate) fn raised_by<L: SpillLevels>(
+fn raised_by(
     alloc: Global,
     tiling: &Tiling,
     flood: &TileFlood,
-    levels: &L,
+    levels: &[Option<Height>],
 ) -> Result<Vec<Option<Height>>, NoMemory>
-    requires size { length (L.list levels.now) ≡ tiling.now.cols * tiling.now.rows }
+    requires size { length levels.now ≡ tiling.now.cols * tiling.now.rows }
     requires labels { LabelsInside tiling.now flood.now }
-    ensures { IfOk result (λ v. IsRaised tiling.now flood.now (L.list levels.now) v.items) }
+    ensures { IfOk result (λ v. IsRaised tiling.now flood.now levels.now v.items) }
 {
     let labels = flood.labels();
     let spills = spills_of(alloc, tiling, labels.places(), levels)?;
@@ -133,5 +108,5 @@ pub fn raise(
         AreFloods t tiling.now floods → slice_get floods tile ≡ Some flood.now →
         AreSpillLevels t tiling.now floods levels.now → IsFilledTile t tiling.now tile v.items) }
 {
-    raised_by(alloc, tiling, flood, &WholeLevels { list: levels })
+    raised_by(alloc, tiling, flood, levels)
 }

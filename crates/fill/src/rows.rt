@@ -1,14 +1,14 @@
 //! The filled heights of a grid, row by row, in the memory of its cells.
-ghost use Rattle.std.specs.Prelude.{◌≡◌, ℤ, List, Option, ◌+◌, ◌-◌, ◌*◌, ◌<◌, ◌≤◌, ◌≤ℤ◌, pos, length, map, slice_index_or, None, Some, All, IfOk, OnOk};
+ghost use Rattle.std.specs.Prelude.{◌≡◌, ℤ, List, Option, ◌+◌, ◌-◌, ◌*◌, ◌<◌, ◌≤◌, ◌≤ℤ◌, pos, length, slice_index_or, option_and_then, None, Some, All, IfOk, OnOk};
 ghost use Rattle.terrain.specs.StoredCells.{cell_of, no_data};
 ghost use Rattle.tiles.specs.Cutting.{IsCutting};
 ghost use Rattle.tile_maps.specs.Maps.{IsMadeMap};
-ghost use Rattle.fill.specs.Gathering.{Fit, LabelsInside};
-ghost use Rattle.fill.specs.Spills.{greater_of, raised_among};
-ghost use Rattle.fill.specs.RaisedTiles.{IsRaisedTile, AreRaisedTiles, Raises};
+ghost use Rattle.fill.specs.Gathering.{Fit};
+ghost use Rattle.fill.specs.Numbers.{AreFirsts, places_of};
+ghost use Rattle.fill.specs.Spills.{greater_of};
+ghost use Rattle.fill.specs.RaisedTiles.{AreRaisedTiles, AreSpillCells, IsRaisedTile, Raises, raised_among};
 
-use crate::numbering::LabelLevels;
-use crate::raising::spills_of;
+use crate::label_graph::LabelLevels;
 use cell_floods::TileFlood;
 use std::alloc::{AllocError, Global};
 use terrain::{Cell, Height, Place};
@@ -34,35 +34,52 @@ fn cell(height: Option<Height>) -> Cell
     }
 }
 
-/// The cells of these heights.
-fn cells_of(alloc: Global, heights: &[Option<Height>]) -> Result<Vec<Cell>, AllocError>
-    ensures { IfOk result (λ v. v.items ≡ map cell_of heights.now) }
+/// The level of the label with this number as a cell, one without data where it is no place.
+#[inline(always)]
+fn spill_cell(levels: &LabelLevels, number: usize, label: Option<Place>) -> Cell
+    requires { number < length levels.now }
+    ensures { result ≡ cell_of (option_and_then (λ _. slice_index_or levels.now number None) label) }
 {
-    let mut cells = Vec::with_capacity(alloc, heights.len())?;
-    for height in heights {
-        cells.push(cell(*height))?;
+    match label {
+        Some(_) => cell(levels.level(number)),
+        None => Cell::no_data(),
+    }
+}
+
+/// The levels of these labels as cells. The first of them has this number.
+fn spill_cells(
+    alloc: Global,
+    levels: &LabelLevels,
+    first: u32,
+    places: &[Option<Place>],
+) -> Result<Vec<Cell>, AllocError>
+    requires { first + length places.now ≤ length levels.now }
+    ensures { IfOk result (λ v. AreSpillCells levels.now first places.now v.items) }
+{
+    let mut cells = Vec::with_capacity(alloc, places.len())?;
+    for index in 0..places.len() {
+        let number = first as usize + index;
+        cells.push(spill_cell(levels, number, places[index]))?;
     }
     Ok(cells)
 }
 
 impl<'a> RaisedTile<'a> {
-    /// Of a flood and the levels of the spill graph.
+    /// Of a flood and the levels of the spill graph. The tile's first label has this number.
     fn new(
         alloc: Global,
-        tiling: &Tiling,
         flood: &'a TileFlood,
-        levels: &LabelLevels<'_>,
+        first: u32,
+        levels: &LabelLevels,
     ) -> Result<Self, AllocError>
-        requires size { length levels.now ≡ tiling.now.cols * tiling.now.rows }
-        requires labels { LabelsInside tiling.now flood.now }
-        ensures { IfOk result (IsRaisedTile tiling.now flood.now levels.now) }
+        requires { first + length flood.now.table.places ≤ length levels.now }
+        ensures { IfOk result (IsRaisedTile first flood.now levels.now) }
     {
         let labels = flood.labels();
-        let spills = spills_of(alloc, tiling, labels.places(), levels)?;
         Ok(RaisedTile {
             heights: flood.heights(),
             labels: labels.indexes(),
-            spills: cells_of(alloc, &spills)?,
+            spills: spill_cells(alloc, levels, first, labels.places())?,
         })
     }
 
@@ -84,17 +101,18 @@ impl<'a> RaisedTile<'a> {
 /// Such a tile for each flood.
 pub(crate) fn raised_tiles<'a>(
     alloc: Global,
-    tiling: &Tiling,
     floods: &'a [TileFlood],
-    levels: &LabelLevels<'_>,
+    firsts: &[u32],
+    levels: &LabelLevels,
 ) -> Result<Vec<RaisedTile<'a>>, AllocError>
-    requires size { length levels.now ≡ tiling.now.cols * tiling.now.rows }
-    requires fit { Fit tiling.now floods.now }
-    ensures { IfOk result (λ v. AreRaisedTiles tiling.now floods.now levels.now v.items) }
+    requires firsts { AreFirsts floods.now firsts.now }
+    requires levels { length (places_of floods.now) ≤ length levels.now }
+    ensures { IfOk result (λ v. AreRaisedTiles floods.now levels.now v.items) }
 {
     let mut tiles = Vec::with_capacity(alloc, floods.len())?;
-    for flood in floods {
-        tiles.push(RaisedTile::new(alloc, tiling, flood, levels)?)?;
+    for tile in 0..floods.len() {
+        let raised = RaisedTile::new(alloc, &floods[tile], firsts[tile], levels)?;
+        tiles.push(raised)?;
     }
     Ok(tiles)
 }
@@ -111,7 +129,7 @@ fn push_part(
 ) -> Result<u32, AllocError>
     requires lawful { IsCutting tiling.now }
     requires fit { Fit tiling.now floods.now }
-    requires tiles { (levels : List (Option ℤ)) × AreRaisedTiles tiling.now floods.now levels tiles.now }
+    requires tiles { (levels : List (Option ℤ)) × AreRaisedTiles floods.now levels tiles.now }
     requires row { row < tiling.now.rows }
     requires col { col < tiling.now.cols }
     ensures more { IfOk result (λ next. (col < next) × (next ≤ tiling.now.cols)) }
@@ -143,7 +161,7 @@ fn push_row(
 ) -> Result<(), AllocError>
     requires lawful { IsCutting tiling.now }
     requires fit { Fit tiling.now floods.now }
-    requires tiles { (levels : List (Option ℤ)) × AreRaisedTiles tiling.now floods.now levels tiles.now }
+    requires tiles { (levels : List (Option ℤ)) × AreRaisedTiles floods.now levels tiles.now }
     requires row { row < tiling.now.rows }
     ensures { OnOk result (Raises tiling.now floods.now tiles.now (row * tiling.now.cols) cells.old.items
         ((row + 1) * tiling.now.cols) cells.new.items) }
@@ -166,8 +184,8 @@ pub(crate) fn raised_grid(
 ) -> Result<Vec<Cell>, AllocError>
     requires lawful { IsCutting tiling.now }
     requires fit { Fit tiling.now floods.now }
-    requires tiles { (levels : List (Option ℤ)) × AreRaisedTiles tiling.now floods.now levels tiles.now }
-    ensures { IfOk result (λ v. (levels : List (Option ℤ)) → AreRaisedTiles tiling.now floods.now levels tiles.now
+    requires tiles { (levels : List (Option ℤ)) × AreRaisedTiles floods.now levels tiles.now }
+    ensures { IfOk result (λ v. (levels : List (Option ℤ)) → AreRaisedTiles floods.now levels tiles.now
         → IsMadeMap tiling.now (λ p cell. cell ≡ cell_of (raised_among tiling.now floods.now levels p)) v.items) }
 {
     let mut cells = room;

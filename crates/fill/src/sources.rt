@@ -1,4 +1,4 @@
-//! The sources of the spill graph: labels that are end cells.
+//! The sources of the spill graph by places: labels that are end cells.
 //!
 //! Each flood knows its own; `label_sources` puts the heights of all into one list.
 ghost use Rattle.std.specs.Prelude.{◌≡◌, ◌*◌, IfOk, IfSome, length};
@@ -10,18 +10,17 @@ ghost use Rattle.fill.specs.Gathering.{LabelsInside};
 ghost use Rattle.fill.specs.Spills.{AreFloods, AreSourcesOf};
 
 use crate::marks::node_of;
-use crate::source_heights::SourceHeights;
 use cell_floods::TileFlood;
 use std::alloc::{AllocError, Global};
-use terrain::{Cell, Place};
+use terrain::{Cell, Height, Place};
 use tiles::Tiling;
 
 /// Puts the height of a label that is an end cell at its node.
 #[inline(always)]
-fn put_end(heights: &mut SourceHeights, tiling: &Tiling, label: Option<Place>, end: Cell)
+fn put_end(heights: &mut Vec<Option<Height>>, tiling: &Tiling, label: Option<Place>, end: Cell)
     requires label { IfSome label (IsWithin tiling.now) }
-    requires size { length heights.old ≡ tiling.now.cols * tiling.now.rows }
-    ensures { heights.new ≡ put_end tiling.now.cols label end heights.old }
+    requires size { length heights.old.items ≡ tiling.now.cols * tiling.now.rows }
+    ensures { heights.new.items ≡ put_end tiling.now.cols label end heights.old.items }
 {
     let Some(place) = label else {
         return;
@@ -29,15 +28,15 @@ fn put_end(heights: &mut SourceHeights, tiling: &Tiling, label: Option<Place>, e
     let Some(height) = end.height() else {
         return;
     };
-    heights.put(node_of(tiling, place), height);
+    heights[node_of(tiling, place) as usize] = Some(height);
 }
 
 /// Puts the heights of a tile's labels that are end cells at their nodes.
-fn put_ends(heights: &mut SourceHeights, tiling: &Tiling, flood: &TileFlood)
+fn put_ends(heights: &mut Vec<Option<Height>>, tiling: &Tiling, flood: &TileFlood)
     requires labels { LabelsInside tiling.now flood.now }
-    requires size { length heights.old ≡ tiling.now.cols * tiling.now.rows }
+    requires size { length heights.old.items ≡ tiling.now.cols * tiling.now.rows }
     requires ends { length flood.now.ends ≡ length flood.now.table.places }
-    ensures puts { PutsEnds tiling.now flood.now heights.old heights.new }
+    ensures puts { PutsEnds tiling.now flood.now heights.old.items heights.new.items }
     ensures lawful { IsFlood flood.now }
 {
     let places = flood.labels().places();
@@ -48,23 +47,18 @@ fn put_ends(heights: &mut SourceHeights, tiling: &Tiling, flood: &TileFlood)
 }
 
 /// The heights of the labels that are end cells, in row order of the grid.
-///
-/// # Memory
-///
-/// Reuses the allocation of `room`.
 pub(crate) fn label_sources(
     alloc: Global,
-    room: Vec<Cell>,
     tiling: &Tiling,
     floods: &[TileFlood],
-) -> Result<SourceHeights, AllocError>
+) -> Result<Vec<Option<Height>>, AllocError>
     requires { (t : Terrain) × AreFloods t tiling.now floods.now }
-    ensures size { IfOk result (λ v. length v ≡ tiling.now.cols * tiling.now.rows) }
+    ensures size { IfOk result (λ v. length v.items ≡ tiling.now.cols * tiling.now.rows) }
     ensures right { IfOk result (λ v. (t : Terrain)
-        → AreFloods t tiling.now floods.now → AreSourcesOf t tiling.now floods.now v) }
+        → AreFloods t tiling.now floods.now → AreSourcesOf t tiling.now floods.now v.items) }
 {
     let nodes = tiling.cols() * tiling.rows();
-    let mut heights = SourceHeights::none(alloc, room, nodes as usize)?;
+    let mut heights = vec![in alloc; None; nodes as usize]?;
     for flood in floods {
         put_ends(&mut heights, tiling, flood);
     }

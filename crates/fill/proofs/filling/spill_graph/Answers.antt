@@ -1,36 +1,38 @@
-use Rattle.std.proofs.Common.{arith}
+use Rattle.std.proofs.Common.{◌≡◌, length, ap, sym, ◌∙◌, arith}
 use Rattle.fill.specs.Parts.{AreParts}
-use Rattle.fill.proofs.Gathered.{fit_of, is_open_graph}
+use Rattle.fill.specs.Numbers.{ends_of}
+use Rattle.fill.proofs.GraphParts.{parts_gathered}
+use Rattle.fill.proofs.Gathered.{is_number_graph, joins_below}
+use Rattle.fill.proofs.Numbered.{ends_length}
 use Rattle.fill.proofs.filling.spill_graph.Goals as goal
 
-pub invariant_of-work : goal.invariant_of-work
-invariant_of-work g c = record { fit = fit_of c.args.frame.now.terrain c.args.tiling.now c.args.floods.now c.requires.floods.lawful c.requires.floods }
+pub of_parts-requires-clause-few : goal.of_parts-requires-clause-few
+of_parts-requires-clause-few g c =
+    let floods = c.args.tiles.now.floods.now in
+    omega (arith, ap length c.in_ok-sources.ensures, ends_length c.requires.floods.0 c.args.tiles.now.tiling.now floods c.requires.floods.1, c.args.tiles.now.numbers.whole)
 
-pub label_sources-requires : goal.label_sources-requires
-label_sources-requires g c = (c.args.frame.now.terrain, c.requires.floods)
-
-pub of_parts-requires : goal.of_parts-requires
-of_parts-requires g c = (
-  c.args.frame.now.terrain,
-  c.args.floods.now,
-  c.in_ok-sources.sources,
-  c.requires.floods,
-  c.in_ok-sources.ensures.size,
-  record {
-    count = omega (arith, c.in_ok-parts.parts.ok.0, c.in_ok-parts.ensures.len, c.tiles.ensures.value);
-    each = λ j d below. c.in_ok-parts.ensures.given j d (omega (arith, below, c.tiles.ensures.value));
-  },
-)
-
-pub returns-clause-graph : goal.returns-clause-graph
-returns-clause-graph g c =
-    let t = c.args.frame.now.terrain in
-    let k = c.args.tiling.now in
-    let floods = c.args.floods.now in
-    let sources = c.in_ok-sources.sources in
+pub of_parts-requires-clause-inside : goal.of_parts-requires-clause-inside
+of_parts-requires-clause-inside g c =
+    let t = c.requires.floods.0 in
+    let k = c.args.tiles.now.tiling.now in
+    let floods = c.args.tiles.now.floods.now in
     let parts = c.in_ok-parts.parts.items in
+    let sources = c.in_ok-sources.sources.items in
     let are : AreParts k floods sources parts = record {
       count = omega (arith, c.in_ok-parts.parts.ok.0, c.in_ok-parts.ensures.len, c.tiles.ensures.value);
-      each = λ j d below. c.in_ok-parts.ensures.given j d (omega (arith, below, c.tiles.ensures.value));
+      each = λ j d below. rw c.deref.ensures.value at (c.in_ok-parts.ensures.given j d (omega (arith, below, c.tiles.ensures.value)));
     } in
-    rw c.of_parts.ensures (is_open_graph t k floods parts sources c.requires.floods.lawful c.requires.floods are (c.in_ok-sources.ensures.right t c.requires.floods))
+    let size : length (ends_of floods) ≡ length sources = sym (ap length c.in_ok-sources.ensures) in
+    rw (c.deref-2.ensures.value, ← size, ends_length t k floods c.requires.floods.1) (joins_below t k floods c.requires.floods.1 c.args.tiles.now.numbers.lawful sources _ (parts_gathered k floods sources parts c.requires.floods.1.lawful are))
+
+pub returns-clause-graph : goal.returns-clause-graph
+returns-clause-graph g c t floods_are =
+    let k = c.args.tiles.now.tiling.now in
+    let floods = c.args.tiles.now.floods.now in
+    let parts = c.in_ok-parts.parts.items in
+    let sources = c.in_ok-sources.sources.items in
+    let are : AreParts k floods sources parts = record {
+      count = omega (arith, c.in_ok-parts.parts.ok.0, c.in_ok-parts.ensures.len, c.tiles.ensures.value);
+      each = λ j d below. rw c.deref.ensures.value at (c.in_ok-parts.ensures.given j d (omega (arith, below, c.tiles.ensures.value)));
+    } in
+    rw c.in_ok-of_parts.ensures.sources (is_number_graph t k floods floods_are c.args.tiles.now.numbers.lawful sources _ _ (parts_gathered k floods sources parts floods_are.lawful are) c.in_ok-sources.ensures c.in_ok-of_parts.ensures.size (rw c.deref-2.ensures.value at c.in_ok-of_parts.ensures.ways))

@@ -29,10 +29,6 @@ are_equal_after-requires-clause-after c =
 pub returns-then-are_equal_after : goal.returns-then-are_equal_after
 returns-then-are_equal_after c =
     let f = c.args.flood.now in
-    let cells = c.labels.result.now.indexes in
-    let lawful = c.labels.ensures.lawful in
-    let size = cells_size f c.labels.result.now.places cells c.labels.ensures.labels lawful in
-    let equal = rw c.indexes.ensures at (OnTrue_at {P = AreEqualAfter c.indexes.result.now c.args.index c.bounds-width.result.cols} c.if-are_equal_after.true c.are_equal_after.ensures) in
-    equal_after_adds c.args.tiling.now.cols f c.args.sources.now c.labels.result.now.places cells c.args.index f.bounds.cols c.args.table.now.joins.items c.labels.ensures.labels
-    (omega (arith, size, lawful.levels_size, lawful.labels_size, c.requires.after))
-    (subst (λ (b : Bounds). AreEqualAfter cells c.args.index b.cols) c.bounds-width.ensures.value equal)
+    let equal = rw (c.indexes.ensures, c.labels.ensures.value) at (OnTrue_at {P = AreEqualAfter c.indexes.result.now c.args.index c.bounds-width.result.cols} c.if-are_equal_after.true c.are_equal_after.ensures) in
+    equal_after_adds c.args.first f c.args.sources.now c.args.index f.bounds.cols c.args.table.now.joins.items
+    (subst (λ (b : Bounds). AreEqualAfter f.table.indexes c.args.index b.cols) c.bounds-width.ensures.value equal)

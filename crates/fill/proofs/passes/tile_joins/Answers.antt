@@ -3,15 +3,14 @@ use Rattle.std.proofs.lemmas.Bool.{cases_lt}
 use Rattle.tiles.specs.declared.bounds.Bounds.{Bounds}
 use Rattle.tiles.specs.Cutting.{IsInTile}
 use Rattle.fill.proofs.Adding.{adds_none, adds_then, adds_as}
-use Rattle.fill.proofs.Gathered.{turned_gathered, met_below}
 use Rattle.fill.proofs.passes.tile_joins.Goals as goal
 
 pub loop-row-preserved : goal.loop-row-preserved
 loop-row-preserved c =
-    adds_then c.args.tiling.now c.args.floods.now c.args.sources.now c.args.tile
-    (λ p. IsInTile c.args.tiling.now c.args.tile p × (p.row < c.loop-row.row))
-    (λ p. IsInTile c.args.tiling.now c.args.tile p × (p.row ≡ c.loop-row.row))
-    (λ p. IsInTile c.args.tiling.now c.args.tile p × (p.row < c.loop-row.row + 1)) _ _ _
+    adds_then c.args.tiles.now.tiling.now c.args.tiles.now.floods.now c.args.sources.now
+    (λ p. IsInTile c.args.tiles.now.tiling.now c.args.tile p × (p.row < c.loop-row.row))
+    (λ p. IsInTile c.args.tiles.now.tiling.now c.args.tile p × (p.row ≡ c.loop-row.row))
+    (λ p. IsInTile c.args.tiles.now.tiling.now c.args.tile p × (p.row < c.loop-row.row + 1)) _ _ _
     (λ p. (
       λ at. elim (cases_lt p.row c.loop-row.row) [
         | inl early ↦ inl (at.0, early)
@@ -21,29 +20,18 @@ loop-row-preserved c =
     ))
     c.loop-row.invariant c.in_ok-push_cells.ensures
 
-pub add_turned-requires-clause-nodes : goal.add_turned-requires-clause-nodes
-add_turned-requires-clause-nodes c =
-    met_below c.args.tiling.now c.args.floods.now c.args.tile c.args.sources.now c.loop-row.table.joins.items c.bounds-top.ensures.lawful c.requires.fit
-    (adds_as c.args.tiling.now c.args.floods.now c.args.sources.now c.args.tile
-    (λ p. IsInTile c.args.tiling.now c.args.tile p × (p.row < c.loop-row.row))
-    (IsInTile c.args.tiling.now c.args.tile) _ _
-    (λ p. (λ at. let inside = (c.bounds-top.ensures.places p).0 at in (at, omega (arith, inside.1, c.loop-row-test.false)), λ at. at.0))
-    c.loop-row.invariant)
-
 pub returns : goal.returns
 returns c =
-    turned_gathered c.args.tiling.now c.args.floods.now c.args.tile c.args.sources.now c.loop-row.table.joins.items _ c.bounds-top.ensures.lawful c.requires.fit
-    (adds_as c.args.tiling.now c.args.floods.now c.args.sources.now c.args.tile
-    (λ p. IsInTile c.args.tiling.now c.args.tile p × (p.row < c.loop-row.row))
-    (IsInTile c.args.tiling.now c.args.tile) _ _
+    adds_as c.args.tiles.now.tiling.now c.args.tiles.now.floods.now c.args.sources.now
+    (λ p. IsInTile c.args.tiles.now.tiling.now c.args.tile p × (p.row < c.loop-row.row))
+    (IsInTile c.args.tiles.now.tiling.now c.args.tile) _ _
     (λ p. (λ at. let inside = (c.bounds-top.ensures.places p).0 at in (at, omega (arith, inside.1, c.loop-row-test.false)), λ at. at.0))
-    c.loop-row.invariant)
-    c.in_ok-add_turned.ensures
+    c.loop-row.invariant
 
 pub loop-row-init : goal.loop-row-init
 loop-row-init c =
-    adds_none c.args.tiling.now c.args.floods.now c.args.sources.now c.args.tile
-    (λ p. IsInTile c.args.tiling.now c.args.tile p × (p.row < c.bounds-top.result.top)) _ _ c.in_ok-table.ensures
+    adds_none c.args.tiles.now.tiling.now c.args.tiles.now.floods.now c.args.sources.now
+    (λ p. IsInTile c.args.tiles.now.tiling.now c.args.tile p × (p.row < c.bounds-top.result.top)) _ _ c.in_ok-table.ensures
     (λ p at. let inside = (c.bounds-top.ensures.places p).0 at.0 in omega (arith, inside.0, at.1))
 
 pub push_cells-requires-clause-top : goal.push_cells-requires-clause-top

@@ -5,16 +5,16 @@ use Rattle.fill.proofs.Raised.{raised_by_table}
 use Rattle.fill.proofs.raising.raised_by.Goals as goal
 
 pub spills_of-requires-clause-labels : goal.spills_of-requires-clause-labels
-spills_of-requires-clause-labels g c = rw c.places.ensures.value (all_within c.args.tiling.now c.args.flood.now _ _ c.labels-labels.ensures.labels c.places.ensures.table c.requires.labels)
+spills_of-requires-clause-labels c = rw c.places.ensures.value (all_within c.args.tiling.now c.args.flood.now _ _ c.labels-labels.ensures.labels c.places.ensures.table c.requires.labels)
 
 pub greater_levels-requires-clause-size : goal.greater_levels-requires-clause-size
-greater_levels-requires-clause-size g c =
+greater_levels-requires-clause-size c =
     let labels = c.labels-labels.result.now in
     let table : length c.args.flood.now.labels ≡ length labels.indexes = ap length c.labels-labels.ensures.labels ∙ length-map labels.indexes (λ k. get_or labels.places k None) in
     rw c.indexes.ensures (sym table ∙ sym c.heights.ensures.size)
 
 pub returns : goal.returns
-returns g c =
+returns c =
     let labels = c.labels-labels.result.now in
     let is = c.labels-labels.ensures in
     let table : length c.args.flood.now.labels ≡ length labels.indexes = ap length is.labels ∙ length-map labels.indexes (λ k. get_or labels.places k None) in

@@ -5,8 +5,8 @@ use Rattle.floods.proofs.Noting.{mapped_more}
 use Rattle.fill.proofs.raising.spills_of.Goals as goal
 
 pub loop-label-preserved : goal.loop-label-preserved
-loop-label-preserved g c =
-    mapped_more (spill_of c.args.tiling.now (g.L.SpillLevels.list c.args.levels.now)) c.args.labels.now c.loop-label.label-index None _ _ c.spill.result c.loop-label-test.true c.loop-label.invariant c.in_ok-push.ensures.items c.spill.ensures
+loop-label-preserved c =
+    mapped_more (spill_of c.args.tiling.now c.args.levels.now) c.args.labels.now c.loop-label.label-index None _ _ c.spill.result c.loop-label-test.true c.loop-label.invariant c.in_ok-push.ensures.items c.spill.ensures
 
 pub returns : goal.returns
-returns g c = c.loop-label.invariant ∙ ap (map (spill_of c.args.tiling.now (g.L.SpillLevels.list c.args.levels.now))) (take_all _ c.args.labels.now c.loop-label-test.false)
+returns c = c.loop-label.invariant ∙ ap (map (spill_of c.args.tiling.now c.args.levels.now)) (take_all _ c.args.labels.now c.loop-label-test.false)

@@ -1,6 +1,7 @@
-use Rattle.std.proofs.Common.{◌+◌, ◌-◌, ◌*◌, ◌≤◌, ◌<◌, ◌∙◌, length, refl, subst, arith}
+use Rattle.std.proofs.Common.{◌+◌, ◌-◌, ◌*◌, ◌≤◌, ◌<◌, ◌∙◌, ap, get_or, None, length, refl, subst, arith}
+use Rattle.std.proofs.lemmas.List.{length-map}
 use Rattle.std.proofs.lemmas.Option.{slice_get_read}
-use Rattle.fill.specs.Spills.{AreRaisedBelow}
+use Rattle.fill.specs.RaisedTiles.{AreRaisedBelow}
 use Rattle.fill.proofs.Raised.{part_of_row, part_more, raised_stored, stored_inside}
 use Rattle.fill.proofs.rows.push_part.Goals as goal
 
@@ -33,7 +34,7 @@ at-requires-clause-height c =
     let raised = slice_get_read c.args.tiles.now (length c.args.tiles.now) tile x refl (omega (arith, below, c.requires.tiles.1.count)) c.index-tiles-tile.is in
     let by = c.requires.tiles.1.each tile f x there raised in
     let part = part_of_row c.args.tiling.now c.args.floods.now c.args.row c.args.col tile f c.bounds-top.result c.requires.lawful c.requires.fit c.requires.row c.requires.col c.tile_of-tile.ensures.number there c.bounds-top.ensures.value in
-    omega (arith, part.3, c.loop-index-test.true, by.1.heights_size)
+    omega (arith, part.3, c.loop-index-test.true, by.size)
 
 pub at-requires-clause-label : goal.at-requires-clause-label
 at-requires-clause-label c =
@@ -45,7 +46,7 @@ at-requires-clause-label c =
     let raised = slice_get_read c.args.tiles.now (length c.args.tiles.now) tile x refl (omega (arith, below, c.requires.tiles.1.count)) c.index-tiles-tile.is in
     let by = c.requires.tiles.1.each tile f x there raised in
     let part = part_of_row c.args.tiling.now c.args.floods.now c.args.row c.args.col tile f c.bounds-top.result c.requires.lawful c.requires.fit c.requires.row c.requires.col c.tile_of-tile.ensures.number there c.bounds-top.ensures.value in
-    omega (arith, part.3, c.loop-index-test.true, by.1.labels_size)
+    omega (arith, part.3, c.loop-index-test.true, ap length by.labels, ap length by.lawful.labels, length-map f.table.indexes (λ n. get_or f.table.places n None))
 
 pub at-requires-clause-inside : goal.at-requires-clause-inside
 at-requires-clause-inside c =
@@ -56,7 +57,7 @@ at-requires-clause-inside c =
     let there = slice_get_read c.args.floods.now (length c.args.floods.now) tile f refl below c.index-floods-tile.is in
     let raised = slice_get_read c.args.tiles.now (length c.args.tiles.now) tile x refl (omega (arith, below, c.requires.tiles.1.count)) c.index-tiles-tile.is in
     let by = c.requires.tiles.1.each tile f x there raised in
-    stored_inside c.args.tiling.now f _ x by
+    stored_inside _ f _ x by
 
 pub loop-index-preserved : goal.loop-index-preserved
 loop-index-preserved c levels tiles before =
@@ -70,7 +71,7 @@ loop-index-preserved c levels tiles before =
     let part = part_of_row c.args.tiling.now c.args.floods.now c.args.row c.args.col tile f c.bounds-top.result c.requires.lawful c.requires.fit c.requires.row c.requires.col c.tile_of-tile.ensures.number there c.bounds-top.ensures.value in
     let low : c.loop-index.index < length f.labels = omega (arith, part.3, c.loop-index-test.true) in
     rw c.in_ok-push.ensures.items (part_more c.args.tiling.now c.args.floods.now levels c.loop-index.cells.items c.args.row _ c.loop-index.index tile f c.bounds-top.result _ c.requires.lawful c.requires.fit c.tile_of-tile.ensures.below there part.0 part.1.0 part.1.1 refl
-    (omega (arith, c.loop-index.auto.index)) (omega (arith, c.loop-index-test.true)) (c.at.ensures.value ∙ raised_stored c.args.tiling.now f levels x c.loop-index.index by low c.at.ensures.low) (c.loop-index.invariant levels tiles before))
+    (omega (arith, c.loop-index.auto.index)) (omega (arith, c.loop-index-test.true)) (c.at.ensures.value ∙ raised_stored _ f levels x c.loop-index.index by low c.at.ensures.low) (c.loop-index.invariant levels tiles before))
 
 pub returns-clause-more : goal.returns-clause-more
 returns-clause-more c =

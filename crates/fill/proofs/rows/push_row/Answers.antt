@@ -1,5 +1,5 @@
 use Rattle.std.proofs.Common.{◌≡◌, subst, arith}
-use Rattle.fill.specs.Spills.{AreRaisedBelow}
+use Rattle.fill.specs.RaisedTiles.{AreRaisedBelow}
 use Rattle.fill.proofs.rows.push_row.Goals as goal
 
 pub loop-col-preserved : goal.loop-col-preserved

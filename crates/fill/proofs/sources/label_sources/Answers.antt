@@ -1,6 +1,6 @@
 use Rattle.std.proofs.Common.{length, refl, ◌∙◌}
 use Rattle.std.proofs.lemmas.Option.{slice_get_read}
-use Rattle.fill.proofs.Gathered.{fit_of}
+use Rattle.fill.proofs.Gathered.{labels_within}
 use Rattle.fill.proofs.EndSources.{one_tile, all_tiles}
 use Rattle.fill.proofs.sources.label_sources.Goals as goal
 
@@ -8,7 +8,7 @@ pub put_ends-requires-clause-labels : goal.put_ends-requires-clause-labels
 put_ends-requires-clause-labels c =
     let floods = c.args.floods.now in
     let there = slice_get_read floods (length floods) c.loop-flood.flood-index c.flood-item.result refl c.loop-flood-test.true c.flood-item.is in
-    (fit_of c.requires.0 c.args.tiling.now floods c.requires.1.lawful c.requires.1).labels c.loop-flood.flood-index c.flood-item.result there
+    labels_within c.requires.0 c.args.tiling.now floods c.loop-flood.flood-index c.flood-item.result c.requires.1 there
 
 pub put_ends-requires-clause-ends : goal.put_ends-requires-clause-ends
 put_ends-requires-clause-ends c =
@@ -26,4 +26,4 @@ loop-flood-preserved c =
     }
 
 pub returns-clause-right : goal.returns-clause-right
-returns-clause-right c t are = all_tiles t c.args.tiling.now c.args.floods.now c.loop-flood.flood-index c.loop-flood.heights are c.loop-flood-test.false (c.loop-flood.invariant.have t are)
+returns-clause-right c t are = all_tiles t c.args.tiling.now c.args.floods.now c.loop-flood.flood-index c.loop-flood.heights.items are c.loop-flood-test.false (c.loop-flood.invariant.have t are)

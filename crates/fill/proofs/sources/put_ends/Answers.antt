@@ -20,7 +20,7 @@ loop-index-preserved c =
     let low : i < length f.ends = omega (arith, c.loop-index-test.true, ap length places, c.requires.ends) in
     let end : c.index-ends-index.result ≡ get_or f.ends i None =
     c.index-ends-index.is ∙ ap (λ (z : List (Option ℤ)). get_or z i c.index-ends-index.result) c.ends-ends.ensures.value ∙ get_or_default f.ends i c.index-ends-index.result None low in
-    rw c.put_end.ensures (one_put c.args.tiling.now f i _ c.index-ends-index.result c.args.heights.now c.loop-index.heights (ap (λ (z : List (Option Place)). get_or z i None) places) end
+    rw c.put_end.ensures (one_put c.args.tiling.now f i _ c.index-ends-index.result c.args.heights.now.items c.loop-index.heights.items (ap (λ (z : List (Option Place)). get_or z i None) places) end
     (rw c.places-places.ensures.value (all i None (rw c.places-places.ensures.value at c.loop-index-test.true))) c.requires.size c.loop-index.invariant)
 
 pub returns-clause-puts : goal.returns-clause-puts

@@ -1,12 +1,34 @@
-use Rattle.fill.proofs.Gathered.{fit_of, is_graph_of}
+use Rattle.std.proofs.Common.{◌≡◌, ◌<◌, List, [], length, ap, sym, ◌∙◌, arith}
+use Rattle.std.proofs.lemmas.List.{length-map}
+use Rattle.fill.specs.Numbers.{node_of_label, nodes_of, places_of}
+use Rattle.fill.proofs.GraphParts.{parts_gathered}
+use Rattle.fill.proofs.Gathered.{fit_of, joins_below, is_graph, is_graph_of}
 use Rattle.fill.proofs.spills.SpillGraph.gather.Goals as goal
 
-pub tile_parts-requires : goal.tile_parts-requires
-tile_parts-requires c = fit_of c.requires.0 c.args.tiling.now c.args.floods.now c.requires.1.lawful c.requires.1
+pub invariant_of-tiles : goal.invariant_of-tiles
+invariant_of-tiles c = record { fit = fit_of c.requires.0 c.args.tiling.now c.args.floods.now c.requires.1; numbers = rw c.deref.ensures.value c.in_ok-firsts.ensures }
 
-pub of_parts-requires : goal.of_parts-requires
-of_parts-requires c = (c.requires.0, c.args.floods.now, c.in_ok-none.none, c.requires.1, c.in_ok-sources.ensures.size, c.in_ok-parts.ensures)
+pub placed_joins-requires : goal.placed_joins-requires
+placed_joins-requires c =
+    let t = c.requires.0 in
+    let k = c.args.tiling.now in
+    let floods = c.args.floods.now in
+    let size : length (places_of floods) ≡ length c.in_ok-nodes.nodes.items = sym (ap length c.in_ok-nodes.ensures ∙ length-map (places_of floods) (node_of_label k.cols)) in
+    rw (c.deref-2.ensures.value, c.deref-3.ensures.value, ← size) (joins_below t k floods c.requires.1 c.in_ok-firsts.ensures.lawful [] _ (parts_gathered k floods [] c.in_ok-parts.parts.items c.requires.1.lawful c.in_ok-parts.ensures))
+
+pub invariant_of-result : goal.invariant_of-result
+invariant_of-result c =
+    let t = c.requires.0 in
+    let k = c.args.tiling.now in
+    let floods = c.args.floods.now in (
+      c.requires.1.lawful,
+      is_graph t k floods c.requires.1 c.in_ok-firsts.ensures.lawful c.in_ok-nodes.nodes.items _ _ c.in_ok-joins.joins.items (parts_gathered k floods [] c.in_ok-parts.parts.items c.requires.1.lawful c.in_ok-parts.ensures) c.in_ok-nodes.ensures
+          (rw (c.deref-2.ensures.value, c.deref-3.ensures.value) at c.in_ok-placed.ensures) c.in_ok-joins.ensures c.in_ok-sources.sources.items c.in_ok-sources.ensures.size,
+    )
 
 pub returns : goal.returns
-returns c = λ t are.
-    rw c.of_parts.ensures (is_graph_of t c.args.tiling.now c.args.floods.now c.in_ok-parts.parts.items c.in_ok-sources.sources are.lawful are (rw c.in_ok-none.ensures at c.in_ok-parts.ensures) (c.in_ok-sources.ensures.right t are))
+returns c t are =
+    let k = c.args.tiling.now in
+    let floods = c.args.floods.now in
+    is_graph_of t k floods are c.in_ok-firsts.ensures.lawful c.in_ok-nodes.nodes.items _ _ c.in_ok-joins.joins.items (parts_gathered k floods [] c.in_ok-parts.parts.items are.lawful c.in_ok-parts.ensures) c.in_ok-nodes.ensures
+    (rw (c.deref-2.ensures.value, c.deref-3.ensures.value) at c.in_ok-placed.ensures) c.in_ok-joins.ensures c.in_ok-sources.sources.items (c.in_ok-sources.ensures.right t are)

@@ -1,0 +1,69 @@
+-- The number of each tile's first label, and the heights of all labels that are end cells, tile by tile.
+use Rattle.std.proofs.Common.{◌≡◌, ℕ, ◌+◌, ◌<◌, ◌≤◌, inl, inr, List, [], ◌∷◌, ◌++◌, length, get_or, take, Some, ◌∙◌, sym, ap, subst, refl, arith}
+use Rattle.std.specs.Prelude.{slice_get}
+use Rattle.std.specs.List.{flat_map}
+use Rattle.std.proofs.lemmas.Bool.{cases_eq}
+use Rattle.std.proofs.lemmas.Grind.{flat_map-append}
+use Rattle.std.proofs.lemmas.List.{append-nil, take_more, take_all, length-append, length_push, get_or_append_left, get_or_push}
+use Rattle.std.proofs.lemmas.Option.{slice_get_within, get_or_from_slice_get}
+use Rattle.cell_floods.specs.TileFlood.{Flood, IsFlood}
+use Rattle.fill.specs.Numbers.{AreFirsts, first_of, places_of}
+
+-- the lists of one more tile stand behind those of the tiles before it
+pub flat_more : {X : Type 0} (g : Flood → List X) (floods : List Flood) (i : ℕ) (f : Flood) → i < length floods → f ≡ get_or floods i f → flat_map g (take (i + 1) floods) ≡ flat_map g (take i floods) ++ g f
+flat_more g floods i f low is =
+    ap (flat_map g) (take_more floods i f low) ∙ flat_map-append g (take i floods) (get_or floods i f ∷ [])
+    ∙ ap (λ z. flat_map g (take i floods) ++ z) (append-nil (g (get_or floods i f)) ∙ ap g (sym is))
+
+-- The numbers of the first tiles, and that of the next one.
+pub record AreFirstNumbers (floods : List Flood) (count : ℕ) (firsts : List ℕ) (next : ℕ) : Type 0 where
+  pub size : length firsts ≡ count
+  pub next_is : next ≡ first_of floods count
+  pub small : next ≤ 4294967295
+  pub each : (tile : ℕ) → tile < count → get_or firsts tile 0 ≡ first_of floods tile
+  pub few : (tile : ℕ) (f : Flood) → tile < count → slice_get floods tile ≡ Some f → first_of floods tile + length f.table.places ≤ 4294967295
+  pub lawful : (tile : ℕ) (f : Flood) → tile < count → slice_get floods tile ≡ Some f → IsFlood f
+
+pub no_first : (floods : List Flood) (firsts : List ℕ) → firsts ≡ [] → AreFirstNumbers floods 0 firsts 0
+no_first floods firsts none = record {
+  size = ap length none;
+  next_is = refl;
+  small = omega arith;
+  each = λ tile low. absurd (omega (arith, low));
+  few = λ tile f low. absurd (omega (arith, low));
+  lawful = λ tile f low. absurd (omega (arith, low));
+}
+
+pub one_first : (floods : List Flood) (i : ℕ) (f : Flood) (firsts new : List ℕ) (next after : ℕ) → i < length floods → f ≡ get_or floods i f → IsFlood f → new ≡ firsts ++ next ∷ [] → after ≡ next + length f.table.places → after ≤ 4294967295
+    → AreFirstNumbers floods i firsts next → AreFirstNumbers floods (i + 1) new after
+one_first floods i f firsts new next after low is flood more sum small s = subst (λ z. AreFirstNumbers floods (i + 1) z after) (sym more) (record {
+  size = length_push firsts next ∙ ap (λ n. n + 1) s.size;
+  next_is = sum ∙ omega (arith, s.next_is, length-append (places_of (take i floods)) f.table.places) ∙ sym (ap length (flat_more (λ (g : Flood). g.table.places) floods i f low is));
+  small = small;
+  each = λ k below. elim (cases_eq k i) [
+    | inr other ↦ get_or_append_left firsts (next ∷ []) 0 k (omega (arith, below, other, s.size)) ∙ s.each k (omega (arith, below, other))
+    | inl same ↦ get_or_push firsts next 0 k (s.size ∙ sym same) ∙ s.next_is ∙ ap (first_of floods) (sym same)
+  ];
+  few = λ k g below there. elim (cases_eq k i) [
+    | inr other ↦ s.few k g (omega (arith, below, other)) there
+    | inl same ↦
+        let g_is : f ≡ g = is ∙ sym (ap (λ n. get_or floods n f) same) ∙ get_or_from_slice_get floods k g f there in
+        let sizes : length f.table.places ≡ length g.table.places = ap (λ (x : Flood). length x.table.places) g_is in
+        omega (arith, ap (first_of floods) same, s.next_is, sum, small, sizes)
+  ];
+  lawful = λ k g below there. elim (cases_eq k i) [
+    | inr other ↦ s.lawful k g (omega (arith, below, other)) there
+    | inl same ↦
+        let g_is : f ≡ g = is ∙ sym (ap (λ n. get_or floods n f) same) ∙ get_or_from_slice_get floods k g f there in
+        subst IsFlood g_is flood
+  ];
+})
+
+pub all_firsts : (floods : List Flood) (i : ℕ) (firsts : List ℕ) (next : ℕ) → i ≤ length floods → length floods ≤ i → AreFirstNumbers floods i firsts next → AreFirsts floods firsts
+all_firsts floods i firsts next below past s = record {
+  size = omega (arith, s.size, below, past);
+  each = λ tile low. s.each tile (omega (arith, low, past));
+  few = λ tile f there. s.few tile f (omega (arith, slice_get_within floods tile f there, past)) there;
+  whole = let same : length (places_of floods) ≡ first_of floods i = ap (λ (z : List Flood). length (places_of z)) (sym (take_all i floods past)) in omega (arith, same, s.next_is, s.small);
+  lawful = λ tile f there. s.lawful tile f (omega (arith, slice_get_within floods tile f there, past)) there;
+}

@@ -1,0 +1,309 @@
+-- The graph by numbers: its ways are those of the joins, and its levels those of its flood.
+use Rattle.std.proofs.Common.{◌≡◌, ◌≢◌, ℕ, zero, suc, ◌+◌, ◌<◌, ◌≤◌, ◌⊎◌, ◌↔◌, inl, inr, ◌&&◌, Bool, true, false, ℤ, pos, ◌≤ℤ◌, List, [], ◌∷◌, ◌++◌, length, get_or, set, replicate, take, map, Option, None, Some, is_some, unwrap_or, ◌∙◌, sym, ap, subst, refl, arith}
+use Rattle.std.specs.Prelude.{IsSome, MatchOption, slice_get}
+use Rattle.std.specs.Int.{int_max}
+use Rattle.std.specs.Option.{option_or, option_map}
+use Rattle.std.specs.List.{Contains, All, flat_map}
+use Rattle.std.proofs.lemmas.Bool.{and_parts, cases_eq, cases_lt, cases_Bool, cond-true, cond-false}
+use Rattle.std.proofs.lemmas.Option.{MatchOption-at_some, MatchOption-at_none}
+use Rattle.std.proofs.lemmas.List.{length-set, length-map, get_or-set_same, get_or-set_other, get_or_past, get_or-replicate, length-replicate}
+use Rattle.std.proofs.lemmas.List.Elements.{Contains-append_left, Contains-append_right, Contains-append_cases}
+use Rattle.terrain.proofs.Orders.{le_of_same}
+use Rattle.terrain.proofs.Options.{cases_option, none_some, none_done, match_of}
+use Rattle.terrain.specs.Raster.{Terrain}
+use Rattle.terrain.specs.Neighbours.{Touches}
+use Rattle.terrain.specs.declared.place.Place.{Place}
+use Rattle.tiles.specs.Cutting.{Cutting, IsCutting, IsWithin}
+use Rattle.floods.specs.declared.net.Spill.{Spill}
+use Rattle.floods.specs.Walk.{IsWalk, crest, end_of, IsLevel, HasNoWalk, IsFlooded, HasJust}
+use Rattle.floods.proofs.Heaps.{all_by_contains, cons_head, cons_cases}
+use Rattle.cell_floods.specs.TileFlood.{Flood}
+use Rattle.fill.specs.Gathering.{Fit, mark_among, Meets, AreGathered, are_settled, turned}
+use Rattle.fill.specs.LabelNet.{HasWay, IsJoinOf, NumberNet, IsNumberNet, AddsWays, HasWaysOf, source_number, joined_source, AreNumberLevels, levels_or, IsNumberPass, IsNumberGraph}
+use Rattle.fill.specs.Numbers.{ends_of, places_of}
+use Rattle.fill.specs.Spills.{AreFloods}
+use Rattle.fill.specs.Ways.{has_ways, is_some_way}
+use Rattle.fill.specs.declared.marks.Mark.{Mark}
+use Rattle.fill.specs.declared.spills.Join.{Join}
+use Rattle.fill.proofs.Adding.{no_join}
+
+no_way : (w : Spill) → Contains [] w → ⊥
+no_way w h = omega (arith, h.1)
+
+-- a label with a way is one of the list
+pub way_inside : (ways : List (List Spill)) (a : ℕ) (w : Spill) → Contains (get_or ways a []) w → a < length ways
+way_inside ways a w h = elim (cases_lt a (length ways)) [
+  | inl low ↦ low
+  | inr past ↦ absurd (no_way w (subst (λ (z : List Spill). Contains z w) (get_or_past ways a [] past) h))
+]
+
+later_way : (w x : Spill) (ways : List Spill) → Contains ways x → Contains (w ∷ ways) x
+later_way w x ways h = Contains-append_right (w ∷ []) ways x h
+
+-- a way is pushed
+pushed : (ways : List (List Spill)) (n a : ℕ) (w x : Spill) → n < length ways → Contains (get_or (set ways n (w ∷ get_or ways n [])) a []) x ↔ (((a ≡ n) × (x ≡ w)) ⊎ Contains (get_or ways a []) x)
+pushed ways n a w x below = elim (cases_eq a n) [
+  | inr other ↦
+      let same : get_or (set ways n (w ∷ get_or ways n [])) a [] ≡ get_or ways a [] = get_or-set_other ways n a (w ∷ get_or ways n []) [] other in (
+        λ h. inr (subst (λ (z : List Spill). Contains z x) same h),
+        λ h. elim h [ inl new ↦ absurd (other new.0) | inr old ↦ subst (λ (z : List Spill). Contains z x) (sym same) old ],
+      )
+  | inl is ↦
+      let same : get_or (set ways n (w ∷ get_or ways n [])) a [] ≡ w ∷ get_or ways a [] =
+      ap (λ k. get_or (set ways n (w ∷ get_or ways n [])) k []) is ∙ get_or-set_same ways n (w ∷ get_or ways n []) [] below ∙ ap (λ k. w ∷ get_or ways k []) (sym is) in (
+        λ h. elim (cons_cases w (get_or ways a []) x (subst (λ (z : List Spill). Contains z x) same h)) [ inl new ↦ inl (is, new) | inr old ↦ inr old ],
+        λ h. subst (λ (z : List Spill). Contains z x) (sym same) (elim h [
+          | inl new ↦ subst (Contains (w ∷ get_or ways a [])) (sym new.1) (cons_head w (get_or ways a []))
+          | inr old ↦ later_way w x (get_or ways a []) old
+        ]),
+      )
+]
+
+abbrev pub make_way : ℕ → ℤ → Spill
+make_way to height = record { to = to; height = height }
+
+-- a join is two ways
+pub join_pushed : (j : Join) (old now new : List (List Spill)) → j.from < length old → j.to < length old
+    → now ≡ set old j.from (record { to = j.to; height = j.height } ∷ get_or old j.from []) → new ≡ set now j.to (record { to = j.from; height = j.height } ∷ get_or now j.to [])
+    → AddsWays (j ∷ []) old new
+join_pushed j old now new from to first second = record {
+  size = ap length second ∙ length-set now j.to _ ∙ ap length first ∙ length-set old j.from _;
+  each = λ a b h. (
+    λ held. elim ((back a (record { to = b; height = h })).0 held) [
+      | inl is ↦ inr (inr (subst (Contains (j ∷ [])) (turn a b h is.0 is.1) (cons_head j [])))
+      | inr was ↦ elim ((there a (record { to = b; height = h })).0 was) [
+        | inl is ↦ inr (inl (subst (Contains (j ∷ [])) (forth a b h is.0 is.1) (cons_head j [])))
+        | inr old ↦ inl old
+      ]
+    ],
+    λ held. (back a (record { to = b; height = h })).1 (elim held [
+      | inl old ↦ inr ((there a (record { to = b; height = h })).1 (inr old))
+      | inr join ↦ elim join [
+        | inl forward ↦
+            let is = one j _ forward in
+            inr ((there a (record { to = b; height = h })).1 (inl (ap (λ (k : Join). k.from) is, ap (λ (k : Join). record { to = k.to; height = k.height }) is)))
+        | inr backward ↦
+            let is = one j _ backward in
+            inl (ap (λ (k : Join). k.to) is, ap (λ (k : Join). record { to = k.from; height = k.height }) is)
+      ]
+    ]),
+  );
+} where
+  size : length now ≡ length old
+  size = ap length first ∙ length-set old j.from _
+
+  there : (a : ℕ) (x : Spill) → Contains (get_or now a []) x ↔ (((a ≡ j.from) × (x ≡ make_way j.to j.height)) ⊎ Contains (get_or old a []) x)
+  there a x = subst (λ (z : List (List Spill)). Contains (get_or z a []) x ↔ (((a ≡ j.from) × (x ≡ make_way j.to j.height)) ⊎ Contains (get_or old a []) x)) (sym first)
+      (pushed old j.from a (record { to = j.to; height = j.height }) x from)
+
+  back : (a : ℕ) (x : Spill) → Contains (get_or new a []) x ↔ (((a ≡ j.to) × (x ≡ make_way j.from j.height)) ⊎ Contains (get_or now a []) x)
+  back a x = subst (λ (z : List (List Spill)). Contains (get_or z a []) x ↔ (((a ≡ j.to) × (x ≡ make_way j.from j.height)) ⊎ Contains (get_or now a []) x)) (sym second)
+      (pushed now j.to a (record { to = j.from; height = j.height }) x (omega (arith, to, size)))
+
+  one : (x k : Join) → Contains (x ∷ []) k → k ≡ x
+  one x k h = elim (cons_cases x [] k h) [ inl same ↦ same | inr none ↦ absurd (no_join k none) ]
+
+  forth : (a b : ℕ) (h : ℤ) → a ≡ j.from → make_way b h ≡ make_way j.to j.height → j ≡ record { from = a; to = b; height = h }
+  forth a b h from way = ap (λ n. record { from = n; to = j.to; height = j.height }) (sym from) ∙ ap (λ (w : Spill). record { from = a; to = w.to; height = w.height }) (sym way)
+
+  turn : (a b : ℕ) (h : ℤ) → a ≡ j.to → make_way b h ≡ make_way j.from j.height → j ≡ record { from = b; to = a; height = h }
+  turn a b h to way = ap (λ n. record { from = j.from; to = n; height = j.height }) (sym to) ∙ ap (λ (w : Spill). record { from = w.to; to = a; height = w.height }) (sym way)
+
+-- no joins, and one join after others
+pub no_ways_added : (ways : List (List Spill)) → AddsWays [] ways ways
+no_ways_added ways = record {
+  size = refl;
+  each = λ a b h. (λ held. inl held, λ held. elim held [ inl old ↦ old | inr join ↦ elim join [ inl j ↦ absurd (no_join _ j) | inr j ↦ absurd (no_join _ j) ] ]);
+}
+
+-- the joins of two lists
+join_of_both : (first second : List Join) (a b : ℕ) (h : ℤ) → IsJoinOf (first ++ second) a b h ↔ (IsJoinOf first a b h ⊎ IsJoinOf second a b h)
+join_of_both first second a b h = (
+  λ held. elim held [
+    | inl j ↦ elim (Contains-append_cases first second _ j) [ inl x ↦ inl (inl x) | inr y ↦ inr (inl y) ]
+    | inr j ↦ elim (Contains-append_cases first second _ j) [ inl x ↦ inl (inr x) | inr y ↦ inr (inr y) ]
+  ],
+  λ held. elim held [
+    | inl x ↦ elim x [ inl j ↦ inl (Contains-append_left first second _ j) | inr j ↦ inr (Contains-append_left first second _ j) ]
+    | inr y ↦ elim y [ inl j ↦ inl (Contains-append_right first second _ j) | inr j ↦ inr (Contains-append_right first second _ j) ]
+  ],
+)
+
+pub ways_then : (first second : List Join) (old now new : List (List Spill)) → AddsWays first old now → AddsWays second now new → AddsWays (first ++ second) old new
+ways_then first second old now new s t = record {
+  size = t.size ∙ s.size;
+  each = λ a b h. (
+    λ held. elim ((t.each a b h).0 held) [
+      | inr late ↦ inr ((join_of_both first second a b h).1 (inr late))
+      | inl was ↦ elim ((s.each a b h).0 was) [ inl old ↦ inl old | inr early ↦ inr ((join_of_both first second a b h).1 (inl early)) ]
+    ],
+    λ held. (t.each a b h).1 (elim held [
+      | inl old ↦ inl ((s.each a b h).1 (inl old))
+      | inr join ↦ elim ((join_of_both first second a b h).0 join) [ inl early ↦ inl ((s.each a b h).1 (inr early)) | inr late ↦ inr late ]
+    ]),
+  );
+}
+
+-- all joins added to none
+pub ways_of_all : (joins : List Join) (labels : ℕ) (old ways : List (List Spill)) → old ≡ replicate labels [] → AddsWays joins old ways → HasWaysOf joins ways
+ways_of_all joins labels old ways none s a b h = (
+  λ held. elim ((s.each a b h).0 held) [ inl was ↦ absurd (nothing was) | inr join ↦ join ],
+  λ join. (s.each a b h).1 (inr join),
+) where
+  nothing : Contains (get_or old a []) (record { to = b; height = h }) → ⊥
+  nothing held = elim (cases_lt a labels) [
+    | inl low ↦ no_way _ (subst (λ (z : List Spill). Contains z (record { to = b; height = h })) (ap (λ (z : List (List Spill)). get_or z a []) none ∙ get_or-replicate labels a [] [] low) held)
+    | inr past ↦ no_way _ (subst (λ (z : List Spill). Contains z (record { to = b; height = h })) (ap (λ (z : List (List Spill)). get_or z a []) none ∙ get_or_past (replicate labels []) a [] (omega (arith, past, length-replicate {A = List Spill} labels []))) held)
+  ]
+
+-- such ways lead back
+pub leads_back : (joins : List Join) (ways : List (List Spill)) → HasWaysOf joins ways → (a b : ℕ) (h : ℤ) → Contains (get_or ways a []) (record { to = b; height = h }) → HasWay ways a b h
+leads_back joins ways has a b h there =
+    let back : Contains (get_or ways b []) (record { to = a; height = h }) = (has b a h).1 (elim ((has a b h).0 there) [ inl j ↦ inr j | inr j ↦ inl j ]) in
+    record { from_node = way_inside ways a _ there; to_node = way_inside ways b _ back; there = there; back = back }
+
+-- the ways from a label are the joined ones
+pub just_ways : (g : NumberNet) (a : ℕ) → IsNumberNet g → HasJust (HasWay g.ways a) (get_or g.ways a [])
+just_ways g a net = record {
+  only = all_by_contains (λ (w : Spill). HasWay g.ways a w.to w.height) (get_or g.ways a []) (λ w there. net.back a w.to w.height there);
+  every = λ b h way. way.there;
+}
+
+-- the levels of a flood, or else the heights of sources
+pub levels_or-length : (heights sources : List (Option ℤ)) → length sources ≡ length heights → length (levels_or heights sources) ≡ length heights
+levels_or-length [] sources same = refl
+levels_or-length (x ∷ xs) [] same = absurd (omega (arith, same))
+levels_or-length (x ∷ xs) (y ∷ ys) same = ap suc (levels_or-length xs ys (omega (arith, same)))
+
+pub levels_or-at : (heights sources : List (Option ℤ)) (a : ℕ) → a < length heights → length sources ≡ length heights → get_or (levels_or heights sources) a None ≡ option_or (get_or heights a None) (get_or sources a None)
+levels_or-at [] sources a low same = absurd (omega (arith, low))
+levels_or-at (x ∷ xs) [] a low same = absurd (omega (arith, same))
+levels_or-at (x ∷ xs) (y ∷ ys) zero low same = refl
+levels_or-at (x ∷ xs) (y ∷ ys) (suc a) low same = levels_or-at xs ys a (omega (arith, low)) (omega (arith, same))
+
+-- A label's level is found by such sources as it is by all.
+module _ (ways : List (List Spill)) (sources : List (Option ℤ)) where
+  some_has : (a b : ℕ) (h : ℤ) → HasWay ways a b h → has_ways ways a ≡ true
+  some_has a b h way = by (get_or ways a []) way.there where
+    by : (z : List Spill) → Contains z (record { to = b; height = h }) → is_some_way z ≡ true
+    by [] held = absurd (no_way _ held)
+    by (w ∷ rest) held = refl
+
+  source_is : (a : ℕ) → has_ways ways a ≡ true → joined_source ways sources a ≡ source_number sources a
+  source_is a has = cond-true _ _ _ has
+
+  -- walks from a label with a way
+  walk_forth : (walk : List Spill) (a : ℕ) → has_ways ways a ≡ true → IsWalk (HasWay ways) (source_number sources) a walk
+      → IsWalk (HasWay ways) (joined_source ways sources) a walk × (crest (joined_source ways sources) a walk ≡ crest (source_number sources) a walk)
+  walk_forth [] a has walk = (subst (λ (o : Option ℤ). IsSome o) (sym (source_is a has)) walk, ap (λ (o : Option ℤ). unwrap_or o (pos 0)) (source_is a has))
+  walk_forth (step ∷ rest) a has walk =
+      let back : HasWay ways step.to a step.height = record { from_node = walk.0.to_node; to_node = walk.0.from_node; there = walk.0.back; back = walk.0.there } in
+      let further = walk_forth rest step.to (some_has step.to a step.height back) walk.1 in
+      ((walk.0, further.0), ap (int_max step.height) further.1)
+
+  walk_back : (walk : List Spill) (a : ℕ) → has_ways ways a ≡ true → IsWalk (HasWay ways) (joined_source ways sources) a walk
+      → IsWalk (HasWay ways) (source_number sources) a walk × (crest (source_number sources) a walk ≡ crest (joined_source ways sources) a walk)
+  walk_back [] a has walk = (subst (λ (o : Option ℤ). IsSome o) (source_is a has) walk, sym (ap (λ (o : Option ℤ). unwrap_or o (pos 0)) (source_is a has)))
+  walk_back (step ∷ rest) a has walk =
+      let back : HasWay ways step.to a step.height = record { from_node = walk.0.to_node; to_node = walk.0.from_node; there = walk.0.back; back = walk.0.there } in
+      let further = walk_back rest step.to (some_has step.to a step.height back) walk.1 in
+      ((walk.0, further.0), ap (int_max step.height) further.1)
+
+  -- A label has this level and this end, or neither.
+  abbrev IsNodeLevel : ℕ → Option ℤ → Option ℕ → Type 0
+  IsNodeLevel a level label = MatchOption level (HasNoWalk (HasWay ways) (source_number sources) a × (label ≡ None)) (λ h. (end : ℕ) × (label ≡ Some end) × IsLevel (HasWay ways) (source_number sources) a h end)
+
+  alone : (a : ℕ) → has_ways ways a ≡ false → (b : ℕ) (h : ℤ) → HasWay ways a b h → ⊥
+  alone a none b h way = absurd (cc (none, some_has a b h way))
+
+  alone_level : (a : ℕ) → has_ways ways a ≡ false → IsNodeLevel a (source_number sources a) (option_map (λ _. a) (source_number sources a))
+  alone_level a none = match_of (source_number sources a) _ _
+      (λ lacks. ((λ walk is. no_walk lacks walk is), ap (option_map (λ _. a)) lacks))
+      (λ h some. (
+        a,
+        ap (option_map (λ _. a)) some,
+        record {
+          reached = ([], ap is_some some, ap (λ (o : Option ℤ). unwrap_or o (pos 0)) some, refl);
+          least = λ walk is. low h some walk is;
+          own = λ own. refl;
+        },
+      )) where
+        no_walk : source_number sources a ≡ None → (walk : List Spill) → IsWalk (HasWay ways) (source_number sources) a walk → ⊥
+        no_walk lacks [] is = none_done (source_number sources a) lacks is
+        no_walk lacks (step ∷ rest) is = alone a none step.to step.height is.0
+
+        low : (h : ℤ) → source_number sources a ≡ Some h → (walk : List Spill) → IsWalk (HasWay ways) (source_number sources) a walk → h ≤ℤ crest (source_number sources) a walk
+        low h some [] is = le_of_same _ _ (sym (ap (λ (o : Option ℤ). unwrap_or o (pos 0)) some))
+        low h some (step ∷ rest) is = absurd (alone a none step.to step.height is.0)
+
+  -- what a label has by such sources
+  linked_level : (a : ℕ) (level : Option ℤ) (label : Option ℕ) → has_ways ways a ≡ true
+      → MatchOption level (HasNoWalk (HasWay ways) (joined_source ways sources) a × (label ≡ None)) (λ h. (end : ℕ) × (label ≡ Some end) × IsLevel (HasWay ways) (joined_source ways sources) a h end)
+      → IsNodeLevel a level label
+  linked_level a None label has s = ((λ walk is. s.0 walk (walk_forth walk a has is).0), s.1)
+  linked_level a (Some h) label has s =
+      let r = s.2.reached in
+      let back = walk_back r.0 a has r.1 in (
+        s.0,
+        s.1,
+        record {
+          reached = (r.0, back.0, back.1 ∙ r.2, r.3);
+          least = λ walk is. let w = walk_forth walk a has is in subst (λ z. h ≤ℤ z) w.1 (s.2.least walk w.0);
+          own = λ own. s.2.own (source_is a has ∙ own);
+        },
+      )
+
+  no_walk_alone : (a : ℕ) → has_ways ways a ≡ false → (walk : List Spill) → IsWalk (HasWay ways) (joined_source ways sources) a walk → ⊥
+  no_walk_alone a none [] is = none_done (joined_source ways sources a) (cond-false _ _ _ none) is
+  no_walk_alone a none (step ∷ rest) is = alone a none step.to step.height is.0
+
+  -- a label that has a way and no level has no height as a source
+  no_source : (a : ℕ) → has_ways ways a ≡ true → HasNoWalk (HasWay ways) (joined_source ways sources) a → source_number sources a ≡ None
+  no_source a has none = elim (cases_option (source_number sources a)) [
+    | inl lacks ↦ lacks
+    | inr some ↦ absurd (none [] (subst (λ (o : Option ℤ). IsSome o) (sym (source_is a has)) (ap is_some some.1)))
+  ]
+
+  -- the labels of those levels
+  abbrev labels_or : ℕ → List (Option ℕ) → List (Option ℤ) → List (Option ℕ)
+  labels_or a [] rest = []
+  labels_or a (label ∷ labels) [] = []
+  labels_or a (label ∷ labels) (source ∷ rest) = option_or label (option_map (λ _. a) source) ∷ labels_or (a + 1) labels rest
+
+  labels_or-length : (a : ℕ) (labels : List (Option ℕ)) (rest : List (Option ℤ)) → length rest ≡ length labels → length (labels_or a labels rest) ≡ length labels
+  labels_or-length a [] rest same = refl
+  labels_or-length a (x ∷ xs) [] same = absurd (omega (arith, same))
+  labels_or-length a (x ∷ xs) (y ∷ ys) same = ap suc (labels_or-length (a + 1) xs ys (omega (arith, same)))
+
+  labels_or-at : (k n : ℕ) (labels : List (Option ℕ)) (rest : List (Option ℤ)) (a : ℕ) → n ≡ k + a → a < length labels → length rest ≡ length labels → get_or (labels_or k labels rest) a None ≡ option_or (get_or labels a None) (option_map (λ _. n) (get_or rest a None))
+  labels_or-at k n [] rest a e low same = absurd (omega (arith, low))
+  labels_or-at k n (x ∷ xs) [] a e low same = absurd (omega (arith, same))
+  labels_or-at k n (x ∷ xs) (y ∷ ys) zero e low same = ap (λ m. option_or x (option_map (λ _. m) y)) (omega (arith, e))
+  labels_or-at k n (x ∷ xs) (y ∷ ys) (suc a) e low same = labels_or-at (k + 1) n xs ys a (omega (arith, e)) (omega (arith, low)) (omega (arith, same))
+
+  each_level : (a : ℕ) (level : Option ℤ) (label : Option ℕ)
+      → MatchOption level (HasNoWalk (HasWay ways) (joined_source ways sources) a × (label ≡ None)) (λ h. (end : ℕ) × (label ≡ Some end) × IsLevel (HasWay ways) (joined_source ways sources) a h end)
+      → IsNodeLevel a (option_or level (source_number sources a)) (option_or label (option_map (λ _. a) (source_number sources a)))
+  each_level a None label s = elim (cases_Bool (has_ways ways a)) [
+    | inr none ↦ rw s.1 (alone_level a none)
+    | inl has ↦ rw (s.1, no_source a has s.0) (linked_level a None None has (s.0, refl))
+  ]
+  each_level a (Some h) label s = elim (cases_Bool (has_ways ways a)) [
+    | inl has ↦ rw s.1 (linked_level a (Some h) (Some s.0) has (s.0, refl, s.2))
+    | inr none ↦ absurd (no_walk_alone a none s.2.reached.0 s.2.reached.1)
+  ]
+
+  pub number_levels : (heights : List (Option ℤ)) (labels : List (Option ℕ)) → length sources ≡ length ways → IsFlooded (HasWay ways) (joined_source ways sources) (length ways) heights labels → AreNumberLevels ways sources (levels_or heights sources)
+  number_levels heights labels size s =
+      let heights_size : length sources ≡ length heights = size ∙ sym s.levels_size in
+      let labels_size : length sources ≡ length labels = size ∙ sym s.labels_size in (
+        labels_or 0 labels sources,
+        record {
+          levels_size = levels_or-length heights sources heights_size ∙ s.levels_size;
+          labels_size = labels_or-length 0 labels sources labels_size ∙ s.labels_size;
+          each = λ a low.
+              subst (λ o. IsNodeLevel a o (get_or (labels_or 0 labels sources) a None)) (sym (levels_or-at heights sources a (omega (arith, low, s.levels_size)) heights_size))
+              (subst (IsNodeLevel a (option_or (get_or heights a None) (source_number sources a))) (sym (labels_or-at 0 a labels sources a (omega arith) (omega (arith, low, s.labels_size)) labels_size))
+              (each_level a (get_or heights a None) (get_or labels a None) (s.each a low)));
+        },
+      )

@@ -1,0 +1,9 @@
+use Rattle.std.proofs.Common.{◌≡◌, ◌++◌, ◌∙◌, sym, ap, arith}
+use Rattle.std.proofs.lemmas.List.{take_all}
+use Rattle.cell_floods.specs.TileFlood.{Flood}
+use Rattle.fill.specs.Numbers.{ends_of}
+use Rattle.fill.proofs.Firsts.{flat_more}
+use Rattle.fill.proofs.numbers.label_ends.Goals as goal
+
+pub returns : goal.returns
+returns c = c.loop-flood.invariant ∙ ap ends_of (take_all _ c.args.floods.now c.loop-flood-test.false)

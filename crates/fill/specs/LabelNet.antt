@@ -1,0 +1,85 @@
+-- The spill graph by the numbers of its labels. No public clause cites this.
+use Rattle.std.specs.Prelude.{◌≡◌, ◌≢◌, ℕ, ◌<◌, ◌≤◌, ◌⊎◌, ◌↔◌, ℤ, ◌≤ℤ◌, List, [], ◌∷◌, length, Option, None, Some, IsSome, if◌then◌else◌, slice_index_or}
+use Rattle.std.specs.Int.{int_max}
+use Rattle.std.specs.Option.{option_or}
+use Rattle.std.specs.List.{Contains}
+use Rattle.terrain.specs.Raster.{Terrain}
+use Rattle.terrain.specs.Neighbours.{IsNeighbour}
+use Rattle.terrain.specs.declared.place.Place.{Place}
+use Rattle.tiles.specs.Cutting.{Cutting}
+use Rattle.floods.specs.declared.net.Spill.{Spill}
+use Rattle.floods.specs.Walk.{IsFlooded}
+use Rattle.cell_floods.specs.TileFlood.{Flood}
+use Rattle.fill.specs.Gathering.{mark_among}
+use Rattle.fill.specs.Numbers.{places_of, ends_of}
+use Rattle.fill.specs.Ways.{has_ways}
+use Rattle.fill.specs.declared.marks.Mark.{Mark}
+use Rattle.fill.specs.declared.spills.Join.{Join}
+
+-- A way leads from a label to another at this height, and one leads back.
+pub record HasWay (ways : List (List Spill)) (a b : ℕ) (height : ℤ) : Type 0 where
+  pub from_node : a < length ways
+  pub to_node : b < length ways
+  pub there : Contains (slice_index_or ways a []) (record { to = b; height = height })
+  pub back : Contains (slice_index_or ways b []) (record { to = a; height = height })
+
+-- What contracts see of the graph: the ways from each label, and the heights of those that are end cells.
+pub record NumberNet : Type 0 where
+  pub ways : List (List Spill)
+  pub sources : List (Option ℤ)
+
+-- What holds of every such graph: each way leads back too.
+pub record IsNumberNet (g : NumberNet) : Type 0 where
+  pub size : length g.sources ≡ length g.ways
+  pub few : length g.ways ≤ 4294967295
+  pub back : (a b : ℕ) (h : ℤ) → Contains (slice_index_or g.ways a []) (record { to = b; height = h }) → HasWay g.ways a b h
+
+-- The labels are those of one of the joins, in this or the other order.
+abbrev pub IsJoinOf : List Join → ℕ → ℕ → ℤ → Type 0
+IsJoinOf joins a b h = Contains joins (record { from = a; to = b; height = h }) ⊎ Contains joins (record { from = b; to = a; height = h })
+
+-- These joins have been added, each as two ways.
+pub record AddsWays (joins : List Join) (old new : List (List Spill)) : Type 0 where
+  pub size : length new ≡ length old
+  pub each : (a b : ℕ) (h : ℤ) → Contains (slice_index_or new a []) (record { to = b; height = h })
+      ↔ (Contains (slice_index_or old a []) (record { to = b; height = h }) ⊎ IsJoinOf joins a b h)
+
+-- The ways are those of the joins.
+abbrev pub HasWaysOf : List Join → List (List Spill) → Type 0
+HasWaysOf joins ways = (a b : ℕ) (h : ℤ) → Contains (slice_index_or ways a []) (record { to = b; height = h }) ↔ IsJoinOf joins a b h
+
+abbrev pub source_number : List (Option ℤ) → ℕ → Option ℤ
+source_number sources a = slice_index_or sources a None
+
+-- The height of a source from which there is a way.
+abbrev pub joined_source : List (List Spill) → List (Option ℤ) → ℕ → Option ℤ
+joined_source ways sources a = if has_ways ways a then source_number sources a else None
+
+-- The least crest from each label to a source.
+abbrev pub AreNumberLevels : List (List Spill) → List (Option ℤ) → List (Option ℤ) → Type 0
+AreNumberLevels ways sources levels = (labels : List (Option ℕ)) × IsFlooded (HasWay ways) (source_number sources) (length ways) levels labels
+
+-- The levels of a flood, or else the heights of sources.
+abbrev pub levels_or : List (Option ℤ) → List (Option ℤ) → List (Option ℤ)
+levels_or [] sources = []
+levels_or (height ∷ heights) [] = []
+levels_or (height ∷ heights) (source ∷ sources) = option_or height source ∷ levels_or heights sources
+
+-- Two neighbouring cells carry these labels, and the greater of their levels is this height.
+pub record IsNumberPass (t : Terrain) (c : Cutting) (floods : List Flood) (a b : ℕ) (height : ℤ) : Type 0 where
+  pub from : Place
+  pub to : Place
+  pub from_level : ℤ
+  pub to_level : ℤ
+  pub neighbours : IsNeighbour t from to
+  pub from_is : mark_among c floods from ≡ Some (record { level = from_level; node = a })
+  pub to_is : mark_among c floods to ≡ Some (record { level = to_level; node = b })
+  pub greater : int_max from_level to_level ≡ height
+
+-- The graph of these floods, in which two labels that are both end cells may stand without a way.
+pub record IsNumberGraph (t : Terrain) (c : Cutting) (floods : List Flood) (ways : List (List Spill)) (sources : List (Option ℤ)) : Type 0 where
+  pub count : length ways ≡ length (places_of floods)
+  pub ends : sources ≡ ends_of floods
+  pub joined : (a b : ℕ) (h : ℤ) → a ≢ b → IsNumberPass t c floods a b h
+      → (IsSome (source_number sources a) × IsSome (source_number sources b)) ⊎ ((low : ℤ) × HasWay ways a b low × (low ≤ℤ h))
+  pub joined_only : (a b : ℕ) (h : ℤ) → HasWay ways a b h → IsNumberPass t c floods a b h

@@ -1,0 +1,173 @@
+//! The spill graph by the numbers of its labels, and its levels: `filled` stands on it.
+ghost use Rattle.std.specs.Prelude.{◌≡◌, ◌<◌, ◌≤◌, ◌∷◌, [], IfOk, OnOk, length, slice_index_or, None};
+ghost use Rattle.std.specs.List.{All};
+ghost use Rattle.fill.specs.Parts.{all_joins};
+ghost use Rattle.fill.specs.LabelNet.{AddsWays, AreNumberLevels, HasWaysOf};
+
+use crate::parts::Part;
+use crate::spills::Join;
+use crate::ways::WayLists;
+use floods::{FloodedNet, HeightList, Net, NodeLabels, Spill, Waiting, Waits, flood_net};
+use smallvec::SmallVec;
+use std::alloc::{AllocError, Global};
+use std::marker::Model;
+use terrain::{Cell, Height, NoMemory};
+
+/// The labels of all tiles as a net, by their numbers. Joined labels that are end cells are sources.
+#[derive(Drop)]
+pub(crate) struct LabelGraph {
+    sources: Vec<Cell>,
+    ways: WayLists,
+}
+
+impl Model for LabelGraph {
+    ghost use Rattle.fill.specs.LabelNet.{IsNumberNet, NumberNet};
+
+    ghost Value = { NumberNet };
+
+    ghost view = { λ g. record { ways = g.ways; sources = g.sources.items } };
+
+    ghost invariant = { λ g. IsNumberNet (record { ways = g.ways; sources = g.sources.items }) };
+}
+
+/// Adds a join, as a way from each of its labels.
+#[inline(always)]
+fn push_join(ways: &mut WayLists, join: Join) -> Result<(), AllocError>
+    requires from { join.from < length ways.old }
+    requires to { join.to < length ways.old }
+    ensures { OnOk result (AddsWays (join ∷ []) ways.old ways.new) }
+{
+    let there = Spill {
+        to: join.to,
+        height: join.height,
+    };
+    let back = Spill {
+        to: join.from,
+        height: join.height,
+    };
+    ways.push(join.from, there)?;
+    ways.push(join.to, back)?;
+    Ok(())
+}
+
+/// Adds these joins, each as a way from each of its labels.
+fn push_joins(ways: &mut WayLists, joins: &[Join]) -> Result<(), AllocError>
+    requires { All (λ j. (j.from < length ways.old) × (j.to < length ways.old)) joins.now }
+    ensures { OnOk result (AddsWays joins.now ways.old ways.new) }
+{
+    for join in joins {
+        push_join(ways, *join)?;
+    }
+    Ok(())
+}
+
+impl Net for LabelGraph {
+    ghost use Rattle.std.specs.Prelude.{length};
+    ghost use Rattle.fill.specs.LabelNet.{HasWay, joined_source};
+
+    ghost node_count = { λ g. length g.ways };
+
+    ghost joins = { λ g. HasWay g.ways };
+
+    ghost source_height = { λ g. joined_source g.ways g.sources };
+
+    ghost joined_inside = { λ g a b h j. j.to_node };
+
+    ghost joined_back = { λ g a b h j. record { from_node = j.to_node; to_node = j.from_node; there = j.back; back = j.there } };
+
+    #[inline]
+    fn nodes(&self) -> u32 {
+        self.ways.len() as u32
+    }
+
+    fn neighbours(&self, alloc: Global, node: u32) -> Result<SmallVec<Spill, 8>, NoMemory> {
+        Ok(self.ways.ways(alloc, node)?)
+    }
+
+    #[inline]
+    fn spread(
+        &self,
+        _alloc: Global,
+        waits: &mut Waits,
+        from: &Waiting,
+        labels: &NodeLabels,
+        levels: &mut HeightList,
+    ) -> Result<(), NoMemory> {
+        self.ways.spread(waits, from, labels, levels)?;
+        Ok(())
+    }
+
+    #[inline]
+    fn source(&self, node: u32) -> Option<Height> {
+        if self.ways.has(node) {
+            self.sources[node as usize].height()
+        } else {
+            None
+        }
+    }
+}
+
+/// The level of each label in the spill graph, by number: the level of its flood, or else its own
+/// height, if it is an end cell that is joined to none.
+#[derive(Drop)]
+pub(crate) struct LabelLevels {
+    sources: Vec<Cell>,
+    heights: HeightList,
+    ghost size: { length sources.items ≡ length heights },
+}
+
+impl Model for LabelLevels {
+    ghost use Rattle.std.specs.Prelude.{ℤ, List, Option};
+    ghost use Rattle.fill.specs.LabelNet.{levels_or};
+
+    ghost Value = { List (Option ℤ) };
+
+    ghost view = { λ l. levels_or l.heights l.sources.items };
+}
+
+impl LabelLevels {
+    /// The level of a label.
+    #[inline(always)]
+    pub(crate) fn level(&self, number: usize) -> Option<Height>
+        requires { number < length self.now }
+        ensures { result ≡ slice_index_or self.now number None }
+    {
+        match self.heights.at(number) {
+            Some(height) => Some(height),
+            None => self.sources[number].height(),
+        }
+    }
+}
+
+impl LabelGraph {
+    /// The graph of what each tile adds to it, and of the labels that are end cells.
+    pub(crate) fn of_parts(
+        alloc: Global,
+        sources: Vec<Cell>,
+        parts: &[Part],
+    ) -> Result<LabelGraph, AllocError>
+        requires few { length sources.items ≤ 4294967295 }
+        requires inside { All (λ j. (j.from < length sources.items) × (j.to < length sources.items)) (all_joins parts.now) }
+        ensures sources { IfOk result (λ g. g.sources ≡ sources.items) }
+        ensures size { IfOk result (λ g. length g.ways ≡ length sources.items) }
+        ensures ways { IfOk result (λ g. HasWaysOf (all_joins parts.now) g.ways) }
+    {
+        let mut ways = WayLists::none(alloc, sources.len())?;
+        for part in parts {
+            push_joins(&mut ways, &part.joins)?;
+        }
+        Ok(LabelGraph { sources, ways })
+    }
+
+    /// The least crest from each label to an end cell, None for a label that reaches none.
+    pub(crate) fn levels(self, alloc: Global) -> Result<LabelLevels, NoMemory>
+        ensures { IfOk result (λ levels. AreNumberLevels self.ways self.sources levels) }
+    {
+        let FloodedNet { levels, .. } = flood_net(alloc, &self)?;
+        let LabelGraph { sources, .. } = self;
+        Ok(LabelLevels {
+            sources,
+            heights: levels,
+        })
+    }
+}

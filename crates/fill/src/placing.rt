@@ -1,0 +1,109 @@
+//! The joins of labels by number, as joins of their places.
+ghost use Rattle.std.specs.Prelude.{◌≡◌, ◌<◌, ◌++◌, [], IfOk, IfSome, OnOk, length, map};
+ghost use Rattle.std.specs.Option.{option_to_list};
+ghost use Rattle.std.specs.List.{All};
+ghost use Rattle.terrain.specs.Raster.{Terrain};
+ghost use Rattle.tiles.specs.Cutting.{IsWithin};
+ghost use Rattle.fill.specs.Numbers.{node_of_label, nodes_of};
+ghost use Rattle.fill.specs.Parts.{all_joins};
+ghost use Rattle.fill.specs.Placing.{AddsPlaced, placed_joins_of};
+ghost use Rattle.fill.specs.Spills.{AreFloods};
+
+use crate::marks::node_of;
+use crate::parts::Part;
+use crate::spills::Join;
+use cell_floods::TileFlood;
+use std::alloc::{AllocError, Global};
+use terrain::Place;
+use tiles::Tiling;
+
+/// The place of a label in row order of the grid, and 0 for none.
+#[inline(always)]
+fn node_or_first(tiling: &Tiling, label: Option<Place>) -> u32
+    requires { IfSome label (IsWithin tiling.now) }
+    ensures { result ≡ node_of_label tiling.now.cols label }
+{
+    match label {
+        Some(place) => node_of(tiling, place),
+        None => 0,
+    }
+}
+
+/// Adds the places of these labels.
+fn push_nodes(
+    nodes: &mut Vec<u32>,
+    tiling: &Tiling,
+    labels: &[Option<Place>],
+) -> Result<(), AllocError>
+    requires { All (λ label. IfSome label (IsWithin tiling.now)) labels.now }
+    ensures { OnOk result (nodes.new.items ≡ nodes.old.items ++ map (node_of_label tiling.now.cols) labels.now) }
+{
+    for label in labels {
+        nodes.push(node_or_first(tiling, *label))?;
+    }
+    Ok(())
+}
+
+/// The places of all labels by number.
+pub(crate) fn label_nodes(
+    alloc: Global,
+    tiling: &Tiling,
+    floods: &[TileFlood],
+) -> Result<Vec<u32>, AllocError>
+    requires { (t : Terrain) × AreFloods t tiling.now floods.now }
+    ensures { IfOk result (λ v. v.items ≡ nodes_of tiling.now.cols floods.now) }
+{
+    let mut nodes = Vec::new(alloc);
+    for flood in floods {
+        push_nodes(&mut nodes, tiling, flood.labels().places())?;
+    }
+    Ok(nodes)
+}
+
+/// The join of the places of two labels, where these differ.
+#[inline(always)]
+fn place_join(join: Join, nodes: &[u32]) -> Option<Join>
+    requires from { join.from < length nodes.now }
+    requires to { join.to < length nodes.now }
+    ensures { placed_joins_of nodes.now join ≡ option_to_list result }
+{
+    let placed = Join {
+        from: nodes[join.from as usize],
+        to: nodes[join.to as usize],
+        height: join.height,
+    };
+    if placed.from == placed.to {
+        return None;
+    }
+    Some(placed)
+}
+
+/// Adds these joins by the places of their labels, both ways.
+fn push_placed(placed: &mut Vec<Join>, joins: &[Join], nodes: &[u32]) -> Result<(), AllocError>
+    requires { All (λ j. (j.from < length nodes.now) × (j.to < length nodes.now)) joins.now }
+    ensures { OnOk result (AddsPlaced nodes.now joins.now placed.old.items placed.new.items) }
+{
+    for join in joins {
+        if let Some(join) = place_join(*join, nodes) {
+            placed.push(join)?;
+            placed.push(join.turned())?;
+        }
+    }
+    Ok(())
+}
+
+/// The joins of these parts by the places of their labels, both ways.
+pub(crate) fn placed_joins(
+    alloc: Global,
+    parts: &[Part],
+    nodes: &[u32],
+) -> Result<Vec<Join>, AllocError>
+    requires { All (λ j. (j.from < length nodes.now) × (j.to < length nodes.now)) (all_joins parts.now) }
+    ensures { IfOk result (λ v. AddsPlaced nodes.now (all_joins parts.now) [] v.items) }
+{
+    let mut placed = Vec::new(alloc);
+    for part in parts {
+        push_placed(&mut placed, &part.joins, nodes)?;
+    }
+    Ok(placed)
+}
