@@ -18,7 +18,7 @@ pub record Takes {R : Type 0} (remaining : R → Option (List ℕ)) (old new : D
 -- The device's bytes to come are told by `remaining`, where they are known.
 pub record ReadsGrid {R : Type 0} (remaining : R → Option (List ℕ)) (scale : ℕ) (old new : Device R) (result : Result Raster InputFault) : Type 0 where
   pub taken : Takes remaining old new
-  -- The grid is the one that the bytes taken spell, which were all, and a fault is one that all bytes have.
+  -- The grid is the one that the bytes taken spell, and no byte is left. A fault is one that the whole text has.
   pub grid : IfOk result (λ g. IsGridText scale taken.bytes g × IsAtEnd (remaining new.device))
   pub fault : (text : List ℕ) (f : GridFault) → remaining old.device ≡ Some text → result ≡ Err (Grid f) → IsRefusal scale text f
   -- The count rises by one where a read failed, and stays else.

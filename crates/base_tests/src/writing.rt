@@ -97,6 +97,7 @@ fn written(rt: &impl Abort, grid: &Grid, mut taker: Taker, failures: u64) -> Tak
     let mut out = Counted::new(&mut taker);
     let result = write_heights(grid, &mut out);
     assert_eq!(rt; out.failures(), failures);
+    let moved = out.moved();
     assert_eq!(rt;
         result,
         if failures == 0 {
@@ -105,6 +106,7 @@ fn written(rt: &impl Abort, grid: &Grid, mut taker: Taker, failures: u64) -> Tak
             Err(WriteFailed)
         }
     );
+    assert_eq!(rt; taker.taken.len() as u64, moved);
     taker
 }
 

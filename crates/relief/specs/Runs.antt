@@ -14,7 +14,7 @@ use Rattle.relief.specs.Refusals.{IsRunRefusal}
 pub record Runs {R W T : Type 0} (remaining : R → Option (List ℕ)) (contents : W → Option (List ℕ)) (w : Wish) (reader left : Device R) (writer grown : Device W) (result : Result T RunFault) : Type 0 where
   -- No more bytes are taken than tell that the text is too long.
   pub taken : Takes remaining reader left
-  -- What was written is the map of the grid that these bytes spell, with the sinks wished for, and nothing else. They were all.
+  -- What was written is the map of the grid that these bytes spell, with the sinks wished for, and nothing else. No byte is left.
   pub written : OnOk result ((map : List ℕ) × IsMapOfText w.scale w.map w.sinks taken.bytes map
       × HasWritten contents writer grown map × IsAtEnd (remaining left.device))
   -- A refusal is the first that stands.
