@@ -14,7 +14,7 @@ use Rattle.tiles.proofs.Cut.{in_tile, in_bounds_parts, in_bounds_from}
 use Rattle.cell_floods.specs.TileFlood.{Flood, IsFlood, label_in}
 use Rattle.cell_floods.specs.Labels.{labels_by, IsTable}
 use Rattle.fill.specs.Numbers.{AreFirsts, first_of}
-use Rattle.fill.specs.Gathering.{Fit, LabelsInside, IsInner, cells_after, AreEqualAfter, mark_of, mark_in, mark_among, Adds, mark_with, joins_of, AddsAfter, AddsCovered}
+use Rattle.fill.specs.Gathering.{Fit, LabelsInside, IsInner, cells_after, AreEqualAfter, mark_of, mark_in, mark_among, Adds, mark_with, joins_of, Spared, AddsAfter, AddsCovered}
 use Rattle.fill.specs.declared.spills.Join.{Join}
 use Rattle.fill.specs.declared.marks.Mark.{Mark}
 use Rattle.std.proofs.lemmas.Nat.{mul-le}
@@ -159,14 +159,14 @@ equal_after_adds first f sources i width now e = elim (cases_option (mark_with f
   near from is way few = same_label_adds first f sources i (get_or (cells_after width i) way 0) from now is (sym (e way 0 few))
 
 -- the joins of a cell that is not on the rim with the four after it have been added
-pub inner_adds : (c : Cutting) (floods : List Flood) (sources : List (Option ℤ)) (tile : ℕ) (f : Flood) (p : Place) (i : ℕ) (from : Mark) (old new : List Join) → IsCutting c → tile < tile_count c → slice_get floods tile ≡ Some f → f.bounds ≡ bounds_of c tile → IsInner (bounds_of c tile) p → i ≡ index_in (bounds_of c tile) p → mark_with (first_of floods tile) f i ≡ Some from → AddsAfter (first_of floods tile) f sources from i (bounds_of c tile).cols old new → Adds c floods sources (λ q. q ≡ p) old new
-inner_adds c floods sources tile f p i from old new h below e bounds inner at is s =
-    all_added c floods sources p old new
+pub inner_adds : (c : Cutting) (floods : List Flood) (out : Spared) (tile : ℕ) (f : Flood) (p : Place) (i : ℕ) (from : Mark) (old new : List Join) → IsCutting c → tile < tile_count c → slice_get floods tile ≡ Some f → f.bounds ≡ bounds_of c tile → IsInner (bounds_of c tile) p → i ≡ index_in (bounds_of c tile) p → mark_with (first_of floods tile) f i ≡ Some from → AddsAfter (first_of floods tile) f out.sources from i (bounds_of c tile).cols old new → Adds c floods out (λ q. q ≡ p) old new
+inner_adds c floods out tile f p i from old new h below e bounds inner at is s =
+    all_added c floods out p old new
     (step 8 south east _ _ _ (omega (arith, inner)) (omega (arith, inner)) (omega arith) (omega (arith, inner)) (omega (arith, inner)) (omega (arith, at, inner, down))
     (step 7 south p.col _ _ _ (omega (arith, inner)) (omega (arith, inner)) (omega arith) (omega (arith, inner)) (omega (arith, inner)) (omega (arith, at, inner, down))
     (step 6 south west _ _ _ (omega (arith, inner)) (omega (arith, inner)) (omega arith) (omega (arith, inner)) (omega (arith, inner)) (omega (arith, at, inner, down))
     (step 5 p.row east _ _ _ (omega (arith, inner)) (omega (arith, inner)) (omega arith) (omega (arith, inner)) (omega (arith, inner)) (omega (arith, at, inner))
-    (none_added c floods sources p 5 old (λ q t after. after_way p q t after)) s.east) s.south_west) s.south) s.south_east) where
+    (none_added c floods out p 5 old (λ q t after. after_way p q t after)) s.east) s.south_west) s.south) s.south_east) where
       b : Bounds
       b = bounds_of c tile
 
@@ -182,24 +182,24 @@ inner_adds c floods sources tile f p i from old new h below e bounds inner at is
       down : (p.row + 1 - b.top) * b.cols ≡ (p.row - b.top) * b.cols + b.cols
       down = let more : p.row + 1 - b.top ≡ p.row - b.top + 1 = omega (arith, inner) in omega (arith, ap (λ n. n * b.cols) more)
 
-      step : (way row col j : ℕ) (now next : List Join) → row + 1 ≡ p.row + way / 3 → col + 1 ≡ p.col + way % 3 → way < 9 → (b.top ≤ row) × (row < b.top + b.rows) → (b.left ≤ col) × (col < b.left + b.cols) → j ≡ (row - b.top) * b.cols + (col - b.left) → HasAdded c floods sources p way old now → AddsCovered now (joins_of sources from (mark_with (first_of floods tile) f j)) next → HasAdded c floods sources p (way + 1) old next
+      step : (way row col j : ℕ) (now next : List Join) → row + 1 ≡ p.row + way / 3 → col + 1 ≡ p.col + way % 3 → way < 9 → (b.top ≤ row) × (row < b.top + b.rows) → (b.left ≤ col) × (col < b.left + b.cols) → j ≡ (row - b.top) * b.cols + (col - b.left) → HasAdded c floods out p way old now → AddsCovered now (joins_of out.sources from (mark_with (first_of floods tile) f j)) next → HasAdded c floods out p (way + 1) old next
       step way row col j now next same_row same_col few rows cols index s a =
           let near : Place = record { row = row; col = col } in
-          added_more c floods sources p near way from (mark_with (first_of floods tile) f j) old now next
+          added_more c floods out p near way from (mark_with (first_of floods tile) f j) old now next
           (entry_mark c floods tile f p i h below e bounds (omega (arith, inner), omega (arith, inner), omega (arith, inner), omega (arith, inner)) at ∙ is)
           (entry_mark c floods tile f near j h below e bounds (rows.0, rows.1, cols.0, cols.1) index)
           same_row same_col few s a
 
 -- a cell that is not on the rim has its joins added, where it has a mark
-pub inner_cell_adds : (c : Cutting) (floods : List Flood) (sources : List (Option ℤ)) (tile : ℕ) (f : Flood) (p : Place) (i : ℕ) (old new : List Join) → IsCutting c → tile < tile_count c → slice_get floods tile ≡ Some f → f.bounds ≡ bounds_of c tile → IsInner (bounds_of c tile) p → i ≡ index_in (bounds_of c tile) p → MatchOption (mark_with (first_of floods tile) f i) (new ≡ old) (λ from. AddsAfter (first_of floods tile) f sources from i f.bounds.cols old new) → Adds c floods sources (λ q. q ≡ p) old new
-inner_cell_adds c floods sources tile f p i old new h below e bounds inner at s = elim (cases_option (mark_with (first_of floods tile) f i)) [
+pub inner_cell_adds : (c : Cutting) (floods : List Flood) (out : Spared) (tile : ℕ) (f : Flood) (p : Place) (i : ℕ) (old new : List Join) → IsCutting c → tile < tile_count c → slice_get floods tile ≡ Some f → f.bounds ≡ bounds_of c tile → IsInner (bounds_of c tile) p → i ≡ index_in (bounds_of c tile) p → MatchOption (mark_with (first_of floods tile) f i) (new ≡ old) (λ from. AddsAfter (first_of floods tile) f out.sources from i f.bounds.cols old new) → Adds c floods out (λ q. q ≡ p) old new
+inner_cell_adds c floods out tile f p i old new h below e bounds inner at s = elim (cases_option (mark_with (first_of floods tile) f i)) [
   | inl none ↦
       let same = MatchOption-at_none _ _ none s in
       let inside : IsInBounds (bounds_of c tile) p = (omega (arith, inner), omega (arith, inner), omega (arith, inner), omega (arith, inner)) in
-      subst (λ (z : List Join). Adds c floods sources (λ q. q ≡ p) old z) (sym same) (no_mark_adds c floods sources p old (entry_mark c floods tile f p i h below e bounds inside at ∙ none))
+      subst (λ (z : List Join). Adds c floods out (λ q. q ≡ p) old z) (sym same) (no_mark_adds c floods out p old (entry_mark c floods tile f p i h below e bounds inside at ∙ none))
   | inr found ↦
-      inner_adds c floods sources tile f p i found.0 old new h below e bounds inner at found.1
-      (subst (λ (b : Bounds). AddsAfter (first_of floods tile) f sources found.0 i b.cols old new) bounds (MatchOption-at_some _ _ found.0 found.1 s))
+      inner_adds c floods out tile f p i found.0 old new h below e bounds inner at found.1
+      (subst (λ (b : Bounds). AddsAfter (first_of floods tile) f out.sources found.0 i b.cols old new) bounds (MatchOption-at_some _ _ found.0 found.1 s))
 ]
 
 -- the cells of an inner row have a row of the tile after them

@@ -1,6 +1,6 @@
 -- The gathered joins are those of the spill graph, by number and by place.
-use Rattle.std.proofs.Common.{◌≡◌, ◌≢◌, ℕ, ◌*◌, ◌<◌, ◌≤◌, ◌⊎◌, inl, inr, ◌&&◌, true, false, Bool, ℤ, ◌≤ℤ◌, List, [], length, get_or, map, Option, None, Some, is_some, ◌∙◌, sym, ap, subst, refl, arith}
-use Rattle.std.specs.Prelude.{slice_get, IsSome}
+use Rattle.std.proofs.Common.{◌≡◌, ◌≢◌, ℕ, ◌*◌, ◌<◌, ◌⊎◌, inl, inr, ◌&&◌, true, false, Bool, ℤ, ◌≤ℤ◌, List, [], length, get_or, Option, None, Some, is_some, ◌∙◌, sym, ap, subst, refl, arith}
+use Rattle.std.specs.Prelude.{slice_get}
 use Rattle.std.specs.List.{All, Contains}
 use Rattle.std.proofs.lemmas.Bool.{and_parts, cases_lt, cases_order, cases_Bool}
 use Rattle.std.proofs.lemmas.Option.{same_Some, slice_get_within}
@@ -19,18 +19,18 @@ use Rattle.cell_floods.proofs.Where.{labels_inside}
 use Rattle.floods.proofs.Heaps.{all_by_contains}
 use Rattle.floods.specs.declared.net.Spill.{Spill}
 use Rattle.drainage.proofs.Uniqueness.{between}
-use Rattle.fill.specs.Gathering.{Fit, LabelsInside, mark_among, Meets, Covered, IsAfter, IsBefore, AreRising, AreLowest, AreGathered, are_settled, turned}
-use Rattle.fill.specs.LabelNet.{HasWay, HasWaysOf, IsJoinOf, IsNumberPass, IsNumberGraph, source_number}
+use Rattle.fill.specs.Gathering.{Fit, LabelsInside, Spared, IsBypassed, mark_among, Meets, Covered, IsAfter, IsBefore, AreRising, AreLowest, AreGathered, are_settled, turned}
+use Rattle.fill.specs.LabelNet.{HasWaysOf, IsJoinOf, IsNumberPass, IsNumberGraph}
 use Rattle.fill.specs.Numbers.{places_of, ends_of, nodes_of, node_of_label}
 use Rattle.fill.specs.Parts.{IsGraph, graph_with}
-use Rattle.fill.specs.Placing.{AddsPlaced, IsPlacedOf, join_at}
-use Rattle.fill.specs.Spills.{AreFloods, level_among, label_among, Carries, IsPass, Graph, HasJoin, IsJoined, AreSourcesOf, IsGraphOf}
+use Rattle.fill.specs.Placing.{AddsPlaced, join_at}
+use Rattle.fill.specs.Spills.{AreFloods, level_among, Carries, IsPass, AreSourcesOf, IsGraphOf}
 use Rattle.fill.specs.declared.spills.Join.{Join}
 use Rattle.fill.specs.declared.marks.Mark.{Mark}
 use Rattle.fill.proofs.Adding.{no_join}
 use Rattle.fill.proofs.CellMarks.{label_entry, marked_within}
 use Rattle.fill.proofs.LabelGraphs.{leads_back}
-use Rattle.fill.proofs.Numbered.{AreLawful, IsNumbered, numbered, number_below, number_label, has_mark, ends_length}
+use Rattle.fill.proofs.Numbered.{AreLawful, IsNumbered, numbered, number_below, number_label, has_mark, ends_length, fit_of}
 use Rattle.fill.proofs.Rims.{level_has_data, list_there, among_is}
 
 -- labels are settled or not, and so both ways
@@ -59,7 +59,7 @@ one_join joins rise j k a b e f = elim (cases_order a.0 b.0) [
   apart x y u v p q g h (inl a) = let s = ap (λ (z : Join). z.from) p in let t = ap (λ (z : Join). z.from) q in omega (arith, a, g, s, t)
   apart x y u v p q g h (inr a) = let s = ap (λ (z : Join). z.to) p in let t = ap (λ (z : Join). z.to) q in omega (arith, a.1, h, s, t)
 
-meets_turned : (c : Cutting) (floods : List Flood) (out : List (Option ℤ)) (p q : Place) (j : Join) → Meets c floods out p q j → Meets c floods out q p (turned j)
+meets_turned : (c : Cutting) (floods : List Flood) (out : Spared) (p q : Place) (j : Join) → Meets c floods out p q j → Meets c floods out q p (turned j)
 meets_turned c floods out p q j m = record {
   touches = record { row_down = m.touches.row_up; row_up = m.touches.row_down; col_right = m.touches.col_left; col_left = m.touches.col_right };
   from_level = m.to_level;
@@ -67,7 +67,7 @@ meets_turned c floods out p q j m = record {
   from_is = m.to_is;
   to_is = m.from_is;
   different = λ e. m.different (sym e);
-  apart = and_turned (is_some (get_or out j.to None)) (is_some (get_or out j.from None)) ∙ m.apart;
+  apart = and_turned (is_some (get_or out.sources j.to None)) (is_some (get_or out.sources j.from None)) ∙ m.apart;
   greater = max_comm m.to_level m.from_level ∙ m.greater;
 }
 
@@ -81,7 +81,7 @@ after_cases p q differ = elim (cases_order p.row q.row) [
   ]
 ]
 
-meets_differ : (c : Cutting) (floods : List Flood) (out : List (Option ℤ)) (p q : Place) (j : Join) → Meets c floods out p q j → p ≢ q
+meets_differ : (c : Cutting) (floods : List Flood) (out : Spared) (p q : Place) (j : Join) → Meets c floods out p q j → p ≢ q
 meets_differ c floods out p q j m e =
     let same = same_Some (record { level = m.from_level; node = j.from }) (record { level = m.to_level; node = j.to }) (sym m.from_is ∙ ap (mark_among c floods) e ∙ m.to_is) in
     m.different (ap (λ (z : Mark). z.node) same)
@@ -96,6 +96,10 @@ fit_labels t c tile f h below cuts flood = labels_inside t c tile f.bounds f.lev
   each = flood.each;
 })
 
+-- no join left out
+abbrev pub all_joined : Spared
+all_joined = record { sources = []; bypassed = false }
+
 none_settled : (a b : ℕ) → are_settled [] a b ≡ false
 none_settled a b =
     let none : List (Option ℤ) = [] in
@@ -105,14 +109,6 @@ none_settled a b =
 pub labels_within : (t : Terrain) (c : Cutting) (floods : List Flood) (tile : ℕ) (f : Flood) → AreFloods t c floods → slice_get floods tile ≡ Some f → LabelsInside c f
 labels_within t c floods tile f are there k label at = (fit_labels t c tile f are.lawful (omega (arith, are.count, slice_get_within floods tile f there)) are.cuts (are.each tile f there) k label at).0
 
-pub fit_of : (t : Terrain) (c : Cutting) (floods : List Flood) → AreFloods t c floods → Fit c floods
-fit_of t c floods are = record {
-  count = are.count;
-  bounds = λ tile f e. (are.each tile f e).bounds;
-  sizes = λ tile f e. (are.each tile f e).labels_size ∙ ap (λ (b : Bounds). b.rows * b.cols) (sym (are.each tile f e).bounds);
-  levels = λ tile f e. (are.each tile f e).levels_size ∙ ap (λ (b : Bounds). b.rows * b.cols) (sym (are.each tile f e).bounds);
-}
-
 module _ (t : Terrain) (c : Cutting) (floods : List Flood) (are : AreFloods t c floods) (lawful : AreLawful floods) where
   fit : Fit c floods
   fit = fit_of t c floods are
@@ -121,7 +117,7 @@ module _ (t : Terrain) (c : Cutting) (floods : List Flood) (are : AreFloods t c 
   mark_data p m x e = level_has_data t c floods are.lawful are p m.level (marked_within c floods p m are.lawful fit e) x.level_is
 
   -- a meeting is a pass of numbers
-  meets_number : (out : List (Option ℤ)) (p q : Place) (j : Join) → Meets c floods out p q j → IsNumberPass t c floods j.from j.to j.height
+  meets_number : (out : Spared) (p q : Place) (j : Join) → Meets c floods out p q j → IsNumberPass t c floods j.from j.to j.height
   meets_number out p q j m =
       let x = numbered c floods p _ lawful m.from_is in
       let y = numbered c floods q _ lawful m.to_is in
@@ -137,7 +133,7 @@ module _ (t : Terrain) (c : Cutting) (floods : List Flood) (are : AreFloods t c 
       }
 
   -- and back, where the labels are not settled
-  number_meets : (out : List (Option ℤ)) (a b : ℕ) (h : ℤ) → a ≢ b → are_settled out a b ≡ false → (x : IsNumberPass t c floods a b h) → Meets c floods out x.from x.to (record { from = a; to = b; height = h })
+  number_meets : (out : Spared) (a b : ℕ) (h : ℤ) → a ≢ b → are_settled out.sources a b ≡ false → (x : IsNumberPass t c floods a b h) → Meets c floods out x.from x.to (record { from = a; to = b; height = h })
   number_meets out a b h differ apart x = record {
     touches = x.neighbours.touches;
     from_level = x.from_level;
@@ -150,16 +146,18 @@ module _ (t : Terrain) (c : Cutting) (floods : List Flood) (are : AreFloods t c 
   }
 
   -- labels that meet are joined as low, in this or the other order
-  number_cover : (out : List (Option ℤ)) (joins : List Join) → AreGathered c floods out joins → (a b : ℕ) (h : ℤ) → a ≢ b → are_settled out a b ≡ false → IsNumberPass t c floods a b h → (low : ℤ) × IsJoinOf joins a b low × (low ≤ℤ h)
+  number_cover : (out : Spared) (joins : List Join) → AreGathered c floods out joins → (a b : ℕ) (h : ℤ) → a ≢ b → are_settled out.sources a b ≡ false → (x : IsNumberPass t c floods a b h) → ((out.bypassed ≡ true) × (IsBypassed c floods x.from x.to ⊎ IsBypassed c floods x.to x.from)) ⊎ ((low : ℤ) × IsJoinOf joins a b low × (low ≤ℤ h))
   number_cover out joins s a b h differ apart x =
       let m = number_meets out a b h differ apart x in
       elim (after_cases x.from x.to x.neighbours.different) [
-        | inl after ↦
-            let k = s.every x.from x.to _ (marked_within c floods x.from _ are.lawful fit x.from_is) after m in
-            (k.0.height, inl (subst (Contains joins) (same_join k.0 a b k.2 k.3) k.1), k.4)
-        | inr before ↦
-            let k = s.every x.to x.from _ (marked_within c floods x.to _ are.lawful fit x.to_is) before (meets_turned c floods out x.from x.to _ m) in
-            (k.0.height, inr (subst (Contains joins) (same_join k.0 b a k.2 k.3) k.1), k.4)
+        | inl after ↦ elim (s.every x.from x.to _ (marked_within c floods x.from _ are.lawful fit x.from_is) after m) [
+          | inl spared ↦ inl (spared.0, inl spared.1)
+          | inr k ↦ inr (k.0.height, inl (subst (Contains joins) (same_join k.0 a b k.2 k.3) k.1), k.4)
+        ]
+        | inr before ↦ elim (s.every x.to x.from _ (marked_within c floods x.to _ are.lawful fit x.to_is) before (meets_turned c floods out x.from x.to _ m)) [
+          | inl spared ↦ inl (spared.0, inr spared.1)
+          | inr k ↦ inr (k.0.height, inr (subst (Contains joins) (same_join k.0 b a k.2 k.3) k.1), k.4)
+        ]
       ] where
         same_join : (k : Join) (a b : ℕ) → k.from ≡ a → k.to ≡ b → k ≡ record { from = a; to = b; height = k.height }
         same_join k a b e f = ap (λ n. record { from = n; to = k.to; height = k.height }) e ∙ ap (λ n. record { from = a; to = n; height = k.height }) f
@@ -182,26 +180,29 @@ module _ (t : Terrain) (c : Cutting) (floods : List Flood) (are : AreFloods t c 
   }
 
   -- the joins are passes of numbers
-  joins_pass : (out : List (Option ℤ)) (joins : List Join) → AreGathered c floods out joins → (j : Join) → Contains joins j → IsNumberPass t c floods j.from j.to j.height
+  joins_pass : (out : Spared) (joins : List Join) → AreGathered c floods out joins → (j : Join) → Contains joins j → IsNumberPass t c floods j.from j.to j.height
   joins_pass out joins s j there = let m = s.only j there in meets_number out m.0 m.1 j m.3
 
-  pub joins_below : (out : List (Option ℤ)) (joins : List Join) → AreGathered c floods out joins → All (λ j. (j.from < length (places_of floods)) × (j.to < length (places_of floods))) joins
+  pub joins_below : (out : Spared) (joins : List Join) → AreGathered c floods out joins → All (λ j. (j.from < length (places_of floods)) × (j.to < length (places_of floods))) joins
   joins_below out joins s = all_by_contains (λ (j : Join). (j.from < length (places_of floods)) × (j.to < length (places_of floods))) joins (λ j there.
       let x = joins_pass out joins s j there in
       (number_below c floods x.from _ lawful x.from_is, number_below c floods x.to _ lawful x.to_is))
 
   -- the graph by number
-  pub is_number_graph : (sources : List (Option ℤ)) (joins : List Join) (ways : List (List Spill)) → AreGathered c floods sources joins → sources ≡ ends_of floods → length ways ≡ length sources → HasWaysOf joins ways → IsNumberGraph t c floods ways sources
-  is_number_graph sources joins ways s is size has = record {
+  pub is_number_graph : (out : Spared) (sources : List (Option ℤ)) (joins : List Join) (ways : List (List Spill)) → AreGathered c floods out joins → out.sources ≡ sources → sources ≡ ends_of floods → length ways ≡ length sources → HasWaysOf joins ways → IsNumberGraph t c floods ways sources
+  is_number_graph out sources joins ways s out_is is size has = record {
     count = size ∙ ap length is ∙ ends_length t c floods are;
     ends = is;
     joined = λ a b h differ pass. elim (cases_Bool (are_settled sources a b)) [
-      | inl settled ↦ inl (and_parts (is_some (get_or sources a None)) (is_some (get_or sources b None)) settled)
-      | inr apart ↦ let low = number_cover sources joins s a b h differ apart pass in inr (low.0, leads_back joins ways has a b low.0 ((has a b low.0).1 low.1), low.2)
+      | inl settled ↦ inl (inl (and_parts (is_some (get_or sources a None)) (is_some (get_or sources b None)) settled))
+      | inr apart ↦ elim (number_cover out joins s a b h differ (ap (λ z. are_settled z a b) out_is ∙ apart) pass) [
+        | inl bypass ↦ inr bypass.1
+        | inr low ↦ inl (inr (low.0, leads_back joins ways has a b low.0 ((has a b low.0).1 low.1), low.2))
+      ]
     ];
     joined_only = λ a b h way. elim ((has a b h).0 way.there) [
-      | inl there ↦ joins_pass sources joins s _ there
-      | inr back ↦ number_turned b a h (joins_pass sources joins s _ back)
+      | inl there ↦ joins_pass out joins s _ there
+      | inr back ↦ number_turned b a h (joins_pass out joins s _ back)
     ];
   }
 
@@ -265,12 +266,12 @@ module _ (t : Terrain) (c : Cutting) (floods : List Flood) (are : AreFloods t c 
       let x = numbered c floods p _ lawful m.1 in
       (m.0, m.1, node_is p _ x ∙ ap (index_of c.cols) (same_Some x.label carries.0 (sym x.label_is ∙ carries.1)) ∙ carries.2)
 
-  module _ (nodes : List ℕ) (joins placed lowest : List Join) (s : AreGathered c floods [] joins) (is : nodes ≡ nodes_of c.cols floods) (adds : AddsPlaced nodes joins [] placed) (low : AreLowest placed lowest) where
+  module _ (nodes : List ℕ) (joins placed lowest : List Join) (s : AreGathered c floods all_joined joins) (is : nodes ≡ nodes_of c.cols floods) (adds : AddsPlaced nodes joins [] placed) (low : AreLowest placed lowest) where
     placed_pass : (j : Join) → Contains lowest j → (j.from ≢ j.to) × IsPass t c floods j.from j.to j.height
     placed_pass j there = elim (adds.only j (low.only j there)) [
       | inl none ↦ absurd (no_join j none)
       | inr from ↦
-          let pass = place_pass nodes from.0 is (joins_pass [] joins s from.0 from.1) in
+          let pass = place_pass nodes from.0 is (joins_pass all_joined joins s from.0 from.1) in
           elim from.3 [
             | inl same ↦ subst (λ (x : Join). (x.from ≢ x.to) × IsPass t c floods x.from x.to x.height) (sym same) (from.2, pass)
             | inr turn ↦ subst (λ (x : Join). (x.from ≢ x.to) × IsPass t c floods x.from x.to x.height) (sym turn) ((λ e. from.2 (sym e)), pass_turned _ _ _ pass)
@@ -294,7 +295,7 @@ module _ (t : Terrain) (c : Cutting) (floods : List Flood) (are : AreFloods t c 
           greater = x.greater;
         } in
         let apart : m.0 ≢ n.0 = λ e. differ (sym m.2 ∙ ap (λ k. get_or (nodes_of c.cols floods) k 0) e ∙ n.2) in
-        let cover = number_cover [] joins s m.0 n.0 h apart (none_settled m.0 n.0) number in
+        let cover : (low : ℤ) × IsJoinOf joins m.0 n.0 low × (low ≤ℤ h) = elim (number_cover all_joined joins s m.0 n.0 h apart (none_settled m.0 n.0) number) [ inl bypass ↦ absurd (cc (bypass.0)) | inr low ↦ low ] in
         let from_is : get_or nodes m.0 0 ≡ a = ap (λ (z : List ℕ). get_or z m.0 0) is ∙ m.2 in
         let to_is : get_or nodes n.0 0 ≡ b = ap (λ (z : List ℕ). get_or z n.0 0) is ∙ n.2 in
         let made : Join = record { from = a; to = b; height = cover.0 } in

@@ -1,29 +1,19 @@
 -- The graph by numbers: its ways are those of the joins, and its levels those of its flood.
-use Rattle.std.proofs.Common.{◌≡◌, ◌≢◌, ℕ, zero, suc, ◌+◌, ◌<◌, ◌≤◌, ◌⊎◌, ◌↔◌, inl, inr, ◌&&◌, Bool, true, false, ℤ, pos, ◌≤ℤ◌, List, [], ◌∷◌, ◌++◌, length, get_or, set, replicate, take, map, Option, None, Some, is_some, unwrap_or, ◌∙◌, sym, ap, subst, refl, arith}
-use Rattle.std.specs.Prelude.{IsSome, MatchOption, slice_get}
+use Rattle.std.proofs.Common.{◌≡◌, ℕ, zero, suc, ◌+◌, ◌<◌, ◌⊎◌, ◌↔◌, inl, inr, true, false, ℤ, pos, ◌≤ℤ◌, List, [], ◌∷◌, ◌++◌, length, get_or, set, replicate, Option, None, Some, is_some, unwrap_or, ◌∙◌, sym, ap, subst, refl, arith}
+use Rattle.std.specs.Prelude.{IsSome, MatchOption}
 use Rattle.std.specs.Int.{int_max}
 use Rattle.std.specs.Option.{option_or, option_map}
-use Rattle.std.specs.List.{Contains, All, flat_map}
-use Rattle.std.proofs.lemmas.Bool.{and_parts, cases_eq, cases_lt, cases_Bool, cond-true, cond-false}
-use Rattle.std.proofs.lemmas.Option.{MatchOption-at_some, MatchOption-at_none}
-use Rattle.std.proofs.lemmas.List.{length-set, length-map, get_or-set_same, get_or-set_other, get_or_past, get_or-replicate, length-replicate}
+use Rattle.std.specs.List.{Contains}
+use Rattle.std.proofs.lemmas.Bool.{cases_eq, cases_lt, cases_Bool, cond-true, cond-false}
+use Rattle.std.proofs.lemmas.List.{length-set, get_or-set_same, get_or-set_other, get_or_past, get_or-replicate, length-replicate}
 use Rattle.std.proofs.lemmas.List.Elements.{Contains-append_left, Contains-append_right, Contains-append_cases}
 use Rattle.terrain.proofs.Orders.{le_of_same}
-use Rattle.terrain.proofs.Options.{cases_option, none_some, none_done, match_of}
-use Rattle.terrain.specs.Raster.{Terrain}
-use Rattle.terrain.specs.Neighbours.{Touches}
-use Rattle.terrain.specs.declared.place.Place.{Place}
-use Rattle.tiles.specs.Cutting.{Cutting, IsCutting, IsWithin}
+use Rattle.terrain.proofs.Options.{cases_option, none_done, match_of}
 use Rattle.floods.specs.declared.net.Spill.{Spill}
-use Rattle.floods.specs.Walk.{IsWalk, crest, end_of, IsLevel, HasNoWalk, IsFlooded, HasJust}
+use Rattle.floods.specs.Walk.{IsWalk, crest, IsLevel, HasNoWalk, IsFlooded, HasJust}
 use Rattle.floods.proofs.Heaps.{all_by_contains, cons_head, cons_cases}
-use Rattle.cell_floods.specs.TileFlood.{Flood}
-use Rattle.fill.specs.Gathering.{Fit, mark_among, Meets, AreGathered, are_settled, turned}
-use Rattle.fill.specs.LabelNet.{HasWay, IsJoinOf, NumberNet, IsNumberNet, AddsWays, HasWaysOf, source_number, joined_source, AreNumberLevels, levels_or, IsNumberPass, IsNumberGraph}
-use Rattle.fill.specs.Numbers.{ends_of, places_of}
-use Rattle.fill.specs.Spills.{AreFloods}
+use Rattle.fill.specs.LabelNet.{HasWay, IsJoinOf, NumberNet, IsNumberNet, AddsWays, HasWaysOf, source_number, joined_source, AreNumberLevels, levels_or}
 use Rattle.fill.specs.Ways.{has_ways, is_some_way}
-use Rattle.fill.specs.declared.marks.Mark.{Mark}
 use Rattle.fill.specs.declared.spills.Join.{Join}
 use Rattle.fill.proofs.Adding.{no_join}
 

@@ -1,30 +1,33 @@
 -- The labels of all tiles by number: a cell's number tells its label, and its height where that is an end cell.
-use Rattle.std.proofs.Common.{◌≡◌, ℕ, zero, suc, ◌+◌, ◌<◌, ◌≤◌, inl, inr, ℤ, List, [], ◌∷◌, ◌++◌, length, get_or, take, map, Option, None, Some, is_some, ◌∙◌, sym, ap, subst, refl, arith}
-use Rattle.std.specs.Prelude.{slice_get, option_and_then, option_map, MatchOption}
+use Rattle.std.proofs.Common.{◌≡◌, ℕ, zero, suc, ◌+◌, ◌*◌, ◌<◌, ◌≤◌, ◌≤ℤ◌, ◌⊎◌, inl, inr, ℤ, List, [], ◌∷◌, length, get_or, take, Option, None, Some, ◌∙◌, sym, ap, subst, refl, arith}
+use Rattle.std.specs.Prelude.{slice_get, option_map}
 use Rattle.std.specs.List.{flat_map}
 use Rattle.std.proofs.lemmas.Bool.{cases_lt, cond-true}
 use Rattle.std.proofs.lemmas.Option.{MatchOption-at_some, MatchOption-at_none, same_Some, slice_get_within, get_or_from_slice_get}
 use Rattle.std.proofs.lemmas.List.Concat.{get_or-flat_map}
 use Rattle.std.proofs.lemmas.List.{get_or-map, get_or_past, length-append, length-map, take_all}
 use Rattle.terrain.specs.Raster.{Terrain}
-use Rattle.terrain.specs.Neighbours.{height_at, IsDataCell, IsEnd}
+use Rattle.terrain.specs.Neighbours.{IsNeighbour}
 use Rattle.terrain.specs.declared.place.Place.{Place}
 use Rattle.terrain.proofs.Options.{cases_option, none_some}
-use Rattle.tiles.specs.Cutting.{Cutting, IsCutting, tile_of_place, index_in, IsInBounds}
+use Rattle.tiles.specs.Cutting.{Cutting, tile_of_place, index_in}
 use Rattle.tiles.proofs.TileOrder.{entry_in-inside, bounds_from_entry}
 use Rattle.tiles.proofs.Cut.{in_bounds_from, tile_of_place_below}
 use Rattle.cell_floods.specs.Labels.{labels_by}
 use Rattle.cell_floods.specs.TileFlood.{Flood, IsFlood, level_in, label_in}
 use Rattle.cell_floods.proofs.TileWindows.{data_within}
-use Rattle.fill.specs.Gathering.{mark_among, mark_in, mark_with}
-use Rattle.fill.specs.LabelNet.{source_number, IsNumberGraph, IsNumberPass}
+use Rattle.fill.specs.Gathering.{Fit, IsBypassed, mark_among}
+use Rattle.std.specs.Int.{int_max}
+use Rattle.tiles.specs.declared.bounds.Bounds.{Bounds}
+use Rattle.terrain.proofs.Orders.{max_comm}
+use Rattle.fill.specs.LabelNet.{source_number, IsNumberGraph}
 use Rattle.fill.specs.LabelNet.{HasWay}
 use Rattle.fill.specs.Numbers.{places_of, ends_of, first_of}
 use Rattle.fill.specs.Spills.{AreFloods, level_among, label_among}
 use Rattle.fill.specs.declared.marks.Mark.{Mark}
 use Rattle.floods.specs.declared.net.Spill.{Spill}
-use Rattle.fill.proofs.CellMarks.{marked, mark_from_tile, mark_some}
-use Rattle.fill.proofs.Rims.{IsLabelNet, AreMeeting, has_tile_level, among_is, list_there}
+use Rattle.fill.proofs.CellMarks.{marked, marked_within, mark_from_tile, mark_some}
+use Rattle.fill.proofs.Rims.{IsLabelNet, LeadsRound, neighbour_back, level_has_data, has_tile_level, among_is, list_there}
 
 -- lists of the same lengths stand at the same places
 flat_same : {X Y Z : Type 0} (g : X → List Y) (h : X → List Z) (xs : List X) (i : ℕ) → i ≤ length xs → ((k : ℕ) (d : X) → k < length xs → length (g (get_or xs k d)) ≡ length (h (get_or xs k d)))
@@ -69,6 +72,14 @@ ends_length t c floods are =
     ap (λ (z : List Flood). length (ends_of z)) (sym all)
     ∙ flat_same (λ (g : Flood). g.ends) (λ (g : Flood). g.table.places) floods (length floods) (omega arith) sizes
     ∙ ap (λ (z : List Flood). length (places_of z)) all
+
+pub fit_of : (t : Terrain) (c : Cutting) (floods : List Flood) → AreFloods t c floods → Fit c floods
+fit_of t c floods are = record {
+  count = are.count;
+  bounds = λ tile f e. (are.each tile f e).bounds;
+  sizes = λ tile f e. (are.each tile f e).labels_size ∙ ap (λ (b : Bounds). b.rows * b.cols) (sym (are.each tile f e).bounds);
+  levels = λ tile f e. (are.each tile f e).levels_size ∙ ap (λ (b : Bounds). b.rows * b.cols) (sym (are.each tile f e).bounds);
+}
 
 abbrev pub AreLawful : List Flood → Type 0
 AreLawful floods = (tile : ℕ) (f : Flood) → slice_get floods tile ≡ Some f → IsFlood f
@@ -161,7 +172,7 @@ module _ (t : Terrain) (c : Cutting) (floods : List Flood) (are : AreFloods t c 
         let x = numbered c floods p (record { level = m.0; node = a }) lawful m.1 in
         let y = numbered c floods q (record { level = n.0; node = a }) lawful n.1 in
         x.label_is ∙ sym (number_label c floods p (record { level = m.0; node = a }) x) ∙ number_label c floods q (record { level = n.0; node = a }) y ∙ sym y.label_is;
-    joined = λ a b z differ meet. graph.joined a b z differ (record {
+    joined = λ a b z differ meet. elim (graph.joined a b z differ (record {
       from = meet.from;
       to = meet.to;
       from_level = meet.from_level;
@@ -170,7 +181,26 @@ module _ (t : Terrain) (c : Cutting) (floods : List Flood) (are : AreFloods t c 
       from_is = mark_is meet.from a meet.from_level meet.from_number meet.from_is;
       to_is = mark_is meet.to b meet.to_level meet.to_number meet.to_is;
       greater = meet.greater;
-    });
+    })) [
+      | inl joined ↦ inl joined
+      | inr bypass ↦ elim bypass [
+        | inl by ↦ inr (round meet.from meet.to meet.from_level meet.to_level z meet.neighbours meet.from_is meet.to_is meet.greater by)
+        | inr by ↦
+            let back = round meet.to meet.from meet.to_level meet.from_level z (neighbour_back t meet.from meet.to meet.neighbours) meet.to_is meet.from_is (max_comm meet.to_level meet.from_level ∙ meet.greater) by in
+            inr (record {
+              middle = back.middle;
+              level = back.level;
+              level_is = back.level_is;
+              there = neighbour_back t back.middle meet.from back.on;
+              on = neighbour_back t meet.to back.middle back.there;
+              there_straight = turn_straight back.middle meet.from back.on_straight;
+              on_straight = turn_straight meet.to back.middle back.there_straight;
+              low = back.low;
+              bent_row = λ e. back.bent_row (sym e);
+              bent_col = λ e. back.bent_col (sym e);
+            })
+      ]
+    ];
     joined_only = λ a b z way.
         let pass = graph.joined_only a b z way in
         record {
@@ -202,6 +232,43 @@ module _ (t : Terrain) (c : Cutting) (floods : List Flood) (are : AreFloods t c 
         let at = MatchOption-at_some _ _ z (sym (source_is p mark x) ∙ source) ((are.each _ x.flood x.there).ends.each x.entry x.label x.listed) in
         (x.label, x.label_is, at.0, at.1);
   } where
+    turn_straight : (p q : Place) → (p.row ≡ q.row) ⊎ (p.col ≡ q.col) → (q.row ≡ p.row) ⊎ (q.col ≡ p.col)
+    turn_straight p q (inl row) = inl (sym row)
+    turn_straight p q (inr col) = inr (sym col)
+
+    round : (p q : Place) (x y z : ℤ) → IsNeighbour t p q → level_among c floods p ≡ Some x → level_among c floods q ≡ Some y → int_max x y ≡ z → IsBypassed c floods p q → LeadsRound t c floods p q z
+    round p q x y z next p_is q_is greater by =
+        let middle : Place = record { row = q.row; col = p.col } in
+        let a = numbered c floods p by.from lawful by.from_is in
+        let m = numbered c floods middle by.below lawful by.below_is in
+        let b = numbered c floods q by.to lawful by.to_is in
+        let x_is : by.from.level ≡ x = same_Some by.from.level x (sym a.level_is ∙ p_is) in
+        let y_is : by.to.level ≡ y = same_Some by.to.level y (sym b.level_is ∙ q_is) in
+        let within = marked_within c floods middle by.below are.lawful (fit_of t c floods are) by.below_is in
+        let has = level_has_data t c floods are.lawful are middle by.below.level within m.level_is in
+        record {
+          middle = middle;
+          level = by.below.level;
+          level_is = m.level_is;
+          there = record {
+            different = λ e. absurd (omega (arith, ap (λ (r : Place). r.row) e, by.next_row));
+            touches = record { row_down = omega (arith, by.next_row); row_up = omega (arith, by.next_row); col_right = omega arith; col_left = omega arith };
+            from_data = next.from_data;
+            to_data = has;
+          };
+          on = record {
+            different = λ e. by.aside (ap (λ (r : Place). r.col) e);
+            touches = record { row_down = omega arith; row_up = omega arith; col_right = next.touches.col_right; col_left = next.touches.col_left };
+            from_data = has;
+            to_data = next.to_data;
+          };
+          there_straight = inr refl;
+          on_straight = inl refl;
+          low = subst (λ n. by.below.level ≤ℤ n) (ap (λ n. int_max n by.to.level) x_is ∙ ap (int_max x) y_is ∙ greater) by.low;
+          bent_row = λ e. omega (arith, e, by.next_row);
+          bent_col = by.aside;
+        }
+
     mark_is : (p : Place) (a : ℕ) (level : ℤ) → number_among c floods p ≡ Some a → level_among c floods p ≡ Some level → mark_among c floods p ≡ Some (record { level = level; node = a })
     mark_is p a level is level_is =
         let m = number_mark (mark_among c floods p) a is in

@@ -1,11 +1,9 @@
 -- Joins by the places of their labels.
-use Rattle.std.proofs.Common.{◌≡◌, ◌≢◌, ◌==◌, ℕ, ◌+◌, ◌<◌, inl, inr, ◌⊎◌, List, [], ◌∷◌, ◌++◌, length, get_or, map, take, Option, None, Some, ◌∙◌, sym, ap, subst, refl, arith}
-use Rattle.std.specs.List.{Contains, flat_map}
+use Rattle.std.proofs.Common.{◌≡◌, ◌≢◌, ℕ, inl, inr, ◌⊎◌, List, [], ◌∷◌, ◌++◌, Some, ◌∙◌, sym, ap, subst}
+use Rattle.std.specs.List.{Contains}
 use Rattle.std.specs.Option.{option_to_list}
 use Rattle.std.proofs.lemmas.Bool.{cases_eq, cond-true, cond-false, eq-eqb, ne_eqb}
 use Rattle.std.proofs.lemmas.List.Elements.{Contains-append_left, Contains-append_right, Contains-append_cases}
-use Rattle.terrain.specs.declared.place.Place.{Place}
-use Rattle.cell_floods.specs.TileFlood.{Flood}
 use Rattle.fill.specs.Gathering.{turned}
 use Rattle.fill.specs.Placing.{AddsPlaced, IsPlacedOf, join_at, placed_joins_of}
 use Rattle.fill.specs.declared.spills.Join.{Join}

@@ -30,12 +30,12 @@ use Rattle.fill.specs.Numbers.{first_of}
 use Rattle.fill.specs.declared.marks.Mark.{Mark}
 use Rattle.floods.specs.declared.net.Spill.{Spill}
 use Rattle.fill.proofs.CellMarks.{entry_mark, label_entry}
-use Rattle.fill.proofs.Numbered.{AreLawful, has_mark, number_below, number_among, number_net}
+use Rattle.fill.proofs.Numbered.{AreLawful, fit_of, has_mark, number_below, number_among, number_net}
 use Rattle.fill.specs.declared.rows.RaisedTile.{RaisedTile}
 use Rattle.fill.specs.Gathering.{Fit, mark_among, mark_of, mark_with}
 use Rattle.cell_floods.specs.Labels.{labels_by, IsTable}
 use Rattle.cell_floods.proofs.Where.{levels_where-length, levels_where-at}
-use Rattle.fill.proofs.Gathered.{fit_of, labels_within}
+use Rattle.fill.proofs.Gathered.{labels_within}
 use Rattle.cell_floods.proofs.TileWindows.{data_within}
 use Rattle.terrain.proofs.Options.{cases_option, match_of, none_some}
 use Rattle.fill.proofs.Rims.{HasTileLevel, IsLabelNet, has_tile_level, among_is, rims, list_there}
@@ -316,7 +316,7 @@ place_net t c floods g are graph = record {
         greater = meet.greater;
       } in
       let join = graph.joined a b h differ pass in
-      inr (join.0, join.1, (graph.joined_only a b join.0 join.1).least h pass);
+      inl (inr (join.0, join.1, (graph.joined_only a b join.0 join.1).least h pass));
   joined_only = λ a b h join.
       let pass = (graph.joined_only a b h join).pass in
       record {

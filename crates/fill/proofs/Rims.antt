@@ -76,7 +76,7 @@ low_step t m p q next low way = (q ∷ way.0, (next, way.1), max_least (height_o
 low_below : (t : Terrain) (m n : ℤ) (p : Place) → m ≤ℤ n → HasLowPath t m p → HasLowPath t n p
 low_below t m n p le way = (way.0, way.1, trans _ _ _ way.2 le)
 
-neighbour_back : (t : Terrain) (p q : Place) → IsNeighbour t p q → IsNeighbour t q p
+pub neighbour_back : (t : Terrain) (p q : Place) → IsNeighbour t p q → IsNeighbour t q p
 neighbour_back t p q n = record {
   different = λ e. n.different (sym e);
   touches = record { row_down = n.touches.row_up; row_up = n.touches.row_down; col_right = n.touches.col_left; col_left = n.touches.col_right };
@@ -145,12 +145,29 @@ pub record AreMeeting (t : Terrain) (c : Cutting) (floods : List Flood) (number 
   pub to_is : level_among c floods to ≡ Some to_level
   pub greater : int_max from_level to_level ≡ height
 
+-- Cells of one row or column.
+abbrev IsStraight : Place → Place → Type 0
+IsStraight p q = (p.row ≡ q.row) ⊎ (p.col ≡ q.col)
+
+-- A cell no higher than this leads round from a cell to one that touches it at a corner.
+pub record LeadsRound (t : Terrain) (c : Cutting) (floods : List Flood) (p q : Place) (height : ℤ) : Type 0 where
+  pub middle : Place
+  pub level : ℤ
+  pub level_is : level_among c floods middle ≡ Some level
+  pub there : IsNeighbour t p middle
+  pub on : IsNeighbour t middle q
+  pub there_straight : (p.row ≡ middle.row) ⊎ (p.col ≡ middle.col)
+  pub on_straight : (middle.row ≡ q.row) ⊎ (middle.col ≡ q.col)
+  pub low : level ≤ℤ height
+  pub bent_row : p.row ≢ q.row
+  pub bent_col : p.col ≢ q.col
+
 -- The nodes of a net are numbers of the cells' labels. Cells that meet are joined no higher than they meet, unless
--- both labels are sources, each join is that of cells that meet, and the sources are the labels that are end cells.
+-- both labels are sources or another cell leads round, each join is that of cells that meet, and the sources are the labels that are end cells.
 pub record IsLabelNet (t : Terrain) (c : Cutting) (floods : List Flood) (number : Place → Option ℕ) (joins : Joins) (source : Sources) : Type 0 where
   pub some : (p : Place) → IsDataCell t p → (a : ℕ) × (number p ≡ Some a)
   pub one : (p q : Place) (a : ℕ) → number p ≡ Some a → number q ≡ Some a → label_among c floods p ≡ label_among c floods q
-  pub joined : (a b : ℕ) (h : ℤ) → a ≢ b → AreMeeting t c floods number a b h → (IsSome (source a) × IsSome (source b)) ⊎ ((low : ℤ) × joins a b low × (low ≤ℤ h))
+  pub joined : (a b : ℕ) (h : ℤ) → a ≢ b → (x : AreMeeting t c floods number a b h) → ((IsSome (source a) × IsSome (source b)) ⊎ ((low : ℤ) × joins a b low × (low ≤ℤ h))) ⊎ LeadsRound t c floods x.from x.to h
   pub joined_only : (a b : ℕ) (h : ℤ) → joins a b h → AreMeeting t c floods number a b h
   pub end_source : (p : Place) (a : ℕ) (h : ℤ) → IsEnd t p → label_among c floods p ≡ Some p → number p ≡ Some a → height_at t p ≡ Some h → source a ≡ Some h
   pub source_end : (p : Place) (a : ℕ) (h : ℤ) → IsDataCell t p → number p ≡ Some a → source a ≡ Some h → (e : Place) × (label_among c floods p ≡ Some e) × IsEnd t e × (height_at t e ≡ Some h)
@@ -166,8 +183,48 @@ module _ (t : Terrain) (c : Cutting) (floods : List Flood) (h : IsCutting c) (ar
       let label_low : height_of t l.label ≤ℤ l.level = subst (λ n. height_of t l.label ≤ℤ n) l.right.reached.2 (subst (λ q. height_of t q ≤ℤ crest t p l.right.reached.0) l.right.reached.3 (last_low t p l.right.reached.0)) in
       ([], some, trans _ _ _ (le_of_same _ _ (ap (λ (o : Option ℤ). unwrap_or o (pos 0)) z.1 ∙ sym height)) (trans _ _ _ label_low low))
 
+  -- A walk from a label at no greater crest than this.
+  abbrev HasLowWalk : ℕ → ℤ → Type 0
+  HasLowWalk a m = (walk : List Spill) × IsWalk joins source a walk × (walk_crest source a walk ≤ℤ m)
+
+  -- one from a cell's label gives one from its neighbour's, where neither is higher
+  walk_over : (p q : Place) (a b : ℕ) (m : ℤ) (l : HasTileLevel t c floods p) (k : HasTileLevel t c floods q) → IsNeighbour t p q → number p ≡ Some a → number q ≡ Some b → l.level ≤ℤ m → k.level ≤ℤ m
+      → (LeadsRound t c floods p q (int_max l.level k.level) → HasLowWalk a m) → HasLowWalk b m → HasLowWalk a m
+  walk_over p q a b m l k next is at from_low to_low round further = elim (cases_eq b a) [
+    | inl same ↦ (further.0, subst (λ n. IsWalk joins source n further.0) same further.1, subst (λ n. walk_crest source n further.0 ≤ℤ m) same further.2)
+    | inr differ ↦ elim (net.joined a b (int_max l.level k.level) (λ e. differ (sym e)) (record {
+      from = p;
+      to = q;
+      from_level = l.level;
+      to_level = k.level;
+      neighbours = next;
+      from_number = is;
+      to_number = at;
+      from_is = l.level_is;
+      to_is = k.level_is;
+      greater = refl;
+    })) [
+      | inr by ↦ round by
+      | inl straight ↦ elim straight [
+        | inl both ↦ source_walk p a l m next.from_data is from_low both.0
+        | inr join ↦ (record { to = b; height = join.0 } ∷ further.0, (join.1, further.1), max_least _ _ _ (trans _ _ _ join.2 (max_least _ _ _ from_low to_low)) further.2)
+      ]
+    ]
+  ]
+
+  walk_straight : (p q : Place) (a b : ℕ) (m : ℤ) (l : HasTileLevel t c floods p) (k : HasTileLevel t c floods q) → IsNeighbour t p q → IsStraight p q → number p ≡ Some a → number q ≡ Some b → l.level ≤ℤ m → k.level ≤ℤ m → HasLowWalk b m → HasLowWalk a m
+  walk_straight p q a b m l k next straight is at from_low to_low further = walk_over p q a b m l k next is at from_low to_low (λ by. elim straight [ inl row ↦ absurd (by.bent_row row) | inr col ↦ absurd (by.bent_col col) ]) further
+
+  walk_any : (p q : Place) (a b : ℕ) (m : ℤ) (l : HasTileLevel t c floods p) (k : HasTileLevel t c floods q) → IsNeighbour t p q → number p ≡ Some a → number q ≡ Some b → l.level ≤ℤ m → k.level ≤ℤ m → HasLowWalk b m → HasLowWalk a m
+  walk_any p q a b m l k next is at from_low to_low further = walk_over p q a b m l k next is at from_low to_low (λ by.
+      let r = has_tile_level t c floods h are by.middle by.there.to_data in
+      let n = net.some by.middle by.there.to_data in
+      let level : r.level ≡ by.level = same_Some r.level by.level (sym r.level_is ∙ by.level_is) in
+      let low : r.level ≤ℤ m = trans _ _ _ (le_of_same _ _ level) (trans _ _ _ by.low (max_least _ _ _ from_low to_low)) in
+      walk_straight p by.middle a n.0 m l r by.there by.there_straight is n.1 from_low low (walk_straight by.middle q n.0 b m r k by.on by.on_straight n.1 at low to_low further)) further
+
   -- a path from a cell gives a walk from its label at no greater crest
-  path_walk : (p : Place) (a : ℕ) (l : HasTileLevel t c floods p) (rest : List Place) → number p ≡ Some a → IsPath t p rest → (walk : List Spill) × IsWalk joins source a walk × (walk_crest source a walk ≤ℤ crest t p rest)
+  path_walk : (p : Place) (a : ℕ) (l : HasTileLevel t c floods p) (rest : List Place) → number p ≡ Some a → IsPath t p rest → HasLowWalk a (crest t p rest)
   path_walk p a l [] is path =
       let same = end_label t c p l.label l.level l.right path in
       let height = data_is (height_at t p) (first_is_data t p [] path) in
@@ -177,27 +234,8 @@ module _ (t : Terrain) (c : Cutting) (floods : List Flood) (h : IsCutting c) (ar
       let k = has_tile_level t c floods h are q path.0.to_data in
       let b = net.some q path.0.to_data in
       let further = path_walk q b.0 k rest b.1 path.1 in
-      let low = trans _ _ _ further.2 (max_right (height_of t p) (crest t q rest)) in
-      elim (cases_eq b.0 a) [
-        | inl same ↦ (further.0, subst (λ n. IsWalk joins source n further.0) same further.1, subst (λ n. walk_crest source n further.0 ≤ℤ crest t p (q ∷ rest)) same low)
-        | inr differ ↦ elim (net.joined a b.0 (int_max l.level k.level) (λ e. differ (sym e)) (record {
-          from = p;
-          to = q;
-          from_level = l.level;
-          to_level = k.level;
-          neighbours = path.0;
-          from_number = is;
-          to_number = b.1;
-          from_is = l.level_is;
-          to_is = k.level_is;
-          greater = refl;
-        })) [
-          | inl both ↦ source_walk p a l (crest t p (q ∷ rest)) path.0.from_data is (level_low t c floods h are p l (q ∷ rest) path) both.0
-          | inr join ↦
-              let levels : int_max l.level k.level ≤ℤ crest t p (q ∷ rest) = max_least _ _ _ (level_low t c floods h are p l (q ∷ rest) path) (trans _ _ _ (level_low t c floods h are q k rest path.1) (max_right (height_of t p) (crest t q rest))) in
-              (record { to = b.0; height = join.0 } ∷ further.0, (join.1, further.1), max_least _ _ _ (trans _ _ _ join.2 levels) low)
-        ]
-      ]
+      let up = max_right (height_of t p) (crest t q rest) in
+      walk_any p q a b.0 (crest t p (q ∷ rest)) l k path.0 is b.1 (level_low t c floods h are p l (q ∷ rest) path) (trans _ _ _ (level_low t c floods h are q k rest path.1) up) (further.0, further.1, trans _ _ _ further.2 up)
 
   -- a walk from a cell's number gives a path from its label at no greater crest
   walk_path : (walk : List Spill) (p label : Place) (a : ℕ) → IsDataCell t p → number p ≡ Some a → label_among c floods p ≡ Some label → IsWalk joins source a walk → HasLowPath t (walk_crest source a walk) label

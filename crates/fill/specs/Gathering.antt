@@ -1,5 +1,5 @@
 -- How the joins of a spill graph are gathered from the floods of the tiles.
-use Rattle.std.specs.Prelude.{◌≡◌, ◌≢◌, ℕ, ◌+◌, ◌-◌, ◌*◌, ◌<◌, ◌⊎◌, ◌==◌, ◌&&◌, false, if◌then◌else◌, is_some, Bool, ℤ, ◌≤ℤ◌, List, [], ◌∷◌, length, Option, None, Some, slice_get, slice_index_or, option_and_then}
+use Rattle.std.specs.Prelude.{◌≡◌, ◌≢◌, ℕ, ◌+◌, ◌-◌, ◌*◌, ◌<◌, ◌⊎◌, ◌==◌, ◌&&◌, true, false, if◌then◌else◌, is_some, Bool, ℤ, ◌≤ℤ◌, List, [], ◌∷◌, length, Option, None, Some, slice_get, slice_index_or, option_and_then}
 use Rattle.std.specs.Int.{int_max}
 use Rattle.std.specs.List.{All, Contains}
 use Rattle.terrain.specs.Neighbours.{Touches}
@@ -41,25 +41,47 @@ mark_in first f p = if is_in_bounds f.bounds p then mark_with first f (index_in 
 abbrev pub mark_among : Cutting → List Flood → Place → Option Mark
 mark_among c floods p = option_and_then (λ f. mark_in (first_of floods (tile_of_place c p)) f p) (slice_get floods (tile_of_place c p))
 
+-- Which joins are left out: those of two sources, and maybe those that lead round by another cell.
+pub record Spared : Type 0 where
+  pub sources : List (Option ℤ)
+  pub bypassed : Bool
+
+-- The second cell touches the first from below at a corner, and the cell below the first is no higher than one of them:
+-- the joins with that cell lower all levels that theirs does.
+pub record IsBypassed (c : Cutting) (floods : List Flood) (p q : Place) : Type 0 where
+  pub from : Mark
+  pub below : Mark
+  pub to : Mark
+  pub from_is : mark_among c floods p ≡ Some from
+  pub below_is : mark_among c floods (record { row = q.row; col = p.col }) ≡ Some below
+  pub to_is : mark_among c floods q ≡ Some to
+  pub next_row : q.row ≡ p.row + 1
+  pub aside : p.col ≢ q.col
+  pub low : below.level ≤ℤ int_max from.level to.level
+
 -- Both labels are among these sources. The join of two sources lowers the level of neither.
 abbrev pub are_settled : List (Option ℤ) → ℕ → ℕ → Bool
 are_settled sources a b = is_some (slice_index_or sources a None) && is_some (slice_index_or sources b None)
 
 -- Cells that touch carry the two labels of the join, and its height is the greater of their levels. Not both labels
 -- are among these sources.
-pub record Meets (c : Cutting) (floods : List Flood) (sources : List (Option ℤ)) (p q : Place) (j : Join) : Type 0 where
+pub record Meets (c : Cutting) (floods : List Flood) (out : Spared) (p q : Place) (j : Join) : Type 0 where
   pub touches : Touches p q
   pub from_level : ℤ
   pub to_level : ℤ
   pub from_is : mark_among c floods p ≡ Some (record { level = from_level; node = j.from })
   pub to_is : mark_among c floods q ≡ Some (record { level = to_level; node = j.to })
   pub different : j.from ≢ j.to
-  pub apart : are_settled sources j.from j.to ≡ false
+  pub apart : are_settled out.sources j.from j.to ≡ false
   pub greater : int_max from_level to_level ≡ j.height
 
 -- One of these places gives the join with a place that touches it.
-abbrev pub IsMeetingAt : Cutting → List Flood → List (Option ℤ) → (Place → Type 0) → Join → Type 0
-IsMeetingAt c floods sources places j = (p q : Place) × places p × Meets c floods sources p q j
+abbrev pub IsMeetingAt : Cutting → List Flood → Spared → (Place → Type 0) → Join → Type 0
+IsMeetingAt c floods out places j = (p q : Place) × places p × Meets c floods out p q j
+
+-- The join of two cells is left out, since it leads round by another cell.
+abbrev pub IsSpared : Cutting → List Flood → Spared → Place → Place → Type 0
+IsSpared c floods out p q = (out.bypassed ≡ true) × IsBypassed c floods p q
 
 -- The joins that two marks give: one, where their labels differ and are not both among these sources.
 abbrev pub joins_of : List (Option ℤ) → Mark → Option Mark → List Join
@@ -110,10 +132,10 @@ IsAfter p q = (p.row < q.row) ⊎ ((p.row ≡ q.row) × (p.col < q.col))
 
 -- The joins of these places with those after them have been added, but for those that others cover, and no others.
 -- Joins may have been lowered to added ones.
-pub record Adds (c : Cutting) (floods : List Flood) (sources : List (Option ℤ)) (places : Place → Type 0) (old new : List Join) : Type 0 where
+pub record Adds (c : Cutting) (floods : List Flood) (out : Spared) (places : Place → Type 0) (old new : List Join) : Type 0 where
   pub kept : (j : Join) → Contains old j → Covered new j
-  pub only : (j : Join) → Contains new j → Contains old j ⊎ IsMeetingAt c floods sources places j
-  pub every : (p q : Place) (j : Join) → places p → IsAfter p q → Meets c floods sources p q j → Covered new j
+  pub only : (j : Join) → Contains new j → Contains old j ⊎ IsMeetingAt c floods out places j
+  pub every : (p q : Place) (j : Join) → places p → IsAfter p q → Meets c floods out p q j → IsSpared c floods out p q ⊎ Covered new j
 
 -- The join from its other label.
 abbrev pub turned : Join → Join
@@ -133,10 +155,14 @@ pub record AreLowest (joins lowest : List Join) : Type 0 where
   pub every : (j : Join) → Contains joins j → Covered lowest j
   pub rising : AreRising lowest
 
--- The joins of all cells with those after them but those of two of these sources, each as low as those that were met.
-pub record AreGathered (c : Cutting) (floods : List Flood) (sources : List (Option ℤ)) (joins : List Join) : Type 0 where
-  pub only : (j : Join) → Contains joins j → IsMeetingAt c floods sources (IsWithin c) j
-  pub every : (p q : Place) (j : Join) → IsWithin c p → IsAfter p q → Meets c floods sources p q j → Covered joins j
+-- The join of a cell with one beside it has been added, where there is one and it is not left out.
+abbrev pub AddsBeside : Cutting → List Flood → Spared → Place → Mark → Place → List Join → List Join → Type 0
+AddsBeside c floods out p from q old new = (IsSpared c floods out p q × (new ≡ old)) ⊎ AddsCovered old (joins_of out.sources from (mark_among c floods q)) new
+
+-- The joins of all cells with those after them but those left out, each as low as those that were met.
+pub record AreGathered (c : Cutting) (floods : List Flood) (out : Spared) (joins : List Join) : Type 0 where
+  pub only : (j : Join) → Contains joins j → IsMeetingAt c floods out (IsWithin c) j
+  pub every : (p q : Place) (j : Join) → IsWithin c p → IsAfter p q → Meets c floods out p q j → IsSpared c floods out p q ⊎ Covered joins j
 
 -- The join before this one is of the same labels.
 abbrev pub IsRepeat : List Join → ℕ → Type 0

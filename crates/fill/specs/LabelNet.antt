@@ -10,10 +10,9 @@ use Rattle.tiles.specs.Cutting.{Cutting}
 use Rattle.floods.specs.declared.net.Spill.{Spill}
 use Rattle.floods.specs.Walk.{IsFlooded}
 use Rattle.cell_floods.specs.TileFlood.{Flood}
-use Rattle.fill.specs.Gathering.{mark_among}
+use Rattle.fill.specs.Gathering.{IsBypassed, mark_among}
 use Rattle.fill.specs.Numbers.{places_of, ends_of}
 use Rattle.fill.specs.Ways.{has_ways}
-use Rattle.fill.specs.declared.marks.Mark.{Mark}
 use Rattle.fill.specs.declared.spills.Join.{Join}
 
 -- A way leads from a label to another at this height, and one leads back.
@@ -76,10 +75,12 @@ pub record IsNumberPass (t : Terrain) (c : Cutting) (floods : List Flood) (a b :
   pub to_is : mark_among c floods to ≡ Some (record { level = to_level; node = b })
   pub greater : int_max from_level to_level ≡ height
 
--- The graph of these floods, in which two labels that are both end cells may stand without a way.
+-- The graph of these floods, in which two labels that are both end cells may stand without a way, and so may two whose
+-- cells touch at a corner where another cell leads round.
 pub record IsNumberGraph (t : Terrain) (c : Cutting) (floods : List Flood) (ways : List (List Spill)) (sources : List (Option ℤ)) : Type 0 where
   pub count : length ways ≡ length (places_of floods)
   pub ends : sources ≡ ends_of floods
-  pub joined : (a b : ℕ) (h : ℤ) → a ≢ b → IsNumberPass t c floods a b h
-      → (IsSome (source_number sources a) × IsSome (source_number sources b)) ⊎ ((low : ℤ) × HasWay ways a b low × (low ≤ℤ h))
+  pub joined : (a b : ℕ) (h : ℤ) → a ≢ b → (x : IsNumberPass t c floods a b h)
+      → ((IsSome (source_number sources a) × IsSome (source_number sources b)) ⊎ ((low : ℤ) × HasWay ways a b low × (low ≤ℤ h)))
+      ⊎ (IsBypassed c floods x.from x.to ⊎ IsBypassed c floods x.to x.from)
   pub joined_only : (a b : ℕ) (h : ℤ) → HasWay ways a b h → IsNumberPass t c floods a b h

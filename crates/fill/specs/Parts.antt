@@ -3,19 +3,19 @@ use Rattle.std.specs.Prelude.{◌≡◌, ℕ, ◌*◌, ◌<◌, ◌≤◌, ℤ, 
 use Rattle.std.specs.List.{Contains, All, flat_map}
 use Rattle.tiles.specs.Cutting.{Cutting, IsInTile, tile_count}
 use Rattle.cell_floods.specs.TileFlood.{Flood}
-use Rattle.fill.specs.Gathering.{Adds, AreRising, turned}
+use Rattle.fill.specs.Gathering.{Adds, AreRising, Spared, turned}
 use Rattle.fill.specs.Spills.{Graph}
 use Rattle.fill.specs.declared.spills.Join.{Join}
 use Rattle.fill.specs.declared.parts.Part.{Part}
 
--- The joins of the cells of a tile with those after them, but those of two of these sources.
-abbrev pub IsPart : Cutting → List Flood → List (Option ℤ) → ℕ → Part → Type 0
-IsPart c floods sources tile part = Adds c floods sources (IsInTile c tile) [] part.joins.items
+-- The joins of the cells of a tile with those after them, but those left out.
+abbrev pub IsPart : Cutting → List Flood → Spared → ℕ → Part → Type 0
+IsPart c floods out tile part = Adds c floods out (IsInTile c tile) [] part.joins.items
 
 -- One part for each tile, in tile order.
-pub record AreParts (c : Cutting) (floods : List Flood) (sources : List (Option ℤ)) (parts : List Part) : Type 0 where
+pub record AreParts (c : Cutting) (floods : List Flood) (out : Spared) (parts : List Part) : Type 0 where
   pub count : length parts ≡ tile_count c
-  pub each : (tile : ℕ) (d : Part) → tile < tile_count c → IsPart c floods sources tile (slice_index_or parts tile d)
+  pub each : (tile : ℕ) (d : Part) → tile < tile_count c → IsPart c floods out tile (slice_index_or parts tile d)
 
 -- The joins of each part, and of all.
 abbrev pub joins_by_part : List Part → List (List Join)

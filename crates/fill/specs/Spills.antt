@@ -1,12 +1,12 @@
 -- The spill graph: how the labels of all tiles are joined, and the levels that it gives them.
-use Rattle.std.specs.Prelude.{◌≡◌, ◌≢◌, ℕ, ◌*◌, ◌<◌, ℤ, pos, ◌≤ℤ◌, List, length, Option, None, Some, IsSome, MatchOption, slice_get, slice_index_or, option_and_then}
+use Rattle.std.specs.Prelude.{◌≡◌, ◌≢◌, ℕ, ◌*◌, ◌<◌, ℤ, pos, ◌≤ℤ◌, List, length, Option, None, Some, MatchOption, slice_get, slice_index_or, option_and_then}
 use Rattle.std.specs.Int.{int_max}
 use Rattle.std.specs.List.{Contains}
 use Rattle.terrain.specs.Raster.{Terrain}
 use Rattle.terrain.specs.Neighbours.{height_at, index_of, IsNeighbour, IsEnd}
 use Rattle.drainage.specs.Filled.{IsFilledHeight}
 use Rattle.terrain.specs.declared.place.Place.{Place}
-use Rattle.tiles.specs.Cutting.{Cutting, IsCutting, IsWithin, Cuts, tile_count, tile_of_place, IsInTile, tile_entry, cell_count}
+use Rattle.tiles.specs.Cutting.{Cutting, IsCutting, Cuts, tile_count, tile_of_place, IsInTile, tile_entry, cell_count}
 use Rattle.cell_floods.specs.TileFlood.{Flood, IsTileFlood, level_in, label_in}
 use Rattle.floods.specs.Walk.{IsFlooded}
 use Rattle.fill.specs.declared.spills.Join.{Join}

@@ -1,6 +1,6 @@
 -- Lists of ways that share one list of links: each link leads to the one before it from the same label. No public
 -- clause cites this.
-use Rattle.std.specs.Prelude.{◌≡◌, ℕ, zero, suc, ◌<◌, ◌≤◌, ◌==◌, ◌-◌, if◌then◌else◌, Bool, true, false, pos, List, [], ◌∷◌, map, length, slice_index_or}
+use Rattle.std.specs.Prelude.{ℕ, zero, suc, ◌<◌, ◌≤◌, ◌==◌, ◌-◌, if◌then◌else◌, Bool, true, false, pos, List, [], ◌∷◌, map, length, slice_index_or}
 use Rattle.floods.specs.declared.net.Spill.{Spill}
 use Rattle.fill.specs.declared.ways.Link.{Link}
 

@@ -14,6 +14,7 @@ use crate::label_graph::LabelGraph;
 use crate::marks::NumberedFloods;
 use crate::numbers::{first_numbers, label_ends};
 use crate::parts::{Part, tile_part};
+use crate::passes::LeftOut;
 use crate::rows::{raised_grid, raised_tiles};
 use cell_floods::{TileFlood, tile_flood};
 use drainage::Filled;
@@ -65,11 +66,11 @@ fn tile_floods<R: Threads + Wait + Sync, G: Gate + Sync>(
     crew.run(&FloodTiles { grid, tiling }, tiling.tiles())
 }
 
-/// Finds what each tile adds to the spill graph, but joins of two sources.
+/// Finds what each tile adds to the spill graph.
 #[derive(Drop)]
 struct PartTiles<'a> {
     tiles: &'a NumberedFloods<'a>,
-    sources: &'a [Cell],
+    left_out: &'a LeftOut<'a>,
 }
 
 impl<'a> Work for PartTiles<'a> {
@@ -80,15 +81,15 @@ impl<'a> Work for PartTiles<'a> {
 
     ghost most = { λ w. tile_count w.tiles.now.tiling.now };
 
-    ghost gives = { λ w job out. IsPart w.tiles.now.tiling.now w.tiles.now.floods.now w.sources.now job out };
+    ghost gives = { λ w job out. IsPart w.tiles.now.tiling.now w.tiles.now.floods.now w.left_out.now job out };
 
     fn run(&self, alloc: Global, job: u32) -> Result<Part, JobFault> {
-        let part = tile_part(alloc, self.tiles, self.sources, job)?;
+        let part = tile_part(alloc, self.tiles, self.left_out, job)?;
         Ok(part)
     }
 }
 
-/// The spill graph of the floods, but for joins of two sources.
+/// The spill graph of the floods, but for joins that lower no level.
 fn spill_graph<R: Threads + Wait + Sync, G: Gate + Sync>(
     crew: &Crew<'_, R, G>,
     tiles: &NumberedFloods<'_>,
@@ -101,12 +102,17 @@ fn spill_graph<R: Threads + Wait + Sync, G: Gate + Sync>(
     ensures workers { RefusesWorkers crew.now.workers result }
 {
     let sources = label_ends(crew.alloc, tiles.floods)?;
+    let left_out = LeftOut {
+        sources: &sources,
+        bypassed: true,
+    };
     let work = PartTiles {
         tiles,
-        sources: &sources,
+        left_out: &left_out,
     };
     let parts = crew.run(&work, tiles.tiling.tiles())?;
     drop(work);
+    drop(left_out);
     Ok(LabelGraph::of_parts(crew.alloc, sources, &parts)?)
 }
 

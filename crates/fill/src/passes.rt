@@ -2,25 +2,46 @@
 //!
 //! `tile_joins` looks at each two neighbouring cells once, from the first of them in row order, and
 //! `lowest_joins` keeps the lowest.
-ghost use Rattle.std.specs.Prelude.{◌≡◌, ◌+◌, ◌*◌, ◌<◌, ◌≤◌, ◌∷◌, [], None, Some, slice_index_or, MatchOption, IfOk, OnOk, length, is_some, IsTrue, ◌↔◌};
+ghost use Rattle.std.specs.Prelude.{◌≡◌, ◌+◌, ◌*◌, ◌<◌, ◌≤◌, ◌∷◌, ◌⊎◌, [], true, None, Some, ◌≤ℤ◌, slice_index_or, MatchOption, IfOk, OnOk, length, is_some, IsTrue, ◌↔◌};
 ghost use Rattle.std.specs.Bool.{OnTrue, OnFalse};
 ghost use Rattle.std.specs.Option.{option_to_list};
 ghost use Rattle.std.specs.List.{All};
 ghost use Rattle.terrain.specs.declared.place.Place.{Place};
 ghost use Rattle.tiles.specs.Cutting.{IsCutting, IsWithin, IsInTile, bounds_of, tile_count};
-ghost use Rattle.fill.specs.Gathering.{IsInner, AreEqualAfter, Adds, AddsCovered, AddsAfter, AreLowest, are_settled, IsRepeat, joins_of, mark_with};
+ghost use Rattle.fill.specs.Gathering.{IsInner, AreEqualAfter, Adds, AddsCovered, AddsAfter, AddsBeside, AreLowest, are_settled, IsRepeat, joins_of, mark_among, mark_with};
+ghost use Rattle.std.specs.Int.{int_max};
 
 use crate::marks::{Mark, NumberedFloods, mark_in, mark_of_entry};
 use crate::spills::Join;
 use cell_floods::TileFlood;
 use std::alloc::{AllocError, Global};
+use std::marker::Model;
 use terrain::{Cell, Place};
 use tiles::Bounds;
+
+/// Which joins are left out, since they lower no level: those of two of these sources, and maybe
+/// those of two cells that touch at their corners, where a third cell leads round.
+#[derive(Drop)]
+pub(crate) struct LeftOut<'a> {
+    pub(crate) sources: &'a [Cell],
+    pub(crate) bypassed: bool,
+}
+
+impl<'a> Model for LeftOut<'a> {
+    ghost use Rattle.fill.specs.Gathering.{Spared};
+
+    ghost Value = { Spared };
+
+    ghost view = { λ l. record { sources = l.sources.now; bypassed = l.bypassed } };
+}
 
 /// How many slots a [`JoinTable`] has at first for each row and column of its tile.
 ///
 /// As many as are mostly taken, and no more, since they are cleared for each tile.
 const SLOTS_A_LINE: usize = 16;
+
+/// How many joins there is room for at first for each row and column, so that few lists grow.
+const JOINS_A_LINE: usize = 4;
 
 /// How many slots are looked at for a join.
 const MOST_PROBES: usize = 16;
@@ -109,7 +130,7 @@ impl JoinTable {
         let slots = vec![in alloc; usize::MAX; count]?;
         Ok(JoinTable {
             alloc,
-            joins: Vec::new(alloc),
+            joins: Vec::with_capacity(alloc, lines as usize * JOINS_A_LINE)?,
             slots,
         })
     }
@@ -230,26 +251,102 @@ fn push_outer(
     Ok(())
 }
 
+/// Whether the join of two cells that touch at their corners is left out: the cell below the first
+/// is no higher than one of them, so that its joins with both do the same.
+#[inline(always)]
+fn is_spared(left_out: &LeftOut<'_>, from: Mark, below: Option<Mark>, to: Option<Mark>) -> bool
+    ensures { OnTrue result ((left_out.now.bypassed ≡ true) × (between end : Mark)
+        × (below ≡ Some between) × (to ≡ Some end)
+        × (between.level ≤ℤ int_max from.level end.level)) }
+{
+    if !left_out.bypassed {
+        return false;
+    }
+    let Some(below) = below else {
+        return false;
+    };
+    let Some(to) = to else {
+        return false;
+    };
+    below.level <= from.level.max(to.level)
+}
+
+/// What the floods say of a cell beside this one. That of the cell below it is known.
+#[inline(always)]
+fn mark_beside(
+    tiles: &NumberedFloods<'_>,
+    tile: u32,
+    place: Place,
+    below: Option<Mark>,
+    near: Place,
+) -> Option<Mark>
+    requires tile { tile < tile_count tiles.now.tiling.now }
+    requires below { below ≡ mark_among tiles.now.tiling.now tiles.now.floods.now
+        (record { row = place.row + 1; col = place.col }) }
+    requires near { (near.row ≡ place.row) ⊎ (near.row ≡ place.row + 1) }
+    ensures { result ≡ mark_among tiles.now.tiling.now tiles.now.floods.now near }
+{
+    if near.row != place.row && near.col == place.col {
+        return below;
+    }
+    tiles.mark_at(tile, near)
+}
+
+/// Adds the join of a cell with one of those around it that come after it in row order, of its own
+/// tile or of another.
+#[inline(always)]
+fn push_beside(
+    table: &mut JoinTable,
+    tiles: &NumberedFloods<'_>,
+    left_out: &LeftOut<'_>,
+    tile: u32,
+    place: Place,
+    from: Mark,
+    below: Option<Mark>,
+    near: Place,
+) -> Result<(), AllocError>
+    requires tile { tile < tile_count tiles.now.tiling.now }
+    requires from { mark_among tiles.now.tiling.now tiles.now.floods.now place ≡ Some from }
+    requires below { below ≡ mark_among tiles.now.tiling.now tiles.now.floods.now
+        (record { row = place.row + 1; col = place.col }) }
+    requires near { (near.row ≡ place.row) ⊎ (near.row ≡ place.row + 1) }
+    ensures { OnOk result (AddsBeside tiles.now.tiling.now tiles.now.floods.now left_out.now place
+        from near table.old.joins.items table.new.joins.items) }
+{
+    let to = mark_beside(tiles, tile, place, below, near);
+    if near.row != place.row && near.col != place.col && is_spared(left_out, from, below, to) {
+        return Ok(());
+    }
+    if tiles.floods[tile as usize].bounds().contains(near) {
+        push_join(table, left_out.sources, from, to)
+    } else {
+        push_outer(table, left_out.sources, from, to)
+    }
+}
+
 /// Adds the joins of a cell with those around it that come after it in row order, of its own tile
 /// and of others.
 fn push_rim_cell(
     table: &mut JoinTable,
     tiles: &NumberedFloods<'_>,
-    sources: &[Cell],
+    left_out: &LeftOut<'_>,
     tile: u32,
     place: Place,
 ) -> Result<(), AllocError>
     requires tile { tile < tile_count tiles.now.tiling.now }
     requires place { IsWithin tiles.now.tiling.now place }
     requires lawful { IsCutting tiles.now.tiling.now }
-    ensures { OnOk result (Adds tiles.now.tiling.now tiles.now.floods.now sources.now
+    ensures { OnOk result (Adds tiles.now.tiling.now tiles.now.floods.now left_out.now
         (λ p. p ≡ place) table.old.joins.items table.new.joins.items) }
 {
     let Some(from) = tiles.mark_at(tile, place) else {
         return Ok(());
     };
-    let flood = &tiles.floods[tile as usize];
-    let first = tiles.firsts[tile as usize];
+    let south = Place {
+        row: place.row + 1,
+        col: place.col,
+    };
+    let below = tiles.mark_at(tile, south);
     for spot in 5..9 {
         let row = place.row + spot / 3;
         let col = place.col + spot % 3;
@@ -258,11 +355,7 @@ fn push_rim_cell(
                 row: row - 1,
                 col: col - 1,
             };
-            if flood.bounds().contains(near) {
-                push_join(table, sources, from, mark_in(flood, first, near))?;
-            } else {
-                push_outer(table, sources, from, tiles.mark_at(tile, near))?;
-            }
+            push_beside(table, tiles, left_out, tile, place, from, below, near)?;
         }
     }
     Ok(())
@@ -380,7 +473,7 @@ fn push_inner_cell(
 fn push_inner_cells(
     table: &mut JoinTable,
     tiles: &NumberedFloods<'_>,
-    sources: &[Cell],
+    left_out: &LeftOut<'_>,
     tile: u32,
     row: u32,
 ) -> Result<(), AllocError>
@@ -389,7 +482,7 @@ fn push_inner_cells(
     requires top { (bounds_of tiles.now.tiling.now tile).top < row }
     requires row { row + 1 < (bounds_of tiles.now.tiling.now tile).top
         + (bounds_of tiles.now.tiling.now tile).rows }
-    ensures { OnOk result (Adds tiles.now.tiling.now tiles.now.floods.now sources.now
+    ensures { OnOk result (Adds tiles.now.tiling.now tiles.now.floods.now left_out.now
         (λ p. IsInner (bounds_of tiles.now.tiling.now tile) p × (p.row ≡ row))
         table.old.joins.items table.new.joins.items) }
 {
@@ -399,7 +492,7 @@ fn push_inner_cells(
     let width = cols as usize;
     let start = (row - top) as usize * width;
     for index in start + 1..start + width - 1 {
-        push_inner_cell(table, flood, first, sources, index)?;
+        push_inner_cell(table, flood, first, left_out.sources, index)?;
     }
     Ok(())
 }
@@ -409,7 +502,7 @@ fn push_inner_cells(
 fn push_rim_cells(
     table: &mut JoinTable,
     tiles: &NumberedFloods<'_>,
-    sources: &[Cell],
+    left_out: &LeftOut<'_>,
     tile: u32,
     row: u32,
 ) -> Result<(), AllocError>
@@ -417,13 +510,13 @@ fn push_rim_cells(
     requires top { (bounds_of tiles.now.tiling.now tile).top ≤ row }
     requires row { row < (bounds_of tiles.now.tiling.now tile).top
         + (bounds_of tiles.now.tiling.now tile).rows }
-    ensures { OnOk result (Adds tiles.now.tiling.now tiles.now.floods.now sources.now
+    ensures { OnOk result (Adds tiles.now.tiling.now tiles.now.floods.now left_out.now
         (λ p. IsInTile tiles.now.tiling.now tile p × (p.row ≡ row))
         table.old.joins.items table.new.joins.items) }
 {
     let Bounds { left, cols, .. } = tiles.tiling.bounds(tile);
     for col in left..left + cols {
-        push_rim_cell(table, tiles, sources, tile, Place { row, col })?;
+        push_rim_cell(table, tiles, left_out, tile, Place { row, col })?;
     }
     Ok(())
 }
@@ -433,7 +526,7 @@ fn push_rim_cells(
 fn push_cells(
     table: &mut JoinTable,
     tiles: &NumberedFloods<'_>,
-    sources: &[Cell],
+    left_out: &LeftOut<'_>,
     tile: u32,
     row: u32,
 ) -> Result<(), AllocError>
@@ -441,7 +534,7 @@ fn push_cells(
     requires top { (bounds_of tiles.now.tiling.now tile).top ≤ row }
     requires row { row < (bounds_of tiles.now.tiling.now tile).top
         + (bounds_of tiles.now.tiling.now tile).rows }
-    ensures { OnOk result (Adds tiles.now.tiling.now tiles.now.floods.now sources.now
+    ensures { OnOk result (Adds tiles.now.tiling.now tiles.now.floods.now left_out.now
         (λ p. IsInTile tiles.now.tiling.now tile p × (p.row ≡ row))
         table.old.joins.items table.new.joins.items) }
 {
@@ -452,24 +545,24 @@ fn push_cells(
         cols,
     } = tiles.tiling.bounds(tile);
     if row == top || row + 1 == top + rows {
-        return push_rim_cells(table, tiles, sources, tile, row);
+        return push_rim_cells(table, tiles, left_out, tile, row);
     }
     let last = left + cols - 1;
-    push_rim_cell(table, tiles, sources, tile, Place { row, col: left })?;
-    push_inner_cells(table, tiles, sources, tile, row)?;
-    push_rim_cell(table, tiles, sources, tile, Place { row, col: last })?;
+    push_rim_cell(table, tiles, left_out, tile, Place { row, col: left })?;
+    push_inner_cells(table, tiles, left_out, tile, row)?;
+    push_rim_cell(table, tiles, left_out, tile, Place { row, col: last })?;
     Ok(())
 }
 
-/// The joins of the cells of a tile with those after them, but those of two of these sources.
+/// The joins of the cells of a tile with those after them, but those left out.
 pub(crate) fn tile_joins(
     alloc: Global,
     tiles: &NumberedFloods<'_>,
-    sources: &[Cell],
+    left_out: &LeftOut<'_>,
     tile: u32,
 ) -> Result<Vec<Join>, AllocError>
     requires { tile < tile_count tiles.now.tiling.now }
-    ensures { IfOk result (λ v. Adds tiles.now.tiling.now tiles.now.floods.now sources.now
+    ensures { IfOk result (λ v. Adds tiles.now.tiling.now tiles.now.floods.now left_out.now
         (IsInTile tiles.now.tiling.now tile) [] v.items) }
 {
     let Bounds {
@@ -480,7 +573,7 @@ pub(crate) fn tile_joins(
     } = tiles.tiling.bounds(tile);
     let mut table = JoinTable::new(alloc, rows + cols)?;
     for row in top..top + rows {
-        push_cells(&mut table, tiles, sources, tile, row)?;
+        push_cells(&mut table, tiles, left_out, tile, row)?;
     }
     let JoinTable { joins, .. } = table;
     Ok(joins)

@@ -10,7 +10,7 @@ ghost use Rattle.fill.specs.Gathering.{AreRising, turned, way_of};
 use crate::marks::NumberedFloods;
 use crate::numbers::first_numbers;
 use crate::parts::tile_parts;
-use crate::passes::lowest_joins;
+use crate::passes::{LeftOut, lowest_joins};
 use crate::placing::{label_nodes, placed_joins};
 use crate::sources::label_sources;
 use cell_floods::TileFlood;
@@ -161,7 +161,11 @@ impl SpillGraph {
             floods,
             firsts: &firsts,
         };
-        let parts = tile_parts(alloc, &tiles, &[])?;
+        let none = LeftOut {
+            sources: &[],
+            bypassed: false,
+        };
+        let parts = tile_parts(alloc, &tiles, &none)?;
         let nodes = label_nodes(alloc, tiling, floods)?;
         let placed = placed_joins(alloc, &parts, &nodes)?;
         let joins = lowest_joins(alloc, placed)?;

@@ -2,7 +2,7 @@ use Rattle.std.proofs.Common.{ap, ◌∙◌}
 use Rattle.terrain.specs.Raster.{Raster}
 use Rattle.drainage.specs.Filled.{IsFilled}
 use Rattle.fill.specs.Spills.{AreFloods}
-use Rattle.fill.proofs.Gathered.{fit_of}
+use Rattle.fill.proofs.Numbered.{fit_of}
 use Rattle.fill.proofs.Raised.{filled_stand, filled_grid}
 use Rattle.fill.proofs.filling.filled.Goals as goal
 

@@ -1,4 +1,5 @@
-use Rattle.std.proofs.Common.{◌≡◌, length, ap, sym, ◌∙◌, arith}
+use Rattle.std.proofs.Common.{◌≡◌, length, true, refl, ap, sym, arith}
+use Rattle.fill.specs.Gathering.{Spared}
 use Rattle.fill.specs.Parts.{AreParts}
 use Rattle.fill.specs.Numbers.{ends_of}
 use Rattle.fill.proofs.GraphParts.{parts_gathered}
@@ -18,12 +19,13 @@ of_parts-requires-clause-inside g c =
     let floods = c.args.tiles.now.floods.now in
     let parts = c.in_ok-parts.parts.items in
     let sources = c.in_ok-sources.sources.items in
-    let are : AreParts k floods sources parts = record {
+    let out : Spared = record { sources = sources; bypassed = true } in
+    let are : AreParts k floods out parts = record {
       count = omega (arith, c.in_ok-parts.parts.ok.0, c.in_ok-parts.ensures.len, c.tiles.ensures.value);
       each = λ j d below. rw c.deref.ensures.value at (c.in_ok-parts.ensures.given j d (omega (arith, below, c.tiles.ensures.value)));
     } in
     let size : length (ends_of floods) ≡ length sources = sym (ap length c.in_ok-sources.ensures) in
-    rw (c.deref-2.ensures.value, ← size, ends_length t k floods c.requires.floods.1) (joins_below t k floods c.requires.floods.1 c.args.tiles.now.numbers.lawful sources _ (parts_gathered k floods sources parts c.requires.floods.1.lawful are))
+    rw (c.deref-2.ensures.value, ← size, ends_length t k floods c.requires.floods.1) (joins_below t k floods c.requires.floods.1 c.args.tiles.now.numbers.lawful out _ (parts_gathered k floods out parts c.requires.floods.1.lawful are))
 
 pub returns-clause-graph : goal.returns-clause-graph
 returns-clause-graph g c t floods_are =
@@ -31,8 +33,9 @@ returns-clause-graph g c t floods_are =
     let floods = c.args.tiles.now.floods.now in
     let parts = c.in_ok-parts.parts.items in
     let sources = c.in_ok-sources.sources.items in
-    let are : AreParts k floods sources parts = record {
+    let out : Spared = record { sources = sources; bypassed = true } in
+    let are : AreParts k floods out parts = record {
       count = omega (arith, c.in_ok-parts.parts.ok.0, c.in_ok-parts.ensures.len, c.tiles.ensures.value);
       each = λ j d below. rw c.deref.ensures.value at (c.in_ok-parts.ensures.given j d (omega (arith, below, c.tiles.ensures.value)));
     } in
-    rw c.in_ok-of_parts.ensures.sources (is_number_graph t k floods floods_are c.args.tiles.now.numbers.lawful sources _ _ (parts_gathered k floods sources parts floods_are.lawful are) c.in_ok-sources.ensures c.in_ok-of_parts.ensures.size (rw c.deref-2.ensures.value at c.in_ok-of_parts.ensures.ways))
+    rw c.in_ok-of_parts.ensures.sources (is_number_graph t k floods floods_are c.args.tiles.now.numbers.lawful out sources _ _ (parts_gathered k floods out parts floods_are.lawful are) refl c.in_ok-sources.ensures c.in_ok-of_parts.ensures.size (rw c.deref-2.ensures.value at c.in_ok-of_parts.ensures.ways))

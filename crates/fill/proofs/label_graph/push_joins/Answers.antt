@@ -1,4 +1,4 @@
-use Rattle.std.proofs.Common.{get_or, pos, arith}
+use Rattle.std.proofs.Common.{pos, arith}
 use Rattle.std.proofs.lemmas.List.{take_all, take_more}
 use Rattle.fill.specs.declared.spills.Join.{Join}
 use Rattle.fill.proofs.LabelGraphs.{no_ways_added, ways_then}

@@ -1,8 +1,6 @@
-use Rattle.std.proofs.Common.{◌≡◌, ◌++◌, ◌∙◌, sym, ap, arith}
+use Rattle.std.proofs.Common.{◌∙◌, ap}
 use Rattle.std.proofs.lemmas.List.{take_all}
-use Rattle.cell_floods.specs.TileFlood.{Flood}
 use Rattle.fill.specs.Numbers.{ends_of}
-use Rattle.fill.proofs.Firsts.{flat_more}
 use Rattle.fill.proofs.numbers.label_ends.Goals as goal
 
 pub returns : goal.returns

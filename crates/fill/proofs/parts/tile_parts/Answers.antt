@@ -6,7 +6,7 @@ use Rattle.fill.proofs.parts.tile_parts.Goals as goal
 
 pub loop-tile-preserved : goal.loop-tile-preserved
 loop-tile-preserved c =
-    first_more (IsPart c.args.tiles.now.tiling.now c.args.tiles.now.floods.now c.args.sources.now) c.loop-tile.tile c.in_ok-part.part c.loop-tile.parts.items _ c.loop-tile.invariant c.in_ok-part.ensures c.in_ok-push.ensures.items
+    first_more (IsPart c.args.tiles.now.tiling.now c.args.tiles.now.floods.now c.args.left_out.now) c.loop-tile.tile c.in_ok-part.part c.loop-tile.parts.items _ c.loop-tile.invariant c.in_ok-part.ensures c.in_ok-push.ensures.items
 
 pub returns : goal.returns
 returns c =

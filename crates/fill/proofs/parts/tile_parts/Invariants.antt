@@ -3,4 +3,4 @@ use Rattle.fill.proofs.GraphParts.{AreFirst}
 use Rattle.fill.proofs.parts.tile_parts.Given as goal
 
 abbrev pub invariant-loop-tile : goal.invariant-loop-tile
-invariant-loop-tile l = AreFirst (IsPart l.tiles.tiling.now l.tiles.floods.now l.sources) l.tile l.parts.items
+invariant-loop-tile l = AreFirst (IsPart l.tiles.tiling.now l.tiles.floods.now l.left_out) l.tile l.parts.items

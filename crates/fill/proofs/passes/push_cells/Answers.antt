@@ -40,7 +40,7 @@ returns c =
     let places = c.bounds-top.ensures.places in
     let first : Place = record { row = row; col = b.left } in
     let last : Place = record { row = row; col = b.left + b.cols - 1 } in
-    adds_then t c.args.tiles.now.floods.now c.args.sources.now
+    adds_then t c.args.tiles.now.floods.now c.args.left_out.now
     (λ p. (p ≡ first) ⊎ (IsInner b p × (p.row ≡ row)))
     (λ p. p ≡ last)
     (λ p. IsInTile t c.args.tile p × (p.row ≡ row)) _ _ _
@@ -48,7 +48,7 @@ returns c =
       λ at. (parts p).0 ((places p).0 at.0, at.1),
       λ at. let inside = (parts p).1 at in ((places p).1 inside.0, inside.1),
     ))
-    (adds_then t c.args.tiles.now.floods.now c.args.sources.now
+    (adds_then t c.args.tiles.now.floods.now c.args.left_out.now
     (λ p. p ≡ first)
     (λ p. IsInner b p × (p.row ≡ row))
     (λ p. (p ≡ first) ⊎ (IsInner b p × (p.row ≡ row))) _ _ _

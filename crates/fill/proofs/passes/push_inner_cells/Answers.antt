@@ -3,7 +3,7 @@ use Rattle.std.proofs.lemmas.Option.{slice_get-get_or}
 use Rattle.terrain.specs.declared.place.Place.{Place}
 use Rattle.tiles.specs.declared.bounds.Bounds.{Bounds}
 use Rattle.tiles.specs.Cutting.{bounds_of}
-use Rattle.fill.specs.Gathering.{IsInner}
+use Rattle.fill.specs.Gathering.{IsInner, Spared}
 use Rattle.fill.proofs.Adding.{adds_then, adds_as}
 use Rattle.fill.proofs.CellMarks.{inner_cell_adds, inner_row_index, inner_so_far}
 use Rattle.fill.proofs.passes.push_inner_cells.Goals as goal
@@ -42,20 +42,20 @@ loop-index-preserved c =
     let last : index + 1 < start + b.cols = omega (arith, cols, c.loop-index-test.true) in
     let place : Place = record { row = c.args.row; col = b.left + (index - start) } in
     let inner : IsInner b place = (c.requires.top, c.requires.row, omega (arith, first), omega (arith, first, last)) in
-    adds_then c.args.tiles.now.tiling.now c.args.tiles.now.floods.now c.args.sources.now
+    adds_then c.args.tiles.now.tiling.now c.args.tiles.now.floods.now c.args.left_out.now
     (λ p. IsInner b p × (p.row ≡ c.args.row) × (p.col + start < b.left + index))
     (λ p. p ≡ place)
     (λ p. IsInner b p × (p.row ≡ c.args.row) × (p.col + start < b.left + (index + 1))) _ _ _
     (inner_so_far b c.args.row start index c.requires.top c.requires.row first last)
     c.loop-index.invariant
-    (inner_cell_adds c.args.tiles.now.tiling.now c.args.tiles.now.floods.now c.args.sources.now c.args.tile f place index _ _ c.requires.lawful c.requires.tile there (c.args.tiles.now.fit.bounds c.args.tile f there) inner (omega (arith, begins, first)) (rw (c.args.tiles.now.numbers.each c.args.tile low) at c.in_ok-push_inner_cell.ensures))
+    (inner_cell_adds c.args.tiles.now.tiling.now c.args.tiles.now.floods.now c.args.left_out.now c.args.tile f place index _ _ c.requires.lawful c.requires.tile there (c.args.tiles.now.fit.bounds c.args.tile f there) inner (omega (arith, begins, first)) (rw (c.args.tiles.now.numbers.each c.args.tile low, ap (λ (z : Spared). z.sources) c.left_out.view_is) at c.in_ok-push_inner_cell.ensures))
 
 pub returns : goal.returns
 returns c =
     let b : Bounds = bounds_of c.args.tiles.now.tiling.now c.args.tile in
     let start : ℕ = (c.args.row - c.bounds-top.result.top) * c.bounds-top.result.cols in
     let cols = ap (λ (z : Bounds). z.cols) c.bounds-top.ensures.value in
-    adds_as c.args.tiles.now.tiling.now c.args.tiles.now.floods.now c.args.sources.now
+    adds_as c.args.tiles.now.tiling.now c.args.tiles.now.floods.now c.args.left_out.now
     (λ p. IsInner b p × (p.row ≡ c.args.row) × (p.col + start < b.left + c.loop-index.index))
     (λ p. IsInner b p × (p.row ≡ c.args.row)) _ _
     (λ p. (λ at. (at.0, at.1, omega (arith, at.0, cols, c.loop-index-test.false)), λ at. (at.0, at.1)))

@@ -25,7 +25,7 @@ loop-col-preserved c =
     let top = ap (λ (b : Bounds). b.top) c.bounds-left.ensures.value in
     let rows = ap (λ (b : Bounds). b.rows) c.bounds-left.ensures.value in
     let inside = (c.bounds-left.ensures.places (record { row = c.args.row; col = c.loop-col.col })).1 (omega (arith, top, c.requires.top), omega (arith, top, rows, c.requires.row), c.loop-col.auto.col, c.loop-col-test.true) in
-    adds_then c.args.tiles.now.tiling.now c.args.tiles.now.floods.now c.args.sources.now
+    adds_then c.args.tiles.now.tiling.now c.args.tiles.now.floods.now c.args.left_out.now
     (λ p. IsInTile c.args.tiles.now.tiling.now c.args.tile p × (p.row ≡ c.args.row) × (p.col < c.loop-col.col))
     (λ p. p ≡ record { row = c.args.row; col = c.loop-col.col })
     (λ p. IsInTile c.args.tiles.now.tiling.now c.args.tile p × (p.row ≡ c.args.row) × (p.col < c.loop-col.col + 1)) _ _ _
@@ -34,7 +34,7 @@ loop-col-preserved c =
 
 pub returns : goal.returns
 returns c =
-    adds_as c.args.tiles.now.tiling.now c.args.tiles.now.floods.now c.args.sources.now
+    adds_as c.args.tiles.now.tiling.now c.args.tiles.now.floods.now c.args.left_out.now
     (λ p. IsInTile c.args.tiles.now.tiling.now c.args.tile p × (p.row ≡ c.args.row) × (p.col < c.loop-col.col))
     (λ p. IsInTile c.args.tiles.now.tiling.now c.args.tile p × (p.row ≡ c.args.row)) _ _
     (λ p. (λ at. let inside = (c.bounds-left.ensures.places p).0 at.0 in (at.0, at.1, omega (arith, inside.3, c.loop-col-test.false)), λ at. (at.0, at.1)))

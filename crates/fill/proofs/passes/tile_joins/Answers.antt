@@ -7,7 +7,7 @@ use Rattle.fill.proofs.passes.tile_joins.Goals as goal
 
 pub loop-row-preserved : goal.loop-row-preserved
 loop-row-preserved c =
-    adds_then c.args.tiles.now.tiling.now c.args.tiles.now.floods.now c.args.sources.now
+    adds_then c.args.tiles.now.tiling.now c.args.tiles.now.floods.now c.args.left_out.now
     (λ p. IsInTile c.args.tiles.now.tiling.now c.args.tile p × (p.row < c.loop-row.row))
     (λ p. IsInTile c.args.tiles.now.tiling.now c.args.tile p × (p.row ≡ c.loop-row.row))
     (λ p. IsInTile c.args.tiles.now.tiling.now c.args.tile p × (p.row < c.loop-row.row + 1)) _ _ _
@@ -22,7 +22,7 @@ loop-row-preserved c =
 
 pub returns : goal.returns
 returns c =
-    adds_as c.args.tiles.now.tiling.now c.args.tiles.now.floods.now c.args.sources.now
+    adds_as c.args.tiles.now.tiling.now c.args.tiles.now.floods.now c.args.left_out.now
     (λ p. IsInTile c.args.tiles.now.tiling.now c.args.tile p × (p.row < c.loop-row.row))
     (IsInTile c.args.tiles.now.tiling.now c.args.tile) _ _
     (λ p. (λ at. let inside = (c.bounds-top.ensures.places p).0 at in (at, omega (arith, inside.1, c.loop-row-test.false)), λ at. at.0))
@@ -30,7 +30,7 @@ returns c =
 
 pub loop-row-init : goal.loop-row-init
 loop-row-init c =
-    adds_none c.args.tiles.now.tiling.now c.args.tiles.now.floods.now c.args.sources.now
+    adds_none c.args.tiles.now.tiling.now c.args.tiles.now.floods.now c.args.left_out.now
     (λ p. IsInTile c.args.tiles.now.tiling.now c.args.tile p × (p.row < c.bounds-top.result.top)) _ _ c.in_ok-table.ensures
     (λ p at. let inside = (c.bounds-top.ensures.places p).0 at.0 in omega (arith, inside.0, at.1))
 

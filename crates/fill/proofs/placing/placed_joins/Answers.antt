@@ -1,7 +1,7 @@
 use Rattle.std.proofs.Common.{length}
 use Rattle.std.proofs.lemmas.List.{take_all}
 use Rattle.fill.proofs.GraphParts.{joins_more, part_below}
-use Rattle.fill.proofs.Placed.{none_placed, placed_then}
+use Rattle.fill.proofs.Placed.{placed_then}
 use Rattle.fill.proofs.placing.placed_joins.Goals as goal
 
 pub push_placed-requires : goal.push_placed-requires

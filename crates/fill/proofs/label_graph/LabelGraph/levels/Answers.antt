@@ -1,4 +1,3 @@
-use Rattle.std.proofs.Common.{length, ap}
 use Rattle.fill.proofs.LabelGraphs.{number_levels}
 use Rattle.fill.proofs.label_graph.LabelGraph.levels.Goals as goal
 

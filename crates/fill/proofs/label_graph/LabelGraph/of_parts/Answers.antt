@@ -1,4 +1,4 @@
-use Rattle.std.proofs.Common.{◌≡◌, length, ap, ◌∙◌, arith, List, []}
+use Rattle.std.proofs.Common.{◌≡◌, length, ap, arith, List, []}
 use Rattle.std.proofs.lemmas.List.{take_all, length-replicate}
 use Rattle.floods.specs.declared.net.Spill.{Spill}
 use Rattle.fill.specs.LabelNet.{AddsWays}

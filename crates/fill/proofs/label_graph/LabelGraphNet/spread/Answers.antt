@@ -1,5 +1,4 @@
 use Rattle.std.proofs.Common.{length, arith, ap}
-use Rattle.floods.specs.declared.net.Spill.{Spill}
 use Rattle.fill.specs.LabelNet.{NumberNet}
 use Rattle.fill.proofs.LabelGraphs.{just_ways}
 use Rattle.fill.proofs.label_graph.LabelGraphNet.spread.Goals as goal

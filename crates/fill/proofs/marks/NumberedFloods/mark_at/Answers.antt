@@ -1,6 +1,5 @@
 use Rattle.std.proofs.Common.{◌<◌, length, get_or, arith, sym, ap, ◌∙◌}
 use Rattle.std.proofs.lemmas.Option.{slice_get-get_or}
-use Rattle.tiles.specs.Cutting.{tile_count}
 use Rattle.tiles.proofs.Cut.{tile_of_place_below}
 use Rattle.fill.specs.Gathering.{mark_in}
 use Rattle.fill.proofs.CellMarks.{mark_from_tile, mark_outside}

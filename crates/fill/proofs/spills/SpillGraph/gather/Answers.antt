@@ -1,8 +1,9 @@
-use Rattle.std.proofs.Common.{◌≡◌, ◌<◌, List, [], length, ap, sym, ◌∙◌, arith}
+use Rattle.std.proofs.Common.{◌≡◌, length, ap, sym, ◌∙◌}
 use Rattle.std.proofs.lemmas.List.{length-map}
-use Rattle.fill.specs.Numbers.{node_of_label, nodes_of, places_of}
+use Rattle.fill.specs.Numbers.{node_of_label, places_of}
 use Rattle.fill.proofs.GraphParts.{parts_gathered}
-use Rattle.fill.proofs.Gathered.{fit_of, joins_below, is_graph, is_graph_of}
+use Rattle.fill.proofs.Gathered.{all_joined, joins_below, is_graph, is_graph_of}
+use Rattle.fill.proofs.Numbered.{fit_of}
 use Rattle.fill.proofs.spills.SpillGraph.gather.Goals as goal
 
 pub invariant_of-tiles : goal.invariant_of-tiles
@@ -14,7 +15,7 @@ placed_joins-requires c =
     let k = c.args.tiling.now in
     let floods = c.args.floods.now in
     let size : length (places_of floods) ≡ length c.in_ok-nodes.nodes.items = sym (ap length c.in_ok-nodes.ensures ∙ length-map (places_of floods) (node_of_label k.cols)) in
-    rw (c.deref-2.ensures.value, c.deref-3.ensures.value, ← size) (joins_below t k floods c.requires.1 c.in_ok-firsts.ensures.lawful [] _ (parts_gathered k floods [] c.in_ok-parts.parts.items c.requires.1.lawful c.in_ok-parts.ensures))
+    rw (c.deref-2.ensures.value, c.deref-3.ensures.value, ← size) (joins_below t k floods c.requires.1 c.in_ok-firsts.ensures.lawful all_joined _ (parts_gathered k floods all_joined c.in_ok-parts.parts.items c.requires.1.lawful c.in_ok-parts.ensures))
 
 pub invariant_of-result : goal.invariant_of-result
 invariant_of-result c =
@@ -22,7 +23,7 @@ invariant_of-result c =
     let k = c.args.tiling.now in
     let floods = c.args.floods.now in (
       c.requires.1.lawful,
-      is_graph t k floods c.requires.1 c.in_ok-firsts.ensures.lawful c.in_ok-nodes.nodes.items _ _ c.in_ok-joins.joins.items (parts_gathered k floods [] c.in_ok-parts.parts.items c.requires.1.lawful c.in_ok-parts.ensures) c.in_ok-nodes.ensures
+      is_graph t k floods c.requires.1 c.in_ok-firsts.ensures.lawful c.in_ok-nodes.nodes.items _ _ c.in_ok-joins.joins.items (parts_gathered k floods all_joined c.in_ok-parts.parts.items c.requires.1.lawful c.in_ok-parts.ensures) c.in_ok-nodes.ensures
           (rw (c.deref-2.ensures.value, c.deref-3.ensures.value) at c.in_ok-placed.ensures) c.in_ok-joins.ensures c.in_ok-sources.sources.items c.in_ok-sources.ensures.size,
     )
 
@@ -30,5 +31,5 @@ pub returns : goal.returns
 returns c t are =
     let k = c.args.tiling.now in
     let floods = c.args.floods.now in
-    is_graph_of t k floods are c.in_ok-firsts.ensures.lawful c.in_ok-nodes.nodes.items _ _ c.in_ok-joins.joins.items (parts_gathered k floods [] c.in_ok-parts.parts.items are.lawful c.in_ok-parts.ensures) c.in_ok-nodes.ensures
+    is_graph_of t k floods are c.in_ok-firsts.ensures.lawful c.in_ok-nodes.nodes.items _ _ c.in_ok-joins.joins.items (parts_gathered k floods all_joined c.in_ok-parts.parts.items are.lawful c.in_ok-parts.ensures) c.in_ok-nodes.ensures
     (rw (c.deref-2.ensures.value, c.deref-3.ensures.value) at c.in_ok-placed.ensures) c.in_ok-joins.ensures c.in_ok-sources.sources.items (c.in_ok-sources.ensures.right t are)

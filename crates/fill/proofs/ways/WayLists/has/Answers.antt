@@ -1,4 +1,4 @@
-use Rattle.std.proofs.Common.{◌≡◌, ◌<◌, inl, inr, length, get_or, ap, sym, ◌∙◌, arith, not, nat_eq}
+use Rattle.std.proofs.Common.{◌≡◌, ◌<◌, inl, inr, length, get_or, ap, sym, ◌∙◌, arith, not}
 use Rattle.std.proofs.lemmas.Bool.{cases_eq, eq-eqb, ne_eqb}
 use Rattle.std.proofs.lemmas.List.{get_or_default}
 use Rattle.fill.proofs.Chains.{some_way, ways_length}

@@ -1,6 +1,5 @@
-use Rattle.std.proofs.Common.{◌<◌, ◌++◌, ◌∷◌, [], length, ap, sym, ◌∙◌, subst, List, arith}
+use Rattle.std.proofs.Common.{◌<◌, ◌++◌, ◌∷◌, [], length, ap, arith}
 use Rattle.std.proofs.lemmas.List.Elements.{All-contains}
-use Rattle.floods.specs.Flood.{Follows}
 use Rattle.floods.specs.declared.net.Spill.{Spill}
 use Rattle.floods.proofs.Noting.{none_followed, more_followed}
 use Rattle.fill.specs.Ways.{way_of_link}

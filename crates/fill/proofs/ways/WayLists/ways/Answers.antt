@@ -1,4 +1,4 @@
-use Rattle.std.proofs.Common.{◌<◌, length, ap, sym, ◌∙◌, subst, List, arith}
+use Rattle.std.proofs.Common.{◌<◌, length, ap, sym, subst, List, arith}
 use Rattle.floods.specs.declared.net.Spill.{Spill}
 use Rattle.fill.proofs.Chains.{IsOnChain, chain_begun, chain_more, chain_done, link_before, ways_length}
 use Rattle.fill.proofs.ways.WayLists.ways.Goals as goal
