@@ -89,9 +89,10 @@ impl<'a> Work for PartTiles<'a> {
     }
 }
 
-/// The spill graph of the floods, but for joins that lower no level.
+/// The spill graph of the floods, but for joins that lower no level. Reuses the allocation of `room`.
 fn spill_graph<R: Threads + Wait + Sync, G: Gate + Sync>(
     crew: &Crew<'_, R, G>,
+    room: Vec<Cell>,
     tiles: &NumberedFloods<'_>,
 ) -> Result<LabelGraph, JobFault>
     requires floods { (t : Terrain) × AreFloods t tiles.now.tiling.now tiles.now.floods.now }
@@ -101,7 +102,7 @@ fn spill_graph<R: Threads + Wait + Sync, G: Gate + Sync>(
         → IsNumberGraph t tiles.now.tiling.now tiles.now.floods.now g.ways g.sources) }
     ensures workers { RefusesWorkers crew.now.workers result }
 {
-    let sources = label_ends(crew.alloc, tiles.floods)?;
+    let sources = label_ends(room, tiles.floods)?;
     let left_out = LeftOut {
         sources: &sources,
         bypassed: true,
@@ -117,10 +118,9 @@ fn spill_graph<R: Threads + Wait + Sync, G: Gate + Sync>(
 }
 
 /// The filled heights of all cells in row order, by the floods and their spill graph. They take the
-/// memory of `room`.
+/// memory of its sources.
 fn filled_cells(
     alloc: Global,
-    room: Vec<Cell>,
     graph: LabelGraph,
     tiles: &NumberedFloods<'_>,
 ) -> Result<Vec<Cell>, NoMemory>
@@ -133,7 +133,7 @@ fn filled_cells(
 {
     let levels = graph.levels(alloc)?;
     let raised = raised_tiles(alloc, tiles.floods, tiles.firsts, &levels)?;
-    drop(levels);
+    let room = levels.into_room();
     Ok(raised_grid(room, tiles.tiling, tiles.floods, &raised)?)
 }
 
@@ -173,8 +173,8 @@ pub fn filled<R: Threads + Wait + Sync, G: Gate + Sync>(
         floods: &floods,
         firsts: &firsts,
     };
-    let graph = spill_graph(&crew, &tiles)?;
-    let Ok(cells) = filled_cells(alloc, room, graph, &tiles) else {
+    let graph = spill_graph(&crew, room, &tiles)?;
+    let Ok(cells) = filled_cells(alloc, graph, &tiles) else {
         return Err(JobFault::Memory);
     };
     drop(tiles);
