@@ -1,9 +1,8 @@
 use Rattle.std.proofs.Common.{refl}
 use Rattle.std.proofs.lemmas.Option.{slice_get_read}
-use Rattle.fill.proofs.Gathered.{fit_of}
+use Rattle.fill.proofs.Gathered.{labels_within}
 use Rattle.map_tests.proofs.pits.raise_first.Goals as goal
 
 pub raise-requires-clause-labels : goal.raise-requires-clause-labels
 raise-requires-clause-labels c =
-    (fit_of _ _ _ c.requires.floods.lawful c.requires.floods).labels 0 _
-    (slice_get_read _ _ 0 _ refl c.requires.some c.index-floods-0.is)
+    labels_within _ _ _ 0 _ c.requires.floods (slice_get_read _ _ 0 _ refl c.requires.some c.index-floods-0.is)
