@@ -31,7 +31,7 @@ use Rattle.fill.proofs.Adding.{no_join}
 use Rattle.fill.proofs.CellMarks.{label_entry, marked_within}
 use Rattle.fill.proofs.LabelGraphs.{leads_back}
 use Rattle.fill.proofs.Numbered.{AreLawful, IsNumbered, numbered, number_below, number_label, has_mark, ends_length, fit_of}
-use Rattle.fill.proofs.Rims.{level_has_data, list_there, among_is}
+use Rattle.fill.proofs.Rims.{neighbour_back, level_has_data, list_there, among_is}
 
 -- labels are settled or not, and so both ways
 and_turned : (a b : Bool) → (a && b) ≡ (b && a)
@@ -168,12 +168,7 @@ module _ (t : Terrain) (c : Cutting) (floods : List Flood) (are : AreFloods t c 
     to = x.from;
     from_level = x.to_level;
     to_level = x.from_level;
-    neighbours = record {
-      different = λ e. x.neighbours.different (sym e);
-      touches = record { row_down = x.neighbours.touches.row_up; row_up = x.neighbours.touches.row_down; col_right = x.neighbours.touches.col_left; col_left = x.neighbours.touches.col_right };
-      from_data = x.neighbours.to_data;
-      to_data = x.neighbours.from_data;
-    };
+    neighbours = neighbour_back t x.from x.to x.neighbours;
     from_is = x.to_is;
     to_is = x.from_is;
     greater = max_comm x.to_level x.from_level ∙ x.greater;
@@ -245,12 +240,7 @@ module _ (t : Terrain) (c : Cutting) (floods : List Flood) (are : AreFloods t c 
     to = x.from;
     from_level = x.to_level;
     to_level = x.from_level;
-    neighbours = record {
-      different = λ e. x.neighbours.different (sym e);
-      touches = record { row_down = x.neighbours.touches.row_up; row_up = x.neighbours.touches.row_down; col_right = x.neighbours.touches.col_left; col_left = x.neighbours.touches.col_right };
-      from_data = x.neighbours.to_data;
-      to_data = x.neighbours.from_data;
-    };
+    neighbours = neighbour_back t x.from x.to x.neighbours;
     from_label = x.to_label;
     to_label = x.from_label;
     from_is = x.to_is;

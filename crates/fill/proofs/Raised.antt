@@ -1,12 +1,12 @@
 -- A raised tile has its filled heights, and the tiles together give the filled grid.
-use Rattle.std.proofs.Common.{◌≡◌, ℕ, ◌+◌, ◌-◌, ◌*◌, ◌<◌, ◌≤◌, ◌⊎◌, inl, inr, ℤ, List, [], ◌∷◌, ◌++◌, length, get_or, map, Option, None, Some, is_some, ◌∙◌, sym, ap, subst, refl, arith, zero, suc, ◌/◌, ◌%◌, IfSome, MatchOption, mul_comm, pos, Vec, Global, vec_len}
+use Rattle.std.proofs.Common.{◌≡◌, ℕ, ◌+◌, ◌*◌, ◌<◌, ◌≤◌, ◌⊎◌, inl, inr, ℤ, List, [], ◌∷◌, ◌++◌, length, get_or, map, Option, None, Some, is_some, ◌∙◌, sym, ap, subst, refl, arith, zero, suc, ◌/◌, ◌%◌, IfSome, MatchOption, mul_comm, pos, Vec, Global, vec_len}
 use Rattle.std.specs.Prelude.{slice_get, option_and_then, option_map, Result, Ok, Err, IfOk}
 use Rattle.std.specs.Int.{int_max}
 use Rattle.std.specs.Ordering.{int_eq}
 use Rattle.std.specs.Prelude.{◌≤ℤ◌}
 use Rattle.std.proofs.lemmas.Int.{ints, clamps}
 use Rattle.std.proofs.lemmas.Bool.Decides.{Decides-int_eq}
-use Rattle.std.proofs.lemmas.Bool.{cases_lt, cases_eq, cases_Bool, cond-true, cond-false}
+use Rattle.std.proofs.lemmas.Bool.{cases_eq, cases_Bool, cond-true, cond-false}
 use Rattle.std.proofs.lemmas.List.{get_or-map, length-map, length_push, get_or_append_left, get_or_push}
 use Rattle.terrain.specs.Raster.{Terrain, IsTerrain, IsHeight, Raster}
 use Rattle.terrain.specs.StoredCells.{cell_of, stored_cell, no_data}
@@ -15,23 +15,22 @@ use Rattle.terrain.specs.Sinks.{with_sinks}
 use Rattle.terrain.specs.Neighbours.{height_at, index_of, entry_at, IsDataCell, IsInside}
 use Rattle.drainage.specs.Filled.{IsFilledHeight, IsFilled, IsFilledGrid, IsOwnFilled}
 use Rattle.terrain.specs.declared.place.Place.{Place}
-use Rattle.terrain.proofs.Places.{make_place, entry-inside, index_injective, index_below}
+use Rattle.terrain.proofs.Places.{entry-inside, index_injective, index_below}
 use Rattle.drainage.proofs.Heights.{filled_height_stands}
 use Rattle.tiles.specs.declared.bounds.Bounds.{Bounds}
 use Rattle.tiles.specs.Cutting.{Cutting, IsCutting, IsInBounds, IsInTile, IsWithin, bounds_of, cell_count, tile_count, tile_entry, tile_of_place, Cuts, View, terrain_of, index_in}
-use Rattle.tiles.proofs.Cut.{in_bounds, in_tile, bounds_inside, tile_of_place_below}
-use Rattle.tiles.proofs.PutBack.{row_in_list}
+use Rattle.tiles.proofs.Cut.{in_bounds, tile_of_place_below}
 use Rattle.tiles.proofs.TileOrder.{tile_entry-in, entry_in-inside, index_in_below}
 use Rattle.cell_floods.specs.TileFlood.{Flood, level_in, label_in, IsTileFlood, levels_where}
-use Rattle.fill.specs.Spills.{AreFloods, level_among, label_among, AreSpillLevels, spill_of, greater_of, raised_by, AreGreater, IsRaised, IsFilledTile, IsGraphOf, IsPass, Graph, HasJoin, source_in}
-use Rattle.fill.specs.RaisedTiles.{IsRaisedTile, AreRaisedBelow, raised_among, spill_with, spill_at}
+use Rattle.fill.specs.Spills.{AreEntries, AreFloods, level_among, label_among, AreSpillLevels, spill_of, greater_of, raised_by, AreGreater, IsRaised, IsFilledTile, IsGraphOf, IsPass, Graph, HasJoin, source_in}
+use Rattle.fill.specs.RaisedTiles.{IsRaisedTile, AreRaisedCells, raised_among, spill_with, spill_at}
 use Rattle.fill.specs.LabelNet.{HasWay, source_number, IsNumberGraph, AreNumberLevels}
 use Rattle.fill.specs.Numbers.{first_of}
 use Rattle.fill.specs.declared.marks.Mark.{Mark}
 use Rattle.floods.specs.declared.net.Spill.{Spill}
 use Rattle.fill.proofs.CellMarks.{entry_mark, label_entry}
 use Rattle.fill.proofs.Numbered.{AreLawful, fit_of, has_mark, number_below, number_among, number_net}
-use Rattle.fill.specs.declared.rows.RaisedTile.{RaisedTile}
+use Rattle.fill.specs.declared.raised_tiles.RaisedTile.{RaisedTile}
 use Rattle.fill.specs.Gathering.{Fit, mark_among, mark_of, mark_with}
 use Rattle.cell_floods.specs.Labels.{labels_by, IsTable}
 use Rattle.cell_floods.proofs.Where.{levels_where-length, levels_where-at}
@@ -40,31 +39,38 @@ use Rattle.cell_floods.proofs.TileWindows.{data_within}
 use Rattle.terrain.proofs.Options.{cases_option, match_of, none_some}
 use Rattle.fill.proofs.Rims.{HasTileLevel, IsLabelNet, has_tile_level, among_is, rims, list_there}
 use Rattle.std.specs.List.{Contains, All}
-use Rattle.std.proofs.lemmas.Option.{MatchOption-at_some, MatchOption-at_none, get_or_from_slice_get, slice_get-get_or, slice_get_within, same_Some}
+use Rattle.std.proofs.lemmas.Option.{MatchOption-at_some, MatchOption-at_none, get_or_from_slice_get, slice_get_within, same_Some}
 use Rattle.std.proofs.lemmas.List.Elements.{All-contains, All-from_get_or}
 use Rattle.std.proofs.lemmas.Nat.{div-add-mod', mod_below, div_below}
 use Rattle.tile_jobs.specs.Answers.{AllGiven}
-use Rattle.tile_maps.specs.Maps.{IsMadeMap}
-use Rattle.tile_maps.proofs.Whole.{map_of_size}
+use Rattle.tile_maps.specs.Maps.{IsMadeMap, IsMadeTile}
+use Rattle.tile_maps.proofs.Whole.{map_of_size, tile_of_entries}
 use Rattle.drainage.proofs.FilledTwice.{filled_twice}
 
--- The first cells have the greater of their levels and their labels'.
-pub record AreFirstGreater (heights : List ℤ) (labels : List ℕ) (spills : List (Option ℤ)) (count : ℕ) (raised : List (Option ℤ)) : Type 0 where
-  pub size : length raised ≡ count
-  pub each : (i : ℕ) → i < count → get_or raised i None ≡ greater_of (Some (get_or heights i (pos 0))) (get_or spills (get_or labels i 0) None)
+-- no entry yet, and one more
+pub no_entries : (entry : ℕ → Option ℤ) (list : List (Option ℤ)) → list ≡ [] → AreEntries entry 0 list
+no_entries entry list none = record {
+  size = ap length none;
+  each = λ k low. absurd (omega (arith, low));
+}
 
-pub greater_one : (heights : List ℤ) (labels : List ℕ) (spills : List (Option ℤ)) (i : ℕ) (now next : List (Option ℤ)) (x : Option ℤ) → next ≡ now ++ x ∷ [] → x ≡ greater_of (Some (get_or heights i (pos 0))) (get_or spills (get_or labels i 0) None)
-    → AreFirstGreater heights labels spills i now → AreFirstGreater heights labels spills (i + 1) next
-greater_one heights labels spills i now next x more is s = subst (AreFirstGreater heights labels spills (i + 1)) (sym more) (record {
+pub one_entry : (entry : ℕ → Option ℤ) (i : ℕ) (now next : List (Option ℤ)) (x : Option ℤ)
+    → next ≡ now ++ x ∷ [] → x ≡ entry i → AreEntries entry i now → AreEntries entry (i + 1) next
+one_entry entry i now next x more is s = subst (AreEntries entry (i + 1)) (sym more) (record {
   size = length_push now x ∙ ap (λ n. n + 1) s.size;
   each = λ k low. elim (cases_eq k i) [
-    | inl same ↦ get_or_push now x None k (s.size ∙ sym same) ∙ subst (λ n. x ≡ greater_of (Some (get_or heights n (pos 0))) (get_or spills (get_or labels n 0) None)) (sym same) is
-    | inr other ↦ get_or_append_left now (x ∷ []) None k (omega (arith, low, other, s.size)) ∙ s.each k (omega (arith, low, other))
+    | inl same ↦ get_or_push now x None k (s.size ∙ sym same) ∙ is ∙ ap entry (sym same)
+    | inr other ↦
+        get_or_append_left now (x ∷ []) None k (omega (arith, low, other, s.size))
+        ∙ s.each k (omega (arith, low, other))
   ];
 })
 
-pub all_greater : (heights : List ℤ) (labels : List ℕ) (spills : List (Option ℤ)) (i : ℕ) (raised : List (Option ℤ)) → i ≤ length heights → length heights ≤ i → AreFirstGreater heights labels spills i raised → AreGreater heights labels spills raised
-all_greater heights labels spills i raised below past s = record { size = omega (arith, s.size); each = λ k low. s.each k (omega arith) }
+-- and all of them
+pub all_entries : (entry : ℕ → Option ℤ) (i count : ℕ) (list : List (Option ℤ))
+    → i ≤ count → count ≤ i → AreEntries entry i list → AreEntries entry count list
+all_entries entry i count list below past s =
+    subst (λ n. AreEntries entry n list) (omega (arith, below, past)) s
 
 -- a level stands where a label does, and only there a cell is raised
 raised_where : (c : Cutting) (levels : List (Option ℤ)) (height : ℤ) (label : Option Place) → greater_of (Some height) (spill_of c levels label) ≡ raised_by c levels (option_map (λ _. height) label) label
@@ -151,47 +157,6 @@ stored_inside first f levels x tile i d below =
     let at : i < length f.table.indexes = omega (arith, below, ap length tile.labels) in
     omega (arith, tile.lawful.table.inside i d at, ap (λ (z : List ℕ). get_or z i d) tile.labels, tile.spills.size)
 
--- The levels of the first labels, as cells.
-pub record AreFirstSpills (levels : List (Option ℤ)) (first : ℕ) (places : List (Option Place)) (count : ℕ) (cells : List (Option ℤ)) : Type 0 where
-  pub size : length cells ≡ count
-  pub each : (k : ℕ) → k < count → get_or cells k None ≡ cell_of (spill_at levels first places k)
-
-pub no_spill : (levels : List (Option ℤ)) (first : ℕ) (places : List (Option Place)) (cells : List (Option ℤ)) → cells ≡ [] → AreFirstSpills levels first places 0 cells
-no_spill levels first places cells none = record { size = ap length none; each = λ k low. absurd (omega (arith, low)) }
-
-pub one_spill : (levels : List (Option ℤ)) (first : ℕ) (places : List (Option Place)) (i : ℕ) (cells new : List (Option ℤ)) (x : Option ℤ) → new ≡ cells ++ x ∷ [] → x ≡ cell_of (spill_at levels first places i)
-    → AreFirstSpills levels first places i cells → AreFirstSpills levels first places (i + 1) new
-one_spill levels first places i cells new x more is s = subst (AreFirstSpills levels first places (i + 1)) (sym more) (record {
-  size = length_push cells x ∙ ap (λ n. n + 1) s.size;
-  each = λ k low. elim (cases_eq k i) [
-    | inl same ↦ get_or_push cells x None k (s.size ∙ sym same) ∙ is ∙ ap (λ n. cell_of (spill_at levels first places n)) (sym same)
-    | inr other ↦ get_or_append_left cells (x ∷ []) None k (omega (arith, low, other, s.size)) ∙ s.each k (omega (arith, low, other))
-  ];
-})
-
--- Such a tile for each of the first floods.
-pub record AreFirstRaised (floods : List Flood) (levels : List (Option ℤ)) (count : ℕ) (tiles : List RaisedTile) : Type 0 where
-  pub size : length tiles ≡ count
-  pub each : (tile : ℕ) (f : Flood) (x : RaisedTile) → tile < count → slice_get floods tile ≡ Some f → slice_get tiles tile ≡ Some x → IsRaisedTile (first_of floods tile) f levels x
-
-pub none_raised : (floods : List Flood) (levels : List (Option ℤ)) (tiles : List RaisedTile) → tiles ≡ [] → AreFirstRaised floods levels 0 tiles
-none_raised floods levels tiles none = record { size = ap length none; each = λ k g x low. absurd (omega (arith, low)) }
-
-pub raised_one : (floods : List Flood) (levels : List (Option ℤ)) (i : ℕ) (f : Flood) (x : RaisedTile) (tiles : List RaisedTile) → i < length floods → slice_get floods i ≡ Some f → IsRaisedTile (first_of floods i) f levels x
-    → AreFirstRaised floods levels i tiles → AreFirstRaised floods levels (i + 1) (tiles ++ x ∷ [])
-raised_one floods levels i f x tiles below is by s = record {
-  size = length_push tiles x ∙ ap (λ n. n + 1) s.size;
-  each = λ k g y low there tile. elim (cases_eq k i) [
-    | inr other ↦
-        let early : k < length tiles = omega (arith, low, other, s.size) in
-        s.each k g y (omega (arith, low, other)) there (slice_get-get_or tiles k y early ∙ ap Some (sym (get_or_append_left tiles (x ∷ []) y k early) ∙ get_or_from_slice_get (tiles ++ x ∷ []) k y y tile))
-    | inl same ↦
-        let f_is : f ≡ g = same_Some f g (sym is ∙ ap (slice_get floods) (sym same) ∙ there) in
-        let x_is : x ≡ y = sym (get_or_push tiles x y k (s.size ∙ sym same)) ∙ get_or_from_slice_get (tiles ++ x ∷ []) k y y tile in
-        subst (λ n. IsRaisedTile (first_of floods n) g levels y) (sym same) (subst (λ (z : RaisedTile). IsRaisedTile (first_of floods i) g levels z) x_is (subst (λ (h : Flood). IsRaisedTile (first_of floods i) h levels x) f_is by))
-  ];
-}
-
 -- What the flood of its tile and the levels of labels by place raise a cell to.
 abbrev placed_among : Cutting → List Flood → List (Option ℤ) → Place → Option ℤ
 placed_among c floods levels p = raised_by c levels (level_among c floods p) (label_among c floods p)
@@ -237,51 +202,22 @@ raised_tile c floods tile f levels raised h fit there is =
           tile_entry-in c tile raised p i ∙ is.each k low ∙ raised_here c floods tile k f levels p h fit there i refl,
     )
 
--- no cell yet, and one more
-pub raised_none : (c : Cutting) (floods : List Flood) (levels : List (Option ℤ)) → AreRaisedBelow c floods levels 0 []
-raised_none c floods levels = record { size = refl; each = λ p within low. absurd (omega (arith, low)) }
-
-pub raised_more : (c : Cutting) (floods : List Flood) (levels list : List (Option ℤ)) (p : Place) (n : ℕ) (x : Option ℤ) → IsWithin c p → n ≡ index_of c.cols p → x ≡ cell_of (raised_among c floods levels p) → AreRaisedBelow c floods levels n list → AreRaisedBelow c floods levels (n + 1) (list ++ x ∷ [])
-raised_more c floods levels list p n x within at is below = record {
-  size = length_push list x ∙ ap (λ k. k + 1) below.size;
-  each = λ q inside low. elim (cases_lt (index_of c.cols q) n) [
-    | inl before ↦ get_or_append_left list (x ∷ []) None (index_of c.cols q) (omega (arith, before, below.size)) ∙ below.each q inside before
-    | inr past ↦
-        let same : index_of c.cols q ≡ n = omega (arith, past, low) in
-        get_or_push list x None (index_of c.cols q) (below.size ∙ sym same) ∙ is ∙ ap (λ r. cell_of (raised_among c floods levels r)) (index_injective c.cols p q within.1 inside.1 (sym at ∙ sym same))
-  ];
-}
-
--- the tile of a place has the rest of its row up to the tile's last column
-pub part_of_row : (c : Cutting) (floods : List Flood) (row col tile : ℕ) (f : Flood) (b : Bounds) → IsCutting c → Fit c floods → row < c.rows → col < c.cols → tile ≡ tile_of_place c (make_place row col) → slice_get floods tile ≡ Some f → b ≡ f.bounds
-    → (b ≡ bounds_of c tile) × IsInBounds b (make_place row col) × (b.left + b.cols ≤ c.cols) × ((row - b.top) * b.cols + b.cols ≤ length f.labels)
-part_of_row c floods row col tile f b h fit low left is there e =
-    let p = make_place row col in
-    let same : b ≡ bounds_of c tile = e ∙ fit.bounds tile f there in
-    let below : tile < tile_count c = omega (arith, tile_of_place_below c p h (low, left), is) in
-    let inside : IsInBounds b p = subst (λ (x : Bounds). IsInBounds x p) (sym same) (in_bounds c tile p h ((low, left), sym is)) in
-    let end : b.left + b.cols ≤ c.cols = subst (λ (x : Bounds). x.left + x.cols ≤ c.cols) (sym same) (bounds_inside c tile h below).cols_inside in
-    (same, inside, end, row_in_list b row (length f.labels) (fit.sizes tile f there ∙ ap (λ (x : Bounds). x.rows * x.cols) (sym e)) inside.0 inside.1)
-
--- one more cell of such a part
-pub part_more : (c : Cutting) (floods : List Flood) (levels list : List (Option ℤ)) (row start index tile : ℕ) (f : Flood) (b : Bounds) (x : Option ℤ) → IsCutting c → Fit c floods → tile < tile_count c → slice_get floods tile ≡ Some f → b ≡ bounds_of c tile
-    → b.top ≤ row → row < b.top + b.rows → start ≡ (row - b.top) * b.cols → start ≤ index → index < start + b.cols → x ≡ cell_of (greater_of (get_or f.levels index None) (spill_with levels (mark_with (first_of floods tile) f index)))
-    → AreRaisedBelow c floods levels (row * c.cols + (b.left + (index - start))) list → AreRaisedBelow c floods levels (row * c.cols + (b.left + (index + 1 - start))) (list ++ x ∷ [])
-part_more c floods levels list row start index tile f b x h fit below there same top bottom at from end is raised =
-    let p = make_place row (b.left + (index - start)) in
-    let inside : IsInBounds b p = (top, bottom, omega arith, omega (arith, from, end)) in
-    let i = in_tile c tile p h below (subst (λ (z : Bounds). IsInBounds z p) same inside) in
-    let k : index ≡ index_in b p = omega (arith, at, from) in
-    let own : index ≡ index_in (bounds_of c tile) p = k ∙ ap (λ (z : Bounds). index_in z p) same in
-    subst (λ n. AreRaisedBelow c floods levels n (list ++ x ∷ [])) (omega (arith, from))
-    (raised_more c floods levels list p _ x i.0 refl (is ∙ ap cell_of (number_here c floods tile index f levels p h fit there i own)) raised)
-
--- so all cells of the grid
-pub raised_map : (c : Cutting) (floods : List Flood) (levels list : List (Option ℤ)) (n : ℕ) → n ≡ c.rows * c.cols → AreRaisedBelow c floods levels n list → IsMadeMap c (λ p cell. cell ≡ cell_of (raised_among c floods levels p)) list
-raised_map c floods levels list n all below = record {
-  size = below.size ∙ all ∙ mul_comm c.rows c.cols;
-  each = λ p within cell is. sym (get_or_from_slice_get list (index_of c.cols p) cell None is) ∙ below.each p within (omega (arith, index_below c.cols c.rows p within.0 within.1, all, mul_comm c.rows c.cols));
-}
+-- the cells of a tile have what its flood and the levels of all labels raise them to
+pub raised_cells : (c : Cutting) (floods : List Flood) (tile : ℕ) (f : Flood)
+    (levels cells : List (Option ℤ)) → IsCutting c → Fit c floods → slice_get floods tile ≡ Some f
+    → AreRaisedCells (first_of floods tile) f levels cells
+    → IsMadeTile c tile (λ p cell. cell ≡ cell_of (raised_among c floods levels p)) cells
+raised_cells c floods tile f levels cells h fit there are =
+    let area : length f.labels ≡ cell_count c tile =
+        fit.sizes tile f there ∙ ap (λ (x : Bounds). x.rows * x.cols) (fit.bounds tile f there) in
+    tile_of_entries c tile (λ p cell. cell ≡ cell_of (raised_among c floods levels p)) cells
+    (are.size ∙ area) (λ p i.
+        let b = bounds_of c tile in
+        let k = index_in b p in
+        let low : k < length f.labels =
+            omega (arith, index_in_below b p (in_bounds c tile p h i), area) in
+        tile_entry-in c tile cells p i ∙ are.each k low
+        ∙ ap cell_of (number_here c floods tile k f levels p h fit there i refl))
 
 -- a label lies in the grid
 label_inside : (t : Terrain) (c : Cutting) (floods : List Flood) (p label : Place) → AreFloods t c floods → label_among c floods p ≡ Some label → IsWithin c label

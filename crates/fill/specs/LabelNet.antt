@@ -84,3 +84,11 @@ pub record IsNumberGraph (t : Terrain) (c : Cutting) (floods : List Flood) (ways
       → ((IsSome (source_number sources a) × IsSome (source_number sources b)) ⊎ ((low : ℤ) × HasWay ways a b low × (low ≤ℤ h)))
       ⊎ (IsBypassed c floods x.from x.to ⊎ IsBypassed c floods x.to x.from)
   pub joined_only : (a b : ℕ) (h : ℤ) → HasWay ways a b h → IsNumberPass t c floods a b h
+
+-- The levels are those of such a graph.
+pub record AreLabelLevels (t : Terrain) (c : Cutting) (floods : List Flood) (levels : List (Option ℤ))
+    : Type 0 where
+  pub ways : List (List Spill)
+  pub sources : List (Option ℤ)
+  pub graph : IsNumberGraph t c floods ways sources
+  pub least : AreNumberLevels ways sources levels

@@ -1,15 +1,13 @@
 -- Tiles whose cells are raised by tables of their labels' levels. No public clause cites this.
-use Rattle.std.specs.Prelude.{◌≡◌, ℕ, ◌+◌, ◌<◌, ℤ, List, length, Option, None, Some, slice_get, slice_index_or, option_and_then}
-use Rattle.terrain.specs.Neighbours.{index_of}
+use Rattle.std.specs.Prelude.{◌≡◌, ℕ, ◌+◌, ℤ, List, length, Option, None, slice_index_or, option_and_then}
 use Rattle.terrain.specs.StoredCells.{cell_of}
 use Rattle.terrain.specs.declared.place.Place.{Place}
-use Rattle.tiles.specs.Cutting.{Cutting, IsWithin}
+use Rattle.tiles.specs.Cutting.{Cutting}
 use Rattle.cell_floods.specs.TileFlood.{Flood, IsFlood, levels_where}
-use Rattle.fill.specs.Gathering.{mark_among}
-use Rattle.fill.specs.Numbers.{first_of}
-use Rattle.fill.specs.Spills.{greater_of, level_among}
+use Rattle.fill.specs.Gathering.{mark_among, mark_with}
+use Rattle.fill.specs.Spills.{AreEntries, greater_of, level_among}
 use Rattle.fill.specs.declared.marks.Mark.{Mark}
-use Rattle.fill.specs.declared.rows.RaisedTile.{RaisedTile}
+use Rattle.fill.specs.declared.raised_tiles.RaisedTile.{RaisedTile}
 
 -- The level of a mark's label, of the levels by number.
 abbrev pub spill_with : List (Option ℤ) → Option Mark → Option ℤ
@@ -24,9 +22,9 @@ abbrev pub spill_at : List (Option ℤ) → ℕ → List (Option Place) → ℕ 
 spill_at levels first places k = option_and_then (λ _. slice_index_or levels (first + k) None) (slice_index_or places k None)
 
 -- The levels of these labels, as cells.
-pub record AreSpillCells (levels : List (Option ℤ)) (first : ℕ) (places : List (Option Place)) (cells : List (Option ℤ)) : Type 0 where
-  pub size : length cells ≡ length places
-  pub each : (k : ℕ) → k < length places → slice_index_or cells k None ≡ cell_of (spill_at levels first places k)
+abbrev pub AreSpillCells : List (Option ℤ) → ℕ → List (Option Place) → List (Option ℤ) → Type 0
+AreSpillCells levels first places cells =
+    AreEntries (λ k. cell_of (spill_at levels first places k)) (length places) cells
 
 -- The tile raises each cell as its flood and these levels of all labels do.
 pub record IsRaisedTile (first : ℕ) (f : Flood) (levels : List (Option ℤ)) (x : RaisedTile) : Type 0 where
@@ -36,17 +34,12 @@ pub record IsRaisedTile (first : ℕ) (f : Flood) (levels : List (Option ℤ)) (
   pub labels : x.labels.now ≡ f.table.indexes
   pub spills : AreSpillCells levels first f.table.places x.spills.items
 
--- One such tile for each flood.
-pub record AreRaisedTiles (floods : List Flood) (levels : List (Option ℤ)) (tiles : List RaisedTile) : Type 0 where
-  pub count : length tiles ≡ length floods
-  pub each : (tile : ℕ) (f : Flood) (x : RaisedTile) → slice_get floods tile ≡ Some f → slice_get tiles tile ≡ Some x → IsRaisedTile (first_of floods tile) f levels x
+-- What the cell with this index in the tile's row order is raised to.
+abbrev pub raised_at : ℕ → Flood → List (Option ℤ) → ℕ → Option ℤ
+raised_at first f levels k =
+    greater_of (slice_index_or f.levels k None) (spill_with levels (mark_with first f k))
 
--- So many cells, the first in row order, have what their places are raised to.
-pub record AreRaisedBelow (c : Cutting) (floods : List Flood) (levels : List (Option ℤ)) (count : ℕ) (raised : List (Option ℤ)) : Type 0 where
-  pub size : length raised ≡ count
-  pub each : (p : Place) → IsWithin c p → index_of c.cols p < count → slice_index_or raised (index_of c.cols p) None ≡ cell_of (raised_among c floods levels p)
-
--- A list of what the first cells are raised to has become longer, whatever levels of the labels the tiles are raised by.
-abbrev pub Raises : Cutting → List Flood → List RaisedTile → ℕ → List (Option ℤ) → ℕ → List (Option ℤ) → Type 0
-Raises c floods tiles count old count_after new = (levels : List (Option ℤ)) → AreRaisedTiles floods levels tiles
-    → AreRaisedBelow c floods levels count old → AreRaisedBelow c floods levels count_after new
+-- The cells of a tile have what they are raised to.
+abbrev pub AreRaisedCells : ℕ → Flood → List (Option ℤ) → List (Option ℤ) → Type 0
+AreRaisedCells first f levels cells =
+    AreEntries (λ k. cell_of (raised_at first f levels k)) (length f.labels) cells

@@ -103,11 +103,16 @@ greater_of None spill = None
 abbrev pub raised_by : Cutting → List (Option ℤ) → Option ℤ → Option Place → Option ℤ
 raised_by c levels level label = greater_of level (spill_of c levels label)
 
--- Each entry is the greater of a level and its label's, where labels are indexes into the list of their levels.
-pub record AreGreater (heights : List ℤ) (labels : List ℕ) (spills : List (Option ℤ)) (raised : List (Option ℤ)) : Type 0 where
-  pub size : length raised ≡ length heights
-  pub each : (i : ℕ) → i < length heights →
-      slice_index_or raised i None ≡ greater_of (Some (slice_index_or heights i (pos 0))) (slice_index_or spills (slice_index_or labels i 0) None)
+-- The list has the entries of this rule, and so many.
+pub record AreEntries (entry : ℕ → Option ℤ) (count : ℕ) (list : List (Option ℤ)) : Type 0 where
+  pub size : length list ≡ count
+  pub each : (k : ℕ) → k < count → slice_index_or list k None ≡ entry k
+
+-- The greater of each height and the level of its label, which stands among the spills.
+abbrev pub AreGreater : List ℤ → List ℕ → List (Option ℤ) → List (Option ℤ) → Type 0
+AreGreater heights labels spills raised =
+    AreEntries (λ i. greater_of (Some (slice_index_or heights i (pos 0)))
+        (slice_index_or spills (slice_index_or labels i 0) None)) (length heights) raised
 
 pub record IsRaised (c : Cutting) (f : Flood) (levels : List (Option ℤ)) (raised : List (Option ℤ)) : Type 0 where
   pub size : length raised ≡ length f.levels

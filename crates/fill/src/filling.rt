@@ -1,24 +1,24 @@
 //! The filled heights of a grid, by tiles and workers: [`filled`].
 //!
-//! Jobs flood each tile, and then find its joins. The caller's thread floods the spill graph and
-//! raises the cells.
-ghost use Rattle.std.specs.Prelude.{◌<◌, ◌≤◌, IfOk, OnOk};
+//! Jobs flood each tile, and raise it. Between the two the caller's thread floods the spill graph.
+ghost use Rattle.std.specs.Prelude.{◌<◌, ◌≤◌, length, IfOk};
 ghost use Rattle.terrain.specs.Raster.{Terrain, IsTerrain};
 ghost use Rattle.drainage.specs.Filled.{IsFilled, IsFilledGrid};
 ghost use Rattle.tiles.specs.Cutting.{Cuts};
 ghost use Rattle.fill.specs.Spills.{AreFloods};
-ghost use Rattle.fill.specs.LabelNet.{IsNumberGraph};
+ghost use Rattle.fill.specs.LabelNet.{AreLabelLevels, IsNumberGraph};
+ghost use Rattle.fill.specs.Numbers.{AreFirsts, places_of};
 ghost use Rattle.tile_jobs.specs.Fault.{RefusesWorkers};
 
-use crate::label_graph::LabelGraph;
+use crate::label_graph::{LabelGraph, LabelLevels};
 use crate::marks::NumberedFloods;
 use crate::numbers::{first_numbers, label_ends};
-use crate::parts::{Part, tile_part};
+use crate::parts::tile_parts;
 use crate::passes::LeftOut;
-use crate::rows::{raised_grid, raised_tiles};
+use crate::raised_tiles::RaisedTiles;
 use cell_floods::{TileFlood, tile_flood};
 use drainage::Filled;
-use std::alloc::Global;
+use std::alloc::{AllocError, Global};
 use std::sync::Wait;
 use std::thread::Threads;
 use terrain::{Cell, Grid, NoMemory};
@@ -66,95 +66,88 @@ fn tile_floods<R: Threads + Wait + Sync, G: Gate + Sync>(
     crew.run(&FloodTiles { grid, tiling }, tiling.tiles())
 }
 
-/// Finds what each tile adds to the spill graph.
-#[derive(Drop)]
-struct PartTiles<'a> {
-    tiles: &'a NumberedFloods<'a>,
-    left_out: &'a LeftOut<'a>,
-}
-
-impl<'a> Work for PartTiles<'a> {
-    type Out = Part;
-
-    ghost use Rattle.tiles.specs.Cutting.{tile_count};
-    ghost use Rattle.fill.specs.Parts.{IsPart};
-
-    ghost most = { λ w. tile_count w.tiles.now.tiling.now };
-
-    ghost gives = { λ w job out. IsPart w.tiles.now.tiling.now w.tiles.now.floods.now w.left_out.now job out };
-
-    fn run(&self, alloc: Global, job: u32) -> Result<Part, JobFault> {
-        let part = tile_part(alloc, self.tiles, self.left_out, job)?;
-        Ok(part)
-    }
-}
-
-/// The spill graph of the floods, but for joins that lower no level. Reuses the allocation of `room`.
-fn spill_graph<R: Threads + Wait + Sync, G: Gate + Sync>(
-    crew: &Crew<'_, R, G>,
-    room: Vec<Cell>,
-    tiles: &NumberedFloods<'_>,
-) -> Result<LabelGraph, JobFault>
-    requires floods { (t : Terrain) × AreFloods t tiles.now.tiling.now tiles.now.floods.now }
-    requires workers { (0 < crew.now.workers) × (crew.now.workers ≤ 64) }
-    ensures graph { IfOk result (λ g. (t : Terrain)
+/// The spill graph of the floods, but for joins that lower no level.
+fn spill_graph(alloc: Global, tiles: &NumberedFloods<'_>) -> Result<LabelGraph, AllocError>
+    requires { (t : Terrain) × AreFloods t tiles.now.tiling.now tiles.now.floods.now }
+    ensures { IfOk result (λ g. (t : Terrain)
         → AreFloods t tiles.now.tiling.now tiles.now.floods.now
         → IsNumberGraph t tiles.now.tiling.now tiles.now.floods.now g.ways g.sources) }
-    ensures workers { RefusesWorkers crew.now.workers result }
 {
-    let sources = label_ends(room, tiles.floods)?;
+    let sources = label_ends(alloc, tiles.floods)?;
     let left_out = LeftOut {
         sources: &sources,
         bypassed: true,
     };
-    let work = PartTiles {
-        tiles,
-        left_out: &left_out,
-    };
-    let parts = crew.run(&work, tiles.tiling.tiles())?;
-    drop(work);
+    let parts = tile_parts(alloc, tiles, &left_out)?;
     drop(left_out);
-    Ok(LabelGraph::of_parts(crew.alloc, sources, &parts)?)
+    let graph = LabelGraph::of_parts(alloc, sources, &parts)?;
+    Ok(graph)
 }
 
-/// The filled heights of all cells in row order, by the floods and their spill graph. They take the
-/// memory of its sources.
-fn filled_cells(
+/// The level of each label in the spill graph of the floods.
+fn label_levels(
     alloc: Global,
-    graph: LabelGraph,
-    tiles: &NumberedFloods<'_>,
-) -> Result<Vec<Cell>, NoMemory>
-    requires { (t : Terrain) × AreFloods t tiles.now.tiling.now tiles.now.floods.now
-        × IsNumberGraph t tiles.now.tiling.now tiles.now.floods.now graph.ways graph.sources }
-    ensures { IfOk result (λ v. (t : Terrain) → IsTerrain t
-        → AreFloods t tiles.now.tiling.now tiles.now.floods.now
-        → IsNumberGraph t tiles.now.tiling.now tiles.now.floods.now graph.ways graph.sources
-        → IsFilled t v.items) }
+    tiling: &Tiling,
+    floods: &[TileFlood],
+    firsts: &[u32],
+) -> Result<LabelLevels, NoMemory>
+    requires floods { (t : Terrain) × AreFloods t tiling.now floods.now }
+    requires firsts { AreFirsts floods.now firsts.now }
+    ensures size { IfOk result (λ levels. length (places_of floods.now) ≤ length levels) }
+    ensures levels { IfOk result (λ levels. (t : Terrain)
+        → AreFloods t tiling.now floods.now
+        → AreLabelLevels t tiling.now floods.now levels) }
 {
+    let tiles = NumberedFloods {
+        tiling,
+        floods,
+        firsts,
+    };
+    let graph = spill_graph(alloc, &tiles)?;
     let levels = graph.levels(alloc)?;
-    let raised = raised_tiles(alloc, tiles.floods, tiles.firsts, &levels)?;
-    let room = levels.into_room();
-    Ok(raised_grid(room, tiles.tiling, tiles.floods, &raised)?)
+    Ok(levels)
+}
+
+/// The filled heights of all cells in row order, by the floods and their spill graph. A job raises
+/// each tile.
+fn filled_cells<R: Threads + Wait + Sync, G: Gate + Sync>(
+    crew: &Crew<'_, R, G>,
+    tiling: &Tiling,
+    floods: Vec<TileFlood>,
+) -> Result<Vec<Cell>, JobFault>
+    requires floods { (t : Terrain) × AreFloods t tiling.now floods.items }
+    requires workers { (0 < crew.now.workers) × (crew.now.workers ≤ 64) }
+    ensures filled { IfOk result (λ v. (t : Terrain) → IsTerrain t
+        → AreFloods t tiling.now floods.items → IsFilled t v.items) }
+    ensures workers { RefusesWorkers crew.now.workers result }
+{
+    let firsts = first_numbers(crew.alloc, &floods)?;
+    let Ok(levels) = label_levels(crew.alloc, tiling, &floods, &firsts) else {
+        return Err(JobFault::Memory);
+    };
+    let cells = crew.made(RaisedTiles {
+        tiling: *tiling,
+        floods,
+        firsts,
+        levels,
+    })?;
+    Ok(cells)
 }
 
 /// The grid with each height replaced by its filled height.
 ///
-/// Each tile is flooded in a job of its own, and adds to the spill graph in another. Then the caller's
-/// thread raises all cells.
-///
-/// # Memory
-///
-/// The filled heights take the memory of the grid's own.
+/// Each tile is flooded in a job of its own, and raised in another. Between the two the caller's
+/// thread floods the spill graph.
 pub fn filled<R: Threads + Wait + Sync, G: Gate + Sync>(
     rt: &R,
     alloc: Global,
-    grid: Grid,
+    grid: &Grid,
     tiling: &Tiling,
     workers: u32,
     gate: &G,
 ) -> Result<Filled, JobFault>
-    requires { Cuts tiling.now grid.terrain }
-    ensures filled { IfOk result (λ f. IsFilledGrid grid f) }
+    requires { Cuts tiling.now grid.now.terrain }
+    ensures filled { IfOk result (λ f. IsFilledGrid grid.now f) }
     ensures workers { RefusesWorkers workers result }
 {
     let crew = Crew {
@@ -163,22 +156,10 @@ pub fn filled<R: Threads + Wait + Sync, G: Gate + Sync>(
         workers,
         gate,
     };
-    let floods = tile_floods(&crew, &grid, tiling)?;
-    // Any look at a grid brings its law, that heights are heights, on which raising relies.
-    let _ = grid.sinks();
-    let (frame, room) = grid.into_parts();
-    let firsts = first_numbers(alloc, &floods)?;
-    let tiles = NumberedFloods {
-        tiling,
-        floods: &floods,
-        firsts: &firsts,
-    };
-    let graph = spill_graph(&crew, room, &tiles)?;
-    let Ok(cells) = filled_cells(alloc, graph, &tiles) else {
+    let floods = tile_floods(&crew, grid, tiling)?;
+    let cells = filled_cells(&crew, tiling, floods)?;
+    let Ok(filled) = grid.frame().with_cells(alloc, cells) else {
         return Err(JobFault::Memory);
     };
-    drop(tiles);
-    drop(firsts);
-    drop(floods);
-    Ok(Filled::from_grid(frame.with_cells(cells)))
+    Ok(Filled::from_grid(filled))
 }

@@ -137,11 +137,6 @@ impl LabelLevels {
             None => self.sources[number].height(),
         }
     }
-
-    /// The memory of the sources, once the levels have served.
-    pub(crate) fn into_room(self) -> Vec<Cell> {
-        self.sources
-    }
 }
 
 impl LabelGraph {

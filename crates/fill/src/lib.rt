@@ -8,11 +8,12 @@
 //! - `filling`: `filled`, which runs all stages
 //! - `numbers`: labels by number, and those that are end cells
 //! - `marks`: level and label of a cell
+//! - `join_table`: joins by their labels
 //! - `passes`: joins of touching cells
 //! - `parts`: what a tile adds to the graph
 //! - `ways`: lists of ways that share their memory
 //! - `label_graph`: the graph by numbers, and its levels
-//! - `rows`: the filled heights of a grid
+//! - `raised_tiles`: the filled heights of each tile, by number
 //! - `placing`: joins by the places of their labels
 //! - `sources`: end cells by place
 //! - `spills`: the graph by places
@@ -20,14 +21,15 @@
 #![tactic(auto)]
 
 mod filling;
+mod join_table;
 mod label_graph;
 mod marks;
 mod numbers;
 mod parts;
 mod passes;
 mod placing;
+mod raised_tiles;
 mod raising;
-mod rows;
 mod sources;
 mod spills;
 mod ways;

@@ -27,15 +27,10 @@ pub(crate) fn first_numbers(alloc: Global, floods: &[TileFlood]) -> Result<Vec<u
 }
 
 /// The heights of the labels that are end cells by number, and no data for all other labels.
-///
-/// # Memory
-///
-/// Reuses the allocation of `room`.
-pub(crate) fn label_ends(room: Vec<Cell>, floods: &[TileFlood]) -> Result<Vec<Cell>, AllocError>
+pub(crate) fn label_ends(alloc: Global, floods: &[TileFlood]) -> Result<Vec<Cell>, AllocError>
     ensures { IfOk result (λ v. v.items ≡ ends_of floods.now) }
 {
-    let mut ends = room;
-    ends.clear();
+    let mut ends = Vec::new(alloc);
     for flood in floods {
         ends.extend_from_slice(flood.ends())?;
     }

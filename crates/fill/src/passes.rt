@@ -3,7 +3,7 @@
 //! `tile_joins` looks at each two neighbouring cells once, from the first of them in row order, and
 //! `lowest_joins` keeps the lowest.
 ghost use Rattle.std.specs.Prelude.{◌≡◌, ◌+◌, ◌*◌, ◌<◌, ◌≤◌, ◌∷◌, ◌⊎◌, [], true, None, Some, ◌≤ℤ◌, slice_index_or, MatchOption, IfOk, OnOk, length, is_some, IsTrue, ◌↔◌};
-ghost use Rattle.std.specs.Bool.{OnTrue, OnFalse};
+ghost use Rattle.std.specs.Bool.{OnTrue};
 ghost use Rattle.std.specs.Option.{option_to_list};
 ghost use Rattle.std.specs.List.{All};
 ghost use Rattle.terrain.specs.declared.place.Place.{Place};
@@ -11,6 +11,7 @@ ghost use Rattle.tiles.specs.Cutting.{IsCutting, IsWithin, IsInTile, bounds_of, 
 ghost use Rattle.fill.specs.Gathering.{IsInner, AreEqualAfter, Adds, AddsCovered, AddsAfter, AddsBeside, AreLowest, are_settled, IsRepeat, joins_of, mark_among, mark_with};
 ghost use Rattle.std.specs.Int.{int_max};
 
+use crate::join_table::JoinTable;
 use crate::marks::{Mark, NumberedFloods, mark_in, mark_of_entry};
 use crate::spills::Join;
 use cell_floods::TileFlood;
@@ -33,146 +34,6 @@ impl<'a> Model for LeftOut<'a> {
     ghost Value = { Spared };
 
     ghost view = { λ l. record { sources = l.sources.now; bypassed = l.bypassed } };
-}
-
-/// How many slots a [`JoinTable`] has at first for each row and column of its tile.
-///
-/// As many as are mostly taken, and no more, since they are cleared for each tile.
-const SLOTS_A_LINE: usize = 16;
-
-/// How many joins there is room for at first for each row and column, so that few lists grow.
-const JOINS_A_LINE: usize = 4;
-
-/// How many slots are looked at for a join.
-const MOST_PROBES: usize = 16;
-
-/// Joins that are added, and where they stand by their labels: a join of the same labels is seldom added once more.
-#[derive(Drop)]
-struct JoinTable {
-    alloc: Global,
-    joins: Vec<Join>,
-    /// For each slot the index of a join, or one past all joins. Joins that stand in a slot after their own have
-    /// none free between.
-    slots: Vec<usize>,
-    ghost some: { 0 < length slots.items },
-}
-
-/// A slot of so many for two labels: at first their own, and then those after it. Labels along a side of a tile often
-/// differ by a multiple of a power of two, so all of their bits are mixed.
-#[inline(always)]
-fn slot_of(from: u32, to: u32, probe: usize, slots: usize) -> usize
-    requires { 0 < slots }
-    ensures { result < slots }
-{
-    let mixed = from
-        .wrapping_mul(31)
-        .wrapping_add(to)
-        .wrapping_mul(0x9E37_79B1);
-    let own = (mixed >> 8) as usize;
-    (own.wrapping_add(probe) & (slots - 1)).min(slots - 1)
-}
-
-/// The slot of a join of these labels, or a free one. Where neither is near, it is the labels' own.
-#[inline(always)]
-fn slot_for(joins: &[Join], slots: &[usize], join: Join) -> usize
-    requires { 0 < length slots.now }
-    ensures { result < length slots.now }
-{
-    for probe in 0..MOST_PROBES {
-        let slot = slot_of(join.from, join.to, probe, slots.len());
-        let Some(met) = joins.get(slots[slot]) else {
-            return slot;
-        };
-        if met.from == join.from && met.to == join.to {
-            return slot;
-        }
-    }
-    slot_of(join.from, join.to, 0, slots.len())
-}
-
-/// Puts all joins into their slots.
-fn fill_slots(joins: &[Join], slots: &mut [usize])
-    requires { 0 < length slots.old }
-    ensures { length slots.new ≡ length slots.old }
-{
-    for index in 0..joins.len() {
-        let slot = slot_for(joins, slots, joins[index]);
-        slots[slot] = index;
-    }
-}
-
-/// Whether the join at this index is of the same labels as this one. Then it is made as low.
-#[inline(always)]
-fn lowers(joins: &mut Vec<Join>, at: usize, join: Join) -> bool
-    ensures lowered { OnTrue result (AddsCovered joins.old.items (join ∷ []) joins.new.items) }
-    ensures other { OnFalse result (joins.new ≡ joins.old) }
-{
-    if at >= joins.len() {
-        return false;
-    }
-    let met = joins[at];
-    if met.from != join.from || met.to != join.to {
-        return false;
-    }
-    if join.height < met.height {
-        joins[at] = join;
-    }
-    true
-}
-
-impl JoinTable {
-    /// For a tile of so many rows and columns.
-    fn new(alloc: Global, lines: u32) -> Result<Self, AllocError>
-        requires { lines ≤ 8192 }
-        ensures { IfOk result (λ table. table.joins.items ≡ []) }
-    {
-        let count = (lines as usize * SLOTS_A_LINE).next_power_of_two();
-        let slots = vec![in alloc; usize::MAX; count]?;
-        Ok(JoinTable {
-            alloc,
-            joins: Vec::with_capacity(alloc, lines as usize * JOINS_A_LINE)?,
-            slots,
-        })
-    }
-
-    /// Makes twice as many slots.
-    #[inline(never)]
-    fn grow(&mut self) -> Result<(), AllocError>
-        ensures { OnOk result (self.new.joins.items ≡ self.old.joins.items) }
-    {
-        let count = self.slots.len().saturating_mul(2);
-        let mut slots = vec![in self.alloc; usize::MAX; count]?;
-        fill_slots(&self.joins, &mut slots);
-        self.slots = slots;
-        Ok(())
-    }
-
-    /// Makes more slots, where more than half of them are taken.
-    #[inline(always)]
-    fn make_room(&mut self) -> Result<(), AllocError>
-        ensures { OnOk result (self.new.joins.items ≡ self.old.joins.items) }
-    {
-        if self.joins.len() <= self.slots.len() / 2 {
-            return Ok(());
-        }
-        self.grow()
-    }
-
-    /// Adds a join, or makes one of the same labels as low.
-    #[inline(always)]
-    fn add(&mut self, join: Join) -> Result<(), AllocError>
-        ensures { OnOk result (AddsCovered self.old.joins.items (join ∷ []) self.new.joins.items) }
-    {
-        let slot = slot_for(&self.joins, &self.slots, join);
-        let at = self.slots[slot];
-        if lowers(&mut self.joins, at, join) {
-            return Ok(());
-        }
-        self.slots[slot] = self.joins.len();
-        self.joins.push(join)?;
-        self.make_room()?;
-        Ok(())
-    }
 }
 
 /// Whether a label is among these sources. There is none past their end.
@@ -222,7 +83,7 @@ fn push_join(
     to: Option<Mark>,
 ) -> Result<(), AllocError>
     ensures { OnOk result
-        (AddsCovered table.old.joins.items (joins_of sources.now from to) table.new.joins.items) }
+        (AddsCovered table.old (joins_of sources.now from to) table.new) }
 {
     let Some(join) = join_of(sources, from, to) else {
         return Ok(());
@@ -242,12 +103,12 @@ fn push_outer(
     to: Option<Mark>,
 ) -> Result<(), AllocError>
     ensures { OnOk result
-        (AddsCovered table.old.joins.items (joins_of sources.now from to) table.new.joins.items) }
+        (AddsCovered table.old (joins_of sources.now from to) table.new) }
 {
     let Some(join) = join_of(sources, from, to) else {
         return Ok(());
     };
-    table.joins.push(join)?;
+    table.push(join)?;
     Ok(())
 }
 
@@ -311,7 +172,7 @@ fn push_beside(
         (record { row = place.row + 1; col = place.col }) }
     requires near { (near.row ≡ place.row) ⊎ (near.row ≡ place.row + 1) }
     ensures { OnOk result (AddsBeside tiles.now.tiling.now tiles.now.floods.now left_out.now place
-        from near table.old.joins.items table.new.joins.items) }
+        from near table.old table.new) }
 {
     let to = mark_beside(tiles, tile, place, below, near);
     if near.row != place.row && near.col != place.col && is_spared(left_out, from, below, to) {
@@ -337,7 +198,7 @@ fn push_rim_cell(
     requires place { IsWithin tiles.now.tiling.now place }
     requires lawful { IsCutting tiles.now.tiling.now }
     ensures { OnOk result (Adds tiles.now.tiling.now tiles.now.floods.now left_out.now
-        (λ p. p ≡ place) table.old.joins.items table.new.joins.items) }
+        (λ p. p ≡ place) table.old table.new) }
 {
     let Some(from) = tiles.mark_at(tile, place) else {
         return Ok(());
@@ -388,8 +249,8 @@ fn push_near(
     requires index { index < length flood.now.labels }
     requires near { near < length flood.now.labels }
     requires from { mark_with first flood.now index ≡ Some from }
-    ensures { OnOk result (AddsCovered table.old.joins.items
-        (joins_of sources.now from (mark_with first flood.now near)) table.new.joins.items) }
+    ensures { OnOk result (AddsCovered table.old
+        (joins_of sources.now from (mark_with first flood.now near)) table.new) }
 {
     if has_same_label(flood, index, near) {
         return Ok(());
@@ -414,7 +275,7 @@ fn push_after(
     requires few { length flood.now.labels ≤ 16777216 }
     requires from { mark_with first flood.now index ≡ Some from }
     ensures { OnOk result (AddsAfter first flood.now sources.now from index width
-        table.old.joins.items table.new.joins.items) }
+        table.old table.new) }
 {
     let below = index + width;
     push_near(table, flood, first, sources, index, from, index + 1)?;
@@ -454,9 +315,9 @@ fn push_inner_cell(
     requires some { 0 < index }
     requires after { index + flood.now.bounds.cols + 1 < length flood.now.labels }
     ensures { OnOk result (MatchOption (mark_with first flood.now index)
-        (table.new.joins.items ≡ table.old.joins.items)
+        (table.new ≡ table.old)
         (λ from. AddsAfter first flood.now sources.now from index flood.now.bounds.cols
-        table.old.joins.items table.new.joins.items)) }
+        table.old table.new)) }
 {
     let width = flood.bounds().cols as usize;
     if are_equal_after(flood.labels().indexes(), index, width) {
@@ -484,7 +345,7 @@ fn push_inner_cells(
         + (bounds_of tiles.now.tiling.now tile).rows }
     ensures { OnOk result (Adds tiles.now.tiling.now tiles.now.floods.now left_out.now
         (λ p. IsInner (bounds_of tiles.now.tiling.now tile) p × (p.row ≡ row))
-        table.old.joins.items table.new.joins.items) }
+        table.old table.new) }
 {
     let flood = &tiles.floods[tile as usize];
     let first = tiles.firsts[tile as usize];
@@ -512,7 +373,7 @@ fn push_rim_cells(
         + (bounds_of tiles.now.tiling.now tile).rows }
     ensures { OnOk result (Adds tiles.now.tiling.now tiles.now.floods.now left_out.now
         (λ p. IsInTile tiles.now.tiling.now tile p × (p.row ≡ row))
-        table.old.joins.items table.new.joins.items) }
+        table.old table.new) }
 {
     let Bounds { left, cols, .. } = tiles.tiling.bounds(tile);
     for col in left..left + cols {
@@ -536,7 +397,7 @@ fn push_cells(
         + (bounds_of tiles.now.tiling.now tile).rows }
     ensures { OnOk result (Adds tiles.now.tiling.now tiles.now.floods.now left_out.now
         (λ p. IsInTile tiles.now.tiling.now tile p × (p.row ≡ row))
-        table.old.joins.items table.new.joins.items) }
+        table.old table.new) }
 {
     let Bounds {
         top,
@@ -575,8 +436,7 @@ pub(crate) fn tile_joins(
     for row in top..top + rows {
         push_cells(&mut table, tiles, left_out, tile, row)?;
     }
-    let JoinTable { joins, .. } = table;
-    Ok(joins)
+    Ok(table.into_joins())
 }
 
 /// Whether the join before this one is of the same labels.

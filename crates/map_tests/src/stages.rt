@@ -12,7 +12,7 @@ use terrain::Grid;
 use tile_jobs::{JobFault, NoGate};
 use tiles::Tiling;
 
-/// A copy of the grid, filled.
+/// The filled grid, without a gate.
 pub(crate) fn leveled<R: Threads + Wait + Sync>(
     rt: &R,
     alloc: Global,
@@ -23,10 +23,7 @@ pub(crate) fn leveled<R: Threads + Wait + Sync>(
     requires { Cuts tiling.now grid.now.terrain }
     ensures { IfOk result (λ f. Cuts tiling.now f.terrain) }
 {
-    let Ok(copy) = grid.with_cells(alloc, grid.cells()) else {
-        return Err(JobFault::Memory);
-    };
-    filled(rt, alloc, copy, tiling, workers, &NoGate)
+    filled(rt, alloc, grid, tiling, workers, &NoGate)
 }
 
 /// The directions of a filled grid.

@@ -49,7 +49,8 @@ fn drained<H: Threads + Wait + Sync, G: Gate + Sync>(
         → gauges_fault r.1.terrain gauges ≡ gauges_fault grid.terrain gauges) }
     ensures workers { RefusesWorkers workers result }
 {
-    let filled = filled(rt, alloc, grid, tiling, workers, gate)?;
+    let filled = filled(rt, alloc, &grid, tiling, workers, gate)?;
+    drop(grid);
     let directions = directions(rt, alloc, &filled, tiling, workers, gate)?;
     Ok((filled.into_grid().into_frame(), directions))
 }
@@ -80,8 +81,7 @@ fn named_place_fault(options: &Options, grid: &Grid) -> Option<RunFault>
     None
 }
 
-/// Cuts a grid into tiles, judges the sinks and gauges, and gives it the sinks asked for. Without
-/// sinks it is not copied.
+/// Cuts a grid into tiles, judges the sinks and gauges, and gives it the sinks asked for.
 pub(crate) fn prepare(
     alloc: Global,
     options: &Options,
@@ -101,7 +101,7 @@ pub(crate) fn prepare(
     if sinks.is_empty() {
         return Ok((grid, tiling));
     }
-    let grid = grid.with_sinks(alloc, sinks)?;
+    let grid = grid.name_sinks(alloc, sinks)?;
     Ok((grid, tiling))
 }
 
@@ -125,7 +125,7 @@ pub(crate) fn make_map<H: Threads + Wait + Sync, G: Gate + Sync>(
     let workers = options.workers();
     match options.map() {
         Map::Fill => {
-            let filled = filled(rt, alloc, grid, tiling, workers, gate)?;
+            let filled = filled(rt, alloc, &grid, tiling, workers, gate)?;
             Ok(MadeMap::Heights(filled.into_grid()))
         }
         Map::Flow => {

@@ -117,7 +117,7 @@ fn cut(rt: &impl Abort, alloc: Global, text: &[u8], side: u32) -> (Grid, Tiling)
 }
 
 /// Each stage has one job for each tile. `viewshed` has one stage for the greatest heights of blocks
-/// and one for the values; `filled` floods tiles and joins their labels; `accumulation` finds the flow
+/// and one for the values; `filled` floods tiles and raises them; `accumulation` finds the flow
 /// of each tile and counts its cells; `basins` counts the outlets between these two; `catchments` has
 /// these two alone.
 #[test]
@@ -129,7 +129,7 @@ fn tiles_meet_at_each_stage(rt: HostRuntime) {
     assert!(rt; seen.is_ok());
     gate.expect(&rt, 2, 4, "viewshed");
     let gate = Meeting::new();
-    let level = filled(&rt, alloc, pit, &tiling, 2, &gate).expect(&rt, "levels");
+    let level = filled(&rt, alloc, &pit, &tiling, 2, &gate).expect(&rt, "levels");
     gate.expect(&rt, 2, 4, "filled");
     let ways = directions(&rt, alloc, &level, &tiling, 2, &NoGate).expect(&rt, "ways");
     let gate = Meeting::new();
@@ -150,7 +150,7 @@ fn tiles_with_inner_cells_meet(rt: HostRuntime) {
     let alloc = rt.alloc();
     let (valley, tiling) = cut(&rt, alloc, VALLEY, 3);
     let gate = Meeting::new();
-    let level = filled(&rt, alloc, valley, &tiling, 2, &gate);
+    let level = filled(&rt, alloc, &valley, &tiling, 2, &gate);
     assert!(rt; level.is_ok());
     gate.expect(&rt, 2, 2, "filled");
 }
@@ -161,7 +161,7 @@ fn tiles_with_inner_cells_meet(rt: HostRuntime) {
 fn tiles_meet_in_each_round(rt: HostRuntime) {
     let alloc = rt.alloc();
     let (corridors, tiling) = cut(&rt, alloc, CORRIDORS, 5);
-    let level = filled(&rt, alloc, corridors, &tiling, 1, &NoGate).expect(&rt, "levels");
+    let level = filled(&rt, alloc, &corridors, &tiling, 1, &NoGate).expect(&rt, "levels");
     let gate = Meeting::new();
     assert!(rt; directions(&rt, alloc, &level, &tiling, 2, &gate).is_ok());
     gate.expect(&rt, 4, 2, "directions");
@@ -172,7 +172,7 @@ fn tiles_meet_in_each_round(rt: HostRuntime) {
 fn idle_tiles_have_a_job_in_each_round(rt: HostRuntime) {
     let alloc = rt.alloc();
     let (pit, tiling) = cut(&rt, alloc, PITS, 2);
-    let level = filled(&rt, alloc, pit, &tiling, 1, &NoGate).expect(&rt, "levels");
+    let level = filled(&rt, alloc, &pit, &tiling, 1, &NoGate).expect(&rt, "levels");
     let gate = Meeting::new();
     assert!(rt; directions(&rt, alloc, &level, &tiling, 2, &gate).is_ok());
     gate.expect(&rt, 4, 4, "directions");
@@ -183,7 +183,7 @@ fn idle_tiles_have_a_job_in_each_round(rt: HostRuntime) {
 fn three_stages_of_three_jobs(rt: HostRuntime) {
     let alloc = rt.alloc();
     let (level, tiling) = cut(&rt, alloc, LEVEL, 2);
-    let level = filled(&rt, alloc, level, &tiling, 1, &NoGate).expect(&rt, "levels");
+    let level = filled(&rt, alloc, &level, &tiling, 1, &NoGate).expect(&rt, "levels");
     let ways = directions(&rt, alloc, &level, &tiling, 1, &NoGate).expect(&rt, "ways");
     for workers in [2, 8] {
         let gate = Meeting::new();

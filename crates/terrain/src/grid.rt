@@ -1,11 +1,10 @@
 //! A grid and its frame: the header, the scale and the sinks without the cells.
 //!
-//! [`Grid::from_parts`] makes a grid, [`Grid::with_sinks`] names its sinks, and
-//! [`Grid::into_parts`] frees its list of cells for use again.
-ghost use Rattle.std.specs.Prelude.{◌≡◌, ◌↔◌, ◌+◌, ◌*◌, ◌<◌, [], length, All, Contains, IfSome, IfOk, IsTrue, Some};
+//! [`Grid::from_parts`] makes a grid, and [`Grid::name_sinks`] names its sinks.
+ghost use Rattle.std.specs.Prelude.{◌≡◌, ◌↔◌, ◌+◌, ◌*◌, ◌<◌, [], length, All, Contains, IfSome, IfOk, OnOk, IsTrue, None, Some};
 ghost use Rattle.terrain.specs.Raster.{Raster, IsLawful};
 ghost use Rattle.terrain.specs.Neighbours.{IsInside, height_at, IsEnd, HasGapAround};
-ghost use Rattle.terrain.specs.Sinks.{RefusesSinks, raster_with_sinks, sinks_fault};
+ghost use Rattle.terrain.specs.Sinks.{RefusesSinks, each_once, raster_with_sinks, sinks_fault};
 
 use crate::cell::Cell;
 use crate::place::{Height, Place};
@@ -112,6 +111,8 @@ impl Model for Grid {
 }
 
 impl Frame {
+    ghost use Rattle.terrain.specs.Parts.{raster_with_parts};
+
     /// The number of columns, from 1 to [`LONGEST_AXIS`].
     pub fn cols(&self) -> u32
         ensures value { result ≡ self.now.terrain.cols }
@@ -174,20 +175,21 @@ impl Frame {
         &self.header.nodata
     }
 
-    /// The grid with these cells in place of those that were let go. Each height among them stood in the grid. It
-    /// takes no memory.
-    pub fn with_cells(self, cells: Vec<Cell>) -> Grid
-        requires size { length cells.items ≡ self.terrain.cols * self.terrain.rows }
-        requires heights { All (λ c. IfSome c (λ h. Contains self.terrain.cells (Some h))) cells.items }
-        ensures { result ≡ record self { terrain = record self.terrain { cells = cells.items } } }
+    /// The frame's grid with these cells. Each height among them stands in the grid.
+    pub fn with_cells(&self, alloc: Global, cells: Vec<Cell>) -> Result<Grid, NoMemory>
+        requires size { length cells.items ≡ self.now.terrain.cols * self.now.terrain.rows }
+        requires heights { All (λ c. IfSome c (λ h. Contains self.now.terrain.cells (Some h))) cells.items }
+        ensures { IfOk result (λ g. g ≡ record self.now { terrain = record self.now.terrain { cells = cells.items } }) }
     {
-        let Frame {
-            header,
-            scale,
-            sinks,
-            ..
-        } = self;
-        Grid::of_parts(header, scale, cells, sinks)
+        let sinks = Vec::from_slice(alloc, self.sinks())?;
+        Ok(self.with_parts(cells, sinks))
+    }
+
+    fn with_parts(&self, cells: Vec<Cell>, sinks: Vec<Place>) -> Grid
+        requires { IsLawful (raster_with_parts self.now cells.items sinks.items) }
+        ensures { result ≡ raster_with_parts self.now cells.items sinks.items }
+    {
+        Grid::of_parts(self.header.copy(), self.scale, cells, sinks)
     }
 }
 
@@ -217,21 +219,13 @@ impl Grid {
 
     /// The grid without its cells, lent.
     pub fn frame(&self) -> &Frame
-        ensures { result.now ≡ self.now }
+        ensures value { result.now ≡ self.now }
+        ensures lawful { IsLawful self.now }
     {
         &self.frame
     }
 
-    /// The grid without its cells, and the cells.
-    pub fn into_parts(self) -> (Frame, Vec<Cell>)
-        ensures frame { result.0 ≡ self }
-        ensures cells { result.1.items ≡ self.terrain.cells }
-    {
-        let Grid { frame, cells } = self;
-        (frame, cells)
-    }
-
-    /// The grid without its cells, which are let go.
+    /// The grid without its cells, which are freed.
     pub fn into_frame(self) -> Frame
         ensures { result ≡ self }
     {
@@ -321,16 +315,19 @@ impl Grid {
         requires heights { All (λ c. IfSome c (λ h. Contains self.now.terrain.cells (Some h))) cells.now }
         ensures { IfOk result (λ g. g ≡ record self.now { terrain = record self.now.terrain { cells = cells.now } }) }
     {
-        let cells = Vec::from_slice(alloc, cells)?;
-        Ok(self.with_parts(cells, Vec::from_slice(alloc, self.sinks())?))
+        self.frame.with_cells(alloc, Vec::from_slice(alloc, cells)?)
     }
 
-    fn with_parts(&self, cells: Vec<Cell>, sinks: Vec<Place>) -> Grid
-        requires { IsLawful (raster_with_parts self.now cells.items sinks.items) }
-        ensures { result ≡ raster_with_parts self.now cells.items sinks.items }
+    /// These sinks, each once, after they were judged.
+    fn judged_sinks(&self, alloc: Global, sinks: &[Place]) -> Result<Vec<Place>, SinkFault>
+        ensures named { IfOk result (λ v. v.items ≡ each_once sinks.now) }
+        ensures sound { OnOk result (sinks_fault self.now.terrain sinks.now ≡ None) }
+        ensures fault { RefusesSinks (sinks_fault self.now.terrain sinks.now) result }
     {
-        let frame = &self.frame;
-        Grid::of_parts(frame.header.copy(), frame.scale, cells, sinks)
+        if let Some(fault) = sinks_fault(self, sinks) {
+            return Err(fault);
+        }
+        Ok(each_once(alloc, sinks)?)
     }
 
     /// The same grid with these cells as its sinks, each once, in place of those that it had.
@@ -341,11 +338,18 @@ impl Grid {
         ensures grid { IfOk result (λ g. g ≡ raster_with_sinks self.now sinks.now) }
         ensures fault { RefusesSinks (sinks_fault self.now.terrain sinks.now) result }
     {
-        if let Some(fault) = sinks_fault(self, sinks) {
-            return Err(fault);
-        }
-        let sinks = each_once(alloc, sinks)?;
+        let sinks = self.judged_sinks(alloc, sinks)?;
         let cells = Vec::from_slice(alloc, self.cells())?;
-        Ok(self.with_parts(cells, sinks))
+        Ok(self.frame.with_parts(cells, sinks))
+    }
+
+    /// Like [`with_sinks`](Self::with_sinks), but keeps the list of cells and copies none.
+    pub fn name_sinks(self, alloc: Global, sinks: &[Place]) -> Result<Grid, SinkFault>
+        ensures grid { IfOk result (λ g. g ≡ raster_with_sinks self sinks.now) }
+        ensures fault { RefusesSinks (sinks_fault self.terrain sinks.now) result }
+    {
+        let named = self.judged_sinks(alloc, sinks)?;
+        let Grid { frame, cells } = self;
+        Ok(frame.with_parts(cells, named))
     }
 }

@@ -1,13 +1,20 @@
-use Rattle.std.proofs.Common.{arith}
+use Rattle.fill.proofs.Numbered.{fit_of}
 use Rattle.fill.proofs.Raised.{filled_map}
 use Rattle.fill.proofs.filling.filled_cells.Goals as goal
 
-pub raised_tiles-requires-clause-levels : goal.raised_tiles-requires-clause-levels
-raised_tiles-requires-clause-levels c = omega (arith, c.in_ok-levels.ensures.1.levels_size, c.requires.2.count)
+pub invariant_of-made : goal.invariant_of-made
+invariant_of-made g c = record {
+  lawful = c.requires.floods.1.lawful;
+  fit = fit_of c.requires.floods.0 c.args.tiling.now c.args.floods.items c.requires.floods.1;
+  numbers = rw c.deref.ensures.value at c.in_ok-firsts.ensures;
+  levels_size = rw c.deref-2.ensures.value at c.in-Ok.ensures.size;
+}
 
-pub returns : goal.returns
-returns c t heights are graph =
-    let k = c.args.tiles.now.tiling.now in
-    let floods = c.args.tiles.now.floods.now in
-    let levels = c.in_ok-levels.levels in
-    filled_map t k floods c.args.graph.ways c.args.graph.sources levels _ heights are c.args.tiles.now.numbers.lawful graph c.in_ok-levels.ensures ((rw c.deref.ensures.value at c.in_ok-raised_grid.ensures) levels c.in_ok-raised.ensures)
+pub returns-clause-filled : goal.returns-clause-filled
+returns-clause-filled g c t heights are =
+    let k = c.args.tiling.now in
+    let floods = c.args.floods.items in
+    let numbers = rw c.deref.ensures.value at c.in_ok-firsts.ensures in
+    let x = (rw c.deref-2.ensures.value at c.in-Ok.ensures.levels) t are in
+    filled_map t k floods x.ways x.sources c.in-Ok.levels _ heights are numbers.lawful x.graph x.least
+    c.in_ok-cells.ensures.made

@@ -32,4 +32,4 @@ pub returns : goal.returns
 returns c =
     let all : c.loop-spot.spot ≡ 9 = omega (arith, c.loop-spot.auto.spot-end, c.loop-spot-test.false) in
     all_added c.args.tiles.now.tiling.now c.args.tiles.now.floods.now c.args.left_out.now c.args.place _ _
-    (subst (λ (n : ℕ). HasAdded c.args.tiles.now.tiling.now c.args.tiles.now.floods.now c.args.left_out.now c.args.place n c.args.table.now.joins.items c.loop-spot.table.joins.items) all c.loop-spot.invariant)
+    (subst (λ (n : ℕ). HasAdded c.args.tiles.now.tiling.now c.args.tiles.now.floods.now c.args.left_out.now c.args.place n c.args.table.now c.loop-spot.table) all c.loop-spot.invariant)

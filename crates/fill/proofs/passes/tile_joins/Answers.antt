@@ -22,11 +22,18 @@ loop-row-preserved c =
 
 pub returns : goal.returns
 returns c =
-    adds_as c.args.tiles.now.tiling.now c.args.tiles.now.floods.now c.args.left_out.now
-    (λ p. IsInTile c.args.tiles.now.tiling.now c.args.tile p × (p.row < c.loop-row.row))
-    (IsInTile c.args.tiles.now.tiling.now c.args.tile) _ _
-    (λ p. (λ at. let inside = (c.bounds-top.ensures.places p).0 at in (at, omega (arith, inside.1, c.loop-row-test.false)), λ at. at.0))
-    c.loop-row.invariant
+    let k = c.args.tiles.now.tiling.now in
+    let out = c.args.left_out.now in
+    let inside = IsInTile k c.args.tile in
+    rw c.into_joins.ensures (adds_as k c.args.tiles.now.floods.now out
+    (λ p. inside p × (p.row < c.loop-row.row)) inside _ _
+    (λ p. (
+      λ at.
+          let within = (c.bounds-top.ensures.places p).0 at in
+          (at, omega (arith, within.1, c.loop-row-test.false)),
+      λ at. at.0,
+    ))
+    c.loop-row.invariant)
 
 pub loop-row-init : goal.loop-row-init
 loop-row-init c =

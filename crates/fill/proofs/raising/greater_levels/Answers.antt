@@ -3,7 +3,7 @@ use mir.Val.{SFits}
 use Rattle.std.proofs.lemmas.Int.{to_z-of_z}
 use Rattle.terrain.proofs.Heights.{height_width}
 use Rattle.fill.specs.Spills.{greater_of}
-use Rattle.fill.proofs.Raised.{greater_one, all_greater}
+use Rattle.fill.proofs.Raised.{one_entry, all_entries}
 use Rattle.fill.proofs.raising.greater_levels.Goals as goal
 
 pub loop-index-preserved : goal.loop-index-preserved
@@ -12,7 +12,7 @@ loop-index-preserved c =
     let spill = get_or c.args.spills.now (get_or c.args.labels.now c.loop-index.index 0) None in
     let fits : SFits height_width height = search rules in
     let is = c.greater.ensures ∙ ap (λ (z : ℤ). greater_of (Some z) spill) (to_z-of_z height_width height fits) in
-    greater_one c.args.heights.now c.args.labels.now c.args.spills.now c.loop-index.index _ _ c.greater.result c.in_ok-push.ensures.items is c.loop-index.invariant
+    one_entry _ c.loop-index.index _ _ c.greater.result c.in_ok-push.ensures.items is c.loop-index.invariant
 
 pub returns : goal.returns
-returns c = all_greater c.args.heights.now c.args.labels.now c.args.spills.now c.loop-index.index _ c.loop-index.auto.index-end c.loop-index-test.false c.loop-index.invariant
+returns c = all_entries _ c.loop-index.index _ _ c.loop-index.auto.index-end c.loop-index-test.false c.loop-index.invariant

@@ -1,5 +1,8 @@
-use Rattle.fill.proofs.Raised.{AreFirstGreater}
+use Rattle.std.proofs.Common.{Some, None, get_or, pos}
+use Rattle.fill.specs.Spills.{AreEntries, greater_of}
 use Rattle.fill.proofs.raising.greater_levels.Given as goal
 
 abbrev pub invariant-loop-index : goal.invariant-loop-index
-invariant-loop-index l = AreFirstGreater l.heights l.labels l.spills l.index l.raised.items
+invariant-loop-index l =
+    AreEntries (λ i. greater_of (Some (get_or l.heights i (pos 0))) (get_or l.spills (get_or l.labels i 0) None))
+    l.index l.raised.items

@@ -1,6 +1,6 @@
 use Rattle.std.proofs.Common.{rules, length, ◌<◌, ◌≤ℤ◌, arith}
 use Rattle.fill.proofs.Adding.{adds_lower}
-use Rattle.fill.proofs.passes.lowers.Goals as goal
+use Rattle.fill.proofs.join_table.lowers.Goals as goal
 
 pub returns-then-join-met-clause-lowered : goal.returns-then-join-met-clause-lowered
 returns-then-join-met-clause-lowered c =
