@@ -231,21 +231,7 @@ impl Tiling {
         requires { AreTileLists self.now results.now }
         ensures { IfOk result (λ whole. IsPutBack self.now results.now whole.items) }
     {
-        let room = Vec::with_capacity(alloc, self.cols as usize * self.rows as usize)?;
-        self.put_back_into(room, results)
-    }
-
-    /// [`Tiling::put_back`] into the memory of a list whose entries are let go.
-    pub fn put_back_into<T: Copy + Drop>(
-        &self,
-        room: Vec<T>,
-        results: &[Vec<T>],
-    ) -> Result<Vec<T>, NoMemory>
-        requires { AreTileLists self.now results.now }
-        ensures { IfOk result (λ whole. IsPutBack self.now results.now whole.items) }
-    {
-        let mut whole = room;
-        whole.clear();
+        let mut whole = Vec::with_capacity(alloc, self.cols as usize * self.rows as usize)?;
         for row in 0..self.rows {
             self.push_row(results, row, &mut whole)?;
         }

@@ -1,6 +1,6 @@
 use Rattle.std.proofs.Common.{◌≡◌, ◌*◌}
 use Rattle.tiles.specs.PuttingBack.{IsPutBackBelow}
-use Rattle.tiles.proofs.tiling.Tiling.put_back_into.Given as goal
+use Rattle.tiles.proofs.tiling.Tiling.put_back.Given as goal
 
 abbrev pub invariant-loop-row : goal.invariant-loop-row
 invariant-loop-row g l = record {

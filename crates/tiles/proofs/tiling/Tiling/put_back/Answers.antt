@@ -1,7 +1,7 @@
 use Rattle.std.proofs.Common.{◌≡◌, ℕ, ◌*◌, subst, arith}
 use Rattle.tiles.specs.PuttingBack.{IsPutBackBelow}
 use Rattle.tiles.proofs.PutBack.{IsPutBack-from_below}
-use Rattle.tiles.proofs.tiling.Tiling.put_back_into.Goals as goal
+use Rattle.tiles.proofs.tiling.Tiling.put_back.Goals as goal
 
 pub returns : goal.returns
 returns g c =
