@@ -1,13 +1,13 @@
 -- Which labels of a tile are end cells.
-use Rattle.std.proofs.Common.{◌≡◌, ℕ, ◌<◌, ◌≤◌, ◌+◌, inl, inr, true, false, ℤ, List, [], ◌∷◌, ◌++◌, length, get_or, Option, None, Some, IsNone, is_some, ◌∙◌, sym, ap, subst, refl, arith, unwrap_or}
-use Rattle.std.specs.Prelude.{Bool, IsTrue, not, ◌↔◌, ◌⊎◌, Contains}
+use Rattle.std.proofs.Common.{◌≡◌, ℕ, zero, suc, ◌<◌, ◌≤◌, ◌+◌, ◌-◌, ◌*◌, inl, inr, true, false, ℤ, List, [], ◌∷◌, ◌++◌, length, get_or, Option, None, Some, IsNone, is_some, ◌∙◌, sym, ap, subst, refl, arith, unwrap_or}
+use Rattle.std.specs.Prelude.{Bool, IsTrue, ◌⊎◌, Contains}
 use Rattle.std.proofs.lemmas.Bool.{cases_Bool, cases_eq, cases_lt, cond-true, cond-false, and_from, lt-ltb, le-leb, false≢true}
 use Rattle.std.proofs.lemmas.Option.{unwrap_or-slice_get}
 use Rattle.std.proofs.lemmas.List.{get_or_append_left, get_or_push, length_push, get_or_past}
 use Rattle.terrain.specs.Raster.{Terrain}
-use Rattle.terrain.specs.Neighbours.{height_at, Touches, IsDataCell, IsEnd, HasGapAround}
+use Rattle.terrain.specs.Neighbours.{height_at, index_of, Touches, IsDataCell, IsEnd, HasGapAround}
 use Rattle.terrain.specs.declared.place.Place.{Place}
-use Rattle.terrain.proofs.Places.{entry-inside, entry-below, entry-beside}
+use Rattle.terrain.proofs.Places.{entry-inside, entry-below, entry-beside, none_outside}
 use Rattle.terrain.proofs.Options.{none_some, none_done}
 use Rattle.tiles.specs.Cutting.{View, IsWithin, IsInBounds, bounds_of, cell_shown, is_shown, terrain_of}
 use Rattle.tiles.proofs.Shown.{shown_within}
@@ -95,13 +95,86 @@ end_missed t p end missed fails (inr sink) = false≢true (sym fails ∙ missed 
 pub touches_itself : (p : Place) → Touches p p
 touches_itself p = record { row_down = omega arith; row_up = omega arith; col_right = omega arith; col_left = omega arith }
 
--- a cell seen without data is a gap
-pub gap_shown : (height seen : Option ℤ) (gap : Bool) → height ≡ seen → is_some seen ≡ not gap
-    → IsTrue gap ↔ IsNone height
-gap_shown height seen gap is test = (λ holds. ap is_some is ∙ test ∙ ap not holds, λ none. from gap (sym test ∙ ap is_some (sym is) ∙ none)) where
-  from : (b : Bool) → not b ≡ false → b ≡ true
-  from true e = refl
-  from false e = absurd (cc)
+-- three cells side by side as a view shows them: those at a place and on both sides of it
+abbrev pub AreBeside : View (Option ℤ) → Place → List (Option ℤ) → Type 0
+AreBeside v p cells = (k : ℕ) (d : Option ℤ) → k < 3
+    → get_or cells k d ≡ get_or v.cells (index_of v.cutting.cols p + k - 1) d
+
+-- the height at a place is that of one of three cells side by side
+beside_shown : (v : View (Option ℤ)) (p q : Place) (cells : List (Option ℤ)) → IsWithin v.cutting q
+    → q.row ≡ p.row → p.col ≤ q.col + 1 → q.col ≤ p.col + 1 → AreBeside v p cells
+    → height_at (terrain_of v) q ≡ get_or cells (q.col + 1 - p.col) None
+beside_shown v p q cells within row left right are =
+    let at : index_of v.cutting.cols q ≡ index_of v.cutting.cols p + (q.col + 1 - p.col) - 1 =
+    ap (λ n. n * v.cutting.cols + q.col) row ∙ omega (arith, left) in
+    entry-inside _ _ v.cells q within.0 within.1
+    ∙ ap (λ n. get_or v.cells n None) at
+    ∙ sym (are (q.col + 1 - p.col) None (omega (arith, right, left)))
+
+-- one of three cells has no data, where not all have
+some_gap : (cells : List (Option ℤ)) → length cells ≡ 3
+    → (((k : ℕ) → k < length cells → is_some (get_or cells k None) ≡ true) → ⊥)
+    → (k : ℕ) × (k < 3) × (is_some (get_or cells k None) ≡ false)
+some_gap cells size not_all = elim (cases_Bool (is_some (get_or cells 0 None))) [
+  | inr gap ↦ (0, omega arith, gap)
+  | inl first ↦ elim (cases_Bool (is_some (get_or cells 1 None))) [
+    | inr gap ↦ (1, omega arith, gap)
+    | inl second ↦ elim (cases_Bool (is_some (get_or cells 2 None))) [
+      | inr gap ↦ (2, omega arith, gap)
+      | inl third ↦ absurd (not_all (λ k low. all k first second third (omega (arith, low, size))))
+    ]
+  ]
+] where
+  all : (k : ℕ) → is_some (get_or cells 0 None) ≡ true → is_some (get_or cells 1 None) ≡ true
+      → is_some (get_or cells 2 None) ≡ true → k < 3 → is_some (get_or cells k None) ≡ true
+  all zero a b c low = a
+  all (suc zero) a b c low = b
+  all (suc (suc zero)) a b c low = c
+  all (suc (suc (suc k))) a b c low = absurd (omega (arith, low))
+
+-- so there is a gap around a place that touches the three
+pub gap_beside : (v : View (Option ℤ)) (cell p : Place) (cells : List (Option ℤ))
+    → length cells ≡ 3 → AreBeside v p cells → p.col ≡ cell.col → 0 < cell.col
+    → cell.row ≤ p.row + 1 → p.row ≤ cell.row + 1
+    → (((k : ℕ) → k < length cells → is_some (get_or cells k None) ≡ true) → ⊥)
+    → HasGapAround (terrain_of v) cell
+gap_beside v cell p cells size are col some above below not_all =
+    let gap = some_gap cells size not_all in
+    let q : Place = record { row = p.row; col = p.col + gap.0 - 1 } in
+    let touch : Touches cell q = record {
+      row_down = omega (arith, below);
+      row_up = omega (arith, above);
+      col_right = omega (arith, col, gap.1);
+      col_left = omega (arith, col, some);
+    } in
+    inr (inr (
+      q,
+      touch,
+      elim (cases_lt q.row v.cutting.rows) [
+        | inr out ↦ none_outside (terrain_of v) q (inl out)
+        | inl row ↦ elim (cases_lt q.col v.cutting.cols) [
+          | inr out ↦ none_outside (terrain_of v) q (inr out)
+          | inl inside ↦
+              let at : q.col + 1 - p.col ≡ gap.0 = omega (arith, col, some) in
+              ap is_some (beside_shown v p q cells (row, inside) refl (omega (arith, col, some)) (omega (arith, gap.1)) are
+              ∙ ap (λ n. get_or cells n None) at) ∙ gap.2
+        ]
+      ],
+    ))
+
+-- where all three have data, none of them is a gap
+pub no_gap_beside : (v : View (Option ℤ)) (cell p q : Place) (cells : List (Option ℤ))
+    → length cells ≡ 3 → AreBeside v p cells → p.col ≡ cell.col → (p.row < v.cutting.rows) × (p.col + 1 < v.cutting.cols)
+    → Touches cell q → q.row ≡ p.row
+    → ((k : ℕ) → k < length cells → is_some (get_or cells k None) ≡ true)
+    → IsNone (height_at (terrain_of v) q) → ⊥
+no_gap_beside v cell p q cells size are col within touch row all none =
+    let left : p.col ≤ q.col + 1 = omega (arith, col, touch.col_left) in
+    let right : q.col ≤ p.col + 1 = omega (arith, col, touch.col_right) in
+    let inside : IsWithin v.cutting q = (omega (arith, row, within.0), omega (arith, right, within.1)) in
+    let shown = beside_shown v p q cells inside row left right are in
+    let there = all (q.col + 1 - p.col) (omega (arith, size, right, left)) in
+    absurd (cc (sym none ∙ ap is_some shown ∙ there))
 
 -- a place without data is no end cell
 pub no_data_ends : (t : Terrain) (p : Place) → height_at t p ≡ None → IsEndHeight t p None

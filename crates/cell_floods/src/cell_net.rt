@@ -211,7 +211,7 @@ fn push_around(
 
 /// Whether all of these cells have data.
 #[inline(always)]
-fn have_data(cells: &[Cell]) -> bool
+pub(crate) fn have_data(cells: &[Cell]) -> bool
     ensures { IsTrue result ↔ EachIndex cells.now (λ k. IsSome (slice_index_or cells.now k None)) }
 {
     cells.iter().all(|cell| cell.height().is_some())

@@ -1,32 +1,20 @@
 //! Which labels of a tile are end cells: edge cells and named sinks.
 //!
 //! A tile's view shows the cells around its rim, so no other tile is asked.
-ghost use Rattle.std.specs.Prelude.{◌≡◌, ◌↔◌, ◌⊎◌, ◌<◌, IsNone, IsTrue, IfOk, IfSome, List, None, Some, Contains};
+ghost use Rattle.std.specs.Prelude.{◌≡◌, ◌↔◌, ◌⊎◌, ◌<◌, IsTrue, IfOk, IfSome, List, None, Some, Contains};
 ghost use Rattle.std.specs.List.{All};
-ghost use Rattle.terrain.specs.Neighbours.{HasGapAround, Touches, height_at};
+ghost use Rattle.terrain.specs.Neighbours.{HasGapAround};
 ghost use Rattle.terrain.specs.Sinks.{with_sinks};
 ghost use Rattle.terrain.specs.declared.place.Place.{Place};
 ghost use Rattle.tiles.specs.Cutting.{IsInBounds, bounds_of, terrain_of};
 ghost use Rattle.cell_floods.specs.Cells.{HasSinks};
 ghost use Rattle.cell_floods.specs.TileFlood.{AreEndHeights, IsEndHeight};
 
+use crate::cell_net::have_data;
 use crate::sinks::{is_sink, node_in};
 use std::alloc::{AllocError, Global};
 use terrain::{Cell, Place};
 use tiles::TileView;
-
-/// Whether a place next to a cell of the tile is off the grid or has no data.
-#[inline(always)]
-fn is_gap(view: &TileView<'_, Cell>, cell: Place, place: Place) -> bool
-    requires cell { IsInBounds (bounds_of view.now.cutting view.now.tile) cell }
-    requires near { Touches cell place }
-    ensures { IsTrue result ↔ IsNone (height_at (terrain_of view.now) place) }
-{
-    match view.at(place) {
-        Some(cell) => cell.height().is_none(),
-        None => true,
-    }
-}
 
 /// Whether one of the eight places around a cell of the tile is off the grid or has no data.
 fn has_gap(view: &TileView<'_, Cell>, cell: Place) -> bool
@@ -38,10 +26,11 @@ fn has_gap(view: &TileView<'_, Cell>, cell: Place) -> bool
         return true;
     }
     for row in cell.row - 1..cell.row + 2 {
-        for col in cell.col - 1..cell.col + 2 {
-            if is_gap(view, cell, Place { row, col }) {
-                return true;
-            }
+        let Some(cells) = view.beside(Place { row, col: cell.col }) else {
+            return true;
+        };
+        if !have_data(cells) {
+            return true;
         }
     }
     false

@@ -1,5 +1,6 @@
 //! A borrowed view of a tile and the places around it.
-ghost use Rattle.std.specs.Prelude.{◌≡◌, ◌<◌, length, option_copied};
+ghost use Rattle.std.specs.Prelude.{◌≡◌, ◌⊎◌, ◌+◌, ◌-◌, ◌*◌, ◌<◌, ◌≤◌, ℕ, IfNone, IfSome, length, option_copied, slice_index_or};
+ghost use Rattle.terrain.specs.Neighbours.{index_of};
 ghost use Rattle.tiles.specs.Cutting.{View, IsView, AreBounds, bounds_of, is_shown, cell_shown, row_shown};
 
 use crate::bounds::Bounds;
@@ -80,6 +81,26 @@ impl<'a, T> TileView<'a, T> {
         } else {
             None
         }
+    }
+
+    /// The cells at a place and on both sides of it in its row. None where one of the three is off the
+    /// grid.
+    #[inline(always)]
+    pub fn beside(&self, place: Place) -> Option<&'a [T]>
+        requires { place.col < 4294967295 }
+        ensures size { IfSome result (λ s. length s.now ≡ 3) }
+        ensures value { IfSome result (λ s. (k : ℕ) (d : T) → k < 3 → slice_index_or s.now k d
+            ≡ slice_index_or self.now.cells (index_of self.now.cutting.cols place + k - 1) d) }
+        ensures inside { IfSome result (λ _. (place.row < self.now.cutting.rows)
+            × (place.col + 1 < self.now.cutting.cols)) }
+        ensures none { IfNone result ((self.now.cutting.rows ≤ place.row)
+            ⊎ (place.col ≡ 0) ⊎ (self.now.cutting.cols ≤ place.col + 1)) }
+    {
+        let cols = self.tiling.cols();
+        if place.row >= self.tiling.rows() || place.col == 0 || place.col + 1 >= cols {
+            return None;
+        }
+        Some(part(self.cells, place.index_in(cols) - 1, 3))
     }
 
     #[inline(always)]
