@@ -10,5 +10,5 @@ part-requires g c =
     let col : p.col + 1 < a.tiling.cols = omega (arith, c.if-place-cols.false, c.cols-cols.ensures.value) in
     let low = mul-add-lt p.row a.tiling.cols (p.col + 1) a.tiling.rows row col in
     let at : c.index_in.result ≡ p.row * a.tiling.cols + p.col =
-        c.index_in.ensures ∙ ap (λ n. p.row * n + p.col) c.cols-cols.ensures.value in
+    c.index_in.ensures ∙ ap (λ n. p.row * n + p.col) c.cols-cols.ensures.value in
     omega (arith, at, low, c.self.invariant.1.size, c.if-place-eq0.false)
