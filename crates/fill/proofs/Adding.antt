@@ -13,9 +13,7 @@ use Rattle.terrain.proofs.Options.{none_some}
 use Rattle.terrain.specs.Neighbours.{Touches}
 use Rattle.terrain.specs.declared.place.Place.{Place}
 use Rattle.terrain.proofs.Places.{same_place}
-use Rattle.tiles.specs.Cutting.{Cutting}
-use Rattle.cell_floods.specs.TileFlood.{Flood}
-use Rattle.fill.specs.Gathering.{mark_among, are_settled, Spared, IsSpared, Meets, IsMeetingAt, joins_of, Adds, AddsCovered, Covered, IsAfter}
+use Rattle.fill.specs.Gathering.{Marks, are_settled, Spared, IsSpared, Meets, IsMeetingAt, joins_of, Adds, AddsCovered, Covered, IsAfter}
 use Rattle.fill.specs.declared.spills.Join.{Join}
 use Rattle.fill.specs.declared.marks.Mark.{Mark}
 use Rattle.floods.proofs.Heaps.{cons_head, cons_cases, one_held}
@@ -99,9 +97,9 @@ adds_settled sources now from to differ settled = subst (λ (z : List Join). Add
 })
 
 -- so is what is spared
-spared_still : (c : Cutting) (floods : List Flood) (out : Spared) (p q : Place) (now new : List Join) → ((j : Join) → Contains now j → Covered new j) → (j : Join) → IsSpared c floods out p q ⊎ Covered now j → IsSpared c floods out p q ⊎ Covered new j
-spared_still c floods out p q now new kept j (inl spared) = inl spared
-spared_still c floods out p q now new kept j (inr covered) = inr (covered_still now new kept j covered)
+spared_still : (marks : Marks) (out : Spared) (p q : Place) (now new : List Join) → ((j : Join) → Contains now j → Covered new j) → (j : Join) → IsSpared marks out p q ⊎ Covered now j → IsSpared marks out p q ⊎ Covered new j
+spared_still marks out p q now new kept j (inl spared) = inl spared
+spared_still marks out p q now new kept j (inr covered) = inr (covered_still now new kept j covered)
 
 -- the way from a place to one that touches it
 abbrev pub way_to : Place → Place → ℕ
@@ -112,25 +110,25 @@ pub after_way : (p q : Place) → Touches p q → IsAfter p q → 4 < way_to p q
 after_way p q t (inl row) = omega (arith, row)
 after_way p q t (inr col) = omega (arith, col.0, col.1)
 
--- the joins that a cell asks for have been added before a way
-pub record HasAdded (c : Cutting) (floods : List Flood) (out : Spared) (p : Place) (way : ℕ) (old new : List Join) : Type 0 where
+-- of the joins that a cell asks for with those of such places, those before a way have been added
+pub record HasAdded (marks : Marks) (out : Spared) (p : Place) (On : Place → Type 0) (way : ℕ) (old new : List Join) : Type 0 where
   pub kept : (j : Join) → Contains old j → Covered new j
-  pub only : (j : Join) → Contains new j → Contains old j ⊎ IsMeetingAt c floods out (λ q. q ≡ p) j
-  pub every : (q : Place) (j : Join) → IsAfter p q → way_to p q < way → Meets c floods out p q j → IsSpared c floods out p q ⊎ Covered new j
+  pub only : (j : Join) → Contains new j → Contains old j ⊎ IsMeetingAt marks out (λ r q. (r ≡ p) × On q) j
+  pub every : (q : Place) (j : Join) → On q → IsAfter p q → way_to p q < way → Meets marks out p q j → IsSpared marks out p q ⊎ Covered new j
 
 -- no place adds nothing
-pub adds_none : (c : Cutting) (floods : List Flood) (out : Spared) (places : Place → Type 0) (old new : List Join) → new ≡ old → ((p : Place) → places p → ⊥) → Adds c floods out places old new
-adds_none c floods out places old new same none = subst (Adds c floods out places old) (sym same) (record {
+pub adds_none : (marks : Marks) (out : Spared) (pairs : Place → Place → Type 0) (old new : List Join) → new ≡ old → ((p q : Place) → pairs p q → ⊥) → Adds marks out pairs old new
+adds_none marks out pairs old new same none = subst (Adds marks out pairs old) (sym same) (record {
   kept = λ j h. covered_itself old j h;
   only = λ j h. inl h;
-  every = λ p q j at. absurd (none p at);
+  every = λ p q j at. absurd (none p q at);
 })
 
-pub none_added : (c : Cutting) (floods : List Flood) (out : Spared) (p : Place) (way : ℕ) (old : List Join) → ((q : Place) → Touches p q → IsAfter p q → way ≤ way_to p q) → HasAdded c floods out p way old old
-none_added c floods out p way old past = record {
+pub none_added : (marks : Marks) (out : Spared) (p : Place) (On : Place → Type 0) (way : ℕ) (old : List Join) → ((q : Place) → Touches p q → IsAfter p q → way ≤ way_to p q) → HasAdded marks out p On way old old
+none_added marks out p On way old past = record {
   kept = λ j h. covered_itself old j h;
   only = λ j h. inl h;
-  every = λ q j after low m. absurd (omega (arith, past q m.touches after, low));
+  every = λ q j on after low m. absurd (omega (arith, past q m.touches after, low));
 }
 
 -- the place on a way
@@ -140,8 +138,8 @@ way_place p q way t e =
     (omega (arith, both.0, t.row_up), omega (arith, both.1, t.col_left))
 
 -- the mark on the way was none, or its join was added
-pub added_more : (c : Cutting) (floods : List Flood) (out : Spared) (p near : Place) (way : ℕ) (from : Mark) (o : Option Mark) (old now new : List Join) → mark_among c floods p ≡ Some from → mark_among c floods near ≡ o → near.row + 1 ≡ p.row + way / 3 → near.col + 1 ≡ p.col + way % 3 → way < 9 → HasAdded c floods out p way old now → AddsCovered now (joins_of out.sources from o) new → HasAdded c floods out p (way + 1) old new
-added_more c floods out p near way from o old now new here there row col few s is = record {
+pub added_more : (marks : Marks) (out : Spared) (p near : Place) (On : Place → Type 0) (way : ℕ) (from : Mark) (o : Option Mark) (old now new : List Join) → marks p ≡ Some from → marks near ≡ o → near.row + 1 ≡ p.row + way / 3 → near.col + 1 ≡ p.col + way % 3 → way < 9 → On near → HasAdded marks out p On way old now → AddsCovered now (joins_of out.sources from o) new → HasAdded marks out p On (way + 1) old new
+added_more marks out p near On way from o old now new here there row col few on s is = record {
   kept = λ j h. covered_still now new is.kept j (s.kept j h);
   only = λ j h. elim (is.only j h) [
     | inl was ↦ s.only j was
@@ -150,8 +148,8 @@ added_more c floods out p near way from o old now new here there row col few s i
         inr (
           p,
           near,
-          refl,
-          subst (λ (z : Join). Meets c floods out p near z) m.4 (record {
+          (refl, on),
+          subst (λ (z : Join). Meets marks out p near z) m.4 (record {
             touches = touch;
             from_level = from.level;
             to_level = m.0.level;
@@ -163,13 +161,13 @@ added_more c floods out p near way from o old now new here there row col few s i
           }),
         )
   ];
-  every = λ q j after low m. elim (cases_eq (way_to p q) way) [
-    | inr other ↦ spared_still c floods out p q now new is.kept j (s.every q j after (omega (arith, low, other)) m)
+  every = λ q j held after low m. elim (cases_eq (way_to p q) way) [
+    | inr other ↦ spared_still marks out p q now new is.kept j (s.every q j held after (omega (arith, low, other)) m)
     | inl same ↦
         let at = way_place p q way m.touches same in
         let q_is : q ≡ near = same_place q near (omega (arith, at.0, row)) (omega (arith, at.1, col)) in
         let to : Mark = record { level = m.to_level; node = j.to } in
-        let mark_is : o ≡ Some to = sym there ∙ ap (mark_among c floods) (sym q_is) ∙ m.to_is in
+        let mark_is : o ≡ Some to = sym there ∙ ap marks (sym q_is) ∙ m.to_is in
         let from_same = same_Some from (record { level = m.from_level; node = j.from }) (sym here ∙ m.from_is) in
         let made : Contains (joins_of out.sources from o) j =
         subst (λ (f : Mark). Contains (joins_of out.sources f o) j) (sym from_same) (subst (λ (z : Option Mark). Contains (joins_of out.sources (record { level = m.from_level; node = j.from }) z) j) (sym mark_is)
@@ -188,62 +186,63 @@ added_more c floods out p near way from o old now new here there row col few s i
   touch = record { row_down = omega (arith, rows, row); row_up = omega (arith, row); col_right = omega (arith, cols, col); col_left = omega (arith, col) }
 
 -- no place on the way is asked for
-pub added_none : (c : Cutting) (floods : List Flood) (out : Spared) (p : Place) (way : ℕ) (old now : List Join) → HasAdded c floods out p way old now → ((q : Place) → Touches p q → (q.row + 1 ≡ p.row + way / 3) × (q.col + 1 ≡ p.col + way % 3) → IsAfter p q → ⊥) → HasAdded c floods out p (way + 1) old now
-added_none c floods out p way old now s nowhere = record {
+pub added_none : (marks : Marks) (out : Spared) (p : Place) (On : Place → Type 0) (way : ℕ) (old now : List Join) → HasAdded marks out p On way old now → ((q : Place) → Touches p q → (q.row + 1 ≡ p.row + way / 3) × (q.col + 1 ≡ p.col + way % 3) → On q → ⊥) → HasAdded marks out p On (way + 1) old now
+added_none marks out p On way old now s nowhere = record {
   kept = s.kept;
   only = s.only;
-  every = λ q j after low m. elim (cases_eq (way_to p q) way) [
-    | inr other ↦ s.every q j after (omega (arith, low, other)) m
-    | inl same ↦ absurd (nowhere q m.touches (way_place p q way m.touches same) after)
+  every = λ q j on after low m. elim (cases_eq (way_to p q) way) [
+    | inr other ↦ s.every q j on after (omega (arith, low, other)) m
+    | inl same ↦ absurd (nowhere q m.touches (way_place p q way m.touches same) on)
   ];
 }
 
 -- the join on the way is left out
-pub added_spared : (c : Cutting) (floods : List Flood) (out : Spared) (p near : Place) (way : ℕ) (old now new : List Join) → near.row + 1 ≡ p.row + way / 3 → near.col + 1 ≡ p.col + way % 3 → IsSpared c floods out p near → new ≡ now → HasAdded c floods out p way old now → HasAdded c floods out p (way + 1) old new
-added_spared c floods out p near way old now new row col spared same s = subst (HasAdded c floods out p (way + 1) old) (sym same) (record {
+pub added_spared : (marks : Marks) (out : Spared) (p near : Place) (On : Place → Type 0) (way : ℕ) (old now new : List Join) → near.row + 1 ≡ p.row + way / 3 → near.col + 1 ≡ p.col + way % 3 → IsSpared marks out p near → new ≡ now → HasAdded marks out p On way old now → HasAdded marks out p On (way + 1) old new
+added_spared marks out p near On way old now new row col spared same s = subst (HasAdded marks out p On (way + 1) old) (sym same) (record {
   kept = s.kept;
   only = s.only;
-  every = λ q j after low m. elim (cases_eq (way_to p q) way) [
-    | inr other ↦ s.every q j after (omega (arith, low, other)) m
+  every = λ q j on after low m. elim (cases_eq (way_to p q) way) [
+    | inr other ↦ s.every q j on after (omega (arith, low, other)) m
     | inl at ↦
         let is = way_place p q way m.touches at in
         let q_is : near ≡ q = same_place near q (omega (arith, is.0, row)) (omega (arith, is.1, col)) in
-        inl (subst (IsSpared c floods out p) q_is spared)
+        inl (subst (IsSpared marks out p) q_is spared)
   ];
 })
 
-pub all_added : (c : Cutting) (floods : List Flood) (out : Spared) (p : Place) (old new : List Join) → HasAdded c floods out p 9 old new → Adds c floods out (λ q. q ≡ p) old new
-all_added c floods out p old new s = record {
+pub all_added : (marks : Marks) (out : Spared) (p : Place) (On : Place → Type 0) (old new : List Join) → HasAdded marks out p On 9 old new → Adds marks out (λ r q. (r ≡ p) × On q) old new
+all_added marks out p On old new s = record {
   kept = s.kept;
   only = s.only;
-  every = λ x q j same after m.
-      let here = subst (λ (z : Place). Meets c floods out z q j) same m in
+  every = λ x q j at after m.
+      let here = subst (λ (z : Place). Meets marks out z q j) at.0 m in
       let t = here.touches in
-      subst (λ (z : Place). IsSpared c floods out z q ⊎ Covered new j) (sym same) (s.every q j (subst (λ (z : Place). IsAfter z q) same after) (omega (arith, t.row_down, t.col_right)) here);
+      subst (λ (z : Place). IsSpared marks out z q ⊎ Covered new j) (sym at.0) (s.every q j at.1 (subst (λ (z : Place). IsAfter z q) at.0 after) (omega (arith, t.row_down, t.col_right)) here);
 }
 
 -- a cell with no mark has no joins
-pub no_mark_adds : (c : Cutting) (floods : List Flood) (out : Spared) (p : Place) (old : List Join) → mark_among c floods p ≡ None → Adds c floods out (λ q. q ≡ p) old old
-no_mark_adds c floods out p old none = record {
+pub no_mark_adds : (marks : Marks) (out : Spared) (p : Place) (On : Place → Type 0) (old : List Join) → marks p ≡ None → Adds marks out (λ r q. (r ≡ p) × On q) old old
+no_mark_adds marks out p On old none = record {
   kept = λ j h. covered_itself old j h;
   only = λ j h. inl h;
-  every = λ x q j same after m. none_some _ (record { level = m.from_level; node = j.from }) (ap (mark_among c floods) same ∙ none) m.from_is;
+  every = λ x q j at after m. none_some _ (record { level = m.from_level; node = j.from }) (ap marks at.0 ∙ none) m.from_is;
 }
 
 -- one after another
-pub adds_then : (c : Cutting) (floods : List Flood) (out : Spared) (first later both : Place → Type 0) (old now new : List Join) → ((p : Place) → both p ↔ (first p ⊎ later p)) → Adds c floods out first old now → Adds c floods out later now new → Adds c floods out both old new
-adds_then c floods out first later both old now new split a b = record {
+pub adds_then : (marks : Marks) (out : Spared) (first later both : Place → Place → Type 0) (old now new : List Join) → ((p q : Place) → both p q ↔ (first p q ⊎ later p q)) → Adds marks out first old now → Adds marks out later now new → Adds marks out both old new
+adds_then marks out first later both old now new split a b = record {
   kept = λ j h. covered_still now new b.kept j (a.kept j h);
   only = λ j h. elim (b.only j h) [
-    | inr late ↦ inr (late.0, late.1, (split late.0).1 (inr late.2), late.3)
-    | inl was ↦ elim (a.only j was) [ inl old ↦ inl old | inr early ↦ inr (early.0, early.1, (split early.0).1 (inl early.2), early.3) ]
+    | inr late ↦ inr (late.0, late.1, (split late.0 late.1).1 (inr late.2), late.3)
+    | inl was ↦ elim (a.only j was) [ inl old ↦ inl old | inr early ↦ inr (early.0, early.1, (split early.0 early.1).1 (inl early.2), early.3) ]
   ];
-  every = λ p q j at after m. elim ((split p).0 at) [ inl early ↦ spared_still c floods out p q now new b.kept j (a.every p q j early after m) | inr late ↦ b.every p q j late after m ];
+  every = λ p q j at after m. elim ((split p q).0 at) [ inl early ↦ spared_still marks out p q now new b.kept j (a.every p q j early after m) | inr late ↦ b.every p q j late after m ];
 }
 
-pub adds_as : (c : Cutting) (floods : List Flood) (out : Spared) (first both : Place → Type 0) (old new : List Join) → ((p : Place) → both p ↔ first p) → Adds c floods out first old new → Adds c floods out both old new
-adds_as c floods out first both old new same a = record {
+-- and where the pairs are the same, as far as cells are marked and touch
+pub adds_as : (marks : Marks) (out : Spared) (first both : Place → Place → Type 0) (old new : List Join) → ((p q : Place) → first p q → both p q) → ((p q : Place) → Touches p q → IsAfter p q → (m : Mark) → marks p ≡ Some m → (n : Mark) → marks q ≡ Some n → both p q → first p q) → Adds marks out first old new → Adds marks out both old new
+adds_as marks out first both old new wider narrower a = record {
   kept = a.kept;
-  only = λ j h. elim (a.only j h) [ inl was ↦ inl was | inr made ↦ inr (made.0, made.1, (same made.0).1 made.2, made.3) ];
-  every = λ p q j at after m. a.every p q j ((same p).0 at) after m;
+  only = λ j h. elim (a.only j h) [ inl was ↦ inl was | inr made ↦ inr (made.0, made.1, wider made.0 made.1 made.2, made.3) ];
+  every = λ p q j at after m. a.every p q j (narrower p q m.touches after _ m.from_is _ m.to_is at) after m;
 }

@@ -1,9 +1,9 @@
 -- What the floods say of cells, and the joins of cells amid a tile.
 use Rattle.std.proofs.Common.{◌≡◌, ◌↔◌, ◌⊎◌, ℕ, ◌+◌, ◌-◌, ◌*◌, ◌<◌, ◌≤◌, inl, inr, ℤ, true, List, length, get_or, Option, None, Some, ◌∙◌, sym, ap, subst, refl, arith, ◌/◌, ◌%◌}
-use Rattle.std.specs.Prelude.{slice_get, option_and_then, MatchOption, IfSome}
+use Rattle.std.specs.Prelude.{slice_get, option_and_then, option_map, MatchOption, IfSome, ⊤}
 use Rattle.std.specs.List.{All}
 use Rattle.std.proofs.lemmas.Bool.{cond-true, cond-false, cases_Bool, cases_lt}
-use Rattle.std.proofs.lemmas.List.{length-map, get_or_default}
+use Rattle.std.proofs.lemmas.List.{length-map, get_or_default, get_or_past}
 use Rattle.std.proofs.lemmas.Option.{MatchOption-at_some, MatchOption-at_none, same_Some, slice_get_within}
 use Rattle.terrain.specs.declared.place.Place.{Place}
 use Rattle.terrain.proofs.Places.{same_place}
@@ -14,12 +14,12 @@ use Rattle.tiles.proofs.Cut.{in_tile, in_bounds_parts, in_bounds_from}
 use Rattle.cell_floods.specs.TileFlood.{Flood, IsFlood, label_in}
 use Rattle.cell_floods.specs.Labels.{labels_by, IsTable}
 use Rattle.fill.specs.Numbers.{AreFirsts, first_of}
-use Rattle.fill.specs.Gathering.{Fit, LabelsInside, IsInner, cells_after, AreEqualAfter, mark_of, mark_in, mark_among, Adds, mark_with, joins_of, Spared, AddsAfter, AddsCovered}
+use Rattle.fill.specs.Gathering.{Fit, LabelsInside, Marks, IsInner, cells_after, AreEqualAfter, mark_of, mark_in, mark_among, Adds, mark_with, joins_of, Spared, AddsAfter, AddsCovered}
 use Rattle.fill.specs.declared.spills.Join.{Join}
 use Rattle.fill.specs.declared.marks.Mark.{Mark}
 use Rattle.std.proofs.lemmas.Nat.{mul-le}
 use Rattle.terrain.proofs.Options.{cases_option, none_some}
-use Rattle.fill.proofs.Adding.{covered_itself, joins_of_is, HasAdded, after_way, none_added, added_more, all_added, no_mark_adds}
+use Rattle.fill.proofs.Adding.{covered_itself, joins_of_is, HasAdded, after_way, none_added, added_more, all_added, adds_as, no_mark_adds}
 use Rattle.tiles.proofs.TileOrder.{bounds_from_entry, entry_in-inside}
 
 -- each place of the table of a flood whose labels lie in the grid lies in it
@@ -129,23 +129,34 @@ entry_mark c floods tile f q i h below e bounds inside at =
     ∙ cond-true _ _ _ (in_bounds_from f.bounds q here)
     ∙ ap (λ n. mark_with (first_of floods tile) f n) index
 
+-- an entry of a flood is what it says of its cell
+pub entry_in_mark : (f : Flood) (q : Place) (i : ℕ) → IsInBounds f.bounds q → i ≡ index_in f.bounds q → mark_in 0 f q ≡ mark_with 0 f i
+entry_in_mark f q i inside at = cond-true _ _ _ (in_bounds_from f.bounds q inside) ∙ ap (mark_with 0 f) (sym at)
+
+-- what it says of is in its bounds
+pub mark_inside : (f : Flood) (p : Place) (m : Mark) → mark_in 0 f p ≡ Some m → IsInBounds f.bounds p
+mark_inside f p m is = elim (cases_Bool (is_in_bounds f.bounds p)) [
+  | inl inside ↦ in_bounds_parts f.bounds p inside
+  | inr out ↦ none_some (mark_in 0 f p) m (cond-false _ _ _ out) is
+]
+
 -- a cell with the same label gives no join
-pub same_label_adds : (first : ℕ) (f : Flood) (sources : List (Option ℤ)) (i j : ℕ) (from : Mark) (now : List Join) → mark_with first f i ≡ Some from → get_or f.table.indexes i 0 ≡ get_or f.table.indexes j 0 → AddsCovered now (joins_of sources from (mark_with first f j)) now
-same_label_adds first f sources i j from now is same = record {
+pub same_label_adds : (f : Flood) (sources : List (Option ℤ)) (i j : ℕ) (from : Mark) (now : List Join) → mark_with 0 f i ≡ Some from → get_or f.table.indexes i 0 ≡ get_or f.table.indexes j 0 → AddsCovered now (joins_of sources from (mark_with 0 f j)) now
+same_label_adds f sources i j from now is same = record {
   kept = λ x h. covered_itself now x h;
   only = λ x h. inl h;
   every = λ x h.
-      let m = joins_of_is sources from (mark_with first f j) x h in
+      let m = joins_of_is sources from (mark_with 0 f j) x h in
       let a = mark_parts _ _ _ from is in
       let b = mark_parts _ _ _ m.0 m.1 in
-      absurd (m.2 (sym a.3 ∙ ap (λ n. first + n) same ∙ b.3));
+      absurd (m.2 (sym a.3 ∙ ap (λ n. 0 + n) same ∙ b.3));
 }
 
 -- a cell whose entry is equal to the four after it gives no joins with them
-pub equal_after_adds : (first : ℕ) (f : Flood) (sources : List (Option ℤ)) (i width : ℕ) (now : List Join) → AreEqualAfter f.table.indexes i width → MatchOption (mark_with first f i) (now ≡ now) (λ from. AddsAfter first f sources from i width now now)
-equal_after_adds first f sources i width now e = elim (cases_option (mark_with first f i)) [
-  | inl none ↦ subst (λ (o : Option Mark). MatchOption o (now ≡ now) (λ from. AddsAfter first f sources from i width now now)) (sym none) refl
-  | inr found ↦ subst (λ (o : Option Mark). MatchOption o (now ≡ now) (λ from. AddsAfter first f sources from i width now now)) (sym found.1) (record {
+pub equal_after_adds : (f : Flood) (sources : List (Option ℤ)) (i width : ℕ) (now : List Join) → AreEqualAfter f.table.indexes i width → MatchOption (mark_with 0 f i) (now ≡ now) (λ from. AddsAfter f sources from i width now now)
+equal_after_adds f sources i width now e = elim (cases_option (mark_with 0 f i)) [
+  | inl none ↦ subst (λ (o : Option Mark). MatchOption o (now ≡ now) (λ from. AddsAfter f sources from i width now now)) (sym none) refl
+  | inr found ↦ subst (λ (o : Option Mark). MatchOption o (now ≡ now) (λ from. AddsAfter f sources from i width now now)) (sym found.1) (record {
     after_first = now;
     after_second = now;
     after_third = now;
@@ -155,20 +166,27 @@ equal_after_adds first f sources i width now e = elim (cases_option (mark_with f
     south_east = near found.0 found.1 3 (omega arith);
   })
 ] where
-  near : (from : Mark) → mark_with first f i ≡ Some from → (way : ℕ) → way < 4 → AddsCovered now (joins_of sources from (mark_with first f (get_or (cells_after width i) way 0))) now
-  near from is way few = same_label_adds first f sources i (get_or (cells_after width i) way 0) from now is (sym (e way 0 few))
+  near : (from : Mark) → mark_with 0 f i ≡ Some from → (way : ℕ) → way < 4 → AddsCovered now (joins_of sources from (mark_with 0 f (get_or (cells_after width i) way 0))) now
+  near from is way few = same_label_adds f sources i (get_or (cells_after width i) way 0) from now is (sym (e way 0 few))
 
--- the joins of a cell that is not on the rim with the four after it have been added
-pub inner_adds : (c : Cutting) (floods : List Flood) (out : Spared) (tile : ℕ) (f : Flood) (p : Place) (i : ℕ) (from : Mark) (old new : List Join) → IsCutting c → tile < tile_count c → slice_get floods tile ≡ Some f → f.bounds ≡ bounds_of c tile → IsInner (bounds_of c tile) p → i ≡ index_in (bounds_of c tile) p → mark_with (first_of floods tile) f i ≡ Some from → AddsAfter (first_of floods tile) f out.sources from i (bounds_of c tile).cols old new → Adds c floods out (λ q. q ≡ p) old new
-inner_adds c floods out tile f p i from old new h below e bounds inner at is s =
-    all_added c floods out p old new
-    (step 8 south east _ _ _ (omega (arith, inner)) (omega (arith, inner)) (omega arith) (omega (arith, inner)) (omega (arith, inner)) (omega (arith, at, inner, down))
-    (step 7 south p.col _ _ _ (omega (arith, inner)) (omega (arith, inner)) (omega arith) (omega (arith, inner)) (omega (arith, inner)) (omega (arith, at, inner, down))
-    (step 6 south west _ _ _ (omega (arith, inner)) (omega (arith, inner)) (omega arith) (omega (arith, inner)) (omega (arith, inner)) (omega (arith, at, inner, down))
-    (step 5 p.row east _ _ _ (omega (arith, inner)) (omega (arith, inner)) (omega arith) (omega (arith, inner)) (omega (arith, inner)) (omega (arith, at, inner))
-    (none_added c floods out p 5 old (λ q t after. after_way p q t after)) s.east) s.south_west) s.south) s.south_east) where
+-- Each place will do.
+abbrev pub Anywhere : Place → Type 0
+Anywhere q = ⊤
+
+pub adds_anywhere : (marks : Marks) (out : Spared) (p : Place) (old new : List Join) → Adds marks out (λ r q. (r ≡ p) × Anywhere q) old new → Adds marks out (λ r q. r ≡ p) old new
+adds_anywhere marks out p old new s = adds_as marks out (λ r q. (r ≡ p) × Anywhere q) (λ r q. r ≡ p) old new (λ r q at. at.0) (λ r q touch after m m_is n n_is at. (at, tt)) s
+
+-- the joins of a cell with the four around it that come after it have been added
+pub inner_adds : (f : Flood) (out : Spared) (p : Place) (i : ℕ) (from : Mark) (old new : List Join) → IsInner f.bounds p → i ≡ index_in f.bounds p → mark_with 0 f i ≡ Some from → AddsAfter f out.sources from i f.bounds.cols old new → Adds (mark_in 0 f) out (λ r q. r ≡ p) old new
+inner_adds f out p i from old new inner at is s =
+    adds_anywhere (mark_in 0 f) out p old new (all_added (mark_in 0 f) out p Anywhere old new
+    (step 8 south east _ _ _ (omega (arith, inner)) (omega (arith, inner)) (omega arith) (omega (arith, inner), omega (arith, inner)) (omega (arith, inner), omega (arith, inner)) (omega (arith, at, inner, down))
+    (step 7 south p.col _ _ _ (omega (arith, inner)) (omega (arith, inner)) (omega arith) (omega (arith, inner), omega (arith, inner)) (omega (arith, inner), omega (arith, inner)) (omega (arith, at, inner, down))
+    (step 6 south west _ _ _ (omega (arith, inner)) (omega (arith, inner)) (omega arith) (omega (arith, inner), omega (arith, inner)) (omega (arith, inner), omega (arith, inner)) (omega (arith, at, inner, down))
+    (step 5 p.row east _ _ _ (omega (arith, inner)) (omega (arith, inner)) (omega arith) (omega (arith, inner), omega (arith, inner)) (omega (arith, inner), omega (arith, inner)) (omega (arith, at, inner))
+    (none_added (mark_in 0 f) out p Anywhere 5 old (λ q t after. after_way p q t after)) s.east) s.south_west) s.south) s.south_east)) where
       b : Bounds
-      b = bounds_of c tile
+      b = f.bounds
 
       south : ℕ
       south = p.row + 1
@@ -182,33 +200,31 @@ inner_adds c floods out tile f p i from old new h below e bounds inner at is s =
       down : (p.row + 1 - b.top) * b.cols ≡ (p.row - b.top) * b.cols + b.cols
       down = let more : p.row + 1 - b.top ≡ p.row - b.top + 1 = omega (arith, inner) in omega (arith, ap (λ n. n * b.cols) more)
 
-      step : (way row col j : ℕ) (now next : List Join) → row + 1 ≡ p.row + way / 3 → col + 1 ≡ p.col + way % 3 → way < 9 → (b.top ≤ row) × (row < b.top + b.rows) → (b.left ≤ col) × (col < b.left + b.cols) → j ≡ (row - b.top) * b.cols + (col - b.left) → HasAdded c floods out p way old now → AddsCovered now (joins_of out.sources from (mark_with (first_of floods tile) f j)) next → HasAdded c floods out p (way + 1) old next
-      step way row col j now next same_row same_col few rows cols index s a =
+      step : (way row col j : ℕ) (now next : List Join) → row + 1 ≡ p.row + way / 3 → col + 1 ≡ p.col + way % 3 → way < 9 → (b.top ≤ row) × (row < b.top + b.rows) → (b.left ≤ col) × (col < b.left + b.cols) → j ≡ (row - b.top) * b.cols + (col - b.left) → HasAdded (mark_in 0 f) out p Anywhere way old now → AddsCovered now (joins_of out.sources from (mark_with 0 f j)) next → HasAdded (mark_in 0 f) out p Anywhere (way + 1) old next
+      step way row col j now next same_row same_col few rows cols index a s =
           let near : Place = record { row = row; col = col } in
-          added_more c floods out p near way from (mark_with (first_of floods tile) f j) old now next
-          (entry_mark c floods tile f p i h below e bounds (omega (arith, inner), omega (arith, inner), omega (arith, inner), omega (arith, inner)) at ∙ is)
-          (entry_mark c floods tile f near j h below e bounds (rows.0, rows.1, cols.0, cols.1) index)
-          same_row same_col few s a
+          added_more (mark_in 0 f) out p near Anywhere way from (mark_with 0 f j) old now next
+          (entry_in_mark f p i (omega (arith, inner), omega (arith, inner), omega (arith, inner), omega (arith, inner)) at ∙ is)
+          (entry_in_mark f near j (rows.0, rows.1, cols.0, cols.1) index)
+          same_row same_col few tt a s
 
--- a cell that is not on the rim has its joins added, where it has a mark
-pub inner_cell_adds : (c : Cutting) (floods : List Flood) (out : Spared) (tile : ℕ) (f : Flood) (p : Place) (i : ℕ) (old new : List Join) → IsCutting c → tile < tile_count c → slice_get floods tile ≡ Some f → f.bounds ≡ bounds_of c tile → IsInner (bounds_of c tile) p → i ≡ index_in (bounds_of c tile) p → MatchOption (mark_with (first_of floods tile) f i) (new ≡ old) (λ from. AddsAfter (first_of floods tile) f out.sources from i f.bounds.cols old new) → Adds c floods out (λ q. q ≡ p) old new
-inner_cell_adds c floods out tile f p i old new h below e bounds inner at s = elim (cases_option (mark_with (first_of floods tile) f i)) [
+-- such a cell has its joins added, where it has a mark
+pub inner_cell_adds : (f : Flood) (out : Spared) (p : Place) (i : ℕ) (old new : List Join) → IsInner f.bounds p → i ≡ index_in f.bounds p → MatchOption (mark_with 0 f i) (new ≡ old) (λ from. AddsAfter f out.sources from i f.bounds.cols old new) → Adds (mark_in 0 f) out (λ r q. r ≡ p) old new
+inner_cell_adds f out p i old new inner at s = elim (cases_option (mark_with 0 f i)) [
   | inl none ↦
       let same = MatchOption-at_none _ _ none s in
-      let inside : IsInBounds (bounds_of c tile) p = (omega (arith, inner), omega (arith, inner), omega (arith, inner), omega (arith, inner)) in
-      subst (λ (z : List Join). Adds c floods out (λ q. q ≡ p) old z) (sym same) (no_mark_adds c floods out p old (entry_mark c floods tile f p i h below e bounds inside at ∙ none))
-  | inr found ↦
-      inner_adds c floods out tile f p i found.0 old new h below e bounds inner at found.1
-      (subst (λ (b : Bounds). AddsAfter (first_of floods tile) f out.sources found.0 i b.cols old new) bounds (MatchOption-at_some _ _ found.0 found.1 s))
+      let inside : IsInBounds f.bounds p = (omega (arith, inner), omega (arith, inner), omega (arith, inner), omega (arith, inner)) in
+      subst (λ (z : List Join). Adds (mark_in 0 f) out (λ r q. r ≡ p) old z) (sym same) (adds_anywhere (mark_in 0 f) out p old old (no_mark_adds (mark_in 0 f) out p Anywhere old (entry_in_mark f p i inside at ∙ none)))
+  | inr found ↦ inner_adds f out p i found.0 old new inner at found.1 (MatchOption-at_some _ _ found.0 found.1 s)
 ]
 
 -- the cells of an inner row have a row of the tile after them
-pub inner_row_index : (b : Bounds) (row index : ℕ) → b.top < row → row + 1 < b.top + b.rows → index + 1 < (row - b.top) * b.cols + b.cols → index + b.cols + 1 < b.rows * b.cols
+pub inner_row_index : (b : Bounds) (row index : ℕ) → b.top ≤ row → row + 1 < b.top + b.rows → index + 1 < (row - b.top) * b.cols + b.cols → index + b.cols + 1 < b.rows * b.cols
 inner_row_index b row index above below last =
     omega (arith, last, mul-le (row - b.top + 2) b.cols b.rows b.cols (omega (arith, above, below)) (omega arith))
 
 -- the inner cells of a row up to one, and it
-pub inner_so_far : (b : Bounds) (row start index : ℕ) → b.top < row → row + 1 < b.top + b.rows → start < index → index + 1 < start + b.cols → (p : Place) →
+pub inner_so_far : (b : Bounds) (row start index : ℕ) → b.top ≤ row → row + 1 < b.top + b.rows → start < index → index + 1 < start + b.cols → (p : Place) →
     (IsInner b p × (p.row ≡ row) × (p.col + start < b.left + (index + 1))) ↔ ((IsInner b p × (p.row ≡ row) × (p.col + start < b.left + index)) ⊎ (p ≡ record { row = row; col = b.left + (index - start) }))
 inner_so_far b row start index above below first last p = (
   λ at. elim (cases_lt (p.col + start) (b.left + index)) [
@@ -222,3 +238,56 @@ inner_so_far b row start index above below first last p = (
         ((omega (arith, above), omega (arith, below), omega (arith, first), omega (arith, first, last)), refl, omega (arith, first))
   ],
 )
+
+-- the places of a row up to a column, and the one there
+pub row_so_far : (Inside : Place → Type 0) (row col : ℕ) → Inside (record { row = row; col = col }) → (p : Place) →
+    (Inside p × (p.row ≡ row) × (p.col < col + 1)) ↔ ((Inside p × (p.row ≡ row) × (p.col < col)) ⊎ (p ≡ record { row = row; col = col }))
+row_so_far Inside row col inside p = (
+  λ at. elim (cases_lt p.col col) [
+    | inl early ↦ inl (at.0, at.1, early)
+    | inr late ↦ inr (same_place p (record { row = row; col = col }) at.1 (omega (arith, at.2, late)))
+  ],
+  λ at. elim at [
+    | inl early ↦ (early.0, early.1, omega (arith, early.2))
+    | inr same ↦ subst (λ (q : Place). Inside q × (q.row ≡ row) × (q.col < col + 1)) (sym same) (inside, refl, omega arith)
+  ],
+)
+
+-- an entry with something stands in its list
+pub some_below : {X : Type 0} (xs : List (Option X)) (i : ℕ) (x : X) → get_or xs i None ≡ Some x → i < length xs
+some_below xs i x e = elim (cases_lt i (length xs)) [ inl low ↦ low | inr past ↦ none_some (get_or xs i None) x (get_or_past xs i None past) e ]
+
+-- The mark whose label is counted from this number.
+abbrev pub shift : ℕ → Mark → Mark
+shift first m = record { level = m.level; node = first + m.node }
+
+shift_with : (first : ℕ) (f : Flood) (i : ℕ) → mark_with first f i ≡ option_map (shift first) (mark_with 0 f i)
+shift_with first f i = at (get_or f.levels i None) (get_or f.labels i None) where
+  at : (level : Option ℤ) (label : Option Place) → mark_of (first + get_or f.table.indexes i 0) level label ≡ option_map (shift first) (mark_of (0 + get_or f.table.indexes i 0) level label)
+  at None label = refl
+  at (Some level) None = refl
+  at (Some level) (Some label) = ap (λ n. Some (record { level = level; node = n })) (omega arith)
+
+in_shift : (first : ℕ) (f : Flood) (p : Place) → mark_in first f p ≡ option_map (shift first) (mark_in 0 f p)
+in_shift first f p = elim (cases_Bool (is_in_bounds f.bounds p)) [
+  | inl inside ↦ cond-true _ _ _ inside ∙ shift_with first f (index_in f.bounds p) ∙ ap (option_map (shift first)) (sym (cond-true _ _ _ inside))
+  | inr out ↦ cond-false _ _ _ out ∙ ap (option_map (shift first)) (sym (cond-false _ _ _ out))
+]
+
+pub shift_back : (first : ℕ) (o : Option Mark) (m : Mark) → option_map (shift first) o ≡ Some m → (n : Mark) × (o ≡ Some n) × (shift first n ≡ m)
+shift_back first None m e = absurd (cc)
+shift_back first (Some n) m e = (n, refl, same_Some _ m e)
+
+-- so is what all floods say of a place of a tile
+pub among_shift : (c : Cutting) (floods : List Flood) (tile : ℕ) (f : Flood) (p : Place) → slice_get floods tile ≡ Some f → tile_of_place c p ≡ tile → mark_among c floods p ≡ option_map (shift (first_of floods tile)) (mark_in 0 f p)
+among_shift c floods tile f p there here = sym (mark_from_tile c floods tile f p there here) ∙ in_shift (first_of floods tile) f p
+
+-- the label of a mark is an index into the table
+pub index_inside : (f : Flood) (p : Place) (m : Mark) → IsFlood f → mark_in 0 f p ≡ Some m → m.node < length f.table.places
+index_inside f p m lawful is =
+    let inside = mark_inside f p m is in
+    let i = index_in f.bounds p in
+    let parts = mark_parts _ _ _ m (sym (cond-true _ _ _ (in_bounds_from f.bounds p inside)) ∙ is) in
+    let at : get_or (labels_by f.table.places f.table.indexes) i None ≡ Some parts.0 = ap (λ (z : List (Option Place)). get_or z i None) (sym lawful.labels) ∙ parts.2 in
+    let low : i < length f.table.indexes = omega (arith, some_below (labels_by f.table.places f.table.indexes) i parts.0 at, length-map f.table.indexes (λ n. get_or f.table.places n None)) in
+    omega (arith, parts.3, lawful.table.inside i 0 low)

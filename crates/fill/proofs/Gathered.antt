@@ -59,7 +59,7 @@ one_join joins rise j k a b e f = elim (cases_order a.0 b.0) [
   apart x y u v p q g h (inl a) = let s = ap (λ (z : Join). z.from) p in let t = ap (λ (z : Join). z.from) q in omega (arith, a, g, s, t)
   apart x y u v p q g h (inr a) = let s = ap (λ (z : Join). z.to) p in let t = ap (λ (z : Join). z.to) q in omega (arith, a.1, h, s, t)
 
-meets_turned : (c : Cutting) (floods : List Flood) (out : Spared) (p q : Place) (j : Join) → Meets c floods out p q j → Meets c floods out q p (turned j)
+meets_turned : (c : Cutting) (floods : List Flood) (out : Spared) (p q : Place) (j : Join) → Meets (mark_among c floods) out p q j → Meets (mark_among c floods) out q p (turned j)
 meets_turned c floods out p q j m = record {
   touches = record { row_down = m.touches.row_up; row_up = m.touches.row_down; col_right = m.touches.col_left; col_left = m.touches.col_right };
   from_level = m.to_level;
@@ -81,7 +81,7 @@ after_cases p q differ = elim (cases_order p.row q.row) [
   ]
 ]
 
-meets_differ : (c : Cutting) (floods : List Flood) (out : Spared) (p q : Place) (j : Join) → Meets c floods out p q j → p ≢ q
+meets_differ : (c : Cutting) (floods : List Flood) (out : Spared) (p q : Place) (j : Join) → Meets (mark_among c floods) out p q j → p ≢ q
 meets_differ c floods out p q j m e =
     let same = same_Some (record { level = m.from_level; node = j.from }) (record { level = m.to_level; node = j.to }) (sym m.from_is ∙ ap (mark_among c floods) e ∙ m.to_is) in
     m.different (ap (λ (z : Mark). z.node) same)
@@ -117,7 +117,7 @@ module _ (t : Terrain) (c : Cutting) (floods : List Flood) (are : AreFloods t c 
   mark_data p m x e = level_has_data t c floods are.lawful are p m.level (marked_within c floods p m are.lawful fit e) x.level_is
 
   -- a meeting is a pass of numbers
-  meets_number : (out : Spared) (p q : Place) (j : Join) → Meets c floods out p q j → IsNumberPass t c floods j.from j.to j.height
+  meets_number : (out : Spared) (p q : Place) (j : Join) → Meets (mark_among c floods) out p q j → IsNumberPass t c floods j.from j.to j.height
   meets_number out p q j m =
       let x = numbered c floods p _ lawful m.from_is in
       let y = numbered c floods q _ lawful m.to_is in
@@ -133,7 +133,7 @@ module _ (t : Terrain) (c : Cutting) (floods : List Flood) (are : AreFloods t c 
       }
 
   -- and back, where the labels are not settled
-  number_meets : (out : Spared) (a b : ℕ) (h : ℤ) → a ≢ b → are_settled out.sources a b ≡ false → (x : IsNumberPass t c floods a b h) → Meets c floods out x.from x.to (record { from = a; to = b; height = h })
+  number_meets : (out : Spared) (a b : ℕ) (h : ℤ) → a ≢ b → are_settled out.sources a b ≡ false → (x : IsNumberPass t c floods a b h) → Meets (mark_among c floods) out x.from x.to (record { from = a; to = b; height = h })
   number_meets out a b h differ apart x = record {
     touches = x.neighbours.touches;
     from_level = x.from_level;
@@ -146,7 +146,7 @@ module _ (t : Terrain) (c : Cutting) (floods : List Flood) (are : AreFloods t c 
   }
 
   -- labels that meet are joined as low, in this or the other order
-  number_cover : (out : Spared) (joins : List Join) → AreGathered c floods out joins → (a b : ℕ) (h : ℤ) → a ≢ b → are_settled out.sources a b ≡ false → (x : IsNumberPass t c floods a b h) → ((out.bypassed ≡ true) × (IsBypassed c floods x.from x.to ⊎ IsBypassed c floods x.to x.from)) ⊎ ((low : ℤ) × IsJoinOf joins a b low × (low ≤ℤ h))
+  number_cover : (out : Spared) (joins : List Join) → AreGathered c floods out joins → (a b : ℕ) (h : ℤ) → a ≢ b → are_settled out.sources a b ≡ false → (x : IsNumberPass t c floods a b h) → ((out.bypassed ≡ true) × (IsBypassed (mark_among c floods) x.from x.to ⊎ IsBypassed (mark_among c floods) x.to x.from)) ⊎ ((low : ℤ) × IsJoinOf joins a b low × (low ≤ℤ h))
   number_cover out joins s a b h differ apart x =
       let m = number_meets out a b h differ apart x in
       elim (after_cases x.from x.to x.neighbours.different) [

@@ -1,91 +1,16 @@
--- The parts of the tiles, and the joins of all of them.
-use Rattle.std.proofs.Common.{◌≡◌, ℕ, ◌+◌, ◌<◌, inl, inr, List, [], ◌∷◌, ◌++◌, length, get_or, sym, ap, subst, ◌∙◌, arith, ◌≢◌, ◌-◌, ◌≤◌, map, take, drop, refl, length-drop}
-use Rattle.std.specs.List.{All, Contains, flat_map}
-use Rattle.std.proofs.lemmas.Grind.{flat_map-append}
+-- Joins that rise by their labels, as a net.
+use Rattle.std.proofs.Common.{◌≡◌, ℕ, ◌+◌, ◌<◌, inl, inr, List, length, get_or, sym, ap, subst, ◌∙◌, arith, ◌≢◌, ◌-◌, ◌≤◌, map, take, drop, length-drop}
+use Rattle.std.specs.List.{Contains}
 use Rattle.std.proofs.lemmas.Bool.{cases_eq, cases_lt}
-use Rattle.std.proofs.lemmas.Option.{slice_get_cases}
-use Rattle.std.proofs.lemmas.List.{append-nil, map-append, take_more, get_or_append_left, get_or_push, length_push, get_or-map, get_or_past, length-map, get_or-drop, get_or-take, length-take-le, get_or_default}
-use Rattle.tiles.specs.Cutting.{Cutting, IsCutting, tile_of_place}
-use Rattle.tiles.proofs.Cut.{tile_of_place_below}
-use Rattle.cell_floods.specs.TileFlood.{Flood}
-use Rattle.fill.specs.Parts.{IsPart, AreParts, joins_by_part, all_joins, IsGraph}
+use Rattle.std.proofs.lemmas.List.{get_or-map, length-map, get_or-drop, get_or-take, length-take-le, get_or_default}
+use Rattle.fill.specs.Parts.{IsGraph}
 use Rattle.fill.specs.declared.spills.Join.{Join}
-use Rattle.fill.proofs.Adding.{no_join}
-use Rattle.fill.specs.declared.parts.Part.{Part}
 use Rattle.std.proofs.lemmas.List.Elements.{All-contains, Contains-get_or}
 use Rattle.floods.specs.declared.net.Spill.{Spill}
 use Rattle.floods.specs.Walk.{HasJust}
 use Rattle.fill.specs.Spills.{Graph, HasJoin}
-use Rattle.fill.specs.Gathering.{AreGathered, AreRising, IsBefore, Spared, way_of}
-use Rattle.floods.proofs.WaitLists.{in_some_list, in_lists}
+use Rattle.fill.specs.Gathering.{AreRising, IsBefore, way_of}
 use Rattle.floods.proofs.Heaps.{all_by_contains}
-
--- What the first tiles gave, in tile order.
-pub record AreFirst {X : Type 0} (has : ℕ → X → Type 0) (count : ℕ) (given : List X) : Type 0 where
-  pub size : length given ≡ count
-  pub each : (tile : ℕ) (d : X) → tile < count → has tile (get_or given tile d)
-
-pub first_more : {X : Type 0} (has : ℕ → X → Type 0) (tile : ℕ) (x : X) (old new : List X) → AreFirst has tile old → has tile x → new ≡ old ++ x ∷ [] → AreFirst has (tile + 1) new
-first_more has tile x old new s here is = subst (AreFirst has (tile + 1)) (sym is) (record {
-  size = length_push old x ∙ ap (λ n. n + 1) s.size;
-  each = λ i d low. elim (cases_eq i tile) [
-    | inr other ↦ subst (has i) (sym (get_or_append_left old (x ∷ []) d i (omega (arith, low, other, s.size)))) (s.each i d (omega (arith, low, other)))
-    | inl same ↦ subst (λ n. has n (get_or (old ++ x ∷ []) n d)) (sym same) (subst (has tile) (sym (get_or_push old x d tile s.size)) here)
-  ];
-})
-
-pub part_at : (c : Cutting) (floods : List Flood) (out : Spared) (parts : List Part) (i : ℕ) (part : Part) → AreParts c floods out parts → i < length parts → part ≡ get_or parts i part → IsPart c floods out i part
-part_at c floods out parts i part are low is = subst (IsPart c floods out i) (sym is) (are.each i part (omega (arith, low, are.count)))
-
--- the joins of one of the parts
-pub joins_at : (parts : List Part) (i : ℕ) (x : Part) → i < length parts → x ≡ get_or parts i x → get_or (joins_by_part parts) i [] ≡ x.joins.items
-joins_at parts i x below is = get_or-map (λ (part : Part). part.joins.items) parts i x [] below ∙ ap (λ (part : Part). part.joins.items) (sym is)
-
--- a tile's part
-pub part_there : (c : Cutting) (floods : List Flood) (out : Spared) (parts : List Part) (i : ℕ) → AreParts c floods out parts → i < length parts → (x : Part) × IsPart c floods out i x × (get_or (joins_by_part parts) i [] ≡ x.joins.items)
-part_there c floods out parts i are below = elim (slice_get_cases parts i).1 [
-  | inl found ↦ (found.0, part_at c floods out parts i found.0 are below (sym found.3), joins_at parts i found.0 below (sym found.3))
-  | inr past ↦ absurd (omega (arith, below, past.0))
-]
-
--- the part that has a join
-pub part_with : (c : Cutting) (floods : List Flood) (out : Spared) (parts : List Part) (i : ℕ) (j : Join) → AreParts c floods out parts → Contains (get_or (joins_by_part parts) i []) j → (x : Part) × IsPart c floods out i x × (get_or (joins_by_part parts) i [] ≡ x.joins.items)
-part_with c floods out parts i j are h = elim (cases_lt i (length parts)) [
-  | inl below ↦ part_there c floods out parts i are below
-  | inr past ↦ absurd (no_join j (subst (λ (z : List Join). Contains z j) (get_or_past (joins_by_part parts) i [] (omega (arith, past, length-map parts (λ (part : Part). part.joins.items)))) h))
-]
-
--- the joins of one more part
-pub joins_more : (parts : List Part) (i : ℕ) (x : Part) → i < length parts → x ≡ get_or parts i x → all_joins (take (i + 1) parts) ≡ all_joins (take i parts) ++ x.joins.items
-joins_more parts i x below is =
-    ap (λ (z : List Part). all_joins z) (take_more parts i x below)
-    ∙ ap (flat_map (λ (joins : List Join). joins)) (map-append (λ (part : Part). part.joins.items) (take i parts) (get_or parts i x ∷ []))
-    ∙ flat_map-append (λ (joins : List Join). joins) (joins_by_part (take i parts)) ((get_or parts i x).joins.items ∷ [])
-    ∙ ap (λ z. all_joins (take i parts) ++ z) (append-nil (get_or parts i x).joins.items ∙ ap (λ (part : Part). part.joins.items) (sym is))
-
-pub part_below : (parts : List Part) (i count : ℕ) (x : Part) → All (λ j. (j.from < count) × (j.to < count)) (all_joins parts) → i < length parts → x ≡ get_or parts i x → All (λ (j : Join). (j.from < count) × (j.to < count)) x.joins.items
-part_below parts i count x all below is = all_by_contains (λ (j : Join). (j.from < count) × (j.to < count)) x.joins.items (λ j held.
-    All-contains (λ (j : Join). (j.from < count) × (j.to < count)) (all_joins parts) j all
-    (in_lists (joins_by_part parts) i j (subst (λ (z : List Join). Contains z j) (sym (joins_at parts i x below is)) held)))
-
--- the joins of all parts
-pub parts_gathered : (c : Cutting) (floods : List Flood) (out : Spared) (parts : List Part) → IsCutting c → AreParts c floods out parts → AreGathered c floods out (all_joins parts)
-parts_gathered c floods out parts h are = record {
-  only = λ j there.
-      let at = in_some_list (joins_by_part parts) j there in
-      let x = part_with c floods out parts at.0 j are at.1 in
-      elim (x.1.only j (subst (λ (z : List Join). Contains z j) x.2 at.1)) [
-        | inl none ↦ absurd (no_join j none)
-        | inr m ↦ (m.0, m.1, m.2.0, m.3)
-      ];
-  every = λ p q j within after m.
-      let tile = tile_of_place c p in
-      let x = part_there c floods out parts tile are (omega (arith, are.count, tile_of_place_below c p h within)) in
-      elim (x.1.every p q j (within, refl) after m) [
-        | inl spared ↦ inl spared
-        | inr made ↦ inr (made.0, in_lists (joins_by_part parts) tile made.0 (subst (λ (z : List Join). Contains z made.0) (sym x.2) made.1), made.2, made.3, made.4)
-      ];
-}
 
 -- the first labels of joins that rise
 up : (joins : List Join) → AreRising joins → (m n : ℕ) (d : Join) → m ≤ n → n < length joins → (get_or joins m d).from ≤ (get_or joins n d).from

@@ -6,6 +6,8 @@ mod Rims
 mod Adding
 mod Firsts
 mod Numbered
+mod Shifting
+mod InnerLists
 mod Chains
 mod LabelGraphs
 mod GraphParts

@@ -2,14 +2,14 @@
 use Rattle.std.proofs.Common.{◌≡◌, ℕ, zero, suc, ◌+◌, ◌*◌, ◌<◌, ◌≤◌, ◌≤ℤ◌, ◌⊎◌, inl, inr, ℤ, List, [], ◌∷◌, length, get_or, take, Option, None, Some, ◌∙◌, sym, ap, subst, refl, arith}
 use Rattle.std.specs.Prelude.{slice_get, option_map}
 use Rattle.std.specs.List.{flat_map}
-use Rattle.std.proofs.lemmas.Bool.{cases_lt, cond-true}
+use Rattle.std.proofs.lemmas.Bool.{cond-true}
 use Rattle.std.proofs.lemmas.Option.{MatchOption-at_some, MatchOption-at_none, same_Some, slice_get_within, get_or_from_slice_get}
 use Rattle.std.proofs.lemmas.List.Concat.{get_or-flat_map}
-use Rattle.std.proofs.lemmas.List.{get_or-map, get_or_past, length-append, length-map, take_all}
+use Rattle.std.proofs.lemmas.List.{get_or-map, length-append, length-map, take_all}
 use Rattle.terrain.specs.Raster.{Terrain}
 use Rattle.terrain.specs.Neighbours.{IsNeighbour}
 use Rattle.terrain.specs.declared.place.Place.{Place}
-use Rattle.terrain.proofs.Options.{cases_option, none_some}
+use Rattle.terrain.proofs.Options.{cases_option}
 use Rattle.tiles.specs.Cutting.{Cutting, tile_of_place, index_in}
 use Rattle.tiles.proofs.TileOrder.{entry_in-inside, bounds_from_entry}
 use Rattle.tiles.proofs.Cut.{in_bounds_from, tile_of_place_below}
@@ -26,7 +26,7 @@ use Rattle.fill.specs.Numbers.{places_of, ends_of, first_of}
 use Rattle.fill.specs.Spills.{AreFloods, level_among, label_among}
 use Rattle.fill.specs.declared.marks.Mark.{Mark}
 use Rattle.floods.specs.declared.net.Spill.{Spill}
-use Rattle.fill.proofs.CellMarks.{marked, marked_within, mark_from_tile, mark_some}
+use Rattle.fill.proofs.CellMarks.{some_below, marked, marked_within, mark_from_tile, mark_some}
 use Rattle.fill.proofs.Rims.{IsLabelNet, LeadsRound, neighbour_back, level_has_data, has_tile_level, among_is, list_there}
 
 -- lists of the same lengths stand at the same places
@@ -95,10 +95,6 @@ pub record IsNumbered (c : Cutting) (floods : List Flood) (p : Place) (m : Mark)
   pub listed : get_or flood.table.places entry None ≡ Some label
   pub inside : entry < length flood.table.places
   pub node : first_of floods (tile_of_place c p) + entry ≡ m.node
-
--- an entry with something stands in its list
-some_below : {X : Type 0} (xs : List (Option X)) (i : ℕ) (x : X) → get_or xs i None ≡ Some x → i < length xs
-some_below xs i x e = elim (cases_lt i (length xs)) [ inl low ↦ low | inr past ↦ none_some (get_or xs i None) x (get_or_past xs i None past) e ]
 
 pub numbered : (c : Cutting) (floods : List Flood) (p : Place) (m : Mark) → AreLawful floods → mark_among c floods p ≡ Some m → IsNumbered c floods p m
 numbered c floods p m lawful e =
@@ -236,7 +232,7 @@ module _ (t : Terrain) (c : Cutting) (floods : List Flood) (are : AreFloods t c 
     turn_straight p q (inl row) = inl (sym row)
     turn_straight p q (inr col) = inr (sym col)
 
-    round : (p q : Place) (x y z : ℤ) → IsNeighbour t p q → level_among c floods p ≡ Some x → level_among c floods q ≡ Some y → int_max x y ≡ z → IsBypassed c floods p q → LeadsRound t c floods p q z
+    round : (p q : Place) (x y z : ℤ) → IsNeighbour t p q → level_among c floods p ≡ Some x → level_among c floods q ≡ Some y → int_max x y ≡ z → IsBypassed (mark_among c floods) p q → LeadsRound t c floods p q z
     round p q x y z next p_is q_is greater by =
         let middle : Place = record { row = q.row; col = p.col } in
         let a = numbered c floods p by.from lawful by.from_is in

@@ -1,6 +1,6 @@
 -- A raised tile has its filled heights, and the tiles together give the filled grid.
-use Rattle.std.proofs.Common.{◌≡◌, ℕ, ◌+◌, ◌*◌, ◌<◌, ◌≤◌, ◌⊎◌, inl, inr, ℤ, List, [], ◌∷◌, ◌++◌, length, get_or, map, Option, None, Some, is_some, ◌∙◌, sym, ap, subst, refl, arith, zero, suc, ◌/◌, ◌%◌, IfSome, MatchOption, mul_comm, pos, Vec, Global, vec_len}
-use Rattle.std.specs.Prelude.{slice_get, option_and_then, option_map, Result, Ok, Err, IfOk}
+use Rattle.std.proofs.Common.{◌≡◌, ℕ, ◌+◌, ◌*◌, ◌<◌, ◌≤◌, ◌⊎◌, inl, inr, ℤ, List, [], ◌∷◌, ◌++◌, length, get_or, map, Option, None, Some, is_some, ◌∙◌, sym, ap, subst, refl, arith, zero, suc, ◌/◌, ◌%◌, IfSome, MatchOption, mul_comm, pos}
+use Rattle.std.specs.Prelude.{slice_get, option_and_then, option_map}
 use Rattle.std.specs.Int.{int_max}
 use Rattle.std.specs.Ordering.{int_eq}
 use Rattle.std.specs.Prelude.{◌≤ℤ◌}
@@ -39,10 +39,9 @@ use Rattle.cell_floods.proofs.TileWindows.{data_within}
 use Rattle.terrain.proofs.Options.{cases_option, match_of, none_some}
 use Rattle.fill.proofs.Rims.{HasTileLevel, IsLabelNet, has_tile_level, among_is, rims, list_there}
 use Rattle.std.specs.List.{Contains, All}
-use Rattle.std.proofs.lemmas.Option.{MatchOption-at_some, MatchOption-at_none, get_or_from_slice_get, slice_get_within, same_Some}
+use Rattle.std.proofs.lemmas.Option.{MatchOption-at_some, MatchOption-at_none, slice_get_within, same_Some}
 use Rattle.std.proofs.lemmas.List.Elements.{All-contains, All-from_get_or}
 use Rattle.std.proofs.lemmas.Nat.{div-add-mod', mod_below, div_below}
-use Rattle.tile_jobs.specs.Answers.{AllGiven}
 use Rattle.tile_maps.specs.Maps.{IsMadeMap, IsMadeTile}
 use Rattle.tile_maps.proofs.Whole.{map_of_size, tile_of_entries}
 use Rattle.drainage.proofs.FilledTwice.{filled_twice}
@@ -361,17 +360,6 @@ flood_of_view t c job v cells sinks f cuts view same named flood =
     ∙ ap (λ z. record { cols = t.cols; rows = t.rows; cells = z; sinks = sinks }) same
     ∙ ap (λ z. record { cols = t.cols; rows = t.rows; cells = t.cells; sinks = z }) named)
     (subst (λ (x : View (Option ℤ)). IsTileFlood (with_sinks (terrain_of x) sinks) x.cutting x.tile f) view flood)
-
--- the floods that the jobs gave
-pub floods_given : {E : Type 0} (t : Terrain) (c : Cutting) (r : Result (Vec Flood Global) E) (n : ℕ) → IsCutting c → Cuts c t → n ≡ tile_count c →
-    IfOk r (λ v. vec_len v ≡ n) → IfOk r (λ v. AllGiven (IsTileFlood t c) n v.items) → IfOk r (λ v. AreFloods t c v.items)
-floods_given t c (Ok v) n h cuts same len given = record {
-  lawful = h;
-  cuts = cuts;
-  count = omega (arith, v.ok.0, len, same);
-  each = λ tile f e. subst (IsTileFlood t c tile) (get_or_from_slice_get v.items tile f f e) (given tile f (omega (arith, v.ok.0, len, slice_get_within v.items tile f e)));
-}
-floods_given t c (Err e) n h cuts same len given = len
 
 pub filled_stand : (t : Terrain) (levels : List (Option ℤ)) → IsFilled t levels → All (λ c. IfSome c (λ h. Contains t.cells (Some h))) levels
 filled_stand t levels filled = All-from_get_or (λ c. IfSome c (λ h. Contains t.cells (Some h))) levels None (λ i below. each i below (cases_option (get_or levels i None))) where

@@ -1,13 +1,14 @@
 -- How the joins of a spill graph are gathered from the floods of the tiles.
-use Rattle.std.specs.Prelude.{◌≡◌, ◌≢◌, ℕ, ◌+◌, ◌-◌, ◌*◌, ◌<◌, ◌⊎◌, ◌==◌, ◌&&◌, true, false, if◌then◌else◌, is_some, Bool, ℤ, ◌≤ℤ◌, List, [], ◌∷◌, length, Option, None, Some, slice_get, slice_index_or, option_and_then}
+use Rattle.std.specs.Prelude.{◌≡◌, ◌≢◌, ℕ, ◌+◌, ◌-◌, ◌*◌, ◌<◌, ◌≤◌, ◌⊎◌, ◌==◌, ◌&&◌, true, false, if◌then◌else◌, is_some, Bool, ℤ, ◌≤ℤ◌, List, [], ◌∷◌, length, Option, None, Some, slice_get, slice_index_or, option_and_then, Vec}
+use Rattle.std.specs.declared.alloc.Global.{Global}
 use Rattle.std.specs.Int.{int_max}
 use Rattle.std.specs.List.{All, Contains}
 use Rattle.terrain.specs.Neighbours.{Touches}
 use Rattle.terrain.specs.declared.place.Place.{Place}
 use Rattle.tiles.specs.declared.bounds.Bounds.{Bounds}
-use Rattle.tiles.specs.Cutting.{Cutting, IsWithin, tile_count, tile_of_place, bounds_of, is_in_bounds, index_in}
+use Rattle.tiles.specs.Cutting.{Cutting, IsInBounds, IsInTile, IsWithin, tile_count, tile_of_place, bounds_of, is_in_bounds, index_in}
 use Rattle.cell_floods.specs.TileFlood.{Flood}
-use Rattle.fill.specs.Numbers.{first_of}
+use Rattle.fill.specs.Numbers.{ends_of, first_of}
 use Rattle.fill.specs.declared.spills.Join.{Join}
 use Rattle.fill.specs.declared.marks.Mark.{Mark}
 use Rattle.floods.specs.declared.net.Spill.{Spill}
@@ -41,6 +42,10 @@ mark_in first f p = if is_in_bounds f.bounds p then mark_with first f (index_in 
 abbrev pub mark_among : Cutting → List Flood → Place → Option Mark
 mark_among c floods p = option_and_then (λ f. mark_in (first_of floods (tile_of_place c p)) f p) (slice_get floods (tile_of_place c p))
 
+-- The level of each cell, and the number of its label: those of some places are known.
+abbrev pub Marks : Type 0
+Marks = Place → Option Mark
+
 -- Which joins are left out: those of two sources, and maybe those that lead round by another cell.
 pub record Spared : Type 0 where
   pub sources : List (Option ℤ)
@@ -48,13 +53,13 @@ pub record Spared : Type 0 where
 
 -- The second cell touches the first from below at a corner, and the cell below the first is no higher than one of them:
 -- the joins with that cell lower all levels that theirs does.
-pub record IsBypassed (c : Cutting) (floods : List Flood) (p q : Place) : Type 0 where
+pub record IsBypassed (marks : Marks) (p q : Place) : Type 0 where
   pub from : Mark
   pub below : Mark
   pub to : Mark
-  pub from_is : mark_among c floods p ≡ Some from
-  pub below_is : mark_among c floods (record { row = q.row; col = p.col }) ≡ Some below
-  pub to_is : mark_among c floods q ≡ Some to
+  pub from_is : marks p ≡ Some from
+  pub below_is : marks (record { row = q.row; col = p.col }) ≡ Some below
+  pub to_is : marks q ≡ Some to
   pub next_row : q.row ≡ p.row + 1
   pub aside : p.col ≢ q.col
   pub low : below.level ≤ℤ int_max from.level to.level
@@ -65,23 +70,23 @@ are_settled sources a b = is_some (slice_index_or sources a None) && is_some (sl
 
 -- Cells that touch carry the two labels of the join, and its height is the greater of their levels. Not both labels
 -- are among these sources.
-pub record Meets (c : Cutting) (floods : List Flood) (out : Spared) (p q : Place) (j : Join) : Type 0 where
+pub record Meets (marks : Marks) (out : Spared) (p q : Place) (j : Join) : Type 0 where
   pub touches : Touches p q
   pub from_level : ℤ
   pub to_level : ℤ
-  pub from_is : mark_among c floods p ≡ Some (record { level = from_level; node = j.from })
-  pub to_is : mark_among c floods q ≡ Some (record { level = to_level; node = j.to })
+  pub from_is : marks p ≡ Some (record { level = from_level; node = j.from })
+  pub to_is : marks q ≡ Some (record { level = to_level; node = j.to })
   pub different : j.from ≢ j.to
   pub apart : are_settled out.sources j.from j.to ≡ false
   pub greater : int_max from_level to_level ≡ j.height
 
--- One of these places gives the join with a place that touches it.
-abbrev pub IsMeetingAt : Cutting → List Flood → Spared → (Place → Type 0) → Join → Type 0
-IsMeetingAt c floods out places j = (p q : Place) × places p × Meets c floods out p q j
+-- Two of these places give the join.
+abbrev pub IsMeetingAt : Marks → Spared → (Place → Place → Type 0) → Join → Type 0
+IsMeetingAt marks out pairs j = (p q : Place) × pairs p q × Meets marks out p q j
 
 -- The join of two cells is left out, since it leads round by another cell.
-abbrev pub IsSpared : Cutting → List Flood → Spared → Place → Place → Type 0
-IsSpared c floods out p q = (out.bypassed ≡ true) × IsBypassed c floods p q
+abbrev pub IsSpared : Marks → Spared → Place → Place → Type 0
+IsSpared marks out p q = (out.bypassed ≡ true) × IsBypassed marks p q
 
 -- The joins that two marks give: one, where their labels differ and are not both among these sources.
 abbrev pub joins_of : List (Option ℤ) → Mark → Option Mark → List Join
@@ -100,9 +105,9 @@ pub record AddsCovered (old added new : List Join) : Type 0 where
   pub only : (j : Join) → Contains new j → Contains old j ⊎ Contains added j
   pub every : (j : Join) → Contains added j → Covered new j
 
--- The place lies inside these bounds and not on their rim.
+-- The place lies inside these bounds, and so do all four around it that come after it.
 abbrev pub IsInner : Bounds → Place → Type 0
-IsInner b p = (b.top < p.row) × (p.row + 1 < b.top + b.rows) × (b.left < p.col) × (p.col + 1 < b.left + b.cols)
+IsInner b p = (b.top ≤ p.row) × (p.row + 1 < b.top + b.rows) × (b.left < p.col) × (p.col + 1 < b.left + b.cols)
 
 -- The four entries around this one that come after it in rows of this width.
 abbrev pub cells_after : ℕ → ℕ → List ℕ
@@ -113,29 +118,33 @@ abbrev pub AreEqualAfter : List ℕ → ℕ → ℕ → Type 0
 AreEqualAfter xs i width = All (λ k. slice_index_or xs k 0 ≡ slice_index_or xs i 0) (cells_after width i)
 
 -- The join of a cell with the one at an index has been added, where there is one.
-abbrev pub AddsNear : ℕ → Flood → List (Option ℤ) → Mark → ℕ → List Join → List Join → Type 0
-AddsNear first f sources from near old new = AddsCovered old (joins_of sources from (mark_with first f near)) new
+abbrev pub AddsNear : Flood → List (Option ℤ) → Mark → ℕ → List Join → List Join → Type 0
+AddsNear f sources from near old new = AddsCovered old (joins_of sources from (mark_with 0 f near)) new
 
 -- The joins of a cell with the four around it that come after it in rows of this width have been added.
-pub record AddsAfter (first : ℕ) (f : Flood) (sources : List (Option ℤ)) (from : Mark) (i width : ℕ) (old new : List Join) : Type 0 where
+pub record AddsAfter (f : Flood) (sources : List (Option ℤ)) (from : Mark) (i width : ℕ) (old new : List Join) : Type 0 where
   pub after_first : List Join
   pub after_second : List Join
   pub after_third : List Join
-  pub east : AddsNear first f sources from (i + 1) old after_first
-  pub south_west : AddsNear first f sources from (i + width - 1) after_first after_second
-  pub south : AddsNear first f sources from (i + width) after_second after_third
-  pub south_east : AddsNear first f sources from (i + width + 1) after_third new
+  pub east : AddsNear f sources from (i + 1) old after_first
+  pub south_west : AddsNear f sources from (i + width - 1) after_first after_second
+  pub south : AddsNear f sources from (i + width) after_second after_third
+  pub south_east : AddsNear f sources from (i + width + 1) after_third new
 
 -- The second place comes after the first in row order.
 abbrev pub IsAfter : Place → Place → Type 0
 IsAfter p q = (p.row < q.row) ⊎ ((p.row ≡ q.row) × (p.col < q.col))
 
--- The joins of these places with those after them have been added, but for those that others cover, and no others.
--- Joins may have been lowered to added ones.
-pub record Adds (c : Cutting) (floods : List Flood) (out : Spared) (places : Place → Type 0) (old new : List Join) : Type 0 where
+-- The place is not of this tile.
+abbrev pub IsOutside : Cutting → ℕ → Place → Type 0
+IsOutside c tile p = IsInTile c tile p → ⊥
+
+-- The joins of these pairs of places, of which the second comes after the first, have been added, but for those left out
+-- and those that others cover, and no others. Joins may have been lowered to added ones.
+pub record Adds (marks : Marks) (out : Spared) (pairs : Place → Place → Type 0) (old new : List Join) : Type 0 where
   pub kept : (j : Join) → Contains old j → Covered new j
-  pub only : (j : Join) → Contains new j → Contains old j ⊎ IsMeetingAt c floods out places j
-  pub every : (p q : Place) (j : Join) → places p → IsAfter p q → Meets c floods out p q j → IsSpared c floods out p q ⊎ Covered new j
+  pub only : (j : Join) → Contains new j → Contains old j ⊎ IsMeetingAt marks out pairs j
+  pub every : (p q : Place) (j : Join) → pairs p q → IsAfter p q → Meets marks out p q j → IsSpared marks out p q ⊎ Covered new j
 
 -- The join from its other label.
 abbrev pub turned : Join → Join
@@ -156,13 +165,33 @@ pub record AreLowest (joins lowest : List Join) : Type 0 where
   pub rising : AreRising lowest
 
 -- The join of a cell with one beside it has been added, where there is one and it is not left out.
-abbrev pub AddsBeside : Cutting → List Flood → Spared → Place → Mark → Place → List Join → List Join → Type 0
-AddsBeside c floods out p from q old new = (IsSpared c floods out p q × (new ≡ old)) ⊎ AddsCovered old (joins_of out.sources from (mark_among c floods q)) new
+abbrev pub AddsBeside : Marks → Spared → Place → Mark → Place → List Join → List Join → Type 0
+AddsBeside marks out p from q old new = (IsSpared marks out p q × (new ≡ old)) ⊎ AddsCovered old (joins_of out.sources from (marks q)) new
 
 -- The joins of all cells with those after them but those left out, each as low as those that were met.
 pub record AreGathered (c : Cutting) (floods : List Flood) (out : Spared) (joins : List Join) : Type 0 where
-  pub only : (j : Join) → Contains joins j → IsMeetingAt c floods out (IsWithin c) j
-  pub every : (p q : Place) (j : Join) → IsWithin c p → IsAfter p q → Meets c floods out p q j → IsSpared c floods out p q ⊎ Covered joins j
+  pub only : (j : Join) → Contains joins j → IsMeetingAt (mark_among c floods) out (λ p q. IsWithin c p) j
+  pub every : (p q : Place) (j : Join) → IsWithin c p → IsAfter p q → Meets (mark_among c floods) out p q j → IsSpared (mark_among c floods) out p q ⊎ Covered joins j
+
+-- What is left out of all joins, and of those inside a tile: nothing, or what lowers no level.
+abbrev pub spared_of : Bool → List Flood → Spared
+spared_of spare floods = record { sources = if spare then ends_of floods else []; bypassed = spare }
+
+abbrev pub spared_in : Bool → Flood → Spared
+spared_in spare f = record { sources = if spare then f.ends else []; bypassed = spare }
+
+-- The joins inside a tile. Labels are counted from 0.
+abbrev pub IsInnerOf : Bool → Flood → List Join → Type 0
+IsInnerOf spare f joins = Adds (mark_in 0 f) (spared_in spare f) (λ p q. IsInBounds f.bounds p) [] joins
+
+-- The joins inside each tile.
+pub record AreInner (floods : List Flood) (spare : Bool) (inner : List (Vec Join Global)) : Type 0 where
+  pub count : length inner ≡ length floods
+  pub each : (tile : ℕ) (f : Flood) (joins : Vec Join Global) → slice_get floods tile ≡ Some f → slice_get inner tile ≡ Some joins → IsInnerOf spare f joins.items
+
+-- The join whose labels are counted from this one.
+abbrev pub shifted : ℕ → Join → Join
+shifted first j = record { from = first + j.from; to = first + j.to; height = j.height }
 
 -- The join before this one is of the same labels.
 abbrev pub IsRepeat : List Join → ℕ → Type 0

@@ -82,7 +82,7 @@ pub record IsNumberGraph (t : Terrain) (c : Cutting) (floods : List Flood) (ways
   pub ends : sources ≡ ends_of floods
   pub joined : (a b : ℕ) (h : ℤ) → a ≢ b → (x : IsNumberPass t c floods a b h)
       → ((IsSome (source_number sources a) × IsSome (source_number sources b)) ⊎ ((low : ℤ) × HasWay ways a b low × (low ≤ℤ h)))
-      ⊎ (IsBypassed c floods x.from x.to ⊎ IsBypassed c floods x.to x.from)
+      ⊎ (IsBypassed (mark_among c floods) x.from x.to ⊎ IsBypassed (mark_among c floods) x.to x.from)
   pub joined_only : (a b : ℕ) (h : ℤ) → HasWay ways a b h → IsNumberPass t c floods a b h
 
 -- The levels are those of such a graph.

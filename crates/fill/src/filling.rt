@@ -1,21 +1,25 @@
 //! The filled heights of a grid, by tiles and workers: [`filled`].
 //!
 //! Jobs flood each tile, and raise it. Between the two the caller's thread floods the spill graph.
-ghost use Rattle.std.specs.Prelude.{◌<◌, ◌≤◌, length, IfOk};
+ghost use Rattle.std.proofs.Props.{props};
+ghost use Rattle.std.specs.Prelude.{◌≡◌, ◌<◌, ◌≤◌, true, length, map, IfOk};
 ghost use Rattle.terrain.specs.Raster.{Terrain, IsTerrain};
 ghost use Rattle.drainage.specs.Filled.{IsFilled, IsFilledGrid};
-ghost use Rattle.tiles.specs.Cutting.{Cuts};
+ghost use Rattle.tiles.specs.Cutting.{Cuts, IsCutting};
 ghost use Rattle.fill.specs.Spills.{AreFloods};
 ghost use Rattle.fill.specs.LabelNet.{AreLabelLevels, IsNumberGraph};
-ghost use Rattle.fill.specs.Numbers.{AreFirsts, places_of};
+ghost use Rattle.fill.specs.Numbers.{places_of};
+ghost use Rattle.fill.specs.Gathering.{AreInner};
 ghost use Rattle.tile_jobs.specs.Fault.{RefusesWorkers};
 
+use crate::gathering::graph_joins;
+use crate::inner_joins::inner_joins;
 use crate::label_graph::{LabelGraph, LabelLevels};
+use crate::left_out::LeftOut;
 use crate::marks::NumberedFloods;
 use crate::numbers::{first_numbers, label_ends};
-use crate::parts::tile_parts;
-use crate::passes::LeftOut;
 use crate::raised_tiles::RaisedTiles;
+use crate::spills::Join;
 use cell_floods::{TileFlood, tile_flood};
 use drainage::Filled;
 use std::alloc::{AllocError, Global};
@@ -26,49 +30,93 @@ use tile_jobs::{Gate, JobFault, Work};
 use tile_maps::Crew;
 use tiles::Tiling;
 
+/// A tile's flood, and the joins inside the tile.
+#[derive(Drop)]
+struct FloodedTile {
+    flood: TileFlood,
+    joins: Vec<Join>,
+}
+
 /// Floods each tile.
 #[derive(Drop)]
 struct FloodTiles<'a> {
     grid: &'a Grid,
     tiling: &'a Tiling,
     ghost cuts: { Cuts tiling.now grid.now.terrain },
+    ghost lawful: { IsCutting tiling.now } by { Prim.hlevel props },
 }
 
 impl<'a> Work for FloodTiles<'a> {
-    type Out = TileFlood;
+    type Out = FloodedTile;
 
+    ghost use Rattle.std.specs.Prelude.{true};
     ghost use Rattle.tiles.specs.Cutting.{tile_count};
     ghost use Rattle.cell_floods.specs.TileFlood.{IsTileFlood};
+    ghost use Rattle.fill.specs.Gathering.{IsInnerOf};
 
     ghost most = { λ w. tile_count w.tiling.now };
 
-    ghost gives = { λ w job out. IsTileFlood w.grid.now.terrain w.tiling.now job out };
+    ghost gives = { λ w job out. IsTileFlood w.grid.now.terrain w.tiling.now job out.flood
+        × IsInnerOf true out.flood out.joins.items };
 
-    fn run(&self, alloc: Global, job: u32) -> Result<TileFlood, JobFault> {
+    fn run(&self, alloc: Global, job: u32) -> Result<FloodedTile, JobFault> {
         let view = self.tiling.view(self.grid.cells(), job);
         let Ok(flood) = tile_flood(alloc, &view, self.grid.sinks()) else {
             return Err(JobFault::Memory);
         };
-        Ok(flood)
+        let left_out = LeftOut {
+            sources: flood.ends(),
+            bypassed: true,
+        };
+        let joins = inner_joins(alloc, &flood, &left_out)?;
+        drop(left_out);
+        Ok(FloodedTile { flood, joins })
     }
 }
 
-/// The flood of each tile, in tile order.
+/// The floods of tiles, and the joins inside each.
+fn into_lists(
+    alloc: Global,
+    tiles: Vec<FloodedTile>,
+) -> Result<(Vec<TileFlood>, Vec<Vec<Join>>), AllocError>
+    ensures floods { IfOk result (λ r. r.0.items ≡ map (λ x. x.flood) tiles.items) }
+    ensures joins { IfOk result (λ r. r.1.items ≡ map (λ x. x.joins) tiles.items) }
+{
+    let mut floods = Vec::with_capacity(alloc, tiles.len())?;
+    let mut inner = Vec::with_capacity(alloc, tiles.len())?;
+    for tile in tiles {
+        let FloodedTile { flood, joins } = tile;
+        floods.push(flood)?;
+        inner.push(joins)?;
+    }
+    Ok((floods, inner))
+}
+
+/// The flood of each tile, in tile order, and the joins inside each.
 fn tile_floods<R: Threads + Wait + Sync, G: Gate + Sync>(
     crew: &Crew<'_, R, G>,
     grid: &Grid,
     tiling: &Tiling,
-) -> Result<Vec<TileFlood>, JobFault>
+) -> Result<(Vec<TileFlood>, Vec<Vec<Join>>), JobFault>
     requires { Cuts tiling.now grid.now.terrain }
-    ensures floods { IfOk result (λ v. AreFloods grid.now.terrain tiling.now v.items) }
+    ensures floods { IfOk result (λ r. AreFloods grid.now.terrain tiling.now r.0.items) }
+    ensures inner { IfOk result (λ r. AreInner r.0.items true r.1.items) }
     ensures workers { RefusesWorkers crew.now.workers result }
 {
-    crew.run(&FloodTiles { grid, tiling }, tiling.tiles())
+    let jobs = tiling.tiles();
+    let tiles = crew.run(&FloodTiles { grid, tiling }, jobs)?;
+    let (floods, inner) = into_lists(crew.alloc, tiles)?;
+    Ok((floods, inner))
 }
 
 /// The spill graph of the floods, but for joins that lower no level.
-fn spill_graph(alloc: Global, tiles: &NumberedFloods<'_>) -> Result<LabelGraph, AllocError>
-    requires { (t : Terrain) × AreFloods t tiles.now.tiling.now tiles.now.floods.now }
+fn spill_graph(
+    alloc: Global,
+    tiles: &NumberedFloods<'_>,
+    inner: &[Vec<Join>],
+) -> Result<LabelGraph, AllocError>
+    requires floods { (t : Terrain) × AreFloods t tiles.now.tiling.now tiles.now.floods.now }
+    requires inner { AreInner tiles.now.floods.now true inner.now }
     ensures { IfOk result (λ g. (t : Terrain)
         → AreFloods t tiles.now.tiling.now tiles.now.floods.now
         → IsNumberGraph t tiles.now.tiling.now tiles.now.floods.now g.ways g.sources) }
@@ -78,32 +126,26 @@ fn spill_graph(alloc: Global, tiles: &NumberedFloods<'_>) -> Result<LabelGraph, 
         sources: &sources,
         bypassed: true,
     };
-    let parts = tile_parts(alloc, tiles, &left_out)?;
+    let joins = graph_joins(alloc, tiles, &left_out, inner)?;
     drop(left_out);
-    let graph = LabelGraph::of_parts(alloc, sources, &parts)?;
+    let graph = LabelGraph::of_joins(alloc, sources, &joins)?;
     Ok(graph)
 }
 
 /// The level of each label in the spill graph of the floods.
 fn label_levels(
     alloc: Global,
-    tiling: &Tiling,
-    floods: &[TileFlood],
-    firsts: &[u32],
+    tiles: &NumberedFloods<'_>,
+    inner: &[Vec<Join>],
 ) -> Result<LabelLevels, NoMemory>
-    requires floods { (t : Terrain) × AreFloods t tiling.now floods.now }
-    requires firsts { AreFirsts floods.now firsts.now }
-    ensures size { IfOk result (λ levels. length (places_of floods.now) ≤ length levels) }
+    requires floods { (t : Terrain) × AreFloods t tiles.now.tiling.now tiles.now.floods.now }
+    requires inner { AreInner tiles.now.floods.now true inner.now }
+    ensures size { IfOk result (λ levels. length (places_of tiles.now.floods.now) ≤ length levels) }
     ensures levels { IfOk result (λ levels. (t : Terrain)
-        → AreFloods t tiling.now floods.now
-        → AreLabelLevels t tiling.now floods.now levels) }
+        → AreFloods t tiles.now.tiling.now tiles.now.floods.now
+        → AreLabelLevels t tiles.now.tiling.now tiles.now.floods.now levels) }
 {
-    let tiles = NumberedFloods {
-        tiling,
-        floods,
-        firsts,
-    };
-    let graph = spill_graph(alloc, &tiles)?;
+    let graph = spill_graph(alloc, tiles, inner)?;
     let levels = graph.levels(alloc)?;
     Ok(levels)
 }
@@ -114,17 +156,26 @@ fn filled_cells<R: Threads + Wait + Sync, G: Gate + Sync>(
     crew: &Crew<'_, R, G>,
     tiling: &Tiling,
     floods: Vec<TileFlood>,
+    inner: Vec<Vec<Join>>,
 ) -> Result<Vec<Cell>, JobFault>
     requires floods { (t : Terrain) × AreFloods t tiling.now floods.items }
+    requires inner { AreInner floods.items true inner.items }
     requires workers { (0 < crew.now.workers) × (crew.now.workers ≤ 64) }
     ensures filled { IfOk result (λ v. (t : Terrain) → IsTerrain t
         → AreFloods t tiling.now floods.items → IsFilled t v.items) }
     ensures workers { RefusesWorkers crew.now.workers result }
 {
     let firsts = first_numbers(crew.alloc, &floods)?;
-    let Ok(levels) = label_levels(crew.alloc, tiling, &floods, &firsts) else {
+    let tiles = NumberedFloods {
+        tiling,
+        floods: &floods,
+        firsts: &firsts,
+    };
+    let Ok(levels) = label_levels(crew.alloc, &tiles, &inner) else {
         return Err(JobFault::Memory);
     };
+    drop(tiles);
+    drop(inner);
     let cells = crew.made(RaisedTiles {
         tiling: *tiling,
         floods,
@@ -156,8 +207,8 @@ pub fn filled<R: Threads + Wait + Sync, G: Gate + Sync>(
         workers,
         gate,
     };
-    let floods = tile_floods(&crew, grid, tiling)?;
-    let cells = filled_cells(&crew, tiling, floods)?;
+    let (floods, inner) = tile_floods(&crew, grid, tiling)?;
+    let cells = filled_cells(&crew, tiling, floods, inner)?;
     let Ok(filled) = grid.frame().with_cells(alloc, cells) else {
         return Err(JobFault::Memory);
     };

@@ -1,10 +1,8 @@
 //! The spill graph by the numbers of its labels, and its levels: `filled` stands on it.
 ghost use Rattle.std.specs.Prelude.{◌≡◌, ◌<◌, ◌≤◌, ◌∷◌, [], IfOk, OnOk, length, slice_index_or, None};
 ghost use Rattle.std.specs.List.{All};
-ghost use Rattle.fill.specs.Parts.{all_joins};
 ghost use Rattle.fill.specs.LabelNet.{AddsWays, AreNumberLevels, HasWaysOf};
 
-use crate::parts::Part;
 use crate::spills::Join;
 use crate::ways::WayLists;
 use floods::{FloodedNet, HeightList, Net, NodeLabels, Spill, Waiting, Waits, flood_net};
@@ -140,22 +138,20 @@ impl LabelLevels {
 }
 
 impl LabelGraph {
-    /// The graph of what each tile adds to it, and of the labels that are end cells.
-    pub(crate) fn of_parts(
+    /// The graph of these joins, and of the labels that are end cells.
+    pub(crate) fn of_joins(
         alloc: Global,
         sources: Vec<Cell>,
-        parts: &[Part],
+        joins: &[Join],
     ) -> Result<LabelGraph, AllocError>
         requires few { length sources.items ≤ 4294967295 }
-        requires inside { All (λ j. (j.from < length sources.items) × (j.to < length sources.items)) (all_joins parts.now) }
+        requires inside { All (λ j. (j.from < length sources.items) × (j.to < length sources.items)) joins.now }
         ensures sources { IfOk result (λ g. g.sources ≡ sources.items) }
         ensures size { IfOk result (λ g. length g.ways ≡ length sources.items) }
-        ensures ways { IfOk result (λ g. HasWaysOf (all_joins parts.now) g.ways) }
+        ensures ways { IfOk result (λ g. HasWaysOf joins.now g.ways) }
     {
         let mut ways = WayLists::none(alloc, sources.len())?;
-        for part in parts {
-            push_joins(&mut ways, &part.joins)?;
-        }
+        push_joins(&mut ways, joins)?;
         Ok(LabelGraph { sources, ways })
     }
 

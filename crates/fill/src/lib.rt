@@ -8,9 +8,12 @@
 //! - `filling`: `filled`, which runs all stages
 //! - `numbers`: labels by number, and those that are end cells
 //! - `marks`: level and label of a cell
+//! - `places`: the places around a place
+//! - `left_out`: which joins lower no level
 //! - `join_table`: joins by their labels
-//! - `passes`: joins of touching cells
-//! - `parts`: what a tile adds to the graph
+//! - `inner_joins`: the joins inside a tile
+//! - `rim_joins`: the joins over its rim
+//! - `gathering`: the joins of all tiles
 //! - `ways`: lists of ways that share their memory
 //! - `label_graph`: the graph by numbers, and its levels
 //! - `raised_tiles`: the filled heights of each tile, by number
@@ -21,15 +24,18 @@
 #![tactic(auto)]
 
 mod filling;
+mod gathering;
+mod inner_joins;
 mod join_table;
 mod label_graph;
+mod left_out;
 mod marks;
 mod numbers;
-mod parts;
-mod passes;
+mod places;
 mod placing;
 mod raised_tiles;
 mod raising;
+mod rim_joins;
 mod sources;
 mod spills;
 mod ways;
@@ -38,6 +44,5 @@ pub use cell_floods::{CellNet, TileFlood, filled_heights, tile_flood};
 pub use drainage::Filled;
 pub use filling::filled;
 pub use floods::{Flooded, Net, Spill, flood};
-pub use parts::Part;
 pub use raising::raise;
 pub use spills::{Join, SpillGraph};

@@ -36,30 +36,28 @@ pub(crate) struct NumberedFloods<'a> {
     ghost numbers: { AreFirsts floods.now firsts.now },
 }
 
-/// What a flood says of the cell with this index in its tile's row order. The tile's first label
-/// has this number.
+/// What a flood says of the cell with this index in its tile's row order. The label is counted from 0.
 #[inline(always)]
-pub(crate) fn mark_of_entry(flood: &TileFlood, first: u32, index: usize) -> Option<Mark>
-    requires index { index < length flood.now.labels }
-    requires few { first + length flood.now.table.places ≤ 4294967295 }
-    ensures { result ≡ mark_with first flood.now index }
+pub(crate) fn mark_of_entry(flood: &TileFlood, index: usize) -> Option<Mark>
+    requires { index < length flood.now.labels }
+    ensures { result ≡ mark_with 0 flood.now index }
 {
     flood.label_at(index)?;
     let level = flood.level_at(index)?;
     Some(Mark {
         level,
-        node: first + flood.labels().indexes()[index],
+        node: flood.labels().indexes()[index],
     })
 }
 
-/// What a flood says of a cell, None outside the tile and where there is no data.
+/// What a flood says of a cell, None outside the tile and where there is no data. The label is counted
+/// from 0.
 #[inline]
-pub(crate) fn mark_in(flood: &TileFlood, first: u32, place: Place) -> Option<Mark>
-    requires few { first + length flood.now.table.places ≤ 4294967295 }
-    ensures { result ≡ mark_in first flood.now place }
+pub(crate) fn mark_in(flood: &TileFlood, place: Place) -> Option<Mark>
+    ensures { result ≡ mark_in 0 flood.now place }
 {
     let index = flood.index_of(place)?;
-    mark_of_entry(flood, first, index)
+    mark_of_entry(flood, index)
 }
 
 impl<'a> NumberedFloods<'a> {
@@ -88,6 +86,10 @@ impl<'a> NumberedFloods<'a> {
             return None;
         }
         let own = self.tile_of(tile, place) as usize;
-        mark_in(&self.floods[own], self.firsts[own], place)
+        let mark = mark_in(&self.floods[own], place)?;
+        Some(Mark {
+            level: mark.level,
+            node: self.firsts[own] + mark.node,
+        })
     }
 }

@@ -1,16 +1,15 @@
 //! The joins of labels by number, as joins of their places.
-ghost use Rattle.std.specs.Prelude.{◌≡◌, ◌<◌, ◌++◌, [], IfOk, IfSome, OnOk, length, map};
+ghost use Rattle.std.specs.Prelude.{◌≡◌, ◌↔◌, ◌<◌, ◌++◌, [], IfOk, IfSome, IsTrue, OnOk, length, map};
 ghost use Rattle.std.specs.Option.{option_to_list};
 ghost use Rattle.std.specs.List.{All};
 ghost use Rattle.terrain.specs.Raster.{Terrain};
 ghost use Rattle.tiles.specs.Cutting.{IsWithin};
 ghost use Rattle.fill.specs.Numbers.{node_of_label, nodes_of};
-ghost use Rattle.fill.specs.Parts.{all_joins};
+ghost use Rattle.fill.specs.Gathering.{AreLowest, IsRepeat};
 ghost use Rattle.fill.specs.Placing.{AddsPlaced, placed_joins_of};
 ghost use Rattle.fill.specs.Spills.{AreFloods};
 
 use crate::marks::node_of;
-use crate::parts::Part;
 use crate::spills::Join;
 use cell_floods::TileFlood;
 use std::alloc::{AllocError, Global};
@@ -78,32 +77,50 @@ fn place_join(join: Join, nodes: &[u32]) -> Option<Join>
     Some(placed)
 }
 
-/// Adds these joins by the places of their labels, both ways.
-fn push_placed(placed: &mut Vec<Join>, joins: &[Join], nodes: &[u32]) -> Result<(), AllocError>
+/// These joins by the places of their labels, both ways.
+pub(crate) fn placed_joins(
+    alloc: Global,
+    joins: &[Join],
+    nodes: &[u32],
+) -> Result<Vec<Join>, AllocError>
     requires { All (λ j. (j.from < length nodes.now) × (j.to < length nodes.now)) joins.now }
-    ensures { OnOk result (AddsPlaced nodes.now joins.now placed.old.items placed.new.items) }
+    ensures { IfOk result (λ v. AddsPlaced nodes.now joins.now [] v.items) }
 {
+    let mut placed = Vec::new(alloc);
     for join in joins {
         if let Some(join) = place_join(*join, nodes) {
             placed.push(join)?;
             placed.push(join.turned())?;
         }
     }
-    Ok(())
+    Ok(placed)
 }
 
-/// The joins of these parts by the places of their labels, both ways.
-pub(crate) fn placed_joins(
-    alloc: Global,
-    parts: &[Part],
-    nodes: &[u32],
-) -> Result<Vec<Join>, AllocError>
-    requires { All (λ j. (j.from < length nodes.now) × (j.to < length nodes.now)) (all_joins parts.now) }
-    ensures { IfOk result (λ v. AddsPlaced nodes.now (all_joins parts.now) [] v.items) }
+/// Whether the join before this one is of the same labels.
+#[inline(always)]
+fn is_repeat(joins: &[Join], index: usize) -> bool
+    requires { index < length joins.now }
+    ensures { IsTrue result ↔ IsRepeat joins.now index }
 {
-    let mut placed = Vec::new(alloc);
-    for part in parts {
-        push_placed(&mut placed, &part.joins, nodes)?;
+    if index == 0 {
+        return false;
     }
-    Ok(placed)
+    let before = joins[index - 1];
+    let join = joins[index];
+    before.from == join.from && before.to == join.to
+}
+
+/// The lowest join of each two labels, in the order of the labels.
+pub(crate) fn lowest_joins(alloc: Global, mut joins: Vec<Join>) -> Result<Vec<Join>, AllocError>
+    ensures { IfOk result (λ v. AreLowest joins.items v.items) }
+{
+    joins.sort_unstable();
+    let mut lowest = Vec::with_capacity(alloc, joins.len())?;
+    for index in 0..joins.len() {
+        if is_repeat(&joins, index) {
+            continue;
+        }
+        lowest.push(joins[index])?;
+    }
+    Ok(lowest)
 }

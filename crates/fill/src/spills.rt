@@ -1,17 +1,19 @@
 //! The spill graph by places: the labels of all tiles as a net.
 //!
 //! [`SpillGraph::gather`] makes it of all floods, and [`SpillGraph::levels`] floods it.
-ghost use Rattle.std.specs.Prelude.{◌≡◌, ◌<◌, ◌≤◌, ◌*◌, ℕ, length, map, IfOk, slice_index_or};
+ghost use Rattle.std.specs.Prelude.{◌≡◌, false, ◌<◌, ◌≤◌, ◌*◌, ℕ, length, map, IfOk, slice_index_or};
 ghost use Rattle.terrain.specs.Raster.{Terrain};
+ghost use Rattle.tiles.specs.Cutting.{Cutting};
 ghost use Rattle.fill.specs.Parts.{BeginAt};
 ghost use Rattle.fill.specs.Spills.{AreFloods, IsGraphOf, AreLevelsOf};
-ghost use Rattle.fill.specs.Gathering.{AreRising, turned, way_of};
+ghost use Rattle.fill.specs.Gathering.{AreInner, AreRising, turned, way_of};
 
+use crate::gathering::graph_joins;
+use crate::inner_joins::inner_joins;
+use crate::left_out::LeftOut;
 use crate::marks::NumberedFloods;
 use crate::numbers::first_numbers;
-use crate::parts::tile_parts;
-use crate::passes::{LeftOut, lowest_joins};
-use crate::placing::{label_nodes, placed_joins};
+use crate::placing::{label_nodes, lowest_joins, placed_joins};
 use crate::sources::label_sources;
 use cell_floods::TileFlood;
 use floods::{Flooded, Net, Spill, flood};
@@ -144,6 +146,18 @@ impl Net for SpillGraph {
     }
 }
 
+/// The joins inside each tile, of which none is left out.
+fn inner_joins_of(alloc: Global, floods: &[TileFlood]) -> Result<Vec<Vec<Join>>, AllocError>
+    requires { (t : Terrain) × (c : Cutting) × AreFloods t c floods.now }
+    ensures { IfOk result (λ v. AreInner floods.now false v.items) }
+{
+    let mut inner = Vec::with_capacity(alloc, floods.len())?;
+    for flood in floods {
+        inner.push(inner_joins(alloc, flood, &LeftOut::nothing())?)?;
+    }
+    Ok(inner)
+}
+
 impl SpillGraph {
     /// The graph of one flood for each tile, in tile order.
     pub fn gather(
@@ -161,13 +175,10 @@ impl SpillGraph {
             floods,
             firsts: &firsts,
         };
-        let none = LeftOut {
-            sources: &[],
-            bypassed: false,
-        };
-        let parts = tile_parts(alloc, &tiles, &none)?;
+        let inner = inner_joins_of(alloc, floods)?;
+        let gathered = graph_joins(alloc, &tiles, &LeftOut::nothing(), &inner)?;
         let nodes = label_nodes(alloc, tiling, floods)?;
-        let placed = placed_joins(alloc, &parts, &nodes)?;
+        let placed = placed_joins(alloc, &gathered, &nodes)?;
         let joins = lowest_joins(alloc, placed)?;
         let sources = label_sources(alloc, tiling, floods)?;
         Ok(SpillGraph {

@@ -2,6 +2,15 @@ use Rattle.fill.proofs.Numbered.{fit_of}
 use Rattle.fill.proofs.Raised.{filled_map}
 use Rattle.fill.proofs.filling.filled_cells.Goals as goal
 
+pub invariant_of-tiles : goal.invariant_of-tiles
+invariant_of-tiles g c = rw (c.deref-2.ensures.value, c.deref-3.ensures.value) (record {
+  fit = fit_of c.requires.floods.0 c.args.tiling.now c.args.floods.items c.requires.floods.1;
+  numbers = rw c.deref.ensures.value at c.in_ok-firsts.ensures;
+})
+
+pub label_levels-requires-clause-floods : goal.label_levels-requires-clause-floods
+label_levels-requires-clause-floods g c = (c.requires.floods.0, rw c.deref-2.ensures.value c.requires.floods.1)
+
 pub invariant_of-made : goal.invariant_of-made
 invariant_of-made g c = record {
   lawful = c.requires.floods.1.lawful;

@@ -1,12 +1,5 @@
 use Rattle.std.proofs.Common.{arith}
-use Rattle.fill.proofs.Numbered.{fit_of}
 use Rattle.fill.proofs.filling.label_levels.Goals as goal
-
-pub invariant_of-tiles : goal.invariant_of-tiles
-invariant_of-tiles c = record {
-  fit = fit_of c.requires.floods.0 c.args.tiling.now c.args.floods.now c.requires.floods.1;
-  numbers = c.requires.firsts;
-}
 
 pub returns-clause-size : goal.returns-clause-size
 returns-clause-size c =

@@ -1,28 +1,30 @@
-use Rattle.std.proofs.Common.{◌≡◌, length, true, refl, ap, sym, arith}
+use Rattle.std.proofs.Common.{◌≡◌, ◌∙◌, length, true, refl, ap, sym, arith}
 use Rattle.fill.specs.Gathering.{Spared}
 use Rattle.fill.specs.Numbers.{ends_of}
-use Rattle.fill.proofs.GraphParts.{parts_gathered}
 use Rattle.fill.proofs.Gathered.{is_number_graph, joins_below}
 use Rattle.fill.proofs.Numbered.{ends_length}
 use Rattle.fill.proofs.filling.spill_graph.Goals as goal
 
-pub of_parts-requires-clause-few : goal.of_parts-requires-clause-few
-of_parts-requires-clause-few c =
+pub graph_joins-requires-clause-inner : goal.graph_joins-requires-clause-inner
+graph_joins-requires-clause-inner c =
+    (true, ap (λ z. record { sources = z; bypassed = true }) (c.deref.ensures.value ∙ c.in_ok-sources.ensures), c.requires.inner)
+
+pub of_joins-requires-clause-few : goal.of_joins-requires-clause-few
+of_joins-requires-clause-few c =
     let k = c.args.tiles.now.tiling.now in
     let floods = c.args.tiles.now.floods.now in
-    omega (arith, ap length c.in_ok-sources.ensures, ends_length c.requires.0 k floods c.requires.1, c.args.tiles.now.numbers.whole)
+    omega (arith, ap length c.in_ok-sources.ensures, ends_length c.requires.floods.0 k floods c.requires.floods.1, c.args.tiles.now.numbers.whole)
 
-pub of_parts-requires-clause-inside : goal.of_parts-requires-clause-inside
-of_parts-requires-clause-inside c =
-    let t = c.requires.0 in
+pub of_joins-requires-clause-inside : goal.of_joins-requires-clause-inside
+of_joins-requires-clause-inside c =
+    let t = c.requires.floods.0 in
     let k = c.args.tiles.now.tiling.now in
     let floods = c.args.tiles.now.floods.now in
     let sources = c.in_ok-sources.sources.items in
     let out : Spared = record { sources = sources; bypassed = true } in
     let size : length (ends_of floods) ≡ length sources = sym (ap length c.in_ok-sources.ensures) in
-    rw (c.deref-2.ensures.value, ← size, ends_length t k floods c.requires.1)
-    (joins_below t k floods c.requires.1 c.args.tiles.now.numbers.lawful out _
-    (parts_gathered k floods out _ c.requires.1.lawful (rw c.deref.ensures.value at c.in_ok-parts.ensures)))
+    rw (c.deref-2.ensures.value, ← size, ends_length t k floods c.requires.floods.1)
+    (joins_below t k floods c.requires.floods.1 c.args.tiles.now.numbers.lawful out _ (rw c.deref.ensures.value at c.in_ok-joins.ensures))
 
 pub returns : goal.returns
 returns c t are =
@@ -30,9 +32,7 @@ returns c t are =
     let floods = c.args.tiles.now.floods.now in
     let sources = c.in_ok-sources.sources.items in
     let out : Spared = record { sources = sources; bypassed = true } in
-    let gathered =
-        parts_gathered k floods out _ are.lawful
-        (rw c.deref.ensures.value at c.in_ok-parts.ensures) in
+    let gathered = rw c.deref.ensures.value at c.in_ok-joins.ensures in
     rw c.in_ok-graph.ensures.sources
     (is_number_graph t k floods are c.args.tiles.now.numbers.lawful out sources _ _ gathered refl
     c.in_ok-sources.ensures c.in_ok-graph.ensures.size

@@ -1,15 +1,23 @@
-use Rattle.std.proofs.Common.{length}
-use Rattle.std.proofs.lemmas.List.{take_all}
-use Rattle.fill.proofs.GraphParts.{joins_more, part_below}
-use Rattle.fill.proofs.Placed.{placed_then}
+use Rattle.std.proofs.Common.{get_or, pos}
+use Rattle.std.proofs.lemmas.List.{take_all, take_more}
+use Rattle.fill.specs.declared.spills.Join.{Join}
+use Rattle.fill.proofs.Placed.{placed_then, one_placed, not_placed}
 use Rattle.fill.proofs.placing.placed_joins.Goals as goal
+use Rattle.fill.proofs.placing.placed_joins.Goals.{in-Some+in_ok-push+in_ok-push-2, in_default}
 
-pub push_placed-requires : goal.push_placed-requires
-push_placed-requires c = rw c.deref.ensures.value (part_below c.args.parts.now c.loop-part.part-index (length c.args.nodes.now) c.part-item.result c.requires c.loop-part-test.true c.part-item.is)
-
-pub loop-part-preserved : goal.loop-part-preserved
-loop-part-preserved c =
-    rw (joins_more c.args.parts.now c.loop-part.part-index c.part-item.result c.loop-part-test.true c.part-item.is) (placed_then _ _ _ _ _ _ c.loop-part.invariant (rw c.deref.ensures.value at c.in_ok-push_placed.ensures))
+pub loop-join-preserved : goal.loop-join-preserved
+loop-join-preserved c =
+    let nodes = c.args.nodes.now in
+    let none : Join = record { from = 0; to = 0; height = pos 0 } in
+    let j = get_or c.args.joins.now c.loop-join.join-index none in
+    elim c.match-place_join.branch [
+      | in-Some+in_ok-push+in_ok-push-2 w ↦
+          rw (take_more c.args.joins.now c.loop-join.join-index none c.loop-join-test.true) (placed_then nodes _ _ _ _ _ c.loop-join.invariant
+          (rw (w.placed-is, w.in_ok-push-2.ensures.items, w.in_ok-push.ensures.items, w.turned.ensures) (one_placed nodes j _ c.loop-join.placed.items (rw w.in-Some.is at c.place_join.ensures))))
+      | in_default w ↦
+          rw (take_more c.args.joins.now c.loop-join.join-index none c.loop-join-test.true) (placed_then nodes _ _ _ _ _ c.loop-join.invariant
+          (rw w.placed-is (not_placed nodes j c.loop-join.placed.items (rw w.in_default.is at c.place_join.ensures))))
+    ]
 
 pub returns : goal.returns
-returns c = rw (take_all c.loop-part.part-index c.args.parts.now c.loop-part-test.false) at c.loop-part.invariant
+returns c = rw (take_all c.loop-join.join-index c.args.joins.now c.loop-join-test.false) at c.loop-join.invariant

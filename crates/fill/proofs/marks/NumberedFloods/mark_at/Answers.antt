@@ -1,8 +1,12 @@
-use Rattle.std.proofs.Common.{◌<◌, length, get_or, arith, sym, ap, ◌∙◌}
+use Rattle.std.proofs.Common.{◌<◌, rules, length, get_or, arith, sym, ap, ◌∙◌}
+use mir.Val.{SFits}
+use Rattle.std.specs.Prelude.{option_map}
+use Rattle.std.proofs.lemmas.Int.{to_z-of_z}
 use Rattle.std.proofs.lemmas.Option.{slice_get-get_or}
+use Rattle.terrain.proofs.Heights.{height_width}
 use Rattle.tiles.proofs.Cut.{tile_of_place_below}
-use Rattle.fill.specs.Gathering.{mark_in}
-use Rattle.fill.proofs.CellMarks.{mark_from_tile, mark_outside}
+use Rattle.fill.specs.Numbers.{first_of}
+use Rattle.fill.proofs.CellMarks.{among_shift, index_inside, mark_outside, shift}
 use Rattle.fill.proofs.marks.NumberedFloods.mark_at.Goals as goal
 use Rattle.fill.proofs.marks.NumberedFloods.mark_at.Goals.{then-place-rows-via-then-place-rows, then-place-rows-via-else-place-rows+then-place-cols}
 
@@ -18,25 +22,43 @@ bounds-self-own c =
     let below = tile_of_place_below c.args.self.now.tiling.now c.args.place c.rows.ensures.lawful (omega (arith, c.if-place-rows.false, c.rows.ensures.value), omega (arith, c.if-place-cols.false, c.cols.ensures.value)) in
     omega (arith, below, c.tile_of-own.ensures, c.args.self.now.fit.count)
 
+pub returns-in_err-mark : goal.returns-in_err-mark
+returns-in_err-mark c =
+    let t = c.args.self.now.tiling.now in
+    let floods = c.args.self.now.floods.now in
+    let own = c.tile_of-own.result in
+    let f = get_or floods own c.index-self-own.result in
+    let below = tile_of_place_below t c.args.place c.rows.ensures.lawful (omega (arith, c.if-place-rows.false, c.rows.ensures.value), omega (arith, c.if-place-cols.false, c.cols.ensures.value)) in
+    let there = slice_get-get_or floods own c.index-self-own.result (omega (arith, below, c.tile_of-own.ensures, c.args.self.now.fit.count)) in
+    c.from_residual.ensures ∙ sym (among_shift t floods own f c.args.place there (sym c.tile_of-own.ensures) ∙ ap (option_map (shift (first_of floods own))) (sym c.mark_in.ensures ∙ c.in_err-mark.was))
+
 pub bounds-self-own-2 : goal.bounds-self-own-2
 bounds-self-own-2 c =
     let below = tile_of_place_below c.args.self.now.tiling.now c.args.place c.rows.ensures.lawful (omega (arith, c.if-place-rows.false, c.rows.ensures.value), omega (arith, c.if-place-cols.false, c.cols.ensures.value)) in
     omega (arith, below, c.tile_of-own.ensures, c.args.self.now.fit.count, c.args.self.now.numbers.size)
 
-pub mark_in-requires : goal.mark_in-requires
-mark_in-requires c =
+pub overflow_add-result : goal.overflow_add-result
+overflow_add-result c =
     let numbers = c.args.self.now.numbers in
+    let floods = c.args.self.now.floods.now in
+    let own = c.tile_of-own.result in
+    let f = get_or floods own c.index-self-own.result in
     let below = tile_of_place_below c.args.self.now.tiling.now c.args.place c.rows.ensures.lawful (omega (arith, c.if-place-rows.false, c.rows.ensures.value), omega (arith, c.if-place-cols.false, c.cols.ensures.value)) in
-    let low : c.tile_of-own.result < length c.args.self.now.floods.now = omega (arith, below, c.tile_of-own.ensures, c.args.self.now.fit.count) in
-    omega (arith, numbers.few c.tile_of-own.result _ (slice_get-get_or c.args.self.now.floods.now c.tile_of-own.result c.index-self-own.result low), numbers.each c.tile_of-own.result low)
+    let low : own < length floods = omega (arith, below, c.tile_of-own.ensures, c.args.self.now.fit.count) in
+    let there = slice_get-get_or floods own c.index-self-own.result low in
+    let inside = index_inside f c.args.place c.in_ok-mark.mark (numbers.lawful own f there) (sym c.mark_in.ensures ∙ c.in_ok-mark.was) in
+    omega (arith, numbers.few own f there, numbers.each own low, inside)
 
 pub returns : goal.returns
 returns c =
     let t = c.args.self.now.tiling.now in
     let floods = c.args.self.now.floods.now in
     let own = c.tile_of-own.result in
+    let f = get_or floods own c.index-self-own.result in
+    let m = c.in_ok-mark.mark in
     let below = tile_of_place_below t c.args.place c.rows.ensures.lawful (omega (arith, c.if-place-rows.false, c.rows.ensures.value), omega (arith, c.if-place-cols.false, c.cols.ensures.value)) in
     let low : own < length floods = omega (arith, below, c.tile_of-own.ensures, c.args.self.now.fit.count) in
-    let f = get_or floods own c.index-self-own.result in
-    c.mark_in.ensures ∙ ap (λ n. mark_in n f c.args.place) (c.args.self.now.numbers.each own low)
-    ∙ mark_from_tile t floods own f c.args.place (slice_get-get_or floods own c.index-self-own.result low) (sym c.tile_of-own.ensures)
+    let there = slice_get-get_or floods own c.index-self-own.result low in
+    let fits : SFits height_width m.level = search rules in
+    let known = among_shift t floods own f c.args.place there (sym c.tile_of-own.ensures) ∙ ap (option_map (shift (first_of floods own))) (sym c.mark_in.ensures ∙ c.in_ok-mark.was) in
+    rw (to_z-of_z height_width m.level fits, c.args.self.now.numbers.each own low) (sym known)

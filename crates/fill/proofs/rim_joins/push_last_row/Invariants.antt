@@ -1,0 +1,11 @@
+use Rattle.std.proofs.Common.{◌≡◌, ◌<◌}
+use Rattle.tiles.specs.Cutting.{IsInTile}
+use Rattle.fill.specs.Gathering.{Adds, IsOutside, mark_among}
+use Rattle.fill.proofs.rim_joins.push_last_row.Given as goal
+
+abbrev pub invariant-loop-col : goal.invariant-loop-col
+invariant-loop-col l =
+    let t = l.tiles.tiling.now in
+    Adds (mark_among t l.tiles.floods.now) l.left_out
+    (λ p q. (IsInTile t l.tile p × (p.row ≡ l.row) × (p.col < l.col)) × IsOutside t l.tile q)
+    l.initial.joins.items l.joins.items

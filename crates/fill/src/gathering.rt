@@ -1,0 +1,49 @@
+//! The joins of all tiles, by the numbers of labels: [`graph_joins`].
+ghost use Rattle.std.specs.Prelude.{◌≡◌, Bool, ◌+◌, ◌<◌, ◌≤◌, ◌++◌, IfOk, OnOk, length, map};
+ghost use Rattle.std.specs.List.{All};
+ghost use Rattle.terrain.specs.Raster.{Terrain};
+ghost use Rattle.fill.specs.Spills.{AreFloods};
+ghost use Rattle.fill.specs.Gathering.{AreGathered, AreInner, shifted, spared_of};
+
+use crate::left_out::LeftOut;
+use crate::marks::NumberedFloods;
+use crate::rim_joins::push_rim_joins;
+use crate::spills::Join;
+use std::alloc::{AllocError, Global};
+
+/// Adds joins of labels that are counted from this one.
+fn push_shifted(joins: &mut Vec<Join>, first: u32, inner: &[Join]) -> Result<(), AllocError>
+    requires { All (λ j. (first + j.from ≤ 4294967295) × (first + j.to ≤ 4294967295)) inner.now }
+    ensures { OnOk result (joins.new.items ≡ joins.old.items ++ map (shifted first) inner.now) }
+{
+    for join in inner {
+        joins.push(Join {
+            from: first + join.from,
+            to: first + join.to,
+            height: join.height,
+        })?;
+    }
+    Ok(())
+}
+
+/// The joins of all labels: those inside the tiles, and those over rims.
+pub(crate) fn graph_joins(
+    alloc: Global,
+    tiles: &NumberedFloods<'_>,
+    left_out: &LeftOut<'_>,
+    inner: &[Vec<Join>],
+) -> Result<Vec<Join>, AllocError>
+    requires floods { (t : Terrain) × AreFloods t tiles.now.tiling.now tiles.now.floods.now }
+    requires inner { (spare : Bool) × (left_out.now ≡ spared_of spare tiles.now.floods.now)
+        × AreInner tiles.now.floods.now spare inner.now }
+    ensures { IfOk result (λ v.
+        AreGathered tiles.now.tiling.now tiles.now.floods.now left_out.now v.items) }
+{
+    let mut joins = Vec::new(alloc);
+    for tile in 0..tiles.tiling.tiles() {
+        let index = tile as usize;
+        push_shifted(&mut joins, tiles.firsts[index], &inner[index])?;
+        push_rim_joins(&mut joins, tiles, left_out, tile)?;
+    }
+    Ok(joins)
+}
