@@ -208,15 +208,15 @@ pub raised_cells : (c : Cutting) (floods : List Flood) (tile : ℕ) (f : Flood)
     → IsMadeTile c tile (λ p cell. cell ≡ cell_of (raised_among c floods levels p)) cells
 raised_cells c floods tile f levels cells h fit there are =
     let area : length f.labels ≡ cell_count c tile =
-        fit.sizes tile f there ∙ ap (λ (x : Bounds). x.rows * x.cols) (fit.bounds tile f there) in
+    fit.sizes tile f there ∙ ap (λ (x : Bounds). x.rows * x.cols) (fit.bounds tile f there) in
     tile_of_entries c tile (λ p cell. cell ≡ cell_of (raised_among c floods levels p)) cells
     (are.size ∙ area) (λ p i.
-        let b = bounds_of c tile in
-        let k = index_in b p in
-        let low : k < length f.labels =
-            omega (arith, index_in_below b p (in_bounds c tile p h i), area) in
-        tile_entry-in c tile cells p i ∙ are.each k low
-        ∙ ap cell_of (number_here c floods tile k f levels p h fit there i refl))
+    let b = bounds_of c tile in
+    let k = index_in b p in
+    let low : k < length f.labels =
+    omega (arith, index_in_below b p (in_bounds c tile p h i), area) in
+    tile_entry-in c tile cells p i ∙ are.each k low
+    ∙ ap cell_of (number_here c floods tile k f levels p h fit there i refl))
 
 -- a label lies in the grid
 label_inside : (t : Terrain) (c : Cutting) (floods : List Flood) (p label : Place) → AreFloods t c floods → label_among c floods p ≡ Some label → IsWithin c label

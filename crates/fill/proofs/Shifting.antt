@@ -62,7 +62,7 @@ module _ (t : Terrain) (c : Cutting) (floods : List Flood) (are : AreFloods t c 
   settled_there a b a_low b_low = elim (cases_Bool spare) [
     | inl holds ↦
         let all : (k : ℕ) → k < length f.table.places → get_or (spared_of spare floods).sources (first + k) None ≡ get_or (spared_in spare f).sources k None = λ k low.
-            ap (λ (z : List (Option ℤ)). get_or z (first + k) None) (cond-true _ _ _ holds) ∙ end_at t c floods tile k f are there low ∙ ap (λ (z : List (Option ℤ)). get_or z k None) (sym (cond-true _ _ _ holds)) in
+        ap (λ (z : List (Option ℤ)). get_or z (first + k) None) (cond-true _ _ _ holds) ∙ end_at t c floods tile k f are there low ∙ ap (λ (z : List (Option ℤ)). get_or z k None) (sym (cond-true _ _ _ holds)) in
         ap (λ o. is_some o && is_some (get_or (spared_of spare floods).sources (first + b) None)) (all a a_low) ∙ ap (λ o. is_some (get_or (spared_in spare f).sources a None) && is_some o) (all b b_low)
     | inr fails ↦ ap (λ (z : List (Option ℤ)). are_settled z (first + a) (first + b)) (cond-false _ _ _ fails) ∙ ap (λ (z : List (Option ℤ)). are_settled z a b) (sym (cond-false _ _ _ fails))
   ]
@@ -103,17 +103,20 @@ module _ (t : Terrain) (c : Cutting) (floods : List Flood) (are : AreFloods t c 
       )
 
   spared_there : (p q : Place) → IsSpared (mark_in 0 f) (spared_in spare f) p q → IsSpared (mark_among c floods) (spared_of spare floods) p q
-  spared_there p q s = (s.0, record {
-    from = shift first s.1.from;
-    below = shift first s.1.below;
-    to = shift first s.1.to;
-    from_is = mark_known p _ s.1.from_is;
-    below_is = mark_known (record { row = q.row; col = p.col }) _ s.1.below_is;
-    to_is = mark_known q _ s.1.to_is;
-    next_row = s.1.next_row;
-    aside = s.1.aside;
-    low = s.1.low;
-  })
+  spared_there p q s = (
+    s.0,
+    record {
+      from = shift first s.1.from;
+      below = shift first s.1.below;
+      to = shift first s.1.to;
+      from_is = mark_known p _ s.1.from_is;
+      below_is = mark_known (record { row = q.row; col = p.col }) _ s.1.below_is;
+      to_is = mark_known q _ s.1.to_is;
+      next_row = s.1.next_row;
+      aside = s.1.aside;
+      low = s.1.low;
+    },
+  )
 
   -- their numbers have 32 bits
   pub inner_few : (inner : List Join) → first_of floods tile + length f.table.places ≤ 4294967295 → IsInnerOf spare f inner → All (λ j. (first + j.from ≤ 4294967295) × (first + j.to ≤ 4294967295)) inner
@@ -142,8 +145,13 @@ module _ (t : Terrain) (c : Cutting) (floods : List Flood) (are : AreFloods t c 
         let k = meets_from p q j at.0 at.1 m in
         elim (s.every p q k.0 (of_bounds p at.0) after k.1) [
           | inl spared ↦ inl (spared_there p q spared)
-          | inr low ↦ inr (shifted first low.0, Contains-append_right old (map (shifted first) inner) (shifted first low.0) (contains_map (shifted first) inner low.0 low.1),
-            ap (λ n. first + n) low.2 ∙ ap (λ (z : Join). z.from) k.2, ap (λ n. first + n) low.3 ∙ ap (λ (z : Join). z.to) k.2, subst (λ z. low.0.height ≤ℤ z) (ap (λ (z : Join). z.height) k.2) low.4)
+          | inr low ↦ inr (
+            shifted first low.0,
+            Contains-append_right old (map (shifted first) inner) (shifted first low.0) (contains_map (shifted first) inner low.0 low.1),
+            ap (λ n. first + n) low.2 ∙ ap (λ (z : Join). z.from) k.2,
+            ap (λ n. first + n) low.3 ∙ ap (λ (z : Join). z.to) k.2,
+            subst (λ z. low.0.height ≤ℤ z) (ap (λ (z : Join). z.height) k.2) low.4,
+          )
         ];
   })
 
@@ -153,6 +161,6 @@ module _ (t : Terrain) (c : Cutting) (floods : List Flood) (are : AreFloods t c 
       adds_as (mark_among c floods) (spared_of spare floods) (λ p q. (IsInTile c tile p × IsInTile c tile q) ⊎ (IsInTile c tile p × IsOutside c tile q)) (λ p q. IsInTile c tile p) old new
       (λ p q at. elim at [ inl both ↦ both.0 | inr over ↦ over.0 ])
       (λ p q touch after m m_is n n_is at.
-        let within = marked_within c floods q n are.lawful (fit_of t c floods are) n_is in
-        elim (cases_eq (tile_of_place c q) tile) [ inl same ↦ inl (at, (within, same)) | inr other ↦ inr (at, λ i. other i.1) ])
+      let within = marked_within c floods q n are.lawful (fit_of t c floods are) n_is in
+      elim (cases_eq (tile_of_place c q) tile) [ inl same ↦ inl (at, (within, same)) | inr other ↦ inr (at, λ i. other i.1) ])
       (adds_then (mark_among c floods) (spared_of spare floods) (λ p q. IsInTile c tile p × IsInTile c tile q) (λ p q. IsInTile c tile p × IsOutside c tile q) (λ p q. (IsInTile c tile p × IsInTile c tile q) ⊎ (IsInTile c tile p × IsOutside c tile q)) old now new (λ p q. (λ at. at, λ at. at)) inside outside)

@@ -112,7 +112,7 @@ pub record AreEntries (entry : ℕ → Option ℤ) (count : ℕ) (list : List (O
 abbrev pub AreGreater : List ℤ → List ℕ → List (Option ℤ) → List (Option ℤ) → Type 0
 AreGreater heights labels spills raised =
     AreEntries (λ i. greater_of (Some (slice_index_or heights i (pos 0)))
-        (slice_index_or spills (slice_index_or labels i 0) None)) (length heights) raised
+    (slice_index_or spills (slice_index_or labels i 0) None)) (length heights) raised
 
 pub record IsRaised (c : Cutting) (f : Flood) (levels : List (Option ℤ)) (raised : List (Option ℤ)) : Type 0 where
   pub size : length raised ≡ length f.levels

@@ -79,7 +79,12 @@ pub(crate) fn join_of(sources: &[Cell], from: Mark, to: Option<Mark>) -> Option<
 /// Whether the join of two cells that touch at their corners is left out: the cell below the first
 /// is no higher than one of them, so that its joins with both do the same.
 #[inline(always)]
-pub(crate) fn is_spared(left_out: &LeftOut<'_>, from: Mark, below: Option<Mark>, to: Option<Mark>) -> bool
+pub(crate) fn is_spared(
+    left_out: &LeftOut<'_>,
+    from: Mark,
+    below: Option<Mark>,
+    to: Option<Mark>,
+) -> bool
     ensures { OnTrue result ((left_out.now.bypassed ≡ true) × (between end : Mark)
         × (below ≡ Some between) × (to ≡ Some end)
         × (between.level ≤ℤ int_max from.level end.level)) }

@@ -109,7 +109,7 @@ fn push_last_row(
         + (bounds_of tiles.now.tiling.now tile).rows }
     ensures { OnOk result (Adds (mark_among tiles.now.tiling.now tiles.now.floods.now) left_out.now
         (λ p q. (IsInTile tiles.now.tiling.now tile p × (p.row ≡ row))
-            × IsOutside tiles.now.tiling.now tile q) joins.old.items joins.new.items) }
+        × IsOutside tiles.now.tiling.now tile q) joins.old.items joins.new.items) }
 {
     let Bounds { left, cols, .. } = tiles.tiling.bounds(tile);
     for col in left..left + cols {
@@ -134,7 +134,7 @@ fn push_row(
         + (bounds_of tiles.now.tiling.now tile).rows }
     ensures { OnOk result (Adds (mark_among tiles.now.tiling.now tiles.now.floods.now) left_out.now
         (λ p q. (IsInTile tiles.now.tiling.now tile p × (p.row ≡ row))
-            × IsOutside tiles.now.tiling.now tile q) joins.old.items joins.new.items) }
+        × IsOutside tiles.now.tiling.now tile q) joins.old.items joins.new.items) }
 {
     let Bounds {
         top,

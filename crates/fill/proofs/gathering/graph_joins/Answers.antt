@@ -48,8 +48,8 @@ loop-tile-preserved c =
     let list = c.index-inner-index.result in
     let listed : slice_get c.args.inner.now tile ≡ Some list = slice_get_read c.args.inner.now (length c.args.inner.now) tile list refl (omega (arith, low, c.requires.inner.2.count)) c.index-inner-index.is in
     let inside =
-        shift_adds t k floods are numbers.lawful spare tile f.0 f.1 list.items _ _ (c.requires.inner.2.each tile f.0 list f.1 listed)
-        (rw (c.deref.ensures.value, numbers.each tile low) at c.in_ok-push_shifted.ensures) in
+    shift_adds t k floods are numbers.lawful spare tile f.0 f.1 list.items _ _ (c.requires.inner.2.each tile f.0 list f.1 listed)
+    (rw (c.deref.ensures.value, numbers.each tile low) at c.in_ok-push_shifted.ensures) in
     let over = subst (λ (o : Spared). Adds marks o (λ p q. IsInTile k tile p × IsOutside k tile q) c.push_shifted.new.joins.items c.push_rim_joins.new.joins.items) out c.in_ok-push_rim_joins.ensures in
     let both = tile_adds t k floods are numbers.lawful spare tile f.0 f.1 _ _ _ inside over in
     adds_then marks c.args.left_out.now

@@ -16,7 +16,7 @@ loop-col-preserved c =
     let left = ap (λ (z : Bounds). z.left) c.bounds-left.ensures.value in
     let cols = ap (λ (z : Bounds). z.cols) c.bounds-left.ensures.value in
     let inside : IsInBounds b place =
-        (c.requires.top, c.requires.row, omega (arith, c.loop-col.auto.col, left), omega (arith, c.loop-col-test.true, left, cols)) in
+    (c.requires.top, c.requires.row, omega (arith, c.loop-col.auto.col, left), omega (arith, c.loop-col-test.true, left, cols)) in
     adds_then (mark_in 0 c.args.flood.now) c.args.left_out.now
     (λ p q. IsInBounds b p × (p.row ≡ row) × (p.col < col))
     (λ p q. p ≡ place)

@@ -28,8 +28,8 @@ loop-spot-preserved c =
       | in-Some-near_place+else-not-contains w ↦
           let near = w.in-Some-near_place.near in
           rw w.joins-is (added_none marks out p outside spot _ _ c.loop-spot.invariant (λ q touch at on.
-            let q_is : near ≡ q = same_place near q (omega (arith, at.0, w.in-Some-near_place.ensures.row)) (omega (arith, at.1, w.in-Some-near_place.ensures.col)) in
-            on (subst (IsInTile t tile) q_is ((w.bounds.ensures.places near).1 (in_bounds_parts w.bounds.result near (sym w.if-not-contains.ensures))))))
+          let q_is : near ≡ q = same_place near q (omega (arith, at.0, w.in-Some-near_place.ensures.row)) (omega (arith, at.1, w.in-Some-near_place.ensures.col)) in
+          on (subst (IsInTile t tile) q_is ((w.bounds.ensures.places near).1 (in_bounds_parts w.bounds.result near (sym w.if-not-contains.ensures))))))
       | in_default-near_place w ↦
           rw w.joins-is (added_none marks out p outside spot _ _ c.loop-spot.invariant (λ q touch at on. elim w.in_default-near_place.ensures.none [
             | inl above ↦ omega (arith, at.0, above)

@@ -40,14 +40,14 @@ returns c =
       | inr here ↦ (subst (λ (z : Place). IsInTile t tile z × (z.row ≡ row)) (sym here.0) (last_in, refl), here.1)
     ])
     (λ p q touch after m m_is n n_is at.
-      let inside = (places p).0 at.0.0 in
-      elim (cases_eq p.col b.left) [
-        | inl one ↦ inl (same_place p first at.0.1 one, at.1)
-        | inr other ↦ elim (cases_eq (p.col + 1) (b.left + b.cols)) [
-          | inl one ↦ inr (same_place p last at.0.1 (omega (arith, one)), at.1)
-          | inr amid ↦ absurd (at.1 ((places q).1 (after_inside b p q inside (omega (arith, below, at.0.1)) other amid touch after)))
-        ]
-      ])
+    let inside = (places p).0 at.0.0 in
+    elim (cases_eq p.col b.left) [
+      | inl one ↦ inl (same_place p first at.0.1 one, at.1)
+      | inr other ↦ elim (cases_eq (p.col + 1) (b.left + b.cols)) [
+        | inl one ↦ inr (same_place p last at.0.1 (omega (arith, one)), at.1)
+        | inr amid ↦ absurd (at.1 ((places q).1 (after_inside b p q inside (omega (arith, below, at.0.1)) other amid touch after)))
+      ]
+    ])
     (adds_then marks out (λ p q. (p ≡ first) × outside q) (λ p q. (p ≡ last) × outside q)
     (λ p q. ((p ≡ first) × outside q) ⊎ ((p ≡ last) × outside q)) _ _ _
     (λ p q. (λ at. at, λ at. at)) c.in_ok-push_rim_cell.ensures c.in_ok-push_rim_cell-2.ensures)

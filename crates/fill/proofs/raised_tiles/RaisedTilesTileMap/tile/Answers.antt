@@ -16,9 +16,9 @@ new-requires c =
     let f = c.index.result.now in
     let below : tile < length floods = omega (arith, c.requires, m.fit.count) in
     let first : c.index-first.result.now ≡ first_of floods tile =
-        c.index-first.ensures
-        ∙ get_or_default m.firsts.items tile _ 0 (omega (arith, below, m.numbers.size))
-        ∙ m.numbers.each tile below in
+    c.index-first.ensures
+    ∙ get_or_default m.firsts.items tile _ 0 (omega (arith, below, m.numbers.size))
+    ∙ m.numbers.each tile below in
     let all = length-flat_map-take (λ (g : Flood). g.table.places) floods tile f below in
     omega (arith, first, all, ap (λ (g : Flood). length g.table.places) c.index.ensures, m.levels_size)
 
@@ -26,8 +26,13 @@ pub cells-requires-clause-size : goal.cells-requires-clause-size
 cells-requires-clause-size c =
     let f = c.index.result.now in
     let by = c.in_ok-raised.ensures in
-    omega (arith, ap length by.labels, ap length by.lawful.labels,
-      length-map f.table.indexes (λ (n : ℕ). get_or f.table.places n None), by.size)
+    omega (
+      arith,
+      ap length by.labels,
+      ap length by.lawful.labels,
+      length-map f.table.indexes (λ (n : ℕ). get_or f.table.places n None),
+      by.size,
+    )
 
 pub cells-requires-clause-inside : goal.cells-requires-clause-inside
 cells-requires-clause-inside c = stored_inside _ c.index.result.now _ _ c.in_ok-raised.ensures
@@ -41,9 +46,9 @@ returns c =
     let below : tile < length floods = omega (arith, c.requires, m.fit.count) in
     let there : slice_get floods tile ≡ Some f = slice_get_read floods (length floods) tile f refl below c.index.ensures in
     let first : c.index-first.result.now ≡ first_of floods tile =
-        c.index-first.ensures
-        ∙ get_or_default m.firsts.items tile _ 0 (omega (arith, below, m.numbers.size))
-        ∙ m.numbers.each tile below in
+    c.index-first.ensures
+    ∙ get_or_default m.firsts.items tile _ 0 (omega (arith, below, m.numbers.size))
+    ∙ m.numbers.each tile below in
     let by = rw first at c.in_ok-raised.ensures in
     raised_cells m.tiling floods tile f m.levels _ m.lawful m.fit there
     (c.in_ok-cells.ensures (first_of floods tile) f m.levels by)
