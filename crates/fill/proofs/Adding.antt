@@ -101,6 +101,28 @@ spared_still : (marks : Marks) (out : Spared) (p q : Place) (now new : List Join
 spared_still marks out p q now new kept j (inl spared) = inl spared
 spared_still marks out p q now new kept j (inr covered) = inr (covered_still now new kept j covered)
 
+-- the join of two cells at a corner is spared, where the cell between is no higher
+pub spared_corner : (marks : Marks) (out : Spared) (p q : Place) (from : Mark) (below to : Option Mark)
+    → marks p ≡ Some from → below ≡ marks (record { row = p.row + 1; col = p.col }) → to ≡ marks q
+    → q.row ≡ p.row + 1 → p.col ≢ q.col
+    → (out.bypassed ≡ true) × (between end : Mark) × (below ≡ Some between) × (to ≡ Some end)
+    × (between.level ≤ℤ int_max from.level end.level)
+    → IsSpared marks out p q
+spared_corner marks out p q from below to from_is below_is to_is next_row aside by = (
+  by.0,
+  record {
+    from = from;
+    below = by.1;
+    to = by.2;
+    from_is = from_is;
+    below_is = ap (λ n. marks (record { row = n; col = p.col })) next_row ∙ sym below_is ∙ by.3;
+    to_is = sym to_is ∙ by.4;
+    next_row = next_row;
+    aside = aside;
+    low = by.5;
+  },
+)
+
 -- the way from a place to one that touches it
 abbrev pub way_to : Place → Place → ℕ
 way_to p q = (q.row + 1 - p.row) * 3 + (q.col + 1 - p.col)

@@ -1,29 +1,19 @@
-use Rattle.std.proofs.Common.{◌≡◌, ◌+◌, ◌∙◌, inl, inr, refl, sym, ap}
+use Rattle.std.proofs.Common.{◌≡◌, ◌+◌, inl, inr, refl, sym}
 use Rattle.std.proofs.lemmas.Bool.{OnTrue_at}
 use Rattle.fill.specs.Gathering.{mark_in}
+use Rattle.fill.proofs.Adding.{spared_corner}
 use Rattle.fill.proofs.inner_joins.push_beside.Goals as goal
 
 pub returns-then-is_spared : goal.returns-then-is_spared
 returns-then-is_spared c =
-    let f = c.args.flood.now in
-    let p = c.args.place in
-    let q = c.args.near in
-    let by = OnTrue_at c.if-is_spared.true c.is_spared.ensures in
-    let next_row : q.row ≡ p.row + 1 = elim c.requires.near [ inl same ↦ absurd (c.if-near-place.true same) | inr next ↦ next ] in
+    let marks = mark_in 0 c.args.flood.now in
+    let next_row : c.args.near.row ≡ c.args.place.row + 1 = elim c.requires.near [
+      | inl same ↦ absurd (c.if-near-place.true same)
+      | inr next ↦ next
+    ] in
     inl (
-      (
-        by.0,
-        record {
-          from = c.args.from;
-          below = by.1;
-          to = by.2;
-          from_is = c.requires.from;
-          below_is = ap (λ n. mark_in 0 f (record { row = n; col = p.col })) next_row ∙ sym c.requires.below ∙ by.3;
-          to_is = sym c.mark_in-to.ensures ∙ by.4;
-          next_row = next_row;
-          aside = λ e. c.if-near-place-2.true (sym e);
-          low = by.5;
-        },
-      ),
+      spared_corner marks c.args.left_out.now c.args.place c.args.near c.args.from c.args.below
+          c.mark_in-to.result c.requires.from c.requires.below c.mark_in-to.ensures next_row
+          (λ e. c.if-near-place-2.true (sym e)) (OnTrue_at c.if-is_spared.true c.is_spared.ensures),
       refl,
     )
