@@ -84,9 +84,10 @@ fn push_rim_cell(
         col: place.col,
     };
     let below = tiles.mark_at(tile, south);
+    let bounds = tiles.floods[tile as usize].bounds();
     for spot in 5..9 {
         if let Some(near) = near_place(place, spot) {
-            if !tiles.tiling.bounds(tile).contains(near) {
+            if !bounds.contains(near) {
                 push_beside(joins, tiles, left_out, tile, place, from, below, near)?;
             }
         }

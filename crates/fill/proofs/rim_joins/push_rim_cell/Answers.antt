@@ -1,7 +1,9 @@
-use Rattle.std.proofs.Common.{◌≡◌, ◌∙◌, ℕ, inl, inr, refl, sym, subst, arith}
+use Rattle.std.proofs.Common.{◌≡◌, ◌∙◌, ◌<◌, ℕ, length, inl, inr, refl, sym, subst, arith}
 use Rattle.terrain.proofs.Places.{same_place}
-use Rattle.tiles.specs.Cutting.{IsInTile}
-use Rattle.tiles.proofs.Cut.{in_bounds_from, in_bounds_parts}
+use Rattle.std.proofs.lemmas.Option.{slice_get-get_or}
+use Rattle.tiles.specs.declared.bounds.Bounds.{Bounds}
+use Rattle.tiles.specs.Cutting.{IsInBounds, IsInTile, bounds_of}
+use Rattle.tiles.proofs.Cut.{in_bounds, in_bounds_from, in_bounds_parts, in_tile}
 use Rattle.fill.specs.Gathering.{IsOutside, mark_among}
 use Rattle.fill.proofs.Adding.{after_way, none_added, added_more, added_none, added_spared, all_added, HasAdded}
 use Rattle.fill.proofs.rim_joins.push_rim_cell.Goals as goal
@@ -16,10 +18,15 @@ loop-spot-preserved c =
     let outside = IsOutside t tile in
     let p = c.args.place in
     let spot = c.loop-spot.spot in
+    let floods = c.args.tiles.now.floods.now in
+    let low : tile < length floods = omega (arith, c.args.tiles.now.fit.count, c.requires.tile) in
+    let there = slice_get-get_or floods tile c.index-tiles-tile.result low in
+    let same : c.bounds-bounds.result ≡ bounds_of t tile =
+    c.bounds-bounds.ensures.value ∙ c.args.tiles.now.fit.bounds tile _ there in
     elim c.match-near_place.branch [
       | in-Some-near_place+then-not-contains+in_ok-push_beside w ↦
           let near = w.in-Some-near_place.near in
-          let on : outside near = λ inside. absurd (cc (w.if-not-contains.ensures ∙ in_bounds_from w.bounds.result near ((w.bounds.ensures.places near).0 inside))) in
+          let on : outside near = λ inside. absurd (cc (w.if-not-contains.ensures ∙ in_bounds_from c.bounds-bounds.result near (subst (λ (b : Bounds). IsInBounds b near) (sym same) (in_bounds t tile near c.requires.lawful inside)))) in
           rw w.joins-is (elim w.in_ok-push_beside.ensures [
             | inl spared ↦ added_spared marks out p near outside spot _ _ _ w.in-Some-near_place.ensures.row w.in-Some-near_place.ensures.col spared.0 spared.1 c.loop-spot.invariant
             | inr adds ↦ added_more marks out p near outside spot c.in-Some.from _ _ _ _
@@ -29,7 +36,8 @@ loop-spot-preserved c =
           let near = w.in-Some-near_place.near in
           rw w.joins-is (added_none marks out p outside spot _ _ c.loop-spot.invariant (λ q touch at on.
           let q_is : near ≡ q = same_place near q (omega (arith, at.0, w.in-Some-near_place.ensures.row)) (omega (arith, at.1, w.in-Some-near_place.ensures.col)) in
-          on (subst (IsInTile t tile) q_is ((w.bounds.ensures.places near).1 (in_bounds_parts w.bounds.result near (sym w.if-not-contains.ensures))))))
+          on (subst (IsInTile t tile) q_is (in_tile t tile near c.requires.lawful c.requires.tile
+          (subst (λ (b : Bounds). IsInBounds b near) same (in_bounds_parts c.bounds-bounds.result near (sym w.if-not-contains.ensures)))))))
       | in_default-near_place w ↦
           rw w.joins-is (added_none marks out p outside spot _ _ c.loop-spot.invariant (λ q touch at on. elim w.in_default-near_place.ensures.none [
             | inl above ↦ omega (arith, at.0, above)
