@@ -1,5 +1,6 @@
 -- Labels by a table of their places.
 use Rattle.std.proofs.Common.{◌≡◌, ◌≢◌, ◌==◌, ℕ, ◌+◌, ◌<◌, ◌≤◌, inl, inr, zero, suc, List, [], ◌∷◌, ◌++◌, length, get_or, Option, None, Some, ◌∙◌, sym, ap, subst, refl, arith}
+use Rattle.std.specs.Prelude.{IsSome}
 use Rattle.std.specs.List.{All}
 use Rattle.std.proofs.lemmas.Bool.{cases_eq, cases_lt, eq-eqb, or_left}
 use Rattle.std.proofs.lemmas.List.{map-append, get_or_past, get_or_append_left, get_or_push, length_push}
@@ -47,6 +48,15 @@ cell_listed index label old new cells more some table at is =
     subst (IsTable new) (sym is) (record {
       few = omega (arith, long, table.few, length_push cells index);
       first = listed_kept index label old new at 0 some ∙ table.first;
+      rest = λ k above low. elim (cases_lt k (length old)) [
+        | inl early ↦ subst IsSome (sym (listed_kept index label old new at k early)) (table.rest k above early)
+        | inr late ↦ elim at.only [
+          | inl same ↦ absurd (omega (arith, late, low, ap length same))
+          | inr added ↦
+              let here : index ≡ k = omega (arith, late, low, added.0, ap length added.1, length_push old label) in
+              subst IsSome (sym at.is ∙ ap (λ n. get_or new n None) here) added.2
+        ]
+      ];
       inside = All-push (λ k. k < length new) cells index (λ k d low. omega (arith, long, table.inside k d low)) at.inside;
       used = λ k p e. elim (cases_eq k index) [
         | inl same ↦

@@ -1,5 +1,5 @@
 -- The labels of a tile's cells, by a table of their places.
-use Rattle.std.specs.Prelude.{◌≡◌, ℕ, ◌+◌, ◌<◌, ◌≤◌, ◌⊎◌, ◌==◌, true, List, [], ◌∷◌, ◌++◌, map, length, Option, None, Some, slice_index_or}
+use Rattle.std.specs.Prelude.{◌≡◌, ℕ, ◌+◌, ◌<◌, ◌≤◌, ◌⊎◌, ◌==◌, true, List, [], ◌∷◌, ◌++◌, map, length, Option, None, Some, IsSome, slice_index_or}
 use Rattle.std.specs.Option.{option_map}
 use Rattle.std.specs.List.{All, list_any}
 use Rattle.terrain.specs.declared.place.Place.{Place}
@@ -15,10 +15,12 @@ pub record LabelTable : Type 0 where
 abbrev pub labels_by : List (Option Place) → List ℕ → List (Option Place)
 labels_by places cells = map (λ k. slice_index_or places k None) cells
 
--- The table begins with None, each cell's entry is an index into it, and each of its places is a cell's label.
+-- The table begins with None and has places behind it, each cell's entry is an index into it, and each of its places is
+-- a cell's label.
 pub record IsTable (places : List (Option Place)) (cells : List ℕ) : Type 0 where
   pub few : length places ≤ length cells + 1
   pub first : slice_index_or places 0 None ≡ None
+  pub rest : (k : ℕ) → 0 < k → k < length places → IsSome (slice_index_or places k None)
   pub inside : All (λ k. k < length places) cells
   pub used : (k : ℕ) (p : Place) → slice_index_or places k None ≡ Some p → list_any (λ n. n == k) cells ≡ true
 
@@ -35,8 +37,8 @@ pub record AreMet (b : Bounds) (met : List ℕ) (places : List (Option Place)) :
   pub inside : (node : ℕ) → slice_index_or met node 0 < length places
   pub place : (node : ℕ) → 0 < slice_index_or met node 0 → slice_index_or places (slice_index_or met node 0) None ≡ label_of_node b (Some node)
 
--- The entry stands at this index of the table, which is as it was or has the entry added at its end.
+-- The entry stands at this index of the table, which is as it was or has the entry, a place, added at its end.
 pub record IsListedAt (index : ℕ) (entry : Option Place) (old new : List (Option Place)) : Type 0 where
   pub inside : index < length new
   pub is : slice_index_or new index None ≡ entry
-  pub only : (new ≡ old) ⊎ ((index ≡ length old) × (new ≡ old ++ entry ∷ []))
+  pub only : (new ≡ old) ⊎ ((index ≡ length old) × (new ≡ old ++ entry ∷ []) × IsSome entry)

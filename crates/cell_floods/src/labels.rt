@@ -1,5 +1,5 @@
 //! The labels of a tile's cells: a table of places, and an index for each cell.
-ghost use Rattle.std.specs.Prelude.{◌≡◌, ◌+◌, ◌*◌, ◌^◌, ◌<◌, ◌≤◌, ◌∷◌, [], None, map, length, slice_index_or, IfOk, IfSome, OnOk};
+ghost use Rattle.std.specs.Prelude.{◌≡◌, ◌+◌, ◌*◌, ◌^◌, ◌<◌, ◌≤◌, ◌∷◌, [], None, map, length, is_some, slice_index_or, IfOk, IfSome, OnOk};
 ghost use Rattle.tiles.specs.Cutting.{IsWithinLimits};
 ghost use Rattle.cell_floods.specs.Cells.{place_of_node};
 ghost use Rattle.floods.specs.Notes.{numbered_labels};
@@ -10,6 +10,9 @@ use std::alloc::{AllocError, Global};
 use std::marker::Model;
 use terrain::Place;
 use tiles::Bounds;
+
+/// The index of the cells without a label: the first entry of the table.
+const NO_LABEL: u32 = 0;
 
 /// The labels of the cells of a tile, each once, and for each cell which of them is its own.
 #[derive(Drop)]
@@ -43,6 +46,15 @@ impl Labels {
         ensures { result.now ≡ self.now.indexes }
     {
         &self.indexes
+    }
+
+    /// Whether the cell with this index in the tile's row order has a label. Its place is not looked up.
+    #[inline(always)]
+    pub(crate) fn has(&self, index: usize) -> bool
+        requires { index < length self.now.indexes }
+        ensures { result ≡ is_some (slice_index_or (labels_by self.now.places self.now.indexes) index None) }
+    {
+        self.indexes[index] != NO_LABEL
     }
 
     /// The label of the cell with this index in the tile's row order.
@@ -86,10 +98,10 @@ fn index_of_label(
     ensures met { OnOk result (AreMet bounds met.new places.new.items) }
 {
     let Some(node) = node else {
-        return Ok(0);
+        return Ok(NO_LABEL);
     };
     let index = met[node as usize];
-    if index != 0 {
+    if index != NO_LABEL {
         return Ok(index);
     }
     let index = places.len() as u32;
@@ -98,11 +110,13 @@ fn index_of_label(
     Ok(index)
 }
 
-/// A table of labels with no place yet.
-fn empty_table(alloc: Global) -> Result<Vec<Option<Place>>, AllocError>
+/// A table of labels with no place yet, with room for those of all cells on the rim.
+fn empty_table(alloc: Global, bounds: Bounds) -> Result<Vec<Option<Place>>, AllocError>
+    requires { IsWithinLimits bounds }
     ensures { IfOk result (λ v. v.items ≡ None ∷ []) }
 {
-    let mut places = Vec::new(alloc);
+    let lines = bounds.rows as usize + bounds.cols as usize;
+    let mut places = Vec::with_capacity(alloc, 2 * lines)?;
     places.push(None)?;
     Ok(places)
 }
@@ -118,8 +132,8 @@ pub(crate) fn labels_of(alloc: Global, bounds: Bounds, nodes: &[u32]) -> Result<
     ensures table { IfOk result (λ labels. IsTable labels.places labels.indexes) }
 {
     let count = (bounds.rows as usize + 2) * (bounds.cols as usize + 2);
-    let mut met = vec![in alloc; 0u32; count]?;
-    let mut places = empty_table(alloc)?;
+    let mut met = vec![in alloc; NO_LABEL; count]?;
+    let mut places = empty_table(alloc, bounds)?;
     let mut indexes = Vec::with_capacity(alloc, nodes.len())?;
     for node in nodes {
         let index = index_of_label(&mut places, &mut met, bounds, label_of(*node))?;

@@ -82,16 +82,17 @@ impl TileFlood {
         }
     }
 
-    /// The level of the cell with this index in the tile's row order.
+    /// The level of the cell with this index in the tile's row order: None just where there is no label.
     #[inline(always)]
     pub fn level_at(&self, index: usize) -> Option<Height>
         requires { index < length self.now.labels }
-        ensures { result ≡ slice_index_or self.now.levels index None }
+        ensures value { result ≡ slice_index_or self.now.levels index None }
+        ensures label { is_none result ≡ is_none (slice_index_or self.now.labels index None) }
     {
-        let height = self.heights[index];
-        match self.label_at(index) {
-            Some(_) => Some(height),
-            None => None,
+        if self.labels.has(index) {
+            Some(self.heights[index])
+        } else {
+            None
         }
     }
 

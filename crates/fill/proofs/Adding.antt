@@ -1,19 +1,20 @@
 -- Joins that are added cell by cell.
-use Rattle.std.proofs.Common.{◌≡◌, ◌≢◌, ◌==◌, ◌↔◌, ℕ, ◌+◌, ◌-◌, ◌*◌, ◌/◌, ◌%◌, ◌<◌, ◌≤◌, ◌⊎◌, inl, inr, ℤ, ◌≤ℤ◌, false, true, List, [], ◌∷◌, ◌++◌, length, get_or, set, Option, None, Some, ◌∙◌, sym, ap, subst, refl, arith}
+use Rattle.std.proofs.Common.{◌≡◌, ◌≢◌, ◌==◌, ◌↔◌, Bool, ℕ, zero, suc, ◌+◌, ◌<◌, ◌⊎◌, inl, inr, ℤ, ◌≤ℤ◌, false, true, List, [], ◌∷◌, ◌++◌, length, get_or, set, Option, None, Some, ◌∙◌, sym, ap, subst, refl, arith}
 use Rattle.std.specs.Int.{int_max}
 use Rattle.std.specs.Int.Signed.{≤ℤ_refl}
 use Rattle.std.specs.List.{Contains}
-use Rattle.std.proofs.lemmas.Bool.{cases_eq, cond-true, cond-false, eq-eqb, eqb-true, cases_Bool}
-use Rattle.std.proofs.lemmas.Nat.{same_from_place, mod_below, div-add-mod'}
+use Rattle.std.proofs.lemmas.Bool.{cases_eq, cases_order, cond-true, cond-false, eq-eqb, eqb-true, cases_Bool}
 use Rattle.std.proofs.lemmas.Option.{same_Some}
 use Rattle.std.proofs.lemmas.List.{length-set, get_or-set_same, get_or-set_other, get_or_default}
 use Rattle.std.proofs.lemmas.List.Elements.{Contains-append_left, Contains-append_right, Contains-append_cases}
 use Rattle.terrain.proofs.Orders.{trans}
 use Rattle.terrain.proofs.Options.{none_some}
 use Rattle.terrain.specs.Neighbours.{Touches}
+use Rattle.terrain.specs.Ways.{before, place_if_both, place_on, ways_from}
 use Rattle.terrain.specs.declared.place.Place.{Place}
+use Rattle.terrain.proofs.EightWays.{Touches-from_ways}
 use Rattle.terrain.proofs.Places.{same_place}
-use Rattle.fill.specs.Gathering.{Marks, are_settled, Spared, IsSpared, Meets, IsMeetingAt, joins_of, Adds, AddsCovered, Covered, IsAfter}
+use Rattle.fill.specs.Gathering.{Marks, are_settled, Spared, IsSpared, Meets, IsPairFrom, IsPairOn, joins_of, Adds, AddsCovered, Covered, IsAfter}
 use Rattle.fill.specs.declared.spills.Join.{Join}
 use Rattle.fill.specs.declared.marks.Mark.{Mark}
 use Rattle.floods.proofs.Heaps.{cons_head, cons_cases, one_held}
@@ -123,56 +124,50 @@ spared_corner marks out p q from below to from_is below_is to_is next_row aside 
   },
 )
 
--- the way from a place to one that touches it
-abbrev pub way_to : Place → Place → ℕ
-way_to p q = (q.row + 1 - p.row) * 3 + (q.col + 1 - p.col)
+-- the place to the west, in this row
+pub west_of : (row n : ℕ) (q : Place) → row ≡ q.row → q.col + 1 ≡ n → place_if_both (Some row) (before n) ≡ Some q
+west_of row zero q at next = absurd (omega (arith, next))
+west_of row (suc n) q at next = ap Some (same_place (record { row = row; col = n }) q at (omega (arith, next)))
 
--- a place after another stands on a later way than its own
-pub after_way : (p q : Place) → Touches p q → IsAfter p q → 4 < way_to p q
-after_way p q t (inl row) = omega (arith, row)
-after_way p q t (inr col) = omega (arith, col.0, col.1)
+-- a place after another lies on one of its first four ways
+after_way : (p q : Place) → Touches p q → IsAfter p q → ((place_on 0 p ≡ Some q) ⊎ (place_on 1 p ≡ Some q)) ⊎ ((place_on 2 p ≡ Some q) ⊎ (place_on 3 p ≡ Some q))
+after_way p q t (inr beside) = inl (inl (ap Some (same_place (record { row = p.row; col = p.col + 1 }) q beside.0 (omega (arith, t.col_right, beside.1)))))
+after_way p q t (inl down) =
+    let row : p.row + 1 ≡ q.row = omega (arith, t.row_down, down) in
+    elim (cases_order p.col q.col) [
+      | inl same ↦ inr (inl (ap Some (same_place (record { row = p.row + 1; col = p.col }) q row same)))
+      | inr other ↦ elim other [
+        | inl east ↦ inl (inr (ap Some (same_place (record { row = p.row + 1; col = p.col + 1 }) q row (omega (arith, t.col_right, east)))))
+        | inr back ↦ inr (inr (west_of (p.row + 1) p.col q row (omega (arith, t.col_left, back))))
+      ]
+    ]
 
--- of the joins that a cell asks for with those of such places, those before a way have been added
-pub record HasAdded (marks : Marks) (out : Spared) (p : Place) (On : Place → Type 0) (way : ℕ) (old new : List Join) : Type 0 where
-  pub kept : (j : Join) → Contains old j → Covered new j
-  pub only : (j : Join) → Contains new j → Contains old j ⊎ IsMeetingAt marks out (λ r q. (r ≡ p) × On q) j
-  pub every : (q : Place) (j : Join) → On q → IsAfter p q → way_to p q < way → Meets marks out p q j → IsSpared marks out p q ⊎ Covered new j
+-- the place on one of those ways lies in the same row or in the next
+west_row : (row n : ℕ) (q : Place) → place_if_both (Some row) (before n) ≡ Some q → row ≡ q.row
+west_row row zero q on = none_some (place_if_both (Some row) None) q refl on
+west_row row (suc n) q on = ap (λ (z : Place). z.row) (same_Some _ q on)
 
--- no place adds nothing
-pub adds_none : (marks : Marks) (out : Spared) (pairs : Place → Place → Type 0) (old new : List Join) → new ≡ old → ((p q : Place) → pairs p q → ⊥) → Adds marks out pairs old new
-adds_none marks out pairs old new same none = subst (Adds marks out pairs old) (sym same) (record {
-  kept = λ j h. covered_itself old j h;
-  only = λ j h. inl h;
-  every = λ p q j at. absurd (none p q at);
-})
+pub next_row : (p q : Place) (way : ℕ) → way < 4 → place_on way p ≡ Some q → p.row ≢ q.row → q.row ≡ p.row + 1
+next_row p q zero few on differ = absurd (differ (ap (λ (z : Place). z.row) (same_Some _ q on)))
+next_row p q (suc zero) few on differ = sym (ap (λ (z : Place). z.row) (same_Some _ q on))
+next_row p q (suc (suc zero)) few on differ = sym (ap (λ (z : Place). z.row) (same_Some _ q on))
+next_row p q (suc (suc (suc zero))) few on differ = sym (west_row (p.row + 1) p.col q on)
+next_row p q (suc (suc (suc (suc way)))) few on differ = absurd (omega (arith, few))
 
-pub none_added : (marks : Marks) (out : Spared) (p : Place) (On : Place → Type 0) (way : ℕ) (old : List Join) → ((q : Place) → Touches p q → IsAfter p q → way ≤ way_to p q) → HasAdded marks out p On way old old
-none_added marks out p On way old past = record {
-  kept = λ j h. covered_itself old j h;
-  only = λ j h. inl h;
-  every = λ q j on after low m. absurd (omega (arith, past q m.touches after, low));
-}
-
--- the place on a way
-way_place : (p q : Place) (way : ℕ) → Touches p q → way_to p q ≡ way → (q.row + 1 ≡ p.row + way / 3) × (q.col + 1 ≡ p.col + way % 3)
-way_place p q way t e =
-    let both = same_from_place (q.row + 1 - p.row) (q.col + 1 - p.col) (way / 3) (way % 3) 3 (omega (arith, t.col_right)) (mod_below way 3 (omega arith)) (e ∙ sym (div-add-mod' way 3)) in
-    (omega (arith, both.0, t.row_up), omega (arith, both.1, t.col_left))
-
--- the mark on the way was none, or its join was added
-pub added_more : (marks : Marks) (out : Spared) (p near : Place) (On : Place → Type 0) (way : ℕ) (from : Mark) (o : Option Mark) (old now new : List Join) → marks p ≡ Some from → marks near ≡ o → near.row + 1 ≡ p.row + way / 3 → near.col + 1 ≡ p.col + way % 3 → way < 9 → On near → HasAdded marks out p On way old now → AddsCovered now (joins_of out.sources from o) new → HasAdded marks out p On (way + 1) old new
-added_more marks out p near On way from o old now new here there row col few on s is = record {
-  kept = λ j h. covered_still now new is.kept j (s.kept j h);
-  only = λ j h. elim (is.only j h) [
-    | inl was ↦ s.only j was
+-- the cell on a way has no mark, or its join was added
+pub adds_on_way : (marks : Marks) (out : Spared) (p q : Place) (way : ℕ) (wanted : Place → Bool) (from : Mark) (o : Option Mark) (old new : List Join) → marks p ≡ Some from → marks q ≡ o → way < 8 → place_on way p ≡ Some q → wanted q ≡ true → AddsCovered old (joins_of out.sources from o) new → Adds marks out (IsPairOn way p wanted) old new
+adds_on_way marks out p q way wanted from o old new here there few on want s = record {
+  kept = s.kept;
+  only = λ j h. elim (s.only j h) [
+    | inl was ↦ inl was
     | inr made ↦
         let m = joins_of_is out.sources from o j made in
         inr (
           p,
-          near,
-          (refl, on),
-          subst (λ (z : Join). Meets marks out p near z) m.4 (record {
-            touches = touch;
+          q,
+          (refl, on, want),
+          subst (λ (z : Join). Meets marks out p q z) m.4 (record {
+            touches = (Touches-from_ways p q (way, few, sym (get_or_default (ways_from p) way None (Some q) few) ∙ on)).0;
             from_level = from.level;
             to_level = m.0.level;
             from_is = here;
@@ -183,68 +178,38 @@ added_more marks out p near On way from o old now new here there row col few on 
           }),
         )
   ];
-  every = λ q j held after low m. elim (cases_eq (way_to p q) way) [
-    | inr other ↦ spared_still marks out p q now new is.kept j (s.every q j held after (omega (arith, low, other)) m)
-    | inl same ↦
-        let at = way_place p q way m.touches same in
-        let q_is : q ≡ near = same_place q near (omega (arith, at.0, row)) (omega (arith, at.1, col)) in
-        let to : Mark = record { level = m.to_level; node = j.to } in
-        let mark_is : o ≡ Some to = sym there ∙ ap marks (sym q_is) ∙ m.to_is in
-        let from_same = same_Some from (record { level = m.from_level; node = j.from }) (sym here ∙ m.from_is) in
-        let made : Contains (joins_of out.sources from o) j =
-        subst (λ (f : Mark). Contains (joins_of out.sources f o) j) (sym from_same) (subst (λ (z : Option Mark). Contains (joins_of out.sources (record { level = m.from_level; node = j.from }) z) j) (sym mark_is)
-        (subst (λ (z : List Join). Contains z j) (sym (joins_of_apart out.sources (record { level = m.from_level; node = j.from }) to m.different m.apart))
-        (subst (λ (h : ℤ). Contains (record { from = j.from; to = j.to; height = h } ∷ []) j) (sym m.greater) (cons_head j [])))) in
-        inr (is.every j made)
-  ];
-} where
-  rows : (way / 3) ≤ 2
-  rows = omega arith
-
-  cols : way % 3 < 3
-  cols = omega arith
-
-  touch : Touches p near
-  touch = record { row_down = omega (arith, rows, row); row_up = omega (arith, row); col_right = omega (arith, cols, col); col_left = omega (arith, col) }
-
--- no place on the way is asked for
-pub added_none : (marks : Marks) (out : Spared) (p : Place) (On : Place → Type 0) (way : ℕ) (old now : List Join) → HasAdded marks out p On way old now → ((q : Place) → Touches p q → (q.row + 1 ≡ p.row + way / 3) × (q.col + 1 ≡ p.col + way % 3) → On q → ⊥) → HasAdded marks out p On (way + 1) old now
-added_none marks out p On way old now s nowhere = record {
-  kept = s.kept;
-  only = s.only;
-  every = λ q j on after low m. elim (cases_eq (way_to p q) way) [
-    | inr other ↦ s.every q j on after (omega (arith, low, other)) m
-    | inl same ↦ absurd (nowhere q m.touches (way_place p q way m.touches same) on)
-  ];
+  every = λ x r j at after met.
+      let m = subst (λ (z : Place). Meets marks out z r j) at.0 met in
+      let r_is : q ≡ r = same_Some q r (sym on ∙ at.1) in
+      let to : Mark = record { level = m.to_level; node = j.to } in
+      let mark_is : o ≡ Some to = sym there ∙ ap marks r_is ∙ m.to_is in
+      let from_same = same_Some from (record { level = m.from_level; node = j.from }) (sym here ∙ m.from_is) in
+      inr (s.every j
+      (subst (λ (f : Mark). Contains (joins_of out.sources f o) j) (sym from_same) (subst (λ (z : Option Mark). Contains (joins_of out.sources (record { level = m.from_level; node = j.from }) z) j) (sym mark_is)
+      (subst (λ (z : List Join). Contains z j) (sym (joins_of_apart out.sources (record { level = m.from_level; node = j.from }) to m.different m.apart))
+      (subst (λ (h : ℤ). Contains (record { from = j.from; to = j.to; height = h } ∷ []) j) (sym m.greater) (cons_head j []))))));
 }
 
--- the join on the way is left out
-pub added_spared : (marks : Marks) (out : Spared) (p near : Place) (On : Place → Type 0) (way : ℕ) (old now new : List Join) → near.row + 1 ≡ p.row + way / 3 → near.col + 1 ≡ p.col + way % 3 → IsSpared marks out p near → new ≡ now → HasAdded marks out p On way old now → HasAdded marks out p On (way + 1) old new
-added_spared marks out p near On way old now new row col spared same s = subst (HasAdded marks out p On (way + 1) old) (sym same) (record {
-  kept = s.kept;
-  only = s.only;
-  every = λ q j on after low m. elim (cases_eq (way_to p q) way) [
-    | inr other ↦ s.every q j on after (omega (arith, low, other)) m
-    | inl at ↦
-        let is = way_place p q way m.touches at in
-        let q_is : near ≡ q = same_place near q (omega (arith, is.0, row)) (omega (arith, is.1, col)) in
-        inl (subst (IsSpared marks out p) q_is spared)
-  ];
+-- its join is left out
+pub adds_spared : (marks : Marks) (out : Spared) (p q : Place) (way : ℕ) (wanted : Place → Bool) (old : List Join) → place_on way p ≡ Some q → IsSpared marks out p q → Adds marks out (IsPairOn way p wanted) old old
+adds_spared marks out p q way wanted old on spared = record {
+  kept = λ j h. covered_itself old j h;
+  only = λ j h. inl h;
+  every = λ x r j at after m.
+      inl (subst (λ (z : Place). IsSpared marks out z r) (sym at.0) (subst (IsSpared marks out p) (same_Some q r (sym on ∙ at.1)) spared));
+}
+
+-- no place adds nothing
+pub adds_none : (marks : Marks) (out : Spared) (pairs : Place → Place → Type 0) (old new : List Join) → new ≡ old → ((p q : Place) → pairs p q → ⊥) → Adds marks out pairs old new
+adds_none marks out pairs old new same none = subst (Adds marks out pairs old) (sym same) (record {
+  kept = λ j h. covered_itself old j h;
+  only = λ j h. inl h;
+  every = λ p q j at. absurd (none p q at);
 })
 
-pub all_added : (marks : Marks) (out : Spared) (p : Place) (On : Place → Type 0) (old new : List Join) → HasAdded marks out p On 9 old new → Adds marks out (λ r q. (r ≡ p) × On q) old new
-all_added marks out p On old new s = record {
-  kept = s.kept;
-  only = s.only;
-  every = λ x q j at after m.
-      let here = subst (λ (z : Place). Meets marks out z q j) at.0 m in
-      let t = here.touches in
-      subst (λ (z : Place). IsSpared marks out z q ⊎ Covered new j) (sym at.0) (s.every q j at.1 (subst (λ (z : Place). IsAfter z q) at.0 after) (omega (arith, t.row_down, t.col_right)) here);
-}
-
 -- a cell with no mark has no joins
-pub no_mark_adds : (marks : Marks) (out : Spared) (p : Place) (On : Place → Type 0) (old : List Join) → marks p ≡ None → Adds marks out (λ r q. (r ≡ p) × On q) old old
-no_mark_adds marks out p On old none = record {
+pub no_mark_adds : (marks : Marks) (out : Spared) (p : Place) (wanted : Place → Bool) (old : List Join) → marks p ≡ None → Adds marks out (IsPairFrom p wanted) old old
+no_mark_adds marks out p wanted old none = record {
   kept = λ j h. covered_itself old j h;
   only = λ j h. inl h;
   every = λ x q j at after m. none_some _ (record { level = m.from_level; node = j.from }) (ap marks at.0 ∙ none) m.from_is;
@@ -268,3 +233,28 @@ adds_as marks out first both old new wider narrower a = record {
   only = λ j h. elim (a.only j h) [ inl was ↦ inl was | inr made ↦ inr (made.0, made.1, wider made.0 made.1 made.2, made.3) ];
   every = λ p q j at after m. a.every p q j (narrower p q m.touches after _ m.from_is _ m.to_is at) after m;
 }
+
+-- a cell with those on its first four ways
+pub adds_four : (marks : Marks) (out : Spared) (p : Place) (wanted : Place → Bool) (old first second third new : List Join)
+    → Adds marks out (IsPairOn 0 p wanted) old first → Adds marks out (IsPairOn 1 p wanted) first second
+    → Adds marks out (IsPairOn 2 p wanted) second third → Adds marks out (IsPairOn 3 p wanted) third new
+    → Adds marks out (IsPairFrom p wanted) old new
+adds_four marks out p wanted old first second third new east south_east south south_west =
+    adds_as marks out (Any (Any (on 0) (on 1)) (Any (on 2) (on 3))) (IsPairFrom p wanted) old new
+    (λ q r at. elim at [
+      | inl early ↦ elim early [ inl here ↦ (here.0, here.2) | inr here ↦ (here.0, here.2) ]
+      | inr late ↦ elim late [ inl here ↦ (here.0, here.2) | inr here ↦ (here.0, here.2) ]
+    ])
+    (λ q r touch after m m_is n n_is at. elim (after_way p r (subst (λ (z : Place). Touches z r) at.0 touch) (subst (λ (z : Place). IsAfter z r) at.0 after)) [
+      | inl early ↦ elim early [ inl here ↦ inl (inl (at.0, here, at.1)) | inr here ↦ inl (inr (at.0, here, at.1)) ]
+      | inr late ↦ elim late [ inl here ↦ inr (inl (at.0, here, at.1)) | inr here ↦ inr (inr (at.0, here, at.1)) ]
+    ])
+    (any (Any (on 0) (on 1)) (Any (on 2) (on 3)) old second new (any (on 0) (on 1) old first second east south_east) (any (on 2) (on 3) second third new south south_west)) where
+      on : ℕ → Place → Place → Type 0
+      on way = IsPairOn way p wanted
+
+      Any : (Place → Place → Type 0) → (Place → Place → Type 0) → Place → Place → Type 0
+      Any early late q r = early q r ⊎ late q r
+
+      any : (early late : Place → Place → Type 0) (a b c : List Join) → Adds marks out early a b → Adds marks out late b c → Adds marks out (Any early late) a c
+      any early late a b c x y = adds_then marks out early late (Any early late) a b c (λ q r. (λ at. at, λ at. at)) x y

@@ -1,10 +1,11 @@
 -- What the floods say of cells, and the joins of cells amid a tile.
-use Rattle.std.proofs.Common.{◌≡◌, ◌↔◌, ◌⊎◌, ℕ, ◌+◌, ◌-◌, ◌*◌, ◌<◌, ◌≤◌, inl, inr, ℤ, true, List, length, get_or, Option, None, Some, ◌∙◌, sym, ap, subst, refl, arith, ◌/◌, ◌%◌}
-use Rattle.std.specs.Prelude.{slice_get, option_and_then, option_map, MatchOption, IfSome, ⊤}
+use Rattle.std.proofs.Common.{◌≡◌, ◌↔◌, ◌⊎◌, Bool, ℕ, ◌+◌, ◌-◌, ◌*◌, ◌<◌, ◌≤◌, inl, inr, ℤ, true, List, length, get_or, Option, None, Some, ◌∙◌, sym, ap, subst, refl, arith}
+use Rattle.std.specs.Prelude.{slice_get, option_and_then, option_map, MatchOption, IfSome}
 use Rattle.std.specs.List.{All}
 use Rattle.std.proofs.lemmas.Bool.{cond-true, cond-false, cases_Bool, cases_lt}
-use Rattle.std.proofs.lemmas.List.{length-map, get_or_default, get_or_past}
+use Rattle.std.proofs.lemmas.List.{length-map, get_or_past}
 use Rattle.std.proofs.lemmas.Option.{MatchOption-at_some, MatchOption-at_none, same_Some, slice_get_within}
+use Rattle.terrain.specs.Ways.{place_on}
 use Rattle.terrain.specs.declared.place.Place.{Place}
 use Rattle.terrain.proofs.Places.{same_place}
 use Rattle.tiles.specs.declared.bounds.Bounds.{Bounds}
@@ -13,13 +14,13 @@ use Rattle.cell_floods.proofs.Where.{all_inside, table_inside}
 use Rattle.tiles.proofs.Cut.{in_tile, in_bounds_parts, in_bounds_from}
 use Rattle.cell_floods.specs.TileFlood.{Flood, IsFlood, label_in}
 use Rattle.cell_floods.specs.Labels.{labels_by, IsTable}
-use Rattle.fill.specs.Numbers.{AreFirsts, first_of}
-use Rattle.fill.specs.Gathering.{Fit, LabelsInside, Marks, IsInner, cells_after, AreEqualAfter, mark_of, mark_in, mark_among, Adds, mark_with, joins_of, Spared, AddsAfter, AddsCovered}
+use Rattle.fill.specs.Numbers.{first_of}
+use Rattle.fill.specs.Gathering.{Fit, LabelsInside, Marks, IsInner, IsPairFrom, IsPairOn, cells_after, AreEqualAfter, mark_of, mark_in, mark_among, Adds, mark_with, joins_of, Spared, AddsAfter, AddsCovered}
 use Rattle.fill.specs.declared.spills.Join.{Join}
 use Rattle.fill.specs.declared.marks.Mark.{Mark}
 use Rattle.std.proofs.lemmas.Nat.{mul-le}
 use Rattle.terrain.proofs.Options.{cases_option, none_some}
-use Rattle.fill.proofs.Adding.{covered_itself, joins_of_is, HasAdded, after_way, none_added, added_more, all_added, adds_as, no_mark_adds}
+use Rattle.fill.proofs.Adding.{adds_as, adds_four, adds_on_way, covered_itself, joins_of_is, no_mark_adds, west_of}
 use Rattle.tiles.proofs.TileOrder.{bounds_from_entry, entry_in-inside}
 
 -- each place of the table of a flood whose labels lie in the grid lies in it
@@ -37,24 +38,8 @@ label_entry f p label e =
     let i = bounds_from_entry f.bounds f.labels p label e in
     (index_in f.bounds p, sym (entry_in-inside f.bounds f.labels p i) ∙ e)
 
--- a tile's first number, as it was read
-pub first_is : (floods : List Flood) (firsts : List ℕ) (tile first : ℕ) → AreFirsts floods firsts → tile < length floods → first ≡ get_or firsts tile first → first ≡ first_of floods tile
-first_is floods firsts tile first are low is = is ∙ get_or_default firsts tile first 0 (omega (arith, low, are.size)) ∙ are.each tile low
-
-pub first_few : (floods : List Flood) (firsts : List ℕ) (tile : ℕ) (f : Flood) (first : ℕ) → AreFirsts floods firsts → slice_get floods tile ≡ Some f → first ≡ get_or firsts tile first → first + length f.table.places ≤ 4294967295
-first_few floods firsts tile f first are there is =
-    let same = first_is floods firsts tile first are (slice_get_within floods tile f there) is in
-    omega (arith, are.few tile f there, same)
-
 pub mark_some : (node : ℕ) (o : Option ℤ) (l : Option Place) (level : ℤ) (label : Place) → o ≡ Some level → l ≡ Some label → mark_of node o l ≡ Some (record { level = level; node = node })
 mark_some node o l level label a b = rw (a, b) refl
-
-pub mark_no_level : (node : ℕ) (o : Option ℤ) (l : Option Place) → o ≡ None → mark_of node o l ≡ None
-mark_no_level node o l a = rw a refl
-
-pub mark_no_label : (node : ℕ) (o : Option ℤ) (l : Option Place) → l ≡ None → mark_of node o l ≡ None
-mark_no_label node None l a = refl
-mark_no_label node (Some level) l a = rw a refl
 
 pub mark_parts : (node : ℕ) (o : Option ℤ) (l : Option Place) (m : Mark) → mark_of node o l ≡ Some m → (label : Place) × (o ≡ Some m.level) × (l ≡ Some label) × (node ≡ m.node)
 mark_parts node None l m e = absurd (cc)
@@ -161,30 +146,29 @@ equal_after_adds f sources i width now e = elim (cases_option (mark_with 0 f i))
     after_second = now;
     after_third = now;
     east = near found.0 found.1 0 (omega arith);
-    south_west = near found.0 found.1 1 (omega arith);
+    south_east = near found.0 found.1 1 (omega arith);
     south = near found.0 found.1 2 (omega arith);
-    south_east = near found.0 found.1 3 (omega arith);
+    south_west = near found.0 found.1 3 (omega arith);
   })
 ] where
   near : (from : Mark) → mark_with 0 f i ≡ Some from → (way : ℕ) → way < 4 → AddsCovered now (joins_of sources from (mark_with 0 f (get_or (cells_after width i) way 0))) now
   near from is way few = same_label_adds f sources i (get_or (cells_after width i) way 0) from now is (sym (e way 0 few))
 
--- Each place will do.
-abbrev pub Anywhere : Place → Type 0
-Anywhere q = ⊤
+-- every place is wanted
+abbrev pub anywhere : Place → Bool
+anywhere q = true
 
-pub adds_anywhere : (marks : Marks) (out : Spared) (p : Place) (old new : List Join) → Adds marks out (λ r q. (r ≡ p) × Anywhere q) old new → Adds marks out (λ r q. r ≡ p) old new
-adds_anywhere marks out p old new s = adds_as marks out (λ r q. (r ≡ p) × Anywhere q) (λ r q. r ≡ p) old new (λ r q at. at.0) (λ r q touch after m m_is n n_is at. (at, tt)) s
+pub adds_anywhere : (marks : Marks) (out : Spared) (p : Place) (old new : List Join) → Adds marks out (IsPairFrom p anywhere) old new → Adds marks out (λ q r. q ≡ p) old new
+adds_anywhere marks out p old new s = adds_as marks out (IsPairFrom p anywhere) (λ q r. q ≡ p) old new (λ q r at. at.0) (λ q r touch after m m_is n n_is at. (at, refl)) s
 
 -- the joins of a cell with the four around it that come after it have been added
-pub inner_adds : (f : Flood) (out : Spared) (p : Place) (i : ℕ) (from : Mark) (old new : List Join) → IsInner f.bounds p → i ≡ index_in f.bounds p → mark_with 0 f i ≡ Some from → AddsAfter f out.sources from i f.bounds.cols old new → Adds (mark_in 0 f) out (λ r q. r ≡ p) old new
+pub inner_adds : (f : Flood) (out : Spared) (p : Place) (i : ℕ) (from : Mark) (old new : List Join) → IsInner f.bounds p → i ≡ index_in f.bounds p → mark_with 0 f i ≡ Some from → AddsAfter f out.sources from i f.bounds.cols old new → Adds (mark_in 0 f) out (λ q r. q ≡ p) old new
 inner_adds f out p i from old new inner at is s =
-    adds_anywhere (mark_in 0 f) out p old new (all_added (mark_in 0 f) out p Anywhere old new
-    (step 8 south east _ _ _ (omega (arith, inner)) (omega (arith, inner)) (omega arith) (omega (arith, inner), omega (arith, inner)) (omega (arith, inner), omega (arith, inner)) (omega (arith, at, inner, down))
-    (step 7 south p.col _ _ _ (omega (arith, inner)) (omega (arith, inner)) (omega arith) (omega (arith, inner), omega (arith, inner)) (omega (arith, inner), omega (arith, inner)) (omega (arith, at, inner, down))
-    (step 6 south west _ _ _ (omega (arith, inner)) (omega (arith, inner)) (omega arith) (omega (arith, inner), omega (arith, inner)) (omega (arith, inner), omega (arith, inner)) (omega (arith, at, inner, down))
-    (step 5 p.row east _ _ _ (omega (arith, inner)) (omega (arith, inner)) (omega arith) (omega (arith, inner), omega (arith, inner)) (omega (arith, inner), omega (arith, inner)) (omega (arith, at, inner))
-    (none_added (mark_in 0 f) out p Anywhere 5 old (λ q t after. after_way p q t after)) s.east) s.south_west) s.south) s.south_east)) where
+    adds_anywhere (mark_in 0 f) out p old new (adds_four (mark_in 0 f) out p anywhere old s.after_first s.after_second s.after_third new
+    (step 0 p.row east (i + 1) _ _ (omega arith) refl (omega (arith, inner), omega (arith, inner)) (omega (arith, inner), omega (arith, inner)) (omega (arith, at, inner)) s.east)
+    (step 1 south east (i + b.cols + 1) _ _ (omega arith) refl (omega (arith, inner), omega (arith, inner)) (omega (arith, inner), omega (arith, inner)) (omega (arith, at, inner, down)) s.south_east)
+    (step 2 south p.col (i + b.cols) _ _ (omega arith) refl (omega (arith, inner), omega (arith, inner)) (omega (arith, inner), omega (arith, inner)) (omega (arith, at, inner, down)) s.south)
+    (step 3 south west (i + b.cols - 1) _ _ (omega arith) to_west (omega (arith, inner), omega (arith, inner)) (omega (arith, inner), omega (arith, inner)) (omega (arith, at, inner, down)) s.south_west)) where
       b : Bounds
       b = f.bounds
 
@@ -200,21 +184,24 @@ inner_adds f out p i from old new inner at is s =
       down : (p.row + 1 - b.top) * b.cols ≡ (p.row - b.top) * b.cols + b.cols
       down = let more : p.row + 1 - b.top ≡ p.row - b.top + 1 = omega (arith, inner) in omega (arith, ap (λ n. n * b.cols) more)
 
-      step : (way row col j : ℕ) (now next : List Join) → row + 1 ≡ p.row + way / 3 → col + 1 ≡ p.col + way % 3 → way < 9 → (b.top ≤ row) × (row < b.top + b.rows) → (b.left ≤ col) × (col < b.left + b.cols) → j ≡ (row - b.top) * b.cols + (col - b.left) → HasAdded (mark_in 0 f) out p Anywhere way old now → AddsCovered now (joins_of out.sources from (mark_with 0 f j)) next → HasAdded (mark_in 0 f) out p Anywhere (way + 1) old next
-      step way row col j now next same_row same_col few rows cols index a s =
+      to_west : place_on 3 p ≡ Some (record { row = p.row + 1; col = p.col - 1 })
+      to_west = west_of (p.row + 1) p.col (record { row = p.row + 1; col = p.col - 1 }) refl (omega (arith, inner))
+
+      step : (way row col j : ℕ) (now next : List Join) → way < 8 → place_on way p ≡ Some (record { row = row; col = col }) → (b.top ≤ row) × (row < b.top + b.rows) → (b.left ≤ col) × (col < b.left + b.cols) → j ≡ (row - b.top) * b.cols + (col - b.left) → AddsCovered now (joins_of out.sources from (mark_with 0 f j)) next → Adds (mark_in 0 f) out (IsPairOn way p anywhere) now next
+      step way row col j now next few on rows cols index s =
           let near : Place = record { row = row; col = col } in
-          added_more (mark_in 0 f) out p near Anywhere way from (mark_with 0 f j) old now next
+          adds_on_way (mark_in 0 f) out p near way anywhere from (mark_with 0 f j) now next
           (entry_in_mark f p i (omega (arith, inner), omega (arith, inner), omega (arith, inner), omega (arith, inner)) at ∙ is)
           (entry_in_mark f near j (rows.0, rows.1, cols.0, cols.1) index)
-          same_row same_col few tt a s
+          few on refl s
 
 -- such a cell has its joins added, where it has a mark
-pub inner_cell_adds : (f : Flood) (out : Spared) (p : Place) (i : ℕ) (old new : List Join) → IsInner f.bounds p → i ≡ index_in f.bounds p → MatchOption (mark_with 0 f i) (new ≡ old) (λ from. AddsAfter f out.sources from i f.bounds.cols old new) → Adds (mark_in 0 f) out (λ r q. r ≡ p) old new
+pub inner_cell_adds : (f : Flood) (out : Spared) (p : Place) (i : ℕ) (old new : List Join) → IsInner f.bounds p → i ≡ index_in f.bounds p → MatchOption (mark_with 0 f i) (new ≡ old) (λ from. AddsAfter f out.sources from i f.bounds.cols old new) → Adds (mark_in 0 f) out (λ q r. q ≡ p) old new
 inner_cell_adds f out p i old new inner at s = elim (cases_option (mark_with 0 f i)) [
   | inl none ↦
       let same = MatchOption-at_none _ _ none s in
       let inside : IsInBounds f.bounds p = (omega (arith, inner), omega (arith, inner), omega (arith, inner), omega (arith, inner)) in
-      subst (λ (z : List Join). Adds (mark_in 0 f) out (λ r q. r ≡ p) old z) (sym same) (adds_anywhere (mark_in 0 f) out p old old (no_mark_adds (mark_in 0 f) out p Anywhere old (entry_in_mark f p i inside at ∙ none)))
+      subst (λ (z : List Join). Adds (mark_in 0 f) out (λ q r. q ≡ p) old z) (sym same) (adds_anywhere (mark_in 0 f) out p old old (no_mark_adds (mark_in 0 f) out p anywhere old (entry_in_mark f p i inside at ∙ none)))
   | inr found ↦ inner_adds f out p i found.0 old new inner at found.1 (MatchOption-at_some _ _ found.0 found.1 s)
 ]
 

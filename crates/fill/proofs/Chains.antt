@@ -71,7 +71,6 @@ no_links labels lasts links is =
 pub none_linked : (labels : ℕ) (lasts : List ℕ) (links : List Link) → lasts ≡ replicate labels 0 → length links ≡ 1 → AreLinked lasts links
 none_linked labels lasts links is one = record {
   some = omega (arith, one);
-  few = omega (arith, one);
   begin = λ label. elim (cases_lt label labels) [
     | inl low ↦ let zero_is : get_or lasts label 0 ≡ 0 = ap (λ (z : List ℕ). get_or z label 0) is ∙ get_or-replicate labels label 0 0 low in omega (arith, zero_is, one)
     | inr past ↦ let zero_is : get_or lasts label 0 ≡ 0 = get_or_past lasts label 0 (omega (arith, past, ap length is, length-replicate {A = ℕ} labels 0)) in omega (arith, zero_is, one)
@@ -121,10 +120,9 @@ module _ (lasts : List ℕ) (links : List Link) (label : ℕ) (l : Link) (linked
             ∙ ap (λ (k : Link). way_of_link k ∷ chain after (length after - 1) k.before) new_link
             ∙ ap (λ z. way_of_link l ∷ z) (ap (chain after (length after - 1)) before ∙ there (get_or lasts label 0) less ∙ sym (ways_at lasts links label low))
 
-  pub still_linked : length links ≤ 4294967295 → AreLinked (set lasts label (length links)) after
-  still_linked few = record {
+  pub still_linked : AreLinked (set lasts label (length links)) after
+  still_linked = record {
     some = omega (arith, size);
-    few = omega (arith, size, few);
     begin = λ i. elim (cases_eq i label) [
       | inl same ↦
           let at : get_or (set lasts label (length links)) i 0 ≡ length links = ap (λ k. get_or (set lasts label (length links)) k 0) same ∙ get_or-set_same lasts label (length links) 0 low in

@@ -1,13 +1,22 @@
 -- The number of each tile's first label, and the heights of all labels that are end cells, tile by tile.
-use Rattle.std.proofs.Common.{◌≡◌, ℕ, ◌+◌, ◌<◌, ◌≤◌, inl, inr, List, [], ◌∷◌, ◌++◌, length, get_or, take, Some, ◌∙◌, sym, ap, subst, refl, arith}
+use Rattle.std.proofs.Common.{◌≡◌, ℕ, ◌+◌, ◌-◌, ◌*◌, ◌<◌, ◌≤◌, inl, inr, List, [], ◌∷◌, ◌++◌, length, get_or, take, None, Some, ◌∙◌, sym, ap, subst, refl, arith}
+use Rattle.std.proofs.Math.Nat.{mul-mul-mul_comm}
+use Rattle.std.proofs.lemmas.Nat.{mul-le}
 use Rattle.std.specs.Prelude.{slice_get}
+use Rattle.std.specs.Int.{div_ceil}
 use Rattle.std.specs.List.{flat_map}
 use Rattle.std.proofs.lemmas.Bool.{cases_eq}
 use Rattle.std.proofs.lemmas.Grind.{flat_map-append}
-use Rattle.std.proofs.lemmas.List.{append-nil, take_more, take_all, length-append, length_push, get_or_append_left, get_or_push}
+use Rattle.std.proofs.lemmas.List.{length-map, append-nil, take_more, take_all, length-append, length_push, get_or_append_left, get_or_push}
 use Rattle.std.proofs.lemmas.Option.{slice_get_within, get_or_from_slice_get}
+use Rattle.terrain.specs.Raster.{Terrain}
+use Rattle.tiles.specs.declared.bounds.Bounds.{Bounds}
+use Rattle.tiles.specs.Cutting.{Cutting, IsCutting, across, bounds_of, down, tile_count}
+use Rattle.tiles.proofs.Cut.{bounds_inside}
+use Rattle.tiles.proofs.Quotients.{piece_begins, pieces_some}
 use Rattle.cell_floods.specs.TileFlood.{Flood, IsFlood}
 use Rattle.fill.specs.Numbers.{AreFirsts, first_of, places_of}
+use Rattle.fill.specs.Spills.{AreFloods}
 
 -- the lists of one more tile stand behind those of the tiles before it
 pub flat_more : {X : Type 0} (g : Flood → List X) (floods : List Flood) (i : ℕ) (f : Flood) → i < length floods → f ≡ get_or floods i f → flat_map g (take (i + 1) floods) ≡ flat_map g (take i floods) ++ g f
@@ -58,6 +67,35 @@ one_first floods i f firsts new next after low is flood more sum small s = subst
         subst IsFlood g_is flood
   ];
 })
+
+-- a tile has no more labels than one for each cell, and the entry for none
+pub few_labels : (t : Terrain) (c : Cutting) (floods : List Flood) (tile : ℕ) (f : Flood) → AreFloods t c floods → slice_get floods tile ≡ Some f → IsFlood f → length f.table.places ≤ c.side * c.side + 1
+few_labels t c floods tile f are there lawful =
+    let inside = bounds_inside c tile are.lawful (omega (arith, are.count, slice_get_within floods tile f there)) in
+    let bounds = (are.each tile f there).bounds in
+    let short : f.bounds.rows * f.bounds.cols ≤ c.side * c.side =
+    subst (λ (b : Bounds). b.rows * b.cols ≤ c.side * c.side) (sym bounds) (mul-le (bounds_of c tile).rows (bounds_of c tile).cols c.side c.side inside.short_rows inside.short_cols) in
+    let cells : length f.table.indexes ≡ f.bounds.rows * f.bounds.cols = sym (length-map f.table.indexes (λ k. get_or f.table.places k None)) ∙ ap length (sym lawful.labels) ∙ lawful.labels_size in
+    omega (arith, lawful.table.few, cells, short)
+
+few_pieces : (n side : ℕ) → 1 ≤ side → side ≤ 4096 → 1 ≤ n → n ≤ 4096 → div_ceil n side * side ≤ 8191
+few_pieces n side some short any few =
+    let k = div_ceil n side in
+    let one : 0 < k = pieces_some n side some any in
+    let last : (k - 1) * side < n = piece_begins n side (k - 1) some (omega (arith, one)) in
+    let more : k * side ≡ (k - 1 + 1) * side = ap (λ m. m * side) (omega (arith, one)) in
+    omega (arith, last, more, short, few)
+
+-- all labels of so many tiles have numbers of 32 bits
+pub all_few : (c : Cutting) (n : ℕ) → IsCutting c → n ≤ tile_count c → n * (c.side * c.side + 1) ≤ 4294967295
+all_few c n h low =
+    let square = c.side * c.side in
+    let tiles = mul-le n (square + 1) (tile_count c) (square + 1) low (omega arith) in
+    let same : tile_count c * square ≡ across c * c.side * (down c * c.side) = mul-mul-mul_comm (across c) (down c) c.side c.side in
+    let wide = few_pieces c.cols c.side h.some_side h.short_side h.some_col h.few_cols in
+    let high = few_pieces c.rows c.side h.some_side h.short_side h.some_row h.few_rows in
+    let all = mul-le (across c * c.side) (down c * c.side) 8191 8191 wide high in
+    omega (arith, tiles, same, all, h.few_tiles)
 
 pub all_firsts : (floods : List Flood) (i : ℕ) (firsts : List ℕ) (next : ℕ) → i ≤ length floods → length floods ≤ i → AreFirstNumbers floods i firsts next → AreFirsts floods firsts
 all_firsts floods i firsts next below past s = record {

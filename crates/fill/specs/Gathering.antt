@@ -4,6 +4,7 @@ use Rattle.std.specs.declared.alloc.Global.{Global}
 use Rattle.std.specs.Int.{int_max}
 use Rattle.std.specs.List.{All, Contains}
 use Rattle.terrain.specs.Neighbours.{Touches}
+use Rattle.terrain.specs.Ways.{place_on}
 use Rattle.terrain.specs.declared.place.Place.{Place}
 use Rattle.tiles.specs.declared.bounds.Bounds.{Bounds}
 use Rattle.tiles.specs.Cutting.{Cutting, IsInBounds, IsInTile, IsWithin, tile_count, tile_of_place, bounds_of, is_in_bounds, index_in}
@@ -109,9 +110,13 @@ pub record AddsCovered (old added new : List Join) : Type 0 where
 abbrev pub IsInner : Bounds → Place → Type 0
 IsInner b p = (b.top ≤ p.row) × (p.row + 1 < b.top + b.rows) × (b.left < p.col) × (p.col + 1 < b.left + b.cols)
 
--- The four entries around this one that come after it in rows of this width.
+-- The place lies in this row of the bounds, and not all four after it lie in them.
+abbrev pub IsOnRimRow : Bounds → ℕ → Place → Type 0
+IsOnRimRow b row p = IsInBounds b p × (p.row ≡ row) × (IsInner b p → ⊥)
+
+-- The four entries around this one that come after it in rows of this width, in the order of the codes.
 abbrev pub cells_after : ℕ → ℕ → List ℕ
-cells_after width i = (i + 1) ∷ (i + width - 1) ∷ (i + width) ∷ (i + width + 1) ∷ []
+cells_after width i = (i + 1) ∷ (i + width + 1) ∷ (i + width) ∷ (i + width - 1) ∷ []
 
 -- The entry is equal to these four.
 abbrev pub AreEqualAfter : List ℕ → ℕ → ℕ → Type 0
@@ -127,13 +132,21 @@ pub record AddsAfter (f : Flood) (sources : List (Option ℤ)) (from : Mark) (i 
   pub after_second : List Join
   pub after_third : List Join
   pub east : AddsNear f sources from (i + 1) old after_first
-  pub south_west : AddsNear f sources from (i + width - 1) after_first after_second
+  pub south_east : AddsNear f sources from (i + width + 1) after_first after_second
   pub south : AddsNear f sources from (i + width) after_second after_third
-  pub south_east : AddsNear f sources from (i + width + 1) after_third new
+  pub south_west : AddsNear f sources from (i + width - 1) after_third new
 
 -- The second place comes after the first in row order.
 abbrev pub IsAfter : Place → Place → Type 0
 IsAfter p q = (p.row < q.row) ⊎ ((p.row ≡ q.row) × (p.col < q.col))
+
+-- The first place is this one, and the second lies this way from it and is wanted.
+abbrev pub IsPairOn : ℕ → Place → (Place → Bool) → Place → Place → Type 0
+IsPairOn way p wanted q r = (q ≡ p) × (place_on way p ≡ Some r) × (wanted r ≡ true)
+
+-- The first place is this one, and the second is wanted.
+abbrev pub IsPairFrom : Place → (Place → Bool) → Place → Place → Type 0
+IsPairFrom p wanted q r = (q ≡ p) × (wanted r ≡ true)
 
 -- The place is not of this tile.
 abbrev pub IsOutside : Cutting → ℕ → Place → Type 0
@@ -163,10 +176,6 @@ pub record AreLowest (joins lowest : List Join) : Type 0 where
   pub only : (j : Join) → Contains lowest j → Contains joins j
   pub every : (j : Join) → Contains joins j → Covered lowest j
   pub rising : AreRising lowest
-
--- The join of a cell with one beside it has been added, where there is one and it is not left out.
-abbrev pub AddsBeside : Marks → Spared → Place → Mark → Place → List Join → List Join → Type 0
-AddsBeside marks out p from q old new = (IsSpared marks out p q × (new ≡ old)) ⊎ AddsCovered old (joins_of out.sources from (marks q)) new
 
 -- The joins of all cells with those after them but those left out, each as low as those that were met.
 pub record AreGathered (c : Cutting) (floods : List Flood) (out : Spared) (joins : List Join) : Type 0 where

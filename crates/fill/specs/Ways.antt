@@ -24,7 +24,6 @@ ways_by lasts links = map (chain links (length links - 1)) lasts
 -- Each link leads to an earlier one.
 pub record AreLinked (lasts : List ℕ) (links : List Link) : Type 0 where
   pub some : 0 < length links
-  pub few : length links ≤ 4294967296
   pub begin : (label : ℕ) → slice_index_or lasts label 0 < length links
   pub before : (i : ℕ) → 0 < i → i < length links → (link_at links i).before < i
 

@@ -165,7 +165,7 @@ fn filled_cells<R: Threads + Wait + Sync, G: Gate + Sync>(
         → AreFloods t tiling.now floods.items → IsFilled t v.items) }
     ensures workers { RefusesWorkers crew.now.workers result }
 {
-    let firsts = first_numbers(crew.alloc, &floods)?;
+    let firsts = first_numbers(crew.alloc, tiling, &floods)?;
     let tiles = NumberedFloods {
         tiling,
         floods: &floods,

@@ -1,89 +1,38 @@
 //! The joins inside a tile, by the indexes of its labels: [`inner_joins`].
 //!
 //! It looks at each two neighbouring cells once, from the first of them in row order.
-ghost use Rattle.std.specs.Prelude.{◌≡◌, ◌+◌, ◌*◌, ◌<◌, ◌≤◌, ◌∷◌, ◌⊎◌, [], None, Some, slice_index_or, MatchOption, IfOk, OnOk, length};
+ghost use Rattle.std.specs.Prelude.{◌≡◌, ◌+◌, ◌<◌, ◌≤◌, [], Some, slice_index_or, MatchOption, IfOk, OnOk, length};
 ghost use Rattle.std.specs.Bool.{OnTrue};
 ghost use Rattle.tiles.specs.Cutting.{IsInBounds};
-ghost use Rattle.fill.specs.Gathering.{IsInner, AreEqualAfter, Adds, AddsCovered, AddsAfter, AddsBeside, joins_of, mark_in, mark_with};
+ghost use Rattle.fill.specs.Gathering.{IsInner, AreEqualAfter, Adds, AddsCovered, AddsAfter, joins_of, mark_in, mark_with};
 
 use crate::join_table::JoinTable;
-use crate::left_out::{LeftOut, is_spared, join_of};
+use crate::left_out::LeftOut;
 use crate::marks::{Mark, mark_in, mark_of_entry};
-use crate::places::near_place;
+use crate::rim_cells::{KnownCells, push_join, push_rim_cells};
 use crate::spills::Join;
 use cell_floods::TileFlood;
 use std::alloc::{AllocError, Global};
 use terrain::{Cell, Place};
 use tiles::Bounds;
 
-/// Adds the join of two cells of a tile, or makes one of the same labels as low.
-#[inline(always)]
-fn push_join(
-    table: &mut JoinTable,
-    sources: &[Cell],
-    from: Mark,
-    to: Option<Mark>,
-) -> Result<(), AllocError>
-    ensures { OnOk result
-        (AddsCovered table.old (joins_of sources.now from to) table.new) }
-{
-    let Some(join) = join_of(sources, from, to) else {
-        return Ok(());
-    };
-    table.add(join)?;
-    Ok(())
-}
+impl KnownCells for TileFlood {
+    ghost use Rattle.std.specs.Prelude.{true};
+    ghost use Rattle.fill.specs.Gathering.{mark_in};
 
-/// Adds the join of a cell with one around it that comes after it in row order, if that is of the
-/// tile.
-#[inline(always)]
-fn push_beside(
-    table: &mut JoinTable,
-    flood: &TileFlood,
-    left_out: &LeftOut<'_>,
-    place: Place,
-    from: Mark,
-    below: Option<Mark>,
-    near: Place,
-) -> Result<(), AllocError>
-    requires from { mark_in 0 flood.now place ≡ Some from }
-    requires below { below ≡ mark_in 0 flood.now (record { row = place.row + 1; col = place.col }) }
-    requires near { (near.row ≡ place.row) ⊎ (near.row ≡ place.row + 1) }
-    ensures { OnOk result (AddsBeside (mark_in 0 flood.now) left_out.now place
-        from near table.old table.new) }
-{
-    let to = mark_in(flood, near);
-    if near.row != place.row && near.col != place.col && is_spared(left_out, from, below, to) {
-        return Ok(());
-    }
-    push_join(table, left_out.sources, from, to)
-}
+    ghost marks = { mark_in 0 };
 
-/// Adds the joins of a cell with those around it in the tile that come after it in row order.
-fn push_rim_cell(
-    table: &mut JoinTable,
-    flood: &TileFlood,
-    left_out: &LeftOut<'_>,
-    place: Place,
-) -> Result<(), AllocError>
-    requires { (place.row < 4096) × (place.col < 4096) }
-    ensures { OnOk result (Adds (mark_in 0 flood.now) left_out.now (λ p q. p ≡ place)
-        table.old table.new) }
-{
-    let Some(from) = mark_in(flood, place) else {
-        return Ok(());
-    };
-    let south = Place {
-        row: place.row + 1,
-        col: place.col,
-    };
-    let below = mark_in(flood, south);
-    for spot in 5..9 {
-        if let Some(near) = near_place(place, spot) {
-            push_beside(table, flood, left_out, place, from, below, near)?;
-        }
+    ghost wanted = { λ f q. true };
+
+    #[inline(always)]
+    fn mark(&self, place: Place) -> Option<Mark> {
+        mark_in(self, place)
     }
-    Ok(())
+
+    #[inline(always)]
+    fn is_wanted(&self, _place: Place) -> bool {
+        true
+    }
 }
 
 /// Whether two cells with these indices in the tile's row order have one label, or neither any.
@@ -139,9 +88,9 @@ fn push_after(
 {
     let below = index + width;
     push_near(table, flood, sources, index, from, index + 1)?;
-    push_near(table, flood, sources, index, from, below - 1)?;
-    push_near(table, flood, sources, index, from, below)?;
     push_near(table, flood, sources, index, from, below + 1)?;
+    push_near(table, flood, sources, index, from, below)?;
+    push_near(table, flood, sources, index, from, below - 1)?;
     Ok(())
 }
 
@@ -209,25 +158,6 @@ fn push_inner_cells(
     Ok(())
 }
 
-/// Adds the joins of the cells of the last row of a tile with those after them in it.
-fn push_last_row(
-    table: &mut JoinTable,
-    flood: &TileFlood,
-    left_out: &LeftOut<'_>,
-    row: u32,
-) -> Result<(), AllocError>
-    requires top { flood.now.bounds.top ≤ row }
-    requires row { row < flood.now.bounds.top + flood.now.bounds.rows }
-    ensures { OnOk result (Adds (mark_in 0 flood.now) left_out.now
-        (λ p q. IsInBounds flood.now.bounds p × (p.row ≡ row)) table.old table.new) }
-{
-    let Bounds { left, cols, .. } = flood.bounds();
-    for col in left..left + cols {
-        push_rim_cell(table, flood, left_out, Place { row, col })?;
-    }
-    Ok(())
-}
-
 /// Adds the joins of the cells of one row of a tile with those after them in it.
 fn push_row(
     table: &mut JoinTable,
@@ -241,19 +171,11 @@ fn push_row(
     ensures { OnOk result (Adds (mark_in 0 flood.now) left_out.now
         (λ p q. IsInBounds flood.now.bounds p × (p.row ≡ row)) table.old table.new) }
 {
-    let Bounds {
-        top,
-        left,
-        rows,
-        cols,
-    } = flood.bounds();
-    if row + 1 == top + rows {
-        return push_last_row(table, flood, left_out, row);
+    let bounds = flood.bounds();
+    push_rim_cells(table, flood, left_out, bounds, row)?;
+    if row + 1 < bounds.top + bounds.rows {
+        push_inner_cells(table, flood, left_out, row)?;
     }
-    let last = left + cols - 1;
-    push_rim_cell(table, flood, left_out, Place { row, col: left })?;
-    push_inner_cells(table, flood, left_out, row)?;
-    push_rim_cell(table, flood, left_out, Place { row, col: last })?;
     Ok(())
 }
 
@@ -268,14 +190,9 @@ pub(crate) fn inner_joins(
     ensures { IfOk result (λ v. Adds (mark_in 0 flood.now) left_out.now
         (λ p q. IsInBounds flood.now.bounds p) [] v.items) }
 {
-    let Bounds {
-        top,
-        rows,
-        cols,
-        ..
-    } = flood.bounds();
-    let mut table = JoinTable::new(alloc, rows + cols)?;
-    for row in top..top + rows {
+    let bounds = flood.bounds();
+    let mut table = JoinTable::new(alloc, bounds.rows + bounds.cols)?;
+    for row in bounds.top..bounds.top + bounds.rows {
         push_row(&mut table, flood, left_out, row)?;
     }
     Ok(table.into_joins())

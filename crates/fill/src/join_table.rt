@@ -3,6 +3,7 @@ ghost use Rattle.std.specs.Prelude.{◌≡◌, ◌<◌, ◌≤◌, ◌∷◌, []
 ghost use Rattle.std.specs.Bool.{OnTrue, OnFalse};
 ghost use Rattle.fill.specs.Gathering.{AddsCovered};
 
+use crate::rim_cells::JoinList;
 use crate::spills::Join;
 use std::alloc::{AllocError, Global};
 use std::marker::Model;
@@ -139,11 +140,19 @@ impl JoinTable {
         self.grow()
     }
 
-    /// Adds a join, or makes one of the same labels as low.
-    #[inline(always)]
-    pub(crate) fn add(&mut self, join: Join) -> Result<(), AllocError>
-        ensures { OnOk result (AddsCovered self.old (join ∷ []) self.new) }
+    /// The joins, as they were added or lowered.
+    pub(crate) fn into_joins(self) -> Vec<Join>
+        ensures { result.items ≡ self }
     {
+        self.joins
+    }
+}
+
+impl JoinList for JoinTable {
+    ghost joins = { λ table. table };
+
+    #[inline(always)]
+    fn add(&mut self, join: Join) -> Result<(), AllocError> {
         let slot = slot_for(&self.joins, &self.slots, join);
         let at = self.slots[slot];
         if lowers(&mut self.joins, at, join) {
@@ -153,20 +162,5 @@ impl JoinTable {
         self.joins.push(join)?;
         self.make_room()?;
         Ok(())
-    }
-    /// Adds a join without a look for one of the same labels.
-    #[inline(always)]
-    pub(crate) fn push(&mut self, join: Join) -> Result<(), AllocError>
-        ensures { OnOk result (AddsCovered self.old (join ∷ []) self.new) }
-    {
-        self.joins.push(join)?;
-        Ok(())
-    }
-
-    /// The joins, as they were added or lowered.
-    pub(crate) fn into_joins(self) -> Vec<Join>
-        ensures { result.items ≡ self }
-    {
-        self.joins
     }
 }

@@ -150,7 +150,7 @@ impl LabelGraph {
         ensures size { IfOk result (λ g. length g.ways ≡ length sources.items) }
         ensures ways { IfOk result (λ g. HasWaysOf joins.now g.ways) }
     {
-        let mut ways = WayLists::none(alloc, sources.len())?;
+        let mut ways = WayLists::none(alloc, sources.len(), joins.len().saturating_mul(2))?;
         push_joins(&mut ways, joins)?;
         Ok(LabelGraph { sources, ways })
     }

@@ -1,6 +1,6 @@
 //! The level and the label of any cell, from the floods of all tiles.
 ghost use Rattle.std.specs.Prelude.{◌≡◌, ◌+◌, ◌*◌, ◌<◌, ◌≤◌, length};
-ghost use Rattle.tiles.specs.Cutting.{IsCutting, IsWithin, tile_count, tile_of_place};
+ghost use Rattle.tiles.specs.Cutting.{IsCutting, IsInTile, IsWithin};
 ghost use Rattle.terrain.specs.Neighbours.{index_of};
 ghost use Rattle.fill.specs.Numbers.{AreFirsts};
 ghost use Rattle.fill.specs.Gathering.{Fit, mark_among, mark_in, mark_with};
@@ -42,7 +42,6 @@ pub(crate) fn mark_of_entry(flood: &TileFlood, index: usize) -> Option<Mark>
     requires { index < length flood.now.labels }
     ensures { result ≡ mark_with 0 flood.now index }
 {
-    flood.label_at(index)?;
     let level = flood.level_at(index)?;
     Some(Mark {
         level,
@@ -61,35 +60,17 @@ pub(crate) fn mark_in(flood: &TileFlood, place: Place) -> Option<Mark>
 }
 
 impl<'a> NumberedFloods<'a> {
-    /// The tile in which a place of the grid lies: most often this one.
+    /// What the flood of its own tile says of a place of the grid, None where there is no data.
     #[inline(always)]
-    fn tile_of(&self, tile: u32, place: Place) -> u32
-        requires tile { tile < tile_count self.now.tiling.now }
-        requires place { IsWithin self.now.tiling.now place }
+    pub(crate) fn mark_of_tile(&self, own: u32, place: Place) -> Option<Mark>
         requires lawful { IsCutting self.now.tiling.now }
-        ensures { result ≡ tile_of_place self.now.tiling.now place }
-    {
-        if self.floods[tile as usize].bounds().contains(place) {
-            return tile;
-        }
-        self.tiling.tile_of(place)
-    }
-
-    /// What the flood of its own tile says of a cell in or next to this tile, None outside the grid
-    /// and where there is no data.
-    #[inline]
-    pub(crate) fn mark_at(&self, tile: u32, place: Place) -> Option<Mark>
-        requires { tile < tile_count self.now.tiling.now }
+        requires place { IsInTile self.now.tiling.now own place }
         ensures { result ≡ mark_among self.now.tiling.now self.now.floods.now place }
     {
-        if place.row >= self.tiling.rows() || place.col >= self.tiling.cols() {
-            return None;
-        }
-        let own = self.tile_of(tile, place) as usize;
-        let mark = mark_in(&self.floods[own], place)?;
+        let mark = mark_in(&self.floods[own as usize], place)?;
         Some(Mark {
             level: mark.level,
-            node: self.firsts[own] + mark.node,
+            node: self.firsts[own as usize] + mark.node,
         })
     }
 }

@@ -1,17 +1,22 @@
 //! The labels of all tiles by number: those of a tile stand behind those of the tiles before it.
 ghost use Rattle.std.specs.Prelude.{◌≡◌, ◌+◌, ◌<◌, ◌≤◌, IfOk, length, map, slice_index_or};
 ghost use Rattle.std.specs.List.{flat_map};
+ghost use Rattle.terrain.specs.Raster.{Terrain};
 ghost use Rattle.fill.specs.Numbers.{AreFirsts, ends_of};
+ghost use Rattle.fill.specs.Spills.{AreFloods};
 
 use cell_floods::TileFlood;
 use std::alloc::{AllocError, Global};
 use terrain::Cell;
-
-/// The most labels that have numbers: one of 32 bits each.
-const MOST_LABELS: usize = u32::MAX as usize;
+use tiles::Tiling;
 
 /// The number of the first label of each tile.
-pub(crate) fn first_numbers(alloc: Global, floods: &[TileFlood]) -> Result<Vec<u32>, AllocError>
+pub(crate) fn first_numbers(
+    alloc: Global,
+    tiling: &Tiling,
+    floods: &[TileFlood],
+) -> Result<Vec<u32>, AllocError>
+    requires { (t : Terrain) × AreFloods t tiling.now floods.now }
     ensures { IfOk result (λ v. AreFirsts floods.now v.items) }
 {
     let mut firsts = Vec::with_capacity(alloc, floods.len())?;
@@ -19,9 +24,6 @@ pub(crate) fn first_numbers(alloc: Global, floods: &[TileFlood]) -> Result<Vec<u
     for flood in floods {
         firsts.push(count as u32)?;
         count += flood.labels().places().len();
-        if count > MOST_LABELS {
-            return Err(AllocError);
-        }
     }
     Ok(firsts)
 }

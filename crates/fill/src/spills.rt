@@ -169,7 +169,7 @@ impl SpillGraph {
         ensures { IfOk result (λ g. (t : Terrain)
             → AreFloods t tiling.now floods.now → IsGraphOf t tiling.now floods.now g) }
     {
-        let firsts = first_numbers(alloc, floods)?;
+        let firsts = first_numbers(alloc, tiling, floods)?;
         let tiles = NumberedFloods {
             tiling,
             floods,

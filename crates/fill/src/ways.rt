@@ -10,13 +10,13 @@ use std::marker::Model;
 use terrain::Height;
 
 /// Stands for no link. The first entry of the links is no link.
-const NO_LINK: u32 = 0;
+const NO_LINK: usize = 0;
 
 /// A way from a label, and the link of the way before it from the same label.
 #[derive(Clone, Copy)]
 pub(crate) struct Link {
     to: u32,
-    before: u32,
+    before: usize,
     height: Height,
 }
 
@@ -35,7 +35,7 @@ impl Link {
 #[derive(Drop)]
 pub(crate) struct WayLists {
     /// The last link of each label.
-    lasts: Vec<u32>,
+    lasts: Vec<usize>,
     links: Vec<Link>,
 }
 
@@ -52,8 +52,8 @@ impl Model for WayLists {
 }
 
 impl WayLists {
-    /// For so many labels, none of which has a way.
-    pub(crate) fn none(alloc: Global, labels: usize) -> Result<Self, AllocError>
+    /// For so many labels, none of which has a way, with room for so many ways.
+    pub(crate) fn none(alloc: Global, labels: usize, ways: usize) -> Result<Self, AllocError>
         ensures { IfOk result (λ w. w ≡ replicate labels []) }
     {
         let lasts = vec![in alloc; NO_LINK; labels]?;
@@ -62,7 +62,7 @@ impl WayLists {
             before: NO_LINK,
             height: 0,
         };
-        let mut links = Vec::new(alloc);
+        let mut links = Vec::with_capacity(alloc, ways.saturating_add(1))?;
         links.push(none)?;
         Ok(WayLists { lasts, links })
     }
@@ -82,16 +82,13 @@ impl WayLists {
         ensures { OnOk result (self.new ≡ set self.old label (way ∷ slice_index_or self.old label [])) }
     {
         let last = self.links.len();
-        if last > u32::MAX as usize {
-            return Err(AllocError);
-        }
         let link = Link {
             to: way.to,
             before: self.lasts[label as usize],
             height: way.height,
         };
         self.links.push(link)?;
-        self.lasts[label as usize] = last as u32;
+        self.lasts[label as usize] = last;
         Ok(())
     }
 
@@ -112,7 +109,7 @@ impl WayLists {
         let mut ways = SmallVec::new(alloc);
         let mut at = self.lasts[label as usize];
         while at != NO_LINK {
-            let link = self.links[at as usize];
+            let link = self.links[at];
             ways.push(link.way())?;
             at = link.before;
         }
@@ -138,7 +135,7 @@ impl WayLists {
     {
         let mut at = self.lasts[from.node as usize];
         while at != NO_LINK {
-            let link = self.links[at as usize];
+            let link = self.links[at];
             push_way(waits, link.way(), from, labels, levels)?;
             at = link.before;
         }

@@ -29,6 +29,9 @@ pub struct Waiting {
 /// this are passed over where heights lie far apart.
 const MOST_LEVELS: usize = 512;
 
+/// Levels of the window at least. A small net has none: its heap is as fast, and needs no lists.
+const FEWEST_LEVELS: usize = 16;
+
 /// Nodes for each level of the window at least, so that making the lists is little of a flood.
 const NODES_A_LEVEL: usize = 16;
 
@@ -47,6 +50,18 @@ pub struct Waits {
     end: usize,
     lists: Vec<Vec<Waiting>>,
     others: BinaryHeap<Waiting>,
+}
+
+/// How many levels the window of a net of so many nodes has.
+fn level_count(nodes: usize) -> usize
+    ensures { result ≤ MOST_LEVELS }
+{
+    let levels = nodes / NODES_A_LEVEL;
+    if levels < FEWEST_LEVELS {
+        0
+    } else {
+        levels.min(MOST_LEVELS)
+    }
 }
 
 /// Empty lists, with room for some nodes each.
@@ -81,13 +96,14 @@ impl Waits {
         ensures order { IfOk result (λ w. InOrder w) }
         ensures none { IfOk result (λ w. HasNone (waiting_in w)) }
     {
-        let lists = empty_lists(alloc, MOST_LEVELS.min(nodes / NODES_A_LEVEL))?;
+        let lists = empty_lists(alloc, level_count(nodes))?;
+        let others = BinaryHeap::with_capacity(alloc, FIRST_ROOM)?;
         Ok(Waits {
             base: 0,
             first: lists.len(),
             end: 0,
             lists,
-            others: BinaryHeap::new(alloc),
+            others,
         })
     }
 

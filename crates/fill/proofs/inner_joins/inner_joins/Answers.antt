@@ -9,8 +9,8 @@ use Rattle.fill.proofs.inner_joins.inner_joins.Goals as goal
 pub loop-row-init : goal.loop-row-init
 loop-row-init c =
     adds_none (mark_in 0 c.args.flood.now) c.args.left_out.now
-    (λ p q. IsInBounds c.args.flood.now.bounds p × (p.row < c.bounds-top.result.top)) _ _ c.in_ok-table.ensures
-    (λ p q at. omega (arith, at.0, at.1, ap (λ (z : Bounds). z.top) c.bounds-top.ensures.value))
+    (λ p q. IsInBounds c.args.flood.now.bounds p × (p.row < c.bounds-bounds.result.top)) _ _ c.in_ok-table.ensures
+    (λ p q at. omega (arith, at.0, at.1, ap (λ (z : Bounds). z.top) c.bounds-bounds.ensures.value))
 
 pub loop-row-preserved : goal.loop-row-preserved
 loop-row-preserved c =
@@ -34,11 +34,5 @@ returns c =
     (adds_as (mark_in 0 c.args.flood.now) c.args.left_out.now
     (λ p q. inside p × (p.row < c.loop-row.row)) (λ p q. inside p) _ _
     (λ p q at. at.0)
-    (λ p q touch after m m_is n n_is at. (at, omega (arith, at, c.loop-row-test.false, ap (λ (z : Bounds). z.top + z.rows) c.bounds-top.ensures.value)))
+    (λ p q touch after m m_is n n_is at. (at, omega (arith, at, c.loop-row-test.false, ap (λ (z : Bounds). z.top + z.rows) c.bounds-bounds.ensures.value)))
     c.loop-row.invariant)
-
-pub push_row-requires-clause-top : goal.push_row-requires-clause-top
-push_row-requires-clause-top c = omega (arith, c.loop-row.auto.row, ap (λ (z : Bounds). z.top) c.bounds-top.ensures.value)
-
-pub push_row-requires-clause-row : goal.push_row-requires-clause-row
-push_row-requires-clause-row c = omega (arith, c.loop-row-test.true, ap (λ (z : Bounds). z.top + z.rows) c.bounds-top.ensures.value)

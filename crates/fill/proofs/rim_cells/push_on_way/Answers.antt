@@ -1,0 +1,38 @@
+use Rattle.std.proofs.Common.{◌≡◌, ◌<◌, sym, refl, ap, ◌∙◌, arith}
+use Rattle.std.proofs.lemmas.Bool.{OnTrue_at}
+use Rattle.std.proofs.lemmas.Option.{same_Some}
+use Rattle.std.proofs.lemmas.Result.{on_ok_weaker}
+use Rattle.terrain.proofs.Options.{none_some}
+use Rattle.terrain.specs.Ways.{place_on}
+use Rattle.terrain.specs.declared.place.Place.{Place}
+use Rattle.fill.specs.Gathering.{IsPairOn, Spared}
+use Rattle.fill.proofs.Adding.{adds_none, adds_on_way, adds_spared, next_row, spared_corner}
+use Rattle.fill.proofs.rim_cells.push_on_way.Goals as goal
+
+pub returns-in_default : goal.returns-in_default
+returns-in_default g c =
+    adds_none (g.C.KnownCells.marks c.args.cells.now) c.args.left_out.now (IsPairOn c.args.way c.args.place (g.C.KnownCells.wanted c.args.cells.now)) _ _ refl
+    (λ q r at. none_some (place_on c.args.way c.args.place) r (sym c.place_on.ensures ∙ c.in_default.is) at.1)
+
+pub returns-then-not-is_wanted : goal.returns-then-not-is_wanted
+returns-then-not-is_wanted g c =
+    adds_none (g.C.KnownCells.marks c.args.cells.now) c.args.left_out.now (IsPairOn c.args.way c.args.place (g.C.KnownCells.wanted c.args.cells.now)) _ _ refl
+    (λ q r at.
+    let same = same_Some c.in-Some.near r (sym (sym c.place_on.ensures ∙ c.in-Some.is) ∙ at.1) in
+    absurd (cc (c.if-not-is_wanted.ensures ∙ ap (g.C.KnownCells.wanted c.args.cells.now) same ∙ at.2)))
+
+pub returns-then-is_spared : goal.returns-then-is_spared
+returns-then-is_spared g c =
+    let marks = g.C.KnownCells.marks c.args.cells.now in
+    let wanted = g.C.KnownCells.wanted c.args.cells.now in
+    let on = sym c.place_on.ensures ∙ c.in-Some.is in
+    adds_spared marks c.args.left_out.now c.args.place c.in-Some.near c.args.way wanted _ on
+    (spared_corner marks c.args.left_out.now c.args.place c.in-Some.near c.args.from c.args.below c.mark-to.result
+    c.requires.from c.requires.below c.mark-to.ensures
+    (next_row c.args.place c.in-Some.near c.args.way c.requires.after on (λ e. c.if-near-place.true (sym e)))
+    (λ e. c.if-near-place-2.true (sym e)) (OnTrue_at c.if-is_spared.true c.is_spared.ensures))
+
+pub returns : goal.returns
+returns g c = on_ok_weaker _ (λ added.
+    adds_on_way (g.C.KnownCells.marks c.args.cells.now) c.args.left_out.now c.args.place c.in-Some.near c.args.way (g.C.KnownCells.wanted c.args.cells.now) c.args.from _ _ _
+    c.requires.from (sym c.mark-to.ensures) (omega (arith, c.requires.after)) (sym c.place_on.ensures ∙ c.in-Some.is) (sym c.is_wanted.ensures ∙ cc c.if-not-is_wanted.false) added) (rw (ap (λ (z : Spared). z.sources) c.left_out.view_is) at c.push_join.ensures)

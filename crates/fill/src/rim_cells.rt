@@ -1,0 +1,167 @@
+//! The joins of cells on a tile's rim with those after them in row order: [`push_rim_cells`].
+//!
+//! A [`KnownCells`] says what is known of cells, and with which of them joins are wanted.
+ghost use Rattle.std.specs.Prelude.{◌≡◌, ◌+◌, ◌<◌, ◌≤◌, ◌∷◌, [], List, Bool, Some, true, OnOk};
+ghost use Rattle.terrain.specs.declared.place.Place.{Place};
+ghost use Rattle.tiles.specs.Cutting.{IsInBounds, IsWithinLimits};
+ghost use Rattle.fill.specs.Gathering.{Adds, AddsCovered, IsOnRimRow, IsPairFrom, IsPairOn, Marks, joins_of};
+ghost use Rattle.fill.specs.declared.spills.Join.{Join};
+
+use crate::left_out::{LeftOut, is_spared, join_of};
+use crate::marks::Mark;
+use crate::spills::Join;
+use std::alloc::AllocError;
+use terrain::{Cell, Place, place_on};
+use tiles::Bounds;
+
+/// What is known of the levels and labels of cells, and with which cells joins are wanted.
+pub(crate) trait KnownCells {
+    ghost marks: { Self → Marks };
+
+    ghost wanted: { Self → Place → Bool };
+
+    /// The level and the label of a cell, None where there is no data.
+    fn mark(&self, place: Place) -> Option<Mark>
+        ensures { result ≡ marks self.now place };
+
+    /// Whether joins with the cell at this place are wanted.
+    fn is_wanted(&self, place: Place) -> bool
+        ensures { result ≡ wanted self.now place };
+}
+
+/// A list to which joins are added.
+pub(crate) trait JoinList {
+    ghost joins: { Self → List Join };
+
+    /// Adds a join, or makes one of the same labels as low.
+    fn add(&mut self, join: Join) -> Result<(), AllocError>
+        ensures { OnOk result (AddsCovered (joins self.old) (join ∷ []) (joins self.new)) };
+}
+
+/// Adds the join of two cells, where their labels differ and are not both among these sources.
+#[inline(always)]
+pub(crate) fn push_join<J: JoinList>(
+    joins: &mut J,
+    sources: &[Cell],
+    from: Mark,
+    to: Option<Mark>,
+) -> Result<(), AllocError>
+    ensures { OnOk result
+        (AddsCovered (J.joins joins.old) (joins_of sources.now from to) (J.joins joins.new)) }
+{
+    let Some(join) = join_of(sources, from, to) else {
+        return Ok(());
+    };
+    joins.add(join)?;
+    Ok(())
+}
+
+/// Adds the join of a cell with the one that lies this way from it, where it is wanted.
+#[inline(always)]
+fn push_on_way<C: KnownCells, J: JoinList>(
+    joins: &mut J,
+    cells: &C,
+    left_out: &LeftOut<'_>,
+    place: Place,
+    from: Mark,
+    below: Option<Mark>,
+    way: usize,
+) -> Result<(), AllocError>
+    requires limits { (place.row < 4096) × (place.col < 4096) }
+    requires from { C.marks cells.now place ≡ Some from }
+    requires below { below ≡ C.marks cells.now (record { row = place.row + 1; col = place.col }) }
+    requires after { way < 4 }
+    ensures { OnOk result (Adds (C.marks cells.now) left_out.now
+        (IsPairOn way place (C.wanted cells.now)) (J.joins joins.old) (J.joins joins.new)) }
+{
+    let Some(near) = place_on(way, place) else {
+        return Ok(());
+    };
+    if !cells.is_wanted(near) {
+        return Ok(());
+    }
+    let to = cells.mark(near);
+    if near.row != place.row && near.col != place.col && is_spared(left_out, from, below, to) {
+        return Ok(());
+    }
+    push_join(joins, left_out.sources, from, to)
+}
+
+/// Adds the joins of a cell with those after it, where they are wanted: east, south-east, south and
+/// south-west of it.
+fn push_cell<C: KnownCells, J: JoinList>(
+    joins: &mut J,
+    cells: &C,
+    left_out: &LeftOut<'_>,
+    place: Place,
+) -> Result<(), AllocError>
+    requires { (place.row < 4096) × (place.col < 4096) }
+    ensures { OnOk result (Adds (C.marks cells.now) left_out.now
+        (IsPairFrom place (C.wanted cells.now)) (J.joins joins.old) (J.joins joins.new)) }
+{
+    let Some(from) = cells.mark(place) else {
+        return Ok(());
+    };
+    let below = cells.mark(Place {
+        row: place.row + 1,
+        col: place.col,
+    });
+    push_on_way(joins, cells, left_out, place, from, below, 0)?;
+    push_on_way(joins, cells, left_out, place, from, below, 1)?;
+    push_on_way(joins, cells, left_out, place, from, below, 2)?;
+    push_on_way(joins, cells, left_out, place, from, below, 3)?;
+    Ok(())
+}
+
+/// Adds the joins of all cells of one row of these bounds with those after them.
+fn push_row<C: KnownCells, J: JoinList>(
+    joins: &mut J,
+    cells: &C,
+    left_out: &LeftOut<'_>,
+    bounds: Bounds,
+    row: u32,
+) -> Result<(), AllocError>
+    requires limits { IsWithinLimits bounds }
+    requires row { (bounds.top ≤ row) × (row < bounds.top + bounds.rows) }
+    ensures { OnOk result (Adds (C.marks cells.now) left_out.now
+        (λ p q. (IsInBounds bounds p × (p.row ≡ row)) × (C.wanted cells.now q ≡ true))
+        (J.joins joins.old) (J.joins joins.new)) }
+{
+    for col in bounds.left..bounds.left + bounds.cols {
+        push_cell(joins, cells, left_out, Place { row, col })?;
+    }
+    Ok(())
+}
+
+/// Adds the joins of those cells of a row of a tile that have not all cells after them in it: the
+/// first and the last, and in its last row all.
+pub(crate) fn push_rim_cells<C: KnownCells, J: JoinList>(
+    joins: &mut J,
+    cells: &C,
+    left_out: &LeftOut<'_>,
+    bounds: Bounds,
+    row: u32,
+) -> Result<(), AllocError>
+    requires limits { IsWithinLimits bounds }
+    requires some { 1 ≤ bounds.cols }
+    requires row { (bounds.top ≤ row) × (row < bounds.top + bounds.rows) }
+    ensures { OnOk result (Adds (C.marks cells.now) left_out.now
+        (λ p q. IsOnRimRow bounds row p × (C.wanted cells.now q ≡ true))
+        (J.joins joins.old) (J.joins joins.new)) }
+{
+    let Bounds {
+        top,
+        left,
+        rows,
+        cols,
+    } = bounds;
+    if row + 1 == top + rows {
+        return push_row(joins, cells, left_out, bounds, row);
+    }
+    push_cell(joins, cells, left_out, Place { row, col: left })?;
+    if cols > 1 {
+        let last = left + cols - 1;
+        push_cell(joins, cells, left_out, Place { row, col: last })?;
+    }
+    Ok(())
+}
