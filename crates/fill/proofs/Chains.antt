@@ -68,16 +68,6 @@ no_links labels lasts links is =
     ∙ ap (chain links (length links - 1)) (ap (λ (z : List ℕ). get_or z i 0) is ∙ get_or-replicate labels i 0 0 inside)
     ∙ chain_none links (length links - 1) ∙ sym (get_or-replicate labels i [] [] inside))
 
-pub none_linked : (labels : ℕ) (lasts : List ℕ) (links : List Link) → lasts ≡ replicate labels 0 → length links ≡ 1 → AreLinked lasts links
-none_linked labels lasts links is one = record {
-  some = omega (arith, one);
-  begin = λ label. elim (cases_lt label labels) [
-    | inl low ↦ let zero_is : get_or lasts label 0 ≡ 0 = ap (λ (z : List ℕ). get_or z label 0) is ∙ get_or-replicate labels label 0 0 low in omega (arith, zero_is, one)
-    | inr past ↦ let zero_is : get_or lasts label 0 ≡ 0 = get_or_past lasts label 0 (omega (arith, past, ap length is, length-replicate {A = ℕ} labels 0)) in omega (arith, zero_is, one)
-  ];
-  before = λ i some low. absurd (omega (arith, some, low, one));
-}
-
 -- one more way
 module _ (lasts : List ℕ) (links : List Link) (label : ℕ) (l : Link) (linked : AreLinked lasts links) (low : label < length lasts) (before : l.before ≡ get_or lasts label 0) where
   abbrev pub after : List Link
@@ -119,27 +109,6 @@ module _ (lasts : List ℕ) (links : List Link) (label : ℕ) (l : Link) (linked
             chain_step after (length after - 1) (length links) linked.some (omega (arith, size)) first
             ∙ ap (λ (k : Link). way_of_link k ∷ chain after (length after - 1) k.before) new_link
             ∙ ap (λ z. way_of_link l ∷ z) (ap (chain after (length after - 1)) before ∙ there (get_or lasts label 0) less ∙ sym (ways_at lasts links label low))
-
-  pub still_linked : AreLinked (set lasts label (length links)) after
-  still_linked = record {
-    some = omega (arith, size);
-    begin = λ i. elim (cases_eq i label) [
-      | inl same ↦
-          let at : get_or (set lasts label (length links)) i 0 ≡ length links = ap (λ k. get_or (set lasts label (length links)) k 0) same ∙ get_or-set_same lasts label (length links) 0 low in
-          omega (arith, at, size)
-      | inr other ↦
-          let at : get_or (set lasts label (length links)) i 0 ≡ get_or lasts i 0 = get_or-set_other lasts label i (length links) 0 other in
-          omega (arith, at, size, linked.begin i)
-    ];
-    before = λ i some below. elim (cases_eq i (length links)) [
-      | inl same ↦
-          let at : link_at after i ≡ l = ap (link_at after) same ∙ get_or_push links l _ (length links) refl in
-          omega (arith, ap (λ (k : Link). k.before) at, before, linked.begin label, same)
-      | inr other ↦
-          let at : link_at after i ≡ link_at links i = get_or_append_left links (l ∷ []) _ i (omega (arith, below, other, size)) in
-          omega (arith, ap (λ (k : Link). k.before) at, linked.before i some (omega (arith, below, other, size)))
-    ];
-  }
 
 -- whether there is a way
 pub some_way : (lasts : List ℕ) (links : List Link) (label : ℕ) → AreLinked lasts links → label < length lasts → (0 < get_or lasts label 0 → has_ways (ways_by lasts links) label ≡ true) × (get_or lasts label 0 ≡ 0 → has_ways (ways_by lasts links) label ≡ false)

@@ -8,8 +8,8 @@
 //! - `filling`: `filled`, which runs all stages
 //! - `numbers`: labels by number, and those that are end cells
 //! - `marks`: level and label of a cell
-//! - `places`: the places around a place
 //! - `left_out`: which joins lower no level
+//! - `rim_cells`: the joins of cells on a tile's rim
 //! - `join_table`: joins by their labels
 //! - `inner_joins`: the joins inside a tile
 //! - `rim_joins`: the joins over its rim
