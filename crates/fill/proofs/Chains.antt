@@ -1,154 +1,334 @@
--- Lists of ways that share one list of links.
-use Rattle.std.proofs.Common.{◌≡◌, ℕ, zero, suc, ◌+◌, ◌-◌, ◌<◌, ◌≤◌, inl, inr, true, false, List, [], ◌∷◌, ◌++◌, length, get_or, set, replicate, ◌∙◌, sym, ap, subst, refl, arith}
+-- Lists of ways over one list of joins.
+use Rattle.std.proofs.Common.{◌≡◌, ◌≢◌, ℕ, zero, suc, ◌+◌, ◌-◌, ◌<◌, ◌≤◌, ◌⊎◌, ◌↔◌, inl, inr, true, false, ℤ, pos, List, [], ◌∷◌, ◌++◌, length, get_or, set, replicate, ◌∙◌, sym, ap, subst, refl, arith}
 use Rattle.std.proofs.lemmas.Bool.{cases_eq, cases_lt, cond-true, cond-false, eq-eqb, ne_eqb}
-use Rattle.std.proofs.lemmas.List.{ext_get_or, length-map, length-set, length_push, length-replicate, get_or-map, get_or-replicate, get_or-set_same, get_or-set_other, get_or_append_left, get_or_push, get_or_past, get_or_default, append-nil, append_assoc}
-use Rattle.std.specs.List.{Contains}
+use Rattle.std.proofs.lemmas.List.{ext_get_or, length-map, length-set, length_push, length-replicate, get_or-replicate, get_or-set_same, get_or-set_other, get_or_append_left, get_or_push, get_or_default, get_or_past, append-nil, append_assoc}
+use Rattle.std.proofs.lemmas.List.FromFn.{get_or-map-range_with_len, length-range_with_len}
+use Rattle.std.specs.List.{Contains, range_with_len}
 use Rattle.std.proofs.lemmas.List.Elements.{Contains-append_right}
-use Rattle.floods.proofs.Heaps.{cons_head}
+use Rattle.floods.proofs.Heaps.{cons_head, cons_cases}
 use Rattle.floods.specs.declared.net.Spill.{Spill}
-use Rattle.fill.specs.Ways.{way_of_link, link_at, chain, ways_by, AreLinked, has_ways, is_some_way}
+use Rattle.fill.specs.Gathering.{turned, way_of}
+use Rattle.fill.specs.LabelNet.{AddsWays, IsJoinOf}
+use Rattle.fill.specs.Ways.{link_from, link_at, chain, ways_by, AreLinked, has_ways, is_some_way}
+use Rattle.fill.specs.declared.spills.Join.{Join}
+use Rattle.fill.specs.declared.ways.Befores.{Befores}
 use Rattle.fill.specs.declared.ways.Link.{Link}
+use Rattle.fill.proofs.Adding.{no_join}
 
--- the last of the links is the one where the chain begins
-chain_here : (links : List Link) (n : ℕ) → chain links (suc n) (suc n) ≡ way_of_link (link_at links (suc n)) ∷ chain links n (link_at links (suc n)).before
-chain_here links n = cond-true _ _ _ (eq-eqb (suc n) (suc n) refl)
+-- the last of the joins is the one where the chain begins
+chain_here : (link : ℕ → Link) (n : ℕ) → chain link (suc n) (suc n) ≡ (link n).way ∷ chain link n (link n).before
+chain_here link n = cond-true _ _ _ (eq-eqb (suc n) (suc n) refl)
 
-chain_less : (links : List Link) (n at : ℕ) → at ≤ n → chain links (suc n) at ≡ chain links n at
-chain_less links n at low = cond-false _ _ _ (ne_eqb at (suc n) (λ same. absurd (omega (arith, low, same))))
+chain_less : (link : ℕ → Link) (n at : ℕ) → at ≤ n → chain link (suc n) at ≡ chain link n at
+chain_less link n at low = cond-false _ _ _ (ne_eqb at (suc n) (λ same. absurd (omega (arith, low, same))))
 
--- later links are on no chain from an earlier one
-chain_upto : (links : List Link) (n at : ℕ) → at ≤ n → chain links n at ≡ chain links at at
-chain_upto links zero at low =
+-- later joins are on no chain from an earlier one
+chain_upto : (link : ℕ → Link) (n at : ℕ) → at ≤ n → chain link n at ≡ chain link at at
+chain_upto link zero at low =
     let none : at ≡ 0 = omega (arith, low) in
-    subst (λ k. chain links zero k ≡ chain links k k) (sym none) refl
-chain_upto links (suc n) at low = elim (cases_eq at (suc n)) [
-  | inl same ↦ ap (λ k. chain links k at) (sym same)
-  | inr other ↦ chain_less links n at (omega (arith, low, other)) ∙ chain_upto links n at (omega (arith, low, other))
+    subst (λ k. chain link zero k ≡ chain link k k) (sym none) refl
+chain_upto link (suc n) at low = elim (cases_eq at (suc n)) [
+  | inl same ↦ ap (λ k. chain link k at) (sym same)
+  | inr other ↦ chain_less link n at (omega (arith, low, other)) ∙ chain_upto link n at (omega (arith, low, other))
 ]
 
 -- none is on the chain from none
-pub chain_none : (links : List Link) (n : ℕ) → chain links n 0 ≡ []
-chain_none links n = chain_upto links n 0 (omega arith)
+pub chain_none : (link : ℕ → Link) (n : ℕ) → chain link n 0 ≡ []
+chain_none link n = chain_upto link n 0 (omega arith)
 
--- a chain is its first way, and the chain from the link before
-pub chain_step : (links : List Link) (n at : ℕ) → 0 < at → at ≤ n → (link_at links at).before < at → chain links n at ≡ way_of_link (link_at links at) ∷ chain links n (link_at links at).before
-chain_step links n zero some low before = absurd (omega (arith, some))
-chain_step links n (suc k) some low before =
-    chain_upto links n (suc k) low ∙ chain_here links k
-    ∙ ap (λ z. way_of_link (link_at links (suc k)) ∷ z) (chain_upto links k (link_at links (suc k)).before (omega (arith, before)) ∙ sym (chain_upto links n (link_at links (suc k)).before (omega (arith, before, low))))
+-- a chain is its first way, and the chain from the join before
+chain_step : (link : ℕ → Link) (n k : ℕ) → k < n → (link k).before ≤ k → chain link n (suc k) ≡ (link k).way ∷ chain link n (link k).before
+chain_step link n k low before =
+    chain_upto link n (suc k) (omega (arith, low)) ∙ chain_here link k
+    ∙ ap (λ z. (link k).way ∷ z) (chain_upto link k (link k).before before ∙ sym (chain_upto link n (link k).before (omega (arith, before, low))))
 
--- a link that is added is on no earlier chain
-chain_same : (links : List Link) (l : Link) (n at : ℕ) → n < length links → chain (links ++ l ∷ []) n at ≡ chain links n at
-chain_same links l zero at low = refl
-chain_same links l (suc n) at low = elim (cases_eq at (suc n)) [
-  | inl same ↦
-      let is : link_at (links ++ l ∷ []) (suc n) ≡ link_at links (suc n) = get_or_append_left links (l ∷ []) _ (suc n) low in
-      cond-true _ _ _ (eq-eqb at (suc n) same)
-      ∙ ap (λ (k : Link). way_of_link k ∷ chain (links ++ l ∷ []) n k.before) is
-      ∙ ap (λ z. way_of_link (link_at links (suc n)) ∷ z) (chain_same links l n (link_at links (suc n)).before (omega (arith, low)))
-      ∙ sym (cond-true _ _ _ (eq-eqb at (suc n) same))
+-- chains of the same links
+chain_same : (f g : ℕ → Link) (n at : ℕ) → ((i : ℕ) → i < n → f i ≡ g i) → chain f n at ≡ chain g n at
+chain_same f g zero at same = refl
+chain_same f g (suc n) at same = elim (cases_eq at (suc n)) [
+  | inl here ↦
+      cond-true _ _ _ (eq-eqb at (suc n) here)
+      ∙ ap (λ (k : Link). k.way ∷ chain f n k.before) (same n (omega arith))
+      ∙ ap (λ z. (g n).way ∷ z) (chain_same f g n (g n).before (λ i low. same i (omega (arith, low))))
+      ∙ sym (cond-true _ _ _ (eq-eqb at (suc n) here))
   | inr other ↦
-      cond-false _ _ _ (ne_eqb at (suc n) (λ same. absurd (other same))) ∙ chain_same links l n at (omega (arith, low))
-      ∙ sym (cond-false _ _ _ (ne_eqb at (suc n) (λ same. absurd (other same))))
+      cond-false _ _ _ (ne_eqb at (suc n) (λ here. absurd (other here))) ∙ chain_same f g n at (λ i low. same i (omega (arith, low)))
+      ∙ sym (cond-false _ _ _ (ne_eqb at (suc n) (λ here. absurd (other here))))
 ]
 
-pub ways_at : (lasts : List ℕ) (links : List Link) (label : ℕ) → label < length lasts → get_or (ways_by lasts links) label [] ≡ chain links (length links - 1) (get_or lasts label 0)
-ways_at lasts links label low = get_or-map (chain links (length links - 1)) lasts label 0 [] low
+pub ways_at : (lasts : List ℕ) (joins : List Join) (befores : List Befores) (label : ℕ) → label < length lasts
+    → get_or (ways_by lasts joins befores) label [] ≡ chain (link_at joins befores label) (length befores) (get_or lasts label 0)
+ways_at lasts joins befores label low =
+    get_or-map-range_with_len (λ a. chain (link_at joins befores a) (length befores) (get_or lasts a 0)) 0 (length lasts) label label [] low (omega arith)
 
-pub ways_length : (lasts : List ℕ) (links : List Link) → length (ways_by lasts links) ≡ length lasts
-ways_length lasts links = length-map lasts (chain links (length links - 1))
+pub ways_length : (lasts : List ℕ) (joins : List Join) (befores : List Befores) → length (ways_by lasts joins befores) ≡ length lasts
+ways_length lasts joins befores =
+    length-map (range_with_len 0 (length lasts)) (λ a. chain (link_at joins befores a) (length befores) (get_or lasts a 0)) ∙ length-range_with_len 0 (length lasts)
 
--- no link yet
-pub no_links : (labels : ℕ) (lasts : List ℕ) (links : List Link) → lasts ≡ replicate labels 0 → ways_by lasts links ≡ replicate labels []
-no_links labels lasts links is =
-    let size : length lasts ≡ labels = ap length is ∙ length-replicate {A = ℕ} labels 0 in
-    ext_get_or [] (ways_by lasts links) (replicate labels []) (ways_length lasts links ∙ size ∙ sym (length-replicate {A = List Spill} labels [])) (λ i low.
-    let inside : i < labels = omega (arith, low, ways_length lasts links, size) in
-    ways_at lasts links i (omega (arith, inside, size))
-    ∙ ap (chain links (length links - 1)) (ap (λ (z : List ℕ). get_or z i 0) is ∙ get_or-replicate labels i 0 0 inside)
-    ∙ chain_none links (length links - 1) ∙ sym (get_or-replicate labels i [] [] inside))
+-- no join yet
+module _ (labels : ℕ) (lasts : List ℕ) (joins : List Join) (befores : List Befores) (is : lasts ≡ replicate labels 0) (none : befores ≡ []) where
+  size : length lasts ≡ labels
+  size = ap length is ∙ length-replicate {A = ℕ} labels 0
 
--- one more way
-module _ (lasts : List ℕ) (links : List Link) (label : ℕ) (l : Link) (linked : AreLinked lasts links) (low : label < length lasts) (before : l.before ≡ get_or lasts label 0) where
-  abbrev pub after : List Link
-  after = links ++ l ∷ []
+  begun : (label : ℕ) → get_or lasts label zero ≡ zero
+  begun label = ap (λ (z : List ℕ). get_or z label 0) is ∙ all_none labels label where
+    all_none : (n i : ℕ) → get_or (replicate n zero) i zero ≡ zero
+    all_none zero i = refl
+    all_none (suc n) zero = refl
+    all_none (suc n) (suc i) = all_none n i
 
-  size : length after ≡ length links + 1
-  size = length_push links l
+  pub no_ways : ways_by lasts joins befores ≡ replicate labels []
+  no_ways =
+      ext_get_or [] (ways_by lasts joins befores) (replicate labels []) (ways_length lasts joins befores ∙ size ∙ sym (length-replicate {A = List Spill} labels [])) (λ i low.
+      let inside : i < labels = omega (arith, low, ways_length lasts joins befores, size) in
+      ways_at lasts joins befores i (omega (arith, inside, size))
+      ∙ ap (chain (link_at joins befores i) (length befores)) (begun i)
+      ∙ chain_none (link_at joins befores i) (length befores) ∙ sym (get_or-replicate labels i [] [] inside))
 
-  pub way_pushed : ways_by (set lasts label (length links)) after ≡ set (ways_by lasts links) label (way_of_link l ∷ get_or (ways_by lasts links) label [])
-  way_pushed =
-      let new = set lasts label (length links) in
-      ext_get_or [] (ways_by new after) (set (ways_by lasts links) label (way_of_link l ∷ get_or (ways_by lasts links) label []))
-      (ways_length new after ∙ length-set lasts label (length links) ∙ sym (length-set (ways_by lasts links) label _ ∙ ways_length lasts links)) (λ i below.
-      let inside : i < length lasts = omega (arith, below, ways_length new after, length-set lasts label (length links)) in
-      ways_at new after i (omega (arith, inside, length-set lasts label (length links)))
-      ∙ elim (cases_eq i label) [
-        | inl same ↦
-            let at : get_or new i 0 ≡ length links = ap (λ k. get_or new k 0) same ∙ get_or-set_same lasts label (length links) 0 low in
-            ap (chain after (length after - 1)) at ∙ here
-            ∙ sym (ap (λ k. get_or (set (ways_by lasts links) label (way_of_link l ∷ get_or (ways_by lasts links) label [])) k []) same
-            ∙ get_or-set_same (ways_by lasts links) label (way_of_link l ∷ get_or (ways_by lasts links) label []) [] (omega (arith, low, ways_length lasts links)))
-        | inr other ↦
-            let at : get_or new i 0 ≡ get_or lasts i 0 = get_or-set_other lasts label i (length links) 0 other in
-            ap (chain after (length after - 1)) at ∙ there (get_or lasts i 0) (linked.begin i) ∙ sym (ways_at lasts links i inside)
-            ∙ sym (get_or-set_other (ways_by lasts links) label i (way_of_link l ∷ get_or (ways_by lasts links) label []) [] other)
-      ]) where
-        there : (at : ℕ) → at < length links → chain after (length after - 1) at ≡ chain links (length links - 1) at
-        there at small =
-            chain_upto after (length after - 1) at (omega (arith, small, size)) ∙ sym (chain_upto after (length links - 1) at (omega (arith, small)))
-            ∙ chain_same links l (length links - 1) at (omega (arith, small))
-
-        new_link : link_at after (length links) ≡ l
-        new_link = get_or_push links l _ (length links) refl
-
-        here : chain after (length after - 1) (length links) ≡ way_of_link l ∷ get_or (ways_by lasts links) label []
-        here =
-            let less : get_or lasts label 0 < length links = linked.begin label in
-            let first : (link_at after (length links)).before < length links = omega (arith, ap (λ (k : Link). k.before) new_link, before, less) in
-            chain_step after (length after - 1) (length links) linked.some (omega (arith, size)) first
-            ∙ ap (λ (k : Link). way_of_link k ∷ chain after (length after - 1) k.before) new_link
-            ∙ ap (λ z. way_of_link l ∷ z) (ap (chain after (length after - 1)) before ∙ there (get_or lasts label 0) less ∙ sym (ways_at lasts links label low))
-
--- whether there is a way
-pub some_way : (lasts : List ℕ) (links : List Link) (label : ℕ) → AreLinked lasts links → label < length lasts → (0 < get_or lasts label 0 → has_ways (ways_by lasts links) label ≡ true) × (get_or lasts label 0 ≡ 0 → has_ways (ways_by lasts links) label ≡ false)
-some_way lasts links label linked low = (
-  λ some. ap is_some_way (ways_at lasts links label low ∙ chain_step links (length links - 1) (get_or lasts label 0) some (omega (arith, linked.begin label)) (linked.before (get_or lasts label 0) some (linked.begin label))),
-  λ none. ap is_some_way (ways_at lasts links label low ∙ ap (chain links (length links - 1)) none ∙ chain_none links (length links - 1)),
-)
-
--- The ways from a label are these, and then those from a link on.
-pub record IsOnChain (lasts : List ℕ) (links : List Link) (label : ℕ) (done : List Spill) (at : ℕ) : Type 0 where
-  pub inside : at < length links
-  pub ways : done ++ chain links (length links - 1) at ≡ get_or (ways_by lasts links) label []
-
-pub chain_begun : (lasts : List ℕ) (links : List Link) (label at : ℕ) → AreLinked lasts links → label < length lasts → at ≡ get_or lasts label at → IsOnChain lasts links label [] at
-chain_begun lasts links label at linked low is =
-    let same : at ≡ get_or lasts label 0 = is ∙ get_or_default lasts label at 0 low in
-    record { inside = omega (arith, same, linked.begin label); ways = ap (chain links (length links - 1)) same ∙ sym (ways_at lasts links label low) }
-
-module _ (lasts : List ℕ) (links : List Link) (label at : ℕ) (link : Link) (done : List Spill) (linked : AreLinked lasts links) (some : 0 < at) (is : link ≡ get_or links at link) (on : IsOnChain lasts links label done at) where
-  link_is : link ≡ link_at links at
-  link_is = is ∙ get_or_default links at link _ on.inside
-
-  pub link_before : link.before < at
-  link_before = omega (arith, ap (λ (l : Link). l.before) link_is, linked.before at some on.inside)
-
-  step : done ++ way_of_link link ∷ chain links (length links - 1) link.before ≡ get_or (ways_by lasts links) label []
-  step =
-      ap (λ (l : Link). done ++ way_of_link l ∷ chain links (length links - 1) l.before) link_is
-      ∙ sym (ap (λ z. done ++ z) (chain_step links (length links - 1) at some (omega (arith, on.inside)) (linked.before at some on.inside)))
-      ∙ on.ways
-
-  pub chain_more : IsOnChain lasts links label (done ++ way_of_link link ∷ []) link.before
-  chain_more = record {
-    inside = omega (arith, link_before, on.inside);
-    ways = append_assoc done (way_of_link link ∷ []) (chain links (length links - 1) link.before) ∙ step;
+  pub none_linked : AreLinked lasts joins befores
+  none_linked = record {
+    fit = omega (arith, ap length none);
+    begin = λ label. omega (arith, begun label);
+    before = λ label i low. absurd (omega (arith, low, ap length none));
   }
 
-  pub chain_has : Contains (get_or (ways_by lasts links) label []) (way_of_link link)
-  chain_has = subst (λ (z : List Spill). Contains z (way_of_link link)) step (Contains-append_right done (way_of_link link ∷ chain links (length links - 1) link.before) (way_of_link link) (cons_head (way_of_link link) (chain links (length links - 1) link.before)))
+abbrev make_way : ℕ → ℤ → Spill
+make_way to height = record { to = to; height = height }
 
-pub chain_done : (lasts : List ℕ) (links : List Link) (label at : ℕ) (done : List Spill) → at ≡ 0 → IsOnChain lasts links label done at → done ≡ get_or (ways_by lasts links) label []
-chain_done lasts links label at done none on =
-    sym (append-nil done) ∙ ap (λ z. done ++ z) (sym (ap (chain links (length links - 1)) none ∙ chain_none links (length links - 1))) ∙ on.ways
+one : (x k : Join) → Contains (x ∷ []) k → k ≡ x
+one x k h = elim (cons_cases x [] k h) [ inl same ↦ same | inr none ↦ absurd (no_join k none) ]
+
+-- one more way from a label, where it is that of one more join
+one_way : (j : Join) (w : Spill) (old new : List Spill) (a b : ℕ) (h : ℤ) → new ≡ w ∷ old → (make_way b h ≡ w ↔ IsJoinOf (j ∷ []) a b h)
+    → Contains new (make_way b h) ↔ (Contains old (make_way b h) ⊎ IsJoinOf (j ∷ []) a b h)
+one_way j w old new a b h is same = (
+  λ held. elim (cons_cases w old (make_way b h) (subst (λ (z : List Spill). Contains z (make_way b h)) is held)) [
+    | inl this ↦ inr (same.0 this)
+    | inr was ↦ inl was
+  ],
+  λ held. subst (λ (z : List Spill). Contains z (make_way b h)) (sym is) (elim held [
+    | inl was ↦ Contains-append_right (w ∷ []) old (make_way b h) was
+    | inr join ↦ subst (Contains (w ∷ old)) (sym (same.1 join)) (cons_head w old)
+  ]),
+)
+
+-- one more join
+module _ (lasts : List ℕ) (joins : List Join) (befores : List Befores) (j : Join) (linked : AreLinked lasts joins befores) (more : length befores < length joins)
+    (is : get_or joins (length befores) (record { from = 0; to = 0; height = pos 0 }) ≡ j) (from : j.from < length lasts) (to : j.to < length lasts) where
+  abbrev count : ℕ
+  count = length befores
+
+  abbrev pub both : Befores
+  both = record { from = get_or lasts j.from 0; to = get_or lasts j.to 0 }
+
+  abbrev pub after : List Befores
+  after = befores ++ both ∷ []
+
+  abbrev pub lasts_after : List ℕ
+  lasts_after = set (set lasts j.from (length after)) j.to (length after)
+
+  after_size : length after ≡ count + 1
+  after_size = length_push befores both
+
+  same_length : length lasts_after ≡ length lasts
+  same_length = length-set (set lasts j.from (length after)) j.to (length after) ∙ length-set lasts j.from (length after)
+
+  -- links of earlier joins, and of this one
+  old_link : (label i : ℕ) → i < count → link_at joins after label i ≡ link_at joins befores label i
+  old_link label i low = ap (link_from label (get_or joins i _)) (get_or_append_left befores (both ∷ []) _ i low)
+
+  new_link : (label : ℕ) → link_at joins after label count ≡ link_from label j both
+  new_link label = ap (λ (k : Join). link_from label k (get_or after count (record { from = 0; to = 0 }))) is ∙ ap (link_from label j) (get_or_push befores both (record { from = 0; to = 0 }) count refl)
+
+  link_of_from : (label : ℕ) → j.from ≡ label → link_from label j both ≡ record { way = way_of j; before = get_or lasts j.from 0 }
+  link_of_from label same = cond-true _ _ _ (eq-eqb j.from label same)
+
+  link_of_to : (label : ℕ) → j.from ≢ label → link_from label j both ≡ record { way = way_of (turned j); before = get_or lasts j.to 0 }
+  link_of_to label other = cond-false _ _ _ (ne_eqb j.from label other)
+
+  at_from : (label : ℕ) → label ≡ j.from → link_from label j both ≡ record { way = way_of j; before = get_or lasts label 0 }
+  at_from label same = link_of_from label (sym same) ∙ ap (λ k. record { way = way_of j; before = get_or lasts k 0 }) (sym same)
+
+  at_to : (label : ℕ) → label ≢ j.from → label ≡ j.to → link_from label j both ≡ record { way = way_of (turned j); before = get_or lasts label 0 }
+  at_to label other same = link_of_to label (λ e. absurd (other (sym e))) ∙ ap (λ k. record { way = way_of (turned j); before = get_or lasts k 0 }) (sym same)
+
+  -- the last joins
+  last_to : (label : ℕ) → label ≡ j.to → get_or lasts_after label 0 ≡ length after
+  last_to label same = ap (λ k. get_or lasts_after k 0) same ∙ get_or-set_same (set lasts j.from (length after)) j.to (length after) 0 (omega (arith, to, length-set lasts j.from (length after)))
+
+  last_from : (label : ℕ) → label ≡ j.from → get_or lasts_after label 0 ≡ length after
+  last_from label same = elim (cases_eq label j.to) [
+    | inl is_to ↦ last_to label is_to
+    | inr other ↦
+        get_or-set_other (set lasts j.from (length after)) j.to label (length after) 0 other
+        ∙ ap (λ k. get_or (set lasts j.from (length after)) k 0) same ∙ get_or-set_same lasts j.from (length after) 0 from
+  ]
+
+  last_other : (label : ℕ) → label ≢ j.from → label ≢ j.to → get_or lasts_after label 0 ≡ get_or lasts label 0
+  last_other label not_from not_to =
+      get_or-set_other (set lasts j.from (length after)) j.to label (length after) 0 not_to ∙ get_or-set_other lasts j.from label (length after) 0 not_from
+
+  pub still_linked : AreLinked lasts_after joins after
+  still_linked = record {
+    fit = omega (arith, after_size, more);
+    begin = λ label. elim (cases_eq label j.to) [
+      | inl is_to ↦ omega (arith, last_to label is_to)
+      | inr not_to ↦ elim (cases_eq label j.from) [
+        | inl is_from ↦ omega (arith, last_from label is_from)
+        | inr not_from ↦ let was : get_or lasts label 0 ≤ count = linked.begin label in omega (arith, last_other label not_from not_to, was, after_size)
+      ]
+    ];
+    before = λ label i low. elim (cases_eq i count) [
+      | inr other ↦
+          let early : i < count = omega (arith, low, after_size, other) in
+          let was : (link_at joins befores label i).before ≤ i = linked.before label i early in
+          omega (arith, ap (λ (l : Link). l.before) (old_link label i early), was)
+      | inl here ↦
+          let was : (link_from label j both).before ≤ count = earlier label in
+          omega (arith, ap (λ k. (link_at joins after label k).before) here, ap (λ (l : Link). l.before) (new_link label), was, here)
+    ];
+  } where
+    earlier : (label : ℕ) → (link_from label j both).before ≤ count
+    earlier label = elim (cases_eq j.from label) [
+      | inl same ↦ let was : get_or lasts j.from 0 ≤ count = linked.begin j.from in omega (arith, ap (λ (l : Link). l.before) (link_of_from label same), was)
+      | inr other ↦ let was : get_or lasts j.to 0 ≤ count = linked.begin j.to in omega (arith, ap (λ (l : Link). l.before) (link_of_to label other), was)
+    ]
+
+  abbrev old : List (List Spill)
+  old = ways_by lasts joins befores
+
+  abbrev new : List (List Spill)
+  new = ways_by lasts_after joins after
+
+  -- the ways from either label
+  here : (label : ℕ) (way : Spill) → label < length lasts → get_or lasts_after label 0 ≡ length after
+      → link_from label j both ≡ record { way = way; before = get_or lasts label 0 } → get_or new label [] ≡ way ∷ get_or old label []
+  here label way low last link =
+      ways_at lasts_after joins after label (omega (arith, low, same_length)) ∙ ap (chain (link_at joins after label) (length after)) last
+      ∙ ap (λ n. chain (link_at joins after label) n n) after_is ∙ chain_here (link_at joins after label) count
+      ∙ ap (λ (l : Link). l.way ∷ chain (link_at joins after label) count l.before) (new_link label ∙ link)
+      ∙ ap (λ z. way ∷ z) (chain_same (link_at joins after label) (link_at joins befores label) count (get_or lasts label 0) (old_link label) ∙ sym (ways_at lasts joins befores label low)) where
+        after_is : length after ≡ suc count
+        after_is = omega (arith, after_size)
+
+  elsewhere : (label : ℕ) → label ≢ j.from → label ≢ j.to → get_or new label [] ≡ get_or old label []
+  elsewhere label not_from not_to = elim (cases_lt label (length lasts)) [
+    | inr past ↦ get_or_past new label [] (omega (arith, past, same_length, ways_length lasts_after joins after)) ∙ sym (get_or_past old label [] (omega (arith, past, ways_length lasts joins befores)))
+    | inl low ↦
+        let begun : get_or lasts label 0 ≤ count = linked.begin label in
+        ways_at lasts_after joins after label (omega (arith, low, same_length)) ∙ ap (chain (link_at joins after label) (length after)) (last_other label not_from not_to)
+        ∙ chain_upto (link_at joins after label) (length after) (get_or lasts label 0) (omega (arith, begun, after_size))
+        ∙ sym (chain_upto (link_at joins after label) count (get_or lasts label 0) begun)
+        ∙ chain_same (link_at joins after label) (link_at joins befores label) count (get_or lasts label 0) (old_link label) ∙ sym (ways_at lasts joins befores label low)
+  ]
+
+  inside_from : (label : ℕ) → label ≡ j.from → label < length lasts
+  inside_from label same = omega (arith, same, from)
+
+  inside_to : (label : ℕ) → label ≡ j.to → label < length lasts
+  inside_to label same = omega (arith, same, to)
+
+  pub join_added : AddsWays (j ∷ []) old new
+  join_added = record {
+    size = ways_length lasts_after joins after ∙ same_length ∙ sym (ways_length lasts joins befores);
+    each = λ a b h. elim (cases_eq a j.from) [
+      | inl is_from ↦
+          one_way j (way_of j) (get_or old a []) (get_or new a []) a b h (here a (way_of j) (inside_from a is_from) (last_from a is_from) (at_from a is_from)) (
+            λ way. inl (subst (Contains (j ∷ [])) (forth a b h is_from way) (cons_head j [])),
+            λ join. elim join [
+              | inl forward ↦ ap way_of (one j _ forward)
+              | inr backward ↦
+                  let is = one j _ backward in
+                  ap (λ n. make_way n h) (ap (λ (k : Join). k.from) is ∙ sym is_from ∙ ap (λ (k : Join). k.to) is) ∙ ap (make_way j.to) (ap (λ (k : Join). k.height) is)
+            ],
+          )
+      | inr not_from ↦ elim (cases_eq a j.to) [
+        | inl is_to ↦
+            one_way j (way_of (turned j)) (get_or old a []) (get_or new a []) a b h (here a (way_of (turned j)) (inside_to a is_to) (last_to a is_to) (at_to a not_from is_to)) (
+              λ way. inr (subst (Contains (j ∷ [])) (back a b h is_to way) (cons_head j [])),
+              λ join. elim join [
+                | inl forward ↦ absurd (not_from (ap (λ (k : Join). k.from) (one j _ forward)))
+                | inr backward ↦ ap (λ (k : Join). way_of (turned k)) (one j _ backward)
+              ],
+            )
+        | inr not_to ↦
+            let same = elsewhere a not_from not_to in (
+              λ held. inl (subst (λ (z : List Spill). Contains z (make_way b h)) same held),
+              λ held. elim held [
+                | inl was ↦ subst (λ (z : List Spill). Contains z (make_way b h)) (sym same) was
+                | inr join ↦ elim join [
+                  | inl forward ↦ absurd (not_from (ap (λ (k : Join). k.from) (one j _ forward)))
+                  | inr backward ↦ absurd (not_to (ap (λ (k : Join). k.to) (one j _ backward)))
+                ]
+              ],
+            )
+      ]
+    ];
+  } where
+    forth : (a b : ℕ) (h : ℤ) → a ≡ j.from → make_way b h ≡ way_of j → j ≡ record { from = a; to = b; height = h }
+    forth a b h is_from way = ap (λ n. record { from = n; to = j.to; height = j.height }) (sym is_from) ∙ ap (λ (w : Spill). record { from = a; to = w.to; height = w.height }) (sym way)
+
+    back : (a b : ℕ) (h : ℤ) → a ≡ j.to → make_way b h ≡ way_of (turned j) → j ≡ record { from = b; to = a; height = h }
+    back a b h is_to way = ap (λ n. record { from = j.from; to = n; height = j.height }) (sym is_to) ∙ ap (λ (w : Spill). record { from = w.to; to = a; height = w.height }) (sym way)
+
+-- whether there is a way
+pub some_way : (lasts : List ℕ) (joins : List Join) (befores : List Befores) (label : ℕ) → AreLinked lasts joins befores → label < length lasts
+    → (0 < get_or lasts label 0 → has_ways (ways_by lasts joins befores) label ≡ true) × (get_or lasts label 0 ≡ 0 → has_ways (ways_by lasts joins befores) label ≡ false)
+some_way lasts joins befores label linked low =
+    let last : get_or lasts label 0 ≤ length befores = linked.begin label in (
+      λ some.
+          let begun : get_or lasts label 0 ≡ suc (get_or lasts label 0 - 1) = omega (arith, some) in
+          let inside : get_or lasts label 0 - 1 < length befores = omega (arith, some, last) in
+          ap is_some_way (ways_at lasts joins befores label low ∙ ap (chain (link_at joins befores label) (length befores)) begun
+          ∙ chain_step (link_at joins befores label) (length befores) (get_or lasts label 0 - 1) inside (linked.before label (get_or lasts label 0 - 1) inside)),
+      λ none. ap is_some_way (ways_at lasts joins befores label low ∙ ap (chain (link_at joins befores label) (length befores)) none ∙ chain_none (link_at joins befores label) (length befores)),
+    )
+
+-- The ways from a label are these, and then those from a join on.
+pub record IsOnChain (lasts : List ℕ) (joins : List Join) (befores : List Befores) (label : ℕ) (done : List Spill) (at : ℕ) : Type 0 where
+  pub inside : at ≤ length befores
+  pub ways : done ++ chain (link_at joins befores label) (length befores) at ≡ get_or (ways_by lasts joins befores) label []
+
+pub chain_begun : (lasts : List ℕ) (joins : List Join) (befores : List Befores) (label at : ℕ) → AreLinked lasts joins befores → label < length lasts → at ≡ get_or lasts label at
+    → IsOnChain lasts joins befores label [] at
+chain_begun lasts joins befores label at linked low is =
+    let same : at ≡ get_or lasts label 0 = is ∙ get_or_default lasts label at 0 low in
+    let last : get_or lasts label 0 ≤ length befores = linked.begin label in
+    record { inside = omega (arith, same, last); ways = ap (chain (link_at joins befores label) (length befores)) same ∙ sym (ways_at lasts joins befores label low) }
+
+module _ (lasts : List ℕ) (joins : List Join) (befores : List Befores) (label at : ℕ) (link : Link) (done : List Spill) (linked : AreLinked lasts joins befores) (some : 0 < at)
+    (is : link ≡ link_at joins befores label (at - 1)) (on : IsOnChain lasts joins befores label done at) where
+  abbrev links : ℕ → Link
+  links = link_at joins befores label
+
+  inside : at - 1 < length befores
+  inside = omega (arith, some, on.inside)
+
+  pub link_before : link.before < at
+  link_before =
+      let early : (links (at - 1)).before ≤ at - 1 = linked.before label (at - 1) inside in
+      omega (arith, ap (λ (l : Link). l.before) is, early, some)
+
+  step : done ++ link.way ∷ chain links (length befores) link.before ≡ get_or (ways_by lasts joins befores) label []
+  step =
+      let next : suc (at - 1) ≡ at = omega (arith, some) in
+      ap (λ (l : Link). done ++ l.way ∷ chain links (length befores) l.before) is
+      ∙ sym (ap (λ z. done ++ z) (ap (chain links (length befores)) (sym next) ∙ chain_step links (length befores) (at - 1) inside (linked.before label (at - 1) inside)))
+      ∙ on.ways
+
+  pub chain_more : IsOnChain lasts joins befores label (done ++ link.way ∷ []) link.before
+  chain_more = record {
+    inside = omega (arith, link_before, on.inside);
+    ways = append_assoc done (link.way ∷ []) (chain links (length befores) link.before) ∙ step;
+  }
+
+  pub chain_has : Contains (get_or (ways_by lasts joins befores) label []) link.way
+  chain_has =
+      subst (λ (z : List Spill). Contains z link.way) step
+      (Contains-append_right done (link.way ∷ chain links (length befores) link.before) link.way (cons_head link.way (chain links (length befores) link.before)))
+
+pub chain_done : (lasts : List ℕ) (joins : List Join) (befores : List Befores) (label at : ℕ) (done : List Spill) → at ≡ 0 → IsOnChain lasts joins befores label done at
+    → done ≡ get_or (ways_by lasts joins befores) label []
+chain_done lasts joins befores label at done none on =
+    sym (append-nil done)
+    ∙ ap (λ z. done ++ z) (sym (ap (chain (link_at joins befores label) (length befores)) none ∙ chain_none (link_at joins befores label) (length befores))) ∙ on.ways

@@ -1,17 +1,17 @@
 -- The graph by numbers: its ways are those of the joins, and its levels those of its flood.
-use Rattle.std.proofs.Common.{◌≡◌, ℕ, zero, suc, ◌+◌, ◌<◌, ◌⊎◌, ◌↔◌, inl, inr, true, false, ℤ, pos, ◌≤ℤ◌, List, [], ◌∷◌, ◌++◌, length, get_or, set, replicate, Option, None, Some, is_some, unwrap_or, ◌∙◌, sym, ap, subst, refl, arith}
+use Rattle.std.proofs.Common.{◌≡◌, ℕ, zero, suc, ◌+◌, ◌<◌, ◌⊎◌, ◌↔◌, inl, inr, true, false, ℤ, pos, ◌≤ℤ◌, List, [], ◌∷◌, ◌++◌, length, get_or, replicate, Option, None, Some, is_some, unwrap_or, ◌∙◌, sym, ap, subst, refl, arith}
 use Rattle.std.specs.Prelude.{IsSome, MatchOption}
 use Rattle.std.specs.Int.{int_max}
 use Rattle.std.specs.Option.{option_or, option_map}
 use Rattle.std.specs.List.{Contains}
-use Rattle.std.proofs.lemmas.Bool.{cases_eq, cases_lt, cases_Bool, cond-true, cond-false}
-use Rattle.std.proofs.lemmas.List.{length-set, get_or-set_same, get_or-set_other, get_or_past, get_or-replicate, length-replicate}
+use Rattle.std.proofs.lemmas.Bool.{cases_lt, cases_Bool, cond-true, cond-false}
+use Rattle.std.proofs.lemmas.List.{get_or_past, get_or-replicate, length-replicate}
 use Rattle.std.proofs.lemmas.List.Elements.{Contains-append_left, Contains-append_right, Contains-append_cases}
 use Rattle.terrain.proofs.Orders.{le_of_same}
 use Rattle.terrain.proofs.Options.{cases_option, none_done, match_of}
 use Rattle.floods.specs.declared.net.Spill.{Spill}
 use Rattle.floods.specs.Walk.{IsWalk, crest, IsLevel, HasNoWalk, IsFlooded, HasJust}
-use Rattle.floods.proofs.Heaps.{all_by_contains, cons_head, cons_cases}
+use Rattle.floods.proofs.Heaps.{all_by_contains}
 use Rattle.fill.specs.LabelNet.{HasWay, IsJoinOf, NumberNet, IsNumberNet, AddsWays, HasWaysOf, source_number, joined_source, AreNumberLevels, levels_or}
 use Rattle.fill.specs.Ways.{has_ways, is_some_way}
 use Rattle.fill.specs.declared.spills.Join.{Join}
@@ -26,78 +26,6 @@ way_inside ways a w h = elim (cases_lt a (length ways)) [
   | inl low ↦ low
   | inr past ↦ absurd (no_way w (subst (λ (z : List Spill). Contains z w) (get_or_past ways a [] past) h))
 ]
-
-later_way : (w x : Spill) (ways : List Spill) → Contains ways x → Contains (w ∷ ways) x
-later_way w x ways h = Contains-append_right (w ∷ []) ways x h
-
--- a way is pushed
-pushed : (ways : List (List Spill)) (n a : ℕ) (w x : Spill) → n < length ways → Contains (get_or (set ways n (w ∷ get_or ways n [])) a []) x ↔ (((a ≡ n) × (x ≡ w)) ⊎ Contains (get_or ways a []) x)
-pushed ways n a w x below = elim (cases_eq a n) [
-  | inr other ↦
-      let same : get_or (set ways n (w ∷ get_or ways n [])) a [] ≡ get_or ways a [] = get_or-set_other ways n a (w ∷ get_or ways n []) [] other in (
-        λ h. inr (subst (λ (z : List Spill). Contains z x) same h),
-        λ h. elim h [ inl new ↦ absurd (other new.0) | inr old ↦ subst (λ (z : List Spill). Contains z x) (sym same) old ],
-      )
-  | inl is ↦
-      let same : get_or (set ways n (w ∷ get_or ways n [])) a [] ≡ w ∷ get_or ways a [] =
-      ap (λ k. get_or (set ways n (w ∷ get_or ways n [])) k []) is ∙ get_or-set_same ways n (w ∷ get_or ways n []) [] below ∙ ap (λ k. w ∷ get_or ways k []) (sym is) in (
-        λ h. elim (cons_cases w (get_or ways a []) x (subst (λ (z : List Spill). Contains z x) same h)) [ inl new ↦ inl (is, new) | inr old ↦ inr old ],
-        λ h. subst (λ (z : List Spill). Contains z x) (sym same) (elim h [
-          | inl new ↦ subst (Contains (w ∷ get_or ways a [])) (sym new.1) (cons_head w (get_or ways a []))
-          | inr old ↦ later_way w x (get_or ways a []) old
-        ]),
-      )
-]
-
-abbrev pub make_way : ℕ → ℤ → Spill
-make_way to height = record { to = to; height = height }
-
--- a join is two ways
-pub join_pushed : (j : Join) (old now new : List (List Spill)) → j.from < length old → j.to < length old
-    → now ≡ set old j.from (record { to = j.to; height = j.height } ∷ get_or old j.from []) → new ≡ set now j.to (record { to = j.from; height = j.height } ∷ get_or now j.to [])
-    → AddsWays (j ∷ []) old new
-join_pushed j old now new from to first second = record {
-  size = ap length second ∙ length-set now j.to _ ∙ ap length first ∙ length-set old j.from _;
-  each = λ a b h. (
-    λ held. elim ((back a (record { to = b; height = h })).0 held) [
-      | inl is ↦ inr (inr (subst (Contains (j ∷ [])) (turn a b h is.0 is.1) (cons_head j [])))
-      | inr was ↦ elim ((there a (record { to = b; height = h })).0 was) [
-        | inl is ↦ inr (inl (subst (Contains (j ∷ [])) (forth a b h is.0 is.1) (cons_head j [])))
-        | inr old ↦ inl old
-      ]
-    ],
-    λ held. (back a (record { to = b; height = h })).1 (elim held [
-      | inl old ↦ inr ((there a (record { to = b; height = h })).1 (inr old))
-      | inr join ↦ elim join [
-        | inl forward ↦
-            let is = one j _ forward in
-            inr ((there a (record { to = b; height = h })).1 (inl (ap (λ (k : Join). k.from) is, ap (λ (k : Join). record { to = k.to; height = k.height }) is)))
-        | inr backward ↦
-            let is = one j _ backward in
-            inl (ap (λ (k : Join). k.to) is, ap (λ (k : Join). record { to = k.from; height = k.height }) is)
-      ]
-    ]),
-  );
-} where
-  size : length now ≡ length old
-  size = ap length first ∙ length-set old j.from _
-
-  there : (a : ℕ) (x : Spill) → Contains (get_or now a []) x ↔ (((a ≡ j.from) × (x ≡ make_way j.to j.height)) ⊎ Contains (get_or old a []) x)
-  there a x = subst (λ (z : List (List Spill)). Contains (get_or z a []) x ↔ (((a ≡ j.from) × (x ≡ make_way j.to j.height)) ⊎ Contains (get_or old a []) x)) (sym first)
-      (pushed old j.from a (record { to = j.to; height = j.height }) x from)
-
-  back : (a : ℕ) (x : Spill) → Contains (get_or new a []) x ↔ (((a ≡ j.to) × (x ≡ make_way j.from j.height)) ⊎ Contains (get_or now a []) x)
-  back a x = subst (λ (z : List (List Spill)). Contains (get_or z a []) x ↔ (((a ≡ j.to) × (x ≡ make_way j.from j.height)) ⊎ Contains (get_or now a []) x)) (sym second)
-      (pushed now j.to a (record { to = j.from; height = j.height }) x (omega (arith, to, size)))
-
-  one : (x k : Join) → Contains (x ∷ []) k → k ≡ x
-  one x k h = elim (cons_cases x [] k h) [ inl same ↦ same | inr none ↦ absurd (no_join k none) ]
-
-  forth : (a b : ℕ) (h : ℤ) → a ≡ j.from → make_way b h ≡ make_way j.to j.height → j ≡ record { from = a; to = b; height = h }
-  forth a b h from way = ap (λ n. record { from = n; to = j.to; height = j.height }) (sym from) ∙ ap (λ (w : Spill). record { from = a; to = w.to; height = w.height }) (sym way)
-
-  turn : (a b : ℕ) (h : ℤ) → a ≡ j.to → make_way b h ≡ make_way j.from j.height → j ≡ record { from = b; to = a; height = h }
-  turn a b h to way = ap (λ n. record { from = j.from; to = n; height = j.height }) (sym to) ∙ ap (λ (w : Spill). record { from = w.to; to = a; height = w.height }) (sym way)
 
 -- no joins, and one join after others
 pub no_ways_added : (ways : List (List Spill)) → AddsWays [] ways ways

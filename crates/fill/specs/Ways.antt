@@ -1,31 +1,40 @@
--- Lists of ways that share one list of links: each link leads to the one before it from the same label. No public
--- clause cites this.
-use Rattle.std.specs.Prelude.{ℕ, zero, suc, ◌<◌, ◌≤◌, ◌==◌, ◌-◌, if◌then◌else◌, Bool, true, false, pos, List, [], ◌∷◌, map, length, slice_index_or}
+-- Lists of ways, one for each label, over one list of joins: each join leads to those before it in the lists of its two
+-- labels. Joins count from 1, and 0 stands for none. No public clause cites this.
+use Rattle.std.specs.Prelude.{ℕ, zero, suc, ◌≤◌, ◌<◌, ◌==◌, if◌then◌else◌, Bool, true, false, pos, List, [], ◌∷◌, map, length, slice_index_or}
+use Rattle.std.specs.List.{range_with_len}
 use Rattle.floods.specs.declared.net.Spill.{Spill}
+use Rattle.fill.specs.Gathering.{turned, way_of}
+use Rattle.fill.specs.declared.spills.Join.{Join}
+use Rattle.fill.specs.declared.ways.Befores.{Befores}
 use Rattle.fill.specs.declared.ways.Link.{Link}
 
-abbrev pub way_of_link : Link → Spill
-way_of_link l = record { to = l.to; height = l.height }
+-- The way of a join from one of its labels, and the join before it in the list of that label.
+abbrev pub link_from : ℕ → Join → Befores → Link
+link_from label j b =
+    if j.from == label then record { way = way_of j; before = b.from }
+    else record { way = way_of (turned j); before = b.to }
 
-abbrev pub link_at : List Link → ℕ → Link
-link_at links i = slice_index_or links i (record { to = 0; before = 0; height = pos 0 })
+abbrev pub link_at : List Join → List Befores → ℕ → ℕ → Link
+link_at joins befores label i =
+    link_from label (slice_index_or joins i (record { from = 0; to = 0; height = pos 0 })) (slice_index_or befores i (record { from = 0; to = 0 }))
 
--- The ways from this link on, among so many links after the first. The first link, at 0, stands for none.
-abbrev pub chain : List Link → ℕ → ℕ → List Spill
-chain links zero at = []
-chain links (suc count) at =
-    if at == suc count then way_of_link (link_at links (suc count)) ∷ chain links count (link_at links (suc count)).before
-    else chain links count at
+-- The ways from this join on, among so many joins, by the links of a label.
+abbrev pub chain : (ℕ → Link) → ℕ → ℕ → List Spill
+chain link zero at = []
+chain link (suc count) at =
+    if at == suc count then (link count).way ∷ chain link count (link count).before
+    else chain link count at
 
 -- The ways from each label.
-abbrev pub ways_by : List ℕ → List Link → List (List Spill)
-ways_by lasts links = map (chain links (length links - 1)) lasts
+abbrev pub ways_by : List ℕ → List Join → List Befores → List (List Spill)
+ways_by lasts joins befores =
+    map (λ label. chain (link_at joins befores label) (length befores) (slice_index_or lasts label 0)) (range_with_len 0 (length lasts))
 
--- Each link leads to an earlier one.
-pub record AreLinked (lasts : List ℕ) (links : List Link) : Type 0 where
-  pub some : 0 < length links
-  pub begin : (label : ℕ) → slice_index_or lasts label 0 < length links
-  pub before : (i : ℕ) → 0 < i → i < length links → (link_at links i).before < i
+-- Each join leads to earlier ones.
+pub record AreLinked (lasts : List ℕ) (joins : List Join) (befores : List Befores) : Type 0 where
+  pub fit : length befores ≤ length joins
+  pub begin : (label : ℕ) → slice_index_or lasts label 0 ≤ length befores
+  pub before : (label i : ℕ) → i < length befores → (link_at joins befores label i).before ≤ i
 
 abbrev pub is_some_way : List Spill → Bool
 is_some_way [] = false

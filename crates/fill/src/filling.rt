@@ -128,7 +128,7 @@ fn spill_graph(
     };
     let joins = graph_joins(alloc, tiles, &left_out, inner)?;
     drop(left_out);
-    let graph = LabelGraph::of_joins(alloc, sources, &joins)?;
+    let graph = LabelGraph::of_joins(alloc, sources, joins)?;
     Ok(graph)
 }
 

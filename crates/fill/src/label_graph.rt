@@ -1,7 +1,7 @@
 //! The spill graph by the numbers of its labels, and its levels: `filled` stands on it.
-ghost use Rattle.std.specs.Prelude.{◌≡◌, ◌<◌, ◌≤◌, ◌∷◌, [], IfOk, OnOk, length, slice_index_or, None};
+ghost use Rattle.std.specs.Prelude.{◌≡◌, ◌<◌, ◌≤◌, IfOk, length, slice_index_or, None};
 ghost use Rattle.std.specs.List.{All};
-ghost use Rattle.fill.specs.LabelNet.{AddsWays, AreNumberLevels, HasWaysOf};
+ghost use Rattle.fill.specs.LabelNet.{AreNumberLevels, HasWaysOf};
 
 use crate::spills::Join;
 use crate::ways::WayLists;
@@ -26,37 +26,6 @@ impl Model for LabelGraph {
     ghost view = { λ g. record { ways = g.ways; sources = g.sources.items } };
 
     ghost invariant = { λ g. IsNumberNet (record { ways = g.ways; sources = g.sources.items }) };
-}
-
-/// Adds a join, as a way from each of its labels.
-#[inline(always)]
-fn push_join(ways: &mut WayLists, join: Join) -> Result<(), AllocError>
-    requires from { join.from < length ways.old }
-    requires to { join.to < length ways.old }
-    ensures { OnOk result (AddsWays (join ∷ []) ways.old ways.new) }
-{
-    let there = Spill {
-        to: join.to,
-        height: join.height,
-    };
-    let back = Spill {
-        to: join.from,
-        height: join.height,
-    };
-    ways.push(join.from, there)?;
-    ways.push(join.to, back)?;
-    Ok(())
-}
-
-/// Adds these joins, each as a way from each of its labels.
-fn push_joins(ways: &mut WayLists, joins: &[Join]) -> Result<(), AllocError>
-    requires { All (λ j. (j.from < length ways.old) × (j.to < length ways.old)) joins.now }
-    ensures { OnOk result (AddsWays joins.now ways.old ways.new) }
-{
-    for join in joins {
-        push_join(ways, *join)?;
-    }
-    Ok(())
 }
 
 impl Net for LabelGraph {
@@ -142,16 +111,15 @@ impl LabelGraph {
     pub(crate) fn of_joins(
         alloc: Global,
         sources: Vec<Cell>,
-        joins: &[Join],
+        joins: Vec<Join>,
     ) -> Result<LabelGraph, AllocError>
         requires few { length sources.items ≤ 4294967295 }
-        requires inside { All (λ j. (j.from < length sources.items) × (j.to < length sources.items)) joins.now }
+        requires inside { All (λ j. (j.from < length sources.items) × (j.to < length sources.items)) joins.items }
         ensures sources { IfOk result (λ g. g.sources ≡ sources.items) }
         ensures size { IfOk result (λ g. length g.ways ≡ length sources.items) }
-        ensures ways { IfOk result (λ g. HasWaysOf joins.now g.ways) }
+        ensures ways { IfOk result (λ g. HasWaysOf joins.items g.ways) }
     {
-        let mut ways = WayLists::none(alloc, sources.len(), joins.len().saturating_mul(2))?;
-        push_joins(&mut ways, joins)?;
+        let ways = WayLists::of_joins(alloc, sources.len(), joins)?;
         Ok(LabelGraph { sources, ways })
     }
 

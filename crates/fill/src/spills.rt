@@ -33,12 +33,24 @@ pub struct Join {
 
 impl Join {
     /// The same join, from its other label.
+    #[inline(always)]
     pub(crate) fn turned(self) -> Join
         ensures { result ≡ turned self }
     {
         Join {
             from: self.to,
             to: self.from,
+            height: self.height,
+        }
+    }
+
+    /// The way from its first label.
+    #[inline(always)]
+    pub(crate) fn way(self) -> Spill
+        ensures { result ≡ way_of self }
+    {
+        Spill {
+            to: self.to,
             height: self.height,
         }
     }
@@ -108,10 +120,7 @@ fn ways_of(alloc: Global, joins: &[Join]) -> Result<SmallVec<Spill, 8>, AllocErr
 {
     let mut ways = SmallVec::new(alloc);
     for join in joins {
-        ways.push(Spill {
-            to: join.to,
-            height: join.height,
-        })?;
+        ways.push(join.way())?;
     }
     Ok(ways)
 }

@@ -1,42 +1,62 @@
-//! Lists of ways, one for each label, that share one list of links.
-ghost use Rattle.std.specs.Prelude.{◌≡◌, ◌<◌, ◌∷◌, [], All, IfOk, OnOk, length, replicate, set, slice_index_or};
+//! The ways from each label, by lists over one list of joins: [`WayLists`].
+ghost use Rattle.std.specs.Prelude.{◌≡◌, ◌<◌, ◌≤◌, ◌-◌, [], All, IfOk, OnOk, length, replicate, slice_index_or};
 ghost use Rattle.floods.specs.Flood.{waiting_in, InOrder, AreNoted, Follows};
-ghost use Rattle.fill.specs.Ways.{has_ways, way_of_link};
+ghost use Rattle.fill.specs.LabelNet.{AddsWays};
+ghost use Rattle.fill.specs.Ways.{has_ways, link_at};
 
+use crate::spills::Join;
 use floods::{HeightList, NodeLabels, Spill, Waiting, Waits, push_way};
 use smallvec::SmallVec;
 use std::alloc::{AllocError, Global};
 use std::marker::Model;
-use terrain::Height;
 
-/// Stands for no link. The first entry of the links is no link.
-const NO_LINK: usize = 0;
+/// Stands for no join: joins count from 1 here.
+const NO_JOIN: usize = 0;
 
-/// A way from a label, and the link of the way before it from the same label.
+/// The joins before a join, in the lists of its two labels.
 #[derive(Clone, Copy)]
-pub(crate) struct Link {
-    to: u32,
-    before: usize,
-    height: Height,
+struct Befores {
+    from: usize,
+    to: usize,
 }
 
-impl Link {
-    fn way(self) -> Spill
-        ensures { result ≡ way_of_link self }
-    {
-        Spill {
-            to: self.to,
-            height: self.height,
+/// The way of a join from one of its labels, and the join before it in the list of that label.
+#[derive(Clone, Copy)]
+struct Link {
+    way: Spill,
+    before: usize,
+}
+
+/// The link of a join in the list of one of its labels.
+#[inline(always)]
+fn link_at(joins: &[Join], befores: &[Befores], label: u32, at: usize) -> Link
+    requires some { 1 ≤ at }
+    requires joins { at ≤ length joins.now }
+    requires befores { at ≤ length befores.now }
+    ensures { result ≡ link_at joins.now befores.now label (at - 1) }
+{
+    let join = joins[at - 1];
+    let before = befores[at - 1];
+    if join.from == label {
+        Link {
+            way: join.way(),
+            before: before.from,
+        }
+    } else {
+        Link {
+            way: join.turned().way(),
+            before: before.to,
         }
     }
 }
 
-/// For each label the ways from it, the last one that was added first.
+/// For each label the ways from it, the last join first.
 #[derive(Drop)]
 pub(crate) struct WayLists {
-    /// The last link of each label.
+    /// The last join of each label.
     lasts: Vec<usize>,
-    links: Vec<Link>,
+    joins: Vec<Join>,
+    befores: Vec<Befores>,
 }
 
 impl Model for WayLists {
@@ -46,25 +66,36 @@ impl Model for WayLists {
 
     ghost Value = { List (List Spill) };
 
-    ghost view = { λ w. ways_by w.lasts.items w.links.items };
+    ghost view = { λ w. ways_by w.lasts.items w.joins.items w.befores.items };
 
-    ghost invariant = { λ w. AreLinked w.lasts.items w.links.items };
+    ghost invariant = { λ w. AreLinked w.lasts.items w.joins.items w.befores.items };
 }
 
 impl WayLists {
-    /// For so many labels, none of which has a way, with room for so many ways.
-    pub(crate) fn none(alloc: Global, labels: usize, ways: usize) -> Result<Self, AllocError>
-        ensures { IfOk result (λ w. w ≡ replicate labels []) }
+    /// The ways of these joins, each from both of its labels, of which there are so many.
+    pub(crate) fn of_joins(
+        alloc: Global,
+        labels: usize,
+        joins: Vec<Join>,
+    ) -> Result<Self, AllocError>
+        requires { All (λ j. (j.from < labels) × (j.to < labels)) joins.items }
+        ensures { IfOk result (AddsWays joins.items (replicate labels [])) }
     {
-        let lasts = vec![in alloc; NO_LINK; labels]?;
-        let none = Link {
-            to: 0,
-            before: NO_LINK,
-            height: 0,
-        };
-        let mut links = Vec::with_capacity(alloc, ways.saturating_add(1))?;
-        links.push(none)?;
-        Ok(WayLists { lasts, links })
+        let mut lasts = vec![in alloc; NO_JOIN; labels]?;
+        let mut befores = Vec::with_capacity(alloc, joins.len())?;
+        for join in &joins {
+            befores.push(Befores {
+                from: lasts[join.from as usize],
+                to: lasts[join.to as usize],
+            })?;
+            lasts[join.from as usize] = befores.len();
+            lasts[join.to as usize] = befores.len();
+        }
+        Ok(WayLists {
+            lasts,
+            joins,
+            befores,
+        })
     }
 
     /// How many labels there are.
@@ -75,30 +106,13 @@ impl WayLists {
         self.lasts.len()
     }
 
-    /// Adds a way from a label.
-    #[inline(always)]
-    pub(crate) fn push(&mut self, label: u32, way: Spill) -> Result<(), AllocError>
-        requires { label < length self.old }
-        ensures { OnOk result (self.new ≡ set self.old label (way ∷ slice_index_or self.old label [])) }
-    {
-        let last = self.links.len();
-        let link = Link {
-            to: way.to,
-            before: self.lasts[label as usize],
-            height: way.height,
-        };
-        self.links.push(link)?;
-        self.lasts[label as usize] = last;
-        Ok(())
-    }
-
     /// Whether there is a way from a label.
     #[inline(always)]
     pub(crate) fn has(&self, label: u32) -> bool
         requires { label < length self.now }
         ensures { result ≡ has_ways self.now label }
     {
-        self.lasts[label as usize] != NO_LINK
+        self.lasts[label as usize] != NO_JOIN
     }
 
     /// The ways from a label.
@@ -108,9 +122,9 @@ impl WayLists {
     {
         let mut ways = SmallVec::new(alloc);
         let mut at = self.lasts[label as usize];
-        while at != NO_LINK {
-            let link = self.links[at];
-            ways.push(link.way())?;
+        while at != NO_JOIN {
+            let link = link_at(&self.joins, &self.befores, label, at);
+            ways.push(link.way)?;
             at = link.before;
         }
         Ok(ways)
@@ -134,9 +148,9 @@ impl WayLists {
             levels.old levels.new waits.old waits.new) }
     {
         let mut at = self.lasts[from.node as usize];
-        while at != NO_LINK {
-            let link = self.links[at];
-            push_way(waits, link.way(), from, labels, levels)?;
+        while at != NO_JOIN {
+            let link = link_at(&self.joins, &self.befores, from.node, at);
+            push_way(waits, link.way, from, labels, levels)?;
             at = link.before;
         }
         Ok(())

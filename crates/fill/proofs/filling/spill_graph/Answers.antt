@@ -23,7 +23,7 @@ of_joins-requires-clause-inside c =
     let sources = c.in_ok-sources.sources.items in
     let out : Spared = record { sources = sources; bypassed = true } in
     let size : length (ends_of floods) ≡ length sources = sym (ap length c.in_ok-sources.ensures) in
-    rw (c.deref-2.ensures.value, ← size, ends_length t k floods c.requires.floods.1)
+    rw (← size, ends_length t k floods c.requires.floods.1)
     (joins_below t k floods c.requires.floods.1 c.args.tiles.now.numbers.lawful out _ (rw c.deref.ensures.value at c.in_ok-joins.ensures))
 
 pub returns : goal.returns
@@ -36,4 +36,4 @@ returns c t are =
     rw c.in_ok-graph.ensures.sources
     (is_number_graph t k floods are c.args.tiles.now.numbers.lawful out sources _ _ gathered refl
     c.in_ok-sources.ensures c.in_ok-graph.ensures.size
-    (rw c.deref-2.ensures.value at c.in_ok-graph.ensures.ways))
+    c.in_ok-graph.ensures.ways)

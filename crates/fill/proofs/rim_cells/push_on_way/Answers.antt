@@ -1,10 +1,9 @@
-use Rattle.std.proofs.Common.{◌≡◌, ◌<◌, sym, refl, ap, ◌∙◌, arith}
+use Rattle.std.proofs.Common.{sym, refl, ap, ◌∙◌, arith}
 use Rattle.std.proofs.lemmas.Bool.{OnTrue_at}
 use Rattle.std.proofs.lemmas.Option.{same_Some}
 use Rattle.std.proofs.lemmas.Result.{on_ok_weaker}
 use Rattle.terrain.proofs.Options.{none_some}
 use Rattle.terrain.specs.Ways.{place_on}
-use Rattle.terrain.specs.declared.place.Place.{Place}
 use Rattle.fill.specs.Gathering.{IsPairOn, Spared}
 use Rattle.fill.proofs.Adding.{adds_none, adds_on_way, adds_spared, next_row, spared_corner}
 use Rattle.fill.proofs.rim_cells.push_on_way.Goals as goal

@@ -5,7 +5,7 @@ use Rattle.terrain.specs.declared.place.Place.{Place}
 use Rattle.terrain.proofs.Places.{same_place}
 use Rattle.tiles.specs.declared.bounds.Bounds.{Bounds}
 use Rattle.tiles.specs.Cutting.{IsInBounds}
-use Rattle.fill.specs.Gathering.{IsInner, IsOnRimRow, IsPairFrom}
+use Rattle.fill.specs.Gathering.{IsOnRimRow, IsPairFrom}
 use Rattle.fill.proofs.Adding.{adds_as, adds_then}
 use Rattle.fill.proofs.rim_cells.push_rim_cells.Goals as goal
 

@@ -1,26 +1,25 @@
-use Rattle.std.proofs.Common.{◌≡◌, length, ap, arith, List, []}
+use Rattle.std.proofs.Common.{◌≡◌, length, arith, refl, List, []}
 use Rattle.std.proofs.lemmas.List.{length-replicate}
 use Rattle.floods.specs.declared.net.Spill.{Spill}
 use Rattle.fill.proofs.LabelGraphs.{ways_of_all, leads_back}
 use Rattle.fill.proofs.label_graph.LabelGraph.of_joins.Goals as goal
 
-pub push_joins-requires : goal.push_joins-requires
-push_joins-requires c k d low =
-    let size : length c.in_ok-ways.ways ≡ length c.args.sources.items = omega (arith, ap length c.in_ok-ways.ensures, length-replicate {A = List Spill} c.len.result [], c.len.ensures, c.args.sources.ok.0) in
+pub of_joins-requires : goal.of_joins-requires
+of_joins-requires c k d low =
     let at = c.requires.inside k d low in
-    (omega (arith, at.0, size), omega (arith, at.1, size))
+    (omega (arith, at.0, c.len.ensures, c.args.sources.ok.0), omega (arith, at.1, c.len.ensures, c.args.sources.ok.0))
 
 pub invariant_of-result : goal.invariant_of-result
 invariant_of-result c =
-    let size : length c.push_joins.new.ways ≡ length c.args.sources.items = omega (arith, c.in_ok-push_joins.ensures.size, ap length c.in_ok-ways.ensures, length-replicate {A = List Spill} c.len.result [], c.len.ensures, c.args.sources.ok.0) in
+    let size : length c.in_ok-ways.ways ≡ length c.args.sources.items = omega (arith, c.in_ok-ways.ensures.size, length-replicate {A = List Spill} c.len.result [], c.len.ensures, c.args.sources.ok.0) in
     record {
       size = omega (arith, size);
       few = omega (arith, size, c.requires.few);
-      back = leads_back c.args.joins.now c.push_joins.new.ways (ways_of_all c.args.joins.now _ _ _ c.in_ok-ways.ensures c.in_ok-push_joins.ensures);
+      back = leads_back c.args.joins.items c.in_ok-ways.ways (ways_of_all c.args.joins.items _ _ _ refl c.in_ok-ways.ensures);
     }
 
 pub returns-clause-size : goal.returns-clause-size
-returns-clause-size c = omega (arith, c.in_ok-push_joins.ensures.size, ap length c.in_ok-ways.ensures, length-replicate {A = List Spill} c.len.result [], c.len.ensures, c.args.sources.ok.0)
+returns-clause-size c = omega (arith, c.in_ok-ways.ensures.size, length-replicate {A = List Spill} c.len.result [], c.len.ensures, c.args.sources.ok.0)
 
 pub returns-clause-ways : goal.returns-clause-ways
-returns-clause-ways c = ways_of_all c.args.joins.now _ _ _ c.in_ok-ways.ensures c.in_ok-push_joins.ensures
+returns-clause-ways c = ways_of_all c.args.joins.items _ _ _ refl c.in_ok-ways.ensures

@@ -1,0 +1,72 @@
+use Rattle.std.proofs.Common.{◌≡◌, ◌+◌, ◌<◌, ◌∷◌, ◌++◌, [], pos, length, get_or, ap, ◌∙◌, arith}
+use Rattle.std.proofs.lemmas.List.{get_or_default, length-replicate, length_push, length-set, take_all, take_more}
+use Rattle.fill.specs.declared.spills.Join.{Join}
+use Rattle.fill.proofs.Chains.{after, both, join_added, no_ways, none_linked, still_linked}
+use Rattle.fill.proofs.LabelGraphs.{no_ways_added, ways_then}
+use Rattle.fill.proofs.ways.WayLists.of_joins.Goals as goal
+
+pub loop-join-init : goal.loop-join-init
+loop-join-init c =
+    let lasts = c.in_ok-lasts.lasts.items in
+    let joins = c.deref-join-items.result.now in
+    let befores = c.in_ok-befores.befores.items in
+    let none = c.in_ok-lasts.ensures.items_if_clones_equal (λ y e. e) in
+    record {
+      size = ap length c.in_ok-befores.ensures.items;
+      labels = ap length none ∙ length-replicate c.args.labels 0;
+      linked = none_linked c.args.labels lasts joins befores none c.in_ok-befores.ensures.items;
+      added = rw (no_ways c.args.labels lasts joins befores none c.in_ok-befores.ensures.items) (no_ways_added _);
+    }
+
+pub index-requires : goal.index-requires
+index-requires c =
+    let inside = (rw (← c.deref-join-items.ensures.value) at c.requires) c.loop-join.join-index (record { from = 0; to = 0; height = pos 0 }) c.loop-join-test.true in
+    omega (arith, inside.0, c.loop-join.invariant.labels, c.loop-join.lasts.ok.0)
+
+pub index-requires-in-loop-join : goal.index-requires-in-loop-join
+index-requires-in-loop-join c =
+    let inside = (rw (← c.deref-join-items.ensures.value) at c.requires) c.loop-join.join-index (record { from = 0; to = 0; height = pos 0 }) c.loop-join-test.true in
+    omega (arith, inside.1, c.loop-join.invariant.labels, c.loop-join.lasts.ok.0)
+
+pub index_mut-requires : goal.index_mut-requires
+index_mut-requires c =
+    let inside = (rw (← c.deref-join-items.ensures.value) at c.requires) c.loop-join.join-index (record { from = 0; to = 0; height = pos 0 }) c.loop-join-test.true in
+    omega (arith, inside.0, c.loop-join.invariant.labels, c.loop-join.lasts.ok.0)
+
+pub index_mut-requires-in-loop-join : goal.index_mut-requires-in-loop-join
+index_mut-requires-in-loop-join c =
+    let inside = (rw (← c.deref-join-items.ensures.value) at c.requires) c.loop-join.join-index (record { from = 0; to = 0; height = pos 0 }) c.loop-join-test.true in
+    omega (arith, inside.1, c.loop-join.invariant.labels, c.loop-join.lasts.ok.0)
+
+pub loop-join-preserved : goal.loop-join-preserved
+loop-join-preserved c =
+    let i = c.loop-join.invariant in
+    let none : Join = record { from = 0; to = 0; height = pos 0 } in
+    let lasts = c.loop-join.lasts.items in
+    let joins = c.deref-join-items.result.now in
+    let befores = c.loop-join.befores.items in
+    let index = c.loop-join.join-index in
+    let j = get_or joins index none in
+    let inside = (rw (← c.deref-join-items.ensures.value) at c.requires) index none c.loop-join-test.true in
+    let from : j.from < length lasts = omega (arith, inside.0, i.labels) in
+    let to : j.to < length lasts = omega (arith, inside.1, i.labels) in
+    let more : length befores < length joins = omega (arith, i.size, c.loop-join-test.true) in
+    let is : get_or joins (length befores) none ≡ j = ap (λ k. get_or joins k none) i.size in
+    let pushed : c.push.new.self.items ≡ after lasts joins befores j i.linked more is from to =
+    c.in_ok-push.ensures.items
+    ∙ ap (λ (n : _). befores ++ record { from = n; to = c.index-in-loop-join.result.now } ∷ []) (c.index.ensures ∙ get_or_default lasts j.from _ 0 from)
+    ∙ ap (λ n. befores ++ record { from = get_or lasts j.from 0; to = n } ∷ []) (c.index-in-loop-join.ensures ∙ get_or_default lasts j.to _ 0 to) in
+    let first : c.len-in-loop-join.result ≡ length (after lasts joins befores j i.linked more is from to) = omega (arith, c.len-in-loop-join.ensures, c.push.new.self.ok.0, ap length pushed) in
+    let second : c.len-in-loop-join-2.result ≡ length (after lasts joins befores j i.linked more is from to) = omega (arith, c.len-in-loop-join-2.ensures, c.push.new.self.ok.0, ap length pushed) in
+    rw (first, second, pushed) (record {
+      size = length_push befores (both lasts joins befores j i.linked more is from to) ∙ ap (λ k. k + 1) i.size;
+      labels = length-set _ j.to _ ∙ length-set lasts j.from _ ∙ i.labels;
+      linked = still_linked lasts joins befores j i.linked more is from to;
+      added = rw (take_more joins index none c.loop-join-test.true) (ways_then _ _ _ _ _ i.added (join_added lasts joins befores j i.linked more is from to));
+    })
+
+pub invariant_of-result : goal.invariant_of-result
+invariant_of-result c = rw (← c.deref-join-items.ensures.value) c.loop-join.invariant.linked
+
+pub returns : goal.returns
+returns c = rw (← c.deref-join-items.ensures.value) (rw (take_all c.loop-join.join-index c.deref-join-items.result.now c.loop-join-test.false) at c.loop-join.invariant.added)
