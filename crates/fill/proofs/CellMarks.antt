@@ -1,5 +1,5 @@
 -- What the floods say of cells, and the joins of cells amid a tile.
-use Rattle.std.proofs.Common.{◌≡◌, ◌↔◌, ◌⊎◌, Bool, ℕ, ◌+◌, ◌-◌, ◌*◌, ◌<◌, ◌≤◌, inl, inr, ℤ, true, List, length, get_or, Option, None, Some, ◌∙◌, sym, ap, subst, refl, arith}
+use Rattle.std.proofs.Common.{◌≡◌, ◌≢◌, ◌↔◌, ◌⊎◌, Bool, ℕ, ◌+◌, ◌-◌, ◌*◌, ◌<◌, ◌≤◌, inl, inr, ℤ, true, List, length, get_or, Option, None, Some, ◌∙◌, sym, ap, subst, refl, arith}
 use Rattle.std.specs.Prelude.{slice_get, option_and_then, option_map, MatchOption, IfSome}
 use Rattle.std.specs.List.{All}
 use Rattle.std.proofs.lemmas.Bool.{cond-true, cond-false, cases_Bool, cases_lt}
@@ -15,12 +15,12 @@ use Rattle.tiles.proofs.Cut.{in_tile, in_bounds_parts, in_bounds_from}
 use Rattle.cell_floods.specs.TileFlood.{Flood, IsFlood, label_in}
 use Rattle.cell_floods.specs.Labels.{labels_by, IsTable}
 use Rattle.fill.specs.Numbers.{first_of}
-use Rattle.fill.specs.Gathering.{Fit, LabelsInside, Marks, IsInner, IsPairFrom, IsPairOn, cells_after, AreEqualAfter, mark_of, mark_in, mark_among, Adds, mark_with, joins_of, Spared, AddsAfter, AddsCovered}
+use Rattle.fill.specs.Gathering.{Fit, LabelsInside, Marks, IsInner, IsPairFrom, IsPairOn, cells_after, AreEqualAfter, mark_of, mark_in, mark_among, Adds, mark_with, joins_of, Spared, AddsAfter, AddsCovered, AddsNear}
 use Rattle.fill.specs.declared.spills.Join.{Join}
 use Rattle.fill.specs.declared.marks.Mark.{Mark}
 use Rattle.std.proofs.lemmas.Nat.{mul-le}
 use Rattle.terrain.proofs.Options.{cases_option, none_some}
-use Rattle.fill.proofs.Adding.{adds_as, adds_four, adds_on_way, covered_itself, joins_of_is, no_mark_adds, west_of}
+use Rattle.fill.proofs.Adding.{adds_as, adds_four, adds_on_way, adds_spared, covered_itself, joins_of_is, no_mark_adds, spared_corner, west_of}
 use Rattle.tiles.proofs.TileOrder.{bounds_from_entry, entry_in-inside}
 
 -- each place of the table of a flood whose labels lie in the grid lies in it
@@ -138,21 +138,21 @@ same_label_adds f sources i j from now is same = record {
 }
 
 -- a cell whose entry is equal to the four after it gives no joins with them
-pub equal_after_adds : (f : Flood) (sources : List (Option ℤ)) (i width : ℕ) (now : List Join) → AreEqualAfter f.table.indexes i width → MatchOption (mark_with 0 f i) (now ≡ now) (λ from. AddsAfter f sources from i width now now)
-equal_after_adds f sources i width now e = elim (cases_option (mark_with 0 f i)) [
-  | inl none ↦ subst (λ (o : Option Mark). MatchOption o (now ≡ now) (λ from. AddsAfter f sources from i width now now)) (sym none) refl
-  | inr found ↦ subst (λ (o : Option Mark). MatchOption o (now ≡ now) (λ from. AddsAfter f sources from i width now now)) (sym found.1) (record {
+pub equal_after_adds : (f : Flood) (out : Spared) (i width : ℕ) (now : List Join) → AreEqualAfter f.table.indexes i width → MatchOption (mark_with 0 f i) (now ≡ now) (λ from. AddsAfter f out from i width now now)
+equal_after_adds f out i width now e = elim (cases_option (mark_with 0 f i)) [
+  | inl none ↦ subst (λ (o : Option Mark). MatchOption o (now ≡ now) (λ from. AddsAfter f out from i width now now)) (sym none) refl
+  | inr found ↦ subst (λ (o : Option Mark). MatchOption o (now ≡ now) (λ from. AddsAfter f out from i width now now)) (sym found.1) (record {
     after_first = now;
     after_second = now;
     after_third = now;
-    east = near found.0 found.1 0 (omega arith);
-    south_east = near found.0 found.1 1 (omega arith);
-    south = near found.0 found.1 2 (omega arith);
-    south_west = near found.0 found.1 3 (omega arith);
+    east = inr (near found.0 found.1 0 (omega arith));
+    south_east = inr (near found.0 found.1 1 (omega arith));
+    south = inr (near found.0 found.1 2 (omega arith));
+    south_west = inr (near found.0 found.1 3 (omega arith));
   })
 ] where
-  near : (from : Mark) → mark_with 0 f i ≡ Some from → (way : ℕ) → way < 4 → AddsCovered now (joins_of sources from (mark_with 0 f (get_or (cells_after width i) way 0))) now
-  near from is way few = same_label_adds f sources i (get_or (cells_after width i) way 0) from now is (sym (e way 0 few))
+  near : (from : Mark) → mark_with 0 f i ≡ Some from → (way : ℕ) → way < 4 → AddsCovered now (joins_of out.sources from (mark_with 0 f (get_or (cells_after width i) way 0))) now
+  near from is way few = same_label_adds f out.sources i (get_or (cells_after width i) way 0) from now is (sym (e way 0 few))
 
 -- every place is wanted
 abbrev pub anywhere : Place → Bool
@@ -162,13 +162,13 @@ pub adds_anywhere : (marks : Marks) (out : Spared) (p : Place) (old new : List J
 adds_anywhere marks out p old new s = adds_as marks out (IsPairFrom p anywhere) (λ q r. q ≡ p) old new (λ q r at. at.0) (λ q r touch after m m_is n n_is at. (at, refl)) s
 
 -- the joins of a cell with the four around it that come after it have been added
-pub inner_adds : (f : Flood) (out : Spared) (p : Place) (i : ℕ) (from : Mark) (old new : List Join) → IsInner f.bounds p → i ≡ index_in f.bounds p → mark_with 0 f i ≡ Some from → AddsAfter f out.sources from i f.bounds.cols old new → Adds (mark_in 0 f) out (λ q r. q ≡ p) old new
+pub inner_adds : (f : Flood) (out : Spared) (p : Place) (i : ℕ) (from : Mark) (old new : List Join) → IsInner f.bounds p → i ≡ index_in f.bounds p → mark_with 0 f i ≡ Some from → AddsAfter f out from i f.bounds.cols old new → Adds (mark_in 0 f) out (λ q r. q ≡ p) old new
 inner_adds f out p i from old new inner at is s =
     adds_anywhere (mark_in 0 f) out p old new (adds_four (mark_in 0 f) out p anywhere old s.after_first s.after_second s.after_third new
-    (step 0 p.row east (i + 1) _ _ (omega arith) refl (omega (arith, inner), omega (arith, inner)) (omega (arith, inner), omega (arith, inner)) (omega (arith, at, inner)) s.east)
-    (step 1 south east (i + b.cols + 1) _ _ (omega arith) refl (omega (arith, inner), omega (arith, inner)) (omega (arith, inner), omega (arith, inner)) (omega (arith, at, inner, down)) s.south_east)
-    (step 2 south p.col (i + b.cols) _ _ (omega arith) refl (omega (arith, inner), omega (arith, inner)) (omega (arith, inner), omega (arith, inner)) (omega (arith, at, inner, down)) s.south)
-    (step 3 south west (i + b.cols - 1) _ _ (omega arith) to_west (omega (arith, inner), omega (arith, inner)) (omega (arith, inner), omega (arith, inner)) (omega (arith, at, inner, down)) s.south_west)) where
+    (step 0 p.row east (i + 1) _ _ (omega arith) refl (omega (arith, inner), omega (arith, inner)) (omega (arith, inner), omega (arith, inner)) (omega (arith, at, inner)) (beside _ _ _ s.east))
+    (corner 1 south east (i + b.cols + 1) _ _ (omega arith) refl refl (λ e. omega (arith, e)) (omega (arith, inner), omega (arith, inner)) (omega (arith, inner), omega (arith, inner)) (omega (arith, at, inner, down)) s.south_east)
+    (step 2 south p.col (i + b.cols) _ _ (omega arith) refl (omega (arith, inner), omega (arith, inner)) (omega (arith, inner), omega (arith, inner)) (omega (arith, at, inner, down)) (beside _ _ _ s.south))
+    (corner 3 south west (i + b.cols - 1) _ _ (omega arith) to_west refl (λ e. omega (arith, e, inner)) (omega (arith, inner), omega (arith, inner)) (omega (arith, inner), omega (arith, inner)) (omega (arith, at, inner, down)) s.south_west)) where
       b : Bounds
       b = f.bounds
 
@@ -195,8 +195,27 @@ inner_adds f out p i from old new inner at is s =
           (entry_in_mark f near j (rows.0, rows.1, cols.0, cols.1) index)
           few on refl s
 
+      -- nothing is between two cells at a side
+      beside : (j : ℕ) (now next : List Join) → AddsNear f out from None j now next → AddsCovered now (joins_of out.sources from (mark_with 0 f j)) next
+      beside j now next s = elim s [ inl round ↦ none_some {X = Mark} None _ refl round.0.3 | inr added ↦ added ]
+
+      between : mark_in 0 f (record { row = p.row + 1; col = p.col }) ≡ mark_with 0 f (i + b.cols)
+      between = entry_in_mark f (record { row = p.row + 1; col = p.col }) (i + b.cols) (omega (arith, inner), omega (arith, inner), omega (arith, inner), omega (arith, inner)) (omega (arith, at, inner, down))
+
+      corner : (way row col j : ℕ) (now next : List Join) → way < 8 → place_on way p ≡ Some (record { row = row; col = col }) → row ≡ p.row + 1 → p.col ≢ col → (b.top ≤ row) × (row < b.top + b.rows) → (b.left ≤ col) × (col < b.left + b.cols) → j ≡ (row - b.top) * b.cols + (col - b.left) → AddsNear f out from (mark_with 0 f (i + b.cols)) j now next → Adds (mark_in 0 f) out (IsPairOn way p anywhere) now next
+      corner way row col j now next few on next_row aside rows cols index s = elim s [
+        | inr added ↦ step way row col j now next few on rows cols index added
+        | inl round ↦
+            let near : Place = record { row = row; col = col } in
+            subst (Adds (mark_in 0 f) out (IsPairOn way p anywhere) now) (sym round.1)
+            (adds_spared (mark_in 0 f) out p near way anywhere now on
+            (spared_corner (mark_in 0 f) out p near from (mark_with 0 f (i + b.cols)) (mark_with 0 f j)
+            (entry_in_mark f p i (omega (arith, inner), omega (arith, inner), omega (arith, inner), omega (arith, inner)) at ∙ is)
+            (sym between) (sym (entry_in_mark f near j (rows.0, rows.1, cols.0, cols.1) index)) next_row aside round.0))
+      ]
+
 -- such a cell has its joins added, where it has a mark
-pub inner_cell_adds : (f : Flood) (out : Spared) (p : Place) (i : ℕ) (old new : List Join) → IsInner f.bounds p → i ≡ index_in f.bounds p → MatchOption (mark_with 0 f i) (new ≡ old) (λ from. AddsAfter f out.sources from i f.bounds.cols old new) → Adds (mark_in 0 f) out (λ q r. q ≡ p) old new
+pub inner_cell_adds : (f : Flood) (out : Spared) (p : Place) (i : ℕ) (old new : List Join) → IsInner f.bounds p → i ≡ index_in f.bounds p → MatchOption (mark_with 0 f i) (new ≡ old) (λ from. AddsAfter f out from i f.bounds.cols old new) → Adds (mark_in 0 f) out (λ q r. q ≡ p) old new
 inner_cell_adds f out p i old new inner at s = elim (cases_option (mark_with 0 f i)) [
   | inl none ↦
       let same = MatchOption-at_none _ _ none s in

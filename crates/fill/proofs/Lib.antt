@@ -1,5 +1,6 @@
 -- what the floods of tiles say of a cell
 mod CellMarks
+mod NearTiles
 -- raising by the levels of any net of labels
 mod Rims
 -- the spill graph by number

@@ -1,5 +1,5 @@
 -- How the joins of a spill graph are gathered from the floods of the tiles.
-use Rattle.std.specs.Prelude.{◌≡◌, ◌≢◌, ℕ, ◌+◌, ◌-◌, ◌*◌, ◌<◌, ◌≤◌, ◌⊎◌, ◌==◌, ◌&&◌, true, false, if◌then◌else◌, is_some, Bool, ℤ, ◌≤ℤ◌, List, [], ◌∷◌, length, Option, None, Some, slice_get, slice_index_or, option_and_then, Vec}
+use Rattle.std.specs.Prelude.{◌≡◌, ◌≢◌, ℕ, ◌+◌, ◌-◌, ◌*◌, ◌/◌, ◌%◌, ◌<◌, ◌≤◌, ◌⊎◌, ◌==◌, ◌&&◌, true, false, if◌then◌else◌, is_some, Bool, ℤ, ◌≤ℤ◌, List, [], ◌∷◌, length, Option, None, Some, slice_get, slice_index_or, option_and_then, Vec}
 use Rattle.std.specs.declared.alloc.Global.{Global}
 use Rattle.std.specs.Int.{int_max}
 use Rattle.std.specs.List.{All, Contains}
@@ -7,7 +7,7 @@ use Rattle.terrain.specs.Neighbours.{Touches}
 use Rattle.terrain.specs.Ways.{place_on}
 use Rattle.terrain.specs.declared.place.Place.{Place}
 use Rattle.tiles.specs.declared.bounds.Bounds.{Bounds}
-use Rattle.tiles.specs.Cutting.{Cutting, IsInBounds, IsInTile, IsWithin, tile_count, tile_of_place, bounds_of, is_in_bounds, index_in}
+use Rattle.tiles.specs.Cutting.{Cutting, IsInBounds, IsInTile, IsWithin, across, tile_count, tile_of_place, bounds_of, is_in_bounds, index_in}
 use Rattle.cell_floods.specs.TileFlood.{Flood}
 use Rattle.fill.specs.Numbers.{ends_of, first_of}
 use Rattle.fill.specs.declared.spills.Join.{Join}
@@ -122,19 +122,26 @@ cells_after width i = (i + 1) ∷ (i + width + 1) ∷ (i + width) ∷ (i + width
 abbrev pub AreEqualAfter : List ℕ → ℕ → ℕ → Type 0
 AreEqualAfter xs i width = All (λ k. slice_index_or xs k 0 ≡ slice_index_or xs i 0) (cells_after width i)
 
--- The join of a cell with the one at an index has been added, where there is one.
-abbrev pub AddsNear : Flood → List (Option ℤ) → Mark → ℕ → List Join → List Join → Type 0
-AddsNear f sources from near old new = AddsCovered old (joins_of sources from (mark_with 0 f near)) new
+-- Joins that lead round are left out, and the cell between two that touch at a corner is no higher than one of them.
+abbrev pub LeadsRound : Spared → Mark → Option Mark → Option Mark → Type 0
+LeadsRound out from between to =
+    (out.bypassed ≡ true) × (third end : Mark) × (between ≡ Some third) × (to ≡ Some end) × (third.level ≤ℤ int_max from.level end.level)
 
--- The joins of a cell with the four around it that come after it in rows of this width have been added.
-pub record AddsAfter (f : Flood) (sources : List (Option ℤ)) (from : Mark) (i width : ℕ) (old new : List Join) : Type 0 where
+-- The join of a cell with the one at an index has been added, where there is one, or a cell between leads round.
+abbrev pub AddsNear : Flood → Spared → Mark → Option Mark → ℕ → List Join → List Join → Type 0
+AddsNear f out from between near old new =
+    (LeadsRound out from between (mark_with 0 f near) × (new ≡ old)) ⊎ AddsCovered old (joins_of out.sources from (mark_with 0 f near)) new
+
+-- The joins of a cell with the four around it that come after it in rows of this width have been added. The cell below
+-- it may lead round to those at its corners.
+pub record AddsAfter (f : Flood) (out : Spared) (from : Mark) (i width : ℕ) (old new : List Join) : Type 0 where
   pub after_first : List Join
   pub after_second : List Join
   pub after_third : List Join
-  pub east : AddsNear f sources from (i + 1) old after_first
-  pub south_east : AddsNear f sources from (i + width + 1) after_first after_second
-  pub south : AddsNear f sources from (i + width) after_second after_third
-  pub south_west : AddsNear f sources from (i + width - 1) after_third new
+  pub east : AddsNear f out from None (i + 1) old after_first
+  pub south_east : AddsNear f out from (mark_with 0 f (i + width)) (i + width + 1) after_first after_second
+  pub south : AddsNear f out from None (i + width) after_second after_third
+  pub south_west : AddsNear f out from (mark_with 0 f (i + width)) (i + width - 1) after_third new
 
 -- The second place comes after the first in row order.
 abbrev pub IsAfter : Place → Place → Type 0
@@ -151,6 +158,14 @@ IsPairFrom p wanted q r = (q ≡ p) × (wanted r ≡ true)
 -- The place is not of this tile.
 abbrev pub IsOutside : Cutting → ℕ → Place → Type 0
 IsOutside c tile p = IsInTile c tile p → ⊥
+
+-- The tile with these bounds has this one below it, if any.
+abbrev pub IsTileBelow : Cutting → Bounds → ℕ → Type 0
+IsTileBelow c b below = b.top + b.rows < c.rows → below ≡ tile_of_place c (record { row = b.top + b.rows; col = b.left })
+
+-- The tile that stands in the column of this one, in the row of tiles with this row of the grid.
+abbrev pub IsTileWithRow : Cutting → ℕ → ℕ → ℕ → Type 0
+IsTileWithRow c tile row other = other ≡ row / c.side * across c + tile % across c
 
 -- The joins of these pairs of places, of which the second comes after the first, have been added, but for those left out
 -- and those that others cover, and no others. Joins may have been lowered to added ones.

@@ -4,16 +4,16 @@
 ghost use Rattle.std.specs.Prelude.{◌≡◌, ◌+◌, ◌<◌, ◌≤◌, [], Some, slice_index_or, MatchOption, IfOk, OnOk, length};
 ghost use Rattle.std.specs.Bool.{OnTrue};
 ghost use Rattle.tiles.specs.Cutting.{IsInBounds};
-ghost use Rattle.fill.specs.Gathering.{IsInner, AreEqualAfter, Adds, AddsCovered, AddsAfter, joins_of, mark_in, mark_with};
+ghost use Rattle.fill.specs.Gathering.{IsInner, AreEqualAfter, Adds, AddsAfter, AddsNear, mark_in, mark_with};
 
 use crate::join_table::JoinTable;
-use crate::left_out::LeftOut;
+use crate::left_out::{LeftOut, is_spared};
 use crate::marks::{Mark, mark_in, mark_of_entry};
 use crate::rim_cells::{KnownCells, push_join, push_rim_cells};
 use crate::spills::Join;
 use cell_floods::TileFlood;
 use std::alloc::{AllocError, Global};
-use terrain::{Cell, Place};
+use terrain::Place;
 use tiles::Bounds;
 
 impl KnownCells for TileFlood {
@@ -47,26 +47,31 @@ fn has_same_label(flood: &TileFlood, first: usize, second: usize) -> bool
     indexes[first] == indexes[second]
 }
 
-/// Adds the join of two cells of a tile with these indices, where their labels differ.
+/// Adds the join of two cells of a tile with these indices, where their labels differ and no cell
+/// between leads round.
 #[inline(always)]
 fn push_near(
     table: &mut JoinTable,
     flood: &TileFlood,
-    sources: &[Cell],
+    left_out: &LeftOut<'_>,
     index: usize,
     from: Mark,
+    between: Option<Mark>,
     near: usize,
 ) -> Result<(), AllocError>
     requires index { index < length flood.now.labels }
     requires near { near < length flood.now.labels }
     requires from { mark_with 0 flood.now index ≡ Some from }
-    ensures { OnOk result (AddsCovered table.old
-        (joins_of sources.now from (mark_with 0 flood.now near)) table.new) }
+    ensures { OnOk result (AddsNear flood.now left_out.now from between near table.old table.new) }
 {
     if has_same_label(flood, index, near) {
         return Ok(());
     }
-    push_join(table, sources, from, mark_of_entry(flood, near))
+    let to = mark_of_entry(flood, near);
+    if is_spared(left_out, from, between, to) {
+        return Ok(());
+    }
+    push_join(table, left_out.sources, from, to)
 }
 
 /// Adds the joins of a cell with the four around it that come after it in row order. All are of
@@ -74,7 +79,7 @@ fn push_near(
 fn push_after(
     table: &mut JoinTable,
     flood: &TileFlood,
-    sources: &[Cell],
+    left_out: &LeftOut<'_>,
     index: usize,
     from: Mark,
     width: usize,
@@ -83,14 +88,15 @@ fn push_after(
     requires after { index + width + 1 < length flood.now.labels }
     requires few { length flood.now.labels ≤ 16777216 }
     requires from { mark_with 0 flood.now index ≡ Some from }
-    ensures { OnOk result (AddsAfter flood.now sources.now from index width
+    ensures { OnOk result (AddsAfter flood.now left_out.now from index width
         table.old table.new) }
 {
     let below = index + width;
-    push_near(table, flood, sources, index, from, index + 1)?;
-    push_near(table, flood, sources, index, from, below + 1)?;
-    push_near(table, flood, sources, index, from, below)?;
-    push_near(table, flood, sources, index, from, below - 1)?;
+    let between = mark_of_entry(flood, below);
+    push_near(table, flood, left_out, index, from, None, index + 1)?;
+    push_near(table, flood, left_out, index, from, between, below + 1)?;
+    push_near(table, flood, left_out, index, from, None, below)?;
+    push_near(table, flood, left_out, index, from, between, below - 1)?;
     Ok(())
 }
 
@@ -116,14 +122,14 @@ fn are_equal_after(labels: &[u32], index: usize, width: usize) -> bool
 fn push_inner_cell(
     table: &mut JoinTable,
     flood: &TileFlood,
-    sources: &[Cell],
+    left_out: &LeftOut<'_>,
     index: usize,
 ) -> Result<(), AllocError>
     requires some { 0 < index }
     requires after { index + flood.now.bounds.cols + 1 < length flood.now.labels }
     ensures { OnOk result (MatchOption (mark_with 0 flood.now index)
         (table.new ≡ table.old)
-        (λ from. AddsAfter flood.now sources.now from index flood.now.bounds.cols
+        (λ from. AddsAfter flood.now left_out.now from index flood.now.bounds.cols
         table.old table.new)) }
 {
     let width = flood.bounds().cols as usize;
@@ -133,7 +139,7 @@ fn push_inner_cell(
     let Some(from) = mark_of_entry(flood, index) else {
         return Ok(());
     };
-    push_after(table, flood, sources, index, from, width)
+    push_after(table, flood, left_out, index, from, width)
 }
 
 /// Adds the joins of the cells of one row of a tile that have all four after them in it.
@@ -153,7 +159,7 @@ fn push_inner_cells(
     let width = cols as usize;
     let start = (row - top) as usize * width;
     for index in start + 1..start + width - 1 {
-        push_inner_cell(table, flood, left_out.sources, index)?;
+        push_inner_cell(table, flood, left_out, index)?;
     }
     Ok(())
 }

@@ -140,11 +140,14 @@ impl JoinTable {
         self.grow()
     }
 
-    /// The joins, as they were added or lowered.
+    /// The joins, as they were added or lowered, in no more memory than they take: it is held until
+    /// the spill graph is made.
     pub(crate) fn into_joins(self) -> Vec<Join>
         ensures { result.items ≡ self }
     {
-        self.joins
+        let mut joins = self.joins;
+        joins.shrink_to_fit();
+        joins
     }
 }
 

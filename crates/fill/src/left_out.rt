@@ -1,9 +1,8 @@
 //! Which joins of cells are left out of the spill graph: [`LeftOut`].
-ghost use Rattle.std.specs.Prelude.{◌≡◌, [], false, true, None, Some, ◌≤ℤ◌, slice_index_or, is_some};
+ghost use Rattle.std.specs.Prelude.{◌≡◌, [], false, None, slice_index_or, is_some};
 ghost use Rattle.std.specs.Bool.{OnTrue};
-ghost use Rattle.std.specs.Int.{int_max};
 ghost use Rattle.std.specs.Option.{option_to_list};
-ghost use Rattle.fill.specs.Gathering.{are_settled, joins_of};
+ghost use Rattle.fill.specs.Gathering.{LeadsRound, are_settled, joins_of};
 
 use crate::marks::Mark;
 use crate::spills::Join;
@@ -76,27 +75,25 @@ pub(crate) fn join_of(sources: &[Cell], from: Mark, to: Option<Mark>) -> Option<
     })
 }
 
-/// Whether the join of two cells that touch at their corners is left out: the cell below the first
-/// is no higher than one of them, so that its joins with both do the same.
+/// Whether the join of two cells that touch at their corners is left out: the cell between them is
+/// no higher than one of them, so that its joins with both do the same.
 #[inline(always)]
 pub(crate) fn is_spared(
     left_out: &LeftOut<'_>,
     from: Mark,
-    below: Option<Mark>,
+    between: Option<Mark>,
     to: Option<Mark>,
 ) -> bool
-    ensures { OnTrue result ((left_out.now.bypassed ≡ true) × (between end : Mark)
-        × (below ≡ Some between) × (to ≡ Some end)
-        × (between.level ≤ℤ int_max from.level end.level)) }
+    ensures { OnTrue result (LeadsRound left_out.now from between to) }
 {
     if !left_out.bypassed {
         return false;
     }
-    let Some(below) = below else {
+    let Some(between) = between else {
         return false;
     };
     let Some(to) = to else {
         return false;
     };
-    below.level <= from.level.max(to.level)
+    between.level <= from.level.max(to.level)
 }

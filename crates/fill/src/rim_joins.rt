@@ -2,9 +2,10 @@
 //!
 //! It looks at each two neighbouring cells of two tiles once, from the first of them in row order.
 ghost use Rattle.std.proofs.Props.{props};
-ghost use Rattle.std.specs.Prelude.{◌≡◌, ◌<◌, OnOk};
-ghost use Rattle.tiles.specs.Cutting.{IsCutting, IsInTile, IsWithinLimits, bounds_of, tile_count};
-ghost use Rattle.fill.specs.Gathering.{Adds, IsOutside, mark_among};
+ghost use Rattle.std.specs.Bool.{OnTrue};
+ghost use Rattle.std.specs.Prelude.{◌≡◌, ◌+◌, ◌<◌, ◌≤◌, OnOk};
+ghost use Rattle.tiles.specs.Cutting.{AreBounds, IsCutting, IsInTile, IsWithin, IsWithinLimits, bounds_of, tile_count, tile_of_place};
+ghost use Rattle.fill.specs.Gathering.{Adds, IsOutside, IsTileBelow, IsTileWithRow, mark_among};
 
 use crate::left_out::LeftOut;
 use crate::marks::{Mark, NumberedFloods};
@@ -21,10 +22,98 @@ struct CellsAround<'a> {
     tiles: &'a NumberedFloods<'a>,
     tile: u32,
     bounds: Bounds,
-    ghost below: { tile < tile_count tiles.now.tiling.now },
+    /// The tile below this one, if there is one.
+    below: u32,
+    ghost is_tile: { tile < tile_count tiles.now.tiling.now },
     ghost lawful: { IsCutting tiles.now.tiling.now } by { Prim.hlevel props },
     ghost of_tile: { bounds ≡ bounds_of tiles.now.tiling.now tile },
     ghost limits: { IsWithinLimits bounds },
+    ghost is_below: { IsTileBelow tiles.now.tiling.now bounds below },
+}
+
+/// Whether a place lies in these bounds, or touches one beside or below it.
+#[inline(always)]
+fn is_near(bounds: Bounds, place: Place) -> bool
+    requires limits { IsWithinLimits bounds }
+    requires place { place.col < 4096 }
+    ensures { OnTrue result ((bounds.top ≤ place.row) × (place.row ≤ bounds.top + bounds.rows)
+        × (bounds.left ≤ place.col + 1) × (place.col ≤ bounds.left + bounds.cols)) }
+{
+    let Bounds {
+        top,
+        left,
+        rows,
+        cols,
+    } = bounds;
+    top <= place.row && place.row <= top + rows && left <= place.col + 1 && place.col <= left + cols
+}
+
+impl<'a> CellsAround<'a> {
+    /// The cells around a tile with these bounds.
+    fn new(tiles: &'a NumberedFloods<'a>, tile: u32, bounds: Bounds) -> Self
+        requires tile { tile < tile_count tiles.now.tiling.now }
+        requires bounds { bounds ≡ bounds_of tiles.now.tiling.now tile }
+        requires inside { AreBounds tiles.now.tiling.now bounds }
+        requires limits { IsWithinLimits bounds }
+        requires lawful { IsCutting tiles.now.tiling.now }
+        ensures tiles { result.tiles.now ≡ tiles.now }
+        ensures bounds { result.bounds ≡ bounds }
+    {
+        let Bounds {
+            top,
+            left,
+            rows,
+            ..
+        } = bounds;
+        let below = if top + rows < tiles.tiling.rows() {
+            tiles.tiling.tile_of(Place {
+                row: top + rows,
+                col: left,
+            })
+        } else {
+            tile
+        };
+        CellsAround {
+            tiles,
+            tile,
+            bounds,
+            below,
+        }
+    }
+
+    /// This tile, or the one below it: the one with this row of the grid.
+    #[inline(always)]
+    fn tile_with_row(&self, row: u32) -> u32
+        requires top { self.now.bounds.top ≤ row }
+        requires bottom { row ≤ self.now.bounds.top + self.now.bounds.rows }
+        requires inside { row < self.now.tiles.now.tiling.now.rows }
+        ensures { IsTileWithRow self.now.tiles.now.tiling.now self.now.tile row result }
+    {
+        if row < self.bounds.top + self.bounds.rows {
+            self.tile
+        } else {
+            self.below
+        }
+    }
+
+    /// The tile of a place of the grid. Next to this tile it takes no division.
+    #[inline(always)]
+    fn tile_of(&self, place: Place) -> u32
+        requires { IsWithin self.now.tiles.now.tiling.now place }
+        ensures { result ≡ tile_of_place self.now.tiles.now.tiling.now place }
+    {
+        if !is_near(self.bounds, place) {
+            return self.tiles.tiling.tile_of(place);
+        }
+        let tile = self.tile_with_row(place.row);
+        if place.col < self.bounds.left {
+            tile - 1
+        } else if place.col < self.bounds.left + self.bounds.cols {
+            tile
+        } else {
+            tile + 1
+        }
+    }
 }
 
 impl<'a> KnownCells for CellsAround<'a> {
@@ -42,12 +131,7 @@ impl<'a> KnownCells for CellsAround<'a> {
         if place.row >= tiling.rows() || place.col >= tiling.cols() {
             return None;
         }
-        let own = if self.bounds.contains(place) {
-            self.tile
-        } else {
-            tiling.tile_of(place)
-        };
-        self.tiles.mark_of_tile(own, place)
+        self.tiles.mark_of_tile(self.tile_of(place), place)
     }
 
     #[inline(always)]
@@ -81,11 +165,7 @@ pub(crate) fn push_rim_joins(
         joins.old.items joins.new.items) }
 {
     let bounds = tiles.tiling.bounds(tile);
-    let cells = CellsAround {
-        tiles,
-        tile,
-        bounds,
-    };
+    let cells = CellsAround::new(tiles, tile, bounds);
     for row in bounds.top..bounds.top + bounds.rows {
         push_rim_cells(joins, &cells, left_out, bounds, row)?;
     }

@@ -30,5 +30,5 @@ pub returns-then-are_equal_after : goal.returns-then-are_equal_after
 returns-then-are_equal_after c =
     let f = c.args.flood.now in
     let equal = rw (c.indexes.ensures, c.labels.ensures.value) at (OnTrue_at {P = AreEqualAfter c.indexes.result.now c.args.index c.bounds-width.result.cols} c.if-are_equal_after.true c.are_equal_after.ensures) in
-    equal_after_adds f c.args.sources.now c.args.index f.bounds.cols c.args.table.now
+    equal_after_adds f c.args.left_out.now c.args.index f.bounds.cols c.args.table.now
     (subst (λ (b : Bounds). AreEqualAfter f.table.indexes c.args.index b.cols) c.bounds-width.ensures.value equal)

@@ -1,7 +1,7 @@
 use Rattle.std.proofs.Common.{◌≡◌, ◌+◌, ◌-◌, ◌*◌, ◌<◌, ℕ, arith, ap}
 use Rattle.terrain.specs.declared.place.Place.{Place}
 use Rattle.tiles.specs.declared.bounds.Bounds.{Bounds}
-use Rattle.fill.specs.Gathering.{IsInner, Spared, mark_in}
+use Rattle.fill.specs.Gathering.{IsInner, mark_in}
 use Rattle.fill.proofs.Adding.{adds_then, adds_as}
 use Rattle.fill.proofs.CellMarks.{inner_cell_adds, inner_row_index, inner_so_far}
 use Rattle.fill.proofs.inner_joins.push_inner_cells.Goals as goal
@@ -38,7 +38,7 @@ loop-index-preserved c =
     (λ p q. IsInner b p × (p.row ≡ c.args.row) × (p.col + start < b.left + (index + 1))) _ _ _
     (λ p q. inner_so_far b c.args.row start index c.requires.top c.requires.row first last p)
     c.loop-index.invariant
-    (inner_cell_adds f c.args.left_out.now place index _ _ inner (omega (arith, begins, first)) (rw (ap (λ (z : Spared). z.sources) c.left_out.view_is) at c.in_ok-push_inner_cell.ensures))
+    (inner_cell_adds f c.args.left_out.now place index _ _ inner (omega (arith, begins, first)) c.in_ok-push_inner_cell.ensures)
 
 pub returns : goal.returns
 returns c =

@@ -57,7 +57,7 @@ loop-row-preserved c =
         | inr out_of_it ↦ ap not out_of_it
       ],
     ))
-    c.in_ok-push_rim_cells.ensures)
+    (rw (c.new-cells.ensures.tiles, c.new-cells.ensures.bounds) at c.in_ok-push_rim_cells.ensures))
 
 pub returns : goal.returns
 returns c =
