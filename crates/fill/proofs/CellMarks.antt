@@ -202,7 +202,7 @@ inner_adds f out p i from old new inner at is s =
       between : mark_in 0 f (record { row = p.row + 1; col = p.col }) ≡ mark_with 0 f (i + b.cols)
       between = entry_in_mark f (record { row = p.row + 1; col = p.col }) (i + b.cols) (omega (arith, inner), omega (arith, inner), omega (arith, inner), omega (arith, inner)) (omega (arith, at, inner, down))
 
-      corner : (way row col j : ℕ) (now next : List Join) → way < 8 → place_on way p ≡ Some (record { row = row; col = col }) → row ≡ p.row + 1 → p.col ≢ col → (b.top ≤ row) × (row < b.top + b.rows) → (b.left ≤ col) × (col < b.left + b.cols) → j ≡ (row - b.top) * b.cols + (col - b.left) → AddsNear f out from (mark_with 0 f (i + b.cols)) j now next → Adds (mark_in 0 f) out (IsPairOn way p anywhere) now next
+      corner : (way row col j : ℕ) (now next : List Join) → way < 8 → place_on way p ≡ Some (record { row = row; col = col }) → row ≡ p.row + 1 → p.col ≢ col → (b.top ≤ row) × (row < b.top + b.rows) → (b.left ≤ col) × (col < b.left + b.cols) → j ≡ (row - b.top) * b.cols + (col - b.left) → AddsNear f out from (Some (i + b.cols)) j now next → Adds (mark_in 0 f) out (IsPairOn way p anywhere) now next
       corner way row col j now next few on next_row aside rows cols index s = elim s [
         | inr added ↦ step way row col j now next few on rows cols index added
         | inl round ↦

@@ -127,10 +127,11 @@ abbrev pub LeadsRound : Spared → Mark → Option Mark → Option Mark → Type
 LeadsRound out from between to =
     (out.bypassed ≡ true) × (third end : Mark) × (between ≡ Some third) × (to ≡ Some end) × (third.level ≤ℤ int_max from.level end.level)
 
--- The join of a cell with the one at an index has been added, where there is one, or a cell between leads round.
-abbrev pub AddsNear : Flood → Spared → Mark → Option Mark → ℕ → List Join → List Join → Type 0
+-- The join of a cell with the one at an index has been added, where there is one, or the cell at another leads round.
+abbrev pub AddsNear : Flood → Spared → Mark → Option ℕ → ℕ → List Join → List Join → Type 0
 AddsNear f out from between near old new =
-    (LeadsRound out from between (mark_with 0 f near) × (new ≡ old)) ⊎ AddsCovered old (joins_of out.sources from (mark_with 0 f near)) new
+    (LeadsRound out from (option_and_then (mark_with 0 f) between) (mark_with 0 f near) × (new ≡ old))
+    ⊎ AddsCovered old (joins_of out.sources from (mark_with 0 f near)) new
 
 -- The joins of a cell with the four around it that come after it in rows of this width have been added. The cell below
 -- it may lead round to those at its corners.
@@ -139,9 +140,9 @@ pub record AddsAfter (f : Flood) (out : Spared) (from : Mark) (i width : ℕ) (o
   pub after_second : List Join
   pub after_third : List Join
   pub east : AddsNear f out from None (i + 1) old after_first
-  pub south_east : AddsNear f out from (mark_with 0 f (i + width)) (i + width + 1) after_first after_second
+  pub south_east : AddsNear f out from (Some (i + width)) (i + width + 1) after_first after_second
   pub south : AddsNear f out from None (i + width) after_second after_third
-  pub south_west : AddsNear f out from (mark_with 0 f (i + width)) (i + width - 1) after_third new
+  pub south_west : AddsNear f out from (Some (i + width)) (i + width - 1) after_third new
 
 -- The second place comes after the first in row order.
 abbrev pub IsAfter : Place → Place → Type 0

@@ -1,7 +1,7 @@
 //! The joins inside a tile, by the indexes of its labels: [`inner_joins`].
 //!
 //! It looks at each two neighbouring cells once, from the first of them in row order.
-ghost use Rattle.std.specs.Prelude.{◌≡◌, ◌+◌, ◌<◌, ◌≤◌, [], Some, slice_index_or, MatchOption, IfOk, OnOk, length};
+ghost use Rattle.std.specs.Prelude.{◌≡◌, ◌+◌, ◌<◌, ◌≤◌, [], Some, slice_index_or, MatchOption, IfOk, IfSome, OnOk, length, option_and_then};
 ghost use Rattle.std.specs.Bool.{OnTrue};
 ghost use Rattle.tiles.specs.Cutting.{IsInBounds};
 ghost use Rattle.fill.specs.Gathering.{IsInner, AreEqualAfter, Adds, AddsAfter, AddsNear, mark_in, mark_with};
@@ -47,6 +47,15 @@ fn has_same_label(flood: &TileFlood, first: usize, second: usize) -> bool
     indexes[first] == indexes[second]
 }
 
+/// What a flood says of the cell between two that touch at a corner, if an index is given.
+#[inline(always)]
+fn mark_between(flood: &TileFlood, between: Option<usize>) -> Option<Mark>
+    requires { IfSome between (λ k. k < length flood.now.labels) }
+    ensures { result ≡ option_and_then (mark_with 0 flood.now) between }
+{
+    mark_of_entry(flood, between?)
+}
+
 /// Adds the join of two cells of a tile with these indices, where their labels differ and no cell
 /// between leads round.
 #[inline(always)]
@@ -56,10 +65,11 @@ fn push_near(
     left_out: &LeftOut<'_>,
     index: usize,
     from: Mark,
-    between: Option<Mark>,
+    between: Option<usize>,
     near: usize,
 ) -> Result<(), AllocError>
     requires index { index < length flood.now.labels }
+    requires between { IfSome between (λ k. k < length flood.now.labels) }
     requires near { near < length flood.now.labels }
     requires from { mark_with 0 flood.now index ≡ Some from }
     ensures { OnOk result (AddsNear flood.now left_out.now from between near table.old table.new) }
@@ -68,7 +78,7 @@ fn push_near(
         return Ok(());
     }
     let to = mark_of_entry(flood, near);
-    if is_spared(left_out, from, between, to) {
+    if is_spared(left_out, from, mark_between(flood, between), to) {
         return Ok(());
     }
     push_join(table, left_out.sources, from, to)
@@ -92,11 +102,10 @@ fn push_after(
         table.old table.new) }
 {
     let below = index + width;
-    let between = mark_of_entry(flood, below);
     push_near(table, flood, left_out, index, from, None, index + 1)?;
-    push_near(table, flood, left_out, index, from, between, below + 1)?;
+    push_near(table, flood, left_out, index, from, Some(below), below + 1)?;
     push_near(table, flood, left_out, index, from, None, below)?;
-    push_near(table, flood, left_out, index, from, between, below - 1)?;
+    push_near(table, flood, left_out, index, from, Some(below), below - 1)?;
     Ok(())
 }
 

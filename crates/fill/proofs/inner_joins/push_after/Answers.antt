@@ -6,7 +6,7 @@ returns c = record {
   after_second = c.push_near-2.new.table;
   after_third = c.push_near-3.new.table;
   east = c.in_ok-push_near.ensures;
-  south_east = rw c.mark_of_entry-between.ensures at c.in_ok-push_near-2.ensures;
+  south_east = c.in_ok-push_near-2.ensures;
   south = c.in_ok-push_near-3.ensures;
-  south_west = rw c.mark_of_entry-between.ensures at c.in_ok-push_near-4.ensures;
+  south_west = c.in_ok-push_near-4.ensures;
 }

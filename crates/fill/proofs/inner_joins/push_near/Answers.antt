@@ -10,7 +10,7 @@ returns-then-has_same_label c =
     inr (same_label_adds c.args.flood.now c.args.left_out.now.sources c.args.index c.args.near c.args.from _ c.requires.from (OnTrue_at c.if-has_same_label.true c.has_same_label.ensures))
 
 pub returns-then-is_spared : goal.returns-then-is_spared
-returns-then-is_spared c = inl (rw c.mark_of_entry-to.ensures at (OnTrue_at c.if-is_spared.true c.is_spared.ensures), refl)
+returns-then-is_spared c = inl (rw (c.mark_of_entry-to.ensures, c.mark_between.ensures) at (OnTrue_at c.if-is_spared.true c.is_spared.ensures), refl)
 
 pub returns : goal.returns
 returns c = on_ok_weaker _ (λ added. inr added) (rw (ap (λ (z : Spared). z.sources) c.left_out.view_is, c.mark_of_entry-to.ensures) at c.push_join.ensures)
