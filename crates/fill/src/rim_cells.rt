@@ -87,6 +87,31 @@ fn push_on_way<C: KnownCells, J: JoinList>(
     push_join(joins, left_out.sources, from, to)
 }
 
+/// Adds the join of a cell with the one below it, where it is wanted.
+#[inline(always)]
+fn push_below<C: KnownCells, J: JoinList>(
+    joins: &mut J,
+    cells: &C,
+    left_out: &LeftOut<'_>,
+    place: Place,
+    from: Mark,
+    below: Option<Mark>,
+) -> Result<(), AllocError>
+    requires limits { place.row < 4096 }
+    requires from { C.marks cells.now place ≡ Some from }
+    requires below { below ≡ C.marks cells.now (record { row = place.row + 1; col = place.col }) }
+    ensures { OnOk result (Adds (C.marks cells.now) left_out.now
+        (IsPairOn 2 place (C.wanted cells.now)) (J.joins joins.old) (J.joins joins.new)) }
+{
+    if !cells.is_wanted(Place {
+        row: place.row + 1,
+        col: place.col,
+    }) {
+        return Ok(());
+    }
+    push_join(joins, left_out.sources, from, below)
+}
+
 /// Adds the joins of a cell with those after it, where they are wanted: east, south-east, south and
 /// south-west of it.
 fn push_cell<C: KnownCells, J: JoinList>(
@@ -108,7 +133,7 @@ fn push_cell<C: KnownCells, J: JoinList>(
     });
     push_on_way(joins, cells, left_out, place, from, below, 0)?;
     push_on_way(joins, cells, left_out, place, from, below, 1)?;
-    push_on_way(joins, cells, left_out, place, from, below, 2)?;
+    push_below(joins, cells, left_out, place, from, below)?;
     push_on_way(joins, cells, left_out, place, from, below, 3)?;
     Ok(())
 }
