@@ -12,17 +12,22 @@ test:
 	tests/documents
 	rt ci
 	cp crates/relief_program/out/relief_program relief
-	tests/run ./relief
-	tests/texts ./relief
-	tests/catchments ./relief
 	tests/progress ./relief
-	tests/sights ./relief
-	tests/limits ./relief
-	tests/pictures
-	tests/tools
-	tests/install ./relief
+	$(MAKE) --no-print-directory --jobs=4 --output-sync=target test-program
+
+# The longest first. tests/progress looks at the clock, and so runs alone.
+PROGRAM_TESTS = refusals gis limits sights texts install recipes run catchments pictures tools
+.PHONY: test-program $(PROGRAM_TESTS:%=test-%)
+test-program: $(PROGRAM_TESTS:%=test-%)
+test-run test-texts test-catchments test-sights test-limits test-install: test-%:
+	tests/$* ./relief
+test-pictures test-tools: test-%:
+	tests/$*
+test-refusals:
 	tests/refusals ./relief crates/*/out/*_tests
+test-recipes:
 	tools/recipes ./relief
+test-gis:
 	tests/gis/run ./relief
 
 # The rest takes the program that `make` has built.

@@ -14,7 +14,7 @@ use Rattle.terrain.specs.Ways.{before, place_if_both, place_on, ways_from}
 use Rattle.terrain.specs.declared.place.Place.{Place}
 use Rattle.terrain.proofs.EightWays.{Touches-from_ways}
 use Rattle.terrain.proofs.Places.{same_place}
-use Rattle.fill.specs.Gathering.{Marks, are_settled, Spared, IsSpared, Meets, IsPairFrom, IsPairOn, LeadsRound, joins_of, Adds, AddsCovered, Covered, IsAfter}
+use Rattle.fill.specs.Gathering.{Marks, are_settled, Spared, IsSpared, Meets, IsPairFrom, IsLowBetween, IsPairOn, joins_of, Adds, AddsCovered, Covered, IsAfter}
 use Rattle.fill.specs.declared.spills.Join.{Join}
 use Rattle.fill.specs.declared.marks.Mark.{Mark}
 use Rattle.floods.proofs.Heaps.{cons_head, cons_cases, one_held}
@@ -106,7 +106,7 @@ spared_still marks out p q now new kept j (inr covered) = inr (covered_still now
 pub spared_corner : (marks : Marks) (out : Spared) (p q : Place) (from : Mark) (below to : Option Mark)
     → marks p ≡ Some from → below ≡ marks (record { row = p.row + 1; col = p.col }) → to ≡ marks q
     → q.row ≡ p.row + 1 → p.col ≢ q.col
-    → LeadsRound out from below to → IsSpared marks out p q
+    → IsLowBetween out from below to → IsSpared marks out p q
 spared_corner marks out p q from below to from_is below_is to_is next_row aside by = (
   by.0,
   record {

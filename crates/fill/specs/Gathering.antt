@@ -123,14 +123,14 @@ abbrev pub AreEqualAfter : List ℕ → ℕ → ℕ → Type 0
 AreEqualAfter xs i width = All (λ k. slice_index_or xs k 0 ≡ slice_index_or xs i 0) (cells_after width i)
 
 -- Joins that lead round are left out, and the cell between two that touch at a corner is no higher than one of them.
-abbrev pub LeadsRound : Spared → Mark → Option Mark → Option Mark → Type 0
-LeadsRound out from between to =
+abbrev pub IsLowBetween : Spared → Mark → Option Mark → Option Mark → Type 0
+IsLowBetween out from between to =
     (out.bypassed ≡ true) × (third end : Mark) × (between ≡ Some third) × (to ≡ Some end) × (third.level ≤ℤ int_max from.level end.level)
 
 -- The join of a cell with the one at an index has been added, where there is one, or the cell at another leads round.
 abbrev pub AddsNear : Flood → Spared → Mark → Option ℕ → ℕ → List Join → List Join → Type 0
 AddsNear f out from between near old new =
-    (LeadsRound out from (option_and_then (mark_with 0 f) between) (mark_with 0 f near) × (new ≡ old))
+    (IsLowBetween out from (option_and_then (mark_with 0 f) between) (mark_with 0 f near) × (new ≡ old))
     ⊎ AddsCovered old (joins_of out.sources from (mark_with 0 f near)) new
 
 -- The joins of a cell with the four around it that come after it in rows of this width have been added. The cell below

@@ -2,7 +2,7 @@
 ghost use Rattle.std.specs.Prelude.{◌≡◌, [], false, None, slice_index_or, is_some};
 ghost use Rattle.std.specs.Bool.{OnTrue};
 ghost use Rattle.std.specs.Option.{option_to_list};
-ghost use Rattle.fill.specs.Gathering.{LeadsRound, are_settled, joins_of};
+ghost use Rattle.fill.specs.Gathering.{IsLowBetween, are_settled, joins_of};
 
 use crate::marks::Mark;
 use crate::spills::Join;
@@ -84,7 +84,7 @@ pub(crate) fn is_spared(
     between: Option<Mark>,
     to: Option<Mark>,
 ) -> bool
-    ensures { OnTrue result (LeadsRound left_out.now from between to) }
+    ensures { OnTrue result (IsLowBetween left_out.now from between to) }
 {
     if !left_out.bypassed {
         return false;
