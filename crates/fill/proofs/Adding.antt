@@ -14,7 +14,7 @@ use Rattle.terrain.specs.Ways.{before, place_if_both, place_on, ways_from}
 use Rattle.terrain.specs.declared.place.Place.{Place}
 use Rattle.terrain.proofs.EightWays.{Touches-from_ways}
 use Rattle.terrain.proofs.Places.{same_place}
-use Rattle.fill.specs.Gathering.{Marks, are_settled, Spared, IsSpared, Meets, IsPairFrom, IsLowBetween, IsPairOn, joins_of, Adds, AddsCovered, Covered, IsAfter}
+use Rattle.fill.specs.Gathering.{Marks, are_settled, Spared, IsSpared, Meets, IsPairFrom, IsBetween, IsLowBetween, IsPairOn, joins_of, Adds, AddsCovered, Covered, IsAfter}
 use Rattle.fill.specs.declared.spills.Join.{Join}
 use Rattle.fill.specs.declared.marks.Mark.{Mark}
 use Rattle.floods.proofs.Heaps.{cons_head, cons_cases, one_held}
@@ -102,19 +102,21 @@ spared_still : (marks : Marks) (out : Spared) (p q : Place) (now new : List Join
 spared_still marks out p q now new kept j (inl spared) = inl spared
 spared_still marks out p q now new kept j (inr covered) = inr (covered_still now new kept j covered)
 
--- the join of two cells at a corner is spared, where the cell between is no higher
-pub spared_corner : (marks : Marks) (out : Spared) (p q : Place) (from : Mark) (below to : Option Mark)
-    → marks p ≡ Some from → below ≡ marks (record { row = p.row + 1; col = p.col }) → to ≡ marks q
+-- the join of two cells at a corner is spared, where one between is no higher
+pub spared_corner : (marks : Marks) (out : Spared) (p q middle : Place) (from : Mark) (between to : Option Mark)
+    → IsBetween p q middle → marks p ≡ Some from → between ≡ marks middle → to ≡ marks q
     → q.row ≡ p.row + 1 → p.col ≢ q.col
-    → IsLowBetween out from below to → IsSpared marks out p q
-spared_corner marks out p q from below to from_is below_is to_is next_row aside by = (
+    → IsLowBetween out from between to → IsSpared marks out p q
+spared_corner marks out p q middle from between to is_middle from_is between_is to_is next_row aside by = (
   by.0,
   record {
+    middle = middle;
     from = from;
-    below = by.1;
+    between = by.1;
     to = by.2;
+    is_middle = is_middle;
     from_is = from_is;
-    below_is = ap (λ n. marks (record { row = n; col = p.col })) next_row ∙ sym below_is ∙ by.3;
+    between_is = sym between_is ∙ by.3;
     to_is = sym to_is ∙ by.4;
     next_row = next_row;
     aside = aside;

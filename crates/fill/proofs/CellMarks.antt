@@ -15,7 +15,7 @@ use Rattle.tiles.proofs.Cut.{in_tile, in_bounds_parts, in_bounds_from}
 use Rattle.cell_floods.specs.TileFlood.{Flood, IsFlood, label_in}
 use Rattle.cell_floods.specs.Labels.{labels_by, IsTable}
 use Rattle.fill.specs.Numbers.{first_of}
-use Rattle.fill.specs.Gathering.{Fit, LabelsInside, Marks, IsInner, IsPairFrom, IsPairOn, cells_after, AreEqualAfter, mark_of, mark_in, mark_among, Adds, mark_with, joins_of, Spared, AddsAfter, AddsCovered, AddsNear}
+use Rattle.fill.specs.Gathering.{Fit, LabelsInside, Marks, IsInner, IsPairFrom, IsPairOn, cells_after, AreEqualAfter, mark_of, mark_in, mark_among, Adds, mark_with, joins_of, Spared, IsBetween, IsLowBetween, IsSpared, AddsAfter, AddsCorner, AddsCovered}
 use Rattle.fill.specs.declared.spills.Join.{Join}
 use Rattle.fill.specs.declared.marks.Mark.{Mark}
 use Rattle.std.proofs.lemmas.Nat.{mul-le}
@@ -145,9 +145,9 @@ equal_after_adds f out i width now e = elim (cases_option (mark_with 0 f i)) [
     after_first = now;
     after_second = now;
     after_third = now;
-    east = inr (near found.0 found.1 0 (omega arith));
+    east = near found.0 found.1 0 (omega arith);
     south_east = inr (near found.0 found.1 1 (omega arith));
-    south = inr (near found.0 found.1 2 (omega arith));
+    south = near found.0 found.1 2 (omega arith);
     south_west = inr (near found.0 found.1 3 (omega arith));
   })
 ] where
@@ -165,10 +165,10 @@ adds_anywhere marks out p old new s = adds_as marks out (IsPairFrom p anywhere) 
 pub inner_adds : (f : Flood) (out : Spared) (p : Place) (i : ℕ) (from : Mark) (old new : List Join) → IsInner f.bounds p → i ≡ index_in f.bounds p → mark_with 0 f i ≡ Some from → AddsAfter f out from i f.bounds.cols old new → Adds (mark_in 0 f) out (λ q r. q ≡ p) old new
 inner_adds f out p i from old new inner at is s =
     adds_anywhere (mark_in 0 f) out p old new (adds_four (mark_in 0 f) out p anywhere old s.after_first s.after_second s.after_third new
-    (step 0 p.row east (i + 1) _ _ (omega arith) refl (omega (arith, inner), omega (arith, inner)) (omega (arith, inner), omega (arith, inner)) (omega (arith, at, inner)) (beside _ _ _ s.east))
-    (corner 1 south east (i + b.cols + 1) _ _ (omega arith) refl refl (λ e. omega (arith, e)) (omega (arith, inner), omega (arith, inner)) (omega (arith, inner), omega (arith, inner)) (omega (arith, at, inner, down)) s.south_east)
-    (step 2 south p.col (i + b.cols) _ _ (omega arith) refl (omega (arith, inner), omega (arith, inner)) (omega (arith, inner), omega (arith, inner)) (omega (arith, at, inner, down)) (beside _ _ _ s.south))
-    (corner 3 south west (i + b.cols - 1) _ _ (omega arith) to_west refl (λ e. omega (arith, e, inner)) (omega (arith, inner), omega (arith, inner)) (omega (arith, inner), omega (arith, inner)) (omega (arith, at, inner, down)) s.south_west)) where
+    (step 0 p.row east (i + 1) _ _ (omega arith) refl (omega (arith, inner), omega (arith, inner)) (omega (arith, inner), omega (arith, inner)) (omega (arith, at, inner)) s.east)
+    (corner 1 south east (i + 1) (i + b.cols + 1) _ _ (omega arith) refl refl (entry_in_mark f (record { row = p.row; col = east }) (i + 1) (omega (arith, inner), omega (arith, inner), omega (arith, inner), omega (arith, inner)) (omega (arith, at, inner))) (λ e. omega (arith, e)) (omega (arith, inner), omega (arith, inner)) (omega (arith, inner), omega (arith, inner)) (omega (arith, at, inner, down)) s.south_east)
+    (step 2 south p.col (i + b.cols) _ _ (omega arith) refl (omega (arith, inner), omega (arith, inner)) (omega (arith, inner), omega (arith, inner)) (omega (arith, at, inner, down)) s.south)
+    (corner 3 south west (i - 1) (i + b.cols - 1) _ _ (omega arith) to_west refl (entry_in_mark f (record { row = p.row; col = west }) (i - 1) (omega (arith, inner), omega (arith, inner), omega (arith, inner), omega (arith, inner)) (omega (arith, at, inner))) (λ e. omega (arith, e, inner)) (omega (arith, inner), omega (arith, inner)) (omega (arith, inner), omega (arith, inner)) (omega (arith, at, inner, down)) s.south_west)) where
       b : Bounds
       b = f.bounds
 
@@ -195,23 +195,26 @@ inner_adds f out p i from old new inner at is s =
           (entry_in_mark f near j (rows.0, rows.1, cols.0, cols.1) index)
           few on refl s
 
-      -- nothing is between two cells at a side
-      beside : (j : ℕ) (now next : List Join) → AddsNear f out from None j now next → AddsCovered now (joins_of out.sources from (mark_with 0 f j)) next
-      beside j now next s = elim s [ inl round ↦ none_some {X = Mark} None _ refl round.0.3 | inr added ↦ added ]
+      below_is : mark_in 0 f (record { row = p.row + 1; col = p.col }) ≡ mark_with 0 f (i + b.cols)
+      below_is = entry_in_mark f (record { row = p.row + 1; col = p.col }) (i + b.cols) (omega (arith, inner), omega (arith, inner), omega (arith, inner), omega (arith, inner)) (omega (arith, at, inner, down))
 
-      between : mark_in 0 f (record { row = p.row + 1; col = p.col }) ≡ mark_with 0 f (i + b.cols)
-      between = entry_in_mark f (record { row = p.row + 1; col = p.col }) (i + b.cols) (omega (arith, inner), omega (arith, inner), omega (arith, inner), omega (arith, inner)) (omega (arith, at, inner, down))
-
-      corner : (way row col j : ℕ) (now next : List Join) → way < 8 → place_on way p ≡ Some (record { row = row; col = col }) → row ≡ p.row + 1 → p.col ≢ col → (b.top ≤ row) × (row < b.top + b.rows) → (b.left ≤ col) × (col < b.left + b.cols) → j ≡ (row - b.top) * b.cols + (col - b.left) → AddsNear f out from (Some (i + b.cols)) j now next → Adds (mark_in 0 f) out (IsPairOn way p anywhere) now next
-      corner way row col j now next few on next_row aside rows cols index s = elim s [
+      corner : (way row col beside j : ℕ) (now next : List Join) → way < 8 → place_on way p ≡ Some (record { row = row; col = col }) → row ≡ p.row + 1
+          → mark_in 0 f (record { row = p.row; col = col }) ≡ mark_with 0 f beside → p.col ≢ col
+          → (b.top ≤ row) × (row < b.top + b.rows) → (b.left ≤ col) × (col < b.left + b.cols) → j ≡ (row - b.top) * b.cols + (col - b.left)
+          → AddsCorner f out from (i + b.cols) beside j now next → Adds (mark_in 0 f) out (IsPairOn way p anywhere) now next
+      corner way row col beside j now next few on next_row beside_is aside rows cols index s = elim s [
         | inr added ↦ step way row col j now next few on rows cols index added
         | inl round ↦
             let near : Place = record { row = row; col = col } in
-            subst (Adds (mark_in 0 f) out (IsPairOn way p anywhere) now) (sym round.1)
-            (adds_spared (mark_in 0 f) out p near way anywhere now on
-            (spared_corner (mark_in 0 f) out p near from (mark_with 0 f (i + b.cols)) (mark_with 0 f j)
+            let spared : (middle : Place) (between : Option Mark) → IsBetween p near middle → mark_in 0 f middle ≡ between → IsLowBetween out from between (mark_with 0 f j) → IsSpared (mark_in 0 f) out p near = λ middle between is_middle there low.
+            spared_corner (mark_in 0 f) out p near middle from between (mark_with 0 f j) is_middle
             (entry_in_mark f p i (omega (arith, inner), omega (arith, inner), omega (arith, inner), omega (arith, inner)) at ∙ is)
-            (sym between) (sym (entry_in_mark f near j (rows.0, rows.1, cols.0, cols.1) index)) next_row aside round.0))
+            (sym there) (sym (entry_in_mark f near j (rows.0, rows.1, cols.0, cols.1) index)) next_row aside low in
+            subst (Adds (mark_in 0 f) out (IsPairOn way p anywhere) now) (sym round.1)
+            (adds_spared (mark_in 0 f) out p near way anywhere now on (elim round.0 [
+              | inl low ↦ spared (record { row = p.row + 1; col = p.col }) (mark_with 0 f (i + b.cols)) (inl (sym next_row, refl)) below_is low
+              | inr low ↦ spared (record { row = p.row; col = col }) (mark_with 0 f beside) (inr (refl, refl)) beside_is low
+            ]))
       ]
 
 -- such a cell has its joins added, where it has a mark

@@ -7,7 +7,7 @@ use Rattle.std.proofs.lemmas.Option.{MatchOption-at_some, MatchOption-at_none, s
 use Rattle.std.proofs.lemmas.List.Concat.{get_or-flat_map}
 use Rattle.std.proofs.lemmas.List.{get_or-map, length-append, length-map, take_all}
 use Rattle.terrain.specs.Raster.{Terrain}
-use Rattle.terrain.specs.Neighbours.{IsNeighbour}
+use Rattle.terrain.specs.Neighbours.{Touches, IsNeighbour}
 use Rattle.terrain.specs.declared.place.Place.{Place}
 use Rattle.terrain.proofs.Options.{cases_option}
 use Rattle.tiles.specs.Cutting.{Cutting, tile_of_place, index_in}
@@ -234,36 +234,43 @@ module _ (t : Terrain) (c : Cutting) (floods : List Flood) (are : AreFloods t c 
 
     round : (p q : Place) (x y z : ℤ) → IsNeighbour t p q → level_among c floods p ≡ Some x → level_among c floods q ≡ Some y → int_max x y ≡ z → IsBypassed (mark_among c floods) p q → LeadsRound t c floods p q z
     round p q x y z next p_is q_is greater by =
-        let middle : Place = record { row = q.row; col = p.col } in
         let a = numbered c floods p by.from lawful by.from_is in
-        let m = numbered c floods middle by.below lawful by.below_is in
+        let m = numbered c floods by.middle by.between lawful by.between_is in
         let b = numbered c floods q by.to lawful by.to_is in
         let x_is : by.from.level ≡ x = same_Some by.from.level x (sym a.level_is ∙ p_is) in
         let y_is : by.to.level ≡ y = same_Some by.to.level y (sym b.level_is ∙ q_is) in
-        let within = marked_within c floods middle by.below are.lawful (fit_of t c floods are) by.below_is in
-        let has = level_has_data t c floods are.lawful are middle by.below.level within m.level_is in
+        let within = marked_within c floods by.middle by.between are.lawful (fit_of t c floods are) by.between_is in
+        let has = level_has_data t c floods are.lawful are by.middle by.between.level within m.level_is in
         record {
-          middle = middle;
-          level = by.below.level;
+          middle = by.middle;
+          level = by.between.level;
           level_is = m.level_is;
           there = record {
-            different = λ e. absurd (omega (arith, ap (λ (r : Place). r.row) e, by.next_row));
-            touches = record { row_down = omega (arith, by.next_row); row_up = omega (arith, by.next_row); col_right = omega arith; col_left = omega arith };
+            different = λ e. elim by.is_middle [
+              | inl below ↦ absurd (omega (arith, ap (λ (r : Place). r.row) e, by.next_row, below))
+              | inr beside ↦ by.aside (ap (λ (r : Place). r.col) e ∙ beside.1)
+            ];
+            touches = touch_at p by.middle (elim by.is_middle [ inl below ↦ (omega (arith, below, by.next_row), omega (arith, below)) | inr beside ↦ (omega (arith, beside), omega (arith, beside, next.touches)) ]);
             from_data = next.from_data;
             to_data = has;
           };
           on = record {
-            different = λ e. by.aside (ap (λ (r : Place). r.col) e);
-            touches = record { row_down = omega arith; row_up = omega arith; col_right = next.touches.col_right; col_left = next.touches.col_left };
+            different = λ e. elim by.is_middle [
+              | inl below ↦ by.aside (sym below.1 ∙ ap (λ (r : Place). r.col) e)
+              | inr beside ↦ absurd (omega (arith, ap (λ (r : Place). r.row) e, by.next_row, beside))
+            ];
+            touches = touch_at by.middle q (elim by.is_middle [ inl below ↦ (omega (arith, below), omega (arith, below, next.touches)) | inr beside ↦ (omega (arith, beside, by.next_row), omega (arith, beside)) ]);
             from_data = has;
             to_data = next.to_data;
           };
-          there_straight = inr refl;
-          on_straight = inl refl;
-          low = subst (λ n. by.below.level ≤ℤ n) (ap (λ n. int_max n by.to.level) x_is ∙ ap (int_max x) y_is ∙ greater) by.low;
+          there_straight = elim by.is_middle [ inl below ↦ inr (sym below.1) | inr beside ↦ inl (sym beside.0) ];
+          on_straight = elim by.is_middle [ inl below ↦ inl below.0 | inr beside ↦ inr beside.1 ];
+          low = subst (λ n. by.between.level ≤ℤ n) (ap (λ n. int_max n by.to.level) x_is ∙ ap (int_max x) y_is ∙ greater) by.low;
           bent_row = λ e. omega (arith, e, by.next_row);
           bent_col = by.aside;
-        }
+        } where
+          touch_at : (r s : Place) → ((s.row ≤ r.row + 1) × (r.row ≤ s.row + 1)) × ((s.col ≤ r.col + 1) × (r.col ≤ s.col + 1)) → Touches r s
+          touch_at r s near = record { row_down = omega (arith, near); row_up = omega (arith, near); col_right = omega (arith, near); col_left = omega (arith, near) }
 
     mark_is : (p : Place) (a : ℕ) (level : ℤ) → number_among c floods p ≡ Some a → level_among c floods p ≡ Some level → mark_among c floods p ≡ Some (record { level = level; node = a })
     mark_is p a level is level_is =

@@ -106,11 +106,13 @@ module _ (t : Terrain) (c : Cutting) (floods : List Flood) (are : AreFloods t c 
   spared_there p q s = (
     s.0,
     record {
+      middle = s.1.middle;
       from = shift first s.1.from;
-      below = shift first s.1.below;
+      between = shift first s.1.between;
       to = shift first s.1.to;
+      is_middle = s.1.is_middle;
       from_is = mark_known p _ s.1.from_is;
-      below_is = mark_known (record { row = q.row; col = p.col }) _ s.1.below_is;
+      between_is = mark_known s.1.middle _ s.1.between_is;
       to_is = mark_known q _ s.1.to_is;
       next_row = s.1.next_row;
       aside = s.1.aside;

@@ -52,18 +52,24 @@ pub record Spared : Type 0 where
   pub sources : List (Option ℤ)
   pub bypassed : Bool
 
--- The second cell touches the first from below at a corner, and the cell below the first is no higher than one of them:
--- the joins with that cell lower all levels that theirs does.
+-- The third place lies between two that touch at a corner: it touches both at a side.
+abbrev pub IsBetween : Place → Place → Place → Type 0
+IsBetween p q r = ((r.row ≡ q.row) × (r.col ≡ p.col)) ⊎ ((r.row ≡ p.row) × (r.col ≡ q.col))
+
+-- The second cell touches the first from below at a corner, and a cell between them is no higher than one of them: its
+-- joins with both lower all levels that theirs does.
 pub record IsBypassed (marks : Marks) (p q : Place) : Type 0 where
+  pub middle : Place
   pub from : Mark
-  pub below : Mark
+  pub between : Mark
   pub to : Mark
+  pub is_middle : IsBetween p q middle
   pub from_is : marks p ≡ Some from
-  pub below_is : marks (record { row = q.row; col = p.col }) ≡ Some below
+  pub between_is : marks middle ≡ Some between
   pub to_is : marks q ≡ Some to
   pub next_row : q.row ≡ p.row + 1
   pub aside : p.col ≢ q.col
-  pub low : below.level ≤ℤ int_max from.level to.level
+  pub low : between.level ≤ℤ int_max from.level to.level
 
 -- Both labels are among these sources. The join of two sources lowers the level of neither.
 abbrev pub are_settled : List (Option ℤ) → ℕ → ℕ → Bool
@@ -127,22 +133,25 @@ abbrev pub IsLowBetween : Spared → Mark → Option Mark → Option Mark → Ty
 IsLowBetween out from between to =
     (out.bypassed ≡ true) × (third end : Mark) × (between ≡ Some third) × (to ≡ Some end) × (third.level ≤ℤ int_max from.level end.level)
 
--- The join of a cell with the one at an index has been added, where there is one, or the cell at another leads round.
-abbrev pub AddsNear : Flood → Spared → Mark → Option ℕ → ℕ → List Join → List Join → Type 0
-AddsNear f out from between near old new =
-    (IsLowBetween out from (option_and_then (mark_with 0 f) between) (mark_with 0 f near) × (new ≡ old))
-    ⊎ AddsCovered old (joins_of out.sources from (mark_with 0 f near)) new
+-- The join of a cell with the one at an index has been added, where there is one.
+abbrev pub AddsNear : Flood → Spared → Mark → ℕ → List Join → List Join → Type 0
+AddsNear f out from near old new = AddsCovered old (joins_of out.sources from (mark_with 0 f near)) new
 
--- The joins of a cell with the four around it that come after it in rows of this width have been added. The cell below
--- it may lead round to those at its corners.
+-- Or one of the cells at two other indexes leads round.
+abbrev pub AddsCorner : Flood → Spared → Mark → ℕ → ℕ → ℕ → List Join → List Join → Type 0
+AddsCorner f out from below beside near old new =
+    ((IsLowBetween out from (mark_with 0 f below) (mark_with 0 f near) ⊎ IsLowBetween out from (mark_with 0 f beside) (mark_with 0 f near)) × (new ≡ old))
+    ⊎ AddsNear f out from near old new
+
+-- The joins of a cell with the four around it that come after it in rows of this width have been added.
 pub record AddsAfter (f : Flood) (out : Spared) (from : Mark) (i width : ℕ) (old new : List Join) : Type 0 where
   pub after_first : List Join
   pub after_second : List Join
   pub after_third : List Join
-  pub east : AddsNear f out from None (i + 1) old after_first
-  pub south_east : AddsNear f out from (Some (i + width)) (i + width + 1) after_first after_second
-  pub south : AddsNear f out from None (i + width) after_second after_third
-  pub south_west : AddsNear f out from (Some (i + width)) (i + width - 1) after_third new
+  pub east : AddsNear f out from (i + 1) old after_first
+  pub south_east : AddsCorner f out from (i + width) (i + 1) (i + width + 1) after_first after_second
+  pub south : AddsNear f out from (i + width) after_second after_third
+  pub south_west : AddsCorner f out from (i + width) (i - 1) (i + width - 1) after_third new
 
 -- The second place comes after the first in row order.
 abbrev pub IsAfter : Place → Place → Type 0

@@ -1,10 +1,10 @@
 //! The joins inside a tile, by the indexes of its labels: [`inner_joins`].
 //!
 //! It looks at each two neighbouring cells once, from the first of them in row order.
-ghost use Rattle.std.specs.Prelude.{◌≡◌, ◌+◌, ◌<◌, ◌≤◌, [], Some, slice_index_or, MatchOption, IfOk, IfSome, OnOk, length, option_and_then};
+ghost use Rattle.std.specs.Prelude.{◌≡◌, ◌+◌, ◌<◌, ◌≤◌, [], Some, slice_index_or, MatchOption, IfOk, OnOk, length};
 ghost use Rattle.std.specs.Bool.{OnTrue};
 ghost use Rattle.tiles.specs.Cutting.{IsInBounds};
-ghost use Rattle.fill.specs.Gathering.{IsInner, AreEqualAfter, Adds, AddsAfter, AddsNear, mark_in, mark_with};
+ghost use Rattle.fill.specs.Gathering.{IsInner, AreEqualAfter, Adds, AddsAfter, AddsCorner, AddsNear, mark_in, mark_with};
 
 use crate::join_table::JoinTable;
 use crate::left_out::{LeftOut, is_spared};
@@ -47,17 +47,7 @@ fn has_same_label(flood: &TileFlood, first: usize, second: usize) -> bool
     indexes[first] == indexes[second]
 }
 
-/// What a flood says of the cell between two that touch at a corner, if an index is given.
-#[inline(always)]
-fn mark_between(flood: &TileFlood, between: Option<usize>) -> Option<Mark>
-    requires { IfSome between (λ k. k < length flood.now.labels) }
-    ensures { result ≡ option_and_then (mark_with 0 flood.now) between }
-{
-    mark_of_entry(flood, between?)
-}
-
-/// Adds the join of two cells of a tile with these indices, where their labels differ and no cell
-/// between leads round.
+/// Adds the join of two cells of a tile with these indices, where their labels differ.
 #[inline(always)]
 fn push_near(
     table: &mut JoinTable,
@@ -65,20 +55,48 @@ fn push_near(
     left_out: &LeftOut<'_>,
     index: usize,
     from: Mark,
-    between: Option<usize>,
     near: usize,
 ) -> Result<(), AllocError>
     requires index { index < length flood.now.labels }
-    requires between { IfSome between (λ k. k < length flood.now.labels) }
     requires near { near < length flood.now.labels }
     requires from { mark_with 0 flood.now index ≡ Some from }
-    ensures { OnOk result (AddsNear flood.now left_out.now from between near table.old table.new) }
+    ensures { OnOk result (AddsNear flood.now left_out.now from near table.old table.new) }
+{
+    if has_same_label(flood, index, near) {
+        return Ok(());
+    }
+    push_join(table, left_out.sources, from, mark_of_entry(flood, near))
+}
+
+/// Adds the join of two cells of a tile that touch at a corner, where their labels differ and neither
+/// of the two cells between leads round.
+#[inline(always)]
+fn push_corner(
+    table: &mut JoinTable,
+    flood: &TileFlood,
+    left_out: &LeftOut<'_>,
+    index: usize,
+    from: Mark,
+    below: usize,
+    beside: usize,
+    near: usize,
+) -> Result<(), AllocError>
+    requires index { index < length flood.now.labels }
+    requires below { below < length flood.now.labels }
+    requires beside { beside < length flood.now.labels }
+    requires near { near < length flood.now.labels }
+    requires from { mark_with 0 flood.now index ≡ Some from }
+    ensures { OnOk result
+        (AddsCorner flood.now left_out.now from below beside near table.old table.new) }
 {
     if has_same_label(flood, index, near) {
         return Ok(());
     }
     let to = mark_of_entry(flood, near);
-    if is_spared(left_out, from, mark_between(flood, between), to) {
+    if is_spared(left_out, from, mark_of_entry(flood, below), to) {
+        return Ok(());
+    }
+    if is_spared(left_out, from, mark_of_entry(flood, beside), to) {
         return Ok(());
     }
     push_join(table, left_out.sources, from, to)
@@ -102,10 +120,11 @@ fn push_after(
         table.old table.new) }
 {
     let below = index + width;
-    push_near(table, flood, left_out, index, from, None, index + 1)?;
-    push_near(table, flood, left_out, index, from, Some(below), below + 1)?;
-    push_near(table, flood, left_out, index, from, None, below)?;
-    push_near(table, flood, left_out, index, from, Some(below), below - 1)?;
+    let (east, west) = (index + 1, index - 1);
+    push_near(table, flood, left_out, index, from, east)?;
+    push_corner(table, flood, left_out, index, from, below, east, below + 1)?;
+    push_near(table, flood, left_out, index, from, below)?;
+    push_corner(table, flood, left_out, index, from, below, west, below - 1)?;
     Ok(())
 }
 

@@ -51,7 +51,7 @@ pub(crate) fn mark_of_entry(flood: &TileFlood, index: usize) -> Option<Mark>
 
 /// What a flood says of a cell, None outside the tile and where there is no data. The label is counted
 /// from 0.
-#[inline]
+#[inline(always)]
 pub(crate) fn mark_in(flood: &TileFlood, place: Place) -> Option<Mark>
     ensures { result ≡ mark_in 0 flood.now place }
 {

@@ -1,4 +1,4 @@
-use Rattle.std.proofs.Common.{sym, refl, ap, ◌∙◌, arith}
+use Rattle.std.proofs.Common.{◌+◌, inl, sym, refl, ap, ◌∙◌, arith}
 use Rattle.std.proofs.lemmas.Bool.{OnTrue_at}
 use Rattle.std.proofs.lemmas.Option.{same_Some}
 use Rattle.std.proofs.lemmas.Result.{on_ok_weaker}
@@ -25,10 +25,10 @@ returns-then-is_spared g c =
     let marks = g.C.KnownCells.marks c.args.cells.now in
     let wanted = g.C.KnownCells.wanted c.args.cells.now in
     let on = sym c.place_on.ensures ∙ c.in-Some.is in
+    let row = next_row c.args.place c.in-Some.near c.args.way c.requires.after on (λ e. c.if-near-place.true (sym e)) in
     adds_spared marks c.args.left_out.now c.args.place c.in-Some.near c.args.way wanted _ on
-    (spared_corner marks c.args.left_out.now c.args.place c.in-Some.near c.args.from c.args.below c.mark-to.result
-    c.requires.from c.requires.below c.mark-to.ensures
-    (next_row c.args.place c.in-Some.near c.args.way c.requires.after on (λ e. c.if-near-place.true (sym e)))
+    (spared_corner marks c.args.left_out.now c.args.place c.in-Some.near (record { row = c.args.place.row + 1; col = c.args.place.col }) c.args.from c.args.below c.mark-to.result
+    (inl (sym row, refl)) c.requires.from c.requires.below c.mark-to.ensures row
     (λ e. c.if-near-place-2.true (sym e)) (OnTrue_at c.if-is_spared.true c.is_spared.ensures))
 
 pub returns : goal.returns

@@ -1,0 +1,19 @@
+use Rattle.std.proofs.Common.{inl, inr, ap, refl}
+use Rattle.std.proofs.lemmas.Bool.{OnTrue_at}
+use Rattle.std.proofs.lemmas.Result.{on_ok_weaker}
+use Rattle.fill.specs.Gathering.{Spared}
+use Rattle.fill.proofs.CellMarks.{same_label_adds}
+use Rattle.fill.proofs.inner_joins.push_corner.Goals as goal
+
+pub returns-then-has_same_label : goal.returns-then-has_same_label
+returns-then-has_same_label c =
+    inr (same_label_adds c.args.flood.now c.args.left_out.now.sources c.args.index c.args.near c.args.from _ c.requires.from (OnTrue_at c.if-has_same_label.true c.has_same_label.ensures))
+
+pub returns-then-is_spared : goal.returns-then-is_spared
+returns-then-is_spared c = inl (inl (rw (c.mark_of_entry-to.ensures, c.mark_of_entry.ensures) at (OnTrue_at c.if-is_spared.true c.is_spared.ensures)), refl)
+
+pub returns-then-is_spared-2 : goal.returns-then-is_spared-2
+returns-then-is_spared-2 c = inl (inr (rw (c.mark_of_entry-to.ensures, c.mark_of_entry-2.ensures) at (OnTrue_at c.if-is_spared-2.true c.is_spared-2.ensures)), refl)
+
+pub returns : goal.returns
+returns c = on_ok_weaker _ (λ added. inr added) (rw (ap (λ (z : Spared). z.sources) c.left_out.view_is, c.mark_of_entry-to.ensures) at c.push_join.ensures)
