@@ -67,6 +67,14 @@ adds_pushed old new j is = subst (AddsCovered old (j ∷ [])) (sym is) (record {
   every = λ k h. covered_itself _ k (Contains-append_right old (j ∷ []) k h);
 })
 
+-- no join
+pub adds_nothing : (now none : List Join) → none ≡ [] → AddsCovered now none now
+adds_nothing now none is = subst (λ (z : List Join). AddsCovered now z now) (sym is) (record {
+  kept = λ j h. covered_itself now j h;
+  only = λ j h. inl h;
+  every = λ j h. absurd (no_join j h);
+})
+
 -- one that takes the place of a join of the same labels
 pub adds_lower : (old : List Join) (at : ℕ) (met j : Join) → at < length old → met ≡ get_or old at met → met.from ≡ j.from → met.to ≡ j.to → j.height ≤ℤ met.height → AddsCovered old (j ∷ []) (set old at j)
 adds_lower old at met j inside is from to low = record {
@@ -85,19 +93,7 @@ adds_lower old at met j inside is from to low = record {
   there : Contains (set old at j) j
   there = (at, omega (arith, inside, length-set old at j), get_or-set_same old at j j inside)
 
--- the join of two marks that differ
-pub adds_apart : (sources : List (Option ℤ)) (old new : List Join) (from to : Mark) → from.node ≢ to.node → are_settled sources from.node to.node ≡ false → AddsCovered old (join_between from to ∷ []) new → AddsCovered old (joins_of sources from (Some to)) new
-adds_apart sources old new from to differ apart s = subst (λ (z : List Join). AddsCovered old z new) (sym (joins_of_apart sources from to differ apart)) s
-
--- two sources have none
-pub adds_settled : (sources : List (Option ℤ)) (now : List Join) (from to : Mark) → from.node ≢ to.node → are_settled sources from.node to.node ≡ true → AddsCovered now (joins_of sources from (Some to)) now
-adds_settled sources now from to differ settled = subst (λ (z : List Join). AddsCovered now z now) (sym (joins_of_settled sources from to differ settled)) (record {
-  kept = λ j h. covered_itself now j h;
-  only = λ j h. inl h;
-  every = λ j h. absurd (no_join j h);
-})
-
--- so is what is spared
+-- what is spared stays so
 spared_still : (marks : Marks) (out : Spared) (p q : Place) (now new : List Join) → ((j : Join) → Contains now j → Covered new j) → (j : Join) → IsSpared marks out p q ⊎ Covered now j → IsSpared marks out p q ⊎ Covered new j
 spared_still marks out p q now new kept j (inl spared) = inl spared
 spared_still marks out p q now new kept j (inr covered) = inr (covered_still now new kept j covered)

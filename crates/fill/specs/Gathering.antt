@@ -137,7 +137,7 @@ IsLowBetween out from between to =
 abbrev pub AddsNear : Flood → Spared → Mark → ℕ → List Join → List Join → Type 0
 AddsNear f out from near old new = AddsCovered old (joins_of out.sources from (mark_with 0 f near)) new
 
--- Or one of the cells at two other indexes leads round.
+-- That join has been added, or one of the cells at two other indexes leads round.
 abbrev pub AddsCorner : Flood → Spared → Mark → ℕ → ℕ → ℕ → List Join → List Join → Type 0
 AddsCorner f out from below beside near old new =
     ((IsLowBetween out from (mark_with 0 f below) (mark_with 0 f near) ⊎ IsLowBetween out from (mark_with 0 f beside) (mark_with 0 f near)) × (new ≡ old))

@@ -7,9 +7,9 @@ ghost use Rattle.tiles.specs.Cutting.{IsInBounds};
 ghost use Rattle.fill.specs.Gathering.{IsInner, AreEqualAfter, Adds, AddsAfter, AddsCorner, AddsNear, mark_in, mark_with};
 
 use crate::join_table::JoinTable;
-use crate::left_out::{LeftOut, is_spared};
+use crate::left_out::{LeftOut, is_spared, join_of};
 use crate::marks::{Mark, mark_in, mark_of_entry};
-use crate::rim_cells::{KnownCells, push_join, push_rim_cells};
+use crate::rim_cells::{JoinList, KnownCells, push_join, push_rim_cells};
 use crate::spills::Join;
 use cell_floods::TileFlood;
 use std::alloc::{AllocError, Global};
@@ -93,13 +93,16 @@ fn push_corner(
         return Ok(());
     }
     let to = mark_of_entry(flood, near);
+    let Some(join) = join_of(left_out.sources, from, to) else {
+        return Ok(());
+    };
     if is_spared(left_out, from, mark_of_entry(flood, below), to) {
         return Ok(());
     }
     if is_spared(left_out, from, mark_of_entry(flood, beside), to) {
         return Ok(());
     }
-    push_join(table, left_out.sources, from, to)
+    table.add(join)
 }
 
 /// Adds the joins of a cell with the four around it that come after it in row order. All are of

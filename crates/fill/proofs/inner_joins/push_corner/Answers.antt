@@ -1,7 +1,9 @@
-use Rattle.std.proofs.Common.{inl, inr, ap, refl}
+use Rattle.std.proofs.Common.{inl, inr, ap, refl, subst, sym, List}
 use Rattle.std.proofs.lemmas.Bool.{OnTrue_at}
 use Rattle.std.proofs.lemmas.Result.{on_ok_weaker}
-use Rattle.fill.specs.Gathering.{Spared}
+use Rattle.fill.specs.Gathering.{AddsCovered, Spared}
+use Rattle.fill.specs.declared.spills.Join.{Join}
+use Rattle.fill.proofs.Adding.{adds_nothing}
 use Rattle.fill.proofs.CellMarks.{same_label_adds}
 use Rattle.fill.proofs.inner_joins.push_corner.Goals as goal
 
@@ -15,5 +17,10 @@ returns-then-is_spared c = inl (inl (rw (c.mark_of_entry-to.ensures, c.mark_of_e
 pub returns-then-is_spared-2 : goal.returns-then-is_spared-2
 returns-then-is_spared-2 c = inl (inr (rw (c.mark_of_entry-to.ensures, c.mark_of_entry-2.ensures) at (OnTrue_at c.if-is_spared-2.true c.is_spared-2.ensures)), refl)
 
+pub returns-in_default : goal.returns-in_default
+returns-in_default c = inr (adds_nothing _ _ (rw (ap (λ (z : Spared). z.sources) c.left_out.view_is, c.mark_of_entry-to.ensures) at c.in_default.ensures))
+
 pub returns : goal.returns
-returns c = on_ok_weaker _ (λ added. inr added) (rw (ap (λ (z : Spared). z.sources) c.left_out.view_is, c.mark_of_entry-to.ensures) at c.push_join.ensures)
+returns c =
+    let join = rw (ap (λ (z : Spared). z.sources) c.left_out.view_is, c.mark_of_entry-to.ensures) at c.in-Some.ensures in
+    on_ok_weaker _ (λ added. inr (subst (λ (z : List Join). AddsCovered c.args.table.now z c.add.new.self) (sym join) added)) c.add.ensures
