@@ -150,6 +150,18 @@ next_row p q (suc (suc zero)) few on differ = sym (ap (λ (z : Place). z.row) (s
 next_row p q (suc (suc (suc zero))) few on differ = sym (west_row (p.row + 1) p.col q on)
 next_row p q (suc (suc (suc (suc way)))) few on differ = absurd (omega (arith, few))
 
+-- the place in the same column is the one below
+west_col : (row n : ℕ) (q : Place) → place_if_both (Some row) (before n) ≡ Some q → q.col ≢ n
+west_col row zero q on same = none_some (place_if_both (Some row) None) q refl on
+west_col row (suc n) q on same = omega (arith, ap (λ (z : Place). z.col) (same_Some _ q on), same)
+
+pub same_col : (p q : Place) (way : ℕ) → way < 4 → place_on way p ≡ Some q → q.col ≡ p.col → q ≡ record { row = p.row + 1; col = p.col }
+same_col p q zero few on same = absurd (omega (arith, ap (λ (z : Place). z.col) (same_Some _ q on), same))
+same_col p q (suc zero) few on same = absurd (omega (arith, ap (λ (z : Place). z.col) (same_Some _ q on), same))
+same_col p q (suc (suc zero)) few on same = sym (same_Some _ q on)
+same_col p q (suc (suc (suc zero))) few on same = absurd (west_col (p.row + 1) p.col q on same)
+same_col p q (suc (suc (suc (suc way)))) few on same = absurd (omega (arith, few))
+
 -- the cell on a way has no mark, or its join was added
 pub adds_on_way : (marks : Marks) (out : Spared) (p q : Place) (way : ℕ) (wanted : Place → Bool) (from : Mark) (o : Option Mark) (old new : List Join) → marks p ≡ Some from → marks q ≡ o → way < 8 → place_on way p ≡ Some q → wanted q ≡ true → AddsCovered old (joins_of out.sources from o) new → Adds marks out (IsPairOn way p wanted) old new
 adds_on_way marks out p q way wanted from o old new here there few on want s = record {

@@ -14,7 +14,7 @@
 //! - `inner_joins`: the joins inside a tile
 //! - `rim_joins`: the joins over its rim
 //! - `gathering`: the joins of all tiles
-//! - `ways`: lists of ways that share their memory
+//! - `ways`: the ways from each label, by lists over one list of joins
 //! - `label_graph`: the graph by numbers, and its levels
 //! - `raised_tiles`: the filled heights of each tile, by number
 //! - `placing`: joins by the places of their labels

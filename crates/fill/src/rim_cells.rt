@@ -56,7 +56,8 @@ pub(crate) fn push_join<J: JoinList>(
     Ok(())
 }
 
-/// Adds the join of a cell with the one that lies this way from it, where it is wanted.
+/// Adds the join of a cell with the one that lies this way from it, where it is wanted. At a corner neither of the
+/// two cells between them leads round.
 #[inline(always)]
 fn push_on_way<C: KnownCells, J: JoinList>(
     joins: &mut J,
@@ -80,36 +81,26 @@ fn push_on_way<C: KnownCells, J: JoinList>(
     if !cells.is_wanted(near) {
         return Ok(());
     }
+    if near.col == place.col {
+        return push_join(joins, left_out.sources, from, below);
+    }
     let to = cells.mark(near);
-    if near.row != place.row && near.col != place.col && is_spared(left_out, from, below, to) {
+    let Some(join) = join_of(left_out.sources, from, to) else {
         return Ok(());
+    };
+    if near.row != place.row {
+        if is_spared(left_out, from, below, to) {
+            return Ok(());
+        }
+        let beside = cells.mark(Place {
+            row: place.row,
+            col: near.col,
+        });
+        if is_spared(left_out, from, beside, to) {
+            return Ok(());
+        }
     }
-    push_join(joins, left_out.sources, from, to)
-}
-
-/// Adds the join of a cell with the one below it, where it is wanted.
-#[inline(always)]
-fn push_below<C: KnownCells, J: JoinList>(
-    joins: &mut J,
-    cells: &C,
-    left_out: &LeftOut<'_>,
-    place: Place,
-    from: Mark,
-    below: Option<Mark>,
-) -> Result<(), AllocError>
-    requires limits { place.row < 4096 }
-    requires from { C.marks cells.now place ≡ Some from }
-    requires below { below ≡ C.marks cells.now (record { row = place.row + 1; col = place.col }) }
-    ensures { OnOk result (Adds (C.marks cells.now) left_out.now
-        (IsPairOn 2 place (C.wanted cells.now)) (J.joins joins.old) (J.joins joins.new)) }
-{
-    if !cells.is_wanted(Place {
-        row: place.row + 1,
-        col: place.col,
-    }) {
-        return Ok(());
-    }
-    push_join(joins, left_out.sources, from, below)
+    joins.add(join)
 }
 
 /// Adds the joins of a cell with those after it, where they are wanted: east, south-east, south and
@@ -133,7 +124,7 @@ fn push_cell<C: KnownCells, J: JoinList>(
     });
     push_on_way(joins, cells, left_out, place, from, below, 0)?;
     push_on_way(joins, cells, left_out, place, from, below, 1)?;
-    push_below(joins, cells, left_out, place, from, below)?;
+    push_on_way(joins, cells, left_out, place, from, below, 2)?;
     push_on_way(joins, cells, left_out, place, from, below, 3)?;
     Ok(())
 }

@@ -96,7 +96,7 @@ impl<'a> CellsAround<'a> {
         }
     }
 
-    /// The tile of a place of the grid. Next to this tile it takes no division.
+    /// The tile of a place of the grid. Next to this tile, where all are that a rim asks for, it takes no division.
     #[inline(always)]
     fn tile_of(&self, place: Place) -> u32
         requires { IsWithin self.now.tiles.now.tiling.now place }

@@ -1,11 +1,12 @@
 -- A path that ends does so within as many moves as there are nodes; and where paths end.
-use Rattle.std.proofs.Common.{◌≡◌, ℕ, zero, suc, ◌+◌, ◌-◌, ◌<◌, ◌≤◌, ◌⊎◌, inl, inr, List, length, sym, ap, subst, ◌∙◌, arith, add-zero, ◌≢◌, get_or, set, refl}
-use Rattle.std.proofs.lemmas.Bool.{cases_eq, cases_lt}
+use Rattle.std.proofs.Common.{◌≡◌, ℕ, zero, suc, ◌+◌, ◌-◌, ◌<◌, ◌≤◌, ◌⊎◌, inl, inr, cond, eqb, List, length, sym, ap, subst, ◌∙◌, arith, add-zero, ◌≢◌, get_or, set, refl}
+use Rattle.std.proofs.lemmas.Bool.{cases_eq, cases_lt, cond-true, cond-false, eq-eqb, ne_eqb}
 use Rattle.std.proofs.lemmas.List.{get_or-set_same, get_or-set_other}
 use Rattle.std.proofs.Math.ListN.{length-set}
 use Rattle.drainage.proofs.Pigeonhole.{pigeonhole}
-use Rattle.flow.specs.Streams.{AreStreams, onward, node_after, end_of}
+use Rattle.flow.specs.Streams.{AreStreams, onward, node_after, end_of, sum_below}
 use Rattle.flow.specs.Finding.{AreFound, IsKnown, unknown_mark}
+use Rattle.flow.proofs.Sums.{bit_le, sum_below-same}
 
 -- a sequence of which each next value depends on the last one stays where it has stopped
 pub stays_from : {X : Type 0} (x : ℕ → X) → ((a b : ℕ) → x a ≡ x b → x (suc a) ≡ x (suc b)) → (k m : ℕ) → k ≤ m → x (suc k) ≡ x k → x m ≡ x k
@@ -97,6 +98,40 @@ end-along links s i h (suc k) = end-onward links s (node_after links i k) (node_
 
 pub end-inside : (links : List ℕ) → AreStreams links → (i : ℕ) → i < length links → end_of links i < length links
 end-inside links s i h = node_after-inside links s i h (length links)
+
+-- how many moves are left on a path
+abbrev pub moves_left : List ℕ → ℕ → ℕ
+moves_left links i = sum_below (λ k. cond {A = ℕ} (eqb (node_after links i k) (end_of links i)) 0 1) (length links)
+
+sum_of_next : (f : ℕ → ℕ) (n : ℕ) → sum_below (λ k. f (suc k)) n + f zero ≡ sum_below f n + f n
+sum_of_next f zero = refl
+sum_of_next f (suc n) = omega (arith, sum_of_next f n)
+
+-- there is one less after a move
+pub moves_fall : (links : List ℕ) → AreStreams links → (i : ℕ) → i < length links → onward links i ≢ i → moves_left links (onward links i) + 1 ≡ moves_left links i
+moves_fall links s i h on =
+    let left : ℕ → ℕ = λ k. cond {A = ℕ} (eqb (node_after links i k) (end_of links i)) 0 1 in
+    let here : left zero ≡ 1 = cond-false {A = ℕ} _ 0 1 (ne_eqb i (end_of links i) (λ e. on (ap (onward links) e ∙ s.ends i h ∙ sym e))) in
+    let last : left (length links) ≡ 0 = cond-true {A = ℕ} _ 0 1 (eq-eqb _ _ refl) in
+    let next : moves_left links (onward links i) ≡ sum_below (λ k. left (suc k)) (length links) =
+    sum_below-same _ (λ k. left (suc k)) (length links) (λ k _.
+    ap (λ a. cond {A = ℕ} (eqb a (end_of links (onward links i))) 0 1) (node_after-first links i k) ∙ ap (λ b. cond {A = ℕ} (eqb (node_after links i (suc k)) b) 0 1) (end-onward links s i h)) in
+    omega (arith, next, sum_of_next left (length links), here, last)
+
+-- and where each move notes a node, one less with each node that is noted
+abbrev pub marks_left : List ℕ → List ℕ → ℕ → ℕ
+marks_left links ends i = moves_left links i + cond {A = ℕ} (eqb (get_or ends i 0) unknown_mark) 1 0
+
+pub marks_fall : (links ends : List ℕ) (i last : ℕ) → AreStreams links → AreFound links ends → i < length links → get_or ends i 0 ≡ unknown_mark → last ≢ unknown_mark →
+    marks_left links (set ends i last) (onward links i) < marks_left links ends i
+marks_fall links ends i last s f h unknown known =
+    let was : cond {A = ℕ} (eqb (get_or ends i 0) unknown_mark) 1 0 ≡ 1 = cond-true {A = ℕ} _ 1 0 (eq-eqb _ _ unknown) in
+    elim (cases_eq (onward links i) i) [
+      | inl e ↦ (let now : cond {A = ℕ} (eqb (get_or (set ends i last) (onward links i) 0) unknown_mark) 1 0 ≡ 0 =
+          cond-false {A = ℕ} _ 1 0 (ne_eqb _ _ (λ u. known (sym (ap (λ n. get_or (set ends i last) n 0) e ∙ get_or-set_same ends i last 0 (omega (arith, f.size, h))) ∙ u))) in
+          omega (arith, was, now, ap (moves_left links) e))
+      | inr on ↦ omega (arith, was, moves_fall links s i h on, bit_le (eqb (get_or (set ends i last) (onward links i) 0) unknown_mark))
+    ]
 
 -- one more end
 pub found_more : (links ends : List ℕ) (node end : ℕ) → AreFound links ends → node < length links → end ≡ end_of links node → AreFound links (set ends node end)

@@ -18,6 +18,7 @@ pub mod Piece
 pub mod Listed
 pub mod AmidLinks
 -- from tile to tile over the rims
+pub mod RimCells
 pub mod RimFlows
 pub mod RimTotals
 pub mod RimInflows

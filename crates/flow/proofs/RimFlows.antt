@@ -1,15 +1,15 @@
 -- The exits that lead into other tiles, and where their water ends.
-use Rattle.std.proofs.Common.{◌≡◌, ◌≢◌, ℕ, zero, suc, ◌+◌, ◌<◌, ◌⊎◌, inl, inr, true, false, cond, eqb, not, ◌&&◌, List, length, get_or, Option, None, Some, IfSome, is_some, slice_get, unwrap_or, sym, ap, subst, refl, ◌∙◌, arith}
+use Rattle.std.proofs.Common.{◌≡◌, ◌≢◌, ℕ, zero, suc, ◌+◌, ◌*◌, ◌/◌, ◌%◌, ◌<◌, ◌⊎◌, inl, inr, true, false, cond, eqb, List, length, get_or, Option, None, Some, IfSome, is_some, slice_get, unwrap_or, sym, ap, subst, refl, ◌∙◌, arith}
 use Rattle.std.specs.Option.{option_and_then}
-use Rattle.std.proofs.lemmas.Bool.{cases_eq, cases_lt, cases_Bool, and_from, and_parts, eq-eqb, eqb-true, lt-ltb, ltb-true, cond-true, cond-false, not_from_false, not-true, false_from_ne_true, false≢true}
+use Rattle.std.proofs.lemmas.Bool.{cases_eq, cases_lt, cases_Bool, eqb-true, cond-true, cond-false, false_from_ne_true, false≢true}
 use Rattle.std.proofs.lemmas.List.{get_or_default, get_or_past}
 use Rattle.std.proofs.lemmas.List.FromFn.{get_or-map-range_with_len, length-map-range_with_len}
-use Rattle.std.proofs.lemmas.Option.{slice_get_cases, slice_get_read, MatchOption-at_none, MatchOption-at_some, none-some, same_Some}
+use Rattle.std.proofs.lemmas.Option.{slice_get_cases, slice_get_read, slice_get_within, MatchOption-at_none, MatchOption-at_some, none-some, same_Some}
 use Rattle.terrain.specs.Neighbours.{Touches, is_place}
 use Rattle.terrain.specs.Ways.{place_toward, place_on, way_of, ways_from}
 use Rattle.terrain.specs.declared.place.Place.{Place}
 use Rattle.tiles.specs.declared.bounds.Bounds.{Bounds}
-use Rattle.tiles.specs.Cutting.{Cutting, IsWithin, IsInBounds, is_within, tile_count, bounds_of, tile_of_place, is_in_bounds, entry_in}
+use Rattle.tiles.specs.Cutting.{Cutting, IsWithin, IsInTile, IsInBounds, tile_count, bounds_of, tile_of_place, is_in_bounds, entry_in}
 use Rattle.tiles.proofs.Cut.{in_bounds, in_tile, tile_of_place_below, in_bounds_parts, in_bounds_from}
 use Rattle.terrain.proofs.EightWays.{Touches-from_ways}
 use Rattle.drainage.specs.Following.{Directed, code_at, next, follow, moves, last_of, IsOutlet}
@@ -17,13 +17,15 @@ use Rattle.terrain.proofs.Listed.{is_place_from, place_is}
 use Rattle.flow.specs.Streams.{AreStreams, AreEnds, onward, node_after, end_of}
 use Rattle.flow.specs.TileFlow.{Flow, stays, exit_in, IsTileExits, IsExitOf, IsExitCell}
 use Rattle.flow.specs.Whole.{is_outlet_code}
-use Rattle.tiles.specs.RimNumbers.{number_count, rim_number, rim_place}
-use Rattle.flow.specs.RimGraph.{code_in, AreFlowsOf, stands_for, next_by, exit_by, target_by, targets_by, way_out_in, way_out_by, number_or, rim_link, rim_links_by, rim_outlet, rim_outlets_by, outlet_by, AreOutlets}
+use Rattle.tiles.specs.RimNumbers.{stride, side_number, number_count, rim_number, rim_place}
+use Rattle.flow.specs.RimGraph.{code_in, AreFlowsOf, exit_by, side_cell, next_in, target_in, target_by, targets_by, way_out_in, way_out_by, number_or, rim_link, rim_links_by, rim_outlet, rim_outlets_by, outlet_by, AreOutlets}
 use Rattle.flow.proofs.Windows.{every_in_range}
 use Rattle.flow.proofs.Ending.{IsStop, streams_from, node_after-first, node_after-inside}
 use Rattle.terrain.proofs.Options.{cases_option}
 use Rattle.flow.proofs.Coded.{IsCoded, cases_coded, coded_along, coded_inside, coded_from_some, none_stays, outlet_stays, follow_stays, follow_more, follow_first, StopsAt, stops_sooner, cycle_stops}
-use Rattle.tiles.proofs.RimNumbered.{IsSide, number_below, number_back}
+use Rattle.tiles.proofs.RimNumbered.{IsSide, side_back, side_below, no_wider, no_higher, number_below, number_back}
+use Rattle.flow.proofs.RimCells.{IsCellOf, cell_from, cell_at, number_from_side}
+use Rattle.std.proofs.lemmas.Nat.{div-mul-add, mod-mul-add, div-add-mod'}
 
 pub outlet_from_code : (o : Option ℕ) → is_outlet_code o ≡ true → o ≡ Some 0
 outlet_from_code None h = cc
@@ -34,15 +36,6 @@ pub read_of_tile : {X : Type 0} (read : Flow → Option X) (t : Cutting) (flows 
     length flows ≡ tile_count t → tile ≡ tile_of_place t p → tile < tile_count t → flow ≡ get_or flows tile flow → x ≡ read flow → x ≡ option_and_then read (slice_get flows (tile_of_place t p))
 read_of_tile read t flows p tile flow x count at below is value =
     value ∙ ap (option_and_then read) (sym (slice_get_read flows (length flows) tile flow refl (omega (arith, below, count)) is) ∙ ap (slice_get flows) at)
-
-pub target_read : (t : Cutting) (flows : List Flow) (i tile : ℕ) (p q : Place) (b : Bounds) → p ≡ rim_place t i → tile ≡ tile_of_place t p → b ≡ bounds_of t tile → q ≡ next_by t flows p →
-    target_by t flows i ≡ cond (stands_for t p i && not (is_in_bounds b q)) (Some q) None
-target_read t flows i tile p q b at of bounds next = cc
-
-pub stands_within : (t : Cutting) (p : Place) (i : ℕ) → true ≡ stands_for t p i → IsWithin t p
-stands_within t p i stands =
-    let within = and_parts _ _ (and_parts _ _ (sym stands)).0 in
-    (ltb-true _ _ within.0, ltb-true _ _ within.1)
 
 -- a code points to a place beside
 toward_touches : (p q : Place) (code : ℕ) → place_toward code p ≡ Some q → Touches p q
@@ -71,6 +64,16 @@ targets_size t flows targets made = ap length made ∙ length-map-range_with_len
 pub target_listed : (t : Cutting) (flows : List Flow) (targets : List (Option Place)) → targets ≡ targets_by t flows → (i : ℕ) → i < number_count t → get_or targets i None ≡ target_by t flows i
 target_listed t flows targets made i h =
     ap (λ l. get_or l i None) made ∙ get_or-map-range_with_len (target_by t flows) 0 (number_count t) i i None h (omega arith)
+
+-- the target of a tile's own number
+pub target_in_tile : (t : Cutting) (flows : List Flow) (tile side : ℕ) (f : Flow) → side < stride (bounds_of t 0) → slice_get flows tile ≡ Some f →
+    target_by t flows (tile * stride (bounds_of t 0) + side) ≡ target_in (bounds_of t 0) f side
+target_in_tile t flows tile side f below is =
+    let largest = bounds_of t 0 in
+    let number = tile * stride largest + side in
+    ap (λ n. option_and_then (λ (g : Flow). target_in largest g (number % stride largest)) (slice_get flows n)) (div-mul-add tile (stride largest) side below)
+    ∙ ap (λ n. option_and_then (λ (g : Flow). target_in largest g n) (slice_get flows tile)) (mod-mul-add tile (stride largest) side below)
+    ∙ ap (λ (o : Option Flow). option_and_then (λ (g : Flow). target_in largest g side) o) is
 
 module _ (d : Directed) (t : Cutting) (flows : List Flow) (s : AreFlowsOf d t flows) where
   pub within_of : (p : Place) → IsCoded d p → IsWithin t p
@@ -103,8 +106,8 @@ module _ (d : Directed) (t : Cutting) (flows : List Flow) (s : AreFlowsOf d t fl
       let f = flow_of p w in
       ap (λ (o : Option Flow). option_and_then (λ (x : Flow). entry_in x.bounds x.codes p) o) f.is ∙ f.right.same_codes p (w, refl)
 
-  pub next_here : (p : Place) → IsWithin t p → next_by t flows p ≡ next d p
-  next_here p w = ap (λ (o : Option ℕ). unwrap_or (option_and_then (λ code. place_toward code p) o) p) (code_here p w)
+  next_here : (tile : ℕ) (f : Flow) (p : Place) → IsTileExits d t tile f → IsInTile t tile p → next_in f p ≡ next d p
+  next_here tile f p right i = ap (λ (o : Option ℕ). unwrap_or (option_and_then (λ code. place_toward code p) o) p) (right.same_codes p i)
 
   -- a cell whose water goes on into another tile
   pub record Crosses (p : Place) : Type 0 where
@@ -135,52 +138,85 @@ module _ (d : Directed) (t : Cutting) (flows : List Flow) (s : AreFlowsOf d t fl
   pub back : (p : Place) → Crosses p → rim_place t (rim_number t p) ≡ p
   back p c = number_back t s.cutting p (within_of p c.coded) (on_side p c)
 
-  abbrev target_at : Place → ℕ → Option Place
-  target_at p i =
-      cond {A = Option Place} (is_within t p && eqb (rim_number t p) i && not (is_in_bounds (bounds_of t (tile_of_place t p)) (next_by t flows p))) (Some (next_by t flows p)) None
+  abbrev going_out : Flow → Place → Option Place
+  going_out f p = cond {A = Option Place} (is_in_bounds f.bounds (next_in f p)) None (Some (next_in f p))
 
   -- water that stays in the bounds stays in the tile
-  out_of_bounds : (p : Place) → Crosses p → is_in_bounds (bounds_of t (tile_of_place t p)) (next_by t flows p) ≡ false
+  out_of_bounds : (p : Place) → Crosses p → is_in_bounds (bounds_of t (tile_of_place t p)) (next d p) ≡ false
   out_of_bounds p c =
-      let w = within_of p c.coded in
-      false_from_ne_true _ (λ y. c.apart (in_tile t (tile_of_place t p) (next d p) s.cutting (tile_of_place_below t p s.cutting w)
-      (in_bounds_parts (bounds_of t (tile_of_place t p)) (next d p) (sym (ap (is_in_bounds (bounds_of t (tile_of_place t p))) (next_here p w)) ∙ y))).1)
+      let below = tile_of_place_below t p s.cutting (within_of p c.coded) in
+      false_from_ne_true _ (λ y. c.apart (in_tile t (tile_of_place t p) (next d p) s.cutting below (in_bounds_parts (bounds_of t (tile_of_place t p)) (next d p) y)).1)
 
   pub target_on : (p : Place) → Crosses p → target_by t flows (rim_number t p) ≡ Some (next d p)
   target_on p c =
       let w = within_of p c.coded in
-      ap (λ (q : Place). target_at q (rim_number t p)) (back p c)
-      ∙ cond-true {A = Option Place} _ _ _ (and_from _ _ (and_from _ _ (and_from _ _ (lt-ltb _ _ w.0) (lt-ltb _ _ w.1)) (eq-eqb _ _ refl)) (not_from_false _ (out_of_bounds p c)))
-      ∙ ap Some (next_here p w)
+      let f = flow_of p w in
+      let i = in_bounds t (tile_of_place t p) p s.cutting (w, refl) in
+      let wide = no_wider t s.cutting (tile_of_place t p) in
+      let high = no_higher t s.cutting (tile_of_place t p) in
+      let side : ℕ = side_number (bounds_of t 0) (bounds_of t (tile_of_place t p)) p in
+      let cell : side_cell (bounds_of t 0) f.flow.bounds side ≡ Some p =
+      ap (λ (b : Bounds). side_cell (bounds_of t 0) b side) f.right.bounds ∙ cell_at (bounds_of t 0) (bounds_of t (tile_of_place t p)) p i (side_back (bounds_of t 0) (bounds_of t (tile_of_place t p)) p wide high i (on_side p c)) in
+      let next_is = next_here (tile_of_place t p) f.flow p f.right (w, refl) in
+      let out : is_in_bounds f.flow.bounds (next_in f.flow p) ≡ false =
+      ap (is_in_bounds f.flow.bounds) next_is ∙ ap (λ (b : Bounds). is_in_bounds b (next d p)) f.right.bounds ∙ out_of_bounds p c in
+      target_in_tile t flows (tile_of_place t p) side f.flow (side_below (bounds_of t 0) (bounds_of t (tile_of_place t p)) p wide high i) f.is
+      ∙ ap (λ (o : Option Place). option_and_then (going_out f.flow) o) cell
+      ∙ cond-false {A = Option Place} _ None _ out
+      ∙ ap Some next_is
 
   pub record IsTarget (i : ℕ) (q : Place) : Type 0 where
     pub crosses : Crosses (rim_place t i)
     pub number : rim_number t (rim_place t i) ≡ i
     pub is : q ≡ next d (rim_place t i)
 
-  crosses_from : (p : Place) → IsWithin t p → is_in_bounds (bounds_of t (tile_of_place t p)) (next_by t flows p) ≡ false → Crosses p
-  crosses_from p w f =
-      let out : (IsInBounds (bounds_of t (tile_of_place t p)) (next d p) → ⊥) =
-      λ i. false≢true (sym f ∙ ap (is_in_bounds (bounds_of t (tile_of_place t p))) (next_here p w) ∙ in_bounds_from _ _ i) in
+  crosses_from : (tile : ℕ) (p : Place) → IsInTile t tile p → is_in_bounds (bounds_of t tile) (next d p) ≡ false → Crosses p
+  crosses_from tile p i f =
+      let out : (IsInBounds (bounds_of t tile) (next d p) → ⊥) = λ inside. false≢true (sym f ∙ in_bounds_from _ _ inside) in
       elim (cases_coded d p) [
-        | inl none ↦ absurd (out (subst (λ (q : Place). IsInBounds (bounds_of t (tile_of_place t p)) q) (sym (none_stays d p none)) (in_bounds t (tile_of_place t p) p s.cutting (w, refl))))
+        | inl none ↦ absurd (out (subst (λ (q : Place). IsInBounds (bounds_of t tile) q) (sym (none_stays d p none)) (in_bounds t tile p s.cutting i)))
         | inr is ↦ record {
           coded = is;
-          apart = λ same. out (in_bounds t (tile_of_place t p) (next d p) s.cutting (within_of (next d p) (coded_along d s.ends p is 1), same));
+          apart = λ same. out (in_bounds t tile (next d p) s.cutting (within_of (next d p) (coded_along d s.ends p is 1), same ∙ i.1));
         }
+      ]
+
+  target_of_cell : (i : ℕ) (p q : Place) → rim_place t i ≡ p → rim_number t p ≡ i → Crosses p → q ≡ next d p → IsTarget i q
+  target_of_cell i p q place number crosses is = record {
+    crosses = subst (λ (z : Place). Crosses z) (sym place) crosses;
+    number = ap (rim_number t) place ∙ number;
+    is = is ∙ ap (next d) (sym place);
+  }
+
+  -- a target is that of a cell of its tile
+  target_from_cell : (i : ℕ) (f : Flow) (p q : Place) → IsTileExits d t (i / stride (bounds_of t 0)) f → i / stride (bounds_of t 0) < tile_count t →
+      IsCellOf (bounds_of t 0) (bounds_of t (i / stride (bounds_of t 0))) (i % stride (bounds_of t 0)) p → going_out f p ≡ Some q → IsTarget i q
+  target_from_cell i f p q right below cell goes =
+      let here = in_tile t (i / stride (bounds_of t 0)) p s.cutting below cell.inside in
+      let next_is = next_here (i / stride (bounds_of t 0)) f p right here in
+      elim (cases_Bool (is_in_bounds f.bounds (next_in f p))) [
+        | inl y ↦ absurd (none-some q (sym (cond-true {A = Option Place} _ None _ y) ∙ goes))
+        | inr out ↦ target_of_cell i p q cell.place
+            (number_from_side t (i / stride (bounds_of t 0)) (i % stride (bounds_of t 0)) p here cell.number ∙ div-add-mod' i (stride (bounds_of t 0)))
+            (crosses_from (i / stride (bounds_of t 0)) p here
+            (sym (ap (is_in_bounds f.bounds) next_is ∙ ap (λ (b : Bounds). is_in_bounds b (next d p)) right.bounds) ∙ out))
+            (sym (same_Some _ _ (sym (cond-false {A = Option Place} _ None _ out) ∙ goes)) ∙ next_is)
       ]
 
   pub target_from : (i : ℕ) (q : Place) → target_by t flows i ≡ Some q → IsTarget i q
   target_from i q e =
-      elim (cases_Bool (is_within t (rim_place t i) && eqb (rim_number t (rim_place t i)) i && not (is_in_bounds (bounds_of t (tile_of_place t (rim_place t i))) (next_by t flows (rim_place t i))))) [
-        | inr f ↦ absurd (none-some q (sym (cond-false {A = Option Place} _ _ _ f) ∙ e))
-        | inl y ↦ (let a = and_parts _ _ y in let b = and_parts _ _ a.0 in let x = and_parts _ _ b.0 in
-            let w : IsWithin t (rim_place t i) = (ltb-true _ _ x.0, ltb-true _ _ x.1) in
-            record {
-              crosses = crosses_from (rim_place t i) w (not-true _ a.1);
-              number = eqb-true _ _ b.1;
-              is = sym (same_Some _ _ (sym (cond-true {A = Option Place} _ _ _ y) ∙ e)) ∙ next_here (rim_place t i) w;
-            })
+      let side : ℕ = i % stride (bounds_of t 0) in
+      elim (cases_option (slice_get flows (i / stride (bounds_of t 0)))) [
+        | inl none ↦ absurd (none-some q (sym (ap (λ (o : Option Flow). option_and_then (λ (f : Flow). target_in (bounds_of t 0) f side) o) none) ∙ e))
+        | inr f ↦ (let right = s.of_tiles.each (i / stride (bounds_of t 0)) f.0 f.1 in
+            let below : i / stride (bounds_of t 0) < tile_count t = omega (arith, slice_get_within flows _ f.0 f.1, s.of_tiles.count) in
+            let at : target_in (bounds_of t 0) f.0 side ≡ Some q = sym (ap (λ (o : Option Flow). option_and_then (λ (f : Flow). target_in (bounds_of t 0) f side) o) f.1) ∙ e in
+            elim (cases_option (side_cell (bounds_of t 0) f.0.bounds side)) [
+              | inl none ↦ absurd (none-some q (sym (ap (λ (o : Option Place). option_and_then (going_out f.0) o) none) ∙ at))
+              | inr p ↦ target_from_cell i f.0 p.0 q right below
+                  (cell_from (bounds_of t 0) (bounds_of t (i / stride (bounds_of t 0))) side p.0 (ap (λ (b : Bounds). side_cell (bounds_of t 0) b side) (sym right.bounds) ∙ p.1))
+                  (sym (ap (λ (o : Option Place). option_and_then (going_out f.0) o) p.1) ∙ at)
+            ])
       ]
 
   pub target_within : (i : ℕ) (q : Place) → target_by t flows i ≡ Some q → IsCoded d q × IsWithin t q

@@ -1,14 +1,14 @@
 -- Water that enters tiles over their rims. Only the contracts of private functions speak of it.
-use Rattle.std.specs.Prelude.{◌≡◌, ℕ, ◌+◌, ◌<◌, ◌==◌, ◌&&◌, if◌then◌else◌, List, map, length, Option, None, Some, slice_get, slice_index, slice_index_or, unwrap_or, option_and_then}
+use Rattle.std.specs.Prelude.{◌≡◌, ℕ, ◌+◌, ◌*◌, ◌<◌, ◌==◌, if◌then◌else◌, List, map, length, Option, None, Some, slice_get, slice_index, slice_index_or, unwrap_or, option_and_then}
 use Rattle.std.specs.List.{range_with_len}
 use Rattle.terrain.specs.declared.place.Place.{Place}
-use Rattle.tiles.specs.Cutting.{Cutting, IsWithin, tile_of_place}
+use Rattle.tiles.specs.Cutting.{Cutting, IsWithin, bounds_of, tile_of_place}
 use Rattle.drainage.specs.Following.{Directed}
 use Rattle.terrain.specs.Neighbours.{is_place}
 use Rattle.flow.specs.Streams.{sum_below}
 use Rattle.flow.specs.TileFlow.{Flow, through_in, inflow_of}
-use Rattle.tiles.specs.RimNumbers.{number_count, rim_number, rim_place}
-use Rattle.flow.specs.RimGraph.{target_by}
+use Rattle.tiles.specs.RimNumbers.{stride, number_count, rim_number, rim_place}
+use Rattle.flow.specs.RimGraph.{side_cell, target_by}
 
 -- how many other cells of its tile flow through a place
 abbrev pub through_by : Cutting → List Flow → Place → Option ℕ
@@ -54,6 +54,12 @@ pub record AreInflows (d : Directed) (t : Cutting) (l : Inflows) : Type 0 where
   pub size : length l.listed ≡ number_count t
   pub each : (p : Place) → IsWithin t p → listed_inflow l p ≡ inflow_of d t p
 
--- what a number adds to what flows in at a place
-abbrev pub adds : Cutting → List ℕ → ℕ → Place → ℕ
-adds t listed k p = if is_place (rim_place t k) p && rim_number t p == k then slice_index listed k else 0
+-- what the cell of a number adds to what flows in at a place
+abbrev pub adds_at : Option Place → ℕ → Place → ℕ
+adds_at None amount p = 0
+adds_at (Some q) amount p = if is_place q p then amount else 0
+
+abbrev pub adds : Cutting → List ℕ → ℕ → ℕ → Place → ℕ
+adds t listed tile side p =
+    let largest = bounds_of t 0 in
+    adds_at (side_cell largest (bounds_of t tile) side) (slice_index listed (tile * stride largest + side)) p

@@ -1,15 +1,16 @@
 -- The exits that lead into other tiles as nodes of a graph. Only the contracts of private functions speak of it.
-use Rattle.std.specs.Prelude.{◌≡◌, ℕ, Bool, true, not, ◌&&◌, ◌==◌, if◌then◌else◌, List, map, Option, None, Some, slice_get, slice_index, slice_index_or, unwrap_or, option_and_then}
+use Rattle.std.specs.Prelude.{◌≡◌, ℕ, Bool, true, ◌/◌, ◌%◌, ◌&&◌, ◌==◌, if◌then◌else◌, List, map, Option, None, Some, slice_get, slice_index, slice_index_or, unwrap_or, option_and_then}
 use Rattle.std.specs.List.{range_with_len}
 use Rattle.terrain.specs.Ways.{place_toward}
 use Rattle.terrain.specs.declared.place.Place.{Place}
-use Rattle.tiles.specs.Cutting.{Cutting, IsCutting, IsWithin, is_within, bounds_of, tile_of_place, is_in_bounds, entry_in}
+use Rattle.tiles.specs.declared.bounds.Bounds.{Bounds}
+use Rattle.tiles.specs.Cutting.{Cutting, IsCutting, IsWithin, bounds_of, tile_of_place, is_in_bounds, entry_in}
 use Rattle.drainage.specs.Following.{Directed, last_of}
 use Rattle.drainage.specs.Drained.{AllFlowEnds}
 use Rattle.terrain.specs.Neighbours.{is_place}
 use Rattle.flow.specs.TileFlow.{Flow, exit_in, IsTileExits, IsTileCounts, AreTileExits, IsExitCell}
 use Rattle.flow.specs.Whole.{is_outlet_code}
-use Rattle.tiles.specs.RimNumbers.{number_count, rim_number, rim_place}
+use Rattle.tiles.specs.RimNumbers.{stride, side_number, side_place, number_count, rim_number, rim_place}
 
 -- The flow that is found for a tile, with its counts where they are asked for.
 abbrev pub IsFound : Directed → Cutting → Bool → ℕ → Flow → Type 0
@@ -25,26 +26,36 @@ pub record AreFlowsOf (d : Directed) (t : Cutting) (flows : List Flow) : Type 0 
 abbrev pub code_in : Cutting → List Flow → Place → Option ℕ
 code_in t flows p = option_and_then (λ f. entry_in f.bounds f.codes p) (slice_get flows (tile_of_place t p))
 
--- what the flow of its tile has at a place: where its water goes next, and its exit
-abbrev pub next_by : Cutting → List Flow → Place → Place
-next_by t flows p = unwrap_or (option_and_then (λ code. place_toward code p) (code_in t flows p)) p
-
+-- the exit that the flow of its tile has at a place
 abbrev pub exit_by : Cutting → List Flow → Place → Option Place
 exit_by t flows p = option_and_then (λ f. exit_in f p) (slice_get flows (tile_of_place t p))
 
--- the place is in the grid, and this is its number
-abbrev pub stands_for : Cutting → Place → ℕ → Bool
-stands_for t p i = is_within t p && rim_number t p == i
+-- the cell of a tile that has this number among its sides, where one has
+abbrev pub side_cell : Bounds → Bounds → ℕ → Option Place
+side_cell largest b side =
+    let p = side_place largest b side in
+    if is_in_bounds b p && side_number largest b p == side then Some p else None
 
--- where the water of a number's cell enters another tile; None for a number that stands for no such cell
+-- where the water of a cell goes next, by the flow of its tile
+abbrev pub next_in : Flow → Place → Place
+next_in f p = unwrap_or (option_and_then (λ code. place_toward code p) (entry_in f.bounds f.codes p)) p
+
+-- where the water of the cell of a number enters another tile: of a tile's own number, and of one of all tiles
+abbrev pub target_in : Bounds → Flow → ℕ → Option Place
+target_in largest f side =
+    option_and_then (λ p. if is_in_bounds f.bounds (next_in f p) then None else Some (next_in f p))
+    (side_cell largest f.bounds side)
+
 abbrev pub target_by : Cutting → List Flow → ℕ → Option Place
 target_by t flows i =
-    let p = rim_place t i in
-    if stands_for t p i && not (is_in_bounds (bounds_of t (tile_of_place t p)) (next_by t flows p))
-    then Some (next_by t flows p) else None
+    let largest = bounds_of t 0 in
+    option_and_then (λ f. target_in largest f (i % stride largest)) (slice_get flows (i / stride largest))
+
+abbrev pub first_targets : Cutting → List Flow → ℕ → List (Option Place)
+first_targets t flows count = map (target_by t flows) (range_with_len 0 count)
 
 abbrev pub targets_by : Cutting → List Flow → List (Option Place)
-targets_by t flows = map (target_by t flows) (range_with_len 0 (number_count t))
+targets_by t flows = first_targets t flows (number_count t)
 
 -- where water that enters a tile at a place leaves it again; None where it ends in the tile
 abbrev pub way_out_in : Flow → Place → Option Place

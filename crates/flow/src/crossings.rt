@@ -2,18 +2,19 @@
 //!
 //! For each rim cell: the place of another tile that its water enters, and the exit by which it
 //! leaves that tile.
-ghost use Rattle.std.specs.Prelude.{◌≡◌, ◌<◌, length, IfOk};
-ghost use Rattle.tiles.specs.Cutting.{IsCutting, IsWithin, tile_count};
+ghost use Rattle.std.specs.Prelude.{◌≡◌, ◌+◌, ◌*◌, ◌<◌, ◌≤◌, length, IfOk, OnOk};
+ghost use Rattle.tiles.specs.Cutting.{IsCutting, IsWithin, IsWithinLimits, bounds_of, tile_count};
 ghost use Rattle.drainage.specs.Following.{Directed};
-ghost use Rattle.tiles.specs.RimNumbers.{number_count};
-ghost use Rattle.flow.specs.RimGraph.{code_in, AreFlowsOf, target_by, targets_by, way_out_by, rim_link, rim_links_by, next_by, stands_for};
+ghost use Rattle.tiles.specs.RimNumbers.{number_count, stride};
+ghost use Rattle.flow.specs.RimGraph.{code_in, AreFlowsOf, target_in, first_targets, targets_by, way_out_by, rim_link, rim_links_by};
 
 use crate::cells::next_of;
+use crate::rim::side_cell;
 use crate::tile::TileFlow;
 use drainage::Code;
 use std::alloc::{AllocError, Global};
 use terrain::Place;
-use tiles::Tiling;
+use tiles::{Bounds, Tiling};
 
 /// Of each number of a rim cell: the place of another tile that its water enters, and the number of the exit over
 /// which it leaves that tile again.
@@ -40,24 +41,6 @@ impl Crossings {
     }
 }
 
-/// Whether a place is in the grid and has this number.
-#[inline(always)]
-pub(crate) fn stands_for(tiling: &Tiling, place: Place, number: u32) -> bool
-    ensures { result ≡ stands_for tiling.now place number }
-{
-    place.row < tiling.rows() && place.col < tiling.cols() && tiling.rim_number(place) == number
-}
-
-/// Where the water of a place goes on.
-#[inline(always)]
-fn next_from(tiling: &Tiling, flows: &[TileFlow], place: Place) -> Place
-    requires count { length flows.now ≡ tile_count tiling.now }
-    requires within { IsWithin tiling.now place }
-    ensures { result ≡ next_by tiling.now flows.now place }
-{
-    next_of(code_of(tiling, flows, place), place)
-}
-
 #[inline(always)]
 pub(crate) fn code_of(tiling: &Tiling, flows: &[TileFlow], place: Place) -> Option<Code>
     requires count { length flows.now ≡ tile_count tiling.now }
@@ -77,26 +60,46 @@ fn way_out(tiling: &Tiling, flows: &[TileFlow], entry: Place) -> Option<Place>
     flows[tiling.tile_of(entry) as usize].way_out(entry)
 }
 
-/// Where the water of a number's cell enters another tile; None for a number that stands for no such cell.
-fn target_of(tiling: &Tiling, flows: &[TileFlow], number: u32) -> Option<Place>
-    requires count { length flows.now ≡ tile_count tiling.now }
-    requires number { number < number_count tiling.now }
-    ensures { result ≡ target_by tiling.now flows.now number }
+/// Where the water of the cell with this number among a tile's sides enters another tile.
+#[inline(always)]
+fn target_of(largest: Bounds, flow: &TileFlow, side: u32) -> Option<Place>
+    requires largest { IsWithinLimits largest }
+    requires some_row { 1 ≤ flow.now.bounds.rows }
+    requires side { side < stride largest }
+    ensures { result ≡ target_in largest flow.now side }
 {
-    let place = tiling.rim_place(number);
-    if !stands_for(tiling, place, number) {
-        return None;
-    }
-    let next = next_from(tiling, flows, place);
-    if tiling.bounds(tiling.tile_of(place)).contains(next) {
+    let bounds = flow.bounds();
+    let place = side_cell(largest, bounds, side)?;
+    let next = next_of(flow.code(place), place);
+    if bounds.contains(next) {
         None
     } else {
         Some(next)
     }
 }
 
+/// Adds where the water of each number's cell of a tile enters another one.
+fn push_targets(
+    targets: &mut Vec<Option<Place>>,
+    tiling: &Tiling,
+    flows: &[TileFlow],
+    tile: u32,
+) -> Result<(), AllocError>
+    requires flows { (d : Directed) × AreFlowsOf d tiling.now flows.now }
+    requires tile { tile < tile_count tiling.now }
+    requires targets { targets.old.items ≡ first_targets tiling.now flows.now (tile * stride (bounds_of tiling.now 0)) }
+    ensures { OnOk result
+        (targets.new.items ≡ first_targets tiling.now flows.now ((tile + 1) * stride (bounds_of tiling.now 0))) }
+{
+    let largest = tiling.bounds(0);
+    let flow = &flows[tile as usize];
+    for side in 0..largest.side_count() {
+        targets.push(target_of(largest, flow, side))?;
+    }
+    Ok(())
+}
+
 /// Where the water of each number's cell enters another tile.
-#[tactic(auto, using(crate::proofs::Windows::mapped_next))]
 fn rim_targets(
     alloc: Global,
     tiling: &Tiling,
@@ -105,10 +108,9 @@ fn rim_targets(
     requires { (d : Directed) × AreFlowsOf d tiling.now flows.now }
     ensures { IfOk result (λ v. v.items ≡ targets_by tiling.now flows.now) }
 {
-    let count = tiling.number_count();
-    let mut targets = Vec::with_capacity(alloc, count as usize)?;
-    for number in 0..count {
-        targets.push(target_of(tiling, flows, number))?;
+    let mut targets = Vec::with_capacity(alloc, tiling.number_count() as usize)?;
+    for tile in 0..tiling.tiles() {
+        push_targets(&mut targets, tiling, flows, tile)?;
     }
     Ok(targets)
 }

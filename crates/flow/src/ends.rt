@@ -62,12 +62,8 @@ pub(crate) fn end_of(links: &[u32], from: usize) -> u32
     ensures { result ≡ end_of links.now from }
 {
     let mut node = from;
-    'path: for _ in 0..links.len() {
-        let next = links[node];
-        if next as usize == node {
-            return next;
-        }
-        node = next as usize;
+    'path: while links[node] as usize != node {
+        node = links[node] as usize;
     }
     node as u32
 }
@@ -82,17 +78,14 @@ fn end_from(links: &[u32], ends: &[u32], from: usize) -> u32
     ensures { result ≡ end_of links.now from }
 {
     let mut node = from;
-    'path: for _ in 0..links.len() {
-        if ends[node] != UNKNOWN {
-            return ends[node];
-        }
+    'path: while ends[node] == UNKNOWN {
         let next = links[node];
         if next as usize == node {
             return next;
         }
         node = next as usize;
     }
-    node as u32
+    ends[node]
 }
 
 /// Marks the nodes of a path with its end, up to the first that is known.
@@ -107,10 +100,7 @@ fn mark_path(links: &[u32], ends: &mut [u32], from: usize, last: u32)
     ensures marked { IsKnown ends.new from }
 {
     let mut node = from;
-    'path: for _ in 0..links.len() {
-        if ends[node] != UNKNOWN {
-            return;
-        }
+    'path: while ends[node] == UNKNOWN {
         ends[node] = last;
         node = links[node] as usize;
     }

@@ -1,18 +1,19 @@
 //! How many cells' water enters each tile, at which rim cell.
-ghost use Rattle.std.specs.Prelude.{◌≡◌, ◌+◌, ◌*◌, ◌^◌, ◌<◌, ◌&&◌, ℕ, None, length, slice_index, slice_index_or, IfOk, IfSome};
+ghost use Rattle.std.specs.Prelude.{◌≡◌, ◌+◌, ◌*◌, ◌^◌, ◌<◌, ℕ, None, length, slice_index, slice_index_or, IfOk, IfSome};
 ghost use Rattle.terrain.specs.declared.place.Place.{Place as AtPlace};
-ghost use Rattle.tiles.specs.Cutting.{AreBounds, IsInBounds, IsWithin, bounds_of, cell_count, tile_count, is_in_bounds, index_in};
+ghost use Rattle.tiles.specs.Cutting.{IsInBounds, IsWithin, bounds_of, cell_count, tile_count, index_in};
 ghost use Rattle.drainage.specs.Following.{Directed};
 ghost use Rattle.flow.specs.Streams.{sum_below};
 ghost use Rattle.flow.specs.Sending.{AreNone};
 ghost use Rattle.flow.specs.TileFlow.{AreTileCounts};
 ghost use Rattle.flow.specs.TileLinks.{IsSmall};
 ghost use Rattle.tiles.specs.RimNumbers.{number_count};
-ghost use Rattle.flow.specs.RimGraph.{AreFlowsOf, rim_links_by, stands_for, targets_by};
-ghost use Rattle.flow.specs.Inflows.{AreEntering, AreInflows, adds, entering, inflow_by, listed_inflow, rim_weight, rim_weights_by, sent_to, through_by};
+ghost use Rattle.flow.specs.RimGraph.{AreFlowsOf, rim_links_by, targets_by};
+ghost use Rattle.flow.specs.Inflows.{AreEntering, AreInflows, adds_at, entering, inflow_by, listed_inflow, rim_weight, rim_weights_by, sent_to, through_by};
 
 use crate::cells::is_place;
-use crate::crossings::{Crossings, stands_for};
+use crate::crossings::Crossings;
+use crate::rim::side_cell;
 use crate::streams::{upstream, zeros};
 use crate::tile::TileFlow;
 use std::alloc::{AllocError, Global};
@@ -105,38 +106,30 @@ fn add_all(tiling: &Tiling, listed: &[u32], tile: u32, weights: &mut [u32])
         slice_index weights.new (index_in (bounds_of tiling.now tile) p)
         ≡ slice_index weights.old (index_in (bounds_of tiling.now tile) p) + inflow_by tiling.now listed.now p }
 {
+    let largest = tiling.bounds(0);
     let bounds = tiling.bounds(tile);
     let (first, count) = tiling.numbers_of(tile);
     for side in 0..count {
-        add_one(tiling, listed, bounds, first + side, weights);
+        let amount = listed[(first + side) as usize];
+        add_at(side_cell(largest, bounds, side), amount, bounds, weights);
     }
 }
 
-/// Adds what a number adds to the weight of its cell.
-fn add_one(tiling: &Tiling, listed: &[u32], bounds: Bounds, number: u32, weights: &mut [u32])
-    requires number { number < number_count tiling.now }
-    requires listed { length listed.now ≡ number_count tiling.now }
+/// Adds an amount to the weight of a cell, if there is one.
+#[inline(always)]
+fn add_at(cell: Option<Place>, amount: u32, bounds: Bounds, weights: &mut [u32])
     requires small { IsSmall bounds }
-    requires inside { AreBounds tiling.now bounds }
+    requires inside { IfSome cell (IsInBounds bounds) }
     requires size { length weights.old ≡ bounds.rows * bounds.cols }
     requires fits { (p : AtPlace) → IsInBounds bounds p →
-        slice_index weights.old (index_in bounds p) + adds tiling.now listed.now number p < 2 ^ 32 }
+        slice_index weights.old (index_in bounds p) + adds_at cell amount p < 2 ^ 32 }
     ensures size { length weights.new ≡ length weights.old }
     ensures each { (p : AtPlace) → IsInBounds bounds p →
-        slice_index weights.new (index_in bounds p) ≡ slice_index weights.old (index_in bounds p) + adds tiling.now listed.now number p }
+        slice_index weights.new (index_in bounds p) ≡ slice_index weights.old (index_in bounds p) + adds_at cell amount p }
 {
-    let place = tiling.rim_place(number);
-    if stands_in(tiling, bounds, place, number) {
-        weights[bounds.index_of(place)] += listed[number as usize];
+    if let Some(place) = cell {
+        weights[bounds.index_of(place)] += amount;
     }
-}
-
-#[inline(always)]
-fn stands_in(tiling: &Tiling, bounds: Bounds, place: Place, number: u32) -> bool
-    requires { IsSmall bounds }
-    ensures { result ≡ (stands_for tiling.now place number && is_in_bounds bounds place) }
-{
-    stands_for(tiling, place, number) && bounds.contains(place)
 }
 
 /// How many cells of its tile flow through the place, itself left out.

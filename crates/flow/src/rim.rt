@@ -1,15 +1,36 @@
-//! Where the paths of a tile's rim cells end inside it.
-ghost use Rattle.std.specs.Prelude.{◌≡◌, ◌*◌, ◌^◌, ◌≤◌, length, IfOk};
-ghost use Rattle.tiles.specs.Cutting.{IsInBounds, index_in};
+//! The cells on a tile's rim, and where their paths end inside it.
+ghost use Rattle.std.specs.Prelude.{◌≡◌, ◌*◌, ◌^◌, ◌<◌, ◌≤◌, length, IfOk, IfSome};
+ghost use Rattle.tiles.specs.Cutting.{IsInBounds, IsWithinLimits, index_in};
+ghost use Rattle.tiles.specs.RimNumbers.{stride};
 ghost use Rattle.flow.specs.Streams.{AreStreams, end_of};
 ghost use Rattle.flow.specs.Finding.{AreFound};
 ghost use Rattle.flow.specs.TileLinks.{IsSmall, rim_ends_by};
+ghost use Rattle.flow.specs.RimGraph.{side_cell};
 
 use crate::cells::is_place;
 use crate::ends::{end_of, find_end, unknown_ends};
 use std::alloc::{AllocError, Global};
 use terrain::Place;
 use tiles::Bounds;
+
+/// The cell of a tile that has this number among its sides, where one has: a corner has two, and a tile
+/// may be smaller than the largest.
+#[inline(always)]
+pub(crate) fn side_cell(largest: Bounds, bounds: Bounds, side: u32) -> Option<Place>
+    requires largest { IsWithinLimits largest }
+    requires limits { IsWithinLimits bounds }
+    requires some { (1 ≤ bounds.rows) × (1 ≤ bounds.cols) }
+    requires side { side < stride largest }
+    ensures value { result ≡ side_cell largest bounds side }
+    ensures inside { IfSome result (IsInBounds bounds) }
+{
+    let place = bounds.side_place(largest, side);
+    if bounds.contains(place) && bounds.side_number(largest, place) == side {
+        Some(place)
+    } else {
+        None
+    }
+}
 
 /// Where the path of each cell on the rim of a tile ends in it, by the numbers of its sides.
 pub(crate) fn rim_ends(alloc: Global, bounds: Bounds, links: &[u32]) -> Result<Vec<u32>, AllocError>

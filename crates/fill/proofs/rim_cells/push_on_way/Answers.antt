@@ -1,11 +1,14 @@
-use Rattle.std.proofs.Common.{◌+◌, inl, sym, refl, ap, ◌∙◌, arith}
+use Rattle.std.proofs.Common.{◌+◌, inl, inr, sym, refl, ap, subst, ◌∙◌, arith, List, Option}
 use Rattle.std.proofs.lemmas.Bool.{OnTrue_at}
 use Rattle.std.proofs.lemmas.Option.{same_Some}
 use Rattle.std.proofs.lemmas.Result.{on_ok_weaker}
 use Rattle.terrain.proofs.Options.{none_some}
 use Rattle.terrain.specs.Ways.{place_on}
-use Rattle.fill.specs.Gathering.{IsPairOn, Spared}
-use Rattle.fill.proofs.Adding.{adds_none, adds_on_way, adds_spared, next_row, spared_corner}
+use Rattle.terrain.specs.declared.place.Place.{Place}
+use Rattle.fill.specs.Gathering.{AddsCovered, IsPairOn, Spared}
+use Rattle.fill.specs.declared.spills.Join.{Join}
+use Rattle.fill.specs.declared.marks.Mark.{Mark}
+use Rattle.fill.proofs.Adding.{adds_none, adds_nothing, adds_on_way, adds_spared, next_row, same_col, spared_corner}
 use Rattle.fill.proofs.rim_cells.push_on_way.Goals as goal
 
 pub returns-in_default : goal.returns-in_default
@@ -20,18 +23,12 @@ returns-then-not-is_wanted g c =
     let same = same_Some c.in-Some.near r (sym (sym c.place_on.ensures ∙ c.in-Some.is) ∙ at.1) in
     absurd (cc (c.if-not-is_wanted.ensures ∙ ap (g.C.KnownCells.wanted c.args.cells.now) same ∙ at.2)))
 
-pub returns-then-is_spared : goal.returns-then-is_spared
-returns-then-is_spared g c =
-    let marks = g.C.KnownCells.marks c.args.cells.now in
-    let wanted = g.C.KnownCells.wanted c.args.cells.now in
+-- the cell below
+pub returns-then-near-place : goal.returns-then-near-place
+returns-then-near-place g c =
     let on = sym c.place_on.ensures ∙ c.in-Some.is in
-    let row = next_row c.args.place c.in-Some.near c.args.way c.requires.after on (λ e. c.if-near-place.true (sym e)) in
-    adds_spared marks c.args.left_out.now c.args.place c.in-Some.near c.args.way wanted _ on
-    (spared_corner marks c.args.left_out.now c.args.place c.in-Some.near (record { row = c.args.place.row + 1; col = c.args.place.col }) c.args.from c.args.below c.mark-to.result
-    (inl (sym row, refl)) c.requires.from c.requires.below c.mark-to.ensures row
-    (λ e. c.if-near-place-2.true (sym e)) (OnTrue_at c.if-is_spared.true c.is_spared.ensures))
-
-pub returns : goal.returns
-returns g c = on_ok_weaker _ (λ added.
+    let is_below = same_col c.args.place c.in-Some.near c.args.way c.requires.after on c.if-near-place.true in
+    on_ok_weaker _ (λ added.
     adds_on_way (g.C.KnownCells.marks c.args.cells.now) c.args.left_out.now c.args.place c.in-Some.near c.args.way (g.C.KnownCells.wanted c.args.cells.now) c.args.from _ _ _
-    c.requires.from (sym c.mark-to.ensures) (omega (arith, c.requires.after)) (sym c.place_on.ensures ∙ c.in-Some.is) (sym c.is_wanted.ensures ∙ cc c.if-not-is_wanted.false) added) (rw (ap (λ (z : Spared). z.sources) c.left_out.view_is) at c.push_join.ensures)
+    c.requires.from (ap (g.C.KnownCells.marks c.args.cells.now) is_below ∙ sym c.requires.below) (omega (arith, c.requires.after)) on
+    (sym c.is_wanted.ensures ∙ cc c.if-not-is_wanted.false) added) (rw (ap (λ (z : Spared). z.sources) c.left_out.view_is) at c.push_join.ensures)

@@ -1,7 +1,8 @@
-use Rattle.std.proofs.Common.{◌≡◌, map}
-use Rattle.std.specs.List.{range_with_len}
-use Rattle.flow.specs.RimGraph.{target_by}
+use Rattle.std.proofs.Common.{◌≡◌, ◌*◌}
+use Rattle.tiles.specs.Cutting.{bounds_of}
+use Rattle.tiles.specs.RimNumbers.{stride}
+use Rattle.flow.specs.RimGraph.{first_targets}
 use Rattle.flow.proofs.crossings.rim_targets.Given as goal
 
-abbrev pub invariant-loop-number : goal.invariant-loop-number
-invariant-loop-number l = l.targets.items ≡ map (target_by l.tiling l.flows) (range_with_len 0 l.number)
+abbrev pub invariant-loop-tile : goal.invariant-loop-tile
+invariant-loop-tile l = l.targets.items ≡ first_targets l.tiling l.flows (l.tile * stride (bounds_of l.tiling 0))

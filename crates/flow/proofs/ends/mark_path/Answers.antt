@@ -1,6 +1,6 @@
 use Rattle.std.proofs.Common.{◌≢◌, ℕ, ◌<◌, inl, inr, length, set, subst, sym, refl, ◌∙◌, arith}
 use Rattle.flow.specs.Finding.{IsKnown, unknown_mark}
-use Rattle.flow.proofs.Ending.{found_more, known_same, known_still, end-onward, end-inside}
+use Rattle.flow.proofs.Ending.{found_more, known_same, known_still, end-onward, end-inside, marks_fall}
 use Rattle.flow.proofs.ends.mark_path.Goals as goal
 
 pub path-init : goal.path-init
@@ -9,7 +9,7 @@ path-init c = record {
   inside = c.requires.inside;
   last = c.requires.last;
   kept = λ i k. k;
-  marked = inl (refl, refl);
+  marked = inl refl;
 }
 
 pub path-preserved : goal.path-preserved
@@ -22,7 +22,18 @@ path-preserved c =
       last = c.path.invariant.last ∙ sym (end-onward c.args.links.now c.requires.streams c.path.node c.path.invariant.inside);
       kept = λ i k. known_still c.path.ends c.path.node c.args.last at ne i (c.path.invariant.kept i k);
       marked = inr (elim c.path.invariant.marked [
-        | inl b ↦ subst (λ (n : ℕ). IsKnown (set c.path.ends c.path.node c.args.last) n) b.1 (known_same c.path.ends c.path.node c.args.last at ne)
+        | inl b ↦ subst (λ (n : ℕ). IsKnown (set c.path.ends c.path.node c.args.last) n) b (known_same c.path.ends c.path.node c.args.last at ne)
         | inr k ↦ known_still c.path.ends c.path.node c.args.last at ne c.args.from k
       ]);
     }
+
+pub path-smaller : goal.path-smaller
+path-smaller c =
+    let ne : c.args.last ≢ unknown_mark = λ e. omega (arith, e, c.requires.last, end-inside c.args.links.now c.requires.streams c.args.from c.requires.inside, c.requires.few) in
+    marks_fall c.args.links.now c.path.ends c.path.node c.args.last c.requires.streams c.path.invariant.found c.path.invariant.inside c.path-test.true ne
+
+pub returns-clause-marked : goal.returns-clause-marked
+returns-clause-marked c = elim c.path.invariant.marked [
+  | inl here ↦ subst (λ (n : ℕ). IsKnown c.path.ends n) here c.path-test.false
+  | inr known ↦ known
+]

@@ -1,23 +1,29 @@
-use Rattle.std.proofs.Common.{◌∙◌, arith}
+use Rattle.std.proofs.Common.{◌+◌, get_or, ap, ◌∙◌, arith}
+use Rattle.tiles.specs.declared.bounds.Bounds.{Bounds}
+use Rattle.flow.specs.RimGraph.{side_cell}
 use Rattle.flow.proofs.Piece.{small_bounds}
 use Rattle.flow.proofs.RimAdded.{adds_fit, adds_more, adds_done}
 use Rattle.flow.proofs.inflows.add_all.Goals as goal
 
-pub add_one-requires-clause-small : goal.add_one-requires-clause-small
-add_one-requires-clause-small c = small_bounds c.args.tiling.now c.bounds-bounds.result c.bounds-bounds.ensures.lawful c.bounds-bounds.ensures.inside
+pub add_at-requires-clause-small : goal.add_at-requires-clause-small
+add_at-requires-clause-small c = small_bounds c.args.tiling.now c.bounds-bounds.result c.bounds-bounds.ensures.lawful c.bounds-bounds.ensures.inside
 
-pub add_one-requires-clause-fits : goal.add_one-requires-clause-fits
-add_one-requires-clause-fits c =
+pub add_at-requires-clause-fits : goal.add_at-requires-clause-fits
+add_at-requires-clause-fits c =
     adds_fit c.args.tiling.now c.bounds-bounds.ensures.lawful c.args.listed.now c.args.tile c.requires.tile c.args.weights.now
-    c.bounds-bounds.result c.bounds-bounds.ensures.value c.loop-side.weights c.numbers_of-first.result.0 c.loop-side.side c.numbers_of-first.ensures.first
-    (omega (arith, c.loop-side-test.true, c.numbers_of-first.ensures.count)) c.loop-side.invariant.each c.requires.fits
+    c.bounds-bounds.result c.bounds-bounds.ensures.value c.loop-side.weights c.loop-side.side c.side_cell.result _
+    (c.side_cell.ensures.value ∙ ap (λ (l : Bounds). side_cell l c.bounds-bounds.result c.loop-side.side) c.bounds-largest.ensures.value)
+    (ap (λ n. get_or c.args.listed.now (n + c.loop-side.side) 0) c.numbers_of-first.ensures.first)
+    (omega (arith, c.loop-side-test.true, c.loop-side.auto.side-end, c.numbers_of-first.ensures.count)) c.loop-side.invariant.each c.requires.fits
 
 pub loop-side-preserved : goal.loop-side-preserved
 loop-side-preserved c = record {
-  size = c.add_one.ensures.size ∙ c.loop-side.invariant.size;
+  size = c.add_at.ensures.size ∙ c.loop-side.invariant.size;
   each = adds_more c.args.tiling.now c.bounds-bounds.ensures.lawful c.args.listed.now c.args.tile c.requires.tile c.args.weights.now
-      c.bounds-bounds.result c.bounds-bounds.ensures.value c.loop-side.weights c.add_one.new.weights c.numbers_of-first.result.0 c.loop-side.side c.numbers_of-first.ensures.first
-      c.loop-side.invariant.each c.add_one.ensures.each;
+      c.bounds-bounds.result c.bounds-bounds.ensures.value c.loop-side.weights c.add_at.new.weights c.loop-side.side c.side_cell.result _
+      (c.side_cell.ensures.value ∙ ap (λ (l : Bounds). side_cell l c.bounds-bounds.result c.loop-side.side) c.bounds-largest.ensures.value)
+      (ap (λ n. get_or c.args.listed.now (n + c.loop-side.side) 0) c.numbers_of-first.ensures.first)
+      c.loop-side.invariant.each c.add_at.ensures.each;
 }
 
 pub returns-clause-each : goal.returns-clause-each

@@ -1,0 +1,42 @@
+-- The cells on the rim of a tile, by the numbers of its sides.
+use Rattle.std.proofs.Common.{◌≡◌, ℕ, ◌+◌, ◌*◌, ◌&&◌, inl, inr, true, eqb, Option, None, Some, ap, ◌∙◌, sym, subst, refl}
+use Rattle.std.proofs.lemmas.Bool.{cases_Bool, and_from, and_parts, eq-eqb, eqb-true, cond-true, cond-false}
+use Rattle.std.proofs.lemmas.Option.{none-some, same_Some}
+use Rattle.terrain.specs.declared.place.Place.{Place}
+use Rattle.tiles.specs.declared.bounds.Bounds.{Bounds}
+use Rattle.tiles.specs.Cutting.{Cutting, IsInTile, IsInBounds, bounds_of, is_in_bounds}
+use Rattle.tiles.specs.RimNumbers.{stride, side_number, side_place, rim_number}
+use Rattle.tiles.proofs.Cut.{in_bounds_parts, in_bounds_from}
+use Rattle.flow.specs.RimGraph.{side_cell}
+
+module _ (l b : Bounds) where
+  -- the cell of a number, and its number
+  pub record IsCellOf (side : ℕ) (p : Place) : Type 0 where
+    pub inside : IsInBounds b p
+    pub number : side_number l b p ≡ side
+    pub place : side_place l b side ≡ p
+
+  pub cell_from : (side : ℕ) (p : Place) → side_cell l b side ≡ Some p → IsCellOf side p
+  cell_from side p e = elim (cases_Bool (is_in_bounds b (side_place l b side) && eqb (side_number l b (side_place l b side)) side)) [
+    | inl y ↦ (let w = and_parts (is_in_bounds b (side_place l b side)) (eqb (side_number l b (side_place l b side)) side) y in
+        let place : side_place l b side ≡ p = same_Some _ _ (sym (cond-true {A = Option Place} _ _ None y) ∙ e) in
+        record {
+          inside = subst (λ (z : Place). IsInBounds b z) place (in_bounds_parts b (side_place l b side) w.0);
+          number = ap (side_number l b) (sym place) ∙ eqb-true _ _ w.1;
+          place = place;
+        })
+    | inr f ↦ absurd (none-some p (sym (cond-false {A = Option Place} _ _ None f) ∙ e))
+  ]
+
+  -- a place that is the cell of its number
+  pub cell_at : (p : Place) → IsInBounds b p → side_place l b (side_number l b p) ≡ p → side_cell l b (side_number l b p) ≡ Some p
+  cell_at p i back =
+      cond-true {A = Option Place} _ _ None
+      (ap (λ (q : Place). is_in_bounds b q && eqb (side_number l b q) (side_number l b p)) back ∙ and_from _ _ (in_bounds_from b p i) (eq-eqb _ _ refl))
+      ∙ ap Some back
+
+-- the number of a cell among those of all tiles
+pub number_from_side : (t : Cutting) (tile side : ℕ) (p : Place) → IsInTile t tile p → side_number (bounds_of t 0) (bounds_of t tile) p ≡ side →
+    rim_number t p ≡ tile * stride (bounds_of t 0) + side
+number_from_side t tile side p i e =
+    ap (λ n. n * stride (bounds_of t 0) + side_number (bounds_of t 0) (bounds_of t n) p) i.1 ∙ ap (λ n. tile * stride (bounds_of t 0) + n) e
