@@ -9,4 +9,4 @@ returns-in_default g c =
 pub returns : goal.returns
 returns g c =
     adds_four (g.C.KnownCells.marks c.args.cells.now) c.args.left_out.now c.args.place (g.C.KnownCells.wanted c.args.cells.now) _ _ _ _ _
-    c.in_ok-push_on_way.ensures c.in_ok-push_on_way-2.ensures c.in_ok-push_below.ensures c.in_ok-push_on_way-3.ensures
+    c.in_ok-push_on_way.ensures c.in_ok-push_on_way-2.ensures c.in_ok-push_on_way-3.ensures c.in_ok-push_on_way-4.ensures
