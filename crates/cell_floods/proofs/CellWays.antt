@@ -1,17 +1,18 @@
 -- The ways from a cell to those around it.
-use Rattle.std.proofs.Common.{◌≡◌, ℕ, ◌+◌, ◌-◌, ◌<◌, ◌⊎◌, inl, inr, ℤ, List, [], ◌∷◌, ◌++◌, length, get_or, take, Option, None, Some, ◌∙◌, sym, ap, subst, refl, arith}
+use Rattle.std.proofs.Common.{◌≡◌, ℕ, pos, map, ◌+◌, ◌-◌, ◌<◌, ◌⊎◌, inl, inr, ℤ, List, [], ◌∷◌, ◌++◌, length, get_or, take, Option, None, Some, ◌∙◌, sym, ap, subst, refl, arith}
 use Rattle.std.specs.Int.{int_max}
 use Rattle.std.specs.List.{Contains, All, filter_map, cons_option}
 use Rattle.std.proofs.lemmas.Option.{same_Some}
-use Rattle.std.proofs.lemmas.List.{take_more}
+use Rattle.std.proofs.lemmas.List.{take_more, get_or-map}
 use Rattle.std.proofs.lemmas.List.Elements.{filter_map-append, All-cons, All-nil, All-contains}
 use Rattle.floods.specs.declared.net.Spill.{Spill}
 use Rattle.floods.specs.Walk.{HasJust}
-use Rattle.cell_floods.specs.Cells.{Cells, cell_at, IsBeside, IsCellJoin, cells_around, way_to}
+use Rattle.cell_floods.specs.Cells.{Cells, cell_at, IsBeside, IsCellJoin, IsPassed, cells_around, way_to}
 use Rattle.std.specs.Prelude.{◌≤ℤ◌}
 use Rattle.std.proofs.lemmas.Int.{ints, clamps}
 use Rattle.floods.specs.declared.queue.Waiting.{Waiting}
 use Rattle.floods.specs.Flood.{entry_of, MakesWait, AreNoted, Follows}
+use Rattle.floods.specs.Notes.{height_or_lack}
 use Rattle.floods.specs.declared.queue.Waits.{Waits}
 use Rattle.floods.proofs.Noting.{passed_low, more_followed}
 use Rattle.floods.proofs.Noting.{no_ways as no_ways_yet}
@@ -131,9 +132,27 @@ pub crest_by : (other height level : ℤ) → int_max other (int_max height leve
 crest_by other height level = omega (arith, ints, clamps)
 
 -- a cell that has been noted as low needs no way
-pub no_higher_way : (cells : List (Option ℤ)) (labels : List (Option ℕ)) (levels : List (Option ℤ)) (from : Waiting) (to : ℕ) (height crest : ℤ) (waiting : List Waiting) → AreNoted labels levels waiting → ((h : ℤ) → get_or cells to None ≡ Some h → crest ≡ int_max h (int_max height from.height.0)) → (l : ℤ) × (entry_of levels to ≡ Some l) × (l ≤ℤ crest) → MakesWait labels from (cons_option (way_to cells height to) []) waiting waiting
+no_higher_way : (cells : List (Option ℤ)) (labels : List (Option ℕ)) (levels : List (Option ℤ)) (from : Waiting) (to : ℕ) (height crest : ℤ) (waiting : List Waiting) → AreNoted labels levels waiting → ((h : ℤ) → get_or cells to None ≡ Some h → crest ≡ int_max h (int_max height from.height.0)) → (l : ℤ) × (entry_of levels to ≡ Some l) × (l ≤ℤ crest) → MakesWait labels from (cons_option (way_to cells height to) []) waiting waiting
 no_higher_way cells labels levels from to height crest waiting noted is low = elim (cases_option (get_or cells to None)) [
   | inl none ↦ subst (λ o. MakesWait labels from (cons_option o []) waiting waiting) (sym (way_none cells height to none)) (no_ways_yet labels from waiting)
   | inr found ↦ subst (λ o. MakesWait labels from (cons_option o []) waiting waiting) (sym (way_some cells height to found.0 found.1))
       (passed_low labels levels from (record { to = to; height = int_max found.0 height }) waiting low.0 noted low.1 (trans _ _ _ low.2 (le_of_same _ _ (is found.0 found.1 ∙ crest_by found.0 height from.height.0))))
 ]
+
+-- and so does one that is passed
+pub passed_way : (cells : List (Option ℤ)) (labels : List (Option ℕ)) (levels : List (Option ℤ)) (heights : List ℤ) (from : Waiting) (to : ℕ) (height : ℤ) (waiting : List Waiting)
+    → AreNoted labels levels waiting → heights ≡ map height_or_lack levels → to < length levels
+    → IsPassed (get_or cells to None) (int_max height from.height.0) (get_or heights to (pos 0)) → MakesWait labels from (cons_option (way_to cells height to) []) waiting waiting
+passed_way cells labels levels heights from to height waiting noted stand inside passed =
+    elim (cases_option (get_or cells to None)) [
+      | inl none ↦ subst (λ o. MakesWait labels from (cons_option o []) waiting waiting) (sym (way_none cells height to none)) (no_ways_yet labels from waiting)
+      | inr found ↦
+          let p = passed found.0 found.1 in
+          let here : get_or heights to (pos 0) ≡ height_or_lack (entry_of levels to) = ap (λ l. get_or l to (pos 0)) stand ∙ get_or-map height_or_lack levels to None (pos 0) inside in
+          elim (cases_option (entry_of levels to)) [
+            | inl lacking ↦ absurd (p.1 (here ∙ ap height_or_lack lacking))
+            | inr level ↦ no_higher_way cells labels levels from to height (int_max found.0 (int_max height from.height.0)) waiting noted
+                (λ other same. ap (λ z. int_max z (int_max height from.height.0)) (same_Some found.0 other (sym found.1 ∙ same)))
+                (level.0, level.1, subst (λ z. z ≤ℤ int_max found.0 (int_max height from.height.0)) (here ∙ ap height_or_lack level.1) p.0)
+          ]
+    ]

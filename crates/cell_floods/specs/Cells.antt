@@ -1,5 +1,5 @@
 -- A rectangle of cells as a net: its data cells are joined to those beside them.
-use Rattle.std.specs.Prelude.{◌≡◌, ℕ, zero, suc, ◌+◌, ◌-◌, ◌*◌, ◌/◌, ◌%◌, ◌<◌, ◌≤◌, ◌⊎◌, ◌↔◌, ◌||◌, ℤ, Bool, true, false, List, [], ◌∷◌, ◌++◌, length, replicate, Option, None, Some, IsSome, is_none, if◌then◌else◌, slice_index_or, slice_range}
+use Rattle.std.specs.Prelude.{◌≡◌, ◌≢◌, ◌≤ℤ◌, ℕ, zero, suc, ◌+◌, ◌-◌, ◌*◌, ◌/◌, ◌%◌, ◌<◌, ◌≤◌, ◌⊎◌, ◌↔◌, ◌||◌, ℤ, Bool, true, false, List, [], ◌∷◌, ◌++◌, length, replicate, Option, None, Some, IsSome, is_none, if◌then◌else◌, slice_index_or, slice_range}
 use Rattle.std.specs.List.{list_any, Contains}
 use Rattle.std.specs.Int.{int_max}
 use Rattle.terrain.specs.Raster.{Terrain}
@@ -8,6 +8,7 @@ use Rattle.terrain.specs.declared.place.Place.{Place}
 use Rattle.tiles.specs.declared.bounds.Bounds.{Bounds}
 use Rattle.tiles.specs.Cutting.{IsInBounds}
 use Rattle.floods.specs.declared.net.Spill.{Spill}
+use Rattle.floods.specs.Notes.{lack}
 
 -- The cells of a rectangle in row order, with a border of cells without data around them. A row has
 -- stride cells, its two border cells among them. A node's number is its cell's place in the list. The sinks say
@@ -115,3 +116,7 @@ place_of_node top left cols node = record { row = top + node / (cols + 2) - 1; c
 abbrev pub last_of : Place → List Place → Place
 last_of p [] = p
 last_of p (q ∷ rest) = last_of q rest
+
+-- A data cell is noted, and no higher than the greater of its own height and this one.
+abbrev pub IsPassed : Option ℤ → ℤ → ℤ → Type 0
+IsPassed cell top noted = (height : ℤ) → cell ≡ Some height → (noted ≤ℤ int_max height top) × (noted ≢ lack)

@@ -8,7 +8,7 @@ ghost use Rattle.std.specs.Bool.{OnTrue};
 ghost use Rattle.floods.specs.Walk.{HasNoSource};
 ghost use Rattle.floods.specs.Flood.{waiting_in, InOrder, Follows, AreNoted};
 ghost use Rattle.terrain.specs.Sinks.{with_sinks};
-ghost use Rattle.cell_floods.specs.Cells.{Cells, cells_around, way_to, whole, IsNetOf, IsCellJoin, source_of, AreAllThere, bordered_rows, inner_rows, row_of};
+ghost use Rattle.cell_floods.specs.Cells.{Cells, cells_around, way_to, whole, IsNetOf, IsCellJoin, IsPassed, source_of, AreAllThere, bordered_rows, inner_rows, row_of};
 ghost use Rattle.tiles.specs.Cutting.{bounds_of, row_shown, terrain_of};
 
 use crate::sinks::{is_sink, window_sinks};
@@ -17,7 +17,7 @@ use smallvec::SmallVec;
 use std::alloc::{AllocError, Global};
 use std::cmp::Reverse;
 use std::marker::Model;
-use terrain::{Cell, Grid, Height, NoMemory, Place};
+use terrain::{Cell, Grid, Height, NO_DATA, NoMemory, Place};
 use tiles::{Bounds, TileView};
 
 /// The cells of a rectangle with a border of cells without data around them, so that each cell of
@@ -127,6 +127,17 @@ fn push_way_apart(
     push_way(waits, way, from, labels, levels)
 }
 
+/// Whether a cell has no data, or its entry in a list of levels is no higher than its own height or this one.
+#[inline(always)]
+fn is_passed(cell: Cell, top: Height, noted: Height) -> bool
+    ensures { OnTrue result (IsPassed cell top noted) }
+{
+    let number = cell.number();
+    // No data stands above all heights, so that one comparison tells both. The others always hold, and are here for
+    // the proof: no height stands for no data.
+    top < NO_DATA && Cell::of(number) == cell && noted <= number.max(top)
+}
+
 /// Makes one of the cells around a cell of this height wait, where it has data and no label yet and does not wait as low.
 #[inline(always)]
 fn push_cell(
@@ -144,10 +155,10 @@ fn push_cell(
     requires noted { AreNoted labels.now levels.old (waiting_in waits.old) }
     ensures { OnOk result (Follows labels.now from.now (cons_option (way_to cells.now height to) []) levels.old levels.new waits.old waits.new) }
 {
-    // Most cells around have been noted no higher, which needs no look at whether they have data.
     let Reverse(level) = from.height;
-    let crest = cells[to as usize].number().max(height.max(level));
-    if levels.is_no_higher(to, crest) {
+    let noted = levels.heights()[to as usize];
+    // Most cells around are passed.
+    if is_passed(cells[to as usize], height.max(level), noted) {
         return Ok(());
     }
     let Some(way) = way_to(cells, height, to) else {
