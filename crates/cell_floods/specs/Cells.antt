@@ -117,6 +117,7 @@ abbrev pub last_of : Place → List Place → Place
 last_of p [] = p
 last_of p (q ∷ rest) = last_of q rest
 
--- A data cell is noted, and no higher than the greater of its own height and this one.
+-- The cell has no data, or this entry of a list of levels is noted, and no higher than the greater of the cell's height
+-- and another one.
 abbrev pub IsPassed : Option ℤ → ℤ → ℤ → Type 0
 IsPassed cell top noted = (height : ℤ) → cell ≡ Some height → (noted ≤ℤ int_max height top) × (noted ≢ lack)

@@ -127,7 +127,7 @@ fn push_way_apart(
     push_way(waits, way, from, labels, levels)
 }
 
-/// Whether a cell has no data, or its entry in a list of levels is no higher than its own height or this one.
+/// Whether a cell has no data, or is noted no higher than the greater of its own height and this one.
 #[inline(always)]
 fn is_passed(cell: Cell, top: Height, noted: Height) -> bool
     ensures { OnTrue result (IsPassed cell top noted) }
