@@ -1,55 +1,61 @@
-use Rattle.std.proofs.Common.{◌≡◌, ◌+◌, ◌<◌, ◌∷◌, ◌++◌, [], pos, length, get_or, ap, ◌∙◌, arith}
+use Rattle.std.proofs.Common.{◌≡◌, ◌+◌, ◌<◌, ◌∷◌, ◌++◌, [], ℕ, List, pos, length, get_or, ap, sym, subst, ◌∙◌, arith}
+use Rattle.std.specs.List.{All}
 use Rattle.std.proofs.lemmas.List.{get_or_default, length-replicate, length_push, length-set, take_all, take_more}
 use Rattle.fill.specs.declared.spills.Join.{Join}
 use Rattle.fill.proofs.Chains.{after, both, join_added, no_ways, none_linked, still_linked}
 use Rattle.fill.proofs.LabelGraphs.{no_ways_added, ways_then}
 use Rattle.fill.proofs.ways.WayLists.of_joins.Goals as goal
 
+abbrev none : Join
+none = record { from = 0; to = 0; height = pos 0 }
+
 pub loop-join-init : goal.loop-join-init
 loop-join-init c =
     let lasts = c.in_ok-lasts.lasts.items in
     let joins = c.deref-join-items.result.now in
     let befores = c.in_ok-befores.befores.items in
-    let none = c.in_ok-lasts.ensures.items_if_clones_equal (λ y e. e) in
+    let zeros = c.in_ok-lasts.ensures.items_if_clones_equal (λ y e. e) in
     record {
       size = ap length c.in_ok-befores.ensures.items;
-      labels = ap length none ∙ length-replicate c.args.labels 0;
-      linked = none_linked c.args.labels lasts joins befores none c.in_ok-befores.ensures.items;
-      added = rw (no_ways c.args.labels lasts joins befores none c.in_ok-befores.ensures.items) (no_ways_added _);
+      labels = ap length zeros ∙ length-replicate c.args.labels 0;
+      linked = none_linked c.args.labels lasts joins befores zeros c.in_ok-befores.ensures.items;
+      added = rw (no_ways c.args.labels lasts joins befores zeros c.in_ok-befores.ensures.items) (no_ways_added _);
     }
+
+-- a list of what each label has holds both labels of a join
+ends_in : (joins items : List Join) (labels index : ℕ) (lasts : List ℕ) → items ≡ joins → All (λ j. (j.from < labels) × (j.to < labels)) joins
+    → length lasts ≡ labels → index < length items → ((get_or items index none).from < length lasts) × ((get_or items index none).to < length lasts)
+ends_in joins items labels index lasts same inside size below =
+    let ends = subst (All (λ (j : Join). (j.from < labels) × (j.to < labels))) (sym same) inside index none below in
+    (omega (arith, ends.0, size), omega (arith, ends.1, size))
 
 pub index-requires : goal.index-requires
 index-requires c =
-    let inside = (rw (← c.deref-join-items.ensures.value) at c.requires) c.loop-join.join-index (record { from = 0; to = 0; height = pos 0 }) c.loop-join-test.true in
-    omega (arith, inside.0, c.loop-join.invariant.labels, c.loop-join.lasts.ok.0)
+    omega (arith, (ends_in _ _ _ _ _ c.deref-join-items.ensures.value c.requires c.loop-join.invariant.labels c.loop-join-test.true).0, c.loop-join.lasts.ok.0)
 
 pub index-requires-in-loop-join : goal.index-requires-in-loop-join
 index-requires-in-loop-join c =
-    let inside = (rw (← c.deref-join-items.ensures.value) at c.requires) c.loop-join.join-index (record { from = 0; to = 0; height = pos 0 }) c.loop-join-test.true in
-    omega (arith, inside.1, c.loop-join.invariant.labels, c.loop-join.lasts.ok.0)
+    omega (arith, (ends_in _ _ _ _ _ c.deref-join-items.ensures.value c.requires c.loop-join.invariant.labels c.loop-join-test.true).1, c.loop-join.lasts.ok.0)
 
 pub index_mut-requires : goal.index_mut-requires
 index_mut-requires c =
-    let inside = (rw (← c.deref-join-items.ensures.value) at c.requires) c.loop-join.join-index (record { from = 0; to = 0; height = pos 0 }) c.loop-join-test.true in
-    omega (arith, inside.0, c.loop-join.invariant.labels, c.loop-join.lasts.ok.0)
+    omega (arith, (ends_in _ _ _ _ _ c.deref-join-items.ensures.value c.requires c.loop-join.invariant.labels c.loop-join-test.true).0, c.loop-join.lasts.ok.0)
 
 pub index_mut-requires-in-loop-join : goal.index_mut-requires-in-loop-join
 index_mut-requires-in-loop-join c =
-    let inside = (rw (← c.deref-join-items.ensures.value) at c.requires) c.loop-join.join-index (record { from = 0; to = 0; height = pos 0 }) c.loop-join-test.true in
-    omega (arith, inside.1, c.loop-join.invariant.labels, c.loop-join.lasts.ok.0)
+    omega (arith, (ends_in _ _ _ _ _ c.deref-join-items.ensures.value c.requires c.loop-join.invariant.labels c.loop-join-test.true).1, c.loop-join.lasts.ok.0)
 
 pub loop-join-preserved : goal.loop-join-preserved
 loop-join-preserved c =
     let i = c.loop-join.invariant in
-    let none : Join = record { from = 0; to = 0; height = pos 0 } in
     let lasts = c.loop-join.lasts.items in
     let joins = c.deref-join-items.result.now in
     let befores = c.loop-join.befores.items in
     let index = c.loop-join.join-index in
     let j = get_or joins index none in
-    let inside = (rw (← c.deref-join-items.ensures.value) at c.requires) index none c.loop-join-test.true in
-    let from : j.from < length lasts = omega (arith, inside.0, i.labels) in
-    let to : j.to < length lasts = omega (arith, inside.1, i.labels) in
+    let ends = ends_in _ _ _ _ _ c.deref-join-items.ensures.value c.requires i.labels c.loop-join-test.true in
+    let from : j.from < length lasts = ends.0 in
+    let to : j.to < length lasts = ends.1 in
     let more : length befores < length joins = omega (arith, i.size, c.loop-join-test.true) in
     let is : get_or joins (length befores) none ≡ j = ap (λ k. get_or joins k none) i.size in
     let pushed : c.push.new.self.items ≡ after lasts joins befores j i.linked more is from to =
